@@ -1,0 +1,42 @@
+//! The ways in which a run traps.
+
+/// Why a run trapped, in the order in which the causes are tested within one instruction.
+#[derive(Clone, Copy, Debug, PartialEq, Eq, PartialOrd, Ord)]
+pub enum Trap {
+    /// A shift by the width or more.
+    Shift,
+    /// A divisor is 0.
+    ZeroDivisor,
+    /// `sdiv` or `srem` of the least number by -1.
+    Overflow,
+    /// A violated `nuw`.
+    Nuw,
+    /// A violated `nsw`.
+    Nsw,
+    /// A violated `exact`.
+    Exact,
+    /// A violated `disjoint`.
+    Disjoint,
+    /// A violated `nneg`.
+    Nneg,
+    /// A violated `samesign`.
+    Samesign,
+    /// An access outside every live allocation, or a string without an end in its allocation.
+    BadAddress,
+    /// `free` or `realloc` of what is no live heap block.
+    BadFree,
+    /// The stack's limit would be passed.
+    Stack,
+    /// The limit of frames would be passed.
+    Depth,
+    /// The limit of the output would be passed.
+    Output,
+    /// An `unreachable` runs.
+    Unreachable,
+    /// A call of `abort`.
+    Abort,
+    /// No fiber can go on.
+    Deadlock,
+    /// A format of `printf` that is none.
+    Format,
+}
