@@ -1,0 +1,12 @@
+pub mod Names
+pub mod Layout
+pub mod World
+pub mod Memory
+pub mod Code
+pub mod Origins
+pub mod Externals
+pub mod Runtime
+pub mod Globals
+pub mod Control
+pub mod Act
+pub mod Plain
