@@ -10,3 +10,5 @@ pub mod Globals
 pub mod Control
 pub mod Act
 pub mod Plain
+pub mod Limits
+pub mod First

@@ -34,10 +34,14 @@ pub record Chained : Type 0 where
   pub id : ℕ
   pub world : World
 
+-- the depth from which on an origin is kept as it is: a root has depth 0
+abbrev pub depth_limit : ℕ
+depth_limit = 0
+
 abbrev pub keeps_old : Setting → World → ℕ → Bool
 keeps_old s w old =
     let n = length (trail s w old) in
-    eqb n 0 || ltb 16 n || leb 1048576 (length w.pairs)
+    eqb n 0 || ltb depth_limit n || leb 1048576 (length w.pairs)
 
 abbrev pub chain : Setting → ℕ → ℕ → World → Chained
 chain s old site w =

@@ -1,0 +1,167 @@
+-- The first form: a text of one function and one block, and the module that it is.
+use Rattle.std.specs.Prelude.{◌≡◌, ℕ, zero, suc, ◌+◌, ◌-◌, ◌<◌, ◌≤◌, ◌^◌, Bool, true, false, List, [], ◌∷◌, ◌++◌, length, Option, Some, None, slice_get, codes, decimal}
+use Rattle.ms_bits.specs.declared.operations.BinOp.{BinOp}
+use Rattle.ms_bits.specs.declared.operations.BinOp.TheVariants as binary
+use Rattle.ms_bits.specs.declared.operations.Flags.{Flags}
+use Rattle.ms_ir.specs.declared.syntax.Name.{Name}
+use Rattle.ms_ir.specs.declared.syntax.Name.TheVariants as name
+use Rattle.ms_ir.specs.declared.syntax.Ty.{Ty, Int}
+use Rattle.ms_ir.specs.declared.syntax.Operand.{Operand}
+use Rattle.ms_ir.specs.declared.syntax.Operand.TheVariants as operand
+use Rattle.ms_ir.specs.declared.syntax.Op.{Op}
+use Rattle.ms_ir.specs.declared.syntax.Op.TheVariants as op
+use Rattle.ms_ir.specs.declared.syntax.Inst.{Inst}
+use Rattle.ms_ir.specs.declared.syntax.Module.{Module}
+
+-- a value as it is written: a number without a sign, a number with one, or the result at a place, counted from 0
+pub data Word : Type 0 where
+  Whole : (number : ℕ) → Word
+  Minus : (number : ℕ) → Word
+  Earlier : (place : ℕ) → Word
+
+pub data Logic : Type 0 where
+  And : Logic
+  Or : Logic
+  Xor : Logic
+
+-- an instruction line but the last; an address is the place of a result
+pub data Line : Type 0 where
+  Alloca : Line
+  Load : (address : ℕ) → Line
+  Store : Word → (address : ℕ) → Line
+  Combine : Logic → Word → Word → Line
+
+-- ---- what may stand where: of each earlier result, whether it is an alloca's
+
+-- a number is from -2 ^ 31 to 2 ^ 32 - 1, and minus zero is none; a result is no alloca's
+abbrev pub IsWord : List Bool → Word → Type 0
+IsWord allocas (Whole n) = n < 2 ^ 32
+IsWord allocas (Minus n) = (1 ≤ n) × (n ≤ 2 ^ 31)
+IsWord allocas (Earlier k) = slice_get allocas k ≡ Some false
+
+abbrev pub IsAddress : List Bool → ℕ → Type 0
+IsAddress allocas k = slice_get allocas k ≡ Some true
+
+abbrev pub IsLine : List Bool → Line → Type 0
+IsLine allocas Alloca = Unit {0}
+IsLine allocas (Load k) = IsAddress allocas k
+IsLine allocas (Store v k) = IsWord allocas v × IsAddress allocas k
+IsLine allocas (Combine o v u) = IsWord allocas v × IsWord allocas u
+
+-- the results so far, after a line
+abbrev pub after_line : List Bool → Line → List Bool
+after_line allocas Alloca = allocas ++ true ∷ []
+after_line allocas (Load k) = allocas ++ false ∷ []
+after_line allocas (Store v k) = allocas
+after_line allocas (Combine o v u) = allocas ++ false ∷ []
+
+abbrev pub after_lines : List Bool → List Line → List Bool
+after_lines allocas [] = allocas
+after_lines allocas (l ∷ ls) = after_lines (after_line allocas l) ls
+
+abbrev pub AreLines : List Bool → List Line → Type 0
+AreLines allocas [] = Unit {0}
+AreLines allocas (l ∷ ls) = IsLine allocas l × AreLines (after_line allocas l) ls
+
+-- ---- the text
+
+-- the result at a place, which its number from 1 on names
+abbrev pub result_text : ℕ → List ℕ
+result_text k = codes "%" ++ decimal (k + 1)
+
+abbrev pub word_text : Word → List ℕ
+word_text (Whole n) = decimal n
+word_text (Minus n) = codes "-" ++ decimal n
+word_text (Earlier k) = result_text k
+
+abbrev pub logic_text : Logic → List ℕ
+logic_text And = codes "and"
+logic_text Or = codes "or"
+logic_text Xor = codes "xor"
+
+-- a line whose result, if it has one, stands at the place n
+abbrev pub line_text : ℕ → Line → List ℕ
+line_text n Alloca = codes "  " ++ result_text n ++ codes " = alloca i32\n"
+line_text n (Load k) = codes "  " ++ result_text n ++ codes " = load i32, ptr " ++ result_text k ++ codes "\n"
+line_text n (Store v k) = codes "  store i32 " ++ word_text v ++ codes ", ptr " ++ result_text k ++ codes "\n"
+line_text n (Combine o v u) =
+    codes "  " ++ result_text n ++ codes " = " ++ logic_text o ++ codes " i32 " ++ word_text v ++ codes ", " ++ word_text u ++ codes "\n"
+
+abbrev pub lines_text : List Bool → List Line → List ℕ
+lines_text allocas [] = []
+lines_text allocas (l ∷ ls) = line_text (length allocas) l ++ lines_text (after_line allocas l) ls
+
+abbrev pub whole_text : List Line → Word → List ℕ
+whole_text ls last =
+    codes "define i32 @main() {\n" ++ lines_text [] ls ++ (codes "  ret i32 " ++ word_text last ++ codes "\n") ++ codes "}\n"
+
+-- ---- the module
+
+abbrev pub result_name : ℕ → Name
+result_name k = name.Number (k + 1)
+
+abbrev pub word_operand : Word → Operand
+word_operand (Whole n) = operand.Int n
+word_operand (Minus n) = operand.Int (2 ^ 32 - n)
+word_operand (Earlier k) = operand.Local (result_name k)
+
+abbrev pub no_flags : Flags
+no_flags = record { nuw = false; nsw = false; exact = false; disjoint = false; nneg = false; samesign = false }
+
+abbrev pub logic_op : Logic → BinOp
+logic_op And = binary.And
+logic_op Or = binary.Or
+logic_op Xor = binary.Xor
+
+abbrev pub unmarked : Op → Option Name → Inst
+unmarked o x = record { op = o; result = x; marked = false }
+
+abbrev pub line_inst : ℕ → Line → Inst
+line_inst n Alloca = unmarked (op.Alloca (Int 32) (Int 32) (operand.Int 1)) (Some (result_name n))
+line_inst n (Load k) = unmarked (op.Load (Int 32) (operand.Local (result_name k))) (Some (result_name n))
+line_inst n (Store v k) = unmarked (op.Store (Int 32) (word_operand v) (operand.Local (result_name k))) None
+line_inst n (Combine o v u) = unmarked (op.Binary (logic_op o) no_flags (Int 32) (word_operand v) (word_operand u)) (Some (result_name n))
+
+abbrev pub lines_insts : List Bool → List Line → List Inst
+lines_insts allocas [] = []
+lines_insts allocas (l ∷ ls) = line_inst (length allocas) l ∷ lines_insts (after_line allocas l) ls
+
+abbrev pub ret_inst : Word → Inst
+ret_inst last = unmarked (op.Ret (Some (Int 32, word_operand last))) None
+
+-- a module of the one function `main`, of one block
+abbrev pub main_module : List Inst → Module
+main_module insts = record {
+  types = [];
+  globals = [];
+  decls = [];
+  funcs = record {
+    name = name.Text (codes "main");
+    ret = Some (Int 32);
+    params = [];
+    blocks = record { name = name.Number 0; insts = insts } ∷ [];
+  } ∷ [];
+}
+
+abbrev pub module_of : List Line → Word → Module
+module_of ls last = main_module (lines_insts [] ls ++ ret_inst last ∷ [])
+
+-- ---- the form
+
+-- the lines of a text of the first form
+pub record Lines : Type 0 where
+  pub lines : List Line
+  pub last : Word
+  pub are_lines : AreLines [] lines
+  pub returns : IsWord (after_lines [] lines) last
+
+-- a module that a text of the first form gives
+pub record IsFirst (m : Module) : Type 0 where
+  pub of : Lines
+  pub module_is : m ≡ module_of of.lines of.last
+
+-- a text of the first form, and its module
+pub record First (text : List ℕ) (m : Module) : Type 0 where
+  pub of : Lines
+  pub text_is : text ≡ whole_text of.lines of.last
+  pub module_is : m ≡ module_of of.lines of.last
