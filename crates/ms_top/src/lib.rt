@@ -1,0 +1,4 @@
+//! The top call: words, files and sinks in, a status and two texts out.
+#![tactic(auto)]
+
+pub mod first;
