@@ -2,3 +2,4 @@
 #![tactic(auto)]
 
 pub mod first;
+pub mod spelling;
