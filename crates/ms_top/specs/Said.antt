@@ -10,18 +10,16 @@ use Rattle.ms_ir.specs.declared.runs.Setup.{Setup}
 use Rattle.ms_ir.specs.declared.runs.RunResult.{RunResult}
 use Rattle.ms_ir.specs.First.{First}
 use Rattle.ms_ir.specs.Plain.{plain}
+use Rattle.ms_top.specs.declared.answers.Answer.{Answer}
 use Rattle.ms_top.specs.Command.{run_file_of}
 use Rattle.ms_top.specs.Texts.{line, closing_of}
 
--- a status, and what is written to the standard output and to the standard error
-pub record Answer : Type 0 where
-  pub status : ℕ
-  pub out : List ℕ
-  pub err : List ℕ
+abbrev pub answer_of : ℕ → List ℕ → List ℕ → Answer
+answer_of status out err = record { status = status; out = out; err = err }
 
 -- an answer with nothing on the standard output
 abbrev pub says : ℕ → List ℕ → Answer
-says status err = record { status = status; out = []; err = err }
+says status err = answer_of status [] err
 
 -- the most bytes that a module's file may have
 abbrev pub module_limit : ℕ
@@ -63,6 +61,10 @@ pub record Counted : Type 0 where
   pub taken : ℕ
   pub taken_after : ℕ
 
+abbrev pub counted : Option Holdings → (faults faults_after taken taken_after : ℕ) → Counted
+counted told faults faults_after taken taken_after =
+    record { told = told; faults = faults; faults_after = faults_after; taken = taken; taken_after = taken_after }
+
 -- what reading a file can come to: its bytes, a fault, or more bytes than the limit
 pub data Reading : Type 0 where
   Whole : List ℕ → Reading
@@ -80,7 +82,7 @@ IsAnswerAfter file (Whole text) a = IsAnswerTo text a
 IsAnswerAfter file Fault a = a ≡ says 6 (line (codes "file fault") file)
 IsAnswerAfter file Long a = a ≡ says 9 (line (codes "file too long") file)
 
--- ---- the whole call
+-- ---- the words
 
 abbrev pub IsAnswerFor : Counted → Option (List ℕ) → Answer → Type 0
 IsAnswerFor c None a = a ≡ says 2 (codes "words: NotBuilt at 0\n")
@@ -90,6 +92,7 @@ IsAnswerFor c (Some file) a = (r : Reading) × CanRead c file r × IsAnswerAfter
 abbrev pub IsAnswer : Counted → List (List ℕ) → Answer → Type 0
 IsAnswer c words a = IsAnswerFor c (run_file_of words) a
 
+-- the answer where memory is wanting
 abbrev pub no_memory : Answer
 no_memory = says 8 (codes "out of memory\n")
 
@@ -102,6 +105,9 @@ pub record Written : Type 0 where
   pub out_after : Option (List ℕ)
   pub err_after : Option (List ℕ)
 
+abbrev pub between : (out err out_after err_after : Option (List ℕ)) → Written
+between out err out_after err_after = record { out = out; err = err; out_after = out_after; err_after = err_after }
+
 -- both texts were written whole
 pub record WritesWhole (w : Written) (a : Answer) : Type 0 where
   pub out : w.out_after ≡ with_appended w.out a.out
@@ -112,3 +118,17 @@ abbrev pub WritesPart : Written → Answer → Type 0
 WritesPart w a =
     (AppendsPrefix w.out w.out_after a.out × (w.err_after ≡ w.err))
     ⊎ ((w.out_after ≡ with_appended w.out a.out) × AppendsPrefix w.err w.err_after a.err)
+
+-- ---- the whole call
+
+-- the answer that was asked for, or want of memory
+abbrev pub MayAnswer : Counted → List (List ℕ) → Answer → Type 0
+MayAnswer c words a = IsAnswer c words a ⊎ (a ≡ no_memory)
+
+-- an answer with this status was written whole
+abbrev pub IsSaid : Counted → Written → List (List ℕ) → ℕ → Type 0
+IsSaid c w words status = (a : Answer) × (MayAnswer c words a × (a.status ≡ status) × WritesWhole w a)
+
+-- a first part of an answer was written
+abbrev pub IsPartlySaid : Counted → Written → List (List ℕ) → Type 0
+IsPartlySaid c w words = (a : Answer) × (MayAnswer c words a × WritesPart w a)

@@ -1,6 +1,11 @@
 //! The top call: words, files and sinks in, a status and two texts out.
 #![tactic(auto)]
 
+pub mod answers;
 pub mod closing;
 pub mod first;
+pub mod pieces;
 pub mod spelling;
+pub mod top;
+
+pub use top::msan;
