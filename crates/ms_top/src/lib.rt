@@ -9,3 +9,6 @@ pub mod spelling;
 pub mod top;
 
 pub use top::msan;
+
+#[cfg(test)]
+mod tests;
