@@ -1,0 +1,4 @@
+pub mod MachineRanges
+pub mod MachineStored
+pub mod MachineStacks
+pub mod MachineLines
