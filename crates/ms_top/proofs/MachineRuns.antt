@@ -1,5 +1,5 @@
 -- The interpreter's run of a module of the first form is the plain one.
-use Rattle.std.proofs.Common.{◌≡◌, ℕ, zero, suc, ◌+◌, ◌<◌, ◌≤◌, Bool, true, false, List, [], ◌∷◌, ◌++◌, length, take, drop, refl, sym, ap, ◌∙◌, subst, arith, length-append, append_assoc, add-one}
+use Rattle.std.proofs.Common.{◌≡◌, ℕ, zero, suc, ◌+◌, ◌<◌, ◌≤◌, Bool, true, false, List, [], ◌∷◌, ◌++◌, length, take, drop, refl, sym, ap, ◌∙◌, subst, arith, length-append, append_assoc, get_or, drop-cons}
 use Rattle.std.proofs.Math.Path.{ap₂}
 use Rattle.std.proofs.Math.Seq.{drop-append_seam, take-append_seam}
 use Rattle.std.specs.Prelude.{if◌then◌else◌, min, slice_index, slice_get, Option, Some, None}
@@ -16,7 +16,7 @@ use Rattle.ms_ir.specs.Act.{plain_reading, act}
 use Rattle.ms_ir.specs.Control.{here, moves}
 use Rattle.ms_ir.specs.Plain.{PlainState, Stepped, More, Stop, through, plain_step, plain_moved, act_marked, slots_after, go_on, run, setting, start_world, plain}
 use Rattle.ms_ir.specs.First.{Word, Line, Alloca, Load, Store, Combine, IsFirst, IsLine, AreLines, after_line, after_lines, line_inst, lines_insts, ret_inst, main_module, module_of}
-use Rattle.ms_top.specs.MachineSteps.{Step, Next, Last, step_of}
+use Rattle.ms_top.specs.MachineSteps.{Step, Next, Last, step_of, Took}
 use Rattle.ms_top.proofs.MachineLines.{frame_at, at, Quiet, Results, Cells, Shows, Follows, words_of, done, line_follows, return_follows}
 
 -- the end of a run through these instructions, where it has words already
@@ -128,3 +128,26 @@ first_runs m u p =
   where
     none : {A : Type 0} (k : ℕ) {x : A} → None ≡ Some x → ⊥
     none k h = grind arith
+
+-- ---- the interpreter's loop
+
+pub ended_is : (r : RunResult) (e : End) → r.output ≡ [] → r.«end» ≡ e → r.reports ≡ [] → r.blind ≡ 0 → r ≡ ended e
+ended_is r e out en rep bl = λ i. record { output = out i; «end» = en i; reports = rep i; blind = bl i }
+
+-- an instruction that ends the run
+pub ends_here : (fill us ds vs cells : List ℕ) (site place : ℕ) (is : List Inst) (i : Inst) (o : Option End) (e : End)
+    → place < length is → i ≡ get_or is place i → o ≡ Some e → Took (step_of fill site vs cells i.op) us ds o
+    → end_of fill site vs cells (drop place is) ≡ e
+ends_here fill us ds vs cells site place is i o e lt here some took =
+    ap (end_of fill site vs cells) (drop-cons is place i lt ∙ ap (λ j. j ∷ drop (suc place) is) (sym here))
+    ∙ ap (λ s. continued s (λ vs' cells'. end_of fill (site + 1) vs' cells' (drop (suc place) is))) (subst (Took (step_of fill site vs cells i.op) us ds) some took)
+
+-- no instruction is left
+pub spent_here : (fill vs cells : List ℕ) (site place : ℕ) (is : List Inst) → length is ≤ place → end_of fill site vs cells (drop place is) ≡ «end».Spent
+spent_here fill vs cells site place is le = ap (end_of fill site vs cells) (past place is le)
+  where
+    past : (k : ℕ) (js : List Inst) → length js ≤ k → drop k js ≡ []
+    past zero [] h = refl
+    past zero (j ∷ js) h = absurd (omega (arith, h))
+    past (suc k) [] h = refl
+    past (suc k) (j ∷ js) h = past k js (omega (arith, h))
