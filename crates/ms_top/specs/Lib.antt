@@ -3,3 +3,4 @@ pub mod Texts
 pub mod Command
 pub mod Said
 pub mod Passing
+pub mod MachineSteps
