@@ -1,1 +1,3 @@
 pub mod ReaderPieces
+pub mod ReaderOperands
+pub mod ReaderLines

@@ -4,20 +4,11 @@ ghost use Rattle.ms_ir.specs.declared.syntax.Module.{Module as ModuleOf};
 ghost use Rattle.ms_ir.specs.First.{First};
 
 mod cursor;
+mod lines;
 
-use cursor::Cursor;
 use ms_bits::NoMemory;
-use ms_ir::{Inst, Module};
+use ms_ir::Module;
 use std::alloc::Global;
-
-/// A line of the block but the last.
-#[derive(Drop)]
-enum Line {
-    /// An instruction with a result, which is an alloca's or a word.
-    Defines { inst: Inst, alloca: bool },
-    /// An instruction with no result.
-    Acts { inst: Inst },
-}
 
 /// The module that a text of the first form gives, and `None` exactly where no module is of this text.
 /// The one error is want of memory. Linear in the text.

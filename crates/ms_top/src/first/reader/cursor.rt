@@ -5,6 +5,7 @@ ghost use Rattle.ms_top.specs.Reading.{Gives, strip, digit, number, took, refuse
 use std::marker::Model;
 
 /// What is left of a text. Contracts see the bytes that are left.
+#[derive(Drop)]
 pub struct Cursor<'a> {
     rest: &'a [u8],
 }
