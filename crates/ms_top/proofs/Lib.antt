@@ -1,3 +1,4 @@
 pub mod ReaderPieces
 pub mod ReaderOperands
 pub mod ReaderLines
+pub mod ReaderWhole

@@ -159,3 +159,6 @@ inst_of (Acts i) = i
 abbrev pub after_read : List Bool → Line → List Bool
 after_read allocas (Defines i a) = allocas ++ a ∷ []
 after_read allocas (Acts i) = allocas
+
+abbrev pub ret_of : Operand → Inst
+ret_of x = unmarked (op.Ret (Some (Int 32, x))) None

@@ -18,7 +18,7 @@ pub enum Line {
 }
 
 /// An instruction that a text has itself.
-pub fn unmarked(op: Op, name: Option<Name>) -> Inst
+fn unmarked(op: Op, name: Option<Name>) -> Inst
     ensures { result ≡ first.unmarked op name }
 {
     Inst {
@@ -224,4 +224,14 @@ pub fn read_last(mut text: Cursor<'_>, allocas: &[bool]) -> Option<Operand>
     let value = word(&mut text, allocas)?;
     text.expect(b"\n}\n")?;
     if text.is_at_end() { Some(value) } else { None }
+}
+
+/// The instruction that returns this word.
+pub fn ret(value: Operand) -> Inst
+    ensures { result ≡ spec.ret_of value }
+{
+    let op = Op::Ret {
+        value: Some((Ty::Int(32), value)),
+    };
+    unmarked(op, None)
 }
