@@ -6,3 +6,7 @@ pub mod MachineStored
 pub mod MachineStacks
 pub mod MachineLines
 pub mod MachineRuns
+pub mod ReaderPieces
+pub mod ReaderOperands
+pub mod ReaderLines
+pub mod ReaderWhole

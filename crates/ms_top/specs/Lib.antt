@@ -4,3 +4,4 @@ pub mod Command
 pub mod Said
 pub mod Passing
 pub mod MachineSteps
+pub mod Reading
