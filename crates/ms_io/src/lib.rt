@@ -17,4 +17,5 @@ mod traits;
 
 pub use memory_files::{MemFiles, SureFiles};
 pub use memory_sinks::{MemSink, SureSink};
+pub use real::{RealFiles, RealSink};
 pub use traits::{FileError, Files, Sink, SinkFailed};
