@@ -1,7 +1,8 @@
 //! Files of the file system, and sinks over a writer of std: the trusted edge.
-ghost use Rattle.std.specs.Prelude.{◌≡◌, ◌+◌, ◌^◌, ◌<◌, ◌≤◌, length, Option, None, IfOk, OnOk, OnErr};
+ghost use Rattle.std.specs.Prelude.{◌≡◌, ◌+◌, ◌^◌, ◌<◌, ◌≤◌, length, Option, None, IsTrue, IfOk, OnOk, OnErr};
+ghost use Rattle.std.specs.Io.KnownBytes.{Appends};
 ghost use Rattle.ms_io.specs.Counts.{last_count, Rose, RoseBy};
-ghost use Rattle.ms_io.specs.Reading.{IfFailed, IfAbsent, IfTooLong};
+ghost use Rattle.ms_io.specs.Reading.{IsAbsent, IsFaultless, IfFailed, UnlessFailed, IfAbsent, IfTooLong};
 
 use std::alloc::Global;
 use std::fs;
@@ -41,6 +42,8 @@ fn append_chunk<F: Read>(
     ensures appended { IfOk result (λ n. length bytes.new.items ≡ length bytes.old.items + n) }
     ensures taken { IfOk result (λ n. RoseBy n counters.old.taken counters.new.taken) }
     ensures fault { result ≡ Err ChunkError.Fault → Rose counters.old.faults counters.new.faults }
+    ensures ok_faultless { OnOk result (counters.new.faults ≡ counters.old.faults) }
+    ensures memory_faultless { result ≡ Err ChunkError.NoMemory → counters.new.faults ≡ counters.old.faults }
     ensures taken_never_falls { counters.old.taken ≤ counters.new.taken }
     ensures taken_ends { counters.new.taken ≤ last_count }
     ensures faults_never_fall { counters.old.faults ≤ counters.new.faults }
@@ -75,7 +78,8 @@ fn read_to_end<F: Read>(
     ensures whole { IfOk result (λ bytes. length bytes.items ≤ limit) }
     ensures whole_taken { IfOk result (λ bytes. RoseBy (length bytes.items) counters.old.taken counters.new.taken) }
     ensures failed { IfFailed result (Rose counters.old.faults counters.new.faults) }
-    ensures not_absent { IfAbsent result ⊥ }
+    ensures faultless { UnlessFailed result (counters.new.faults ≡ counters.old.faults) }
+    ensures never_absent { IfAbsent result ⊥ }
     ensures too_long { IfTooLong result (λ n. (n ≡ limit + 1) × RoseBy n counters.old.taken counters.new.taken) }
     ensures taken_never_falls { counters.old.taken ≤ counters.new.taken }
     ensures taken_ends { counters.new.taken ≤ last_count }
@@ -127,11 +131,30 @@ impl<'a, R: rt::Files> RealFiles<'a, R> {
 impl<R: rt::Files> Files for RealFiles<'_, R> {
     ghost held = { λ _. None };
 
-    ghost taken = { λ files. files.counters.taken };
+    ghost use Rattle.ms_io.specs.RealFiles.{taken_by, faults_of};
 
-    ghost faults = { λ files. files.counters.faults };
+    ghost taken = { λ files. taken_by files };
 
-    fn read_whole(&mut self, alloc: Global, name: &str, limit: u64) -> Result<Vec<u8>, FileError> {
+    ghost faults = { λ files. faults_of files };
+
+    fn read_whole(&mut self, alloc: Global, name: &str, limit: u64) -> Result<Vec<u8>, FileError>
+        requires { limit < 2 ^ 32 }
+
+        ensures whole { IfOk result (λ bytes. length bytes.items ≤ limit) }
+        ensures whole_taken { IfOk result (λ bytes. RoseBy (length bytes.items) (taken_by self.old) (taken_by self.new)) }
+        ensures failed { IfFailed result (Rose (faults_of self.old) (faults_of self.new)) }
+        ensures absent { IfAbsent result (IsAbsent None name.now (faults_of self.old) (faults_of self.new)) }
+        ensures too_long { IfTooLong result (λ n. (n ≡ limit + 1) × RoseBy n (taken_by self.old) (taken_by self.new)) }
+
+        ensures never_absent { IfAbsent result ⊥ }
+        ensures faultless { UnlessFailed result (IsFaultless None (faults_of self.old) (faults_of self.new)) }
+        ensures faults_stay { UnlessFailed result (faults_of self.new ≡ faults_of self.old) }
+
+        ensures taken_never_falls { taken_by self.old ≤ taken_by self.new }
+        ensures taken_ends { taken_by self.new ≤ last_count }
+        ensures faults_never_fall { faults_of self.old ≤ faults_of self.new }
+        ensures faults_end { faults_of self.new ≤ last_count }
+    {
         let (_taken, faults) = (self.counters.taken, self.counters.faults);
         match fs::open(self.runtime, name) {
             Ok(mut file) => read_to_end(alloc, &mut file, limit, &mut self.counters),
@@ -154,8 +177,11 @@ pub struct RealSink<W> {
 }
 
 impl<W: io::Write + Drop> RealSink<W> {
+    ghost use Rattle.ms_io.specs.RealSink.{writer_of};
+
     /// A sink that writes to `writer`. Takes no memory.
     pub fn new(writer: W) -> RealSink<W>
+        ensures writer { writer_of result ≡ writer }
         ensures written { ⟦<RealSink<W> as Sink>⟧.written result ≡ None }
         ensures faults { ⟦<RealSink<W> as Sink>⟧.faults result ≡ 0 }
     {
@@ -166,9 +192,18 @@ impl<W: io::Write + Drop> RealSink<W> {
 impl<W: io::Write + Drop> Sink for RealSink<W> {
     ghost written = { λ _. None };
 
-    ghost faults = { λ sink. sink.faults };
+    ghost use Rattle.ms_io.specs.RealSink.{writer_of, faults_of};
 
-    fn put(&mut self, bytes: &[u8]) -> Result<(), SinkFailed> {
+    ghost faults = { λ sink. faults_of sink };
+
+    fn put(&mut self, bytes: &[u8]) -> Result<(), SinkFailed>
+        ensures whole { OnOk result (Appends (W.contents (writer_of self.old)) (W.contents (writer_of self.new)) bytes.now) }
+        ensures faultless { OnOk result (faults_of self.new ≡ faults_of self.old) }
+        ensures failed { OnErr result (Rose (faults_of self.old) (faults_of self.new)) }
+
+        ensures faults_never_fall { faults_of self.old ≤ faults_of self.new }
+        ensures faults_end { faults_of self.new ≤ last_count }
+    {
         let faults = self.faults;
         if write_whole(&mut self.writer, bytes) {
             return Ok(());
@@ -179,7 +214,9 @@ impl<W: io::Write + Drop> Sink for RealSink<W> {
 }
 
 /// Writes all of `bytes`, piece by piece. Answers whether each write took something.
-fn write_whole<W: io::Write>(writer: &mut W, bytes: &[u8]) -> bool {
+fn write_whole<W: io::Write>(writer: &mut W, bytes: &[u8]) -> bool
+    ensures { IsTrue result → Appends (W.contents writer.old) (W.contents writer.new) bytes.now }
+{
     let mut rest = bytes;
     while !rest.is_empty() {
         match writer.write(rest) {

@@ -8,8 +8,7 @@ invariant-loop-bytes g l =
     × RoseBy (length l.bytes.items) l.initial.counters.taken l.counters.taken
     × (l.initial.counters.taken ≤ l.counters.taken)
     × (l.counters.taken ≤ last_count)
-    × (l.initial.counters.faults ≤ l.counters.faults)
-    × (l.counters.faults ≤ last_count)
+    × (l.counters.faults ≡ l.initial.counters.faults)
 
 abbrev pub decreases-loop-bytes : goal.decreases-loop-bytes
 decreases-loop-bytes g l = l.limit + 1 - length l.bytes.items
