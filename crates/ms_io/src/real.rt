@@ -4,13 +4,10 @@ ghost use Rattle.std.specs.Io.KnownBytes.{Appends};
 ghost use Rattle.ms_io.specs.Counts.{last_count, Rose, RoseBy};
 ghost use Rattle.ms_io.specs.Reading.{IsAbsent, IsFaultless, IfFailed, UnlessFailed, IfAbsent, IfTooLong};
 
-use std::alloc::Global;
-use std::fs;
-use std::io;
-use std::io::Read;
-use std::rt;
-
 use crate::{FileError, Files, Sink, SinkFailed};
+use std::alloc::Global;
+use std::io::Read;
+use std::{fs, io, rt};
 
 /// The number of bytes that one read asks for.
 const CHUNK: usize = 65536;
@@ -123,7 +120,10 @@ impl<'a, R: rt::Files> RealFiles<'a, R> {
     {
         RealFiles {
             runtime: rt,
-            counters: Counters { taken: 0, faults: 0 },
+            counters: Counters {
+                taken: 0,
+                faults: 0,
+            },
         }
     }
 }
