@@ -1,5 +1,5 @@
 -- Bytes under names, as a map in memory has them.
-use Rattle.std.specs.Prelude.{ℕ, List, Option, option_map, String, Vec}
+use Rattle.std.specs.Prelude.{ℕ, option_map, String, Vec}
 use Rattle.std.specs.declared.alloc.Global.{Global}
 use Rattle.std.specs.BTreeMap.{BTreeMap, get_by_text}
 use Rattle.ms_io.specs.Reading.{Holdings}

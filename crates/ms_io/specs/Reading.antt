@@ -1,6 +1,5 @@
 -- What reading a whole file answers. The held files are `None` where an implementation doesn't tell them.
-use Rattle.std.specs.Prelude.{◌≡◌, ℕ, ◌+◌, ◌<◌, ◌≤◌, List, length, Option, Some, None, Result, Ok, Err, Vec}
-use Rattle.std.specs.declared.alloc.Global.{Global}
+use Rattle.std.specs.Prelude.{◌≡◌, ℕ, ◌+◌, ◌<◌, ◌≤◌, List, length, Option, Some, None, Result, Ok, Err}
 use Rattle.ms_io.specs.declared.traits.FileError.{FileError}
 use Rattle.ms_io.specs.declared.traits.FileError.TheVariants.{Failed, Absent, TooLong, NoMemory}
 use Rattle.ms_io.specs.Counts.{Rose, RoseBy}
@@ -8,10 +7,6 @@ use Rattle.ms_io.specs.Counts.{Rose, RoseBy}
 -- named files: the bytes under each name that is held
 abbrev pub Holdings : Type 0
 Holdings = List ℕ → Option (List ℕ)
-
--- what a read answers
-abbrev pub ReadResult : Type 0
-ReadResult = Result (Vec ℕ Global) FileError
 
 -- these bytes are the whole file of this name, where files are told; they are never more than the limit
 abbrev pub IsWholeFile : Option Holdings → List ℕ → ℕ → List ℕ → Type 0
@@ -35,32 +30,32 @@ IsFaultless None faults faults' = Unit {0}
 IsFaultless (Some files) faults faults' = faults' ≡ faults
 
 -- P holds where the answer is `Failed`
-abbrev pub IfFailed : ReadResult → Type 0 → Type 0
-IfFailed (Ok bytes) P = Unit {0}
+abbrev pub IfFailed : {A : Type 0} → Result A FileError → Type 0 → Type 0
+IfFailed (Ok answer) P = Unit {0}
 IfFailed (Err Failed) P = P
 IfFailed (Err Absent) P = Unit {0}
 IfFailed (Err (TooLong taken)) P = Unit {0}
 IfFailed (Err NoMemory) P = Unit {0}
 
 -- P holds where the answer isn't `Failed`
-abbrev pub UnlessFailed : ReadResult → Type 0 → Type 0
-UnlessFailed (Ok bytes) P = P
+abbrev pub UnlessFailed : {A : Type 0} → Result A FileError → Type 0 → Type 0
+UnlessFailed (Ok answer) P = P
 UnlessFailed (Err Failed) P = Unit {0}
 UnlessFailed (Err Absent) P = P
 UnlessFailed (Err (TooLong taken)) P = P
 UnlessFailed (Err NoMemory) P = P
 
 -- P holds where the answer is `Absent`
-abbrev pub IfAbsent : ReadResult → Type 0 → Type 0
-IfAbsent (Ok bytes) P = Unit {0}
+abbrev pub IfAbsent : {A : Type 0} → Result A FileError → Type 0 → Type 0
+IfAbsent (Ok answer) P = Unit {0}
 IfAbsent (Err Failed) P = Unit {0}
 IfAbsent (Err Absent) P = P
 IfAbsent (Err (TooLong taken)) P = Unit {0}
 IfAbsent (Err NoMemory) P = Unit {0}
 
 -- P holds of what was taken, where the answer is `TooLong`
-abbrev pub IfTooLong : ReadResult → (ℕ → Type 0) → Type 0
-IfTooLong (Ok bytes) P = Unit {0}
+abbrev pub IfTooLong : {A : Type 0} → Result A FileError → (ℕ → Type 0) → Type 0
+IfTooLong (Ok answer) P = Unit {0}
 IfTooLong (Err Failed) P = Unit {0}
 IfTooLong (Err Absent) P = Unit {0}
 IfTooLong (Err (TooLong taken)) P = P taken

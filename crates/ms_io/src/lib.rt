@@ -13,8 +13,11 @@
 mod memory_files;
 mod memory_sinks;
 mod real;
+#[cfg(test)]
+mod tests;
 mod traits;
 
 pub use memory_files::{MemFiles, SureFiles};
 pub use memory_sinks::{MemSink, SureSink};
+pub use real::{RealFiles, RealSink};
 pub use traits::{FileError, Files, Sink, SinkFailed};

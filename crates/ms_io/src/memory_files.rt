@@ -4,10 +4,9 @@ ghost use Rattle.ms_io.specs.Counts.{last_count, Rose, RoseBy};
 ghost use Rattle.ms_io.specs.Named.{files_of};
 ghost use Rattle.ms_io.specs.Reading.{IsWholeFile, IsAbsent, IsTooLong, IsFaultless, IfFailed, UnlessFailed, IfAbsent, IfTooLong};
 
+use crate::{FileError, Files};
 use std::alloc::Global;
 use std::collections::BTreeMap;
-
-use crate::{FileError, Files};
 
 /// Copies a file that is held, or says that it is too long.
 fn copy_within(alloc: Global, bytes: &[u8], limit: u64) -> Result<Vec<u8>, FileError>
