@@ -1,3 +1,4 @@
 pub mod Exact
 pub mod Relations
 pub mod Loops
+pub mod Forms

@@ -6,6 +6,7 @@
 mod errors;
 mod kinds;
 mod laws;
+mod scan;
 
 pub use errors::{LexError, NoMemory};
 pub use kinds::{Kind, Token};
