@@ -2,3 +2,5 @@ pub mod Exact
 pub mod Relations
 pub mod Loops
 pub mod Forms
+pub mod Cuts
+pub mod Spans

@@ -175,13 +175,13 @@ cut_of = cut_from 0 0
 
 -- ---- Answers
 
--- Why no token begins at this place. At a quote a string begins there and doesn't end.
-abbrev pub refusal_at : Text → ℕ → LexError
-refusal_at text place = if is_quote (slice_index text place) then OpenString place else BadByte place
+-- Why no token begins at this byte, which stands at this place. At a quote a string begins there and doesn't end.
+abbrev pub refusal_of : ℕ → ℕ → LexError
+refusal_of byte place = if is_quote byte then OpenString place else BadByte place
 
 abbrev pub unless_stopped : Text → List Token → Option ℕ → Result (List Token) LexError
 unless_stopped text tokens None = Ok tokens
-unless_stopped text tokens (Some place) = Err (refusal_at text place)
+unless_stopped text tokens (Some place) = Err (refusal_of (slice_index text place) place)
 
 -- The tokens of a text, of which there may be so many, or why it has none.
 unfoldable pub tokens_of : Text → ℕ → Result (List Token) LexError

@@ -6,6 +6,7 @@
 mod errors;
 mod kinds;
 mod laws;
+mod lexer;
 mod scan;
 
 pub use errors::{LexError, NoMemory};
