@@ -4,3 +4,4 @@ pub mod Loops
 pub mod Forms
 pub mod Cuts
 pub mod Spans
+pub mod Causes

@@ -1,2 +1,4 @@
 pub mod Tokens
+pub mod Names
+pub mod Numbers
 pub mod Grammar

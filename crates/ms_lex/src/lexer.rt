@@ -1,7 +1,7 @@
 //! The tokens of a text, one behind the other.
 
-ghost use Rattle.std.specs.Prelude.{◌≡◌, ◌≢◌, ◌≤◌, ◌<◌, ◌^◌, ◌∷◌, [], length, true, false, IfSome, IfNone, IfOk, slice_index};
-ghost use Rattle.ms_lex.specs.Tokens.{Gives, tokens_of};
+ghost use Rattle.std.specs.Prelude.{◌≡◌, ◌≢◌, ◌≤◌, ◌<◌, ◌^◌, ◌∷◌, [], length, true, false, IfSome, IfNone, IfOk, IsTrue, IsFalse, ℕ, slice_index};
+ghost use Rattle.ms_lex.specs.Tokens.{Gives, InOrder, RefusesExactly, StopsAt, cut_of, is_quote, tokens_of};
 ghost use Rattle.ms_lex.specs.Tokens as spec;
 
 use crate::errors::LexError;
@@ -69,4 +69,31 @@ fn cut(alloc: Global, text: &[u8], limit: u32) -> Result<Vec<Token>, LexError>
         }
     }
     Ok(found)
+}
+
+/// The tokens of a text of at most 2^27 bytes, in order, if there are at most `limit` up to its end.
+///
+/// Blanks (spaces, tabs, carriage returns and newlines) and comments, which run from `;` up to the next newline, stand between tokens.
+/// Each token is of the first kind, in the order of [`Kind`](crate::Kind), that fits at its first byte.
+///
+/// # Errors
+///
+/// With at most `limit` tokens before it, at the first byte at which no token begins: `OpenString` where that byte is a `"`, whose string doesn't
+/// end, and `BadByte` at any other, as at an `@` before such a string. `TooManyTokens` where more than `limit` tokens stand before any such
+/// byte. `NoMemory` where memory was wanting.
+#[tactic(auto, using(crate::proofs::Causes::bad_byte_exactly, crate::proofs::Causes::open_string_exactly, crate::proofs::Causes::too_many_exactly, crate::proofs::Causes::given_in_order))]
+pub fn tokens(alloc: Global, text: &[u8], limit: u32) -> Result<Vec<Token>, LexError>
+    requires { length text.now ≤ 2 ^ 27 }
+    // The tokens that the text has by the table of kinds, or why it has none, unless memory was wanting.
+    ensures exact { Gives (tokens_of text.now limit) result }
+    ensures in_order { IfOk result (λ found. InOrder found.items (length text.now)) }
+
+    // Each refusal comes exactly at its place, unless memory was wanting.
+    ensures bad_byte { (place : ℕ) → RefusesExactly result (LexError.BadByte place)
+        (StopsAt text.now limit place × IsFalse (is_quote (slice_index text.now place))) }
+    ensures open_string { (place : ℕ) → RefusesExactly result (LexError.OpenString place)
+        (StopsAt text.now limit place × IsTrue (is_quote (slice_index text.now place))) }
+    ensures too_many_tokens { RefusesExactly result LexError.TooManyTokens (limit < length (cut_of text.now).tokens) }
+{
+    cut(alloc, text, limit)
 }

@@ -12,3 +12,4 @@ mod scan;
 pub use errors::{LexError, NoMemory};
 pub use kinds::{Kind, Token};
 pub use laws::{HasGrammar, reads_or_stops};
+pub use lexer::tokens;
