@@ -5,3 +5,4 @@ pub mod Forms
 pub mod Cuts
 pub mod Spans
 pub mod Causes
+pub mod Decimals

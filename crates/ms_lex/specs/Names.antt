@@ -1,7 +1,7 @@
 -- The name that a token is.
 use Rattle.std.specs.Prelude.{ℕ, ◌+◌, ◌-◌, ◌*◌, Bool, true, false, ◌||◌, ◌&&◌, ◌==◌, nat_le, if◌then◌else◌, List, [], ◌∷◌, take, drop, length, slice_range}
 use Rattle.std.specs.List.{before_first}
-use Rattle.std.specs.Char.{is_ascii_digit, is_ascii_hexdigit, digit_value}
+use Rattle.std.specs.Char.{digit_value, is_digit}
 use Rattle.ms_lex.specs.declared.kinds.Kind.{Kind}
 use Rattle.ms_lex.specs.declared.kinds.Kind.TheVariants.{Label, CText, Str, Number, Word, Other, Local, Meta, Group, Punct}
 use Rattle.ms_lex.specs.declared.kinds.Kind.TheVariants as kinds
@@ -37,7 +37,7 @@ unescaped (a ∷ []) = a ∷ []
 unescaped (a ∷ b ∷ []) = if is_backslash a && is_backslash b then 92 ∷ [] else a ∷ unescaped (b ∷ [])
 unescaped (a ∷ b ∷ c ∷ rest) =
     if is_backslash a && is_backslash b then 92 ∷ unescaped (c ∷ rest)
-    else if is_backslash a && is_ascii_hexdigit b && is_ascii_hexdigit c then (16 * digit_value b + digit_value c) ∷ unescaped rest
+    else if is_backslash a && is_digit b 16 && is_digit c 16 then (16 * digit_value b + digit_value c) ∷ unescaped rest
     else a ∷ unescaped (b ∷ c ∷ rest)
 
 -- a run stands for itself, and a string for what is between its quotes

@@ -1,14 +1,13 @@
 -- The number that a token spells.
 use Rattle.std.specs.Prelude.{ℕ, ◌+◌, ◌-◌, ◌*◌, ◌^◌, ◌==◌, if◌then◌else◌, List, [], ◌∷◌, length, ℤ, pos, neg_ℤ, ◌<ℤ◌, ◌⊎◌}
-use Rattle.std.specs.Char.{digit_value}
 use Rattle.ms_lex.specs.declared.kinds.Token.{Token}
 use Rattle.ms_lex.specs.Tokens.{Text}
 use Rattle.ms_lex.specs.Names.{spelling_of}
 
--- the number that decimal digits spell: each counts ten times as much as the one behind it
+-- the number that decimal digits spell: a digit counts ten times for each digit behind it
 abbrev pub decimal : Text → ℕ
 decimal [] = 0
-decimal (digit ∷ rest) = digit_value digit * 10 ^ length rest + decimal rest
+decimal (digit ∷ rest) = (digit - 48) * 10 ^ length rest + decimal rest
 
 -- the same with a minus sign in front, where there is one
 abbrev pub signed_decimal : Text → ℤ

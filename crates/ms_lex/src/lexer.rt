@@ -6,19 +6,9 @@ ghost use Rattle.ms_lex.specs.Tokens as spec;
 
 use crate::errors::LexError;
 use crate::kinds::Token;
-use crate::scan::{behind, is_blank, line_length, token_at};
+use crate::scan::{is_blank, line_length, token_at};
+use crate::spellings::{behind, front};
 use std::alloc::Global;
-
-/// The first byte, and the bytes behind it.
-fn front(text: &[u8]) -> Option<(u8, &[u8])>
-    ensures some { IfSome result (λ p. text.now ≡ p.0 ∷ p.1.now) }
-    ensures none { IfNone result (text.now ≡ []) }
-{
-    match text {
-        [] => None,
-        [first, rest @ ..] => Some((*first, rest)),
-    }
-}
 
 /// Why no token begins at this byte, which stands at this place.
 fn refusal(first: u8, place: u32) -> LexError

@@ -7,9 +7,13 @@ mod errors;
 mod kinds;
 mod laws;
 mod lexer;
+mod names;
+mod numbers;
 mod scan;
+mod spellings;
 
 pub use errors::{LexError, NoMemory};
 pub use kinds::{Kind, Token};
 pub use laws::{HasGrammar, reads_or_stops};
 pub use lexer::tokens;
+pub use numbers::number_of;

@@ -7,6 +7,7 @@ ghost use Rattle.std.specs.Option.{option_map};
 ghost use Rattle.ms_lex.specs.Tokens as spec;
 
 use crate::kinds::Kind;
+use crate::spellings::behind;
 
 pub fn is_blank(b: u8) -> bool
     ensures { result ≡ spec.is_blank b }
@@ -62,14 +63,6 @@ fn quote_place(text: &[u8]) -> usize
         n += 1;
     }
     n
-}
-
-/// The text behind so many bytes.
-pub fn behind(text: &[u8], n: usize) -> &[u8]
-    requires { n ≤ length text.now }
-    ensures { result.now ≡ drop n text.now }
-{
-    &text[n..]
 }
 
 /// The byte at this place, and 0 behind the end.
