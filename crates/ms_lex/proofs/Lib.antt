@@ -6,3 +6,4 @@ pub mod Cuts
 pub mod Spans
 pub mod Causes
 pub mod Decimals
+pub mod Escapes

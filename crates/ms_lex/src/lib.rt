@@ -16,4 +16,5 @@ pub use errors::{LexError, NoMemory};
 pub use kinds::{Kind, Token};
 pub use laws::{HasGrammar, reads_or_stops};
 pub use lexer::tokens;
+pub use names::name_of;
 pub use numbers::number_of;

@@ -54,7 +54,7 @@ fn run_length(text: &[u8]) -> usize
 }
 
 /// How many bytes stand before the first quote.
-fn quote_place(text: &[u8]) -> usize
+pub fn quote_place(text: &[u8]) -> usize
     ensures value { result ≡ position_or_len spec.is_quote text.now }
     ensures within { result ≤ length text.now }
 {
