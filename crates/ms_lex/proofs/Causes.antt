@@ -6,11 +6,11 @@ use Rattle.std.proofs.lemmas.Bool.{lt-ltb, le-ltb, ltb-true, ltb-false}
 use Rattle.ms_lex.specs.declared.kinds.Token.{Token}
 use Rattle.ms_lex.specs.declared.errors.LexError.{LexError}
 use Rattle.ms_lex.specs.declared.errors.LexError.TheVariants.{NoMemory, BadByte, OpenString, TooManyTokens}
-use Rattle.ms_lex.specs.Tokens.{Text, is_quote, cut_of, refusal_of, unless_stopped, tokens_of, Gives, RefusesExactly, StopsAt, InOrder}
+use Rattle.ms_lex.specs.Tokens.{Text, is_quote, cut_of, refusal_of, unless_stopped, tokens_of, GivesTokens, RefusesExactly, StopsAt, InOrder}
 use Rattle.ms_lex.proofs.Spans.{in_order}
 
 -- a call that gives an answer refuses where that answer does
-refuses : (result : Result (Vec Token Global) LexError) (answer : Result (List Token) LexError) (reason : LexError) (Fact : Type 0) → Gives answer result → reason ≢ NoMemory
+refuses : (result : Result (Vec Token Global) LexError) (answer : Result (List Token) LexError) (reason : LexError) (Fact : Type 0) → GivesTokens answer result → reason ≢ NoMemory
     → (answer ≡ Err reason → Fact) → (Fact → answer ≡ Err reason) → RefusesExactly result reason Fact
 refuses (Ok found) answer reason Fact gives real only where_ = (λ e. absurd cc, λ fact. let e = where_ fact in absurd cc)
 refuses (Err NoMemory) answer reason Fact gives real only where_ = (λ e. absurd (real cc), λ fact. inr refl)
@@ -79,7 +79,7 @@ module _ (text : Text) (limit : ℕ) where
   unfolding tokens_of
   full more = rw (lt-ltb limit (length (cut_of text).tokens) more) refl
 
-  module _ (result : Result (Vec Token Global) LexError) (gives : Gives (tokens_of text limit) result) where
+  module _ (result : Result (Vec Token Global) LexError) (gives : GivesTokens (tokens_of text limit) result) where
     pub bad_byte_exactly : (place : ℕ) → RefusesExactly result (BadByte place) (StopsAt text limit place × (is_quote (slice_index text place) ≡ false))
     bad_byte_exactly place = refuses result (tokens_of text limit) (BadByte place) _ gives (λ h. absurd cc) (bad_only place) (λ fact. refused_at place fact.0 ∙ ap (λ quote. Err (cond quote (OpenString place) (BadByte place))) fact.1)
 
@@ -94,6 +94,6 @@ pub tokens_in_order : (text : Text) (limit : ℕ) (found : List Token) → token
 unfolding tokens_of
 tokens_in_order text limit found e = rw (given text (cut_of text).tokens (ltb limit (length (cut_of text).tokens)) (cut_of text).stop found e) (in_order text)
 
-pub given_in_order : (text : Text) (limit : ℕ) (result : Result (Vec Token Global) LexError) → Gives (tokens_of text limit) result → IfOk result (λ found. InOrder found.items (length text))
+pub given_in_order : (text : Text) (limit : ℕ) (result : Result (Vec Token Global) LexError) → GivesTokens (tokens_of text limit) result → IfOk result (λ found. InOrder found.items (length text))
 given_in_order text limit (Ok found) gives = tokens_in_order text limit found.items gives
 given_in_order text limit (Err e) gives = tt

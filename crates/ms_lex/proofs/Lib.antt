@@ -7,3 +7,4 @@ pub mod Spans
 pub mod Causes
 pub mod Decimals
 pub mod Escapes
+pub mod Lists

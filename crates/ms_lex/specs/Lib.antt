@@ -2,3 +2,4 @@ pub mod Tokens
 pub mod Names
 pub mod Numbers
 pub mod Grammar
+pub mod Lists

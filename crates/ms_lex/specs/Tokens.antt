@@ -190,9 +190,9 @@ tokens_of text limit =
     else unless_stopped text (cut_of text).tokens (cut_of text).stop
 
 -- the answer of a call, unless memory was wanting
-abbrev pub Gives : Result (List Token) LexError → Result (Vec Token Global) LexError → Type 0
-Gives answer (Ok found) = answer ≡ Ok found.items
-Gives answer (Err error) = error ≢ NoMemory → answer ≡ Err error
+abbrev pub GivesTokens : Result (List Token) LexError → Result (Vec Token Global) LexError → Type 0
+GivesTokens answer (Ok found) = answer ≡ Ok found.items
+GivesTokens answer (Err error) = error ≢ NoMemory → answer ≡ Err error
 
 -- a call refuses for this reason exactly where the fact holds, unless memory was wanting
 abbrev pub RefusesExactly : Result (Vec Token Global) LexError → LexError → Type 0 → Type 0

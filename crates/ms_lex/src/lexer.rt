@@ -1,7 +1,7 @@
 //! The tokens of a text, one behind the other.
 
 ghost use Rattle.std.specs.Prelude.{◌≡◌, ◌≢◌, ◌≤◌, ◌<◌, ◌^◌, ◌∷◌, [], length, true, false, IfSome, IfNone, IfOk, IsTrue, IsFalse, ℕ, slice_index};
-ghost use Rattle.ms_lex.specs.Tokens.{Gives, InOrder, RefusesExactly, StopsAt, cut_of, is_quote, tokens_of};
+ghost use Rattle.ms_lex.specs.Tokens.{GivesTokens, InOrder, RefusesExactly, StopsAt, cut_of, is_quote, tokens_of};
 ghost use Rattle.ms_lex.specs.Tokens as spec;
 
 use crate::errors::LexError;
@@ -26,7 +26,7 @@ fn refusal(first: u8, place: u32) -> LexError
 #[tactic(auto, using(crate::proofs::Cuts::began, crate::proofs::Cuts::blank_more, crate::proofs::Cuts::comment_more, crate::proofs::Cuts::one_more, crate::proofs::Cuts::ended, crate::proofs::Cuts::too_many, crate::proofs::Cuts::refused))]
 fn cut(alloc: Global, text: &[u8], limit: u32) -> Result<Vec<Token>, LexError>
     requires { length text.now ≤ 2 ^ 27 }
-    ensures { Gives (tokens_of text.now limit) result }
+    ensures { GivesTokens (tokens_of text.now limit) result }
 {
     let mut found: Vec<Token> = Vec::new(alloc);
     let mut place: u32 = 0;
@@ -75,7 +75,7 @@ fn cut(alloc: Global, text: &[u8], limit: u32) -> Result<Vec<Token>, LexError>
 pub fn tokens(alloc: Global, text: &[u8], limit: u32) -> Result<Vec<Token>, LexError>
     requires { length text.now ≤ 2 ^ 27 }
     // The tokens that the text has by the table of kinds, or why it has none, unless memory was wanting.
-    ensures exact { Gives (tokens_of text.now limit) result }
+    ensures exact { GivesTokens (tokens_of text.now limit) result }
     ensures in_order { IfOk result (λ found. InOrder found.items (length text.now)) }
 
     // Each refusal comes exactly at its place, unless memory was wanting.
