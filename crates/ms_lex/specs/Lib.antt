@@ -3,3 +3,4 @@ pub mod Names
 pub mod Numbers
 pub mod Grammar
 pub mod Lists
+pub mod Sums

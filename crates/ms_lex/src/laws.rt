@@ -39,3 +39,6 @@ pub fn reads_or_stops<G: HasGrammar>(grammar: &G)
         ↔ Stops (G.end grammar.now) (G.grammar grammar.now) ts e x }
 {
 }
+
+#[cfg(test)]
+mod tests;

@@ -12,6 +12,9 @@ mod numbers;
 mod scan;
 mod spellings;
 
+#[cfg(test)]
+mod tests;
+
 pub use errors::{LexError, NoMemory};
 pub use kinds::{Kind, Token};
 pub use laws::{HasGrammar, reads_or_stops};
