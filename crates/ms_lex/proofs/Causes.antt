@@ -1,5 +1,5 @@
 -- When the tokens of a text are refused, and why.
-use Rattle.std.proofs.Common.{◌≡◌, ◌≢◌, ◌⊎◌, inl, inr, ℕ, ◌<◌, ◌≤◌, Bool, true, false, cond, ltb, List, length, Option, Some, None, Result, Ok, Err, refl, sym, ap, ◌∙◌, arith}
+use Rattle.std.proofs.Common.{◌≡◌, ◌≢◌, inl, inr, ℕ, ◌<◌, ◌≤◌, Bool, true, false, cond, ltb, List, length, Option, Some, None, Result, Ok, Err, refl, sym, ap, ◌∙◌}
 use Rattle.std.specs.Prelude.{slice_index, Vec, IfOk}
 use Rattle.std.specs.declared.alloc.Global.{Global}
 use Rattle.std.proofs.lemmas.Bool.{lt-ltb, le-ltb, ltb-true, ltb-false}
@@ -46,9 +46,9 @@ module _ (text : Text) (tokens : List Token) where
   stopped_full true stop e = refl
   stopped_full false None e = absurd cc
   stopped_full false (Some p) e = elim (is_quote (slice_index text p)) as (λ quote. ◌≡◌ {A = Result (List Token) LexError} (Err (cond quote (OpenString p) (BadByte p))) (Err TooManyTokens) → false ≡ true) [
-      | true ↦ λ e. absurd cc
-      | false ↦ λ e. absurd cc
-    ] e
+    | true ↦ λ e. absurd cc
+    | false ↦ λ e. absurd cc
+  ] e
 
   given : (t : Bool) (stop : Option ℕ) (found : List Token) → cond t (Err TooManyTokens) (unless_stopped text tokens stop) ≡ Ok found → found ≡ tokens
   given true stop found e = absurd cc

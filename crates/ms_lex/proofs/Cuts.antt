@@ -1,14 +1,13 @@
 -- The tokens of a text, as the loop finds them.
-use Rattle.std.proofs.Common.{◌≡◌, ℕ, zero, suc, ◌+◌, ◌-◌, ◌<◌, ◌≤◌, Bool, true, false, cond, eqb, List, [], ◌∷◌, ◌++◌, length, drop, get_or, Option, Some, None, Result, Ok, Err, refl, sym, ap, ◌∙◌, append_assoc, arith, ltb, length-append, length-drop}
+use Rattle.std.proofs.Common.{◌≡◌, ℕ, zero, suc, ◌+◌, ◌-◌, ◌<◌, ◌≤◌, true, false, cond, eqb, List, [], ◌∷◌, ◌++◌, length, drop, get_or, Option, Some, None, Ok, Err, refl, sym, ap, ◌∙◌, append_assoc, arith, ltb, length-append, length-drop}
 use Rattle.std.specs.Prelude.{slice_index}
 use Rattle.std.specs.List.{position_or_len}
 use Rattle.std.proofs.lemmas.List.{append-nil, drop-drop, get_or-drop}
 use Rattle.std.proofs.lemmas.Bool.{lt-ltb, le-ltb}
 use Rattle.ms_lex.specs.declared.kinds.Kind.{Kind}
 use Rattle.ms_lex.specs.declared.kinds.Token.{Token}
-use Rattle.ms_lex.specs.declared.errors.LexError.{LexError}
 use Rattle.ms_lex.specs.declared.errors.LexError.TheVariants.{TooManyTokens}
-use Rattle.ms_lex.specs.Tokens.{Text, Cut, is_blank, is_newline, token_at, cut_at, cut_from, cut_of, with_first, nothing, refusal_of, unless_stopped, tokens_of}
+use Rattle.ms_lex.specs.Tokens.{Text, Cut, is_blank, is_newline, token_at, cut_from, cut_of, with_first, refusal_of, unless_stopped, tokens_of}
 
 -- what was found, and what is still found
 abbrev pub before : List Token → Cut → Cut

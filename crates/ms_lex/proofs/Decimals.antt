@@ -1,5 +1,5 @@
 -- The number that digits spell, digit by digit from the left.
-use Rattle.std.proofs.Common.{◌≡◌, ℕ, zero, suc, ◌+◌, ◌*◌, ◌-◌, ◌<◌, ◌≤◌, ◌^◌, List, [], ◌∷◌, length, get_or, drop, refl, sym, ap, ◌∙◌, arith, add-one, drop-cons, add_assoc}
+use Rattle.std.proofs.Common.{◌≡◌, ℕ, zero, suc, ◌+◌, ◌*◌, ◌-◌, ◌<◌, ◌≤◌, ◌^◌, [], length, get_or, drop, sym, ap, ◌∙◌, arith, add-one, drop-cons, add_assoc}
 use native.Mathlib.Nat.{mul_comm, mul-add, mul-one, mul_left_comm, mul-le-mul_left, pow-suc, zero-mul}
 use Rattle.ms_lex.specs.Tokens.{Text}
 use Rattle.ms_lex.specs.Numbers.{decimal}

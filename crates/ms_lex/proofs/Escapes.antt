@@ -1,10 +1,9 @@
 -- What the bytes of a string stand for, byte by byte from the left.
-use Rattle.std.proofs.Common.{◌≡◌, ◌≢◌, ℕ, ◌+◌, ◌*◌, Bool, true, false, ◌&&◌, cond, eqb, List, [], ◌∷◌, refl, sym, ap, ◌∙◌, inl, inr, arith}
-use Rattle.std.specs.Prelude.{slice_index}
+use Rattle.std.proofs.Common.{◌≡◌, ◌≢◌, ℕ, ◌+◌, ◌*◌, true, false, [], ◌∷◌, refl, ap}
 use Rattle.std.specs.Char.{digit_value, is_digit}
-use Rattle.std.proofs.lemmas.Bool.{ne_eqb, eqb-true}
+use Rattle.std.proofs.lemmas.Bool.{ne_eqb}
 use Rattle.ms_lex.specs.Tokens.{Text}
-use Rattle.ms_lex.specs.Names.{is_backslash, unescaped}
+use Rattle.ms_lex.specs.Names.{unescaped}
 
 pub plain : (a : ℕ) (z : Text) → a ≢ 92 → unescaped (a ∷ z) ≡ a ∷ unescaped z
 plain a [] other = refl

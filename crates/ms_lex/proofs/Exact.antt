@@ -1,13 +1,12 @@
 -- What a grammar reads is what its function gives, and where it stops is where that refuses.
-use Rattle.std.proofs.Common.{◌≡◌, ◌≢◌, ◌⊎◌, inl, inr, ℕ, zero, suc, ◌≤◌, ◌<◌, Bool, true, false, cond, List, [], ◌∷◌, length, Result, Ok, Err, refl, sym, ap, ◌∙◌, subst, arith}
-use Rattle.ms_lex.specs.Grammar.{head, tail, Grammar, give, one, look, seq, loop, Ends, Turns, Reads, TurnStops, Stops, Outcome, done, fails, and_then, judged, turn, turns, run, Gives, Exactly}
+use Rattle.std.proofs.Common.{◌≡◌, ◌⊎◌, inl, inr, ℕ, zero, suc, ◌≤◌, Bool, true, false, List, [], ◌∷◌, length, Result, Ok, Err, refl, ap, arith}
+use Rattle.ms_lex.specs.Grammar.{head, tail, Grammar, give, one, look, seq, loop, Turns, Reads, TurnStops, Stops, Outcome, done, fails, and_then, judged, turn, turns, run}
 
 tail_shorter : {T : Type 0} (ts : List T) → length (tail ts) ≤ length ts
 tail_shorter [] = omega arith
 tail_shorter (t ∷ ts) = omega arith
 
 module _ {T E : Type 0} (end : T) where
-
   pub and_then_done : {A B : Type 0} (r : Outcome T E A) (f : A → List T → Outcome T E B) (v : B) (rest : List T) → and_then r f ≡ done v rest → (a : A) × (mid : List T) × (r ≡ done a mid) × (f a mid ≡ done v rest)
   and_then_done (done a mid) f v rest e = (a, mid, refl, e)
   and_then_done (fails d k) f v rest e = absurd cc
@@ -148,9 +147,9 @@ module _ {T E : Type 0} (end : T) where
   stop_sound (one f) ts d k e = judged_fails (f (head end ts)) ts (tail ts) d k e
   stop_sound (look f) ts d k e = judged_fails (f (head end ts)) ts ts d k e
   stop_sound (seq g h) ts d k e = elim (and_then_fails (run end g ts) (λ a. run end (h a)) d k e) [
-      | inl f ↦ inl (stop_sound g ts d k f)
-      | inr a ↦ inr (a.0, a.1, sound g ts a.0 a.1 a.2, stop_sound (h a.0) a.1 d k a.3)
-    ]
+    | inl f ↦ inl (stop_sound g ts d k f)
+    | inr a ↦ inr (a.0, a.1, sound g ts a.0 a.1 a.2, stop_sound (h a.0) a.1 d k a.3)
+  ]
   stop_sound (loop begins body s) ts d k e = turns_stop_sound begins (λ s t. run end (body s t)) (λ s t. Reads end (body s t)) (λ s t. Stops end (body s t)) (λ s t. shorter (body s t)) (λ s t. sound (body s t)) (λ s t. stop_sound (body s t)) (length ts) s ts d k e
 
   pub stop_complete : {A : Type 0} (g : Grammar T E A) (ts : List T) (d : E) (k : List T) → Stops end g ts d k → run end g ts ≡ fails d k
@@ -158,7 +157,7 @@ module _ {T E : Type 0} (end : T) where
   stop_complete (one f) ts d k h = let q = h.1 in rw h.0 (cc)
   stop_complete (look f) ts d k h = let q = h.1 in rw h.0 (cc)
   stop_complete (seq g h) ts d k r = elim r [
-      | inl f ↦ rw (stop_complete g ts d k f) refl
-      | inr a ↦ rw (complete g ts a.0 a.1 a.2) (stop_complete (h a.0) a.1 d k a.3)
-    ]
+    | inl f ↦ rw (stop_complete g ts d k f) refl
+    | inr a ↦ rw (complete g ts a.0 a.1 a.2) (stop_complete (h a.0) a.1 d k a.3)
+  ]
   stop_complete (loop begins body s) ts d k r = turns_stop_complete begins (λ s t. run end (body s t)) (λ s t. Reads end (body s t)) (λ s t. Stops end (body s t)) (λ s t. shorter (body s t)) (λ s t. complete (body s t)) (λ s t. stop_complete (body s t)) r.0 (length ts) s ts d k (omega arith) r.1

@@ -1,14 +1,13 @@
 -- Which form of the table fits first, told by the first byte of a text.
-use Rattle.std.proofs.Common.{◌≡◌, ◌≢◌, ℕ, zero, suc, ◌+◌, ◌-◌, ◌<◌, ◌≤◌, Bool, true, false, cond, eqb, List, [], ◌∷◌, ◌++◌, length, take, drop, Option, Some, None, refl, sym, ap, ◌∙◌, inl, inr, arith}
-use Rattle.std.specs.Prelude.{codes, slice_index, if◌then◌else◌, ◌==◌}
+use Rattle.std.proofs.Common.{◌≡◌, ◌≢◌, ℕ, zero, suc, ◌+◌, ◌<◌, Bool, true, false, cond, eqb, [], ◌∷◌, take, drop, Some, None, refl, ap, inl, inr, arith}
+use Rattle.std.specs.Prelude.{codes, slice_index}
 use Rattle.std.specs.List.{prefix_len}
-use Rattle.std.specs.Option.{option_map, option_and_then, option_or}
+use Rattle.std.specs.Option.{option_map}
 use Rattle.std.proofs.lemmas.Bool.Decides.{nat_tests, eqb_tells}
 use Rattle.std.proofs.lemmas.Bool.{ne_eqb}
-use Rattle.ms_lex.specs.declared.kinds.Kind.{Kind}
 use Rattle.ms_lex.specs.declared.kinds.Kind.TheVariants.{Label, CText, Str, Number, Word, Other, Local, Meta, Group, Punct}
 use Rattle.ms_lex.specs.declared.kinds.Kind.TheVariants as kinds
-use Rattle.ms_lex.specs.Tokens.{Text, Form, Found, is_one_of, is_name_byte, is_quote, is_number, begins_word, is_c, one_of, followed_by, or_else, run, run_that, up_to_quote, string, name, label, c_text, punctuation, table, or_next, first_fit, token_at}
+use Rattle.ms_lex.specs.Tokens.{Text, Form, Found, is_one_of, is_name_byte, is_number, begins_word, is_c, one_of, followed_by, or_else, run, run_that, up_to_quote, string, name, label, c_text, punctuation, or_next, first_fit, token_at}
 
 -- ---- A colon
 
@@ -30,15 +29,15 @@ no_colon_here (b ∷ rest) (suc n) e = no_colon_here rest n e
 
 differs : (b c : ℕ) → is_name_byte b ≡ true → is_name_byte c ≡ false → eqb b c ≡ false
 differs b c named other = elim (eqb_tells b c) [
-    | inl same ↦ let e = ap is_name_byte same.1 in absurd cc
-    | inr apart ↦ apart.0
-  ]
+  | inl same ↦ let e = ap is_name_byte same.1 in absurd cc
+  | inr apart ↦ apart.0
+]
 
 first_is_name : (b : ℕ) (rest : Text) → 0 < prefix_len is_name_byte (b ∷ rest) → is_name_byte b ≡ true
 first_is_name b rest some = elim (is_name_byte b) as (λ t. 0 < cond t (1 + prefix_len is_name_byte rest) 0 → t ≡ true) [
-    | true ↦ λ some. refl
-    | false ↦ λ some. absurd (omega arith)
-  ] some
+  | true ↦ λ some. refl
+  | false ↦ λ some. absurd (omega arith)
+] some
 
 pub run_is : (text : Text) (n : ℕ) → n ≡ prefix_len is_name_byte text → 0 < n → run text ≡ Some n
 unfolding run

@@ -1,5 +1,5 @@
 -- Lists with separators, as a loop reads them.
-use Rattle.std.proofs.Common.{◌≡◌, ◌≢◌, ℕ, ◌≤◌, ◌<◌, Bool, true, false, cond, List, [], ◌∷◌, ◌++◌, length, refl, sym, ap, ◌∙◌, arith, Result, Ok, Err}
+use Rattle.std.proofs.Common.{◌≡◌, ◌<◌, Bool, true, false, List, [], ◌∷◌, ◌++◌, length, refl, ap, ◌∙◌, arith, Result, Ok}
 use Rattle.ms_lex.specs.Grammar.{head, tail, Grammar, Outcome, done, fails, and_then, run}
 use Rattle.ms_lex.specs.Lists.{expect, one_more, more, list}
 use Rattle.ms_lex.proofs.Exact.{shorter}

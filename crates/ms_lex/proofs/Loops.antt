@@ -1,10 +1,9 @@
 -- One turn of a loop, and its end. As many turns as there are tokens are enough.
-use Rattle.std.proofs.Common.{◌≡◌, ◌≢◌, ◌⊎◌, inl, inr, ℕ, zero, suc, ◌≤◌, ◌<◌, Bool, true, false, cond, List, [], ◌∷◌, length, Result, Ok, Err, refl, sym, ap, ◌∙◌, subst, arith}
-use Rattle.ms_lex.specs.Grammar.{head, tail, Grammar, give, one, look, seq, loop, Ends, Turns, Reads, TurnStops, Stops, Outcome, done, fails, and_then, judged, turn, turns, run, Gives, Exactly}
+use Rattle.std.proofs.Common.{◌≡◌, ℕ, zero, suc, ◌≤◌, ◌<◌, Bool, true, false, List, [], ◌∷◌, length, Result, Ok, Err, refl, ap, arith}
+use Rattle.ms_lex.specs.Grammar.{head, tail, Grammar, loop, Outcome, done, fails, and_then, turn, turns, run}
 use Rattle.ms_lex.proofs.Exact.{shorter}
 
 module _ {T E : Type 0} (end : T) where
-
   abbrev Same : {S : Type 0} → ℕ → (S → List T → Outcome T E S) → (S → List T → Outcome T E S) → Type 0
   Same {S} len f g = (s : S) (ts : List T) → length ts ≤ len → f s ts ≡ g s ts
 
@@ -23,7 +22,7 @@ module _ {T E : Type 0} (end : T) where
     enough (suc n) zero s (t ∷ ts) p q = absurd (omega arith)
     enough (suc n) (suc m) s [] p q = refl
     enough (suc n) (suc m) s (t ∷ ts) p q = ap (λ r. turn (begins s t) r s (t ∷ ts))
-      (both (read s t ts) (turns begins read n) (turns begins read m) (length ts) (λ s ts less. enough n m s ts (omega arith) (omega arith)) (short s t ts))
+        (both (read s t ts) (turns begins read n) (turns begins read m) (length ts) (λ s ts less. enough n m s ts (omega arith) (omega arith)) (short s t ts))
 
     goes_on : (s : S) (t : T) (ts : List T) → begins s t ≡ Ok true → turns begins read (length (t ∷ ts)) s (t ∷ ts) ≡ and_then (read s t ts) (λ s ts. turns begins read (length ts) s ts)
     goes_on s t ts h = rw h (both (read s t ts) (turns begins read (length ts)) (λ s ts. turns begins read (length ts) s ts) (length ts) (λ s ts less. enough _ _ s ts less (omega arith)) (short s t ts))

@@ -1,10 +1,9 @@
 -- From the function to the two relations, and that they leave no choice.
-use Rattle.std.proofs.Common.{◌≡◌, ◌≢◌, ◌⊎◌, inl, inr, ℕ, zero, suc, ◌≤◌, ◌<◌, Bool, true, false, cond, List, [], ◌∷◌, length, Result, Ok, Err, refl, sym, ap, ◌∙◌, subst, arith}
-use Rattle.ms_lex.specs.Grammar.{head, tail, Grammar, give, one, look, seq, loop, Ends, Turns, Reads, TurnStops, Stops, Outcome, done, fails, and_then, judged, turn, turns, run, Gives, Exactly}
+use Rattle.std.proofs.Common.{◌≡◌, ◌⊎◌, inl, inr, List, Result, Ok, Err, refl, sym, ◌∙◌}
+use Rattle.ms_lex.specs.Grammar.{Grammar, Reads, Stops, Outcome, done, fails, run, Gives, Exactly}
 use Rattle.ms_lex.proofs.Exact.{sound, complete, stop_sound, stop_complete}
 
 module _ {T E : Type 0} (end : T) where
-
   pub exactly : {A : Type 0} (no_memory : E) (g : Grammar T E A) (ts : List T) (r : Result A E) (new : List T) → Gives no_memory (run end g ts) r new → Exactly end no_memory g ts r new
   exactly no_memory g ts (Ok a) new h = sound end g ts a new h
   exactly no_memory g ts (Err e) new h = λ real. stop_sound end g ts e new (h real)

@@ -1,15 +1,12 @@
 -- The tokens of a text lie in it, one behind the other.
-use Rattle.std.proofs.Common.{◌≡◌, ◌≢◌, ℕ, zero, suc, ◌+◌, ◌-◌, ◌<◌, ◌≤◌, Bool, true, false, not, cond, eqb, ltb, List, [], ◌∷◌, length, take, drop, get_or, Option, Some, None, Result, Ok, Err, refl, sym, ap, ◌∙◌, inl, inr, subst, arith, length-drop}
+use Rattle.std.proofs.Common.{◌≡◌, ℕ, zero, suc, ◌+◌, ◌-◌, ◌<◌, ◌≤◌, Bool, true, false, not, cond, eqb, ltb, List, [], ◌∷◌, length, take, drop, Option, Some, None, refl, arith, length-drop}
 use Rattle.std.proofs.Math.Dec.{eqb-suc-zero}
-use Rattle.std.proofs.lemmas.Bool.{ltb-true, eqb-true}
-use Rattle.std.specs.Prelude.{IfSome}
-use Rattle.std.specs.List.{All, AllPairs, prefix_len, position_or_len, position, slice_index_or}
+use Rattle.std.proofs.lemmas.Bool.{ltb-true}
+use Rattle.std.specs.List.{prefix_len, position_or_len, slice_index_or}
 use Rattle.std.specs.Option.{option_map, option_and_then, option_or}
 use Rattle.ms_lex.specs.declared.kinds.Kind.{Kind}
 use Rattle.ms_lex.specs.declared.kinds.Token.{Token}
-use Rattle.ms_lex.specs.declared.errors.LexError.{LexError}
-use Rattle.ms_lex.specs.Tokens.{Text, Form, Found, Cut, is_blank, is_name_byte, is_newline, is_one_of, is_quote, is_number, begins_word, is_c, punctuation, one_of, followed_by, or_else, run, run_that, up_to_quote, string, name, label, c_text, table, or_next, first_fit, token_at, with_first, cut_at, cut_from, cut_of, unless_stopped, tokens_of, InOrder}
-use Rattle.ms_lex.proofs.Cuts.{at_blank, at_comment, at_token, at_stop}
+use Rattle.ms_lex.specs.Tokens.{Text, Form, Found, Cut, is_blank, is_name_byte, is_newline, is_one_of, is_quote, is_number, begins_word, is_c, punctuation, one_of, followed_by, or_else, run, run_that, up_to_quote, string, name, label, c_text, table, or_next, first_fit, token_at, cut_at, cut_from, cut_of, InOrder}
 
 -- ---- A form that fits takes a byte or more, and none behind the end
 
@@ -24,9 +21,9 @@ one_of_inside : (bytes : Text) → Fitting (one_of bytes)
 unfolding one_of
 one_of_inside bytes [] = tt
 one_of_inside bytes (b ∷ rest) = elim (is_one_of bytes b) as (λ t. Inside (b ∷ rest) (cond t (Some 1) None)) [
-    | true ↦ (omega arith, omega arith)
-    | false ↦ tt
-  ]
+  | true ↦ (omega arith, omega arith)
+  | false ↦ tt
+]
 
 sum_inside : (text : Text) (n : ℕ) → n ≤ length text → (second : Option ℕ) → Inside (drop n text) second → Inside text (option_map (λ m. n + m) second)
 sum_inside text n long None inside = tt
@@ -51,9 +48,9 @@ else_inside first second f s text = or_inside text (first text) (second text) (f
 prefix_inside : (test : ℕ → Bool) (text : Text) → prefix_len test text ≤ length text
 prefix_inside test [] = omega arith
 prefix_inside test (b ∷ rest) = elim (test b) as (λ t. cond t (1 + prefix_len test rest) 0 ≤ length (b ∷ rest)) [
-    | true ↦ let less = prefix_inside test rest in omega arith
-    | false ↦ omega arith
-  ]
+  | true ↦ let less = prefix_inside test rest in omega arith
+  | false ↦ omega arith
+]
 
 counted_inside : (text : Text) (n : ℕ) → n ≤ length text → Inside text (cond (eqb n 0) None (Some n))
 counted_inside text zero long = tt
@@ -66,9 +63,9 @@ run_inside text = counted_inside text (prefix_len is_name_byte text) (prefix_ins
 tested_inside : (text : Text) (test : Text → Bool) (n : Option ℕ) → Inside text n → Inside text (option_and_then (λ n. cond (test (take n text)) (Some n) None) n)
 tested_inside text test None inside = tt
 tested_inside text test (Some n) inside = elim (test (take n text)) as (λ t. Inside text (cond t (Some n) None)) [
-    | true ↦ inside
-    | false ↦ tt
-  ]
+  | true ↦ inside
+  | false ↦ tt
+]
 
 run_that_inside : (test : Text → Bool) → Fitting (run_that test)
 unfolding run_that
@@ -109,18 +106,37 @@ first_inside (row ∷ rows) fits text = row_inside text row.0 (row.1 text) (firs
 
 token_inside : (text : Text) → FoundInside text (token_at text)
 unfolding token_at AllFitting label c_text
-token_inside = first_inside table
-    (followed_inside name (one_of (58 ∷ [])) name_inside (one_of_inside (58 ∷ [])),
-    (followed_inside (run_that is_c) string (run_that_inside is_c) string_inside,
-    (string_inside,
-    (run_that_inside is_number,
-    (run_that_inside begins_word,
-    (run_inside,
-    (followed_inside (one_of (64 ∷ [])) name (one_of_inside (64 ∷ [])) name_inside,
-    (followed_inside (one_of (37 ∷ [])) name (one_of_inside (37 ∷ [])) name_inside,
-    (followed_inside (one_of (33 ∷ [])) run (one_of_inside (33 ∷ [])) run_inside,
-    (followed_inside (one_of (35 ∷ [])) run (one_of_inside (35 ∷ [])) run_inside,
-    (one_of_inside punctuation, tt)))))))))))
+token_inside = first_inside table (
+  followed_inside name (one_of (58 ∷ [])) name_inside (one_of_inside (58 ∷ [])),
+  (
+    followed_inside (run_that is_c) string (run_that_inside is_c) string_inside,
+    (
+      string_inside,
+      (
+        run_that_inside is_number,
+        (
+          run_that_inside begins_word,
+          (
+            run_inside,
+            (
+              followed_inside (one_of (64 ∷ [])) name (one_of_inside (64 ∷ [])) name_inside,
+              (
+                followed_inside (one_of (37 ∷ [])) name (one_of_inside (37 ∷ [])) name_inside,
+                (
+                  followed_inside (one_of (33 ∷ [])) run (one_of_inside (33 ∷ [])) run_inside,
+                  (
+                    followed_inside (one_of (35 ∷ [])) run (one_of_inside (35 ∷ [])) run_inside,
+                    (one_of_inside punctuation, tt),
+                  ),
+                ),
+              ),
+            ),
+          ),
+        ),
+      ),
+    ),
+  ),
+)
 
 -- ---- The tokens of a text stand in order
 
@@ -141,8 +157,12 @@ cut_at_inside : (found : Found) (b : ℕ) (rest : Text) (place : ℕ) → FoundI
     → ((left : ℕ) → left ≤ length rest → From (place + 1 + left) (place + 1 + length rest) (cut_from left (place + 1) rest).tokens)
     → From place (place + length (b ∷ rest)) (cut_at found place (λ left. cut_from left (place + 1) rest)).tokens
 cut_at_inside None b rest place inside later = tt
-cut_at_inside (Some t) b rest place inside later = (omega arith, omega arith, omega arith,
-    moved _ _ _ _ (cut_from (t.1 - 1) (place + 1) rest).tokens (omega arith) (omega arith) (later (t.1 - 1) (omega arith)))
+cut_at_inside (Some t) b rest place inside later = (
+  omega arith,
+  omega arith,
+  omega arith,
+  moved _ _ _ _ (cut_from (t.1 - 1) (place + 1) rest).tokens (omega arith) (omega arith) (later (t.1 - 1) (omega arith)),
+)
 
 chosen : (t u : Bool) (a b c : Cut) (place size : ℕ) → From place size a.tokens → From place size b.tokens → From place size c.tokens → From place size (cond t a (cond u b c)).tokens
 chosen true u a b c place size x y z = x
@@ -158,8 +178,8 @@ in_order_from zero place (b ∷ rest) long =
     let behind_line : From place (place + 1 + length rest) (cut_from (position_or_len is_newline rest) (place + 1) rest).tokens = earlier place (place + 1 + position_or_len is_newline rest) _ (cut_from (position_or_len is_newline rest) (place + 1) rest).tokens (omega arith) (in_order_from (position_or_len is_newline rest) (place + 1) rest line) in
     let token = cut_at_inside (token_at (b ∷ rest)) b rest place (token_inside (b ∷ rest)) (λ left less. in_order_from left (place + 1) rest less) in
     moved place (place + 0) (place + 1 + length rest) (place + length (b ∷ rest)) _ (omega arith) (omega arith)
-      (chosen (is_blank b) (eqb b 59) (cut_from 0 (place + 1) rest) (cut_from (position_or_len is_newline rest) (place + 1) rest) (cut_at (token_at (b ∷ rest)) place (λ left. cut_from left (place + 1) rest)) place (place + 1 + length rest)
-        behind behind_line (moved place place (place + length (b ∷ rest)) (place + 1 + length rest) _ refl (omega arith) token))
+    (chosen (is_blank b) (eqb b 59) (cut_from 0 (place + 1) rest) (cut_from (position_or_len is_newline rest) (place + 1) rest) (cut_at (token_at (b ∷ rest)) place (λ left. cut_from left (place + 1) rest)) place (place + 1 + length rest)
+    behind behind_line (moved place place (place + length (b ∷ rest)) (place + 1 + length rest) _ refl (omega arith) token))
 
 pub in_order_of : (text : Text) → From 0 (length text) (cut_of text).tokens
 unfolding cut_of

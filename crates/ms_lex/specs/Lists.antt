@@ -1,6 +1,6 @@
 -- Lists of items with a separator between, up to a closing token.
 use Rattle.std.specs.Prelude.{Bool, cond, if◌then◌else◌, List, [], ◌∷◌, ◌++◌, Result, Ok, Err}
-use Rattle.ms_lex.specs.Grammar.{Grammar, give, one, look, seq, loop, ◌>>=◌, ◌>>◌}
+use Rattle.ms_lex.specs.Grammar.{Grammar, give, one, look, loop, ◌>>=◌, ◌>>◌}
 
 -- whether the next token passes a test
 abbrev pub sees : {T R : Type 0} → (T → Bool) → Grammar T R Bool

@@ -1,5 +1,5 @@
 -- The name that a token is.
-use Rattle.std.specs.Prelude.{ℕ, ◌+◌, ◌-◌, ◌*◌, Bool, true, false, ◌||◌, ◌&&◌, ◌==◌, nat_le, if◌then◌else◌, List, [], ◌∷◌, take, drop, length, slice_range}
+use Rattle.std.specs.Prelude.{ℕ, ◌+◌, ◌-◌, ◌*◌, Bool, ◌&&◌, ◌==◌, if◌then◌else◌, [], ◌∷◌, take, drop, length, slice_range}
 use Rattle.std.specs.List.{before_first}
 use Rattle.std.specs.Char.{digit_value, is_digit}
 use Rattle.ms_lex.specs.declared.kinds.Kind.{Kind}

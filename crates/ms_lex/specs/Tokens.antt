@@ -1,5 +1,5 @@
 -- The tokens of a text. A text is the list of its bytes.
-use Rattle.std.specs.Prelude.{◌≡◌, ◌≢◌, ℕ, zero, suc, ◌+◌, ◌-◌, ◌≤◌, ◌<◌, ◌⊎◌, Bool, true, false, ◌||◌, ◌&&◌, ◌==◌, nat_lt, if◌then◌else◌, codes, List, [], ◌∷◌, length, take, drop, slice_index, Option, Some, None, Result, Ok, Err}
+use Rattle.std.specs.Prelude.{◌≡◌, ◌≢◌, ℕ, zero, suc, ◌+◌, ◌-◌, ◌≤◌, ◌<◌, ◌⊎◌, Bool, false, ◌||◌, ◌&&◌, ◌==◌, nat_lt, if◌then◌else◌, codes, List, [], ◌∷◌, length, take, drop, slice_index, Option, Some, None, Result, Ok, Err}
 use Rattle.std.specs.Prelude.{Vec}
 use Rattle.std.specs.declared.alloc.Global.{Global}
 use Rattle.std.specs.List.{prefix_len, position, position_or_len, list_all, All, AllPairs}
@@ -112,7 +112,7 @@ punctuation = codes "()[]{}<>,=*!|"
 -- the form of each kind of token
 abbrev pub table : List (Kind × Form)
 table =
-      (Label, label)
+    (Label, label)
     ∷ (CText, c_text)
     ∷ (Str, string)
     ∷ (Number, run_that is_number)

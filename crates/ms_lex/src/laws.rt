@@ -6,12 +6,15 @@ ghost use Rattle.ms_lex.specs.Grammar.{Reads, Stops, done, fails, run};
 /// Something that has a grammar over tokens of a type, with a type of reasons to stop and one of the values that it reads.
 pub trait HasGrammar {
     type Token;
+
     type Reason;
+
     type Value;
 
     ghost use Rattle.ms_lex.specs.Grammar.{Grammar};
 
     ghost end: { Self → Self.Token };
+
     ghost grammar: { Self → Grammar Self.Token Self.Reason Self.Value };
 }
 
@@ -37,8 +40,7 @@ pub fn reads_or_stops<G: HasGrammar>(grammar: &G)
     ensures runs_to_stop { (ts x : List G.Token) (e : G.Reason)
         → (run (G.end grammar.now) (G.grammar grammar.now) ts ≡ fails e x)
         ↔ Stops (G.end grammar.now) (G.grammar grammar.now) ts e x }
-{
-}
+{}
 
 #[cfg(test)]
 mod tests;

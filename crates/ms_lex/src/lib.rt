@@ -11,7 +11,6 @@ mod names;
 mod numbers;
 mod scan;
 mod spellings;
-
 #[cfg(test)]
 mod tests;
 

@@ -29,16 +29,45 @@ fn texts_have_these_tokens(rt: HostRuntime) -> Result<(), Fail> {
         ("c \"x\"", &[(Kind::Word, 0, 1), (Kind::Str, 2, 5)]),
         ("!0", &[(Kind::Meta, 0, 2)]),
         ("!\"x\"", &[(Kind::Punct, 0, 1), (Kind::Str, 1, 4)]),
-        ("!{}", &[(Kind::Punct, 0, 1), (Kind::Punct, 1, 2), (Kind::Punct, 2, 3)]),
-        ("#dbg_value(", &[(Kind::Group, 0, 10), (Kind::Punct, 10, 11)]),
+        (
+            "!{}",
+            &[
+                (Kind::Punct, 0, 1),
+                (Kind::Punct, 1, 2),
+                (Kind::Punct, 2, 3),
+            ],
+        ),
+        (
+            "#dbg_value(",
+            &[(Kind::Group, 0, 10), (Kind::Punct, 10, 11)],
+        ),
         ("-5", &[(Kind::Number, 0, 2)]),
-        ("- -x 1.5 ... $a", &[(Kind::Other, 0, 1), (Kind::Other, 2, 4), (Kind::Other, 5, 8), (Kind::Other, 9, 12), (Kind::Other, 13, 15)]),
+        (
+            "- -x 1.5 ... $a",
+            &[
+                (Kind::Other, 0, 1),
+                (Kind::Other, 2, 4),
+                (Kind::Other, 5, 8),
+                (Kind::Other, 9, 12),
+                (Kind::Other, 13, 15),
+            ],
+        ),
         ("5x:", &[(Kind::Label, 0, 3)]),
         ("-5:x", &[(Kind::Label, 0, 3), (Kind::Word, 3, 4)]),
         ("\"a b\":", &[(Kind::Label, 0, 6)]),
         ("_x i32", &[(Kind::Word, 0, 2), (Kind::Word, 3, 6)]),
-        ("@a$b._c-d,%5", &[(Kind::Global, 0, 9), (Kind::Punct, 9, 10), (Kind::Local, 10, 12)]),
-        ("@\"x y\"%\"\"", &[(Kind::Global, 0, 6), (Kind::Local, 6, 9)]),
+        (
+            "@a$b._c-d,%5",
+            &[
+                (Kind::Global, 0, 9),
+                (Kind::Punct, 9, 10),
+                (Kind::Local, 10, 12),
+            ],
+        ),
+        (
+            "@\"x y\"%\"\"",
+            &[(Kind::Global, 0, 6), (Kind::Local, 6, 9)],
+        ),
         ("x;y\rz\n1", &[(Kind::Word, 0, 1), (Kind::Number, 6, 7)]),
         ("\"a\\\"b", &[(Kind::Str, 0, 4), (Kind::Word, 4, 5)]),
     ];
@@ -79,7 +108,10 @@ fn texts_are_refused_there(rt: HostRuntime) -> Result<(), Fail> {
 fn more_tokens_than_the_limit(rt: HostRuntime) -> Result<(), Fail> {
     let limit = 1 << 20;
     let text = vec![in rt.alloc(); b'('; 1048577]?;
-    assert_eq!(rt; tokens(rt.alloc(), &text, limit).err(), Some(LexError::TooManyTokens));
+    assert_eq!(rt;
+        tokens(rt.alloc(), &text, limit).err(),
+        Some(LexError::TooManyTokens)
+    );
     assert_eq!(rt; tokens(rt.alloc(), &text[1..], limit)?.len(), 1048576);
     Ok(())
 }
@@ -125,7 +157,10 @@ fn tokens_have_these_numbers(rt: HostRuntime) -> Result<(), Fail> {
         ("-9223372036854775808", Some(-9223372036854775808)),
         ("-9223372036854775809", None),
         ("99999999999999999999999999999999999999999999999999", None),
-        ("00000000000000000000000000000000000000000000000001", Some(1)),
+        (
+            "00000000000000000000000000000000000000000000000001",
+            Some(1),
+        ),
     ];
     for (text, want) in table {
         assert!(rt; text.len() <= 1 << 27);

@@ -12,10 +12,13 @@ impl HasGrammar for Sums {
     ghost use Rattle.ms_lex.specs.Sums.{sum};
 
     type Token = u8;
+
     type Reason = u8;
+
     type Value = u32;
 
     ghost end = { λ _. 0 };
+
     ghost grammar = { λ _. sum };
 }
 
@@ -26,8 +29,7 @@ fn sums_are_read()
     ensures rest { run 0 sum (codes "7;8") ≡ done 7 (codes "8") }
     ensures no_digit { run 0 sum (codes "1+;") ≡ fails 59 (codes ";") }
     ensures no_end { run 0 sum (codes "1+2") ≡ fails 0 [] }
-{
-}
+{}
 
 #[test]
 fn laws_of_a_small_grammar() {

@@ -11,9 +11,11 @@ returns-clause-always_either g c = λ ts. either (g.G.HasGrammar.end c.args.gram
 pub returns-clause-runs_to_value : goal.returns-clause-runs_to_value
 returns-clause-runs_to_value g c = λ ts x a. (
   sound (g.G.HasGrammar.end c.args.grammar.now) (g.G.HasGrammar.grammar c.args.grammar.now) ts a x,
-  complete (g.G.HasGrammar.end c.args.grammar.now) (g.G.HasGrammar.grammar c.args.grammar.now) ts a x)
+  complete (g.G.HasGrammar.end c.args.grammar.now) (g.G.HasGrammar.grammar c.args.grammar.now) ts a x,
+)
 
 pub returns-clause-runs_to_stop : goal.returns-clause-runs_to_stop
 returns-clause-runs_to_stop g c = λ ts x e. (
   stop_sound (g.G.HasGrammar.end c.args.grammar.now) (g.G.HasGrammar.grammar c.args.grammar.now) ts e x,
-  stop_complete (g.G.HasGrammar.end c.args.grammar.now) (g.G.HasGrammar.grammar c.args.grammar.now) ts e x)
+  stop_complete (g.G.HasGrammar.end c.args.grammar.now) (g.G.HasGrammar.grammar c.args.grammar.now) ts e x,
+)

@@ -1,4 +1,4 @@
-use Rattle.std.proofs.Common.{◌≡◌, ◌∷◌, [], sym, subst, arith, List}
+use Rattle.std.proofs.Common.{◌≡◌, ◌∷◌, sym, subst, arith, List}
 use Rattle.std.proofs.lemmas.Grind.{common_steps}
 use Rattle.ms_lex.specs.declared.kinds.Token.{Token}
 use Rattle.ms_lex.proofs.Cuts.{Found, began, blank_more, comment_more, one_more}
