@@ -6,6 +6,7 @@ pub mod boxes;
 pub mod duplicate;
 pub mod lists;
 pub mod operations;
+pub mod shared;
 pub mod texts;
 pub mod traps;
 
