@@ -4,6 +4,7 @@
 pub mod calls;
 pub mod copying;
 pub mod runs;
+pub mod shared;
 pub mod syntax;
 
 pub use calls::{External, RuntimeFn};
