@@ -1,5 +1,5 @@
 -- Example modules that call externals, and such that show one instruction or one rule of memory each.
-use Rattle.std.specs.Prelude.{ℕ, false, List, [], ◌∷◌, ◌++◌, Some, None, codes}
+use Rattle.std.specs.Prelude.{ℕ, false, List, [], ◌∷◌, Some, None, codes}
 use Rattle.ms_bits.specs.declared.operations.BinOp.TheVariants as binary
 use Rattle.ms_bits.specs.declared.operations.CastOp.TheVariants as cast
 use Rattle.ms_bits.specs.declared.operations.Pred.TheVariants as predicate
@@ -9,14 +9,13 @@ use Rattle.ms_ir.specs.declared.syntax.Init as init
 use Rattle.ms_ir.specs.declared.syntax.Inst.{Inst}
 use Rattle.ms_ir.specs.declared.syntax.Module.{Module}
 use Rattle.ms_ir.specs.declared.syntax.Name.TheVariants.{Number, Text}
-use Rattle.ms_ir.specs.declared.syntax.Op.{Op}
 use Rattle.ms_ir.specs.declared.syntax.Op.TheVariants as op
 use Rattle.ms_ir.specs.declared.syntax.Operand.{Operand}
 use Rattle.ms_ir.specs.declared.syntax.Operand.TheVariants as operand
 use Rattle.ms_ir.specs.declared.syntax.Ty.{Ty}
 use Rattle.ms_ir.specs.declared.syntax.Ty as ty
 use Rattle.ms_ir.specs.ExampleParts.{i8, i32, i64, array, struct_of_two, local, int, sets, does, binary as combine, icmp, convert, alloca, byte_at, branch, ret, name, call, block, main_func, module_of, main_blocks, main_of}
-use Rattle.ms_ir.specs.ExampleCalls.{malloc, calloc, realloc, free, read, lifetime_start, getchar}
+use Rattle.ms_ir.specs.ExampleCalls.{malloc, calloc, realloc, free, read, lifetime_start}
 
 -- returns whether the pointer with the number n is null
 abbrev pub returns_is_null : ℕ → List Inst

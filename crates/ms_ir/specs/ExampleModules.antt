@@ -11,7 +11,7 @@ use Rattle.ms_ir.specs.declared.syntax.Op.TheVariants as op
 use Rattle.ms_ir.specs.declared.syntax.Operand.TheVariants as operand
 use Rattle.ms_ir.specs.declared.syntax.Ty as ty
 use Rattle.ms_ir.specs.First.{no_flags}
-use Rattle.ms_ir.specs.ExampleParts.{i8, i16, i32, i64, array, local, int, undef, sets, does, binary as combine, icmp, convert, alloca, byte_at, branch, ret, name, call, block, main_func, module_of, main_blocks, main_of, declares}
+use Rattle.ms_ir.specs.ExampleParts.{i8, i16, i32, i64, array, local, int, undef, sets, does, binary as combine, icmp, convert, alloca, byte_at, branch, ret, name, call, block, main_func, module_of, main_blocks, main_of}
 use Rattle.ms_ir.specs.ExampleCalls.{malloc, free, memset, putchar, puts, write}
 
 -- `main` returns 0

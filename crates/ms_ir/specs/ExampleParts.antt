@@ -1,12 +1,11 @@
 -- Words for writing example modules, the setups that they run with, and what their runs answer.
-use Rattle.std.specs.Prelude.{ℕ, Bool, true, false, List, [], ◌∷◌, ◌++◌, Option, Some, None, codes}
+use Rattle.std.specs.Prelude.{ℕ, Bool, false, List, [], ◌∷◌, Option, Some, None, codes}
 use Rattle.ms_bits.specs.declared.operations.BinOp.{BinOp}
 use Rattle.ms_bits.specs.declared.operations.CastOp.{CastOp}
 use Rattle.ms_bits.specs.declared.operations.Pred.{Pred}
 use Rattle.ms_bits.specs.declared.traps.Trap.{Trap}
 use Rattle.ms_ir.specs.declared.runs.End.{End}
 use Rattle.ms_ir.specs.declared.runs.End.TheVariants as «end»
-use Rattle.ms_ir.specs.declared.runs.Origin.{Origin}
 use Rattle.ms_ir.specs.declared.runs.Origin.TheVariants as origin
 use Rattle.ms_ir.specs.declared.runs.Report.{Report}
 use Rattle.ms_ir.specs.declared.runs.RunResult.{RunResult}

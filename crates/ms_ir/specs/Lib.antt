@@ -16,3 +16,4 @@ pub mod ExampleParts
 pub mod ExampleCalls
 pub mod ExampleModules
 pub mod ExampleExternals
+pub mod ExampleMarks
