@@ -1,11 +1,12 @@
--- The first form: a text of one function and one block, and the module that it is.
-use Rattle.std.specs.Prelude.{◌≡◌, ℕ, zero, suc, ◌+◌, ◌-◌, ◌<◌, ◌≤◌, ◌^◌, Bool, true, false, List, [], ◌∷◌, ◌++◌, length, Option, Some, None, slice_get, codes, decimal}
+-- The first form: a text of the one function `main` and one block, with 'alloca', 'load', 'store', 'and', 'or' and 'xor'
+-- of `i32`, and the module that it is (own, a part of LLVM Language Reference, "High Level Structure").
+use Rattle.std.specs.Prelude.{◌≡◌, ℕ, ◌+◌, ◌-◌, ◌<◌, ◌≤◌, ◌^◌, Bool, true, false, List, [], ◌∷◌, ◌++◌, length, Option, Some, None, slice_get, codes, decimal}
 use Rattle.ms_bits.specs.declared.operations.BinOp.{BinOp}
 use Rattle.ms_bits.specs.declared.operations.BinOp.TheVariants as binary
 use Rattle.ms_bits.specs.declared.operations.Flags.{Flags}
 use Rattle.ms_ir.specs.declared.syntax.Name.{Name}
 use Rattle.ms_ir.specs.declared.syntax.Name.TheVariants as name
-use Rattle.ms_ir.specs.declared.syntax.Ty.{Ty, Int}
+use Rattle.ms_ir.specs.declared.syntax.Ty.{Int}
 use Rattle.ms_ir.specs.declared.syntax.Operand.{Operand}
 use Rattle.ms_ir.specs.declared.syntax.Operand.TheVariants as operand
 use Rattle.ms_ir.specs.declared.syntax.Op.{Op}
@@ -19,6 +20,7 @@ pub data Word : Type 0 where
   Minus : (number : ℕ) → Word
   Earlier : (place : ℕ) → Word
 
+-- the three operations of the form
 pub data Logic : Type 0 where
   And : Logic
   Or : Logic
@@ -31,55 +33,58 @@ pub data Line : Type 0 where
   Store : Word → (address : ℕ) → Line
   Combine : Logic → Word → Word → Line
 
--- ---- what may stand where: of each earlier result, whether it is an alloca's
-
--- a number is from -2 ^ 31 to 2 ^ 32 - 1, and minus zero is none; a result is no alloca's
+-- what may stand as a value, where it is told of each earlier result whether it is an alloca's: a number from -2 ^ 31
+-- to 2 ^ 32 - 1, but not minus zero, or a result that is no alloca's
 abbrev pub IsWord : List Bool → Word → Type 0
 IsWord allocas (Whole n) = n < 2 ^ 32
 IsWord allocas (Minus n) = (1 ≤ n) × (n ≤ 2 ^ 31)
 IsWord allocas (Earlier k) = slice_get allocas k ≡ Some false
 
+-- what may stand as an address: the result of an alloca
 abbrev pub IsAddress : List Bool → ℕ → Type 0
 IsAddress allocas k = slice_get allocas k ≡ Some true
 
+-- a line whose values and addresses may stand there
 abbrev pub IsLine : List Bool → Line → Type 0
 IsLine allocas Alloca = Unit {0}
 IsLine allocas (Load k) = IsAddress allocas k
 IsLine allocas (Store v k) = IsWord allocas v × IsAddress allocas k
 IsLine allocas (Combine o v u) = IsWord allocas v × IsWord allocas u
 
--- the results so far, after a line
+-- the results so far, each with whether it is an alloca's, after a line
 abbrev pub after_line : List Bool → Line → List Bool
 after_line allocas Alloca = allocas ++ true ∷ []
 after_line allocas (Load k) = allocas ++ false ∷ []
 after_line allocas (Store v k) = allocas
 after_line allocas (Combine o v u) = allocas ++ false ∷ []
 
+-- the results so far after lines
 abbrev pub after_lines : List Bool → List Line → List Bool
 after_lines allocas [] = allocas
-after_lines allocas (l ∷ ls) = after_lines (after_line allocas l) ls
+after_lines allocas (line ∷ lines) = after_lines (after_line allocas line) lines
 
+-- lines of which each may stand after those before it
 abbrev pub AreLines : List Bool → List Line → Type 0
 AreLines allocas [] = Unit {0}
-AreLines allocas (l ∷ ls) = IsLine allocas l × AreLines (after_line allocas l) ls
+AreLines allocas (line ∷ lines) = IsLine allocas line × AreLines (after_line allocas line) lines
 
--- ---- the text
-
--- the result at a place, which its number from 1 on names
+-- the text of the result at a place; results are numbered from 1
 abbrev pub result_text : ℕ → List ℕ
 result_text k = codes "%" ++ decimal (k + 1)
 
+-- the text of a value
 abbrev pub word_text : Word → List ℕ
 word_text (Whole n) = decimal n
 word_text (Minus n) = codes "-" ++ decimal n
 word_text (Earlier k) = result_text k
 
+-- the word of an operation
 abbrev pub logic_text : Logic → List ℕ
 logic_text And = codes "and"
 logic_text Or = codes "or"
 logic_text Xor = codes "xor"
 
--- a line whose result, if it has one, stands at the place n
+-- the text of a line whose result, if it has one, stands at the place n
 abbrev pub line_text : ℕ → Line → List ℕ
 line_text n Alloca = codes "  " ++ result_text n ++ codes " = alloca i32\n"
 line_text n (Load k) = codes "  " ++ result_text n ++ codes " = load i32, ptr " ++ result_text k ++ codes "\n"
@@ -87,49 +92,57 @@ line_text n (Store v k) = codes "  store i32 " ++ word_text v ++ codes ", ptr " 
 line_text n (Combine o v u) =
     codes "  " ++ result_text n ++ codes " = " ++ logic_text o ++ codes " i32 " ++ word_text v ++ codes ", " ++ word_text u ++ codes "\n"
 
+-- the text of lines, which stand behind those with the results so far
 abbrev pub lines_text : List Bool → List Line → List ℕ
 lines_text allocas [] = []
-lines_text allocas (l ∷ ls) = line_text (length allocas) l ++ lines_text (after_line allocas l) ls
+lines_text allocas (line ∷ lines) = line_text (length allocas) line ++ lines_text (after_line allocas line) lines
 
+-- the whole text: lines, then a return of a value
 abbrev pub whole_text : List Line → Word → List ℕ
-whole_text ls last =
-    codes "define i32 @main() {\n" ++ lines_text [] ls ++ (codes "  ret i32 " ++ word_text last ++ codes "\n") ++ codes "}\n"
+whole_text lines last =
+    codes "define i32 @main() {\n" ++ lines_text [] lines ++ (codes "  ret i32 " ++ word_text last ++ codes "\n") ++ codes "}\n"
 
--- ---- the module
-
+-- the name of the result at a place
 abbrev pub result_name : ℕ → Name
 result_name k = name.Number (k + 1)
 
+-- the operand of a value; a negative number is kept modulo 2 ^ 32
 abbrev pub word_operand : Word → Operand
 word_operand (Whole n) = operand.Int n
 word_operand (Minus n) = operand.Int (2 ^ 32 - n)
 word_operand (Earlier k) = operand.Local (result_name k)
 
+-- no flag is set
 abbrev pub no_flags : Flags
 no_flags = record { nuw = false; nsw = false; exact = false; disjoint = false; nneg = false; samesign = false }
 
+-- an operation as data
 abbrev pub logic_op : Logic → BinOp
 logic_op And = binary.And
 logic_op Or = binary.Or
 logic_op Xor = binary.Xor
 
+-- an instruction without a mark, and its result, if it has one
 abbrev pub unmarked : Op → Option Name → Inst
 unmarked o x = record { op = o; result = x; marked = false }
 
+-- the instruction of a line whose result, if it has one, stands at the place n
 abbrev pub line_inst : ℕ → Line → Inst
 line_inst n Alloca = unmarked (op.Alloca (Int 32) (Int 32) (operand.Int 1)) (Some (result_name n))
 line_inst n (Load k) = unmarked (op.Load (Int 32) (operand.Local (result_name k))) (Some (result_name n))
 line_inst n (Store v k) = unmarked (op.Store (Int 32) (word_operand v) (operand.Local (result_name k))) None
 line_inst n (Combine o v u) = unmarked (op.Binary (logic_op o) no_flags (Int 32) (word_operand v) (word_operand u)) (Some (result_name n))
 
+-- the instructions of lines, which stand behind those with the results so far
 abbrev pub lines_insts : List Bool → List Line → List Inst
 lines_insts allocas [] = []
-lines_insts allocas (l ∷ ls) = line_inst (length allocas) l ∷ lines_insts (after_line allocas l) ls
+lines_insts allocas (line ∷ lines) = line_inst (length allocas) line ∷ lines_insts (after_line allocas line) lines
 
+-- the return of a value
 abbrev pub ret_inst : Word → Inst
 ret_inst last = unmarked (op.Ret (Some (Int 32, word_operand last))) None
 
--- a module of the one function `main`, of one block
+-- a module of the one function `main`, of one block; the block without a label has the number 0
 abbrev pub main_module : List Inst → Module
 main_module insts = record {
   types = [];
@@ -143,12 +156,11 @@ main_module insts = record {
   } ∷ [];
 }
 
+-- the module of lines and the value returned
 abbrev pub module_of : List Line → Word → Module
-module_of ls last = main_module (lines_insts [] ls ++ ret_inst last ∷ [])
+module_of lines last = main_module (lines_insts [] lines ++ ret_inst last ∷ [])
 
--- ---- the form
-
--- the lines of a text of the first form
+-- the lines of a text of the first form, and the value returned
 pub record Lines : Type 0 where
   pub lines : List Line
   pub last : Word

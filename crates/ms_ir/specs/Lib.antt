@@ -12,3 +12,8 @@ pub mod Act
 pub mod Plain
 pub mod Limits
 pub mod First
+pub mod ExampleParts
+pub mod ExampleCalls
+pub mod ExampleModules
+pub mod ExampleExternals
+pub mod ExampleMarks

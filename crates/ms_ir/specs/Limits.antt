@@ -1,7 +1,8 @@
--- What a run may be given.
-use Rattle.std.specs.Prelude.{ℕ, ◌≤◌, length}
+-- What a run may be given (own).
+use Rattle.std.specs.Prelude.{◌≤◌, length}
 use Rattle.ms_ir.specs.declared.runs.Setup.{Setup}
 
+-- at most 1 MiB of input, a fill of 1 to 2048 bytes, at most a thousand million steps, and a limit of 1 to 1000 reports
 pub record WithinLimits (s : Setup) : Type 0 where
   pub input : length s.input ≤ 1048576
   pub filled : 1 ≤ length s.fill

@@ -1,4 +1,6 @@
--- Names, and the functions that have a meaning of their own.
+-- Names (LLVM Language Reference, "Identifiers"), and the tables of what has a meaning of its own: the externals
+-- (C library, and LLVM Language Reference, "Standard C/C++ Library Intrinsics" and "Memory Use Markers"), the runtime
+-- functions and the slots (both own).
 use Rattle.std.specs.Prelude.{ℕ, Bool, false, List, [], ◌∷◌, nat_eq, Option, Some, None, codes, take, if◌then◌else◌}
 use Rattle.std.specs.Cmp.Lexicographic.{pointwise}
 use Rattle.ms_ir.specs.declared.syntax.Name.{Name}
@@ -8,17 +10,19 @@ use Rattle.ms_ir.specs.declared.calls.External.TheVariants.{Malloc, Calloc, Real
 use Rattle.ms_ir.specs.declared.calls.RuntimeFn.{RuntimeFn}
 use Rattle.ms_ir.specs.declared.calls.RuntimeFn.TheVariants.{Check, CheckMemory, CheckString, Blind, Poison, Unpoison, Copy, Fill, StoreOrigin, LoadOrigin, Size}
 
+-- two names are the same: equal numbers, or equal texts
 abbrev pub name_eq : Name → Name → Bool
 name_eq (Number m) (Number n) = nat_eq m n
 name_eq (Number m) (Text y) = false
 name_eq (Text x) (Number n) = false
 name_eq (Text x) (Text y) = pointwise nat_eq x y
 
--- what a table has for a name
+-- what the first row of a table with a name has beside it
 abbrev pub lookup : {A : Type 0} → List (Name × A) → Name → Option A
 lookup [] x = None
-lookup (e ∷ es) x = if name_eq e.0 x then Some e.1 else lookup es x
+lookup (row ∷ rest) x = if name_eq row.0 x then Some row.1 else lookup rest x
 
+-- the externals: what a module may call without defining it
 abbrev pub externals : List (Name × External)
 externals =
     (Text (codes "malloc"), Malloc)
@@ -44,6 +48,7 @@ externals =
     ∷ (Text (codes "llvm.lifetime.end.p0"), LifetimeEnd)
     ∷ []
 
+-- the runtime functions, which marked calls alone reach
 abbrev pub runtime_functions : List (Name × RuntimeFn)
 runtime_functions =
     (Text (codes "__msan_check"), Check)
@@ -59,7 +64,7 @@ runtime_functions =
     ∷ (Text (codes "__msan_size"), Size)
     ∷ []
 
--- a slot's address and its number of bytes
+-- the slots, which hand masks and origins over at calls: the address of each and its number of bytes
 abbrev pub slots : List (Name × (ℕ × ℕ))
 slots =
     (Text (codes "__msan_param_tls"), (0x680000000000, 800))
@@ -68,6 +73,7 @@ slots =
     ∷ (Text (codes "__msan_retval_origin_tls"), (0x680000003000, 4))
     ∷ []
 
+-- a name that begins with `__msan`, which is kept for what is inserted
 abbrev pub is_reserved : Name → Bool
 is_reserved (Number n) = false
 is_reserved (Text x) = pointwise nat_eq (take 6 x) (codes "__msan")

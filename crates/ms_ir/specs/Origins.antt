@@ -1,4 +1,6 @@
--- Chains of origins, reports, and what the runtime functions do to the world.
+-- Chained origins, reports, and what the runtime functions do to the world (own, after "MemorySanitizer: fast detector
+-- of uninitialized memory use in C++", Stepanov and Serebryany, CGO 2015). An origin is a root's number, from 1 to the
+-- number of roots, or that of a pair of an earlier origin and the site of a store, from there on.
 use Rattle.std.specs.Prelude.{ℕ, zero, suc, ◌+◌, ◌-◌, ◌/◌, ◌%◌, ◌^◌, Bool, ◌&&◌, ◌||◌, not, List, [], ◌∷◌, ◌++◌, length, eqb, leb, ltb, if◌then◌else◌, Option, Some, None, unwrap_or, option_map, slice_get}
 use Rattle.ms_ir.specs.declared.runs.Origin.{Origin}
 use Rattle.ms_ir.specs.declared.runs.Origin.TheVariants.{Root, Chain}
@@ -8,9 +10,7 @@ use Rattle.ms_ir.specs.World.{World, Setting, Effect, Does, Ends}
 use Rattle.ms_bits.specs.Maps.{first_nonzero, with_cell}
 use Rattle.ms_ir.specs.Memory.{is_good, block_of, set_shadow, set_cells, copy_shadow}
 
--- ---- pairs
-
--- from an origin to its root, in at most n moves
+-- the origins from one to its root, in at most n moves
 abbrev pub trail_within : ℕ → ℕ → List (ℕ × ℕ) → ℕ → List Origin
 trail_within zero roots pairs id = []
 trail_within (suc n) roots pairs id =
@@ -21,106 +21,119 @@ trail_within (suc n) roots pairs id =
       | None ↦ []
     ]
 
--- empty where the number is neither a root nor a pair
+-- the origins from one to its root, empty where the number is neither a root nor a pair
 abbrev pub trail : Setting → World → ℕ → List Origin
-trail s w id = trail_within (length w.pairs + 1) s.roots w.pairs id
+trail setting world id = trail_within (length world.pairs + 1) setting.roots world.pairs id
 
+-- the place of a pair in a list, counted from 0
 abbrev pub pair_index : List (ℕ × ℕ) → ℕ → ℕ → Option ℕ
 pair_index [] old site = None
-pair_index (p ∷ ps) old site = if eqb p.0 old && eqb p.1 site then Some 0 else option_map suc (pair_index ps old site)
+pair_index (p ∷ rest) old site = if eqb p.0 old && eqb p.1 site then Some 0 else option_map suc (pair_index rest old site)
 
--- an origin and the world with its pair
+-- an origin, and the world with its pair
 pub record Chained : Type 0 where
   pub id : ℕ
   pub world : World
 
--- the depth from which on an origin is kept as it is: a root has depth 0
+-- the depth from which on an origin is kept as it is; a root has depth 0, and a pair one more than its earlier origin
 abbrev pub depth_limit : ℕ
 depth_limit = 0
 
+-- an origin gets no pair: it is neither root nor pair, or it has the limit's depth, or 1048576 pairs stand
 abbrev pub keeps_old : Setting → World → ℕ → Bool
-keeps_old s w old =
-    let n = length (trail s w old) in
-    eqb n 0 || ltb depth_limit n || leb 1048576 (length w.pairs)
+keeps_old setting world old =
+    let n = length (trail setting world old) in
+    eqb n 0 || ltb depth_limit n || leb 1048576 (length world.pairs)
 
+-- the origin of what is stored at a site, made of the origin that it had: equal pairs have one number
 abbrev pub chain : Setting → ℕ → ℕ → World → Chained
-chain s old site w =
-    if keeps_old s w old then record { id = old; world = w } else
-    elim (pair_index w.pairs old site) [
-      | Some k ↦ record { id = s.roots + 1 + k; world = w }
-      | None ↦ record { id = s.roots + 1 + length w.pairs; world = record w { pairs = w.pairs ++ (old, site) ∷ [] } }
+chain setting old site world =
+    if keeps_old setting world old then record { id = old; world = world } else
+    elim (pair_index world.pairs old site) [
+      | Some k ↦ record { id = setting.roots + 1 + k; world = world }
+      | None ↦ record { id = setting.roots + 1 + length world.pairs; world = record world { pairs = world.pairs ++ (old, site) ∷ [] } }
     ]
 
--- ---- reports
-
+-- one report more; the run ends where their number reaches the limit
 abbrev pub add_report : Setting → Report → World → Effect
-add_report s r w =
-    let w' = record w { reports = w.reports ++ r ∷ [] } in
-    if leb s.limit (length w'.reports) then Ends «end».Reported w' else Does w'
+add_report setting report world =
+    let reported = record world { reports = world.reports ++ report ∷ [] } in
+    if leb setting.limit (length reported.reports) then Ends «end».Reported reported else Does reported
 
+-- a check of a word: a report where its mask isn't 0
 abbrev pub check : Setting → (mask width origin kind part site : ℕ) → World → Effect
-check s mask width origin kind part site w =
-    if eqb mask 0 then Does w else
-    add_report s (record { site = site; kind = kind; part = part; width = width; mask = mask; origin = origin; chain = trail s w origin }) w
+check setting mask width origin kind part site world =
+    if eqb mask 0 then Does world else
+    add_report setting (record { site = site; kind = kind; part = part; width = width; mask = mask; origin = origin; chain = trail setting world origin }) world
 
--- a report of the byte at x, which stands at a distance from a
-abbrev pub check_byte : Setting → (kind site a : ℕ) → Option ℕ → World → Effect
-check_byte s kind site a None w = Does w
-check_byte s kind site a (Some x) w = check s (w.shadow x) 8 (w.origins (x / 4)) kind (x - a) site w
+-- a report of the byte at an address, if there is one; its part is the distance from where the check began
+abbrev pub check_byte : Setting → (kind site start : ℕ) → Option ℕ → World → Effect
+check_byte setting kind site start None world = Does world
+check_byte setting kind site start (Some x) world = check setting (world.shadow x) 8 (world.origins (x / 4)) kind (x - start) site world
 
+-- a check of n bytes, where they are good: a report of the first poisoned one
 abbrev pub check_memory : Setting → (a n kind site : ℕ) → World → Effect
-check_memory s a n kind site w = if is_good w a n then check_byte s kind site a (first_nonzero w.shadow a n) w else Does w
+check_memory setting a n kind site world =
+    if is_good world a n then check_byte setting kind site a (first_nonzero world.shadow a n) world else Does world
 
--- the first poisoned byte before a clean zero byte
+-- the first poisoned byte among n, before a clean zero byte
 abbrev pub first_in_string : World → ℕ → ℕ → Option ℕ
-first_in_string w a zero = None
-first_in_string w a (suc n) =
-    if eqb (w.shadow a) 0 then (if eqb (w.bytes a) 0 then None else first_in_string w (a + 1) n) else Some a
+first_in_string world a zero = None
+first_in_string world a (suc n) =
+    if eqb (world.shadow a) 0 then (if eqb (world.bytes a) 0 then None else first_in_string world (a + 1) n) else Some a
 
--- the bytes from an address to the end of its allocation
+-- the number of bytes from an address to the end of its live allocation, 0 where none has it
 abbrev pub room_from : World → ℕ → ℕ
-room_from w a = unwrap_or (option_map (λ b. b.base + b.size - a) (block_of w a)) 0
+room_from world a = unwrap_or (option_map (λ b. b.base + b.size - a) (block_of world a)) 0
 
+-- a check of a string, to the end of its allocation: a report, of the kind of strings, of its first poisoned byte
 abbrev pub check_string : Setting → (a site : ℕ) → World → Effect
-check_string s a site w = check_byte s 10 site a (first_in_string w a (room_from w a)) w
+check_string setting a site world = check_byte setting 10 site a (first_in_string world a (room_from world a)) world
 
+-- one blind use more where a mask isn't 0
 abbrev pub count_blind : ℕ → World → World
-count_blind mask w = if eqb mask 0 then w else record w { blind = w.blind + 1 }
+count_blind mask world = if eqb mask 0 then world else record world { blind = world.blind + 1 }
 
--- ---- planes
-
+-- the bytes of an address with the numbers from `from` to `to` - 1, where they are good, are poisoned with an origin
 abbrev pub poison : (a from to origin : ℕ) → World → World
-poison a from to origin w =
+poison a from to origin world =
     let p = (a + from) % 2 ^ 64 in let n = to - from in
-    if ltb from to && is_good w p n then set_cells p n origin (set_shadow p n (λ k. 255) w) else w
+    if ltb from to && is_good world p n then set_cells p n origin (set_shadow p n (λ k. 255) world) else world
 
+-- n bytes, where they are good, are clean; their cells stay
 abbrev pub unpoison : (a n : ℕ) → World → World
-unpoison a n w = if is_good w a n then set_shadow a n (λ k. 0) w else w
+unpoison a n world = if is_good world a n then set_shadow a n (λ k. 0) world else world
 
-abbrev pub copy_planes : (t s n : ℕ) → World → World
-copy_planes t s n w = if is_good w t n && is_good w s n then copy_shadow t s n w else w
+-- shadow and origins of n bytes are copied, where both ranges are good
+abbrev pub copy_planes : (to from n : ℕ) → World → World
+copy_planes to from n world = if is_good world to n && is_good world from n then copy_shadow to from n world else world
 
+-- n bytes, where they are good, get a mask's low byte as shadow; where it isn't 0, the cells that they touch get the
+-- origin chained at the site, else no pair is made
 abbrev pub fill_planes : Setting → (a n mask origin site : ℕ) → World → World
-fill_planes s a n mask origin site w =
-    if not (is_good w a n) then w else
-    if eqb (mask % 256) 0 || eqb n 0 then set_shadow a n (λ k. 0) w else
-    let c = chain s origin site w in set_cells a n c.id (set_shadow a n (λ k. mask % 256) c.world)
+fill_planes setting a n mask origin site world =
+    if not (is_good world a n) then world else
+    if eqb (mask % 256) 0 || eqb n 0 then set_shadow a n (λ k. 0) world else
+    let chained = chain setting origin site world in set_cells a n chained.id (set_shadow a n (λ k. mask % 256) chained.world)
 
--- the cells of n bytes from a on whose mask bytes aren't 0
+-- of n live bytes from an address on, those whose byte of the mask isn't 0 put an origin into their cells
 abbrev pub mark_cells : ℕ → (a mask origin : ℕ) → World → World
-mark_cells zero a mask origin w = w
-mark_cells (suc n) a mask origin w =
+mark_cells zero a mask origin world = world
+mark_cells (suc n) a mask origin world =
     mark_cells n (a + 1) (mask / 256) origin
-    (if eqb (mask % 256) 0 || not (is_good w a 1) then w else record w { origins = with_cell w.origins a origin })
+    (if eqb (mask % 256) 0 || not (is_good world a 1) then world else record world { origins = with_cell world.origins a origin })
 
+-- a store's origin: where the mask isn't 0 it is chained once, also where no byte is live
 abbrev pub store_origin : Setting → (a mask origin site : ℕ) → World → World
-store_origin s a mask origin site w =
-    if eqb mask 0 then w else let c = chain s origin site w in mark_cells 8 a mask c.id c.world
+store_origin setting a mask origin site world =
+    if eqb mask 0 then world else let chained = chain setting origin site world in mark_cells 8 a mask chained.id chained.world
 
+-- the cell of the first live byte of n whose byte of the mask isn't 0, else 0
 abbrev pub origin_within : ℕ → (a mask : ℕ) → World → ℕ
-origin_within zero a mask w = 0
-origin_within (suc n) a mask w =
-    if eqb (mask % 256) 0 || not (is_good w a 1) then origin_within n (a + 1) (mask / 256) w else w.origins (a / 4)
+origin_within zero a mask world = 0
+origin_within (suc n) a mask world =
+    if eqb (mask % 256) 0 || not (is_good world a 1) then origin_within n (a + 1) (mask / 256) world else world.origins (a / 4)
 
+-- a load's origin, of the eight bytes that a mask may speak of
 abbrev pub load_origin : (a mask : ℕ) → World → ℕ
-load_origin a mask w = origin_within 8 a mask w
+load_origin a mask world = origin_within 8 a mask world

@@ -1,4 +1,6 @@
--- The plain meaning: marked instructions, and a run.
+-- The plain run: what marked instructions do, one step, and a whole run of a module with a setup (own; marked
+-- instructions are those that were inserted, and shadow stands at an address of its own as in "MemorySanitizer: fast
+-- detector of uninitialized memory use in C++", Stepanov and Serebryany, CGO 2015).
 use Rattle.std.specs.Prelude.{ℕ, zero, suc, ◌+◌, ◌%◌, ◌^◌, Bool, true, false, ◌&&◌, List, [], ◌∷◌, bit_xor, leb, if◌then◌else◌, Some, None, unwrap_or}
 use Rattle.ms_bits.specs.declared.traps.Trap.TheVariants as trap
 use Rattle.ms_ir.specs.declared.syntax.Name.{Name}
@@ -22,115 +24,132 @@ use Rattle.ms_ir.specs.Control.{Frame, Reading, Moved, On, Over, main_name, here
 use Rattle.ms_ir.specs.Act.{plain_reading, act}
 use Rattle.ms_ir.specs.Runtime.{runtime}
 
--- ---- marked instructions
-
+-- the shadow byte of an address stands at this exclusive or with it
 abbrev pub shadow_bits : ℕ
 shadow_bits = 0x500000000000
 
+-- n bytes from an address on lie in one slot
 abbrev pub in_slots : ℕ → ℕ → List (Name × (ℕ × ℕ)) → Bool
 in_slots a n [] = false
 in_slots a n (p ∷ ps) = if leb p.1.0 a && leb (a + n) (p.1.0 + p.1.1) then true else in_slots a n ps
 
+-- a marked 'load': bytes of a slot, or shadow bytes of one live allocation
 abbrev pub load_marked : (site a : ℕ) → Ty → (ℕ → ℕ) → World → Effect
-load_marked site a t cells w =
+load_marked site a t cells world =
     let n = stored_size t in let b = bit_xor a shadow_bits in
-    if in_slots a n slots then Gives (number_at cells a n % 2 ^ width_of t) w else
-    if is_good w b n then Gives (number_at w.shadow b n % 2 ^ width_of t) w else traps trap.BadAddress site w
+    if in_slots a n slots then Gives (number_at cells a n % 2 ^ width_of t) world else
+    if is_good world b n then Gives (number_at world.shadow b n % 2 ^ width_of t) world else traps trap.BadAddress site world
 
+-- a marked 'store': shadow bytes of one live allocation change here, and a slot's in `slots_after`
 abbrev pub store_marked : (site a : ℕ) → Ty → ℕ → World → Effect
-store_marked site a t v w =
+store_marked site a t v world =
     let n = stored_size t in let b = bit_xor a shadow_bits in
-    if in_slots a n slots then Does w else
-    if is_good w b n then Does (set_shadow b n (byte_of v) w) else traps trap.BadAddress site w
+    if in_slots a n slots then Does world else
+    if is_good world b n then Does (set_shadow b n (byte_of v) world) else traps trap.BadAddress site world
 
--- what the slots' bytes are then
+-- the slots' bytes after a marked instruction: a 'store' into a slot changes them
 abbrev pub slots_after : Op → List ℕ → (ℕ → ℕ) → (ℕ → ℕ)
-slots_after (op.Store t v a) vs cells =
-    if in_slots (word 1 vs) (stored_size t) slots then with_range cells (word 1 vs) (stored_size t) (byte_of (word 0 vs)) else cells
-slots_after _ vs cells = cells
+slots_after (op.Store t v addr) words cells =
+    if in_slots (word 1 words) (stored_size t) slots then with_range cells (word 1 words) (stored_size t) (byte_of (word 0 words)) else cells
+slots_after _ words cells = cells
 
+-- a marked instruction: its accesses reach shadow and slots alone, it calls runtime functions alone, and else it does
+-- what an unmarked one does
 abbrev pub act_marked : Setting → Here → Op → List ℕ → (ℕ → ℕ) → World → Effect
-act_marked s h (op.Load t a) vs cells w = load_marked h.site (word 0 vs) t cells w
-act_marked s h (op.Store t v a) vs cells w = store_marked h.site (word 1 vs) t (word 0 vs) w
-act_marked s h (op.Call r x as') vs cells w = elim (lookup runtime_functions x) [ Some f ↦ runtime s f vs w | None ↦ Ends stuck w ]
-act_marked s h o vs cells w = act s h o vs w
+act_marked setting here (op.Load t addr) words cells world = load_marked here.site (word 0 words) t cells world
+act_marked setting here (op.Store t v addr) words cells world = store_marked here.site (word 1 words) t (word 0 words) world
+act_marked setting here (op.Call ret callee args) words cells world =
+    elim (lookup runtime_functions callee) [ Some f ↦ runtime setting f words world | None ↦ Ends stuck world ]
+act_marked setting here o words cells world = act setting here o words world
 
--- ---- a run
-
+-- a state of a plain run: the frames, innermost first, the slots' bytes by address, and the world
 pub record PlainState : Type 0 where
   pub frames : List (Frame ℕ)
   pub slots : ℕ → ℕ
   pub world : World
 
+-- what a step comes to: a next state, or the end with the world then
 pub data Stepped (S : Type 0) : Type 0 where
   More : S → Stepped S
   Stop : End → World → Stepped S
 
+-- goes on with the state after an instruction, unless the run ended
 abbrev pub plain_moved : (ℕ → ℕ) → Moved ℕ → (PlainState → Stepped PlainState) → Stepped PlainState
-plain_moved cells (On fs w) go = go (record { frames = fs; slots = cells; world = w })
-plain_moved cells (Over e w) go = Stop e w
+plain_moved cells (On frames world) go = go (record { frames = frames; slots = cells; world = world })
+plain_moved cells (Over e world) go = Stop e world
 
--- one instruction of the innermost frame
+-- one instruction of the innermost frame, marked or not; then goes on
 abbrev pub plain_inst : Setting → Module → Inst → PlainState → List (Frame ℕ) → (PlainState → Stepped PlainState) → Stepped PlainState
-plain_inst s m i c [] go = Stop stuck c.world
-plain_inst s m i c (fr ∷ below) go =
-    let h = here s m fr in
-    let vs = read_all (plain_reading.read s fr.values) (operands i.op) h.root in
-    let e = if i.marked then act_marked s h i.op vs c.slots c.world else act s h i.op vs c.world in
-    plain_moved (if i.marked then slots_after i.op vs c.slots else c.slots)
-    (moves plain_reading s m h.site i.result vs (λ v w. v) (λ v w. w) fr below e) go
+plain_inst given m inst state [] go = Stop stuck state.world
+plain_inst given m inst state (frame ∷ below) go =
+    let at = here given m frame in
+    let words = read_all (plain_reading.read given frame.values) (operands inst.op) at.root in
+    let effect = if inst.marked then act_marked given at inst.op words state.slots state.world else act given at inst.op words state.world in
+    plain_moved (if inst.marked then slots_after inst.op words state.slots else state.slots)
+    (moves plain_reading given m at.site inst.result words (λ v world. v) (λ v world. world) frame below effect) go
 
 -- from here on: the marked instructions, which are no steps, and one unmarked one, which is
 abbrev pub through : Setting → Module → List Inst → PlainState → Stepped PlainState
-through s m [] c = Stop stuck c.world
-through s m (i ∷ is) c = plain_inst s m i c c.frames (if i.marked then through s m is else More)
+through given m [] state = Stop stuck state.world
+through given m (inst ∷ insts) state = plain_inst given m inst state state.frames (if inst.marked then through given m insts else More)
 
+-- a step of the innermost of these frames
 abbrev pub plain_first : Setting → Module → List (Frame ℕ) → PlainState → Stepped PlainState
-plain_first s m [] c = Stop stuck c.world
-plain_first s m (fr ∷ below) c = through s m (rest_of m fr) c
+plain_first given m [] state = Stop stuck state.world
+plain_first given m (frame ∷ below) state = through given m (rest_of m frame) state
 
+-- one step of a plain run: the next unmarked instruction, and the marked ones before it
 abbrev pub plain_step : Setting → Module → PlainState → Stepped PlainState
-plain_step s m c = plain_first s m c.frames c
+plain_step given m state = plain_first given m state.frames state
 
--- a run of at most so many steps
+-- what a run answers after a step
 abbrev pub go_on : {S : Type 0} → (S → RunResult) → Stepped S → RunResult
-go_on k (More c) = k c
-go_on k (Stop e w) = result e w
+go_on answer (More state) = answer state
+go_on answer (Stop e world) = result e world
 
+-- a run of at most so many steps; where none is left and the run hasn't ended, it is spent before any instruction more
 abbrev pub run : {S : Type 0} → (S → World) → (S → Stepped S) → ℕ → S → RunResult
-run world step zero c = result «end».Spent (world c)
-run world step (suc n) c = go_on (run world step n) (step c)
+run world step zero state = result «end».Spent (world state)
+run world step (suc n) state = go_on (run world step n) (step state)
 
--- ---- the start
-
+-- what stays the same in the runs of a module with a setup
 abbrev pub setting : Module → Setup → Setting
-setting m s = record {
+setting m setup = record {
   types = m.types;
   address = address_of m;
   func = func_index m.funcs;
-  fill = s.fill;
-  limit = s.reports;
+  fill = setup.fill;
+  limit = setup.reports;
   roots = count_roots m;
 }
 
+-- the world at the start: the globals alone stand in memory, and nothing is made, taken or printed
 abbrev pub start_world : Module → Setup → World
-start_world m s = make_globals m.types (address_of m) m.globals (record {
+start_world m setup = make_globals m.types (address_of m) m.globals (record {
   allocs = [];
   bytes = λ a. 0;
   shadow = λ a. 0;
   origins = λ c. 0;
   pairs = [];
   made = 0;
-  input = s.input;
+  input = setup.input;
   output = [];
   reports = [];
   blind = 0;
 })
 
+-- the frame at the start: the first instruction of `main`
 abbrev pub start_frame : {V : Type 0} → Reading V → Module → Frame V
-start_frame rd m = record { func = unwrap_or (func_index m.funcs main_name) 0; block = 0; place = 0; values = λ x. rd.unset; mark = 0x720000000000 }
+start_frame reading m = record {
+  func = unwrap_or (func_index m.funcs main_name) 0;
+  block = 0;
+  place = 0;
+  values = λ x. reading.unset;
+  mark = 0x720000000000;
+}
 
+-- the plain run of a module with a setup: its output, end, reports and number of blind uses; the slots are zero at first
 abbrev pub plain : Module → Setup → RunResult
-plain m s =
-    run (λ c. c.world) (plain_step (setting m s) m) s.steps
-    (record { frames = start_frame plain_reading m ∷ []; slots = λ a. 0; world = start_world m s })
+plain m setup =
+    run (λ state. state.world) (plain_step (setting m setup) m) setup.steps
+    (record { frames = start_frame plain_reading m ∷ []; slots = λ a. 0; world = start_world m setup })

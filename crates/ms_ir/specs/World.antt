@@ -1,4 +1,4 @@
--- The world outside the frames, which both meanings share, and what an instruction comes to.
+-- The world outside the frames, what stays the same in a run, and what one instruction comes to (own).
 use Rattle.std.specs.Prelude.{ℕ, Bool, List, get_or, Option}
 use Rattle.ms_ir.specs.declared.syntax.Name.{Name}
 use Rattle.ms_ir.specs.declared.runs.End.{End}
@@ -9,18 +9,22 @@ use Rattle.ms_bits.specs.declared.traps.Trap.{Trap}
 use Rattle.ms_ir.specs.Layout.{Types}
 use Rattle.ms_bits.specs.declared.traps.Trap.TheVariants as trap
 
+-- where an allocation stands: among the globals, on the heap or on the stack
 pub data Area : Type 0 where
   Fixed : Area
   Heap : Area
   Stack : Area
 
+-- an allocation; a heap block that was ended stays in the list, and isn't live
 pub record Allocation : Type 0 where
   pub base : ℕ
   pub size : ℕ
   pub area : Area
   pub live : Bool
 
--- bytes and shadow by address, origins by address div 4
+-- what a run changes beside its frames and slots: memory, chained origins, the count of uninitialised bytes made, the
+-- input that is left, output, reports and the number of blind uses; bytes and shadow stand by address, origins by
+-- address div 4
 pub record World : Type 0 where
   pub allocs : List Allocation
   pub bytes : ℕ → ℕ
@@ -33,7 +37,8 @@ pub record World : Type 0 where
   pub reports : List Report
   pub blind : ℕ
 
--- what stays the same in a run, and is the same for a module and its instrumented form
+-- what stays the same in a run, and is the same for a module and its instrumented form: the named types, where each
+-- global stands, the place of each function, the fill, the limit of reports and the number of roots
 pub record Setting : Type 0 where
   pub types : Types
   pub address : Name → ℕ
@@ -48,7 +53,7 @@ pub record Here : Type 0 where
   pub root : ℕ
   pub main : Bool
 
--- what an instruction comes to: a result, none, a jump, a call, a return, or the end
+-- what an instruction comes to: a result, none, a jump, a call of a function, a return, or the end of the run
 pub data Effect : Type 0 where
   Gives : (value : ℕ) → World → Effect
   Does : World → Effect
@@ -57,25 +62,27 @@ pub data Effect : Type 0 where
   Leaves : World → Effect
   Ends : End → World → Effect
 
+-- the run ends by a trap at a site
 abbrev pub traps : Trap → ℕ → World → Effect
-traps t site w = Ends («end».Trap t site) w
+traps trap site world = Ends («end».Trap trap site) world
 
--- the end of the definitions alone, where no instruction is due
+-- the end where no instruction is due or a name stands for nothing, which no valid module reaches: 0 is no site
 abbrev pub stuck : End
 stuck = «end».Trap trap.Unreachable 0
 
 -- goes on where the world alone changed
 abbrev pub then_does : Effect → (World → Effect) → Effect
-then_does (Does w) go = go w
-then_does (Ends e w) go = Ends e w
-then_does (Gives x w) go = Ends stuck w
-then_does (Goes x w) go = Ends stuck w
-then_does (Enters f w) go = Ends stuck w
-then_does (Leaves w) go = Ends stuck w
+then_does (Does world) go = go world
+then_does (Ends e world) go = Ends e world
+then_does (Gives value world) go = Ends stuck world
+then_does (Goes block world) go = Ends stuck world
+then_does (Enters func world) go = Ends stuck world
+then_does (Leaves world) go = Ends stuck world
 
+-- what a run answers: how it ended, and what the world has of output, reports and blind uses
 abbrev pub result : End → World → RunResult
-result e w = record { output = w.output; «end» = e; reports = w.reports; blind = w.blind }
+result e world = record { output = world.output; «end» = e; reports = world.reports; blind = world.blind }
 
--- word k of an instruction
+-- word k of an instruction's operands, counted from 0
 abbrev pub word : ℕ → List ℕ → ℕ
-word k vs = get_or vs k 0
+word k words = get_or words k 0

@@ -1,0 +1,104 @@
+-- The externals and the runtime functions as they are declared, for example modules.
+use Rattle.std.specs.Prelude.{[], ◌∷◌, Some, None, codes}
+use Rattle.ms_ir.specs.declared.syntax.Decl.{Decl}
+use Rattle.ms_ir.specs.declared.syntax.Ty as ty
+use Rattle.ms_ir.specs.ExampleParts.{i1, i8, i32, i64, declares}
+
+-- functions of the C library
+abbrev pub malloc : Decl
+malloc = declares (codes "malloc") (Some ty.Ptr) (i64 ∷ [])
+
+abbrev pub calloc : Decl
+calloc = declares (codes "calloc") (Some ty.Ptr) (i64 ∷ i64 ∷ [])
+
+abbrev pub realloc : Decl
+realloc = declares (codes "realloc") (Some ty.Ptr) (ty.Ptr ∷ i64 ∷ [])
+
+abbrev pub free : Decl
+free = declares (codes "free") None (ty.Ptr ∷ [])
+
+abbrev pub memcpy : Decl
+memcpy = declares (codes "memcpy") (Some ty.Ptr) (ty.Ptr ∷ ty.Ptr ∷ i64 ∷ [])
+
+abbrev pub memmove : Decl
+memmove = declares (codes "memmove") (Some ty.Ptr) (ty.Ptr ∷ ty.Ptr ∷ i64 ∷ [])
+
+abbrev pub memset : Decl
+memset = declares (codes "memset") (Some ty.Ptr) (ty.Ptr ∷ i32 ∷ i64 ∷ [])
+
+abbrev pub memcmp : Decl
+memcmp = declares (codes "memcmp") (Some i32) (ty.Ptr ∷ ty.Ptr ∷ i64 ∷ [])
+
+abbrev pub strlen : Decl
+strlen = declares (codes "strlen") (Some i64) (ty.Ptr ∷ [])
+
+abbrev pub putchar : Decl
+putchar = declares (codes "putchar") (Some i32) (i32 ∷ [])
+
+abbrev pub puts : Decl
+puts = declares (codes "puts") (Some i32) (ty.Ptr ∷ [])
+
+abbrev pub getchar : Decl
+getchar = declares (codes "getchar") (Some i32) []
+
+abbrev pub read : Decl
+read = declares (codes "read") (Some i64) (i32 ∷ ty.Ptr ∷ i64 ∷ [])
+
+abbrev pub write : Decl
+write = declares (codes "write") (Some i64) (i32 ∷ ty.Ptr ∷ i64 ∷ [])
+
+abbrev pub exit : Decl
+exit = declares (codes "exit") None (i32 ∷ [])
+
+abbrev pub abort : Decl
+abort = declares (codes "abort") None []
+
+-- intrinsics
+abbrev pub llvm_memcpy : Decl
+llvm_memcpy = declares (codes "llvm.memcpy.p0.p0.i64") None (ty.Ptr ∷ ty.Ptr ∷ i64 ∷ i1 ∷ [])
+
+abbrev pub llvm_memmove : Decl
+llvm_memmove = declares (codes "llvm.memmove.p0.p0.i64") None (ty.Ptr ∷ ty.Ptr ∷ i64 ∷ i1 ∷ [])
+
+abbrev pub llvm_memset : Decl
+llvm_memset = declares (codes "llvm.memset.p0.i64") None (ty.Ptr ∷ i8 ∷ i64 ∷ i1 ∷ [])
+
+abbrev pub lifetime_start : Decl
+lifetime_start = declares (codes "llvm.lifetime.start.p0") None (i64 ∷ ty.Ptr ∷ [])
+
+abbrev pub lifetime_end : Decl
+lifetime_end = declares (codes "llvm.lifetime.end.p0") None (i64 ∷ ty.Ptr ∷ [])
+
+-- runtime functions
+abbrev pub msan_check : Decl
+msan_check = declares (codes "__msan_check") None (i64 ∷ i32 ∷ i32 ∷ i32 ∷ i32 ∷ i32 ∷ [])
+
+abbrev pub msan_check_memory : Decl
+msan_check_memory = declares (codes "__msan_check_memory") None (ty.Ptr ∷ i64 ∷ i32 ∷ i32 ∷ [])
+
+abbrev pub msan_check_string : Decl
+msan_check_string = declares (codes "__msan_check_string") None (ty.Ptr ∷ i32 ∷ [])
+
+abbrev pub msan_blind : Decl
+msan_blind = declares (codes "__msan_blind") None (i64 ∷ [])
+
+abbrev pub msan_poison : Decl
+msan_poison = declares (codes "__msan_poison") None (ty.Ptr ∷ i64 ∷ i64 ∷ i32 ∷ [])
+
+abbrev pub msan_unpoison : Decl
+msan_unpoison = declares (codes "__msan_unpoison") None (ty.Ptr ∷ i64 ∷ [])
+
+abbrev pub msan_copy : Decl
+msan_copy = declares (codes "__msan_copy") None (ty.Ptr ∷ ty.Ptr ∷ i64 ∷ [])
+
+abbrev pub msan_fill : Decl
+msan_fill = declares (codes "__msan_fill") None (ty.Ptr ∷ i64 ∷ i64 ∷ i32 ∷ i32 ∷ [])
+
+abbrev pub msan_store_origin : Decl
+msan_store_origin = declares (codes "__msan_store_origin") None (ty.Ptr ∷ i64 ∷ i32 ∷ i32 ∷ [])
+
+abbrev pub msan_load_origin : Decl
+msan_load_origin = declares (codes "__msan_load_origin") (Some i32) (ty.Ptr ∷ i64 ∷ [])
+
+abbrev pub msan_size : Decl
+msan_size = declares (codes "__msan_size") (Some i64) (ty.Ptr ∷ [])

@@ -1,0 +1,171 @@
+-- Words for writing example modules, the setups that they run with, and what their runs answer.
+use Rattle.std.specs.Prelude.{ℕ, Bool, false, List, [], ◌∷◌, Option, Some, None, codes}
+use Rattle.ms_bits.specs.declared.operations.BinOp.{BinOp}
+use Rattle.ms_bits.specs.declared.operations.CastOp.{CastOp}
+use Rattle.ms_bits.specs.declared.operations.Pred.{Pred}
+use Rattle.ms_bits.specs.declared.traps.Trap.{Trap}
+use Rattle.ms_ir.specs.declared.runs.End.{End}
+use Rattle.ms_ir.specs.declared.runs.End.TheVariants as «end»
+use Rattle.ms_ir.specs.declared.runs.Origin.TheVariants as origin
+use Rattle.ms_ir.specs.declared.runs.Report.{Report}
+use Rattle.ms_ir.specs.declared.runs.RunResult.{RunResult}
+use Rattle.ms_ir.specs.declared.runs.Setup.{Setup}
+use Rattle.ms_ir.specs.declared.syntax.Block.{Block}
+use Rattle.ms_ir.specs.declared.syntax.Decl.{Decl}
+use Rattle.ms_ir.specs.declared.syntax.Func.{Func}
+use Rattle.ms_ir.specs.declared.syntax.Inst.{Inst}
+use Rattle.ms_ir.specs.declared.syntax.Module.{Module}
+use Rattle.ms_ir.specs.declared.syntax.Name.{Name}
+use Rattle.ms_ir.specs.declared.syntax.Name.TheVariants.{Number, Text}
+use Rattle.ms_ir.specs.declared.syntax.Op.{Op}
+use Rattle.ms_ir.specs.declared.syntax.Op.TheVariants as op
+use Rattle.ms_ir.specs.declared.syntax.Operand.{Operand}
+use Rattle.ms_ir.specs.declared.syntax.Operand.TheVariants as operand
+use Rattle.ms_ir.specs.declared.syntax.Ty.{Ty, Array', Struct', Row_of-Ty, more_of-Ty, end_of-Ty}
+use Rattle.ms_ir.specs.declared.syntax.Ty as ty
+use Rattle.ms_ir.specs.First.{no_flags}
+
+-- the integer types of the examples
+abbrev pub i1 : Ty
+i1 = ty.Int 1
+
+abbrev pub i8 : Ty
+i8 = ty.Int 8
+
+abbrev pub i16 : Ty
+i16 = ty.Int 16
+
+abbrev pub i32 : Ty
+i32 = ty.Int 32
+
+abbrev pub i64 : Ty
+i64 = ty.Int 64
+
+-- an array of so many elements
+abbrev pub array : ℕ → Ty → Ty
+array n t = Array' n _ (more_of-Ty t end_of-Ty)
+
+-- a struct of two fields, and one of three; true: packed
+abbrev pub struct_of_two : Bool → Ty → Ty → Ty
+struct_of_two packed a b = Struct' packed (_ ∷ _ ∷ []) (more_of-Ty a (more_of-Ty b end_of-Ty))
+
+abbrev pub struct_of_three : Bool → Ty → Ty → Ty → Ty
+struct_of_three packed a b c = Struct' packed (_ ∷ _ ∷ _ ∷ []) (more_of-Ty a (more_of-Ty b (more_of-Ty c end_of-Ty)))
+
+-- operands: the result with a number, an integer, an undefined word
+abbrev pub local : ℕ → Operand
+local n = operand.Local (Number n)
+
+abbrev pub int : ℕ → Operand
+int n = operand.Int n
+
+abbrev pub undef : Operand
+undef = operand.Undef
+
+-- the unmarked instruction whose result has a number, and one without a result
+abbrev pub sets : ℕ → Op → Inst
+sets n o = record { op = o; result = Some (Number n); marked = false }
+
+abbrev pub does : Op → Inst
+does o = record { op = o; result = None; marked = false }
+
+-- instructions without flags, with the defaults that are not written
+abbrev pub binary : BinOp → Ty → Operand → Operand → Op
+binary o t a b = op.Binary o no_flags t a b
+
+abbrev pub icmp : Pred → Ty → Operand → Operand → Op
+icmp predicate t a b = op.Icmp predicate no_flags t a b
+
+abbrev pub convert : CastOp → Ty → Operand → Ty → Op
+convert o from a to = op.Cast o no_flags from a to
+
+abbrev pub alloca : Ty → Op
+alloca t = op.Alloca t i32 (int 1)
+
+-- the address of a byte at a distance
+abbrev pub byte_at : Operand → ℕ → Op
+byte_at base n = op.Gep i8 base ((i64, int n) ∷ [])
+
+abbrev pub branch : ℕ → ℕ → ℕ → Op
+branch condition a b = op.CondBr (local condition) (Number a) (Number b)
+
+abbrev pub ret : Operand → Op
+ret a = op.Ret (Some (i32, a))
+
+-- a name that is a text
+abbrev pub name : List ℕ → Name
+name text = Text text
+
+-- a function that is declared: its name, the type of its result and those of its parameters
+abbrev pub declares : List ℕ → Option Ty → List Ty → Decl
+declares x result params = record { name = Text x; ret = result; params = params }
+
+-- arguments with the types of the parameters
+abbrev pub typed : List Ty → List Operand → List (Ty × Operand)
+typed [] arguments = []
+typed (t ∷ ts) [] = []
+typed (t ∷ ts) (a ∷ rest) = (t, a) ∷ typed ts rest
+
+-- a call of a declared function
+abbrev pub call : Decl → List Operand → Op
+call callee arguments = op.Call callee.ret callee.name (typed callee.params arguments)
+
+-- a block with a number
+abbrev pub block : ℕ → List Inst → Block
+block n insts = record { name = Number n; insts = insts }
+
+-- `main` with its blocks
+abbrev pub main_func : List Block → Func
+main_func blocks = record { name = Text (codes "main"); ret = Some i32; params = []; blocks = blocks }
+
+-- a module of functions and what they call
+abbrev pub module_of : List Func → List Decl → Module
+module_of funcs decls = record { types = []; globals = []; decls = decls; funcs = funcs }
+
+-- a module of `main` alone, with blocks or with one block, and what it calls
+abbrev pub main_blocks : List Block → List Decl → Module
+main_blocks blocks decls = module_of (main_func blocks ∷ []) decls
+
+abbrev pub main_of : List Inst → List Decl → Module
+main_of insts decls = main_blocks (block 0 insts ∷ []) decls
+
+-- the setup where nothing is asked for: no input, the fill a5, ten million steps and one report
+abbrev pub defaults : Setup
+defaults = record { input = []; fill = 0xa5 ∷ []; steps = 10000000; reports = 1 }
+
+-- the same with another fill, another input, or another bound of steps
+abbrev pub filled : List ℕ → Setup
+filled bytes = record defaults { fill = bytes }
+
+abbrev pub fed : List ℕ → Setup
+fed bytes = record defaults { input = bytes }
+
+abbrev pub steps : ℕ → Setup
+steps n = record defaults { steps = n }
+
+-- a run that printed something and has no report
+abbrev pub prints : List ℕ → End → RunResult
+prints bytes e = record { output = bytes; «end» = e; reports = []; blind = 0 }
+
+-- a run without output and report that returns or exits, or traps at a site, or is spent
+abbrev pub exits : ℕ → RunResult
+exits n = prints [] («end».Exit n)
+
+abbrev pub trapped : Trap → ℕ → RunResult
+trapped kind site = prints [] («end».Trap kind site)
+
+abbrev pub spent : RunResult
+spent = prints [] «end».Spent
+
+-- a run without output that ended at its first report
+abbrev pub reported : Report → RunResult
+reported r = record { output = []; «end» = «end».Reported; reports = r ∷ []; blind = 0 }
+
+-- a report of a root, and one of an origin that is unknown
+abbrev pub report : (site kind part mask width root : ℕ) → Report
+report site kind part mask width root =
+    record { site = site; kind = kind; part = part; width = width; mask = mask; origin = root; chain = origin.Root root ∷ [] }
+
+abbrev pub report_unknown : (site kind part mask width origin : ℕ) → Report
+report_unknown site kind part mask width o =
+    record { site = site; kind = kind; part = part; width = width; mask = mask; origin = o; chain = [] }
