@@ -109,7 +109,8 @@ c_text = followed_by (run_that is_c) string
 abbrev pub punctuation : Text
 punctuation = codes "()[]{}<>,=*!|"
 
--- the form of each kind of token
+-- The form of each kind of token. Where a form fits, none that stands behind it is tried: so `!` is punctuation
+-- only where no run is directly behind it, and a word is a run that is part of no label.
 abbrev pub table : List (Kind × Form)
 table =
     (Label, label)

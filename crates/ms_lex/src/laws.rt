@@ -3,7 +3,8 @@
 ghost use Rattle.std.specs.Prelude.{◌≡◌, ◌⊎◌, ◌↔◌, List};
 ghost use Rattle.ms_lex.specs.Grammar.{Reads, Stops, done, fails, run};
 
-/// Something that has a grammar over tokens of a type, with a type of reasons to stop and one of the values that it reads.
+/// Something that has a grammar: over a type of tokens, with a type of reasons to stop at one and a type
+/// of the values that it reads. A token of its own stands for the end of a text.
 pub trait HasGrammar {
     type Token;
 
@@ -18,8 +19,8 @@ pub trait HasGrammar {
     ghost grammar: { Self → Grammar Self.Token Self.Reason Self.Value };
 }
 
-/// Every grammar reads one value at most from a list of tokens, or else stops at one of them for a reason, and never both. The function `run`
-/// finds out which.
+/// From a list of tokens every grammar either reads one value, or stops at one token for one reason, and
+/// never both. The function `run` of its definition finds out which.
 #[tactic(auto, using(crate::proofs::Relations::one_reading, crate::proofs::Relations::not_both, crate::proofs::Relations::either))]
 pub fn reads_or_stops<G: HasGrammar>(grammar: &G)
     ensures one_reading { (ts x y : List G.Token) (a b : G.Value)

@@ -61,16 +61,19 @@ fn cut(alloc: Global, text: &[u8], limit: u32) -> Result<Vec<Token>, LexError>
     Ok(found)
 }
 
-/// The tokens of a text of at most 2^27 bytes, in order, if there are at most `limit` up to its end.
+/// The tokens of a text of at most 2^27 bytes, in order, if there are at most `limit` of them.
 ///
-/// Blanks (spaces, tabs, carriage returns and newlines) and comments, which run from `;` up to the next newline, stand between tokens.
-/// Each token is of the first kind, in the order of [`Kind`](crate::Kind), that fits at its first byte.
+/// Between tokens stand blanks (spaces, tabs, carriage returns and newlines) and comments, which run
+/// from `;` up to the next newline. Each token is of the first kind, in the order of
+/// [`Kind`](crate::Kind), that fits at its first byte.
 ///
 /// # Errors
 ///
-/// With at most `limit` tokens before it, at the first byte at which no token begins: `OpenString` where that byte is a `"`, whose string doesn't
-/// end, and `BadByte` at any other, as at an `@` before such a string. `TooManyTokens` where more than `limit` tokens stand before any such
-/// byte. `NoMemory` where memory was wanting.
+/// - `BadByte` and `OpenString` at the first byte at which no token begins, if at most `limit` tokens
+///   stand before it: `OpenString` where that byte is a `"`, whose string doesn't end, and `BadByte`
+///   where it is another, as the `@` before such a string.
+/// - `TooManyTokens` where more than `limit` tokens stand before any such byte.
+/// - `NoMemory` where memory was wanting.
 #[tactic(auto, using(crate::proofs::Causes::bad_byte_exactly, crate::proofs::Causes::open_string_exactly, crate::proofs::Causes::too_many_exactly, crate::proofs::Causes::given_in_order))]
 pub fn tokens(alloc: Global, text: &[u8], limit: u32) -> Result<Vec<Token>, LexError>
     requires { length text.now ≤ 2 ^ 27 }
@@ -83,7 +86,13 @@ pub fn tokens(alloc: Global, text: &[u8], limit: u32) -> Result<Vec<Token>, LexE
         (StopsAt text.now limit place × IsFalse (is_quote (slice_index text.now place))) }
     ensures open_string { (place : ℕ) → RefusesExactly result (LexError.OpenString place)
         (StopsAt text.now limit place × IsTrue (is_quote (slice_index text.now place))) }
-    ensures too_many_tokens { RefusesExactly result LexError.TooManyTokens (limit < length (cut_of text.now).tokens) }
+    ensures too_many_tokens { RefusesExactly result LexError.TooManyTokens
+        (limit < length (cut_of text.now).tokens) }
 {
     cut(alloc, text, limit)
 }
+
+/// The tokens of a text stand in it in order, up to the first place where none begins too.
+pub fn tokens_stand_in_order(text: &[u8])
+    ensures { InOrder (cut_of text.now).tokens (length text.now) }
+{}

@@ -1,6 +1,8 @@
-//! The tokens of a text of LLVM's textual assembly language, and what a token's spelling says: its name or its number.
+//! The tokens of a text of LLVM's assembly language, and what a token's spelling says: its name or
+//! its number.
 //!
-//! Beside them stands what the readers of a grammar share: grammars as data, with laws that hold of every grammar.
+//! Beside them stands what the readers of a grammar share: grammars as data, with laws that hold of
+//! every grammar.
 #![tactic(auto)]
 
 mod errors;
@@ -17,6 +19,6 @@ mod tests;
 pub use errors::{LexError, NoMemory};
 pub use kinds::{Kind, Token};
 pub use laws::{HasGrammar, reads_or_stops};
-pub use lexer::tokens;
+pub use lexer::{tokens, tokens_stand_in_order};
 pub use names::name_of;
 pub use numbers::number_of;

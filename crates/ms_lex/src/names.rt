@@ -22,7 +22,8 @@ fn hexadecimal_digit(b: u8) -> Option<u8>
     }
 }
 
-/// The byte that a backslash and two hexadecimal digits stand for, and the bytes behind them. The text begins behind the backslash.
+/// The byte that a backslash and two hexadecimal digits stand for, and the bytes behind them. The text
+/// begins behind the backslash.
 #[tactic(auto, using(crate::proofs::Escapes::pair, crate::proofs::Escapes::at_end, crate::proofs::Escapes::before_one, crate::proofs::Escapes::no_high, crate::proofs::Escapes::no_low))]
 fn hexadecimal_byte(text: &[u8]) -> Option<(u8, &[u8])>
     requires { slice_index text.now 0 ≢ 92 }
@@ -108,11 +109,13 @@ fn decode(alloc: Global, part: &[u8]) -> Result<Vec<u8>, NoMemory>
     }
 }
 
-/// The name that a token is, decoded: without the sigil of a global, a local, a metadata node or an attribute group, without the `c` of
-/// a text and the colon of a label.
+/// The name that a token is: without the sigil of a global, a local, a metadata node or an attribute
+/// group, without the `c` of a text and without the colon of a label.
 ///
-/// A string gives the bytes between its quotes, where two backslashes stand for one, and a backslash and two hexadecimal digits for the
-/// byte that these name; any other byte stands for itself. A token of another kind gives its own bytes.
+/// A run of name bytes is its own name. A string's name is what its bytes between the quotes stand for,
+/// read from left to right: two backslashes for one backslash, a backslash and two hexadecimal digits
+/// for the byte that these name, and any other byte for itself, a backslash too. A token of a kind that
+/// has no name gives its own bytes.
 ///
 /// # Errors
 ///

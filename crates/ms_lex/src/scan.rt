@@ -173,7 +173,8 @@ fn begins_word(run: &[u8]) -> bool
 
 /// What a run is that is no part of a label or of a text behind `c`.
 fn run_kind(run: &[u8]) -> Kind
-    ensures { result ≡ (if spec.is_number run.now then Kind.Number else if spec.begins_word run.now then Kind.Word else Kind.Other) }
+    ensures { result ≡ (if spec.is_number run.now then Kind.Number
+        else if spec.begins_word run.now then Kind.Word else Kind.Other) }
 {
     if is_number(run) {
         Kind::Number
