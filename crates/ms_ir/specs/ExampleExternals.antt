@@ -1,5 +1,5 @@
 -- Example modules that call externals, and such that show one instruction or one rule of memory each.
-use Rattle.std.specs.Prelude.{ℕ, false, List, [], ◌∷◌, Some, None, codes}
+use Rattle.std.specs.Prelude.{ℕ, zero, suc, false, List, [], ◌∷◌, Some, None, codes}
 use Rattle.ms_bits.specs.declared.operations.BinOp.TheVariants as binary
 use Rattle.ms_bits.specs.declared.operations.CastOp.TheVariants as cast
 use Rattle.ms_bits.specs.declared.operations.Pred.TheVariants as predicate
@@ -14,8 +14,13 @@ use Rattle.ms_ir.specs.declared.syntax.Operand.{Operand}
 use Rattle.ms_ir.specs.declared.syntax.Operand.TheVariants as operand
 use Rattle.ms_ir.specs.declared.syntax.Ty.{Ty}
 use Rattle.ms_ir.specs.declared.syntax.Ty as ty
-use Rattle.ms_ir.specs.ExampleParts.{i8, i32, i64, array, struct_of_two, local, int, sets, does, binary as combine, icmp, convert, alloca, byte_at, branch, ret, name, call, block, main_func, module_of, main_blocks, main_of}
+use Rattle.ms_ir.specs.ExampleParts.{i8, i32, i64, array, struct_of_two, local, int, sets, does, binary as combine, icmp, convert, alloca, byte_at, branch, ret, name, call, block, main_func, module_of, main_blocks, main_of, defaults}
 use Rattle.ms_ir.specs.ExampleCalls.{malloc, calloc, realloc, free, read, lifetime_start}
+use Rattle.ms_ir.specs.World.{World, Enters}
+use Rattle.ms_ir.specs.Control.{Frame, Moved, moves}
+use Rattle.ms_ir.specs.Act.{plain_reading}
+use Rattle.ms_ir.specs.Plain.{setting, start_world}
+use Rattle.ms_ir.specs.ExampleModules.{recursion}
 
 -- returns whether the pointer with the number n is null
 abbrev pub returns_is_null : ℕ → List Inst
@@ -26,10 +31,11 @@ returns_is_null n =
 abbrev pub returns_word_at : ℕ → List Inst
 returns_word_at n = sets 99 (op.Load i32 (local n)) ∷ does (ret (local 99)) ∷ []
 
--- returns the low 32 bits of the word of 64 bits, or of the address, with the number n
+-- returns the low 32 bits of the word of 64 bits with the number n
 abbrev pub returns_low : ℕ → List Inst
 returns_low n = sets 99 (convert cast.Trunc i64 (local n) i32) ∷ does (ret (local 99)) ∷ []
 
+-- returns the low 32 bits of the address with the number n
 abbrev pub returns_address : ℕ → List Inst
 returns_address n = sets 99 (convert cast.PtrToInt ty.Ptr (local n) i32) ∷ does (ret (local 99)) ∷ []
 
@@ -133,24 +139,26 @@ steps_back = main_of (
 abbrev pub reads_across : Module
 reads_across = main_of (sets 1 (alloca (array 16 i8)) ∷ sets 2 (alloca (array 16 i8)) ∷ sets 3 (byte_at (local 1) 14) ∷ returns_word_at 3) []
 
--- a struct of a byte and a word, and one of a byte and two of the first
+-- a struct of a byte and a word
 abbrev pub pair : Ty
 pair = struct_of_two false i8 i32
 
+-- a struct of a byte and two pairs
 abbrev pub whole : Ty
 whole = struct_of_two false i8 (array 2 pair)
 
--- initialisers of them
+-- an initialiser of a pair
 abbrev pub pair_of : ℕ → ℕ → Init
 pair_of a b =
     init.Struct' false (_ ∷ _ ∷ []) (more_of-Init-Array-0-2 i8 (init.Value (int a)) (more_of-Init-Array-0-2 i32 (init.Value (int b)) end_of-Init-Array-0-2))
 
+-- an initialiser of the struct with two pairs
 abbrev pub whole_of_pairs : Init → Init → Init
 whole_of_pairs a b = init.Struct' false (_ ∷ _ ∷ []) (more_of-Init-Array-0-2 i8 (init.Value (int 1))
     (more_of-Init-Array-0-2 (array 2 pair)
     (init.Array' (_ ∷ _ ∷ []) (more_of-Init-Array-0-2 pair a (more_of-Init-Array-0-2 pair b end_of-Init-Array-0-2))) end_of-Init-Array-0-2))
 
--- two globals, a byte and one of a named type, and the word at an operand
+-- three globals, a byte, one of a named type and an undefined word; returns the word at an address
 abbrev pub with_globals : Operand → Module
 with_globals address = record {
   types = (name (codes "T"), whole) ∷ [];
@@ -165,3 +173,22 @@ with_globals address = record {
 -- the word of the second pair of the global of the named type
 abbrev pub inner_word : Operand
 inner_word = operand.Offset (ty.Named (name (codes "T"))) (name (codes "g")) ((i64, 0) ∷ (i32, 1) ∷ (i64, 1) ∷ (i32, 1) ∷ [])
+
+-- a frame of the function of `recursion` that stands at its call
+abbrev pub frame_at_call : Frame ℕ
+frame_at_call = record { func = 0; block = 2; place = 1; values = λ x. 0; mark = 0x720000000000 }
+
+-- so many of these frames
+abbrev pub frames_at_call : ℕ → List (Frame ℕ)
+frames_at_call zero = []
+frames_at_call (suc n) = frame_at_call ∷ frames_at_call n
+
+-- the world in which `recursion` starts
+abbrev pub recursion_world : World
+recursion_world = start_world (recursion 1) defaults
+
+-- what that call comes to where so many frames stand below its own
+abbrev pub called_above : ℕ → Moved ℕ
+called_above n =
+    moves plain_reading (setting (recursion 1) defaults) (recursion 1) 5 None [] (λ v world. v) (λ v world. world) frame_at_call (frames_at_call n)
+    (Enters 0 recursion_world)

@@ -20,17 +20,19 @@ use Rattle.ms_ir.specs.declared.syntax.Ty as ty
 use Rattle.ms_ir.specs.ExampleParts.{i1, i32, i64, array, local, int, undef, sets, does, binary as combine, icmp, convert, alloca, branch, ret, name, call, block, main_func, main_of}
 use Rattle.ms_ir.specs.ExampleCalls.{calloc, msan_check, msan_check_memory, msan_check_string, msan_poison, msan_unpoison, msan_copy, msan_fill, msan_store_origin, msan_load_origin}
 
--- the name of the inserted result with these digits, and its word
+-- the name of the inserted result with these digits
 abbrev pub inserted_name : List ℕ → Name
 inserted_name digits = name (codes "__msan." ++ digits)
 
+-- the operand that is such a result
 abbrev pub inserted : List ℕ → Operand
 inserted digits = operand.Local (inserted_name digits)
 
--- a marked instruction with such a result, and one without a result
+-- a marked instruction with such a result
 abbrev pub inserts : List ℕ → Op → Inst
 inserts digits o = record { op = o; result = Some (inserted_name digits); marked = true }
 
+-- a marked instruction without a result
 abbrev pub marked : Op → Inst
 marked o = record { op = o; result = None; marked = true }
 
@@ -102,23 +104,27 @@ slot_globals =
     ∷ record { name = name (codes "__msan_retval_tls"); constant = false; ty = i64; init = init.Value (int 0) }
     ∷ record { name = name (codes "__msan_retval_origin_tls"); constant = false; ty = i32; init = init.Value (int 0) } ∷ []
 
--- the slots of a parameter, and those of a result
+-- the slot of a parameter's mask
 abbrev pub mask_slot : ℕ → Operand
 mask_slot n = operand.Offset i64 (name (codes "__msan_param_tls")) ((i64, n) ∷ [])
 
+-- the slot of a parameter's origin
 abbrev pub origin_slot : ℕ → Operand
 origin_slot n = operand.Offset i32 (name (codes "__msan_param_origin_tls")) ((i64, n) ∷ [])
 
+-- the slot of a result's mask
 abbrev pub result_mask : Operand
 result_mask = operand.Global (name (codes "__msan_retval_tls"))
 
+-- the slot of a result's origin
 abbrev pub result_origin : Operand
 result_origin = operand.Global (name (codes "__msan_retval_origin_tls"))
 
--- a marked store to a slot, and a marked load from one
+-- a marked store to a slot
 abbrev pub puts_slot : Operand → Operand → Inst
 puts_slot v slot = marked (op.Store i32 v slot)
 
+-- a marked load from a slot
 abbrev pub gets_slot : List ℕ → Operand → Inst
 gets_slot digits slot = inserts digits (op.Load i32 slot)
 

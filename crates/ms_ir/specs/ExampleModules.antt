@@ -180,3 +180,17 @@ three_branches = main_blocks (
     ∷ block 2 (sets 3 (call putchar (int 98 ∷ [])) ∷ does (op.CondBr undef (Number 4) (Number 4)) ∷ [])
     ∷ block 4 (sets 5 (call putchar (int 99 ∷ [])) ∷ does (op.CondBr undef (Number 6) (Number 6)) ∷ [])
     ∷ block 6 (does (ret (int 0)) ∷ []) ∷ []) (putchar ∷ [])
+
+-- an undefined word is added to, by an addition that says it doesn't wrap
+abbrev pub undef_sum : Module
+undef_sum = main_of (sets 1 (op.Binary binary.Add (record no_flags { nsw = true }) i32 undef (int 1)) ∷ does (ret (local 1)) ∷ []) []
+
+-- an undefined byte is stored and loaded
+abbrev pub undef_stored : Module
+undef_stored = main_of (
+    sets 1 (alloca i8) ∷ does (op.Store i8 undef (local 1)) ∷ sets 2 (op.Load i8 (local 1)) ∷ sets 3 (convert cast.Zext i8 (local 2) i32)
+    ∷ does (ret (local 3)) ∷ []) []
+
+-- one undefined bit is added to
+abbrev pub carry_of_undef : Module
+carry_of_undef = main_of (sets 1 (combine binary.And i32 undef (int 16)) ∷ sets 2 (combine binary.Add i32 (local 1) (int 3)) ∷ does (ret (local 2)) ∷ []) []

@@ -1,4 +1,4 @@
--- Words for writing example modules, the setups that they run with, and what their runs answer.
+-- Words for writing example modules down, the setups that they run with, and what their runs answer.
 use Rattle.std.specs.Prelude.{ℕ, Bool, false, List, [], ◌∷◌, Option, Some, None, codes}
 use Rattle.ms_bits.specs.declared.operations.BinOp.{BinOp}
 use Rattle.ms_bits.specs.declared.operations.CastOp.{CastOp}
@@ -25,60 +25,71 @@ use Rattle.ms_ir.specs.declared.syntax.Ty.{Ty, Array', Struct', Row_of-Ty, more_
 use Rattle.ms_ir.specs.declared.syntax.Ty as ty
 use Rattle.ms_ir.specs.First.{no_flags}
 
--- the integer types of the examples
+-- the integer type of one bit
 abbrev pub i1 : Ty
 i1 = ty.Int 1
 
+-- the integer type of 8 bits
 abbrev pub i8 : Ty
 i8 = ty.Int 8
 
+-- the integer type of 16 bits
 abbrev pub i16 : Ty
 i16 = ty.Int 16
 
+-- the integer type of 32 bits
 abbrev pub i32 : Ty
 i32 = ty.Int 32
 
+-- the integer type of 64 bits
 abbrev pub i64 : Ty
 i64 = ty.Int 64
 
--- an array of so many elements
+-- an array of n elements
 abbrev pub array : ℕ → Ty → Ty
 array n t = Array' n _ (more_of-Ty t end_of-Ty)
 
--- a struct of two fields, and one of three; true: packed
+-- a struct of two fields; true: packed
 abbrev pub struct_of_two : Bool → Ty → Ty → Ty
 struct_of_two packed a b = Struct' packed (_ ∷ _ ∷ []) (more_of-Ty a (more_of-Ty b end_of-Ty))
 
+-- a struct of three fields; true: packed
 abbrev pub struct_of_three : Bool → Ty → Ty → Ty → Ty
 struct_of_three packed a b c = Struct' packed (_ ∷ _ ∷ _ ∷ []) (more_of-Ty a (more_of-Ty b (more_of-Ty c end_of-Ty)))
 
--- operands: the result with a number, an integer, an undefined word
+-- the operand that is the result with a number
 abbrev pub local : ℕ → Operand
 local n = operand.Local (Number n)
 
+-- the operand that is an integer
 abbrev pub int : ℕ → Operand
 int n = operand.Int n
 
+-- the operand that is an undefined word
 abbrev pub undef : Operand
 undef = operand.Undef
 
--- the unmarked instruction whose result has a number, and one without a result
+-- the unmarked instruction whose result has a number
 abbrev pub sets : ℕ → Op → Inst
 sets n o = record { op = o; result = Some (Number n); marked = false }
 
+-- an unmarked instruction without a result
 abbrev pub does : Op → Inst
 does o = record { op = o; result = None; marked = false }
 
--- instructions without flags, with the defaults that are not written
+-- an operation without flags
 abbrev pub binary : BinOp → Ty → Operand → Operand → Op
 binary o t a b = op.Binary o no_flags t a b
 
+-- a comparison without flags
 abbrev pub icmp : Pred → Ty → Operand → Operand → Op
 icmp predicate t a b = op.Icmp predicate no_flags t a b
 
+-- a cast without flags
 abbrev pub convert : CastOp → Ty → Operand → Ty → Op
 convert o from a to = op.Cast o no_flags from a to
 
+-- room for one value of a type on the stack
 abbrev pub alloca : Ty → Op
 alloca t = op.Alloca t i32 (int 1)
 
@@ -86,9 +97,11 @@ alloca t = op.Alloca t i32 (int 1)
 abbrev pub byte_at : Operand → ℕ → Op
 byte_at base n = op.Gep i8 base ((i64, int n) ∷ [])
 
+-- a branch on the result with a number to one of two blocks
 abbrev pub branch : ℕ → ℕ → ℕ → Op
 branch condition a b = op.CondBr (local condition) (Number a) (Number b)
 
+-- a return of a word of 32 bits
 abbrev pub ret : Operand → Op
 ret a = op.Ret (Some (i32, a))
 
@@ -122,10 +135,11 @@ main_func blocks = record { name = Text (codes "main"); ret = Some i32; params =
 abbrev pub module_of : List Func → List Decl → Module
 module_of funcs decls = record { types = []; globals = []; decls = decls; funcs = funcs }
 
--- a module of `main` alone, with blocks or with one block, and what it calls
+-- a module of `main` alone, with blocks, and what it calls
 abbrev pub main_blocks : List Block → List Decl → Module
 main_blocks blocks decls = module_of (main_func blocks ∷ []) decls
 
+-- a module of `main` alone, with one block, and what it calls
 abbrev pub main_of : List Inst → List Decl → Module
 main_of insts decls = main_blocks (block 0 insts ∷ []) decls
 
@@ -133,13 +147,15 @@ main_of insts decls = main_blocks (block 0 insts ∷ []) decls
 abbrev pub defaults : Setup
 defaults = record { input = []; fill = 0xa5 ∷ []; steps = 10000000; reports = 1 }
 
--- the same with another fill, another input, or another bound of steps
+-- the same setup with another fill
 abbrev pub filled : List ℕ → Setup
 filled bytes = record defaults { fill = bytes }
 
+-- the same setup with another input
 abbrev pub fed : List ℕ → Setup
 fed bytes = record defaults { input = bytes }
 
+-- the same setup with another bound of steps
 abbrev pub steps : ℕ → Setup
 steps n = record defaults { steps = n }
 
@@ -147,13 +163,15 @@ steps n = record defaults { steps = n }
 abbrev pub prints : List ℕ → End → RunResult
 prints bytes e = record { output = bytes; «end» = e; reports = []; blind = 0 }
 
--- a run without output and report that returns or exits, or traps at a site, or is spent
+-- a run without output and report that returns from `main` or exits
 abbrev pub exits : ℕ → RunResult
 exits n = prints [] («end».Exit n)
 
+-- a run without output and report that traps at a site
 abbrev pub trapped : Trap → ℕ → RunResult
 trapped kind site = prints [] («end».Trap kind site)
 
+-- a run without output and report whose steps are spent
 abbrev pub spent : RunResult
 spent = prints [] «end».Spent
 
@@ -161,11 +179,12 @@ spent = prints [] «end».Spent
 abbrev pub reported : Report → RunResult
 reported r = record { output = []; «end» = «end».Reported; reports = r ∷ []; blind = 0 }
 
--- a report of a root, and one of an origin that is unknown
+-- a report whose origin is a root
 abbrev pub report : (site kind part mask width root : ℕ) → Report
 report site kind part mask width root =
     record { site = site; kind = kind; part = part; width = width; mask = mask; origin = root; chain = origin.Root root ∷ [] }
 
+-- a report whose origin is neither root nor pair
 abbrev pub report_unknown : (site kind part mask width origin : ℕ) → Report
 report_unknown site kind part mask width o =
     record { site = site; kind = kind; part = part; width = width; mask = mask; origin = o; chain = [] }

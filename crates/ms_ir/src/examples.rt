@@ -6,12 +6,14 @@ ghost use Rattle.ms_ir.specs.declared.runs.End.TheVariants as «end»;
 ghost use Rattle.ms_ir.specs.declared.syntax.Op.TheVariants as op;
 ghost use Rattle.ms_ir.specs.declared.syntax.Operand.TheVariants as operand;
 ghost use Rattle.ms_ir.specs.declared.syntax.Ty as ty;
-ghost use Rattle.ms_ir.specs.ExampleModules.{returns_zero, branch_on_unset, masked_to_zero, ordered_compare, set_bit_is_not_zero, select_undef, two_unset, shared_cell, lost_in_addition, recursion, nested_call, write_with_gap, store_to_shadow, clang_unoptimised, store_and_load, sum_wraps, undef_divisor, frozen, three_branches};
-ghost use Rattle.ms_ir.specs.ExampleExternals.{returns_is_null, returns_word_at, returns_low, two_bytes, heap_filled, zeroed, grown, grown_too_far, four_bytes, reads_twice, made_anew, own_malloc, chooses, swaps, takes_room_back, reads_room_of_callee, odd_width, steps_back, reads_across, with_globals, inner_word};
+ghost use Rattle.ms_ir.specs.ExampleModules.{returns_zero, branch_on_unset, masked_to_zero, ordered_compare, set_bit_is_not_zero, select_undef, two_unset, shared_cell, lost_in_addition, recursion, nested_call, write_with_gap, store_to_shadow, clang_unoptimised, store_and_load, sum_wraps, undef_divisor, frozen, three_branches, undef_sum, undef_stored, carry_of_undef};
+ghost use Rattle.ms_ir.specs.ExampleExternals.{returns_is_null, returns_word_at, returns_low, two_bytes, heap_filled, zeroed, grown, grown_too_far, four_bytes, reads_twice, made_anew, own_malloc, chooses, swaps, takes_room_back, reads_room_of_callee, odd_width, steps_back, reads_across, with_globals, inner_word, frame_at_call, frames_at_call, recursion_world, called_above};
 ghost use Rattle.ms_ir.specs.ExampleCalls as calls;
 ghost use Rattle.ms_ir.specs.ExampleMarks.{inserts, inserted, marked, on_heap, poisons, looks, checks, shadow_address, bad_ranges, counted, branch_on_unset_checked, nested_call_checked, with_slots, mask_slot, result_mask};
 ghost use Rattle.ms_ir.specs.ExampleParts.{i8, i16, i32, i64, array, struct_of_three, int, local, sets, does, convert, call, alloca, byte_at, ret, name, main_of, defaults, filled, fed, steps, exits, prints, spent, trapped, reported, report, report_unknown};
+ghost use Rattle.ms_ir.specs.Act.{plain_reading};
 ghost use Rattle.ms_ir.specs.Code.{strip, count_roots, root_at, site_at};
+ghost use Rattle.ms_ir.specs.Control.{On, Over, entered};
 ghost use Rattle.ms_ir.specs.First.{no_flags};
 ghost use Rattle.ms_ir.specs.Layout.{size_of};
 ghost use Rattle.ms_ir.specs.Plain.{plain, setting};
@@ -48,6 +50,11 @@ pub fn modules()
     ensures undef_divisor { plain undef_divisor (filled (0 ∷ [])) ≡ trapped trap.ZeroDivisor 1 }
     ensures frozen { plain frozen defaults ≡ exits 2779096485 }
     ensures frozen_zero { plain frozen (filled (0 ∷ [])) ≡ exits 0 }
+    ensures undef_sum { plain undef_sum (filled (0 ∷ [])) ≡ exits 1 }
+    ensures undef_sum_wraps { plain undef_sum (filled (0xff ∷ 0xff ∷ 0xff ∷ 0x7f ∷ [])) ≡ trapped trap.Nsw 1 }
+    ensures undef_stored { plain undef_stored defaults ≡ exits 0xa5 }
+    ensures carry_of_undef { plain carry_of_undef defaults ≡ exits 3 }
+    ensures carry_of_ones { plain carry_of_undef (filled (0xff ∷ [])) ≡ exits 19 }
     ensures three_branches { plain three_branches defaults ≡ prints (97 ∷ 98 ∷ 99 ∷ []) («end».Exit 0) }
 {}
 
@@ -128,6 +135,8 @@ pub fn control_and_memory()
     ensures room_of_a_callee { plain reads_room_of_callee defaults ≡ trapped trap.BadAddress 4 }
     ensures stack_to_the_limit { plain (main_of (sets 1 (alloca (array 1048576 i8)) ∷ does (ret (int 0)) ∷ []) []) defaults ≡ exits 0 }
     ensures stack_past_the_limit { plain (main_of (sets 1 (op.Alloca i8 i64 (int 1048577)) ∷ does (ret (int 0)) ∷ []) []) defaults ≡ trapped trap.Stack 1 }
+    ensures frames_to_the_limit { called_above 1022 ≡ On (entered plain_reading (recursion 1) 0 [] recursion_world ∷ frame_at_call ∷ frames_at_call 1022) recursion_world }
+    ensures frames_past_the_limit { called_above 1023 ≡ Over («end».Trap trap.Depth 5) recursion_world }
     ensures odd_width { plain odd_width defaults ≡ exits 0x1abcd }
     ensures negative_index { plain steps_back defaults ≡ exits 7 }
     ensures two_allocations { plain reads_across defaults ≡ trapped trap.BadAddress 4 }

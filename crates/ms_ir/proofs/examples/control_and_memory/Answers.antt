@@ -34,6 +34,14 @@ pub returns-clause-stack_past_the_limit : goal.returns-clause-stack_past_the_lim
 unfolding words
 returns-clause-stack_past_the_limit c = refl
 
+pub returns-clause-frames_to_the_limit : goal.returns-clause-frames_to_the_limit
+unfolding words
+returns-clause-frames_to_the_limit c = refl
+
+pub returns-clause-frames_past_the_limit : goal.returns-clause-frames_past_the_limit
+unfolding words
+returns-clause-frames_past_the_limit c = refl
+
 pub returns-clause-odd_width : goal.returns-clause-odd_width
 unfolding words
 returns-clause-odd_width c = refl

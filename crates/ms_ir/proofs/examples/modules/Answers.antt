@@ -94,6 +94,26 @@ pub returns-clause-frozen_zero : goal.returns-clause-frozen_zero
 unfolding words
 returns-clause-frozen_zero c = refl
 
+pub returns-clause-undef_sum : goal.returns-clause-undef_sum
+unfolding words
+returns-clause-undef_sum c = refl
+
+pub returns-clause-undef_sum_wraps : goal.returns-clause-undef_sum_wraps
+unfolding words
+returns-clause-undef_sum_wraps c = refl
+
+pub returns-clause-undef_stored : goal.returns-clause-undef_stored
+unfolding words
+returns-clause-undef_stored c = refl
+
+pub returns-clause-carry_of_undef : goal.returns-clause-carry_of_undef
+unfolding words
+returns-clause-carry_of_undef c = refl
+
+pub returns-clause-carry_of_ones : goal.returns-clause-carry_of_ones
+unfolding words
+returns-clause-carry_of_ones c = refl
+
 pub returns-clause-three_branches : goal.returns-clause-three_branches
 unfolding words
 returns-clause-three_branches c = refl
