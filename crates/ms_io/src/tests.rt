@@ -140,6 +140,7 @@ fn a_file_of_the_file_system_is_read_whole(rt: HostRuntime) -> Result<(), Fail> 
         let shown = format!(in rt.alloc(); "{answer:?}")?;
         assert_eq!(rt; shown.as_str(), want, "{name} up to {limit}");
     }
+    fs::remove_file(&rt, "word.txt")?;
     Ok(())
 }
 
