@@ -1,12 +1,3 @@
 pub mod Appending
 pub mod Answering
 pub mod Statuses
-pub mod MachineRanges
-pub mod MachineStored
-pub mod MachineStacks
-pub mod MachineLines
-pub mod MachineRuns
-pub mod ReaderPieces
-pub mod ReaderOperands
-pub mod ReaderLines
-pub mod ReaderWhole

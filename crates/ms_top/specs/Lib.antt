@@ -3,5 +3,3 @@ pub mod Texts
 pub mod Command
 pub mod Said
 pub mod Passing
-pub mod MachineSteps
-pub mod Reading

@@ -7,8 +7,8 @@ ghost use Rattle.std.specs.Option.{option_copied};
 ghost use Rattle.ms_top.specs.Texts.{line};
 
 use crate::closing::closing;
-use crate::first;
 use ms_bits::{Bytes, NoMemory, Text};
+use ms_first as first;
 use ms_io::{FileError, Files};
 use ms_ir::{End, Module, RunResult, Setup};
 use std::alloc::{AllocError, Global};

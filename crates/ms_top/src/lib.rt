@@ -3,11 +3,11 @@
 
 pub mod answers;
 pub mod closing;
-pub mod first;
 pub mod pieces;
 pub mod spelling;
 pub mod top;
 
+pub use ms_first as first;
 pub use top::msan;
 
 #[cfg(test)]
