@@ -1,3 +1,4 @@
+pub mod MachineInsts
 pub mod MachineLines
 pub mod MachineRanges
 pub mod MachineRuns

@@ -6,31 +6,26 @@ use Rattle.std.proofs.Math.ListN.{get_or-append}
 use Rattle.std.proofs.Math.Seq.{get_or-append_seam}
 use Rattle.std.proofs.lemmas.Option.{slice_get_within}
 use Rattle.std.proofs.lemmas.Bool.{le-leb, lt-leb, cases_lt, cases_eq, eq-eqb, ne_eqb}
-use Rattle.std.specs.Prelude.{if◌then◌else◌, nat_eq, leb, slice_index, slice_set, slice_get, Option, Some, None, Result, Ok, unwrap_or}
-use Rattle.ms_bits.specs.declared.traps.Trap.{Trap}
+use Rattle.std.specs.Prelude.{if◌then◌else◌, slice_index, slice_set, slice_get, Option, Some, None, Ok, unwrap_or}
 use Rattle.ms_bits.specs.declared.traps.Trap.TheVariants as trap
 use Rattle.ms_bits.specs.Arithmetic.{binary_of, or_of}
-use Rattle.ms_bits.specs.Fill.{made_byte}
-use Rattle.ms_bits.specs.Maps.{with_range, byte_of, number_at}
+use Rattle.ms_bits.specs.Maps.{number_at}
 use Rattle.ms_ir.specs.declared.syntax.Name.{Name}
 use Rattle.ms_ir.specs.declared.syntax.Name.TheVariants.{Number}
-use Rattle.ms_ir.specs.declared.syntax.Ty.{Ty, Int, Ptr}
-use Rattle.ms_ir.specs.declared.syntax.Operand.{Operand}
 use Rattle.ms_ir.specs.declared.syntax.Operand.TheVariants as operand
 use Rattle.ms_ir.specs.declared.syntax.Op.{Op}
 use Rattle.ms_ir.specs.declared.syntax.Inst.{Inst}
 use Rattle.ms_ir.specs.declared.syntax.Module.{Module}
-use Rattle.ms_ir.specs.declared.runs.End.{End}
 use Rattle.ms_ir.specs.declared.runs.End.TheVariants as «end»
 use Rattle.ms_ir.specs.World.{World, Stack, Setting, Here, Effect, Gives, Does, Leaves, Ends, traps}
-use Rattle.ms_ir.specs.Memory.{used, fits, next_base, is_good, make_unset, store_number}
+use Rattle.ms_ir.specs.Memory.{used, fits, next_base, make_unset, store_number}
 use Rattle.ms_ir.specs.Code.{operands}
-use Rattle.ms_ir.specs.Control.{Frame, Moved, read_all, with_value, moves}
+use Rattle.ms_ir.specs.Control.{Frame, read_all, with_value, moves}
 use Rattle.ms_ir.specs.Act.{operand_word, plain_reading, gives, act}
 use Rattle.ms_ir.specs.Plain.{PlainState, Stepped, More, Stop, plain_moved}
 use Rattle.ms_ir.specs.First.{Word, Whole, Minus, Earlier, Logic, And, Or, Xor, Line, Alloca, Load, Store, Combine, IsLine, after_line, IsAddress, result_name, word_operand, no_flags, logic_op, line_inst, ret_inst}
-use Rattle.ms_first.specs.MachineSteps.{number_of, word_of, cell_of, made_word, combined, Step, Next, Last, step_of, returned}
-use Rattle.ms_first.proofs.MachineStacks.{base, alloc_at, allocs_of, used_all, fits_more, fits_no_more, good_at, Words, words_stored, words_made}
+use Rattle.ms_first.specs.MachineSteps.{word_of, cell_of, made_word, combined, Step, Next, Last, step_of}
+use Rattle.ms_first.proofs.MachineStacks.{base, allocs_of, used_all, fits_more, fits_no_more, good_at, Words, words_stored, words_made}
 
 -- ---- the states that the interpreter's words stand for
 
@@ -94,9 +89,9 @@ more_results allocas vs f n count v b r le new = record {
   counted = length-append allocas (b ∷ []) ∙ ap (λ k. k + 1) r.counted ∙ sym (length-append vs (v ∷ []));
   values = more_read f vs (length allocas) v r.counted r.values;
   addresses = λ k h. ⊎_elim
-    (λ old. earlier k old (r.addresses k old))
-    (λ last. here k last.0 (new last.1))
-    (added allocas b k h);
+      (λ old. earlier k old (r.addresses k old))
+      (λ last. here k last.0 (new last.1))
+      (added allocas b k h);
 }
   where
     earlier : (k : ℕ) → slice_get allocas k ≡ Some true → ((j : ℕ) × (j < n) × (slice_index vs k ≡ base + 16 * j)) → (j : ℕ) × (j < count) × (slice_index (vs ++ v ∷ []) k ≡ base + 16 * j)
@@ -150,58 +145,59 @@ alloca_line : (s : Setting) (m : Module) (h : Here) (allocas : List Bool) (vs ce
     → Follows (allocas ++ true ∷ []) (place + 1) (step_of s.fill h.site vs cells (line_inst (length allocas) Alloca).op) (done s m h place f w (line_inst (length allocas) Alloca))
 alloca_line s m h allocas vs cells place f w sh =
     ⊎_elim
-    (λ lt. subst (λ b. Follows (allocas ++ true ∷ []) (place + 1) (if b then Last («end».Trap trap.Stack h.site) else more) step) (sym (lt-leb 65536 (length cells) lt)) (goes lt))
-    (λ le. subst (λ b. Follows (allocas ++ true ∷ []) (place + 1) (if b then Last («end».Trap trap.Stack h.site) else more) step) (sym (le-leb 65536 (length cells) le)) (stops le))
+    (λ lt. subst after (sym (lt-leb 65536 (length cells) lt)) (goes lt))
+    (λ le. subst after (sym (le-leb 65536 (length cells) le)) (stops le))
     (cases_lt (length cells) 65536)
   where
     x : Name
     x = result_name (length allocas)
 
-    cell : ℕ
-    cell = made_word s.fill (4 * length cells)
+    us : List ℕ
+    us = vs ++ (base + 16 * length cells) ∷ []
 
-    more : Step
-    more = Next (vs ++ (0x720000000000 + 16 * length cells) ∷ []) (cells ++ made_word s.fill (4 * length cells) ∷ [])
-
-    step : Stepped PlainState
-    step = done s m h place f w (line_inst (length allocas) Alloca)
+    ds : List ℕ
+    ds = cells ++ made_word s.fill (4 * length cells) ∷ []
 
     grown : World
     grown = make_unset s.fill Stack 4 w
 
-    came : (b : Bool) → fits Stack 4 w ≡ b
-        → done s m h place f w (line_inst (length allocas) Alloca)
-        ≡ moved s m h.site place f (Some (result_name (length allocas))) (1 ∷ []) (if b then Gives (next_base Stack w) (make_unset s.fill Stack 4 w) else traps trap.Stack h.site w)
-    came b e = ap (λ b. moved s m h.site place f (Some (result_name (length allocas))) (1 ∷ []) (if b then Gives (next_base Stack w) (make_unset s.fill Stack 4 w) else traps trap.Stack h.site w)) e
+    step : Stepped PlainState
+    step = done s m h place f w (line_inst (length allocas) Alloca)
 
-    stops : 65536 ≤ length cells → Follows (allocas ++ true ∷ []) (place + 1) (Last («end».Trap trap.Stack h.site)) (done s m h place f w (line_inst (length allocas) Alloca))
+    after : Bool → Type 0
+    after b = Follows (allocas ++ true ∷ []) (place + 1) (if b then Last («end».Trap trap.Stack h.site) else Next us ds) step
+
+    came : (b : Bool) → fits Stack 4 w ≡ b → step ≡ moved s m h.site place f (Some x) (1 ∷ []) (if b then Gives (next_base Stack w) grown else traps trap.Stack h.site w)
+    came b e = ap (λ b. moved s m h.site place f (Some x) (1 ∷ []) (if b then Gives (next_base Stack w) grown else traps trap.Stack h.site w)) e
+
+    stops : 65536 ≤ length cells → after true
     stops le = (w, came false (fits_no_more w (length cells) sh.memory.allocs le), sh.memory.quiet)
 
-    longer : length (cells ++ made_word s.fill (4 * length cells) ∷ []) ≡ suc (length cells)
+    longer : length ds ≡ suc (length cells)
     longer = length-append cells (made_word s.fill (4 * length cells) ∷ []) ∙ (let e : length cells + 1 ≡ suc (length cells) = omega arith in e)
 
     base_is : next_base Stack w ≡ base + 16 * length cells
     base_is = ap (λ n. base + n) (ap (used Stack) sh.memory.allocs ∙ used_all (length cells))
 
-    remembered : length cells < 65536 → Cells (cells ++ made_word s.fill (4 * length cells) ∷ []) (make_unset s.fill Stack 4 w)
+    remembered : length cells < 65536 → Cells ds grown
     remembered lt = record {
       room = omega (arith, lt, longer);
       allocs = ap₂ (λ as' b. as' ++ record { base = b; size = 4; area = Stack; live = true } ∷ []) sh.memory.allocs base_is ∙ ap allocs_of (sym longer);
       made = omega (arith, sh.memory.made, longer);
       words = words_made w.bytes s.fill cells (next_base Stack w) w.made sh.memory.words base_is sh.memory.made;
-      quiet = still_quiet w (make_unset s.fill Stack 4 w) refl refl refl sh.memory.quiet;
+      quiet = still_quiet w grown refl refl refl sh.memory.quiet;
     }
 
-    goes : length cells < 65536 → Follows (allocas ++ true ∷ []) (place + 1) (Next (vs ++ (0x720000000000 + 16 * length cells) ∷ []) (cells ++ made_word s.fill (4 * length cells) ∷ [])) (done s m h place f w (line_inst (length allocas) Alloca))
+    goes : length cells < 65536 → after false
     goes lt = (
-      with_value f (result_name (length allocas)) (base + 16 * length cells),
-      make_unset s.fill Stack 4 w,
-      came true (fits_more w (length cells) sh.memory.allocs lt) ∙ ap (λ v. More (at (place + 1) (with_value f (result_name (length allocas)) v) (make_unset s.fill Stack 4 w))) base_is,
+      with_value f x (base + 16 * length cells),
+      grown,
+      came true (fits_more w (length cells) sh.memory.allocs lt) ∙ ap (λ v. More (at (place + 1) (with_value f x v) grown)) base_is,
       record {
-        results = more_results allocas vs f (length cells) (length (cells ++ made_word s.fill (4 * length cells) ∷ [])) (base + 16 * length cells) true sh.results (omega (arith, longer))
-        (λ e. (length cells, omega (arith, longer), refl));
+        results = more_results allocas vs f (length cells) (length ds) (base + 16 * length cells) true sh.results (omega (arith, longer)) (λ e. (length cells, omega (arith, longer), refl));
         memory = remembered lt;
-      })
+      },
+    )
 
 not_true : false ≡ true → ⊥
 not_true e = grind arith
@@ -215,14 +211,16 @@ load_line s m h allocas vs cells place k f w addr sh =
     let a_is = read_address s f vs k p.0 (sh.results.values k) p.2 (omega (arith, p.1, sh.memory.room)) in
     let x = result_name (length allocas) in
     let v = slice_index cells (cell_of vs (operand.Local (result_name k))) in
-    let v_is : number_at w.bytes a 4 % 2 ^ 32 ≡ v = ap (λ b. number_at w.bytes b 4 % 2 ^ 32) a_is ∙ sh.memory.words p.0 p.1 ∙ ap (slice_index cells) (sym (address_cell vs k p.0 p.2)) in
-    (with_value f x v, w,
-    ap (λ b. moved s m h.site place f (Some x) (a ∷ []) (if b then Gives (number_at w.bytes a 4 % 2 ^ 32) w else traps trap.BadAddress h.site w)) (good_at w (length cells) p.0 a sh.memory.allocs p.1 a_is)
-    ∙ ap (λ u. More (at (place + 1) (with_value f x u) w)) v_is,
-    record {
-      results = more_results allocas vs f (length cells) (length cells) v false sh.results (omega arith) (λ e. absurd (not_true e));
-      memory = sh.memory;
-    })
+    let v_is : number_at w.bytes a 4 % 2 ^ 32 ≡ v = ap (λ b. number_at w.bytes b 4 % 2 ^ 32) a_is ∙ sh.memory.words p.0 p.1 ∙ ap (slice_index cells) (sym (address_cell vs k p.0 p.2)) in (
+      with_value f x v,
+      w,
+      ap (λ b. moved s m h.site place f (Some x) (a ∷ []) (if b then Gives (number_at w.bytes a 4 % 2 ^ 32) w else traps trap.BadAddress h.site w)) (good_at w (length cells) p.0 a sh.memory.allocs p.1 a_is)
+          ∙ ap (λ u. More (at (place + 1) (with_value f x u) w)) v_is,
+      record {
+        results = more_results allocas vs f (length cells) (length cells) v false sh.results (omega arith) (λ e. absurd (not_true e));
+        memory = sh.memory;
+      },
+    )
 
 store_line : (s : Setting) (m : Module) (h : Here) (allocas : List Bool) (vs cells : List ℕ) (place k : ℕ) (v : Word) (f : Name → ℕ) (w : World)
     → IsAddress allocas k → Shows allocas vs cells f w
@@ -236,20 +234,22 @@ store_line s m h allocas vs cells place k v f w addr sh =
     let small : n < 2 ^ 32 = omega arith in
     let len = length-set cells p.0 n in
     let w' = store_number a 4 n w in
-    subst (λ c. Follows allocas (place + 1) (Next vs (slice_set cells c n)) (done s m h place f w (line_inst (length allocas) (Store v k)))) (sym (address_cell vs k p.0 p.2))
-    (f, w',
-    ap (λ b. moved s m h.site place f None (operand_word s f 32 (word_operand v) ∷ a ∷ []) (if b then Does (store_number a 4 (operand_word s f 32 (word_operand v)) w) else traps trap.BadAddress h.site w)) (good_at w (length cells) p.0 a sh.memory.allocs p.1 a_is)
-    ∙ ap (λ u. More (at (place + 1) f (store_number a 4 u w))) n_is,
-    record {
-      results = subst (λ c. Results allocas vs f c) (sym len) sh.results;
-      memory = record {
-        room = omega (arith, len, sh.memory.room);
-        allocs = sh.memory.allocs ∙ ap allocs_of (sym len);
-        made = sh.memory.made ∙ ap (λ c. 4 * c) (sym len);
-        words = words_stored w.bytes cells a p.0 n sh.memory.words a_is p.1 small;
-        quiet = still_quiet w w' refl refl refl sh.memory.quiet;
-      };
-    })
+    subst (λ c. Follows allocas (place + 1) (Next vs (slice_set cells c n)) (done s m h place f w (line_inst (length allocas) (Store v k)))) (sym (address_cell vs k p.0 p.2)) (
+      f,
+      w',
+      ap (λ b. moved s m h.site place f None (operand_word s f 32 (word_operand v) ∷ a ∷ []) (if b then Does (store_number a 4 (operand_word s f 32 (word_operand v)) w) else traps trap.BadAddress h.site w)) (good_at w (length cells) p.0 a sh.memory.allocs p.1 a_is)
+          ∙ ap (λ u. More (at (place + 1) f (store_number a 4 u w))) n_is,
+      record {
+        results = subst (λ c. Results allocas vs f c) (sym len) sh.results;
+        memory = record {
+          room = omega (arith, len, sh.memory.room);
+          allocs = sh.memory.allocs ∙ ap allocs_of (sym len);
+          made = sh.memory.made ∙ ap (λ c. 4 * c) (sym len);
+          words = words_stored w.bytes cells a p.0 n sh.memory.words a_is p.1 small;
+          quiet = still_quiet w w' refl refl refl sh.memory.quiet;
+        };
+      },
+    )
 
 logic_gives : (o : Logic) (a b : ℕ) → binary_of (logic_op o) no_flags 32 a b ≡ Ok (combined (logic_op o) a b)
 unfolding binary_of or_of
@@ -264,14 +264,16 @@ combine_line s m h allocas vs cells place o v u f w sh =
     let x = result_name (length allocas) in
     let a = operand_word s f 32 (word_operand v) in
     let b = operand_word s f 32 (word_operand u) in
-    let n = combined (logic_op o) (word_of vs (word_operand v)) (word_of vs (word_operand u)) in
-    (with_value f x n, w,
-    ap (λ r. moved s m h.site place f (Some x) (a ∷ b ∷ []) (gives h.site r w)) (logic_gives o a b)
-    ∙ ap₂ (λ p q. More (at (place + 1) (with_value f x (combined (logic_op o) p q)) w)) (read_word s f vs v sh.results.values) (read_word s f vs u sh.results.values),
-    record {
-      results = more_results allocas vs f (length cells) (length cells) n false sh.results (omega arith) (λ e. absurd (not_true e));
-      memory = sh.memory;
-    })
+    let n = combined (logic_op o) (word_of vs (word_operand v)) (word_of vs (word_operand u)) in (
+      with_value f x n,
+      w,
+      ap (λ r. moved s m h.site place f (Some x) (a ∷ b ∷ []) (gives h.site r w)) (logic_gives o a b)
+          ∙ ap₂ (λ p q. More (at (place + 1) (with_value f x (combined (logic_op o) p q)) w)) (read_word s f vs v sh.results.values) (read_word s f vs u sh.results.values),
+      record {
+        results = more_results allocas vs f (length cells) (length cells) n false sh.results (omega arith) (λ e. absurd (not_true e));
+        memory = sh.memory;
+      },
+    )
 
 -- a line's instruction
 pub line_follows : (s : Setting) (m : Module) (h : Here) (allocas : List Bool) (l : Line) (vs cells : List ℕ) (place : ℕ) (f : Name → ℕ) (w : World)
@@ -287,8 +289,9 @@ pub return_follows : (s : Setting) (m : Module) (h : Here) (allocas allocas' : L
     → h.main ≡ true → Shows allocas vs cells f w
     → Follows allocas' (place + 1) (step_of s.fill h.site vs cells (ret_inst last).op) (done s m h place f w (ret_inst last))
 return_follows s m h allocas allocas' last vs cells place f w main sh =
-    let a = operand_word s f 32 (word_operand last) in
-    (w,
-    ap (λ b. moved s m h.site place f None (a ∷ []) (if b then Ends («end».Exit a) w else Leaves w)) main
-    ∙ ap (λ n. Stop («end».Exit n) w) (read_word s f vs last sh.results.values),
-    sh.memory.quiet)
+    let a = operand_word s f 32 (word_operand last) in (
+      w,
+      ap (λ b. moved s m h.site place f None (a ∷ []) (if b then Ends («end».Exit a) w else Leaves w)) main
+          ∙ ap (λ n. Stop («end».Exit n) w) (read_word s f vs last sh.results.values),
+      sh.memory.quiet,
+    )

@@ -1,8 +1,7 @@
 -- The interpreter's run of a module of the first form is the plain one.
-use Rattle.std.proofs.Common.{◌≡◌, ℕ, zero, suc, ◌+◌, ◌<◌, ◌≤◌, Bool, true, false, List, [], ◌∷◌, ◌++◌, length, take, drop, refl, sym, ap, ◌∙◌, subst, arith, length-append, append_assoc, get_or, drop-cons}
-use Rattle.std.proofs.Math.Path.{ap₂}
+use Rattle.std.proofs.Common.{◌≡◌, ℕ, zero, suc, ◌+◌, ◌<◌, ◌≤◌, Bool, false, List, [], ◌∷◌, ◌++◌, length, take, drop, refl, sym, ap, ◌∙◌, subst, arith, length-append, append_assoc, get_or, drop-cons}
 use Rattle.std.proofs.Math.Seq.{drop-append_seam, take-append_seam}
-use Rattle.std.specs.Prelude.{if◌then◌else◌, min, slice_index, slice_get, Option, Some, None}
+use Rattle.std.specs.Prelude.{if◌then◌else◌, Option, Some, None}
 use Rattle.ms_ir.specs.declared.syntax.Name.{Name}
 use Rattle.ms_ir.specs.declared.syntax.Inst.{Inst}
 use Rattle.ms_ir.specs.declared.syntax.Module.{Module}
@@ -12,12 +11,12 @@ use Rattle.ms_ir.specs.declared.runs.Setup.{Setup}
 use Rattle.ms_ir.specs.declared.runs.RunResult.{RunResult}
 use Rattle.ms_ir.specs.World.{World, Setting, Here, result}
 use Rattle.ms_ir.specs.Code.{insts_at, one_unmarked, over_insts}
-use Rattle.ms_ir.specs.Act.{plain_reading, act}
-use Rattle.ms_ir.specs.Control.{here, moves}
-use Rattle.ms_ir.specs.Plain.{PlainState, Stepped, More, Stop, through, plain_step, plain_moved, act_marked, slots_after, go_on, run, setting, start_world, plain}
-use Rattle.ms_ir.specs.First.{Word, Line, Alloca, Load, Store, Combine, IsFirst, IsLine, AreLines, after_line, after_lines, line_inst, lines_insts, ret_inst, main_module, module_of}
+use Rattle.ms_ir.specs.Control.{here}
+use Rattle.ms_ir.specs.Plain.{PlainState, Stepped, plain_step, go_on, run, setting, start_world, plain}
+use Rattle.ms_ir.specs.First.{Word, Line, Alloca, Load, Store, Combine, IsFirst, AreLines, after_line, line_inst, lines_insts, ret_inst, main_module, module_of}
 use Rattle.ms_first.specs.MachineSteps.{Step, Next, Last, step_of, Took}
-use Rattle.ms_first.proofs.MachineLines.{frame_at, at, Quiet, Results, Cells, Shows, Follows, words_of, done, line_follows, return_follows}
+use Rattle.ms_first.proofs.MachineInsts.{unmarked_step}
+use Rattle.ms_first.proofs.MachineLines.{frame_at, at, Quiet, Shows, Follows, done, line_follows, return_follows}
 
 -- the end of a run through these instructions, where it has words already
 abbrev pub continued : Step → (List ℕ → List ℕ → End) → End
@@ -63,13 +62,7 @@ one_step : (s : Setting) (all before rest : List Inst) (i : Inst) (f : Name → 
     → plain_step s (main_module all) (at (length before) f w)
     ≡ done s (main_module all) (here_at s (main_module all) (length before) f) (length before) f w i
 one_step s all before rest i f w e unmarked =
-    let m = main_module all in
-    let h = here_at s m (length before) f in
-    let words = words_of s f h.root i.op in
-    ap (λ is. through s m is (at (length before) f w)) (ap (drop (length before)) e ∙ drop-append_seam before (i ∷ rest))
-    ∙ ap (λ b. plain_moved (if b then slots_after i.op words (λ a. 0) else (λ a. 0))
-    (moves plain_reading s m h.site i.result words (λ v u. v) (λ v u. u) (frame_at (length before) f) [] (if b then act_marked s h i.op words (λ a. 0) w else act s h i.op words w))
-    (if b then through s m rest else More)) unmarked
+    unmarked_step s (main_module all) (frame_at (length before) f) [] (λ a. 0) w i rest (ap (drop (length before)) e ∙ drop-append_seam before (i ∷ rest)) unmarked
 
 line_unmarked : (k : ℕ) (l : Line) → (line_inst k l).marked ≡ false
 line_unmarked k Alloca = refl

@@ -14,6 +14,8 @@ use Rattle.ms_ir.specs.declared.syntax.Op.{Op}
 use Rattle.ms_ir.specs.declared.syntax.Op.TheVariants as op
 use Rattle.ms_ir.specs.declared.runs.End.{End}
 use Rattle.ms_ir.specs.declared.runs.End.TheVariants as «end»
+use Rattle.ms_ir.specs.World.{Stack}
+use Rattle.ms_ir.specs.Memory.{area_base}
 
 -- the number of an operand; results count from 1
 abbrev pub number_of : List ℕ → Operand → ℕ
@@ -26,7 +28,7 @@ word_of vs o = number_of vs o % 2 ^ 32
 
 -- the place of the allocation at an address, one in each sixteen bytes of the stack
 abbrev pub cell_of : List ℕ → Operand → ℕ
-cell_of vs o = (number_of vs o - 0x720000000000) / 16
+cell_of vs o = (number_of vs o - area_base Stack) / 16
 
 -- the word of the bytes from the k-th made byte on
 abbrev pub made_word : List ℕ → ℕ → ℕ
@@ -49,7 +51,7 @@ pub data Step : Type 0 where
 abbrev pub alloca_step : List ℕ → ℕ → List ℕ → List ℕ → Step
 alloca_step fill site vs cells =
     if leb 65536 (length cells) then Last («end».Trap trap.Stack site) else
-    Next (vs ++ (0x720000000000 + 16 * length cells) ∷ []) (cells ++ made_word fill (4 * length cells) ∷ [])
+    Next (vs ++ (area_base Stack + 16 * length cells) ∷ []) (cells ++ made_word fill (4 * length cells) ∷ [])
 
 abbrev pub step_of : List ℕ → ℕ → List ℕ → List ℕ → Op → Step
 step_of fill site vs cells (op.Alloca t u c) = alloca_step fill site vs cells

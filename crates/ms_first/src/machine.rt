@@ -221,3 +221,6 @@ pub fn run(alloc: Global, m: &Module, s: &Setup) -> Result<RunResult, NoMemory>
     // The last instruction ends a run: what comes here has no step left for the next one.
     Ok(finished(alloc, End::Spent))
 }
+
+#[cfg(test)]
+mod tests;

@@ -1,4 +1,4 @@
-use Rattle.std.proofs.Common.{◌≡◌, ◌<◌, ◌^◌, ◌%◌, ◌*◌, ◌+◌, ℕ, arith, sym, ap, ◌∙◌, refl, List, length}
+use Rattle.std.proofs.Common.{◌≡◌, ◌<◌, ◌%◌, ◌*◌, ◌+◌, ℕ, arith, ap, refl, List, length}
 use Rattle.std.specs.Prelude.{slice_index}
 use Rattle.ms_bits.specs.Fill.{made_byte}
 use Rattle.ms_first.specs.MachineSteps.{made_word as made_word_of}

@@ -1,4 +1,4 @@
-use Rattle.std.proofs.Common.{◌≡◌, sym, ap, ◌∙◌, subst}
+use Rattle.std.proofs.Common.{sym, ap, ◌∙◌, subst}
 use Rattle.ms_first.specs.MachineSteps.{step_of, Took}
 use Rattle.ms_first.proofs.MachineRuns.{ended, ended_is, ends_here, spent_here, first_runs}
 use Rattle.ms_first.proofs.machine.run.Goals as goal

@@ -1,4 +1,4 @@
-use Rattle.std.proofs.Common.{◌≡◌, ℕ, ◌+◌, ◌≤◌, [], length, drop, take}
+use Rattle.std.proofs.Common.{◌≡◌, ◌+◌, ◌≤◌, [], length, drop, take}
 use Rattle.ms_ir.specs.Code.{insts_at}
 use Rattle.ms_first.proofs.MachineRuns.{end_of}
 use Rattle.ms_first.proofs.machine.run.Given as goal
