@@ -6,6 +6,8 @@ pub mod copying;
 pub mod runs;
 pub mod shared;
 pub mod syntax;
+#[cfg(test)]
+mod tests;
 
 pub use calls::{External, RuntimeFn};
 pub use runs::{End, Origin, Place, Report, Root, RootKind, RunResult, Setup};
