@@ -7,6 +7,8 @@ pub mod examples;
 pub mod runs;
 pub mod shared;
 pub mod syntax;
+#[cfg(test)]
+mod tests;
 
 pub use calls::{External, RuntimeFn};
 pub use runs::{End, Origin, Place, Report, Root, RootKind, RunResult, Setup};
