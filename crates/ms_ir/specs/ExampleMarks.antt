@@ -5,6 +5,7 @@ use Rattle.ms_bits.specs.declared.operations.CastOp.TheVariants as cast
 use Rattle.ms_bits.specs.declared.operations.Pred.TheVariants as predicate
 use Rattle.ms_ir.specs.declared.runs.RunResult.{RunResult}
 use Rattle.ms_ir.specs.declared.runs.End.TheVariants as «end»
+use Rattle.ms_ir.specs.declared.syntax.Decl.{Decl}
 use Rattle.ms_ir.specs.declared.syntax.GlobalVar.{GlobalVar}
 use Rattle.ms_ir.specs.declared.syntax.Init as init
 use Rattle.ms_ir.specs.declared.syntax.Inst.{Inst}
@@ -36,21 +37,25 @@ inserts digits o = record { op = o; result = Some (inserted_name digits); marked
 abbrev pub marked : Op → Inst
 marked o = record { op = o; result = None; marked = true }
 
+-- a marked call without a result
+abbrev pub inserts_call : Decl → List Operand → Inst
+inserts_call callee arguments = marked (call callee arguments)
+
 -- eight zero bytes on the heap, at the address with the number 1; marked instructions; then `main` returns 0
 abbrev pub on_heap : List Inst → Module
 on_heap insts = main_of (sets 1 (call calloc (int 1 ∷ int 8 ∷ [])) ∷ (insts ++ does (ret (int 0)) ∷ [])) (calloc ∷ [])
 
 -- those of the eight bytes with the numbers from one to below another are poisoned with an origin
 abbrev pub poisons : ℕ → ℕ → ℕ → Inst
-poisons from to origin = marked (call msan_poison (local 1 ∷ int from ∷ int to ∷ int origin ∷ []))
+poisons from to origin = inserts_call msan_poison (local 1 ∷ int from ∷ int to ∷ int origin ∷ [])
 
 -- a check of the eight bytes, of the kind 9, which says the site 77
 abbrev pub looks : Inst
-looks = marked (call msan_check_memory (local 1 ∷ int 8 ∷ int 9 ∷ int 77 ∷ []))
+looks = inserts_call msan_check_memory (local 1 ∷ int 8 ∷ int 9 ∷ int 77 ∷ [])
 
 -- a check of a mask, of the kind 1 and part 0, which says the site 3
 abbrev pub checks : Operand → ℕ → Operand → Inst
-checks mask width origin = marked (call msan_check (mask ∷ int width ∷ origin ∷ int 1 ∷ int 0 ∷ int 3 ∷ []))
+checks mask width origin = inserts_call msan_check (mask ∷ int width ∷ origin ∷ int 1 ∷ int 0 ∷ int 3 ∷ [])
 
 -- the address of the shadow of the first of the eight bytes is the result with the digits 3
 abbrev pub shadow_address : List Inst
@@ -62,10 +67,10 @@ shadow_address =
 -- every runtime function on memory, with ranges that aren't good
 abbrev pub bad_ranges : List Inst
 bad_ranges =
-    marked (call msan_poison (operand.Null ∷ int 0 ∷ int 8 ∷ int 4 ∷ [])) ∷ marked (call msan_poison (local 1 ∷ int 4 ∷ int 9 ∷ int 4 ∷ []))
-    ∷ marked (call msan_unpoison (operand.Null ∷ int 8 ∷ [])) ∷ marked (call msan_copy (local 1 ∷ operand.Null ∷ int 8 ∷ []))
-    ∷ marked (call msan_fill (operand.Null ∷ int 8 ∷ int 255 ∷ int 4 ∷ int 5 ∷ [])) ∷ marked (call msan_check_memory (local 1 ∷ int 9 ∷ int 9 ∷ int 5 ∷ []))
-    ∷ marked (call msan_check_string (operand.Null ∷ int 5 ∷ [])) ∷ marked (call msan_store_origin (operand.Null ∷ int 255 ∷ int 4 ∷ int 5 ∷ [])) ∷ []
+    inserts_call msan_poison (operand.Null ∷ int 0 ∷ int 8 ∷ int 4 ∷ []) ∷ inserts_call msan_poison (local 1 ∷ int 4 ∷ int 9 ∷ int 4 ∷ [])
+    ∷ inserts_call msan_unpoison (operand.Null ∷ int 8 ∷ []) ∷ inserts_call msan_copy (local 1 ∷ operand.Null ∷ int 8 ∷ [])
+    ∷ inserts_call msan_fill (operand.Null ∷ int 8 ∷ int 255 ∷ int 4 ∷ int 5 ∷ []) ∷ inserts_call msan_check_memory (local 1 ∷ int 9 ∷ int 9 ∷ int 5 ∷ [])
+    ∷ inserts_call msan_check_string (operand.Null ∷ int 5 ∷ []) ∷ inserts_call msan_store_origin (operand.Null ∷ int 255 ∷ int 4 ∷ int 5 ∷ []) ∷ []
 
 -- a run without output that returned 0 and counted blind uses
 abbrev pub counted : ℕ → RunResult
@@ -80,7 +85,7 @@ branch_on_unset_checked = record {
   funcs = main_func (
       block 0 (
       sets 1 (alloca i32)
-      ∷ marked (call msan_poison (local 1 ∷ int 0 ∷ int 4 ∷ int 1 ∷ []))
+      ∷ inserts_call msan_poison (local 1 ∷ int 0 ∷ int 4 ∷ int 1 ∷ [])
       ∷ (shadow_address
       ++ inserts (codes "4") (op.Load i32 (inserted (codes "3"))) ∷ inserts (codes "5") (convert cast.Zext i32 (inserted (codes "4")) i64)
       ∷ inserts (codes "6") (call msan_load_origin (local 1 ∷ inserted (codes "5") ∷ []))
@@ -91,7 +96,7 @@ branch_on_unset_checked = record {
       ∷ inserts (codes "11") (combine binary.And i1 (inserted (codes "9")) (inserted (codes "10")))
       ∷ sets 3 (icmp predicate.Eq i32 (local 2) (int 0))
       ∷ inserts (codes "12") (convert cast.Zext i1 (inserted (codes "11")) i64)
-      ∷ marked (call msan_check (inserted (codes "12") ∷ int 1 ∷ inserted (codes "6") ∷ int 1 ∷ int 0 ∷ int 4 ∷ []))
+      ∷ inserts_call msan_check (inserted (codes "12") ∷ int 1 ∷ inserted (codes "6") ∷ int 1 ∷ int 0 ∷ int 4 ∷ [])
       ∷ does (branch 3 4 5) ∷ []))
       ∷ block 4 (does (ret (int 0)) ∷ []) ∷ block 5 (does (ret (int 1)) ∷ []) ∷ []) ∷ [];
 }
@@ -149,7 +154,7 @@ nested_call_checked = record {
       ∷ gets_slot (codes "1") result_mask ∷ gets_slot (codes "2") result_origin ∷ puts_slot (int 0) (mask_slot 2) ∷ puts_slot (int 0) (origin_slot 2)
       ∷ sets 2 (op.Call (Some i32) (name (codes "g")) ((i32, int 3) ∷ (i32, int 4) ∷ (i32, int 5) ∷ []))
       ∷ gets_slot (codes "3") result_mask ∷ gets_slot (codes "4") result_origin ∷ inserts (codes "5") (convert cast.Zext i32 (inserted (codes "1")) i64)
-      ∷ marked (call msan_check (inserted (codes "5") ∷ int 32 ∷ inserted (codes "2") ∷ int 8 ∷ int 0 ∷ int 4 ∷ []))
+      ∷ inserts_call msan_check (inserted (codes "5") ∷ int 32 ∷ inserted (codes "2") ∷ int 8 ∷ int 0 ∷ int 4 ∷ [])
       ∷ does (ret (local 1)) ∷ []) ∷ [])
       ∷ [];
 }
