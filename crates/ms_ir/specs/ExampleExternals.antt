@@ -59,6 +59,10 @@ zeroed = main_of (
     sets 1 (call calloc (int 1 ∷ int 4 ∷ [])) ∷ sets 2 (call malloc (int 4 ∷ [])) ∷ sets 3 (op.Load i32 (local 1)) ∷ sets 4 (op.Load i32 (local 2))
     ∷ sets 5 (combine binary.Add i32 (local 3) (local 4)) ∷ does (ret (local 5)) ∷ []) (calloc ∷ malloc ∷ [])
 
+-- a block of four bytes is made and ended, and what comes then
+abbrev pub freed : List Inst → Module
+freed insts = main_of (calls 1 malloc (int 4 ∷ []) ∷ calls 2 free (local 1 ∷ []) ∷ (insts ++ does (ret (int 0)) ∷ [])) (malloc ∷ free ∷ [])
+
 -- a block of four bytes that hold 7 is made one of eight, whose second word has the number 3
 abbrev pub grown : List Inst → Module
 grown insts = main_of (

@@ -18,8 +18,8 @@ use Rattle.ms_ir.specs.declared.syntax.Operand.{Operand}
 use Rattle.ms_ir.specs.declared.syntax.Operand.TheVariants as operand
 use Rattle.ms_ir.specs.declared.syntax.Ty.{Ty}
 use Rattle.ms_ir.specs.declared.syntax.Ty as ty
-use Rattle.ms_ir.specs.ExampleParts.{i1, i32, i64, array, local, int, undef, sets, does, binary as combine, icmp, convert, alloca, branch, ret, name, call, block, main_func, main_of}
-use Rattle.ms_ir.specs.ExampleCalls.{calloc, msan_check, msan_check_memory, msan_check_string, msan_poison, msan_unpoison, msan_copy, msan_fill, msan_store_origin, msan_load_origin}
+use Rattle.ms_ir.specs.ExampleParts.{byte_at, i16, i1, i32, i64, array, local, int, undef, sets, does, binary as combine, icmp, convert, alloca, branch, ret, name, call, block, main_func, main_of}
+use Rattle.ms_ir.specs.ExampleCalls.{msan_size, msan_copy, msan_fill, calloc, msan_check, msan_check_memory, msan_check_string, msan_poison, msan_unpoison, msan_store_origin, msan_load_origin}
 
 -- the name of the inserted result with these digits
 abbrev pub inserted_name : List ℕ → Name
@@ -57,12 +57,48 @@ looks = inserts_call msan_check_memory (local 1 ∷ int 8 ∷ int 9 ∷ int 77 �
 abbrev pub checks : Operand → ℕ → Operand → Inst
 checks mask width origin = inserts_call msan_check (mask ∷ int width ∷ origin ∷ int 1 ∷ int 0 ∷ int 3 ∷ [])
 
+-- the first n of the eight bytes are clean
+abbrev pub unpoisons : ℕ → Inst
+unpoisons n = inserts_call msan_unpoison (local 1 ∷ int n ∷ [])
+
+-- shadow and origins of the first n of the eight bytes are copied to the fifth and those behind it
+abbrev pub copies_up : ℕ → List Inst
+copies_up n = inserts (codes "1") (byte_at (local 1) 4) ∷ inserts_call msan_copy (inserted (codes "1") ∷ local 1 ∷ int n ∷ []) ∷ []
+
+-- the first n of the eight bytes are filled with a mask's low byte; the site is 5
+abbrev pub fills : (n mask origin : ℕ) → Inst
+fills n mask origin = inserts_call msan_fill (local 1 ∷ int n ∷ int mask ∷ int origin ∷ int 5 ∷ [])
+
+-- the cells of those of the eight bytes that a mask names get an origin; the site is 5
+abbrev pub stores_origin : (mask origin : ℕ) → Inst
+stores_origin mask origin = inserts_call msan_store_origin (local 1 ∷ int mask ∷ int origin ∷ int 5 ∷ [])
+
+-- a check of the string at the first of the eight bytes, which says the site 6
+abbrev pub looks_at_string : Inst
+looks_at_string = inserts_call msan_check_string (local 1 ∷ int 6 ∷ [])
+
+-- a check of the mask 1 with the origin of the first of the eight bytes that a mask names
+abbrev pub checks_loaded_origin : ℕ → List Inst
+checks_loaded_origin mask =
+    inserts (codes "1") (call msan_load_origin (local 1 ∷ int mask ∷ [])) ∷ checks (int 1) 1 (inserted (codes "1")) ∷ []
+
+-- a check of the size of the heap block at an address, as if it were a mask
+abbrev pub checks_size : Operand → List Inst
+checks_size address = inserts (codes "1") (call msan_size (address ∷ [])) ∷ checks (inserted (codes "1")) 64 (int 0) ∷ []
+
 -- the address of the shadow of the first of the eight bytes is the result with the digits 3
 abbrev pub shadow_address : List Inst
 shadow_address =
     inserts (codes "1") (convert cast.PtrToInt ty.Ptr (local 1) i64)
     ∷ inserts (codes "2") (combine binary.Xor i64 (inserted (codes "1")) (int 0x500000000000))
     ∷ inserts (codes "3") (convert cast.IntToPtr i64 (inserted (codes "2")) ty.Ptr) ∷ []
+
+-- a check of the shadow of the first two of the eight bytes, which is loaded as one word
+abbrev pub checks_loaded_shadow : List Inst
+checks_loaded_shadow =
+    shadow_address
+    ++ inserts (codes "4") (op.Load i16 (inserted (codes "3"))) ∷ inserts (codes "5") (convert cast.Zext i16 (inserted (codes "4")) i64)
+    ∷ checks (inserted (codes "5")) 16 (int 4) ∷ []
 
 -- every runtime function on memory, with ranges that aren't good
 abbrev pub bad_ranges : List Inst
@@ -167,3 +203,7 @@ with_slots insts = record {
   decls = msan_check ∷ [];
   funcs = main_func (block 0 (insts ++ does (ret (int 0)) ∷ []) ∷ []) ∷ [];
 }
+
+-- a check of a word of 64 bits that a slot holds
+abbrev pub checks_slot : Operand → List Inst
+checks_slot slot = inserts (codes "1") (op.Load i64 slot) ∷ checks (inserted (codes "1")) 64 (int 4) ∷ []

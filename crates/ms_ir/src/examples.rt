@@ -7,10 +7,10 @@ ghost use Rattle.ms_ir.specs.declared.syntax.Op.TheVariants as op;
 ghost use Rattle.ms_ir.specs.declared.syntax.Operand.TheVariants as operand;
 ghost use Rattle.ms_ir.specs.declared.syntax.Ty as ty;
 ghost use Rattle.ms_ir.specs.ExampleModules.{returns_zero, branch_on_unset, masked_to_zero, ordered_compare, set_bit_is_not_zero, select_undef, two_unset, shared_cell, lost_in_addition, recursion, nested_call, write_with_gap, store_to_shadow, clang_unoptimised, store_and_load, sum_wraps, undef_divisor, frozen, three_branches, undef_sum, undef_stored, carry_of_undef};
-ghost use Rattle.ms_ir.specs.ExampleExternals.{returns_is_null, returns_word_at, returns_low, heap_filled, zeroed, grown, grown_too_far, calls_on_two_bytes, calls_on_four_bytes, calls_on_word, reads_twice, made_anew, own_malloc, chooses, swaps, takes_room_back, reads_room_of_callee, odd_width, steps_back, reads_across, with_globals, inner_word, frame_at_call, frames_at_call, recursion_world, called_above};
+ghost use Rattle.ms_ir.specs.ExampleExternals.{returns_is_null, returns_word_at, returns_low, heap_filled, zeroed, freed, grown, grown_too_far, calls_on_two_bytes, calls_on_four_bytes, calls_on_word, reads_twice, made_anew, own_malloc, chooses, swaps, takes_room_back, reads_room_of_callee, odd_width, steps_back, reads_across, with_globals, inner_word, frame_at_call, frames_at_call, recursion_world, called_above};
 ghost use Rattle.ms_ir.specs.ExampleCalls as calls;
-ghost use Rattle.ms_ir.specs.ExampleMarks.{inserts, inserts_call, inserted, marked, on_heap, poisons, looks, checks, shadow_address, bad_ranges, counted, branch_on_unset_checked, nested_call_checked, with_slots, mask_slot, result_mask};
-ghost use Rattle.ms_ir.specs.ExampleParts.{i8, i16, i32, i64, array, struct_of_three, int, local, sets, does, convert, call, alloca, byte_at, ret, name, main_of, returns, unreachable, calls_first, one_to_five, defaults, filled, fed, steps, exits, prints, spent, trapped, reported, report, report_unknown};
+ghost use Rattle.ms_ir.specs.ExampleMarks.{inserts, inserts_call, inserted, unpoisons, copies_up, fills, stores_origin, looks_at_string, checks_loaded_origin, checks_loaded_shadow, checks_slot, checks_size, marked, on_heap, poisons, looks, checks, shadow_address, bad_ranges, counted, branch_on_unset_checked, nested_call_checked, with_slots, mask_slot, result_mask};
+ghost use Rattle.ms_ir.specs.ExampleParts.{i8, i32, i64, array, struct_of_three, int, local, sets, does, call, alloca, ret, name, main_of, returns, unreachable, calls_first, one_to_five, defaults, filled, fed, steps, exits, prints, spent, trapped, reported, report, report_unknown};
 ghost use Rattle.ms_ir.specs.Act.{plain_reading};
 ghost use Rattle.ms_ir.specs.Code.{strip, count_roots, root_at, site_at};
 ghost use Rattle.ms_ir.specs.Control.{On, Over, entered};
@@ -82,8 +82,8 @@ pub fn heap()
     ensures realloc_of_null { plain (calls_first calls.realloc (operand.Null ∷ int 4 ∷ []) (returns_word_at 1)) one_to_five ≡ exits 0x04030201 }
     ensures realloc_of_no_block { plain (calls_on_word calls.realloc (local 1 ∷ int 4 ∷ []) (returns_word_at 2)) defaults ≡ trapped trap.BadFree 2 }
     ensures free_of_null { plain (calls_first calls.free (operand.Null ∷ []) (does (ret (int 3)) ∷ [])) defaults ≡ exits 3 }
-    ensures free_twice { plain (main_of (sets 1 (call calls.malloc (int 4 ∷ [])) ∷ does (call calls.free (local 1 ∷ [])) ∷ does (call calls.free (local 1 ∷ [])) ∷ does (ret (int 0)) ∷ []) (calls.malloc ∷ calls.free ∷ [])) defaults ≡ trapped trap.BadFree 3 }
-    ensures read_after_free { plain (main_of (sets 1 (call calls.malloc (int 4 ∷ [])) ∷ does (call calls.free (local 1 ∷ [])) ∷ returns_word_at 1) (calls.malloc ∷ calls.free ∷ [])) defaults ≡ trapped trap.BadAddress 3 }
+    ensures free_twice { plain (freed (does (call calls.free (local 1 ∷ [])) ∷ [])) defaults ≡ trapped trap.BadFree 3 }
+    ensures read_after_free { plain (freed (returns_word_at 1)) defaults ≡ trapped trap.BadAddress 3 }
 {}
 
 /// The externals that copy, set and compare bytes, and the intrinsics.
@@ -151,33 +151,33 @@ pub fn runtime_functions()
     ensures check_of_nothing { plain (on_heap (checks (int 0) 3 (int 4) ∷ [])) defaults ≡ exits 0 }
     ensures check_memory { plain (on_heap (poisons 5 7 4 ∷ looks ∷ [])) defaults ≡ reported (report_unknown 77 9 5 255 8 4) }
     ensures check_memory_of_clean { plain (on_heap (looks ∷ [])) defaults ≡ exits 0 }
-    ensures check_string { plain (on_heap (poisons 0 1 4 ∷ inserts_call calls.msan_check_string (local 1 ∷ int 6 ∷ []) ∷ [])) defaults ≡ reported (report_unknown 6 10 0 255 8 4) }
-    ensures check_string_to_its_end { plain (on_heap (poisons 1 8 4 ∷ inserts_call calls.msan_check_string (local 1 ∷ int 6 ∷ []) ∷ [])) defaults ≡ exits 0 }
+    ensures check_string { plain (on_heap (poisons 0 1 4 ∷ looks_at_string ∷ [])) defaults ≡ reported (report_unknown 6 10 0 255 8 4) }
+    ensures check_string_to_its_end { plain (on_heap (poisons 1 8 4 ∷ looks_at_string ∷ [])) defaults ≡ exits 0 }
     ensures blind { plain (on_heap (inserts_call calls.msan_blind (int 0 ∷ []) ∷ inserts_call calls.msan_blind (int 2 ∷ []) ∷ [])) defaults ≡ counted 1 }
     ensures poison_of_nothing { plain (on_heap (poisons 5 5 4 ∷ looks ∷ [])) defaults ≡ exits 0 }
-    ensures unpoison { plain (on_heap (poisons 5 7 4 ∷ inserts_call calls.msan_unpoison (local 1 ∷ int 6 ∷ []) ∷ looks ∷ [])) defaults ≡ reported (report_unknown 77 9 6 255 8 4) }
-    ensures copy { plain (on_heap (poisons 0 1 4 ∷ inserts (codes "1") (byte_at (local 1) 4) ∷ inserts_call calls.msan_copy (inserted (codes "1") ∷ local 1 ∷ int 2 ∷ []) ∷ inserts_call calls.msan_unpoison (local 1 ∷ int 4 ∷ []) ∷ looks ∷ [])) defaults ≡ reported (report_unknown 77 9 4 255 8 4) }
-    ensures fill { plain (on_heap (inserts_call calls.msan_fill (local 1 ∷ int 3 ∷ int 0x1f0 ∷ int 7 ∷ int 5 ∷ []) ∷ looks ∷ [])) defaults ≡ reported (report_unknown 77 9 0 0xf0 8 7) }
-    ensures fill_with_clean { plain (on_heap (poisons 0 3 4 ∷ inserts_call calls.msan_fill (local 1 ∷ int 3 ∷ int 0x100 ∷ int 7 ∷ int 5 ∷ []) ∷ looks ∷ [])) defaults ≡ exits 0 }
-    ensures store_origin { plain (on_heap (poisons 3 8 9 ∷ inserts_call calls.msan_store_origin (local 1 ∷ int 0xff0000000000 ∷ int 7 ∷ int 5 ∷ []) ∷ inserts_call calls.msan_unpoison (local 1 ∷ int 4 ∷ []) ∷ looks ∷ [])) defaults ≡ reported (report_unknown 77 9 4 255 8 7) }
-    ensures store_origin_elsewhere { plain (on_heap (poisons 3 8 9 ∷ inserts_call calls.msan_store_origin (local 1 ∷ int 0xff0000000000 ∷ int 7 ∷ int 5 ∷ []) ∷ looks ∷ [])) defaults ≡ reported (report_unknown 77 9 3 255 8 9) }
-    ensures load_origin { plain (on_heap (poisons 4 8 9 ∷ inserts (codes "1") (call calls.msan_load_origin (local 1 ∷ int 0xff0000000000 ∷ [])) ∷ checks (int 1) 1 (inserted (codes "1")) ∷ [])) defaults ≡ reported (report_unknown 3 1 0 1 1 9) }
-    ensures size { plain (on_heap (inserts (codes "1") (call calls.msan_size (local 1 ∷ [])) ∷ checks (inserted (codes "1")) 64 (int 0) ∷ [])) defaults ≡ reported (report_unknown 3 1 0 8 64 0) }
-    ensures size_of_no_block { plain (on_heap (inserts (codes "1") (call calls.msan_size (operand.Null ∷ [])) ∷ checks (inserted (codes "1")) 64 (int 0) ∷ [])) defaults ≡ exits 0 }
+    ensures unpoison { plain (on_heap (poisons 5 7 4 ∷ unpoisons 6 ∷ looks ∷ [])) defaults ≡ reported (report_unknown 77 9 6 255 8 4) }
+    ensures copy { plain (on_heap (poisons 0 1 4 ∷ (copies_up 2 ++ unpoisons 4 ∷ looks ∷ []))) defaults ≡ reported (report_unknown 77 9 4 255 8 4) }
+    ensures fill { plain (on_heap (fills 3 0x1f0 7 ∷ looks ∷ [])) defaults ≡ reported (report_unknown 77 9 0 0xf0 8 7) }
+    ensures fill_with_clean { plain (on_heap (poisons 0 3 4 ∷ fills 3 0x100 7 ∷ looks ∷ [])) defaults ≡ exits 0 }
+    ensures store_origin { plain (on_heap (poisons 3 8 9 ∷ stores_origin 0xff0000000000 7 ∷ unpoisons 4 ∷ looks ∷ [])) defaults ≡ reported (report_unknown 77 9 4 255 8 7) }
+    ensures store_origin_elsewhere { plain (on_heap (poisons 3 8 9 ∷ stores_origin 0xff0000000000 7 ∷ looks ∷ [])) defaults ≡ reported (report_unknown 77 9 3 255 8 9) }
+    ensures load_origin { plain (on_heap (poisons 4 8 9 ∷ checks_loaded_origin 0xff0000000000)) defaults ≡ reported (report_unknown 3 1 0 1 1 9) }
+    ensures size { plain (on_heap (checks_size (local 1))) defaults ≡ reported (report_unknown 3 1 0 8 64 0) }
+    ensures size_of_no_block { plain (on_heap (checks_size operand.Null)) defaults ≡ exits 0 }
     ensures bad_ranges { plain (on_heap (bad_ranges ++ looks ∷ [])) defaults ≡ exits 0 }
 {}
 
 /// Marked instructions: their accesses, their steps, and whole modules with masks and checks.
 pub fn marks()
-    ensures shadow_is_loaded { plain (on_heap (poisons 1 2 4 ∷ (shadow_address ++ inserts (codes "4") (op.Load i16 (inserted (codes "3"))) ∷ inserts (codes "5") (convert cast.Zext i16 (inserted (codes "4")) i64) ∷ checks (inserted (codes "5")) 16 (int 4) ∷ []))) defaults ≡ reported (report_unknown 3 1 0 0xff00 16 4) }
+    ensures shadow_is_loaded { plain (on_heap (poisons 1 2 4 ∷ checks_loaded_shadow)) defaults ≡ reported (report_unknown 3 1 0 0xff00 16 4) }
     ensures shadow_is_stored { plain (on_heap (shadow_address ++ marked (op.Store i8 (int 0x0f) (inserted (codes "3"))) ∷ looks ∷ [])) defaults ≡ reported (report_unknown 77 9 0 0x0f 8 0) }
     ensures memory_is_not_loaded { plain (on_heap (inserts (codes "1") (op.Load i8 (local 1)) ∷ [])) defaults ≡ trapped trap.BadAddress 2 }
     ensures memory_is_not_stored { plain (on_heap (marked (op.Store i8 (int 1) (local 1)) ∷ [])) defaults ≡ trapped trap.BadAddress 2 }
-    ensures slot_is_loaded { plain (with_slots (marked (op.Store i64 (int 0x1234) (mask_slot 99)) ∷ inserts (codes "1") (op.Load i64 (mask_slot 99)) ∷ checks (inserted (codes "1")) 64 (int 4) ∷ [])) defaults ≡ reported (report_unknown 3 1 0 0x1234 64 4) }
-    ensures slot_is_zero_first { plain (with_slots (inserts (codes "1") (op.Load i64 result_mask) ∷ checks (inserted (codes "1")) 64 (int 4) ∷ [])) defaults ≡ exits 0 }
+    ensures slot_is_loaded { plain (with_slots (marked (op.Store i64 (int 0x1234) (mask_slot 99)) ∷ checks_slot (mask_slot 99))) defaults ≡ reported (report_unknown 3 1 0 0x1234 64 4) }
+    ensures slot_is_zero_first { plain (with_slots (checks_slot result_mask)) defaults ≡ exits 0 }
     ensures past_the_slots { plain (with_slots (inserts (codes "1") (op.Load i64 (mask_slot 100)) ∷ [])) defaults ≡ trapped trap.BadAddress 1 }
     ensures unmarked_store_to_a_slot { plain (with_slots (does (op.Store i32 (int 1) result_mask) ∷ [])) defaults ≡ trapped trap.BadAddress 1 }
-    ensures marked_are_no_steps { plain (on_heap (poisons 5 7 4 ∷ poisons 0 1 4 ∷ inserts_call calls.msan_unpoison (local 1 ∷ int 8 ∷ []) ∷ looks ∷ [])) (steps 2) ≡ exits 0 }
+    ensures marked_are_no_steps { plain (on_heap (poisons 5 7 4 ∷ poisons 0 1 4 ∷ unpoisons 8 ∷ looks ∷ [])) (steps 2) ≡ exits 0 }
     ensures spent_before_marked { plain (on_heap (poisons 5 7 4 ∷ looks ∷ [])) (steps 1) ≡ spent }
     ensures branch_on_unset_checked { plain branch_on_unset_checked defaults ≡ reported (report 4 1 0 1 1 1) }
     ensures branch_on_unset_spent { plain branch_on_unset_checked (steps 3) ≡ spent }
