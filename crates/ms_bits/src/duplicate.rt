@@ -3,6 +3,8 @@ ghost use Rattle.std.specs.Prelude.{◌≡◌, IfOk};
 
 use crate::boxes::Boxed;
 use crate::lists::List;
+use crate::operations::{BinOp, CastOp, Flags, Pred};
+use crate::traps::Trap;
 use std::alloc::{AllocError, Global};
 
 /// Want of memory. The one answer that no clause ties to a cause.
@@ -21,7 +23,49 @@ impl Duplicate for u8 {
     }
 }
 
+impl Duplicate for u32 {
+    fn copy(&self, _alloc: Global) -> Result<Self, NoMemory> {
+        Ok(*self)
+    }
+}
+
 impl Duplicate for u64 {
+    fn copy(&self, _alloc: Global) -> Result<Self, NoMemory> {
+        Ok(*self)
+    }
+}
+
+impl Duplicate for bool {
+    fn copy(&self, _alloc: Global) -> Result<Self, NoMemory> {
+        Ok(*self)
+    }
+}
+
+impl Duplicate for BinOp {
+    fn copy(&self, _alloc: Global) -> Result<Self, NoMemory> {
+        Ok(*self)
+    }
+}
+
+impl Duplicate for Pred {
+    fn copy(&self, _alloc: Global) -> Result<Self, NoMemory> {
+        Ok(*self)
+    }
+}
+
+impl Duplicate for CastOp {
+    fn copy(&self, _alloc: Global) -> Result<Self, NoMemory> {
+        Ok(*self)
+    }
+}
+
+impl Duplicate for Flags {
+    fn copy(&self, _alloc: Global) -> Result<Self, NoMemory> {
+        Ok(*self)
+    }
+}
+
+impl Duplicate for Trap {
     fn copy(&self, _alloc: Global) -> Result<Self, NoMemory> {
         Ok(*self)
     }

@@ -6,12 +6,15 @@ pub mod boxes;
 pub mod duplicate;
 pub mod lists;
 pub mod operations;
+pub mod shared;
+#[cfg(test)]
+mod tests;
 pub mod texts;
 pub mod traps;
 
 pub use boxes::Boxed;
 pub use duplicate::{Duplicate, NoMemory};
-pub use lists::{Bytes, List};
+pub use lists::{Bytes, List, bytes_in_range, words_in_range};
 pub use operations::{BinOp, CastOp, Flags, Pred};
 pub use texts::Text;
 pub use traps::Trap;

@@ -1,5 +1,5 @@
 //! A list whose value in a contract is the list of its items.
-ghost use Rattle.std.specs.Prelude.{◌≡◌};
+ghost use Rattle.std.specs.Prelude.{◌≡◌, ◌<◌, ◌^◌, All};
 ghost use Rattle.std.specs.Cmp.Lexicographic.{pointwise, slice_cmp, slice_partial_cmp, lists_per, lists_equiv, lists_po, lists_total, lists_agrees, lists_ties};
 
 use std::cmp::Ordering;
@@ -49,6 +49,23 @@ impl<T> List<T> {
 
 /// A list of bytes.
 pub type Bytes = List<u8>;
+
+/// A law: each byte of a list is below 256. A caller needs it where it has no slice of the list at hand, since
+/// a slice tells it as well.
+pub fn bytes_in_range(bytes: &Bytes)
+    ensures { All (λ b. b < 256) bytes.now }
+{
+    let items = bytes.as_slice();
+    let _count = items.len();
+}
+
+/// A law: each item of a list of words is below 2 to the 64.
+pub fn words_in_range(words: &List<u64>)
+    ensures { All (λ w. w < 2 ^ 64) words.now }
+{
+    let items = words.as_slice();
+    let _count = items.len();
+}
 
 impl<T: PartialEq> PartialEq for List<T> {
     ghost eq = { pointwise T.eq };

@@ -3,41 +3,73 @@
 /// The externals, functions of the C library and intrinsics of LLVM that the interpreter knows.
 #[derive(Clone, Copy, Debug, PartialEq, Eq, PartialOrd, Ord)]
 pub enum External {
+    /// `malloc`.
     Malloc,
+    /// `calloc`.
     Calloc,
+    /// `realloc`.
     Realloc,
+    /// `free`.
     Free,
+    /// `memcpy`.
     Memcpy,
+    /// `memmove`.
     Memmove,
+    /// `memset`.
     Memset,
+    /// `memcmp`.
     Memcmp,
+    /// `strlen`.
     Strlen,
+    /// `putchar`.
     Putchar,
+    /// `puts`.
     Puts,
+    /// `getchar`.
     Getchar,
+    /// `read`.
     Read,
+    /// `write`.
     Write,
+    /// `exit`.
     Exit,
+    /// `abort`.
     Abort,
+    /// `llvm.memcpy.p0.p0.i64` ("Standard C/C++ Library Intrinsics").
     LlvmMemcpy,
+    /// `llvm.memmove.p0.p0.i64`.
     LlvmMemmove,
+    /// `llvm.memset.p0.i64`.
     LlvmMemset,
+    /// `llvm.lifetime.start.p0` ("Memory Use Markers").
     LifetimeStart,
+    /// `llvm.lifetime.end.p0`.
     LifetimeEnd,
 }
 
 /// The runtime functions, which inserted instructions alone call.
 #[derive(Clone, Copy, Debug, PartialEq, Eq, PartialOrd, Ord)]
 pub enum RuntimeFn {
+    /// `__msan_check`: a report where a mask is not 0.
     Check,
+    /// `__msan_check_memory`: a report of the first poisoned byte of a range.
     CheckMemory,
+    /// `__msan_check_string`: the same of a text that a zero byte ends.
     CheckString,
+    /// `__msan_blind`: counts a blind use where a mask is not 0.
     Blind,
+    /// `__msan_poison`: bytes become uninitialised, with an origin.
     Poison,
+    /// `__msan_unpoison`: bytes become initialised.
     Unpoison,
+    /// `__msan_copy`: copies shadow and origins.
     Copy,
+    /// `__msan_fill`: bytes get the shadow of one byte, with a chained origin.
     Fill,
+    /// `__msan_store_origin`: the chained origin of a stored value.
     StoreOrigin,
+    /// `__msan_load_origin`: the origin of a loaded value.
     LoadOrigin,
+    /// `__msan_size`: the size of a live heap block.
     Size,
 }

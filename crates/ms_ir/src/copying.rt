@@ -1,12 +1,15 @@
-//! Equal copies.
+//! Equal copies of the parts of a module.
 ghost use Rattle.std.specs.Prelude.{◌≡◌, IfOk};
 
-use crate::syntax::{Name, Ty};
-use ms_bits::{Boxed, Duplicate, List};
-use std::alloc::{AllocError, Global};
+mod operations;
+mod results;
+
+use crate::syntax::{Block, Decl, Func, GlobalVar, Init, Inst, Module, Name, Operand, Ty};
+use ms_bits::{Boxed, Duplicate, List, NoMemory};
+use std::alloc::Global;
 
 impl Duplicate for Name {
-    fn copy(&self, alloc: Global) -> Result<Self, AllocError> {
+    fn copy(&self, alloc: Global) -> Result<Self, NoMemory> {
         match self {
             Name::Number(number) => Ok(Name::Number(*number)),
             Name::Text(text) => Ok(Name::Text(text.copy(alloc)?)),
@@ -15,7 +18,7 @@ impl Duplicate for Name {
 }
 
 #[cycle(copy_ty)]
-pub fn copy_ty(ty: &Ty, alloc: Global) -> Result<Ty, AllocError>
+fn copy_ty(ty: &Ty, alloc: Global) -> Result<Ty, NoMemory>
     ensures { IfOk result (λ c. c ≡ ty.now) }
 {
     match ty {
@@ -31,7 +34,7 @@ pub fn copy_ty(ty: &Ty, alloc: Global) -> Result<Ty, AllocError>
 }
 
 #[cycle(copy_ty)]
-fn copy_tys(tys: &List<Ty>, alloc: Global) -> Result<List<Ty>, AllocError>
+fn copy_tys(tys: &List<Ty>, alloc: Global) -> Result<List<Ty>, NoMemory>
     ensures { IfOk result (λ c. c ≡ tys.now) }
 {
     let items = tys.as_slice();
@@ -43,7 +46,122 @@ fn copy_tys(tys: &List<Ty>, alloc: Global) -> Result<List<Ty>, AllocError>
 }
 
 impl Duplicate for Ty {
-    fn copy(&self, alloc: Global) -> Result<Self, AllocError> {
+    fn copy(&self, alloc: Global) -> Result<Self, NoMemory> {
         copy_ty(self, alloc)
+    }
+}
+
+impl Duplicate for Operand {
+    fn copy(&self, alloc: Global) -> Result<Self, NoMemory> {
+        match self {
+            Operand::Int(value) => Ok(Operand::Int(*value)),
+            Operand::Null => Ok(Operand::Null),
+            Operand::Undef => Ok(Operand::Undef),
+            Operand::Poison => Ok(Operand::Poison),
+            Operand::Local(name) => Ok(Operand::Local(name.copy(alloc)?)),
+            Operand::Global(name) => Ok(Operand::Global(name.copy(alloc)?)),
+            Operand::Offset(ty, name, indices) => Ok(Operand::Offset(
+                ty.copy(alloc)?,
+                name.copy(alloc)?,
+                indices.copy(alloc)?,
+            )),
+        }
+    }
+}
+
+#[cycle(copy_init)]
+fn copy_init(init: &Init, alloc: Global) -> Result<Init, NoMemory>
+    ensures { IfOk result (λ c. c ≡ init.now) }
+{
+    match init {
+        Init::Value(value) => Ok(Init::Value(value.copy(alloc)?)),
+        Init::Zero => Ok(Init::Zero),
+        Init::Array(items) => Ok(Init::Array(copy_inits(items, alloc)?)),
+        Init::Struct(packed, fields) => Ok(Init::Struct(*packed, copy_inits(fields, alloc)?)),
+        Init::Text(bytes) => Ok(Init::Text(bytes.copy(alloc)?)),
+    }
+}
+
+#[cycle(copy_init)]
+fn copy_inits(inits: &List<(Ty, Init)>, alloc: Global) -> Result<List<(Ty, Init)>, NoMemory>
+    ensures { IfOk result (λ c. c ≡ inits.now) }
+{
+    let items = inits.as_slice();
+    let mut copies = Vec::with_capacity(alloc, items.len())?;
+    for (ty, init) in items {
+        let ty = ty.copy(alloc)?;
+        let init = copy_init(init, alloc)?;
+        copies.push((ty, init))?;
+    }
+    Ok(List::from_vec(copies))
+}
+
+impl Duplicate for Init {
+    fn copy(&self, alloc: Global) -> Result<Self, NoMemory> {
+        copy_init(self, alloc)
+    }
+}
+
+impl Duplicate for Inst {
+    fn copy(&self, alloc: Global) -> Result<Self, NoMemory> {
+        let result = self.result.copy(alloc)?;
+        let op = self.op.copy(alloc)?;
+        Ok(Inst {
+            op,
+            result,
+            marked: self.marked,
+        })
+    }
+}
+
+impl Duplicate for Block {
+    fn copy(&self, alloc: Global) -> Result<Self, NoMemory> {
+        Ok(Block {
+            name: self.name.copy(alloc)?,
+            insts: self.insts.copy(alloc)?,
+        })
+    }
+}
+
+impl Duplicate for Func {
+    fn copy(&self, alloc: Global) -> Result<Self, NoMemory> {
+        Ok(Func {
+            name: self.name.copy(alloc)?,
+            ret: self.ret.copy(alloc)?,
+            params: self.params.copy(alloc)?,
+            blocks: self.blocks.copy(alloc)?,
+        })
+    }
+}
+
+impl Duplicate for Decl {
+    fn copy(&self, alloc: Global) -> Result<Self, NoMemory> {
+        Ok(Decl {
+            name: self.name.copy(alloc)?,
+            ret: self.ret.copy(alloc)?,
+            params: self.params.copy(alloc)?,
+        })
+    }
+}
+
+impl Duplicate for GlobalVar {
+    fn copy(&self, alloc: Global) -> Result<Self, NoMemory> {
+        Ok(GlobalVar {
+            name: self.name.copy(alloc)?,
+            constant: self.constant,
+            ty: self.ty.copy(alloc)?,
+            init: self.init.copy(alloc)?,
+        })
+    }
+}
+
+impl Duplicate for Module {
+    fn copy(&self, alloc: Global) -> Result<Self, NoMemory> {
+        Ok(Module {
+            types: self.types.copy(alloc)?,
+            globals: self.globals.copy(alloc)?,
+            decls: self.decls.copy(alloc)?,
+            funcs: self.funcs.copy(alloc)?,
+        })
     }
 }

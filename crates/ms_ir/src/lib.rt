@@ -5,6 +5,7 @@ pub mod calls;
 pub mod copying;
 pub mod examples;
 pub mod runs;
+pub mod shared;
 pub mod syntax;
 
 pub use calls::{External, RuntimeFn};

@@ -1,4 +1,14 @@
 //! The top call: words, files and sinks in, a status and two texts out.
 #![tactic(auto)]
 
-pub mod first;
+pub mod answers;
+pub mod closing;
+pub mod pieces;
+pub mod spelling;
+pub mod top;
+
+pub use ms_first as first;
+pub use top::msan;
+
+#[cfg(test)]
+mod tests;

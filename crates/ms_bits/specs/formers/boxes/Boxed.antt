@@ -1,9 +1,13 @@
 -- `Boxed` as a type that may hold the type that holds it.
-use mathlib.Core.Path.{refl}
+use mathlib.Core.Path.{refl, subst}
+use mathlib.Core.List.{List}
 use mathlib.Core.Former.{Former, this, const, pair, via}
+use mir.Val.{Val}
+use Prim.Native.Nat.{ℕ}
 use base.Stored.{gnil}
-use base.Fml.{ftrue}
+use base.Fml.{Lft, ftrue}
 use denote.RattleType.{RattleType}
+use denote.Known.{Says, Known, Says-map, Behind, holder_known, view_owned, view_shared, declared_known}
 use denote.Memory.{part_of}
 use denote.RawPtr.{Ptr}
 use denote.Sharing.{nothing}
@@ -55,3 +59,19 @@ module _ (R S : RattleType) (h : R.Denot → S.Denot) where
 
   pub the_codes_placed : Recodes R S h → Recodes (C.the_row R) (C.the_row S) ((the_former this).map R.Denot S.Denot h)
   the_codes_placed e d = e d
+
+module _ (R : RattleType) (k : Known R) where
+  abbrev inside : Known (I.the_row R)
+  inside = declared_known (I.the_type R) (holder_known R k (box.struct R heap.the_row ghosts) (box.the_codes _ _ R.coded heap.the_row.coded) (λ d. d.ptr) (λ d. d.value) _, tt)
+
+  shown : (d : R.Denot) → Behind (I.the_row R) inside R.Denot (C.the_row R).coded (C.the_view R) (C.the_invariant R) d → k.Fact d
+  shown d w = subst k.Fact w.1.0 w.2.0
+
+  pub known_owned : (d : R.Denot) (vs : List Val) → Says ((C.the_row R).own_val d vs) (k.Fact d)
+  known_owned d vs = Says-map _ (shown d) (view_owned (I.the_row R) inside R.Denot (C.the_row R).coded (C.the_view R) (C.the_invariant R) d vs)
+
+  pub known_shared : (d : R.Denot) (b o : ℕ) (κ : Lft) → Says ((C.the_row R).shr_at d b o κ) (k.Fact d)
+  known_shared d b o κ = Says-map _ (shown d) (view_shared (I.the_row R) inside R.Denot (C.the_row R).coded (C.the_view R) (C.the_invariant R) d b o κ)
+
+  abbrev pub the_facts : Known (C.the_row R)
+  the_facts = record { Fact = k.Fact; owned = known_owned; shared = known_shared }

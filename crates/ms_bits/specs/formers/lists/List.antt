@@ -1,9 +1,13 @@
 -- `List` as a type that may hold the type that holds it.
-use mathlib.Core.Path.{◌≡◌, refl, sym}
+use mathlib.Core.Path.{◌≡◌, refl, sym, subst}
 use mathlib.Core.List.{List, []}
 use mathlib.Core.Former.{Former, this, list, via, children}
+use mir.Val.{Val}
+use Prim.Native.Nat.{ℕ}
 use base.Stored.{code_map}
+use base.Fml.{Lft}
 use denote.RattleType.{RattleType}
+use denote.Known.{Says, Known, All, Says-map, Behind, nothing_known, view_owned, view_shared, declared_known}
 use denote.HoleLaws.{Alike}
 use denote.HolePlaces.{Recodes, struct_places, laid}
 use denote.Hole.Carrier.{listed, list-listed}
@@ -46,3 +50,19 @@ module _ (R S : RattleType) (h : R.Denot → S.Denot) where
 
   pub the_codes_placed : Recodes R S h → Recodes (C.the_row R) (C.the_row S) ((the_former this).map R.Denot S.Denot h)
   the_codes_placed e d = sym (code_map R.coded.code S.coded.code h (λ x. sym (e x)) d)
+
+module _ (R : RattleType) (k : Known R) where
+  abbrev inside : Known (I.the_row R)
+  inside = declared_known (I.the_type R) (vec.the_facts R heap.the_row ghosts k (nothing_known heap.the_row), tt)
+
+  shown : (d : List R.Denot) → Behind (I.the_row R) inside (List R.Denot) (C.the_row R).coded (C.the_view R) (C.the_invariant R) d → All k.Fact d
+  shown d w = subst (All k.Fact) w.1.0 w.2.0
+
+  pub known_owned : (d : List R.Denot) (vs : List Val) → Says ((C.the_row R).own_val d vs) (All k.Fact d)
+  known_owned d vs = Says-map _ (shown d) (view_owned (I.the_row R) inside (List R.Denot) (C.the_row R).coded (C.the_view R) (C.the_invariant R) d vs)
+
+  pub known_shared : (d : List R.Denot) (b o : ℕ) (κ : Lft) → Says ((C.the_row R).shr_at d b o κ) (All k.Fact d)
+  known_shared d b o κ = Says-map _ (shown d) (view_shared (I.the_row R) inside (List R.Denot) (C.the_row R).coded (C.the_view R) (C.the_invariant R) d b o κ)
+
+  abbrev pub the_facts : Known (C.the_row R)
+  the_facts = record { Fact = All k.Fact; owned = known_owned; shared = known_shared }

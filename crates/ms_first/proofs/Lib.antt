@@ -1,0 +1,10 @@
+pub mod MachineInsts
+pub mod MachineLines
+pub mod MachineRanges
+pub mod MachineRuns
+pub mod MachineStacks
+pub mod MachineStored
+pub mod ReaderLines
+pub mod ReaderOperands
+pub mod ReaderPieces
+pub mod ReaderWhole

@@ -1,0 +1,9 @@
+use Rattle.std.proofs.Common.{length}
+use Rattle.ms_first.proofs.ReaderWhole.{Whole}
+use Rattle.ms_first.proofs.reader.read.Given as goal
+
+abbrev pub invariant-lines : goal.invariant-lines
+invariant-lines l = Whole l.fn.text.now l.body.allocas.items l.body.insts.items l.rest
+
+abbrev pub decreases-lines : goal.decreases-lines
+decreases-lines l = length l.rest

@@ -1,0 +1,2 @@
+pub mod MachineSteps
+pub mod Reading

@@ -1,0 +1,9 @@
+pub mod Counts
+pub mod MemFiles
+pub mod MemSink
+pub mod Named
+pub mod Reading
+pub mod RealFiles
+pub mod RealSink
+pub mod SureFiles
+pub mod Writing

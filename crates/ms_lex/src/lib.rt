@@ -1,0 +1,24 @@
+//! The tokens of a text of LLVM's assembly language, and what a token's spelling says: its name or
+//! its number.
+//!
+//! Beside them stands what the readers of a grammar share: grammars as data, with laws that hold of
+//! every grammar.
+#![tactic(auto)]
+
+mod errors;
+mod kinds;
+mod laws;
+mod lexer;
+mod names;
+mod numbers;
+mod scan;
+mod spellings;
+#[cfg(test)]
+mod tests;
+
+pub use errors::{LexError, NoMemory};
+pub use kinds::{Kind, Token};
+pub use laws::{HasGrammar, reads_or_stops};
+pub use lexer::{tokens, tokens_stand_in_order};
+pub use names::name_of;
+pub use numbers::number_of;

@@ -1,0 +1,291 @@
+//! The token at the front of a text.
+
+ghost use Rattle.std.specs.Prelude.{◌≡◌, ◌≢◌, ◌<◌, ◌≤◌, ◌+◌, ◌^◌, ◌∷◌, codes, if◌then◌else◌, drop, length, slice_index, IfSome, true, false};
+ghost use Rattle.std.specs.Char.{is_ascii_digit};
+ghost use Rattle.std.specs.List.{list_all, position_or_len, prefix_len};
+ghost use Rattle.std.specs.Option.{option_map};
+ghost use Rattle.ms_lex.specs.Tokens as spec;
+
+use crate::kinds::Kind;
+use crate::spellings::behind;
+
+pub fn is_blank(b: u8) -> bool
+    ensures { result ≡ spec.is_blank b }
+{
+    b == b' ' || b == b'\t' || b == b'\r' || b == b'\n'
+}
+
+fn is_name_byte(b: u8) -> bool
+    ensures { result ≡ spec.is_name_byte b }
+{
+    b.is_ascii_alphanumeric() || b == b'-' || b == b'$' || b == b'.' || b == b'_'
+}
+
+fn is_punctuation(b: u8) -> bool
+    ensures { result ≡ spec.is_one_of spec.punctuation b }
+{
+    matches!(
+        b,
+        b'(' | b')' | b'[' | b']' | b'{' | b'}' | b'<' | b'>' | b',' | b'=' | b'*' | b'!' | b'|'
+    )
+}
+
+/// How many bytes stand before the end of the line.
+pub fn line_length(text: &[u8]) -> usize
+    ensures value { result ≡ position_or_len spec.is_newline text.now }
+    ensures within { result ≤ length text.now }
+{
+    let mut n = 0;
+    while n < text.len() && text[n] != b'\n' {
+        n += 1;
+    }
+    n
+}
+
+fn run_length(text: &[u8]) -> usize
+    ensures value { result ≡ prefix_len spec.is_name_byte text.now }
+    ensures within { result ≤ length text.now }
+{
+    let mut n = 0;
+    while n < text.len() && is_name_byte(text[n]) {
+        n += 1;
+    }
+    n
+}
+
+/// How many bytes stand before the first quote.
+pub fn quote_place(text: &[u8]) -> usize
+    ensures value { result ≡ position_or_len spec.is_quote text.now }
+    ensures within { result ≤ length text.now }
+{
+    let mut n = 0;
+    while n < text.len() && text[n] != b'"' {
+        n += 1;
+    }
+    n
+}
+
+/// The byte at this place, and 0 behind the end.
+fn byte_at(text: &[u8], place: usize) -> u8
+    ensures value { result ≡ slice_index text.now place }
+    ensures within { result ≢ 0 → place < length text.now }
+{
+    if place < text.len() { text[place] } else { 0 }
+}
+
+#[tactic(auto, unfolding(crate::specs::Tokens::run))]
+fn run(text: &[u8]) -> Option<usize>
+    ensures value { result ≡ spec.run text.now }
+    ensures within { IfSome result (λ n. (0 < n) × (n ≤ length text.now)) }
+{
+    let n = run_length(text);
+    if n == 0 { None } else { Some(n) }
+}
+
+/// The bytes up to the first quote, with that quote.
+#[tactic(auto, unfolding(crate::specs::Tokens::up_to_quote))]
+fn up_to_quote(text: &[u8]) -> Option<usize>
+    ensures value { result ≡ spec.up_to_quote text.now }
+    ensures within { IfSome result (λ n. (0 < n) × (n ≤ length text.now)) }
+{
+    let n = quote_place(text);
+    if n < text.len() { Some(n + 1) } else { None }
+}
+
+#[tactic(auto, unfolding(crate::specs::Tokens::string, crate::specs::Tokens::followed_by, crate::specs::Tokens::one_of))]
+fn string(text: &[u8]) -> Option<usize>
+    ensures value { result ≡ spec.string text.now }
+    ensures within { IfSome result (λ n. (0 < n) × (n ≤ length text.now)) }
+{
+    match text {
+        [] => None,
+        [first, rest @ ..] => {
+            if *first != b'"' {
+                return None;
+            }
+            match up_to_quote(rest) {
+                Some(n) => Some(1 + n),
+                None => None,
+            }
+        }
+    }
+}
+
+/// What a name is written as.
+#[tactic(auto, unfolding(crate::specs::Tokens::name, crate::specs::Tokens::or_else))]
+fn name(text: &[u8]) -> Option<usize>
+    ensures value { result ≡ spec.name text.now }
+    ensures within { IfSome result (λ n. (0 < n) × (n ≤ length text.now)) }
+{
+    match run(text) {
+        Some(n) => Some(n),
+        None => string(text),
+    }
+}
+
+fn is_c(run: &[u8]) -> bool
+    ensures { result ≡ spec.is_c run.now }
+{
+    match run {
+        [b] => *b == b'c',
+        _ => false,
+    }
+}
+
+fn all_digits(run: &[u8]) -> bool
+    ensures { result ≡ list_all is_ascii_digit run.now }
+{
+    run.iter().all(|b| b.is_ascii_digit())
+}
+
+fn is_digits(run: &[u8]) -> bool
+    ensures { result ≡ spec.is_digits run.now }
+{
+    match run {
+        [] => false,
+        [_, ..] => all_digits(run),
+    }
+}
+
+fn is_number(run: &[u8]) -> bool
+    ensures { result ≡ spec.is_number run.now }
+{
+    match run {
+        [] => false,
+        [b, rest @ ..] => {
+            if *b == b'-' {
+                is_digits(rest)
+            } else {
+                is_digits(run)
+            }
+        }
+    }
+}
+
+fn begins_word(run: &[u8]) -> bool
+    ensures { result ≡ spec.begins_word run.now }
+{
+    match run {
+        [] => false,
+        [b, ..] => b.is_ascii_alphabetic() || *b == b'_',
+    }
+}
+
+/// What a run is that is no part of a label or of a text behind `c`.
+fn run_kind(run: &[u8]) -> Kind
+    ensures { result ≡ (if spec.is_number run.now then Kind.Number
+        else if spec.begins_word run.now then Kind.Word else Kind.Other) }
+{
+    if is_number(run) {
+        Kind::Number
+    } else if begins_word(run) {
+        Kind::Word
+    } else {
+        Kind::Other
+    }
+}
+
+/// The `c` and the string directly behind it, where the run at the front is `c` alone.
+#[tactic(auto, using(crate::proofs::Forms::no_c, crate::proofs::Forms::c_with_string, crate::proofs::Forms::c_with_none))]
+fn c_text(text: &[u8], run: usize) -> Option<usize>
+    requires whole { run ≡ prefix_len spec.is_name_byte text.now }
+    requires some { 0 < run }
+    requires inside { run ≤ length text.now }
+    ensures value { result ≡ spec.c_text text.now }
+    ensures within { IfSome result (λ n. (0 < n) × (n ≤ length text.now)) }
+{
+    if !is_c(&text[..run]) {
+        return None;
+    }
+    match string(behind(text, run)) {
+        Some(n) => Some(run + n),
+        None => None,
+    }
+}
+
+/// The token at the front of a text that begins with a name byte.
+#[tactic(auto, using(crate::proofs::Forms::fits_label, crate::proofs::Forms::fits_c_text, crate::proofs::Forms::fits_run))]
+fn run_token(text: &[u8]) -> (Kind, usize)
+    requires { 0 < prefix_len spec.is_name_byte text.now }
+    ensures value { spec.token_at text.now ≡ Some result }
+    ensures within { (0 < result.1) × (result.1 ≤ length text.now) }
+{
+    let run = run_length(text);
+    if byte_at(text, run) == b':' {
+        return (Kind::Label, run + 1);
+    }
+    match c_text(text, run) {
+        Some(n) => (Kind::CText, n),
+        None => (run_kind(&text[..run]), run),
+    }
+}
+
+/// The token at the front of a text that begins with a quote.
+#[tactic(auto, using(crate::proofs::Forms::no_string_fits, crate::proofs::Forms::fits_string_label, crate::proofs::Forms::fits_string))]
+fn string_token(text: &[u8], rest: &[u8]) -> Option<(Kind, usize)>
+    requires { text.now ≡ 34 ∷ rest.now }
+    ensures value { result ≡ spec.token_at text.now }
+    ensures within { IfSome result (λ t. (0 < t.1) × (t.1 ≤ length text.now)) }
+{
+    match up_to_quote(rest) {
+        None => None,
+        Some(n) => {
+            if byte_at(text, 1 + n) == b':' {
+                Some((Kind::Label, 1 + n + 1))
+            } else {
+                Some((Kind::Str, 1 + n))
+            }
+        }
+    }
+}
+
+/// A token of one byte and what stands behind that.
+fn behind_byte(kind: Kind, length: Option<usize>) -> Option<(Kind, usize)>
+    requires { IfSome length (λ n. n < 2 ^ 62) }
+    ensures { result ≡ spec.or_next kind (option_map (λ m. 1 + m) length) None }
+{
+    match length {
+        Some(n) => Some((kind, 1 + n)),
+        None => None,
+    }
+}
+
+/// The token at the front of a text that begins with `!`.
+#[tactic(auto, using(crate::proofs::Forms::fits_meta, crate::proofs::Forms::fits_bang))]
+fn bang_token(rest: &[u8]) -> (Kind, usize)
+    requires { length rest.now < 2 ^ 62 }
+    ensures value { spec.token_at (33 ∷ rest.now) ≡ Some result }
+    ensures within { (0 < result.1) × (result.1 ≤ 1 + length rest.now) }
+{
+    match run(rest) {
+        Some(n) => (Kind::Meta, 1 + n),
+        None => (Kind::Punct, 1),
+    }
+}
+
+/// The token at the front of a text that begins with neither a blank nor a comment.
+#[tactic(auto, using(crate::proofs::Forms::named, crate::proofs::Forms::fits_global, crate::proofs::Forms::fits_local, crate::proofs::Forms::fits_group, crate::proofs::Forms::fits_punctuation, crate::proofs::Forms::fits_none))]
+pub fn token_at(text: &[u8], first: u8, rest: &[u8]) -> Option<(Kind, usize)>
+    requires parts { text.now ≡ first ∷ rest.now }
+    requires short { length text.now < 2 ^ 62 }
+    ensures value { result ≡ spec.token_at text.now }
+    ensures within { IfSome result (λ t. (0 < t.1) × (t.1 ≤ length text.now)) }
+{
+    if is_name_byte(first) {
+        return Some(run_token(text));
+    }
+    match first {
+        b'"' => string_token(text, rest),
+        b'@' => behind_byte(Kind::Global, name(rest)),
+        b'%' => behind_byte(Kind::Local, name(rest)),
+        b'#' => behind_byte(Kind::Group, run(rest)),
+        b'!' => Some(bang_token(rest)),
+        _ => {
+            if is_punctuation(first) {
+                Some((Kind::Punct, 1))
+            } else {
+                None
+            }
+        }
+    }
+}

@@ -1,0 +1,173 @@
+//! The top call over files and sinks in memory.
+
+use crate::msan;
+use ms_bits::Text;
+use ms_io::{MemFiles, MemSink, SureFiles, SureSink};
+use std::alloc::{AllocError, Global};
+use std::collections::BTreeMap;
+use std::test::Fail;
+
+const STORED: &str =
+    "define i32 @main() {\n  %1 = alloca i32\n  store i32 12, ptr %1\n  %2 = load i32, ptr %1\n  %3 = xor i32 %2, 10\n  ret i32 %3\n}\n";
+
+const UNSET: &str =
+    "define i32 @main() {\n  %1 = alloca i32\n  %2 = load i32, ptr %1\n  %3 = xor i32 %2, 10\n  ret i32 %3\n}\n";
+
+const RETURNS_ZERO: &str = "define i32 @main() {\n  ret i32 0\n}\n";
+
+/// What a call answered and wrote.
+#[derive(Debug, Drop)]
+struct Said {
+    status: u8,
+    out: Vec<u8>,
+    err: Vec<u8>,
+}
+
+fn words_of(alloc: Global, words: &[&str]) -> Result<Vec<Text>, AllocError> {
+    let mut texts = Vec::new(alloc);
+    for word in words {
+        let text = String::from_str(alloc, *word)?;
+        texts.push(Text::from_string(text))?;
+    }
+    Ok(texts)
+}
+
+fn holding(
+    alloc: Global,
+    name: &str,
+    bytes: Vec<u8>,
+) -> Result<BTreeMap<String, Vec<u8>>, AllocError> {
+    let mut held = BTreeMap::new(alloc);
+    held.insert(String::from_str(alloc, name)?, bytes)?;
+    Ok(held)
+}
+
+fn room(alloc: Global, bytes: usize) -> Result<Vec<u8>, AllocError> {
+    vec![in alloc; 0; bytes]
+}
+
+/// Calls `msan` on one held file `f`, where the calls of these numbers fail.
+fn call(
+    alloc: Global,
+    words: &[&str],
+    file: Vec<u8>,
+    failing_reads: Vec<u64>,
+    failing_puts: Vec<u64>,
+    err_room: usize,
+) -> Result<Said, AllocError> {
+    let words = words_of(alloc, words)?;
+    let mut files = MemFiles::new(holding(alloc, "f", file)?, failing_reads);
+    let mut out = MemSink::new(Vec::new(alloc), room(alloc, 100)?);
+    let mut err = MemSink::new(failing_puts, room(alloc, err_room)?);
+    let status = msan(alloc, &words, &mut files, &mut out, &mut err);
+    Ok(Said {
+        status,
+        out: Vec::from_slice(alloc, out.as_slice())?,
+        err: Vec::from_slice(alloc, err.as_slice())?,
+    })
+}
+
+fn call_on(alloc: Global, words: &[&str], file: &str) -> Result<Said, AllocError> {
+    let file = Vec::from_slice(alloc, file.as_bytes())?;
+    call(alloc, words, file, Vec::new(alloc), Vec::new(alloc), 1000)
+}
+
+#[test]
+fn says_what_the_words_and_the_file_ask_for(rt: HostRuntime) -> Result<(), Fail> {
+    let run: [&str; 2] = ["run", "f"];
+    let table: [(&[&str], &str, u8, &str); 12] = [
+        (&run, STORED, 0, "end: exit 6\nreports: 0\nblind: 0\n"),
+        (
+            &run,
+            UNSET,
+            0,
+            "end: exit 2779096495\nreports: 0\nblind: 0\n",
+        ),
+        (&run, RETURNS_ZERO, 0, "end: exit 0\nreports: 0\nblind: 0\n"),
+        (&run, "", 5, "refused 99: not built yet\n"),
+        (
+            &run,
+            "define i32 @main() {\n  ret i32 0\n}",
+            5,
+            "refused 99: not built yet\n",
+        ),
+        (&["run"], STORED, 2, "words: NotBuilt at 0\n"),
+        (&[], STORED, 2, "words: NotBuilt at 0\n"),
+        (&["run", "f", "f"], STORED, 2, "words: NotBuilt at 0\n"),
+        (&["check", "f"], STORED, 2, "words: NotBuilt at 0\n"),
+        (&["runs", "f"], STORED, 2, "words: NotBuilt at 0\n"),
+        (&["run", "g"], STORED, 6, "file fault: g\n"),
+        (&["run", "--"], STORED, 6, "file fault: --\n"),
+    ];
+    for (words, file, status, err) in table {
+        let said = call_on(rt.alloc(), words, file)?;
+        assert_eq!(rt; said.status, status, "the status at {err}");
+        assert!(rt; said.err.as_slice() == err.as_bytes(), "the text at {err}");
+        assert!(rt; said.out.is_empty());
+    }
+    Ok(())
+}
+
+#[test]
+fn says_the_same_over_ends_that_never_fail(rt: HostRuntime) -> Result<(), Fail> {
+    let alloc = rt.alloc();
+    let words = words_of(alloc, &["run", "f"])?;
+    let file = Vec::from_slice(alloc, STORED.as_bytes())?;
+    let mut files = SureFiles::new(holding(alloc, "f", file)?);
+    let mut out = SureSink::new();
+    let mut err = SureSink::new();
+    let status = msan(alloc, &words, &mut files, &mut out, &mut err);
+    assert_eq!(rt; status, 0);
+    Ok(())
+}
+
+#[test]
+fn the_stack_ends(rt: HostRuntime) -> Result<(), Fail> {
+    let alloc = rt.alloc();
+    let mut text = Vec::from_slice(alloc, b"define i32 @main() {\n")?;
+    for number in 1..65538u32 {
+        let line = format!(in alloc; "  %{number} = alloca i32\n")?;
+        text.extend_from_slice(line.as_bytes())?;
+    }
+    text.extend_from_slice(b"  ret i32 0\n}\n")?;
+    let said = call(
+        alloc,
+        &["run", "f"],
+        text,
+        Vec::new(alloc),
+        Vec::new(alloc),
+        1000,
+    )?;
+    assert_eq!(rt; said.status, 3);
+    assert!(rt;
+        said.err.as_slice()
+            == b"end: trap stack at site 65537 in @main\nreports: 0\nblind: 0\n".as_slice()
+    );
+    Ok(())
+}
+
+#[test]
+fn long_files_and_faults_have_their_own_statuses(rt: HostRuntime) -> Result<(), Fail> {
+    let alloc = rt.alloc();
+    let run: [&str; 2] = ["run", "f"];
+    let long = vec![in alloc; 32; 4194305]?;
+    let said = call(alloc, &run, long, Vec::new(alloc), Vec::new(alloc), 1000)?;
+    assert_eq!(rt; said.status, 9);
+    assert!(rt; said.err.as_slice() == b"file too long: f\n".as_slice());
+
+    let file = Vec::from_slice(alloc, STORED.as_bytes())?;
+    let said = call(alloc, &run, file, vec![in alloc; 0]?, Vec::new(alloc), 1000)?;
+    assert_eq!(rt; said.status, 6);
+    assert!(rt; said.err.as_slice() == b"file fault: f\n".as_slice());
+
+    let file = Vec::from_slice(alloc, STORED.as_bytes())?;
+    let said = call(alloc, &run, file, Vec::new(alloc), vec![in alloc; 0]?, 1000)?;
+    assert_eq!(rt; said.status, 7);
+    assert!(rt; said.err.is_empty());
+
+    let file = Vec::from_slice(alloc, STORED.as_bytes())?;
+    let said = call(alloc, &run, file, Vec::new(alloc), Vec::new(alloc), 4)?;
+    assert_eq!(rt; said.status, 7);
+    assert!(rt; said.err.as_slice() == b"end:".as_slice());
+    Ok(())
+}

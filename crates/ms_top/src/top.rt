@@ -1,0 +1,43 @@
+//! The top call.
+ghost use Rattle.std.specs.Prelude.{◌≡◌, ◌≢◌, ◌⊎◌};
+ghost use Rattle.ms_io.specs.Counts.{Rose};
+ghost use Rattle.ms_top.specs.Said.{IsSaid, IsPartlySaid, counted, between};
+
+use crate::answers::{NO_MEMORY_STATUS, answer_to};
+use crate::pieces::say;
+use ms_bits::Text;
+use ms_io::{Files, Sink};
+use std::alloc::Global;
+
+/// Does what the words after the program's name ask for. `run FILE` runs the module in the file and writes
+/// how the run ended to `err`.
+///
+/// The status is 0 for a run that is done, 3 for one that trapped, 2 where the words are no command, 5 where
+/// the module is refused, 6 where the file can't be read, 7 where a put failed, 8 where memory is wanting,
+/// 9 where the file is too long. All memory is taken before the first put.
+pub fn msan<F: Files, O: Sink, E: Sink>(
+    alloc: Global,
+    words: &[Text],
+    files: &mut F,
+    out: &mut O,
+    err: &mut E,
+) -> u8
+    ensures said { result ≢ 7 → IsSaid
+        (counted (F.held files.old) (F.faults files.old) (F.faults files.new) (F.taken files.old) (F.taken files.new))
+        (between (O.written out.old) (E.written err.old) (O.written out.new) (E.written err.new)) words.now result }
+    ensures partly_said { result ≡ 7 → IsPartlySaid
+        (counted (F.held files.old) (F.faults files.old) (F.faults files.new) (F.taken files.old) (F.taken files.new))
+        (between (O.written out.old) (E.written err.old) (O.written out.new) (E.written err.new)) words.now }
+    ensures failed { result ≡ 7 → Rose (O.faults out.old) (O.faults out.new) ⊎ Rose (E.faults err.old) (E.faults err.new) }
+{
+    match answer_to(alloc, words, files) {
+        Ok(answer) => say(
+            out,
+            err,
+            answer.status,
+            answer.out.as_slice(),
+            answer.err.as_slice(),
+        ),
+        Err(_) => say(out, err, NO_MEMORY_STATUS, b"", b"out of memory\n"),
+    }
+}
