@@ -1,5 +1,5 @@
 -- Example modules that call externals, and such that show one instruction or one rule of memory each.
-use Rattle.std.specs.Prelude.{ℕ, zero, suc, false, List, [], ◌∷◌, Some, None, codes}
+use Rattle.std.specs.Prelude.{ℕ, zero, suc, false, List, [], ◌∷◌, ◌++◌, Some, None, codes}
 use Rattle.ms_bits.specs.declared.operations.BinOp.TheVariants as binary
 use Rattle.ms_bits.specs.declared.operations.CastOp.TheVariants as cast
 use Rattle.ms_bits.specs.declared.operations.Pred.TheVariants as predicate
@@ -14,7 +14,7 @@ use Rattle.ms_ir.specs.declared.syntax.Operand.{Operand}
 use Rattle.ms_ir.specs.declared.syntax.Operand.TheVariants as operand
 use Rattle.ms_ir.specs.declared.syntax.Ty.{Ty}
 use Rattle.ms_ir.specs.declared.syntax.Ty as ty
-use Rattle.ms_ir.specs.ExampleParts.{i8, i32, i64, array, struct_of_two, local, int, sets, does, binary as combine, icmp, convert, alloca, byte_at, branch, ret, name, call, block, main_func, module_of, main_blocks, main_of, defaults}
+use Rattle.ms_ir.specs.ExampleParts.{i8, i32, i64, array, struct_of_two, local, int, sets, does, binary as combine, icmp, convert, alloca, byte_at, branch, ret, name, call, calls, block, main_func, module_of, main_blocks, main_of, defaults}
 use Rattle.ms_ir.specs.ExampleCalls.{malloc, calloc, realloc, free, read, lifetime_start}
 use Rattle.ms_ir.specs.World.{World, Enters}
 use Rattle.ms_ir.specs.Control.{Frame, Moved, moves}
@@ -59,6 +59,10 @@ zeroed = main_of (
     sets 1 (call calloc (int 1 ∷ int 4 ∷ [])) ∷ sets 2 (call malloc (int 4 ∷ [])) ∷ sets 3 (op.Load i32 (local 1)) ∷ sets 4 (op.Load i32 (local 2))
     ∷ sets 5 (combine binary.Add i32 (local 3) (local 4)) ∷ does (ret (local 5)) ∷ []) (calloc ∷ malloc ∷ [])
 
+-- a block of four bytes is made and ended, and what comes then
+abbrev pub freed : List Inst → Module
+freed insts = main_of (calls 1 malloc (int 4 ∷ []) ∷ calls 2 free (local 1 ∷ []) ∷ (insts ++ does (ret (int 0)) ∷ [])) (malloc ∷ free ∷ [])
+
 -- a block of four bytes that hold 7 is made one of eight, whose second word has the number 3
 abbrev pub grown : List Inst → Module
 grown insts = main_of (
@@ -72,10 +76,19 @@ grown_too_far = main_of (
     ∷ sets 3 (icmp predicate.Eq ty.Ptr (local 2) operand.Null) ∷ sets 4 (convert cast.Zext (ty.Int 1) (local 3) i32) ∷ sets 5 (op.Load i32 (local 1))
     ∷ sets 6 (combine binary.Add i32 (local 4) (local 5)) ∷ does (ret (local 6)) ∷ []) (malloc ∷ realloc ∷ [])
 
--- of the four bytes 1 2 3 4 some are copied by a call: their addresses have the numbers 1 and, one byte on, 2
-abbrev pub four_bytes : Inst → List Decl → Module
-four_bytes copy decls = main_of (
-    sets 1 (alloca i32) ∷ does (op.Store i32 (int 0x04030201) (local 1)) ∷ sets 2 (byte_at (local 1) 1) ∷ copy ∷ returns_word_at 1) decls
+-- a call after two bytes are set, whose addresses have the numbers 1 and 2; the call's result has the number 3
+abbrev pub calls_on_two_bytes : ℕ → ℕ → Decl → List Operand → List Inst → Module
+calls_on_two_bytes a b callee arguments insts = main_of (two_bytes a b ++ calls 3 callee arguments ∷ insts) (callee ∷ [])
+
+-- a call after the four bytes 1 2 3 4 are set, of which the first two have the addresses 1 and 2; they are returned
+abbrev pub calls_on_four_bytes : Decl → List Operand → Module
+calls_on_four_bytes callee arguments = main_of (
+    sets 1 (alloca i32) ∷ does (op.Store i32 (int 0x04030201) (local 1)) ∷ sets 2 (byte_at (local 1) 1) ∷ calls 3 callee arguments
+    ∷ returns_word_at 1) (callee ∷ [])
+
+-- a call with an unset word at the address 1; the call's result has the number 2
+abbrev pub calls_on_word : Decl → List Operand → List Inst → Module
+calls_on_word callee arguments insts = main_of (sets 1 (alloca i32) ∷ calls 2 callee arguments ∷ insts) (callee ∷ [])
 
 -- two reads of at most four bytes each, and the sum of what they answer
 abbrev pub reads_twice : Module

@@ -1,5 +1,5 @@
 -- Words for writing example modules down, the setups that they run with, and what their runs answer.
-use Rattle.std.specs.Prelude.{ℕ, Bool, false, List, [], ◌∷◌, Option, Some, None, codes}
+use Rattle.std.specs.Prelude.{ℕ, Bool, false, List, [], ◌∷◌, Option, Some, None, option_map, codes}
 use Rattle.ms_bits.specs.declared.operations.BinOp.{BinOp}
 use Rattle.ms_bits.specs.declared.operations.CastOp.{CastOp}
 use Rattle.ms_bits.specs.declared.operations.Pred.{Pred}
@@ -123,6 +123,18 @@ typed (t ∷ ts) (a ∷ rest) = (t, a) ∷ typed ts rest
 abbrev pub call : Decl → List Operand → Op
 call callee arguments = op.Call callee.ret callee.name (typed callee.params arguments)
 
+-- an unmarked call of a declared function; its result, if it has one, has a number
+abbrev pub calls : ℕ → Decl → List Operand → Inst
+calls n callee arguments = record { op = call callee arguments; result = option_map (λ t. Number n) callee.ret; marked = false }
+
+-- the end of `main`: the word of 32 bits with the number n is returned
+abbrev pub returns : ℕ → List Inst
+returns n = does (ret (local n)) ∷ []
+
+-- the end of a block that no run reaches
+abbrev pub unreachable : List Inst
+unreachable = does op.Unreachable ∷ []
+
 -- a block with a number
 abbrev pub block : ℕ → List Inst → Block
 block n insts = record { name = Number n; insts = insts }
@@ -143,6 +155,10 @@ main_blocks blocks decls = module_of (main_func blocks ∷ []) decls
 abbrev pub main_of : List Inst → List Decl → Module
 main_of insts decls = main_blocks (block 0 insts ∷ []) decls
 
+-- a module whose first instruction is a call
+abbrev pub calls_first : Decl → List Operand → List Inst → Module
+calls_first callee arguments insts = main_of (calls 1 callee arguments ∷ insts) (callee ∷ [])
+
 -- the setup where nothing is asked for: no input, the fill a5, ten million steps and one report
 abbrev pub defaults : Setup
 defaults = record { input = []; fill = 0xa5 ∷ []; steps = 10000000; reports = 1 }
@@ -150,6 +166,10 @@ defaults = record { input = []; fill = 0xa5 ∷ []; steps = 10000000; reports = 
 -- the same setup with another fill
 abbrev pub filled : List ℕ → Setup
 filled bytes = record defaults { fill = bytes }
+
+-- the same setup with the fill 1 2 3 4 5
+abbrev pub one_to_five : Setup
+one_to_five = filled (1 ∷ 2 ∷ 3 ∷ 4 ∷ 5 ∷ [])
 
 -- the same setup with another input
 abbrev pub fed : List ℕ → Setup

@@ -7,10 +7,10 @@ ghost use Rattle.ms_ir.specs.declared.syntax.Op.TheVariants as op;
 ghost use Rattle.ms_ir.specs.declared.syntax.Operand.TheVariants as operand;
 ghost use Rattle.ms_ir.specs.declared.syntax.Ty as ty;
 ghost use Rattle.ms_ir.specs.ExampleModules.{returns_zero, branch_on_unset, masked_to_zero, ordered_compare, set_bit_is_not_zero, select_undef, two_unset, shared_cell, lost_in_addition, recursion, nested_call, write_with_gap, store_to_shadow, clang_unoptimised, store_and_load, sum_wraps, undef_divisor, frozen, three_branches, undef_sum, undef_stored, carry_of_undef};
-ghost use Rattle.ms_ir.specs.ExampleExternals.{returns_is_null, returns_word_at, returns_low, two_bytes, heap_filled, zeroed, grown, grown_too_far, four_bytes, reads_twice, made_anew, own_malloc, chooses, swaps, takes_room_back, reads_room_of_callee, odd_width, steps_back, reads_across, with_globals, inner_word, frame_at_call, frames_at_call, recursion_world, called_above};
+ghost use Rattle.ms_ir.specs.ExampleExternals.{returns_is_null, returns_word_at, returns_low, heap_filled, zeroed, freed, grown, grown_too_far, calls_on_two_bytes, calls_on_four_bytes, calls_on_word, reads_twice, made_anew, own_malloc, chooses, swaps, takes_room_back, reads_room_of_callee, odd_width, steps_back, reads_across, with_globals, inner_word, frame_at_call, frames_at_call, recursion_world, called_above};
 ghost use Rattle.ms_ir.specs.ExampleCalls as calls;
-ghost use Rattle.ms_ir.specs.ExampleMarks.{inserts, inserted, marked, on_heap, poisons, looks, checks, shadow_address, bad_ranges, counted, branch_on_unset_checked, nested_call_checked, with_slots, mask_slot, result_mask};
-ghost use Rattle.ms_ir.specs.ExampleParts.{i8, i16, i32, i64, array, struct_of_three, int, local, sets, does, convert, call, alloca, byte_at, ret, name, main_of, defaults, filled, fed, steps, exits, prints, spent, trapped, reported, report, report_unknown};
+ghost use Rattle.ms_ir.specs.ExampleMarks.{inserts, inserts_call, inserted, unpoisons, copies_up, fills, stores_origin, looks_at_string, checks_loaded_origin, checks_loaded_shadow, checks_slot, checks_size, marked, on_heap, poisons, looks, checks, shadow_address, bad_ranges, counted, branch_on_unset_checked, nested_call_checked, with_slots, mask_slot, result_mask};
+ghost use Rattle.ms_ir.specs.ExampleParts.{i8, i32, i64, array, struct_of_three, int, local, sets, does, call, alloca, ret, name, main_of, returns, unreachable, calls_first, one_to_five, defaults, filled, fed, steps, exits, prints, spent, trapped, reported, report, report_unknown};
 ghost use Rattle.ms_ir.specs.Act.{plain_reading};
 ghost use Rattle.ms_ir.specs.Code.{strip, count_roots, root_at, site_at};
 ghost use Rattle.ms_ir.specs.Control.{On, Over, entered};
@@ -69,60 +69,60 @@ pub fn bounds()
 
 /// The externals of the heap.
 pub fn heap()
-    ensures malloc { plain (main_of (sets 1 (call calls.malloc (int 4 ∷ [])) ∷ returns_word_at 1) (calls.malloc ∷ [])) (filled (1 ∷ 2 ∷ 3 ∷ 4 ∷ 5 ∷ [])) ≡ exits 0x04030201 }
+    ensures malloc { plain (calls_first calls.malloc (int 4 ∷ []) (returns_word_at 1)) one_to_five ≡ exits 0x04030201 }
     ensures malloc_to_the_limit { plain heap_filled defaults ≡ exits 2 }
-    ensures malloc_past_the_limit { plain (main_of (sets 1 (call calls.malloc (int 67108865 ∷ [])) ∷ returns_is_null 1) (calls.malloc ∷ [])) defaults ≡ exits 1 }
+    ensures malloc_past_the_limit { plain (calls_first calls.malloc (int 67108865 ∷ []) (returns_is_null 1)) defaults ≡ exits 1 }
     ensures own_malloc { plain own_malloc defaults ≡ exits 1 }
-    ensures calloc { plain zeroed (filled (1 ∷ 2 ∷ 3 ∷ 4 ∷ 5 ∷ [])) ≡ exits 0x04030201 }
-    ensures calloc_of_a_great_product { plain (main_of (sets 1 (call calls.calloc (int 0x8000000000000000 ∷ int 2 ∷ [])) ∷ returns_is_null 1) (calls.calloc ∷ [])) defaults ≡ exits 1 }
+    ensures calloc { plain zeroed one_to_five ≡ exits 0x04030201 }
+    ensures calloc_of_a_great_product { plain (calls_first calls.calloc (int 0x8000000000000000 ∷ int 2 ∷ []) (returns_is_null 1)) defaults ≡ exits 1 }
     ensures realloc_keeps { plain (grown (returns_word_at 2)) defaults ≡ exits 7 }
     ensures realloc_makes { plain (grown (returns_word_at 3)) (filled (1 ∷ 2 ∷ 3 ∷ 4 ∷ 5 ∷ 6 ∷ 7 ∷ 8 ∷ 9 ∷ 10 ∷ 11 ∷ 12 ∷ [])) ≡ exits 0x0c0b0a09 }
     ensures realloc_ends { plain (grown (does (call calls.free (local 1 ∷ [])) ∷ [])) defaults ≡ trapped trap.BadFree 5 }
     ensures realloc_past_the_limit { plain grown_too_far defaults ≡ exits 8 }
-    ensures realloc_of_null { plain (main_of (sets 1 (call calls.realloc (operand.Null ∷ int 4 ∷ [])) ∷ returns_word_at 1) (calls.realloc ∷ [])) (filled (1 ∷ 2 ∷ 3 ∷ 4 ∷ 5 ∷ [])) ≡ exits 0x04030201 }
-    ensures realloc_of_no_block { plain (main_of (sets 1 (alloca i32) ∷ sets 2 (call calls.realloc (local 1 ∷ int 4 ∷ [])) ∷ returns_word_at 2) (calls.realloc ∷ [])) defaults ≡ trapped trap.BadFree 2 }
-    ensures free_of_null { plain (main_of (does (call calls.free (operand.Null ∷ [])) ∷ does (ret (int 3)) ∷ []) (calls.free ∷ [])) defaults ≡ exits 3 }
-    ensures free_twice { plain (main_of (sets 1 (call calls.malloc (int 4 ∷ [])) ∷ does (call calls.free (local 1 ∷ [])) ∷ does (call calls.free (local 1 ∷ [])) ∷ does (ret (int 0)) ∷ []) (calls.malloc ∷ calls.free ∷ [])) defaults ≡ trapped trap.BadFree 3 }
-    ensures read_after_free { plain (main_of (sets 1 (call calls.malloc (int 4 ∷ [])) ∷ does (call calls.free (local 1 ∷ [])) ∷ returns_word_at 1) (calls.malloc ∷ calls.free ∷ [])) defaults ≡ trapped trap.BadAddress 3 }
+    ensures realloc_of_null { plain (calls_first calls.realloc (operand.Null ∷ int 4 ∷ []) (returns_word_at 1)) one_to_five ≡ exits 0x04030201 }
+    ensures realloc_of_no_block { plain (calls_on_word calls.realloc (local 1 ∷ int 4 ∷ []) (returns_word_at 2)) defaults ≡ trapped trap.BadFree 2 }
+    ensures free_of_null { plain (calls_first calls.free (operand.Null ∷ []) (does (ret (int 3)) ∷ [])) defaults ≡ exits 3 }
+    ensures free_twice { plain (freed (does (call calls.free (local 1 ∷ [])) ∷ [])) defaults ≡ trapped trap.BadFree 3 }
+    ensures read_after_free { plain (freed (returns_word_at 1)) defaults ≡ trapped trap.BadAddress 3 }
 {}
 
 /// The externals that copy, set and compare bytes, and the intrinsics.
 pub fn bytes()
-    ensures memcpy { plain (four_bytes (sets 3 (call calls.memcpy (local 2 ∷ local 1 ∷ int 3 ∷ []))) (calls.memcpy ∷ [])) defaults ≡ exits 0x03020101 }
-    ensures memcpy_past_the_end { plain (four_bytes (sets 3 (call calls.memcpy (local 2 ∷ local 1 ∷ int 4 ∷ []))) (calls.memcpy ∷ [])) defaults ≡ trapped trap.BadAddress 4 }
-    ensures memcpy_of_nothing { plain (main_of (sets 1 (call calls.memcpy (operand.Null ∷ operand.Null ∷ int 0 ∷ [])) ∷ returns_is_null 1) (calls.memcpy ∷ [])) defaults ≡ exits 1 }
-    ensures memmove { plain (four_bytes (sets 3 (call calls.memmove (local 1 ∷ local 2 ∷ int 3 ∷ []))) (calls.memmove ∷ [])) defaults ≡ exits 0x04040302 }
-    ensures memset { plain (four_bytes (sets 3 (call calls.memset (local 1 ∷ int 0x141 ∷ int 3 ∷ []))) (calls.memset ∷ [])) defaults ≡ exits 0x04414141 }
-    ensures memcmp_below { plain (main_of (two_bytes 97 98 ++ sets 3 (call calls.memcmp (local 1 ∷ local 2 ∷ int 1 ∷ [])) ∷ does (ret (local 3)) ∷ []) (calls.memcmp ∷ [])) defaults ≡ exits 4294967295 }
-    ensures memcmp_above { plain (main_of (two_bytes 200 98 ++ sets 3 (call calls.memcmp (local 1 ∷ local 2 ∷ int 1 ∷ [])) ∷ does (ret (local 3)) ∷ []) (calls.memcmp ∷ [])) defaults ≡ exits 1 }
-    ensures memcmp_equal { plain (main_of (two_bytes 97 98 ++ sets 3 (call calls.memcmp (local 1 ∷ local 1 ∷ int 2 ∷ [])) ∷ does (ret (local 3)) ∷ []) (calls.memcmp ∷ [])) defaults ≡ exits 0 }
-    ensures strlen { plain (main_of (two_bytes 65 0 ++ sets 3 (call calls.strlen (local 1 ∷ [])) ∷ returns_low 3) (calls.strlen ∷ [])) defaults ≡ exits 1 }
-    ensures strlen_without_end { plain (main_of (two_bytes 65 66 ++ sets 3 (call calls.strlen (local 1 ∷ [])) ∷ returns_low 3) (calls.strlen ∷ [])) defaults ≡ trapped trap.BadAddress 5 }
-    ensures llvm_memcpy { plain (four_bytes (does (call calls.llvm_memcpy (local 2 ∷ local 1 ∷ int 3 ∷ int 0 ∷ []))) (calls.llvm_memcpy ∷ [])) defaults ≡ exits 0x03020101 }
-    ensures llvm_memmove { plain (four_bytes (does (call calls.llvm_memmove (local 1 ∷ local 2 ∷ int 3 ∷ int 0 ∷ []))) (calls.llvm_memmove ∷ [])) defaults ≡ exits 0x04040302 }
-    ensures llvm_memset { plain (four_bytes (does (call calls.llvm_memset (local 1 ∷ int 1 ∷ int 4 ∷ int 0 ∷ []))) (calls.llvm_memset ∷ [])) defaults ≡ exits 0x01010101 }
-    ensures lifetime_start { plain (made_anew 4) (filled (1 ∷ 2 ∷ 3 ∷ 4 ∷ 5 ∷ [])) ≡ exits 0x03020105 }
+    ensures memcpy { plain (calls_on_four_bytes calls.memcpy (local 2 ∷ local 1 ∷ int 3 ∷ [])) defaults ≡ exits 0x03020101 }
+    ensures memcpy_past_the_end { plain (calls_on_four_bytes calls.memcpy (local 2 ∷ local 1 ∷ int 4 ∷ [])) defaults ≡ trapped trap.BadAddress 4 }
+    ensures memcpy_of_nothing { plain (calls_first calls.memcpy (operand.Null ∷ operand.Null ∷ int 0 ∷ []) (returns_is_null 1)) defaults ≡ exits 1 }
+    ensures memmove { plain (calls_on_four_bytes calls.memmove (local 1 ∷ local 2 ∷ int 3 ∷ [])) defaults ≡ exits 0x04040302 }
+    ensures memset { plain (calls_on_four_bytes calls.memset (local 1 ∷ int 0x141 ∷ int 3 ∷ [])) defaults ≡ exits 0x04414141 }
+    ensures memcmp_below { plain (calls_on_two_bytes 97 98 calls.memcmp (local 1 ∷ local 2 ∷ int 1 ∷ []) (returns 3)) defaults ≡ exits 4294967295 }
+    ensures memcmp_above { plain (calls_on_two_bytes 200 98 calls.memcmp (local 1 ∷ local 2 ∷ int 1 ∷ []) (returns 3)) defaults ≡ exits 1 }
+    ensures memcmp_equal { plain (calls_on_two_bytes 97 98 calls.memcmp (local 1 ∷ local 1 ∷ int 2 ∷ []) (returns 3)) defaults ≡ exits 0 }
+    ensures strlen { plain (calls_on_two_bytes 65 0 calls.strlen (local 1 ∷ []) (returns_low 3)) defaults ≡ exits 1 }
+    ensures strlen_without_end { plain (calls_on_two_bytes 65 66 calls.strlen (local 1 ∷ []) (returns_low 3)) defaults ≡ trapped trap.BadAddress 5 }
+    ensures llvm_memcpy { plain (calls_on_four_bytes calls.llvm_memcpy (local 2 ∷ local 1 ∷ int 3 ∷ int 0 ∷ [])) defaults ≡ exits 0x03020101 }
+    ensures llvm_memmove { plain (calls_on_four_bytes calls.llvm_memmove (local 1 ∷ local 2 ∷ int 3 ∷ int 0 ∷ [])) defaults ≡ exits 0x04040302 }
+    ensures llvm_memset { plain (calls_on_four_bytes calls.llvm_memset (local 1 ∷ int 1 ∷ int 4 ∷ int 0 ∷ [])) defaults ≡ exits 0x01010101 }
+    ensures lifetime_start { plain (made_anew 4) one_to_five ≡ exits 0x03020105 }
     ensures lifetime_start_past_the_end { plain (made_anew 5) defaults ≡ trapped trap.BadAddress 3 }
-    ensures lifetime_end { plain (main_of (does (call calls.lifetime_end (int 99 ∷ operand.Null ∷ [])) ∷ does (ret (int 3)) ∷ []) (calls.lifetime_end ∷ [])) defaults ≡ exits 3 }
+    ensures lifetime_end { plain (calls_first calls.lifetime_end (int 99 ∷ operand.Null ∷ []) (does (ret (int 3)) ∷ [])) defaults ≡ exits 3 }
 {}
 
 /// The externals of input, output and the end of a run.
 pub fn input_and_output()
-    ensures putchar { plain (main_of (sets 1 (call calls.putchar (int 0x141 ∷ [])) ∷ does (ret (local 1)) ∷ []) (calls.putchar ∷ [])) defaults ≡ prints (0x41 ∷ []) («end».Exit 0x41) }
-    ensures puts { plain (main_of (two_bytes 72 0 ++ sets 3 (call calls.puts (local 1 ∷ [])) ∷ does (ret (local 3)) ∷ []) (calls.puts ∷ [])) defaults ≡ prints (72 ∷ 10 ∷ []) («end».Exit 1) }
-    ensures puts_without_end { plain (main_of (two_bytes 72 72 ++ sets 3 (call calls.puts (local 1 ∷ [])) ∷ does (ret (local 3)) ∷ []) (calls.puts ∷ [])) defaults ≡ trapped trap.BadAddress 5 }
-    ensures getchar { plain (main_of (sets 1 (call calls.getchar []) ∷ does (ret (local 1)) ∷ []) (calls.getchar ∷ [])) (fed (7 ∷ [])) ≡ exits 7 }
-    ensures getchar_at_the_end { plain (main_of (sets 1 (call calls.getchar []) ∷ does (ret (local 1)) ∷ []) (calls.getchar ∷ [])) defaults ≡ exits 4294967295 }
-    ensures read { plain (main_of (sets 1 (alloca i32) ∷ sets 2 (call calls.read (int 0 ∷ local 1 ∷ int 4 ∷ [])) ∷ returns_word_at 1) (calls.read ∷ [])) (fed (97 ∷ 98 ∷ 99 ∷ [])) ≡ exits 0xa5636261 }
+    ensures putchar { plain (calls_first calls.putchar (int 0x141 ∷ []) (returns 1)) defaults ≡ prints (0x41 ∷ []) («end».Exit 0x41) }
+    ensures puts { plain (calls_on_two_bytes 72 0 calls.puts (local 1 ∷ []) (returns 3)) defaults ≡ prints (72 ∷ 10 ∷ []) («end».Exit 1) }
+    ensures puts_without_end { plain (calls_on_two_bytes 72 72 calls.puts (local 1 ∷ []) (returns 3)) defaults ≡ trapped trap.BadAddress 5 }
+    ensures getchar { plain (calls_first calls.getchar [] (returns 1)) (fed (7 ∷ [])) ≡ exits 7 }
+    ensures getchar_at_the_end { plain (calls_first calls.getchar [] (returns 1)) defaults ≡ exits 4294967295 }
+    ensures read { plain (calls_on_word calls.read (int 0 ∷ local 1 ∷ int 4 ∷ []) (returns_word_at 1)) (fed (97 ∷ 98 ∷ 99 ∷ [])) ≡ exits 0xa5636261 }
     ensures read_twice { plain reads_twice (fed (97 ∷ 98 ∷ 99 ∷ [])) ≡ exits 3 }
-    ensures read_of_another { plain (main_of (sets 1 (alloca i32) ∷ sets 2 (call calls.read (int 3 ∷ local 1 ∷ int 4 ∷ [])) ∷ returns_low 2) (calls.read ∷ [])) (fed (97 ∷ [])) ≡ exits 4294967295 }
-    ensures read_of_another_past_the_end { plain (main_of (sets 1 (alloca i32) ∷ sets 2 (call calls.read (int 3 ∷ local 1 ∷ int 5 ∷ [])) ∷ returns_low 2) (calls.read ∷ [])) defaults ≡ trapped trap.BadAddress 2 }
-    ensures write { plain (main_of (two_bytes 65 66 ++ sets 3 (call calls.write (int 1 ∷ local 1 ∷ int 2 ∷ [])) ∷ returns_low 3) (calls.write ∷ [])) defaults ≡ prints (65 ∷ 66 ∷ []) («end».Exit 2) }
-    ensures write_to_another { plain (main_of (two_bytes 65 66 ++ sets 3 (call calls.write (int 2 ∷ local 1 ∷ int 2 ∷ [])) ∷ returns_low 3) (calls.write ∷ [])) defaults ≡ exits 4294967295 }
-    ensures write_to_another_past_the_end { plain (main_of (two_bytes 65 66 ++ sets 3 (call calls.write (int 2 ∷ local 1 ∷ int 3 ∷ [])) ∷ returns_low 3) (calls.write ∷ [])) defaults ≡ trapped trap.BadAddress 5 }
-    ensures exit { plain (main_of (does (call calls.exit (int 9 ∷ [])) ∷ does op.Unreachable ∷ []) (calls.exit ∷ [])) defaults ≡ exits 9 }
-    ensures abort { plain (main_of (does (call calls.abort []) ∷ does op.Unreachable ∷ []) (calls.abort ∷ [])) defaults ≡ trapped trap.Abort 1 }
-    ensures unreachable { plain (main_of (does op.Unreachable ∷ []) []) defaults ≡ trapped trap.Unreachable 1 }
+    ensures read_of_another { plain (calls_on_word calls.read (int 3 ∷ local 1 ∷ int 4 ∷ []) (returns_low 2)) (fed (97 ∷ [])) ≡ exits 4294967295 }
+    ensures read_of_another_past_the_end { plain (calls_on_word calls.read (int 3 ∷ local 1 ∷ int 5 ∷ []) (returns_low 2)) defaults ≡ trapped trap.BadAddress 2 }
+    ensures write { plain (calls_on_two_bytes 65 66 calls.write (int 1 ∷ local 1 ∷ int 2 ∷ []) (returns_low 3)) defaults ≡ prints (65 ∷ 66 ∷ []) («end».Exit 2) }
+    ensures write_to_another { plain (calls_on_two_bytes 65 66 calls.write (int 2 ∷ local 1 ∷ int 2 ∷ []) (returns_low 3)) defaults ≡ exits 4294967295 }
+    ensures write_to_another_past_the_end { plain (calls_on_two_bytes 65 66 calls.write (int 2 ∷ local 1 ∷ int 3 ∷ []) (returns_low 3)) defaults ≡ trapped trap.BadAddress 5 }
+    ensures exit { plain (calls_first calls.exit (int 9 ∷ []) unreachable) defaults ≡ exits 9 }
+    ensures abort { plain (calls_first calls.abort [] unreachable) defaults ≡ trapped trap.Abort 1 }
+    ensures unreachable { plain (main_of unreachable []) defaults ≡ trapped trap.Unreachable 1 }
 {}
 
 /// Jumps, calls, the stack, and words and globals in memory.
@@ -151,33 +151,33 @@ pub fn runtime_functions()
     ensures check_of_nothing { plain (on_heap (checks (int 0) 3 (int 4) ∷ [])) defaults ≡ exits 0 }
     ensures check_memory { plain (on_heap (poisons 5 7 4 ∷ looks ∷ [])) defaults ≡ reported (report_unknown 77 9 5 255 8 4) }
     ensures check_memory_of_clean { plain (on_heap (looks ∷ [])) defaults ≡ exits 0 }
-    ensures check_string { plain (on_heap (poisons 0 1 4 ∷ marked (call calls.msan_check_string (local 1 ∷ int 6 ∷ [])) ∷ [])) defaults ≡ reported (report_unknown 6 10 0 255 8 4) }
-    ensures check_string_to_its_end { plain (on_heap (poisons 1 8 4 ∷ marked (call calls.msan_check_string (local 1 ∷ int 6 ∷ [])) ∷ [])) defaults ≡ exits 0 }
-    ensures blind { plain (on_heap (marked (call calls.msan_blind (int 0 ∷ [])) ∷ marked (call calls.msan_blind (int 2 ∷ [])) ∷ [])) defaults ≡ counted 1 }
+    ensures check_string { plain (on_heap (poisons 0 1 4 ∷ looks_at_string ∷ [])) defaults ≡ reported (report_unknown 6 10 0 255 8 4) }
+    ensures check_string_to_its_end { plain (on_heap (poisons 1 8 4 ∷ looks_at_string ∷ [])) defaults ≡ exits 0 }
+    ensures blind { plain (on_heap (inserts_call calls.msan_blind (int 0 ∷ []) ∷ inserts_call calls.msan_blind (int 2 ∷ []) ∷ [])) defaults ≡ counted 1 }
     ensures poison_of_nothing { plain (on_heap (poisons 5 5 4 ∷ looks ∷ [])) defaults ≡ exits 0 }
-    ensures unpoison { plain (on_heap (poisons 5 7 4 ∷ marked (call calls.msan_unpoison (local 1 ∷ int 6 ∷ [])) ∷ looks ∷ [])) defaults ≡ reported (report_unknown 77 9 6 255 8 4) }
-    ensures copy { plain (on_heap (poisons 0 1 4 ∷ inserts (codes "1") (byte_at (local 1) 4) ∷ marked (call calls.msan_copy (inserted (codes "1") ∷ local 1 ∷ int 2 ∷ [])) ∷ marked (call calls.msan_unpoison (local 1 ∷ int 4 ∷ [])) ∷ looks ∷ [])) defaults ≡ reported (report_unknown 77 9 4 255 8 4) }
-    ensures fill { plain (on_heap (marked (call calls.msan_fill (local 1 ∷ int 3 ∷ int 0x1f0 ∷ int 7 ∷ int 5 ∷ [])) ∷ looks ∷ [])) defaults ≡ reported (report_unknown 77 9 0 0xf0 8 7) }
-    ensures fill_with_clean { plain (on_heap (poisons 0 3 4 ∷ marked (call calls.msan_fill (local 1 ∷ int 3 ∷ int 0x100 ∷ int 7 ∷ int 5 ∷ [])) ∷ looks ∷ [])) defaults ≡ exits 0 }
-    ensures store_origin { plain (on_heap (poisons 3 8 9 ∷ marked (call calls.msan_store_origin (local 1 ∷ int 0xff0000000000 ∷ int 7 ∷ int 5 ∷ [])) ∷ marked (call calls.msan_unpoison (local 1 ∷ int 4 ∷ [])) ∷ looks ∷ [])) defaults ≡ reported (report_unknown 77 9 4 255 8 7) }
-    ensures store_origin_elsewhere { plain (on_heap (poisons 3 8 9 ∷ marked (call calls.msan_store_origin (local 1 ∷ int 0xff0000000000 ∷ int 7 ∷ int 5 ∷ [])) ∷ looks ∷ [])) defaults ≡ reported (report_unknown 77 9 3 255 8 9) }
-    ensures load_origin { plain (on_heap (poisons 4 8 9 ∷ inserts (codes "1") (call calls.msan_load_origin (local 1 ∷ int 0xff0000000000 ∷ [])) ∷ checks (int 1) 1 (inserted (codes "1")) ∷ [])) defaults ≡ reported (report_unknown 3 1 0 1 1 9) }
-    ensures size { plain (on_heap (inserts (codes "1") (call calls.msan_size (local 1 ∷ [])) ∷ checks (inserted (codes "1")) 64 (int 0) ∷ [])) defaults ≡ reported (report_unknown 3 1 0 8 64 0) }
-    ensures size_of_no_block { plain (on_heap (inserts (codes "1") (call calls.msan_size (operand.Null ∷ [])) ∷ checks (inserted (codes "1")) 64 (int 0) ∷ [])) defaults ≡ exits 0 }
+    ensures unpoison { plain (on_heap (poisons 5 7 4 ∷ unpoisons 6 ∷ looks ∷ [])) defaults ≡ reported (report_unknown 77 9 6 255 8 4) }
+    ensures copy { plain (on_heap (poisons 0 1 4 ∷ (copies_up 2 ++ unpoisons 4 ∷ looks ∷ []))) defaults ≡ reported (report_unknown 77 9 4 255 8 4) }
+    ensures fill { plain (on_heap (fills 3 0x1f0 7 ∷ looks ∷ [])) defaults ≡ reported (report_unknown 77 9 0 0xf0 8 7) }
+    ensures fill_with_clean { plain (on_heap (poisons 0 3 4 ∷ fills 3 0x100 7 ∷ looks ∷ [])) defaults ≡ exits 0 }
+    ensures store_origin { plain (on_heap (poisons 3 8 9 ∷ stores_origin 0xff0000000000 7 ∷ unpoisons 4 ∷ looks ∷ [])) defaults ≡ reported (report_unknown 77 9 4 255 8 7) }
+    ensures store_origin_elsewhere { plain (on_heap (poisons 3 8 9 ∷ stores_origin 0xff0000000000 7 ∷ looks ∷ [])) defaults ≡ reported (report_unknown 77 9 3 255 8 9) }
+    ensures load_origin { plain (on_heap (poisons 4 8 9 ∷ checks_loaded_origin 0xff0000000000)) defaults ≡ reported (report_unknown 3 1 0 1 1 9) }
+    ensures size { plain (on_heap (checks_size (local 1))) defaults ≡ reported (report_unknown 3 1 0 8 64 0) }
+    ensures size_of_no_block { plain (on_heap (checks_size operand.Null)) defaults ≡ exits 0 }
     ensures bad_ranges { plain (on_heap (bad_ranges ++ looks ∷ [])) defaults ≡ exits 0 }
 {}
 
 /// Marked instructions: their accesses, their steps, and whole modules with masks and checks.
 pub fn marks()
-    ensures shadow_is_loaded { plain (on_heap (poisons 1 2 4 ∷ (shadow_address ++ inserts (codes "4") (op.Load i16 (inserted (codes "3"))) ∷ inserts (codes "5") (convert cast.Zext i16 (inserted (codes "4")) i64) ∷ checks (inserted (codes "5")) 16 (int 4) ∷ []))) defaults ≡ reported (report_unknown 3 1 0 0xff00 16 4) }
+    ensures shadow_is_loaded { plain (on_heap (poisons 1 2 4 ∷ checks_loaded_shadow)) defaults ≡ reported (report_unknown 3 1 0 0xff00 16 4) }
     ensures shadow_is_stored { plain (on_heap (shadow_address ++ marked (op.Store i8 (int 0x0f) (inserted (codes "3"))) ∷ looks ∷ [])) defaults ≡ reported (report_unknown 77 9 0 0x0f 8 0) }
     ensures memory_is_not_loaded { plain (on_heap (inserts (codes "1") (op.Load i8 (local 1)) ∷ [])) defaults ≡ trapped trap.BadAddress 2 }
     ensures memory_is_not_stored { plain (on_heap (marked (op.Store i8 (int 1) (local 1)) ∷ [])) defaults ≡ trapped trap.BadAddress 2 }
-    ensures slot_is_loaded { plain (with_slots (marked (op.Store i64 (int 0x1234) (mask_slot 99)) ∷ inserts (codes "1") (op.Load i64 (mask_slot 99)) ∷ checks (inserted (codes "1")) 64 (int 4) ∷ [])) defaults ≡ reported (report_unknown 3 1 0 0x1234 64 4) }
-    ensures slot_is_zero_first { plain (with_slots (inserts (codes "1") (op.Load i64 result_mask) ∷ checks (inserted (codes "1")) 64 (int 4) ∷ [])) defaults ≡ exits 0 }
+    ensures slot_is_loaded { plain (with_slots (marked (op.Store i64 (int 0x1234) (mask_slot 99)) ∷ checks_slot (mask_slot 99))) defaults ≡ reported (report_unknown 3 1 0 0x1234 64 4) }
+    ensures slot_is_zero_first { plain (with_slots (checks_slot result_mask)) defaults ≡ exits 0 }
     ensures past_the_slots { plain (with_slots (inserts (codes "1") (op.Load i64 (mask_slot 100)) ∷ [])) defaults ≡ trapped trap.BadAddress 1 }
     ensures unmarked_store_to_a_slot { plain (with_slots (does (op.Store i32 (int 1) result_mask) ∷ [])) defaults ≡ trapped trap.BadAddress 1 }
-    ensures marked_are_no_steps { plain (on_heap (poisons 5 7 4 ∷ poisons 0 1 4 ∷ marked (call calls.msan_unpoison (local 1 ∷ int 8 ∷ [])) ∷ looks ∷ [])) (steps 2) ≡ exits 0 }
+    ensures marked_are_no_steps { plain (on_heap (poisons 5 7 4 ∷ poisons 0 1 4 ∷ unpoisons 8 ∷ looks ∷ [])) (steps 2) ≡ exits 0 }
     ensures spent_before_marked { plain (on_heap (poisons 5 7 4 ∷ looks ∷ [])) (steps 1) ≡ spent }
     ensures branch_on_unset_checked { plain branch_on_unset_checked defaults ≡ reported (report 4 1 0 1 1 1) }
     ensures branch_on_unset_spent { plain branch_on_unset_checked (steps 3) ≡ spent }
