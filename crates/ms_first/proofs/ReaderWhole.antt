@@ -293,3 +293,27 @@ module _ (text : List ℕ) (allocas : List Bool) (found : List Inst) (t u : List
 
   pub no_end : last allocas u ≡ None → (m : Module) → First text m ↔ (None ≡ Some m)
   no_end e = no_module text (λ m f. let k = ends m f in let value = value_is m k in absurd cc)
+
+-- ---- the same as the steps of the code give it, under names of its own for equal things
+
+pub no_head_at : (text s : List ℕ) → s ≡ text → strip head s ≡ refused → (m : Module) → First text m ↔ (None ≡ Some m)
+no_head_at text s e h = no_head text (rw e at h)
+
+pub begun_at : (text s t : List ℕ) (allocas : List Bool) (found : List Inst) → length text ≤ 2 ^ 22 → s ≡ text → strip head s ≡ took tt t → allocas ≡ [] → found ≡ [] → Whole text allocas found t
+begun_at text s t allocas found few e h a i = let start = begun text t few (rw e at h) in rw (a, i) start
+
+pub shorter_at : (allocas : List Bool) (t s : List ℕ) (l : Line) (r : List ℕ) → s ≡ t → line allocas s ≡ took l r → length r < length t
+shorter_at allocas t s l r e h = line_shorter allocas t l r (rw e at h)
+
+module _ (text : List ℕ) (allocas : List Bool) (found : List Inst) (t : List ℕ) (so_far : Whole text allocas found t) where
+  pub more_at : (s : List ℕ) (held after : List Bool) (l : Line) (r : List ℕ) (insts : List Inst) → (strip returns t ≡ refused) × (s ≡ t) → held ≡ allocas → line held s ≡ took l r → after ≡ after_read allocas l → insts ≡ found ++ inst_of l ∷ [] → Whole text after insts r
+  more_at s held after l r insts h e k a i = let next = one_more text allocas found t so_far l r h.0 (rw (e, h.1) at k) in rw (a, i) next
+
+  pub stop_at : (s : List ℕ) (held : List Bool) → (strip returns t ≡ refused) × (s ≡ t) → held ≡ allocas → line held s ≡ refused → (m : Module) → First text m ↔ (None ≡ Some m)
+  stop_at s held h e k = no_line text allocas found t so_far h.0 (rw (e, h.1) at k)
+
+  pub end_at : (u : List ℕ) (held : List Bool) → strip returns t ≡ took tt u → held ≡ allocas → None ≡ last held u → (m : Module) → First text m ↔ (None ≡ Some m)
+  end_at u held h e k = no_end text allocas found t u so_far h (sym (rw e at k))
+
+  pub finish_at : (u : List ℕ) (held : List Bool) (x : Operand) (i : Inst) (insts : List Inst) (n : Module) → strip returns t ≡ took tt u → held ≡ allocas → Some x ≡ last held u → i ≡ ret_of x → insts ≡ found ++ i ∷ [] → n ≡ main_module insts → (m : Module) → First text m ↔ (Some n ≡ Some m)
+  finish_at u held x i insts n h e k r all is = ended text allocas found t u so_far h x n (sym (rw e at k)) (is ∙ ap main_module (all ∙ ap (λ y. found ++ y ∷ []) r))

@@ -6,6 +6,8 @@ ghost use Rattle.ms_first.specs.Reading.{after_read, inst_of, ret_of};
 
 mod cursor;
 mod lines;
+#[cfg(test)]
+mod tests;
 
 use cursor::Cursor;
 use lines::{Line, read_last, read_line, ret};
@@ -13,37 +15,28 @@ use ms_bits::{List, NoMemory};
 use ms_ir::{Block, Func, Inst, Module, Name, Ty};
 use std::alloc::Global;
 
-/// What was read of the block.
-#[derive(Drop)]
-struct Body {
-    /// Of each result, whether it is an alloca's.
-    allocas: Vec<bool>,
-    insts: Vec<Inst>,
+fn push<T: Drop>(items: &mut Vec<T>, item: T) -> Result<(), NoMemory>
+    ensures { OnOk result (items.new.items ≡ items.old.items ++ item ∷ []) }
+{
+    items.push(item)?;
+    Ok(())
 }
 
-impl Body {
-    fn new(alloc: Global) -> Body
-        ensures allocas { result.allocas.items ≡ [] }
-        ensures insts { result.insts.items ≡ [] }
-    {
-        Body {
-            allocas: Vec::new(alloc),
-            insts: Vec::new(alloc),
+/// Adds a line to the results, of each of which it is known whether it is an alloca's, and to the instructions.
+fn add(allocas: &mut Vec<bool>, insts: &mut Vec<Inst>, line: Line) -> Result<(), NoMemory>
+    ensures allocas { OnOk result (allocas.new.items ≡ after_read allocas.old.items line) }
+    ensures insts { OnOk result (insts.new.items ≡ insts.old.items ++ inst_of line ∷ []) }
+{
+    match line {
+        Line::Defines { inst, alloca } => {
+            push(insts, inst)?;
+            push(allocas, alloca)?;
+            Ok(())
         }
-    }
-
-    fn add(&mut self, line: Line) -> Result<(), NoMemory>
-        ensures allocas { OnOk result (self.new.allocas.items ≡ after_read self.old.allocas.items line) }
-        ensures insts { OnOk result (self.new.insts.items ≡ self.old.insts.items ++ inst_of line ∷ []) }
-    {
-        match line {
-            Line::Defines { inst, alloca } => {
-                self.allocas.push(alloca)?;
-                self.insts.push(inst)?;
-            }
-            Line::Acts { inst } => self.insts.push(inst)?,
+        Line::Acts { inst } => {
+            push(insts, inst)?;
+            Ok(())
         }
-        Ok(())
     }
 }
 
@@ -51,7 +44,7 @@ fn list_of<T: Drop>(alloc: Global, item: T) -> Result<List<T>, NoMemory>
     ensures { IfOk result (λ l. l ≡ item ∷ []) }
 {
     let mut items = Vec::new(alloc);
-    items.push(item)?;
+    push(&mut items, item)?;
     Ok(List::from_vec(items))
 }
 
@@ -93,17 +86,17 @@ pub fn read(alloc: Global, text: &[u8]) -> Result<Option<Module>, NoMemory>
     if !rest.take(b"define i32 @main() {\n") {
         return Ok(None);
     }
-    let mut body = Body::new(alloc);
+    let mut allocas = Vec::new(alloc);
+    let mut insts = Vec::new(alloc);
     'lines: while !rest.take(b"  ret i32 ") {
-        match read_line(&mut rest, &body.allocas) {
-            Some(line) => body.add(line)?,
+        match read_line(&mut rest, &allocas) {
+            Some(line) => add(&mut allocas, &mut insts, line)?,
             None => return Ok(None),
         }
     }
-    match read_last(rest, &body.allocas) {
+    match read_last(rest, &allocas) {
         Some(value) => {
-            let Body { allocas: _, mut insts } = body;
-            insts.push(ret(value))?;
+            push(&mut insts, ret(value))?;
             Ok(Some(module_of(alloc, insts)?))
         }
         None => Ok(None),
