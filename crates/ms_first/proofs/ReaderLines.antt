@@ -11,8 +11,8 @@ use Rattle.ms_ir.specs.declared.syntax.Name.TheVariants as name
 use Rattle.ms_ir.specs.declared.syntax.Op.TheVariants as op
 use Rattle.ms_ir.specs.First.{Word, Logic, And, Or, Xor, Alloca, Load, Store, Combine, IsWord, IsAddress, IsLine, word_text, result_text, logic_text, line_text, word_operand, result_name, logic_op, no_flags, unmarked, line_inst}
 use Rattle.ms_ir.specs.First as first
-use Rattle.ms_first.specs.declared.first.reader.lines.Line.{Line}
-use Rattle.ms_first.specs.declared.first.reader.lines.Line.TheVariants.{Defines, Acts}
+use Rattle.ms_first.specs.declared.reader.lines.Line.{Line}
+use Rattle.ms_first.specs.declared.reader.lines.Line.TheVariants.{Defines, Acts}
 use Rattle.ms_first.specs.Reading.{Taken, took, refused, and_then, if_there, strip, number, word, address, store, load, logic, combine, alloca, defined, numbered, line}
 use Rattle.ms_first.proofs.ReaderPieces.{strip_takes, strip_reads, number_back, number_read}
 use Rattle.ms_first.proofs.ReaderOperands.{Then, then_took, There, there_or, Address, address_back, address_read, Reads, word_back, word_read}
@@ -76,19 +76,23 @@ defined_logic allocas n Xor r = refl
 
 combine_back : (allocas : List Bool) (n : ℕ) (o : Logic) (v u : Word) (r : List ℕ) → length allocas ≤ 2 ^ 22 → IsWord allocas v → IsWord allocas u
     → combine allocas n (logic_text o ++ (codes " i32 " ++ (word_text v ++ (codes ", " ++ (word_text u ++ (codes "\n" ++ r))))))
-      ≡ took (Defines (unmarked (op.Binary (logic_op o) no_flags (Int 32) (word_operand v) (word_operand u)) (Some (name.Number n))) false) r
+    ≡ took (Defines (unmarked (op.Binary (logic_op o) no_flags (Int 32) (word_operand v) (word_operand u)) (Some (name.Number n))) false) r
 unfolding combine strip
 combine_back allocas n o v u r few first second =
-    rw (logic_back o (codes " i32 " ++ (word_text v ++ (codes ", " ++ (word_text u ++ (codes "\n" ++ r))))),
+    rw (
+      logic_back o (codes " i32 " ++ (word_text v ++ (codes ", " ++ (word_text u ++ (codes "\n" ++ r))))),
       word_back allocas v (codes ", " ++ (word_text u ++ (codes "\n" ++ r))) few first refl,
-      word_back allocas u (codes "\n" ++ r) few second refl) refl
+      word_back allocas u (codes "\n" ++ r) few second refl,
+    ) refl
 
 store_back : (allocas : List Bool) (v : Word) (k : ℕ) (r : List ℕ) → length allocas ≤ 2 ^ 22 → IsWord allocas v → IsAddress allocas k
     → store allocas (word_text v ++ (codes ", ptr " ++ (result_text k ++ (codes "\n" ++ r)))) ≡ took (Acts (unmarked (op.Store (Int 32) (word_operand v) (operand.Local (result_name k))) None)) r
 unfolding store strip
 store_back allocas v k r few value addr =
-    rw (word_back allocas v (codes ", ptr " ++ (result_text k ++ (codes "\n" ++ r))) few value refl,
-      address_back allocas k (codes "\n" ++ r) few addr refl) refl
+    rw (
+      word_back allocas v (codes ", ptr " ++ (result_text k ++ (codes "\n" ++ r))) few value refl,
+      address_back allocas k (codes "\n" ++ r) few addr refl,
+    ) refl
 
 load_back : (allocas : List Bool) (n k : ℕ) (r : List ℕ) → length allocas ≤ 2 ^ 22 → IsAddress allocas k
     → load allocas n (result_text k ++ (codes "\n" ++ r)) ≡ took (Defines (unmarked (op.Load (Int 32) (operand.Local (result_name k))) (Some (name.Number n))) false) r
@@ -184,17 +188,19 @@ record LogicRead (t : List ℕ) (x : BinOp) (r : List ℕ) : Type 0 where
 logic_read : (t : List ℕ) (x : BinOp) (r : List ℕ) → logic t ≡ took x r → LogicRead t x r
 unfolding logic
 logic_read t x r h = elim (there_or (strip (codes "and") t)) [
-    inl found ↦
+  | inl found ↦
       let same = same_took _ x found.behind r (rw found.is at h) in
       record { form = And; text_is = strip_reads (codes "and") t found.behind found.is ∙ ap (λ u. codes "and" ++ u) same.rest_is; op_is = sym same.piece_is }
   | inr other ↦ elim (there_or (strip (codes "or") t)) [
-      inl found ↦
+    | inl found ↦
         let same = same_took _ x found.behind r (rw (other, found.is) at h) in
         record { form = Or; text_is = strip_reads (codes "or") t found.behind found.is ∙ ap (λ u. codes "or" ++ u) same.rest_is; op_is = sym same.piece_is }
     | inr neither ↦
         let one = then_took _ _ x r (rw (other, neither) at h) in
         let same = same_took _ x one.behind r one.second in
-        record { form = Xor; text_is = strip_reads (codes "xor") t one.behind one.first ∙ ap (λ u. codes "xor" ++ u) same.rest_is; op_is = sym same.piece_is } ] ]
+        record { form = Xor; text_is = strip_reads (codes "xor") t one.behind one.first ∙ ap (λ u. codes "xor" ++ u) same.rest_is; op_is = sym same.piece_is }
+  ]
+]
 
 record CombineRead (allocas : List Bool) (n : ℕ) (t : List ℕ) (x : Line) (r : List ℕ) : Type 0 where
   logic : Logic
@@ -227,9 +233,9 @@ combine_read allocas n t x r h =
       is = (a.is, b.is);
       text_is = o.text_is ∙ ap (λ u. logic_text o.form ++ u) (ty ∙ ap (λ u. codes " i32 " ++ u) (a.text_is ∙ ap (λ u. word_text a.form ++ u) (comma ∙ ap (λ u. codes ", " ++ u) (b.text_is ∙ ap (λ u. word_text b.form ++ u) (end_of_line ∙ ap (λ u. codes "\n" ++ u) same.rest_is)))));
       line_is = sym same.piece_is
-        ∙ ap (λ p. Defines (unmarked (op.Binary p no_flags (Int 32) three.piece five.piece) (Some (name.Number n))) false) o.op_is
-        ∙ ap (λ p. Defines (unmarked (op.Binary (logic_op o.form) no_flags (Int 32) p five.piece) (Some (name.Number n))) false) a.operand_is
-        ∙ ap (λ p. Defines (unmarked (op.Binary (logic_op o.form) no_flags (Int 32) (word_operand a.form) p) (Some (name.Number n))) false) b.operand_is;
+          ∙ ap (λ p. Defines (unmarked (op.Binary p no_flags (Int 32) three.piece five.piece) (Some (name.Number n))) false) o.op_is
+          ∙ ap (λ p. Defines (unmarked (op.Binary (logic_op o.form) no_flags (Int 32) p five.piece) (Some (name.Number n))) false) a.operand_is
+          ∙ ap (λ p. Defines (unmarked (op.Binary (logic_op o.form) no_flags (Int 32) (word_operand a.form) p) (Some (name.Number n))) false) b.operand_is;
     }
 
 -- a line that was read
@@ -249,16 +255,18 @@ record DefinedRead (allocas : List Bool) (n : ℕ) (t : List ℕ) (x : Line) (r 
 defined_read : (allocas : List Bool) (n : ℕ) (t : List ℕ) (x : Line) (r : List ℕ) → defined allocas (n + 1) t ≡ took x r → DefinedRead allocas n t x r
 unfolding defined
 defined_read allocas n t x r h = elim (there_or (strip (codes "alloca i32\n") t)) [
-    inl found ↦
+  | inl found ↦
       let same = same_took _ x found.behind r (rw found.is at h) in
       record { form = Alloca; is = tt; text_is = ap (λ u. codes "  %" ++ (decimal (n + 1) ++ (codes " = " ++ u))) (strip_reads (codes "alloca i32\n") t found.behind found.is ∙ ap (λ u. codes "alloca i32\n" ++ u) same.rest_is); line_is = sym same.piece_is }
   | inr other ↦ elim (there_or (strip (codes "load i32, ptr ") t)) [
-      inl found ↦
+    | inl found ↦
         let l = load_read allocas (n + 1) found.behind x r (rw (other, found.is) at h) in
         record { form = Load l.place; is = l.is; text_is = ap (λ u. codes "  %" ++ (decimal (n + 1) ++ (codes " = " ++ u))) (strip_reads (codes "load i32, ptr ") t found.behind found.is ∙ ap (λ u. codes "load i32, ptr " ++ u) l.text_is); line_is = l.line_is }
     | inr neither ↦
         let l = combine_read allocas (n + 1) t x r (rw (other, neither) at h) in
-        record { form = Combine l.logic l.left l.right; is = l.is; text_is = ap (λ u. codes "  %" ++ (decimal (n + 1) ++ (codes " = " ++ u))) l.text_is; line_is = l.line_is } ] ]
+        record { form = Combine l.logic l.left l.right; is = l.is; text_is = ap (λ u. codes "  %" ++ (decimal (n + 1) ++ (codes " = " ++ u))) l.text_is; line_is = l.line_is }
+  ]
+]
 
 record NumberedRead (allocas : List Bool) (n : ℕ) (t : List ℕ) (x : Line) (r : List ℕ) : Type 0 where
   number_is : n ≡ length allocas + 1
@@ -266,13 +274,14 @@ record NumberedRead (allocas : List Bool) (n : ℕ) (t : List ℕ) (x : Line) (r
 
 numbered_read : (allocas : List Bool) (n : ℕ) (t : List ℕ) (x : Line) (r : List ℕ) → numbered allocas n t ≡ took x r → NumberedRead allocas n t x r
 numbered_read allocas n t x r h = elim (cases_Bool (eqb n (length allocas + 1))) [
-    inl same ↦ record { number_is = eqb-true n (length allocas + 1) same; next = then_took (strip (codes " = ") t) (λ _. defined allocas n) x r (rw same at h) }
-  | inr other ↦ let e : refused ≡ took x r = rw other at h in absurd cc ]
+  | inl same ↦ record { number_is = eqb-true n (length allocas + 1) same; next = then_took (strip (codes " = ") t) (λ _. defined allocas n) x r (rw same at h) }
+  | inr other ↦ let e : refused ≡ took x r = rw other at h in absurd cc
+]
 
 pub line_read : (allocas : List Bool) (t : List ℕ) (x : Line) (r : List ℕ) → line allocas t ≡ took x r → LineRead allocas t x r
 unfolding line
 line_read allocas t x r h = elim (there_or (strip (codes "  store i32 ") t)) [
-    inl found ↦
+  | inl found ↦
       let s = store_read allocas found.behind x r (rw found.is at h) in
       record { form = Store s.value s.place; is = s.is; text_is = strip_reads (codes "  store i32 ") t found.behind found.is ∙ ap (λ u. codes "  store i32 " ++ u) s.text_is; line_is = s.line_is }
   | inr other ↦
@@ -288,4 +297,5 @@ line_read allocas t x r h = elim (there_or (strip (codes "  store i32 ") t)) [
         is = d.is;
         text_is = strip_reads (codes "  %") t one.behind one.first ∙ ap (λ u. codes "  %" ++ u) (m.text_is ∙ ap (λ k. decimal k ++ two.behind) three.number_is ∙ ap (λ u. decimal (length allocas + 1) ++ u) equals) ∙ d.text_is;
         line_is = d.line_is;
-      } ]
+      }
+]

@@ -42,9 +42,10 @@ pub record Result (allocas : List Bool) (n : ℕ) (kind : Bool) : Type 0 where
 
 kind_read : (allocas : List Bool) (n : ℕ) (kind : Bool) → kind_of allocas n ≡ Some kind → Result allocas n kind
 kind_read allocas n kind h = elim (cases_Bool (eqb n 0)) [
-    inl none ↦ let e : None ≡ Some kind = rw none at h in absurd cc
+  | inl none ↦ let e : None ≡ Some kind = rw none at h in absurd cc
   | inr some ↦ let e : slice_get allocas (n - 1) ≡ Some kind = rw some at h in
-      let nonzero = eqb-false n 0 some in record { place = n - 1; number_is = omega arith; kind_is = e } ]
+      let nonzero = eqb-false n 0 some in record { place = n - 1; number_is = omega arith; kind_is = e }
+]
 
 kind_back : (allocas : List Bool) (k : ℕ) → kind_of allocas (k + 1) ≡ slice_get allocas k
 kind_back allocas k = let nonzero = ne_eqb (k + 1) 0 (λ z. absurd (omega arith)) in let same : k + 1 - 1 ≡ k = omega arith in rw (nonzero, same) refl
@@ -99,12 +100,13 @@ no_sign : (c : ℕ) (ds r : List ℕ) → is_ascii_digit c ≡ false → AllDigi
 unfolding strip
 no_sign c [] r other all some = absurd (omega arith)
 no_sign c (d ∷ ds) r other all some = elim (cases_Bool (eqb c d)) [
-    inr differs ↦ rw differs refl
+  | inr differs ↦ rw differs refl
   | inl same ↦
       let range = digit_from_value d all.0 in
       let digit : is_ascii_digit d ≡ true = and_from _ _ (le-leb 48 d range.0) (le-leb d 57 range.1) in
       let e = eqb-true c d same in
-      let f : is_ascii_digit d ≡ false = rw (← e) other in absurd cc ]
+      let f : is_ascii_digit d ≡ false = rw (← e) other in absurd cc
+]
 
 starts_plain : (c n : ℕ) (r : List ℕ) → is_ascii_digit c ≡ false → n < 2 ^ 32 → strip (c ∷ []) (decimal n ++ r) ≡ refused
 starts_plain c n r other small = let numeral = decimal_is_IsNumeral n (omega arith) in no_sign c (decimal n) r other numeral.0.1 numeral.0.0
@@ -119,12 +121,13 @@ record IsMinus (n : ℕ) (x : Operand) : Type 0 where
 
 minus_read : (n : ℕ) (t : List ℕ) (x : Operand) (r : List ℕ) → maybe (minus n) t ≡ took x r → IsMinus n x × (t ≡ r)
 minus_read n t x r h = elim (cases_Bool (eqb n 0 || nat_lt (2 ^ 31) n)) [
-    inl outside ↦ let e : refused ≡ took x r = rw outside at h in absurd cc
+  | inl outside ↦ let e : refused ≡ took x r = rw outside at h in absurd cc
   | inr within ↦
       let e : took (operand.Int (2 ^ 32 - n)) t ≡ took x r = rw within at h in
       let parts = or_parts _ _ within in
       let some = eqb-false n 0 parts.0 in
-      (record { low = omega arith; high = ltb-false (2 ^ 31) n parts.1; operand_is = cc }, cc) ]
+      (record { low = omega arith; high = ltb-false (2 ^ 31) n parts.1; operand_is = cc }, cc)
+]
 
 record WordAt (o : Option Bool) (n : ℕ) (t : List ℕ) (x : Operand) (r : List ℕ) : Type 0 where
   is : o ≡ Some false
@@ -146,8 +149,8 @@ word_back allocas (Whole n) r few is ends =
     rw (starts_plain 37 n r refl is, starts_plain 45 n r refl is, number_back n r is ends) refl
 word_back allocas (Minus n) r few is ends =
     ap (λ x. if_there x (λ u. and_then (number u) (λ n. word_at (kind_of allocas n) n))
-      (if_there (strip (codes "-") (45 ∷ decimal n ++ r)) (λ u. and_then (number u) (λ n. maybe (minus n)))
-        (and_then (number (45 ∷ decimal n ++ r)) (λ n. took (operand.Int n))))) (unsigned (decimal n ++ r))
+    (if_there (strip (codes "-") (45 ∷ decimal n ++ r)) (λ u. and_then (number u) (λ n. maybe (minus n)))
+    (and_then (number (45 ∷ decimal n ++ r)) (λ n. took (operand.Int n))))) (unsigned (decimal n ++ r))
     ∙ rw (strip_takes (codes "-") (decimal n ++ r), number_back n r (omega (arith, is.1)) ends, minus_back n is.0 is.1) refl
 word_back allocas (Earlier k) r few is ends =
     let within = slice_get_within allocas k false is in
@@ -156,7 +159,7 @@ word_back allocas (Earlier k) r few is ends =
 pub word_read : (allocas : List Bool) (t : List ℕ) (x : Operand) (r : List ℕ) → word allocas t ≡ took x r → Reads allocas t x r
 unfolding word
 word_read allocas t x r h = elim (there_or (strip (codes "%") t)) [
-    inl percent ↦
+  | inl percent ↦
       let e : and_then (number percent.behind) (λ n. word_at (kind_of allocas n) n) ≡ took x r = rw percent.is at h in
       let two = then_took _ _ x r e in
       let number = number_read percent.behind two.piece two.behind two.first in
@@ -169,7 +172,7 @@ word_read allocas t x r h = elim (there_or (strip (codes "%") t)) [
         operand_is = three.operand_is ∙ ap local result.number_is;
       }
   | inr other ↦ elim (there_or (strip (codes "-") t)) [
-      inl dash ↦
+    | inl dash ↦
         let e : and_then (number dash.behind) (λ n. maybe (minus n)) ≡ took x r = rw (other, dash.is) at h in
         let two = then_took _ _ x r e in
         let number = number_read dash.behind two.piece two.behind two.first in
@@ -190,4 +193,6 @@ word_read allocas t x r h = elim (there_or (strip (codes "%") t)) [
           is = number.small;
           text_is = number.text_is ∙ ap (λ u. decimal two.piece ++ u) same;
           operand_is = (let f = two.second in cc);
-        } ] ]
+        }
+  ]
+]

@@ -22,8 +22,9 @@ unfolding strip
 strip_reads [] s r h = cc
 strip_reads (c ∷ p) [] r h = absurd cc
 strip_reads (c ∷ p) (d ∷ s) r h = elim (cases_Bool (eqb c d)) [
-    inl same ↦ let rest : strip p s ≡ took tt r = rw same at h in let tail = strip_reads p s r rest in let head = eqb-true c d same in cc
-  | inr other ↦ let none : refused ≡ took tt r = rw other at h in absurd cc ]
+  | inl same ↦ let rest : strip p s ≡ took tt r = rw same at h in let tail = strip_reads p s r rest in let head = eqb-true c d same in cc
+  | inr other ↦ let none : refused ≡ took tt r = rw other at h in absurd cc
+]
 
 refused_unless : (x : Taken (Unit {0})) → ((r : List ℕ) → x ≡ took tt r → ⊥) → x ≡ refused
 refused_unless refused h = refl
@@ -64,12 +65,12 @@ digits_read : (n : ℕ) (t : List ℕ) (v : ℕ) (r : List ℕ) → n < 2 ^ 32 �
 unfolding more_digits
 digits_read n [] v r small h = record { digits = []; all = tt; text_is = cc; value_is = cc; lone = λ _. refl; small = (let e : v ≡ n = cc in omega arith) }
 digits_read n (c ∷ t) v r small h = elim (cases_Bool (is_ascii_digit c)) [
-    inr other ↦ let e : took n (c ∷ t) ≡ took v r = rw other at h in
+  | inr other ↦ let e : took n (c ∷ t) ≡ took v r = rw other at h in
       record { digits = []; all = tt; text_is = cc; value_is = cc; lone = λ _. refl; small = (let e : v ≡ n = cc in omega arith) }
   | inl is ↦ elim (cases_Bool (eqb n 0)) [
-      inl none ↦ let e : refused ≡ took v r = rw (is, none) at h in absurd cc
+    | inl none ↦ let e : refused ≡ took v r = rw (is, none) at h in absurd cc
     | inr some ↦ elim (cases_Bool (nat_lt (n * 10 + (c - 48)) (2 ^ 32))) [
-        inr large ↦ let e : refused ≡ took v r = rw (is, some, large) at h in absurd cc
+      | inr large ↦ let e : refused ≡ took v r = rw (is, some, large) at h in absurd cc
       | inl below ↦
           let e : more_digits (n * 10 + (c - 48)) t ≡ took v r = rw (is, some, below) at h in
           let rest = digits_read (n * 10 + (c - 48)) t v r (ltb-true _ _ below) e in
@@ -82,7 +83,10 @@ digits_read n (c ∷ t) v r small h = elim (cases_Bool (is_ascii_digit c)) [
             value_is = rw d rest.value_is;
             lone = λ z. absurd (eqb-false n 0 some z);
             small = rest.small;
-          } ] ] ]
+          }
+    ]
+  ]
+]
 
 digits_back : (n : ℕ) (ds r : List ℕ) → AllDigits 10 ds → 0 < n → digits_value_after 10 n ds < 2 ^ 32 → NoDigit r → more_digits n (ds ++ r) ≡ took (digits_value_after 10 n ds) r
 unfolding more_digits
@@ -136,7 +140,7 @@ pub number_read : (t : List ℕ) (n : ℕ) (r : List ℕ) → number t ≡ took 
 unfolding number
 number_read [] n r h = absurd cc
 number_read (c ∷ t) n r h = elim (cases_Bool (is_ascii_digit c)) [
-    inr other ↦ let e : refused ≡ took n r = rw other at h in absurd cc
+  | inr other ↦ let e : refused ≡ took n r = rw other at h in absurd cc
   | inl is ↦
       let e : more_digits (c - 48) t ≡ took n r = rw is at h in
       let range = digit_test c is in
@@ -144,4 +148,5 @@ number_read (c ∷ t) n r h = elim (cases_Bool (is_ascii_digit c)) [
       record {
         text_is = ap (λ u. c ∷ u) rest.text_is ∙ numeral_read c n rest.digits r range.0 range.1 rest.all rest.value_is rest.lone rest.small;
         small = rest.small;
-      } ]
+      }
+]

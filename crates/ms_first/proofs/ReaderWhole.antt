@@ -6,7 +6,7 @@ use Rattle.ms_ir.specs.declared.syntax.Module.{Module}
 use Rattle.ms_ir.specs.declared.syntax.Operand.{Operand}
 use Rattle.ms_ir.specs.First.{Word, Logic, Alloca, Load, Store, Combine, IsWord, AreLines, after_line, after_lines, word_text, logic_text, result_text, word_operand, line_text, lines_text, whole_text, line_inst, lines_insts, ret_inst, main_module, module_of, Lines, First}
 use Rattle.ms_ir.specs.First as first
-use Rattle.ms_first.specs.declared.first.reader.lines.Line.{Line}
+use Rattle.ms_first.specs.declared.reader.lines.Line.{Line}
 use Rattle.ms_first.specs.Reading.{Taken, took, refused, and_then, strip, word, line, last, last_of, to_end, inst_of, after_read, ret_of}
 use Rattle.ms_first.proofs.ReaderPieces.{strip_takes, strip_reads}
 use Rattle.ms_first.proofs.ReaderOperands.{then_took, word_back, word_read}
@@ -118,7 +118,8 @@ begun text t few h =
           of = record { lines = r.lines; last = r.last; are_lines = r.are_lines; returns = r.is_word };
           text_is = e ∙ ap (λ u. head ++ u) r.text_is ∙ sym (whole_text-parts r.lines r.last);
           module_is = r.module_is;
-        }));
+        }),
+      );
       room = (let k = ap length e in omega (arith, length-append head t));
     }
 
@@ -162,31 +163,31 @@ module _ (allocas : List Bool) (found : List Inst) (t : List ℕ) (m : Module) w
       let rest = lines_text (after_line allocas f.form) f.lines ++ (returns ++ closing f.last) in
       let same = same_took (as_read n f.form) l rest r (sym (line_back allocas f.form rest few f.are_lines.0) ∙ sym (ap (λ s. line allocas s) f.text_is) ∙ h) in
       moved (after_line allocas f.form) (after_read allocas l) (found ++ line_inst n f.form ∷ []) (found ++ inst_of l ∷ []) rest r m
-        (sym (after_as_read allocas f.form) ∙ ap (λ x. after_read allocas x) same.piece_is)
-        (ap (λ i. found ++ i ∷ []) (sym (inst_as_read n f.form) ∙ ap inst_of same.piece_is))
-        same.rest_is
-        (record { lines = f.lines; last = f.last; are_lines = f.are_lines.1; is_word = f.is_word; text_is = refl; module_is = f.module_is })
+      (sym (after_as_read allocas f.form) ∙ ap (λ x. after_read allocas x) same.piece_is)
+      (ap (λ i. found ++ i ∷ []) (sym (inst_as_read n f.form) ∙ ap inst_of same.piece_is))
+      same.rest_is
+      (record { lines = f.lines; last = f.last; are_lines = f.are_lines.1; is_word = f.is_word; text_is = refl; module_is = f.module_is })
 
   back_of : (l : Line) (r : List ℕ) → (x : LineRead allocas t l r) → Rest (after_line allocas x.form) (found ++ line_inst (length allocas) x.form ∷ []) r m → Rest allocas found t m
   back_of l r x rest = record {
-      lines = x.form ∷ rest.lines;
-      last = rest.last;
-      are_lines = (x.is, rest.are_lines);
-      is_word = rest.is_word;
-      text_is = x.text_is ∙ ap (λ u. written (length allocas) x.form u) rest.text_is
+    lines = x.form ∷ rest.lines;
+    last = rest.last;
+    are_lines = (x.is, rest.are_lines);
+    is_word = rest.is_word;
+    text_is = x.text_is ∙ ap (λ u. written (length allocas) x.form u) rest.text_is
         ∙ sym (append_assoc (line_text (length allocas) x.form) (lines_text (after_line allocas x.form) rest.lines) (returns ++ closing rest.last) ∙ line_text-append (length allocas) x.form (lines_text (after_line allocas x.form) rest.lines ++ (returns ++ closing rest.last)));
-      module_is = rest.module_is ∙ ap main_module (append_assoc found (line_inst (length allocas) x.form ∷ []) (lines_insts (after_line allocas x.form) rest.lines ++ ret_inst rest.last ∷ []));
-    }
+    module_is = rest.module_is ∙ ap main_module (append_assoc found (line_inst (length allocas) x.form ∷ []) (lines_insts (after_line allocas x.form) rest.lines ++ ret_inst rest.last ∷ []));
+  }
 
   backward : (l : Line) (r : List ℕ) → line allocas t ≡ took l r → Rest (after_read allocas l) (found ++ inst_of l ∷ []) r m → Rest allocas found t m
   backward l r h rest =
       let x = line_read allocas t l r h in
       let n = length allocas in
       back_of l r x (moved (after_read allocas l) (after_line allocas x.form) (found ++ inst_of l ∷ []) (found ++ line_inst n x.form ∷ []) r r m
-        (ap (λ y. after_read allocas y) x.line_is ∙ after_as_read allocas x.form)
-        (ap (λ i. found ++ i ∷ []) (ap inst_of x.line_is ∙ inst_as_read n x.form))
-        refl
-        rest)
+      (ap (λ y. after_read allocas y) x.line_is ∙ after_as_read allocas x.form)
+      (ap (λ i. found ++ i ∷ []) (ap inst_of x.line_is ∙ inst_as_read n x.form))
+      refl
+      rest)
 
 four_longer : (a b c d r : List ℕ) → length r + 1 ≤ length (a ++ (b ++ (c ++ (d ++ 10 ∷ r))))
 four_longer a b c d r = simp length-append (omega arith)
@@ -224,16 +225,17 @@ module _ (text : List ℕ) (allocas : List Bool) (found : List Inst) (t : List �
   one_more l r h e = record {
     same = λ m. (
       (λ f. onward allocas found t m l r few e (first_line allocas found t m h ((so_far.same m).0 f))),
-      (λ x. (so_far.same m).1 (backward allocas found t m l r e x)));
+      (λ x. (so_far.same m).1 (backward allocas found t m l r e x)),
+    );
     room = line_room allocas t l r e so_far.room;
   }
 
   pub no_line : strip returns t ≡ refused → line allocas t ≡ refused → (m : Module) → First text m ↔ (None ≡ Some m)
   no_line h e = no_module text (λ m f.
-    let l = first_line allocas found t m h ((so_far.same m).0 f) in
-    let read = line_back allocas l.form (lines_text (after_line allocas l.form) l.lines ++ (returns ++ closing l.last)) few l.are_lines.0 in
-    let again = ap (λ s. line allocas s) l.text_is in
-    absurd cc)
+      let l = first_line allocas found t m h ((so_far.same m).0 f) in
+      let read = line_back allocas l.form (lines_text (after_line allocas l.form) l.lines ++ (returns ++ closing l.last)) few l.are_lines.0 in
+      let again = ap (λ s. line allocas s) l.text_is in
+      absurd cc)
 
 -- ---- where the loop ends
 
@@ -252,11 +254,11 @@ record Ends (allocas : List Bool) (found : List Inst) (u : List ℕ) (m : Module
 
 ends_of : (allocas : List Bool) (found : List Inst) (t u : List ℕ) (m : Module) → strip returns t ≡ took tt u → (ls : List first.Line) (w : Word) → IsWord (after_lines allocas ls) w → t ≡ lines_text allocas ls ++ (returns ++ closing w) → m ≡ main_module (found ++ (lines_insts allocas ls ++ ret_inst w ∷ [])) → Ends allocas found u m
 ends_of allocas found t u m h [] w is text_is module_is = record {
-    last = w;
-    is_word = is;
-    text_is = behind returns u (closing w) (sym (strip_reads returns t u h) ∙ text_is);
-    module_is = module_is;
-  }
+  last = w;
+  is_word = is;
+  text_is = behind returns u (closing w) (sym (strip_reads returns t u h) ∙ text_is);
+  module_is = module_is;
+}
 ends_of allocas found t u m h (l ∷ ls) w is text_is module_is =
     let rest = lines_text (after_line allocas l) ls ++ (returns ++ closing w) in
     let e = text_is ∙ append_assoc (line_text (length allocas) l) (lines_text (after_line allocas l) ls) (returns ++ closing w) ∙ line_text-append (length allocas) l rest in
@@ -275,21 +277,22 @@ module _ (text : List ℕ) (allocas : List Bool) (found : List Inst) (t u : List
   pub ended : (x : Operand) (n : Module) → last allocas u ≡ Some x → n ≡ main_module (found ++ ret_of x ∷ []) → (m : Module) → First text m ↔ (Some n ≡ Some m)
   ended x n e same m = (
     (λ f.
-      let k = ends m f in
-      let value = value_is m k in
-      let operand : x ≡ word_operand k.last = cc in
-      ap Some (same ∙ ap (λ y. main_module (found ++ ret_of y ∷ [])) operand ∙ sym k.module_is)),
+        let k = ends m f in
+        let value = value_is m k in
+        let operand : x ≡ word_operand k.last = cc in
+        ap Some (same ∙ ap (λ y. main_module (found ++ ret_of y ∷ [])) operand ∙ sym k.module_is)),
     (λ g.
-      let w = last_read allocas u x e in
-      let here : n ≡ m = cc in
-      (so_far.same m).1 (record {
-        lines = [];
-        last = w.form;
-        are_lines = tt;
-        is_word = w.is;
-        text_is = strip_reads returns t u h ∙ ap (λ s. returns ++ s) w.text_is;
-        module_is = sym here ∙ same ∙ ap (λ y. main_module (found ++ ret_of y ∷ [])) w.operand_is;
-      })))
+        let w = last_read allocas u x e in
+        let here : n ≡ m = cc in
+        (so_far.same m).1 (record {
+          lines = [];
+          last = w.form;
+          are_lines = tt;
+          is_word = w.is;
+          text_is = strip_reads returns t u h ∙ ap (λ s. returns ++ s) w.text_is;
+          module_is = sym here ∙ same ∙ ap (λ y. main_module (found ++ ret_of y ∷ [])) w.operand_is;
+        })),
+  )
 
   pub no_end : last allocas u ≡ None → (m : Module) → First text m ↔ (None ≡ Some m)
   no_end e = no_module text (λ m f. let k = ends m f in let value = value_is m k in absurd cc)

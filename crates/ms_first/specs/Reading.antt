@@ -12,8 +12,8 @@ use Rattle.ms_ir.specs.declared.syntax.Op.{Op}
 use Rattle.ms_ir.specs.declared.syntax.Op.TheVariants as op
 use Rattle.ms_ir.specs.declared.syntax.Inst.{Inst}
 use Rattle.ms_ir.specs.First.{no_flags, unmarked}
-use Rattle.ms_first.specs.declared.first.reader.lines.Line.{Line}
-use Rattle.ms_first.specs.declared.first.reader.lines.Line.TheVariants.{Defines, Acts}
+use Rattle.ms_first.specs.declared.reader.lines.Line.{Line}
+use Rattle.ms_first.specs.declared.reader.lines.Line.TheVariants.{Defines, Acts}
 
 -- a piece and the text behind it, or none
 pub data Taken (A : Type 0) : Type 0 where
@@ -86,8 +86,8 @@ address allocas t = and_then (strip (codes "%") t) (λ _ u. and_then (number u) 
 unfoldable pub word : List Bool → List ℕ → Taken Operand
 word allocas t =
     if_there (strip (codes "%") t) (λ u. and_then (number u) (λ n. word_at (kind_of allocas n) n))
-      (if_there (strip (codes "-") t) (λ u. and_then (number u) (λ n. maybe (minus n)))
-        (and_then (number t) (λ n. took (operand.Int n))))
+    (if_there (strip (codes "-") t) (λ u. and_then (number u) (λ n. maybe (minus n)))
+    (and_then (number t) (λ n. took (operand.Int n))))
 
 -- ---- lines
 
@@ -108,8 +108,8 @@ load allocas n t =
 unfoldable pub logic : List ℕ → Taken BinOp
 logic t =
     if_there (strip (codes "and") t) (took binary.And)
-      (if_there (strip (codes "or") t) (took binary.Or)
-        (and_then (strip (codes "xor") t) (λ _. took binary.Xor)))
+    (if_there (strip (codes "or") t) (took binary.Or)
+    (and_then (strip (codes "xor") t) (λ _. took binary.Xor)))
 
 unfoldable pub combine : List Bool → ℕ → List ℕ → Taken Line
 combine allocas n t =
@@ -128,7 +128,7 @@ alloca n = Defines (unmarked (op.Alloca (Int 32) (Int 32) (operand.Int 1)) (Some
 unfoldable pub defined : List Bool → ℕ → List ℕ → Taken Line
 defined allocas n t =
     if_there (strip (codes "alloca i32\n") t) (took (alloca n))
-      (if_there (strip (codes "load i32, ptr ") t) (load allocas n) (combine allocas n t))
+    (if_there (strip (codes "load i32, ptr ") t) (load allocas n) (combine allocas n t))
 
 abbrev pub numbered : List Bool → ℕ → List ℕ → Taken Line
 numbered allocas n t = cond (eqb n (length allocas + 1)) (and_then (strip (codes " = ") t) (λ _. defined allocas n)) refused
@@ -136,7 +136,7 @@ numbered allocas n t = cond (eqb n (length allocas + 1)) (and_then (strip (codes
 unfoldable pub line : List Bool → List ℕ → Taken Line
 line allocas t =
     if_there (strip (codes "  store i32 ") t) (store allocas)
-      (and_then (strip (codes "  %") t) (λ _ u. and_then (number u) (numbered allocas)))
+    (and_then (strip (codes "  %") t) (λ _ u. and_then (number u) (numbered allocas)))
 
 abbrev pub to_end : Operand → List ℕ → Option Operand
 to_end x [] = Some x

@@ -5,7 +5,8 @@ use ms_bits::{BinOp, Flags, List};
 use ms_ir::{Inst, Name, Op, Operand, Ty};
 use std::test::Fail;
 
-const EXAMPLE: &[u8] = b"define i32 @main() {\n  %1 = alloca i32\n  store i32 12, ptr %1\n  %2 = load i32, ptr %1\n  %3 = xor i32 %2, 10\n  ret i32 %3\n}\n";
+const EXAMPLE: &[u8] =
+    b"define i32 @main() {\n  %1 = alloca i32\n  store i32 12, ptr %1\n  %2 = load i32, ptr %1\n  %3 = xor i32 %2, 10\n  ret i32 %3\n}\n";
 
 fn local(number: u32) -> Operand {
     Operand::Local(Name::Number(number))
@@ -70,7 +71,11 @@ fn reads_each_kind_of_line(rt: HostRuntime) -> Result<(), Fail> {
         ),
     ];
     let module = read(rt.alloc(), EXAMPLE)?.ok_or("a module")?;
-    assert!(rt; module.types.as_slice().is_empty() && module.globals.as_slice().is_empty() && module.decls.as_slice().is_empty());
+    assert!(rt;
+        module.types.as_slice().is_empty()
+            && module.globals.as_slice().is_empty()
+            && module.decls.as_slice().is_empty()
+    );
     let [func] = module.funcs.as_slice() else {
         return Err("one function")?;
     };
@@ -99,17 +104,41 @@ fn tells_the_form(rt: HostRuntime) -> Result<(), Fail> {
         (b"define i32 @main() {\n  ret i32 0\n}", false),
         (b"define i32 @main() {\n  ret i32 0\n}\n ", false),
         (b"define i32 @main() {\n ret i32 0\n}\n", false),
-        (b"define i32 @main() {\n  ret i32 0\n  ret i32 0\n}\n", false),
+        (
+            b"define i32 @main() {\n  ret i32 0\n  ret i32 0\n}\n",
+            false,
+        ),
         (b"define i32 @main() {\n}\n", false),
         (b"define i32 @main() {\n  ret i32 %1\n}\n", false),
         (b"define i32 @main() {\n  ret i32 %0\n}\n", false),
-        (b"define i32 @main() {\n  %1 = or i32 1, 2\n  %2 = and i32 %1, -3\n  ret i32 %2\n}\n", true),
-        (b"define i32 @main() {\n  %1 = or i32 1, %1\n  ret i32 0\n}\n", false),
-        (b"define i32 @main() {\n  %2 = or i32 1, 2\n  ret i32 0\n}\n", false),
-        (b"define i32 @main() {\n  %1 = alloca i32\n  ret i32 %1\n}\n", false),
-        (b"define i32 @main() {\n  %1 = alloca i32\n  store i32 %1, ptr %1\n  ret i32 0\n}\n", false),
-        (b"define i32 @main() {\n  %1 = or i32 1, 2\n  %2 = load i32, ptr %1\n  ret i32 0\n}\n", false),
-        (b"define i32 @main() {\n  %1 = alloca i32\n  %2 = load i32, ptr %1\n  ret i32 %2\n}\n", true),
+        (
+            b"define i32 @main() {\n  %1 = or i32 1, 2\n  %2 = and i32 %1, -3\n  ret i32 %2\n}\n",
+            true,
+        ),
+        (
+            b"define i32 @main() {\n  %1 = or i32 1, %1\n  ret i32 0\n}\n",
+            false,
+        ),
+        (
+            b"define i32 @main() {\n  %2 = or i32 1, 2\n  ret i32 0\n}\n",
+            false,
+        ),
+        (
+            b"define i32 @main() {\n  %1 = alloca i32\n  ret i32 %1\n}\n",
+            false,
+        ),
+        (
+            b"define i32 @main() {\n  %1 = alloca i32\n  store i32 %1, ptr %1\n  ret i32 0\n}\n",
+            false,
+        ),
+        (
+            b"define i32 @main() {\n  %1 = or i32 1, 2\n  %2 = load i32, ptr %1\n  ret i32 0\n}\n",
+            false,
+        ),
+        (
+            b"define i32 @main() {\n  %1 = alloca i32\n  %2 = load i32, ptr %1\n  ret i32 %2\n}\n",
+            true,
+        ),
     ];
     for (at, (text, reads)) in table.into_iter().enumerate() {
         assert_eq!(rt; read(rt.alloc(), text)?.is_some(), reads, "text {at}");
