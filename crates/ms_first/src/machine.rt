@@ -19,7 +19,8 @@ const SLOT: u64 = 16;
 // How many such allocations the stack has room for.
 const SLOTS: usize = 65536;
 
-// What the instructions so far have computed.
+// What the instructions so far have computed. What is said here of other operands, instructions and addresses
+// than those of the first form is never used.
 #[derive(Drop)]
 struct State {
     // The words of the results. A result's name is its place, counted from 1.

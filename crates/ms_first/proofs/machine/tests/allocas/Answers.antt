@@ -1,6 +1,6 @@
 use Rattle.std.proofs.Common.{◌≡◌, ℕ, zero, suc, ◌+◌, Bool, true, List, [], ◌∷◌, ◌++◌, length, refl, sym, ap, ◌∙◌, arith, length-append, add-one}
 use Rattle.std.specs.Prelude.{replicate}
-use Rattle.ms_ir.specs.First.{Line, Alloca, Whole, IsLine, AreLines, line_inst, lines_insts, ret_inst, main_module}
+use Rattle.ms_ir.specs.First.{Alloca, Whole, AreLines, line_inst, lines_insts, main_module}
 use Rattle.ms_first.proofs.machine.tests.allocas.Goals as goal
 
 one_more : (n : ℕ) (before : List Bool) → lines_insts before (replicate (suc n) Alloca) ≡ lines_insts before (replicate n Alloca) ++ line_inst (length before + n) Alloca ∷ []

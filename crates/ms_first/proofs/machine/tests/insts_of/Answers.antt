@@ -1,4 +1,4 @@
-use Rattle.std.proofs.Common.{◌≡◌, ◌∷◌, [], refl, ap, ◌∙◌, arith}
+use Rattle.std.proofs.Common.{◌∷◌, [], refl, ap, ◌∙◌, arith}
 use Rattle.ms_ir.specs.First.{Alloca, Load, Store, Combine, Xor, Whole, Earlier, main_module}
 use Rattle.ms_first.proofs.machine.tests.insts_of.Goals as goal
 
