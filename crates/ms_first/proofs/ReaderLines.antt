@@ -1,11 +1,9 @@
 -- What the reader takes for a line is what is written there.
-use Rattle.std.proofs.Common.{◌≡◌, ◌⊎◌, ℕ, ◌+◌, ◌^◌, ◌<◌, ◌≤◌, Bool, true, false, cond, List, [], ◌∷◌, ◌++◌, length, Option, Some, None, codes, refl, sym, ap, subst, ◌∙◌, arith, inl, inr, append_assoc}
+use Rattle.std.proofs.Common.{◌≡◌, ℕ, ◌+◌, ◌^◌, ◌≤◌, Bool, true, false, List, [], ◌++◌, length, Some, None, codes, refl, sym, ap, subst, ◌∙◌, arith, inl, inr, append_assoc}
 use Rattle.std.specs.Prelude.{eqb, decimal}
 use Rattle.std.proofs.lemmas.Bool.{cases_Bool, eq-eqb, eqb-true}
 use Rattle.ms_bits.specs.declared.operations.BinOp.{BinOp}
-use Rattle.ms_bits.specs.declared.operations.BinOp.TheVariants as binary
 use Rattle.ms_ir.specs.declared.syntax.Ty.{Int}
-use Rattle.ms_ir.specs.declared.syntax.Operand.{Operand}
 use Rattle.ms_ir.specs.declared.syntax.Operand.TheVariants as operand
 use Rattle.ms_ir.specs.declared.syntax.Name.TheVariants as name
 use Rattle.ms_ir.specs.declared.syntax.Op.TheVariants as op
@@ -13,9 +11,9 @@ use Rattle.ms_ir.specs.First.{Word, Logic, And, Or, Xor, Alloca, Load, Store, Co
 use Rattle.ms_ir.specs.First as first
 use Rattle.ms_first.specs.declared.reader.lines.Line.{Line}
 use Rattle.ms_first.specs.declared.reader.lines.Line.TheVariants.{Defines, Acts}
-use Rattle.ms_first.specs.Reading.{Taken, took, refused, and_then, if_there, strip, number, word, address, store, load, logic, combine, alloca, defined, numbered, line}
-use Rattle.ms_first.proofs.ReaderPieces.{strip_takes, strip_reads, number_back, number_read}
-use Rattle.ms_first.proofs.ReaderOperands.{Then, then_took, There, there_or, Address, address_back, address_read, Reads, word_back, word_read}
+use Rattle.ms_first.specs.Reading.{took, refused, strip, store, load, logic, combine, alloca, defined, numbered, line}
+use Rattle.ms_first.proofs.ReaderPieces.{strip_reads, number_back, number_read}
+use Rattle.ms_first.proofs.ReaderOperands.{Then, then_took, there_or, address_back, address_read, word_back, word_read}
 
 -- ---- the two ways on from the name of a result that no alloca has
 

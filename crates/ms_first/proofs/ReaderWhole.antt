@@ -1,5 +1,5 @@
 -- The loop of the reader: what is left of a text, and the modules that the whole text is of.
-use Rattle.std.proofs.Common.{◌≡◌, ◌≢◌, ◌⊎◌, ◌↔◌, ℕ, ◌+◌, ◌-◌, ◌^◌, ◌<◌, ◌≤◌, Bool, true, false, List, [], ◌∷◌, ◌++◌, length, Option, Some, None, codes, refl, sym, ap, subst, ◌∙◌, arith, append_assoc, length-append}
+use Rattle.std.proofs.Common.{◌≡◌, ◌↔◌, ℕ, ◌+◌, ◌^◌, ◌<◌, ◌≤◌, Bool, true, false, List, [], ◌∷◌, ◌++◌, length, Some, None, codes, refl, sym, ap, subst, ◌∙◌, arith, append_assoc, length-append}
 use Rattle.std.specs.Prelude.{decimal}
 use Rattle.ms_ir.specs.declared.syntax.Inst.{Inst}
 use Rattle.ms_ir.specs.declared.syntax.Module.{Module}
@@ -7,7 +7,7 @@ use Rattle.ms_ir.specs.declared.syntax.Operand.{Operand}
 use Rattle.ms_ir.specs.First.{Word, Logic, Alloca, Load, Store, Combine, IsWord, AreLines, after_line, after_lines, word_text, logic_text, result_text, word_operand, line_text, lines_text, whole_text, line_inst, lines_insts, ret_inst, main_module, module_of, Lines, First}
 use Rattle.ms_ir.specs.First as first
 use Rattle.ms_first.specs.declared.reader.lines.Line.{Line}
-use Rattle.ms_first.specs.Reading.{Taken, took, refused, and_then, strip, word, line, last, last_of, to_end, inst_of, after_read, ret_of}
+use Rattle.ms_first.specs.Reading.{Taken, took, refused, strip, line, last, last_of, inst_of, after_read, ret_of}
 use Rattle.ms_first.proofs.ReaderPieces.{strip_takes, strip_reads}
 use Rattle.ms_first.proofs.ReaderOperands.{then_took, word_back, word_read}
 use Rattle.ms_first.proofs.ReaderLines.{written, line_text-append, as_read, line_back, LineRead, line_read, same_took}
