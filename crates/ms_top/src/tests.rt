@@ -23,10 +23,11 @@ struct Said {
     err: Vec<u8>,
 }
 
-fn words_of(alloc: Global, words: &[&str]) -> Result<Vec<Text>, AllocError> {
+/// The words of a line, which stand with a space between.
+fn words_of(alloc: Global, line: &str) -> Result<Vec<Text>, AllocError> {
     let mut texts = Vec::new(alloc);
-    for word in words {
-        let text = String::from_str(alloc, *word)?;
+    for word in line.split_whitespace() {
+        let text = String::from_str(alloc, word)?;
         texts.push(Text::from_string(text))?;
     }
     Ok(texts)
@@ -49,7 +50,7 @@ fn room(alloc: Global, bytes: usize) -> Result<Vec<u8>, AllocError> {
 /// Calls `msan` on one held file `f`, where the calls of these numbers fail.
 fn call(
     alloc: Global,
-    words: &[&str],
+    words: &str,
     file: Vec<u8>,
     failing_reads: Vec<u64>,
     failing_puts: Vec<u64>,
@@ -67,37 +68,41 @@ fn call(
     })
 }
 
-fn call_on(alloc: Global, words: &[&str], file: &str) -> Result<Said, AllocError> {
+fn call_on(alloc: Global, words: &str, file: &str) -> Result<Said, AllocError> {
     let file = Vec::from_slice(alloc, file.as_bytes())?;
     call(alloc, words, file, Vec::new(alloc), Vec::new(alloc), 1000)
 }
 
 #[test]
 fn says_what_the_words_and_the_file_ask_for(rt: HostRuntime) -> Result<(), Fail> {
-    let run: [&str; 2] = ["run", "f"];
-    let table: [(&[&str], &str, u8, &str); 12] = [
-        (&run, STORED, 0, "end: exit 6\nreports: 0\nblind: 0\n"),
+    let table: [(&str, &str, u8, &str); 12] = [
+        ("run f", STORED, 0, "end: exit 6\nreports: 0\nblind: 0\n"),
         (
-            &run,
+            "run f",
             UNSET,
             0,
             "end: exit 2779096495\nreports: 0\nblind: 0\n",
         ),
-        (&run, RETURNS_ZERO, 0, "end: exit 0\nreports: 0\nblind: 0\n"),
-        (&run, "", 5, "refused 99: not built yet\n"),
         (
-            &run,
+            "run f",
+            RETURNS_ZERO,
+            0,
+            "end: exit 0\nreports: 0\nblind: 0\n",
+        ),
+        ("run f", "", 5, "refused 99: not built yet\n"),
+        (
+            "run f",
             "define i32 @main() {\n  ret i32 0\n}",
             5,
             "refused 99: not built yet\n",
         ),
-        (&["run"], STORED, 2, "words: NotBuilt at 0\n"),
-        (&[], STORED, 2, "words: NotBuilt at 0\n"),
-        (&["run", "f", "f"], STORED, 2, "words: NotBuilt at 0\n"),
-        (&["check", "f"], STORED, 2, "words: NotBuilt at 0\n"),
-        (&["runs", "f"], STORED, 2, "words: NotBuilt at 0\n"),
-        (&["run", "g"], STORED, 6, "file fault: g\n"),
-        (&["run", "--"], STORED, 6, "file fault: --\n"),
+        ("run", STORED, 2, "words: NotBuilt at 0\n"),
+        ("", STORED, 2, "words: NotBuilt at 0\n"),
+        ("run f f", STORED, 2, "words: NotBuilt at 0\n"),
+        ("check f", STORED, 2, "words: NotBuilt at 0\n"),
+        ("runs f", STORED, 2, "words: NotBuilt at 0\n"),
+        ("run g", STORED, 6, "file fault: g\n"),
+        ("run --", STORED, 6, "file fault: --\n"),
     ];
     for (words, file, status, err) in table {
         let said = call_on(rt.alloc(), words, file)?;
@@ -111,7 +116,7 @@ fn says_what_the_words_and_the_file_ask_for(rt: HostRuntime) -> Result<(), Fail>
 #[test]
 fn says_the_same_over_ends_that_never_fail(rt: HostRuntime) -> Result<(), Fail> {
     let alloc = rt.alloc();
-    let words = words_of(alloc, &["run", "f"])?;
+    let words = words_of(alloc, "run f")?;
     let file = Vec::from_slice(alloc, STORED.as_bytes())?;
     let mut files = SureFiles::new(holding(alloc, "f", file)?);
     let mut out = SureSink::new();
@@ -130,14 +135,7 @@ fn the_stack_ends(rt: HostRuntime) -> Result<(), Fail> {
         text.extend_from_slice(line.as_bytes())?;
     }
     text.extend_from_slice(b"  ret i32 0\n}\n")?;
-    let said = call(
-        alloc,
-        &["run", "f"],
-        text,
-        Vec::new(alloc),
-        Vec::new(alloc),
-        1000,
-    )?;
+    let said = call(alloc, "run f", text, Vec::new(alloc), Vec::new(alloc), 1000)?;
     assert_eq!(rt; said.status, 3);
     assert!(rt;
         said.err.as_slice()
@@ -149,24 +147,24 @@ fn the_stack_ends(rt: HostRuntime) -> Result<(), Fail> {
 #[test]
 fn long_files_and_faults_have_their_own_statuses(rt: HostRuntime) -> Result<(), Fail> {
     let alloc = rt.alloc();
-    let run: [&str; 2] = ["run", "f"];
+    let run = "run f";
     let long = vec![in alloc; 32; 4194305]?;
-    let said = call(alloc, &run, long, Vec::new(alloc), Vec::new(alloc), 1000)?;
+    let said = call(alloc, run, long, Vec::new(alloc), Vec::new(alloc), 1000)?;
     assert_eq!(rt; said.status, 9);
     assert!(rt; said.err.as_slice() == b"file too long: f\n".as_slice());
 
     let file = Vec::from_slice(alloc, STORED.as_bytes())?;
-    let said = call(alloc, &run, file, vec![in alloc; 0]?, Vec::new(alloc), 1000)?;
+    let said = call(alloc, run, file, vec![in alloc; 0]?, Vec::new(alloc), 1000)?;
     assert_eq!(rt; said.status, 6);
     assert!(rt; said.err.as_slice() == b"file fault: f\n".as_slice());
 
     let file = Vec::from_slice(alloc, STORED.as_bytes())?;
-    let said = call(alloc, &run, file, Vec::new(alloc), vec![in alloc; 0]?, 1000)?;
+    let said = call(alloc, run, file, Vec::new(alloc), vec![in alloc; 0]?, 1000)?;
     assert_eq!(rt; said.status, 7);
     assert!(rt; said.err.is_empty());
 
     let file = Vec::from_slice(alloc, STORED.as_bytes())?;
-    let said = call(alloc, &run, file, Vec::new(alloc), Vec::new(alloc), 4)?;
+    let said = call(alloc, run, file, Vec::new(alloc), Vec::new(alloc), 4)?;
     assert_eq!(rt; said.status, 7);
     assert!(rt; said.err.as_slice() == b"end:".as_slice());
     Ok(())
