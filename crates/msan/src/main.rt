@@ -4,10 +4,9 @@
 
 use ms_bits::Text;
 use ms_io::{RealFiles, RealSink};
-use std::env;
-use std::io;
 use std::process::ExitCode;
 use std::rt::Env;
+use std::{env, io};
 
 /// The status where memory is wanting for the words.
 const NO_MEMORY: u8 = 8;
