@@ -1,5 +1,5 @@
 //! The order in which blocks hand on what arrives at them.
-ghost use Rattle.std.specs.Prelude.{◌≡◌, ℕ, ◌<◌, length, vec_len, IfOk, OnOk, All, Contains, slice_index_or};
+ghost use Rattle.std.specs.Prelude.{◌≡◌, ℕ, ◌<◌, length, vec_len, true, false, IfOk, OnOk, All, Contains, slice_index_or};
 ghost use Rattle.ms_flow.specs.Search.{StaysIn, Covers};
 
 use crate::graphs::Graph;

@@ -1,5 +1,5 @@
 //! Which of 64 values may arrive at each block without a definition.
-ghost use Rattle.std.specs.Prelude.{◌≡◌, ℕ, ◌<◌, ◌≤◌, ◌↔◌, true, length, All, Contains, slice_index_or};
+ghost use Rattle.std.specs.Prelude.{◌≡◌, ℕ, ◌<◌, ◌≤◌, ◌↔◌, true, false, length, All, Contains, slice_index_or};
 ghost use Rattle.ms_flow.specs.Search.{Has, StaysIn, Covers, Comes, IsState, Merged, work_left};
 
 use crate::graphs::Graph;
@@ -52,7 +52,7 @@ fn hand_on(g: &Graph, block: usize, kills: &[u64], words: &mut [u64], queued: &m
     requires kills { length kills.now ≡ length g.now.next }
     requires words { length words.old ≡ length g.now.next }
     requires queued { length queued.old ≡ length g.now.next }
-    requires waits { slice_index_or queued.old block true ≡ true }
+    requires waits { slice_index_or queued.old block false ≡ true }
     requires state { IsState g.now kills.now words.old queued.old }
     ensures state { IsState g.now kills.now words.new queued.new }
     ensures work { work_left words.new queued.new < work_left words.old queued.old }
