@@ -1,8 +1,10 @@
 -- How the words of the blocks are filled.
-use Rattle.std.proofs.Common.{◌≡◌, ◌≢◌, ℕ, ◌+◌, ◌-◌, ◌*◌, ◌^◌, ◌<◌, ◌≤◌, ◌⊎◌, ◌↔◌, Bool, true, false, cond, List, [], ◌∷◌, ◌++◌, length, get_or, take, replicate, refl, sym, ◌∙◌, inl, inr, ⊎_elim, subst, arith, get_or-set_same, get_or-set_other, below_more, All, Contains}
-use Rattle.std.proofs.lemmas.Bool.{cases_eq, cases_Bool, cond-true, true≢false, false≢true}
+use Rattle.std.proofs.Common.{◌≡◌, ◌≢◌, ℕ, ◌+◌, ◌-◌, ◌*◌, ◌^◌, ◌<◌, ◌≤◌, ◌⊎◌, ◌↔◌, Bool, true, false, cond, List, [], ◌∷◌, ◌++◌, length, get_or, take, replicate, refl, sym, ap, ◌∙◌, inl, inr, ⊎_elim, subst, arith, get_or-set_same, get_or-set_other, below_more, All, Contains}
+use Rattle.std.proofs.lemmas.Bool.{cases_eq, cases_lt, cases_Bool, cond-true, true≢false, false≢true}
 use Rattle.std.proofs.Math.ListN.{set}
-use Rattle.std.proofs.lemmas.List.{get_or_default}
+use Rattle.std.proofs.lemmas.List.{get_or_default, get_or_past, get_or-replicate, length-replicate}
+use Rattle.ms_flow.proofs.BitSets.{has_none, has_all}
+use Rattle.std.specs.Bool.{beq}
 use Rattle.std.specs.List.{sum_by, count_by}
 use Rattle.std.proofs.lemmas.List.Sums.{sum_by-set}
 use Rattle.std.proofs.lemmas.List.Elements.{All-nil, All-push, All-weaker, All-contains, Contains-push, Contains-append_left}
@@ -162,3 +164,56 @@ swept_all words words' queued queued' order n over covers (inr same) (b, below, 
     let P : ℕ → Type 0 = λ z. get_or queued z false ≡ false in
     let off = subst P here (same.2 place.0 (omega arith)) in
     absurd (true≢false (sym waits ∙ get_or_default queued b true false below ∙ off))
+
+-- ---- the first state and the last
+
+blank : (n b : ℕ) → get_or {A = ℕ} (replicate n 0) b 0 ≡ 0
+blank n b = ⊎_elim (λ h. get_or-replicate n b 0 0 h) (λ h. get_or_past (replicate n 0) b 0 (rw length-replicate h)) (cases_lt b n)
+
+pub state_first : (g : Graph) (kills words : List ℕ) (queued : List Bool) (n : ℕ)
+    → 0 < n → words ≡ replicate n 0 → length queued ≡ n
+    → IsState g kills (set words 0 18446744073709551615) (set queued 0 true)
+state_first g kills words queued n filled blanks len =
+    let in_words : 0 < length words = rw (blanks, length-replicate) filled in
+    let in_queued : 0 < length queued = omega arith in
+    let none : (b i : ℕ) → b ≢ 0 → Has (get_or (set words 0 18446744073709551615) b 0) i → ⊥ =
+        λ b i ne p. has_none i (has_same _ _ i (get_or-set_other words 0 b 18446744073709551615 0 ne ∙ ap (λ (l : List ℕ). get_or l b 0) blanks ∙ blank n b) p) in
+    record {
+      sound = λ b i small p. ⊎_elim
+        (λ e. let P : ℕ → Type 0 = λ z. Comes g kills i z in subst P (sym e) Entry)
+        (λ ne. absurd (none b i ne p))
+        (cases_eq b 0);
+      settled = λ b off c i edge small p free. ⊎_elim
+        (λ e. absurd (true≢false (sym (get_set_same queued 0 b true false in_queued e) ∙ off)))
+        (λ ne. absurd (none b i ne p))
+        (cases_eq b 0);
+      starts = λ i small. has_same _ _ i (sym (get_set_same words 0 0 18446744073709551615 0 in_words refl)) (has_all i small);
+    }
+
+has_arriving : (g : Graph) (kills words : List ℕ) (queued : List Bool) (i : ℕ)
+    → IsState g kills words queued
+    → ((b : ℕ) → get_or queued b false ≡ false)
+    → i < 64
+    → (b : ℕ) → Arrives g (λ a. Has (get_or kills a 0) i) b → Has (get_or words b 0) i
+has_arriving g kills words queued i s off small _ Entry = s.starts i small
+has_arriving g kills words queued i s off small c (Along b _ way free edge) =
+    s.settled b (off b) c i edge small (has_arriving g kills words queued i s off small b way) free
+
+pub state_last : (g : Graph) (kills words : List ℕ) (queued : List Bool)
+    → IsState g kills words queued
+    → ((b : ℕ) → get_or queued b false ≡ false)
+    → (b i : ℕ) → i < 64 → Has (get_or words b 0) i ↔ Comes g kills i b
+state_last g kills words queued s off b i small = (s.sound b i small, has_arriving g kills words queued i s off small b)
+
+pub none_queued : (queued : List Bool) → ((k : ℕ) (d : Bool) → k < length queued → get_or queued k d ≡ false) → (b : ℕ) → get_or queued b false ≡ false
+none_queued queued h b = ⊎_elim (λ lt. h b false lt) (λ ge. get_or_past queued b false ge) (cases_lt b (length queued))
+
+-- what the test for `true` says
+
+pub is_true : (x : Bool) → beq x true ≡ true → x ≡ true
+is_true true h = refl
+is_true false h = h
+
+pub is_false : (x : Bool) → beq x true ≡ false → x ≡ false
+is_false true h = h
+is_false false h = refl
