@@ -1,2 +1,4 @@
 pub mod BitSets
 pub mod States
+pub mod Members
+pub mod Kills

@@ -13,7 +13,7 @@ use Rattle.ms_flow.specs.Paths.{HasEdge}
 use Rattle.ms_flow.specs.Search.{Has, Arrives, Comes, HandsOn, IsState, Merged, waiting, work_left}
 use Rattle.ms_flow.specs.Search.Arrives.{Entry, Along}
 
-has_same : (x y i : ℕ) → x ≡ y → Has x i → Has y i
+pub has_same : (x y i : ℕ) → x ≡ y → Has x i → Has y i
 has_same x y i e h = let P : ℕ → Type 0 = λ z. Has z i in subst P e h
 
 pub get_set_same : {X : Type 0} (l : List X) (i j : ℕ) (a d : X) → i < length l → j ≡ i → get_or (set l i a) j d ≡ a
