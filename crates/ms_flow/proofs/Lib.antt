@@ -2,3 +2,4 @@ pub mod BitSets
 pub mod States
 pub mod Members
 pub mod Kills
+pub mod Visited

@@ -51,15 +51,15 @@ fn walk(alloc: Global, g: &Graph, value: u32) -> Result<Vec<Visit>, NoMemory>
 
 /// Visits the successors of a visited block that aren't seen yet.
 fn go_on(g: &Graph, from: usize, seen: &mut [bool], visits: &mut Vec<Visit>) -> Result<(), NoMemory>
-    requires from { from < vec_len visits.old }
+    requires from { from < length visits.old.items }
     requires successors { StaysIn g.now }
     requires seen { length seen.old ≡ length g.now.next }
     requires marks { Marks seen.old visits.old.items }
     ensures marks { OnOk result (Marks seen.new visits.new.items) }
-    ensures front { OnOk result (take (vec_len visits.old) visits.new.items ≡ visits.old.items) }
+    ensures front { OnOk result (take (length visits.old.items) visits.new.items ≡ visits.old.items) }
     ensures all { OnOk result ((c : ℕ) → HasEdge g.now (block_at visits.old.items from) c → Visits visits.new.items c) }
     ensures walk { OnOk result ((v : ℕ) → ¬ Defines g.now (block_at visits.old.items from) v → IsWalk g.now v visits.old.items → IsWalk g.now v visits.new.items) }
-    ensures work { OnOk result (unseen seen.new + vec_len visits.new ≡ unseen seen.old + vec_len visits.old) }
+    ensures work { OnOk result (unseen seen.new + length visits.new.items ≡ unseen seen.old + length visits.old.items) }
 {
     let block = visits[from].block as usize;
     for next in g.successors(block) {
