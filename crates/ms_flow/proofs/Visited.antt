@@ -1,9 +1,9 @@
 -- Walks that are recorded, and the path that a record holds.
-use Rattle.std.proofs.Common.{◌≡◌, ◌≢◌, ℕ, zero, suc, ◌+◌, ◌<◌, ◌≤◌, ◌⊎◌, Bool, true, false, not, cond, List, [], ◌∷◌, ◌++◌, length, get_or, take, refl, sym, ap, ◌∙◌, inl, inr, ⊎_elim, subst, arith, below_more, get_or-set_same, get_or-set_other, length-append, All, AllPairs, Any, Contains, IsTrue}
+use Rattle.std.proofs.Common.{◌≡◌, ◌≢◌, ℕ, zero, suc, ◌+◌, ◌<◌, ◌≤◌, ◌⊎◌, Bool, true, false, not, cond, List, [], ◌∷◌, ◌++◌, length, get_or, take, replicate, refl, sym, ap, ◌∙◌, inl, inr, ⊎_elim, subst, arith, below_more, get_or-set_same, get_or-set_other, length-append, All, AllPairs, Any, Contains, IsTrue}
 use Rattle.std.proofs.Math.ListN.{set}
 use Rattle.std.specs.List.{sum_by, count_by}
 use Rattle.std.proofs.lemmas.Bool.{cases_eq, cases_lt, true≢false, cond-true}
-use Rattle.std.proofs.lemmas.List.{get_or_append_left, get_or_at, get_or_past, get_or_default, get_or-take, take_all, take-append-le, length-take}
+use Rattle.std.proofs.lemmas.List.{get_or-replicate, length-replicate, get_or_append_left, get_or_at, get_or_past, get_or_default, get_or-take, take_all, take-append-le, length-take}
 use Rattle.std.proofs.lemmas.List.Sums.{sum_by-set}
 use Rattle.std.proofs.lemmas.List.Elements.{All-nil, All-cons, Contains-get_or}
 use Rattle.ms_flow.specs.declared.graphs.Graph.{Graph}
@@ -205,3 +205,140 @@ pub next_within : (g : Graph) (next : List ℕ) (b k : ℕ) → StaysIn g → b 
 next_within g next b k stays lt is small =
     let P : List ℕ → Type 0 = λ l. All (λ c. c < length g.next) l in
     subst P (sym is) (stays b [] lt) k 0 small
+
+-- ---- the whole walk
+
+pub first_walk : (g : Graph) (v : ℕ) → IsWalk g v ((record { block = 0; from = 0 }) ∷ [])
+first_walk g v = record {
+  starts = omega arith;
+  entry = refl;
+  earlier = λ k pos lt. absurd (omega arith);
+  edges = λ k pos lt. absurd (omega arith);
+  avoids = λ k pos lt. absurd (omega arith);
+  apart = λ j k less lt e. absurd (omega arith);
+}
+
+pub first_marks : (seen : List Bool) → 0 < length seen → ((b : ℕ) → get_or seen b false ≡ false) → Marks (set seen 0 true) ((record { block = 0; from = 0 }) ∷ [])
+first_marks seen some off = record {
+  visited = λ b h. ⊎_elim
+    (λ e. (0, omega arith, sym e))
+    (λ ne. absurd (true≢false (sym h ∙ get_or-set_other seen 0 b true false ne ∙ off b)))
+    (cases_eq b 0);
+  marked = λ k lt. let none : k ≡ 0 = omega arith in rw none (get_or-set_same seen 0 true false some);
+}
+
+pub closed_on : (g : Graph) (v : ℕ) (vs' vs : List Visit) (at : ℕ)
+    → at < length vs'
+    → take (length vs') vs ≡ vs'
+    → ((b : ℕ) → Visits vs' b → Visits vs b)
+    → ((c : ℕ) → ¬ Defines g (block_at vs' at) v → HasEdge g (block_at vs' at) c → Visits vs c)
+    → IsClosed g v vs' at
+    → IsClosed g v vs (at + 1)
+closed_on g v vs' vs at lt front kept here closed k below free c edge =
+    let in_front : k < length vs' = omega arith in
+    let same : block_at vs k ≡ block_at vs' k = ap (λ (x : Visit). x.block) (front_at vs' vs k in_front front) in
+    let Free : ℕ → Type 0 = λ b. ¬ Defines g b v in
+    let Edge : ℕ → Type 0 = λ b. HasEdge g b c in
+    let free' = subst Free same free in
+    let edge' = subst Edge same edge in
+    ⊎_elim
+      (λ e. let At : ℕ → Type 0 = λ z. ¬ Defines g (block_at vs' z) v × HasEdge g (block_at vs' z) c in let p = subst At e (free', edge') in here c p.0 p.1)
+      (λ ne. kept c (closed k (omega arith) free' c edge'))
+      (cases_eq k at)
+
+pub visits_front : (vs' vs : List Visit) → take (length vs') vs ≡ vs' → (b : ℕ) → Visits vs' b → Visits vs b
+visits_front vs' vs front b (k, lt, e) =
+    let longer = front_length vs' vs front in
+    (k, omega arith, ap (λ (x : Visit). x.block) (front_at vs' vs k lt front) ∙ e)
+
+visits_arriving : (g : Graph) (v : ℕ) (vs : List Visit) → IsWalk g v vs → IsClosed g v vs (length vs)
+    → (b : ℕ) → Arrives g (λ a. Defines g a v) b → Visits vs b
+visits_arriving g v vs w closed _ Entry = (0, w.starts, w.entry)
+visits_arriving g v vs w closed c (Along b _ way free edge) =
+    let at = visits_arriving g v vs w closed b way in
+    let Free : ℕ → Type 0 = λ z. ¬ Defines g z v in
+    let Edge : ℕ → Type 0 = λ z. HasEdge g z c in
+    closed at.0 at.1 (subst Free (sym at.2) free) c (subst Edge (sym at.2) edge)
+
+pub all_visited : (g : Graph) (v : ℕ) (vs : List Visit) (n : ℕ) → IsWalk g v vs → length vs ≤ n → IsClosed g v vs n
+    → (b : ℕ) → Arrives g (λ a. Defines g a v) b → Visits vs b
+all_visited g v vs n w over closed = visits_arriving g v vs w (λ k lt. closed k (omega arith))
+
+-- ---- the path
+
+trail_within : (g : Graph) (v : ℕ) (vs : List Visit) (last : ℕ) → IsWalk g v vs → last < length vs → (k : ℕ) (rest : List ℕ) → Trail vs last k rest → k < length vs
+trail_within g v vs last w lt _ _ Last = lt
+trail_within g v vs last w lt _ _ (Back k rest pos t) =
+    let in_vs = trail_within g v vs last w lt k rest t in
+    let e = w.earlier k pos in_vs in
+    omega arith
+
+trail_follows : (g : Graph) (v : ℕ) (vs : List Visit) (last : ℕ) → IsWalk g v vs → last < length vs → (k : ℕ) (rest : List ℕ) → Trail vs last k rest → Follows g (block_at vs k) rest
+trail_follows g v vs last w lt _ _ Last = tt
+trail_follows g v vs last w lt _ _ (Back k rest pos t) =
+    (w.edges k pos (trail_within g v vs last w lt k rest t), trail_follows g v vs last w lt k rest t)
+
+-- the blocks before the last, none of which defines the value
+abbrev Before : Graph → ℕ → List ℕ → ℕ → Type 0
+Before g v path end = (before : List ℕ) × (path ≡ before ++ end ∷ []) × All (λ b. ¬ Defines g b v) before
+
+trail_before : (g : Graph) (v : ℕ) (vs : List Visit) (last : ℕ) → IsWalk g v vs → last < length vs → (k : ℕ) (rest : List ℕ) → Trail vs last k rest → Before g v (block_at vs k ∷ rest) (block_at vs last)
+trail_before g v vs last w lt _ _ Last = ([], refl, All-nil (λ b. ¬ Defines g b v))
+trail_before g v vs last w lt _ _ (Back k rest pos t) =
+    let p = trail_before g v vs last w lt k rest t in
+    let b = block_at vs (from_at vs k) in
+    (b ∷ p.0, ap (λ (l : List ℕ). b ∷ l) p.1, All-cons (λ b. ¬ Defines g b v) b p.0 (w.avoids k pos (trail_within g v vs last w lt k rest t)) p.2)
+
+-- the blocks of the path come from later visits
+abbrev Later : List Visit → ℕ → List ℕ → Type 0
+Later vs k rest = All (λ b. (j : ℕ) × (k < j) × (j < length vs) × (block_at vs j ≡ b)) rest
+
+trail_later : (g : Graph) (v : ℕ) (vs : List Visit) (last : ℕ) → IsWalk g v vs → last < length vs → (k : ℕ) (rest : List ℕ) → Trail vs last k rest → Later vs k rest
+trail_later g v vs last w lt _ _ Last = All-nil (λ b. (j : ℕ) × (last < j) × (j < length vs) × (block_at vs j ≡ b))
+trail_later g v vs last w lt _ _ (Back k rest pos t) =
+    let in_vs = trail_within g v vs last w lt k rest t in
+    let e = w.earlier k pos in_vs in
+    All-cons (λ b. (j : ℕ) × (from_at vs k < j) × (j < length vs) × (block_at vs j ≡ b)) (block_at vs k) rest
+      (k, e, in_vs, refl)
+      (λ i d small. let p = trail_later g v vs last w lt k rest t i d small in let q = p.1 in (p.0, omega arith, p.2, p.3))
+
+pairs_cons : (x : ℕ) (xs : List ℕ) → All (λ y. x ≢ y) xs → AllPairs (λ a b. a ≢ b) xs → AllPairs (λ a b. a ≢ b) (x ∷ xs)
+pairs_cons x xs h t zero zero d lt small = absurd (omega arith)
+pairs_cons x xs h t zero (suc j) d lt small = h j d (omega arith)
+pairs_cons x xs h t (suc i) zero d lt small = absurd (omega arith)
+pairs_cons x xs h t (suc i) (suc j) d lt small = t i j d (omega arith) (omega arith)
+
+pub trail_once : (g : Graph) (v : ℕ) (vs : List Visit) (last : ℕ) → IsWalk g v vs → last < length vs → (k : ℕ) (rest : List ℕ) → Trail vs last k rest → AllPairs (λ a b. a ≢ b) (block_at vs k ∷ rest)
+trail_once g v vs last w lt _ _ Last =
+    pairs_cons (block_at vs last) [] (All-nil (λ y. block_at vs last ≢ y)) (λ i j d less small. absurd (omega arith))
+trail_once g v vs last w lt _ _ (Back k rest pos t) =
+    pairs_cons (block_at vs (from_at vs k)) (block_at vs k ∷ rest)
+      (λ i d small e. let p = trail_later g v vs last w lt (from_at vs k) (block_at vs k ∷ rest) (Back k rest pos t) i d small in w.apart (from_at vs k) p.0 p.1 p.2 (e ∙ sym p.3))
+      (trail_once g v vs last w lt k rest t)
+
+pub trail_misses : (g : Graph) (u : Use) (vs : List Visit) (last : ℕ) (rest path : List ℕ)
+    → IsWalk g u.value vs → last < length vs → block_at vs last ≡ u.block → IsUndefined g u
+    → Trail vs last 0 rest → path ≡ block_at vs 0 ∷ rest → Misses g u path
+trail_misses g u vs last rest path w lt at undefined t is =
+    let b = trail_before g u.value vs last w lt 0 rest t in
+    record {
+      before = b.0;
+      ends = is ∙ b.1 ∙ ap (λ (n : ℕ). b.0 ++ n ∷ []) at;
+      leads = let P : List ℕ → Type 0 = λ l. IsPath g l in subst P (sym is) (w.entry, trail_follows g u.value vs last w lt 0 rest t);
+      avoids = λ passes. ⊎_elim
+        (λ some. let none = b.2 some.0 some.1 some.2 in
+            let D : ℕ → Type 0 = λ z. Defines g z u.value in none (subst D (sym some.3) some.4))
+        (λ own. undefined.1 own.0 own.1)
+        passes;
+    }
+
+pub trail_apart : (g : Graph) (v : ℕ) (vs : List Visit) (last : ℕ) (rest path : List ℕ)
+    → IsWalk g v vs → last < length vs → Trail vs last 0 rest → path ≡ block_at vs 0 ∷ rest → AllPairs (λ a b. a ≢ b) path
+trail_apart g v vs last rest path w lt t is =
+    let P : List ℕ → Type 0 = λ l. AllPairs (λ a b. a ≢ b) l in subst P (sym is) (trail_once g v vs last w lt 0 rest t)
+
+pub flags_blank : (n b : ℕ) → get_or {A = Bool} (replicate n false) b false ≡ false
+flags_blank n b = ⊎_elim (λ h. get_or-replicate n b false false h) (λ h. get_or_past (replicate n false) b false (rw length-replicate h)) (cases_lt b n)
+
+pub blank_flags : (flags : List Bool) (n : ℕ) → flags ≡ replicate n false → (b : ℕ) → get_or flags b false ≡ false
+blank_flags flags n e b = ap (λ (l : List Bool). get_or l b false) e ∙ flags_blank n b

@@ -1,5 +1,5 @@
 //! The question, and its answer.
-ghost use Rattle.std.specs.Prelude.{◌≡◌, ◌≢◌, ℕ, ◌<◌, ◌≤◌, ◌^◌, ◌↔◌, ◌⊎◌, false, true, length, take, vec_len, IfOk, OnOk, IfSome, IsNone, IsTrue, All, AllPairs, Contains, slice_get, slice_index_or};
+ghost use Rattle.std.specs.Prelude.{◌≡◌, ◌≢◌, ℕ, ◌<◌, ◌≤◌, ◌^◌, ◌↔◌, ◌⊎◌, false, true, length, take, vec_len, IfOk, OnOk, IfSome, IfNone, IsNone, IsTrue, All, AllPairs, Contains, slice_get, slice_index_or};
 ghost use Rattle.ms_flow.specs.Paths.{Defines, IsDefined, Misses};
 ghost use Rattle.ms_flow.specs.Search.{StaysIn, IsUndefined, StandsAt, Leaves, use_at};
 
@@ -33,7 +33,7 @@ pub fn missing(alloc: Global, g: &Graph, uses: &[Use]) -> Result<Option<Missing>
     ensures once { IfOk result (λ answer. IfSome answer (λ m. AllPairs (λ a b. a ≢ b) m.path)) }
 {
     let undefined = undefined_uses(alloc, g, uses)?;
-    match undefined.iter().position(|u| *u) {
+    match first_set(&undefined) {
         None => Ok(None),
         Some(which) => {
             let path = path_past(alloc, g, &uses[which])?;
@@ -140,8 +140,7 @@ fn arrives(u: &Use, values: &[u32], kills: &[u64], words: &[u64]) -> bool
     requires value { Contains values.now u.now.value }
     ensures { (i : ℕ) × StandsAt values.now u.now i × (IsTrue result ↔ Leaves kills.now words.now u.now i) }
 {
-    let value = u.value;
-    let Some(place) = values.iter().position(|v| *v == value) else {
+    let Some(place) = place_of(values, u.value) else {
         unreachable!();
     };
     let block = u.block as usize;
@@ -151,4 +150,21 @@ fn arrives(u: &Use, values: &[u32], kills: &[u64], words: &[u64]) -> bool
         words[block]
     };
     places::has(word, place)
+}
+
+/// The first place at which the value stands.
+fn place_of(values: &[u32], value: u32) -> Option<usize>
+    ensures found { IfSome result (λ k. (k < length values.now) × (slice_index_or values.now k 0 ≡ value)) }
+    ensures none { IfNone result (Contains values.now value → ⊥) }
+{
+    values.iter().position(|v| *v == value)
+}
+
+/// The first place of a flag that is set.
+fn first_set(flags: &[bool]) -> Option<usize>
+    ensures found { IfSome result (λ k. (k < length flags.now) × (slice_index_or flags.now k false ≡ true)) }
+    ensures first { IfSome result (λ k. (j : ℕ) → j < k → slice_index_or flags.now j false ≡ false) }
+    ensures none { IfNone result ((j : ℕ) → slice_index_or flags.now j false ≡ false) }
+{
+    flags.iter().position(|f| *f)
 }

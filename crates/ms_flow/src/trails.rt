@@ -1,5 +1,5 @@
 //! One path that a value takes without a definition.
-ghost use Rattle.std.specs.Prelude.{◌≡◌, ◌≢◌, ℕ, ◌+◌, ◌<◌, List, ◌∷◌, length, take, vec_len, IfOk, OnOk, AllPairs};
+ghost use Rattle.std.specs.Prelude.{◌≡◌, ◌≢◌, ℕ, ◌+◌, ◌<◌, List, ◌∷◌, length, take, vec_len, IfOk, OnOk, IfSome, IfNone, AllPairs};
 ghost use Rattle.ms_flow.specs.Paths.{Misses, HasEdge, Defines};
 ghost use Rattle.ms_flow.specs.Search.{StaysIn, Arrives, IsUndefined};
 ghost use Rattle.ms_flow.specs.Walks.{IsWalk, Marks, Trail, Visits, block_at, from_at, unseen};
@@ -19,8 +19,7 @@ pub fn path_past(alloc: Global, g: &Graph, u: &Use) -> Result<Vec<u32>, NoMemory
     ensures once { IfOk result (λ p. AllPairs (λ a b. a ≢ b) p.items) }
 {
     let visits = walk(alloc, g, u.value)?;
-    let block = u.block;
-    let Some(last) = visits.iter().position(|v| v.block == block) else {
+    let Some(last) = visit_of(&visits, u.block) else {
         unreachable!();
     };
     trail(alloc, &visits, last)
@@ -70,6 +69,14 @@ fn go_on(g: &Graph, from: usize, seen: &mut [bool], visits: &mut Vec<Visit>) -> 
         }
     }
     Ok(())
+}
+
+/// The place at which the block was visited.
+fn visit_of(visits: &[Visit], block: u32) -> Option<usize>
+    ensures found { IfSome result (λ k. (k < length visits.now) × (block_at visits.now k ≡ block)) }
+    ensures none { IfNone result (Visits visits.now block → ⊥) }
+{
+    visits.iter().position(|v| v.block == block)
 }
 
 /// The blocks from block 0 to the visit at the place.
