@@ -3,3 +3,4 @@ pub mod States
 pub mod Members
 pub mod Kills
 pub mod Visited
+pub mod Answered

@@ -1,5 +1,6 @@
 -- Walks that are recorded, and the path that a record holds.
-use Rattle.std.proofs.Common.{◌≡◌, ◌≢◌, ℕ, zero, suc, ◌+◌, ◌<◌, ◌≤◌, ◌⊎◌, Bool, true, false, not, cond, List, [], ◌∷◌, ◌++◌, length, get_or, take, replicate, refl, sym, ap, ◌∙◌, inl, inr, ⊎_elim, subst, arith, below_more, get_or-set_same, get_or-set_other, length-append, All, AllPairs, Any, Contains, IsTrue}
+use Rattle.std.proofs.Common.{◌≡◌, ◌≢◌, ℕ, zero, suc, ◌+◌, ◌<◌, ◌≤◌, ◌⊎◌, Bool, true, false, not, cond, List, [], ◌∷◌, ◌++◌, length, get_or, take, replicate, refl, sym, ap, ◌∙◌, inl, inr, ⊎_elim, subst, arith, below_more, get_or-set_same, get_or-set_other, length-append, All, AllPairs, Any, Contains, IsTrue, Result, Ok, Err}
+use Rattle.std.specs.Result.{IfOk}
 use Rattle.std.proofs.Math.ListN.{set}
 use Rattle.std.specs.List.{sum_by, count_by}
 use Rattle.std.proofs.lemmas.Bool.{cases_eq, cases_lt, true≢false, cond-true}
@@ -342,3 +343,7 @@ flags_blank n b = ⊎_elim (λ h. get_or-replicate n b false false h) (λ h. get
 
 pub blank_flags : (flags : List Bool) (n : ℕ) → flags ≡ replicate n false → (b : ℕ) → get_or flags b false ≡ false
 blank_flags flags n e b = ap (λ (l : List Bool). get_or l b false) e ∙ flags_blank n b
+
+pub if_ok : {V E : Type 0} (P Q : V → Type 0) → ((v : V) → P v → Q v) → (r : Result V E) → IfOk r P → IfOk r Q
+if_ok P Q f (Ok v) h = f v h
+if_ok P Q f (Err e) h = tt

@@ -1,0 +1,137 @@
+-- From the words of the blocks to uses that are undefined, and from these to paths.
+use Rattle.std.proofs.Common.{◌≡◌, ℕ, zero, suc, ◌+◌, ◌<◌, ◌≤◌, ◌⊎◌, ◌↔◌, Bool, true, false, List, [], ◌∷◌, ◌++◌, length, get_or, take, drop, refl, sym, ap, ◌∙◌, inl, inr, ⊎_elim, subst, arith, below_more, get_or-set_other, All, Any, Contains, IsTrue}
+use Rattle.std.proofs.Math.ListN.{set}
+use Rattle.std.proofs.lemmas.Bool.{cases_eq, cases_lt, cases_Bool, true≢false, false≢true}
+use Rattle.std.proofs.lemmas.List.{get_or_past}
+use Rattle.std.proofs.lemmas.List.Elements.{All-nil, All-cons, All-head, All-tail}
+use Rattle.ms_flow.specs.declared.graphs.Graph.{Graph}
+use Rattle.ms_flow.specs.declared.graphs.Use.{Use}
+use Rattle.ms_flow.specs.Paths.{HasEdge, Defines, Follows, IsPath, Passes, IsDefined, Misses}
+use Rattle.ms_flow.specs.Search.{Has, Arrives, Comes, IsUndefined, StandsAt, Leaves, use_at}
+use Rattle.ms_flow.specs.Search.Arrives.{Entry, Along}
+use Rattle.ms_flow.proofs.States.{get_set_same, has_same}
+
+-- ---- judge
+
+-- the flag of the use is set where its value leaves
+abbrev pub Judged : List Use → List ℕ → List ℕ → List ℕ → List Bool → ℕ → Type 0
+Judged uses values kills words flags which =
+    (i : ℕ) × StandsAt values (use_at uses which) i × (Leaves kills words (use_at uses which) i → get_or flags which false ≡ true)
+
+-- a flag that is set was set before, or the use's value leaves
+abbrev pub IsRight : List Use → List ℕ → List ℕ → List ℕ → List Bool → ℕ → Type 0
+IsRight uses values kills words flags which =
+    (get_or flags which false ≡ true) ⊎ ((i : ℕ) × StandsAt values (use_at uses which) i × Leaves kills words (use_at uses which) i)
+
+pub flag_kept : (flags : List Bool) (c k : ℕ) → c < length flags → get_or flags k false ≡ true → get_or (set flags c true) k false ≡ true
+flag_kept flags c k lt on =
+    ⊎_elim (λ e. get_set_same flags c k true false lt e) (λ ne. get_or-set_other flags c k true false ne ∙ on) (cases_eq k c)
+
+pub judged_kept : (uses : List Use) (values kills words : List ℕ) (flags flags' : List Bool) (which : ℕ)
+    → (get_or flags which false ≡ true → get_or flags' which false ≡ true)
+    → Judged uses values kills words flags which → Judged uses values kills words flags' which
+judged_kept uses values kills words flags flags' which kept (i, at, set) = (i, at, λ l. kept (set l))
+
+pub right_set : (uses : List Use) (values kills words : List ℕ) (first flags : List Bool) (c k : ℕ)
+    → ((k : ℕ) → get_or flags k false ≡ true → IsRight uses values kills words first k)
+    → (i : ℕ) × StandsAt values (use_at uses c) i × Leaves kills words (use_at uses c) i
+    → get_or (set flags c true) k false ≡ true → IsRight uses values kills words first k
+right_set uses values kills words first flags c k right here on =
+    ⊎_elim
+      (λ e. inr (let P : ℕ → Type 0 = λ z. (i : ℕ) × StandsAt values (use_at uses z) i × Leaves kills words (use_at uses z) i in subst P (sym e) here))
+      (λ ne. right k (sym (get_or-set_other flags c k true false ne) ∙ on))
+      (cases_eq k c)
+
+-- ---- words and graph
+
+arrives_map : (g : Graph) (P Q : ℕ → Type 0) → ((b : ℕ) → Q b → P b) → (b : ℕ) → Arrives g P b → Arrives g Q b
+arrives_map g P Q f _ Entry = Entry
+arrives_map g P Q f _ (Along b c way free edge) = Along b c (arrives_map g P Q f b way) (λ q. free (f b q)) edge
+
+-- the words `kills` tell the definitions of the graph
+abbrev pub Tells : Graph → List ℕ → List ℕ → Type 0
+Tells g values kills = (b i : ℕ) → i < length values → Has (get_or kills b 0) i ↔ Defines g b (get_or values i 0)
+
+pub leaves_is : (g : Graph) (values kills words : List ℕ) (u : Use) (i : ℕ)
+    → length values ≤ 64
+    → Tells g values kills
+    → ((b i : ℕ) → i < 64 → Has (get_or words b 0) i ↔ Comes g kills i b)
+    → StandsAt values u i
+    → Leaves kills words u i ↔ IsUndefined g u
+leaves_is g values kills words u i few tells comes (small, at) =
+    let in_word : i < 64 = omega arith in
+    let Killed : ℕ → Type 0 = λ b. Has (get_or kills b 0) i in
+    let Defined : ℕ → Type 0 = λ b. Defines g b u.value in
+    let down : (b : ℕ) → Killed b → Defined b = λ b h. let P : ℕ → Type 0 = λ v. Defines g b v in subst P at ((tells b i small).0 h) in
+    let up : (b : ℕ) → Defined b → Killed b = λ b h. (tells b i small).1 (let P : ℕ → Type 0 = λ v. Defines g b v in subst P (sym at) h) in
+    (λ l. (arrives_map g Killed Defined up u.block ((comes u.block i in_word).0 l.0), λ a d. l.1 a (up u.block d)),
+     λ h. ((comes u.block i in_word).1 (arrives_map g Defined Killed down u.block h.0), λ a k. h.1 a (down u.block k)))
+
+-- ---- paths
+
+arrives_along : (g : Graph) (P : ℕ → Type 0) (last : ℕ) (rest : List ℕ) (b : ℕ) → Arrives g P b → (P b → ⊥) → Follows g b (rest ++ last ∷ []) → All (λ z. P z → ⊥) rest → Arrives g P last
+arrives_along g P last [] b way free follows all = Along b last way free follows.0
+arrives_along g P last (c ∷ rest) b way free follows all =
+    arrives_along g P last rest c (Along b c way free follows.0) (All-head (λ z. P z → ⊥) c rest all) follows.1 (All-tail (λ z. P z → ⊥) c rest all)
+
+pub arrives_path : (g : Graph) (P : ℕ → Type 0) (before : List ℕ) (last : ℕ) → IsPath g (before ++ last ∷ []) → All (λ z. P z → ⊥) before → Arrives g P last
+arrives_path g P [] last path all = let Q : ℕ → Type 0 = λ z. Arrives g P z in subst Q (sym path.0) Entry
+arrives_path g P (b ∷ rest) last path all =
+    let Q : ℕ → Type 0 = λ z. Arrives g P z in
+    arrives_along g P last rest b (subst Q (sym path.0) Entry) (All-head (λ z. P z → ⊥) b rest all) path.1 (All-tail (λ z. P z → ⊥) b rest all)
+
+has_or_not : (xs : List ℕ) (x : ℕ) → Contains xs x ⊎ (Contains xs x → ⊥)
+has_or_not [] x = inr (λ h. let lt = h.1 in absurd (omega arith))
+has_or_not (y ∷ ys) x = ⊎_elim
+    (λ e. inl (zero, omega arith, e))
+    (λ ne. ⊎_elim
+      (λ h. let lt = h.1 in inl (suc h.0, omega arith, h.2))
+      (λ none. inr (λ (k, lt, e). at k lt e ne none))
+      (has_or_not ys x))
+    (cases_eq y x)
+  where
+    at : (k : ℕ) → k < length (y ∷ ys) → get_or (y ∷ ys) k x ≡ x → (y ≡ x → ⊥) → (Contains ys x → ⊥) → ⊥
+    at zero lt e ne none = ne e
+    at (suc k) lt e ne none = none (k, omega arith, e)
+
+some_or_none : (g : Graph) (v : ℕ) (before : List ℕ) → Any (λ b. Defines g b v) before ⊎ All (λ b. Defines g b v → ⊥) before
+some_or_none g v [] = inr (All-nil (λ b. Defines g b v → ⊥))
+some_or_none g v (b ∷ rest) = ⊎_elim
+    (λ d. inl (zero, b, omega arith, refl, d))
+    (λ free. ⊎_elim
+      (λ (k, x, lt, e, d). inl (suc k, x, omega arith, e, d))
+      (λ all. inr (All-cons (λ b. Defines g b v → ⊥) b rest free all))
+      (some_or_none g v rest))
+    (has_or_not (get_or g.defs b []) v)
+
+pub defined_unless : (g : Graph) (u : Use) → (IsUndefined g u → ⊥) → IsDefined g u
+defined_unless g u not_undefined before path = ⊎_elim
+    (λ some. inl some)
+    (λ none.
+      let way = arrives_path g (λ b. Defines g b u.value) before u.block path none in
+      ⊎_elim
+        (λ own. ⊎_elim
+          (λ after. inr (after, own))
+          (λ not_after. absurd (not_undefined (way, λ a d. absurd (true≢false (sym a ∙ not_after)))))
+          (cases_Bool u.after))
+        (λ free. absurd (not_undefined (way, λ a d. free d)))
+        (has_or_not (get_or g.defs u.block []) u.value))
+    (some_or_none g u.value before)
+
+pub misses_denies : (g : Graph) (u : Use) (path : List ℕ) → Misses g u path → IsDefined g u → ⊥
+misses_denies g u path m d = m.avoids (d m.before (let P : List ℕ → Type 0 = λ l. IsPath g l in subst P m.ends m.leads))
+
+-- ---- arrives
+
+pub leaves_after : (kills words : List ℕ) (u : Use) (i word : ℕ) → u.after ≡ true
+    → Has word i ↔ (Has (get_or words u.block 0) i × (Has (get_or kills u.block 0) i → ⊥))
+    → Has word i ↔ Leaves kills words u i
+leaves_after kills words u i word after h = (λ p. let q = h.0 p in (q.0, λ a. q.1), λ l. h.1 (l.0, l.1 after))
+
+pub leaves_before : (kills words : List ℕ) (u : Use) (i word : ℕ) → u.after ≡ false → word ≡ get_or words u.block 0 → Has word i ↔ Leaves kills words u i
+leaves_before kills words u i word before is =
+    (λ p. (has_same word _ i is p, λ a. absurd (true≢false (sym a ∙ before))), λ l. has_same _ word i (sym is) l.0)
+
+pub leaves_answer : (kills words : List ℕ) (u : Use) (i word : ℕ) (r : Bool)
+    → IsTrue r ↔ Has word i → Has word i ↔ Leaves kills words u i → IsTrue r ↔ Leaves kills words u i
+leaves_answer kills words u i word r h k = (λ p. k.0 (h.0 p), λ l. h.1 (k.1 l))
