@@ -1,9 +1,9 @@
 -- From the words of the blocks to uses that are undefined, and from these to paths.
-use Rattle.std.proofs.Common.{◌≡◌, ℕ, zero, suc, ◌+◌, ◌<◌, ◌≤◌, ◌⊎◌, ◌↔◌, Bool, true, false, List, [], ◌∷◌, ◌++◌, length, get_or, take, drop, refl, sym, ap, ◌∙◌, inl, inr, ⊎_elim, subst, arith, below_more, get_or-set_other, All, Any, Contains, IsTrue}
+use Rattle.std.proofs.Common.{◌≡◌, ℕ, zero, suc, ◌+◌, ◌-◌, ◌<◌, ◌≤◌, ◌⊎◌, ◌↔◌, Bool, true, false, List, [], ◌∷◌, ◌++◌, length, get_or, take, drop, refl, sym, ap, ◌∙◌, inl, inr, ⊎_elim, subst, arith, below_more, get_or-set_other, All, Any, Contains, IsTrue}
 use Rattle.std.proofs.Math.ListN.{set}
 use Rattle.std.proofs.lemmas.Bool.{cases_eq, cases_lt, cases_Bool, true≢false, false≢true}
-use Rattle.std.proofs.lemmas.List.{get_or_past}
-use Rattle.std.proofs.lemmas.List.Elements.{All-nil, All-cons, All-head, All-tail}
+use Rattle.std.proofs.lemmas.List.{get_or_past, get_or_default, get_or-take, get_or-drop, length-take, length-drop}
+use Rattle.std.proofs.lemmas.List.Elements.{All-nil, All-cons, All-head, All-tail, All-take, All-drop}
 use Rattle.ms_flow.specs.declared.graphs.Graph.{Graph}
 use Rattle.ms_flow.specs.declared.graphs.Use.{Use}
 use Rattle.ms_flow.specs.Paths.{HasEdge, Defines, Follows, IsPath, Passes, IsDefined, Misses}
@@ -135,3 +135,88 @@ leaves_before kills words u i word before is =
 pub leaves_answer : (kills words : List ℕ) (u : Use) (i word : ℕ) (r : Bool)
     → IsTrue r ↔ Has word i → Has word i ↔ Leaves kills words u i → IsTrue r ↔ Leaves kills words u i
 leaves_answer kills words u i word r h k = (λ p. k.0 (h.0 p), λ l. h.1 (k.1 l))
+
+-- ---- one batch of questions
+
+pub tells_graph : (g : Graph) (values values' kills : List ℕ) (defs : List (ℕ × ℕ)) → values' ≡ values
+    → ((b v : ℕ) → Contains defs (b, v) ↔ Defines g b v)
+    → ((b i : ℕ) → i < length values' → Has (get_or kills b 0) i ↔ Contains defs (b, get_or values' i 0))
+    → Tells g values kills
+tells_graph g values values' kills defs e d t b i small =
+    let P : List ℕ → Type 0 = λ l. (b i : ℕ) → i < length l → Has (get_or kills b 0) i ↔ Contains defs (b, get_or l i 0) in
+    let h = subst P e t b i small in
+    let v = get_or values i 0 in
+    (λ p. (d b v).0 (h.0 p), λ p. h.1 ((d b v).1 p))
+
+pub comes_graph : (g : Graph) (kills kills' words : List ℕ) → kills' ≡ kills
+    → ((b i : ℕ) → i < 64 → Has (get_or words b 0) i ↔ Comes g kills' i b)
+    → (b i : ℕ) → i < 64 → Has (get_or words b 0) i ↔ Comes g kills i b
+comes_graph g kills kills' words e h =
+    let P : List ℕ → Type 0 = λ l. (b i : ℕ) → i < 64 → Has (get_or words b 0) i ↔ Comes g l i b in subst P e h
+
+pub judged_same : (uses : List Use) (values values' kills kills' words words' : List ℕ) (flags : List Bool) (qs : List (ℕ × ℕ))
+    → values' ≡ values → kills' ≡ kills → words' ≡ words
+    → All (λ q. Judged uses values' kills' words' flags q.1) qs → All (λ q. Judged uses values kills words flags q.1) qs
+judged_same uses values values' kills kills' words words' flags qs e f h all =
+    let P : List ℕ → Type 0 = λ l. All (λ q. Judged uses l kills' words' flags q.1) qs in
+    let Q : List ℕ → Type 0 = λ l. All (λ q. Judged uses values l words' flags q.1) qs in
+    let R : List ℕ → Type 0 = λ l. All (λ q. Judged uses values kills l flags q.1) qs in
+    subst R h (subst Q f (subst P e all))
+
+pub right_same : (uses : List Use) (values values' kills kills' words words' : List ℕ) (flags : List Bool) (k : ℕ)
+    → values' ≡ values → kills' ≡ kills → words' ≡ words
+    → IsRight uses values' kills' words' flags k → IsRight uses values kills words flags k
+right_same uses values values' kills kills' words words' flags k e f h r =
+    let P : List ℕ → Type 0 = λ l. IsRight uses l kills' words' flags k in
+    let Q : List ℕ → Type 0 = λ l. IsRight uses values l words' flags k in
+    let R : List ℕ → Type 0 = λ l. IsRight uses values kills l flags k in
+    subst R h (subst Q f (subst P e r))
+
+-- the words of the batch answer for the graph
+abbrev pub Answers : Graph → List ℕ → List ℕ → List ℕ → Type 0
+Answers g values kills words = (u : Use) (i : ℕ) → StandsAt values u i → Leaves kills words u i ↔ IsUndefined g u
+
+pub batch_marked : (g : Graph) (uses : List Use) (values kills words : List ℕ) (flags flags' : List Bool) (qs : List (ℕ × ℕ)) (from count : ℕ)
+    → from + count ≤ length qs
+    → Answers g values kills words
+    → ((k : ℕ) → k < from → IsUndefined g (use_at uses (get_or qs k (0, 0)).1) → get_or flags (get_or qs k (0, 0)).1 false ≡ true)
+    → ((k : ℕ) → get_or flags k false ≡ true → get_or flags' k false ≡ true)
+    → All (λ q. Judged uses values kills words flags' q.1) (take (from + count - from) (drop from qs))
+    → (k : ℕ) → k < from + count → IsUndefined g (use_at uses (get_or qs k (0, 0)).1) → get_or flags' (get_or qs k (0, 0)).1 false ≡ true
+batch_marked g uses values kills words flags flags' qs from count within answers before kept all k lt undefined = ⊎_elim
+    (λ early. kept (get_or qs k (0, 0)).1 (before k early undefined))
+    (λ late.
+      let j = k - from in
+      let in_part : j < length (take (from + count - from) (drop from qs)) = omega (arith, length-take (from + count - from) (drop from qs), length-drop from qs) in
+      let same : from + j ≡ k = omega arith in
+      let at : get_or (take (from + count - from) (drop from qs)) j (0, 0) ≡ get_or qs k (0, 0) =
+          get_or-take (from + count - from) (drop from qs) j (0, 0) (omega arith) ∙ get_or-drop from qs j (0, 0) ∙ ap (λ (n : ℕ). get_or qs n (0, 0)) same in
+      let P : ℕ × ℕ → Type 0 = λ q. Judged uses values kills words flags' q.1 in
+      let h = subst P at (all j (0, 0) in_part) in
+      h.2 ((answers (use_at uses (get_or qs k (0, 0)).1) h.0 h.1).1 undefined))
+    (cases_lt k from)
+
+pub batch_right : (g : Graph) (uses : List Use) (values kills words : List ℕ) (first flags flags' : List Bool)
+    → Answers g values kills words
+    → ((k : ℕ) → get_or flags k false ≡ true → (get_or first k false ≡ true) ⊎ IsUndefined g (use_at uses k))
+    → ((k : ℕ) → get_or flags' k false ≡ true → IsRight uses values kills words flags k)
+    → (k : ℕ) → get_or flags' k false ≡ true → (get_or first k false ≡ true) ⊎ IsUndefined g (use_at uses k)
+batch_right g uses values kills words first flags flags' answers before right k on =
+    ⊎_elim (λ was. before k was) (λ h. inr ((answers (use_at uses k) h.0 h.1).0 h.2)) (right k on)
+
+pub batch_values : (uses : List Use) (values : List ℕ) (qs : List (ℕ × ℕ)) (from count : ℕ)
+    → All (λ q. q.0 ≡ (use_at uses q.1).value) qs
+    → ((j : ℕ) → j < count → Contains values (get_or (drop from qs) j (0, 0)).0)
+    → All (λ q. Contains values (use_at uses q.1).value) (take (from + count - from) (drop from qs))
+batch_values uses values qs from count all has k d lt =
+    let P : ℕ × ℕ → Type 0 = λ q. q.0 ≡ (use_at uses q.1).value in
+    let m = from + count - from in
+    let short = length-take m (drop from qs) in
+    let small : k < m = omega arith in
+    let in_rest : k < length (drop from qs) = omega arith in
+    let at : get_or (take m (drop from qs)) k d ≡ get_or (drop from qs) k (0, 0) =
+        get_or-take m (drop from qs) k d small ∙ get_or_default (drop from qs) k d (0, 0) in_rest in
+    let value = All-take P m (drop from qs) (All-drop P from qs all) k d lt in
+    let Q : ℕ × ℕ → Type 0 = λ q. Contains values q.0 in
+    let R : ℕ → Type 0 = λ v. Contains values v in
+    subst R value (subst Q (sym at) (has k (omega arith)))
