@@ -3,13 +3,14 @@ use Rattle.std.proofs.Common.{◌≡◌, ℕ, zero, suc, ◌+◌, ◌-◌, ◌<�
 use Rattle.std.proofs.Math.ListN.{set}
 use Rattle.std.proofs.lemmas.Bool.{cases_eq, cases_lt, cases_Bool, true≢false, false≢true}
 use Rattle.std.proofs.lemmas.List.{get_or_past, get_or_default, get_or-take, get_or-drop, length-take, length-drop}
-use Rattle.std.proofs.lemmas.List.Elements.{All-nil, All-cons, All-head, All-tail, All-take, All-drop}
+use Rattle.std.proofs.lemmas.List.Elements.{All-nil, All-cons, All-head, All-tail, All-take, All-drop, All-contains, Contains-get_or}
 use Rattle.ms_flow.specs.declared.graphs.Graph.{Graph}
 use Rattle.ms_flow.specs.declared.graphs.Use.{Use}
 use Rattle.ms_flow.specs.Paths.{HasEdge, Defines, Follows, IsPath, Passes, IsDefined, Misses}
 use Rattle.ms_flow.specs.Search.{Has, Arrives, Comes, IsUndefined, StandsAt, Leaves, use_at}
 use Rattle.ms_flow.specs.Search.Arrives.{Entry, Along}
 use Rattle.ms_flow.proofs.States.{get_set_same, has_same}
+use Rattle.ms_flow.proofs.Members.{within}
 
 -- ---- judge
 
@@ -220,3 +221,41 @@ batch_values uses values qs from count all has k d lt =
     let Q : ℕ × ℕ → Type 0 = λ q. Contains values q.0 in
     let R : ℕ → Type 0 = λ v. Contains values v in
     subst R value (subst Q (sym at) (has k (omega arith)))
+
+-- ---- all uses
+
+abbrev pub Known : Graph → List (ℕ × ℕ) → Type 0
+Known g defs = (b v : ℕ) → Contains defs (b, v) ↔ Defines g b v
+
+pub known_blocks : (g : Graph) (defs : List (ℕ × ℕ)) → length g.next ≡ length g.defs → Known g defs → All (λ d. d.0 < length g.next) defs
+known_blocks g defs same known k d lt =
+    let p = get_or defs k d in
+    let inside = within g.defs p.0 p.1 ((known p.0 p.1).0 (Contains-get_or defs k d lt)) in
+    omega arith
+
+-- what is asked about a use
+abbrev pub AskedAt : List Use → List (ℕ × ℕ) → List (ℕ × ℕ) → ℕ → Type 0
+AskedAt uses defs qs k =
+    Contains qs ((use_at uses k).value, k) ⊎ (IsTrue (use_at uses k).after × Contains defs ((use_at uses k).block, (use_at uses k).value))
+
+pub asked_undefined : (g : Graph) (uses : List Use) (defs qs : List (ℕ × ℕ)) (k : ℕ) → Known g defs → AskedAt uses defs qs k
+    → IsUndefined g (use_at uses k) → Contains qs ((use_at uses k).value, k)
+asked_undefined g uses defs qs k known (inl asked) undefined = asked
+asked_undefined g uses defs qs k known (inr settled) undefined = absurd (undefined.1 settled.0 ((known _ _).0 settled.1))
+
+pub flags_answer : (g : Graph) (uses : List Use) (defs qs : List (ℕ × ℕ)) (first flags : List Bool) (k : ℕ) → Known g defs → AskedAt uses defs qs k
+    → ((b : ℕ) → get_or first b false ≡ false)
+    → All (λ q. IsUndefined g (use_at uses q.1) → get_or flags q.1 false ≡ true) qs
+    → (get_or flags k false ≡ true → (get_or first k false ≡ true) ⊎ IsUndefined g (use_at uses k))
+    → (get_or flags k false ≡ true) ↔ IsUndefined g (use_at uses k)
+flags_answer g uses defs qs first flags k known asked blank marked right =
+    (λ on. ⊎_elim (λ was. absurd (true≢false (sym was ∙ blank k))) (λ u. u) (right on),
+     λ u. All-contains (λ q. IsUndefined g (use_at uses q.1) → get_or flags q.1 false ≡ true) qs ((use_at uses k).value, k) marked (asked_undefined g uses defs qs k known asked u) u)
+
+pub flags_none : (g : Graph) (uses : List Use) (defs qs : List (ℕ × ℕ)) (flags : List Bool) (k : ℕ) → Known g defs → AskedAt uses defs qs k
+    → ((b : ℕ) → get_or flags b false ≡ false)
+    → length qs ≡ 0
+    → (get_or flags k false ≡ true) ↔ IsUndefined g (use_at uses k)
+flags_none g uses defs qs flags k known asked blank empty =
+    (λ on. absurd (true≢false (sym on ∙ blank k)),
+     λ u. let c = asked_undefined g uses defs qs k known asked u in let lt = c.1 in absurd (omega arith))
