@@ -1,5 +1,7 @@
 -- From the words of the blocks to uses that are undefined, and from these to paths.
-use Rattle.std.proofs.Common.{◌≡◌, ℕ, zero, suc, ◌+◌, ◌-◌, ◌<◌, ◌≤◌, ◌⊎◌, ◌↔◌, Bool, true, false, List, [], ◌∷◌, ◌++◌, length, get_or, take, drop, refl, sym, ap, ◌∙◌, inl, inr, ⊎_elim, subst, arith, below_more, get_or-set_other, All, Any, Contains, IsTrue}
+use Rattle.std.proofs.Common.{◌≡◌, ℕ, zero, suc, ◌+◌, ◌-◌, ◌<◌, ◌≤◌, ◌⊎◌, ◌↔◌, Bool, true, false, List, [], ◌∷◌, ◌++◌, length, get_or, take, drop, refl, sym, ap, ◌∙◌, inl, inr, ⊎_elim, subst, arith, below_more, get_or-set_other, All, Any, Contains, IsTrue, Option, Some, slice_get}
+use Rattle.std.specs.Option.{IfSome}
+use Rattle.std.proofs.lemmas.Option.{slice_get-get_or}
 use Rattle.std.proofs.Math.ListN.{set}
 use Rattle.std.proofs.lemmas.Bool.{cases_eq, cases_lt, cases_Bool, true≢false, false≢true}
 use Rattle.std.proofs.lemmas.List.{get_or_past, get_or_default, get_or-take, get_or-drop, length-take, length-drop}
@@ -259,3 +261,29 @@ pub flags_none : (g : Graph) (uses : List Use) (defs qs : List (ℕ × ℕ)) (fl
 flags_none g uses defs qs flags k known asked blank empty =
     (λ on. absurd (true≢false (sym on ∙ blank k)),
      λ u. let c = asked_undefined g uses defs qs k known asked u in let lt = c.1 in absurd (omega arith))
+
+-- ---- the answer
+
+abbrev pub Flags : Graph → List Use → List Bool → Type 0
+Flags g uses flags = (k : ℕ) → k < length uses → (get_or flags k false ≡ true) ↔ IsUndefined g (use_at uses k)
+
+pub defined_at : (g : Graph) (uses : List Use) (flags : List Bool) (k : ℕ) (d : Use) → Flags g uses flags → k < length uses → get_or flags k false ≡ false → IsDefined g (get_or uses k d)
+defined_at g uses flags k d are lt off =
+    let P : Use → Type 0 = λ u. IsDefined g u in
+    subst P (get_or_default uses k (record { block = 0; value = 0; after = false }) d lt)
+      (defined_unless g (use_at uses k) (λ undefined. true≢false (sym ((are k lt).1 undefined) ∙ off)))
+
+pub defined_before : (g : Graph) (uses : List Use) (flags : List Bool) (which : ℕ) → Flags g uses flags → which ≤ length uses
+    → ((j : ℕ) → j < which → get_or flags j false ≡ false) → All (IsDefined g) (take which uses)
+defined_before g uses flags which are within off k d lt =
+    let short = length-take which uses in
+    let small : k < which = omega arith in
+    let P : Use → Type 0 = λ u. IsDefined g u in
+    subst P (sym (get_or-take which uses k d small)) (defined_at g uses flags k d are (omega arith) (off k small))
+
+pub misses_at : (g : Graph) (uses : List Use) (which : ℕ) (d : Use) (path path' : List ℕ) → which < length uses → path ≡ path'
+    → Misses g (get_or uses which d) path' → IfSome (slice_get uses which) (λ u. Misses g u path)
+misses_at g uses which d path path' lt e m =
+    let P : Option Use → Type 0 = λ o. IfSome o (λ u. Misses g u path) in
+    let Q : List ℕ → Type 0 = λ l. Misses g (get_or uses which d) l in
+    subst P (sym (slice_get-get_or uses which d lt)) (subst Q (sym e) m)
