@@ -41,9 +41,9 @@ pub right_set : (uses : List Use) (values kills words : List ℕ) (first flags :
     → get_or (set flags c true) k false ≡ true → IsRight uses values kills words first k
 right_set uses values kills words first flags c k right here on =
     ⊎_elim
-      (λ e. inr (let P : ℕ → Type 0 = λ z. (i : ℕ) × StandsAt values (use_at uses z) i × Leaves kills words (use_at uses z) i in subst P (sym e) here))
-      (λ ne. right k (sym (get_or-set_other flags c k true false ne) ∙ on))
-      (cases_eq k c)
+    (λ e. inr (let P : ℕ → Type 0 = λ z. (i : ℕ) × StandsAt values (use_at uses z) i × Leaves kills words (use_at uses z) i in subst P (sym e) here))
+    (λ ne. right k (sym (get_or-set_other flags c k true false ne) ∙ on))
+    (cases_eq k c)
 
 -- ---- words and graph
 
@@ -66,9 +66,10 @@ leaves_is g values kills words u i few tells comes (small, at) =
     let Killed : ℕ → Type 0 = λ b. Has (get_or kills b 0) i in
     let Defined : ℕ → Type 0 = λ b. Defines g b u.value in
     let down : (b : ℕ) → Killed b → Defined b = λ b h. let P : ℕ → Type 0 = λ v. Defines g b v in subst P at ((tells b i small).0 h) in
-    let up : (b : ℕ) → Defined b → Killed b = λ b h. (tells b i small).1 (let P : ℕ → Type 0 = λ v. Defines g b v in subst P (sym at) h) in
-    (λ l. (arrives_map g Killed Defined up u.block ((comes u.block i in_word).0 l.0), λ a d. l.1 a (up u.block d)),
-     λ h. ((comes u.block i in_word).1 (arrives_map g Defined Killed down u.block h.0), λ a k. h.1 a (down u.block k)))
+    let up : (b : ℕ) → Defined b → Killed b = λ b h. (tells b i small).1 (let P : ℕ → Type 0 = λ v. Defines g b v in subst P (sym at) h) in (
+      λ l. (arrives_map g Killed Defined up u.block ((comes u.block i in_word).0 l.0), λ a d. l.1 a (up u.block d)),
+      λ h. ((comes u.block i in_word).1 (arrives_map g Defined Killed down u.block h.0), λ a k. h.1 a (down u.block k)),
+    )
 
 -- ---- paths
 
@@ -88,9 +89,9 @@ has_or_not [] x = inr (λ h. let lt = h.1 in absurd (omega arith))
 has_or_not (y ∷ ys) x = ⊎_elim
     (λ e. inl (zero, omega arith, e))
     (λ ne. ⊎_elim
-      (λ h. let lt = h.1 in inl (suc h.0, omega arith, h.2))
-      (λ none. inr (λ (k, lt, e). at k lt e ne none))
-      (has_or_not ys x))
+    (λ h. let lt = h.1 in inl (suc h.0, omega arith, h.2))
+    (λ none. inr (λ (k, lt, e). at k lt e ne none))
+    (has_or_not ys x))
     (cases_eq y x)
   where
     at : (k : ℕ) → k < length (y ∷ ys) → get_or (y ∷ ys) k x ≡ x → (y ≡ x → ⊥) → (Contains ys x → ⊥) → ⊥
@@ -102,23 +103,23 @@ some_or_none g v [] = inr (All-nil (λ b. Defines g b v → ⊥))
 some_or_none g v (b ∷ rest) = ⊎_elim
     (λ d. inl (zero, b, omega arith, refl, d))
     (λ free. ⊎_elim
-      (λ (k, x, lt, e, d). inl (suc k, x, omega arith, e, d))
-      (λ all. inr (All-cons (λ b. Defines g b v → ⊥) b rest free all))
-      (some_or_none g v rest))
+    (λ (k, x, lt, e, d). inl (suc k, x, omega arith, e, d))
+    (λ all. inr (All-cons (λ b. Defines g b v → ⊥) b rest free all))
+    (some_or_none g v rest))
     (has_or_not (get_or g.defs b []) v)
 
 pub defined_unless : (g : Graph) (u : Use) → (IsUndefined g u → ⊥) → IsDefined g u
 defined_unless g u not_undefined before path = ⊎_elim
     (λ some. inl some)
     (λ none.
-      let way = arrives_path g (λ b. Defines g b u.value) before u.block path none in
-      ⊎_elim
-        (λ own. ⊎_elim
-          (λ after. inr (after, own))
-          (λ not_after. absurd (not_undefined (way, λ a d. absurd (true≢false (sym a ∙ not_after)))))
-          (cases_Bool u.after))
-        (λ free. absurd (not_undefined (way, λ a d. free d)))
-        (has_or_not (get_or g.defs u.block []) u.value))
+    let way = arrives_path g (λ b. Defines g b u.value) before u.block path none in
+    ⊎_elim
+    (λ own. ⊎_elim
+    (λ after. inr (after, own))
+    (λ not_after. absurd (not_undefined (way, λ a d. absurd (true≢false (sym a ∙ not_after)))))
+    (cases_Bool u.after))
+    (λ free. absurd (not_undefined (way, λ a d. free d)))
+    (has_or_not (get_or g.defs u.block []) u.value))
     (some_or_none g u.value before)
 
 pub misses_denies : (g : Graph) (u : Use) (path : List ℕ) → Misses g u path → IsDefined g u → ⊥
@@ -189,14 +190,14 @@ pub batch_marked : (g : Graph) (uses : List Use) (values kills words : List ℕ)
 batch_marked g uses values kills words flags flags' qs from count within answers before kept all k lt undefined = ⊎_elim
     (λ early. kept (get_or qs k (0, 0)).1 (before k early undefined))
     (λ late.
-      let j = k - from in
-      let in_part : j < length (take (from + count - from) (drop from qs)) = omega (arith, length-take (from + count - from) (drop from qs), length-drop from qs) in
-      let same : from + j ≡ k = omega arith in
-      let at : get_or (take (from + count - from) (drop from qs)) j (0, 0) ≡ get_or qs k (0, 0) =
-          get_or-take (from + count - from) (drop from qs) j (0, 0) (omega arith) ∙ get_or-drop from qs j (0, 0) ∙ ap (λ (n : ℕ). get_or qs n (0, 0)) same in
-      let P : ℕ × ℕ → Type 0 = λ q. Judged uses values kills words flags' q.1 in
-      let h = subst P at (all j (0, 0) in_part) in
-      h.2 ((answers (use_at uses (get_or qs k (0, 0)).1) h.0 h.1).1 undefined))
+    let j = k - from in
+    let in_part : j < length (take (from + count - from) (drop from qs)) = omega (arith, length-take (from + count - from) (drop from qs), length-drop from qs) in
+    let same : from + j ≡ k = omega arith in
+    let at : get_or (take (from + count - from) (drop from qs)) j (0, 0) ≡ get_or qs k (0, 0) =
+    get_or-take (from + count - from) (drop from qs) j (0, 0) (omega arith) ∙ get_or-drop from qs j (0, 0) ∙ ap (λ (n : ℕ). get_or qs n (0, 0)) same in
+    let P : ℕ × ℕ → Type 0 = λ q. Judged uses values kills words flags' q.1 in
+    let h = subst P at (all j (0, 0) in_part) in
+    h.2 ((answers (use_at uses (get_or qs k (0, 0)).1) h.0 h.1).1 undefined))
     (cases_lt k from)
 
 pub batch_right : (g : Graph) (uses : List Use) (values kills words : List ℕ) (first flags flags' : List Bool)
@@ -218,7 +219,7 @@ batch_values uses values qs from count all has k d lt =
     let small : k < m = omega arith in
     let in_rest : k < length (drop from qs) = omega arith in
     let at : get_or (take m (drop from qs)) k d ≡ get_or (drop from qs) k (0, 0) =
-        get_or-take m (drop from qs) k d small ∙ get_or_default (drop from qs) k d (0, 0) in_rest in
+    get_or-take m (drop from qs) k d small ∙ get_or_default (drop from qs) k d (0, 0) in_rest in
     let value = All-take P m (drop from qs) (All-drop P from qs all) k d lt in
     let Q : ℕ × ℕ → Type 0 = λ q. Contains values q.0 in
     let R : ℕ → Type 0 = λ v. Contains values v in
@@ -250,17 +251,19 @@ pub flags_answer : (g : Graph) (uses : List Use) (defs qs : List (ℕ × ℕ)) (
     → All (λ q. IsUndefined g (use_at uses q.1) → get_or flags q.1 false ≡ true) qs
     → (get_or flags k false ≡ true → (get_or first k false ≡ true) ⊎ IsUndefined g (use_at uses k))
     → (get_or flags k false ≡ true) ↔ IsUndefined g (use_at uses k)
-flags_answer g uses defs qs first flags k known asked blank marked right =
-    (λ on. ⊎_elim (λ was. absurd (true≢false (sym was ∙ blank k))) (λ u. u) (right on),
-     λ u. All-contains (λ q. IsUndefined g (use_at uses q.1) → get_or flags q.1 false ≡ true) qs ((use_at uses k).value, k) marked (asked_undefined g uses defs qs k known asked u) u)
+flags_answer g uses defs qs first flags k known asked blank marked right = (
+  λ on. ⊎_elim (λ was. absurd (true≢false (sym was ∙ blank k))) (λ u. u) (right on),
+  λ u. All-contains (λ q. IsUndefined g (use_at uses q.1) → get_or flags q.1 false ≡ true) qs ((use_at uses k).value, k) marked (asked_undefined g uses defs qs k known asked u) u,
+)
 
 pub flags_none : (g : Graph) (uses : List Use) (defs qs : List (ℕ × ℕ)) (flags : List Bool) (k : ℕ) → Known g defs → AskedAt uses defs qs k
     → ((b : ℕ) → get_or flags b false ≡ false)
     → length qs ≡ 0
     → (get_or flags k false ≡ true) ↔ IsUndefined g (use_at uses k)
-flags_none g uses defs qs flags k known asked blank empty =
-    (λ on. absurd (true≢false (sym on ∙ blank k)),
-     λ u. let c = asked_undefined g uses defs qs k known asked u in let lt = c.1 in absurd (omega arith))
+flags_none g uses defs qs flags k known asked blank empty = (
+  λ on. absurd (true≢false (sym on ∙ blank k)),
+  λ u. let c = asked_undefined g uses defs qs k known asked u in let lt = c.1 in absurd (omega arith),
+)
 
 -- ---- the answer
 
@@ -271,7 +274,7 @@ pub defined_at : (g : Graph) (uses : List Use) (flags : List Bool) (k : ℕ) (d 
 defined_at g uses flags k d are lt off =
     let P : Use → Type 0 = λ u. IsDefined g u in
     subst P (get_or_default uses k (record { block = 0; value = 0; after = false }) d lt)
-      (defined_unless g (use_at uses k) (λ undefined. true≢false (sym ((are k lt).1 undefined) ∙ off)))
+    (defined_unless g (use_at uses k) (λ undefined. true≢false (sym ((are k lt).1 undefined) ∙ off)))
 
 pub defined_before : (g : Graph) (uses : List Use) (flags : List Bool) (which : ℕ) → Flags g uses flags → which ≤ length uses
     → ((j : ℕ) → j < which → get_or flags j false ≡ false) → All (IsDefined g) (take which uses)

@@ -21,16 +21,18 @@ min_of_both : (x y : ℕ) → x < 2 → y < 2 → (x ≡ 1) × (y ≡ 1 → ⊥)
 min_of_both x y p q (e, f) = let ne : y ≡ 1 → ⊥ = f in omega arith
 
 pub has_union : (a b i : ℕ) → Has (bit_or a b) i ↔ (Has a i ⊎ Has b i)
-has_union a b i =
-    (λ h. one_of_max (bit_at a i) (bit_at b i) (bit_at-lt a i) (sym (bit_at_or a b i) ∙ h),
-     λ h. bit_at_or a b i ∙ max_of_one (bit_at a i) (bit_at b i) (bit_at-lt a i) (bit_at-lt b i) h)
+has_union a b i = (
+  λ h. one_of_max (bit_at a i) (bit_at b i) (bit_at-lt a i) (sym (bit_at_or a b i) ∙ h),
+  λ h. bit_at_or a b i ∙ max_of_one (bit_at a i) (bit_at b i) (bit_at-lt a i) (bit_at-lt b i) h,
+)
 
 pub has_without : (a b i : ℕ) → b < 2 ^ 64 → i < 64 → Has (bit_and a (2 ^ 64 - 1 - b)) i ↔ (Has a i × (Has b i → ⊥))
 has_without a b i below place =
     let e = bit_at_not w64 b i below place in
-    let m = bit_at_and a (2 ^ 64 - 1 - b) i in
-    (λ h. both_of_min (bit_at a i) (bit_at b i) (bit_at-lt a i) (bit_at-lt b i) (cc (e, m, h)),
-     λ h. cc (e, m, min_of_both (bit_at a i) (bit_at b i) (bit_at-lt a i) (bit_at-lt b i) h))
+    let m = bit_at_and a (2 ^ 64 - 1 - b) i in (
+      λ h. both_of_min (bit_at a i) (bit_at b i) (bit_at-lt a i) (bit_at-lt b i) (cc (e, m, h)),
+      λ h. cc (e, m, min_of_both (bit_at a i) (bit_at b i) (bit_at-lt a i) (bit_at-lt b i) h),
+    )
 
 pub has_with : (a k : ℕ) → k < 64 → (i : ℕ) → Has (bit_or a (1 * 2 ^ k % 2 ^ 64)) i ↔ (Has a i ⊎ (i ≡ k))
 has_with a k small i =

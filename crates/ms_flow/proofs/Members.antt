@@ -7,9 +7,10 @@ use Rattle.std.proofs.lemmas.List.{take_more, get_or_past}
 use Rattle.std.proofs.lemmas.List.Elements.{Contains-push, Contains-push_cases, Contains-append_left, Decides-contains, contains_decides}
 
 pub Contains_push : {X : Type 0} (xs : List X) (y x : X) → Contains (xs ++ y ∷ []) x ↔ (Contains xs x ⊎ (y ≡ x))
-Contains_push {X} xs y x =
-    (Contains-push_cases xs y x,
-     λ h. ⊎_elim (λ p. Contains-append_left xs (y ∷ []) x p) (λ e. let P : X → Type 0 = λ z. Contains (xs ++ y ∷ []) z in subst P e (Contains-push xs y)) h)
+Contains_push {X} xs y x = (
+  Contains-push_cases xs y x,
+  λ h. ⊎_elim (λ p. Contains-append_left xs (y ∷ []) x p) (λ e. let P : X → Type 0 = λ z. Contains (xs ++ y ∷ []) z in subst P e (Contains-push xs y)) h,
+)
 
 pub Contains_more : {X : Type 0} (xs : List X) (k : ℕ) (d x : X) → k < length xs → Contains (take (k + 1) xs) x ↔ (Contains (take k xs) x ⊎ (get_or xs k d ≡ x))
 Contains_more xs k d x lt = rw (take_more xs k d lt) (Contains_push (take k xs) (get_or xs k d) x)
@@ -23,15 +24,16 @@ pub pairs_more : (before now : List (ℕ × ℕ)) (block : ℕ) (values : List �
     → (b v : ℕ) → Contains (now ++ (block, get_or values k 0) ∷ []) (b, v) ↔ (Contains before (b, v) ⊎ ((b ≡ block) × Contains (take (k + 1) values) v))
 pairs_more before now block values k lt h b v =
     let add = Contains_push now (block, get_or values k 0) (b, v) in
-    let more = Contains_more values k 0 v lt in
-    (λ p. ⊎_elim
-        (λ q. ⊎_elim (λ r. inl r) (λ r. inr (r.0, more.1 (inl r.1))) ((h b v).0 q))
-        (λ e. inr (sym (ap (λ (p : ℕ × ℕ). p.0) e), more.1 (inr (ap (λ (p : ℕ × ℕ). p.1) e))))
-        (add.0 p),
-     λ p. ⊎_elim
-        (λ q. add.1 (inl ((h b v).1 (inl q))))
-        (λ q. ⊎_elim (λ r. add.1 (inl ((h b v).1 (inr (q.0, r))))) (λ e. add.1 (inr (rw (q.0, e) refl))) (more.0 q.1))
-        p)
+    let more = Contains_more values k 0 v lt in (
+      λ p. ⊎_elim
+          (λ q. ⊎_elim (λ r. inl r) (λ r. inr (r.0, more.1 (inl r.1))) ((h b v).0 q))
+          (λ e. inr (sym (ap (λ (p : ℕ × ℕ). p.0) e), more.1 (inr (ap (λ (p : ℕ × ℕ). p.1) e))))
+          (add.0 p),
+      λ p. ⊎_elim
+          (λ q. add.1 (inl ((h b v).1 (inl q))))
+          (λ q. ⊎_elim (λ r. add.1 (inl ((h b v).1 (inr (q.0, r))))) (λ e. add.1 (inr (rw (q.0, e) refl))) (more.0 q.1))
+          p,
+    )
 
 -- the pairs after a block was added
 pub blocks_more : (defs : List (List ℕ)) (now now' : List (ℕ × ℕ)) (block : ℕ)
@@ -39,15 +41,16 @@ pub blocks_more : (defs : List (List ℕ)) (now now' : List (ℕ × ℕ)) (block
     → ((b v : ℕ) → Contains now' (b, v) ↔ (Contains now (b, v) ⊎ ((b ≡ block) × Contains (get_or defs block []) v)))
     → (b v : ℕ) → Contains now' (b, v) ↔ ((b < block + 1) × Contains (get_or defs b []) v)
 blocks_more defs now now' block h add b v =
-    let P : ℕ → Type 0 = λ z. Contains (get_or defs z []) v in
-    (λ p. ⊎_elim
-        (λ q. let r = (h b v).0 q in let below = r.0 in (omega arith, r.1))
-        (λ q. let e = q.0 in (omega arith, subst P (sym e) q.1))
-        ((add b v).0 p),
-     λ p. ⊎_elim
-        (λ e. (add b v).1 (inr (e, subst P e p.1)))
-        (λ ne. let below = p.0 in (add b v).1 (inl ((h b v).1 (omega arith, p.1))))
-        (cases_eq b block))
+    let P : ℕ → Type 0 = λ z. Contains (get_or defs z []) v in (
+      λ p. ⊎_elim
+          (λ q. let r = (h b v).0 q in let below = r.0 in (omega arith, r.1))
+          (λ q. let e = q.0 in (omega arith, subst P (sym e) q.1))
+          ((add b v).0 p),
+      λ p. ⊎_elim
+          (λ e. (add b v).1 (inr (e, subst P e p.1)))
+          (λ ne. let below = p.0 in (add b v).1 (inl ((h b v).1 (omega arith, p.1))))
+          (cases_eq b block),
+    )
 
 -- a list that contains something isn't past the end of the lists
 pub within : (lists : List (List ℕ)) (b v : ℕ) → Contains (get_or lists b []) v → b < length lists

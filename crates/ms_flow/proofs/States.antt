@@ -66,22 +66,22 @@ merged_new xs c w words words' queued queued' word in_words in_queued m h differ
     let other : (b : ℕ) → b ≢ c → get_or (set words' c word) b 0 ≡ get_or words' b 0 = λ b ne. get_or-set_other words' c b word 0 ne in
     let at : (b : ℕ) → b ≡ c → get_or words' b 0 ≡ get_or words' c 0 = λ b e. rw e in
     let grown : (b i : ℕ) → Has (get_or words' b 0) i → Has (get_or (set words' c word) b 0) i =
-        λ b i p. ⊎_elim (λ e. has_same _ _ i (sym (same b e)) ((h i).1 (inl (has_same _ _ i (at b e) p)))) (λ ne. has_same _ _ i (sym (other b ne)) p) (cases_eq b c) in
+    λ b i p. ⊎_elim (λ e. has_same _ _ i (sym (same b e)) ((h i).1 (inl (has_same _ _ i (at b e) p)))) (λ ne. has_same _ _ i (sym (other b ne)) p) (cases_eq b c) in
     record {
       kept = λ b i p. grown b i (m.kept b i p);
       given = All-push (Given w (set words' c word)) xs c (All-weaker (Given w words') (Given w (set words' c word)) (λ x p i q. grown x i (p i q)) xs m.given) (λ i p. has_same _ _ i (sym (same c refl)) ((h i).1 (inr p)));
       only = λ b i p.
-        let before : Has (get_or words' b 0) i → Has (get_or words b 0) i ⊎ (Contains (xs ++ c ∷ []) b × Has w i) =
-            λ q. ⊎_elim (λ r. inl r) (λ r. inr (Contains-append_left xs (c ∷ []) b r.0, r.1)) (m.only b i q) in
-        ⊎_elim
+          let before : Has (get_or words' b 0) i → Has (get_or words b 0) i ⊎ (Contains (xs ++ c ∷ []) b × Has w i) =
+          λ q. ⊎_elim (λ r. inl r) (λ r. inr (Contains-append_left xs (c ∷ []) b r.0, r.1)) (m.only b i q) in
+          ⊎_elim
           (λ e. ⊎_elim
-            (λ q. before (has_same _ _ i (sym (at b e)) q))
-            (λ q. inr (let P : ℕ → Type 0 = λ z. Contains (xs ++ c ∷ []) z in subst P (sym e) (Contains-push xs c), q))
-            ((h i).0 (has_same _ _ i (same b e) p)))
+          (λ q. before (has_same _ _ i (sym (at b e)) q))
+          (λ q. inr (let P : ℕ → Type 0 = λ z. Contains (xs ++ c ∷ []) z in subst P (sym e) (Contains-push xs c), q))
+          ((h i).0 (has_same _ _ i (same b e) p)))
           (λ ne. before (has_same _ _ i (other b ne) p))
           (cases_eq b c);
       still = λ b p.
-        ⊎_elim
+          ⊎_elim
           (λ e. absurd (true≢false (sym (get_set_same queued' c b true false in_queued e) ∙ p)))
           (λ ne. let q = m.still b (sym (get_or-set_other queued' c b true false ne) ∙ p) in (q.0, other b ne ∙ q.1))
           (cases_eq b c);
@@ -99,13 +99,13 @@ pub state_handed : (g : Graph) (kills words words' : List ℕ) (queued queued' :
 state_handed g kills words words' queued queued' block leaving in_queued s h m = record {
   sound = λ b i small p. ⊎_elim (s.sound b i small) (λ q. let r = (h i small).0 q.1 in Along block b (s.sound block i small r.0) r.1 q.0) (m.only b i p);
   settled = λ b p c i edge small here free.
-    let still = m.still b p in
-    let was : Has (get_or words b 0) i = has_same _ _ i still.1 here in
-    ⊎_elim
+      let still = m.still b p in
+      let was : Has (get_or words b 0) i = has_same _ _ i still.1 here in
+      ⊎_elim
       (λ e.
-        let P : ℕ → Type 0 = λ z. HasEdge g z c × Has (get_or words z 0) i × (Has (get_or kills z 0) i → ⊥) in
-        let at = subst P e (edge, was, free) in
-        All-contains (Given leaving words') (get_or g.next block []) c m.given at.0 i ((h i small).1 (at.1, at.2)))
+      let P : ℕ → Type 0 = λ z. HasEdge g z c × Has (get_or words z 0) i × (Has (get_or kills z 0) i → ⊥) in
+      let at = subst P e (edge, was, free) in
+      All-contains (Given leaving words') (get_or g.next block []) c m.given at.0 i ((h i small).1 (at.1, at.2)))
       (λ ne. m.kept c i (s.settled b (sym (get_or-set_other queued block b false false ne) ∙ still.0) c i edge small was free))
       (cases_eq b block);
   starts = λ i small. m.kept 0 i (s.starts i small);
@@ -129,7 +129,7 @@ abbrev pub Swept : List ℕ → List ℕ → List Bool → List Bool → List �
 Swept words words' queued queued' order n =
     (work_left words' queued' < work_left words queued)
     ⊎ ((queued' ≡ queued) × (work_left words' queued' ≡ work_left words queued)
-      × ((k : ℕ) → k < n → get_or queued (get_or order k 0) false ≡ false))
+    × ((k : ℕ) → k < n → get_or queued (get_or order k 0) false ≡ false))
 
 pub swept_none : (words : List ℕ) (queued : List Bool) (order : List ℕ) → Swept words words queued queued order 0
 swept_none words queued order = inr (refl, refl, λ k h. absurd (omega arith))
@@ -177,16 +177,16 @@ state_first g kills words queued n filled blanks len =
     let in_words : 0 < length words = rw (blanks, length-replicate) filled in
     let in_queued : 0 < length queued = omega arith in
     let none : (b i : ℕ) → b ≢ 0 → Has (get_or (set words 0 18446744073709551615) b 0) i → ⊥ =
-        λ b i ne p. has_none i (has_same _ _ i (get_or-set_other words 0 b 18446744073709551615 0 ne ∙ ap (λ (l : List ℕ). get_or l b 0) blanks ∙ blank n b) p) in
+    λ b i ne p. has_none i (has_same _ _ i (get_or-set_other words 0 b 18446744073709551615 0 ne ∙ ap (λ (l : List ℕ). get_or l b 0) blanks ∙ blank n b) p) in
     record {
       sound = λ b i small p. ⊎_elim
-        (λ e. let P : ℕ → Type 0 = λ z. Comes g kills i z in subst P (sym e) Entry)
-        (λ ne. absurd (none b i ne p))
-        (cases_eq b 0);
+          (λ e. let P : ℕ → Type 0 = λ z. Comes g kills i z in subst P (sym e) Entry)
+          (λ ne. absurd (none b i ne p))
+          (cases_eq b 0);
       settled = λ b off c i edge small p free. ⊎_elim
-        (λ e. absurd (true≢false (sym (get_set_same queued 0 b true false in_queued e) ∙ off)))
-        (λ ne. absurd (none b i ne p))
-        (cases_eq b 0);
+          (λ e. absurd (true≢false (sym (get_set_same queued 0 b true false in_queued e) ∙ off)))
+          (λ ne. absurd (none b i ne p))
+          (cases_eq b 0);
       starts = λ i small. has_same _ _ i (sym (get_set_same words 0 0 18446744073709551615 0 in_words refl)) (has_all i small);
     }
 

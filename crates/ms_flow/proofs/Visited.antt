@@ -43,16 +43,16 @@ marks_push seen vs c from in_seen m =
     let x : Visit = record { block = c; from = from } in
     record {
       visited = λ b h. ⊎_elim
-        (λ e. let P : ℕ → Type 0 = λ z. Visits (vs ++ x ∷ []) z in subst P (sym e) (visits_new vs x))
-        (λ ne. visits_kept vs x b (m.visited b (sym (get_or-set_other seen c b true false ne) ∙ h)))
-        (cases_eq b c);
+          (λ e. let P : ℕ → Type 0 = λ z. Visits (vs ++ x ∷ []) z in subst P (sym e) (visits_new vs x))
+          (λ ne. visits_kept vs x b (m.visited b (sym (get_or-set_other seen c b true false ne) ∙ h)))
+          (cases_eq b c);
       marked = λ k lt. ⊎_elim
-        (λ h.
+          (λ h.
           let P : ℕ → Type 0 = λ z. get_or (set seen c true) z false ≡ true in
           let at : block_at (vs ++ x ∷ []) k ≡ block_at vs k = ap (λ (v : Visit). v.block) (same_at vs x k h) in
           subst P (sym at) (⊎_elim (λ e. get_set_same seen c (block_at vs k) true false in_seen e) (λ ne. get_or-set_other seen c (block_at vs k) true false ne ∙ m.marked k h) (cases_eq (block_at vs k) c)))
-        (λ h. get_set_same seen c _ true false in_seen (ap (λ (v : Visit). v.block) (new_at vs x k h)))
-        (place_cases vs x k lt);
+          (λ h. get_set_same seen c _ true false in_seen (ap (λ (v : Visit). v.block) (new_at vs x k h)))
+          (place_cases vs x k lt);
     }
 
 -- what holds of the block that a visit came from and of its own
@@ -66,14 +66,14 @@ link_kept : (P : ℕ → ℕ → Type 0) (vs : List Visit) (x : Visit) (k : ℕ)
 link_kept P vs x k lt lt' p =
     let at = same_at vs x k lt in
     let back : block_at (vs ++ x ∷ []) (from_at (vs ++ x ∷ []) k) ≡ block_at vs (from_at vs k) =
-        ap (λ (v : Visit). block_at (vs ++ x ∷ []) v.from) at ∙ ap (λ (v : Visit). v.block) (same_at vs x (from_at vs k) lt') in
+    ap (λ (v : Visit). block_at (vs ++ x ∷ []) v.from) at ∙ ap (λ (v : Visit). v.block) (same_at vs x (from_at vs k) lt') in
     two P _ _ _ _ (sym back) (sym (ap (λ (v : Visit). v.block) at)) p
 
 link_new : (P : ℕ → ℕ → Type 0) (vs : List Visit) (x : Visit) (k : ℕ) → k ≡ length vs → x.from < length vs → P (block_at vs x.from) x.block → Link P (vs ++ x ∷ []) k
 link_new P vs x k e lt p =
     let at = new_at vs x k e in
     let back : block_at (vs ++ x ∷ []) (from_at (vs ++ x ∷ []) k) ≡ block_at vs x.from =
-        ap (λ (v : Visit). block_at (vs ++ x ∷ []) v.from) at ∙ ap (λ (v : Visit). v.block) (same_at vs x x.from lt) in
+    ap (λ (v : Visit). block_at (vs ++ x ∷ []) v.from) at ∙ ap (λ (v : Visit). v.block) (same_at vs x x.from lt) in
     two P _ _ _ _ (sym back) (sym (ap (λ (v : Visit). v.block) at)) p
 
 pub walk_push : (g : Graph) (v : ℕ) (vs : List Visit) (c from : ℕ) → from < length vs
@@ -91,22 +91,22 @@ walk_push g v vs c from in_vs edge free fresh w =
       starts = omega arith;
       entry = ap (λ (v : Visit). v.block) (same_at vs x 0 w.starts) ∙ w.entry;
       earlier = λ k pos lt. ⊎_elim
-        (λ h. let e = ap (λ (v : Visit). v.from) (same_at vs x k h) in let f = w.earlier k pos h in omega arith)
-        (λ h. let e = ap (λ (v : Visit). v.from) (new_at vs x k h) in omega arith)
-        (place_cases vs x k lt);
+          (λ h. let e = ap (λ (v : Visit). v.from) (same_at vs x k h) in let f = w.earlier k pos h in omega arith)
+          (λ h. let e = ap (λ (v : Visit). v.from) (new_at vs x k h) in omega arith)
+          (place_cases vs x k lt);
       edges = λ k pos lt. ⊎_elim
-        (λ h. let f = w.earlier k pos h in link_kept Edge vs x k h (omega arith) (w.edges k pos h))
-        (λ h. link_new Edge vs x k h in_vs edge)
-        (place_cases vs x k lt);
+          (λ h. let f = w.earlier k pos h in link_kept Edge vs x k h (omega arith) (w.edges k pos h))
+          (λ h. link_new Edge vs x k h in_vs edge)
+          (place_cases vs x k lt);
       avoids = λ k pos lt. ⊎_elim
-        (λ h. let f = w.earlier k pos h in link_kept Free vs x k h (omega arith) (w.avoids k pos h))
-        (λ h. link_new Free vs x k h in_vs free)
-        (place_cases vs x k lt);
+          (λ h. let f = w.earlier k pos h in link_kept Free vs x k h (omega arith) (w.avoids k pos h))
+          (λ h. link_new Free vs x k h in_vs free)
+          (place_cases vs x k lt);
       apart = λ j k less lt same. ⊎_elim
-        (λ h. w.apart j k less h (sym (ap (λ (v : Visit). v.block) (same_at vs x j (omega arith))) ∙ same ∙ ap (λ (v : Visit). v.block) (same_at vs x k h)))
-        (λ h. let lt' : j < length vs = omega arith in
-            fresh (j, lt', sym (ap (λ (v : Visit). v.block) (same_at vs x j lt')) ∙ same ∙ ap (λ (v : Visit). v.block) (new_at vs x k h)))
-        (place_cases vs x k lt);
+          (λ h. w.apart j k less h (sym (ap (λ (v : Visit). v.block) (same_at vs x j (omega arith))) ∙ same ∙ ap (λ (v : Visit). v.block) (same_at vs x k h)))
+          (λ h. let lt' : j < length vs = omega arith in
+          fresh (j, lt', sym (ap (λ (v : Visit). v.block) (same_at vs x j lt')) ∙ same ∙ ap (λ (v : Visit). v.block) (new_at vs x k h)))
+          (place_cases vs x k lt);
     }
 
 pub unseen_push : (seen : List Bool) (c : ℕ) → c < length seen → get_or seen c false ≡ false → unseen (set seen c true) + 1 ≡ unseen seen
@@ -172,15 +172,15 @@ going_new g from seen' vs' next n seen vs lt in_front is in_seen h off =
     let At : ℕ → Type 0 = λ b. HasEdge g b c in
     let edge : HasEdge g (block_at vs from) c = subst At (sym here) (subst Edges is (Contains-get_or next n 0 lt)) in
     let fresh : Visits vs c → ⊥ = λ p.
-        let On : ℕ → Type 0 = λ z. get_or seen z false ≡ true in
-        true≢false (sym (subst On p.2 (h.marks.marked p.0 p.1)) ∙ off) in
+    let On : ℕ → Type 0 = λ z. get_or seen z false ≡ true in
+    true≢false (sym (subst On p.2 (h.marks.marked p.0 p.1)) ∙ off) in
     record {
       marks = marks_push seen vs c from in_seen h.marks;
       front = take-append-le (length vs') vs (x ∷ []) longer ∙ h.front;
       given = below_more (λ j. Visits (vs ++ x ∷ []) (get_or next j 0)) n (λ j p. visits_kept vs x (get_or next j 0) (h.given j p)) (visits_new vs x);
       walk = λ v free w.
-        let Free : ℕ → Type 0 = λ b. Defines g b v → ⊥ in
-        walk_push g v vs c from in_vs edge (subst Free (sym here) free) fresh (h.walk v free w);
+          let Free : ℕ → Type 0 = λ b. Defines g b v → ⊥ in
+          walk_push g v vs c from in_vs edge (subst Free (sym here) free) fresh (h.walk v free w);
       work = let e = unseen_push seen c in_seen off in let m = one_more vs x in let w = h.work in omega arith;
     }
 
@@ -222,9 +222,9 @@ first_walk g v = record {
 pub first_marks : (seen : List Bool) → 0 < length seen → ((b : ℕ) → get_or seen b false ≡ false) → Marks (set seen 0 true) ((record { block = 0; from = 0 }) ∷ [])
 first_marks seen some off = record {
   visited = λ b h. ⊎_elim
-    (λ e. (0, omega arith, sym e))
-    (λ ne. absurd (true≢false (sym h ∙ get_or-set_other seen 0 b true false ne ∙ off b)))
-    (cases_eq b 0);
+      (λ e. (0, omega arith, sym e))
+      (λ ne. absurd (true≢false (sym h ∙ get_or-set_other seen 0 b true false ne ∙ off b)))
+      (cases_eq b 0);
   marked = λ k lt. let none : k ≡ 0 = omega arith in rw none (get_or-set_same seen 0 true false some);
 }
 
@@ -243,9 +243,9 @@ closed_on g v vs' vs at lt front kept here closed k below free c edge =
     let free' = subst Free same free in
     let edge' = subst Edge same edge in
     ⊎_elim
-      (λ e. let At : ℕ → Type 0 = λ z. ¬ Defines g (block_at vs' z) v × HasEdge g (block_at vs' z) c in let p = subst At e (free', edge') in here c p.0 p.1)
-      (λ ne. kept c (closed k (omega arith) free' c edge'))
-      (cases_eq k at)
+    (λ e. let At : ℕ → Type 0 = λ z. ¬ Defines g (block_at vs' z) v × HasEdge g (block_at vs' z) c in let p = subst At e (free', edge') in here c p.0 p.1)
+    (λ ne. kept c (closed k (omega arith) free' c edge'))
+    (cases_eq k at)
 
 pub visits_front : (vs' vs : List Visit) → take (length vs') vs ≡ vs' → (b : ℕ) → Visits vs' b → Visits vs b
 visits_front vs' vs front b (k, lt, e) =
@@ -300,8 +300,8 @@ trail_later g v vs last w lt _ _ (Back k rest pos t) =
     let in_vs = trail_within g v vs last w lt k rest t in
     let e = w.earlier k pos in_vs in
     All-cons (λ b. (j : ℕ) × (from_at vs k < j) × (j < length vs) × (block_at vs j ≡ b)) (block_at vs k) rest
-      (k, e, in_vs, refl)
-      (λ i d small. let p = trail_later g v vs last w lt k rest t i d small in let q = p.1 in (p.0, omega arith, p.2, p.3))
+    (k, e, in_vs, refl)
+    (λ i d small. let p = trail_later g v vs last w lt k rest t i d small in let q = p.1 in (p.0, omega arith, p.2, p.3))
 
 pairs_cons : (x : ℕ) (xs : List ℕ) → All (λ y. x ≢ y) xs → AllPairs (λ a b. a ≢ b) xs → AllPairs (λ a b. a ≢ b) (x ∷ xs)
 pairs_cons x xs h t zero zero d lt small = absurd (omega arith)
@@ -314,8 +314,8 @@ trail_once g v vs last w lt _ _ Last =
     pairs_cons (block_at vs last) [] (All-nil (λ y. block_at vs last ≢ y)) (λ i j d less small. absurd (omega arith))
 trail_once g v vs last w lt _ _ (Back k rest pos t) =
     pairs_cons (block_at vs (from_at vs k)) (block_at vs k ∷ rest)
-      (λ i d small e. let p = trail_later g v vs last w lt (from_at vs k) (block_at vs k ∷ rest) (Back k rest pos t) i d small in w.apart (from_at vs k) p.0 p.1 p.2 (e ∙ sym p.3))
-      (trail_once g v vs last w lt k rest t)
+    (λ i d small e. let p = trail_later g v vs last w lt (from_at vs k) (block_at vs k ∷ rest) (Back k rest pos t) i d small in w.apart (from_at vs k) p.0 p.1 p.2 (e ∙ sym p.3))
+    (trail_once g v vs last w lt k rest t)
 
 pub trail_misses : (g : Graph) (u : Use) (vs : List Visit) (last : ℕ) (rest path : List ℕ)
     → IsWalk g u.value vs → last < length vs → block_at vs last ≡ u.block → IsUndefined g u
@@ -327,10 +327,10 @@ trail_misses g u vs last rest path w lt at undefined t is =
       ends = is ∙ b.1 ∙ ap (λ (n : ℕ). b.0 ++ n ∷ []) at;
       leads = let P : List ℕ → Type 0 = λ l. IsPath g l in subst P (sym is) (w.entry, trail_follows g u.value vs last w lt 0 rest t);
       avoids = λ passes. ⊎_elim
-        (λ some. let none = b.2 some.0 some.1 some.2 in
-            let D : ℕ → Type 0 = λ z. Defines g z u.value in none (subst D (sym some.3) some.4))
-        (λ own. undefined.1 own.0 own.1)
-        passes;
+          (λ some. let none = b.2 some.0 some.1 some.2 in
+          let D : ℕ → Type 0 = λ z. Defines g z u.value in none (subst D (sym some.3) some.4))
+          (λ own. undefined.1 own.0 own.1)
+          passes;
     }
 
 pub trail_apart : (g : Graph) (v : ℕ) (vs : List Visit) (last : ℕ) (rest path : List ℕ)

@@ -29,7 +29,8 @@ pub fn missing(alloc: Global, g: &Graph, uses: &[Use]) -> Result<Option<Missing>
     // The use that is named, and the path to it.
     ensures in_range { IfOk result (λ answer. IfSome answer (λ m. m.which < length uses.now)) }
     ensures least { IfOk result (λ answer. IfSome answer (λ m. All (IsDefined g.now) (take m.which uses.now))) }
-    ensures path { IfOk result (λ answer. IfSome answer (λ m. IfSome (slice_get uses.now m.which) (λ u. Misses g.now u m.path))) }
+    ensures path { IfOk result (λ answer. IfSome answer (λ m.
+        IfSome (slice_get uses.now m.which) (λ u. Misses g.now u m.path))) }
     ensures once { IfOk result (λ answer. IfSome answer (λ m. AllPairs (λ a b. a ≢ b) m.path)) }
 {
     let undefined = undefined_uses(alloc, g, uses)?;
@@ -51,7 +52,8 @@ fn undefined_uses(alloc: Global, g: &Graph, uses: &[Use]) -> Result<Vec<bool>, N
     requires successors { StaysIn g.now }
     requires blocks { All (λ u. u.block < length g.now.next) uses.now }
     ensures len { IfOk result (λ f. vec_len f ≡ length uses.now) }
-    ensures flags { IfOk result (λ f. (k : ℕ) → k < length uses.now → (slice_index_or f.items k false ≡ true) ↔ IsUndefined g.now (use_at uses.now k)) }
+    ensures flags { IfOk result (λ f. (k : ℕ) → k < length uses.now →
+        (slice_index_or f.items k false ≡ true) ↔ IsUndefined g.now (use_at uses.now k)) }
 {
     let definitions = definitions(alloc, g)?;
     let questions = questions(alloc, &definitions, uses)?;
@@ -79,8 +81,10 @@ fn ask(
     requires places { All (λ q. q.1 < length uses.now) questions.now }
     requires values { All (λ q. q.0 ≡ (use_at uses.now q.1).value) questions.now }
     requires flags { length undefined.old ≡ length uses.now }
-    ensures marked { OnOk result (All (λ q. IsUndefined g.now (use_at uses.now q.1) → slice_index_or undefined.new q.1 false ≡ true) questions.now) }
-    ensures right { OnOk result ((k : ℕ) → slice_index_or undefined.new k false ≡ true → (slice_index_or undefined.old k false ≡ true) ⊎ IsUndefined g.now (use_at uses.now k)) }
+    ensures marked { OnOk result (All (λ q.
+        IsUndefined g.now (use_at uses.now q.1) → slice_index_or undefined.new q.1 false ≡ true) questions.now) }
+    ensures right { OnOk result ((k : ℕ) → slice_index_or undefined.new k false ≡ true →
+        (slice_index_or undefined.old k false ≡ true) ⊎ IsUndefined g.now (use_at uses.now k)) }
 {
     let order = order(alloc, g)?;
     let mut kills = vec![in alloc; 0u64; g.len()]?;
@@ -120,9 +124,12 @@ fn judge(
     requires values { All (λ q. Contains values.now (use_at uses.now q.1).value) questions.now }
     requires flags { length undefined.old ≡ length uses.now }
     ensures marked { All (λ q. let u = use_at uses.now q.1 in
-        (i : ℕ) × StandsAt values.now u i × (Leaves kills.now words.now u i → slice_index_or undefined.new q.1 false ≡ true)) questions.now }
-    ensures kept { (k : ℕ) → slice_index_or undefined.old k false ≡ true → slice_index_or undefined.new k false ≡ true }
-    ensures right { (k : ℕ) → slice_index_or undefined.new k false ≡ true → (slice_index_or undefined.old k false ≡ true)
+        (i : ℕ) × StandsAt values.now u i
+        × (Leaves kills.now words.now u i → slice_index_or undefined.new q.1 false ≡ true)) questions.now }
+    ensures kept { (k : ℕ) →
+        slice_index_or undefined.old k false ≡ true → slice_index_or undefined.new k false ≡ true }
+    ensures right { (k : ℕ) → slice_index_or undefined.new k false ≡ true →
+        (slice_index_or undefined.old k false ≡ true)
         ⊎ ((i : ℕ) × StandsAt values.now (use_at uses.now k) i × Leaves kills.now words.now (use_at uses.now k) i) }
 {
     for (_, which) in questions {

@@ -27,7 +27,8 @@ fn add_definitions(
     values: &[u32],
     pairs: &mut Vec<(usize, u32)>,
 ) -> Result<(), NoMemory>
-    ensures { OnOk result ((b v : ℕ) → Contains pairs.new.items (b, v) ↔ (Contains pairs.old.items (b, v) ⊎ ((b ≡ block) × Contains values.now v))) }
+    ensures { OnOk result ((b v : ℕ) → Contains pairs.new.items (b, v)
+        ↔ (Contains pairs.old.items (b, v) ⊎ ((b ≡ block) × Contains values.now v))) }
 {
     for value in values {
         pairs.push((block, *value))?;
@@ -47,7 +48,8 @@ pub fn has_definition(definitions: &[(usize, u32)], block: usize, value: u32) ->
 pub fn tell(values: &[u32], definitions: &[(usize, u32)], kills: &mut [u64])
     requires few { length values.now ≤ 64 }
     requires blocks { All (λ d. d.0 < length kills.old) definitions.now }
-    ensures { (b i : ℕ) → i < length values.now → Has (slice_index_or kills.new b 0) i ↔ Contains definitions.now (b, slice_index_or values.now i 0) }
+    ensures { (b i : ℕ) → i < length values.now →
+        Has (slice_index_or kills.new b 0) i ↔ Contains definitions.now (b, slice_index_or values.now i 0) }
 {
     kills.fill(0);
     let (low, high) = bounds(values);
@@ -74,7 +76,8 @@ fn bounds(values: &[u32]) -> (u32, u32)
 /// The set with the places at which the value stands.
 fn with_value(values: &[u32], value: u32, word: u64) -> u64
     requires { length values.now ≤ 64 }
-    ensures { (i : ℕ) → i < length values.now → Has result i ↔ (Has word i ⊎ (slice_index_or values.now i 0 ≡ value)) }
+    ensures { (i : ℕ) → i < length values.now →
+        Has result i ↔ (Has word i ⊎ (slice_index_or values.now i 0 ≡ value)) }
 {
     let mut places = word;
     for (place, other) in values.iter().enumerate() {

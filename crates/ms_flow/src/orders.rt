@@ -105,7 +105,8 @@ fn add_others(alloc: Global, len: usize, order: &mut Vec<usize>) -> Result<(), N
 fn flags(alloc: Global, len: usize, order: &[usize]) -> Result<Vec<bool>, NoMemory>
     requires { All (λ b. b < len) order.now }
     ensures len { IfOk result (λ s. vec_len s ≡ len) }
-    ensures flags { IfOk result (λ s. (b : ℕ) → slice_index_or s.items b false ≡ true → Contains order.now b) }
+    ensures flags { IfOk result (λ s.
+        (b : ℕ) → slice_index_or s.items b false ≡ true → Contains order.now b) }
 {
     let mut stands = vec![in alloc; false; len]?;
     for block in order {

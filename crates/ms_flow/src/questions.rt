@@ -37,7 +37,8 @@ pub fn first_values(
     ensures few { IfOk result (λ r. vec_len r.0 ≤ 64) }
     ensures some { IfOk result (λ r. 0 < r.1) }
     ensures count { IfOk result (λ r. r.1 ≤ length questions.now) }
-    ensures values { IfOk result (λ r. (k : ℕ) → k < r.1 → Contains r.0.items (slice_index_or questions.now k (0, 0)).0) }
+    ensures values { IfOk result (λ r.
+        (k : ℕ) → k < r.1 → Contains r.0.items (slice_index_or questions.now k (0, 0)).0) }
 {
     let mut values = Vec::new(alloc);
     for (count, (value, _)) in questions.iter().enumerate() {

@@ -31,7 +31,8 @@ fn walk(alloc: Global, g: &Graph, value: u32) -> Result<Vec<Visit>, NoMemory>
     requires same_length { length g.now.next ≡ length g.now.defs }
     requires successors { StaysIn g.now }
     ensures walk { IfOk result (λ v. IsWalk g.now value v.items) }
-    ensures all { IfOk result (λ v. (b : ℕ) → Arrives g.now (λ a. Defines g.now a value) b → Visits v.items b) }
+    ensures all { IfOk result (λ v.
+        (b : ℕ) → Arrives g.now (λ a. Defines g.now a value) b → Visits v.items b) }
 {
     let mut seen = vec![in alloc; false; g.len()]?;
     seen[0] = true;
@@ -56,9 +57,12 @@ fn go_on(g: &Graph, from: usize, seen: &mut [bool], visits: &mut Vec<Visit>) -> 
     requires marks { Marks seen.old visits.old.items }
     ensures marks { OnOk result (Marks seen.new visits.new.items) }
     ensures front { OnOk result (take (length visits.old.items) visits.new.items ≡ visits.old.items) }
-    ensures all { OnOk result ((c : ℕ) → HasEdge g.now (block_at visits.old.items from) c → Visits visits.new.items c) }
-    ensures walk { OnOk result ((v : ℕ) → ¬ Defines g.now (block_at visits.old.items from) v → IsWalk g.now v visits.old.items → IsWalk g.now v visits.new.items) }
-    ensures work { OnOk result (unseen seen.new + length visits.new.items ≡ unseen seen.old + length visits.old.items) }
+    ensures all { OnOk result ((c : ℕ) →
+        HasEdge g.now (block_at visits.old.items from) c → Visits visits.new.items c) }
+    ensures walk { OnOk result ((v : ℕ) → ¬ Defines g.now (block_at visits.old.items from) v →
+        IsWalk g.now v visits.old.items → IsWalk g.now v visits.new.items) }
+    ensures work { OnOk result (
+        unseen seen.new + length visits.new.items ≡ unseen seen.old + length visits.old.items) }
 {
     let block = visits[from].block as usize;
     for next in g.successors(block) {
@@ -83,7 +87,8 @@ fn visit_of(visits: &[Visit], block: u32) -> Option<usize>
 fn trail(alloc: Global, visits: &[Visit], last: usize) -> Result<Vec<u32>, NoMemory>
     requires last { last < length visits.now }
     requires earlier { (k : ℕ) → 0 < k → k < length visits.now → from_at visits.now k < k }
-    ensures { IfOk result (λ p. (rest : List ℕ) × Trail visits.now last 0 rest × (p.items ≡ block_at visits.now 0 ∷ rest)) }
+    ensures { IfOk result (λ p. (rest : List ℕ)
+        × Trail visits.now last 0 rest × (p.items ≡ block_at visits.now 0 ∷ rest)) }
 {
     let mut path = Vec::new(alloc);
     let mut at = last;

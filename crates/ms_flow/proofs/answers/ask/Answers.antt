@@ -20,8 +20,8 @@ pub judge-requires-clause-values : goal.judge-requires-clause-values
 judge-requires-clause-values c =
     let P : List ℕ → Type 0 = λ l. All (λ q. Contains l (use_at c.args.uses.now q.1).value) (take (c.loop-from.from + c.in_ok-values.count - c.loop-from.from) (drop c.loop-from.from c.args.questions.now)) in
     subst P (sym c.deref-in-loop-from-3.ensures.value)
-      (batch_values c.args.uses.now c.in_ok-values.values.items c.args.questions.now c.loop-from.from c.in_ok-values.count c.requires.values
-        (rw (take_rest c.args.questions.now c.loop-from.from) at c.in_ok-values.ensures.values))
+    (batch_values c.args.uses.now c.in_ok-values.values.items c.args.questions.now c.loop-from.from c.in_ok-values.count c.requires.values
+    (rw (take_rest c.args.questions.now c.loop-from.from) at c.in_ok-values.ensures.values))
 
 pub loop-from-preserved : goal.loop-from-preserved
 loop-from-preserved c =
@@ -55,9 +55,9 @@ loop-from-preserved c =
       words = ap (λ (l : List ℕ). length l) words_is ∙ omega (arith, h.words, words_size, c.loop-from.words.ok.0);
       queued = ap (λ (l : List Bool). length l) queued_is ∙ omega (arith, h.queued, queued_size, c.loop-from.queued.ok.0);
       marked = batch_marked g uses values kills words c.loop-from.undefined c.judge.new.undefined qs from count within answers h.marked c.judge.ensures.kept
-        (judged_same uses values c.deref-in-loop-from-3.result.now kills c.deref-in-loop-from-4.result.now words c.deref-in-loop-from-5.result.now c.judge.new.undefined _ v k w c.judge.ensures.marked);
+          (judged_same uses values c.deref-in-loop-from-3.result.now kills c.deref-in-loop-from-4.result.now words c.deref-in-loop-from-5.result.now c.judge.new.undefined _ v k w c.judge.ensures.marked);
       right = batch_right g uses values kills words c.args.undefined.now c.loop-from.undefined c.judge.new.undefined answers h.right
-        (λ n on. right_same uses values c.deref-in-loop-from-3.result.now kills c.deref-in-loop-from-4.result.now words c.deref-in-loop-from-5.result.now c.loop-from.undefined n v k w (c.judge.ensures.right n on));
+          (λ n on. right_same uses values c.deref-in-loop-from-3.result.now kills c.deref-in-loop-from-4.result.now words c.deref-in-loop-from-5.result.now c.loop-from.undefined n v k w (c.judge.ensures.right n on));
     }
 
 pub returns-clause-marked : goal.returns-clause-marked

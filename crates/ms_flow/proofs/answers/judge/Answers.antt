@@ -20,18 +20,18 @@ loop-which-preserved c =
     let small = c.requires.places k (0, 0) c.loop-which-test.true in
     elim c.if-arrives.branch [
       | then-arrives w ↦ rw w.undefined-is record {
-          marked = below_more (λ j. Judged uses values kills words (set flags which true) (get_or c.args.questions.now j (0, 0)).1) k
+        marked = below_more (λ j. Judged uses values kills words (set flags which true) (get_or c.args.questions.now j (0, 0)).1) k
             (λ j lt. judged_kept uses values kills words flags (set flags which true) _ (flag_kept flags which _ (omega arith)) (h.marked j lt))
             (a.0, a.1, λ l. get_set_same flags which which true false (omega arith) refl);
-          kept = λ j on. flag_kept flags which j (omega arith) (h.kept j on);
-          right = λ j on. right_set uses values kills words c.args.undefined.now flags which j h.right (a.0, a.1, a.2.0 w.if-arrives.true) on;
-        }
+        kept = λ j on. flag_kept flags which j (omega arith) (h.kept j on);
+        right = λ j on. right_set uses values kills words c.args.undefined.now flags which j h.right (a.0, a.1, a.2.0 w.if-arrives.true) on;
+      }
       | else-arrives w ↦ rw w.undefined-is record {
-          marked = below_more (λ j. Judged uses values kills words flags (get_or c.args.questions.now j (0, 0)).1) k h.marked
+        marked = below_more (λ j. Judged uses values kills words flags (get_or c.args.questions.now j (0, 0)).1) k h.marked
             (a.0, a.1, λ l. absurd (true≢false (sym (a.2.1 l) ∙ w.if-arrives.false)));
-          kept = h.kept;
-          right = h.right;
-        }
+        kept = h.kept;
+        right = h.right;
+      }
     ]
 
 pub returns-clause-marked : goal.returns-clause-marked

@@ -16,10 +16,10 @@ returns-clause-least c =
     let off = subst P c.deref.ensures.value c.in-Some.ensures.first in
     let found = c.in-Some.ensures.found in
     defined_before c.args.g.now c.args.uses.now flags c.in-Some.which c.in_ok-undefined.ensures.flags
-      (omega (arith, found.0, c.deref.ensures.len, c.in_ok-undefined.ensures.len)) off
+    (omega (arith, found.0, c.deref.ensures.len, c.in_ok-undefined.ensures.len)) off
 
 pub returns-clause-path : goal.returns-clause-path
 returns-clause-path c =
     let found = c.in-Some.ensures.found in
     misses_at c.args.g.now c.args.uses.now c.in-Some.which _ c.from_vec.result c.in_ok-path-in-Some.path.items
-      (omega (arith, found.0, c.deref.ensures.len, c.in_ok-undefined.ensures.len)) c.from_vec.ensures c.in_ok-path-in-Some.ensures.misses
+    (omega (arith, found.0, c.deref.ensures.len, c.in_ok-undefined.ensures.len)) c.from_vec.ensures c.in_ok-path-in-Some.ensures.misses

@@ -45,7 +45,7 @@ returns-clause-flags c k lt =
           let R : List Bool → Type 0 = λ l. get_or flags k false ≡ true → (get_or l k false ≡ true) ⊎ IsUndefined g (use_at uses k) in
           let right = subst R w.deref_mut.ensures.value (w.in_ok-ask.ensures.right k) in
           rw (w.undefined-is, with_items_is made flags size)
-            (flags_answer g uses defs qs made.items flags k c.in_ok-definitions.ensures asked blank marked right)
+          (flags_answer g uses defs qs made.items flags k c.in_ok-definitions.ensures asked blank marked right)
       | else-not-is_empty w ↦
           let none = eqb-true (vec_len c.in_ok-questions.questions) 0 (sym c.is_empty.ensures ∙ w.if-not-is_empty.false) in
           rw w.undefined-is (flags_none g uses defs qs made.items k c.in_ok-definitions.ensures asked blank (omega (arith, none, c.in_ok-questions.questions.ok.0)))

@@ -17,13 +17,13 @@ loop-block-preserved c =
           rw w.kills-is (tell_in values kills defs k w.with_value.result lt (omega (arith, in_kills)) w.with_value.ensures c.loop-block.invariant)
       | else-low-value w ↦ rw w.kills-is
           (tell_out values kills defs k lt
-            (λ i small e.
-              let within = c.bounds-low.ensures i 0 small in
-              elim w.else-low-value.branch [
-                | else-low-value-via-then-low-value+else-value-high w' ↦ omega (arith, within)
-                | else-low-value-via-else-low-value w' ↦ omega (arith, within)
-              ])
-            c.loop-block.invariant)
+          (λ i small e.
+          let within = c.bounds-low.ensures i 0 small in
+          elim w.else-low-value.branch [
+            | else-low-value-via-then-low-value+else-value-high w' ↦ omega (arith, within)
+            | else-low-value-via-else-low-value w' ↦ omega (arith, within)
+          ])
+          c.loop-block.invariant)
     ]
 
 pub returns : goal.returns

@@ -35,18 +35,18 @@ loop-preserved c =
     let h = popped n c.loop.steps.items c.pop.new.self.items c.in-Some.step c.in-Some.ensures.items c.loop.invariant.steps in
     elim c.if-step.branch [
       | then-step+in_ok-push-2 w ↦ rw (w.entered-is, w.steps-is, w.done-is) record {
-          len = c.loop.invariant.len;
-          steps = h.0;
-          done = rw w.in_ok-push-2.ensures.items (All-push (λ (b : ℕ). b < n) c.loop.done.items c.in-Some.step.block c.loop.invariant.done h.1);
-        }
+        len = c.loop.invariant.len;
+        steps = h.0;
+        done = rw w.in_ok-push-2.ensures.items (All-push (λ (b : ℕ). b < n) c.loop.done.items c.in-Some.step.block c.loop.invariant.done h.1);
+      }
       | else-step+then-not-index+in_ok-enter w ↦ rw (w.entered-is, w.steps-is, w.done-is) record {
-          len = c.loop.invariant.len;
-          steps = w.in_ok-enter.ensures;
-          done = c.loop.invariant.done;
-        }
+        len = c.loop.invariant.len;
+        steps = w.in_ok-enter.ensures;
+        done = c.loop.invariant.done;
+      }
       | else-step+else-not-index w ↦ rw (w.entered-is, w.steps-is, w.done-is) record {
-          len = c.loop.invariant.len;
-          steps = h.0;
-          done = c.loop.invariant.done;
-        }
+        len = c.loop.invariant.len;
+        steps = h.0;
+        done = c.loop.invariant.done;
+      }
     ]

@@ -15,9 +15,9 @@ loop-count-preserved c =
             values = rw w.in_ok-push.ensures.items (values_push questions c.loop-count.values.items k c.loop-count.invariant.values);
           }
       | else-not-contains w ↦ rw w.values-is record {
-          few = c.loop-count.invariant.few;
-          fewer = omega (arith, c.loop-count.invariant.fewer);
-          values = values_more questions c.loop-count.values.items k c.loop-count.invariant.values
+        few = c.loop-count.invariant.few;
+        fewer = omega (arith, c.loop-count.invariant.fewer);
+        values = values_more questions c.loop-count.values.items k c.loop-count.invariant.values
             ((contained c.loop-count.values.items (get_or questions k (0, 0)).0 c.contains.result (rw c.deref.ensures.value at c.contains.ensures.cases)).0 w.if-not-contains.false);
-        }
+      }
     ]

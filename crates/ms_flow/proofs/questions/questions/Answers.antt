@@ -17,8 +17,8 @@ asked_push : (uses : List Use) (defs questions : List (ℕ × ℕ)) (k : ℕ)
 asked_push uses defs questions k before =
     let q : ℕ × ℕ = ((use_at uses k).value, k) in
     below_more (Asked uses defs (questions ++ q ∷ [])) k
-      (λ j h. ⊎_elim (λ p. inl (Contains-append_left questions (q ∷ []) _ p)) (λ p. inr p) (before j h))
-      (inl (Contains-push questions q))
+    (λ j h. ⊎_elim (λ p. inl (Contains-append_left questions (q ∷ []) _ p)) (λ p. inr p) (before j h))
+    (inl (Contains-push questions q))
 
 asked_settled : (uses : List Use) (defs questions : List (ℕ × ℕ)) (k : ℕ)
     → ((j : ℕ) → j < k → Asked uses defs questions j)
@@ -35,15 +35,15 @@ loop-which-preserved c =
     let items = c.loop-which.questions.items in
     elim c.if-not-u.branch [
       | then-not-u+in_ok-push w ↦ rw (w.questions-is, w.in_ok-push.ensures.items) record {
-          asked = asked_push uses defs items k c.loop-which.invariant.asked;
-          places = All-push (λ (x : ℕ × ℕ). x.1 < length uses) items _ c.loop-which.invariant.places c.loop-which-test.true;
-          values = All-push (λ (x : ℕ × ℕ). x.0 ≡ (use_at uses x.1).value) items _ c.loop-which.invariant.values refl;
-        }
+        asked = asked_push uses defs items k c.loop-which.invariant.asked;
+        places = All-push (λ (x : ℕ × ℕ). x.1 < length uses) items _ c.loop-which.invariant.places c.loop-which-test.true;
+        values = All-push (λ (x : ℕ × ℕ). x.0 ≡ (use_at uses x.1).value) items _ c.loop-which.invariant.values refl;
+      }
       | else-not-u+else-not-has_definition w ↦ rw w.questions-is record {
-          asked = asked_settled uses defs items k c.loop-which.invariant.asked w.if-not-u.false (w.has_definition.ensures w.if-not-has_definition.false);
-          places = c.loop-which.invariant.places;
-          values = c.loop-which.invariant.values;
-        }
+        asked = asked_settled uses defs items k c.loop-which.invariant.asked w.if-not-u.false (w.has_definition.ensures w.if-not-has_definition.false);
+        places = c.loop-which.invariant.places;
+        values = c.loop-which.invariant.values;
+      }
     ]
 
 pub returns-clause-asked : goal.returns-clause-asked

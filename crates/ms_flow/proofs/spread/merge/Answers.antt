@@ -17,15 +17,15 @@ loop-block-preserved c =
     let queued = c.loop-block.queued in
     let in_words : block < length words = omega (arith, c.requires.next k 0 c.loop-block-test.true) in
     rw (take_more next k 0 c.loop-block-test.true)
-      (elim c.if-word-words.branch [
-        | then-word-words w ↦
-            rw (w.words-is, w.queued-is)
-              (merged_new (take k next) block c.args.leaving _ words _ queued c.union-word.result in_words (omega arith) c.loop-block.invariant
-                c.union-word.ensures.members w.if-word-words.true c.union-word.ensures.grown c.union-word.type_inv)
-        | else-word-words w ↦
-            rw (w.words-is, w.queued-is)
-              (merged_same (take k next) block c.args.leaving _ words _ queued c.union-word.result w.if-word-words.false c.loop-block.invariant c.union-word.ensures.members)
-      ])
+    (elim c.if-word-words.branch [
+      | then-word-words w ↦
+          rw (w.words-is, w.queued-is)
+          (merged_new (take k next) block c.args.leaving _ words _ queued c.union-word.result in_words (omega arith) c.loop-block.invariant
+          c.union-word.ensures.members w.if-word-words.true c.union-word.ensures.grown c.union-word.type_inv)
+      | else-word-words w ↦
+          rw (w.words-is, w.queued-is)
+          (merged_same (take k next) block c.args.leaving _ words _ queued c.union-word.result w.if-word-words.false c.loop-block.invariant c.union-word.ensures.members)
+    ])
 
 pub returns : goal.returns
 returns c = rw (take_all c.loop-block.block-index c.args.next.now c.loop-block-test.false) at c.loop-block.invariant

@@ -15,4 +15,4 @@ pub returns : goal.returns
 returns c =
     let none = c.loop-words-test.ensures.cases in
     state_last c.args.g.now c.args.kills.now c.loop-words.words c.loop-words.queued c.loop-words.invariant
-      (none_queued c.loop-words.queued (λ k d h. is_false _ (none k d (omega arith) h)))
+    (none_queued c.loop-words.queued (λ k d h. is_false _ (none k d (omega arith) h)))

@@ -12,13 +12,13 @@ loop-block-preserved c =
     let n = c.loop-block.block-index in
     elim c.if-queued-block.branch [
       | then-queued-block w ↦ rw (w.words-is, w.queued-is) record {
-          state = w.hand_on.ensures.state;
-          swept = swept_on c.args.words.now c.loop-block.words w.hand_on.new.words c.args.queued.now c.loop-block.queued w.hand_on.new.queued order n (n + 1) c.loop-block.invariant.swept w.hand_on.ensures.work;
-        }
+        state = w.hand_on.ensures.state;
+        swept = swept_on c.args.words.now c.loop-block.words w.hand_on.new.words c.args.queued.now c.loop-block.queued w.hand_on.new.queued order n (n + 1) c.loop-block.invariant.swept w.hand_on.ensures.work;
+      }
       | else-queued-block w ↦ rw (w.words-is, w.queued-is) record {
-          state = c.loop-block.invariant.state;
-          swept = swept_off c.args.words.now c.loop-block.words c.args.queued.now c.loop-block.queued order n c.loop-block.invariant.swept w.if-queued-block.false;
-        }
+        state = c.loop-block.invariant.state;
+        swept = swept_off c.args.words.now c.loop-block.words c.args.queued.now c.loop-block.queued order n c.loop-block.invariant.swept w.if-queued-block.false;
+      }
     ]
 
 pub returns-clause-work : goal.returns-clause-work

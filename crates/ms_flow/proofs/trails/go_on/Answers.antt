@@ -16,7 +16,7 @@ loop-next-preserved c =
     let next = c.successors-next-items.result.now in
     let n = c.loop-next.next-index in
     let is : next ≡ get_or g.next (block_at before c.args.from) [] =
-        c.successors-next-items.ensures ∙ ap (λ (x : Visit). get_or g.next x.block []) (get_or_read before c.args.from c.index.result.now c.requires.from c.index.ensures (record { block = 0; from = 0 })) in
+    c.successors-next-items.ensures ∙ ap (λ (x : Visit). get_or g.next x.block []) (get_or_read before c.args.from c.index.result.now c.requires.from c.index.ensures (record { block = 0; from = 0 })) in
     let from = visited_within c.args.seen.now before c.args.from c.requires.marks c.requires.from in
     let small = next_within g next (block_at before c.args.from) n c.requires.successors (omega arith) is c.loop-next-test.true in
     elim c.if-not-seen-place.branch [
@@ -32,7 +32,7 @@ returns-clause-all c =
     let before = c.args.visits.now.items in
     let next = c.successors-next-items.result.now in
     let is : next ≡ get_or g.next (block_at before c.args.from) [] =
-        c.successors-next-items.ensures ∙ ap (λ (x : Visit). get_or g.next x.block []) (get_or_read before c.args.from c.index.result.now c.requires.from c.index.ensures (record { block = 0; from = 0 })) in
+    c.successors-next-items.ensures ∙ ap (λ (x : Visit). get_or g.next x.block []) (get_or_read before c.args.from c.index.result.now c.requires.from c.index.ensures (record { block = 0; from = 0 })) in
     going_all g c.args.from c.args.seen.now before next c.loop-next.next-index c.loop-next.seen c.loop-next.visits.items c.loop-next-test.false is c.loop-next.invariant
 
 pub successors-next-items-requires : goal.successors-next-items-requires

@@ -20,8 +20,8 @@ returns-clause-misses c =
     let at = rw c.deref.ensures.value at c.in-Some.ensures.found in
     let P : List Visit → Type 0 = λ l. IfOk c.trail.result (λ p. (rest : List ℕ) × Trail l last 0 rest × (p.items ≡ block_at l 0 ∷ rest)) in
     if_ok (λ (p : Vec ℕ Global). (rest : List ℕ) × Trail vs last 0 rest × (p.items ≡ block_at vs 0 ∷ rest)) (λ (p : Vec ℕ Global). Misses g u p.items)
-      (λ p t. trail_misses g u vs last t.0 p.items c.in_ok-visits.ensures.walk at.0 at.1 c.requires.undefined t.1 t.2)
-      c.trail.result (subst P c.deref-2.ensures.value c.trail.ensures)
+    (λ p t. trail_misses g u vs last t.0 p.items c.in_ok-visits.ensures.walk at.0 at.1 c.requires.undefined t.1 t.2)
+    c.trail.result (subst P c.deref-2.ensures.value c.trail.ensures)
 
 pub returns-clause-once : goal.returns-clause-once
 returns-clause-once c =
@@ -30,5 +30,5 @@ returns-clause-once c =
     let at = rw c.deref.ensures.value at c.in-Some.ensures.found in
     let P : List Visit → Type 0 = λ l. IfOk c.trail.result (λ p. (rest : List ℕ) × Trail l last 0 rest × (p.items ≡ block_at l 0 ∷ rest)) in
     if_ok (λ (p : Vec ℕ Global). (rest : List ℕ) × Trail vs last 0 rest × (p.items ≡ block_at vs 0 ∷ rest)) (λ (p : Vec ℕ Global). AllPairs (λ a b. a ≢ b) p.items)
-      (λ p t. trail_apart c.args.g.now c.args.u.now.value vs last t.0 p.items c.in_ok-visits.ensures.walk at.0 t.1 t.2)
-      c.trail.result (subst P c.deref-2.ensures.value c.trail.ensures)
+    (λ p t. trail_apart c.args.g.now c.args.u.now.value vs last t.0 p.items c.in_ok-visits.ensures.walk at.0 t.1 t.2)
+    c.trail.result (subst P c.deref-2.ensures.value c.trail.ensures)

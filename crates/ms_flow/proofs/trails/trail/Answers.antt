@@ -27,6 +27,8 @@ returns c =
     let items = c.loop-at.path.items in
     let visits = c.args.visits.now in
     let zero_at : c.loop-at.at ≡ 0 = omega arith in
-    let P : ℕ → Type 0 = λ k. Trail visits c.args.last k (reverse items) in
-    (reverse items, subst P zero_at c.loop-at.invariant.trail,
-     c.reverse.ensures.items ∙ ap (λ (l : List ℕ). reverse l) c.in_ok-push-2.ensures.items ∙ reverse_push items (block_at visits 0))
+    let P : ℕ → Type 0 = λ k. Trail visits c.args.last k (reverse items) in (
+      reverse items,
+      subst P zero_at c.loop-at.invariant.trail,
+      c.reverse.ensures.items ∙ ap (λ (l : List ℕ). reverse l) c.in_ok-push-2.ensures.items ∙ reverse_push items (block_at visits 0),
+    )

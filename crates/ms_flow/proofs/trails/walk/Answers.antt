@@ -53,12 +53,12 @@ loop-at-preserved c =
             within = omega arith;
           }
       | else-not-contains w ↦ rw (w.seen-is, w.visits-is) record {
-          walk = h.walk;
-          marks = h.marks;
-          closed = closed_on g v vs vs at lt (take_all (length vs) vs (omega arith)) (λ b p. p) (λ c free edge. absurd (free (defined.0 w.if-not-contains.false))) h.closed;
-          len = h.len;
-          within = omega arith;
-        }
+        walk = h.walk;
+        marks = h.marks;
+        closed = closed_on g v vs vs at lt (take_all (length vs) vs (omega arith)) (λ b p. p) (λ c free edge. absurd (free (defined.0 w.if-not-contains.false))) h.closed;
+        len = h.len;
+        within = omega arith;
+      }
     ]
 
 pub loop-at-smaller : goal.loop-at-smaller
