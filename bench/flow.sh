@@ -185,6 +185,13 @@ fn main(rt: HostRuntime) -> io::Result<()> {
 }
 PROGRAM
 
+# The program's tests of the ranges are those of ms_flow's tests, and so are their invariants.
+for helper in below uses_below stay_below; do
+    mkdir -p "$work/crates/flow_bench/proofs/$helper"
+    sed 's/ms_flow\.proofs\.tests/flow_bench.proofs/' "$top/crates/ms_flow/proofs/tests/$helper/Invariants.antt" \
+        >"$work/crates/flow_bench/proofs/$helper/Invariants.antt"
+done
+
 cd "$work/crates/flow_bench"
 rt run -- chain 4 1 >"$work/build.log" 2>&1 || { cat "$work/build.log" >&2; exit 1; }
 program=$work/crates/flow_bench/out/flow_bench
