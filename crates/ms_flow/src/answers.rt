@@ -1,0 +1,177 @@
+//! The question, and its answer.
+ghost use Rattle.std.specs.Prelude.{◌≡◌, ◌≢◌, ℕ, ◌<◌, ◌≤◌, ◌^◌, ◌↔◌, ◌⊎◌, false, true, length, take, vec_len, IfOk, OnOk, IfSome, IfNone, IsNone, IsTrue, All, AllPairs, Contains, slice_get, slice_index_or};
+ghost use Rattle.ms_flow.specs.Paths.{Defines, IsDefined, Misses};
+ghost use Rattle.ms_flow.specs.Search.{StaysIn, IsUndefined, StandsAt, Leaves, use_at};
+
+use crate::definitions::{definitions, tell};
+use crate::graphs::{Graph, Missing, Use};
+use crate::orders::order;
+use crate::places;
+use crate::questions::{first_values, questions};
+use crate::spread::spread;
+use crate::trails::path_past;
+use ms_bits::{List, NoMemory};
+use std::alloc::Global;
+
+/// The first use that isn't defined on every path from block 0 to its block, with such a path; None where
+/// every use is defined. A definition in the block of the use counts where the use stands `after` it. No
+/// path leads to a block that can't be reached, so a use there is defined.
+///
+/// The one error is want of memory. The time grows with the number of blocks, edges and definitions,
+/// times a sixty-fourth of the number of values that are used outside the block that defines them.
+pub fn missing(alloc: Global, g: &Graph, uses: &[Use]) -> Result<Option<Missing>, NoMemory>
+    requires same_length { length g.now.next ≡ length g.now.defs }
+    requires successors { All (All (λ b. b < length g.now.next)) g.now.next }
+    requires blocks { All (λ u. u.block < length g.now.next) uses.now }
+    requires few { length uses.now < 2 ^ 32 }
+    ensures none { IfOk result (λ answer. IsNone answer ↔ All (IsDefined g.now) uses.now) }
+
+    // The use that is named, and the path to it.
+    ensures in_range { IfOk result (λ answer. IfSome answer (λ m. m.which < length uses.now)) }
+    ensures least { IfOk result (λ answer. IfSome answer (λ m. All (IsDefined g.now) (take m.which uses.now))) }
+    ensures path { IfOk result (λ answer. IfSome answer (λ m.
+        IfSome (slice_get uses.now m.which) (λ u. Misses g.now u m.path))) }
+    ensures once { IfOk result (λ answer. IfSome answer (λ m. AllPairs (λ a b. a ≢ b) m.path)) }
+{
+    let undefined = undefined_uses(alloc, g, uses)?;
+    match first_set(&undefined) {
+        None => Ok(None),
+        Some(which) => {
+            let path = path_past(alloc, g, &uses[which])?;
+            Ok(Some(Missing {
+                which: which as u32,
+                path: List::from_vec(path),
+            }))
+        }
+    }
+}
+
+/// For each use, whether some path reaches it without a definition.
+fn undefined_uses(alloc: Global, g: &Graph, uses: &[Use]) -> Result<Vec<bool>, NoMemory>
+    requires same_length { length g.now.next ≡ length g.now.defs }
+    requires successors { StaysIn g.now }
+    requires blocks { All (λ u. u.block < length g.now.next) uses.now }
+    ensures len { IfOk result (λ f. vec_len f ≡ length uses.now) }
+    ensures flags { IfOk result (λ f. (k : ℕ) → k < length uses.now →
+        (slice_index_or f.items k false ≡ true) ↔ IsUndefined g.now (use_at uses.now k)) }
+{
+    let definitions = definitions(alloc, g)?;
+    let questions = questions(alloc, &definitions, uses)?;
+    let mut undefined = vec![in alloc; false; uses.len()]?;
+    if !questions.is_empty() {
+        ask(alloc, g, uses, &definitions, &questions, &mut undefined)?;
+    }
+    Ok(undefined)
+}
+
+/// Marks the uses that are asked about and that some path reaches without a definition.
+fn ask(
+    alloc: Global,
+    g: &Graph,
+    uses: &[Use],
+    definitions: &[(usize, u32)],
+    questions: &[(u32, usize)],
+    undefined: &mut [bool],
+) -> Result<(), NoMemory>
+    requires filled { 0 < length g.now.next }
+    requires successors { StaysIn g.now }
+    requires definitions { (b v : ℕ) → Contains definitions.now (b, v) ↔ Defines g.now b v }
+    requires known { All (λ d. d.0 < length g.now.next) definitions.now }
+    requires blocks { All (λ u. u.block < length g.now.next) uses.now }
+    requires places { All (λ q. q.1 < length uses.now) questions.now }
+    requires values { All (λ q. q.0 ≡ (use_at uses.now q.1).value) questions.now }
+    requires flags { length undefined.old ≡ length uses.now }
+    ensures marked { OnOk result (All (λ q.
+        IsUndefined g.now (use_at uses.now q.1) → slice_index_or undefined.new q.1 false ≡ true) questions.now) }
+    ensures right { OnOk result ((k : ℕ) → slice_index_or undefined.new k false ≡ true →
+        (slice_index_or undefined.old k false ≡ true) ⊎ IsUndefined g.now (use_at uses.now k)) }
+{
+    let order = order(alloc, g)?;
+    let mut kills = vec![in alloc; 0u64; g.len()]?;
+    let mut words = vec![in alloc; 0u64; g.len()]?;
+    let mut queued = vec![in alloc; false; g.len()]?;
+    let mut from = 0;
+    while from < questions.len() {
+        let (values, count) = first_values(alloc, &questions[from..])?;
+        tell(&values, definitions, &mut kills);
+        spread(g, &order, &kills, &mut words, &mut queued);
+        judge(
+            &questions[from..from + count],
+            uses,
+            &values,
+            &kills,
+            &words,
+            undefined,
+        );
+        from += count;
+    }
+    Ok(())
+}
+
+/// Marks the uses whose values arrive and aren't defined before.
+fn judge(
+    questions: &[(u32, usize)],
+    uses: &[Use],
+    values: &[u32],
+    kills: &[u64],
+    words: &[u64],
+    undefined: &mut [bool],
+)
+    requires few { length values.now ≤ 64 }
+    requires kills { length kills.now ≡ length words.now }
+    requires blocks { All (λ u. u.block < length words.now) uses.now }
+    requires places { All (λ q. q.1 < length uses.now) questions.now }
+    requires values { All (λ q. Contains values.now (use_at uses.now q.1).value) questions.now }
+    requires flags { length undefined.old ≡ length uses.now }
+    ensures marked { All (λ q. let u = use_at uses.now q.1 in
+        (i : ℕ) × StandsAt values.now u i
+        × (Leaves kills.now words.now u i → slice_index_or undefined.new q.1 false ≡ true)) questions.now }
+    ensures kept { (k : ℕ) →
+        slice_index_or undefined.old k false ≡ true → slice_index_or undefined.new k false ≡ true }
+    ensures right { (k : ℕ) → slice_index_or undefined.new k false ≡ true →
+        (slice_index_or undefined.old k false ≡ true)
+        ⊎ ((i : ℕ) × StandsAt values.now (use_at uses.now k) i × Leaves kills.now words.now (use_at uses.now k) i) }
+{
+    for (_, which) in questions {
+        if arrives(&uses[*which], values, kills, words) {
+            undefined[*which] = true;
+        }
+    }
+}
+
+/// Whether the value arrives at the use.
+fn arrives(u: &Use, values: &[u32], kills: &[u64], words: &[u64]) -> bool
+    requires few { length values.now ≤ 64 }
+    requires kills { length kills.now ≡ length words.now }
+    requires block { u.now.block < length words.now }
+    requires value { Contains values.now u.now.value }
+    ensures { (i : ℕ) × StandsAt values.now u.now i × (IsTrue result ↔ Leaves kills.now words.now u.now i) }
+{
+    let Some(place) = place_of(values, u.value) else {
+        unreachable!();
+    };
+    let block = u.block as usize;
+    let word = if u.after {
+        places::without(words[block], kills[block])
+    } else {
+        words[block]
+    };
+    places::has(word, place)
+}
+
+/// The first place at which the value stands.
+fn place_of(values: &[u32], value: u32) -> Option<usize>
+    ensures found { IfSome result (λ k. (k < length values.now) × (slice_index_or values.now k 0 ≡ value)) }
+    ensures none { IfNone result (Contains values.now value → ⊥) }
+{
+    values.iter().position(|v| *v == value)
+}
+
+/// The first place of a flag that is set.
+fn first_set(flags: &[bool]) -> Option<usize>
+    ensures found { IfSome result (λ k. (k < length flags.now) × (slice_index_or flags.now k false ≡ true)) }
+    ensures first { IfSome result (λ k. (j : ℕ) → j < k → slice_index_or flags.now j false ≡ false) }
+    ensures none { IfNone result ((j : ℕ) → slice_index_or flags.now j false ≡ false) }
+{
+    flags.iter().position(|f| *f)
+}
