@@ -1,0 +1,186 @@
+//! The table.
+ghost use Rattle.std.specs.Prelude.{◌≡◌, ◌≤◌, ◌<◌, ◌+◌, find, IfOk, OnOk, OnErr, IsErr, IsErrOf, IsTrue, ◌↔◌, Some, None, option_map, IsNone};
+ghost use Rattle.ms_alloc.specs.declared.kinds.AllocKind.TheVariants.{Heap, Stack};
+ghost use Rattle.ms_alloc.specs.Layout.{room, area_base, area_limit};
+
+use crate::allocations::Allocation;
+use crate::areas::{append, covering, cut, has_room, place_of_block, used_of};
+use crate::errors::{AllocError, BadFree};
+use crate::kinds::AllocKind;
+use std::alloc::Global;
+use std::marker::Model;
+
+#[cfg(test)]
+mod tests;
+
+/// The allocations of a run. Contracts see three lists, one for each area, in order of address.
+#[derive(Debug, Drop)]
+pub struct Table {
+    fixed: Vec<Allocation>,
+    heap: Vec<Allocation>,
+    stack: Vec<Allocation>,
+}
+
+impl Model for Table {
+    ghost use Rattle.ms_alloc.specs.Allocations.{Allocations, IsLaidOut};
+
+    ghost Value = { Allocations };
+
+    ghost view = { λ t. record { fixed = t.fixed.items; heap = t.heap.items; stack = t.stack.items } };
+
+    ghost invariant = { λ t. IsLaidOut (record { fixed = t.fixed.items; heap = t.heap.items; stack = t.stack.items }) };
+}
+
+/// The area whose addresses reach `addr`.
+fn kind_at(addr: u64) -> AllocKind
+    ensures fixed { result ≡ AllocKind.Fixed → addr < area_base Heap }
+    ensures heap { result ≡ AllocKind.Heap → (area_base Heap ≤ addr) × (addr < area_base Stack) }
+    ensures stack { result ≡ AllocKind.Stack → area_base Stack ≤ addr }
+{
+    if addr < AllocKind::Heap.base() {
+        AllocKind::Fixed
+    } else if addr < AllocKind::Stack.base() {
+        AllocKind::Heap
+    } else {
+        AllocKind::Stack
+    }
+}
+
+impl Table {
+    ghost use Rattle.ms_alloc.specs.Allocations.{no_allocations, next_base, used, of_kind, with_made, with_ended, without_from, is_good, block_of, heap_size, listed, covers, IsLaidOut};
+
+    /// A table without allocations. Takes no memory yet.
+    pub fn new(alloc: Global) -> Table
+        ensures none { result ≡ no_allocations }
+        ensures laid_out { IsLaidOut result }
+    {
+        Table {
+            fixed: Vec::new(alloc),
+            heap: Vec::new(alloc),
+            stack: Vec::new(alloc),
+        }
+    }
+
+    /// Whether one more allocation of `size` bytes keeps the limit of its area.
+    pub fn fits(&self, kind: AllocKind, size: u64) -> bool
+        ensures { IsTrue result ↔ (used (of_kind kind self.now) + room size ≤ area_limit kind) }
+    {
+        has_room(kind, self.used(kind), size)
+    }
+
+    /// Makes an allocation of `size` bytes at the end of its area, and answers its base.
+    ///
+    /// `Full` where the allocations of the area would then take more than its limit; `NoMemory` where the table
+    /// itself can't grow. The table is then as it was.
+    pub fn make(&mut self, kind: AllocKind, size: u64) -> Result<u64, AllocError>
+        ensures base { IfOk result (λ base. base ≡ next_base kind self.old) }
+        ensures made { OnOk result (self.new ≡ with_made kind size self.old) }
+        ensures laid_out { IsLaidOut self.new }
+        ensures full { IsErrOf result AllocError.Full ↔ (area_limit kind < used (of_kind kind self.old) + room size) }
+        ensures unchanged { OnErr result (self.new ≡ self.old) }
+    {
+        match kind {
+            AllocKind::Fixed => append(kind, &mut self.fixed, size),
+            AllocKind::Heap => append(kind, &mut self.heap, size),
+            AllocKind::Stack => append(kind, &mut self.stack, size),
+        }
+    }
+
+    /// Ends the live heap block that begins at `base`, and answers its size. It stays in the table, not live.
+    ///
+    /// `BadFree` where no live heap block begins there. The table is then as it was.
+    pub fn end(&mut self, base: u64) -> Result<u64, BadFree>
+        ensures size { IfOk result (λ size. heap_size base self.old ≡ Some size) }
+        ensures ended { OnOk result (self.new ≡ with_ended base self.old) }
+        ensures laid_out { IsLaidOut self.new }
+        ensures bad_free { IsErr result ↔ (heap_size base self.old ≡ None) }
+        ensures unchanged { OnErr result (self.new ≡ self.old) }
+    {
+        match place_of_block(&self.heap, base) {
+            None => Err(BadFree),
+            Some(place) => {
+                let size = self.heap[place].size;
+                self.heap[place].live = false;
+                Ok(size)
+            }
+        }
+    }
+
+    /// Where the next allocation of an area begins.
+    pub fn next_base(&self, kind: AllocKind) -> u64
+        ensures { result ≡ next_base kind self.now }
+    {
+        kind.base() + self.used(kind)
+    }
+
+    /// Where the next allocation of the stack begins.
+    pub fn mark(&self) -> u64
+        ensures { result ≡ next_base Stack self.now }
+    {
+        self.next_base(AllocKind::Stack)
+    }
+
+    /// Takes all allocations of the stack from the address `mark` on out of the table.
+    pub fn release(&mut self, mark: u64)
+        ensures released { self.new ≡ without_from mark self.old }
+        ensures laid_out { IsLaidOut self.new }
+    {
+        cut(&mut self.stack, mark);
+    }
+
+    /// Whether an access of `n` bytes from `addr` on is good: it has no bytes, or all its bytes lie in one live
+    /// allocation.
+    pub fn covers(&self, addr: u64, n: u64) -> bool
+        ensures { result ≡ is_good addr n self.now }
+    {
+        n == 0 || self.covering(addr, n).is_some()
+    }
+
+    /// Base and size of the live allocation that has the byte at `addr`, if one has it.
+    pub fn block_of(&self, addr: u64) -> Option<(u64, u64)>
+        ensures { result ≡ block_of addr self.now }
+    {
+        let found = self.covering(addr, 1)?;
+        Some((found.base, found.size))
+    }
+
+    /// The size of the live heap block that begins at `base`, if one does.
+    pub fn heap_size(&self, base: u64) -> Option<u64>
+        ensures { result ≡ heap_size base self.now }
+    {
+        let place = place_of_block(&self.heap, base)?;
+        Some(self.heap[place].size)
+    }
+
+    /// What every table has: in each area an allocation begins where the one before it ends, and all keep its limit.
+    pub fn is_laid_out(&self)
+        ensures { IsLaidOut self.now }
+    {
+        let _ = &self.fixed;
+    }
+
+    /// What the allocations of an area take.
+    fn used(&self, kind: AllocKind) -> u64
+        ensures used { result ≡ used (of_kind kind self.now) }
+        ensures within { result ≤ area_limit kind }
+    {
+        match kind {
+            AllocKind::Fixed => used_of(kind, &self.fixed),
+            AllocKind::Heap => used_of(kind, &self.heap),
+            AllocKind::Stack => used_of(kind, &self.stack),
+        }
+    }
+
+    /// The live allocation that has the `n` bytes from `addr` on.
+    fn covering(&self, addr: u64, n: u64) -> Option<Allocation>
+        requires { 0 < n }
+        ensures { result ≡ find (covers addr n) (listed self.now) }
+    {
+        let kind = kind_at(addr);
+        match kind {
+            AllocKind::Fixed => covering(kind, &self.fixed, addr, n),
+            AllocKind::Heap => covering(kind, &self.heap, addr, n),
+            AllocKind::Stack => covering(kind, &self.stack, addr, n),
+        }
+    }
+}
