@@ -1,0 +1,16 @@
+pub mod BitLemmas
+pub mod CarryMasks
+pub mod Extremes
+pub mod BitwiseMasks
+pub mod OrderMasks
+pub mod EqualityMasks
+pub mod SignedMasks
+pub mod PredicateMasks
+pub mod SelectMasks
+pub mod MaskFunctions
+pub mod Agreement
+pub mod FormulaMasks
+pub mod BitSources
+pub mod SignedShift
+pub mod Results
+pub mod OperationAgreement

@@ -1,0 +1,110 @@
+-- Results of one operation on words that agree outside their masks agree outside the result's mask.
+use Rattle.std.proofs.Common.{◌≡◌, ℕ, zero, suc, ◌+◌, ◌-◌, ◌*◌, ◌/◌, ◌%◌, ◌^◌, ◌<◌, ◌≤◌, min, refl, sym, ap, ◌∙◌, subst, arith, bit_and, bit_or, bit_xor, ⊎_elim, Ok}
+use Rattle.std.specs.Int.{bit_at}
+use lib.Signed.{shr_z}
+use Rattle.std.proofs.lemmas.Bool.{cases_lt}
+use Rattle.std.proofs.lemmas.Nat.Bits.{bit_at_above, bit_at_ones}
+use Rattle.ms_bits.specs.declared.operations.Flags.{Flags}
+use Rattle.ms_bits.specs.declared.operations.BinOp.TheVariants.{Add, Sub, Mul, Shl, Lshr, Ashr}
+use Rattle.ms_bits.specs.declared.operations.CastOp.{CastOp}
+use Rattle.ms_bits.specs.declared.operations.CastOp.TheVariants.{Trunc, Zext, Sext, PtrToInt, IntToPtr, Bitcast}
+use Rattle.ms_bits.specs.Signed.{signed, wrap}
+use Rattle.ms_bits.specs.Arithmetic.{binary_of}
+use Rattle.ms_bits.specs.Conversions.{cast_of, Allows}
+use Rattle.ms_bits.specs.Completion.{InRange, Agrees}
+use Rattle.ms_bits.specs.Formulas.{union_mask, carry_mask}
+use Rattle.ms_masks.proofs.BitLemmas.{bit_at_mod}
+use Rattle.ms_masks.proofs.BitSources.{shl_low, shl_high, lshr_bit, sext_bit, ashr_bit}
+use Rattle.ms_masks.proofs.Agreement.{add_agrees, sub_agrees, mul_agrees}
+use Rattle.ms_masks.proofs.Results.{add_is, sub_is, mul_is, shl_is, lshr_is, ashr_is, trunc_is, zext_is, sext_is, ptrtoint_is, inttoptr_is, bitcast_is}
+
+-- agreement of numbers that are equal to these
+moved : (w n n' r r' s s' : ℕ) → n ≡ n' → r ≡ r' → s ≡ s' → Agrees w n r s → Agrees w n' r' s'
+moved w n n' r r' s s' p q e h i l z = sym (ap (λ x. bit_at x i) q) ∙ h i l (ap (λ x. bit_at x i) p ∙ z) ∙ ap (λ x. bit_at x i) e
+
+-- ---- sums, differences and products
+
+pub sums_agree : (f g : Flags) (w m k a b c d r s : ℕ) → InRange w a m → InRange w b k → Agrees w m a c → Agrees w k b d
+    → binary_of Add f w a b ≡ Ok r → binary_of Add g w c d ≡ Ok s → Agrees w (carry_mask w (union_mask m k)) r s
+unfolding union_mask
+sums_agree f g w m k a b c d r s ha hb p q e e' = moved w _ _ _ _ _ _ refl (add_is f w a b r e) (add_is g w c d s e') (add_agrees w m k ha.mask hb.mask a b c d p q)
+
+pub differences_agree : (f g : Flags) (w m k a b c d r s : ℕ) → InRange w a m → InRange w b k → d < 2 ^ w → Agrees w m a c → Agrees w k b d
+    → binary_of Sub f w a b ≡ Ok r → binary_of Sub g w c d ≡ Ok s → Agrees w (carry_mask w (union_mask m k)) r s
+unfolding union_mask
+differences_agree f g w m k a b c d r s ha hb pd p q e e' = moved w _ _ _ _ _ _ refl (sub_is f w a b r e) (sub_is g w c d s e') (sub_agrees w m k ha.mask hb.mask a b c d hb.value pd p q)
+
+pub products_agree : (f g : Flags) (w m k a b c d r s : ℕ) → InRange w a m → InRange w b k → Agrees w m a c → Agrees w k b d
+    → binary_of Mul f w a b ≡ Ok r → binary_of Mul g w c d ≡ Ok s → Agrees w (carry_mask w (union_mask m k)) r s
+unfolding union_mask
+products_agree f g w m k a b c d r s ha hb p q e e' = moved w _ _ _ _ _ _ refl (mul_is f w a b r e) (mul_is g w c d s e') (mul_agrees w m k ha.mask hb.mask a b c d p q)
+
+-- ---- shifts
+
+left_shifts : (w m a c k : ℕ) → Agrees w m a c → Agrees w ((m * 2 ^ k) % 2 ^ w) ((a * 2 ^ k) % 2 ^ w) ((c * 2 ^ k) % 2 ^ w)
+left_shifts w m a c k h i l z =
+    ⊎_elim
+    (λ low. shl_low w a k i l low ∙ sym (shl_low w c k i l low))
+    (λ high. shl_high w a k i l high ∙ h (i - k) (omega arith) (sym (shl_high w m k i l high) ∙ z) ∙ sym (shl_high w c k i l high))
+    (cases_lt i k)
+
+right_shifts : (w m a c k : ℕ) → a < 2 ^ w → c < 2 ^ w → Agrees w m a c → Agrees w (m / 2 ^ k) (a / 2 ^ k) (c / 2 ^ k)
+right_shifts w m a c k pa pc h i l z =
+    lshr_bit a k i ∙ ⊎_elim
+    (λ low. h (k + i) low (sym (lshr_bit m k i) ∙ z))
+    (λ high. bit_at_above a w (k + i) pa high ∙ sym (bit_at_above c w (k + i) pc high))
+    (cases_lt (k + i) w) ∙ sym (lshr_bit c k i)
+
+signed_shifts : (w m a c k : ℕ) → m < 2 ^ w → a < 2 ^ w → c < 2 ^ w → Agrees w m a c
+    → Agrees w (wrap w (shr_z (signed w m) (2 ^ k))) (wrap w (shr_z (signed w a) (2 ^ k))) (wrap w (shr_z (signed w c) (2 ^ k)))
+signed_shifts zero m a c k pm pa pc h i l z = absurd (omega arith)
+signed_shifts (suc t) m a c k pm pa pc h i l z =
+    ashr_bit t a k i pa l ∙ h (min (k + i) t) (omega arith) (sym (ashr_bit t m k i pm l) ∙ z) ∙ sym (ashr_bit t c k i pc l)
+
+pub left_shifts_agree : (f g h : Flags) (w m a c k n r s : ℕ) → Agrees w m a c
+    → binary_of Shl h w m k ≡ Ok n → binary_of Shl f w a k ≡ Ok r → binary_of Shl g w c k ≡ Ok s → Agrees w n r s
+left_shifts_agree f g h w m a c k n r s p en er es = moved w _ _ _ _ _ _ (shl_is h w m k n en) (shl_is f w a k r er) (shl_is g w c k s es) (left_shifts w m a c k p)
+
+pub right_shifts_agree : (f g h : Flags) (w m a c k n r s : ℕ) → InRange w a m → InRange w c m → Agrees w m a c
+    → binary_of Lshr h w m k ≡ Ok n → binary_of Lshr f w a k ≡ Ok r → binary_of Lshr g w c k ≡ Ok s → Agrees w n r s
+right_shifts_agree f g h w m a c k n r s ha hc p en er es =
+    moved w _ _ _ _ _ _ (lshr_is h w m k n en) (lshr_is f w a k r er) (lshr_is g w c k s es) (right_shifts w m a c k ha.value hc.value p)
+
+pub signed_shifts_agree : (f g h : Flags) (w m a c k n r s : ℕ) → InRange w a m → InRange w c m → Agrees w m a c
+    → binary_of Ashr h w m k ≡ Ok n → binary_of Ashr f w a k ≡ Ok r → binary_of Ashr g w c k ≡ Ok s → Agrees w n r s
+signed_shifts_agree f g h w m a c k n r s ha hc p en er es =
+    moved w _ _ _ _ _ _ (ashr_is h w m k n en) (ashr_is f w a k r er) (ashr_is g w c k s es) (signed_shifts w m a c k ha.mask ha.value hc.value p)
+
+pub nothing_outside_ones : (w r s : ℕ) → Agrees w (2 ^ w - 1) r s
+nothing_outside_ones w r s i l z = absurd (omega (arith, bit_at_ones w i l, z))
+
+-- ---- casts
+
+cut : (w to m a c : ℕ) → to ≤ w → Agrees w m a c → Agrees to (m % 2 ^ to) (a % 2 ^ to) (c % 2 ^ to)
+cut w to m a c le h i l z = bit_at_mod a to i l ∙ h i (omega arith) (sym (bit_at_mod m to i l) ∙ z) ∙ sym (bit_at_mod c to i l)
+
+padded : (w to m a c : ℕ) → a < 2 ^ w → c < 2 ^ w → Agrees w m a c → Agrees to m a c
+padded w to m a c pa pc h i l z = ⊎_elim
+    (λ low. h i low z)
+    (λ high. bit_at_above a w i pa high ∙ sym (bit_at_above c w i pc high))
+    (cases_lt i w)
+
+extended : (w to m a c : ℕ) → 1 ≤ w → w < to → m < 2 ^ w → a < 2 ^ w → c < 2 ^ w → Agrees w m a c → Agrees to (wrap to (signed w m)) (wrap to (signed w a)) (wrap to (signed w c))
+extended zero to m a c some lt pm pa pc h i l z = absurd (omega arith)
+extended (suc t) to m a c some lt pm pa pc h i l z =
+    sext_bit t to a i (omega arith) pa l ∙ h (min i t) (omega arith) (sym (sext_bit t to m i (omega arith) pm l) ∙ z) ∙ sym (sext_bit t to c i (omega arith) pc l)
+
+pub casts_agree : (o : CastOp) (f g h : Flags) (w to m a c n r s : ℕ) → 1 ≤ w → Allows o w to → InRange w a m → InRange w c m → Agrees w m a c
+    → cast_of o h w m to ≡ Ok n → cast_of o f w a to ≡ Ok r → cast_of o g w c to ≡ Ok s → Agrees to n r s
+casts_agree Trunc f g h w to m a c n r s some fit ha hc p en er es =
+    moved to _ _ _ _ _ _ (trunc_is h w m to n en) (trunc_is f w a to r er) (trunc_is g w c to s es) (cut w to m a c (omega (arith, fit)) p)
+casts_agree Zext f g h w to m a c n r s some fit ha hc p en er es =
+    moved to _ _ _ _ _ _ (zext_is h w m to n en) (zext_is f w a to r er) (zext_is g w c to s es) (padded w to m a c ha.value hc.value p)
+casts_agree Sext f g h w to m a c n r s some fit ha hc p en er es =
+    moved to _ _ _ _ _ _ (sext_is h w m to n en) (sext_is f w a to r er) (sext_is g w c to s es) (extended w to m a c some fit.0 ha.mask ha.value hc.value p)
+casts_agree PtrToInt f g h w to m a c n r s some fit ha hc p en er es =
+    moved to _ _ _ _ _ _ (ptrtoint_is h w m to n en) (ptrtoint_is f w a to r er) (ptrtoint_is g w c to s es) (cut w to m a c (omega (arith, fit)) p)
+casts_agree IntToPtr f g h w to m a c n r s some fit ha hc p en er es =
+    moved to _ _ _ _ _ _ (inttoptr_is h w m to n en) (inttoptr_is f w a to r er) (inttoptr_is g w c to s es) (padded w to m a c ha.value hc.value p)
+casts_agree Bitcast f g h w to m a c n r s some fit ha hc p en er es =
+    moved to _ _ _ _ _ _ (bitcast_is h w m to n en) (bitcast_is f w a to r er) (bitcast_is g w c to s es) (padded w to m a c ha.value hc.value p)

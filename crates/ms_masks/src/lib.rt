@@ -1,0 +1,8 @@
+//! Laws about the masks of poisoned words and about maps of bytes. Each is a public function with an empty body, and what
+//! it promises is the law. The definitions stand in `ms_bits`; the lemmas in `proofs/` are there for crates above.
+#![tactic(auto)]
+
+pub mod bitwise;
+pub mod completions;
+pub mod orders;
+pub mod selections;
