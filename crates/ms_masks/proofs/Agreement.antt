@@ -7,7 +7,7 @@ use Rattle.std.proofs.lemmas.Nat.Bits.{bit_at_or, bit_at-lt}
 use Rattle.std.proofs.Math.Nat.{add-mod}
 use Rattle.ms_bits.specs.Conversions.{select_of}
 use Rattle.ms_bits.specs.Completion.{Agrees, Completes, Differs, IsMaskOf, SelectionsDiffer, IsSelectMaskOf}
-use Rattle.ms_bits.specs.Formulas.{carry_mask}
+use Rattle.ms_bits.specs.Formulas.{union_mask, carry_mask}
 use Rattle.ms_masks.proofs.BitLemmas.{same_mod_from_bits, bit_at_same_mod, bit_at_mod}
 use Rattle.ms_masks.proofs.CarryMasks.{clear_below, bit_at_turned}
 
@@ -83,6 +83,22 @@ select_agrees_from_exact t n w v m u k r exact p a b q c d hp ha hb hq hc hd i l
     (cases_eq (bit_at (select_of p a b) i) (bit_at (select_of q c d) i))
 
 -- ---- sums, differences and products
+
+-- below a clear bit of a carry mask every word that agrees outside the mask is known
+pub same_remainder : (w s a c i : ℕ) → s < 2 ^ w → Agrees w s a c → i < w → bit_at (carry_mask w s) i ≡ 0 → a % 2 ^ suc i ≡ c % 2 ^ suc i
+same_remainder w s a c i ps h l z = same_mod_from_bits (suc i) a c (λ j lj. h j (omega arith) (clear_below w s i ps l z j (omega arith)))
+
+pub agrees_from_remainders : (w s a c : ℕ) → ((i : ℕ) → i < w → bit_at (carry_mask w s) i ≡ 0 → a % 2 ^ suc i ≡ c % 2 ^ suc i) → Agrees w (carry_mask w s) a c
+agrees_from_remainders w s a c h i l z = bit_at_same_mod a c (suc i) i (omega arith) (h i l z)
+
+-- words that agree outside a mask agree outside a union with it
+pub union_left : (w m k a c : ℕ) → Agrees w m a c → Agrees w (union_mask m k) a c
+unfolding union_mask
+union_left w m k a c h i l z = h i l (omega (arith, z, bit_at_or m k i))
+
+pub union_right : (w m k a c : ℕ) → Agrees w k a c → Agrees w (union_mask m k) a c
+unfolding union_mask
+union_right w m k a c h i l z = h i l (omega (arith, z, bit_at_or m k i))
 
 module _ (w m k : ℕ) (pm : m < 2 ^ w) (pk : k < 2 ^ w) where
   -- below a clear bit of the carry mask both operands are defined

@@ -3,14 +3,10 @@ use Rattle.std.proofs.Common.{◌≡◌, ℕ, zero, suc, ◌+◌, ◌-◌, ◌*�
 use Rattle.std.specs.Int.{bit_at}
 use Rattle.std.proofs.Math.Nat.{pow-suc, mod-eq_of_lt, mod_self}
 use Rattle.std.proofs.lemmas.Bool.{cases_eq, cases_lt}
-use Rattle.std.proofs.lemmas.Nat.{pow_pos, or_lt, mod-pow-add, field_of, mul-mod}
+use Rattle.std.proofs.lemmas.Nat.{pow_pos, or_lt, mod_below}
 use Rattle.std.proofs.lemmas.Nat.Bits.{bit_at_or, bit_at-lt, bit_at_lowest, bit_at-suc, bit_at-zero}
-use Rattle.ms_bits.specs.Formulas.{carry_mask}
+use Rattle.ms_bits.specs.Formulas.{carry_mask, union_mask, HasBitUpTo}
 use Rattle.ms_masks.proofs.BitLemmas.{some_bit}
-
--- some bit at i or below is set
-pub SomeBelow : ℕ → ℕ → Type 0
-SomeBelow s i = (j : ℕ) × (j ≤ i) × (bit_at s j ≡ 1)
 
 -- 0 - s modulo 2 ^ w
 abbrev pub negated : ℕ → ℕ → ℕ
@@ -53,8 +49,7 @@ bit_at_turned (suc k) n (suc i) fits within =
 either_one : (x y : ℕ) → x < 2 → y ≡ 1 - x → max x y ≡ 1
 either_one x y p e = omega arith
 
-set_forth : (w s i : ℕ) → s < 2 ^ w → i < w → max (bit_at s i) (bit_at (negated w s) i) ≡ 1 → SomeBelow s i
-unfolding SomeBelow
+set_forth : (w s i : ℕ) → s < 2 ^ w → i < w → max (bit_at s i) (bit_at (negated w s) i) ≡ 1 → HasBitUpTo s i
 set_forth zero s i fits l h = absurd (omega arith)
 set_forth (suc w) s zero fits l h = (0, omega arith, omega (arith, h, bit_at_lowest s, bit_at_lowest (negated (suc w) s), low_bit w s fits))
 set_forth (suc w) s (suc i) fits l h =
@@ -90,8 +85,7 @@ carry_is : (w s : ℕ) → carry_mask w s ≡ bit_or s (negated w s)
 unfolding carry_mask
 carry_is w s = ap (λ n. bit_or s (n % 2 ^ w)) (zero-add (2 ^ w - s))
 
-pub carry_bit : (w s i : ℕ) → s < 2 ^ w → i < w → (bit_at (carry_mask w s) i ≡ 1) ↔ SomeBelow s i
-unfolding SomeBelow
+pub carry_bit : (w s i : ℕ) → s < 2 ^ w → i < w → (bit_at (carry_mask w s) i ≡ 1) ↔ HasBitUpTo s i
 carry_bit w s i p l =
     let e = ap (λ n. bit_at n i) (carry_is w s) ∙ bit_at_or s (negated w s) i in
     (λ h. set_forth w s i p l (sym e ∙ h), λ (j, lj, one). e ∙ set_back w s i j p l lj one)
@@ -99,15 +93,13 @@ carry_bit w s i p l =
 -- ---- what a clear bit of the mask says: the low bits of both operands are defined, so sums, differences and products agree
 
 pub clear_below : (w s i : ℕ) → s < 2 ^ w → i < w → bit_at (carry_mask w s) i ≡ 0 → (j : ℕ) → j ≤ i → bit_at s j ≡ 0
-unfolding SomeBelow
 clear_below w s i p l z j lj = omega (arith, bit_at-lt s j, no)
   where
     no : bit_at s j ≡ 1 → ⊥
     no one = absurd (omega (arith, z, (carry_bit w s i p l).1 (j, lj, one)))
 
 -- a bit of either mask at i or below
-pub some_below_either : (m k i : ℕ) → SomeBelow (bit_or m k) i ↔ (SomeBelow m i ⊎ SomeBelow k i)
-unfolding SomeBelow
+pub some_below_either : (m k i : ℕ) → HasBitUpTo (bit_or m k) i ↔ (HasBitUpTo m i ⊎ HasBitUpTo k i)
 some_below_either m k i = (forth, back)
   where
     which : (x y : ℕ) → x < 2 → y < 2 → max x y ≡ 1 → (x ≡ 1) ⊎ (y ≡ 1)
@@ -120,3 +112,22 @@ some_below_either m k i = (forth, back)
     back : (((j : ℕ) × (j ≤ i) × (bit_at m j ≡ 1)) ⊎ ((j : ℕ) × (j ≤ i) × (bit_at k j ≡ 1))) → (j : ℕ) × (j ≤ i) × (bit_at (bit_or m k) j ≡ 1)
     back (inl (j, l, e)) = (j, l, omega (arith, bit_at_or m k j, bit_at-lt k j))
     back (inr (j, l, e)) = (j, l, omega (arith, bit_at_or m k j, bit_at-lt m j))
+
+pub carry_mask-lt : (w s : ℕ) → s < 2 ^ w → carry_mask w s < 2 ^ w
+unfolding carry_mask
+carry_mask-lt w s p = or_lt w s _ p (mod_below (0 + (2 ^ w - s)) (2 ^ w) (pow_pos w))
+
+pub union_bit : (m k i : ℕ) → (bit_at (union_mask m k) i ≡ 1) ↔ ((bit_at m i ≡ 1) ⊎ (bit_at k i ≡ 1))
+unfolding union_mask
+union_bit m k i = (
+  λ o. which (bit_at m i) (bit_at k i) (bit_at-lt m i) (bit_at-lt k i) (sym (bit_at_or m k i) ∙ o),
+  λ e. bit_at_or m k i ∙ ⊎_elim (λ x. omega (arith, x, bit_at-lt k i)) (λ x. omega (arith, x, bit_at-lt m i)) e,
+)
+  where
+    which : (x y : ℕ) → x < 2 → y < 2 → max x y ≡ 1 → (x ≡ 1) ⊎ (y ≡ 1)
+    which zero y p q h = inr (omega arith)
+    which (suc x) y p q h = inl (omega arith)
+
+pub union_bit_up_to : (m k i : ℕ) → HasBitUpTo (union_mask m k) i ↔ (HasBitUpTo m i ⊎ HasBitUpTo k i)
+unfolding union_mask
+union_bit_up_to m k i = some_below_either m k i

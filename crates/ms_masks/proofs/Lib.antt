@@ -11,6 +11,6 @@ pub mod MaskFunctions
 pub mod Agreement
 pub mod FormulaMasks
 pub mod BitSources
-pub mod SignedShift
 pub mod Results
+pub mod SignedShift
 pub mod OperationAgreement

@@ -108,3 +108,43 @@ casts_agree IntToPtr f g h w to m a c n r s some fit ha hc p en er es =
     moved to _ _ _ _ _ _ (inttoptr_is h w m to n en) (inttoptr_is f w a to r er) (inttoptr_is g w c to s es) (padded w to m a c ha.value hc.value p)
 casts_agree Bitcast f g h w to m a c n r s some fit ha hc p en er es =
     moved to _ _ _ _ _ _ (bitcast_is h w m to n en) (bitcast_is f w a to r er) (bitcast_is g w c to s es) (padded w to m a c ha.value hc.value p)
+
+-- ---- where the bits of shifted words come from, by what the operation answers
+
+pub left_bit_low : (f : Flags) (w a k i r : ℕ) → binary_of Shl f w a k ≡ Ok r → i < w → i < k → bit_at r i ≡ 0
+left_bit_low f w a k i r e l lk = sym (ap (λ x. bit_at x i) (shl_is f w a k r e)) ∙ shl_low w a k i l lk
+
+pub left_bit_high : (f : Flags) (w a k i r : ℕ) → binary_of Shl f w a k ≡ Ok r → i < w → k ≤ i → bit_at r i ≡ bit_at a (i - k)
+left_bit_high f w a k i r e l lk = sym (ap (λ x. bit_at x i) (shl_is f w a k r e)) ∙ shl_high w a k i l lk
+
+pub right_bit : (f : Flags) (w a k i r : ℕ) → binary_of Lshr f w a k ≡ Ok r → bit_at r i ≡ bit_at a (k + i)
+right_bit f w a k i r e = sym (ap (λ x. bit_at x i) (lshr_is f w a k r e)) ∙ lshr_bit a k i
+
+pub signed_bit : (f : Flags) (w a k i r : ℕ) → a < 2 ^ w → binary_of Ashr f w a k ≡ Ok r → i < w → bit_at r i ≡ bit_at a (min (k + i) (w - 1))
+signed_bit f zero a k i r p e l = absurd (omega arith)
+signed_bit f (suc t) a k i r p e l =
+    let one : suc t - 1 ≡ t = omega arith in
+    sym (ap (λ x. bit_at x i) (ashr_is f (suc t) a k r e)) ∙ ashr_bit t a k i p l ∙ sym (ap (λ x. bit_at a (min (k + i) x)) one)
+
+-- ---- where the bits of cast words come from
+
+pub trunc_bit : (f : Flags) (w a to i r : ℕ) → cast_of Trunc f w a to ≡ Ok r → i < to → bit_at r i ≡ bit_at a i
+trunc_bit f w a to i r e l = sym (ap (λ x. bit_at x i) (trunc_is f w a to r e)) ∙ bit_at_mod a to i l
+
+pub ptrtoint_bit : (f : Flags) (w a to i r : ℕ) → cast_of PtrToInt f w a to ≡ Ok r → i < to → bit_at r i ≡ bit_at a i
+ptrtoint_bit f w a to i r e l = sym (ap (λ x. bit_at x i) (ptrtoint_is f w a to r e)) ∙ bit_at_mod a to i l
+
+pub zext_number : (f : Flags) (w a to r : ℕ) → cast_of Zext f w a to ≡ Ok r → r ≡ a
+zext_number f w a to r e = sym (zext_is f w a to r e)
+
+pub inttoptr_number : (f : Flags) (w a to r : ℕ) → cast_of IntToPtr f w a to ≡ Ok r → r ≡ a
+inttoptr_number f w a to r e = sym (inttoptr_is f w a to r e)
+
+pub bitcast_number : (f : Flags) (w a to r : ℕ) → cast_of Bitcast f w a to ≡ Ok r → r ≡ a
+bitcast_number f w a to r e = sym (bitcast_is f w a to r e)
+
+pub sext_bit_of : (f : Flags) (w a to i r : ℕ) → 1 ≤ w → w ≤ to → a < 2 ^ w → cast_of Sext f w a to ≡ Ok r → i < to → bit_at r i ≡ bit_at a (min i (w - 1))
+sext_bit_of f zero a to i r s g p e l = absurd (omega arith)
+sext_bit_of f (suc t) a to i r s g p e l =
+    let one : suc t - 1 ≡ t = omega arith in
+    sym (ap (λ x. bit_at x i) (sext_is f (suc t) a to r e)) ∙ sext_bit t to a i g p l ∙ sym (ap (λ x. bit_at a (min i x)) one)

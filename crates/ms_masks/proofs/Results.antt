@@ -16,7 +16,8 @@ past : {A : Type 0} (c : Bool) (e : Trap) (x : Result A Trap) (r : A) → cond c
 past true e x r h = cc
 past false e x r h = h
 
-abbrev answered : {A : Type 0} → A → Result A Trap
+-- a result that is no trap
+abbrev pub answered : {A : Type 0} → A → Result A Trap
 answered x = Ok x
 
 same_ok : {A : Type 0} (x r : A) → answered x ≡ answered r → x ≡ r

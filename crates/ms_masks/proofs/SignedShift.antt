@@ -1,15 +1,21 @@
--- `shl nsw`: the signed product fits exactly where each shifted-out bit is the result's sign bit.
-use Rattle.std.proofs.Common.{◌≡◌, ℕ, zero, suc, ◌+◌, ◌-◌, ◌*◌, ◌/◌, ◌%◌, ◌^◌, ◌<◌, ◌≤◌, ◌↔◌, Bool, true, ltb, ℤ, pos, negsuc, neg_ℤ, ◌*ℤ◌, refl, sym, ap, ap₂, ◌∙◌, arith, ⊎_elim}
+-- A shift to the left with 'nsw': the signed product fits exactly where each shifted-out bit is the result's sign bit.
+use Rattle.std.proofs.Common.{◌≡◌, ℕ, zero, suc, ◌+◌, ◌-◌, ◌*◌, ◌/◌, ◌%◌, ◌^◌, ◌<◌, ◌≤◌, ◌↔◌, Bool, true, false, not, cond, Result, Ok, Err, ltb, ℤ, pos, negsuc, neg_ℤ, ◌*ℤ◌, refl, sym, ap, ap₂, ◌∙◌, arith, ⊎_elim}
 use Rattle.std.specs.Int.{bit_at}
 use Rattle.std.proofs.Math.Nat.{pow-suc, mul-lt-mul_of_pos_right, mul-le-mul_right, mod-le}
-use Rattle.std.proofs.lemmas.Bool.{cases_lt, lt-ltb, ltb-true}
+use Rattle.std.proofs.lemmas.Bool.{cases_lt, cases_eq, lt-ltb, ltb-true, lt-leb}
 use Rattle.std.proofs.lemmas.Nat.{pow_pos, pow-add, mod_below}
 use Rattle.std.proofs.lemmas.Nat.Bits.{bit_at_above, bit_at-lt, same_from_bits_below}
+use Rattle.ms_bits.specs.declared.operations.Flags.{Flags}
+use Rattle.ms_bits.specs.declared.operations.BinOp.TheVariants.{Shl}
+use Rattle.ms_bits.specs.declared.traps.Trap.{Trap}
+use Rattle.ms_bits.specs.declared.traps.Trap.TheVariants.{Nsw}
+use Rattle.ms_bits.specs.Arithmetic.{binary_of, shl_of}
 use Rattle.ms_bits.specs.Signed.{signed, fits_signed}
+use Rattle.ms_masks.proofs.Results.{answered}
 use Rattle.ms_masks.proofs.BitLemmas.{bit_at_mod, le_from_bits}
 use Rattle.ms_masks.proofs.CarryMasks.{bit_at_turned}
 use Rattle.ms_masks.proofs.SignedMasks.{signed_low, signed_high}
-use Rattle.ms_masks.proofs.BitSources.{top_bit}
+use Rattle.ms_masks.proofs.BitSources.{top_bit, shl_high}
 
 -- a number with no bit from n on is below 2 ^ n
 pub below_from_bits : (w n a : ℕ) → a < 2 ^ w → ((j : ℕ) → n ≤ j → j < w → bit_at a j ≡ 0) → a < 2 ^ n
@@ -118,3 +124,39 @@ module _ (h k a : ℕ) (le : k ≤ h) (pa : a < 2 ^ suc h) where
       (λ lt. (λ t. (low_bits lt).0 ((low_fits lt).0 t), λ s. (low_fits lt).1 ((low_bits lt).1 s)))
       (λ ge. (λ t. (high_bits ge).0 ((high_fits ge).0 t), λ s. (high_fits ge).1 ((high_bits ge).1 s)))
       (cases_lt a (2 ^ h))
+
+-- the same at a width, with the sign bit of the result
+pub product_fits : (w a k : ℕ) → k < w → a < 2 ^ w
+    → (fits_signed w (signed w a *ℤ pos (2 ^ k)) ≡ true) ↔ ((j : ℕ) → w - k ≤ j → j < w → bit_at a j ≡ bit_at ((a * 2 ^ k) % 2 ^ w) (w - 1))
+product_fits zero a k l pa = absurd (omega arith)
+product_fits (suc h) a k l pa = (
+  λ t j g lj. (shl_nsw_bits h k a (omega arith) pa).0 t j (omega arith) (omega arith) ∙ sym top,
+  λ s. (shl_nsw_bits h k a (omega arith) pa).1 (λ j g lj. ⊎_elim
+      (λ e. ap (bit_at a) e)
+      (λ n. s j (omega (arith, n)) (omega arith) ∙ top)
+      (cases_eq j (h - k))),
+)
+  where
+    top : bit_at ((a * 2 ^ k) % 2 ^ suc h) (suc h - 1) ≡ bit_at a (h - k)
+    top =
+        let e : suc h - 1 ≡ h = omega arith in
+        ap (bit_at ((a * 2 ^ k) % 2 ^ suc h)) e ∙ shl_high (suc h) a k h (omega arith) (omega arith)
+
+-- a last test that alone decides whether a number is answered
+last : (x : ℕ) (b : Bool) → (cond (not b) (Err Nsw) (answered x) ≡ answered x) ↔ (b ≡ true)
+last x true = (λ h. refl, λ h. refl)
+last x false = (λ h. cc, λ h. cc)
+
+-- what a shift to the left answers with this flag alone
+shl_nsw_tests : (f : Flags) (w a k : ℕ) → f.nsw ≡ true → f.nuw ≡ false → k < w
+    → binary_of Shl f w a k ≡ cond (not (fits_signed w (signed w a *ℤ pos (2 ^ k)))) (Err Nsw) (Ok ((a * 2 ^ k) % 2 ^ w))
+unfolding binary_of shl_of
+shl_nsw_tests f w a k s u l = rw (lt-leb w k l, u, s) refl
+
+pub shl_nsw_answers : (f : Flags) (w a k : ℕ) → f.nsw ≡ true → f.nuw ≡ false → k < w → a < 2 ^ w
+    → (binary_of Shl f w a k ≡ Ok ((a * 2 ^ k) % 2 ^ w)) ↔ ((j : ℕ) → w - k ≤ j → j < w → bit_at a j ≡ bit_at ((a * 2 ^ k) % 2 ^ w) (w - 1))
+shl_nsw_answers f w a k s u l pa =
+    let t = shl_nsw_tests f w a k s u l in
+    let d = last ((a * 2 ^ k) % 2 ^ w) (fits_signed w (signed w a *ℤ pos (2 ^ k))) in
+    let b = product_fits w a k l pa in
+    (λ h. b.0 (d.0 (sym t ∙ h)), λ h. t ∙ d.1 (b.1 h))

@@ -3,6 +3,9 @@
 #![tactic(auto)]
 
 pub mod bitwise;
+pub mod casts;
 pub mod completions;
 pub mod orders;
 pub mod selections;
+pub mod shifts;
+pub mod sums;
