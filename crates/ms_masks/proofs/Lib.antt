@@ -14,3 +14,6 @@ pub mod BitSources
 pub mod Results
 pub mod SignedShift
 pub mod OperationAgreement
+pub mod MapLemmas
+pub mod CellLemmas
+pub mod ByteAgreement

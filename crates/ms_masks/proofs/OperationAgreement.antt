@@ -19,7 +19,7 @@ use Rattle.ms_masks.proofs.Agreement.{add_agrees, sub_agrees, mul_agrees}
 use Rattle.ms_masks.proofs.Results.{add_is, sub_is, mul_is, shl_is, lshr_is, ashr_is, trunc_is, zext_is, sext_is, ptrtoint_is, inttoptr_is, bitcast_is}
 
 -- agreement of numbers that are equal to these
-moved : (w n n' r r' s s' : ℕ) → n ≡ n' → r ≡ r' → s ≡ s' → Agrees w n r s → Agrees w n' r' s'
+pub moved : (w n n' r r' s s' : ℕ) → n ≡ n' → r ≡ r' → s ≡ s' → Agrees w n r s → Agrees w n' r' s'
 moved w n n' r r' s s' p q e h i l z = sym (ap (λ x. bit_at x i) q) ∙ h i l (ap (λ x. bit_at x i) p ∙ z) ∙ ap (λ x. bit_at x i) e
 
 -- ---- sums, differences and products
@@ -80,15 +80,18 @@ nothing_outside_ones w r s i l z = absurd (omega (arith, bit_at_ones w i l, z))
 
 -- ---- casts
 
-cut : (w to m a c : ℕ) → to ≤ w → Agrees w m a c → Agrees to (m % 2 ^ to) (a % 2 ^ to) (c % 2 ^ to)
+-- a word cut to fewer bits
+pub cut : (w to m a c : ℕ) → to ≤ w → Agrees w m a c → Agrees to (m % 2 ^ to) (a % 2 ^ to) (c % 2 ^ to)
 cut w to m a c le h i l z = bit_at_mod a to i l ∙ h i (omega arith) (sym (bit_at_mod m to i l) ∙ z) ∙ sym (bit_at_mod c to i l)
 
+-- a word as one of other width, with zeros above
 padded : (w to m a c : ℕ) → a < 2 ^ w → c < 2 ^ w → Agrees w m a c → Agrees to m a c
 padded w to m a c pa pc h i l z = ⊎_elim
     (λ low. h i low z)
     (λ high. bit_at_above a w i pa high ∙ sym (bit_at_above c w i pc high))
     (cases_lt i w)
 
+-- a word widened with copies of its sign bit
 extended : (w to m a c : ℕ) → 1 ≤ w → w < to → m < 2 ^ w → a < 2 ^ w → c < 2 ^ w → Agrees w m a c → Agrees to (wrap to (signed w m)) (wrap to (signed w a)) (wrap to (signed w c))
 extended zero to m a c some lt pm pa pc h i l z = absurd (omega arith)
 extended (suc t) to m a c some lt pm pa pc h i l z =
