@@ -2,8 +2,8 @@
 use Rattle.std.proofs.Common.{◌≡◌, ℕ, zero, suc, ◌+◌, ◌-◌, ◌*◌, ◌/◌, ◌%◌, ◌^◌, ◌<◌, ◌≤◌, ◌≢◌, ◌↔◌, min, max, refl, sym, ap, ap₂, ◌∙◌, subst, arith, bit_and, bit_or, bit_xor, ◌⊎◌, inl, inr, ⊎_elim}
 use Rattle.std.specs.Int.{bit_at}
 use Rattle.std.proofs.lemmas.Bool.{cases_eq}
-use Rattle.std.proofs.lemmas.Nat.{or_lt, mul-mod}
-use Rattle.std.proofs.lemmas.Nat.Bits.{bit_at_or, bit_at-lt}
+use Rattle.std.proofs.lemmas.Nat.{or_lt, mul-mod, pow_pos}
+use Rattle.std.proofs.lemmas.Nat.Bits.{bit_at_or, bit_at-lt, bit_at-zero, same_from_bits_below}
 use Rattle.std.proofs.Math.Nat.{add-mod}
 use Rattle.ms_bits.specs.Conversions.{select_of}
 use Rattle.ms_bits.specs.Completion.{Agrees, Completes, Differs, IsMaskOf, SelectionsDiffer, IsSelectMaskOf}
@@ -19,7 +19,25 @@ agrees_from_exact f w v m u k n r exact a b c d ha hb hc hd i l z =
     (λ apart. let one : bit_at r i ≡ 1 = (exact i l).1 (record { a = a; b = b; c = c; d = d; left = ha; right = hb; left_too = hc; right_too = hd; apart = apart }) in absurd (omega (arith, z, one)))
     (cases_eq (bit_at (f a b) i) (bit_at (f c d) i))
 
--- completions agree outside their mask with the completions of another one
+pub agrees_itself : (w m a : ℕ) → Agrees w m a a
+agrees_itself w m a i l z = refl
+
+-- words of which every bit is defined
+pub defined_words : (w a c : ℕ) → a < 2 ^ w → c < 2 ^ w → Agrees w 0 a c → a ≡ c
+defined_words w a c p q h = same_from_bits_below w a c p q (λ i l. h i l (bit_at-zero i))
+
+-- an exact mask of operands without a poisoned bit
+pub clean_mask : (f : ℕ → ℕ → ℕ) (w v u to r : ℕ) → r < 2 ^ to → IsMaskOf f w v 0 u 0 to r → r ≡ 0
+clean_mask f w v u to r p h = same_from_bits_below to r 0 p (omega (arith, pow_pos to)) (λ i l. omega (arith, bit_at-zero i, bit_at-lt r i, clear i l))
+  where
+    clear : (i : ℕ) → i < to → bit_at r i ≡ 1 → ⊥
+    clear i l o =
+        let d = (h i l).0 o in
+        let e : d.a ≡ d.c = defined_words w d.a d.c d.left.fits d.left_too.fits (λ j lj z. d.left.agrees j lj z ∙ sym (d.left_too.agrees j lj z)) in
+        let g : d.b ≡ d.d = defined_words w d.b d.d d.right.fits d.right_too.fits (λ j lj z. d.right.agrees j lj z ∙ sym (d.right_too.agrees j lj z)) in
+        d.apart (ap₂ (λ x y. bit_at (f x y) i) e g)
+
+-- agreement goes through a word that both agree with
 pub agrees_through : (w m a v c : ℕ) → Agrees w m a v → Agrees w m c v → Agrees w m a c
 agrees_through w m a v c p q i l z = p i l z ∙ sym (q i l z)
 

@@ -1,8 +1,10 @@
 -- Results of one operation on words that agree outside their masks agree outside the result's mask.
-use Rattle.std.proofs.Common.{◌≡◌, ℕ, zero, suc, ◌+◌, ◌-◌, ◌*◌, ◌/◌, ◌%◌, ◌^◌, ◌<◌, ◌≤◌, min, refl, sym, ap, ◌∙◌, subst, arith, bit_and, bit_or, bit_xor, ⊎_elim, Ok}
+use Rattle.std.proofs.Common.{◌≡◌, ℕ, zero, suc, ◌+◌, ◌-◌, ◌*◌, ◌/◌, ◌%◌, ◌^◌, ◌<◌, ◌≤◌, min, refl, sym, ap, ◌∙◌, subst, arith, bit_and, bit_or, bit_xor, ⊎_elim, ℤ, pos, negsuc, Ok}
 use Rattle.std.specs.Int.{bit_at}
 use lib.Signed.{shr_z}
+use Rattle.std.proofs.Math.Pow.{pow_mono}
 use Rattle.std.proofs.lemmas.Bool.{cases_lt}
+use Rattle.std.proofs.lemmas.Nat.{pow_pos, mod_below, shr_le}
 use Rattle.std.proofs.lemmas.Nat.Bits.{bit_at_above, bit_at_ones}
 use Rattle.ms_bits.specs.declared.operations.Flags.{Flags}
 use Rattle.ms_bits.specs.declared.operations.BinOp.TheVariants.{Add, Sub, Mul, Shl, Lshr, Ashr}
@@ -151,3 +153,30 @@ sext_bit_of f zero a to i r s g p e l = absurd (omega arith)
 sext_bit_of f (suc t) a to i r s g p e l =
     let one : suc t - 1 ≡ t = omega arith in
     sym (ap (λ x. bit_at x i) (sext_is f (suc t) a to r e)) ∙ sext_bit t to a i g p l ∙ sym (ap (λ x. bit_at a (min i x)) one)
+
+-- ---- results fit
+
+wrap-lt : (w : ℕ) (z : ℤ) → wrap w z < 2 ^ w
+unfolding wrap
+wrap-lt w (pos n) = mod_below n (2 ^ w) (pow_pos w)
+wrap-lt w (negsuc n) = omega (arith, pow_pos w)
+
+pub left_shift-lt : (f : Flags) (w a k r : ℕ) → binary_of Shl f w a k ≡ Ok r → r < 2 ^ w
+left_shift-lt f w a k r e = subst (λ x. x < 2 ^ w) (shl_is f w a k r e) (mod_below (a * 2 ^ k) (2 ^ w) (pow_pos w))
+
+pub right_shift-lt : (f : Flags) (w a k r : ℕ) → a < 2 ^ w → binary_of Lshr f w a k ≡ Ok r → r < 2 ^ w
+right_shift-lt f w a k r p e = omega (arith, lshr_is f w a k r e, shr_le a k)
+
+pub signed_shift-lt : (f : Flags) (w a k r : ℕ) → binary_of Ashr f w a k ≡ Ok r → r < 2 ^ w
+signed_shift-lt f w a k r e = subst (λ x. x < 2 ^ w) (ashr_is f w a k r e) (wrap-lt w (shr_z (signed w a) (2 ^ k)))
+
+widened-lt : (w to a r : ℕ) → w ≤ to → a < 2 ^ w → a ≡ r → r < 2 ^ to
+widened-lt w to a r le p e = omega (arith, pow_mono le, p, e)
+
+pub cast-lt : (o : CastOp) (f : Flags) (w to a r : ℕ) → w ≤ 64 → Allows o w to → a < 2 ^ w → cast_of o f w a to ≡ Ok r → r < 2 ^ to
+cast-lt Trunc f w to a r l fit p e = subst (λ x. x < 2 ^ to) (trunc_is f w a to r e) (mod_below a (2 ^ to) (pow_pos to))
+cast-lt Zext f w to a r l fit p e = widened-lt w to a r (omega (arith, fit.0)) p (zext_is f w a to r e)
+cast-lt Sext f w to a r l fit p e = subst (λ x. x < 2 ^ to) (sext_is f w a to r e) (wrap-lt to (signed w a))
+cast-lt PtrToInt f w to a r l fit p e = subst (λ x. x < 2 ^ to) (ptrtoint_is f w a to r e) (mod_below a (2 ^ to) (pow_pos to))
+cast-lt IntToPtr f w to a r l fit p e = widened-lt w to a r (omega (arith, fit, l)) p (inttoptr_is f w a to r e)
+cast-lt Bitcast f w to a r l fit p e = subst (λ x. x < 2 ^ to) (bitcast_is f w a to r e) (subst (λ x. a < 2 ^ x) (sym fit) p)

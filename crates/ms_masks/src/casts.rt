@@ -34,13 +34,17 @@ pub fn cast_bits()
 {
 }
 
-/// Words that agree outside a mask, cast alike, agree outside the mask cast in the same way.
+/// Words that agree outside a mask, cast alike, agree outside the mask cast in the same way, and a cast fits its width.
 pub fn casts_agree()
     ensures agrees {
         (cast : CastOp) (f g h : Flags) (w to m a c n r s : ℕ) → 1 ≤ w → Allows cast w to
             → InRange w a m → InRange w c m → Agrees w m a c → cast_of cast h w m to ≡ Ok n
             → cast_of cast f w a to ≡ Ok r → cast_of cast g w c to ≡ Ok s
             → Agrees to n r s
+    }
+    ensures fits {
+        (cast : CastOp) (f : Flags) (w to a r : ℕ) → w ≤ 64 → Allows cast w to → a < 2 ^ w
+            → cast_of cast f w a to ≡ Ok r → r < 2 ^ to
     }
 {
 }

@@ -5,6 +5,23 @@ ghost use Rattle.ms_bits.specs.Completion.{InRange, Agrees, Completes, IsMaskOf,
 ghost use Rattle.ms_bits.specs.Formulas.{greatest, least};
 ghost use Rattle.ms_bits.specs.Conversions.{select_of};
 
+/// Words that agree outside a mask; where the mask is 0 they are equal.
+pub fn agreement()
+    ensures itself {
+        (w m a : ℕ) → Agrees w m a a
+    }
+    ensures turned_round {
+        (w m a c : ℕ) → Agrees w m a c → Agrees w m c a
+    }
+    ensures through {
+        (w m a v c : ℕ) → Agrees w m a v → Agrees w m v c → Agrees w m a c
+    }
+    ensures defined {
+        (w a c : ℕ) → a < 2 ^ w → c < 2 ^ w → Agrees w 0 a c → a ≡ c
+    }
+{
+}
+
 /// The mask that tries all completions is exact, and it is the only exact mask of its width.
 pub fn masks_by_completions()
     ensures exact {
@@ -22,7 +39,7 @@ pub fn masks_by_completions()
 }
 
 /// Outside an exact mask the results of any two choices of completions agree, and the mask is the same
-/// whichever completion is taken as a word's number.
+/// whichever completion is taken as a word's number. Of operands without a poisoned bit it is 0.
 pub fn exact_masks()
     ensures agrees {
         (f : ℕ → ℕ → ℕ) (w v m u k to r a b c d : ℕ) → IsMaskOf f w v m u k to r
@@ -32,6 +49,9 @@ pub fn exact_masks()
     ensures same {
         (f : ℕ → ℕ → ℕ) (w v m u k to r a b : ℕ) → IsMaskOf f w v m u k to r
             → Agrees w m v a → Agrees w k u b → IsMaskOf f w a m b k to r
+    }
+    ensures clean {
+        (f : ℕ → ℕ → ℕ) (w v u to r : ℕ) → r < 2 ^ to → IsMaskOf f w v 0 u 0 to r → r ≡ 0
     }
 {
 }

@@ -1,10 +1,11 @@
 //! The masks of `icmp`, for every predicate.
 //! v and u are the numbers of two words of w bits, m and k their masks. An answer is a word of one bit.
-ghost use Rattle.std.specs.Prelude.{◌≡◌, ◌<◌, ◌≤◌, ◌^◌, ℕ, Bool, Ok};
+ghost use Rattle.std.specs.Prelude.{◌≡◌, ◌<◌, ◌≤◌, ◌^◌, ℕ, Bool, ltb, int_lt, Ok};
 ghost use Rattle.std.specs.Int.{from_bool};
+ghost use Rattle.ms_bits.specs.Signed.{signed};
 ghost use Rattle.ms_bits.specs.Conversions.{holds, compare_of};
 ghost use Rattle.ms_bits.specs.Completion.{InRange, Agrees, Completes, IsMaskOf, mask_of};
-ghost use Rattle.ms_bits.specs.Formulas.{compare_mask};
+ghost use Rattle.ms_bits.specs.Formulas.{order_mask, turned_sign, compare_mask};
 ghost use Rattle.ms_bits.specs.declared.operations.Flags.{Flags};
 ghost use Rattle.ms_bits.specs.declared.operations.Pred.{Pred};
 
@@ -39,6 +40,20 @@ pub fn comparisons_are_exact()
         (predicate : Pred) (w v m u k a b : ℕ) → 1 ≤ w → InRange w v m → InRange w u k
             → Completes w v m a → Completes w u k b
             → compare_mask predicate w a m b k ≡ compare_mask predicate w v m u k
+    }
+{
+}
+
+/// The two strict orders, spelled out: the signed one is the unsigned one with the sign bits turned.
+pub fn two_orders()
+    ensures unsigned {
+        (w v m u k : ℕ) → 1 ≤ w → InRange w v m → InRange w u k
+            → IsMaskOf (λ a b. from_bool (ltb a b)) w v m u k 1 (order_mask ltb v m u k)
+    }
+    ensures signed {
+        (w v m u k : ℕ) → 1 ≤ w → InRange w v m → InRange w u k
+            → IsMaskOf (λ a b. from_bool (int_lt (signed w a) (signed w b))) w v m u k 1
+                (order_mask ltb (turned_sign w v) m (turned_sign w u) k)
     }
 {
 }

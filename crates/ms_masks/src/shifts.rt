@@ -30,6 +30,21 @@ pub fn shifted_bits()
 {
 }
 
+/// A shifted word, and so a shifted mask, has no bit past the width.
+pub fn shifted_words_fit()
+    ensures shl {
+        (f : Flags) (w a amount r : ℕ) → binary_of Shl f w a amount ≡ Ok r → r < 2 ^ w
+    }
+    ensures lshr {
+        (f : Flags) (w a amount r : ℕ) → a < 2 ^ w → binary_of Lshr f w a amount ≡ Ok r
+            → r < 2 ^ w
+    }
+    ensures ashr {
+        (f : Flags) (w a amount r : ℕ) → binary_of Ashr f w a amount ≡ Ok r → r < 2 ^ w
+    }
+{
+}
+
 /// Words that agree outside a mask, shifted by one amount, agree outside the shifted mask. Of shifts by a poisoned amount
 /// every bit is poisoned.
 pub fn shifts_agree()
