@@ -5,6 +5,7 @@
 pub mod bitwise;
 pub mod casts;
 pub mod completions;
+pub mod examples;
 pub mod maps;
 pub mod orders;
 pub mod selections;
