@@ -1,12 +1,12 @@
 -- Where each bit of a shifted or widened word comes from.
-use Rattle.std.proofs.Common.{◌≡◌, ℕ, zero, suc, ◌+◌, ◌-◌, ◌*◌, ◌/◌, ◌%◌, ◌^◌, ◌<◌, ◌≤◌, min, refl, sym, ap, ap₂, ◌∙◌, arith, pos, negsuc, ⊎_elim}
+use Rattle.std.proofs.Common.{◌≡◌, ℕ, suc, ◌+◌, ◌-◌, ◌*◌, ◌/◌, ◌%◌, ◌^◌, ◌<◌, ◌≤◌, min, sym, ap, ◌∙◌, arith, ⊎_elim}
 use Rattle.std.specs.Int.{bit_at}
 use lib.Signed.{shr_z}
-use Rattle.std.proofs.Math.Nat.{pow-suc, mod-eq_of_lt, div-le_self}
+use Rattle.std.proofs.Math.Nat.{pow-suc, mod-eq_of_lt}
 use Rattle.std.proofs.Math.Pow.{pow_mono}
 use Rattle.std.proofs.lemmas.Bool.{cases_lt}
-use Rattle.std.proofs.lemmas.Nat.{shr-shr, pow_pos, mod_below, shr_le}
-use Rattle.std.proofs.lemmas.Nat.Bits.{bit_at_cat_low, bit_at_cat_high, bit_at_above, bit_at-lt, bit_at-zero, bit_at_lowest}
+use Rattle.std.proofs.lemmas.Nat.{shr-shr, pow_pos, shr_le}
+use Rattle.std.proofs.lemmas.Nat.Bits.{bit_at_cat_low, bit_at_cat_high, bit_at_above, bit_at-lt, bit_at-zero}
 use Rattle.ms_bits.specs.Signed.{signed, wrap}
 use Rattle.ms_masks.proofs.BitLemmas.{bit_at_mod}
 use Rattle.ms_masks.proofs.CarryMasks.{bit_at_turned}

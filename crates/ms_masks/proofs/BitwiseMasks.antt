@@ -1,10 +1,9 @@
 -- The masks of `and`, `or` and `xor` are exact.
-use Rattle.std.proofs.Common.{◌≡◌, ℕ, zero, suc, ◌+◌, ◌-◌, ◌*◌, ◌/◌, ◌%◌, ◌^◌, ◌<◌, ◌≤◌, ◌≢◌, ◌↔◌, min, max, refl, sym, ap, ap₂, ◌∙◌, arith, bit_and, bit_or, bit_xor}
+use Rattle.std.proofs.Common.{◌≡◌, ℕ, zero, suc, ◌+◌, ◌-◌, ◌%◌, ◌^◌, ◌<◌, ◌≤◌, ◌≢◌, min, max, refl, sym, ap₂, ◌∙◌, arith, bit_and, bit_or, bit_xor}
 use Rattle.std.specs.Int.{bit_at}
-use Rattle.std.proofs.lemmas.Nat.{or_lt, xor_lt}
 use Rattle.std.proofs.lemmas.Nat.Bits.{bit_at_and, bit_at_or, bit_at_xor, bit_at-lt, bit_at_ones}
-use Rattle.ms_bits.specs.Completion.{Agrees, Completes, Differs, IsMaskOf}
-use Rattle.ms_bits.specs.Formulas.{greatest, least, and_mask, or_mask}
+use Rattle.ms_bits.specs.Completion.{Differs, IsMaskOf}
+use Rattle.ms_bits.specs.Formulas.{and_mask, or_mask}
 use Rattle.ms_masks.proofs.Extremes.{choose, choose_completes, choose_bit}
 
 -- two choices of the poisoned ones among two bits give results that differ

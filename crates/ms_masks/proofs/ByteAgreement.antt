@@ -1,5 +1,5 @@
 -- Bytes that agree outside their shadow: stored, loaded, changed in a range and copied.
-use Rattle.std.proofs.Common.{◌≡◌, ℕ, zero, suc, ◌+◌, ◌-◌, ◌*◌, ◌/◌, ◌%◌, ◌^◌, ◌<◌, ◌≤◌, Bool, true, false, refl, sym, ap, ◌∙◌, arith, ⊎_elim}
+use Rattle.std.proofs.Common.{◌≡◌, ℕ, zero, suc, ◌+◌, ◌-◌, ◌*◌, ◌/◌, ◌^◌, ◌<◌, ◌≤◌, Bool, true, false, sym, ap, ◌∙◌, arith, ⊎_elim}
 use Rattle.std.specs.Prelude.{if◌then◌else◌}
 use Rattle.std.specs.Int.{bit_at}
 use Rattle.std.proofs.lemmas.Bool.{cases_lt}
@@ -45,10 +45,10 @@ loaded_agree (suc n) a shadow map other ps pm po h i l z =
     ⊎_elim
     (λ low. first_bits (map a) _ i low ∙ here i low (sym (first_bits (shadow a) _ i low) ∙ z) ∙ sym (first_bits (other a) _ i low))
     (λ high. later_bits (map a) _ i first_map high
-        ∙ loaded_agree n (a + 1) shadow map other (below_next shadow a n ps) (below_next map a n pm) (below_next other a n po)
-        (λ k lk. moved 8 _ _ _ _ _ _ (at_next shadow a k) (at_next map a k) (at_next other a k) (h (suc k) (omega arith)))
-        (i - 8) (omega arith) (sym (later_bits (shadow a) _ i first_shadow high) ∙ z)
-        ∙ sym (later_bits (other a) _ i first_other high))
+    ∙ loaded_agree n (a + 1) shadow map other (below_next shadow a n ps) (below_next map a n pm) (below_next other a n po)
+    (λ k lk. moved 8 _ _ _ _ _ _ (at_next shadow a k) (at_next map a k) (at_next other a k) (h (suc k) (omega arith)))
+    (i - 8) (omega arith) (sym (later_bits (shadow a) _ i first_shadow high) ∙ z)
+    ∙ sym (later_bits (other a) _ i first_other high))
     (cases_lt i 8)
   where
     here : Agrees 8 (shadow a) (map a) (other a)

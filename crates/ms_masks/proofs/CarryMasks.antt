@@ -1,12 +1,11 @@
 -- The mask of a sum: a poisoned bit reaches every higher one.
-use Rattle.std.proofs.Common.{◌≡◌, ℕ, zero, suc, ◌+◌, ◌-◌, ◌*◌, ◌/◌, ◌%◌, ◌^◌, ◌<◌, ◌≤◌, ◌≢◌, ◌↔◌, min, max, refl, sym, ap, ap₂, ◌∙◌, subst, arith, bit_and, bit_or, bit_xor, ◌⊎◌, inl, inr, ⊎_elim, zero-add}
+use Rattle.std.proofs.Common.{◌≡◌, ℕ, zero, suc, ◌+◌, ◌-◌, ◌/◌, ◌%◌, ◌^◌, ◌<◌, ◌≤◌, ◌↔◌, max, sym, ap, ap₂, ◌∙◌, arith, bit_or, ◌⊎◌, inl, inr, ⊎_elim, zero-add}
 use Rattle.std.specs.Int.{bit_at}
 use Rattle.std.proofs.Math.Nat.{pow-suc, mod-eq_of_lt, mod_self}
-use Rattle.std.proofs.lemmas.Bool.{cases_eq, cases_lt}
+use Rattle.std.proofs.lemmas.Bool.{cases_eq}
 use Rattle.std.proofs.lemmas.Nat.{pow_pos, or_lt, mod_below}
-use Rattle.std.proofs.lemmas.Nat.Bits.{bit_at_or, bit_at-lt, bit_at_lowest, bit_at-suc, bit_at-zero}
+use Rattle.std.proofs.lemmas.Nat.Bits.{bit_at_or, bit_at-lt, bit_at_lowest, bit_at-suc}
 use Rattle.ms_bits.specs.Formulas.{carry_mask, union_mask, HasBitUpTo}
-use Rattle.ms_masks.proofs.BitLemmas.{some_bit}
 
 -- 0 - s modulo 2 ^ w
 abbrev pub negated : ℕ → ℕ → ℕ

@@ -1,5 +1,5 @@
 -- Origins of cells after a store or a copy.
-use Rattle.std.proofs.Common.{◌≡◌, ◌≢◌, ℕ, zero, suc, ◌+◌, ◌-◌, ◌*◌, ◌/◌, ◌<◌, ◌≤◌, ◌↔◌, Bool, true, false, ◌&&◌, eqb, ltb, leb, refl, sym, ap, ◌∙◌, arith, ⊎_elim}
+use Rattle.std.proofs.Common.{◌≡◌, ◌≢◌, ℕ, zero, suc, ◌+◌, ◌-◌, ◌*◌, ◌/◌, ◌<◌, ◌≤◌, ◌↔◌, true, eqb, refl, sym, ap, ◌∙◌, arith, ⊎_elim}
 use Rattle.std.specs.Prelude.{if◌then◌else◌}
 use Rattle.std.proofs.lemmas.Bool.{cases_lt, cases_eq, cases_Bool, and_from, and_parts, le-leb, lt-ltb, leb-true, ltb-true, eq-eqb, ne_eqb}
 use Rattle.ms_bits.specs.Maps.{touches, with_cells, with_cell, copied_cells}
@@ -64,13 +64,13 @@ unfolding stepped
 copied_outside shadow old to from zero cells cell h = refl
 copied_outside shadow old to from (suc n) cells cell h =
     copied_outside shadow old (to + 1) (from + 1) n (stepped shadow old to from cells) cell (λ k l s e.
-        let t : from + 1 + k ≡ from + suc k = omega arith in
-        let u : to + suc k ≡ to + 1 + k = omega arith in
-        h (suc k) (omega arith) (λ z. s (ap shadow t ∙ z)) (ap (λ x. x / 4) u ∙ e))
+    let t : from + 1 + k ≡ from + suc k = omega arith in
+    let u : to + suc k ≡ to + 1 + k = omega arith in
+    h (suc k) (omega arith) (λ z. s (ap shadow t ∙ z)) (ap (λ x. x / 4) u ∙ e))
     ∙ stepped_kept shadow old to from cells cell (λ s e.
-        let t : from + 0 ≡ from = omega arith in
-        let u : to + 0 ≡ to = omega arith in
-        h 0 (omega arith) (λ z. s (sym (ap shadow t) ∙ z)) (ap (λ x. x / 4) u ∙ e))
+    let t : from + 0 ≡ from = omega arith in
+    let u : to + 0 ≡ to = omega arith in
+    h 0 (omega arith) (λ z. s (sym (ap shadow t) ∙ z)) (ap (λ x. x / 4) u ∙ e))
 
 pub copied_inside : (shadow old : ℕ → ℕ) (to from n : ℕ) (cells : ℕ → ℕ) (k : ℕ) → k < n → shadow (from + k) ≢ 0
     → ((j : ℕ) → k < j → j < n → shadow (from + j) ≢ 0 → (to + j) / 4 ≢ (to + k) / 4)
@@ -81,16 +81,16 @@ copied_inside shadow old to from (suc n) cells zero l s h =
     let t : from + 0 ≡ from = omega arith in
     let u : to + 0 ≡ to = omega arith in
     copied_outside shadow old (to + 1) (from + 1) n (stepped shadow old to from cells) ((to + 0) / 4) (λ j lj sj e.
-        let t' : from + 1 + j ≡ from + suc j = omega arith in
-        let u' : to + suc j ≡ to + 1 + j = omega arith in
-        h (suc j) (omega arith) (omega arith) (λ z. sj (ap shadow t' ∙ z)) (ap (λ x. x / 4) u' ∙ e))
+    let t' : from + 1 + j ≡ from + suc j = omega arith in
+    let u' : to + suc j ≡ to + 1 + j = omega arith in
+    h (suc j) (omega arith) (omega arith) (λ z. sj (ap shadow t' ∙ z)) (ap (λ x. x / 4) u' ∙ e))
     ∙ ap (λ x. stepped shadow old to from cells (x / 4)) u ∙ stepped_put shadow old to from cells (λ z. s (ap shadow t ∙ z)) ∙ sym (ap (λ x. old (x / 4)) t)
 copied_inside shadow old to from (suc n) cells (suc k) l s h =
     let t : from + 1 + k ≡ from + suc k = omega arith in
     let u : to + 1 + k ≡ to + suc k = omega arith in
     sym (ap (λ x. copied_cells shadow old (to + 1) (from + 1) n (stepped shadow old to from cells) (x / 4)) u)
     ∙ copied_inside shadow old (to + 1) (from + 1) n (stepped shadow old to from cells) k (omega arith) (λ z. s (sym (ap shadow t) ∙ z)) (λ j kj lj sj e.
-        let t' : from + 1 + j ≡ from + suc j = omega arith in
-        let u' : to + suc j ≡ to + 1 + j = omega arith in
-        h (suc j) (omega arith) (omega arith) (λ z. sj (ap shadow t' ∙ z)) (ap (λ x. x / 4) u' ∙ e ∙ ap (λ x. x / 4) u))
+    let t' : from + 1 + j ≡ from + suc j = omega arith in
+    let u' : to + suc j ≡ to + 1 + j = omega arith in
+    h (suc j) (omega arith) (omega arith) (λ z. sj (ap shadow t' ∙ z)) (ap (λ x. x / 4) u' ∙ e ∙ ap (λ x. x / 4) u))
     ∙ ap (λ x. old (x / 4)) t

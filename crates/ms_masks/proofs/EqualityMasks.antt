@@ -1,13 +1,13 @@
 -- The mask of `icmp eq` is exact.
-use Rattle.std.proofs.Common.{◌≡◌, ℕ, zero, suc, ◌+◌, ◌-◌, ◌%◌, ◌^◌, ◌<◌, ◌≤◌, ◌≢◌, ◌↔◌, min, max, Bool, true, false, not, eqb, refl, sym, ap, ap₂, ◌∙◌, subst, arith, bit_and, bit_or, bit_xor, ◌⊎◌, inl, inr, ⊎_elim}
+use Rattle.std.proofs.Common.{◌≡◌, ℕ, zero, suc, ◌+◌, ◌-◌, ◌%◌, ◌^◌, ◌<◌, ◌≢◌, max, Bool, true, false, not, eqb, refl, sym, ap, ◌∙◌, arith, bit_and, bit_or, bit_xor, ◌⊎◌, inl, inr, ⊎_elim}
 use Rattle.std.specs.Int.{bit_at, from_bool}
 use Rattle.std.proofs.lemmas.Nat.{or_lt, xor_lt, pow_below}
 use Rattle.std.proofs.lemmas.Nat.Bits.{bit_at_or, bit_at_xor, bit_at-lt, bit_at-zero, bit_at-pow_same, bit_at-pow_other, same_from_bits_below}
-use Rattle.std.proofs.lemmas.Bool.{cases_Bool, cases_eq, eqb-true, eqb-false, eq-eqb, ne_eqb, both_ways}
-use Rattle.ms_bits.specs.Completion.{Agrees, Completes, Differs, IsMaskOf}
-use Rattle.ms_bits.specs.Formulas.{greatest, least, eq_mask}
+use Rattle.std.proofs.lemmas.Bool.{eqb-true, eqb-false, eq-eqb, ne_eqb}
+use Rattle.ms_bits.specs.Completion.{Completes, Differs, IsMaskOf}
+use Rattle.ms_bits.specs.Formulas.{least, eq_mask}
 use Rattle.ms_masks.proofs.BitLemmas.{some_bit}
-use Rattle.ms_masks.proofs.Extremes.{greatest_completes, least_completes, least_bit}
+use Rattle.ms_masks.proofs.Extremes.{least_completes, least_bit}
 use Rattle.ms_masks.proofs.OrderMasks.{test, split}
 
 -- what the two factors of the mask say

@@ -1,9 +1,9 @@
 -- The greatest and the least completion of a poisoned word.
-use Rattle.std.proofs.Common.{◌≡◌, ℕ, zero, suc, ◌+◌, ◌-◌, ◌*◌, ◌/◌, ◌%◌, ◌^◌, ◌<◌, ◌≤◌, ◌≢◌, min, max, refl, sym, ap, ◌∙◌, arith, bit_and, bit_or, bit_xor}
+use Rattle.std.proofs.Common.{◌≡◌, ℕ, zero, suc, ◌-◌, ◌^◌, ◌<◌, ◌≤◌, max, refl, ◌∙◌, arith, bit_or}
 use Rattle.std.specs.Int.{bit_at}
 use Rattle.std.proofs.lemmas.Nat.{or_lt, xor_lt}
 use Rattle.std.proofs.lemmas.Nat.Bits.{bit_at_or, bit_at_xor, bit_at-lt}
-use Rattle.ms_bits.specs.Completion.{Agrees, Completes}
+use Rattle.ms_bits.specs.Completion.{Completes}
 use Rattle.ms_bits.specs.Formulas.{greatest, least}
 use Rattle.ms_masks.proofs.BitLemmas.{le_from_bits}
 

@@ -1,10 +1,9 @@
 -- Each formula is a mask below 2 ^ its width, and the mask that completions give.
-use Rattle.std.proofs.Common.{◌≡◌, ℕ, zero, suc, ◌-◌, ◌^◌, ◌<◌, ◌≤◌, Bool, true, false, not, ltb, leb, eqb, int_lt, int_le, sym, ap, ◌∙◌, bit_and, bit_or, bit_xor, arith}
-use Rattle.std.specs.Int.{bit_at, from_bool}
+use Rattle.std.proofs.Common.{◌≡◌, ℕ, zero, suc, ◌-◌, ◌^◌, ◌<◌, ◌≤◌, Bool, true, false, ap, bit_and, bit_or, bit_xor, arith}
+use Rattle.std.specs.Int.{from_bool}
 use Rattle.std.proofs.lemmas.Nat.{or_lt, xor_lt, and_le_l, and_le_r}
 use Rattle.ms_bits.specs.declared.operations.Pred.{Pred}
 use Rattle.ms_bits.specs.declared.operations.Pred.TheVariants.{Eq, Ne, Ugt, Uge, Ult, Ule, Sgt, Sge, Slt, Sle}
-use Rattle.ms_bits.specs.Signed.{signed}
 use Rattle.ms_bits.specs.Conversions.{holds, select_of}
 use Rattle.ms_bits.specs.Completion.{InRange, Completes, IsMaskOf, IsSelectMaskOf, mask_of, select_mask_of}
 use Rattle.ms_bits.specs.Formulas.{union_mask, and_mask, or_mask, eq_mask, order_mask, turned_sign, compare_mask, select_mask}

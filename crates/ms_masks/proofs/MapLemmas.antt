@@ -1,5 +1,5 @@
 -- Maps of bytes changed in a range: what they hold inside and outside, and the numbers loaded from them.
-use Rattle.std.proofs.Common.{◌≡◌, ℕ, zero, suc, ◌+◌, ◌-◌, ◌*◌, ◌/◌, ◌%◌, ◌^◌, ◌<◌, ◌≤◌, Bool, true, false, refl, sym, ap, ap₂, ◌∙◌, arith, ⊎_elim, List, ◌∷◌}
+use Rattle.std.proofs.Common.{◌≡◌, ℕ, zero, suc, ◌+◌, ◌-◌, ◌*◌, ◌/◌, ◌%◌, ◌^◌, ◌<◌, ◌≤◌, true, false, refl, sym, ap, ap₂, ◌∙◌, arith, ◌∷◌}
 use Rattle.std.specs.Prelude.{if◌then◌else◌}
 use Rattle.std.proofs.Math.Nat.{pow-succ', one-le-pow, mul_left_comm, div-add-mod}
 use Rattle.std.proofs.lemmas.Bool.{le-leb, lt-ltb}
@@ -61,9 +61,9 @@ same_number (suc n) a b map other h =
     let here : a + 0 ≡ a = omega arith in
     let there : b + 0 ≡ b = omega arith in
     ap₂ (λ x y. x + 256 * y) (ap map (sym here) ∙ h 0 (omega arith) ∙ ap other there) (same_number n (a + 1) (b + 1) map other (λ k l.
-        let e : a + 1 + k ≡ a + suc k = omega arith in
-        let f : b + suc k ≡ b + 1 + k = omega arith in
-        ap map e ∙ h (suc k) (omega arith) ∙ ap other f))
+    let e : a + 1 + k ≡ a + suc k = omega arith in
+    let f : b + suc k ≡ b + 1 + k = omega arith in
+    ap map e ∙ h (suc k) (omega arith) ∙ ap other f))
 
 pub same_bytes : (n a b : ℕ) (map other : ℕ → ℕ) → ((k : ℕ) → k < n → map (a + k) ≡ other (b + k)) → bytes_at map a n ≡ bytes_at other b n
 same_bytes zero a b map other h = refl
@@ -71,9 +71,9 @@ same_bytes (suc n) a b map other h =
     let here : a + 0 ≡ a = omega arith in
     let there : b + 0 ≡ b = omega arith in
     ap₂ (λ x y. x ∷ y) (ap map (sym here) ∙ h 0 (omega arith) ∙ ap other there) (same_bytes n (a + 1) (b + 1) map other (λ k l.
-        let e : a + 1 + k ≡ a + suc k = omega arith in
-        let f : b + suc k ≡ b + 1 + k = omega arith in
-        ap map e ∙ h (suc k) (omega arith) ∙ ap other f))
+    let e : a + 1 + k ≡ a + suc k = omega arith in
+    let f : b + suc k ≡ b + 1 + k = omega arith in
+    ap map e ∙ h (suc k) (omega arith) ∙ ap other f))
 
 pub byte_of-lt : (v k : ℕ) → byte_of v k < 256
 byte_of-lt v zero = omega arith
@@ -103,9 +103,9 @@ loaded_byte (suc n) a (suc k) map l h =
     let rest : (map a + 256 * number_at map (a + 1) n) / 256 ≡ number_at map (a + 1) n = omega (arith, first, h 0 (omega arith)) in
     let next : a + 1 + k ≡ a + suc k = omega arith in
     ap (λ x. byte_of x k) rest ∙ loaded_byte n (a + 1) k map (omega arith) (λ j lj.
-        let e : a + suc j ≡ a + 1 + j = omega arith in
-        let t : map (a + suc j) ≡ map (a + 1 + j) = ap map e in
-        omega (arith, t, h (suc j) (omega arith))) ∙ ap map next
+    let e : a + suc j ≡ a + 1 + j = omega arith in
+    let t : map (a + suc j) ≡ map (a + 1 + j) = ap map e in
+    omega (arith, t, h (suc j) (omega arith))) ∙ ap map next
 
 -- a load from other places is as before
 pub load_elsewhere : (map : ℕ → ℕ) (a n : ℕ) (new : ℕ → ℕ) (b m : ℕ) → (b + m ≤ a) → number_at (with_range map a n new) b m ≡ number_at map b m

@@ -1,5 +1,5 @@
 -- Results of one operation on words that agree outside their masks agree outside the result's mask.
-use Rattle.std.proofs.Common.{◌≡◌, ℕ, zero, suc, ◌+◌, ◌-◌, ◌*◌, ◌/◌, ◌%◌, ◌^◌, ◌<◌, ◌≤◌, min, refl, sym, ap, ◌∙◌, subst, arith, bit_and, bit_or, bit_xor, ⊎_elim, ℤ, pos, negsuc, Ok}
+use Rattle.std.proofs.Common.{◌≡◌, ℕ, zero, suc, ◌+◌, ◌-◌, ◌*◌, ◌/◌, ◌%◌, ◌^◌, ◌<◌, ◌≤◌, min, refl, sym, ap, ◌∙◌, subst, arith, ⊎_elim, ℤ, pos, negsuc, Ok}
 use Rattle.std.specs.Int.{bit_at}
 use lib.Signed.{shr_z}
 use Rattle.std.proofs.Math.Pow.{pow_mono}

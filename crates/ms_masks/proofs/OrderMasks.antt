@@ -1,8 +1,8 @@
 -- The mask of an ordered comparison is exact: the answers at the two extremes differ exactly where some two answers do.
-use Rattle.std.proofs.Common.{◌≡◌, ℕ, zero, suc, ◌^◌, ◌<◌, ◌≤◌, ◌≢◌, ◌↔◌, Bool, true, false, not, ltb, leb, refl, sym, ap, ap₂, ◌∙◌, subst, arith, bit_xor, ◌⊎◌, inl, inr, ⊎_elim}
+use Rattle.std.proofs.Common.{◌≡◌, ℕ, zero, suc, ◌^◌, ◌<◌, ◌≤◌, Bool, true, false, ltb, leb, refl, arith, bit_xor, ◌⊎◌, inl, inr, ⊎_elim}
 use Rattle.std.specs.Int.{bit_at, from_bool}
-use Rattle.std.proofs.lemmas.Bool.{cases_Bool, true≢false, ltb-true, lt-ltb, leb-true, le-leb, both_ways}
-use Rattle.ms_bits.specs.Completion.{Agrees, Completes, Differs, IsMaskOf}
+use Rattle.std.proofs.lemmas.Bool.{cases_Bool, ltb-true, lt-ltb, leb-true, le-leb, both_ways}
+use Rattle.ms_bits.specs.Completion.{Completes, Differs, IsMaskOf}
 use Rattle.ms_bits.specs.Formulas.{greatest, least, order_mask}
 use Rattle.ms_masks.proofs.Extremes.{greatest_completes, least_completes, below_greatest, above_least}
 

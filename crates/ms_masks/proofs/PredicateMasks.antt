@@ -1,5 +1,5 @@
 -- Masks of the predicates that are others with their operands swapped, or their answers turned.
-use Rattle.std.proofs.Common.{◌≡◌, ℕ, zero, suc, ◌^◌, ◌<◌, ◌≢◌, ◌↔◌, Bool, true, false, not, ltb, leb, eqb, int_lt, int_le, refl, sym, ap, ◌∙◌, arith}
+use Rattle.std.proofs.Common.{◌≡◌, ℕ, zero, suc, ◌^◌, ◌<◌, Bool, true, false, not, ltb, leb, eqb, int_lt, int_le, refl, arith}
 use Rattle.std.specs.Int.{bit_at, from_bool}
 use Rattle.ms_bits.specs.Completion.{Differs, IsMaskOf}
 use Rattle.ms_bits.specs.Formulas.{order_mask, eq_mask}

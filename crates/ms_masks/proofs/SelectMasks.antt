@@ -1,7 +1,7 @@
 -- The mask of a selection is exact.
-use Rattle.std.proofs.Common.{◌≡◌, ℕ, zero, suc, ◌+◌, ◌-◌, ◌*◌, ◌/◌, ◌%◌, ◌^◌, ◌<◌, ◌≤◌, ◌≢◌, ◌↔◌, min, max, Bool, true, false, cond, eqb, refl, sym, ap, ap₂, ◌∙◌, subst, arith, bit_or, bit_xor, ◌⊎◌, inl, inr, ⊎_elim}
+use Rattle.std.proofs.Common.{◌≡◌, ℕ, zero, suc, ◌+◌, ◌-◌, ◌%◌, ◌^◌, ◌<◌, ◌≢◌, ◌↔◌, max, refl, sym, ◌∙◌, arith, bit_or, bit_xor, ◌⊎◌, inl, inr, ⊎_elim}
 use Rattle.std.specs.Int.{bit_at}
-use Rattle.std.proofs.lemmas.Bool.{cases_eq, eq-eqb, ne_eqb}
+use Rattle.std.proofs.lemmas.Bool.{cases_eq}
 use Rattle.std.proofs.lemmas.Nat.Bits.{bit_at_or, bit_at_xor, bit_at-lt, bit_at_lowest}
 use Rattle.ms_bits.specs.Completion.{Completes, SelectionsDiffer}
 use Rattle.ms_bits.specs.Conversions.{select_of}

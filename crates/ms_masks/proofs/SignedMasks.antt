@@ -1,13 +1,13 @@
 -- The signed order is the unsigned one with the sign bits flipped.
-use Rattle.std.proofs.Common.{◌≡◌, ℕ, zero, suc, ◌+◌, ◌-◌, ◌*◌, ◌/◌, ◌%◌, ◌^◌, ◌<◌, ◌≤◌, ◌≢◌, ◌↔◌, Bool, true, false, cond, ltb, leb, ℤ, pos, negsuc, int_lt, int_le, refl, sym, ap, ap₂, ◌∙◌, subst, arith, bit_and, bit_or, bit_xor, ◌⊎◌, inl, inr, ⊎_elim}
+use Rattle.std.proofs.Common.{◌≡◌, ℕ, zero, suc, ◌+◌, ◌-◌, ◌*◌, ◌%◌, ◌^◌, ◌<◌, ◌≤◌, Bool, ltb, leb, ℤ, pos, negsuc, int_lt, int_le, refl, sym, ap, ap₂, ◌∙◌, subst, arith, bit_xor}
 use Rattle.std.specs.Int.{bit_at, from_bool}
 use Rattle.std.specs.Int.Bits.{xor_zero_r, xor_self, xor_assoc}
 use Rattle.std.proofs.Math.Nat.{pow-suc}
-use Rattle.std.proofs.lemmas.Bool.{cases_lt, lt-ltb, le-ltb, le-leb, lt-leb}
+use Rattle.std.proofs.lemmas.Bool.{cases_lt, lt-ltb, le-ltb}
 use Rattle.std.proofs.lemmas.Nat.{xor_lt, pow_below, pow_pos, xor_block}
 use Rattle.std.proofs.lemmas.Nat.Bits.{bit_at_xor}
-use Rattle.ms_bits.specs.Completion.{Agrees, Completes, Differs, IsMaskOf}
-use Rattle.ms_bits.specs.Formulas.{greatest, least, order_mask}
+use Rattle.ms_bits.specs.Completion.{Completes, Differs, IsMaskOf}
+use Rattle.ms_bits.specs.Formulas.{order_mask}
 use Rattle.ms_bits.specs.Signed.{signed}
 use Rattle.ms_masks.proofs.OrderMasks.{test, ult_exact}
 

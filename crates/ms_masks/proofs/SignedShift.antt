@@ -1,5 +1,5 @@
 -- A shift to the left with 'nsw': the signed product fits exactly where each shifted-out bit is the result's sign bit.
-use Rattle.std.proofs.Common.{◌≡◌, ℕ, zero, suc, ◌+◌, ◌-◌, ◌*◌, ◌/◌, ◌%◌, ◌^◌, ◌<◌, ◌≤◌, ◌↔◌, Bool, true, false, not, cond, Result, Ok, Err, ltb, ℤ, pos, negsuc, neg_ℤ, ◌*ℤ◌, refl, sym, ap, ap₂, ◌∙◌, arith, ⊎_elim}
+use Rattle.std.proofs.Common.{◌≡◌, ℕ, zero, suc, ◌+◌, ◌-◌, ◌*◌, ◌%◌, ◌^◌, ◌<◌, ◌≤◌, ◌↔◌, Bool, true, false, not, cond, Ok, Err, ltb, pos, neg_ℤ, ◌*ℤ◌, refl, sym, ap, ◌∙◌, arith, ⊎_elim}
 use Rattle.std.specs.Int.{bit_at}
 use Rattle.std.proofs.Math.Nat.{pow-suc, mul-lt-mul_of_pos_right, mul-le-mul_right, mod-le}
 use Rattle.std.proofs.lemmas.Bool.{cases_lt, cases_eq, lt-ltb, ltb-true, lt-leb}
@@ -7,12 +7,11 @@ use Rattle.std.proofs.lemmas.Nat.{pow_pos, pow-add, mod_below}
 use Rattle.std.proofs.lemmas.Nat.Bits.{bit_at_above, bit_at-lt, same_from_bits_below}
 use Rattle.ms_bits.specs.declared.operations.Flags.{Flags}
 use Rattle.ms_bits.specs.declared.operations.BinOp.TheVariants.{Shl}
-use Rattle.ms_bits.specs.declared.traps.Trap.{Trap}
 use Rattle.ms_bits.specs.declared.traps.Trap.TheVariants.{Nsw}
 use Rattle.ms_bits.specs.Arithmetic.{binary_of, shl_of}
 use Rattle.ms_bits.specs.Signed.{signed, fits_signed}
 use Rattle.ms_masks.proofs.Results.{answered}
-use Rattle.ms_masks.proofs.BitLemmas.{bit_at_mod, le_from_bits}
+use Rattle.ms_masks.proofs.BitLemmas.{bit_at_mod}
 use Rattle.ms_masks.proofs.CarryMasks.{bit_at_turned}
 use Rattle.ms_masks.proofs.SignedMasks.{signed_low, signed_high}
 use Rattle.ms_masks.proofs.BitSources.{top_bit, shl_high}
