@@ -9,7 +9,8 @@ ghost use Rattle.ms_bits.specs.declared.operations.BinOp.TheVariants.{And, Or, X
 
 /// `and`: a bit is poisoned where no operand has a defined 0 and some operand is poisoned.
 pub fn and_is_exact()
-    ensures answer { (flags : Flags) (w a b r : ℕ) → binary_of And flags w a b ≡ Ok r → r ≡ bit_and a b }
+    ensures answer { (flags : Flags) (w a b r : ℕ)
+        → binary_of And flags w a b ≡ Ok r → r ≡ bit_and a b }
     ensures exact { (w v m u k : ℕ) → InRange w v m → InRange w u k
         → IsMaskOf bit_and w v m u k w (and_mask v m u k) }
     ensures by_completions { (w v m u k : ℕ) → InRange w v m → InRange w u k
@@ -18,13 +19,15 @@ pub fn and_is_exact()
     ensures agrees { (w v m u k a b c d : ℕ) → InRange w v m → InRange w u k
         → Completes w v m a → Completes w u k b → Completes w v m c → Completes w u k d
         → Agrees w (and_mask v m u k) (bit_and a b) (bit_and c d) }
-    ensures same { (w v m u k a b : ℕ) → InRange w v m → InRange w u k → Completes w v m a → Completes w u k b
+    ensures same { (w v m u k a b : ℕ)
+        → InRange w v m → InRange w u k → Completes w v m a → Completes w u k b
         → and_mask a m b k ≡ and_mask v m u k }
 {}
 
 /// `or`: a bit is poisoned where no operand has a defined 1 and some operand is poisoned.
 pub fn or_is_exact()
-    ensures answer { (flags : Flags) (w a b r : ℕ) → binary_of Or flags w a b ≡ Ok r → r ≡ bit_or a b }
+    ensures answer { (flags : Flags) (w a b r : ℕ)
+        → binary_of Or flags w a b ≡ Ok r → r ≡ bit_or a b }
     ensures exact { (w v m u k : ℕ) → InRange w v m → InRange w u k
         → IsMaskOf bit_or w v m u k w (or_mask w v m u k) }
     ensures by_completions { (w v m u k : ℕ) → InRange w v m → InRange w u k
@@ -33,13 +36,15 @@ pub fn or_is_exact()
     ensures agrees { (w v m u k a b c d : ℕ) → InRange w v m → InRange w u k
         → Completes w v m a → Completes w u k b → Completes w v m c → Completes w u k d
         → Agrees w (or_mask w v m u k) (bit_or a b) (bit_or c d) }
-    ensures same { (w v m u k a b : ℕ) → InRange w v m → InRange w u k → Completes w v m a → Completes w u k b
+    ensures same { (w v m u k a b : ℕ)
+        → InRange w v m → InRange w u k → Completes w v m a → Completes w u k b
         → or_mask w a m b k ≡ or_mask w v m u k }
 {}
 
 /// `xor`: a bit is poisoned where one of the operands is.
 pub fn xor_is_exact()
-    ensures answer { (flags : Flags) (w a b r : ℕ) → binary_of Xor flags w a b ≡ Ok r → r ≡ bit_xor a b }
+    ensures answer { (flags : Flags) (w a b r : ℕ)
+        → binary_of Xor flags w a b ≡ Ok r → r ≡ bit_xor a b }
     ensures exact { (w v m u k : ℕ) → InRange w v m → InRange w u k
         → IsMaskOf bit_xor w v m u k w (union_mask m k) }
     ensures by_completions { (w v m u k : ℕ) → InRange w v m → InRange w u k

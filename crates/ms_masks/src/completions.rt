@@ -30,7 +30,8 @@ pub fn exact_masks()
         → Agrees to r (f a b) (f c d) }
     ensures same { (f : ℕ → ℕ → ℕ) (w v m u k to r a b : ℕ) → IsMaskOf f w v m u k to r
         → Agrees w m v a → Agrees w k u b → IsMaskOf f w a m b k to r }
-    ensures clean { (f : ℕ → ℕ → ℕ) (w v u to r : ℕ) → r < 2 ^ to → IsMaskOf f w v 0 u 0 to r → r ≡ 0 }
+    ensures clean { (f : ℕ → ℕ → ℕ) (w v u to r : ℕ)
+        → r < 2 ^ to → IsMaskOf f w v 0 u 0 to r → r ≡ 0 }
 {}
 
 /// The least and the greatest completion of a word are completions, and every other one lies between them.

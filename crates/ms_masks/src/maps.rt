@@ -5,7 +5,8 @@ ghost use Rattle.ms_bits.specs.Maps.{with_range, byte_of, number_at, bytes_at, c
 
 /// A map that is changed in a range holds the new bytes there, and is equal to the old map outside.
 pub fn ranges()
-    ensures inside { (map new : ℕ → ℕ) (a n k : ℕ) → k < n → with_range map a n new (a + k) ≡ new k }
+    ensures inside { (map new : ℕ → ℕ) (a n k : ℕ)
+        → k < n → with_range map a n new (a + k) ≡ new k }
     ensures below { (map new : ℕ → ℕ) (a n x : ℕ) → x < a → with_range map a n new x ≡ map x }
     ensures above { (map new : ℕ → ℕ) (a n x : ℕ) → a + n ≤ x → with_range map a n new x ≡ map x }
 {}
@@ -18,7 +19,8 @@ pub fn loads()
         → number_at (with_range map a n new) b m ≡ number_at map b m }
     ensures behind { (map new : ℕ → ℕ) (a n b m : ℕ) → a + n ≤ b
         → number_at (with_range map a n new) b m ≡ number_at map b m }
-    ensures range_alone { (map other : ℕ → ℕ) (a b n : ℕ) → ((k : ℕ) → k < n → map (a + k) ≡ other (b + k))
+    ensures range_alone { (map other : ℕ → ℕ) (a b n : ℕ)
+        → ((k : ℕ) → k < n → map (a + k) ≡ other (b + k))
         → number_at map a n ≡ number_at other b n }
     ensures bytes { (map : ℕ → ℕ) (a n k : ℕ) → k < n → ((j : ℕ) → j < n → map (a + j) < 256)
         → byte_of (number_at map a n) k ≡ map (a + k) }
@@ -29,7 +31,8 @@ pub fn loads()
 
 /// A copy reads what was there before it, also where the two ranges overlap, and changes nothing outside its target.
 pub fn copies()
-    ensures inside { (map : ℕ → ℕ) (to from n k : ℕ) → k < n → copied map to from n (to + k) ≡ map (from + k) }
+    ensures inside { (map : ℕ → ℕ) (to from n k : ℕ)
+        → k < n → copied map to from n (to + k) ≡ map (from + k) }
     ensures below { (map : ℕ → ℕ) (to from n x : ℕ) → x < to → copied map to from n x ≡ map x }
     ensures above { (map : ℕ → ℕ) (to from n x : ℕ) → to + n ≤ x → copied map to from n x ≡ map x }
     ensures number { (map : ℕ → ℕ) (to from n : ℕ)
@@ -47,7 +50,8 @@ pub fn cells()
         → with_cells cells a n origin ((a + k) / 4) ≡ origin }
     ensures outside { (cells : ℕ → ℕ) (a n origin cell : ℕ) → ((k : ℕ) → k < n → (a + k) / 4 ≢ cell)
         → with_cells cells a n origin cell ≡ cells cell }
-    ensures one_inside { (cells : ℕ → ℕ) (a origin : ℕ) → with_cell cells a origin (a / 4) ≡ origin }
+    ensures one_inside { (cells : ℕ → ℕ) (a origin : ℕ)
+        → with_cell cells a origin (a / 4) ≡ origin }
     ensures one_outside { (cells : ℕ → ℕ) (a origin cell : ℕ) → cell ≢ a / 4
         → with_cell cells a origin cell ≡ cells cell }
 {}

@@ -18,11 +18,13 @@ pub fn comparisons_are_exact()
     ensures exact { (predicate : Pred) (w v m u k : ℕ) → 1 ≤ w → InRange w v m → InRange w u k
         → IsMaskOf (λ a b. from_bool (holds predicate w a b)) w v m u k 1
         (compare_mask predicate w v m u k) }
-    ensures by_completions { (predicate : Pred) (w v m u k : ℕ) → 1 ≤ w → InRange w v m → InRange w u k
+    ensures by_completions { (predicate : Pred) (w v m u k : ℕ)
+        → 1 ≤ w → InRange w v m → InRange w u k
         → compare_mask predicate w v m u k
         ≡ mask_of (λ a b. from_bool (holds predicate w a b)) w v m u k 1 }
     ensures fits { (predicate : Pred) (w v m u k : ℕ) → compare_mask predicate w v m u k < 2 ^ 1 }
-    ensures agrees { (predicate : Pred) (w v m u k a b c d : ℕ) → 1 ≤ w → InRange w v m → InRange w u k
+    ensures agrees { (predicate : Pred) (w v m u k a b c d : ℕ)
+        → 1 ≤ w → InRange w v m → InRange w u k
         → Completes w v m a → Completes w u k b → Completes w v m c → Completes w u k d
         → Agrees 1 (compare_mask predicate w v m u k)
         (from_bool (holds predicate w a b)) (from_bool (holds predicate w c d)) }

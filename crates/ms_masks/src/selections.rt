@@ -8,7 +8,8 @@ ghost use Rattle.ms_bits.specs.Formulas.{select_mask};
 
 /// The mask of a selection that tries all completions is exact, and it is the only exact one.
 pub fn selection_masks_by_completions()
-    ensures exact { (t n w v m u k : ℕ) → IsSelectMaskOf t n w v m u k (select_mask_of t n w v m u k) }
+    ensures exact { (t n w v m u k : ℕ)
+        → IsSelectMaskOf t n w v m u k (select_mask_of t n w v m u k) }
     ensures fits { (t n w v m u k : ℕ) → select_mask_of t n w v m u k < 2 ^ w }
     ensures unique { (t n w v m u k r s : ℕ) → r < 2 ^ w → s < 2 ^ w
         → IsSelectMaskOf t n w v m u k r → IsSelectMaskOf t n w v m u k s → r ≡ s }
@@ -21,7 +22,8 @@ pub fn selections_are_exact()
         → IsSelectMaskOf t n w v m u k (select_mask t n v m u k) }
     ensures by_completions { (t n w v m u k : ℕ) → InRange 1 t n → InRange w v m → InRange w u k
         → select_mask t n v m u k ≡ select_mask_of t n w v m u k }
-    ensures fits { (t n w v m u k : ℕ) → InRange w v m → InRange w u k → select_mask t n v m u k < 2 ^ w }
+    ensures fits { (t n w v m u k : ℕ)
+        → InRange w v m → InRange w u k → select_mask t n v m u k < 2 ^ w }
     ensures agrees { (t n w v m u k p a b q c d : ℕ) → InRange 1 t n → InRange w v m → InRange w u k
         → Completes 1 t n p → Completes w v m a → Completes w u k b
         → Completes 1 t n q → Completes w v m c → Completes w u k d

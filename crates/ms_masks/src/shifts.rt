@@ -54,7 +54,8 @@ pub fn signed_wrap_by_bits()
         → (fits_signed w (signed w a *ℤ pos (2 ^ amount)) ≡ true)
         ↔ ((j : ℕ) → w - amount ≤ j → j < w
         → bit_at a j ≡ bit_at ((a * 2 ^ amount) % 2 ^ w) (w - 1)) }
-    ensures answers { (flags : Flags) (w a amount : ℕ) → flags.nsw ≡ true → flags.nuw ≡ false → amount < w → a < 2 ^ w
+    ensures answers { (flags : Flags) (w a amount : ℕ) → flags.nsw ≡ true → flags.nuw ≡ false
+        → amount < w → a < 2 ^ w
         → (binary_of Shl flags w a amount ≡ Ok ((a * 2 ^ amount) % 2 ^ w))
         ↔ ((j : ℕ) → w - amount ≤ j → j < w
         → bit_at a j ≡ bit_at ((a * 2 ^ amount) % 2 ^ w) (w - 1)) }

@@ -18,8 +18,10 @@ pub fn unions()
 
 /// A poisoned bit reaches every higher bit by carries, and no lower one.
 pub fn carries()
-    ensures bits { (w s i : ℕ) → s < 2 ^ w → i < w → (bit_at (carry_mask w s) i ≡ 1) ↔ HasBitUpTo s i }
-    ensures of_unions { (m k i : ℕ) → HasBitUpTo (union_mask m k) i ↔ (HasBitUpTo m i ⊎ HasBitUpTo k i) }
+    ensures bits { (w s i : ℕ)
+        → s < 2 ^ w → i < w → (bit_at (carry_mask w s) i ≡ 1) ↔ HasBitUpTo s i }
+    ensures of_unions { (m k i : ℕ)
+        → HasBitUpTo (union_mask m k) i ↔ (HasBitUpTo m i ⊎ HasBitUpTo k i) }
     ensures fits { (w s : ℕ) → s < 2 ^ w → carry_mask w s < 2 ^ w }
 {}
 
@@ -42,7 +44,8 @@ pub fn sums_agree()
 /// The same for any number of operands and any operation that keeps remainders at powers of 2, as an address does: where
 /// the carry mask's bit is 0, all operands are known up to that bit.
 pub fn remainders()
-    ensures known { (w s a c i : ℕ) → s < 2 ^ w → Agrees w s a c → i < w → bit_at (carry_mask w s) i ≡ 0
+    ensures known { (w s a c i : ℕ)
+        → s < 2 ^ w → Agrees w s a c → i < w → bit_at (carry_mask w s) i ≡ 0
         → a % 2 ^ suc i ≡ c % 2 ^ suc i }
     ensures agrees { (w s a c : ℕ)
         → ((i : ℕ) → i < w → bit_at (carry_mask w s) i ≡ 0 → a % 2 ^ suc i ≡ c % 2 ^ suc i)
