@@ -1,8 +1,13 @@
 //! Small types that every other crate is built of: lists, boxes and texts that contracts see by what
-//! they hold, and the names of operations on words with the ways in which a run can trap.
+//! they hold, and words of 1 to 64 bits with the operations on them and the ways in which a run can trap.
 #![tactic(auto)]
 
+mod arithmetic;
+mod bitwise;
 pub mod boxes;
+mod comparisons;
+mod conversions;
+mod division;
 pub mod duplicate;
 pub mod lists;
 pub mod operations;
@@ -11,10 +16,20 @@ pub mod shared;
 mod tests;
 pub mod texts;
 pub mod traps;
+mod twos_complement;
+mod undefined;
+#[cfg(test)]
+mod word_tests;
+pub mod words;
 
+pub use arithmetic::binary;
 pub use boxes::Boxed;
+pub use comparisons::compare;
+pub use conversions::cast;
 pub use duplicate::{Duplicate, NoMemory};
 pub use lists::{Bytes, List, bytes_in_range, words_in_range};
 pub use operations::{BinOp, CastOp, Flags, Pred};
 pub use texts::Text;
 pub use traps::Trap;
+pub use undefined::undef_word;
+pub use words::Word;

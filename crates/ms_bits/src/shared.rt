@@ -5,6 +5,7 @@ use crate::lists::{Bytes, List};
 use crate::operations::{BinOp, CastOp, Flags, Pred};
 use crate::texts::Text;
 use crate::traps::Trap;
+use crate::words::Word;
 
 /// A call of it stands only where `T` may cross threads.
 pub fn is_shared<T: Send + Sync>() {}
@@ -28,4 +29,5 @@ pub fn all_shared() {
     is_shared::<CastOp>();
     is_shared::<Flags>();
     is_shared::<Trap>();
+    is_shared::<Word>();
 }
