@@ -5,6 +5,7 @@ use std::test::Fail;
 
 /// Whether the eight bytes of shadow and the two cells from `base` on are these.
 fn check_shadow(rt: &impl Abort, planes: &Planes, base: u64, shadow: u64, first: u32, second: u32) {
+    assert!(rt; base < 0x8000_0000_0000);
     assert!(rt; planes.covers(base, 8));
     assert!(rt; planes.covers(base, 1));
     assert!(rt; planes.covers(base + 4, 1));
