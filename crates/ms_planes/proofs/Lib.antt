@@ -1,0 +1,6 @@
+pub mod Ranges
+pub mod Numbers
+pub mod Shown
+pub mod Reaches
+pub mod Changes
+pub mod Grows

@@ -1,0 +1,10 @@
+//! The memory of a run: which addresses are allocated, and for each of them a byte, a shadow byte and, by cells of
+//! four bytes, an origin.
+#![tactic(auto)]
+
+mod bytes;
+mod cells;
+mod planes;
+mod words;
+
+pub use planes::Planes;
