@@ -11,6 +11,12 @@ pub mod Control
 pub mod Act
 pub mod Plain
 pub mod Limits
+pub mod Poisoned
+pub mod Masks
+pub mod Uses
+pub mod Shadow
+pub mod LowEqual
+pub mod Faithful
 pub mod First
 pub mod ExampleParts
 pub mod ExampleCalls
