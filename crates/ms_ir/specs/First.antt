@@ -14,11 +14,12 @@ use Rattle.ms_ir.specs.declared.syntax.Op.TheVariants as op
 use Rattle.ms_ir.specs.declared.syntax.Inst.{Inst}
 use Rattle.ms_ir.specs.declared.syntax.Module.{Module}
 
--- a value as it is written: a number without a sign, a number with one, or the result at a place, counted from 0
+-- a value as it is written: a number without a sign, a number with one, the result at a place, counted from 0, or `undef`
 pub data Word : Type 0 where
   Whole : (number : ℕ) → Word
   Minus : (number : ℕ) → Word
   Earlier : (place : ℕ) → Word
+  Undefined : Word
 
 -- the three operations of the form
 pub data Logic : Type 0 where
@@ -34,11 +35,12 @@ pub data Line : Type 0 where
   Combine : Logic → Word → Word → Line
 
 -- what may stand as a value, where it is told of each earlier result whether it is an alloca's: a number from -2 ^ 31
--- to 2 ^ 32 - 1, but not minus zero, or a result that is no alloca's
+-- to 2 ^ 32 - 1, but not minus zero, a result that is no alloca's, or `undef`
 abbrev pub IsWord : List Bool → Word → Type 0
 IsWord allocas (Whole n) = n < 2 ^ 32
 IsWord allocas (Minus n) = (1 ≤ n) × (n ≤ 2 ^ 31)
 IsWord allocas (Earlier k) = slice_get allocas k ≡ Some false
+IsWord allocas Undefined = Unit {0}
 
 -- what may stand as an address: the result of an alloca
 abbrev pub IsAddress : List Bool → ℕ → Type 0
@@ -77,6 +79,7 @@ abbrev pub word_text : Word → List ℕ
 word_text (Whole n) = decimal n
 word_text (Minus n) = codes "-" ++ decimal n
 word_text (Earlier k) = result_text k
+word_text Undefined = codes "undef"
 
 -- the word of an operation
 abbrev pub logic_text : Logic → List ℕ
@@ -111,6 +114,7 @@ abbrev pub word_operand : Word → Operand
 word_operand (Whole n) = operand.Int n
 word_operand (Minus n) = operand.Int (2 ^ 32 - n)
 word_operand (Earlier k) = operand.Local (result_name k)
+word_operand Undefined = operand.Undef
 
 -- no flag is set
 abbrev pub no_flags : Flags
@@ -167,9 +171,10 @@ pub record Lines : Type 0 where
   pub are_lines : AreLines [] lines
   pub returns : IsWord (after_lines [] lines) last
 
--- a module that a text of the first form gives
+-- a module that a text of the first form gives, of no more bytes than a module's file may have
 pub record IsFirst (m : Module) : Type 0 where
   pub of : Lines
+  pub fits : length (whole_text of.lines of.last) ≤ 2 ^ 22
   pub module_is : m ≡ module_of of.lines of.last
 
 -- a text of the first form, and its module

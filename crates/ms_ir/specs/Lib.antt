@@ -17,6 +17,7 @@ pub mod Uses
 pub mod Shadow
 pub mod LowEqual
 pub mod Faithful
+pub mod Roots
 pub mod First
 pub mod ExampleParts
 pub mod ExampleCalls
