@@ -1,0 +1,4 @@
+pub mod Declarations
+pub mod Pass
+pub mod Law
+pub mod FirstNumbers

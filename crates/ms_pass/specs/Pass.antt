@@ -1,0 +1,60 @@
+-- The instrumented form of a module: each instruction between the lists that are inserted round it (after Stepanov and
+-- Serebryany, CGO 2015).
+use Rattle.std.specs.Prelude.{ℕ, ◌+◌, ◌*◌, List, [], ◌∷◌, ◌++◌, Option, Some, None, option_map}
+use Rattle.ms_ir.specs.declared.syntax.Name.{Name}
+use Rattle.ms_ir.specs.declared.syntax.Inst.{Inst}
+use Rattle.ms_ir.specs.declared.syntax.Block.{Block}
+use Rattle.ms_ir.specs.declared.syntax.Func.{Func}
+use Rattle.ms_ir.specs.declared.syntax.Module.{Module}
+use Rattle.ms_ir.specs.Names.{name_eq}
+use Rattle.ms_ir.specs.World.{Here}
+use Rattle.ms_ir.specs.Code.{func_index, one_unmarked, roots_in, over_blocks, over_insts}
+use Rattle.ms_ir.specs.Control.{main_name}
+use Rattle.ms_rules.specs.Tasks.{Code}
+use Rattle.ms_rules.specs.Emit.{Given, Env, emit_lists}
+use Rattle.ms_pass.specs.Declarations.{slot_globals, runtime_declarations}
+
+-- how the values of a function are numbered, and how many they are
+pub record Numbering : Type 0 where
+  pub env : Env
+  pub size : ℕ
+
+-- where the instruction after this one stands
+abbrev pub next_here : Given → Here → Inst → Here
+next_here given h i = record { site = h.site + one_unmarked i; root = h.root + roots_in given.func i; main = h.main }
+
+-- where the instruction after some stands
+abbrev pub here_after : Given → Here → List Inst → Here
+here_after given h is = record { site = h.site + over_insts one_unmarked is; root = h.root + over_insts (roots_in given.func) is; main = h.main }
+
+-- the instructions from a place on to the end of their block
+abbrev pub pass_insts : Given → Env → List Inst → Here → ℕ → Code
+pass_insts given env [] h n = record { code = []; next = n }
+pass_insts given env (i ∷ is) h n =
+    let x = emit_lists given env h i n in let y = pass_insts given env is (next_here given h i) x.next in
+    record { code = x.before ++ (i ∷ (x.after ++ y.code)); next = y.next }
+
+-- the blocks of a function
+abbrev pub pass_blocks : Given → Env → List Block → Here → ℕ → List Block
+pass_blocks given env [] h n = []
+pass_blocks given env (b ∷ bs) h n =
+    let x = pass_insts given env b.insts h n in
+    record b { insts = x.code } ∷ pass_blocks given env bs (here_after given h b.insts) x.next
+
+-- the functions of a module, from one with a place on, given the counts of sites and roots before it
+abbrev pub pass_funcs : Given → (ℕ → Numbering) → List Func → (site root : ℕ) → List Func
+pass_funcs given numbers [] site root = []
+pass_funcs given numbers (f ∷ fs) site root =
+    record f {
+      blocks = pass_blocks given (numbers 0).env f.blocks (record { site = site; root = root; main = name_eq f.name main_name }) (2 * (numbers 0).size + 1);
+    }
+    ∷ pass_funcs given (λ k. numbers (k + 1)) fs (site + over_blocks one_unmarked f.blocks) (root + over_blocks (roots_in given.func) f.blocks)
+
+-- the instrumented form of a module, whose globals and declarations are its own and then those of the runtime
+abbrev pub pass : (ℕ → Numbering) → Module → Module
+pass numbers m = record {
+  types = m.types;
+  globals = m.globals ++ slot_globals;
+  decls = m.decls ++ runtime_declarations;
+  funcs = pass_funcs (record { types = m.types; func = func_index m.funcs }) numbers m.funcs 1 0;
+}

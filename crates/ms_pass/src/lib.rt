@@ -1,0 +1,2 @@
+//! The pass: shadow code is inserted into a module.
+#![tactic(auto)]

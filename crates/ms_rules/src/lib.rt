@@ -1,0 +1,2 @@
+//! The shadow code that is inserted round one instruction.
+#![tactic(auto)]
