@@ -1,0 +1,2 @@
+pub mod SameRuns
+pub mod ExactRules
