@@ -1,2 +1,4 @@
 pub mod SameRuns
 pub mod ExactRules
+pub mod Stripped
+pub mod Numbering

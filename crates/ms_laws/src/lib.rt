@@ -3,3 +3,4 @@
 #![tactic(auto)]
 
 pub mod rules;
+pub mod stripping;
