@@ -2,5 +2,6 @@
 //! definitions stand in `ms_ir`; the lemmas in `proofs/` are there for crates above.
 #![tactic(auto)]
 
+pub mod outputs;
 pub mod rules;
 pub mod stripping;
