@@ -1,2 +1,5 @@
 pub mod Places
 pub mod Marked
+pub mod Owed
+pub mod Built
+pub mod Step
