@@ -1,0 +1,2 @@
+pub mod InsertedNames
+pub mod Words
