@@ -1,0 +1,4 @@
+pub mod InsertedNames
+pub mod Words
+pub mod Results
+pub mod Checks
