@@ -1,1 +1,3 @@
 pub mod InsertedNames
+pub mod Effects
+pub mod Flatten
