@@ -26,7 +26,7 @@ use Rattle.ms_pass.specs.Known.{KnownModule}
 use Rattle.ms_pass.proofs.Places.{drop_step, drop_many, moved, put_plain, put_shadow, here_step, marked_here}
 use Rattle.ms_pass.proofs.Marked.{AllInserted, inserted_marked, tasks_inserted, tasks_more, IsQuiet, GoesOn, reach_step, state_of, through_inst, through_marked}
 use Rattle.ms_pass.proofs.Built.{built_quiet, RangedAfter, uses_ranged, blind_ranged}
-use Rattle.ms_pass.proofs.Names.{name_self}
+use Rattle.ms_rules.proofs.InsertedNames.{name_self, with_here}
 use Rattle.ms_pass.proofs.Owed.{RulesLaw}
 
 -- the same place behind marked instructions
@@ -38,9 +38,6 @@ here_marked s j (i ∷ a) b k g values r =
     ap (λ n. here s j (moved g n g.values)) p
     ∙ here_marked s j a b k.2 (moved g (g.place + 1) g.values) values (drop_step _ g.place i (a ++ b) r)
     ∙ here_step s j g g.values i (a ++ b) r ∙ marked_here s (here s j g) i k.0
-
-own_value : (values : Name → Poisoned) (x : Name) (p : Poisoned) → name_eq x x ≡ true → with_value values x p x ≡ p
-own_value values x p e = ap (λ b. if b then p else values x) e
 
 module _ (laws : RulesLaw) (s : Setting) (numbers : ℕ → Numbering) (m : Module) (known : KnownModule s numbers m) where
   -- both stand at an instruction, with the list before it done, and next is the first number that was free there
@@ -63,7 +60,7 @@ module _ (laws : RulesLaw) (s : Setting) (numbers : ℕ → Numbering) (m : Modu
 
   stands_at : (f : Frame Poisoned) (i : Inst) (is : List Inst) (base : ℕ) → rest_of m f ≡ i ∷ is → 2 * (numbers f.func).size + 1 ≤ base
       → Stands s (numbers f.func).env (numbers f.func).size base (here s m f) i
-  stands_at f i is base e le = record { known = known.known f i is e; one_name = known.one_name f.func; room = le; ranged = known.ranged f i is e }
+  stands_at f i is base e le = record { known = known.known f i is e; one_name = known.one_name f.func; few = known.few f.func; room = le; ranged = known.ranged f i is e }
 
   -- one instruction further in both, with the list after it waiting
   next_follows : (f : Frame Poisoned) (fs : List (Frame Poisoned)) (g : Frame ℕ) (gs : List (Frame ℕ)) (i : Inst) (is : List Inst) (next : ℕ) → AtInst f fs g gs i is next
@@ -175,7 +172,7 @@ module _ (laws : RulesLaw) (s : Setting) (numbers : ℕ → Numbering) (m : Modu
       let z = planes s (here s m f).site ((here s m f).root + count_undefs (operands i.op) + 1) i.op (words_at s f.values (here s m f) i) (counted_at s f.values (here s m f) i w1) x w2 in
       let goes : shadow_moved (shadow_inst by_formulas s m i f fs w) ≡ More (record { frames = put f (Some r) p ∷ fs; world = z }) =
       shadow_does f fs i w w1 (Gives x w2) checks acts ∙ ap (λ y. More (let c : ShadowState = record { frames = put f y p ∷ fs; world = z } in c)) named in
-      sym (ap (λ q. q.mask) (own_value f.values r p (name_self r))) ∙ sound.masks _ goes r cl
+      sym (ap (λ q. q.mask) (with_here f.values r p)) ∙ sound.masks _ goes r cl
 
   -- one instruction with its lists
   inst_step : (f : Frame Poisoned) (fs : List (Frame Poisoned)) (w : World) (g : Frame ℕ) (gs : List (Frame ℕ)) (cells : ℕ → ℕ) (i : Inst) (is : List Inst) (next : ℕ)
