@@ -4,3 +4,4 @@ pub mod Owed
 pub mod Built
 pub mod Step
 pub mod RangedKept
+pub mod Whole
