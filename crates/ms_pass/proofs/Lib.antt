@@ -1,1 +1,2 @@
-mod RangedKept
+pub mod RangedKept
+pub mod FirstKnown
