@@ -2,6 +2,8 @@ pub mod Places
 pub mod Marked
 pub mod Owed
 pub mod Built
-pub mod Step
 pub mod RangedKept
+pub mod Step
 pub mod Whole
+pub mod FirstKnown
+pub mod FaithfulFirst

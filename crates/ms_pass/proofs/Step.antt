@@ -22,11 +22,12 @@ use Rattle.ms_rules.specs.Emit.{Env, Emitted, emit_lists, before_tasks, after_ta
 use Rattle.ms_rules.specs.Match.{Matches, RangedWorld, RangedValues, Stands, given_of, words_at, checked_at, counted_at, acted_at, after_result, before_code, BeforeLaw, Checked, Failed, Due, AfterLaw}
 use Rattle.ms_pass.specs.Pass.{Numbering, next_here, pass_insts, pass}
 use Rattle.ms_pass.specs.Law.{AllMarked, FramesFollow, TopFollows, FollowsBy, Follows, Steps, CleanFrames, Sound, RangedFrames, Ranged}
-use Rattle.ms_pass.specs.Known.{KnownModule}
+use Rattle.ms_pass.specs.Known.{KnownModule, Kept}
 use Rattle.ms_pass.proofs.Places.{drop_step, drop_many, moved, put_plain, put_shadow, here_step, marked_here}
 use Rattle.ms_pass.proofs.Marked.{AllInserted, inserted_marked, tasks_inserted, tasks_more, IsQuiet, GoesOn, reach_step, state_of, through_inst, through_marked}
 use Rattle.ms_pass.proofs.Built.{built_quiet, RangedAfter, uses_ranged, blind_ranged}
 use Rattle.ms_rules.proofs.InsertedNames.{name_self, with_here}
+use Rattle.ms_pass.proofs.RangedKept.{ranged_kept}
 use Rattle.ms_pass.proofs.Owed.{RulesLaw}
 
 -- the same place behind marked instructions
@@ -270,12 +271,6 @@ module _ (laws : RulesLaw) (s : Setting) (numbers : ℕ → Numbering) (m : Modu
       → Steps s numbers m (shadow_step by_formulas s m c) (plain_step s (pass numbers m) d)
   step_law c d follows ranged sound = frames_step c.frames c.world d.frames d.slots d.world follows ranged.frames ranged.world sound
 
-  -- what holds from step to step
-  pub record Kept (inv : ShadowState → Type 0) : Type 0 where
-    pub step : (c c' : ShadowState) → inv c → shadow_step by_formulas s m c ≡ More c' → inv c'
-    pub clean : (c : ShadowState) → inv c → CleanFrames s numbers m c.frames
-    pub ranged : (c : ShadowState) → inv c → Ranged c
-
   steps_answer : (n : ℕ) (r : Stepped ShadowState) (t : Stepped PlainState) → Steps s numbers m r t
       → ((c : ShadowState) (d : PlainState) → Follows s numbers m c d → r ≡ More c → run (λ d. d.world) (plain_step s (pass numbers m)) n d ≡ run (λ c. c.world) (shadow_step by_formulas s m) n c)
       → go_on (run (λ d. d.world) (plain_step s (pass numbers m)) n) t ≡ go_on (run (λ c. c.world) (shadow_step by_formulas s m) n) r
@@ -290,10 +285,11 @@ module _ (laws : RulesLaw) (s : Setting) (numbers : ℕ → Numbering) (m : Modu
   spent (f ∷ fs) w (g ∷ gs) cells z h = h.0.sees «end».Spent
 
   -- the whole run, for every number of steps
-  pub runs_agree : (inv : ShadowState → Type 0) → Kept inv → (n : ℕ) (c : ShadowState) (d : PlainState) → inv c → Follows s numbers m c d
+  pub runs_agree : (inv : ShadowState → Type 0) → Kept s numbers m inv → (n : ℕ) (c : ShadowState) (d : PlainState) → inv c → Ranged c → Follows s numbers m c d
       → run (λ d. d.world) (plain_step s (pass numbers m)) n d ≡ run (λ c. c.world) (shadow_step by_formulas s m) n c
-  runs_agree inv kept zero c d i f = spent c.frames c.world d.frames d.slots d.world f
-  runs_agree inv kept (suc n) c d i f =
+  runs_agree inv kept zero c d i r f = spent c.frames c.world d.frames d.slots d.world f
+  runs_agree inv kept (suc n) c d i r f =
       steps_answer n (shadow_step by_formulas s m c) (plain_step s (pass numbers m) d)
-      (step_law c d f (kept.ranged c i) (record { masks = λ c' e. kept.clean c' (kept.step c c' i e) }))
-      (λ c' d' g e. runs_agree inv kept n c' d' (kept.step c c' i e) g)
+      (step_law c d f r (record { masks = λ c' e. kept.clean c' (kept.step c c' i e) }))
+      (λ c' d' g e. runs_agree inv kept n c' d' (kept.step c c' i e)
+      (ranged_kept s numbers m (λ f i is e. (known.known f i is e, known.ranged f i is e)) c c' r e) g)

@@ -30,11 +30,10 @@ use Rattle.ms_rules.specs.Match.{Matches, RangedWorld, held, given_of}
 use Rattle.ms_pass.specs.Pass.{Numbering, next_here, here_after, pass_insts, pass_blocks, pass_funcs, pass}
 use Rattle.ms_pass.specs.Declarations.{slot_globals, runtime_declarations}
 use Rattle.ms_pass.specs.Law.{AllMarked, TopFollows, Follows, CleanFrames, Ranged}
-use Rattle.ms_pass.specs.Known.{KnownModule}
+use Rattle.ms_pass.specs.Known.{shadow_start, IsTaken}
 use Rattle.ms_pass.proofs.Marked.{inserted_marked, tasks_inserted}
 use Rattle.ms_pass.proofs.Owed.{RulesLaw}
-use Rattle.ms_pass.proofs.Step.{Kept, runs_agree}
-use Rattle.ms_pass.proofs.RangedKept.{ranged_kept}
+use Rattle.ms_pass.proofs.Step.{runs_agree}
 use Rattle.ms_laws.proofs.ExactRules.{computed}
 use Rattle.ms_laws.proofs.Stripped.{setting_same, start_same, frame_same, insts_stripped}
 use Rattle.ms_laws.proofs.Numbering.{here_agrees}
@@ -142,9 +141,6 @@ no_origin env x = by_number (env.number x) (env.clean x)
     by_number (Some v) false = refl
     by_number None b = refl
 
-abbrev pub shadow_start : Module → Setup → ShadowState
-shadow_start m setup = record { frames = start_frame shadow_reading m ∷ []; world = start_world m setup }
-
 abbrev pub plain_start : Module → Setup → PlainState
 plain_start m setup = record { frames = start_frame plain_reading m ∷ []; slots = λ a. 0; world = start_world m setup }
 
@@ -178,28 +174,18 @@ starts numbers m setup e =
     root_none : (y : ℕ) → y + 0 + 0 ≡ 0 + y
     root_none y = omega arith
 
--- ---- the theorem: inv is what the states of the shadow run keep, if it is to tell that clean values have the mask 0
-pub faithful_pass : RulesLaw → (numbers : ℕ → Numbering) (m : Module) → strip (pass numbers m) ≡ m
-    → ((setup : Setup) → Fair setup → KnownModule (setting m setup) numbers m)
-    → ((setup : Setup) → Fair setup → RangedWorld (start_world m setup))
-    → (inv : Setup → ShadowState → Type 0)
-    → ((setup : Setup) → Fair setup → inv setup (shadow_start m setup))
-    → ((setup : Setup) → Fair setup → (c c' : ShadowState) → inv setup c → shadow_step by_formulas (setting m setup) m c ≡ More c' → inv setup c')
-    → ((setup : Setup) → Fair setup → (c : ShadowState) → inv setup c → CleanFrames (setting m setup) numbers m c.frames)
-    → Faithful m (pass numbers m)
-faithful_pass laws numbers m e known placed inv first step masks = record { strips = e; runs = runs }
+-- ---- the theorem
+
+pub faithful_pass : RulesLaw → (numbers : ℕ → Numbering) (m : Module) (inv : Setup → ShadowState → Type 0) → IsTaken numbers m inv → Faithful m (pass numbers m)
+faithful_pass laws numbers m inv taken = record { strips = strips; runs = runs }
   where
-    kept : (setup : Setup) (fair : Fair setup) → Kept laws (setting m setup) numbers m (known setup fair) (λ c. inv setup c × Ranged c)
-    kept setup fair = record {
-      step = λ c c' i g. (step setup fair c c' i.0 g, ranged_kept (setting m setup) numbers m (λ f i is r. ((known setup fair).known f i is r, (known setup fair).ranged f i is r)) c c' i.1 g);
-      clean = λ c i. masks setup fair c i.0;
-      ranged = λ c i. i.1;
-    }
+    strips : strip (pass numbers m) ≡ m
+    strips = strip_pass numbers m taken.strips
 
     runs : (setup : Setup) → Fair setup → plain (pass numbers m) setup ≡ shadow m setup
     runs setup fair =
-        (λ i. run (λ d. d.world) (plain_step (setting_same m (pass numbers m) e setup i) (pass numbers m)) setup.steps
-        (record { frames = frame_same plain_reading m (pass numbers m) e i ∷ []; slots = λ a. 0; world = start_same m (pass numbers m) e setup i }))
-        ∙ runs_agree laws (setting m setup) numbers m (known setup fair) (λ c. inv setup c × Ranged c) (kept setup fair) setup.steps (shadow_start m setup) (plain_start m setup)
-        (first setup fair, record { frames = (λ x. omega arith, tt); world = placed setup fair }) (starts numbers m setup e)
+        (λ i. run (λ d. d.world) (plain_step (setting_same m (pass numbers m) strips setup i) (pass numbers m)) setup.steps
+        (record { frames = frame_same plain_reading m (pass numbers m) strips i ∷ []; slots = λ a. 0; world = start_same m (pass numbers m) strips setup i }))
+        ∙ runs_agree laws (setting m setup) numbers m (taken.known setup fair) (inv setup) (taken.kept setup fair) setup.steps (shadow_start m setup) (plain_start m setup)
+        (taken.first setup fair) (record { frames = (λ x. omega arith, tt); world = taken.placed setup fair }) (starts numbers m setup strips)
         ∙ sym (computed m setup)
