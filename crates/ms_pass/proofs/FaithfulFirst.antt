@@ -1,10 +1,10 @@
 -- The instrumented form of a module of the first form is faithful.
-use Rattle.std.proofs.Common.{◌≡◌, ◌≢◌, ℕ, ◌<◌, ◌^◌, List, [], ◌∷◌, ◌++◌, Bool, true, false, refl, sym, ap, ◌∙◌, subst, arith}
+use Rattle.std.proofs.Common.{◌≡◌, ◌≢◌, ℕ, ◌<◌, ◌^◌, List, [], ◌∷◌, ◌++◌, length, Bool, true, false, refl, sym, ap, ◌∙◌, subst, arith}
 use Rattle.std.specs.Prelude.{filter}
 use Rattle.ms_ir.specs.declared.syntax.Module.{Module}
 use Rattle.ms_ir.specs.declared.runs.Setup.{Setup}
 use Rattle.ms_ir.specs.Code.{insts_at, is_unmarked, strip}
-use Rattle.ms_ir.specs.First.{Word, Line, Alloca, Load, Store, Combine, after_line, lines_insts, ret_inst, main_module, module_of, IsFirst}
+use Rattle.ms_ir.specs.First.{Word, Line, Alloca, Load, Store, Combine, after_line, line_inst, lines_insts, ret_inst, main_module, module_of, IsFirst}
 use Rattle.ms_ir.specs.Plain.{start_world, setting}
 use Rattle.ms_ir.specs.World.{Setting}
 use Rattle.ms_ir.specs.Control.{Frame}
@@ -22,10 +22,10 @@ use Rattle.ms_pass.proofs.Whole.{faithful_pass}
 
 lines_unmarked : (allocas : List Bool) (lines : List Line) (last : Word) → filter is_unmarked (lines_insts allocas lines ++ ret_inst last ∷ []) ≡ lines_insts allocas lines ++ ret_inst last ∷ []
 lines_unmarked allocas [] last = refl
-lines_unmarked allocas (Alloca ∷ lines) last = ap (λ l. _ ∷ l) (lines_unmarked (after_line allocas Alloca) lines last)
-lines_unmarked allocas (Load k ∷ lines) last = ap (λ l. _ ∷ l) (lines_unmarked (after_line allocas (Load k)) lines last)
-lines_unmarked allocas (Store v k ∷ lines) last = ap (λ l. _ ∷ l) (lines_unmarked (after_line allocas (Store v k)) lines last)
-lines_unmarked allocas (Combine o v u ∷ lines) last = ap (λ l. _ ∷ l) (lines_unmarked (after_line allocas (Combine o v u)) lines last)
+lines_unmarked allocas (Alloca ∷ lines) last = ap (λ l. line_inst (length allocas) Alloca ∷ l) (lines_unmarked (after_line allocas Alloca) lines last)
+lines_unmarked allocas (Load k ∷ lines) last = ap (λ l. line_inst (length allocas) (Load k) ∷ l) (lines_unmarked (after_line allocas (Load k)) lines last)
+lines_unmarked allocas (Store v k ∷ lines) last = ap (λ l. line_inst (length allocas) (Store v k) ∷ l) (lines_unmarked (after_line allocas (Store v k)) lines last)
+lines_unmarked allocas (Combine o v u ∷ lines) last = ap (λ l. line_inst (length allocas) (Combine o v u) ∷ l) (lines_unmarked (after_line allocas (Combine o v u)) lines last)
 
 module_strips : (lines : List Line) (last : Word) → strip (module_of lines last) ≡ module_of lines last
 module_strips lines last = ap main_module (lines_unmarked [] lines last)
@@ -51,12 +51,12 @@ first_taken m first = record {
   };
   placed = λ setup fair. first_placed m first setup;
   first = λ setup fair. tt;
-  kept = λ setup fair. record { step = λ c c' i e. tt; clean = λ c i. none c.frames };
+  kept = λ setup fair. record { step = λ c c' i e. tt; clean = λ c i. none (setting m setup) c.frames };
 }
   where
-    none : {s : Setting} (fs : List (Frame Poisoned)) → CleanFrames s (λ f. first_numbering (size_of_first m)) m fs
-    none [] = tt
-    none (f ∷ fs) = λ x e. absurd (impossible e)
+    none : (s : Setting) (fs : List (Frame Poisoned)) → CleanFrames s (λ f. first_numbering (size_of_first m)) m fs
+    none s [] = tt
+    none s (f ∷ fs) = λ x e. absurd (impossible e)
       where
         impossible : false ≡ true → ⊥
         impossible e = grind arith
