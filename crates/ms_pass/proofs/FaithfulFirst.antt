@@ -14,7 +14,7 @@ use Rattle.ms_ir.specs.Faithful.{Fair, Faithful}
 use Rattle.ms_rules.specs.Match.{RangedWorld}
 use Rattle.ms_pass.specs.Pass.{Numbering, pass}
 use Rattle.ms_pass.specs.Law.{CleanFrames}
-use Rattle.ms_pass.specs.Known.{KnownModule, Kept, IsTaken}
+use Rattle.ms_pass.specs.Known.{IsTaken}
 use Rattle.ms_pass.specs.FirstNumbers.{first_numbering, first_pass}
 use Rattle.ms_pass.proofs.FirstKnown.{first_known, first_one_name, first_few, size_of_first}
 use Rattle.ms_pass.proofs.Owed.{RulesLaw}
@@ -40,7 +40,7 @@ first_placed : (m : Module) → IsFirst m → (setup : Setup) → RangedWorld (s
 first_placed m first setup = subst (λ k. RangedWorld (start_world k setup)) (sym first.module_is) (module_placed first.of.lines first.of.last setup)
 
 -- nothing is known to be clean, so nothing is asked of a state
-pub first_taken : (m : Module) → IsFirst m → IsTaken (λ f. first_numbering (size_of_first m)) m (λ setup c. Unit {0})
+pub first_taken : (m : Module) → IsFirst m → IsTaken (λ f. first_numbering (size_of_first m)) m
 first_taken m first = record {
   strips = first_strips m first;
   known = λ setup fair. record {
@@ -50,8 +50,7 @@ first_taken m first = record {
     few = λ k. first_few (size_of_first m);
   };
   placed = λ setup fair. first_placed m first setup;
-  first = λ setup fair. tt;
-  kept = λ setup fair. record { step = λ c c' i e. tt; clean = λ c i. none (setting m setup) c.frames };
+  clean = λ setup fair. record { masks = λ n c e. none (setting m setup) c.frames };
 }
   where
     none : (s : Setting) (fs : List (Frame Poisoned)) → CleanFrames s (λ f. first_numbering (size_of_first m)) m fs
@@ -62,4 +61,4 @@ first_taken m first = record {
         impossible e = grind arith
 
 pub faithful_first : RulesLaw → (m : Module) → IsFirst m → Faithful m (first_pass m)
-faithful_first laws m first = faithful_pass laws (λ f. first_numbering (size_of_first m)) m (λ setup c. Unit {0}) (first_taken m first)
+faithful_first laws m first = faithful_pass laws (λ f. first_numbering (size_of_first m)) m (first_taken m first)

@@ -22,7 +22,7 @@ use Rattle.ms_rules.specs.Emit.{Env, Emitted, emit_lists, before_tasks, after_ta
 use Rattle.ms_rules.specs.Match.{Matches, RangedWorld, RangedValues, Stands, given_of, words_at, checked_at, counted_at, acted_at, after_result, before_code, BeforeLaw, Checked, Failed, Due, AfterLaw}
 use Rattle.ms_pass.specs.Pass.{Numbering, next_here, pass_insts, pass}
 use Rattle.ms_pass.specs.Law.{AllMarked, FramesFollow, TopFollows, FollowsBy, Follows, Steps, CleanFrames, Sound, RangedFrames, Ranged}
-use Rattle.ms_pass.specs.Known.{KnownModule, Kept}
+use Rattle.ms_pass.specs.Known.{KnownModule, further, states_after, CleanRun}
 use Rattle.ms_pass.proofs.Places.{drop_step, drop_many, moved, put_plain, put_shadow, here_step, marked_here}
 use Rattle.ms_pass.proofs.Marked.{AllInserted, inserted_marked, tasks_inserted, tasks_more, IsQuiet, GoesOn, reach_step, state_of, through_inst, through_marked}
 use Rattle.ms_pass.proofs.Built.{built_quiet, RangedAfter, uses_ranged, blind_ranged}
@@ -39,6 +39,17 @@ here_marked s j (i ∷ a) b k g values r =
     ap (λ n. here s j (moved g n g.values)) p
     ∙ here_marked s j a b k.2 (moved g (g.place + 1) g.values) values (drop_step _ g.place i (a ++ b) r)
     ∙ here_step s j g g.values i (a ++ b) r ∙ marked_here s (here s j g) i k.0
+
+-- what the states of a shadow run have, from step to step, if clean values have the mask 0 there
+pub record Kept (s : Setting) (numbers : ℕ → Numbering) (m : Module) (inv : ShadowState → Type 0) : Type 0 where
+  pub step : (c c' : ShadowState) → inv c → shadow_step by_formulas s m c ≡ More c' → inv c'
+  pub clean : (c : ShadowState) → inv c → CleanFrames s numbers m c.frames
+
+pub clean_kept : (s : Setting) (numbers : ℕ → Numbering) (m : Module) → Kept s numbers m (CleanRun s numbers m)
+clean_kept s numbers m = record {
+  step = λ c c' k e. record { masks = λ n c2 f. k.masks (suc n) c2 (ap (further (states_after s m n)) e ∙ f) };
+  clean = λ c k. k.masks 0 c refl;
+}
 
 module _ (laws : RulesLaw) (s : Setting) (numbers : ℕ → Numbering) (m : Module) (known : KnownModule s numbers m) where
   -- both stand at an instruction, with the list before it done, and next is the first number that was free there
@@ -293,3 +304,7 @@ module _ (laws : RulesLaw) (s : Setting) (numbers : ℕ → Numbering) (m : Modu
       (step_law c d f r (record { masks = λ c' e. kept.clean c' (kept.step c c' i e) }))
       (λ c' d' g e. runs_agree inv kept n c' d' (kept.step c c' i e)
       (ranged_kept s numbers m (λ f i is e. (known.known f i is e, known.ranged f i is e)) c c' r e) g)
+
+  pub clean_runs_agree : (n : ℕ) (c : ShadowState) (d : PlainState) → CleanRun s numbers m c → Ranged c → Follows s numbers m c d
+      → run (λ d. d.world) (plain_step s (pass numbers m)) n d ≡ run (λ c. c.world) (shadow_step by_formulas s m) n c
+  clean_runs_agree n c d k r f = runs_agree (CleanRun s numbers m) (clean_kept s numbers m) n c d k r f

@@ -33,7 +33,7 @@ use Rattle.ms_pass.specs.Law.{AllMarked, TopFollows, Follows, CleanFrames, Range
 use Rattle.ms_pass.specs.Known.{shadow_start, IsTaken}
 use Rattle.ms_pass.proofs.Marked.{inserted_marked, tasks_inserted}
 use Rattle.ms_pass.proofs.Owed.{RulesLaw}
-use Rattle.ms_pass.proofs.Step.{runs_agree}
+use Rattle.ms_pass.proofs.Step.{clean_runs_agree}
 use Rattle.ms_laws.proofs.ExactRules.{computed}
 use Rattle.ms_laws.proofs.Stripped.{setting_same, start_same, frame_same, insts_stripped}
 use Rattle.ms_laws.proofs.Numbering.{here_agrees}
@@ -176,8 +176,8 @@ starts numbers m setup e =
 
 -- ---- the theorem
 
-pub faithful_pass : RulesLaw → (numbers : ℕ → Numbering) (m : Module) (inv : Setup → ShadowState → Type 0) → IsTaken numbers m inv → Faithful m (pass numbers m)
-faithful_pass laws numbers m inv taken = record { strips = strips; runs = runs }
+pub faithful_pass : RulesLaw → (numbers : ℕ → Numbering) (m : Module) → IsTaken numbers m → Faithful m (pass numbers m)
+faithful_pass laws numbers m taken = record { strips = strips; runs = runs }
   where
     strips : strip (pass numbers m) ≡ m
     strips = strip_pass numbers m taken.strips
@@ -186,6 +186,6 @@ faithful_pass laws numbers m inv taken = record { strips = strips; runs = runs }
     runs setup fair =
         (λ i. run (λ d. d.world) (plain_step (setting_same m (pass numbers m) strips setup i) (pass numbers m)) setup.steps
         (record { frames = frame_same plain_reading m (pass numbers m) strips i ∷ []; slots = λ a. 0; world = start_same m (pass numbers m) strips setup i }))
-        ∙ runs_agree laws (setting m setup) numbers m (taken.known setup fair) (inv setup) (taken.kept setup fair) setup.steps (shadow_start m setup) (plain_start m setup)
-        (taken.first setup fair) (record { frames = (λ x. omega arith, tt); world = taken.placed setup fair }) (starts numbers m setup strips)
+        ∙ clean_runs_agree laws (setting m setup) numbers m (taken.known setup fair) setup.steps (shadow_start m setup) (plain_start m setup)
+        (taken.clean setup fair) (record { frames = (λ x. omega arith, tt); world = taken.placed setup fair }) (starts numbers m setup strips)
         ∙ sym (computed m setup)
