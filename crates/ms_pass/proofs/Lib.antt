@@ -7,3 +7,4 @@ pub mod Step
 pub mod Whole
 pub mod FirstKnown
 pub mod FaithfulFirst
+pub mod RulesHold
