@@ -253,9 +253,9 @@ through_marked s j h (i ∷ a) b m g gs cells w f r q =
     (act_marked s h i.op (words_of s g.values (operands i.op)) cells w) (through s j (a ++ b)) (run_marked s h a)
     (λ u z. through s j b (state_of (moved g (g.place + length (i ∷ a)) u.names) gs u.slots z)) (AllInserted a) (first q)
     (λ names z more.
-      through_marked s j h a b m.2 (moved g (g.place + 1) names) gs (slots_after i.op (words_of s g.values (operands i.op)) cells) z
-      (here_step s j g names i (a ++ b) r ∙ ap (λ x. next_here (given_of s) x i) f ∙ marked_here s h i m.0) (drop_step _ g.place i (a ++ b) r) more
-      ∙ ap (λ n. reach_step (run_marked s h a (record { names = names; slots = slots_after i.op (words_of s g.values (operands i.op)) cells }) z) (λ u z. through s j b (state_of (moved g n u.names) gs u.slots z))) places)
+    through_marked s j h a b m.2 (moved g (g.place + 1) names) gs (slots_after i.op (words_of s g.values (operands i.op)) cells) z
+    (here_step s j g names i (a ++ b) r ∙ ap (λ x. next_here (given_of s) x i) f ∙ marked_here s h i m.0) (drop_step _ g.place i (a ++ b) r) more
+    ∙ ap (λ n. reach_step (run_marked s h a (record { names = names; slots = slots_after i.op (words_of s g.values (operands i.op)) cells }) z) (λ u z. through s j b (state_of (moved g n u.names) gs u.slots z))) places)
   where
     places : g.place + 1 + length a ≡ g.place + length (i ∷ a)
     places = omega arith
