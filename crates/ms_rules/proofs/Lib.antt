@@ -2,3 +2,5 @@ pub mod InsertedNames
 pub mod Words
 pub mod Results
 pub mod Checks
+pub mod Defined
+pub mod DefineBinary
