@@ -4,3 +4,4 @@ pub mod Results
 pub mod Checks
 pub mod Defined
 pub mod DefineBinary
+pub mod DefineLoad
