@@ -5,3 +5,7 @@ pub mod Checks
 pub mod Defined
 pub mod DefineBinary
 pub mod DefineLoad
+pub mod Effects
+pub mod Flatten
+pub mod Marked
+pub mod TaskNames
