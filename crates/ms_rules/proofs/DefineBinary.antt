@@ -31,8 +31,8 @@ use Rattle.ms_rules.specs.Tasks.{mask_name, origin_name, Values, Reach, Went, do
 use Rattle.ms_rules.specs.Emit.{Env, Tracked, tracked, tracked_at, mask_type, binary_tasks, define_tasks, KnownName, KnownOperands, OneName}
 use Rattle.ms_rules.specs.Match.{Matches, RangedValues}
 use Rattle.ms_rules.proofs.InsertedNames.{own_not_msan, with_other}
-use Rattle.ms_rules.proofs.Words.{ap₃, word_less, Holds, tracked_holds, word_same, own_agrees, mask_agrees}
-use Rattle.ms_rules.proofs.Results.{Defines, defines_own, matches_set}
+use Rattle.ms_rules.proofs.OperandWords.{ap₃, word_less, Holds, tracked_holds, word_same, own_agrees, mask_agrees}
+use Rattle.ms_rules.proofs.MatchedNames.{Defines, defines_own, matches_set}
 use Rattle.ms_rules.proofs.Defined.{Defined, Fine, origin_first}
 
 -- the operations whose masks are computed here

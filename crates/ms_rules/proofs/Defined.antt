@@ -18,8 +18,8 @@ use Rattle.ms_rules.specs.Tasks.{mask_name, origin_name, Task, Values, Reach, We
 use Rattle.ms_rules.specs.Emit.{Env, local_mask, local_origin}
 use Rattle.ms_rules.specs.Match.{held, Matches, after_result}
 use Rattle.ms_rules.proofs.InsertedNames.{mask_not_origin, with_here, with_other}
-use Rattle.ms_rules.proofs.Words.{mask_at, origin_at}
-use Rattle.ms_rules.proofs.Results.{Defines}
+use Rattle.ms_rules.proofs.OperandWords.{mask_at, origin_at}
+use Rattle.ms_rules.proofs.MatchedNames.{Defines}
 
 -- the words of an operation's operands, and what it comes to
 abbrev pub words_for : Setting → (Name → Poisoned) → Here → Op → List Poisoned

@@ -1,7 +1,7 @@
 pub mod InsertedNames
-pub mod Words
-pub mod Results
-pub mod Checks
+pub mod OperandWords
+pub mod MatchedNames
+pub mod CheckTasks
 pub mod Defined
 pub mod DefineBinary
 pub mod DefineLoad
@@ -9,3 +9,4 @@ pub mod Effects
 pub mod Flatten
 pub mod Marked
 pub mod TaskNames
+pub mod DefineResults
