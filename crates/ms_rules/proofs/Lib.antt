@@ -10,3 +10,4 @@ pub mod Flatten
 pub mod Marked
 pub mod TaskNames
 pub mod DefineResults
+pub mod PlaneTasks
