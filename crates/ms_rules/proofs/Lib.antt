@@ -1,8 +1,13 @@
 pub mod InsertedNames
+pub mod OperandWords
+pub mod MatchedNames
+pub mod CheckTasks
+pub mod Defined
+pub mod DefineBinary
+pub mod DefineLoad
 pub mod Effects
 pub mod Flatten
 pub mod Marked
 pub mod TaskNames
-pub mod Words
-pub mod Results
-pub mod Checks
+pub mod DefineResults
+pub mod PlaneTasks

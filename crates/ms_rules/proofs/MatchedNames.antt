@@ -11,7 +11,7 @@ use Rattle.ms_rules.specs.Tasks.{mask_name, origin_name, msan_name, Values, Same
 use Rattle.ms_rules.specs.Emit.{Env, local_mask, local_origin, KnownName, OneName}
 use Rattle.ms_rules.specs.Match.{held, Matches}
 use Rattle.ms_rules.proofs.InsertedNames.{own_not_msan, own_below, mask_name_one, origin_name_one, mask_not_origin, name_sound, name_self, mask_below, origin_below, with_here, with_other}
-use Rattle.ms_rules.proofs.Words.{mask_at, origin_at}
+use Rattle.ms_rules.proofs.OperandWords.{mask_at, origin_at}
 
 -- what a name holds elsewhere
 held_if : (f g : Name → ℕ) (b : Bool) (n : Name) → f n ≡ g n

@@ -22,7 +22,7 @@ use Rattle.ms_ir.specs.Masks.{word_at}
 use Rattle.ms_ir.specs.Uses.{Use, Word, Bytes, Line, type_at, check_use, check_uses}
 use Rattle.ms_rules.specs.Tasks.{Expr, Leaf, Turn, Task, Values, Reach, Went, Over, eval, eval_all, parts, task_effect, do_tasks, marked_next}
 use Rattle.ms_rules.specs.Emit.{Tracked, tracked_at, is_zero, widened, mask_of, check_task, use_tasks, check_tasks}
-use Rattle.ms_rules.proofs.Words.{ap₃, Holds, word_less, mod_once}
+use Rattle.ms_rules.proofs.OperandWords.{ap₃, Holds, word_less, mod_once}
 
 -- ---- a mask as a word of 64 bits
 
