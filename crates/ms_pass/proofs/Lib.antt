@@ -7,4 +7,5 @@ pub mod Step
 pub mod Whole
 pub mod FirstKnown
 pub mod FaithfulFirst
+pub mod BeforeInst
 pub mod RulesHold
