@@ -12,3 +12,4 @@ pub mod TaskNames
 pub mod DefineResults
 pub mod PlaneTasks
 pub mod After
+pub mod Before
