@@ -135,7 +135,7 @@ module _ (s : Setting) (h : Here) (names : Name → ℕ) (cells : ℕ → ℕ) (
   mask_done _ l w = absurd l
 
 -- an operation's answer is a result or a trap
-gives_does : (site : ℕ) (r : Result ℕ Trap) (w u : World) → gives site r w ≡ Does u → ⊥
+pub gives_does : (site : ℕ) (r : Result ℕ Trap) (w u : World) → gives site r w ≡ Does u → ⊥
 gives_does site (Ok n) w u e = grind arith
 gives_does site (Err t) w u e = grind arith
 

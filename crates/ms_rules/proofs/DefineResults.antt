@@ -28,7 +28,7 @@ use Rattle.ms_rules.proofs.DefineBinary.{binary_done}
 use Rattle.ms_rules.proofs.DefineLoad.{load_done}
 
 -- what an 'alloca' and a 'store' never come to
-alloca_does : (s : Setting) (site n : ℕ) (w u : World) → alloca s site n w ≡ Does u → ⊥
+pub alloca_does : (s : Setting) (site n : ℕ) (w u : World) → alloca s site n w ≡ Does u → ⊥
 alloca_does s site n w u e = by_fits (fits Stack n w) e
   where
     by_fits : (b : Bool) → (if b then Gives (next_base Stack w) (make_unset s.fill Stack n w) else traps trap.Stack site w) ≡ Does u → ⊥

@@ -11,3 +11,5 @@ pub mod Marked
 pub mod TaskNames
 pub mod DefineResults
 pub mod PlaneTasks
+pub mod After
+pub mod Before

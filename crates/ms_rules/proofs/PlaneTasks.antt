@@ -102,15 +102,15 @@ write_good site a n mask w r g false e = ap (λ b. if b then Does (set_shadow a 
 write_good site a zero mask w r g true e = ap Does (none_changed a (byte_of mask) w)
 write_good site a (suc n) mask w r g true e = absurd (false≢true (sym (good_slot w a (suc n) r (λ z. grind arith) g) ∙ e))
 
+abbrev pub store_tasks : Ty → Tracked → Tracked → (site : ℕ) → List Task
+store_tasks t x a site =
+    Puts (mask_type t) (mask_of x) (shadow_address (word_of a))
+    ∷ Calls None function.StoreOrigin ((Ptr, word_of a) ∷ (Int 64, widened (width_of t) (mask_of x)) ∷ (Int 32, origin_of x) ∷ (Int 32, number site) ∷ [])
+    ∷ []
+
 module _ (s : Setting) (names : Name → ℕ) (t : Ty) (x a : Tracked) (p q : Poisoned) (narrow : width_of t ≤ 64)
     (hx : operand_word s names (width_of t) x.mask ≡ p.mask) (ho : p.mask ≢ 0 → operand_word s names 32 x.origin ≡ p.origin)
     (ha : operand_word s names 64 a.operand ≡ q.value) where
-  abbrev pub store_tasks : (site : ℕ) → List Task
-  store_tasks site =
-      Puts (mask_type t) (mask_of x) (shadow_address (word_of a))
-      ∷ Calls None function.StoreOrigin ((Ptr, word_of a) ∷ (Int 64, widened (width_of t) (mask_of x)) ∷ (Int 32, origin_of x) ∷ (Int 32, number site) ∷ [])
-      ∷ []
-
   origin_stored : (at : Here) (site : ℕ) → site < 2 ^ 32 → (cells : ℕ → ℕ) (w : World)
       → do_tasks s at (Calls None function.StoreOrigin ((Ptr, word_of a) ∷ (Int 64, widened (width_of t) (mask_of x)) ∷ (Int 32, origin_of x) ∷ (Int 32, number site) ∷ []) ∷ [])
         (record { names = names; slots = cells }) w
@@ -123,7 +123,7 @@ module _ (s : Setting) (names : Name → ℕ) (t : Ty) (x a : Tracked) (p q : Po
       ∙ store_origin_same s q.value p.mask (operand_word s names 32 x.origin) p.origin site w ho)
 
   pub store_done : (at : Here) (site : ℕ) → site < 2 ^ 32 → (cells : ℕ → ℕ) (w : World) → RangedWorld w → is_good w q.value (stored_size t) ≡ true
-      → (after : ℕ → ℕ) × (do_tasks s at (store_tasks site) (record { names = names; slots = cells }) w
+      → (after : ℕ → ℕ) × (do_tasks s at (store_tasks t x a site) (record { names = names; slots = cells }) w
       ≡ Went (record { names = names; slots = after }) (store_origin s q.value p.mask p.origin site (set_shadow q.value (stored_size t) (byte_of p.mask) w)))
   store_done at site less cells w ranged good =
       let first = Puts (mask_type t) (mask_of x) (shadow_address (word_of a)) in
