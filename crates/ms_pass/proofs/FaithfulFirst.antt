@@ -17,7 +17,6 @@ use Rattle.ms_pass.specs.Law.{CleanFrames}
 use Rattle.ms_pass.specs.Known.{IsTaken}
 use Rattle.ms_pass.specs.FirstNumbers.{first_numbering, first_pass}
 use Rattle.ms_pass.proofs.FirstKnown.{first_known, first_one_name, first_few, size_of_first}
-use Rattle.ms_pass.proofs.Owed.{RulesLaw}
 use Rattle.ms_pass.proofs.Whole.{faithful_pass}
 
 lines_unmarked : (allocas : List Bool) (lines : List Line) (last : Word) → filter is_unmarked (lines_insts allocas lines ++ ret_inst last ∷ []) ≡ lines_insts allocas lines ++ ret_inst last ∷ []
@@ -60,5 +59,5 @@ first_taken m first = record {
         impossible : false ≡ true → ⊥
         impossible e = grind arith
 
-pub faithful_first : RulesLaw → (m : Module) → IsFirst m → Faithful m (first_pass m)
-faithful_first laws m first = faithful_pass laws (λ f. first_numbering (size_of_first m)) m (first_taken m first)
+pub faithful_first : (m : Module) → IsFirst m → Faithful m (first_pass m)
+faithful_first m first = faithful_pass (λ f. first_numbering (size_of_first m)) m (first_taken m first)

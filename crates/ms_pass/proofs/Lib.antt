@@ -1,11 +1,8 @@
 pub mod Places
 pub mod Marked
-pub mod Owed
 pub mod Built
 pub mod RangedKept
 pub mod Step
 pub mod Whole
 pub mod FirstKnown
 pub mod FaithfulFirst
-pub mod BeforeInst
-pub mod RulesHold

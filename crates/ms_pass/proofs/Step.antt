@@ -28,7 +28,8 @@ use Rattle.ms_pass.proofs.Marked.{AllInserted, inserted_marked, tasks_inserted, 
 use Rattle.ms_pass.proofs.Built.{built_quiet, RangedAfter, uses_ranged, blind_ranged}
 use Rattle.ms_rules.proofs.InsertedNames.{name_self, with_here}
 use Rattle.ms_pass.proofs.RangedKept.{ranged_kept}
-use Rattle.ms_pass.proofs.Owed.{RulesLaw}
+use Rattle.ms_rules.proofs.Before.{before_law}
+use Rattle.ms_rules.proofs.After.{after_gives, after_does}
 
 -- the same place behind marked instructions
 pub here_marked : {V : Type 0} (s : Setting) (j : Module) (a b : List Inst) → AllMarked a → (g : Frame V) (values : Name → V) → rest_of j g ≡ a ++ b
@@ -51,7 +52,7 @@ clean_kept s numbers m = record {
   clean = λ c k. k.masks 0 c refl;
 }
 
-module _ (laws : RulesLaw) (s : Setting) (numbers : ℕ → Numbering) (m : Module) (known : KnownModule s numbers m) where
+module _ (s : Setting) (numbers : ℕ → Numbering) (m : Module) (known : KnownModule s numbers m) where
   -- both stand at an instruction, with the list before it done, and next is the first number that was free there
   record AtInst (f : Frame Poisoned) (fs : List (Frame Poisoned)) (g : Frame ℕ) (gs : List (Frame ℕ)) (i : Inst) (is : List Inst) (next : ℕ) : Type 0 where
     pub same_func : g.func ≡ f.func
@@ -132,7 +133,7 @@ module _ (laws : RulesLaw) (s : Setting) (numbers : ℕ → Numbering) (m : Modu
       let p = poisoned_result by_formulas i.op (words_at s f.values h i) x w in
       let le0 : 2 * (numbers f.func).size + 1 ≤ next = z.room in
       let le1 : next ≤ middle f i next = tasks_more (before_tasks (given_of s) (numbers f.func).env h i) next in
-      let law = laws.after_gives s (numbers f.func).env (numbers f.func).size (middle f i next) h i f.values before x w g.values (after_result f.values i.result p)
+      let law = after_gives s (numbers f.func).env (numbers f.func).size (middle f i next) h i f.values before x w g.values (after_result f.values i.result p)
       (stands_at f i is (middle f i next) z.rest_m (omega arith)) in_world in_values e (gives x w e) in
       steps_by
       (ap (λ y. More (let c : ShadowState = record { frames = y ∷ fs; world = planes s h.site (h.root + count_undefs (operands i.op) + 1) i.op (words_at s f.values h i) before x w } in c)) (put_shadow f i.result p))
@@ -142,7 +143,7 @@ module _ (laws : RulesLaw) (s : Setting) (numbers : ℕ → Numbering) (m : Modu
       let h = here s m f in
       let le0 : 2 * (numbers f.func).size + 1 ≤ next = z.room in
       let le1 : next ≤ middle f i next = tasks_more (before_tasks (given_of s) (numbers f.func).env h i) next in
-      let law = laws.after_does s (numbers f.func).env (numbers f.func).size (middle f i next) h i f.values before w g.values
+      let law = after_does s (numbers f.func).env (numbers f.func).size (middle f i next) h i f.values before w g.values
       (stands_at f i is (middle f i next) z.rest_m (omega arith)) in_world in_values e (does w e) in
       next_follows f fs g gs i is next z f.values before 0 g.values cells w law
   effect_step f fs g gs i is next z cells before in_world in_values gives does (Ends x w) e q = (refl, refl)
@@ -195,7 +196,7 @@ module _ (laws : RulesLaw) (s : Setting) (numbers : ℕ → Numbering) (m : Modu
       → Steps s numbers m (shadow_moved (shadow_inst by_formulas s m i f fs w))
       (through s (pass numbers m) (before_code s (numbers f.func).env (here s m f) i next ++ round f i is next) (state_of g gs cells w))
   inst_step f fs w g gs cells i is next same_func same_block same_mark stands room rest_m rest_j lower matches in_world in_values sound =
-      by_law (laws.before_law s (numbers f.func).env (numbers f.func).size next (here s m f) i f.values (record { names = g.values; slots = cells }) w
+      by_law (before_law s (numbers f.func).env (numbers f.func).size next (here s m f) i f.values (record { names = g.values; slots = cells }) w
       (stands_at f i is next rest_m room) matches in_world in_values (clean_result f fs i w sound))
     where
       before : List Inst

@@ -32,7 +32,6 @@ use Rattle.ms_pass.specs.Declarations.{slot_globals, runtime_declarations}
 use Rattle.ms_pass.specs.Law.{AllMarked, TopFollows, Follows, CleanFrames, Ranged}
 use Rattle.ms_pass.specs.Known.{shadow_start, IsTaken}
 use Rattle.ms_pass.proofs.Marked.{inserted_marked, tasks_inserted}
-use Rattle.ms_pass.proofs.Owed.{RulesLaw}
 use Rattle.ms_pass.proofs.Step.{clean_runs_agree}
 use Rattle.ms_laws.proofs.ExactRules.{computed}
 use Rattle.ms_laws.proofs.Stripped.{setting_same, start_same, frame_same, insts_stripped}
@@ -176,8 +175,8 @@ starts numbers m setup e =
 
 -- ---- the theorem
 
-pub faithful_pass : RulesLaw → (numbers : ℕ → Numbering) (m : Module) → IsTaken numbers m → Faithful m (pass numbers m)
-faithful_pass laws numbers m taken = record { strips = strips; runs = runs }
+pub faithful_pass : (numbers : ℕ → Numbering) (m : Module) → IsTaken numbers m → Faithful m (pass numbers m)
+faithful_pass numbers m taken = record { strips = strips; runs = runs }
   where
     strips : strip (pass numbers m) ≡ m
     strips = strip_pass numbers m taken.strips
@@ -186,6 +185,6 @@ faithful_pass laws numbers m taken = record { strips = strips; runs = runs }
     runs setup fair =
         (λ i. run (λ d. d.world) (plain_step (setting_same m (pass numbers m) strips setup i) (pass numbers m)) setup.steps
         (record { frames = frame_same plain_reading m (pass numbers m) strips i ∷ []; slots = λ a. 0; world = start_same m (pass numbers m) strips setup i }))
-        ∙ clean_runs_agree laws (setting m setup) numbers m (taken.known setup fair) setup.steps (shadow_start m setup) (plain_start m setup)
+        ∙ clean_runs_agree (setting m setup) numbers m (taken.known setup fair) setup.steps (shadow_start m setup) (plain_start m setup)
         (taken.clean setup fair) (record { frames = (λ x. omega arith, tt); world = taken.placed setup fair }) (starts numbers m setup strips)
         ∙ sym (computed m setup)
