@@ -1,22 +1,20 @@
 -- What an instruction that the pass takes comes to: it never jumps, calls or returns; checks leave memory as it is.
-use Rattle.std.proofs.Common.{◌≡◌, ℕ, zero, suc, ◌+◌, List, [], ◌∷◌, length, Bool, true, false, Option, Some, None, refl, sym, ap, ◌∙◌, subst, arith}
-use Rattle.std.specs.Prelude.{◌++◌, if◌then◌else◌, eqb, leb, ◌*◌, ◌/◌}
+use Rattle.std.proofs.Common.{ℕ, ◌+◌, List, [], ◌∷◌, length, Bool, true, false, Option, Some, None, sym, subst}
+use Rattle.std.specs.Prelude.{◌++◌, if◌then◌else◌, eqb, leb, ◌*◌}
 use Rattle.ms_bits.specs.Maps.{first_nonzero}
-use Rattle.ms_bits.specs.declared.operations.BinOp.TheVariants as binary
 use Rattle.ms_ir.specs.declared.syntax.Name.{Name}
 use Rattle.ms_ir.specs.declared.syntax.Ty.{Ty}
 use Rattle.ms_ir.specs.declared.syntax.Operand.{Operand}
-use Rattle.ms_ir.specs.declared.syntax.Operand.TheVariants as operand
 use Rattle.ms_ir.specs.declared.syntax.Op.{Op}
 use Rattle.ms_ir.specs.declared.syntax.Op.TheVariants as op
 use Rattle.ms_ir.specs.declared.runs.Report.{Report}
 use Rattle.ms_ir.specs.declared.runs.End.TheVariants as «end»
-use Rattle.ms_ir.specs.World.{World, Setting, Here, Effect, Gives, Does, Goes, Enters, Leaves, Ends, traps, then_does, word}
-use Rattle.ms_ir.specs.Layout.{width_of, stored_size, size_in}
+use Rattle.ms_ir.specs.World.{World, Setting, Here, Effect, Gives, Does, Goes, Enters, Leaves, Ends, then_does, word}
+use Rattle.ms_ir.specs.Layout.{stored_size, size_in}
 use Rattle.ms_ir.specs.Memory.{is_good, fits}
 use Rattle.ms_ir.specs.World.{Stack}
-use Rattle.ms_ir.specs.Origins.{trail, add_report, check, check_byte, check_memory, check_string, count_blind}
-use Rattle.ms_ir.specs.Act.{gives, act}
+use Rattle.ms_ir.specs.Origins.{trail, add_report, check, check_byte, check_memory, count_blind}
+use Rattle.ms_ir.specs.Act.{act}
 use Rattle.ms_ir.specs.Poisoned.{Poisoned}
 use Rattle.ms_ir.specs.Uses.{Use, Word, Bytes, Line, check_use, check_uses}
 use Rattle.ms_rules.specs.Emit.{IsBuilt}

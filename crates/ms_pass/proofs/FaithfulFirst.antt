@@ -1,18 +1,16 @@
 -- The instrumented form of a module of the first form is faithful.
-use Rattle.std.proofs.Common.{◌≡◌, ◌≢◌, ℕ, ◌<◌, ◌^◌, List, [], ◌∷◌, ◌++◌, length, Bool, true, false, refl, sym, ap, ◌∙◌, subst, arith}
+use Rattle.std.proofs.Common.{◌≡◌, List, [], ◌∷◌, ◌++◌, length, Bool, true, false, refl, sym, ap, subst, arith}
 use Rattle.std.specs.Prelude.{filter}
 use Rattle.ms_ir.specs.declared.syntax.Module.{Module}
 use Rattle.ms_ir.specs.declared.runs.Setup.{Setup}
-use Rattle.ms_ir.specs.Code.{insts_at, is_unmarked, strip}
+use Rattle.ms_ir.specs.Code.{is_unmarked, strip}
 use Rattle.ms_ir.specs.First.{Word, Line, Alloca, Load, Store, Combine, after_line, line_inst, lines_insts, ret_inst, main_module, module_of, IsFirst}
 use Rattle.ms_ir.specs.Plain.{start_world, setting}
 use Rattle.ms_ir.specs.World.{Setting}
 use Rattle.ms_ir.specs.Control.{Frame}
 use Rattle.ms_ir.specs.Poisoned.{Poisoned}
-use Rattle.ms_ir.specs.Shadow.{ShadowState}
-use Rattle.ms_ir.specs.Faithful.{Fair, Faithful}
+use Rattle.ms_ir.specs.Faithful.{Faithful}
 use Rattle.ms_rules.specs.Match.{RangedWorld}
-use Rattle.ms_pass.specs.Pass.{Numbering, pass}
 use Rattle.ms_pass.specs.Law.{CleanFrames}
 use Rattle.ms_pass.specs.Known.{IsTaken}
 use Rattle.ms_pass.specs.FirstNumbers.{first_numbering, first_pass}

@@ -3,6 +3,7 @@ pub mod Marked
 pub mod Built
 pub mod RangedKept
 pub mod Step
+pub mod Unmarked
 pub mod Whole
 pub mod FirstKnown
 pub mod FaithfulFirst

@@ -1,6 +1,6 @@
 -- Inserted instructions: they are marked, they go on to the next one, and a stretch of them within a step.
-use Rattle.std.proofs.Common.{◌≡◌, ℕ, zero, suc, ◌+◌, ◌≤◌, List, [], ◌∷◌, ◌++◌, length, Bool, true, false, Option, Some, None, Result, Ok, Err, inl, inr, refl, sym, ap, ◌∙◌, subst, arith}
-use Rattle.std.specs.Prelude.{◌&&◌, ◌/◌, ◌-◌, bit_xor, if◌then◌else◌, eqb, leb, ◌⊎◌}
+use Rattle.std.proofs.Common.{◌≡◌, ℕ, ◌+◌, List, [], ◌∷◌, ◌++◌, length, Bool, true, false, Option, Some, None, Result, Ok, Err, inl, inr, refl, ap, ◌∙◌, arith}
+use Rattle.std.specs.Prelude.{bit_xor, if◌then◌else◌, eqb, leb, ◌⊎◌}
 use Rattle.std.proofs.Math.Path.{ap₂}
 use Rattle.ms_bits.specs.declared.traps.Trap.{Trap}
 use Rattle.ms_ir.specs.declared.syntax.Name.{Name}
@@ -17,15 +17,15 @@ use Rattle.ms_ir.specs.declared.runs.End.TheVariants as «end»
 use Rattle.ms_bits.specs.Maps.{first_nonzero}
 use Rattle.ms_ir.specs.Names.{lookup, runtime_functions, slots}
 use Rattle.ms_ir.specs.Layout.{width_of, stored_size}
-use Rattle.ms_ir.specs.World.{World, Setting, Here, Effect, Gives, Does, Goes, Enters, Leaves, Ends, stuck, traps, word}
-use Rattle.ms_ir.specs.Origins.{trail, add_report, check, check_byte, check_memory, check_string}
+use Rattle.ms_ir.specs.World.{World, Setting, Here, Effect, Gives, Does, Goes, Enters, Leaves, Ends, stuck, word}
+use Rattle.ms_ir.specs.Origins.{trail, add_report, check, check_byte, check_memory}
 use Rattle.ms_ir.specs.Memory.{is_good}
 use Rattle.ms_ir.specs.Code.{operands}
 use Rattle.ms_ir.specs.Act.{gives, act, operand_word, plain_reading}
 use Rattle.ms_ir.specs.Runtime.{runtime}
-use Rattle.ms_ir.specs.Control.{Frame, Moved, here, rest_of, read_all, moves}
+use Rattle.ms_ir.specs.Control.{Frame, here, rest_of, read_all, moves}
 use Rattle.ms_ir.specs.Plain.{PlainState, Stepped, More, Stop, shadow_bits, in_slots, slots_after, act_marked, plain_moved, through}
-use Rattle.ms_rules.specs.Tasks.{Expr, Leaf, Two, Turn, IsSet, Pick, Task, Sets, Picks, Fetches, Puts, Calls, inserted, flatten, flatten_all, parts, target, last_op, task_code, tasks_code, Values, Reach, Went, Over, set_result, marked_next, words_of, run_marked}
+use Rattle.ms_rules.specs.Tasks.{Expr, Leaf, Two, Turn, IsSet, Pick, Task, Sets, Picks, Fetches, Puts, Calls, flatten, flatten_all, parts, last_op, task_code, tasks_code, Values, Reach, Went, Over, set_result, marked_next, words_of, run_marked}
 use Rattle.ms_rules.specs.Match.{given_of}
 use Rattle.ms_pass.specs.Pass.{next_here}
 use Rattle.ms_pass.specs.Law.{AllMarked, is_phi}
@@ -86,23 +86,6 @@ tasks_inserted [] n = tt
 tasks_inserted (t ∷ ts) n =
     inserted_append _ _ (inserted_append _ _ (all_inserted (parts t) n) (refl, last_inserted t (flatten_all (parts t) n).operands, tt))
     (tasks_inserted ts (task_code t n).next)
-
--- ---- the free numbers only rise
-
-flatten_more : (e : Expr) (n : ℕ) → n ≤ (flatten e n).next
-flatten_more (Leaf o) n = omega arith
-flatten_more (Two o t a b) n = omega (arith, flatten_more a n, flatten_more b (flatten a n).next)
-flatten_more (Turn o t a u) n = omega (arith, flatten_more a n)
-flatten_more (IsSet t a) n = omega (arith, flatten_more a n)
-flatten_more (Pick c t a b) n = omega (arith, flatten_more c n, flatten_more a (flatten c n).next, flatten_more b (flatten a (flatten c n).next).next)
-
-all_more : (es : List (Ty × Expr)) (n : ℕ) → n ≤ (flatten_all es n).next
-all_more [] n = omega arith
-all_more (e ∷ es) n = omega (arith, flatten_more e.1 n, all_more es (flatten e.1 n).next)
-
-pub tasks_more : (ts : List Task) (n : ℕ) → n ≤ (tasks_code ts n).next
-tasks_more [] n = omega arith
-tasks_more (t ∷ ts) n = omega (arith, all_more (parts t) n, tasks_more ts (task_code t n).next)
 
 -- ---- what an inserted instruction comes to
 

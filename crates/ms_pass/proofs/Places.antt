@@ -1,12 +1,12 @@
 -- Going through a block from a place on, and where the next instruction stands.
-use Rattle.std.proofs.Common.{◌≡◌, ℕ, zero, suc, ◌+◌, List, [], ◌∷◌, ◌++◌, length, Bool, true, Option, Some, None, refl, sym, ap, ◌∙◌, arith}
+use Rattle.std.proofs.Common.{◌≡◌, ℕ, zero, suc, ◌+◌, List, [], ◌∷◌, ◌++◌, length, true, Option, Some, None, refl, ap, ◌∙◌, arith}
 use Rattle.std.proofs.Math.Path.{ap₂}
 use Rattle.std.specs.Prelude.{take, drop}
 use Rattle.ms_ir.specs.declared.syntax.Name.{Name}
 use Rattle.ms_ir.specs.declared.syntax.Inst.{Inst}
 use Rattle.ms_ir.specs.declared.syntax.Module.{Module}
 use Rattle.ms_ir.specs.World.{Setting, Here}
-use Rattle.ms_ir.specs.Code.{insts_at, over_insts, before, one_unmarked, roots_in, site_at, root_at}
+use Rattle.ms_ir.specs.Code.{insts_at, over_insts, before, one_unmarked, roots_in}
 use Rattle.ms_ir.specs.Control.{Frame, here, rest_of, put}
 use Rattle.ms_ir.specs.Poisoned.{Poisoned}
 use Rattle.ms_rules.specs.Tasks.{set_result}

@@ -1,33 +1,32 @@
 -- A step of the instrumented module is a step of the shadow run.
-use Rattle.std.proofs.Common.{◌≡◌, ℕ, zero, suc, ◌+◌, ◌*◌, ◌≤◌, List, [], ◌∷◌, ◌++◌, length, Bool, true, false, Option, Some, None, inl, inr, refl, sym, ap, ◌∙◌, subst, arith}
-use Rattle.std.specs.Prelude.{if◌then◌else◌, map, drop, ◌⊎◌}
+use Rattle.std.proofs.Common.{◌≡◌, ℕ, zero, suc, ◌+◌, ◌*◌, ◌≤◌, List, [], ◌∷◌, ◌++◌, length, true, false, Some, inl, inr, refl, sym, ap, ◌∙◌, subst, arith}
+use Rattle.std.specs.Prelude.{map}
 use Rattle.std.proofs.Math.Path.{ap₂}
 use Rattle.ms_ir.specs.declared.syntax.Name.{Name}
 use Rattle.ms_ir.specs.declared.syntax.Inst.{Inst}
 use Rattle.ms_ir.specs.declared.syntax.Module.{Module}
-use Rattle.ms_ir.specs.declared.runs.End.{End}
 use Rattle.ms_ir.specs.declared.runs.End.TheVariants as «end»
-use Rattle.ms_ir.specs.Names.{name_eq}
-use Rattle.ms_ir.specs.World.{World, Setting, Here, Effect, Gives, Does, Goes, Enters, Leaves, Ends, result}
-use Rattle.ms_ir.specs.Code.{insts_at, operands, count_undefs}
-use Rattle.ms_ir.specs.Control.{Frame, Moved, here, rest_of, put, with_value, moves}
+use Rattle.ms_ir.specs.World.{World, Setting, Effect, Gives, Does, Goes, Enters, Leaves, Ends, result}
+use Rattle.ms_ir.specs.Code.{operands, count_undefs}
+use Rattle.ms_ir.specs.Control.{Frame, here, rest_of, put, moves}
 use Rattle.ms_ir.specs.Act.{act, plain_reading}
 use Rattle.ms_ir.specs.Plain.{PlainState, Stepped, More, Stop, plain_moved, through, plain_first, plain_step, run, go_on}
 use Rattle.ms_ir.specs.Poisoned.{Poisoned}
 use Rattle.ms_ir.specs.Masks.{by_formulas}
 use Rattle.ms_ir.specs.Uses.{uses}
 use Rattle.ms_ir.specs.Shadow.{ShadowState, shadow_reading, shadow_moved, poisoned_result, planes, after_checks, shadow_inst, shadow_first, shadow_frames, shadow_step}
-use Rattle.ms_rules.specs.Tasks.{Values, Reach, Went, Over, words_of, run_marked, tasks_code, set_result}
-use Rattle.ms_rules.specs.Emit.{Env, Emitted, emit_lists, before_tasks, after_tasks}
+use Rattle.ms_rules.specs.Tasks.{Reach, Went, Over, run_marked, tasks_code, set_result}
+use Rattle.ms_rules.specs.Emit.{emit_lists, before_tasks, after_tasks}
 use Rattle.ms_rules.specs.Match.{Matches, RangedWorld, RangedValues, Stands, given_of, words_at, checked_at, counted_at, acted_at, after_result, before_code, BeforeLaw, Checked, Failed, Due, AfterLaw}
 use Rattle.ms_pass.specs.Pass.{Numbering, next_here, pass_insts, pass}
 use Rattle.ms_pass.specs.Law.{AllMarked, FramesFollow, TopFollows, FollowsBy, Follows, Steps, CleanFrames, Sound, RangedFrames, Ranged}
 use Rattle.ms_pass.specs.Known.{KnownModule, further, states_after, CleanRun}
 use Rattle.ms_pass.proofs.Places.{drop_step, drop_many, moved, put_plain, put_shadow, here_step, marked_here}
-use Rattle.ms_pass.proofs.Marked.{AllInserted, inserted_marked, tasks_inserted, tasks_more, IsQuiet, GoesOn, reach_step, state_of, through_inst, through_marked}
+use Rattle.ms_pass.proofs.Marked.{AllInserted, inserted_marked, tasks_inserted, IsQuiet, GoesOn, reach_step, state_of, through_inst, through_marked}
 use Rattle.ms_pass.proofs.Built.{built_quiet, RangedAfter, uses_ranged, blind_ranged}
-use Rattle.ms_rules.proofs.InsertedNames.{name_self, with_here}
+use Rattle.ms_rules.proofs.InsertedNames.{with_here}
 use Rattle.ms_pass.proofs.RangedKept.{ranged_kept}
+use Rattle.ms_rules.proofs.Marked.{tasks_more}
 use Rattle.ms_rules.proofs.Before.{before_law}
 use Rattle.ms_rules.proofs.After.{after_gives, after_does}
 

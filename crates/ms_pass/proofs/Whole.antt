@@ -1,35 +1,30 @@
 -- The instrumented form strips to the module, and its plain runs are the module's shadow runs.
-use Rattle.std.proofs.Common.{◌≡◌, ◌≢◌, ℕ, zero, suc, ◌+◌, ◌*◌, ◌<◌, ◌≤◌, ◌^◌, List, [], ◌∷◌, ◌++◌, Bool, true, false, Option, Some, None, refl, sym, ap, ◌∙◌, subst, arith}
-use Rattle.std.specs.Prelude.{if◌then◌else◌, map, filter, cond, not, take, drop, option_map, unwrap_or, slice_get}
+use Rattle.std.proofs.Common.{◌≡◌, ℕ, zero, suc, ◌+◌, ◌*◌, List, [], ◌∷◌, ◌++◌, Bool, true, false, Option, Some, None, refl, sym, ap, ◌∙◌, arith}
+use Rattle.std.specs.Prelude.{if◌then◌else◌, map, filter, cond, not, take, option_map, unwrap_or, slice_get}
 use Rattle.std.proofs.Math.Path.{ap₂}
 use Rattle.std.proofs.lemmas.List.Elements.{filter-append}
 use Rattle.ms_ir.specs.declared.syntax.Name.{Name}
 use Rattle.ms_ir.specs.declared.syntax.Name.TheVariants.{Number}
-use Rattle.ms_ir.specs.declared.syntax.Operand.{Operand}
 use Rattle.ms_ir.specs.declared.syntax.Operand.TheVariants as operand
 use Rattle.ms_ir.specs.declared.syntax.Inst.{Inst}
 use Rattle.ms_ir.specs.declared.syntax.Block.{Block}
 use Rattle.ms_ir.specs.declared.syntax.Func.{Func}
-use Rattle.ms_ir.specs.declared.syntax.GlobalVar.{GlobalVar}
-use Rattle.ms_ir.specs.declared.syntax.Decl.{Decl}
 use Rattle.ms_ir.specs.declared.syntax.Module.{Module}
 use Rattle.ms_ir.specs.declared.runs.Setup.{Setup}
 use Rattle.ms_ir.specs.Names.{name_eq, is_reserved}
-use Rattle.ms_ir.specs.World.{World, Setting, Here}
-use Rattle.ms_ir.specs.Code.{func_index, func_at, blocks_at, insts_at, over_insts, over_blocks, over_funcs, before, one_unmarked, roots_in, site_at, root_at, is_unmarked, strip_block, strip_func, strip}
-use Rattle.ms_ir.specs.Control.{Frame, func_name, main_name, here, rest_of}
+use Rattle.ms_ir.specs.World.{Here}
+use Rattle.ms_ir.specs.Code.{func_index, insts_at, over_blocks, over_funcs, one_unmarked, roots_in, is_unmarked, strip_block, strip_func, strip}
+use Rattle.ms_ir.specs.Control.{main_name, here}
 use Rattle.ms_ir.specs.Act.{plain_reading}
-use Rattle.ms_ir.specs.Plain.{PlainState, Stepped, More, plain_step, run, setting, start_world, start_frame, plain}
-use Rattle.ms_ir.specs.Poisoned.{Poisoned, clean}
-use Rattle.ms_ir.specs.Masks.{by_formulas}
-use Rattle.ms_ir.specs.Shadow.{ShadowState, shadow_reading, shadow_step, shadow_by, shadow}
+use Rattle.ms_ir.specs.Plain.{PlainState, plain_step, run, setting, start_world, start_frame, plain}
+use Rattle.ms_ir.specs.Shadow.{shadow_reading, shadow}
 use Rattle.ms_ir.specs.Faithful.{Fair, Faithful}
-use Rattle.ms_rules.specs.Tasks.{Values, mask_name, origin_name}
+use Rattle.ms_rules.specs.Tasks.{mask_name, origin_name}
 use Rattle.ms_rules.specs.Emit.{Env, Given, local_mask, local_origin, emit_lists, before_tasks, after_tasks}
-use Rattle.ms_rules.specs.Match.{Matches, RangedWorld, held, given_of}
+use Rattle.ms_rules.specs.Match.{held, given_of}
 use Rattle.ms_pass.specs.Pass.{Numbering, next_here, here_after, pass_insts, pass_blocks, pass_funcs, pass}
 use Rattle.ms_pass.specs.Declarations.{slot_globals, runtime_declarations}
-use Rattle.ms_pass.specs.Law.{AllMarked, TopFollows, Follows, CleanFrames, Ranged}
+use Rattle.ms_pass.specs.Law.{AllMarked, TopFollows, Follows}
 use Rattle.ms_pass.specs.Known.{shadow_start, IsTaken}
 use Rattle.ms_pass.proofs.Marked.{inserted_marked, tasks_inserted}
 use Rattle.ms_pass.proofs.Step.{clean_runs_agree}

@@ -1,14 +1,15 @@
 //! Laws about instrumented modules. Each is a public function with an empty body, and what it promises is the law. The
 //! definitions stand in `specs/`; the lemmas in `proofs/` are there for crates above.
-ghost use Rattle.std.specs.Prelude.{◌≡◌, ℕ};
+ghost use Rattle.std.specs.Prelude.{◌≡◌, ℕ, All, false};
 ghost use Rattle.ms_ir.specs.declared.syntax.Module.{Module};
+ghost use Rattle.ms_ir.specs.Names.{is_reserved};
 ghost use Rattle.ms_ir.specs.World.{Setting};
 ghost use Rattle.ms_ir.specs.Code.{strip};
 ghost use Rattle.ms_ir.specs.First.{IsFirst};
 ghost use Rattle.ms_ir.specs.Masks.{by_formulas};
 ghost use Rattle.ms_ir.specs.Plain.{PlainState, More, plain_step, run};
 ghost use Rattle.ms_ir.specs.Shadow.{ShadowState, shadow_step};
-ghost use Rattle.ms_ir.specs.Faithful.{Faithful};
+ghost use Rattle.ms_ir.specs.Faithful.{Faithful, NoMarks};
 ghost use Rattle.ms_pass.specs.Pass.{Numbering, pass};
 ghost use Rattle.ms_pass.specs.Law.{Follows, Steps, Sound, Ranged};
 ghost use Rattle.ms_pass.specs.Known.{KnownModule, CleanRun, IsTaken};
@@ -34,9 +35,11 @@ pub fn runs_follow()
 {}
 
 /// Without its marked instructions, reserved globals and reserved declarations the instrumented form is what the module
-/// itself is without its own.
+/// itself is without its own: the module, where it has none.
 pub fn instrumented_strips()
-    ensures { (numbers : ℕ → Numbering) (m : Module) → strip (pass numbers m) ≡ strip m }
+    ensures stripped { (numbers : ℕ → Numbering) (m : Module) → strip (pass numbers m) ≡ strip m }
+    ensures unmarked { (numbers : ℕ → Numbering) (m : Module) → NoMarks m → All (λ g. is_reserved g.name ≡ false) m.globals
+        → All (λ d. is_reserved d.name ≡ false) m.decls → strip (pass numbers m) ≡ m }
 {}
 
 /// The plain runs of the instrumented form are the shadow runs of the module: of each that the pass takes, and so of each
