@@ -408,3 +408,9 @@ ranged_kept s numbers m known c c' r e = by_frames c.frames r.frames e
     by_frames : (fs : List (Frame Poisoned)) → RangedFrames fs → shadow_moved (shadow_frames by_formulas s m fs c.world) ≡ More c' → Ranged c'
     by_frames [] rf e = absurd (stops e)
     by_frames (f ∷ below) rf e = by_rest f below rf (rest_of m f) refl e
+
+-- the world in which an instruction runs whose checks passed
+pub checks_ranged : (s : Setting) (site : ℕ) (os : List (Ty × Operand)) (ps : List Poisoned) (us : List Use) (mask : ℕ) (w z : World)
+    → check_uses s site os ps us w ≡ Does z → RangedWorld w → RangedWorld (count_blind mask z)
+checks_ranged s site os ps us mask w z e r =
+    ranged_left z (count_blind mask z) (counted mask z) (ranged_left w z (subst (Quiet w) e (uses_quiet s site os ps us w)) r)

@@ -23,9 +23,9 @@ use Rattle.ms_pass.specs.Law.{AllMarked, FramesFollow, TopFollows, FollowsBy, Fo
 use Rattle.ms_pass.specs.Known.{KnownModule, further, states_after, CleanRun}
 use Rattle.ms_pass.proofs.Places.{drop_step, drop_many, moved, put_plain, put_shadow, here_step, marked_here}
 use Rattle.ms_pass.proofs.Marked.{AllInserted, inserted_marked, tasks_inserted, IsQuiet, GoesOn, reach_step, state_of, through_inst, through_marked}
-use Rattle.ms_pass.proofs.Built.{built_quiet, RangedAfter, uses_ranged, blind_ranged}
+use Rattle.ms_pass.proofs.Built.{built_quiet}
 use Rattle.ms_rules.proofs.InsertedNames.{with_here}
-use Rattle.ms_pass.proofs.RangedKept.{ranged_kept}
+use Rattle.ms_pass.proofs.RangedKept.{checks_ranged, ranged_kept}
 use Rattle.ms_rules.proofs.Marked.{tasks_more}
 use Rattle.ms_rules.proofs.Before.{before_law}
 use Rattle.ms_rules.proofs.After.{after_gives, after_does}
@@ -235,7 +235,7 @@ module _ (s : Setting) (numbers : ℕ → Numbering) (m : Module) (known : Known
             lower = lower;
           } in
           let k = known.known f i is rest_m in
-          let in_world1 : RangedWorld z1 = blind_ranged _ w1 (subst RangedAfter checks (uses_ranged s h.site (operands i.op) ps (uses s.func h.main i.op) w in_world)) in
+          let in_world1 : RangedWorld z1 = checks_ranged s h.site (operands i.op) ps (uses s.func h.main i.op) _ w w1 checks in_world in
           steps_by (shadow_does f fs i w w1 (acted_at s f.values h i z1) checks refl)
           (ran (Went u z1) r
           ∙ through_inst s (pass numbers m) i _ h g1 gs u.slots z1 false k.unmarked at.stands
