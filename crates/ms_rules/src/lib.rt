@@ -1,2 +1,4 @@
 //! The shadow code that is inserted round one instruction.
 #![tactic(auto)]
+
+pub mod laws;
