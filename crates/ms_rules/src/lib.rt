@@ -1,2 +1,5 @@
 //! The shadow code that is inserted round one instruction.
 #![tactic(auto)]
+
+pub mod instruction_laws;
+pub mod laws;
