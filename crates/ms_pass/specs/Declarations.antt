@@ -1,7 +1,6 @@
 -- What an instrumented module declares: the slots, which hand masks and origins over at calls, and the runtime
 -- functions (own).
 use Rattle.std.specs.Prelude.{ℕ, false, List, [], ◌∷◌, Option, Some, None, codes}
-use Rattle.ms_ir.specs.declared.syntax.Name.{Name}
 use Rattle.ms_ir.specs.declared.syntax.Name.TheVariants as name
 use Rattle.ms_ir.specs.declared.syntax.Ty.{Ty, Int, Ptr, Array', more_of-Ty, end_of-Ty}
 use Rattle.ms_ir.specs.declared.syntax.Operand.TheVariants as operand

@@ -1,5 +1,5 @@
 -- How the results of a module of the first form are numbered.
-use Rattle.std.specs.Prelude.{ℕ, zero, suc, ◌+◌, false, ltb, if◌then◌else◌, List, [], ◌∷◌, Option, Some, None, is_some}
+use Rattle.std.specs.Prelude.{ℕ, zero, suc, false, ltb, if◌then◌else◌, Option, Some, None, is_some}
 use Rattle.ms_ir.specs.declared.syntax.Name.{Name}
 use Rattle.ms_ir.specs.declared.syntax.Name.TheVariants.{Number, Text}
 use Rattle.ms_ir.specs.declared.syntax.Inst.{Inst}

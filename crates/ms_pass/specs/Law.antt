@@ -12,7 +12,7 @@ use Rattle.ms_ir.specs.Plain.{PlainState, Stepped, More, Stop}
 use Rattle.ms_ir.specs.Poisoned.{Poisoned}
 use Rattle.ms_ir.specs.Shadow.{ShadowState}
 use Rattle.ms_rules.specs.Tasks.{Values, Went, run_marked}
-use Rattle.ms_rules.specs.Emit.{Env, emit_lists}
+use Rattle.ms_rules.specs.Emit.{emit_lists}
 use Rattle.ms_rules.specs.Match.{Matches, RangedWorld, RangedValues, given_of}
 use Rattle.ms_pass.specs.Pass.{Numbering, next_here, pass_insts, pass}
 

@@ -2,3 +2,4 @@ pub mod Declarations
 pub mod Pass
 pub mod Law
 pub mod FirstNumbers
+pub mod Known

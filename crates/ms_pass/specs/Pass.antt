@@ -1,7 +1,6 @@
 -- The instrumented form of a module: each instruction between the lists that are inserted round it (after Stepanov and
 -- Serebryany, CGO 2015).
-use Rattle.std.specs.Prelude.{ℕ, ◌+◌, ◌*◌, List, [], ◌∷◌, ◌++◌, Option, Some, None, option_map}
-use Rattle.ms_ir.specs.declared.syntax.Name.{Name}
+use Rattle.std.specs.Prelude.{ℕ, ◌+◌, ◌*◌, List, [], ◌∷◌, ◌++◌}
 use Rattle.ms_ir.specs.declared.syntax.Inst.{Inst}
 use Rattle.ms_ir.specs.declared.syntax.Block.{Block}
 use Rattle.ms_ir.specs.declared.syntax.Func.{Func}

@@ -1,1 +1,15 @@
-pub mod Emitting
+pub mod InsertedNames
+pub mod OperandWords
+pub mod MatchedNames
+pub mod CheckTasks
+pub mod Defined
+pub mod DefineBinary
+pub mod DefineLoad
+pub mod Effects
+pub mod Flatten
+pub mod Marked
+pub mod TaskNames
+pub mod DefineResults
+pub mod PlaneTasks
+pub mod After
+pub mod Before

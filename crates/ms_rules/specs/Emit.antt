@@ -263,3 +263,7 @@ KnownInsts main env size (i ∷ is) = KnownInst main env size i × KnownInsts ma
 -- no two names have one number
 abbrev pub OneName : Env → Type 0
 OneName env = (x y : Name) (v : ℕ) → env.number x ≡ Some v → env.number y ≡ Some v → x ≡ y
+
+-- the numbers are those of the function's values
+abbrev pub FewNumbers : Env → ℕ → Type 0
+FewNumbers env size = (x : Name) (v : ℕ) → env.number x ≡ Some v → v < size

@@ -16,7 +16,7 @@ use Rattle.ms_ir.specs.Masks.{Rules, by_formulas, union}
 use Rattle.ms_ir.specs.Uses.{uses, check_uses, blinded}
 use Rattle.ms_ir.specs.Shadow.{read_poisoned, planes, poisoned_result}
 use Rattle.ms_rules.specs.Tasks.{Values, Reach, Went, Over, words_of, run_marked, tasks_code, set_result}
-use Rattle.ms_rules.specs.Emit.{Env, Given, local_mask, local_origin, before_tasks, after_tasks, KnownInst, OneName}
+use Rattle.ms_rules.specs.Emit.{Env, Given, local_mask, local_origin, before_tasks, after_tasks, KnownInst, OneName, FewNumbers}
 
 -- ---- words
 
@@ -66,6 +66,7 @@ given_of s = record { types = s.types; func = s.func }
 pub record Stands (s : Setting) (env : Env) (size base : ℕ) (h : Here) (i : Inst) : Type 0 where
   pub known : KnownInst h.main env size i
   pub one_name : OneName env
+  pub few : FewNumbers env size
   pub room : 2 * size + 1 ≤ base
   pub ranged : RangedHere s h i
 

@@ -42,3 +42,10 @@ binary_result v o a b =
 -- the code that computes the origin and the mask of an address of fresh memory
 abbrev pub address_tasks : ℕ → List Task
 address_tasks v = zero_task (origin_name v) (Int 32) ∷ zero_task (mask_name v) (Int 64) ∷ []
+
+-- the code that poisons so many bytes at a result
+abbrev pub poison_tasks : Name → (size root : ℕ) → List Task
+poison_tasks x size root =
+    Calls None function.Poison
+    ((Ptr, Leaf (operand.Local x)) ∷ (Int 64, number 0) ∷ (Int 64, number size) ∷ (Int 32, number root) ∷ [])
+    ∷ []

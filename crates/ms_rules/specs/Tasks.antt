@@ -1,7 +1,8 @@
 -- A small language of what inserted code does, without temporaries, the instructions that it is compiled to, and what
 -- it means (own, after Stepanov and Serebryany, CGO 2015).
-use Rattle.std.specs.Prelude.{◌≡◌, ◌<◌, ℕ, ◌+◌, ◌*◌, ◌%◌, ◌^◌, true, not, eqb, List, [], ◌∷◌, ◌++◌, map, get_or, bit_and, bit_or, bit_xor, Option, Some, None, codes, decimal}
+use Rattle.std.specs.Prelude.{◌≡◌, ◌<◌, ℕ, ◌+◌, ◌*◌, ◌%◌, ◌^◌, true, not, eqb, List, [], ◌∷◌, ◌++◌, map, get_or, bit_and, bit_or, bit_xor, if◌then◌else◌, Option, Some, None, codes}
 use Rattle.std.specs.Int.{from_bool}
+use Rattle.std.specs.Int.Digits.{digits_of}
 use Rattle.ms_bits.specs.declared.operations.CastOp.{CastOp}
 use Rattle.ms_bits.specs.declared.operations.Pred.TheVariants as predicate
 use Rattle.ms_bits.specs.Conversions.{cast_of, select_of}
@@ -28,9 +29,13 @@ use Rattle.ms_ir.specs.Runtime.{runtime}
 
 -- ---- names
 
+-- a number in decimal digits, however many; std's `decimal`, which is the same below 2 ^ 64, has 64 of them at most
+unfoldable pub numeral : ℕ → List ℕ
+numeral k = if eqb k 0 then codes "0" else map (λ d. 48 + d) (digits_of 10 k)
+
 -- the local name of an inserted result
 abbrev pub msan_name : ℕ → Name
-msan_name k = name.Text (codes "__msan." ++ decimal k)
+msan_name k = name.Text (codes "__msan." ++ numeral k)
 
 -- the names of the mask and of the origin of the function's value with a number, counted from 0
 abbrev pub mask_name : ℕ → Name

@@ -1,0 +1,76 @@
+-- What the last instruction of a word or of a task comes to: none of them traps.
+use Rattle.std.proofs.Common.{◌≡◌, ℕ, ◌%◌, ◌^◌, List, [], ◌∷◌, refl, sym, ap, ◌∙◌, arith, true}
+use Rattle.std.specs.Prelude.{not, eqb, Some, None}
+use Rattle.std.specs.Int.{from_bool}
+use Rattle.ms_bits.specs.declared.operations.CastOp.{CastOp}
+use Rattle.ms_bits.specs.declared.operations.CastOp.TheVariants.{Trunc, Zext, Sext, PtrToInt, IntToPtr, Bitcast}
+use Rattle.ms_bits.specs.declared.operations.Pred.TheVariants as predicate
+use Rattle.ms_bits.specs.Arithmetic.{binary_of, or_of}
+use Rattle.ms_bits.specs.Conversions.{cast_of, compare_of, holds}
+use Rattle.ms_ir.specs.declared.calls.RuntimeFn.{RuntimeFn}
+use Rattle.ms_ir.specs.declared.calls.RuntimeFn.TheVariants as function
+use Rattle.ms_ir.specs.declared.syntax.Ty.{Ty}
+use Rattle.ms_ir.specs.declared.syntax.Operand.{Operand}
+use Rattle.ms_ir.specs.First.{Logic, And, Or, Xor, logic_op, no_flags}
+use Rattle.ms_ir.specs.Names.{lookup, runtime_functions}
+use Rattle.ms_ir.specs.World.{World, Setting, Here, Effect, Gives, Ends, stuck}
+use Rattle.ms_ir.specs.Code.{operands}
+use Rattle.ms_ir.specs.Act.{truth, gives}
+use Rattle.ms_ir.specs.Masks.{value_or_zero}
+use Rattle.ms_ir.specs.Plain.{slots_after, act_marked}
+use Rattle.ms_ir.specs.Runtime.{runtime}
+use Rattle.ms_rules.specs.Tasks.{Expr, Task, Sets, Picks, Fetches, Puts, Calls, runtime_name, parts, last_op, flatten_all, logic_of, task_effect}
+
+pub logic_gives : (site : ℕ) (o : Logic) (width a b : ℕ) (w : World) → gives site (binary_of (logic_op o) no_flags width a b) w ≡ Gives (logic_of o a b) w
+unfolding binary_of or_of
+logic_gives site And width a b w = refl
+logic_gives site Or width a b w = refl
+logic_gives site Xor width a b w = refl
+
+pub cast_gives : (site : ℕ) (o : CastOp) (width a to : ℕ) (w : World) → gives site (cast_of o no_flags width a to) w ≡ Gives (value_or_zero (cast_of o no_flags width a to)) w
+unfolding cast_of
+cast_gives site Trunc width a to w = refl
+cast_gives site Zext width a to w = refl
+cast_gives site Sext width a to w = refl
+cast_gives site PtrToInt width a to w = refl
+cast_gives site IntToPtr width a to w = refl
+cast_gives site Bitcast width a to w = refl
+
+pub differs_gives : (site width a b : ℕ) (w : World) → gives site (truth (compare_of predicate.Ne no_flags width a b)) w ≡ Gives (from_bool (not (eqb a b))) w
+unfolding compare_of holds
+differs_gives site width a b w = refl
+
+runtime_known : (f : RuntimeFn) → lookup runtime_functions (runtime_name f) ≡ Some f
+runtime_known function.Check = refl
+runtime_known function.CheckMemory = refl
+runtime_known function.CheckString = refl
+runtime_known function.Blind = refl
+runtime_known function.Poison = refl
+runtime_known function.Unpoison = refl
+runtime_known function.Copy = refl
+runtime_known function.Fill = refl
+runtime_known function.StoreOrigin = refl
+runtime_known function.LoadOrigin = refl
+runtime_known function.Size = refl
+
+-- the operands of a task's last instruction are those that hold its words
+pub last_operands : (t : Task) (n : ℕ) → operands (last_op t (flatten_all (parts t) n).operands) ≡ (flatten_all (parts t) n).operands
+last_operands (Sets x o t a b) n = refl
+last_operands (Picks x c t a b) n = refl
+last_operands (Fetches x t a) n = refl
+last_operands (Puts t a b) n = refl
+last_operands (Calls x f args) n = refl
+
+pub last_slots : (t : Task) (os : List (Ty × Operand)) (words : List ℕ) (cells : ℕ → ℕ) → slots_after (last_op t os) words cells ≡ slots_after (last_op t []) words cells
+last_slots (Sets x o t a b) os words cells = refl
+last_slots (Picks x c t a b) os words cells = refl
+last_slots (Fetches x t a) os words cells = refl
+last_slots (Puts t a b) os words cells = refl
+last_slots (Calls x f args) os words cells = refl
+
+pub last_effect : (s : Setting) (h : Here) (t : Task) (os : List (Ty × Operand)) (words : List ℕ) (cells : ℕ → ℕ) (w : World) → act_marked s h (last_op t os) words cells w ≡ task_effect s h t words cells w
+last_effect s h (Sets x o t a b) os words cells w = logic_gives h.site o _ _ _ w
+last_effect s h (Picks x c t a b) os words cells w = refl
+last_effect s h (Fetches x t a) os words cells w = refl
+last_effect s h (Puts t a b) os words cells w = refl
+last_effect s h (Calls x f args) os words cells w = ap (λ r. elim r [ Some g ↦ runtime s g words w | None ↦ Ends stuck w ]) (runtime_known f)
