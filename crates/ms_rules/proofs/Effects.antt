@@ -1,5 +1,5 @@
 -- What the last instruction of a word or of a task comes to: none of them traps.
-use Rattle.std.proofs.Common.{◌≡◌, ℕ, ◌%◌, ◌^◌, List, [], ◌∷◌, refl, sym, ap, ◌∙◌, arith, true}
+use Rattle.std.proofs.Common.{◌≡◌, ℕ, List, [], refl, ap}
 use Rattle.std.specs.Prelude.{not, eqb, Some, None}
 use Rattle.std.specs.Int.{from_bool}
 use Rattle.ms_bits.specs.declared.operations.CastOp.{CastOp}
@@ -13,13 +13,13 @@ use Rattle.ms_ir.specs.declared.syntax.Ty.{Ty}
 use Rattle.ms_ir.specs.declared.syntax.Operand.{Operand}
 use Rattle.ms_ir.specs.First.{Logic, And, Or, Xor, logic_op, no_flags}
 use Rattle.ms_ir.specs.Names.{lookup, runtime_functions}
-use Rattle.ms_ir.specs.World.{World, Setting, Here, Effect, Gives, Ends, stuck}
+use Rattle.ms_ir.specs.World.{World, Setting, Here, Gives, Ends, stuck}
 use Rattle.ms_ir.specs.Code.{operands}
 use Rattle.ms_ir.specs.Act.{truth, gives}
 use Rattle.ms_ir.specs.Masks.{value_or_zero}
 use Rattle.ms_ir.specs.Plain.{slots_after, act_marked}
 use Rattle.ms_ir.specs.Runtime.{runtime}
-use Rattle.ms_rules.specs.Tasks.{Expr, Task, Sets, Picks, Fetches, Puts, Calls, runtime_name, parts, last_op, flatten_all, logic_of, task_effect}
+use Rattle.ms_rules.specs.Tasks.{Task, Sets, Picks, Fetches, Puts, Calls, runtime_name, parts, last_op, flatten_all, logic_of, task_effect}
 
 pub logic_gives : (site : ℕ) (o : Logic) (width a b : ℕ) (w : World) → gives site (binary_of (logic_op o) no_flags width a b) w ≡ Gives (logic_of o a b) w
 unfolding binary_of or_of

@@ -13,15 +13,17 @@ use Rattle.ms_ir.specs.declared.syntax.Op.{Op}
 use Rattle.ms_ir.specs.declared.syntax.Op.TheVariants as op
 use Rattle.ms_ir.specs.declared.syntax.Inst.{Inst}
 use Rattle.ms_ir.specs.declared.runs.End.{End}
+use Rattle.ms_bits.specs.Conversions.{cast_of, select_of}
 use Rattle.ms_ir.specs.First.{logic_op, no_flags}
 use Rattle.ms_ir.specs.Layout.{width_of}
 use Rattle.ms_ir.specs.Names.{name_eq}
 use Rattle.ms_ir.specs.World.{World, Setting, Here, Effect, Gives, Does, Goes, Enters, Leaves, Ends}
 use Rattle.ms_ir.specs.Code.{operands}
 use Rattle.ms_ir.specs.Control.{with_value}
-use Rattle.ms_ir.specs.Act.{operand_word, gives}
+use Rattle.ms_ir.specs.Act.{operand_word}
+use Rattle.ms_ir.specs.Masks.{value_or_zero}
 use Rattle.ms_ir.specs.Plain.{slots_after, act_marked}
-use Rattle.ms_rules.specs.Tasks.{msan_name, Expr, Leaf, Two, Turn, IsSet, Pick, Task, Flat, inserted, flatten, flatten_all, parts, target, last_op, task_code, tasks_code, Values, Reach, Went, Over, set_result, marked_next, words_of, run_marked, eval, eval_all, task_effect, task_slots, do_tasks, Below, Same, Reaches, BelowOperand, BelowExpr, BelowExprs, BelowTasks}
+use Rattle.ms_rules.specs.Tasks.{msan_name, Expr, Leaf, Two, Turn, IsSet, Pick, Task, Flat, inserted, flatten, flatten_all, parts, target, last_op, task_code, tasks_code, Values, Reach, Went, Over, set_result, marked_next, words_of, run_marked, logic_of, eval, eval_all, task_effect, task_slots, do_tasks, Below, Same, Reaches, BelowOperand, BelowExpr, BelowExprs, BelowTasks}
 use Rattle.ms_rules.proofs.InsertedNames.{msan_below, below_more, with_here, with_other}
 use Rattle.ms_rules.proofs.Effects.{logic_gives, cast_gives, differs_gives, last_operands, last_slots, last_effect}
 
@@ -191,27 +193,27 @@ module _ (s : Setting) (h : Here) where
   expr_runs base (Leaf o) low v w n u le q = leaf_runs base o low v w n u le q
   expr_runs base (Two o t a b) low v w n u le q =
       let r = all_run base ((t, a) ∷ (t, b) ∷ []) v w (expr_runs base a low.0 v w, (expr_runs base b low.1 v w, tt)) n u le q in
-      made n ((t, a) ∷ (t, b) ∷ []) (op.Binary (logic_op o) no_flags t (flatten a n).operand (flatten b (flatten a n).next).operand) _ (flatten (Two o t a b) n).code v u w r
-      (λ rest. tail2 (flatten a n).code (flatten b (flatten a n).next).code rest _) refl (λ words cells. refl)
+      made n ((t, a) ∷ (t, b) ∷ []) (op.Binary (logic_op o) no_flags t (flatten a n).operand (flatten b (flatten a n).next).operand) (logic_of o (eval s v.names a t) (eval s v.names b t)) (flatten (Two o t a b) n).code v u w r
+      (λ rest. tail2 (flatten a n).code (flatten b (flatten a n).next).code rest (inserted (Some (msan_name (flatten b (flatten a n).next).next)) (op.Binary (logic_op o) no_flags t (flatten a n).operand (flatten b (flatten a n).next).operand))) refl (λ words cells. refl)
       (λ cells. logic_gives h.site o (width_of t) (eval s v.names a t) (eval s v.names b t) w)
   expr_runs base (Turn o t a to) low v w n u le q =
       let r = all_run base ((t, a) ∷ []) v w (expr_runs base a low v w, tt) n u le q in
-      made n ((t, a) ∷ []) (op.Cast o no_flags t (flatten a n).operand to) _ (flatten (Turn o t a to) n).code v u w r
-      (λ rest. tail1 (flatten a n).code rest _) refl (λ words cells. refl)
+      made n ((t, a) ∷ []) (op.Cast o no_flags t (flatten a n).operand to) (value_or_zero (cast_of o no_flags (width_of t) (eval s v.names a t) (width_of to))) (flatten (Turn o t a to) n).code v u w r
+      (λ rest. tail1 (flatten a n).code rest (inserted (Some (msan_name (flatten a n).next)) (op.Cast o no_flags t (flatten a n).operand to))) refl (λ words cells. refl)
       (λ cells. cast_gives h.site o (width_of t) (eval s v.names a t) (width_of to) w)
   expr_runs base (IsSet t a) low v w n u le q =
       let r = all_run base ((t, a) ∷ (t, Leaf (operand.Int 0)) ∷ []) v w (expr_runs base a low v w, (leaf_runs base (operand.Int 0) tt v w, tt)) n u le q in
-      made n ((t, a) ∷ (t, Leaf (operand.Int 0)) ∷ []) (op.Icmp predicate.Ne no_flags t (flatten a n).operand (operand.Int 0)) _ (flatten (IsSet t a) n).code v u w r
-      (λ rest. tail1 (flatten a n).code rest _) refl (λ words cells. refl)
-      (λ cells. differs_gives h.site (width_of t) (eval s v.names a t) _ w ∙ ap (λ z. Gives (from_bool (not (eqb (eval s v.names a t) z))) w) (zero_of (width_of t)))
+      made n ((t, a) ∷ (t, Leaf (operand.Int 0)) ∷ []) (op.Icmp predicate.Ne no_flags t (flatten a n).operand (operand.Int 0)) (from_bool (not (eqb (eval s v.names a t) 0))) (flatten (IsSet t a) n).code v u w r
+      (λ rest. tail1 (flatten a n).code rest (inserted (Some (msan_name (flatten a n).next)) (op.Icmp predicate.Ne no_flags t (flatten a n).operand (operand.Int 0)))) refl (λ words cells. refl)
+      (λ cells. differs_gives h.site (width_of t) (eval s v.names a t) (0 % 2 ^ width_of t) w ∙ ap (λ z. Gives (from_bool (not (eqb (eval s v.names a t) z))) w) (zero_of (width_of t)))
   expr_runs base (Pick c t a b) low v w n u le q =
       let es = (Int 1, c) ∷ (t, a) ∷ (t, b) ∷ [] in
       let r = all_run base es v w (expr_runs base c low.0 v w, (expr_runs base a low.1 v w, (expr_runs base b low.2 v w, tt))) n u le q in
       let z = flatten c n in
       let x = flatten a z.next in
       let y = flatten b x.next in
-      made n es (op.Select z.operand t x.operand y.operand) _ (flatten (Pick c t a b) n).code v u w r
-      (λ rest. tail3 z.code x.code y.code rest _) refl (λ words cells. refl) (λ cells. refl)
+      made n es (op.Select z.operand t x.operand y.operand) (select_of (eval s v.names c (Int 1)) (eval s v.names a t) (eval s v.names b t)) (flatten (Pick c t a b) n).code v u w r
+      (λ rest. tail3 z.code x.code y.code rest (inserted (Some (msan_name y.next)) (op.Select z.operand t x.operand y.operand))) refl (λ words cells. refl) (λ cells. refl)
 
   can_run_all : (base : ℕ) (es : List (Ty × Expr)) → BelowExprs base es → (v : Values) (w : World) → CanRunAll base es v w
   can_run_all base [] low v w = tt

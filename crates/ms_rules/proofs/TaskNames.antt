@@ -1,11 +1,11 @@
 -- What is inserted round an instruction reads and sets no inserted name that is free.
-use Rattle.std.proofs.Common.{◌≡◌, ℕ, zero, suc, ◌+◌, ◌*◌, ◌^◌, ◌<◌, ◌≤◌, List, [], ◌∷◌, ◌++◌, refl, sym, ap, ◌∙◌, subst, arith, Bool, true, false}
-use Rattle.std.specs.Prelude.{if◌then◌else◌, eqb, get_or, Option, Some, None}
+use Rattle.std.proofs.Common.{ℕ, zero, suc, ◌+◌, ◌*◌, ◌<◌, ◌≤◌, List, [], ◌∷◌, ◌++◌, sym, subst, Bool, true, false}
+use Rattle.std.specs.Prelude.{if◌then◌else◌, eqb, Option, Some, None}
 use Rattle.ms_bits.specs.declared.operations.BinOp.{BinOp}
 use Rattle.ms_bits.specs.declared.operations.BinOp.TheVariants as binary
 use Rattle.ms_bits.specs.declared.operations.CastOp.TheVariants as cast
 use Rattle.ms_ir.specs.declared.syntax.Name.{Name}
-use Rattle.ms_ir.specs.declared.syntax.Ty.{Ty, Int, Ptr}
+use Rattle.ms_ir.specs.declared.syntax.Ty.{Ty, Int}
 use Rattle.ms_ir.specs.declared.syntax.Operand.{Operand}
 use Rattle.ms_ir.specs.declared.syntax.Operand.TheVariants as operand
 use Rattle.ms_ir.specs.declared.syntax.Op.{Op}
@@ -16,7 +16,7 @@ use Rattle.ms_ir.specs.World.{Setting, Here}
 use Rattle.ms_ir.specs.Code.{operands, one_undef}
 use Rattle.ms_ir.specs.Uses.{Use, Word, Bytes, Line, uses}
 use Rattle.ms_rules.specs.Tasks.{mask_name, origin_name, Expr, Leaf, Turn, Task, BelowOperand, BelowExpr, BelowTasks, Below}
-use Rattle.ms_rules.specs.Emit.{Env, Given, Tracked, mask_type, mask_operand, origin_operand, local_mask, local_origin, tracked, tracked_at, is_zero, widened, use_tasks, check_tasks, binary_tasks, define_tasks, result_tasks, plane_tasks, before_tasks, after_tasks, KnownName, KnownOperand, KnownOperands, KnownResult, IsBuilt}
+use Rattle.ms_rules.specs.Emit.{Env, Given, Tracked, mask_type, mask_operand, origin_operand, local_mask, local_origin, tracked, tracked_at, is_zero, widened, use_tasks, check_tasks, binary_tasks, define_tasks, result_tasks, plane_tasks, before_tasks, after_tasks, KnownName, KnownOperand, KnownOperands, KnownResult}
 use Rattle.ms_rules.specs.Match.{given_of, Stands}
 use Rattle.ms_rules.proofs.InsertedNames.{own_below, mask_below, origin_below}
 
