@@ -1,5 +1,18 @@
 //! The shadow code that is inserted round one instruction.
 #![tactic(auto)]
 
+mod checks;
+mod code;
+mod emit;
+mod environment;
 pub mod instruction_laws;
 pub mod laws;
+mod names;
+mod planes;
+mod results;
+mod tracked;
+
+pub use emit::{Emitted, emit};
+pub use environment::Environment;
+pub use names::{runtime_name, runtime_ret};
+pub use tracked::count_undef;
