@@ -7,3 +7,7 @@ pub mod Unmarked
 pub mod Whole
 pub mod FirstKnown
 pub mod FaithfulFirst
+pub mod Walking
+pub mod FirstSimple
+pub mod FirstPass
+pub mod Declaring
