@@ -1,1 +1,3 @@
 pub mod Straight
+pub mod Results
+pub mod Operands
