@@ -1,3 +1,4 @@
 pub mod Straight
 pub mod Results
 pub mod Operands
+pub mod Slots

@@ -55,6 +55,7 @@ pub fn converted(fill: &[u8], results: &Results, op: CastOp, flags: Flags, from:
 }
 
 /// One of two words, by a word of one bit.
+#[tactic(auto, using(crate::proofs::Selections::select_zero, crate::proofs::Selections::select_other))]
 pub fn selected(fill: &[u8], results: &Results, cond: &Operand, ty: &Ty, a: &Operand, b: &Operand) -> u64
     requires filled { 1 ≤ length fill.now }
     requires condition { IsOperand 4294967295 cond.now }

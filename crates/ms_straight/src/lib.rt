@@ -4,3 +4,4 @@
 pub mod computations;
 pub mod operands;
 pub mod results;
+pub mod slots;
