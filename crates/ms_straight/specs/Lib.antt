@@ -2,3 +2,4 @@ pub mod Straight
 pub mod Results
 pub mod Operands
 pub mod Slots
+pub mod Computations

@@ -5,12 +5,13 @@ ghost use Rattle.ms_bits.specs.Conversions.{Allows, compare_of, cast_of, select_
 ghost use Rattle.ms_ir.specs.Act.{truth};
 ghost use Rattle.ms_ir.specs.Layout.{width_of};
 ghost use Rattle.ms_straight.specs.Straight.{IsOperand, IsWordType};
-ghost use Rattle.ms_straight.specs.Operands.{word_of};
+ghost use Rattle.ms_straight.specs.Operands.{word_of, words_of};
+ghost use Rattle.ms_straight.specs.Computations.{computed_of, IsComputed};
 
 use crate::operands::{width, word};
 use crate::results::Results;
 use ms_bits::{BinOp, CastOp, Flags, Pred, Trap, binary, cast, compare};
-use ms_ir::{Operand, Ty};
+use ms_ir::{Op, Operand, Ty};
 
 /// A binary operation.
 pub fn combined(fill: &[u8], results: &Results, op: BinOp, flags: Flags, ty: &Ty, a: &Operand, b: &Operand) -> Result<u64, Trap>
@@ -69,5 +70,30 @@ pub fn selected(fill: &[u8], results: &Results, cond: &Operand, ty: &Ty, a: &Ope
         word(fill, results, ty, b).value()
     } else {
         word(fill, results, ty, a).value()
+    }
+}
+
+/// What an instruction computes that does nothing else; 0 for any other one.
+pub fn computed(fill: &[u8], results: &Results, op: &Op) -> Result<u64, Trap>
+    requires filled { 1 ≤ length fill.now }
+    requires allowed { IsComputed 4294967295 op.now }
+    ensures { result ≡ computed_of op.now (words_of fill.now results.now op.now) }
+{
+    match op {
+        Op::Binary { op, flags, ty, a, b } => {
+            let word = combined(fill, results, *op, *flags, ty, a, b)?;
+            Ok(word)
+        }
+        Op::Icmp { pred, flags, ty, a, b } => {
+            let word = compared(fill, results, *pred, *flags, ty, a, b)?;
+            Ok(word)
+        }
+        Op::Cast { op, flags, from, a, to } => {
+            let word = converted(fill, results, *op, *flags, from, a, to)?;
+            Ok(word)
+        }
+        Op::Select { cond, ty, a, b } => Ok(selected(fill, results, cond, ty, a, b)),
+        Op::Freeze { ty, a } => Ok(word(fill, results, ty, a).value()),
+        _ => Ok(0),
     }
 }
