@@ -1,3 +1,5 @@
 pub mod Names
 pub mod Selections
 pub mod SlotBytes
+pub mod Memories
+pub mod Calls

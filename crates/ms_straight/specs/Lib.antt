@@ -3,3 +3,4 @@ pub mod Results
 pub mod Operands
 pub mod Slots
 pub mod Computations
+pub mod Machine

@@ -39,8 +39,8 @@ pub fn word(fill: &[u8], results: &Results, ty: &Ty, operand: &Operand) -> Word
     }
 }
 
-// The low bits of a number.
-fn cut(width: u8, number: u64) -> Word
+/// The low bits of a number.
+pub fn cut(width: u8, number: u64) -> Word
     requires some { 1 ≤ width }
     requires few { width ≤ 64 }
     ensures width { result.width ≡ width }
