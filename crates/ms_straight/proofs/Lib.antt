@@ -2,4 +2,4 @@ pub mod Names
 pub mod Selections
 pub mod SlotBytes
 pub mod Memories
-pub mod Calls
+pub mod Arguments

@@ -16,7 +16,7 @@ use crate::results::Results;
 use ms_bits::NoMemory;
 use ms_ir::{Name, Operand, RuntimeFn, Ty};
 
-/// The runtime function with a name, if there is one.
+// The runtime function with a name, if there is one.
 fn runtime_function(name: &Name) -> Option<RuntimeFn>
     ensures { result ≡ lookup runtime_functions name.now }
 {
@@ -32,24 +32,33 @@ fn runtime_function(name: &Name) -> Option<RuntimeFn>
         Some(RuntimeFn::CheckString)
     } else if b"__msan_blind".as_slice() == text {
         Some(RuntimeFn::Blind)
-    } else if b"__msan_poison".as_slice() == text {
-        Some(RuntimeFn::Poison)
-    } else if b"__msan_unpoison".as_slice() == text {
-        Some(RuntimeFn::Unpoison)
     } else {
-        later_function(text)
+        shadow_function(text)
     }
 }
 
-// The same of the text of a name, for those that stand behind the first six in the table.
-fn later_function(text: &[u8]) -> Option<RuntimeFn>
-    ensures { result ≡ lookup (drop 6 runtime_functions) (Name.Text text.now) }
+// The same among the functions that don't check, by the name's text.
+fn shadow_function(text: &[u8]) -> Option<RuntimeFn>
+    ensures { result ≡ lookup (drop 4 runtime_functions) (Name.Text text.now) }
 {
-    if b"__msan_copy".as_slice() == text {
+    if b"__msan_poison".as_slice() == text {
+        Some(RuntimeFn::Poison)
+    } else if b"__msan_unpoison".as_slice() == text {
+        Some(RuntimeFn::Unpoison)
+    } else if b"__msan_copy".as_slice() == text {
         Some(RuntimeFn::Copy)
     } else if b"__msan_fill".as_slice() == text {
         Some(RuntimeFn::Fill)
-    } else if b"__msan_store_origin".as_slice() == text {
+    } else {
+        origin_function(text)
+    }
+}
+
+// The same among the last functions of the table.
+fn origin_function(text: &[u8]) -> Option<RuntimeFn>
+    ensures { result ≡ lookup (drop 8 runtime_functions) (Name.Text text.now) }
+{
+    if b"__msan_store_origin".as_slice() == text {
         Some(RuntimeFn::StoreOrigin)
     } else if b"__msan_load_origin".as_slice() == text {
         Some(RuntimeFn::LoadOrigin)
