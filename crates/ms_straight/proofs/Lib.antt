@@ -3,3 +3,5 @@ pub mod Selections
 pub mod SlotBytes
 pub mod Memories
 pub mod Arguments
+pub mod Functions
+pub mod Acts

@@ -5,7 +5,7 @@ ghost use Rattle.ms_ir.specs.Act.{act, gives};
 ghost use Rattle.ms_ir.specs.Plain.{act_marked, slots_after};
 ghost use Rattle.ms_host.specs.State.{KeepsSetting};
 ghost use Rattle.ms_host.specs.Shows.{Shows};
-ghost use Rattle.ms_straight.specs.Straight.{IsStraightInst, IsMarked, IsUnmarked, IsResult, IsReturned};
+ghost use Rattle.ms_straight.specs.Straight.{IsStraightInst, IsOp, IsMarked, IsUnmarked, IsResult, IsReturned};
 ghost use Rattle.ms_straight.specs.Operands.{words_of};
 ghost use Rattle.ms_straight.specs.Slots.{cells_of};
 ghost use Rattle.ms_straight.specs.Computations.{computed_of, IsComputed};
@@ -113,6 +113,25 @@ impl Machine {
         }
     }
 
+    // An instruction, marked or not.
+    fn follow(&mut self, fill: &[u8], site: u32, inst: &Inst) -> Result<Outcome, NoMemory>
+        requires filled { 1 ≤ length fill.now }
+        requires allowed { IsOp 4294967295 inst.now.marked inst.now.op }
+        ensures results { self.new.results ≡ self.old.results }
+        ensures setting { KeepsSetting self.old.host self.new.host }
+        ensures slots { OnOk result (cells_of self.new.slots ≡ cells_after inst.now (words_of fill.now self.old.results inst.now.op) (cells_of self.old.slots)) }
+        ensures came { (setting : Setting) (here : Here) (world : World) → Fits setting fill.now self.old.host → here.site ≡ site → here.main ≡ true → Shows self.old.host world →
+            IfOk result (λ o. Came (effect_of setting here inst.now (words_of fill.now self.old.results inst.now.op) (cells_of self.old.slots) world) o self.new.host) }
+    {
+        if inst.marked {
+            let outcome = self.marked(fill, site, &inst.op)?;
+            Ok(outcome)
+        } else {
+            let outcome = self.unmarked(fill, site, &inst.op)?;
+            Ok(outcome)
+        }
+    }
+
     /// One instruction, which stands at a site or before the one of it. Answers how the run ends, or `None` where it
     /// goes on. The one error is want of memory.
     pub fn step(&mut self, fill: &[u8], site: u32, inst: &Inst) -> Result<Option<End>, NoMemory>
@@ -124,12 +143,7 @@ impl Machine {
             Holds self.old.results values → Shows self.old.host world →
             IfOk result (λ end_of_run. Followed (effect_of setting here inst.now (words_of fill.now self.old.results inst.now.op) (cells_of self.old.slots) world) values inst.now.result end_of_run self.new) }
     {
-        let outcome = if inst.marked {
-            self.marked(fill, site, &inst.op)?
-        } else {
-            self.unmarked(fill, site, &inst.op)?
-        };
-        match outcome {
+        match self.follow(fill, site, inst)? {
             Outcome::Gives(word) => {
                 self.name(&inst.result, word)?;
                 Ok(None)
