@@ -5,3 +5,6 @@ pub mod Memories
 pub mod Arguments
 pub mod Functions
 pub mod Acts
+pub mod Holding
+pub mod Followed
+pub mod Remaining

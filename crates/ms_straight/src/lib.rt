@@ -1,11 +1,15 @@
 //! Runs straight modules: what the pass makes of modules of the first form, and these themselves.
 #![tactic(auto)]
 
-pub mod calls;
-pub mod computations;
-pub mod machine;
-pub mod memory;
-pub mod operands;
-pub mod outcome;
-pub mod results;
-pub mod slots;
+mod calls;
+mod computations;
+mod machine;
+mod memory;
+mod operands;
+mod outcome;
+mod results;
+mod roots;
+mod runs;
+mod slots;
+
+pub use runs::run;

@@ -1,6 +1,6 @@
 //! The state of a run, and single instructions.
 ghost use Rattle.std.specs.Prelude.{◌≡◌, ◌≤◌, ◌<◌, ◌^◌, ℕ, length, true, IfOk, OnOk, Some, None, if◌then◌else◌};
-ghost use Rattle.ms_ir.specs.World.{World, Setting, Here, word as word_at};
+ghost use Rattle.ms_ir.specs.World.{World, Setting, Here, word as word_at, result as result_of};
 ghost use Rattle.ms_ir.specs.Act.{act, gives};
 ghost use Rattle.ms_ir.specs.Plain.{act_marked, slots_after};
 ghost use Rattle.ms_host.specs.State.{KeepsSetting};
@@ -151,5 +151,13 @@ impl Machine {
             Outcome::Does => Ok(None),
             Outcome::Ends(end) => Ok(Some(end)),
         }
+    }
+
+    /// What the run answers where it ends so.
+    pub fn finish(self, end: End) -> RunResult
+        ensures { (world : World) → Shows self.host world → result ≡ result_of end world }
+    {
+        let Machine { host, .. } = self;
+        host.finish(end)
     }
 }
