@@ -8,3 +8,5 @@ pub mod Acts
 pub mod Holding
 pub mod Followed
 pub mod Remaining
+pub mod Starts
+pub mod Going
