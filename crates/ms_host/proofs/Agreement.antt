@@ -1,5 +1,5 @@
 -- Maps that agree at live addresses, and hosts that show a changed world.
-use Rattle.std.proofs.Common.{◌≡◌, ℕ, zero, suc, ◌+◌, ◌-◌, ◌*◌, ◌/◌, ◌%◌, ◌<◌, ◌≤◌, Bool, true, false, List, [], ◌∷◌, ◌++◌, map, refl, sym, ap, ◌∙◌, subst, arith, ⊎_elim, if◌then◌else◌, IsTrue, eqb}
+use Rattle.std.proofs.Common.{◌≡◌, ℕ, zero, suc, ◌+◌, ◌-◌, ◌*◌, ◌/◌, ◌%◌, ◌<◌, ◌≤◌, Bool, true, false, List, [], ◌∷◌, ◌++◌, map, refl, sym, ap, ◌∙◌, subst, arith, ⊎_elim, if◌then◌else◌, IsTrue, eqb, Option, Some, None, MatchBool}
 use Rattle.ms_alloc.specs.declared.kinds.AllocKind.TheVariants as kind
 use Rattle.ms_alloc.specs.Allocations.{Allocations, IsLaidOut, listed, with_made, next_base as base_after, is_good as is_live}
 use Rattle.ms_bits.specs.Maps.{within, with_range, number_at, touches, with_cells, with_cell, byte_of}
@@ -119,3 +119,13 @@ cell-set h world m addr origin shows same b s o =
     (kept h.planes.table world.bytes (bytes_of h.planes) (bytes_of m) b shows.bytes)
     (kept h.planes.table world.shadow (shadow_of h.planes) (shadow_of m) s shows.shadow)
     (cells-kept h.planes.table (with_cell world.origins addr origin) (with_cell (origins_of h.planes) addr origin) (origins_of m) o (cell-agrees h.planes.table world.origins (origins_of h.planes) addr origin shows.origins))
+
+-- ---- answers
+
+pub on-true : (b : Bool) (P Q : Type 0) → b ≡ true → P → MatchBool b P Q
+on-true true P Q e p = p
+on-true false P Q e p = absurd (cc)
+
+pub on-false : (b : Bool) (P Q : Type 0) → b ≡ false → Q → MatchBool b P Q
+on-false true P Q e q = absurd (cc)
+on-false false P Q e q = q

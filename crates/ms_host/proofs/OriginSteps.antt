@@ -1,6 +1,6 @@
 -- Steps through the eight bytes that a mask speaks of, and that a store makes no pair.
 use Rattle.std.proofs.Common.{◌≡◌, ◌≢◌, ℕ, zero, suc, ◌+◌, ◌-◌, ◌/◌, ◌%◌, ◌<◌, ◌≤◌, Bool, true, false, not, List, length, refl, sym, ap, ◌∙◌, subst, arith, eqb, ltb, leb, cond, ◌||◌, if◌then◌else◌}
-use Rattle.std.proofs.lemmas.Bool.{eq-eqb, ne_eqb}
+use Rattle.std.proofs.lemmas.Bool.{eq-eqb, ne_eqb, lt-ltb}
 use Rattle.ms_bits.specs.Maps.{with_cell}
 use Rattle.ms_ir.specs.World.{World, Setting}
 use Rattle.ms_ir.specs.Memory.{is_good}
@@ -15,7 +15,11 @@ chosen-true false x y e = absurd (cc)
 
 never-chained : (n : ℕ) (c : Bool) → (eqb n 0 || ltb 0 n || c) ≡ true
 never-chained zero c = refl
-never-chained (suc n) c = refl
+never-chained (suc n) c = ap (λ (b : Bool). eqb (suc n) 0 || b || c) (lt-ltb 0 (suc n) (omega arith)) ∙ either (eqb (suc n) 0) c
+  where
+    either : (b d : Bool) → (b || true || d) ≡ true
+    either true d = refl
+    either false d = refl
 
 -- an origin stays what it is, and no pair is made
 pub chain-keeps : (setting : Setting) (old site : ℕ) (world : World) → chain setting old site world ≡ record { id = old; world = world }
