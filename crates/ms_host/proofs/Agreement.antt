@@ -1,14 +1,16 @@
 -- Maps that agree at live addresses, and hosts that show a changed world.
-use Rattle.std.proofs.Common.{◌≡◌, ℕ, zero, suc, ◌+◌, ◌-◌, ◌*◌, ◌/◌, ◌%◌, ◌<◌, ◌≤◌, Bool, true, false, List, [], ◌∷◌, ◌++◌, map, refl, sym, ap, ◌∙◌, subst, arith, ⊎_elim, if◌then◌else◌, IsTrue, eqb, Option, Some, None, MatchBool}
+use Rattle.std.proofs.Common.{◌≡◌, ℕ, zero, suc, ◌+◌, ◌-◌, ◌*◌, ◌/◌, ◌%◌, ◌<◌, ◌≤◌, Bool, true, false, List, [], ◌∷◌, ◌++◌, map, refl, sym, ap, ◌∙◌, subst, arith, ⊎_elim, if◌then◌else◌, IsTrue, eqb, Option, Some, None, MatchBool, MatchOption, ◌^◌, ◌&&◌, ltb}
 use Rattle.ms_alloc.specs.declared.kinds.AllocKind.TheVariants as kind
 use Rattle.ms_alloc.specs.Allocations.{Allocations, IsLaidOut, listed, with_made, next_base as base_after, is_good as is_live}
+use Rattle.std.proofs.lemmas.Bool.{lt-ltb, and_from, and_right}
 use Rattle.ms_bits.specs.Maps.{within, with_range, number_at, touches, with_cells, with_cell, byte_of}
 use Rattle.ms_planes.specs.Memory.{Memory, bytes_of, shadow_of, origins_of}
 use Rattle.ms_planes.proofs.Ranges.{range-in, touches-true}
 use Rattle.ms_ir.specs.World.{Stack, Allocation, World}
-use Rattle.ms_ir.specs.Memory.{next_base, is_good}
+use Rattle.ms_ir.specs.Memory.{next_base, is_good, set_cells, set_shadow}
+use Rattle.ms_ir.specs.Origins.{poison}
 use Rattle.ms_host.specs.State.{HostState}
-use Rattle.ms_host.specs.Shows.{Agrees, CellsAgree, Shows, allocation_of}
+use Rattle.ms_host.specs.Shows.{Agrees, CellsAgree, Shows, allocation_of, with_mark}
 use Rattle.ms_host.proofs.Liveness.{good-same, part-live, made-live, made-listed}
 
 -- ---- maps
@@ -120,7 +122,46 @@ cell-set h world m addr origin shows same b s o =
     (kept h.planes.table world.shadow (shadow_of h.planes) (shadow_of m) s shows.shadow)
     (cells-kept h.planes.table (with_cell world.origins addr origin) (with_cell (origins_of h.planes) addr origin) (origins_of m) o (cell-agrees h.planes.table world.origins (origins_of h.planes) addr origin shows.origins))
 
+abbrev poison_choice : Bool → (p n origin : ℕ) → World → World
+poison_choice b p n origin world = if b then set_cells p n origin (set_shadow p n (λ k. 255) world) else world
+
+-- good bytes were poisoned
+pub poisoned : (h : HostState) (world : World) (m : Memory) (a from to origin : ℕ) → Shows h world → from < to → is_live ((a + from) % 2 ^ 64) (to - from) h.planes.table ≡ true → m.table ≡ h.planes.table →
+    bytes_of m ≡ bytes_of h.planes → shadow_of m ≡ with_range (shadow_of h.planes) ((a + from) % 2 ^ 64) (to - from) (λ k. 255) → origins_of m ≡ with_cells (origins_of h.planes) ((a + from) % 2 ^ 64) (to - from) origin →
+    Shows (record h { planes = m }) (poison a from to origin world)
+poisoned h world m a from to origin shows some good same b s o =
+    let p : ℕ = (a + from) % 2 ^ 64 in
+    let both : (ltb from to && is_good world p (to - from)) ≡ true = and_from _ _ (lt-ltb from to some) (good-of h world p (to - from) shows ∙ good) in
+    subst (λ (c : Bool). Shows (record h { planes = m }) (poison_choice c p (to - from) origin world)) (sym both)
+    (poison-set h world m p (to - from) origin (λ k. 255) shows same b s o)
+
+-- bytes that aren't good stay
+pub not-poisoned : (h : HostState) (world : World) (a from to origin : ℕ) → Shows h world → is_live ((a + from) % 2 ^ 64) (to - from) h.planes.table ≡ false → Shows h (poison a from to origin world)
+not-poisoned h world a from to origin shows bad =
+    let p : ℕ = (a + from) % 2 ^ 64 in
+    subst (λ (c : Bool). Shows h (poison_choice c p (to - from) origin world)) (sym (and_right (ltb from to) (is_good world p (to - from)) (good-of h world p (to - from) shows ∙ bad))) shows
+
+abbrev mark_choice : Bool → (a origin : ℕ) → World → World
+mark_choice b a origin world = if b then record world { origins = with_cell world.origins a origin } else world
+
+-- a live byte's cell was marked
+pub marked : (h : HostState) (world : World) (m : Memory) (a live origin : ℕ) → Shows h world → live ≡ a → is_live live 1 h.planes.table ≡ true → m.table ≡ h.planes.table →
+    bytes_of m ≡ bytes_of h.planes → shadow_of m ≡ shadow_of h.planes → origins_of m ≡ with_cell (origins_of h.planes) live origin →
+    Shows (record h { planes = m }) (with_mark a origin world)
+marked h world m a live origin shows at good same b s o =
+    subst (λ (x : ℕ). Shows (record h { planes = m }) (with_mark x origin world)) at
+    (subst (λ (c : Bool). Shows (record h { planes = m }) (mark_choice c live origin world)) (sym (good-of h world live 1 shows ∙ good))
+    (cell-set h world m live origin shows same b s o))
+
+-- a byte that isn't live has no cell to mark
+pub not-marked : (h : HostState) (world : World) (a origin : ℕ) → Shows h world → is_live a 1 h.planes.table ≡ false → Shows h (with_mark a origin world)
+not-marked h world a origin shows dead = subst (λ (c : Bool). Shows h (mark_choice c a origin world)) (sym (good-of h world a 1 shows ∙ dead)) shows
+
 -- ---- answers
+
+pub none-then : (o : Option ℕ) (P : Type 0) (Q : ℕ → Type 0) → ((x : ℕ) → o ≡ Some x → ⊥) → MatchOption o P Q → P
+none-then None P Q never m = m
+none-then (Some x) P Q never m = absurd (never x refl)
 
 pub on-true : (b : Bool) (P Q : Type 0) → b ≡ true → P → MatchBool b P Q
 on-true true P Q e p = p

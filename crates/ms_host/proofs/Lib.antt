@@ -1,3 +1,4 @@
 pub mod Liveness
 pub mod Agreement
 pub mod OriginSteps
+pub mod MadeBytes
