@@ -9,7 +9,7 @@ use Rattle.ms_planes.proofs.Ranges.{range-in, touches-true}
 use Rattle.ms_ir.specs.World.{Stack, Allocation, World}
 use Rattle.ms_ir.specs.Memory.{next_base, is_good, set_cells, set_shadow}
 use Rattle.ms_ir.specs.Origins.{poison}
-use Rattle.ms_host.specs.State.{HostState}
+use Rattle.ms_host.specs.State.{HostState, KeepsSetting}
 use Rattle.ms_host.specs.Shows.{Agrees, CellsAgree, Shows, allocation_of, with_mark}
 use Rattle.ms_host.proofs.Liveness.{good-same, part-live, made-live, made-listed}
 
@@ -156,6 +156,9 @@ marked h world m a live origin shows at good same b s o =
 -- a byte that isn't live has no cell to mark
 pub not-marked : (h : HostState) (world : World) (a origin : ℕ) → Shows h world → is_live a 1 h.planes.table ≡ false → Shows h (with_mark a origin world)
 not-marked h world a origin shows dead = subst (λ (c : Bool). Shows h (mark_choice c a origin world)) (sym (good-of h world a 1 shows ∙ dead)) shows
+
+pub keeps-both : (a b c : HostState) → KeepsSetting a b → KeepsSetting b c → KeepsSetting a c
+keeps-both a b c k j = record { fill = j.fill ∙ k.fill; limit = j.limit ∙ k.limit; roots = j.roots ∙ k.roots }
 
 -- ---- answers
 

@@ -5,7 +5,8 @@ use Rattle.ms_bits.specs.Maps.{with_cell}
 use Rattle.ms_ir.specs.World.{World, Setting}
 use Rattle.ms_ir.specs.Memory.{is_good}
 use Rattle.ms_ir.specs.Origins.{Chained, keeps_old, chain, trail, mark_cells, store_origin, origin_within, load_origin}
-use Rattle.ms_host.specs.Shows.{with_mark}
+use Rattle.ms_host.specs.State.{HostState}
+use Rattle.ms_host.specs.Shows.{Shows, with_mark}
 
 -- ---- no pair
 
@@ -93,3 +94,28 @@ within-found k a rest world l some live =
     within-step k a rest world l
     ∙ ap (λ (b : Bool). if b || not (is_good world (a + k) 1) then origin_within (8 - (k + 1)) (a + (k + 1)) (rest / 256) world else world.origins ((a + k) / 4)) (ne_eqb (rest % 256) 0 some)
     ∙ ap (λ (g : Bool). if not g then origin_within (8 - (k + 1)) (a + (k + 1)) (rest / 256) world else world.origins ((a + k) / 4)) live
+
+-- ---- a store's marks
+
+-- a host shows a world from which the marks of the bytes from k on lead to the same as all from the start
+abbrev pub MarksTo : (start h : HostState) → (k a rest mask origin : ℕ) → Type 0
+MarksTo start h k a rest mask origin = (world : World) → Shows start world → (v : World) × ((mark_cells (8 - k) (a + k) rest origin v ≡ mark_cells 8 a mask origin world) × Shows h v)
+
+pub marks-skip : (start h : HostState) (k a rest mask origin : ℕ) → k < 8 → rest % 256 ≡ 0 → MarksTo start h k a rest mask origin → MarksTo start h (k + 1) a (rest / 256) mask origin
+marks-skip start h k a rest mask origin l none marks world shows =
+    let r = marks world shows in
+    (r.0, (ap (mark_cells (8 - (k + 1)) (a + (k + 1)) (rest / 256) origin) (sym (byte-skipped rest (a + k) origin r.0 none)) ∙ sym (mark-step k a rest origin r.0 l) ∙ r.1.0, r.1.1))
+
+pub marks-one : (start h h' : HostState) (k a rest mask origin : ℕ) → k < 8 → rest % 256 ≢ 0 → ((world : World) → Shows h world → Shows h' (with_mark (a + k) origin world)) →
+    MarksTo start h k a rest mask origin → MarksTo start h' (k + 1) a (rest / 256) mask origin
+marks-one start h h' k a rest mask origin l some mark marks world shows =
+    let r = marks world shows in
+    (with_mark (a + k) origin r.0,
+    (ap (mark_cells (8 - (k + 1)) (a + (k + 1)) (rest / 256) origin) (sym (byte-marked rest (a + k) origin r.0 some)) ∙ sym (mark-step k a rest origin r.0 l) ∙ r.1.0,
+    mark r.0 r.1.1))
+
+pub marks-end : (start h : HostState) (k a rest mask origin : ℕ) → 8 ≤ k → MarksTo start h k a rest mask origin → (world : World) → Shows start world → Shows h (mark_cells 8 a mask origin world)
+marks-end start h k a rest mask origin done marks world shows =
+    let r = marks world shows in
+    let none : 8 - k ≡ 0 = omega arith in
+    subst (Shows h) (sym (ap (λ (n : ℕ). mark_cells n (a + k) rest origin r.0) none) ∙ r.1.0) r.1.1
