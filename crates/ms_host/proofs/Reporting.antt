@@ -60,4 +60,4 @@ reported-on h setting world report rs suits shows some way is more =
     (with_report report world, (check-is h setting world report suits shows some way ∙ limit-is h setting world report rs _ suits shows is (lt-leb h.limit (length rs) more), shows-report h world report rs shows is))
 
 pub ok-then : {A E : Type 0} (r : Result A E) (x : A) (P : A → Type 0) → r ≡ Ok x → P x → IfOk r P
-ok-then r x P is holds = subst (λ (q : Result A E). IfOk q P) (sym is) holds
+ok-then {A = A} {E = E} r x P is holds = subst (λ (q : Result A E). IfOk q P) (sym is) holds
