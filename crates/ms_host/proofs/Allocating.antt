@@ -1,11 +1,12 @@
 -- An allocation of uninitialised bytes on the stack.
-use Rattle.std.proofs.Common.{◌≡◌, ℕ, ◌+◌, ◌<◌, ◌≤◌, Bool, true, false, List, [], ◌∷◌, ◌++◌, map, length, refl, sym, ap, ◌∙◌, subst, arith, is_some, Option, Some, None, cond, leb, eqb, ◌&&◌, ◌||◌, IsTrue, append_assoc}
+use Rattle.std.proofs.Common.{◌≡◌, ℕ, ◌+◌, ◌<◌, ◌≤◌, Bool, true, false, List, [], ◌∷◌, ◌++◌, map, length, refl, sym, ap, ◌∙◌, subst, arith, is_some, Option, Some, None, cond, leb, eqb, ◌&&◌, ◌||◌, IsTrue, append_assoc, Result, Ok, Err}
 use Rattle.std.specs.List.{find}
 use Rattle.std.specs.Option.{option_or}
 use Rattle.std.proofs.lemmas.Bool.{and_from, le-leb, lt-leb}
 use Rattle.std.proofs.lemmas.List.Folds.{find-append}
 use Rattle.ms_alloc.specs.declared.kinds.AllocKind.TheVariants as kind
 use Rattle.ms_alloc.specs.declared.allocations.Allocation.{Allocation as Entry}
+use Rattle.ms_alloc.specs.declared.errors.AllocError.{AllocError}
 use Rattle.ms_alloc.specs.Layout.{room as room_taken, area_limit as limit_of}
 use Rattle.ms_alloc.specs.Allocations.{Allocations, IsLaidOut, listed, next as next_entry, with_made, used as taken_by, next_base as base_after, covers as has_range, is_good as is_live}
 use Rattle.ms_alloc.proofs.Rows.{used-append, size-le}
@@ -18,6 +19,9 @@ use Rattle.ms_host.specs.State.{HostState, IsHost}
 use Rattle.ms_host.specs.Shows.{Agrees, CellsAgree, Shows, Allocated, allocation_of}
 use Rattle.ms_host.proofs.Liveness.{base-same, fits-same, made-listed}
 use Rattle.ms_host.proofs.Agreement.{changed, range-agrees, range-made, cells-made, kept, cells-kept}
+
+pub ok-not-err : (r : Result ℕ AllocError) (x : ℕ) (e : AllocError) → r ≡ Ok x → r ≡ Err e → ⊥
+ok-not-err r x e is other = cc
 
 some-or-some : (o : Option Entry) (a : Entry) → is_some (option_or o (Some a)) ≡ true
 some-or-some None a = refl

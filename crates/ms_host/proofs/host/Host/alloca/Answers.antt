@@ -1,4 +1,4 @@
-use Rattle.std.proofs.Common.{◌≡◌, ℕ, ◌+◌, ◌<◌, ◌≤◌, ◌∙◌, ap, sym, subst, arith, List, IsTrue}
+use Rattle.std.proofs.Common.{◌≡◌, ℕ, ◌+◌, ◌<◌, ◌≤◌, ◌∙◌, ap, sym, subst, arith, List, IsTrue, Ok, Err, refl}
 use Rattle.ms_alloc.specs.declared.kinds.AllocKind.TheVariants as kind
 use Rattle.ms_alloc.specs.Layout.{room as room_taken, area_limit as limit_of}
 use Rattle.ms_alloc.specs.Allocations.{Allocations, IsLaidOut, used as taken_by, with_made, next_base as base_after, is_good as is_live}
@@ -8,13 +8,13 @@ use Rattle.ms_planes.specs.Memory.{bytes_of}
 use Rattle.ms_host.specs.State.{HostState}
 use Rattle.ms_host.specs.Shows.{Shows}
 use Rattle.ms_host.proofs.Liveness.{made-laid_out}
-use Rattle.ms_host.proofs.Allocating.{made-good, made-within, allocated, not-allocated}
+use Rattle.ms_host.proofs.Allocating.{ok-not-err, made-good, made-within, allocated, not-allocated}
 use Rattle.ms_host.proofs.host.Host.alloca.Goals as goal
 
 pub write_unset-requires-clause-laid_out : goal.write_unset-requires-clause-laid_out
 write_unset-requires-clause-laid_out c =
     let t : Allocations = c.self.inside.planes.table in
-    let not_full : ¬ (limit_of kind.Stack < taken_by t.stack + room_taken c.args.size) = c.in-Ok.ensures.full.1 in
+    let not_full : ¬ (limit_of kind.Stack < taken_by t.stack + room_taken c.args.size) = λ (full : limit_of kind.Stack < taken_by t.stack + room_taken c.args.size). ok-not-err (Ok c.in-Ok.base) c.in-Ok.base _ refl (c.in-Ok.ensures.full.1 full) in
     subst IsLaidOut (sym c.in-Ok.ensures.table) (made-laid_out t c.args.size c.self.invariant.laid_out (omega (arith, not_full)))
 
 pub write_unset-requires-clause-good : goal.write_unset-requires-clause-good
@@ -26,7 +26,7 @@ write_unset-requires-clause-good c =
 pub invariant_of-self : goal.invariant_of-self
 invariant_of-self c =
     let t : Allocations = c.self.inside.planes.table in
-    let not_full : ¬ (limit_of kind.Stack < taken_by t.stack + room_taken c.args.size) = c.in-Ok.ensures.full.1 in
+    let not_full : ¬ (limit_of kind.Stack < taken_by t.stack + room_taken c.args.size) = λ (full : limit_of kind.Stack < taken_by t.stack + room_taken c.args.size). ok-not-err (Ok c.in-Ok.base) c.in-Ok.base _ refl (c.in-Ok.ensures.full.1 full) in
     let same : c.write_unset.new.planes.table ≡ with_made kind.Stack c.args.size t = c.write_unset.ensures.table ∙ c.in-Ok.ensures.table in
     record {
       laid_out = subst IsLaidOut (sym same) (made-laid_out t c.args.size c.self.invariant.laid_out (omega (arith, not_full)));
@@ -40,7 +40,7 @@ returns-in-Ok-clause-allocated c = λ world shows.
     let n : ℕ = c.args.size in
     let made : ℕ = c.self.inside.made in
     let old : ℕ → ℕ = with_range (bytes_of c.self.inside.planes) (base_after kind.Stack t) n (λ k. 0) in
-    let not_full : ¬ (limit_of kind.Stack < taken_by t.stack + room_taken n) = c.in-Ok.ensures.full.1 in
+    let not_full : ¬ (limit_of kind.Stack < taken_by t.stack + room_taken n) = λ (full : limit_of kind.Stack < taken_by t.stack + room_taken n). ok-not-err (Ok c.in-Ok.base) c.in-Ok.base _ refl (c.in-Ok.ensures.full.1 full) in
     let s = subst (λ (h : HostState). Shows h world) (sym c.self.view_is) shows in
     allocated _ world n c.in-Ok.base c.write_unset.new.planes s c.self.invariant.laid_out c.in-Ok.ensures.base (omega (arith, not_full)) (record {
       table = c.write_unset.ensures.table ∙ c.in-Ok.ensures.table;
@@ -55,4 +55,4 @@ returns-in-Ok-clause-allocated c = λ world shows.
 pub returns-in-Err-Full-clause-allocated : goal.returns-in-Err-Full-clause-allocated
 returns-in-Err-Full-clause-allocated c = λ world shows.
     let s = subst (λ (h : HostState). Shows h world) (sym c.self.view_is) shows in
-    not-allocated _ world c.args.size c.make.new.self s c.self.invariant.laid_out ? ?
+    not-allocated _ world c.args.size c.make.new.self s c.self.invariant.laid_out (c.in-Err-Full.ensures.full.0 (ap Err c.in-Err-Full.field-0-is)) c.in-Err-Full.ensures.unchanged
