@@ -98,17 +98,19 @@ unset-at h world n m shows unset = record {
 pub allocated : (h : HostState) (world : World) (n base : ℕ) (m : Memory) → Shows h world → IsLaidOut h.planes.table → base ≡ base_after kind.Stack h.planes.table →
     taken_by h.planes.table.stack + room_taken n ≤ limit_of kind.Stack → Unset h n m → Allocated world n (Some base) (record h { planes = m; made = h.made + n })
 allocated h world n base m shows laid at room unset =
-    let same : next_base Stack world ≡ base_after kind.Stack h.planes.table = base-same h.planes.table world laid shows.allocs in
-    (fits-same h.planes.table world n laid shows.allocs ∙ le-leb _ _ room,
-    at ∙ sym same,
-    subst (λ (b : ℕ). Shows (record h { planes = m; made = h.made + n }) (unset_at h.fill b n world)) (sym same) (unset-at h world n m shows unset))
+    let same : next_base Stack world ≡ base_after kind.Stack h.planes.table = base-same h.planes.table world laid shows.allocs in (
+      fits-same h.planes.table world n laid shows.allocs ∙ le-leb _ _ room,
+      at ∙ sym same,
+      subst (λ (b : ℕ). Shows (record h { planes = m; made = h.made + n }) (unset_at h.fill b n world)) (sym same) (unset-at h world n m shows unset),
+    )
 
 -- they didn't fit
 pub not-allocated : (h : HostState) (world : World) (n : ℕ) (m : Memory) → Shows h world → IsLaidOut h.planes.table → limit_of kind.Stack < taken_by h.planes.table.stack + room_taken n → IsSame h.planes m →
     Allocated world n None (record h { planes = m })
-not-allocated h world n m shows laid full same =
-    (fits-same h.planes.table world n laid shows.allocs ∙ lt-leb _ _ full,
-    changed h world m world.bytes world.shadow world.origins shows (sym same.table)
-    (kept h.planes.table world.bytes (bytes_of h.planes) (bytes_of m) (sym same.bytes) shows.bytes)
-    (kept h.planes.table world.shadow (shadow_of h.planes) (shadow_of m) (sym same.shadow) shows.shadow)
-    (cells-kept h.planes.table world.origins (origins_of h.planes) (origins_of m) (sym same.origins) shows.origins))
+not-allocated h world n m shows laid full same = (
+  fits-same h.planes.table world n laid shows.allocs ∙ lt-leb _ _ full,
+  changed h world m world.bytes world.shadow world.origins shows (sym same.table)
+      (kept h.planes.table world.bytes (bytes_of h.planes) (bytes_of m) (sym same.bytes) shows.bytes)
+      (kept h.planes.table world.shadow (shadow_of h.planes) (shadow_of m) (sym same.shadow) shows.shadow)
+      (cells-kept h.planes.table world.origins (origins_of h.planes) (origins_of m) (sym same.origins) shows.origins),
+)

@@ -109,10 +109,13 @@ marks-skip start h k a rest mask origin l none marks world shows =
 pub marks-one : (start h h' : HostState) (k a rest mask origin : ℕ) → k < 8 → rest % 256 ≢ 0 → ((world : World) → Shows h world → Shows h' (with_mark (a + k) origin world)) →
     MarksTo start h k a rest mask origin → MarksTo start h' (k + 1) a (rest / 256) mask origin
 marks-one start h h' k a rest mask origin l some mark marks world shows =
-    let r = marks world shows in
-    (with_mark (a + k) origin r.0,
-    (ap (mark_cells (8 - (k + 1)) (a + (k + 1)) (rest / 256) origin) (sym (byte-marked rest (a + k) origin r.0 some)) ∙ sym (mark-step k a rest origin r.0 l) ∙ r.1.0,
-    mark r.0 r.1.1))
+    let r = marks world shows in (
+      with_mark (a + k) origin r.0,
+      (
+        ap (mark_cells (8 - (k + 1)) (a + (k + 1)) (rest / 256) origin) (sym (byte-marked rest (a + k) origin r.0 some)) ∙ sym (mark-step k a rest origin r.0 l) ∙ r.1.0,
+        mark r.0 r.1.1,
+      ),
+    )
 
 pub marks-end : (start h : HostState) (k a rest mask origin : ℕ) → 8 ≤ k → MarksTo start h k a rest mask origin → (world : World) → Shows start world → Shows h (mark_cells 8 a mask origin world)
 marks-end start h k a rest mask origin done marks world shows =

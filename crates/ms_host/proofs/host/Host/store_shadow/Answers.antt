@@ -11,9 +11,10 @@ returns-then-good-clause-stored c = λ world shows.
     let s = subst (λ (h : HostState). Shows h world) (sym c.self.view_is) shows in
     let good : is_live c.args.addr c.args.n c.self.inside.planes.table ≡ true =
     subst (λ (n : ℕ). is_live c.args.addr n c.self.inside.planes.table ≡ true) c.from.ensures (sym c.covers-good.ensures ∙ c.if-good.true) in
-    on-true c.covers-good.result _ _ c.if-good.true
-    (good-of _ world c.args.addr c.args.n s ∙ good,
-    shadow-set _ world c.store_shadow.new.self c.args.addr c.args.n (byte_of c.args.v) s c.store_shadow.ensures.table c.store_shadow.ensures.bytes c.store_shadow.ensures.shadow c.store_shadow.ensures.origins)
+    on-true c.covers-good.result _ _ c.if-good.true (
+      good-of _ world c.args.addr c.args.n s ∙ good,
+      shadow-set _ world c.store_shadow.new.self c.args.addr c.args.n (byte_of c.args.v) s c.store_shadow.ensures.table c.store_shadow.ensures.bytes c.store_shadow.ensures.shadow c.store_shadow.ensures.origins,
+    )
 
 pub returns-else-good-clause-stored : goal.returns-else-good-clause-stored
 returns-else-good-clause-stored c = λ world shows.
