@@ -16,6 +16,8 @@ use std::marker::Model;
 
 mod origins;
 mod reports;
+#[cfg(test)]
+mod tests;
 mod unset;
 
 use unset::write_unset;

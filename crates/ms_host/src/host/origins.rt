@@ -14,7 +14,9 @@ fn live_past(planes: &Planes, addr: u64, k: u64) -> Option<u64>
     requires { IsLaidOut planes.now.table }
     ensures { MatchOption result (is_good (addr + k) 1 planes.now.table ≡ false) (λ x. (x ≡ addr + k) × IsTrue (is_good x 1 planes.now.table)) }
 {
-    let sum = addr.checked_add(k)?;
+    let Some(sum) = addr.checked_add(k) else {
+        return None;
+    };
     if planes.covers(sum, 1) {
         Some(sum)
     } else {
