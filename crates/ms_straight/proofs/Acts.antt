@@ -1,18 +1,17 @@
 -- What an instruction of a straight module does, by its kind.
-use Rattle.std.proofs.Common.{◌≡◌, ℕ, true, false, List, [], ◌∷◌, ◌*◌, refl, sym, ap, ◌∙◌, subst, Some, None}
+use Rattle.std.proofs.Common.{◌≡◌, ℕ, List, [], ◌*◌, refl, sym, ap, ◌∙◌, subst, Some, None}
 use Rattle.std.specs.Prelude.{Option}
 use Rattle.ms_ir.specs.declared.syntax.Name.{Name}
-use Rattle.ms_ir.specs.declared.syntax.Ty.{Ty, Int}
+use Rattle.ms_ir.specs.declared.syntax.Ty.{Ty}
 use Rattle.ms_ir.specs.declared.syntax.Operand.{Operand}
-use Rattle.ms_ir.specs.declared.syntax.Operand.TheVariants as operand
 use Rattle.ms_ir.specs.declared.syntax.Op.{Op}
 use Rattle.ms_ir.specs.declared.syntax.Op.TheVariants as op
 use Rattle.ms_ir.specs.declared.calls.RuntimeFn.{RuntimeFn}
 use Rattle.ms_ir.specs.Layout.{width_of, size_in}
 use Rattle.ms_ir.specs.Names.{lookup, runtime_functions}
-use Rattle.ms_ir.specs.World.{World, Setting, Here, Effect, Ends, stuck}
+use Rattle.ms_ir.specs.World.{World, Setting, Here, Ends, stuck}
 use Rattle.ms_ir.specs.Act.{act, gives, alloca, load, store}
-use Rattle.ms_ir.specs.Plain.{act_marked, slots_after, load_marked, store_marked}
+use Rattle.ms_ir.specs.Plain.{act_marked, slots_after, load_marked}
 use Rattle.ms_ir.specs.Runtime.{runtime}
 use Rattle.ms_straight.specs.declared.results.Results.{Results}
 use Rattle.ms_straight.specs.Straight.{IsUnmarked, IsMarked}

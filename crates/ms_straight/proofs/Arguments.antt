@@ -1,10 +1,10 @@
 -- The arguments of runtime functions, and what the host's calls say of them.
-use Rattle.std.proofs.Common.{◌≡◌, ℕ, zero, suc, ◌^◌, ◌≤◌, List, [], ◌∷◌, refl, sym, ap, ◌∙◌, subst, Some, None, slice_get, lit≤, arith}
+use Rattle.std.proofs.Common.{◌≡◌, ℕ, zero, suc, List, [], ◌∷◌, sym, ap, ◌∙◌, subst, Some, None, slice_get, lit≤}
 use Rattle.std.specs.Prelude.{Option, IfSome, unwrap_or}
-use Rattle.ms_ir.specs.declared.syntax.Ty.{Ty, Int, Ptr}
+use Rattle.ms_ir.specs.declared.syntax.Ty.{Ty, Int}
 use Rattle.ms_ir.specs.declared.syntax.Operand.{Operand}
 use Rattle.ms_ir.specs.declared.runs.End.{End}
-use Rattle.ms_ir.specs.World.{World, Setting, Effect, Gives, Does, Ends}
+use Rattle.ms_ir.specs.World.{World, Setting, Gives, Does}
 use Rattle.ms_ir.specs.Origins.{check as check_of, poison as poison_of, store_origin as store_origin_of, load_origin as load_origin_of}
 use Rattle.ms_host.specs.State.{HostState}
 use Rattle.ms_host.specs.Shows.{Shows, Followed}

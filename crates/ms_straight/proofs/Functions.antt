@@ -1,5 +1,5 @@
 -- A name that none of the first runtime functions has.
-use Rattle.std.proofs.Common.{◌≡◌, ℕ, Bool, false, List, [], ◌∷◌, drop, refl, sym, ap, ◌∙◌, nat_eq, if◌then◌else◌, Some}
+use Rattle.std.proofs.Common.{◌≡◌, ℕ, Bool, false, List, ◌∷◌, drop, sym, ap, ◌∙◌, nat_eq, if◌then◌else◌, Some}
 use Rattle.std.specs.Prelude.{Option, codes}
 use Rattle.std.specs.Cmp.Lexicographic.{pointwise}
 use Rattle.ms_ir.specs.declared.syntax.Name.{Name}

@@ -9,12 +9,12 @@ use Rattle.ms_ir.specs.declared.runs.End.{End}
 use Rattle.ms_ir.specs.declared.runs.End.TheVariants as «end»
 use Rattle.ms_ir.specs.declared.runs.Setup.{Setup}
 use Rattle.ms_ir.specs.declared.runs.RunResult.{RunResult}
-use Rattle.ms_ir.specs.World.{World, Setting, Here, Ends, result, stuck}
+use Rattle.ms_ir.specs.World.{World, Setting, Here, result, stuck}
 use Rattle.ms_ir.specs.Code.{insts_at, one_unmarked, over_insts}
 use Rattle.ms_ir.specs.Code.{operands}
 use Rattle.ms_ir.specs.Control.{here}
 use Rattle.ms_ir.specs.Plain.{plain, setting}
-use Rattle.ms_host.specs.State.{HostState, KeepsSetting}
+use Rattle.ms_host.specs.State.{KeepsSetting}
 use Rattle.ms_host.specs.Shows.{Shows, Suits, first_world}
 use Rattle.ms_straight.specs.declared.machine.Machine.{Machine}
 use Rattle.ms_straight.specs.Straight.{inserted_text, IsStraight, IsStraightInst}

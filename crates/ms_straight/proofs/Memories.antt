@@ -1,5 +1,5 @@
 -- What the host's calls say of the instructions that reach memory.
-use Rattle.std.proofs.Common.{◌≡◌, ℕ, true, false, refl, sym, ap, ◌∙◌, subst, if◌then◌else◌, Some, None}
+use Rattle.std.proofs.Common.{◌≡◌, ℕ, true, false, sym, ap, ◌∙◌, subst, if◌then◌else◌, Some, None}
 use Rattle.std.specs.Prelude.{bit_xor, Option}
 use Rattle.ms_bits.specs.declared.traps.Trap.TheVariants as trap
 use Rattle.ms_bits.specs.Maps.{byte_of}
@@ -7,8 +7,8 @@ use Rattle.ms_ir.specs.declared.syntax.Ty.{Ty}
 use Rattle.ms_ir.specs.declared.runs.End.TheVariants as «end»
 use Rattle.ms_ir.specs.Layout.{stored_size}
 use Rattle.ms_ir.specs.Names.{slots}
-use Rattle.ms_ir.specs.World.{World, Setting, Stack, Gives, Does, Ends, traps}
-use Rattle.ms_ir.specs.Memory.{is_good, store_number, set_shadow, fits, next_base, make_unset}
+use Rattle.ms_ir.specs.World.{World, Setting, Stack, Gives, Does, traps}
+use Rattle.ms_ir.specs.Memory.{is_good, store_number, set_shadow, next_base, make_unset}
 use Rattle.ms_ir.specs.Act.{store as store_of, alloca as alloca_of}
 use Rattle.ms_ir.specs.Plain.{store_marked as store_marked_of, in_slots, shadow_bits}
 use Rattle.ms_host.specs.State.{HostState, KeepsSetting}

@@ -1,8 +1,7 @@
 -- The names of results: their numbers are read back, and two of them are the same where these are.
-use Rattle.std.proofs.Common.{◌≡◌, ℕ, zero, suc, ◌+◌, ◌-◌, ◌*◌, ◌<◌, ◌≤◌, ◌^◌, Bool, true, false, List, [], ◌∷◌, ◌++◌, drop, refl, sym, ap, ◌∙◌, subst, arith}
+use Rattle.std.proofs.Common.{◌≡◌, ℕ, ◌+◌, ◌-◌, ◌*◌, ◌<◌, ◌≤◌, ◌^◌, List, [], ◌∷◌, refl, ap, ◌∙◌, arith}
 use Rattle.std.proofs.lemmas.Fmt.{digits_value-decimal}
-use Rattle.std.proofs.lemmas.Str.Parse.{FoldsDigits, IsNumeralModel, numerals_by_fold, tells_by_index}
-use Rattle.ms_ir.specs.declared.syntax.Name.{Name}
+use Rattle.std.proofs.lemmas.Str.Parse.{FoldsDigits, numerals_by_fold, tells_by_index}
 use Rattle.ms_ir.specs.declared.syntax.Name.TheVariants as name
 use Rattle.ms_straight.specs.Straight.{inserted_text, IsResultName}
 use Rattle.ms_straight.specs.Results.{spelled, inserted_number}

@@ -1,20 +1,17 @@
 -- A run of a straight module, instruction by instruction.
-use Rattle.std.proofs.Common.{◌≡◌, ℕ, zero, suc, ◌+◌, ◌-◌, ◌<◌, ◌≤◌, Bool, true, false, List, [], ◌∷◌, take, drop, length, get_or, refl, sym, ap, ◌∙◌, subst, arith, if◌then◌else◌, Some, None, drop-cons}
+use Rattle.std.proofs.Common.{◌≡◌, ℕ, zero, suc, ◌+◌, ◌-◌, Bool, true, false, List, [], ◌∷◌, drop, refl, ap, ◌∙◌, arith, if◌then◌else◌, Some, None}
 use Rattle.std.specs.Prelude.{Option, unwrap_or}
 use Rattle.ms_ir.specs.declared.syntax.Name.{Name}
 use Rattle.ms_ir.specs.declared.syntax.Inst.{Inst}
 use Rattle.ms_ir.specs.declared.syntax.Module.{Module}
-use Rattle.ms_ir.specs.declared.syntax.Func.{Func}
 use Rattle.ms_ir.specs.declared.runs.End.{End}
 use Rattle.ms_ir.specs.declared.runs.End.TheVariants as «end»
-use Rattle.ms_ir.specs.declared.runs.Setup.{Setup}
 use Rattle.ms_ir.specs.declared.runs.RunResult.{RunResult}
-use Rattle.ms_ir.specs.World.{World, Setting, Here, Effect, Gives, Does, Goes, Enters, Leaves, Ends, stuck, result}
-use Rattle.ms_ir.specs.Code.{operands, insts_at, one_unmarked, over_insts, over_blocks, over_funcs, site_at}
-use Rattle.ms_ir.specs.Control.{Frame, here, rest_of, read_all, moves, put, one_on, func_name, main_name}
-use Rattle.ms_ir.specs.Names.{name_eq}
+use Rattle.ms_ir.specs.World.{World, Setting, Effect, Gives, Does, Goes, Enters, Leaves, Ends, result}
+use Rattle.ms_ir.specs.Code.{operands, insts_at, one_unmarked}
+use Rattle.ms_ir.specs.Control.{Frame, here, read_all, moves, put}
 use Rattle.ms_ir.specs.Act.{plain_reading}
-use Rattle.ms_ir.specs.Plain.{PlainState, Stepped, More, Stop, plain_moved, plain_step, through, go_on, run}
+use Rattle.ms_ir.specs.Plain.{PlainState, Stepped, More, plain_moved, plain_step, through, go_on, run}
 use Rattle.ms_straight.specs.Machine.{effect_of, cells_after, named, went}
 
 abbrev pub frame_at : ℕ → (Name → ℕ) → Frame ℕ

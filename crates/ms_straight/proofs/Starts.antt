@@ -1,5 +1,5 @@
 -- What straight modules are to the interpreter: their instructions and operands, and the start of a run.
-use Rattle.std.proofs.Common.{◌≡◌, ℕ, zero, suc, ◌+◌, ◌*◌, ◌<◌, ◌≤◌, ◌^◌, Bool, true, false, List, [], ◌∷◌, take, drop, length, refl, sym, ap, ◌∙◌, subst, arith, lit<, if◌then◌else◌, Some, None}
+use Rattle.std.proofs.Common.{◌≡◌, ℕ, suc, ◌+◌, ◌<◌, ◌≤◌, ◌^◌, Bool, true, false, List, [], ◌∷◌, take, length, refl, sym, ap, ◌∙◌, subst, arith, lit<, if◌then◌else◌, Some, None}
 use Rattle.std.specs.Prelude.{Option, All, unwrap_or}
 use Rattle.ms_ir.specs.declared.calls.RuntimeFn.{RuntimeFn}
 use Rattle.ms_ir.specs.declared.calls.RuntimeFn.TheVariants.{Check, Poison, StoreOrigin, LoadOrigin}
@@ -21,7 +21,7 @@ use Rattle.ms_ir.specs.Memory.{make, next_base}
 use Rattle.ms_ir.specs.Globals.{make_globals, write_init, address_of}
 use Rattle.ms_ir.specs.Code.{operands, insts_at, func_index, roots_in, over_insts, over_funcs, one_unmarked, site_at, count_roots}
 use Rattle.ms_ir.specs.Control.{func_name, main_name}
-use Rattle.ms_ir.specs.Plain.{plain, plain_step, run, setting, start_world, PlainState}
+use Rattle.ms_ir.specs.Plain.{plain, plain_step, run, setting, start_world}
 use Rattle.ms_host.specs.Shows.{first_world}
 use Rattle.ms_straight.specs.Straight.{IsResultName, IsResult, IsOperand, AreArguments, AreArgumentsOf, IsCommon, IsMarked, IsReturned, IsUnmarked, IsOp, IsStraightInst, IsStraight}
 use Rattle.ms_straight.proofs.Holding.{AreOperands}

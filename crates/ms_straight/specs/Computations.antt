@@ -1,5 +1,5 @@
 -- Instructions that only compute a word of their operands' words.
-use Rattle.std.specs.Prelude.{ℕ, ◌^◌, List, Result, Ok, Err}
+use Rattle.std.specs.Prelude.{ℕ, List, Result, Ok}
 use Rattle.ms_bits.specs.declared.traps.Trap.{Trap}
 use Rattle.ms_bits.specs.Arithmetic.{binary_of}
 use Rattle.ms_bits.specs.Conversions.{Allows, compare_of, cast_of, select_of}

@@ -1,14 +1,11 @@
 -- How the interpreter's steps follow the definitions.
-use Rattle.std.specs.Prelude.{◌≡◌, ℕ, ◌<◌, ◌^◌, true, Bool, List, [], map, Option, Some, None, Result, Ok, Err, if◌then◌else◌}
-use Rattle.ms_bits.specs.declared.traps.Trap.{Trap}
+use Rattle.std.specs.Prelude.{◌≡◌, ℕ, ◌<◌, ◌^◌, List, [], map, Option, Some, None, if◌then◌else◌}
 use Rattle.ms_ir.specs.declared.syntax.Name.{Name}
 use Rattle.ms_ir.specs.declared.syntax.Name.TheVariants as name
-use Rattle.ms_ir.specs.declared.syntax.Op.{Op}
 use Rattle.ms_ir.specs.declared.syntax.Operand.{Operand}
 use Rattle.ms_ir.specs.declared.syntax.Ty.{Ty}
 use Rattle.ms_ir.specs.declared.syntax.Inst.{Inst}
 use Rattle.ms_ir.specs.declared.runs.End.{End}
-use Rattle.ms_ir.specs.declared.runs.End.TheVariants as «end»
 use Rattle.ms_ir.specs.Layout.{width_of}
 use Rattle.ms_ir.specs.World.{World, Setting, Here, Effect, Gives, Does, Ends, stuck}
 use Rattle.ms_ir.specs.Runtime.{runtime}
@@ -25,7 +22,6 @@ use Rattle.ms_straight.specs.declared.machine.Machine.{Machine}
 use Rattle.ms_straight.specs.Straight.{inserted_text}
 use Rattle.ms_straight.specs.Results.{value_of}
 use Rattle.ms_straight.specs.Operands.{word_of}
-use Rattle.ms_straight.specs.Slots.{cells_of}
 
 -- an effect came to an outcome: the host stands for the world then
 abbrev pub Came : Effect → Outcome → HostState → Type 0

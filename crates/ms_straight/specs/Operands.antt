@@ -4,7 +4,6 @@ use Rattle.ms_bits.specs.Fill.{undef_word_of}
 use Rattle.ms_ir.specs.declared.syntax.Operand.{Operand}
 use Rattle.ms_ir.specs.declared.syntax.Operand.TheVariants as operand
 use Rattle.ms_ir.specs.declared.syntax.Op.{Op}
-use Rattle.ms_ir.specs.declared.syntax.Ty.{Ty}
 use Rattle.ms_ir.specs.Layout.{width_of}
 use Rattle.ms_ir.specs.Code.{operands}
 use Rattle.ms_straight.specs.declared.results.Results.{Results}

@@ -1,5 +1,5 @@
 -- The bytes of the slots, as the interpreter keeps them: one for each address from the first slot to the end of the last.
-use Rattle.std.specs.Prelude.{ℕ, ◌-◌, List, leb, if◌then◌else◌}
+use Rattle.std.specs.Prelude.{ℕ, ◌-◌, leb, if◌then◌else◌}
 use Rattle.ms_planes.specs.Areas.{held}
 use Rattle.ms_straight.specs.declared.slots.Slots.{Slots}
 

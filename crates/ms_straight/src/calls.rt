@@ -160,7 +160,12 @@ impl Machine {
     }
 
     /// A marked call of one of the runtime functions that straight modules call.
-    pub fn call(&mut self, fill: &[u8], callee: &Name, args: &[(Ty, Operand)]) -> Result<Outcome, NoMemory>
+    pub fn call(
+        &mut self,
+        fill: &[u8],
+        callee: &Name,
+        args: &[(Ty, Operand)],
+    ) -> Result<Outcome, NoMemory>
         requires filled { 1 ≤ length fill.now }
         requires allowed { AreArgumentsOf 4294967295 (lookup runtime_functions callee.now) args.now }
         ensures results { self.new.results ≡ self.old.results }

@@ -14,7 +14,15 @@ use ms_bits::{BinOp, CastOp, Flags, Pred, Trap, binary, cast, compare};
 use ms_ir::{Op, Operand, Ty};
 
 /// A binary operation.
-pub fn combined(fill: &[u8], results: &Results, op: BinOp, flags: Flags, ty: &Ty, a: &Operand, b: &Operand) -> Result<u64, Trap>
+pub fn combined(
+    fill: &[u8],
+    results: &Results,
+    op: BinOp,
+    flags: Flags,
+    ty: &Ty,
+    a: &Operand,
+    b: &Operand,
+) -> Result<u64, Trap>
     requires filled { 1 ≤ length fill.now }
     requires typed { IsWordType ty.now }
     requires first { IsOperand 4294967295 a.now }
@@ -28,7 +36,15 @@ pub fn combined(fill: &[u8], results: &Results, op: BinOp, flags: Flags, ty: &Ty
 }
 
 /// A comparison, as a word of one bit.
-pub fn compared(fill: &[u8], results: &Results, pred: Pred, flags: Flags, ty: &Ty, a: &Operand, b: &Operand) -> Result<u64, Trap>
+pub fn compared(
+    fill: &[u8],
+    results: &Results,
+    pred: Pred,
+    flags: Flags,
+    ty: &Ty,
+    a: &Operand,
+    b: &Operand,
+) -> Result<u64, Trap>
     requires filled { 1 ≤ length fill.now }
     requires typed { IsWordType ty.now }
     requires first { IsOperand 4294967295 a.now }
@@ -42,7 +58,15 @@ pub fn compared(fill: &[u8], results: &Results, pred: Pred, flags: Flags, ty: &T
 }
 
 /// A cast.
-pub fn converted(fill: &[u8], results: &Results, op: CastOp, flags: Flags, from: &Ty, a: &Operand, to: &Ty) -> Result<u64, Trap>
+pub fn converted(
+    fill: &[u8],
+    results: &Results,
+    op: CastOp,
+    flags: Flags,
+    from: &Ty,
+    a: &Operand,
+    to: &Ty,
+) -> Result<u64, Trap>
     requires filled { 1 ≤ length fill.now }
     requires typed { IsWordType from.now }
     requires operand { IsOperand 4294967295 a.now }
@@ -57,7 +81,14 @@ pub fn converted(fill: &[u8], results: &Results, op: CastOp, flags: Flags, from:
 
 /// One of two words, by a word of one bit.
 #[tactic(auto, using(crate::proofs::Selections::select_zero, crate::proofs::Selections::select_other))]
-pub fn selected(fill: &[u8], results: &Results, cond: &Operand, ty: &Ty, a: &Operand, b: &Operand) -> u64
+pub fn selected(
+    fill: &[u8],
+    results: &Results,
+    cond: &Operand,
+    ty: &Ty,
+    a: &Operand,
+    b: &Operand,
+) -> u64
     requires filled { 1 ≤ length fill.now }
     requires condition { IsOperand 4294967295 cond.now }
     requires typed { IsWordType ty.now }
@@ -80,15 +111,33 @@ pub fn computed(fill: &[u8], results: &Results, op: &Op) -> Result<u64, Trap>
     ensures { result ≡ computed_of op.now (words_of fill.now results.now op.now) }
 {
     match op {
-        Op::Binary { op, flags, ty, a, b } => {
+        Op::Binary {
+            op,
+            flags,
+            ty,
+            a,
+            b,
+        } => {
             let word = combined(fill, results, *op, *flags, ty, a, b)?;
             Ok(word)
         }
-        Op::Icmp { pred, flags, ty, a, b } => {
+        Op::Icmp {
+            pred,
+            flags,
+            ty,
+            a,
+            b,
+        } => {
             let word = compared(fill, results, *pred, *flags, ty, a, b)?;
             Ok(word)
         }
-        Op::Cast { op, flags, from, a, to } => {
+        Op::Cast {
+            op,
+            flags,
+            from,
+            a,
+            to,
+        } => {
             let word = converted(fill, results, *op, *flags, from, a, to)?;
             Ok(word)
         }

@@ -61,7 +61,14 @@ impl Machine {
     }
 
     /// An unmarked `store`.
-    pub fn store(&mut self, fill: &[u8], site: u32, ty: &Ty, value: &Operand, addr: &Operand) -> Outcome
+    pub fn store(
+        &mut self,
+        fill: &[u8],
+        site: u32,
+        ty: &Ty,
+        value: &Operand,
+        addr: &Operand,
+    ) -> Outcome
         requires filled { 1 ≤ length fill.now }
         requires typed { IsWordType ty.now }
         requires stored { IsOperand 4294967295 value.now }
@@ -100,7 +107,14 @@ impl Machine {
     }
 
     /// A marked `store`, to a slot or to shadow.
-    pub fn store_marked(&mut self, fill: &[u8], site: u32, ty: &Ty, value: &Operand, addr: &Operand) -> Outcome
+    pub fn store_marked(
+        &mut self,
+        fill: &[u8],
+        site: u32,
+        ty: &Ty,
+        value: &Operand,
+        addr: &Operand,
+    ) -> Outcome
         requires filled { 1 ≤ length fill.now }
         requires typed { IsWordType ty.now }
         requires stored { IsOperand 4294967295 value.now }

@@ -10,8 +10,11 @@ use std::alloc::Global;
 
 // The addresses of the slots.
 const PARAM: u64 = 0x6800_0000_0000;
+
 const PARAM_ORIGIN: u64 = 0x6800_0000_1000;
+
 const RETVAL: u64 = 0x6800_0000_2000;
+
 const RETVAL_ORIGIN: u64 = 0x6800_0000_3000;
 
 // The number of bytes from the first slot to the end of the last.

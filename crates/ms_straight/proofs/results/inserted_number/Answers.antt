@@ -1,4 +1,4 @@
-use Rattle.std.proofs.Common.{◌≡◌, ◌*◌, ◌+◌, ◌-◌, ◌<◌, arith, sym, ap, ◌∙◌, drop, drop-cons, get_or, Fits, w64, ℕ, suc, List, length}
+use Rattle.std.proofs.Common.{◌≡◌, ◌*◌, ◌+◌, ◌-◌, ◌<◌, arith, sym, ap, ◌∙◌, drop, drop-cons, get_or, ℕ, suc, List, length}
 use Rattle.ms_straight.specs.Results.{spelled}
 use Rattle.ms_straight.proofs.Names.{spelled-least}
 use Rattle.ms_straight.proofs.results.inserted_number.Goals as goal

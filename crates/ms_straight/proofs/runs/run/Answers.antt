@@ -3,7 +3,7 @@ use Rattle.std.specs.Prelude.{All}
 use Rattle.ms_ir.specs.declared.syntax.Inst.{Inst}
 use Rattle.ms_ir.specs.Code.{func_index, roots_in, over_insts}
 use Rattle.ms_straight.specs.Straight.{IsStraightInst}
-use Rattle.ms_straight.proofs.Starts.{all_straight, roots_are, few_insts}
+use Rattle.ms_straight.proofs.Starts.{all_straight, roots_are}
 use Rattle.ms_straight.proofs.Going.{Told, going_start, straight_here, none_left, going_more, going_ends, going_spent, going_stuck}
 use Rattle.ms_straight.proofs.runs.run.Goals as goal
 

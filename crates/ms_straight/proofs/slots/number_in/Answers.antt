@@ -1,4 +1,4 @@
-use Rattle.std.proofs.Common.{ℕ, ◌+◌, ◌-◌, ◌<◌, ◌^◌, arith}
+use Rattle.std.proofs.Common.{◌+◌, ◌-◌, ◌<◌, ◌^◌, arith}
 use Rattle.ms_bits.specs.Maps.{number_at}
 use Rattle.ms_planes.specs.Areas.{held}
 use Rattle.ms_planes.proofs.Numbers.{number-fits}

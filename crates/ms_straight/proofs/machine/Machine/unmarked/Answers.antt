@@ -1,4 +1,4 @@
-use Rattle.std.proofs.Common.{subst, sym, ap, ◌∙◌, refl}
+use Rattle.std.proofs.Common.{subst, sym, ap, ◌∙◌}
 use Rattle.ms_ir.specs.Act.{gives}
 use Rattle.ms_straight.specs.Operands.{words_of}
 use Rattle.ms_straight.specs.Computations.{computed_of}
