@@ -11,5 +11,7 @@ mod results;
 mod roots;
 mod runs;
 mod slots;
+#[cfg(test)]
+mod tests;
 
 pub use runs::run;

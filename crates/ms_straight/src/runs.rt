@@ -34,8 +34,8 @@ fn steps_of(inst: &Inst) -> u32
     if inst.marked { 0 } else { 1 }
 }
 
-/// What a plain run of `m` with the setup `s` answers. The one error is want of memory. Linear in the instructions
-/// that run.
+/// What a plain run of `m` with the setup `s` answers. The one error is want of memory. Linear in the module's
+/// instructions, of which each runs at most once.
 pub fn run(alloc: Global, m: &Module, s: &Setup) -> Result<RunResult, NoMemory>
     requires straight { IsStraight m.now }
     requires limits { WithinLimits s.now }
