@@ -1,0 +1,12 @@
+pub mod Names
+pub mod Selections
+pub mod SlotBytes
+pub mod Memories
+pub mod Arguments
+pub mod Functions
+pub mod Acts
+pub mod Holding
+pub mod Followed
+pub mod Remaining
+pub mod Starts
+pub mod Going

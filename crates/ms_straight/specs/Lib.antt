@@ -1,0 +1,6 @@
+pub mod Straight
+pub mod Results
+pub mod Operands
+pub mod Slots
+pub mod Computations
+pub mod Machine

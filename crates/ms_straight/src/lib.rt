@@ -1,0 +1,17 @@
+//! Runs straight modules: what the pass makes of modules of the first form, and these themselves.
+#![tactic(auto)]
+
+mod calls;
+mod computations;
+mod machine;
+mod memory;
+mod operands;
+mod outcome;
+mod results;
+mod roots;
+mod runs;
+mod slots;
+#[cfg(test)]
+mod tests;
+
+pub use runs::run;
