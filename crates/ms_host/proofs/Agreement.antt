@@ -1,17 +1,17 @@
 -- Maps that agree at live addresses, and hosts that show a changed world.
-use Rattle.std.proofs.Common.{◌≡◌, ℕ, zero, suc, ◌+◌, ◌-◌, ◌*◌, ◌/◌, ◌%◌, ◌<◌, ◌≤◌, Bool, true, false, List, [], ◌∷◌, ◌++◌, map, refl, sym, ap, ◌∙◌, subst, arith, ⊎_elim, if◌then◌else◌, IsTrue, eqb, Option, Some, None, MatchBool, MatchOption, ◌^◌, ◌&&◌, ltb}
+use Rattle.std.proofs.Common.{◌≡◌, ℕ, zero, suc, ◌+◌, ◌-◌, ◌/◌, ◌%◌, ◌<◌, ◌≤◌, Bool, true, false, map, refl, sym, ap, ◌∙◌, subst, arith, ⊎_elim, if◌then◌else◌, IsTrue, eqb, Option, Some, None, MatchBool, MatchOption, ◌^◌, ◌&&◌, ltb}
 use Rattle.ms_alloc.specs.declared.kinds.AllocKind.TheVariants as kind
-use Rattle.ms_alloc.specs.Allocations.{Allocations, IsLaidOut, listed, with_made, next_base as base_after, is_good as is_live}
+use Rattle.ms_alloc.specs.Allocations.{Allocations, listed, with_made, next_base as base_after, is_good as is_live}
 use Rattle.std.proofs.lemmas.Bool.{lt-ltb, and_from, and_right}
-use Rattle.ms_bits.specs.Maps.{within, with_range, number_at, touches, with_cells, with_cell, byte_of}
+use Rattle.ms_bits.specs.Maps.{within, with_range, number_at, touches, with_cells, with_cell}
 use Rattle.ms_planes.specs.Memory.{Memory, bytes_of, shadow_of, origins_of}
 use Rattle.ms_planes.proofs.Ranges.{range-in, touches-true}
-use Rattle.ms_ir.specs.World.{Stack, Allocation, World}
-use Rattle.ms_ir.specs.Memory.{next_base, is_good, set_cells, set_shadow}
+use Rattle.ms_ir.specs.World.{World}
+use Rattle.ms_ir.specs.Memory.{is_good, set_cells, set_shadow}
 use Rattle.ms_ir.specs.Origins.{poison}
 use Rattle.ms_host.specs.State.{HostState, KeepsSetting}
 use Rattle.ms_host.specs.Shows.{Agrees, CellsAgree, Shows, allocation_of, with_mark}
-use Rattle.ms_host.proofs.Liveness.{good-same, part-live, made-live, made-listed}
+use Rattle.ms_host.proofs.Liveness.{good-same, part-live, made-live}
 
 -- ---- maps
 

@@ -1,5 +1,5 @@
 -- An allocation of uninitialised bytes on the stack.
-use Rattle.std.proofs.Common.{◌≡◌, ℕ, ◌+◌, ◌<◌, ◌≤◌, Bool, true, false, List, [], ◌∷◌, ◌++◌, map, length, refl, sym, ap, ◌∙◌, subst, arith, is_some, Option, Some, None, cond, leb, eqb, ◌&&◌, ◌||◌, IsTrue, append_assoc, Result, Ok, Err}
+use Rattle.std.proofs.Common.{◌≡◌, ℕ, ◌+◌, ◌<◌, ◌≤◌, Bool, true, false, List, [], ◌∷◌, ◌++◌, map, refl, sym, ap, ◌∙◌, subst, arith, is_some, Option, Some, None, cond, leb, eqb, ◌||◌, IsTrue, append_assoc, Result, Ok, Err}
 use Rattle.std.specs.List.{find}
 use Rattle.std.specs.Option.{option_or}
 use Rattle.std.proofs.lemmas.Bool.{and_from, le-leb, lt-leb}
@@ -14,8 +14,8 @@ use Rattle.ms_bits.specs.Fill.{made_byte}
 use Rattle.ms_bits.specs.Maps.{with_range, with_cells}
 use Rattle.ms_planes.specs.Memory.{Memory, bytes_of, shadow_of, origins_of, IsSame}
 use Rattle.ms_ir.specs.World.{Stack, Allocation, World}
-use Rattle.ms_ir.specs.Memory.{fits, next_base, make_unset}
-use Rattle.ms_host.specs.State.{HostState, IsHost}
+use Rattle.ms_ir.specs.Memory.{next_base}
+use Rattle.ms_host.specs.State.{HostState}
 use Rattle.ms_host.specs.Shows.{Agrees, CellsAgree, Shows, Allocated, allocation_of}
 use Rattle.ms_host.proofs.Liveness.{base-same, fits-same, made-listed}
 use Rattle.ms_host.proofs.Agreement.{changed, range-agrees, range-made, cells-made, kept, cells-kept}

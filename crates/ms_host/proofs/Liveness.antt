@@ -1,5 +1,5 @@
 -- The table's allocations as a world has them, and which addresses are live.
-use Rattle.std.proofs.Common.{◌≡◌, ℕ, zero, suc, ◌+◌, ◌-◌, ◌<◌, ◌≤◌, ◌^◌, ◌*◌, Bool, true, false, List, [], ◌∷◌, ◌++◌, map, refl, sym, ap, ◌∙◌, subst, arith, ◌⊎◌, inl, inr, ⊎_elim, is_some, Option, Some, None, cond, leb, eqb, ◌&&◌, ◌||◌, if◌then◌else◌, IsTrue, append_assoc}
+use Rattle.std.proofs.Common.{◌≡◌, ℕ, ◌+◌, ◌<◌, ◌≤◌, ◌^◌, ◌*◌, Bool, true, false, List, [], ◌∷◌, ◌++◌, map, refl, sym, ap, ◌∙◌, arith, ◌⊎◌, inl, inr, ⊎_elim, is_some, Option, Some, None, cond, leb, eqb, ◌&&◌, ◌||◌, if◌then◌else◌, IsTrue, append_assoc}
 use Rattle.std.specs.List.{find}
 use Rattle.std.specs.Option.{option_or}
 use Rattle.std.proofs.lemmas.Bool.{and_parts, and_from, or_cases, leb-true, le-leb, eqb-true, cases_Bool}
@@ -11,8 +11,7 @@ use Rattle.ms_alloc.specs.declared.allocations.Allocation.{Allocation as Entry}
 use Rattle.ms_alloc.specs.Layout.{room as room_taken, area_limit as limit_of}
 use Rattle.ms_alloc.specs.Allocations.{Allocations, IsRow, IsLaidOut, listed, next as next_entry, with_made, used as taken_by, next_base as base_after, covers as has_range, is_good as is_live, fits as has_room}
 use Rattle.ms_alloc.proofs.Rows.{area-append}
-use Rattle.ms_planes.specs.Memory.{taken}
-use Rattle.ms_planes.proofs.Reaches.{Reaches, good-reaches, some-or}
+use Rattle.ms_planes.proofs.Reaches.{good-reaches, some-or}
 use Rattle.ms_ir.specs.World.{Area, Stack, Allocation, World}
 use Rattle.ms_ir.specs.Memory.{area_eq, used, room, fits, next_base, first_that, covers, is_good}
 use Rattle.ms_host.specs.Shows.{area_of, allocation_of}

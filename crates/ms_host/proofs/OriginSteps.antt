@@ -1,10 +1,10 @@
 -- Steps through the eight bytes that a mask speaks of, and that a store makes no pair.
-use Rattle.std.proofs.Common.{◌≡◌, ◌≢◌, ℕ, zero, suc, ◌+◌, ◌-◌, ◌/◌, ◌%◌, ◌<◌, ◌≤◌, Bool, true, false, not, List, length, refl, sym, ap, ◌∙◌, subst, arith, eqb, ltb, leb, cond, ◌||◌, if◌then◌else◌}
+use Rattle.std.proofs.Common.{◌≡◌, ◌≢◌, ℕ, zero, suc, ◌+◌, ◌-◌, ◌/◌, ◌%◌, ◌<◌, ◌≤◌, Bool, true, false, not, length, refl, sym, ap, ◌∙◌, subst, arith, eqb, ltb, leb, cond, ◌||◌, if◌then◌else◌}
 use Rattle.std.proofs.lemmas.Bool.{eq-eqb, ne_eqb, lt-ltb}
 use Rattle.ms_bits.specs.Maps.{with_cell}
 use Rattle.ms_ir.specs.World.{World, Setting}
 use Rattle.ms_ir.specs.Memory.{is_good}
-use Rattle.ms_ir.specs.Origins.{Chained, keeps_old, chain, trail, mark_cells, store_origin, origin_within, load_origin}
+use Rattle.ms_ir.specs.Origins.{Chained, keeps_old, chain, trail, mark_cells, store_origin, origin_within}
 use Rattle.ms_host.specs.State.{HostState}
 use Rattle.ms_host.specs.Shows.{Shows, with_mark}
 

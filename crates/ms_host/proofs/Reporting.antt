@@ -1,10 +1,10 @@
 -- A check that reports.
-use Rattle.std.proofs.Common.{◌≡◌, ◌≢◌, ℕ, ◌+◌, ◌<◌, ◌≤◌, Bool, List, [], ◌∷◌, ◌++◌, length, refl, sym, ap, ◌∙◌, subst, arith, leb, if◌then◌else◌, Option, Some, None, Result, Ok, Err, IfOk}
+use Rattle.std.proofs.Common.{◌≡◌, ◌≢◌, ℕ, ◌+◌, ◌<◌, ◌≤◌, Bool, List, [], ◌∷◌, ◌++◌, length, sym, ap, ◌∙◌, subst, leb, if◌then◌else◌, Some, None, Result, Ok, IfOk}
 use Rattle.std.proofs.lemmas.Bool.{ne_eqb, le-leb, lt-leb}
 use Rattle.ms_ir.specs.declared.runs.Origin.{Origin}
 use Rattle.ms_ir.specs.declared.runs.Report.{Report}
 use Rattle.ms_ir.specs.declared.runs.End.TheVariants as «end»
-use Rattle.ms_ir.specs.World.{World, Setting, Effect, Does, Ends}
+use Rattle.ms_ir.specs.World.{World, Setting, Does, Ends}
 use Rattle.ms_ir.specs.Origins.{trail, trail_within, add_report, check}
 use Rattle.ms_host.specs.State.{HostState}
 use Rattle.ms_host.specs.Shows.{Shows, Suits, Followed}

@@ -1,4 +1,4 @@
-use Rattle.std.proofs.Common.{◌≡◌, ◌<◌, ◌≤◌, length, sym, subst, arith}
+use Rattle.std.proofs.Common.{◌<◌, ◌≤◌, length, sym, subst, arith}
 use Rattle.ms_ir.specs.declared.runs.Report.{Report}
 use Rattle.ms_host.specs.State.{HostState}
 use Rattle.ms_host.specs.Shows.{Shows, Suits}

@@ -1,6 +1,5 @@
-use Rattle.std.proofs.Common.{◌≡◌, ◌+◌, ◌-◌, ◌/◌, ℕ, Bool, true, false, ap, arith, sym, subst, ◌∙◌}
+use Rattle.std.proofs.Common.{◌≡◌, ◌+◌, ◌-◌, ◌/◌, ℕ, true, ap, arith, sym, subst, ◌∙◌}
 use Rattle.ms_alloc.specs.Allocations.{is_good as is_live}
-use Rattle.ms_ir.specs.Memory.{is_good}
 use Rattle.ms_ir.specs.Origins.{origin_within}
 use Rattle.ms_host.specs.State.{HostState}
 use Rattle.ms_host.specs.Shows.{Shows}

@@ -1,4 +1,4 @@
-use Rattle.std.proofs.Common.{◌≡◌, ℕ, ◌+◌, ◌-◌}
+use Rattle.std.proofs.Common.{◌≡◌, ◌+◌, ◌-◌}
 use Rattle.ms_ir.specs.World.{World}
 use Rattle.ms_ir.specs.Origins.{origin_within}
 use Rattle.ms_host.specs.Shows.{Shows}

@@ -1,4 +1,4 @@
-use Rattle.std.proofs.Common.{◌+◌, ◌∙◌, sym, subst}
+use Rattle.std.proofs.Common.{◌+◌, sym, subst}
 use Rattle.ms_host.specs.State.{HostState}
 use Rattle.ms_host.specs.Shows.{Shows, with_mark}
 use Rattle.ms_host.proofs.Agreement.{marked, not-marked, none-then}

@@ -1,6 +1,6 @@
-use Rattle.std.proofs.Common.{◌≡◌, ℕ, ◌+◌, ◌<◌, ◌%◌, ◌∙◌, sym, ap, subst, arith, IsTrue, length}
+use Rattle.std.proofs.Common.{◌≡◌, ℕ, ◌+◌, ◌%◌, ◌∙◌, sym, ap, subst, arith, IsTrue, length}
 use Rattle.ms_alloc.specs.Allocations.{Allocations, is_good}
-use Rattle.ms_bits.specs.Maps.{with_range, byte_of}
+use Rattle.ms_bits.specs.Maps.{with_range}
 use Rattle.ms_bits.specs.Fill.{made_byte}
 use Rattle.ms_planes.specs.Memory.{bytes_of}
 use Rattle.ms_host.proofs.Liveness.{part-live, live-low}

@@ -1,4 +1,4 @@
-use Rattle.std.proofs.Common.{◌≡◌, ℕ, ◌+◌}
+use Rattle.std.proofs.Common.{◌≡◌, ◌+◌}
 use Rattle.ms_bits.specs.Maps.{with_range}
 use Rattle.ms_bits.specs.Fill.{made_byte}
 use Rattle.ms_planes.specs.Memory.{bytes_of, shadow_of, origins_of}
