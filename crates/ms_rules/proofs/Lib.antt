@@ -13,3 +13,4 @@ pub mod DefineResults
 pub mod PlaneTasks
 pub mod After
 pub mod Before
+pub mod Emitting

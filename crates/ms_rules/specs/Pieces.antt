@@ -1,6 +1,7 @@
 -- Words and tasks that the code of one instruction is made of (own).
-use Rattle.std.specs.Prelude.{ℕ, ◌-◌, ◌^◌, List, [], ◌∷◌, ◌++◌, if◌then◌else◌, Option, Some, None}
+use Rattle.std.specs.Prelude.{ℕ, ◌+◌, ◌-◌, ◌^◌, List, [], ◌∷◌, ◌++◌, if◌then◌else◌, Option, Some, None}
 use Rattle.ms_bits.specs.declared.operations.BinOp.{BinOp}
+use Rattle.ms_ir.specs.declared.syntax.Name.{Name}
 use Rattle.ms_ir.specs.declared.syntax.Ty.{Ty, Int, Ptr}
 use Rattle.ms_ir.specs.declared.syntax.Operand.{Operand}
 use Rattle.ms_ir.specs.declared.syntax.Operand.TheVariants as operand
@@ -8,7 +9,7 @@ use Rattle.ms_ir.specs.declared.calls.RuntimeFn.TheVariants as function
 use Rattle.ms_ir.specs.First.{Or, Xor}
 use Rattle.ms_ir.specs.Layout.{width_of}
 use Rattle.ms_rules.specs.Tasks.{mask_name, origin_name, Expr, Leaf, Two, Task, Fetches, Puts, Calls}
-use Rattle.ms_rules.specs.Emit.{Tracked, mask_type, word_of, mask_of, origin_of, number, is_zero, widened, shadow_address, check_task, last_task, binary_tasks, zero_task}
+use Rattle.ms_rules.specs.Emit.{Env, Tracked, mask_operand, origin_operand, mask_type, word_of, mask_of, origin_of, number, is_zero, widened, shadow_address, check_task, last_task, binary_tasks, zero_task}
 
 -- the bits of an operand that are 0 or unset
 abbrev pub zeros_of : ℕ → Tracked → Expr
@@ -49,3 +50,8 @@ poison_tasks x size root =
     Calls None function.Poison
     ((Ptr, Leaf (operand.Local x)) ∷ (Int 64, number 0) ∷ (Int 64, number size) ∷ (Int 32, number root) ∷ [])
     ∷ []
+
+-- an operand of a type, with so many roots before it, and what has its mask and its origin
+abbrev pub tracked_from : Env → ℕ → Ty → Operand → Tracked
+tracked_from env root t o =
+    record { ty = t; operand = o; mask = mask_operand env (width_of t) o; origin = origin_operand env root o }

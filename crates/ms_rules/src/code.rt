@@ -194,14 +194,15 @@ impl Code {
     pub fn shadow_address(&mut self, address: &Operand) -> Result<Operand, NoMemory>
         requires { self.old.next < 2 ^ 32 - 3 }
         ensures code { OnOk result (self.new.insts.items ≡ self.old.insts.items ++ (task.flatten (emits.shadow_address (Leaf address.now)) self.old.next).code) }
-        ensures next { OnOk result (self.new.next ≡ self.old.next + 3) }
+        ensures next { OnOk result (self.new.next ≡ self.old.next + 1 + 1 + 1) }
         ensures operand { IfOk result (λ o. o ≡ (task.flatten (emits.shadow_address (Leaf address.now)) self.old.next).operand) }
     {
         let address = address.copy(self.alloc)?;
         let number = self.cast(CastOp::PtrToInt, Ty::Ptr, address, Ty::Int(64))?;
         let bits = Operand::Int(SHADOW_BITS);
         let shadow = self.logic(BinOp::Xor, 64, number, bits)?;
-        self.cast(CastOp::IntToPtr, Ty::Int(64), shadow, Ty::Ptr)
+        let shadow_address = self.cast(CastOp::IntToPtr, Ty::Int(64), shadow, Ty::Ptr)?;
+        Ok(shadow_address)
     }
 
     /// Adds a mask of so many bits as one of 64, and answers it. The one error is want of memory.

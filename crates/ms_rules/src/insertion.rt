@@ -27,7 +27,6 @@ pub struct Emitted {
 }
 
 // The instructions before one.
-#[tactic(auto, using(crate::proofs::Emitting::tasks_append, crate::proofs::Emitting::tasks_append_next))]
 fn put_before(code: &mut Code, env: &Environment, inst: &Inst) -> Result<(), NoMemory>
     requires taken { IsTaken inst.now }
     requires few { env.now.size ≤ 2 ^ 30 }
@@ -38,7 +37,8 @@ fn put_before(code: &mut Code, env: &Environment, inst: &Inst) -> Result<(), NoM
     ensures little { OnOk result (code.new.next ≤ code.old.next + 8) }
 {
     check_uses(code, env, &inst.op)?;
-    define_result(code, env, &inst.result, &inst.op)
+    define_result(code, env, &inst.result, &inst.op)?;
+    Ok(())
 }
 
 /// Makes the lists round an instruction, of which the first inserted result has the number `next`; at most

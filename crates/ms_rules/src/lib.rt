@@ -3,8 +3,8 @@
 
 mod checks;
 mod code;
-mod emit;
 mod environment;
+mod insertion;
 pub mod instruction_laws;
 pub mod laws;
 mod names;
@@ -12,7 +12,7 @@ mod planes;
 mod results;
 mod tracked;
 
-pub use emit::{Emitted, emit};
+pub use insertion::{Emitted, emit};
 pub use environment::Environment;
 pub use names::{runtime_name, runtime_ret};
 pub use tracked::count_undef;

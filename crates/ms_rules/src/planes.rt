@@ -56,16 +56,17 @@ fn own_root(root: u32, count: &Operand) -> u64
 // Poisons the bytes that an `alloca` made.
 fn poison(code: &mut Code, name: &Name, size: u64, root: u64) -> Result<(), NoMemory>
     ensures code { OnOk result (code.new.insts.items ≡ code.old.insts.items ++ (tasks_code (poison_tasks name.now size root) code.old.next).code) }
-    ensures next { code.new.next ≡ code.old.next }
+    ensures next { OnOk result (code.new.next ≡ code.old.next) }
 {
-    let made = Operand::Local(name.copy(code.alloc)?);
+    let made = name.copy(code.alloc)?;
     let args = vec![in code.alloc;
-        (Ty::Ptr, made),
+        (Ty::Ptr, Operand::Local(made)),
         (Ty::Int(64), Operand::Int(0)),
         (Ty::Int(64), Operand::Int(size)),
         (Ty::Int(32), Operand::Int(root)),
     ]?;
-    code.call(None, RuntimeFn::Poison, args)
+    code.call(None, RuntimeFn::Poison, args)?;
+    Ok(())
 }
 
 // Stores a mask and an origin beside the value that a `store` wrote.
@@ -89,8 +90,8 @@ fn store(
         addr: shadow,
     };
     code.put(None, store)?;
-    let mask = value.mask.copy(code.alloc)?;
-    let wide = code.widened(width, mask)?;
+    let again = value.mask.copy(code.alloc)?;
+    let wide = code.widened(width, again)?;
     let addr = addr.copy(code.alloc)?;
     let origin = value.origin.copy(code.alloc)?;
     let args = vec![in code.alloc;
@@ -99,7 +100,8 @@ fn store(
         (Ty::Int(32), origin),
         (Ty::Int(32), Operand::Int(site as u64)),
     ]?;
-    code.call(None, RuntimeFn::StoreOrigin, args)
+    code.call(None, RuntimeFn::StoreOrigin, args)?;
+    Ok(())
 }
 
 // The same, given the operands of the `store`.
@@ -117,8 +119,10 @@ fn store_operation(
     ensures next { (given : Given) → OnOk result (code.new.next ≡ (tasks_code (emits.plane_tasks given (here_of env.now) None (operation.Store ty.now value.now addr.now) (emits.tracked (env_of env.now) env.now.root ((ty.now, value.now) ∷ (Ptr, addr.now) ∷ []))) code.old.next).next) }
     ensures little { OnOk result (code.new.next ≤ code.old.next + 4) }
 {
+    let ty = ty.copy(code.alloc)?;
     let value = track(code.alloc, env, env.root, ty, value)?;
-    store(code, env.site, &value, addr)
+    store(code, env.site, &value, addr)?;
+    Ok(())
 }
 
 // What follows an `alloca` of an integer type.
@@ -132,7 +136,7 @@ fn alloca_operation(
 ) -> Result<(), NoMemory>
     requires { width_in count_ty.now ≤ 32 }
     ensures code { (given : Given) → OnOk result (code.new.insts.items ≡ code.old.insts.items ++ (tasks_code (emits.plane_tasks given (here_of env.now) (Some name.now) (operation.Alloca (Int width) count_ty.now count.now) (emits.tracked (env_of env.now) env.now.root ((count_ty.now, count.now) ∷ []))) code.old.next).code) }
-    ensures next { code.new.next ≡ code.old.next }
+    ensures next { OnOk result (code.new.next ≡ code.old.next) }
 {
     let size = int_align(width) * count_of(width_of(count_ty), count);
     poison(code, name, size, own_root(env.root, count))

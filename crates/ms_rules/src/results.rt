@@ -28,13 +28,14 @@ fn and_mask(
 ) -> Result<(), NoMemory>
     requires { code.old.next < 2 ^ 32 - 8 }
     ensures code { OnOk result (code.new.insts.items ≡ code.old.insts.items ++ (task_code (emits.and_task name (Int width) (tracked_of a.now) (tracked_of b.now)) code.old.next).code) }
-    ensures next { OnOk result (code.new.next ≡ code.old.next + 4) }
+    ensures next { OnOk result (code.new.next ≡ code.old.next + 1 + 1 + 1 + 1) }
 {
     let left = code.logic_of(BinOp::Or, width, &a.operand, &a.mask)?;
     let right = code.logic_of(BinOp::Or, width, &b.operand, &b.mask)?;
     let ones = code.logic(BinOp::And, width, left, right)?;
     let unset = code.logic_of(BinOp::Or, width, &a.mask, &b.mask)?;
-    code.set(name, BinOp::And, width, ones, unset)
+    code.set(name, BinOp::And, width, ones, unset)?;
+    Ok(())
 }
 
 // The bits of an operand that are 0 or unset.
@@ -42,13 +43,14 @@ fn zeros(code: &mut Code, width: u8, a: &TrackedOperand) -> Result<Operand, NoMe
     requires room { code.old.next < 2 ^ 32 - 8 }
     requires narrow { width ≤ 64 }
     ensures code { OnOk result (code.new.insts.items ≡ code.old.insts.items ++ (flatten (zeros_of width (tracked_of a.now)) code.old.next).code) }
-    ensures next { OnOk result (code.new.next ≡ code.old.next + 2) }
+    ensures next { OnOk result (code.new.next ≡ code.old.next + 1 + 1) }
     ensures operand { IfOk result (λ o. o ≡ (flatten (zeros_of width (tracked_of a.now)) code.old.next).operand) }
 {
     let word = a.operand.copy(code.alloc)?;
     let turned = code.logic(BinOp::Xor, width, word, Operand::Int(ones(width)))?;
     let mask = a.mask.copy(code.alloc)?;
-    code.logic(BinOp::Or, width, turned, mask)
+    let zeros = code.logic(BinOp::Or, width, turned, mask)?;
+    Ok(zeros)
 }
 
 // The mask of an `or`: bits that are 0 or unset on both sides, and unset on one.
@@ -62,13 +64,31 @@ fn or_mask(
     requires room { code.old.next < 2 ^ 32 - 16 }
     requires narrow { width ≤ 64 }
     ensures code { OnOk result (code.new.insts.items ≡ code.old.insts.items ++ (task_code (emits.or_task name (Int width) width (tracked_of a.now) (tracked_of b.now)) code.old.next).code) }
-    ensures next { OnOk result (code.new.next ≡ code.old.next + 6) }
+    ensures next { OnOk result (code.new.next ≡ code.old.next + 1 + 1 + 1 + 1 + 1 + 1) }
 {
     let left = zeros(code, width, a)?;
     let right = zeros(code, width, b)?;
     let zeros = code.logic(BinOp::And, width, left, right)?;
     let unset = code.logic_of(BinOp::Or, width, &a.mask, &b.mask)?;
-    code.set(name, BinOp::And, width, zeros, unset)
+    code.set(name, BinOp::And, width, zeros, unset)?;
+    Ok(())
+}
+
+// The mask of a `xor`: the bits that are unset on one side.
+fn xor_mask(
+    code: &mut Code,
+    name: Name,
+    width: u8,
+    a: &TrackedOperand,
+    b: &TrackedOperand,
+) -> Result<(), NoMemory>
+    ensures code { OnOk result (code.new.insts.items ≡ code.old.insts.items ++ (task_code (emits.xor_task name (Int width) (tracked_of a.now) (tracked_of b.now)) code.old.next).code) }
+    ensures next { OnOk result (code.new.next ≡ code.old.next) }
+{
+    let left = a.mask.copy(code.alloc)?;
+    let right = b.mask.copy(code.alloc)?;
+    code.set(name, BinOp::Or, width, left, right)?;
+    Ok(())
 }
 
 // The mask of an `and`, `or` or `xor`.
@@ -89,11 +109,7 @@ fn binary_mask(
     match op {
         BinOp::And => and_mask(code, name, width, a, b),
         BinOp::Or => or_mask(code, name, width, a, b),
-        BinOp::Xor => {
-            let left = a.mask.copy(code.alloc)?;
-            let right = b.mask.copy(code.alloc)?;
-            code.set(name, BinOp::Or, width, left, right)
-        }
+        BinOp::Xor => xor_mask(code, name, width, a, b),
         _ => Ok(()),
     }
 }
@@ -119,7 +135,8 @@ fn last_origin(
         a: last,
         b: first,
     };
-    code.put(Some(name), choice)
+    code.put(Some(name), choice)?;
+    Ok(())
 }
 
 // The origin and the mask of what an `and`, `or` or `xor` gives.
@@ -141,7 +158,8 @@ fn define_binary(
     let origin = origin_name(code.alloc, value)?;
     let mask = mask_name(code.alloc, value)?;
     last_origin(code, origin, width, a, b)?;
-    binary_mask(code, mask, op, width, a, b)
+    binary_mask(code, mask, op, width, a, b)?;
+    Ok(())
 }
 
 // The origin and the mask of what an `alloca` gives, an address: there is none.
@@ -153,7 +171,8 @@ fn define_address(code: &mut Code, value: u32) -> Result<(), NoMemory>
     let origin = origin_name(code.alloc, value)?;
     let mask = mask_name(code.alloc, value)?;
     code.set(origin, BinOp::Or, 32, Operand::Int(0), Operand::Int(0))?;
-    code.set(mask, BinOp::Or, 64, Operand::Int(0), Operand::Int(0))
+    code.set(mask, BinOp::Or, 64, Operand::Int(0), Operand::Int(0))?;
+    Ok(())
 }
 
 // The mask and the origin of what a `load` gives.
@@ -172,12 +191,13 @@ fn define_load(code: &mut Code, value: u32, ty: &Ty, addr: &Operand) -> Result<(
         addr: shadow,
     };
     code.put(Some(mask), load)?;
-    let loaded = Operand::Local(mask_name(code.alloc, value)?);
-    let wide = code.widened(width, loaded)?;
+    let loaded = mask_name(code.alloc, value)?;
+    let wide = code.widened(width, Operand::Local(loaded))?;
     let addr = addr.copy(code.alloc)?;
     let args = vec![in code.alloc; (Ty::Ptr, addr), (Ty::Int(64), wide)]?;
     let origin = origin_name(code.alloc, value)?;
-    code.call(Some(origin), RuntimeFn::LoadOrigin, args)
+    code.call(Some(origin), RuntimeFn::LoadOrigin, args)?;
+    Ok(())
 }
 
 // The origin and the mask of an operation's result, given the operation.
@@ -199,9 +219,13 @@ fn binary_operation(
     ensures next { OnOk result (code.new.next ≡ (tasks_code (emits.define_tasks value (operation.Binary op no_flags ty.now a.now b.now) (emits.tracked (env_of env.now) env.now.root ((ty.now, a.now) ∷ (ty.now, b.now) ∷ []))) code.old.next).next) }
     ensures little { OnOk result (code.new.next ≤ code.old.next + 7) }
 {
-    let first = track(code.alloc, env, env.root, ty, a)?;
-    let second = track(code.alloc, env, env.root + count_undef(a), ty, b)?;
-    define_binary(code, value, op, &first, &second)
+    let first_ty = ty.copy(code.alloc)?;
+    let first = track(code.alloc, env, env.root, first_ty, a)?;
+    let second_ty = ty.copy(code.alloc)?;
+    let root = env.root + count_undef(a);
+    let second = track(code.alloc, env, root, second_ty, b)?;
+    define_binary(code, value, op, &first, &second)?;
+    Ok(())
 }
 
 // The origin and the mask of the value that an instruction gives.

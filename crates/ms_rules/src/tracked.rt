@@ -109,18 +109,19 @@ pub fn track(
     alloc: Global,
     env: &Environment,
     root: u32,
-    ty: &Ty,
+    ty: Ty,
     operand: &Operand,
 ) -> Result<TrackedOperand, NoMemory>
     requires few { env.now.size ≤ 2 ^ 30 }
-    requires narrow { width_in ty.now ≤ 64 }
-    ensures { IfOk result (λ t. tracked_of t ≡ record { ty = ty.now; operand = operand.now; mask = mask_operand_of (env_of env.now) (width_in ty.now) operand.now; origin = origin_operand_of (env_of env.now) root operand.now }) }
+    requires narrow { width_in ty ≤ 64 }
+    ensures { IfOk result (λ t. tracked_of t ≡ record { ty = ty; operand = operand.now; mask = mask_operand_of (env_of env.now) (width_in ty) operand.now; origin = origin_operand_of (env_of env.now) root operand.now }) }
 {
-    let mask = mask_operand(alloc, env, width_of(ty), operand)?;
+    let mask = mask_operand(alloc, env, width_of(&ty), operand)?;
     let origin = origin_operand(alloc, env, root, operand)?;
+    let operand = operand.copy(alloc)?;
     Ok(TrackedOperand {
-        ty: ty.copy(alloc)?,
-        operand: operand.copy(alloc)?,
+        ty,
+        operand,
         mask,
         origin,
     })
