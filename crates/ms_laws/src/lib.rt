@@ -3,6 +3,7 @@
 #![tactic(auto)]
 
 pub mod examples;
+pub mod numbered;
 pub mod outputs;
 pub mod rules;
 pub mod stripping;
