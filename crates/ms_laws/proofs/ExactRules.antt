@@ -1,5 +1,5 @@
 -- The masks by formulas are those by completions.
-use Rattle.std.proofs.Common.{◌≡◌, ℕ, zero, suc, ◌-◌, ◌^◌, ◌<◌, Bool, refl, sym, ap₂, ◌∙◌, arith, bit_xor, ltb, leb}
+use Rattle.std.proofs.Common.{◌≡◌, ℕ, zero, suc, ◌^◌, ◌<◌, Bool, refl, sym, ap₂, ◌∙◌, arith, ltb, leb}
 use Rattle.std.specs.Int.{bit_at, from_bool}
 use Rattle.std.specs.Int.Bits.{xor_self}
 use Rattle.std.proofs.lemmas.Nat.Bits.{bit_at-zero}
@@ -7,7 +7,7 @@ use Rattle.ms_bits.specs.declared.operations.Pred.{Pred}
 use Rattle.ms_bits.specs.declared.operations.Pred.TheVariants.{Eq, Ne, Ugt, Uge, Ult, Ule, Sgt, Sge, Slt, Sle}
 use Rattle.ms_bits.specs.Arithmetic.{binary_of, or_of}
 use Rattle.ms_bits.specs.Conversions.{compare_of}
-use Rattle.ms_bits.specs.Completion.{Completes, Differs, mask_of}
+use Rattle.ms_bits.specs.Completion.{Differs, mask_of}
 use Rattle.ms_bits.specs.Formulas.{greatest, least, eq_mask, order_mask, turned_sign, compare_mask}
 use Rattle.ms_masks.proofs.MaskFunctions.{mask_is}
 use Rattle.ms_masks.proofs.FormulaMasks.{and_mask_is, or_mask_is, xor_mask_is, answer_bit, compare_mask_is, select_mask-is}

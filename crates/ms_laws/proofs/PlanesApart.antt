@@ -14,7 +14,7 @@ use Rattle.ms_ir.specs.Memory.{is_good, heap_size, set_shadow}
 use Rattle.ms_bits.specs.Maps.{byte_of}
 use Rattle.ms_ir.specs.Code.{external_named}
 use Rattle.ms_ir.specs.Origins.{Chained, keeps_old, pair_index, chain, check, check_byte, count_blind, poison, copy_planes, fill_planes, mark_cells, store_origin}
-use Rattle.ms_ir.specs.Poisoned.{Poisoned, clean}
+use Rattle.ms_ir.specs.Poisoned.{Poisoned}
 use Rattle.ms_ir.specs.Masks.{word_at}
 use Rattle.ms_ir.specs.Uses.{Use, Word, Bytes, Line, check_use, check_uses}
 use Rattle.ms_ir.specs.Shadow.{external_planes, callee_planes, planes}

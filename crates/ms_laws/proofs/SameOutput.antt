@@ -15,7 +15,7 @@ use Rattle.ms_ir.specs.Code.{operands, count_undefs}
 use Rattle.ms_ir.specs.Control.{Frame, Moved, On, Over, here, rest_of, read_all, entered, left, moves}
 use Rattle.ms_ir.specs.Act.{act, plain_reading}
 use Rattle.ms_ir.specs.Plain.{act_marked, slots_after, PlainState, Stepped, More, Stop, plain_moved, through, plain_step, go_on, run, plain, setting, start_world, start_frame}
-use Rattle.ms_ir.specs.Poisoned.{Poisoned, clean}
+use Rattle.ms_ir.specs.Poisoned.{Poisoned}
 use Rattle.ms_ir.specs.Masks.{Rules, by_completions, union}
 use Rattle.ms_ir.specs.Uses.{uses, blinded}
 use Rattle.ms_ir.specs.Origins.{count_blind}

@@ -1,11 +1,10 @@
 -- A module and what is left when its marked instructions are gone have the same setting, names, parts and start.
-use Rattle.std.proofs.Common.{◌≡◌, ℕ, suc, ◌+◌, List, [], ◌∷◌, Bool, true, false, Option, Some, None, refl, sym, ap, subst, ◌∙◌, arith}
-use Rattle.std.specs.Prelude.{map, filter, cond, not, if◌then◌else◌, option_map, unwrap_or, slice_get, drop}
+use Rattle.std.proofs.Common.{◌≡◌, ℕ, suc, ◌+◌, List, [], ◌∷◌, Bool, true, false, Option, Some, None, refl, sym, ap, ◌∙◌, arith}
+use Rattle.std.specs.Prelude.{map, filter, cond, not, if◌then◌else◌, option_map, unwrap_or, slice_get}
 use Rattle.std.proofs.Math.Path.{ap₂}
 use Rattle.std.proofs.lemmas.Option.{slice_get-map}
 use Rattle.ms_ir.specs.declared.syntax.Name.{Name}
 use Rattle.ms_ir.specs.declared.syntax.Name.TheVariants.{Number}
-use Rattle.ms_ir.specs.declared.syntax.Ty.{Ty}
 use Rattle.ms_ir.specs.declared.syntax.Inst.{Inst}
 use Rattle.ms_ir.specs.declared.syntax.Block.{Block}
 use Rattle.ms_ir.specs.declared.syntax.Func.{Func}
@@ -20,11 +19,9 @@ use Rattle.ms_ir.specs.Code.{func_index, block_index, func_at, blocks_at, insts_
 use Rattle.ms_ir.specs.Globals.{address_from, address_of, write_init, make_globals}
 use Rattle.ms_ir.specs.Control.{Reading, func_name, block_name, params_at, main_name}
 use Rattle.ms_ir.specs.Plain.{setting, start_world, start_frame}
+pub use Rattle.ms_laws.specs.Marks.{Skips}
 
 -- ---- counts that pass over marked instructions
-
-abbrev pub Skips : (Inst → ℕ) → Type 0
-Skips count = (i : Inst) → i.marked ≡ true → count i ≡ 0
 
 pub insts_kept : (c : Inst → ℕ) → Skips c → (is : List Inst) → over_insts c (filter is_unmarked is) ≡ over_insts c is
 insts_kept c h [] = refl

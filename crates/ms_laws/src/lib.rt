@@ -2,6 +2,8 @@
 //! definitions stand in `ms_ir`; the lemmas in `proofs/` are there for crates above.
 #![tactic(auto)]
 
+pub mod examples;
+pub mod numbered;
 pub mod outputs;
 pub mod rules;
 pub mod stripping;

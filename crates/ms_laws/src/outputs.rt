@@ -1,11 +1,9 @@
 //! What a shadow run shows of the plain run, and with it what instrumented code does.
-ghost use Rattle.std.specs.Prelude.{◌≡◌};
 ghost use Rattle.ms_ir.specs.declared.syntax.Module.{Module};
 ghost use Rattle.ms_ir.specs.declared.runs.Setup.{Setup};
-ghost use Rattle.ms_ir.specs.Code.{strip};
 ghost use Rattle.ms_ir.specs.Masks.{Rules};
 ghost use Rattle.ms_ir.specs.Plain.{plain};
-ghost use Rattle.ms_ir.specs.Shadow.{shadow, shadow_by};
+ghost use Rattle.ms_ir.specs.Shadow.{shadow_by};
 ghost use Rattle.ms_ir.specs.Faithful.{Fair, Faithful, NoMarks, Undisturbed};
 
 /// Checks don't disturb a run: the shadow run of a module without marks puts out a beginning of what its plain run puts

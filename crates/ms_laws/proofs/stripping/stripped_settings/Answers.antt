@@ -1,5 +1,9 @@
+use Rattle.std.proofs.Common.{refl}
 use Rattle.ms_laws.proofs.Stripped.{addresses_kept, setting_kept, start_kept, frame_kept}
 use Rattle.ms_laws.proofs.stripping.stripped_settings.Goals as goal
+
+pub returns-clause-types : goal.returns-clause-types
+returns-clause-types c = λ m. refl
 
 pub returns-clause-addresses : goal.returns-clause-addresses
 returns-clause-addresses c = λ m i x. addresses_kept m x i
