@@ -1,0 +1,10 @@
+pub mod SameRuns
+pub mod ExactRules
+pub mod Stripped
+pub mod Numbering
+pub mod RootLists
+pub mod PlainPart
+pub mod ShownSteps
+pub mod PlanesApart
+pub mod OutputGrows
+pub mod SameOutput
