@@ -1,0 +1,103 @@
+#!/usr/bin/env bash
+# Instructions that a load of `ms_planes::Planes` takes with 10, 10,000 and 1,000,000 live allocations, and what poisoning
+# and copying take for each byte.
+#
+# The program that calls it is made in a temporary repository, beside copies of this repository's crates.
+# Wants `rt`, `python3` and `valgrind`. Outside the gate.
+set -euo pipefail
+
+top=$(cd "$(dirname "$0")/.." && pwd)
+work=$(mktemp -d)
+trap 'rm -rf "$work"' EXIT
+
+mkdir -p "$work/crates/planes_bench/src"
+for crate in ms_bits ms_alloc ms_planes; do
+    cp -r "$top/crates/$crate" "$work/crates/$crate"
+    rm -rf "$work/crates/$crate/out" "$work/crates/$crate/must-fail"
+done
+printf 'ms_bits:\nms_alloc:\nms_planes: ms_bits ms_alloc\nplanes_bench: ms_alloc ms_planes\n' >"$work/crates.txt"
+
+cat >"$work/crates/planes_bench/src/main.rt" <<'PROGRAM'
+//! Makes so many heap blocks of 16 bytes, and then loads, poisons or copies.
+#![tactic(auto)]
+
+use ms_alloc::AllocKind;
+use ms_planes::Planes;
+use std::env;
+use std::io;
+
+const HEAP: u64 = 0x7100_0000_0000;
+
+/// So many blocks of so many bytes.
+fn fill(planes: &mut Planes, count: u64, size: u64) -> bool {
+    for _ in 0..count {
+        if planes.make(AllocKind::Heap, size).is_err() {
+            return false;
+        }
+    }
+    true
+}
+
+/// Loads at addresses all over the blocks, and sums the words.
+fn load(planes: &Planes, count: u64, times: u64) -> u64 {
+    let mut sum = 0u64;
+    let mut place = 0u64;
+    for _ in 0..times {
+        place = place.wrapping_mul(6364136223846793005).wrapping_add(1442695040888963407);
+        let addr = HEAP + 16 * ((place >> 33) % count.max(1)) % 0x10000000;
+        if planes.covers(addr, 8) {
+            sum = sum.wrapping_add(planes.load(addr, 8));
+        }
+    }
+    sum
+}
+
+/// Poisons, and then copies, all but the last bytes of the first block.
+fn sweep(planes: &mut Planes, size: u64, times: u64) -> bool {
+    for _ in 0..times {
+        if planes.covers(HEAP, size) {
+            planes.poison(HEAP, size, 255, 7);
+        }
+        if planes.covers(HEAP, size / 2) && planes.covers(HEAP + 4, size / 2) {
+            if planes.copy_shadow(HEAP + 4, HEAP, size / 2).is_err() {
+                return false;
+            }
+        }
+    }
+    true
+}
+
+fn main(rt: HostRuntime) -> io::Result<()> {
+    let mut words = env::args(&rt)?;
+    let _name = words.next();
+    let count = words.next().and_then(|word| word.parse::<u64>().ok()).unwrap_or(0);
+    let size = words.next().and_then(|word| word.parse::<u64>().ok()).unwrap_or(0);
+    let loads = words.next().and_then(|word| word.parse::<u64>().ok()).unwrap_or(0);
+    let sweeps = words.next().and_then(|word| word.parse::<u64>().ok()).unwrap_or(0);
+    let mut planes = Planes::new(rt.alloc());
+    let size = size % 0x10000000;
+    let made = fill(&mut planes, count, size);
+    let sum = load(&planes, count, loads);
+    let swept = sweep(&mut planes, size, sweeps);
+    println!(rt; "{made} {sum} {swept}")?;
+    Ok(())
+}
+PROGRAM
+
+cd "$work/crates/planes_bench"
+rt run -- 1 16 1 1 >"$work/build.log" 2>&1 || { cat "$work/build.log" >&2; exit 1; }
+program=$work/crates/planes_bench/out/planes_bench
+
+# instructions of a run
+count() {
+    valgrind --tool=callgrind --callgrind-out-file=/dev/null "$program" "$@" 2>&1 >/dev/null | sed -n 's/.*Collected : //p'
+}
+
+for blocks in 10 10000 1000000; do
+    none=$(count "$blocks" 16 0 0)
+    some=$(count "$blocks" 16 100000 0)
+    echo "$blocks blocks: $(python3 -c "print(f'{($some - $none) / 100000:.1f}')") instructions a load"
+done
+none=$(count 1 1048576 0 0)
+some=$(count 1 1048576 0 16)
+echo "poison of 1 MiB and copy of the shadow of half of it: $(python3 -c "print(f'{($some - $none) / 16 / 1048576:.2f}')") instructions a byte"
