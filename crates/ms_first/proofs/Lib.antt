@@ -1,9 +1,10 @@
-pub mod MachineInsts
-pub mod MachineLines
-pub mod MachineRanges
-pub mod MachineRuns
-pub mod MachineStacks
-pub mod MachineStored
+pub mod StraightFirst
+pub mod Forms
+pub mod TaskCounts
+pub mod StraightTasks
+pub mod LineCounts
+pub mod StraightLines
+pub mod StraightPass
 pub mod ReaderLines
 pub mod ReaderOperands
 pub mod ReaderPieces

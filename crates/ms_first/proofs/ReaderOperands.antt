@@ -9,7 +9,7 @@ use Rattle.std.proofs.lemmas.Fmt.{decimal_is_IsNumeral}
 use Rattle.std.proofs.lemmas.Str.Parse.{digit_from_value}
 use Rattle.ms_ir.specs.declared.syntax.Operand.{Operand}
 use Rattle.ms_ir.specs.declared.syntax.Operand.TheVariants as operand
-use Rattle.ms_ir.specs.First.{Word, Whole, Minus, Earlier, IsWord, IsAddress, word_text, result_text, word_operand, result_name}
+use Rattle.ms_ir.specs.First.{Word, Whole, Minus, Earlier, Undefined, IsWord, IsAddress, word_text, result_text, word_operand, result_name}
 use Rattle.ms_first.specs.Reading.{Taken, took, refused, and_then, maybe, if_there, strip, number, kind_of, local, address_at, word_at, minus, address, word}
 use Rattle.ms_first.proofs.ReaderPieces.{strip_takes, strip_reads, NoDigit, number_back, number_read}
 
@@ -96,10 +96,10 @@ pub record Reads (allocas : List Bool) (t : List ℕ) (x : Operand) (r : List �
   pub text_is : t ≡ word_text form ++ r
   pub operand_is : x ≡ word_operand form
 
-no_sign : (c : ℕ) (ds r : List ℕ) → is_ascii_digit c ≡ false → AllDigits 10 ds → 0 < length ds → strip (c ∷ []) (ds ++ r) ≡ refused
+no_sign : (c : ℕ) (p ds r : List ℕ) → is_ascii_digit c ≡ false → AllDigits 10 ds → 0 < length ds → strip (c ∷ p) (ds ++ r) ≡ refused
 unfolding strip
-no_sign c [] r other all some = absurd (omega arith)
-no_sign c (d ∷ ds) r other all some = elim (cases_Bool (eqb c d)) [
+no_sign c p [] r other all some = absurd (omega arith)
+no_sign c p (d ∷ ds) r other all some = elim (cases_Bool (eqb c d)) [
   | inr differs ↦ rw differs refl
   | inl same ↦
       let range = digit_from_value d all.0 in
@@ -108,8 +108,8 @@ no_sign c (d ∷ ds) r other all some = elim (cases_Bool (eqb c d)) [
       let f : is_ascii_digit d ≡ false = rw (← e) other in absurd cc
 ]
 
-starts_plain : (c n : ℕ) (r : List ℕ) → is_ascii_digit c ≡ false → n < 2 ^ 32 → strip (c ∷ []) (decimal n ++ r) ≡ refused
-starts_plain c n r other small = let numeral = decimal_is_IsNumeral n (omega arith) in no_sign c (decimal n) r other numeral.0.1 numeral.0.0
+starts_plain : (c : ℕ) (p : List ℕ) (n : ℕ) (r : List ℕ) → is_ascii_digit c ≡ false → n < 2 ^ 32 → strip (c ∷ p) (decimal n ++ r) ≡ refused
+starts_plain c p n r other small = let numeral = decimal_is_IsNumeral n (omega arith) in no_sign c p (decimal n) r other numeral.0.1 numeral.0.0
 
 minus_back : (n : ℕ) → 1 ≤ n → n ≤ 2 ^ 31 → minus n ≡ Some (operand.Int (2 ^ 32 - n))
 minus_back n low high = rw (or_from _ _ (ne_eqb n 0 (λ z. absurd (omega arith))) (le-ltb (2 ^ 31) n high)) refl
@@ -143,18 +143,24 @@ unsigned : (t : List ℕ) → strip (codes "%") (45 ∷ t) ≡ refused
 unfolding strip
 unsigned t = refl
 
+undefined_back : (allocas : List Bool) (r : List ℕ) → word allocas (codes "undef" ++ r) ≡ took operand.Undef r
+unfolding word strip
+undefined_back allocas r = refl
+
 pub word_back : (allocas : List Bool) (w : Word) (r : List ℕ) → length allocas ≤ 2 ^ 22 → IsWord allocas w → NoDigit r → word allocas (word_text w ++ r) ≡ took (word_operand w) r
 unfolding word
 word_back allocas (Whole n) r few is ends =
-    rw (starts_plain 37 n r refl is, starts_plain 45 n r refl is, number_back n r is ends) refl
+    rw (starts_plain 37 [] n r refl is, starts_plain 45 [] n r refl is, starts_plain 117 (codes "ndef") n r refl is, number_back n r is ends) refl
 word_back allocas (Minus n) r few is ends =
     ap (λ x. if_there x (λ u. and_then (number u) (λ n. word_at (kind_of allocas n) n))
     (if_there (strip (codes "-") (45 ∷ decimal n ++ r)) (λ u. and_then (number u) (λ n. maybe (minus n)))
-    (and_then (number (45 ∷ decimal n ++ r)) (λ n. took (operand.Int n))))) (unsigned (decimal n ++ r))
+    (if_there (strip (codes "undef") (45 ∷ decimal n ++ r)) (took operand.Undef)
+    (and_then (number (45 ∷ decimal n ++ r)) (λ n. took (operand.Int n)))))) (unsigned (decimal n ++ r))
     ∙ rw (strip_takes (codes "-") (decimal n ++ r), number_back n r (omega (arith, is.1)) ends, minus_back n is.0 is.1) refl
 word_back allocas (Earlier k) r few is ends =
     let within = slice_get_within allocas k false is in
     rw (strip_takes (codes "%") (decimal (k + 1) ++ r), number_back (k + 1) r (omega arith) ends, kind_back allocas k, is) refl
+word_back allocas Undefined r few is ends = undefined_back allocas r
 
 pub word_read : (allocas : List Bool) (t : List ℕ) (x : Operand) (r : List ℕ) → word allocas t ≡ took x r → Reads allocas t x r
 unfolding word
@@ -183,16 +189,26 @@ word_read allocas t x r h = elim (there_or (strip (codes "%") t)) [
           text_is = strip_reads (codes "-") t dash.behind dash.is ∙ ap (λ u. codes "-" ++ u) (number.text_is ∙ ap (λ u. decimal two.piece ++ u) three.1);
           operand_is = three.0.operand_is;
         }
-    | inr plain ↦
-        let e : and_then (number t) (λ n. took (operand.Int n)) ≡ took x r = rw (other, plain) at h in
-        let two = then_took _ _ x r e in
-        let number = number_read t two.piece two.behind two.first in
-        let same : two.behind ≡ r = (let f = two.second in cc) in
-        record {
-          form = Whole two.piece;
-          is = number.small;
-          text_is = number.text_is ∙ ap (λ u. decimal two.piece ++ u) same;
-          operand_is = (let f = two.second in cc);
-        }
+    | inr plain ↦ elim (there_or (strip (codes "undef") t)) [
+      | inl undefined ↦
+          let e : took operand.Undef undefined.behind ≡ took x r = rw (other, plain, undefined.is) at h in
+          record {
+            form = Undefined;
+            is = tt;
+            text_is = strip_reads (codes "undef") t undefined.behind undefined.is ∙ ap (λ u. codes "undef" ++ u) (let f = e in cc);
+            operand_is = (let f = e in cc);
+          }
+      | inr defined ↦
+          let e : and_then (number t) (λ n. took (operand.Int n)) ≡ took x r = rw (other, plain, defined) at h in
+          let two = then_took _ _ x r e in
+          let number = number_read t two.piece two.behind two.first in
+          let same : two.behind ≡ r = (let f = two.second in cc) in
+          record {
+            form = Whole two.piece;
+            is = number.small;
+            text_is = number.text_is ∙ ap (λ u. decimal two.piece ++ u) same;
+            operand_is = (let f = two.second in cc);
+          }
+    ]
   ]
 ]

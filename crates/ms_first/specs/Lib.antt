@@ -1,2 +1,1 @@
-pub mod MachineSteps
 pub mod Reading

@@ -86,7 +86,8 @@ unfoldable pub word : List Bool → List ℕ → Taken Operand
 word allocas t =
     if_there (strip (codes "%") t) (λ u. and_then (number u) (λ n. word_at (kind_of allocas n) n))
     (if_there (strip (codes "-") t) (λ u. and_then (number u) (λ n. maybe (minus n)))
-    (and_then (number t) (λ n. took (operand.Int n))))
+    (if_there (strip (codes "undef") t) (took operand.Undef)
+    (and_then (number t) (λ n. took (operand.Int n)))))
 
 -- ---- lines
 

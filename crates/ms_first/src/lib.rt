@@ -1,8 +1,9 @@
-//! The first form: modules of one function and one block, with a reader and an interpreter of their own.
+//! The first form: modules of one function and one block, read from their text, instrumented and run.
 #![tactic(auto)]
 
-pub mod machine;
+pub mod instruments;
 pub mod reader;
 
-pub use machine::run;
+pub use instruments::instrument;
+pub use ms_straight::run;
 pub use reader::read;

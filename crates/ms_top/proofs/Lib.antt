@@ -1,3 +1,4 @@
 pub mod Appending
 pub mod Answering
+pub mod Rooting
 pub mod Statuses

@@ -1,5 +1,7 @@
 pub mod Spelling
 pub mod Texts
+pub mod ReportTexts
 pub mod Command
 pub mod Said
 pub mod Passing
+pub mod Rooted

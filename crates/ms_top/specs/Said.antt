@@ -10,9 +10,13 @@ use Rattle.ms_ir.specs.declared.runs.Setup.{Setup}
 use Rattle.ms_ir.specs.declared.runs.RunResult.{RunResult}
 use Rattle.ms_ir.specs.First.{First}
 use Rattle.ms_ir.specs.Plain.{plain}
+use Rattle.ms_ir.specs.Shadow.{shadow}
 use Rattle.ms_top.specs.declared.answers.Answer.{Answer}
-use Rattle.ms_top.specs.Command.{run_file_of}
+use Rattle.ms_top.specs.declared.answers.Task.{Task}
+use Rattle.ms_top.specs.declared.answers.Task.TheVariants.{Run, Check}
+use Rattle.ms_top.specs.Command.{command_of}
 use Rattle.ms_top.specs.Texts.{line, closing_of}
+use Rattle.ms_top.specs.ReportTexts.{report_text_of}
 
 abbrev pub answer_of : ℕ → List ℕ → List ℕ → Answer
 answer_of status out err = record { status = status; out = out; err = err }
@@ -31,24 +35,30 @@ default_setup = record { input = []; fill = 0xa5 ∷ []; steps = 10000000; repor
 
 -- ---- a run
 
+-- the status of a run without a report, which doesn't end as reported
 abbrev pub end_status : End → ℕ
 end_status (ends.Exit n) = 0
 end_status (ends.Trap kind site) = 3
-end_status ends.Reported = 77
+end_status ends.Reported = 0
 end_status ends.Spent = 4
 
 -- a report decides first, then how the run ended
 abbrev pub status_of : RunResult → ℕ
 status_of r = if eqb (length r.reports) 0 then end_status r.«end» else 77
 
--- the answer for a module's plain run with the default setup
-abbrev pub answer_of_run : Module → Answer
-answer_of_run m = let r = plain m default_setup in says (status_of r) (closing_of m r false)
+-- what a command runs with the default setup: the module as it stands, or with the shadow of each word
+abbrev pub result_of : Task → Module → RunResult
+result_of Run m = plain m default_setup
+result_of Check m = shadow m default_setup
 
--- the answer for a module's text: its run where it is of the first form, and else a refusal
-abbrev pub IsAnswerTo : List ℕ → Answer → Type 0
-IsAnswerTo text a =
-    ((m : Module) × First text m × (a ≡ answer_of_run m))
+-- the answer for the result of a module's run: its output, and its reports with the closing lines
+abbrev pub answer_of_result : Module → RunResult → Answer
+answer_of_result m r = answer_of (status_of r) r.output (report_text_of m r ++ closing_of m r false)
+
+-- the answer for a module's text: a run where it is of the first form, and else a refusal
+abbrev pub IsAnswerTo : Task → List ℕ → Answer → Type 0
+IsAnswerTo task text a =
+    ((m : Module) × First text m × (a ≡ answer_of_result m (result_of task m)))
     ⊎ (((m : Module) → First text m → ⊥) × (a ≡ says 5 (codes "refused 99: not built yet\n")))
 
 -- ---- the files
@@ -77,20 +87,20 @@ CanRead c file (Whole text) = IsWholeFile c.told file module_limit text
 CanRead c file Fault = IsAbsent c.told file c.faults c.faults_after ⊎ Rose c.faults c.faults_after
 CanRead c file Long = (n : ℕ) × IsTooLong c.told file module_limit n c.taken c.taken_after
 
-abbrev pub IsAnswerAfter : List ℕ → Reading → Answer → Type 0
-IsAnswerAfter file (Whole text) a = IsAnswerTo text a
-IsAnswerAfter file Fault a = a ≡ says 6 (line (codes "file fault") file)
-IsAnswerAfter file Long a = a ≡ says 9 (line (codes "file too long") file)
+abbrev pub IsAnswerAfter : Task → List ℕ → Reading → Answer → Type 0
+IsAnswerAfter task file (Whole text) a = IsAnswerTo task text a
+IsAnswerAfter task file Fault a = a ≡ says 6 (line (codes "file fault") file)
+IsAnswerAfter task file Long a = a ≡ says 9 (line (codes "file too long") file)
 
 -- ---- the words
 
-abbrev pub IsAnswerFor : Counted → Option (List ℕ) → Answer → Type 0
+abbrev pub IsAnswerFor : Counted → Option (Task × List ℕ) → Answer → Type 0
 IsAnswerFor c None a = a ≡ says 2 (codes "words: NotBuilt at 0\n")
-IsAnswerFor c (Some file) a = (r : Reading) × CanRead c file r × IsAnswerAfter file r a
+IsAnswerFor c (Some command) a = (r : Reading) × CanRead c command.1 r × IsAnswerAfter command.0 command.1 r a
 
 -- what a call with these words and these files is to say, but for want of memory
 abbrev pub IsAnswer : Counted → List (List ℕ) → Answer → Type 0
-IsAnswer c words a = IsAnswerFor c (run_file_of words) a
+IsAnswer c words a = IsAnswerFor c (command_of words) a
 
 -- the answer where memory is wanting
 abbrev pub no_memory : Answer

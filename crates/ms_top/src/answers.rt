@@ -1,12 +1,12 @@
 //! What a call is to say.
-ghost use Rattle.std.specs.Prelude.{◌≡◌, ◌≤◌, ◌^◌, ◌++◌, codes, length, IfOk};
-ghost use Rattle.ms_top.specs.Command.{run_file_of};
-ghost use Rattle.ms_top.specs.Said.{counted, IsAnswer, IsAnswerTo, answer_of_run, default_setup as default_setup_of, says, status_of as status_of_run};
+ghost use Rattle.std.specs.Prelude.{◌≡◌, ◌≤◌, ◌^◌, ◌++◌, codes, length, IfOk, option_map};
 ghost use Rattle.ms_ir.specs.First.{IsFirst};
-ghost use Rattle.std.specs.Option.{option_copied};
+ghost use Rattle.ms_top.specs.Command.{command_of, task_of as task_of_word};
+ghost use Rattle.ms_top.specs.Said.{counted, IsAnswer, IsAnswerTo, answer_of_result, result_of as result_of_task, default_setup as default_setup_of, says, status_of as status_of_run};
 ghost use Rattle.ms_top.specs.Texts.{line};
 
 use crate::closing::closing;
+use crate::reports::report_text;
 use ms_bits::{Bytes, NoMemory, Text};
 use ms_first as first;
 use ms_io::{FileError, Files};
@@ -22,6 +22,15 @@ pub struct Answer {
     pub status: u8,
     pub out: Bytes,
     pub err: Bytes,
+}
+
+/// What a command does with a file.
+#[derive(Clone, Copy, Debug)]
+pub enum Task {
+    /// Runs the module as it stands.
+    Run,
+    /// Instruments the module and runs that, so that uses of uninitialised bits are reported.
+    Check,
 }
 
 impl Answer {
@@ -63,7 +72,7 @@ fn default_setup(alloc: Global) -> Result<Setup, NoMemory>
     })
 }
 
-/// The status that a run decides.
+/// The status that a run decides: 77 exactly where it has a report.
 fn status_of(r: &RunResult) -> u8
     ensures { result ≡ status_of_run r.now }
 {
@@ -73,20 +82,38 @@ fn status_of(r: &RunResult) -> u8
     match r.end {
         End::Exit(_) => 0,
         End::Trap { .. } => 3,
-        End::Reported => 77,
+        End::Reported => 0,
         End::Spent => 4,
     }
 }
 
-/// The answer for a module of the first form.
-fn run_module(alloc: Global, m: &Module) -> Result<Answer, NoMemory>
+/// The result of a module of the first form, with the default setup.
+fn result_of(alloc: Global, task: Task, m: &Module) -> Result<RunResult, NoMemory>
     requires { IsFirst m.now }
-    ensures { IfOk result (λ a. a ≡ answer_of_run m.now) }
+    ensures { IfOk result (λ r. r ≡ result_of_task task m.now) }
 {
     let setup = default_setup(alloc)?;
-    let r = first::run(alloc, m, &setup)?;
+    match task {
+        Task::Run => Ok(first::run(alloc, m, &setup)?),
+        Task::Check => {
+            let instrumented = first::instrument(alloc, m)?;
+            Ok(first::run(alloc, &instrumented, &setup)?)
+        }
+    }
+}
+
+/// The answer for the result of a run of `m`.
+fn answer_of(alloc: Global, m: &Module, r: RunResult) -> Result<Answer, NoMemory>
+    ensures { IfOk result (λ a. a ≡ answer_of_result m.now r) }
+{
+    let mut err = report_text(alloc, m, &r)?;
     let lines = closing(alloc, m, &r, false)?;
-    Ok(Answer::on_err(alloc, status_of(&r), lines))
+    err.extend_from_slice(&lines)?;
+    Ok(Answer {
+        status: status_of(&r),
+        out: r.output,
+        err: Bytes::from_vec(err),
+    })
 }
 
 /// The answer for a text that is of no form which can be run yet.
@@ -97,23 +124,42 @@ fn refuse(alloc: Global) -> Result<Answer, NoMemory>
     Ok(Answer::on_err(alloc, 5, line))
 }
 
-/// The answer to the command `run` on a module's text.
-fn run_text(alloc: Global, text: &[u8]) -> Result<Answer, NoMemory>
+/// The answer to a command on a module's text.
+fn answer_to_text(alloc: Global, task: Task, text: &[u8]) -> Result<Answer, NoMemory>
     requires { length text.now ≤ 2 ^ 22 }
-    ensures { IfOk result (λ a. IsAnswerTo text.now a) }
+    ensures { IfOk result (λ a. IsAnswerTo task text.now a) }
 {
     match first::read(alloc, text)? {
         None => Ok(refuse(alloc)?),
-        Some(module) => Ok(run_module(alloc, &module)?),
+        Some(module) => {
+            let r = result_of(alloc, task, &module)?;
+            Ok(answer_of(alloc, &module, r)?)
+        }
     }
 }
 
-/// The file of the command `run`, where the words are this command.
-fn run_file(words: &[Text]) -> Option<&Text>
-    ensures { option_copied result ≡ run_file_of words.now }
+/// The command that a word is.
+fn task_of(word: &str) -> Option<Task>
+    ensures { result ≡ task_of_word word.now }
+{
+    if word == "run" {
+        Some(Task::Run)
+    } else if word == "check" {
+        Some(Task::Check)
+    } else {
+        None
+    }
+}
+
+/// What the words ask for, and the file to do it on.
+fn command(words: &[Text]) -> Option<(Task, &Text)>
+    ensures { option_map (λ c. (c.0, c.1.now)) result ≡ command_of words.now }
 {
     match words {
-        [command, file] if command.as_str() == "run" => Some(file),
+        [word, file] => match task_of(word.as_str()) {
+            Some(task) => Some((task, file)),
+            None => None,
+        },
         _ => None,
     }
 }
@@ -130,12 +176,12 @@ fn about_file(alloc: Global, status: u8, name: &[u8], file: &Text) -> Result<Ans
 pub fn answer_to<F: Files>(alloc: Global, words: &[Text], files: &mut F) -> Result<Answer, NoMemory>
     ensures { IfOk result (λ a. IsAnswer (counted (F.held files.old) (F.faults files.old) (F.faults files.new) (F.taken files.old) (F.taken files.new)) words.now a) }
 {
-    let Some(file) = run_file(words) else {
+    let Some((task, file)) = command(words) else {
         let line = Vec::from_slice(alloc, b"words: NotBuilt at 0\n")?;
         return Ok(Answer::on_err(alloc, 2, line));
     };
     match files.read_whole(alloc, file.as_str(), MODULE_LIMIT) {
-        Ok(text) => Ok(run_text(alloc, &text)?),
+        Ok(text) => Ok(answer_to_text(alloc, task, &text)?),
         Err(FileError::NoMemory) => Err(AllocError),
         Err(FileError::TooLong { .. }) => Ok(about_file(alloc, 9, b"file too long", file)?),
         Err(FileError::Failed) => Ok(about_file(alloc, 6, b"file fault", file)?),

@@ -37,7 +37,7 @@ fn name_of_trap(trap: Trap) -> &'static [u8]
 }
 
 /// Passes over `left` unmarked instructions. `None` where the next one is among these.
-fn pass_insts(insts: &[Inst], left: u32) -> Option<u32>
+fn pass_insts(insts: &[Inst], left: u64) -> Option<u64>
     ensures { result ≡ left_after left (over_insts one_unmarked insts.now) }
 {
     let mut left = left;
@@ -53,7 +53,7 @@ fn pass_insts(insts: &[Inst], left: u32) -> Option<u32>
 }
 
 /// The same over the instructions of blocks.
-fn pass_blocks(blocks: &[Block], left: u32) -> Option<u32>
+fn pass_blocks(blocks: &[Block], left: u64) -> Option<u64>
     ensures { result ≡ left_after left (over_blocks one_unmarked blocks.now) }
 {
     let mut left = left;
@@ -67,7 +67,7 @@ fn pass_blocks(blocks: &[Block], left: u32) -> Option<u32>
 }
 
 /// The name of the function that has the instruction after `left` others.
-fn name_after(funcs: &[Func], left: u32) -> Option<&Name>
+fn name_after(funcs: &[Func], left: u64) -> Option<&Name>
     ensures { option_copied result ≡ function_after funcs.now left }
 {
     let mut left = left;
@@ -81,7 +81,7 @@ fn name_after(funcs: &[Func], left: u32) -> Option<&Name>
 }
 
 /// The name of the function that has the site `site`, where the module has it.
-fn name_at(m: &Module, site: u32) -> Option<&Name>
+fn name_at(m: &Module, site: u64) -> Option<&Name>
     ensures { option_copied result ≡ function_of m.now site }
 {
     if site == 0 {
@@ -103,11 +103,12 @@ fn push_function(text: &mut Vec<u8>, name: Option<&Name>) -> Result<(), NoMemory
     Ok(())
 }
 
-fn push_site(text: &mut Vec<u8>, m: &Module, site: u32) -> Result<(), NoMemory>
+/// Adds where a site is: its number, and the function that has it.
+pub fn push_site(text: &mut Vec<u8>, m: &Module, site: u64) -> Result<(), NoMemory>
     ensures { IfOk result (λ _. text.new.items ≡ text.old.items ++ site_text m.now site) }
 {
     text.extend_from_slice(b" at site ")?;
-    push_number(text, site as u64)?;
+    push_number(text, site)?;
     text.extend_from_slice(b" in ")?;
     push_function(text, name_at(m, site))?;
     Ok(())
@@ -124,7 +125,7 @@ fn push_end(text: &mut Vec<u8>, m: &Module, end: End) -> Result<(), NoMemory>
         End::Trap { kind, site } => {
             text.extend_from_slice(b"trap ")?;
             text.extend_from_slice(name_of_trap(kind))?;
-            push_site(text, m, site)?;
+            push_site(text, m, site as u64)?;
         }
         End::Reported => text.extend_from_slice(b"reported")?,
         End::Spent => text.extend_from_slice(b"spent")?,

@@ -4,6 +4,8 @@
 pub mod answers;
 pub mod closing;
 pub mod pieces;
+pub mod reports;
+pub mod roots;
 pub mod spelling;
 pub mod top;
 

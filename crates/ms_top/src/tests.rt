@@ -1,8 +1,11 @@
 //! The top call over files and sinks in memory.
 
 use crate::msan;
-use ms_bits::Text;
+use crate::reports::report_text;
+use ms_bits::{Bytes, List, Text};
+use ms_first::read;
 use ms_io::{MemFiles, MemSink, SureFiles, SureSink};
+use ms_ir::{End, Origin, Report, RunResult};
 use std::alloc::{AllocError, Global};
 use std::collections::BTreeMap;
 use std::test::Fail;
@@ -12,6 +15,13 @@ const STORED: &str =
 
 const UNSET: &str =
     "define i32 @main() {\n  %1 = alloca i32\n  %2 = load i32, ptr %1\n  %3 = xor i32 %2, 10\n  ret i32 %3\n}\n";
+
+const TWO_UNSET: &str =
+    "define i32 @main() {\n  %1 = alloca i32\n  %2 = alloca i32\n  %3 = load i32, ptr %1\n  %4 = load i32, ptr %2\n  %5 = xor i32 %3, %4\n  ret i32 %5\n}\n";
+
+const UNDEFINED_BYTE: &str = "define i32 @main() {\n  %1 = and i32 undef, 255\n  ret i32 %1\n}\n";
+
+const MASKED_TO_ZERO: &str = "define i32 @main() {\n  %1 = and i32 undef, 0\n  ret i32 %1\n}\n";
 
 const RETURNS_ZERO: &str = "define i32 @main() {\n  ret i32 0\n}\n";
 
@@ -75,7 +85,7 @@ fn call_on(alloc: Global, words: &str, file: &str) -> Result<Said, AllocError> {
 
 #[test]
 fn says_what_the_words_and_the_file_ask_for(rt: HostRuntime) -> Result<(), Fail> {
-    let table: [(&str, &str, u8, &str); 12] = [
+    let table: [(&str, &str, u8, &str); 15] = [
         ("run f", STORED, 0, "end: exit 6\nreports: 0\nblind: 0\n"),
         (
             "run f",
@@ -99,10 +109,13 @@ fn says_what_the_words_and_the_file_ask_for(rt: HostRuntime) -> Result<(), Fail>
         ("run", STORED, 2, "words: NotBuilt at 0\n"),
         ("", STORED, 2, "words: NotBuilt at 0\n"),
         ("run f f", STORED, 2, "words: NotBuilt at 0\n"),
-        ("check f", STORED, 2, "words: NotBuilt at 0\n"),
+        ("checks f", STORED, 2, "words: NotBuilt at 0\n"),
+        ("check", STORED, 2, "words: NotBuilt at 0\n"),
         ("runs f", STORED, 2, "words: NotBuilt at 0\n"),
         ("run g", STORED, 6, "file fault: g\n"),
         ("run --", STORED, 6, "file fault: --\n"),
+        ("check g", STORED, 6, "file fault: g\n"),
+        ("check f", "", 5, "refused 99: not built yet\n"),
     ];
     for (words, file, status, err) in table {
         let said = call_on(rt.alloc(), words, file)?;
@@ -110,6 +123,96 @@ fn says_what_the_words_and_the_file_ask_for(rt: HostRuntime) -> Result<(), Fail>
         assert!(rt; said.err.as_slice() == err.as_bytes(), "the text at {err}");
         assert!(rt; said.out.is_empty());
     }
+    Ok(())
+}
+
+#[test]
+fn checks_each_use(rt: HostRuntime) -> Result<(), Fail> {
+    let table: [(&str, &str, u8, &str); 6] = [
+        (
+            "check f",
+            RETURNS_ZERO,
+            0,
+            "end: exit 0\nreports: 0\nblind: 0\n",
+        ),
+        ("check f", STORED, 0, "end: exit 6\nreports: 0\nblind: 0\n"),
+        (
+            "check f",
+            TWO_UNSET,
+            77,
+            "report 1: exit at site 6 in @main, part 0, bits 0xffffffff of i32\n  origin 2: alloca at site 2 in @main\nend: reported\nreports: 1\nblind: 0\n",
+        ),
+        (
+            "check f",
+            UNDEFINED_BYTE,
+            77,
+            "report 1: exit at site 2 in @main, part 0, bits 0xff of i32\n  origin 1: undef at site 1 in @main\nend: reported\nreports: 1\nblind: 0\n",
+        ),
+        (
+            "run f",
+            UNDEFINED_BYTE,
+            0,
+            "end: exit 165\nreports: 0\nblind: 0\n",
+        ),
+        (
+            "check f",
+            MASKED_TO_ZERO,
+            0,
+            "end: exit 0\nreports: 0\nblind: 0\n",
+        ),
+    ];
+    for (words, file, status, err) in table {
+        let said = call_on(rt.alloc(), words, file)?;
+        assert_eq!(rt; said.status, status, "the status at {err}");
+        assert!(rt; said.err.as_slice() == err.as_bytes(), "the text at {err}");
+        assert!(rt; said.out.is_empty());
+    }
+    Ok(())
+}
+
+fn report(alloc: Global, chain: &[Origin]) -> Result<Report, AllocError> {
+    Ok(Report {
+        site: 6,
+        kind: 8,
+        part: 0,
+        width: 32,
+        mask: 0xff,
+        origin: 3,
+        chain: List::from_vec(Vec::from_slice(alloc, chain)?),
+    })
+}
+
+#[test]
+fn prints_chains_and_unknown_origins(rt: HostRuntime) -> Result<(), Fail> {
+    let alloc = rt.alloc();
+    let text = TWO_UNSET.as_bytes();
+    assert!(rt; text.len() < 1000);
+    let module = read(alloc, text)?.ok_or("a module")?;
+    let chain = [
+        Origin::Chain { old: 2, site: 4 },
+        Origin::Root { number: 2 },
+    ];
+    let stored = report(alloc, &chain)?;
+    let mut unknown = report(alloc, &[])?;
+    unknown.site = 7;
+    unknown.kind = 13;
+    unknown.part = 1;
+    unknown.width = 64;
+    unknown.mask = 0x10;
+    unknown.origin = 9;
+    let mut reports = Vec::new(alloc);
+    reports.push(stored)?;
+    reports.push(unknown)?;
+    let result = RunResult {
+        output: Bytes::from_vec(Vec::new(alloc)),
+        end: End::Reported,
+        reports: List::from_vec(reports),
+        blind: 0,
+    };
+    let text = report_text(alloc, &module, &result)?;
+    let expected =
+        "report 1: exit at site 6 in @main, part 0, bits 0xff of i32\n  origin 3: stored at site 4 in @main\n  origin 2: alloca at site 2 in @main\nreport 2: kind 13 at site 7 in ?, part 1, bits 0x10 of i64\n  origin 9: unknown\n";
+    assert!(rt; text.as_slice() == expected.as_bytes());
     Ok(())
 }
 

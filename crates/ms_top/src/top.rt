@@ -9,10 +9,12 @@ use ms_bits::Text;
 use ms_io::{Files, Sink};
 use std::alloc::Global;
 
-/// Does what the words after the program's name ask for. `run FILE` runs the module in the file and writes
-/// how the run ended to `err`.
+/// Does what the words after the program's name ask for. `run FILE` runs the module in the file, and
+/// `check FILE` runs it with the shadow of each word. Its output is written to `out`; each use of
+/// uninitialised bits that was found, and how the run ended, to `err`.
 ///
-/// The status is 0 for a run that is done, 3 for one that trapped, 2 where the words are no command, 5 where
+/// The status is 77 for a run with a report, else 0 for one that is done, 3 for one that trapped and 4 for
+/// one whose steps were used up. It is 2 where the words are no command, 5 where
 /// the module is refused, 6 where the file can't be read, 7 where a put failed, 8 where memory is wanting,
 /// 9 where the file is too long. All memory is taken before the first put.
 pub fn msan<F: Files, O: Sink, E: Sink>(

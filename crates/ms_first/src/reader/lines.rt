@@ -67,7 +67,7 @@ fn address(text: &mut Cursor<'_>, allocas: &[bool]) -> Option<Operand>
     }
 }
 
-/// A number, or an earlier result that is no alloca's.
+/// A number, `undef`, or an earlier result that is no alloca's.
 #[tactic(auto, unfolding(crate::specs::Reading::word))]
 fn word(text: &mut Cursor<'_>, allocas: &[bool]) -> Option<Operand>
     ensures { Gives (spec.word allocas.now text.old) result text.new }
@@ -81,6 +81,8 @@ fn word(text: &mut Cursor<'_>, allocas: &[bool]) -> Option<Operand>
     } else if text.take(b"-") {
         let number = text.number()?;
         minus(number)
+    } else if text.take(b"undef") {
+        Some(Operand::Undef)
     } else {
         let number = text.number()?;
         Some(Operand::Int(u64::from(number)))

@@ -90,7 +90,7 @@ fn reads_each_kind_of_line(rt: HostRuntime) -> Result<(), Fail> {
 
 #[test]
 fn tells_the_form(rt: HostRuntime) -> Result<(), Fail> {
-    let table: [(&str, bool); 24] = [
+    let table: [(&str, bool); 27] = [
         ("", false),
         ("define i32 @main() {\n  ret i32 0\n}\n", true),
         ("define i32 @main() {\n  ret i32 -1\n}\n", true),
@@ -101,6 +101,12 @@ fn tells_the_form(rt: HostRuntime) -> Result<(), Fail> {
         ("define i32 @main() {\n  ret i32 -0\n}\n", false),
         ("define i32 @main() {\n  ret i32 01\n}\n", false),
         ("define i32 @main() {\n  ret i32 \n}\n", false),
+        ("define i32 @main() {\n  ret i32 undef\n}\n", true),
+        ("define i32 @main() {\n  ret i32 undefined\n}\n", false),
+        (
+            "define i32 @main() {\n  %1 = and i32 undef, 255\n  ret i32 %1\n}\n",
+            true,
+        ),
         ("define i32 @main() {\n  ret i32 0\n}", false),
         ("define i32 @main() {\n  ret i32 0\n}\n ", false),
         ("define i32 @main() {\n ret i32 0\n}\n", false),
