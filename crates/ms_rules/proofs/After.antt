@@ -1,5 +1,5 @@
 -- The law of what is inserted after an instruction.
-use Rattle.std.proofs.Common.{◌≡◌, ℕ, ◌+◌, ◌*◌, ◌%◌, ◌^◌, ◌<◌, ◌≤◌, List, [], ◌∷◌, refl, sym, ap, ◌∙◌, subst, arith, Bool, true, false, Option, Some, None}
+use Rattle.std.proofs.Common.{◌≡◌, ◌≢◌, ℕ, ◌+◌, ◌*◌, ◌%◌, ◌^◌, ◌<◌, ◌≤◌, List, [], ◌∷◌, refl, sym, ap, ◌∙◌, subst, arith, Bool, true, false, Option, Some, None}
 use Rattle.std.specs.Prelude.{if◌then◌else◌}
 use Rattle.ms_bits.specs.declared.operations.BinOp.TheVariants as binary
 use Rattle.ms_bits.specs.declared.traps.Trap.TheVariants as trap
@@ -11,16 +11,17 @@ use Rattle.ms_ir.specs.declared.syntax.Operand.TheVariants as operand
 use Rattle.ms_ir.specs.declared.syntax.Op.{Op}
 use Rattle.ms_ir.specs.declared.syntax.Op.TheVariants as op
 use Rattle.ms_ir.specs.declared.syntax.Inst.{Inst}
+use Rattle.ms_ir.specs.declared.runs.End.{End}
 use Rattle.ms_ir.specs.Layout.{width_of, stored_size, size_in}
-use Rattle.ms_ir.specs.World.{Stack, World, Setting, Here, Effect, Gives, Does, traps, result}
+use Rattle.ms_ir.specs.World.{Stack, World, Setting, Here, Effect, Gives, Does, Ends, traps, result}
 use Rattle.ms_ir.specs.Memory.{is_good, set_shadow, fits, next_base, make_unset, store_number}
-use Rattle.ms_ir.specs.Code.{operands, count_undefs, is_root}
+use Rattle.ms_ir.specs.Code.{operands, count_undefs, is_root, roots_in}
 use Rattle.ms_ir.specs.Act.{alloca, store}
 use Rattle.ms_ir.specs.Poisoned.{Poisoned}
 use Rattle.ms_ir.specs.Masks.{word_at}
 use Rattle.ms_ir.specs.Shadow.{planes}
-use Rattle.ms_rules.specs.Tasks.{Values, Went, Reaches, run_marked, do_tasks, tasks_code, set_result}
-use Rattle.ms_rules.specs.Emit.{Env, FewNumbers, tracked, tracked_at, after_tasks}
+use Rattle.ms_rules.specs.Tasks.{Values, Reach, Went, Reaches, Same, run_marked, do_tasks, tasks_code, set_result}
+use Rattle.ms_rules.specs.Emit.{Env, FewNumbers, tracked, tracked_at, after_tasks, KnownOperands}
 use Rattle.ms_rules.specs.Match.{Matches, RangedWorld, RangedValues, Stands, given_of, words_at, acted_at, AfterLaw}
 use Rattle.ms_rules.proofs.InsertedNames.{mask_below, origin_below, with_here}
 use Rattle.ms_rules.proofs.Flatten.{same_refl, went_inv, tasks_run}
@@ -77,7 +78,7 @@ module _ (s : Setting) (env : Env) (size next : ℕ) (h : Here) (values : Name �
       let code = (tasks_code (after_tasks (given_of s) env h i) next).code in
       let t = tasks_run s at next (after_tasks (given_of s) env h i) (after_low s env size next h i st) next (omega arith) v v w (same_refl next v) in
       let r = went_inv next (record { names = names; slots = cells2 }) z (run_marked s at code v w)
-      (subst (λ q. Reaches next q (run_marked s at code v w)) f t) in
+        (subst (λ q. Reaches next q (run_marked s at code v w)) f t) in
       (r.0, r.1, matches_same env next (numbers_low env size next st.few st.room) after (record { names = names; slots = cells2 }) r.0 m r.2)
 
   -- nothing is inserted
@@ -86,8 +87,8 @@ module _ (s : Setting) (env : Env) (size next : ℕ) (h : Here) (values : Name �
       → Matches env after names → AfterLaw s env next h i values after before x names w
   nothing i st after before x names w e p m = record {
     runs = λ at cells.
-        after_runs i st at cells cells names w _
-        (ap (λ l. do_tasks s at l (record { names = names; slots = cells }) w) e ∙ ap (λ z. Went (record { names = names; slots = cells }) z) (sym p)) after m;
+      after_runs i st at cells cells names w _
+      (ap (λ l. do_tasks s at l (record { names = names; slots = cells }) w) e ∙ ap (λ z. Went (record { names = names; slots = cells }) z) (sym p)) after m;
     quiet = λ f. ap (result f) (sym p);
   }
 
@@ -116,8 +117,8 @@ module _ (s : Setting) (env : Env) (size next : ℕ) (h : Here) (values : Name �
       let roots : root < 2 ^ 32 = omega (arith, roots_small s env size next h i st) in
       record {
         runs = λ at cells.
-            after_runs i st at cells cells (set_result names (Some y) x) w _
-            (poison_done s at y x bytes root address (omega (arith, small.0)) roots (set_result names (Some y) x) cells w (with_here names y x)) after m;
+          after_runs i st at cells cells (set_result names (Some y) x) w _
+          (poison_done s at y x bytes root address (omega (arith, small.0)) roots (set_result names (Some y) x) cells w (with_here names y x)) after m;
         quiet = poison_alike x 0 bytes root w;
       }
   gives_at b _ _ before x w names after st e m = absurd st.known.built
@@ -145,8 +146,8 @@ module _ (s : Setting) (env : Env) (size next : ℕ) (h : Here) (values : Name �
       let writes = set_shadow q.value (stored_size t) (byte_of p.mask) w in
       record {
         runs = λ at cells.
-            let done = store_done s names t x y p q st.known.reads.0 hx.mask hx.origin hy.value at h.site st.ranged.site cells w placed good in
-            after_runs i st at cells done.0 names w _ (ap (λ l. do_tasks s at l (record { names = names; slots = cells }) w) same ∙ done.1) values m;
+          let done = store_done s names t x y p q st.known.reads.0 hx.mask hx.origin hy.value at h.site st.ranged.site cells w placed good in
+          after_runs i st at cells done.0 names w _ (ap (λ l. do_tasks s at l (record { names = names; slots = cells }) w) same ∙ done.1) values m;
         quiet = origin_alike s q.value p.mask p.origin h.site writes;
       }
 

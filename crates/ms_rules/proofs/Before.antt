@@ -1,5 +1,5 @@
 -- The law of what is inserted before an instruction.
-use Rattle.std.proofs.Common.{◌≡◌, ℕ, zero, suc, ◌+◌, ◌≤◌, List, [], ◌∷◌, ◌++◌, length, refl, sym, ap, ◌∙◌, subst, arith, Bool, true, false, Option, Some, None}
+use Rattle.std.proofs.Common.{◌≡◌, ◌≢◌, ℕ, zero, suc, ◌+◌, ◌*◌, ◌%◌, ◌^◌, ◌<◌, ◌≤◌, List, [], ◌∷◌, ◌++◌, length, refl, sym, ap, ◌∙◌, subst, arith, Bool, true, false, Option, Some, None}
 use Rattle.std.specs.Prelude.{if◌then◌else◌, map, eqb, leb}
 use Rattle.ms_bits.specs.declared.operations.BinOp.TheVariants as binary
 use Rattle.ms_ir.specs.declared.syntax.Name.{Name}
@@ -17,18 +17,19 @@ use Rattle.ms_ir.specs.Layout.{width_of}
 use Rattle.ms_ir.specs.World.{World, Setting, Here, Effect, Gives, Does, Goes, Enters, Leaves, Ends, then_does}
 use Rattle.ms_ir.specs.Origins.{check, add_report, trail, count_blind}
 use Rattle.ms_ir.specs.Code.{operands, one_undef}
+use Rattle.ms_ir.specs.Control.{read_all, with_value}
 use Rattle.ms_ir.specs.Poisoned.{Poisoned}
 use Rattle.ms_ir.specs.Masks.{by_formulas, union, word_at}
 use Rattle.ms_ir.specs.Uses.{Use, Word, Bytes, Line, uses, type_at, check_use, check_uses, blinded}
 use Rattle.ms_ir.specs.Shadow.{poisoned_result}
-use Rattle.ms_rules.specs.Tasks.{Task, Values, Went, Over, Reaches, Same, Below, run_marked, do_tasks, set_result}
-use Rattle.ms_rules.specs.Emit.{Env, tracked, tracked_at, result_tasks, before_tasks, IsBuilt, KnownOperands}
+use Rattle.ms_rules.specs.Tasks.{Task, Values, Reach, Went, Over, Reaches, Same, Below, words_of, run_marked, do_tasks, tasks_code, set_result}
+use Rattle.ms_rules.specs.Emit.{Env, Tracked, tracked, tracked_at, result_tasks, before_tasks, IsBuilt, KnownOperands}
 use Rattle.ms_rules.specs.Match.{Matches, RangedWorld, RangedValues, Stands, given_of, words_at, checked_at, counted_at, acted_at, after_result, before_code, BeforeLaw, Checked, Failed, Due}
 use Rattle.ms_rules.proofs.InsertedNames.{own_below}
 use Rattle.ms_rules.proofs.Flatten.{same_refl, went_inv, over_inv, tasks_run}
 use Rattle.ms_rules.proofs.TaskNames.{before_low}
 use Rattle.ms_rules.proofs.OperandWords.{Own, tracked_holds, words_known}
-use Rattle.ms_rules.proofs.MatchedNames.{matches_same}
+use Rattle.ms_rules.proofs.MatchedNames.{Numbers, matches_same}
 use Rattle.ms_rules.proofs.CheckTasks.{AreWords, check_on, checks_done}
 use Rattle.ms_rules.proofs.Defined.{Defined, Fine, Fails}
 use Rattle.ms_rules.proofs.DefineResults.{result_done}
@@ -147,9 +148,9 @@ module _ (s : Setting) (env : Env) (size base : ℕ) (h : Here) (i : Inst) (valu
       Due r.0 w1 r.1 c (sym r.2.slots ∙ slots)
       (words_known s env size values r.0.names own (operands i.op) h.root st.known.reads)
       (λ x z e.
-      matches_same env base low (after_result values i.result (poisoned_result by_formulas i.op (words_at s values h i) x z))
-      (record { names = set_result after.names i.result x; slots = after.slots }) (record { names = set_result r.0.names i.result x; slots = r.0.slots })
-      (gives x z e) (same_result base i.result x after r.0 r.2))
+        matches_same env base low (after_result values i.result (poisoned_result by_formulas i.op (words_at s values h i) x z))
+        (record { names = set_result after.names i.result x; slots = after.slots }) (record { names = set_result r.0.names i.result x; slots = r.0.slots })
+        (gives x z e) (same_result base i.result x after r.0 r.2))
       (λ z e. matches_same env base low values after r.0 (does z e) r.2)
 
 -- the list before an instruction
@@ -191,8 +192,8 @@ before_law s env size base h i values v w st m rn rv sound = by_checks (checked_
         passed s env size base h i values v w st m w1 f
         (over (Does w1) f ∙ ap (do_tasks s h (result_tasks env i.result i.op (tracked env h.root (operands i.op))) v) same)
         (result_done s env size h values v m rv st.one_name i.result i.op st.known.built st.known.named st.known.reads
-        (few_undefs s env size base h i st) (counted_at s values h i w1) ranged
-        (λ y k u e c g. sound y k w1 u e c f g))
+          (few_undefs s env size base h i st) (counted_at s values h i w1) ranged
+          (λ y k u e c g. sound y k w1 u e c f g))
     by_checks (Gives k z) f l = absurd (subst IsLeft f l)
     by_checks (Goes b z) f l = absurd (subst IsLeft f l)
     by_checks (Enters b z) f l = absurd (subst IsLeft f l)

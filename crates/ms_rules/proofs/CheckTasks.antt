@@ -1,5 +1,5 @@
 -- Checks: what their tasks come to, also where one is left out.
-use Rattle.std.proofs.Common.{◌≡◌, ◌≢◌, ℕ, zero, suc, ◌%◌, ◌^◌, ◌<◌, ◌≤◌, List, [], ◌∷◌, ◌++◌, length, refl, sym, ap, ◌∙◌, subst, arith, append_assoc, Bool, true, false, None}
+use Rattle.std.proofs.Common.{◌≡◌, ◌≢◌, ℕ, zero, suc, ◌+◌, ◌%◌, ◌^◌, ◌<◌, ◌≤◌, List, [], ◌∷◌, ◌++◌, length, refl, sym, ap, ◌∙◌, subst, arith, append_assoc, Bool, true, false, Option, Some, None}
 use Rattle.std.specs.Prelude.{if◌then◌else◌, eqb, leb}
 use Rattle.std.proofs.Math.Path.{ap₂}
 use Rattle.std.proofs.Math.Nat.{mod-eq_of_lt, zero-mod}
@@ -20,9 +20,9 @@ use Rattle.ms_ir.specs.Act.{operand_word}
 use Rattle.ms_ir.specs.Poisoned.{Poisoned}
 use Rattle.ms_ir.specs.Masks.{word_at}
 use Rattle.ms_ir.specs.Uses.{Use, Word, Bytes, Line, type_at, check_use, check_uses}
-use Rattle.ms_rules.specs.Tasks.{Leaf, Turn, Task, Values, Reach, Over, eval, eval_all, parts, task_effect, do_tasks, marked_next}
+use Rattle.ms_rules.specs.Tasks.{Expr, Leaf, Turn, Task, Values, Reach, Went, Over, eval, eval_all, parts, task_effect, do_tasks, marked_next}
 use Rattle.ms_rules.specs.Emit.{Tracked, tracked_at, is_zero, widened, mask_of, check_task, use_tasks, check_tasks}
-use Rattle.ms_rules.proofs.OperandWords.{ap₃, Holds, word_less}
+use Rattle.ms_rules.proofs.OperandWords.{ap₃, Holds, word_less, mod_once}
 
 -- ---- a mask as a word of 64 bits
 
@@ -103,6 +103,7 @@ AreWords (Line a ∷ us) = ⊥
 module _ (s : Setting) (h : Here) (v : Values) (ts : List Tracked) (os : List (Ty × Operand)) (ps : List Poisoned) (site : h.site < 2 ^ 32)
     (holds : (k : ℕ) → Holds s v.names (tracked_at k ts) (word_at k ps))
     (typed : (k : ℕ) → (tracked_at k ts).ty ≡ type_at k os) (narrow : (k : ℕ) → width_of (tracked_at k ts).ty ≤ 64) where
+
   check_same : (kind k : ℕ) → kind < 2 ^ 32 → k < 2 ^ 32 → (w : World)
       → task_effect s h (check_task h.site kind k (tracked_at k ts)) (eval_all s v.names (parts (check_task h.site kind k (tracked_at k ts)))) v.slots w
       ≡ check_use s h.site os ps (Word kind k) w

@@ -1,5 +1,5 @@
 -- The mask and the origin of 'and', 'or' and 'xor'.
-use Rattle.std.proofs.Common.{◌≡◌, ◌≢◌, ℕ, ◌+◌, ◌-◌, ◌*◌, ◌%◌, ◌^◌, ◌<◌, List, [], ◌∷◌, refl, sym, ap, ◌∙◌, arith, Bool, true, false, Some, Result, Ok, Err}
+use Rattle.std.proofs.Common.{◌≡◌, ◌≢◌, ℕ, zero, suc, ◌+◌, ◌-◌, ◌*◌, ◌%◌, ◌^◌, ◌<◌, ◌≤◌, List, [], ◌∷◌, refl, sym, ap, ◌∙◌, subst, arith, Bool, true, false, Option, Some, None, Result, Ok, Err}
 use Rattle.std.specs.Prelude.{if◌then◌else◌, eqb, not, bit_and, bit_or, bit_xor}
 use Rattle.std.specs.Int.{from_bool}
 use Rattle.std.proofs.Math.Path.{ap₂}
@@ -12,7 +12,7 @@ use Rattle.ms_bits.specs.declared.operations.BinOp.TheVariants as binary
 use Rattle.ms_bits.specs.Conversions.{select_of}
 use Rattle.ms_bits.specs.Formulas.{and_mask, or_mask, union_mask}
 use Rattle.ms_ir.specs.declared.syntax.Name.{Name}
-use Rattle.ms_ir.specs.declared.syntax.Ty.{Ty}
+use Rattle.ms_ir.specs.declared.syntax.Ty.{Ty, Int}
 use Rattle.ms_ir.specs.declared.syntax.Operand.{Operand}
 use Rattle.ms_ir.specs.Layout.{width_of}
 use Rattle.ms_bits.specs.declared.operations.Flags.{Flags}
@@ -27,7 +27,7 @@ use Rattle.ms_ir.specs.Act.{operand_word, gives}
 use Rattle.ms_ir.specs.Poisoned.{Poisoned}
 use Rattle.ms_ir.specs.Masks.{by_formulas, binary_mask, last_origin, word_at}
 use Rattle.ms_ir.specs.Shadow.{read_poisoned}
-use Rattle.ms_rules.specs.Tasks.{mask_name, origin_name, Values, Went, do_tasks}
+use Rattle.ms_rules.specs.Tasks.{mask_name, origin_name, Values, Reach, Went, do_tasks, eval}
 use Rattle.ms_rules.specs.Emit.{Env, Tracked, tracked, tracked_at, mask_type, binary_tasks, define_tasks, KnownName, KnownOperands, OneName}
 use Rattle.ms_rules.specs.Match.{Matches, RangedValues}
 use Rattle.ms_rules.proofs.InsertedNames.{own_not_msan, with_other}
@@ -161,17 +161,17 @@ module _ (s : Setting) (env : Env) (size : ℕ) (h : Here) (values : Name → Po
       let names2 = with_value names1 (mask_name n) mask in
       let past : (y : Name) → is_reserved y ≡ false → names1 y ≡ v.names y = λ y own. with_other v.names (origin_name n) y stored (own_not_msan y (2 * n + 2) own) in
       let va : operand_word s names1 (width_of t) ta.operand ≡ p.value =
-      word_same s names1 v.names (width_of t) a (own_agrees env size names1 v.names past a known.1) ∙ hp.value in
+        word_same s names1 v.names (width_of t) a (own_agrees env size names1 v.names past a known.1) ∙ hp.value in
       let vb : operand_word s names1 (width_of t) tb.operand ≡ q.value =
-      word_same s names1 v.names (width_of t) b (own_agrees env size names1 v.names past b known.2.1) ∙ hq.value in
+        word_same s names1 v.names (width_of t) b (own_agrees env size names1 v.names past b known.2.1) ∙ hq.value in
       let ma : operand_word s names1 (width_of t) ta.mask ≡ p.mask =
-      word_same s names1 v.names (width_of t) ta.mask (mask_agrees env size v.names n stored (width_of t) a known.1) ∙ hp.mask in
+        word_same s names1 v.names (width_of t) ta.mask (mask_agrees env size v.names n stored (width_of t) a known.1) ∙ hp.mask in
       let mb : operand_word s names1 (width_of t) tb.mask ≡ q.mask =
-      word_same s names1 v.names (width_of t) tb.mask (mask_agrees env size v.names n stored (width_of t) b known.2.1) ∙ hq.mask in
+        word_same s names1 v.names (width_of t) tb.mask (mask_agrees env size v.names n stored (width_of t) b known.2.1) ∙ hq.mask in
       let d : Defines env x n v.names names2 mask origin =
-      origin_first env x n k.numbered c v.names mask origin stored
-      (λ ne. last_known p q (operand_word s v.names (width_of t) tb.mask) (operand_word s v.names 32 ta.origin) (operand_word s v.names 32 tb.origin) hq.mask hp.origin hq.origin
-      (λ e g. ne (logic_clean o l (width_of t) p q e g))) in
+        origin_first env x n k.numbered c v.names mask origin stored
+        (λ ne. last_known p q (operand_word s v.names (width_of t) tb.mask) (operand_word s v.names 32 ta.origin) (operand_word s v.names 32 tb.origin) hq.mask hp.origin hq.origin
+        (λ e g. ne (logic_clean o l (width_of t) p q e g))) in
       Fine (record { names = names2; slots = v.slots })
       (mask_done s h names1 v.slots n t ta tb p q va ma vb mb o l w)
       refl

@@ -1,5 +1,5 @@
 -- The mask and the origin of each kind of result.
-use Rattle.std.proofs.Common.{◌≡◌, ℕ, ◌+◌, ◌*◌, ◌^◌, ◌<◌, [], ◌∷◌, refl, sym, subst, arith, Bool, true, false, Option, Some, None}
+use Rattle.std.proofs.Common.{◌≡◌, ◌≢◌, ℕ, ◌+◌, ◌*◌, ◌%◌, ◌^◌, ◌<◌, List, [], ◌∷◌, refl, sym, ap, ◌∙◌, subst, arith, Bool, true, false, Option, Some, None}
 use Rattle.std.specs.Prelude.{if◌then◌else◌, map}
 use Rattle.ms_bits.specs.declared.operations.BinOp.TheVariants as binary
 use Rattle.ms_bits.specs.declared.traps.Trap.TheVariants as trap
@@ -11,7 +11,7 @@ use Rattle.ms_ir.specs.declared.syntax.Op.TheVariants as op
 use Rattle.ms_ir.specs.declared.runs.End.{End}
 use Rattle.ms_ir.specs.declared.runs.End.TheVariants as «end»
 use Rattle.ms_ir.specs.Layout.{stored_size, size_in}
-use Rattle.ms_ir.specs.World.{Stack, World, Setting, Here, Gives, Does, Ends, Leaves, traps, word}
+use Rattle.ms_ir.specs.World.{Stack, World, Setting, Here, Effect, Gives, Does, Ends, Leaves, traps, word}
 use Rattle.ms_ir.specs.Memory.{is_good, fits, next_base, make_unset, store_number}
 use Rattle.ms_ir.specs.Code.{operands, count_undefs}
 use Rattle.ms_ir.specs.Control.{with_value}
@@ -19,11 +19,11 @@ use Rattle.ms_ir.specs.Act.{alloca, store}
 use Rattle.ms_ir.specs.Poisoned.{Poisoned}
 use Rattle.ms_ir.specs.Masks.{by_formulas}
 use Rattle.ms_ir.specs.Shadow.{poisoned_result}
-use Rattle.ms_rules.specs.Tasks.{mask_name, origin_name, Values}
+use Rattle.ms_rules.specs.Tasks.{mask_name, origin_name, Task, Values}
 use Rattle.ms_rules.specs.Emit.{Env, tracked, define_tasks, result_tasks, IsBuilt, KnownName, KnownOperands, KnownResult, OneName}
 use Rattle.ms_rules.specs.Match.{RangedWorld, RangedValues, Matches}
 use Rattle.ms_rules.proofs.MatchedNames.{defines_own, matches_set}
-use Rattle.ms_rules.proofs.Defined.{words_for, acts_for, Defined, Fine, origin_first, clean_kept}
+use Rattle.ms_rules.proofs.Defined.{words_for, acts_for, Defined, Fine, Fails, origin_first, clean_kept}
 use Rattle.ms_rules.proofs.DefineBinary.{binary_done}
 use Rattle.ms_rules.proofs.DefineLoad.{load_done}
 
@@ -71,7 +71,7 @@ module _ (s : Setting) (env : Env) (size : ℕ) (h : Here) (values : Name → Po
   define_done x k c (op.Load t a) built known few w ranged = load_done s env size h values v m r one x k c t a known w ranged
   define_done x k c (op.Alloca t u count) built known few w ranged = alloca_done x k c t u count w
   define_done x k c (op.Store t n a) built known few w ranged = none_done (Some x) (op.Store t n a) w (λ i u e.
-      let words = map (λ p. p.value) (words_for s values h (op.Store t n a)) in store_gives h.site (word 1 words) t (word 0 words) i w u e)
+    let words = map (λ p. p.value) (words_for s values h (op.Store t n a)) in store_gives h.site (word 1 words) t (word 0 words) i w u e)
   define_done x k c (op.Ret n) built known few w ranged = none_done (Some x) (op.Ret n) w (λ i u e. ret_gives h.main («end».Exit (word 0 (map (λ p. p.value) (words_for s values h (op.Ret n))))) i w u e)
   define_done x k c _ built known few w ranged = absurd built
 
@@ -89,7 +89,7 @@ module _ (s : Setting) (env : Env) (size : ℕ) (h : Here) (values : Name → Po
       by_clean true c =
           Fine v refl refl (λ y own. refl)
           (λ k u e. matches_set env size x named one values v.names v.names (poisoned_result by_formulas o (words_for s values h o) k u) m
-          (clean_kept env x named.place named.numbered c v.names _ _ (sound x k u refl c e)))
+            (clean_kept env x named.place named.numbered c v.names _ _ (sound x k u refl c e)))
           (λ u e. m)
       by_clean false c =
           subst (λ z. Defined s env h values v (Some x) o (elim z [ Some n ↦ define_tasks n o (tracked env h.root (operands o)) | None ↦ [] ]) w)

@@ -1,7 +1,8 @@
 -- What defining a result's mask and origin does, for any kind of instruction.
-use Rattle.std.proofs.Common.{◌≡◌, ◌≢◌, ℕ, List, refl, sym, ap, ◌∙◌, true, false, Option, Some}
+use Rattle.std.proofs.Common.{◌≡◌, ◌≢◌, ℕ, ◌+◌, ◌*◌, List, refl, sym, ap, ◌∙◌, subst, arith, Bool, true, false, Option, Some, None}
 use Rattle.std.specs.Prelude.{if◌then◌else◌, map}
 use Rattle.ms_ir.specs.declared.syntax.Name.{Name}
+use Rattle.ms_ir.specs.declared.syntax.Operand.{Operand}
 use Rattle.ms_ir.specs.declared.syntax.Operand.TheVariants as operand
 use Rattle.ms_ir.specs.declared.syntax.Op.{Op}
 use Rattle.ms_ir.specs.declared.runs.End.{End}
@@ -13,8 +14,8 @@ use Rattle.ms_ir.specs.Act.{act}
 use Rattle.ms_ir.specs.Poisoned.{Poisoned}
 use Rattle.ms_ir.specs.Masks.{by_formulas}
 use Rattle.ms_ir.specs.Shadow.{read_poisoned, poisoned_result}
-use Rattle.ms_rules.specs.Tasks.{mask_name, origin_name, Task, Values, Went, Over, do_tasks, set_result}
-use Rattle.ms_rules.specs.Emit.{Env}
+use Rattle.ms_rules.specs.Tasks.{mask_name, origin_name, Task, Values, Reach, Went, Over, do_tasks, set_result}
+use Rattle.ms_rules.specs.Emit.{Env, local_mask, local_origin}
 use Rattle.ms_rules.specs.Match.{held, Matches, after_result}
 use Rattle.ms_rules.proofs.InsertedNames.{mask_not_origin, with_here, with_other}
 use Rattle.ms_rules.proofs.OperandWords.{mask_at, origin_at}
@@ -43,12 +44,12 @@ pub origin_first : (env : Env) (x : Name) (n : ℕ) → env.number x ≡ Some n 
 origin_first env x n e c names mask origin stored h = record {
   kept = λ y f g. with_other (with_value names (origin_name n) stored) (mask_name n) y mask f ∙ with_other names (origin_name n) y stored g;
   mask_held =
-      ap (held after) (mask_at env x n e) ∙ ap (λ b. held after (if b then operand.Int 0 else operand.Local (mask_name n))) c
-      ∙ with_here (with_value names (origin_name n) stored) (mask_name n) mask;
+    ap (held after) (mask_at env x n e) ∙ ap (λ b. held after (if b then operand.Int 0 else operand.Local (mask_name n))) c
+    ∙ with_here (with_value names (origin_name n) stored) (mask_name n) mask;
   origin_held = λ ne.
-      ap (held after) (origin_at env x n e) ∙ ap (λ b. held after (if b then operand.Int 0 else operand.Local (origin_name n))) c
-      ∙ with_other (with_value names (origin_name n) stored) (mask_name n) (origin_name n) mask (λ z. mask_not_origin n n (sym z))
-      ∙ with_here names (origin_name n) stored ∙ h ne;
+    ap (held after) (origin_at env x n e) ∙ ap (λ b. held after (if b then operand.Int 0 else operand.Local (origin_name n))) c
+    ∙ with_other (with_value names (origin_name n) stored) (mask_name n) (origin_name n) mask (λ z. mask_not_origin n n (sym z))
+    ∙ with_here names (origin_name n) stored ∙ h ne;
 }
   where
     after : Name → ℕ
@@ -60,12 +61,12 @@ pub mask_first : (env : Env) (x : Name) (n : ℕ) → env.number x ≡ Some n �
 mask_first env x n e c names mask origin stored h = record {
   kept = λ y f g. with_other (with_value names (mask_name n) mask) (origin_name n) y stored g ∙ with_other names (mask_name n) y mask f;
   mask_held =
-      ap (held after) (mask_at env x n e) ∙ ap (λ b. held after (if b then operand.Int 0 else operand.Local (mask_name n))) c
-      ∙ with_other (with_value names (mask_name n) mask) (origin_name n) (mask_name n) stored (mask_not_origin n n)
-      ∙ with_here names (mask_name n) mask;
+    ap (held after) (mask_at env x n e) ∙ ap (λ b. held after (if b then operand.Int 0 else operand.Local (mask_name n))) c
+    ∙ with_other (with_value names (mask_name n) mask) (origin_name n) (mask_name n) stored (mask_not_origin n n)
+    ∙ with_here names (mask_name n) mask;
   origin_held = λ ne.
-      ap (held after) (origin_at env x n e) ∙ ap (λ b. held after (if b then operand.Int 0 else operand.Local (origin_name n))) c
-      ∙ with_here (with_value names (mask_name n) mask) (origin_name n) stored ∙ h ne;
+    ap (held after) (origin_at env x n e) ∙ ap (λ b. held after (if b then operand.Int 0 else operand.Local (origin_name n))) c
+    ∙ with_here (with_value names (mask_name n) mask) (origin_name n) stored ∙ h ne;
 }
   where
     after : Name → ℕ

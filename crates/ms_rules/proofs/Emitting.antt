@@ -1,6 +1,13 @@
 -- What a list of instructions comes to when the code of two lists of tasks is added.
-use Rattle.std.proofs.Common.{◌≡◌, ℕ, List, ◌++◌, refl, sym, ap, ◌∙◌, append_assoc}
+use Rattle.std.proofs.Common.{◌≡◌, ◌≤◌, ℕ, List, ◌++◌, refl, sym, ap, ◌∙◌, append_assoc}
+use Rattle.ms_ir.specs.declared.syntax.Ty.{Ty, Int}
+use Rattle.ms_ir.specs.declared.syntax.Operand.{Operand}
+use Rattle.ms_ir.specs.declared.syntax.Op.{Op}
+use Rattle.ms_ir.specs.declared.syntax.Op.TheVariants as op
 use Rattle.ms_ir.specs.declared.syntax.Inst.{Inst}
+use Rattle.ms_ir.specs.Layout.{width_of}
+use Rattle.ms_rules.specs.First.{IsMade}
+use Rattle.ms_rules.specs.Pieces.{IsInteger}
 use Rattle.ms_rules.specs.Tasks.{Task, tasks_code}
 use Rattle.ms_rules.proofs.Marked.{tasks_append, tasks_append_next}
 
@@ -13,3 +20,12 @@ added_code a b n n1 l0 l1 l2 e f g =
 
 pub added_next : (a b : List Task) (n n1 n2 : ℕ) → n1 ≡ (tasks_code a n).next → n2 ≡ (tasks_code b n1).next → n2 ≡ (tasks_code (a ++ b) n).next
 added_next a b n n1 n2 f g = g ∙ ap (λ k. (tasks_code b k).next) f ∙ sym (tasks_append_next a b n)
+
+-- an 'alloca' whose lists are made
+pub made_integer : (t u : Ty) (count : Operand) → IsMade (op.Alloca t u count) → IsInteger t
+made_integer (Int w) u count h = tt
+made_integer _ u count h = absurd h
+
+pub made_count : (t u : Ty) (count : Operand) → IsMade (op.Alloca t u count) → width_of u ≤ 32
+made_count (Int w) u count h = h
+made_count _ u count h = absurd h

@@ -1,15 +1,16 @@
 -- What keeps words matched: a new result whose mask and origin stand in their names.
-use Rattle.std.proofs.Common.{◌≡◌, ◌≢◌, ℕ, ◌+◌, ◌*◌, refl, sym, ap, ◌∙◌, subst, arith, Bool, true, false, Some}
+use Rattle.std.proofs.Common.{◌≡◌, ◌≢◌, ℕ, ◌+◌, ◌*◌, ◌<◌, ◌≤◌, refl, sym, ap, ◌∙◌, subst, arith, Bool, true, false, Option, Some, None}
 use Rattle.std.specs.Prelude.{if◌then◌else◌}
 use Rattle.ms_ir.specs.declared.syntax.Name.{Name}
+use Rattle.ms_ir.specs.declared.syntax.Operand.{Operand}
 use Rattle.ms_ir.specs.declared.syntax.Operand.TheVariants as operand
 use Rattle.ms_ir.specs.Names.{name_eq, is_reserved}
 use Rattle.ms_ir.specs.Control.{with_value}
 use Rattle.ms_ir.specs.Poisoned.{Poisoned}
-use Rattle.ms_rules.specs.Tasks.{mask_name, origin_name, Values, Same, Below}
+use Rattle.ms_rules.specs.Tasks.{mask_name, origin_name, msan_name, Values, Same, Below}
 use Rattle.ms_rules.specs.Emit.{Env, local_mask, local_origin, KnownName, OneName}
 use Rattle.ms_rules.specs.Match.{held, Matches}
-use Rattle.ms_rules.proofs.InsertedNames.{own_not_msan, own_below, mask_name_one, origin_name_one, mask_not_origin, name_sound, name_self, with_other}
+use Rattle.ms_rules.proofs.InsertedNames.{own_not_msan, own_below, mask_name_one, origin_name_one, mask_not_origin, name_sound, name_self, mask_below, origin_below, with_here, with_other}
 use Rattle.ms_rules.proofs.OperandWords.{mask_at, origin_at}
 
 -- what a name holds elsewhere
@@ -18,7 +19,6 @@ held_if : (f g : Name → ℕ) (b : Bool) (n : Name) → f n ≡ g n
 held_if f g true n e = refl
 held_if f g false n e = e
 
--- a value's mask and origin depend on their names alone
 pub mask_elsewhere : (env : Env) (f g : Name → ℕ) (x : Name) (v : ℕ) → env.number x ≡ Some v → f (mask_name v) ≡ g (mask_name v)
     → held f (local_mask env x) ≡ held g (local_mask env x)
 mask_elsewhere env f g x v e h =
@@ -29,18 +29,16 @@ pub origin_elsewhere : (env : Env) (f g : Name → ℕ) (x : Name) (v : ℕ) →
 origin_elsewhere env f g x v e h =
     subst (λ o. held f o ≡ held g o) (sym (origin_at env x v e)) (held_if f g (env.clean x) (origin_name v) h)
 
--- the names of masks and origins are none of the temporaries from a base on
+-- words from a set of words that is the same below a base
 pub record Numbers (env : Env) (base : ℕ) : Type 0 where
   pub masks : (x : Name) (v : ℕ) → env.number x ≡ Some v → Below base (mask_name v)
   pub origins : (x : Name) (v : ℕ) → env.number x ≡ Some v → Below base (origin_name v)
 
--- the mask and the origin of value n stand in their names, and nothing else changed
 pub record Defines (env : Env) (x : Name) (n : ℕ) (names after : Name → ℕ) (mask origin : ℕ) : Type 0 where
   pub kept : (y : Name) → y ≢ mask_name n → y ≢ origin_name n → after y ≡ names y
   pub mask_held : held after (local_mask env x) ≡ mask
   pub origin_held : mask ≢ 0 → held after (local_origin env x) ≡ origin
 
--- the program's own names stay
 pub defines_own : (env : Env) (x : Name) (n : ℕ) (names after : Name → ℕ) (mask origin : ℕ) → Defines env x n names after mask origin
     → (y : Name) → is_reserved y ≡ false → after y ≡ names y
 defines_own env x n names after mask origin d y own = d.kept y (own_not_msan y (2 * n + 1) own) (own_not_msan y (2 * n + 2) own)
@@ -100,7 +98,6 @@ matches_set env size x k one values names after p m d = record {
 
 -- ---- words that are the same below a base
 
--- such words still match
 pub matches_same : (env : Env) (base : ℕ) → Numbers env base → (values : Name → Poisoned) (v u : Values)
     → Matches env values v.names → Same base v u → Matches env values u.names
 matches_same env base low values v u m s = record {

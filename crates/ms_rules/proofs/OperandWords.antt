@@ -1,6 +1,6 @@
 -- What operands, their masks and their origins hold where words match.
-use Rattle.std.proofs.Common.{◌≡◌, ◌≢◌, ℕ, zero, suc, ◌+◌, ◌*◌, ◌/◌, ◌%◌, ◌^◌, ◌<◌, List, [], ◌∷◌, refl, sym, ap, ◌∙◌, subst, arith, Bool, true, false, Some, None}
-use Rattle.std.specs.Prelude.{if◌then◌else◌, map}
+use Rattle.std.proofs.Common.{◌≡◌, ◌≢◌, ℕ, zero, suc, ◌+◌, ◌-◌, ◌*◌, ◌/◌, ◌%◌, ◌^◌, ◌<◌, ◌≤◌, List, [], ◌∷◌, refl, sym, ap, ◌∙◌, subst, arith, Bool, true, false, Option, Some, None}
+use Rattle.std.specs.Prelude.{if◌then◌else◌, map, get_or}
 use Rattle.std.proofs.Math.Path.{ap₂}
 use Rattle.std.proofs.Math.Nat.{mod-eq_of_lt, zero-mod, pow-suc}
 use Rattle.std.proofs.Math.Pow.{ones_lt}
@@ -21,9 +21,9 @@ use Rattle.ms_ir.specs.Poisoned.{Poisoned}
 use Rattle.ms_ir.specs.Masks.{word_at}
 use Rattle.ms_ir.specs.Shadow.{operand_mask, operand_origin, read_poisoned}
 use Rattle.ms_rules.specs.Tasks.{mask_name, origin_name, words_of}
-use Rattle.ms_rules.specs.Emit.{Env, Tracked, tracked, tracked_at, local_mask, local_origin, mask_operand, origin_operand, KnownOperand, KnownOperands}
+use Rattle.ms_rules.specs.Emit.{Env, Tracked, tracked, tracked_at, untracked, local_mask, local_origin, mask_operand, origin_operand, KnownName, KnownOperand, KnownOperands}
 use Rattle.ms_rules.specs.Match.{held, Matches, RangedValues}
-use Rattle.ms_rules.proofs.InsertedNames.{mask_not_origin, with_other}
+use Rattle.ms_rules.proofs.InsertedNames.{own_not_msan, mask_not_origin, with_other}
 
 -- three equations at once
 pub ap₃ : {A B C D : Type 0} (f : A → B → C → D) {x y : A} {u v : B} {p q : C} → x ≡ y → u ≡ v → p ≡ q → f x u p ≡ f y v q

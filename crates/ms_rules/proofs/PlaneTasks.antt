@@ -1,28 +1,33 @@
 -- What the tasks after an 'alloca' and a 'store' do to shadow and origins.
-use Rattle.std.proofs.Common.{◌≡◌, ◌≢◌, ℕ, zero, suc, ◌+◌, ◌-◌, ◌*◌, ◌/◌, ◌%◌, ◌^◌, ◌<◌, ◌≤◌, List, [], ◌∷◌, ◌++◌, length, refl, sym, ap, ◌∙◌, arith, Bool, true, false, Option, Some, None}
-use Rattle.std.specs.Prelude.{if◌then◌else◌, eqb, leb, ltb, ◌&&◌, ◌||◌, not, max, bit_xor}
-use Rattle.std.proofs.Math.Path.{fun_ext}
+use Rattle.std.proofs.Common.{◌≡◌, ◌≢◌, ℕ, zero, suc, ◌+◌, ◌-◌, ◌*◌, ◌/◌, ◌%◌, ◌^◌, ◌<◌, ◌≤◌, List, [], ◌∷◌, ◌++◌, length, refl, sym, ap, ◌∙◌, subst, arith, Bool, true, false, Option, Some, None}
+use Rattle.std.specs.Prelude.{if◌then◌else◌, eqb, leb, ltb, ◌&&◌, ◌||◌, not, max, map, bit_xor}
+use Rattle.std.proofs.Math.Path.{ap₂, fun_ext}
 use Rattle.std.proofs.Math.Nat.{mod-eq_of_lt}
 use Rattle.std.proofs.lemmas.Bool.{false≢true}
 use Rattle.ms_bits.specs.declared.traps.Trap.TheVariants as trap
-use Rattle.ms_bits.specs.Maps.{byte_of, with_cell}
+use Rattle.ms_bits.specs.Maps.{byte_of, with_range, with_cell}
 use Rattle.ms_ir.specs.declared.syntax.Name.{Name}
 use Rattle.ms_ir.specs.declared.syntax.Ty.{Ty, Int, Ptr}
+use Rattle.ms_ir.specs.declared.syntax.Operand.{Operand}
 use Rattle.ms_ir.specs.declared.syntax.Operand.TheVariants as operand
+use Rattle.ms_ir.specs.declared.syntax.Op.TheVariants as op
 use Rattle.ms_ir.specs.declared.runs.End.{End}
 use Rattle.ms_ir.specs.declared.calls.RuntimeFn.TheVariants as function
 use Rattle.ms_ir.specs.Names.{slots}
-use Rattle.ms_ir.specs.Layout.{width_of, stored_size}
-use Rattle.ms_ir.specs.World.{Stack, World, Setting, Here, Does, traps, result}
-use Rattle.ms_ir.specs.Memory.{is_good, set_shadow, set_cells, fits, next_base, used}
+use Rattle.ms_ir.specs.Layout.{width_of, stored_size, size_in}
+use Rattle.ms_ir.specs.World.{Stack, World, Setting, Here, Effect, Gives, Does, Ends, traps, result}
+use Rattle.ms_ir.specs.Memory.{is_good, set_shadow, set_cells, fits, next_base, used, room}
 use Rattle.ms_ir.specs.Origins.{Chained, store_origin, mark_cells, chain, keeps_old, pair_index, poison}
 use Rattle.ms_ir.specs.Plain.{shadow_bits, in_slots, store_marked}
+use Rattle.ms_ir.specs.Code.{operands, count_undefs}
+use Rattle.ms_ir.specs.Control.{with_value}
 use Rattle.ms_ir.specs.Act.{operand_word}
 use Rattle.ms_ir.specs.Poisoned.{Poisoned}
-use Rattle.ms_rules.specs.Tasks.{Leaf, Task, Puts, Calls, Went, eval, marked_next, do_tasks, task_slots, eval_all, parts}
-use Rattle.ms_rules.specs.Emit.{Tracked, mask_type, mask_of, origin_of, word_of, number, shadow_address, widened}
+use Rattle.ms_rules.specs.Tasks.{Leaf, Task, Puts, Calls, Values, Reach, Went, eval, marked_next, do_tasks, task_slots, eval_all, parts}
+use Rattle.ms_rules.specs.Emit.{Given, Tracked, mask_type, mask_of, origin_of, word_of, number, shadow_address, widened, count_of}
 use Rattle.ms_rules.specs.Match.{RangedWorld}
-use Rattle.ms_rules.proofs.OperandWords.{ap₃, word_less}
+use Rattle.ms_rules.proofs.InsertedNames.{with_here}
+use Rattle.ms_rules.proofs.OperandWords.{ap₃, word_less, Holds}
 use Rattle.ms_rules.proofs.CheckTasks.{widened_word, whole}
 use Rattle.ms_rules.proofs.DefineLoad.{xor_twice, address_word, good_slot}
 
@@ -44,9 +49,9 @@ mark_alike (suc n) a m o w e =
 
 abbrev chained_at : Setting → ℕ → ℕ → World → Option ℕ → Chained
 chained_at s old site w p = elim p [
-  | Some k ↦ record { id = s.roots + 1 + k; world = w }
-  | None ↦ record { id = s.roots + 1 + length w.pairs; world = record w { pairs = w.pairs ++ (old, site) ∷ [] } }
-]
+    | Some k ↦ record { id = s.roots + 1 + k; world = w }
+    | None ↦ record { id = s.roots + 1 + length w.pairs; world = record w { pairs = w.pairs ++ (old, site) ∷ [] } }
+  ]
 
 abbrev kept_at : ℕ → World → Chained
 kept_at old w = record { id = old; world = w }
@@ -108,11 +113,11 @@ module _ (s : Setting) (names : Name → ℕ) (t : Ty) (x a : Tracked) (p q : Po
     (ha : operand_word s names 64 a.operand ≡ q.value) where
   origin_stored : (at : Here) (site : ℕ) → site < 2 ^ 32 → (cells : ℕ → ℕ) (w : World)
       → do_tasks s at (Calls None function.StoreOrigin ((Ptr, word_of a) ∷ (Int 64, widened (width_of t) (mask_of x)) ∷ (Int 32, origin_of x) ∷ (Int 32, number site) ∷ []) ∷ [])
-      (record { names = names; slots = cells }) w
+        (record { names = names; slots = cells }) w
       ≡ Went (record { names = names; slots = cells }) (store_origin s q.value p.mask p.origin site w)
   origin_stored at site less cells w =
       let mask : eval s names (widened (width_of t) (mask_of x)) (Int 64) ≡ p.mask =
-      widened_word s names (width_of t) x.mask ∙ whole (width_of t) _ narrow (word_less s names (width_of t) x.mask) ∙ hx in
+        widened_word s names (width_of t) x.mask ∙ whole (width_of t) _ narrow (word_less s names (width_of t) x.mask) ∙ hx in
       ap (λ z. Went (record { names = names; slots = cells }) z)
       (ap₃ (λ i j k. store_origin s i j (operand_word s names 32 x.origin) k w) ha mask (mod-eq_of_lt less)
       ∙ store_origin_same s q.value p.mask (operand_word s names 32 x.origin) p.origin site w ho)
@@ -126,15 +131,13 @@ module _ (s : Setting) (names : Name → ℕ) (t : Ty) (x a : Tracked) (p q : Po
       let rest = do_tasks s at (Calls None function.StoreOrigin ((Ptr, word_of a) ∷ (Int 64, widened (width_of t) (mask_of x)) ∷ (Int 32, origin_of x) ∷ (Int 32, number site) ∷ []) ∷ []) in
       let address : eval s names (shadow_address (word_of a)) Ptr ≡ bit_xor q.value shadow_bits = address_word s names a.operand ∙ ap (λ i. bit_xor i shadow_bits) ha in
       let write : store_marked at.site (eval s names (shadow_address (word_of a)) Ptr) (mask_type t) (operand_word s names (width_of t) x.mask) w
-      ≡ Does (set_shadow q.value (stored_size t) (byte_of p.mask) w) =
-      ap₃ (λ i j k. if in_slots i (stored_size t) slots then Does w else
-      (if is_good w j (stored_size t) then Does (set_shadow j (stored_size t) (byte_of k) w) else traps trap.BadAddress at.site w))
-      address (ap (λ i. bit_xor i shadow_bits) address ∙ xor_twice q.value) hx
-      ∙ write_good at.site q.value (stored_size t) p.mask w ranged good (in_slots (bit_xor q.value shadow_bits) (stored_size t) slots) refl in (
-        after,
-        ap (λ e. marked_next None names after e rest) write
-            ∙ origin_stored at site less after (set_shadow q.value (stored_size t) (byte_of p.mask) w),
-      )
+          ≡ Does (set_shadow q.value (stored_size t) (byte_of p.mask) w) =
+        ap₃ (λ i j k. if in_slots i (stored_size t) slots then Does w else
+          (if is_good w j (stored_size t) then Does (set_shadow j (stored_size t) (byte_of k) w) else traps trap.BadAddress at.site w))
+        address (ap (λ i. bit_xor i shadow_bits) address ∙ xor_twice q.value) hx
+        ∙ write_good at.site q.value (stored_size t) p.mask w ranged good (in_slots (bit_xor q.value shadow_bits) (stored_size t) slots) refl in
+      (after, ap (λ e. marked_next None names after e rest) write
+        ∙ origin_stored at site less after (set_shadow q.value (stored_size t) (byte_of p.mask) w))
 
 -- ---- an 'alloca'
 

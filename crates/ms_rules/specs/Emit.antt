@@ -19,7 +19,7 @@ use Rattle.ms_ir.specs.World.{Here}
 use Rattle.ms_ir.specs.Code.{operands, one_undef, count_undefs}
 use Rattle.ms_ir.specs.Plain.{shadow_bits}
 use Rattle.ms_ir.specs.Uses.{Use, Word, Bytes, Line, uses}
-use Rattle.ms_rules.specs.Tasks.{mask_name, origin_name, Expr, Leaf, Two, Turn, IsSet, Task, Sets, Picks, Fetches, Puts, Calls, tasks_code}
+use Rattle.ms_rules.specs.Tasks.{mask_name, origin_name, Expr, Leaf, Two, Turn, IsSet, Pick, Task, Sets, Picks, Fetches, Puts, Calls, tasks_code}
 
 -- a function's values: the number of each, counted from 0, parameters first and then results in text order; and which
 -- are known to have the mask 0

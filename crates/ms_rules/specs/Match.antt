@@ -1,5 +1,5 @@
 -- When the words of inserted code stand for masks and origins, and what is inserted round an instruction comes to.
-use Rattle.std.specs.Prelude.{◌≡◌, ◌≢◌, ◌<◌, ◌≤◌, ℕ, ◌+◌, ◌*◌, ◌^◌, false, List, [], ◌∷◌, map, Option, Some, None}
+use Rattle.std.specs.Prelude.{◌≡◌, ◌≢◌, ◌<◌, ◌≤◌, ℕ, ◌+◌, ◌*◌, ◌^◌, false, List, [], ◌∷◌, map, Option, Some, None, ◌⊎◌}
 use Rattle.ms_ir.specs.declared.syntax.Name.{Name}
 use Rattle.ms_ir.specs.declared.syntax.Operand.{Operand}
 use Rattle.ms_ir.specs.declared.syntax.Operand.TheVariants as operand
@@ -12,10 +12,10 @@ use Rattle.ms_ir.specs.Code.{operands, count_undefs, roots_in}
 use Rattle.ms_ir.specs.Control.{read_all, with_value}
 use Rattle.ms_ir.specs.Act.{act}
 use Rattle.ms_ir.specs.Poisoned.{Poisoned}
-use Rattle.ms_ir.specs.Masks.{by_formulas, union}
+use Rattle.ms_ir.specs.Masks.{Rules, by_formulas, union}
 use Rattle.ms_ir.specs.Uses.{uses, check_uses, blinded}
 use Rattle.ms_ir.specs.Shadow.{read_poisoned, planes, poisoned_result}
-use Rattle.ms_rules.specs.Tasks.{Values, Went, Over, words_of, run_marked, tasks_code, set_result}
+use Rattle.ms_rules.specs.Tasks.{Values, Reach, Went, Over, words_of, run_marked, tasks_code, set_result}
 use Rattle.ms_rules.specs.Emit.{Env, Given, local_mask, local_origin, before_tasks, after_tasks, KnownInst, OneName, FewNumbers}
 
 -- ---- words

@@ -55,3 +55,7 @@ poison_tasks x size root =
 abbrev pub tracked_from : Env → ℕ → Ty → Operand → Tracked
 tracked_from env root t o =
     record { ty = t; operand = o; mask = mask_operand env (width_of t) o; origin = origin_operand env root o }
+
+abbrev pub IsInteger : Ty → Type 0
+IsInteger (Int w) = Unit {0}
+IsInteger _ = ⊥

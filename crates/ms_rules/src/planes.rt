@@ -1,6 +1,6 @@
 //! The code behind an instruction, which sets the shadow and the origins of memory.
 ghost use Rattle.std.specs.Prelude.{◌≡◌, ◌+◌, ◌-◌, ◌*◌, ◌<◌, ◌≤◌, ◌^◌, ◌++◌, [], ◌∷◌, IfOk, OnOk, Some, None};
-ghost use Rattle.ms_ir.specs.declared.syntax.Ty.{Int, Ptr};
+ghost use Rattle.ms_ir.specs.declared.syntax.Ty.{Ptr};
 ghost use Rattle.ms_ir.specs.declared.syntax.Op.TheVariants as operation;
 ghost use Rattle.ms_ir.specs.Code.{operands, count_undefs};
 ghost use Rattle.ms_ir.specs.Layout.{width_of as width_in, int_align as int_align_of, size_in, Types};
@@ -8,7 +8,7 @@ ghost use Rattle.ms_rules.specs.Tasks.{tasks_code};
 ghost use Rattle.ms_rules.specs.Emit as emits;
 ghost use Rattle.ms_rules.specs.Emit.{Given};
 ghost use Rattle.ms_rules.specs.First.{AreNarrow, IsMade};
-ghost use Rattle.ms_rules.specs.Pieces.{poison_tasks, store_tasks};
+ghost use Rattle.ms_rules.specs.Pieces.{IsInteger, poison_tasks, store_tasks};
 ghost use Rattle.ms_rules.specs.Arguments.{env_of, here_of, tracked_of};
 
 use crate::code::Code;
@@ -31,6 +31,18 @@ fn int_align(width: u8) -> u64
         4
     } else {
         8
+    }
+}
+
+// The bytes of an integer type.
+fn item_size(ty: &Ty) -> u64
+    requires { IsInteger ty.now }
+    ensures size { (types : Types) → result ≡ size_in types ty.now }
+    ensures small { result ≤ 8 }
+{
+    match ty {
+        Ty::Int(width) => int_align(*width),
+        _ => 0,
     }
 }
 
@@ -130,15 +142,16 @@ fn alloca_operation(
     code: &mut Code,
     env: &Environment,
     name: &Name,
-    width: u8,
+    ty: &Ty,
     count_ty: &Ty,
     count: &Operand,
 ) -> Result<(), NoMemory>
-    requires { width_in count_ty.now ≤ 32 }
-    ensures code { (given : Given) → OnOk result (code.new.insts.items ≡ code.old.insts.items ++ (tasks_code (emits.plane_tasks given (here_of env.now) (Some name.now) (operation.Alloca (Int width) count_ty.now count.now) (emits.tracked (env_of env.now) env.now.root ((count_ty.now, count.now) ∷ []))) code.old.next).code) }
+    requires integer { IsInteger ty.now }
+    requires narrow { width_in count_ty.now ≤ 32 }
+    ensures code { (given : Given) → OnOk result (code.new.insts.items ≡ code.old.insts.items ++ (tasks_code (emits.plane_tasks given (here_of env.now) (Some name.now) (operation.Alloca ty.now count_ty.now count.now) (emits.tracked (env_of env.now) env.now.root ((count_ty.now, count.now) ∷ []))) code.old.next).code) }
     ensures next { OnOk result (code.new.next ≡ code.old.next) }
 {
-    let size = int_align(width) * count_of(width_of(count_ty), count);
+    let size = item_size(ty) * count_of(width_of(count_ty), count);
     poison(code, name, size, own_root(env.root, count))
 }
 
@@ -154,10 +167,10 @@ fn named_planes(code: &mut Code, env: &Environment, name: &Name, op: &Op) -> Res
 {
     match op {
         Op::Alloca {
-            ty: Ty::Int(width),
+            ty,
             count_ty,
             count,
-        } => alloca_operation(code, env, name, *width, count_ty, count),
+        } => alloca_operation(code, env, name, ty, count_ty, count),
         Op::Store { ty, value, addr } => store_operation(code, env, ty, value, addr),
         _ => Ok(()),
     }

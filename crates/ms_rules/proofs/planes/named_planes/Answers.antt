@@ -1,10 +1,6 @@
-use Rattle.std.proofs.Common.{◌≡◌, ◌++◌, [], sym, subst}
-use Rattle.std.specs.Prelude.{OnOk, Some}
-use Rattle.ms_ir.specs.declared.syntax.Ty.{Ty}
-use Rattle.ms_ir.specs.declared.syntax.Op.TheVariants as operation
-use Rattle.ms_rules.specs.Tasks.{tasks_code}
-use Rattle.ms_rules.specs.Emit.{plane_tasks}
-use Rattle.ms_rules.specs.Arguments.{here_of}
+use Rattle.std.proofs.Common.{subst}
+use Rattle.ms_rules.specs.First.{IsMade}
+use Rattle.ms_rules.proofs.Emitting.{made_integer, made_count}
 use Rattle.ms_rules.proofs.planes.named_planes.Goals as goal
 
 pub returns-in-Store-clause-code : goal.returns-in-Store-clause-code
@@ -13,8 +9,11 @@ returns-in-Store-clause-code c given = rw c.in-Store.is (c.store_operation.ensur
 pub returns-in-Store-clause-next : goal.returns-in-Store-clause-next
 returns-in-Store-clause-next c given = rw c.in-Store.is (c.store_operation.ensures.next given)
 
-pub returns-in-Alloca-Int-default-default-clause-code : goal.returns-in-Alloca-Int-default-default-clause-code
-returns-in-Alloca-Int-default-default-clause-code c given =
-    let a = c.in-Alloca-Int-default-default in
-    let P : Ty → Type 0 = λ t. OnOk c.alloca_operation.result (c.alloca_operation.new.code.insts.items ≡ c.args.code.now.insts.items ++ (tasks_code (plane_tasks given (here_of c.args.env.now) (Some c.args.name.now) (operation.Alloca t a.count_ty a.count) []) c.args.code.now.next).code) in
-    rw a.is (subst P (sym a.ty-is) (c.alloca_operation.ensures.code given))
+pub alloca_operation-requires-clause-integer : goal.alloca_operation-requires-clause-integer
+alloca_operation-requires-clause-integer c = made_integer c.in-Alloca.ty c.in-Alloca.count_ty c.in-Alloca.count (subst IsMade c.in-Alloca.is c.requires.made)
+
+pub alloca_operation-requires-clause-narrow : goal.alloca_operation-requires-clause-narrow
+alloca_operation-requires-clause-narrow c = made_count c.in-Alloca.ty c.in-Alloca.count_ty c.in-Alloca.count (subst IsMade c.in-Alloca.is c.requires.made)
+
+pub returns-in-Alloca-clause-code : goal.returns-in-Alloca-clause-code
+returns-in-Alloca-clause-code c given = rw c.in-Alloca.is (c.alloca_operation.ensures.code given)
