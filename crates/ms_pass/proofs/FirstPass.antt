@@ -24,7 +24,7 @@ pub first_is : (m : Module) → IsFirst m → (let n = over_insts one_result (in
     instrumented (pass_insts (given_of m) (first_env n) (insts_at m 0 0) first_here (2 * n + 1)).code ≡ first_pass m)
 first_is m first = subst
     (λ m. let n = over_insts one_result (insts_at m 0 0) in
-      instrumented (pass_insts (given_of m) (first_env n) (insts_at m 0 0) first_here (2 * n + 1)).code ≡ first_pass m)
+    instrumented (pass_insts (given_of m) (first_env n) (insts_at m 0 0) first_here (2 * n + 1)).code ≡ first_pass m)
     (sym first.module_is) (of_insts (lines_insts [] first.of.lines ++ ret_inst first.of.last ∷ []))
 
 -- what the walk makes of the instructions is that form

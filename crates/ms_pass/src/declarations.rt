@@ -78,7 +78,14 @@ fn declare(
 fn declare_reports(alloc: Global, decls: &mut Vec<Decl>) -> Result<(), NoMemory>
     ensures { OnOk result (decls.new.items ≡ decls.old.items ++ report_declarations) }
 {
-    let check = vec![in alloc; Ty::Int(64), Ty::Int(32), Ty::Int(32), Ty::Int(32), Ty::Int(32), Ty::Int(32)]?;
+    let check = vec![in alloc;
+        Ty::Int(64),
+        Ty::Int(32),
+        Ty::Int(32),
+        Ty::Int(32),
+        Ty::Int(32),
+        Ty::Int(32),
+    ]?;
     let memory = vec![in alloc; Ty::Ptr, Ty::Int(64), Ty::Int(32), Ty::Int(32)]?;
     let string = vec![in alloc; Ty::Ptr, Ty::Int(32)]?;
     declare(alloc, decls, b"__msan_check", check)?;

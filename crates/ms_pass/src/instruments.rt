@@ -45,10 +45,10 @@ fn main_func(alloc: Global, insts: Vec<Inst>) -> Result<Func, NoMemory>
 // The module of these instructions that declares the slots and the runtime functions.
 fn instrumented(alloc: Global, insts: Vec<Inst>) -> Result<Module, NoMemory>
     ensures { IfOk result (λ j. j ≡ record {
-        types = [];
-        globals = declares.slot_globals;
-        decls = declares.runtime_declarations;
-        funcs = (main_module insts.items).funcs;
+      types = [];
+      globals = declares.slot_globals;
+      decls = declares.runtime_declarations;
+      funcs = (main_module insts.items).funcs;
     }) }
 {
     let main = main_func(alloc, insts)?;

@@ -78,7 +78,7 @@ module _ (s : Setting) (env : Env) (size next : ℕ) (h : Here) (values : Name �
       let code = (tasks_code (after_tasks (given_of s) env h i) next).code in
       let t = tasks_run s at next (after_tasks (given_of s) env h i) (after_low s env size next h i st) next (omega arith) v v w (same_refl next v) in
       let r = went_inv next (record { names = names; slots = cells2 }) z (run_marked s at code v w)
-        (subst (λ q. Reaches next q (run_marked s at code v w)) f t) in
+      (subst (λ q. Reaches next q (run_marked s at code v w)) f t) in
       (r.0, r.1, matches_same env next (numbers_low env size next st.few st.room) after (record { names = names; slots = cells2 }) r.0 m r.2)
 
   -- nothing is inserted
@@ -87,8 +87,8 @@ module _ (s : Setting) (env : Env) (size next : ℕ) (h : Here) (values : Name �
       → Matches env after names → AfterLaw s env next h i values after before x names w
   nothing i st after before x names w e p m = record {
     runs = λ at cells.
-      after_runs i st at cells cells names w _
-      (ap (λ l. do_tasks s at l (record { names = names; slots = cells }) w) e ∙ ap (λ z. Went (record { names = names; slots = cells }) z) (sym p)) after m;
+        after_runs i st at cells cells names w _
+        (ap (λ l. do_tasks s at l (record { names = names; slots = cells }) w) e ∙ ap (λ z. Went (record { names = names; slots = cells }) z) (sym p)) after m;
     quiet = λ f. ap (result f) (sym p);
   }
 
@@ -117,8 +117,8 @@ module _ (s : Setting) (env : Env) (size next : ℕ) (h : Here) (values : Name �
       let roots : root < 2 ^ 32 = omega (arith, roots_small s env size next h i st) in
       record {
         runs = λ at cells.
-          after_runs i st at cells cells (set_result names (Some y) x) w _
-          (poison_done s at y x bytes root address (omega (arith, small.0)) roots (set_result names (Some y) x) cells w (with_here names y x)) after m;
+            after_runs i st at cells cells (set_result names (Some y) x) w _
+            (poison_done s at y x bytes root address (omega (arith, small.0)) roots (set_result names (Some y) x) cells w (with_here names y x)) after m;
         quiet = poison_alike x 0 bytes root w;
       }
   gives_at b _ _ before x w names after st e m = absurd st.known.built
@@ -146,8 +146,8 @@ module _ (s : Setting) (env : Env) (size next : ℕ) (h : Here) (values : Name �
       let writes = set_shadow q.value (stored_size t) (byte_of p.mask) w in
       record {
         runs = λ at cells.
-          let done = store_done s names t x y p q st.known.reads.0 hx.mask hx.origin hy.value at h.site st.ranged.site cells w placed good in
-          after_runs i st at cells done.0 names w _ (ap (λ l. do_tasks s at l (record { names = names; slots = cells }) w) same ∙ done.1) values m;
+            let done = store_done s names t x y p q st.known.reads.0 hx.mask hx.origin hy.value at h.site st.ranged.site cells w placed good in
+            after_runs i st at cells done.0 names w _ (ap (λ l. do_tasks s at l (record { names = names; slots = cells }) w) same ∙ done.1) values m;
         quiet = origin_alike s q.value p.mask p.origin h.site writes;
       }
 

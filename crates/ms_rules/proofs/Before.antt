@@ -148,9 +148,9 @@ module _ (s : Setting) (env : Env) (size base : ℕ) (h : Here) (i : Inst) (valu
       Due r.0 w1 r.1 c (sym r.2.slots ∙ slots)
       (words_known s env size values r.0.names own (operands i.op) h.root st.known.reads)
       (λ x z e.
-        matches_same env base low (after_result values i.result (poisoned_result by_formulas i.op (words_at s values h i) x z))
-        (record { names = set_result after.names i.result x; slots = after.slots }) (record { names = set_result r.0.names i.result x; slots = r.0.slots })
-        (gives x z e) (same_result base i.result x after r.0 r.2))
+      matches_same env base low (after_result values i.result (poisoned_result by_formulas i.op (words_at s values h i) x z))
+      (record { names = set_result after.names i.result x; slots = after.slots }) (record { names = set_result r.0.names i.result x; slots = r.0.slots })
+      (gives x z e) (same_result base i.result x after r.0 r.2))
       (λ z e. matches_same env base low values after r.0 (does z e) r.2)
 
 -- the list before an instruction
@@ -192,8 +192,8 @@ before_law s env size base h i values v w st m rn rv sound = by_checks (checked_
         passed s env size base h i values v w st m w1 f
         (over (Does w1) f ∙ ap (do_tasks s h (result_tasks env i.result i.op (tracked env h.root (operands i.op))) v) same)
         (result_done s env size h values v m rv st.one_name i.result i.op st.known.built st.known.named st.known.reads
-          (few_undefs s env size base h i st) (counted_at s values h i w1) ranged
-          (λ y k u e c g. sound y k w1 u e c f g))
+        (few_undefs s env size base h i st) (counted_at s values h i w1) ranged
+        (λ y k u e c g. sound y k w1 u e c f g))
     by_checks (Gives k z) f l = absurd (subst IsLeft f l)
     by_checks (Goes b z) f l = absurd (subst IsLeft f l)
     by_checks (Enters b z) f l = absurd (subst IsLeft f l)

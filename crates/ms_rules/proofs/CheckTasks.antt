@@ -103,7 +103,6 @@ AreWords (Line a ∷ us) = ⊥
 module _ (s : Setting) (h : Here) (v : Values) (ts : List Tracked) (os : List (Ty × Operand)) (ps : List Poisoned) (site : h.site < 2 ^ 32)
     (holds : (k : ℕ) → Holds s v.names (tracked_at k ts) (word_at k ps))
     (typed : (k : ℕ) → (tracked_at k ts).ty ≡ type_at k os) (narrow : (k : ℕ) → width_of (tracked_at k ts).ty ≤ 64) where
-
   check_same : (kind k : ℕ) → kind < 2 ^ 32 → k < 2 ^ 32 → (w : World)
       → task_effect s h (check_task h.site kind k (tracked_at k ts)) (eval_all s v.names (parts (check_task h.site kind k (tracked_at k ts)))) v.slots w
       ≡ check_use s h.site os ps (Word kind k) w

@@ -161,17 +161,17 @@ module _ (s : Setting) (env : Env) (size : ℕ) (h : Here) (values : Name → Po
       let names2 = with_value names1 (mask_name n) mask in
       let past : (y : Name) → is_reserved y ≡ false → names1 y ≡ v.names y = λ y own. with_other v.names (origin_name n) y stored (own_not_msan y (2 * n + 2) own) in
       let va : operand_word s names1 (width_of t) ta.operand ≡ p.value =
-        word_same s names1 v.names (width_of t) a (own_agrees env size names1 v.names past a known.1) ∙ hp.value in
+      word_same s names1 v.names (width_of t) a (own_agrees env size names1 v.names past a known.1) ∙ hp.value in
       let vb : operand_word s names1 (width_of t) tb.operand ≡ q.value =
-        word_same s names1 v.names (width_of t) b (own_agrees env size names1 v.names past b known.2.1) ∙ hq.value in
+      word_same s names1 v.names (width_of t) b (own_agrees env size names1 v.names past b known.2.1) ∙ hq.value in
       let ma : operand_word s names1 (width_of t) ta.mask ≡ p.mask =
-        word_same s names1 v.names (width_of t) ta.mask (mask_agrees env size v.names n stored (width_of t) a known.1) ∙ hp.mask in
+      word_same s names1 v.names (width_of t) ta.mask (mask_agrees env size v.names n stored (width_of t) a known.1) ∙ hp.mask in
       let mb : operand_word s names1 (width_of t) tb.mask ≡ q.mask =
-        word_same s names1 v.names (width_of t) tb.mask (mask_agrees env size v.names n stored (width_of t) b known.2.1) ∙ hq.mask in
+      word_same s names1 v.names (width_of t) tb.mask (mask_agrees env size v.names n stored (width_of t) b known.2.1) ∙ hq.mask in
       let d : Defines env x n v.names names2 mask origin =
-        origin_first env x n k.numbered c v.names mask origin stored
-        (λ ne. last_known p q (operand_word s v.names (width_of t) tb.mask) (operand_word s v.names 32 ta.origin) (operand_word s v.names 32 tb.origin) hq.mask hp.origin hq.origin
-        (λ e g. ne (logic_clean o l (width_of t) p q e g))) in
+      origin_first env x n k.numbered c v.names mask origin stored
+      (λ ne. last_known p q (operand_word s v.names (width_of t) tb.mask) (operand_word s v.names 32 ta.origin) (operand_word s v.names 32 tb.origin) hq.mask hp.origin hq.origin
+      (λ e g. ne (logic_clean o l (width_of t) p q e g))) in
       Fine (record { names = names2; slots = v.slots })
       (mask_done s h names1 v.slots n t ta tb p q va ma vb mb o l w)
       refl

@@ -100,7 +100,7 @@ pub good_slot : (w : World) (a n : ℕ) → RangedWorld w → n ≢ 0 → is_goo
 good_slot w a n r ne g =
     let some_bytes : eqb n 0 ≡ false = grind arith in
     let between : Between a n =
-      placed_between a n w.allocs r.placed (sym (ap (λ b. if b then true else is_some (first_that (covers a n) w.allocs)) some_bytes) ∙ g) in
+    placed_between a n w.allocs r.placed (sym (ap (λ b. if b then true else is_some (first_that (covers a n) w.allocs)) some_bytes) ∙ g) in
     low_no_slot (bit_xor a shadow_bits) n (shadow_low a between.0 (omega (arith, between.1)))
 
 -- ---- the origin of what was loaded
@@ -166,12 +166,12 @@ module _ (s : Setting) (env : Env) (size : ℕ) (h : Here) (values : Name → Po
       → do_tasks s h (origin_tasks t a) (record { names = with_mask mask; slots = v.slots }) w ≡ Went (with_both mask (load_origin (address_of a) mask w)) w
   origin_done t a known mask less w =
       let own : (y : Name) → is_reserved y ≡ false → with_mask mask y ≡ v.names y =
-        λ y own. with_other v.names (mask_name k.place) y mask (own_not_msan y (2 * k.place + 1) own) in
+      λ y own. with_other v.names (mask_name k.place) y mask (own_not_msan y (2 * k.place + 1) own) in
       let address : operand_word s (with_mask mask) 64 a ≡ address_of a =
-        word_same s (with_mask mask) v.names 64 a (own_agrees env size (with_mask mask) v.names own a known) ∙ address_known a known in
+      word_same s (with_mask mask) v.names 64 a (own_agrees env size (with_mask mask) v.names own a known) ∙ address_known a known in
       let read : eval s (with_mask mask) (widened (width_of t) (Leaf (operand.Local (mask_name k.place)))) (Int 64) ≡ mask % 2 ^ 64 =
-        widened_word s (with_mask mask) (width_of t) (operand.Local (mask_name k.place))
-        ∙ ap (λ i. i % 2 ^ 64) (ap (λ i. i % 2 ^ width_of t) (with_here v.names (mask_name k.place) mask) ∙ mod-eq_of_lt less) in
+      widened_word s (with_mask mask) (width_of t) (operand.Local (mask_name k.place))
+      ∙ ap (λ i. i % 2 ^ 64) (ap (λ i. i % 2 ^ width_of t) (with_here v.names (mask_name k.place) mask) ∙ mod-eq_of_lt less) in
       ap (λ o. Went (with_both mask o) w) (ap₂ (λ i j. load_origin i j w) address read ∙ origin_low 8 (address_of a) mask w)
 
   -- what the marked load comes to, at the address itself
@@ -186,10 +186,10 @@ module _ (s : Setting) (env : Env) (size : ℕ) (h : Here) (values : Name → Po
   moved : (t : Ty) (a : Operand) → KnownOperand env size a → (w : World) → do_tasks s h (load_tasks t a) v w ≡ after_read t a (shadow_read t a w)
   moved t a known w =
       let at : eval s v.names (shadow_address (Leaf a)) Ptr ≡ bit_xor (address_of a) shadow_bits =
-        address_word s v.names a ∙ ap (λ i. bit_xor i shadow_bits) (address_known a known) in
+      address_word s v.names a ∙ ap (λ i. bit_xor i shadow_bits) (address_known a known) in
       ap₂ (λ i j. after_read t a (
-        if in_slots i (stored_size t) slots then Gives (number_at v.slots i (stored_size t) % 2 ^ width_of t) w else
-        if is_good w j (stored_size t) then Gives (number_at w.shadow j (stored_size t) % 2 ^ width_of t) w else traps trap.BadAddress h.site w))
+      if in_slots i (stored_size t) slots then Gives (number_at v.slots i (stored_size t) % 2 ^ width_of t) w else
+      if is_good w j (stored_size t) then Gives (number_at w.shadow j (stored_size t) % 2 ^ width_of t) w else traps trap.BadAddress h.site w))
       at (ap (λ i. bit_xor i shadow_bits) at ∙ xor_twice (address_of a))
 
   load_fails : (t : Ty) (a : Operand) (w : World) → is_good w (address_of a) (stored_size t) ≡ false
@@ -211,17 +211,17 @@ module _ (s : Setting) (env : Env) (size : ℕ) (h : Here) (values : Name → Po
           let origin = load_origin (address_of a) mask w in
           let d = mask_first env x k.place k.numbered c v.names mask origin origin (λ ne. refl) in
           let read : shadow_read t a w ≡ Gives mask w =
-            ap (λ z. if in_slots (bit_xor (address_of a) shadow_bits) (stored_size t) slots then Gives (number_at v.slots (bit_xor (address_of a) shadow_bits) (stored_size t) % 2 ^ width_of t) w else
-              if z then Gives mask w else traps trap.BadAddress h.site w) g
-            ∙ read_good v.slots (address_of a) (stored_size t) (width_of t) w ranged g (in_slots (bit_xor (address_of a) shadow_bits) (stored_size t) slots) refl in
+          ap (λ z. if in_slots (bit_xor (address_of a) shadow_bits) (stored_size t) slots then Gives (number_at v.slots (bit_xor (address_of a) shadow_bits) (stored_size t) % 2 ^ width_of t) w else
+          if z then Gives mask w else traps trap.BadAddress h.site w) g
+          ∙ read_good v.slots (address_of a) (stored_size t) (width_of t) w ranged g (in_slots (bit_xor (address_of a) shadow_bits) (stored_size t) slots) refl in
           Fine (with_both mask origin)
           (moved t a known.1 w ∙ ap (after_read t a) read ∙ origin_done t a known.1 mask (mod_below _ (2 ^ width_of t) (pow_pos (width_of t))) w)
           refl
           (defines_own env x k.place v.names (with_both mask origin).names mask origin d)
           (λ n u e.
-            subst (λ z. Matches env (after_result values (Some x) (poisoned_result by_formulas (op.Load t a) (words_for s values h (op.Load t a)) n z)) (set_result (with_both mask origin).names (Some x) n))
-            (ap (λ z. effect_world z w) (sym (load_gives t a w g) ∙ e))
-            (matches_set env size x k one values v.names (with_both mask origin).names (record { value = n; mask = mask; origin = origin }) m d))
+          subst (λ z. Matches env (after_result values (Some x) (poisoned_result by_formulas (op.Load t a) (words_for s values h (op.Load t a)) n z)) (set_result (with_both mask origin).names (Some x) n))
+          (ap (λ z. effect_world z w) (sym (load_gives t a w g) ∙ e))
+          (matches_set env size x k one values v.names (with_both mask origin).names (record { value = n; mask = mask; origin = origin }) m d))
           (λ u e. absurd (gives_does _ w u (sym (load_gives t a w g) ∙ e)))
       -- a slot is read, and then the load itself is a trap
       by_good false g true i =
@@ -229,8 +229,8 @@ module _ (s : Setting) (env : Env) (size : ℕ) (h : Here) (values : Name → Po
           let origin = load_origin (address_of a) mask w in
           let d = mask_first env x k.place k.numbered c v.names mask origin origin (λ ne. refl) in
           let read : shadow_read t a w ≡ Gives mask w =
-            ap (λ z. if z then Gives mask w else
-              if is_good w (address_of a) (stored_size t) then Gives (number_at w.shadow (address_of a) (stored_size t) % 2 ^ width_of t) w else traps trap.BadAddress h.site w) i in
+          ap (λ z. if z then Gives mask w else
+          if is_good w (address_of a) (stored_size t) then Gives (number_at w.shadow (address_of a) (stored_size t) % 2 ^ width_of t) w else traps trap.BadAddress h.site w) i in
           Fine (with_both mask origin)
           (moved t a known.1 w ∙ ap (after_read t a) read ∙ origin_done t a known.1 mask (mod_below _ (2 ^ width_of t) (pow_pos (width_of t))) w)
           refl
@@ -239,6 +239,6 @@ module _ (s : Setting) (env : Env) (size : ℕ) (h : Here) (values : Name → Po
           (λ u e. absurd (ends_does _ w u (sym (load_fails t a w g) ∙ e)))
       by_good false g false i =
           let read : shadow_read t a w ≡ traps trap.BadAddress h.site w =
-            ap₂ (λ y z. if y then Gives (number_at v.slots (bit_xor (address_of a) shadow_bits) (stored_size t) % 2 ^ width_of t) w else
-              if z then Gives (number_at w.shadow (address_of a) (stored_size t) % 2 ^ width_of t) w else traps trap.BadAddress h.site w) i g in
+          ap₂ (λ y z. if y then Gives (number_at v.slots (bit_xor (address_of a) shadow_bits) (stored_size t) % 2 ^ width_of t) w else
+          if z then Gives (number_at w.shadow (address_of a) (stored_size t) % 2 ^ width_of t) w else traps trap.BadAddress h.site w) i g in
           Fails («end».Trap trap.BadAddress h.site) (moved t a known.1 w ∙ ap (after_read t a) read) (load_fails t a w g)

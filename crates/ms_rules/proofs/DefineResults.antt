@@ -71,7 +71,7 @@ module _ (s : Setting) (env : Env) (size : ℕ) (h : Here) (values : Name → Po
   define_done x k c (op.Load t a) built known few w ranged = load_done s env size h values v m r one x k c t a known w ranged
   define_done x k c (op.Alloca t u count) built known few w ranged = alloca_done x k c t u count w
   define_done x k c (op.Store t n a) built known few w ranged = none_done (Some x) (op.Store t n a) w (λ i u e.
-    let words = map (λ p. p.value) (words_for s values h (op.Store t n a)) in store_gives h.site (word 1 words) t (word 0 words) i w u e)
+      let words = map (λ p. p.value) (words_for s values h (op.Store t n a)) in store_gives h.site (word 1 words) t (word 0 words) i w u e)
   define_done x k c (op.Ret n) built known few w ranged = none_done (Some x) (op.Ret n) w (λ i u e. ret_gives h.main («end».Exit (word 0 (map (λ p. p.value) (words_for s values h (op.Ret n))))) i w u e)
   define_done x k c _ built known few w ranged = absurd built
 
@@ -89,7 +89,7 @@ module _ (s : Setting) (env : Env) (size : ℕ) (h : Here) (values : Name → Po
       by_clean true c =
           Fine v refl refl (λ y own. refl)
           (λ k u e. matches_set env size x named one values v.names v.names (poisoned_result by_formulas o (words_for s values h o) k u) m
-            (clean_kept env x named.place named.numbered c v.names _ _ (sound x k u refl c e)))
+          (clean_kept env x named.place named.numbered c v.names _ _ (sound x k u refl c e)))
           (λ u e. m)
       by_clean false c =
           subst (λ z. Defined s env h values v (Some x) o (elim z [ Some n ↦ define_tasks n o (tracked env h.root (operands o)) | None ↦ [] ]) w)

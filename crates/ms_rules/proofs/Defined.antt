@@ -44,12 +44,12 @@ pub origin_first : (env : Env) (x : Name) (n : ℕ) → env.number x ≡ Some n 
 origin_first env x n e c names mask origin stored h = record {
   kept = λ y f g. with_other (with_value names (origin_name n) stored) (mask_name n) y mask f ∙ with_other names (origin_name n) y stored g;
   mask_held =
-    ap (held after) (mask_at env x n e) ∙ ap (λ b. held after (if b then operand.Int 0 else operand.Local (mask_name n))) c
-    ∙ with_here (with_value names (origin_name n) stored) (mask_name n) mask;
+      ap (held after) (mask_at env x n e) ∙ ap (λ b. held after (if b then operand.Int 0 else operand.Local (mask_name n))) c
+      ∙ with_here (with_value names (origin_name n) stored) (mask_name n) mask;
   origin_held = λ ne.
-    ap (held after) (origin_at env x n e) ∙ ap (λ b. held after (if b then operand.Int 0 else operand.Local (origin_name n))) c
-    ∙ with_other (with_value names (origin_name n) stored) (mask_name n) (origin_name n) mask (λ z. mask_not_origin n n (sym z))
-    ∙ with_here names (origin_name n) stored ∙ h ne;
+      ap (held after) (origin_at env x n e) ∙ ap (λ b. held after (if b then operand.Int 0 else operand.Local (origin_name n))) c
+      ∙ with_other (with_value names (origin_name n) stored) (mask_name n) (origin_name n) mask (λ z. mask_not_origin n n (sym z))
+      ∙ with_here names (origin_name n) stored ∙ h ne;
 }
   where
     after : Name → ℕ
@@ -61,12 +61,12 @@ pub mask_first : (env : Env) (x : Name) (n : ℕ) → env.number x ≡ Some n �
 mask_first env x n e c names mask origin stored h = record {
   kept = λ y f g. with_other (with_value names (mask_name n) mask) (origin_name n) y stored g ∙ with_other names (mask_name n) y mask f;
   mask_held =
-    ap (held after) (mask_at env x n e) ∙ ap (λ b. held after (if b then operand.Int 0 else operand.Local (mask_name n))) c
-    ∙ with_other (with_value names (mask_name n) mask) (origin_name n) (mask_name n) stored (mask_not_origin n n)
-    ∙ with_here names (mask_name n) mask;
+      ap (held after) (mask_at env x n e) ∙ ap (λ b. held after (if b then operand.Int 0 else operand.Local (mask_name n))) c
+      ∙ with_other (with_value names (mask_name n) mask) (origin_name n) (mask_name n) stored (mask_not_origin n n)
+      ∙ with_here names (mask_name n) mask;
   origin_held = λ ne.
-    ap (held after) (origin_at env x n e) ∙ ap (λ b. held after (if b then operand.Int 0 else operand.Local (origin_name n))) c
-    ∙ with_here (with_value names (mask_name n) mask) (origin_name n) stored ∙ h ne;
+      ap (held after) (origin_at env x n e) ∙ ap (λ b. held after (if b then operand.Int 0 else operand.Local (origin_name n))) c
+      ∙ with_here (with_value names (mask_name n) mask) (origin_name n) stored ∙ h ne;
 }
   where
     after : Name → ℕ

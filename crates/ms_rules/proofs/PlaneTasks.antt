@@ -49,9 +49,9 @@ mark_alike (suc n) a m o w e =
 
 abbrev chained_at : Setting → ℕ → ℕ → World → Option ℕ → Chained
 chained_at s old site w p = elim p [
-    | Some k ↦ record { id = s.roots + 1 + k; world = w }
-    | None ↦ record { id = s.roots + 1 + length w.pairs; world = record w { pairs = w.pairs ++ (old, site) ∷ [] } }
-  ]
+  | Some k ↦ record { id = s.roots + 1 + k; world = w }
+  | None ↦ record { id = s.roots + 1 + length w.pairs; world = record w { pairs = w.pairs ++ (old, site) ∷ [] } }
+]
 
 abbrev kept_at : ℕ → World → Chained
 kept_at old w = record { id = old; world = w }
@@ -113,11 +113,11 @@ module _ (s : Setting) (names : Name → ℕ) (t : Ty) (x a : Tracked) (p q : Po
     (ha : operand_word s names 64 a.operand ≡ q.value) where
   origin_stored : (at : Here) (site : ℕ) → site < 2 ^ 32 → (cells : ℕ → ℕ) (w : World)
       → do_tasks s at (Calls None function.StoreOrigin ((Ptr, word_of a) ∷ (Int 64, widened (width_of t) (mask_of x)) ∷ (Int 32, origin_of x) ∷ (Int 32, number site) ∷ []) ∷ [])
-        (record { names = names; slots = cells }) w
+      (record { names = names; slots = cells }) w
       ≡ Went (record { names = names; slots = cells }) (store_origin s q.value p.mask p.origin site w)
   origin_stored at site less cells w =
       let mask : eval s names (widened (width_of t) (mask_of x)) (Int 64) ≡ p.mask =
-        widened_word s names (width_of t) x.mask ∙ whole (width_of t) _ narrow (word_less s names (width_of t) x.mask) ∙ hx in
+      widened_word s names (width_of t) x.mask ∙ whole (width_of t) _ narrow (word_less s names (width_of t) x.mask) ∙ hx in
       ap (λ z. Went (record { names = names; slots = cells }) z)
       (ap₃ (λ i j k. store_origin s i j (operand_word s names 32 x.origin) k w) ha mask (mod-eq_of_lt less)
       ∙ store_origin_same s q.value p.mask (operand_word s names 32 x.origin) p.origin site w ho)
@@ -131,13 +131,15 @@ module _ (s : Setting) (names : Name → ℕ) (t : Ty) (x a : Tracked) (p q : Po
       let rest = do_tasks s at (Calls None function.StoreOrigin ((Ptr, word_of a) ∷ (Int 64, widened (width_of t) (mask_of x)) ∷ (Int 32, origin_of x) ∷ (Int 32, number site) ∷ []) ∷ []) in
       let address : eval s names (shadow_address (word_of a)) Ptr ≡ bit_xor q.value shadow_bits = address_word s names a.operand ∙ ap (λ i. bit_xor i shadow_bits) ha in
       let write : store_marked at.site (eval s names (shadow_address (word_of a)) Ptr) (mask_type t) (operand_word s names (width_of t) x.mask) w
-          ≡ Does (set_shadow q.value (stored_size t) (byte_of p.mask) w) =
-        ap₃ (λ i j k. if in_slots i (stored_size t) slots then Does w else
-          (if is_good w j (stored_size t) then Does (set_shadow j (stored_size t) (byte_of k) w) else traps trap.BadAddress at.site w))
-        address (ap (λ i. bit_xor i shadow_bits) address ∙ xor_twice q.value) hx
-        ∙ write_good at.site q.value (stored_size t) p.mask w ranged good (in_slots (bit_xor q.value shadow_bits) (stored_size t) slots) refl in
-      (after, ap (λ e. marked_next None names after e rest) write
-        ∙ origin_stored at site less after (set_shadow q.value (stored_size t) (byte_of p.mask) w))
+      ≡ Does (set_shadow q.value (stored_size t) (byte_of p.mask) w) =
+      ap₃ (λ i j k. if in_slots i (stored_size t) slots then Does w else
+      (if is_good w j (stored_size t) then Does (set_shadow j (stored_size t) (byte_of k) w) else traps trap.BadAddress at.site w))
+      address (ap (λ i. bit_xor i shadow_bits) address ∙ xor_twice q.value) hx
+      ∙ write_good at.site q.value (stored_size t) p.mask w ranged good (in_slots (bit_xor q.value shadow_bits) (stored_size t) slots) refl in (
+        after,
+        ap (λ e. marked_next None names after e rest) write
+            ∙ origin_stored at site less after (set_shadow q.value (stored_size t) (byte_of p.mask) w),
+      )
 
 -- ---- an 'alloca'
 

@@ -19,10 +19,15 @@ use ms_ir::{Op, Operand, RuntimeFn, Ty};
 
 // The kinds of checked uses, as reports number them.
 const BRANCH: u32 = 1;
+
 const SWITCH: u32 = 2;
+
 const ADDRESS: u32 = 3;
+
 const DIVISOR: u32 = 4;
+
 const SIZE: u32 = 5;
+
 const EXIT: u32 = 8;
 
 fn is_zero(mask: &Operand) -> bool
@@ -33,7 +38,6 @@ fn is_zero(mask: &Operand) -> bool
         _ => false,
     }
 }
-
 
 // A call that checks an operand, which is the part of a use of some kind.
 fn call_check(
@@ -191,7 +195,11 @@ pub fn check_uses(code: &mut Code, env: &Environment, op: &Op) -> Result<(), NoM
 {
     match op {
         Op::Binary { op, ty, a, b, .. } => check_divisor(code, env, *op, ty, a, b),
-        Op::Alloca { count_ty, count, .. } => {
+        Op::Alloca {
+            count_ty,
+            count,
+            ..
+        } => {
             let ty = count_ty.copy(code.alloc)?;
             check_operand(code, env, SIZE, env.root, ty, count)
         }

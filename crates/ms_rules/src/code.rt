@@ -85,7 +85,13 @@ impl Code {
     }
 
     /// Adds `op` of words of so many bits, and answers its result. The one error is want of memory.
-    pub fn logic(&mut self, op: BinOp, width: u8, a: Operand, b: Operand) -> Result<Operand, NoMemory>
+    pub fn logic(
+        &mut self,
+        op: BinOp,
+        width: u8,
+        a: Operand,
+        b: Operand,
+    ) -> Result<Operand, NoMemory>
         requires { self.old.next < 2 ^ 32 - 1 }
         ensures code { OnOk result (self.new.insts.items ≡ self.old.insts.items ++ inserted (Some (task.msan_name self.old.next)) (operation.Binary op no_flags (Int width) a b) ∷ []) }
         ensures next { OnOk result (self.new.next ≡ self.old.next + 1) }
@@ -132,7 +138,16 @@ impl Code {
     {
         let ty = Ty::Int(width);
         let flags = NO_FLAGS;
-        self.put(Some(name), Op::Binary { op, flags, ty, a, b })
+        self.put(
+            Some(name),
+            Op::Binary {
+                op,
+                flags,
+                ty,
+                a,
+                b,
+            },
+        )
     }
 
     /// Adds a cast, and answers its result. The one error is want of memory.

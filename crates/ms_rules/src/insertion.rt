@@ -44,12 +44,7 @@ fn put_before(code: &mut Code, env: &Environment, inst: &Inst) -> Result<(), NoM
 /// Makes the lists round an instruction, of which the first inserted result has the number `next`; at most
 /// 12 numbers are used. Calls are not taken yet, nor any `alloca` but of an integer with a count of at
 /// most 32 bits. The one error is want of memory.
-pub fn emit(
-    alloc: Global,
-    inst: &Inst,
-    env: &Environment,
-    next: u32,
-) -> Result<Emitted, NoMemory>
+pub fn emit(alloc: Global, inst: &Inst, env: &Environment, next: u32) -> Result<Emitted, NoMemory>
     requires taken { IsTaken inst.now }
     requires few { env.now.size ≤ 2 ^ 30 }
     requires roots { env.now.root < 2 ^ 31 }

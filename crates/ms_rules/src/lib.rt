@@ -12,7 +12,7 @@ mod planes;
 mod results;
 mod tracked;
 
-pub use insertion::{Emitted, emit};
 pub use environment::Environment;
+pub use insertion::{Emitted, emit};
 pub use names::{runtime_name, runtime_ret};
 pub use tracked::count_undef;

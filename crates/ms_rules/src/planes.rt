@@ -82,12 +82,7 @@ fn poison(code: &mut Code, name: &Name, size: u64, root: u64) -> Result<(), NoMe
 }
 
 // Stores a mask and an origin beside the value that a `store` wrote.
-fn store(
-    code: &mut Code,
-    site: u32,
-    value: &TrackedOperand,
-    addr: &Operand,
-) -> Result<(), NoMemory>
+fn store(code: &mut Code, site: u32, value: &TrackedOperand, addr: &Operand) -> Result<(), NoMemory>
     requires { code.old.next < 2 ^ 32 - 32 }
     ensures code { OnOk result (code.new.insts.items ≡ code.old.insts.items ++ (tasks_code (store_tasks site value.now.ty (tracked_of value.now) addr.now) code.old.next).code) }
     ensures next { OnOk result (code.new.next ≡ (tasks_code (store_tasks site value.now.ty (tracked_of value.now) addr.now) code.old.next).next) }

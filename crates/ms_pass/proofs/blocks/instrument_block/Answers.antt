@@ -18,7 +18,7 @@ loop-inst-preserved c =
       root = omega (arith, e.root, l.invariant.root);
       next = omega (arith, e.little, l.invariant.next);
       code = λ given. walked given c.args.size c.args.insts.now l.inst-index c.inst-item.result l.walk.env c.add.new.self.env l.walk.next c.add.new.self.next
-        l.walk.insts.items c.add.new.self.insts.items _ c.loop-inst-test.true c.inst-item.is l.invariant.size (e.insts given) (e.next given) (e.place given) (l.invariant.code given);
+          l.walk.insts.items c.add.new.self.insts.items _ c.loop-inst-test.true c.inst-item.is l.invariant.size (e.insts given) (e.next given) (e.place given) (l.invariant.code given);
     }
 
 pub returns : goal.returns

@@ -13,5 +13,5 @@ invariant-loop-inst l = record {
   root : l.walk.env.root ≤ 3 * l.inst-index;
   next : l.walk.next ≤ 2 * l.fn.size + 1 + 12 * l.inst-index;
   code : (given : Given) → l.walk.insts.items ++ (pass_insts given (first_env l.fn.size) (drop l.inst-index l.insts) (here_of l.walk.env) l.walk.next).code
-    ≡ (pass_insts given (first_env l.fn.size) l.insts first_here (2 * l.fn.size + 1)).code;
+      ≡ (pass_insts given (first_env l.fn.size) l.insts first_here (2 * l.fn.size + 1)).code;
 }

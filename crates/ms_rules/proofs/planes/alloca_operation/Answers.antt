@@ -14,4 +14,4 @@ returns-clause-code c given =
     let root = c.args.env.now.root + count_undefs ((Ptr, c.args.count.now) ∷ []) + 1 in
     subst (λ item. P item (count_of (width_of c.args.count_ty.now) c.args.count.now) root) (c.item_size.ensures.size given.types)
     (subst (λ count. P c.item_size.result count root) (c.count_of.ensures.count ∙ ap (λ w. count_of w c.args.count.now) c.width_of.ensures)
-        (subst (λ r. P c.item_size.result c.count_of.result r) c.own_root.ensures c.poison.ensures.code))
+    (subst (λ r. P c.item_size.result c.count_of.result r) c.own_root.ensures c.poison.ensures.code))

@@ -11,10 +11,10 @@ returns-clause-code c =
     let first = tracked_from (env_of c.args.env.now) c.args.env.now.root c.args.ty.now c.args.a.now in
     subst (P first)
     (c.in_ok-second.ensures ∙ ap (λ t. tracked_from (env_of c.args.env.now) (c.args.env.now.root + c.count_undef.result) t c.args.b.now) c.in_ok-second_ty.ensures
-        ∙ ap (λ k. tracked_from (env_of c.args.env.now) (c.args.env.now.root + k) c.args.ty.now c.args.b.now) c.count_undef.ensures.count)
+    ∙ ap (λ k. tracked_from (env_of c.args.env.now) (c.args.env.now.root + k) c.args.ty.now c.args.b.now) c.count_undef.ensures.count)
     (subst (λ a. P a (tracked_of c.in_ok-second.second))
-        (c.in_ok-first.ensures ∙ ap (λ t. tracked_from (env_of c.args.env.now) c.args.env.now.root t c.args.a.now) c.in_ok-first_ty.ensures)
-        c.in_ok-define_binary.ensures.code)
+    (c.in_ok-first.ensures ∙ ap (λ t. tracked_from (env_of c.args.env.now) c.args.env.now.root t c.args.a.now) c.in_ok-first_ty.ensures)
+    c.in_ok-define_binary.ensures.code)
 
 pub returns-clause-next : goal.returns-clause-next
 returns-clause-next c =
@@ -22,7 +22,7 @@ returns-clause-next c =
     let first = tracked_from (env_of c.args.env.now) c.args.env.now.root c.args.ty.now c.args.a.now in
     subst (P first)
     (c.in_ok-second.ensures ∙ ap (λ t. tracked_from (env_of c.args.env.now) (c.args.env.now.root + c.count_undef.result) t c.args.b.now) c.in_ok-second_ty.ensures
-        ∙ ap (λ k. tracked_from (env_of c.args.env.now) (c.args.env.now.root + k) c.args.ty.now c.args.b.now) c.count_undef.ensures.count)
+    ∙ ap (λ k. tracked_from (env_of c.args.env.now) (c.args.env.now.root + k) c.args.ty.now c.args.b.now) c.count_undef.ensures.count)
     (subst (λ a. P a (tracked_of c.in_ok-second.second))
-        (c.in_ok-first.ensures ∙ ap (λ t. tracked_from (env_of c.args.env.now) c.args.env.now.root t c.args.a.now) c.in_ok-first_ty.ensures)
-        c.in_ok-define_binary.ensures.next)
+    (c.in_ok-first.ensures ∙ ap (λ t. tracked_from (env_of c.args.env.now) c.args.env.now.root t c.args.a.now) c.in_ok-first_ty.ensures)
+    c.in_ok-define_binary.ensures.next)
