@@ -100,12 +100,7 @@ fn check(alloc: Global, mask: u64) -> Result<Op, NoMemory>
     })
 }
 
-fn push(
-    insts: &mut Vec<Inst>,
-    op: Op,
-    name: Option<Name>,
-    marked: bool,
-) -> Result<(), NoMemory>
+fn push(insts: &mut Vec<Inst>, op: Op, name: Option<Name>, marked: bool) -> Result<(), NoMemory>
     requires named { IsResult 2 name }
     requires allowed { IsOp 2 marked op }
     requires straight { All (IsStraightInst 2) insts.old.items }
@@ -154,7 +149,12 @@ fn written(alloc: Global, addr: u64) -> Result<Vec<Inst>, NoMemory>
     let mut insts = Vec::new(alloc);
     push(&mut insts, alloca(), Some(Name::Number(1)), false)?;
     push(&mut insts, store(5, Operand::Int(addr)), None, true)?;
-    push(&mut insts, load(Operand::Int(addr)), Some(Name::Number(2)), true)?;
+    push(
+        &mut insts,
+        load(Operand::Int(addr)),
+        Some(Name::Number(2)),
+        true,
+    )?;
     push(&mut insts, ret(local(2)), None, false)?;
     Ok(insts)
 }
