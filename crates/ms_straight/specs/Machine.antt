@@ -38,16 +38,17 @@ abbrev pub called : Setting → Option RuntimeFn → List ℕ → World → Effe
 called setting (Some f) words world = runtime setting f words world
 called setting None words world = Ends stuck world
 
--- what is set, of the module and the setup, in all that a straight machine does
+-- a setting without named types, with the fill that undefined operands come from and what the host keeps of it
 pub record Fits (setting : Setting) (fill : List ℕ) (host : HostState) : Type 0 where
   pub untyped : setting.types ≡ []
   pub filled : setting.fill ≡ fill
   pub suits : Suits host setting
 
--- what an instruction does, marked or not, and what it leaves in the slots
+-- what an instruction does, marked or not
 abbrev pub effect_of : Setting → Here → Inst → List ℕ → (ℕ → ℕ) → World → Effect
 effect_of setting here inst words cells world = if inst.marked then act_marked setting here inst.op words cells world else act setting here inst.op words world
 
+-- the slots' bytes after an instruction
 abbrev pub cells_after : Inst → List ℕ → (ℕ → ℕ) → (ℕ → ℕ)
 cells_after inst words cells = if inst.marked then slots_after inst.op words cells else cells
 
