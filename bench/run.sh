@@ -1,5 +1,5 @@
 #!/usr/bin/env bash
-# Instructions per byte of `msan run` on a text of the first form, at 256 KiB and at 4 MiB.
+# Instructions per byte of `msan run` and `msan check` on a text of the first form, at 256 KiB and at 4 MiB.
 # Needs valgrind, and the program as `rt run` built it (crates/msan/out/msan). Outside the gate.
 set -eu
 cd "$(dirname "$0")/.."
@@ -21,15 +21,17 @@ text() { # a text of at most $1 bytes: one cell that is stored to, loaded and co
   }'
 }
 
-measure() { # name, bytes
-  text "$2" > "$folder/$1.ll"
+measure() { # command, name, bytes
+  text "$3" > "$folder/$2.ll"
   local bytes instructions
-  bytes=$(wc -c < "$folder/$1.ll")
-  valgrind --tool=callgrind --callgrind-out-file=/dev/null "$program" run "$folder/$1.ll" 2> "$folder/$1.log" || true
-  instructions=$(awk '/Collected/ {print $4}' "$folder/$1.log")
-  grep '^end:' "$folder/$1.log"
-  awk -v n="$instructions" -v b="$bytes" -v name="$1" 'BEGIN {printf "%s: %d bytes, %d instructions, %.2f a byte\n", name, b, n, n / b}'
+  bytes=$(wc -c < "$folder/$2.ll")
+  valgrind --tool=callgrind --callgrind-out-file=/dev/null "$program" "$1" "$folder/$2.ll" 2> "$folder/$2.log" || true
+  instructions=$(awk '/Collected/ {print $4}' "$folder/$2.log")
+  grep '^end:' "$folder/$2.log"
+  awk -v n="$instructions" -v b="$bytes" -v name="$1 $2" 'BEGIN {printf "%s: %d bytes, %.0f instructions, %.2f a byte\n", name, b, n, n / b}'
 }
 
-measure small 262144
-measure large 4194304
+for command in run check; do
+  measure "$command" small 262144
+  measure "$command" large 4194304
+done
