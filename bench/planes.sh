@@ -1,6 +1,6 @@
 #!/usr/bin/env bash
-# Instructions that a load of `ms_planes::Planes` takes with 10, 10,000 and 1,000,000 live allocations, and what poisoning
-# and copying take for each byte.
+# Instructions that `ms_planes::Planes` takes to find that an access is good, and to load, with 10, 10,000 and 1,000,000 live
+# allocations, and what poisoning and copying take for each byte.
 #
 # The program that calls it is made in a temporary repository, beside copies of this repository's crates.
 # Wants `rt`, `python3` and `valgrind`. Outside the gate.
@@ -38,15 +38,17 @@ fn fill(planes: &mut Planes, count: u64, size: u64) -> bool {
     true
 }
 
-/// Loads at addresses all over the blocks, and sums the words.
-fn load(planes: &Planes, count: u64, times: u64) -> u64 {
+/// Finds that addresses all over the blocks are good, loads there so many times, and sums the words.
+fn load(planes: &Planes, count: u64, times: u64, loads: u64) -> u64 {
     let mut sum = 0u64;
     let mut place = 0u64;
     for _ in 0..times {
         place = place.wrapping_mul(6364136223846793005).wrapping_add(1442695040888963407);
         let addr = HEAP + 16 * ((place >> 33) % count.max(1)) % 0x10000000;
         if planes.covers(addr, 8) {
-            sum = sum.wrapping_add(planes.load(addr, 8));
+            for _ in 0..loads {
+                sum = sum.wrapping_add(planes.load(addr, 8));
+            }
         }
     }
     sum
@@ -72,12 +74,13 @@ fn main(rt: HostRuntime) -> io::Result<()> {
     let _name = words.next();
     let count = words.next().and_then(|word| word.parse::<u64>().ok()).unwrap_or(0);
     let size = words.next().and_then(|word| word.parse::<u64>().ok()).unwrap_or(0);
+    let finds = words.next().and_then(|word| word.parse::<u64>().ok()).unwrap_or(0);
     let loads = words.next().and_then(|word| word.parse::<u64>().ok()).unwrap_or(0);
     let sweeps = words.next().and_then(|word| word.parse::<u64>().ok()).unwrap_or(0);
     let mut planes = Planes::new(rt.alloc());
     let size = size % 0x10000000;
     let made = fill(&mut planes, count, size);
-    let sum = load(&planes, count, loads);
+    let sum = load(&planes, count, finds, loads);
     let swept = sweep(&mut planes, size, sweeps);
     println!(rt; "{made} {sum} {swept}")?;
     Ok(())
@@ -85,7 +88,7 @@ fn main(rt: HostRuntime) -> io::Result<()> {
 PROGRAM
 
 cd "$work/crates/planes_bench"
-rt run -- 1 16 1 1 >"$work/build.log" 2>&1 || { cat "$work/build.log" >&2; exit 1; }
+rt run -- 1 16 1 1 1 >"$work/build.log" 2>&1 || { cat "$work/build.log" >&2; exit 1; }
 program=$work/crates/planes_bench/out/planes_bench
 
 # instructions of a run
@@ -94,10 +97,11 @@ count() {
 }
 
 for blocks in 10 10000 1000000; do
-    none=$(count "$blocks" 16 0 0)
-    some=$(count "$blocks" 16 100000 0)
-    echo "$blocks blocks: $(python3 -c "print(f'{($some - $none) / 100000:.1f}')") instructions a load"
+    none=$(count "$blocks" 16 0 0 0)
+    find=$(count "$blocks" 16 100000 0 0)
+    load=$(count "$blocks" 16 100000 1 0)
+    echo "$blocks blocks: $(python3 -c "print(f'{($find - $none) / 100000:.1f} instructions to find that an access is good, {($load - $find) / 100000:.1f} to load')")"
 done
-none=$(count 1 1048576 0 0)
-some=$(count 1 1048576 0 16)
+none=$(count 1 1048576 0 0 0)
+some=$(count 1 1048576 0 0 16)
 echo "poison of 1 MiB and copy of the shadow of half of it: $(python3 -c "print(f'{($some - $none) / 16 / 1048576:.2f}')") instructions a byte"
