@@ -1,0 +1,4 @@
+pub mod Readings
+pub mod Answering
+pub mod Rests
+pub mod Ends

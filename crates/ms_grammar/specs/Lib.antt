@@ -1,0 +1,17 @@
+pub mod Causes
+pub mod Lexemes
+pub mod Steps
+pub mod Names
+pub mod Types
+pub mod Values
+pub mod Skipped
+pub mod Insts
+pub mod Bodies
+pub mod Lines
+pub mod Functions
+pub mod Modules
+pub mod Texts
+pub mod Answers
+pub mod ExampleTexts
+pub mod ExampleModules
+pub mod Pieces

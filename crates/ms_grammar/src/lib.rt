@@ -1,0 +1,15 @@
+//! The grammar of the text form of LLVM modules, in the two forms that this repository reads, written once as data:
+//! what a text reads as, and at which token, and why, it stops. The readers are proved exact against it.
+#![tactic(auto)]
+
+pub mod examples;
+pub mod forms;
+pub mod laws;
+pub mod refusals;
+pub mod states;
+pub mod symbols;
+
+pub use forms::Form;
+pub use refusals::{Limit, Outside, Refusal};
+pub use states::{Body, Edges, Indices, Parameters, Parts};
+pub use symbols::Symbol;

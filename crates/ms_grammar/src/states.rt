@@ -1,0 +1,56 @@
+//! What was read so far, between two turns of a list or of a body.
+
+use ms_bits::List;
+use ms_ir::{Block, Inst, Module, Name, Operand, Ty};
+
+/// The edges of a phi. A comma begins either an edge or the metadata behind the phi.
+#[derive(Debug, Drop)]
+pub struct Edges {
+    pub found: List<(Operand, Name)>,
+    /// A comma was read, and no edge stands behind it.
+    pub ended: bool,
+}
+
+/// The indices of a `getelementptr`, or the count of an `alloca`. A comma begins either an index or the metadata behind
+/// the instruction.
+#[derive(Debug, Drop)]
+pub struct Indices {
+    pub found: List<(Ty, Operand)>,
+    /// A comma was read, and no index stands behind it.
+    pub ended: bool,
+}
+
+/// The parameters of a function.
+#[derive(Debug, Drop)]
+pub struct Parameters {
+    pub found: List<(Ty, Name)>,
+    /// The number of the next unnamed parameter or block.
+    pub next: u32,
+    /// `...` was read, behind the one parameter of a declared `printf`.
+    pub dots: bool,
+}
+
+/// The body of a function.
+#[derive(Debug, Drop)]
+pub struct Body {
+    /// The blocks that have ended.
+    pub blocks: List<Block>,
+    /// The name of the open block; none after a terminator.
+    pub name: Option<Name>,
+    /// The instructions of the open block.
+    pub insts: List<Inst>,
+    /// The number of the next unnamed value or block.
+    pub next: u32,
+    /// The instructions of the text so far.
+    pub count: u32,
+    /// Whether a phi may still come in the open block.
+    pub phis: bool,
+}
+
+/// The entities of a module.
+#[derive(Debug, Drop)]
+pub struct Parts {
+    pub module: Module,
+    /// The instructions of its functions.
+    pub count: u32,
+}
