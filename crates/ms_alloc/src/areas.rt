@@ -67,12 +67,28 @@ pub(crate) fn append(
 }
 
 /// How many allocations of an area begin at or before `addr`.
+///
+/// A binary search whose windows are powers of two: a step halves the window, whatever it finds.
 fn count_upto(kind: AllocKind, area: &[Allocation], addr: u64) -> usize
     requires { IsArea kind area.now }
     ensures point { IsPartitionPoint (λ a. leb a.base addr ≡ true) (λ a. leb a.base addr ≡ false) area.now result }
     ensures within { result ≤ length area.now }
 {
-    area.partition_point(|allocation| allocation.base <= addr)
+    let places = area.len() + 1;
+    let window = 1usize << places.ilog2();
+    let mut count = 0;
+    if window <= area.len() && area[window - 1].base <= addr {
+        count = places - window;
+    }
+    let mut step = window / 2;
+    while 0 < step {
+        let reached = count + step;
+        step /= 2;
+        if area[reached - 1].base <= addr {
+            count = reached;
+        }
+    }
+    count
 }
 
 /// The live allocation of an area that has the `n` bytes from `addr` on.
