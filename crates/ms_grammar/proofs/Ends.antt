@@ -37,10 +37,10 @@ in_row true b x y others p h q = absurd cc
 in_row false true x y others p h q = p
 in_row false false x y others p h q = q h
 
-table_no_end : (rows : List Row) (other : Symbol) (word : Text) → none_ends rows ≡ true → NoEnd other → NoEnd (symbol_in rows other word)
-table_no_end [] other word h o = o
-table_no_end (row ∷ rest) other word h o =
-    in_row (same_symbol row.1 s.EndOfText) (bytes_eq row.0 word) row.1 (symbol_in rest other word) (none_ends rest) refl h (λ others. table_no_end rest other word others o)
+table_no_end : (rows : List Row) (none : Symbol) (word : Text) → none_ends rows ≡ true → NoEnd none → NoEnd (symbol_in rows none word)
+table_no_end [] none word h o = o
+table_no_end (row ∷ rest) none word h o =
+    in_row (same_symbol row.1 s.EndOfText) (bytes_eq row.0 word) row.1 (symbol_in rest none word) (none_ends rest) refl h (λ others. table_no_end rest none word others o)
 
 keywords_no_end : none_ends keywords ≡ true
 unfolding same_symbol

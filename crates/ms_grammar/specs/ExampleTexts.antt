@@ -1,5 +1,5 @@
 -- Texts of the example modules, and of what the grammar refuses.
-use Rattle.std.specs.Prelude.{ℕ, zero, suc, List, [], ◌∷◌, ◌++◌, codes}
+use Rattle.std.specs.Prelude.{ℕ, zero, suc, List, [], ◌∷◌, ◌++◌, codes, map}
 use Rattle.ms_lex.specs.Tokens.{Text}
 
 -- each line, and a newline behind it
@@ -15,6 +15,35 @@ times (suc n) text = text ++ times n text
 -- a function without parameters and without a result, with these lines
 abbrev pub in_function : Text → Text
 in_function text = codes "define void @f() { " ++ text ++ codes " ret void }"
+
+-- every word that the grammar has at a place of its own, and that is no attribute
+abbrev pub quoted_words : List Text
+quoted_words =
+    codes "source_filename" ∷ codes "target" ∷ codes "datalayout" ∷ codes "triple" ∷ codes "attributes" ∷ codes "distinct" ∷ codes "type"
+    ∷ codes "global" ∷ codes "constant" ∷ codes "declare" ∷ codes "define" ∷ codes "void" ∷ codes "ptr" ∷ codes "x" ∷ codes "to" ∷ codes "label"
+    ∷ codes "zeroinitializer" ∷ codes "true" ∷ codes "false" ∷ codes "null" ∷ codes "undef" ∷ codes "poison" ∷ codes "getelementptr" ∷ codes "phi"
+    ∷ codes "icmp" ∷ codes "samesign" ∷ codes "select" ∷ codes "i1" ∷ codes "freeze" ∷ codes "alloca" ∷ codes "load" ∷ codes "store" ∷ codes "tail"
+    ∷ codes "musttail" ∷ codes "notail" ∷ codes "call" ∷ codes "br" ∷ codes "switch" ∷ codes "ret" ∷ codes "unreachable" ∷ codes "add" ∷ codes "sub"
+    ∷ codes "mul" ∷ codes "udiv" ∷ codes "sdiv" ∷ codes "urem" ∷ codes "srem" ∷ codes "shl" ∷ codes "lshr" ∷ codes "ashr" ∷ codes "and" ∷ codes "or"
+    ∷ codes "xor" ∷ codes "trunc" ∷ codes "zext" ∷ codes "sext" ∷ codes "ptrtoint" ∷ codes "inttoptr" ∷ codes "bitcast" ∷ []
+
+-- the word at the end of the head of a function
+abbrev pub at_head : Text → Text
+at_head word = codes "define void @f() " ++ word
+
+-- the words of operations, and of `icmp`, each with what stands behind its flags
+abbrev pub operations : List (Text × Text)
+operations =
+    map (λ word. (word, codes " i8 1, 1")) (
+    codes "add" ∷ codes "sub" ∷ codes "mul" ∷ codes "shl" ∷ codes "lshr" ∷ codes "ashr" ∷ codes "and" ∷ codes "or" ∷ codes "xor" ∷ codes "udiv"
+    ∷ codes "sdiv" ∷ codes "urem" ∷ codes "srem" ∷ [])
+    ++ map (λ word. (word, codes " i8 1 to i8")) (
+    codes "trunc" ∷ codes "zext" ∷ codes "sext" ∷ codes "ptrtoint" ∷ codes "inttoptr" ∷ codes "bitcast" ∷ [])
+    ++ (codes "icmp", codes " eq i8 1, 1") ∷ []
+
+-- an operation with a flag
+abbrev pub flagged : Text → Text × Text → Text
+flagged flag o = in_function (codes "%1 = " ++ o.0 ++ codes " " ++ flag ++ o.1)
 
 -- `main` returns 0
 abbrev pub returns_zero_text : Text
@@ -194,16 +223,16 @@ store_to_shadow_text =
     ∷ codes "}"
     ∷ [])
 
--- the text of an ordinary compiler
-abbrev pub clang_unoptimised_text : Text
-clang_unoptimised_text =
+-- the text of an ordinary compiler, by the first line of its function and the declaration of `malloc`
+abbrev pub clang_text : Text → Text → Text
+clang_text head declared =
     lines (
     codes "; ModuleID = 'a.c'"
     ∷ codes "source_filename = \"a.c\""
     ∷ codes "target triple = \"x86_64-unknown-linux-gnu\""
     ∷ codes "@.str = private unnamed_addr constant [3 x i8] c\"ok\\00\", align 1"
     ∷ codes "; Function Attrs: noinline nounwind optnone uwtable"
-    ∷ codes "define dso_local i32 @main() #0 {"
+    ∷ head
     ∷ codes "  %1 = alloca i32, align 4"
     ∷ codes "  %2 = alloca ptr, align 8"
     ∷ codes "  %3 = alloca i32, align 4"
@@ -249,7 +278,7 @@ clang_unoptimised_text =
     ∷ codes "  call void @free(ptr noundef %25) #4"
     ∷ codes "  ret i32 0"
     ∷ codes "}"
-    ∷ codes "declare noalias ptr @malloc(i64 noundef) #1"
+    ∷ declared
     ∷ codes "declare i32 @puts(ptr noundef) #2"
     ∷ codes "declare void @free(ptr noundef) #1"
     ∷ codes "attributes #0 = { noinline nounwind optnone uwtable \"frame-pointer\"=\"all\" }"
@@ -258,3 +287,11 @@ clang_unoptimised_text =
     ∷ codes "!6 = distinct !{!6, !7}"
     ∷ codes "!7 = !{!\"llvm.loop.mustprogress\"}"
     ∷ [])
+
+-- the text as the compiler writes it
+abbrev pub clang_unoptimised_text : Text
+clang_unoptimised_text = clang_text (codes "define dso_local i32 @main() #0 {") (codes "declare noalias ptr @malloc(i64 noundef) #1")
+
+-- the same with debug metadata attached
+abbrev pub clang_debug_text : Text
+clang_debug_text = clang_text (codes "define dso_local i32 @main() #0 !dbg !6 {") (codes "declare !dbg !6 noalias ptr @malloc(i64 noundef) #1")

@@ -11,7 +11,8 @@ pub mod Lines
 pub mod Functions
 pub mod Modules
 pub mod Texts
-pub mod Answers
+pub mod Bounds
 pub mod ExampleTexts
+pub mod Answers
 pub mod ExampleModules
 pub mod Pieces

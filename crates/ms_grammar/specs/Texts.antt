@@ -1,5 +1,5 @@
 -- What a text reads as, and at which of its tokens, and why, it stops.
-use Rattle.std.specs.Prelude.{◌≡◌, ◌≤◌, ℕ, ◌+◌, ◌^◌, List, [], length, Ok}
+use Rattle.std.specs.Prelude.{◌≡◌, ◌≤◌, ℕ, zero, suc, ◌+◌, ◌^◌, List, [], ◌∷◌, length, Ok}
 use Rattle.ms_lex.specs.declared.kinds.Token.{Token}
 use Rattle.ms_lex.specs.Tokens.{Text, tokens_of}
 use Rattle.ms_lex.specs.Grammar as grammar
@@ -43,3 +43,9 @@ abbrev pub Stops : Form → Text → ℕ → Refusal → Type 0
 Stops form text k cause =
     (tokens : List Token) × HasTokens form text tokens
     × ((rest : List Lexeme) × (k + length rest ≡ length tokens) × StopsAt (module_rule form) (lexemes_of text tokens) cause rest)
+
+-- the byte at which token k begins; at the end of the text that is its length
+abbrev pub place_in : Text → List Token → ℕ → ℕ
+place_in text [] k = length text
+place_in text (t ∷ rest) zero = t.start
+place_in text (t ∷ rest) (suc k) = place_in text rest k

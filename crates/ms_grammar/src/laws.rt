@@ -1,13 +1,20 @@
 //! What holds of every text.
 
-ghost use Rattle.std.specs.Prelude.{◌≡◌, ◌≤◌, ◌↔◌, ◌⊎◌, ℕ, List, length};
+ghost use Rattle.std.specs.Prelude.{◌≡◌, ◌≤◌, ◌↔◌, ◌⊎◌, ℕ, ◌+◌, List, length};
 ghost use Rattle.ms_lex.specs.declared.kinds.Token.{Token};
 ghost use Rattle.ms_lex.specs.Tokens.{Text};
+ghost use Rattle.ms_ir.specs.declared.syntax.Func.{Func};
 ghost use Rattle.ms_ir.specs.declared.syntax.Module.{Module};
 ghost use Rattle.ms_grammar.specs.declared.forms.Form.{Form};
+ghost use Rattle.ms_grammar.specs.declared.forms.Form.TheVariants.{Plain, Instrumented};
 ghost use Rattle.ms_grammar.specs.declared.refusals.Refusal.{Refusal};
 ghost use Rattle.ms_grammar.specs.Answers.{answer_of, reads, stops};
-ghost use Rattle.ms_grammar.specs.Texts.{HasTokens, Reads, Stops, max_bytes};
+ghost use Rattle.ms_grammar.specs.Bodies.{max_instructions};
+ghost use Rattle.ms_grammar.specs.Bounds.{WithinLimits};
+ghost use Rattle.ms_grammar.specs.Functions.{function};
+ghost use Rattle.ms_grammar.specs.Lexemes.{Lexeme};
+ghost use Rattle.ms_grammar.specs.Modules.{instructions_of};
+ghost use Rattle.ms_grammar.specs.Texts.{HasTokens, Reads, ReadsUpTo, Stops, max_bytes};
 
 /// A text reads as one module, or stops at one token for one cause, and never both.
 pub fn one_reading_or_stop()
@@ -26,4 +33,16 @@ pub fn answers_are_exact()
         → length text ≤ max_bytes form → (answer_of form text ≡ reads m) ↔ Reads form text m }
     ensures stopped { (form : Form) (text : Text) (k : ℕ) (c : Refusal)
         → length text ≤ max_bytes form → (answer_of form text ≡ stops k c) ↔ Stops form text k c }
+{}
+
+/// What is read keeps the limits on what is counted.
+pub fn limits_are_kept()
+    ensures of_a_module { (form : Form) (text : Text) (m : Module) → Reads form text m → WithinLimits form m }
+    ensures of_a_function { (form : Form) (before : ℕ) (ts : List Lexeme) (f : Func) (rest : List Lexeme)
+        → before ≤ max_instructions form → ReadsUpTo (function form before) ts f rest → before + instructions_of f.blocks ≤ max_instructions form }
+{}
+
+/// Every text of the plain form is one of the instrumented form, of the same module.
+pub fn plain_is_instrumented()
+    ensures same_module { (text : Text) (m : Module) → Reads Plain text m → Reads Instrumented text m }
 {}

@@ -2,22 +2,6 @@ use Rattle.std.proofs.Common.{refl}
 use Rattle.ms_grammar.specs.Pieces.{pieces}
 use Rattle.ms_grammar.proofs.examples.texts_stop.Goals as goal
 
-pub returns-clause-open_function : goal.returns-clause-open_function
-unfolding pieces
-returns-clause-open_function c = refl
-
-pub returns-clause-floating_point : goal.returns-clause-floating_point
-unfolding pieces
-returns-clause-floating_point c = refl
-
-pub returns-clause-reserved_result : goal.returns-clause-reserved_result
-unfolding pieces
-returns-clause-reserved_result c = refl
-
-pub returns-clause-second_number_first : goal.returns-clause-second_number_first
-unfolding pieces
-returns-clause-second_number_first c = refl
-
 pub returns-clause-empty_text : goal.returns-clause-empty_text
 unfolding pieces
 returns-clause-empty_text c = refl
