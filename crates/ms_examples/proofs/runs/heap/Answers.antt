@@ -1,0 +1,21 @@
+use Rattle.std.proofs.Common.{refl, ◌∙◌, [], ◌∷◌}
+use Rattle.ms_bits.specs.Words.{words}
+use Rattle.ms_ir.specs.ExampleExternals.{heap_filled, freed}
+use Rattle.ms_ir.specs.ExampleCalls as calls
+use Rattle.ms_ir.specs.ExampleParts.{defaults, does, call, local}
+use Rattle.ms_examples.specs.Programs.{branch_on_zeroed}
+use Rattle.ms_laws.specs.Formulas.{formulas}
+use Rattle.ms_laws.proofs.ExactRules.{computed}
+use Rattle.ms_examples.proofs.runs.heap.Goals as goal
+
+pub returns-clause-filled_heap : goal.returns-clause-filled_heap
+unfolding words formulas
+returns-clause-filled_heap c = computed heap_filled defaults ∙ refl
+
+pub returns-clause-zeroed_byte : goal.returns-clause-zeroed_byte
+unfolding words formulas
+returns-clause-zeroed_byte c = computed branch_on_zeroed defaults ∙ refl
+
+pub returns-clause-ended_twice : goal.returns-clause-ended_twice
+unfolding words formulas
+returns-clause-ended_twice c = computed (freed (does (call calls.free (local 1 ∷ [])) ∷ [])) defaults ∙ refl

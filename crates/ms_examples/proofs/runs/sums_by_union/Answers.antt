@@ -1,0 +1,28 @@
+use Rattle.std.proofs.Common.{refl, ◌∙◌, [], ◌∷◌}
+use Rattle.ms_bits.specs.Words.{words}
+use Rattle.ms_ir.specs.ExampleModules.{lost_in_addition, carry_of_undef}
+use Rattle.ms_ir.specs.ExampleParts.{defaults, filled}
+use Rattle.ms_examples.specs.Programs.{indexed_by_undef}
+use Rattle.ms_laws.specs.Formulas.{formulas}
+use Rattle.ms_laws.proofs.ExactRules.{computed}
+use Rattle.ms_examples.proofs.runs.sums_by_union.Goals as goal
+
+pub returns-clause-lost : goal.returns-clause-lost
+unfolding words formulas
+returns-clause-lost c = computed lost_in_addition defaults ∙ refl
+
+pub returns-clause-lost_under_zeros : goal.returns-clause-lost_under_zeros
+unfolding words formulas
+returns-clause-lost_under_zeros c = computed lost_in_addition (filled (0 ∷ [])) ∙ refl
+
+pub returns-clause-lost_under_ones : goal.returns-clause-lost_under_ones
+unfolding words formulas
+returns-clause-lost_under_ones c = computed lost_in_addition (filled (1 ∷ [])) ∙ refl
+
+pub returns-clause-one_bit : goal.returns-clause-one_bit
+unfolding words formulas
+returns-clause-one_bit c = computed carry_of_undef defaults ∙ refl
+
+pub returns-clause-index : goal.returns-clause-index
+unfolding words formulas
+returns-clause-index c = computed indexed_by_undef defaults ∙ refl
