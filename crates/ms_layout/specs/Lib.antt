@@ -1,0 +1,5 @@
+pub mod Extents
+pub mod Parts
+pub mod Places
+pub mod Rooted
+pub mod Searches
