@@ -1,0 +1,17 @@
+pub mod NameTests
+pub mod TestedPaths
+pub mod FlowPaths
+pub mod TypeShapes
+pub mod Finding
+pub mod AtInstructions
+pub mod Refused
+pub mod SetValues
+pub mod Joining
+pub mod ByParts
+pub mod Starts
+pub mod TypedValues
+pub mod NextFrames
+pub mod JumpFrames
+pub mod Moves
+pub mod Readings
+pub mod SmallNumbers
