@@ -1,0 +1,183 @@
+//! Initialisers (LLVM Language Reference, "Complex Constants").
+
+ghost use Rattle.std.specs.Prelude.{◌≡◌};
+ghost use Rattle.ms_grammar.specs.Steps.{items, refuse};
+ghost use Rattle.ms_grammar.specs.Values as spec;
+ghost use Rattle.ms_cursor.specs.Reading.{Gives, front, run};
+ghost use Rattle.ms_read_values.specs.Narrow.{IsNarrow};
+ghost use Rattle.ms_read_values.specs.Parts.{part_of};
+
+use crate::types::{opens, packed_brace, type_to};
+use crate::values::value_within;
+use ms_bits::List;
+use ms_cursor::Tokens;
+use ms_grammar::{Form, Limit, Refusal, Symbol};
+use ms_ir::{Init, Ty};
+use std::alloc::Global;
+
+/// What opens no bracket.
+fn flat_init(
+    alloc: Global,
+    tokens: &mut Tokens<'_>,
+    form: Form,
+    depth: u8,
+    ty: &Ty,
+) -> Result<Init, Refusal>
+    requires { IsNarrow ty.now }
+    ensures { Gives (run (spec.flat_init form depth ty.now (front tokens.old).symbol) tokens.old) result tokens.new }
+{
+    match tokens.peek() {
+        Symbol::ZeroInitializer => {
+            tokens.advance();
+            Ok(Init::Zero)
+        }
+        Symbol::CText => {
+            let bytes = tokens.lexeme().name(alloc)?;
+            tokens.advance();
+            Ok(Init::Text(bytes))
+        }
+        _ => {
+            let value = value_within(alloc, tokens, form, depth, false, ty)?;
+            Ok(Init::Value(value))
+        }
+    }
+}
+
+/// Takes an initialiser of a type, below so many arrays and structs that may still open.
+///
+/// # Errors
+///
+/// `Limit(Types)` at the token that opens one more.
+#[cycle(inits)]
+#[tactic(auto, using(crate::proofs::Depths::init_flat, crate::proofs::Depths::init_ends, crate::proofs::Depths::init_opens))]
+pub fn init_to(
+    alloc: Global,
+    tokens: &mut Tokens<'_>,
+    form: Form,
+    depth: u8,
+    ty: &Ty,
+) -> Result<Init, Refusal>
+    requires { IsNarrow ty.now }
+    ensures { Gives (run (spec.init_to form depth ty.now) tokens.old) result tokens.new }
+{
+    if !opens(tokens.peek()) {
+        return Ok(flat_init(alloc, tokens, form, depth, ty)?);
+    }
+    if depth == 0 {
+        return Err(Refusal::Limit(Limit::Types));
+    }
+    Ok(nested_init(alloc, tokens, form, depth - 1)?)
+}
+
+/// An initialiser that opens an array or a struct.
+#[cycle(inits)]
+fn nested_init(
+    alloc: Global,
+    tokens: &mut Tokens<'_>,
+    form: Form,
+    depth: u8,
+) -> Result<Init, Refusal>
+    ensures { Gives (run (spec.nested_init (part_of form depth) refuse (front tokens.old).symbol) tokens.old) result tokens.new }
+{
+    match tokens.peek() {
+        Symbol::OpenBracket => {
+            tokens.advance();
+            Ok(array_init(alloc, tokens, form, depth)?)
+        }
+        Symbol::OpenBrace => {
+            tokens.advance();
+            Ok(struct_init(alloc, tokens, form, depth)?)
+        }
+        Symbol::Less => {
+            tokens.advance();
+            Ok(packed_init(alloc, tokens, form, depth)?)
+        }
+        _ => Err(tokens.refusal()),
+    }
+}
+
+#[cycle(inits)]
+#[tactic(auto, unfolding(ms_grammar::specs::Values::array_init))]
+fn array_init(
+    alloc: Global,
+    tokens: &mut Tokens<'_>,
+    form: Form,
+    depth: u8,
+) -> Result<Init, Refusal>
+    ensures { Gives (run (spec.array_init (part_of form depth)) tokens.old) result tokens.new }
+{
+    let all = parts(alloc, tokens, form, depth, Symbol::CloseBracket)?;
+    Ok(Init::Array(all))
+}
+
+#[cycle(inits)]
+#[tactic(auto, unfolding(ms_grammar::specs::Values::struct_init))]
+fn struct_init(
+    alloc: Global,
+    tokens: &mut Tokens<'_>,
+    form: Form,
+    depth: u8,
+) -> Result<Init, Refusal>
+    ensures { Gives (run (spec.struct_init (part_of form depth)) tokens.old) result tokens.new }
+{
+    let all = parts(alloc, tokens, form, depth, Symbol::CloseBrace)?;
+    Ok(Init::Struct(false, all))
+}
+
+#[cycle(inits)]
+#[tactic(auto, unfolding(ms_grammar::specs::Values::packed_init))]
+fn packed_init(
+    alloc: Global,
+    tokens: &mut Tokens<'_>,
+    form: Form,
+    depth: u8,
+) -> Result<Init, Refusal>
+    ensures { Gives (run (spec.packed_init (part_of form depth)) tokens.old) result tokens.new }
+{
+    packed_brace(tokens)?;
+    let all = parts(alloc, tokens, form, depth, Symbol::CloseBrace)?;
+    tokens.word(Symbol::Greater)?;
+    Ok(Init::Struct(true, all))
+}
+
+/// A type and the initialiser behind it.
+#[cycle(inits)]
+#[tactic(auto, unfolding(crate::specs::Parts::part_of))]
+fn part(
+    alloc: Global,
+    tokens: &mut Tokens<'_>,
+    form: Form,
+    depth: u8,
+) -> Result<(Ty, Init), Refusal>
+    ensures { Gives (run (part_of form depth) tokens.old) result tokens.new }
+{
+    let ty = type_to(alloc, tokens, form, depth)?;
+    let init = init_to(alloc, tokens, form, depth, &ty)?;
+    Ok((ty, init))
+}
+
+/// Parts with commas between, up to the closing symbol.
+#[cycle(inits)]
+#[tactic(auto, using(ms_cursor::proofs::ItemLoops::more_goes, ms_cursor::proofs::ItemLoops::more_stops, ms_cursor::proofs::ItemLoops::more_ends, ms_cursor::proofs::ItemLoops::items_go, ms_cursor::proofs::ItemLoops::items_stop, ms_cursor::proofs::ItemLoops::items_empty, ms_cursor::proofs::ItemLoops::turn_shorter))]
+fn parts(
+    alloc: Global,
+    tokens: &mut Tokens<'_>,
+    form: Form,
+    depth: u8,
+    closing: Symbol,
+) -> Result<List<(Ty, Init)>, Refusal>
+    ensures { Gives (run (items closing (part_of form depth)) tokens.old) result tokens.new }
+{
+    let mut found = Vec::new(alloc);
+    if tokens.sees(closing) {
+        tokens.advance();
+        return Ok(List::from_vec(found));
+    }
+    found.push(part(alloc, tokens, form, depth)?)?;
+    'commas: while tokens.sees(Symbol::Comma) {
+        tokens.advance();
+        found.push(part(alloc, tokens, form, depth)?)?;
+    }
+    tokens.word(closing)?;
+    Ok(List::from_vec(found))
+}

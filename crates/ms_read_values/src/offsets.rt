@@ -1,0 +1,147 @@
+//! Constant `getelementptr` (LLVM Language Reference, "Constant Expressions").
+
+ghost use Rattle.std.specs.Prelude.{◌≡◌, IfOk, length, true};
+ghost use Rattle.ms_lex.specs.Grammar.{give};
+ghost use Rattle.ms_grammar.specs.Steps.{comma_begins};
+ghost use Rattle.ms_grammar.specs.Values as spec;
+ghost use Rattle.ms_cursor.specs.Reading.{Gives, Judges, run};
+ghost use Rattle.ms_read_values.specs.Narrow.{IsWidth};
+
+use crate::numbers::number;
+use crate::types::{int_type_of, type_to};
+use ms_bits::List;
+use ms_cursor::{Lexeme, Tokens, Turn, global, repeat, with_last};
+use ms_grammar::{Form, Limit, Refusal, Symbol};
+use ms_ir::{Operand, Ty};
+use std::alloc::Global;
+
+fn is_step_word(symbol: Symbol) -> bool
+    ensures { result ≡ spec.is_step_word symbol }
+{
+    matches!(symbol, Symbol::InBounds | Symbol::Nuw | Symbol::Nusw)
+}
+
+/// The words behind `getelementptr` that are read over.
+struct StepWords;
+
+impl Turn for StepWords {
+    type State = ();
+
+    ghost begins = { λ _. spec.step_word_begins };
+
+    ghost body = { λ _ u _. give u };
+
+    fn goes_on(&self, _alloc: Global, _state: &(), first: &Lexeme<'_>) -> Result<bool, Refusal> {
+        Ok(is_step_word(first.symbol()))
+    }
+
+    fn turn(
+        &self,
+        _alloc: Global,
+        _state: (),
+        _first: &Lexeme<'_>,
+        _tokens: &mut Tokens<'_>,
+    ) -> Result<(), Refusal> {
+        Ok(())
+    }
+}
+
+/// Reads over the words that may stand behind `getelementptr`.
+#[tactic(auto, unfolding(ms_grammar::specs::Values::step_words))]
+pub fn step_words(alloc: Global, tokens: &mut Tokens<'_>) -> Result<(), Refusal>
+    ensures { Gives (run spec.step_words tokens.old) result tokens.new }
+{
+    repeat(alloc, tokens, &StepWords, ())?;
+    Ok(())
+}
+
+/// The type of an index in front of which so many stand.
+///
+/// # Errors
+///
+/// `Limit(Indices)` where 64 stand there.
+pub fn index_type_of(before: usize, token: &Lexeme<'_>) -> Result<u8, Refusal>
+    ensures exact { Judges (spec.index_type_of before token.now) result }
+    ensures narrow { IfOk result IsWidth }
+{
+    let width = int_type_of(token)?;
+    if before < 64 {
+        Ok(width)
+    } else {
+        Err(Refusal::Limit(Limit::Indices))
+    }
+}
+
+/// An index with its type.
+#[tactic(auto, unfolding(ms_grammar::specs::Values::constant_index))]
+fn constant_index(
+    tokens: &mut Tokens<'_>,
+    found: List<(Ty, u64)>,
+) -> Result<List<(Ty, u64)>, Refusal>
+    ensures { Gives (run (spec.constant_index found) tokens.old) result tokens.new }
+{
+    let width = index_type_of(found.as_slice().len(), &tokens.lexeme())?;
+    tokens.advance();
+    let n = number(tokens, width)?;
+    Ok(with_last(found, (Ty::Int(width), n))?)
+}
+
+/// The indices, each behind a comma.
+struct ConstantIndices;
+
+impl Turn for ConstantIndices {
+    type State = List<(Ty, u64)>;
+
+    ghost begins = { λ _. comma_begins (λ _. true) };
+
+    ghost body = { λ _ found _. spec.constant_index found };
+
+    fn goes_on(
+        &self,
+        _alloc: Global,
+        _state: &List<(Ty, u64)>,
+        first: &Lexeme<'_>,
+    ) -> Result<bool, Refusal> {
+        Ok(first.is(Symbol::Comma))
+    }
+
+    fn turn(
+        &self,
+        _alloc: Global,
+        state: List<(Ty, u64)>,
+        _first: &Lexeme<'_>,
+        tokens: &mut Tokens<'_>,
+    ) -> Result<List<(Ty, u64)>, Refusal> {
+        Ok(constant_index(tokens, state)?)
+    }
+}
+
+#[tactic(auto, unfolding(ms_grammar::specs::Values::constant_indices))]
+fn constant_indices(alloc: Global, tokens: &mut Tokens<'_>) -> Result<List<(Ty, u64)>, Refusal>
+    ensures { Gives (run spec.constant_indices tokens.old) result tokens.new }
+{
+    let none = List::from_vec(Vec::new(alloc));
+    let indices = repeat(alloc, tokens, &ConstantIndices, none)?;
+    Ok(indices)
+}
+
+/// What stands behind `getelementptr` in a constant.
+#[tactic(auto, unfolding(ms_grammar::specs::Values::offset))]
+pub fn offset(
+    alloc: Global,
+    tokens: &mut Tokens<'_>,
+    form: Form,
+    depth: u8,
+) -> Result<Operand, Refusal>
+    ensures { Gives (run (spec.offset form depth) tokens.old) result tokens.new }
+{
+    step_words(alloc, tokens)?;
+    tokens.word(Symbol::OpenParen)?;
+    let ty = type_to(alloc, tokens, form, depth)?;
+    tokens.word(Symbol::Comma)?;
+    tokens.word(Symbol::PtrType)?;
+    let base = global(alloc, tokens, form)?;
+    let indices = constant_indices(alloc, tokens)?;
+    tokens.word(Symbol::CloseParen)?;
+    Ok(Operand::Offset(ty, base, indices))
+}

@@ -1,0 +1,297 @@
+//! Types (LLVM Language Reference, "Type System").
+
+ghost use Rattle.std.specs.Prelude.{◌≡◌, ◌≤◌, IfOk, IfSome};
+ghost use Rattle.ms_grammar.specs.declared.symbols.Symbol.TheVariants.{CloseBrace};
+ghost use Rattle.ms_grammar.specs.Steps.{items};
+ghost use Rattle.ms_grammar.specs.Types as spec;
+ghost use Rattle.ms_cursor.specs.Reading.{Gives, Judges, front, run};
+ghost use Rattle.ms_read_values.specs.Narrow.{IsNarrow, IsWidth};
+
+use ms_bits::{Boxed, List};
+use ms_cursor::{Lexeme, Tokens, local, same_symbol};
+use ms_grammar::{Form, Limit, Outside, Refusal, Symbol};
+use ms_ir::Ty;
+use std::alloc::Global;
+
+/// The width of the integer type that a token is.
+pub fn int_type_of(token: &Lexeme<'_>) -> Result<u8, Refusal>
+    ensures exact { Judges (spec.int_type_of token.now) result }
+    ensures narrow { IfOk result IsWidth }
+{
+    if same_symbol(token.symbol(), Symbol::IntType) {
+        Ok(token.width())
+    } else {
+        Err(token.refusal())
+    }
+}
+
+/// Takes an integer type, by its width.
+#[tactic(auto, unfolding(ms_grammar::specs::Types::int_type))]
+pub fn int_type(tokens: &mut Tokens<'_>) -> Result<u8, Refusal>
+    ensures exact { Gives (run spec.int_type tokens.old) result tokens.new }
+    ensures narrow { IfOk result IsWidth }
+{
+    let width = int_type_of(&tokens.lexeme())?;
+    tokens.advance();
+    Ok(width)
+}
+
+/// The type of a value that a token is.
+///
+/// # Errors
+///
+/// `Outside(AggregateValue)` where it begins an array or a struct or names a type.
+pub fn value_type_of(token: &Lexeme<'_>) -> Result<Ty, Refusal>
+    ensures exact { Judges (spec.value_type_by token.now.symbol token.now) result }
+    ensures narrow { IfOk result IsNarrow }
+{
+    match token.symbol() {
+        Symbol::PtrType => Ok(Ty::Ptr),
+        Symbol::IntType => Ok(Ty::Int(token.width())),
+        Symbol::OpenBracket
+        | Symbol::OpenBrace
+        | Symbol::Less
+        | Symbol::Local
+        | Symbol::NumberedLocal => Err(Refusal::Outside(Outside::AggregateValue)),
+        _ => Err(token.refusal()),
+    }
+}
+
+/// Takes the type of a value: `iN` or `ptr`.
+#[tactic(auto, unfolding(ms_grammar::specs::Types::value_type))]
+pub fn value_type(tokens: &mut Tokens<'_>) -> Result<Ty, Refusal>
+    ensures exact { Gives (run spec.value_type tokens.old) result tokens.new }
+    ensures narrow { IfOk result IsNarrow }
+{
+    let ty = value_type_of(&tokens.lexeme())?;
+    tokens.advance();
+    Ok(ty)
+}
+
+/// Takes `void`, which is no type, or the type of a value.
+#[tactic(auto, unfolding(ms_grammar::specs::Types::result_type))]
+pub fn result_type(tokens: &mut Tokens<'_>) -> Result<Option<Ty>, Refusal>
+    ensures exact { Gives (run spec.result_type tokens.old) result tokens.new }
+    ensures narrow { IfOk result (λ ty. IfSome ty IsNarrow) }
+{
+    match tokens.peek() {
+        Symbol::Void => {
+            tokens.advance();
+            Ok(None)
+        }
+        _ => {
+            let ty = value_type(tokens)?;
+            Ok(Some(ty))
+        }
+    }
+}
+
+/// How many items an array has, by its token.
+fn count_of(token: &Lexeme<'_>) -> Result<u64, Refusal>
+    ensures { Judges (spec.count_of token.now) result }
+{
+    if !token.is(Symbol::Number) {
+        return Err(token.refusal());
+    }
+    match token.number() {
+        Some(n) => {
+            if n >= 0 {
+                Ok(n as u64)
+            } else {
+                Err(token.refusal())
+            }
+        }
+        None => Err(token.refusal()),
+    }
+}
+
+#[tactic(auto, unfolding(ms_grammar::specs::Types::count))]
+fn count(tokens: &mut Tokens<'_>) -> Result<u64, Refusal>
+    ensures { Gives (run spec.count tokens.old) result tokens.new }
+{
+    let n = count_of(&tokens.lexeme())?;
+    tokens.advance();
+    Ok(n)
+}
+
+/// What opens no bracket.
+fn flat(alloc: Global, tokens: &mut Tokens<'_>, form: Form) -> Result<Ty, Refusal>
+    ensures exact { Gives (run (spec.flat form (front tokens.old).symbol) tokens.old) result tokens.new }
+    ensures narrow { IfOk result IsNarrow }
+{
+    match tokens.peek() {
+        Symbol::PtrType | Symbol::IntType => {
+            let ty = value_type(tokens)?;
+            Ok(ty)
+        }
+        Symbol::Local | Symbol::NumberedLocal => {
+            let name = local(alloc, tokens, form)?;
+            Ok(Ty::Named(name))
+        }
+        _ => Err(tokens.refusal()),
+    }
+}
+
+pub fn opens(symbol: Symbol) -> bool
+    ensures { result ≡ spec.opens symbol }
+{
+    matches!(
+        symbol,
+        Symbol::OpenBracket | Symbol::OpenBrace | Symbol::Less
+    )
+}
+
+fn too_deep(alloc: Global, tokens: &mut Tokens<'_>, form: Form) -> Result<Ty, Refusal>
+    ensures exact { Gives (run (spec.too_deep form (front tokens.old).symbol) tokens.old) result tokens.new }
+    ensures narrow { IfOk result IsNarrow }
+{
+    if opens(tokens.peek()) {
+        return Err(Refusal::Limit(Limit::Types));
+    }
+    let ty = flat(alloc, tokens, form)?;
+    Ok(ty)
+}
+
+fn brace_of(token: &Lexeme<'_>) -> Result<(), Refusal>
+    ensures { Judges (spec.brace_of token.now) result }
+{
+    if token.is(Symbol::OpenBrace) {
+        return Ok(());
+    }
+    if token.is(Symbol::Number) {
+        return Err(Refusal::Outside(Outside::Vector));
+    }
+    Err(token.refusal())
+}
+
+/// Takes `{` behind `<`.
+///
+/// # Errors
+///
+/// `Outside(Vector)` where a number stands there.
+#[tactic(auto, unfolding(ms_grammar::specs::Types::packed_brace))]
+pub fn packed_brace(tokens: &mut Tokens<'_>) -> Result<(), Refusal>
+    ensures { Gives (run spec.packed_brace tokens.old) result tokens.new }
+{
+    brace_of(&tokens.lexeme())?;
+    tokens.advance();
+    Ok(())
+}
+
+/// Takes a type in which at most so many arrays and structs may still open.
+///
+/// # Errors
+///
+/// `Limit(Types)` at the token that opens one more.
+#[cycle(types)]
+#[tactic(auto, using(crate::proofs::Depths::type_ends, crate::proofs::Depths::type_nests))]
+pub fn type_to(alloc: Global, tokens: &mut Tokens<'_>, form: Form, depth: u8) -> Result<Ty, Refusal>
+    ensures exact { Gives (run (spec.type_to form depth) tokens.old) result tokens.new }
+    ensures narrow { IfOk result IsNarrow }
+{
+    if depth == 0 {
+        return Ok(too_deep(alloc, tokens, form)?);
+    }
+    Ok(nested(alloc, tokens, form, depth - 1)?)
+}
+
+/// A type by its first token, with its parts.
+#[cycle(types)]
+fn nested(alloc: Global, tokens: &mut Tokens<'_>, form: Form, depth: u8) -> Result<Ty, Refusal>
+    ensures exact { Gives (run (spec.nested form (spec.type_to form depth) (front tokens.old).symbol) tokens.old) result tokens.new }
+    ensures narrow { IfOk result IsNarrow }
+{
+    match tokens.peek() {
+        Symbol::OpenBracket => {
+            tokens.advance();
+            Ok(array_rest(alloc, tokens, form, depth)?)
+        }
+        Symbol::OpenBrace => {
+            tokens.advance();
+            Ok(struct_rest(alloc, tokens, form, depth)?)
+        }
+        Symbol::Less => {
+            tokens.advance();
+            Ok(packed_rest(alloc, tokens, form, depth)?)
+        }
+        _ => Ok(flat(alloc, tokens, form)?),
+    }
+}
+
+#[cycle(types)]
+#[tactic(auto, unfolding(ms_grammar::specs::Types::array_rest))]
+fn array_rest(alloc: Global, tokens: &mut Tokens<'_>, form: Form, depth: u8) -> Result<Ty, Refusal>
+    ensures exact { Gives (run (spec.array_rest (spec.type_to form depth)) tokens.old) result tokens.new }
+    ensures narrow { IfOk result IsNarrow }
+{
+    let n = count(tokens)?;
+    tokens.word(Symbol::X)?;
+    let item = type_to(alloc, tokens, form, depth)?;
+    tokens.word(Symbol::CloseBracket)?;
+    Ok(Ty::Array(n, Boxed::new(alloc, item)?))
+}
+
+#[cycle(types)]
+#[tactic(auto, unfolding(ms_grammar::specs::Types::struct_rest))]
+fn struct_rest(alloc: Global, tokens: &mut Tokens<'_>, form: Form, depth: u8) -> Result<Ty, Refusal>
+    ensures exact { Gives (run (spec.struct_rest (spec.type_to form depth)) tokens.old) result tokens.new }
+    ensures narrow { IfOk result IsNarrow }
+{
+    let all = fields(alloc, tokens, form, depth)?;
+    Ok(Ty::Struct(false, all))
+}
+
+#[cycle(types)]
+#[tactic(auto, unfolding(ms_grammar::specs::Types::packed_rest))]
+fn packed_rest(alloc: Global, tokens: &mut Tokens<'_>, form: Form, depth: u8) -> Result<Ty, Refusal>
+    ensures exact { Gives (run (spec.packed_rest (spec.type_to form depth)) tokens.old) result tokens.new }
+    ensures narrow { IfOk result IsNarrow }
+{
+    packed_brace(tokens)?;
+    let all = fields(alloc, tokens, form, depth)?;
+    tokens.word(Symbol::Greater)?;
+    Ok(Ty::Struct(true, all))
+}
+
+/// Types with commas between, up to `}`.
+#[cycle(types)]
+#[tactic(auto, using(ms_cursor::proofs::ItemLoops::more_goes, ms_cursor::proofs::ItemLoops::more_stops, ms_cursor::proofs::ItemLoops::more_ends, ms_cursor::proofs::ItemLoops::items_go, ms_cursor::proofs::ItemLoops::items_stop, ms_cursor::proofs::ItemLoops::items_empty, ms_cursor::proofs::ItemLoops::turn_shorter))]
+fn fields(
+    alloc: Global,
+    tokens: &mut Tokens<'_>,
+    form: Form,
+    depth: u8,
+) -> Result<List<Ty>, Refusal>
+    ensures { Gives (run (items CloseBrace (spec.type_to form depth)) tokens.old) result tokens.new }
+{
+    let mut found = Vec::new(alloc);
+    if tokens.sees(Symbol::CloseBrace) {
+        tokens.advance();
+        return Ok(List::from_vec(found));
+    }
+    found.push(type_to(alloc, tokens, form, depth)?)?;
+    'commas: while tokens.sees(Symbol::Comma) {
+        tokens.advance();
+        found.push(type_to(alloc, tokens, form, depth)?)?;
+    }
+    tokens.word(Symbol::CloseBrace)?;
+    Ok(List::from_vec(found))
+}
+
+/// Takes the struct that a named type is.
+#[tactic(auto, unfolding(ms_grammar::specs::Types::struct_type))]
+pub fn struct_type(alloc: Global, tokens: &mut Tokens<'_>, form: Form) -> Result<Ty, Refusal>
+    ensures { Gives (run (spec.struct_type form) tokens.old) result tokens.new }
+{
+    match tokens.peek() {
+        Symbol::OpenBrace => {
+            tokens.advance();
+            Ok(struct_rest(alloc, tokens, form, 31)?)
+        }
+        Symbol::Less => {
+            tokens.advance();
+            Ok(packed_rest(alloc, tokens, form, 31)?)
+        }
+        _ => Err(tokens.refusal()),
+    }
+}
