@@ -1,5 +1,5 @@
 #!/usr/bin/env bash
-# Instructions that `ms_planes::Planes` takes to find that an access is good, and to load, with 10, 10,000 and 1,000,000 live
+# Instructions that `ms_planes::Planes` takes to find that an access is good, and to load a word and its shadow, with 10, 10,000 and 1,000,000 live
 # allocations, and what poisoning and copying take for each byte.
 #
 # The program that calls it is made in a temporary repository, beside copies of this repository's crates.
@@ -38,7 +38,7 @@ fn fill(planes: &mut Planes, count: u64, size: u64) -> bool {
     true
 }
 
-/// Finds that addresses all over the blocks are good, loads there so many times, and sums the words.
+/// Finds that addresses all over the blocks are good, loads words and shadows there so many times, and sums them.
 fn load(planes: &Planes, count: u64, times: u64, loads: u64) -> u64 {
     let mut sum = 0u64;
     let mut place = 0u64;
@@ -46,8 +46,9 @@ fn load(planes: &Planes, count: u64, times: u64, loads: u64) -> u64 {
         place = place.wrapping_mul(6364136223846793005).wrapping_add(1442695040888963407);
         let addr = HEAP + 16 * ((place >> 33) % count.max(1)) % 0x10000000;
         if planes.covers(addr, 8) {
+            sum = sum.wrapping_add(1);
             for _ in 0..loads {
-                sum = sum.wrapping_add(planes.load(addr, 8));
+                sum = sum.wrapping_add(planes.load(addr, 8)).wrapping_add(planes.load_shadow(addr, 8));
             }
         }
     }
@@ -100,7 +101,7 @@ for blocks in 10 10000 1000000; do
     none=$(count "$blocks" 16 0 0 0)
     find=$(count "$blocks" 16 100000 0 0)
     load=$(count "$blocks" 16 100000 1 0)
-    echo "$blocks blocks: $(python3 -c "print(f'{($find - $none) / 100000:.1f} instructions to find that an access is good, {($load - $find) / 100000:.1f} to load')")"
+    echo "$blocks blocks: $(python3 -c "print(f'{($find - $none) / 100000:.1f} instructions to find that an access is good, {($load - $find) / 100000:.1f} to load a word and its shadow')")"
 done
 none=$(count 1 1048576 0 0 0)
 some=$(count 1 1048576 0 0 16)
