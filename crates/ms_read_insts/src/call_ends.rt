@@ -1,0 +1,90 @@
+//! What stands behind the arguments of a call: attributes, perhaps a debug record, and what is attached.
+
+ghost use Rattle.std.specs.Prelude.{◌≡◌};
+ghost use Rattle.ms_grammar.specs.Insts as spec;
+ghost use Rattle.ms_cursor.specs.Reading.{Gives, run};
+
+use ms_cursor::{Lexeme, Tokens, Turn, repeat};
+use ms_grammar::{Form, Outside, Refusal, Symbol};
+use ms_read_skipped::{attribute_rest, balanced, is_attribute, suffixes_from};
+use std::alloc::Global;
+
+/// Reads on behind a debug group. It is a record where `(` is behind it, and else an attribute.
+#[tactic(auto, unfolding(ms_grammar::specs::Insts::debug_rest))]
+fn debug_rest(alloc: Global, tokens: &mut Tokens<'_>, form: Form) -> Result<bool, Refusal>
+    ensures { Gives (run (spec.debug_rest form) tokens.old) result tokens.new }
+{
+    if !tokens.sees(Symbol::OpenParen) {
+        return Ok(false);
+    }
+    tokens.advance();
+    balanced(alloc, tokens, form, Symbol::CloseParen)?;
+    Ok(true)
+}
+
+/// Reads on behind the first token of an attribute or a record, and finds whether it is a record.
+fn call_attribute(
+    alloc: Global,
+    tokens: &mut Tokens<'_>,
+    form: Form,
+    symbol: Symbol,
+) -> Result<bool, Refusal>
+    ensures { Gives (run (spec.call_attribute form symbol) tokens.old) result tokens.new }
+{
+    match symbol {
+        Symbol::DebugGroup => Ok(debug_rest(alloc, tokens, form)?),
+        _ => {
+            attribute_rest(alloc, tokens, form, symbol)?;
+            Ok(false)
+        }
+    }
+}
+
+/// Attributes up to a record. The state is whether a record was read.
+#[derive(Clone, Copy)]
+struct CallAttributes {
+    form: Form,
+}
+
+impl Turn for CallAttributes {
+    type State = bool;
+
+    ghost use Rattle.ms_grammar.specs.Insts.{call_attribute, call_attribute_begins};
+
+    ghost begins = { λ rule. call_attribute_begins };
+
+    ghost body = { λ rule ended t. call_attribute rule.form t.symbol };
+
+    fn goes_on(&self, _alloc: Global, state: &bool, first: &Lexeme<'_>) -> Result<bool, Refusal> {
+        Ok(!*state && is_attribute(first.symbol()))
+    }
+
+    fn turn(
+        &self,
+        alloc: Global,
+        _state: bool,
+        first: &Lexeme<'_>,
+        tokens: &mut Tokens<'_>,
+    ) -> Result<bool, Refusal> {
+        Ok(call_attribute(alloc, tokens, self.form, first.symbol())?)
+    }
+}
+
+/// Reads what stands behind the arguments of a call, and finds whether the mark is attached. A debug record ends the call:
+/// it is a line of its own, and so is what stands behind it.
+///
+/// # Errors
+///
+/// `Outside(OperandBundle)` at `[`, and those of its parts.
+#[tactic(auto, unfolding(ms_grammar::specs::Insts::call_end))]
+pub fn call_end(alloc: Global, tokens: &mut Tokens<'_>, form: Form) -> Result<bool, Refusal>
+    ensures { Gives (run (spec.call_end form) tokens.old) result tokens.new }
+{
+    if repeat(alloc, tokens, &CallAttributes { form }, false)? {
+        return Ok(false);
+    }
+    if tokens.sees(Symbol::OpenBracket) {
+        return Err(Refusal::Outside(Outside::OperandBundle));
+    }
+    Ok(suffixes_from(alloc, tokens, form, false)?)
+}

@@ -1,0 +1,261 @@
+//! Calls (LLVM Language Reference, "'call' Instruction").
+
+ghost use Rattle.std.specs.Prelude.{◌≡◌, IfOk, codes, length};
+ghost use Rattle.std.specs.Str.{bytes_eq};
+ghost use Rattle.ms_lex.specs.Grammar.{one};
+ghost use Rattle.ms_grammar.specs.Lexemes.{name_in};
+ghost use Rattle.ms_grammar.specs.Insts as spec;
+ghost use Rattle.ms_cursor.specs.Reading.{Gives, Judges, run};
+ghost use Rattle.ms_read_values.specs.Narrow.{IsNarrow};
+
+use crate::call_ends::call_end;
+use ms_bits::List;
+use ms_cursor::{Lexeme, Series, Tokens, global_name, listed, with_last};
+use ms_grammar::{Form, Limit, Outside, Refusal, Symbol};
+use ms_ir::{Name, Op, Operand, Ty};
+use ms_read_skipped::attributes;
+use ms_read_values::{result_type, value, value_type, value_type_of};
+use std::alloc::Global;
+
+/// How many arguments a call of `printf` may have.
+const MAX_PARAMETERS: usize = 100;
+
+/// Takes the result's type of a call. A call whose result has a name isn't `void`.
+fn call_type(tokens: &mut Tokens<'_>, named: bool) -> Result<Option<Ty>, Refusal>
+    ensures { Gives (run (spec.call_type named) tokens.old) result tokens.new }
+{
+    if named {
+        let ty = value_type(tokens)?;
+        Ok(Some(ty))
+    } else {
+        Ok(result_type(tokens)?)
+    }
+}
+
+/// Whether a result's type is `i32`.
+fn is_i32(ty: &Option<Ty>) -> bool
+    ensures { result ≡ spec.is_i32 ty.now }
+{
+    match ty {
+        Some(Ty::Int(width)) => *width == 32,
+        _ => false,
+    }
+}
+
+/// Takes `(ptr, ...)`.
+#[tactic(auto, unfolding(ms_grammar::specs::Insts::variadic_type))]
+fn variadic_type(tokens: &mut Tokens<'_>) -> Result<bool, Refusal>
+    ensures { Gives (run spec.variadic_type tokens.old) result tokens.new }
+{
+    tokens.word(Symbol::OpenParen)?;
+    tokens.word(Symbol::PtrType)?;
+    tokens.word(Symbol::Comma)?;
+    tokens.word(Symbol::Dots)?;
+    tokens.word(Symbol::CloseParen)?;
+    Ok(true)
+}
+
+/// Takes the type of a callee, where it is written; that of `printf` alone may be.
+#[tactic(auto, unfolding(ms_grammar::specs::Insts::callee_type))]
+fn callee_type(tokens: &mut Tokens<'_>, ty: &Option<Ty>) -> Result<bool, Refusal>
+    ensures { Gives (run (spec.callee_type ty.now) tokens.old) result tokens.new }
+{
+    if !tokens.sees(Symbol::OpenParen) {
+        return Ok(false);
+    }
+    if !is_i32(ty) {
+        return Err(Refusal::Outside(Outside::FunctionType));
+    }
+    Ok(variadic_type(tokens)?)
+}
+
+/// Whether a name is `printf`.
+fn is_printf(text: &[u8]) -> bool
+    ensures { result ≡ spec.is_printf text.now }
+{
+    text == b"printf".as_slice()
+}
+
+/// Whether a name is `main`.
+fn is_main(text: &[u8]) -> bool
+    ensures { result ≡ bytes_eq text.now (codes "main") }
+{
+    text == b"main".as_slice()
+}
+
+/// The callee that a global names, which is `printf` where its type stood in front.
+fn callee_name(alloc: Global, form: Form, dotted: bool, token: &Lexeme<'_>) -> Result<Name, Refusal>
+    ensures { Judges (spec.callee_name form dotted (name_in token.now)) result }
+{
+    let text = token.name(alloc)?;
+    if is_main(text.as_slice()) {
+        return Err(Refusal::Outside(Outside::CallOfMain));
+    }
+    if dotted && !is_printf(text.as_slice()) {
+        return Err(Refusal::Outside(Outside::FunctionType));
+    }
+    Ok(global_name(alloc, form, token)?)
+}
+
+/// The callee that a token is: a global. A local would be an indirect call.
+fn callee_by(alloc: Global, form: Form, dotted: bool, token: &Lexeme<'_>) -> Result<Name, Refusal>
+    ensures { Judges (spec.callee_by form dotted token.now.symbol token.now) result }
+{
+    match token.symbol() {
+        Symbol::Global => Ok(callee_name(alloc, form, dotted, token)?),
+        Symbol::Local | Symbol::NumberedLocal => Err(Refusal::Outside(Outside::IndirectCall)),
+        _ => Err(token.refusal()),
+    }
+}
+
+/// Takes the callee.
+#[tactic(auto, unfolding(ms_grammar::specs::Insts::callee))]
+fn callee(alloc: Global, tokens: &mut Tokens<'_>, form: Form, dotted: bool) -> Result<Name, Refusal>
+    ensures { Gives (run (spec.callee form dotted) tokens.old) result tokens.new }
+{
+    let name = callee_by(alloc, form, dotted, &tokens.lexeme())?;
+    tokens.advance();
+    Ok(name)
+}
+
+/// Whether a function's name is `printf`.
+pub fn names_printf(name: &Name) -> bool
+    ensures { result ≡ spec.names_printf name.now }
+{
+    match name {
+        Name::Number(_) => false,
+        Name::Text(text) => is_printf(text.as_slice()),
+    }
+}
+
+/// The type of an argument in front of which so many stand. Only where they are counted is their number limited here.
+fn argument_type_of(counted: bool, before: usize, token: &Lexeme<'_>) -> Result<Ty, Refusal>
+    ensures exact { Judges (spec.argument_type_of counted before token.now) result }
+    ensures narrow { IfOk result IsNarrow }
+{
+    let ty = value_type_of(token)?;
+    if counted && before >= MAX_PARAMETERS {
+        Err(Refusal::Limit(Limit::Parameters))
+    } else {
+        Ok(ty)
+    }
+}
+
+/// Takes the type of an argument behind those that were found.
+fn argument_type(
+    tokens: &mut Tokens<'_>,
+    counted: bool,
+    found: &List<(Ty, Operand)>,
+) -> Result<Ty, Refusal>
+    ensures exact { Gives (run (one (spec.argument_type_of counted (length found.now))) tokens.old) result tokens.new }
+    ensures narrow { IfOk result IsNarrow }
+{
+    let before = found.as_slice().len();
+    let ty = argument_type_of(counted, before, &tokens.lexeme())?;
+    tokens.advance();
+    Ok(ty)
+}
+
+/// Reads an argument behind those that were found.
+#[tactic(auto, unfolding(ms_grammar::specs::Insts::argument))]
+fn argument(
+    alloc: Global,
+    tokens: &mut Tokens<'_>,
+    form: Form,
+    counted: bool,
+    found: List<(Ty, Operand)>,
+) -> Result<List<(Ty, Operand)>, Refusal>
+    ensures { Gives (run (spec.argument form counted found) tokens.old) result tokens.new }
+{
+    let ty = argument_type(tokens, counted, &found)?;
+    attributes(alloc, tokens, form)?;
+    let operand = value(alloc, tokens, form, &ty)?;
+    Ok(with_last(found, (ty, operand))?)
+}
+
+#[derive(Clone, Copy)]
+struct ArgumentSeries {
+    form: Form,
+    counted: bool,
+}
+
+impl Series for ArgumentSeries {
+    type State = List<(Ty, Operand)>;
+
+    ghost use Rattle.std.specs.Prelude.{true};
+    ghost use Rattle.ms_grammar.specs.Insts.{argument};
+
+    ghost more = { λ rule found. true };
+
+    ghost item = { λ rule. argument rule.form rule.counted };
+
+    fn has_more(&self, _state: &List<(Ty, Operand)>) -> bool {
+        true
+    }
+
+    fn read(
+        &self,
+        alloc: Global,
+        state: List<(Ty, Operand)>,
+        tokens: &mut Tokens<'_>,
+    ) -> Result<List<(Ty, Operand)>, Refusal> {
+        Ok(argument(alloc, tokens, self.form, self.counted, state)?)
+    }
+}
+
+/// Takes arguments with commas between, up to and with `)`.
+#[tactic(auto, unfolding(ms_grammar::specs::Insts::arguments))]
+fn arguments(
+    alloc: Global,
+    tokens: &mut Tokens<'_>,
+    form: Form,
+    counted: bool,
+) -> Result<List<(Ty, Operand)>, Refusal>
+    ensures { Gives (run (spec.arguments form counted) tokens.old) result tokens.new }
+{
+    let none = List::from_vec(Vec::new(alloc));
+    let rule = ArgumentSeries { form, counted };
+    Ok(listed(alloc, tokens, Symbol::CloseParen, &rule, none)?)
+}
+
+/// Takes `call` behind `tail`, `musttail` or `notail`.
+fn call_word(tokens: &mut Tokens<'_>, first: Symbol) -> Result<(), Refusal>
+    ensures { Gives (run (spec.call_word first) tokens.old) result tokens.new }
+{
+    match first {
+        Symbol::Call => Ok(()),
+        _ => {
+            tokens.word(Symbol::Call)?;
+            Ok(())
+        }
+    }
+}
+
+/// Reads a call behind its first word, which is `call`, `tail`, `musttail` or `notail`, with what is attached. `named` says
+/// whether its result has a name. The second value is whether what is attached has the mark.
+///
+/// # Errors
+///
+/// `Outside(FunctionType)` at the type of a callee other than `printf`, and at such a callee behind `(ptr, ...)`;
+/// `Outside(CallOfMain)` at `@main`; `Outside(IndirectCall)` at a local in the callee's place; `Limit(Parameters)` at the
+/// type of the 101st argument of `printf`; `Outside(OperandBundle)` at `[` behind the arguments; and those of its parts.
+#[tactic(auto, unfolding(ms_grammar::specs::Insts::call_rule))]
+pub fn call_rule(
+    alloc: Global,
+    tokens: &mut Tokens<'_>,
+    form: Form,
+    named: bool,
+    first: Symbol,
+) -> Result<(Op, bool), Refusal>
+    ensures { Gives (run (spec.call_rule form named first) tokens.old) result tokens.new }
+{
+    call_word(tokens, first)?;
+    attributes(alloc, tokens, form)?;
+    let ret = call_type(tokens, named)?;
+    let dotted = callee_type(tokens, &ret)?;
+    let callee = callee(alloc, tokens, form, dotted)?;
+    tokens.word(Symbol::OpenParen)?;
+    let args = arguments(alloc, tokens, form, names_printf(&callee))?;
+    let marked = call_end(alloc, tokens, form)?;
+    Ok((Op::Call { ret, callee, args }, marked))
+}

@@ -1,0 +1,214 @@
+//! Operations on words (LLVM Language Reference, "Binary Operations", "Bitwise Binary Operations", "Conversion Operations",
+//! "Other Operations").
+
+ghost use Rattle.std.specs.Prelude.{◌≡◌};
+ghost use Rattle.ms_grammar.specs.Insts as spec;
+ghost use Rattle.ms_cursor.specs.Reading.{Gives, Judges, run};
+
+use crate::flags::{Carrier, flags_of};
+use ms_bits::{BinOp, CastOp, Pred};
+use ms_cursor::{Lexeme, Tokens, same_symbol};
+use ms_grammar::{Form, Refusal, Symbol};
+use ms_ir::{Op, Ty};
+use ms_read_values::{int_type, value, value_type, value_type_of};
+use std::alloc::Global;
+
+/// Reads a binary operation behind its word: `flags iN a, b`.
+///
+/// # Errors
+///
+/// Those of its parts: `Syntax` or `Outside` at a token that can't stand, as another type than `iN`.
+#[tactic(auto, unfolding(ms_grammar::specs::Insts::binary_rule))]
+pub fn binary_rule(
+    alloc: Global,
+    tokens: &mut Tokens<'_>,
+    form: Form,
+    op: BinOp,
+) -> Result<Op, Refusal>
+    ensures { Gives (run (spec.binary_rule form op) tokens.old) result tokens.new }
+{
+    let flags = flags_of(alloc, tokens, Carrier::Binary(op))?;
+    let ty = Ty::Int(int_type(tokens)?);
+    let a = value(alloc, tokens, form, &ty)?;
+    tokens.word(Symbol::Comma)?;
+    let b = value(alloc, tokens, form, &ty)?;
+    Ok(Op::Binary {
+        op,
+        flags,
+        ty,
+        a,
+        b,
+    })
+}
+
+/// The predicate that a word names.
+#[tactic(auto, unfolding(ms_grammar::specs::Insts::predicate_by))]
+fn predicate_by(symbol: Symbol) -> Option<Pred>
+    ensures { result ≡ spec.predicate_by symbol }
+{
+    match symbol {
+        Symbol::Eq => Some(Pred::Eq),
+        Symbol::Ne => Some(Pred::Ne),
+        Symbol::Ugt => Some(Pred::Ugt),
+        Symbol::Uge => Some(Pred::Uge),
+        Symbol::Ult => Some(Pred::Ult),
+        Symbol::Ule => Some(Pred::Ule),
+        Symbol::Sgt => Some(Pred::Sgt),
+        Symbol::Sge => Some(Pred::Sge),
+        Symbol::Slt => Some(Pred::Slt),
+        Symbol::Sle => Some(Pred::Sle),
+        _ => None,
+    }
+}
+
+/// Takes a predicate.
+#[tactic(auto, unfolding(ms_grammar::specs::Insts::predicate_word))]
+fn predicate_word(tokens: &mut Tokens<'_>) -> Result<Pred, Refusal>
+    ensures { Gives (run spec.predicate_word tokens.old) result tokens.new }
+{
+    match predicate_by(tokens.peek()) {
+        Some(pred) => {
+            tokens.advance();
+            Ok(pred)
+        }
+        None => Err(tokens.refusal()),
+    }
+}
+
+/// Reads an `icmp` behind its word: `samesign` or nothing, a predicate, and `type a, b`.
+///
+/// # Errors
+///
+/// Those of its parts.
+#[tactic(auto, unfolding(ms_grammar::specs::Insts::compare_rule))]
+pub fn compare_rule(alloc: Global, tokens: &mut Tokens<'_>, form: Form) -> Result<Op, Refusal>
+    ensures { Gives (run (spec.compare_rule form) tokens.old) result tokens.new }
+{
+    let flags = flags_of(alloc, tokens, Carrier::Compare)?;
+    let pred = predicate_word(tokens)?;
+    let ty = value_type(tokens)?;
+    let a = value(alloc, tokens, form, &ty)?;
+    tokens.word(Symbol::Comma)?;
+    let b = value(alloc, tokens, form, &ty)?;
+    Ok(Op::Icmp {
+        pred,
+        flags,
+        ty,
+        a,
+        b,
+    })
+}
+
+/// Reads a cast behind its word: `flags type a to type`.
+///
+/// # Errors
+///
+/// Those of its parts.
+#[tactic(auto, unfolding(ms_grammar::specs::Insts::cast_rule))]
+pub fn cast_rule(
+    alloc: Global,
+    tokens: &mut Tokens<'_>,
+    form: Form,
+    op: CastOp,
+) -> Result<Op, Refusal>
+    ensures { Gives (run (spec.cast_rule form op) tokens.old) result tokens.new }
+{
+    let flags = flags_of(alloc, tokens, Carrier::Cast(op))?;
+    let from = value_type(tokens)?;
+    let a = value(alloc, tokens, form, &from)?;
+    tokens.word(Symbol::To)?;
+    let to = value_type(tokens)?;
+    Ok(Op::Cast {
+        op,
+        flags,
+        from,
+        a,
+        to,
+    })
+}
+
+/// Whether a token is an integer type of this width.
+pub fn is_int_type(width: u8, token: &Lexeme<'_>) -> bool
+    ensures { result ≡ spec.spells (Ty.Int width) token.now }
+{
+    same_symbol(token.symbol(), Symbol::IntType) && token.width() == width
+}
+
+/// Takes `i1`.
+#[tactic(auto, unfolding(ms_grammar::specs::Insts::bit_type))]
+pub fn bit_type(tokens: &mut Tokens<'_>) -> Result<(), Refusal>
+    ensures { Gives (run spec.bit_type tokens.old) result tokens.new }
+{
+    if is_int_type(1, &tokens.lexeme()) {
+        tokens.advance();
+        Ok(())
+    } else {
+        Err(tokens.refusal())
+    }
+}
+
+/// Whether a token spells this type.
+fn spells(ty: &Ty, token: &Lexeme<'_>) -> bool
+    ensures { result ≡ spec.spells ty.now token.now }
+{
+    match ty {
+        Ty::Int(width) => is_int_type(*width, token),
+        Ty::Ptr => token.is(Symbol::PtrType),
+        _ => false,
+    }
+}
+
+/// That a token is this type of a value, and no other.
+fn same_type_of(ty: &Ty, token: &Lexeme<'_>) -> Result<(), Refusal>
+    ensures { Judges (spec.same_type_of ty.now token.now) result }
+{
+    if spells(ty, token) {
+        return Ok(());
+    }
+    let _other = value_type_of(token)?;
+    Err(token.refusal())
+}
+
+/// Takes the same type of a value again.
+#[tactic(auto, unfolding(ms_grammar::specs::Insts::same_type))]
+fn same_type(tokens: &mut Tokens<'_>, ty: &Ty) -> Result<(), Refusal>
+    ensures { Gives (run (spec.same_type ty.now) tokens.old) result tokens.new }
+{
+    same_type_of(ty, &tokens.lexeme())?;
+    tokens.advance();
+    Ok(())
+}
+
+/// Reads a `select` behind its word: `i1 condition, type a, type b`, with one type twice.
+///
+/// # Errors
+///
+/// Those of its parts. A second type that isn't the first is refused at its token.
+#[tactic(auto, unfolding(ms_grammar::specs::Insts::select_rule))]
+pub fn select_rule(alloc: Global, tokens: &mut Tokens<'_>, form: Form) -> Result<Op, Refusal>
+    ensures { Gives (run (spec.select_rule form) tokens.old) result tokens.new }
+{
+    bit_type(tokens)?;
+    let cond = value(alloc, tokens, form, &Ty::Int(1))?;
+    tokens.word(Symbol::Comma)?;
+    let ty = value_type(tokens)?;
+    let a = value(alloc, tokens, form, &ty)?;
+    tokens.word(Symbol::Comma)?;
+    same_type(tokens, &ty)?;
+    let b = value(alloc, tokens, form, &ty)?;
+    Ok(Op::Select { cond, ty, a, b })
+}
+
+/// Reads a `freeze` behind its word: `type a`.
+///
+/// # Errors
+///
+/// Those of its parts.
+#[tactic(auto, unfolding(ms_grammar::specs::Insts::freeze_rule))]
+pub fn freeze_rule(alloc: Global, tokens: &mut Tokens<'_>, form: Form) -> Result<Op, Refusal>
+    ensures { Gives (run (spec.freeze_rule form) tokens.old) result tokens.new }
+{
+    let ty = value_type(tokens)?;
+    let a = value(alloc, tokens, form, &ty)?;
+    Ok(Op::Freeze { ty, a })
+}

@@ -1,0 +1,244 @@
+//! Memory and addresses (LLVM Language Reference, "Memory Access and Addressing Operations").
+
+ghost use Rattle.std.specs.Prelude.{◌≡◌, IfOk};
+ghost use Rattle.ms_lex.specs.Grammar.{one};
+ghost use Rattle.ms_grammar.specs.Values as values;
+ghost use Rattle.ms_grammar.specs.Insts as spec;
+ghost use Rattle.ms_cursor.specs.Reading.{Gives, run};
+ghost use Rattle.ms_read_values.specs.Narrow.{IsWidth};
+
+use ms_bits::List;
+use ms_cursor::{Lexeme, Tokens, Turn, repeat, with_last};
+use ms_grammar::{Form, Indices, Refusal, Symbol};
+use ms_ir::{Op, Operand, Ty};
+use ms_read_skipped::suffixes_from;
+use ms_read_values::{index_type_of, step_words, type_to, value, value_type};
+use std::alloc::Global;
+
+/// How many arrays and structs may be open at once.
+const MAX_DEPTH: u8 = 32;
+
+/// Takes `ptr` and an address behind a comma.
+#[tactic(auto, unfolding(ms_grammar::specs::Insts::address))]
+fn address(alloc: Global, tokens: &mut Tokens<'_>, form: Form) -> Result<Operand, Refusal>
+    ensures { Gives (run (spec.address form) tokens.old) result tokens.new }
+{
+    tokens.word(Symbol::Comma)?;
+    tokens.word(Symbol::PtrType)?;
+    Ok(value(alloc, tokens, form, &Ty::Ptr)?)
+}
+
+/// Reads a `load` behind its word: `type, ptr address`.
+///
+/// # Errors
+///
+/// Those of its parts: `Syntax` or `Outside` at a token that can't stand.
+#[tactic(auto, unfolding(ms_grammar::specs::Insts::load_rule))]
+pub fn load_rule(alloc: Global, tokens: &mut Tokens<'_>, form: Form) -> Result<Op, Refusal>
+    ensures { Gives (run (spec.load_rule form) tokens.old) result tokens.new }
+{
+    let ty = value_type(tokens)?;
+    let addr = address(alloc, tokens, form)?;
+    Ok(Op::Load { ty, addr })
+}
+
+/// Reads a `store` behind its word: `type value, ptr address`.
+///
+/// # Errors
+///
+/// Those of its parts.
+#[tactic(auto, unfolding(ms_grammar::specs::Insts::store_rule))]
+pub fn store_rule(alloc: Global, tokens: &mut Tokens<'_>, form: Form) -> Result<Op, Refusal>
+    ensures { Gives (run (spec.store_rule form) tokens.old) result tokens.new }
+{
+    let ty = value_type(tokens)?;
+    let value = value(alloc, tokens, form, &ty)?;
+    let addr = address(alloc, tokens, form)?;
+    Ok(Op::Store { ty, value, addr })
+}
+
+/// Before the first index.
+fn no_indices(alloc: Global) -> Indices
+    ensures { result ≡ spec.no_indices }
+{
+    Indices {
+        found: List::from_vec(Vec::new(alloc)),
+        ended: false,
+    }
+}
+
+/// The width of an index in front of which so many stand.
+fn index_width(tokens: &mut Tokens<'_>, before: usize) -> Result<u8, Refusal>
+    ensures exact { Gives (run (one (values.index_type_of before)) tokens.old) result tokens.new }
+    ensures narrow { IfOk result IsWidth }
+{
+    let width = index_type_of(before, &tokens.lexeme())?;
+    tokens.advance();
+    Ok(width)
+}
+
+/// Reads a further index, whose type comes next.
+fn index(
+    alloc: Global,
+    tokens: &mut Tokens<'_>,
+    form: Form,
+    found: List<(Ty, Operand)>,
+) -> Result<Indices, Refusal>
+    ensures { Gives (run (spec.index_by form found Symbol.IntType) tokens.old) result tokens.new }
+{
+    let ty = Ty::Int(index_width(tokens, found.as_slice().len())?);
+    let operand = value(alloc, tokens, form, &ty)?;
+    Ok(Indices {
+        found: with_last(found, (ty, operand))?,
+        ended: false,
+    })
+}
+
+/// Reads an index behind its comma, or finds that what is attached begins.
+#[tactic(auto, unfolding(ms_grammar::specs::Insts::index_turn))]
+fn index_turn(
+    alloc: Global,
+    tokens: &mut Tokens<'_>,
+    form: Form,
+    found: List<(Ty, Operand)>,
+) -> Result<Indices, Refusal>
+    ensures { Gives (run (spec.index_turn form found) tokens.old) result tokens.new }
+{
+    match tokens.peek() {
+        Symbol::IntType => Ok(index(alloc, tokens, form, found)?),
+        _ => Ok(Indices { found, ended: true }),
+    }
+}
+
+#[derive(Clone, Copy)]
+struct IndexTurn {
+    form: Form,
+}
+
+impl Turn for IndexTurn {
+    type State = Indices;
+
+    ghost use Rattle.ms_grammar.specs.Insts.{index_begins, index_turn};
+
+    ghost begins = { λ rule. index_begins };
+
+    ghost body = { λ rule indices comma. index_turn rule.form indices.found };
+
+    fn goes_on(
+        &self,
+        _alloc: Global,
+        state: &Indices,
+        first: &Lexeme<'_>,
+    ) -> Result<bool, Refusal> {
+        Ok(!state.ended && first.is(Symbol::Comma))
+    }
+
+    fn turn(
+        &self,
+        alloc: Global,
+        state: Indices,
+        _first: &Lexeme<'_>,
+        tokens: &mut Tokens<'_>,
+    ) -> Result<Indices, Refusal> {
+        let Indices { found, .. } = state;
+        Ok(index_turn(alloc, tokens, self.form, found)?)
+    }
+}
+
+/// Reads a `getelementptr` behind its word: `inbounds` and the like, `type, ptr base`, `, iN index` as many as come, and
+/// what is attached. The second value is whether that has the mark.
+///
+/// # Errors
+///
+/// `Limit(Indices)` at the type of the 65th index, `Limit(Types)` at one bracket too many, and those of its parts.
+#[tactic(auto, unfolding(ms_grammar::specs::Insts::step_rule))]
+pub fn step_rule(alloc: Global, tokens: &mut Tokens<'_>, form: Form) -> Result<(Op, bool), Refusal>
+    ensures { Gives (run (spec.step_rule form) tokens.old) result tokens.new }
+{
+    step_words(alloc, tokens)?;
+    let ty = type_to(alloc, tokens, form, MAX_DEPTH)?;
+    let base = address(alloc, tokens, form)?;
+    let Indices { found, ended } = repeat(alloc, tokens, &IndexTurn { form }, no_indices(alloc))?;
+    let marked = suffixes_from(alloc, tokens, form, ended)?;
+    let op = Op::Gep {
+        ty,
+        base,
+        indices: found,
+    };
+    Ok((op, marked))
+}
+
+#[derive(Clone, Copy)]
+struct CountTurn {
+    form: Form,
+}
+
+impl Turn for CountTurn {
+    type State = Indices;
+
+    ghost use Rattle.ms_grammar.specs.Insts.{count_begins, index_turn};
+
+    ghost begins = { λ rule. count_begins };
+
+    ghost body = { λ rule indices comma. index_turn rule.form indices.found };
+
+    fn goes_on(
+        &self,
+        _alloc: Global,
+        state: &Indices,
+        first: &Lexeme<'_>,
+    ) -> Result<bool, Refusal> {
+        Ok(!state.ended && state.found.as_slice().len() == 0 && first.is(Symbol::Comma))
+    }
+
+    fn turn(
+        &self,
+        alloc: Global,
+        state: Indices,
+        _first: &Lexeme<'_>,
+        tokens: &mut Tokens<'_>,
+    ) -> Result<Indices, Refusal> {
+        let Indices { found, .. } = state;
+        Ok(index_turn(alloc, tokens, self.form, found)?)
+    }
+}
+
+/// An `alloca` with the count that was written, or else with `i32 1`. At most one count is found.
+fn alloca_of(ty: Ty, found: List<(Ty, Operand)>) -> Op
+    ensures { result ≡ spec.alloca_of ty found }
+{
+    let mut counts = found.into_vec();
+    if counts.is_empty() {
+        return Op::Alloca {
+            ty,
+            count_ty: Ty::Int(32),
+            count: Operand::Int(1),
+        };
+    }
+    let (count_ty, count) = counts.swap_remove(0);
+    Op::Alloca {
+        ty,
+        count_ty,
+        count,
+    }
+}
+
+/// Reads an `alloca` behind its word: `type` and perhaps `, iN count`, and what is attached. The second value is whether
+/// that has the mark.
+///
+/// # Errors
+///
+/// `Limit(Types)` at one bracket too many, and those of its parts.
+#[tactic(auto, unfolding(ms_grammar::specs::Insts::alloca_rule))]
+pub fn alloca_rule(
+    alloc: Global,
+    tokens: &mut Tokens<'_>,
+    form: Form,
+) -> Result<(Op, bool), Refusal>
+    ensures { Gives (run (spec.alloca_rule form) tokens.old) result tokens.new }
+{
+    let ty = type_to(alloc, tokens, form, MAX_DEPTH)?;
+    let Indices { found, ended } = repeat(alloc, tokens, &CountTurn { form }, no_indices(alloc))?;
+    let marked = suffixes_from(alloc, tokens, form, ended)?;
+    Ok((alloca_of(ty, found), marked))
+}
