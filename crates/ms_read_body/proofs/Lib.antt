@@ -1,0 +1,4 @@
+pub mod Begun
+pub mod Suffixes
+pub mod Answering
+pub mod Places

@@ -1,0 +1,22 @@
+//! Readers of one function, proved exact against the grammar's pieces, and the calls with which a reader of modules reads
+//! the parts of a text.
+#![tactic(auto)]
+
+mod added;
+mod calls;
+mod errors;
+mod functions;
+mod heads;
+mod instructions;
+mod line_starts;
+mod lines;
+mod open_blocks;
+mod operation_rules;
+mod parameter_lists;
+#[cfg(test)]
+mod tests;
+
+pub use calls::{read_body, read_type, read_value, skip_attributes};
+pub use errors::{ReadError, What, error_at};
+pub use functions::{declaration, function};
+pub use ms_grammar::{Form, Limit, Outside, Refusal};

@@ -1,0 +1,194 @@
+//! Which token begins a line of a body, and what refuses it there.
+
+ghost use Rattle.std.specs.Prelude.{◌≡◌, ◌⊎◌, Ok, true};
+ghost use Rattle.ms_grammar.specs.Bodies as spec;
+ghost use Rattle.ms_grammar.specs.Lexemes.{name_in};
+ghost use Rattle.ms_cursor.specs.Reading.{Judges};
+
+use crate::open_blocks::{is_open, may_phi, next_value};
+use ms_cursor::{Lexeme, name_fits, reserved_local};
+use ms_grammar::{Body, Form, Limit, Refusal, Symbol};
+use ms_read_values::{binary_op, cast_op};
+use std::alloc::Global;
+
+/// How many instructions a text may have.
+#[tactic(auto, unfolding(ms_grammar::specs::Bodies::max_instructions))]
+fn max_instructions(form: Form) -> u32
+    ensures { result ≡ spec.max_instructions form }
+{
+    match form {
+        Form::Plain => 1 << 17,
+        Form::Instrumented => 1 << 22,
+    }
+}
+
+/// The verdict, where there is room for one more instruction.
+fn counted(form: Form, body: &Body, verdict: Result<bool, Refusal>) -> Result<bool, Refusal>
+    ensures { result ≡ spec.counted form body.now verdict }
+{
+    if body.count < max_instructions(form) {
+        verdict
+    } else {
+        Err(Refusal::Limit(Limit::Instructions))
+    }
+}
+
+/// A name that is short enough.
+fn short(text: &[u8]) -> Result<bool, Refusal>
+    ensures { result ≡ spec.short text.now }
+{
+    if name_fits(text) {
+        Ok(true)
+    } else {
+        Err(Refusal::Limit(Limit::Name))
+    }
+}
+
+/// The verdict, where the name isn't reserved.
+fn unreserved(form: Form, text: &[u8], verdict: Result<bool, Refusal>) -> Result<bool, Refusal>
+    ensures { result ≡ spec.unreserved form text.now verdict }
+{
+    if reserved_local(form, text) {
+        Err(Refusal::Reserved)
+    } else {
+        verdict
+    }
+}
+
+/// The verdict, where the written number is the expected one.
+fn numbered(
+    expected: u64,
+    token: &Lexeme<'_>,
+    verdict: Result<bool, Refusal>,
+) -> Result<bool, Refusal>
+    requires { (token.now.symbol ≡ Symbol.NumberedLocal) ⊎ (token.now.symbol ≡ Symbol.NumberedLabel) }
+    ensures { result ≡ spec.numbered expected (name_in token.now) verdict }
+{
+    match token.numeral() {
+        Some(number) => {
+            if number == expected {
+                verdict
+            } else {
+                Err(Refusal::Numbering)
+            }
+        }
+        None => Err(Refusal::Numbering),
+    }
+}
+
+/// Whether a word begins an instruction other than a phi.
+pub fn begins_instruction(symbol: Symbol) -> bool
+    ensures { result ≡ spec.begins_instruction symbol }
+{
+    match symbol {
+        Symbol::Icmp
+        | Symbol::Select
+        | Symbol::Freeze
+        | Symbol::Alloca
+        | Symbol::Load
+        | Symbol::Store
+        | Symbol::GetElementPtr
+        | Symbol::Tail
+        | Symbol::MustTail
+        | Symbol::NoTail
+        | Symbol::Call
+        | Symbol::Br
+        | Symbol::Switch
+        | Symbol::Ret
+        | Symbol::Unreachable => true,
+        _ => binary_op(symbol).is_some() || cast_op(symbol).is_some(),
+    }
+}
+
+/// A label of text, where no block is open.
+fn label_begins(alloc: Global, form: Form, token: &Lexeme<'_>) -> Result<bool, Refusal>
+    ensures { Judges (spec.unreserved form (name_in token.now) (spec.short (name_in token.now))) result }
+{
+    let name = token.name(alloc)?;
+    let text = name.as_slice();
+    Ok(unreserved(form, text, short(text))?)
+}
+
+/// A result's name of text.
+fn name_begins(alloc: Global, form: Form, body: &Body, token: &Lexeme<'_>) -> Result<bool, Refusal>
+    ensures { Judges (spec.unreserved form (name_in token.now) (spec.counted form body.now (spec.short (name_in token.now)))) result }
+{
+    let name = token.name(alloc)?;
+    let text = name.as_slice();
+    Ok(unreserved(form, text, counted(form, body, short(text)))?)
+}
+
+/// A word begins an instruction, if there is room for one.
+fn word_begins(form: Form, body: &Body, symbol: Symbol) -> Result<bool, Refusal>
+    ensures { result ≡ spec.word_begins form body.now symbol }
+{
+    if begins_instruction(symbol) {
+        counted(form, body, Ok(true))
+    } else {
+        Ok(false)
+    }
+}
+
+/// Whether a line begins with this token, as far as numbers go.
+fn line_begins_by(
+    alloc: Global,
+    form: Form,
+    body: &Body,
+    token: &Lexeme<'_>,
+) -> Result<bool, Refusal>
+    ensures { Judges (spec.line_begins_by form body.now token.now.symbol token.now) result }
+{
+    match token.symbol() {
+        Symbol::Label => {
+            if is_open(&body.name) {
+                Ok(false)
+            } else {
+                Ok(label_begins(alloc, form, token)?)
+            }
+        }
+        Symbol::NumberedLabel => {
+            if is_open(&body.name) {
+                Ok(false)
+            } else {
+                Ok(numbered(u64::from(body.next), token, Ok(true))?)
+            }
+        }
+        Symbol::DebugGroup => Ok(true),
+        Symbol::Local => Ok(name_begins(alloc, form, body, token)?),
+        Symbol::NumberedLocal => {
+            let verdict = counted(form, body, Ok(true));
+            Ok(numbered(next_value(body), token, verdict)?)
+        }
+        Symbol::Phi => {
+            if may_phi(body) {
+                Ok(counted(form, body, Ok(true))?)
+            } else {
+                Ok(false)
+            }
+        }
+        _ => Ok(word_begins(form, body, token.symbol())?),
+    }
+}
+
+/// Whether a line begins with this token, which comes next.
+///
+/// # Errors
+///
+/// At a label or a result's name: `Reserved`, `Limit(Instructions)` for a result and `Limit(Name)`, in this order. At a
+/// written number that isn't the next one `Numbering`. At the first token of the instruction that is one too many
+/// `Limit(Instructions)`. At any token `Numbering` where 2^32 numbers are used up.
+#[tactic(auto, unfolding(ms_grammar::specs::Bodies::line_begins))]
+pub fn line_begins(
+    alloc: Global,
+    form: Form,
+    body: &Body,
+    token: &Lexeme<'_>,
+) -> Result<bool, Refusal>
+    ensures { Judges (spec.line_begins form body.now token.now) result }
+{
+    if body.next < u32::MAX - 1 {
+        Ok(line_begins_by(alloc, form, body, token)?)
+    } else {
+        Err(Refusal::Numbering)
+    }
+}

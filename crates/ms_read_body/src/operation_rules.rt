@@ -1,0 +1,58 @@
+//! The operations whose suffixes a line reads.
+
+use ms_bits::{BinOp, CastOp};
+use ms_cursor::{Rule, Tokens};
+use ms_grammar::{Form, Refusal};
+use ms_ir::Op;
+use ms_read_insts::{
+    binary_rule, branch_rule, cast_rule, compare_rule, freeze_rule, load_rule, ret_rule,
+    select_rule, store_rule, switch_rule,
+};
+use std::alloc::Global;
+
+/// What a word stands for.
+#[derive(Clone, Copy)]
+pub enum Operation {
+    Binary(BinOp),
+    Cast(CastOp),
+    Compare,
+    Select,
+    Freeze,
+    Load,
+    Store,
+    Branch,
+    Switch,
+    Ret,
+    Unreachable,
+}
+
+/// An operation in a form of the text.
+#[derive(Clone, Copy)]
+pub struct OperationIn {
+    pub form: Form,
+    pub operation: Operation,
+}
+
+impl Rule for OperationIn {
+    type Value = Op;
+
+    ghost use Rattle.ms_read_body.specs.Operations.{rule_of};
+
+    ghost piece = { λ rule. rule_of rule.form rule.operation };
+
+    fn read(&self, alloc: Global, tokens: &mut Tokens<'_>) -> Result<Op, Refusal> {
+        match self.operation {
+            Operation::Binary(op) => Ok(binary_rule(alloc, tokens, self.form, op)?),
+            Operation::Cast(op) => Ok(cast_rule(alloc, tokens, self.form, op)?),
+            Operation::Compare => Ok(compare_rule(alloc, tokens, self.form)?),
+            Operation::Select => Ok(select_rule(alloc, tokens, self.form)?),
+            Operation::Freeze => Ok(freeze_rule(alloc, tokens, self.form)?),
+            Operation::Load => Ok(load_rule(alloc, tokens, self.form)?),
+            Operation::Store => Ok(store_rule(alloc, tokens, self.form)?),
+            Operation::Branch => Ok(branch_rule(alloc, tokens, self.form)?),
+            Operation::Switch => Ok(switch_rule(alloc, tokens, self.form)?),
+            Operation::Ret => Ok(ret_rule(alloc, tokens, self.form)?),
+            Operation::Unreachable => Ok(Op::Unreachable),
+        }
+    }
+}

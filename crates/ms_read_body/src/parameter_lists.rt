@@ -1,0 +1,221 @@
+//! The parameters of functions, whose unnamed ones have successive numbers (LLVM Language Reference, "Functions" and
+//! "Identifiers").
+
+ghost use Rattle.std.specs.Prelude.{◌≡◌, ◌<◌, IfOk, OnOk};
+ghost use Rattle.ms_grammar.specs.Functions as spec;
+ghost use Rattle.ms_grammar.specs.Types as types;
+ghost use Rattle.ms_cursor.specs.Reading.{Gives, Judges, run};
+
+use ms_bits::{List, NoMemory};
+use ms_cursor::{Lexeme, Series, Tokens, listed, local_name, with_last};
+use ms_grammar::{Form, Limit, Parameters, Refusal, Symbol};
+use ms_ir::{Name, Ty};
+use ms_read_skipped::attributes;
+use ms_read_values::value_type_of;
+use std::alloc::Global;
+
+/// Parameters of a function.
+const MAX_PARAMETERS: usize = 100;
+
+/// Room for one more parameter; no more of them are unnamed than there are.
+fn has_room(parameters: &Parameters) -> bool
+    ensures { result ≡ spec.has_room parameters.now }
+{
+    parameters.found.as_slice().len() < MAX_PARAMETERS && parameters.next < 100
+}
+
+/// The type that begins a parameter, by its token. The 101st has no room.
+fn parameter_type_of(parameters: &Parameters, token: &Lexeme<'_>) -> Result<Ty, Refusal>
+    ensures exact { Judges (spec.parameter_type_of parameters.now token.now) result }
+    ensures room { OnOk result (parameters.now.next < 100) }
+{
+    let ty = value_type_of(token)?;
+    if has_room(parameters) {
+        Ok(ty)
+    } else {
+        Err(Refusal::Limit(Limit::Parameters))
+    }
+}
+
+/// A parameter's number as a token, which is the next one.
+fn numbered_name(expected: u32, token: &Lexeme<'_>) -> Result<Name, Refusal>
+    requires { token.now.symbol ≡ Symbol.NumberedLocal }
+    ensures { Judges (spec.numbered_name expected token.now) result }
+{
+    match token.numeral() {
+        Some(number) => {
+            if number == u64::from(expected) {
+                Ok(Name::Number(expected))
+            } else {
+                Err(Refusal::Numbering)
+            }
+        }
+        None => Err(Refusal::Numbering),
+    }
+}
+
+/// Takes the name of a parameter, which may be missing: then it is the next number.
+///
+/// # Errors
+///
+/// `Numbering` at a number that isn't the next one, and those of `local_name`.
+#[tactic(auto, unfolding(ms_grammar::specs::Functions::parameter_name))]
+fn parameter_name(
+    alloc: Global,
+    tokens: &mut Tokens<'_>,
+    form: Form,
+    number: u32,
+) -> Result<Name, Refusal>
+    ensures { Gives (run (spec.parameter_name form number) tokens.old) result tokens.new }
+{
+    match tokens.peek() {
+        Symbol::Local => {
+            let name = local_name(alloc, form, &tokens.lexeme())?;
+            tokens.advance();
+            Ok(name)
+        }
+        Symbol::NumberedLocal => {
+            let name = numbered_name(number, &tokens.lexeme())?;
+            tokens.advance();
+            Ok(name)
+        }
+        _ => Ok(Name::Number(number)),
+    }
+}
+
+/// The next number behind a parameter.
+fn next_behind(name: &Name, next: u32) -> u32
+    requires { next < 100 }
+    ensures { result ≡ spec.next_behind name.now next }
+{
+    match name {
+        Name::Number(_) => next + 1,
+        Name::Text(_) => next,
+    }
+}
+
+/// One parameter more. The one error is want of memory.
+fn with_parameter(parameters: Parameters, ty: Ty, name: Name) -> Result<Parameters, NoMemory>
+    requires { parameters.next < 100 }
+    ensures { IfOk result (λ ps. ps ≡ spec.with_parameter parameters ty name) }
+{
+    let Parameters { found, next, dots } = parameters;
+    let next = next_behind(&name, next);
+    let found = with_last(found, (ty, name))?;
+    Ok(Parameters { found, next, dots })
+}
+
+/// Reads a parameter that isn't dots: its type, attributes, and its name or nothing.
+#[tactic(auto, unfolding(ms_grammar::specs::Functions::typed_parameter))]
+fn typed_parameter(
+    alloc: Global,
+    tokens: &mut Tokens<'_>,
+    form: Form,
+    parameters: Parameters,
+) -> Result<Parameters, Refusal>
+    ensures { Gives (run (spec.typed_parameter form parameters) tokens.old) result tokens.new }
+{
+    let ty = parameter_type_of(&parameters, &tokens.lexeme())?;
+    tokens.advance();
+    attributes(alloc, tokens, form)?;
+    let name = parameter_name(alloc, tokens, form, parameters.next)?;
+    Ok(with_parameter(parameters, ty, name)?)
+}
+
+/// Whether a type is `ptr`.
+fn is_ptr(ty: &Ty) -> bool
+    ensures { result ≡ types.is_ptr ty.now }
+{
+    match ty {
+        Ty::Ptr => true,
+        _ => false,
+    }
+}
+
+/// Whether these are one parameter, a pointer.
+fn is_one_pointer(found: &[(Ty, Name)]) -> bool
+    ensures { result ≡ spec.is_one_pointer found.now }
+{
+    match found {
+        [parameter] => is_ptr(&parameter.0),
+        _ => false,
+    }
+}
+
+/// Reads a parameter, or the dots; `dotted` in a declaration of `printf`.
+///
+/// # Errors
+///
+/// `Limit(Parameters)` at the type of the 101st, `Numbering` at a number that isn't the next one, and those of its parts.
+#[tactic(auto, unfolding(ms_grammar::specs::Functions::parameter))]
+fn parameter(
+    alloc: Global,
+    tokens: &mut Tokens<'_>,
+    form: Form,
+    dotted: bool,
+    parameters: Parameters,
+) -> Result<Parameters, Refusal>
+    ensures { Gives (run (spec.parameter form dotted parameters) tokens.old) result tokens.new }
+{
+    let dots = dotted && is_one_pointer(parameters.found.as_slice()) && tokens.sees(Symbol::Dots);
+    if dots {
+        tokens.advance();
+        let Parameters { found, next, .. } = parameters;
+        return Ok(Parameters {
+            found,
+            next,
+            dots: true,
+        });
+    }
+    Ok(typed_parameter(alloc, tokens, form, parameters)?)
+}
+
+/// Parameter after parameter; nothing stands behind the dots.
+#[derive(Clone, Copy)]
+struct EachParameter {
+    form: Form,
+    dotted: bool,
+}
+
+impl Series for EachParameter {
+    type State = Parameters;
+
+    ghost use Rattle.std.specs.Prelude.{not};
+    ghost use Rattle.ms_grammar.specs.Functions.{parameter};
+
+    ghost more = { λ rule ps. not ps.dots };
+
+    ghost item = { λ rule. parameter rule.form rule.dotted };
+
+    fn has_more(&self, state: &Parameters) -> bool {
+        !state.dots
+    }
+
+    fn read(
+        &self,
+        alloc: Global,
+        state: Parameters,
+        tokens: &mut Tokens<'_>,
+    ) -> Result<Parameters, Refusal> {
+        Ok(parameter(alloc, tokens, self.form, self.dotted, state)?)
+    }
+}
+
+/// Reads the parameters behind `(`, up to and with `)`. Its errors are those of `parameter`.
+#[tactic(auto, unfolding(ms_grammar::specs::Functions::parameters))]
+pub fn parameters(
+    alloc: Global,
+    tokens: &mut Tokens<'_>,
+    form: Form,
+    dotted: bool,
+) -> Result<Parameters, Refusal>
+    ensures { Gives (run (spec.parameters form dotted) tokens.old) result tokens.new }
+{
+    let none = Parameters {
+        found: List::from_vec(Vec::new(alloc)),
+        next: 0,
+        dots: false,
+    };
+    let each = EachParameter { form, dotted };
+    Ok(listed(alloc, tokens, Symbol::CloseParen, &each, none)?)
+}
