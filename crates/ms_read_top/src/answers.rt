@@ -1,0 +1,101 @@
+//! What a reader of a whole text answers.
+
+ghost use Rattle.std.specs.Prelude.{◌≡◌, ◌≤◌, ◌<◌, ◌-◌, ◌^◌, drop, length};
+ghost use Rattle.ms_grammar.specs.Texts.{HasTokens, max_bytes, max_tokens as most_tokens, place_in};
+ghost use Rattle.ms_lex.specs.Tokens.{InOrder};
+ghost use Rattle.ms_read_body.specs.Calls as spec;
+ghost use Rattle.ms_read_top.specs.Reading.{IsAnswer, of_lexer};
+
+use crate::modules::whole_module;
+use ms_cursor::Tokens;
+use ms_grammar::{Form, Refusal};
+use ms_ir::Module;
+use ms_lex::{LexError, Token, tokens};
+use ms_read_body::{ReadError, error_at};
+use std::alloc::Global;
+
+/// How many tokens a text may have.
+#[tactic(auto, unfolding(ms_grammar::specs::Texts::max_tokens))]
+fn max_tokens(form: Form) -> u32
+    ensures { result ≡ most_tokens form }
+{
+    match form {
+        Form::Plain => 1 << 20,
+        Form::Instrumented => 1 << 25,
+    }
+}
+
+/// The byte at which the first of these tokens of a text begins. At the end of the text that is its length.
+fn first_place(text: &[u8], rest: &[Token]) -> u32
+    requires { length text.now < 2 ^ 32 }
+    ensures { result ≡ place_in text.now rest.now 0 }
+{
+    match rest {
+        [] => text.len() as u32,
+        [token, ..] => token.start,
+    }
+}
+
+/// The tokens from this one on.
+fn behind(tokens: &[Token], token: usize) -> &[Token]
+    requires { token ≤ length tokens.now }
+    ensures { result.now ≡ drop token tokens.now }
+{
+    &tokens[token..]
+}
+
+/// The byte at which a token begins. At the end of the text that is its length.
+#[tactic(auto, using(crate::proofs::Told::place_behind))]
+fn place_of(text: &[u8], tokens: &[Token], token: usize) -> u32
+    requires short { length text.now < 2 ^ 32 }
+    requires inside { token ≤ length tokens.now }
+    ensures { result ≡ place_in text.now tokens.now token }
+{
+    first_place(text, behind(tokens, token))
+}
+
+/// The error for a cause at the first of so many tokens that are left of a text.
+fn error_for(text: &[u8], tokens: &[Token], cause: Refusal, left: usize) -> ReadError
+    requires short { length text.now < 2 ^ 32 }
+    requires few { length tokens.now < 2 ^ 32 }
+    ensures { result ≡ spec.error_at cause (length tokens.now - left) (place_in text.now tokens.now (length tokens.now - left)) }
+{
+    let token = tokens.len().saturating_sub(left);
+    error_at(cause, token as u32, place_of(text, tokens, token))
+}
+
+/// Reads the tokens of a text.
+#[tactic(auto, using(crate::proofs::Told::told_reads, crate::proofs::Told::told_stops, crate::proofs::Told::few_tokens, crate::proofs::Told::short_text))]
+fn answer(alloc: Global, text: &[u8], tokens: &[Token], form: Form) -> Result<Module, ReadError>
+    requires has { HasTokens form text.now tokens.now }
+    requires in_order { InOrder tokens.now (length text.now) }
+    ensures { IsAnswer form text.now result }
+{
+    let mut cursor = Tokens::at(text, tokens, 0);
+    match whole_module(alloc, &mut cursor, form) {
+        Ok(found) => Ok(found),
+        Err(cause) => Err(error_for(text, tokens, cause, cursor.left())),
+    }
+}
+
+/// The error for a text that has no tokens.
+fn without_tokens(error: LexError) -> ReadError
+    ensures { result ≡ of_lexer error }
+{
+    match error {
+        LexError::NoMemory => ReadError::NoMemory,
+        _ => ReadError::Lex(error),
+    }
+}
+
+/// What the text reads as, or why it isn't read.
+#[tactic(auto, using(crate::proofs::Told::short_text, crate::proofs::Told::has_tokens, crate::proofs::Told::told_lexer))]
+pub fn answer_for(alloc: Global, text: &[u8], form: Form) -> Result<Module, ReadError>
+    requires { length text.now ≤ max_bytes form }
+    ensures { IsAnswer form text.now result }
+{
+    match tokens(alloc, text, max_tokens(form)) {
+        Ok(found) => answer(alloc, text, &found, form),
+        Err(error) => Err(without_tokens(error)),
+    }
+}

@@ -1,0 +1,33 @@
+//! Entities of a module.
+
+ghost use Rattle.std.specs.Prelude.{◌≡◌, ◌≤◌, IfOk, Ok, true};
+ghost use Rattle.ms_grammar.specs.Bodies.{max_instructions};
+ghost use Rattle.ms_grammar.specs.Modules as spec;
+ghost use Rattle.ms_cursor.specs.Reading.{Gives, run};
+
+use crate::function_entities::{declaration_entity, function_entity};
+use ms_cursor::{Lexeme, Tokens};
+use ms_grammar::{Form, Parts, Refusal, Symbol};
+use ms_read_entities::other_entity;
+use std::alloc::Global;
+
+/// Reads an entity behind its first token, with which it may begin. Gives the parts with what it adds to them.
+#[tactic(auto, unfolding(ms_grammar::specs::Modules::entity))]
+pub fn entity(
+    alloc: Global,
+    tokens: &mut Tokens<'_>,
+    form: Form,
+    parts: Parts,
+    first: &Lexeme<'_>,
+) -> Result<Parts, Refusal>
+    requires begins { spec.entity_begins form parts first.now ≡ Ok true }
+    requires few { parts.count ≤ max_instructions form }
+    ensures exact { Gives (run (spec.entity form parts first.now) tokens.old) result tokens.new }
+    ensures few { IfOk result (λ p. p.count ≤ max_instructions form) }
+{
+    match first.symbol() {
+        Symbol::Declare => Ok(declaration_entity(alloc, tokens, form, parts)?),
+        Symbol::Define => Ok(function_entity(alloc, tokens, form, parts)?),
+        _ => Ok(other_entity(alloc, tokens, form, parts, first)?),
+    }
+}

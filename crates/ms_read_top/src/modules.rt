@@ -1,0 +1,70 @@
+//! Modules (LLVM Language Reference, "Module Structure").
+
+ghost use Rattle.std.specs.Prelude.{◌≡◌};
+ghost use Rattle.ms_lex.specs.Grammar.{loop};
+ghost use Rattle.ms_grammar.specs.Modules as spec;
+ghost use Rattle.ms_cursor.specs.Reading.{Gives, Judges, run};
+
+use crate::entities::entity;
+use ms_bits::List;
+use ms_cursor::{Lexeme, Tokens};
+use ms_grammar::{Form, Parts, Refusal, Symbol};
+use ms_ir::Module;
+use ms_read_entities::entity_begins;
+use std::alloc::Global;
+
+/// Before the first entity.
+fn no_parts(alloc: Global) -> Parts
+    ensures { result ≡ spec.no_parts }
+{
+    let module = Module {
+        types: List::from_vec(Vec::new(alloc)),
+        globals: List::from_vec(Vec::new(alloc)),
+        decls: List::from_vec(Vec::new(alloc)),
+        funcs: List::from_vec(Vec::new(alloc)),
+    };
+    Parts { module, count: 0 }
+}
+
+/// Entity after entity, as long as the next token begins one.
+#[tactic(auto, using(ms_lex::proofs::Loops::loop_goes, ms_lex::proofs::Loops::loop_ends, ms_lex::proofs::Loops::loop_stops, ms_lex::proofs::Loops::loop_moves, ms_lex::proofs::Loops::loop_all))]
+fn entities(alloc: Global, tokens: &mut Tokens<'_>, form: Form) -> Result<Parts, Refusal>
+    ensures { Gives (run (loop (spec.entity_begins form) (spec.entity form) spec.no_parts) tokens.old) result tokens.new }
+{
+    let mut parts = no_parts(alloc);
+    'entities: while tokens.left() > 0 {
+        let first = tokens.lexeme();
+        if !entity_begins(alloc, form, &parts, &first)? {
+            return Ok(parts);
+        }
+        tokens.advance();
+        parts = entity(alloc, tokens, form, parts, &first)?;
+    }
+    Ok(parts)
+}
+
+/// The end of the text, and nothing else.
+fn end_of(token: &Lexeme<'_>) -> Result<(), Refusal>
+    ensures { Judges (spec.end_of token.now) result }
+{
+    if token.is(Symbol::EndOfText) {
+        Ok(())
+    } else {
+        Err(token.refusal())
+    }
+}
+
+/// Reads a module up to the end of its text.
+///
+/// # Errors
+///
+/// At the first token that can't stand, by the number of its cause and in this order where two apply to one token: `Syntax`
+/// or `Outside`, `Reserved`, `Numbering`, `Limit`. Want of memory may come at any place.
+#[tactic(auto, unfolding(ms_grammar::specs::Modules::module_rule))]
+pub fn whole_module(alloc: Global, tokens: &mut Tokens<'_>, form: Form) -> Result<Module, Refusal>
+    ensures { Gives (run (spec.module_rule form) tokens.old) result tokens.new }
+{
+    let parts = entities(alloc, tokens, form)?;
+    end_of(&tokens.lexeme())?;
+    Ok(parts.module)
+}
