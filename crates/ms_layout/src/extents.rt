@@ -11,11 +11,8 @@ ghost use Rattle.ms_ir.specs.Layout.{extent, place_fields, type_extent, named_ex
 ghost use Rattle.ms_layout.specs.Extents.{IsLayout, limited, limit_extent, as_extent};
 ghost use Rattle.ms_layout.specs.Parts.{count_parts};
 
-use crate::layouts::{LARGEST, Layout, int_align, pad, place_field, repeat, round_up};
+use crate::layouts::{CHAIN, LARGEST, Layout, int_align, pad, place_field, repeat, round_up};
 use ms_ir::{Module, Name, Ty};
-
-/// How many named types, each in the definition of the one before, may follow one another.
-const CHAIN: u32 = 32;
 
 /// Whether two names are the same.
 fn is_same(x: &Name, y: &Name) -> bool

@@ -7,6 +7,9 @@ ghost use Rattle.ms_layout.specs.Extents.{IsLayout, limited, limit_extent, as_ex
 /// The greatest size of a type, in bytes.
 pub const LARGEST: u64 = 1 << 26;
 
+/// How many named types, each in the definition of the one before, may follow one another.
+pub const CHAIN: u32 = 32;
+
 /// What stands for each size above the greatest.
 const TOO_LARGE: u64 = LARGEST + 1;
 

@@ -3,7 +3,7 @@
 #![tactic(auto)]
 
 mod extents;
-mod layouts;
+pub mod layouts;
 #[cfg(test)]
 mod module_tests;
 mod numbers;

@@ -15,3 +15,6 @@ pub mod JumpFrames
 pub mod Moves
 pub mod Readings
 pub mod SmallNumbers
+pub mod Walks
+pub mod DuePlaces
+pub mod PoisonedPlaces

@@ -28,5 +28,7 @@ pub mod ExampleFaults
 pub mod FormedNames
 pub mod FormedCode
 pub mod Formed
+pub mod Reached
+pub mod ExampleWalks
 pub mod ReadLimits
 pub mod Uninstrumented

@@ -5,3 +5,4 @@ pub mod examples;
 pub mod faults;
 pub mod forms;
 pub mod laws;
+pub mod reached;
