@@ -5,7 +5,6 @@ pub mod StraightTasks
 pub mod LineCounts
 pub mod StraightLines
 pub mod StraightPass
-pub mod ReaderLines
-pub mod ReaderOperands
-pub mod ReaderPieces
-pub mod ReaderWhole
+mod OperandsTold
+mod LinesTold
+pub mod ModulesTold

@@ -1,10 +1,11 @@
 -- A module of the first form is straight.
-use Rattle.std.proofs.Common.{◌≡◌, ℕ, ◌+◌, ◌^◌, ◌≤◌, Bool, true, false, List, [], ◌∷◌, ◌++◌, length, All, codes, refl, sym, subst, arith, length-append, rules}
+use Rattle.std.proofs.Common.{◌≡◌, ℕ, ◌+◌, ◌≤◌, Bool, true, false, List, [], ◌∷◌, ◌++◌, length, All, refl, sym, subst, arith, length-append}
 use Rattle.std.proofs.lemmas.List.Elements.{All-cons, All-nil}
 use Rattle.std.proofs.lemmas.Option.{slice_get_within}
 use Rattle.ms_ir.specs.declared.syntax.Module.{Module}
 use Rattle.ms_ir.specs.Names.{is_reserved}
-use Rattle.ms_ir.specs.First.{Word, Whole, Minus, Earlier, Undefined, Line, Alloca, Load, Store, Combine, IsWord, IsLine, AreLines, after_line, after_lines, line_text, lines_text, whole_text, word_operand, word_text, line_inst, lines_insts, ret_inst, module_of, Lines, IsFirst}
+use Rattle.ms_ir.specs.First.{Word, Whole, Minus, Earlier, Undefined, Line, Alloca, Load, Store, Combine, IsWord, IsLine, AreLines, after_line, after_lines, word_operand, line_inst, lines_insts, ret_inst, module_of, Lines}
+use Rattle.ms_pass.specs.FirstForm.{HasFirstForm, HasFewInsts}
 use Rattle.ms_straight.specs.Straight.{IsOperand, IsStraightInst, IsStraight}
 
 -- ---- results and lines are few
@@ -28,17 +29,6 @@ all_grown allocas (l ∷ ls) = omega (arith, grown allocas l, all_grown (after_l
 pub few_results : (allocas : List Bool) (ls : List Line) → length (after_lines allocas ls) ≤ length allocas + length (lines_insts allocas ls)
 few_results allocas [] = omega arith
 few_results allocas (l ∷ ls) = omega (arith, by_one allocas l, few_results (after_line allocas l) ls)
-
-some_text : (n : ℕ) (l : Line) → 1 ≤ length (line_text n l)
-some_text n Alloca = search rules
-some_text n (Load k) = search rules
-some_text n (Store v k) = search rules
-some_text n (Combine o v u) = search rules
-
-pub few_lines : (allocas : List Bool) (ls : List Line) → length (lines_insts allocas ls) ≤ length (lines_text allocas ls)
-few_lines allocas [] = omega arith
-few_lines allocas (l ∷ ls) =
-    omega (arith, some_text (length allocas) l, few_lines (after_line allocas l) ls, length-append (line_text (length allocas) l) (lines_text (after_line allocas l) ls))
 
 -- ---- each instruction is that of a straight module
 
@@ -74,24 +64,16 @@ lines_are limit allocas (l ∷ ls) w few are is =
 
 -- ---- the whole module
 
-pub inner : (a b c d : List ℕ) → length b ≤ length (a ++ b ++ c ++ d)
-inner a b c d = omega (arith, length-append (a ++ b ++ c) d, length-append (a ++ b) c, length-append a b)
-
-straight_of : (of : Lines) → length (whole_text of.lines of.last) ≤ 2 ^ 22 → IsStraight (module_of of.lines of.last)
-straight_of of fits =
-    let head = codes "define i32 @main() {\n" in
-    let text = lines_text [] of.lines in
-    let last = codes "  ret i32 " ++ word_text of.last ++ codes "\n" in
+straight_of : (of : Lines) → HasFewInsts (module_of of.lines of.last) → IsStraight (module_of of.lines of.last)
+straight_of of few =
     let insts = lines_insts [] of.lines in
-    let short : length text ≤ length (whole_text of.lines of.last) = inner head text last (codes "}\n") in
-    let lines = few_lines [] of.lines in
     let results = few_results [] of.lines in
     let all = length-append insts (ret_inst of.last ∷ []) in
     record {
       insts = insts ++ ret_inst of.last ∷ [];
       limit = length (after_lines [] of.lines);
       few_names = omega arith;
-      few = omega arith;
+      few = omega (arith, few);
       types_are = refl;
       funcs_are = refl;
       reserved = All-nil (λ g. is_reserved g.name ≡ true);
@@ -99,5 +81,5 @@ straight_of of fits =
     }
 
 -- a module of the first form is straight
-pub straight_first : (m : Module) → IsFirst m → IsStraight m
-straight_first m first = subst IsStraight (sym first.module_is) (straight_of first.of first.fits)
+pub straight_first : (m : Module) → HasFirstForm m → HasFewInsts m → IsStraight m
+straight_first m first few = subst IsStraight (sym first.module_is) (straight_of first.of (subst HasFewInsts first.module_is few))

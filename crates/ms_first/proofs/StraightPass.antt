@@ -6,7 +6,7 @@ use Rattle.ms_ir.specs.declared.syntax.GlobalVar.{GlobalVar}
 use Rattle.ms_ir.specs.declared.syntax.Name.TheVariants.{Text}
 use Rattle.ms_ir.specs.declared.syntax.Module.{Module}
 use Rattle.ms_ir.specs.Names.{is_reserved, name_eq}
-use Rattle.ms_ir.specs.First.{Word, Line, Alloca, Load, Store, Combine, IsWord, AreLines, after_line, after_lines, whole_text, line_inst, lines_insts, ret_inst, module_of, IsFirst}
+use Rattle.ms_ir.specs.First.{Word, Line, Alloca, Load, Store, Combine, IsWord, AreLines, after_line, after_lines, line_inst, lines_insts, ret_inst, module_of}
 use Rattle.ms_ir.specs.World.{Here}
 use Rattle.ms_ir.specs.Code.{func_index, over_insts, one_unmarked, roots_in}
 use Rattle.ms_ir.specs.Control.{main_name}
@@ -14,9 +14,9 @@ use Rattle.ms_rules.specs.Tasks.{Code, tasks_code}
 use Rattle.ms_rules.specs.Emit.{Given, before_tasks, after_tasks, emit_lists}
 use Rattle.ms_rules.proofs.Marked.{EachInst, tasks_more}
 use Rattle.ms_pass.specs.Declarations.{slot_globals}
+use Rattle.ms_pass.specs.FirstForm.{HasFirstForm, HasFewInsts}
 use Rattle.ms_pass.specs.FirstNumbers.{one_result, first_pass}
 use Rattle.ms_pass.specs.Pass.{next_here, pass_insts}
-use Rattle.ms_pass.proofs.FirstKnown.{first_few_insts}
 use Rattle.ms_straight.specs.Straight.{IsStraightInst, IsStraight}
 use Rattle.ms_first.proofs.TaskCounts.{tasks_size, tasks_length, tasks_next}
 use Rattle.ms_first.proofs.StraightTasks.{each_append, AreTasks, tasks_are_straight}
@@ -147,7 +147,7 @@ all_reserved (g ∷ gs) e = All-cons (λ g. is_reserved g.name ≡ true) g gs e.
 slots_reserved : All (λ g. is_reserved g.name ≡ true) slot_globals
 slots_reserved = all_reserved slot_globals (refl, (refl, (refl, (refl, tt))))
 
-module _ (ls : List Line) (w : Word) (are : AreLines [] ls) (returns : IsWord (after_lines [] ls) w) (fits : length (whole_text ls w) ≤ 2 ^ 22) where
+module _ (ls : List Line) (w : Word) (are : AreLines [] ls) (returns : IsWord (after_lines [] ls) w) (short : length (body [] ls w) ≤ 2 ^ 22) where
   abbrev size : ℕ
   size = over_insts one_result (body [] ls w)
 
@@ -159,9 +159,6 @@ module _ (ls : List Line) (w : Word) (are : AreLines [] ls) (returns : IsWord (a
 
   abbrev code : List Inst
   code = (passed given size (body [] ls w) start (2 * size + 1)).code
-
-  short : length (body [] ls w) ≤ 2 ^ 22
-  short = first_few_insts (module_of ls w) (record { of = record { lines = ls; last = w; are_lines = are; returns = returns }; fits = fits; module_is = refl })
 
   results : size ≡ length (after_lines [] ls)
   results = omega (arith, results_counted ls [] w)
@@ -194,6 +191,6 @@ module _ (ls : List Line) (w : Word) (are : AreLines [] ls) (returns : IsWord (a
   }
 
 -- the instrumented form of a module of the first form is straight
-pub straight_pass : (m : Module) → IsFirst m → IsStraight (first_pass m)
-straight_pass m first =
-    subst (λ m. IsStraight (first_pass m)) (sym first.module_is) (straight_pass_of first.of.lines first.of.last first.of.are_lines first.of.returns first.fits)
+pub straight_pass : (m : Module) → HasFirstForm m → HasFewInsts m → IsStraight (first_pass m)
+straight_pass m first few =
+    subst (λ m. IsStraight (first_pass m)) (sym first.module_is) (straight_pass_of first.of.lines first.of.last first.of.are_lines first.of.returns (subst HasFewInsts first.module_is few))

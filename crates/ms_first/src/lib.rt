@@ -1,9 +1,13 @@
-//! The first form: modules of one function and one block, read from their text, instrumented and run.
+//! The first form: modules of one function and one block are told, instrumented and run.
 #![tactic(auto)]
 
 pub mod instruments;
-pub mod reader;
+mod lines;
+pub mod modules;
+mod operands;
+#[cfg(test)]
+mod tests;
 
 pub use instruments::instrument;
+pub use modules::is_first;
 pub use ms_straight::run;
-pub use reader::read;

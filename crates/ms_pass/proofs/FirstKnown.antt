@@ -1,6 +1,6 @@
 -- Modules of the first form are ones that the pass takes: their names are numbered, and their counts are small.
 use Rattle.std.proofs.Common.{◌≡◌, ℕ, zero, suc, ◌+◌, ◌*◌, ◌<◌, ◌≤◌, ◌^◌, List, [], ◌∷◌, ◌++◌, length, refl, sym, ap, ◌∙◌, subst, arith, Bool, true, false, length-append}
-use Rattle.std.specs.Prelude.{if◌then◌else◌, ltb, drop, take, Option, Some, None, codes}
+use Rattle.std.specs.Prelude.{if◌then◌else◌, ltb, drop, take, Option, Some, None}
 use Rattle.std.proofs.lemmas.Bool.{lt-ltb, ltb-true}
 use Rattle.std.proofs.lemmas.Option.{slice_get_within}
 use Rattle.ms_ir.specs.declared.syntax.Name.{Name}
@@ -9,13 +9,14 @@ use Rattle.ms_ir.specs.declared.syntax.Ty.{Int}
 use Rattle.ms_ir.specs.declared.syntax.Op.TheVariants as op
 use Rattle.ms_ir.specs.declared.syntax.Inst.{Inst}
 use Rattle.ms_ir.specs.declared.syntax.Module.{Module}
-use Rattle.ms_ir.specs.First.{logic_op, no_flags, Word, Whole, Minus, Earlier, Undefined, Logic, And, Or, Xor, Line, Alloca, Load, Store, Combine, IsWord, IsAddress, IsLine, AreLines, after_line, after_lines, word_text, word_operand, result_name, line_text, lines_text, whole_text, line_inst, lines_insts, ret_inst, module_of, IsFirst}
+use Rattle.ms_ir.specs.First.{logic_op, no_flags, Word, Whole, Minus, Earlier, Undefined, Logic, And, Or, Xor, Line, Alloca, Load, Store, Combine, IsWord, IsAddress, IsLine, AreLines, after_line, after_lines, word_operand, result_name, line_inst, lines_insts, ret_inst, module_of}
 use Rattle.ms_ir.specs.World.{Setting}
 use Rattle.ms_ir.specs.Code.{insts_at, over_insts, one_unmarked, one_undef, roots_in}
 use Rattle.ms_ir.specs.Control.{Frame, here, rest_of}
 use Rattle.ms_ir.specs.Poisoned.{Poisoned, clean}
 use Rattle.ms_rules.specs.Emit.{Env, IsBuilt, KnownName, KnownOperand, KnownInst, KnownInsts, OneName, FewNumbers}
 use Rattle.ms_rules.specs.Match.{RangedHere}
+use Rattle.ms_pass.specs.FirstForm.{HasFirstForm, HasFewInsts}
 use Rattle.ms_pass.specs.FirstNumbers.{first_number, one_result, first_numbering}
 
 -- ---- numbers of names
@@ -134,17 +135,6 @@ over_append : (c : Inst → ℕ) (a b : List Inst) → over_insts c (a ++ b) ≡
 over_append c [] b = omega arith
 over_append c (i ∷ a) b = omega (arith, over_append c a b)
 
-line_long : (n : ℕ) (l : Line) → 1 ≤ length (line_text n l)
-line_long n Alloca = omega arith
-line_long n (Load k) = omega arith
-line_long n (Store v k) = omega arith
-line_long n (Combine o v u) = omega arith
-
-lines_long : (ls : List Line) (allocas : List Bool) → length (lines_insts allocas ls) ≤ length (lines_text allocas ls)
-lines_long [] allocas = omega arith
-lines_long (l ∷ ls) allocas =
-    omega (arith, line_long (length allocas) l, length-append (line_text (length allocas) l) (lines_text (after_line allocas l) ls), lines_long ls (after_line allocas l))
-
 -- ---- places
 
 taken_counts : (c : Inst → ℕ) (p : ℕ) (l : List Inst) (i : Inst) (is : List Inst) → drop p l ≡ i ∷ is → over_insts c (take p l) + c i ≤ over_insts c l
@@ -195,21 +185,11 @@ lines_sites (l ∷ ls) allocas = (one l, lines_sites ls (after_line allocas l))
 abbrev pub insts_of : List Line → Word → List Inst
 insts_of ls w = lines_insts [] ls ++ ret_inst w ∷ []
 
-inner_long : (head text tail closing : List ℕ) (n : ℕ) → length (((head ++ text) ++ tail) ++ closing) ≤ n → length text + length closing ≤ n
-inner_long head text tail closing n le =
-    omega (arith, le, length-append ((head ++ text) ++ tail) closing, length-append (head ++ text) tail, length-append head text)
-
-insts_few : (ls : List Line) (w : Word) → length (whole_text ls w) ≤ 2 ^ 22 → length (insts_of ls w) ≤ 2 ^ 22
-insts_few ls w fits =
-    let inner : length (lines_text [] ls) + 2 ≤ 2 ^ 22 =
-    inner_long (codes "define i32 @main() {\n") (lines_text [] ls) ((codes "  ret i32 " ++ word_text w) ++ codes "\n") (codes "}\n") (2 ^ 22) fits in
-    omega (arith, inner, lines_long ls [], length-append (lines_insts [] ls) (ret_inst w ∷ []))
-
 -- how many results there are
 abbrev pub size_of_first : Module → ℕ
 size_of_first m = over_insts one_result (insts_at m 0 0)
 
-module _ (ls : List Line) (w : Word) (are : AreLines [] ls) (returns : IsWord (after_lines [] ls) w) (fits : length (whole_text ls w) ≤ 2 ^ 22) where
+module _ (ls : List Line) (w : Word) (are : AreLines [] ls) (returns : IsWord (after_lines [] ls) w) (few : length (insts_of ls w) ≤ 2 ^ 22) where
   size : ℕ
   size = over_insts one_result (insts_of ls w)
 
@@ -241,8 +221,8 @@ module _ (ls : List Line) (w : Word) (are : AreLines [] ls) (returns : IsWord (a
       let k : KnownInsts true (first_env n) n (i ∷ is) = subst (KnownInsts true (first_env n) n) e (known_drop true (first_env n) n place (insts_of ls w) all_known) in (
         k.0,
         record {
-          site = omega (arith, taken_counts one_unmarked place (insts_of ls w) i is e, over_bound one_unmarked 3 (insts_of ls w) all_sites, insts_few ls w fits);
-          root = omega (arith, taken_counts (roots_in s.func) place (insts_of ls w) i is e, over_bound (roots_in s.func) 3 (insts_of ls w) (all_roots s.func), insts_few ls w fits);
+          site = omega (arith, taken_counts one_unmarked place (insts_of ls w) i is e, over_bound one_unmarked 3 (insts_of ls w) all_sites, few);
+          root = omega (arith, taken_counts (roots_in s.func) place (insts_of ls w) i is e, over_bound (roots_in s.func) 3 (insts_of ls w) (all_roots s.func), few);
         },
       )
   placed s zero (suc block) place i is e = absurd (nothing place e)
@@ -257,13 +237,9 @@ module _ (ls : List Line) (w : Word) (are : AreLines [] ls) (returns : IsWord (a
       nothing (suc place) e = grind arith
 
 -- every instruction that stands in a module of the first form is one that the pass takes, at a small place
-pub first_known : (m : Module) → IsFirst m → (s : Setting) (f : Frame Poisoned) (i : Inst) (is : List Inst) → rest_of m f ≡ i ∷ is
+pub first_known : (m : Module) → HasFirstForm m → HasFewInsts m → (s : Setting) (f : Frame Poisoned) (i : Inst) (is : List Inst) → rest_of m f ≡ i ∷ is
     → KnownInst (here s m f).main (first_env (size_of_first m)) (size_of_first m) i × RangedHere s (here s m f) i
-first_known m first s f i is e = subst
+first_known m first few s f i is e = subst
     (λ m. rest_of m f ≡ i ∷ is → KnownInst (here s m f).main (first_env (size_of_first m)) (size_of_first m) i × RangedHere s (here s m f) i)
     (sym first.module_is)
-    (placed first.of.lines first.of.last first.of.are_lines first.of.returns first.fits s f.func f.block f.place i is) e
-
--- and there are few of them
-pub first_few_insts : (m : Module) → IsFirst m → length (insts_at m 0 0) ≤ 2 ^ 22
-first_few_insts m first = subst (λ m. length (insts_at m 0 0) ≤ 2 ^ 22) (sym first.module_is) (insts_few first.of.lines first.of.last first.fits)
+    (placed first.of.lines first.of.last first.of.are_lines first.of.returns (subst HasFewInsts first.module_is few) s f.func f.block f.place i is) e

@@ -1,15 +1,15 @@
 -- The instructions of modules of the first form are ones that the pass takes and whose lists are made.
-use Rattle.std.proofs.Common.{◌≡◌, ℕ, ◌≤◌, List, [], ◌∷◌, ◌++◌, length, refl, sym, subst, arith, Bool, true, All}
+use Rattle.std.proofs.Common.{ℕ, List, [], ◌∷◌, ◌++◌, length, refl, sym, subst, arith, Bool, true, All}
 use Rattle.std.proofs.lemmas.List.Elements.{All-cons, All-nil}
-use Rattle.ms_ir.specs.declared.syntax.Inst.{Inst}
 use Rattle.ms_ir.specs.declared.syntax.Module.{Module}
 use Rattle.ms_ir.specs.declared.syntax.Op.TheVariants as op
 use Rattle.ms_ir.specs.declared.syntax.Ty.{Int}
-use Rattle.ms_ir.specs.First.{Word, Logic, And, Or, Xor, Line, Alloca, Load, Store, Combine, logic_op, no_flags, word_operand, result_name, after_line, line_inst, lines_insts, ret_inst, module_of, IsFirst}
+use Rattle.ms_ir.specs.First.{Word, Logic, And, Or, Xor, Line, Alloca, Load, Store, Combine, logic_op, no_flags, word_operand, result_name, after_line, line_inst, lines_insts, ret_inst}
 use Rattle.ms_ir.specs.Code.{insts_at}
 use Rattle.ms_rules.specs.Emit.{IsBuilt}
+use Rattle.ms_pass.specs.FirstForm.{HasFirstForm}
 use Rattle.ms_pass.specs.FirstNumbers.{IsSimple}
-use Rattle.std.specs.Prelude.{Option, Some}
+use Rattle.std.specs.Prelude.{Some}
 
 line_simple : (n : ℕ) (l : Line) → IsSimple (line_inst n l)
 line_simple n Alloca = record { unmarked = refl; built = tt; taken = record { made = omega arith; narrow = (omega arith, tt) } }
@@ -30,5 +30,5 @@ lines_simple [] allocas w = All-cons IsSimple (ret_inst w) [] (ret_simple w) (Al
 lines_simple (l ∷ ls) allocas w =
     All-cons IsSimple (line_inst (length allocas) l) (lines_insts (after_line allocas l) ls ++ ret_inst w ∷ []) (line_simple (length allocas) l) (lines_simple ls (after_line allocas l) w)
 
-pub first_simple : (m : Module) → IsFirst m → All IsSimple (insts_at m 0 0)
+pub first_simple : (m : Module) → HasFirstForm m → All IsSimple (insts_at m 0 0)
 first_simple m first = subst (λ m. All IsSimple (insts_at m 0 0)) (sym first.module_is) (lines_simple first.of.lines [] first.of.last)

@@ -1,5 +1,5 @@
 -- The walk over a block makes the instrumented form of its instructions.
-use Rattle.std.proofs.Common.{◌≡◌, ℕ, zero, suc, ◌+◌, ◌*◌, ◌<◌, ◌≤◌, List, [], ◌∷◌, ◌++◌, length, refl, sym, ap, ◌∙◌, subst, arith}
+use Rattle.std.proofs.Common.{◌≡◌, ℕ, zero, suc, ◌+◌, ◌<◌, ◌≤◌, List, [], ◌∷◌, ◌++◌, length, refl, sym, ap, ◌∙◌, subst, arith}
 use Rattle.std.specs.Prelude.{get_or, drop}
 use Rattle.std.proofs.lemmas.List.{append_assoc, drop_more}
 use Rattle.std.proofs.Math.Path.{ap₂}

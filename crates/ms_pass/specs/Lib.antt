@@ -1,5 +1,6 @@
 pub mod Declarations
 pub mod Pass
 pub mod Law
+pub mod FirstForm
 pub mod FirstNumbers
 pub mod Known

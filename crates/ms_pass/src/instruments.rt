@@ -1,9 +1,10 @@
 //! The instrumented form of a module.
 ghost use Rattle.std.specs.Prelude.{◌≡◌, ◌∷◌, [], IfOk};
 ghost use Rattle.ms_ir.specs.Code.{insts_at};
-ghost use Rattle.ms_ir.specs.First.{IsFirst, main_module};
+ghost use Rattle.ms_ir.specs.First.{main_module};
 ghost use Rattle.ms_ir.specs.Faithful.{Faithful};
 ghost use Rattle.ms_pass.specs.Declarations as declares;
+ghost use Rattle.ms_pass.specs.FirstForm.{HasFirstForm, HasFewInsts};
 ghost use Rattle.ms_pass.specs.FirstNumbers.{first_pass};
 
 use crate::blocks::{count_results, instrument_block};
@@ -60,10 +61,11 @@ fn instrumented(alloc: Global, insts: Vec<Inst>) -> Result<Module, NoMemory>
     })
 }
 
-/// Inserts shadow code into a module of the first form, after Stepanov and Serebryany (CGO 2015): its plain runs
-/// are then the shadow runs of `m`. The one error is want of memory. Linear in the number of instructions.
+/// Inserts shadow code into a module of the first form of at most 2^22 instructions, after Stepanov and Serebryany (CGO
+/// 2015): its plain runs are then the shadow runs of `m`. The one error is want of memory. Linear in the number of instructions.
 pub fn instrument(alloc: Global, m: &Module) -> Result<Module, NoMemory>
-    requires first { IsFirst m.now }
+    requires first { HasFirstForm m.now }
+    requires few { HasFewInsts m.now }
     ensures pass { IfOk result (λ j. j ≡ first_pass m.now) }
     ensures faithful { IfOk result (λ j. Faithful m.now j) }
 {

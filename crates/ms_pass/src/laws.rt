@@ -5,7 +5,6 @@ ghost use Rattle.ms_ir.specs.declared.syntax.Module.{Module};
 ghost use Rattle.ms_ir.specs.Names.{is_reserved};
 ghost use Rattle.ms_ir.specs.World.{Setting};
 ghost use Rattle.ms_ir.specs.Code.{strip};
-ghost use Rattle.ms_ir.specs.First.{IsFirst};
 ghost use Rattle.ms_ir.specs.Masks.{by_formulas};
 ghost use Rattle.ms_ir.specs.Plain.{PlainState, More, plain_step, run};
 ghost use Rattle.ms_ir.specs.Shadow.{ShadowState, shadow_step};
@@ -13,6 +12,7 @@ ghost use Rattle.ms_ir.specs.Faithful.{Faithful, NoMarks};
 ghost use Rattle.ms_pass.specs.Pass.{Numbering, pass};
 ghost use Rattle.ms_pass.specs.Law.{Follows, Steps, Sound, Ranged};
 ghost use Rattle.ms_pass.specs.Known.{KnownModule, CleanRun, IsTaken};
+ghost use Rattle.ms_pass.specs.FirstForm.{HasFirstForm, HasFewInsts};
 ghost use Rattle.ms_pass.specs.FirstNumbers.{first_pass};
 
 /// The law of a step: from a state of the instrumented module that follows a state of the shadow run, a step of both
@@ -43,8 +43,8 @@ pub fn instrumented_strips()
 {}
 
 /// The plain runs of the instrumented form are the shadow runs of the module: of each that the pass takes, and so of each
-/// of the first form.
+/// of the first form of at most 2^22 instructions.
 pub fn instrumented_runs()
     ensures taken { (numbers : ℕ → Numbering) (m : Module) → IsTaken numbers m → Faithful m (pass numbers m) }
-    ensures first_form { (m : Module) → IsFirst m → Faithful m (first_pass m) }
+    ensures first_form { (m : Module) → HasFirstForm m → HasFewInsts m → Faithful m (first_pass m) }
 {}

@@ -1,18 +1,42 @@
 -- From what the parts of an answer are to what the answer is.
-use Rattle.std.proofs.Common.{◌≡◌, ℕ, ◌^◌, ◌<◌, List, [], codes, Option, Some, None, ap, sym, ◌∙◌, subst, inl, inr, ◌↔◌, arith}
+use Rattle.std.proofs.Common.{◌≡◌, ◌≢◌, ◌↔◌, ℕ, ◌+◌, ◌^◌, ◌<◌, ◌≤◌, Bool, true, false, List, [], ◌∷◌, length, codes, Option, Some, None, Result, Ok, Err, refl, ap, sym, ◌∙◌, subst, inl, inr, arith, lit≤}
+use Rattle.std.specs.Prelude.{unwrap_or, option_map, slice_get}
+use Rattle.std.proofs.lemmas.Bool.{true≢false}
 use Rattle.std.proofs.lemmas.List.Elements.{All-cons, All-nil}
+use Rattle.ms_lex.specs.declared.errors.LexError.{LexError}
+use Rattle.ms_lex.specs.declared.errors.LexError.TheVariants as lexing
+use Rattle.ms_lex.specs.Tokens.{tokens_of}
+use Rattle.ms_ir.specs.declared.syntax.Block.{Block}
+use Rattle.ms_ir.specs.declared.syntax.Func.{Func}
 use Rattle.ms_ir.specs.declared.syntax.Module.{Module}
 use Rattle.ms_ir.specs.declared.runs.Setup.{Setup}
 use Rattle.ms_ir.specs.declared.runs.RunResult.{RunResult}
-use Rattle.ms_ir.specs.First.{First}
 use Rattle.ms_ir.specs.Plain.{plain}
 use Rattle.ms_ir.specs.Faithful.{Faithful, Fair}
+use Rattle.ms_grammar.specs.declared.forms.Form.{Form}
+use Rattle.ms_grammar.specs.declared.forms.Form.TheVariants.{Plain, Instrumented}
+use Rattle.ms_grammar.specs.declared.refusals.Refusal.{Refusal}
+use Rattle.ms_grammar.specs.declared.refusals.Refusal.TheVariants as refusal
+use Rattle.ms_grammar.specs.Bodies.{max_instructions}
+use Rattle.ms_grammar.specs.Bounds.{instructions_among, WithinLimits}
+use Rattle.ms_grammar.specs.Causes.{printed_number}
+use Rattle.ms_grammar.specs.Modules.{instructions_of}
+use Rattle.ms_grammar.specs.Texts.{Reads, max_bytes, max_tokens}
+use Rattle.ms_grammar.proofs.Bounds.{module_within}
+use Rattle.ms_read_body.specs.Calls.{what_of}
+use Rattle.ms_read_body.specs.declared.errors.What.{What}
+use Rattle.ms_read_body.specs.declared.errors.ReadError.{ReadError}
+use Rattle.ms_read_body.specs.declared.errors.ReadError.TheVariants as e
+use Rattle.ms_read_top.specs.Reading.{IsRefused, AnswersExactly, IsAnswer as IsReading}
+use Rattle.ms_pass.specs.FirstForm.{HasFirstForm, HasFewInsts}
 use Rattle.ms_io.specs.Reading.{IsWholeFile}
 use Rattle.ms_top.specs.declared.answers.Answer.{Answer}
 use Rattle.ms_top.specs.declared.answers.Task.{Task}
 use Rattle.ms_top.specs.declared.answers.Task.TheVariants.{Run, Check}
+use Rattle.ms_top.specs.declared.refusals.Refusal.TheVariants.{Read as Of}
 use Rattle.ms_top.specs.Command.{command_of}
-use Rattle.ms_top.specs.Said.{says, default_setup, result_of, answer_of_result, IsAnswerTo, Counted, Whole, IsAnswerFor, IsAnswer, module_limit}
+use Rattle.ms_top.specs.RefusalTexts.{IsNumbered, IsReadRefusal, refusal_text, wants_memory}
+use Rattle.ms_top.specs.Said.{says, default_setup, form_of, result_of, answer_of_result, IsAnswerToModule, IsAnswerToReading, IsAnswerTo, Counted, Whole, IsAnswerFor, IsAnswer, module_limit}
 
 -- ---- runs
 
@@ -37,33 +61,119 @@ run_result task m s r is setup_is run_is = run_is ∙ ap (plain m) setup_is ∙ 
 pub check_result : (task : Task) (m j : Module) (s : Setup) (r : RunResult) → task ≡ Check → s ≡ default_setup → Faithful m j → r ≡ plain j s → r ≡ result_of task m
 check_result task m j s r is setup_is faithful run_is = run_is ∙ ap (plain j) setup_is ∙ faithful.runs default_setup fair_default ∙ ap (λ t. result_of t m) (sym is)
 
+-- ---- modules
+
+abbrev Tells : Bool → Module → Type 0
+Tells b m = (b ≡ true) ↔ HasFirstForm m
+
+pub of_first_form : (b : Bool) (m : Module) → Tells b m → b ≡ true → HasFirstForm m
+of_first_form b m tells h = tells.0 h
+
+pub not_built : (b : Bool) (task : Task) (m : Module) (a : Answer) → Tells b m → b ≡ false → a ≡ says 5 (codes "refused 99: not built yet\n") → IsAnswerToModule task m a
+not_built b task m a tells h is = inr (λ first. true≢false (sym (tells.1 first) ∙ h), is)
+
+pub answered : (b : Bool) (task : Task) (m : Module) (r : RunResult) (a : Answer)
+    → Tells b m → b ≡ true → r ≡ result_of task m → a ≡ answer_of_result m r → IsAnswerToModule task m a
+answered b task m r a tells h run_is is = inl (tells.0 h, is ∙ ap (answer_of_result m) run_is)
+
 -- ---- texts
 
 -- what reading a text answers
-abbrev pub Reads : List ℕ → Option Module → Type 0
-Reads text r = (m : Module) → First text m ↔ (r ≡ Some m)
+pub record Read (form : Form) (text : List ℕ) (r : Result Module ReadError) : Type 0 where
+  pub «module» : (m : Module) → AnswersExactly r (Ok m) (Reads form text m)
+  pub lex : (cause : LexError) → AnswersExactly r (Err (e.Lex cause)) (tokens_of text (max_tokens form) ≡ Err cause)
+  pub refused : (number : ℕ) (w : What) (token place : ℕ) → AnswersExactly r (Err (e.Refused number w token place)) (IsRefused form text number w token place)
+  pub wanting : r ≢ Err (e.Lex lexing.NoMemory)
 
-pub first_of_read : (text : List ℕ) (r : Option Module) (m : Module) → Reads text r → r ≡ Some m → First text m
-first_of_read text r m reads is = (reads m).1 is
+reading_is : (form : Form) (text : List ℕ) (r : Result Module ReadError) → Read form text r → IsReading form text r
+reading_is form text (Ok m) read = (read.«module» m).0 refl
+reading_is form text (Err (e.Lex cause)) read = ((read.lex cause).0 refl, λ none. read.wanting (ap (λ c. Err (e.Lex c)) none))
+reading_is form text (Err (e.Refused number w token place)) read = (read.refused number w token place).0 refl
+reading_is form text (Err e.NoMemory) read = tt
 
-none_is_some : (m : Module) → (r : Option Module) → r ≡ None → r ≡ Some m → ⊥
-none_is_some m r none some = cc
+-- a module that is read has few instructions
+first_few : (insts others : ℕ) → insts + others ≤ 2 ^ 22 → insts ≤ 2 ^ 22
+first_few insts others h = omega (arith, h)
 
-pub refused : (task : Task) (text : List ℕ) (r : Option Module) (a : Answer) → Reads text r → r ≡ None → a ≡ says 5 (codes "refused 99: not built yet\n") → IsAnswerTo task text a
-refused task text r a reads none is = inr ((λ m first. none_is_some m r none ((reads m).0 first)), is)
+few_in_blocks : (blocks : List Block) (others : ℕ) → instructions_of blocks + others ≤ 2 ^ 22 → length (unwrap_or (option_map (λ b. b.insts) (slice_get blocks 0)) []) ≤ 2 ^ 22
+few_in_blocks [] others h = lit≤ tt
+few_in_blocks (b ∷ rest) others h = omega (arith, h)
 
-pub answered : (task : Task) (text : List ℕ) (o : Option Module) (m : Module) (r : RunResult) (a : Answer)
-    → Reads text o → o ≡ Some m → r ≡ result_of task m → a ≡ answer_of_result m r → IsAnswerTo task text a
-answered task text o m r a reads some run_is is = inl (m, first_of_read text o m reads some, is ∙ ap (answer_of_result m) run_is)
+few_in_funcs : (funcs : List Func) → instructions_among funcs ≤ 2 ^ 22
+    → length (unwrap_or (option_map (λ b. b.insts) (slice_get (unwrap_or (option_map (λ f. f.blocks) (slice_get funcs 0)) []) 0)) []) ≤ 2 ^ 22
+few_in_funcs [] h = lit≤ tt
+few_in_funcs (f ∷ rest) h = few_in_blocks f.blocks (instructions_among rest) h
+
+most : (form : Form) → max_instructions form ≤ 2 ^ 22
+unfolding max_instructions
+most Plain = lit≤ tt
+most Instrumented = lit≤ tt
+
+few_read : (form : Form) (m : Module) → WithinLimits form m → HasFewInsts m
+few_read form m within = few_in_funcs m.funcs (omega (arith, most form, within.instructions))
+
+pub few_insts : (form : Form) (text : List ℕ) (r : Result Module ReadError) (m : Module) → Read form text r → r ≡ Ok m → HasFewInsts m
+few_insts form text r m read is = few_read form m (module_within form text m ((read.«module» m).0 is))
+
+same_number : {m n : ℕ} → Some m ≡ Some n → m ≡ n
+same_number h = cc
+
+-- the number of a cause fits what it names
+fits : (cause : Refusal) (number : ℕ) → printed_number cause ≡ Some number → IsNumbered number (what_of cause)
+fits refusal.Syntax number h = inl (sym (same_number h))
+fits (refusal.Outside construct) number h = sym (same_number h)
+fits (refusal.Limit limit) number h = sym (same_number h)
+fits refusal.Numbering number h = inr (inl (sym (same_number h)))
+fits refusal.Reserved number h = inr (inr (sym (same_number h)))
+fits refusal.NoMemory number h = absurd cc
+
+numbered : (form : Form) (text : List ℕ) (number : ℕ) (w : What) (token place : ℕ) → IsRefused form text number w token place → IsNumbered number w
+numbered form text number w token place is = subst (IsNumbered number) (sym is.named) (fits is.cause number is.numbered)
+
+lexer_has_line : (cause : LexError) → cause ≢ lexing.NoMemory → IsReadRefusal (e.Lex cause)
+lexer_has_line (lexing.BadByte place) some = tt
+lexer_has_line (lexing.OpenString place) some = tt
+lexer_has_line lexing.TooManyTokens some = tt
+lexer_has_line lexing.NoMemory some = some refl
+
+error_has_line : (form : Form) (text : List ℕ) (cause : ReadError) → IsReading form text (Err cause) → wants_memory cause ≡ false → IsReadRefusal cause
+error_has_line form text (e.Lex cause) is some = lexer_has_line cause is.1
+error_has_line form text (e.Refused number w token place) is some = numbered form text number w token place is
+error_has_line form text e.NoMemory is some = absurd (true≢false some)
+
+pub has_line : (form : Form) (text : List ℕ) (r : Result Module ReadError) (cause : ReadError) → Read form text r → r ≡ Err cause → wants_memory cause ≡ false → IsReadRefusal cause
+has_line form text r cause read is some = error_has_line form text cause (subst (IsReading form text) is (reading_is form text r read)) some
+
+pub module_answer : (task : Task) (form : Form) (text : List ℕ) (r : Result Module ReadError) (m : Module) (a : Answer)
+    → form ≡ form_of task → Read form text r → r ≡ Ok m → IsAnswerToModule task m a → IsAnswerTo task text a
+module_answer task form text r m a same read is answers =
+    (Ok m, subst (λ f. IsReading f text (Ok m)) same (subst (IsReading form text) is (reading_is form text r read)), answers)
+
+error_answer : (task : Task) (cause : ReadError) (a : Answer) → wants_memory cause ≡ false → a ≡ says 5 (refusal_text (Of cause)) → IsAnswerToReading task (Err cause) a
+error_answer task (e.Lex cause) a some is = is
+error_answer task (e.Refused number w token place) a some is = is
+error_answer task e.NoMemory a some is = absurd (true≢false some)
+
+pub refusal_answer : (task : Task) (form : Form) (text : List ℕ) (r : Result Module ReadError) (cause : ReadError) (a : Answer)
+    → form ≡ form_of task → Read form text r → r ≡ Err cause → wants_memory cause ≡ false → a ≡ says 5 (refusal_text (Of cause)) → IsAnswerTo task text a
+refusal_answer task form text r cause a same read is some answers =
+    (Err cause, subst (λ f. IsReading f text (Err cause)) same (subst (IsReading form text) is (reading_is form text r read)), error_answer task cause a some answers)
+
+-- the limit of a file is that of its form
+pub file_limit : (task : Task) (n : ℕ) → n ≤ module_limit task → n ≤ max_bytes (form_of task)
+unfolding max_bytes
+file_limit Run n h = h
+file_limit Check n h = h
 
 -- ---- files
 
--- an answer to a file that was read whole; the name and the bytes come as the calls gave them
-pub whole_answer : (c : Counted) (words : List (List ℕ)) (task : Task) (file name text bytes : List ℕ) (a : Answer)
-    → Some (task, file) ≡ command_of words → name ≡ file → bytes ≡ text → IsWholeFile c.told name module_limit text → IsAnswerTo task bytes a → IsAnswer c words a
-whole_answer c words task file name text bytes a asks name_is bytes_is whole answers =
+-- an answer to a file that was read whole; the limit, the name and the bytes come as the calls gave them
+pub whole_answer : (c : Counted) (words : List (List ℕ)) (task : Task) (limit : ℕ) (file name text bytes : List ℕ) (a : Answer)
+    → Some (task, file) ≡ command_of words → limit ≡ module_limit task → name ≡ file → bytes ≡ text → IsWholeFile c.told name limit text
+    → IsAnswerTo task bytes a → IsAnswer c words a
+whole_answer c words task limit file name text bytes a asks limit_is name_is bytes_is whole answers =
     subst (λ o. IsAnswerFor c o a) asks (
       Whole text,
-      subst (λ n. IsWholeFile c.told n module_limit text) name_is whole,
+      subst (λ l. IsWholeFile c.told file l text) limit_is (subst (λ n. IsWholeFile c.told n limit text) name_is whole),
       subst (λ t. IsAnswerTo task t a) bytes_is answers,
     )

@@ -1,4 +1,5 @@
 pub mod Appending
 pub mod Answering
+pub mod OneAnswer
 pub mod Rooting
 pub mod Statuses

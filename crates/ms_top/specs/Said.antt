@@ -1,5 +1,5 @@
 -- What a call is to say: its status and its two texts, for the words and the files that it was given.
-use Rattle.std.specs.Prelude.{◌≡◌, ℕ, ◌^◌, false, List, [], ◌∷◌, ◌++◌, length, Option, Some, None, eqb, if◌then◌else◌, codes, ◌⊎◌}
+use Rattle.std.specs.Prelude.{◌≡◌, ℕ, ◌^◌, false, List, [], ◌∷◌, ◌++◌, length, Option, Some, None, Result, Ok, Err, eqb, if◌then◌else◌, codes, ◌⊎◌}
 use Rattle.ms_io.specs.Counts.{Rose}
 use Rattle.ms_io.specs.Reading.{Holdings, IsWholeFile, IsAbsent, IsTooLong}
 use Rattle.ms_io.specs.Writing.{with_appended, AppendsPrefix}
@@ -8,15 +8,22 @@ use Rattle.ms_ir.specs.declared.runs.End.{End}
 use Rattle.ms_ir.specs.declared.runs.End.TheVariants as ends
 use Rattle.ms_ir.specs.declared.runs.Setup.{Setup}
 use Rattle.ms_ir.specs.declared.runs.RunResult.{RunResult}
-use Rattle.ms_ir.specs.First.{First}
 use Rattle.ms_ir.specs.Plain.{plain}
 use Rattle.ms_ir.specs.Shadow.{shadow}
+use Rattle.ms_grammar.specs.declared.forms.Form.{Form}
+use Rattle.ms_grammar.specs.declared.forms.Form.TheVariants.{Plain, Instrumented}
+use Rattle.ms_read_body.specs.declared.errors.ReadError.{ReadError}
+use Rattle.ms_read_body.specs.declared.errors.ReadError.TheVariants as e
+use Rattle.ms_read_top.specs.Reading.{IsAnswer as IsReading}
+use Rattle.ms_pass.specs.FirstForm.{HasFirstForm}
 use Rattle.ms_top.specs.declared.answers.Answer.{Answer}
 use Rattle.ms_top.specs.declared.answers.Task.{Task}
 use Rattle.ms_top.specs.declared.answers.Task.TheVariants.{Run, Check}
+use Rattle.ms_top.specs.declared.refusals.Refusal.TheVariants.{Read}
 use Rattle.ms_top.specs.Command.{command_of}
 use Rattle.ms_top.specs.Texts.{line, closing_of}
 use Rattle.ms_top.specs.ReportTexts.{report_text_of}
+use Rattle.ms_top.specs.RefusalTexts.{refusal_text}
 
 abbrev pub answer_of : ℕ → List ℕ → List ℕ → Answer
 answer_of status out err = record { status = status; out = out; err = err }
@@ -25,9 +32,15 @@ answer_of status out err = record { status = status; out = out; err = err }
 abbrev pub says : ℕ → List ℕ → Answer
 says status err = answer_of status [] err
 
+-- the form in which a command reads a module
+abbrev pub form_of : Task → Form
+form_of Run = Instrumented
+form_of Check = Plain
+
 -- the most bytes that a module's file may have
-abbrev pub module_limit : ℕ
-module_limit = 2 ^ 22
+abbrev pub module_limit : Task → ℕ
+module_limit Run = 2 ^ 27
+module_limit Check = 2 ^ 22
 
 -- no input, the fill a5, ten million steps, one report
 abbrev pub default_setup : Setup
@@ -55,11 +68,21 @@ result_of Check m = shadow m default_setup
 abbrev pub answer_of_result : Module → RunResult → Answer
 answer_of_result m r = answer_of (status_of r) r.output (report_text_of m r ++ closing_of m r false)
 
--- the answer for a module's text: a run where it is of the first form, and else a refusal
+-- the answer for a module: a run where a text of the first form gives it, and else a refusal
+abbrev pub IsAnswerToModule : Task → Module → Answer → Type 0
+IsAnswerToModule task m a =
+    (HasFirstForm m × (a ≡ answer_of_result m (result_of task m)))
+    ⊎ ((HasFirstForm m → ⊥) × (a ≡ says 5 (codes "refused 99: not built yet\n")))
+
+-- the answer for what reading a text comes to: a module, or why there is none; want of memory has an answer of its own
+abbrev pub IsAnswerToReading : Task → Result Module ReadError → Answer → Type 0
+IsAnswerToReading task (Ok m) a = IsAnswerToModule task m a
+IsAnswerToReading task (Err e.NoMemory) a = ⊥
+IsAnswerToReading task (Err cause) a = a ≡ says 5 (refusal_text (Read cause))
+
+-- the answer for a text: what it reads as in the form of the command, or why it isn't read, decides
 abbrev pub IsAnswerTo : Task → List ℕ → Answer → Type 0
-IsAnswerTo task text a =
-    ((m : Module) × First text m × (a ≡ answer_of_result m (result_of task m)))
-    ⊎ (((m : Module) → First text m → ⊥) × (a ≡ says 5 (codes "refused 99: not built yet\n")))
+IsAnswerTo task text a = (r : Result Module ReadError) × IsReading (form_of task) text r × IsAnswerToReading task r a
 
 -- ---- the files
 
@@ -82,10 +105,10 @@ pub data Reading : Type 0 where
   Long : Reading
 
 -- a file that isn't held is a fault; any other shows in the count of faults
-abbrev pub CanRead : Counted → List ℕ → Reading → Type 0
-CanRead c file (Whole text) = IsWholeFile c.told file module_limit text
-CanRead c file Fault = IsAbsent c.told file c.faults c.faults_after ⊎ Rose c.faults c.faults_after
-CanRead c file Long = (n : ℕ) × IsTooLong c.told file module_limit n c.taken c.taken_after
+abbrev pub CanRead : Counted → Task → List ℕ → Reading → Type 0
+CanRead c task file (Whole text) = IsWholeFile c.told file (module_limit task) text
+CanRead c task file Fault = IsAbsent c.told file c.faults c.faults_after ⊎ Rose c.faults c.faults_after
+CanRead c task file Long = (n : ℕ) × IsTooLong c.told file (module_limit task) n c.taken c.taken_after
 
 abbrev pub IsAnswerAfter : Task → List ℕ → Reading → Answer → Type 0
 IsAnswerAfter task file (Whole text) a = IsAnswerTo task text a
@@ -96,7 +119,7 @@ IsAnswerAfter task file Long a = a ≡ says 9 (line (codes "file too long") file
 
 abbrev pub IsAnswerFor : Counted → Option (Task × List ℕ) → Answer → Type 0
 IsAnswerFor c None a = a ≡ says 2 (codes "words: NotBuilt at 0\n")
-IsAnswerFor c (Some command) a = (r : Reading) × CanRead c command.1 r × IsAnswerAfter command.0 command.1 r a
+IsAnswerFor c (Some command) a = (r : Reading) × CanRead c command.0 command.1 r × IsAnswerAfter command.0 command.1 r a
 
 -- what a call with these words and these files is to say, but for want of memory
 abbrev pub IsAnswer : Counted → List (List ℕ) → Answer → Type 0

@@ -1,20 +1,22 @@
 //! What a call is to say.
-ghost use Rattle.std.specs.Prelude.{◌≡◌, ◌≤◌, ◌^◌, ◌++◌, codes, length, IfOk, option_map};
-ghost use Rattle.ms_ir.specs.First.{IsFirst};
+ghost use Rattle.std.specs.Prelude.{◌≡◌, ◌≤◌, ◌^◌, ◌++◌, false, codes, length, IfOk, option_map};
+ghost use Rattle.ms_pass.specs.FirstForm.{HasFirstForm, HasFewInsts};
 ghost use Rattle.ms_top.specs.Command.{command_of, task_of as task_of_word};
-ghost use Rattle.ms_top.specs.Said.{counted, IsAnswer, IsAnswerTo, answer_of_result, result_of as result_of_task, default_setup as default_setup_of, says, status_of as status_of_run};
+ghost use Rattle.ms_top.specs.RefusalTexts.{IsReadRefusal, refusal_text, wants_memory as is_want_of_memory};
+ghost use Rattle.ms_top.specs.Said.{counted, IsAnswer, IsAnswerTo, IsAnswerToModule, answer_of_result, form_of as form_of_task, module_limit as limit_of_task, result_of as result_of_task, default_setup as default_setup_of, says, status_of as status_of_run};
 ghost use Rattle.ms_top.specs.Texts.{line};
 
 use crate::closing::closing;
+use crate::refusals::{Refusal, refusal_line};
 use crate::reports::report_text;
 use ms_bits::{Bytes, NoMemory, Text};
 use ms_first as first;
+use ms_grammar::Form;
 use ms_io::{FileError, Files};
 use ms_ir::{End, Module, RunResult, Setup};
+use ms_read_body::ReadError;
+use ms_read_top::read;
 use std::alloc::{AllocError, Global};
-
-/// The most bytes that a module's file may have.
-const MODULE_LIMIT: u64 = 4194304;
 
 /// A status, and the texts for the standard output and the standard error.
 #[derive(Debug, Drop)]
@@ -31,6 +33,28 @@ pub enum Task {
     Run,
     /// Instruments the module and runs that, so that uses of uninitialised bits are reported.
     Check,
+}
+
+impl Task {
+    /// The form in which a module is read.
+    fn form(self) -> Form
+        ensures { result ≡ form_of_task self }
+    {
+        match self {
+            Task::Run => Form::Instrumented,
+            Task::Check => Form::Plain,
+        }
+    }
+
+    /// The most bytes that a module's file may have.
+    fn module_limit(self) -> u64
+        ensures { result ≡ limit_of_task self }
+    {
+        match self {
+            Task::Run => 1 << 27,
+            Task::Check => 1 << 22,
+        }
+    }
 }
 
 impl Answer {
@@ -87,9 +111,10 @@ fn status_of(r: &RunResult) -> u8
     }
 }
 
-/// The result of a module of the first form, with the default setup.
+/// The result of a module of the first form of at most 2^22 instructions, with the default setup.
 fn result_of(alloc: Global, task: Task, m: &Module) -> Result<RunResult, NoMemory>
-    requires { IsFirst m.now }
+    requires first { HasFirstForm m.now }
+    requires few { HasFewInsts m.now }
     ensures { IfOk result (λ r. r ≡ result_of_task task m.now) }
 {
     let setup = default_setup(alloc)?;
@@ -116,25 +141,58 @@ fn answer_of(alloc: Global, m: &Module, r: RunResult) -> Result<Answer, NoMemory
     })
 }
 
-/// The answer for a text that is of no form which can be run yet.
-fn refuse(alloc: Global) -> Result<Answer, NoMemory>
+/// The answer for a module that can't be run yet.
+fn not_built(alloc: Global) -> Result<Answer, NoMemory>
     ensures { IfOk result (λ a. a ≡ says 5 (codes "refused 99: not built yet\n")) }
 {
     let line = Vec::from_slice(alloc, b"refused 99: not built yet\n")?;
     Ok(Answer::on_err(alloc, 5, line))
 }
 
+/// The answer to a command on a module.
+#[tactic(auto, using(crate::proofs::Answering::answered, crate::proofs::Answering::not_built))]
+fn answer_to_module(alloc: Global, task: Task, m: &Module) -> Result<Answer, NoMemory>
+    requires { HasFewInsts m.now }
+    ensures { IfOk result (λ a. IsAnswerToModule task m.now a) }
+{
+    if first::is_first(alloc, m)? {
+        let r = result_of(alloc, task, m)?;
+        Ok(answer_of(alloc, m, r)?)
+    } else {
+        Ok(not_built(alloc)?)
+    }
+}
+
+fn wants_memory(cause: ReadError) -> bool
+    ensures { result ≡ is_want_of_memory cause }
+{
+    match cause {
+        ReadError::NoMemory => true,
+        _ => false,
+    }
+}
+
+/// The answer for a text that isn't read.
+fn refused(alloc: Global, cause: ReadError) -> Result<Answer, NoMemory>
+    requires { is_want_of_memory cause ≡ false → IsReadRefusal cause }
+    ensures reason { IfOk result (λ a. is_want_of_memory cause ≡ false) }
+    ensures line { IfOk result (λ a. a ≡ says 5 (refusal_text (Refusal.Read cause))) }
+{
+    if wants_memory(cause) {
+        return Err(AllocError);
+    }
+    let line = refusal_line(alloc, &Refusal::Read(cause))?;
+    Ok(Answer::on_err(alloc, 5, line))
+}
+
 /// The answer to a command on a module's text.
 fn answer_to_text(alloc: Global, task: Task, text: &[u8]) -> Result<Answer, NoMemory>
-    requires { length text.now ≤ 2 ^ 22 }
+    requires { length text.now ≤ limit_of_task task }
     ensures { IfOk result (λ a. IsAnswerTo task text.now a) }
 {
-    match first::read(alloc, text)? {
-        None => Ok(refuse(alloc)?),
-        Some(module) => {
-            let r = result_of(alloc, task, &module)?;
-            Ok(answer_of(alloc, &module, r)?)
-        }
+    match read(alloc, text, task.form()) {
+        Ok(module) => Ok(answer_to_module(alloc, task, &module)?),
+        Err(cause) => Ok(refused(alloc, cause)?),
     }
 }
 
@@ -180,7 +238,7 @@ pub fn answer_to<F: Files>(alloc: Global, words: &[Text], files: &mut F) -> Resu
         let line = Vec::from_slice(alloc, b"words: NotBuilt at 0\n")?;
         return Ok(Answer::on_err(alloc, 2, line));
     };
-    match files.read_whole(alloc, file.as_str(), MODULE_LIMIT) {
+    match files.read_whole(alloc, file.as_str(), task.module_limit()) {
         Ok(text) => Ok(answer_to_text(alloc, task, &text)?),
         Err(FileError::NoMemory) => Err(AllocError),
         Err(FileError::TooLong { .. }) => Ok(about_file(alloc, 9, b"file too long", file)?),

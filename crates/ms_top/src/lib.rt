@@ -3,7 +3,9 @@
 
 pub mod answers;
 pub mod closing;
+pub mod laws;
 pub mod pieces;
+pub mod refusals;
 pub mod reports;
 pub mod roots;
 pub mod spelling;

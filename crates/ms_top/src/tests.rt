@@ -1,14 +1,20 @@
 //! The top call over files and sinks in memory.
 
+ghost use Rattle.std.specs.Prelude.{◌<◌, length};
+
 use crate::msan;
 use crate::reports::report_text;
 use ms_bits::{Bytes, List, Text};
-use ms_first::read;
+use ms_grammar::Form;
 use ms_io::{MemFiles, MemSink, SureFiles, SureSink};
-use ms_ir::{End, Origin, Report, RunResult};
+use ms_ir::{End, Module, Origin, Report, RunResult};
+use ms_read_top::read;
 use std::alloc::{AllocError, Global};
 use std::collections::BTreeMap;
 use std::test::Fail;
+
+mod forms;
+mod refusals;
 
 const STORED: &str =
     "define i32 @main() {\n  %1 = alloca i32\n  store i32 12, ptr %1\n  %2 = load i32, ptr %1\n  %3 = xor i32 %2, 10\n  ret i32 %3\n}\n";
@@ -85,7 +91,7 @@ fn call_on(alloc: Global, words: &str, file: &str) -> Result<Said, AllocError> {
 
 #[test]
 fn says_what_the_words_and_the_file_ask_for(rt: HostRuntime) -> Result<(), Fail> {
-    let table: [(&str, &str, u8, &str); 15] = [
+    let table: [(&str, &str, u8, &str); 14] = [
         ("run f", STORED, 0, "end: exit 6\nreports: 0\nblind: 0\n"),
         (
             "run f",
@@ -100,12 +106,6 @@ fn says_what_the_words_and_the_file_ask_for(rt: HostRuntime) -> Result<(), Fail>
             "end: exit 0\nreports: 0\nblind: 0\n",
         ),
         ("run f", "", 5, "refused 99: not built yet\n"),
-        (
-            "run f",
-            "define i32 @main() {\n  ret i32 0\n}",
-            5,
-            "refused 99: not built yet\n",
-        ),
         ("run", STORED, 2, "words: NotBuilt at 0\n"),
         ("", STORED, 2, "words: NotBuilt at 0\n"),
         ("run f f", STORED, 2, "words: NotBuilt at 0\n"),
@@ -182,12 +182,25 @@ fn report(alloc: Global, chain: &[Origin]) -> Result<Report, AllocError> {
     })
 }
 
+/// The module of a short text.
+#[tactic(auto, unfolding(ms_grammar::specs::Texts::max_bytes))]
+fn module_of(alloc: Global, text: &[u8]) -> Option<Module>
+    requires { length text.now < 1000 }
+{
+    match read(alloc, text, Form::Plain) {
+        Ok(module) => Some(module),
+        Err(_) => None,
+    }
+}
+
 #[test]
 fn prints_chains_and_unknown_origins(rt: HostRuntime) -> Result<(), Fail> {
     let alloc = rt.alloc();
     let text = TWO_UNSET.as_bytes();
     assert!(rt; text.len() < 1000);
-    let module = read(alloc, text)?.ok_or("a module")?;
+    let Some(module) = module_of(alloc, text) else {
+        return Err("a module")?;
+    };
     let chain = [
         Origin::Chain { old: 2, site: 4 },
         Origin::Root { number: 2 },
@@ -248,14 +261,9 @@ fn the_stack_ends(rt: HostRuntime) -> Result<(), Fail> {
 }
 
 #[test]
-fn long_files_and_faults_have_their_own_statuses(rt: HostRuntime) -> Result<(), Fail> {
+fn faults_have_their_own_statuses(rt: HostRuntime) -> Result<(), Fail> {
     let alloc = rt.alloc();
     let run = "run f";
-    let long = vec![in alloc; 32; 4194305]?;
-    let said = call(alloc, run, long, Vec::new(alloc), Vec::new(alloc), 1000)?;
-    assert_eq!(rt; said.status, 9);
-    assert!(rt; said.err.as_slice() == b"file too long: f\n".as_slice());
-
     let file = Vec::from_slice(alloc, STORED.as_bytes())?;
     let said = call(alloc, run, file, vec![in alloc; 0]?, Vec::new(alloc), 1000)?;
     assert_eq!(rt; said.status, 6);

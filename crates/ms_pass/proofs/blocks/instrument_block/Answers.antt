@@ -1,6 +1,6 @@
-use Rattle.std.proofs.Common.{◌≡◌, ℕ, ◌+◌, ap, ◌∙◌, arith, []}
+use Rattle.std.proofs.Common.{◌+◌, ap, ◌∙◌, arith, []}
 use Rattle.std.specs.Prelude.{None}
-use Rattle.ms_rules.specs.Arguments.{env_of, here_of}
+use Rattle.ms_rules.specs.Arguments.{here_of}
 use Rattle.ms_rules.specs.Emit.{Given}
 use Rattle.ms_pass.specs.FirstNumbers.{first_env}
 use Rattle.ms_pass.proofs.Walking.{walked, ended}

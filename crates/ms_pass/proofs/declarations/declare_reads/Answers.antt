@@ -1,5 +1,5 @@
 use Rattle.std.proofs.Common.{ap, ◌∙◌, codes}
-use Rattle.std.specs.Prelude.{None, Some}
+use Rattle.std.specs.Prelude.{Some}
 use Rattle.ms_ir.specs.declared.syntax.Ty.{Int}
 use Rattle.ms_pass.specs.Declarations.{declared}
 use Rattle.ms_pass.proofs.Declaring.{two_more}

@@ -1,13 +1,25 @@
-use Rattle.ms_first.proofs.Forms.{is_first}
-use Rattle.ms_top.proofs.Answering.{first_of_read, refused, answered}
+use Rattle.std.proofs.Common.{subst, sym, ◌≤◌, length}
+use Rattle.ms_grammar.specs.Texts.{max_bytes}
+use Rattle.ms_top.proofs.Answering.{file_limit, few_insts, has_line, module_answer, refusal_answer}
 use Rattle.ms_top.proofs.answers.answer_to_text.Goals as goal
 
-pub result_of-requires : goal.result_of-requires
-result_of-requires c = is_first c.args.text.now c.in-Some.module c.requires (first_of_read c.args.text.now _ c.in-Some.module c.in_ok-read.ensures c.in-Some.is)
+pub read-requires : goal.read-requires
+read-requires c = subst (λ f. length c.args.text.now ≤ max_bytes f) (sym c.form.ensures) (file_limit c.args.task _ c.requires)
 
-pub returns-in_ok-refuse-in-None : goal.returns-in_ok-refuse-in-None
-returns-in_ok-refuse-in-None c = refused c.args.task c.args.text.now _ _ c.in_ok-read.ensures c.in-None.is c.in_ok-refuse-in-None.ensures
+pub answer_to_module-requires : goal.answer_to_module-requires
+answer_to_module-requires c = few_insts c.form.result c.args.text.now c.read.result c.in-Ok.module
+    (record { «module» = c.read.ensures.«module»; lex = c.read.ensures.lex; refused = c.read.ensures.refused; wanting = c.read.ensures.wanting }) c.in-Ok.is
 
-pub returns-in_ok-answer_of-in-Some : goal.returns-in_ok-answer_of-in-Some
-returns-in_ok-answer_of-in-Some c =
-    answered c.args.task c.args.text.now _ c.in-Some.module _ _ c.in_ok-read.ensures c.in-Some.is c.in_ok-r-in-Some.ensures c.in_ok-answer_of-in-Some.ensures
+pub refused-requires : goal.refused-requires
+refused-requires c = has_line c.form.result c.args.text.now c.read.result c.in-Err.cause
+    (record { «module» = c.read.ensures.«module»; lex = c.read.ensures.lex; refused = c.read.ensures.refused; wanting = c.read.ensures.wanting }) c.in-Err.is
+
+pub returns-in_ok-answer_to_module-in-Ok : goal.returns-in_ok-answer_to_module-in-Ok
+returns-in_ok-answer_to_module-in-Ok c = module_answer c.args.task c.form.result c.args.text.now c.read.result c.in-Ok.module _ c.form.ensures
+    (record { «module» = c.read.ensures.«module»; lex = c.read.ensures.lex; refused = c.read.ensures.refused; wanting = c.read.ensures.wanting }) c.in-Ok.is
+    c.in_ok-answer_to_module-in-Ok.ensures
+
+pub returns-in_ok-refused-in-Err : goal.returns-in_ok-refused-in-Err
+returns-in_ok-refused-in-Err c = refusal_answer c.args.task c.form.result c.args.text.now c.read.result c.in-Err.cause _ c.form.ensures
+    (record { «module» = c.read.ensures.«module»; lex = c.read.ensures.lex; refused = c.read.ensures.refused; wanting = c.read.ensures.wanting }) c.in-Err.is
+    c.in_ok-refused-in-Err.ensures.reason c.in_ok-refused-in-Err.ensures.line
