@@ -1,0 +1,4 @@
+pub mod Counted
+pub mod Arriving
+pub mod Fitting
+pub mod Looking

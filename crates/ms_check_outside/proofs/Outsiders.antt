@@ -1,0 +1,111 @@
+-- The names that don't fit, in three lists.
+use Rattle.std.proofs.Common.{◌≡◌, ℕ, ◌+◌, Bool, true, false, not, List, [], ◌∷◌, ◌++◌, append_assoc, map, is_some, if◌then◌else◌, Option, Some, None, refl, sym, ap, ◌∙◌}
+use Rattle.std.specs.Prelude.{◌||◌, ◌&&◌, flat_map, slice_get}
+use Rattle.std.specs.Option.{option_or}
+use Rattle.std.specs.List.{list_all}
+use Rattle.std.proofs.Math.Path.{ap₂}
+use Rattle.ms_ir.specs.declared.syntax.Name.{Name}
+use Rattle.ms_ir.specs.declared.syntax.Ty.{Ty}
+use Rattle.ms_ir.specs.declared.syntax.Operand.{Operand}
+use Rattle.ms_ir.specs.declared.syntax.Op.{Op}
+use Rattle.ms_ir.specs.declared.syntax.Op.TheVariants as op
+use Rattle.ms_ir.specs.declared.syntax.Inst.{Inst}
+use Rattle.ms_ir.specs.declared.syntax.Block.{Block}
+use Rattle.ms_ir.specs.declared.syntax.Func.{Func}
+use Rattle.ms_ir.specs.declared.syntax.Module.{Module}
+use Rattle.ms_ir.specs.declared.calls.External.{External}
+use Rattle.ms_ir.specs.Code.{one_unmarked, over_insts, over_blocks, func_index, external_named}
+use Rattle.ms_ir.specs.Names.{lookup, externals, is_reserved}
+use Rattle.ms_valid.specs.Equal.{has_name}
+use Rattle.ms_valid.specs.Locals.{function_names}
+use Rattle.ms_valid.specs.Places.{Spot, spot, next_spot, over_spots, over_block_spots, over_func_spots}
+use Rattle.ms_valid.specs.ExternalsFit.{name_unless, global_fits, decl_fits, called_names, says_volatile, is_no_flag, volatile_callees, bad_externals}
+use Rattle.ms_names.proofs.Places.{place_tells}
+use Rattle.ms_names.proofs.Tied.{func_index_is}
+use Rattle.ms_check_outside.specs.Outside.{is_flagged, volatile_in, volatile_among, volatile_within, func_faults}
+use Rattle.ms_check_outside.proofs.Firsts.{first-append}
+use Rattle.ms_check_outside.proofs.Flagged.{flagged_is}
+
+-- the first name at fault among the globals, the declarations and the functions
+abbrev pub of_globals : Module → Option Name
+of_globals m = slice_get (flat_map (λ g. name_unless (global_fits g) g.name) m.globals) 0
+
+abbrev pub of_decls : Module → Option Name
+of_decls m = slice_get (flat_map (λ d. name_unless (decl_fits (called_names m) d) d.name) m.decls) 0
+
+abbrev pub of_funcs : Module → Option Name
+of_funcs m = slice_get (flat_map (func_faults (function_names m)) m.funcs) 0
+
+-- ---- volatile accesses
+
+module _ (m : Module) where
+  says_is : (x : Name) → says_volatile (external_named (func_index m.funcs) x) ≡ (not (has_name (function_names m) x) && is_flagged x)
+  says_is x =
+      ap (λ b. says_volatile (if b then None else lookup externals x)) (ap is_some (func_index_is m.funcs x) ∙ place_tells (function_names m) x)
+      ∙ split (has_name (function_names m) x)
+    where
+      split : (defined : Bool) → says_volatile (if defined then None else lookup externals x) ≡ (not defined && is_flagged x)
+      split true = refl
+      split false = flagged_is x
+
+  turned : (flag defined plain : Bool) → (not (not defined && flag) || plain) ≡ not (flag && (not defined && not plain))
+  turned true true true = refl
+  turned true true false = refl
+  turned true false true = refl
+  turned true false false = refl
+  turned false true true = refl
+  turned false true false = refl
+  turned false false true = refl
+  turned false false false = refl
+
+  volatile_is : (o : Op) → volatile_callees m o ≡ volatile_in (function_names m) o
+  volatile_is (op.Call ret callee args) =
+      ap (λ b. name_unless b callee) (ap (λ b. not b || list_all is_no_flag args) (says_is callee) ∙ turned (is_flagged callee) (has_name (function_names m) callee) (list_all is_no_flag args))
+  volatile_is (op.Binary o flags t a b) = refl
+  volatile_is (op.Icmp p flags t a b) = refl
+  volatile_is (op.Cast o flags from a to) = refl
+  volatile_is (op.Select c t a b) = refl
+  volatile_is (op.Freeze t a) = refl
+  volatile_is (op.Phi t edges) = refl
+  volatile_is (op.Alloca t u count) = refl
+  volatile_is (op.Load t addr) = refl
+  volatile_is (op.Store t v addr) = refl
+  volatile_is (op.Gep t base indices) = refl
+  volatile_is (op.Br to) = refl
+  volatile_is (op.CondBr c to other) = refl
+  volatile_is (op.Switch t v other cases) = refl
+  volatile_is (op.Ret v) = refl
+  volatile_is op.Unreachable = refl
+
+  -- ---- functions
+
+  abbrev head : Func → List Name
+  head f = name_unless (not (is_reserved f.name)) f.name
+
+  abbrev look : Spot → Inst → List Name
+  look at inst = volatile_callees m inst.op
+
+  in_insts : (at : Spot) (insts : List Inst) → over_spots look at insts ≡ volatile_among (function_names m) insts
+  in_insts at [] = refl
+  in_insts at (inst ∷ rest) = ap₂ (λ a b. a ++ b) (volatile_is inst.op) (in_insts (next_spot at inst) rest)
+
+  in_blocks : (f : Func) (b site : ℕ) (blocks : List Block) → over_block_spots look f b site blocks ≡ volatile_within (function_names m) blocks
+  in_blocks f b site [] = refl
+  in_blocks f b site (k ∷ rest) = ap₂ (λ a c. a ++ c) (in_insts (spot f b 0 site) k.insts) (in_blocks f (b + 1) (site + over_insts one_unmarked k.insts) rest)
+
+  in_funcs : (site : ℕ) (funcs : List Func) → over_func_spots head look site funcs ≡ flat_map (func_faults (function_names m)) funcs
+  in_funcs site [] = refl
+  in_funcs site (f ∷ rest) =
+      ap₂ (λ a c. head f ++ (a ++ c)) (in_blocks f 0 site f.blocks) (in_funcs (site + over_blocks one_unmarked f.blocks) rest)
+      ∙ sym (append_assoc (head f) (volatile_within (function_names m) f.blocks) (flat_map (func_faults (function_names m)) rest))
+
+  -- ---- the definition
+
+  pub outside_is : slice_get (bad_externals m) 0 ≡ option_or (of_globals m) (option_or (of_decls m) (of_funcs m))
+  outside_is =
+      let globals = flat_map (λ g. name_unless (global_fits g) g.name) m.globals in
+      let decls = flat_map (λ d. name_unless (decl_fits (called_names m) d) d.name) m.decls in
+      let funcs = over_func_spots head look 1 m.funcs in
+      first-append globals (decls ++ funcs)
+      ∙ ap (option_or (slice_get globals 0)) (first-append decls funcs)
+      ∙ ap (λ r. option_or (slice_get globals 0) (option_or (slice_get decls 0) (slice_get r 0))) (in_funcs 1 m.funcs)

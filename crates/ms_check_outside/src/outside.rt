@@ -1,0 +1,95 @@
+//! The first name that doesn't fit what stands outside of a module.
+ghost use Rattle.std.specs.Prelude.{◌≡◌, ◌++◌, flat_map, IfOk, slice_get};
+ghost use Rattle.std.specs.Option.{option_copied};
+ghost use Rattle.ms_valid.specs.ExternalsFit.{name_unless, global_fits, decl_fits, bad_externals};
+ghost use Rattle.ms_check_outside.specs.Outside.{func_faults};
+
+use crate::called::{called_names, function_names};
+use crate::externals::is_external;
+use crate::names::is_reserved;
+use crate::runtime::is_runtime;
+use crate::slots::global_fits;
+use crate::volatile::first_in_blocks;
+use ms_bits::NoMemory;
+use ms_ir::{Decl, Func, GlobalVar, Module, Name};
+use ms_names::NameTable;
+use std::alloc::Global;
+
+/// The first global with a reserved name that is no slot.
+fn first_global(globals: &[GlobalVar]) -> Option<&Name>
+    ensures { option_copied result ≡ slice_get (flat_map (λ g. name_unless (global_fits g) g.name) globals.now) 0 }
+{
+    for global in globals {
+        if !global_fits(global) {
+            return Some(&global.name);
+        }
+    }
+    None
+}
+
+/// Whether a declaration is a runtime function where its name is reserved, and an external where it is called.
+fn decl_fits(called: &NameTable<'_>, decl: &Decl) -> bool
+    ensures { result ≡ decl_fits called.now decl.now }
+{
+    if is_reserved(&decl.name) {
+        is_runtime(decl)
+    } else {
+        !called.contains(&decl.name) || is_external(decl)
+    }
+}
+
+/// The first declaration that doesn't fit.
+fn first_decl<'m>(called: &NameTable<'_>, decls: &'m [Decl]) -> Option<&'m Name>
+    ensures { option_copied result ≡ slice_get (flat_map (λ d. name_unless (decl_fits called.now d) d.name) decls.now) 0 }
+{
+    for decl in decls {
+        if !decl_fits(called, decl) {
+            return Some(&decl.name);
+        }
+    }
+    None
+}
+
+/// A function's name where it is reserved, or else the first callee in it whose access would be volatile.
+fn first_in_func<'m>(functions: &NameTable<'_>, func: &'m Func) -> Option<&'m Name>
+    ensures { option_copied result ≡ slice_get (func_faults functions.now func.now) 0 }
+{
+    if is_reserved(&func.name) {
+        Some(&func.name)
+    } else {
+        first_in_blocks(functions, func.blocks.as_slice())
+    }
+}
+
+/// The same for functions.
+fn first_in_funcs<'m>(functions: &NameTable<'_>, funcs: &'m [Func]) -> Option<&'m Name>
+    ensures { option_copied result ≡ slice_get (flat_map (func_faults functions.now) funcs.now) 0 }
+{
+    for func in funcs {
+        if let Some(name) = first_in_func(functions, func) {
+            return Some(name);
+        }
+    }
+    None
+}
+
+/// The first name that doesn't fit the outside of a module, in text order: of a global that is reserved and no slot;
+/// then of a declaration that is reserved and no runtime function with its types, or that is called and no external with
+/// its types; then of a function that is reserved, or of an intrinsic that is called there with an `i1` other than
+/// `false` (LLVM Language Reference, "'llvm.memcpy' Intrinsic" and its neighbours). None exactly where all fit. The one
+/// error is want of memory.
+///
+/// The time grows with the size of the module, times the logarithm of the number of names that are called.
+pub fn first_bad_external(alloc: Global, m: &Module) -> Result<Option<&Name>, NoMemory>
+    ensures { IfOk result (λ name. option_copied name ≡ slice_get (bad_externals m.now) 0) }
+{
+    if let Some(name) = first_global(m.globals.as_slice()) {
+        return Ok(Some(name));
+    }
+    let called = called_names(alloc, m)?;
+    if let Some(name) = first_decl(&called, m.decls.as_slice()) {
+        return Ok(Some(name));
+    }
+    let functions = function_names(alloc, m)?;
+    Ok(first_in_funcs(&functions, m.funcs.as_slice()))
+}

@@ -1,0 +1,95 @@
+//! Calls of intrinsics whose access would be volatile.
+ghost use Rattle.std.specs.Prelude.{◌≡◌, slice_get};
+ghost use Rattle.std.specs.Option.{option_copied};
+ghost use Rattle.std.specs.List.{list_all};
+ghost use Rattle.ms_valid.specs.ExternalsFit.{is_no_flag};
+ghost use Rattle.ms_check_outside.specs.Outside.{is_flagged, is_flagged_text, is_volatile, volatile_in, volatile_among, volatile_within};
+
+use crate::kinds::is_int;
+use crate::slots::is_nought;
+use ms_ir::{Block, Inst, Name, Op, Operand, Ty};
+use ms_names::NameTable;
+
+/// Whether a name is that of an intrinsic whose last argument says whether its access is volatile.
+fn is_flagged(name: &Name) -> bool
+    ensures { result ≡ is_flagged name.now }
+{
+    match name {
+        Name::Number(_) => false,
+        Name::Text(text) => is_flagged_text(text.as_slice()),
+    }
+}
+
+/// The same by the name's text.
+fn is_flagged_text(text: &[u8]) -> bool
+    ensures { result ≡ is_flagged_text text.now }
+{
+    b"llvm.memcpy.p0.p0.i64".as_slice() == text
+        || b"llvm.memmove.p0.p0.i64".as_slice() == text
+        || b"llvm.memset.p0.i64".as_slice() == text
+}
+
+/// Whether an argument is `false`, or no `i1`.
+fn is_no_flag(ty: &Ty, operand: &Operand) -> bool
+    ensures { result ≡ is_no_flag (ty.now, operand.now) }
+{
+    !is_int(ty, 1) || is_nought(operand)
+}
+
+fn are_no_flags(args: &[(Ty, Operand)]) -> bool
+    ensures { result ≡ list_all is_no_flag args.now }
+{
+    for (ty, operand) in args {
+        if !is_no_flag(ty, operand) {
+            return false;
+        }
+    }
+    true
+}
+
+/// Whether the access of a call would be volatile, in a module that defines functions with these names.
+fn is_volatile(functions: &NameTable<'_>, callee: &Name, args: &[(Ty, Operand)]) -> bool
+    ensures { result ≡ is_volatile functions.now callee.now args.now }
+{
+    is_flagged(callee) && !functions.contains(callee) && !are_no_flags(args)
+}
+
+/// The callee of a call whose access would be volatile.
+fn volatile_in<'m>(functions: &NameTable<'_>, op: &'m Op) -> Option<&'m Name>
+    ensures { option_copied result ≡ slice_get (volatile_in functions.now op.now) 0 }
+{
+    match op {
+        Op::Call { callee, args, .. } => {
+            if is_volatile(functions, callee, args.as_slice()) {
+                Some(callee)
+            } else {
+                None
+            }
+        }
+        _ => None,
+    }
+}
+
+/// The first of them in instructions.
+fn first_in_insts<'m>(functions: &NameTable<'_>, insts: &'m [Inst]) -> Option<&'m Name>
+    ensures { option_copied result ≡ slice_get (volatile_among functions.now insts.now) 0 }
+{
+    for inst in insts {
+        if let Some(callee) = volatile_in(functions, &inst.op) {
+            return Some(callee);
+        }
+    }
+    None
+}
+
+/// The first of them in blocks.
+pub fn first_in_blocks<'m>(functions: &NameTable<'_>, blocks: &'m [Block]) -> Option<&'m Name>
+    ensures { option_copied result ≡ slice_get (volatile_within functions.now blocks.now) 0 }
+{
+    for block in blocks {
+        if let Some(callee) = first_in_insts(functions, block.insts.as_slice()) {
+            return Some(callee);
+        }
+    }
+    None
+}

@@ -1,0 +1,3 @@
+pub mod AllSized
+pub mod FirstFaults
+pub mod GlobalSizes

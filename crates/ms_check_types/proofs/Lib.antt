@@ -1,0 +1,9 @@
+pub mod Arguments
+pub mod Cases
+pub mod Equals
+pub mod Firsts
+pub mod Items
+pub mod Passing
+pub mod Rows
+pub mod Stepping
+pub mod Values

@@ -1,0 +1,6 @@
+pub mod Arguments
+pub mod Bodies
+pub mod Callees
+pub mod Faults
+pub mod Items
+pub mod Parts

@@ -1,0 +1,11 @@
+//! What the check of a function looks at.
+
+use crate::locals::Locals;
+use crate::symbols::Symbols;
+
+/// A function of a module, with what its names stand for.
+#[derive(Drop)]
+pub struct Body<'a, 'm> {
+    pub symbols: &'a Symbols<'m>,
+    pub locals: Locals<'a>,
+}

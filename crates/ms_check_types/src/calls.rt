@@ -1,0 +1,130 @@
+//! Calls (LLVM Language Reference, "'call' Instruction"; C library, `printf`).
+ghost use Rattle.std.specs.Prelude.{◌≡◌, ◌+◌, ◌<◌, ◌^◌, ◌&&◌, length, slice_get, if◌then◌else◌};
+ghost use Rattle.ms_valid.specs.Signatures.{signature_of};
+ghost use Rattle.ms_valid.specs.TypesAgree.{first_misfit, fault_unless, argument_fault, is_printable, printf_fault, is_printf, call_fault};
+ghost use Rattle.ms_check_types.specs.Arguments.{fits_parameter};
+ghost use Rattle.ms_check_types.specs.Bodies.{fits_in, module_of};
+ghost use Rattle.ms_check_types.specs.Callees.{callee_signature};
+
+use crate::bodies::Body;
+use crate::callees::Callee;
+use crate::operands::{argument_misfit, operand_fits};
+use crate::types::{is_int, is_pointer, same_result, same_type};
+use ms_ir::{Name, Operand, Ty};
+
+/// Operand 0 is at fault unless something holds that no operand says by itself.
+pub fn fault_unless(holds: bool) -> Option<u32>
+    ensures { result ≡ fault_unless holds }
+{
+    if holds { None } else { Some(0) }
+}
+
+/// Whether an argument fits the parameter at a place, if there is one.
+fn argument_fits(
+    body: &Body<'_, '_>,
+    callee: &Callee<'_>,
+    place: u32,
+    ty: &Ty,
+    operand: &Operand,
+) -> bool
+    ensures { result ≡ fits_parameter (fits_in body.now) (slice_get (callee_signature callee.now).params place) (ty.now, operand.now) }
+{
+    match callee.parameter(place as usize) {
+        Some(asked) => same_type(ty, asked) && operand_fits(body, ty, operand),
+        None => false,
+    }
+}
+
+/// The first argument that doesn't fit its parameter, is one too many, or is missing.
+fn argument_fault(body: &Body<'_, '_>, callee: &Callee<'_>, args: &[(Ty, Operand)]) -> Option<u32>
+    requires { length args.now < 2 ^ 31 }
+    ensures { result ≡ argument_fault (fits_in body.now) 0 (callee_signature callee.now).params args.now }
+{
+    let mut place = 0;
+    for (ty, operand) in args {
+        if !argument_fits(body, callee, place, ty, operand) {
+            return Some(place);
+        }
+        place += 1;
+    }
+    if args.len() < callee.count() {
+        Some(place)
+    } else {
+        None
+    }
+}
+
+/// Whether `printf` prints values of a type.
+fn is_printable(ty: &Ty) -> bool
+    ensures { result ≡ is_printable ty.now }
+{
+    is_int(ty, 32) || is_int(ty, 64) || is_pointer(ty)
+}
+
+/// The first of some arguments, which are counted from 1 on, that doesn't fit or that `printf` doesn't print.
+fn printed_misfit(body: &Body<'_, '_>, args: &[(Ty, Operand)]) -> Option<u32>
+    requires { length args.now < 2 ^ 31 }
+    ensures { result ≡ first_misfit (λ b. is_printable b.0 && fits_in body.now b) 1 args.now }
+{
+    let mut place = 1;
+    for (ty, operand) in args {
+        if !(is_printable(ty) && operand_fits(body, ty, operand)) {
+            return Some(place);
+        }
+        place += 1;
+    }
+    None
+}
+
+/// The argument of a `printf` at fault: the first is a pointer, and the others are words and pointers.
+fn printf_fault(body: &Body<'_, '_>, args: &[(Ty, Operand)]) -> Option<u32>
+    requires { length args.now < 2 ^ 31 }
+    ensures { result ≡ printf_fault (fits_in body.now) args.now }
+{
+    if args.is_empty() {
+        return Some(0);
+    }
+    let (ty, operand) = &args[0];
+    if is_pointer(ty) && operand_fits(body, ty, operand) {
+        printed_misfit(body, &args[1..])
+    } else {
+        Some(0)
+    }
+}
+
+/// The argument of a call at fault, where the function is known.
+fn arguments_fault(
+    body: &Body<'_, '_>,
+    name: &Name,
+    callee: &Callee<'_>,
+    args: &[(Ty, Operand)],
+) -> Option<u32>
+    requires { length args.now < 2 ^ 31 }
+    ensures { result ≡ if is_printf (module_of body.now) name.now then printf_fault (fits_in body.now) args.now
+        else argument_fault (fits_in body.now) 0 (callee_signature callee.now).params args.now }
+{
+    if body.symbols.is_printf(name) {
+        printf_fault(body, args)
+    } else {
+        argument_fault(body, callee, args)
+    }
+}
+
+/// The argument of a call at fault; 0 where a global variable is called, or the result has another type.
+pub fn call_fault(
+    body: &Body<'_, '_>,
+    ret: &Option<Ty>,
+    name: &Name,
+    args: &[(Ty, Operand)],
+) -> Option<u32>
+    requires { length args.now < 2 ^ 31 }
+    ensures { result ≡ call_fault (module_of body.now) (fits_in body.now) (signature_of (module_of body.now) name.now) ret.now name.now args.now }
+{
+    match body.symbols.callee(name) {
+        None => argument_misfit(body, args).or(Some(0)),
+        Some(callee) => {
+            let answers = same_result(ret, callee.result());
+            arguments_fault(body, name, &callee, args).or(fault_unless(answers))
+        }
+    }
+}
