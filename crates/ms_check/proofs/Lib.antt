@@ -1,0 +1,4 @@
+pub mod Crosses
+pub mod Firsts
+pub mod OneAnswer
+pub mod Examples

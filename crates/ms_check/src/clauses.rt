@@ -1,0 +1,173 @@
+//! The clauses of a valid module in their order, each tested where those before it hold.
+ghost use Rattle.std.specs.Prelude.{◌≡◌, [], IfErr, IfSome, OnOk};
+ghost use Rattle.ms_valid.specs.Formed.{Formed};
+ghost use Rattle.ms_valid.specs.NamesOnce.{duplicates};
+ghost use Rattle.ms_valid.specs.Refusals.{IsRefused, UpToNames, UpToTypes, UpToPhis, UpToMain, UpToExternals, UpToUses, UpToMarks};
+ghost use Rattle.ms_valid.specs.Valid.{Valid};
+ghost use Rattle.ms_check.specs.Faults.{fault_of};
+
+use crate::errors::CheckError;
+use ms_bits::Duplicate;
+use ms_check_edges::{defines_main, first_bad_edge};
+use ms_check_names::{first_duplicate, first_unknown};
+use ms_check_outside::{first_bad_external, first_bad_mark};
+use ms_check_paths::first_undefined;
+use ms_check_sizes::first_unsized;
+use ms_check_types::first_mismatch;
+use ms_ir::Module;
+use ms_valid::laws::small_numbers;
+use std::alloc::Global;
+
+/// Whether each name is defined once.
+fn names_once(alloc: Global, m: &Module) -> Result<(), CheckError>
+    ensures holds { OnOk result (duplicates m.now ≡ []) }
+    ensures refused { IfErr result (λ e. IfSome (fault_of e) (IsRefused m.now)) }
+{
+    match first_duplicate(alloc, m)? {
+        None => Ok(()),
+        Some(repeated) => Err(CheckError::Duplicate {
+            global: repeated.global,
+            name: repeated.name.copy(alloc)?,
+        }),
+    }
+}
+
+/// Whether each name that is used is defined.
+fn names_known(alloc: Global, m: &Module) -> Result<(), CheckError>
+    requires formed { Formed m.now }
+    requires before { duplicates m.now ≡ [] }
+    ensures holds { OnOk result (UpToNames m.now) }
+    ensures refused { IfErr result (λ e. IfSome (fault_of e) (IsRefused m.now)) }
+{
+    small_numbers();
+    match first_unknown(alloc, m)? {
+        None => Ok(()),
+        Some(unknown) => {
+            let spelled = &unknown.spelled;
+            Err(CheckError::Unknown {
+                site: unknown.site,
+                global: spelled.global,
+                name: spelled.name.copy(alloc)?,
+            })
+        }
+    }
+}
+
+/// Whether types agree.
+fn types_agree(alloc: Global, m: &Module) -> Result<(), CheckError>
+    requires formed { Formed m.now }
+    requires before { UpToNames m.now }
+    ensures holds { OnOk result (UpToTypes m.now) }
+    ensures refused { IfErr result (λ e. IfSome (fault_of e) (IsRefused m.now)) }
+{
+    match first_mismatch(alloc, m)? {
+        None => Ok(()),
+        Some(mismatch) => Err(CheckError::TypeMismatch {
+            site: mismatch.site,
+            operand: mismatch.operand,
+        }),
+    }
+}
+
+/// Whether phis and branches fit.
+fn phis_fit(alloc: Global, m: &Module) -> Result<(), CheckError>
+    requires formed { Formed m.now }
+    requires before { UpToTypes m.now }
+    ensures holds { OnOk result (UpToPhis m.now) }
+    ensures refused { IfErr result (λ e. IfSome (fault_of e) (IsRefused m.now)) }
+{
+    small_numbers();
+    match first_bad_edge(alloc, m)? {
+        None => Ok(()),
+        Some(site) => Err(CheckError::BadPhi { site }),
+    }
+}
+
+/// Whether there is a `main`.
+fn has_main(m: &Module) -> Result<(), CheckError>
+    requires { UpToPhis m.now }
+    ensures holds { OnOk result (UpToMain m.now) }
+    ensures refused { IfErr result (λ e. IfSome (fault_of e) (IsRefused m.now)) }
+{
+    if defines_main(m) {
+        Ok(())
+    } else {
+        Err(CheckError::NoMain)
+    }
+}
+
+/// Whether externals are as they are known.
+fn externals_fit(alloc: Global, m: &Module) -> Result<(), CheckError>
+    requires { UpToMain m.now }
+    ensures holds { OnOk result (UpToExternals m.now) }
+    ensures refused { IfErr result (λ e. IfSome (fault_of e) (IsRefused m.now)) }
+{
+    match first_bad_external(alloc, m)? {
+        None => Ok(()),
+        Some(name) => Err(CheckError::BadExternal {
+            name: name.copy(alloc)?,
+        }),
+    }
+}
+
+/// Whether each use of a value is defined on every path to it.
+fn uses_defined(alloc: Global, m: &Module) -> Result<(), CheckError>
+    requires formed { Formed m.now }
+    requires before { UpToExternals m.now }
+    ensures holds { OnOk result (UpToUses m.now) }
+    ensures refused { IfErr result (λ e. IfSome (fault_of e) (IsRefused m.now)) }
+{
+    match first_undefined(alloc, m)? {
+        None => Ok(()),
+        Some(undefined) => Err(CheckError::Undefined {
+            site: undefined.site,
+            path: undefined.path,
+        }),
+    }
+}
+
+/// Whether marks stand on inserted code alone.
+fn marks_fit(alloc: Global, m: &Module) -> Result<(), CheckError>
+    requires formed { Formed m.now }
+    requires before { UpToUses m.now }
+    ensures holds { OnOk result (UpToMarks m.now) }
+    ensures refused { IfErr result (λ e. IfSome (fault_of e) (IsRefused m.now)) }
+{
+    small_numbers();
+    match first_bad_mark(alloc, m)? {
+        None => Ok(()),
+        Some(site) => Err(CheckError::BadMark { site }),
+    }
+}
+
+/// Whether types have sizes.
+fn sizes_fit(alloc: Global, m: &Module) -> Result<(), CheckError>
+    requires { UpToMarks m.now }
+    ensures holds { OnOk result (Valid m.now) }
+    ensures refused { IfErr result (λ e. IfSome (fault_of e) (IsRefused m.now)) }
+{
+    match first_unsized(alloc, m)? {
+        None => Ok(()),
+        Some(oversized) => Err(CheckError::BadSize {
+            global: oversized.global,
+            name: oversized.name.copy(alloc)?,
+        }),
+    }
+}
+
+/// Whether all clauses hold, else the first that doesn't.
+pub fn all_hold(alloc: Global, m: &Module) -> Result<(), CheckError>
+    requires { Formed m.now }
+    ensures holds { OnOk result (Valid m.now) }
+    ensures refused { IfErr result (λ e. IfSome (fault_of e) (IsRefused m.now)) }
+{
+    names_once(alloc, m)?;
+    names_known(alloc, m)?;
+    types_agree(alloc, m)?;
+    phis_fit(alloc, m)?;
+    has_main(m)?;
+    externals_fit(alloc, m)?;
+    uses_defined(alloc, m)?;
+    marks_fit(alloc, m)?;
+    sizes_fit(alloc, m)
+}
