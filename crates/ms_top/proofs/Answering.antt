@@ -1,7 +1,7 @@
 -- From what the parts of an answer are to what the answer is.
-use Rattle.std.proofs.Common.{◌≡◌, ◌≢◌, ◌↔◌, ℕ, ◌+◌, ◌^◌, ◌<◌, ◌≤◌, Bool, true, false, List, [], ◌∷◌, length, codes, Option, Some, None, Result, Ok, Err, refl, ap, sym, ◌∙◌, subst, inl, inr, arith, lit≤}
-use Rattle.std.specs.Prelude.{unwrap_or, option_map, slice_get}
-use Rattle.std.proofs.lemmas.Bool.{true≢false}
+use Rattle.std.proofs.Common.{◌≡◌, ◌≢◌, ◌↔◌, ℕ, suc, ◌+◌, ◌^◌, ◌<◌, ◌≤◌, Bool, true, false, List, [], ◌∷◌, length, codes, Option, Some, None, Result, Ok, Err, refl, ap, sym, ◌∙◌, subst, inl, inr, arith, lit≤}
+use Rattle.std.specs.Prelude.{unwrap_or, option_map, slice_get, slice_index_or, nat_lt, is_some, is_none, IfSome, IsTrue}
+use Rattle.std.proofs.lemmas.Bool.{true≢false, and_from, lt-ltb}
 use Rattle.std.proofs.lemmas.List.Elements.{All-cons, All-nil}
 use Rattle.ms_lex.specs.declared.errors.LexError.{LexError}
 use Rattle.ms_lex.specs.declared.errors.LexError.TheVariants as lexing
@@ -28,15 +28,24 @@ use Rattle.ms_read_body.specs.declared.errors.What.{What}
 use Rattle.ms_read_body.specs.declared.errors.ReadError.{ReadError}
 use Rattle.ms_read_body.specs.declared.errors.ReadError.TheVariants as e
 use Rattle.ms_read_top.specs.Reading.{IsRefused, AnswersExactly, IsAnswer as IsReading}
+use Rattle.ms_valid.specs.Formed.{Formed}
+use Rattle.ms_valid.specs.FormedNames.{are_bytes}
+use Rattle.ms_valid.specs.Refusals.{Fault, IsRefused as IsRefusedFor}
+use Rattle.ms_valid.specs.Valid.{Valid}
+use Rattle.ms_check.specs.declared.errors.CheckError.{CheckError}
+use Rattle.ms_check.specs.Faults.{fault_of}
+use Rattle.ms_read_forms.proofs.Modules.{read_formed}
 use Rattle.ms_pass.specs.FirstForm.{HasFirstForm, HasFewInsts}
 use Rattle.ms_io.specs.Reading.{IsWholeFile}
 use Rattle.ms_top.specs.declared.answers.Answer.{Answer}
 use Rattle.ms_top.specs.declared.answers.Task.{Task}
 use Rattle.ms_top.specs.declared.answers.Task.TheVariants.{Run, Check}
-use Rattle.ms_top.specs.declared.refusals.Refusal.TheVariants.{Read as Of}
+use Rattle.ms_top.specs.declared.refusals.Refusal.{Refusal as Cause}
+use Rattle.ms_top.specs.declared.refusals.Refusal.TheVariants.{Read as Of, Check as OfCheck}
 use Rattle.ms_top.specs.Command.{command_of}
-use Rattle.ms_top.specs.RefusalTexts.{IsNumbered, IsReadRefusal, refusal_text, wants_memory}
-use Rattle.ms_top.specs.Said.{says, default_setup, form_of, result_of, answer_of_result, IsAnswerToModule, IsAnswerToReading, IsAnswerTo, Counted, Whole, IsAnswerFor, IsAnswer, module_limit}
+use Rattle.ms_top.specs.FaultTexts.{fault_line}
+use Rattle.ms_top.specs.RefusalTexts.{IsNumbered, IsReadRefusal, HasLine, refusal_text, wants_memory}
+use Rattle.ms_top.specs.Said.{says, default_setup, form_of, result_of, answer_of_result, IsAnswerToValid, IsAnswerToModule, IsAnswerToReading, IsAnswerTo, Counted, Whole, IsAnswerFor, IsAnswer, module_limit}
 
 -- ---- runs
 
@@ -69,12 +78,32 @@ Tells b m = (b ≡ true) ↔ HasFirstForm m
 pub of_first_form : (b : Bool) (m : Module) → Tells b m → b ≡ true → HasFirstForm m
 of_first_form b m tells h = tells.0 h
 
-pub not_built : (b : Bool) (task : Task) (m : Module) (a : Answer) → Tells b m → b ≡ false → a ≡ says 5 (codes "refused 99: not built yet\n") → IsAnswerToModule task m a
+pub not_built : (b : Bool) (task : Task) (m : Module) (a : Answer) → Tells b m → b ≡ false → a ≡ says 5 (codes "refused 99: not built yet\n") → IsAnswerToValid task m a
 not_built b task m a tells h is = inr (λ first. true≢false (sym (tells.1 first) ∙ h), is)
 
 pub answered : (b : Bool) (task : Task) (m : Module) (r : RunResult) (a : Answer)
-    → Tells b m → b ≡ true → r ≡ result_of task m → a ≡ answer_of_result m r → IsAnswerToModule task m a
+    → Tells b m → b ≡ true → r ≡ result_of task m → a ≡ answer_of_result m r → IsAnswerToValid task m a
 answered b task m r a tells h run_is is = inl (tells.0 h, is ∙ ap (answer_of_result m) run_is)
+
+-- ---- validity
+
+some_unless_none : {A : Type 0} (o : Option A) → is_none o ≡ false → is_some o ≡ true
+some_unless_none None h = absurd (true≢false h)
+some_unless_none (Some x) h = refl
+
+pub check_has_line : (cause : CheckError) → wants_memory (OfCheck cause) ≡ false → HasLine (OfCheck cause)
+check_has_line cause h = some_unless_none (fault_of cause) h
+
+faulty : (task : Task) (m : Module) (o : Option Fault) (a : Answer) → IfSome o (IsRefusedFor m) → is_none o ≡ false → a ≡ says 5 (fault_line o) → IsAnswerToModule task m a
+faulty task m None a refused h is = absurd (true≢false h)
+faulty task m (Some fault) a refused h is = inl (fault, refused, is)
+
+pub invalid_answer : (task : Task) (m : Module) (cause : CheckError) (a : Answer)
+    → IfSome (fault_of cause) (IsRefusedFor m) → wants_memory (OfCheck cause) ≡ false → a ≡ says 5 (refusal_text (OfCheck cause)) → IsAnswerToModule task m a
+invalid_answer task m cause a refused h is = faulty task m (fault_of cause) a refused h is
+
+pub valid_answer : (task : Task) (m n : Module) (a : Answer) → n ≡ m → Valid m → IsAnswerToValid task n a → IsAnswerToModule task m a
+valid_answer task m n a same valid is = inr (valid, subst (λ k. IsAnswerToValid task k a) same is)
 
 -- ---- texts
 
@@ -115,6 +144,15 @@ few_read form m within = few_in_funcs m.funcs (omega (arith, most form, within.i
 pub few_insts : (form : Form) (text : List ℕ) (r : Result Module ReadError) (m : Module) → Read form text r → r ≡ Ok m → HasFewInsts m
 few_insts form text r m read is = few_read form m (module_within form text m ((read.«module» m).0 is))
 
+-- numbers that are bytes pass the test for it
+bytes_pass : (text : List ℕ) → ((i : ℕ) → slice_index_or text i 0 < 2 ^ 8) → IsTrue (are_bytes text)
+bytes_pass [] fit = refl
+bytes_pass (b ∷ rest) fit = and_from (nat_lt b 256) (are_bytes rest) (lt-ltb b 256 (fit 0)) (bytes_pass rest (λ i. fit (suc i)))
+
+-- a module that is read from bytes is formed
+pub formed : (form : Form) (text : List ℕ) (r : Result Module ReadError) (m : Module) → ((i : ℕ) → slice_index_or text i 0 < 2 ^ 8) → Read form text r → r ≡ Ok m → Formed m
+formed form text r m fit read is = read_formed form text m (bytes_pass text fit) ((read.«module» m).0 is)
+
 same_number : {m n : ℕ} → Some m ≡ Some n → m ≡ n
 same_number h = cc
 
@@ -136,12 +174,12 @@ lexer_has_line (lexing.OpenString place) some = tt
 lexer_has_line lexing.TooManyTokens some = tt
 lexer_has_line lexing.NoMemory some = some refl
 
-error_has_line : (form : Form) (text : List ℕ) (cause : ReadError) → IsReading form text (Err cause) → wants_memory cause ≡ false → IsReadRefusal cause
+error_has_line : (form : Form) (text : List ℕ) (cause : ReadError) → IsReading form text (Err cause) → wants_memory (Of cause) ≡ false → IsReadRefusal cause
 error_has_line form text (e.Lex cause) is some = lexer_has_line cause is.1
 error_has_line form text (e.Refused number w token place) is some = numbered form text number w token place is
 error_has_line form text e.NoMemory is some = absurd (true≢false some)
 
-pub has_line : (form : Form) (text : List ℕ) (r : Result Module ReadError) (cause : ReadError) → Read form text r → r ≡ Err cause → wants_memory cause ≡ false → IsReadRefusal cause
+pub has_line : (form : Form) (text : List ℕ) (r : Result Module ReadError) (cause : ReadError) → Read form text r → r ≡ Err cause → wants_memory (Of cause) ≡ false → IsReadRefusal cause
 has_line form text r cause read is some = error_has_line form text cause (subst (IsReading form text) is (reading_is form text r read)) some
 
 pub module_answer : (task : Task) (form : Form) (text : List ℕ) (r : Result Module ReadError) (m : Module) (a : Answer)
@@ -149,13 +187,13 @@ pub module_answer : (task : Task) (form : Form) (text : List ℕ) (r : Result Mo
 module_answer task form text r m a same read is answers =
     (Ok m, subst (λ f. IsReading f text (Ok m)) same (subst (IsReading form text) is (reading_is form text r read)), answers)
 
-error_answer : (task : Task) (cause : ReadError) (a : Answer) → wants_memory cause ≡ false → a ≡ says 5 (refusal_text (Of cause)) → IsAnswerToReading task (Err cause) a
+error_answer : (task : Task) (cause : ReadError) (a : Answer) → wants_memory (Of cause) ≡ false → a ≡ says 5 (refusal_text (Of cause)) → IsAnswerToReading task (Err cause) a
 error_answer task (e.Lex cause) a some is = is
 error_answer task (e.Refused number w token place) a some is = is
 error_answer task e.NoMemory a some is = absurd (true≢false some)
 
 pub refusal_answer : (task : Task) (form : Form) (text : List ℕ) (r : Result Module ReadError) (cause : ReadError) (a : Answer)
-    → form ≡ form_of task → Read form text r → r ≡ Err cause → wants_memory cause ≡ false → a ≡ says 5 (refusal_text (Of cause)) → IsAnswerTo task text a
+    → form ≡ form_of task → Read form text r → r ≡ Err cause → wants_memory (Of cause) ≡ false → a ≡ says 5 (refusal_text (Of cause)) → IsAnswerTo task text a
 refusal_answer task form text r cause a same read is some answers =
     (Err cause, subst (λ f. IsReading f text (Err cause)) same (subst (IsReading form text) is (reading_is form text r read)), error_answer task cause a some answers)
 

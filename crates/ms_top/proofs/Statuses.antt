@@ -7,7 +7,7 @@ use Rattle.ms_read_body.specs.declared.errors.ReadError.{ReadError}
 use Rattle.ms_read_body.specs.declared.errors.ReadError.TheVariants as e
 use Rattle.ms_top.specs.declared.answers.Answer.{Answer}
 use Rattle.ms_top.specs.declared.answers.Task.{Task}
-use Rattle.ms_top.specs.Said.{answer_of, end_status, IsAnswerToModule, IsAnswerToReading, IsAnswerTo, IsAnswerAfter, Reading, Whole, Fault, Long, IsAnswerFor, IsAnswer, Counted}
+use Rattle.ms_top.specs.Said.{answer_of, end_status, IsAnswerToValid, IsAnswerToModule, IsAnswerToReading, IsAnswerTo, IsAnswerAfter, Reading, Whole, Fault, Long, IsAnswerFor, IsAnswer, Counted}
 use Rattle.ms_top.specs.Command.{command_of}
 
 with-status : (a : Answer) (s : ℕ) (out err : List ℕ) → a ≡ answer_of s out err → s ≢ 7 → a.status ≢ 7
@@ -23,9 +23,13 @@ chosen-not_seven : (b : Bool) (e : End) → (if b then end_status e else 77) ≢
 chosen-not_seven true e = end_status-not_seven e
 chosen-not_seven false e = λ h. omega arith
 
+to_valid-not_seven : (task : Task) (m : Module) (a : Answer) → IsAnswerToValid task m a → a.status ≢ 7
+to_valid-not_seven task m a (inl (first, is)) = with-status a _ _ _ is (chosen-not_seven _ _)
+to_valid-not_seven task m a (inr (other, is)) = with-status a 5 _ _ is (λ h. omega arith)
+
 to_module-not_seven : (task : Task) (m : Module) (a : Answer) → IsAnswerToModule task m a → a.status ≢ 7
-to_module-not_seven task m a (inl (first, is)) = with-status a _ _ _ is (chosen-not_seven _ _)
-to_module-not_seven task m a (inr (other, is)) = with-status a 5 _ _ is (λ h. omega arith)
+to_module-not_seven task m a (inl (fault, refused, is)) = with-status a 5 _ _ is (λ h. omega arith)
+to_module-not_seven task m a (inr (valid, is)) = to_valid-not_seven task m a is
 
 to_reading-not_seven : (task : Task) (r : Result Module ReadError) (a : Answer) → IsAnswerToReading task r a → a.status ≢ 7
 to_reading-not_seven task (Ok m) a is = to_module-not_seven task m a is

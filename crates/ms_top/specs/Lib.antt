@@ -1,6 +1,7 @@
 pub mod Spelling
 pub mod Texts
 pub mod ReportTexts
+pub mod FaultTexts
 pub mod RefusalTexts
 pub mod Command
 pub mod Said

@@ -1,5 +1,5 @@
 -- The lines of refusals, as bytes: the number of the cause, what it is, and where.
-use Rattle.std.specs.Prelude.{◌≡◌, ◌⊎◌, ℕ, Bool, true, false, List, [], ◌++◌, eqb, if◌then◌else◌, codes, decimal}
+use Rattle.std.specs.Prelude.{◌≡◌, ◌⊎◌, ℕ, Bool, true, false, is_some, is_none, List, [], ◌++◌, eqb, if◌then◌else◌, codes, decimal}
 use Rattle.ms_lex.specs.declared.errors.LexError.{LexError}
 use Rattle.ms_lex.specs.declared.errors.LexError.TheVariants as lex
 use Rattle.ms_grammar.specs.declared.refusals.Outside.{Outside}
@@ -10,8 +10,11 @@ use Rattle.ms_read_body.specs.declared.errors.What.{What}
 use Rattle.ms_read_body.specs.declared.errors.What.TheVariants as what
 use Rattle.ms_read_body.specs.declared.errors.ReadError.{ReadError}
 use Rattle.ms_read_body.specs.declared.errors.ReadError.TheVariants as e
+use Rattle.ms_check.specs.declared.errors.CheckError.{CheckError}
+use Rattle.ms_check.specs.Faults.{fault_of}
 use Rattle.ms_top.specs.declared.refusals.Refusal.{Refusal}
-use Rattle.ms_top.specs.declared.refusals.Refusal.TheVariants.{Read}
+use Rattle.ms_top.specs.declared.refusals.Refusal.TheVariants.{Read, Check}
+use Rattle.ms_top.specs.FaultTexts.{refused_line, fault_line}
 
 -- ---- names
 
@@ -55,10 +58,6 @@ limit_name limit.Name = codes "name"
 
 -- ---- lines
 
--- the line of a refusal with a number
-abbrev pub refused_line : ℕ → List ℕ → List ℕ
-refused_line number text = codes "refused " ++ decimal number ++ codes ": " ++ text ++ codes "\n"
-
 -- the cause that a number stands for
 abbrev pub cause_name : ℕ → List ℕ
 cause_name number =
@@ -94,6 +93,7 @@ reader_text e.NoMemory = []
 -- why a module is refused
 abbrev pub refusal_text : Refusal → List ℕ
 refusal_text (Read cause) = reader_text cause
+refusal_text (Check cause) = fault_line (fault_of cause)
 
 -- ---- what has a line
 
@@ -104,9 +104,10 @@ IsNumbered number (what.Outside construct) = number ≡ 5
 IsNumbered number (what.Limit l) = number ≡ 6
 
 -- want of memory alone has none
-abbrev pub wants_memory : ReadError → Bool
-wants_memory e.NoMemory = true
-wants_memory cause = false
+abbrev pub wants_memory : Refusal → Bool
+wants_memory (Read e.NoMemory) = true
+wants_memory (Read cause) = false
+wants_memory (Check cause) = is_none (fault_of cause)
 
 abbrev pub IsReadRefusal : ReadError → Type 0
 IsReadRefusal (e.Lex lex.NoMemory) = ⊥
@@ -116,3 +117,4 @@ IsReadRefusal e.NoMemory = ⊥
 
 abbrev pub HasLine : Refusal → Type 0
 HasLine (Read cause) = IsReadRefusal cause
+HasLine (Check cause) = is_some (fault_of cause) ≡ true

@@ -15,6 +15,8 @@ use Rattle.ms_grammar.specs.declared.forms.Form.TheVariants.{Plain, Instrumented
 use Rattle.ms_read_body.specs.declared.errors.ReadError.{ReadError}
 use Rattle.ms_read_body.specs.declared.errors.ReadError.TheVariants as e
 use Rattle.ms_read_top.specs.Reading.{IsAnswer as IsReading}
+use Rattle.ms_valid.specs.Valid.{Valid}
+use Rattle.ms_valid.specs.Refusals.{Fault as ModuleFault, Undefined, IsRefused}
 use Rattle.ms_pass.specs.FirstForm.{HasFirstForm}
 use Rattle.ms_top.specs.declared.answers.Answer.{Answer}
 use Rattle.ms_top.specs.declared.answers.Task.{Task}
@@ -23,6 +25,7 @@ use Rattle.ms_top.specs.declared.refusals.Refusal.TheVariants.{Read}
 use Rattle.ms_top.specs.Command.{command_of}
 use Rattle.ms_top.specs.Texts.{line, closing_of}
 use Rattle.ms_top.specs.ReportTexts.{report_text_of}
+use Rattle.ms_top.specs.FaultTexts.{fault_text}
 use Rattle.ms_top.specs.RefusalTexts.{refusal_text}
 
 abbrev pub answer_of : ℕ → List ℕ → List ℕ → Answer
@@ -68,11 +71,15 @@ result_of Check m = shadow m default_setup
 abbrev pub answer_of_result : Module → RunResult → Answer
 answer_of_result m r = answer_of (status_of r) r.output (report_text_of m r ++ closing_of m r false)
 
--- the answer for a module: a run where a text of the first form gives it, and else a refusal
-abbrev pub IsAnswerToModule : Task → Module → Answer → Type 0
-IsAnswerToModule task m a =
+-- the answer for a valid module: a run where it is of the first form, and else that it can't be run yet
+abbrev pub IsAnswerToValid : Task → Module → Answer → Type 0
+IsAnswerToValid task m a =
     (HasFirstForm m × (a ≡ answer_of_result m (result_of task m)))
     ⊎ ((HasFirstForm m → ⊥) × (a ≡ says 5 (codes "refused 99: not built yet\n")))
+
+-- the answer for a module: why it isn't valid, or else the answer for a valid one
+abbrev pub IsAnswerToModule : Task → Module → Answer → Type 0
+IsAnswerToModule task m a = ((fault : ModuleFault) × IsRefused m fault × (a ≡ says 5 (fault_text fault))) ⊎ (Valid m × IsAnswerToValid task m a)
 
 -- the answer for what reading a text comes to: a module, or why there is none; want of memory has an answer of its own
 abbrev pub IsAnswerToReading : Task → Result Module ReadError → Answer → Type 0
@@ -83,6 +90,10 @@ IsAnswerToReading task (Err cause) a = a ≡ says 5 (refusal_text (Read cause))
 -- the answer for a text: what it reads as in the form of the command, or why it isn't read, decides
 abbrev pub IsAnswerTo : Task → List ℕ → Answer → Type 0
 IsAnswerTo task text a = (r : Result Module ReadError) × IsReading (form_of task) text r × IsAnswerToReading task r a
+
+-- both say that a use of a value isn't defined at one site, each with a path that shows it
+abbrev pub DifferInPath : Answer → Answer → Type 0
+DifferInPath a b = (site : ℕ) × (p : List ℕ) × (q : List ℕ) × (a ≡ says 5 (fault_text (Undefined site p))) × (b ≡ says 5 (fault_text (Undefined site q)))
 
 -- ---- the files
 

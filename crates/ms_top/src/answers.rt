@@ -1,15 +1,17 @@
 //! What a call is to say.
 ghost use Rattle.std.specs.Prelude.{◌≡◌, ◌≤◌, ◌^◌, ◌++◌, false, codes, length, IfOk, option_map};
+ghost use Rattle.ms_valid.specs.Formed.{Formed};
 ghost use Rattle.ms_pass.specs.FirstForm.{HasFirstForm, HasFewInsts};
 ghost use Rattle.ms_top.specs.Command.{command_of, task_of as task_of_word};
-ghost use Rattle.ms_top.specs.RefusalTexts.{IsReadRefusal, refusal_text, wants_memory as is_want_of_memory};
-ghost use Rattle.ms_top.specs.Said.{counted, IsAnswer, IsAnswerTo, IsAnswerToModule, answer_of_result, form_of as form_of_task, module_limit as limit_of_task, result_of as result_of_task, default_setup as default_setup_of, says, status_of as status_of_run};
+ghost use Rattle.ms_top.specs.RefusalTexts.{HasLine, refusal_text, wants_memory as is_want_of_memory};
+ghost use Rattle.ms_top.specs.Said.{counted, IsAnswer, IsAnswerTo, IsAnswerToModule, IsAnswerToValid, answer_of_result, form_of as form_of_task, module_limit as limit_of_task, result_of as result_of_task, default_setup as default_setup_of, says, status_of as status_of_run};
 ghost use Rattle.ms_top.specs.Texts.{line};
 
 use crate::closing::closing;
 use crate::refusals::{Refusal, refusal_line};
 use crate::reports::report_text;
 use ms_bits::{Bytes, NoMemory, Text};
+use ms_check::{CheckError, check};
 use ms_first as first;
 use ms_grammar::Form;
 use ms_io::{FileError, Files};
@@ -149,11 +151,11 @@ fn not_built(alloc: Global) -> Result<Answer, NoMemory>
     Ok(Answer::on_err(alloc, 5, line))
 }
 
-/// The answer to a command on a module.
+/// The answer to a command on a valid module.
 #[tactic(auto, using(crate::proofs::Answering::answered, crate::proofs::Answering::not_built))]
-fn answer_to_module(alloc: Global, task: Task, m: &Module) -> Result<Answer, NoMemory>
+fn answer_to_valid(alloc: Global, task: Task, m: &Module) -> Result<Answer, NoMemory>
     requires { HasFewInsts m.now }
-    ensures { IfOk result (λ a. IsAnswerToModule task m.now a) }
+    ensures { IfOk result (λ a. IsAnswerToValid task m.now a) }
 {
     if first::is_first(alloc, m)? {
         let r = result_of(alloc, task, m)?;
@@ -163,26 +165,40 @@ fn answer_to_module(alloc: Global, task: Task, m: &Module) -> Result<Answer, NoM
     }
 }
 
-fn wants_memory(cause: ReadError) -> bool
-    ensures { result ≡ is_want_of_memory cause }
+/// Whether a cause is want of memory.
+fn wants_memory(cause: &Refusal) -> bool
+    ensures { result ≡ is_want_of_memory cause.now }
 {
     match cause {
-        ReadError::NoMemory => true,
+        Refusal::Read(ReadError::NoMemory) => true,
+        Refusal::Check(CheckError::NoMemory) => true,
         _ => false,
     }
 }
 
-/// The answer for a text that isn't read.
-fn refused(alloc: Global, cause: ReadError) -> Result<Answer, NoMemory>
-    requires { is_want_of_memory cause ≡ false → IsReadRefusal cause }
-    ensures reason { IfOk result (λ a. is_want_of_memory cause ≡ false) }
-    ensures line { IfOk result (λ a. a ≡ says 5 (refusal_text (Refusal.Read cause))) }
+/// The answer for a module that is refused.
+fn refused(alloc: Global, cause: &Refusal) -> Result<Answer, NoMemory>
+    requires { is_want_of_memory cause.now ≡ false → HasLine cause.now }
+    ensures reason { IfOk result (λ a. is_want_of_memory cause.now ≡ false) }
+    ensures line { IfOk result (λ a. a ≡ says 5 (refusal_text cause.now)) }
 {
     if wants_memory(cause) {
         return Err(AllocError);
     }
-    let line = refusal_line(alloc, &Refusal::Read(cause))?;
+    let line = refusal_line(alloc, cause)?;
     Ok(Answer::on_err(alloc, 5, line))
+}
+
+/// The answer to a command on a module.
+fn answer_to_module(alloc: Global, task: Task, m: Module) -> Result<Answer, NoMemory>
+    requires formed { Formed m }
+    requires few { HasFewInsts m }
+    ensures { IfOk result (λ a. IsAnswerToModule task m a) }
+{
+    match check(alloc, m) {
+        Ok(checked) => Ok(answer_to_valid(alloc, task, checked.module())?),
+        Err((cause, _)) => Ok(refused(alloc, &Refusal::Check(cause))?),
+    }
 }
 
 /// The answer to a command on a module's text.
@@ -191,8 +207,8 @@ fn answer_to_text(alloc: Global, task: Task, text: &[u8]) -> Result<Answer, NoMe
     ensures { IfOk result (λ a. IsAnswerTo task text.now a) }
 {
     match read(alloc, text, task.form()) {
-        Ok(module) => Ok(answer_to_module(alloc, task, &module)?),
-        Err(cause) => Ok(refused(alloc, cause)?),
+        Ok(module) => Ok(answer_to_module(alloc, task, module)?),
+        Err(cause) => Ok(refused(alloc, &Refusal::Read(cause))?),
     }
 }
 

@@ -3,7 +3,9 @@
 
 pub mod answers;
 pub mod closing;
+pub mod faults;
 pub mod laws;
+pub mod lines;
 pub mod pieces;
 pub mod refusals;
 pub mod reports;

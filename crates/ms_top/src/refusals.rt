@@ -2,18 +2,23 @@
 ghost use Rattle.std.specs.Prelude.{◌≡◌, ◌++◌, [], IfOk, codes, decimal};
 ghost use Rattle.ms_top.specs.RefusalTexts.{HasLine, IsReadRefusal, IsNumbered, outside_name, limit_name, cause_name, what_text, token_text, lexer_text, reader_text, refusal_text};
 
+use crate::faults::check_line;
+use crate::lines::begin_line;
 use crate::spelling::push_number;
 use ms_bits::NoMemory;
+use ms_check::CheckError;
 use ms_grammar::{Limit, Outside};
 use ms_lex::LexError;
 use ms_read_body::{ReadError, What};
 use std::alloc::Global;
 
 /// Why a module is refused.
-#[derive(Clone, Copy, Debug, PartialEq, Eq)]
+#[derive(Debug, PartialEq, Eq, Drop)]
 pub enum Refusal {
     /// Its text isn't read.
     Read(ReadError),
+    /// It is read, and isn't valid.
+    Check(CheckError),
 }
 
 /// The printed name of a construct that is left out.
@@ -106,16 +111,6 @@ fn push_token(text: &mut Vec<u8>, token: u32, place: u32) -> Result<(), NoMemory
     Ok(())
 }
 
-/// Begins the line of the refusal with a number.
-fn begin_line(alloc: Global, number: u8) -> Result<Vec<u8>, NoMemory>
-    ensures { IfOk result (λ text. text.items ≡ codes "refused " ++ decimal number ++ codes ": ") }
-{
-    let mut text = Vec::from_slice(alloc, b"refused ")?;
-    push_number(&mut text, number as u64)?;
-    text.extend_from_slice(b": ")?;
-    Ok(text)
-}
-
 /// The line of a refusal that names a byte.
 fn byte_line(alloc: Global, number: u8, name: &[u8], place: u32) -> Result<Vec<u8>, NoMemory>
     ensures { IfOk result (λ text. text.items ≡ codes "refused " ++ decimal number ++ codes ": " ++ (name.now ++ decimal place) ++ codes "\n") }
@@ -181,13 +176,14 @@ fn reader_line(alloc: Global, e: ReadError) -> Result<Vec<u8>, NoMemory>
 }
 
 /// The line that says why a module is refused: the number of the cause, what it is, and where. The cause isn't want of
-/// memory; a `Refused` has a number from 4 to 8, and names a construct exactly at 5 and a limit exactly at 6. The one error
-/// is want of memory.
+/// memory; a `Refused` has a number from 4 to 8, and names a construct exactly at 5 and a limit exactly at 6. Causes that
+/// a module isn't valid have the numbers 9 to 17. The one error is want of memory.
 pub fn refusal_line(alloc: Global, e: &Refusal) -> Result<Vec<u8>, NoMemory>
     requires { HasLine e.now }
     ensures { IfOk result (λ text. text.items ≡ refusal_text e.now) }
 {
     match e {
         Refusal::Read(cause) => Ok(reader_line(alloc, *cause)?),
+        Refusal::Check(cause) => Ok(check_line(alloc, cause)?),
     }
 }

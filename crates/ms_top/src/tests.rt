@@ -15,6 +15,7 @@ use std::test::Fail;
 
 mod forms;
 mod refusals;
+mod validity;
 
 const STORED: &str =
     "define i32 @main() {\n  %1 = alloca i32\n  store i32 12, ptr %1\n  %2 = load i32, ptr %1\n  %3 = xor i32 %2, 10\n  ret i32 %3\n}\n";
@@ -105,7 +106,7 @@ fn says_what_the_words_and_the_file_ask_for(rt: HostRuntime) -> Result<(), Fail>
             0,
             "end: exit 0\nreports: 0\nblind: 0\n",
         ),
-        ("run f", "", 5, "refused 99: not built yet\n"),
+        ("run f", "", 5, "refused 13: no main\n"),
         ("run", STORED, 2, "words: NotBuilt at 0\n"),
         ("", STORED, 2, "words: NotBuilt at 0\n"),
         ("run f f", STORED, 2, "words: NotBuilt at 0\n"),
@@ -115,7 +116,7 @@ fn says_what_the_words_and_the_file_ask_for(rt: HostRuntime) -> Result<(), Fail>
         ("run g", STORED, 6, "file fault: g\n"),
         ("run --", STORED, 6, "file fault: --\n"),
         ("check g", STORED, 6, "file fault: g\n"),
-        ("check f", "", 5, "refused 99: not built yet\n"),
+        ("check f", "", 5, "refused 13: no main\n"),
     ];
     for (words, file, status, err) in table {
         let said = call_on(rt.alloc(), words, file)?;

@@ -6,7 +6,7 @@ use std::process::Abort;
 use std::test::Fail;
 
 /// Each text is refused with its line.
-fn assert_refused(
+pub fn assert_refused(
     rt: &impl Abort,
     alloc: Global,
     words: &str,
@@ -67,12 +67,9 @@ fn run_reads_inserted_code(rt: HostRuntime) -> Result<(), Fail> {
     let table: [(&str, &str); 4] = [
         (
             "define i32 @main() {\n  %1 = alloca i32, !nosanitize !0\n  ret i32 0\n}\n",
-            "refused 99: not built yet\n",
+            "refused 16: mark at site 1\n",
         ),
-        (
-            "@__msan_param_tls = global i8 0\n",
-            "refused 99: not built yet\n",
-        ),
+        ("@__msan_param_tls = global i8 0\n", "refused 13: no main\n"),
         (
             "define i32 @main() {\n  %__msan.x = add i32 1, 2\n  ret i32 0\n}\n",
             "refused 8: reserved at token 6, byte 23\n",
@@ -311,7 +308,7 @@ fn the_forms_have_their_own_limits(rt: HostRuntime) -> Result<(), Fail> {
             "refused 4: syntax at token 0, byte 0\n",
         ),
         ("check f", " ", 4194305, 9, "file too long: f\n"),
-        ("run f", " ", 4194305, 5, "refused 99: not built yet\n"),
+        ("run f", " ", 4194305, 5, "refused 13: no main\n"),
         ("run f", " ", 134217729, 9, "file too long: f\n"),
     ];
     for (words, piece, times, status, err) in table {

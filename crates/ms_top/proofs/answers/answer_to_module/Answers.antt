@@ -1,5 +1,5 @@
-use Rattle.ms_top.proofs.Answering.{of_first_form}
+use Rattle.ms_top.proofs.Answering.{invalid_answer}
 use Rattle.ms_top.proofs.answers.answer_to_module.Goals as goal
 
-pub result_of-requires-clause-first : goal.result_of-requires-clause-first
-result_of-requires-clause-first c = of_first_form c.in_ok-is_first.field-0 c.args.m.now c.in_ok-is_first.ensures c.if-branch.true
+pub returns : goal.returns
+returns c = invalid_answer c.args.task c.args.m c.in-Err.cause _ c.in-Err.ensures.refused c.in_ok-refused-in-Err.ensures.reason c.in_ok-refused-in-Err.ensures.line

@@ -1,13 +1,17 @@
-use Rattle.std.proofs.Common.{subst, sym, ◌≤◌, length}
+use Rattle.std.proofs.Common.{subst, sym, ◌≤◌, length, arith}
 use Rattle.ms_grammar.specs.Texts.{max_bytes}
-use Rattle.ms_top.proofs.Answering.{file_limit, few_insts, has_line, module_answer, refusal_answer}
+use Rattle.ms_top.proofs.Answering.{file_limit, few_insts, formed, has_line, module_answer, refusal_answer}
 use Rattle.ms_top.proofs.answers.answer_to_text.Goals as goal
 
 pub read-requires : goal.read-requires
 read-requires c = subst (λ f. length c.args.text.now ≤ max_bytes f) (sym c.form.ensures) (file_limit c.args.task _ c.requires)
 
-pub answer_to_module-requires : goal.answer_to_module-requires
-answer_to_module-requires c = few_insts c.form.result c.args.text.now c.read.result c.in-Ok.module
+pub answer_to_module-requires-clause-few : goal.answer_to_module-requires-clause-few
+answer_to_module-requires-clause-few c = few_insts c.form.result c.args.text.now c.read.result c.in-Ok.module
+    (record { «module» = c.read.ensures.«module»; lex = c.read.ensures.lex; refused = c.read.ensures.refused; wanting = c.read.ensures.wanting }) c.in-Ok.is
+
+pub answer_to_module-requires-clause-formed : goal.answer_to_module-requires-clause-formed
+answer_to_module-requires-clause-formed c = formed c.form.result c.args.text.now c.read.result c.in-Ok.module (λ i. omega (arith, c.type_inv.text i))
     (record { «module» = c.read.ensures.«module»; lex = c.read.ensures.lex; refused = c.read.ensures.refused; wanting = c.read.ensures.wanting }) c.in-Ok.is
 
 pub refused-requires : goal.refused-requires
