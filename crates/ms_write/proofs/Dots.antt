@@ -8,9 +8,9 @@ use Rattle.ms_grammar.specs.Lexemes.{Lexeme}
 use Rattle.ms_written.specs.Modules.{is_one_pointer, is_dotted, dots}
 use Rattle.ms_written.specs.Pieces.{comma, three_dots, behind_commas, with_commas}
 use Rattle.ms_written.specs.Types.{type_tokens}
-use Rattle.ms_write.specs.Parts.{dot_tokens}
-use Rattle.ms_write.specs.Sheets.{Sheet, put}
-use Rattle.ms_write.proofs.Puts.{put_append}
+use Rattle.ms_write_values.specs.Parts.{dot_tokens}
+use Rattle.ms_write_values.specs.Sheets.{Sheet, put}
+use Rattle.ms_write_values.proofs.Puts.{put_append}
 
 behind_append : (a b : List (List Lexeme)) → behind_commas (a ++ b) ≡ behind_commas a ++ behind_commas b
 behind_append [] b = refl

@@ -2,16 +2,17 @@
 //! marks (LLVM Language Reference, "Module Structure"; own: the order).
 ghost use Rattle.std.specs.Prelude.{◌≡◌, ◌++◌, [], ◌∷◌, IfOk, codes, flat_map, map};
 ghost use Rattle.std.specs.List.{list_any};
-ghost use Rattle.ms_written.specs.Modules.{global_word as global_word_of, type_line as type_line_of, global_line as global_line_of, is_one_pointer as is_one_pointer_of, is_dotted as is_dotted_of, declaration_line as declaration_line_of, function_lines as function_lines_of, has_dots as has_dots_of, has_mark_in as has_mark_in_of, has_mark as has_mark_of, module_lines as module_lines_of, mark_pieces, written};
+ghost use Rattle.ms_written.specs.Modules.{global_word as global_word_of, type_line, global_line, is_one_pointer as is_one_pointer_of, is_dotted as is_dotted_of, declaration_line, function_lines, has_dots as has_dots_of, has_mark_in as has_mark_in_of, has_mark as has_mark_of, module_lines, mark_pieces, written};
 ghost use Rattle.ms_written.specs.Pieces.{render};
 ghost use Rattle.ms_grammar.specs.Types.{is_ptr as is_ptr_of};
-ghost use Rattle.ms_write.specs.Parts.{dot_tokens};
-ghost use Rattle.ms_write.specs.Sheets.{grown, put, put_line, put_lines};
+ghost use Rattle.ms_write_values.specs.Parts.{dot_tokens};
+ghost use Rattle.ms_write_values.specs.Sheets.{grown, put, put_line, put_lines};
 
+use crate::functions::write_function_lines;
 use crate::operations::{gives_i32, names_printf};
-use crate::writer::Writer;
 use ms_bits::NoMemory;
 use ms_ir::{Block, Decl, Func, GlobalVar, Module, Name, Ty};
+use ms_write_values::Writer;
 use std::alloc::Global;
 
 /// Whether a type is `ptr`.
@@ -82,119 +83,117 @@ fn global_word(constant: bool) -> &'static [u8]
     if constant { b"constant" } else { b"global" }
 }
 
-impl Writer {
-    #[tactic(auto, unfolding(ms_written::specs::Modules::type_line))]
-    fn type_line(&mut self, named: &(Name, Ty)) -> Result<(), NoMemory>
-        ensures { IfOk result (λ _. self.new ≡ put_line self.old (type_line_of named.now)) }
-    {
-        self.start_line(b"")?;
-        self.local(&named.0)?;
-        self.token(b"=")?;
-        self.token(b"type")?;
-        self.ty(&named.1)?;
-        self.end_line()?;
-        Ok(())
-    }
+#[tactic(auto, unfolding(ms_written::specs::Modules::type_line))]
+fn write_type_line(writer: &mut Writer, named: &(Name, Ty)) -> Result<(), NoMemory>
+    ensures { IfOk result (λ _. writer.new ≡ put_line writer.old (type_line named.now)) }
+{
+    writer.start_line(b"")?;
+    writer.local(&named.0)?;
+    writer.token(b"=")?;
+    writer.token(b"type")?;
+    writer.ty(&named.1)?;
+    writer.end_line()?;
+    Ok(())
+}
 
-    fn type_lines(&mut self, types: &[(Name, Ty)]) -> Result<(), NoMemory>
-        ensures { IfOk result (λ _. self.new ≡ put_lines self.old (map type_line_of types.now)) }
-    {
-        for named in types {
-            self.type_line(named)?;
-        }
-        Ok(())
+fn write_type_lines(writer: &mut Writer, types: &[(Name, Ty)]) -> Result<(), NoMemory>
+    ensures { IfOk result (λ _. writer.new ≡ put_lines writer.old (map type_line types.now)) }
+{
+    for named in types {
+        write_type_line(writer, named)?;
     }
+    Ok(())
+}
 
-    #[tactic(auto, using(crate::proofs::Puts::put_append), unfolding(ms_written::specs::Modules::global_line))]
-    fn global_line(&mut self, global: &GlobalVar) -> Result<(), NoMemory>
-        ensures { IfOk result (λ _. self.new ≡ put_line self.old (global_line_of global.now)) }
-    {
-        self.start_line(b"")?;
-        self.global(&global.name)?;
-        self.token(b"=")?;
-        self.token(global_word(global.constant))?;
-        self.ty(&global.ty)?;
-        self.init(&global.ty, &global.init)?;
-        self.end_line()?;
-        Ok(())
-    }
+#[tactic(auto, using(ms_write_values::proofs::Puts::put_append), unfolding(ms_written::specs::Modules::global_line))]
+fn write_global_line(writer: &mut Writer, global: &GlobalVar) -> Result<(), NoMemory>
+    ensures { IfOk result (λ _. writer.new ≡ put_line writer.old (global_line global.now)) }
+{
+    writer.start_line(b"")?;
+    writer.global(&global.name)?;
+    writer.token(b"=")?;
+    writer.token(global_word(global.constant))?;
+    writer.ty(&global.ty)?;
+    writer.init(&global.ty, &global.init)?;
+    writer.end_line()?;
+    Ok(())
+}
 
-    fn global_lines(&mut self, globals: &[GlobalVar]) -> Result<(), NoMemory>
-        ensures { IfOk result (λ _. self.new ≡ put_lines self.old (map global_line_of globals.now)) }
-    {
-        for global in globals {
-            self.global_line(global)?;
-        }
-        Ok(())
+fn write_global_lines(writer: &mut Writer, globals: &[GlobalVar]) -> Result<(), NoMemory>
+    ensures { IfOk result (λ _. writer.new ≡ put_lines writer.old (map global_line globals.now)) }
+{
+    for global in globals {
+        write_global_line(writer, global)?;
     }
+    Ok(())
+}
 
-    /// Writes the dots behind the parameters of a declaration that has them.
-    fn dots(&mut self, dotted: bool) -> Result<(), NoMemory>
-        ensures { IfOk result (λ _. self.new ≡ put self.old (dot_tokens dotted)) }
-    {
-        if dotted {
-            self.token(b",")?;
-            self.token(b"...")?;
-        }
-        Ok(())
+/// Writes the dots behind the parameters of a declaration that has them.
+fn write_dots(writer: &mut Writer, dotted: bool) -> Result<(), NoMemory>
+    ensures { IfOk result (λ _. writer.new ≡ put writer.old (dot_tokens dotted)) }
+{
+    if dotted {
+        writer.token(b",")?;
+        writer.token(b"...")?;
     }
+    Ok(())
+}
 
-    #[tactic(auto, using(crate::proofs::Puts::put_append, crate::proofs::Dots::put_dots), unfolding(ms_written::specs::Modules::declaration_line))]
-    fn declaration_line(&mut self, decl: &Decl) -> Result<(), NoMemory>
-        ensures { IfOk result (λ _. self.new ≡ put_line self.old (declaration_line_of decl.now)) }
-    {
-        self.start_line(b"")?;
-        self.token(b"declare")?;
-        self.result_type(&decl.ret)?;
-        self.global(&decl.name)?;
-        self.token(b"(")?;
-        self.types(decl.params.as_slice())?;
-        self.dots(is_dotted(decl))?;
-        self.token(b")")?;
-        self.end_line()?;
-        Ok(())
-    }
+#[tactic(auto, using(ms_write_values::proofs::Puts::put_append, crate::proofs::Dots::put_dots), unfolding(ms_written::specs::Modules::declaration_line))]
+fn write_declaration_line(writer: &mut Writer, decl: &Decl) -> Result<(), NoMemory>
+    ensures { IfOk result (λ _. writer.new ≡ put_line writer.old (declaration_line decl.now)) }
+{
+    writer.start_line(b"")?;
+    writer.token(b"declare")?;
+    writer.result_type(&decl.ret)?;
+    writer.global(&decl.name)?;
+    writer.token(b"(")?;
+    writer.types(decl.params.as_slice())?;
+    write_dots(writer, is_dotted(decl))?;
+    writer.token(b")")?;
+    writer.end_line()?;
+    Ok(())
+}
 
-    fn declaration_lines(&mut self, decls: &[Decl]) -> Result<(), NoMemory>
-        ensures { IfOk result (λ _. self.new ≡ put_lines self.old (map declaration_line_of decls.now)) }
-    {
-        for decl in decls {
-            self.declaration_line(decl)?;
-        }
-        Ok(())
+fn write_declaration_lines(writer: &mut Writer, decls: &[Decl]) -> Result<(), NoMemory>
+    ensures { IfOk result (λ _. writer.new ≡ put_lines writer.old (map declaration_line decls.now)) }
+{
+    for decl in decls {
+        write_declaration_line(writer, decl)?;
     }
+    Ok(())
+}
 
-    #[tactic(auto, using(crate::proofs::Puts::put_lines_append))]
-    fn functions(&mut self, dotted: bool, funcs: &[Func]) -> Result<(), NoMemory>
-        ensures { IfOk result (λ _. self.new ≡ put_lines self.old (flat_map (function_lines_of dotted) funcs.now)) }
-    {
-        for func in funcs {
-            self.function_lines(dotted, func)?;
-        }
-        Ok(())
+#[tactic(auto, using(ms_write_values::proofs::Puts::put_lines_append))]
+fn write_functions(writer: &mut Writer, dotted: bool, funcs: &[Func]) -> Result<(), NoMemory>
+    ensures { IfOk result (λ _. writer.new ≡ put_lines writer.old (flat_map (function_lines dotted) funcs.now)) }
+{
+    for func in funcs {
+        write_function_lines(writer, dotted, func)?;
     }
+    Ok(())
+}
 
-    #[tactic(auto, using(crate::proofs::Puts::put_lines_append), unfolding(ms_written::specs::Modules::module_lines))]
-    fn module_lines(&mut self, m: &Module) -> Result<(), NoMemory>
-        ensures { IfOk result (λ _. self.new ≡ put_lines self.old (module_lines_of m.now)) }
-    {
-        self.type_lines(m.types.as_slice())?;
-        self.global_lines(m.globals.as_slice())?;
-        self.declaration_lines(m.decls.as_slice())?;
-        self.functions(has_dots(m), m.funcs.as_slice())?;
-        Ok(())
-    }
+#[tactic(auto, using(ms_write_values::proofs::Puts::put_lines_append), unfolding(ms_written::specs::Modules::module_lines))]
+fn write_module_lines(writer: &mut Writer, m: &Module) -> Result<(), NoMemory>
+    ensures { IfOk result (λ _. writer.new ≡ put_lines writer.old (module_lines m.now)) }
+{
+    write_type_lines(writer, m.types.as_slice())?;
+    write_global_lines(writer, m.globals.as_slice())?;
+    write_declaration_lines(writer, m.decls.as_slice())?;
+    write_functions(writer, has_dots(m), m.funcs.as_slice())?;
+    Ok(())
+}
 
-    /// Writes the metadata that every mark names.
-    #[tactic(auto, unfolding(ms_written::specs::Modules::mark_pieces))]
-    fn marks(&mut self, marked: bool) -> Result<(), NoMemory>
-        ensures { IfOk result (λ _. self.new ≡ grown self.old (render (mark_pieces marked))) }
-    {
-        if marked {
-            self.more(b"!0 = !{}\n")?;
-        }
-        Ok(())
+/// Writes the metadata that every mark names.
+#[tactic(auto, unfolding(ms_written::specs::Modules::mark_pieces))]
+fn write_marks(writer: &mut Writer, marked: bool) -> Result<(), NoMemory>
+    ensures { IfOk result (λ _. writer.new ≡ grown writer.old (render (mark_pieces marked))) }
+{
+    if marked {
+        writer.more(b"!0 = !{}\n")?;
     }
+    Ok(())
 }
 
 /// The text of a module, in its layout: no instruction goes without its mark, no result that a name is bound to without its
@@ -209,7 +208,7 @@ pub fn write(alloc: Global, m: &Module) -> Result<Vec<u8>, NoMemory>
     ensures { IfOk result (λ text. text.items ≡ written m.now) }
 {
     let mut writer = Writer::new(alloc);
-    writer.module_lines(m)?;
-    writer.marks(has_mark(m))?;
+    write_module_lines(&mut writer, m)?;
+    write_marks(&mut writer, has_mark(m))?;
     Ok(writer.into_bytes())
 }

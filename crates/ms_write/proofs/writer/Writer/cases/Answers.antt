@@ -1,8 +1,0 @@
-use Rattle.ms_written.specs.Insts.{case_tokens}
-use Rattle.ms_write.proofs.Loops.{tokens_step}
-use Rattle.ms_write.proofs.writer.Writer.cases.Goals as goal
-
-pub loop-case-preserved : goal.loop-case-preserved
-loop-case-preserved c =
-    tokens_step (case_tokens c.args.ty.now) c.args.cases.now c.loop-case.case-index c.case-item.result c.loop-case.self c.case.new.self _
-    c.loop-case-test.true c.case-item.is c.in_ok-case.ensures c.loop-case.invariant

@@ -1,8 +1,0 @@
-use Rattle.ms_written.specs.Modules.{function_lines}
-use Rattle.ms_write.proofs.Loops.{lines_step}
-use Rattle.ms_write.proofs.writer.Writer.functions.Goals as goal
-
-pub loop-func-preserved : goal.loop-func-preserved
-loop-func-preserved c =
-    lines_step (function_lines c.args.dotted) c.args.funcs.now c.loop-func.func-index c.func-item.result c.loop-func.self c.function_lines.new.self _
-    c.loop-func-test.true c.func-item.is c.in_ok-function_lines.ensures c.loop-func.invariant

@@ -1,8 +1,0 @@
-use Rattle.std.proofs.Common.{◌≡◌, drop}
-use Rattle.std.specs.Prelude.{flat_map}
-use Rattle.ms_written.specs.Modules.{function_lines}
-use Rattle.ms_write.specs.Sheets.{put_lines}
-use Rattle.ms_write.proofs.writer.Writer.functions.Given as goal
-
-abbrev pub invariant-loop-func : goal.invariant-loop-func
-invariant-loop-func l = put_lines l.self (flat_map (function_lines l.dotted) (drop l.func-index l.funcs)) ≡ put_lines l.fn.self (flat_map (function_lines l.dotted) l.funcs)

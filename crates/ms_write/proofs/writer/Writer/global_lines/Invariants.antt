@@ -1,7 +1,0 @@
-use Rattle.std.proofs.Common.{◌≡◌, map, drop}
-use Rattle.ms_written.specs.Modules.{global_line}
-use Rattle.ms_write.specs.Sheets.{put_lines}
-use Rattle.ms_write.proofs.writer.Writer.global_lines.Given as goal
-
-abbrev pub invariant-loop-global : goal.invariant-loop-global
-invariant-loop-global l = put_lines l.self (map global_line (drop l.global-index l.globals)) ≡ put_lines l.fn.self (map global_line l.globals)

@@ -1,8 +1,0 @@
-use Rattle.std.proofs.Common.{◌≡◌, drop}
-use Rattle.std.specs.Prelude.{flat_map}
-use Rattle.ms_written.specs.Modules.{block_lines}
-use Rattle.ms_write.specs.Sheets.{put_lines}
-use Rattle.ms_write.proofs.writer.Writer.more_blocks.Given as goal
-
-abbrev pub invariant-loop-block : goal.invariant-loop-block
-invariant-loop-block l = put_lines l.self (flat_map (block_lines l.dotted) (drop l.block-index l.blocks)) ≡ put_lines l.fn.self (flat_map (block_lines l.dotted) l.blocks)

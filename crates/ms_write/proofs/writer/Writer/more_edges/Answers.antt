@@ -1,8 +1,0 @@
-use Rattle.ms_written.specs.Insts.{edge_tokens}
-use Rattle.ms_write.proofs.Loops.{commas_step}
-use Rattle.ms_write.proofs.writer.Writer.more_edges.Goals as goal
-
-pub loop-edge-preserved : goal.loop-edge-preserved
-loop-edge-preserved c =
-    commas_step (edge_tokens c.args.ty.now) c.args.edges.now c.loop-edge.edge-index c.edge-item.result c.loop-edge.self c.token.new.self c.edge.new.self _
-    c.loop-edge-test.true c.edge-item.is c.in_ok-token.ensures c.in_ok-edge.ensures c.loop-edge.invariant

@@ -1,8 +1,0 @@
-use Rattle.std.proofs.Common.{◌≡◌, map, drop}
-use Rattle.ms_written.specs.Insts.{edge_tokens}
-use Rattle.ms_written.specs.Pieces.{behind_commas}
-use Rattle.ms_write.specs.Sheets.{put}
-use Rattle.ms_write.proofs.writer.Writer.more_edges.Given as goal
-
-abbrev pub invariant-loop-edge : goal.invariant-loop-edge
-invariant-loop-edge l = put l.self (behind_commas (map (edge_tokens l.ty) (drop l.edge-index l.edges))) ≡ put l.fn.self (behind_commas (map (edge_tokens l.ty) l.edges))

@@ -1,8 +1,0 @@
-use Rattle.ms_written.specs.Modules.{parameter_tokens}
-use Rattle.ms_write.proofs.Loops.{commas_step}
-use Rattle.ms_write.proofs.writer.Writer.more_parameters.Goals as goal
-
-pub loop-parameter-preserved : goal.loop-parameter-preserved
-loop-parameter-preserved c =
-    commas_step parameter_tokens c.args.parameters.now c.loop-parameter.parameter-index c.parameter-item.result c.loop-parameter.self c.token.new.self c.parameter.new.self _
-    c.loop-parameter-test.true c.parameter-item.is c.in_ok-token.ensures c.in_ok-parameter.ensures c.loop-parameter.invariant

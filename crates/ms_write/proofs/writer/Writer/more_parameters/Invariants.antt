@@ -1,9 +1,0 @@
-use Rattle.std.proofs.Common.{◌≡◌, map, drop}
-use Rattle.ms_written.specs.Modules.{parameter_tokens}
-use Rattle.ms_written.specs.Pieces.{behind_commas}
-use Rattle.ms_write.specs.Sheets.{put}
-use Rattle.ms_write.proofs.writer.Writer.more_parameters.Given as goal
-
-abbrev pub invariant-loop-parameter : goal.invariant-loop-parameter
-invariant-loop-parameter l =
-    put l.self (behind_commas (map parameter_tokens (drop l.parameter-index l.parameters))) ≡ put l.fn.self (behind_commas (map parameter_tokens l.parameters))

@@ -1,0 +1,4 @@
+pub mod Puts
+pub mod Loops
+pub mod Shapes
+pub mod SignedDigits

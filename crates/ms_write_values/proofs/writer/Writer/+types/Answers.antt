@@ -1,0 +1,29 @@
+use Rattle.std.proofs.Common.{◌∙◌, ap, sym}
+use Rattle.std.specs.Prelude.{map}
+use Rattle.ms_written.specs.Types.{type_tokens, array_tokens, struct_tokens}
+use Rattle.ms_write_values.specs.Sheets.{put}
+use Rattle.ms_write_values.proofs.Loops.{commas_step, commas_first}
+use Rattle.ms_write_values.proofs.Shapes.{type_array, type_struct}
+use Rattle.ms_write_values.proofs.writer.Writer.+types.Goals as goal
+
+pub ty-returns-in_ok-array_type-in-Array : goal.ty-returns-in_ok-array_type-in-Array
+ty-returns-in_ok-array_type-in-Array t c =
+    c.in_ok-array_type-in-Array.ensures
+    ∙ ap (put c.args.self.now) (
+    ap (λ u. array_tokens c.in-Array.count (type_tokens u)) c.get.ensures ∙ sym (type_array c.in-Array.count c.in-Array.item) ∙ ap type_tokens (sym c.in-Array.is))
+
+pub ty-returns-in_ok-struct_type-in-Struct : goal.ty-returns-in_ok-struct_type-in-Struct
+ty-returns-in_ok-struct_type-in-Struct t c =
+    c.in_ok-struct_type-in-Struct.ensures
+    ∙ ap (put c.args.self.now) (
+    ap (λ us. struct_tokens c.in-Struct.packed (map type_tokens us)) c.as_slice.ensures ∙ sym (type_struct c.in-Struct.packed c.in-Struct.fields) ∙ ap type_tokens (sym c.in-Struct.is))
+
+pub more_types-loop-ty-preserved : goal.more_types-loop-ty-preserved
+more_types-loop-ty-preserved t c =
+    commas_step type_tokens c.args.types.now c.loop-ty.ty-index c.ty-item.result c.loop-ty.self c.token.new.self c.ty.new.self _
+    c.loop-ty-test.true c.ty-item.is c.in_ok-token.ensures c.in_ok-ty.ensures c.loop-ty.invariant
+
+pub types-returns-in_ok-more_types-in-len1-up : goal.types-returns-in_ok-more_types-in-len1-up
+types-returns-in_ok-more_types-in-len1-up t c =
+    commas_first type_tokens c.args.types.now c.first-item.result c.args.self.now c.ty.new.self c.more_types.new.self
+    c.in-len1-up.len_at_least c.first-item.is c.in_ok-ty-in-len1-up.ensures c.in_ok-more_types-in-len1-up.ensures

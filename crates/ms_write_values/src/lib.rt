@@ -1,0 +1,14 @@
+//! What lines of a module's text are made of: names, numbers, types, values, initialisers and words, each written token by token.
+#![tactic(auto)]
+
+mod inits;
+mod names;
+mod numbers;
+mod types;
+mod values;
+mod words;
+mod writer;
+
+pub use types::width_of;
+pub use words::{binary_word, cast_word, predicate_word};
+pub use writer::Writer;

@@ -1,0 +1,134 @@
+//! Types (LLVM Language Reference, "Type System").
+ghost use Rattle.std.specs.Prelude.{◌≡◌, [], ◌∷◌, IfOk, decimal, map};
+ghost use Rattle.ms_ir.specs.Layout.{width_of as width_of_type};
+ghost use Rattle.ms_written.specs.Pieces.{word, behind_commas, with_commas};
+ghost use Rattle.ms_written.specs.Types.{array_tokens, struct_tokens, type_tokens, result_tokens};
+ghost use Rattle.ms_write_values.specs.Parts.{open_tokens, close_tokens};
+ghost use Rattle.ms_write_values.specs.Sheets.{put};
+
+use crate::writer::Writer;
+use ms_bits::NoMemory;
+use ms_ir::Ty;
+
+/// The bits of a word of a type; a pointer has 64, and a type without words none.
+pub fn width_of(ty: &Ty) -> u8
+    ensures { result ≡ width_of_type ty.now }
+{
+    match ty {
+        Ty::Int(width) => *width,
+        Ty::Ptr => 64,
+        _ => 0,
+    }
+}
+
+impl Writer {
+    /// Writes an integer type.
+    fn int_type(&mut self, width: u8) -> Result<(), NoMemory>
+        ensures { IfOk result (λ _. self.new ≡ put self.old (word (105 ∷ decimal width) ∷ [])) }
+    {
+        self.begin(b'i')?;
+        self.digits(width as u64)?;
+        Ok(())
+    }
+
+    /// Writes what opens a struct, which may be packed.
+    pub fn open_struct(&mut self, packed: bool) -> Result<(), NoMemory>
+        ensures { IfOk result (λ _. self.new ≡ put self.old (open_tokens packed)) }
+    {
+        if packed {
+            self.token(b"<")?;
+        }
+        self.token(b"{")?;
+        Ok(())
+    }
+
+    /// Writes what closes it.
+    pub fn close_struct(&mut self, packed: bool) -> Result<(), NoMemory>
+        ensures { IfOk result (λ _. self.new ≡ put self.old (close_tokens packed)) }
+    {
+        self.token(b"}")?;
+        if packed {
+            self.token(b">")?;
+        }
+        Ok(())
+    }
+
+    /// Writes a type.
+    #[cycle(types)]
+    pub fn ty(&mut self, ty: &Ty) -> Result<(), NoMemory>
+        ensures { IfOk result (λ _. self.new ≡ put self.old (type_tokens ty.now)) }
+    {
+        match ty {
+            Ty::Int(width) => self.int_type(*width)?,
+            Ty::Ptr => self.token(b"ptr")?,
+            Ty::Array(count, item) => self.array_type(*count, item.get())?,
+            Ty::Struct(packed, fields) => self.struct_type(*packed, fields.as_slice())?,
+            Ty::Named(name) => self.local(name)?,
+        }
+        Ok(())
+    }
+
+    #[cycle(types)]
+    #[tactic(auto, using(crate::proofs::Puts::put_append))]
+    fn array_type(&mut self, count: u64, item: &Ty) -> Result<(), NoMemory>
+        ensures { IfOk result (λ _. self.new ≡ put self.old (array_tokens count (type_tokens item.now))) }
+    {
+        self.token(b"[")?;
+        self.count(count)?;
+        self.token(b"x")?;
+        self.ty(item)?;
+        self.token(b"]")?;
+        Ok(())
+    }
+
+    #[cycle(types)]
+    #[tactic(auto, using(crate::proofs::Puts::put_struct))]
+    fn struct_type(&mut self, packed: bool, fields: &[Ty]) -> Result<(), NoMemory>
+        ensures { IfOk result (λ _. self.new ≡ put self.old (struct_tokens packed (map type_tokens fields.now))) }
+    {
+        self.open_struct(packed)?;
+        self.types(fields)?;
+        self.close_struct(packed)?;
+        Ok(())
+    }
+
+    /// Writes types with commas between.
+    #[cycle(types)]
+    #[tactic(auto, using(crate::proofs::Puts::put_append))]
+    pub fn types(&mut self, types: &[Ty]) -> Result<(), NoMemory>
+        ensures { IfOk result (λ _. self.new ≡ put self.old (with_commas (map type_tokens types.now))) }
+    {
+        match types {
+            [] => {}
+            [first, rest @ ..] => {
+                self.ty(first)?;
+                self.more_types(rest)?;
+            }
+        }
+        Ok(())
+    }
+
+    /// Writes types behind a comma each.
+    #[cycle(types)]
+    #[tactic(auto, using(crate::proofs::Puts::put_append))]
+    fn more_types(&mut self, types: &[Ty]) -> Result<(), NoMemory>
+        ensures { IfOk result (λ _. self.new ≡ put self.old (behind_commas (map type_tokens types.now))) }
+    {
+        for ty in types {
+            self.token(b",")?;
+            self.ty(ty)?;
+        }
+        Ok(())
+    }
+
+    /// Writes the type of a result, or `void`.
+    pub fn result_type(&mut self, ty: &Option<Ty>) -> Result<(), NoMemory>
+        ensures { IfOk result (λ _. self.new ≡ put self.old (result_tokens ty.now)) }
+    {
+        match ty {
+            None => self.token(b"void")?,
+            Some(ty) => self.ty(ty)?,
+        }
+        Ok(())
+    }
+}

@@ -1,0 +1,127 @@
+//! Values behind their types (LLVM Language Reference, "Constants").
+ghost use Rattle.std.specs.Prelude.{◌≡◌, [], ◌∷◌, IfOk, codes, map};
+ghost use Rattle.ms_written.specs.Names.{global_token};
+ghost use Rattle.ms_written.specs.Pieces.{behind_commas, with_commas, word};
+ghost use Rattle.ms_written.specs.Types.{type_tokens};
+ghost use Rattle.ms_written.specs.Values.{constant_index_tokens, offset_tokens, value_tokens, typed_tokens, pair_tokens};
+ghost use Rattle.ms_write_values.specs.Parts.{two_tokens};
+ghost use Rattle.ms_write_values.specs.Sheets.{put};
+
+use crate::types::width_of;
+use crate::writer::Writer;
+use ms_bits::NoMemory;
+use ms_ir::{Name, Operand, Ty};
+
+impl Writer {
+    /// Writes a constant index behind its type: a number, of a single bit too.
+    #[tactic(auto, using(crate::proofs::Puts::put_append))]
+    fn constant_index(&mut self, index: &(Ty, u64)) -> Result<(), NoMemory>
+        ensures { IfOk result (λ _. self.new ≡ put self.old (constant_index_tokens index.now)) }
+    {
+        self.ty(&index.0)?;
+        self.number(width_of(&index.0), index.1)?;
+        Ok(())
+    }
+
+    /// Writes constant indices behind a comma each.
+    #[tactic(auto, using(crate::proofs::Puts::put_append))]
+    fn constant_indices(&mut self, indices: &[(Ty, u64)]) -> Result<(), NoMemory>
+        ensures { IfOk result (λ _. self.new ≡ put self.old (behind_commas (map constant_index_tokens indices.now))) }
+    {
+        for index in indices {
+            self.token(b",")?;
+            self.constant_index(index)?;
+        }
+        Ok(())
+    }
+
+    /// Writes what stands between the parentheses of a constant `getelementptr`.
+    #[tactic(auto, using(crate::proofs::Puts::put_append))]
+    fn offset_parts(&mut self, ty: &Ty, base: &Name, indices: &[(Ty, u64)]) -> Result<(), NoMemory>
+        ensures { IfOk result (λ _. self.new ≡ put self.old (with_commas (type_tokens ty.now ∷ (word (codes "ptr") ∷ global_token base.now ∷ []) ∷ map constant_index_tokens indices.now))) }
+    {
+        self.ty(ty)?;
+        self.token(b",")?;
+        self.token(b"ptr")?;
+        self.global(base)?;
+        self.constant_indices(indices)?;
+        Ok(())
+    }
+
+    /// Writes a constant `getelementptr`.
+    #[tactic(auto, using(crate::proofs::Puts::put_append), unfolding(ms_written::specs::Values::offset_tokens))]
+    fn offset(&mut self, ty: &Ty, base: &Name, indices: &[(Ty, u64)]) -> Result<(), NoMemory>
+        ensures { IfOk result (λ _. self.new ≡ put self.old (offset_tokens ty.now (global_token base.now) indices.now)) }
+    {
+        self.token(b"getelementptr")?;
+        self.token(b"(")?;
+        self.offset_parts(ty, base, indices)?;
+        self.token(b")")?;
+        Ok(())
+    }
+
+    /// Writes a value of a type, which isn't written.
+    #[tactic(auto, unfolding(ms_written::specs::Values::value_tokens))]
+    pub fn value(&mut self, ty: &Ty, operand: &Operand) -> Result<(), NoMemory>
+        ensures { IfOk result (λ _. self.new ≡ put self.old (value_tokens ty.now operand.now)) }
+    {
+        match operand {
+            Operand::Int(value) => self.integer(width_of(ty), *value)?,
+            Operand::Null => self.token(b"null")?,
+            Operand::Undef => self.token(b"undef")?,
+            Operand::Poison => self.token(b"poison")?,
+            Operand::Local(name) => self.local(name)?,
+            Operand::Global(name) => self.global(name)?,
+            Operand::Offset(ty, base, indices) => self.offset(ty, base, indices.as_slice())?,
+        }
+        Ok(())
+    }
+
+    /// Writes a value behind its type.
+    #[tactic(auto, using(crate::proofs::Puts::put_append))]
+    pub fn typed(&mut self, ty: &Ty, operand: &Operand) -> Result<(), NoMemory>
+        ensures { IfOk result (λ _. self.new ≡ put self.old (typed_tokens ty.now operand.now)) }
+    {
+        self.ty(ty)?;
+        self.value(ty, operand)?;
+        Ok(())
+    }
+
+    /// Writes two values behind their one type.
+    #[tactic(auto, using(crate::proofs::Puts::put_append))]
+    pub fn two(&mut self, ty: &Ty, a: &Operand, b: &Operand) -> Result<(), NoMemory>
+        ensures { IfOk result (λ _. self.new ≡ put self.old (two_tokens ty.now a.now b.now)) }
+    {
+        self.typed(ty, a)?;
+        self.token(b",")?;
+        self.value(ty, b)?;
+        Ok(())
+    }
+
+    /// Writes values with their types, and commas between.
+    #[tactic(auto, using(crate::proofs::Puts::put_append))]
+    pub fn pairs(&mut self, pairs: &[(Ty, Operand)]) -> Result<(), NoMemory>
+        ensures { IfOk result (λ _. self.new ≡ put self.old (with_commas (map pair_tokens pairs.now))) }
+    {
+        match pairs {
+            [] => {}
+            [first, rest @ ..] => {
+                self.typed(&first.0, &first.1)?;
+                self.more_pairs(rest)?;
+            }
+        }
+        Ok(())
+    }
+
+    /// Writes values with their types, behind a comma each.
+    #[tactic(auto, using(crate::proofs::Puts::put_append))]
+    pub fn more_pairs(&mut self, pairs: &[(Ty, Operand)]) -> Result<(), NoMemory>
+        ensures { IfOk result (λ _. self.new ≡ put self.old (behind_commas (map pair_tokens pairs.now))) }
+    {
+        for pair in pairs {
+            self.token(b",")?;
+            self.typed(&pair.0, &pair.1)?;
+        }
+        Ok(())
+    }
+}

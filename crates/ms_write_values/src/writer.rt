@@ -1,0 +1,145 @@
+//! A text that is written token by token, in one buffer that grows.
+ghost use Rattle.std.specs.Prelude.{◌≡◌, ◌++◌, [], ◌∷◌, IfOk, Some, decimal};
+ghost use Rattle.ms_write_values.specs.Sheets.{empty, first_byte as first_byte_of, are_near as are_near_of, gap, grown, put_text, opened, ended};
+
+use itoa::Buffer;
+use ms_bits::NoMemory;
+use std::alloc::Global;
+use std::marker::Model;
+
+/// A text as far as it is written. Contracts see its bytes, and the first byte of the token that stands last in the line.
+#[derive(Drop)]
+pub struct Writer {
+    bytes: Vec<u8>,
+    /// It tells whether a space stands behind that token; none stands at the start of a line.
+    last: Option<u8>,
+}
+
+impl Model for Writer {
+    ghost use Rattle.ms_write_values.specs.Sheets.{Sheet};
+
+    ghost Value = { Sheet };
+
+    ghost view = { λ w. record { bytes = w.bytes.items; last = w.last } };
+}
+
+/// The first byte of a token, and 0 of an empty one.
+fn first_byte(text: &[u8]) -> u8
+    ensures { result ≡ first_byte_of text.now }
+{
+    match text {
+        [] => 0,
+        [first, ..] => *first,
+    }
+}
+
+/// Whether no space stands between tokens that begin with these bytes: none before `,` and `)`, behind `(`, and between a
+/// global's name and `(`.
+fn are_near(before: u8, next: u8) -> bool
+    ensures { result ≡ are_near_of before next }
+{
+    before == b'(' || next == b',' || next == b')' || (before == b'@' && next == b'(')
+}
+
+impl Writer {
+    /// Nothing is written yet.
+    pub fn new(alloc: Global) -> Writer
+        ensures { result ≡ empty }
+    {
+        Writer {
+            bytes: Vec::new(alloc),
+            last: None,
+        }
+    }
+
+    /// What is written.
+    pub fn into_bytes(self) -> Vec<u8>
+        ensures { result.items ≡ self.bytes }
+    {
+        let Writer { bytes, last: _ } = self;
+        bytes
+    }
+
+    /// Writes the space in front of a token that begins with this byte, if one stands there.
+    fn space(&mut self, first: u8) -> Result<(), NoMemory>
+        ensures { IfOk result (λ _. self.new ≡ record { bytes = self.old.bytes ++ gap self.old.last first; last = Some first }) }
+    {
+        if let Some(before) = self.last {
+            if !are_near(before, first) {
+                self.bytes.push(b' ')?;
+            }
+        }
+        self.last = Some(first);
+        Ok(())
+    }
+
+    /// Writes a token. The one error, here and below, is want of memory.
+    pub fn token(&mut self, text: &[u8]) -> Result<(), NoMemory>
+        ensures { IfOk result (λ _. self.new ≡ put_text self.old text.now) }
+    {
+        self.space(first_byte(text))?;
+        self.bytes.extend_from_slice(text)?;
+        Ok(())
+    }
+
+    /// Writes the first byte of a token.
+    pub fn begin(&mut self, first: u8) -> Result<(), NoMemory>
+        ensures { IfOk result (λ _. self.new ≡ put_text self.old (first ∷ [])) }
+    {
+        self.space(first)?;
+        self.bytes.push(first)?;
+        Ok(())
+    }
+
+    /// Writes further bytes of a token.
+    pub fn more(&mut self, text: &[u8]) -> Result<(), NoMemory>
+        ensures { IfOk result (λ _. self.new ≡ grown self.old text.now) }
+    {
+        self.bytes.extend_from_slice(text)?;
+        Ok(())
+    }
+
+    /// Writes one more byte of a token.
+    pub fn byte(&mut self, byte: u8) -> Result<(), NoMemory>
+        ensures { IfOk result (λ _. self.new ≡ grown self.old (byte ∷ [])) }
+    {
+        self.bytes.push(byte)?;
+        Ok(())
+    }
+
+    /// Writes the decimal digits of a number, behind the bytes of a token.
+    pub fn digits(&mut self, number: u64) -> Result<(), NoMemory>
+        ensures { IfOk result (λ _. self.new ≡ grown self.old (decimal number)) }
+    {
+        let mut buffer = Buffer::new();
+        self.more(buffer.format(number).as_bytes())?;
+        Ok(())
+    }
+
+    /// Writes a number in decimal digits, as a token.
+    pub fn number_text(&mut self, number: u64) -> Result<(), NoMemory>
+        ensures { IfOk result (λ _. self.new ≡ put_text self.old (decimal number)) }
+    {
+        let mut buffer = Buffer::new();
+        self.token(buffer.format(number).as_bytes())?;
+        Ok(())
+    }
+
+    /// Begins a line, behind these bytes.
+    pub fn start_line(&mut self, indent: &[u8]) -> Result<(), NoMemory>
+        ensures { IfOk result (λ _. self.new ≡ opened self.old indent.now) }
+    {
+        self.bytes.extend_from_slice(indent)?;
+        self.last = None;
+        Ok(())
+    }
+
+    /// Ends a line.
+    pub fn end_line(&mut self) -> Result<(), NoMemory>
+        ensures { IfOk result (λ _. self.new ≡ ended self.old) }
+    {
+        self.bytes.push(b'\n')?;
+        self.last = None;
+        Ok(())
+    }
+}
