@@ -5,20 +5,9 @@
 # The program that calls it is made in a temporary repository, beside copies of this repository's crates. Its
 # time is printed with and without the call, since most of the memory is the graph's own.
 # Wants `rt` and `python3`. Outside the gate.
-set -euo pipefail
+source "$(dirname "$0")/frame.sh"
 
-top=$(cd "$(dirname "$0")/.." && pwd)
-work=$(mktemp -d)
-trap 'rm -rf "$work"' EXIT
-
-mkdir -p "$work/crates/flow_bench/src"
-for crate in ms_bits ms_flow; do
-    cp -r "$top/crates/$crate" "$work/crates/$crate"
-    rm -rf "$work/crates/$crate/out" "$work/crates/$crate/must-fail"
-done
-printf 'ms_bits:\nms_flow: ms_bits\nflow_bench: ms_bits ms_flow\n' >"$work/crates.txt"
-
-cat >"$work/crates/flow_bench/src/main.rt" <<'PROGRAM'
+repository flow_bench 'ms_bits ms_flow' 'ms_bits ms_flow' <<'PROGRAM'
 //! Makes a graph in memory and asks so many times about its uses.
 #![tactic(auto)]
 
@@ -192,9 +181,7 @@ for helper in below uses_below stay_below; do
         >"$work/crates/flow_bench/proofs/$helper/Invariants.antt"
 done
 
-cd "$work/crates/flow_bench"
-rt run -- chain 4 1 >"$work/build.log" 2>&1 || { cat "$work/build.log" >&2; exit 1; }
-program=$work/crates/flow_bench/out/flow_bench
+build flow_bench chain 4 1
 
 for kind in chain ladder loops; do
     for blocks in 4096 16384 131072; do

@@ -6,20 +6,9 @@
 # The program that calls them is made in a temporary repository, beside copies of this repository's crates.
 # It makes a module in memory and calls so many times: what one more time costs is counted.
 # Wants `rt` and `valgrind`. Outside the gate.
-set -euo pipefail
+source "$(dirname "$0")/frame.sh"
 
-top=$(cd "$(dirname "$0")/.." && pwd)
-work=$(mktemp -d)
-trap 'rm -rf "$work"' EXIT
-
-mkdir -p "$work/crates/layout_bench/src"
-for crate in ms_bits ms_ir ms_layout; do
-    cp -r "$top/crates/$crate" "$work/crates/$crate"
-    rm -rf "$work/crates/$crate/out" "$work/crates/$crate/must-fail"
-done
-printf 'ms_bits:\nms_ir: ms_bits\nms_layout: ms_bits ms_ir\nlayout_bench: ms_bits ms_ir ms_layout\n' >"$work/crates.txt"
-
-cat >"$work/crates/layout_bench/src/main.rt" <<'PROGRAM'
+repository layout_bench 'ms_bits ms_ir ms_layout' 'ms_bits ms_ir ms_layout' <<'PROGRAM'
 //! Makes a module in memory and asks so many times about it.
 #![tactic(auto)]
 
@@ -104,20 +93,13 @@ fn main(rt: HostRuntime) -> io::Result<()> {
 }
 PROGRAM
 
-cd "$work/crates/layout_bench"
-rt run -- walk 4 1 >"$work/build.log" 2>&1 || { cat "$work/build.log" >&2; exit 1; }
-program=$work/crates/layout_bench/out/layout_bench
-
-instructions() {
-    valgrind --tool=callgrind --callgrind-out-file=/dev/null "$program" "$@" 2>&1 >/dev/null |
-        sed -n 's/.*Collected : \([0-9]*\).*/\1/p'
-}
+build layout_bench walk 4 1
 
 # `place_of` comes after a walk, and `site_of` after both, so each has what stands before it taken off.
 measure() {
     local once twice
-    once=$(instructions "$1" "$2" 1)
-    twice=$(instructions "$1" "$2" 2)
+    once=$(instructions "$program" "$1" "$2" 1)
+    twice=$(instructions "$program" "$1" "$2" 2)
     echo "$((twice - once))"
 }
 

@@ -5,18 +5,9 @@
 # The program that calls it is made in a temporary repository, beside copies of this repository's crates.
 # It makes a text in memory and cuts it into tokens so many times: what one more time costs is counted.
 # Wants `rt` and `valgrind`.
-set -euo pipefail
+source "$(dirname "$0")/frame.sh"
 
-top=$(cd "$(dirname "$0")/.." && pwd)
-work=$(mktemp -d)
-trap 'rm -rf "$work"' EXIT
-
-mkdir -p "$work/crates/lex_bench/src"
-cp -r "$top/crates/ms_lex" "$work/crates/ms_lex"
-rm -rf "$work/crates/ms_lex/out" "$work/crates/ms_lex/must-fail"
-printf 'ms_lex: thiserror\nlex_bench: ms_lex\n' >"$work/crates.txt"
-
-cat >"$work/crates/lex_bench/src/main.rt" <<'PROGRAM'
+repository lex_bench 'ms_lex' 'ms_lex' <<'PROGRAM'
 //! Makes a text in memory and cuts it into tokens so many times.
 #![tactic(auto)]
 
@@ -73,19 +64,12 @@ fn main(rt: HostRuntime) -> io::Result<()> {
 }
 PROGRAM
 
-cd "$work/crates/lex_bench"
-rt run -- ordinary 64 1 >"$work/build.log" 2>&1 || { cat "$work/build.log" >&2; exit 1; }
-program=$work/crates/lex_bench/out/lex_bench
-
-instructions() {
-    valgrind --tool=callgrind --callgrind-out-file=/dev/null "$program" "$@" 2>&1 >/dev/null |
-        sed -n 's/.*Collected : \([0-9]*\).*/\1/p'
-}
+build lex_bench ordinary 64 1
 
 measure() {
     local once twice
-    once=$(instructions "$1" "$2" 1)
-    twice=$(instructions "$1" "$2" 2)
+    once=$(instructions "$program" "$1" "$2" 1)
+    twice=$(instructions "$program" "$1" "$2" 2)
     awk -v kind="$1" -v size="$2" -v spent="$((twice - once))" \
         'BEGIN { printf "%-10s %8d bytes %12d instructions %8.3f a byte\n", kind, size, spent, spent / size }'
 }

@@ -4,20 +4,9 @@
 #
 # The program that calls it is made in a temporary repository, beside copies of this repository's crates.
 # Wants `rt`, `python3` and `valgrind`. Outside the gate.
-set -euo pipefail
+source "$(dirname "$0")/frame.sh"
 
-top=$(cd "$(dirname "$0")/.." && pwd)
-work=$(mktemp -d)
-trap 'rm -rf "$work"' EXIT
-
-mkdir -p "$work/crates/planes_bench/src"
-for crate in ms_bits ms_alloc ms_planes; do
-    cp -r "$top/crates/$crate" "$work/crates/$crate"
-    rm -rf "$work/crates/$crate/out" "$work/crates/$crate/must-fail"
-done
-printf 'ms_bits:\nms_alloc:\nms_planes: ms_bits ms_alloc\nplanes_bench: ms_alloc ms_planes\n' >"$work/crates.txt"
-
-cat >"$work/crates/planes_bench/src/main.rt" <<'PROGRAM'
+repository planes_bench 'ms_alloc ms_planes' 'ms_bits ms_alloc ms_planes' <<'PROGRAM'
 //! Makes so many heap blocks of 16 bytes, and then loads, poisons or copies.
 #![tactic(auto)]
 
@@ -88,21 +77,14 @@ fn main(rt: HostRuntime) -> io::Result<()> {
 }
 PROGRAM
 
-cd "$work/crates/planes_bench"
-rt run -- 1 16 1 1 1 >"$work/build.log" 2>&1 || { cat "$work/build.log" >&2; exit 1; }
-program=$work/crates/planes_bench/out/planes_bench
-
-# instructions of a run
-count() {
-    valgrind --tool=callgrind --callgrind-out-file=/dev/null "$program" "$@" 2>&1 >/dev/null | sed -n 's/.*Collected : //p'
-}
+build planes_bench 1 16 1 1 1
 
 for blocks in 10 10000 1000000; do
-    none=$(count "$blocks" 16 0 0 0)
-    find=$(count "$blocks" 16 100000 0 0)
-    load=$(count "$blocks" 16 100000 1 0)
+    none=$(instructions "$program" "$blocks" 16 0 0 0)
+    find=$(instructions "$program" "$blocks" 16 100000 0 0)
+    load=$(instructions "$program" "$blocks" 16 100000 1 0)
     echo "$blocks blocks: $(python3 -c "print(f'{($find - $none) / 100000:.1f} instructions to find that an access is good, {($load - $find) / 100000:.1f} to load a word and its shadow')")"
 done
-none=$(count 1 1048576 0 0 0)
-some=$(count 1 1048576 0 0 16)
+none=$(instructions "$program" 1 1048576 0 0 0)
+some=$(instructions "$program" 1 1048576 0 0 16)
 echo "poison of 1 MiB and copy of the shadow of half of it: $(python3 -c "print(f'{($some - $none) / 16 / 1048576:.2f}')") instructions a byte"

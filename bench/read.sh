@@ -7,22 +7,10 @@
 # The program that reads is made in a temporary repository, beside copies of this repository's crates. It reads a file so
 # many times: what one more time costs is counted.
 # Wants `rt`, `valgrind` and, for the comparison, `llvm-as-19`. Outside the gate.
-set -euo pipefail
+source "$(dirname "$0")/frame.sh"
 
-top=$(cd "$(dirname "$0")/.." && pwd)
-work=$(mktemp -d)
-trap 'rm -rf "$work"' EXIT
-
-crates='ms_bits ms_io ms_lex ms_ir ms_grammar ms_cursor ms_read_values ms_read_skipped ms_read_insts ms_read_entities ms_read_body ms_read_top'
-mkdir -p "$work/crates/read_bench/src"
-for crate in $crates; do
-    cp -r "$top/crates/$crate" "$work/crates/$crate"
-    rm -rf "$work/crates/$crate/out" "$work/crates/$crate/must-fail"
-    grep "^$crate:" "$top/crates.txt" >>"$work/crates.txt"
-done
-echo 'read_bench: ms_bits ms_io ms_lex ms_ir ms_grammar ms_read_body ms_read_top' >>"$work/crates.txt"
-
-cat >"$work/crates/read_bench/src/main.rt" <<'PROGRAM'
+repository read_bench 'ms_bits ms_io ms_lex ms_ir ms_grammar ms_read_body ms_read_top' \
+    'ms_bits ms_io ms_lex ms_ir ms_grammar ms_cursor ms_read_values ms_read_skipped ms_read_insts ms_read_entities ms_read_body ms_read_top' <<'PROGRAM'
 //! Reads the module of a file so many times.
 #![tactic(auto)]
 
@@ -117,15 +105,8 @@ text() { # kind, bytes at most
     }'
 }
 
-cd "$work/crates/read_bench"
 text functions 4096 >"$work/small.ll"
-rt run -- "$work/small.ll" 1 >"$work/build.log" 2>&1 || { cat "$work/build.log" >&2; exit 1; }
-program=$work/crates/read_bench/out/read_bench
-
-instructions() {
-    valgrind --tool=callgrind --callgrind-out-file=/dev/null "$@" 2>&1 >/dev/null |
-        sed -n 's/.*Collected : \([0-9]*\).*/\1/p'
-}
+build read_bench "$work/small.ll" 1
 
 measure() { # name, file
     local once twice bytes answer

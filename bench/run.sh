@@ -2,12 +2,10 @@
 # Instructions per byte of `msan run` and `msan check` on a text of the first form, at 256 KiB and at 2 MiB: at 4 MiB it would have
 # more instructions than `check` reads.
 # Needs valgrind, and the program as `rt run` built it (crates/msan/out/msan). Outside the gate.
-set -eu
-cd "$(dirname "$0")/.."
-program=crates/msan/out/msan
+source "$(dirname "$0")/frame.sh"
+
+program=$top/crates/msan/out/msan
 [ -x "$program" ] || { echo "build it first: (cd crates/msan && rt run -- run ../../examples/stored.ll)" >&2; exit 1; }
-folder=$(mktemp -d)
-trap 'rm -rf "$folder"' EXIT
 
 text() { # a text of at most $1 bytes: one cell that is stored to, loaded and combined, over and over
   awk -v most="$1" 'BEGIN {
@@ -23,13 +21,11 @@ text() { # a text of at most $1 bytes: one cell that is stored to, loaded and co
 }
 
 measure() { # command, name, bytes
-  text "$3" > "$folder/$2.ll"
-  local bytes instructions
-  bytes=$(wc -c < "$folder/$2.ll")
-  valgrind --tool=callgrind --callgrind-out-file=/dev/null "$program" "$1" "$folder/$2.ll" 2> "$folder/$2.log" || true
-  instructions=$(awk '/Collected/ {print $4}' "$folder/$2.log")
-  grep '^end:' "$folder/$2.log"
-  awk -v n="$instructions" -v b="$bytes" -v name="$1 $2" 'BEGIN {printf "%s: %d bytes, %.0f instructions, %.2f a byte\n", name, b, n, n / b}'
+  text "$3" > "$work/$2.ll"
+  local bytes
+  bytes=$(wc -c < "$work/$2.ll")
+  { "$program" "$1" "$work/$2.ll" 2>&1 || true; } | grep '^end:'
+  awk -v n="$(instructions "$program" "$1" "$work/$2.ll")" -v b="$bytes" -v name="$1 $2" 'BEGIN {printf "%s: %d bytes, %.0f instructions, %.2f a byte\n", name, b, n, n / b}'
 }
 
 for command in run check; do

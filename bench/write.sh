@@ -4,23 +4,9 @@
 # The program that calls it is made in a temporary repository, beside copies of this repository's crates.
 # It makes a module in memory and writes it so many times: what one more time costs is counted.
 # Wants `rt` and `valgrind`. Outside the gate.
-set -euo pipefail
+source "$(dirname "$0")/frame.sh"
 
-top=$(cd "$(dirname "$0")/.." && pwd)
-work=$(mktemp -d)
-trap 'rm -rf "$work"' EXIT
-
-mkdir -p "$work/crates/write_bench/src"
-for crate in ms_bits ms_lex ms_ir ms_grammar ms_written ms_write; do
-    cp -r "$top/crates/$crate" "$work/crates/$crate"
-    rm -rf "$work/crates/$crate/out" "$work/crates/$crate/must-fail"
-done
-{
-    grep -E '^(ms_bits|ms_lex|ms_ir|ms_grammar|ms_written|ms_write):' "$top/crates.txt"
-    echo 'write_bench: ms_bits ms_ir ms_write'
-} >"$work/crates.txt"
-
-cat >"$work/crates/write_bench/src/main.rt" <<'PROGRAM'
+repository write_bench 'ms_bits ms_ir ms_write' 'ms_bits ms_lex ms_ir ms_grammar ms_written ms_write_values ms_write' <<'PROGRAM'
 //! Makes a module in memory and writes it so many times.
 #![tactic(auto)]
 
@@ -113,19 +99,12 @@ fn main(rt: HostRuntime) -> io::Result<()> {
 }
 PROGRAM
 
-cd "$work/crates/write_bench"
-rt run -- 4 1 >"$work/build.log" 2>&1 || { cat "$work/build.log" >&2; exit 1; }
-program=$work/crates/write_bench/out/write_bench
-
-instructions() {
-    valgrind --tool=callgrind --callgrind-out-file=/dev/null "$program" "$@" 2>&1 >/dev/null |
-        sed -n 's/.*Collected : \([0-9]*\).*/\1/p'
-}
+build write_bench 4 1
 
 for count in 1180 4700 18800 75200; do
     size=$("$program" "$count" 1)
-    once=$(instructions "$count" 1)
-    twice=$(instructions "$count" 2)
+    once=$(instructions "$program" "$count" 1)
+    twice=$(instructions "$program" "$count" 2)
     awk -v size="$size" -v spent="$((twice - once))" \
         'BEGIN { printf "%9d bytes %12d instructions %8.3f a byte\n", size, spent, spent / size }'
 done

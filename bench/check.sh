@@ -1,0 +1,69 @@
+#!/usr/bin/env bash
+# Instructions that the check of validity takes for each item of a module, by callgrind: for many small functions, one
+# function of many blocks, one `phi` of many edges, one `switch` of many cases, and many globals, each at two sizes. Where
+# the check is near to linear, the numbers at the two sizes are close.
+#
+# `msan run` reads a valid module, checks it and says that it isn't built yet. The same text with one type twice is refused
+# as soon as it is read; what that takes is taken off.
+# Wants `valgrind`, and `crates/msan/out/msan`, which `rt run` makes in `crates/msan`. Outside the gate.
+source "$(dirname "$0")/frame.sh"
+
+program=$top/crates/msan/out/msan
+
+text() { # kind, count
+    awk -v kind="$1" -v count="$2" 'BEGIN {
+        if (kind == "functions") {
+            for (k = 0; k < count / 16; k++) {
+                printf "define i32 @f%d(i32 %%0) {\n  %%2 = add i32 %%0, 1\n", k
+                for (j = 3; j < 17; j++) printf "  %%%d = xor i32 %%%d, %%0\n", j, j - 1
+                printf "  ret i32 %%16\n}\n"
+            }
+        } else if (kind == "blocks") {
+            printf "define i32 @f(i32 %%0) {\n  br label %%2\n"
+            for (k = 2; k < 2 * count; k += 2)
+                printf "%d:\n  %%%d = xor i32 %%0, %d\n  br label %%%d\n", k, k + 1, k, k + 2
+            printf "%d:\n  ret i32 %%3\n}\n", k
+        } else if (kind == "phi") {
+            printf "define i32 @f(i32 %%0) {\n  switch i32 %%0, label %%2 [\n"
+            for (k = 1; k < count; k++) printf "    i32 %d, label %%2\n", k
+            printf "  ]\n2:\n  %%3 = phi i32 [ 7, %%1 ]"
+            for (k = 1; k < count; k++) printf ", [ 7, %%1 ]"
+            printf "\n  ret i32 %%3\n}\n"
+        } else if (kind == "switch") {
+            printf "define i32 @f(i32 %%0) {\n  switch i32 %%0, label %%2 [\n"
+            for (k = 1; k < count; k++) printf "    i32 %d, label %%2\n", k
+            printf "  ]\n2:\n  ret i32 0\n}\n"
+        } else {
+            for (k = 0; k < count; k++) printf "@g%d = global [4 x i8] zeroinitializer\n", k
+        }
+        printf "define i32 @main() {\n  ret i32 0\n}\ndefine void @last() {\n  ret void\n}\n"
+    }'
+}
+
+spent() { # file, the line that is said of it
+    local said
+    said=$("$program" run "$1" 2>&1 || true)
+    [ "$said" = "$2" ] || { echo "of $1 it says: $said" >&2; exit 1; }
+    instructions "$program" run "$1"
+}
+
+measure() { # kind, count
+    local whole read
+    text "$1" "$2" >"$work/valid.ll"
+    { echo '%t = type { i8 }'; echo '%t = type { i8 }'; cat "$work/valid.ll"; } >"$work/twice.ll"
+    whole=$(spent "$work/valid.ll" 'refused 99: not built yet')
+    read=$(spent "$work/twice.ll" 'refused 9: duplicate %t')
+    awk -v kind="$1" -v count="$2" -v whole="$whole" -v read="$read" \
+        'BEGIN { printf "%-10s %7d items: check %9.1f each, read %9.1f each\n", kind, count, (whole - read) / count, read / count }'
+}
+
+for kind in functions blocks; do
+    measure "$kind" $((1 << 12))
+    measure "$kind" $((1 << 17))
+done
+for kind in phi switch; do
+    measure "$kind" $((1 << 14))
+    measure "$kind" $((1 << 19))
+done
+measure globals $((1 << 10))
+measure globals $((1 << 14))
