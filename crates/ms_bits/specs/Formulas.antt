@@ -1,6 +1,6 @@
 -- Masks as inserted instructions compute them, in the order of those instructions (after Stepanov and Serebryany,
 -- CGO 2015; own in this form). v and u are the numbers of two words of w bits, and m and k their masks; a condition
--- has t and n. Crate ms_masks proves which of them are the exact masks of Completion.
+-- has t and n. Crate ms_bits_laws proves which of them are the exact masks of Completion.
 use Rattle.std.specs.Prelude.{◌≡◌, ◌≤◌, ℕ, ◌+◌, ◌-◌, ◌%◌, ◌^◌, Bool, not, eqb, ltb, leb, bit_and, bit_or, bit_xor}
 use Rattle.std.specs.Int.{bit_at, from_bool}
 use Rattle.ms_bits.specs.Conversions.{select_of}

@@ -3,7 +3,6 @@ ghost use Rattle.std.specs.Prelude.{◌≡◌, IfOk};
 
 use crate::duplicate::NoMemory;
 use std::alloc::Global;
-use std::cmp::Ordering;
 use std::marker::Model;
 
 /// A value on the heap. A `Box` shows its pointer in its value, so that no copy could equal its source;
@@ -27,6 +26,14 @@ impl<T> Boxed<T> {
         ensures { result.now ≡ self.now }
     {
         &self.inner
+    }
+
+    /// Moves the value out of the heap. Takes no memory.
+    pub fn into_inner(self) -> T
+        ensures { result ≡ self }
+    {
+        let Boxed { inner } = self;
+        Box::into_inner(inner)
     }
 }
 
@@ -53,28 +60,4 @@ impl<T: PartialEq> PartialEq for Boxed<T> {
 
 impl<T: Eq> Eq for Boxed<T> {
     ghost laws = { T.Eq.laws };
-}
-
-impl<T: PartialOrd> PartialOrd for Boxed<T> {
-    ghost partial_cmp = { T.partial_cmp };
-
-    ghost laws = { T.PartialOrd.laws };
-
-    fn partial_cmp(&self, other: &Self) -> Option<Ordering> {
-        self.get().partial_cmp(other.get())
-    }
-}
-
-impl<T: Ord> Ord for Boxed<T> {
-    ghost cmp = { T.cmp };
-
-    ghost total = { T.total };
-
-    ghost matches_partial_cmp = { T.matches_partial_cmp };
-
-    ghost matches_eq = { T.matches_eq };
-
-    fn cmp(&self, other: &Self) -> Ordering {
-        self.get().cmp(other.get())
-    }
 }

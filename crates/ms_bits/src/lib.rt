@@ -12,14 +12,10 @@ pub mod duplicate;
 pub mod lists;
 pub mod operations;
 pub mod shared;
-#[cfg(test)]
-mod tests;
 pub mod texts;
 pub mod traps;
 mod twos_complement;
 mod undefined;
-#[cfg(test)]
-mod word_tests;
 pub mod words;
 
 pub use arithmetic::binary;

@@ -2,7 +2,7 @@
 //! Operations", "Conversion Operations" and "'icmp' Instruction").
 
 /// The operations on two words of one width.
-#[derive(Clone, Copy, Debug, PartialEq, Eq, PartialOrd, Ord)]
+#[derive(Clone, Copy, Debug, PartialEq, Eq)]
 pub enum BinOp {
     Add,
     Sub,
@@ -20,7 +20,7 @@ pub enum BinOp {
 }
 
 /// The predicates of `icmp`. The unsigned ones begin with `U`, the signed ones with `S`.
-#[derive(Clone, Copy, Debug, PartialEq, Eq, PartialOrd, Ord)]
+#[derive(Clone, Copy, Debug, PartialEq, Eq)]
 pub enum Pred {
     Eq,
     Ne,
@@ -35,7 +35,7 @@ pub enum Pred {
 }
 
 /// The casts. `Bitcast` is between equal types alone.
-#[derive(Clone, Copy, Debug, PartialEq, Eq, PartialOrd, Ord)]
+#[derive(Clone, Copy, Debug, PartialEq, Eq)]
 pub enum CastOp {
     Trunc,
     Zext,
@@ -46,7 +46,7 @@ pub enum CastOp {
 }
 
 /// The flags that an instruction carries. A flag that its operation cannot carry is not looked at.
-#[derive(Clone, Copy, Debug, PartialEq, Eq, PartialOrd, Ord)]
+#[derive(Clone, Copy, Debug, PartialEq, Eq)]
 pub struct Flags {
     /// No unsigned wrap: `add`, `sub`, `mul`, `shl`, `trunc`.
     pub nuw: bool,

@@ -1,7 +1,7 @@
 //! The ways in which a run traps.
 
 /// Why a run trapped, in the order in which the causes are tested within one instruction.
-#[derive(Clone, Copy, Debug, PartialEq, Eq, PartialOrd, Ord)]
+#[derive(Clone, Copy, Debug, PartialEq, Eq)]
 pub enum Trap {
     /// A shift by the width or more.
     Shift,
@@ -25,18 +25,18 @@ pub enum Trap {
     BadAddress,
     /// `free` or `realloc` of what is no live heap block.
     BadFree,
+    /// A format of `printf` that is none.
+    Format,
     /// The stack's limit would be passed.
     Stack,
     /// The limit of frames would be passed.
     Depth,
+    /// No fiber can go on.
+    Deadlock,
     /// The limit of the output would be passed.
     Output,
     /// An `unreachable` runs.
     Unreachable,
     /// A call of `abort`.
     Abort,
-    /// No fiber can go on.
-    Deadlock,
-    /// A format of `printf` that is none.
-    Format,
 }

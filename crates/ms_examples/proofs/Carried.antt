@@ -1,11 +1,11 @@
 -- Sums with carry keep rules the same.
 use Rattle.std.proofs.Common.{◌≡◌, refl}
 use Rattle.ms_ir.specs.declared.syntax.Module.{Module}
-use Rattle.ms_ir.specs.declared.runs.Setup.{Setup}
-use Rattle.ms_ir.specs.Masks.{Rules, SameRules, by_completions, by_formulas}
-use Rattle.ms_ir.specs.Shadow.{shadow_by}
-use Rattle.ms_laws.proofs.ExactRules.{formulas_exact}
-use Rattle.ms_laws.proofs.SameRuns.{same_shadow}
+use Rattle.ms_runs.specs.declared.runs.Setup.{Setup}
+use Rattle.ms_runs.specs.Masks.{Rules, SameRules, by_completions, by_formulas}
+use Rattle.ms_runs.specs.Shadow.{shadow_by}
+use Rattle.ms_runs_laws.proofs.ExactRules.{formulas_exact}
+use Rattle.ms_runs_laws.proofs.SameRuns.{same_shadow}
 use Rattle.ms_examples.specs.Sums.{carried}
 
 pub carried_same : {d e : Rules} → SameRules d e → SameRules (carried d) (carried e)

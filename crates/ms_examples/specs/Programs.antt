@@ -8,14 +8,15 @@ use Rattle.ms_bits.specs.Conversions.{cast_of}
 use Rattle.ms_ir.specs.declared.syntax.Inst.{Inst}
 use Rattle.ms_ir.specs.declared.syntax.Module.{Module}
 use Rattle.ms_ir.specs.declared.syntax.Op.TheVariants as op
-use Rattle.ms_ir.specs.First.{no_flags}
-use Rattle.ms_ir.specs.Masks.{value_or_zero}
-use Rattle.ms_ir.specs.Plain.{start_world}
-use Rattle.ms_ir.specs.Poisoned.{Poisoned}
-use Rattle.ms_ir.specs.World.{World}
+use Rattle.ms_bits.specs.NoFlags.{no_flags}
+use Rattle.ms_runs.specs.Masks.{value_or_zero}
+use Rattle.ms_runs.specs.Plain.{start_world}
+use Rattle.ms_runs.specs.Poisoned.{Poisoned}
+use Rattle.ms_runs.specs.World.{World}
 use Rattle.ms_ir.specs.ExampleCalls.{calloc}
 use Rattle.ms_ir.specs.ExampleModules.{shared_cell}
-use Rattle.ms_ir.specs.ExampleParts.{i8, i32, i64, array, local, int, undef, sets, does, binary as combine, icmp, convert, alloca, branch, ret, call, block, main_blocks, main_of, defaults}
+use Rattle.ms_ir.specs.ExampleParts.{i8, i32, i64, array, local, int, undef, sets, does, binary as combine, icmp, convert, alloca, branch, ret, call, block, main_blocks, main_of}
+use Rattle.ms_runs.specs.ExampleRuns.{defaults}
 
 -- a word with a mask, from no origin
 abbrev pub word : (value mask : ℕ) → Poisoned

@@ -1,6 +1,6 @@
 -- Sums in which a poisoned bit poisons each bit above it, since it may carry (own).
 use Rattle.std.specs.Prelude.{ℕ, ◌-◌, ◌%◌, ◌^◌, false, bit_or}
-use Rattle.ms_ir.specs.Masks.{Rules}
+use Rattle.ms_runs.specs.Masks.{Rules}
 
 -- the bits of a union of masks of w bits, and those above its lowest one
 abbrev pub carry : (w union : ℕ) → ℕ

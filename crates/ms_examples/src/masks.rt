@@ -3,7 +3,7 @@ ghost use Rattle.std.specs.Prelude.{◌≡◌, [], ◌∷◌};
 ghost use Rattle.ms_bits.specs.declared.operations.BinOp.TheVariants as binary;
 ghost use Rattle.ms_bits.specs.declared.operations.CastOp.TheVariants as cast;
 ghost use Rattle.ms_bits.specs.declared.operations.Pred.TheVariants as predicate;
-ghost use Rattle.ms_ir.specs.Masks.{by_completions, binary_mask};
+ghost use Rattle.ms_runs.specs.Masks.{by_completions, binary_mask};
 ghost use Rattle.ms_examples.specs.Programs.{word, cast_mask};
 ghost use Rattle.ms_examples.specs.Sums.{carried};
 

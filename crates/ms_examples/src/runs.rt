@@ -1,13 +1,14 @@
 //! Whole runs. `0xa5` is the one byte of the default fill; kinds of uses are numbered as in `Report`.
 ghost use Rattle.std.specs.Prelude.{◌≡◌, [], ◌∷◌};
 ghost use Rattle.ms_bits.specs.declared.traps.Trap.TheVariants as trap;
-ghost use Rattle.ms_ir.specs.declared.runs.End.TheVariants as «end»;
+ghost use Rattle.ms_runs.specs.declared.runs.End.TheVariants as «end»;
 ghost use Rattle.ms_ir.specs.ExampleModules.{returns_zero, shared_cell, lost_in_addition, frozen, undef_sum, carry_of_undef};
 ghost use Rattle.ms_ir.specs.ExampleExternals.{heap_filled, freed};
 ghost use Rattle.ms_ir.specs.ExampleCalls as calls;
-ghost use Rattle.ms_ir.specs.ExampleParts.{defaults, filled, steps, exits, prints, spent, trapped, reported, report, does, call, local};
-ghost use Rattle.ms_ir.specs.Masks.{by_completions};
-ghost use Rattle.ms_ir.specs.Shadow.{shadow, shadow_by};
+ghost use Rattle.ms_runs.specs.ExampleRuns.{defaults, filled, steps, exits, prints, spent, trapped, reported, report};
+ghost use Rattle.ms_ir.specs.ExampleParts.{does, call, local};
+ghost use Rattle.ms_runs.specs.Masks.{by_completions};
+ghost use Rattle.ms_runs.specs.Shadow.{shadow, shadow_by};
 ghost use Rattle.ms_examples.specs.Sums.{carried};
 ghost use Rattle.ms_examples.specs.Programs.{masked_undef, indexed_by_undef, branch_on_zeroed, sixteen_copies};
 

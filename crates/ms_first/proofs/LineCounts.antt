@@ -6,12 +6,13 @@ use Rattle.ms_ir.specs.declared.syntax.Ty.{Int}
 use Rattle.ms_ir.specs.declared.syntax.Operand.{Operand}
 use Rattle.ms_ir.specs.declared.syntax.Op.{Op}
 use Rattle.ms_ir.specs.declared.syntax.Op.TheVariants as op
-use Rattle.ms_ir.specs.First.{logic_op, no_flags, Word, Logic, And, Or, Xor, Line, Alloca, Load, Store, Combine, result_name, line_inst, ret_inst}
+use Rattle.ms_runs.specs.First.{logic_op, Word, Logic, And, Or, Xor, Line, Alloca, Load, Store, Combine, result_name, line_inst, ret_inst}
+use Rattle.ms_bits.specs.NoFlags.{no_flags}
 use Rattle.ms_ir.specs.Layout.{width_of}
-use Rattle.ms_ir.specs.World.{Here}
+use Rattle.ms_runs.specs.World.{Here}
 use Rattle.ms_ir.specs.Code.{operands}
-use Rattle.ms_ir.specs.Uses.{uses}
-use Rattle.ms_ir.specs.Uses as checked
+use Rattle.ms_runs.specs.Uses.{uses}
+use Rattle.ms_runs.specs.Uses as checked
 use Rattle.ms_rules.specs.Tasks.{Leaf, Turn, Task}
 use Rattle.ms_rules.specs.Emit.{Given, Env, Tracked, tracked, tracked_at, widened, check_task, is_zero, use_tasks, check_tasks, define_tasks, result_tasks, before_tasks, after_tasks}
 use Rattle.ms_pass.specs.FirstNumbers.{first_number, first_numbering}

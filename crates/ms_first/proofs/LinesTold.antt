@@ -12,7 +12,8 @@ use Rattle.ms_ir.specs.declared.syntax.Operand.TheVariants as operand
 use Rattle.ms_ir.specs.declared.syntax.Op.{Op}
 use Rattle.ms_ir.specs.declared.syntax.Op.TheVariants as op
 use Rattle.ms_ir.specs.declared.syntax.Inst.{Inst}
-use Rattle.ms_ir.specs.First.{Word, Logic, Line, Alloca, Load, Store, Combine, IsWord, IsLine, after_line, word_operand, logic_op, no_flags, result_name, unmarked, line_inst, ret_inst}
+use Rattle.ms_runs.specs.First.{Word, Logic, Line, Alloca, Load, Store, Combine, IsWord, IsLine, after_line, word_operand, logic_op, result_name, unmarked, line_inst, ret_inst}
+use Rattle.ms_bits.specs.NoFlags.{no_flags}
 use Rattle.ms_first.specs.declared.lines.Adds.{Adds}
 use Rattle.ms_first.specs.declared.lines.Adds.TheVariants.{Nothing, Address, Value}
 use Rattle.ms_first.specs.Telling.{is_word, is_address, is_one, is_i32, is_logic, has_no_flags, when, adds_of, is_number, is_none, is_named, named, line_adds, with_added, returns, is_return}

@@ -13,7 +13,7 @@ use Rattle.ms_ir.specs.declared.syntax.Decl.{Decl}
 use Rattle.ms_ir.specs.declared.syntax.GlobalVar.{GlobalVar}
 use Rattle.ms_ir.specs.declared.syntax.Module.{Module}
 use Rattle.ms_ir.specs.Names.{name_eq}
-use Rattle.ms_ir.specs.First.{Word, Line, IsWord, AreLines, after_line, after_lines, line_inst, lines_insts, ret_inst, main_module}
+use Rattle.ms_runs.specs.First.{Word, Line, IsWord, AreLines, after_line, after_lines, line_inst, lines_insts, ret_inst, main_module}
 use Rattle.ms_pass.specs.FirstForm.{HasFirstForm}
 use Rattle.ms_first.specs.declared.lines.Adds.{Adds}
 use Rattle.ms_first.specs.Telling.{line_adds, with_added, is_return, is_nil, are_lines, is_i32_result, is_main, is_entry, has_functions_alone, entry_insts, func_insts, main_insts, are_some_lines}

@@ -10,7 +10,8 @@ use Rattle.ms_ir.specs.declared.syntax.Name.TheVariants as name
 use Rattle.ms_ir.specs.declared.syntax.Ty.{Ty, Int, Ptr}
 use Rattle.ms_ir.specs.declared.syntax.Operand.{Operand}
 use Rattle.ms_ir.specs.declared.syntax.Operand.TheVariants as operand
-use Rattle.ms_ir.specs.First.{Word, Whole, Minus, Earlier, Undefined, Logic, And, Or, Xor, IsWord, IsAddress, word_operand, result_name, logic_op, no_flags}
+use Rattle.ms_runs.specs.First.{Word, Whole, Minus, Earlier, Undefined, Logic, And, Or, Xor, IsWord, IsAddress, word_operand, result_name, logic_op}
+use Rattle.ms_bits.specs.NoFlags.{no_flags}
 use Rattle.ms_first.specs.Telling.{kind_of, is_other, is_alloca, is_word, is_address, is_one, is_i32, is_logic, has_no_flags}
 
 -- ---- results

@@ -4,7 +4,7 @@ use Rattle.std.proofs.lemmas.List.Elements.{All-cons, All-nil}
 use Rattle.std.proofs.lemmas.Option.{slice_get_within}
 use Rattle.ms_ir.specs.declared.syntax.Module.{Module}
 use Rattle.ms_ir.specs.Names.{is_reserved}
-use Rattle.ms_ir.specs.First.{Word, Whole, Minus, Earlier, Undefined, Line, Alloca, Load, Store, Combine, IsWord, IsLine, AreLines, after_line, after_lines, word_operand, line_inst, lines_insts, ret_inst, module_of, Lines}
+use Rattle.ms_runs.specs.First.{Word, Whole, Minus, Earlier, Undefined, Line, Alloca, Load, Store, Combine, IsWord, IsLine, AreLines, after_line, after_lines, word_operand, line_inst, lines_insts, ret_inst, module_of, Lines}
 use Rattle.ms_pass.specs.FirstForm.{HasFirstForm, HasFewInsts}
 use Rattle.ms_straight.specs.Straight.{IsOperand, IsStraightInst, IsStraight}
 

@@ -9,12 +9,13 @@ use Rattle.ms_ir.specs.declared.syntax.Ty.{Ty, Int, Ptr}
 use Rattle.ms_ir.specs.declared.syntax.Operand.TheVariants as operand
 use Rattle.ms_ir.specs.declared.syntax.Op.{Op}
 use Rattle.ms_ir.specs.declared.syntax.Op.TheVariants as op
-use Rattle.ms_ir.specs.First.{logic_op, no_flags, Word, Whole, Minus, Earlier, Undefined, Logic, And, Or, Xor, Line, Alloca, Load, Store, Combine, IsWord, IsAddress, IsLine, after_line, word_operand, result_name, line_inst, ret_inst}
+use Rattle.ms_runs.specs.First.{logic_op, Word, Whole, Minus, Earlier, Undefined, Logic, And, Or, Xor, Line, Alloca, Load, Store, Combine, IsWord, IsAddress, IsLine, after_line, word_operand, result_name, line_inst, ret_inst}
+use Rattle.ms_bits.specs.NoFlags.{no_flags}
 use Rattle.ms_ir.specs.Layout.{width_of}
-use Rattle.ms_ir.specs.World.{Here}
+use Rattle.ms_runs.specs.World.{Here}
 use Rattle.ms_ir.specs.Code.{operands, one_undef}
-use Rattle.ms_ir.specs.Uses.{uses}
-use Rattle.ms_ir.specs.Uses as checked
+use Rattle.ms_runs.specs.Uses.{uses}
+use Rattle.ms_runs.specs.Uses as checked
 use Rattle.ms_rules.specs.Tasks.{mask_name, origin_name, Expr, Leaf, Turn}
 use Rattle.ms_rules.specs.Emit.{Given, Tracked, tracked, tracked_at, mask_operand, origin_operand, local_mask, local_origin, is_zero, widened, shadow_address, check_task, check_tasks, define_tasks, result_tasks, before_tasks, after_tasks}
 use Rattle.ms_pass.specs.FirstNumbers.{first_number}

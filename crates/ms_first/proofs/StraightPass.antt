@@ -5,15 +5,14 @@ use Rattle.ms_ir.specs.declared.syntax.Inst.{Inst}
 use Rattle.ms_ir.specs.declared.syntax.GlobalVar.{GlobalVar}
 use Rattle.ms_ir.specs.declared.syntax.Name.TheVariants.{Text}
 use Rattle.ms_ir.specs.declared.syntax.Module.{Module}
-use Rattle.ms_ir.specs.Names.{is_reserved, name_eq}
-use Rattle.ms_ir.specs.First.{Word, Line, Alloca, Load, Store, Combine, IsWord, AreLines, after_line, after_lines, line_inst, lines_insts, ret_inst, module_of}
-use Rattle.ms_ir.specs.World.{Here}
+use Rattle.ms_ir.specs.Names.{is_reserved, name_eq, main_name}
+use Rattle.ms_runs.specs.First.{Word, Line, Alloca, Load, Store, Combine, IsWord, AreLines, after_line, after_lines, line_inst, lines_insts, ret_inst, module_of}
+use Rattle.ms_runs.specs.World.{Here}
 use Rattle.ms_ir.specs.Code.{func_index, over_insts, one_unmarked, roots_in}
-use Rattle.ms_ir.specs.Control.{main_name}
 use Rattle.ms_rules.specs.Tasks.{Code, tasks_code}
 use Rattle.ms_rules.specs.Emit.{Given, before_tasks, after_tasks, emit_lists}
 use Rattle.ms_rules.proofs.Marked.{EachInst, tasks_more}
-use Rattle.ms_pass.specs.Declarations.{slot_globals}
+use Rattle.ms_ir.specs.Signatures.{slot_globals}
 use Rattle.ms_pass.specs.FirstForm.{HasFirstForm, HasFewInsts}
 use Rattle.ms_pass.specs.FirstNumbers.{one_result, first_pass}
 use Rattle.ms_pass.specs.Pass.{next_here, pass_insts}

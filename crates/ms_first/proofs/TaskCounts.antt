@@ -6,7 +6,8 @@ use Rattle.ms_ir.specs.declared.syntax.Ty.{Ty}
 use Rattle.ms_ir.specs.declared.syntax.Operand.TheVariants as operand
 use Rattle.ms_ir.specs.declared.syntax.Op.TheVariants as op
 use Rattle.ms_ir.specs.declared.syntax.Inst.{Inst}
-use Rattle.ms_ir.specs.First.{logic_op, no_flags}
+use Rattle.ms_runs.specs.First.{logic_op}
+use Rattle.ms_bits.specs.NoFlags.{no_flags}
 use Rattle.ms_rules.specs.Tasks.{msan_name, Expr, Leaf, Two, Turn, IsSet, Pick, Task, inserted, flatten, flatten_all, parts, target, last_op, task_code, tasks_code}
 
 -- the number of instructions of a word

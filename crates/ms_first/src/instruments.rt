@@ -1,6 +1,6 @@
 //! Instruments modules of the first form.
 ghost use Rattle.std.specs.Prelude.{IfOk};
-ghost use Rattle.ms_ir.specs.Faithful.{Faithful};
+ghost use Rattle.ms_runs.specs.Faithful.{Faithful};
 ghost use Rattle.ms_pass.specs.FirstForm.{HasFirstForm, HasFewInsts};
 ghost use Rattle.ms_straight.specs.Straight.{IsStraight};
 

@@ -5,8 +5,6 @@ pub mod instruments;
 mod lines;
 pub mod modules;
 mod operands;
-#[cfg(test)]
-mod tests;
 
 pub use instruments::instrument;
 pub use modules::is_first;

@@ -1,1 +1,10 @@
 pub mod Crosses
+pub mod Differing
+pub mod Edges
+pub mod Counting
+pub mod Offsets
+pub mod RootKinds
+pub mod Searching
+pub mod Sizes
+pub mod TypeRows
+pub mod Tables

@@ -1,6 +1,6 @@
 -- An instruction's operands, places in a module, and the numbers of sites and roots (LLVM Language Reference,
 -- "Instruction Reference"; own: sites, roots and marks).
-use Rattle.std.specs.Prelude.{ℕ, suc, ◌+◌, Bool, true, false, not, List, [], ◌∷◌, map, take, filter, if◌then◌else◌, Option, Some, None, unwrap_or, option_map, is_some, slice_get}
+use Rattle.std.specs.Prelude.{◌≡◌, ℕ, suc, ◌+◌, Bool, true, false, not, List, [], ◌∷◌, map, take, drop, filter, if◌then◌else◌, Option, Some, None, unwrap_or, option_map, is_some, slice_get}
 use Rattle.ms_ir.specs.declared.syntax.Name.{Name}
 use Rattle.ms_ir.specs.declared.syntax.Ty.{Ty}
 use Rattle.ms_ir.specs.declared.syntax.Ty as ty
@@ -35,6 +35,11 @@ operands (op.Switch t v other cases) = (t, v) ∷ []
 operands (op.Ret None) = []
 operands (op.Ret (Some v)) = v ∷ []
 operands op.Unreachable = []
+
+-- an instruction is a phi
+abbrev pub is_phi : Op → Bool
+is_phi (op.Phi t edges) = true
+is_phi o = false
 
 -- the place of the function with a name, counted from 0
 abbrev pub func_index : List Func → Name → Option ℕ
@@ -145,3 +150,12 @@ strip m = record {
   decls = filter (λ d. not (is_reserved d.name)) m.decls;
   funcs = map strip_func m.funcs;
 }
+
+-- the first of some instructions, if there is one, is not marked
+abbrev pub HeadUnmarked : List Inst → Type 0
+HeadUnmarked [] = Unit {0}
+HeadUnmarked (i ∷ is) = i.marked ≡ false
+
+-- no instruction is marked
+abbrev pub NoMarks : Module → Type 0
+NoMarks m = (func block place : ℕ) → HeadUnmarked (drop place (insts_at m func block))

@@ -1,5 +1,5 @@
 -- Example modules that call externals, and such that show one instruction or one rule of memory each.
-use Rattle.std.specs.Prelude.{ℕ, zero, suc, false, List, [], ◌∷◌, ◌++◌, Some, None, codes}
+use Rattle.std.specs.Prelude.{ℕ, false, List, [], ◌∷◌, ◌++◌, Some, None, codes}
 use Rattle.ms_bits.specs.declared.operations.BinOp.TheVariants as binary
 use Rattle.ms_bits.specs.declared.operations.CastOp.TheVariants as cast
 use Rattle.ms_bits.specs.declared.operations.Pred.TheVariants as predicate
@@ -14,13 +14,8 @@ use Rattle.ms_ir.specs.declared.syntax.Operand.{Operand}
 use Rattle.ms_ir.specs.declared.syntax.Operand.TheVariants as operand
 use Rattle.ms_ir.specs.declared.syntax.Ty.{Ty}
 use Rattle.ms_ir.specs.declared.syntax.Ty as ty
-use Rattle.ms_ir.specs.ExampleParts.{i8, i32, i64, array, struct_of_two, local, int, sets, does, binary as combine, icmp, convert, alloca, byte_at, branch, ret, name, call, calls, block, main_func, module_of, main_blocks, main_of, defaults}
+use Rattle.ms_ir.specs.ExampleParts.{i8, i32, i64, array, struct_of_two, local, int, sets, does, binary as combine, icmp, convert, alloca, byte_at, branch, ret, name, call, calls, block, main_func, module_of, main_blocks, main_of}
 use Rattle.ms_ir.specs.ExampleCalls.{malloc, calloc, realloc, free, read, lifetime_start}
-use Rattle.ms_ir.specs.World.{World, Enters}
-use Rattle.ms_ir.specs.Control.{Frame, Moved, moves}
-use Rattle.ms_ir.specs.Act.{plain_reading}
-use Rattle.ms_ir.specs.Plain.{setting, start_world}
-use Rattle.ms_ir.specs.ExampleModules.{recursion}
 
 -- returns whether the pointer with the number n is null
 abbrev pub returns_is_null : ℕ → List Inst
@@ -186,22 +181,3 @@ with_globals address = record {
 -- the word of the second pair of the global of the named type
 abbrev pub inner_word : Operand
 inner_word = operand.Offset (ty.Named (name (codes "T"))) (name (codes "g")) ((i64, 0) ∷ (i32, 1) ∷ (i64, 1) ∷ (i32, 1) ∷ [])
-
--- a frame of the function of `recursion` that stands at its call
-abbrev pub frame_at_call : Frame ℕ
-frame_at_call = record { func = 0; block = 2; place = 1; values = λ x. 0; mark = 0x720000000000 }
-
--- so many of these frames
-abbrev pub frames_at_call : ℕ → List (Frame ℕ)
-frames_at_call zero = []
-frames_at_call (suc n) = frame_at_call ∷ frames_at_call n
-
--- the world in which `recursion` starts
-abbrev pub recursion_world : World
-recursion_world = start_world (recursion 1) defaults
-
--- what that call comes to where so many frames stand below its own
-abbrev pub called_above : ℕ → Moved ℕ
-called_above n =
-    moves plain_reading (setting (recursion 1) defaults) (recursion 1) 5 None [] (λ v world. v) (λ v world. world) frame_at_call (frames_at_call n)
-    (Enters 0 recursion_world)

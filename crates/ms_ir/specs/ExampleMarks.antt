@@ -3,8 +3,6 @@ use Rattle.std.specs.Prelude.{ℕ, true, false, List, [], ◌∷◌, ◌++◌, S
 use Rattle.ms_bits.specs.declared.operations.BinOp.TheVariants as binary
 use Rattle.ms_bits.specs.declared.operations.CastOp.TheVariants as cast
 use Rattle.ms_bits.specs.declared.operations.Pred.TheVariants as predicate
-use Rattle.ms_ir.specs.declared.runs.RunResult.{RunResult}
-use Rattle.ms_ir.specs.declared.runs.End.TheVariants as «end»
 use Rattle.ms_ir.specs.declared.syntax.Decl.{Decl}
 use Rattle.ms_ir.specs.declared.syntax.GlobalVar.{GlobalVar}
 use Rattle.ms_ir.specs.declared.syntax.Init as init
@@ -16,7 +14,6 @@ use Rattle.ms_ir.specs.declared.syntax.Op.{Op}
 use Rattle.ms_ir.specs.declared.syntax.Op.TheVariants as op
 use Rattle.ms_ir.specs.declared.syntax.Operand.{Operand}
 use Rattle.ms_ir.specs.declared.syntax.Operand.TheVariants as operand
-use Rattle.ms_ir.specs.declared.syntax.Ty.{Ty}
 use Rattle.ms_ir.specs.declared.syntax.Ty as ty
 use Rattle.ms_ir.specs.ExampleParts.{byte_at, i16, i1, i32, i64, array, local, int, undef, sets, does, binary as combine, icmp, convert, alloca, branch, ret, name, call, block, main_func, main_of}
 use Rattle.ms_ir.specs.ExampleCalls.{msan_size, msan_copy, msan_fill, calloc, msan_check, msan_check_memory, msan_check_string, msan_poison, msan_unpoison, msan_store_origin, msan_load_origin}
@@ -107,10 +104,6 @@ bad_ranges =
     ∷ inserts_call msan_unpoison (operand.Null ∷ int 8 ∷ []) ∷ inserts_call msan_copy (local 1 ∷ operand.Null ∷ int 8 ∷ [])
     ∷ inserts_call msan_fill (operand.Null ∷ int 8 ∷ int 255 ∷ int 4 ∷ int 5 ∷ []) ∷ inserts_call msan_check_memory (local 1 ∷ int 9 ∷ int 9 ∷ int 5 ∷ [])
     ∷ inserts_call msan_check_string (operand.Null ∷ int 5 ∷ []) ∷ inserts_call msan_store_origin (operand.Null ∷ int 255 ∷ int 4 ∷ int 5 ∷ []) ∷ []
-
--- a run without output that returned 0 and counted blind uses
-abbrev pub counted : ℕ → RunResult
-counted n = record { output = []; «end» = «end».Exit 0; reports = []; blind = n }
 
 -- the module `branch_on_unset` with a mask for each word and a check before its branch
 abbrev pub branch_on_unset_checked : Module

@@ -10,7 +10,7 @@ use Rattle.ms_ir.specs.declared.syntax.Name.TheVariants.{Number, Text}
 use Rattle.ms_ir.specs.declared.syntax.Op.TheVariants as op
 use Rattle.ms_ir.specs.declared.syntax.Operand.TheVariants as operand
 use Rattle.ms_ir.specs.declared.syntax.Ty as ty
-use Rattle.ms_ir.specs.First.{no_flags}
+use Rattle.ms_bits.specs.NoFlags.{no_flags}
 use Rattle.ms_ir.specs.ExampleParts.{i8, i16, i32, i64, array, local, int, undef, sets, does, binary as combine, icmp, convert, alloca, byte_at, branch, ret, name, call, block, main_func, module_of, main_blocks, main_of}
 use Rattle.ms_ir.specs.ExampleCalls.{malloc, free, memset, putchar, puts, write}
 
@@ -194,3 +194,9 @@ undef_stored = main_of (
 -- one undefined bit is added to
 abbrev pub carry_of_undef : Module
 carry_of_undef = main_of (sets 1 (combine binary.And i32 undef (int 16)) ∷ sets 2 (combine binary.Add i32 (local 1) (int 3)) ∷ does (ret (local 2)) ∷ []) []
+
+-- a phi that names a block twice, each time with an undefined operand: each is a root of its own, and a run takes the first
+abbrev pub two_edges : Module
+two_edges = main_blocks (
+    block 0 (does (op.CondBr (int 1) (Number 2) (Number 2)) ∷ [])
+    ∷ block 2 (sets 3 (op.Phi i32 ((undef, Number 0) ∷ (undef, Number 0) ∷ [])) ∷ does (ret (local 3)) ∷ []) ∷ []) []

@@ -3,13 +3,6 @@ use Rattle.std.specs.Prelude.{ℕ, Bool, false, List, [], ◌∷◌, Option, Som
 use Rattle.ms_bits.specs.declared.operations.BinOp.{BinOp}
 use Rattle.ms_bits.specs.declared.operations.CastOp.{CastOp}
 use Rattle.ms_bits.specs.declared.operations.Pred.{Pred}
-use Rattle.ms_bits.specs.declared.traps.Trap.{Trap}
-use Rattle.ms_ir.specs.declared.runs.End.{End}
-use Rattle.ms_ir.specs.declared.runs.End.TheVariants as «end»
-use Rattle.ms_ir.specs.declared.runs.Origin.TheVariants as origin
-use Rattle.ms_ir.specs.declared.runs.Report.{Report}
-use Rattle.ms_ir.specs.declared.runs.RunResult.{RunResult}
-use Rattle.ms_ir.specs.declared.runs.Setup.{Setup}
 use Rattle.ms_ir.specs.declared.syntax.Block.{Block}
 use Rattle.ms_ir.specs.declared.syntax.Decl.{Decl}
 use Rattle.ms_ir.specs.declared.syntax.Func.{Func}
@@ -21,9 +14,9 @@ use Rattle.ms_ir.specs.declared.syntax.Op.{Op}
 use Rattle.ms_ir.specs.declared.syntax.Op.TheVariants as op
 use Rattle.ms_ir.specs.declared.syntax.Operand.{Operand}
 use Rattle.ms_ir.specs.declared.syntax.Operand.TheVariants as operand
-use Rattle.ms_ir.specs.declared.syntax.Ty.{Ty, Array', Struct', Row_of-Ty, more_of-Ty, end_of-Ty}
+use Rattle.ms_ir.specs.declared.syntax.Ty.{Ty, Array', Struct', more_of-Ty, end_of-Ty}
 use Rattle.ms_ir.specs.declared.syntax.Ty as ty
-use Rattle.ms_ir.specs.First.{no_flags}
+use Rattle.ms_bits.specs.NoFlags.{no_flags}
 
 -- the integer type of one bit
 abbrev pub i1 : Ty
@@ -158,53 +151,3 @@ main_of insts decls = main_blocks (block 0 insts ∷ []) decls
 -- a module whose first instruction is a call
 abbrev pub calls_first : Decl → List Operand → List Inst → Module
 calls_first callee arguments insts = main_of (calls 1 callee arguments ∷ insts) (callee ∷ [])
-
--- the setup where nothing is asked for: no input, the fill a5, ten million steps and one report
-abbrev pub defaults : Setup
-defaults = record { input = []; fill = 0xa5 ∷ []; steps = 10000000; reports = 1 }
-
--- the same setup with another fill
-abbrev pub filled : List ℕ → Setup
-filled bytes = record defaults { fill = bytes }
-
--- the same setup with the fill 1 2 3 4 5
-abbrev pub one_to_five : Setup
-one_to_five = filled (1 ∷ 2 ∷ 3 ∷ 4 ∷ 5 ∷ [])
-
--- the same setup with another input
-abbrev pub fed : List ℕ → Setup
-fed bytes = record defaults { input = bytes }
-
--- the same setup with another bound of steps
-abbrev pub steps : ℕ → Setup
-steps n = record defaults { steps = n }
-
--- a run that printed something and has no report
-abbrev pub prints : List ℕ → End → RunResult
-prints bytes e = record { output = bytes; «end» = e; reports = []; blind = 0 }
-
--- a run without output and report that returns from `main` or exits
-abbrev pub exits : ℕ → RunResult
-exits n = prints [] («end».Exit n)
-
--- a run without output and report that traps at a site
-abbrev pub trapped : Trap → ℕ → RunResult
-trapped kind site = prints [] («end».Trap kind site)
-
--- a run without output and report whose steps are spent
-abbrev pub spent : RunResult
-spent = prints [] «end».Spent
-
--- a run without output that ended at its first report
-abbrev pub reported : Report → RunResult
-reported r = record { output = []; «end» = «end».Reported; reports = r ∷ []; blind = 0 }
-
--- a report whose origin is a root
-abbrev pub report : (site kind part mask width root : ℕ) → Report
-report site kind part mask width root =
-    record { site = site; kind = kind; part = part; width = width; mask = mask; origin = root; chain = origin.Root root ∷ [] }
-
--- a report whose origin is neither root nor pair
-abbrev pub report_unknown : (site kind part mask width origin : ℕ) → Report
-report_unknown site kind part mask width o =
-    record { site = site; kind = kind; part = part; width = width; mask = mask; origin = o; chain = [] }

@@ -1,7 +1,9 @@
 -- Names (LLVM Language Reference, "Identifiers"), and the tables of what has a meaning of its own: the externals
 -- (C library, and LLVM Language Reference, "Standard C/C++ Library Intrinsics" and "Memory Use Markers"), the runtime
 -- functions and the slots (both own).
-use Rattle.std.specs.Prelude.{ℕ, Bool, false, List, [], ◌∷◌, nat_eq, Option, Some, None, codes, take, if◌then◌else◌}
+use Rattle.std.specs.Prelude.{ℕ, Bool, false, ◌&&◌, List, [], ◌∷◌, map, length, nat_eq, nat_lt, Option, Some, None, codes, take, drop, if◌then◌else◌}
+use Rattle.std.specs.Char.{is_ascii_digit}
+use Rattle.std.specs.List.{list_all}
 use Rattle.std.specs.Cmp.Lexicographic.{pointwise}
 use Rattle.ms_ir.specs.declared.syntax.Name.{Name}
 use Rattle.ms_ir.specs.declared.syntax.Name.TheVariants.{Number, Text}
@@ -9,6 +11,8 @@ use Rattle.ms_ir.specs.declared.calls.External.{External}
 use Rattle.ms_ir.specs.declared.calls.External.TheVariants.{Malloc, Calloc, Realloc, Free, Memcpy, Memmove, Memset, Memcmp, Strlen, Putchar, Puts, Getchar, Read, Write, Exit, Abort, LlvmMemcpy, LlvmMemmove, LlvmMemset, LifetimeStart, LifetimeEnd}
 use Rattle.ms_ir.specs.declared.calls.RuntimeFn.{RuntimeFn}
 use Rattle.ms_ir.specs.declared.calls.RuntimeFn.TheVariants.{Check, CheckMemory, CheckString, Blind, Poison, Unpoison, Copy, Fill, StoreOrigin, LoadOrigin, Size}
+use Rattle.ms_ir.specs.declared.calls.Slot.{Slot}
+use Rattle.ms_ir.specs.declared.calls.Slot.TheVariants.{ParamMasks, ParamOrigins, RetvalMask, RetvalOrigin}
 
 -- two names are the same: equal numbers, or equal texts
 abbrev pub name_eq : Name → Name → Bool
@@ -22,58 +26,93 @@ abbrev pub lookup : {A : Type 0} → List (Name × A) → Name → Option A
 lookup [] x = None
 lookup (row ∷ rest) x = if name_eq row.0 x then Some row.1 else lookup rest x
 
--- the externals: what a module may call without defining it
+-- the name of each external
+abbrev pub external_name : External → Name
+external_name Malloc = Text (codes "malloc")
+external_name Calloc = Text (codes "calloc")
+external_name Realloc = Text (codes "realloc")
+external_name Free = Text (codes "free")
+external_name Memcpy = Text (codes "memcpy")
+external_name Memmove = Text (codes "memmove")
+external_name Memset = Text (codes "memset")
+external_name Memcmp = Text (codes "memcmp")
+external_name Strlen = Text (codes "strlen")
+external_name Putchar = Text (codes "putchar")
+external_name Puts = Text (codes "puts")
+external_name Getchar = Text (codes "getchar")
+external_name Read = Text (codes "read")
+external_name Write = Text (codes "write")
+external_name Exit = Text (codes "exit")
+external_name Abort = Text (codes "abort")
+external_name LlvmMemcpy = Text (codes "llvm.memcpy.p0.p0.i64")
+external_name LlvmMemmove = Text (codes "llvm.memmove.p0.p0.i64")
+external_name LlvmMemset = Text (codes "llvm.memset.p0.i64")
+external_name LifetimeStart = Text (codes "llvm.lifetime.start.p0")
+external_name LifetimeEnd = Text (codes "llvm.lifetime.end.p0")
+
+-- the externals by name: what a module may call without defining it
 abbrev pub externals : List (Name × External)
 externals =
-    (Text (codes "malloc"), Malloc)
-    ∷ (Text (codes "calloc"), Calloc)
-    ∷ (Text (codes "realloc"), Realloc)
-    ∷ (Text (codes "free"), Free)
-    ∷ (Text (codes "memcpy"), Memcpy)
-    ∷ (Text (codes "memmove"), Memmove)
-    ∷ (Text (codes "memset"), Memset)
-    ∷ (Text (codes "memcmp"), Memcmp)
-    ∷ (Text (codes "strlen"), Strlen)
-    ∷ (Text (codes "putchar"), Putchar)
-    ∷ (Text (codes "puts"), Puts)
-    ∷ (Text (codes "getchar"), Getchar)
-    ∷ (Text (codes "read"), Read)
-    ∷ (Text (codes "write"), Write)
-    ∷ (Text (codes "exit"), Exit)
-    ∷ (Text (codes "abort"), Abort)
-    ∷ (Text (codes "llvm.memcpy.p0.p0.i64"), LlvmMemcpy)
-    ∷ (Text (codes "llvm.memmove.p0.p0.i64"), LlvmMemmove)
-    ∷ (Text (codes "llvm.memset.p0.i64"), LlvmMemset)
-    ∷ (Text (codes "llvm.lifetime.start.p0"), LifetimeStart)
-    ∷ (Text (codes "llvm.lifetime.end.p0"), LifetimeEnd)
-    ∷ []
+    map (λ e. (external_name e, e))
+    (Malloc ∷ Calloc ∷ Realloc ∷ Free ∷ Memcpy ∷ Memmove ∷ Memset ∷ Memcmp ∷ Strlen ∷ Putchar ∷ Puts ∷ Getchar ∷ Read ∷ Write ∷ Exit ∷ Abort ∷ LlvmMemcpy ∷ LlvmMemmove
+    ∷ LlvmMemset ∷ LifetimeStart ∷ LifetimeEnd ∷ [])
 
--- the runtime functions, which marked calls alone reach
+-- the name of each runtime function
+abbrev pub runtime_name : RuntimeFn → Name
+runtime_name Check = Text (codes "__msan_check")
+runtime_name CheckMemory = Text (codes "__msan_check_memory")
+runtime_name CheckString = Text (codes "__msan_check_string")
+runtime_name Blind = Text (codes "__msan_blind")
+runtime_name Poison = Text (codes "__msan_poison")
+runtime_name Unpoison = Text (codes "__msan_unpoison")
+runtime_name Copy = Text (codes "__msan_copy")
+runtime_name Fill = Text (codes "__msan_fill")
+runtime_name StoreOrigin = Text (codes "__msan_store_origin")
+runtime_name LoadOrigin = Text (codes "__msan_load_origin")
+runtime_name Size = Text (codes "__msan_size")
+
+-- the runtime functions by name, which marked calls alone reach
 abbrev pub runtime_functions : List (Name × RuntimeFn)
 runtime_functions =
-    (Text (codes "__msan_check"), Check)
-    ∷ (Text (codes "__msan_check_memory"), CheckMemory)
-    ∷ (Text (codes "__msan_check_string"), CheckString)
-    ∷ (Text (codes "__msan_blind"), Blind)
-    ∷ (Text (codes "__msan_poison"), Poison)
-    ∷ (Text (codes "__msan_unpoison"), Unpoison)
-    ∷ (Text (codes "__msan_copy"), Copy)
-    ∷ (Text (codes "__msan_fill"), Fill)
-    ∷ (Text (codes "__msan_store_origin"), StoreOrigin)
-    ∷ (Text (codes "__msan_load_origin"), LoadOrigin)
-    ∷ (Text (codes "__msan_size"), Size)
-    ∷ []
+    map (λ f. (runtime_name f, f))
+    (Check ∷ CheckMemory ∷ CheckString ∷ Blind ∷ Poison ∷ Unpoison ∷ Copy ∷ Fill ∷ StoreOrigin ∷ LoadOrigin ∷ Size ∷ [])
 
--- the slots, which hand masks and origins over at calls: the address of each and its number of bytes
+-- the name of each slot
+abbrev pub slot_name : Slot → Name
+slot_name ParamMasks = Text (codes "__msan_param_tls")
+slot_name ParamOrigins = Text (codes "__msan_param_origin_tls")
+slot_name RetvalMask = Text (codes "__msan_retval_tls")
+slot_name RetvalOrigin = Text (codes "__msan_retval_origin_tls")
+
+-- the address of each slot and its number of bytes
+abbrev pub slot_room : Slot → ℕ × ℕ
+slot_room ParamMasks = (0x680000000000, 800)
+slot_room ParamOrigins = (0x680000001000, 400)
+slot_room RetvalMask = (0x680000002000, 8)
+slot_room RetvalOrigin = (0x680000003000, 4)
+
+-- the slots by name, which hand masks and origins over at calls
+abbrev pub slot_names : List (Name × Slot)
+slot_names = map (λ s. (slot_name s, s)) (ParamMasks ∷ ParamOrigins ∷ RetvalMask ∷ RetvalOrigin ∷ [])
+
+-- the address and the number of bytes of each slot, by its name
 abbrev pub slots : List (Name × (ℕ × ℕ))
-slots =
-    (Text (codes "__msan_param_tls"), (0x680000000000, 800))
-    ∷ (Text (codes "__msan_param_origin_tls"), (0x680000001000, 400))
-    ∷ (Text (codes "__msan_retval_tls"), (0x680000002000, 8))
-    ∷ (Text (codes "__msan_retval_origin_tls"), (0x680000003000, 4))
-    ∷ []
+slots = map (λ row. (row.0, slot_room row.1)) slot_names
 
 -- a name that begins with `__msan`, which is kept for what is inserted
 abbrev pub is_reserved : Name → Bool
 is_reserved (Number n) = false
 is_reserved (Text x) = pointwise nat_eq (take 6 x) (codes "__msan")
+
+-- digits, at least one
+abbrev pub is_digits : List ℕ → Bool
+is_digits text = nat_lt 0 (length text) && list_all is_ascii_digit text
+
+-- `__msan.K` with a decimal K, the name of an inserted result
+abbrev pub is_inserted_name : Name → Bool
+is_inserted_name (Number n) = false
+is_inserted_name (Text x) = pointwise nat_eq (take 7 x) (codes "__msan.") && is_digits (drop 7 x)
+
+-- the name of the function that a run begins with
+abbrev pub main_name : Name
+main_name = Text (codes "main")

@@ -12,9 +12,9 @@ use Rattle.ms_ir.specs.declared.syntax.Func.{Func}
 use Rattle.ms_ir.specs.declared.syntax.Module.{Module}
 use Rattle.ms_ir.specs.declared.calls.External.{External}
 use Rattle.ms_ir.specs.declared.calls.External.TheVariants.{Malloc, Realloc, LifetimeStart}
-use Rattle.ms_ir.specs.declared.runs.Root.{Root}
-use Rattle.ms_ir.specs.declared.runs.RootKind.{RootKind}
-use Rattle.ms_ir.specs.declared.runs.RootKind.TheVariants as kind
+use Rattle.ms_ir.specs.declared.places.Root.{Root}
+use Rattle.ms_ir.specs.declared.places.RootKind.{RootKind}
+use Rattle.ms_ir.specs.declared.places.RootKind.TheVariants as kind
 use Rattle.ms_ir.specs.Code.{operands, func_index, one_unmarked, over_insts, over_blocks, external_named}
 
 -- a root of a kind at a site

@@ -1,7 +1,7 @@
-//! The functions that a module calls without defining them.
+//! What a module reaches without defining it: externals, functions of the runtime and slots.
 
 /// The externals, functions of the C library and intrinsics of LLVM that the interpreter knows.
-#[derive(Clone, Copy, Debug, PartialEq, Eq, PartialOrd, Ord)]
+#[derive(Clone, Copy, Debug, PartialEq, Eq)]
 pub enum External {
     /// `malloc`.
     Malloc,
@@ -48,13 +48,13 @@ pub enum External {
 }
 
 /// The runtime functions, which inserted instructions alone call.
-#[derive(Clone, Copy, Debug, PartialEq, Eq, PartialOrd, Ord)]
+#[derive(Clone, Copy, Debug, PartialEq, Eq)]
 pub enum RuntimeFn {
     /// `__msan_check`: a report where a mask is not 0.
     Check,
     /// `__msan_check_memory`: a report of the first poisoned byte of a range.
     CheckMemory,
-    /// `__msan_check_string`: the same of a text that a zero byte ends.
+    /// `__msan_check_string`: a report of the first poisoned byte of a text that a zero byte ends.
     CheckString,
     /// `__msan_blind`: counts a blind use where a mask is not 0.
     Blind,
@@ -72,4 +72,17 @@ pub enum RuntimeFn {
     LoadOrigin,
     /// `__msan_size`: the size of a live heap block.
     Size,
+}
+
+/// The slots, globals that hand masks and origins over at calls.
+#[derive(Clone, Copy, Debug, PartialEq, Eq)]
+pub enum Slot {
+    /// `__msan_param_tls`: the masks of arguments, 8 bytes each.
+    ParamMasks,
+    /// `__msan_param_origin_tls`: the origins of arguments, 4 bytes each.
+    ParamOrigins,
+    /// `__msan_retval_tls`: the mask of a result.
+    RetvalMask,
+    /// `__msan_retval_origin_tls`: the origin of a result.
+    RetvalOrigin,
 }

@@ -2,7 +2,7 @@
 ghost use Rattle.std.specs.Prelude.{◌≡◌, IfOk};
 
 mod operations;
-mod results;
+mod places;
 
 use crate::syntax::{Block, Decl, Func, GlobalVar, Init, Inst, Module, Name, Operand, Ty};
 use ms_bits::{Boxed, Duplicate, List, NoMemory};

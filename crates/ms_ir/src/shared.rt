@@ -1,7 +1,7 @@
-//! A module and the answer of a run may be sent to another thread, and shared with one.
+//! A module may be sent to another thread, and shared with one.
 
-use crate::calls::{External, RuntimeFn};
-use crate::runs::{End, Origin, Place, Report, Root, RootKind, RunResult, Setup};
+use crate::calls::{External, RuntimeFn, Slot};
+use crate::places::{Place, Root, RootKind};
 use crate::syntax::{Block, Decl, Func, GlobalVar, Init, Inst, Module, Name, Op, Operand, Ty};
 use ms_bits::shared::is_shared;
 
@@ -20,16 +20,12 @@ pub fn module_is_shared() {
     is_shared::<Module>();
 }
 
-/// Each type of a run may cross threads.
-pub fn run_is_shared() {
-    is_shared::<Setup>();
-    is_shared::<End>();
+/// So may what is numbered in it and what it calls.
+pub fn parts_are_shared() {
     is_shared::<RootKind>();
     is_shared::<Root>();
-    is_shared::<Origin>();
     is_shared::<Place>();
-    is_shared::<Report>();
-    is_shared::<RunResult>();
     is_shared::<External>();
     is_shared::<RuntimeFn>();
+    is_shared::<Slot>();
 }

@@ -4,12 +4,12 @@ use Rattle.std.specs.Prelude.{if◌then◌else◌, ◌*◌}
 use Rattle.ms_ir.specs.declared.syntax.Name.{Name}
 use Rattle.ms_ir.specs.declared.syntax.Op.{Op}
 use Rattle.ms_ir.specs.declared.syntax.Op.TheVariants as op
-use Rattle.ms_ir.specs.declared.runs.End.TheVariants as «end»
-use Rattle.ms_ir.specs.World.{World, Setting, Here, Effect, Gives, Does, Leaves, Ends, word}
+use Rattle.ms_runs.specs.declared.runs.End.TheVariants as «end»
+use Rattle.ms_runs.specs.World.{World, Setting, Here, Effect, Gives, Does, Leaves, Ends, word}
 use Rattle.ms_ir.specs.Layout.{stored_size, size_in}
-use Rattle.ms_ir.specs.Memory.{is_good, fits}
-use Rattle.ms_ir.specs.World.{Stack}
-use Rattle.ms_ir.specs.Act.{act}
+use Rattle.ms_runs.specs.Memory.{is_good, fits}
+use Rattle.ms_ir.specs.Areas.{Stack}
+use Rattle.ms_runs.specs.Act.{act}
 use Rattle.ms_rules.specs.Emit.{IsBuilt}
 use Rattle.ms_pass.proofs.Marked.{IsQuiet, gives_quiet}
 

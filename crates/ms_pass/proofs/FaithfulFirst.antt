@@ -2,14 +2,14 @@
 use Rattle.std.proofs.Common.{◌≡◌, List, [], ◌∷◌, ◌++◌, length, Bool, true, false, refl, sym, ap, subst, arith}
 use Rattle.std.specs.Prelude.{filter}
 use Rattle.ms_ir.specs.declared.syntax.Module.{Module}
-use Rattle.ms_ir.specs.declared.runs.Setup.{Setup}
+use Rattle.ms_runs.specs.declared.runs.Setup.{Setup}
 use Rattle.ms_ir.specs.Code.{is_unmarked, strip}
-use Rattle.ms_ir.specs.First.{Word, Line, Alloca, Load, Store, Combine, after_line, line_inst, lines_insts, ret_inst, main_module, module_of}
-use Rattle.ms_ir.specs.Plain.{start_world, setting}
-use Rattle.ms_ir.specs.World.{Setting}
-use Rattle.ms_ir.specs.Control.{Frame}
-use Rattle.ms_ir.specs.Poisoned.{Poisoned}
-use Rattle.ms_ir.specs.Faithful.{Faithful}
+use Rattle.ms_runs.specs.First.{Word, Line, Alloca, Load, Store, Combine, after_line, line_inst, lines_insts, ret_inst, main_module, module_of}
+use Rattle.ms_runs.specs.Plain.{start_world, setting_of}
+use Rattle.ms_runs.specs.World.{Setting}
+use Rattle.ms_runs.specs.Control.{Frame}
+use Rattle.ms_runs.specs.Poisoned.{Poisoned}
+use Rattle.ms_runs.specs.Faithful.{Faithful}
 use Rattle.ms_rules.specs.Match.{RangedWorld}
 use Rattle.ms_pass.specs.Law.{CleanFrames}
 use Rattle.ms_pass.specs.Known.{IsTaken}
@@ -42,13 +42,13 @@ pub first_taken : (m : Module) → HasFirstForm m → HasFewInsts m → IsTaken 
 first_taken m first few = record {
   strips = first_strips m first;
   known = λ setup fair. record {
-    known = λ f i is e. (first_known m first few (setting m setup) f i is e).0;
-    ranged = λ f i is e. (first_known m first few (setting m setup) f i is e).1;
+    known = λ f i is e. (first_known m first few (setting_of m setup) f i is e).0;
+    ranged = λ f i is e. (first_known m first few (setting_of m setup) f i is e).1;
     one_name = λ k. first_one_name (size_of_first m);
     few = λ k. first_few (size_of_first m);
   };
   placed = λ setup fair. first_placed m first setup;
-  clean = λ setup fair. record { masks = λ n c e. none (setting m setup) c.frames };
+  clean = λ setup fair. record { masks = λ n c e. none (setting_of m setup) c.frames };
 }
   where
     none : (s : Setting) (fs : List (Frame Poisoned)) → CleanFrames s (λ f. first_numbering (size_of_first m)) m fs

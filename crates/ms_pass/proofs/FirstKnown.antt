@@ -9,11 +9,12 @@ use Rattle.ms_ir.specs.declared.syntax.Ty.{Int}
 use Rattle.ms_ir.specs.declared.syntax.Op.TheVariants as op
 use Rattle.ms_ir.specs.declared.syntax.Inst.{Inst}
 use Rattle.ms_ir.specs.declared.syntax.Module.{Module}
-use Rattle.ms_ir.specs.First.{logic_op, no_flags, Word, Whole, Minus, Earlier, Undefined, Logic, And, Or, Xor, Line, Alloca, Load, Store, Combine, IsWord, IsAddress, IsLine, AreLines, after_line, after_lines, word_operand, result_name, line_inst, lines_insts, ret_inst, module_of}
-use Rattle.ms_ir.specs.World.{Setting}
+use Rattle.ms_runs.specs.First.{logic_op, Word, Whole, Minus, Earlier, Undefined, Logic, And, Or, Xor, Line, Alloca, Load, Store, Combine, IsWord, IsAddress, IsLine, AreLines, after_line, after_lines, word_operand, result_name, line_inst, lines_insts, ret_inst, module_of}
+use Rattle.ms_bits.specs.NoFlags.{no_flags}
+use Rattle.ms_runs.specs.World.{Setting}
 use Rattle.ms_ir.specs.Code.{insts_at, over_insts, one_unmarked, one_undef, roots_in}
-use Rattle.ms_ir.specs.Control.{Frame, here, rest_of}
-use Rattle.ms_ir.specs.Poisoned.{Poisoned, clean}
+use Rattle.ms_runs.specs.Control.{Frame, here, rest_of}
+use Rattle.ms_runs.specs.Poisoned.{Poisoned, clean}
 use Rattle.ms_rules.specs.Emit.{Env, IsBuilt, KnownName, KnownOperand, KnownInst, KnownInsts, OneName, FewNumbers}
 use Rattle.ms_rules.specs.Match.{RangedHere}
 use Rattle.ms_pass.specs.FirstForm.{HasFirstForm, HasFewInsts}

@@ -2,10 +2,10 @@
 use Rattle.std.proofs.Common.{◌≡◌, ℕ, ◌+◌, ◌*◌, List, [], ◌∷◌, ◌++◌, refl, sym, ap, ◌∙◌, subst}
 use Rattle.ms_ir.specs.declared.syntax.Inst.{Inst}
 use Rattle.ms_ir.specs.declared.syntax.Module.{Module}
-use Rattle.ms_ir.specs.First.{lines_insts, ret_inst, main_module}
+use Rattle.ms_runs.specs.First.{lines_insts, ret_inst, main_module}
 use Rattle.ms_ir.specs.Code.{func_index, insts_at, over_insts}
 use Rattle.ms_rules.specs.Emit.{Given}
-use Rattle.ms_pass.specs.Declarations.{slot_globals, runtime_declarations}
+use Rattle.ms_ir.specs.Signatures.{slot_globals, runtime_declarations}
 use Rattle.ms_pass.specs.Pass.{pass_insts}
 use Rattle.ms_pass.specs.FirstForm.{HasFirstForm}
 use Rattle.ms_pass.specs.FirstNumbers.{one_result, first_env, first_here, first_pass}

@@ -4,7 +4,8 @@ use Rattle.std.proofs.lemmas.List.Elements.{All-cons, All-nil}
 use Rattle.ms_ir.specs.declared.syntax.Module.{Module}
 use Rattle.ms_ir.specs.declared.syntax.Op.TheVariants as op
 use Rattle.ms_ir.specs.declared.syntax.Ty.{Int}
-use Rattle.ms_ir.specs.First.{Word, Logic, And, Or, Xor, Line, Alloca, Load, Store, Combine, logic_op, no_flags, word_operand, result_name, after_line, line_inst, lines_insts, ret_inst}
+use Rattle.ms_runs.specs.First.{Word, Logic, And, Or, Xor, Line, Alloca, Load, Store, Combine, logic_op, word_operand, result_name, after_line, line_inst, lines_insts, ret_inst}
+use Rattle.ms_bits.specs.NoFlags.{no_flags}
 use Rattle.ms_ir.specs.Code.{insts_at}
 use Rattle.ms_rules.specs.Emit.{IsBuilt}
 use Rattle.ms_pass.specs.FirstForm.{HasFirstForm}

@@ -10,4 +10,3 @@ pub mod FaithfulFirst
 pub mod Walking
 pub mod FirstSimple
 pub mod FirstPass
-pub mod Declaring

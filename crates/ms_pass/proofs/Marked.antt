@@ -12,23 +12,23 @@ use Rattle.ms_ir.specs.declared.syntax.Inst.{Inst}
 use Rattle.ms_ir.specs.declared.syntax.Module.{Module}
 use Rattle.ms_ir.specs.declared.calls.RuntimeFn.{RuntimeFn}
 use Rattle.ms_ir.specs.declared.calls.RuntimeFn.TheVariants as function
-use Rattle.ms_ir.specs.declared.runs.Report.{Report}
-use Rattle.ms_ir.specs.declared.runs.End.TheVariants as «end»
+use Rattle.ms_runs.specs.declared.runs.Report.{Report}
+use Rattle.ms_runs.specs.declared.runs.End.TheVariants as «end»
 use Rattle.ms_bits.specs.Maps.{first_nonzero}
 use Rattle.ms_ir.specs.Names.{lookup, runtime_functions, slots}
 use Rattle.ms_ir.specs.Layout.{width_of, stored_size}
-use Rattle.ms_ir.specs.World.{World, Setting, Here, Effect, Gives, Does, Goes, Enters, Leaves, Ends, stuck, word}
-use Rattle.ms_ir.specs.Origins.{trail, add_report, check, check_byte, check_memory}
-use Rattle.ms_ir.specs.Memory.{is_good}
-use Rattle.ms_ir.specs.Code.{operands}
-use Rattle.ms_ir.specs.Act.{gives, act, operand_word, plain_reading}
-use Rattle.ms_ir.specs.Runtime.{runtime}
-use Rattle.ms_ir.specs.Control.{Frame, here, rest_of, read_all, moves}
-use Rattle.ms_ir.specs.Plain.{PlainState, Stepped, More, Stop, shadow_bits, in_slots, slots_after, act_marked, plain_moved, through}
+use Rattle.ms_runs.specs.World.{World, Setting, Here, Effect, Gives, Does, Goes, Enters, Leaves, Ends, stuck, word}
+use Rattle.ms_runs.specs.Origins.{trail, add_report, check, check_byte, check_memory}
+use Rattle.ms_runs.specs.Memory.{is_good}
+use Rattle.ms_ir.specs.Code.{operands, is_phi}
+use Rattle.ms_runs.specs.Act.{gives, act, operand_word, plain_reading}
+use Rattle.ms_runs.specs.Runtime.{runtime}
+use Rattle.ms_runs.specs.Control.{Frame, here, rest_of, read_all, after_effect}
+use Rattle.ms_runs.specs.Plain.{PlainState, Stepped, More, Stop, shadow_bits, in_slots, slots_after, act_marked, and_then, plain_state, through}
 use Rattle.ms_rules.specs.Tasks.{Expr, Leaf, Two, Turn, IsSet, Pick, Task, Sets, Picks, Fetches, Puts, Calls, flatten, flatten_all, parts, last_op, task_code, tasks_code, Values, Reach, Went, Over, set_result, marked_next, words_of, run_marked}
 use Rattle.ms_rules.specs.Match.{given_of}
 use Rattle.ms_pass.specs.Pass.{next_here}
-use Rattle.ms_pass.specs.Law.{AllMarked, is_phi}
+use Rattle.ms_pass.specs.Law.{AllMarked}
 use Rattle.ms_pass.proofs.Places.{drop_step, moved, put_plain, here_step, marked_here}
 
 -- ---- what is inserted
@@ -190,8 +190,8 @@ read_words s names (o ∷ os) root = ap (λ l. operand_word s names (width_of o.
 -- one instruction in a state, with or without a mark
 abbrev inst_at : Setting → Module → Inst → List Inst → Here → List ℕ → Frame ℕ → List (Frame ℕ) → (ℕ → ℕ) → World → Bool → Stepped PlainState
 inst_at s j i is h words g gs cells w k =
-    plain_moved (if k then slots_after i.op words cells else cells)
-    (moves plain_reading s j h.site i.result words (λ v w. v) (λ v w. w) g gs (if k then act_marked s h i.op words cells w else act s h i.op words w))
+    and_then (plain_state (if k then slots_after i.op words cells else cells)
+    (after_effect plain_reading s j h.site i.result words (λ v w. v) (λ v w. w) g gs (if k then act_marked s h i.op words cells w else act s h i.op words w)))
     (if k then through s j is else More)
 
 pub through_inst : (s : Setting) (j : Module) (i : Inst) (is : List Inst) (h : Here) (g : Frame ℕ) (gs : List (Frame ℕ)) (cells : ℕ → ℕ) (w : World) (k : Bool)
@@ -206,7 +206,7 @@ marked_first : (s : Setting) (j : Module) (site : ℕ) (x : Option Name) (words 
     → (IsQuiet e × rest) ⊎ GoesOn (marked_next x g.values cells e k)
     → ((names : Name → ℕ) (w : World) → rest ⊎ GoesOn (k (record { names = names; slots = cells }) w)
     → go (state_of (moved g (g.place + 1) names) gs cells w) ≡ reach_step (k (record { names = names; slots = cells }) w) f)
-    → plain_moved cells (moves plain_reading s j site x words (λ v w. v) (λ v w. w) g gs e) go ≡ reach_step (marked_next x g.values cells e k) f
+    → and_then (plain_state cells (after_effect plain_reading s j site x words (λ v w. v) (λ v w. w) g gs e)) go ≡ reach_step (marked_next x g.values cells e k) f
 marked_first s j site x words g gs cells (Gives v w) go k f rest q h = ap (λ z. go (state_of z gs cells w)) (put_plain g x v) ∙ h (set_result g.values x v) w (fewer q)
   where
     fewer : {A B : Type 0} → (Unit {0} × A) ⊎ B → A ⊎ B

@@ -5,15 +5,15 @@ use Rattle.std.specs.Prelude.{take, drop}
 use Rattle.ms_ir.specs.declared.syntax.Name.{Name}
 use Rattle.ms_ir.specs.declared.syntax.Inst.{Inst}
 use Rattle.ms_ir.specs.declared.syntax.Module.{Module}
-use Rattle.ms_ir.specs.World.{Setting, Here}
+use Rattle.ms_runs.specs.World.{Setting, Here}
 use Rattle.ms_ir.specs.Code.{insts_at, over_insts, before, one_unmarked, roots_in}
-use Rattle.ms_ir.specs.Control.{Frame, here, rest_of, put}
-use Rattle.ms_ir.specs.Poisoned.{Poisoned}
+use Rattle.ms_runs.specs.Control.{Frame, here, rest_of, put}
+use Rattle.ms_runs.specs.Poisoned.{Poisoned}
 use Rattle.ms_rules.specs.Tasks.{set_result}
 use Rattle.ms_rules.specs.Match.{given_of, after_result}
 use Rattle.ms_pass.specs.Pass.{next_here}
-use Rattle.ms_laws.proofs.Stripped.{sites_skip, roots_skip}
-use Rattle.ms_laws.proofs.Numbering.{insts_split}
+use Rattle.ms_runs_laws.proofs.Stripped.{sites_skip, roots_skip}
+use Rattle.ms_runs_laws.proofs.Numbering.{insts_split}
 
 -- ---- a list from a place on
 

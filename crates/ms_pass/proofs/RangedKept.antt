@@ -12,23 +12,24 @@ use Rattle.ms_ir.specs.declared.syntax.Op.{Op}
 use Rattle.ms_ir.specs.declared.syntax.Op.TheVariants as op
 use Rattle.ms_ir.specs.declared.syntax.Inst.{Inst}
 use Rattle.ms_ir.specs.declared.syntax.Module.{Module}
-use Rattle.ms_ir.specs.declared.runs.End.{End}
-use Rattle.ms_ir.specs.declared.runs.End.TheVariants as «end»
-use Rattle.ms_ir.specs.declared.runs.Report.{Report}
+use Rattle.ms_runs.specs.declared.runs.End.{End}
+use Rattle.ms_runs.specs.declared.runs.End.TheVariants as «end»
+use Rattle.ms_runs.specs.declared.runs.Report.{Report}
 use Rattle.ms_ir.specs.Names.{name_eq}
-use Rattle.ms_ir.specs.World.{Allocation, Stack, World, Setting, Here, Effect, Gives, Does, Goes, Enters, Leaves, Ends, then_does}
+use Rattle.ms_runs.specs.World.{Allocation, World, Setting, Here, Effect, Gives, Does, Goes, Enters, Leaves, Ends, then_does}
+use Rattle.ms_ir.specs.Areas.{Stack, room}
 use Rattle.ms_bits.specs.declared.traps.Trap.TheVariants as trap
 use Rattle.ms_ir.specs.Layout.{stored_size, width_of, size_in}
-use Rattle.ms_ir.specs.Memory.{store_number, set_shadow, room, used, fits, next_base, is_good, make_unset, set_cells}
-use Rattle.ms_ir.specs.Origins.{Chained, chain, add_report, check, check_byte, check_memory, count_blind, poison, mark_cells, store_origin, origin_within, trail, first_in_string, room_from}
+use Rattle.ms_runs.specs.Memory.{store_number, set_shadow, used, fits, next_base, is_good, make_unset, set_cells, bytes_left}
+use Rattle.ms_runs.specs.Origins.{Chained, chain, add_report, check, check_byte, check_memory, count_blind, poison, mark_cells, store_origin, origin_within, trail, first_in_string}
 use Rattle.ms_ir.specs.Code.{operands, one_undef, count_undefs, is_root, roots_in}
-use Rattle.ms_ir.specs.Control.{Frame, here, rest_of, read_all, with_value, put, moves}
-use Rattle.ms_ir.specs.Act.{act, alloca, gives, load, store}
-use Rattle.ms_ir.specs.Plain.{Stepped, More, Stop}
-use Rattle.ms_ir.specs.Poisoned.{Poisoned}
-use Rattle.ms_ir.specs.Masks.{by_formulas, word_at, last_origin, result_origin, union}
-use Rattle.ms_ir.specs.Uses.{Use, Word, Bytes, Line, blinded, uses, check_use, check_uses}
-use Rattle.ms_ir.specs.Shadow.{ShadowState, read_poisoned, operand_origin, planes, poisoned_result, shadow_moved, after_checks, shadow_inst, shadow_first, shadow_frames, shadow_step, shadow_reading}
+use Rattle.ms_runs.specs.Control.{Frame, here, rest_of, read_all, with_value, put, after_effect}
+use Rattle.ms_runs.specs.Act.{act, alloca, gives, load, store}
+use Rattle.ms_runs.specs.Plain.{Stepped, More, Stop}
+use Rattle.ms_runs.specs.Poisoned.{Poisoned}
+use Rattle.ms_runs.specs.Masks.{by_formulas, word_at, last_origin, result_origin, union}
+use Rattle.ms_runs.specs.Uses.{Use, Word, Bytes, Line, blinded, uses, check_use, check_uses}
+use Rattle.ms_runs.specs.Shadow.{ShadowState, read_poisoned, operand_origin, planes, poisoned_result, shadow_moved, after_checks, shadow_inst, shadow_first, shadow_frames, shadow_step, shadow_reading}
 use Rattle.ms_rules.specs.Emit.{Env, IsBuilt, KnownInst}
 use Rattle.ms_rules.specs.Match.{IsPlaced, ArePlaced, RangedWorld, RangedValues, RangedHere}
 use Rattle.ms_pass.specs.Pass.{Numbering}
@@ -89,7 +90,7 @@ memory_quiet s a n kind site w = go (is_good w a n)
 use_quiet : (s : Setting) (site : ℕ) (os : List (Ty × Operand)) (ps : List Poisoned) (u : Use) (w : World) → Quiet w (check_use s site os ps u w)
 use_quiet s site os ps (Word kind k) w = check_quiet s (word_at k ps).mask _ (word_at k ps).origin kind k site w
 use_quiet s site os ps (Bytes kind a n) w = memory_quiet s (word_at a ps).value (word_at n ps).value kind site w
-use_quiet s site os ps (Line a) w = byte_quiet s 10 site (word_at a ps).value (first_in_string w (word_at a ps).value (room_from w (word_at a ps).value)) w
+use_quiet s site os ps (Line a) w = byte_quiet s 10 site (word_at a ps).value (first_in_string w (word_at a ps).value (bytes_left w (word_at a ps).value)) w
 
 then_quiet : (w : World) (e : Effect) (go : World → Effect) → Quiet w e → ((z : World) → Quiet z (go z)) → Quiet w (then_does e go)
 then_quiet w (Does z) go q h = on (go z) (h z)
@@ -332,7 +333,7 @@ moved_ranged : (s : Setting) (m : Module) (h : Here) (i : Inst) (ps : List Poiso
     → IsBuilt h.main i.result i.op → AreRanged ps → (is_root s.func i.op ≡ true → h.root + count_undefs (operands i.op) + 1 < 2 ^ 32)
     → RangedValues f.values → RangedFrames below → RangedEffect e
     → (c : ShadowState)
-    → shadow_moved (moves shadow_reading s m h.site i.result ps (poisoned_result by_formulas i.op ps)
+    → shadow_moved (after_effect shadow_reading s m h.site i.result ps (poisoned_result by_formulas i.op ps)
     (planes s h.site (h.root + count_undefs (operands i.op) + 1) i.op ps w) f below e) ≡ More c
     → Ranged c
 moved_ranged s m h i ps f below w (Gives v z) k q lt rv rf r c e = subst Ranged (more_is e) (record {

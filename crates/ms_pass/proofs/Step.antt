@@ -5,22 +5,22 @@ use Rattle.std.proofs.Math.Path.{ap₂}
 use Rattle.ms_ir.specs.declared.syntax.Name.{Name}
 use Rattle.ms_ir.specs.declared.syntax.Inst.{Inst}
 use Rattle.ms_ir.specs.declared.syntax.Module.{Module}
-use Rattle.ms_ir.specs.declared.runs.End.TheVariants as «end»
-use Rattle.ms_ir.specs.World.{World, Setting, Effect, Gives, Does, Goes, Enters, Leaves, Ends, result}
+use Rattle.ms_runs.specs.declared.runs.End.TheVariants as «end»
+use Rattle.ms_runs.specs.World.{World, Setting, Effect, Gives, Does, Goes, Enters, Leaves, Ends, result}
 use Rattle.ms_ir.specs.Code.{operands, count_undefs}
-use Rattle.ms_ir.specs.Control.{Frame, here, rest_of, put, moves}
-use Rattle.ms_ir.specs.Act.{act, plain_reading}
-use Rattle.ms_ir.specs.Plain.{PlainState, Stepped, More, Stop, plain_moved, through, plain_first, plain_step, run, go_on}
-use Rattle.ms_ir.specs.Poisoned.{Poisoned}
-use Rattle.ms_ir.specs.Masks.{by_formulas}
-use Rattle.ms_ir.specs.Uses.{uses}
-use Rattle.ms_ir.specs.Shadow.{ShadowState, shadow_reading, shadow_moved, poisoned_result, planes, after_checks, shadow_inst, shadow_first, shadow_frames, shadow_step}
+use Rattle.ms_runs.specs.Control.{Frame, here, rest_of, put, after_effect}
+use Rattle.ms_runs.specs.Act.{act, plain_reading}
+use Rattle.ms_runs.specs.Plain.{PlainState, Stepped, More, Stop, and_then, plain_state, through, plain_first, plain_step, run, go_on}
+use Rattle.ms_runs.specs.Poisoned.{Poisoned}
+use Rattle.ms_runs.specs.Masks.{by_formulas}
+use Rattle.ms_runs.specs.Uses.{uses}
+use Rattle.ms_runs.specs.Shadow.{ShadowState, shadow_reading, shadow_moved, poisoned_result, planes, after_checks, shadow_inst, shadow_first, shadow_frames, shadow_step}
 use Rattle.ms_rules.specs.Tasks.{Reach, Went, Over, run_marked, tasks_code, set_result}
 use Rattle.ms_rules.specs.Emit.{emit_lists, before_tasks, after_tasks}
 use Rattle.ms_rules.specs.Match.{Matches, RangedWorld, RangedValues, Stands, given_of, words_at, checked_at, counted_at, acted_at, after_result, before_code, BeforeLaw, Checked, Failed, Due, AfterLaw}
 use Rattle.ms_pass.specs.Pass.{Numbering, next_here, pass_insts, pass}
 use Rattle.ms_pass.specs.Law.{AllMarked, FramesFollow, TopFollows, FollowsBy, Follows, Steps, CleanFrames, Sound, RangedFrames, Ranged}
-use Rattle.ms_pass.specs.Known.{KnownModule, further, states_after, CleanRun}
+use Rattle.ms_pass.specs.Known.{KnownModule, states_after, CleanRun}
 use Rattle.ms_pass.proofs.Places.{drop_step, drop_many, moved, put_plain, put_shadow, here_step, marked_here}
 use Rattle.ms_pass.proofs.Marked.{AllInserted, inserted_marked, tasks_inserted, IsQuiet, GoesOn, reach_step, state_of, through_inst, through_marked}
 use Rattle.ms_pass.proofs.Built.{built_quiet}
@@ -47,7 +47,7 @@ pub record Kept (s : Setting) (numbers : ℕ → Numbering) (m : Module) (inv : 
 
 pub clean_kept : (s : Setting) (numbers : ℕ → Numbering) (m : Module) → Kept s numbers m (CleanRun s numbers m)
 clean_kept s numbers m = record {
-  step = λ c c' k e. record { masks = λ n c2 f. k.masks (suc n) c2 (ap (further (states_after s m n)) e ∙ f) };
+  step = λ c c' k e. record { masks = λ n c2 f. k.masks (suc n) c2 (ap (λ x. and_then x (states_after s m n)) e ∙ f) };
   clean = λ c k. k.masks 0 c refl;
 }
 
@@ -123,10 +123,10 @@ module _ (s : Setting) (numbers : ℕ → Numbering) (m : Module) (known : Known
       → ((w : World) → acted_at s f.values (here s m f) i before ≡ Does w → Matches (numbers f.func).env f.values g.values)
       → (e : Effect) → acted_at s f.values (here s m f) i before ≡ e → IsQuiet e
       → Steps s numbers m
-      (shadow_moved (moves shadow_reading s m (here s m f).site i.result (words_at s f.values (here s m f) i)
+      (shadow_moved (after_effect shadow_reading s m (here s m f).site i.result (words_at s f.values (here s m f) i)
       (poisoned_result by_formulas i.op (words_at s f.values (here s m f) i))
       (planes s (here s m f).site ((here s m f).root + count_undefs (operands i.op) + 1) i.op (words_at s f.values (here s m f) i) before) f fs e))
-      (plain_moved cells (moves plain_reading s (pass numbers m) (here s m f).site i.result (map (λ p. p.value) (words_at s f.values (here s m f) i)) (λ v w. v) (λ v w. w) g gs e) More)
+      (and_then (plain_state cells (after_effect plain_reading s (pass numbers m) (here s m f).site i.result (map (λ p. p.value) (words_at s f.values (here s m f) i)) (λ v w. v) (λ v w. w) g gs e)) More)
   effect_step f fs g gs i is next z cells before in_world in_values gives does (Gives x w) e q =
       let h = here s m f in
       let p = poisoned_result by_formulas i.op (words_at s f.values h i) x w in
@@ -165,12 +165,12 @@ module _ (s : Setting) (numbers : ℕ → Numbering) (m : Module) (known : Known
   shadow_does : (f : Frame Poisoned) (fs : List (Frame Poisoned)) (i : Inst) (w w1 : World) (e : Effect) → checked_at s f.values (here s m f) i w ≡ Does w1
       → acted_at s f.values (here s m f) i (counted_at s f.values (here s m f) i w1) ≡ e
       → shadow_moved (shadow_inst by_formulas s m i f fs w)
-      ≡ shadow_moved (moves shadow_reading s m (here s m f).site i.result (words_at s f.values (here s m f) i)
+      ≡ shadow_moved (after_effect shadow_reading s m (here s m f).site i.result (words_at s f.values (here s m f) i)
       (poisoned_result by_formulas i.op (words_at s f.values (here s m f) i))
       (planes s (here s m f).site ((here s m f).root + count_undefs (operands i.op) + 1) i.op (words_at s f.values (here s m f) i) (counted_at s f.values (here s m f) i w1)) f fs e)
   shadow_does f fs i w w1 e h g =
       checks_by f fs i w (Does w1) h
-      ∙ ap (λ x. shadow_moved (moves shadow_reading s m (here s m f).site i.result (words_at s f.values (here s m f) i)
+      ∙ ap (λ x. shadow_moved (after_effect shadow_reading s m (here s m f).site i.result (words_at s f.values (here s m f) i)
       (poisoned_result by_formulas i.op (words_at s f.values (here s m f) i))
       (planes s (here s m f).site ((here s m f).root + count_undefs (operands i.op) + 1) i.op (words_at s f.values (here s m f) i) (counted_at s f.values (here s m f) i w1)) f fs x)) g
 
@@ -239,7 +239,7 @@ module _ (s : Setting) (numbers : ℕ → Numbering) (m : Module) (known : Known
           steps_by (shadow_does f fs i w w1 (acted_at s f.values h i z1) checks refl)
           (ran (Went u z1) r
           ∙ through_inst s (pass numbers m) i _ h g1 gs u.slots z1 false k.unmarked at.stands
-          ∙ ap (λ l. plain_moved u.slots (moves plain_reading s (pass numbers m) h.site i.result l (λ v w. v) (λ v w. w) g1 gs (act s h i.op l z1)) More) words)
+          ∙ ap (λ l. and_then (plain_state u.slots (after_effect plain_reading s (pass numbers m) h.site i.result l (λ v w. v) (λ v w. w) g1 gs (act s h i.op l z1))) More) words)
           (effect_step f fs g1 gs i is next at u.slots z1 in_world1 in_values gives does (acted_at s f.values h i z1) refl
           (built_quiet s h i.result i.op (map (λ p. p.value) ps) z1 k.built))
 

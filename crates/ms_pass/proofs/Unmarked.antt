@@ -7,8 +7,7 @@ use Rattle.ms_ir.specs.declared.syntax.Block.{Block}
 use Rattle.ms_ir.specs.declared.syntax.Func.{Func}
 use Rattle.ms_ir.specs.declared.syntax.Module.{Module}
 use Rattle.ms_ir.specs.Names.{is_reserved}
-use Rattle.ms_ir.specs.Code.{is_unmarked, strip_block, strip_func, strip}
-use Rattle.ms_ir.specs.Faithful.{HeadUnmarked, NoMarks}
+use Rattle.ms_ir.specs.Code.{is_unmarked, strip_block, strip_func, strip, HeadUnmarked, NoMarks}
 
 insts_same : (is : List Inst) → ((p : ℕ) → HeadUnmarked (drop p is)) → filter is_unmarked is ≡ is
 insts_same [] h = refl

@@ -4,7 +4,7 @@ use Rattle.std.specs.Prelude.{get_or, drop}
 use Rattle.std.proofs.lemmas.List.{append_assoc, drop_more}
 use Rattle.std.proofs.Math.Path.{ap₂}
 use Rattle.ms_ir.specs.declared.syntax.Inst.{Inst}
-use Rattle.ms_ir.specs.World.{Here}
+use Rattle.ms_runs.specs.World.{Here}
 use Rattle.ms_rules.specs.declared.environment.Environment.{Environment}
 use Rattle.ms_rules.specs.Arguments.{env_of, here_of}
 use Rattle.ms_rules.specs.Emit.{Given, Env, emit_lists}

@@ -10,27 +10,27 @@ use Rattle.ms_ir.specs.declared.syntax.Inst.{Inst}
 use Rattle.ms_ir.specs.declared.syntax.Block.{Block}
 use Rattle.ms_ir.specs.declared.syntax.Func.{Func}
 use Rattle.ms_ir.specs.declared.syntax.Module.{Module}
-use Rattle.ms_ir.specs.declared.runs.Setup.{Setup}
-use Rattle.ms_ir.specs.Names.{name_eq, is_reserved}
-use Rattle.ms_ir.specs.World.{Here}
+use Rattle.ms_runs.specs.declared.runs.Setup.{Setup}
+use Rattle.ms_ir.specs.Names.{name_eq, is_reserved, main_name}
+use Rattle.ms_runs.specs.World.{Here}
 use Rattle.ms_ir.specs.Code.{func_index, insts_at, over_blocks, over_funcs, one_unmarked, roots_in, is_unmarked, strip_block, strip_func, strip}
-use Rattle.ms_ir.specs.Control.{main_name, here}
-use Rattle.ms_ir.specs.Act.{plain_reading}
-use Rattle.ms_ir.specs.Plain.{PlainState, plain_step, run, setting, start_world, start_frame, plain}
-use Rattle.ms_ir.specs.Shadow.{shadow_reading, shadow}
-use Rattle.ms_ir.specs.Faithful.{Fair, Faithful}
+use Rattle.ms_runs.specs.Control.{here}
+use Rattle.ms_runs.specs.Act.{plain_reading}
+use Rattle.ms_runs.specs.Plain.{PlainState, plain_step, run, setting_of, start_world, start_frame, plain}
+use Rattle.ms_runs.specs.Shadow.{shadow_reading, shadow, shadow_start}
+use Rattle.ms_runs.specs.Faithful.{Fair, Faithful}
 use Rattle.ms_rules.specs.Tasks.{mask_name, origin_name}
 use Rattle.ms_rules.specs.Emit.{Env, Given, local_mask, local_origin, emit_lists, before_tasks, after_tasks}
 use Rattle.ms_rules.specs.Match.{held, given_of}
 use Rattle.ms_pass.specs.Pass.{Numbering, next_here, here_after, pass_insts, pass_blocks, pass_funcs, pass}
-use Rattle.ms_pass.specs.Declarations.{slot_globals, runtime_declarations}
+use Rattle.ms_ir.specs.Signatures.{slot_globals, runtime_declarations}
 use Rattle.ms_pass.specs.Law.{AllMarked, TopFollows, Follows}
-use Rattle.ms_pass.specs.Known.{shadow_start, IsTaken}
+use Rattle.ms_pass.specs.Known.{IsTaken}
 use Rattle.ms_pass.proofs.Marked.{inserted_marked, tasks_inserted}
 use Rattle.ms_pass.proofs.Step.{clean_runs_agree}
-use Rattle.ms_laws.proofs.ExactRules.{computed}
-use Rattle.ms_laws.proofs.Stripped.{setting_same, start_same, frame_same, insts_stripped}
-use Rattle.ms_laws.proofs.Numbering.{here_agrees}
+use Rattle.ms_runs_laws.proofs.ExactRules.{computed}
+use Rattle.ms_runs_laws.proofs.Stripped.{setting_same, start_same, frame_same, insts_stripped}
+use Rattle.ms_runs_laws.proofs.Numbering.{here_agrees}
 
 -- ---- what is inserted is gone when marked instructions are
 
@@ -138,9 +138,9 @@ no_origin env x = by_number (env.number x) (env.clean x)
 abbrev pub plain_start : Module → Setup → PlainState
 plain_start m setup = record { frames = start_frame plain_reading m ∷ []; slots = λ a. 0; world = start_world m setup }
 
-starts : (numbers : ℕ → Numbering) (m : Module) (setup : Setup) → strip (pass numbers m) ≡ m → Follows (setting m setup) numbers m (shadow_start m setup) (plain_start m setup)
+starts : (numbers : ℕ → Numbering) (m : Module) (setup : Setup) → strip (pass numbers m) ≡ m → Follows (setting_of m setup) numbers m (shadow_start m setup) (plain_start m setup)
 starts numbers m setup e =
-    let s = setting m setup in
+    let s = setting_of m setup in
     let j = pass numbers m in
     let k = unwrap_or (func_index m.funcs main_name) 0 in
     let g = start_frame plain_reading m in
@@ -180,6 +180,6 @@ faithful_pass numbers m taken = record { strips = strips; runs = runs }
     runs setup fair =
         (λ i. run (λ d. d.world) (plain_step (setting_same m (pass numbers m) strips setup i) (pass numbers m)) setup.steps
         (record { frames = frame_same plain_reading m (pass numbers m) strips i ∷ []; slots = λ a. 0; world = start_same m (pass numbers m) strips setup i }))
-        ∙ clean_runs_agree (setting m setup) numbers m (taken.known setup fair) setup.steps (shadow_start m setup) (plain_start m setup)
+        ∙ clean_runs_agree (setting_of m setup) numbers m (taken.known setup fair) setup.steps (shadow_start m setup) (plain_start m setup)
         (taken.clean setup fair) (record { frames = (λ x. omega arith, tt); world = taken.placed setup fair }) (starts numbers m setup strips)
         ∙ sym (computed m setup)

@@ -2,7 +2,7 @@
 use Rattle.std.specs.Prelude.{◌≡◌, ◌≤◌, ◌^◌, length}
 use Rattle.ms_ir.specs.declared.syntax.Module.{Module}
 use Rattle.ms_ir.specs.Code.{insts_at}
-use Rattle.ms_ir.specs.First.{Lines, module_of}
+use Rattle.ms_runs.specs.First.{Lines, module_of}
 
 -- a module that a text of the first form gives
 pub record HasFirstForm (m : Module) : Type 0 where

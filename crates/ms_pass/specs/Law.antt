@@ -1,27 +1,21 @@
 -- When a state of the instrumented module follows a state of the shadow run, and that a step keeps it.
 use Rattle.std.specs.Prelude.{◌≡◌, ◌≤◌, ℕ, ◌+◌, ◌*◌, Bool, true, false, List, [], ◌∷◌, ◌++◌}
 use Rattle.ms_ir.specs.declared.syntax.Name.{Name}
-use Rattle.ms_ir.specs.declared.syntax.Op.{Op}
-use Rattle.ms_ir.specs.declared.syntax.Op.TheVariants as op
 use Rattle.ms_ir.specs.declared.syntax.Inst.{Inst}
 use Rattle.ms_ir.specs.declared.syntax.Module.{Module}
-use Rattle.ms_ir.specs.declared.runs.End.{End}
-use Rattle.ms_ir.specs.World.{World, Setting, result}
-use Rattle.ms_ir.specs.Control.{Frame, here, rest_of}
-use Rattle.ms_ir.specs.Plain.{PlainState, Stepped, More, Stop}
-use Rattle.ms_ir.specs.Poisoned.{Poisoned}
-use Rattle.ms_ir.specs.Shadow.{ShadowState}
+use Rattle.ms_ir.specs.Code.{is_phi}
+use Rattle.ms_runs.specs.declared.runs.End.{End}
+use Rattle.ms_runs.specs.World.{World, Setting, result}
+use Rattle.ms_runs.specs.Control.{Frame, here, rest_of}
+use Rattle.ms_runs.specs.Plain.{PlainState, Stepped, More, Stop}
+use Rattle.ms_runs.specs.Poisoned.{Poisoned}
+use Rattle.ms_runs.specs.Shadow.{ShadowState}
 use Rattle.ms_rules.specs.Tasks.{Values, Went, run_marked}
 use Rattle.ms_rules.specs.Emit.{emit_lists}
 use Rattle.ms_rules.specs.Match.{Matches, RangedWorld, RangedValues, given_of}
 use Rattle.ms_pass.specs.Pass.{Numbering, next_here, pass_insts, pass}
 
--- an instruction that a jump runs, and not a step of its own
-abbrev pub is_phi : Op → Bool
-is_phi (op.Phi t edges) = true
-is_phi _ = false
-
--- marked instructions that run in their turn
+-- marked instructions that run in their turn: a jump runs phis
 abbrev pub AllMarked : List Inst → Type 0
 AllMarked [] = Unit {0}
 AllMarked (i ∷ is) = (i.marked ≡ true) × (is_phi i.op ≡ false) × AllMarked is

@@ -1,4 +1,3 @@
-pub mod Declarations
 pub mod Pass
 pub mod Law
 pub mod FirstForm

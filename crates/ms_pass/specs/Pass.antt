@@ -5,13 +5,12 @@ use Rattle.ms_ir.specs.declared.syntax.Inst.{Inst}
 use Rattle.ms_ir.specs.declared.syntax.Block.{Block}
 use Rattle.ms_ir.specs.declared.syntax.Func.{Func}
 use Rattle.ms_ir.specs.declared.syntax.Module.{Module}
-use Rattle.ms_ir.specs.Names.{name_eq}
-use Rattle.ms_ir.specs.World.{Here}
+use Rattle.ms_ir.specs.Names.{name_eq, main_name}
+use Rattle.ms_runs.specs.World.{Here}
 use Rattle.ms_ir.specs.Code.{func_index, one_unmarked, roots_in, over_blocks, over_insts}
-use Rattle.ms_ir.specs.Control.{main_name}
 use Rattle.ms_rules.specs.Tasks.{Code}
 use Rattle.ms_rules.specs.Emit.{Given, Env, emit_lists}
-use Rattle.ms_pass.specs.Declarations.{slot_globals, runtime_declarations}
+use Rattle.ms_ir.specs.Signatures.{slot_globals, runtime_declarations}
 
 -- how the values of a function are numbered, and how many they are
 pub record Numbering : Type 0 where

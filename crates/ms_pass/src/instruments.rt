@@ -1,17 +1,16 @@
 //! The instrumented form of a module.
 ghost use Rattle.std.specs.Prelude.{◌≡◌, ◌∷◌, [], IfOk};
 ghost use Rattle.ms_ir.specs.Code.{insts_at};
-ghost use Rattle.ms_ir.specs.First.{main_module};
-ghost use Rattle.ms_ir.specs.Faithful.{Faithful};
-ghost use Rattle.ms_pass.specs.Declarations as declares;
+ghost use Rattle.ms_runs.specs.First.{main_module};
+ghost use Rattle.ms_runs.specs.Faithful.{Faithful};
+ghost use Rattle.ms_ir.specs.Signatures as declares;
 ghost use Rattle.ms_pass.specs.FirstForm.{HasFirstForm, HasFewInsts};
 ghost use Rattle.ms_pass.specs.FirstNumbers.{first_pass};
 
 use crate::blocks::{count_results, instrument_block};
-use crate::declarations::{runtime_declarations, slot_globals};
 use crate::vectors::{empty, list_of};
 use ms_bits::{Bytes, List, NoMemory};
-use ms_ir::{Block, Func, Inst, Module, Name, Ty};
+use ms_ir::{Block, Func, Inst, Module, Name, Ty, runtime_declarations, slot_globals};
 use std::alloc::Global;
 
 // The instructions of the first block of the first function.

@@ -3,12 +3,12 @@
 ghost use Rattle.std.specs.Prelude.{◌≡◌, ℕ, All, false};
 ghost use Rattle.ms_ir.specs.declared.syntax.Module.{Module};
 ghost use Rattle.ms_ir.specs.Names.{is_reserved};
-ghost use Rattle.ms_ir.specs.World.{Setting};
-ghost use Rattle.ms_ir.specs.Code.{strip};
-ghost use Rattle.ms_ir.specs.Masks.{by_formulas};
-ghost use Rattle.ms_ir.specs.Plain.{PlainState, More, plain_step, run};
-ghost use Rattle.ms_ir.specs.Shadow.{ShadowState, shadow_step};
-ghost use Rattle.ms_ir.specs.Faithful.{Faithful, NoMarks};
+ghost use Rattle.ms_runs.specs.World.{Setting};
+ghost use Rattle.ms_ir.specs.Code.{strip, NoMarks};
+ghost use Rattle.ms_runs.specs.Masks.{by_formulas};
+ghost use Rattle.ms_runs.specs.Plain.{PlainState, More, plain_step, run};
+ghost use Rattle.ms_runs.specs.Shadow.{ShadowState, shadow_step};
+ghost use Rattle.ms_runs.specs.Faithful.{Faithful};
 ghost use Rattle.ms_pass.specs.Pass.{Numbering, pass};
 ghost use Rattle.ms_pass.specs.Law.{Follows, Steps, Sound, Ranged};
 ghost use Rattle.ms_pass.specs.Known.{KnownModule, CleanRun, IsTaken};

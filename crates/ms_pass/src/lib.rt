@@ -2,7 +2,6 @@
 #![tactic(auto)]
 
 mod blocks;
-mod declarations;
 mod instruments;
 pub mod laws;
 mod vectors;

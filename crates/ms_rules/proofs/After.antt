@@ -11,15 +11,16 @@ use Rattle.ms_ir.specs.declared.syntax.Operand.TheVariants as operand
 use Rattle.ms_ir.specs.declared.syntax.Op.{Op}
 use Rattle.ms_ir.specs.declared.syntax.Op.TheVariants as op
 use Rattle.ms_ir.specs.declared.syntax.Inst.{Inst}
-use Rattle.ms_ir.specs.declared.runs.End.{End}
+use Rattle.ms_runs.specs.declared.runs.End.{End}
 use Rattle.ms_ir.specs.Layout.{width_of, stored_size, size_in}
-use Rattle.ms_ir.specs.World.{Stack, World, Setting, Here, Effect, Gives, Does, Ends, traps, result}
-use Rattle.ms_ir.specs.Memory.{is_good, set_shadow, fits, next_base, make_unset, store_number}
+use Rattle.ms_ir.specs.Areas.{Stack}
+use Rattle.ms_runs.specs.World.{World, Setting, Here, Effect, Gives, Does, Ends, traps, result}
+use Rattle.ms_runs.specs.Memory.{is_good, set_shadow, fits, next_base, make_unset, store_number}
 use Rattle.ms_ir.specs.Code.{operands, count_undefs, is_root, roots_in}
-use Rattle.ms_ir.specs.Act.{alloca, store}
-use Rattle.ms_ir.specs.Poisoned.{Poisoned}
-use Rattle.ms_ir.specs.Masks.{word_at}
-use Rattle.ms_ir.specs.Shadow.{planes}
+use Rattle.ms_runs.specs.Act.{alloca, store}
+use Rattle.ms_runs.specs.Poisoned.{Poisoned}
+use Rattle.ms_runs.specs.Masks.{word_at}
+use Rattle.ms_runs.specs.Shadow.{planes}
 use Rattle.ms_rules.specs.Tasks.{Values, Reach, Went, Reaches, Same, run_marked, do_tasks, tasks_code, set_result}
 use Rattle.ms_rules.specs.Emit.{Env, FewNumbers, tracked, tracked_at, after_tasks, KnownOperands}
 use Rattle.ms_rules.specs.Match.{Matches, RangedWorld, RangedValues, Stands, given_of, words_at, acted_at, AfterLaw}

@@ -9,19 +9,19 @@ use Rattle.ms_ir.specs.declared.syntax.Operand.TheVariants as operand
 use Rattle.ms_ir.specs.declared.syntax.Op.{Op}
 use Rattle.ms_ir.specs.declared.syntax.Op.TheVariants as op
 use Rattle.ms_ir.specs.declared.syntax.Inst.{Inst}
-use Rattle.ms_ir.specs.declared.runs.End.{End}
-use Rattle.ms_ir.specs.declared.runs.End.TheVariants as «end»
-use Rattle.ms_ir.specs.declared.runs.Report.{Report}
+use Rattle.ms_runs.specs.declared.runs.End.{End}
+use Rattle.ms_runs.specs.declared.runs.End.TheVariants as «end»
+use Rattle.ms_runs.specs.declared.runs.Report.{Report}
 use Rattle.ms_ir.specs.Names.{name_eq}
 use Rattle.ms_ir.specs.Layout.{width_of}
-use Rattle.ms_ir.specs.World.{World, Setting, Here, Effect, Gives, Does, Goes, Enters, Leaves, Ends, then_does}
-use Rattle.ms_ir.specs.Origins.{check, add_report, trail, count_blind}
+use Rattle.ms_runs.specs.World.{World, Setting, Here, Effect, Gives, Does, Goes, Enters, Leaves, Ends, then_does}
+use Rattle.ms_runs.specs.Origins.{check, add_report, trail, count_blind}
 use Rattle.ms_ir.specs.Code.{operands, one_undef}
-use Rattle.ms_ir.specs.Control.{read_all, with_value}
-use Rattle.ms_ir.specs.Poisoned.{Poisoned}
-use Rattle.ms_ir.specs.Masks.{by_formulas, union, word_at}
-use Rattle.ms_ir.specs.Uses.{Use, Word, Bytes, Line, uses, type_at, check_use, check_uses, blinded}
-use Rattle.ms_ir.specs.Shadow.{poisoned_result}
+use Rattle.ms_runs.specs.Control.{read_all, with_value}
+use Rattle.ms_runs.specs.Poisoned.{Poisoned}
+use Rattle.ms_runs.specs.Masks.{by_formulas, union, word_at}
+use Rattle.ms_runs.specs.Uses.{Use, Word, Bytes, Line, uses, type_at, check_use, check_uses, blinded}
+use Rattle.ms_runs.specs.Shadow.{poisoned_result}
 use Rattle.ms_rules.specs.Tasks.{Task, Values, Reach, Went, Over, Reaches, Same, Below, words_of, run_marked, do_tasks, tasks_code, set_result}
 use Rattle.ms_rules.specs.Emit.{Env, Tracked, tracked, tracked_at, result_tasks, before_tasks, IsBuilt, KnownOperands}
 use Rattle.ms_rules.specs.Match.{Matches, RangedWorld, RangedValues, Stands, given_of, words_at, checked_at, counted_at, acted_at, after_result, before_code, BeforeLaw, Checked, Failed, Due}

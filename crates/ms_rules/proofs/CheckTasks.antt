@@ -11,15 +11,15 @@ use Rattle.ms_ir.specs.declared.syntax.Name.{Name}
 use Rattle.ms_ir.specs.declared.syntax.Ty.{Ty, Int}
 use Rattle.ms_ir.specs.declared.syntax.Operand.{Operand}
 use Rattle.ms_ir.specs.declared.syntax.Operand.TheVariants as operand
-use Rattle.ms_ir.specs.declared.runs.Report.{Report}
-use Rattle.ms_ir.specs.declared.runs.End.TheVariants as «end»
+use Rattle.ms_runs.specs.declared.runs.Report.{Report}
+use Rattle.ms_runs.specs.declared.runs.End.TheVariants as «end»
 use Rattle.ms_ir.specs.Layout.{width_of}
-use Rattle.ms_ir.specs.World.{World, Setting, Here, Effect, Gives, Does, Goes, Enters, Leaves, Ends, stuck, then_does}
-use Rattle.ms_ir.specs.Origins.{check, add_report, trail}
-use Rattle.ms_ir.specs.Act.{operand_word}
-use Rattle.ms_ir.specs.Poisoned.{Poisoned}
-use Rattle.ms_ir.specs.Masks.{word_at}
-use Rattle.ms_ir.specs.Uses.{Use, Word, Bytes, Line, type_at, check_use, check_uses}
+use Rattle.ms_runs.specs.World.{World, Setting, Here, Effect, Gives, Does, Goes, Enters, Leaves, Ends, stuck, then_does}
+use Rattle.ms_runs.specs.Origins.{check, add_report, trail}
+use Rattle.ms_runs.specs.Act.{operand_word}
+use Rattle.ms_runs.specs.Poisoned.{Poisoned}
+use Rattle.ms_runs.specs.Masks.{word_at}
+use Rattle.ms_runs.specs.Uses.{Use, Word, Bytes, Line, type_at, check_use, check_uses}
 use Rattle.ms_rules.specs.Tasks.{Expr, Leaf, Turn, Task, Values, Reach, Went, Over, eval, eval_all, parts, task_effect, do_tasks, marked_next}
 use Rattle.ms_rules.specs.Emit.{Tracked, tracked_at, is_zero, widened, mask_of, check_task, use_tasks, check_tasks}
 use Rattle.ms_rules.proofs.OperandWords.{ap₃, Holds, word_less, mod_once}

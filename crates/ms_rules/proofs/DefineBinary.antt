@@ -21,12 +21,12 @@ use Rattle.ms_bits.specs.Arithmetic.{binary_of}
 use Rattle.ms_ir.specs.declared.syntax.Op.TheVariants as op
 use Rattle.ms_ir.specs.Names.{is_reserved}
 use Rattle.ms_ir.specs.Code.{count_undefs}
-use Rattle.ms_ir.specs.World.{World, Setting, Here, Does}
-use Rattle.ms_ir.specs.Control.{with_value, read_all}
-use Rattle.ms_ir.specs.Act.{operand_word, gives}
-use Rattle.ms_ir.specs.Poisoned.{Poisoned}
-use Rattle.ms_ir.specs.Masks.{by_formulas, binary_mask, last_origin, word_at}
-use Rattle.ms_ir.specs.Shadow.{read_poisoned}
+use Rattle.ms_runs.specs.World.{World, Setting, Here, Does}
+use Rattle.ms_runs.specs.Control.{with_value, read_all}
+use Rattle.ms_runs.specs.Act.{operand_word, gives}
+use Rattle.ms_runs.specs.Poisoned.{Poisoned}
+use Rattle.ms_runs.specs.Masks.{by_formulas, binary_mask, last_origin, word_at}
+use Rattle.ms_runs.specs.Shadow.{read_poisoned}
 use Rattle.ms_rules.specs.Tasks.{mask_name, origin_name, Values, Reach, Went, do_tasks, eval}
 use Rattle.ms_rules.specs.Emit.{Env, Tracked, tracked, tracked_at, mask_type, binary_tasks, define_tasks, KnownName, KnownOperands, OneName}
 use Rattle.ms_rules.specs.Match.{Matches, RangedValues}

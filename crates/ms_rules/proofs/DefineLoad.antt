@@ -15,21 +15,21 @@ use Rattle.ms_ir.specs.declared.syntax.Ty.{Ty, Int, Ptr}
 use Rattle.ms_ir.specs.declared.syntax.Operand.{Operand}
 use Rattle.ms_ir.specs.declared.syntax.Operand.TheVariants as operand
 use Rattle.ms_ir.specs.declared.syntax.Op.TheVariants as op
-use Rattle.ms_ir.specs.declared.runs.End.{End}
-use Rattle.ms_ir.specs.declared.runs.End.TheVariants as «end»
+use Rattle.ms_runs.specs.declared.runs.End.{End}
+use Rattle.ms_runs.specs.declared.runs.End.TheVariants as «end»
 use Rattle.ms_ir.specs.declared.calls.RuntimeFn.TheVariants as function
 use Rattle.ms_bits.specs.declared.traps.Trap.TheVariants as trap
 use Rattle.ms_ir.specs.Names.{slots, is_reserved}
 use Rattle.ms_ir.specs.Layout.{width_of, stored_size}
-use Rattle.ms_ir.specs.World.{World, Setting, Here, Allocation, Effect, Gives, Does, Ends, traps}
-use Rattle.ms_ir.specs.Memory.{is_good, first_that, covers}
-use Rattle.ms_ir.specs.Origins.{origin_within, load_origin}
-use Rattle.ms_ir.specs.Plain.{shadow_bits, in_slots}
-use Rattle.ms_ir.specs.Control.{with_value}
-use Rattle.ms_ir.specs.Act.{operand_word}
-use Rattle.ms_ir.specs.Poisoned.{Poisoned}
-use Rattle.ms_ir.specs.Masks.{by_formulas}
-use Rattle.ms_ir.specs.Shadow.{poisoned_result}
+use Rattle.ms_runs.specs.World.{World, Setting, Here, Allocation, Effect, Gives, Does, Ends, traps}
+use Rattle.ms_runs.specs.Memory.{is_good, first_that, covers}
+use Rattle.ms_runs.specs.Origins.{origin_within, load_origin}
+use Rattle.ms_runs.specs.Plain.{shadow_bits, in_slots}
+use Rattle.ms_runs.specs.Control.{with_value}
+use Rattle.ms_runs.specs.Act.{operand_word}
+use Rattle.ms_runs.specs.Poisoned.{Poisoned}
+use Rattle.ms_runs.specs.Masks.{by_formulas}
+use Rattle.ms_runs.specs.Shadow.{poisoned_result}
 use Rattle.ms_rules.specs.Tasks.{mask_name, origin_name, Leaf, Task, Calls, Values, Reach, Went, eval, marked_next, do_tasks, set_result}
 use Rattle.ms_rules.specs.Emit.{Env, shadow_address, widened, tracked, define_tasks, KnownName, KnownOperand, KnownOperands, OneName}
 use Rattle.ms_rules.specs.Match.{IsPlaced, ArePlaced, RangedWorld, RangedValues, Matches, after_result}

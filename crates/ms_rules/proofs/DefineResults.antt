@@ -8,17 +8,18 @@ use Rattle.ms_ir.specs.declared.syntax.Ty.{Ty}
 use Rattle.ms_ir.specs.declared.syntax.Operand.{Operand}
 use Rattle.ms_ir.specs.declared.syntax.Op.{Op}
 use Rattle.ms_ir.specs.declared.syntax.Op.TheVariants as op
-use Rattle.ms_ir.specs.declared.runs.End.{End}
-use Rattle.ms_ir.specs.declared.runs.End.TheVariants as «end»
+use Rattle.ms_runs.specs.declared.runs.End.{End}
+use Rattle.ms_runs.specs.declared.runs.End.TheVariants as «end»
 use Rattle.ms_ir.specs.Layout.{stored_size, size_in}
-use Rattle.ms_ir.specs.World.{Stack, World, Setting, Here, Effect, Gives, Does, Ends, Leaves, traps, word}
-use Rattle.ms_ir.specs.Memory.{is_good, fits, next_base, make_unset, store_number}
+use Rattle.ms_ir.specs.Areas.{Stack}
+use Rattle.ms_runs.specs.World.{World, Setting, Here, Effect, Gives, Does, Ends, Leaves, traps, word}
+use Rattle.ms_runs.specs.Memory.{is_good, fits, next_base, make_unset, store_number}
 use Rattle.ms_ir.specs.Code.{operands, count_undefs}
-use Rattle.ms_ir.specs.Control.{with_value}
-use Rattle.ms_ir.specs.Act.{alloca, store}
-use Rattle.ms_ir.specs.Poisoned.{Poisoned}
-use Rattle.ms_ir.specs.Masks.{by_formulas}
-use Rattle.ms_ir.specs.Shadow.{poisoned_result}
+use Rattle.ms_runs.specs.Control.{with_value}
+use Rattle.ms_runs.specs.Act.{alloca, store}
+use Rattle.ms_runs.specs.Poisoned.{Poisoned}
+use Rattle.ms_runs.specs.Masks.{by_formulas}
+use Rattle.ms_runs.specs.Shadow.{poisoned_result}
 use Rattle.ms_rules.specs.Tasks.{mask_name, origin_name, Task, Values}
 use Rattle.ms_rules.specs.Emit.{Env, tracked, define_tasks, result_tasks, IsBuilt, KnownName, KnownOperands, KnownResult, OneName}
 use Rattle.ms_rules.specs.Match.{RangedWorld, RangedValues, Matches}

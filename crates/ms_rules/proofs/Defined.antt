@@ -5,15 +5,15 @@ use Rattle.ms_ir.specs.declared.syntax.Name.{Name}
 use Rattle.ms_ir.specs.declared.syntax.Operand.{Operand}
 use Rattle.ms_ir.specs.declared.syntax.Operand.TheVariants as operand
 use Rattle.ms_ir.specs.declared.syntax.Op.{Op}
-use Rattle.ms_ir.specs.declared.runs.End.{End}
+use Rattle.ms_runs.specs.declared.runs.End.{End}
 use Rattle.ms_ir.specs.Names.{is_reserved}
-use Rattle.ms_ir.specs.World.{World, Setting, Here, Effect, Gives, Does, Ends}
+use Rattle.ms_runs.specs.World.{World, Setting, Here, Effect, Gives, Does, Ends}
 use Rattle.ms_ir.specs.Code.{operands}
-use Rattle.ms_ir.specs.Control.{with_value, read_all}
-use Rattle.ms_ir.specs.Act.{act}
-use Rattle.ms_ir.specs.Poisoned.{Poisoned}
-use Rattle.ms_ir.specs.Masks.{by_formulas}
-use Rattle.ms_ir.specs.Shadow.{read_poisoned, poisoned_result}
+use Rattle.ms_runs.specs.Control.{with_value, read_all}
+use Rattle.ms_runs.specs.Act.{act}
+use Rattle.ms_runs.specs.Poisoned.{Poisoned}
+use Rattle.ms_runs.specs.Masks.{by_formulas}
+use Rattle.ms_runs.specs.Shadow.{read_poisoned, poisoned_result}
 use Rattle.ms_rules.specs.Tasks.{mask_name, origin_name, Task, Values, Reach, Went, Over, do_tasks, set_result}
 use Rattle.ms_rules.specs.Emit.{Env, local_mask, local_origin}
 use Rattle.ms_rules.specs.Match.{held, Matches, after_result}

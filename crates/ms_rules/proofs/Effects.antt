@@ -11,15 +11,16 @@ use Rattle.ms_ir.specs.declared.calls.RuntimeFn.{RuntimeFn}
 use Rattle.ms_ir.specs.declared.calls.RuntimeFn.TheVariants as function
 use Rattle.ms_ir.specs.declared.syntax.Ty.{Ty}
 use Rattle.ms_ir.specs.declared.syntax.Operand.{Operand}
-use Rattle.ms_ir.specs.First.{Logic, And, Or, Xor, logic_op, no_flags}
-use Rattle.ms_ir.specs.Names.{lookup, runtime_functions}
-use Rattle.ms_ir.specs.World.{World, Setting, Here, Gives, Ends, stuck}
+use Rattle.ms_runs.specs.First.{Logic, And, Or, Xor, logic_op}
+use Rattle.ms_bits.specs.NoFlags.{no_flags}
+use Rattle.ms_ir.specs.Names.{lookup, runtime_functions, runtime_name}
+use Rattle.ms_runs.specs.World.{World, Setting, Here, Gives, Ends, stuck}
 use Rattle.ms_ir.specs.Code.{operands}
-use Rattle.ms_ir.specs.Act.{truth, gives}
-use Rattle.ms_ir.specs.Masks.{value_or_zero}
-use Rattle.ms_ir.specs.Plain.{slots_after, act_marked}
-use Rattle.ms_ir.specs.Runtime.{runtime}
-use Rattle.ms_rules.specs.Tasks.{Task, Sets, Picks, Fetches, Puts, Calls, runtime_name, parts, last_op, flatten_all, logic_of, task_effect}
+use Rattle.ms_runs.specs.Act.{truth, gives}
+use Rattle.ms_runs.specs.Masks.{value_or_zero}
+use Rattle.ms_runs.specs.Plain.{slots_after, act_marked}
+use Rattle.ms_runs.specs.Runtime.{runtime}
+use Rattle.ms_rules.specs.Tasks.{Task, Sets, Picks, Fetches, Puts, Calls, parts, last_op, flatten_all, logic_of, task_effect}
 
 pub logic_gives : (site : ℕ) (o : Logic) (width a b : ℕ) (w : World) → gives site (binary_of (logic_op o) no_flags width a b) w ≡ Gives (logic_of o a b) w
 unfolding binary_of or_of

@@ -12,17 +12,18 @@ use Rattle.ms_ir.specs.declared.syntax.Operand.TheVariants as operand
 use Rattle.ms_ir.specs.declared.syntax.Op.{Op}
 use Rattle.ms_ir.specs.declared.syntax.Op.TheVariants as op
 use Rattle.ms_ir.specs.declared.syntax.Inst.{Inst}
-use Rattle.ms_ir.specs.declared.runs.End.{End}
+use Rattle.ms_runs.specs.declared.runs.End.{End}
 use Rattle.ms_bits.specs.Conversions.{cast_of, select_of}
-use Rattle.ms_ir.specs.First.{logic_op, no_flags}
+use Rattle.ms_runs.specs.First.{logic_op}
+use Rattle.ms_bits.specs.NoFlags.{no_flags}
 use Rattle.ms_ir.specs.Layout.{width_of}
 use Rattle.ms_ir.specs.Names.{name_eq}
-use Rattle.ms_ir.specs.World.{World, Setting, Here, Effect, Gives, Does, Goes, Enters, Leaves, Ends}
+use Rattle.ms_runs.specs.World.{World, Setting, Here, Effect, Gives, Does, Goes, Enters, Leaves, Ends}
 use Rattle.ms_ir.specs.Code.{operands}
-use Rattle.ms_ir.specs.Control.{with_value}
-use Rattle.ms_ir.specs.Act.{operand_word}
-use Rattle.ms_ir.specs.Masks.{value_or_zero}
-use Rattle.ms_ir.specs.Plain.{slots_after, act_marked}
+use Rattle.ms_runs.specs.Control.{with_value}
+use Rattle.ms_runs.specs.Act.{operand_word}
+use Rattle.ms_runs.specs.Masks.{value_or_zero}
+use Rattle.ms_runs.specs.Plain.{slots_after, act_marked}
 use Rattle.ms_rules.specs.Tasks.{msan_name, Expr, Leaf, Two, Turn, IsSet, Pick, Task, Flat, inserted, flatten, flatten_all, parts, target, last_op, task_code, tasks_code, Values, Reach, Went, Over, set_result, marked_next, words_of, run_marked, logic_of, eval, eval_all, task_effect, task_slots, do_tasks, Below, Same, Reaches, BelowOperand, BelowExpr, BelowExprs, BelowTasks}
 use Rattle.ms_rules.proofs.InsertedNames.{msan_below, below_more, with_here, with_other}
 use Rattle.ms_rules.proofs.Effects.{logic_gives, cast_gives, differs_gives, last_operands, last_slots, last_effect}

@@ -11,7 +11,7 @@ use Rattle.std.specs.Int.Digits.{digits_of}
 use Rattle.ms_ir.specs.declared.syntax.Name.{Name}
 use Rattle.ms_ir.specs.declared.syntax.Name.TheVariants.{Number, Text}
 use Rattle.ms_ir.specs.Names.{name_eq, is_reserved}
-use Rattle.ms_ir.specs.Control.{with_value}
+use Rattle.ms_runs.specs.Control.{with_value}
 use Rattle.ms_rules.specs.Tasks.{numeral, msan_name, mask_name, origin_name, Below}
 
 -- ---- equality of names

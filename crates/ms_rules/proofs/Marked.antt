@@ -10,7 +10,8 @@ use Rattle.ms_ir.specs.declared.syntax.Operand.TheVariants as operand
 use Rattle.ms_ir.specs.declared.syntax.Op.{Op}
 use Rattle.ms_ir.specs.declared.syntax.Op.TheVariants as op
 use Rattle.ms_ir.specs.declared.syntax.Inst.{Inst}
-use Rattle.ms_ir.specs.First.{logic_op, no_flags}
+use Rattle.ms_runs.specs.First.{logic_op}
+use Rattle.ms_bits.specs.NoFlags.{no_flags}
 use Rattle.ms_rules.specs.Tasks.{msan_name, Expr, Leaf, Two, Turn, IsSet, Pick, Task, Sets, Picks, Fetches, Puts, Calls, inserted, flatten, flatten_all, parts, target, last_op, task_code, tasks_code}
 
 -- an instruction that a jump runs, and not a step of its own

@@ -5,8 +5,8 @@ use Rattle.ms_ir.specs.declared.syntax.Name.{Name}
 use Rattle.ms_ir.specs.declared.syntax.Operand.{Operand}
 use Rattle.ms_ir.specs.declared.syntax.Operand.TheVariants as operand
 use Rattle.ms_ir.specs.Names.{name_eq, is_reserved}
-use Rattle.ms_ir.specs.Control.{with_value}
-use Rattle.ms_ir.specs.Poisoned.{Poisoned}
+use Rattle.ms_runs.specs.Control.{with_value}
+use Rattle.ms_runs.specs.Poisoned.{Poisoned}
 use Rattle.ms_rules.specs.Tasks.{mask_name, origin_name, msan_name, Values, Same, Below}
 use Rattle.ms_rules.specs.Emit.{Env, local_mask, local_origin, KnownName, OneName}
 use Rattle.ms_rules.specs.Match.{held, Matches}

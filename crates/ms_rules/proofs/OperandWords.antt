@@ -13,13 +13,13 @@ use Rattle.ms_ir.specs.declared.syntax.Operand.{Operand}
 use Rattle.ms_ir.specs.declared.syntax.Operand.TheVariants as operand
 use Rattle.ms_ir.specs.Names.{is_reserved}
 use Rattle.ms_ir.specs.Layout.{width_of}
-use Rattle.ms_ir.specs.World.{Setting}
+use Rattle.ms_runs.specs.World.{Setting}
 use Rattle.ms_ir.specs.Code.{one_undef, count_undefs}
-use Rattle.ms_ir.specs.Control.{read_all, with_value}
-use Rattle.ms_ir.specs.Act.{operand_word}
-use Rattle.ms_ir.specs.Poisoned.{Poisoned}
-use Rattle.ms_ir.specs.Masks.{word_at}
-use Rattle.ms_ir.specs.Shadow.{operand_mask, operand_origin, read_poisoned}
+use Rattle.ms_runs.specs.Control.{read_all, with_value}
+use Rattle.ms_runs.specs.Act.{operand_word}
+use Rattle.ms_runs.specs.Poisoned.{Poisoned}
+use Rattle.ms_runs.specs.Masks.{word_at}
+use Rattle.ms_runs.specs.Shadow.{operand_mask, operand_origin, read_poisoned}
 use Rattle.ms_rules.specs.Tasks.{mask_name, origin_name, words_of}
 use Rattle.ms_rules.specs.Emit.{Env, Tracked, tracked, tracked_at, untracked, local_mask, local_origin, mask_operand, origin_operand, KnownName, KnownOperand, KnownOperands}
 use Rattle.ms_rules.specs.Match.{held, Matches, RangedValues}

@@ -11,18 +11,19 @@ use Rattle.ms_ir.specs.declared.syntax.Ty.{Ty, Int, Ptr}
 use Rattle.ms_ir.specs.declared.syntax.Operand.{Operand}
 use Rattle.ms_ir.specs.declared.syntax.Operand.TheVariants as operand
 use Rattle.ms_ir.specs.declared.syntax.Op.TheVariants as op
-use Rattle.ms_ir.specs.declared.runs.End.{End}
+use Rattle.ms_runs.specs.declared.runs.End.{End}
 use Rattle.ms_ir.specs.declared.calls.RuntimeFn.TheVariants as function
 use Rattle.ms_ir.specs.Names.{slots}
 use Rattle.ms_ir.specs.Layout.{width_of, stored_size, size_in}
-use Rattle.ms_ir.specs.World.{Stack, World, Setting, Here, Effect, Gives, Does, Ends, traps, result}
-use Rattle.ms_ir.specs.Memory.{is_good, set_shadow, set_cells, fits, next_base, used, room}
-use Rattle.ms_ir.specs.Origins.{Chained, store_origin, mark_cells, chain, keeps_old, pair_index, poison}
-use Rattle.ms_ir.specs.Plain.{shadow_bits, in_slots, store_marked}
+use Rattle.ms_ir.specs.Areas.{Stack, room}
+use Rattle.ms_runs.specs.World.{World, Setting, Here, Effect, Gives, Does, Ends, traps, result}
+use Rattle.ms_runs.specs.Memory.{is_good, set_shadow, set_cells, fits, next_base, used}
+use Rattle.ms_runs.specs.Origins.{Chained, store_origin, mark_cells, chain, keeps_old, pair_index, poison}
+use Rattle.ms_runs.specs.Plain.{shadow_bits, in_slots, store_marked}
 use Rattle.ms_ir.specs.Code.{operands, count_undefs}
-use Rattle.ms_ir.specs.Control.{with_value}
-use Rattle.ms_ir.specs.Act.{operand_word}
-use Rattle.ms_ir.specs.Poisoned.{Poisoned}
+use Rattle.ms_runs.specs.Control.{with_value}
+use Rattle.ms_runs.specs.Act.{operand_word}
+use Rattle.ms_runs.specs.Poisoned.{Poisoned}
 use Rattle.ms_rules.specs.Tasks.{Leaf, Task, Puts, Calls, Values, Reach, Went, eval, marked_next, do_tasks, task_slots, eval_all, parts}
 use Rattle.ms_rules.specs.Emit.{Given, Tracked, mask_type, mask_of, origin_of, word_of, number, shadow_address, widened, count_of}
 use Rattle.ms_rules.specs.Match.{RangedWorld}

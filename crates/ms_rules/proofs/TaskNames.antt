@@ -12,9 +12,9 @@ use Rattle.ms_ir.specs.declared.syntax.Op.{Op}
 use Rattle.ms_ir.specs.declared.syntax.Op.TheVariants as op
 use Rattle.ms_ir.specs.declared.syntax.Inst.{Inst}
 use Rattle.ms_ir.specs.Layout.{width_of}
-use Rattle.ms_ir.specs.World.{Setting, Here}
+use Rattle.ms_runs.specs.World.{Setting, Here}
 use Rattle.ms_ir.specs.Code.{operands, one_undef}
-use Rattle.ms_ir.specs.Uses.{Use, Word, Bytes, Line, uses}
+use Rattle.ms_runs.specs.Uses.{Use, Word, Bytes, Line, uses}
 use Rattle.ms_rules.specs.Tasks.{mask_name, origin_name, Expr, Leaf, Turn, Task, BelowOperand, BelowExpr, BelowTasks, Below}
 use Rattle.ms_rules.specs.Emit.{Env, Given, Tracked, mask_type, mask_operand, origin_operand, local_mask, local_origin, tracked, tracked_at, is_zero, widened, use_tasks, check_tasks, binary_tasks, define_tasks, result_tasks, plane_tasks, before_tasks, after_tasks, KnownName, KnownOperand, KnownOperands, KnownResult}
 use Rattle.ms_rules.specs.Match.{given_of, Stands}

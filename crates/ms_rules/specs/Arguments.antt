@@ -1,5 +1,5 @@
 -- What the arguments of this crate's functions stand for.
-use Rattle.ms_ir.specs.World.{Here}
+use Rattle.ms_runs.specs.World.{Here}
 use Rattle.ms_rules.specs.declared.environment.Environment.{Environment}
 use Rattle.ms_rules.specs.declared.tracked.TrackedOperand.{TrackedOperand}
 use Rattle.ms_rules.specs.Emit.{Env, Tracked}

@@ -12,13 +12,14 @@ use Rattle.ms_ir.specs.declared.syntax.Op.{Op}
 use Rattle.ms_ir.specs.declared.syntax.Op.TheVariants as op
 use Rattle.ms_ir.specs.declared.syntax.Inst.{Inst}
 use Rattle.ms_ir.specs.declared.calls.RuntimeFn.TheVariants as function
-use Rattle.ms_ir.specs.First.{And, Or, Xor, no_flags}
+use Rattle.ms_runs.specs.First.{And, Or, Xor}
+use Rattle.ms_bits.specs.NoFlags.{no_flags}
 use Rattle.ms_ir.specs.Names.{is_reserved}
 use Rattle.ms_ir.specs.Layout.{Types, width_of, size_in}
-use Rattle.ms_ir.specs.World.{Here}
+use Rattle.ms_runs.specs.World.{Here}
 use Rattle.ms_ir.specs.Code.{operands, one_undef, count_undefs}
-use Rattle.ms_ir.specs.Plain.{shadow_bits}
-use Rattle.ms_ir.specs.Uses.{Use, Word, Bytes, Line, uses}
+use Rattle.ms_runs.specs.Plain.{shadow_bits}
+use Rattle.ms_runs.specs.Uses.{Use, Word, Bytes, Line, uses}
 use Rattle.ms_rules.specs.Tasks.{mask_name, origin_name, Expr, Leaf, Two, Turn, IsSet, Pick, Task, Sets, Picks, Fetches, Puts, Calls, tasks_code}
 
 -- a function's values: the number of each, counted from 0, parameters first and then results in text order; and which

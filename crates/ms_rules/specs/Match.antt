@@ -4,17 +4,17 @@ use Rattle.ms_ir.specs.declared.syntax.Name.{Name}
 use Rattle.ms_ir.specs.declared.syntax.Operand.{Operand}
 use Rattle.ms_ir.specs.declared.syntax.Operand.TheVariants as operand
 use Rattle.ms_ir.specs.declared.syntax.Inst.{Inst}
-use Rattle.ms_ir.specs.declared.runs.End.{End}
+use Rattle.ms_runs.specs.declared.runs.End.{End}
 use Rattle.ms_ir.specs.Names.{is_reserved}
-use Rattle.ms_ir.specs.World.{Allocation, World, Setting, Here, Effect, Gives, Does, Ends, result}
-use Rattle.ms_ir.specs.Origins.{count_blind}
+use Rattle.ms_runs.specs.World.{Allocation, World, Setting, Here, Effect, Gives, Does, Ends, result}
+use Rattle.ms_runs.specs.Origins.{count_blind}
 use Rattle.ms_ir.specs.Code.{operands, count_undefs, roots_in}
-use Rattle.ms_ir.specs.Control.{read_all, with_value}
-use Rattle.ms_ir.specs.Act.{act}
-use Rattle.ms_ir.specs.Poisoned.{Poisoned}
-use Rattle.ms_ir.specs.Masks.{Rules, by_formulas, union}
-use Rattle.ms_ir.specs.Uses.{uses, check_uses, blinded}
-use Rattle.ms_ir.specs.Shadow.{read_poisoned, planes, poisoned_result}
+use Rattle.ms_runs.specs.Control.{read_all, with_value}
+use Rattle.ms_runs.specs.Act.{act}
+use Rattle.ms_runs.specs.Poisoned.{Poisoned}
+use Rattle.ms_runs.specs.Masks.{Rules, by_formulas, union}
+use Rattle.ms_runs.specs.Uses.{uses, check_uses, blinded}
+use Rattle.ms_runs.specs.Shadow.{read_poisoned, planes, poisoned_result}
 use Rattle.ms_rules.specs.Tasks.{Values, Reach, Went, Over, words_of, run_marked, tasks_code, set_result}
 use Rattle.ms_rules.specs.Emit.{Env, Given, local_mask, local_origin, before_tasks, after_tasks, KnownInst, OneName, FewNumbers}
 

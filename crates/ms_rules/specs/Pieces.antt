@@ -6,7 +6,7 @@ use Rattle.ms_ir.specs.declared.syntax.Ty.{Ty, Int, Ptr}
 use Rattle.ms_ir.specs.declared.syntax.Operand.{Operand}
 use Rattle.ms_ir.specs.declared.syntax.Operand.TheVariants as operand
 use Rattle.ms_ir.specs.declared.calls.RuntimeFn.TheVariants as function
-use Rattle.ms_ir.specs.First.{Or, Xor}
+use Rattle.ms_runs.specs.First.{Or, Xor}
 use Rattle.ms_ir.specs.Layout.{width_of}
 use Rattle.ms_rules.specs.Tasks.{mask_name, origin_name, Expr, Leaf, Two, Task, Fetches, Puts, Calls}
 use Rattle.ms_rules.specs.Emit.{Env, Tracked, mask_operand, origin_operand, mask_type, word_of, mask_of, origin_of, number, is_zero, widened, shadow_address, check_task, last_task, binary_tasks, zero_task}

@@ -14,18 +14,20 @@ use Rattle.ms_ir.specs.declared.syntax.Operand.TheVariants as operand
 use Rattle.ms_ir.specs.declared.syntax.Op.{Op}
 use Rattle.ms_ir.specs.declared.syntax.Op.TheVariants as op
 use Rattle.ms_ir.specs.declared.syntax.Inst.{Inst}
-use Rattle.ms_ir.specs.declared.runs.End.{End}
+use Rattle.ms_runs.specs.declared.runs.End.{End}
 use Rattle.ms_ir.specs.declared.calls.RuntimeFn.{RuntimeFn}
-use Rattle.ms_ir.specs.declared.calls.RuntimeFn.TheVariants as function
-use Rattle.ms_ir.specs.First.{Logic, And, Or, Xor, logic_op, no_flags}
+use Rattle.ms_runs.specs.First.{Logic, And, Or, Xor, logic_op}
+use Rattle.ms_bits.specs.NoFlags.{no_flags}
 use Rattle.ms_ir.specs.Layout.{width_of}
-use Rattle.ms_ir.specs.World.{World, Setting, Here, Effect, Gives, Does, Goes, Enters, Leaves, Ends, stuck, word}
+use Rattle.ms_runs.specs.World.{World, Setting, Here, Effect, Gives, Does, Goes, Enters, Leaves, Ends, stuck, word}
+use Rattle.ms_ir.specs.Names.{runtime_name}
+use Rattle.ms_ir.specs.Signatures.{runtime_signature}
 use Rattle.ms_ir.specs.Code.{operands}
-use Rattle.ms_ir.specs.Control.{with_value}
-use Rattle.ms_ir.specs.Act.{operand_word}
-use Rattle.ms_ir.specs.Masks.{value_or_zero}
-use Rattle.ms_ir.specs.Plain.{load_marked, store_marked, slots_after, act_marked}
-use Rattle.ms_ir.specs.Runtime.{runtime}
+use Rattle.ms_runs.specs.Control.{with_value}
+use Rattle.ms_runs.specs.Act.{operand_word}
+use Rattle.ms_runs.specs.Masks.{value_or_zero}
+use Rattle.ms_runs.specs.Plain.{load_marked, store_marked, slots_after, act_marked}
+use Rattle.ms_runs.specs.Runtime.{runtime}
 
 -- ---- names
 
@@ -43,25 +45,6 @@ mask_name v = msan_name (2 * v + 1)
 
 abbrev pub origin_name : ℕ → Name
 origin_name v = msan_name (2 * v + 2)
-
--- the name and the result type of a runtime function
-abbrev pub runtime_name : RuntimeFn → Name
-runtime_name function.Check = name.Text (codes "__msan_check")
-runtime_name function.CheckMemory = name.Text (codes "__msan_check_memory")
-runtime_name function.CheckString = name.Text (codes "__msan_check_string")
-runtime_name function.Blind = name.Text (codes "__msan_blind")
-runtime_name function.Poison = name.Text (codes "__msan_poison")
-runtime_name function.Unpoison = name.Text (codes "__msan_unpoison")
-runtime_name function.Copy = name.Text (codes "__msan_copy")
-runtime_name function.Fill = name.Text (codes "__msan_fill")
-runtime_name function.StoreOrigin = name.Text (codes "__msan_store_origin")
-runtime_name function.LoadOrigin = name.Text (codes "__msan_load_origin")
-runtime_name function.Size = name.Text (codes "__msan_size")
-
-abbrev pub runtime_ret : RuntimeFn → Option Ty
-runtime_ret function.LoadOrigin = Some (Int 32)
-runtime_ret function.Size = Some (Int 64)
-runtime_ret _ = None
 
 -- ---- the language
 
@@ -168,7 +151,7 @@ last_op (Sets x o t a b) os = op.Binary (logic_op o) no_flags t (operand_at os 0
 last_op (Picks x c t a b) os = op.Select (operand_at os 0) t (operand_at os 1) (operand_at os 2)
 last_op (Fetches x t a) os = op.Load t (operand_at os 0)
 last_op (Puts t a b) os = op.Store t (operand_at os 0) (operand_at os 1)
-last_op (Calls x f args) os = op.Call (runtime_ret f) (runtime_name f) os
+last_op (Calls x f args) os = op.Call (runtime_signature f).ret (runtime_name f) os
 
 abbrev pub task_code : Task → ℕ → Code
 task_code t n =

@@ -4,7 +4,7 @@ ghost use Rattle.ms_ir.specs.declared.syntax.Name.{Name as NameOf};
 ghost use Rattle.ms_ir.specs.declared.syntax.Op.TheVariants as operation;
 ghost use Rattle.ms_ir.specs.Code.{operands, one_undef};
 ghost use Rattle.ms_ir.specs.Layout.{width_of as width_in};
-ghost use Rattle.ms_ir.specs.Uses as uses;
+ghost use Rattle.ms_runs.specs.Uses as uses;
 ghost use Rattle.ms_rules.specs.Tasks.{tasks_code};
 ghost use Rattle.ms_rules.specs.Emit as emits;
 ghost use Rattle.ms_rules.specs.First.{AreNarrow, IsMade};

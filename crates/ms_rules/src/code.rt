@@ -4,13 +4,14 @@ ghost use Rattle.ms_bits.specs.declared.operations.Pred.TheVariants as predicate
 ghost use Rattle.ms_ir.specs.declared.syntax.Ty.{Int, Ptr};
 ghost use Rattle.ms_ir.specs.declared.syntax.Operand.TheVariants as operand;
 ghost use Rattle.ms_ir.specs.declared.syntax.Op.TheVariants as operation;
-ghost use Rattle.ms_ir.specs.First.{no_flags};
-ghost use Rattle.ms_rules.specs.Tasks.{inserted, runtime_ret as runtime_ret_of, runtime_name as runtime_name_of};
+ghost use Rattle.ms_bits.specs.NoFlags.{no_flags};
+ghost use Rattle.ms_rules.specs.Tasks.{inserted, Leaf};
+ghost use Rattle.ms_ir.specs.Names.{runtime_name as runtime_name_of};
+ghost use Rattle.ms_ir.specs.Signatures.{runtime_signature};
 ghost use Rattle.ms_rules.specs.Tasks as task;
-ghost use Rattle.ms_rules.specs.Tasks.{Leaf};
 ghost use Rattle.ms_rules.specs.Emit as emits;
 
-use crate::names::{msan_name, runtime_name, runtime_ret};
+use crate::names::{msan_name, runtime_name};
 use ms_bits::{BinOp, CastOp, Duplicate, Flags, List, NoMemory, Pred};
 use ms_ir::{Inst, Name, Op, Operand, RuntimeFn, Ty};
 use std::alloc::Global;
@@ -190,14 +191,14 @@ impl Code {
         function: RuntimeFn,
         args: Vec<(Ty, Operand)>,
     ) -> Result<(), NoMemory>
-        ensures code { OnOk result (self.new.insts.items ≡ self.old.insts.items ++ inserted name (operation.Call (runtime_ret_of function) (runtime_name_of function) args.items) ∷ []) }
+        ensures code { OnOk result (self.new.insts.items ≡ self.old.insts.items ++ inserted name (operation.Call (runtime_signature function).ret (runtime_name_of function) args.items) ∷ []) }
         ensures next { self.new.next ≡ self.old.next }
     {
         let callee = runtime_name(self.alloc, function)?;
         self.put(
             name,
             Op::Call {
-                ret: runtime_ret(function),
+                ret: function.result_type(),
                 callee,
                 args: List::from_vec(args),
             },

@@ -4,10 +4,10 @@
 ghost use Rattle.std.specs.Prelude.{◌≡◌, ℕ, true, Some};
 ghost use Rattle.ms_ir.specs.declared.syntax.Name.{Name};
 ghost use Rattle.ms_ir.specs.declared.syntax.Inst.{Inst};
-ghost use Rattle.ms_ir.specs.World.{World, Setting, Here, Gives, Does};
-ghost use Rattle.ms_ir.specs.Poisoned.{Poisoned};
-ghost use Rattle.ms_ir.specs.Masks.{by_formulas};
-ghost use Rattle.ms_ir.specs.Shadow.{poisoned_result};
+ghost use Rattle.ms_runs.specs.World.{World, Setting, Here, Gives, Does};
+ghost use Rattle.ms_runs.specs.Poisoned.{Poisoned};
+ghost use Rattle.ms_runs.specs.Masks.{by_formulas};
+ghost use Rattle.ms_runs.specs.Shadow.{poisoned_result};
 ghost use Rattle.ms_rules.specs.Tasks.{Values, set_result};
 ghost use Rattle.ms_rules.specs.Emit.{Env};
 ghost use Rattle.ms_rules.specs.Match.{Matches, RangedWorld, RangedValues, Stands, words_at, checked_at, counted_at, acted_at, BeforeLaw, AfterLaw};

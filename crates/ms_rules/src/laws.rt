@@ -2,7 +2,7 @@
 ghost use Rattle.std.specs.Prelude.{◌≡◌, ◌≤◌, ℕ, true, List};
 ghost use Rattle.ms_ir.specs.declared.syntax.Inst.{Inst};
 ghost use Rattle.ms_ir.specs.Names.{is_reserved};
-ghost use Rattle.ms_ir.specs.World.{World, Setting, Here};
+ghost use Rattle.ms_runs.specs.World.{World, Setting, Here};
 ghost use Rattle.ms_rules.specs.Tasks.{msan_name, Task, tasks_code, Values, run_marked, do_tasks, Same, Reaches, BelowTasks};
 ghost use Rattle.ms_rules.specs.Emit.{Env, before_tasks, after_tasks};
 ghost use Rattle.ms_rules.specs.Match.{given_of, Stands};

@@ -14,5 +14,5 @@ mod tracked;
 
 pub use environment::Environment;
 pub use insertion::{Emitted, emit};
-pub use names::{runtime_name, runtime_ret};
+pub use names::runtime_name;
 pub use tracked::count_undef;

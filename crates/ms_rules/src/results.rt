@@ -3,7 +3,7 @@ ghost use Rattle.std.specs.Prelude.{◌≡◌, ◌+◌, ◌-◌, ◌<◌, ◌≤
 ghost use Rattle.ms_ir.specs.declared.syntax.Ty.{Int};
 ghost use Rattle.ms_ir.specs.declared.syntax.Op.TheVariants as operation;
 ghost use Rattle.ms_ir.specs.Code.{operands};
-ghost use Rattle.ms_ir.specs.First.{no_flags};
+ghost use Rattle.ms_bits.specs.NoFlags.{no_flags};
 ghost use Rattle.ms_ir.specs.Layout.{width_of as width_in};
 ghost use Rattle.ms_rules.specs.Tasks.{flatten, task_code, tasks_code};
 ghost use Rattle.ms_rules.specs.Emit as emits;

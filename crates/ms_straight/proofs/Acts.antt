@@ -9,10 +9,10 @@ use Rattle.ms_ir.specs.declared.syntax.Op.TheVariants as op
 use Rattle.ms_ir.specs.declared.calls.RuntimeFn.{RuntimeFn}
 use Rattle.ms_ir.specs.Layout.{width_of, size_in}
 use Rattle.ms_ir.specs.Names.{lookup, runtime_functions}
-use Rattle.ms_ir.specs.World.{World, Setting, Here, Ends, stuck}
-use Rattle.ms_ir.specs.Act.{act, gives, alloca, load, store}
-use Rattle.ms_ir.specs.Plain.{act_marked, slots_after, load_marked}
-use Rattle.ms_ir.specs.Runtime.{runtime}
+use Rattle.ms_runs.specs.World.{World, Setting, Here, Ends, stuck}
+use Rattle.ms_runs.specs.Act.{act, gives, alloca, load, store}
+use Rattle.ms_runs.specs.Plain.{act_marked, slots_after, load_marked}
+use Rattle.ms_runs.specs.Runtime.{runtime}
 use Rattle.ms_straight.specs.declared.results.Results.{Results}
 use Rattle.ms_straight.specs.Straight.{IsUnmarked, IsMarked}
 use Rattle.ms_straight.specs.Operands.{word_of, words_of}

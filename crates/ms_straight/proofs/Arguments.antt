@@ -3,11 +3,11 @@ use Rattle.std.proofs.Common.{◌≡◌, ℕ, zero, suc, List, [], ◌∷◌, sy
 use Rattle.std.specs.Prelude.{Option, IfSome, unwrap_or}
 use Rattle.ms_ir.specs.declared.syntax.Ty.{Ty, Int}
 use Rattle.ms_ir.specs.declared.syntax.Operand.{Operand}
-use Rattle.ms_ir.specs.declared.runs.End.{End}
-use Rattle.ms_ir.specs.World.{World, Setting, Gives, Does}
-use Rattle.ms_ir.specs.Origins.{check as check_of, poison as poison_of, store_origin as store_origin_of, load_origin as load_origin_of}
-use Rattle.ms_host.specs.State.{HostState}
-use Rattle.ms_host.specs.Shows.{Shows, Followed}
+use Rattle.ms_runs.specs.declared.runs.End.{End}
+use Rattle.ms_runs.specs.World.{World, Setting, Gives, Does}
+use Rattle.ms_runs.specs.Origins.{check as check_of, poison as poison_of, store_origin as store_origin_of, load_origin as load_origin_of}
+use Rattle.ms_straight.specs.State.{HostState}
+use Rattle.ms_straight.specs.Shows.{Shows, Followed}
 use Rattle.ms_straight.specs.declared.outcome.Outcome.TheVariants as outcome
 use Rattle.ms_straight.specs.Straight.{IsOperand, IsWordType, AreArguments}
 use Rattle.ms_straight.specs.Machine.{Came}

@@ -2,10 +2,10 @@
 use Rattle.std.proofs.Common.{◌≡◌, ℕ, sym, ap, subst, Some, None}
 use Rattle.std.specs.Prelude.{Option}
 use Rattle.ms_ir.specs.declared.syntax.Name.{Name}
-use Rattle.ms_ir.specs.declared.runs.End.{End}
-use Rattle.ms_ir.specs.World.{Effect}
-use Rattle.ms_host.specs.State.{HostState}
-use Rattle.ms_host.specs.Shows.{Shows}
+use Rattle.ms_runs.specs.declared.runs.End.{End}
+use Rattle.ms_runs.specs.World.{Effect}
+use Rattle.ms_straight.specs.State.{HostState}
+use Rattle.ms_straight.specs.Shows.{Shows}
 use Rattle.ms_straight.specs.declared.outcome.Outcome.{Outcome}
 use Rattle.ms_straight.specs.declared.outcome.Outcome.TheVariants as outcome
 use Rattle.ms_straight.specs.declared.machine.Machine.{Machine}

@@ -5,17 +5,16 @@ use Rattle.std.proofs.Math.Path.{fun_ext}
 use Rattle.ms_ir.specs.declared.syntax.Name.{Name}
 use Rattle.ms_ir.specs.declared.syntax.Inst.{Inst}
 use Rattle.ms_ir.specs.declared.syntax.Module.{Module}
-use Rattle.ms_ir.specs.declared.runs.End.{End}
-use Rattle.ms_ir.specs.declared.runs.End.TheVariants as «end»
-use Rattle.ms_ir.specs.declared.runs.Setup.{Setup}
-use Rattle.ms_ir.specs.declared.runs.RunResult.{RunResult}
-use Rattle.ms_ir.specs.World.{World, Setting, Here, result, stuck}
-use Rattle.ms_ir.specs.Code.{insts_at, one_unmarked, over_insts}
-use Rattle.ms_ir.specs.Code.{operands}
-use Rattle.ms_ir.specs.Control.{here}
-use Rattle.ms_ir.specs.Plain.{plain, setting}
-use Rattle.ms_host.specs.State.{KeepsSetting}
-use Rattle.ms_host.specs.Shows.{Shows, Suits, first_world}
+use Rattle.ms_runs.specs.declared.runs.End.{End}
+use Rattle.ms_runs.specs.declared.runs.End.TheVariants as «end»
+use Rattle.ms_runs.specs.declared.runs.Setup.{Setup}
+use Rattle.ms_runs.specs.declared.runs.RunResult.{RunResult}
+use Rattle.ms_runs.specs.World.{World, Setting, Here, result, stuck}
+use Rattle.ms_ir.specs.Code.{insts_at, one_unmarked, over_insts, operands}
+use Rattle.ms_runs.specs.Control.{here}
+use Rattle.ms_runs.specs.Plain.{plain, setting_of}
+use Rattle.ms_straight.specs.State.{KeepsSetting}
+use Rattle.ms_straight.specs.Shows.{Shows, Suits, first_world}
 use Rattle.ms_straight.specs.declared.machine.Machine.{Machine}
 use Rattle.ms_straight.specs.Straight.{inserted_text, IsStraight, IsStraightInst}
 use Rattle.ms_straight.specs.Results.{inserted_number}
@@ -32,14 +31,14 @@ pub record Going (m : Module) (u : Setup) (machine : Machine) (insts : List Inst
   pub world : World
   pub holds : Holds machine.results values
   pub shows : Shows machine.host world
-  pub suits : Suits machine.host (setting m u)
+  pub suits : Suits machine.host (setting_of m u)
   pub site_is : site ≡ 1 + over_insts one_unmarked (take place insts)
   pub few : site ≤ place + 1
-  pub same : remaining (setting m u) m (drop place insts) left place values (cells_of machine.slots) world ≡ plain m u
+  pub same : remaining (setting_of m u) m (drop place insts) left place values (cells_of machine.slots) world ≡ plain m u
 
 pub going_start : (m : Module) (u : Setup) (p : IsStraight m) (machine : Machine) (insts : List Inst) → insts ≡ insts_at m 0 0
     → machine.results.numbered.items ≡ [] → machine.results.inserted.items ≡ [] → ((a : ℕ) → cells_of machine.slots a ≡ 0)
-    → Suits machine.host (setting m u) → Shows machine.host (first_world u.input) → Going m u machine insts 0 1 u.steps
+    → Suits machine.host (setting_of m u) → Shows machine.host (first_world u.input) → Going m u machine insts 0 1 u.steps
 going_start m u p machine insts are numbered inserted clean suits shows = record {
   values = λ x. 0;
   world = first_world u.input;
@@ -51,7 +50,7 @@ going_start m u p machine insts are numbered inserted clean suits shows = record
   suits = suits;
   site_is = refl;
   few = omega arith;
-  same = (λ i. remaining (setting m u) m (are i) u.steps 0 (λ x. 0) (fun_ext clean i) (first_world u.input)) ∙ sym (starts m u p);
+  same = (λ i. remaining (setting_of m u) m (are i) u.steps 0 (λ x. 0) (fun_ext clean i) (first_world u.input)) ∙ sym (starts m u p);
 }
 
 pub straight_here : (m : Module) → IsStraight m → (insts : List Inst) → insts ≡ insts_at m 0 0 → (k : ℕ) (x : Inst) → k < length insts → x ≡ get_or insts k x → IsStraightInst 4294967295 x
@@ -86,20 +85,20 @@ module _ (m : Module) (u : Setup) (p : IsStraight m) (fill : List ℕ) (machine 
     (are : insts ≡ insts_at m 0 0) (filled : fill ≡ u.fill) (lt : place < length insts) (is : inst ≡ get_or insts place inst) (some : left ≡ 0 → ⊥)
     (straight : IsStraightInst 4294967295 inst) (g : Going m u machine insts place site left) where
   at : Here
-  at = here (setting m u) m (frame_at place g.values)
+  at = here (setting_of m u) m (frame_at place g.values)
 
-  fits : Fits (setting m u) fill machine.host
+  fits : Fits (setting_of m u) fill machine.host
   fits = record { untyped = p.types_are; filled = sym filled; suits = g.suits }
 
-  sited : (here (setting m u) m (frame_at place g.values)).site ≡ site
+  sited : (here (setting_of m u) m (frame_at place g.values)).site ≡ site
   sited = site_here m place ∙ ap (λ (xs : List Inst). 1 + over_insts one_unmarked (take place xs)) (sym are) ∙ sym g.site_is
 
-  read : words_at (setting m u) m place g.values inst ≡ words_of fill machine.results inst.op
-  read = words_read (setting m u) machine.results fill g.values (operands inst.op) _ (sym filled) g.holds (operands_allowed inst.marked inst.op straight.allowed)
+  read : words_at (setting_of m u) m place g.values inst ≡ words_of fill machine.results inst.op
+  read = words_read (setting_of m u) machine.results fill g.values (operands inst.op) _ (sym filled) g.holds (operands_allowed inst.marked inst.op straight.allowed)
 
-  here_is : remaining (setting m u) m (drop place insts) left place g.values (cells_of machine.slots) g.world
-      ≡ remaining (setting m u) m (inst ∷ drop (suc place) insts) (suc (left - 1)) place g.values (cells_of machine.slots) g.world
-  here_is = λ i. remaining (setting m u) m (begins i) (counted i) place g.values (cells_of machine.slots) g.world
+  here_is : remaining (setting_of m u) m (drop place insts) left place g.values (cells_of machine.slots) g.world
+      ≡ remaining (setting_of m u) m (inst ∷ drop (suc place) insts) (suc (left - 1)) place g.values (cells_of machine.slots) g.world
+  here_is = λ i. remaining (setting_of m u) m (begins i) (counted i) place g.values (cells_of machine.slots) g.world
     where
       begins : drop place insts ≡ inst ∷ drop (suc place) insts
       begins = drop-cons insts place inst lt ∙ ap (λ (x : Inst). x ∷ drop (suc place) insts) (sym is)
@@ -111,7 +110,7 @@ module _ (m : Module) (u : Setup) (p : IsStraight m) (fill : List ℕ) (machine 
       → cells_of after.slots ≡ cells_after inst (words_of fill machine.results inst.op) (cells_of machine.slots) → Told u fill machine inst site None after
       → Going m u after insts (place + 1) site' left'
   going_more left' site' fewer further kept slots told =
-      let q = told (setting m u) (here (setting m u) m (frame_at place g.values)) g.values g.world fits sited (in_main m p) g.holds g.shows in
+      let q = told (setting_of m u) (here (setting_of m u) m (frame_at place g.values)) g.values g.world fits sited (in_main m p) g.holds g.shows in
       record {
         values = q.0.0;
         world = q.0.1;
@@ -123,8 +122,8 @@ module _ (m : Module) (u : Setup) (p : IsStraight m) (fill : List ℕ) (machine 
             ∙ ap (λ (n : ℕ). 1 + n) (sym (taken_more insts place inst lt is));
         few = omega (arith, further, g.few, at_most_one inst.marked);
         same =
-            (λ i. remaining (setting m u) m (rest i) (steps i) (place + 1) q.0.0 (slots i) q.0.1)
-            ∙ sym (one_more (setting m u) m inst (drop (suc place) insts) (left - 1) place g.values (cells_of machine.slots) g.world (words_of fill machine.results inst.op) q.0 (sym at_rest) read q.1.0)
+            (λ i. remaining (setting_of m u) m (rest i) (steps i) (place + 1) q.0.0 (slots i) q.0.1)
+            ∙ sym (one_more (setting_of m u) m inst (drop (suc place) insts) (left - 1) place g.values (cells_of machine.slots) g.world (words_of fill machine.results inst.op) q.0 (sym at_rest) read q.1.0)
             ∙ sym here_is ∙ g.same;
       }
     where
@@ -139,20 +138,20 @@ module _ (m : Module) (u : Setup) (p : IsStraight m) (fill : List ℕ) (machine 
 
   pub going_ends : (e : End) (o : Option End) → o ≡ Some e → Told u fill machine inst site o after → (r : RunResult) → ((world : World) → Shows after.host world → r ≡ result e world) → r ≡ plain m u
   going_ends e o ended told r finished =
-      let q = subst (λ (x : Option End). Told u fill machine inst site x after) ended told (setting m u) (here (setting m u) m (frame_at place g.values)) g.values g.world fits sited (in_main m p) g.holds g.shows in
+      let q = subst (λ (x : Option End). Told u fill machine inst site x after) ended told (setting_of m u) (here (setting_of m u) m (frame_at place g.values)) g.values g.world fits sited (in_main m p) g.holds g.shows in
       finished q.0 q.1.1
-      ∙ sym (last_one (setting m u) m inst (drop (suc place) insts) (left - 1) place g.values (cells_of machine.slots) g.world (words_of fill machine.results inst.op) e q.0 read q.1.0)
+      ∙ sym (last_one (setting_of m u) m inst (drop (suc place) insts) (left - 1) place g.values (cells_of machine.slots) g.world (words_of fill machine.results inst.op) e q.0 read q.1.0)
       ∙ sym here_is ∙ g.same
 
 pub going_spent : (m : Module) (u : Setup) (machine : Machine) (insts : List Inst) (place site left : ℕ) → left ≡ 0 → Going m u machine insts place site left
     → (r : RunResult) → ((world : World) → Shows machine.host world → r ≡ result «end».Spent world) → r ≡ plain m u
 going_spent m u machine insts place site left none g r finished =
-    finished g.world g.shows ∙ ap (λ (k : ℕ). remaining (setting m u) m (drop place insts) k place g.values (cells_of machine.slots) g.world) (sym none) ∙ g.same
+    finished g.world g.shows ∙ ap (λ (k : ℕ). remaining (setting_of m u) m (drop place insts) k place g.values (cells_of machine.slots) g.world) (sym none) ∙ g.same
 
 pub going_stuck : (m : Module) (u : Setup) (machine : Machine) (insts : List Inst) (place site left : ℕ) → (left ≡ 0 → ⊥) → length insts ≤ place → Going m u machine insts place site left
     → (r : RunResult) → ((world : World) → Shows machine.host world → r ≡ result stuck world) → r ≡ plain m u
 going_stuck m u machine insts place site left some over g r finished =
-    finished g.world g.shows ∙ sym (λ i. remaining (setting m u) m (past place insts over i) (counted i) place g.values (cells_of machine.slots) g.world) ∙ g.same
+    finished g.world g.shows ∙ sym (λ i. remaining (setting_of m u) m (past place insts over i) (counted i) place g.values (cells_of machine.slots) g.world) ∙ g.same
   where
     counted : left ≡ suc (left - 1)
     counted = grind (arith, some)

@@ -13,9 +13,9 @@ use Rattle.ms_ir.specs.declared.syntax.Ty.{Ty}
 use Rattle.ms_ir.specs.declared.syntax.Operand.{Operand}
 use Rattle.ms_ir.specs.declared.syntax.Operand.TheVariants as operand
 use Rattle.ms_ir.specs.Layout.{width_of}
-use Rattle.ms_ir.specs.World.{Setting}
-use Rattle.ms_ir.specs.Control.{with_value, read_all}
-use Rattle.ms_ir.specs.Act.{operand_word, plain_reading}
+use Rattle.ms_runs.specs.World.{Setting}
+use Rattle.ms_runs.specs.Control.{with_value, read_all}
+use Rattle.ms_runs.specs.Act.{operand_word, plain_reading}
 use Rattle.ms_ir.specs.Code.{one_undef}
 use Rattle.ms_straight.specs.declared.results.Results.{Results}
 use Rattle.ms_straight.specs.Straight.{inserted_text, IsResultName, IsResult, IsOperand}

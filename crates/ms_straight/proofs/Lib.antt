@@ -3,10 +3,15 @@ pub mod Selections
 pub mod SlotBytes
 pub mod Memories
 pub mod Arguments
-pub mod Functions
 pub mod Acts
 pub mod Holding
 pub mod Followed
 pub mod Remaining
 pub mod Starts
 pub mod Going
+pub mod Liveness
+pub mod Agreement
+pub mod OriginSteps
+pub mod MadeBytes
+pub mod Allocating
+pub mod Reporting

@@ -4,15 +4,16 @@ use Rattle.std.specs.Prelude.{bit_xor, Option}
 use Rattle.ms_bits.specs.declared.traps.Trap.TheVariants as trap
 use Rattle.ms_bits.specs.Maps.{byte_of}
 use Rattle.ms_ir.specs.declared.syntax.Ty.{Ty}
-use Rattle.ms_ir.specs.declared.runs.End.TheVariants as «end»
+use Rattle.ms_runs.specs.declared.runs.End.TheVariants as «end»
 use Rattle.ms_ir.specs.Layout.{stored_size}
 use Rattle.ms_ir.specs.Names.{slots}
-use Rattle.ms_ir.specs.World.{World, Setting, Stack, Gives, Does, traps}
-use Rattle.ms_ir.specs.Memory.{is_good, store_number, set_shadow, next_base, make_unset}
-use Rattle.ms_ir.specs.Act.{store as store_of, alloca as alloca_of}
-use Rattle.ms_ir.specs.Plain.{store_marked as store_marked_of, in_slots, shadow_bits}
-use Rattle.ms_host.specs.State.{HostState, KeepsSetting}
-use Rattle.ms_host.specs.Shows.{Shows, Allocated}
+use Rattle.ms_runs.specs.World.{World, Setting, Gives, Does, traps}
+use Rattle.ms_ir.specs.Areas.{Stack}
+use Rattle.ms_runs.specs.Memory.{is_good, store_number, set_shadow, next_base, make_unset}
+use Rattle.ms_runs.specs.Act.{store as store_of, alloca as alloca_of}
+use Rattle.ms_runs.specs.Plain.{store_marked as store_marked_of, in_slots, shadow_bits}
+use Rattle.ms_straight.specs.State.{HostState, KeepsSetting}
+use Rattle.ms_straight.specs.Shows.{Shows, Allocated}
 use Rattle.ms_straight.specs.declared.outcome.Outcome.TheVariants as outcome
 use Rattle.ms_straight.specs.Machine.{Came}
 

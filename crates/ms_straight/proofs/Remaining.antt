@@ -4,14 +4,14 @@ use Rattle.std.specs.Prelude.{Option, unwrap_or}
 use Rattle.ms_ir.specs.declared.syntax.Name.{Name}
 use Rattle.ms_ir.specs.declared.syntax.Inst.{Inst}
 use Rattle.ms_ir.specs.declared.syntax.Module.{Module}
-use Rattle.ms_ir.specs.declared.runs.End.{End}
-use Rattle.ms_ir.specs.declared.runs.End.TheVariants as «end»
-use Rattle.ms_ir.specs.declared.runs.RunResult.{RunResult}
-use Rattle.ms_ir.specs.World.{World, Setting, Effect, Gives, Does, Goes, Enters, Leaves, Ends, result}
+use Rattle.ms_runs.specs.declared.runs.End.{End}
+use Rattle.ms_runs.specs.declared.runs.End.TheVariants as «end»
+use Rattle.ms_runs.specs.declared.runs.RunResult.{RunResult}
+use Rattle.ms_runs.specs.World.{World, Setting, Effect, Gives, Does, Goes, Enters, Leaves, Ends, result}
 use Rattle.ms_ir.specs.Code.{operands, insts_at, one_unmarked}
-use Rattle.ms_ir.specs.Control.{Frame, here, read_all, moves, put}
-use Rattle.ms_ir.specs.Act.{plain_reading}
-use Rattle.ms_ir.specs.Plain.{PlainState, Stepped, More, plain_moved, plain_step, through, go_on, run}
+use Rattle.ms_runs.specs.Control.{Frame, here, read_all, after_effect, put}
+use Rattle.ms_runs.specs.Act.{plain_reading}
+use Rattle.ms_runs.specs.Plain.{PlainState, Stepped, More, and_then, plain_state, plain_step, through, go_on, run}
 use Rattle.ms_straight.specs.Machine.{effect_of, cells_after, named, went}
 
 abbrev pub frame_at : ℕ → (Name → ℕ) → Frame ℕ
@@ -42,7 +42,7 @@ no_pair {A} {a} e = grind arith
 
 -- an effect in the one frame
 abbrev pub moved : Setting → Module → ℕ → ℕ → (Name → ℕ) → (ℕ → ℕ) → Option Name → List ℕ → Effect → (PlainState → Stepped PlainState) → Stepped PlainState
-moved s m site place values cells x words e go = plain_moved cells (moves plain_reading s m site x words (λ v w. v) (λ v w. w) (frame_at place values) [] e) go
+moved s m site place values cells x words e go = and_then (plain_state cells (after_effect plain_reading s m site x words (λ v w. v) (λ v w. w) (frame_at place values) [] e)) go
 
 goes : (s : Setting) (m : Module) (site place : ℕ) (values : Name → ℕ) (cells : ℕ → ℕ) (x : Option Name) (words : List ℕ) (e : Effect) (go : PlainState → Stepped PlainState) (after : (Name → ℕ) × World)
     → went e values x ≡ Some after → moved s m site place values cells x words e go ≡ go (state_at (place + 1) after.0 cells after.1)

@@ -5,7 +5,7 @@ use Rattle.std.proofs.lemmas.Bool.{le-leb, lt-leb, cases_lt}
 use Rattle.ms_bits.specs.Maps.{with_range, number_at}
 use Rattle.ms_planes.proofs.Ranges.{range-is, range-in, range-low, range-high}
 use Rattle.ms_ir.specs.Names.{slots}
-use Rattle.ms_ir.specs.Plain.{in_slots}
+use Rattle.ms_runs.specs.Plain.{in_slots}
 use Rattle.ms_straight.specs.Slots.{first_slot, bytes_from}
 
 pub from_place : (kept : ℕ → ℕ) (a : ℕ) → first_slot ≤ a → bytes_from kept a ≡ kept (a - first_slot)

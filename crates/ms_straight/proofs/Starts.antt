@@ -13,16 +13,17 @@ use Rattle.ms_ir.specs.declared.syntax.Op.TheVariants as op
 use Rattle.ms_ir.specs.declared.syntax.Inst.{Inst}
 use Rattle.ms_ir.specs.declared.syntax.GlobalVar.{GlobalVar}
 use Rattle.ms_ir.specs.declared.syntax.Module.{Module}
-use Rattle.ms_ir.specs.declared.runs.Setup.{Setup}
-use Rattle.ms_ir.specs.Names.{is_reserved, lookup, runtime_functions, name_eq}
+use Rattle.ms_runs.specs.declared.runs.Setup.{Setup}
+use Rattle.ms_ir.specs.Names.{is_reserved, lookup, runtime_functions, name_eq, main_name}
 use Rattle.ms_ir.specs.Layout.{Types, size_in}
-use Rattle.ms_ir.specs.World.{World, Fixed}
-use Rattle.ms_ir.specs.Memory.{make, next_base}
-use Rattle.ms_ir.specs.Globals.{make_globals, write_init, address_of}
+use Rattle.ms_runs.specs.World.{World}
+use Rattle.ms_ir.specs.Areas.{Fixed}
+use Rattle.ms_runs.specs.Memory.{make, next_base}
+use Rattle.ms_runs.specs.Globals.{make_globals, write_init, address_of}
 use Rattle.ms_ir.specs.Code.{operands, insts_at, func_index, roots_in, over_insts, over_funcs, one_unmarked, site_at, count_roots}
-use Rattle.ms_ir.specs.Control.{func_name, main_name}
-use Rattle.ms_ir.specs.Plain.{plain, plain_step, run, setting, start_world}
-use Rattle.ms_host.specs.Shows.{first_world}
+use Rattle.ms_runs.specs.Control.{func_name}
+use Rattle.ms_runs.specs.Plain.{plain, plain_step, run, setting_of, start_world}
+use Rattle.ms_straight.specs.Shows.{first_world}
 use Rattle.ms_straight.specs.Straight.{IsResultName, IsResult, IsOperand, AreArguments, AreArgumentsOf, IsCommon, IsMarked, IsReturned, IsUnmarked, IsOp, IsStraightInst, IsStraight}
 use Rattle.ms_straight.proofs.Holding.{AreOperands}
 use Rattle.ms_straight.proofs.Remaining.{remaining, run_remaining, state_at}
@@ -158,10 +159,10 @@ none_made types address (g ∷ gs) world h =
     make_globals types address gs (write_init types address (next_base Fixed world) g.ty g.init (make Fixed (size_in types g.ty) world))) (h 0 g (omega arith))
     ∙ none_made types address gs world (λ k d lt. h (suc k) d (omega arith))
 
-pub starts : (m : Module) (u : Setup) → IsStraight m → plain m u ≡ remaining (setting m u) m (insts_at m 0 0) u.steps 0 (λ x. 0) (λ a. 0) (first_world u.input)
+pub starts : (m : Module) (u : Setup) → IsStraight m → plain m u ≡ remaining (setting_of m u) m (insts_at m 0 0) u.steps 0 (λ x. 0) (λ a. 0) (first_world u.input)
 starts m u p =
-    (λ i. run (λ c. c.world) (plain_step (setting m u) m) u.steps (state i))
-    ∙ run_remaining (setting m u) m (insts_at m 0 0) u.steps 0 (λ x. 0) (λ a. 0) (first_world u.input) refl
+    (λ i. run (λ c. c.world) (plain_step (setting_of m u) m) u.steps (state i))
+    ∙ run_remaining (setting_of m u) m (insts_at m 0 0) u.steps 0 (λ x. 0) (λ a. 0) (first_world u.input) refl
   where
     first : unwrap_or (func_index m.funcs main_name) 0 ≡ 0
     first = ap (λ fs. unwrap_or (func_index fs main_name) 0) p.funcs_are

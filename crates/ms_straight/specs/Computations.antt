@@ -6,8 +6,8 @@ use Rattle.ms_bits.specs.Conversions.{Allows, compare_of, cast_of, select_of}
 use Rattle.ms_ir.specs.declared.syntax.Op.{Op}
 use Rattle.ms_ir.specs.declared.syntax.Op.TheVariants as op
 use Rattle.ms_ir.specs.Layout.{width_of}
-use Rattle.ms_ir.specs.World.{word}
-use Rattle.ms_ir.specs.Act.{truth}
+use Rattle.ms_runs.specs.World.{word}
+use Rattle.ms_runs.specs.Act.{truth}
 use Rattle.ms_straight.specs.Straight.{IsOperand, IsWordType}
 
 -- what it computes, or its trap; of other instructions nothing is said

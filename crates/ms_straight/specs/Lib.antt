@@ -4,3 +4,5 @@ pub mod Operands
 pub mod Slots
 pub mod Computations
 pub mod Machine
+pub mod State
+pub mod Shows

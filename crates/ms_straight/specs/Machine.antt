@@ -5,16 +5,16 @@ use Rattle.ms_ir.specs.declared.syntax.Name.TheVariants as name
 use Rattle.ms_ir.specs.declared.syntax.Operand.{Operand}
 use Rattle.ms_ir.specs.declared.syntax.Ty.{Ty}
 use Rattle.ms_ir.specs.declared.syntax.Inst.{Inst}
-use Rattle.ms_ir.specs.declared.runs.End.{End}
+use Rattle.ms_runs.specs.declared.runs.End.{End}
 use Rattle.ms_ir.specs.Layout.{width_of}
-use Rattle.ms_ir.specs.World.{World, Setting, Here, Effect, Gives, Does, Ends, stuck}
-use Rattle.ms_ir.specs.Runtime.{runtime}
+use Rattle.ms_runs.specs.World.{World, Setting, Here, Effect, Gives, Does, Ends, stuck}
+use Rattle.ms_runs.specs.Runtime.{runtime}
 use Rattle.ms_ir.specs.declared.calls.RuntimeFn.{RuntimeFn}
-use Rattle.ms_ir.specs.Act.{act}
-use Rattle.ms_ir.specs.Plain.{act_marked, slots_after}
-use Rattle.ms_ir.specs.Control.{with_value}
-use Rattle.ms_host.specs.State.{HostState}
-use Rattle.ms_host.specs.Shows.{Shows, Suits}
+use Rattle.ms_runs.specs.Act.{act}
+use Rattle.ms_runs.specs.Plain.{act_marked, slots_after}
+use Rattle.ms_runs.specs.Control.{with_value}
+use Rattle.ms_straight.specs.State.{HostState}
+use Rattle.ms_straight.specs.Shows.{Shows, Suits}
 use Rattle.ms_straight.specs.declared.outcome.Outcome.{Outcome}
 use Rattle.ms_straight.specs.declared.outcome.Outcome.TheVariants as outcome
 use Rattle.ms_straight.specs.declared.results.Results.{Results}

@@ -14,7 +14,7 @@ use Rattle.ms_ir.specs.declared.syntax.Inst.{Inst}
 use Rattle.ms_ir.specs.declared.syntax.Module.{Module}
 use Rattle.ms_ir.specs.Names.{is_reserved, lookup, runtime_functions}
 use Rattle.ms_ir.specs.Layout.{width_of}
-use Rattle.ms_ir.specs.First.{main_module}
+use Rattle.ms_runs.specs.First.{main_module}
 
 -- the text of the name of the inserted result with a number
 abbrev pub inserted_text : ℕ → List ℕ

@@ -1,11 +1,11 @@
 //! Marked calls of runtime functions.
-ghost use Rattle.std.specs.Prelude.{◌≡◌, ◌≤◌, ◌<◌, ◌^◌, ℕ, length, drop, get_or, slice_get, IfOk, IfSome, Some};
+ghost use Rattle.std.specs.Prelude.{◌≡◌, ◌≤◌, ◌<◌, ◌^◌, ℕ, length, get_or, slice_get, IfOk, IfSome, Some};
 ghost use Rattle.ms_ir.specs.declared.syntax.Ty.{Int};
 ghost use Rattle.ms_ir.specs.Names.{lookup, runtime_functions};
-ghost use Rattle.ms_ir.specs.World.{World, Setting};
-ghost use Rattle.ms_ir.specs.Runtime.{runtime};
-ghost use Rattle.ms_host.specs.State.{KeepsSetting};
-ghost use Rattle.ms_host.specs.Shows.{Shows, Suits};
+ghost use Rattle.ms_runs.specs.World.{World, Setting};
+ghost use Rattle.ms_runs.specs.Runtime.{runtime};
+ghost use Rattle.ms_straight.specs.State.{KeepsSetting};
+ghost use Rattle.ms_straight.specs.Shows.{Shows, Suits};
 ghost use Rattle.ms_straight.specs.Straight.{IsOperand, IsWordType, AreArgumentsOf};
 ghost use Rattle.ms_straight.specs.Machine.{Came, argument_words, called};
 
@@ -15,59 +15,6 @@ use crate::outcome::Outcome;
 use crate::results::Results;
 use ms_bits::NoMemory;
 use ms_ir::{Name, Operand, RuntimeFn, Ty};
-
-// The runtime function with a name, if there is one.
-fn runtime_function(name: &Name) -> Option<RuntimeFn>
-    ensures { result ≡ lookup runtime_functions name.now }
-{
-    let Name::Text(text) = name else {
-        return None;
-    };
-    let text = text.as_slice();
-    if b"__msan_check".as_slice() == text {
-        Some(RuntimeFn::Check)
-    } else if b"__msan_check_memory".as_slice() == text {
-        Some(RuntimeFn::CheckMemory)
-    } else if b"__msan_check_string".as_slice() == text {
-        Some(RuntimeFn::CheckString)
-    } else if b"__msan_blind".as_slice() == text {
-        Some(RuntimeFn::Blind)
-    } else {
-        shadow_function(text)
-    }
-}
-
-// The same among the functions that don't check, by the name's text.
-fn shadow_function(text: &[u8]) -> Option<RuntimeFn>
-    ensures { result ≡ lookup (drop 4 runtime_functions) (Name.Text text.now) }
-{
-    if b"__msan_poison".as_slice() == text {
-        Some(RuntimeFn::Poison)
-    } else if b"__msan_unpoison".as_slice() == text {
-        Some(RuntimeFn::Unpoison)
-    } else if b"__msan_copy".as_slice() == text {
-        Some(RuntimeFn::Copy)
-    } else if b"__msan_fill".as_slice() == text {
-        Some(RuntimeFn::Fill)
-    } else {
-        origin_function(text)
-    }
-}
-
-// The same among the last functions of the table.
-fn origin_function(text: &[u8]) -> Option<RuntimeFn>
-    ensures { result ≡ lookup (drop 8 runtime_functions) (Name.Text text.now) }
-{
-    if b"__msan_store_origin".as_slice() == text {
-        Some(RuntimeFn::StoreOrigin)
-    } else if b"__msan_load_origin".as_slice() == text {
-        Some(RuntimeFn::LoadOrigin)
-    } else if b"__msan_size".as_slice() == text {
-        Some(RuntimeFn::Size)
-    } else {
-        None
-    }
-}
 
 /// The word of an argument, 0 if there is none at this place.
 fn argument(fill: &[u8], results: &Results, args: &[(Ty, Operand)], place: usize) -> u64
@@ -173,7 +120,7 @@ impl Machine {
         ensures setting { KeepsSetting self.old.host self.new.host }
         ensures came { (setting : Setting) (world : World) → Suits self.old.host setting → Shows self.old.host world → IfOk result (λ o. Came (called setting (lookup runtime_functions callee.now) (argument_words fill.now self.old.results args.now) world) o self.new.host) }
     {
-        match runtime_function(callee) {
+        match RuntimeFn::named(callee) {
             Some(RuntimeFn::Check) => {
                 let outcome = self.check(fill, args)?;
                 Ok(outcome)

@@ -2,7 +2,7 @@
 ghost use Rattle.std.specs.Prelude.{◌≡◌, ◌≤◌, ◌<◌, length};
 ghost use Rattle.ms_bits.specs.Arithmetic.{binary_of};
 ghost use Rattle.ms_bits.specs.Conversions.{Allows, compare_of, cast_of, select_of};
-ghost use Rattle.ms_ir.specs.Act.{truth};
+ghost use Rattle.ms_runs.specs.Act.{truth};
 ghost use Rattle.ms_ir.specs.Layout.{width_of};
 ghost use Rattle.ms_straight.specs.Straight.{IsOperand, IsWordType};
 ghost use Rattle.ms_straight.specs.Operands.{word_of, words_of};

@@ -3,6 +3,7 @@
 
 mod calls;
 mod computations;
+mod host;
 mod machine;
 mod memory;
 mod operands;
@@ -11,7 +12,6 @@ mod results;
 mod roots;
 mod runs;
 mod slots;
-#[cfg(test)]
-mod tests;
 
+pub use host::Host;
 pub use runs::run;

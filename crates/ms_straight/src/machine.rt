@@ -1,23 +1,24 @@
 //! The state of a run, and single instructions.
 ghost use Rattle.std.specs.Prelude.{◌≡◌, ◌≤◌, ◌<◌, ◌^◌, ℕ, length, true, IfOk, OnOk, Some, None, if◌then◌else◌};
-ghost use Rattle.ms_ir.specs.World.{World, Setting, Here, word as word_at, result as result_of};
-ghost use Rattle.ms_ir.specs.Act.{act, gives};
-ghost use Rattle.ms_ir.specs.Plain.{act_marked, slots_after};
-ghost use Rattle.ms_host.specs.State.{KeepsSetting};
-ghost use Rattle.ms_host.specs.Shows.{Shows};
+ghost use Rattle.ms_runs.specs.World.{World, Setting, Here, word as word_at, result as result_of};
+ghost use Rattle.ms_runs.specs.Act.{act, gives};
+ghost use Rattle.ms_runs.specs.Plain.{act_marked, slots_after};
+ghost use Rattle.ms_straight.specs.State.{KeepsSetting};
+ghost use Rattle.ms_straight.specs.Shows.{Shows};
 ghost use Rattle.ms_straight.specs.Straight.{IsStraightInst, IsOp, IsMarked, IsUnmarked, IsResult, IsReturned};
 ghost use Rattle.ms_straight.specs.Operands.{words_of};
 ghost use Rattle.ms_straight.specs.Slots.{cells_of};
 ghost use Rattle.ms_straight.specs.Computations.{computed_of, IsComputed};
 
+use crate::Host;
 use crate::computations::computed;
 use crate::operands::word;
 use crate::outcome::{Outcome, trap};
 use crate::results::Results;
 use crate::slots::Slots;
 use ms_bits::NoMemory;
-use ms_host::Host;
-use ms_ir::{End, Inst, Name, Op, Operand, RunResult, Ty};
+use ms_ir::{Inst, Name, Op, Operand, Ty};
+use ms_runs::{End, RunResult};
 
 /// The state of a run between two instructions.
 #[derive(Drop)]

@@ -3,11 +3,11 @@ ghost use Rattle.std.specs.Prelude.{◌≡◌, ◌≤◌, ◌<◌, ◌^◌, ℕ,
 ghost use Rattle.ms_bits.specs.Maps.{with_range, byte_of};
 ghost use Rattle.ms_ir.specs.Layout.{width_of, stored_size};
 ghost use Rattle.ms_ir.specs.Names.{slots as all_slots};
-ghost use Rattle.ms_ir.specs.World.{World, Setting};
-ghost use Rattle.ms_ir.specs.Act.{load as load_of, store as store_of, alloca as alloca_of};
-ghost use Rattle.ms_ir.specs.Plain.{load_marked as load_marked_of, store_marked as store_marked_of, in_slots};
-ghost use Rattle.ms_host.specs.State.{KeepsSetting};
-ghost use Rattle.ms_host.specs.Shows.{Shows};
+ghost use Rattle.ms_runs.specs.World.{World, Setting};
+ghost use Rattle.ms_runs.specs.Act.{load as load_of, store as store_of, alloca as alloca_of};
+ghost use Rattle.ms_runs.specs.Plain.{load_marked as load_marked_of, store_marked as store_marked_of, in_slots};
+ghost use Rattle.ms_straight.specs.State.{KeepsSetting};
+ghost use Rattle.ms_straight.specs.Shows.{Shows};
 ghost use Rattle.ms_straight.specs.Straight.{IsOperand, IsWordType};
 ghost use Rattle.ms_straight.specs.Operands.{word_of};
 ghost use Rattle.ms_straight.specs.Slots.{cells_of};

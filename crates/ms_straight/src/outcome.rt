@@ -2,7 +2,7 @@
 ghost use Rattle.std.specs.Prelude.{◌≡◌};
 
 use ms_bits::Trap;
-use ms_ir::End;
+use ms_runs::End;
 
 /// What an instruction comes to.
 #[derive(Clone, Copy, Debug, PartialEq, Eq)]

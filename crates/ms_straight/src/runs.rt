@@ -1,17 +1,18 @@
 //! Whole runs.
 ghost use Rattle.std.specs.Prelude.{◌≡◌, IfOk, if◌then◌else◌};
 ghost use Rattle.ms_ir.specs.Code.{insts_at, one_unmarked};
-ghost use Rattle.ms_ir.specs.Limits.{WithinLimits};
-ghost use Rattle.ms_ir.specs.Plain.{plain};
+ghost use Rattle.ms_runs.specs.Limits.{WithinLimits};
+ghost use Rattle.ms_runs.specs.Plain.{plain};
 ghost use Rattle.ms_straight.specs.Straight.{IsStraight};
 
+use crate::Host;
 use crate::machine::Machine;
 use crate::results::Results;
 use crate::roots::count_roots;
 use crate::slots::Slots;
 use ms_bits::{NoMemory, Trap};
-use ms_host::Host;
-use ms_ir::{End, Inst, Module, RunResult, Setup};
+use ms_ir::{Inst, Module};
+use ms_runs::{End, RunResult, Setup};
 use std::alloc::Global;
 
 // The instructions of the first block of the first function.

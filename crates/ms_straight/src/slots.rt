@@ -2,7 +2,7 @@
 ghost use Rattle.std.specs.Prelude.{◌≡◌, ◌≤◌, ◌+◌, ◌<◌, ◌^◌, ◌&&◌, ℕ, leb, length, IfOk, IsTrue};
 ghost use Rattle.ms_bits.specs.Maps.{number_at, with_range, byte_of};
 ghost use Rattle.ms_ir.specs.Names.{slots};
-ghost use Rattle.ms_ir.specs.Plain.{in_slots};
+ghost use Rattle.ms_runs.specs.Plain.{in_slots};
 ghost use Rattle.ms_planes.specs.Areas.{held};
 
 use ms_bits::NoMemory;

@@ -7,7 +7,7 @@ use Rattle.ms_ir.specs.declared.syntax.Block.{Block}
 use Rattle.ms_ir.specs.declared.syntax.Func.{Func}
 use Rattle.ms_ir.specs.declared.syntax.Module.{Module}
 use Rattle.ms_ir.specs.Code.{one_unmarked, over_insts, over_blocks, over_funcs, func_at, blocks_at, insts_at, site_at}
-use Rattle.ms_valid.specs.Places.{Spot, spot, next_spot, over_spots, over_block_spots, over_func_spots, found}
+use Rattle.ms_ir.specs.Spots.{Spot, spot, next_spot, over_spots, over_block_spots, over_func_spots, found}
 
 -- two lists that together have nothing have nothing
 pub both_empty : {A : Type 0} (xs ys : List A) → xs ++ ys ≡ [] → (xs ≡ []) × (ys ≡ [])

@@ -1,47 +1,32 @@
 -- A use is defined in a function exactly where it is in the function's graph.
 use Rattle.std.proofs.Common.{◌≡◌, ℕ, zero, suc, List, [], ◌∷◌, ◌++◌, Bool, true, false, refl, sym, ap, subst, ◌∙◌, arith, inl, inr, ⊎_elim}
-use Rattle.std.specs.Prelude.{◌<◌, ◌||◌, Contains, length, take, map, if◌then◌else◌, slice_index_or, slice_get, Option, Some, None, option_map, unwrap_or}
+use Rattle.std.specs.Prelude.{◌||◌, Contains, take, map, slice_index_or, slice_get, Option, Some, None, option_map, unwrap_or}
 use Rattle.std.specs.List.{cons_option}
+use Rattle.std.proofs.lemmas.List.Folds.{list_any-append}
 use Rattle.ms_flow.specs.Paths as flow
 use Rattle.ms_ir.specs.declared.syntax.Name.{Name}
 use Rattle.ms_ir.specs.declared.syntax.Inst.{Inst}
 use Rattle.ms_ir.specs.declared.syntax.Block.{Block}
 use Rattle.ms_ir.specs.declared.syntax.Func.{Func}
 use Rattle.ms_ir.specs.Names.{name_eq}
-use Rattle.ms_valid.specs.Equal.{has_name}
-use Rattle.ms_valid.specs.Locals.{results, parameter_names, locals}
-use Rattle.ms_valid.specs.Paths.{ValueUse, insts_of, block_results, Leads, Path, Passes, IsDefined}
-use Rattle.ms_valid.specs.FlowGraph.{name_place, value_number, block_numbers, graph_of, flow_use}
-use Rattle.ms_valid.proofs.NameTests.{name_sound, name_within, within_name}
+use Rattle.ms_ir.specs.Equal.{has_name}
+use Rattle.ms_ir.specs.Locals.{results, parameter_names, locals}
+use Rattle.ms_valid.specs.Paths.{ValueUse, insts_of, block_results, Leads, Path, Passes, IsDefined, Misses}
+use Rattle.ms_valid.specs.FlowGraph.{value_names, value_number, block_numbers, graph_of, flow_use}
+use Rattle.ms_valid.proofs.NamePlaces.{same_place}
+use Rattle.ms_valid.proofs.NameTests.{name_within, within_name}
+use Rattle.ms_valid.proofs.StandsAfter.{stands_behind, after_tells}
 
--- ---- numbers of names
+-- ---- names
 
--- a name that a list has stands at a place of it
-place_below : (names : List Name) (x : Name) → has_name names x ≡ true → name_place names x < length names
-place_below [] x e = grind arith
-place_below (y ∷ rest) x e = by_test (name_eq y x) e (place_below rest x)
+-- a name that a function has is that of a parameter, or of a block or result
+value_known : (f : Func) (x : Name) → ¬ Contains (parameter_names f) x → Contains (locals f) x → Contains (value_names f) x
+value_known f x own known =
+    by_test (has_name (parameter_names f) x) refl (sym (list_any-append (λ y. name_eq y x) (parameter_names f) (value_names f)) ∙ within_name (locals f) x known)
   where
-    by_test : (t : Bool) → (t || has_name rest x) ≡ true → (has_name rest x ≡ true → name_place rest x < length rest)
-        → (if t then 0 else suc (name_place rest x)) < suc (length rest)
-    by_test true e later = omega arith
-    by_test false e later = omega (arith, later e)
-
--- what stands at the place of a name is the name
-at_place : (names : List Name) (x d : Name) → name_place names x < length names → slice_index_or names (name_place names x) d ≡ x
-at_place [] x d l = grind arith
-at_place (y ∷ rest) x d l = by_test (name_eq y x) refl l (at_place rest x d)
-  where
-    by_test : (t : Bool) → name_eq y x ≡ t → (if t then 0 else suc (name_place rest x)) < suc (length rest)
-        → (name_place rest x < length rest → slice_index_or rest (name_place rest x) d ≡ x)
-        → slice_index_or (y ∷ rest) (if t then 0 else suc (name_place rest x)) d ≡ x
-    by_test true e l later = name_sound y x e
-    by_test false e l later = later (omega arith)
-
--- a name with the place of one in the list is this one
-same_place : (names : List Name) (x y : Name) → Contains names x → name_place names y ≡ name_place names x → y ≡ x
-same_place names x y h e =
-    let below : name_place names x < length names = place_below names x (within_name names x h) in
-    sym (at_place names y x (omega (arith, below, e))) ∙ ap (λ k. slice_index_or names k x) e ∙ at_place names x x below
+    by_test : (t : Bool) → has_name (parameter_names f) x ≡ t → (t || has_name (value_names f) x) ≡ true → Contains (value_names f) x
+    by_test true e h = absurd (own (name_within (parameter_names f) x e))
+    by_test false e h = name_within (value_names f) x h
 
 -- ---- lists of numbers
 
@@ -69,9 +54,9 @@ numbers_at f (k ∷ rest) (suc b) = numbers_at f rest b
 defines : (f : Func) (x : Name) (b : ℕ) → Contains (block_results f b) x → flow.Defines (graph_of f) b (value_number f x)
 defines f x b h = subst (λ l. Contains l (value_number f x)) (sym (numbers_at f f.blocks b)) (numbered (value_number f) x (block_results f b) h)
 
-defined : (f : Func) (x : Name) (b : ℕ) → Contains (locals f) x → flow.Defines (graph_of f) b (value_number f x) → Contains (block_results f b) x
+defined : (f : Func) (x : Name) (b : ℕ) → Contains (value_names f) x → flow.Defines (graph_of f) b (value_number f x) → Contains (block_results f b) x
 defined f x b known h =
-    named (value_number f) x (λ y e. same_place (locals f) x y known e) (block_results f b)
+    named (value_number f) x (λ y e. same_place (value_names f) x y (within_name (value_names f) x known) e) (block_results f b)
     (subst (λ l. Contains l (value_number f x)) (numbers_at f f.blocks b) h)
 
 -- ---- paths
@@ -116,16 +101,26 @@ passes_there : (f : Func) (u : ValueUse) (before : List ℕ) → Passes f before
 passes_there f u before h = ⊎_elim
     (λ d. inl (d.0, d.1, d.2, d.3, defines f u.name d.1 d.4))
     (λ d. let here = within_name (results (take u.place (insts_of f u.block))) u.name d in
-    inr (here, defines f u.name u.block (name_within (block_results f u.block) u.name (first_results u.name (insts_of f u.block) u.place here)))) h
+    inr (stands_behind f u d, defines f u.name u.block (name_within (block_results f u.block) u.name (first_results u.name (insts_of f u.block) u.place here)))) h
 
-passes_here : (f : Func) (u : ValueUse) (before : List ℕ) → Contains (locals f) u.name → flow.Passes (graph_of f) before (flow_use f u) → Passes f before u
+passes_here : (f : Func) (u : ValueUse) (before : List ℕ) → Contains (value_names f) u.name → flow.Passes (graph_of f) before (flow_use f u) → Passes f before u
 passes_here f u before known h = ⊎_elim
     (λ d. inl (d.0, d.1, d.2, d.3, defined f u.name d.1 known d.4))
-    (λ d. inr (name_within (results (take u.place (insts_of f u.block))) u.name d.0)) h
+    (λ d. inr (after_tells f u d.0 (defined f u.name u.block known d.1))) h
 
 -- a use of a value that is no parameter is defined in the function exactly where it is in the graph
 pub defined_there : (f : Func) (u : ValueUse) → ¬ Contains (parameter_names f) u.name → IsDefined f u → flow.IsDefined (graph_of f) (flow_use f u)
 defined_there f u own d before p = ⊎_elim (λ h. absurd (own h)) (λ h. passes_there f u before (h before (func_path f (before ++ u.block ∷ []) p))) d
 
-pub defined_here : (f : Func) (u : ValueUse) → Contains (locals f) u.name → flow.IsDefined (graph_of f) (flow_use f u) → IsDefined f u
-defined_here f u known d = inr (λ before p. passes_here f u before known (d before (graph_path f (before ++ u.block ∷ []) p)))
+pub defined_here : (f : Func) (u : ValueUse) → Contains (locals f) u.name → ¬ Contains (parameter_names f) u.name → flow.IsDefined (graph_of f) (flow_use f u) → IsDefined f u
+defined_here f u known own d = inr (λ before p. passes_here f u before (value_known f u.name own known) (d before (graph_path f (before ++ u.block ∷ []) p)))
+
+-- a path that misses a definition in the graph misses one in the function
+pub missed_here : (f : Func) (u : ValueUse) (path : List ℕ) → ¬ Contains (parameter_names f) u.name → flow.Misses (graph_of f) (flow_use f u) path → Misses f u path
+missed_here f u path own h = record {
+  own = own;
+  before = h.before;
+  ends = h.ends;
+  leads = func_path f path h.leads;
+  avoids = λ p. h.avoids (passes_there f u h.before p);
+}

@@ -1,4 +1,6 @@
 pub mod NameTests
+pub mod NamePlaces
+pub mod StandsAfter
 pub mod TestedPaths
 pub mod FlowPaths
 pub mod TypeShapes
@@ -8,13 +10,5 @@ pub mod Refused
 pub mod SetValues
 pub mod Joining
 pub mod ByParts
-pub mod Starts
 pub mod TypedValues
-pub mod NextFrames
-pub mod JumpFrames
-pub mod Moves
-pub mod Readings
 pub mod SmallNumbers
-pub mod Walks
-pub mod DuePlaces
-pub mod PoisonedPlaces

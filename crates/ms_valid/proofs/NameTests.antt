@@ -8,7 +8,7 @@ use Rattle.std.proofs.lemmas.List.Folds.{Any-from_list_any, list_any_at}
 use Rattle.ms_ir.specs.declared.syntax.Name.{Name}
 use Rattle.ms_ir.specs.declared.syntax.Name.TheVariants.{Number, Text}
 use Rattle.ms_ir.specs.Names.{name_eq}
-use Rattle.ms_valid.specs.Equal.{has_name}
+use Rattle.ms_ir.specs.Equal.{has_name}
 
 bytes_same : (x : List ℕ) → pointwise nat_eq x x ≡ true
 bytes_same [] = refl

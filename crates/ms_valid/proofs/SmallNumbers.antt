@@ -8,11 +8,11 @@ use Rattle.ms_ir.specs.declared.syntax.Block.{Block}
 use Rattle.ms_ir.specs.declared.syntax.Func.{Func}
 use Rattle.ms_ir.specs.declared.syntax.Module.{Module}
 use Rattle.ms_ir.specs.Code.{blocks_at, one_unmarked, over_insts, over_blocks, over_funcs}
-use Rattle.ms_layout.specs.Places.{HasSmallNumbers}
+use Rattle.ms_ir.specs.Places.{HasSmallNumbers}
 use Rattle.ms_valid.specs.FormedNames.{is_local_name, is_global_name, are_numbered}
 use Rattle.ms_valid.specs.FormedCode.{is_value_type, result_formed, inst_formed, is_body}
 use Rattle.ms_valid.specs.Formed.{Formed, count_written, block_formed, func_formed}
-use Rattle.ms_valid.specs.Locals.{locals}
+use Rattle.ms_ir.specs.Locals.{locals}
 
 one_at_most : (b : Bool) (n : ℕ) → (if b then 0 else 1) ≤ suc n
 one_at_most true n = omega arith

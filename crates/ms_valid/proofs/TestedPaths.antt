@@ -9,8 +9,8 @@ use Rattle.std.proofs.lemmas.List.Elements.{All-nil, All-cons}
 use Rattle.ms_ir.specs.declared.syntax.Name.{Name}
 use Rattle.ms_ir.specs.declared.syntax.Func.{Func}
 use Rattle.ms_ir.specs.declared.syntax.Module.{Module}
-use Rattle.ms_valid.specs.Equal.{has_name}
-use Rattle.ms_valid.specs.Locals.{results, parameter_names}
+use Rattle.ms_ir.specs.Equal.{has_name}
+use Rattle.ms_ir.specs.Locals.{results, parameter_names}
 use Rattle.ms_valid.specs.Paths.{ValueUse, insts_of, successors, block_results, Leads, Path, Passes}
 use Rattle.ms_valid.specs.UsesDefined.{SiteUse, IsUseDefined, uses, UsesDefined}
 use Rattle.ms_valid.specs.PathTest.{has_number, goes_on, is_closed, is_outside, passes, undefined_uses, arrives_within}

@@ -11,8 +11,8 @@ use Rattle.ms_ir.specs.declared.syntax.Init.{Init, Row_of-Init-Array-0-2, end_of
 use Rattle.ms_ir.specs.declared.syntax.Init as initial
 use Rattle.ms_ir.specs.declared.syntax.Init.TheBlock.{hidden-the_row-Init-Array-0-2-0}
 use Rattle.ms_ir.specs.Layout.{Types, resolved}
-use Rattle.ms_valid.specs.Equal.{type_eq, row_eq, types_eq}
-use Rattle.ms_valid.specs.Written.{type_mentions, row_mentions, type_parts, row_parts, init_mentions, items_mentions, init_types, items_types}
+use Rattle.ms_ir.specs.Equal.{type_eq, row_eq, types_eq}
+use Rattle.ms_ir.specs.Written.{type_mentions, row_mentions, type_parts, row_parts, init_mentions, items_mentions, init_types, items_types}
 use Rattle.ms_valid.specs.Initialisers.{count_items, item_types, field_types, init_fits, items_fit}
 use Rattle.ms_valid.specs.FormedCode.{type_formed, row_formed, init_formed, items_formed}
 

@@ -12,9 +12,9 @@ use Rattle.ms_ir.specs.declared.syntax.Block.{Block}
 use Rattle.ms_ir.specs.declared.syntax.Func.{Func}
 use Rattle.ms_ir.specs.declared.syntax.Module.{Module}
 use Rattle.ms_ir.specs.Names.{name_eq, lookup}
-use Rattle.ms_valid.specs.Equal.{has_name}
-use Rattle.ms_valid.specs.Written.{result_type}
-use Rattle.ms_valid.specs.Locals.{results, block_locals, parameter_names, locals, func_insts, typed_result, value_type, global_names, declared_names, type_names}
+use Rattle.ms_ir.specs.Equal.{has_name}
+use Rattle.ms_ir.specs.Written.{result_type}
+use Rattle.ms_ir.specs.Locals.{results, block_locals, parameter_names, locals, func_insts, typed_result, value_type, global_names, declared_names, type_names}
 use Rattle.ms_ir.specs.Code.{func_at}
 use Rattle.ms_valid.specs.Valid.{Valid}
 use Rattle.ms_valid.specs.NamesOnce.{repeats, percent_sign, at_sign, function_duplicates}

@@ -13,7 +13,7 @@ use Rattle.ms_ir.specs.declared.syntax.Func.{Func}
 use Rattle.ms_ir.specs.declared.syntax.Module.{Module}
 use Rattle.ms_ir.specs.Names.{name_eq}
 use Rattle.ms_ir.specs.Code.{operands, func_index, external_named}
-use Rattle.ms_valid.specs.Locals.{func_insts}
+use Rattle.ms_ir.specs.Locals.{func_insts}
 
 -- an operand is clean, where it is said which values are: a constant is, and an undefined one isn't
 abbrev pub is_clean_operand : (Name → Bool) → Operand → Bool

@@ -18,10 +18,10 @@ use Rattle.ms_ir.specs.declared.calls.External.{External}
 use Rattle.ms_ir.specs.declared.calls.External.TheVariants as external
 use Rattle.ms_ir.specs.Names.{name_eq, lookup, externals, runtime_functions, is_reserved}
 use Rattle.ms_ir.specs.Code.{func_index, external_named}
-use Rattle.ms_valid.specs.Equal.{has_name, type_eq}
-use Rattle.ms_valid.specs.Locals.{func_insts}
-use Rattle.ms_valid.specs.Places.{found}
-use Rattle.ms_valid.specs.Signatures.{decl_signature, signature_eq, external_signature, runtime_signature, slot_globals}
+use Rattle.ms_ir.specs.Equal.{has_name, type_eq}
+use Rattle.ms_ir.specs.Locals.{func_insts}
+use Rattle.ms_ir.specs.Spots.{found}
+use Rattle.ms_ir.specs.Signatures.{decl_signature, signature_eq, external_signature, runtime_signature, slot_globals}
 
 -- a name, unless something holds
 abbrev pub name_unless : Bool → Name → List Name

@@ -16,11 +16,10 @@ use Rattle.ms_ir.specs.declared.syntax.Init as initial
 use Rattle.ms_ir.specs.declared.syntax.Op.{Op}
 use Rattle.ms_ir.specs.declared.syntax.Op.TheVariants as op
 use Rattle.ms_ir.specs.declared.syntax.Inst.{Inst}
-use Rattle.ms_ir.specs.Names.{name_eq}
-use Rattle.ms_ir.specs.Code.{operands}
-use Rattle.ms_ir.specs.Control.{main_name}
-use Rattle.ms_ir.specs.First.{no_flags}
-use Rattle.ms_valid.specs.Written.{labels, result_type}
+use Rattle.ms_ir.specs.Names.{name_eq, main_name}
+use Rattle.ms_ir.specs.Code.{operands, is_phi}
+use Rattle.ms_bits.specs.NoFlags.{no_flags}
+use Rattle.ms_ir.specs.Written.{labels, result_type}
 use Rattle.ms_valid.specs.FormedNames.{are_bytes, is_local_name, is_global_name}
 
 -- ---- types
@@ -172,12 +171,7 @@ is_terminator (op.Ret v) = true
 is_terminator op.Unreachable = true
 is_terminator o = false
 
--- a phi
-abbrev pub is_phi : Op → Bool
-is_phi (op.Phi t edges) = true
-is_phi o = false
-
--- instructions that are neither, and then one terminator
+-- instructions that are neither phis nor terminators, and then one terminator
 abbrev pub ends_well : List Inst → Bool
 ends_well [] = false
 ends_well (inst ∷ []) = is_terminator inst.op

@@ -4,8 +4,7 @@ use Rattle.std.specs.Prelude.{ℕ, ◌+◌, ◌^◌, Bool, true, false, not, ◌
 use Rattle.std.specs.List.{list_all}
 use Rattle.ms_ir.specs.declared.syntax.Name.{Name}
 use Rattle.ms_ir.specs.declared.syntax.Name.TheVariants.{Number, Text}
-use Rattle.ms_ir.specs.Names.{lookup, runtime_functions, slots, is_reserved}
-use Rattle.ms_valid.specs.MarksFit.{is_inserted_name}
+use Rattle.ms_ir.specs.Names.{lookup, runtime_functions, slots, is_reserved, is_inserted_name}
 
 -- numbers below 256
 abbrev pub are_bytes : List ℕ → Bool

@@ -4,9 +4,8 @@ use Rattle.std.specs.List.{list_any}
 use Rattle.ms_ir.specs.declared.syntax.Ty.{Int}
 use Rattle.ms_ir.specs.declared.syntax.Func.{Func}
 use Rattle.ms_ir.specs.declared.syntax.Module.{Module}
-use Rattle.ms_ir.specs.Names.{name_eq}
-use Rattle.ms_ir.specs.Control.{main_name}
-use Rattle.ms_valid.specs.Equal.{result_type_eq}
+use Rattle.ms_ir.specs.Names.{name_eq, main_name}
+use Rattle.ms_ir.specs.Equal.{result_type_eq}
 
 -- a function is `i32 @main()`
 abbrev pub is_main : Func → Bool

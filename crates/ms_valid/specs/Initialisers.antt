@@ -6,7 +6,7 @@ use Rattle.ms_ir.specs.declared.syntax.Operand.{Operand}
 use Rattle.ms_ir.specs.declared.syntax.Init.{Init, Row_of-Init-Array-0-2, end_of-Init-Array-0-2, more_of-Init-Array-0-2}
 use Rattle.ms_ir.specs.declared.syntax.Init as initial
 use Rattle.ms_ir.specs.Layout.{Types, resolved, row_types, type_at}
-use Rattle.ms_valid.specs.Equal.{type_eq, types_eq, is_undefined}
+use Rattle.ms_ir.specs.Equal.{type_eq, types_eq, is_undefined}
 
 -- the number of items
 abbrev pub count_items : {n : _} → Row_of-Init-Array-0-2 n → ℕ

@@ -1,8 +1,3 @@
-pub mod Equal
-pub mod Written
-pub mod Places
-pub mod Locals
-pub mod Signatures
 pub mod Initialisers
 pub mod NamesOnce
 pub mod NamesKnown
@@ -19,16 +14,10 @@ pub mod FlowGraph
 pub mod Valid
 pub mod ValidAt
 pub mod Refusals
-pub mod Verdict
-pub mod Fills
 pub mod CleanValues
-pub mod GoodStates
-pub mod GoodEffects
 pub mod ExampleFaults
 pub mod FormedNames
 pub mod FormedCode
 pub mod Formed
-pub mod Reached
-pub mod ExampleWalks
 pub mod ReadLimits
 pub mod Uninstrumented

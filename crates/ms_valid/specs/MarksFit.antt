@@ -1,30 +1,18 @@
 -- Marks stand on inserted instructions alone, and no other instruction depends on these (own; a mark is the metadata
 -- `!nosanitize`).
-use Rattle.std.specs.Prelude.{ℕ, Bool, true, false, not, ◌&&◌, ◌||◌, nat_lt, List, [], ◌∷◌, filter, length, take, drop, if◌then◌else◌, Option, Some, None, is_some, codes}
-use Rattle.std.specs.Str.{bytes_eq}
-use Rattle.std.specs.Char.{is_ascii_digit}
-use Rattle.std.specs.List.{list_any, list_all}
+use Rattle.std.specs.Prelude.{ℕ, Bool, true, false, not, ◌&&◌, ◌||◌, List, [], ◌∷◌, filter, if◌then◌else◌, Option, Some, None, is_some}
+use Rattle.std.specs.List.{list_any}
 use Rattle.ms_ir.specs.declared.syntax.Name.{Name}
-use Rattle.ms_ir.specs.declared.syntax.Name.TheVariants.{Number, Text}
 use Rattle.ms_ir.specs.declared.syntax.Op.{Op}
 use Rattle.ms_ir.specs.declared.syntax.Op.TheVariants as op
 use Rattle.ms_ir.specs.declared.syntax.Inst.{Inst}
 use Rattle.ms_ir.specs.declared.syntax.Func.{Func}
 use Rattle.ms_ir.specs.declared.syntax.Module.{Module}
-use Rattle.ms_ir.specs.Names.{lookup, runtime_functions, is_reserved}
-use Rattle.ms_valid.specs.Equal.{has_name}
-use Rattle.ms_valid.specs.Written.{Mention, OfType, OfLocal, OfGlobal, mentions}
-use Rattle.ms_valid.specs.Locals.{results, func_insts}
-use Rattle.ms_valid.specs.Places.{found_at_insts}
-
--- digits, at least one
-abbrev pub is_digits : List ℕ → Bool
-is_digits text = nat_lt 0 (length text) && list_all is_ascii_digit text
-
--- `__msan.K` with a decimal K, the name of an inserted result
-abbrev pub is_inserted_name : Name → Bool
-is_inserted_name (Number n) = false
-is_inserted_name (Text x) = bytes_eq (take 7 x) (codes "__msan.") && is_digits (drop 7 x)
+use Rattle.ms_ir.specs.Names.{lookup, runtime_functions, is_reserved, is_inserted_name}
+use Rattle.ms_ir.specs.Equal.{has_name}
+use Rattle.ms_ir.specs.Written.{Mention, OfType, OfLocal, OfGlobal, mentions}
+use Rattle.ms_ir.specs.Locals.{results, func_insts}
+use Rattle.ms_ir.specs.Spots.{found_at_insts}
 
 -- an instruction may be marked: terminators and `alloca` may not, and a call that may goes to a runtime function
 abbrev pub may_be_marked : Op → Bool

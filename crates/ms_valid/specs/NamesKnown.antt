@@ -3,10 +3,10 @@ use Rattle.std.specs.Prelude.{ℕ, Bool, true, false, List, [], ◌++◌, map, f
 use Rattle.ms_ir.specs.declared.syntax.Name.{Name}
 use Rattle.ms_ir.specs.declared.syntax.GlobalVar.{GlobalVar}
 use Rattle.ms_ir.specs.declared.syntax.Module.{Module}
-use Rattle.ms_valid.specs.Equal.{has_name}
-use Rattle.ms_valid.specs.Written.{Mention, OfType, OfLocal, OfGlobal, type_mentions, init_mentions, mentions}
-use Rattle.ms_valid.specs.Places.{found_at_insts}
-use Rattle.ms_valid.specs.Locals.{locals, symbols, type_names, Spelled}
+use Rattle.ms_ir.specs.Equal.{has_name}
+use Rattle.ms_ir.specs.Written.{Mention, OfType, OfLocal, OfGlobal, type_mentions, init_mentions, mentions}
+use Rattle.ms_ir.specs.Spots.{found_at_insts}
+use Rattle.ms_ir.specs.Locals.{locals, symbols, type_names, Spelled}
 
 -- a name is defined, where the locals are given
 abbrev pub knows : Module → List Name → Mention → Bool

@@ -3,8 +3,8 @@ use Rattle.std.specs.Prelude.{true, false, List, [], ◌∷◌, ◌++◌, map, i
 use Rattle.ms_ir.specs.declared.syntax.Name.{Name}
 use Rattle.ms_ir.specs.declared.syntax.Func.{Func}
 use Rattle.ms_ir.specs.declared.syntax.Module.{Module}
-use Rattle.ms_valid.specs.Equal.{has_name}
-use Rattle.ms_valid.specs.Locals.{locals, global_names, declared_names, type_names, Spelled}
+use Rattle.ms_ir.specs.Equal.{has_name}
+use Rattle.ms_ir.specs.Locals.{locals, global_names, declared_names, type_names, Spelled}
 
 -- spelled with `@`
 abbrev pub at_sign : List Name → List Spelled

@@ -4,8 +4,8 @@ use Rattle.std.specs.List.{list_any, list_all}
 use Rattle.ms_ir.specs.declared.syntax.Name.{Name}
 use Rattle.ms_ir.specs.declared.syntax.Func.{Func}
 use Rattle.ms_ir.specs.declared.syntax.Module.{Module}
-use Rattle.ms_valid.specs.Equal.{has_name}
-use Rattle.ms_valid.specs.Locals.{results, parameter_names}
+use Rattle.ms_ir.specs.Equal.{has_name}
+use Rattle.ms_ir.specs.Locals.{results, parameter_names}
 use Rattle.ms_valid.specs.Paths.{ValueUse, insts_of, successors, block_results}
 use Rattle.ms_valid.specs.UsesDefined.{SiteUse, uses}
 

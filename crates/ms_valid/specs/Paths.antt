@@ -6,8 +6,8 @@ use Rattle.ms_ir.specs.declared.syntax.Inst.{Inst}
 use Rattle.ms_ir.specs.declared.syntax.Block.{Block}
 use Rattle.ms_ir.specs.declared.syntax.Func.{Func}
 use Rattle.ms_ir.specs.Code.{block_index}
-use Rattle.ms_valid.specs.Written.{block_targets}
-use Rattle.ms_valid.specs.Locals.{results, parameter_names}
+use Rattle.ms_ir.specs.Written.{block_targets}
+use Rattle.ms_ir.specs.Locals.{results, parameter_names}
 
 -- the instructions of the block with a number
 abbrev pub insts_of : Func → ℕ → List Inst
@@ -57,3 +57,8 @@ pub record Misses (f : Func) (u : ValueUse) (path : List ℕ) : Type 0 where
   pub ends : path ≡ before ++ u.block ∷ []
   pub leads : Path f path
   pub avoids : ¬ Passes f before u
+
+-- who came over the blocks `before` to a place of a block has set the value: a parameter, or a result that was passed
+abbrev pub IsSet : Func → List ℕ → (block place : ℕ) → Name → Type 0
+IsSet f before block place x =
+    Contains (parameter_names f) x ⊎ (Any (λ b. Contains (block_results f b) x) before ⊎ Contains (results (take place (insts_of f block))) x)

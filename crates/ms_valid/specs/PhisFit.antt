@@ -10,10 +10,10 @@ use Rattle.ms_ir.specs.declared.syntax.Block.{Block}
 use Rattle.ms_ir.specs.declared.syntax.Func.{Func}
 use Rattle.ms_ir.specs.declared.syntax.Module.{Module}
 use Rattle.ms_ir.specs.Names.{name_eq}
-use Rattle.ms_valid.specs.Equal.{has_name, operand_eq}
-use Rattle.ms_valid.specs.Written.{targets, block_targets}
-use Rattle.ms_valid.specs.Places.{Spot, found_at_insts}
-use Rattle.ms_valid.specs.Locals.{block_names, block_name_at, entry_name}
+use Rattle.ms_ir.specs.Equal.{has_name, operand_eq}
+use Rattle.ms_ir.specs.Written.{targets, block_targets}
+use Rattle.ms_ir.specs.Spots.{Spot, found_at_insts}
+use Rattle.ms_ir.specs.Locals.{block_names, block_name_at, entry_name}
 
 -- how often a name stands in a list
 abbrev pub count_name : Name → List Name → ℕ

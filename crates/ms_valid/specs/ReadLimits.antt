@@ -14,9 +14,9 @@ use Rattle.ms_ir.specs.declared.syntax.Func.{Func}
 use Rattle.ms_ir.specs.declared.syntax.GlobalVar.{GlobalVar}
 use Rattle.ms_ir.specs.declared.syntax.Module.{Module}
 use Rattle.ms_ir.specs.Code.{operands, over_funcs}
-use Rattle.ms_valid.specs.Written.{Mention, OfType, OfLocal, OfGlobal, type_mentions, mentions, op_types}
+use Rattle.ms_ir.specs.Written.{Mention, OfType, OfLocal, OfGlobal, type_mentions, mentions, op_types}
 use Rattle.ms_valid.specs.NamesKnown.{global_mentions}
-use Rattle.ms_valid.specs.Locals.{locals, symbols, type_names, func_insts}
+use Rattle.ms_ir.specs.Locals.{locals, symbols, type_names, func_insts}
 
 -- ---- nesting
 

@@ -3,7 +3,7 @@
 use Rattle.std.specs.Prelude.{◌≡◌, ◌≢◌, ℕ, List, [], ◌∷◌, ◌++◌, All, AllPairs, IsTrue, Some, slice_get}
 use Rattle.ms_ir.specs.declared.syntax.Name.{Name}
 use Rattle.ms_ir.specs.declared.syntax.Module.{Module}
-use Rattle.ms_valid.specs.Locals.{Spelled}
+use Rattle.ms_ir.specs.Locals.{Spelled}
 use Rattle.ms_valid.specs.NamesOnce.{duplicates}
 use Rattle.ms_valid.specs.NamesKnown.{unknowns}
 use Rattle.ms_valid.specs.TypesAgree.{mismatches}

@@ -8,11 +8,10 @@ use Rattle.ms_ir.specs.declared.syntax.Func.{Func}
 use Rattle.ms_ir.specs.declared.syntax.GlobalVar.{GlobalVar}
 use Rattle.ms_ir.specs.declared.syntax.Module.{Module}
 use Rattle.ms_ir.specs.Names.{is_reserved}
-use Rattle.ms_ir.specs.World.{Fixed}
+use Rattle.ms_ir.specs.Areas.{Fixed, room, area_limit}
 use Rattle.ms_ir.specs.Layout.{Types, size_of, size_in}
-use Rattle.ms_ir.specs.Memory.{room, area_limit}
-use Rattle.ms_valid.specs.Written.{type_parts, init_types, op_types}
-use Rattle.ms_valid.specs.Locals.{func_insts, Spelled}
+use Rattle.ms_ir.specs.Written.{type_parts, init_types, op_types}
+use Rattle.ms_ir.specs.Locals.{func_insts, Spelled}
 
 -- types and all types within them have sizes
 abbrev pub sized : Types → List Ty → Bool

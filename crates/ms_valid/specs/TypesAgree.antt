@@ -18,11 +18,11 @@ use Rattle.ms_ir.specs.declared.syntax.Module.{Module}
 use Rattle.ms_ir.specs.Names.{name_eq}
 use Rattle.ms_ir.specs.Code.{operands}
 use Rattle.ms_ir.specs.Layout.{Types, resolved, part_type, row_types}
-use Rattle.ms_valid.specs.Equal.{has_name, type_eq, result_type_eq}
-use Rattle.ms_valid.specs.Written.{targets}
-use Rattle.ms_valid.specs.Places.{found_at_insts}
-use Rattle.ms_valid.specs.Locals.{value_type, block_names, global_names}
-use Rattle.ms_valid.specs.Signatures.{Signature, signature_of, declared_signature}
+use Rattle.ms_ir.specs.Equal.{has_name, type_eq, result_type_eq}
+use Rattle.ms_ir.specs.Written.{targets}
+use Rattle.ms_ir.specs.Spots.{found_at_insts}
+use Rattle.ms_ir.specs.Locals.{value_type, block_names, global_names}
+use Rattle.ms_ir.specs.Signatures.{Signature, signature_of, declared_signature}
 use Rattle.ms_valid.specs.Initialisers.{init_fits}
 
 -- the first operand, counted from k on, that doesn't fit

@@ -9,7 +9,7 @@ use Rattle.ms_ir.specs.declared.syntax.Op.TheVariants as op
 use Rattle.ms_ir.specs.declared.syntax.Func.{Func}
 use Rattle.ms_ir.specs.declared.syntax.Module.{Module}
 use Rattle.ms_ir.specs.Code.{operands, block_index}
-use Rattle.ms_valid.specs.Places.{Spot, found_at_insts}
+use Rattle.ms_ir.specs.Spots.{Spot, found_at_insts}
 use Rattle.ms_valid.specs.Paths.{ValueUse, insts_of, IsDefined}
 
 -- a use of a value in a function, at a site

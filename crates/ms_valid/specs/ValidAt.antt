@@ -5,9 +5,9 @@ use Rattle.ms_ir.specs.declared.syntax.Func.{Func}
 use Rattle.ms_ir.specs.declared.syntax.Module.{Module}
 use Rattle.ms_ir.specs.Names.{is_reserved}
 use Rattle.ms_ir.specs.Code.{func_at, insts_at, site_at}
-use Rattle.ms_valid.specs.Written.{type_mentions, mentions}
-use Rattle.ms_valid.specs.Places.{Spot, spot}
-use Rattle.ms_valid.specs.Locals.{locals, value_type}
+use Rattle.ms_ir.specs.Written.{type_mentions, mentions}
+use Rattle.ms_ir.specs.Spots.{Spot, spot}
+use Rattle.ms_ir.specs.Locals.{locals, value_type}
 use Rattle.ms_valid.specs.NamesOnce.{duplicates}
 use Rattle.ms_valid.specs.NamesKnown.{unknown_of, global_mentions}
 use Rattle.ms_valid.specs.TypesAgree.{operand_fits, op_fault, init_faults}

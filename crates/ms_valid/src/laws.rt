@@ -10,25 +10,15 @@ ghost use Rattle.ms_ir.specs.declared.syntax.Op.TheVariants as op;
 ghost use Rattle.ms_ir.specs.declared.syntax.Operand.{Operand};
 ghost use Rattle.ms_ir.specs.declared.syntax.Operand.TheVariants as operand;
 ghost use Rattle.ms_ir.specs.declared.syntax.Ty.{Ty};
-ghost use Rattle.ms_ir.specs.Code.{operands, block_index, func_at, insts_at};
-ghost use Rattle.ms_valid.specs.FormedCode.{is_phi};
-ghost use Rattle.ms_valid.specs.GoodEffects.{FitsEffect, GoodMoved};
-ghost use Rattle.ms_valid.specs.GoodStates.{IsSet, IsBelow, PoisonedBelow, GoodFrame, GoodFrames, GoodPlain, GoodShadow};
-ghost use Rattle.ms_layout.specs.Places.{HasSmallNumbers};
+ghost use Rattle.ms_ir.specs.Code.{operands, block_index, func_at, insts_at, is_phi};
+ghost use Rattle.ms_valid.specs.Paths.{IsSet, Path, ValueUse, IsDefined, Misses, insts_of};
+ghost use Rattle.ms_ir.specs.Places.{HasSmallNumbers};
 ghost use Rattle.ms_valid.specs.Valid.{Valid};
 ghost use Rattle.ms_valid.specs.Formed.{Formed};
-ghost use Rattle.ms_ir.specs.declared.runs.Setup.{Setup};
-ghost use Rattle.ms_ir.specs.Act.{plain_reading};
-ghost use Rattle.ms_ir.specs.Control.{Frame, moves};
-ghost use Rattle.ms_ir.specs.World.{World, Setting, Effect};
-ghost use Rattle.ms_ir.specs.Poisoned.{Poisoned};
-ghost use Rattle.ms_ir.specs.Plain.{start_frame, start_world};
-ghost use Rattle.ms_ir.specs.Shadow.{shadow_reading};
 ghost use Rattle.ms_valid.specs.ValidAt.{FitsOutside, FitsWithin};
 ghost use Rattle.ms_valid.specs.Refusals.{Fault, IsFirstUndefined, IsRefused};
-ghost use Rattle.ms_valid.specs.Locals.{parameter_names, locals, value_type};
-ghost use Rattle.ms_valid.specs.Written.{result_type};
-ghost use Rattle.ms_valid.specs.Paths.{Path, ValueUse, IsDefined, insts_of};
+ghost use Rattle.ms_ir.specs.Locals.{parameter_names, locals, value_type};
+ghost use Rattle.ms_ir.specs.Written.{result_type};
 ghost use Rattle.ms_valid.specs.UsesDefined.{UsesDefined};
 ghost use Rattle.ms_valid.specs.PathTest.{undefined_uses};
 ghost use Rattle.ms_valid.specs.FlowGraph.{graph_of, flow_use};
@@ -38,12 +28,14 @@ pub fn tested_paths()
     ensures { (m : Module) → undefined_uses m ≡ [] → UsesDefined m }
 {}
 
-/// The paths through a function are those of its graph, and a value of the function that is no parameter is defined where
-/// it is used exactly where its number is in the graph.
+/// The paths through a function are those of its graph, a value of the function that is no parameter is defined where it is
+/// used exactly where its number is in the graph, and a path that misses a definition of its number misses one of the value.
 pub fn graph_paths()
     ensures paths { (f : Func) (blocks : List ℕ) → Path f blocks ↔ flow.IsPath (graph_of f) blocks }
     ensures uses { (f : Func) (place : ValueUse) → Contains (locals f) place.name → ¬ Contains (parameter_names f) place.name
         → IsDefined f place ↔ flow.IsDefined (graph_of f) (flow_use f place) }
+    ensures missed { (f : Func) (place : ValueUse) (path : List ℕ) → ¬ Contains (parameter_names f) place.name
+        → flow.Misses (graph_of f) (flow_use f place) path → Misses f place path }
 {}
 
 /// A module is valid exactly where it breaks no clause outside its instructions, and none at each of them, which is seen
@@ -71,37 +63,12 @@ pub fn set_values()
         → IsSet f before (block_index f.blocks from) (length (insts_of f (block_index f.blocks from))) x }
 {}
 
-/// A run of a formed and valid module starts in a good state.
-pub fn good_starts()
-    ensures plain_runs { (m : Module) → Formed m → Valid m → (setup : Setup)
-        → GoodPlain m (record { frames = start_frame plain_reading m ∷ []; slots = λ a. 0; world = start_world m setup }) }
-    ensures shadow_runs { (m : Module) → Formed m → Valid m → (setup : Setup)
-        → GoodShadow m (record { frames = start_frame shadow_reading m ∷ []; world = start_world m setup }) }
-{}
-
 /// The type of a value of a valid module is that of its parameter, or of what the instruction answers that gives it.
 pub fn typed_values()
     ensures results { (m : Module) → Valid m → (n : ℕ) (f : Func) → func_at m n ≡ Some f → (b p : ℕ) (k : Block) (inst : Inst) (x : Name) (t : Ty)
         → slice_get f.blocks b ≡ Some k → slice_get k.insts p ≡ Some inst → inst.result ≡ Some x → result_type inst.op ≡ Some t → value_type f x ≡ Some t }
     ensures parameters { (m : Module) → Valid m → (n : ℕ) (f : Func) → func_at m n ≡ Some f → (k : ℕ) (t : Ty) (x : Name)
         → slice_get f.params k ≡ Some (t, x) → value_type f x ≡ Some t }
-{}
-
-/// Frames of a formed and valid module stay good by every effect that the instruction due may have: a result in the range of
-/// its type, a jump to one of its targets, a call with words in range, a return of one.
-pub fn good_moves()
-    ensures plain_runs { (m : Module) → Formed m → Valid m → (setting : Setting) (frame : Frame ℕ) (below : List (Frame ℕ))
-        → GoodFrames IsBelow m (frame ∷ below) → (good : GoodFrame IsBelow m frame)
-        → (inst : Inst) → slice_get (insts_of good.func frame.block) frame.place ≡ Some inst
-        → (site : ℕ) (words : List ℕ) (lift : ℕ → World → ℕ) (after : ℕ → World → World) (effect : Effect)
-        → FitsEffect IsBelow plain_reading.unset m good.func inst words lift effect
-        → GoodMoved IsBelow m (moves plain_reading setting m site inst.result words lift after frame below effect) }
-    ensures shadow_runs { (m : Module) → Formed m → Valid m → (setting : Setting) (frame : Frame Poisoned) (below : List (Frame Poisoned))
-        → GoodFrames PoisonedBelow m (frame ∷ below) → (good : GoodFrame PoisonedBelow m frame)
-        → (inst : Inst) → slice_get (insts_of good.func frame.block) frame.place ≡ Some inst
-        → (site : ℕ) (words : List Poisoned) (lift : ℕ → World → Poisoned) (after : ℕ → World → World) (effect : Effect)
-        → FitsEffect PoisonedBelow shadow_reading.unset m good.func inst words lift effect
-        → GoodMoved PoisonedBelow m (moves shadow_reading setting m site inst.result words lift after frame below effect) }
 {}
 
 /// A formed module has few instructions, so its sites, and the numbers of its functions, of blocks and of instructions in a

@@ -1,8 +1,8 @@
 use Rattle.std.proofs.Common.{refl, ◌∙◌, arith}
 use Rattle.ms_bits.specs.Words.{words}
 use Rattle.ms_bits.specs.declared.operations.Pred.TheVariants as predicate
-use Rattle.ms_laws.specs.Formulas.{formulas}
-use Rattle.ms_laws.proofs.ExactRules.{formulas_exact}
+use Rattle.ms_runs_laws.specs.Formulas.{formulas}
+use Rattle.ms_runs_laws.proofs.ExactRules.{formulas_exact}
 use Rattle.ms_examples.specs.Programs.{word}
 use Rattle.ms_examples.proofs.masks.of_bits.Goals as goal
 

@@ -1,9 +1,9 @@
 use Rattle.std.proofs.Common.{refl, ◌∙◌, [], ◌∷◌}
 use Rattle.ms_bits.specs.Words.{words}
 use Rattle.ms_ir.specs.ExampleModules.{frozen, undef_sum}
-use Rattle.ms_ir.specs.ExampleParts.{filled}
-use Rattle.ms_laws.specs.Formulas.{formulas}
-use Rattle.ms_laws.proofs.ExactRules.{computed}
+use Rattle.ms_runs.specs.ExampleRuns.{filled}
+use Rattle.ms_runs_laws.specs.Formulas.{formulas}
+use Rattle.ms_runs_laws.proofs.ExactRules.{computed}
 use Rattle.ms_examples.proofs.runs.blind_uses.Goals as goal
 
 pub returns-clause-frozen_zero : goal.returns-clause-frozen_zero

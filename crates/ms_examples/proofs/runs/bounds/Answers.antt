@@ -1,10 +1,10 @@
 use Rattle.std.proofs.Common.{refl, ◌∙◌}
 use Rattle.ms_bits.specs.Words.{words}
 use Rattle.ms_ir.specs.ExampleModules.{returns_zero}
-use Rattle.ms_ir.specs.ExampleParts.{defaults, steps}
+use Rattle.ms_runs.specs.ExampleRuns.{defaults, steps}
 use Rattle.ms_examples.specs.Programs.{sixteen_copies}
-use Rattle.ms_laws.specs.Formulas.{formulas}
-use Rattle.ms_laws.proofs.ExactRules.{computed}
+use Rattle.ms_runs_laws.specs.Formulas.{formulas}
+use Rattle.ms_runs_laws.proofs.ExactRules.{computed}
 use Rattle.ms_examples.proofs.runs.bounds.Goals as goal
 
 pub returns-clause-no_step : goal.returns-clause-no_step

@@ -1,9 +1,9 @@
 use Rattle.std.proofs.Common.{refl, ◌∙◌}
 use Rattle.ms_bits.specs.Words.{words}
 use Rattle.ms_ir.specs.ExampleModules.{shared_cell}
-use Rattle.ms_ir.specs.ExampleParts.{defaults}
-use Rattle.ms_laws.specs.Formulas.{formulas}
-use Rattle.ms_laws.proofs.ExactRules.{computed}
+use Rattle.ms_runs.specs.ExampleRuns.{defaults}
+use Rattle.ms_runs_laws.specs.Formulas.{formulas}
+use Rattle.ms_runs_laws.proofs.ExactRules.{computed}
 use Rattle.ms_examples.proofs.runs.shared_cells.Goals as goal
 
 pub returns-clause-shared_cell : goal.returns-clause-shared_cell

@@ -1,10 +1,10 @@
 use Rattle.std.proofs.Common.{refl, ◌∙◌, [], ◌∷◌}
 use Rattle.ms_bits.specs.Words.{words}
 use Rattle.ms_ir.specs.ExampleModules.{lost_in_addition, carry_of_undef}
-use Rattle.ms_ir.specs.ExampleParts.{defaults, filled}
+use Rattle.ms_runs.specs.ExampleRuns.{defaults, filled}
 use Rattle.ms_examples.specs.Programs.{indexed_by_undef}
-use Rattle.ms_laws.specs.Formulas.{formulas}
-use Rattle.ms_laws.proofs.ExactRules.{computed}
+use Rattle.ms_runs_laws.specs.Formulas.{formulas}
+use Rattle.ms_runs_laws.proofs.ExactRules.{computed}
 use Rattle.ms_examples.proofs.runs.sums_by_union.Goals as goal
 
 pub returns-clause-lost : goal.returns-clause-lost

@@ -1,9 +1,9 @@
 use Rattle.std.proofs.Common.{refl, ◌∙◌, [], ◌∷◌}
 use Rattle.ms_bits.specs.Words.{words}
 use Rattle.ms_ir.specs.ExampleModules.{lost_in_addition, carry_of_undef}
-use Rattle.ms_ir.specs.ExampleParts.{defaults, filled}
+use Rattle.ms_runs.specs.ExampleRuns.{defaults, filled}
 use Rattle.ms_examples.specs.Programs.{indexed_by_undef}
-use Rattle.ms_laws.specs.Formulas.{formulas}
+use Rattle.ms_runs_laws.specs.Formulas.{formulas}
 use Rattle.ms_examples.proofs.Carried.{carried_computed}
 use Rattle.ms_examples.proofs.runs.sums_with_carry.Goals as goal
 

@@ -1,9 +1,9 @@
 use Rattle.std.proofs.Common.{refl, ◌∙◌}
 use Rattle.ms_bits.specs.Words.{words}
-use Rattle.ms_ir.specs.ExampleParts.{defaults}
+use Rattle.ms_runs.specs.ExampleRuns.{defaults}
 use Rattle.ms_examples.specs.Programs.{masked_undef}
-use Rattle.ms_laws.specs.Formulas.{formulas}
-use Rattle.ms_laws.proofs.ExactRules.{computed}
+use Rattle.ms_runs_laws.specs.Formulas.{formulas}
+use Rattle.ms_runs_laws.proofs.ExactRules.{computed}
 use Rattle.ms_examples.proofs.runs.undefined_bits.Goals as goal
 
 pub returns-clause-low_bits_kept : goal.returns-clause-low_bits_kept

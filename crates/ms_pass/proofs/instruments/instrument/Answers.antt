@@ -1,5 +1,5 @@
 use Rattle.std.proofs.Common.{◌≤◌, ◌^◌, length, sym, ◌∙◌, subst, arith, All}
-use Rattle.ms_ir.specs.Faithful.{Faithful}
+use Rattle.ms_runs.specs.Faithful.{Faithful}
 use Rattle.ms_pass.specs.FirstNumbers.{IsSimple}
 use Rattle.ms_pass.proofs.FirstSimple.{first_simple}
 use Rattle.ms_pass.proofs.FirstPass.{passed}

@@ -1,5 +1,5 @@
 use Rattle.ms_ir.specs.Code.{operands}
-use Rattle.ms_ir.specs.Uses.{uses}
+use Rattle.ms_runs.specs.Uses.{uses}
 use Rattle.ms_rules.specs.Emit.{check_tasks, result_tasks, tracked}
 use Rattle.ms_rules.specs.Arguments.{env_of}
 use Rattle.ms_rules.proofs.Emitting.{added_code, added_next}

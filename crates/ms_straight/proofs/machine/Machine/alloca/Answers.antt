@@ -1,5 +1,5 @@
 use Rattle.std.proofs.Common.{sym, subst}
-use Rattle.ms_ir.specs.Act.{alloca as alloca_of}
+use Rattle.ms_runs.specs.Act.{alloca as alloca_of}
 use Rattle.ms_straight.specs.Machine.{Came}
 use Rattle.ms_straight.proofs.Memories.{alloca_made, alloca_full}
 use Rattle.ms_straight.proofs.machine.Machine.alloca.Goals as goal

@@ -1,5 +1,5 @@
 use Rattle.std.proofs.Common.{subst, sym, ap, ◌∙◌}
-use Rattle.ms_ir.specs.Act.{gives}
+use Rattle.ms_runs.specs.Act.{gives}
 use Rattle.ms_straight.specs.Operands.{words_of}
 use Rattle.ms_straight.specs.Computations.{computed_of}
 use Rattle.ms_straight.specs.Machine.{Came}

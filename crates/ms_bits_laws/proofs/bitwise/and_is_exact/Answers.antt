@@ -1,0 +1,23 @@
+use Rattle.std.proofs.Common.{sym, bit_and}
+use Rattle.ms_bits_laws.proofs.Agreement.{agrees_from_exact}
+use Rattle.ms_bits_laws.proofs.FormulaMasks.{and_mask_exact, and_mask_is, and_mask-lt, and_same}
+use Rattle.ms_bits_laws.proofs.Results.{and_is}
+use Rattle.ms_bits_laws.proofs.bitwise.and_is_exact.Goals as goal
+
+pub returns-clause-answer : goal.returns-clause-answer
+returns-clause-answer c = λ flags w a b r h. sym (and_is flags w a b r h)
+
+pub returns-clause-exact : goal.returns-clause-exact
+returns-clause-exact c = λ w v m u k p q. and_mask_exact w v m u k p q
+
+pub returns-clause-by_completions : goal.returns-clause-by_completions
+returns-clause-by_completions c = λ w v m u k p q. and_mask_is w v m u k p q
+
+pub returns-clause-fits : goal.returns-clause-fits
+returns-clause-fits c = λ w v m u k p q. and_mask-lt w v m u k p q
+
+pub returns-clause-agrees : goal.returns-clause-agrees
+returns-clause-agrees c = λ w v m u k a b c d p q ha hb hc hd. agrees_from_exact bit_and w v m u k w _ (and_mask_exact w v m u k p q) a b c d ha hb hc hd
+
+pub returns-clause-same : goal.returns-clause-same
+returns-clause-same c = λ w v m u k a b p q ha hb. and_same w v m u k a b p q ha hb

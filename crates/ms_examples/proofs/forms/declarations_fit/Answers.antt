@@ -1,0 +1,11 @@
+use Rattle.std.proofs.Common.{refl}
+use Rattle.ms_ir.specs.declared.syntax.Ty.TheBlock.{hidden-the_row-Ty-0, shape-the_row-Ty-0}
+use Rattle.ms_examples.proofs.forms.declarations_fit.Goals as goal
+
+pub returns-clause-slots : goal.returns-clause-slots
+unfolding hidden-the_row-Ty-0 shape-the_row-Ty-0 denote.Hole.Carrier.hidden
+returns-clause-slots c = refl
+
+pub returns-clause-sizes_of_slots : goal.returns-clause-sizes_of_slots
+unfolding hidden-the_row-Ty-0 shape-the_row-Ty-0 denote.Hole.Carrier.hidden
+returns-clause-sizes_of_slots c = refl

@@ -1,8 +1,0 @@
-use Rattle.std.proofs.Common.{◌≡◌, ◌+◌, ◌-◌}
-use Rattle.ms_ir.specs.World.{World}
-use Rattle.ms_ir.specs.Origins.{origin_within}
-use Rattle.ms_host.specs.Shows.{Shows}
-use Rattle.ms_host.proofs.host.Host.load_origin.Given as goal
-
-abbrev pub invariant-loop-k : goal.invariant-loop-k
-invariant-loop-k l = (world : World) → Shows l.self world → origin_within (8 - l.k) (l.addr + l.k) l.rest world ≡ origin_within 8 l.addr l.mask world

@@ -1,0 +1,130 @@
+-- The types of functions, and those of the externals, the runtime functions and the slots (C library; LLVM Language
+-- Reference, "Standard C/C++ Library Intrinsics" and "Memory Use Markers"; own: the runtime functions and the slots).
+use Rattle.std.specs.Prelude.{Bool, false, ◌&&◌, List, [], ◌∷◌, map, Option, Some, None}
+use Rattle.std.specs.Option.{option_or}
+use Rattle.ms_ir.specs.declared.syntax.Name.{Name}
+use Rattle.ms_ir.specs.declared.syntax.Ty.{Ty, Int, Ptr}
+use Rattle.ms_ir.specs.declared.syntax.Ty as ty
+use Rattle.ms_ir.specs.declared.syntax.Operand.TheVariants as operand
+use Rattle.ms_ir.specs.declared.syntax.Init as initial
+use Rattle.ms_ir.specs.declared.syntax.Func.{Func}
+use Rattle.ms_ir.specs.declared.syntax.Decl.{Decl}
+use Rattle.ms_ir.specs.declared.syntax.GlobalVar.{GlobalVar}
+use Rattle.ms_ir.specs.declared.syntax.Module.{Module}
+use Rattle.ms_ir.specs.declared.calls.External.{External}
+use Rattle.ms_ir.specs.declared.calls.External.TheVariants as external
+use Rattle.ms_ir.specs.declared.calls.RuntimeFn.{RuntimeFn}
+use Rattle.ms_ir.specs.declared.calls.RuntimeFn.TheVariants as runtime
+use Rattle.ms_ir.specs.declared.calls.Slot.{Slot}
+use Rattle.ms_ir.specs.declared.calls.Slot.TheVariants as slot
+use Rattle.ms_ir.specs.Names.{lookup, externals, runtime_functions, slot_name, slot_names}
+use Rattle.ms_ir.specs.Equal.{result_type_eq, types_eq}
+
+-- the types of a function: of its result, where none is `void`, and of its parameters
+pub record Signature : Type 0 where
+  pub ret : Option Ty
+  pub params : List Ty
+
+-- a function that answers a value
+abbrev pub answers : Ty → List Ty → Signature
+answers t params = record { ret = Some t; params = params }
+
+-- a function that answers nothing
+abbrev pub answers_nothing : List Ty → Signature
+answers_nothing params = record { ret = None; params = params }
+
+-- two functions have the same types
+abbrev pub signature_eq : Signature → Signature → Bool
+signature_eq a b = result_type_eq a.ret b.ret && types_eq a.params b.params
+
+-- ---- the functions of a module
+
+-- the types of a function that is defined
+abbrev pub func_signature : Func → Signature
+func_signature f = record { ret = f.ret; params = map (λ p. p.0) f.params }
+
+-- the types of a function that is declared
+abbrev pub decl_signature : Decl → Signature
+decl_signature d = record { ret = d.ret; params = d.params }
+
+-- the types of the function with a name among those that are defined
+abbrev pub defined_signature : List Func → Name → Option Signature
+defined_signature funcs x = lookup (map (λ f. (f.name, func_signature f)) funcs) x
+
+-- the types of the function with a name among those that are declared
+abbrev pub declared_signature : List Decl → Name → Option Signature
+declared_signature decls x = lookup (map (λ d. (d.name, decl_signature d)) decls) x
+
+-- the types of the function with a name, if the module defines or declares one
+abbrev pub signature_of : Module → Name → Option Signature
+signature_of m x = option_or (defined_signature m.funcs x) (declared_signature m.decls x)
+
+-- ---- the externals
+
+-- the types that each external has where it is declared; the last parameter of `llvm.memcpy` and its kin says whether
+-- the access is volatile
+abbrev pub external_signature : External → Signature
+external_signature external.Malloc = answers Ptr (Int 64 ∷ [])
+external_signature external.Calloc = answers Ptr (Int 64 ∷ Int 64 ∷ [])
+external_signature external.Realloc = answers Ptr (Ptr ∷ Int 64 ∷ [])
+external_signature external.Free = answers_nothing (Ptr ∷ [])
+external_signature external.Memcpy = answers Ptr (Ptr ∷ Ptr ∷ Int 64 ∷ [])
+external_signature external.Memmove = answers Ptr (Ptr ∷ Ptr ∷ Int 64 ∷ [])
+external_signature external.Memset = answers Ptr (Ptr ∷ Int 32 ∷ Int 64 ∷ [])
+external_signature external.Memcmp = answers (Int 32) (Ptr ∷ Ptr ∷ Int 64 ∷ [])
+external_signature external.Strlen = answers (Int 64) (Ptr ∷ [])
+external_signature external.Putchar = answers (Int 32) (Int 32 ∷ [])
+external_signature external.Puts = answers (Int 32) (Ptr ∷ [])
+external_signature external.Getchar = answers (Int 32) []
+external_signature external.Read = answers (Int 64) (Int 32 ∷ Ptr ∷ Int 64 ∷ [])
+external_signature external.Write = answers (Int 64) (Int 32 ∷ Ptr ∷ Int 64 ∷ [])
+external_signature external.Exit = answers_nothing (Int 32 ∷ [])
+external_signature external.Abort = answers_nothing []
+external_signature external.LlvmMemcpy = answers_nothing (Ptr ∷ Ptr ∷ Int 64 ∷ Int 1 ∷ [])
+external_signature external.LlvmMemmove = answers_nothing (Ptr ∷ Ptr ∷ Int 64 ∷ Int 1 ∷ [])
+external_signature external.LlvmMemset = answers_nothing (Ptr ∷ Int 8 ∷ Int 64 ∷ Int 1 ∷ [])
+external_signature external.LifetimeStart = answers_nothing (Int 64 ∷ Ptr ∷ [])
+external_signature external.LifetimeEnd = answers_nothing (Int 64 ∷ Ptr ∷ [])
+
+-- a declaration by the name and the types of its function
+abbrev pub declared_as : Name → Signature → Decl
+declared_as x s = record { name = x; ret = s.ret; params = s.params }
+
+-- the declarations of the externals, in the order of their table
+abbrev pub external_declarations : List Decl
+external_declarations = map (λ row. declared_as row.0 (external_signature row.1)) externals
+
+-- ---- the runtime
+
+-- the types of each runtime function
+abbrev pub runtime_signature : RuntimeFn → Signature
+runtime_signature runtime.Check = answers_nothing (Int 64 ∷ Int 32 ∷ Int 32 ∷ Int 32 ∷ Int 32 ∷ Int 32 ∷ [])
+runtime_signature runtime.CheckMemory = answers_nothing (Ptr ∷ Int 64 ∷ Int 32 ∷ Int 32 ∷ [])
+runtime_signature runtime.CheckString = answers_nothing (Ptr ∷ Int 32 ∷ [])
+runtime_signature runtime.Blind = answers_nothing (Int 64 ∷ [])
+runtime_signature runtime.Poison = answers_nothing (Ptr ∷ Int 64 ∷ Int 64 ∷ Int 32 ∷ [])
+runtime_signature runtime.Unpoison = answers_nothing (Ptr ∷ Int 64 ∷ [])
+runtime_signature runtime.Copy = answers_nothing (Ptr ∷ Ptr ∷ Int 64 ∷ [])
+runtime_signature runtime.Fill = answers_nothing (Ptr ∷ Int 64 ∷ Int 64 ∷ Int 32 ∷ Int 32 ∷ [])
+runtime_signature runtime.StoreOrigin = answers_nothing (Ptr ∷ Int 64 ∷ Int 32 ∷ Int 32 ∷ [])
+runtime_signature runtime.LoadOrigin = answers (Int 32) (Ptr ∷ Int 64 ∷ [])
+runtime_signature runtime.Size = answers (Int 64) (Ptr ∷ [])
+
+-- the declarations of the runtime functions, in the order of their table
+abbrev pub runtime_declarations : List Decl
+runtime_declarations = map (λ row. declared_as row.0 (runtime_signature row.1)) runtime_functions
+
+-- a global that may be written
+abbrev pub variable : Name → Ty → initial.Init → GlobalVar
+variable x t start = record { name = x; constant = false; ty = t; init = start }
+
+-- a slot as it is declared
+abbrev pub slot_global : Slot → GlobalVar
+slot_global slot.ParamMasks = variable (slot_name slot.ParamMasks) (ty.Array 100 (Int 64)) initial.Zero
+slot_global slot.ParamOrigins = variable (slot_name slot.ParamOrigins) (ty.Array 100 (Int 32)) initial.Zero
+slot_global slot.RetvalMask = variable (slot_name slot.RetvalMask) (Int 64) (initial.Value (operand.Int 0))
+slot_global slot.RetvalOrigin = variable (slot_name slot.RetvalOrigin) (Int 32) (initial.Value (operand.Int 0))
+
+-- the slots as they are declared, in the order of their table
+abbrev pub slot_globals : List GlobalVar
+slot_globals = map (λ row. slot_global row.1) slot_names

@@ -1,0 +1,90 @@
+//! Equality of types and operands, named types by name (LLVM Language Reference, "Structure Type").
+ghost use Rattle.std.specs.Prelude.{◌≡◌};
+ghost use Rattle.std.specs.Cmp.{partial_equiv_from_equiv};
+ghost use Rattle.ms_ir.specs.Equal.{type_eq, types_eq, indices_eq, is_undefined, operand_eq};
+ghost use Rattle.ms_ir.specs.TypeLaws.{type_eq_equiv};
+
+use crate::syntax::{Operand, Ty};
+use ms_bits::List;
+
+impl PartialEq for Ty {
+    ghost eq = { type_eq };
+
+    ghost laws = { partial_equiv_from_equiv type_eq_equiv };
+
+    fn eq(&self, other: &Ty) -> bool {
+        same_type(self, other)
+    }
+}
+
+impl Eq for Ty {
+    ghost laws = { type_eq_equiv };
+}
+
+/// Whether two types are the same.
+#[cycle(types)]
+fn same_type(a: &Ty, b: &Ty) -> bool
+    ensures { result ≡ type_eq a.now b.now }
+{
+    match (a, b) {
+        (Ty::Int(m), Ty::Int(n)) => *m == *n,
+        (Ty::Ptr, Ty::Ptr) => true,
+        (Ty::Array(m, item), Ty::Array(n, other)) => *m == *n && same_type(item.get(), other.get()),
+        (Ty::Struct(p, fields), Ty::Struct(q, others)) => {
+            *p == *q && same_types(fields.as_slice(), others.as_slice())
+        }
+        (Ty::Named(x), Ty::Named(y)) => x == y,
+        _ => false,
+    }
+}
+
+/// Whether two lists of types are the same.
+#[cycle(types)]
+fn same_types(types: &[Ty], others: &[Ty]) -> bool
+    ensures { result ≡ types_eq types.now others.now }
+{
+    if types.len() != others.len() {
+        return false;
+    }
+    for (i, ty) in types.iter().enumerate() {
+        if !same_type(ty, &others[i]) {
+            return false;
+        }
+    }
+    true
+}
+
+impl Operand {
+    /// Whether it has bits that are not set: `undef` or `poison`.
+    pub fn is_undefined(&self) -> bool
+        ensures { result ≡ is_undefined self.now }
+    {
+        match self {
+            Operand::Undef | Operand::Poison => true,
+            _ => false,
+        }
+    }
+}
+
+/// Whether two lists of constant indices are the same.
+fn same_indices(indices: &List<(Ty, u64)>, others: &List<(Ty, u64)>) -> bool
+    ensures { result ≡ indices_eq indices.now others.now }
+{
+    indices == others
+}
+
+/// Whether two operands of one type mean the same: `poison` is `undef` here, which `==` tells apart.
+pub fn same_operand(a: &Operand, b: &Operand) -> bool
+    ensures { result ≡ operand_eq a.now b.now }
+{
+    match (a, b) {
+        (Operand::Int(m), Operand::Int(n)) => *m == *n,
+        (Operand::Null, Operand::Null) => true,
+        (Operand::Local(x), Operand::Local(y)) => x == y,
+        (Operand::Global(x), Operand::Global(y)) => x == y,
+        (Operand::Offset(t, x, indices), Operand::Offset(u, y, others)) => {
+            t == u && x == y && same_indices(indices, others)
+        }
+        _ => a.is_undefined() && b.is_undefined(),
+    }
+}

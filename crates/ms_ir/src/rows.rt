@@ -1,0 +1,163 @@
+//! The rows of a table of functions, and how one is found by its name.
+ghost use Rattle.std.specs.Prelude.{◌≡◌, map, option_map, IfOk};
+ghost use Rattle.std.specs.Option.{option_copied};
+ghost use Rattle.ms_ir.specs.declared.syntax.Name.TheVariants as spelling;
+ghost use Rattle.ms_ir.specs.Names.{lookup};
+ghost use Rattle.ms_ir.specs.Equal.{type_eq, types_eq, result_type_eq};
+ghost use Rattle.ms_ir.specs.Signatures.{decl_signature, signature_eq};
+ghost use Rattle.ms_ir.specs.Rows.{by_name, by_kind, kind_type, row_signature, row_declaration};
+
+use crate::syntax::{Decl, Name, Ty};
+use ms_bits::{Bytes, List, NoMemory};
+use std::alloc::Global;
+
+/// A type that a function of a table takes or answers.
+#[derive(Clone, Copy, Debug, PartialEq, Eq)]
+pub enum Kind {
+    /// `ptr`.
+    Ptr,
+    /// `iN` by its width in bits.
+    Int(u8),
+}
+
+/// A function of a table.
+pub struct Row<F> {
+    /// Its name.
+    pub name: &'static [u8],
+    /// Which it is.
+    pub is: F,
+    /// What it answers; none is `void`.
+    pub ret: Option<Kind>,
+    /// What it takes.
+    pub params: &'static [Kind],
+}
+
+impl Kind {
+    /// The type.
+    pub fn ty(self) -> Ty
+        ensures { result ≡ kind_type self }
+    {
+        match self {
+            Kind::Ptr => Ty::Ptr,
+            Kind::Int(width) => Ty::Int(width),
+        }
+    }
+
+    /// Whether a type is this one.
+    pub fn is(self, ty: &Ty) -> bool
+        ensures { result ≡ type_eq ty.now (kind_type self) }
+    {
+        match (ty, self) {
+            (Ty::Ptr, Kind::Ptr) => true,
+            (Ty::Int(n), Kind::Int(width)) => *n == width,
+            _ => false,
+        }
+    }
+}
+
+fn is_result(ret: Option<Kind>, ty: &Option<Ty>) -> bool
+    ensures { result ≡ result_type_eq ty.now (option_map kind_type ret) }
+{
+    match (ty, ret) {
+        (None, None) => true,
+        (Some(ty), Some(kind)) => kind.is(ty),
+        _ => false,
+    }
+}
+
+fn are_params(kinds: &[Kind], params: &[Ty]) -> bool
+    ensures { result ≡ types_eq params.now (map kind_type kinds.now) }
+{
+    if params.len() != kinds.len() {
+        return false;
+    }
+    for (i, param) in params.iter().enumerate() {
+        if !kinds[i].is(param) {
+            return false;
+        }
+    }
+    true
+}
+
+fn types_of(alloc: Global, kinds: &[Kind]) -> Result<List<Ty>, NoMemory>
+    ensures { IfOk result (λ ts. ts ≡ map kind_type kinds.now) }
+{
+    let mut types = Vec::with_capacity(alloc, kinds.len())?;
+    for kind in kinds {
+        types.push(kind.ty())?;
+    }
+    Ok(List::from_vec(types))
+}
+
+/// The name that a text is. The one error is want of memory.
+pub fn name_of(alloc: Global, text: &[u8]) -> Result<Name, NoMemory>
+    ensures { IfOk result (λ x. x ≡ spelling.Text text.now) }
+{
+    let bytes = Vec::from_slice(alloc, text)?;
+    Ok(Name::Text(Bytes::from_vec(bytes)))
+}
+
+impl<F> Row<F> {
+    /// Whether a declaration has the types of the function.
+    pub fn has_types_of(&self, decl: &Decl) -> bool
+        ensures { result ≡ signature_eq (decl_signature decl.now) (row_signature self.now) }
+    {
+        is_result(self.ret, &decl.ret) && are_params(self.params, decl.params.as_slice())
+    }
+
+    /// What the function answers; none is `void`.
+    pub fn result_type(&self) -> Option<Ty>
+        ensures { result ≡ (row_signature self.now).ret }
+    {
+        match self.ret {
+            Some(kind) => Some(kind.ty()),
+            None => None,
+        }
+    }
+
+    /// The function as it is declared. The one error is want of memory.
+    pub fn declaration(&self, alloc: Global) -> Result<Decl, NoMemory>
+        ensures { IfOk result (λ d. d ≡ row_declaration self.now) }
+    {
+        let name = name_of(alloc, self.name)?;
+        let params = types_of(alloc, self.params)?;
+        Ok(Decl {
+            name,
+            ret: self.result_type(),
+            params,
+        })
+    }
+}
+
+/// The functions of a table as they are declared. The one error is want of memory.
+pub fn declarations_of<F>(alloc: Global, rows: &[Row<F>]) -> Result<List<Decl>, NoMemory>
+    ensures { IfOk result (λ ds. ds ≡ map row_declaration rows.now) }
+{
+    let mut declarations = Vec::with_capacity(alloc, rows.len())?;
+    for row in rows {
+        declarations.push(row.declaration(alloc)?)?;
+    }
+    Ok(List::from_vec(declarations))
+}
+
+/// The row with a name, if there is one.
+fn find<'r, F>(rows: &'r [Row<F>], text: &[u8]) -> Option<&'r Row<F>>
+    ensures { option_copied result ≡ lookup (by_name rows.now) (spelling.Text text.now) }
+{
+    for row in rows {
+        if row.name == text {
+            return Some(row);
+        }
+    }
+    None
+}
+
+/// Which function has a name, if there is one.
+pub fn named<F: Copy>(rows: &[Row<F>], text: &[u8]) -> Option<F>
+    ensures { result ≡ lookup (by_kind rows.now) (spelling.Text text.now) }
+{
+    match find(rows, text) {
+        Some(row) => Some(row.is),
+        None => None,
+    }
+}

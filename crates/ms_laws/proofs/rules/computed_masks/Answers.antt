@@ -1,5 +1,0 @@
-use Rattle.ms_laws.proofs.ExactRules.{computed}
-use Rattle.ms_laws.proofs.rules.computed_masks.Goals as goal
-
-pub returns : goal.returns
-returns c = computed

@@ -1,8 +1,0 @@
-use Rattle.ms_masks.proofs.CellLemmas.{copied_inside, copied_outside}
-use Rattle.ms_masks.proofs.maps.copied_origins.Goals as goal
-
-pub returns-clause-inside : goal.returns-clause-inside
-returns-clause-inside c = λ shadow old cells to from n k l s h. copied_inside shadow old to from n cells k l s h
-
-pub returns-clause-outside : goal.returns-clause-outside
-returns-clause-outside c = λ shadow old cells to from n cell h. copied_outside shadow old to from n cells cell h

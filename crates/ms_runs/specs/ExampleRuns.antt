@@ -1,0 +1,87 @@
+-- The setups that example modules run with, what their runs answer, and frames of one of them.
+use Rattle.std.specs.Prelude.{ℕ, zero, suc, List, [], ◌∷◌, None}
+use Rattle.ms_bits.specs.declared.traps.Trap.{Trap}
+use Rattle.ms_runs.specs.declared.runs.End.{End}
+use Rattle.ms_runs.specs.declared.runs.End.TheVariants as «end»
+use Rattle.ms_runs.specs.declared.runs.Origin.TheVariants as origin
+use Rattle.ms_runs.specs.declared.runs.Report.{Report}
+use Rattle.ms_runs.specs.declared.runs.RunResult.{RunResult}
+use Rattle.ms_runs.specs.declared.runs.Setup.{Setup}
+use Rattle.ms_runs.specs.World.{World, Enters}
+use Rattle.ms_runs.specs.Control.{Frame, Outcome, after_effect}
+use Rattle.ms_runs.specs.Act.{plain_reading}
+use Rattle.ms_runs.specs.Plain.{setting_of, start_world}
+use Rattle.ms_ir.specs.ExampleModules.{recursion}
+
+-- the setup where nothing is asked for: no input, the fill a5, ten million steps and one report
+abbrev pub defaults : Setup
+defaults = record { input = []; fill = 0xa5 ∷ []; steps = 10000000; reports = 1 }
+
+-- the same setup with another fill
+abbrev pub filled : List ℕ → Setup
+filled bytes = record defaults { fill = bytes }
+
+-- the same setup with the fill 1 2 3 4 5
+abbrev pub one_to_five : Setup
+one_to_five = filled (1 ∷ 2 ∷ 3 ∷ 4 ∷ 5 ∷ [])
+
+-- the same setup with another input
+abbrev pub fed : List ℕ → Setup
+fed bytes = record defaults { input = bytes }
+
+-- the same setup with another bound of steps
+abbrev pub steps : ℕ → Setup
+steps n = record defaults { steps = n }
+
+-- a run that printed something and has no report
+abbrev pub prints : List ℕ → End → RunResult
+prints bytes e = record { output = bytes; «end» = e; reports = []; blind = 0 }
+
+-- a run without output and report that returns from `main` or exits
+abbrev pub exits : ℕ → RunResult
+exits n = prints [] («end».Exit n)
+
+-- a run without output and report that traps at a site
+abbrev pub trapped : Trap → ℕ → RunResult
+trapped kind site = prints [] («end».Trap kind site)
+
+-- a run without output and report whose steps are spent
+abbrev pub spent : RunResult
+spent = prints [] «end».Spent
+
+-- a run without output that ended at its first report
+abbrev pub reported : Report → RunResult
+reported r = record { output = []; «end» = «end».Reported; reports = r ∷ []; blind = 0 }
+
+-- a report whose origin is a root
+abbrev pub report : (site kind part mask width root : ℕ) → Report
+report site kind part mask width root =
+    record { site = site; kind = kind; part = part; width = width; mask = mask; origin = root; chain = origin.Root root ∷ [] }
+
+-- a report whose origin is neither root nor pair
+abbrev pub report_unknown : (site kind part mask width origin : ℕ) → Report
+report_unknown site kind part mask width o =
+    record { site = site; kind = kind; part = part; width = width; mask = mask; origin = o; chain = [] }
+
+-- a run without output that returned 0 and counted blind uses
+abbrev pub counted : ℕ → RunResult
+counted n = record { output = []; «end» = «end».Exit 0; reports = []; blind = n }
+
+-- a frame of the function of `recursion` that stands at its call
+abbrev pub frame_at_call : Frame ℕ
+frame_at_call = record { func = 0; block = 2; place = 1; values = λ x. 0; mark = 0x720000000000 }
+
+-- so many of these frames
+abbrev pub frames_at_call : ℕ → List (Frame ℕ)
+frames_at_call zero = []
+frames_at_call (suc n) = frame_at_call ∷ frames_at_call n
+
+-- the world in which `recursion` starts
+abbrev pub recursion_world : World
+recursion_world = start_world (recursion 1) defaults
+
+-- what that call comes to where so many frames stand below its own
+abbrev pub called_above : ℕ → Outcome ℕ
+called_above n =
+    after_effect plain_reading (setting_of (recursion 1) defaults) (recursion 1) 5 None [] (λ v world. v) (λ v world. world) frame_at_call (frames_at_call n)
+    (Enters 0 recursion_world)

@@ -1,0 +1,127 @@
+-- What the externals do to memory, input and output (C library; LLVM Language Reference, "'llvm.memcpy' Intrinsic" and
+-- its neighbours, "'llvm.lifetime.start' Intrinsic"; own: the heap's limit, traps, and what is answered at a limit).
+use Rattle.std.specs.Prelude.{ℕ, ◌+◌, ◌-◌, ◌*◌, ◌%◌, ◌^◌, min, ◌&&◌, List, [], ◌∷◌, ◌++◌, length, take, drop, get_or, eqb, leb, ltb, if◌then◌else◌, Option, Some, None, is_some}
+use Rattle.ms_bits.specs.declared.traps.Trap.TheVariants as trap
+use Rattle.ms_runs.specs.declared.runs.End.TheVariants as «end»
+use Rattle.ms_ir.specs.declared.calls.External.{External}
+use Rattle.ms_ir.specs.declared.calls.External.TheVariants.{Malloc, Calloc, Realloc, Free, Memcpy, Memmove, Memset, Memcmp, Strlen, Putchar, Puts, Getchar, Read, Write, Exit, Abort, LlvmMemcpy, LlvmMemmove, LlvmMemset, LifetimeStart, LifetimeEnd}
+use Rattle.ms_ir.specs.Areas.{Heap}
+use Rattle.ms_runs.specs.World.{World, Setting, Effect, Gives, Does, Ends, traps, word}
+use Rattle.ms_bits.specs.Maps.{bytes_at, string_within}
+use Rattle.ms_runs.specs.Memory.{fits, next_base, is_good, heap_size, end_block, make, make_unset, make_bytes, set_bytes, copy_bytes, copy_shadow, bytes_left}
+
+-- -1 as a word of so many bits
+abbrev pub minus_one : ℕ → ℕ
+minus_one width = 2 ^ width - 1
+
+-- 'malloc': a heap block of n uninitialised bytes, or null where the heap's limit would be passed
+abbrev pub malloc : List ℕ → ℕ → World → Effect
+malloc fill n world = if fits Heap n world then Gives (next_base Heap world) (make_unset fill Heap n world) else Gives 0 world
+
+-- 'calloc' of n bytes in all: a heap block of zero bytes, or null, also where n is no number of 64 bits
+abbrev pub calloc : ℕ → World → Effect
+calloc n world = if ltb n (2 ^ 64) && fits Heap n world then Gives (next_base Heap world) (make Heap n world) else Gives 0 world
+
+-- a block of n bytes that holds what the old one of so many bytes held, as far as both go, with shadow and origins;
+-- the old one is ended, but stays where the new one would pass the limit
+abbrev pub reallocated : List ℕ → ℕ → ℕ → ℕ → World → Effect
+reallocated fill p old n world =
+    if fits Heap n world
+    then (
+    let q = next_base Heap world in let k = min old n in
+    Gives q (end_block p (copy_shadow q p k (copy_bytes q p k (make_unset fill Heap n world))))
+    )
+    else Gives 0 world
+
+-- 'realloc': 'malloc' where the pointer is null; else it must be a live heap block's base
+abbrev pub realloc : List ℕ → (site p n : ℕ) → World → Effect
+realloc fill site p n world =
+    if eqb p 0 then malloc fill n world else
+    elim (heap_size world p) [ Some old ↦ reallocated fill p old n world | None ↦ traps trap.BadFree site world ]
+
+-- 'free': ends a live heap block; null does nothing
+abbrev pub free : (site p : ℕ) → World → Effect
+free site p world =
+    if eqb p 0 then Does world else
+    if is_some (heap_size world p) then Does (end_block p world) else traps trap.BadFree site world
+
+-- goes on where n bytes are good, and else traps
+abbrev pub where_good : (site a n : ℕ) → World → Effect → Effect
+where_good site a n world effect = if is_good world a n then effect else traps trap.BadAddress site world
+
+-- what 'memcmp' answers: -1, 0 or 1 by the first byte that differs
+abbrev pub compared : List ℕ → List ℕ → ℕ
+compared [] bs = 0
+compared (a ∷ rest) [] = 0
+compared (a ∷ rest) (b ∷ bs) = if ltb a b then minus_one 32 else (if ltb b a then 1 else compared rest bs)
+
+-- the string at an address, where its zero byte stands within its allocation
+abbrev pub string_at : World → ℕ → Option (List ℕ)
+string_at world a = string_within world.bytes a (bytes_left world a)
+
+-- the bytes that a run may print
+abbrev pub output_limit : ℕ
+output_limit = 1048576
+
+-- prints bytes and goes on; where the output's limit would be passed it traps and prints none
+abbrev pub printed : (site : ℕ) → List ℕ → (World → Effect) → World → Effect
+printed site bs go world =
+    if leb (length world.output + length bs) output_limit then go (record world { output = world.output ++ bs }) else traps trap.Output site world
+
+-- takes the next bytes of the input, at most n, into memory, and answers their number
+abbrev pub taken : (a n : ℕ) → World → Effect
+taken a n world =
+    let bs = take n world.input in
+    Gives (length bs) (record (set_bytes a (length bs) (λ k. get_or bs k 0) world) { input = drop n world.input })
+
+-- 'getchar': takes and answers the next byte of the input, or answers -1 at its end
+abbrev pub next_byte : List ℕ → World → Effect
+next_byte [] world = Gives (minus_one 32) world
+next_byte (b ∷ bs) world = Gives b (record world { input = bs })
+
+-- an external with its arguments; 'read' and 'write' ask for a good range whatever the descriptor is
+abbrev pub external : Setting → ℕ → External → List ℕ → World → Effect
+external setting site Malloc words world = malloc setting.fill (word 0 words) world
+external setting site Calloc words world = calloc (word 0 words * word 1 words) world
+external setting site Realloc words world = realloc setting.fill site (word 0 words) (word 1 words) world
+external setting site Free words world = free site (word 0 words) world
+external setting site Memcpy words world =
+    where_good site (word 0 words) (word 2 words) world
+    (where_good site (word 1 words) (word 2 words) world (Gives (word 0 words) (copy_bytes (word 0 words) (word 1 words) (word 2 words) world)))
+external setting site Memmove words world =
+    where_good site (word 0 words) (word 2 words) world
+    (where_good site (word 1 words) (word 2 words) world (Gives (word 0 words) (copy_bytes (word 0 words) (word 1 words) (word 2 words) world)))
+external setting site Memset words world =
+    where_good site (word 0 words) (word 2 words) world
+    (Gives (word 0 words) (set_bytes (word 0 words) (word 2 words) (λ k. word 1 words % 256) world))
+external setting site Memcmp words world =
+    where_good site (word 0 words) (word 2 words) world
+    (where_good site (word 1 words) (word 2 words) world
+    (Gives (compared (bytes_at world.bytes (word 0 words) (word 2 words)) (bytes_at world.bytes (word 1 words) (word 2 words))) world))
+external setting site Strlen words world =
+    elim (string_at world (word 0 words)) [ Some bs ↦ Gives (length bs) world | None ↦ traps trap.BadAddress site world ]
+external setting site Putchar words world = printed site (word 0 words % 256 ∷ []) (Gives (word 0 words % 256)) world
+external setting site Puts words world =
+    elim (string_at world (word 0 words)) [ Some bs ↦ printed site (bs ++ 10 ∷ []) (Gives 1) world | None ↦ traps trap.BadAddress site world ]
+external setting site Getchar words world = next_byte world.input world
+external setting site Read words world =
+    where_good site (word 1 words) (word 2 words) world
+    (if eqb (word 0 words) 0 then taken (word 1 words) (word 2 words) world else Gives (minus_one 64) world)
+external setting site Write words world =
+    where_good site (word 1 words) (word 2 words) world
+    (if eqb (word 0 words) 1
+    then printed site (bytes_at world.bytes (word 1 words) (word 2 words)) (Gives (word 2 words)) world
+    else Gives (minus_one 64) world)
+external setting site Exit words world = Ends («end».Exit (word 0 words)) world
+external setting site Abort words world = traps trap.Abort site world
+external setting site LlvmMemcpy words world =
+    where_good site (word 0 words) (word 2 words) world
+    (where_good site (word 1 words) (word 2 words) world (Does (copy_bytes (word 0 words) (word 1 words) (word 2 words) world)))
+external setting site LlvmMemmove words world =
+    where_good site (word 0 words) (word 2 words) world
+    (where_good site (word 1 words) (word 2 words) world (Does (copy_bytes (word 0 words) (word 1 words) (word 2 words) world)))
+external setting site LlvmMemset words world =
+    where_good site (word 0 words) (word 2 words) world (Does (set_bytes (word 0 words) (word 2 words) (λ k. word 1 words % 256) world))
+external setting site LifetimeStart words world =
+    where_good site (word 1 words) (word 0 words) world (Does (make_bytes setting.fill (word 1 words) (word 0 words) world))
+external setting site LifetimeEnd words world = Does world

@@ -1,0 +1,41 @@
+-- Two shadow states that show the same, whatever stands in their poisoned bits.
+use Rattle.std.specs.Prelude.{◌≡◌, ℕ, List, [], ◌∷◌}
+use Rattle.ms_ir.specs.declared.syntax.Name.{Name}
+use Rattle.ms_runs.specs.World.{World}
+use Rattle.ms_runs.specs.Control.{Frame}
+use Rattle.ms_runs.specs.Poisoned.{Poisoned}
+use Rattle.ms_bits.specs.Completion.{Agrees}
+use Rattle.ms_runs.specs.Shadow.{ShadowState}
+
+pub record LowWord (p q : Poisoned) : Type 0 where
+  pub mask : p.mask ≡ q.mask
+  pub origin : p.origin ≡ q.origin
+  pub value : Agrees 64 p.mask p.value q.value
+
+pub record LowFrame (f g : Frame Poisoned) : Type 0 where
+  pub func : f.func ≡ g.func
+  pub block : f.block ≡ g.block
+  pub place : f.place ≡ g.place
+  pub mark : f.mark ≡ g.mark
+  pub values : (x : Name) → LowWord (f.values x) (g.values x)
+
+abbrev pub LowFrames : List (Frame Poisoned) → List (Frame Poisoned) → Type 0
+LowFrames [] [] = Unit {0}
+LowFrames (f ∷ fs) (g ∷ gs) = LowFrame f g × LowFrames fs gs
+LowFrames _ _ = ⊥
+
+pub record LowWorld (w v : World) : Type 0 where
+  pub allocs : w.allocs ≡ v.allocs
+  pub shadow : w.shadow ≡ v.shadow
+  pub origins : w.origins ≡ v.origins
+  pub pairs : w.pairs ≡ v.pairs
+  pub made : w.made ≡ v.made
+  pub input : w.input ≡ v.input
+  pub output : w.output ≡ v.output
+  pub reports : w.reports ≡ v.reports
+  pub blind : w.blind ≡ v.blind
+  pub bytes : (a : ℕ) → Agrees 8 (w.shadow a) (w.bytes a) (v.bytes a)
+
+pub record LowEqual (c d : ShadowState) : Type 0 where
+  pub frames : LowFrames c.frames d.frames
+  pub world : LowWorld c.world d.world

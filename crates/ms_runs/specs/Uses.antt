@@ -1,0 +1,111 @@
+-- The uses that are checked, and the blind ones.
+use Rattle.std.specs.Prelude.{ℕ, zero, suc, Bool, ◌||◌, List, [], ◌∷◌, take, drop, if◌then◌else◌, Option, Some, None}
+use Rattle.ms_bits.specs.declared.operations.Flags.{Flags}
+use Rattle.ms_bits.specs.declared.operations.BinOp.{BinOp}
+use Rattle.ms_bits.specs.declared.operations.BinOp.TheVariants.{Add, Sub, Mul, Udiv, Sdiv, Urem, Srem, Shl, Lshr, Ashr}
+use Rattle.ms_ir.specs.declared.syntax.Ty.{Ty}
+use Rattle.ms_ir.specs.declared.syntax.Ty as ty
+use Rattle.ms_ir.specs.declared.syntax.Operand.{Operand}
+use Rattle.ms_ir.specs.declared.syntax.Op.{Op}
+use Rattle.ms_ir.specs.declared.syntax.Op.TheVariants as op
+use Rattle.ms_ir.specs.declared.syntax.Name.{Name}
+use Rattle.ms_ir.specs.declared.calls.External.{External}
+use Rattle.ms_ir.specs.declared.calls.External.TheVariants.{Malloc, Calloc, Realloc, Free, Memcpy, Memmove, Memset, Memcmp, Strlen, Putchar, Puts, Getchar, Read, Write, Exit, Abort, LlvmMemcpy, LlvmMemmove, LlvmMemset, LifetimeStart, LifetimeEnd}
+use Rattle.ms_ir.specs.Layout.{width_of}
+use Rattle.ms_runs.specs.World.{World, Setting, Effect, Does, then_does}
+use Rattle.ms_runs.specs.Origins.{check, check_memory, check_string}
+use Rattle.ms_ir.specs.Code.{external_named}
+use Rattle.ms_runs.specs.Poisoned.{Poisoned}
+use Rattle.ms_runs.specs.Masks.{word_at}
+
+-- a checked use: the mask of an operand, whose place is the part; the bytes at an operand; the string there
+pub data Use : Type 0 where
+  Word : (kind operand : ℕ) → Use
+  Bytes : (kind addr size : ℕ) → Use
+  Line : (addr : ℕ) → Use
+
+abbrev pub external_uses : External → List Use
+external_uses Malloc = Word 5 0 ∷ []
+external_uses Calloc = Word 5 0 ∷ Word 5 1 ∷ []
+external_uses Realloc = Word 6 0 ∷ Word 5 1 ∷ []
+external_uses Free = Word 6 0 ∷ []
+external_uses Memcpy = Word 6 0 ∷ Word 6 1 ∷ Word 5 2 ∷ []
+external_uses Memmove = Word 6 0 ∷ Word 6 1 ∷ Word 5 2 ∷ []
+external_uses Memset = Word 6 0 ∷ Word 5 2 ∷ []
+external_uses Memcmp = Word 6 0 ∷ Word 6 1 ∷ Word 5 2 ∷ Bytes 11 0 2 ∷ Bytes 12 1 2 ∷ []
+external_uses Strlen = Word 6 0 ∷ Line 0 ∷ []
+external_uses Putchar = Word 7 0 ∷ []
+external_uses Puts = Word 6 0 ∷ Line 0 ∷ []
+external_uses Getchar = []
+external_uses Read = Word 7 0 ∷ Word 6 1 ∷ Word 5 2 ∷ []
+external_uses Write = Word 7 0 ∷ Word 6 1 ∷ Word 5 2 ∷ Bytes 9 1 2 ∷ []
+external_uses Exit = Word 8 0 ∷ []
+external_uses Abort = []
+external_uses LlvmMemcpy = Word 6 0 ∷ Word 6 1 ∷ Word 5 2 ∷ []
+external_uses LlvmMemmove = Word 6 0 ∷ Word 6 1 ∷ Word 5 2 ∷ []
+external_uses LlvmMemset = Word 6 0 ∷ Word 5 2 ∷ []
+external_uses LifetimeStart = Word 5 0 ∷ Word 6 1 ∷ []
+external_uses LifetimeEnd = Word 5 0 ∷ Word 6 1 ∷ []
+
+abbrev pub binary_uses : BinOp → List Use
+binary_uses Udiv = Word 4 1 ∷ []
+binary_uses Sdiv = Word 4 1 ∷ []
+binary_uses Urem = Word 4 1 ∷ []
+binary_uses Srem = Word 4 1 ∷ []
+binary_uses _ = []
+
+abbrev pub callee_uses : Option External → List Use
+callee_uses None = []
+callee_uses (Some e) = external_uses e
+
+abbrev pub uses : (Name → Option ℕ) → (main : Bool) → Op → List Use
+uses func main (op.Binary o f t a b) = binary_uses o
+uses func main (op.Alloca t u c) = Word 5 0 ∷ []
+uses func main (op.Load t a) = Word 3 0 ∷ []
+uses func main (op.Store t v a) = Word 3 1 ∷ []
+uses func main (op.Call r x as') = callee_uses (external_named func x)
+uses func main (op.CondBr c to other) = Word 1 0 ∷ []
+uses func main (op.Switch t v other cases) = Word 2 0 ∷ []
+uses func main (op.Ret v) = if main then Word 8 0 ∷ [] else []
+uses func main _ = []
+
+abbrev pub type_at : ℕ → List (Ty × Operand) → Ty
+type_at k [] = ty.Ptr
+type_at zero (o ∷ os) = o.0
+type_at (suc k) (o ∷ os) = type_at k os
+
+abbrev pub check_use : Setting → (site : ℕ) → List (Ty × Operand) → List Poisoned → Use → World → Effect
+check_use s site os ps (Word kind k) w = check s (word_at k ps).mask (width_of (type_at k os)) (word_at k ps).origin kind k site w
+check_use s site os ps (Bytes kind a n) w = check_memory s (word_at a ps).value (word_at n ps).value kind site w
+check_use s site os ps (Line a) w = check_string s (word_at a ps).value site w
+
+abbrev pub check_uses : Setting → (site : ℕ) → List (Ty × Operand) → List Poisoned → List Use → World → Effect
+check_uses s site os ps [] w = Does w
+check_uses s site os ps (u ∷ us) w = then_does (check_use s site os ps u w) (check_uses s site os ps us)
+
+-- ---- blind uses
+
+abbrev pub has_flag : Flags → Bool
+has_flag f = f.nuw || f.nsw || f.exact || f.disjoint || f.nneg || f.samesign
+
+abbrev pub blind_binary : Bool → BinOp → List Poisoned → List Poisoned
+blind_binary sums Add ps = if sums then ps else []
+blind_binary sums Sub ps = if sums then ps else []
+blind_binary sums Mul ps = if sums then ps else []
+blind_binary sums Udiv ps = take 1 ps
+blind_binary sums Sdiv ps = take 1 ps
+blind_binary sums Urem ps = take 1 ps
+blind_binary sums Srem ps = take 1 ps
+blind_binary sums Shl ps = drop 1 ps
+blind_binary sums Lshr ps = drop 1 ps
+blind_binary sums Ashr ps = drop 1 ps
+blind_binary sums _ ps = []
+
+-- the words whose poison an instruction loses
+abbrev pub blinded : Bool → Op → List Poisoned → List Poisoned
+blinded sums (op.Binary o f t a b) ps = if has_flag f then ps else blind_binary sums o ps
+blinded sums (op.Icmp p f t a b) ps = if has_flag f then ps else []
+blinded sums (op.Cast o f t a u) ps = if has_flag f then ps else []
+blinded sums (op.Freeze t a) ps = ps
+blinded sums (op.Gep t a is) ps = if sums then ps else []
+blinded sums _ ps = []

@@ -1,0 +1,8 @@
+//! What a run of a module is given and answers, and what it means: the definitions that every contract on runs cites.
+#![tactic(auto)]
+
+pub mod copying;
+pub mod runs;
+pub mod shared;
+
+pub use runs::{End, Origin, Report, RunResult, Setup};

@@ -1,0 +1,78 @@
+-- Where a step of a formed and valid module ends the run, it has a site: no phi is due, and a return has a caller.
+use Rattle.std.proofs.Common.{◌≡◌, ◌≤◌, ◌+◌, ℕ, zero, suc, List, [], ◌∷◌, length, leb, Bool, true, false, not, ◌&&◌, Option, Some, option_map, unwrap_or, slice_get, refl, sym, ap, ◌∙◌, arith, if◌then◌else◌, true≢false}
+use Rattle.std.proofs.lemmas.Bool.{and_parts}
+use Rattle.ms_ir.specs.Code.{is_phi}
+use Rattle.ms_bits.specs.declared.traps.Trap.TheVariants as trap
+use Rattle.ms_ir.specs.declared.syntax.Name.{Name}
+use Rattle.ms_ir.specs.declared.syntax.Name.TheVariants.{Number}
+use Rattle.ms_ir.specs.declared.syntax.Op.{Op}
+use Rattle.ms_ir.specs.declared.syntax.Op.TheVariants as op
+use Rattle.ms_ir.specs.declared.syntax.Inst.{Inst}
+use Rattle.ms_ir.specs.declared.syntax.Module.{Module}
+use Rattle.ms_runs.specs.declared.runs.End.TheVariants as «end»
+use Rattle.ms_ir.specs.Names.{name_eq, main_name}
+use Rattle.ms_runs.specs.World.{World, Setting, Effect, Gives, Does, Goes, Enters, Leaves, Ends}
+use Rattle.ms_runs.specs.Control.{Frame, Reading, Outcome, On, Over, count_phis, here, entered, after_effect}
+use Rattle.ms_valid.specs.FormedCode.{is_terminator, ends_well, is_body}
+use Rattle.ms_runs_good.specs.GoodStates.{GoodFrames}
+use Rattle.ms_valid.proofs.NameTests.{name_same}
+use Rattle.ms_runs_good.specs.Sited.{IsSite, HasSite, IsSited}
+use Rattle.ms_runs_good.proofs.WorldChanges.{either}
+use Rattle.ms_runs_good.proofs.CallTypes.{func_found}
+
+-- ---- phis
+
+terminator_plain : (o : Op) → is_terminator o ≡ true → is_phi o ≡ false
+terminator_plain (op.Phi t edges) e = absurd (true≢false (sym e))
+terminator_plain o e = refl
+
+not_true : (b : Bool) → not b ≡ true → b ≡ false
+not_true true e = absurd (true≢false (sym e))
+not_true false e = refl
+
+ends_plain : (insts : List Inst) (p : ℕ) (i : Inst) → ends_well insts ≡ true → slice_get insts p ≡ Some i → is_phi i.op ≡ false
+ends_plain [] p i w e = grind arith
+ends_plain (j ∷ []) zero i w e = ap (λ o. is_phi (unwrap_or o j).op) (sym e) ∙ terminator_plain j.op w
+ends_plain (j ∷ []) (suc p) i w e = grind arith
+ends_plain (j ∷ next ∷ rest) zero i w e =
+    let front = (and_parts (not (is_terminator j.op) && not (is_phi j.op)) (ends_well (next ∷ rest)) w).0 in
+    ap (λ o. is_phi (unwrap_or o j).op) (sym e) ∙ not_true (is_phi j.op) (and_parts (not (is_terminator j.op)) (not (is_phi j.op)) front).1
+ends_plain (j ∷ next ∷ rest) (suc p) i w e = ends_plain (next ∷ rest) p i (and_parts (not (is_terminator j.op) && not (is_phi j.op)) (ends_well (next ∷ rest)) w).1 e
+
+-- behind a body's phis stands no phi
+pub behind_phis : (insts : List Inst) (p : ℕ) (i : Inst) → is_body insts ≡ true → count_phis insts ≤ p → slice_get insts p ≡ Some i → is_phi i.op ≡ false
+behind_phis [] p i b l e = grind arith
+behind_phis (j ∷ rest) p i b l e = by_op j.op p b l e (λ q c k d. behind_phis rest q i c k d)
+  where
+    by_op : (o : Op) (p : ℕ) → (if is_phi o then is_body rest else ends_well (j ∷ rest)) ≡ true → elim o [ op.Phi t edges ↦ suc (count_phis rest) | _ ↦ 0 ] ≤ p → slice_get (j ∷ rest) p ≡ Some i
+        → ((q : ℕ) → is_body rest ≡ true → count_phis rest ≤ q → slice_get rest q ≡ Some i → is_phi i.op ≡ false) → is_phi i.op ≡ false
+    by_op (op.Phi t edges) zero b l e later = absurd (too_many (count_phis rest) l)
+      where
+        too_many : (n : ℕ) → suc n ≤ 0 → ⊥
+        too_many n l = omega (arith, l)
+    by_op (op.Phi t edges) (suc q) b l e later = later q b (omega (arith, l)) e
+    by_op o p b l e later = ends_plain (j ∷ rest) p i b e
+
+-- ---- returns
+
+-- the last frame is `main`'s
+pub last_is_main : {V : Type 0} (holds : V → ℕ → Type 0) (setting : Setting) (m : Module) (frame : Frame V) → GoodFrames holds m (frame ∷ []) → (here setting m frame).main ≡ true
+last_is_main holds setting m frame frames =
+    let found = func_found m.funcs main_name frame.func frames.1 in
+    ap (λ o. name_eq (unwrap_or (option_map (λ g. g.name) o) (Number 0)) main_name) found.1 ∙ ap (λ x. name_eq x main_name) found.2 ∙ name_same main_name
+
+-- where a move ends the run, it has a site
+abbrev pub MovedSited : {V : Type 0} → Module → Outcome V → Type 0
+MovedSited m (On frames w) = Unit {0}
+MovedSited m (Over e w) = HasSite m e
+
+pub moves_sited : {V : Type 0} (holds : V → ℕ → Type 0) (reading : Reading V) (setting : Setting) (m : Module) (site : ℕ) → IsSite m site → (x : Option Name) (words : List V) (lift : ℕ → World → V) (after : ℕ → World → World)
+    → (frame : Frame V) (below : List (Frame V)) → GoodFrames holds m (frame ∷ below) → (e : Effect) → IsSited m (here setting m frame).main e → MovedSited m (after_effect reading setting m site x words lift after frame below e)
+moves_sited holds reading setting m site sited x words lift after frame below frames (Gives v w) h = tt
+moves_sited holds reading setting m site sited x words lift after frame below frames (Does w) h = tt
+moves_sited holds reading setting m site sited x words lift after frame below frames (Goes to w) h = tt
+moves_sited holds reading setting m site sited x words lift after frame below frames (Enters n w) h =
+    either (MovedSited m) (leb 1024 (length below + 1)) (Over («end».Trap trap.Depth site) w) (On (entered reading m n words w ∷ frame ∷ below) w) sited tt
+moves_sited holds reading setting m site sited x words lift after frame [] frames (Leaves w) h = absurd (true≢false (sym (last_is_main holds setting m frame frames) ∙ h))
+moves_sited holds reading setting m site sited x words lift after frame (caller ∷ below) frames (Leaves w) h = tt
+moves_sited holds reading setting m site sited x words lift after frame below frames (Ends e w) h = h

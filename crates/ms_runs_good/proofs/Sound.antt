@@ -1,0 +1,82 @@
+-- The runs of a formed and valid module: their starts, steps and states.
+use Rattle.std.proofs.Common.{◌<◌, ℕ, All, sym, subst, arith}
+use Rattle.ms_ir.specs.declared.syntax.Module.{Module}
+use Rattle.ms_runs.specs.declared.runs.Setup.{Setup}
+use Rattle.ms_runs.specs.Act.{plain_reading}
+use Rattle.ms_runs.specs.Plain.{steps, PlainState, plain_step, setting_of, plain, plain_start}
+use Rattle.ms_runs.specs.Masks.{Rules}
+use Rattle.ms_runs.specs.Shadow.{ShadowState, shadow_reading, shadow_step, shadow_by, shadow_start}
+use Rattle.ms_ir.specs.Code.{NoMarks}
+use Rattle.ms_valid.specs.Formed.{Formed}
+use Rattle.ms_runs_good.specs.GoodStates.{IsBelow, PoisonedBelow, GoodShadow}
+use Rattle.ms_valid.specs.Valid.{Valid}
+use Rattle.ms_runs_good.proofs.Starts.{start_good}
+use Rattle.ms_runs_good.specs.GoodWorlds.{GoodWorld, GivesBytes, FitsCell, AnyOrigin}
+use Rattle.ms_runs_good.specs.GoodRules.{KeepWidths}
+use Rattle.ms_runs_good.specs.GoodRuns.{SoundPlain, SoundShadow, LeadsTo}
+use Rattle.ms_runs_good.proofs.Starting.{plain_setting, shadow_setting, start_world_good}
+use Rattle.ms_runs_good.proofs.PlainSteps as plain_steps
+use Rattle.ms_runs_good.proofs.ShadowSteps as shadow_steps
+use Rattle.ms_runs_good.specs.Sited.{HasSite, StopsAtSite}
+use Rattle.ms_runs_good.proofs.SitedShadow.{step_stops}
+use Rattle.ms_runs_good.proofs.RunsReached.{steps_keep, run_is, answer_bytes, steps_stop, answer_sited}
+
+pub plain_sound : (m : Module) → Formed m → Valid m → (setup : Setup) → GivesBytes setup → SoundPlain m (plain_start m setup)
+plain_sound m formed valid setup bytes = record {
+  frames = start_good IsBelow plain_reading m formed valid;
+  slots = λ a. omega arith;
+  world = start_world_good FitsCell (omega arith) m formed valid setup bytes;
+}
+
+pub shadow_sound : (m : Module) → Formed m → Valid m → (setup : Setup) → GivesBytes setup → SoundShadow m (shadow_start m setup)
+shadow_sound m formed valid setup bytes = record {
+  frames = start_good PoisonedBelow shadow_reading m formed valid;
+  world = start_world_good AnyOrigin tt m formed valid setup bytes;
+}
+
+pub plain_keeps : (m : Module) → Formed m → Valid m → (setup : Setup) → GivesBytes setup → (state : PlainState) → SoundPlain m state
+    → LeadsTo (SoundPlain m) (GoodWorld FitsCell) (plain_step (setting_of m setup) m state)
+plain_keeps m formed valid setup bytes state sound = (plain_steps.step_good m formed valid setup (plain_setting m formed setup bytes) state sound).0
+
+pub shadow_keeps : (d : Rules) → KeepWidths d → (m : Module) → Formed m → Valid m → (setup : Setup) → GivesBytes setup → (state : ShadowState) → SoundShadow m state
+    → LeadsTo (SoundShadow m) (GoodWorld AnyOrigin) (shadow_step d (setting_of m setup) m state)
+shadow_keeps d keep m formed valid setup bytes = shadow_steps.step_good m formed valid setup (shadow_setting m setup bytes) d keep
+
+pub plain_reached : (m : Module) → Formed m → Valid m → (setup : Setup) → GivesBytes setup → (n : ℕ)
+    → LeadsTo (SoundPlain m) (GoodWorld FitsCell) (steps (plain_step (setting_of m setup) m) n (plain_start m setup))
+plain_reached m formed valid setup bytes n =
+    steps_keep (SoundPlain m) (GoodWorld FitsCell) (plain_step (setting_of m setup) m) (plain_keeps m formed valid setup bytes) n (plain_start m setup) (plain_sound m formed valid setup bytes)
+
+pub shadow_reached : (d : Rules) → KeepWidths d → (m : Module) → Formed m → Valid m → (setup : Setup) → GivesBytes setup → (n : ℕ)
+    → LeadsTo (SoundShadow m) (GoodWorld AnyOrigin) (steps (shadow_step d (setting_of m setup) m) n (shadow_start m setup))
+shadow_reached d keep m formed valid setup bytes n =
+    steps_keep (SoundShadow m) (GoodWorld AnyOrigin) (shadow_step d (setting_of m setup) m) (shadow_keeps d keep m formed valid setup bytes) n (shadow_start m setup)
+    (shadow_sound m formed valid setup bytes)
+
+pub plain_bytes : (m : Module) → Formed m → Valid m → (setup : Setup) → GivesBytes setup → All (λ b. b < 256) (plain m setup).output
+plain_bytes m formed valid setup bytes =
+    subst (λ r. All (λ b. b < 256) r.output) (sym (run_is (λ s. s.world) (plain_step (setting_of m setup) m) setup.steps (plain_start m setup)))
+    (answer_bytes (SoundPlain m) (GoodWorld FitsCell) (λ s. s.world) (λ s h. h.world) (λ w h. h.output) (steps (plain_step (setting_of m setup) m) setup.steps (plain_start m setup))
+    (plain_reached m formed valid setup bytes setup.steps))
+
+-- ---- sites
+
+pub plain_stops : (m : Module) → Formed m → Valid m → (setup : Setup) → GivesBytes setup → (state : PlainState) → SoundPlain m state → StopsAtSite m (plain_step (setting_of m setup) m state)
+plain_stops m formed valid setup bytes state sound = (plain_steps.step_good m formed valid setup (plain_setting m formed setup bytes) state sound).1
+
+pub plain_sited : (m : Module) → Formed m → Valid m → (setup : Setup) → GivesBytes setup → HasSite m (plain m setup).«end»
+plain_sited m formed valid setup bytes =
+    subst (λ r. HasSite m r.«end») (sym (run_is (λ s. s.world) (plain_step (setting_of m setup) m) setup.steps (plain_start m setup)))
+    (answer_sited m (λ s. s.world) (steps (plain_step (setting_of m setup) m) setup.steps (plain_start m setup))
+    (steps_stop m (SoundPlain m) (GoodWorld FitsCell) (plain_step (setting_of m setup) m) (plain_keeps m formed valid setup bytes) (plain_stops m formed valid setup bytes) setup.steps
+    (plain_start m setup) (plain_sound m formed valid setup bytes)))
+
+pub shadow_stops : (d : Rules) (m : Module) → Formed m → Valid m → NoMarks m → (setup : Setup) → (state : ShadowState) → GoodShadow m state → StopsAtSite m (shadow_step d (setting_of m setup) m state)
+shadow_stops d m formed valid bare setup state good = step_stops d m formed valid bare setup state good
+
+pub shadow_sited : (d : Rules) → KeepWidths d → (m : Module) → Formed m → Valid m → NoMarks m → (setup : Setup) → GivesBytes setup → HasSite m (shadow_by d m setup).«end»
+shadow_sited d keep m formed valid bare setup bytes =
+    subst (λ r. HasSite m r.«end») (sym (run_is (λ s. s.world) (shadow_step d (setting_of m setup) m) setup.steps (shadow_start m setup)))
+    (answer_sited m (λ s. s.world) (steps (shadow_step d (setting_of m setup) m) setup.steps (shadow_start m setup))
+    (steps_stop m (SoundShadow m) (GoodWorld AnyOrigin) (shadow_step d (setting_of m setup) m) (shadow_keeps d keep m formed valid setup bytes)
+    (λ state sound. shadow_stops d m formed valid bare setup state sound.frames) setup.steps (shadow_start m setup) (shadow_sound m formed valid setup bytes)))

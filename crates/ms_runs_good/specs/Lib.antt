@@ -1,0 +1,11 @@
+pub mod GoodStates
+pub mod GoodEffects
+pub mod GoodWorlds
+pub mod Straight
+pub mod GoodRules
+pub mod GoodRuns
+pub mod Sited
+pub mod Reached
+pub mod ExampleWalks
+pub mod Fills
+pub mod Verdict

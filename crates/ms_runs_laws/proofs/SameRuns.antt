@@ -1,0 +1,144 @@
+-- Rules that agree on words in range give the same runs.
+use Rattle.std.proofs.Common.{◌≡◌, ℕ, zero, suc, ◌+◌, ◌-◌, ◌*◌, ◌^◌, ◌<◌, List, [], ◌∷◌, refl, ap, ◌∙◌, arith}
+use Rattle.std.specs.Prelude.{map}
+use Rattle.std.proofs.Math.Nat.{pow-suc}
+use Rattle.std.proofs.lemmas.Nat.{mod_below, pow_pos}
+use Rattle.std.proofs.lemmas.Nat.Bits.{bit_at-lt}
+use Rattle.ms_bits.specs.declared.operations.BinOp.{BinOp}
+use Rattle.ms_bits.specs.declared.operations.BinOp.TheVariants.{Add, Sub, Mul, Udiv, Sdiv, Urem, Srem, Shl, Lshr, Ashr, And, Or, Xor}
+use Rattle.ms_ir.specs.declared.syntax.Name.{Name}
+use Rattle.ms_ir.specs.declared.syntax.Ty.{Ty}
+use Rattle.ms_ir.specs.declared.syntax.Ty as ty
+use Rattle.ms_ir.specs.declared.syntax.Operand.{Operand}
+use Rattle.ms_ir.specs.declared.syntax.Operand.TheVariants as operand
+use Rattle.ms_ir.specs.declared.syntax.Op.{Op}
+use Rattle.ms_ir.specs.declared.syntax.Op.TheVariants as op
+use Rattle.ms_ir.specs.declared.syntax.Inst.{Inst}
+use Rattle.ms_ir.specs.declared.syntax.Module.{Module}
+use Rattle.ms_runs.specs.declared.runs.Setup.{Setup}
+use Rattle.ms_bits.specs.Fill.{number_of_bits, undef_bit, undef_word_of}
+use Rattle.ms_ir.specs.Layout.{width_of}
+use Rattle.ms_runs.specs.World.{World, Setting, Here, Effect, Gives, Does, Goes, Enters, Leaves, Ends}
+use Rattle.ms_ir.specs.Code.{operands, count_undefs, one_undef}
+use Rattle.ms_runs.specs.Control.{Frame, here, rest_of, read_all, after_effect}
+use Rattle.ms_runs.specs.Act.{operand_word, act}
+use Rattle.ms_runs.specs.Plain.{run, setting_of, start_world, start_frame}
+use Rattle.ms_runs.specs.Poisoned.{Poisoned, InRange}
+use Rattle.ms_runs.specs.Masks.{Rules, SameRules, union, binary_mask, result_mask, result_origin}
+use Rattle.ms_runs.specs.Uses.{blinded}
+use Rattle.ms_runs.specs.Origins.{count_blind}
+use Rattle.ms_runs.specs.Shadow.{read_poisoned, shadow_reading, operand_mask, planes, poisoned_result, shadow_act, after_checks, shadow_first, shadow_frames, shadow_moved, shadow_by}
+
+-- ---- words that are read are in range
+
+bits_fit : (f : ℕ → ℕ) → ((i : ℕ) → f i < 2) → (n : ℕ) → number_of_bits f n < 2 ^ n
+unfolding number_of_bits
+bits_fit f h zero = omega arith
+bits_fit f h (suc n) = step (f n) (h n) (bits_fit f h n)
+  where
+    step : (d : ℕ) → d < 2 → number_of_bits f n < 2 ^ n → number_of_bits f n + d * 2 ^ n < 2 ^ suc n
+    step d q r = grind (arith, pow-suc 2 n)
+
+undef_fits : (fill : List ℕ) (w : ℕ) → undef_word_of fill w < 2 ^ w
+unfolding undef_word_of undef_bit
+undef_fits fill w = bits_fit _ (λ i. bit_at-lt _ _) w
+
+ones_fit : (w : ℕ) → 2 ^ w - 1 < 2 ^ w
+ones_fit w = omega (arith, pow_pos w)
+
+word_fits : (s : Setting) (v : Name → ℕ) (w : ℕ) (o : Operand) → operand_word s v w o < 2 ^ w
+word_fits s v w (operand.Int n) = mod_below _ _ (pow_pos w)
+word_fits s v w operand.Null = mod_below _ _ (pow_pos w)
+word_fits s v w operand.Undef = undef_fits s.fill w
+word_fits s v w operand.Poison = undef_fits s.fill w
+word_fits s v w (operand.Local x) = mod_below _ _ (pow_pos w)
+word_fits s v w (operand.Global x) = mod_below _ _ (pow_pos w)
+word_fits s v w (operand.Offset t x is) = mod_below _ _ (pow_pos w)
+
+mask_fits : (v : Name → Poisoned) (w : ℕ) (o : Operand) → operand_mask v w o < 2 ^ w
+mask_fits v w (operand.Int n) = pow_pos w
+mask_fits v w operand.Null = pow_pos w
+mask_fits v w operand.Undef = ones_fit w
+mask_fits v w operand.Poison = ones_fit w
+mask_fits v w (operand.Local x) = mod_below _ _ (pow_pos w)
+mask_fits v w (operand.Global x) = pow_pos w
+mask_fits v w (operand.Offset t x is) = pow_pos w
+
+read_fits : (s : Setting) (v : Name → Poisoned) (root : ℕ) (t : Ty) (o : Operand) → InRange (width_of t) (read_poisoned s v root t o)
+read_fits s v root t o = record { value = word_fits s _ (width_of t) o; mask = mask_fits v (width_of t) o }
+
+-- ---- the same masks
+
+same_binary : {d e : Rules} → SameRules d e → (o : BinOp) (w : ℕ) (p q : Poisoned) → InRange w p → InRange w q → binary_mask d o w p q ≡ binary_mask e o w p q
+same_binary same Add w p q a b = same.sum w _
+same_binary same Sub w p q a b = same.sum w _
+same_binary same Mul w p q a b = same.sum w _
+same_binary same Udiv w p q a b = refl
+same_binary same Sdiv w p q a b = refl
+same_binary same Urem w p q a b = refl
+same_binary same Srem w p q a b = refl
+same_binary same Shl w p q a b = refl
+same_binary same Lshr w p q a b = refl
+same_binary same Ashr w p q a b = refl
+same_binary same And w p q a b = same.both w p q a b
+same_binary same Or w p q a b = same.either w p q a b
+same_binary same Xor w p q a b = same.one w p q a b
+
+-- the words of an instruction
+abbrev words_of : Setting → (Name → Poisoned) → ℕ → Op → List Poisoned
+words_of s v n o = read_all (read_poisoned s v) (operands o) n
+
+same_mask : {d e : Rules} → SameRules d e → (s : Setting) (v : Name → Poisoned) (n : ℕ) (o : Op) (w : World) → result_mask d o (words_of s v n o) w ≡ result_mask e o (words_of s v n o) w
+same_mask same s v n (op.Binary o f t a b) w = same_binary same o (width_of t) _ _ (read_fits s v n t a) (read_fits s v (n + one_undef a) t b)
+same_mask same s v n (op.Icmp p f t a b) w = same.compare p (width_of t) _ _ (read_fits s v n t a) (read_fits s v (n + one_undef a) t b)
+same_mask same s v n (op.Cast o f t a u) w = refl
+same_mask same s v n (op.Select c t a b) w = same.select (width_of t) _ _ _ (read_fits s v n (ty.Int 1) c) (read_fits s v (n + one_undef c) t a) (read_fits s v (n + one_undef c + one_undef a) t b)
+same_mask same s v n (op.Freeze t a) w = refl
+same_mask same s v n (op.Phi t es) w = refl
+same_mask same s v n (op.Alloca t u c) w = refl
+same_mask same s v n (op.Load t a) w = refl
+same_mask same s v n (op.Store t x a) w = refl
+same_mask same s v n (op.Gep t a is) w = same.sum 64 _
+same_mask same s v n (op.Call r x as') w = refl
+same_mask same s v n (op.Br to) w = refl
+same_mask same s v n (op.CondBr c to other) w = refl
+same_mask same s v n (op.Switch t x other cases) w = refl
+same_mask same s v n (op.Ret x) w = refl
+same_mask same s v n op.Unreachable w = refl
+
+-- ---- the same runs
+
+same_result : {d e : Rules} → SameRules d e → (s : Setting) (v : Name → Poisoned) (n : ℕ) (o : Op) → poisoned_result d o (words_of s v n o) ≡ poisoned_result e o (words_of s v n o)
+same_result same s v n o = λ i x w. record { value = x; mask = same_mask same s v n o w i; origin = result_origin o (words_of s v n o) (same_mask same s v n o w i) w }
+
+same_act : {d e : Rules} → SameRules d e → (s : Setting) (m : Module) (i : Inst) (h : Here) (fr : Frame Poisoned) (below : List (Frame Poisoned)) (w : World)
+    → shadow_act d s m i h (words_of s fr.values h.root i.op) fr below w ≡ shadow_act e s m i h (words_of s fr.values h.root i.op) fr below w
+same_act same s m i h fr below w =
+    ap (λ lift. after_effect shadow_reading s m h.site i.result (words_of s fr.values h.root i.op) lift
+    (planes s h.site (h.root + count_undefs (operands i.op) + 1) i.op (words_of s fr.values h.root i.op) w)
+    fr below (act s h i.op (map (λ p. p.value) (words_of s fr.values h.root i.op)) w))
+    (same_result same s fr.values h.root i.op)
+
+same_after : {d e : Rules} → SameRules d e → (s : Setting) (m : Module) (i : Inst) (h : Here) (fr : Frame Poisoned) (below : List (Frame Poisoned)) (x : Effect)
+    → after_checks d s m i h (words_of s fr.values h.root i.op) fr below x ≡ after_checks e s m i h (words_of s fr.values h.root i.op) fr below x
+same_after {d} {e} same s m i h fr below (Does w) =
+    ap (λ b. shadow_act d s m i h (words_of s fr.values h.root i.op) fr below (count_blind (union (map (λ p. p.mask) (blinded b i.op (words_of s fr.values h.root i.op)))) w)) same.blind
+    ∙ same_act same s m i h fr below _
+same_after same s m i h fr below (Gives v w) = refl
+same_after same s m i h fr below (Goes x w) = refl
+same_after same s m i h fr below (Enters f w) = refl
+same_after same s m i h fr below (Leaves w) = refl
+same_after same s m i h fr below (Ends x w) = refl
+
+same_first : {d e : Rules} → SameRules d e → (s : Setting) (m : Module) (is : List Inst) (fr : Frame Poisoned) (below : List (Frame Poisoned)) (w : World) → shadow_first d s m is fr below w ≡ shadow_first e s m is fr below w
+same_first same s m [] fr below w = refl
+same_first same s m (i ∷ is) fr below w = same_after same s m i (here s m fr) fr below _
+
+same_frames : {d e : Rules} → SameRules d e → (s : Setting) (m : Module) (fs : List (Frame Poisoned)) (w : World) → shadow_frames d s m fs w ≡ shadow_frames e s m fs w
+same_frames same s m [] w = refl
+same_frames same s m (fr ∷ below) w = same_first same s m (rest_of m fr) fr below w
+
+pub same_shadow : {d e : Rules} → SameRules d e → (m : Module) (s : Setup) → shadow_by d m s ≡ shadow_by e m s
+same_shadow same m s =
+    ap (λ step. run (λ c. c.world) step s.steps (record { frames = start_frame shadow_reading m ∷ []; world = start_world m s }))
+    (λ i c. shadow_moved (same_frames same (setting_of m s) m c.frames c.world i))

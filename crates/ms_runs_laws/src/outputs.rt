@@ -1,0 +1,16 @@
+//! What a shadow run shows of the plain run, and with it what instrumented code does.
+ghost use Rattle.ms_ir.specs.declared.syntax.Module.{Module};
+ghost use Rattle.ms_runs.specs.declared.runs.Setup.{Setup};
+ghost use Rattle.ms_runs.specs.Masks.{Rules};
+ghost use Rattle.ms_runs.specs.Plain.{plain};
+ghost use Rattle.ms_runs.specs.Shadow.{shadow_by};
+ghost use Rattle.ms_runs.specs.Faithful.{Fair, Faithful, Undisturbed};
+ghost use Rattle.ms_ir.specs.Code.{NoMarks};
+
+/// Checks don't disturb a run: the shadow run of a module without marks puts out a beginning of what its plain run puts
+/// out, and unless it ends as reported it has the same end and the same output. This holds for every choice of masks, and
+/// so for the plain run of a module with inserted code that is faithful.
+pub fn undisturbed()
+    ensures shadow_runs { (d : Rules) (m : Module) → NoMarks m → (setup : Setup) → Undisturbed (shadow_by d m setup) (plain m setup) }
+    ensures instrumented { (m j : Module) → Faithful m j → (setup : Setup) → Fair setup → Undisturbed (plain j setup) (plain m setup) }
+{}

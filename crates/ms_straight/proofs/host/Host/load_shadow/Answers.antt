@@ -1,0 +1,19 @@
+use Rattle.std.proofs.Common.{◌≡◌, ℕ, ◌∙◌, sym, subst, true, ap}
+use Rattle.ms_alloc.specs.Allocations.{is_good as is_live}
+use Rattle.ms_planes.specs.Memory.{shadow_of}
+use Rattle.ms_straight.specs.State.{HostState}
+use Rattle.ms_straight.specs.Shows.{Shows}
+use Rattle.ms_straight.proofs.Agreement.{good-of, number-agrees}
+use Rattle.ms_straight.proofs.host.Host.load_shadow.Goals as goal
+
+pub returns-then-covers : goal.returns-then-covers
+returns-then-covers c = λ world shows.
+    let s = subst (λ (h : HostState). Shows h world) (sym c.self.view_is) shows in
+    let good : is_live c.args.addr c.args.n c.self.inside.planes.table ≡ true =
+    subst (λ (n : ℕ). is_live c.args.addr n c.self.inside.planes.table ≡ true) c.from.ensures (sym c.covers.ensures ∙ c.if-covers.true) in
+    (good-of _ world c.args.addr c.args.n s ∙ good, c.load_shadow.ensures ∙ sym (number-agrees c.self.inside.planes.table world.shadow (shadow_of c.self.inside.planes) c.args.addr c.args.n s.shadow good))
+
+pub returns-else-covers : goal.returns-else-covers
+returns-else-covers c = λ world shows.
+    let s = subst (λ (h : HostState). Shows h world) (sym c.self.view_is) shows in
+    good-of _ world c.args.addr c.args.n s ∙ ap (λ (n : ℕ). is_live c.args.addr n c.self.inside.planes.table) (sym c.from.ensures) ∙ sym c.covers.ensures ∙ c.if-covers.false
