@@ -1,12 +1,11 @@
--- A checked module may cross threads, since a module and its places may.
+-- A checked module may cross threads, since a module may.
 use denote.Param.Send.{IsSend, IsSync, view_send, view_sync}
 use denote.Param.SendFields.{declared_send, declared_sync}
-use Rattle.ms_ir.proofs.Crosses.{List-send, List-sync, Module-send, Module-sync}
-use Rattle.ms_places.proofs.places.FuncPlaces.TheSendSync as places
+use Rattle.ms_ir.proofs.Crosses.{Module-send, Module-sync}
 use Rattle.ms_check.specs.contracts.checked.CheckedModule as checked
 
 pub CheckedModule-send : IsSend checked.the_row
-CheckedModule-send = view_send checked.TheInside.the_row _ _ _ _ (declared_send checked.TheInside.the_type (Module-send, (List-send _ places.the_send, tt)))
+CheckedModule-send = view_send checked.TheInside.the_row _ _ _ _ (declared_send checked.TheInside.the_type (Module-send, tt))
 
 pub CheckedModule-sync : IsSync checked.the_row
-CheckedModule-sync = view_sync checked.TheInside.the_row _ _ _ _ (declared_sync checked.TheInside.the_type (Module-sync, (List-sync _ places.the_sync, tt)))
+CheckedModule-sync = view_sync checked.TheInside.the_row _ _ _ _ (declared_sync checked.TheInside.the_type (Module-sync, tt))

@@ -1,4 +1,7 @@
 pub mod Crosses
 pub mod Firsts
 pub mod OneAnswer
-pub mod Examples
+pub mod Given
+pub mod Repeated
+pub mod Sited
+pub mod Exact

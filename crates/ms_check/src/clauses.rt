@@ -7,13 +7,11 @@ ghost use Rattle.ms_valid.specs.Valid.{Valid};
 ghost use Rattle.ms_check.specs.Faults.{fault_of};
 
 use crate::errors::CheckError;
+use crate::{first_duplicate, first_unknown};
 use ms_bits::Duplicate;
-use ms_check_edges::{defines_main, first_bad_edge};
-use ms_check_names::{first_duplicate, first_unknown};
+use ms_check_flow::{defines_main, first_bad_edge, first_undefined};
 use ms_check_outside::{first_bad_external, first_bad_mark};
-use ms_check_paths::first_undefined;
-use ms_check_sizes::first_unsized;
-use ms_check_types::first_mismatch;
+use ms_check_types::{first_mismatch, first_unsized};
 use ms_ir::Module;
 use ms_valid::laws::small_numbers;
 use std::alloc::Global;
@@ -60,6 +58,7 @@ fn types_agree(alloc: Global, m: &Module) -> Result<(), CheckError>
     ensures holds { OnOk result (UpToTypes m.now) }
     ensures refused { IfErr result (λ e. IfSome (fault_of e) (IsRefused m.now)) }
 {
+    small_numbers();
     match first_mismatch(alloc, m)? {
         None => Ok(()),
         Some(mismatch) => Err(CheckError::TypeMismatch {

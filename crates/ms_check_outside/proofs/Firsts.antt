@@ -1,15 +1,10 @@
 -- The first of lists, one after the other.
-use Rattle.std.proofs.Common.{◌≡◌, ◌<◌, ◌≤◌, ℕ, ◌+◌, List, [], ◌∷◌, ◌++◌, Option, Some, None, refl, sym, ap, ◌∙◌, length, drop, get_or, drop_of_length-le, Bool, true, false}
+use Rattle.std.proofs.Common.{◌≡◌, ◌<◌, ◌≤◌, ℕ, ◌+◌, List, Option, Some, None, sym, ap, ◌∙◌, length, drop, get_or, drop_of_length-le, Bool, true, false}
 use Rattle.std.specs.Prelude.{flat_map, slice_get}
 use Rattle.std.specs.Option.{option_or}
 use Rattle.ms_ir.specs.declared.syntax.Name.{Name}
 use Rattle.ms_valid.specs.ExternalsFit.{name_unless}
-use Rattle.ms_check_outside.proofs.Items.{drop_item}
-
--- of two lists
-pub first-append : {A : Type 0} (xs ys : List A) → slice_get (xs ++ ys) 0 ≡ option_or (slice_get xs 0) (slice_get ys 0)
-first-append [] ys = refl
-first-append (x ∷ xs) ys = refl
+use Rattle.ms_tables.proofs.Items.{drop_item, first-append}
 
 -- the first that items give, from a place on
 abbrev pub first_from : {A B : Type 0} → (A → List B) → List A → ℕ → Option B

@@ -1,10 +1,4 @@
-pub mod CalleesOf
 pub mod Firsts
-pub mod Flagged
-pub mod InParts
-pub mod Items
-pub mod MarkedAmong
+pub mod Marked
 pub mod Outsiders
-pub mod SitesOf
 pub mod SlotsOf
-pub mod TypesOf

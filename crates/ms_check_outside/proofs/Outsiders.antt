@@ -1,30 +1,26 @@
 -- The names that don't fit, in three lists.
-use Rattle.std.proofs.Common.{◌≡◌, ℕ, ◌+◌, Bool, true, false, not, List, [], ◌∷◌, ◌++◌, append_assoc, map, is_some, if◌then◌else◌, Option, Some, None, refl, sym, ap, ◌∙◌}
+use Rattle.std.proofs.Common.{◌≡◌, ℕ, ◌+◌, Bool, true, false, not, List, [], ◌∷◌, ◌++◌, append_assoc, is_some, if◌then◌else◌, Option, None, refl, sym, ap, ◌∙◌}
 use Rattle.std.specs.Prelude.{◌||◌, ◌&&◌, flat_map, slice_get}
 use Rattle.std.specs.Option.{option_or}
 use Rattle.std.specs.List.{list_all}
 use Rattle.std.proofs.Math.Path.{ap₂}
 use Rattle.ms_ir.specs.declared.syntax.Name.{Name}
-use Rattle.ms_ir.specs.declared.syntax.Ty.{Ty}
-use Rattle.ms_ir.specs.declared.syntax.Operand.{Operand}
 use Rattle.ms_ir.specs.declared.syntax.Op.{Op}
 use Rattle.ms_ir.specs.declared.syntax.Op.TheVariants as op
 use Rattle.ms_ir.specs.declared.syntax.Inst.{Inst}
 use Rattle.ms_ir.specs.declared.syntax.Block.{Block}
 use Rattle.ms_ir.specs.declared.syntax.Func.{Func}
 use Rattle.ms_ir.specs.declared.syntax.Module.{Module}
-use Rattle.ms_ir.specs.declared.calls.External.{External}
 use Rattle.ms_ir.specs.Code.{one_unmarked, over_insts, over_blocks, func_index, external_named}
 use Rattle.ms_ir.specs.Names.{lookup, externals, is_reserved}
-use Rattle.ms_valid.specs.Equal.{has_name}
-use Rattle.ms_valid.specs.Locals.{function_names}
-use Rattle.ms_valid.specs.Places.{Spot, spot, next_spot, over_spots, over_block_spots, over_func_spots}
+use Rattle.ms_ir.specs.Equal.{has_name}
+use Rattle.ms_ir.specs.Locals.{function_names}
+use Rattle.ms_ir.specs.Spots.{Spot, spot, next_spot, over_spots, over_block_spots, over_func_spots}
 use Rattle.ms_valid.specs.ExternalsFit.{name_unless, global_fits, decl_fits, called_names, says_volatile, is_no_flag, volatile_callees, bad_externals}
-use Rattle.ms_names.proofs.Places.{place_tells}
-use Rattle.ms_names.proofs.Tied.{func_index_is}
-use Rattle.ms_check_outside.specs.Outside.{is_flagged, volatile_in, volatile_among, volatile_within, func_faults}
-use Rattle.ms_check_outside.proofs.Firsts.{first-append}
-use Rattle.ms_check_outside.proofs.Flagged.{flagged_is}
+use Rattle.ms_tables.proofs.Places.{place_tells}
+use Rattle.ms_tables.proofs.Tied.{func_index_is}
+use Rattle.ms_check_outside.specs.Outside.{volatile_in, volatile_among, volatile_within, func_faults}
+use Rattle.ms_tables.proofs.Items.{first-append}
 
 -- the first name at fault among the globals, the declarations and the functions
 abbrev pub of_globals : Module → Option Name
@@ -39,14 +35,14 @@ of_funcs m = slice_get (flat_map (func_faults (function_names m)) m.funcs) 0
 -- ---- volatile accesses
 
 module _ (m : Module) where
-  says_is : (x : Name) → says_volatile (external_named (func_index m.funcs) x) ≡ (not (has_name (function_names m) x) && is_flagged x)
+  says_is : (x : Name) → says_volatile (external_named (func_index m.funcs) x) ≡ (not (has_name (function_names m) x) && says_volatile (lookup externals x))
   says_is x =
       ap (λ b. says_volatile (if b then None else lookup externals x)) (ap is_some (func_index_is m.funcs x) ∙ place_tells (function_names m) x)
       ∙ split (has_name (function_names m) x)
     where
-      split : (defined : Bool) → says_volatile (if defined then None else lookup externals x) ≡ (not defined && is_flagged x)
+      split : (defined : Bool) → says_volatile (if defined then None else lookup externals x) ≡ (not defined && says_volatile (lookup externals x))
       split true = refl
-      split false = flagged_is x
+      split false = refl
 
   turned : (flag defined plain : Bool) → (not (not defined && flag) || plain) ≡ not (flag && (not defined && not plain))
   turned true true true = refl
@@ -60,7 +56,7 @@ module _ (m : Module) where
 
   volatile_is : (o : Op) → volatile_callees m o ≡ volatile_in (function_names m) o
   volatile_is (op.Call ret callee args) =
-      ap (λ b. name_unless b callee) (ap (λ b. not b || list_all is_no_flag args) (says_is callee) ∙ turned (is_flagged callee) (has_name (function_names m) callee) (list_all is_no_flag args))
+      ap (λ b. name_unless b callee) (ap (λ b. not b || list_all is_no_flag args) (says_is callee) ∙ turned (says_volatile (lookup externals callee)) (has_name (function_names m) callee) (list_all is_no_flag args))
   volatile_is (op.Binary o flags t a b) = refl
   volatile_is (op.Icmp p flags t a b) = refl
   volatile_is (op.Cast o flags from a to) = refl

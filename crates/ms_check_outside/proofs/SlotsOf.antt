@@ -6,8 +6,8 @@ use Rattle.std.proofs.lemmas.Bool.{eq-eqb}
 use Rattle.std.proofs.lemmas.List.Folds.{list_any-append}
 use Rattle.ms_ir.specs.declared.syntax.Ty.{Ty, Int, Array}
 use Rattle.ms_ir.specs.declared.syntax.GlobalVar.{GlobalVar}
-use Rattle.ms_valid.specs.Equal.{type_eq}
-use Rattle.ms_valid.specs.Signatures.{slot_globals}
+use Rattle.ms_ir.specs.Equal.{type_eq}
+use Rattle.ms_ir.specs.Signatures.{slot_globals}
 use Rattle.ms_valid.specs.ExternalsFit.{slot_eq}
 use Rattle.ms_valid.proofs.TypeShapes.{type_eq-array}
 

@@ -1,3 +1,2 @@
 pub mod Inserted
 pub mod Outside
-pub mod Sited

@@ -3,23 +3,10 @@
 #![tactic(auto)]
 
 mod called;
-mod externals;
-mod instructions;
-mod kinds;
-mod marked;
-mod mentions;
-mod names;
-mod ops;
+mod marks;
 mod outside;
-mod runtime;
-mod sites;
 mod slots;
 mod volatile;
 
+pub use marks::first_bad_mark;
 pub use outside::first_bad_external;
-pub use sites::first_bad_mark;
-
-#[cfg(test)]
-mod mark_tests;
-#[cfg(test)]
-mod outside_tests;

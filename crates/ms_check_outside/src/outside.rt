@@ -1,18 +1,15 @@
 //! The first name that doesn't fit what stands outside of a module.
 ghost use Rattle.std.specs.Prelude.{◌≡◌, ◌++◌, flat_map, IfOk, slice_get};
 ghost use Rattle.std.specs.Option.{option_copied};
-ghost use Rattle.ms_valid.specs.ExternalsFit.{name_unless, global_fits, decl_fits, bad_externals};
+ghost use Rattle.ms_valid.specs.ExternalsFit.{name_unless, global_fits, is_runtime, is_external, decl_fits, bad_externals};
 ghost use Rattle.ms_check_outside.specs.Outside.{func_faults};
 
-use crate::called::{called_names, function_names};
-use crate::externals::is_external;
-use crate::names::is_reserved;
-use crate::runtime::is_runtime;
+use crate::called::called_names;
 use crate::slots::global_fits;
 use crate::volatile::first_in_blocks;
 use ms_bits::NoMemory;
-use ms_ir::{Decl, Func, GlobalVar, Module, Name};
-use ms_names::NameTable;
+use ms_ir::{Decl, External, Func, GlobalVar, Module, Name, RuntimeFn};
+use ms_tables::{NameTable, functions_of};
 use std::alloc::Global;
 
 /// The first global with a reserved name that is no slot.
@@ -27,11 +24,31 @@ fn first_global(globals: &[GlobalVar]) -> Option<&Name>
     None
 }
 
+/// Whether a declaration has the types of the runtime function with its name.
+fn is_runtime(decl: &Decl) -> bool
+    ensures { result ≡ is_runtime decl.now }
+{
+    match RuntimeFn::named(&decl.name) {
+        Some(function) => function.has_types_of(decl),
+        None => false,
+    }
+}
+
+/// Whether a declaration has the types of the external with its name.
+fn is_external(decl: &Decl) -> bool
+    ensures { result ≡ is_external decl.now }
+{
+    match External::named(&decl.name) {
+        Some(external) => external.has_types_of(decl),
+        None => false,
+    }
+}
+
 /// Whether a declaration is a runtime function where its name is reserved, and an external where it is called.
 fn decl_fits(called: &NameTable<'_>, decl: &Decl) -> bool
     ensures { result ≡ decl_fits called.now decl.now }
 {
-    if is_reserved(&decl.name) {
+    if decl.name.is_reserved() {
         is_runtime(decl)
     } else {
         !called.contains(&decl.name) || is_external(decl)
@@ -54,14 +71,14 @@ fn first_decl<'m>(called: &NameTable<'_>, decls: &'m [Decl]) -> Option<&'m Name>
 fn first_in_func<'m>(functions: &NameTable<'_>, func: &'m Func) -> Option<&'m Name>
     ensures { option_copied result ≡ slice_get (func_faults functions.now func.now) 0 }
 {
-    if is_reserved(&func.name) {
+    if func.name.is_reserved() {
         Some(&func.name)
     } else {
         first_in_blocks(functions, func.blocks.as_slice())
     }
 }
 
-/// The same for functions.
+/// The first of them in functions.
 fn first_in_funcs<'m>(functions: &NameTable<'_>, funcs: &'m [Func]) -> Option<&'m Name>
     ensures { option_copied result ≡ slice_get (flat_map (func_faults functions.now) funcs.now) 0 }
 {
@@ -90,6 +107,6 @@ pub fn first_bad_external(alloc: Global, m: &Module) -> Result<Option<&Name>, No
     if let Some(name) = first_decl(&called, m.decls.as_slice()) {
         return Ok(Some(name));
     }
-    let functions = function_names(alloc, m)?;
+    let functions = functions_of(alloc, m)?;
     Ok(first_in_funcs(&functions, m.funcs.as_slice()))
 }

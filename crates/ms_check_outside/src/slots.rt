@@ -1,26 +1,23 @@
 //! The slots, globals that hand masks and origins over at calls.
 ghost use Rattle.std.specs.Prelude.{◌≡◌, take, drop};
 ghost use Rattle.std.specs.List.{list_any};
-ghost use Rattle.ms_ir.specs.declared.syntax.Name.TheVariants as named;
 ghost use Rattle.ms_ir.specs.declared.syntax.Ty.{Int as IntType, Array as ArrayType};
 ghost use Rattle.ms_ir.specs.declared.syntax.Init as initial;
 ghost use Rattle.ms_ir.specs.declared.syntax.Operand.TheVariants as operand;
-ghost use Rattle.ms_ir.specs.Names.{name_eq};
-ghost use Rattle.ms_valid.specs.Equal.{type_eq};
+ghost use Rattle.ms_ir.specs.Equal.{type_eq};
 ghost use Rattle.ms_valid.specs.ExternalsFit.{is_false, start_eq, slot_eq, global_fits};
-ghost use Rattle.ms_valid.specs.Signatures.{slot_global, slot_globals};
+ghost use Rattle.ms_ir.specs.Names.{slot_name};
+ghost use Rattle.ms_ir.specs.Signatures.{variable, slot_globals};
 
-use crate::kinds::is_int;
-use crate::names::is_reserved;
-use ms_ir::{GlobalVar, Init, Name, Operand, Ty};
+use ms_ir::{GlobalVar, Init, Operand, Slot, Ty};
 
-/// Whether a name is this text.
-fn is_text(name: &Name, text: &[u8]) -> bool
-    ensures { result ≡ name_eq name.now (named.Text text.now) }
+/// Whether a type is the integer type of a width.
+pub fn is_int(ty: &Ty, width: u8) -> bool
+    ensures { result ≡ type_eq ty.now (IntType width) }
 {
-    match name {
-        Name::Number(_) => false,
-        Name::Text(bytes) => bytes.as_slice() == text,
+    match ty {
+        Ty::Int(n) => *n == width,
+        _ => false,
     }
 }
 
@@ -62,21 +59,21 @@ fn starts_at_nought(init: &Init) -> bool
     }
 }
 
-/// Whether a global is the slot of parameters with a name, which has 100 items.
-fn is_row_slot(global: &GlobalVar, name: &[u8], width: u8) -> bool
-    ensures { result ≡ slot_eq global.now (slot_global name.now (ArrayType 100 (IntType width)) initial.Zero) }
+/// Whether a global is a slot of parameters, which has 100 items.
+fn is_row_slot(global: &GlobalVar, slot: Slot, width: u8) -> bool
+    ensures { result ≡ slot_eq global.now (variable (slot_name slot) (ArrayType 100 (IntType width)) initial.Zero) }
 {
-    is_text(&global.name, name)
+    global.name.is(slot.name())
         && !global.constant
         && is_row(&global.ty, width)
         && starts_at_zeros(&global.init)
 }
 
-/// Whether a global is the slot of a result with a name.
-fn is_result_slot(global: &GlobalVar, name: &[u8], width: u8) -> bool
-    ensures { result ≡ slot_eq global.now (slot_global name.now (IntType width) (initial.Value (operand.Int 0))) }
+/// Whether a global is a slot of a result.
+fn is_result_slot(global: &GlobalVar, slot: Slot, width: u8) -> bool
+    ensures { result ≡ slot_eq global.now (variable (slot_name slot) (IntType width) (initial.Value (operand.Int 0))) }
 {
-    is_text(&global.name, name)
+    global.name.is(slot.name())
         && !global.constant
         && is_int(&global.ty, width)
         && starts_at_nought(&global.init)
@@ -86,16 +83,14 @@ fn is_result_slot(global: &GlobalVar, name: &[u8], width: u8) -> bool
 fn is_param_slot(global: &GlobalVar) -> bool
     ensures { result ≡ list_any (slot_eq global.now) (take 2 slot_globals) }
 {
-    is_row_slot(global, b"__msan_param_tls".as_slice(), 64)
-        || is_row_slot(global, b"__msan_param_origin_tls".as_slice(), 32)
+    is_row_slot(global, Slot::ParamMasks, 64) || is_row_slot(global, Slot::ParamOrigins, 32)
 }
 
 /// Whether a global is one of the slots of a result.
 fn is_retval_slot(global: &GlobalVar) -> bool
     ensures { result ≡ list_any (slot_eq global.now) (drop 2 slot_globals) }
 {
-    is_result_slot(global, b"__msan_retval_tls".as_slice(), 64)
-        || is_result_slot(global, b"__msan_retval_origin_tls".as_slice(), 32)
+    is_result_slot(global, Slot::RetvalMask, 64) || is_result_slot(global, Slot::RetvalOrigin, 32)
 }
 
 /// Whether a global is one of the slots.
@@ -109,5 +104,5 @@ fn is_slot(global: &GlobalVar) -> bool
 pub fn global_fits(global: &GlobalVar) -> bool
     ensures { result ≡ global_fits global.now }
 {
-    !is_reserved(&global.name) || is_slot(global)
+    !global.name.is_reserved() || is_slot(global)
 }

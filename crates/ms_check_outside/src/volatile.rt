@@ -2,31 +2,23 @@
 ghost use Rattle.std.specs.Prelude.{◌≡◌, slice_get};
 ghost use Rattle.std.specs.Option.{option_copied};
 ghost use Rattle.std.specs.List.{list_all};
-ghost use Rattle.ms_valid.specs.ExternalsFit.{is_no_flag};
-ghost use Rattle.ms_check_outside.specs.Outside.{is_flagged, is_flagged_text, is_volatile, volatile_in, volatile_among, volatile_within};
+ghost use Rattle.ms_valid.specs.ExternalsFit.{is_no_flag, says_volatile};
+ghost use Rattle.ms_check_outside.specs.Outside.{is_volatile, volatile_in, volatile_among, volatile_within};
 
-use crate::kinds::is_int;
-use crate::slots::is_nought;
-use ms_ir::{Block, Inst, Name, Op, Operand, Ty};
-use ms_names::NameTable;
+use crate::slots::{is_int, is_nought};
+use ms_ir::{Block, External, Inst, Name, Op, Operand, Ty};
+use ms_tables::NameTable;
 
-/// Whether a name is that of an intrinsic whose last argument says whether its access is volatile.
-fn is_flagged(name: &Name) -> bool
-    ensures { result ≡ is_flagged name.now }
+/// Whether an external says by its last argument whether its access is volatile.
+fn says_volatile(external: Option<External>) -> bool
+    ensures { result ≡ says_volatile external }
 {
-    match name {
-        Name::Number(_) => false,
-        Name::Text(text) => is_flagged_text(text.as_slice()),
+    match external {
+        Some(External::LlvmMemcpy) => true,
+        Some(External::LlvmMemmove) => true,
+        Some(External::LlvmMemset) => true,
+        _ => false,
     }
-}
-
-/// The same by the name's text.
-fn is_flagged_text(text: &[u8]) -> bool
-    ensures { result ≡ is_flagged_text text.now }
-{
-    b"llvm.memcpy.p0.p0.i64".as_slice() == text
-        || b"llvm.memmove.p0.p0.i64".as_slice() == text
-        || b"llvm.memset.p0.i64".as_slice() == text
 }
 
 /// Whether an argument is `false`, or no `i1`.
@@ -51,7 +43,7 @@ fn are_no_flags(args: &[(Ty, Operand)]) -> bool
 fn is_volatile(functions: &NameTable<'_>, callee: &Name, args: &[(Ty, Operand)]) -> bool
     ensures { result ≡ is_volatile functions.now callee.now args.now }
 {
-    is_flagged(callee) && !functions.contains(callee) && !are_no_flags(args)
+    says_volatile(External::named(callee)) && !functions.contains(callee) && !are_no_flags(args)
 }
 
 /// The callee of a call whose access would be volatile.

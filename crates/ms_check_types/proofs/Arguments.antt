@@ -1,18 +1,13 @@
 -- Arguments and their parameters, one by one.
 use Rattle.std.proofs.Common.{◌≡◌, ℕ, zero, suc, ◌+◌, ◌<◌, ◌≤◌, List, [], ◌∷◌, length, Bool, true, false, Option, Some, None, refl, sym, ap, ◌∙◌, arith, drop, get_or, add-one}
-use Rattle.std.specs.Prelude.{slice_get, if◌then◌else◌, ◌&&◌}
-use Rattle.std.specs.Option.{option_or}
-use Rattle.std.proofs.Math.Seq.{drop-cons}
+use Rattle.std.specs.Prelude.{slice_get, if◌then◌else◌}
+use Rattle.ms_check_types.proofs.Lists.{drop_item}
 use Rattle.ms_ir.specs.declared.syntax.Ty.{Ty}
 use Rattle.ms_ir.specs.declared.syntax.Operand.{Operand}
-use Rattle.ms_valid.specs.Equal.{type_eq}
-use Rattle.ms_valid.specs.TypesAgree.{argument_fault, first_misfit}
+use Rattle.ms_valid.specs.TypesAgree.{argument_fault}
 use Rattle.ms_check_types.specs.Arguments.{fits_parameter}
 
 -- ---- lists from a place on
-
-pub drop_next : {A : Type 0} (xs : List A) (i : ℕ) (x : A) → i < length xs → x ≡ get_or xs i x → drop i xs ≡ x ∷ drop (i + 1) xs
-drop_next xs i x l is = drop-cons xs i x l ∙ ap (λ y. y ∷ drop (suc i) xs) (sym is) ∙ ap (λ n. x ∷ drop n xs) (sym (add-one i))
 
 pub drop_end : {A : Type 0} (xs : List A) (i : ℕ) → length xs ≤ i → drop i xs ≡ []
 drop_end [] zero l = refl
@@ -53,7 +48,7 @@ module _ (fits : Ty × Operand → Bool) where
     pub argument_passed : (k : ℕ) (a : Ty × Operand) (whole : Option ℕ) → k < length args → a ≡ get_or args k a → fits_parameter fits (slice_get params k) a ≡ true
         → argument_fault fits k (drop k params) (drop k args) ≡ whole → argument_fault fits (k + 1) (drop (k + 1) params) (drop (k + 1) args) ≡ whole
     argument_passed k a whole l is ok inv =
-        let e = drop_next args k a l is in
+        let e = drop_item args k a l is in
         let p : fits_parameter fits (slice_get (drop k params) 0) a ≡ true = ap (λ o. fits_parameter fits o a) (get_drop params k) ∙ ok in
         ap (λ n. argument_fault fits n (drop n params) (drop (k + 1) args)) (add-one k)
         ∙ ap (λ ps. argument_fault fits (suc k) ps (drop (k + 1) args)) (sym (drop_one params k))
@@ -62,7 +57,7 @@ module _ (fits : Ty × Operand → Bool) where
     pub argument_found : (k : ℕ) (a : Ty × Operand) (whole : Option ℕ) → k < length args → a ≡ get_or args k a → fits_parameter fits (slice_get params k) a ≡ false
         → argument_fault fits k (drop k params) (drop k args) ≡ whole → Some k ≡ whole
     argument_found k a whole l is bad inv =
-        let e = drop_next args k a l is in
+        let e = drop_item args k a l is in
         let p : fits_parameter fits (slice_get (drop k params) 0) a ≡ false = ap (λ o. fits_parameter fits o a) (get_drop params k) ∙ bad in
         sym (arg_stop k (drop k params) a (drop (k + 1) args) p) ∙ ap (argument_fault fits k (drop k params)) (sym e) ∙ inv
 
@@ -89,18 +84,3 @@ module _ (fits : Ty × Operand → Bool) where
         by_option : (o : Option Ty) → slice_get params k ≡ o → fits_parameter fits o a ≡ true → k + 1 ≤ length params
         by_option None e h = grind arith
         by_option (Some t) e h = let b = below_get params k t e in omega arith
-
--- ---- the first operand that doesn't fit
-
-module _ (fits : Ty × Operand → Bool) where
-  pub misfit_found : (k : ℕ) (ys rest : List (Ty × Operand)) (y : Ty × Operand) (whole : Option ℕ) → ys ≡ y ∷ rest → fits y ≡ false → first_misfit fits k ys ≡ whole → Some k ≡ whole
-  misfit_found k ys rest y whole e bad inv =
-      sym (ap (first_misfit fits k) e ∙ ap (λ b. if b then first_misfit fits (suc k) rest else Some k) bad) ∙ inv
-
-  pub misfit_passed : (k : ℕ) (ys rest : List (Ty × Operand)) (y : Ty × Operand) (whole : Option ℕ) → ys ≡ y ∷ rest → fits y ≡ true → first_misfit fits k ys ≡ whole → first_misfit fits (k + 1) rest ≡ whole
-  misfit_passed k ys rest y whole e ok inv =
-      ap (λ n. first_misfit fits n rest) (add-one k) ∙ sym (ap (first_misfit fits k) e ∙ ap (λ b. if b then first_misfit fits (suc k) rest else Some k) ok) ∙ inv
-
-pub or_none : {A : Type 0} (o : Option A) → option_or o None ≡ o
-or_none None = refl
-or_none (Some a) = refl

@@ -5,17 +5,20 @@ use Rattle.std.specs.Bool.{beq}
 use Rattle.std.specs.List.{list_all}
 use Rattle.std.proofs.lemmas.Bool.{eq-eqb}
 use Rattle.ms_ir.specs.declared.syntax.Ty.{Ty, Int, Array, Struct}
-use Rattle.ms_ir.specs.declared.syntax.Ty.TheBlock.{hidden-the_row-Ty-0, hidden-the_row-Ty-1, shape-the_row-Ty-0}
+use Rattle.ms_ir.specs.declared.syntax.Ty.TheBlock.{hidden-the_row-Ty-0, shape-the_row-Ty-0}
 use Rattle.ms_ir.specs.declared.syntax.Operand.{Operand}
 use Rattle.ms_ir.specs.declared.syntax.Init.{Init}
 use Rattle.ms_ir.specs.declared.syntax.Init as initial
 use Rattle.ms_ir.specs.Layout.{Types, resolved}
-use Rattle.ms_valid.specs.Equal.{type_eq, types_eq}
+use Rattle.ms_ir.specs.Equal.{type_eq}
 use Rattle.ms_valid.specs.Initialisers.{item_types, field_types, is_text_type, init_fits}
 use Rattle.ms_valid.proofs.TypeShapes.{list_fits, init_fits-array, init_fits-struct}
 use Rattle.ms_check_types.specs.Items.{item_fits, each_fits, all_fit}
-use Rattle.ms_check_types.proofs.Equals.{and_true}
 use Rattle.ms_check_types.proofs.Stepping.{struct_types}
+
+and_true : (b : Bool) → (b && true) ≡ b
+and_true true = refl
+and_true false = refl
 
 -- ---- what is asked for
 

@@ -1,9 +1,14 @@
+pub mod AllSized
 pub mod Arguments
+pub mod Calling
 pub mod Cases
-pub mod Equals
+pub mod FirstFaults
 pub mod Firsts
+pub mod GlobalSizes
 pub mod Items
-pub mod Passing
-pub mod Rows
+pub mod Lists
+pub mod OneByOne
+pub mod NamedRows
+pub mod SmallFaults
 pub mod Stepping
 pub mod Values

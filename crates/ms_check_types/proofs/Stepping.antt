@@ -1,5 +1,5 @@
 -- Steps from a type to its parts, as the definition has them and as the code takes them.
-use Rattle.std.proofs.Common.{◌≡◌, ℕ, zero, suc, ◌<◌, ◌≤◌, List, [], ◌∷◌, map, length, Bool, true, false, Option, Some, None, refl, sym, ap, ◌∙◌, arith, ◌+◌, drop, get_or, add-one}
+use Rattle.std.proofs.Common.{◌≡◌, ℕ, zero, suc, ◌<◌, ◌≤◌, List, [], ◌∷◌, length, Bool, true, false, Option, Some, None, refl, sym, ap, ◌∙◌, arith, ◌+◌, drop, get_or, add-one}
 use Rattle.std.specs.Prelude.{option_and_then, slice_get, if◌then◌else◌, ◌&&◌, nat_lt, is_none}
 use Rattle.std.proofs.lemmas.Bool.{ltb-true, ltb-false}
 use Rattle.std.proofs.lemmas.Option.{same_Some, none-some}
@@ -8,9 +8,9 @@ use Rattle.ms_ir.specs.declared.syntax.Ty.TheBlock.{hidden-the_row-Ty-0, hidden-
 use Rattle.ms_ir.specs.declared.syntax.Operand.{Operand}
 use Rattle.ms_ir.specs.declared.syntax.Operand.TheVariants as operand
 use Rattle.ms_ir.specs.Layout.{Types, resolved, row_types, type_at, part_type}
-use Rattle.ms_valid.specs.Equal.{type_eq}
+use Rattle.ms_ir.specs.Equal.{type_eq}
 use Rattle.ms_valid.specs.TypesAgree.{leads_into, number_or_zero, is_below, first_misstep, constant_indices}
-use Rattle.ms_check_types.proofs.Arguments.{drop_next}
+use Rattle.ms_check_types.proofs.Lists.{drop_item}
 use Rattle.ms_check_types.specs.Parts.{constant_of, part_by}
 
 -- ---- parts of arrays and structs
@@ -102,7 +102,7 @@ module _ (fits : Ty × Operand → Bool) (types : Types) where
 
 module _ (types : Types) (indices : List (Ty × ℕ)) where
   constants_next : (i : ℕ) (x : Ty × ℕ) → i < length indices → x ≡ get_or indices i x → constant_indices (drop i indices) ≡ (x.0, operand.Int x.1) ∷ constant_indices (drop (i + 1) indices)
-  constants_next i x l is = ap constant_indices (drop_next indices i x l is)
+  constants_next i x l is = ap constant_indices (drop_item indices i x l is)
 
   pub leads_stop : (i : ℕ) (x : Ty × ℕ) (whole : Ty) (all : Bool) → i < length indices → x ≡ get_or indices i x → None ≡ part_by (resolved types whole) x.0 (Some x.1)
       → is_none (first_misstep (λ j. true) types whole i (constant_indices (drop i indices))) ≡ all → false ≡ all
@@ -121,7 +121,7 @@ module _ (fits : Ty × Operand → Bool) (types : Types) (indices : List (Ty × 
   pub misstep_nowhere : (first i : ℕ) (x : Ty × Operand) (whole : Ty) (place : ℕ) (all : Option ℕ) → i < length indices → x ≡ get_or indices i x → place ≡ first + i → fits x ≡ true
       → None ≡ part_by (resolved types whole) x.0 (constant_of x.1) → first_misstep fits types whole (first + i) (drop i indices) ≡ all → Some place ≡ all
   misstep_nowhere first i x whole place all l is at ok nowhere inv =
-      ap Some at ∙ sym (ap (first_misstep fits types whole (first + i)) (drop_next indices i x l is) ∙ step_nowhere fits types whole (first + i) x (drop (i + 1) indices) ok nowhere) ∙ inv
+      ap Some at ∙ sym (ap (first_misstep fits types whole (first + i)) (drop_item indices i x l is) ∙ step_nowhere fits types whole (first + i) x (drop (i + 1) indices) ok nowhere) ∙ inv
 
   pub misstep_on : (first i : ℕ) (x : Ty × Operand) (whole p : Ty) (all : Option ℕ) → i < length indices → x ≡ get_or indices i x → fits x ≡ true
       → Some p ≡ part_by (resolved types whole) x.0 (constant_of x.1) → first_misstep fits types whole (first + i) (drop i indices) ≡ all
@@ -129,4 +129,9 @@ module _ (fits : Ty × Operand → Bool) (types : Types) (indices : List (Ty × 
   misstep_on first i x whole p all l is ok led inv =
       let n : first + (i + 1) ≡ suc (first + i) = omega arith in
       ap (λ k. first_misstep fits types p k (drop (i + 1) indices)) n
-      ∙ sym (ap (first_misstep fits types whole (first + i)) (drop_next indices i x l is) ∙ step_on fits types whole (first + i) x (drop (i + 1) indices) p ok led) ∙ inv
+      ∙ sym (ap (first_misstep fits types whole (first + i)) (drop_item indices i x l is) ∙ step_on fits types whole (first + i) x (drop (i + 1) indices) p ok led) ∙ inv
+
+  pub misstep_misfit : (first i : ℕ) (x : Ty × Operand) (whole : Ty) (place : ℕ) (all : Option ℕ) → i < length indices → x ≡ get_or indices i x → place ≡ first + i → fits x ≡ false
+      → first_misstep fits types whole (first + i) (drop i indices) ≡ all → Some place ≡ all
+  misstep_misfit first i x whole place all l is at bad inv =
+      ap Some at ∙ sym (ap (first_misstep fits types whole (first + i)) (drop_item indices i x l is) ∙ step_misfit fits types whole (first + i) x (drop (i + 1) indices) bad) ∙ inv

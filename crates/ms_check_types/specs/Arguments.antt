@@ -2,7 +2,7 @@
 use Rattle.std.specs.Prelude.{Bool, false, ◌&&◌, Option, Some, None}
 use Rattle.ms_ir.specs.declared.syntax.Ty.{Ty}
 use Rattle.ms_ir.specs.declared.syntax.Operand.{Operand}
-use Rattle.ms_valid.specs.Equal.{type_eq}
+use Rattle.ms_ir.specs.Equal.{type_eq}
 
 -- an argument fits the parameter of a type; none fits where there is no parameter
 abbrev pub fits_parameter : (Ty × Operand → Bool) → Option Ty → Ty × Operand → Bool

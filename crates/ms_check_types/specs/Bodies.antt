@@ -6,7 +6,7 @@ use Rattle.ms_ir.specs.declared.syntax.Op.{Op}
 use Rattle.ms_ir.specs.declared.syntax.Func.{Func}
 use Rattle.ms_ir.specs.declared.syntax.Module.{Module}
 use Rattle.ms_ir.specs.Layout.{Types}
-use Rattle.ms_valid.specs.Locals.{value_type}
+use Rattle.ms_ir.specs.Locals.{value_type}
 use Rattle.ms_valid.specs.TypesAgree.{operand_fits, op_fault}
 use Rattle.ms_check_types.specs.declared.bodies.Body.{Body}
 
@@ -14,7 +14,7 @@ abbrev pub module_of : Body → Module
 module_of body = body.symbols.now.source.now
 
 abbrev pub func_of : Body → Func
-func_of body = body.locals.func.now
+func_of body = body.locals.now.func.now
 
 abbrev pub types_of : Body → Types
 types_of body = (module_of body).types

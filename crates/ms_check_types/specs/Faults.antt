@@ -1,14 +1,11 @@
--- Mismatches as the definition has them, and the first of some instructions, which the code finds one after the other.
-use Rattle.std.specs.Prelude.{ℕ, ◌+◌, List, [], ◌∷◌, Option, Some, None, option_map, suc, if◌then◌else◌}
-use Rattle.std.specs.Option.{option_or}
+-- Mismatches as the definition has them, which the code finds one after the other.
+use Rattle.std.specs.Prelude.{ℕ, List, [], ◌∷◌, Option, Some, None, suc, if◌then◌else◌}
 use Rattle.ms_ir.specs.declared.syntax.Inst.{Inst}
-use Rattle.ms_ir.specs.declared.syntax.Block.{Block}
-use Rattle.ms_ir.specs.declared.syntax.Func.{Func}
 use Rattle.ms_ir.specs.declared.syntax.GlobalVar.{GlobalVar}
 use Rattle.ms_ir.specs.declared.syntax.Module.{Module}
-use Rattle.ms_ir.specs.Code.{one_unmarked, over_insts, over_blocks}
+use Rattle.ms_ir.specs.Spots.{Spot, found_at_insts}
 use Rattle.ms_valid.specs.Initialisers.{init_fits}
-use Rattle.ms_valid.specs.TypesAgree.{operand_fits}
+use Rattle.ms_valid.specs.TypesAgree.{operand_fits, at_site}
 use Rattle.ms_check_types.specs.Bodies.{fault_within}
 use Rattle.ms_check_types.specs.declared.mismatches.Mismatch.{Mismatch}
 
@@ -16,20 +13,13 @@ use Rattle.ms_check_types.specs.declared.mismatches.Mismatch.{Mismatch}
 abbrev pub as_pair : Mismatch → ℕ × ℕ
 as_pair fault = (fault.site, fault.operand)
 
--- the first mismatch of instructions, the first of which has a site
-abbrev pub insts_fault : Module → Func → (site : ℕ) → List Inst → Option (ℕ × ℕ)
-insts_fault m f site [] = None
-insts_fault m f site (inst ∷ rest) = option_or (option_map (λ k. (site, k)) (fault_within m f inst.op)) (insts_fault m f (site + one_unmarked inst) rest)
+-- the mismatch of an instruction, in a module with these symbols
+abbrev pub inst_faults : Module → Spot → Inst → List (ℕ × ℕ)
+inst_faults source at inst = at_site at.site (fault_within source at.func inst.op)
 
--- of blocks
-abbrev pub blocks_fault : Module → Func → (site : ℕ) → List Block → Option (ℕ × ℕ)
-blocks_fault m f site [] = None
-blocks_fault m f site (b ∷ rest) = option_or (insts_fault m f site b.insts) (blocks_fault m f (site + over_insts one_unmarked b.insts) rest)
-
--- of functions
-abbrev pub funcs_fault : Module → (site : ℕ) → List Func → Option (ℕ × ℕ)
-funcs_fault m site [] = None
-funcs_fault m site (f ∷ rest) = option_or (blocks_fault m f site f.blocks) (funcs_fault m (site + over_blocks one_unmarked f.blocks) rest)
+-- the mismatches of the instructions of a module, in one with these symbols
+abbrev pub code_faults : Module → Module → List (ℕ × ℕ)
+code_faults source m = found_at_insts (λ at inst. inst_faults source at inst) m
 
 -- the number of the first global, counted from a number on, whose initialiser doesn't fit
 abbrev pub globals_fault : Module → ℕ → List GlobalVar → Option ℕ

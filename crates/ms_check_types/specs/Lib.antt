@@ -4,3 +4,5 @@ pub mod Callees
 pub mod Faults
 pub mod Items
 pub mod Parts
+pub mod SizedParts
+pub mod Typed

@@ -4,7 +4,7 @@ use Rattle.ms_ir.specs.declared.syntax.Ty.{Ty, Int, Array', Struct'}
 use Rattle.ms_ir.specs.declared.syntax.Operand.{Operand}
 use Rattle.ms_ir.specs.declared.syntax.Operand.TheVariants as operand
 use Rattle.ms_ir.specs.Layout.{row_types, type_at}
-use Rattle.ms_valid.specs.Equal.{type_eq}
+use Rattle.ms_ir.specs.Equal.{type_eq}
 
 -- the number that an operand is, if it is one
 abbrev pub constant_of : Operand → Option ℕ

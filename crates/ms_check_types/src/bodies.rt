@@ -7,5 +7,5 @@ use crate::symbols::Symbols;
 #[derive(Drop)]
 pub struct Body<'a, 'm> {
     pub symbols: &'a Symbols<'m>,
-    pub locals: Locals<'a>,
+    pub locals: &'a Locals<'m>,
 }

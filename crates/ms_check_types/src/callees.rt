@@ -1,9 +1,17 @@
-//! Functions that are called, by the module's definition or declaration (LLVM Language Reference, "Functions").
-ghost use Rattle.std.specs.Prelude.{◌≡◌, length, slice_get};
+//! Functions that are called, by the module's definition or declaration (LLVM Language Reference, "Functions"), each
+//! found by its name in logarithmic time.
+ghost use Rattle.std.specs.Prelude.{◌≡◌, IfOk, map, length, option_map, slice_get};
 ghost use Rattle.std.specs.Option.{option_copied};
+ghost use Rattle.ms_ir.specs.Equal.{has_name};
+ghost use Rattle.ms_ir.specs.Locals.{declared_names, function_names};
+ghost use Rattle.ms_ir.specs.Signatures.{signature_of, declared_signature};
 ghost use Rattle.ms_check_types.specs.Callees.{callee_signature};
 
-use ms_ir::{Decl, Func, Ty};
+use crate::rows::row_of;
+use ms_bits::NoMemory;
+use ms_ir::{Decl, Func, Module, Name, Ty};
+use ms_tables::{NameTable, functions_of};
+use std::alloc::Global;
 
 /// A function that a module defines or declares.
 #[derive(Clone, Copy)]
@@ -43,6 +51,68 @@ impl<'m> Callee<'m> {
         match self {
             Callee::Defined(func) => func.params.as_slice().len(),
             Callee::Declared(decl) => decl.params.as_slice().len(),
+        }
+    }
+}
+
+fn names_of_decls<'m>(alloc: Global, decls: &'m [Decl]) -> Result<NameTable<'m>, NoMemory>
+    ensures { IfOk result (λ names. names ≡ map (λ d. d.name) decls.now) }
+{
+    let mut names = NameTable::new(alloc);
+    for decl in decls {
+        names.push(&decl.name)?;
+    }
+    Ok(names)
+}
+
+/// The functions of a module, with the places of their names.
+#[derive(Drop)]
+pub struct Callees<'m> {
+    pub source: &'m Module,
+    decls: NameTable<'m>,
+    funcs: NameTable<'m>,
+    ghost decls_are: { decls ≡ declared_names source.now },
+    ghost funcs_are: { funcs ≡ function_names source.now },
+}
+
+impl<'m> Callees<'m> {
+    /// The functions of a module. The one error is want of memory.
+    pub fn of(alloc: Global, m: &'m Module) -> Result<Callees<'m>, NoMemory>
+        ensures { IfOk result (λ callees. callees.source.now ≡ m.now) }
+    {
+        let decls = names_of_decls(alloc, m.decls.as_slice())?;
+        let funcs = functions_of(alloc, m)?;
+        Ok(Callees {
+            source: m,
+            decls,
+            funcs,
+        })
+    }
+
+    /// Whether the module declares a function with a name.
+    pub fn declares(&self, name: &Name) -> bool
+        ensures { result ≡ has_name (declared_names self.now.source.now) name.now }
+    {
+        self.decls.contains(name)
+    }
+
+    /// The function that a name stands for.
+    pub fn get(&self, name: &Name) -> Option<Callee<'m>>
+        ensures { option_map callee_signature result ≡ signature_of self.now.source.now name.now }
+    {
+        match row_of(&self.funcs, self.source.funcs.as_slice(), name) {
+            Some(func) => Some(Callee::Defined(func)),
+            None => self.declared(name),
+        }
+    }
+
+    /// The declared function that a name stands for.
+    fn declared(&self, name: &Name) -> Option<Callee<'m>>
+        ensures { option_map callee_signature result ≡ declared_signature self.now.source.now.decls name.now }
+    {
+        match row_of(&self.decls, self.source.decls.as_slice(), name) {
+            Some(decl) => Some(Callee::Declared(decl)),
+            None => None,
         }
     }
 }

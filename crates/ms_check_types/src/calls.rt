@@ -1,6 +1,7 @@
 //! Calls (LLVM Language Reference, "'call' Instruction"; C library, `printf`).
-ghost use Rattle.std.specs.Prelude.{◌≡◌, ◌+◌, ◌<◌, ◌^◌, ◌&&◌, length, slice_get, if◌then◌else◌};
-ghost use Rattle.ms_valid.specs.Signatures.{signature_of};
+ghost use Rattle.std.specs.Prelude.{◌≡◌, ◌&&◌, slice_get, if◌then◌else◌};
+ghost use Rattle.ms_ir.specs.declared.syntax.Op.TheVariants as operation;
+ghost use Rattle.ms_ir.specs.Signatures.{signature_of};
 ghost use Rattle.ms_valid.specs.TypesAgree.{first_misfit, fault_unless, argument_fault, is_printable, printf_fault, is_printf, call_fault};
 ghost use Rattle.ms_check_types.specs.Arguments.{fits_parameter};
 ghost use Rattle.ms_check_types.specs.Bodies.{fits_in, module_of};
@@ -8,12 +9,12 @@ ghost use Rattle.ms_check_types.specs.Callees.{callee_signature};
 
 use crate::bodies::Body;
 use crate::callees::Callee;
-use crate::operands::{argument_misfit, operand_fits};
-use crate::types::{is_int, is_pointer, same_result, same_type};
-use ms_ir::{Name, Operand, Ty};
+use crate::operands::{first_misfit, operand_fits};
+use crate::types::{is_int, is_pointer};
+use ms_ir::{Name, Op, Operand, Ty, ValueType};
 
 /// Operand 0 is at fault unless something holds that no operand says by itself.
-pub fn fault_unless(holds: bool) -> Option<u32>
+pub fn fault_unless(holds: bool) -> Option<usize>
     ensures { result ≡ fault_unless holds }
 {
     if holds { None } else { Some(0) }
@@ -23,32 +24,29 @@ pub fn fault_unless(holds: bool) -> Option<u32>
 fn argument_fits(
     body: &Body<'_, '_>,
     callee: &Callee<'_>,
-    place: u32,
+    place: usize,
     ty: &Ty,
     operand: &Operand,
 ) -> bool
     ensures { result ≡ fits_parameter (fits_in body.now) (slice_get (callee_signature callee.now).params place) (ty.now, operand.now) }
 {
-    match callee.parameter(place as usize) {
-        Some(asked) => same_type(ty, asked) && operand_fits(body, ty, operand),
+    match callee.parameter(place) {
+        Some(asked) => ty == asked && operand_fits(body, ValueType::Written(ty), operand),
         None => false,
     }
 }
 
 /// The first argument that doesn't fit its parameter, is one too many, or is missing.
-fn argument_fault(body: &Body<'_, '_>, callee: &Callee<'_>, args: &[(Ty, Operand)]) -> Option<u32>
-    requires { length args.now < 2 ^ 31 }
+fn argument_fault(body: &Body<'_, '_>, callee: &Callee<'_>, args: &[(Ty, Operand)]) -> Option<usize>
     ensures { result ≡ argument_fault (fits_in body.now) 0 (callee_signature callee.now).params args.now }
 {
-    let mut place = 0;
-    for (ty, operand) in args {
+    for (place, (ty, operand)) in args.iter().enumerate() {
         if !argument_fits(body, callee, place, ty, operand) {
             return Some(place);
         }
-        place += 1;
     }
     if args.len() < callee.count() {
-        Some(place)
+        Some(args.len())
     } else {
         None
     }
@@ -62,33 +60,30 @@ fn is_printable(ty: &Ty) -> bool
 }
 
 /// The first of some arguments, which are counted from 1 on, that doesn't fit or that `printf` doesn't print.
-fn printed_misfit(body: &Body<'_, '_>, args: &[(Ty, Operand)]) -> Option<u32>
-    requires { length args.now < 2 ^ 31 }
+fn printed_misfit(body: &Body<'_, '_>, args: &[(Ty, Operand)]) -> Option<usize>
     ensures { result ≡ first_misfit (λ b. is_printable b.0 && fits_in body.now b) 1 args.now }
 {
-    let mut place = 1;
-    for (ty, operand) in args {
-        if !(is_printable(ty) && operand_fits(body, ty, operand)) {
-            return Some(place);
+    for (place, (ty, operand)) in args.iter().enumerate() {
+        if !(is_printable(ty) && operand_fits(body, ValueType::Written(ty), operand)) {
+            return Some(place + 1);
         }
-        place += 1;
     }
     None
 }
 
 /// The argument of a `printf` at fault: the first is a pointer, and the others are words and pointers.
-fn printf_fault(body: &Body<'_, '_>, args: &[(Ty, Operand)]) -> Option<u32>
-    requires { length args.now < 2 ^ 31 }
+fn printf_fault(body: &Body<'_, '_>, args: &[(Ty, Operand)]) -> Option<usize>
     ensures { result ≡ printf_fault (fits_in body.now) args.now }
 {
-    if args.is_empty() {
-        return Some(0);
-    }
-    let (ty, operand) = &args[0];
-    if is_pointer(ty) && operand_fits(body, ty, operand) {
-        printed_misfit(body, &args[1..])
-    } else {
-        Some(0)
+    match args {
+        [] => Some(0),
+        [(ty, operand), rest @ ..] => {
+            if is_pointer(ty) && operand_fits(body, ValueType::Written(ty), operand) {
+                printed_misfit(body, rest)
+            } else {
+                Some(0)
+            }
+        }
     }
 }
 
@@ -98,8 +93,7 @@ fn arguments_fault(
     name: &Name,
     callee: &Callee<'_>,
     args: &[(Ty, Operand)],
-) -> Option<u32>
-    requires { length args.now < 2 ^ 31 }
+) -> Option<usize>
     ensures { result ≡ if is_printf (module_of body.now) name.now then printf_fault (fits_in body.now) args.now
         else argument_fault (fits_in body.now) 0 (callee_signature callee.now).params args.now }
 {
@@ -113,17 +107,18 @@ fn arguments_fault(
 /// The argument of a call at fault; 0 where a global variable is called, or the result has another type.
 pub fn call_fault(
     body: &Body<'_, '_>,
+    op: &Op,
     ret: &Option<Ty>,
     name: &Name,
     args: &[(Ty, Operand)],
-) -> Option<u32>
-    requires { length args.now < 2 ^ 31 }
+) -> Option<usize>
+    requires { op.now ≡ operation.Call ret.now name.now args.now }
     ensures { result ≡ call_fault (module_of body.now) (fits_in body.now) (signature_of (module_of body.now) name.now) ret.now name.now args.now }
 {
     match body.symbols.callee(name) {
-        None => argument_misfit(body, args).or(Some(0)),
+        None => first_misfit(body, op).or(Some(0)),
         Some(callee) => {
-            let answers = same_result(ret, callee.result());
+            let answers = ret == callee.result();
             arguments_fault(body, name, &callee, args).or(fault_unless(answers))
         }
     }

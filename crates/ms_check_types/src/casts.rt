@@ -3,7 +3,6 @@ ghost use Rattle.std.specs.Prelude.{◌≡◌};
 ghost use Rattle.ms_bits.specs.declared.operations.CastOp.TheVariants as cast;
 ghost use Rattle.ms_valid.specs.TypesAgree.{cast_allows};
 
-use crate::types::same_type;
 use ms_bits::CastOp;
 use ms_ir::Ty;
 
@@ -37,6 +36,6 @@ pub fn cast_allows(op: CastOp, from: &Ty, to: &Ty) -> bool
         CastOp::Sext => is_narrower(from, to),
         CastOp::PtrToInt => is_pointer_and_int(from, to),
         CastOp::IntToPtr => is_pointer_and_int(to, from),
-        CastOp::Bitcast => same_type(from, to),
+        CastOp::Bitcast => from == to,
     }
 }

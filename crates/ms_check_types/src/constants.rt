@@ -1,20 +1,19 @@
 //! Constants with their types (LLVM Language Reference, "Constants", "Constant Expressions").
 ghost use Rattle.std.specs.Prelude.{◌≡◌, None, drop, is_none, true, ◌&&◌};
-ghost use Rattle.ms_ir.specs.declared.syntax.Operand.TheVariants as operand;
 ghost use Rattle.ms_ir.specs.declared.syntax.Ty as type;
-ghost use Rattle.ms_valid.specs.Equal.{type_eq, is_undefined};
+ghost use Rattle.ms_ir.specs.Equal.{type_eq};
+ghost use Rattle.ms_ir.specs.ValueTypes.{type_of};
 ghost use Rattle.ms_valid.specs.TypesAgree.{operand_fits, is_variable, first_misstep, constant_indices};
 
 use crate::steps::leads_on;
 use crate::symbols::Symbols;
-use crate::types::is_pointer;
-use ms_ir::{Name, Operand, Ty};
+use ms_ir::{Name, Operand, Ty, ValueType};
 
 /// Whether the address of a global fits a type: a pointer, to a global variable.
-pub fn global_fits(symbols: &Symbols<'_>, ty: &Ty, name: &Name) -> bool
-    ensures { result ≡ (type_eq ty.now type.Ptr && is_variable symbols.now.source.now name.now) }
+pub fn global_fits(symbols: &Symbols<'_>, ty: ValueType<'_>, name: &Name) -> bool
+    ensures { result ≡ (type_eq (type_of ty.entry) type.Ptr && is_variable symbols.now.source.now name.now) }
 {
-    is_pointer(ty) && symbols.is_variable(name)
+    ty.is_pointer() && symbols.is_variable(name)
 }
 
 /// Whether each index behind the first leads into a part of a type.
@@ -30,20 +29,20 @@ fn inner_indices_fit(symbols: &Symbols<'_>, ty: &Ty, indices: &[(Ty, u64)]) -> b
 /// Whether a constant `getelementptr` from a global fits a type.
 pub fn offset_fits(
     symbols: &Symbols<'_>,
-    ty: &Ty,
+    ty: ValueType<'_>,
     stepped: &Ty,
     name: &Name,
     indices: &[(Ty, u64)],
 ) -> bool
-    ensures { result ≡ (type_eq ty.now type.Ptr && is_variable symbols.now.source.now name.now
+    ensures { result ≡ (type_eq (type_of ty.entry) type.Ptr && is_variable symbols.now.source.now name.now
         && is_none (first_misstep (λ i. true) symbols.now.source.now.types stepped.now 0 (drop 1 (constant_indices indices.now)))) }
 {
     global_fits(symbols, ty, name) && inner_indices_fit(symbols, stepped, indices)
 }
 
 /// Whether a constant fits a type; a value of a function fits none.
-pub fn constant_fits(symbols: &Symbols<'_>, ty: &Ty, constant: &Operand) -> bool
-    ensures { result ≡ operand_fits symbols.now.source.now (λ x. None) ty.now constant.now }
+pub fn constant_fits(symbols: &Symbols<'_>, ty: ValueType<'_>, constant: &Operand) -> bool
+    ensures { result ≡ operand_fits symbols.now.source.now (λ x. None) (type_of ty.entry) constant.now }
 {
     match constant {
         Operand::Int(_) => true,

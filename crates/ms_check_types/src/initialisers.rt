@@ -1,15 +1,15 @@
 //! Initialisers of globals (LLVM Language Reference, "Global Variables", "Complex Constants").
 ghost use Rattle.std.specs.Prelude.{◌≡◌, ◌||◌, None, length};
 ghost use Rattle.std.specs.List.{list_all};
-ghost use Rattle.ms_valid.specs.Equal.{is_undefined};
+ghost use Rattle.ms_ir.specs.Equal.{is_undefined};
 ghost use Rattle.ms_valid.specs.Initialisers.{is_text_type, item_types, field_types, init_fits};
 ghost use Rattle.ms_valid.specs.TypesAgree.{operand_fits};
 ghost use Rattle.ms_check_types.specs.Items.{item_fits, each_fits, all_fit};
 
 use crate::constants::constant_fits;
 use crate::symbols::Symbols;
-use crate::types::{is_int, same_type};
-use ms_ir::{Init, Operand, Ty};
+use crate::types::is_int;
+use ms_ir::{Init, Operand, Ty, ValueType};
 
 /// Whether a constant may stand behind a type: an undefined one behind every type.
 fn value_fits(symbols: &Symbols<'_>, ty: &Ty, value: &Operand) -> bool
@@ -18,7 +18,7 @@ fn value_fits(symbols: &Symbols<'_>, ty: &Ty, value: &Operand) -> bool
     match value {
         Operand::Undef => true,
         Operand::Poison => true,
-        _ => constant_fits(symbols, ty, value),
+        _ => constant_fits(symbols, ValueType::Written(ty), value),
     }
 }
 
@@ -42,9 +42,10 @@ pub fn init_fits<'a, 'm>(symbols: &'a Symbols<'m>, ty: &'a Ty, init: &'a Init) -
         Init::Zero => true,
         Init::Text(bytes) => is_text_type(ty, bytes.as_slice().len()),
         Init::Array(items) => array_fits(symbols, ty, items.as_slice()),
-        Init::Struct(packed, fields) => {
-            struct_fits(symbols, symbols.resolved(ty), *packed, fields.as_slice())
-        }
+        Init::Struct(packed, fields) => match symbols.resolved(ty) {
+            Some(whole) => struct_fits(symbols, whole, *packed, fields.as_slice()),
+            None => false,
+        },
     }
 }
 
@@ -67,14 +68,14 @@ fn items_fit<'a, 'm>(symbols: &'a Symbols<'m>, ty: &'a Ty, items: &'a [(Ty, Init
     ensures { result ≡ list_all (item_fits (operand_fits symbols.now.source.now (λ x. None)) symbols.now.source.now.types ty.now) items.now }
 {
     for (own, init) in items {
-        if !(same_type(own, ty) && init_fits(symbols, ty, init)) {
+        if !(own == ty && init_fits(symbols, ty, init)) {
             return false;
         }
     }
     true
 }
 
-/// Whether a type is a struct of these fields.
+/// Whether a type without a name is a struct of these fields.
 #[cycle(init_fits)]
 fn struct_fits<'a, 'm>(
     symbols: &'a Symbols<'m>,
@@ -100,7 +101,7 @@ fn fields_fit<'a, 'm>(symbols: &'a Symbols<'m>, types: &'a [Ty], fields: &'a [(T
     }
     for k in 0..types.len() {
         let (own, init) = &fields[k];
-        if !(same_type(own, &types[k]) && init_fits(symbols, &types[k], init)) {
+        if !(own == &types[k] && init_fits(symbols, &types[k], init)) {
             return false;
         }
     }

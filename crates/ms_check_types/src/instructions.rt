@@ -1,64 +1,71 @@
 //! The operands of an instruction (LLVM Language Reference, "Instruction Reference").
-ghost use Rattle.std.specs.Prelude.{◌≡◌, ◌<◌, ◌^◌, IfOk, length};
-ghost use Rattle.ms_ir.specs.declared.syntax.Op.TheVariants as op;
+ghost use Rattle.std.specs.Prelude.{◌≡◌, ◌&&◌, IfOk};
+ghost use Rattle.std.specs.List.{list_all};
+ghost use Rattle.std.specs.Option.{option_or};
 ghost use Rattle.ms_ir.specs.Code.{operands as operands_of};
-ghost use Rattle.ms_check_types.specs.Bodies.{fault_in};
+ghost use Rattle.ms_ir.specs.Equal.{has_name};
+ghost use Rattle.ms_ir.specs.Locals.{block_names};
+ghost use Rattle.ms_ir.specs.Written.{targets};
+ghost use Rattle.ms_valid.specs.TypesAgree.{differ, first_misfit, fault_unless};
+ghost use Rattle.ms_check_types.specs.Bodies.{fits_in, func_of, fault_in};
 
 use crate::bodies::Body;
 use crate::calls::{call_fault, fault_unless};
 use crate::casts::cast_allows;
 use crate::geps::gep_fault;
-use crate::jumps::{branch_fault, returns_fit, switch_fault};
-use crate::operands::{edge_misfit, first_misfit};
+use crate::jumps::{differ, leads_to_blocks, returns_fit};
+use crate::operands::first_misfit;
 use ms_bits::NoMemory;
-use ms_ir::Op;
+use ms_ir::{Name, Op};
 use std::alloc::Global;
+
+/// The operand at fault of an instruction that asks for no more than that each operand has the type before it, and
+/// that it goes to blocks.
+fn plain_fault(body: &Body<'_, '_>, op: &Op) -> Option<usize>
+    ensures { result ≡ option_or (first_misfit (fits_in body.now) 0 (operands_of op.now))
+        (fault_unless (list_all (has_name (block_names (func_of body.now))) (targets op.now))) }
+{
+    first_misfit(body, op).or(fault_unless(leads_to_blocks(body, op)))
+}
+
+/// The operand at fault of a `switch` with these cases. The one error is want of memory.
+fn switch_fault(
+    alloc: Global,
+    body: &Body<'_, '_>,
+    op: &Op,
+    cases: &[(u64, Name)],
+) -> Result<Option<usize>, NoMemory>
+    ensures { IfOk result (λ r. r ≡ option_or (first_misfit (fits_in body.now) 0 (operands_of op.now))
+        (fault_unless (differ cases.now && list_all (has_name (block_names (func_of body.now))) (targets op.now)))) }
+{
+    let different = differ(alloc, cases)?;
+    let known = leads_to_blocks(body, op);
+    Ok(first_misfit(body, op).or(fault_unless(different && known)))
+}
 
 /// The operand of an instruction at fault: the first that doesn't fit or that is missing, else 0. The one error is want of
 /// memory.
-pub fn op_fault<'a>(alloc: Global, body: &Body<'a, '_>, op: &'a Op) -> Result<Option<u32>, NoMemory>
-    requires { length (operands_of op.now) < 2 ^ 31 }
+pub fn op_fault<'a>(
+    alloc: Global,
+    body: &Body<'_, 'a>,
+    op: &'a Op,
+) -> Result<Option<usize>, NoMemory>
     ensures { IfOk result (λ r. r ≡ fault_in body.now op.now) }
 {
     match op {
-        Op::Binary { ty, a, b, .. } => Ok(first_misfit(body, &[(ty, a), (ty, b)])),
-        Op::Icmp { ty, a, b, .. } => Ok(first_misfit(body, &[(ty, a), (ty, b)])),
         Op::Cast {
-            op,
+            op: cast,
             from,
-            a,
             to,
             ..
         } => {
-            let allowed = cast_allows(*op, from, to);
-            Ok(first_misfit(body, &[(from, a)]).or(fault_unless(allowed)))
+            let allowed = cast_allows(*cast, from, to);
+            Ok(first_misfit(body, op).or(fault_unless(allowed)))
         }
-        Op::Select { cond, ty, a, b } => {
-            Ok(first_misfit(body, &[(body.symbols.bit(), cond), (ty, a), (ty, b)]))
-        }
-        Op::Freeze { ty, a } => Ok(first_misfit(body, &[(ty, a)])),
-        Op::Phi { ty, edges } => Ok(edge_misfit(body, ty, edges.as_slice())),
-        Op::Alloca {
-            count_ty,
-            count,
-            ..
-        } => Ok(first_misfit(body, &[(count_ty, count)])),
-        Op::Load { addr, .. } => Ok(first_misfit(body, &[(body.symbols.pointer(), addr)])),
-        Op::Store { ty, value, addr } => Ok(first_misfit(
-            body,
-            &[(ty, value), (body.symbols.pointer(), addr)],
-        )),
         Op::Gep { ty, base, indices } => Ok(gep_fault(body, ty, base, indices.as_slice())),
-        Op::Call { ret, callee, args } => Ok(call_fault(body, ret, callee, args.as_slice())),
-        Op::Br { to } => Ok(fault_unless(body.locals.is_block(to))),
-        Op::CondBr { cond, yes, no } => Ok(branch_fault(body, cond, yes, no)),
-        Op::Switch {
-            ty,
-            value,
-            other,
-            cases,
-        } => switch_fault(alloc, body, ty, value, other, cases.as_slice()),
+        Op::Call { ret, callee, args } => Ok(call_fault(body, op, ret, callee, args.as_slice())),
+        Op::Switch { cases, .. } => switch_fault(alloc, body, op, cases.as_slice()),
         Op::Ret { value } => Ok(fault_unless(returns_fit(body, value))),
-        Op::Unreachable => Ok(None),
+        _ => Ok(plain_fault(body, op)),
     }
 }

@@ -1,26 +1,31 @@
-//! Whether the operands of a module have the types that are asked for, exact against the definition of that.
+//! Two of the clauses of a valid module: the operands have the types that are asked for, and each type that is written has a
+//! size, where the globals fit into their memory. Each call is exact against the definition of its clause.
 #![tactic(auto)]
 
 mod bodies;
 mod callees;
 mod calls;
 mod casts;
+mod code;
 mod constants;
+mod faults;
 mod geps;
+mod globals;
 mod initialisers;
 mod instructions;
 mod jumps;
 mod locals;
 pub mod mismatches;
-mod names;
 mod operands;
-mod results;
+mod parts;
+mod rows;
 mod steps;
 mod symbols;
-#[cfg(test)]
-mod tests;
+mod typed;
 mod types;
 mod walks;
+mod written;
 
+pub use faults::first_unsized;
 pub use mismatches::Mismatch;
 pub use walks::first_mismatch;

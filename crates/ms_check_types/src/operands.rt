@@ -1,16 +1,32 @@
 //! Operands with the types before them (LLVM Language Reference, "Instruction Reference").
-ghost use Rattle.std.specs.Prelude.{◌≡◌, ◌+◌, ◌<◌, ◌^◌, length, map};
+ghost use Rattle.std.specs.Prelude.{◌≡◌, option_map, slice_get};
+ghost use Rattle.ms_ir.specs.Code.{operands};
+ghost use Rattle.ms_ir.specs.ValueTypes.{type_of};
 ghost use Rattle.ms_valid.specs.TypesAgree.{first_misfit};
 ghost use Rattle.ms_check_types.specs.Bodies.{fits_in};
+ghost use Rattle.ms_check_types.specs.Typed.{holds_at};
 
 use crate::bodies::Body;
 use crate::constants::{global_fits, offset_fits};
-use crate::types::same_type;
-use ms_ir::{Name, Operand, Ty};
+use ms_ir::{Op, Operand, ValueType};
+
+/// The operand with a place from 0 and the type before it, if there is one.
+#[tactic(auto, using(crate::proofs::OneByOne::typed_there, crate::proofs::OneByOne::untyped, crate::proofs::OneByOne::unheld))]
+pub fn typed_operand(op: &Op, place: usize) -> Option<(ValueType<'_>, &Operand)>
+    ensures { option_map (λ o. (type_of o.0, o.1.now)) result ≡ slice_get (operands op.now) place }
+{
+    match op.operand_type(place) {
+        None => None,
+        Some(ty) => match op.operand(place) {
+            None => None,
+            Some(operand) => Some((ty, operand)),
+        },
+    }
+}
 
 /// Whether an operand has the type before it.
-pub fn operand_fits(body: &Body<'_, '_>, ty: &Ty, operand: &Operand) -> bool
-    ensures { result ≡ fits_in body.now (ty.now, operand.now) }
+pub fn operand_fits(body: &Body<'_, '_>, ty: ValueType<'_>, operand: &Operand) -> bool
+    ensures { result ≡ fits_in body.now (type_of ty.entry, operand.now) }
 {
     match operand {
         Operand::Int(_) => true,
@@ -18,7 +34,7 @@ pub fn operand_fits(body: &Body<'_, '_>, ty: &Ty, operand: &Operand) -> bool
         Operand::Undef => true,
         Operand::Poison => true,
         Operand::Local(name) => match body.locals.type_of(name) {
-            Some(own) => same_type(own, ty),
+            Some(own) => own.is_same(&ty),
             None => false,
         },
         Operand::Global(name) => global_fits(body.symbols, ty, name),
@@ -28,47 +44,24 @@ pub fn operand_fits(body: &Body<'_, '_>, ty: &Ty, operand: &Operand) -> bool
     }
 }
 
-/// The first of some operands that doesn't fit.
-pub fn first_misfit(body: &Body<'_, '_>, operands: &[(&Ty, &Operand)]) -> Option<u32>
-    requires { length operands.now < 2 ^ 31 }
-    ensures { result ≡ first_misfit (fits_in body.now) 0 (map (λ o. (o.0.now, o.1.now)) operands.now) }
+/// Whether the operand with a place has the type before it, if there is one.
+fn fits_at(body: &Body<'_, '_>, op: &Op, place: usize) -> bool
+    ensures { result ≡ holds_at (fits_in body.now) (slice_get (operands op.now) place) }
 {
-    let mut place = 0;
-    for (ty, operand) in operands {
-        if !operand_fits(body, ty, operand) {
-            return Some(place);
-        }
-        place += 1;
+    match typed_operand(op, place) {
+        Some((ty, operand)) => operand_fits(body, ty, operand),
+        None => true,
     }
-    None
 }
 
-/// The first argument that doesn't fit.
-pub fn argument_misfit(body: &Body<'_, '_>, args: &[(Ty, Operand)]) -> Option<u32>
-    requires { length args.now < 2 ^ 31 }
-    ensures { result ≡ first_misfit (fits_in body.now) 0 args.now }
+/// The place of the first operand of an instruction that doesn't have the type before it.
+pub fn first_misfit(body: &Body<'_, '_>, op: &Op) -> Option<usize>
+    ensures { result ≡ first_misfit (fits_in body.now) 0 (operands op.now) }
 {
-    let mut place = 0;
-    for (ty, operand) in args {
-        if !operand_fits(body, ty, operand) {
+    for place in 0..op.operand_count() {
+        if !fits_at(body, op, place) {
             return Some(place);
         }
-        place += 1;
-    }
-    None
-}
-
-/// The first value of a phi that doesn't have its type.
-pub fn edge_misfit(body: &Body<'_, '_>, ty: &Ty, edges: &[(Operand, Name)]) -> Option<u32>
-    requires { length edges.now < 2 ^ 31 }
-    ensures { result ≡ first_misfit (fits_in body.now) 0 (map (λ e. (ty.now, e.0)) edges.now) }
-{
-    let mut place = 0;
-    for (operand, _) in edges {
-        if !operand_fits(body, ty, operand) {
-            return Some(place);
-        }
-        place += 1;
     }
     None
 }

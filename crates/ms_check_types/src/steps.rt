@@ -3,7 +3,7 @@ ghost use Rattle.std.specs.Prelude.{◌≡◌, length, option_and_then, slice_ge
 ghost use Rattle.std.specs.Option.{option_copied};
 ghost use Rattle.ms_ir.specs.declared.syntax.Ty as type;
 ghost use Rattle.ms_ir.specs.Layout.{resolved};
-ghost use Rattle.ms_valid.specs.Equal.{type_eq};
+ghost use Rattle.ms_ir.specs.Equal.{type_eq};
 ghost use Rattle.ms_valid.specs.TypesAgree.{first_misstep, constant_indices};
 ghost use Rattle.ms_check_types.specs.Parts.{constant_of, part_by};
 
@@ -31,6 +31,17 @@ fn field<'a>(fields: &'a [Ty], index_ty: &Ty, index: Option<u64>) -> Option<&'a 
     }
 }
 
+/// The part of a type without a name to which an index leads.
+fn part_of<'a>(whole: &'a Ty, index_ty: &Ty, index: Option<u64>) -> Option<&'a Ty>
+    ensures { option_copied result ≡ part_by whole.now index_ty.now index }
+{
+    match whole {
+        Ty::Array(_, item) => Some(item.get()),
+        Ty::Struct(_, fields) => field(fields.as_slice(), index_ty, index),
+        _ => None,
+    }
+}
+
 /// The part of a type to which an index leads, by the index's type and number; none where it leads to none.
 pub fn part<'a>(
     symbols: &'a Symbols<'_>,
@@ -41,9 +52,8 @@ pub fn part<'a>(
     ensures { option_copied result ≡ part_by (resolved symbols.now.source.now.types ty.now) index_ty.now index }
 {
     match symbols.resolved(ty) {
-        Ty::Array(_, item) => Some(item.get()),
-        Ty::Struct(_, fields) => field(fields.as_slice(), index_ty, index),
-        _ => None,
+        Some(whole) => part_of(whole, index_ty, index),
+        None => None,
     }
 }
 

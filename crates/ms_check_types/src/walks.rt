@@ -1,10 +1,10 @@
 //! The first mismatch of a module, in the order of its text.
-ghost use Rattle.std.specs.Prelude.{◌≡◌, ◌+◌, ◌<◌, ◌^◌, IfOk, None, length, option_map, slice_get};
-ghost use Rattle.ms_ir.specs.Code.{one_unmarked, over_insts, over_blocks, over_funcs};
+ghost use Rattle.std.specs.Prelude.{◌≡◌, ◌<◌, ◌^◌, [], IfOk, length, option_map, slice_get};
+ghost use Rattle.ms_ir.specs.Code.{over_funcs};
+ghost use Rattle.ms_ir.specs.Places.{HasSmallNumbers};
 ghost use Rattle.ms_valid.specs.Formed.{count_written};
 ghost use Rattle.ms_valid.specs.TypesAgree.{mismatches};
-ghost use Rattle.ms_check_types.specs.Bodies.{module_of, func_of};
-ghost use Rattle.ms_check_types.specs.Faults.{as_pair, insts_fault, blocks_fault, funcs_fault, globals_fault};
+ghost use Rattle.ms_check_types.specs.Faults.{as_pair, inst_faults, code_faults, globals_fault};
 
 use crate::bodies::Body;
 use crate::initialisers::init_fits;
@@ -13,88 +13,71 @@ use crate::locals::Locals;
 use crate::mismatches::Mismatch;
 use crate::symbols::Symbols;
 use ms_bits::NoMemory;
-use ms_ir::{Block, Func, GlobalVar, Inst, Module};
+use ms_ir::{Func, GlobalVar, Inst, Module};
+use ms_tables::{Clause, Here, first_fault};
 use std::alloc::Global;
 
-/// The first mismatch of some instructions, the first of which has a site. Where there is none, the site is then that behind
-/// them.
-fn first_in_insts<'a>(
-    alloc: Global,
-    body: &Body<'a, '_>,
-    site: &mut u32,
-    insts: &'a [Inst],
-) -> Result<Option<Mismatch>, NoMemory>
-    requires { site.old + over_insts count_written insts.now < 2 ^ 31 }
-    ensures found { IfOk result (λ r. option_map as_pair r ≡ insts_fault (module_of body.now) (func_of body.now) site.old insts.now) }
-    ensures site { IfOk result (λ r. r ≡ None → site.new ≡ site.old + over_insts one_unmarked insts.now) }
-{
-    for inst in insts {
-        if let Some(operand) = op_fault(alloc, body, &inst.op)? {
-            return Ok(Some(Mismatch {
-                site: *site,
-                operand,
-            }));
-        }
-        if !inst.marked {
-            *site += 1;
-        }
-    }
-    Ok(None)
+/// Each operand has the type that is asked for, in a module with these symbols. A fault is a site with the number of
+/// an operand.
+#[derive(Drop)]
+struct TypesAgree<'a, 'm> {
+    symbols: &'a Symbols<'m>,
 }
 
-/// The same for basic blocks.
-fn first_in_blocks<'a>(
-    alloc: Global,
-    body: &Body<'a, '_>,
-    site: &mut u32,
-    blocks: &'a [Block],
-) -> Result<Option<Mismatch>, NoMemory>
-    requires { site.old + over_blocks count_written blocks.now < 2 ^ 31 }
-    ensures found { IfOk result (λ r. option_map as_pair r ≡ blocks_fault (module_of body.now) (func_of body.now) site.old blocks.now) }
-    ensures site { IfOk result (λ r. r ≡ None → site.new ≡ site.old + over_blocks one_unmarked blocks.now) }
-{
-    for block in blocks {
-        if let Some(fault) = first_in_insts(alloc, body, site, block.insts.as_slice())? {
-            return Ok(Some(fault));
+impl<'a, 'm> Clause<'m> for TypesAgree<'a, 'm> {
+    type Tables = Locals<'m>;
+
+    type Fault = (u32, usize);
+
+    ghost AreOf = { λ clause f locals. locals.func.now ≡ f };
+
+    ghost head = { λ clause f. [] };
+
+    ghost look = { λ clause at inst. inst_faults clause.symbols.now.source.now at inst };
+
+    fn func_fault(&self, _func: &'m Func) -> Option<(u32, usize)> {
+        None
+    }
+
+    fn enter(&self, alloc: Global, func: &'m Func) -> Result<Locals<'m>, NoMemory> {
+        Locals::of(alloc, func)
+    }
+
+    fn fault(
+        &self,
+        alloc: Global,
+        tables: &mut Locals<'m>,
+        here: &Here<'m>,
+        inst: &'m Inst,
+    ) -> Result<Option<(u32, usize)>, NoMemory> {
+        let body = Body {
+            symbols: self.symbols,
+            locals: tables,
+        };
+        match op_fault(alloc, &body, &inst.op)? {
+            Some(operand) => Ok(Some((here.site, operand))),
+            None => Ok(None),
         }
     }
-    Ok(None)
 }
 
-/// The same for a function.
-fn first_in_func<'a>(
+/// The first mismatch in the functions of a module. The one error is want of memory.
+fn first_in_code<'m>(
     alloc: Global,
-    symbols: &'a Symbols<'_>,
-    site: &mut u32,
-    func: &'a Func,
+    symbols: &Symbols<'m>,
+    m: &'m Module,
 ) -> Result<Option<Mismatch>, NoMemory>
-    requires { site.old + over_blocks count_written func.now.blocks < 2 ^ 31 }
-    ensures found { IfOk result (λ r. option_map as_pair r ≡ blocks_fault symbols.now.source.now func.now site.old func.now.blocks) }
-    ensures site { IfOk result (λ r. r ≡ None → site.new ≡ site.old + over_blocks one_unmarked func.now.blocks) }
+    requires numbers { HasSmallNumbers m.now }
+    requires operands { over_funcs count_written m.now.funcs < 2 ^ 30 }
+    ensures { IfOk result (λ r. option_map as_pair r ≡ slice_get (code_faults symbols.now.source.now m.now) 0) }
 {
-    let body = Body {
-        symbols,
-        locals: Locals::of(alloc, symbols, func)?,
-    };
-    first_in_blocks(alloc, &body, site, func.blocks.as_slice())
-}
-
-/// The same for functions, the first of which begins at a site.
-fn first_in_funcs<'a>(
-    alloc: Global,
-    symbols: &'a Symbols<'_>,
-    funcs: &'a [Func],
-) -> Result<Option<Mismatch>, NoMemory>
-    requires { 1 + over_funcs count_written funcs.now < 2 ^ 31 }
-    ensures { IfOk result (λ r. option_map as_pair r ≡ funcs_fault symbols.now.source.now 1 funcs.now) }
-{
-    let mut site = 1;
-    for func in funcs {
-        if let Some(fault) = first_in_func(alloc, symbols, &mut site, func)? {
-            return Ok(Some(fault));
-        }
+    match first_fault(alloc, &TypesAgree { symbols }, m)? {
+        Some((site, operand)) => Ok(Some(Mismatch {
+            site,
+            operand: operand as u32,
+        })),
+        None => Ok(None),
     }
-    Ok(None)
 }
 
 /// The first global whose initialiser doesn't fit its type.
@@ -102,26 +85,40 @@ fn first_in_globals<'a>(symbols: &'a Symbols<'_>, globals: &'a [GlobalVar]) -> O
     requires { length globals.now < 2 ^ 30 }
     ensures { result ≡ globals_fault symbols.now.source.now 0 globals.now }
 {
-    let mut place = 0;
-    for global in globals {
+    for (place, global) in globals.iter().enumerate() {
         if !init_fits(symbols, &global.ty, &global.init) {
-            return Some(place);
+            return Some(place as u32);
         }
-        place += 1;
     }
     None
+}
+
+/// The first mismatch of a module with these symbols.
+fn first_in_module<'m>(
+    alloc: Global,
+    symbols: &Symbols<'m>,
+    m: &'m Module,
+) -> Result<Option<Mismatch>, NoMemory>
+    requires source { symbols.now.source.now ≡ m.now }
+    requires numbers { HasSmallNumbers m.now }
+    requires globals { length m.now.globals < 2 ^ 30 }
+    requires operands { over_funcs count_written m.now.funcs < 2 ^ 30 }
+    ensures { IfOk result (λ r. option_map as_pair r ≡ slice_get (mismatches m.now) 0) }
+{
+    match first_in_globals(symbols, m.globals.as_slice()) {
+        Some(operand) => Ok(Some(Mismatch { site: 0, operand })),
+        None => first_in_code(alloc, symbols, m),
+    }
 }
 
 /// The first mismatch of a module in the order of its text: of the initialisers of its globals, and then of its instructions.
 /// None exactly where all types agree. The one error is want of memory. Near-linear in the module.
 pub fn first_mismatch(alloc: Global, m: &Module) -> Result<Option<Mismatch>, NoMemory>
+    requires numbers { HasSmallNumbers m.now }
     requires globals { length m.now.globals < 2 ^ 30 }
     requires operands { over_funcs count_written m.now.funcs < 2 ^ 30 }
     ensures { IfOk result (λ r. option_map as_pair r ≡ slice_get (mismatches m.now) 0) }
 {
     let symbols = Symbols::of(alloc, m)?;
-    if let Some(operand) = first_in_globals(&symbols, m.globals.as_slice()) {
-        return Ok(Some(Mismatch { site: 0, operand }));
-    }
-    first_in_funcs(alloc, &symbols, m.funcs.as_slice())
+    first_in_module(alloc, &symbols, m)
 }

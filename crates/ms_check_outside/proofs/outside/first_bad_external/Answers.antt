@@ -1,11 +1,10 @@
-use Rattle.std.proofs.Common.{◌≡◌, None, sym, ◌∙◌, ap}
+use Rattle.std.proofs.Common.{◌≡◌, sym, ◌∙◌, ap}
 use Rattle.std.specs.Prelude.{slice_get, flat_map}
 use Rattle.std.specs.Option.{option_copied, option_or}
 use Rattle.std.proofs.Math.Path.{ap₂}
-use Rattle.ms_valid.specs.Locals.{function_names}
-use Rattle.ms_valid.specs.ExternalsFit.{name_unless, global_fits, decl_fits, called_names}
+use Rattle.ms_valid.specs.ExternalsFit.{name_unless, global_fits, decl_fits}
 use Rattle.ms_check_outside.specs.Outside.{func_faults}
-use Rattle.ms_check_outside.proofs.Items.{none_left}
+use Rattle.ms_tables.proofs.Items.{none_left}
 use Rattle.ms_check_outside.proofs.Outsiders.{outside_is, of_globals, of_decls, of_funcs}
 use Rattle.ms_check_outside.proofs.outside.first_bad_external.Goals as goal
 

@@ -1,6 +1,6 @@
 use Rattle.std.proofs.Common.{ap, ◌∙◌}
 use Rattle.ms_ir.specs.declared.syntax.Ty.{Int}
-use Rattle.ms_valid.specs.Equal.{type_eq}
+use Rattle.ms_ir.specs.Equal.{type_eq}
 use Rattle.ms_check_outside.proofs.SlotsOf.{row_is}
 use Rattle.ms_check_outside.proofs.slots.is_row.Goals as goal
 

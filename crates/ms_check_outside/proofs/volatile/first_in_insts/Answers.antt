@@ -1,7 +1,7 @@
 use Rattle.std.proofs.Common.{sym, ◌∙◌, ap}
 use Rattle.std.specs.Option.{option_copied}
 use Rattle.ms_check_outside.specs.Outside.{volatile_in}
-use Rattle.ms_check_outside.proofs.Items.{none_left}
+use Rattle.ms_tables.proofs.Items.{none_left}
 use Rattle.ms_check_outside.proofs.Firsts.{passed, stopped}
 use Rattle.ms_check_outside.proofs.volatile.first_in_insts.Goals as goal
 

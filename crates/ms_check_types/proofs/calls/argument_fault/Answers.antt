@@ -1,4 +1,4 @@
-use Rattle.std.proofs.Common.{◌≡◌, true, false, ap, sym, ◌∙◌, arith, Some}
+use Rattle.std.proofs.Common.{◌≡◌, true, ap, sym, ◌∙◌, arith, Some, length}
 use Rattle.std.specs.Prelude.{slice_get}
 use Rattle.ms_check_types.specs.Arguments.{fits_parameter}
 use Rattle.ms_check_types.specs.Bodies.{fits_in}
@@ -8,30 +8,25 @@ use Rattle.ms_check_types.proofs.calls.argument_fault.Goals as goal
 
 pub returns-then-not-argument_fits : goal.returns-then-not-argument_fits
 returns-then-not-argument_fits c =
-    let l = c.loop-ty in
-    let fits = fits_in c.args.body.now in
-    let params = (callee_signature c.args.callee.now).params in
-    let x = c.loop-ty-item.result in
-    let bad : fits_parameter fits (slice_get params l.ty-index) x ≡ false =
-    ap (λ k. fits_parameter fits (slice_get params k) x) (sym l.invariant.count) ∙ sym c.argument_fits.ensures ∙ c.if-not-argument_fits.true in
-    ap Some l.invariant.count ∙ argument_found fits params c.args.args.now l.ty-index x _ c.loop-ty-test.true c.loop-ty-item.is bad l.invariant.is
+    let l = c.loop-place in
+    argument_found (fits_in c.args.body.now) (callee_signature c.args.callee.now).params c.args.args.now l.place c.index-args-place.result _ (omega arith) c.index-args-place.is
+    (sym c.argument_fits.ensures ∙ c.if-not-argument_fits.true) l.invariant.is
 
-pub loop-ty-preserved : goal.loop-ty-preserved
-loop-ty-preserved c =
-    let l = c.loop-ty in
+pub loop-place-preserved : goal.loop-place-preserved
+loop-place-preserved c =
+    let l = c.loop-place in
     let fits = fits_in c.args.body.now in
     let params = (callee_signature c.args.callee.now).params in
-    let x = c.loop-ty-item.result in
-    let ok : fits_parameter fits (slice_get params l.ty-index) x ≡ true =
-    ap (λ k. fits_parameter fits (slice_get params k) x) (sym l.invariant.count) ∙ sym c.argument_fits.ensures ∙ c.if-not-argument_fits.false in
+    let x = c.index-args-place.result in
+    let ok : fits_parameter fits (slice_get params l.place) x ≡ true = sym c.argument_fits.ensures ∙ c.if-not-argument_fits.false in
     record {
-      count = omega arith;
-      known = known_parameter fits params c.args.args.now l.ty-index x ok;
-      is = argument_passed fits params c.args.args.now l.ty-index x _ c.loop-ty-test.true c.loop-ty-item.is ok l.invariant.is;
+      known = known_parameter fits params c.args.args.now l.place x ok;
+      is = argument_passed fits params c.args.args.now l.place x _ (omega arith) c.index-args-place.is ok l.invariant.is;
     }
 
 pub returns-then-args-count : goal.returns-then-args-count
 returns-then-args-count c =
-    let l = c.loop-ty in
-    ap Some l.invariant.count
-    ∙ argument_missing (fits_in c.args.body.now) (callee_signature c.args.callee.now).params c.args.args.now l.ty-index _ c.loop-ty-test.false (omega arith) l.invariant.is
+    let l = c.loop-place in
+    let all : length c.args.args.now ≡ l.place = omega arith in
+    ap Some all
+    ∙ argument_missing (fits_in c.args.body.now) (callee_signature c.args.callee.now).params c.args.args.now l.place _ (omega arith) (omega arith) l.invariant.is

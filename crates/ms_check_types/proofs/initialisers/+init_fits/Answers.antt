@@ -27,12 +27,19 @@ init_fits-returns-in-Array t c =
     c.array_fits.ensures ∙ ap (λ xs. all_fit fits types (item_types c.args.ty.now (length xs)) xs) c.as_slice-in-Array.ensures
     ∙ array_items fits types c.args.ty.now c.args.init.now c.in-Array.items c.in-Array.is
 
-pub init_fits-returns-in-Struct : goal.init_fits-returns-in-Struct
-init_fits-returns-in-Struct t c =
+pub init_fits-returns-in-Some : goal.init_fits-returns-in-Some
+init_fits-returns-in-Some t c =
     let fits = operand_fits c.args.symbols.now.source.now (λ x. None) in
     let types = c.args.symbols.now.source.now.types in
-    c.struct_fits.ensures ∙ ap (λ w. all_fit fits types (field_types w c.in-Struct.packed) c.as_slice-in-Struct.result.now) c.resolved.ensures
-    ∙ ap (λ xs. all_fit fits types (field_types (resolved types c.args.ty.now) c.in-Struct.packed) xs) c.as_slice-in-Struct.ensures
+    c.struct_fits.ensures ∙ ap (λ w. all_fit fits types (field_types w c.in-Struct.packed) c.as_slice-in-Some.result.now) c.in-Some.ensures
+    ∙ ap (λ xs. all_fit fits types (field_types (resolved types c.args.ty.now) c.in-Struct.packed) xs) c.as_slice-in-Some.ensures
+    ∙ struct_fields fits types c.args.ty.now c.args.init.now c.in-Struct.packed c.in-Struct.fields c.in-Struct.is
+
+pub init_fits-returns-in-None : goal.init_fits-returns-in-None
+init_fits-returns-in-None t c =
+    let fits = operand_fits c.args.symbols.now.source.now (λ x. None) in
+    let types = c.args.symbols.now.source.now.types in
+    ap (λ w. all_fit fits types (field_types w c.in-Struct.packed) c.in-Struct.fields) c.in-None.ensures
     ∙ struct_fields fits types c.args.ty.now c.args.init.now c.in-Struct.packed c.in-Struct.fields c.in-Struct.is
 
 pub struct_fits-returns-then-own-packed : goal.struct_fits-returns-then-own-packed

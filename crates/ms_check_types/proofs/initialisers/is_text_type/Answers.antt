@@ -1,6 +1,6 @@
 use Rattle.std.proofs.Common.{ap, ◌∙◌}
 use Rattle.ms_ir.specs.declared.syntax.Ty.{Int}
-use Rattle.ms_valid.specs.Equal.{type_eq}
+use Rattle.ms_ir.specs.Equal.{type_eq}
 use Rattle.ms_check_types.proofs.Items.{text_array}
 use Rattle.ms_check_types.proofs.initialisers.is_text_type.Goals as goal
 

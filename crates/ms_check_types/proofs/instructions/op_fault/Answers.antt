@@ -1,5 +1,5 @@
 use Rattle.ms_check_types.specs.Bodies.{module_of, func_of}
-use Rattle.ms_check_types.proofs.Passing.{call_case}
+use Rattle.ms_check_types.proofs.Calling.{call_case}
 use Rattle.ms_check_types.proofs.instructions.op_fault.Goals as goal
 
 pub returns-in-Call : goal.returns-in-Call

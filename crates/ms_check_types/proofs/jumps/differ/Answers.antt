@@ -1,11 +1,9 @@
-use Rattle.std.proofs.Common.{◌≡◌, ◌+◌, ◌-◌, true, ap, sym, ◌∙◌, arith, drop}
-use Rattle.std.specs.Prelude.{nat_eq}
+use Rattle.std.proofs.Common.{◌≡◌, ◌+◌, ◌-◌, true, ap, sym, ◌∙◌, arith, drop, rules}
+use Rattle.std.specs.Prelude.{nat_eq, not}
 use Rattle.std.specs.List.{list_any}
 use Rattle.std.specs.Ordering.{nat_cmp}
 use Rattle.std.specs.BTreeSet.{contains}
 use Rattle.ms_check_types.proofs.Cases.{case_again, was_there}
-use Rattle.std.specs.Prelude.{not}
-use Rattle.std.proofs.Common.{rules}
 use Rattle.ms_check_types.proofs.jumps.differ.Goals as goal
 
 added : (c : goal.After-drop-later-then-not-branch) → c.in_ok-insert.field-0 ≡ not (contains nat_cmp c.loop-place.later c.index-cases-place.result.0)

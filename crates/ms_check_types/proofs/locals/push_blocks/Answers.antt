@@ -1,13 +1,8 @@
-use Rattle.std.proofs.Common.{map}
 use Rattle.ms_check_types.proofs.Values.{blocks_grow}
 use Rattle.ms_check_types.proofs.locals.push_blocks.Goals as goal
 
 pub loop-block-preserved : goal.loop-block-preserved
 loop-block-preserved c =
     let l = c.loop-block in
-    record {
-      names = blocks_grow (λ v. v.0) _ _ c.args.blocks.now l.block-index c.block-item.result c.as_slice.result.now _
-          c.loop-block-test.true c.block-item.is c.as_slice.ensures c.in_ok-push_results.ensures.names l.invariant.names;
-      types = blocks_grow (λ v. v.1) _ _ c.args.blocks.now l.block-index c.block-item.result c.as_slice.result.now _
-          c.loop-block-test.true c.block-item.is c.as_slice.ensures c.in_ok-push_results.ensures.types l.invariant.types;
-    }
+    blocks_grow _ _ c.args.blocks.now l.block-index c.block-item.result c.as_slice.result.now _
+    c.loop-block-test.true c.block-item.is c.as_slice.ensures c.in_ok-push_results.ensures l.invariant

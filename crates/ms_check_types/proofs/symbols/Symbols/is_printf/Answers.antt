@@ -1,8 +1,10 @@
-use Rattle.std.proofs.Common.{sym, ◌∙◌}
-use Rattle.ms_check_types.proofs.Rows.{printf_known}
+use Rattle.std.proofs.Common.{sym, ap, ◌∙◌}
+use Rattle.ms_ir.specs.Locals.{declared_names}
+use Rattle.ms_check_types.proofs.NamedRows.{printf_known}
 use Rattle.ms_check_types.proofs.symbols.Symbols.is_printf.Goals as goal
 
-pub returns-then-is_named_printf : goal.returns-then-is_named_printf
-returns-then-is_named_printf c =
-    c.contains.ensures
-    ∙ printf_known c.args.self.now.source.now c.args.self.now.decls c.args.name.now c.args.self.now.decls_are (sym c.is_named_printf.ensures ∙ c.if-is_named_printf.true)
+pub returns-then-is : goal.returns-then-is
+returns-then-is c =
+    let self = c.args.self.now in
+    c.declares.ensures
+    ∙ printf_known self.source.now (declared_names self.callees.source.now) c.args.name.now (ap declared_names self.callees_are) (sym c.is.ensures ∙ c.if-is.true)

@@ -1,6 +1,0 @@
-use Rattle.std.proofs.Common.{◌≡◌, drop, length}
-use Rattle.ms_valid.specs.Equal.{types_eq}
-use Rattle.ms_check_edges.proofs.equal.+types.Given as goal
-
-abbrev pub invariant-same_types-loop-i : goal.invariant-same_types-loop-i
-invariant-same_types-loop-i l = types_eq (drop l.i l.types) (drop l.i l.others) ≡ types_eq l.types l.others

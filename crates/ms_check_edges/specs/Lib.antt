@@ -1,4 +1,0 @@
-pub mod Counted
-pub mod Arriving
-pub mod Fitting
-pub mod Looking

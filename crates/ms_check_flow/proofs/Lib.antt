@@ -1,0 +1,17 @@
+pub mod Counts
+pub mod SameOperands
+pub mod PushedRows
+pub mod Agreeing
+pub mod Arrived
+pub mod Judging
+pub mod PhiRows
+pub mod Appended
+pub mod Kept
+pub mod PathCounts
+pub mod Ties
+pub mod Judged
+pub mod Within
+pub mod Branches
+pub mod Passing
+pub mod Rows
+pub mod Operands

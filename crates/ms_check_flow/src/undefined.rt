@@ -1,0 +1,66 @@
+//! The first use that isn't defined on every path.
+ghost use Rattle.std.specs.Prelude.{◌≡◌, ◌+◌, IfOk, IfNone, IfSome, OnOk, All};
+ghost use Rattle.ms_ir.specs.Code.{one_unmarked, over_blocks};
+ghost use Rattle.ms_valid.specs.Formed.{Formed};
+ghost use Rattle.ms_valid.specs.Refusals.{UpToPhis, IsFirstUndefined};
+ghost use Rattle.ms_valid.specs.UsesDefined.{IsUseDefined, UsesDefined};
+ghost use Rattle.ms_check_flow.specs.Asked.{func_uses, CanBeAsked, IsFirstOf};
+
+use crate::walks::{asked_of, places};
+use ms_bits::{List, NoMemory};
+use ms_flow::missing;
+use ms_ir::{Func, Module};
+use ms_valid::laws::graph_paths;
+use std::alloc::Global;
+
+/// A use of a value that some path reaches without a definition.
+#[derive(Drop)]
+pub struct Undefined {
+    /// The site of the instruction that uses the value.
+    pub site: u32,
+    /// The path: blocks by their numbers in the function, from 0 on to the block of the use, which for a phi's operand is the
+    /// block that it names. None stands there twice.
+    pub path: List<u32>,
+}
+
+/// The first use of a function that isn't defined, where its first instruction has a site. The site becomes that behind the
+/// function.
+fn first_in_func(alloc: Global, site: &mut u32, func: &Func) -> Result<Option<Undefined>, NoMemory>
+    requires { CanBeAsked func.now site.old }
+    ensures none { IfOk result (λ r. IfNone r (All IsUseDefined (func_uses func.now site.old))) }
+    ensures first { IfOk result (λ r. IfSome r (λ u. IsFirstOf (func_uses func.now site.old) u.site u.path)) }
+    ensures site { OnOk result (site.new ≡ site.old + over_blocks one_unmarked func.now.blocks) }
+{
+    graph_paths();
+    let asked = asked_of(alloc, site, func)?;
+    let uses = places(alloc, &asked.noted)?;
+    match missing(alloc, &asked.graph, &uses)? {
+        None => Ok(None),
+        Some(missing) => Ok(Some(Undefined {
+            site: asked.noted[missing.which as usize].site,
+            path: missing.path,
+        })),
+    }
+}
+
+/// The first use of a value, in text order, that isn't defined on every path from its function's entry block to it, with
+/// such a path; None where each use is defined. A phi's operand is used at the end of the block that it names, and no path
+/// leads to a block that can't be reached. The one error is want of memory.
+///
+/// The time grows with the number of instructions, operands, blocks and edges, times the logarithm of the number of a
+/// function's names, and for each function with the number of its edges times a sixty-fourth of the number of its values that
+/// are used outside the block that defines them.
+pub fn first_undefined(alloc: Global, m: &Module) -> Result<Option<Undefined>, NoMemory>
+    requires formed { Formed m.now }
+    requires before { UpToPhis m.now }
+    ensures none { IfOk result (λ r. IfNone r (UsesDefined m.now)) }
+    ensures first { IfOk result (λ r. IfSome r (λ u. IsFirstUndefined m.now u.site u.path)) }
+{
+    let mut site = 1;
+    for func in m.funcs.as_slice() {
+        if let Some(undefined) = first_in_func(alloc, &mut site, func)? {
+            return Ok(Some(undefined));
+        }
+    }
+    Ok(None)
+}

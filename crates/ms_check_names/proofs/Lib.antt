@@ -1,5 +1,0 @@
-pub mod Items
-pub mod Given
-pub mod Repeated
-pub mod Mentioned
-pub mod Sited

@@ -1,8 +1,0 @@
-use Rattle.std.proofs.Common.{◌++◌, Some, ◌∙◌, ap, filter_map}
-use Rattle.ms_check_names.proofs.Repeated.{given_is}
-use Rattle.ms_check_names.proofs.tables.types_of.Goals as goal
-
-pub returns : goal.returns
-returns c =
-    c.in_ok-push_all.ensures ∙ ap (λ names. names ++ filter_map (λ t. Some t.0) c.as_slice.result.now) c.new-names.ensures
-    ∙ given_is (λ t. t.0) c.as_slice.result.now c.args.m.now.types c.as_slice.ensures

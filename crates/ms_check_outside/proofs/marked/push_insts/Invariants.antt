@@ -1,6 +1,0 @@
-use Rattle.std.proofs.Common.{◌≡◌, ◌++◌, take}
-use Rattle.ms_check_outside.specs.Inserted.{marked_among}
-use Rattle.ms_check_outside.proofs.marked.push_insts.Given as goal
-
-abbrev pub invariant-loop-inst : goal.invariant-loop-inst
-invariant-loop-inst l = l.names ≡ l.fn.names ++ marked_among (take l.inst-index l.insts)

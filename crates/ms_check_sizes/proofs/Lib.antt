@@ -1,3 +1,0 @@
-pub mod AllSized
-pub mod FirstFaults
-pub mod GlobalSizes

@@ -1,0 +1,17 @@
+//! What stands beside a name in a list.
+ghost use Rattle.std.specs.Prelude.{◌≡◌};
+ghost use Rattle.std.specs.Option.{option_copied};
+ghost use Rattle.ms_tables.specs.FirstPlace.{first_place, at_place};
+
+use ms_ir::Name;
+use ms_tables::NameTable;
+
+/// What stands in a list at the first place of a name among some names. Logarithmic time.
+pub fn row_of<'a, T>(names: &NameTable<'_>, rows: &'a [T], name: &Name) -> Option<&'a T>
+    ensures { option_copied result ≡ at_place rows.now (first_place names.now name.now) }
+{
+    match names.place(name) {
+        Some(place) => rows.get(place),
+        None => None,
+    }
+}

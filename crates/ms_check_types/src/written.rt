@@ -1,0 +1,74 @@
+//! The types that are written in operands and initialisers.
+ghost use Rattle.std.specs.Prelude.{◌≡◌, map};
+ghost use Rattle.std.specs.List.{list_all};
+ghost use Rattle.ms_ir.specs.ValueTypes.{type_of};
+ghost use Rattle.ms_ir.specs.Written.{operand_types, init_types};
+ghost use Rattle.ms_check_types.specs.SizedParts.{has_sizes, is_typed_sized, is_item_sized};
+
+use crate::parts::has_sizes;
+use ms_ir::{Init, Operand, Ty, ValueType};
+use ms_tables::Extents;
+
+/// Whether the types that an operand names by itself have sizes.
+pub fn is_operand_sized(extents: &Extents, operand: &Operand) -> bool
+    ensures { result ≡ list_all (has_sizes extents.now) (operand_types operand.now) }
+{
+    match operand {
+        Operand::Offset(ty, _, indices) => {
+            has_sizes(extents, ty) && are_indices_sized(extents, indices.as_slice())
+        }
+        _ => true,
+    }
+}
+
+fn are_indices_sized(extents: &Extents, indices: &[(Ty, u64)]) -> bool
+    ensures { result ≡ list_all (λ i. has_sizes extents.now i.0) indices.now }
+{
+    indices.iter().all(|index| has_sizes(extents, &index.0))
+}
+
+/// Whether the type of a value has sizes.
+fn is_value_sized(extents: &Extents, ty: ValueType<'_>) -> bool
+    ensures { result ≡ has_sizes extents.now (type_of ty.entry) }
+{
+    match ty {
+        ValueType::Bit => true,
+        ValueType::Pointer => true,
+        ValueType::Written(ty) => has_sizes(extents, ty),
+    }
+}
+
+/// Whether the types in an operand with its type have sizes.
+pub fn is_typed_sized(extents: &Extents, ty: ValueType<'_>, operand: &Operand) -> bool
+    ensures { result ≡ is_typed_sized extents.now (type_of ty.entry, operand.now) }
+{
+    is_value_sized(extents, ty) && is_operand_sized(extents, operand)
+}
+
+/// Whether the types in an initialiser have sizes.
+#[cycle(inits)]
+pub fn is_init_sized(extents: &Extents, init: &Init) -> bool
+    ensures { result ≡ list_all (has_sizes extents.now) (init_types init.now) }
+{
+    match init {
+        Init::Value(operand) => is_operand_sized(extents, operand),
+        Init::Array(items) => are_items_sized(extents, items.as_slice()),
+        Init::Struct(_, fields) => are_items_sized(extents, fields.as_slice()),
+        _ => true,
+    }
+}
+
+#[cycle(inits)]
+fn are_items_sized(extents: &Extents, items: &[(Ty, Init)]) -> bool
+    ensures { result ≡ list_all (is_item_sized extents.now) items.now }
+{
+    for (ty, init) in items {
+        if !has_sizes(extents, ty) {
+            return false;
+        }
+        if !is_init_sized(extents, init) {
+            return false;
+        }
+    }
+    true
+}

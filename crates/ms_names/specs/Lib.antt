@@ -1,2 +1,0 @@
-pub mod FirstPlace
-pub mod Index

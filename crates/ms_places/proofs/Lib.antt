@@ -1,3 +1,0 @@
-pub mod Appended
-pub mod Passed
-pub mod Rooted

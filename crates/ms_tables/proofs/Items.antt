@@ -1,0 +1,41 @@
+-- A list at an item that a loop has come to.
+use Rattle.std.proofs.Common.{◌≡◌, ℕ, ◌+◌, ◌<◌, List, [], ◌∷◌, ◌++◌, Option, Some, None, length, get_or, take, drop, refl, sym, ◌∙◌, ap, suc, drop-cons, add-one}
+use Rattle.std.specs.Prelude.{IfNone, IfOk, Result, Ok, Err, slice_get}
+use Rattle.std.specs.Option.{option_or}
+use Rattle.std.proofs.lemmas.List.{take_more}
+
+-- what is left begins with the item
+pub drop_item : {A : Type 0} (items : List A) (i : ℕ) (item : A) → i < length items → item ≡ get_or items i item → drop i items ≡ item ∷ drop (i + 1) items
+drop_item items i item below is = drop-cons items i item below ∙ ap (λ x. x ∷ drop (suc i) items) (sym is) ∙ ap (λ n. item ∷ drop n items) (sym (add-one i))
+
+-- what is done ends with it behind the next step
+pub take_item : {A : Type 0} (items : List A) (i : ℕ) (item : A) → i < length items → item ≡ get_or items i item → take (i + 1) items ≡ take i items ++ item ∷ []
+take_item items i item below is = take_more items i item below ∙ ap (λ x. take i items ++ x ∷ []) (sym is)
+
+-- an answer that holds nothing is none
+pub none_left : {A : Type 0} (answer : Option A) → ((x : A) → answer ≡ Some x → ⊥) → answer ≡ None
+none_left None without = refl
+none_left (Some x) without = absurd (without x refl)
+
+-- what holds where an answer is none
+pub none_then : {A : Type 0} (answer : Option A) (P : Type 0) → answer ≡ None → IfNone answer P → P
+none_then None P is h = h
+none_then (Some x) P is h = absurd (cc)
+
+-- what follows from a clause under an answer
+pub under_none : {A : Type 0} (answer : Option A) (P Q : Type 0) → (P → Q) → IfNone answer P → IfNone answer Q
+under_none None P Q go h = go h
+under_none (Some x) P Q go h = tt
+
+pub under_ok : {A E : Type 0} (answer : Result A E) (P Q : A → Type 0) → ((x : A) → P x → Q x) → IfOk answer P → IfOk answer Q
+under_ok (Ok x) P Q go h = go x h
+under_ok (Err e) P Q go h = tt
+
+-- the first of two lists, and of two lists before a third
+pub first-append : {A : Type 0} (xs ys : List A) → slice_get (xs ++ ys) 0 ≡ option_or (slice_get xs 0) (slice_get ys 0)
+first-append [] ys = refl
+first-append (x ∷ xs) ys = refl
+
+pub first-append-two : {A : Type 0} (xs ys zs : List A) → slice_get (xs ++ (ys ++ zs)) 0 ≡ option_or (slice_get (xs ++ ys) 0) (slice_get zs 0)
+first-append-two [] ys zs = first-append ys zs
+first-append-two (x ∷ xs) ys zs = refl

@@ -1,0 +1,13 @@
+use Rattle.std.proofs.Common.{[], ◌∷◌, sym, ◌∙◌, ap}
+use Rattle.std.specs.Option.{option_or}
+use Rattle.std.proofs.Math.Path.{ap₂}
+use Rattle.ms_ir.specs.Written.{OfGlobal, type_mentions, operand_mentions}
+use Rattle.ms_tables.specs.Sought.{first_sought}
+use Rattle.ms_tables.proofs.Mentioned.{sought-append}
+use Rattle.ms_tables.proofs.sought.in_operand.Goals as goal
+
+pub returns-in-Offset : goal.returns-in-Offset
+returns-in-Offset g c =
+    let sought = g.S.Search.sought c.args.search.now in
+    c.or.ensures ∙ ap₂ option_or c.in_type.ensures c.global_sought-in-Offset.ensures ∙ sym (sought-append sought (type_mentions c.in-Offset.ty) (OfGlobal c.in-Offset.name ∷ []))
+    ∙ ap (λ o. first_sought sought (operand_mentions o)) (sym c.in-Offset.is)

@@ -1,0 +1,41 @@
+use Rattle.std.proofs.Common.{◌≡◌, ◌++◌, [], ◌∷◌, List, Bor, Some, None, refl, sym, ◌∙◌, ap, map, ℕ, suc, length, if◌then◌else◌}
+use Rattle.ms_ir.specs.declared.syntax.Name.{Name}
+use Rattle.ms_ir.specs.Names.{name_eq}
+use Rattle.ms_tables.specs.FirstPlace.{first_place}
+use Rattle.ms_tables.specs.Index.{place_in}
+use Rattle.ms_tables.specs.declared.index.Index.{Index}
+use Rattle.ms_tables.proofs.Places.{place_known, place_new}
+use Rattle.ms_tables.proofs.table.NameTable.push.Goals as goal
+
+shown : List (Bor Name) → List Name
+shown items = map (λ x. x.now) items
+
+shown-append : (items : List (Bor Name)) (y : Bor Name) → shown (items ++ y ∷ []) ≡ shown items ++ y.now ∷ []
+unfolding shown
+shown-append [] y = refl
+shown-append (x ∷ items) y = ap (λ names. x.now ∷ names) (shown-append items y)
+
+length-shown : (items : List (Bor Name)) → length (shown items) ≡ length items
+unfolding shown
+length-shown [] = refl
+length-shown (x ∷ items) = ap suc (length-shown items)
+
+known_kept : (index : Index) (items after : List (Bor Name)) (y : Bor Name) (k : ℕ) → ((x : Name) → place_in index x ≡ first_place (shown items) x) → after ≡ items ++ y ∷ [] → Some k ≡ place_in index y.now
+    → (x : Name) → place_in index x ≡ first_place (shown after) x
+known_kept index items after y k is appended known x =
+    is x ∙ sym (place_known (shown items) y.now k (sym (is y.now) ∙ sym known) x) ∙ ap (λ names. first_place names x) (sym (shown-append items y) ∙ ap shown (sym appended))
+
+new_kept : (index more : Index) (items after : List (Bor Name)) (y : Bor Name) (n : ℕ) → ((x : Name) → place_in index x ≡ first_place (shown items) x) → after ≡ items ++ y ∷ [] → None ≡ place_in index y.now
+    → n ≡ length items → ((x : Name) → place_in more x ≡ (if name_eq y.now x then Some n else place_in index x))
+    → (x : Name) → place_in more x ≡ first_place (shown after) x
+new_kept index more items after y n is appended absent count placed x =
+    placed x ∙ ap (λ place. if name_eq y.now x then Some n else place) (is x) ∙ ap (λ k. if name_eq y.now x then Some k else first_place (shown items) x) (count ∙ sym (length-shown items))
+    ∙ sym (place_new (shown items) y.now (sym (is y.now) ∙ sym absent) x) ∙ ap (λ names. first_place names x) (sym (shown-append items y) ∙ ap shown (sym appended))
+
+pub invariant_of-self-in-Some : goal.invariant_of-self-in-Some
+unfolding shown
+invariant_of-self-in-Some c = known_kept c.self.inside.index c.self.inside.names.items c.push.new.self.items c.args.name c.in-Some.first c.self.invariant c.in_ok-push.ensures.items c.in-Some.ensures
+
+pub invariant_of-self-in_default : goal.invariant_of-self-in_default
+unfolding shown
+invariant_of-self-in_default c = new_kept c.self.inside.index c.insert.new.self c.self.inside.names.items c.push.new.self.items c.args.name c.len-place.result c.self.invariant c.in_ok-push.ensures.items c.in-None.ensures (c.len-place.ensures ∙ c.self.inside.names.ok.0) c.in_default.ensures.placed

@@ -1,0 +1,33 @@
+//! What is looked up in a module, made once: names by their spelling, the numbers of blocks, and the sizes of types whose
+//! named types are laid out once.
+#![tactic(auto)]
+
+mod defined;
+mod extents;
+pub mod here;
+mod index;
+mod kept;
+mod named;
+mod names;
+mod numbers;
+mod picked;
+mod sought;
+mod spelled;
+mod table;
+mod targets;
+mod uses;
+pub mod walk;
+
+pub use defined::{functions_of, locals_of, symbols_of, types_of};
+pub use extents::Extents;
+pub use here::Here;
+pub use named::Named;
+pub use names::Names;
+pub use numbers::{block_numbers, number};
+pub use picked::{Pick, push_code};
+pub use sought::Search;
+pub use spelled::{Spelled, Unknown};
+pub use table::NameTable;
+pub use targets::{push_number, push_targets};
+pub use uses::{Uses, first_among};
+pub use walk::{Clause, first_fault, next_site};

@@ -1,0 +1,63 @@
+//! What gives names in a module.
+ghost use Rattle.std.specs.Prelude.{◌≡◌, Some, Option};
+ghost use Rattle.std.specs.Option.{option_copied};
+ghost use Rattle.ms_ir.specs.declared.syntax.Name.{Name};
+
+use ms_ir::{Decl, Func, GlobalVar, Inst, Name, Ty};
+
+/// A part of a module that may give a name.
+pub trait Named {
+    ghost name_of: { Self → Option Name };
+
+    /// The name, if it gives one.
+    fn given_name(&self) -> Option<&Name>
+        ensures { option_copied result ≡ name_of self.now };
+}
+
+impl Named for (Name, Ty) {
+    ghost name_of = { λ t. Some t.0 };
+
+    fn given_name(&self) -> Option<&Name> {
+        Some(&self.0)
+    }
+}
+
+impl Named for GlobalVar {
+    ghost name_of = { λ g. Some g.name };
+
+    fn given_name(&self) -> Option<&Name> {
+        Some(&self.name)
+    }
+}
+
+impl Named for Decl {
+    ghost name_of = { λ d. Some d.name };
+
+    fn given_name(&self) -> Option<&Name> {
+        Some(&self.name)
+    }
+}
+
+impl Named for (Ty, Name) {
+    ghost name_of = { λ p. Some p.1 };
+
+    fn given_name(&self) -> Option<&Name> {
+        Some(&self.1)
+    }
+}
+
+impl Named for Func {
+    ghost name_of = { λ f. Some f.name };
+
+    fn given_name(&self) -> Option<&Name> {
+        Some(&self.name)
+    }
+}
+
+impl Named for Inst {
+    ghost name_of = { λ inst. inst.result };
+
+    fn given_name(&self) -> Option<&Name> {
+        self.result.as_ref()
+    }
+}

@@ -1,7 +1,0 @@
-use Rattle.std.proofs.Common.{◌≡◌, map, take}
-use Rattle.ms_valid.specs.FlowGraph.{name_place}
-use Rattle.ms_valid.specs.Locals.{results}
-use Rattle.ms_value_graph.proofs.graphs.defs_of.Given as goal
-
-abbrev pub invariant-loop-inst : goal.invariant-loop-inst
-invariant-loop-inst l = l.numbers.items ≡ map (name_place l.values) (results (take l.inst-index l.insts))

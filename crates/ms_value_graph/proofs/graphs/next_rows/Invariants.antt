@@ -1,9 +1,0 @@
-use Rattle.std.proofs.Common.{◌≡◌, map, take}
-use Rattle.ms_value_graph.specs.ValueGraph.{next_row}
-use Rattle.ms_value_graph.proofs.graphs.next_rows.Given as goal
-
-abbrev pub invariant-loop-block : goal.invariant-loop-block
-invariant-loop-block l = record {
-  rows : l.rows.items ≡ map (next_row l.blocks) (take l.block-index l.block-items);
-  items : l.block-items ≡ l.func.blocks;
-}
