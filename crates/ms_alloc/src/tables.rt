@@ -10,9 +10,6 @@ use crate::kinds::AllocKind;
 use std::alloc::Global;
 use std::marker::Model;
 
-#[cfg(test)]
-mod tests;
-
 /// The allocations of a run. Contracts see three lists, one for each area, in order of address.
 #[derive(Debug, Drop)]
 pub struct Table {

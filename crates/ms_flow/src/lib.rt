@@ -17,6 +17,3 @@ mod visits;
 
 pub use answers::missing;
 pub use graphs::{Graph, Missing, Use};
-
-#[cfg(test)]
-mod tests;

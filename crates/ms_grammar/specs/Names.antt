@@ -1,12 +1,11 @@
 -- Names where they are written (LLVM Language Reference, "Identifiers"), and which are kept for what is inserted (own).
-use Rattle.std.specs.Prelude.{ℕ, ◌^◌, Bool, not, ◌&&◌, ◌||◌, nat_lt, if◌then◌else◌, is_some, codes, length, take, drop, Ok, Err}
-use Rattle.std.specs.Str.{bytes_eq}
-use Rattle.ms_lex.specs.Tokens.{Text, is_digits}
+use Rattle.std.specs.Prelude.{ℕ, ◌^◌, Bool, not, ◌&&◌, ◌||◌, nat_lt, if◌then◌else◌, is_some, length, Ok, Err}
+use Rattle.ms_lex.specs.Tokens.{Text}
 use Rattle.ms_lex.specs.Numbers.{decimal}
 use Rattle.ms_lex.specs.Grammar.{one}
 use Rattle.ms_ir.specs.declared.syntax.Name.{Name}
 use Rattle.ms_ir.specs.declared.syntax.Name.TheVariants as name
-use Rattle.ms_ir.specs.Names.{lookup, runtime_functions, slots}
+use Rattle.ms_ir.specs.Names.{lookup, runtime_functions, slots, is_reserved, is_inserted_name}
 use Rattle.ms_grammar.specs.declared.forms.Form.{Form}
 use Rattle.ms_grammar.specs.declared.forms.Form.TheVariants.{Plain, Instrumented}
 use Rattle.ms_grammar.specs.declared.symbols.Symbol.{Symbol}
@@ -20,11 +19,11 @@ use Rattle.ms_grammar.specs.Steps.{Rule, Verdict, refusal}
 
 -- the front of every reserved name
 abbrev pub begins_msan : Text → Bool
-begins_msan text = bytes_eq (take 6 text) (codes "__msan")
+begins_msan text = is_reserved (name.Text text)
 
 -- `__msan.` and decimal digits: the result of an inserted instruction
 abbrev pub is_inserted : Text → Bool
-is_inserted text = bytes_eq (take 7 text) (codes "__msan.") && is_digits (drop 7 text)
+is_inserted text = is_inserted_name (name.Text text)
 
 -- a function or a slot of the runtime
 abbrev pub is_of_runtime : Text → Bool

@@ -1,5 +1,5 @@
 -- Values by the type in front of them (LLVM Language Reference, "Constants"), and initialisers ("Complex Constants").
-use Rattle.std.specs.Prelude.{ℕ, zero, suc, Bool, true, false, cond, ◌-◌, nat_lt, if◌then◌else◌, List, [], ◌∷◌, ◌++◌, length, Option, Some, None, Ok, Err, ℤ, pos, negsuc, ◌^◌}
+use Rattle.std.specs.Prelude.{ℕ, zero, suc, Bool, true, false, cond, ◌-◌, ◌&&◌, nat_le, nat_lt, if◌then◌else◌, List, [], ◌∷◌, ◌++◌, length, Option, Some, None, Ok, Err, ℤ, pos, negsuc, ◌^◌}
 use Rattle.ms_bits.specs.Signed.{wrap}
 use Rattle.ms_lex.specs.Grammar.{give, one, loop, ◌>>=◌, ◌>>◌}
 use Rattle.ms_ir.specs.declared.syntax.Ty.{Ty}
@@ -90,10 +90,14 @@ offset form depth = do
 
 -- ---- values
 
+-- the widths that integer types have
+abbrev pub is_int_width : ℕ → Bool
+is_int_width width = nat_le 1 width && nat_le width 64
+
 -- a number stands behind iN alone
 abbrev pub int_value : Option ℕ → Lexeme → Verdict Operand
 int_value None t = Err (refusal t)
-int_value (Some width) t = judge_map operand.Int (number_by width t)
+int_value (Some width) t = if is_int_width width then judge_map operand.Int (number_by width t) else Err (refusal t)
 
 -- `true` and `false` stand behind `i1` alone
 abbrev pub truth_value : Ty → ℕ → Lexeme → Verdict Operand

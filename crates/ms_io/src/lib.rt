@@ -13,8 +13,6 @@
 mod memory_files;
 mod memory_sinks;
 mod real;
-#[cfg(test)]
-mod tests;
 mod traits;
 
 pub use memory_files::{MemFiles, SureFiles};

@@ -1,6 +1,5 @@
 -- The tokens of a text. A text is the list of its bytes.
-use Rattle.std.specs.Prelude.{◌≡◌, ◌≢◌, ℕ, zero, suc, ◌+◌, ◌-◌, ◌≤◌, ◌<◌, ◌⊎◌, Bool, false, ◌||◌, ◌&&◌, ◌==◌, nat_lt, if◌then◌else◌, codes, List, [], ◌∷◌, length, take, drop, slice_index, Option, Some, None, Result, Ok, Err}
-use Rattle.std.specs.Prelude.{Vec}
+use Rattle.std.specs.Prelude.{◌≡◌, ◌≢◌, ℕ, zero, suc, ◌+◌, ◌-◌, ◌≤◌, ◌<◌, ◌⊎◌, Bool, false, ◌||◌, ◌&&◌, ◌==◌, nat_lt, if◌then◌else◌, codes, List, [], ◌∷◌, length, take, drop, slice_index, Option, Some, None, Result, Ok, Err, Vec}
 use Rattle.std.specs.declared.alloc.Global.{Global}
 use Rattle.std.specs.List.{prefix_len, position, position_or_len, list_all, All, AllPairs}
 use Rattle.std.specs.Option.{option_and_then, option_map, option_or}

@@ -42,6 +42,3 @@ pub fn reads_or_stops<G: HasGrammar>(grammar: &G)
         → (run (G.end grammar.now) (G.grammar grammar.now) ts ≡ fails e x)
         ↔ Stops (G.end grammar.now) (G.grammar grammar.now) ts e x }
 {}
-
-#[cfg(test)]
-mod tests;

@@ -13,8 +13,6 @@ mod names;
 mod numbers;
 mod scan;
 mod spellings;
-#[cfg(test)]
-mod tests;
 
 pub use errors::{LexError, NoMemory};
 pub use kinds::{Kind, Token};

@@ -12,9 +12,6 @@ use ms_bits::NoMemory;
 use std::alloc::Global;
 use std::marker::Model;
 
-#[cfg(test)]
-mod tests;
-
 /// The memory of a run. Contracts see the table of allocations and three maps: bytes and shadow bytes by address,
 /// origins by cell, which is the address divided by 4.
 ///

@@ -3,10 +3,10 @@
 ghost use Rattle.std.specs.Prelude.{◌≡◌, ◌<◌, ◌+◌, ◌^◌, IfOk};
 ghost use Rattle.ms_grammar.specs.Bodies as spec;
 
-use ms_bits::{List, NoMemory};
-use ms_cursor::with_last;
+use ms_bits::{Boxed, List, NoMemory};
 use ms_grammar::Body;
 use ms_ir::{Block, Inst, Name, Op};
+use ms_read_cursor::with_last;
 use std::alloc::Global;
 
 /// The name, or where there is none the number.
@@ -36,7 +36,7 @@ pub fn with_value(
     body: Body,
     name: Option<Name>,
     phis: bool,
-    operation: (Op, bool),
+    operation: (Boxed<Op>, bool),
 ) -> Result<Body, NoMemory>
     requires next { body.next + 1 < 2 ^ 32 }
     requires count { body.count + 1 < 2 ^ 32 }
@@ -45,7 +45,11 @@ pub fn with_value(
     let (op, marked) = operation;
     let next = body.next + numbers_of(&name);
     let result = Some(name_or(name, body.next));
-    let inst = Inst { op, result, marked };
+    let inst = Inst {
+        op: op.into_inner(),
+        result,
+        marked,
+    };
     let insts = with_last(body.insts, inst)?;
     Ok(Body {
         blocks: body.blocks,
@@ -58,13 +62,13 @@ pub fn with_value(
 }
 
 /// The body with an instruction that has no result. The one error is want of memory.
-pub fn with_effect(body: Body, operation: (Op, bool)) -> Result<Body, NoMemory>
+pub fn with_effect(body: Body, operation: (Boxed<Op>, bool)) -> Result<Body, NoMemory>
     requires { body.count + 1 < 2 ^ 32 }
     ensures { IfOk result (λ b. b ≡ spec.with_effect body operation) }
 {
     let (op, marked) = operation;
     let inst = Inst {
-        op,
+        op: op.into_inner(),
         result: None,
         marked,
     };
@@ -80,13 +84,13 @@ pub fn with_effect(body: Body, operation: (Op, bool)) -> Result<Body, NoMemory>
 }
 
 /// The body with a terminator, which ends the block. The one error is want of memory.
-pub fn with_end(alloc: Global, body: Body, operation: (Op, bool)) -> Result<Body, NoMemory>
+pub fn with_end(alloc: Global, body: Body, operation: (Boxed<Op>, bool)) -> Result<Body, NoMemory>
     requires { body.count + 1 < 2 ^ 32 }
     ensures { IfOk result (λ b. b ≡ spec.with_end body operation) }
 {
     let (op, marked) = operation;
     let inst = Inst {
-        op,
+        op: op.into_inner(),
         result: None,
         marked,
     };
@@ -117,12 +121,16 @@ fn is_void_call(op: &Op) -> bool
 }
 
 /// The body with a call, which has a result unless its type is `void`. The one error is want of memory.
-pub fn with_call(body: Body, name: Option<Name>, operation: (Op, bool)) -> Result<Body, NoMemory>
+pub fn with_call(
+    body: Body,
+    name: Option<Name>,
+    operation: (Boxed<Op>, bool),
+) -> Result<Body, NoMemory>
     requires next { body.next + 1 < 2 ^ 32 }
     requires count { body.count + 1 < 2 ^ 32 }
     ensures { IfOk result (λ b. b ≡ spec.with_call body name operation) }
 {
-    if is_void_call(&operation.0) {
+    if is_void_call(operation.0.get()) {
         with_effect(body, operation)
     } else {
         with_value(body, name, false, operation)

@@ -4,20 +4,18 @@ ghost use Rattle.std.specs.Prelude.{◌≡◌, ◌≤◌, ◌<◌, ◌^◌, leng
 ghost use Rattle.ms_grammar.specs.Skipped.{attributes as attributes_piece};
 ghost use Rattle.ms_grammar.specs.Types.{max_depth, type_to as type_piece};
 ghost use Rattle.ms_grammar.specs.Values.{value as value_piece};
-ghost use Rattle.ms_cursor.specs.Reading.{Gives, run};
+ghost use Rattle.ms_read_cursor.specs.Reading.{Gives, run};
 ghost use Rattle.ms_read_body.specs.Calls as spec;
 ghost use Rattle.ms_grammar.specs.Texts.{place_in};
 ghost use Rattle.ms_read_body.specs.Calls.{AreTokens, ReadsExactly, definition, with_nothing};
-ghost use Rattle.ms_read_values.specs.Narrow.{IsNarrow};
 
 use crate::errors::{ReadError, error_at};
 use crate::functions::function;
-use ms_cursor::Tokens;
 use ms_grammar::{Form, Refusal, Symbol};
 use ms_ir::{Func, Operand, Ty};
 use ms_lex::Token;
-use ms_read_skipped::attributes;
-use ms_read_values::{type_to, value};
+use ms_read_cursor::Tokens;
+use ms_read_values::{attributes, operand, type_to};
 use std::alloc::Global;
 
 /// Arrays and structs that may be open at once.
@@ -25,7 +23,7 @@ const MAX_DEPTH: u8 = 32;
 
 /// The byte at which a token begins. At the end of the text that is its length.
 #[tactic(auto, using(crate::proofs::Places::place_at_end))]
-fn place_of(text: &[u8], tokens: &[Token], token: usize) -> u32
+pub fn place_of(text: &[u8], tokens: &[Token], token: usize) -> u32
     requires short { length text.now < 2 ^ 32 }
     requires inside { token ≤ length tokens.now }
     ensures { result ≡ place_in text.now tokens.now token }
@@ -84,7 +82,7 @@ fn read_definition(
     ensures { Gives (run (definition form before) tokens.old) result tokens.new }
 {
     tokens.word(Symbol::Define)?;
-    Ok(function(alloc, tokens, form, before)?)
+    function(alloc, tokens, form, before)
 }
 
 /// Reads one function from token `at`, which is `define`. `before` is the number of instructions that the text has before
@@ -135,8 +133,8 @@ pub fn read_type(
     answer(text, tokens, read, cursor.left())
 }
 
-/// Reads from token `at` a value that follows the type `ty`, whose width is from 1 to 64 where it is an integer type. The
-/// answered number is the next token's.
+/// Reads from token `at` a value that follows the type `ty`. The answered number is the next token's. No number follows an
+/// integer type whose width is not from 1 to 64.
 ///
 /// # Errors
 ///
@@ -152,11 +150,10 @@ pub fn read_value(
 ) -> Result<(Operand, u32), ReadError>
     requires whole { AreTokens text.now tokens.now }
     requires inside { at ≤ length tokens.now }
-    requires narrow { IsNarrow ty.now }
     ensures { ReadsExactly (value_piece form ty.now) text.now tokens.now at result }
 {
     let mut cursor = cursor_at(text, tokens, at);
-    let read = value(alloc, &mut cursor, form, ty);
+    let read = operand(alloc, &mut cursor, form, ty);
     answer(text, tokens, read, cursor.left())
 }
 

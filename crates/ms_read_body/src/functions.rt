@@ -2,18 +2,17 @@
 
 ghost use Rattle.std.specs.Prelude.{◌≡◌, IfOk, map};
 ghost use Rattle.ms_grammar.specs.Functions as spec;
-ghost use Rattle.ms_cursor.specs.Reading.{Gives, run};
+ghost use Rattle.ms_read_cursor.specs.Reading.{Gives, run};
 
 use crate::heads::{function_tail, linkage};
 use crate::lines::blocks;
 use crate::parameter_lists::parameters;
 use ms_bits::{Duplicate, List, NoMemory};
-use ms_cursor::{Tokens, global};
 use ms_grammar::{Body, Form, Parameters, Refusal, Symbol};
 use ms_ir::{Decl, Func, Name, Ty};
+use ms_read_cursor::{Tokens, global};
 use ms_read_insts::names_printf;
-use ms_read_skipped::{attachments, attributes};
-use ms_read_values::result_type;
+use ms_read_values::{attachments, attributes, result_ty, result_type};
 use std::alloc::Global;
 
 /// The types of parameters. The one error is want of memory.
@@ -47,7 +46,11 @@ pub fn declaration(alloc: Global, tokens: &mut Tokens<'_>, form: Form) -> Result
     let Parameters { found, .. } = parameters(alloc, tokens, form, dotted)?;
     attributes(alloc, tokens, form)?;
     let params = types_of(alloc, &found)?;
-    Ok(Decl { name, ret, params })
+    Ok(Decl {
+        name,
+        ret: result_ty(ret),
+        params,
+    })
 }
 
 /// The body of a function, in front of which the text has so many instructions.
@@ -91,7 +94,7 @@ pub fn function(
     let blocks = blocks(alloc, tokens, form, start)?;
     Ok(Func {
         name,
-        ret,
+        ret: result_ty(ret),
         params: params.found,
         blocks,
     })

@@ -2,11 +2,11 @@
 //! Reference, "Functions").
 
 ghost use Rattle.ms_grammar.specs.Functions as spec;
-ghost use Rattle.ms_cursor.specs.Reading.{Gives, run};
+ghost use Rattle.ms_read_cursor.specs.Reading.{Gives, run};
 
-use ms_cursor::{Lexeme, Tokens, Turn, repeat};
 use ms_grammar::{Form, Refusal, Symbol};
-use ms_read_skipped::{attached_by, attribute_rest, is_attribute, meta};
+use ms_read_cursor::{Lexeme, Tokens, Turn, repeat};
+use ms_read_values::{attached_by, attribute_rest, is_attribute, meta};
 use std::alloc::Global;
 
 /// Reads what is behind the first token of an attribute or a word of linkage, which is this symbol.
@@ -20,7 +20,7 @@ fn linkage_rest(
 {
     match symbol {
         Symbol::ExternalWord => Ok(()),
-        _ => Ok(attribute_rest(alloc, tokens, form, symbol)?),
+        _ => attribute_rest(alloc, tokens, form, symbol),
     }
 }
 
@@ -50,7 +50,7 @@ impl Turn for EachLinkage {
         first: &Lexeme<'_>,
         tokens: &mut Tokens<'_>,
     ) -> Result<(), Refusal> {
-        Ok(linkage_rest(alloc, tokens, self.form, first.symbol())?)
+        linkage_rest(alloc, tokens, self.form, first.symbol())
     }
 }
 
@@ -59,8 +59,7 @@ impl Turn for EachLinkage {
 pub fn linkage(alloc: Global, tokens: &mut Tokens<'_>, form: Form) -> Result<(), Refusal>
     ensures { Gives (run (spec.linkage form) tokens.old) result tokens.new }
 {
-    repeat(alloc, tokens, &EachLinkage { form }, ())?;
-    Ok(())
+    repeat(alloc, tokens, &EachLinkage { form }, ())
 }
 
 /// Reads what is behind the first token of an attribute or an attachment, which is this symbol.
@@ -73,8 +72,8 @@ fn tail_rest(
     ensures { Gives (run (spec.tail_rest form symbol) tokens.old) result tokens.new }
 {
     match symbol {
-        Symbol::Meta | Symbol::NoSanitize => Ok(meta(tokens)?),
-        _ => Ok(attribute_rest(alloc, tokens, form, symbol)?),
+        Symbol::Meta | Symbol::NoSanitize => meta(tokens),
+        _ => attribute_rest(alloc, tokens, form, symbol),
     }
 }
 
@@ -98,7 +97,7 @@ impl Turn for EachOfTail {
         if is_attribute(symbol) {
             Ok(true)
         } else {
-            Ok(attached_by(self.form, symbol)?)
+            attached_by(self.form, symbol)
         }
     }
 
@@ -109,7 +108,7 @@ impl Turn for EachOfTail {
         first: &Lexeme<'_>,
         tokens: &mut Tokens<'_>,
     ) -> Result<(), Refusal> {
-        Ok(tail_rest(alloc, tokens, self.form, first.symbol())?)
+        tail_rest(alloc, tokens, self.form, first.symbol())
     }
 }
 
@@ -122,6 +121,5 @@ impl Turn for EachOfTail {
 pub fn function_tail(alloc: Global, tokens: &mut Tokens<'_>, form: Form) -> Result<(), Refusal>
     ensures { Gives (run (spec.function_tail form) tokens.old) result tokens.new }
 {
-    repeat(alloc, tokens, &EachOfTail { form }, ())?;
-    Ok(())
+    repeat(alloc, tokens, &EachOfTail { form }, ())
 }

@@ -3,15 +3,15 @@
 ghost use Rattle.std.specs.Prelude.{◌<◌, ◌+◌, ◌^◌};
 ghost use Rattle.ms_grammar.specs.Insts.{alloca_rule as alloca_piece, step_rule as step_piece};
 ghost use Rattle.ms_grammar.specs.Lines as spec;
-ghost use Rattle.ms_cursor.specs.Reading.{Gives, run};
+ghost use Rattle.ms_read_cursor.specs.Reading.{Gives, run};
 ghost use Rattle.ms_read_body.specs.Operations.{rule_of};
 
 use crate::added::{with_call, with_effect, with_end, with_value};
 use crate::open_blocks::is_open;
 use crate::operation_rules::{Operation, OperationIn};
-use ms_cursor::Tokens;
 use ms_grammar::{Body, Form, Refusal, Symbol};
 use ms_ir::Name;
+use ms_read_cursor::Tokens;
 use ms_read_insts::{alloca_rule, call_rule, phi_rule, step_rule, with_suffixes};
 use ms_read_values::{binary_op, cast_op};
 use std::alloc::Global;
@@ -150,21 +150,21 @@ fn instruction_by(
     ensures { Gives (run (spec.instruction_by form body name symbol) tokens.old) result tokens.new }
 {
     match symbol {
-        Symbol::Phi => Ok(phi_line(alloc, tokens, form, body, name)?),
-        Symbol::Icmp => { Ok(value_line(alloc, tokens, form, body, name, Operation::Compare)?) }
-        Symbol::Select => { Ok(value_line(alloc, tokens, form, body, name, Operation::Select)?) }
-        Symbol::Freeze => { Ok(value_line(alloc, tokens, form, body, name, Operation::Freeze)?) }
-        Symbol::Alloca => Ok(alloca_line(alloc, tokens, form, body, name)?),
-        Symbol::Load => Ok(value_line(alloc, tokens, form, body, name, Operation::Load)?),
-        Symbol::Store => Ok(effect_line(alloc, tokens, form, body, Operation::Store)?),
-        Symbol::GetElementPtr => Ok(step_line(alloc, tokens, form, body, name)?),
+        Symbol::Phi => phi_line(alloc, tokens, form, body, name),
+        Symbol::Icmp => value_line(alloc, tokens, form, body, name, Operation::Compare),
+        Symbol::Select => value_line(alloc, tokens, form, body, name, Operation::Select),
+        Symbol::Freeze => value_line(alloc, tokens, form, body, name, Operation::Freeze),
+        Symbol::Alloca => alloca_line(alloc, tokens, form, body, name),
+        Symbol::Load => value_line(alloc, tokens, form, body, name, Operation::Load),
+        Symbol::Store => effect_line(alloc, tokens, form, body, Operation::Store),
+        Symbol::GetElementPtr => step_line(alloc, tokens, form, body, name),
         Symbol::Tail | Symbol::MustTail | Symbol::NoTail | Symbol::Call => {
-            Ok(call_line(alloc, tokens, form, body, name, symbol)?)
+            call_line(alloc, tokens, form, body, name, symbol)
         }
-        Symbol::Br => Ok(end_line(alloc, tokens, form, body, Operation::Branch)?),
-        Symbol::Switch => Ok(end_line(alloc, tokens, form, body, Operation::Switch)?),
-        Symbol::Ret => Ok(end_line(alloc, tokens, form, body, Operation::Ret)?),
-        Symbol::Unreachable => Ok(end_line(alloc, tokens, form, body, Operation::Unreachable)?),
+        Symbol::Br => end_line(alloc, tokens, form, body, Operation::Branch),
+        Symbol::Switch => end_line(alloc, tokens, form, body, Operation::Switch),
+        Symbol::Ret => end_line(alloc, tokens, form, body, Operation::Ret),
+        Symbol::Unreachable => end_line(alloc, tokens, form, body, Operation::Unreachable),
         _ => Err(tokens.refusal()),
     }
 }
@@ -188,10 +188,10 @@ pub fn instruction(
     ensures { Gives (run (spec.instruction form body name symbol) tokens.old) result tokens.new }
 {
     if let Some(op) = binary_op(symbol) {
-        return Ok(value_line(alloc, tokens, form, body, name, Operation::Binary(op))?);
+        return value_line(alloc, tokens, form, body, name, Operation::Binary(op));
     }
     match cast_op(symbol) {
-        Some(op) => Ok(value_line(alloc, tokens, form, body, name, Operation::Cast(op))?),
-        None => Ok(instruction_by(alloc, tokens, form, body, name, symbol)?),
+        Some(op) => value_line(alloc, tokens, form, body, name, Operation::Cast(op)),
+        None => instruction_by(alloc, tokens, form, body, name, symbol),
     }
 }

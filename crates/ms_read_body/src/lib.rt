@@ -13,10 +13,8 @@ mod lines;
 mod open_blocks;
 mod operation_rules;
 mod parameter_lists;
-#[cfg(test)]
-mod tests;
 
-pub use calls::{read_body, read_type, read_value, skip_attributes};
+pub use calls::{place_of, read_body, read_type, read_value, skip_attributes};
 pub use errors::{ReadError, What, error_at};
 pub use functions::{declaration, function};
 pub use ms_grammar::{Form, Limit, Outside, Refusal};

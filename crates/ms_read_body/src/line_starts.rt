@@ -3,11 +3,11 @@
 ghost use Rattle.std.specs.Prelude.{◌≡◌, ◌⊎◌, Ok, true};
 ghost use Rattle.ms_grammar.specs.Bodies as spec;
 ghost use Rattle.ms_grammar.specs.Lexemes.{name_in};
-ghost use Rattle.ms_cursor.specs.Reading.{Judges};
+ghost use Rattle.ms_read_cursor.specs.Reading.{Judges};
 
 use crate::open_blocks::{is_open, may_phi, next_value};
-use ms_cursor::{Lexeme, name_fits, reserved_local};
 use ms_grammar::{Body, Form, Limit, Refusal, Symbol};
+use ms_read_cursor::{Lexeme, name_fits, reserved_local};
 use ms_read_values::{binary_op, cast_op};
 use std::alloc::Global;
 
@@ -106,7 +106,7 @@ fn label_begins(alloc: Global, form: Form, token: &Lexeme<'_>) -> Result<bool, R
 {
     let name = token.name(alloc)?;
     let text = name.as_slice();
-    Ok(unreserved(form, text, short(text))?)
+    unreserved(form, text, short(text))
 }
 
 /// A result's name of text.
@@ -115,7 +115,7 @@ fn name_begins(alloc: Global, form: Form, body: &Body, token: &Lexeme<'_>) -> Re
 {
     let name = token.name(alloc)?;
     let text = name.as_slice();
-    Ok(unreserved(form, text, counted(form, body, short(text)))?)
+    unreserved(form, text, counted(form, body, short(text)))
 }
 
 /// A word begins an instruction, if there is room for one.
@@ -143,30 +143,30 @@ fn line_begins_by(
             if is_open(&body.name) {
                 Ok(false)
             } else {
-                Ok(label_begins(alloc, form, token)?)
+                label_begins(alloc, form, token)
             }
         }
         Symbol::NumberedLabel => {
             if is_open(&body.name) {
                 Ok(false)
             } else {
-                Ok(numbered(u64::from(body.next), token, Ok(true))?)
+                numbered(u64::from(body.next), token, Ok(true))
             }
         }
         Symbol::DebugGroup => Ok(true),
-        Symbol::Local => Ok(name_begins(alloc, form, body, token)?),
+        Symbol::Local => name_begins(alloc, form, body, token),
         Symbol::NumberedLocal => {
             let verdict = counted(form, body, Ok(true));
-            Ok(numbered(next_value(body), token, verdict)?)
+            numbered(next_value(body), token, verdict)
         }
         Symbol::Phi => {
             if may_phi(body) {
-                Ok(counted(form, body, Ok(true))?)
+                counted(form, body, Ok(true))
             } else {
                 Ok(false)
             }
         }
-        _ => Ok(word_begins(form, body, token.symbol())?),
+        _ => word_begins(form, body, token.symbol()),
     }
 }
 
@@ -187,7 +187,7 @@ pub fn line_begins(
     ensures { Judges (spec.line_begins form body.now token.now) result }
 {
     if body.next < u32::MAX - 1 {
-        Ok(line_begins_by(alloc, form, body, token)?)
+        line_begins_by(alloc, form, body, token)
     } else {
         Err(Refusal::Numbering)
     }

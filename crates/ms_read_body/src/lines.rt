@@ -2,17 +2,17 @@
 
 ghost use Rattle.std.specs.Prelude.{◌≡◌, ◌<◌, ◌+◌, ◌^◌};
 ghost use Rattle.ms_grammar.specs.Lines as spec;
-ghost use Rattle.ms_cursor.specs.Reading.{Gives, Judges, run};
+ghost use Rattle.ms_read_cursor.specs.Reading.{Gives, Judges, run};
 ghost use Rattle.ms_read_body.specs.Room.{HasRoom};
 
 use crate::instructions::instruction;
 use crate::line_starts::{begins_instruction, line_begins};
 use crate::open_blocks::{is_open, opened, opened_as};
 use ms_bits::List;
-use ms_cursor::{Lexeme, Tokens, Turn, repeat};
 use ms_grammar::{Body, Form, Refusal, Symbol};
 use ms_ir::{Block, Name};
-use ms_read_skipped::balanced;
+use ms_read_cursor::{Lexeme, Tokens, Turn, repeat};
+use ms_read_values::balanced;
 use std::alloc::Global;
 
 /// Whether a word may stand behind a result's name.
@@ -54,7 +54,7 @@ fn named_line(
     tokens.word(Symbol::Equals)?;
     let symbol = value_word_of(body.phis, &tokens.lexeme())?;
     tokens.advance();
-    Ok(instruction(alloc, tokens, form, body, Some(name), symbol)?)
+    instruction(alloc, tokens, form, body, Some(name), symbol)
 }
 
 /// Reads a debug record behind its group.
@@ -96,21 +96,21 @@ fn line(
         }
         Symbol::DebugGroup => {
             let body = opened(alloc, body);
-            Ok(record_line(alloc, tokens, form, body)?)
+            record_line(alloc, tokens, form, body)
         }
         Symbol::Local => {
             let name = first.name(alloc)?;
             let body = opened(alloc, body);
-            Ok(named_line(alloc, tokens, form, body, Name::Text(name))?)
+            named_line(alloc, tokens, form, body, Name::Text(name))
         }
         Symbol::NumberedLocal => {
             let body = opened(alloc, body);
             let number = body.next;
-            Ok(named_line(alloc, tokens, form, body, Name::Number(number))?)
+            named_line(alloc, tokens, form, body, Name::Number(number))
         }
         _ => {
             let body = opened(alloc, body);
-            Ok(instruction(alloc, tokens, form, body, None, first.symbol())?)
+            instruction(alloc, tokens, form, body, None, first.symbol())
         }
     }
 }
@@ -132,7 +132,7 @@ impl Turn for EachLine {
     ghost body = { λ rule. line rule.form };
 
     fn goes_on(&self, alloc: Global, state: &Body, first: &Lexeme<'_>) -> Result<bool, Refusal> {
-        Ok(line_begins(alloc, self.form, state, first)?)
+        line_begins(alloc, self.form, state, first)
     }
 
     #[tactic(auto, using(crate::proofs::Begun::next_left, crate::proofs::Begun::room_left))]
@@ -143,7 +143,7 @@ impl Turn for EachLine {
         first: &Lexeme<'_>,
         tokens: &mut Tokens<'_>,
     ) -> Result<Body, Refusal> {
-        Ok(line(alloc, tokens, self.form, state, first)?)
+        line(alloc, tokens, self.form, state, first)
     }
 }
 

@@ -1,9 +1,9 @@
 //! The operations whose suffixes a line reads.
 
-use ms_bits::{BinOp, CastOp};
-use ms_cursor::{Rule, Tokens};
+use ms_bits::{BinOp, Boxed, CastOp};
 use ms_grammar::{Form, Refusal};
 use ms_ir::Op;
+use ms_read_cursor::{Rule, Tokens};
 use ms_read_insts::{
     binary_rule, branch_rule, cast_rule, compare_rule, freeze_rule, load_rule, ret_rule,
     select_rule, store_rule, switch_rule,
@@ -34,25 +34,25 @@ pub struct OperationIn {
 }
 
 impl Rule for OperationIn {
-    type Value = Op;
+    type Value = Boxed<Op>;
 
     ghost use Rattle.ms_read_body.specs.Operations.{rule_of};
 
     ghost piece = { λ rule. rule_of rule.form rule.operation };
 
-    fn read(&self, alloc: Global, tokens: &mut Tokens<'_>) -> Result<Op, Refusal> {
+    fn read(&self, alloc: Global, tokens: &mut Tokens<'_>) -> Result<Boxed<Op>, Refusal> {
         match self.operation {
-            Operation::Binary(op) => Ok(binary_rule(alloc, tokens, self.form, op)?),
-            Operation::Cast(op) => Ok(cast_rule(alloc, tokens, self.form, op)?),
-            Operation::Compare => Ok(compare_rule(alloc, tokens, self.form)?),
-            Operation::Select => Ok(select_rule(alloc, tokens, self.form)?),
-            Operation::Freeze => Ok(freeze_rule(alloc, tokens, self.form)?),
-            Operation::Load => Ok(load_rule(alloc, tokens, self.form)?),
-            Operation::Store => Ok(store_rule(alloc, tokens, self.form)?),
-            Operation::Branch => Ok(branch_rule(alloc, tokens, self.form)?),
-            Operation::Switch => Ok(switch_rule(alloc, tokens, self.form)?),
-            Operation::Ret => Ok(ret_rule(alloc, tokens, self.form)?),
-            Operation::Unreachable => Ok(Op::Unreachable),
+            Operation::Binary(op) => binary_rule(alloc, tokens, self.form, op),
+            Operation::Cast(op) => cast_rule(alloc, tokens, self.form, op),
+            Operation::Compare => compare_rule(alloc, tokens, self.form),
+            Operation::Select => select_rule(alloc, tokens, self.form),
+            Operation::Freeze => freeze_rule(alloc, tokens, self.form),
+            Operation::Load => load_rule(alloc, tokens, self.form),
+            Operation::Store => store_rule(alloc, tokens, self.form),
+            Operation::Branch => branch_rule(alloc, tokens, self.form),
+            Operation::Switch => switch_rule(alloc, tokens, self.form),
+            Operation::Ret => ret_rule(alloc, tokens, self.form),
+            Operation::Unreachable => Ok(Boxed::new(alloc, Op::Unreachable)?),
         }
     }
 }

@@ -4,14 +4,13 @@
 ghost use Rattle.std.specs.Prelude.{◌≡◌, ◌<◌, IfOk, OnOk};
 ghost use Rattle.ms_grammar.specs.Functions as spec;
 ghost use Rattle.ms_grammar.specs.Types as types;
-ghost use Rattle.ms_cursor.specs.Reading.{Gives, Judges, run};
+ghost use Rattle.ms_read_cursor.specs.Reading.{Gives, Judges, run};
 
 use ms_bits::{List, NoMemory};
-use ms_cursor::{Lexeme, Series, Tokens, listed, local_name, with_last};
 use ms_grammar::{Form, Limit, Parameters, Refusal, Symbol};
 use ms_ir::{Name, Ty};
-use ms_read_skipped::attributes;
-use ms_read_values::value_type_of;
+use ms_read_cursor::{Lexeme, Series, Tokens, listed, local_name, with_last};
+use ms_read_values::{ValueType, attributes, value_type_of};
 use std::alloc::Global;
 
 /// Parameters of a function.
@@ -25,7 +24,7 @@ fn has_room(parameters: &Parameters) -> bool
 }
 
 /// The type that begins a parameter, by its token. The 101st has no room.
-fn parameter_type_of(parameters: &Parameters, token: &Lexeme<'_>) -> Result<Ty, Refusal>
+fn parameter_type_of(parameters: &Parameters, token: &Lexeme<'_>) -> Result<ValueType, Refusal>
     ensures exact { Judges (spec.parameter_type_of parameters.now token.now) result }
     ensures room { OnOk result (parameters.now.next < 100) }
 {
@@ -95,13 +94,13 @@ fn next_behind(name: &Name, next: u32) -> u32
 }
 
 /// One parameter more. The one error is want of memory.
-fn with_parameter(parameters: Parameters, ty: Ty, name: Name) -> Result<Parameters, NoMemory>
+fn with_parameter(parameters: Parameters, ty: ValueType, name: Name) -> Result<Parameters, NoMemory>
     requires { parameters.next < 100 }
     ensures { IfOk result (λ ps. ps ≡ spec.with_parameter parameters ty name) }
 {
     let Parameters { found, next, dots } = parameters;
     let next = next_behind(&name, next);
-    let found = with_last(found, (ty, name))?;
+    let found = with_last(found, (ty.ty(), name))?;
     Ok(Parameters { found, next, dots })
 }
 
@@ -167,7 +166,7 @@ fn parameter(
             dots: true,
         });
     }
-    Ok(typed_parameter(alloc, tokens, form, parameters)?)
+    typed_parameter(alloc, tokens, form, parameters)
 }
 
 /// Parameter after parameter; nothing stands behind the dots.
@@ -197,7 +196,7 @@ impl Series for EachParameter {
         state: Parameters,
         tokens: &mut Tokens<'_>,
     ) -> Result<Parameters, Refusal> {
-        Ok(parameter(alloc, tokens, self.form, self.dotted, state)?)
+        parameter(alloc, tokens, self.form, self.dotted, state)
     }
 }
 
@@ -217,5 +216,5 @@ pub fn parameters(
         dots: false,
     };
     let each = EachParameter { form, dotted };
-    Ok(listed(alloc, tokens, Symbol::CloseParen, &each, none)?)
+    listed(alloc, tokens, Symbol::CloseParen, &each, none)
 }

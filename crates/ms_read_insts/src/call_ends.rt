@@ -2,11 +2,11 @@
 
 ghost use Rattle.std.specs.Prelude.{◌≡◌};
 ghost use Rattle.ms_grammar.specs.Insts as spec;
-ghost use Rattle.ms_cursor.specs.Reading.{Gives, run};
+ghost use Rattle.ms_read_cursor.specs.Reading.{Gives, run};
 
-use ms_cursor::{Lexeme, Tokens, Turn, repeat};
 use ms_grammar::{Form, Outside, Refusal, Symbol};
-use ms_read_skipped::{attribute_rest, balanced, is_attribute, suffixes_from};
+use ms_read_cursor::{Lexeme, Tokens, Turn, repeat};
+use ms_read_values::{attribute_rest, balanced, is_attribute, suffixes_from};
 use std::alloc::Global;
 
 /// Reads on behind a debug group. It is a record where `(` is behind it, and else an attribute.
@@ -32,7 +32,7 @@ fn call_attribute(
     ensures { Gives (run (spec.call_attribute form symbol) tokens.old) result tokens.new }
 {
     match symbol {
-        Symbol::DebugGroup => Ok(debug_rest(alloc, tokens, form)?),
+        Symbol::DebugGroup => debug_rest(alloc, tokens, form),
         _ => {
             attribute_rest(alloc, tokens, form, symbol)?;
             Ok(false)
@@ -66,7 +66,7 @@ impl Turn for CallAttributes {
         first: &Lexeme<'_>,
         tokens: &mut Tokens<'_>,
     ) -> Result<bool, Refusal> {
-        Ok(call_attribute(alloc, tokens, self.form, first.symbol())?)
+        call_attribute(alloc, tokens, self.form, first.symbol())
     }
 }
 
@@ -86,5 +86,5 @@ pub fn call_end(alloc: Global, tokens: &mut Tokens<'_>, form: Form) -> Result<bo
     if tokens.sees(Symbol::OpenBracket) {
         return Err(Refusal::Outside(Outside::OperandBundle));
     }
-    Ok(suffixes_from(alloc, tokens, form, false)?)
+    suffixes_from(alloc, tokens, form, false)
 }

@@ -1,44 +1,44 @@
 //! Calls (LLVM Language Reference, "'call' Instruction").
 
-ghost use Rattle.std.specs.Prelude.{◌≡◌, IfOk, codes, length};
+ghost use Rattle.std.specs.Prelude.{◌≡◌, codes, length};
 ghost use Rattle.std.specs.Str.{bytes_eq};
 ghost use Rattle.ms_lex.specs.Grammar.{one};
 ghost use Rattle.ms_grammar.specs.Lexemes.{name_in};
 ghost use Rattle.ms_grammar.specs.Insts as spec;
-ghost use Rattle.ms_cursor.specs.Reading.{Gives, Judges, run};
-ghost use Rattle.ms_read_values.specs.Narrow.{IsNarrow};
+ghost use Rattle.ms_read_cursor.specs.Reading.{Gives, Judges, run};
 
 use crate::call_ends::call_end;
-use ms_bits::List;
-use ms_cursor::{Lexeme, Series, Tokens, global_name, listed, with_last};
+use ms_bits::{Boxed, List};
 use ms_grammar::{Form, Limit, Outside, Refusal, Symbol};
 use ms_ir::{Name, Op, Operand, Ty};
-use ms_read_skipped::attributes;
-use ms_read_values::{result_type, value, value_type, value_type_of};
+use ms_read_cursor::{Lexeme, Series, Tokens, global_name, listed, with_last};
+use ms_read_values::{
+    ValueType, attributes, result_ty, result_type, value, value_type, value_type_of,
+};
 use std::alloc::Global;
 
 /// How many arguments a call of `printf` may have.
 const MAX_PARAMETERS: usize = 100;
 
 /// Takes the result's type of a call. A call whose result has a name isn't `void`.
-fn call_type(tokens: &mut Tokens<'_>, named: bool) -> Result<Option<Ty>, Refusal>
+fn call_type(tokens: &mut Tokens<'_>, named: bool) -> Result<Option<ValueType>, Refusal>
     ensures { Gives (run (spec.call_type named) tokens.old) result tokens.new }
 {
     if named {
         let ty = value_type(tokens)?;
         Ok(Some(ty))
     } else {
-        Ok(result_type(tokens)?)
+        result_type(tokens)
     }
 }
 
 /// Whether a result's type is `i32`.
-fn is_i32(ty: &Option<Ty>) -> bool
-    ensures { result ≡ spec.is_i32 ty.now }
+fn is_i32(ty: Option<ValueType>) -> bool
+    ensures { result ≡ spec.is_i32 ty }
 {
     match ty {
-        Some(Ty::Int(width)) => *width == 32,
-        _ => false,
+        Some(ty) => ty.width() == Some(32),
+        None => false,
     }
 }
 
@@ -57,8 +57,8 @@ fn variadic_type(tokens: &mut Tokens<'_>) -> Result<bool, Refusal>
 
 /// Takes the type of a callee, where it is written; that of `printf` alone may be.
 #[tactic(auto, unfolding(ms_grammar::specs::Insts::callee_type))]
-fn callee_type(tokens: &mut Tokens<'_>, ty: &Option<Ty>) -> Result<bool, Refusal>
-    ensures { Gives (run (spec.callee_type ty.now) tokens.old) result tokens.new }
+fn callee_type(tokens: &mut Tokens<'_>, ty: Option<ValueType>) -> Result<bool, Refusal>
+    ensures { Gives (run (spec.callee_type ty) tokens.old) result tokens.new }
 {
     if !tokens.sees(Symbol::OpenParen) {
         return Ok(false);
@@ -66,7 +66,7 @@ fn callee_type(tokens: &mut Tokens<'_>, ty: &Option<Ty>) -> Result<bool, Refusal
     if !is_i32(ty) {
         return Err(Refusal::Outside(Outside::FunctionType));
     }
-    Ok(variadic_type(tokens)?)
+    variadic_type(tokens)
 }
 
 /// Whether a name is `printf`.
@@ -94,7 +94,7 @@ fn callee_name(alloc: Global, form: Form, dotted: bool, token: &Lexeme<'_>) -> R
     if dotted && !is_printf(text.as_slice()) {
         return Err(Refusal::Outside(Outside::FunctionType));
     }
-    Ok(global_name(alloc, form, token)?)
+    global_name(alloc, form, token)
 }
 
 /// The callee that a token is: a global. A local would be an indirect call.
@@ -102,7 +102,7 @@ fn callee_by(alloc: Global, form: Form, dotted: bool, token: &Lexeme<'_>) -> Res
     ensures { Judges (spec.callee_by form dotted token.now.symbol token.now) result }
 {
     match token.symbol() {
-        Symbol::Global => Ok(callee_name(alloc, form, dotted, token)?),
+        Symbol::Global => callee_name(alloc, form, dotted, token),
         Symbol::Local | Symbol::NumberedLocal => Err(Refusal::Outside(Outside::IndirectCall)),
         _ => Err(token.refusal()),
     }
@@ -129,9 +129,8 @@ pub fn names_printf(name: &Name) -> bool
 }
 
 /// The type of an argument in front of which so many stand. Only where they are counted is their number limited here.
-fn argument_type_of(counted: bool, before: usize, token: &Lexeme<'_>) -> Result<Ty, Refusal>
-    ensures exact { Judges (spec.argument_type_of counted before token.now) result }
-    ensures narrow { IfOk result IsNarrow }
+fn argument_type_of(counted: bool, before: usize, token: &Lexeme<'_>) -> Result<ValueType, Refusal>
+    ensures { Judges (spec.argument_type_of counted before token.now) result }
 {
     let ty = value_type_of(token)?;
     if counted && before >= MAX_PARAMETERS {
@@ -146,9 +145,8 @@ fn argument_type(
     tokens: &mut Tokens<'_>,
     counted: bool,
     found: &List<(Ty, Operand)>,
-) -> Result<Ty, Refusal>
-    ensures exact { Gives (run (one (spec.argument_type_of counted (length found.now))) tokens.old) result tokens.new }
-    ensures narrow { IfOk result IsNarrow }
+) -> Result<ValueType, Refusal>
+    ensures { Gives (run (one (spec.argument_type_of counted (length found.now))) tokens.old) result tokens.new }
 {
     let before = found.as_slice().len();
     let ty = argument_type_of(counted, before, &tokens.lexeme())?;
@@ -169,8 +167,8 @@ fn argument(
 {
     let ty = argument_type(tokens, counted, &found)?;
     attributes(alloc, tokens, form)?;
-    let operand = value(alloc, tokens, form, &ty)?;
-    Ok(with_last(found, (ty, operand))?)
+    let operand = value(alloc, tokens, form, ty)?;
+    Ok(with_last(found, (ty.ty(), operand.into_inner()))?)
 }
 
 #[derive(Clone, Copy)]
@@ -199,7 +197,7 @@ impl Series for ArgumentSeries {
         state: List<(Ty, Operand)>,
         tokens: &mut Tokens<'_>,
     ) -> Result<List<(Ty, Operand)>, Refusal> {
-        Ok(argument(alloc, tokens, self.form, self.counted, state)?)
+        argument(alloc, tokens, self.form, self.counted, state)
     }
 }
 
@@ -215,7 +213,7 @@ fn arguments(
 {
     let none = List::from_vec(Vec::new(alloc));
     let rule = ArgumentSeries { form, counted };
-    Ok(listed(alloc, tokens, Symbol::CloseParen, &rule, none)?)
+    listed(alloc, tokens, Symbol::CloseParen, &rule, none)
 }
 
 /// Takes `call` behind `tail`, `musttail` or `notail`.
@@ -224,10 +222,7 @@ fn call_word(tokens: &mut Tokens<'_>, first: Symbol) -> Result<(), Refusal>
 {
     match first {
         Symbol::Call => Ok(()),
-        _ => {
-            tokens.word(Symbol::Call)?;
-            Ok(())
-        }
+        _ => tokens.word(Symbol::Call),
     }
 }
 
@@ -246,16 +241,21 @@ pub fn call_rule(
     form: Form,
     named: bool,
     first: Symbol,
-) -> Result<(Op, bool), Refusal>
+) -> Result<(Boxed<Op>, bool), Refusal>
     ensures { Gives (run (spec.call_rule form named first) tokens.old) result tokens.new }
 {
     call_word(tokens, first)?;
     attributes(alloc, tokens, form)?;
     let ret = call_type(tokens, named)?;
-    let dotted = callee_type(tokens, &ret)?;
+    let dotted = callee_type(tokens, ret)?;
     let callee = callee(alloc, tokens, form, dotted)?;
     tokens.word(Symbol::OpenParen)?;
     let args = arguments(alloc, tokens, form, names_printf(&callee))?;
     let marked = call_end(alloc, tokens, form)?;
-    Ok((Op::Call { ret, callee, args }, marked))
+    let read = Op::Call {
+        ret: result_ty(ret),
+        callee,
+        args,
+    };
+    Ok((Boxed::new(alloc, read)?, marked))
 }

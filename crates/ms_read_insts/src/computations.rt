@@ -2,15 +2,16 @@
 //! "Other Operations").
 
 ghost use Rattle.std.specs.Prelude.{◌≡◌};
+ghost use Rattle.ms_ir.specs.declared.syntax.Ty.TheVariants as ty;
 ghost use Rattle.ms_grammar.specs.Insts as spec;
-ghost use Rattle.ms_cursor.specs.Reading.{Gives, Judges, run};
+ghost use Rattle.ms_read_cursor.specs.Reading.{Gives, Judges, run};
 
 use crate::flags::{Carrier, flags_of};
-use ms_bits::{BinOp, CastOp, Pred};
-use ms_cursor::{Lexeme, Tokens, same_symbol};
+use ms_bits::{BinOp, Boxed, CastOp, Pred};
 use ms_grammar::{Form, Refusal, Symbol};
-use ms_ir::{Op, Ty};
-use ms_read_values::{int_type, value, value_type, value_type_of};
+use ms_ir::Op;
+use ms_read_cursor::{Lexeme, Tokens, same_symbol};
+use ms_read_values::{ValueType, int_type, value, value_type, value_type_of};
 use std::alloc::Global;
 
 /// Reads a binary operation behind its word: `flags iN a, b`.
@@ -24,21 +25,22 @@ pub fn binary_rule(
     tokens: &mut Tokens<'_>,
     form: Form,
     op: BinOp,
-) -> Result<Op, Refusal>
+) -> Result<Boxed<Op>, Refusal>
     ensures { Gives (run (spec.binary_rule form op) tokens.old) result tokens.new }
 {
     let flags = flags_of(alloc, tokens, Carrier::Binary(op))?;
-    let ty = Ty::Int(int_type(tokens)?);
-    let a = value(alloc, tokens, form, &ty)?;
+    let ty = ValueType::int(int_type(tokens)?);
+    let a = value(alloc, tokens, form, ty)?;
     tokens.word(Symbol::Comma)?;
-    let b = value(alloc, tokens, form, &ty)?;
-    Ok(Op::Binary {
+    let b = value(alloc, tokens, form, ty)?;
+    let read = Op::Binary {
         op,
         flags,
-        ty,
-        a,
-        b,
-    })
+        ty: ty.ty(),
+        a: a.into_inner(),
+        b: b.into_inner(),
+    };
+    Ok(Boxed::new(alloc, read)?)
 }
 
 /// The predicate that a word names.
@@ -81,22 +83,27 @@ fn predicate_word(tokens: &mut Tokens<'_>) -> Result<Pred, Refusal>
 ///
 /// Those of its parts.
 #[tactic(auto, unfolding(ms_grammar::specs::Insts::compare_rule))]
-pub fn compare_rule(alloc: Global, tokens: &mut Tokens<'_>, form: Form) -> Result<Op, Refusal>
+pub fn compare_rule(
+    alloc: Global,
+    tokens: &mut Tokens<'_>,
+    form: Form,
+) -> Result<Boxed<Op>, Refusal>
     ensures { Gives (run (spec.compare_rule form) tokens.old) result tokens.new }
 {
     let flags = flags_of(alloc, tokens, Carrier::Compare)?;
     let pred = predicate_word(tokens)?;
     let ty = value_type(tokens)?;
-    let a = value(alloc, tokens, form, &ty)?;
+    let a = value(alloc, tokens, form, ty)?;
     tokens.word(Symbol::Comma)?;
-    let b = value(alloc, tokens, form, &ty)?;
-    Ok(Op::Icmp {
+    let b = value(alloc, tokens, form, ty)?;
+    let read = Op::Icmp {
         pred,
         flags,
-        ty,
-        a,
-        b,
-    })
+        ty: ty.ty(),
+        a: a.into_inner(),
+        b: b.into_inner(),
+    };
+    Ok(Boxed::new(alloc, read)?)
 }
 
 /// Reads a cast behind its word: `flags type a to type`.
@@ -110,26 +117,27 @@ pub fn cast_rule(
     tokens: &mut Tokens<'_>,
     form: Form,
     op: CastOp,
-) -> Result<Op, Refusal>
+) -> Result<Boxed<Op>, Refusal>
     ensures { Gives (run (spec.cast_rule form op) tokens.old) result tokens.new }
 {
     let flags = flags_of(alloc, tokens, Carrier::Cast(op))?;
     let from = value_type(tokens)?;
-    let a = value(alloc, tokens, form, &from)?;
+    let a = value(alloc, tokens, form, from)?;
     tokens.word(Symbol::To)?;
     let to = value_type(tokens)?;
-    Ok(Op::Cast {
+    let read = Op::Cast {
         op,
         flags,
-        from,
-        a,
-        to,
-    })
+        from: from.ty(),
+        a: a.into_inner(),
+        to: to.ty(),
+    };
+    Ok(Boxed::new(alloc, read)?)
 }
 
 /// Whether a token is an integer type of this width.
 pub fn is_int_type(width: u8, token: &Lexeme<'_>) -> bool
-    ensures { result ≡ spec.spells (Ty.Int width) token.now }
+    ensures { result ≡ spec.spells (ty.Int width) token.now }
 {
     same_symbol(token.symbol(), Symbol::IntType) && token.width() == width
 }
@@ -148,19 +156,18 @@ pub fn bit_type(tokens: &mut Tokens<'_>) -> Result<(), Refusal>
 }
 
 /// Whether a token spells this type.
-fn spells(ty: &Ty, token: &Lexeme<'_>) -> bool
-    ensures { result ≡ spec.spells ty.now token.now }
+fn spells(ty: ValueType, token: &Lexeme<'_>) -> bool
+    ensures { result ≡ spec.spells ty token.now }
 {
-    match ty {
-        Ty::Int(width) => is_int_type(*width, token),
-        Ty::Ptr => token.is(Symbol::PtrType),
-        _ => false,
+    match ty.width() {
+        Some(width) => is_int_type(width, token),
+        None => token.is(Symbol::PtrType),
     }
 }
 
 /// That a token is this type of a value, and no other.
-fn same_type_of(ty: &Ty, token: &Lexeme<'_>) -> Result<(), Refusal>
-    ensures { Judges (spec.same_type_of ty.now token.now) result }
+fn same_type_of(ty: ValueType, token: &Lexeme<'_>) -> Result<(), Refusal>
+    ensures { Judges (spec.same_type_of ty token.now) result }
 {
     if spells(ty, token) {
         return Ok(());
@@ -171,8 +178,8 @@ fn same_type_of(ty: &Ty, token: &Lexeme<'_>) -> Result<(), Refusal>
 
 /// Takes the same type of a value again.
 #[tactic(auto, unfolding(ms_grammar::specs::Insts::same_type))]
-fn same_type(tokens: &mut Tokens<'_>, ty: &Ty) -> Result<(), Refusal>
-    ensures { Gives (run (spec.same_type ty.now) tokens.old) result tokens.new }
+fn same_type(tokens: &mut Tokens<'_>, ty: ValueType) -> Result<(), Refusal>
+    ensures { Gives (run (spec.same_type ty) tokens.old) result tokens.new }
 {
     same_type_of(ty, &tokens.lexeme())?;
     tokens.advance();
@@ -185,18 +192,24 @@ fn same_type(tokens: &mut Tokens<'_>, ty: &Ty) -> Result<(), Refusal>
 ///
 /// Those of its parts. A second type that isn't the first is refused at its token.
 #[tactic(auto, unfolding(ms_grammar::specs::Insts::select_rule))]
-pub fn select_rule(alloc: Global, tokens: &mut Tokens<'_>, form: Form) -> Result<Op, Refusal>
+pub fn select_rule(alloc: Global, tokens: &mut Tokens<'_>, form: Form) -> Result<Boxed<Op>, Refusal>
     ensures { Gives (run (spec.select_rule form) tokens.old) result tokens.new }
 {
     bit_type(tokens)?;
-    let cond = value(alloc, tokens, form, &Ty::Int(1))?;
+    let cond = value(alloc, tokens, form, ValueType::int(1))?;
     tokens.word(Symbol::Comma)?;
     let ty = value_type(tokens)?;
-    let a = value(alloc, tokens, form, &ty)?;
+    let a = value(alloc, tokens, form, ty)?;
     tokens.word(Symbol::Comma)?;
-    same_type(tokens, &ty)?;
-    let b = value(alloc, tokens, form, &ty)?;
-    Ok(Op::Select { cond, ty, a, b })
+    same_type(tokens, ty)?;
+    let b = value(alloc, tokens, form, ty)?;
+    let read = Op::Select {
+        cond: cond.into_inner(),
+        ty: ty.ty(),
+        a: a.into_inner(),
+        b: b.into_inner(),
+    };
+    Ok(Boxed::new(alloc, read)?)
 }
 
 /// Reads a `freeze` behind its word: `type a`.
@@ -205,10 +218,14 @@ pub fn select_rule(alloc: Global, tokens: &mut Tokens<'_>, form: Form) -> Result
 ///
 /// Those of its parts.
 #[tactic(auto, unfolding(ms_grammar::specs::Insts::freeze_rule))]
-pub fn freeze_rule(alloc: Global, tokens: &mut Tokens<'_>, form: Form) -> Result<Op, Refusal>
+pub fn freeze_rule(alloc: Global, tokens: &mut Tokens<'_>, form: Form) -> Result<Boxed<Op>, Refusal>
     ensures { Gives (run (spec.freeze_rule form) tokens.old) result tokens.new }
 {
     let ty = value_type(tokens)?;
-    let a = value(alloc, tokens, form, &ty)?;
-    Ok(Op::Freeze { ty, a })
+    let a = value(alloc, tokens, form, ty)?;
+    let read = Op::Freeze {
+        ty: ty.ty(),
+        a: a.into_inner(),
+    };
+    Ok(Boxed::new(alloc, read)?)
 }

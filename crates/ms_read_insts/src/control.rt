@@ -1,18 +1,16 @@
 //! Phis and terminators (LLVM Language Reference, "'phi' Instruction", "Terminator Instructions").
 
-ghost use Rattle.std.specs.Prelude.{◌≡◌, ◌∷◌, [], IfOk, false};
-ghost use Rattle.std.proofs.Props.{props};
+ghost use Rattle.std.specs.Prelude.{◌≡◌, ◌∷◌, ◌++◌, [], IfOk, false};
 ghost use Rattle.ms_grammar.specs.Insts as spec;
-ghost use Rattle.ms_cursor.specs.Reading.{Gives, run};
-ghost use Rattle.ms_read_values.specs.Narrow.{IsNarrow, IsWidth};
+ghost use Rattle.ms_read_cursor.specs.Reading.{Gives, run};
+ghost use Rattle.ms_read_values.specs.Narrow.{IsWidth};
 
 use crate::computations::{bit_type, is_int_type};
-use ms_bits::{List, NoMemory};
-use ms_cursor::{Lexeme, Tokens, Turn, local, repeat, with_last};
+use ms_bits::{Boxed, List, NoMemory};
 use ms_grammar::{Edges, Form, Refusal, Symbol};
-use ms_ir::{Name, Op, Operand, Ty};
-use ms_read_skipped::suffixes_from;
-use ms_read_values::{int_type, number, result_type, value, value_type};
+use ms_ir::{Name, Op, Operand};
+use ms_read_cursor::{Lexeme, Tokens, Turn, local, repeat, with_last};
+use ms_read_values::{ValueType, int_type, number, result_type, suffixes_from, value, value_type};
 use std::alloc::Global;
 
 /// Reads an edge of a phi behind its `[`.
@@ -21,10 +19,9 @@ fn edge(
     alloc: Global,
     tokens: &mut Tokens<'_>,
     form: Form,
-    ty: &Ty,
-) -> Result<(Operand, Name), Refusal>
-    requires { IsNarrow ty.now }
-    ensures { Gives (run (spec.edge form ty.now) tokens.old) result tokens.new }
+    ty: ValueType,
+) -> Result<(Boxed<Operand>, Name), Refusal>
+    ensures { Gives (run (spec.edge form ty) tokens.old) result tokens.new }
 {
     let operand = value(alloc, tokens, form, ty)?;
     tokens.word(Symbol::Comma)?;
@@ -33,36 +30,42 @@ fn edge(
     Ok((operand, from))
 }
 
+/// The state behind one edge more.
+fn with_edge(found: List<(Operand, Name)>, edge: (Boxed<Operand>, Name)) -> Result<Edges, NoMemory>
+    ensures { IfOk result (λ edges. edges ≡ record { found = found ++ edge ∷ []; ended = false }) }
+{
+    let (operand, from) = edge;
+    Ok(Edges {
+        found: with_last(found, (operand.into_inner(), from))?,
+        ended: false,
+    })
+}
+
 /// Reads an edge behind its comma, or finds that what is attached begins.
 #[tactic(auto, unfolding(ms_grammar::specs::Insts::edge_turn))]
 fn edge_turn(
     alloc: Global,
     tokens: &mut Tokens<'_>,
     form: Form,
-    ty: &Ty,
+    ty: ValueType,
     found: List<(Operand, Name)>,
 ) -> Result<Edges, Refusal>
-    requires { IsNarrow ty.now }
-    ensures { Gives (run (spec.edge_turn form ty.now found) tokens.old) result tokens.new }
+    ensures { Gives (run (spec.edge_turn form ty found) tokens.old) result tokens.new }
 {
     match tokens.peek() {
         Symbol::OpenBracket => {
             tokens.advance();
             let next = edge(alloc, tokens, form, ty)?;
-            Ok(Edges {
-                found: with_last(found, next)?,
-                ended: false,
-            })
+            Ok(with_edge(found, next)?)
         }
         _ => Ok(Edges { found, ended: true }),
     }
 }
 
-#[derive(Drop)]
+#[derive(Clone, Copy)]
 struct EdgeTurn {
     form: Form,
-    ty: Ty,
-    ghost narrow: { IsNarrow ty } by { Prim.hlevel props },
+    ty: ValueType,
 }
 
 impl Turn for EdgeTurn {
@@ -86,18 +89,15 @@ impl Turn for EdgeTurn {
         tokens: &mut Tokens<'_>,
     ) -> Result<Edges, Refusal> {
         let Edges { found, .. } = state;
-        Ok(edge_turn(alloc, tokens, self.form, &self.ty, found)?)
+        edge_turn(alloc, tokens, self.form, self.ty, found)
     }
 }
 
 /// The state behind the first edge.
-fn first_edges(alloc: Global, first: (Operand, Name)) -> Result<Edges, NoMemory>
+fn first_edges(alloc: Global, first: (Boxed<Operand>, Name)) -> Result<Edges, NoMemory>
     ensures { IfOk result (λ edges. edges ≡ record { found = first ∷ []; ended = false }) }
 {
-    Ok(Edges {
-        found: with_last(List::from_vec(Vec::new(alloc)), first)?,
-        ended: false,
-    })
+    with_edge(List::from_vec(Vec::new(alloc)), first)
 }
 
 /// Reads a phi behind its word: `type [value, local]`, more edges behind commas, and what is attached. The second value is
@@ -107,17 +107,23 @@ fn first_edges(alloc: Global, first: (Operand, Name)) -> Result<Edges, NoMemory>
 ///
 /// Those of its parts: `Syntax` or `Outside` at a token that can't stand.
 #[tactic(auto, unfolding(ms_grammar::specs::Insts::phi_rule))]
-pub fn phi_rule(alloc: Global, tokens: &mut Tokens<'_>, form: Form) -> Result<(Op, bool), Refusal>
+pub fn phi_rule(
+    alloc: Global,
+    tokens: &mut Tokens<'_>,
+    form: Form,
+) -> Result<(Boxed<Op>, bool), Refusal>
     ensures { Gives (run (spec.phi_rule form) tokens.old) result tokens.new }
 {
     let ty = value_type(tokens)?;
     tokens.word(Symbol::OpenBracket)?;
-    let start = first_edges(alloc, edge(alloc, tokens, form, &ty)?)?;
-    let rule = EdgeTurn { form, ty };
-    let Edges { found, ended } = repeat(alloc, tokens, &rule, start)?;
+    let start = first_edges(alloc, edge(alloc, tokens, form, ty)?)?;
+    let Edges { found, ended } = repeat(alloc, tokens, &EdgeTurn { form, ty }, start)?;
     let marked = suffixes_from(alloc, tokens, form, ended)?;
-    let EdgeTurn { form: _, ty } = rule;
-    Ok((Op::Phi { ty, edges: found }, marked))
+    let read = Op::Phi {
+        ty: ty.ty(),
+        edges: found,
+    };
+    Ok((Boxed::new(alloc, read)?, marked))
 }
 
 /// Takes `label` and the name of a block.
@@ -126,21 +132,26 @@ fn target(alloc: Global, tokens: &mut Tokens<'_>, form: Form) -> Result<Name, Re
     ensures { Gives (run (spec.target form) tokens.old) result tokens.new }
 {
     tokens.word(Symbol::LabelWord)?;
-    Ok(local(alloc, tokens, form)?)
+    local(alloc, tokens, form)
 }
 
 /// Reads `i1 condition, label %yes, label %no`.
 #[tactic(auto, unfolding(ms_grammar::specs::Insts::branch_on))]
-fn branch_on(alloc: Global, tokens: &mut Tokens<'_>, form: Form) -> Result<Op, Refusal>
+fn branch_on(alloc: Global, tokens: &mut Tokens<'_>, form: Form) -> Result<Boxed<Op>, Refusal>
     ensures { Gives (run (spec.branch_on form) tokens.old) result tokens.new }
 {
     bit_type(tokens)?;
-    let cond = value(alloc, tokens, form, &Ty::Int(1))?;
+    let cond = value(alloc, tokens, form, ValueType::int(1))?;
     tokens.word(Symbol::Comma)?;
     let yes = target(alloc, tokens, form)?;
     tokens.word(Symbol::Comma)?;
     let no = target(alloc, tokens, form)?;
-    Ok(Op::CondBr { cond, yes, no })
+    let read = Op::CondBr {
+        cond: cond.into_inner(),
+        yes,
+        no,
+    };
+    Ok(Boxed::new(alloc, read)?)
 }
 
 /// Reads a `br` behind its word: `label %to`, or `i1 condition, label %yes, label %no`.
@@ -149,14 +160,14 @@ fn branch_on(alloc: Global, tokens: &mut Tokens<'_>, form: Form) -> Result<Op, R
 ///
 /// Those of its parts.
 #[tactic(auto, unfolding(ms_grammar::specs::Insts::branch_rule))]
-pub fn branch_rule(alloc: Global, tokens: &mut Tokens<'_>, form: Form) -> Result<Op, Refusal>
+pub fn branch_rule(alloc: Global, tokens: &mut Tokens<'_>, form: Form) -> Result<Boxed<Op>, Refusal>
     ensures { Gives (run (spec.branch_rule form) tokens.old) result tokens.new }
 {
     if !tokens.sees(Symbol::LabelWord) {
-        return Ok(branch_on(alloc, tokens, form)?);
+        return branch_on(alloc, tokens, form);
     }
     let to = target(alloc, tokens, form)?;
-    Ok(Op::Br { to })
+    Ok(Boxed::new(alloc, Op::Br { to })?)
 }
 
 /// Reads a case of a `switch` behind its type.
@@ -210,7 +221,7 @@ impl Turn for CaseTurn {
         _first: &Lexeme<'_>,
         tokens: &mut Tokens<'_>,
     ) -> Result<List<(u64, Name)>, Refusal> {
-        Ok(case_rest(alloc, tokens, self.form, self.width, state)?)
+        case_rest(alloc, tokens, self.form, self.width, state)
     }
 }
 
@@ -220,24 +231,25 @@ impl Turn for CaseTurn {
 ///
 /// Those of its parts. A case of another type is refused at its type.
 #[tactic(auto, unfolding(ms_grammar::specs::Insts::switch_rule))]
-pub fn switch_rule(alloc: Global, tokens: &mut Tokens<'_>, form: Form) -> Result<Op, Refusal>
+pub fn switch_rule(alloc: Global, tokens: &mut Tokens<'_>, form: Form) -> Result<Boxed<Op>, Refusal>
     ensures { Gives (run (spec.switch_rule form) tokens.old) result tokens.new }
 {
     let width = int_type(tokens)?;
-    let ty = Ty::Int(width);
-    let value = value(alloc, tokens, form, &ty)?;
+    let ty = ValueType::int(width);
+    let value = value(alloc, tokens, form, ty)?;
     tokens.word(Symbol::Comma)?;
     let other = target(alloc, tokens, form)?;
     tokens.word(Symbol::OpenBracket)?;
     let none = List::from_vec(Vec::new(alloc));
     let cases = repeat(alloc, tokens, &CaseTurn { form, width }, none)?;
     tokens.word(Symbol::CloseBracket)?;
-    Ok(Op::Switch {
-        ty,
-        value,
+    let read = Op::Switch {
+        ty: ty.ty(),
+        value: value.into_inner(),
         other,
         cases,
-    })
+    };
+    Ok(Boxed::new(alloc, read)?)
 }
 
 /// Reads a `ret` behind its word: `void`, or `type value`.
@@ -246,16 +258,17 @@ pub fn switch_rule(alloc: Global, tokens: &mut Tokens<'_>, form: Form) -> Result
 ///
 /// Those of its parts.
 #[tactic(auto, unfolding(ms_grammar::specs::Insts::ret_rule))]
-pub fn ret_rule(alloc: Global, tokens: &mut Tokens<'_>, form: Form) -> Result<Op, Refusal>
+pub fn ret_rule(alloc: Global, tokens: &mut Tokens<'_>, form: Form) -> Result<Boxed<Op>, Refusal>
     ensures { Gives (run (spec.ret_rule form) tokens.old) result tokens.new }
 {
     match result_type(tokens)? {
-        None => Ok(Op::Ret { value: None }),
+        None => Ok(Boxed::new(alloc, Op::Ret { value: None })?),
         Some(ty) => {
-            let operand = value(alloc, tokens, form, &ty)?;
-            Ok(Op::Ret {
-                value: Some((ty, operand)),
-            })
+            let operand = value(alloc, tokens, form, ty)?;
+            let read = Op::Ret {
+                value: Some((ty.ty(), operand.into_inner())),
+            };
+            Ok(Boxed::new(alloc, read)?)
         }
     }
 }

@@ -2,12 +2,12 @@
 
 ghost use Rattle.std.specs.Prelude.{◌≡◌};
 ghost use Rattle.ms_grammar.specs.Insts as spec;
-ghost use Rattle.ms_cursor.specs.Reading.{Gives, run};
+ghost use Rattle.ms_read_cursor.specs.Reading.{Gives, run};
 ghost use Rattle.ms_read_insts.specs.Carriers.{carries_of};
 
 use ms_bits::{BinOp, CastOp, Flags};
-use ms_cursor::{Lexeme, Tokens, Turn, repeat, same_symbol};
 use ms_grammar::{Refusal, Symbol};
+use ms_read_cursor::{Lexeme, Tokens, Turn, repeat, same_symbol};
 use std::alloc::Global;
 
 /// What may carry flags.
@@ -143,5 +143,5 @@ pub fn flags_of(alloc: Global, tokens: &mut Tokens<'_>, carrier: Carrier) -> Res
         nneg: false,
         samesign: false,
     };
-    Ok(repeat(alloc, tokens, &FlagTurn { carrier }, none)?)
+    repeat(alloc, tokens, &FlagTurn { carrier }, none)
 }

@@ -8,8 +8,6 @@ mod control;
 mod flags;
 mod memory;
 mod suffixes;
-#[cfg(test)]
-mod tests;
 
 pub use calls::{call_rule, names_printf};
 pub use computations::{binary_rule, cast_rule, compare_rule, freeze_rule, select_rule};

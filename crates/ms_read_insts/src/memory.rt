@@ -1,18 +1,18 @@
 //! Memory and addresses (LLVM Language Reference, "Memory Access and Addressing Operations").
 
-ghost use Rattle.std.specs.Prelude.{◌≡◌, IfOk};
+ghost use Rattle.std.specs.Prelude.{◌≡◌};
 ghost use Rattle.ms_lex.specs.Grammar.{one};
 ghost use Rattle.ms_grammar.specs.Values as values;
 ghost use Rattle.ms_grammar.specs.Insts as spec;
-ghost use Rattle.ms_cursor.specs.Reading.{Gives, run};
-ghost use Rattle.ms_read_values.specs.Narrow.{IsWidth};
+ghost use Rattle.ms_read_cursor.specs.Reading.{Gives, run};
 
-use ms_bits::List;
-use ms_cursor::{Lexeme, Tokens, Turn, repeat, with_last};
+use ms_bits::{Boxed, List};
 use ms_grammar::{Form, Indices, Refusal, Symbol};
 use ms_ir::{Op, Operand, Ty};
-use ms_read_skipped::suffixes_from;
-use ms_read_values::{index_type_of, step_words, type_to, value, value_type};
+use ms_read_cursor::{Lexeme, Tokens, Turn, repeat, with_last};
+use ms_read_values::{
+    ValueType, boxed_type, index_type_of, step_words, suffixes_from, value, value_type,
+};
 use std::alloc::Global;
 
 /// How many arrays and structs may be open at once.
@@ -20,12 +20,12 @@ const MAX_DEPTH: u8 = 32;
 
 /// Takes `ptr` and an address behind a comma.
 #[tactic(auto, unfolding(ms_grammar::specs::Insts::address))]
-fn address(alloc: Global, tokens: &mut Tokens<'_>, form: Form) -> Result<Operand, Refusal>
+fn address(alloc: Global, tokens: &mut Tokens<'_>, form: Form) -> Result<Boxed<Operand>, Refusal>
     ensures { Gives (run (spec.address form) tokens.old) result tokens.new }
 {
     tokens.word(Symbol::Comma)?;
     tokens.word(Symbol::PtrType)?;
-    Ok(value(alloc, tokens, form, &Ty::Ptr)?)
+    value(alloc, tokens, form, ValueType::ptr())
 }
 
 /// Reads a `load` behind its word: `type, ptr address`.
@@ -34,12 +34,16 @@ fn address(alloc: Global, tokens: &mut Tokens<'_>, form: Form) -> Result<Operand
 ///
 /// Those of its parts: `Syntax` or `Outside` at a token that can't stand.
 #[tactic(auto, unfolding(ms_grammar::specs::Insts::load_rule))]
-pub fn load_rule(alloc: Global, tokens: &mut Tokens<'_>, form: Form) -> Result<Op, Refusal>
+pub fn load_rule(alloc: Global, tokens: &mut Tokens<'_>, form: Form) -> Result<Boxed<Op>, Refusal>
     ensures { Gives (run (spec.load_rule form) tokens.old) result tokens.new }
 {
     let ty = value_type(tokens)?;
     let addr = address(alloc, tokens, form)?;
-    Ok(Op::Load { ty, addr })
+    let read = Op::Load {
+        ty: ty.ty(),
+        addr: addr.into_inner(),
+    };
+    Ok(Boxed::new(alloc, read)?)
 }
 
 /// Reads a `store` behind its word: `type value, ptr address`.
@@ -48,13 +52,18 @@ pub fn load_rule(alloc: Global, tokens: &mut Tokens<'_>, form: Form) -> Result<O
 ///
 /// Those of its parts.
 #[tactic(auto, unfolding(ms_grammar::specs::Insts::store_rule))]
-pub fn store_rule(alloc: Global, tokens: &mut Tokens<'_>, form: Form) -> Result<Op, Refusal>
+pub fn store_rule(alloc: Global, tokens: &mut Tokens<'_>, form: Form) -> Result<Boxed<Op>, Refusal>
     ensures { Gives (run (spec.store_rule form) tokens.old) result tokens.new }
 {
     let ty = value_type(tokens)?;
-    let value = value(alloc, tokens, form, &ty)?;
+    let value = value(alloc, tokens, form, ty)?;
     let addr = address(alloc, tokens, form)?;
-    Ok(Op::Store { ty, value, addr })
+    let read = Op::Store {
+        ty: ty.ty(),
+        value: value.into_inner(),
+        addr: addr.into_inner(),
+    };
+    Ok(Boxed::new(alloc, read)?)
 }
 
 /// Before the first index.
@@ -69,8 +78,7 @@ fn no_indices(alloc: Global) -> Indices
 
 /// The width of an index in front of which so many stand.
 fn index_width(tokens: &mut Tokens<'_>, before: usize) -> Result<u8, Refusal>
-    ensures exact { Gives (run (one (values.index_type_of before)) tokens.old) result tokens.new }
-    ensures narrow { IfOk result IsWidth }
+    ensures { Gives (run (one (values.index_type_of before)) tokens.old) result tokens.new }
 {
     let width = index_type_of(before, &tokens.lexeme())?;
     tokens.advance();
@@ -86,10 +94,10 @@ fn index(
 ) -> Result<Indices, Refusal>
     ensures { Gives (run (spec.index_by form found Symbol.IntType) tokens.old) result tokens.new }
 {
-    let ty = Ty::Int(index_width(tokens, found.as_slice().len())?);
-    let operand = value(alloc, tokens, form, &ty)?;
+    let ty = ValueType::int(index_width(tokens, found.as_slice().len())?);
+    let operand = value(alloc, tokens, form, ty)?;
     Ok(Indices {
-        found: with_last(found, (ty, operand))?,
+        found: with_last(found, (ty.ty(), operand.into_inner()))?,
         ended: false,
     })
 }
@@ -105,7 +113,7 @@ fn index_turn(
     ensures { Gives (run (spec.index_turn form found) tokens.old) result tokens.new }
 {
     match tokens.peek() {
-        Symbol::IntType => Ok(index(alloc, tokens, form, found)?),
+        Symbol::IntType => index(alloc, tokens, form, found),
         _ => Ok(Indices { found, ended: true }),
     }
 }
@@ -141,7 +149,7 @@ impl Turn for IndexTurn {
         tokens: &mut Tokens<'_>,
     ) -> Result<Indices, Refusal> {
         let Indices { found, .. } = state;
-        Ok(index_turn(alloc, tokens, self.form, found)?)
+        index_turn(alloc, tokens, self.form, found)
     }
 }
 
@@ -152,20 +160,24 @@ impl Turn for IndexTurn {
 ///
 /// `Limit(Indices)` at the type of the 65th index, `Limit(Types)` at one bracket too many, and those of its parts.
 #[tactic(auto, unfolding(ms_grammar::specs::Insts::step_rule))]
-pub fn step_rule(alloc: Global, tokens: &mut Tokens<'_>, form: Form) -> Result<(Op, bool), Refusal>
+pub fn step_rule(
+    alloc: Global,
+    tokens: &mut Tokens<'_>,
+    form: Form,
+) -> Result<(Boxed<Op>, bool), Refusal>
     ensures { Gives (run (spec.step_rule form) tokens.old) result tokens.new }
 {
     step_words(alloc, tokens)?;
-    let ty = type_to(alloc, tokens, form, MAX_DEPTH)?;
+    let ty = boxed_type(alloc, tokens, form, MAX_DEPTH)?;
     let base = address(alloc, tokens, form)?;
     let Indices { found, ended } = repeat(alloc, tokens, &IndexTurn { form }, no_indices(alloc))?;
     let marked = suffixes_from(alloc, tokens, form, ended)?;
-    let op = Op::Gep {
-        ty,
-        base,
+    let read = Op::Gep {
+        ty: ty.into_inner(),
+        base: base.into_inner(),
         indices: found,
     };
-    Ok((op, marked))
+    Ok((Boxed::new(alloc, read)?, marked))
 }
 
 #[derive(Clone, Copy)]
@@ -199,7 +211,7 @@ impl Turn for CountTurn {
         tokens: &mut Tokens<'_>,
     ) -> Result<Indices, Refusal> {
         let Indices { found, .. } = state;
-        Ok(index_turn(alloc, tokens, self.form, found)?)
+        index_turn(alloc, tokens, self.form, found)
     }
 }
 
@@ -234,11 +246,14 @@ pub fn alloca_rule(
     alloc: Global,
     tokens: &mut Tokens<'_>,
     form: Form,
-) -> Result<(Op, bool), Refusal>
+) -> Result<(Boxed<Op>, bool), Refusal>
     ensures { Gives (run (spec.alloca_rule form) tokens.old) result tokens.new }
 {
-    let ty = type_to(alloc, tokens, form, MAX_DEPTH)?;
+    let ty = boxed_type(alloc, tokens, form, MAX_DEPTH)?;
     let Indices { found, ended } = repeat(alloc, tokens, &CountTurn { form }, no_indices(alloc))?;
     let marked = suffixes_from(alloc, tokens, form, ended)?;
-    Ok((alloca_of(ty, found), marked))
+    Ok((
+        Boxed::new(alloc, alloca_of(ty.into_inner(), found))?,
+        marked,
+    ))
 }

@@ -4,12 +4,13 @@ ghost use Rattle.std.specs.Prelude.{◌≡◌, false};
 ghost use Rattle.ms_lex.specs.Grammar.{give, seq};
 ghost use Rattle.ms_grammar.specs.Skipped as skipped;
 ghost use Rattle.ms_grammar.specs.Insts as spec;
-ghost use Rattle.ms_cursor.specs.Reading.{Gives, run};
+ghost use Rattle.ms_read_cursor.specs.Reading.{Gives, run};
 
-use ms_cursor::{Rule, Tokens};
+use ms_bits::Boxed;
 use ms_grammar::{Form, Refusal};
 use ms_ir::Op;
-use ms_read_skipped::suffixes_from;
+use ms_read_cursor::{Rule, Tokens};
+use ms_read_values::suffixes_from;
 use std::alloc::Global;
 
 /// Reads what is attached to what was read before it. It serves every type, so that nothing is said of how an operation is
@@ -32,14 +33,14 @@ fn attached_to<T: Drop>(
 ///
 /// Those of the rule, `Reserved` at a mark in the plain form, and those of the other parts.
 #[tactic(auto, unfolding(ms_grammar::specs::Insts::with_suffixes))]
-pub fn with_suffixes<R: Rule<Value = Op>>(
+pub fn with_suffixes<R: Rule<Value = Boxed<Op>>>(
     alloc: Global,
     tokens: &mut Tokens<'_>,
     form: Form,
     rule: &R,
-) -> Result<(Op, bool), Refusal>
+) -> Result<(Boxed<Op>, bool), Refusal>
     ensures { Gives (run (spec.with_suffixes form (R.piece rule.now)) tokens.old) result tokens.new }
 {
     let op = rule.read(alloc, tokens)?;
-    Ok(attached_to(alloc, tokens, form, op)?)
+    attached_to(alloc, tokens, form, op)
 }

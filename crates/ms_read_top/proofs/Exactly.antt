@@ -13,7 +13,7 @@ use Rattle.ms_read_body.specs.Calls.{what_of}
 use Rattle.ms_read_body.specs.declared.errors.What.{What}
 use Rattle.ms_read_body.specs.declared.errors.ReadError.{ReadError}
 use Rattle.ms_read_body.specs.declared.errors.ReadError.TheVariants as e
-use Rattle.ms_read_top.specs.Reading.{IsRefused, IsAnswer, AnswersExactly}
+use Rattle.ms_read_top.specs.Reading.{IsTextRefused, IsReading, AnswersExactly}
 
 cut_once : (r : Result (List Token) LexError) (ts : List Token) (c : LexError) → r ≡ Ok ts → r ≡ Err c → ⊥
 cut_once r ts c p q = cc
@@ -31,19 +31,19 @@ same_refusal : (n m : ℕ) (v w : What) (j k a b : ℕ) → n ≡ m → v ≡ w 
 same_refusal n m v w j k a b p q x y = cc
 
 module _ (form : Form) (text : Text) where
-  reading : (result : Answer) → IsAnswer form text result → (m : Module) → Reads form text m → (result ≡ Ok m) ⊎ (result ≡ Err e.NoMemory)
+  reading : (result : Answer) → IsReading form text result → (m : Module) → Reads form text m → (result ≡ Ok m) ⊎ (result ≡ Err e.NoMemory)
   reading (Ok n) is m reads = inl (ap Ok (one_reading form text n m is reads))
   reading (Err (e.Lex c)) is m reads = absurd (cut_once (tokens_of text (max_tokens form)) reads.0 c reads.1.cut is.0)
   reading (Err (e.Refused n w k p)) is m reads = absurd (never_both form text m k is.cause reads is.stops)
   reading (Err e.NoMemory) is m reads = inr refl
 
-  lexing : (result : Answer) → IsAnswer form text result → (d : LexError) → tokens_of text (max_tokens form) ≡ Err d → (result ≡ Err (e.Lex d)) ⊎ (result ≡ Err e.NoMemory)
+  lexing : (result : Answer) → IsReading form text result → (d : LexError) → tokens_of text (max_tokens form) ≡ Err d → (result ≡ Err (e.Lex d)) ⊎ (result ≡ Err e.NoMemory)
   lexing (Ok n) is d cut = absurd (cut_once (tokens_of text (max_tokens form)) is.0 d is.1.cut cut)
   lexing (Err (e.Lex c)) is d cut = inl (ap (λ x. Err (e.Lex x)) (same_cause (tokens_of text (max_tokens form)) c d is.0 cut))
   lexing (Err (e.Refused n w k p)) is d cut = absurd (cut_once (tokens_of text (max_tokens form)) is.stops.0 d is.stops.1.cut cut)
   lexing (Err e.NoMemory) is d cut = inr refl
 
-  refusing : (result : Answer) → IsAnswer form text result → (n : ℕ) (w : What) (k p : ℕ) → IsRefused form text n w k p
+  refusing : (result : Answer) → IsReading form text result → (n : ℕ) (w : What) (k p : ℕ) → IsTextRefused form text n w k p
       → (result ≡ Err (e.Refused n w k p)) ⊎ (result ≡ Err e.NoMemory)
   refusing (Ok m) is n w k p so = absurd (never_both form text m k so.cause is so.stops)
   refusing (Err (e.Lex c)) is n w k p so = absurd (cut_once (tokens_of text (max_tokens form)) so.stops.0 c so.stops.1.cut is.0)
@@ -55,15 +55,15 @@ module _ (form : Form) (text : Text) where
       inl (same_refusal m n v w j k q p number what both.0 place)
   refusing (Err e.NoMemory) is n w k p so = inr refl
 
-  module _ (result : Answer) (is : IsAnswer form text result) where
+  module _ (result : Answer) (is : IsReading form text result) where
     pub module_exactly : (m : Module) → AnswersExactly result (Ok m) (Reads form text m)
-    module_exactly m = (λ same. subst (IsAnswer form text) same is, reading result is m)
+    module_exactly m = (λ same. subst (IsReading form text) same is, reading result is m)
 
     pub lex_exactly : (c : LexError) → AnswersExactly result (Err (e.Lex c)) (tokens_of text (max_tokens form) ≡ Err c)
-    lex_exactly c = (λ same. (subst (IsAnswer form text) same is).0, lexing result is c)
+    lex_exactly c = (λ same. (subst (IsReading form text) same is).0, lexing result is c)
 
-    pub refused_exactly : (n : ℕ) (w : What) (k p : ℕ) → AnswersExactly result (Err (e.Refused n w k p)) (IsRefused form text n w k p)
-    refused_exactly n w k p = (λ same. subst (IsAnswer form text) same is, refusing result is n w k p)
+    pub refused_exactly : (n : ℕ) (w : What) (k p : ℕ) → AnswersExactly result (Err (e.Refused n w k p)) (IsTextRefused form text n w k p)
+    refused_exactly n w k p = (λ same. subst (IsReading form text) same is, refusing result is n w k p)
 
     pub lexer_has_memory : result ≢ Err (e.Lex lex.NoMemory)
-    lexer_has_memory same = (subst (IsAnswer form text) same is).1 refl
+    lexer_has_memory same = (subst (IsReading form text) same is).1 refl

@@ -10,7 +10,7 @@ use Rattle.ms_grammar.specs.Functions.{function}
 use Rattle.ms_grammar.specs.Lexemes.{Lexeme, end_of_text}
 use Rattle.ms_grammar.specs.Modules.{instructions_of}
 use Rattle.ms_grammar.proofs.Bounds.{function_bound}
-use Rattle.ms_cursor.specs.Reading.{run}
+use Rattle.ms_read_cursor.specs.Reading.{run}
 
 pub function_few : (form : Form) (before : ℕ) (ts : List Lexeme) (f : Func) (rest : List Lexeme) → before ≤ max_instructions form
     → run (function form before) ts ≡ done f rest → before + instructions_of f.blocks ≤ max_instructions form

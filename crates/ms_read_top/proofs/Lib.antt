@@ -1,3 +1,4 @@
 pub mod Few
 pub mod Told
 pub mod Exactly
+pub mod Named

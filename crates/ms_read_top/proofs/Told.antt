@@ -21,9 +21,9 @@ use Rattle.ms_grammar.specs.Texts.{HasTokens, Reads, Stops, StopsAt, max_bytes, 
 use Rattle.ms_grammar.proofs.Ends.{reads_or_stops}
 use Rattle.ms_grammar.proofs.Readings.{same_tokens}
 use Rattle.ms_grammar.proofs.Rests.{stop_shorter}
-use Rattle.ms_cursor.specs.Reading.{run}
+use Rattle.ms_read_cursor.specs.Reading.{run}
 use Rattle.ms_read_body.specs.Calls.{what_of, error_at}
-use Rattle.ms_read_top.specs.Reading.{IsRefused, IsAnswer, of_lexer}
+use Rattle.ms_read_top.specs.Reading.{IsTextRefused, IsReading, of_lexer}
 
 -- ---- numbers that fit
 
@@ -61,14 +61,6 @@ few_tokens form text tokens has =
     let few = not_more (max_tokens form) text (cut_of text).tokens (cut_of text).stop tokens (ltb (max_tokens form) (length (cut_of text).tokens)) refl has.cut in
     let most = most_tokens form in
     omega arith
-
--- ---- places
-
-pub place_behind : (text : Text) (tokens : List Token) (k : ℕ) → place_in text tokens k ≡ place_in text (drop k tokens) 0
-place_behind text [] zero = refl
-place_behind text [] (suc k) = refl
-place_behind text (t ∷ rest) zero = refl
-place_behind text (t ∷ rest) (suc k) = place_behind text rest k
 
 -- ---- answers
 
@@ -110,7 +102,7 @@ module _ (form : Form) (text : Text) (tokens : List Token) (has : HasTokens form
       let whole : (length tokens - length rest) + length rest ≡ length tokens = omega (arith, length-map tokens (lexeme_of text)) in
       (tokens, has, (rest, whole, stops))
 
-  refused : (c : Refusal) (n k : ℕ) → printed_number c ≡ Some n → Stops form text k c → IsRefused form text n (what_of c) k (place_in text tokens k)
+  refused : (c : Refusal) (n k : ℕ) → printed_number c ≡ Some n → Stops form text k c → IsTextRefused form text n (what_of c) k (place_in text tokens k)
   refused c n k e stops = record {
     cause = c;
     stops = stops;
@@ -120,7 +112,7 @@ module _ (form : Form) (text : Text) (tokens : List Token) (has : HasTokens form
   }
 
   told_error : (c : Refusal) (rest : List Lexeme) → (c ≢ r.NoMemory → run (module_rule form) (lexemes_of text tokens) ≡ fails c rest)
-      → IsAnswer form text (Err (error_at c (length tokens - length rest) (place_in text tokens (length tokens - length rest))))
+      → IsReading form text (Err (error_at c (length tokens - length rest) (place_in text tokens (length tokens - length rest))))
   told_error r.Syntax rest h = refused r.Syntax 4 _ refl (told_stop r.Syntax rest (h (λ n. cc)))
   told_error (r.Outside construct) rest h = refused (r.Outside construct) 5 _ refl (told_stop (r.Outside construct) rest (h (λ n. cc)))
   told_error (r.Limit limit) rest h = refused (r.Limit limit) 6 _ refl (told_stop (r.Limit limit) rest (h (λ n. cc)))
@@ -129,12 +121,12 @@ module _ (form : Form) (text : Text) (tokens : List Token) (has : HasTokens form
   told_error r.NoMemory rest h = tt
 
 pub told_reads : (form : Form) (text : Text) (tokens : List Token) (m : Module) (rest : List Lexeme) → HasTokens form text tokens
-    → run (module_rule form) (drop 0 (lexemes_of text tokens)) ≡ done m rest → IsAnswer form text (Ok m)
+    → run (module_rule form) (drop 0 (lexemes_of text tokens)) ≡ done m rest → IsReading form text (Ok m)
 told_reads form text tokens m rest has h = told_module form text tokens has m rest h
 
 pub told_stops : (form : Form) (text : Text) (tokens : List Token) (c : Refusal) (rest : List Lexeme) → HasTokens form text tokens
     → (c ≢ r.NoMemory → run (module_rule form) (drop 0 (lexemes_of text tokens)) ≡ fails c rest)
-    → IsAnswer form text (Err (error_at c (length tokens - length rest) (place_in text tokens (length tokens - length rest))))
+    → IsReading form text (Err (error_at c (length tokens - length rest) (place_in text tokens (length tokens - length rest))))
 told_stops form text tokens c rest has h = told_error form text tokens has c rest h
 
 -- ---- what the lexer gave
@@ -142,7 +134,7 @@ told_stops form text tokens c rest has h = told_error form text tokens has c res
 pub has_tokens : (form : Form) (text : Text) (tokens : List Token) → length text ≤ max_bytes form → tokens_of text (max_tokens form) ≡ Ok tokens → HasTokens form text tokens
 has_tokens form text tokens short cut = record { short = short; cut = cut }
 
-pub told_lexer : (form : Form) (text : Text) (error : LexError) → (error ≢ lex.NoMemory → tokens_of text (max_tokens form) ≡ Err error) → IsAnswer form text (Err (of_lexer error))
+pub told_lexer : (form : Form) (text : Text) (error : LexError) → (error ≢ lex.NoMemory → tokens_of text (max_tokens form) ≡ Err error) → IsReading form text (Err (of_lexer error))
 told_lexer form text (lex.BadByte place) h = (h (λ n. cc), λ n. cc)
 told_lexer form text (lex.OpenString place) h = (h (λ n. cc), λ n. cc)
 told_lexer form text lex.TooManyTokens h = (h (λ n. cc), λ n. cc)

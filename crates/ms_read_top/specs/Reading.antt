@@ -15,7 +15,7 @@ use Rattle.ms_read_body.specs.declared.errors.ReadError.{ReadError}
 use Rattle.ms_read_body.specs.declared.errors.ReadError.TheVariants as e
 
 -- the text stops at this token, which begins at this byte, for a cause of this number that names this
-pub record IsRefused (form : Form) (text : Text) (number : ℕ) (what : What) (token place : ℕ) : Type 0 where
+pub record IsTextRefused (form : Form) (text : Text) (number : ℕ) (what : What) (token place : ℕ) : Type 0 where
   pub cause : Refusal
   pub stops : Stops form text token cause
   pub numbered : printed_number cause ≡ Some number
@@ -23,11 +23,11 @@ pub record IsRefused (form : Form) (text : Text) (number : ℕ) (what : What) (t
   pub begins : (tokens : List Token) → HasTokens form text tokens → place ≡ place_in text tokens token
 
 -- what an answer says is so; want of memory says nothing
-abbrev pub IsAnswer : Form → Text → Result Module ReadError → Type 0
-IsAnswer form text (Ok m) = Reads form text m
-IsAnswer form text (Err (e.Lex cause)) = (tokens_of text (max_tokens form) ≡ Err cause) × (cause ≢ lex.NoMemory)
-IsAnswer form text (Err (e.Refused number what token place)) = IsRefused form text number what token place
-IsAnswer form text (Err e.NoMemory) = Unit {0}
+abbrev pub IsReading : Form → Text → Result Module ReadError → Type 0
+IsReading form text (Ok m) = Reads form text m
+IsReading form text (Err (e.Lex cause)) = (tokens_of text (max_tokens form) ≡ Err cause) × (cause ≢ lex.NoMemory)
+IsReading form text (Err (e.Refused number what token place)) = IsTextRefused form text number what token place
+IsReading form text (Err e.NoMemory) = Unit {0}
 
 -- the call answers this exactly where the fact holds, unless memory was wanting
 abbrev pub AnswersExactly : Result Module ReadError → Result Module ReadError → Type 0 → Type 0

@@ -1,17 +1,17 @@
 //! What a reader of a whole text answers.
 
-ghost use Rattle.std.specs.Prelude.{◌≡◌, ◌≤◌, ◌<◌, ◌-◌, ◌^◌, drop, length};
+ghost use Rattle.std.specs.Prelude.{◌≡◌, ◌≤◌, ◌<◌, ◌-◌, ◌^◌, length};
 ghost use Rattle.ms_grammar.specs.Texts.{HasTokens, max_bytes, max_tokens as most_tokens, place_in};
 ghost use Rattle.ms_lex.specs.Tokens.{InOrder};
 ghost use Rattle.ms_read_body.specs.Calls as spec;
-ghost use Rattle.ms_read_top.specs.Reading.{IsAnswer, of_lexer};
+ghost use Rattle.ms_read_top.specs.Reading.{IsReading, of_lexer};
 
 use crate::modules::whole_module;
-use ms_cursor::Tokens;
 use ms_grammar::{Form, Refusal};
 use ms_ir::Module;
 use ms_lex::{LexError, Token, tokens};
-use ms_read_body::{ReadError, error_at};
+use ms_read_body::{ReadError, error_at, place_of};
+use ms_read_cursor::Tokens;
 use std::alloc::Global;
 
 /// How many tokens a text may have.
@@ -23,35 +23,6 @@ fn max_tokens(form: Form) -> u32
         Form::Plain => 1 << 20,
         Form::Instrumented => 1 << 25,
     }
-}
-
-/// The byte at which the first of these tokens of a text begins. At the end of the text that is its length.
-fn first_place(text: &[u8], rest: &[Token]) -> u32
-    requires { length text.now < 2 ^ 32 }
-    ensures { result ≡ place_in text.now rest.now 0 }
-{
-    match rest {
-        [] => text.len() as u32,
-        [token, ..] => token.start,
-    }
-}
-
-/// The tokens from this one on.
-fn behind(tokens: &[Token], token: usize) -> &[Token]
-    requires { token ≤ length tokens.now }
-    ensures { result.now ≡ drop token tokens.now }
-{
-    &tokens[token..]
-}
-
-/// The byte at which a token begins. At the end of the text that is its length.
-#[tactic(auto, using(crate::proofs::Told::place_behind))]
-fn place_of(text: &[u8], tokens: &[Token], token: usize) -> u32
-    requires short { length text.now < 2 ^ 32 }
-    requires inside { token ≤ length tokens.now }
-    ensures { result ≡ place_in text.now tokens.now token }
-{
-    first_place(text, behind(tokens, token))
 }
 
 /// The error for a cause at the first of so many tokens that are left of a text.
@@ -69,7 +40,7 @@ fn error_for(text: &[u8], tokens: &[Token], cause: Refusal, left: usize) -> Read
 fn answer(alloc: Global, text: &[u8], tokens: &[Token], form: Form) -> Result<Module, ReadError>
     requires has { HasTokens form text.now tokens.now }
     requires in_order { InOrder tokens.now (length text.now) }
-    ensures { IsAnswer form text.now result }
+    ensures { IsReading form text.now result }
 {
     let mut cursor = Tokens::at(text, tokens, 0);
     match whole_module(alloc, &mut cursor, form) {
@@ -92,7 +63,7 @@ fn without_tokens(error: LexError) -> ReadError
 #[tactic(auto, using(crate::proofs::Told::short_text, crate::proofs::Told::has_tokens, crate::proofs::Told::told_lexer))]
 pub fn answer_for(alloc: Global, text: &[u8], form: Form) -> Result<Module, ReadError>
     requires { length text.now ≤ max_bytes form }
-    ensures { IsAnswer form text.now result }
+    ensures { IsReading form text.now result }
 {
     match tokens(alloc, text, max_tokens(form)) {
         Ok(found) => answer(alloc, text, &found, form),

@@ -3,12 +3,12 @@
 ghost use Rattle.std.specs.Prelude.{◌≡◌, ◌≤◌, IfOk, Ok, true};
 ghost use Rattle.ms_grammar.specs.Bodies.{max_instructions};
 ghost use Rattle.ms_grammar.specs.Modules as spec;
-ghost use Rattle.ms_cursor.specs.Reading.{Gives, run};
+ghost use Rattle.ms_read_cursor.specs.Reading.{Gives, run};
 
 use crate::function_entities::{declaration_entity, function_entity};
-use ms_cursor::{Lexeme, Tokens};
+use crate::other_entities::other_entity;
 use ms_grammar::{Form, Parts, Refusal, Symbol};
-use ms_read_entities::other_entity;
+use ms_read_cursor::{Lexeme, Tokens};
 use std::alloc::Global;
 
 /// Reads an entity behind its first token, with which it may begin. Gives the parts with what it adds to them.
@@ -26,8 +26,8 @@ pub fn entity(
     ensures few { IfOk result (λ p. p.count ≤ max_instructions form) }
 {
     match first.symbol() {
-        Symbol::Declare => Ok(declaration_entity(alloc, tokens, form, parts)?),
-        Symbol::Define => Ok(function_entity(alloc, tokens, form, parts)?),
-        _ => Ok(other_entity(alloc, tokens, form, parts, first)?),
+        Symbol::Declare => declaration_entity(alloc, tokens, form, parts),
+        Symbol::Define => function_entity(alloc, tokens, form, parts),
+        _ => other_entity(alloc, tokens, form, parts, first),
     }
 }

@@ -5,14 +5,14 @@ ghost use Rattle.ms_lex.specs.Grammar.{give, seq};
 ghost use Rattle.ms_grammar.specs.Bodies.{max_instructions};
 ghost use Rattle.ms_grammar.specs.Functions.{declaration as declaration_piece, function as function_piece};
 ghost use Rattle.ms_grammar.specs.Modules as spec;
-ghost use Rattle.ms_cursor.specs.Reading.{Gives, run};
+ghost use Rattle.ms_read_cursor.specs.Reading.{Gives, run};
 
+use crate::more_parts::with_declaration;
 use ms_bits::NoMemory;
-use ms_cursor::{Tokens, with_last};
 use ms_grammar::{Form, Parts, Refusal};
 use ms_ir::{Block, Func, Module};
 use ms_read_body::{declaration, function};
-use ms_read_entities::with_declaration;
+use ms_read_cursor::{Tokens, with_last};
 use std::alloc::Global;
 
 /// How many instructions these blocks have.

@@ -3,10 +3,15 @@
 
 mod answers;
 mod entities;
+mod entity_starts;
 mod function_entities;
+mod global_variables;
+mod left_out;
+mod metadata_nodes;
 mod modules;
+mod more_parts;
+mod named_types;
+mod other_entities;
 mod reading;
-#[cfg(test)]
-mod tests;
 
 pub use reading::read;

@@ -3,14 +3,14 @@
 ghost use Rattle.std.specs.Prelude.{◌≡◌};
 ghost use Rattle.ms_lex.specs.Grammar.{loop};
 ghost use Rattle.ms_grammar.specs.Modules as spec;
-ghost use Rattle.ms_cursor.specs.Reading.{Gives, Judges, run};
+ghost use Rattle.ms_read_cursor.specs.Reading.{Gives, Judges, run};
 
 use crate::entities::entity;
+use crate::entity_starts::entity_begins;
 use ms_bits::List;
-use ms_cursor::{Lexeme, Tokens};
 use ms_grammar::{Form, Parts, Refusal, Symbol};
 use ms_ir::Module;
-use ms_read_entities::entity_begins;
+use ms_read_cursor::{Lexeme, Tokens};
 use std::alloc::Global;
 
 /// Before the first entity.

@@ -6,7 +6,7 @@ ghost use Rattle.ms_lex.specs.Tokens.{tokens_of};
 ghost use Rattle.ms_ir.specs.declared.syntax.Module.{Module as Found};
 ghost use Rattle.ms_grammar.specs.Texts.{Reads, max_bytes, max_tokens};
 ghost use Rattle.ms_read_body.specs.declared.errors.What.{What};
-ghost use Rattle.ms_read_top.specs.Reading.{AnswersExactly, IsRefused};
+ghost use Rattle.ms_read_top.specs.Reading.{AnswersExactly, IsTextRefused};
 
 use crate::answers::answer_for;
 use ms_grammar::Form;
@@ -33,7 +33,7 @@ pub fn read(alloc: Global, text: &[u8], form: Form) -> Result<Module, ReadError>
     ensures module { (m : Found) → AnswersExactly result (Ok m) (Reads form text.now m) }
     ensures lex { (cause : Cause) → AnswersExactly result (Err (ReadError.Lex cause)) (tokens_of text.now (max_tokens form) ≡ Err cause) }
     ensures refused { (number : ℕ) (what : What) (token place : ℕ) →
-        AnswersExactly result (Err (ReadError.Refused number what token place)) (IsRefused form text.now number what token place) }
+        AnswersExactly result (Err (ReadError.Refused number what token place)) (IsTextRefused form text.now number what token place) }
     ensures wanting { result ≢ Err (ReadError.Lex LexError.NoMemory) }
 {
     answer_for(alloc, text, form)

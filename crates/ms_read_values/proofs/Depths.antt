@@ -12,7 +12,7 @@ use Rattle.ms_grammar.specs.Lexemes.{Lexeme}
 use Rattle.ms_grammar.specs.Steps.{Rule, refuse, stop}
 use Rattle.ms_grammar.specs.Types.{type_to, too_deep, nested, opens}
 use Rattle.ms_grammar.specs.Values.{init_to, nested_init, flat_init}
-use Rattle.ms_cursor.specs.Reading.{front, run}
+use Rattle.ms_read_cursor.specs.Reading.{front, run}
 use Rattle.ms_read_values.specs.Parts.{part_of}
 
 pub type_ends : (form : Form) (depth : ℕ) (ts : List Lexeme) → depth ≡ 0 → run (type_to form depth) ts ≡ run (too_deep form (front ts).symbol) ts

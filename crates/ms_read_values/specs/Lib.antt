@@ -1,2 +1,3 @@
 pub mod Narrow
 pub mod Parts
+pub mod ValueTypes

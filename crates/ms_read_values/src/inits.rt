@@ -3,16 +3,15 @@
 ghost use Rattle.std.specs.Prelude.{◌≡◌};
 ghost use Rattle.ms_grammar.specs.Steps.{items, refuse};
 ghost use Rattle.ms_grammar.specs.Values as spec;
-ghost use Rattle.ms_cursor.specs.Reading.{Gives, front, run};
-ghost use Rattle.ms_read_values.specs.Narrow.{IsNarrow};
+ghost use Rattle.ms_read_cursor.specs.Reading.{Gives, front, run};
 ghost use Rattle.ms_read_values.specs.Parts.{part_of};
 
-use crate::types::{opens, packed_brace, type_to};
+use crate::types::{boxed_type, opens, packed_brace};
 use crate::values::value_within;
 use ms_bits::List;
-use ms_cursor::Tokens;
 use ms_grammar::{Form, Limit, Refusal, Symbol};
 use ms_ir::{Init, Ty};
+use ms_read_cursor::Tokens;
 use std::alloc::Global;
 
 /// What opens no bracket.
@@ -23,7 +22,6 @@ fn flat_init(
     depth: u8,
     ty: &Ty,
 ) -> Result<Init, Refusal>
-    requires { IsNarrow ty.now }
     ensures { Gives (run (spec.flat_init form depth ty.now (front tokens.old).symbol) tokens.old) result tokens.new }
 {
     match tokens.peek() {
@@ -57,16 +55,15 @@ pub fn init_to(
     depth: u8,
     ty: &Ty,
 ) -> Result<Init, Refusal>
-    requires { IsNarrow ty.now }
     ensures { Gives (run (spec.init_to form depth ty.now) tokens.old) result tokens.new }
 {
     if !opens(tokens.peek()) {
-        return Ok(flat_init(alloc, tokens, form, depth, ty)?);
+        return flat_init(alloc, tokens, form, depth, ty);
     }
     if depth == 0 {
         return Err(Refusal::Limit(Limit::Types));
     }
-    Ok(nested_init(alloc, tokens, form, depth - 1)?)
+    nested_init(alloc, tokens, form, depth - 1)
 }
 
 /// An initialiser that opens an array or a struct.
@@ -82,15 +79,15 @@ fn nested_init(
     match tokens.peek() {
         Symbol::OpenBracket => {
             tokens.advance();
-            Ok(array_init(alloc, tokens, form, depth)?)
+            array_init(alloc, tokens, form, depth)
         }
         Symbol::OpenBrace => {
             tokens.advance();
-            Ok(struct_init(alloc, tokens, form, depth)?)
+            struct_init(alloc, tokens, form, depth)
         }
         Symbol::Less => {
             tokens.advance();
-            Ok(packed_init(alloc, tokens, form, depth)?)
+            packed_init(alloc, tokens, form, depth)
         }
         _ => Err(tokens.refusal()),
     }
@@ -151,14 +148,14 @@ fn part(
 ) -> Result<(Ty, Init), Refusal>
     ensures { Gives (run (part_of form depth) tokens.old) result tokens.new }
 {
-    let ty = type_to(alloc, tokens, form, depth)?;
-    let init = init_to(alloc, tokens, form, depth, &ty)?;
-    Ok((ty, init))
+    let ty = boxed_type(alloc, tokens, form, depth)?;
+    let init = init_to(alloc, tokens, form, depth, ty.get())?;
+    Ok((ty.into_inner(), init))
 }
 
 /// Parts with commas between, up to the closing symbol.
 #[cycle(inits)]
-#[tactic(auto, using(ms_cursor::proofs::ItemLoops::more_goes, ms_cursor::proofs::ItemLoops::more_stops, ms_cursor::proofs::ItemLoops::more_ends, ms_cursor::proofs::ItemLoops::items_go, ms_cursor::proofs::ItemLoops::items_stop, ms_cursor::proofs::ItemLoops::items_empty, ms_cursor::proofs::ItemLoops::turn_shorter))]
+#[tactic(auto, using(ms_read_cursor::proofs::ItemLoops::more_goes, ms_read_cursor::proofs::ItemLoops::more_stops, ms_read_cursor::proofs::ItemLoops::more_ends, ms_read_cursor::proofs::ItemLoops::items_go, ms_read_cursor::proofs::ItemLoops::items_stop, ms_read_cursor::proofs::ItemLoops::items_empty, ms_read_cursor::proofs::ItemLoops::turn_shorter))]
 fn parts(
     alloc: Global,
     tokens: &mut Tokens<'_>,

@@ -1,21 +1,34 @@
-//! Readers of types and values, exact against the grammar's pieces.
+//! Readers of types and values, and of what is read over: tokens between brackets, attributes, and metadata behind an
+//! instruction. Each is proved exact against the piece of the grammar of its name; one that takes an allocator may also
+//! answer `NoMemory`.
 #![tactic(auto)]
 
+mod attribute_lists;
+mod attribute_words;
+mod awaited;
+mod brackets;
 mod inits;
+mod metadata;
 mod numbers;
 mod offsets;
 mod operations;
-#[cfg(test)]
-mod tests;
+mod suffix_lists;
 mod types;
+mod value_types;
 mod values;
 
+pub use attribute_lists::{attribute_rest, attributes, string_value};
+pub use attribute_words::{is_attribute, is_attribute_word};
+pub use brackets::{balanced, in_parens};
 pub use inits::init_to;
+pub use metadata::{attached_by, attachments, kind_of, meta};
 pub use numbers::number;
 pub use offsets::{index_type_of, offset, step_words};
 pub use operations::{begins_expression, binary_op, cast_op};
+pub use suffix_lists::{attached, suffix, suffixes, suffixes_from};
 pub use types::{
-    int_type, int_type_of, packed_brace, result_type, struct_type, type_to, value_type,
+    boxed_type, int_type, int_type_of, packed_brace, result_type, struct_type, type_to, value_type,
     value_type_of,
 };
-pub use values::{simple_of, value, value_within};
+pub use value_types::{ValueType, result_ty};
+pub use values::{operand, value};

@@ -3,12 +3,12 @@
 ghost use Rattle.std.specs.Prelude.{◌≡◌, ◌≤◌, ◌<◌, ◌^◌, IfOk};
 ghost use Rattle.ms_bits.specs.Signed.{wrap};
 ghost use Rattle.ms_grammar.specs.Values as spec;
-ghost use Rattle.ms_cursor.specs.Reading.{Gives, Judges, run};
+ghost use Rattle.ms_read_cursor.specs.Reading.{Gives, Judges, run};
 ghost use Rattle.ms_read_values.specs.Narrow.{IsWidth};
 
 use ms_bits::words::limit;
-use ms_cursor::{Lexeme, Tokens};
 use ms_grammar::{Refusal, Symbol};
+use ms_read_cursor::{Lexeme, Tokens};
 
 /// Whether a number is one of an integer type: from -2^(width - 1) to 2^width - 1.
 fn fits(width: u8, number: i128) -> bool
@@ -59,7 +59,7 @@ fn number_of(width: u8, token: &Lexeme<'_>) -> Result<u64, Refusal>
     ensures { Judges (spec.number_of width token.now) result }
 {
     if token.is(Symbol::Number) {
-        Ok(number_by(width, token)?)
+        number_by(width, token)
     } else {
         Err(token.refusal())
     }

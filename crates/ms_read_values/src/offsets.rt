@@ -4,15 +4,15 @@ ghost use Rattle.std.specs.Prelude.{◌≡◌, IfOk, length, true};
 ghost use Rattle.ms_lex.specs.Grammar.{give};
 ghost use Rattle.ms_grammar.specs.Steps.{comma_begins};
 ghost use Rattle.ms_grammar.specs.Values as spec;
-ghost use Rattle.ms_cursor.specs.Reading.{Gives, Judges, run};
+ghost use Rattle.ms_read_cursor.specs.Reading.{Gives, Judges, run};
 ghost use Rattle.ms_read_values.specs.Narrow.{IsWidth};
 
 use crate::numbers::number;
-use crate::types::{int_type_of, type_to};
+use crate::types::{boxed_type, int_type_of};
 use ms_bits::List;
-use ms_cursor::{Lexeme, Tokens, Turn, global, repeat, with_last};
 use ms_grammar::{Form, Limit, Refusal, Symbol};
 use ms_ir::{Operand, Ty};
+use ms_read_cursor::{Lexeme, Tokens, Turn, global, repeat, with_last};
 use std::alloc::Global;
 
 fn is_step_word(symbol: Symbol) -> bool
@@ -51,8 +51,7 @@ impl Turn for StepWords {
 pub fn step_words(alloc: Global, tokens: &mut Tokens<'_>) -> Result<(), Refusal>
     ensures { Gives (run spec.step_words tokens.old) result tokens.new }
 {
-    repeat(alloc, tokens, &StepWords, ())?;
-    Ok(())
+    repeat(alloc, tokens, &StepWords, ())
 }
 
 /// The type of an index in front of which so many stand.
@@ -112,7 +111,7 @@ impl Turn for ConstantIndices {
         _first: &Lexeme<'_>,
         tokens: &mut Tokens<'_>,
     ) -> Result<List<(Ty, u64)>, Refusal> {
-        Ok(constant_index(tokens, state)?)
+        constant_index(tokens, state)
     }
 }
 
@@ -121,8 +120,7 @@ fn constant_indices(alloc: Global, tokens: &mut Tokens<'_>) -> Result<List<(Ty, 
     ensures { Gives (run spec.constant_indices tokens.old) result tokens.new }
 {
     let none = List::from_vec(Vec::new(alloc));
-    let indices = repeat(alloc, tokens, &ConstantIndices, none)?;
-    Ok(indices)
+    repeat(alloc, tokens, &ConstantIndices, none)
 }
 
 /// What stands behind `getelementptr` in a constant.
@@ -137,11 +135,11 @@ pub fn offset(
 {
     step_words(alloc, tokens)?;
     tokens.word(Symbol::OpenParen)?;
-    let ty = type_to(alloc, tokens, form, depth)?;
+    let ty = boxed_type(alloc, tokens, form, depth)?;
     tokens.word(Symbol::Comma)?;
     tokens.word(Symbol::PtrType)?;
     let base = global(alloc, tokens, form)?;
     let indices = constant_indices(alloc, tokens)?;
     tokens.word(Symbol::CloseParen)?;
-    Ok(Operand::Offset(ty, base, indices))
+    Ok(Operand::Offset(ty.into_inner(), base, indices))
 }

@@ -5,8 +5,8 @@ ghost use Rattle.std.specs.Prelude.{◌≡◌};
 ghost use Rattle.ms_grammar.specs.Steps as spec;
 
 use ms_bits::{BinOp, CastOp};
-use ms_cursor::same_symbol;
 use ms_grammar::Symbol;
+use ms_read_cursor::same_symbol;
 
 /// The binary operation that a word names.
 #[tactic(auto, unfolding(ms_grammar::specs::Steps::binary_op))]

@@ -1,16 +1,17 @@
 //! Types (LLVM Language Reference, "Type System").
 
-ghost use Rattle.std.specs.Prelude.{◌≡◌, ◌≤◌, IfOk, IfSome};
+ghost use Rattle.std.specs.Prelude.{◌≡◌, IfOk};
 ghost use Rattle.ms_grammar.specs.declared.symbols.Symbol.TheVariants.{CloseBrace};
 ghost use Rattle.ms_grammar.specs.Steps.{items};
 ghost use Rattle.ms_grammar.specs.Types as spec;
-ghost use Rattle.ms_cursor.specs.Reading.{Gives, Judges, front, run};
-ghost use Rattle.ms_read_values.specs.Narrow.{IsNarrow, IsWidth};
+ghost use Rattle.ms_read_cursor.specs.Reading.{Gives, Judges, front, run};
+ghost use Rattle.ms_read_values.specs.Narrow.{IsWidth};
 
+use crate::value_types::ValueType;
 use ms_bits::{Boxed, List};
-use ms_cursor::{Lexeme, Tokens, local, same_symbol};
 use ms_grammar::{Form, Limit, Outside, Refusal, Symbol};
 use ms_ir::Ty;
+use ms_read_cursor::{Lexeme, Tokens, local, same_symbol};
 use std::alloc::Global;
 
 /// The width of the integer type that a token is.
@@ -41,13 +42,12 @@ pub fn int_type(tokens: &mut Tokens<'_>) -> Result<u8, Refusal>
 /// # Errors
 ///
 /// `Outside(AggregateValue)` where it begins an array or a struct or names a type.
-pub fn value_type_of(token: &Lexeme<'_>) -> Result<Ty, Refusal>
-    ensures exact { Judges (spec.value_type_by token.now.symbol token.now) result }
-    ensures narrow { IfOk result IsNarrow }
+pub fn value_type_of(token: &Lexeme<'_>) -> Result<ValueType, Refusal>
+    ensures { Judges (spec.value_type_by token.now.symbol token.now) result }
 {
     match token.symbol() {
-        Symbol::PtrType => Ok(Ty::Ptr),
-        Symbol::IntType => Ok(Ty::Int(token.width())),
+        Symbol::PtrType => Ok(ValueType::ptr()),
+        Symbol::IntType => Ok(ValueType::int(token.width())),
         Symbol::OpenBracket
         | Symbol::OpenBrace
         | Symbol::Less
@@ -59,9 +59,8 @@ pub fn value_type_of(token: &Lexeme<'_>) -> Result<Ty, Refusal>
 
 /// Takes the type of a value: `iN` or `ptr`.
 #[tactic(auto, unfolding(ms_grammar::specs::Types::value_type))]
-pub fn value_type(tokens: &mut Tokens<'_>) -> Result<Ty, Refusal>
-    ensures exact { Gives (run spec.value_type tokens.old) result tokens.new }
-    ensures narrow { IfOk result IsNarrow }
+pub fn value_type(tokens: &mut Tokens<'_>) -> Result<ValueType, Refusal>
+    ensures { Gives (run spec.value_type tokens.old) result tokens.new }
 {
     let ty = value_type_of(&tokens.lexeme())?;
     tokens.advance();
@@ -70,9 +69,8 @@ pub fn value_type(tokens: &mut Tokens<'_>) -> Result<Ty, Refusal>
 
 /// Takes `void`, which is no type, or the type of a value.
 #[tactic(auto, unfolding(ms_grammar::specs::Types::result_type))]
-pub fn result_type(tokens: &mut Tokens<'_>) -> Result<Option<Ty>, Refusal>
-    ensures exact { Gives (run spec.result_type tokens.old) result tokens.new }
-    ensures narrow { IfOk result (λ ty. IfSome ty IsNarrow) }
+pub fn result_type(tokens: &mut Tokens<'_>) -> Result<Option<ValueType>, Refusal>
+    ensures { Gives (run spec.result_type tokens.old) result tokens.new }
 {
     match tokens.peek() {
         Symbol::Void => {
@@ -116,13 +114,12 @@ fn count(tokens: &mut Tokens<'_>) -> Result<u64, Refusal>
 
 /// What opens no bracket.
 fn flat(alloc: Global, tokens: &mut Tokens<'_>, form: Form) -> Result<Ty, Refusal>
-    ensures exact { Gives (run (spec.flat form (front tokens.old).symbol) tokens.old) result tokens.new }
-    ensures narrow { IfOk result IsNarrow }
+    ensures { Gives (run (spec.flat form (front tokens.old).symbol) tokens.old) result tokens.new }
 {
     match tokens.peek() {
         Symbol::PtrType | Symbol::IntType => {
             let ty = value_type(tokens)?;
-            Ok(ty)
+            Ok(ty.ty())
         }
         Symbol::Local | Symbol::NumberedLocal => {
             let name = local(alloc, tokens, form)?;
@@ -142,14 +139,12 @@ pub fn opens(symbol: Symbol) -> bool
 }
 
 fn too_deep(alloc: Global, tokens: &mut Tokens<'_>, form: Form) -> Result<Ty, Refusal>
-    ensures exact { Gives (run (spec.too_deep form (front tokens.old).symbol) tokens.old) result tokens.new }
-    ensures narrow { IfOk result IsNarrow }
+    ensures { Gives (run (spec.too_deep form (front tokens.old).symbol) tokens.old) result tokens.new }
 {
     if opens(tokens.peek()) {
         return Err(Refusal::Limit(Limit::Types));
     }
-    let ty = flat(alloc, tokens, form)?;
-    Ok(ty)
+    flat(alloc, tokens, form)
 }
 
 fn brace_of(token: &Lexeme<'_>) -> Result<(), Refusal>
@@ -186,56 +181,65 @@ pub fn packed_brace(tokens: &mut Tokens<'_>) -> Result<(), Refusal>
 #[cycle(types)]
 #[tactic(auto, using(crate::proofs::Depths::type_ends, crate::proofs::Depths::type_nests))]
 pub fn type_to(alloc: Global, tokens: &mut Tokens<'_>, form: Form, depth: u8) -> Result<Ty, Refusal>
-    ensures exact { Gives (run (spec.type_to form depth) tokens.old) result tokens.new }
-    ensures narrow { IfOk result IsNarrow }
+    ensures { Gives (run (spec.type_to form depth) tokens.old) result tokens.new }
 {
     if depth == 0 {
-        return Ok(too_deep(alloc, tokens, form)?);
+        return too_deep(alloc, tokens, form);
     }
-    Ok(nested(alloc, tokens, form, depth - 1)?)
+    nested(alloc, tokens, form, depth - 1)
+}
+
+/// Takes a type in which at most so many arrays and structs may still open, onto the heap. Its errors are those of `type_to`.
+pub fn boxed_type(
+    alloc: Global,
+    tokens: &mut Tokens<'_>,
+    form: Form,
+    depth: u8,
+) -> Result<Boxed<Ty>, Refusal>
+    ensures { Gives (run (spec.type_to form depth) tokens.old) result tokens.new }
+{
+    let ty = type_to(alloc, tokens, form, depth)?;
+    Ok(Boxed::new(alloc, ty)?)
 }
 
 /// A type by its first token, with its parts.
 #[cycle(types)]
 fn nested(alloc: Global, tokens: &mut Tokens<'_>, form: Form, depth: u8) -> Result<Ty, Refusal>
-    ensures exact { Gives (run (spec.nested form (spec.type_to form depth) (front tokens.old).symbol) tokens.old) result tokens.new }
-    ensures narrow { IfOk result IsNarrow }
+    ensures { Gives (run (spec.nested form (spec.type_to form depth) (front tokens.old).symbol) tokens.old) result tokens.new }
 {
     match tokens.peek() {
         Symbol::OpenBracket => {
             tokens.advance();
-            Ok(array_rest(alloc, tokens, form, depth)?)
+            array_rest(alloc, tokens, form, depth)
         }
         Symbol::OpenBrace => {
             tokens.advance();
-            Ok(struct_rest(alloc, tokens, form, depth)?)
+            struct_rest(alloc, tokens, form, depth)
         }
         Symbol::Less => {
             tokens.advance();
-            Ok(packed_rest(alloc, tokens, form, depth)?)
+            packed_rest(alloc, tokens, form, depth)
         }
-        _ => Ok(flat(alloc, tokens, form)?),
+        _ => flat(alloc, tokens, form),
     }
 }
 
 #[cycle(types)]
 #[tactic(auto, unfolding(ms_grammar::specs::Types::array_rest))]
 fn array_rest(alloc: Global, tokens: &mut Tokens<'_>, form: Form, depth: u8) -> Result<Ty, Refusal>
-    ensures exact { Gives (run (spec.array_rest (spec.type_to form depth)) tokens.old) result tokens.new }
-    ensures narrow { IfOk result IsNarrow }
+    ensures { Gives (run (spec.array_rest (spec.type_to form depth)) tokens.old) result tokens.new }
 {
     let n = count(tokens)?;
     tokens.word(Symbol::X)?;
-    let item = type_to(alloc, tokens, form, depth)?;
+    let item = Boxed::new(alloc, type_to(alloc, tokens, form, depth)?)?;
     tokens.word(Symbol::CloseBracket)?;
-    Ok(Ty::Array(n, Boxed::new(alloc, item)?))
+    Ok(Ty::Array(n, item))
 }
 
 #[cycle(types)]
 #[tactic(auto, unfolding(ms_grammar::specs::Types::struct_rest))]
 fn struct_rest(alloc: Global, tokens: &mut Tokens<'_>, form: Form, depth: u8) -> Result<Ty, Refusal>
-    ensures exact { Gives (run (spec.struct_rest (spec.type_to form depth)) tokens.old) result tokens.new }
-    ensures narrow { IfOk result IsNarrow }
+    ensures { Gives (run (spec.struct_rest (spec.type_to form depth)) tokens.old) result tokens.new }
 {
     let all = fields(alloc, tokens, form, depth)?;
     Ok(Ty::Struct(false, all))
@@ -244,8 +248,7 @@ fn struct_rest(alloc: Global, tokens: &mut Tokens<'_>, form: Form, depth: u8) ->
 #[cycle(types)]
 #[tactic(auto, unfolding(ms_grammar::specs::Types::packed_rest))]
 fn packed_rest(alloc: Global, tokens: &mut Tokens<'_>, form: Form, depth: u8) -> Result<Ty, Refusal>
-    ensures exact { Gives (run (spec.packed_rest (spec.type_to form depth)) tokens.old) result tokens.new }
-    ensures narrow { IfOk result IsNarrow }
+    ensures { Gives (run (spec.packed_rest (spec.type_to form depth)) tokens.old) result tokens.new }
 {
     packed_brace(tokens)?;
     let all = fields(alloc, tokens, form, depth)?;
@@ -255,7 +258,7 @@ fn packed_rest(alloc: Global, tokens: &mut Tokens<'_>, form: Form, depth: u8) ->
 
 /// Types with commas between, up to `}`.
 #[cycle(types)]
-#[tactic(auto, using(ms_cursor::proofs::ItemLoops::more_goes, ms_cursor::proofs::ItemLoops::more_stops, ms_cursor::proofs::ItemLoops::more_ends, ms_cursor::proofs::ItemLoops::items_go, ms_cursor::proofs::ItemLoops::items_stop, ms_cursor::proofs::ItemLoops::items_empty, ms_cursor::proofs::ItemLoops::turn_shorter))]
+#[tactic(auto, using(ms_read_cursor::proofs::ItemLoops::more_goes, ms_read_cursor::proofs::ItemLoops::more_stops, ms_read_cursor::proofs::ItemLoops::more_ends, ms_read_cursor::proofs::ItemLoops::items_go, ms_read_cursor::proofs::ItemLoops::items_stop, ms_read_cursor::proofs::ItemLoops::items_empty, ms_read_cursor::proofs::ItemLoops::turn_shorter))]
 fn fields(
     alloc: Global,
     tokens: &mut Tokens<'_>,
@@ -286,11 +289,11 @@ pub fn struct_type(alloc: Global, tokens: &mut Tokens<'_>, form: Form) -> Result
     match tokens.peek() {
         Symbol::OpenBrace => {
             tokens.advance();
-            Ok(struct_rest(alloc, tokens, form, 31)?)
+            struct_rest(alloc, tokens, form, 31)
         }
         Symbol::Less => {
             tokens.advance();
-            Ok(packed_rest(alloc, tokens, form, 31)?)
+            packed_rest(alloc, tokens, form, 31)
         }
         _ => Err(tokens.refusal()),
     }

@@ -1,26 +1,37 @@
 //! Values by the type in front of them (LLVM Language Reference, "Constants").
 
-ghost use Rattle.std.specs.Prelude.{◌≡◌, ◌≢◌};
+ghost use Rattle.std.specs.Prelude.{◌≡◌, ◌≢◌, Some};
 ghost use Rattle.ms_grammar.specs.Types as types;
 ghost use Rattle.ms_grammar.specs.Values as spec;
-ghost use Rattle.ms_cursor.specs.Reading.{Gives, Judges, run};
-ghost use Rattle.ms_read_values.specs.Narrow.{IsNarrow};
+ghost use Rattle.ms_read_cursor.specs.Reading.{Gives, Judges, run};
 
 use crate::numbers::number_by;
 use crate::offsets::offset;
 use crate::operations::begins_expression;
-use ms_cursor::{Lexeme, Tokens, global_by, local_by};
+use crate::value_types::ValueType;
+use ms_bits::Boxed;
 use ms_grammar::{Form, Outside, Refusal, Symbol};
 use ms_ir::{Operand, Ty};
+use ms_read_cursor::{Lexeme, Tokens, global_by, local_by};
 use std::alloc::Global;
+
+/// The number that a token spells, behind an integer type of this width, which is one that a type may have.
+fn int_of(width: u8, token: &Lexeme<'_>) -> Result<Operand, Refusal>
+    ensures { Judges (spec.int_value (Some width) token.now) result }
+{
+    if width >= 1 && width <= 64 {
+        Ok(Operand::Int(number_by(width, token)?))
+    } else {
+        Err(token.refusal())
+    }
+}
 
 /// The number that a token spells, behind `iN` alone.
 fn int_value(ty: &Ty, token: &Lexeme<'_>) -> Result<Operand, Refusal>
-    requires { IsNarrow ty.now }
     ensures { Judges (spec.int_value (types.int_width ty.now) token.now) result }
 {
     match ty {
-        Ty::Int(width) => Ok(Operand::Int(number_by(*width, token)?)),
+        Ty::Int(width) => int_of(*width, token),
         _ => Err(token.refusal()),
     }
 }
@@ -91,17 +102,16 @@ pub fn simple_of(
     ty: &Ty,
     token: &Lexeme<'_>,
 ) -> Result<Operand, Refusal>
-    requires { IsNarrow ty.now }
     ensures { Judges (spec.simple_by form locals ty.now token.now.symbol token.now) result }
 {
     match token.symbol() {
-        Symbol::Number => Ok(int_value(ty, token)?),
-        Symbol::True => Ok(truth_value(ty, 1, token)?),
-        Symbol::False => Ok(truth_value(ty, 0, token)?),
-        Symbol::Null => Ok(null_value(ty, token)?),
+        Symbol::Number => int_value(ty, token),
+        Symbol::True => truth_value(ty, 1, token),
+        Symbol::False => truth_value(ty, 0, token),
+        Symbol::Null => null_value(ty, token),
         Symbol::Undef => Ok(Operand::Undef),
         Symbol::Poison => Ok(Operand::Poison),
-        Symbol::Local | Symbol::NumberedLocal => Ok(local_value(alloc, form, locals, token)?),
+        Symbol::Local | Symbol::NumberedLocal => local_value(alloc, form, locals, token),
         Symbol::Global => Ok(Operand::Global(global_by(alloc, form, token)?)),
         _ => Err(no_value(token)),
     }
@@ -115,7 +125,6 @@ fn simple_value(
     locals: bool,
     ty: &Ty,
 ) -> Result<Operand, Refusal>
-    requires { IsNarrow ty.now }
     ensures { Gives (run (spec.simple_value form locals ty.now) tokens.old) result tokens.new }
 {
     let value = simple_of(alloc, form, locals, ty, &tokens.lexeme())?;
@@ -133,27 +142,38 @@ pub fn value_within(
     locals: bool,
     ty: &Ty,
 ) -> Result<Operand, Refusal>
-    requires { IsNarrow ty.now }
     ensures { Gives (run (spec.value_within form depth locals ty.now) tokens.old) result tokens.new }
 {
     match tokens.peek() {
         Symbol::GetElementPtr => {
             tokens.advance();
-            Ok(offset(alloc, tokens, form, depth)?)
+            offset(alloc, tokens, form, depth)
         }
-        _ => Ok(simple_value(alloc, tokens, form, locals, ty)?),
+        _ => simple_value(alloc, tokens, form, locals, ty),
     }
 }
 
-/// Takes an operand of an instruction.
-pub fn value(
+/// Takes a value of any type, where a local may stand.
+pub fn operand(
     alloc: Global,
     tokens: &mut Tokens<'_>,
     form: Form,
     ty: &Ty,
 ) -> Result<Operand, Refusal>
-    requires { IsNarrow ty.now }
     ensures { Gives (run (spec.value form ty.now) tokens.old) result tokens.new }
 {
-    Ok(value_within(alloc, tokens, form, 32, true, ty)?)
+    value_within(alloc, tokens, form, 32, true, ty)
+}
+
+/// Takes an operand of an instruction, behind its type.
+pub fn value(
+    alloc: Global,
+    tokens: &mut Tokens<'_>,
+    form: Form,
+    ty: ValueType,
+) -> Result<Boxed<Operand>, Refusal>
+    ensures { Gives (run (spec.value form ty) tokens.old) result tokens.new }
+{
+    let operand = operand(alloc, tokens, form, &ty.ty())?;
+    Ok(Boxed::new(alloc, operand)?)
 }

@@ -5,7 +5,5 @@ mod functions;
 mod instructions;
 mod modules;
 mod operations;
-#[cfg(test)]
-mod tests;
 
 pub use modules::write;

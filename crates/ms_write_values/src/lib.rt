@@ -4,11 +4,13 @@
 mod inits;
 mod names;
 mod numbers;
+mod spelling;
 mod types;
 mod values;
 mod words;
 mod writer;
 
+pub use spelling::{push_name, push_number};
 pub use types::width_of;
 pub use words::{binary_word, cast_word, predicate_word};
 pub use writer::Writer;

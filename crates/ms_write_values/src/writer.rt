@@ -1,9 +1,12 @@
 //! A text that is written token by token, in one buffer that grows.
 ghost use Rattle.std.specs.Prelude.{◌≡◌, ◌++◌, [], ◌∷◌, IfOk, Some, decimal};
+ghost use Rattle.ms_written.specs.Names.{name_text, quoted as quoted_of};
 ghost use Rattle.ms_write_values.specs.Sheets.{empty, first_byte as first_byte_of, are_near as are_near_of, gap, grown, put_text, opened, ended};
 
+use crate::spelling::{push_name, push_number, push_quoted};
 use itoa::Buffer;
 use ms_bits::NoMemory;
+use ms_ir::Name;
 use std::alloc::Global;
 use std::marker::Model;
 
@@ -111,9 +114,21 @@ impl Writer {
     pub fn digits(&mut self, number: u64) -> Result<(), NoMemory>
         ensures { IfOk result (λ _. self.new ≡ grown self.old (decimal number)) }
     {
-        let mut buffer = Buffer::new();
-        self.more(buffer.format(number).as_bytes())?;
-        Ok(())
+        push_number(&mut self.bytes, number)
+    }
+
+    /// Writes a name without its sign, behind the bytes of a token.
+    pub fn name(&mut self, name: &Name) -> Result<(), NoMemory>
+        ensures { IfOk result (λ _. self.new ≡ grown self.old (name_text name.now)) }
+    {
+        push_name(&mut self.bytes, name)
+    }
+
+    /// Writes bytes between quotes, behind the bytes of a token.
+    pub fn quoted(&mut self, bytes: &[u8]) -> Result<(), NoMemory>
+        ensures { IfOk result (λ _. self.new ≡ grown self.old (quoted_of bytes.now)) }
+    {
+        push_quoted(&mut self.bytes, bytes)
     }
 
     /// Writes a number in decimal digits, as a token.

@@ -14,7 +14,7 @@ use Rattle.ms_ir.specs.declared.syntax.Operand.{Operand}
 use Rattle.ms_ir.specs.declared.syntax.Operand.TheVariants as operand
 use Rattle.ms_ir.specs.declared.syntax.Ty.{Ty}
 use Rattle.ms_ir.specs.declared.syntax.Ty as ty
-use Rattle.ms_ir.specs.First.{no_flags}
+use Rattle.ms_bits.specs.NoFlags.{no_flags}
 use Rattle.ms_ir.specs.ExampleParts.{i1, i8, i16, i32, i64, local, int, undef, sets, does, declares, ret, block, main_func, alloca, typed}
 use Rattle.ms_ir.specs.ExampleCalls.{malloc, free, putchar, msan_check, msan_load_origin}
 use Rattle.ms_grammar.specs.ExampleModules.{variable, named_block}

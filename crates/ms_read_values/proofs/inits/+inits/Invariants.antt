@@ -1,9 +1,9 @@
 use Rattle.std.proofs.Common.{◌≡◌, ℕ, ◌+◌, ◌*◌, length}
 use Rattle.ms_lex.specs.Grammar.{and_then}
 use Rattle.ms_grammar.specs.Steps.{items}
-use Rattle.ms_cursor.specs.Reading.{run}
-use Rattle.ms_cursor.proofs.Further.{closed}
-use Rattle.ms_cursor.proofs.ItemLoops.{further_items}
+use Rattle.ms_read_cursor.specs.Reading.{run}
+use Rattle.ms_read_cursor.proofs.Further.{closed}
+use Rattle.ms_read_cursor.proofs.ItemLoops.{further_items}
 use Rattle.ms_read_values.specs.Parts.{part_of}
 use Rattle.ms_read_values.proofs.inits.+inits.Given as goal
 

@@ -3,9 +3,9 @@ use Rattle.ms_lex.specs.Grammar.{and_then}
 use Rattle.ms_grammar.specs.declared.symbols.Symbol.TheVariants.{CloseBrace}
 use Rattle.ms_grammar.specs.Steps.{items}
 use Rattle.ms_grammar.specs.Types.{type_to}
-use Rattle.ms_cursor.specs.Reading.{run}
-use Rattle.ms_cursor.proofs.Further.{closed}
-use Rattle.ms_cursor.proofs.ItemLoops.{further_items}
+use Rattle.ms_read_cursor.specs.Reading.{run}
+use Rattle.ms_read_cursor.proofs.Further.{closed}
+use Rattle.ms_read_cursor.proofs.ItemLoops.{further_items}
 use Rattle.ms_read_values.proofs.types.+types.Given as goal
 
 abbrev pub decreases-type_to : goal.decreases-type_to

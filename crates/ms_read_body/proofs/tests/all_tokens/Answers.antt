@@ -1,6 +1,0 @@
-use Rattle.std.proofs.Common.{arith}
-use Rattle.ms_read_body.proofs.Answering.{are_tokens}
-use Rattle.ms_read_body.proofs.tests.all_tokens.Goals as goal
-
-pub returns : goal.returns
-returns c = are_tokens c.args.text.now 1000 c.tokens.result c.requires (omega arith) c.tokens.ensures.exact

@@ -1,0 +1,59 @@
+//! Lists with commas between, each item of which goes on from what was read before it.
+
+ghost use Rattle.std.specs.Prelude.{◌≡◌};
+ghost use Rattle.ms_grammar.specs.Steps as spec;
+ghost use Rattle.ms_read_cursor.specs.Reading.{Gives, run};
+
+use crate::cursor::Tokens;
+use ms_grammar::{Refusal, Symbol};
+use std::alloc::Global;
+
+/// What reads one item, from the state that the items before it left.
+pub trait Series {
+    /// What was read so far.
+    type State: Drop;
+
+    ghost use Rattle.std.specs.Prelude.{Bool};
+    ghost use Rattle.ms_grammar.specs.Steps.{Rule as Piece};
+    ghost use Rattle.ms_read_cursor.specs.Reading.{Gives, run};
+
+    ghost more: { Self → Self.State → Bool };
+
+    ghost item: { Self → Self.State → Piece Self.State };
+
+    /// Whether a further item may come.
+    fn has_more(&self, state: &Self::State) -> bool
+        ensures { result ≡ more self.now state.now };
+
+    fn read(
+        &self,
+        alloc: Global,
+        state: Self::State,
+        tokens: &mut Tokens<'_>,
+    ) -> Result<Self::State, Refusal>
+        ensures { Gives (run (item self.now state) tokens.old) result tokens.new };
+}
+
+/// No item, or items with commas between, and the closing symbol.
+#[tactic(auto, using(crate::proofs::Further::more_goes, crate::proofs::Further::more_stops, crate::proofs::Further::more_ends, crate::proofs::Further::no_more, crate::proofs::Further::listed_goes, crate::proofs::Further::listed_stops, crate::proofs::Further::listed_empty, crate::proofs::Further::turn_shorter))]
+pub fn listed<S: Series>(
+    alloc: Global,
+    tokens: &mut Tokens<'_>,
+    closing: Symbol,
+    rule: &S,
+    start: S::State,
+) -> Result<S::State, Refusal>
+    ensures { Gives (run (spec.listed closing (S.more rule.now) (S.item rule.now) start) tokens.old) result tokens.new }
+{
+    if tokens.sees(closing) {
+        tokens.advance();
+        return Ok(start);
+    }
+    let mut state = rule.read(alloc, start, tokens)?;
+    'commas: while rule.has_more(&state) && tokens.sees(Symbol::Comma) {
+        tokens.advance();
+        state = rule.read(alloc, state, tokens)?;
+    }
+    tokens.word(closing)?;
+    Ok(state)
+}

@@ -1,0 +1,67 @@
+//! Turns of one kind after another, each of which takes the token that begins it.
+
+ghost use Rattle.std.specs.Prelude.{◌≡◌, Ok, true, length};
+ghost use Rattle.ms_lex.specs.Grammar.{loop};
+ghost use Rattle.ms_read_cursor.specs.Reading.{Gives, run};
+
+use crate::cursor::Tokens;
+use crate::lexemes::Lexeme;
+use ms_grammar::Refusal;
+use std::alloc::Global;
+
+/// What reads a turn. A loop of the grammar goes on from a state as long as the next token begins a turn.
+pub trait Turn {
+    /// What was read so far.
+    type State: Drop;
+
+    ghost use Rattle.std.specs.Prelude.{Bool, Ok, true};
+    ghost use Rattle.ms_grammar.specs.Lexemes.{Lexeme as Seen};
+    ghost use Rattle.ms_grammar.specs.Steps.{Rule as Piece, Verdict};
+    ghost use Rattle.ms_read_cursor.specs.Reading.{Gives, Judges, run};
+
+    ghost begins: { Self → Self.State → Seen → Verdict Bool };
+
+    ghost body: { Self → Self.State → Seen → Piece Self.State };
+
+    /// Whether this token, which comes next, begins a turn, or why it can't stand.
+    fn goes_on(
+        &self,
+        alloc: Global,
+        state: &Self::State,
+        first: &Lexeme<'_>,
+    ) -> Result<bool, Refusal>
+        ensures { Judges (begins self.now state.now first.now) result };
+
+    /// Reads the rest of a turn, behind its first token.
+    fn turn(
+        &self,
+        alloc: Global,
+        state: Self::State,
+        first: &Lexeme<'_>,
+        tokens: &mut Tokens<'_>,
+    ) -> Result<Self::State, Refusal>
+        requires { begins self.now state first.now ≡ Ok true }
+        ensures { Gives (run (body self.now state first.now) tokens.old) result tokens.new };
+}
+
+/// Turn after turn, as long as the next token begins one.
+#[tactic(auto, using(ms_lex::proofs::Loops::loop_goes, ms_lex::proofs::Loops::loop_ends, ms_lex::proofs::Loops::loop_stops, ms_lex::proofs::Loops::loop_moves, ms_lex::proofs::Loops::loop_all))]
+pub fn repeat<T: Turn>(
+    alloc: Global,
+    tokens: &mut Tokens<'_>,
+    rule: &T,
+    state: T::State,
+) -> Result<T::State, Refusal>
+    ensures { Gives (run (loop (T.begins rule.now) (T.body rule.now) state) tokens.old) result tokens.new }
+{
+    let mut state = state;
+    'turns: while tokens.left() > 0 {
+        let first = tokens.lexeme();
+        if !rule.goes_on(alloc, &state, &first)? {
+            return Ok(state);
+        }
+        tokens.advance();
+        state = rule.turn(alloc, state, &first, tokens)?;
+    }
+    Ok(state)
+}

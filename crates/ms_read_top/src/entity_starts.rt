@@ -1,0 +1,83 @@
+//! Which token begins an entity, and what refuses it there.
+
+ghost use Rattle.ms_grammar.specs.Modules as spec;
+ghost use Rattle.ms_read_cursor.specs.Reading.{Judges};
+
+use ms_grammar::{Form, Limit, Parts, Refusal, Symbol};
+use ms_ir::Module;
+use ms_read_cursor::{Lexeme, local_by, name_fits, reserved_global};
+use std::alloc::Global;
+
+/// Functions and declarations of a module together.
+const MAX_FUNCTIONS: usize = 16384;
+
+/// Globals of a module.
+const MAX_GLOBALS: usize = 16384;
+
+/// Whether there is room for one more function or declaration behind this module.
+fn room_for_function(before: &Module) -> Result<bool, Refusal>
+    ensures { Judges (spec.room_for_function before.now) result }
+{
+    let functions = before.funcs.as_slice().len();
+    let declarations = before.decls.as_slice().len();
+    if functions < MAX_FUNCTIONS && declarations < MAX_FUNCTIONS - functions {
+        Ok(true)
+    } else {
+        Err(Refusal::Limit(Limit::Functions))
+    }
+}
+
+/// Whether a global of the name that a token is may stand behind this module.
+fn global_begins(
+    alloc: Global,
+    form: Form,
+    before: &Module,
+    token: &Lexeme<'_>,
+) -> Result<bool, Refusal>
+    ensures { Judges (spec.global_begins form before.now token.now) result }
+{
+    let name = token.name(alloc)?;
+    let text = name.as_slice();
+    if reserved_global(form, text) {
+        Err(Refusal::Reserved)
+    } else if before.globals.as_slice().len() >= MAX_GLOBALS {
+        Err(Refusal::Limit(Limit::Globals))
+    } else if name_fits(text) {
+        Ok(true)
+    } else {
+        Err(Refusal::Limit(Limit::Name))
+    }
+}
+
+/// Whether an entity begins with this token, in a module with these parts in front of it.
+///
+/// # Errors
+///
+/// - `Reserved` at a name that the form doesn't have.
+/// - `Numbering` at a type's number above 2^32 - 1.
+/// - `Limit(Functions)` at `define` or `declare`, and `Limit(Globals)` at a global's name, where there is no room.
+/// - `Limit(Name)` at a name of more than 1024 bytes.
+#[tactic(auto, unfolding(ms_grammar::specs::Modules::entity_begins))]
+pub fn entity_begins(
+    alloc: Global,
+    form: Form,
+    parts: &Parts,
+    token: &Lexeme<'_>,
+) -> Result<bool, Refusal>
+    ensures { Judges (spec.entity_begins form parts.now token.now) result }
+{
+    match token.symbol() {
+        Symbol::SourceFilename
+        | Symbol::Target
+        | Symbol::Attributes
+        | Symbol::Meta
+        | Symbol::NoSanitize => Ok(true),
+        Symbol::Local | Symbol::NumberedLocal => {
+            local_by(alloc, form, token)?;
+            Ok(true)
+        }
+        Symbol::Global => global_begins(alloc, form, &parts.module, token),
+        Symbol::Declare | Symbol::Define => room_for_function(&parts.module),
+        _ => Ok(false),
+    }
+}

@@ -1,0 +1,148 @@
+//! Global variables (LLVM Language Reference, "Global Variables").
+
+ghost use Rattle.std.specs.Prelude.{true};
+ghost use Rattle.ms_lex.specs.Grammar.{give, loop};
+ghost use Rattle.ms_grammar.specs.Modules as spec;
+ghost use Rattle.ms_grammar.specs.Steps.{comma_begins};
+ghost use Rattle.ms_read_cursor.specs.Reading.{Gives, Judges, front, run};
+
+use ms_bits::Boxed;
+use ms_grammar::{Form, Outside, Refusal, Symbol};
+use ms_ir::{GlobalVar, Name};
+use ms_read_cursor::{Lexeme, Tokens, Turn, repeat};
+use ms_read_values::{boxed_type, init_to, is_attribute_word, kind_of, meta};
+use std::alloc::Global;
+
+/// How many arrays and structs may be open at once.
+const MAX_DEPTH: u8 = 32;
+
+/// Words of linkage.
+#[derive(Clone, Copy)]
+struct EachLinkageWord {}
+
+impl Turn for EachLinkageWord {
+    type State = ();
+
+    ghost use Rattle.ms_lex.specs.Grammar.{give};
+    ghost use Rattle.ms_grammar.specs.Modules.{linkage_word_begins};
+
+    ghost begins = { λ rule. linkage_word_begins };
+
+    ghost body = { λ rule u t. give tt };
+
+    fn goes_on(&self, _alloc: Global, _state: &(), first: &Lexeme<'_>) -> Result<bool, Refusal> {
+        Ok(is_attribute_word(first.symbol()))
+    }
+
+    fn turn(
+        &self,
+        _alloc: Global,
+        _state: (),
+        _first: &Lexeme<'_>,
+        _tokens: &mut Tokens<'_>,
+    ) -> Result<(), Refusal> {
+        Ok(())
+    }
+}
+
+/// Whether a global is constant, by its token.
+fn global_kind_of(token: &Lexeme<'_>) -> Result<bool, Refusal>
+    ensures { Judges (spec.global_kind_of token.now) result }
+{
+    match token.symbol() {
+        Symbol::GlobalWord => Ok(false),
+        Symbol::ConstantWord => Ok(true),
+        Symbol::ExternalWord => Err(Refusal::Outside(Outside::ExternalGlobal)),
+        _ => Err(token.refusal()),
+    }
+}
+
+/// Reads an alignment, a section or attached metadata, behind its comma.
+///
+/// # Errors
+///
+/// `Syntax` or `Outside` at a token that is another, and those of `kind_of` at the kind of metadata.
+#[tactic(auto, unfolding(ms_grammar::specs::Modules::global_suffix))]
+pub fn global_suffix(tokens: &mut Tokens<'_>, form: Form) -> Result<(), Refusal>
+    ensures { Gives (run (spec.global_suffix form) tokens.old) result tokens.new }
+{
+    match tokens.peek() {
+        Symbol::Align => {
+            tokens.advance();
+            tokens.word(Symbol::Number)
+        }
+        Symbol::Section => {
+            tokens.advance();
+            tokens.word(Symbol::Str)
+        }
+        _ => {
+            kind_of(form, &tokens.lexeme())?;
+            tokens.advance();
+            meta(tokens)
+        }
+    }
+}
+
+/// What may stand behind a global, each behind its comma.
+#[derive(Clone, Copy)]
+struct EachSuffix {
+    form: Form,
+}
+
+impl Turn for EachSuffix {
+    type State = ();
+
+    ghost use Rattle.std.specs.Prelude.{true};
+    ghost use Rattle.ms_grammar.specs.Modules.{global_suffix};
+    ghost use Rattle.ms_grammar.specs.Steps.{comma_begins};
+
+    ghost begins = { λ rule. comma_begins (λ u. true) };
+
+    ghost body = { λ rule u comma. global_suffix rule.form };
+
+    fn goes_on(&self, _alloc: Global, _state: &(), first: &Lexeme<'_>) -> Result<bool, Refusal> {
+        Ok(first.is(Symbol::Comma))
+    }
+
+    fn turn(
+        &self,
+        _alloc: Global,
+        _state: (),
+        _first: &Lexeme<'_>,
+        tokens: &mut Tokens<'_>,
+    ) -> Result<(), Refusal> {
+        global_suffix(tokens, self.form)
+    }
+}
+
+/// Reads a global of this name, behind the name: words of linkage, `global` or `constant`, its type, its initial value,
+/// and what may stand behind them.
+///
+/// # Errors
+///
+/// `Outside(ExternalGlobal)` at `external` and `extern_weak`, `Syntax` or `Outside` at another token that can't stand, and
+/// those of `type_to`, `init_to` and `global_suffix`.
+#[tactic(auto, unfolding(ms_grammar::specs::Modules::global_variable))]
+pub fn global_variable(
+    alloc: Global,
+    tokens: &mut Tokens<'_>,
+    form: Form,
+    name: Name,
+) -> Result<Boxed<GlobalVar>, Refusal>
+    ensures { Gives (run (spec.global_variable form name) tokens.old) result tokens.new }
+{
+    tokens.word(Symbol::Equals)?;
+    repeat(alloc, tokens, &EachLinkageWord {}, ())?;
+    let constant = global_kind_of(&tokens.lexeme())?;
+    tokens.advance();
+    let ty = boxed_type(alloc, tokens, form, MAX_DEPTH)?;
+    let init = Boxed::new(alloc, init_to(alloc, tokens, form, MAX_DEPTH, ty.get())?)?;
+    repeat(alloc, tokens, &EachSuffix { form }, ())?;
+    let found = GlobalVar {
+        name,
+        constant,
+        ty: ty.into_inner(),
+        init: init.into_inner(),
+    };
+    Ok(Boxed::new(alloc, found)?)
+}

@@ -1,0 +1,47 @@
+//! What a module says of its source and its target (LLVM Language Reference, "Source Filename", "Data Layout", "Target
+//! Triple"), which is read over.
+
+ghost use Rattle.ms_grammar.specs.Modules as spec;
+ghost use Rattle.ms_read_cursor.specs.Reading.{Gives, Judges, run};
+
+use ms_grammar::{Refusal, Symbol};
+use ms_read_cursor::{Lexeme, Tokens};
+
+/// Reads `=` and a string, behind `source_filename`.
+///
+/// # Errors
+///
+/// `Syntax` or `Outside` at a token that is another.
+#[tactic(auto, unfolding(ms_grammar::specs::Modules::source_filename))]
+pub fn source_filename(tokens: &mut Tokens<'_>) -> Result<(), Refusal>
+    ensures { Gives (run spec.source_filename tokens.old) result tokens.new }
+{
+    tokens.word(Symbol::Equals)?;
+    tokens.word(Symbol::Str)
+}
+
+/// What of the target is said.
+fn target_word_of(token: &Lexeme<'_>) -> Result<(), Refusal>
+    ensures { Judges (spec.target_word_of token.now) result }
+{
+    if token.is(Symbol::DataLayout) || token.is(Symbol::Triple) {
+        Ok(())
+    } else {
+        Err(token.refusal())
+    }
+}
+
+/// Reads `datalayout` or `triple`, `=` and a string, behind `target`.
+///
+/// # Errors
+///
+/// `Syntax` or `Outside` at a token that is another.
+#[tactic(auto, unfolding(ms_grammar::specs::Modules::target_entity))]
+pub fn target_entity(tokens: &mut Tokens<'_>) -> Result<(), Refusal>
+    ensures { Gives (run spec.target_entity tokens.old) result tokens.new }
+{
+    target_word_of(&tokens.lexeme())?;
+    tokens.advance();
+    tokens.word(Symbol::Equals)?;
+    tokens.word(Symbol::Str)
+}

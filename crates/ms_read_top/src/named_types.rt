@@ -1,0 +1,30 @@
+//! Named types (LLVM Language Reference, "Structure Type").
+
+ghost use Rattle.ms_grammar.specs.Modules as spec;
+ghost use Rattle.ms_read_cursor.specs.Reading.{Gives, run};
+
+use ms_grammar::{Form, Refusal, Symbol};
+use ms_ir::{Name, Ty};
+use ms_read_cursor::Tokens;
+use ms_read_values::struct_type;
+use std::alloc::Global;
+
+/// Reads `=`, `type` and the struct that a type of this name is, behind the name.
+///
+/// # Errors
+///
+/// `Syntax` or `Outside` at a token that is another, and those of `struct_type`.
+#[tactic(auto, unfolding(ms_grammar::specs::Modules::named_type))]
+pub fn named_type(
+    alloc: Global,
+    tokens: &mut Tokens<'_>,
+    form: Form,
+    name: Name,
+) -> Result<(Name, Ty), Refusal>
+    ensures { Gives (run (spec.named_type form name) tokens.old) result tokens.new }
+{
+    tokens.word(Symbol::Equals)?;
+    tokens.word(Symbol::TypeWord)?;
+    let ty = struct_type(alloc, tokens, form)?;
+    Ok((name, ty))
+}

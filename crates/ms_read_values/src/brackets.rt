@@ -1,0 +1,97 @@
+//! Tokens in which brackets match.
+
+ghost use Rattle.ms_grammar.specs.Skipped as spec;
+ghost use Rattle.ms_read_cursor.specs.Reading.{Gives, Judges, run};
+
+use crate::awaited::{Awaited, is_closer};
+use ms_grammar::{Form, Refusal, Symbol};
+use ms_read_cursor::{Lexeme, Tokens, Turn, global_name, local_name, repeat};
+use std::alloc::Global;
+
+/// A name is judged also where it is read over.
+fn may_skip(alloc: Global, form: Form, token: &Lexeme<'_>) -> Result<bool, Refusal>
+    ensures { Judges (spec.may_skip form token.now.symbol token.now) result }
+{
+    match token.symbol() {
+        Symbol::Global => {
+            global_name(alloc, form, token)?;
+            Ok(true)
+        }
+        Symbol::Local | Symbol::Label => {
+            local_name(alloc, form, token)?;
+            Ok(true)
+        }
+        _ => Ok(true),
+    }
+}
+
+/// Token after token, but for a closing bracket that nothing awaits.
+#[derive(Clone, Copy)]
+struct Between {
+    form: Form,
+}
+
+impl Turn for Between {
+    type State = Awaited;
+
+    ghost use Rattle.ms_grammar.specs.Skipped.{balanced_begins, balanced_turn};
+
+    ghost begins = { λ rule. balanced_begins rule.form };
+
+    ghost body = { λ rule. balanced_turn };
+
+    fn goes_on(&self, alloc: Global, state: &Awaited, first: &Lexeme<'_>) -> Result<bool, Refusal> {
+        let symbol = first.symbol();
+        if is_closer(symbol) {
+            Ok(state.awaits(symbol))
+        } else {
+            may_skip(alloc, self.form, first)
+        }
+    }
+
+    fn turn(
+        &self,
+        _alloc: Global,
+        state: Awaited,
+        first: &Lexeme<'_>,
+        _tokens: &mut Tokens<'_>,
+    ) -> Result<Awaited, Refusal> {
+        let mut state = state;
+        state.take(first.symbol())?;
+        Ok(state)
+    }
+}
+
+/// Reads tokens in which brackets match, up to and with a closing bracket.
+///
+/// # Errors
+///
+/// At the first token that can't stand: `Reserved` at a name that the form doesn't have, `Limit(Name)` at one that is too
+/// long, and `Syntax` at another closing bracket or at the end of the text.
+#[tactic(auto, unfolding(ms_grammar::specs::Skipped::balanced))]
+pub fn balanced(
+    alloc: Global,
+    tokens: &mut Tokens<'_>,
+    form: Form,
+    closing: Symbol,
+) -> Result<(), Refusal>
+    ensures { Gives (run (spec.balanced form closing) tokens.old) result tokens.new }
+{
+    let awaited = repeat(alloc, tokens, &Between { form }, Awaited::nothing(alloc))?;
+    if !awaited.is_nothing() {
+        return Err(tokens.refusal());
+    }
+    tokens.word(closing)
+}
+
+/// Reads `(` and tokens in which brackets match up to `)`, where `(` comes next. Its errors are those of `balanced`.
+#[tactic(auto, unfolding(ms_grammar::specs::Skipped::in_parens))]
+pub fn in_parens(alloc: Global, tokens: &mut Tokens<'_>, form: Form) -> Result<(), Refusal>
+    ensures { Gives (run (spec.in_parens form) tokens.old) result tokens.new }
+{
+    if tokens.sees(Symbol::OpenParen) {
+        tokens.advance();
+        balanced(alloc, tokens, form, Symbol::CloseParen)?;
+    }
+    Ok(())
+}

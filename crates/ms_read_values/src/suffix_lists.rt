@@ -1,0 +1,159 @@
+//! What may stand behind an instruction: its alignment and attached metadata, one kind of which marks an inserted
+//! instruction.
+
+ghost use Rattle.std.specs.Prelude.{cond, false};
+ghost use Rattle.ms_lex.specs.Grammar.{give};
+ghost use Rattle.ms_grammar.specs.Skipped as spec;
+ghost use Rattle.ms_read_cursor.specs.Reading.{Gives, run};
+
+use crate::brackets::{balanced, in_parens};
+use crate::metadata::{kind_of, meta};
+use ms_grammar::{Form, Refusal, Symbol};
+use ms_read_cursor::{Lexeme, Tokens, Turn, repeat};
+use std::alloc::Global;
+
+/// Reads what is behind the kind of an attachment, which begins with this symbol. Metadata in place marks nothing.
+fn attached_rest(
+    alloc: Global,
+    tokens: &mut Tokens<'_>,
+    form: Form,
+    marked: bool,
+    marks: bool,
+    symbol: Symbol,
+) -> Result<bool, Refusal>
+    ensures { Gives (run (spec.attached_rest form marked marks symbol) tokens.old) result tokens.new }
+{
+    match symbol {
+        Symbol::Bang => {
+            tokens.advance();
+            tokens.word(Symbol::OpenBrace)?;
+            balanced(alloc, tokens, form, Symbol::CloseBrace)?;
+            Ok(marked)
+        }
+        _ => {
+            meta(tokens)?;
+            in_parens(alloc, tokens, form)?;
+            Ok(marked || marks)
+        }
+    }
+}
+
+/// Reads attached metadata: its kind, and a name, a name with tokens in parentheses, or metadata in place. Gives whether
+/// the instruction is marked.
+///
+/// # Errors
+///
+/// Those of `kind_of` at the kind, of `meta` behind it, and of `balanced` in brackets.
+#[tactic(auto, unfolding(ms_grammar::specs::Skipped::attached))]
+pub fn attached(
+    alloc: Global,
+    tokens: &mut Tokens<'_>,
+    form: Form,
+    marked: bool,
+) -> Result<bool, Refusal>
+    ensures { Gives (run (spec.attached form marked) tokens.old) result tokens.new }
+{
+    let marks = kind_of(form, &tokens.lexeme())?;
+    tokens.advance();
+    let symbol = tokens.peek();
+    attached_rest(alloc, tokens, form, marked, marks, symbol)
+}
+
+/// Reads one suffix behind its comma. Gives whether the instruction is marked.
+///
+/// # Errors
+///
+/// `Syntax` or `Outside` where no number is behind `align`, and those of `attached`.
+#[tactic(auto, unfolding(ms_grammar::specs::Skipped::suffix))]
+pub fn suffix(
+    alloc: Global,
+    tokens: &mut Tokens<'_>,
+    form: Form,
+    marked: bool,
+) -> Result<bool, Refusal>
+    ensures { Gives (run (spec.suffix form marked) tokens.old) result tokens.new }
+{
+    match tokens.peek() {
+        Symbol::Align => {
+            tokens.advance();
+            tokens.word(Symbol::Number)?;
+            Ok(marked)
+        }
+        _ => attached(alloc, tokens, form, marked),
+    }
+}
+
+/// Suffix after suffix, each behind its comma.
+#[derive(Clone, Copy)]
+struct OneSuffix {
+    form: Form,
+}
+
+impl Turn for OneSuffix {
+    type State = bool;
+
+    ghost use Rattle.ms_grammar.specs.Skipped.{suffix_begins, suffix};
+
+    ghost begins = { λ rule. suffix_begins };
+
+    ghost body = { λ rule marked comma. suffix rule.form marked };
+
+    fn goes_on(&self, _alloc: Global, _state: &bool, first: &Lexeme<'_>) -> Result<bool, Refusal> {
+        Ok(first.is(Symbol::Comma))
+    }
+
+    fn turn(
+        &self,
+        alloc: Global,
+        state: bool,
+        _first: &Lexeme<'_>,
+        tokens: &mut Tokens<'_>,
+    ) -> Result<bool, Refusal> {
+        suffix(alloc, tokens, self.form, state)
+    }
+}
+
+/// Reads suffixes with a comma in front of each, as many as come. Gives whether the instruction is marked. Its errors are
+/// those of `suffix`.
+#[tactic(auto, unfolding(ms_grammar::specs::Skipped::suffixes))]
+pub fn suffixes(
+    alloc: Global,
+    tokens: &mut Tokens<'_>,
+    form: Form,
+    marked: bool,
+) -> Result<bool, Refusal>
+    ensures { Gives (run (spec.suffixes form marked) tokens.old) result tokens.new }
+{
+    repeat(alloc, tokens, &OneSuffix { form }, marked)
+}
+
+/// The suffix whose comma was read already, if one was.
+fn first_suffix(
+    alloc: Global,
+    tokens: &mut Tokens<'_>,
+    form: Form,
+    begun: bool,
+) -> Result<bool, Refusal>
+    ensures { Gives (run (cond begun (spec.suffix form false) (give false)) tokens.old) result tokens.new }
+{
+    if begun {
+        suffix(alloc, tokens, form, false)
+    } else {
+        Ok(false)
+    }
+}
+
+/// Reads the suffixes of an instruction; the comma of the first was read already, where `begun`. Gives whether the
+/// instruction is marked. Its errors are those of `suffix`.
+#[tactic(auto, unfolding(ms_grammar::specs::Skipped::suffixes_from))]
+pub fn suffixes_from(
+    alloc: Global,
+    tokens: &mut Tokens<'_>,
+    form: Form,
+    begun: bool,
+) -> Result<bool, Refusal>
+    ensures { Gives (run (spec.suffixes_from form begun) tokens.old) result tokens.new }
+{
+    let marked = first_suffix(alloc, tokens, form, begun)?;
+    suffixes(alloc, tokens, form, marked)
+}

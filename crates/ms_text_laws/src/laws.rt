@@ -1,0 +1,36 @@
+//! What holds of everything that is written.
+
+ghost use Rattle.std.specs.Prelude.{◌≡◌, ◌<◌, ◌≤◌, ◌^◌, ℕ, [], decimal};
+ghost use Rattle.ms_bits.specs.Signed.{signed, wrap};
+ghost use Rattle.ms_lex.specs.Grammar.{done, run};
+ghost use Rattle.ms_lex.specs.Numbers as read;
+ghost use Rattle.ms_ir.specs.declared.syntax.Module.{Module};
+ghost use Rattle.ms_grammar.specs.declared.forms.Form.TheVariants.{Instrumented};
+ghost use Rattle.ms_grammar.specs.Lexemes.{end_of_text};
+ghost use Rattle.ms_grammar.specs.Modules.{module_rule};
+ghost use Rattle.ms_grammar.specs.Texts.{Reads};
+ghost use Rattle.ms_valid.specs.Formed.{Formed};
+ghost use Rattle.ms_written.specs.Modules.{module_pieces, written};
+ghost use Rattle.ms_written.specs.Names.{signed_text};
+ghost use Rattle.ms_written.specs.Pieces.{tokens_in};
+ghost use Rattle.ms_text_laws.specs.Fits.{FitsForm, FitsText};
+
+/// Digits of a number below 2^64 are read as that number. So is the signed text of a word of an integer type, modulo 2 to
+/// the power of the type's width.
+pub fn numbers_are_read_back()
+    ensures digits { (n : ℕ) → n < 2 ^ 64 → read.decimal (decimal n) ≡ n }
+    ensures words { (width n : ℕ) → 1 ≤ width → width ≤ 64 → n < 2 ^ width → wrap width (read.signed_decimal (signed_text (signed width n))) ≡ n }
+{}
+
+/// What is written of a formed module is read as that module where an instrumented text can hold it: its tokens where the
+/// module is within the limits of that form, and its text where the text is within them too.
+pub fn layouts_are_read_back()
+    ensures tokens { (m : Module) → Formed m → FitsForm m → run end_of_text (module_rule Instrumented) (tokens_in (module_pieces m)) ≡ done m [] }
+    ensures texts { (m : Module) → Formed m → FitsText m → Reads Instrumented (written m) m }
+{}
+
+/// No two formed modules are written alike, whatever their size: neither with the same tokens, nor as the same text.
+pub fn layouts_are_injective()
+    ensures tokens { (m n : Module) → Formed m → Formed n → tokens_in (module_pieces m) ≡ tokens_in (module_pieces n) → m ≡ n }
+    ensures texts { (m n : Module) → Formed m → Formed n → written m ≡ written n → m ≡ n }
+{}
