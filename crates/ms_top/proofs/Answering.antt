@@ -9,10 +9,10 @@ use Rattle.ms_lex.specs.Tokens.{tokens_of}
 use Rattle.ms_ir.specs.declared.syntax.Block.{Block}
 use Rattle.ms_ir.specs.declared.syntax.Func.{Func}
 use Rattle.ms_ir.specs.declared.syntax.Module.{Module}
-use Rattle.ms_ir.specs.declared.runs.Setup.{Setup}
-use Rattle.ms_ir.specs.declared.runs.RunResult.{RunResult}
-use Rattle.ms_ir.specs.Plain.{plain}
-use Rattle.ms_ir.specs.Faithful.{Faithful, Fair}
+use Rattle.ms_runs.specs.declared.runs.Setup.{Setup}
+use Rattle.ms_runs.specs.Plain.{plain}
+use Rattle.ms_runs.specs.Faithful.{Faithful}
+use Rattle.ms_runs.specs.Limits.{WithinLimits as RunFits}
 use Rattle.ms_grammar.specs.declared.forms.Form.{Form}
 use Rattle.ms_grammar.specs.declared.forms.Form.TheVariants.{Plain, Instrumented}
 use Rattle.ms_grammar.specs.declared.refusals.Refusal.{Refusal}
@@ -27,48 +27,50 @@ use Rattle.ms_read_body.specs.Calls.{what_of}
 use Rattle.ms_read_body.specs.declared.errors.What.{What}
 use Rattle.ms_read_body.specs.declared.errors.ReadError.{ReadError}
 use Rattle.ms_read_body.specs.declared.errors.ReadError.TheVariants as e
-use Rattle.ms_read_top.specs.Reading.{IsRefused, AnswersExactly, IsAnswer as IsReading}
+use Rattle.ms_read_top.specs.Reading.{IsTextRefused, AnswersExactly, IsReading}
 use Rattle.ms_valid.specs.Formed.{Formed}
 use Rattle.ms_valid.specs.FormedNames.{are_bytes}
-use Rattle.ms_valid.specs.Refusals.{Fault, IsRefused as IsRefusedFor}
+use Rattle.ms_valid.specs.Refusals.{Fault, IsRefused}
 use Rattle.ms_valid.specs.Valid.{Valid}
 use Rattle.ms_check.specs.declared.errors.CheckError.{CheckError}
 use Rattle.ms_check.specs.Faults.{fault_of}
-use Rattle.ms_read_forms.proofs.Modules.{read_formed}
+use Rattle.ms_text_laws.proofs.FormedModules.{read_formed}
 use Rattle.ms_pass.specs.FirstForm.{HasFirstForm, HasFewInsts}
-use Rattle.ms_io.specs.Reading.{IsWholeFile}
 use Rattle.ms_top.specs.declared.answers.Answer.{Answer}
-use Rattle.ms_top.specs.declared.answers.Task.{Task}
-use Rattle.ms_top.specs.declared.answers.Task.TheVariants.{Run, Check}
-use Rattle.ms_top.specs.declared.refusals.Refusal.{Refusal as Cause}
-use Rattle.ms_top.specs.declared.refusals.Refusal.TheVariants.{Read as Of, Check as OfCheck}
-use Rattle.ms_top.specs.Command.{command_of}
-use Rattle.ms_top.specs.FaultTexts.{fault_line}
-use Rattle.ms_top.specs.RefusalTexts.{IsNumbered, IsReadRefusal, HasLine, refusal_text, wants_memory}
-use Rattle.ms_top.specs.Said.{says, default_setup, form_of, result_of, answer_of_result, IsAnswerToValid, IsAnswerToModule, IsAnswerToReading, IsAnswerTo, Counted, Whole, IsAnswerFor, IsAnswer, module_limit}
+use Rattle.ms_top.specs.declared.commands.Command.{Command}
+use Rattle.ms_top.specs.declared.commands.Command.TheVariants.{Run, Check}
+use Rattle.ms_top.specs.declared.commands.Options.{Options}
+use Rattle.ms_report.specs.declared.refusals.Refusal.{Refusal as Cause}
+use Rattle.ms_report.specs.declared.refusals.Refusal.TheVariants.{Read as Of, Check as OfCheck}
+use Rattle.ms_top.specs.Command.{form_of, options_of, module_limit, input_limit, setup_of, FitRun}
+use Rattle.ms_report.specs.FaultTexts.{fault_line}
+use Rattle.ms_report.specs.RefusalTexts.{IsNumbered, IsReadRefusal, HasLine, refusal_text, wants_memory}
+use Rattle.ms_top.specs.Said.{says, answer_of_result, IsRun, IsAnswerOfRun, IsAnswerToValid, IsAnswerToModule, IsAnswerToReading, IsAnswerToText}
 
 -- ---- runs
 
-abbrev IsByte : ℕ → Type 0
-IsByte b = b < 2 ^ 8
+-- the module itself is what `run` runs
+pub run_answer : (command : Command) (file : List ℕ) (o : Options) (input : List ℕ) (m : Module) (s : Setup) (a : Answer)
+    → command ≡ Run file o → s ≡ setup_of (options_of command) input → a ≡ answer_of_result m (plain m s) → IsAnswerOfRun Faithful command input m a
+run_answer command file o input m s a is setup_is answers =
+    (m, subst (λ c. IsRun Faithful c m m) (sym is) refl, answers ∙ ap (λ t. answer_of_result m (plain m t)) setup_is)
 
-fair_default : Fair default_setup
-fair_default = record {
-  filled = omega arith;
-  fill = All-cons IsByte 0xa5 [] (omega arith) (All-nil IsByte);
-  input = omega arith;
-  bytes = All-nil IsByte;
-  steps = omega arith;
-  some_reports = omega arith;
-  reports = omega arith;
-}
+-- a module that is faithful to it is what `check` runs
+pub check_answer : (command : Command) (file : List ℕ) (o : Options) (input : List ℕ) (m : Module) (s : Setup) (a : Answer)
+    → command ≡ Check file o → s ≡ setup_of (options_of command) input → (j : Module) × Faithful m j × (a ≡ answer_of_result m (plain j s)) → IsAnswerOfRun Faithful command input m a
+check_answer command file o input m s a is setup_is (j, faithful, answers) =
+    (j, subst (λ c. IsRun Faithful c m j) (sym is) faithful, answers ∙ ap (λ t. answer_of_result m (plain j t)) setup_is)
 
-pub run_result : (task : Task) (m : Module) (s : Setup) (r : RunResult) → task ≡ Run → s ≡ default_setup → r ≡ plain m s → r ≡ result_of task m
-run_result task m s r is setup_is run_is = run_is ∙ ap (plain m) setup_is ∙ ap (λ t. result_of t m) (sym is)
-
--- a plain run of an instrumented module is the module's shadow run
-pub check_result : (task : Task) (m j : Module) (s : Setup) (r : RunResult) → task ≡ Check → s ≡ default_setup → Faithful m j → r ≡ plain j s → r ≡ result_of task m
-check_result task m j s r is setup_is faithful run_is = run_is ∙ ap (plain j) setup_is ∙ faithful.runs default_setup fair_default ∙ ap (λ t. result_of t m) (sym is)
+-- the setup of options within the limits is within them, with an input of at most the limit
+pub within : (o : Options) (input : List ℕ) (s : Setup) → FitRun o → length input ≤ input_limit → s ≡ setup_of o input → RunFits s
+within o input s fit short is = subst RunFits (sym is) (record {
+  input = omega (arith, short);
+  filled = fit.filled;
+  fill = fit.fill;
+  steps = fit.steps;
+  some_reports = fit.some_reports;
+  reports = fit.reports;
+})
 
 -- ---- modules
 
@@ -78,12 +80,13 @@ Tells b m = (b ≡ true) ↔ HasFirstForm m
 pub of_first_form : (b : Bool) (m : Module) → Tells b m → b ≡ true → HasFirstForm m
 of_first_form b m tells h = tells.0 h
 
-pub not_built : (b : Bool) (task : Task) (m : Module) (a : Answer) → Tells b m → b ≡ false → a ≡ says 5 (codes "refused 99: not built yet\n") → IsAnswerToValid task m a
-not_built b task m a tells h is = inr (λ first. true≢false (sym (tells.1 first) ∙ h), is)
+pub not_built : (b : Bool) (command : Command) (input : List ℕ) (m : Module) (a : Answer) → Tells b m → b ≡ false → a ≡ says 5 (codes "refused 99: not built yet\n")
+    → IsAnswerToValid Faithful command input m a
+not_built b command input m a tells h is = inr (λ first. true≢false (sym (tells.1 first) ∙ h), is)
 
-pub answered : (b : Bool) (task : Task) (m : Module) (r : RunResult) (a : Answer)
-    → Tells b m → b ≡ true → r ≡ result_of task m → a ≡ answer_of_result m r → IsAnswerToValid task m a
-answered b task m r a tells h run_is is = inl (tells.0 h, is ∙ ap (answer_of_result m) run_is)
+pub answered : (b : Bool) (command : Command) (input : List ℕ) (m : Module) (a : Answer) → Tells b m → b ≡ true → IsAnswerOfRun Faithful command input m a
+    → IsAnswerToValid Faithful command input m a
+answered b command input m a tells h is = inl (tells.0 h, is)
 
 -- ---- validity
 
@@ -94,16 +97,18 @@ some_unless_none (Some x) h = refl
 pub check_has_line : (cause : CheckError) → wants_memory (OfCheck cause) ≡ false → HasLine (OfCheck cause)
 check_has_line cause h = some_unless_none (fault_of cause) h
 
-faulty : (task : Task) (m : Module) (o : Option Fault) (a : Answer) → IfSome o (IsRefusedFor m) → is_none o ≡ false → a ≡ says 5 (fault_line o) → IsAnswerToModule task m a
-faulty task m None a refused h is = absurd (true≢false h)
-faulty task m (Some fault) a refused h is = inl (fault, refused, is)
+faulty : (command : Command) (input : List ℕ) (m : Module) (o : Option Fault) (a : Answer) → IfSome o (IsRefused m) → is_none o ≡ false → a ≡ says 5 (fault_line o)
+    → IsAnswerToModule Faithful command input m a
+faulty command input m None a refused h is = absurd (true≢false h)
+faulty command input m (Some fault) a refused h is = inl (fault, refused, is)
 
-pub invalid_answer : (task : Task) (m : Module) (cause : CheckError) (a : Answer)
-    → IfSome (fault_of cause) (IsRefusedFor m) → wants_memory (OfCheck cause) ≡ false → a ≡ says 5 (refusal_text (OfCheck cause)) → IsAnswerToModule task m a
-invalid_answer task m cause a refused h is = faulty task m (fault_of cause) a refused h is
+pub invalid_answer : (command : Command) (input : List ℕ) (m : Module) (cause : CheckError) (a : Answer)
+    → IfSome (fault_of cause) (IsRefused m) → wants_memory (OfCheck cause) ≡ false → a ≡ says 5 (refusal_text (OfCheck cause)) → IsAnswerToModule Faithful command input m a
+invalid_answer command input m cause a refused h is = faulty command input m (fault_of cause) a refused h is
 
-pub valid_answer : (task : Task) (m n : Module) (a : Answer) → n ≡ m → Valid m → IsAnswerToValid task n a → IsAnswerToModule task m a
-valid_answer task m n a same valid is = inr (valid, subst (λ k. IsAnswerToValid task k a) same is)
+pub valid_answer : (command : Command) (input : List ℕ) (m n : Module) (a : Answer) → n ≡ m → Valid m → IsAnswerToValid Faithful command input n a
+    → IsAnswerToModule Faithful command input m a
+valid_answer command input m n a same valid is = inr (valid, subst (λ k. IsAnswerToValid Faithful command input k a) same is)
 
 -- ---- texts
 
@@ -111,7 +116,7 @@ valid_answer task m n a same valid is = inr (valid, subst (λ k. IsAnswerToValid
 pub record Read (form : Form) (text : List ℕ) (r : Result Module ReadError) : Type 0 where
   pub «module» : (m : Module) → AnswersExactly r (Ok m) (Reads form text m)
   pub lex : (cause : LexError) → AnswersExactly r (Err (e.Lex cause)) (tokens_of text (max_tokens form) ≡ Err cause)
-  pub refused : (number : ℕ) (w : What) (token place : ℕ) → AnswersExactly r (Err (e.Refused number w token place)) (IsRefused form text number w token place)
+  pub refused : (number : ℕ) (w : What) (token place : ℕ) → AnswersExactly r (Err (e.Refused number w token place)) (IsTextRefused form text number w token place)
   pub wanting : r ≢ Err (e.Lex lexing.NoMemory)
 
 reading_is : (form : Form) (text : List ℕ) (r : Result Module ReadError) → Read form text r → IsReading form text r
@@ -165,7 +170,7 @@ fits refusal.Numbering number h = inr (inl (sym (same_number h)))
 fits refusal.Reserved number h = inr (inr (sym (same_number h)))
 fits refusal.NoMemory number h = absurd cc
 
-numbered : (form : Form) (text : List ℕ) (number : ℕ) (w : What) (token place : ℕ) → IsRefused form text number w token place → IsNumbered number w
+numbered : (form : Form) (text : List ℕ) (number : ℕ) (w : What) (token place : ℕ) → IsTextRefused form text number w token place → IsNumbered number w
 numbered form text number w token place is = subst (IsNumbered number) (sym is.named) (fits is.cause number is.numbered)
 
 lexer_has_line : (cause : LexError) → cause ≢ lexing.NoMemory → IsReadRefusal (e.Lex cause)
@@ -182,36 +187,24 @@ error_has_line form text e.NoMemory is some = absurd (true≢false some)
 pub has_line : (form : Form) (text : List ℕ) (r : Result Module ReadError) (cause : ReadError) → Read form text r → r ≡ Err cause → wants_memory (Of cause) ≡ false → IsReadRefusal cause
 has_line form text r cause read is some = error_has_line form text cause (subst (IsReading form text) is (reading_is form text r read)) some
 
-pub module_answer : (task : Task) (form : Form) (text : List ℕ) (r : Result Module ReadError) (m : Module) (a : Answer)
-    → form ≡ form_of task → Read form text r → r ≡ Ok m → IsAnswerToModule task m a → IsAnswerTo task text a
-module_answer task form text r m a same read is answers =
+pub module_answer : (command : Command) (input : List ℕ) (form : Form) (text : List ℕ) (r : Result Module ReadError) (m : Module) (a : Answer)
+    → form ≡ form_of command → Read form text r → r ≡ Ok m → IsAnswerToModule Faithful command input m a → IsAnswerToText Faithful command input text a
+module_answer command input form text r m a same read is answers =
     (Ok m, subst (λ f. IsReading f text (Ok m)) same (subst (IsReading form text) is (reading_is form text r read)), answers)
 
-error_answer : (task : Task) (cause : ReadError) (a : Answer) → wants_memory (Of cause) ≡ false → a ≡ says 5 (refusal_text (Of cause)) → IsAnswerToReading task (Err cause) a
-error_answer task (e.Lex cause) a some is = is
-error_answer task (e.Refused number w token place) a some is = is
-error_answer task e.NoMemory a some is = absurd (true≢false some)
+error_answer : (command : Command) (input : List ℕ) (cause : ReadError) (a : Answer) → wants_memory (Of cause) ≡ false → a ≡ says 5 (refusal_text (Of cause))
+    → IsAnswerToReading Faithful command input (Err cause) a
+error_answer command input (e.Lex cause) a some is = is
+error_answer command input (e.Refused number w token place) a some is = is
+error_answer command input e.NoMemory a some is = absurd (true≢false some)
 
-pub refusal_answer : (task : Task) (form : Form) (text : List ℕ) (r : Result Module ReadError) (cause : ReadError) (a : Answer)
-    → form ≡ form_of task → Read form text r → r ≡ Err cause → wants_memory (Of cause) ≡ false → a ≡ says 5 (refusal_text (Of cause)) → IsAnswerTo task text a
-refusal_answer task form text r cause a same read is some answers =
-    (Err cause, subst (λ f. IsReading f text (Err cause)) same (subst (IsReading form text) is (reading_is form text r read)), error_answer task cause a some answers)
+pub refusal_answer : (command : Command) (input : List ℕ) (form : Form) (text : List ℕ) (r : Result Module ReadError) (cause : ReadError) (a : Answer)
+    → form ≡ form_of command → Read form text r → r ≡ Err cause → wants_memory (Of cause) ≡ false → a ≡ says 5 (refusal_text (Of cause)) → IsAnswerToText Faithful command input text a
+refusal_answer command input form text r cause a same read is some answers =
+    (Err cause, subst (λ f. IsReading f text (Err cause)) same (subst (IsReading form text) is (reading_is form text r read)), error_answer command input cause a some answers)
 
--- the limit of a file is that of its form
-pub file_limit : (task : Task) (n : ℕ) → n ≤ module_limit task → n ≤ max_bytes (form_of task)
+-- the limit of a module's file is that of its form
+pub file_limit : (command : Command) (n : ℕ) → n ≤ module_limit command → n ≤ max_bytes (form_of command)
 unfolding max_bytes
-file_limit Run n h = h
-file_limit Check n h = h
-
--- ---- files
-
--- an answer to a file that was read whole; the limit, the name and the bytes come as the calls gave them
-pub whole_answer : (c : Counted) (words : List (List ℕ)) (task : Task) (limit : ℕ) (file name text bytes : List ℕ) (a : Answer)
-    → Some (task, file) ≡ command_of words → limit ≡ module_limit task → name ≡ file → bytes ≡ text → IsWholeFile c.told name limit text
-    → IsAnswerTo task bytes a → IsAnswer c words a
-whole_answer c words task limit file name text bytes a asks limit_is name_is bytes_is whole answers =
-    subst (λ o. IsAnswerFor c o a) asks (
-      Whole text,
-      subst (λ l. IsWholeFile c.told file l text) limit_is (subst (λ n. IsWholeFile c.told n limit text) name_is whole),
-      subst (λ t. IsAnswerTo task t a) bytes_is answers,
-    )
+file_limit (Run file o) n h = h
+file_limit (Check file o) n h = h

@@ -1,5 +1,7 @@
 pub mod Appending
 pub mod Answering
+pub mod Faithful
+pub mod Ok
 pub mod OneAnswer
-pub mod Rooting
+pub mod Reading
 pub mod Statuses

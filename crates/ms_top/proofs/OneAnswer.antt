@@ -1,19 +1,30 @@
--- What is to be said of a text is one answer, but for the path of a use.
-use Rattle.std.proofs.Common.{◌≡◌, ◌≢◌, List, ℕ, Result, Ok, Err, refl, sym, ◌∙◌, ap, subst, ◌⊎◌, inl, inr}
+-- What is to be said is one answer, but for the path of a use.
+use Rattle.std.proofs.Common.{◌≡◌, ◌≢◌, ◌<◌, ◌≤◌, List, ℕ, [], ◌∷◌, length, Option, Some, None, Result, Ok, Err, refl, sym, ◌∙◌, ap, subst, ◌⊎◌, inl, inr, arith}
+use Rattle.std.proofs.lemmas.Option.{same_Some, none-some}
+use Rattle.ms_io.specs.Counts.{Rose}
+use Rattle.ms_io.specs.Reading.{Holdings, IsWholeFile, IsAbsent, IsTooLong}
 use Rattle.ms_ir.specs.declared.syntax.Module.{Module}
+use Rattle.ms_runs.specs.Faithful.{Faithful, Fair}
 use Rattle.ms_grammar.specs.declared.forms.Form.{Form}
 use Rattle.ms_read_body.specs.declared.errors.ReadError.{ReadError}
 use Rattle.ms_read_body.specs.declared.errors.ReadError.TheVariants as e
-use Rattle.ms_read_top.specs.Reading.{IsAnswer as IsReading}
+use Rattle.ms_read_top.specs.Reading.{IsReading}
 use Rattle.ms_read_top.proofs.Exactly.{module_exactly, lex_exactly, refused_exactly}
-use Rattle.ms_top.specs.declared.answers.Answer.{Answer}
-use Rattle.ms_top.specs.declared.answers.Task.{Task}
-use Rattle.ms_valid.specs.Refusals.{Fault, Duplicate, Unknown, TypeMismatch, BadPhi, NoMain, BadExternal, Undefined, BadMark, BadSize}
+use Rattle.ms_valid.specs.Refusals.{Fault as ModuleFault, Duplicate, Unknown, TypeMismatch, BadPhi, NoMain, BadExternal, Undefined, BadMark, BadSize}
 use Rattle.ms_valid.proofs.Refused.{invalid}
 use Rattle.ms_check.specs.Faults.{without_path}
 use Rattle.ms_check.proofs.OneAnswer.{one_answer as one_fault}
-use Rattle.ms_top.specs.FaultTexts.{fault_text}
-use Rattle.ms_top.specs.Said.{says, form_of, DifferInPath, IsAnswerToValid, IsAnswerToModule, IsAnswerToReading, IsAnswerTo}
+use Rattle.ms_report.specs.FaultTexts.{fault_text}
+use Rattle.ms_top.specs.declared.answers.Answer.{Answer}
+use Rattle.ms_top.specs.declared.commands.Command.{Command}
+use Rattle.ms_top.specs.declared.commands.Command.TheVariants.{Run, Check}
+use Rattle.ms_top.specs.Command.{default_options, command_of, form_of, options_of, input_files, files_of, setup_of}
+use Rattle.ms_top.specs.Files.{Counted, FilesRead, Whole, Fault, Long, behind, IsAtFault, IsLong, CanRead}
+use Rattle.ms_top.specs.Said.{says, DifferInPath, IsAnswerOfRun, IsAnswerToValid, IsAnswerToModule, IsAnswerToReading, IsAnswerToText, IsAnswerToTexts, IsAnswerToFiles, IsAnswerFor, IsAnswer}
+use Rattle.ms_top.proofs.Faithful.{fair_default, shadow_answer, plain_answer}
+use Rattle.ms_top.proofs.Reading.{words_options}
+
+-- ---- texts
 
 -- a text comes to one thing when it is read, where memory isn't wanting
 one_reading : (form : Form) (text : List ℕ) (r s : Result Module ReadError) → IsReading form text r → IsReading form text s
@@ -24,17 +35,8 @@ one_reading form text (Err (e.Refused number w token place)) s is same some othe
     elim ((refused_exactly form text s same number w token place).1 is) [ inl p ↦ p | inr none ↦ absurd (other none) ]
 one_reading form text (Err e.NoMemory) s is same some other = absurd (some refl)
 
-memory_is_there : (task : Task) (r : Result Module ReadError) (a : Answer) → IsAnswerToReading task r a → r ≢ Err e.NoMemory
-memory_is_there task r a is none = subst (λ s. IsAnswerToReading task s a) none is
-
-of_valid : (task : Task) (m : Module) (a b : Answer) → IsAnswerToValid task m a → IsAnswerToValid task m b → a ≡ b
-of_valid task m a b (inl (first, p)) (inl (other, q)) = p ∙ sym q
-of_valid task m a b (inl (first, p)) (inr (none, q)) = absurd (none first)
-of_valid task m a b (inr (none, p)) (inl (first, q)) = absurd (none first)
-of_valid task m a b (inr (none, p)) (inr (other, q)) = p ∙ sym q
-
 -- two faults that differ in no more than the path
-of_faults : (f g : Fault) (a b : Answer) → without_path f ≡ without_path g → a ≡ says 5 (fault_text f) → b ≡ says 5 (fault_text g) → (a ≡ b) ⊎ DifferInPath a b
+of_faults : (f g : ModuleFault) (a b : Answer) → without_path f ≡ without_path g → a ≡ says 5 (fault_text f) → b ≡ says 5 (fault_text g) → (a ≡ b) ⊎ DifferInPath a b
 of_faults (Undefined s path) (Undefined t other) a b e p q =
     let same : s ≡ t = cc in
     inr (t, path, other, p ∙ ap (λ site. says 5 (fault_text (Undefined site path))) same, q)
@@ -42,19 +44,106 @@ of_faults (Undefined s path) g a b e p q = absurd cc
 of_faults f (Undefined t other) a b e p q = absurd cc
 of_faults f g a b e p q = inl (p ∙ ap (λ x. says 5 (fault_text x)) e ∙ sym q)
 
-of_module : (task : Task) (m : Module) (a b : Answer) → IsAnswerToModule task m a → IsAnswerToModule task m b → (a ≡ b) ⊎ DifferInPath a b
-of_module task m a b (inl (f, p, is)) (inl (g, q, same)) = of_faults f g a b (one_fault m f g p q) is same
-of_module task m a b (inl (f, p, is)) (inr (valid, q)) = absurd (invalid m f p valid)
-of_module task m a b (inr (valid, p)) (inl (g, q, same)) = absurd (invalid m g q valid)
-of_module task m a b (inr (valid, p)) (inr (other, q)) = inl (of_valid task m a b p q)
+of_run : (command : Command) (input : List ℕ) (m : Module) (a b : Answer) → Fair (setup_of (options_of command) input) → IsAnswerOfRun Faithful command input m a
+    → IsAnswerOfRun Faithful command input m b → a ≡ b
+of_run (Run file o) input m a b fair p q = plain_answer file input o m a p ∙ sym (plain_answer file input o m b q)
+of_run (Check file o) input m a b fair p q = shadow_answer file input o m a fair p ∙ sym (shadow_answer file input o m b fair q)
 
-of_reading : (task : Task) (r : Result Module ReadError) (a b : Answer) → IsAnswerToReading task r a → IsAnswerToReading task r b → (a ≡ b) ⊎ DifferInPath a b
-of_reading task (Ok m) a b p q = of_module task m a b p q
-of_reading task (Err (e.Lex cause)) a b p q = inl (p ∙ sym q)
-of_reading task (Err (e.Refused number w token place)) a b p q = inl (p ∙ sym q)
-of_reading task (Err e.NoMemory) a b p q = absurd p
+module _ (command : Command) (input : List ℕ) (fair : Fair (setup_of (options_of command) input)) where
+  memory_is_there : (r : Result Module ReadError) (a : Answer) → IsAnswerToReading Faithful command input r a → r ≢ Err e.NoMemory
+  memory_is_there r a is none = subst (λ s. IsAnswerToReading Faithful command input s a) none is
 
-pub one_answer : (task : Task) (text : List ℕ) (a b : Answer) → IsAnswerTo task text a → IsAnswerTo task text b → (a ≡ b) ⊎ DifferInPath a b
-one_answer task text a b (r, is, p) (s, same, q) =
-    let e = one_reading (form_of task) text r s is same (memory_is_there task r a p) (memory_is_there task s b q) in
-    of_reading task r a b p (subst (λ t. IsAnswerToReading task t b) e q)
+  of_valid : (m : Module) (a b : Answer) → IsAnswerToValid Faithful command input m a → IsAnswerToValid Faithful command input m b → a ≡ b
+  of_valid m a b (inl (first, p)) (inl (other, q)) = of_run command input m a b fair p q
+  of_valid m a b (inl (first, p)) (inr (none, q)) = absurd (none first)
+  of_valid m a b (inr (none, p)) (inl (first, q)) = absurd (none first)
+  of_valid m a b (inr (none, p)) (inr (other, q)) = p ∙ sym q
+
+  of_module : (m : Module) (a b : Answer) → IsAnswerToModule Faithful command input m a → IsAnswerToModule Faithful command input m b → (a ≡ b) ⊎ DifferInPath a b
+  of_module m a b (inl (f, p, is)) (inl (g, q, same)) = of_faults f g a b (one_fault m f g p q) is same
+  of_module m a b (inl (f, p, is)) (inr (valid, q)) = absurd (invalid m f p valid)
+  of_module m a b (inr (valid, p)) (inl (g, q, same)) = absurd (invalid m g q valid)
+  of_module m a b (inr (valid, p)) (inr (other, q)) = inl (of_valid m a b p q)
+
+  of_reading : (r : Result Module ReadError) (a b : Answer) → IsAnswerToReading Faithful command input r a → IsAnswerToReading Faithful command input r b
+      → (a ≡ b) ⊎ DifferInPath a b
+  of_reading (Ok m) a b p q = of_module m a b p q
+  of_reading (Err (e.Lex cause)) a b p q = inl (p ∙ sym q)
+  of_reading (Err (e.Refused number w token place)) a b p q = inl (p ∙ sym q)
+  of_reading (Err e.NoMemory) a b p q = absurd p
+
+  pub of_text : (text : List ℕ) (a b : Answer) → IsAnswerToText Faithful command input text a → IsAnswerToText Faithful command input text b → (a ≡ b) ⊎ DifferInPath a b
+  of_text text a b (r, is, p) (s, same, q) =
+      let e = one_reading (form_of command) text r s is same (memory_is_there r a p) (memory_is_there s b q) in
+      of_reading r a b p (subst (λ t. IsAnswerToReading Faithful command input t b) e q)
+
+pub one_answer : (command : Command) (input text : List ℕ) (a b : Answer) → Fair (setup_of (options_of command) input)
+    → IsAnswerToText Faithful command input text a → IsAnswerToText Faithful command input text b → (a ≡ b) ⊎ DifferInPath a b
+one_answer command input text a b fair p q = of_text command input fair text a b p q
+
+-- ---- files
+
+module _ (c : Counted) (files : Holdings) (told : c.told ≡ Some files) (steady : Rose c.faults c.faults_after → ⊥) where
+  is_whole : (name : List ℕ) (limit : ℕ) (text : List ℕ) → IsWholeFile c.told name limit text → (files name ≡ Some text) × (length text ≤ limit)
+  is_whole name limit text h = subst (λ t. IsWholeFile t name limit text) told h
+
+  is_absent : (name : List ℕ) → IsAtFault c name → files name ≡ None
+  is_absent name (inl h) = subst (λ t. IsAbsent t name c.faults c.faults_after) told h
+  is_absent name (inr rose) = absurd (steady rose)
+
+  is_long : (name : List ℕ) (limit : ℕ) → IsLong c name limit → (bytes : List ℕ) × (files name ≡ Some bytes) × (limit < length bytes)
+  is_long name limit (n, h) = (subst (λ t. IsTooLong t name limit n c.taken c.taken_after) told h).1
+
+  both : (name : List ℕ) (limit : ℕ) (text : List ℕ) → IsWholeFile c.told name limit text → IsLong c name limit → ⊥
+  both name limit text whole long =
+      let w = is_whole name limit text whole in
+      let l = is_long name limit long in
+      let e : length text ≡ length l.0 = ap length (same_Some text l.0 (sym w.0 ∙ l.1)) in
+      omega (arith, e, w.1, l.2)
+
+  one_read : (fs : List (List ℕ × ℕ)) (r s : FilesRead) → CanRead c fs r → CanRead c fs s → r ≡ s
+  one_read [] r s p q = p ∙ sym q
+  one_read ((name, limit) ∷ rest) r s (inl (f, p)) (inl (g, q)) = p ∙ sym q
+  one_read ((name, limit) ∷ rest) r s (inl (f, p)) (inr (inl (long, q))) = let l = is_long name limit long in absurd (none-some l.0 (sym (is_absent name f) ∙ l.1))
+  one_read ((name, limit) ∷ rest) r s (inl (f, p)) (inr (inr (text, whole, later, read, q))) =
+      absurd (none-some text (sym (is_absent name f) ∙ (is_whole name limit text whole).0))
+  one_read ((name, limit) ∷ rest) r s (inr (inl (long, p))) (inl (g, q)) = let l = is_long name limit long in absurd (none-some l.0 (sym (is_absent name g) ∙ l.1))
+  one_read ((name, limit) ∷ rest) r s (inr (inl (long, p))) (inr (inl (other, q))) = p ∙ sym q
+  one_read ((name, limit) ∷ rest) r s (inr (inl (long, p))) (inr (inr (text, whole, later, read, q))) = absurd (both name limit text whole long)
+  one_read ((name, limit) ∷ rest) r s (inr (inr (text, whole, later, read, p))) (inl (g, q)) =
+      absurd (none-some text (sym (is_absent name g) ∙ (is_whole name limit text whole).0))
+  one_read ((name, limit) ∷ rest) r s (inr (inr (text, whole, later, read, p))) (inr (inl (long, q))) = absurd (both name limit text whole long)
+  one_read ((name, limit) ∷ rest) r s (inr (inr (text, whole, later, read, p))) (inr (inr (other, all, last, again, q))) =
+      let e : text ≡ other = same_Some text other (sym (is_whole name limit text whole).0 ∙ (is_whole name limit other all).0) in
+      let f : later ≡ last = one_read rest later last read again in
+      p ∙ ap (λ t. behind t later) e ∙ ap (behind other) f ∙ sym q
+
+  -- words give one file, and a setup that is fair
+  of_files : (command : Command) (r : FilesRead) (a b : Answer) → options_of command ≡ default_options → CanRead c (files_of command) r
+      → IsAnswerToFiles Faithful command r a → IsAnswerToFiles Faithful command r b → (a ≡ b) ⊎ DifferInPath a b
+  of_files command (Fault name) a b o can p q = inl (p ∙ sym q)
+  of_files command (Long name) a b o can p q = inl (p ∙ sym q)
+  of_files command (Whole []) a b o can p q = absurd p
+  of_files command (Whole (text ∷ [])) a b o can p q = of_text command [] (subst (λ x. Fair (setup_of x [])) (sym o) fair_default) text a b p q
+  of_files command (Whole (text ∷ input ∷ rest)) a b o can p q = absurd (one_text command text input rest o can)
+    where
+      one_text : (command : Command) (t i : List ℕ) (ts : List (List ℕ)) → options_of command ≡ default_options → CanRead c (files_of command) (Whole (t ∷ i ∷ ts)) → ⊥
+      one_text command t i ts o (inl (f, is)) = absurd cc
+      one_text command t i ts o (inr (inl (long, is))) = absurd cc
+      one_text command t i ts o (inr (inr (first, whole, later, read, is))) =
+          let none : later ≡ Whole [] = subst (λ x. CanRead c (input_files x.input) later) o read in
+          let e : Whole (t ∷ i ∷ ts) ≡ Whole (first ∷ []) = is ∙ ap (behind first) none in
+          absurd cc
+
+  of_command : (command : Command) (a b : Answer) → options_of command ≡ default_options → IsAnswerFor Faithful c (Some command) a → IsAnswerFor Faithful c (Some command) b
+      → (a ≡ b) ⊎ DifferInPath a b
+  of_command command a b o (r, can, p) (s, again, q) =
+      of_files command r a b o can p (subst (λ x. IsAnswerToFiles Faithful command x b) (one_read (files_of command) s r again can) q)
+
+  of_words : (words : List (List ℕ)) (o : Option Command) (a b : Answer) → command_of words ≡ o → IsAnswerFor Faithful c o a → IsAnswerFor Faithful c o b → (a ≡ b) ⊎ DifferInPath a b
+  of_words words None a b is p q = inl (p ∙ sym q)
+  of_words words (Some command) a b is p q = of_command command a b (words_options words command is) p q
+
+pub one_answer_to_words : (c : Counted) (files : Holdings) (words : List (List ℕ)) (a b : Answer) → c.told ≡ Some files → (Rose c.faults c.faults_after → ⊥)
+    → IsAnswer Faithful c words a → IsAnswer Faithful c words b → (a ≡ b) ⊎ DifferInPath a b
+one_answer_to_words c files words a b told steady p q = of_words c files told steady words (command_of words) a b refl p q

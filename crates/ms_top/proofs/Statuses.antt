@@ -1,14 +1,15 @@
 -- The status of an answer is never that of a failed put.
-use Rattle.std.proofs.Common.{◌≡◌, ◌≢◌, ℕ, Bool, true, false, List, if◌then◌else◌, Option, Some, None, Result, Ok, Err, ap, sym, ◌∙◌, inl, inr, arith}
-use Rattle.ms_ir.specs.declared.runs.End.{End}
-use Rattle.ms_ir.specs.declared.runs.End.TheVariants.{Exit, Trap, Reported, Spent}
+use Rattle.std.proofs.Common.{◌≡◌, ◌≢◌, ℕ, Bool, true, false, List, [], ◌∷◌, if◌then◌else◌, Option, Some, None, Result, Ok, Err, ap, sym, ◌∙◌, inl, inr, arith}
+use Rattle.ms_runs.specs.declared.runs.End.{End}
+use Rattle.ms_runs.specs.declared.runs.End.TheVariants.{Exit, Trap, Reported, Spent}
 use Rattle.ms_ir.specs.declared.syntax.Module.{Module}
 use Rattle.ms_read_body.specs.declared.errors.ReadError.{ReadError}
 use Rattle.ms_read_body.specs.declared.errors.ReadError.TheVariants as e
 use Rattle.ms_top.specs.declared.answers.Answer.{Answer}
-use Rattle.ms_top.specs.declared.answers.Task.{Task}
-use Rattle.ms_top.specs.Said.{answer_of, end_status, IsAnswerToValid, IsAnswerToModule, IsAnswerToReading, IsAnswerTo, IsAnswerAfter, Reading, Whole, Fault, Long, IsAnswerFor, IsAnswer, Counted}
+use Rattle.ms_top.specs.declared.commands.Command.{Command}
 use Rattle.ms_top.specs.Command.{command_of}
+use Rattle.ms_top.specs.Files.{Counted, FilesRead, Whole, Fault, Long}
+use Rattle.ms_top.specs.Said.{answer_of, end_status, IsAnswerOfRun, IsAnswerToValid, IsAnswerToModule, IsAnswerToReading, IsAnswerToText, IsAnswerToTexts, IsAnswerToFiles, IsAnswerFor, IsAnswer}
 
 with-status : (a : Answer) (s : ℕ) (out err : List ℕ) → a ≡ answer_of s out err → s ≢ 7 → a.status ≢ 7
 with-status a s out err is other seven = other (sym (ap (λ x. x.status) is) ∙ seven)
@@ -23,31 +24,37 @@ chosen-not_seven : (b : Bool) (e : End) → (if b then end_status e else 77) ≢
 chosen-not_seven true e = end_status-not_seven e
 chosen-not_seven false e = λ h. omega arith
 
-to_valid-not_seven : (task : Task) (m : Module) (a : Answer) → IsAnswerToValid task m a → a.status ≢ 7
-to_valid-not_seven task m a (inl (first, is)) = with-status a _ _ _ is (chosen-not_seven _ _)
-to_valid-not_seven task m a (inr (other, is)) = with-status a 5 _ _ is (λ h. omega arith)
+module _ (Gives : Module → Module → Type 0) where
+  to_valid-not_seven : (command : Command) (input : List ℕ) (m : Module) (a : Answer) → IsAnswerToValid Gives command input m a → a.status ≢ 7
+  to_valid-not_seven command input m a (inl (first, (j, runs, is))) = with-status a _ _ _ is (chosen-not_seven _ _)
+  to_valid-not_seven command input m a (inr (other, is)) = with-status a 5 _ _ is (λ h. omega arith)
 
-to_module-not_seven : (task : Task) (m : Module) (a : Answer) → IsAnswerToModule task m a → a.status ≢ 7
-to_module-not_seven task m a (inl (fault, refused, is)) = with-status a 5 _ _ is (λ h. omega arith)
-to_module-not_seven task m a (inr (valid, is)) = to_valid-not_seven task m a is
+  to_module-not_seven : (command : Command) (input : List ℕ) (m : Module) (a : Answer) → IsAnswerToModule Gives command input m a → a.status ≢ 7
+  to_module-not_seven command input m a (inl (fault, refused, is)) = with-status a 5 _ _ is (λ h. omega arith)
+  to_module-not_seven command input m a (inr (valid, is)) = to_valid-not_seven command input m a is
 
-to_reading-not_seven : (task : Task) (r : Result Module ReadError) (a : Answer) → IsAnswerToReading task r a → a.status ≢ 7
-to_reading-not_seven task (Ok m) a is = to_module-not_seven task m a is
-to_reading-not_seven task (Err (e.Lex cause)) a is = with-status a 5 _ _ is (λ h. omega arith)
-to_reading-not_seven task (Err (e.Refused number w token place)) a is = with-status a 5 _ _ is (λ h. omega arith)
-to_reading-not_seven task (Err e.NoMemory) a is = absurd is
+  to_reading-not_seven : (command : Command) (input : List ℕ) (r : Result Module ReadError) (a : Answer) → IsAnswerToReading Gives command input r a → a.status ≢ 7
+  to_reading-not_seven command input (Ok m) a is = to_module-not_seven command input m a is
+  to_reading-not_seven command input (Err (e.Lex cause)) a is = with-status a 5 _ _ is (λ h. omega arith)
+  to_reading-not_seven command input (Err (e.Refused number w token place)) a is = with-status a 5 _ _ is (λ h. omega arith)
+  to_reading-not_seven command input (Err e.NoMemory) a is = absurd is
 
-to-not_seven : (task : Task) (text : List ℕ) (a : Answer) → IsAnswerTo task text a → a.status ≢ 7
-to-not_seven task text a (r, reading, is) = to_reading-not_seven task r a is
+  to_text-not_seven : (command : Command) (input text : List ℕ) (a : Answer) → IsAnswerToText Gives command input text a → a.status ≢ 7
+  to_text-not_seven command input text a (r, reading, is) = to_reading-not_seven command input r a is
 
-after-not_seven : (task : Task) (file : List ℕ) (r : Reading) (a : Answer) → IsAnswerAfter task file r a → a.status ≢ 7
-after-not_seven task file (Whole text) a is = to-not_seven task text a is
-after-not_seven task file Fault a is = with-status a 6 _ _ is (λ h. omega arith)
-after-not_seven task file Long a is = with-status a 9 _ _ is (λ h. omega arith)
+  to_texts-not_seven : (command : Command) (texts : List (List ℕ)) (a : Answer) → IsAnswerToTexts Gives command texts a → a.status ≢ 7
+  to_texts-not_seven command [] a is = absurd is
+  to_texts-not_seven command (text ∷ []) a is = to_text-not_seven command [] text a is
+  to_texts-not_seven command (text ∷ input ∷ rest) a is = to_text-not_seven command input text a is
 
-for-not_seven : (c : Counted) (o : Option (Task × List ℕ)) (a : Answer) → IsAnswerFor c o a → a.status ≢ 7
-for-not_seven c None a is = with-status a 2 _ _ is (λ h. omega arith)
-for-not_seven c (Some command) a (r, can, is) = after-not_seven command.0 command.1 r a is
+  to_files-not_seven : (command : Command) (r : FilesRead) (a : Answer) → IsAnswerToFiles Gives command r a → a.status ≢ 7
+  to_files-not_seven command (Whole texts) a is = to_texts-not_seven command texts a is
+  to_files-not_seven command (Fault name) a is = with-status a 6 _ _ is (λ h. omega arith)
+  to_files-not_seven command (Long name) a is = with-status a 9 _ _ is (λ h. omega arith)
 
-pub not_seven : (c : Counted) (words : List (List ℕ)) (a : Answer) → IsAnswer c words a → a.status ≢ 7
-not_seven c words a is = for-not_seven c (command_of words) a is
+  for-not_seven : (c : Counted) (o : Option Command) (a : Answer) → IsAnswerFor Gives c o a → a.status ≢ 7
+  for-not_seven c None a is = with-status a 2 _ _ is (λ h. omega arith)
+  for-not_seven c (Some command) a (r, can, is) = to_files-not_seven command r a is
+
+  pub not_seven : (c : Counted) (words : List (List ℕ)) (a : Answer) → IsAnswer Gives c words a → a.status ≢ 7
+  not_seven c words a is = for-not_seven c (command_of words) a is

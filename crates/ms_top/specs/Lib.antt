@@ -1,9 +1,4 @@
-pub mod Spelling
-pub mod Texts
-pub mod ReportTexts
-pub mod FaultTexts
-pub mod RefusalTexts
 pub mod Command
+pub mod Files
 pub mod Said
-pub mod Passing
-pub mod Rooted
+pub mod Parts

@@ -2,19 +2,13 @@
 #![tactic(auto)]
 
 pub mod answers;
-pub mod closing;
-pub mod faults;
+pub mod commands;
+mod files;
 pub mod laws;
-pub mod lines;
-pub mod pieces;
-pub mod refusals;
-pub mod reports;
-pub mod roots;
-pub mod spelling;
-pub mod top;
+mod pieces;
+mod top;
 
+pub use commands::{Command, Options};
 pub use ms_first as first;
+pub use ms_report::{Refusal, WordsFault, closing, refusal_line, report_text, words_line};
 pub use top::msan;
-
-#[cfg(test)]
-mod tests;

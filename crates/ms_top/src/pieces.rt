@@ -48,6 +48,8 @@ pub fn say<O: Sink, E: Sink>(
     ensures part { result ≡ 7 → WritesPart
         (between (O.written out.old) (E.written err.old) (O.written out.new) (E.written err.new)) (answer_of status out_text.now err_text.now) }
     ensures failed { result ≡ 7 → Rose (O.faults out.old) (O.faults out.new) ⊎ Rose (E.faults err.old) (E.faults err.new) }
+    ensures out_faults_never_fall { O.faults out.old ≤ O.faults out.new }
+    ensures err_faults_never_fall { E.faults err.old ≤ E.faults err.new }
 {
     if put_text(out, out_text).is_err() {
         return FAILED_PUT;

@@ -1,13 +1,19 @@
 //! The top call.
-ghost use Rattle.std.specs.Prelude.{◌≡◌, ◌≢◌, ◌⊎◌};
+ghost use Rattle.std.specs.Prelude.{◌≡◌, ◌≢◌, ◌≤◌, ◌⊎◌, None};
 ghost use Rattle.ms_io.specs.Counts.{Rose};
-ghost use Rattle.ms_top.specs.Said.{IsSaid, IsPartlySaid, counted, between};
+ghost use Rattle.ms_runs.specs.Faithful.{Faithful};
+ghost use Rattle.ms_top.specs.Command.{command_of};
+ghost use Rattle.ms_top.specs.Files.{counted};
+ghost use Rattle.ms_top.specs.Said.{IsSaid, IsPartlySaid, between};
 
-use crate::answers::{NO_MEMORY_STATUS, answer_to};
+use crate::files::answer_to;
 use crate::pieces::say;
 use ms_bits::Text;
 use ms_io::{Files, Sink};
 use std::alloc::Global;
+
+/// The status where memory is wanting.
+const NO_MEMORY_STATUS: u8 = 8;
 
 /// Does what the words after the program's name ask for. `run FILE` runs the module in the file, and
 /// `check FILE` runs it with the shadow of each word. Its output is written to `out`; each use of
@@ -16,7 +22,7 @@ use std::alloc::Global;
 /// The status is 77 for a run with a report, else 0 for one that is done, 3 for one that trapped and 4 for
 /// one whose steps were used up. It is 2 where the words are no command, 5 where
 /// the module is refused, 6 where the file can't be read, 7 where a put failed, 8 where memory is wanting,
-/// 9 where the file is too long. All memory is taken before the first put.
+/// 9 where the file is too long. All memory is taken before the first put. Words that are no command read no file.
 pub fn msan<F: Files, O: Sink, E: Sink>(
     alloc: Global,
     words: &[Text],
@@ -24,13 +30,19 @@ pub fn msan<F: Files, O: Sink, E: Sink>(
     out: &mut O,
     err: &mut E,
 ) -> u8
-    ensures said { result ≢ 7 → IsSaid
+    ensures said { result ≢ 7 → IsSaid Faithful
         (counted (F.held files.old) (F.faults files.old) (F.faults files.new) (F.taken files.old) (F.taken files.new))
         (between (O.written out.old) (E.written err.old) (O.written out.new) (E.written err.new)) words.now result }
-    ensures partly_said { result ≡ 7 → IsPartlySaid
+    ensures partly_said { result ≡ 7 → IsPartlySaid Faithful
         (counted (F.held files.old) (F.faults files.old) (F.faults files.new) (F.taken files.old) (F.taken files.new))
         (between (O.written out.old) (E.written err.old) (O.written out.new) (E.written err.new)) words.now }
     ensures failed { result ≡ 7 → Rose (O.faults out.old) (O.faults out.new) ⊎ Rose (E.faults err.old) (E.faults err.new) }
+    ensures holdings_stay { F.held files.new ≡ F.held files.old }
+    ensures faults_never_fall { F.faults files.old ≤ F.faults files.new }
+    ensures taken_never_falls { F.taken files.old ≤ F.taken files.new }
+    ensures out_faults_never_fall { O.faults out.old ≤ O.faults out.new }
+    ensures err_faults_never_fall { E.faults err.old ≤ E.faults err.new }
+    ensures unread { command_of words.now ≡ None → files.new ≡ files.old }
 {
     match answer_to(alloc, words, files) {
         Ok(answer) => say(

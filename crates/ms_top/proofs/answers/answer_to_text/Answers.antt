@@ -1,10 +1,11 @@
 use Rattle.std.proofs.Common.{subst, sym, ◌≤◌, length, arith}
 use Rattle.ms_grammar.specs.Texts.{max_bytes}
 use Rattle.ms_top.proofs.Answering.{file_limit, few_insts, formed, has_line, module_answer, refusal_answer}
+use Rattle.ms_top.proofs.Ok.{on_ok, on_both}
 use Rattle.ms_top.proofs.answers.answer_to_text.Goals as goal
 
 pub read-requires : goal.read-requires
-read-requires c = subst (λ f. length c.args.text.now ≤ max_bytes f) (sym c.form.ensures) (file_limit c.args.task _ c.requires)
+read-requires c = subst (λ f. length c.args.text.now ≤ max_bytes f) (sym c.form.ensures) (file_limit c.args.command.now _ c.requires.fits)
 
 pub answer_to_module-requires-clause-few : goal.answer_to_module-requires-clause-few
 answer_to_module-requires-clause-few c = few_insts c.form.result c.args.text.now c.read.result c.in-Ok.module
@@ -18,12 +19,10 @@ pub refused-requires : goal.refused-requires
 refused-requires c = has_line c.form.result c.args.text.now c.read.result c.in-Err.cause
     (record { «module» = c.read.ensures.«module»; lex = c.read.ensures.lex; refused = c.read.ensures.refused; wanting = c.read.ensures.wanting }) c.in-Err.is
 
-pub returns-in_ok-answer_to_module-in-Ok : goal.returns-in_ok-answer_to_module-in-Ok
-returns-in_ok-answer_to_module-in-Ok c = module_answer c.args.task c.form.result c.args.text.now c.read.result c.in-Ok.module _ c.form.ensures
-    (record { «module» = c.read.ensures.«module»; lex = c.read.ensures.lex; refused = c.read.ensures.refused; wanting = c.read.ensures.wanting }) c.in-Ok.is
-    c.in_ok-answer_to_module-in-Ok.ensures
+pub returns-in-Ok : goal.returns-in-Ok
+returns-in-Ok c = on_ok c.answer_to_module.result (λ a is. module_answer c.args.command.now c.args.input.now c.form.result c.args.text.now c.read.result c.in-Ok.module a c.form.ensures
+    (record { «module» = c.read.ensures.«module»; lex = c.read.ensures.lex; refused = c.read.ensures.refused; wanting = c.read.ensures.wanting }) c.in-Ok.is is) c.answer_to_module.ensures
 
-pub returns-in_ok-refused-in-Err : goal.returns-in_ok-refused-in-Err
-returns-in_ok-refused-in-Err c = refusal_answer c.args.task c.form.result c.args.text.now c.read.result c.in-Err.cause _ c.form.ensures
-    (record { «module» = c.read.ensures.«module»; lex = c.read.ensures.lex; refused = c.read.ensures.refused; wanting = c.read.ensures.wanting }) c.in-Err.is
-    c.in_ok-refused-in-Err.ensures.reason c.in_ok-refused-in-Err.ensures.line
+pub returns-in-Err : goal.returns-in-Err
+returns-in-Err c = on_both c.refused.result (λ a h is. refusal_answer c.args.command.now c.args.input.now c.form.result c.args.text.now c.read.result c.in-Err.cause a c.form.ensures
+    (record { «module» = c.read.ensures.«module»; lex = c.read.ensures.lex; refused = c.read.ensures.refused; wanting = c.read.ensures.wanting }) c.in-Err.is h is) c.refused.ensures.reason c.refused.ensures.line

@@ -1,0 +1,5 @@
+pub mod RunTexts
+pub mod ReportTexts
+pub mod FaultTexts
+pub mod RefusalTexts
+pub mod WordsTexts

@@ -1,0 +1,130 @@
+//! The closing lines of a run.
+ghost use Rattle.std.specs.Prelude.{◌≡◌, ◌++◌, IfOk, codes, decimal};
+ghost use Rattle.ms_ir.specs.Places.{HasSmallNumbers};
+ghost use Rattle.ms_valid.specs.Formed.{Formed};
+ghost use Rattle.ms_runs_good.specs.Verdict.{verdict_of};
+ghost use Rattle.ms_report.specs.RunTexts.{trap_name, end_text, verdict_text, verdict_line, line, closing_of};
+
+use crate::sites::push_site;
+use ms_bits::{NoMemory, Trap};
+use ms_ir::Module;
+use ms_runs::{End, RunResult};
+use ms_write_values::push_number;
+use std::alloc::Global;
+
+/// The printed name of a trap.
+fn name_of_trap(trap: Trap) -> &'static [u8]
+    ensures { result.now ≡ trap_name trap }
+{
+    match trap {
+        Trap::Shift => b"shift",
+        Trap::ZeroDivisor => b"zero-divisor",
+        Trap::Overflow => b"overflow",
+        Trap::Nuw => b"nuw",
+        Trap::Nsw => b"nsw",
+        Trap::Exact => b"exact",
+        Trap::Disjoint => b"disjoint",
+        Trap::Nneg => b"nneg",
+        Trap::Samesign => b"samesign",
+        Trap::BadAddress => b"bad-address",
+        Trap::BadFree => b"bad-free",
+        Trap::Stack => b"stack",
+        Trap::Depth => b"depth",
+        Trap::Output => b"output",
+        Trap::Unreachable => b"unreachable",
+        Trap::Abort => b"abort",
+        Trap::Deadlock => b"deadlock",
+        Trap::Format => b"format",
+    }
+}
+
+/// Adds how a run ended.
+fn push_end(text: &mut Vec<u8>, m: &Module, end: End) -> Result<(), NoMemory>
+    requires { HasSmallNumbers m.now }
+    ensures { IfOk result (λ _. text.new.items ≡ text.old.items ++ end_text m.now end) }
+{
+    match end {
+        End::Exit(value) => {
+            text.extend_from_slice(b"exit ")?;
+            push_number(text, value as u64)
+        }
+        End::Trap { kind, site } => {
+            text.extend_from_slice(b"trap ")?;
+            text.extend_from_slice(name_of_trap(kind))?;
+            push_site(text, m, site)
+        }
+        End::Reported => text.extend_from_slice(b"reported"),
+        End::Spent => text.extend_from_slice(b"spent"),
+    }
+}
+
+/// The printed verdict of a run.
+fn name_of_verdict(r: &RunResult) -> &'static [u8]
+    ensures { result.now ≡ verdict_text (verdict_of r.now) }
+{
+    match r.reports.as_slice() {
+        [_, ..] => b"poisoned",
+        [] => { if r.blind == 0 { b"clean" } else { b"unsure" } }
+    }
+}
+
+/// Adds the line of a number with a name.
+fn push_count(text: &mut Vec<u8>, name: &[u8], count: u64) -> Result<(), NoMemory>
+    ensures { IfOk result (λ _. text.new.items ≡ text.old.items ++ line name.now (decimal count)) }
+{
+    text.extend_from_slice(name)?;
+    text.extend_from_slice(b": ")?;
+    push_number(text, count)?;
+    text.push(b'\n')?;
+    Ok(())
+}
+
+/// Adds the line that says how a run ended.
+fn push_end_line(text: &mut Vec<u8>, m: &Module, end: End) -> Result<(), NoMemory>
+    requires { HasSmallNumbers m.now }
+    ensures { IfOk result (λ _. text.new.items ≡ text.old.items ++ line (codes "end") (end_text m.now end)) }
+{
+    text.extend_from_slice(b"end: ")?;
+    push_end(text, m, end)?;
+    text.push(b'\n')?;
+    Ok(())
+}
+
+/// Adds the line of the verdict, where it is asked for.
+fn push_verdict(text: &mut Vec<u8>, r: &RunResult, asked: bool) -> Result<(), NoMemory>
+    ensures { IfOk result (λ _. text.new.items ≡ text.old.items ++ verdict_line asked r.now) }
+{
+    if asked {
+        text.extend_from_slice(b"verdict: ")?;
+        text.extend_from_slice(name_of_verdict(r))?;
+        text.push(b'\n')?;
+    }
+    Ok(())
+}
+
+/// Adds the closing lines of a run.
+fn push_closing(
+    text: &mut Vec<u8>,
+    m: &Module,
+    r: &RunResult,
+    verdict: bool,
+) -> Result<(), NoMemory>
+    requires { HasSmallNumbers m.now }
+    ensures { IfOk result (λ _. text.new.items ≡ text.old.items ++ closing_of m.now r.now verdict) }
+{
+    push_end_line(text, m, r.end)?;
+    push_count(text, b"reports", r.reports.as_slice().len() as u64)?;
+    push_count(text, b"blind", r.blind)?;
+    push_verdict(text, r, verdict)
+}
+
+/// The closing lines of a run of `m`: how it ended, its number of reports, its number of blind uses, and
+/// where `verdict` is set whether it used uninitialised bits. The one error is want of memory.
+pub fn closing(alloc: Global, m: &Module, r: &RunResult, verdict: bool) -> Result<Vec<u8>, NoMemory>
+    requires { Formed m.now }
+    ensures { IfOk result (λ text. text.items ≡ closing_of m.now r.now verdict) }
+{
+    let mut text = Vec::new(alloc);
+    push_closing(&mut text, m, r, verdict)?;
+    Ok(text)
+}

@@ -1,0 +1,202 @@
+//! The lines of refusals.
+ghost use Rattle.std.specs.Prelude.{◌≡◌, ◌++◌, IfOk, codes, decimal};
+ghost use Rattle.ms_report.specs.FaultTexts.{refused_line};
+ghost use Rattle.ms_report.specs.RefusalTexts.{HasLine, IsReadRefusal, IsNumbered, outside_name, limit_name, cause_name, what_text, token_text, lexer_text, reader_text, refusal_text};
+
+use crate::faults::push_check;
+use crate::lines::begin_line;
+use ms_bits::NoMemory;
+use ms_check::CheckError;
+use ms_grammar::{Limit, Outside};
+use ms_lex::LexError;
+use ms_read_body::{ReadError, What};
+use ms_write_values::push_number;
+use std::alloc::Global;
+
+/// Why a module is refused.
+#[derive(Debug, PartialEq, Eq, Drop)]
+pub enum Refusal {
+    /// Its text isn't read.
+    Read(ReadError),
+    /// It is read, and isn't valid.
+    Check(CheckError),
+}
+
+/// The printed name of a construct that is left out.
+fn name_of_construct(construct: Outside) -> &'static [u8]
+    ensures { result.now ≡ outside_name construct }
+{
+    match construct {
+        Outside::FloatingPoint => b"floating point",
+        Outside::Vector => b"vector",
+        Outside::WideInteger => b"wide integer",
+        Outside::AddressSpace => b"address space",
+        Outside::ThreadLocal => b"thread local",
+        Outside::AggregateValue => b"aggregate value",
+        Outside::ByValue => b"by value",
+        Outside::IndirectCall => b"indirect call",
+        Outside::FunctionType => b"function type",
+        Outside::Variadic => b"variadic",
+        Outside::Exceptions => b"exceptions",
+        Outside::Assembly => b"assembly",
+        Outside::IndirectBranch => b"indirect branch",
+        Outside::Atomics => b"atomics",
+        Outside::Volatile => b"volatile",
+        Outside::VariableArguments => b"variable arguments",
+        Outside::Alias => b"alias",
+        Outside::Comdat => b"comdat",
+        Outside::ExternalGlobal => b"external global",
+        Outside::OpaqueType => b"opaque type",
+        Outside::TypedPointer => b"typed pointer",
+        Outside::MetadataOperand => b"metadata operand",
+        Outside::OperandBundle => b"operand bundle",
+        Outside::ConstantExpression => b"constant expression",
+        Outside::CallOfMain => b"call of main",
+    }
+}
+
+/// The printed name of a limit.
+fn name_of_limit(limit: Limit) -> &'static [u8]
+    ensures { result.now ≡ limit_name limit }
+{
+    match limit {
+        Limit::Instructions => b"instructions",
+        Limit::Functions => b"functions",
+        Limit::Globals => b"globals",
+        Limit::Parameters => b"parameters",
+        Limit::Types => b"types",
+        Limit::Indices => b"indices",
+        Limit::Name => b"name",
+    }
+}
+
+/// The printed name of the cause with a number.
+fn name_of_cause(number: u8) -> &'static [u8]
+    ensures { result.now ≡ cause_name number }
+{
+    match number {
+        4 => b"syntax",
+        5 => b"outside",
+        6 => b"limit",
+        7 => b"numbering",
+        _ => b"reserved",
+    }
+}
+
+/// Adds the name behind a cause that has one.
+fn push_what(text: &mut Vec<u8>, what: What) -> Result<(), NoMemory>
+    ensures { IfOk result (λ _. text.new.items ≡ text.old.items ++ what_text what) }
+{
+    match what {
+        What::Nothing => Ok(()),
+        What::Outside(construct) => {
+            text.push(b' ')?;
+            text.extend_from_slice(name_of_construct(construct))
+        }
+        What::Limit(limit) => {
+            text.push(b' ')?;
+            text.extend_from_slice(name_of_limit(limit))
+        }
+    }
+}
+
+/// Adds where a token stands.
+fn push_token(text: &mut Vec<u8>, token: u32, place: u32) -> Result<(), NoMemory>
+    ensures { IfOk result (λ _. text.new.items ≡ text.old.items ++ token_text token place) }
+{
+    text.extend_from_slice(b" at token ")?;
+    push_number(text, token as u64)?;
+    text.extend_from_slice(b", byte ")?;
+    push_number(text, place as u64)
+}
+
+/// Adds the line of a refusal that names a byte.
+fn push_byte(text: &mut Vec<u8>, number: u8, name: &[u8], place: u32) -> Result<(), NoMemory>
+    ensures { IfOk result (λ _. text.new.items ≡ text.old.items ++ refused_line number (name.now ++ decimal place)) }
+{
+    begin_line(text, number)?;
+    text.extend_from_slice(name)?;
+    push_number(text, place as u64)?;
+    text.push(b'\n')?;
+    Ok(())
+}
+
+/// Adds the line for a text of too many tokens.
+fn push_tokens(text: &mut Vec<u8>) -> Result<(), NoMemory>
+    ensures { IfOk result (λ _. text.new.items ≡ text.old.items ++ refused_line 3 (codes "too many tokens")) }
+{
+    begin_line(text, 3)?;
+    text.extend_from_slice(b"too many tokens\n")
+}
+
+/// Adds the line for a text that has no tokens.
+fn push_lexer(text: &mut Vec<u8>, e: LexError) -> Result<(), NoMemory>
+    requires { IsReadRefusal (ReadError.Lex e) }
+    ensures { IfOk result (λ _. text.new.items ≡ text.old.items ++ lexer_text e) }
+{
+    match e {
+        LexError::BadByte { place } => push_byte(text, 1, b"bad byte at ", place),
+        LexError::OpenString { place } => push_byte(text, 2, b"open string at ", place),
+        LexError::TooManyTokens => push_tokens(text),
+        LexError::NoMemory => Ok(()),
+    }
+}
+
+/// Adds the line for a text with a token that can't stand where it stands.
+fn push_refused(
+    text: &mut Vec<u8>,
+    number: u8,
+    what: What,
+    token: u32,
+    place: u32,
+) -> Result<(), NoMemory>
+    requires { IsNumbered number what }
+    ensures { IfOk result (λ _. text.new.items ≡ text.old.items ++ reader_text (ReadError.Refused number what token place)) }
+{
+    begin_line(text, number)?;
+    text.extend_from_slice(name_of_cause(number))?;
+    push_what(text, what)?;
+    push_token(text, token, place)?;
+    text.push(b'\n')?;
+    Ok(())
+}
+
+/// Adds the line for a text that isn't read.
+fn push_reader(text: &mut Vec<u8>, e: ReadError) -> Result<(), NoMemory>
+    requires { IsReadRefusal e }
+    ensures { IfOk result (λ _. text.new.items ≡ text.old.items ++ reader_text e) }
+{
+    match e {
+        ReadError::Lex(cause) => push_lexer(text, cause),
+        ReadError::Refused {
+            number,
+            what,
+            token,
+            place,
+        } => push_refused(text, number, what, token, place),
+        ReadError::NoMemory => Ok(()),
+    }
+}
+
+/// Adds the line that says why a module is refused.
+fn push_refusal(text: &mut Vec<u8>, e: &Refusal) -> Result<(), NoMemory>
+    requires { HasLine e.now }
+    ensures { IfOk result (λ _. text.new.items ≡ text.old.items ++ refusal_text e.now) }
+{
+    match e {
+        Refusal::Read(cause) => push_reader(text, *cause),
+        Refusal::Check(cause) => push_check(text, cause),
+    }
+}
+
+/// The line that says why a module is refused: the number of the cause, what it is, and where. The cause isn't want of
+/// memory; a `Refused` has a number from 4 to 8, and names a construct exactly at 5 and a limit exactly at 6. Causes that
+/// a module isn't valid have the numbers 9 to 17. The one error is want of memory.
+pub fn refusal_line(alloc: Global, e: &Refusal) -> Result<Vec<u8>, NoMemory>
+    requires { HasLine e.now }
+    ensures { IfOk result (λ text. text.items ≡ refusal_text e.now) }
+{
+    let mut text = Vec::new(alloc);
+    push_refusal(&mut text, e)?;
+    Ok(text)
+}

@@ -1,0 +1,266 @@
+//! The lines of a run's reports.
+ghost use Rattle.std.specs.Prelude.{◌≡◌, ◌++◌, IfOk, codes, decimal};
+ghost use Rattle.ms_ir.specs.Places.{HasSmallNumbers};
+ghost use Rattle.ms_ir.specs.Roots.{roots_of, root_numbered};
+ghost use Rattle.ms_valid.specs.Formed.{Formed};
+ghost use Rattle.ms_report.specs.ReportTexts.{hexadecimal, kind_text, root_name, root_text, origin_text, origin_line, earlier as earlier_of, chain_text, origins_text, use_text, bits_text, report_line, reports_text, report_text_of};
+
+use crate::sites::push_site;
+use ms_bits::NoMemory;
+use ms_ir::{Module, Root, RootKind, roots};
+use ms_runs::{Origin, Report, RunResult};
+use ms_write_values::push_number;
+use std::alloc::Global;
+
+/// Adds a number in lower-case hexadecimal digits.
+fn push_hexadecimal(alloc: Global, text: &mut Vec<u8>, number: u64) -> Result<(), NoMemory>
+    ensures { IfOk result (λ _. text.new.items ≡ text.old.items ++ hexadecimal number) }
+{
+    let digits = format!(in alloc; "{number:x}")?;
+    text.extend_from_slice(digits.as_bytes())
+}
+
+/// Adds the name of a kind of use.
+fn push_kind(text: &mut Vec<u8>, kind: u32) -> Result<(), NoMemory>
+    ensures { IfOk result (λ _. text.new.items ≡ text.old.items ++ kind_text kind) }
+{
+    match kind {
+        1 => text.extend_from_slice(b"branch"),
+        2 => text.extend_from_slice(b"switch"),
+        3 => text.extend_from_slice(b"address"),
+        4 => text.extend_from_slice(b"divisor"),
+        5 => text.extend_from_slice(b"size"),
+        6 => text.extend_from_slice(b"pointer"),
+        7 => text.extend_from_slice(b"value"),
+        8 => text.extend_from_slice(b"exit"),
+        9 => text.extend_from_slice(b"output"),
+        10 => text.extend_from_slice(b"string"),
+        11 => text.extend_from_slice(b"first-bytes"),
+        12 => text.extend_from_slice(b"second-bytes"),
+        _ => {
+            text.extend_from_slice(b"kind ")?;
+            push_number(text, kind as u64)
+        }
+    }
+}
+
+fn name_of_root(kind: RootKind) -> &'static [u8]
+    ensures { result.now ≡ root_name kind }
+{
+    match kind {
+        RootKind::Alloca => b"alloca",
+        RootKind::Malloc => b"malloc",
+        RootKind::Realloc => b"realloc",
+        RootKind::Lifetime => b"lifetime",
+        RootKind::Undef => b"undef",
+    }
+}
+
+/// The root of `m` with a number.
+fn root_at(m: &Module, roots: &[Root], number: u32) -> Option<Root>
+    requires { roots.now ≡ roots_of m.now }
+    ensures { result ≡ root_numbered m.now number }
+{
+    if number == 0 {
+        return None;
+    }
+    roots.get(number as usize - 1).copied()
+}
+
+/// Adds what made the bits of a root.
+fn push_root(text: &mut Vec<u8>, m: &Module, root: Option<Root>) -> Result<(), NoMemory>
+    requires { HasSmallNumbers m.now }
+    ensures { IfOk result (λ _. text.new.items ≡ text.old.items ++ root_text m.now root) }
+{
+    match root {
+        None => text.extend_from_slice(b"unknown"),
+        Some(root) => {
+            text.extend_from_slice(name_of_root(root.kind))?;
+            push_site(text, m, root.site)
+        }
+    }
+}
+
+/// Adds what an origin is, where `roots` are the module's.
+fn push_origin(
+    text: &mut Vec<u8>,
+    m: &Module,
+    roots: &[Root],
+    origin: Origin,
+) -> Result<(), NoMemory>
+    requires numbers { HasSmallNumbers m.now }
+    requires roots { roots.now ≡ roots_of m.now }
+    ensures { IfOk result (λ _. text.new.items ≡ text.old.items ++ origin_text m.now origin) }
+{
+    match origin {
+        Origin::Root { number } => push_root(text, m, root_at(m, roots, number)),
+        Origin::Chain { site, .. } => {
+            text.extend_from_slice(b"stored")?;
+            push_site(text, m, site)
+        }
+    }
+}
+
+/// The number of the origin behind one with the number `number`.
+fn earlier(number: u32, origin: Origin) -> u32
+    ensures { result ≡ earlier_of number origin }
+{
+    match origin {
+        Origin::Root { .. } => number,
+        Origin::Chain { old, .. } => old,
+    }
+}
+
+/// Begins the line of the origin with a number.
+fn begin_origin(text: &mut Vec<u8>, number: u32) -> Result<(), NoMemory>
+    ensures { IfOk result (λ _. text.new.items ≡ text.old.items ++ (codes "  origin " ++ decimal number ++ codes ": ")) }
+{
+    text.extend_from_slice(b"  origin ")?;
+    push_number(text, number as u64)?;
+    text.extend_from_slice(b": ")
+}
+
+/// Adds the line of an origin with a number.
+fn push_link(
+    text: &mut Vec<u8>,
+    m: &Module,
+    roots: &[Root],
+    number: u32,
+    origin: Origin,
+) -> Result<(), NoMemory>
+    requires numbers { HasSmallNumbers m.now }
+    requires roots { roots.now ≡ roots_of m.now }
+    ensures { IfOk result (λ _. text.new.items ≡ text.old.items ++ origin_line number (origin_text m.now origin)) }
+{
+    begin_origin(text, number)?;
+    push_origin(text, m, roots, origin)?;
+    text.push(b'\n')?;
+    Ok(())
+}
+
+/// Adds the lines of the origins from the number `number` on.
+fn push_chain(
+    text: &mut Vec<u8>,
+    m: &Module,
+    roots: &[Root],
+    number: u32,
+    chain: &[Origin],
+) -> Result<(), NoMemory>
+    requires numbers { HasSmallNumbers m.now }
+    requires roots { roots.now ≡ roots_of m.now }
+    ensures { IfOk result (λ _. text.new.items ≡ text.old.items ++ chain_text m.now number chain.now) }
+{
+    let mut number = number;
+    for origin in chain {
+        push_link(text, m, roots, number, *origin)?;
+        number = earlier(number, *origin);
+    }
+    Ok(())
+}
+
+/// Adds the lines of an origin with its chain.
+fn push_origins(
+    text: &mut Vec<u8>,
+    m: &Module,
+    roots: &[Root],
+    number: u32,
+    chain: &[Origin],
+) -> Result<(), NoMemory>
+    requires numbers { HasSmallNumbers m.now }
+    requires roots { roots.now ≡ roots_of m.now }
+    ensures { IfOk result (λ _. text.new.items ≡ text.old.items ++ origins_text m.now number chain.now) }
+{
+    if chain.is_empty() {
+        begin_origin(text, number)?;
+        text.extend_from_slice(b"unknown\n")
+    } else {
+        push_chain(text, m, roots, number, chain)
+    }
+}
+
+/// Adds which report it is, and where which kind of use stands.
+fn push_use(text: &mut Vec<u8>, m: &Module, number: u64, report: &Report) -> Result<(), NoMemory>
+    requires { HasSmallNumbers m.now }
+    ensures { IfOk result (λ _. text.new.items ≡ text.old.items ++ use_text m.now number report.now) }
+{
+    text.extend_from_slice(b"report ")?;
+    push_number(text, number)?;
+    text.extend_from_slice(b": ")?;
+    push_kind(text, report.kind)?;
+    push_site(text, m, report.site)
+}
+
+/// Adds which bits are used.
+fn push_bits(alloc: Global, text: &mut Vec<u8>, report: &Report) -> Result<(), NoMemory>
+    ensures { IfOk result (λ _. text.new.items ≡ text.old.items ++ bits_text report.now) }
+{
+    text.extend_from_slice(b", part ")?;
+    push_number(text, report.part as u64)?;
+    text.extend_from_slice(b", bits 0x")?;
+    push_hexadecimal(alloc, text, report.mask)?;
+    text.extend_from_slice(b" of i")?;
+    push_number(text, report.width as u64)
+}
+
+/// Adds the line of a report with a number.
+fn push_report(
+    alloc: Global,
+    text: &mut Vec<u8>,
+    m: &Module,
+    number: u64,
+    report: &Report,
+) -> Result<(), NoMemory>
+    requires { HasSmallNumbers m.now }
+    ensures { IfOk result (λ _. text.new.items ≡ text.old.items ++ report_line m.now number report.now) }
+{
+    push_use(text, m, number, report)?;
+    push_bits(alloc, text, report)?;
+    text.push(b'\n')?;
+    Ok(())
+}
+
+/// Adds the lines of reports, which are counted from 1.
+fn push_reports(
+    alloc: Global,
+    text: &mut Vec<u8>,
+    m: &Module,
+    roots: &[Root],
+    reports: &[Report],
+) -> Result<(), NoMemory>
+    requires numbers { HasSmallNumbers m.now }
+    requires roots { roots.now ≡ roots_of m.now }
+    ensures { IfOk result (λ _. text.new.items ≡ text.old.items ++ reports_text m.now 1 reports.now) }
+{
+    let mut index = 0;
+    while index < reports.len() {
+        let report = &reports[index];
+        index += 1;
+        push_report(alloc, text, m, index as u64, report)?;
+        push_origins(text, m, roots, report.origin, report.chain.as_slice())?;
+    }
+    Ok(())
+}
+
+/// Adds the lines of a run's reports. The roots of the module are found where there is a report.
+fn push_all(alloc: Global, text: &mut Vec<u8>, m: &Module, r: &RunResult) -> Result<(), NoMemory>
+    requires { HasSmallNumbers m.now }
+    ensures { IfOk result (λ _. text.new.items ≡ text.old.items ++ report_text_of m.now r.now) }
+{
+    let reports = r.reports.as_slice();
+    if reports.is_empty() {
+        return Ok(());
+    }
+    let roots = roots(alloc, m)?;
+    push_reports(alloc, text, m, roots.as_slice(), reports)
+}
+
+/// The lines of the reports of a run of `m`, with the way of each to its root. The one error is want of
+/// memory. Linear in the module, the number of reports and the lengths of their ways.
+pub fn report_text(alloc: Global, m: &Module, r: &RunResult) -> Result<Vec<u8>, NoMemory>
+    requires { Formed m.now }
+    ensures { IfOk result (λ text. text.items ≡ report_text_of m.now r.now) }
+{
+    let mut text = Vec::new(alloc);
+    push_all(alloc, &mut text, m, r)?;
+    Ok(text)
+}

@@ -1,6 +1,0 @@
-use Rattle.std.proofs.Common.{◌≡◌, ◌++◌, drop}
-use Rattle.ms_top.specs.FaultTexts.{spaced}
-use Rattle.ms_top.proofs.faults.push_spaced.Given as goal
-
-abbrev pub invariant-loop-number : goal.invariant-loop-number
-invariant-loop-number l = l.text.items ++ spaced (drop l.number-index l.numbers) ≡ l.fn.text.items ++ spaced l.numbers

@@ -1,5 +1,0 @@
-use Rattle.ms_top.proofs.Rooting.{phi_roots}
-use Rattle.ms_top.proofs.roots.operands.push_operands.Goals as goal
-
-pub returns-in_ok-push_edges-in-Phi : goal.returns-in_ok-push_edges-in-Phi
-returns-in_ok-push_edges-in-Phi c = phi_roots _ _ _ _ _ _ _ c.in-Phi.is c.as_slice.ensures c.in_ok-push_edges-in-Phi.ensures

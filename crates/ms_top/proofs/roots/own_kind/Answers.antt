@@ -1,6 +1,0 @@
-use Rattle.ms_ir.specs.Code.{func_index}
-use Rattle.ms_top.proofs.Rooting.{called_roots}
-use Rattle.ms_top.proofs.roots.own_kind.Goals as goal
-
-pub returns-in-Call : goal.returns-in-Call
-returns-in-Call c = λ site. called_roots (func_index c.args.callees.now.funcs.now) site _ _ c.in-Call.callee _ _ c.in-Call.is c.kind.ensures

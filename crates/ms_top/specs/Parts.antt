@@ -1,0 +1,23 @@
+-- What the parts of the code say of files. What `msan` promises does not name them.
+use Rattle.std.specs.Prelude.{◌≡◌, ℕ, List, codes}
+use Rattle.ms_io.specs.declared.traits.FileError.{FileError}
+use Rattle.ms_io.specs.declared.traits.FileError.TheVariants.{Failed, Absent, TooLong, NoMemory}
+use Rattle.ms_ir.specs.declared.syntax.Module.{Module}
+use Rattle.ms_report.specs.RunTexts.{line}
+use Rattle.ms_top.specs.declared.answers.Answer.{Answer}
+use Rattle.ms_top.specs.declared.commands.Command.{Command}
+use Rattle.ms_top.specs.Command.{options_of, input_files}
+use Rattle.ms_top.specs.Files.{Counted, CanRead, FilesRead, behind}
+use Rattle.ms_top.specs.Said.{says, IsAnswerToFiles}
+
+-- the answer for why a file isn't read whole; want of memory has an answer of its own
+abbrev pub IsAnswerToFault : FileError → List ℕ → Answer → Type 0
+IsAnswerToFault Failed name a = a ≡ says 6 (line (codes "file fault") name)
+IsAnswerToFault Absent name a = a ≡ says 6 (line (codes "file fault") name)
+IsAnswerToFault (TooLong taken) name a = a ≡ says 9 (line (codes "file too long") name)
+IsAnswerToFault NoMemory name a = ⊥
+
+-- the answer to a command whose module's file has this text, for what reading the other files comes to
+abbrev pub IsAnswerBehind : (Module → Module → Type 0) → Counted → Command → List ℕ → Answer → Type 0
+IsAnswerBehind Gives c command text a =
+    (r : FilesRead) × CanRead c (input_files (options_of command).input) r × IsAnswerToFiles Gives command (behind text r) a

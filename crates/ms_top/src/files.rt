@@ -1,0 +1,122 @@
+//! What is said of words and files.
+ghost use Rattle.std.specs.Prelude.{◌≡◌, ◌≤◌, ◌++◌, codes, length, None, IfOk};
+ghost use Rattle.ms_runs.specs.Faithful.{Faithful};
+ghost use Rattle.ms_report.specs.RunTexts.{line};
+ghost use Rattle.ms_report.specs.WordsTexts.{words_text};
+ghost use Rattle.ms_top.specs.Command.{command_of, options_of, module_limit, FitRun};
+ghost use Rattle.ms_top.specs.Files.{counted};
+ghost use Rattle.ms_top.specs.Parts.{IsAnswerBehind, IsAnswerToFault};
+ghost use Rattle.ms_top.specs.Said.{IsAnswer, IsAnswerToCommand, says};
+
+use crate::answers::{Answer, answer_to_text};
+use crate::commands::{Command, command_in};
+use ms_bits::{NoMemory, Text};
+use ms_io::{FileError, Files};
+use ms_report::{WordsFault, words_line};
+use std::alloc::{AllocError, Global};
+
+/// The most bytes that an input file may have.
+const INPUT_LIMIT: u64 = 1 << 20;
+
+/// What a call with these words and these files is to say. The one error is want of memory.
+pub fn answer_to<F: Files>(alloc: Global, words: &[Text], files: &mut F) -> Result<Answer, NoMemory>
+    ensures said { IfOk result (λ a. IsAnswer Faithful
+        (counted (F.held files.old) (F.faults files.old) (F.faults files.new) (F.taken files.old) (F.taken files.new)) words.now a) }
+    ensures holdings_stay { F.held files.new ≡ F.held files.old }
+    ensures faults_never_fall { F.faults files.old ≤ F.faults files.new }
+    ensures taken_never_falls { F.taken files.old ≤ F.taken files.new }
+    ensures unread { command_of words.now ≡ None → files.new ≡ files.old }
+{
+    match command_in(alloc, words)? {
+        None => no_command(alloc),
+        Some(command) => answer_to_command(alloc, &command, files),
+    }
+}
+
+/// The answer for words that are no command.
+fn no_command(alloc: Global) -> Result<Answer, NoMemory>
+    ensures { IfOk result (λ a. a ≡ says 2 (words_text (codes "NotBuilt") 0)) }
+{
+    let fault = WordsFault {
+        name: "NotBuilt",
+        place: 0,
+    };
+    let line = words_line(alloc, &fault)?;
+    Ok(Answer::on_err(alloc, 2, line))
+}
+
+/// The answer to a command: its files are read in order, the module's first.
+fn answer_to_command<F: Files>(
+    alloc: Global,
+    command: &Command,
+    files: &mut F,
+) -> Result<Answer, NoMemory>
+    requires { FitRun (options_of command.now) }
+    ensures said { IfOk result (λ a. IsAnswerToCommand Faithful
+        (counted (F.held files.old) (F.faults files.old) (F.faults files.new) (F.taken files.old) (F.taken files.new)) command.now a) }
+    ensures holdings_stay { F.held files.new ≡ F.held files.old }
+    ensures faults_never_fall { F.faults files.old ≤ F.faults files.new }
+    ensures taken_never_falls { F.taken files.old ≤ F.taken files.new }
+{
+    let file = command.file();
+    match files.read_whole(alloc, file.as_str(), command.module_limit()) {
+        Ok(text) => answer_behind(alloc, command, &text, files),
+        Err(cause) => unread(alloc, file, cause),
+    }
+}
+
+/// The answer to a command whose module's file has this text: its input is read, where it has a file.
+fn answer_behind<F: Files>(
+    alloc: Global,
+    command: &Command,
+    text: &[u8],
+    files: &mut F,
+) -> Result<Answer, NoMemory>
+    requires limits { FitRun (options_of command.now) }
+    requires fits { length text.now ≤ module_limit command.now }
+    ensures said { IfOk result (λ a. IsAnswerBehind Faithful
+        (counted (F.held files.old) (F.faults files.old) (F.faults files.new) (F.taken files.old) (F.taken files.new)) command.now text.now a) }
+    ensures holdings_stay { F.held files.new ≡ F.held files.old }
+    ensures faults_never_fall { F.faults files.old ≤ F.faults files.new }
+    ensures taken_never_falls { F.taken files.old ≤ F.taken files.new }
+{
+    match &command.options().input {
+        None => answer_to_text(alloc, command, text, b""),
+        Some(file) => match files.read_whole(alloc, file.as_str(), INPUT_LIMIT) {
+            Ok(input) => answer_to_text(alloc, command, text, &input),
+            Err(cause) => unread(alloc, file, cause),
+        },
+    }
+}
+
+/// The answer for a file that isn't read whole. Where the cause is want of memory, so is the error.
+fn unread(alloc: Global, file: &Text, cause: FileError) -> Result<Answer, NoMemory>
+    ensures { IfOk result (λ a. IsAnswerToFault cause file.now a) }
+{
+    match cause {
+        FileError::Failed => about_file(alloc, 6, b"file fault", file),
+        FileError::Absent => about_file(alloc, 6, b"file fault", file),
+        FileError::TooLong { .. } => about_file(alloc, 9, b"file too long", file),
+        FileError::NoMemory => Err(AllocError),
+    }
+}
+
+/// The answer that names a file.
+fn about_file(alloc: Global, status: u8, name: &[u8], file: &Text) -> Result<Answer, NoMemory>
+    ensures { IfOk result (λ a. a ≡ says status (line name.now file.now)) }
+{
+    let mut text = Vec::new(alloc);
+    push_line(&mut text, name, file.as_str().as_bytes())?;
+    Ok(Answer::on_err(alloc, status, text))
+}
+
+/// Adds the line `name: value`.
+fn push_line(text: &mut Vec<u8>, name: &[u8], value: &[u8]) -> Result<(), NoMemory>
+    ensures { IfOk result (λ _. text.new.items ≡ text.old.items ++ line name.now value.now) }
+{
+    text.extend_from_slice(name)?;
+    text.extend_from_slice(b": ")?;
+    text.extend_from_slice(value)?;
+    text.push(b'\n')?;
+    Ok(())
+}
