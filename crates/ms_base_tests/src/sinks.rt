@@ -1,0 +1,102 @@
+//! Sinks in memory and over a writer.
+
+use ms_io::{MemSink, RealSink, Sink};
+use std::alloc::{AllocError, Global};
+use std::io;
+use std::io::Write;
+use std::test::Fail;
+
+/// A piece, whether it is taken, and what was written then.
+struct Put(&'static str, bool, &'static str);
+
+/// A piece, and whether it is taken.
+struct Sent(&'static str, bool);
+
+/// The second put fails, and five bytes fit.
+static PUTS: [Put; 6] = [
+    Put("ab", true, "ab"),
+    Put("x", false, "ab"),
+    Put("cd", true, "abcd"),
+    Put("efg", false, "abcde"),
+    Put("", true, "abcde"),
+    Put("h", false, "abcde"),
+];
+
+/// Four bytes fit.
+static SENT: [Sent; 5] = [
+    Sent("abc", true),
+    Sent("", true),
+    Sent("de", false),
+    Sent("f", false),
+    Sent("", true),
+];
+
+static TO_STANDARD_ERROR: [Sent; 2] = [Sent("one put\n", true), Sent("", true)];
+
+/// A writer that takes one byte at a time, and none once its room is used up.
+#[derive(Drop)]
+struct Trickle {
+    room: usize,
+}
+
+impl Write for Trickle {
+    fn write(&mut self, buf: &[u8]) -> io::Result<usize> {
+        if self.room == 0 || buf.is_empty() {
+            return Ok(0);
+        }
+        self.room -= 1;
+        Ok(1)
+    }
+
+    fn flush(&mut self) -> io::Result<()> {
+        Ok(())
+    }
+}
+
+fn small_sink(alloc: Global) -> Result<MemSink, AllocError> {
+    let failing = vec![in alloc; 1]?;
+    Ok(MemSink::new(failing, vec![in alloc; 0u8; 5]?))
+}
+
+fn all_put(sink: &mut MemSink, rows: &[Put]) -> bool {
+    for row in rows {
+        if sink.put(row.0.as_bytes()).is_ok() != row.1 || sink.as_slice() != row.2.as_bytes() {
+            return false;
+        }
+    }
+    true
+}
+
+fn small_sink_takes(alloc: Global) -> bool {
+    match small_sink(alloc) {
+        Ok(mut sink) => all_put(&mut sink, &PUTS),
+        Err(_) => false,
+    }
+}
+
+fn all_sent<O: Sink>(sink: &mut O, rows: &[Sent]) -> bool {
+    for row in rows {
+        if sink.put(row.0.as_bytes()).is_ok() != row.1 {
+            return false;
+        }
+    }
+    true
+}
+
+#[test]
+fn a_sink_in_memory_takes_what_fits(rt: HostRuntime) -> Result<(), Fail> {
+    assert!(rt; small_sink_takes(rt.alloc()));
+    Ok(())
+}
+
+#[test]
+fn a_write_that_takes_nothing_is_a_fault(rt: HostRuntime) -> Result<(), Fail> {
+    assert!(rt; all_sent(&mut RealSink::new(Trickle { room: 4 }), &SENT));
+    Ok(())
+}
+
+#[test]
+fn standard_error_takes_a_put(rt: HostRuntime) -> Result<(), Fail> {
+    assert!(rt; all_sent(&mut RealSink::new(rt.stderr()), &TO_STANDARD_ERROR));
+    Ok(())
+}

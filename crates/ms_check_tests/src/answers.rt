@@ -1,0 +1,125 @@
+//! Texts of modules with what the check answers on them.
+
+ghost use Rattle.std.specs.Prelude.{◌≤◌, ◌^◌, length};
+ghost use Rattle.ms_valid.specs.Formed.{Formed};
+
+use ms_check::{CheckError, check};
+use ms_grammar::Form;
+use ms_ir::{Module, Name};
+use ms_read_top::read;
+use ms_write::write;
+use std::alloc::Global;
+
+/// What the check answers. Names are spelled with their `@` or `%`.
+pub enum Want {
+    Valid,
+    Duplicate(&'static str),
+    Unknown(u32, &'static str),
+    TypeMismatch(u32, u32),
+    BadPhi(u32),
+    NoMain,
+    BadExternal(&'static str),
+    Undefined(u32, &'static [u32]),
+    BadMark(u32),
+    BadSize(&'static str),
+}
+
+/// A text in the writer's layout, and the answer.
+pub struct Case(pub &'static str, pub Want);
+
+/// Whether a name has this text. A number has one digit here.
+fn is_named(name: &Name, wanted: &[u8]) -> bool {
+    match name {
+        Name::Text(bytes) => bytes.as_slice() == wanted,
+        Name::Number(number) => match wanted {
+            [digit] => u64::from(*digit) == 48 + u64::from(*number),
+            _ => false,
+        },
+    }
+}
+
+fn is_spelled(global: bool, name: &Name, wanted: &str) -> bool {
+    match wanted.as_bytes() {
+        [b'@', text @ ..] => global && is_named(name, text),
+        [b'%', text @ ..] => !global && is_named(name, text),
+        _ => false,
+    }
+}
+
+/// Whether an error is the wanted one.
+fn is_error(error: &CheckError, want: &Want) -> bool {
+    match (error, want) {
+        (CheckError::Duplicate { global, name }, Want::Duplicate(wanted)) => {
+            is_spelled(*global, name, wanted)
+        }
+        (CheckError::Unknown { site, global, name }, Want::Unknown(place, wanted)) => {
+            *site == *place && is_spelled(*global, name, wanted)
+        }
+        (CheckError::TypeMismatch { site, operand }, Want::TypeMismatch(place, number)) => {
+            *site == *place && *operand == *number
+        }
+        (CheckError::BadPhi { site }, Want::BadPhi(place)) => *site == *place,
+        (CheckError::NoMain, Want::NoMain) => true,
+        (CheckError::BadExternal { name }, Want::BadExternal(wanted)) => {
+            is_spelled(true, name, wanted)
+        }
+        (CheckError::Undefined { site, path }, Want::Undefined(place, blocks)) => {
+            *site == *place && path.as_slice() == *blocks
+        }
+        (CheckError::BadMark { site }, Want::BadMark(place)) => *site == *place,
+        (CheckError::BadSize { global, name }, Want::BadSize(wanted)) => {
+            is_spelled(*global, name, wanted)
+        }
+        _ => false,
+    }
+}
+
+fn is_valid(want: &Want) -> bool {
+    match want {
+        Want::Valid => true,
+        _ => false,
+    }
+}
+
+/// Whether a module is written as this text.
+pub fn is_written(alloc: Global, m: &Module, text: &[u8]) -> bool {
+    match write(alloc, m) {
+        Ok(written) => written.as_slice() == text,
+        Err(_) => false,
+    }
+}
+
+/// Whether the check answers so on a module, and hands the module of this text back.
+fn is_answered(alloc: Global, m: Module, text: &[u8], want: &Want) -> bool
+    requires { Formed m }
+{
+    match check(alloc, m) {
+        Ok(checked) => {
+            is_valid(want)
+                && is_written(alloc, checked.module(), text)
+                && is_written(alloc, &checked.into_module(), text)
+        }
+        Err((error, back)) => is_error(&error, want) && is_written(alloc, &back, text),
+    }
+}
+
+/// Whether the check answers so on the module that is read from a text, and hands this module back.
+#[tactic(auto, unfolding(ms_grammar::specs::Texts::max_bytes))]
+pub fn agrees(alloc: Global, text: &[u8], want: &Want) -> bool {
+    if text.len() > 1 << 20 {
+        return false;
+    }
+    match read(alloc, text, Form::Instrumented) {
+        Ok(m) => is_answered(alloc, m, text, want),
+        Err(_) => false,
+    }
+}
+
+pub fn all_agree(alloc: Global, cases: &[Case]) -> bool {
+    for case in cases {
+        if !agrees(alloc, case.0.as_bytes(), &case.1) {
+            return false;
+        }
+    }
+    true
+}

@@ -1,0 +1,151 @@
+//! Copies of modules, modules that differ in one place, and the order of names.
+
+use ms_bits::Duplicate;
+use ms_grammar::Form;
+use ms_ir::{Module, Name, Ty};
+use ms_read_body::ReadError;
+use ms_read_top::read;
+use std::alloc::Global;
+use std::cmp::Ordering;
+use std::test::Fail;
+
+/// What stands before and behind the pieces in which two modules differ.
+struct Differing(&'static str, &'static str, bool);
+
+/// Every kind of part of a module.
+const PARTS: &str = r#"%pair = type { i32, [ 2 x i8 ] }
+@g = constant < { [ 3 x ptr ], %pair, i8 } > < { [ 3 x ptr ] [ ptr null, ptr @h, ptr undef ], %pair zeroinitializer, i8 poison } >
+@h = global [ 2 x i8 ] c"a\00"
+@o = global ptr getelementptr (%pair, ptr @g, i64 -1, i32 1)
+declare void @free(ptr)
+define i32 @f(i8 %x, ptr %p) {
+  %1 = xor i8 %x, 5
+  %2 = icmp samesign ult i8 %1, 7
+  %3 = zext nneg i8 %1 to i32
+  %4 = select i1 %2, i32 %3, i32 undef
+  %5 = alloca %pair, i64 2
+  %6 = getelementptr %pair, ptr %5, i64 0, i32 1
+  store i8 %1, ptr %6
+  %7 = load i8, ptr %6
+  %__msan.1 = freeze i8 %7, !nosanitize !0
+  call void @free(ptr %p)
+  switch i8 %7, label %b [ i8 1, label %c i8 2, label %d ]
+b:
+  br label %d
+c:
+  br i1 %2, label %d, label %b
+d:
+  %8 = phi i32 [ %4, %b ], [ 9, %c ], [ poison, %0 ]
+  unreachable
+}
+!0 = !{}
+"#;
+
+static PAIRS: [Differing; 10] = [
+    Differing(PARTS, PARTS, true),
+    Differing("", PARTS, false),
+    Differing("@g = global i8 1\n", "@g = global i8 1\n", true),
+    Differing("@g = global i8 1\n", "@g = global i8 2\n", false),
+    Differing("@g = global i8 1\n", "@g = constant i8 1\n", false),
+    Differing("@g = global i8 undef\n", "@g = global i8 poison\n", false),
+    Differing(
+        "@g = global [ 3 x ptr ] zeroinitializer\n",
+        "@g = global [ 4 x ptr ] zeroinitializer\n",
+        false,
+    ),
+    Differing("%t = type { i8 }\n", "%t = type < { i8 } >\n", false),
+    Differing(
+        "define void @f() {\n  %x = xor i8 1, 5\n  ret void\n}\n",
+        "define void @f() {\n  %x = xor i8 1, 6\n  ret void\n}\n",
+        false,
+    ),
+    Differing(
+        "define void @f() {\n  %__msan.1 = xor i8 1, 5\n  ret void\n}\n",
+        "define void @f() {\n  %__msan.1 = xor i8 1, 5, !nosanitize !0\n  ret void\n}\n!0 = !{}\n",
+        false,
+    ),
+];
+
+/// A function whose parameters' names stand in order: numbers by their size, before texts, and these by their bytes.
+const ORDERED: &str =
+    "define void @f(i8 %0, i8 %1, i8 %2, i8 %3, i8 %4, i8 %5, i8 %6, i8 %7, i8 %8, i8 %9, i8 %10, i8 %\"\", i8 %x, i8 %x10, i8 %x2, i8 %xy) {\n  ret void\n}\n";
+
+#[tactic(auto, unfolding(ms_grammar::specs::Texts::max_bytes))]
+fn module_of(alloc: Global, text: &str) -> Result<Module, ReadError> {
+    let bytes = text.as_bytes();
+    if bytes.len() > 1 << 20 {
+        return Err(ReadError::NoMemory);
+    }
+    read(alloc, bytes, Form::Instrumented)
+}
+
+fn has_equal_copy(alloc: Global, m: &Module) -> bool {
+    match m.copy(alloc) {
+        Ok(copy) => copy == *m,
+        Err(_) => false,
+    }
+}
+
+/// Whether the module of this text, which is one, is equal to another.
+fn is_equal(alloc: Global, m: &Module, text: &str) -> Option<bool> {
+    match module_of(alloc, text) {
+        Ok(other) => Some(*m == other),
+        Err(_) => None,
+    }
+}
+
+fn agrees(alloc: Global, case: &Differing) -> bool {
+    match module_of(alloc, case.0) {
+        Ok(m) => has_equal_copy(alloc, &m) && is_equal(alloc, &m, case.1) == Some(case.2),
+        Err(_) => false,
+    }
+}
+
+fn all_agree(alloc: Global, cases: &[Differing]) -> bool {
+    for case in cases {
+        if !agrees(alloc, case) {
+            return false;
+        }
+    }
+    true
+}
+
+fn comes_behind(before: &Name, behind: &Name) -> bool {
+    before.cmp(behind) == Ordering::Less && behind.cmp(before) == Ordering::Greater
+}
+
+/// Whether each name comes behind the one before it.
+fn are_in_order(params: &[(Ty, Name)]) -> bool {
+    let mut last: Option<&Name> = None;
+    for param in params {
+        if let Some(before) = last {
+            if !comes_behind(before, &param.1) {
+                return false;
+            }
+        }
+        last = Some(&param.1);
+    }
+    true
+}
+
+fn has_names_in_order(alloc: Global, text: &str) -> bool {
+    match module_of(alloc, text) {
+        Ok(m) => match m.funcs.as_slice() {
+            [func] => func.params.as_slice().len() == 16 && are_in_order(func.params.as_slice()),
+            _ => false,
+        },
+        Err(_) => false,
+    }
+}
+
+#[test]
+fn copies_are_equal_and_changes_are_seen(rt: HostRuntime) -> Result<(), Fail> {
+    assert!(rt; all_agree(rt.alloc(), &PAIRS));
+    Ok(())
+}
+
+#[test]
+fn names_are_ordered(rt: HostRuntime) -> Result<(), Fail> {
+    assert!(rt; has_names_in_order(rt.alloc(), ORDERED));
+    Ok(())
+}

@@ -1,0 +1,240 @@
+//! Declarations, calls and globals, by the C library's declarations and the LLVM Language Reference.
+
+use crate::answers::{Case, Want, all_agree};
+use std::test::Fail;
+
+static EXTERNALS: [Case; 15] = [
+    Case(
+        r#"declare i32 @putchar(i32)
+define i32 @main() {
+  %1 = call i32 @putchar(i32 65)
+  ret i32 0
+}
+"#,
+        Want::Valid,
+    ),
+    // Another type, which is no fault where the function isn't called.
+    Case(
+        r#"declare i32 @putchar(i64)
+define i32 @main() {
+  %1 = call i32 @putchar(i64 65)
+  ret i32 0
+}
+"#,
+        Want::BadExternal("@putchar"),
+    ),
+    Case(
+        r#"declare i32 @putchar(i64)
+define i32 @main() {
+  ret i32 0
+}
+"#,
+        Want::Valid,
+    ),
+    // A parameter too many, and a result too many.
+    Case(
+        r#"declare i32 @getchar(i32)
+define i32 @main() {
+  %1 = call i32 @getchar(i32 0)
+  ret i32 0
+}
+"#,
+        Want::BadExternal("@getchar"),
+    ),
+    Case(
+        r#"declare i32 @exit(i32)
+define i32 @main() {
+  %1 = call i32 @exit(i32 0)
+  ret i32 0
+}
+"#,
+        Want::BadExternal("@exit"),
+    ),
+    // No external has this name.
+    Case(
+        r#"declare i32 @scanf(ptr)
+define i32 @main() {
+  %1 = call i32 @scanf(ptr null)
+  ret i32 0
+}
+"#,
+        Want::BadExternal("@scanf"),
+    ),
+    // The first of two declarations, which isn't the first that is called.
+    Case(
+        r#"declare i32 @rename(ptr)
+declare i32 @scanf(ptr)
+define i32 @main() {
+  %1 = call i32 @scanf(ptr null)
+  %2 = call i32 @rename(ptr null)
+  ret i32 0
+}
+"#,
+        Want::BadExternal("@rename"),
+    ),
+    // A copy that isn't volatile, one that is, and a function of the module with that name.
+    Case(
+        r#"declare void @llvm.memcpy.p0.p0.i64(ptr, ptr, i64, i1)
+define i32 @main() {
+  call void @llvm.memcpy.p0.p0.i64(ptr null, ptr null, i64 1, i1 false)
+  ret i32 0
+}
+"#,
+        Want::Valid,
+    ),
+    Case(
+        r#"declare void @llvm.memcpy.p0.p0.i64(ptr, ptr, i64, i1)
+define i32 @main() {
+  call void @llvm.memcpy.p0.p0.i64(ptr null, ptr null, i64 1, i1 true)
+  ret i32 0
+}
+"#,
+        Want::BadExternal("@llvm.memcpy.p0.p0.i64"),
+    ),
+    Case(
+        r#"define void @llvm.memcpy.p0.p0.i64(i1 %0) {
+  ret void
+}
+define i32 @main() {
+  call void @llvm.memcpy.p0.p0.i64(i1 true)
+  ret i32 0
+}
+"#,
+        Want::Valid,
+    ),
+    // The runtime's functions have their types, called or not.
+    Case(
+        r#"declare i64 @__msan_size(ptr)
+define i32 @main() {
+  ret i32 0
+}
+"#,
+        Want::Valid,
+    ),
+    Case(
+        r#"declare i64 @__msan_size(i64)
+define i32 @main() {
+  ret i32 0
+}
+"#,
+        Want::BadExternal("@__msan_size"),
+    ),
+    Case(
+        r#"declare void @__msan_check(i64, i32, i32, i32, i32, i32)
+define i32 @main() {
+  ret i32 0
+}
+"#,
+        Want::Valid,
+    ),
+    // A function has a name of the runtime; and a declaration comes before it.
+    Case(
+        r#"define void @__msan_size() {
+  ret void
+}
+define i32 @main() {
+  ret i32 0
+}
+"#,
+        Want::BadExternal("@__msan_size"),
+    ),
+    Case(
+        r#"declare i64 @puts(ptr)
+define void @__msan_size() {
+  ret void
+}
+define i32 @main() {
+  %1 = call i64 @puts(ptr null)
+  ret i32 0
+}
+"#,
+        Want::BadExternal("@puts"),
+    ),
+];
+
+static SLOTS: [Case; 9] = [
+    Case(
+        r#"@__msan_param_tls = global [ 100 x i64 ] zeroinitializer
+define i32 @main() {
+  ret i32 0
+}
+"#,
+        Want::Valid,
+    ),
+    Case(
+        r#"@__msan_param_tls = global [ 100 x i32 ] zeroinitializer
+define i32 @main() {
+  ret i32 0
+}
+"#,
+        Want::BadExternal("@__msan_param_tls"),
+    ),
+    Case(
+        r#"@__msan_param_tls = global [ 99 x i64 ] zeroinitializer
+define i32 @main() {
+  ret i32 0
+}
+"#,
+        Want::BadExternal("@__msan_param_tls"),
+    ),
+    Case(
+        r#"@__msan_param_tls = constant [ 100 x i64 ] zeroinitializer
+define i32 @main() {
+  ret i32 0
+}
+"#,
+        Want::BadExternal("@__msan_param_tls"),
+    ),
+    Case(
+        r#"@__msan_retval_tls = global i64 0
+define i32 @main() {
+  ret i32 0
+}
+"#,
+        Want::Valid,
+    ),
+    Case(
+        r#"@__msan_retval_tls = global i64 zeroinitializer
+define i32 @main() {
+  ret i32 0
+}
+"#,
+        Want::BadExternal("@__msan_retval_tls"),
+    ),
+    Case(
+        r#"@__msan_retval_origin_tls = global i32 0
+define i32 @main() {
+  ret i32 0
+}
+"#,
+        Want::Valid,
+    ),
+    Case(
+        r#"@__msan_check = global i64 0
+define i32 @main() {
+  ret i32 0
+}
+"#,
+        Want::BadExternal("@__msan_check"),
+    ),
+    Case(
+        r#"@x = constant [ 3 x i8 ] zeroinitializer
+define i32 @main() {
+  ret i32 0
+}
+"#,
+        Want::Valid,
+    ),
+];
+
+#[test]
+fn externals(rt: HostRuntime) -> Result<(), Fail> {
+    assert!(rt; all_agree(rt.alloc(), &EXTERNALS));
+    Ok(())
+}
+
+#[test]
+fn slots(rt: HostRuntime) -> Result<(), Fail> {
+    assert!(rt; all_agree(rt.alloc(), &SLOTS));
+    Ok(())
+}

@@ -1,0 +1,28 @@
+//! What the check answers on modules, and their layouts, sites, roots and copies. Each module is the text that stands
+//! for it; each answer was worked out by hand.
+#![tactic(auto)]
+
+#[cfg(test)]
+mod answers;
+#[cfg(test)]
+mod copies;
+#[cfg(test)]
+mod edges;
+#[cfg(test)]
+mod externals;
+#[cfg(test)]
+mod layouts;
+#[cfg(test)]
+mod marks;
+#[cfg(test)]
+mod names;
+#[cfg(test)]
+mod order;
+#[cfg(test)]
+mod sites;
+#[cfg(test)]
+mod sizes;
+#[cfg(test)]
+mod types;
+#[cfg(test)]
+mod uses;

@@ -1,0 +1,232 @@
+//! Types without a size, and globals that don't fit into their 16 MiB.
+
+use crate::answers::{Want, agrees};
+use std::alloc::{AllocError, Global};
+use std::test::Fail;
+
+/// What stands before `main`, an instruction of it, and the answer.
+struct Sized(&'static str, &'static str, Want);
+
+static SIZES: [Sized; 27] = [
+    // One type may have 2^26 bytes, and all globals together have 2^24.
+    Sized("", "", Want::Valid),
+    Sized(
+        "@a = global [ 67108865 x i8 ] zeroinitializer\n",
+        "",
+        Want::BadSize("@a"),
+    ),
+    Sized(
+        "@a = global [ 16777216 x i8 ] zeroinitializer\n",
+        "",
+        Want::Valid,
+    ),
+    Sized(
+        "@a = global [ 16777217 x i8 ] zeroinitializer\n",
+        "",
+        Want::BadSize("@a"),
+    ),
+    Sized(
+        "@a = global [ 16777200 x i8 ] zeroinitializer\n@b = global [ 16 x i8 ] zeroinitializer\n",
+        "",
+        Want::Valid,
+    ),
+    Sized(
+        "@a = global [ 16777200 x i8 ] zeroinitializer\n@b = global [ 17 x i8 ] zeroinitializer\n",
+        "",
+        Want::BadSize("@b"),
+    ),
+    // A global takes at least 16 bytes.
+    Sized(
+        "@a = global [ 16777216 x i8 ] zeroinitializer\n@b = global i8 0\n",
+        "",
+        Want::BadSize("@b"),
+    ),
+    Sized(
+        "@a = global [ 16777216 x i8 ] zeroinitializer\n@b = global [ 0 x i8 ] zeroinitializer\n@c = global [ 67108865 x i8 ] zeroinitializer\n",
+        "",
+        Want::BadSize("@b"),
+    ),
+    // The slots of the runtime take none.
+    Sized(
+        "@a = global [ 16777216 x i8 ] zeroinitializer\n@__msan_param_tls = global [ 100 x i64 ] zeroinitializer\n",
+        "",
+        Want::Valid,
+    ),
+    // A part of a type without a size, and one in an initialiser.
+    Sized(
+        "@a = global [ 0 x [ 67108865 x i8 ] ] zeroinitializer\n",
+        "",
+        Want::BadSize("@a"),
+    ),
+    Sized(
+        "@a = global ptr getelementptr ([ 67108865 x i8 ], ptr @a, i64 0)\n",
+        "",
+        Want::BadSize("@a"),
+    ),
+    Sized(
+        "@a = global ptr getelementptr ([ 67108864 x i8 ], ptr @a, i64 0)\n",
+        "",
+        Want::Valid,
+    ),
+    // A type that holds itself.
+    Sized(
+        "%s = type { ptr }\n%t = type { %t }\n",
+        "",
+        Want::BadSize("%t"),
+    ),
+    Sized(
+        "%s = type { %t }\n%t = type { %s }\n",
+        "",
+        Want::BadSize("%s"),
+    ),
+    Sized("%t = type { ptr }\n", "  %1 = alloca %t\n", Want::Valid),
+    // Types come before globals, and these before functions.
+    Sized(
+        "%t = type { [ 67108865 x i8 ] }\n@a = global [ 67108865 x i8 ] zeroinitializer\n",
+        "  %1 = alloca [ 67108865 x i8 ]\n",
+        Want::BadSize("%t"),
+    ),
+    Sized(
+        "%t = type { [ 1 x i8 ] }\n@a = global [ 67108865 x i8 ] zeroinitializer\n",
+        "  %1 = alloca [ 67108865 x i8 ]\n",
+        Want::BadSize("@a"),
+    ),
+    Sized(
+        "%t = type { [ 1 x i8 ] }\n@a = global [ 1 x i8 ] zeroinitializer\n",
+        "  %1 = alloca [ 67108865 x i8 ]\n",
+        Want::BadSize("@main"),
+    ),
+    Sized(
+        "%t = type { [ 1 x i8 ] }\n@a = global [ 1 x i8 ] zeroinitializer\n",
+        "  %1 = alloca [ 67108864 x i8 ]\n",
+        Want::Valid,
+    ),
+    // A count whose bytes pass 2^64.
+    Sized(
+        "",
+        "  %1 = alloca [ 4611686018427387904 x i64 ]\n",
+        Want::BadSize("@main"),
+    ),
+    // With padding there are 67108868 bytes, and without 67108862.
+    Sized(
+        "",
+        "  %1 = alloca { i8, i32, [ 67108857 x i8 ] }\n",
+        Want::BadSize("@main"),
+    ),
+    Sized(
+        "",
+        "  %1 = alloca < { i8, i32, [ 67108857 x i8 ] } >\n",
+        Want::Valid,
+    ),
+    Sized(
+        "",
+        "  %1 = alloca { [ 67108859 x i8 ], i32 }\n",
+        Want::Valid,
+    ),
+    // An `i24` has four bytes, and an `i1` has one.
+    Sized("", "  %1 = alloca [ 16777216 x i24 ]\n", Want::Valid),
+    Sized(
+        "",
+        "  %1 = alloca [ 16777217 x i24 ]\n",
+        Want::BadSize("@main"),
+    ),
+    Sized("", "  %1 = alloca [ 67108864 x i1 ]\n", Want::Valid),
+    Sized(
+        "",
+        "  %1 = alloca [ 8388609 x ptr ]\n",
+        Want::BadSize("@main"),
+    ),
+];
+
+/// The fields of the first of named types, how many types there are, each of which holds the one before twice or once, and
+/// the answer.
+struct Chain(&'static str, u32, bool, Want);
+
+static CHAINS: [Chain; 6] = [
+    // At most 32 types stand within one another.
+    Chain("i64", 32, false, Want::Valid),
+    Chain("i64", 33, false, Want::BadSize("%t.32")),
+    // With 24 types that are 8 * 2^23 bytes.
+    Chain("i64", 24, true, Want::Valid),
+    Chain("i64", 25, true, Want::BadSize("%t.24")),
+    Chain("i64", 32, true, Want::BadSize("%t.24")),
+    Chain("[ 0 x i8 ]", 32, true, Want::Valid),
+];
+
+/// Adds the type with a number, which holds the one before.
+fn push_type(
+    alloc: Global,
+    text: &mut Vec<u8>,
+    number: u32,
+    twice: bool,
+) -> Result<(), AllocError> {
+    let before = number.saturating_sub(1);
+    let line = if twice {
+        format!(in alloc; "%t.{number} = type {{ %t.{before}, %t.{before} }}\n")?
+    } else {
+        format!(in alloc; "%t.{number} = type {{ %t.{before} }}\n")?
+    };
+    text.extend_from_slice(line.as_bytes())
+}
+
+fn push_types(alloc: Global, text: &mut Vec<u8>, len: u32, twice: bool) -> bool {
+    for number in 1..len {
+        if push_type(alloc, text, number, twice).is_err() {
+            return false;
+        }
+    }
+    true
+}
+
+fn push_all(text: &mut Vec<u8>, pieces: &[&str]) -> bool {
+    for piece in pieces {
+        if text.extend_from_slice(piece.as_bytes()).is_err() {
+            return false;
+        }
+    }
+    true
+}
+
+fn is_sized(alloc: Global, case: &Sized) -> bool {
+    let mut text = Vec::new(alloc);
+    let pieces = [case.0, "define i32 @main() {\n", case.1, "  ret i32 0\n}\n"];
+    push_all(&mut text, &pieces) && agrees(alloc, &text, &case.2)
+}
+
+fn all_are_sized(alloc: Global, cases: &[Sized]) -> bool {
+    for case in cases {
+        if !is_sized(alloc, case) {
+            return false;
+        }
+    }
+    true
+}
+
+fn is_chain(alloc: Global, case: &Chain) -> bool {
+    let mut text = Vec::new(alloc);
+    push_all(&mut text, &["%t.0 = type { ", case.0, " }\n"])
+        && push_types(alloc, &mut text, case.1, case.2)
+        && push_all(&mut text, &["define i32 @main() {\n  ret i32 0\n}\n"])
+        && agrees(alloc, &text, &case.3)
+}
+
+fn all_are_chains(alloc: Global, cases: &[Chain]) -> bool {
+    for case in cases {
+        if !is_chain(alloc, case) {
+            return false;
+        }
+    }
+    true
+}
+
+#[test]
+fn sizes(rt: HostRuntime) -> Result<(), Fail> {
+    assert!(rt; all_are_sized(rt.alloc(), &SIZES));
+    Ok(())
+}
+
+#[test]
+fn chains(rt: HostRuntime) -> Result<(), Fail> {
+    assert!(rt; all_are_chains(rt.alloc(), &CHAINS));
+    Ok(())
+}

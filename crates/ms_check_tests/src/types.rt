@@ -1,0 +1,311 @@
+//! Operands, calls, jumps and initialisers whose types agree or don't.
+
+use crate::answers::{Case, Want, agrees, all_agree};
+use std::alloc::Global;
+use std::test::Fail;
+
+/// What stands before the instruction of a line, which has site 3.
+const HEAD: &str = r#"%pair = type { i32, i8 }
+@g = global i32 0
+declare i32 @printf(ptr, ...)
+declare void @free(ptr)
+define i32 @main() {
+  ret i32 0
+}
+define void @quiet() {
+  ret void
+}
+define i32 @f(i32 %0, i64 %1, ptr %2) {
+"#;
+
+const TAIL: &str = "  ret i32 0\n}\n";
+
+/// A line of `@f`, and the answer.
+struct Line(&'static str, Want);
+
+static VALUES: [Line; 7] = [
+    Line("  %4 = add i32 %0, %1\n", Want::TypeMismatch(3, 1)),
+    Line("  %4 = add i32 %0, 7\n", Want::Valid),
+    // A block, and then a function, is no value.
+    Line("  %4 = add i32 %3, %0\n", Want::TypeMismatch(3, 0)),
+    Line("  %4 = load i32, ptr @main\n", Want::TypeMismatch(3, 0)),
+    Line("  %4 = load i32, ptr @g\n", Want::Valid),
+    Line("  store i32 %0, ptr %1\n", Want::TypeMismatch(3, 1)),
+    Line("  store i32 %0, ptr %2\n", Want::Valid),
+];
+
+static CASTS: [Line; 7] = [
+    Line("  %4 = trunc i64 %1 to i64\n", Want::TypeMismatch(3, 0)),
+    Line("  %4 = trunc i64 %1 to i32\n", Want::Valid),
+    Line("  %4 = sext i32 %0 to i31\n", Want::TypeMismatch(3, 0)),
+    Line("  %4 = zext i64 5 to i32\n", Want::TypeMismatch(3, 0)),
+    Line("  %4 = sext i32 %0 to i33\n", Want::Valid),
+    Line("  %4 = inttoptr i64 %1 to ptr\n", Want::Valid),
+    Line("  %4 = bitcast ptr %2 to i64\n", Want::TypeMismatch(3, 0)),
+];
+
+static INDICES: [Line; 6] = [
+    Line(
+        "  %4 = getelementptr %pair, ptr %2, i64 0, i32 1\n",
+        Want::Valid,
+    ),
+    Line(
+        "  %4 = getelementptr %pair, ptr %2, i64 0, i32 2\n",
+        Want::TypeMismatch(3, 2),
+    ),
+    Line(
+        "  %4 = getelementptr %pair, ptr %2, i64 0, i32 %0\n",
+        Want::TypeMismatch(3, 2),
+    ),
+    Line(
+        "  %4 = getelementptr %pair, ptr %2, i64 0, i64 1\n",
+        Want::TypeMismatch(3, 2),
+    ),
+    Line(
+        "  %4 = getelementptr i32, ptr %2, i64 0, i32 0\n",
+        Want::TypeMismatch(3, 2),
+    ),
+    Line(
+        "  %4 = getelementptr %pair, ptr %0, i64 0\n",
+        Want::TypeMismatch(3, 0),
+    ),
+];
+
+static ARGUMENTS: [Line; 5] = [
+    Line("  call void @free()\n", Want::TypeMismatch(3, 0)),
+    Line("  call void @free(ptr @g)\n", Want::Valid),
+    Line(
+        "  call void @free(ptr @g, ptr @g)\n",
+        Want::TypeMismatch(3, 1),
+    ),
+    // A result that the function hasn't, and a variable that is called.
+    Line("  %4 = call i32 @free(ptr @g)\n", Want::TypeMismatch(3, 0)),
+    Line("  call void @g()\n", Want::TypeMismatch(3, 0)),
+];
+
+// Types come before externals, so the last answer here says that the types agree.
+static PRINTED: [Line; 4] = [
+    Line(
+        "  %4 = call i32 (ptr, ...) @printf()\n",
+        Want::TypeMismatch(3, 0),
+    ),
+    Line(
+        "  %4 = call i32 (ptr, ...) @printf(ptr @g, i8 1)\n",
+        Want::TypeMismatch(3, 1),
+    ),
+    Line(
+        "  %4 = call i32 (ptr, ...) @printf(ptr @g)\n",
+        Want::BadExternal("@printf"),
+    ),
+    Line(
+        "  %4 = call i32 (ptr, ...) @printf(ptr @g, ptr @g, ptr @g)\n",
+        Want::BadExternal("@printf"),
+    ),
+];
+
+static TERMINATORS: [Case; 11] = [
+    Case(
+        r#"define i32 @main() {
+  ret i32 0
+}
+define i32 @f(i32 %0) {
+  br label %2
+2:
+  switch i32 %0, label %2 [ i32 4, label %2 i32 4, label %2 ]
+}
+"#,
+        Want::TypeMismatch(3, 0),
+    ),
+    Case(
+        r#"define i32 @main() {
+  ret i32 0
+}
+define i32 @f(i32 %0) {
+  br label %2
+2:
+  switch i32 %0, label %2 [ i32 4, label %2 i32 5, label %2 ]
+}
+"#,
+        Want::Valid,
+    ),
+    // A value is no block.
+    Case(
+        r#"define i32 @main() {
+  ret i32 0
+}
+define i32 @f(i32 %0) {
+  br label %0
+}
+"#,
+        Want::TypeMismatch(2, 0),
+    ),
+    Case(
+        r#"define i32 @main() {
+  ret i32 0
+}
+define i32 @f(i8 %0) {
+  %2 = freeze i8 0
+  br i1 true, label %2, label %0
+}
+"#,
+        Want::TypeMismatch(3, 0),
+    ),
+    Case(
+        r#"define i32 @main() {
+  ret i32 0
+}
+define i32 @f(i8 %0) {
+  br i1 %0, label %2, label %2
+2:
+  ret i32 0
+}
+"#,
+        Want::TypeMismatch(2, 0),
+    ),
+    Case(
+        r#"define i32 @main() {
+  br label %1
+1:
+  ret i32 0
+}
+"#,
+        Want::Valid,
+    ),
+    Case(
+        r#"define i32 @main() {
+  ret void
+}
+"#,
+        Want::TypeMismatch(1, 0),
+    ),
+    Case(
+        r#"define i32 @main() {
+  ret i64 0
+}
+"#,
+        Want::TypeMismatch(1, 0),
+    ),
+    Case(
+        r#"define i32 @main() {
+  ret i32 0
+}
+define void @f() {
+  ret i32 0
+}
+"#,
+        Want::TypeMismatch(2, 0),
+    ),
+    Case(
+        r#"define i32 @main() {
+  %1 = alloca i32
+  %2 = add i64 1, %1
+  ret i32 0
+}
+"#,
+        Want::TypeMismatch(2, 1),
+    ),
+    Case(
+        r#"declare i32 @putchar(i32)
+define i32 @main() {
+  %1 = call i32 @putchar(i32 65, i32 66)
+  ret i32 0
+}
+"#,
+        Want::TypeMismatch(1, 1),
+    ),
+];
+
+/// What stands before a global, which is the second, and behind it.
+const TYPES: &str = "%pair = type { i32, i8 }\n@first = global i8 0\n";
+
+const MAIN: &str = "define i32 @main() {\n  ret i32 0\n}\n";
+
+static INITIALISERS: [Line; 9] = [
+    Line("@g = global [ 2 x i8 ] c\"ab\"\n", Want::Valid),
+    Line(
+        "@g = global [ 2 x i8 ] c\"abc\"\n",
+        Want::TypeMismatch(0, 1),
+    ),
+    Line(
+        "@g = global [ 2 x i8 ] { i32 1, i8 zeroinitializer }\n",
+        Want::TypeMismatch(0, 1),
+    ),
+    Line(
+        "@g = global %pair { i32 1, i8 zeroinitializer }\n",
+        Want::Valid,
+    ),
+    Line(
+        "@g = global %pair < { i32 1, i8 zeroinitializer } >\n",
+        Want::TypeMismatch(0, 1),
+    ),
+    Line(
+        "@g = global i8 { i32 1, i8 zeroinitializer }\n",
+        Want::TypeMismatch(0, 1),
+    ),
+    Line("@g = global [ 2 x i8 ] [ i8 1, i8 2 ]\n", Want::Valid),
+    Line(
+        "@g = global [ 2 x i8 ] [ i8 1 ]\n",
+        Want::TypeMismatch(0, 1),
+    ),
+    Line("@g = global ptr @main\n", Want::TypeMismatch(0, 1)),
+];
+
+/// Whether the text of a line between these two is answered as the line says.
+fn agrees_within(alloc: Global, head: &str, line: &Line, tail: &str) -> bool {
+    let mut text = Vec::new(alloc);
+    text.extend_from_slice(head.as_bytes()).is_ok()
+        && text.extend_from_slice(line.0.as_bytes()).is_ok()
+        && text.extend_from_slice(tail.as_bytes()).is_ok()
+        && agrees(alloc, &text, &line.1)
+}
+
+fn all_agree_within(alloc: Global, head: &str, tail: &str, lines: &[Line]) -> bool {
+    for line in lines {
+        if !agrees_within(alloc, head, line, tail) {
+            return false;
+        }
+    }
+    true
+}
+
+#[test]
+fn values_and_globals(rt: HostRuntime) -> Result<(), Fail> {
+    assert!(rt; all_agree_within(rt.alloc(), HEAD, TAIL, &VALUES));
+    Ok(())
+}
+
+#[test]
+fn casts(rt: HostRuntime) -> Result<(), Fail> {
+    assert!(rt; all_agree_within(rt.alloc(), HEAD, TAIL, &CASTS));
+    Ok(())
+}
+
+#[test]
+fn indices(rt: HostRuntime) -> Result<(), Fail> {
+    assert!(rt; all_agree_within(rt.alloc(), HEAD, TAIL, &INDICES));
+    Ok(())
+}
+
+#[test]
+fn arguments(rt: HostRuntime) -> Result<(), Fail> {
+    assert!(rt; all_agree_within(rt.alloc(), HEAD, TAIL, &ARGUMENTS));
+    Ok(())
+}
+
+#[test]
+fn printed(rt: HostRuntime) -> Result<(), Fail> {
+    assert!(rt; all_agree_within(rt.alloc(), HEAD, TAIL, &PRINTED));
+    Ok(())
+}
+
+#[test]
+fn terminators(rt: HostRuntime) -> Result<(), Fail> {
+    assert!(rt; all_agree(rt.alloc(), &TERMINATORS));
+    Ok(())
+}
+
+#[test]
+fn initialisers(rt: HostRuntime) -> Result<(), Fail> {
+    assert!(rt; all_agree_within(rt.alloc(), TYPES, MAIN, &INITIALISERS));
+    Ok(())
+}

@@ -1,0 +1,172 @@
+//! Modules that are read, refused, written and read back.
+
+use crate::cases::{ENTITY, LAST, LINE, WHOLE, all_agree, rewritten};
+use crate::{bodies, entities, instructions, layouts, other_layouts};
+use ms_grammar::Form;
+use ms_read_body::ReadError;
+use ms_read_top::read;
+use std::alloc::Global;
+use std::test::Fail;
+
+static LAYOUTS: [&str; 10] = [
+    layouts::ODD_NAMES,
+    layouts::MANY_PARTS,
+    layouts::RETURNS_ZERO,
+    layouts::BRANCH_ON_UNSET,
+    layouts::MASKED_TO_ZERO,
+    layouts::ORDERED_COMPARE,
+    layouts::SELECT_UNDEF,
+    layouts::RECURSION,
+    layouts::NESTED_CALL,
+    layouts::STORE_TO_SHADOW,
+];
+
+static MARKED_LAYOUTS: [&str; 1] = [layouts::MARKED_PARTS];
+
+static OTHER_LAYOUTS: [&str; 5] = [
+    other_layouts::SHARED_CELL,
+    other_layouts::LOST_IN_ADDITION,
+    other_layouts::WRITE_WITH_GAP,
+    other_layouts::USE_BEFORE_DEFINITION,
+    other_layouts::CLANG_UNOPTIMISED,
+];
+
+/// Whether a text is that of its module.
+fn is_layout(alloc: Global, text: &[u8], form: Form) -> bool {
+    match rewritten(alloc, text, form) {
+        Ok(written) => written.as_slice() == text,
+        Err(_) => false,
+    }
+}
+
+fn all_layouts(alloc: Global, texts: &[&str], form: Form) -> bool {
+    for text in texts {
+        if !is_layout(alloc, text.as_bytes(), form) {
+            return false;
+        }
+    }
+    true
+}
+
+/// Whether the module of a text is read back from what is written of it.
+#[tactic(auto, using(crate::proofs::Sizes::either_form))]
+fn is_same(alloc: Global, text: &[u8], written: &[u8]) -> Result<bool, ReadError> {
+    if text.len() > 1 << 22 || written.len() > 1 << 22 {
+        return Ok(false);
+    }
+    let module = read(alloc, text, Form::Plain)?;
+    let back = read(alloc, written, Form::Instrumented)?;
+    Ok(back == module)
+}
+
+fn is_read_back(alloc: Global, text: &[u8]) -> bool {
+    match rewritten(alloc, text, Form::Plain) {
+        Ok(written) => is_same(alloc, text, &written) == Ok(true),
+        Err(_) => false,
+    }
+}
+
+fn all_read_back(alloc: Global, texts: &[&str]) -> bool {
+    for text in texts {
+        if !is_read_back(alloc, text.as_bytes()) {
+            return false;
+        }
+    }
+    true
+}
+
+#[test]
+fn layouts_are_kept(rt: HostRuntime) -> Result<(), Fail> {
+    assert!(rt; all_layouts(rt.alloc(), &LAYOUTS, Form::Plain));
+    Ok(())
+}
+
+#[test]
+fn marks_are_kept(rt: HostRuntime) -> Result<(), Fail> {
+    assert!(rt; all_layouts(rt.alloc(), &MARKED_LAYOUTS, Form::Instrumented));
+    Ok(())
+}
+
+#[test]
+fn modules_are_read_back(rt: HostRuntime) -> Result<(), Fail> {
+    assert!(rt; all_read_back(rt.alloc(), &OTHER_LAYOUTS) && all_read_back(rt.alloc(), &LAYOUTS));
+    Ok(())
+}
+
+#[test]
+fn computations_are_read(rt: HostRuntime) -> Result<(), Fail> {
+    assert!(rt; all_agree(rt.alloc(), &LINE, &instructions::COMPUTATIONS));
+    Ok(())
+}
+
+#[test]
+fn memory_is_reached(rt: HostRuntime) -> Result<(), Fail> {
+    assert!(rt; all_agree(rt.alloc(), &LINE, &instructions::MEMORY));
+    Ok(())
+}
+
+#[test]
+fn calls_are_read(rt: HostRuntime) -> Result<(), Fail> {
+    assert!(rt; all_agree(rt.alloc(), &LINE, &instructions::CALLS));
+    Ok(())
+}
+
+#[test]
+fn suffixes_are_read_over(rt: HostRuntime) -> Result<(), Fail> {
+    assert!(rt; all_agree(rt.alloc(), &LINE, &instructions::SUFFIXES));
+    Ok(())
+}
+
+#[test]
+fn blocks_end(rt: HostRuntime) -> Result<(), Fail> {
+    assert!(rt; all_agree(rt.alloc(), &LAST, &instructions::TERMINATORS));
+    Ok(())
+}
+
+#[test]
+fn entities_are_read(rt: HostRuntime) -> Result<(), Fail> {
+    assert!(rt; all_agree(rt.alloc(), &WHOLE, &entities::ENTITIES));
+    Ok(())
+}
+
+#[test]
+fn globals_are_read(rt: HostRuntime) -> Result<(), Fail> {
+    assert!(rt; all_agree(rt.alloc(), &ENTITY, &entities::GLOBALS));
+    Ok(())
+}
+
+#[test]
+fn values_are_read(rt: HostRuntime) -> Result<(), Fail> {
+    assert!(rt; all_agree(rt.alloc(), &ENTITY, &entities::VALUES));
+    Ok(())
+}
+
+#[test]
+fn types_are_read(rt: HostRuntime) -> Result<(), Fail> {
+    assert!(rt; all_agree(rt.alloc(), &ENTITY, &entities::TYPES));
+    Ok(())
+}
+
+#[test]
+fn functions_are_read(rt: HostRuntime) -> Result<(), Fail> {
+    assert!(rt; all_agree(rt.alloc(), &WHOLE, &bodies::FUNCTIONS));
+    Ok(())
+}
+
+#[test]
+fn marks_are_read(rt: HostRuntime) -> Result<(), Fail> {
+    assert!(rt; all_agree(rt.alloc(), &WHOLE, &bodies::MARKS));
+    Ok(())
+}
+
+#[test]
+fn attributes_are_read_over(rt: HostRuntime) -> Result<(), Fail> {
+    assert!(rt; all_agree(rt.alloc(), &WHOLE, &bodies::SKIPPED));
+    Ok(())
+}
+
+#[test]
+fn constructs_are_left_out(rt: HostRuntime) -> Result<(), Fail> {
+    assert!(rt; all_agree(rt.alloc(), &WHOLE, &bodies::LEFT_OUT));
+    Ok(())
+}

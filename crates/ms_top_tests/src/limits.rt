@@ -1,0 +1,185 @@
+//! Limits on what a text may have, which its first token behind them passes. Tokens and bytes were counted by hand.
+
+use crate::calls::{Call, Wanted, agrees};
+use std::alloc::Global;
+use std::test::Fail;
+
+/// The words, the pieces of the file, of which the second stands so many times, what is written to the standard error, and
+/// the status.
+struct Long(
+    &'static str,
+    &'static str,
+    &'static str,
+    u32,
+    &'static str,
+    &'static str,
+    u8,
+);
+
+static LIMITS: [Long; 8] = [
+    Long(
+        "check f",
+        "define i32 @main() {\n",
+        "ret i32 0\n",
+        131073,
+        "}\n",
+        "refused 6: limit instructions at token 393222, byte 1310741\n",
+        5,
+    ),
+    Long(
+        "check f",
+        "define i32 @main() {\n",
+        "ret i32 0\n",
+        131072,
+        "}\n",
+        "refused 99: not built yet\n",
+        5,
+    ),
+    Long(
+        "check f",
+        "",
+        "declare void @f()\n",
+        16385,
+        "",
+        "refused 6: limit functions at token 81920, byte 294912\n",
+        5,
+    ),
+    Long(
+        "check f",
+        "",
+        "@g = global i8 0\n",
+        16385,
+        "",
+        "refused 6: limit globals at token 81920, byte 278528\n",
+        5,
+    ),
+    Long(
+        "check f",
+        "declare void @f(",
+        "i8, ",
+        101,
+        "i8)\n",
+        "refused 6: limit parameters at token 204, byte 416\n",
+        5,
+    ),
+    Long(
+        "check f",
+        "@g = global ",
+        "[1 x ",
+        33,
+        "i8] zeroinitializer\n",
+        "refused 6: limit types at token 99, byte 172\n",
+        5,
+    ),
+    Long(
+        "check f",
+        "define i32 @main() {\n  %1 = getelementptr i8, ptr null",
+        ", i64 0",
+        65,
+        "\n  ret i32 0\n}\n",
+        "refused 6: limit indices at token 206, byte 504\n",
+        5,
+    ),
+    Long(
+        "check f",
+        "@",
+        "a",
+        1025,
+        " = global i8 0\n",
+        "refused 6: limit name at token 0, byte 0\n",
+        5,
+    ),
+];
+
+// The plain form is short, and the instrumented one is long.
+static FORMS: [Long; 5] = [
+    Long(
+        "check f",
+        "",
+        "(",
+        1048577,
+        "",
+        "refused 3: too many tokens\n",
+        5,
+    ),
+    Long(
+        "run f",
+        "",
+        "(",
+        1048577,
+        "",
+        "refused 4: syntax at token 0, byte 0\n",
+        5,
+    ),
+    Long("check f", "", " ", 4194305, "", "file too long: f\n", 9),
+    Long("run f", "", " ", 4194305, "", "refused 13: no main\n", 5),
+    Long("run f", "", " ", 134217729, "", "file too long: f\n", 9),
+];
+
+// 65536 words of 16 bytes fill the stack.
+static STACKS: [Long; 2] = [
+    Long(
+        "run f",
+        "define i32 @main() {\n",
+        "  alloca i32\n",
+        65536,
+        "  ret i32 0\n}\n",
+        "end: exit 0\nreports: 0\nblind: 0\n",
+        0,
+    ),
+    Long(
+        "run f",
+        "define i32 @main() {\n",
+        "  alloca i32\n",
+        65537,
+        "  ret i32 0\n}\n",
+        "end: trap stack at site 65537 in @main\nreports: 0\nblind: 0\n",
+        3,
+    ),
+];
+
+fn long_agrees(alloc: Global, case: &Long) -> bool {
+    let call = Call {
+        words: case.0,
+        head: case.1,
+        piece: case.2,
+        times: case.3,
+        tail: case.4,
+        failing_reads: &[],
+        failing_puts: &[],
+        room: 1000,
+    };
+    let wanted = Wanted {
+        out: "",
+        err: case.5,
+        status: case.6,
+    };
+    agrees(alloc, &call, &wanted)
+}
+
+fn all_agree(alloc: Global, cases: &[Long]) -> bool {
+    for case in cases {
+        if !long_agrees(alloc, case) {
+            return false;
+        }
+    }
+    true
+}
+
+#[test]
+fn names_each_limit(rt: HostRuntime) -> Result<(), Fail> {
+    assert!(rt; all_agree(rt.alloc(), &LIMITS));
+    Ok(())
+}
+
+#[test]
+fn the_forms_have_their_own_limits(rt: HostRuntime) -> Result<(), Fail> {
+    assert!(rt; all_agree(rt.alloc(), &FORMS));
+    Ok(())
+}
+
+#[test]
+fn the_stack_ends(rt: HostRuntime) -> Result<(), Fail> {
+    assert!(rt; all_agree(rt.alloc(), &STACKS));
+    Ok(())
+}

@@ -1,0 +1,242 @@
+//! Words, and modules that are run as they stand or with a check of each use.
+
+use crate::calls::{Case, all_agree};
+use ms_bits::Text;
+use ms_io::{SureFiles, SureSink};
+use ms_top::msan;
+use std::alloc::{AllocError, Global};
+use std::collections::BTreeMap;
+use std::test::Fail;
+
+const STORED: &str =
+    "define i32 @main() {\n  %1 = alloca i32\n  store i32 12, ptr %1\n  %2 = load i32, ptr %1\n  %3 = xor i32 %2, 10\n  ret i32 %3\n}\n";
+
+const UNSET: &str =
+    "define i32 @main() {\n  %1 = alloca i32\n  %2 = load i32, ptr %1\n  %3 = xor i32 %2, 10\n  ret i32 %3\n}\n";
+
+const TWO_UNSET: &str =
+    "define i32 @main() {\n  %1 = alloca i32\n  %2 = alloca i32\n  %3 = load i32, ptr %1\n  %4 = load i32, ptr %2\n  %5 = xor i32 %3, %4\n  ret i32 %5\n}\n";
+
+const UNDEFINED_BYTE: &str = "define i32 @main() {\n  %1 = and i32 undef, 255\n  ret i32 %1\n}\n";
+
+const MASKED_TO_ZERO: &str = "define i32 @main() {\n  %1 = and i32 undef, 0\n  ret i32 %1\n}\n";
+
+const RETURNS_ZERO: &str = "define i32 @main() {\n  ret i32 0\n}\n";
+
+/// The shadow of a part of a word goes through memory, and over what stood there.
+const STORED_BYTE: &str =
+    "define i32 @main() {\n  %1 = alloca i32\n  %2 = and i32 undef, 65280\n  store i32 7, ptr %1\n  store i32 %2, ptr %1\n  %3 = load i32, ptr %1\n  %4 = or i32 %3, 255\n  ret i32 %4\n}\n";
+
+const OVERWRITTEN: &str =
+    "define i32 @main() {\n  %1 = alloca i32\n  store i32 undef, ptr %1\n  store i32 9, ptr %1\n  %2 = load i32, ptr %1\n  ret i32 %2\n}\n";
+
+/// Where two words lie side by side, the store to one leaves the other unset.
+const NEIGHBOURS: &str =
+    "define i32 @main() {\n  %1 = alloca i32\n  %2 = alloca i32\n  store i32 5, ptr %1\n  %3 = load i32, ptr %2\n  ret i32 %3\n}\n";
+
+/// The value is used where it isn't defined, which is no use of uninitialised bits.
+const BEFORE_DEFINITION: &str =
+    "define i32 @main() {\n  %a = or i32 %b, 1\n  %b = or i32 1, 2\n  ret i32 %a\n}\n";
+
+static WORDS: [Case; 11] = [
+    Case("", STORED, "", "words: NotBuilt at 0\n", 2),
+    Case("run", STORED, "", "words: NotBuilt at 0\n", 2),
+    Case("check", STORED, "", "words: NotBuilt at 0\n", 2),
+    Case("run f f", STORED, "", "words: NotBuilt at 0\n", 2),
+    Case("checks f", STORED, "", "words: NotBuilt at 0\n", 2),
+    Case("runs f", STORED, "", "words: NotBuilt at 0\n", 2),
+    Case("run g", STORED, "", "file fault: g\n", 6),
+    Case("run --", STORED, "", "file fault: --\n", 6),
+    Case("check g", STORED, "", "file fault: g\n", 6),
+    Case("run f", "", "", "refused 13: no main\n", 5),
+    Case("check f", "", "", "refused 13: no main\n", 5),
+];
+
+static RUNS: [Case; 9] = [
+    Case(
+        "run f",
+        STORED,
+        "",
+        "end: exit 6\nreports: 0\nblind: 0\n",
+        0,
+    ),
+    Case(
+        "run f",
+        RETURNS_ZERO,
+        "",
+        "end: exit 0\nreports: 0\nblind: 0\n",
+        0,
+    ),
+    // Each unset byte is a5, and 0xa5a5a5a5 with 10 is 2779096495.
+    Case(
+        "run f",
+        UNSET,
+        "",
+        "end: exit 2779096495\nreports: 0\nblind: 0\n",
+        0,
+    ),
+    Case(
+        "run f",
+        UNDEFINED_BYTE,
+        "",
+        "end: exit 165\nreports: 0\nblind: 0\n",
+        0,
+    ),
+    Case(
+        "run f",
+        TWO_UNSET,
+        "",
+        "end: exit 0\nreports: 0\nblind: 0\n",
+        0,
+    ),
+    // 0xa500 with 255.
+    Case(
+        "run f",
+        STORED_BYTE,
+        "",
+        "end: exit 42495\nreports: 0\nblind: 0\n",
+        0,
+    ),
+    Case(
+        "run f",
+        OVERWRITTEN,
+        "",
+        "end: exit 9\nreports: 0\nblind: 0\n",
+        0,
+    ),
+    Case(
+        "run f",
+        NEIGHBOURS,
+        "",
+        "end: exit 2779096485\nreports: 0\nblind: 0\n",
+        0,
+    ),
+    Case(
+        "run f",
+        BEFORE_DEFINITION,
+        "",
+        "refused 15: undefined at site 1, path 0\n",
+        5,
+    ),
+];
+
+static CHECKS: [Case; 10] = [
+    Case(
+        "check f",
+        RETURNS_ZERO,
+        "",
+        "end: exit 0\nreports: 0\nblind: 0\n",
+        0,
+    ),
+    Case(
+        "check f",
+        STORED,
+        "",
+        "end: exit 6\nreports: 0\nblind: 0\n",
+        0,
+    ),
+    Case(
+        "check f",
+        UNSET,
+        "",
+        "report 1: exit at site 4 in @main, part 0, bits 0xffffffff of i32\n  origin 1: alloca at site 1 in @main\nend: reported\nreports: 1\nblind: 0\n",
+        77,
+    ),
+    // The last of the operands that are poisoned gives the origin.
+    Case(
+        "check f",
+        TWO_UNSET,
+        "",
+        "report 1: exit at site 6 in @main, part 0, bits 0xffffffff of i32\n  origin 2: alloca at site 2 in @main\nend: reported\nreports: 1\nblind: 0\n",
+        77,
+    ),
+    Case(
+        "check f",
+        UNDEFINED_BYTE,
+        "",
+        "report 1: exit at site 2 in @main, part 0, bits 0xff of i32\n  origin 1: undef at site 1 in @main\nend: reported\nreports: 1\nblind: 0\n",
+        77,
+    ),
+    Case(
+        "check f",
+        MASKED_TO_ZERO,
+        "",
+        "end: exit 0\nreports: 0\nblind: 0\n",
+        0,
+    ),
+    Case(
+        "check f",
+        STORED_BYTE,
+        "",
+        "report 1: exit at site 7 in @main, part 0, bits 0xff00 of i32\n  origin 2: undef at site 2 in @main\nend: reported\nreports: 1\nblind: 0\n",
+        77,
+    ),
+    Case(
+        "check f",
+        OVERWRITTEN,
+        "",
+        "end: exit 9\nreports: 0\nblind: 0\n",
+        0,
+    ),
+    Case(
+        "check f",
+        NEIGHBOURS,
+        "",
+        "report 1: exit at site 5 in @main, part 0, bits 0xffffffff of i32\n  origin 2: alloca at site 2 in @main\nend: reported\nreports: 1\nblind: 0\n",
+        77,
+    ),
+    Case(
+        "check f",
+        BEFORE_DEFINITION,
+        "",
+        "refused 15: undefined at site 1, path 0\n",
+        5,
+    ),
+];
+
+fn sure_files(alloc: Global) -> Result<SureFiles, AllocError> {
+    let file = Vec::from_slice(alloc, STORED.as_bytes())?;
+    let mut held = BTreeMap::new(alloc);
+    held.insert(String::from_str(alloc, "f")?, file)?;
+    Ok(SureFiles::new(held))
+}
+
+fn run_words(alloc: Global) -> Result<Vec<Text>, AllocError> {
+    let mut words = Vec::new(alloc);
+    words.push(Text::from_string(String::from_str(alloc, "run")?))?;
+    words.push(Text::from_string(String::from_str(alloc, "f")?))?;
+    Ok(words)
+}
+
+/// The status over files and sinks that never fail.
+fn sure_status(alloc: Global) -> Result<u8, AllocError> {
+    let words = run_words(alloc)?;
+    let mut files = sure_files(alloc)?;
+    let mut out = SureSink::new();
+    let mut err = SureSink::new();
+    Ok(msan(alloc, &words, &mut files, &mut out, &mut err))
+}
+
+#[test]
+fn words_are_commands(rt: HostRuntime) -> Result<(), Fail> {
+    assert!(rt; all_agree(rt.alloc(), &WORDS));
+    Ok(())
+}
+
+#[test]
+fn modules_run(rt: HostRuntime) -> Result<(), Fail> {
+    assert!(rt; all_agree(rt.alloc(), &RUNS));
+    Ok(())
+}
+
+#[test]
+fn each_use_is_checked(rt: HostRuntime) -> Result<(), Fail> {
+    assert!(rt; all_agree(rt.alloc(), &CHECKS));
+    Ok(())
+}
+
+#[test]
+fn ends_that_never_fail_serve_too(rt: HostRuntime) -> Result<(), Fail> {
+    assert!(rt; sure_status(rt.alloc()).ok() == Some(0));
+    Ok(())
+}

@@ -1,0 +1,343 @@
+//! The lines of reports and of ends, also of such as no run gives yet.
+
+ghost use Rattle.ms_valid.specs.Formed.{Formed};
+
+use ms_bits::{Bytes, Duplicate, List, Trap};
+use ms_grammar::Form;
+use ms_ir::Module;
+use ms_read_top::read;
+use ms_runs::{End, Origin, Report, RunResult, Setup};
+use ms_top::{closing, report_text};
+use std::alloc::{AllocError, Global};
+use std::test::Fail;
+
+/// A module of six sites, and of two roots at its first two.
+const TWO_UNSET: &str =
+    "define i32 @main() {\n  %1 = alloca i32\n  %2 = alloca i32\n  %3 = load i32, ptr %1\n  %4 = load i32, ptr %2\n  %5 = xor i32 %3, %4\n  ret i32 %5\n}\n";
+
+/// A report's site, kind, part, width, mask and origin.
+struct Found {
+    site: u32,
+    kind: u32,
+    part: u32,
+    width: u32,
+    mask: u64,
+    origin: u32,
+}
+
+/// A report with the origins from its own to a root, and its lines behind their number.
+struct Reported(Found, &'static [Origin], &'static str);
+
+static REPORTS: [Reported; 3] = [
+    Reported(
+        Found {
+            site: 6,
+            kind: 8,
+            part: 0,
+            width: 32,
+            mask: 0xff,
+            origin: 3,
+        },
+        &[
+            Origin::Chain { old: 2, site: 4 },
+            Origin::Root { number: 2 },
+        ],
+        "exit at site 6 in @main, part 0, bits 0xff of i32\n  origin 3: stored at site 4 in @main\n  origin 2: alloca at site 2 in @main\n",
+    ),
+    // No kind, no site, and no origin of the module.
+    Reported(
+        Found {
+            site: 7,
+            kind: 13,
+            part: 1,
+            width: 64,
+            mask: 0x10,
+            origin: 9,
+        },
+        &[],
+        "kind 13 at site 7 in ?, part 1, bits 0x10 of i64\n  origin 9: unknown\n",
+    ),
+    Reported(
+        Found {
+            site: 1,
+            kind: 0,
+            part: 0,
+            width: 1,
+            mask: 1,
+            origin: 1,
+        },
+        &[Origin::Root { number: 1 }],
+        "kind 0 at site 1 in @main, part 0, bits 0x1 of i1\n  origin 1: alloca at site 1 in @main\n",
+    ),
+];
+
+/// The name of each kind of use.
+static KINDS: [(u32, &str); 12] = [
+    (1, "branch"),
+    (2, "switch"),
+    (3, "address"),
+    (4, "divisor"),
+    (5, "size"),
+    (6, "pointer"),
+    (7, "value"),
+    (8, "exit"),
+    (9, "output"),
+    (10, "string"),
+    (11, "first-bytes"),
+    (12, "second-bytes"),
+];
+
+/// How a run ends, its number of blind uses, whether a verdict is asked for, and the lines, where there is no report.
+struct Ended(End, u64, bool, &'static str);
+
+static ENDS: [Ended; 6] = [
+    Ended(
+        End::Exit(6),
+        0,
+        false,
+        "end: exit 6\nreports: 0\nblind: 0\n",
+    ),
+    Ended(
+        End::Exit(4294967295),
+        0,
+        true,
+        "end: exit 4294967295\nreports: 0\nblind: 0\nverdict: clean\n",
+    ),
+    Ended(
+        End::Exit(0),
+        12,
+        true,
+        "end: exit 0\nreports: 0\nblind: 12\nverdict: unsure\n",
+    ),
+    Ended(End::Spent, 3, false, "end: spent\nreports: 0\nblind: 3\n"),
+    Ended(
+        End::Reported,
+        0,
+        false,
+        "end: reported\nreports: 0\nblind: 0\n",
+    ),
+    Ended(
+        End::Trap {
+            kind: Trap::Abort,
+            site: 7,
+        },
+        0,
+        true,
+        "end: trap abort at site 7 in ?\nreports: 0\nblind: 0\nverdict: clean\n",
+    ),
+];
+
+/// The name of each trap.
+static TRAPS: [(Trap, &str); 16] = [
+    (Trap::Shift, "shift"),
+    (Trap::ZeroDivisor, "zero-divisor"),
+    (Trap::Overflow, "overflow"),
+    (Trap::Nuw, "nuw"),
+    (Trap::Nsw, "nsw"),
+    (Trap::Exact, "exact"),
+    (Trap::Disjoint, "disjoint"),
+    (Trap::Nneg, "nneg"),
+    (Trap::Samesign, "samesign"),
+    (Trap::BadAddress, "bad-address"),
+    (Trap::BadFree, "bad-free"),
+    (Trap::Stack, "stack"),
+    (Trap::Depth, "depth"),
+    (Trap::Output, "output"),
+    (Trap::Unreachable, "unreachable"),
+    (Trap::Abort, "abort"),
+];
+
+fn report_of(alloc: Global, case: &Reported) -> Result<Report, AllocError> {
+    let chain = Vec::from_slice(alloc, case.1)?;
+    Ok(Report {
+        site: case.0.site,
+        kind: case.0.kind,
+        part: case.0.part,
+        width: case.0.width,
+        mask: case.0.mask,
+        origin: case.0.origin,
+        chain: List::from_vec(chain),
+    })
+}
+
+fn result_of(alloc: Global, end: End, reports: Vec<Report>, blind: u64) -> RunResult {
+    RunResult {
+        output: Bytes::from_vec(Vec::new(alloc)),
+        end,
+        reports: List::from_vec(reports),
+        blind,
+    }
+}
+
+fn reports_of(alloc: Global, cases: &[Reported]) -> Result<Vec<Report>, AllocError> {
+    let mut reports = Vec::new(alloc);
+    for case in cases {
+        reports.push(report_of(alloc, case)?)?;
+    }
+    Ok(reports)
+}
+
+/// The lines of these reports, one after the other.
+fn lines_of(alloc: Global, cases: &[Reported]) -> Result<Vec<u8>, AllocError> {
+    let mut lines = Vec::new(alloc);
+    let mut number: u32 = 0;
+    for case in cases {
+        number = number.saturating_add(1);
+        let head = format!(in alloc; "report {number}: ")?;
+        lines.extend_from_slice(head.as_bytes())?;
+        lines.extend_from_slice(case.2.as_bytes())?;
+    }
+    Ok(lines)
+}
+
+fn are_printed(alloc: Global, m: &Module, cases: &[Reported]) -> Result<bool, AllocError>
+    requires { Formed m.now }
+{
+    let reports = reports_of(alloc, cases)?;
+    let r = result_of(alloc, End::Reported, reports, 0);
+    let text = report_text(alloc, m, &r)?;
+    let lines = lines_of(alloc, cases)?;
+    Ok(text.as_slice() == lines.as_slice())
+}
+
+fn is_closed(alloc: Global, m: &Module, case: &Ended) -> bool
+    requires { Formed m.now }
+{
+    let r = result_of(alloc, case.0, Vec::new(alloc), case.1);
+    match closing(alloc, m, &r, case.2) {
+        Ok(text) => text.as_slice() == case.3.as_bytes(),
+        Err(_) => false,
+    }
+}
+
+fn all_are_closed(alloc: Global, m: &Module, cases: &[Ended]) -> bool
+    requires { Formed m.now }
+{
+    for case in cases {
+        if !is_closed(alloc, m, case) {
+            return false;
+        }
+    }
+    true
+}
+
+/// Whether the closing lines of a run with one report say that it has one.
+fn is_poisoned(alloc: Global, m: &Module, case: &Reported) -> Result<bool, AllocError>
+    requires { Formed m.now }
+{
+    let mut reports = Vec::new(alloc);
+    reports.push(report_of(alloc, case)?)?;
+    let r = result_of(alloc, End::Reported, reports, 4);
+    let text = closing(alloc, m, &r, true)?;
+    Ok(text.as_slice() == b"end: reported\nreports: 1\nblind: 4\nverdict: poisoned\n".as_slice())
+}
+
+fn is_named(alloc: Global, m: &Module, kind: u32, name: &str) -> Result<bool, AllocError>
+    requires { Formed m.now }
+{
+    let chain: Vec<Origin> = Vec::from_slice(alloc, &[Origin::Root { number: 1 }])?;
+    let report = Report {
+        site: 3,
+        kind,
+        part: 2,
+        width: 8,
+        mask: 0xa0,
+        origin: 1,
+        chain: List::from_vec(chain),
+    };
+    let r = result_of(alloc, End::Reported, vec![in alloc; report]?, 0);
+    let text = report_text(alloc, m, &r)?;
+    let wanted = format!(in alloc;
+        "report 1: {name} at site 3 in @main, part 2, bits 0xa0 of i8\n  origin 1: alloca at site 1 in @main\n"
+    )?;
+    Ok(text.as_slice() == wanted.as_bytes())
+}
+
+fn all_are_named(alloc: Global, m: &Module, kinds: &[(u32, &str)]) -> bool
+    requires { Formed m.now }
+{
+    for (kind, name) in kinds {
+        if is_named(alloc, m, *kind, name).ok() != Some(true) {
+            return false;
+        }
+    }
+    true
+}
+
+fn is_trap(alloc: Global, m: &Module, kind: Trap, name: &str) -> Result<bool, AllocError>
+    requires { Formed m.now }
+{
+    let r = result_of(alloc, End::Trap { kind, site: 5 }, Vec::new(alloc), 0);
+    let text = closing(alloc, m, &r, false)?;
+    let wanted = format!(in alloc; "end: trap {name} at site 5 in @main\nreports: 0\nblind: 0\n")?;
+    Ok(text.as_slice() == wanted.as_bytes())
+}
+
+fn all_are_traps(alloc: Global, m: &Module, traps: &[(Trap, &str)]) -> bool
+    requires { Formed m.now }
+{
+    for (kind, name) in traps {
+        if is_trap(alloc, m, *kind, name).ok() != Some(true) {
+            return false;
+        }
+    }
+    true
+}
+
+fn all_are_printed(alloc: Global, m: &Module) -> bool
+    requires { Formed m.now }
+{
+    are_printed(alloc, m, &REPORTS).ok() == Some(true)
+        && is_poisoned(alloc, m, &REPORTS[0]).ok() == Some(true)
+        && all_are_named(alloc, m, &KINDS)
+        && all_are_closed(alloc, m, &ENDS)
+        && all_are_traps(alloc, m, &TRAPS)
+}
+
+#[tactic(auto, unfolding(ms_grammar::specs::Texts::max_bytes))]
+fn agrees(alloc: Global, text: &[u8]) -> bool {
+    if text.len() > 1 << 20 {
+        return false;
+    }
+    match read(alloc, text, Form::Plain) {
+        Ok(m) => all_are_printed(alloc, &m),
+        Err(_) => false,
+    }
+}
+
+/// Whether a setup, and the answer of a run with reports, have equal copies.
+fn are_copied(alloc: Global) -> Result<bool, AllocError> {
+    let setup = Setup {
+        input: Bytes::from_vec(Vec::from_slice(alloc, b"in")?),
+        fill: Bytes::from_vec(Vec::from_slice(alloc, b"a")?),
+        steps: 100,
+        reports: 1,
+    };
+    let copy = setup.copy(alloc)?;
+    Ok(copy == setup)
+}
+
+fn results_are_copied(alloc: Global) -> Result<bool, AllocError> {
+    let reports = reports_of(alloc, &REPORTS)?;
+    let r = result_of(alloc, End::Spent, reports, 3);
+    let copy = r.copy(alloc)?;
+    Ok(copy == r)
+}
+
+#[test]
+fn reports_and_ends_are_printed(rt: HostRuntime) -> Result<(), Fail> {
+    assert!(rt; agrees(rt.alloc(), TWO_UNSET.as_bytes()));
+    Ok(())
+}
+
+#[test]
+fn setups_are_copied(rt: HostRuntime) -> Result<(), Fail> {
+    assert!(rt; are_copied(rt.alloc()).ok() == Some(true));
+    Ok(())
+}
+
+#[test]
+fn answers_of_runs_are_copied(rt: HostRuntime) -> Result<(), Fail> {
+    assert!(rt; results_are_copied(rt.alloc()).ok() == Some(true));
+    Ok(())
+}
