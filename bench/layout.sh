@@ -1,5 +1,5 @@
 #!/usr/bin/env bash
-# Instructions that `ms_layout` takes, by callgrind, on modules of 5,000, 10,000 and 20,000 functions of seven instructions:
+# Instructions that `ms_ir` takes, by callgrind, on modules of 5,000, 10,000 and 20,000 functions of seven instructions:
 # for a walk of the module (`has_small_numbers`), for `site_of` of the last instruction, for `place_of` of the last site, and
 # for `size_of` of a struct of as many fields. Where a call is linear, its numbers a function are equal.
 #
@@ -8,13 +8,13 @@
 # Wants `rt` and `valgrind`. Outside the gate.
 source "$(dirname "$0")/frame.sh"
 
-repository layout_bench 'ms_bits ms_ir ms_layout' 'ms_bits ms_ir ms_layout' <<'PROGRAM'
+repository layout_bench 'ms_bits ms_ir' 'ms_bits ms_ir' <<'PROGRAM'
 //! Makes a module in memory and asks so many times about it.
 #![tactic(auto)]
 
 use ms_bits::{List, NoMemory};
 use ms_ir::{Block, Func, Inst, Module, Name, Op, Ty};
-use ms_layout::{has_small_numbers, place_of, site_of, size_of};
+use ms_ir::{has_small_numbers, place_of, site_of, size_of};
 use std::alloc::Global;
 use std::env;
 use std::io;
