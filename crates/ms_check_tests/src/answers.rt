@@ -4,8 +4,7 @@ ghost use Rattle.std.specs.Prelude.{◌≤◌, ◌^◌, length};
 ghost use Rattle.ms_valid.specs.Formed.{Formed};
 
 use ms_check::{CheckError, check};
-use ms_grammar::Form;
-use ms_ir::{Module, Name};
+use ms_ir::{Form, Module, Name};
 use ms_read_top::read;
 use ms_write::write;
 use std::alloc::Global;

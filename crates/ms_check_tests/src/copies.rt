@@ -1,8 +1,7 @@
 //! Copies of modules, modules that differ in one place, and the order of names.
 
 use ms_bits::Duplicate;
-use ms_grammar::Form;
-use ms_ir::{Module, Name, Ty};
+use ms_ir::{Form, Module, Name, Ty};
 use ms_read_body::ReadError;
 use ms_read_top::read;
 use std::alloc::Global;

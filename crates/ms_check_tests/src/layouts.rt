@@ -1,7 +1,6 @@
 //! Types with their sizes, their alignments and the places of their parts.
 
-use ms_grammar::Form;
-use ms_ir::{Module, Ty, align_of, offset_of, parts_of, size_of};
+use ms_ir::{Form, Module, Ty, align_of, offset_of, parts_of, size_of};
 use ms_read_top::read;
 use std::alloc::Global;
 use std::test::Fail;

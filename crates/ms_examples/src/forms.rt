@@ -25,7 +25,7 @@ ghost use Rattle.ms_valid.specs.FormedNames.{is_local_name, is_global_name, are_
 ghost use Rattle.ms_valid.specs.ReadLimits.{ReadLimits, type_depth};
 ghost use Rattle.ms_ir.specs.Signatures.{external_declarations, runtime_declarations, slot_globals};
 ghost use Rattle.ms_valid.specs.Uninstrumented.{names_are_free};
-ghost use Rattle.ms_runs_good.specs.Verdict.{verdict_of, Poisoned, Unsure, Clean};
+ghost use Rattle.ms_runs.specs.Verdict.{verdict_of, Poisoned, Unsure, Clean};
 
 /// Names, and the numbers among them.
 pub fn names_are_formed()

@@ -7,7 +7,7 @@ use Rattle.ms_lex.specs.Tokens.{Text, tokens_of}
 use Rattle.ms_lex.specs.Grammar.{Outcome, done, fails, run}
 use Rattle.ms_lex.proofs.Exact.{sound, complete, stop_sound, stop_complete}
 use Rattle.ms_ir.specs.declared.syntax.Module.{Module}
-use Rattle.ms_grammar.specs.declared.forms.Form.{Form}
+use Rattle.ms_ir.specs.declared.forms.Form.{Form}
 use Rattle.ms_grammar.specs.declared.refusals.Refusal.{Refusal}
 use Rattle.ms_grammar.specs.Lexemes.{Lexeme, end_of_text, lexemes_of}
 use Rattle.ms_grammar.specs.Modules.{module_rule}

@@ -11,7 +11,7 @@ use Rattle.ms_lex.specs.Names.{spelling_of}
 use Rattle.ms_lex.specs.Grammar.{head, loop}
 use Rattle.ms_lex.proofs.Relations.{either}
 use Rattle.ms_ir.specs.declared.syntax.Module.{Module}
-use Rattle.ms_grammar.specs.declared.forms.Form.{Form}
+use Rattle.ms_ir.specs.declared.forms.Form.{Form}
 use Rattle.ms_grammar.specs.declared.refusals.Refusal.{Refusal}
 use Rattle.ms_grammar.specs.declared.symbols.Symbol.{Symbol}
 use Rattle.ms_grammar.specs.declared.symbols.Symbol.TheVariants as s

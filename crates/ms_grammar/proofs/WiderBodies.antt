@@ -13,7 +13,7 @@ use Rattle.ms_ir.specs.declared.syntax.Name.{Name}
 use Rattle.ms_ir.specs.declared.syntax.Op.{Op}
 use Rattle.ms_ir.specs.declared.syntax.Operand.{Operand}
 use Rattle.ms_ir.specs.declared.syntax.Ty.{Ty}
-use Rattle.ms_grammar.specs.declared.forms.Form.TheVariants.{Plain, Instrumented}
+use Rattle.ms_ir.specs.declared.forms.Form.TheVariants.{Plain, Instrumented}
 use Rattle.ms_grammar.specs.declared.refusals.Refusal.{Refusal}
 use Rattle.ms_grammar.specs.declared.refusals.Refusal.TheVariants as r
 use Rattle.ms_grammar.specs.declared.refusals.Outside.TheVariants as outside

@@ -5,8 +5,8 @@ use Rattle.ms_lex.specs.declared.errors.LexError.{LexError}
 use Rattle.ms_lex.specs.Tokens.{Text, tokens_of}
 use Rattle.ms_lex.specs.Grammar.{Outcome, done, fails, run}
 use Rattle.ms_ir.specs.declared.syntax.Module.{Module}
-use Rattle.ms_grammar.specs.declared.forms.Form.{Form}
-use Rattle.ms_grammar.specs.declared.forms.Form.TheVariants.{Plain}
+use Rattle.ms_ir.specs.declared.forms.Form.{Form}
+use Rattle.ms_ir.specs.declared.forms.Form.TheVariants.{Plain}
 use Rattle.ms_grammar.specs.declared.refusals.Refusal.{Refusal}
 use Rattle.ms_grammar.specs.declared.refusals.Refusal.TheVariants as r
 use Rattle.ms_grammar.specs.declared.refusals.Outside.{Outside}

@@ -7,7 +7,7 @@ use Rattle.ms_ir.specs.declared.syntax.Name.TheVariants as name
 use Rattle.ms_ir.specs.declared.syntax.Ty.{Ty}
 use Rattle.ms_ir.specs.declared.syntax.Func.{Func}
 use Rattle.ms_ir.specs.declared.syntax.Decl.{Decl}
-use Rattle.ms_grammar.specs.declared.forms.Form.{Form}
+use Rattle.ms_ir.specs.declared.forms.Form.{Form}
 use Rattle.ms_grammar.specs.declared.symbols.Symbol.{Symbol}
 use Rattle.ms_grammar.specs.declared.symbols.Symbol.TheVariants as s
 use Rattle.ms_grammar.specs.declared.refusals.Refusal.TheVariants as r

@@ -2,8 +2,8 @@
 -- and metadata behind an instruction ("Metadata").
 use Rattle.std.specs.Prelude.{Bool, true, false, ◌||◌, cond, if◌then◌else◌, List, [], ◌∷◌, Ok, Err}
 use Rattle.ms_lex.specs.Grammar.{give, one, loop, ◌>>=◌, ◌>>◌}
-use Rattle.ms_grammar.specs.declared.forms.Form.{Form}
-use Rattle.ms_grammar.specs.declared.forms.Form.TheVariants.{Plain, Instrumented}
+use Rattle.ms_ir.specs.declared.forms.Form.{Form}
+use Rattle.ms_ir.specs.declared.forms.Form.TheVariants.{Plain, Instrumented}
 use Rattle.ms_grammar.specs.declared.symbols.Symbol.{Symbol}
 use Rattle.ms_grammar.specs.declared.symbols.Symbol.TheVariants as s
 use Rattle.ms_grammar.specs.declared.refusals.Refusal.TheVariants as r

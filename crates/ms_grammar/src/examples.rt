@@ -14,7 +14,7 @@ ghost use Rattle.ms_ir.specs.declared.syntax.Ty as ty;
 ghost use Rattle.ms_ir.specs.ExampleModules.{returns_zero, branch_on_unset, masked_to_zero, ordered_compare, select_undef, shared_cell, lost_in_addition, recursion, nested_call, write_with_gap, store_to_shadow, clang_unoptimised};
 ghost use Rattle.ms_ir.specs.ExampleParts.{i1, i8, i16, i32, i64, array, alloca, block, does, sets, int, undef, declares, module_of};
 ghost use Rattle.ms_bits.specs.NoFlags.{no_flags};
-ghost use Rattle.ms_grammar.specs.declared.forms.Form.TheVariants.{Plain, Instrumented};
+ghost use Rattle.ms_ir.specs.declared.forms.Form.TheVariants.{Plain, Instrumented};
 ghost use Rattle.ms_grammar.specs.declared.refusals.Limit.TheVariants as limit;
 ghost use Rattle.ms_grammar.specs.declared.refusals.Outside.TheVariants as outside;
 ghost use Rattle.ms_grammar.specs.declared.refusals.Refusal.TheVariants as r;

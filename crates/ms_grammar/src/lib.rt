@@ -3,13 +3,11 @@
 #![tactic(auto)]
 
 pub mod examples;
-pub mod forms;
 pub mod laws;
 pub mod refusals;
 pub mod states;
 pub mod symbols;
 
-pub use forms::Form;
 pub use refusals::{Limit, Outside, Refusal};
 pub use states::{Body, Edges, Indices, Parameters, Parts};
 pub use symbols::Symbol;

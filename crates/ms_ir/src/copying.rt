@@ -1,9 +1,11 @@
 //! Equal copies of the parts of a module.
 ghost use Rattle.std.specs.Prelude.{◌≡◌, IfOk};
+ghost use Rattle.ms_ir.specs.declared.syntax.Operand.TheVariants as operand;
 
 mod operations;
 mod places;
 
+use crate::parts::{four, three};
 use crate::syntax::{Block, Decl, Func, GlobalVar, Init, Inst, Module, Name, Operand, Ty};
 use ms_bits::{Boxed, Duplicate, List, NoMemory};
 use std::alloc::Global;
@@ -51,6 +53,18 @@ impl Duplicate for Ty {
     }
 }
 
+fn copy_offset(
+    alloc: Global,
+    ty: &Ty,
+    name: &Name,
+    indices: &List<(Ty, u64)>,
+) -> Result<Operand, NoMemory>
+    ensures { IfOk result (λ c. c ≡ operand.Offset ty.now name.now indices.now) }
+{
+    let (ty, name, indices) = three(alloc, ty, name, indices)?;
+    Ok(Operand::Offset(ty, name, indices))
+}
+
 impl Duplicate for Operand {
     fn copy(&self, alloc: Global) -> Result<Self, NoMemory> {
         match self {
@@ -60,11 +74,7 @@ impl Duplicate for Operand {
             Operand::Poison => Ok(Operand::Poison),
             Operand::Local(name) => Ok(Operand::Local(name.copy(alloc)?)),
             Operand::Global(name) => Ok(Operand::Global(name.copy(alloc)?)),
-            Operand::Offset(ty, name, indices) => Ok(Operand::Offset(
-                ty.copy(alloc)?,
-                name.copy(alloc)?,
-                indices.copy(alloc)?,
-            )),
+            Operand::Offset(ty, name, indices) => copy_offset(alloc, ty, name, indices),
         }
     }
 }
@@ -125,43 +135,55 @@ impl Duplicate for Block {
 
 impl Duplicate for Func {
     fn copy(&self, alloc: Global) -> Result<Self, NoMemory> {
+        let (name, ret, params, blocks) = four(
+            alloc,
+            &self.name,
+            &self.ret,
+            &self.params,
+            &self.blocks,
+        )?;
         Ok(Func {
-            name: self.name.copy(alloc)?,
-            ret: self.ret.copy(alloc)?,
-            params: self.params.copy(alloc)?,
-            blocks: self.blocks.copy(alloc)?,
+            name,
+            ret,
+            params,
+            blocks,
         })
     }
 }
 
 impl Duplicate for Decl {
     fn copy(&self, alloc: Global) -> Result<Self, NoMemory> {
-        Ok(Decl {
-            name: self.name.copy(alloc)?,
-            ret: self.ret.copy(alloc)?,
-            params: self.params.copy(alloc)?,
-        })
+        let (name, ret, params) = three(alloc, &self.name, &self.ret, &self.params)?;
+        Ok(Decl { name, ret, params })
     }
 }
 
 impl Duplicate for GlobalVar {
     fn copy(&self, alloc: Global) -> Result<Self, NoMemory> {
+        let (name, ty, init) = three(alloc, &self.name, &self.ty, &self.init)?;
         Ok(GlobalVar {
-            name: self.name.copy(alloc)?,
+            name,
             constant: self.constant,
-            ty: self.ty.copy(alloc)?,
-            init: self.init.copy(alloc)?,
+            ty,
+            init,
         })
     }
 }
 
 impl Duplicate for Module {
     fn copy(&self, alloc: Global) -> Result<Self, NoMemory> {
+        let (types, globals, decls, funcs) = four(
+            alloc,
+            &self.types,
+            &self.globals,
+            &self.decls,
+            &self.funcs,
+        )?;
         Ok(Module {
-            types: self.types.copy(alloc)?,
-            globals: self.globals.copy(alloc)?,
-            decls: self.decls.copy(alloc)?,
-            funcs: self.funcs.copy(alloc)?,
+            types,
+            globals,
+            decls,
+            funcs,
         })
     }
 }

@@ -3,6 +3,7 @@ ghost use Rattle.std.specs.Prelude.{◌≡◌, IfOk, filter, map, not};
 ghost use Rattle.ms_ir.specs.Code.{is_unmarked, strip, strip_block, strip_func};
 ghost use Rattle.ms_ir.specs.Names.{is_reserved};
 
+use crate::parts::{push_copy, three};
 use crate::{Block, Decl, Func, GlobalVar, Inst, Module};
 use ms_bits::{Duplicate, List, NoMemory};
 use std::alloc::Global;
@@ -13,7 +14,7 @@ fn strip_insts(alloc: Global, insts: &[Inst]) -> Result<List<Inst>, NoMemory>
     let mut left = Vec::new(alloc);
     for inst in insts {
         if !inst.marked {
-            left.push(inst.copy(alloc)?)?;
+            push_copy(alloc, &mut left, inst)?;
         }
     }
     Ok(List::from_vec(left))
@@ -40,10 +41,8 @@ fn strip_blocks(alloc: Global, blocks: &[Block]) -> Result<List<Block>, NoMemory
 fn strip_func(alloc: Global, func: &Func) -> Result<Func, NoMemory>
     ensures { IfOk result (λ left. left ≡ strip_func func.now) }
 {
-    let name = func.name.copy(alloc)?;
-    let ret = func.ret.copy(alloc)?;
-    let params = func.params.copy(alloc)?;
     let blocks = strip_blocks(alloc, func.blocks.as_slice())?;
+    let (name, ret, params) = three(alloc, &func.name, &func.ret, &func.params)?;
     Ok(Func {
         name,
         ret,
@@ -68,7 +67,7 @@ fn strip_globals(alloc: Global, globals: &[GlobalVar]) -> Result<List<GlobalVar>
     let mut left = Vec::new(alloc);
     for global in globals {
         if !global.name.is_reserved() {
-            left.push(global.copy(alloc)?)?;
+            push_copy(alloc, &mut left, global)?;
         }
     }
     Ok(List::from_vec(left))
@@ -80,7 +79,7 @@ fn strip_decls(alloc: Global, decls: &[Decl]) -> Result<List<Decl>, NoMemory>
     let mut left = Vec::new(alloc);
     for decl in decls {
         if !decl.name.is_reserved() {
-            left.push(decl.copy(alloc)?)?;
+            push_copy(alloc, &mut left, decl)?;
         }
     }
     Ok(List::from_vec(left))

@@ -21,7 +21,7 @@ use Rattle.ms_ir.specs.Areas.{Stack, room}
 use Rattle.ms_bits.specs.declared.traps.Trap.TheVariants as trap
 use Rattle.ms_ir.specs.Layout.{stored_size, width_of, size_in}
 use Rattle.ms_runs.specs.Memory.{store_number, set_shadow, used, fits, next_base, is_good, make_unset, set_cells, bytes_left}
-use Rattle.ms_runs.specs.Origins.{Chained, chain, add_report, check, check_byte, check_memory, count_blind, poison, mark_cells, store_origin, origin_within, trail, first_in_string}
+use Rattle.ms_runs.specs.Origins.{depth_limit, Chained, chain, add_report, check, check_byte, check_memory, count_blind, poison, mark_cells, store_origin, origin_within, trail, first_in_string}
 use Rattle.ms_ir.specs.Code.{operands, one_undef, count_undefs, is_root, roots_in}
 use Rattle.ms_runs.specs.Control.{Frame, here, rest_of, read_all, with_value, put, after_effect}
 use Rattle.ms_runs.specs.Act.{act, alloca, gives, load, store}
@@ -163,6 +163,7 @@ marked_ranged (suc n) a mask o w r lt =
 
 -- no pair is made while the depth limit is 0
 chain_keeps : (s : Setting) (o site : ℕ) (w : World) → chain s o site w ≡ record { id = o; world = w }
+unfolding depth_limit
 chain_keeps s o site w = by_length _ (keeps (length (trail s w o)) (leb 1048576 (length w.pairs))) _
   where
     keeps : (n : ℕ) (full : Bool) → (eqb n 0 || ltb 0 n || full) ≡ true

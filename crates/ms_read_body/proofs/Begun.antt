@@ -3,8 +3,8 @@ use Rattle.std.proofs.Common.{◌≡◌, ◌<◌, ◌+◌, ◌-◌, ◌^◌, ℕ
 use Rattle.std.proofs.lemmas.Bool.{ltb-true}
 use Rattle.ms_lex.specs.Numbers.{decimal}
 use Rattle.ms_lex.specs.Tokens.{Text}
-use Rattle.ms_grammar.specs.declared.forms.Form.{Form}
-use Rattle.ms_grammar.specs.declared.forms.Form.TheVariants.{Plain, Instrumented}
+use Rattle.ms_ir.specs.declared.forms.Form.{Form}
+use Rattle.ms_ir.specs.declared.forms.Form.TheVariants.{Plain, Instrumented}
 use Rattle.ms_grammar.specs.declared.symbols.Symbol.{Symbol}
 use Rattle.ms_grammar.specs.declared.symbols.Symbol.TheVariants as s
 use Rattle.ms_grammar.specs.declared.refusals.Refusal.{Refusal}

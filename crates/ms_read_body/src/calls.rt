@@ -11,8 +11,8 @@ ghost use Rattle.ms_read_body.specs.Calls.{AreTokens, ReadsExactly, definition, 
 
 use crate::errors::{ReadError, error_at};
 use crate::functions::function;
-use ms_grammar::{Form, Refusal, Symbol};
-use ms_ir::{Func, Operand, Ty};
+use ms_grammar::{Refusal, Symbol};
+use ms_ir::{Form, Func, Operand, Ty};
 use ms_lex::Token;
 use ms_read_cursor::Tokens;
 use ms_read_values::{attributes, operand, type_to};

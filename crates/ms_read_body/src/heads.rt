@@ -4,7 +4,8 @@
 ghost use Rattle.ms_grammar.specs.Functions as spec;
 ghost use Rattle.ms_read_cursor.specs.Reading.{Gives, run};
 
-use ms_grammar::{Form, Refusal, Symbol};
+use ms_grammar::{Refusal, Symbol};
+use ms_ir::Form;
 use ms_read_cursor::{Lexeme, Tokens, Turn, repeat};
 use ms_read_values::{attached_by, attribute_rest, is_attribute, meta};
 use std::alloc::Global;

@@ -6,7 +6,8 @@ ghost use Rattle.ms_grammar.specs.Lexemes.{name_in};
 ghost use Rattle.ms_read_cursor.specs.Reading.{Judges};
 
 use crate::open_blocks::{is_open, may_phi, next_value};
-use ms_grammar::{Body, Form, Limit, Refusal, Symbol};
+use ms_grammar::{Body, Limit, Refusal, Symbol};
+use ms_ir::Form;
 use ms_read_cursor::{Lexeme, name_fits, reserved_local};
 use ms_read_values::{binary_op, cast_op};
 use std::alloc::Global;

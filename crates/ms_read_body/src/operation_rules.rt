@@ -1,8 +1,8 @@
 //! The operations whose suffixes a line reads.
 
 use ms_bits::{BinOp, Boxed, CastOp};
-use ms_grammar::{Form, Refusal};
-use ms_ir::Op;
+use ms_grammar::Refusal;
+use ms_ir::{Form, Op};
 use ms_read_cursor::{Rule, Tokens};
 use ms_read_insts::{
     binary_rule, branch_rule, cast_rule, compare_rule, freeze_rule, load_rule, ret_rule,

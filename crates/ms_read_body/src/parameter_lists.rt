@@ -7,8 +7,8 @@ ghost use Rattle.ms_grammar.specs.Types as types;
 ghost use Rattle.ms_read_cursor.specs.Reading.{Gives, Judges, run};
 
 use ms_bits::{List, NoMemory};
-use ms_grammar::{Form, Limit, Parameters, Refusal, Symbol};
-use ms_ir::{Name, Ty};
+use ms_grammar::{Limit, Parameters, Refusal, Symbol};
+use ms_ir::{Form, Name, Ty};
 use ms_read_cursor::{Lexeme, Series, Tokens, listed, local_name, with_last};
 use ms_read_values::{ValueType, attributes, value_type_of};
 use std::alloc::Global;

@@ -9,9 +9,9 @@ ghost use Rattle.ms_read_cursor.specs.Reading.{Gives, Judges, run};
 use crate::cursor::Tokens;
 use crate::lexemes::Lexeme;
 use ms_bits::Bytes;
-use ms_grammar::{Form, Limit, Refusal, Symbol};
+use ms_grammar::{Limit, Refusal, Symbol};
+use ms_ir::{Form, Name, RuntimeFn, is_slot};
 use ms_ir::spelling::{is_inserted, is_reserved};
-use ms_ir::{Name, RuntimeFn, is_slot};
 use std::alloc::Global;
 
 /// Whether a global can't have this name in the form.

@@ -4,7 +4,8 @@ ghost use Rattle.std.specs.Prelude.{◌≡◌};
 ghost use Rattle.ms_grammar.specs.Insts as spec;
 ghost use Rattle.ms_read_cursor.specs.Reading.{Gives, run};
 
-use ms_grammar::{Form, Outside, Refusal, Symbol};
+use ms_grammar::{Outside, Refusal, Symbol};
+use ms_ir::Form;
 use ms_read_cursor::{Lexeme, Tokens, Turn, repeat};
 use ms_read_values::{attribute_rest, balanced, is_attribute, suffixes_from};
 use std::alloc::Global;

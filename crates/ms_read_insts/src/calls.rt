@@ -9,8 +9,8 @@ ghost use Rattle.ms_read_cursor.specs.Reading.{Gives, Judges, run};
 
 use crate::call_ends::call_end;
 use ms_bits::{Boxed, List};
-use ms_grammar::{Form, Limit, Outside, Refusal, Symbol};
-use ms_ir::{Name, Op, Operand, Ty};
+use ms_grammar::{Limit, Outside, Refusal, Symbol};
+use ms_ir::{Form, Name, Op, Operand, Ty};
 use ms_read_cursor::{Lexeme, Series, Tokens, global_name, listed, with_last};
 use ms_read_values::{
     ValueType, attributes, result_ty, result_type, value, value_type, value_type_of,

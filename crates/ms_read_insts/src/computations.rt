@@ -8,8 +8,8 @@ ghost use Rattle.ms_read_cursor.specs.Reading.{Gives, Judges, run};
 
 use crate::flags::{Carrier, flags_of};
 use ms_bits::{BinOp, Boxed, CastOp, Pred};
-use ms_grammar::{Form, Refusal, Symbol};
-use ms_ir::Op;
+use ms_grammar::{Refusal, Symbol};
+use ms_ir::{Form, Op};
 use ms_read_cursor::{Lexeme, Tokens, same_symbol};
 use ms_read_values::{ValueType, int_type, value, value_type, value_type_of};
 use std::alloc::Global;

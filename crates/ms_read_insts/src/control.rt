@@ -7,8 +7,8 @@ ghost use Rattle.ms_read_values.specs.Narrow.{IsWidth};
 
 use crate::computations::{bit_type, is_int_type};
 use ms_bits::{Boxed, List, NoMemory};
-use ms_grammar::{Edges, Form, Refusal, Symbol};
-use ms_ir::{Name, Op, Operand};
+use ms_grammar::{Edges, Refusal, Symbol};
+use ms_ir::{Form, Name, Op, Operand};
 use ms_read_cursor::{Lexeme, Tokens, Turn, local, repeat, with_last};
 use ms_read_values::{ValueType, int_type, number, result_type, suffixes_from, value, value_type};
 use std::alloc::Global;

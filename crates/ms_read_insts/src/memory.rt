@@ -7,8 +7,8 @@ ghost use Rattle.ms_grammar.specs.Insts as spec;
 ghost use Rattle.ms_read_cursor.specs.Reading.{Gives, run};
 
 use ms_bits::{Boxed, List};
-use ms_grammar::{Form, Indices, Refusal, Symbol};
-use ms_ir::{Op, Operand, Ty};
+use ms_grammar::{Indices, Refusal, Symbol};
+use ms_ir::{Form, Op, Operand, Ty};
 use ms_read_cursor::{Lexeme, Tokens, Turn, repeat, with_last};
 use ms_read_values::{
     ValueType, boxed_type, index_type_of, step_words, suffixes_from, value, value_type,

@@ -7,8 +7,8 @@ ghost use Rattle.ms_grammar.specs.Insts as spec;
 ghost use Rattle.ms_read_cursor.specs.Reading.{Gives, run};
 
 use ms_bits::Boxed;
-use ms_grammar::{Form, Refusal};
-use ms_ir::Op;
+use ms_grammar::Refusal;
+use ms_ir::{Form, Op};
 use ms_read_cursor::{Rule, Tokens};
 use ms_read_values::suffixes_from;
 use std::alloc::Global;

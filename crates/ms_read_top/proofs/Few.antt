@@ -3,8 +3,8 @@ use Rattle.std.proofs.Common.{◌≡◌, ◌≤◌, ◌^◌, ℕ, ◌+◌, List,
 use Rattle.ms_lex.specs.Grammar.{done}
 use Rattle.ms_lex.proofs.Exact.{sound}
 use Rattle.ms_ir.specs.declared.syntax.Func.{Func}
-use Rattle.ms_grammar.specs.declared.forms.Form.{Form}
-use Rattle.ms_grammar.specs.declared.forms.Form.TheVariants.{Plain, Instrumented}
+use Rattle.ms_ir.specs.declared.forms.Form.{Form}
+use Rattle.ms_ir.specs.declared.forms.Form.TheVariants.{Plain, Instrumented}
 use Rattle.ms_grammar.specs.Bodies.{max_instructions}
 use Rattle.ms_grammar.specs.Functions.{function}
 use Rattle.ms_grammar.specs.Lexemes.{Lexeme, end_of_text}

@@ -10,8 +10,8 @@ use Rattle.ms_lex.specs.Tokens.{Text, cut_of, unless_stopped, tokens_of}
 use Rattle.ms_lex.specs.Grammar.{Outcome, done, fails}
 use Rattle.ms_lex.proofs.Exact.{sound, complete, stop_sound, stop_complete}
 use Rattle.ms_ir.specs.declared.syntax.Module.{Module}
-use Rattle.ms_grammar.specs.declared.forms.Form.{Form}
-use Rattle.ms_grammar.specs.declared.forms.Form.TheVariants.{Plain, Instrumented}
+use Rattle.ms_ir.specs.declared.forms.Form.{Form}
+use Rattle.ms_ir.specs.declared.forms.Form.TheVariants.{Plain, Instrumented}
 use Rattle.ms_grammar.specs.declared.refusals.Refusal.{Refusal}
 use Rattle.ms_grammar.specs.declared.refusals.Refusal.TheVariants as r
 use Rattle.ms_grammar.specs.Causes.{printed_number}

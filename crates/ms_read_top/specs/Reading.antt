@@ -5,7 +5,7 @@ use Rattle.ms_lex.specs.declared.errors.LexError.TheVariants as lex
 use Rattle.ms_lex.specs.declared.kinds.Token.{Token}
 use Rattle.ms_lex.specs.Tokens.{Text, tokens_of}
 use Rattle.ms_ir.specs.declared.syntax.Module.{Module}
-use Rattle.ms_grammar.specs.declared.forms.Form.{Form}
+use Rattle.ms_ir.specs.declared.forms.Form.{Form}
 use Rattle.ms_grammar.specs.declared.refusals.Refusal.{Refusal}
 use Rattle.ms_grammar.specs.Causes.{printed_number}
 use Rattle.ms_grammar.specs.Texts.{HasTokens, Reads, Stops, max_tokens, place_in}

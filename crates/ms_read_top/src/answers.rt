@@ -7,8 +7,8 @@ ghost use Rattle.ms_read_body.specs.Calls as spec;
 ghost use Rattle.ms_read_top.specs.Reading.{IsReading, of_lexer};
 
 use crate::modules::whole_module;
-use ms_grammar::{Form, Refusal};
-use ms_ir::Module;
+use ms_grammar::Refusal;
+use ms_ir::{Form, Module};
 use ms_lex::{LexError, Token, tokens};
 use ms_read_body::{ReadError, error_at, place_of};
 use ms_read_cursor::Tokens;

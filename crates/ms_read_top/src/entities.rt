@@ -7,7 +7,8 @@ ghost use Rattle.ms_read_cursor.specs.Reading.{Gives, run};
 
 use crate::function_entities::{declaration_entity, function_entity};
 use crate::other_entities::other_entity;
-use ms_grammar::{Form, Parts, Refusal, Symbol};
+use ms_grammar::{Parts, Refusal, Symbol};
+use ms_ir::Form;
 use ms_read_cursor::{Lexeme, Tokens};
 use std::alloc::Global;
 

@@ -3,8 +3,8 @@
 ghost use Rattle.ms_grammar.specs.Modules as spec;
 ghost use Rattle.ms_read_cursor.specs.Reading.{Judges};
 
-use ms_grammar::{Form, Limit, Parts, Refusal, Symbol};
-use ms_ir::Module;
+use ms_grammar::{Limit, Parts, Refusal, Symbol};
+use ms_ir::{Form, Module};
 use ms_read_cursor::{Lexeme, local_by, name_fits, reserved_global};
 use std::alloc::Global;
 

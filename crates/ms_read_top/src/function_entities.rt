@@ -9,8 +9,8 @@ ghost use Rattle.ms_read_cursor.specs.Reading.{Gives, run};
 
 use crate::more_parts::with_declaration;
 use ms_bits::NoMemory;
-use ms_grammar::{Form, Parts, Refusal};
-use ms_ir::{Block, Func, Module};
+use ms_grammar::{Parts, Refusal};
+use ms_ir::{Block, Form, Func, Module};
 use ms_read_body::{declaration, function};
 use ms_read_cursor::{Tokens, with_last};
 use std::alloc::Global;

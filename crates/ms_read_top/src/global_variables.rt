@@ -7,8 +7,8 @@ ghost use Rattle.ms_grammar.specs.Steps.{comma_begins};
 ghost use Rattle.ms_read_cursor.specs.Reading.{Gives, Judges, front, run};
 
 use ms_bits::Boxed;
-use ms_grammar::{Form, Outside, Refusal, Symbol};
-use ms_ir::{GlobalVar, Name};
+use ms_grammar::{Outside, Refusal, Symbol};
+use ms_ir::{Form, GlobalVar, Name};
 use ms_read_cursor::{Lexeme, Tokens, Turn, repeat};
 use ms_read_values::{boxed_type, init_to, is_attribute_word, kind_of, meta};
 use std::alloc::Global;

@@ -7,7 +7,8 @@ ghost use Rattle.ms_grammar.specs.Modules as spec;
 ghost use Rattle.ms_grammar.specs.Steps.{sees, skip};
 ghost use Rattle.ms_read_cursor.specs.Reading.{Gives, Judges, run};
 
-use ms_grammar::{Form, Refusal, Symbol};
+use ms_grammar::{Refusal, Symbol};
+use ms_ir::Form;
 use ms_read_cursor::{Lexeme, Tokens};
 use ms_read_values::{balanced, meta};
 use std::alloc::Global;

@@ -8,8 +8,8 @@ ghost use Rattle.ms_read_cursor.specs.Reading.{Gives, Judges, run};
 use crate::entities::entity;
 use crate::entity_starts::entity_begins;
 use ms_bits::List;
-use ms_grammar::{Form, Parts, Refusal, Symbol};
-use ms_ir::Module;
+use ms_grammar::{Parts, Refusal, Symbol};
+use ms_ir::{Form, Module};
 use ms_read_cursor::{Lexeme, Tokens};
 use std::alloc::Global;
 

@@ -3,8 +3,8 @@
 ghost use Rattle.ms_grammar.specs.Modules as spec;
 ghost use Rattle.ms_read_cursor.specs.Reading.{Gives, run};
 
-use ms_grammar::{Form, Refusal, Symbol};
-use ms_ir::{Name, Ty};
+use ms_grammar::{Refusal, Symbol};
+use ms_ir::{Form, Name, Ty};
 use ms_read_cursor::Tokens;
 use ms_read_values::struct_type;
 use std::alloc::Global;

@@ -13,8 +13,8 @@ use crate::left_out::{source_filename, target_entity};
 use crate::metadata_nodes::{attribute_group, metadata_entity};
 use crate::more_parts::{with_global, with_type};
 use crate::named_types::named_type;
-use ms_grammar::{Form, Parts, Refusal, Symbol};
-use ms_ir::Name;
+use ms_grammar::{Parts, Refusal, Symbol};
+use ms_ir::{Form, Name};
 use ms_read_cursor::{Lexeme, Tokens, local_by};
 use std::alloc::Global;
 

@@ -9,8 +9,7 @@ ghost use Rattle.ms_read_body.specs.declared.errors.What.{What};
 ghost use Rattle.ms_read_top.specs.Reading.{AnswersExactly, IsTextRefused};
 
 use crate::answers::answer_for;
-use ms_grammar::Form;
-use ms_ir::Module;
+use ms_ir::{Form, Module};
 use ms_lex::LexError;
 use ms_read_body::ReadError;
 use std::alloc::Global;

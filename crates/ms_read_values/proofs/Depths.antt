@@ -2,7 +2,7 @@
 use Rattle.std.proofs.Common.{◌≡◌, ℕ, zero, suc, ◌-◌, ◌<◌, Bool, true, false, cond, List, refl, ap, arith}
 use Rattle.ms_ir.specs.declared.syntax.Ty.{Ty}
 use Rattle.ms_ir.specs.declared.syntax.Init.{Init}
-use Rattle.ms_grammar.specs.declared.forms.Form.{Form}
+use Rattle.ms_ir.specs.declared.forms.Form.{Form}
 use Rattle.ms_grammar.specs.declared.symbols.Symbol.{Symbol}
 use Rattle.ms_grammar.specs.declared.symbols.Symbol.TheVariants as s
 use Rattle.ms_lex.specs.Grammar.{fails}

@@ -5,7 +5,8 @@ ghost use Rattle.ms_read_cursor.specs.Reading.{Gives, run};
 
 use crate::attribute_words::is_attribute;
 use crate::brackets::in_parens;
-use ms_grammar::{Form, Refusal, Symbol};
+use ms_grammar::{Refusal, Symbol};
+use ms_ir::Form;
 use ms_read_cursor::{Lexeme, Tokens, Turn, repeat};
 use std::alloc::Global;
 

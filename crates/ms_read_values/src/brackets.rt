@@ -4,7 +4,8 @@ ghost use Rattle.ms_grammar.specs.Skipped as spec;
 ghost use Rattle.ms_read_cursor.specs.Reading.{Gives, Judges, run};
 
 use crate::awaited::{Awaited, is_closer};
-use ms_grammar::{Form, Refusal, Symbol};
+use ms_grammar::{Refusal, Symbol};
+use ms_ir::Form;
 use ms_read_cursor::{Lexeme, Tokens, Turn, global_name, local_name, repeat};
 use std::alloc::Global;
 

@@ -9,8 +9,8 @@ ghost use Rattle.ms_read_values.specs.Parts.{part_of};
 use crate::types::{boxed_type, opens, packed_brace};
 use crate::values::value_within;
 use ms_bits::List;
-use ms_grammar::{Form, Limit, Refusal, Symbol};
-use ms_ir::{Init, Ty};
+use ms_grammar::{Limit, Refusal, Symbol};
+use ms_ir::{Form, Init, Ty};
 use ms_read_cursor::Tokens;
 use std::alloc::Global;
 

@@ -10,8 +10,8 @@ ghost use Rattle.ms_read_values.specs.Narrow.{IsWidth};
 use crate::numbers::number;
 use crate::types::{boxed_type, int_type_of};
 use ms_bits::List;
-use ms_grammar::{Form, Limit, Refusal, Symbol};
-use ms_ir::{Operand, Ty};
+use ms_grammar::{Limit, Refusal, Symbol};
+use ms_ir::{Form, Operand, Ty};
 use ms_read_cursor::{Lexeme, Tokens, Turn, global, repeat, with_last};
 use std::alloc::Global;
 

@@ -8,7 +8,8 @@ ghost use Rattle.ms_read_cursor.specs.Reading.{Gives, run};
 
 use crate::brackets::{balanced, in_parens};
 use crate::metadata::{kind_of, meta};
-use ms_grammar::{Form, Refusal, Symbol};
+use ms_grammar::{Refusal, Symbol};
+use ms_ir::Form;
 use ms_read_cursor::{Lexeme, Tokens, Turn, repeat};
 use std::alloc::Global;
 

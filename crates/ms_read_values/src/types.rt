@@ -9,8 +9,8 @@ ghost use Rattle.ms_read_values.specs.Narrow.{IsWidth};
 
 use crate::value_types::ValueType;
 use ms_bits::{Boxed, List};
-use ms_grammar::{Form, Limit, Outside, Refusal, Symbol};
-use ms_ir::Ty;
+use ms_grammar::{Limit, Outside, Refusal, Symbol};
+use ms_ir::{Form, Ty};
 use ms_read_cursor::{Lexeme, Tokens, local, same_symbol};
 use std::alloc::Global;
 

@@ -10,8 +10,8 @@ use crate::offsets::offset;
 use crate::operations::begins_expression;
 use crate::value_types::ValueType;
 use ms_bits::Boxed;
-use ms_grammar::{Form, Outside, Refusal, Symbol};
-use ms_ir::{Operand, Ty};
+use ms_grammar::{Outside, Refusal, Symbol};
+use ms_ir::{Form, Operand, Ty};
 use ms_read_cursor::{Lexeme, Tokens, global_by, local_by};
 use std::alloc::Global;
 

@@ -2,7 +2,7 @@
 ghost use Rattle.std.specs.Prelude.{◌≡◌, ◌++◌, IfOk, codes, decimal};
 ghost use Rattle.ms_ir.specs.Places.{HasSmallNumbers};
 ghost use Rattle.ms_valid.specs.Formed.{Formed};
-ghost use Rattle.ms_runs_good.specs.Verdict.{verdict_of};
+ghost use Rattle.ms_runs.specs.Verdict.{verdict_of};
 ghost use Rattle.ms_report.specs.RunTexts.{trap_name, end_text, verdict_text, verdict_line, line, closing_of};
 
 use crate::sites::push_site;

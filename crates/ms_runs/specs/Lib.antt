@@ -14,5 +14,6 @@ pub mod Uses
 pub mod Shadow
 pub mod LowEqual
 pub mod Faithful
+pub mod Verdict
 pub mod First
 pub mod ExampleRuns

@@ -1,5 +1,6 @@
 -- Two shadow states that show the same, whatever stands in their poisoned bits.
 use Rattle.std.specs.Prelude.{◌≡◌, ℕ, List, [], ◌∷◌}
+use Rattle.std.specs.Int.{bit_at}
 use Rattle.ms_ir.specs.declared.syntax.Name.{Name}
 use Rattle.ms_runs.specs.World.{World}
 use Rattle.ms_runs.specs.Control.{Frame}
@@ -7,10 +8,14 @@ use Rattle.ms_runs.specs.Poisoned.{Poisoned}
 use Rattle.ms_bits.specs.Completion.{Agrees}
 use Rattle.ms_runs.specs.Shadow.{ShadowState}
 
+-- two numbers have the same bits wherever a mask is 0
+abbrev pub SameBits : (mask a b : ℕ) → Type 0
+SameBits mask a b = (i : ℕ) → bit_at mask i ≡ 0 → bit_at a i ≡ bit_at b i
+
 pub record LowWord (p q : Poisoned) : Type 0 where
   pub mask : p.mask ≡ q.mask
   pub origin : p.origin ≡ q.origin
-  pub value : Agrees 64 p.mask p.value q.value
+  pub value : SameBits p.mask p.value q.value
 
 pub record LowFrame (f g : Frame Poisoned) : Type 0 where
   pub func : f.func ≡ g.func

@@ -35,8 +35,9 @@ pub record Chained : Type 0 where
   pub id : ℕ
   pub world : World
 
--- the depth from which on an origin is kept as it is; a root has depth 0, and a pair one more than its earlier origin
-abbrev pub depth_limit : ℕ
+-- the depth from which on an origin is kept as it is; a root has depth 0, and a pair one more than its earlier origin.
+-- It unfolds where a proof asks for it alone, so that what is proved of chains holds for any limit
+unfoldable pub depth_limit : ℕ
 depth_limit = 0
 
 -- the pairs that may stand

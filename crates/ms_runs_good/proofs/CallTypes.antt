@@ -1,5 +1,6 @@
 -- A call of a valid module has words of the types of its callee, and answers what its callee does.
 use Rattle.std.proofs.Common.{◌≡◌, ◌<◌, ◌^◌, get_or, ℕ, zero, suc, List, [], ◌∷◌, ◌++◌, map, flat_map, Bool, true, false, not, ◌&&◌, ◌||◌, Option, Some, None, option_map, unwrap_or, is_some, slice_get, refl, sym, ap, subst, ◌∙◌, arith, if◌then◌else◌, true≢false, eqb-true, codes}
+use Rattle.std.proofs.Math.Path.{ap₂}
 use Rattle.std.specs.Prelude.{IsFalse}
 use Rattle.std.specs.List.{list_all, list_any}
 use Rattle.std.specs.Option.{option_or}
@@ -74,6 +75,22 @@ args_match fits n (p ∷ ps) (a ∷ rest) zero t e h =
     (a.0, refl, same_width a.0 p (and_parts (type_eq a.0 p) (fits a) parts.0).0 ∙ ap width_of (ap (λ o. unwrap_or o p) h))
 args_match fits n (p ∷ ps) (a ∷ rest) (suc k) t e h =
     args_match fits (suc n) ps rest k t (no_fault_at (type_eq a.0 p && fits a) (argument_fault fits (suc n) ps rest) n e).1 h
+
+-- arguments have the widths of the parameters, and are as many
+pub args_widths : (fits : Ty × Operand → Bool) (n : ℕ) (ps : List Ty) (args : List (Ty × Operand)) → argument_fault fits n ps args ≡ None → map (λ a. width_of a.0) args ≡ map width_of ps
+args_widths fits n [] [] e = refl
+args_widths fits n [] (a ∷ rest) e = grind arith
+args_widths fits n (p ∷ ps) [] e = grind arith
+args_widths fits n (p ∷ ps) (a ∷ rest) e =
+    let parts = no_fault_at (type_eq a.0 p && fits a) (argument_fault fits (suc n) ps rest) n e in
+    ap₂ (λ w l. w ∷ l) (same_width a.0 p (and_parts (type_eq a.0 p) (fits a) parts.0).0) (args_widths fits (suc n) ps rest parts.1)
+
+pub types_widths : (ps qs : List Ty) → types_eq ps qs ≡ true → map width_of ps ≡ map width_of qs
+types_widths [] [] e = refl
+types_widths [] (q ∷ qs) e = absurd (true≢false (sym e))
+types_widths (p ∷ ps) [] e = absurd (true≢false (sym e))
+types_widths (p ∷ ps) (q ∷ qs) e =
+    let parts = and_parts (type_eq p q) (types_eq ps qs) e in ap₂ (λ w l. w ∷ l) (same_width p q parts.0) (types_widths ps qs parts.1)
 
 -- words of types are words of other types that are as wide
 pub matched_have : {V : Type 0} (holds : V → ℕ → Type 0) (unset : V) (words : List V) (ps qs : List Ty) → ((k : ℕ) (t : Ty) → slice_get qs k ≡ Some t → Matched ps k t)
@@ -187,6 +204,7 @@ decl_passes called (g ∷ rest) (suc n) d none e =
 -- a call has words of the types of a function, and answers what it does, which a declaration says once more
 pub record CallsAs (ret : Option Ty) (args : List (Ty × Operand)) (s : Signature) : Type 0 where
   pub words : (words : List ℕ) → HaveTypes IsBelow 0 words (map (λ a. a.0) args) → HaveTypes IsBelow 0 words s.params
+  pub widths : map (λ a. width_of a.0) args ≡ map width_of s.params
   pub declared_ret : Option Ty
   pub first : result_type_eq ret declared_ret ≡ true
   pub second : result_type_eq declared_ret s.ret ≡ true
@@ -305,6 +323,7 @@ module _ (m : Module) (valid : Valid m) (n b p : ℕ) (f : Func) (inst : Inst) (
             words = λ words have. matched_have IsBelow 0 words (decl_signature decl.1).params table.params (λ k t l. types_match (decl_signature decl.1).params table.params k t same.1 l)
                 (matched_have IsBelow 0 words (map (λ a. a.0) args) (decl_signature decl.1).params
                 (λ k t l. args_match fitted_call 0 (decl_signature decl.1).params args k t (ap (λ z. argument_fault fitted_call 0 z.params args) decl.4 ∙ both.0) l) have);
+            widths = args_widths fitted_call 0 (decl_signature decl.1).params args (ap (λ z. argument_fault fitted_call 0 z.params args) decl.4 ∙ both.0) ∙ types_widths (decl_signature decl.1).params table.params same.1;
             declared_ret = (decl_signature decl.1).ret;
             first = ap (λ z. result_type_eq ret z.ret) decl.4 ∙ both.1;
             second = same.0;
@@ -352,6 +371,23 @@ module _ (m : Module) (valid : Valid m) (n b p : ℕ) (f : Func) (inst : Inst) (
       let same : func.0 ≡ g = ap (λ o. unwrap_or o g) (sym func.1 ∙ there) in
       ap (λ h. argument_fault fitted_call 0 (map (λ q. q.0) h.params) args) (sym same)
       ∙ (declared_call (func_signature func.0) apart (ap (λ o. call_fault m fitted_call (option_or o (declared_signature m.decls callee)) ret callee args) (sym func.3) ∙ no_call_fault)).0
+    where
+      and_false : (t : Bool) → (t && false) ≡ false
+      and_false true = refl
+      and_false false = refl
+
+  pub defined_answer : (g : Func) (k : ℕ) → func_index m.funcs callee ≡ Some k → func_at m k ≡ Some g → result_type_eq ret g.ret ≡ true
+  defined_answer g k found there =
+      let func = func_found m.funcs callee k found in
+      let symbols = global_names m ++ declared_names m in
+      let later = (both_empty (percent_sign (repeats [] (type_names m))) (at_sign (repeats [] symbols) ++ function_duplicates symbols m.funcs) valid.names_once).1 in
+      let once = (both_empty (at_sign (repeats [] symbols)) (function_duplicates symbols m.funcs) later).1 in
+      let unseen : has_name symbols callee ≡ false = ap (has_name symbols) (sym func.2) ∙ unseen_func symbols m.funcs k func.0 once func.1 in
+      let not_declared = (or_parts (has_name (global_names m) callee) (has_name (declared_names m) callee) (sym (list_any-append (λ y. name_eq y callee) (global_names m) (declared_names m)) ∙ unseen)).1 in
+      let apart : is_printf m callee ≡ false = ap (λ o. name_eq callee (Text (codes "printf")) && is_some o) (undeclared m.decls callee not_declared) ∙ and_false (name_eq callee (Text (codes "printf"))) in
+      let same : func.0 ≡ g = ap (λ o. unwrap_or o g) (sym func.1 ∙ there) in
+      ap (λ (h : Func). result_type_eq ret h.ret) (sym same)
+      ∙ (declared_call (func_signature func.0) apart (ap (λ o. call_fault m fitted_call (option_or o (declared_signature m.decls callee)) ret callee args) (sym func.3) ∙ no_call_fault)).1
     where
       and_false : (t : Bool) → (t && false) ≡ false
       and_false true = refl

@@ -8,4 +8,3 @@ pub mod Sited
 pub mod Reached
 pub mod ExampleWalks
 pub mod Fills
-pub mod Verdict

@@ -27,7 +27,7 @@ use Rattle.ms_runs.specs.Poisoned.{Poisoned, InRange}
 use Rattle.ms_runs.specs.Masks.{Rules, SameRules, union, binary_mask, result_mask, result_origin}
 use Rattle.ms_runs.specs.Uses.{blinded}
 use Rattle.ms_runs.specs.Origins.{count_blind}
-use Rattle.ms_runs.specs.Shadow.{read_poisoned, shadow_reading, operand_mask, planes, poisoned_result, shadow_act, after_checks, shadow_first, shadow_frames, shadow_moved, shadow_by}
+use Rattle.ms_runs.specs.Shadow.{read_poisoned, shadow_reading, operand_mask, planes, poisoned_result, shadow_act, after_checks, shadow_first, shadow_frames, shadow_moved, ShadowState, shadow_step, shadow_by}
 
 -- ---- words that are read are in range
 
@@ -137,6 +137,9 @@ same_first same s m (i ∷ is) fr below w = same_after same s m i (here s m fr) 
 same_frames : {d e : Rules} → SameRules d e → (s : Setting) (m : Module) (fs : List (Frame Poisoned)) (w : World) → shadow_frames d s m fs w ≡ shadow_frames e s m fs w
 same_frames same s m [] w = refl
 same_frames same s m (fr ∷ below) w = same_first same s m (rest_of m fr) fr below w
+
+pub same_step : {d e : Rules} → SameRules d e → (s : Setting) (m : Module) (c : ShadowState) → shadow_step d s m c ≡ shadow_step e s m c
+same_step same s m c = ap shadow_moved (same_frames same s m c.frames c.world)
 
 pub same_shadow : {d e : Rules} → SameRules d e → (m : Module) (s : Setup) → shadow_by d m s ≡ shadow_by e m s
 same_shadow same m s =

@@ -4,7 +4,7 @@ use Rattle.std.proofs.lemmas.Bool.{eq-eqb, ne_eqb, lt-ltb}
 use Rattle.ms_bits.specs.Maps.{with_cell}
 use Rattle.ms_runs.specs.World.{World, Setting}
 use Rattle.ms_runs.specs.Memory.{is_good}
-use Rattle.ms_runs.specs.Origins.{Chained, keeps_old, chain, trail, mark_cells, store_origin, origin_within}
+use Rattle.ms_runs.specs.Origins.{Chained, depth_limit, keeps_old, chain, trail, mark_cells, store_origin, origin_within}
 use Rattle.ms_straight.specs.State.{HostState}
 use Rattle.ms_straight.specs.Shows.{Shows, with_mark}
 
@@ -24,6 +24,7 @@ never-chained (suc n) c = ap (λ (b : Bool). eqb (suc n) 0 || b || c) (lt-ltb 0 
 
 -- an origin stays what it is, and no pair is made
 pub chain-keeps : (setting : Setting) (old site : ℕ) (world : World) → chain setting old site world ≡ record { id = old; world = world }
+unfolding depth_limit
 chain-keeps setting old site world =
     chosen-true (keeps_old setting world old) _ _ (never-chained (length (trail setting world old)) (leb 1048576 (length world.pairs)))
 

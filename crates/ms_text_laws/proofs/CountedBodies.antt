@@ -8,7 +8,7 @@ use Rattle.ms_ir.specs.declared.syntax.Block.{Block}
 use Rattle.ms_ir.specs.declared.syntax.Inst.{Inst}
 use Rattle.ms_ir.specs.declared.syntax.Name.{Name}
 use Rattle.ms_ir.specs.declared.syntax.Op.{Op}
-use Rattle.ms_grammar.specs.declared.forms.Form.{Form}
+use Rattle.ms_ir.specs.declared.forms.Form.{Form}
 use Rattle.ms_grammar.specs.declared.states.Body.{Body}
 use Rattle.ms_grammar.specs.declared.symbols.Symbol.{Symbol}
 use Rattle.ms_grammar.specs.declared.symbols.Symbol.TheVariants as s

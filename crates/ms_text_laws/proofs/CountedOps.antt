@@ -11,7 +11,7 @@ use Rattle.ms_ir.specs.declared.syntax.Op.TheVariants as op
 use Rattle.ms_ir.specs.declared.syntax.Operand.{Operand}
 use Rattle.ms_ir.specs.declared.syntax.Ty.{Ty}
 use Rattle.ms_ir.specs.declared.syntax.Ty.TheVariants as ty
-use Rattle.ms_grammar.specs.declared.forms.Form.{Form}
+use Rattle.ms_ir.specs.declared.forms.Form.{Form}
 use Rattle.ms_grammar.specs.declared.states.Edges.{Edges}
 use Rattle.ms_grammar.specs.declared.states.Indices.{Indices}
 use Rattle.ms_grammar.specs.declared.symbols.Symbol.{Symbol}

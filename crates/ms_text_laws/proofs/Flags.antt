@@ -11,7 +11,7 @@ use Rattle.ms_bits.specs.declared.operations.Flags.{Flags}
 use Rattle.ms_lex.specs.Tokens.{Text}
 use Rattle.ms_lex.specs.Grammar.{head, give, loop}
 use Rattle.ms_bits.specs.NoFlags.{no_flags}
-use Rattle.ms_grammar.specs.declared.forms.Form.TheVariants.{Instrumented}
+use Rattle.ms_ir.specs.declared.forms.Form.TheVariants.{Instrumented}
 use Rattle.ms_grammar.specs.declared.symbols.Symbol.{Symbol}
 use Rattle.ms_grammar.specs.declared.symbols.Symbol.TheVariants as s
 use Rattle.ms_grammar.specs.Lexemes.{Lexeme, end_of_text, same_symbol, symbol_of, word_symbol}

@@ -16,7 +16,7 @@ use Rattle.ms_ir.specs.declared.syntax.Name.TheVariants as name
 use Rattle.ms_ir.specs.declared.syntax.Op.{Op}
 use Rattle.ms_ir.specs.declared.syntax.Op.TheVariants as op
 use Rattle.ms_ir.specs.declared.syntax.Ty.{Ty}
-use Rattle.ms_grammar.specs.declared.forms.Form.{Form}
+use Rattle.ms_ir.specs.declared.forms.Form.{Form}
 use Rattle.ms_grammar.specs.declared.refusals.Limit.TheVariants as limit
 use Rattle.ms_grammar.specs.declared.refusals.Refusal.TheVariants as r
 use Rattle.ms_grammar.specs.declared.states.Body.{Body}

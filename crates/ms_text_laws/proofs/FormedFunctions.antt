@@ -12,7 +12,7 @@ use Rattle.ms_ir.specs.declared.syntax.Func.{Func}
 use Rattle.ms_ir.specs.declared.syntax.Name.{Name}
 use Rattle.ms_ir.specs.declared.syntax.Name.TheVariants as name
 use Rattle.ms_ir.specs.declared.syntax.Ty.{Ty}
-use Rattle.ms_grammar.specs.declared.forms.Form.{Form}
+use Rattle.ms_ir.specs.declared.forms.Form.{Form}
 use Rattle.ms_grammar.specs.declared.refusals.Limit.TheVariants as limit
 use Rattle.ms_grammar.specs.declared.states.Body.{Body}
 use Rattle.ms_grammar.specs.declared.states.Parameters.{Parameters}

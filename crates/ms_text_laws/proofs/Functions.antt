@@ -11,7 +11,7 @@ use Rattle.ms_ir.specs.declared.syntax.Ty.{Ty, Int, Ptr, Array', Struct', Named}
 use Rattle.ms_ir.specs.declared.syntax.Block.{Block}
 use Rattle.ms_ir.specs.declared.syntax.Decl.{Decl}
 use Rattle.ms_ir.specs.declared.syntax.Func.{Func}
-use Rattle.ms_grammar.specs.declared.forms.Form.TheVariants.{Instrumented}
+use Rattle.ms_ir.specs.declared.forms.Form.TheVariants.{Instrumented}
 use Rattle.ms_grammar.specs.declared.refusals.Refusal.TheVariants as r
 use Rattle.ms_grammar.specs.declared.refusals.Limit.TheVariants as limit
 use Rattle.ms_grammar.specs.declared.states.Parameters.{Parameters}

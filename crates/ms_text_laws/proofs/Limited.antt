@@ -5,7 +5,7 @@ use Rattle.ms_lex.specs.Tokens.{Text}
 use Rattle.ms_lex.specs.Numbers.{decimal}
 use Rattle.ms_lex.specs.Grammar.{one, give, ◌>>=◌, ◌>>◌, loop, look}
 use Rattle.ms_ir.specs.declared.syntax.Name.{Name}
-use Rattle.ms_grammar.specs.declared.forms.Form.TheVariants.{Instrumented}
+use Rattle.ms_ir.specs.declared.forms.Form.TheVariants.{Instrumented}
 use Rattle.ms_grammar.specs.declared.symbols.Symbol.{Symbol}
 use Rattle.ms_grammar.specs.Lexemes.{Lexeme, name_in}
 use Rattle.ms_grammar.specs.Steps.{Rule, Verdict, refusal, next_symbol, refuse, stop, skip, word, within, judge_map, comma_begins, sees, listed, binary_op, cast_op}

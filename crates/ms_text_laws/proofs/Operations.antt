@@ -2,7 +2,7 @@
 use Rattle.std.proofs.Common.{List, refl, sym, subst}
 use Rattle.ms_ir.specs.declared.syntax.Op.{Op}
 use Rattle.ms_ir.specs.declared.syntax.Op.TheVariants as op
-use Rattle.ms_grammar.specs.declared.forms.Form.{Form}
+use Rattle.ms_ir.specs.declared.forms.Form.{Form}
 use Rattle.ms_grammar.specs.Lexemes.{Lexeme}
 use Rattle.ms_grammar.specs.Steps.{Rule}
 use Rattle.ms_grammar.specs.Insts.{Marked, with_suffixes}

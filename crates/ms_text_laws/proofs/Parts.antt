@@ -7,7 +7,7 @@ use Rattle.ms_ir.specs.declared.syntax.Ty.{Ty, Int}
 use Rattle.ms_ir.specs.declared.syntax.Operand.{Operand}
 use Rattle.ms_ir.specs.declared.syntax.Op.{Op}
 use Rattle.ms_ir.specs.Code.{operands, is_phi}
-use Rattle.ms_grammar.specs.declared.forms.Form.{Form}
+use Rattle.ms_ir.specs.declared.forms.Form.{Form}
 use Rattle.ms_grammar.specs.Names.{local}
 use Rattle.ms_grammar.specs.Types.{int_type, value_type, result_type as result_rule, type_to, max_depth}
 use Rattle.ms_grammar.specs.Values.{number, value}

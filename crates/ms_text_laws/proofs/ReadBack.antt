@@ -7,7 +7,7 @@ use Rattle.ms_lex.specs.Grammar.{done, run}
 use Rattle.ms_lex.proofs.Exact.{complete}
 use Rattle.ms_lex.proofs.Relations.{one_reading}
 use Rattle.ms_ir.specs.declared.syntax.Module.{Module}
-use Rattle.ms_grammar.specs.declared.forms.Form.TheVariants.{Instrumented}
+use Rattle.ms_ir.specs.declared.forms.Form.TheVariants.{Instrumented}
 use Rattle.ms_grammar.specs.Lexemes.{end_of_text, lexemes_of}
 use Rattle.ms_grammar.specs.Modules as modules
 use Rattle.ms_grammar.specs.Texts.{ReadsUpTo, Reads, max_tokens}

@@ -13,7 +13,7 @@ use Rattle.ms_lex.specs.Tokens.{Text, is_quote, is_digits}
 use Rattle.ms_lex.specs.Names.{spelling_of, name_part, is_backslash, unescaped, decoded}
 use Rattle.ms_lex.specs.Numbers.{decimal}
 use Rattle.ms_lex.specs.Grammar.{head, Turns, give, loop, ◌>>=◌, ◌>>◌}
-use Rattle.ms_grammar.specs.declared.forms.Form.{Form}
+use Rattle.ms_ir.specs.declared.forms.Form.{Form}
 use Rattle.ms_grammar.specs.declared.refusals.Limit.{Limit}
 use Rattle.ms_grammar.specs.declared.refusals.Refusal.{Refusal}
 use Rattle.ms_grammar.specs.declared.symbols.Symbol.{Symbol}

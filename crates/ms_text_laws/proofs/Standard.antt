@@ -1,6 +1,6 @@
 -- With the limits of an instrumented text it is the grammar of instrumented texts.
 use Rattle.std.proofs.Common.{◌≡◌, refl}
-use Rattle.ms_grammar.specs.declared.forms.Form.TheVariants.{Instrumented}
+use Rattle.ms_ir.specs.declared.forms.Form.TheVariants.{Instrumented}
 use Rattle.ms_grammar.specs.Names as names
 use Rattle.ms_grammar.specs.Types as types
 use Rattle.ms_grammar.specs.Values as values

@@ -4,7 +4,7 @@ use Rattle.std.specs.List.{list_all}
 use Rattle.ms_ir.specs.declared.syntax.Op.{Op}
 use Rattle.ms_ir.specs.declared.syntax.Op.TheVariants as op
 use Rattle.ms_ir.specs.declared.syntax.Module.{Module}
-use Rattle.ms_grammar.specs.declared.forms.Form.TheVariants.{Instrumented}
+use Rattle.ms_ir.specs.declared.forms.Form.TheVariants.{Instrumented}
 use Rattle.ms_grammar.specs.Insts.{names_printf}
 use Rattle.ms_grammar.specs.Bodies.{max_instructions}
 use Rattle.ms_grammar.specs.Texts.{max_bytes, max_tokens}

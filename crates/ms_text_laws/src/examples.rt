@@ -1,6 +1,6 @@
 //! Modules of which the laws speak, computed by the check.
 ghost use Rattle.std.specs.Prelude.{◌≡◌};
-ghost use Rattle.ms_grammar.specs.declared.forms.Form.TheVariants.{Plain};
+ghost use Rattle.ms_ir.specs.declared.forms.Form.TheVariants.{Plain};
 ghost use Rattle.ms_grammar.specs.Answers.{answer_of, reads};
 ghost use Rattle.ms_valid.specs.ExampleFaults.{undefined_on_a_path};
 ghost use Rattle.ms_valid.specs.Formed.{Formed};

@@ -5,7 +5,7 @@ ghost use Rattle.ms_bits.specs.Signed.{signed, wrap};
 ghost use Rattle.ms_lex.specs.Grammar.{done, run};
 ghost use Rattle.ms_lex.specs.Numbers as read;
 ghost use Rattle.ms_ir.specs.declared.syntax.Module.{Module};
-ghost use Rattle.ms_grammar.specs.declared.forms.Form.TheVariants.{Instrumented};
+ghost use Rattle.ms_ir.specs.declared.forms.Form.TheVariants.{Instrumented};
 ghost use Rattle.ms_grammar.specs.Lexemes.{end_of_text};
 ghost use Rattle.ms_grammar.specs.Modules.{module_rule};
 ghost use Rattle.ms_grammar.specs.Texts.{Reads};

@@ -2,7 +2,7 @@
 
 use crate::cases::Case;
 use crate::cases::Want::{LeftOut, Numbering, Reserved, Syntax, Written};
-use ms_grammar::Form::{Instrumented, Plain};
+use ms_ir::Form::{Instrumented, Plain};
 use ms_grammar::Outside;
 
 /// Functions with their parameters, blocks and numbers.

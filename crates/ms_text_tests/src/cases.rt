@@ -3,7 +3,8 @@
 ghost use Rattle.std.specs.Prelude.{◌≤◌, ◌^◌, length};
 
 use ms_bits::NoMemory;
-use ms_grammar::{Form, Limit, Outside};
+use ms_grammar::{Limit, Outside};
+use ms_ir::Form;
 use ms_lex::LexError;
 use ms_read_body::{ReadError, What};
 use ms_read_top::read;

@@ -4,7 +4,7 @@ use crate::cases::Case;
 use crate::cases::Want::{
     BadByte, Kept, LeftOut, Numbering, OpenString, Reserved, Syntax, Written,
 };
-use ms_grammar::Form::{Instrumented, Plain};
+use ms_ir::Form::{Instrumented, Plain};
 use ms_grammar::Outside;
 
 /// What stands at the top of a text.

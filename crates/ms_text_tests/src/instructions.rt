@@ -2,7 +2,7 @@
 
 use crate::cases::Case;
 use crate::cases::Want::{Kept, LeftOut, Numbering, Reserved, Syntax, Written};
-use ms_grammar::Form::Plain;
+use ms_ir::Form::Plain;
 use ms_grammar::Outside;
 
 /// Operations on words.

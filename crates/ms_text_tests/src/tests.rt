@@ -2,7 +2,7 @@
 
 use crate::cases::{ENTITY, LAST, LINE, WHOLE, all_agree, rewritten};
 use crate::{bodies, entities, instructions, layouts, other_layouts};
-use ms_grammar::Form;
+use ms_ir::Form;
 use ms_read_body::ReadError;
 use ms_read_top::read;
 use std::alloc::Global;

@@ -13,8 +13,8 @@ use Rattle.ms_runs.specs.declared.runs.Setup.{Setup}
 use Rattle.ms_runs.specs.Plain.{plain}
 use Rattle.ms_runs.specs.Faithful.{Faithful}
 use Rattle.ms_runs.specs.Limits.{WithinLimits as RunFits}
-use Rattle.ms_grammar.specs.declared.forms.Form.{Form}
-use Rattle.ms_grammar.specs.declared.forms.Form.TheVariants.{Plain, Instrumented}
+use Rattle.ms_ir.specs.declared.forms.Form.{Form}
+use Rattle.ms_ir.specs.declared.forms.Form.TheVariants.{Plain, Instrumented}
 use Rattle.ms_grammar.specs.declared.refusals.Refusal.{Refusal}
 use Rattle.ms_grammar.specs.declared.refusals.Refusal.TheVariants as refusal
 use Rattle.ms_grammar.specs.Bodies.{max_instructions}

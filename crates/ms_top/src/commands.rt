@@ -3,7 +3,7 @@ ghost use Rattle.std.specs.Prelude.{◌≡◌, [], ◌∷◌, IfOk};
 ghost use Rattle.ms_top.specs.Command.{command_of, default_options as default_options_of, form_of, module_file, module_limit, options_of};
 
 use ms_bits::{Bytes, NoMemory, Text};
-use ms_grammar::Form;
+use ms_ir::Form;
 use std::alloc::Global;
 
 /// How a module is run.

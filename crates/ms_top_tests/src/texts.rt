@@ -3,8 +3,7 @@
 ghost use Rattle.ms_valid.specs.Formed.{Formed};
 
 use ms_bits::{Bytes, Duplicate, List, Trap};
-use ms_grammar::Form;
-use ms_ir::Module;
+use ms_ir::{Form, Module};
 use ms_read_top::read;
 use ms_runs::{End, Origin, Report, RunResult, Setup};
 use ms_top::{closing, report_text};

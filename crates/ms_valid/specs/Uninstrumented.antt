@@ -16,9 +16,10 @@ pub record IsUninstrumented (m : Module) : Type 0 where
   pub free : IsTrue (names_are_free m)
 
 -- a module that can be instrumented: it has no inserted code, and keeps the limits of a plain text on instructions,
--- operands and parameters
+-- operands, parameters and globals
 pub record CanInstrument (m : Module) : Type 0 where
   pub plain : IsUninstrumented m
   pub instructions : over_funcs (λ inst. 1) m.funcs ≤ 2 ^ 17
   pub operands : over_funcs (λ inst. length (operands inst.op)) m.funcs ≤ 2 ^ 20
   pub parameters : IsTrue (list_all (λ f. nat_le (length f.params) 100) m.funcs)
+  pub globals : length m.globals ≤ 16384

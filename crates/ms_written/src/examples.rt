@@ -6,7 +6,7 @@ ghost use Rattle.ms_ir.specs.ExampleExternals.{chooses, swaps, odd_width, with_g
 ghost use Rattle.ms_ir.specs.ExampleMarks.{branch_on_unset_checked, nested_call_checked};
 ghost use Rattle.ms_ir.specs.ExampleModules.{returns_zero, branch_on_unset, masked_to_zero, ordered_compare, set_bit_is_not_zero, select_undef, two_unset, shared_cell, lost_in_addition, recursion, nested_call, write_with_gap, store_to_shadow, clang_unoptimised, store_and_load, sum_wraps, undef_divisor, frozen, three_branches, undef_sum, undef_stored, carry_of_undef};
 ghost use Rattle.ms_ir.specs.ExampleParts.{i32};
-ghost use Rattle.ms_grammar.specs.declared.forms.Form.TheVariants.{Instrumented};
+ghost use Rattle.ms_ir.specs.declared.forms.Form.TheVariants.{Instrumented};
 ghost use Rattle.ms_grammar.specs.Answers.{answer_of, reads};
 ghost use Rattle.ms_grammar.specs.ExampleTexts.{lines, branch_on_unset_text, masked_to_zero_text, ordered_compare_text, select_undef_text, recursion_text, nested_call_text, store_to_shadow_text};
 ghost use Rattle.ms_written.specs.ExampleModules.{odd_names, many_parts, marked_parts, calls_printf, printf_call, printf_effect};

@@ -26,7 +26,7 @@ fn push_operand(roots: &mut Vec<Root>, site: u32, operand: &Operand) -> Result<(
     Ok(())
 }
 
-/// The same for two operands.
+/// Adds the roots that two operands are.
 fn push_two(roots: &mut Vec<Root>, site: u32, a: &Operand, b: &Operand) -> Result<(), NoMemory>
     ensures { IfOk result (λ _. roots.new.items ≡ roots.old.items ++ (operand_roots site a.now ++ operand_roots site b.now)) }
 {
@@ -35,7 +35,7 @@ fn push_two(roots: &mut Vec<Root>, site: u32, a: &Operand, b: &Operand) -> Resul
     Ok(())
 }
 
-/// The same for operands with their types.
+/// Adds the roots that operands with their types are.
 fn push_typed(roots: &mut Vec<Root>, site: u32, operands: &[(Ty, Operand)]) -> Result<(), NoMemory>
     ensures { IfOk result (λ _. roots.new.items ≡ roots.old.items ++ undef_roots site operands.now) }
 {
@@ -45,7 +45,7 @@ fn push_typed(roots: &mut Vec<Root>, site: u32, operands: &[(Ty, Operand)]) -> R
     Ok(())
 }
 
-/// The same for the operands of a phi.
+/// Adds the roots that the operands of a phi are.
 fn push_edges(roots: &mut Vec<Root>, site: u32, edges: &[(Operand, Name)]) -> Result<(), NoMemory>
     ensures { IfOk result (λ _. roots.new.items ≡ roots.old.items ++ flat_map (λ e. operand_roots site e.0) edges.now) }
 {
@@ -55,34 +55,55 @@ fn push_edges(roots: &mut Vec<Root>, site: u32, edges: &[(Operand, Name)]) -> Re
     Ok(())
 }
 
+/// Adds the roots that three operands are.
+fn push_three(
+    roots: &mut Vec<Root>,
+    site: u32,
+    a: &Operand,
+    b: &Operand,
+    c: &Operand,
+) -> Result<(), NoMemory>
+    ensures { IfOk result (λ _. roots.new.items ≡ roots.old.items ++ (operand_roots site a.now ++ (operand_roots site b.now ++ operand_roots site c.now))) }
+{
+    push_operand(roots, site, a)?;
+    push_two(roots, site, b, c)
+}
+
+/// Adds the roots that the operands of a `getelementptr` are.
+fn push_step(
+    roots: &mut Vec<Root>,
+    site: u32,
+    base: &Operand,
+    indices: &[(Ty, Operand)],
+) -> Result<(), NoMemory>
+    ensures { IfOk result (λ _. roots.new.items ≡ roots.old.items ++ (operand_roots site base.now ++ undef_roots site indices.now)) }
+{
+    push_operand(roots, site, base)?;
+    push_typed(roots, site, indices)
+}
+
 /// Adds the roots that the operands of an instruction at a site are, in written order.
 pub fn push_operands(roots: &mut Vec<Root>, site: u32, op: &Op) -> Result<(), NoMemory>
     ensures { IfOk result (λ _. roots.new.items ≡ roots.old.items ++ undef_roots site (operands_of op.now)) }
 {
     match op {
-        Op::Binary { a, b, .. } => push_two(roots, site, a, b)?,
-        Op::Icmp { a, b, .. } => push_two(roots, site, a, b)?,
-        Op::Cast { a, .. } => push_operand(roots, site, a)?,
-        Op::Select { cond, a, b, .. } => {
-            push_operand(roots, site, cond)?;
-            push_two(roots, site, a, b)?;
+        Op::Binary { a, b, .. } => push_two(roots, site, a, b),
+        Op::Icmp { a, b, .. } => push_two(roots, site, a, b),
+        Op::Cast { a, .. } => push_operand(roots, site, a),
+        Op::Select { cond, a, b, .. } => push_three(roots, site, cond, a, b),
+        Op::Freeze { a, .. } => push_operand(roots, site, a),
+        Op::Phi { edges, .. } => {
+            push_edges(roots, site, edges.as_slice())?;
+            Ok(())
         }
-        Op::Freeze { a, .. } => push_operand(roots, site, a)?,
-        Op::Phi { edges, .. } => push_edges(roots, site, edges.as_slice())?,
-        Op::Alloca { count, .. } => push_operand(roots, site, count)?,
-        Op::Load { addr, .. } => push_operand(roots, site, addr)?,
-        Op::Store { value, addr, .. } => push_two(roots, site, value, addr)?,
-        Op::Gep { base, indices, .. } => {
-            push_operand(roots, site, base)?;
-            push_typed(roots, site, indices.as_slice())?;
-        }
-        Op::Call { args, .. } => push_typed(roots, site, args.as_slice())?,
-        Op::CondBr { cond, .. } => push_operand(roots, site, cond)?,
-        Op::Switch { value, .. } => push_operand(roots, site, value)?,
-        Op::Ret { value: Some(value) } => push_operand(roots, site, &value.1)?,
-        Op::Ret { value: None } => {}
-        Op::Br { .. } => {}
-        Op::Unreachable => {}
+        Op::Alloca { count, .. } => push_operand(roots, site, count),
+        Op::Load { addr, .. } => push_operand(roots, site, addr),
+        Op::Store { value, addr, .. } => push_two(roots, site, value, addr),
+        Op::Gep { base, indices, .. } => push_step(roots, site, base, indices.as_slice()),
+        Op::Call { args, .. } => push_typed(roots, site, args.as_slice()),
+        Op::CondBr { cond, .. } => push_operand(roots, site, cond),
+        Op::Switch { value, .. } => push_operand(roots, site, value),
+        Op::Ret { value: Some(value) } => push_operand(roots, site, &value.1),
+        _ => Ok(()),
     }
-    Ok(())
 }

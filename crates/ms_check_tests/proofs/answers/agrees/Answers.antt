@@ -1,5 +1,5 @@
 use Rattle.std.proofs.Common.{arith}
-use Rattle.ms_grammar.specs.declared.forms.Form.TheVariants.{Instrumented}
+use Rattle.ms_ir.specs.declared.forms.Form.TheVariants.{Instrumented}
 use Rattle.ms_check_tests.proofs.Reading.{formed}
 use Rattle.ms_check_tests.proofs.answers.agrees.Goals as goal
 

@@ -1,5 +1,5 @@
 use Rattle.std.proofs.Common.{refl, arith, leb-true, length}
-use Rattle.ms_grammar.specs.declared.forms.Form.TheVariants.{Instrumented}
+use Rattle.ms_ir.specs.declared.forms.Form.TheVariants.{Instrumented}
 use Rattle.ms_grammar.specs.Pieces.{pieces}
 use Rattle.ms_grammar.specs.Texts.{max_bytes, max_tokens}
 use Rattle.ms_written.specs.Layout.{layout}

@@ -1,5 +1,5 @@
 use Rattle.std.proofs.Common.{arith}
-use Rattle.ms_grammar.specs.declared.forms.Form.TheVariants.{Plain}
+use Rattle.ms_ir.specs.declared.forms.Form.TheVariants.{Plain}
 use Rattle.ms_top.proofs.Answering.{formed}
 use Rattle.ms_top_tests.proofs.texts.agrees.Goals as goal
 
