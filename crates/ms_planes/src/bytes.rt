@@ -51,6 +51,16 @@ impl BytePlane {
         }
     }
 
+    /// The byte at `addr`.
+    pub(crate) fn get(&self, addr: u64) -> u8
+        requires { HasBytes (lists self.now.areas) addr 1 }
+        ensures { result ≡ bytes_shown (lists self.now.areas) addr }
+    {
+        let place = place_of(addr);
+        let row = &self.areas[place.area];
+        row[place.offset]
+    }
+
     /// The number that the `n` bytes from `addr` on are, the least first.
     pub(crate) fn number(&self, addr: u64, n: u8) -> u64
         requires held { HasBytes (lists self.now.areas) addr n }

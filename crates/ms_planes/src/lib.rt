@@ -5,6 +5,6 @@
 mod bytes;
 mod cells;
 mod planes;
-mod words;
+pub mod words;
 
 pub use planes::Planes;

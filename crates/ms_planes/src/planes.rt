@@ -3,7 +3,7 @@ ghost use Rattle.std.specs.Prelude.{◌≡◌, ◌≤◌, ◌<◌, ◌+◌, ◌/
 ghost use Rattle.ms_bits.specs.Maps.{with_range, byte_of, number_at, first_nonzero, copied, with_cells, with_cell, copied_cells};
 ghost use Rattle.ms_alloc.specs.declared.kinds.AllocKind.TheVariants.{Stack};
 ghost use Rattle.ms_alloc.specs.Layout.{room, area_limit};
-ghost use Rattle.ms_alloc.specs.Allocations.{no_allocations, next_base, used, of_kind, with_made, with_ended, without_from, is_good, block_of, heap_size};
+ghost use Rattle.ms_alloc.specs.Allocations.{no_allocations, next_base, used, of_kind, with_made, with_ended, without_from, is_good, block_of, heap_size, IsLaidOut};
 
 use crate::bytes::BytePlane;
 use crate::cells::CellPlane;
@@ -109,6 +109,13 @@ impl Planes {
         self.origins.cut(top / 4);
     }
 
+    /// What every table of allocations has.
+    pub fn is_laid_out(&self)
+        ensures { IsLaidOut self.now.table }
+    {
+        self.table.is_laid_out();
+    }
+
     /// Whether a range is good.
     pub fn covers(&self, addr: u64, n: u64) -> bool
         ensures { result ≡ is_good addr n self.now.table }
@@ -128,6 +135,14 @@ impl Planes {
         ensures { result ≡ heap_size base self.now.table }
     {
         self.table.heap_size(base)
+    }
+
+    /// The byte at `addr`.
+    pub fn byte(&self, addr: u64) -> u8
+        requires { IsTrue (is_good addr 1 self.now.table) }
+        ensures { result ≡ bytes_of self.now addr }
+    {
+        self.bytes.get(addr)
     }
 
     /// The number that `n` bytes are, the least first.

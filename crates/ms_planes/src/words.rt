@@ -7,7 +7,7 @@ use ms_bits::NoMemory;
 use std::alloc::Global;
 
 /// The number that the `n` bytes from place `at` on are, the least first.
-pub(crate) fn number_in(bytes: &[u8], at: usize, n: u8) -> u64
+pub fn number_in(bytes: &[u8], at: usize, n: u8) -> u64
     requires within { at + n ≤ length bytes.now }
     requires short { n ≤ 8 }
     ensures { result ≡ number_at (held bytes.now) at n }
@@ -22,7 +22,7 @@ pub(crate) fn number_in(bytes: &[u8], at: usize, n: u8) -> u64
 }
 
 /// Puts the `n` low bytes of `v` from place `at` on, the least first.
-pub(crate) fn put_number(bytes: &mut Vec<u8>, at: usize, n: u8, v: u64)
+pub fn put_number(bytes: &mut Vec<u8>, at: usize, n: u8, v: u64)
     requires { at + n ≤ length bytes.old.items }
     ensures shown { held bytes.new.items ≡ with_range (held bytes.old.items) at n (byte_of v) }
     ensures len { length bytes.new.items ≡ length bytes.old.items }
