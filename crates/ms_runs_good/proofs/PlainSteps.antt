@@ -21,7 +21,7 @@ use Rattle.ms_ir.specs.Code.{operands, func_index, func_at, insts_at, is_phi}
 use Rattle.ms_runs.specs.Control.{Frame, Outcome, On, Over, here, rest_of, read_all, put, after_effect}
 use Rattle.ms_runs.specs.Act.{plain_reading, act}
 use Rattle.ms_runs.specs.Runtime.{runtime}
-use Rattle.ms_runs.specs.Plain.{in_slots, act_marked, slots_after, PlainState, Stepped, More, and_then, plain_state, plain_inst, through, plain_first, plain_step, setting_of}
+use Rattle.ms_runs.specs.Plain.{in_slots, act_marked, slots_after, PlainState, Stepped, More, Stop, and_then, plain_state, plain_inst, through, plain_first, plain_step, setting_of}
 use Rattle.ms_ir.specs.Written.{result_type, mentions}
 use Rattle.ms_ir.specs.Signatures.{runtime_signature}
 use Rattle.ms_valid.specs.MarksFit.{may_be_marked, all_results, is_inserted, marked_results, mark_fits}
@@ -59,7 +59,7 @@ slots_good o words cells h = h
 -- ---- marked instructions
 
 -- the innermost frame stands before these instructions
-abbrev AtRest : Module → List (Frame ℕ) → List Inst → Type 0
+abbrev pub AtRest : Module → List (Frame ℕ) → List Inst → Type 0
 AtRest m [] insts = ⊥
 AtRest m (frame ∷ below) insts = rest_of m frame ≡ insts
 
@@ -178,21 +178,25 @@ calls_known m valid n b p f inst at due unmarked (op.Call ret callee args) same 
 calls_known m valid n b p f inst at due unmarked o same = tt
 
 module _ (m : Module) (formed : Formed m) (valid : Valid m) (setup : Setup) (given : GoodSetting FitsCell (setting_of m setup)) where
+  -- what goes on is of a kind, and what ends the run leaves a good world and has a site
+  abbrev EndsIn : (PlainState → Type 0) → Stepped PlainState → Type 0
+  EndsIn P s = LeadsTo P (GoodWorld FitsCell) s × StopsAtSite m s
+
   abbrev EndsWell : Stepped PlainState → Type 0
-  EndsWell s = LeadsTo (SoundPlain m) (GoodWorld FitsCell) s × StopsAtSite m s
+  EndsWell s = EndsIn (SoundPlain m) s
 
   -- where a move is good, what follows decides
-  goes_from : (insts : List Inst) (marked : Bool) (cells : ℕ → ℕ) → ((a : ℕ) → cells a < 256) → (moved : Outcome ℕ) → GoodMoved IsBelow m moved → MovedTo (GoodWorld FitsCell) moved → MovedSited m moved
+  goes_from : (P : PlainState → Type 0) (insts : List Inst) (marked : Bool) (cells : ℕ → ℕ) → ((a : ℕ) → cells a < 256) → (moved : Outcome ℕ) → GoodMoved IsBelow m moved → MovedTo (GoodWorld FitsCell) moved → MovedSited m moved
       → (marked ≡ true → MovedOn m insts moved) → (go : PlainState → Stepped PlainState)
-      → ((s : PlainState) → SoundPlain m s → (marked ≡ true → AtRest m s.frames insts) → EndsWell (go s)) → EndsWell (and_then (plain_state cells moved) go)
-  goes_from insts marked cells c (On frames w) good world sited rest go later = later (record { frames = frames; slots = cells; world = w }) (record { frames = good; slots = c; world = world }) rest
-  goes_from insts marked cells c (Over e w) good world sited rest go later = (world, sited)
+      → ((s : PlainState) → SoundPlain m s → (marked ≡ true → AtRest m s.frames insts) → EndsIn P (go s)) → EndsIn P (and_then (plain_state cells moved) go)
+  goes_from P insts marked cells c (On frames w) good world sited rest go later = later (record { frames = frames; slots = cells; world = w }) (record { frames = good; slots = c; world = world }) rest
+  goes_from P insts marked cells c (Over e w) good world sited rest go later = (world, sited)
 
-  inst_good : (inst : Inst) (insts : List Inst) (state : PlainState) → SoundPlain m state → (fs : List (Frame ℕ)) → GoodFrames IsBelow m fs → AtRest m fs (inst ∷ insts)
-      → (go : PlainState → Stepped PlainState) → ((s : PlainState) → SoundPlain m s → (inst.marked ≡ true → AtRest m s.frames insts) → EndsWell (go s))
-      → EndsWell (and_then (plain_inst (setting_of m setup) m inst state fs) go)
-  inst_good inst insts state sound [] frames rest go later = absurd rest
-  inst_good inst insts state sound (frame ∷ below) frames rest go later = by_mark inst.marked refl
+  inst_good : (P : PlainState → Type 0) (inst : Inst) (insts : List Inst) (state : PlainState) → SoundPlain m state → (fs : List (Frame ℕ)) → GoodFrames IsBelow m fs → AtRest m fs (inst ∷ insts)
+      → (go : PlainState → Stepped PlainState) → ((s : PlainState) → SoundPlain m s → (inst.marked ≡ true → AtRest m s.frames insts) → EndsIn P (go s))
+      → EndsIn P (and_then (plain_inst (setting_of m setup) m inst state fs) go)
+  inst_good P inst insts state sound [] frames rest go later = absurd rest
+  inst_good P inst insts state sound (frame ∷ below) frames rest go later = by_mark inst.marked refl
     where
       good : GoodFrame IsBelow m frame
       good = top_good IsBelow m frame below frames
@@ -230,13 +234,13 @@ module _ (m : Module) (formed : Formed m) (valid : Valid m) (setup : Setup) (giv
           moves_to plain_reading (setting_of m setup) m (GoodWorld FitsCell) (release_good FitsCell) at_inst.site inst.result words (λ v w. v) (λ v w. w) (λ v w h. h) frame below e world
 
       by_mark : (t : Bool) → inst.marked ≡ t
-          → EndsWell (and_then (plain_state (if t then slots_after inst.op words state.slots else state.slots)
+          → EndsIn P (and_then (plain_state (if t then slots_after inst.op words state.slots else state.slots)
           (moved (if t then act_marked (setting_of m setup) at_inst inst.op words state.slots state.world else act (setting_of m setup) at_inst inst.op words state.world))) go)
       by_mark true marked =
           let e = act_marked (setting_of m setup) at_inst inst.op words state.slots state.world in
           let answers = marked_answers m formed valid setup given frame.func frame.block frame.place good.func inst good.stands due marked words have state.world sound.world at_inst state.slots in
           let ends = marked_goes_on m formed valid setup given frame.func frame.block frame.place good.func inst good.stands due marked words have state.world sound.world at_inst state.slots in
-          goes_from insts true (slots_after inst.op words state.slots) (slots_good inst.op words state.slots sound.slots) (moved e)
+          goes_from P insts true (slots_after inst.op words state.slots) (slots_good inst.op words state.slots sound.slots) (moved e)
           (moved_good e (answers_fit IsBelow 0 m formed valid FitsCell frame.func frame.block frame.place good.func inst good.stands due words (λ v w. v) (λ v w t h l. l) e ends answers))
           (moved_to e (answers_after (GoodWorld FitsCell) (result_type inst.op) e answers))
           (moved_at e (marked_sited m (setting_of m setup) at_inst site state.world inst.op words state.slots not_phi
@@ -247,11 +251,26 @@ module _ (m : Module) (formed : Formed m) (valid : Valid m) (setup : Setup) (giv
           let e = act (setting_of m setup) at_inst inst.op words state.world in
           let fits = act_fits IsBelow 0 m formed valid FitsCell frame.func frame.block frame.place good.func inst good.stands due words (λ v w. v) (λ v w t h l. l) have
           words have setup given state.world sound.world at_inst in
-          goes_from insts false state.slots sound.slots (moved e) (moved_good e fits.0) (moved_to e fits.1)
+          goes_from P insts false state.slots sound.slots (moved e) (moved_good e fits.0) (moved_to e fits.1)
           (moved_at e (act_sited m (setting_of m setup) at_inst site state.world inst.op words not_phi
           (calls_known m valid frame.func frame.block frame.place good.func inst good.stands due unmarked inst.op refl)))
           (λ h. absurd (true≢false (sym h)))
           go (λ s h r. later s h (λ k. absurd (true≢false (sym k ∙ unmarked))))
+
+  -- the innermost frame stands before these instructions
+  abbrev pub StandsBefore : PlainState → List Inst → Type 0
+  StandsBefore s insts = AtRest m s.frames insts
+
+  -- one instruction keeps a good state, and a marked one goes on behind itself
+  pub inst_keeps : (inst : Inst) (insts : List Inst) (state : PlainState) → SoundPlain m state → StandsBefore state (inst ∷ insts)
+      → EndsIn (λ s. SoundPlain m s × (inst.marked ≡ true → StandsBefore s insts)) (plain_inst (setting_of m setup) m inst state state.frames)
+  inst_keeps inst insts state sound rest =
+      ended (plain_inst (setting_of m setup) m inst state state.frames)
+      (inst_good (λ s. SoundPlain m s × (inst.marked ≡ true → StandsBefore s insts)) inst insts state sound state.frames sound.frames rest More (λ s h r. ((h, r), tt)))
+    where
+      ended : {P : PlainState → Type 0} (s : Stepped PlainState) → EndsIn P (and_then s More) → EndsIn P s
+      ended (More t) h = h
+      ended (Stop e w) h = h
 
   -- ---- steps
 
@@ -262,7 +281,7 @@ module _ (m : Module) (formed : Formed m) (valid : Valid m) (setup : Setup) (giv
   through_good : (insts : List Inst) (state : PlainState) → SoundPlain m state → AtRest m state.frames insts → EndsWell (through (setting_of m setup) m insts state)
   through_good [] state sound rest = absurd (none_left state.frames sound.frames rest)
   through_good (inst ∷ insts) state sound rest =
-      inst_good inst insts state sound state.frames sound.frames rest (if inst.marked then through (setting_of m setup) m insts else More)
+      inst_good (SoundPlain m) inst insts state sound state.frames sound.frames rest (if inst.marked then through (setting_of m setup) m insts else More)
       (λ s h r. chosen (λ go. EndsWell (go s)) inst.marked (through (setting_of m setup) m insts) More (λ e. through_good insts s h (r e)) (λ e. (h, tt)))
 
   first_good : (fs : List (Frame ℕ)) (state : PlainState) → fs ≡ state.frames → SoundPlain m state → EndsWell (plain_first (setting_of m setup) m fs state)

@@ -1,9 +1,10 @@
 -- The runs of a formed and valid module: their starts, steps and states.
-use Rattle.std.proofs.Common.{◌<◌, ℕ, All, sym, subst, arith}
+use Rattle.std.proofs.Common.{◌≡◌, ◌<◌, ℕ, List, ◌∷◌, true, All, sym, subst, arith}
+use Rattle.ms_ir.specs.declared.syntax.Inst.{Inst}
 use Rattle.ms_ir.specs.declared.syntax.Module.{Module}
 use Rattle.ms_runs.specs.declared.runs.Setup.{Setup}
 use Rattle.ms_runs.specs.Act.{plain_reading}
-use Rattle.ms_runs.specs.Plain.{steps, PlainState, plain_step, setting_of, plain, plain_start}
+use Rattle.ms_runs.specs.Plain.{steps, PlainState, plain_inst, plain_step, setting_of, plain, plain_start}
 use Rattle.ms_runs.specs.Masks.{Rules}
 use Rattle.ms_runs.specs.Shadow.{ShadowState, shadow_reading, shadow_step, shadow_by, shadow_start}
 use Rattle.ms_ir.specs.Code.{NoMarks}
@@ -15,6 +16,7 @@ use Rattle.ms_runs_good.specs.GoodWorlds.{GoodWorld, GivesBytes, FitsCell, AnyOr
 use Rattle.ms_runs_good.specs.GoodRules.{KeepWidths}
 use Rattle.ms_runs_good.specs.GoodRuns.{SoundPlain, SoundShadow, LeadsTo}
 use Rattle.ms_runs_good.proofs.Starting.{plain_setting, shadow_setting, start_world_good}
+use Rattle.ms_runs_good.proofs.PlainSteps.{AtRest}
 use Rattle.ms_runs_good.proofs.PlainSteps as plain_steps
 use Rattle.ms_runs_good.proofs.ShadowSteps as shadow_steps
 use Rattle.ms_runs_good.specs.Sited.{HasSite, StopsAtSite}
@@ -37,6 +39,11 @@ shadow_sound m formed valid setup bytes = record {
 pub plain_keeps : (m : Module) → Formed m → Valid m → (setup : Setup) → GivesBytes setup → (state : PlainState) → SoundPlain m state
     → LeadsTo (SoundPlain m) (GoodWorld FitsCell) (plain_step (setting_of m setup) m state)
 plain_keeps m formed valid setup bytes state sound = (plain_steps.step_good m formed valid setup (plain_setting m formed setup bytes) state sound).0
+
+-- one instruction keeps a good state, and a marked one goes on behind itself
+pub plain_inst_keeps : (m : Module) → Formed m → Valid m → (setup : Setup) → GivesBytes setup → (inst : Inst) (insts : List Inst) (state : PlainState) → SoundPlain m state → AtRest m state.frames (inst ∷ insts)
+    → LeadsTo (λ s. SoundPlain m s × (inst.marked ≡ true → AtRest m s.frames insts)) (GoodWorld FitsCell) (plain_inst (setting_of m setup) m inst state state.frames)
+plain_inst_keeps m formed valid setup bytes inst insts state sound rest = (plain_steps.inst_keeps m formed valid setup (plain_setting m formed setup bytes) inst insts state sound rest).0
 
 pub shadow_keeps : (d : Rules) → KeepWidths d → (m : Module) → Formed m → Valid m → (setup : Setup) → GivesBytes setup → (state : ShadowState) → SoundShadow m state
     → LeadsTo (SoundShadow m) (GoodWorld AnyOrigin) (shadow_step d (setting_of m setup) m state)
