@@ -9,8 +9,8 @@ ghost use Rattle.ms_straight.specs.Shows.{Shows, first_world, Allocated};
 
 use ms_alloc::{AllocError, AllocKind};
 use ms_bits::{Bytes, List, NoMemory};
-use ms_runs::{End, Report, RunResult};
 use ms_planes::Planes;
+use ms_runs::{End, Report, RunResult};
 use std::alloc::Global;
 use std::marker::Model;
 

@@ -10,13 +10,13 @@ ghost use Rattle.ms_straight.specs.Operands.{words_of};
 ghost use Rattle.ms_straight.specs.Slots.{cells_of};
 ghost use Rattle.ms_straight.specs.Computations.{computed_of, IsComputed};
 
+use crate::Host;
 use crate::computations::computed;
 use crate::operands::word;
 use crate::outcome::{Outcome, trap};
 use crate::results::Results;
 use crate::slots::Slots;
 use ms_bits::NoMemory;
-use crate::Host;
 use ms_ir::{Inst, Name, Op, Operand, Ty};
 use ms_runs::{End, RunResult};
 

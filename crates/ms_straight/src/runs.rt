@@ -5,12 +5,12 @@ ghost use Rattle.ms_runs.specs.Limits.{WithinLimits};
 ghost use Rattle.ms_runs.specs.Plain.{plain};
 ghost use Rattle.ms_straight.specs.Straight.{IsStraight};
 
+use crate::Host;
 use crate::machine::Machine;
 use crate::results::Results;
 use crate::roots::count_roots;
 use crate::slots::Slots;
 use ms_bits::{NoMemory, Trap};
-use crate::Host;
 use ms_ir::{Inst, Module};
 use ms_runs::{End, RunResult, Setup};
 use std::alloc::Global;

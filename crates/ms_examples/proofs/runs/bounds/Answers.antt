@@ -2,6 +2,7 @@ use Rattle.std.proofs.Common.{refl, ◌∙◌}
 use Rattle.ms_bits.specs.Words.{words}
 use Rattle.ms_ir.specs.ExampleModules.{returns_zero}
 use Rattle.ms_runs.specs.ExampleRuns.{defaults, steps}
+use Rattle.ms_runs.specs.Origins.{depth_limit}
 use Rattle.ms_examples.specs.Programs.{sixteen_copies}
 use Rattle.ms_runs_laws.specs.Formulas.{formulas}
 use Rattle.ms_runs_laws.proofs.ExactRules.{computed}
@@ -16,5 +17,5 @@ unfolding words formulas
 returns-clause-one_step c = computed returns_zero (steps 1) ∙ refl
 
 pub returns-clause-sixteen_copies : goal.returns-clause-sixteen_copies
-unfolding words formulas
+unfolding words formulas depth_limit
 returns-clause-sixteen_copies c = computed sixteen_copies defaults ∙ refl
