@@ -107,7 +107,7 @@ impl Code {
         })
     }
 
-    /// The same of operands that stay the caller's.
+    /// Adds `op` of words of so many bits, whose operands stay the caller's, and answers its result. The one error is want of memory.
     pub fn logic_of(
         &mut self,
         op: BinOp,
