@@ -265,12 +265,12 @@ module _ (m : Module) (formed : Formed m) (valid : Valid m) (setup : Setup) (giv
   pub inst_keeps : (inst : Inst) (insts : List Inst) (state : PlainState) → SoundPlain m state → StandsBefore state (inst ∷ insts)
       → EndsIn (λ s. SoundPlain m s × (inst.marked ≡ true → StandsBefore s insts)) (plain_inst (setting_of m setup) m inst state state.frames)
   inst_keeps inst insts state sound rest =
-      ended (plain_inst (setting_of m setup) m inst state state.frames)
+      ended (λ s. SoundPlain m s × (inst.marked ≡ true → StandsBefore s insts)) (plain_inst (setting_of m setup) m inst state state.frames)
       (inst_good (λ s. SoundPlain m s × (inst.marked ≡ true → StandsBefore s insts)) inst insts state sound state.frames sound.frames rest More (λ s h r. ((h, r), tt)))
     where
-      ended : {P : PlainState → Type 0} (s : Stepped PlainState) → EndsIn P (and_then s More) → EndsIn P s
-      ended (More t) h = h
-      ended (Stop e w) h = h
+      ended : (P : PlainState → Type 0) (s : Stepped PlainState) → EndsIn P (and_then s More) → EndsIn P s
+      ended P (More t) h = h
+      ended P (Stop e w) h = h
 
   -- ---- steps
 
