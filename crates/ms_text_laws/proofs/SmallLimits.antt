@@ -20,13 +20,13 @@ use Rattle.ms_ir.specs.declared.forms.Form.{Form}
 use Rattle.ms_ir.specs.declared.forms.Form.TheVariants.{Plain, Instrumented}
 use Rattle.ms_grammar.specs.Bodies.{max_instructions}
 use Rattle.ms_grammar.specs.Bounds.{instructions_among, WithinLimits}
-use Rattle.ms_grammar.specs.Texts.{Reads}
+use Rattle.ms_grammar.specs.Texts.{Reads, max_tokens}
 use Rattle.ms_grammar.proofs.Bounds.{module_within}
 use Rattle.ms_valid.specs.NamesKnown.{global_mentions}
 use Rattle.ms_valid.specs.ReadLimits.{mentioned, type_depth, init_depth, is_short, is_shallow_global, are_shallow, few_indices, few_init_indices, func_names, module_names, ReadLimits}
-use Rattle.ms_valid.specs.Uninstrumented.{names_are_free, IsUninstrumented}
+use Rattle.ms_valid.specs.Uninstrumented.{names_are_free, IsUninstrumented, CanInstrument}
 use Rattle.ms_text_laws.specs.Fits.{few_arguments, FitsForm}
-use Rattle.ms_text_laws.proofs.Fits.{counted_blocks}
+use Rattle.ms_text_laws.proofs.Counts.{few_operands, counted_funcs}
 use Rattle.ms_text_laws.proofs.SmallNames.{is_small_name, small_mentions, all_joined, all_so, all_among, all_mapped}
 use Rattle.ms_text_laws.proofs.SmallTypes.{is_small_type, small_parts}
 use Rattle.ms_text_laws.proofs.SmallValues.{are_shallow_types, is_small_init, init_parts}
@@ -198,10 +198,6 @@ short_of : (form : Form) (x : Name) → is_small_name form x ≡ true → is_sho
 short_of Plain x h = (and_parts (is_short x) (not (is_reserved x)) h).0
 short_of Instrumented x h = h
 
-pub counted_funcs : (fs : List Func) → over_funcs (λ inst. 1) fs ≡ instructions_among fs
-counted_funcs [] = refl
-counted_funcs (f ∷ fs) = let first = counted_blocks f.blocks in let rest = counted_funcs fs in omega (arith, first, rest)
-
 limits_from : (form : Form) (most : ℕ) (m : Module) → max_instructions form ≤ most → WithinLimits form m → AllSmall form m → ReadLimits most m
 limits_from form most m room bounds k =
     let same = counted_funcs m.funcs in
@@ -261,3 +257,28 @@ names_free m k = all_so (is_small_name Plain) (λ x. not (is_reserved x)) (λ x 
 
 pub uninstrumented : (text : Text) (m : Module) → Reads Plain text m → IsUninstrumented m
 uninstrumented text m h = record { unmarked = no_marks m (read_small Plain text m h); free = names_free m (read_small Plain text m h) }
+
+-- ---- plain modules
+
+plain_instructions : max_instructions Plain ≤ 2 ^ 17
+unfolding max_instructions
+plain_instructions = lit≤ tt
+
+plain_tokens : max_tokens Plain ≤ 2 ^ 20
+unfolding max_tokens
+plain_tokens = lit≤ tt
+
+pub can_instrument : (text : Text) (m : Module) → Reads Plain text m → CanInstrument m
+can_instrument text m h =
+    let limits : ReadLimits (max_instructions Plain) m = read_limits Plain text m h in
+    let few = limits.count in
+    let room = plain_instructions in
+    let operands = few_operands Plain text m h in
+    let tokens = plain_tokens in
+    record {
+      plain = uninstrumented text m h;
+      instructions = omega (arith, few, room);
+      operands = omega (arith, operands, tokens);
+      parameters = few_parameters Plain m (read_small Plain text m h);
+      globals = limits.globals;
+    }
