@@ -46,3 +46,4 @@ pub mod SmallBodies
 pub mod SmallFunctions
 pub mod SmallModules
 pub mod SmallLimits
+pub mod EachText
