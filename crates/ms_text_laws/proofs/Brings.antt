@@ -1,11 +1,11 @@
 -- What holds of each value that a piece of the grammar reads from any lexemes: a law for each way in which pieces are put together.
-use Rattle.std.proofs.Common.{◌≡◌, ℕ, zero, suc, Bool, true, false, cond, List, [], ◌∷◌, ◌++◌, Ok, refl, sym, subst}
+use Rattle.std.proofs.Common.{◌≡◌, ℕ, zero, suc, Bool, true, false, cond, List, [], ◌∷◌, Ok, refl, sym, subst}
 use Rattle.std.specs.List.{list_all}
-use Rattle.ms_lex.specs.Grammar.{head, Turns, give, one, look, seq, loop}
+use Rattle.ms_lex.specs.Grammar.{head, Turns, give, one, seq, loop}
 use Rattle.ms_grammar.specs.declared.refusals.Refusal.{Refusal}
 use Rattle.ms_grammar.specs.declared.symbols.Symbol.{Symbol}
 use Rattle.ms_grammar.specs.Lexemes.{Lexeme, end_of_text}
-use Rattle.ms_grammar.specs.Steps.{Rule, Verdict, refusal, refuse, stop, listed, with_item, items}
+use Rattle.ms_grammar.specs.Steps.{Rule, Verdict, refuse, stop, listed, with_item, items}
 use Rattle.ms_grammar.specs.Texts.{ReadsUpTo}
 use Rattle.ms_text_laws.proofs.Sound.{all_pushed, no_value}
 

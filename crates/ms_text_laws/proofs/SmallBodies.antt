@@ -1,5 +1,5 @@
 -- Bodies that are read keep the limits, line by line.
-use Rattle.std.proofs.Common.{◌≡◌, ℕ, Bool, true, false, cond, ◌&&◌, List, [], ◌∷◌, ◌++◌, Option, Some, None, Ok, refl, sym, subst}
+use Rattle.std.proofs.Common.{◌≡◌, ℕ, Bool, true, false, cond, ◌&&◌, [], ◌∷◌, ◌++◌, Option, Some, None, Ok, refl, sym, subst}
 use Rattle.std.specs.List.{list_all}
 use Rattle.std.proofs.lemmas.Bool.{and_from}
 use Rattle.ms_bits.specs.declared.operations.BinOp.{BinOp}
@@ -19,7 +19,7 @@ use Rattle.ms_grammar.specs.Lexemes.{Lexeme, name_in}
 use Rattle.ms_grammar.specs.Steps.{Rule, Verdict, binary_op, cast_op}
 use Rattle.ms_grammar.specs.Names.{reserved_local, name_fits}
 use Rattle.ms_grammar.specs.Insts.{Marked, binary_rule, compare_rule, cast_rule, select_rule, freeze_rule, load_rule, store_rule, step_rule, alloca_rule, branch_rule, switch_rule, ret_rule}
-use Rattle.ms_grammar.specs.Bodies.{is_open, opened, opened_as, opened_by, name_or, numbers_left, line_begins, line_begins_by, with_value, with_effect, with_end, is_void_call, with_call}
+use Rattle.ms_grammar.specs.Bodies.{is_open, opened, opened_as, opened_by, name_or, numbers_left, line_begins, line_begins_by, with_value, with_effect, with_end, is_void_call}
 use Rattle.ms_grammar.specs.Lines.{value_line, marked_line, phi_line, call_line, effect_line, end_line, instruction_by, operation_by, instruction, named_line, record_line, line_by, line, is_whole, blocks}
 use Rattle.ms_text_laws.proofs.Sound.{all_pushed, if_good, if_else}
 use Rattle.ms_text_laws.proofs.Brings.{Brings, given, chained, behind, either, refused, looped}

@@ -1,6 +1,6 @@
 -- A module that is read keeps the limits, and has neither a mark nor a reserved name if its text is plain.
-use Rattle.std.proofs.Common.{◌≡◌, ◌≤◌, ℕ, zero, suc, ◌+◌, ◌^◌, Bool, true, false, not, ◌&&◌, List, [], ◌∷◌, ◌++◌, drop, map, flat_map, filter_map, length, Option, Some, None, refl, sym, subst, ap, ◌∙◌, arith, lit≤}
-use Rattle.std.specs.Prelude.{nat_le, IsTrue, slice_get, option_map, unwrap_or}
+use Rattle.std.proofs.Common.{◌≡◌, ◌≤◌, ℕ, zero, suc, ◌^◌, Bool, true, false, not, ◌&&◌, List, [], ◌∷◌, ◌++◌, drop, map, flat_map, length, Option, Some, None, refl, arith, lit≤}
+use Rattle.std.specs.Prelude.{nat_le, slice_get, option_map, unwrap_or}
 use Rattle.std.specs.List.{list_all, cons_option}
 use Rattle.std.proofs.lemmas.Bool.{and_parts, and_from}
 use Rattle.ms_lex.specs.Tokens.{Text}
@@ -13,13 +13,13 @@ use Rattle.ms_ir.specs.declared.syntax.Decl.{Decl}
 use Rattle.ms_ir.specs.declared.syntax.GlobalVar.{GlobalVar}
 use Rattle.ms_ir.specs.declared.syntax.Module.{Module}
 use Rattle.ms_ir.specs.Names.{is_reserved}
-use Rattle.ms_ir.specs.Code.{over_funcs, blocks_at, insts_at, HeadUnmarked, NoMarks}
+use Rattle.ms_ir.specs.Code.{blocks_at, insts_at, HeadUnmarked, NoMarks}
 use Rattle.ms_ir.specs.Written.{Mention, type_mentions, init_mentions, mentions, op_types}
 use Rattle.ms_ir.specs.Locals.{results, block_locals, parameter_names, locals, func_insts, global_names, declared_names, function_names, symbols, type_names}
 use Rattle.ms_ir.specs.declared.forms.Form.{Form}
 use Rattle.ms_ir.specs.declared.forms.Form.TheVariants.{Plain, Instrumented}
 use Rattle.ms_grammar.specs.Bodies.{max_instructions}
-use Rattle.ms_grammar.specs.Bounds.{instructions_among, WithinLimits}
+use Rattle.ms_grammar.specs.Bounds.{WithinLimits}
 use Rattle.ms_grammar.specs.Texts.{Reads, max_tokens}
 use Rattle.ms_grammar.proofs.Bounds.{module_within}
 use Rattle.ms_valid.specs.NamesKnown.{global_mentions}

@@ -1,15 +1,13 @@
 -- Modules that are read keep the limits.
-use Rattle.std.proofs.Common.{◌≡◌, ◌≤◌, ℕ, suc, ◌+◌, Bool, true, false, cond, not, ◌&&◌, List, [], ◌∷◌, ◌++◌, map, flat_map, filter_map, length, Option, Some, None, Ok, refl, sym, subst, ap, ◌∙◌, arith}
-use Rattle.std.specs.Prelude.{nat_le, nat_lt}
+use Rattle.std.proofs.Common.{◌≡◌, Bool, true, ◌&&◌, [], length, Ok, refl, subst}
+use Rattle.std.specs.Prelude.{nat_lt}
 use Rattle.std.specs.List.{list_all}
-use Rattle.std.proofs.lemmas.Bool.{and_parts, and_from}
+use Rattle.std.proofs.lemmas.Bool.{and_from}
 use Rattle.ms_lex.specs.Tokens.{Text}
 use Rattle.ms_lex.specs.Numbers.{decimal}
 use Rattle.ms_ir.specs.declared.syntax.Name.{Name}
 use Rattle.ms_ir.specs.declared.syntax.Name.TheVariants as name
 use Rattle.ms_ir.specs.declared.syntax.Ty.{Ty}
-use Rattle.ms_ir.specs.declared.syntax.Inst.{Inst}
-use Rattle.ms_ir.specs.declared.syntax.Block.{Block}
 use Rattle.ms_ir.specs.declared.syntax.Func.{Func}
 use Rattle.ms_ir.specs.declared.syntax.Decl.{Decl}
 use Rattle.ms_ir.specs.declared.syntax.GlobalVar.{GlobalVar}
@@ -21,8 +19,7 @@ use Rattle.ms_grammar.specs.declared.symbols.Symbol.TheVariants as s
 use Rattle.ms_grammar.specs.Lexemes.{Lexeme, name_in, lexemes_of}
 use Rattle.ms_grammar.specs.Steps.{judge_map}
 use Rattle.ms_grammar.specs.Names.{local_by, reserved_global, name_fits}
-use Rattle.ms_grammar.specs.Types.{max_depth}
-use Rattle.ms_grammar.specs.Modules.{named_type, global_variable, max_globals, entity_begins, entity_begins_by, entity, entity_by, with_type, with_global, with_declaration, with_function, no_parts, module_rule}
+use Rattle.ms_grammar.specs.Modules.{named_type, global_variable, max_globals, entity_begins, entity_begins_by, entity, entity_by, with_type, with_global, with_declaration, with_function, module_rule}
 use Rattle.ms_grammar.specs.Texts.{Reads}
 use Rattle.ms_text_laws.proofs.Sound.{all_pushed, if_good, if_else, if_mapped}
 use Rattle.ms_text_laws.proofs.Brings.{Brings, given, chained, behind, looped}

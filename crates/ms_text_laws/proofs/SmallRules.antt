@@ -1,5 +1,5 @@
 -- Each operation that is read keeps the limits, and carries no mark in a plain text.
-use Rattle.std.proofs.Common.{◌≡◌, ℕ, Bool, true, false, cond, not, ◌&&◌, ◌||◌, List, [], ◌∷◌, ◌++◌, map, length, Option, Some, None, Ok, refl, sym, subst, ap}
+use Rattle.std.proofs.Common.{◌≡◌, ℕ, Bool, true, false, not, ◌&&◌, ◌||◌, List, [], ◌∷◌, ◌++◌, map, length, Option, Some, None, Ok, refl, subst}
 use Rattle.std.specs.Prelude.{nat_le, nat_lt, codes}
 use Rattle.std.specs.List.{list_all}
 use Rattle.std.specs.Str.{bytes_eq}
@@ -23,8 +23,8 @@ use Rattle.ms_grammar.specs.Steps.{Rule}
 use Rattle.ms_grammar.specs.Names.{global_name}
 use Rattle.ms_grammar.specs.Types.{int_type_of, value_type_of}
 use Rattle.ms_grammar.specs.Values.{max_indices, value}
-use Rattle.ms_grammar.specs.Skipped.{kind_by, kind_of, attached_rest, attached, suffix_by, suffix, suffixes, suffixes_from}
-use Rattle.ms_grammar.specs.Insts.{Marked, with_suffixes, binary_rule, compare_rule, cast_rule, select_rule, freeze_rule, address, load_rule, store_rule, index_by, index_turn, step_rule, alloca_of, alloca_rule, call_type, is_printf, callee_name, callee_by, callee, names_printf, max_parameters, argument, arguments, call_end, call_rule, edge, edge_by, edge_turn, phi_rule, target, branch_on, branch_rule, case_rest, switch_rule, ret_value, ret_rule}
+use Rattle.ms_grammar.specs.Skipped.{kind_by, attached_rest, attached, suffix_by, suffix, suffixes, suffixes_from}
+use Rattle.ms_grammar.specs.Insts.{Marked, with_suffixes, binary_rule, compare_rule, cast_rule, select_rule, freeze_rule, address, load_rule, store_rule, index_by, index_turn, step_rule, alloca_of, alloca_rule, call_type, is_printf, callee_by, callee, names_printf, max_parameters, argument, arguments, call_end, call_rule, edge, edge_by, edge_turn, phi_rule, target, branch_on, branch_rule, case_rest, switch_rule, ret_value, ret_rule}
 use Rattle.ms_text_laws.proofs.Sound.{all_pushed, no_value, same_value, if_else, if_within}
 use Rattle.ms_text_laws.proofs.Yields.{mapped_more}
 use Rattle.ms_text_laws.proofs.Brings.{Brings, given, judged, chained, behind, either, looped, listed_brings}

@@ -1,5 +1,5 @@
 -- Types that are read are no deeper than they may be, and have small names.
-use Rattle.std.proofs.Common.{◌≡◌, ℕ, zero, suc, ◌≤◌, max, Bool, true, false, ◌&&◌, List, [], ◌∷◌, flat_map, Option, Some, None, Ok, refl, sym, subst, ap, ◌∙◌, arith}
+use Rattle.std.proofs.Common.{◌≡◌, ℕ, zero, suc, ◌≤◌, max, Bool, true, false, ◌&&◌, List, [], ◌∷◌, Option, Some, None, Ok, refl, subst, ap, ◌∙◌, arith}
 use Rattle.std.specs.Prelude.{nat_le}
 use Rattle.std.specs.List.{list_all}
 use Rattle.std.proofs.lemmas.Bool.{leb-true, le-leb, and_parts, and_from}
@@ -19,7 +19,7 @@ use Rattle.ms_valid.specs.ReadLimits.{type_depth, row_depth, mentioned}
 use Rattle.ms_valid.proofs.TypeShapes.{type_mentions-array, type_mentions-struct}
 use Rattle.ms_text_laws.proofs.Sound.{no_value, same_value}
 use Rattle.ms_text_laws.proofs.Brings.{Brings, given, judged, chained, behind, either, refused, stopped, items_bring}
-use Rattle.ms_text_laws.proofs.SmallNames.{is_small_name, small_mentions, all_joined, all_so, all_among, local_read}
+use Rattle.ms_text_laws.proofs.SmallNames.{is_small_name, small_mentions, all_joined, all_among, local_read}
 
 -- so many arrays and structs of a type at most are open at once, and the names in it are small
 abbrev pub is_small_type : Form → ℕ → Ty → Bool

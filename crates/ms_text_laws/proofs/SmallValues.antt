@@ -1,5 +1,5 @@
 -- Values and initialisers that are read are no deeper than they may be, and have few indices and small names.
-use Rattle.std.proofs.Common.{◌≡◌, ℕ, zero, suc, ◌+◌, ◌≤◌, max, Bool, true, false, ◌&&◌, cond, List, [], ◌∷◌, ◌++◌, map, length, flat_map, Option, Some, None, Ok, Err, refl, sym, subst, ap, ◌∙◌, arith}
+use Rattle.std.proofs.Common.{◌≡◌, ℕ, zero, suc, ◌≤◌, max, Bool, true, false, ◌&&◌, cond, List, [], ◌∷◌, ◌++◌, map, length, flat_map, Option, Some, None, Ok, Err, refl, subst, ap, ◌∙◌, arith}
 use Rattle.std.specs.Prelude.{nat_le, nat_lt}
 use Rattle.std.specs.List.{list_all}
 use Rattle.std.proofs.lemmas.Bool.{ltb-true, leb-true, le-leb, and_parts, and_from}
@@ -28,7 +28,7 @@ use Rattle.ms_text_laws.proofs.CountedTurns.{length_more}
 use Rattle.ms_text_laws.proofs.Sound.{all_pushed, no_value, same_value, if_good, if_mapped, if_within}
 use Rattle.ms_text_laws.proofs.Brings.{Brings, given, judged, chained, behind, either, stopped, looped, items_bring}
 use Rattle.ms_text_laws.proofs.SmallNames.{is_small_name, small_mentions, all_joined, all_so, all_among, all_mapped, local_by_small, global_by_small, global_read}
-use Rattle.ms_text_laws.proofs.SmallTypes.{is_small_type, small_parts, int_small, type_read}
+use Rattle.ms_text_laws.proofs.SmallTypes.{is_small_type, small_parts, type_read}
 
 -- types of so many arrays and structs at most
 abbrev pub are_shallow_types : ℕ → List Ty → Bool
