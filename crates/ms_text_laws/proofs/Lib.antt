@@ -46,4 +46,8 @@ pub mod SmallBodies
 pub mod SmallFunctions
 pub mod SmallModules
 pub mod SmallLimits
+pub mod Blames
+pub mod BlamesParts
+pub mod BlamesCode
+pub mod BlamesModules
 pub mod EachText
