@@ -1,5 +1,5 @@
--- The instructions of a body and their operands: four for each token at most.
-use Rattle.std.proofs.Common.{◌≡◌, ◌≤◌, ℕ, suc, ◌+◌, ◌*◌, Bool, true, false, cond, List, [], ◌∷◌, ◌++◌, length, Option, Some, None, Result, Ok, Err, ap, arith}
+-- The operands of the instructions of a body: one for each token at most.
+use Rattle.std.proofs.Common.{◌≡◌, ◌≤◌, ℕ, ◌+◌, Bool, true, false, cond, List, [], ◌∷◌, ◌++◌, length, Option, Some, None, Result, Ok, Err, ap, arith}
 use Rattle.ms_bits.specs.declared.operations.BinOp.{BinOp}
 use Rattle.ms_bits.specs.declared.operations.CastOp.{CastOp}
 use Rattle.ms_lex.specs.Grammar.{give, one, ◌>>=◌, ◌>>◌}
@@ -18,31 +18,30 @@ use Rattle.ms_grammar.specs.Insts.{Marked, with_suffixes, step_rule, alloca_rule
 use Rattle.ms_grammar.specs.Bodies.{is_open, opened, opened_by, name_or, line_begins, with_value, with_effect, with_end, with_call, is_void_call}
 use Rattle.ms_grammar.specs.Lines.{value_line, marked_line, phi_line, call_line, effect_line, end_line, instruction_by, operation_by, instruction, value_word_of, named_line, record_line, line_by, line, is_whole, blocks}
 use Rattle.ms_grammar.specs.Texts.{ReadsUpTo}
-use Rattle.ms_valid.specs.Formed.{count_written}
 use Rattle.ms_text_laws.proofs.CountedTurns.{left, turns_fall}
-use Rattle.ms_text_laws.proofs.CountedOps.{arity, Few, binary_few, compare_few, cast_few, select_few, freeze_few, load_few, store_few, branch_few, switch_few, ret_few, unreachable_few, Counted, suffixed, step_counted, alloca_counted, call_counted, phi_counted}
+use Rattle.ms_text_laws.proofs.CountedOps.{arity, count_operands, Few, binary_few, compare_few, cast_few, select_few, freeze_few, load_few, store_few, branch_few, switch_few, ret_few, unreachable_few, Counted, suffixed, step_counted, alloca_counted, call_counted, phi_counted}
 
 no_value : {A E : Type 0} (e : E) (a : A) → ◌≡◌ {A = Result A E} (Err e) (Ok a) → ⊥
 no_value e a h = cc
 
-insts_more : (xs : List Inst) (x : Inst) → over_insts count_written (xs ++ x ∷ []) ≡ over_insts count_written xs + count_written x
+insts_more : (xs : List Inst) (x : Inst) → over_insts count_operands (xs ++ x ∷ []) ≡ over_insts count_operands xs + count_operands x
 insts_more [] x = omega arith
 insts_more (y ∷ xs) x = let rest = insts_more xs x in omega (arith, rest)
 
-blocks_more : (bs : List Block) (b : Block) → over_blocks count_written (bs ++ b ∷ []) ≡ over_blocks count_written bs + over_insts count_written b.insts
+blocks_more : (bs : List Block) (b : Block) → over_blocks count_operands (bs ++ b ∷ []) ≡ over_blocks count_operands bs + over_insts count_operands b.insts
 blocks_more [] b = omega arith
 blocks_more (c ∷ bs) b = let rest = blocks_more bs b in omega (arith, rest)
 
--- what is written in a body so far
-abbrev pub written_in : Body → ℕ
-written_in b = over_blocks count_written b.blocks + over_insts count_written b.insts
+-- the operands in a body so far
+abbrev pub operands_in : Body → ℕ
+operands_in b = over_blocks count_operands b.blocks + over_insts count_operands b.insts
 
 -- ---- one instruction more
 
 module _ (a : Body) where
   -- what takes an operation into the body
   abbrev Adds : (Marked → Body) → Type 0
-  Adds add = (m : Marked) → written_in (add m) ≡ written_in a + suc (arity m.0)
+  Adds add = (m : Marked) → operands_in (add m) ≡ operands_in a + arity m.0
 
   value_adds : (result : Option Name) (phis : Bool) → Adds (with_value a result phis)
   value_adds result phis m =
@@ -61,7 +60,7 @@ module _ (a : Body) where
       let all = blocks_more a.blocks (record { name = name_or a.name 0; insts = a.insts ++ last ∷ [] }) in
       omega (arith, more, all)
 
-  call_adds_by : (void : Bool) (result : Option Name) (m : Marked) → written_in (cond void (with_effect a m) (with_value a result false m)) ≡ written_in a + suc (arity m.0)
+  call_adds_by : (void : Bool) (result : Option Name) (m : Marked) → operands_in (cond void (with_effect a m) (with_value a result false m)) ≡ operands_in a + arity m.0
   call_adds_by true result m = effect_adds m
   call_adds_by false result m = value_adds result false m
 
@@ -72,13 +71,13 @@ module _ (a : Body) where
 
   module _ (form : Form) (ts : List Lexeme) (v : Body) (rest : List Lexeme) where
     abbrev Grown : Type 0
-    Grown = written_in v + length rest ≤ written_in a + 4 + length ts
+    Grown = operands_in v + length rest ≤ operands_in a + 1 + length ts
 
     grown : (add : Marked → Body) → Adds add → (rule : Rule Marked) → Counted rule → ReadsUpTo (rule >>= λ m. give (add m)) ts v rest → Grown
     grown add adds rule counted h =
         let few = counted ts h.0 h.1 h.2 in
         let more = adds h.0 in
-        let same = ap written_in h.3.0 in
+        let same = ap operands_in h.3.0 in
         let fewer = left (give (add h.0)) h.1 v rest h.3 in
         omega (arith, few, more, same, fewer)
 
@@ -134,7 +133,7 @@ module _ (a : Body) where
     unfolding instruction
     instruction_grown result x h = by_operation result x (binary_op x) (cast_op x) h
 
-named_line_grown : (form : Form) (a : Body) (n : Name) (ts : List Lexeme) (v : Body) (rest : List Lexeme) → ReadsUpTo (named_line form a n) ts v rest → written_in v + length rest ≤ written_in a + 4 + length ts
+named_line_grown : (form : Form) (a : Body) (n : Name) (ts : List Lexeme) (v : Body) (rest : List Lexeme) → ReadsUpTo (named_line form a n) ts v rest → operands_in v + length rest ≤ operands_in a + 1 + length ts
 unfolding named_line
 named_line_grown form a n ts v rest h =
     let equals = left (word s.Equals) ts h.0 h.1 h.2 in
@@ -148,31 +147,31 @@ record_line_is form a ts v rest h = h.3.3.0
 
 -- ---- a line and its first token
 
-opened_less_by : (b : Body) (n : Option Name) → written_in (opened_by n b) ≤ written_in b
+opened_less_by : (b : Body) (n : Option Name) → operands_in (opened_by n b) ≤ operands_in b
 opened_less_by b (Some n) = omega arith
 opened_less_by b None = omega arith
 
-opened_less : (b : Body) → written_in (opened b) ≤ written_in b
+opened_less : (b : Body) → operands_in (opened b) ≤ operands_in b
 unfolding opened
 opened_less b = opened_less_by b b.name
 
 module _ (form : Form) (b : Body) (t : Lexeme) (ts : List Lexeme) (v : Body) (rest : List Lexeme) where
   abbrev Falls : Type 0
-  Falls = written_in v + 4 * length rest ≤ written_in b + 4 * length (t ∷ ts)
+  Falls = operands_in v + length rest ≤ operands_in b + length (t ∷ ts)
 
-  stays : length rest ≤ length ts → written_in v ≤ written_in b → Falls
+  stays : length rest ≤ length ts → operands_in v ≤ operands_in b → Falls
   stays fewer same = omega (arith, fewer, same)
 
-  behind_first : length rest ≤ length ts → written_in v + length rest ≤ written_in (opened b) + 4 + length ts → Falls
+  behind_first : length rest ≤ length ts → operands_in v + length rest ≤ operands_in (opened b) + 1 + length ts → Falls
   behind_first fewer more =
       let less = opened_less b in
       omega (arith, fewer, more, less)
 
   line_falls_by : (x : Symbol) → ReadsUpTo (line_by form b x t) ts v rest → Falls
-  line_falls_by s.Label h = let same = ap written_in h.0 in stays (left (line_by form b s.Label t) ts v rest h) (omega (arith, same))
-  line_falls_by s.NumberedLabel h = let same = ap written_in h.0 in stays (left (line_by form b s.NumberedLabel t) ts v rest h) (omega (arith, same))
+  line_falls_by s.Label h = let same = ap operands_in h.0 in stays (left (line_by form b s.Label t) ts v rest h) (omega (arith, same))
+  line_falls_by s.NumberedLabel h = let same = ap operands_in h.0 in stays (left (line_by form b s.NumberedLabel t) ts v rest h) (omega (arith, same))
   line_falls_by s.DebugGroup h =
-      let same = ap written_in (record_line_is form (opened b) ts v rest h) in
+      let same = ap operands_in (record_line_is form (opened b) ts v rest h) in
       let less = opened_less b in
       stays (left (record_line form (opened b)) ts v rest h) (omega (arith, same, less))
   line_falls_by s.Local h = behind_first (left (line_by form b s.Local t) ts v rest h) (named_line_grown form (opened b) _ ts v rest h)
@@ -186,16 +185,16 @@ module _ (form : Form) (b : Body) (t : Lexeme) (ts : List Lexeme) (v : Body) (re
 -- ---- bodies
 
 blocks_end : (whole : Bool) (body : Body) (ts : List Lexeme) (v : List Block) (rest : List Lexeme)
-    → ReadsUpTo (cond whole (word s.CloseBrace >> give body.blocks) refuse) ts v rest → (over_blocks count_written v ≤ written_in body) × (length rest ≤ length ts)
+    → ReadsUpTo (cond whole (word s.CloseBrace >> give body.blocks) refuse) ts v rest → (over_blocks count_operands v ≤ operands_in body) × (length rest ≤ length ts)
 blocks_end true body ts v rest h =
-    let same = ap (over_blocks count_written) h.3.0 in
+    let same = ap (over_blocks count_operands) h.3.0 in
     (omega (arith, same), left (word s.CloseBrace >> give body.blocks) ts v rest h)
 blocks_end false body ts v rest h = absurd (no_value _ v h.0)
 
 pub blocks_fall : (form : Form) (start : Body) (ts : List Lexeme) (v : List Block) (rest : List Lexeme)
-    → ReadsUpTo (blocks form start) ts v rest → over_blocks count_written v + 4 * length rest ≤ written_in start + 4 * length ts
+    → ReadsUpTo (blocks form start) ts v rest → over_blocks count_operands v + length rest ≤ operands_in start + length ts
 unfolding blocks
 blocks_fall form start ts v rest h =
-    let lines = turns_fall (line_begins form) (λ b t. ReadsUpTo (line form b t)) (λ b us. written_in b + 4 * length us) (line_falls form) h.2.0 start ts h.0 h.1 h.2.1 in
+    let lines = turns_fall (line_begins form) (λ b t. ReadsUpTo (line form b t)) (λ b us. operands_in b + length us) (line_falls form) h.2.0 start ts h.0 h.1 h.2.1 in
     let end = blocks_end (is_whole h.0) h.0 h.1 v rest h.3 in
     omega (arith, lines, end.0, end.1)

@@ -1,10 +1,11 @@
--- Each operand of an operation has a token of its own, but for three at most.
-use Rattle.std.proofs.Common.{◌≡◌, ◌≤◌, ℕ, ◌+◌, Bool, true, false, cond, List, [], ◌∷◌, length, Option, Some, None, refl, ap, arith}
+-- Each operand of an operation has a token of its own, but for one at most.
+use Rattle.std.proofs.Common.{◌≡◌, ◌≤◌, ℕ, ◌+◌, Bool, true, false, List, [], ◌∷◌, length, Option, Some, None, refl, ap, arith}
 use Rattle.std.proofs.lemmas.List.{length-map}
 use Rattle.ms_bits.specs.declared.operations.BinOp.{BinOp}
 use Rattle.ms_bits.specs.declared.operations.CastOp.{CastOp}
 use Rattle.ms_lex.specs.Grammar.{give, loop, ◌>>=◌}
 use Rattle.ms_ir.specs.Code.{operands}
+use Rattle.ms_ir.specs.declared.syntax.Inst.{Inst}
 use Rattle.ms_ir.specs.declared.syntax.Name.{Name}
 use Rattle.ms_ir.specs.declared.syntax.Op.{Op}
 use Rattle.ms_ir.specs.declared.syntax.Op.TheVariants as op
@@ -16,89 +17,104 @@ use Rattle.ms_grammar.specs.declared.states.Edges.{Edges}
 use Rattle.ms_grammar.specs.declared.states.Indices.{Indices}
 use Rattle.ms_grammar.specs.declared.symbols.Symbol.{Symbol}
 use Rattle.ms_grammar.specs.declared.symbols.Symbol.TheVariants as s
-use Rattle.ms_grammar.specs.Lexemes.{Lexeme}
-use Rattle.ms_grammar.specs.Steps.{Rule, Verdict, word}
-use Rattle.ms_grammar.specs.Types.{value_type, type_to, max_depth}
+use Rattle.ms_grammar.specs.Lexemes.{Lexeme, end_of_text, same_symbol}
+use Rattle.ms_grammar.specs.Steps.{Rule, Verdict, refusal, word}
+use Rattle.ms_grammar.specs.Types.{int_type, value_type, type_to, max_depth}
 use Rattle.ms_grammar.specs.Values.{step_words}
 use Rattle.ms_grammar.specs.Skipped.{attributes, suffixes_from}
-use Rattle.ms_grammar.specs.Insts.{Marked, with_suffixes, binary_rule, compare_rule, cast_rule, select_rule, freeze_rule, address, load_rule, store_rule, no_indices, index_by, index_turn, index_begins, step_rule, alloca_of, alloca_rule, call_type, callee_type, callee, names_printf, argument, arguments, call_word, call_end, call_rule, edge, edge_by, edge_turn, edge_begins, phi_rule, target, branch_on, branch_rule, switch_rule, ret_value, ret_rule}
+use Rattle.ms_grammar.specs.Insts.{Marked, with_suffixes, binary_rule, compare_rule, cast_rule, bit_type, select_rule, freeze_rule, address, load_rule, store_rule, no_indices, index_by, index_turn, index_begins, step_rule, alloca_of, alloca_rule, call_type, callee_type, callee, names_printf, argument, arguments, call_word, call_end, call_rule, edge, edge_by, edge_turn, edge_begins, phi_rule, branch_on, branch_rule, switch_rule, ret_value, ret_rule}
 use Rattle.ms_grammar.specs.Texts.{ReadsUpTo}
-use Rattle.ms_text_laws.proofs.CountedTurns.{left, length_more, loop_counts, listed_counts}
+use Rattle.ms_text_laws.proofs.CountedTurns.{left, length_more, loop_counts, listed_counts, Owes, TakesOne, takes_one, settled, passed, paid, either_owes}
 
 abbrev pub arity : Op → ℕ
 arity o = length (operands o)
 
+-- the operands of an instruction
+abbrev pub count_operands : Inst → ℕ
+count_operands inst = length (operands inst.op)
+
+-- ---- the types of values take a token
+
+int_taken : TakesOne int_type
+unfolding int_type same_symbol
+int_taken = takes_one (refusal end_of_text) refl
+
+value_type_taken : TakesOne value_type
+unfolding value_type
+value_type_taken = takes_one (refusal end_of_text) refl
+
+bit_taken : TakesOne bit_type
+unfolding bit_type same_symbol
+bit_taken = takes_one (refusal end_of_text) refl
+
 -- ---- operations with few operands
 
 abbrev pub Few : Rule Op → Type 0
-Few rule = (ts : List Lexeme) (v : Op) (rest : List Lexeme) → ReadsUpTo rule ts v rest → arity v ≤ 3
+Few rule = Owes arity 1 rule
 
 pub binary_few : (form : Form) (o : BinOp) → Few (binary_rule form o)
 unfolding binary_rule
-binary_few form o ts v rest h = let same : arity v ≡ 2 = ap arity h.3.3.3.3.3.0 in omega (arith, same)
+binary_few form o = passed (λ flags. paid int_taken (λ width. passed (λ a. passed (λ comma. passed (λ b. settled (omega arith))))))
 
 pub compare_few : (form : Form) → Few (compare_rule form)
 unfolding compare_rule
-compare_few form ts v rest h = let same : arity v ≡ 2 = ap arity h.3.3.3.3.3.3.0 in omega (arith, same)
+compare_few form = passed (λ flags. passed (λ predicate. paid value_type_taken (λ t. passed (λ a. passed (λ comma. passed (λ b. settled (omega arith)))))))
 
 pub cast_few : (form : Form) (o : CastOp) → Few (cast_rule form o)
 unfolding cast_rule
-cast_few form o ts v rest h = let same : arity v ≡ 1 = ap arity h.3.3.3.3.3.0 in omega (arith, same)
+cast_few form o = passed (λ flags. passed (λ t. passed (λ a. passed (λ word. passed (λ u. settled (omega arith))))))
 
 pub select_few : (form : Form) → Few (select_rule form)
 unfolding select_rule
-select_few form ts v rest h = let same : arity v ≡ 3 = ap arity h.3.3.3.3.3.3.3.3.0 in omega (arith, same)
+select_few form =
+    paid bit_taken (λ bit. passed (λ c. passed (λ comma. paid value_type_taken (λ t. passed (λ a. passed (λ again. passed (λ same. passed (λ b. settled (omega arith)))))))))
 
 pub freeze_few : (form : Form) → Few (freeze_rule form)
 unfolding freeze_rule
-freeze_few form ts v rest h = let same : arity v ≡ 1 = ap arity h.3.3.0 in omega (arith, same)
+freeze_few form = passed (λ t. passed (λ a. settled (omega arith)))
 
 pub load_few : (form : Form) → Few (load_rule form)
 unfolding load_rule
-load_few form ts v rest h = let same : arity v ≡ 1 = ap arity h.3.3.0 in omega (arith, same)
+load_few form = passed (λ t. passed (λ a. settled (omega arith)))
 
 pub store_few : (form : Form) → Few (store_rule form)
 unfolding store_rule
-store_few form ts v rest h = let same : arity v ≡ 2 = ap arity h.3.3.3.0 in omega (arith, same)
+store_few form = paid value_type_taken (λ t. passed (λ v. passed (λ a. settled (omega arith))))
 
 branch_on_few : (form : Form) → Few (branch_on form)
 unfolding branch_on
-branch_on_few form ts v rest h = let same : arity v ≡ 1 = ap arity h.3.3.3.3.3.3.0 in omega (arith, same)
-
-either_branch : (form : Form) (plain : Bool) → Few (cond plain (target form >>= λ to. give (op.Br to)) (branch_on form))
-either_branch form true ts v rest h = let same : arity v ≡ 0 = ap arity h.3.0 in omega (arith, same)
-either_branch form false ts v rest h = branch_on_few form ts v rest h
+branch_on_few form = passed (λ bit. passed (λ c. passed (λ comma. passed (λ to. passed (λ again. passed (λ other. settled (omega arith)))))))
 
 pub branch_few : (form : Form) → Few (branch_rule form)
 unfolding branch_rule
-branch_few form ts v rest h = either_branch form h.0 h.1 v rest h.3
+branch_few form = passed (λ plain. either_owes plain (passed (λ to. settled (omega arith))) (branch_on_few form))
 
 pub switch_few : (form : Form) → Few (switch_rule form)
 unfolding switch_rule
-switch_few form ts v rest h = let same : arity v ≡ 1 = ap arity h.3.3.3.3.3.3.3.0 in omega (arith, same)
+switch_few form = passed (λ width. passed (λ v. passed (λ comma. passed (λ other. passed (λ bracket. passed (λ cases. passed (λ end. settled (omega arith))))))))
 
 ret_value_few : (form : Form) (type : Option Ty) → Few (ret_value form type)
-ret_value_few form None ts v rest h = let same : arity v ≡ 0 = ap arity h.0 in omega (arith, same)
-ret_value_few form (Some type) ts v rest h = let same : arity v ≡ 1 = ap arity h.3.0 in omega (arith, same)
+ret_value_few form None = settled (omega arith)
+ret_value_few form (Some type) = passed (λ v. settled (omega arith))
 
 pub ret_few : (form : Form) → Few (ret_rule form)
 unfolding ret_rule
-ret_few form ts v rest h = ret_value_few form h.0 h.1 v rest h.3
+ret_few form = passed (λ t. ret_value_few form t)
 
 pub unreachable_few : Few (give op.Unreachable)
-unreachable_few ts v rest h = let same : arity v ≡ 0 = ap arity h.0 in omega (arith, same)
+unreachable_few = settled (omega arith)
 
 -- ---- operations with their suffixes
 
 abbrev pub Counted : Rule Marked → Type 0
-Counted rule = (ts : List Lexeme) (m : Marked) (rest : List Lexeme) → ReadsUpTo rule ts m rest → arity m.0 + length rest ≤ 3 + length ts
+Counted rule = (ts : List Lexeme) (m : Marked) (rest : List Lexeme) → ReadsUpTo rule ts m rest → arity m.0 + length rest ≤ 1 + length ts
 
 pub suffixed : (form : Form) (rule : Rule Op) → Few rule → Counted (with_suffixes form rule)
 unfolding with_suffixes
 suffixed form rule few ts m rest h =
-    let small = few ts h.0 h.1 h.2 in
+    let small = few.each ts h.0 h.1 h.2 in
     let same : arity m.0 ≡ arity h.0 = ap (λ n. arity n.0) h.3.3.0 in
-    let fewer = left (with_suffixes form rule) ts m rest h in
+    let fewer = left (suffixes_from form false >>= λ marked. give (h.0, marked)) h.1 m rest h.3 in
     omega (arith, small, same, fewer)
 
 -- ---- indices

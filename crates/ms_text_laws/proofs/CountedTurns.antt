@@ -1,12 +1,13 @@
 -- What a list that is read has grown by, against the tokens that it took.
-use Rattle.std.proofs.Common.{◌≡◌, ◌≤◌, ℕ, zero, suc, ◌+◌, Bool, true, false, cond, List, [], ◌∷◌, ◌++◌, length, Result, ap, ap₂, arith}
-use Rattle.ms_lex.specs.Grammar.{Turns, give, loop, ◌>>=◌, ◌>>◌}
+use Rattle.std.proofs.Common.{◌≡◌, ◌≤◌, ℕ, zero, suc, ◌+◌, Bool, true, false, cond, List, [], ◌∷◌, ◌++◌, length, Result, Err, sym, ◌∙◌, ap, ap₂, arith}
+use Rattle.ms_lex.specs.Grammar.{Turns, give, one, seq, loop, ◌>>=◌, ◌>>◌}
 use Rattle.ms_lex.proofs.Exact.{shorter, complete}
 use Rattle.ms_grammar.specs.declared.refusals.Refusal.{Refusal}
 use Rattle.ms_grammar.specs.declared.symbols.Symbol.{Symbol}
 use Rattle.ms_grammar.specs.Lexemes.{Lexeme, end_of_text}
 use Rattle.ms_grammar.specs.Steps.{Rule, Verdict, skip, sees, word, comma_begins, listed}
 use Rattle.ms_grammar.specs.Texts.{ReadsUpTo}
+use Rattle.ms_text_laws.proofs.Sound.{no_value}
 
 -- no more tokens are left than there were
 pub left : {A : Type 0} (g : Rule A) (ts : List Lexeme) (v : A) (rest : List Lexeme) → ReadsUpTo g ts v rest → length rest ≤ length ts
@@ -63,3 +64,37 @@ module _ {S : Type 0} (closing : Symbol) (more : S → Bool) (item : S → Rule 
       let here = left (sees closing) ts h.0 h.1 h.2 in
       let all = list_counts h.0 start h.1 v rest h.3 in
       omega (arith, here, all)
+
+-- ---- pieces with a token for each part of their value, but for so many at most
+
+pub record Owes {A : Type 0} (size : A → ℕ) (n : ℕ) (g : Rule A) : Type 0 where
+  pub each : (ts : List Lexeme) (v : A) (rest : List Lexeme) → ReadsUpTo g ts v rest → size v + length rest ≤ n + length ts
+
+-- a piece that takes a token
+pub record TakesOne {A : Type 0} (g : Rule A) : Type 0 where
+  pub each : (ts : List Lexeme) (v : A) (rest : List Lexeme) → ReadsUpTo g ts v rest → 1 + length rest ≤ length ts
+
+one_taken : {A : Type 0} (f : Lexeme → Verdict A) (e : Refusal) → f end_of_text ≡ Err e → (ts : List Lexeme) (v : A) (rest : List Lexeme) → ReadsUpTo (one f) ts v rest → 1 + length rest ≤ length ts
+one_taken f e none [] v rest h = no_value e v (sym none ∙ h.0)
+one_taken f e none (t ∷ ts) v rest h = let same = ap length h.1 in omega (arith, same)
+
+-- a token that can't be the end of the text
+pub takes_one : {A : Type 0} {f : Lexeme → Verdict A} (e : Refusal) → f end_of_text ≡ Err e → TakesOne (one f)
+takes_one {f = f} e none = record { each = one_taken f e none }
+
+pub settled : {A : Type 0} {size : A → ℕ} {n : ℕ} {a : A} → size a ≤ n → Owes size n (give a)
+settled {size = size} few = record { each = λ ts v rest h. let value = ap size h.0 in let all = ap length h.1 in omega (arith, few, value, all) }
+
+pub passed : {A B : Type 0} {size : B → ℕ} {n : ℕ} {g : Rule A} {k : A → Rule B} → ((a : A) → Owes size n (k a)) → Owes size n (seq g k)
+passed {g = g} more = record {
+  each = λ ts v rest h. let first = left g ts h.0 h.1 h.2 in let others = (more h.0).each h.1 v rest h.3 in omega (arith, first, others);
+}
+
+pub paid : {A B : Type 0} {size : B → ℕ} {n : ℕ} {g : Rule A} {k : A → Rule B} → TakesOne g → ((a : A) → Owes size (suc n) (k a)) → Owes size n (seq g k)
+paid token more = record {
+  each = λ ts v rest h. let first = token.each ts h.0 h.1 h.2 in let others = (more h.0).each h.1 v rest h.3 in omega (arith, first, others);
+}
+
+pub either_owes : {A : Type 0} {size : A → ℕ} {n : ℕ} {g h : Rule A} (b : Bool) → Owes size n g → Owes size n h → Owes size n (cond b g h)
+either_owes true p q = p
+either_owes false p q = q

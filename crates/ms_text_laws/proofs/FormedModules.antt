@@ -34,7 +34,7 @@ use Rattle.ms_text_laws.proofs.Sound.{IsSound, AllSound, sound_lexemes, sound_re
 use Rattle.ms_text_laws.proofs.Names.{local_name_formed, global_name_formed}
 use Rattle.ms_text_laws.proofs.FormedTypes.{type_formed_to, struct_formed}
 use Rattle.ms_text_laws.proofs.FormedValues.{init_formed_to}
-use Rattle.ms_text_laws.proofs.Counts.{few_operands}
+use Rattle.ms_text_laws.proofs.Counts.{few_written}
 use Rattle.ms_text_laws.proofs.FormedFunctions.{text_named, declaration_formed, function_formed}
 
 -- ---- named types and globals
@@ -146,5 +146,5 @@ read_formed form text m bytes h =
       declarations = all.decls;
       functions = all.funcs;
       few_globals = omega (arith, globals);
-      few_operands = few_operands form text m h;
+      few_operands = few_written form text m h;
     }

@@ -16,7 +16,7 @@ pub mod Bodies
 pub mod Functions
 pub mod Modules
 pub mod Fits
-pub mod Limits
+pub mod StandardLimits
 pub mod ReadBack
 pub mod Sound
 pub mod Names
@@ -36,3 +36,18 @@ pub mod Counts
 pub mod FormedBodies
 pub mod FormedFunctions
 pub mod FormedModules
+pub mod Brings
+pub mod SmallNames
+pub mod SmallTypes
+pub mod SmallValues
+pub mod SmallOps
+pub mod SmallRules
+pub mod SmallBodies
+pub mod SmallFunctions
+pub mod SmallModules
+pub mod SmallLimits
+pub mod Blames
+pub mod BlamesParts
+pub mod BlamesCode
+pub mod BlamesModules
+pub mod EachText

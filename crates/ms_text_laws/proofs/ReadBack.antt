@@ -21,7 +21,7 @@ use Rattle.ms_text_laws.specs.Fits.{FitsForm, FitsText}
 use Rattle.ms_text_laws.proofs.Limited.{Limits, standard, module_rule}
 use Rattle.ms_text_laws.proofs.Standard.{same_rule}
 use Rattle.ms_text_laws.proofs.Fits.{module_fits}
-use Rattle.ms_text_laws.proofs.Limits.{fits_within, uniform, large_enough}
+use Rattle.ms_text_laws.proofs.StandardLimits.{fits_within, uniform, large_enough}
 use Rattle.ms_text_laws.proofs.Modules.{module_taken}
 
 reads_back : (m : Module) → Formed m → FitsForm m → ReadsUpTo (modules.module_rule Instrumented) (tokens_in (module_pieces m)) m []

@@ -1,6 +1,9 @@
-//! Laws about texts: what is read is formed; what is written of a module is read as that module, and is written of no other.
+//! Laws about texts: every text is answered; what is read is formed, and keeps the limits; what is written of a module is read as
+//! that module, and is written of no other.
 #![tactic(auto)]
 
+pub mod answered;
 pub mod examples;
 pub mod formed;
 pub mod laws;
+pub mod limits;

@@ -28,6 +28,7 @@ use Rattle.ms_valid.specs.ReadLimits.{type_depth, init_depth, few_init_indices, 
 use Rattle.ms_ir.specs.Written.{op_types}
 use Rattle.ms_ir.specs.Locals.{func_insts, locals}
 use Rattle.ms_text_laws.specs.Fits.{few_arguments, FitsForm}
+use Rattle.ms_text_laws.proofs.SmallNames.{all_so}
 use Rattle.ms_text_laws.proofs.Limited.{Limits, standard}
 use Rattle.ms_text_laws.proofs.Spelled.{both, is_below}
 use Rattle.ms_text_laws.proofs.Values.{few_offsets, few_within, few_among}
@@ -38,10 +39,6 @@ use Rattle.ms_text_laws.proofs.Functions.{next_params}
 use Rattle.ms_text_laws.proofs.Fits.{counted_blocks, Within}
 
 -- ---- the limits of an instrumented text
-
-all_so : {A : Type 0} (p q : A → Bool) → ((x : A) → p x ≡ true → q x ≡ true) → (xs : List A) → list_all p xs ≡ true → list_all q xs ≡ true
-all_so p q f [] h = refl
-all_so p q f (x ∷ xs) h = let parts = both (p x) (list_all p xs) h in and_from _ _ (f x parts.0) (all_so p q f xs parts.1)
 
 short_below : (x : Name) → is_short x ≡ true → is_below 1025 x ≡ true
 short_below (Number n) h = refl
