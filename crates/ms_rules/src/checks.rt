@@ -68,7 +68,7 @@ fn call_check(
     Ok(())
 }
 
-// The same, unless the mask is known to be 0.
+// The check of an operand, unless its mask is known to be 0.
 fn check(
     code: &mut Code,
     site: u32,
@@ -104,8 +104,7 @@ fn check_operand(
     ensures little { OnOk result (code.new.next ≤ code.old.next + 1) }
 {
     let tracked = track(code.alloc, env, root, ty, operand)?;
-    check(code, env.site, kind, 0, &tracked)?;
-    Ok(())
+    check(code, env.site, kind, 0, tracked.get())
 }
 
 // The check of a second operand, behind one more.
@@ -127,8 +126,7 @@ fn check_second(
 {
     let root = env.root + count_undef(first);
     let tracked = track(code.alloc, env, root, ty, operand)?;
-    check(code, env.site, kind, 1, &tracked)?;
-    Ok(())
+    check(code, env.site, kind, 1, tracked.get())
 }
 
 // The check of a divisor.

@@ -111,7 +111,7 @@ fn store(code: &mut Code, site: u32, value: &TrackedOperand, addr: &Operand) -> 
     Ok(())
 }
 
-// The same, given the operands of the `store`.
+// What follows a `store`, given its operands.
 fn store_operation(
     code: &mut Code,
     env: &Environment,
@@ -128,8 +128,7 @@ fn store_operation(
 {
     let ty = ty.copy(code.alloc)?;
     let value = track(code.alloc, env, env.root, ty, value)?;
-    store(code, env.site, &value, addr)?;
-    Ok(())
+    store(code, env.site, value.get(), addr)
 }
 
 // What follows an `alloca` of an integer type.

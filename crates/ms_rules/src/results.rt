@@ -224,8 +224,7 @@ fn binary_operation(
     let second_ty = ty.copy(code.alloc)?;
     let root = env.root + count_undef(a);
     let second = track(code.alloc, env, root, second_ty, b)?;
-    define_binary(code, value, op, &first, &second)?;
-    Ok(())
+    define_binary(code, value, op, first.get(), second.get())
 }
 
 // The origin and the mask of the value that an instruction gives.

@@ -8,7 +8,7 @@ ghost use Rattle.ms_rules.specs.Arguments.{env_of, tracked_of};
 use crate::environment::Environment;
 use crate::names::{mask_name, origin_name};
 use ms_bits::words::limit;
-use ms_bits::{Duplicate, NoMemory};
+use ms_bits::{Boxed, Duplicate, NoMemory};
 use ms_ir::{Name, Operand, Ty};
 use std::alloc::Global;
 
@@ -104,6 +104,28 @@ pub struct TrackedOperand {
     pub origin: Operand,
 }
 
+// Puts an operand together with the operands that hold its mask and its origin.
+fn boxed(
+    alloc: Global,
+    ty: Ty,
+    operand: &Operand,
+    mask: Operand,
+    origin: Operand,
+) -> Result<Boxed<TrackedOperand>, NoMemory>
+    ensures { IfOk result (λ t. tracked_of t ≡ record { ty = ty; operand = operand.now; mask = mask; origin = origin }) }
+{
+    let operand = operand.copy(alloc)?;
+    Boxed::new(
+        alloc,
+        TrackedOperand {
+            ty,
+            operand,
+            mask,
+            origin,
+        },
+    )
+}
+
 /// Tracks an operand of a type before which so many roots stand. The one error is want of memory.
 pub fn track(
     alloc: Global,
@@ -111,18 +133,12 @@ pub fn track(
     root: u32,
     ty: Ty,
     operand: &Operand,
-) -> Result<TrackedOperand, NoMemory>
+) -> Result<Boxed<TrackedOperand>, NoMemory>
     requires few { env.now.size ≤ 2 ^ 30 }
     requires narrow { width_in ty ≤ 64 }
     ensures { IfOk result (λ t. tracked_of t ≡ record { ty = ty; operand = operand.now; mask = mask_operand_of (env_of env.now) (width_in ty) operand.now; origin = origin_operand_of (env_of env.now) root operand.now }) }
 {
     let mask = mask_operand(alloc, env, width_of(&ty), operand)?;
     let origin = origin_operand(alloc, env, root, operand)?;
-    let operand = operand.copy(alloc)?;
-    Ok(TrackedOperand {
-        ty,
-        operand,
-        mask,
-        origin,
-    })
+    boxed(alloc, ty, operand, mask, origin)
 }
