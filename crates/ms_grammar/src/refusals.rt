@@ -85,7 +85,7 @@ pub enum Limit {
 pub enum Refusal {
     /// The tokens through this one begin no text of the grammar.
     Syntax,
-    /// The same, and the token shows a construct that is left out.
+    /// The tokens through this one begin no text of the grammar, and the token shows a construct that is left out.
     Outside(Outside),
     /// The token passes this limit.
     Limit(Limit),

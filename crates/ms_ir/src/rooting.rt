@@ -46,7 +46,7 @@ fn push_inst(
     Ok(site + 1)
 }
 
-/// The same for instructions.
+/// Appends the roots of instructions. Answers the site behind them.
 fn push_insts(
     roots: &mut Vec<Root>,
     callees: &Callees<'_>,
@@ -64,7 +64,7 @@ fn push_insts(
     Ok(site)
 }
 
-/// The same for basic blocks.
+/// Appends the roots of basic blocks. Answers the site behind them.
 fn push_blocks(
     roots: &mut Vec<Root>,
     callees: &Callees<'_>,
@@ -82,7 +82,7 @@ fn push_blocks(
     Ok(site)
 }
 
-/// The same for functions.
+/// Appends the roots of functions.
 fn push_funcs(
     roots: &mut Vec<Root>,
     callees: &Callees<'_>,

@@ -1,17 +1,14 @@
 //! What holds of the size of every module that is read.
 
-ghost use Rattle.std.specs.Prelude.{IsTrue};
-ghost use Rattle.std.specs.List.{list_all};
 ghost use Rattle.ms_lex.specs.Tokens.{Text};
 ghost use Rattle.ms_ir.specs.declared.syntax.Module.{Module};
 ghost use Rattle.ms_ir.specs.declared.forms.Form.{Form};
 ghost use Rattle.ms_ir.specs.declared.forms.Form.TheVariants.{Plain};
 ghost use Rattle.ms_grammar.specs.Bodies.{max_instructions};
 ghost use Rattle.ms_grammar.specs.Texts.{Reads};
-ghost use Rattle.ms_ir.specs.Locals.{func_insts};
 ghost use Rattle.ms_valid.specs.ReadLimits.{ReadLimits};
 ghost use Rattle.ms_valid.specs.Uninstrumented.{CanInstrument};
-ghost use Rattle.ms_text_laws.specs.Fits.{FitsForm, few_arguments};
+ghost use Rattle.ms_text_laws.specs.Fits.{FitsForm};
 
 /// Every module that is read keeps the limits of the form of its text: on instructions, functions, globals, parameters,
 /// nesting, indices and names. So it is one that an instrumented text can hold, with at most 100 arguments of `printf`.
