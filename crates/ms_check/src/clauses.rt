@@ -58,7 +58,6 @@ fn types_agree(alloc: Global, m: &Module) -> Result<(), CheckError>
     ensures holds { OnOk result (UpToTypes m.now) }
     ensures refused { IfErr result (λ e. IfSome (fault_of e) (IsRefused m.now)) }
 {
-    small_numbers();
     match first_mismatch(alloc, m)? {
         None => Ok(()),
         Some(mismatch) => Err(CheckError::TypeMismatch {

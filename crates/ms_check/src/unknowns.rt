@@ -52,6 +52,8 @@ impl<'a, 'm> Clause<'m> for NamesKnown<'a, 'm> {
 
     type Fault = Unknown<'m>;
 
+    ghost Asks = { λ f. Unit {0} };
+
     ghost AreOf = { λ clause f names. names ≡ locals f };
 
     ghost head = { λ clause f. [] };

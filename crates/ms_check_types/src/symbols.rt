@@ -1,5 +1,5 @@
 //! What the names of a module stand for (LLVM Language Reference, "Module Structure"), each found in logarithmic time.
-ghost use Rattle.std.specs.Prelude.{◌≡◌, IfOk, map, option_map, unwrap_or};
+ghost use Rattle.std.specs.Prelude.{◌≡◌, IfOk, option_map, unwrap_or};
 ghost use Rattle.std.specs.Option.{option_copied};
 ghost use Rattle.ms_ir.specs.declared.syntax.Ty as type;
 ghost use Rattle.ms_ir.specs.Layout.{resolved};
@@ -12,19 +12,9 @@ ghost use Rattle.ms_check_types.specs.Callees.{callee_signature};
 use crate::callees::{Callee, Callees};
 use crate::rows::row_of;
 use ms_bits::NoMemory;
-use ms_ir::{GlobalVar, Module, Name, Ty};
-use ms_tables::{NameTable, types_of};
+use ms_ir::{Module, Name, Ty};
+use ms_tables::{NameTable, globals_of, types_of};
 use std::alloc::Global;
-
-fn names_of_globals<'m>(alloc: Global, globals: &'m [GlobalVar]) -> Result<NameTable<'m>, NoMemory>
-    ensures { IfOk result (λ names. names ≡ map (λ g. g.name) globals.now) }
-{
-    let mut names = NameTable::new(alloc);
-    for global in globals {
-        names.push(&global.name)?;
-    }
-    Ok(names)
-}
 
 /// A module with what its names stand for.
 #[derive(Drop)]
@@ -44,7 +34,7 @@ impl<'m> Symbols<'m> {
         ensures { IfOk result (λ symbols. symbols.source.now ≡ m.now) }
     {
         let types = types_of(alloc, m)?;
-        let globals = names_of_globals(alloc, m.globals.as_slice())?;
+        let globals = globals_of(alloc, m)?;
         let callees = Callees::of(alloc, m)?;
         Ok(Symbols {
             source: m,
