@@ -78,7 +78,7 @@ fn first_in_func<'m>(functions: &NameTable<'_>, func: &'m Func) -> Option<&'m Na
     }
 }
 
-/// The first of them in functions.
+/// The first function whose name is reserved, or the first callee whose access would be volatile, in text order.
 fn first_in_funcs<'m>(functions: &NameTable<'_>, funcs: &'m [Func]) -> Option<&'m Name>
     ensures { option_copied result ≡ slice_get (flat_map (func_faults functions.now) funcs.now) 0 }
 {

@@ -1,5 +1,5 @@
 -- The first that a walk finds, at the item that a loop has come to.
-use Rattle.std.proofs.Common.{◌≡◌, ℕ, ◌+◌, ◌<◌, List, [], ◌∷◌, ◌++◌, Option, Some, None, length, get_or, drop, suc, sym, ap, subst, ◌∙◌, arith}
+use Rattle.std.proofs.Common.{◌≡◌, ℕ, ◌+◌, ◌<◌, List, [], ◌∷◌, ◌++◌, Option, Some, None, length, get_or, drop, suc, sym, ap, ◌∙◌, arith}
 use Rattle.std.specs.Prelude.{◌^◌, All, option_map, unwrap_or, slice_get}
 use Rattle.std.proofs.lemmas.List.Elements.{All-nil, All-cons, All-get_or}
 use Rattle.ms_ir.specs.declared.syntax.Module.{Module}
@@ -21,12 +21,6 @@ few_below (f ∷ rest) h = All-cons (λ g. length g.blocks < 2 ^ 32) f rest (h 0
 -- each function has few blocks
 pub few_blocks : (m : Module) → HasSmallNumbers m → All (λ f. length f.blocks < 2 ^ 32) m.funcs
 few_blocks m small = few_below m.funcs small.blocks
-
--- ---- what is asked of each function
-
--- the function that a loop has come to
-pub asked_here : (P : Func → Type 0) (funcs : List Func) (i : ℕ) (f : Func) → i < length funcs → f ≡ get_or funcs i f → All P funcs → P f
-asked_here P funcs i f below is all = subst P (sym is) (All-get_or P funcs i f below all)
 
 -- ---- sums
 

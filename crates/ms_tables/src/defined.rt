@@ -31,8 +31,8 @@ fn push_all<'m, T: Named>(names: &mut NameTable<'m>, parts: &'m [T]) -> Result<(
     Ok(())
 }
 
-/// The names that some parts give.
-fn names_of<'m, T: Named>(alloc: Global, parts: &'m [T]) -> Result<NameTable<'m>, NoMemory>
+/// The names that some parts give. The one error is want of memory.
+pub fn names_of<'m, T: Named>(alloc: Global, parts: &'m [T]) -> Result<NameTable<'m>, NoMemory>
     ensures { IfOk result (λ names. names ≡ filter_map T.name_of parts.now) }
 {
     let mut names = NameTable::new(alloc);

@@ -1,10 +1,10 @@
-use Rattle.std.proofs.Common.{◌<◌, ◌^◌, sym, ◌∙◌, arith}
+use Rattle.std.proofs.Common.{◌<◌, ◌^◌, refl, sym, ◌∙◌, arith}
 use Rattle.ms_valid.proofs.SmallNumbers.{funcs_written}
 use Rattle.ms_check_types.proofs.SmallFaults.{small_operand}
 use Rattle.ms_check_types.proofs.walks.first_in_code.Goals as goal
 
-pub first_fault-requires-clause-sites : goal.first_fault-requires-clause-sites
-first_fault-requires-clause-sites c = omega (arith, c.requires, funcs_written c.args.m.now.funcs)
+pub first_fault-requires : goal.first_fault-requires
+first_fault-requires c = λ k. ((refl, tt), (omega (arith, c.requires, funcs_written c.args.m.now.funcs), λ i f below. tt))
 
 pub overflow_cast-result : goal.overflow_cast-result
 overflow_cast-result c =

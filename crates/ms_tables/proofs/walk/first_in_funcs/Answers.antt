@@ -1,12 +1,8 @@
 use Rattle.std.proofs.Common.{◌≡◌, ◌+◌, None, arith, sym, ◌∙◌}
 use Rattle.ms_ir.specs.Code.{one_unmarked, over_blocks}
 use Rattle.ms_tables.proofs.Items.{none_left, none_then}
-use Rattle.ms_tables.proofs.Walks.{asked_here, funcs_stopped, funcs_passed, funcs_sum}
+use Rattle.ms_tables.proofs.Walks.{funcs_stopped, funcs_passed, funcs_sum}
 use Rattle.ms_tables.proofs.walk.first_in_funcs.Goals as goal
-
-pub first_in_func-requires-clause-asked : goal.first_in_func-requires-clause-asked
-first_in_func-requires-clause-asked g c =
-    asked_here g.C.Clause.Asks c.args.funcs.now c.loop-func.func-index c.func-item.result c.loop-func-test.true c.func-item.is c.requires.asked
 
 pub returns-in-Some : goal.returns-in-Some
 returns-in-Some g c =
