@@ -1,6 +1,6 @@
 //! The numbers of a function's blocks and values.
 ghost use Rattle.std.specs.Prelude.{◌≡◌, ◌+◌, ◌<◌, ◌^◌, ◌++◌, [], ◌∷◌, flat_map, length, IfOk, OnOk};
-ghost use Rattle.ms_ir.specs.Locals.{block_locals, results};
+ghost use Rattle.ms_ir.specs.Locals.{block_locals, block_names, results};
 ghost use Rattle.ms_valid.specs.FlowGraph.{value_names};
 ghost use Rattle.ms_check_flow.specs.Numbered.{AreNumbersOf};
 
@@ -67,13 +67,23 @@ fn names_of_values<'m>(alloc: Global, func: &'m Func) -> Result<Names<'m>, NoMem
     Ok(names)
 }
 
+/// The names of the blocks of a function, and those of its blocks and results as they stand.
+fn names_in_code<'m>(alloc: Global, func: &'m Func) -> Result<(Names<'m>, Names<'m>), NoMemory>
+    requires { length (value_names func.now) < 2 ^ 32 }
+    ensures blocks { IfOk result (λ names. names.0 ≡ block_names func.now) }
+    ensures values { IfOk result (λ names. names.1 ≡ value_names func.now) }
+{
+    let blocks = block_numbers(alloc, func)?;
+    let values = names_of_values(alloc, func)?;
+    Ok((blocks, values))
+}
+
 /// The numbers of a function's blocks and values. The one error is want of memory.
 pub fn numbers_of<'m>(alloc: Global, func: &'m Func) -> Result<Numbers<'m>, NoMemory>
     requires few { length (value_names func.now) < 2 ^ 32 }
     ensures { IfOk result (AreNumbersOf func.now) }
 {
-    let blocks = block_numbers(alloc, func)?;
-    let values = names_of_values(alloc, func)?;
+    let (blocks, values) = names_in_code(alloc, func)?;
     let parameters = parameters_of(alloc, func)?;
     Ok(Numbers {
         blocks,

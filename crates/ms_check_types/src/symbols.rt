@@ -16,6 +16,19 @@ use ms_ir::{Module, Name, Ty};
 use ms_tables::{NameTable, globals_of, types_of};
 use std::alloc::Global;
 
+/// The names of a module's types, and those of its globals.
+fn names_of_types_and_globals<'m>(
+    alloc: Global,
+    m: &'m Module,
+) -> Result<(NameTable<'m>, NameTable<'m>), NoMemory>
+    ensures types { IfOk result (λ names. names.0 ≡ type_names m.now) }
+    ensures globals { IfOk result (λ names. names.1 ≡ global_names m.now) }
+{
+    let types = types_of(alloc, m)?;
+    let globals = globals_of(alloc, m)?;
+    Ok((types, globals))
+}
+
 /// A module with what its names stand for.
 #[derive(Drop)]
 pub struct Symbols<'m> {
@@ -33,8 +46,7 @@ impl<'m> Symbols<'m> {
     pub fn of(alloc: Global, m: &'m Module) -> Result<Symbols<'m>, NoMemory>
         ensures { IfOk result (λ symbols. symbols.source.now ≡ m.now) }
     {
-        let types = types_of(alloc, m)?;
-        let globals = globals_of(alloc, m)?;
+        let (types, globals) = names_of_types_and_globals(alloc, m)?;
         let callees = Callees::of(alloc, m)?;
         Ok(Symbols {
             source: m,
