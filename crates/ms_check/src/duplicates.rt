@@ -47,10 +47,7 @@ fn blocks_twice<'m>(
 }
 
 /// Appends the names of a function's parameters, blocks and results, up to the first that stands already among those seen.
-fn locals_twice<'m>(
-    seen: &mut NameTable<'m>,
-    func: &'m Func,
-) -> Result<Option<&'m Name>, NoMemory>
+fn locals_twice<'m>(seen: &mut NameTable<'m>, func: &'m Func) -> Result<Option<&'m Name>, NoMemory>
     ensures { IfOk result (λ r. option_copied r ≡ slice_get (repeats seen.old (locals func.now)) 0) }
 {
     match first_twice(seen, func.params.as_slice())? {
