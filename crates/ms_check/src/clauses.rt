@@ -58,7 +58,6 @@ fn types_agree(alloc: Global, m: &Module) -> Result<(), CheckError>
     ensures holds { OnOk result (UpToTypes m.now) }
     ensures refused { IfErr result (λ e. IfSome (fault_of e) (IsRefused m.now)) }
 {
-    small_numbers();
     match first_mismatch(alloc, m)? {
         None => Ok(()),
         Some(mismatch) => Err(CheckError::TypeMismatch {
@@ -154,16 +153,25 @@ fn sizes_fit(alloc: Global, m: &Module) -> Result<(), CheckError>
     }
 }
 
+/// Whether the clauses up to that of phis hold, else the first that doesn't.
+fn up_to_phis(alloc: Global, m: &Module) -> Result<(), CheckError>
+    requires { Formed m.now }
+    ensures holds { OnOk result (UpToPhis m.now) }
+    ensures refused { IfErr result (λ e. IfSome (fault_of e) (IsRefused m.now)) }
+{
+    names_once(alloc, m)?;
+    names_known(alloc, m)?;
+    types_agree(alloc, m)?;
+    phis_fit(alloc, m)
+}
+
 /// Whether all clauses hold, else the first that doesn't.
 pub fn all_hold(alloc: Global, m: &Module) -> Result<(), CheckError>
     requires { Formed m.now }
     ensures holds { OnOk result (Valid m.now) }
     ensures refused { IfErr result (λ e. IfSome (fault_of e) (IsRefused m.now)) }
 {
-    names_once(alloc, m)?;
-    names_known(alloc, m)?;
-    types_agree(alloc, m)?;
-    phis_fit(alloc, m)?;
+    up_to_phis(alloc, m)?;
     has_main(m)?;
     externals_fit(alloc, m)?;
     uses_defined(alloc, m)?;

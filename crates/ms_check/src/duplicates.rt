@@ -1,5 +1,5 @@
 //! The first name that is defined twice.
-ghost use Rattle.std.specs.Prelude.{◌≡◌, ◌++◌, [], ◌∷◌, true, false, option_map, flat_map, IfOk, IfNone, slice_get};
+ghost use Rattle.std.specs.Prelude.{◌≡◌, ◌++◌, [], ◌∷◌, true, false, option_map, flat_map, None, IfOk, IfNone, slice_get};
 ghost use Rattle.std.specs.Option.{option_copied};
 ghost use Rattle.ms_ir.specs.Locals.{block_locals, locals, type_names, global_names, declared_names};
 ghost use Rattle.ms_valid.specs.NamesOnce.{at_sign, percent_sign, repeats, function_duplicates, duplicates};
@@ -46,15 +46,22 @@ fn blocks_twice<'m>(
     Ok(None)
 }
 
+/// Appends the names of a function's parameters, blocks and results, up to the first that stands already among those seen.
+fn locals_twice<'m>(seen: &mut NameTable<'m>, func: &'m Func) -> Result<Option<&'m Name>, NoMemory>
+    ensures { IfOk result (λ r. option_copied r ≡ slice_get (repeats seen.old (locals func.now)) 0) }
+{
+    match first_twice(seen, func.params.as_slice())? {
+        Some(name) => Ok(Some(name)),
+        None => blocks_twice(seen, func.blocks.as_slice()),
+    }
+}
+
 /// The first name that a function gives twice: to its parameters, blocks and results.
 fn local_twice(alloc: Global, func: &Func) -> Result<Option<&Name>, NoMemory>
     ensures { IfOk result (λ r. option_copied r ≡ slice_get (repeats [] (locals func.now)) 0) }
 {
     let mut seen = NameTable::new(alloc);
-    match first_twice(&mut seen, func.params.as_slice())? {
-        Some(name) => Ok(Some(name)),
-        None => blocks_twice(&mut seen, func.blocks.as_slice()),
-    }
+    locals_twice(&mut seen, func)
 }
 
 /// Appends a function's symbol. Answers it where it stands already among those before it, and else the first name
@@ -111,21 +118,30 @@ fn symbol_twice<'m>(
     }
 }
 
+/// The first name that a module defines twice whose types have different names: a global's or a declaration's, then of
+/// each function its symbol and the names of its parameters, blocks and results.
+fn first_symbol_twice(alloc: Global, m: &Module) -> Result<Option<Spelled<'_>>, NoMemory>
+    requires { slice_get (repeats [] (type_names m.now)) 0 ≡ None }
+    ensures { IfOk result (λ r. r ≡ slice_get (duplicates m.now) 0) }
+{
+    let mut symbols = NameTable::new(alloc);
+    match symbol_twice(&mut symbols, m)? {
+        Some(name) => Ok(Some(Spelled { global: true, name })),
+        None => functions_twice(alloc, &mut symbols, m.funcs.as_slice()),
+    }
+}
+
 /// The first name that a module defines twice, in text order: a type's, then a global's or a declaration's, then of
 /// each function its symbol and the names of its parameters, blocks and results. None exactly where each is defined
 /// once. The one error is want of memory.
 pub fn first_duplicate(alloc: Global, m: &Module) -> Result<Option<Spelled<'_>>, NoMemory>
     ensures { IfOk result (λ r. r ≡ slice_get (duplicates m.now) 0) }
 {
-    if let Some(name) = type_twice(alloc, m)? {
-        return Ok(Some(Spelled {
+    match type_twice(alloc, m)? {
+        Some(name) => Ok(Some(Spelled {
             global: false,
             name,
-        }));
-    }
-    let mut symbols = NameTable::new(alloc);
-    match symbol_twice(&mut symbols, m)? {
-        Some(name) => Ok(Some(Spelled { global: true, name })),
-        None => functions_twice(alloc, &mut symbols, m.funcs.as_slice()),
+        })),
+        None => first_symbol_twice(alloc, m),
     }
 }

@@ -19,13 +19,13 @@ pub enum CheckError {
         global: bool,
         name: Name,
     },
-    /// A name that is used and not defined (the same).
+    /// A name that is used and not defined (LLVM Language Reference, "Identifiers", "Module Structure").
     Unknown {
         site: u32,
         global: bool,
         name: Name,
     },
-    /// An operand that hasn't the type that is asked for ("Instruction Reference", "Constants").
+    /// An operand that hasn't the type that is asked for (LLVM Language Reference, "Instruction Reference", "Constants").
     TypeMismatch {
         site: u32,
         /// The number of the operand, from 0 in written order. The first that is missing where one is, and 0 where the
@@ -33,7 +33,7 @@ pub enum CheckError {
         operand: u32,
     },
     /// A phi that doesn't name each block as often as that has edges to its own, or that has unequal operands for one
-    /// block; or a branch to the entry block ("'phi' Instruction", "Functions").
+    /// block; or a branch to the entry block (LLVM Language Reference, "'phi' Instruction", "Functions").
     BadPhi {
         site: u32,
     },

@@ -1,6 +1,6 @@
 //! The first name that is used and not defined.
 ghost use Rattle.std.specs.Prelude.{◌≡◌, ◌++◌, [], flat_map, IfOk, slice_get};
-ghost use Rattle.ms_ir.specs.Locals.{locals};
+ghost use Rattle.ms_ir.specs.Locals.{locals, type_names, symbols};
 ghost use Rattle.ms_ir.specs.Places.{HasSmallNumbers};
 ghost use Rattle.ms_ir.specs.Spots.{found_at_insts};
 ghost use Rattle.ms_ir.specs.Written.{type_mentions, mentions};
@@ -51,6 +51,8 @@ impl<'a, 'm> Clause<'m> for NamesKnown<'a, 'm> {
     type Tables = NameTable<'m>;
 
     type Fault = Unknown<'m>;
+
+    ghost Asks = { λ f. Unit {0} };
 
     ghost AreOf = { λ clause f names. names ≡ locals f };
 
@@ -120,6 +122,24 @@ fn missing_outside<'a, 'm>(
     missing.or(first_among(&search, m.globals.as_slice()))
 }
 
+/// The first name that a module with these types and symbols uses and doesn't define, with its site.
+fn first_missing<'m>(
+    alloc: Global,
+    types: &NameTable<'m>,
+    defined: &NameTable<'m>,
+    m: &'m Module,
+) -> Result<Option<Unknown<'m>>, NoMemory>
+    requires small { HasSmallNumbers m.now }
+    requires types { types.now ≡ type_names m.now }
+    requires defined { defined.now ≡ symbols m.now }
+    ensures { IfOk result (λ r. r ≡ slice_get (unknowns m.now) 0) }
+{
+    match missing_outside(alloc, types, defined, m) {
+        Some(spelled) => Ok(Some(Unknown { site: 0, spelled })),
+        None => missing_in_code(alloc, types, defined, m),
+    }
+}
+
 /// The first name that a module uses and doesn't define, with its site, in text order: in the named types, then in the
 /// globals, then in the instructions. A type's name may stand anywhere in the module, that of a global, a declaration
 /// or a function too, and that of a parameter, a block or a result anywhere in its function. None exactly where each
@@ -130,8 +150,5 @@ pub fn first_unknown(alloc: Global, m: &Module) -> Result<Option<Unknown<'_>>, N
 {
     let types = types_of(alloc, m)?;
     let symbols = symbols_of(alloc, m)?;
-    match missing_outside(alloc, &types, &symbols, m) {
-        Some(spelled) => Ok(Some(Unknown { site: 0, spelled })),
-        None => missing_in_code(alloc, &types, &symbols, m),
-    }
+    first_missing(alloc, &types, &symbols, m)
 }

@@ -1,5 +1,5 @@
 -- The operands of an instruction, noted one after the other.
-use Rattle.std.proofs.Common.{◌≡◌, ℕ, zero, suc, ◌+◌, List, [], ◌∷◌, ◌++◌, false, map, not, refl, sym, ap, ◌∙◌, add-one, append_assoc, take, true≢false}
+use Rattle.std.proofs.Common.{◌≡◌, ℕ, ◌+◌, List, [], ◌∷◌, ◌++◌, false, map, not, refl, sym, ap, ◌∙◌, add-one, append_assoc, take, true≢false}
 use Rattle.std.specs.Prelude.{flat_map, option_to_list, slice_get}
 use Rattle.std.proofs.lemmas.Grind.{flat_map-append}
 use Rattle.ms_ir.specs.declared.syntax.Name.{Name}
@@ -11,17 +11,11 @@ use Rattle.ms_ir.specs.Locals.{entry_name}
 use Rattle.ms_ir.specs.Spots.{Spot}
 use Rattle.ms_ir.specs.Written.{targets}
 use Rattle.ms_valid.specs.PhisFit.{edges_fit}
+use Rattle.ms_tables.proofs.Items.{one_more}
 use Rattle.ms_check_flow.specs.declared.numbers.Numbers.{Numbers}
 use Rattle.ms_check_flow.specs.Noted.{op_noted, operand_noted}
 
 -- ---- in turn
-
--- one item more of a list, if it has one more
-one_more : {A : Type 0} (xs : List A) (k : ℕ) → take (suc k) xs ≡ take k xs ++ option_to_list (slice_get xs k)
-one_more [] zero = refl
-one_more [] (suc k) = refl
-one_more (x ∷ xs) zero = refl
-one_more (x ∷ xs) (suc k) = ap (λ l. x ∷ l) (one_more xs k)
 
 pub noted_next : {A B : Type 0} (h : A → List B) (xs : List A) (k : ℕ) (start before after : List B) → after ≡ before ++ flat_map h (option_to_list (slice_get xs k))
     → before ≡ start ++ flat_map h (take k xs) → after ≡ start ++ flat_map h (take (k + 1) xs)

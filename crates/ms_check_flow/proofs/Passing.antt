@@ -11,9 +11,10 @@ use Rattle.ms_valid.specs.Formed.{Formed, count_written}
 use Rattle.ms_valid.specs.Refusals.{UpToPhis, IsFirstUndefined}
 use Rattle.ms_valid.specs.UsesDefined.{IsUseDefined, UsesDefined, uses}
 use Rattle.ms_valid.proofs.AtInstructions.{all_parts}
+use Rattle.ms_valid.proofs.SmallNumbers.{blocks_written}
 use Rattle.ms_check_flow.specs.Asked.{func_uses, uses_from, IsWithin, CanBeAsked, IsFirstOf, IsPassed}
 use Rattle.ms_check_flow.proofs.Branches.{stays_in}
-use Rattle.ms_check_flow.proofs.PathCounts.{blocks_counted, func_names}
+use Rattle.ms_check_flow.proofs.PathCounts.{func_names}
 use Rattle.ms_check_flow.proofs.Within.{uses_within}
 
 -- ---- lists
@@ -68,7 +69,7 @@ func_passed m site next i f l is e defined passed = record {
 -- the sites stay small
 pub few_left : (fs : List Func) (site next i : ℕ) (f : Func) → i < length fs → f ≡ slice_index_or fs i f → next ≡ site + over_blocks one_unmarked f.blocks
     → site + over_funcs count_written (drop i fs) < 2 ^ 31 → next + over_funcs count_written (drop (i + 1) fs) < 2 ^ 31
-few_left fs site next i f l is e few = omega (arith, few, e, one_func fs i f l is, blocks_counted f.blocks)
+few_left fs site next i f l is e few = omega (arith, few, e, one_func fs i f l is, blocks_written f.blocks)
 
 -- all functions
 pub all_passed : (m : Module) (site i : ℕ) → length m.funcs ≤ i → IsPassed m (uses_from site (drop i m.funcs)) → UsesDefined m

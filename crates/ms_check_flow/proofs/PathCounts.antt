@@ -25,20 +25,6 @@ use Rattle.ms_check_flow.specs.declared.numbers.Numbers.{Numbers}
 use Rattle.ms_check_flow.specs.declared.here.NotedUse.{NotedUse}
 use Rattle.ms_check_flow.specs.Noted.{value_noted, operand_noted, last_noted, edge_noted, op_noted, insts_noted, blocks_noted}
 
--- ---- instructions
-
-one_at_most : (b : Bool) (n : ℕ) → (if b then 0 else 1) ≤ suc n
-one_at_most true n = omega arith
-one_at_most false n = omega arith
-
-insts_counted : (xs : List Inst) → over_insts one_unmarked xs ≤ over_insts count_written xs
-insts_counted [] = omega arith
-insts_counted (i ∷ xs) = omega (arith, insts_counted xs, one_at_most i.marked 0)
-
-pub blocks_counted : (bs : List Block) → over_blocks one_unmarked bs ≤ over_blocks count_written bs
-blocks_counted [] = omega arith
-blocks_counted (b ∷ bs) = omega (arith, blocks_counted bs, insts_counted b.insts)
-
 -- ---- names
 
 result_counted : (o : Option Name) (names : List Name) → length (cons_option o names) ≤ suc (length names)

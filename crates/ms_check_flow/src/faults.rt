@@ -98,6 +98,8 @@ impl<'m> Clause<'m> for EdgesFit {
 
     type Fault = u32;
 
+    ghost Asks = { λ f. length f.blocks < 2 ^ 32 };
+
     ghost AreOf = { λ clause f ways. AreWaysOf f ways };
 
     ghost head = { λ clause f. [] };

@@ -1,12 +1,12 @@
 //! The numbers of a function's blocks and values.
 ghost use Rattle.std.specs.Prelude.{◌≡◌, ◌+◌, ◌<◌, ◌^◌, ◌++◌, [], ◌∷◌, flat_map, length, IfOk, OnOk};
-ghost use Rattle.ms_ir.specs.Locals.{block_locals, parameter_names, results};
+ghost use Rattle.ms_ir.specs.Locals.{block_locals, block_names, results};
 ghost use Rattle.ms_valid.specs.FlowGraph.{value_names};
 ghost use Rattle.ms_check_flow.specs.Numbered.{AreNumbersOf};
 
 use ms_bits::NoMemory;
 use ms_ir::{Block, Func, Inst, Name};
-use ms_tables::{NameTable, Names, block_numbers};
+use ms_tables::{NameTable, Names, block_numbers, parameters_of};
 use std::alloc::Global;
 
 /// The names that number a function's blocks and its values, each from 0 on by its first place, and the names of its
@@ -67,15 +67,15 @@ fn names_of_values<'m>(alloc: Global, func: &'m Func) -> Result<Names<'m>, NoMem
     Ok(names)
 }
 
-/// The names of the parameters of a function.
-fn names_of_parameters<'m>(alloc: Global, func: &'m Func) -> Result<NameTable<'m>, NoMemory>
-    ensures { IfOk result (λ names. names ≡ parameter_names func.now) }
+/// The names of the blocks of a function, and those of its blocks and results as they stand.
+fn names_in_code<'m>(alloc: Global, func: &'m Func) -> Result<(Names<'m>, Names<'m>), NoMemory>
+    requires { length (value_names func.now) < 2 ^ 32 }
+    ensures blocks { IfOk result (λ names. names.0 ≡ block_names func.now) }
+    ensures values { IfOk result (λ names. names.1 ≡ value_names func.now) }
 {
-    let mut names = NameTable::new(alloc);
-    for parameter in func.params.as_slice() {
-        names.push(&parameter.1)?;
-    }
-    Ok(names)
+    let blocks = block_numbers(alloc, func)?;
+    let values = names_of_values(alloc, func)?;
+    Ok((blocks, values))
 }
 
 /// The numbers of a function's blocks and values. The one error is want of memory.
@@ -83,9 +83,8 @@ pub fn numbers_of<'m>(alloc: Global, func: &'m Func) -> Result<Numbers<'m>, NoMe
     requires few { length (value_names func.now) < 2 ^ 32 }
     ensures { IfOk result (AreNumbersOf func.now) }
 {
-    let blocks = block_numbers(alloc, func)?;
-    let values = names_of_values(alloc, func)?;
-    let parameters = names_of_parameters(alloc, func)?;
+    let (blocks, values) = names_in_code(alloc, func)?;
+    let parameters = parameters_of(alloc, func)?;
     Ok(Numbers {
         blocks,
         values,

@@ -97,6 +97,9 @@ module _ (m : Module) where
 
   -- ---- the definition
 
+  pub callees_are : slice_get (flat_map (λ d. name_unless (decl_fits (called_names m) d) d.name) m.decls ++ flat_map (func_faults (function_names m)) m.funcs) 0 ≡ option_or (of_decls m) (of_funcs m)
+  callees_are = first-append (flat_map (λ d. name_unless (decl_fits (called_names m) d) d.name) m.decls) (flat_map (func_faults (function_names m)) m.funcs)
+
   pub outside_is : slice_get (bad_externals m) 0 ≡ option_or (of_globals m) (option_or (of_decls m) (of_funcs m))
   outside_is =
       let globals = flat_map (λ g. name_unless (global_fits g) g.name) m.globals in

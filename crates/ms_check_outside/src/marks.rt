@@ -121,6 +121,8 @@ impl<'m> Clause<'m> for MarksFit {
 
     type Fault = u32;
 
+    ghost Asks = { λ f. Unit {0} };
+
     ghost AreOf = { λ clause f marked. marked ≡ marked_results f };
 
     ghost head = { λ clause f. [] };

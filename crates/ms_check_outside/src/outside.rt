@@ -1,7 +1,8 @@
 //! The first name that doesn't fit what stands outside of a module.
 ghost use Rattle.std.specs.Prelude.{◌≡◌, ◌++◌, flat_map, IfOk, slice_get};
 ghost use Rattle.std.specs.Option.{option_copied};
-ghost use Rattle.ms_valid.specs.ExternalsFit.{name_unless, global_fits, is_runtime, is_external, decl_fits, bad_externals};
+ghost use Rattle.ms_ir.specs.Locals.{function_names};
+ghost use Rattle.ms_valid.specs.ExternalsFit.{name_unless, global_fits, is_runtime, is_external, decl_fits, called_names, bad_externals};
 ghost use Rattle.ms_check_outside.specs.Outside.{func_faults};
 
 use crate::called::called_names;
@@ -78,7 +79,7 @@ fn first_in_func<'m>(functions: &NameTable<'_>, func: &'m Func) -> Option<&'m Na
     }
 }
 
-/// The first of them in functions.
+/// The first function whose name is reserved, or the first callee whose access would be volatile, in text order.
 fn first_in_funcs<'m>(functions: &NameTable<'_>, funcs: &'m [Func]) -> Option<&'m Name>
     ensures { option_copied result ≡ slice_get (flat_map (func_faults functions.now) funcs.now) 0 }
 {
@@ -88,6 +89,34 @@ fn first_in_funcs<'m>(functions: &NameTable<'_>, funcs: &'m [Func]) -> Option<&'
         }
     }
     None
+}
+
+/// The first declaration of a module that doesn't fit. The one error is want of memory.
+fn first_bad_decl(alloc: Global, m: &Module) -> Result<Option<&Name>, NoMemory>
+    ensures { IfOk result (λ name. option_copied name ≡ slice_get (flat_map (λ d. name_unless (decl_fits (called_names m.now) d) d.name) m.now.decls) 0) }
+{
+    let called = called_names(alloc, m)?;
+    Ok(first_decl(&called, m.decls.as_slice()))
+}
+
+/// The first function of a module whose name is reserved, or the first callee whose access would be volatile, in text
+/// order. The one error is want of memory.
+fn first_bad_func(alloc: Global, m: &Module) -> Result<Option<&Name>, NoMemory>
+    ensures { IfOk result (λ name. option_copied name ≡ slice_get (flat_map (func_faults (function_names m.now)) m.now.funcs) 0) }
+{
+    let functions = functions_of(alloc, m)?;
+    Ok(first_in_funcs(&functions, m.funcs.as_slice()))
+}
+
+/// The first declaration of a module that doesn't fit, or else the first function whose name is reserved or callee whose
+/// access would be volatile. The one error is want of memory.
+fn first_bad_callee(alloc: Global, m: &Module) -> Result<Option<&Name>, NoMemory>
+    ensures { IfOk result (λ name. option_copied name ≡ slice_get (flat_map (λ d. name_unless (decl_fits (called_names m.now) d) d.name) m.now.decls ++ flat_map (func_faults (function_names m.now)) m.now.funcs) 0) }
+{
+    match first_bad_decl(alloc, m)? {
+        Some(name) => Ok(Some(name)),
+        None => first_bad_func(alloc, m),
+    }
 }
 
 /// The first name that doesn't fit the outside of a module, in text order: of a global that is reserved and no slot;
@@ -100,13 +129,8 @@ fn first_in_funcs<'m>(functions: &NameTable<'_>, funcs: &'m [Func]) -> Option<&'
 pub fn first_bad_external(alloc: Global, m: &Module) -> Result<Option<&Name>, NoMemory>
     ensures { IfOk result (λ name. option_copied name ≡ slice_get (bad_externals m.now) 0) }
 {
-    if let Some(name) = first_global(m.globals.as_slice()) {
-        return Ok(Some(name));
+    match first_global(m.globals.as_slice()) {
+        Some(name) => Ok(Some(name)),
+        None => first_bad_callee(alloc, m),
     }
-    let called = called_names(alloc, m)?;
-    if let Some(name) = first_decl(&called, m.decls.as_slice()) {
-        return Ok(Some(name));
-    }
-    let functions = functions_of(alloc, m)?;
-    Ok(first_in_funcs(&functions, m.funcs.as_slice()))
 }

@@ -62,7 +62,7 @@ fn volatile_in<'m>(functions: &NameTable<'_>, op: &'m Op) -> Option<&'m Name>
     }
 }
 
-/// The first of them in instructions.
+/// The first callee in instructions whose access would be volatile.
 fn first_in_insts<'m>(functions: &NameTable<'_>, insts: &'m [Inst]) -> Option<&'m Name>
     ensures { option_copied result ≡ slice_get (volatile_among functions.now insts.now) 0 }
 {
@@ -74,7 +74,7 @@ fn first_in_insts<'m>(functions: &NameTable<'_>, insts: &'m [Inst]) -> Option<&'
     None
 }
 
-/// The first of them in blocks.
+/// The first callee in blocks whose access would be volatile.
 pub fn first_in_blocks<'m>(functions: &NameTable<'_>, blocks: &'m [Block]) -> Option<&'m Name>
     ensures { option_copied result ≡ slice_get (volatile_within functions.now blocks.now) 0 }
 {

@@ -1,6 +1,6 @@
 //! Functions that are called, by the module's definition or declaration (LLVM Language Reference, "Functions"), each
 //! found by its name in logarithmic time.
-ghost use Rattle.std.specs.Prelude.{◌≡◌, IfOk, map, length, option_map, slice_get};
+ghost use Rattle.std.specs.Prelude.{◌≡◌, IfOk, length, option_map, slice_get};
 ghost use Rattle.std.specs.Option.{option_copied};
 ghost use Rattle.ms_ir.specs.Equal.{has_name};
 ghost use Rattle.ms_ir.specs.Locals.{declared_names, function_names};
@@ -10,7 +10,7 @@ ghost use Rattle.ms_check_types.specs.Callees.{callee_signature};
 use crate::rows::row_of;
 use ms_bits::NoMemory;
 use ms_ir::{Decl, Func, Module, Name, Ty};
-use ms_tables::{NameTable, functions_of};
+use ms_tables::{NameTable, declarations_of, functions_of};
 use std::alloc::Global;
 
 /// A function that a module defines or declares.
@@ -55,16 +55,6 @@ impl<'m> Callee<'m> {
     }
 }
 
-fn names_of_decls<'m>(alloc: Global, decls: &'m [Decl]) -> Result<NameTable<'m>, NoMemory>
-    ensures { IfOk result (λ names. names ≡ map (λ d. d.name) decls.now) }
-{
-    let mut names = NameTable::new(alloc);
-    for decl in decls {
-        names.push(&decl.name)?;
-    }
-    Ok(names)
-}
-
 /// The functions of a module, with the places of their names.
 #[derive(Drop)]
 pub struct Callees<'m> {
@@ -80,7 +70,7 @@ impl<'m> Callees<'m> {
     pub fn of(alloc: Global, m: &'m Module) -> Result<Callees<'m>, NoMemory>
         ensures { IfOk result (λ callees. callees.source.now ≡ m.now) }
     {
-        let decls = names_of_decls(alloc, m.decls.as_slice())?;
+        let decls = declarations_of(alloc, m)?;
         let funcs = functions_of(alloc, m)?;
         Ok(Callees {
             source: m,

@@ -62,6 +62,19 @@ fn first_symbol<'m>(extents: &Extents, m: &'m Module) -> Option<Spelled<'m>>
     }
 }
 
+/// The first of a module's named types, globals and functions, in this order, that is or has a type without a size, or
+/// the global with which the globals pass their limit.
+fn first_fault<'m>(extents: &Extents, m: &'m Module) -> Option<Spelled<'m>>
+    requires { extents.now ≡ m.now.types }
+    ensures { result ≡ slice_get (unsized m.now) 0 }
+{
+    let types = m.types.as_slice();
+    match first_type(extents, types) {
+        Some(fault) => Some(fault),
+        None => first_symbol(extents, m),
+    }
+}
+
 /// The first named type, global or function, in this order, that is or has a type without a size, or the global with
 /// which the globals pass 16 MiB (LLVM Language Reference, "Structure Type"; the limits are own); none where all sizes
 /// fit. Each named type is laid out once, and each type that is written is looked at where it stands. The one error is
@@ -70,9 +83,5 @@ pub fn first_unsized<'m>(alloc: Global, m: &'m Module) -> Result<Option<Spelled<
     ensures { IfOk result (λ fault. fault ≡ slice_get (unsized m.now) 0) }
 {
     let extents = Extents::of(alloc, m)?;
-    let types = m.types.as_slice();
-    match first_type(&extents, types) {
-        Some(fault) => Ok(Some(fault)),
-        None => Ok(first_symbol(&extents, m)),
-    }
+    Ok(first_fault(&extents, m))
 }

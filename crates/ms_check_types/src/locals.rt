@@ -1,6 +1,6 @@
 //! The types of the values of a function, and its blocks (LLVM Language Reference, "Functions"), each found by its name
 //! in logarithmic time.
-ghost use Rattle.std.specs.Prelude.{◌≡◌, ◌++◌, ◌<◌, ◌^◌, IfOk, length, map, filter_map, option_map};
+ghost use Rattle.std.specs.Prelude.{◌≡◌, ◌++◌, IfOk, map, filter_map, option_map};
 ghost use Rattle.std.specs.Option.{option_to_list};
 ghost use Rattle.std.specs.List.{flat_map};
 ghost use Rattle.ms_ir.specs.Equal.{has_name};
@@ -10,7 +10,7 @@ ghost use Rattle.ms_ir.specs.ValueTypes.{type_of};
 use crate::typed::TypedNames;
 use ms_bits::NoMemory;
 use ms_ir::{Block, Func, Inst, Name, Ty, ValueType};
-use ms_tables::{Names, block_numbers};
+use ms_tables::{NameTable, blocks_of};
 use std::alloc::Global;
 
 /// Adds parameters.
@@ -68,7 +68,7 @@ fn values_of(alloc: Global, func: &Func) -> Result<TypedNames<'_>, NoMemory>
 pub struct Locals<'m> {
     pub func: &'m Func,
     typed: TypedNames<'m>,
-    blocks: Names<'m>,
+    blocks: NameTable<'m>,
     ghost typed_are: { typed ≡ values func.now },
     ghost blocks_are: { blocks ≡ block_names func.now },
 }
@@ -76,11 +76,10 @@ pub struct Locals<'m> {
 impl<'m> Locals<'m> {
     /// The locals of a function. The one error is want of memory.
     pub fn of(alloc: Global, func: &'m Func) -> Result<Locals<'m>, NoMemory>
-        requires { length func.now.blocks < 2 ^ 32 }
         ensures { IfOk result (λ locals. locals.func.now ≡ func.now) }
     {
         let typed = values_of(alloc, func)?;
-        let blocks = block_numbers(alloc, func)?;
+        let blocks = blocks_of(alloc, func)?;
         Ok(Locals {
             func,
             typed,

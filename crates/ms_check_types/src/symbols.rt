@@ -1,5 +1,5 @@
 //! What the names of a module stand for (LLVM Language Reference, "Module Structure"), each found in logarithmic time.
-ghost use Rattle.std.specs.Prelude.{◌≡◌, IfOk, map, option_map, unwrap_or};
+ghost use Rattle.std.specs.Prelude.{◌≡◌, IfOk, option_map, unwrap_or};
 ghost use Rattle.std.specs.Option.{option_copied};
 ghost use Rattle.ms_ir.specs.declared.syntax.Ty as type;
 ghost use Rattle.ms_ir.specs.Layout.{resolved};
@@ -12,18 +12,21 @@ ghost use Rattle.ms_check_types.specs.Callees.{callee_signature};
 use crate::callees::{Callee, Callees};
 use crate::rows::row_of;
 use ms_bits::NoMemory;
-use ms_ir::{GlobalVar, Module, Name, Ty};
-use ms_tables::{NameTable, types_of};
+use ms_ir::{Module, Name, Ty};
+use ms_tables::{NameTable, globals_of, types_of};
 use std::alloc::Global;
 
-fn names_of_globals<'m>(alloc: Global, globals: &'m [GlobalVar]) -> Result<NameTable<'m>, NoMemory>
-    ensures { IfOk result (λ names. names ≡ map (λ g. g.name) globals.now) }
+/// The names of a module's types, and those of its globals.
+fn names_of_types_and_globals<'m>(
+    alloc: Global,
+    m: &'m Module,
+) -> Result<(NameTable<'m>, NameTable<'m>), NoMemory>
+    ensures types { IfOk result (λ names. names.0 ≡ type_names m.now) }
+    ensures globals { IfOk result (λ names. names.1 ≡ global_names m.now) }
 {
-    let mut names = NameTable::new(alloc);
-    for global in globals {
-        names.push(&global.name)?;
-    }
-    Ok(names)
+    let types = types_of(alloc, m)?;
+    let globals = globals_of(alloc, m)?;
+    Ok((types, globals))
 }
 
 /// A module with what its names stand for.
@@ -43,8 +46,7 @@ impl<'m> Symbols<'m> {
     pub fn of(alloc: Global, m: &'m Module) -> Result<Symbols<'m>, NoMemory>
         ensures { IfOk result (λ symbols. symbols.source.now ≡ m.now) }
     {
-        let types = types_of(alloc, m)?;
-        let globals = names_of_globals(alloc, m.globals.as_slice())?;
+        let (types, globals) = names_of_types_and_globals(alloc, m)?;
         let callees = Callees::of(alloc, m)?;
         Ok(Symbols {
             source: m,

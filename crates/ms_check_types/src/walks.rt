@@ -1,7 +1,6 @@
 //! The first mismatch of a module, in the order of its text.
 ghost use Rattle.std.specs.Prelude.{◌≡◌, ◌<◌, ◌^◌, [], IfOk, length, option_map, slice_get};
 ghost use Rattle.ms_ir.specs.Code.{over_funcs};
-ghost use Rattle.ms_ir.specs.Places.{HasSmallNumbers};
 ghost use Rattle.ms_valid.specs.Formed.{count_written};
 ghost use Rattle.ms_valid.specs.TypesAgree.{mismatches};
 ghost use Rattle.ms_check_types.specs.Faults.{as_pair, inst_faults, code_faults, globals_fault};
@@ -28,6 +27,8 @@ impl<'a, 'm> Clause<'m> for TypesAgree<'a, 'm> {
     type Tables = Locals<'m>;
 
     type Fault = (u32, usize);
+
+    ghost Asks = { λ f. Unit {0} };
 
     ghost AreOf = { λ clause f locals. locals.func.now ≡ f };
 
@@ -67,8 +68,7 @@ fn first_in_code<'m>(
     symbols: &Symbols<'m>,
     m: &'m Module,
 ) -> Result<Option<Mismatch>, NoMemory>
-    requires numbers { HasSmallNumbers m.now }
-    requires operands { over_funcs count_written m.now.funcs < 2 ^ 30 }
+    requires { over_funcs count_written m.now.funcs < 2 ^ 30 }
     ensures { IfOk result (λ r. option_map as_pair r ≡ slice_get (code_faults symbols.now.source.now m.now) 0) }
 {
     match first_fault(alloc, &TypesAgree { symbols }, m)? {
@@ -100,7 +100,6 @@ fn first_in_module<'m>(
     m: &'m Module,
 ) -> Result<Option<Mismatch>, NoMemory>
     requires source { symbols.now.source.now ≡ m.now }
-    requires numbers { HasSmallNumbers m.now }
     requires globals { length m.now.globals < 2 ^ 30 }
     requires operands { over_funcs count_written m.now.funcs < 2 ^ 30 }
     ensures { IfOk result (λ r. option_map as_pair r ≡ slice_get (mismatches m.now) 0) }
@@ -114,7 +113,6 @@ fn first_in_module<'m>(
 /// The first mismatch of a module in the order of its text: of the initialisers of its globals, and then of its instructions.
 /// None exactly where all types agree. The one error is want of memory. Near-linear in the module.
 pub fn first_mismatch(alloc: Global, m: &Module) -> Result<Option<Mismatch>, NoMemory>
-    requires numbers { HasSmallNumbers m.now }
     requires globals { length m.now.globals < 2 ^ 30 }
     requires operands { over_funcs count_written m.now.funcs < 2 ^ 30 }
     ensures { IfOk result (λ r. option_map as_pair r ≡ slice_get (mismatches m.now) 0) }

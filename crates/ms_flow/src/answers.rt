@@ -1,7 +1,7 @@
 //! The question, and its answer.
 ghost use Rattle.std.specs.Prelude.{◌≡◌, ◌≢◌, ℕ, ◌<◌, ◌≤◌, ◌^◌, ◌↔◌, ◌⊎◌, false, true, length, take, vec_len, IfOk, OnOk, IfSome, IfNone, IsNone, IsTrue, All, AllPairs, Contains, slice_get, slice_index_or};
 ghost use Rattle.ms_flow.specs.Paths.{Defines, IsDefined, Misses};
-ghost use Rattle.ms_flow.specs.Search.{StaysIn, IsUndefined, StandsAt, Leaves, use_at};
+ghost use Rattle.ms_flow.specs.Search.{StaysIn, IsUndefined, StandsAt, Leaves, Covers, use_at};
 
 use crate::definitions::{definitions, tell};
 use crate::graphs::{Graph, Missing, Use};
@@ -56,10 +56,28 @@ fn undefined_uses(alloc: Global, g: &Graph, uses: &[Use]) -> Result<Vec<bool>, N
         (slice_index_or f.items k false ≡ true) ↔ IsUndefined g.now (use_at uses.now k)) }
 {
     let definitions = definitions(alloc, g)?;
-    let questions = questions(alloc, &definitions, uses)?;
+    undefined_by(alloc, g, uses, &definitions)
+}
+
+/// For each use, whether some path reaches it without one of the graph's definitions, which are given.
+fn undefined_by(
+    alloc: Global,
+    g: &Graph,
+    uses: &[Use],
+    definitions: &[(usize, u32)],
+) -> Result<Vec<bool>, NoMemory>
+    requires same_length { length g.now.next ≡ length g.now.defs }
+    requires successors { StaysIn g.now }
+    requires blocks { All (λ u. u.block < length g.now.next) uses.now }
+    requires definitions { (b v : ℕ) → Contains definitions.now (b, v) ↔ Defines g.now b v }
+    ensures len { IfOk result (λ f. vec_len f ≡ length uses.now) }
+    ensures flags { IfOk result (λ f. (k : ℕ) → k < length uses.now →
+        (slice_index_or f.items k false ≡ true) ↔ IsUndefined g.now (use_at uses.now k)) }
+{
+    let questions = questions(alloc, definitions, uses)?;
     let mut undefined = vec![in alloc; false; uses.len()]?;
     if !questions.is_empty() {
-        ask(alloc, g, uses, &definitions, &questions, &mut undefined)?;
+        ask(alloc, g, uses, definitions, &questions, &mut undefined)?;
     }
     Ok(undefined)
 }
@@ -87,6 +105,34 @@ fn ask(
         (slice_index_or undefined.old k false ≡ true) ⊎ IsUndefined g.now (use_at uses.now k)) }
 {
     let order = order(alloc, g)?;
+    ask_in(alloc, g, &order, uses, definitions, questions, undefined)
+}
+
+/// Marks the uses that are asked about and that some path reaches without a definition, where blocks hand on in an order.
+fn ask_in(
+    alloc: Global,
+    g: &Graph,
+    order: &[usize],
+    uses: &[Use],
+    definitions: &[(usize, u32)],
+    questions: &[(u32, usize)],
+    undefined: &mut [bool],
+) -> Result<(), NoMemory>
+    requires filled { 0 < length g.now.next }
+    requires successors { StaysIn g.now }
+    requires order { All (λ b. b < length g.now.next) order.now }
+    requires all { Covers (length g.now.next) order.now }
+    requires definitions { (b v : ℕ) → Contains definitions.now (b, v) ↔ Defines g.now b v }
+    requires known { All (λ d. d.0 < length g.now.next) definitions.now }
+    requires blocks { All (λ u. u.block < length g.now.next) uses.now }
+    requires places { All (λ q. q.1 < length uses.now) questions.now }
+    requires values { All (λ q. q.0 ≡ (use_at uses.now q.1).value) questions.now }
+    requires flags { length undefined.old ≡ length uses.now }
+    ensures marked { OnOk result (All (λ q.
+        IsUndefined g.now (use_at uses.now q.1) → slice_index_or undefined.new q.1 false ≡ true) questions.now) }
+    ensures right { OnOk result ((k : ℕ) → slice_index_or undefined.new k false ≡ true →
+        (slice_index_or undefined.old k false ≡ true) ⊎ IsUndefined g.now (use_at uses.now k)) }
+{
     let mut kills = vec![in alloc; 0u64; g.len()]?;
     let mut words = vec![in alloc; 0u64; g.len()]?;
     let mut queued = vec![in alloc; false; g.len()]?;
@@ -94,7 +140,7 @@ fn ask(
     while from < questions.len() {
         let (values, count) = first_values(alloc, &questions[from..])?;
         tell(&values, definitions, &mut kills);
-        spread(g, &order, &kills, &mut words, &mut queued);
+        spread(g, order, &kills, &mut words, &mut queued);
         judge(
             &questions[from..from + count],
             uses,

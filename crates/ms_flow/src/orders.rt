@@ -1,5 +1,5 @@
 //! The order in which blocks hand on what arrives at them.
-ghost use Rattle.std.specs.Prelude.{◌≡◌, ℕ, ◌<◌, length, vec_len, true, false, IfOk, OnOk, All, Contains, slice_index_or};
+ghost use Rattle.std.specs.Prelude.{◌≡◌, ℕ, ◌<◌, [], ◌∷◌, length, vec_len, true, false, IfOk, OnOk, All, Contains, slice_index_or};
 ghost use Rattle.ms_flow.specs.Search.{StaysIn, Covers};
 
 use crate::graphs::Graph;
@@ -34,25 +34,53 @@ fn postorder(alloc: Global, g: &Graph) -> Result<Vec<usize>, NoMemory>
     requires successors { StaysIn g.now }
     ensures { IfOk result (λ o. All (λ b. b < length g.now.next) o.items) }
 {
+    let mut steps = first_steps(alloc)?;
     let mut entered = vec![in alloc; false; g.len()]?;
-    let mut steps = Vec::new(alloc);
-    steps.push(Step {
-        block: 0,
-        leaves: false,
-    })?;
     let mut done = Vec::new(alloc);
     for _ in 0..most_steps(g) {
         let Some(step) = steps.pop() else {
             break;
         };
-        if step.leaves {
-            done.push(step.block)?;
-        } else if !entered[step.block] {
-            entered[step.block] = true;
-            enter(g, step.block, &mut steps)?;
-        }
+        take(g, step, &mut entered, &mut steps, &mut done)?;
     }
     Ok(done)
+}
+
+/// The step with which the walk begins, to block 0.
+fn first_steps(alloc: Global) -> Result<Vec<Step>, NoMemory>
+    ensures { IfOk result (λ steps. steps.items ≡ record { block = 0; leaves = false } ∷ []) }
+{
+    let mut steps = Vec::new(alloc);
+    steps.push(Step {
+        block: 0,
+        leaves: false,
+    })?;
+    Ok(steps)
+}
+
+/// Does one step of the walk: leaves its block, or enters it where it isn't entered yet.
+fn take(
+    g: &Graph,
+    step: Step,
+    entered: &mut [bool],
+    steps: &mut Vec<Step>,
+    done: &mut Vec<usize>,
+) -> Result<(), NoMemory>
+    requires block { step.block < length g.now.next }
+    requires successors { StaysIn g.now }
+    requires entered { length entered.old ≡ length g.now.next }
+    requires steps { All (λ s. s.block < length g.now.next) steps.old.items }
+    requires done { All (λ b. b < length g.now.next) done.old.items }
+    ensures steps { OnOk result (All (λ s. s.block < length g.now.next) steps.new.items) }
+    ensures done { OnOk result (All (λ b. b < length g.now.next) done.new.items) }
+{
+    if step.leaves {
+        done.push(step.block)?;
+    } else if !entered[step.block] {
+        entered[step.block] = true;
+        enter(g, step.block, steps)?;
+    }
+    Ok(())
 }
 
 /// Adds the steps to a block's successors, and behind them the one that leaves the block.

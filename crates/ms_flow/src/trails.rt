@@ -1,5 +1,5 @@
 //! One path that a value takes without a definition.
-ghost use Rattle.std.specs.Prelude.{◌≡◌, ◌≢◌, ℕ, ◌+◌, ◌<◌, List, ◌∷◌, length, take, vec_len, IfOk, OnOk, IfSome, IfNone, AllPairs};
+ghost use Rattle.std.specs.Prelude.{◌≡◌, ◌≢◌, ℕ, ◌+◌, ◌<◌, List, [], ◌∷◌, length, take, vec_len, IfOk, OnOk, IfSome, IfNone, AllPairs};
 ghost use Rattle.ms_flow.specs.Paths.{Misses, HasEdge, Defines};
 ghost use Rattle.ms_flow.specs.Search.{StaysIn, Arrives, IsUndefined};
 ghost use Rattle.ms_flow.specs.Walks.{IsWalk, Marks, Trail, Visits, block_at, from_at, unseen};
@@ -34,10 +34,9 @@ fn walk(alloc: Global, g: &Graph, value: u32) -> Result<Vec<Visit>, NoMemory>
     ensures all { IfOk result (λ v.
         (b : ℕ) → Arrives g.now (λ a. Defines g.now a value) b → Visits v.items b) }
 {
+    let mut visits = first_visits(alloc)?;
     let mut seen = vec![in alloc; false; g.len()]?;
     seen[0] = true;
-    let mut visits = Vec::new(alloc);
-    visits.push(Visit { block: 0, from: 0 })?;
     let mut at = 0;
     while at < visits.len() {
         let block = visits[at].block as usize;
@@ -46,6 +45,15 @@ fn walk(alloc: Global, g: &Graph, value: u32) -> Result<Vec<Visit>, NoMemory>
         }
         at += 1;
     }
+    Ok(visits)
+}
+
+/// The visit with which the walk begins, to block 0.
+fn first_visits(alloc: Global) -> Result<Vec<Visit>, NoMemory>
+    ensures { IfOk result (λ v. v.items ≡ record { block = 0; from = 0 } ∷ []) }
+{
+    let mut visits = Vec::new(alloc);
+    visits.push(Visit { block: 0, from: 0 })?;
     Ok(visits)
 }
 

@@ -1,8 +1,8 @@
 -- A list at an item that a loop has come to.
-use Rattle.std.proofs.Common.{◌≡◌, ℕ, ◌+◌, ◌<◌, List, [], ◌∷◌, ◌++◌, Option, Some, None, length, get_or, take, drop, refl, sym, ◌∙◌, ap, suc, drop-cons, add-one}
-use Rattle.std.specs.Prelude.{IfNone, IfOk, Result, Ok, Err, slice_get}
+use Rattle.std.proofs.Common.{◌≡◌, ℕ, zero, suc, ◌+◌, ◌<◌, List, [], ◌∷◌, ◌++◌, Option, Some, None, length, get_or, take, drop, map, refl, sym, ◌∙◌, ap, drop-cons, add-one, append_assoc}
+use Rattle.std.specs.Prelude.{IfNone, IfOk, Result, Ok, Err, option_to_list, slice_get}
 use Rattle.std.specs.Option.{option_or}
-use Rattle.std.proofs.lemmas.List.{take_more}
+use Rattle.std.proofs.lemmas.List.{take_more, map-append}
 
 -- what is left begins with the item
 pub drop_item : {A : Type 0} (items : List A) (i : ℕ) (item : A) → i < length items → item ≡ get_or items i item → drop i items ≡ item ∷ drop (i + 1) items
@@ -11,6 +11,20 @@ drop_item items i item below is = drop-cons items i item below ∙ ap (λ x. x �
 -- what is done ends with it behind the next step
 pub take_item : {A : Type 0} (items : List A) (i : ℕ) (item : A) → i < length items → item ≡ get_or items i item → take (i + 1) items ≡ take i items ++ item ∷ []
 take_item items i item below is = take_more items i item below ∙ ap (λ x. take i items ++ x ∷ []) (sym is)
+
+-- one item more, if there is one more
+pub one_more : {A : Type 0} (items : List A) (k : ℕ) → take (suc k) items ≡ take k items ++ option_to_list (slice_get items k)
+one_more [] zero = refl
+one_more [] (suc k) = refl
+one_more (x ∷ items) zero = refl
+one_more (x ∷ items) (suc k) = ap (λ r. x ∷ r) (one_more items k)
+
+-- what stands for the items so far, and for one more
+pub mapped_next : {A B : Type 0} (f : A → B) (items : List A) (k : ℕ) (start before after : List B) → after ≡ before ++ map f (option_to_list (slice_get items k))
+    → before ≡ start ++ map f (take k items) → after ≡ start ++ map f (take (k + 1) items)
+mapped_next f items k start before after next so_far =
+    next ∙ ap (λ r. r ++ map f (option_to_list (slice_get items k))) so_far ∙ append_assoc start (map f (take k items)) (map f (option_to_list (slice_get items k)))
+    ∙ ap (λ r. start ++ r) (sym (map-append f (take k items) (option_to_list (slice_get items k))) ∙ ap (map f) (sym (ap (λ n. take n items) (add-one k) ∙ one_more items k)))
 
 -- an answer that holds nothing is none
 pub none_left : {A : Type 0} (answer : Option A) → ((x : A) → answer ≡ Some x → ⊥) → answer ≡ None

@@ -1,9 +1,6 @@
 -- The first that a walk finds, at the item that a loop has come to.
 use Rattle.std.proofs.Common.{◌≡◌, ℕ, ◌+◌, ◌<◌, List, [], ◌∷◌, ◌++◌, Option, Some, None, length, get_or, drop, suc, sym, ap, ◌∙◌, arith}
 use Rattle.std.specs.Prelude.{◌^◌, All, option_map, unwrap_or, slice_get}
-use Rattle.std.proofs.lemmas.List.Elements.{All-nil, All-cons, All-get_or}
-use Rattle.ms_ir.specs.declared.syntax.Module.{Module}
-use Rattle.ms_ir.specs.Places.{HasSmallNumbers}
 use Rattle.std.specs.Option.{option_or}
 use Rattle.ms_ir.specs.declared.syntax.Inst.{Inst}
 use Rattle.ms_ir.specs.declared.syntax.Block.{Block}
@@ -11,20 +8,6 @@ use Rattle.ms_ir.specs.declared.syntax.Func.{Func}
 use Rattle.ms_ir.specs.Code.{one_unmarked, over_insts, over_blocks, over_funcs}
 use Rattle.ms_tables.proofs.Items.{drop_item, first-append, first-append-two}
 use Rattle.ms_ir.specs.Spots.{Spot, spot, next_spot, over_spots, over_block_spots, over_func_spots}
-
--- ---- small numbers
-
-few_below : (funcs : List Func) → ((f : ℕ) → length (unwrap_or (option_map (λ g. g.blocks) (slice_get funcs f)) []) < 2 ^ 32) → All (λ f. length f.blocks < 2 ^ 32) funcs
-few_below [] h = All-nil (λ f. length f.blocks < 2 ^ 32)
-few_below (f ∷ rest) h = All-cons (λ g. length g.blocks < 2 ^ 32) f rest (h 0) (few_below rest (λ i. h (suc i)))
-
--- each function has few blocks
-pub few_blocks : (m : Module) → HasSmallNumbers m → All (λ f. length f.blocks < 2 ^ 32) m.funcs
-few_blocks m small = few_below m.funcs small.blocks
-
--- the function that a loop has come to
-pub few_here : (funcs : List Func) (i : ℕ) (f : Func) → i < length funcs → f ≡ get_or funcs i f → All (λ g. length g.blocks < 2 ^ 32) funcs → length f.blocks < 2 ^ 32
-few_here funcs i f below is all = rw (ap (λ g. length g.blocks < 2 ^ 32) is) (All-get_or (λ g. length g.blocks < 2 ^ 32) funcs i f below all)
 
 -- ---- sums
 

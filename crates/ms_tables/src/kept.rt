@@ -2,13 +2,14 @@
 //!
 //! A chain of one more link is laid out from the layouts of those that are shorter, so a named type is looked up
 //! at its mention, and not laid out again.
-ghost use Rattle.std.specs.Prelude.{◌≡◌, ◌+◌, ◌<◌, ◌-◌, ◌^◌, All, map, option_map, IfOk, IfSome, OnOk};
+ghost use Rattle.std.specs.Prelude.{◌≡◌, ◌+◌, ◌<◌, ◌-◌, ◌^◌, All, map, None, option_map, IfOk, IfSome, OnOk};
 ghost use Rattle.ms_ir.specs.Names.{lookup};
 ghost use Rattle.ms_ir.specs.Layout.{extent, place_fields, type_extent, named_extent};
 ghost use Rattle.ms_ir.specs.Extents.{IsLayout, limit_extent, as_extent};
 ghost use Rattle.ms_tables.specs.Kept.{Links, links_of, laid_rows};
 
 use crate::NameTable;
+use crate::defined::names_of;
 use ms_bits::NoMemory;
 use ms_ir::layouts::{Layout, int_align, pad, place_field, repeat};
 use ms_ir::{Name, Ty};
@@ -39,17 +40,20 @@ impl<'m> Model for Kept<'m> {
     ghost invariant = { λ k. IsKept k.types.now k.names k.links k.layouts.items };
 }
 
+/// No layout, for each of some named types.
+fn no_layouts(alloc: Global, types: &[(Name, Ty)]) -> Result<Vec<Option<Layout>>, NoMemory>
+    ensures { IfOk result (λ rows. rows.items ≡ map (λ t. None) types.now) }
+{
+    types.iter().map(|_| None).collect(alloc)
+}
+
 impl<'m> Kept<'m> {
     /// Chains of no link, so no named type has a layout.
     pub fn new(alloc: Global, types: &'m [(Name, Ty)]) -> Result<Kept<'m>, NoMemory>
         ensures { IfOk result (λ k. k ≡ links_of types.now 0) }
     {
-        let mut names = NameTable::new(alloc);
-        let mut layouts = Vec::with_capacity(alloc, types.len())?;
-        for (name, _) in types {
-            names.push(name)?;
-            layouts.push(None)?;
-        }
+        let names = names_of(alloc, types)?;
+        let layouts = no_layouts(alloc, types)?;
         Ok(Kept {
             types,
             names,

@@ -18,7 +18,10 @@ mod targets;
 mod uses;
 pub mod walk;
 
-pub use defined::{functions_of, locals_of, symbols_of, types_of};
+pub use defined::{
+    blocks_of, declarations_of, functions_of, globals_of, locals_of, parameters_of, symbols_of,
+    types_of,
+};
 pub use extents::Extents;
 pub use here::Here;
 pub use named::Named;

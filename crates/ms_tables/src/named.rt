@@ -3,7 +3,7 @@ ghost use Rattle.std.specs.Prelude.{◌≡◌, Some, Option};
 ghost use Rattle.std.specs.Option.{option_copied};
 ghost use Rattle.ms_ir.specs.declared.syntax.Name.{Name};
 
-use ms_ir::{Decl, Func, GlobalVar, Inst, Name, Ty};
+use ms_ir::{Block, Decl, Func, GlobalVar, Inst, Name, Ty};
 
 /// A part of a module that may give a name.
 pub trait Named {
@@ -48,6 +48,14 @@ impl Named for (Ty, Name) {
 
 impl Named for Func {
     ghost name_of = { λ f. Some f.name };
+
+    fn given_name(&self) -> Option<&Name> {
+        Some(&self.name)
+    }
+}
+
+impl Named for Block {
+    ghost name_of = { λ b. Some b.name };
 
     fn given_name(&self) -> Option<&Name> {
         Some(&self.name)

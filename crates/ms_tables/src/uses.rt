@@ -1,7 +1,7 @@
 //! The first name that is sought in instructions and their parts.
-ghost use Rattle.std.specs.Prelude.{◌≡◌, ◌≤◌, ◌++◌, [], ◌∷◌, List, length, map, flat_map, slice_get, option_and_then};
+ghost use Rattle.std.specs.Prelude.{◌≡◌, ◌++◌, [], ◌∷◌, List, map, flat_map, slice_get, option_and_then};
 ghost use Rattle.ms_ir.specs.Code.{operands};
-ghost use Rattle.ms_ir.specs.Written.{Mention, OfLocal, type_mentions, operand_mentions, operands_mentions, labels, mentions};
+ghost use Rattle.ms_ir.specs.Written.{Mention, OfLocal, type_mentions, operand_mentions, operands_mentions, targets, mentions};
 ghost use Rattle.ms_valid.specs.NamesKnown.{global_mentions};
 ghost use Rattle.ms_tables.specs.Sought.{first_sought};
 
@@ -30,27 +30,11 @@ pub fn first_among<'n, S: Search, T: Uses<S>>(search: &S, parts: &'n [T]) -> Opt
     None
 }
 
-impl<S: Search> Uses<S> for (Ty, Operand) {
-    ghost mentions_of = { λ o. operand_mentions o.1 };
-
-    fn first_in(&self, search: &S) -> Option<Spelled<'_>> {
-        in_operand(search, &self.1)
-    }
-}
-
 impl<S: Search> Uses<S> for (Operand, Name) {
     ghost mentions_of = { λ e. operand_mentions e.0 ++ OfLocal e.1 ∷ [] };
 
     fn first_in(&self, search: &S) -> Option<Spelled<'_>> {
         in_operand(search, &self.0).or(local_sought(search, &self.1))
-    }
-}
-
-impl<S: Search> Uses<S> for (u64, Name) {
-    ghost mentions_of = { λ c. OfLocal c.1 ∷ [] };
-
-    fn first_in(&self, search: &S) -> Option<Spelled<'_>> {
-        local_sought(search, &self.1)
     }
 }
 
@@ -70,43 +54,48 @@ impl<S: Search> Uses<S> for GlobalVar {
     }
 }
 
-/// What is sought in the operand with a place.
-fn in_operand_at<'n, S: Search>(search: &S, op: &'n Op, k: usize) -> Option<Spelled<'n>>
-    ensures { result ≡ option_and_then (λ o. first_sought (S.sought search.now) (operand_mentions o)) (slice_get (map (λ o. o.1) (operands op.now)) k) }
+/// What is sought in the operand with a place, if there is one.
+fn in_operand_at<'n, S: Search>(search: &S, op: &'n Op, place: usize) -> Option<Spelled<'n>>
+    ensures { result ≡ option_and_then (λ o. first_sought (S.sought search.now) (operand_mentions o)) (slice_get (map (λ o. o.1) (operands op.now)) place) }
 {
-    match op.operand(k) {
+    match op.operand(place) {
         Some(operand) => in_operand(search, operand),
         None => None,
     }
 }
 
-/// What is sought in the label with a place.
-fn in_label_at<'n, S: Search>(search: &S, op: &'n Op, k: usize) -> Option<Spelled<'n>>
-    ensures { result ≡ option_and_then (λ x. first_sought (S.sought search.now) (OfLocal x ∷ [])) (slice_get (labels op.now) k) }
+/// The first that is sought in the operands of an instruction.
+fn in_operands<'n, S: Search>(search: &S, op: &'n Op) -> Option<Spelled<'n>>
+    ensures { result ≡ first_sought (S.sought search.now) (operands_mentions (operands op.now)) }
 {
-    match op.label(k) {
-        Some(label) => local_sought(search, label),
+    for place in 0..op.operand_count() {
+        if let Some(spelled) = in_operand_at(search, op, place) {
+            return Some(spelled);
+        }
+    }
+    None
+}
+
+/// What is sought in the label with a place among those to which an instruction may go, if there is one.
+fn in_target_at<'n, S: Search>(search: &S, op: &'n Op, place: usize) -> Option<Spelled<'n>>
+    ensures { result ≡ option_and_then (λ x. first_sought (S.sought search.now) (OfLocal x ∷ [])) (slice_get (targets op.now) place) }
+{
+    match op.target(place) {
+        Some(to) => local_sought(search, to),
         None => None,
     }
 }
 
-/// What is sought in the operands of an instruction that has at most three.
-fn in_operands<'n, S: Search>(search: &S, op: &'n Op) -> Option<Spelled<'n>>
-    requires { length (operands op.now) ≤ 3 }
-    ensures { result ≡ first_sought (S.sought search.now) (operands_mentions (operands op.now)) }
+/// The first that is sought in the labels to which an instruction may go.
+fn in_targets<'n, S: Search>(search: &S, op: &'n Op) -> Option<Spelled<'n>>
+    ensures { result ≡ first_sought (S.sought search.now) (map OfLocal (targets op.now)) }
 {
-    let first = in_operand_at(search, op, 0);
-    first
-        .or(in_operand_at(search, op, 1))
-        .or(in_operand_at(search, op, 2))
-}
-
-/// What is sought in the labels of an instruction that has at most two.
-fn in_labels<'n, S: Search>(search: &S, op: &'n Op) -> Option<Spelled<'n>>
-    requires { length (labels op.now) ≤ 2 }
-    ensures { result ≡ first_sought (S.sought search.now) (map OfLocal (labels op.now)) }
-{
-    in_label_at(search, op, 0).or(in_label_at(search, op, 1))
+    for place in 0..op.target_count() {
+        if let Some(spelled) = in_target_at(search, op, place) {
+            return Some(spelled);
+        }
+    }
+    None
 }
 
 impl<S: Search> Uses<S> for Op {
@@ -115,22 +104,12 @@ impl<S: Search> Uses<S> for Op {
     fn first_in(&self, search: &S) -> Option<Spelled<'_>> {
         match self {
             Op::Phi { edges, .. } => first_among(search, edges.as_slice()),
-            Op::Alloca { ty, count, .. } => in_type(search, ty).or(in_operand(search, count)),
-            Op::Gep { ty, base, indices } => in_type(search, ty)
-                .or(in_operand(search, base))
-                .or(first_among(search, indices.as_slice())),
-            Op::Call { callee, args, .. } => {
-                global_sought(search, callee).or(first_among(search, args.as_slice()))
+            Op::Alloca { ty, .. } => in_type(search, ty).or(in_operands(search, self)),
+            Op::Gep { ty, .. } => in_type(search, ty).or(in_operands(search, self)),
+            Op::Call { callee, .. } => {
+                global_sought(search, callee).or(in_operands(search, self))
             }
-            Op::Switch {
-                value,
-                other,
-                cases,
-                ..
-            } => in_operand(search, value)
-                .or(local_sought(search, other))
-                .or(first_among(search, cases.as_slice())),
-            _ => in_operands(search, self).or(in_labels(search, self)),
+            _ => in_operands(search, self).or(in_targets(search, self)),
         }
     }
 }

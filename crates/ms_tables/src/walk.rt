@@ -1,7 +1,7 @@
 //! The first fault that a clause finds in the functions of a module.
 ghost use Rattle.std.specs.Prelude.{◌≡◌, ◌+◌, ◌++◌, ◌<◌, ◌^◌, All, length, IfOk, IfNone, slice_get};
 ghost use Rattle.ms_ir.specs.Code.{one_unmarked, over_insts, over_blocks, over_funcs};
-ghost use Rattle.ms_ir.specs.Places.{HasSmallNumbers};
+ghost use Rattle.ms_ir.specs.Places.{count_sites};
 ghost use Rattle.ms_ir.specs.Spots.{spot, over_spots, over_block_spots, over_func_spots, found};
 
 use crate::here::Here;
@@ -16,11 +16,14 @@ pub trait Clause<'m> {
     /// What is found.
     type Fault;
 
-    ghost use Rattle.std.specs.Prelude.{◌≡◌, ◌<◌, ◌^◌, List, IfOk, IfNone, slice_get, length};
+    ghost use Rattle.std.specs.Prelude.{◌≡◌, ◌<◌, List, IfOk, IfNone, slice_get, length};
     ghost use Rattle.ms_ir.specs.declared.syntax.Inst.{Inst as Looked};
     ghost use Rattle.ms_ir.specs.declared.syntax.Func.{Func as Around};
     ghost use Rattle.ms_ir.specs.Spots.{Spot};
     ghost use Rattle.ms_tables.specs.Here.{spot_of};
+
+    /// What is asked of a function before its tables are made.
+    ghost Asks: { Around → Type 0 };
 
     ghost AreOf: { Self → Around → Self.Tables → Type 0 };
 
@@ -34,7 +37,7 @@ pub trait Clause<'m> {
 
     /// The tables of a function. The one error is want of memory.
     fn enter(&self, alloc: Global, func: &'m Func) -> Result<Self::Tables, NoMemory>
-        requires { length func.now.blocks < 2 ^ 32 }
+        requires { Asks func.now }
         ensures { IfOk result (λ t. AreOf self.now func.now t) };
 
     /// The first fault of an instruction. The one error is want of memory.
@@ -122,7 +125,7 @@ fn first_in_code<'m, C: Clause<'m>>(
     site: &mut u32,
     func: &'m Func,
 ) -> Result<Option<C::Fault>, NoMemory>
-    requires blocks { length func.now.blocks < 2 ^ 32 }
+    requires asked { C.Asks func.now }
     requires few { site.old + over_blocks one_unmarked func.now.blocks < 2 ^ 32 }
     ensures first { IfOk result (λ r. r ≡ slice_get (over_block_spots (C.look clause.now) func.now 0 site.old func.now.blocks) 0) }
     ensures site { IfOk result (λ r. IfNone r (site.new ≡ site.old + over_blocks one_unmarked func.now.blocks)) }
@@ -145,7 +148,7 @@ fn first_in_func<'m, C: Clause<'m>>(
     site: &mut u32,
     func: &'m Func,
 ) -> Result<Option<C::Fault>, NoMemory>
-    requires blocks { length func.now.blocks < 2 ^ 32 }
+    requires asked { C.Asks func.now }
     requires few { site.old + over_blocks one_unmarked func.now.blocks < 2 ^ 32 }
     ensures first { IfOk result (λ r. r ≡ slice_get (C.head clause.now func.now ++ over_block_spots (C.look clause.now) func.now 0 site.old func.now.blocks) 0) }
     ensures site { IfOk result (λ r. IfNone r (site.new ≡ site.old + over_blocks one_unmarked func.now.blocks)) }
@@ -162,7 +165,7 @@ fn first_in_funcs<'m, C: Clause<'m>>(
     clause: &C,
     funcs: &'m [Func],
 ) -> Result<Option<C::Fault>, NoMemory>
-    requires blocks { All (λ f. length f.blocks < 2 ^ 32) funcs.now }
+    requires asked { All C.Asks funcs.now }
     requires few { 1 + over_funcs one_unmarked funcs.now < 2 ^ 32 }
     ensures { IfOk result (λ r. r ≡ slice_get (over_func_spots (C.head clause.now) (C.look clause.now) 1 funcs.now) 0) }
 {
@@ -176,13 +179,14 @@ fn first_in_funcs<'m, C: Clause<'m>>(
 }
 
 /// The first fault of a clause in the functions of a module, in text order. The one error is want of memory. Sites have 32
-/// bits in every module that is read.
+/// bits in every module that is read, and each function has what the clause asks.
 pub fn first_fault<'m, C: Clause<'m>>(
     alloc: Global,
     clause: &C,
     m: &'m Module,
 ) -> Result<Option<C::Fault>, NoMemory>
-    requires { HasSmallNumbers m.now }
+    requires sites { 1 + count_sites m.now < 2 ^ 32 }
+    requires asked { All C.Asks m.now.funcs }
     ensures { IfOk result (λ r. r ≡ slice_get (found (C.head clause.now) (C.look clause.now) m.now) 0) }
 {
     first_in_funcs(alloc, clause, m.funcs.as_slice())

@@ -24,11 +24,12 @@ insts_written (i ∷ xs) =
     let rest : (over_insts one_unmarked xs ≤ over_insts count_written xs) × (length xs ≤ over_insts count_written xs) = insts_written xs in
     (omega (arith, rest.0, one_at_most i.marked 0), omega (arith, rest.1))
 
-blocks_written : (bs : List Block) → over_blocks one_unmarked bs ≤ over_blocks count_written bs
+pub blocks_written : (bs : List Block) → over_blocks one_unmarked bs ≤ over_blocks count_written bs
 blocks_written [] = omega arith
 blocks_written (b ∷ bs) = omega (arith, blocks_written bs, (insts_written b.insts).0)
 
-funcs_written : (fs : List Func) → over_funcs one_unmarked fs ≤ over_funcs count_written fs
+-- each unmarked instruction is written
+pub funcs_written : (fs : List Func) → over_funcs one_unmarked fs ≤ over_funcs count_written fs
 funcs_written [] = omega arith
 funcs_written (f ∷ fs) = omega (arith, funcs_written fs, blocks_written f.blocks)
 

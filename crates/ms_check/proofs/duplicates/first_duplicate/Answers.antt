@@ -1,28 +1,6 @@
-use Rattle.std.proofs.Common.{◌≡◌, ◌++◌, [], None, ◌∙◌, ap, sym}
-use Rattle.std.specs.Prelude.{slice_get}
+use Rattle.std.proofs.Common.{sym, ap, ◌∙◌}
 use Rattle.std.specs.Option.{option_copied}
-use Rattle.ms_ir.specs.Locals.{global_names, declared_names, type_names}
-use Rattle.ms_valid.specs.NamesOnce.{repeats, function_duplicates}
-use Rattle.ms_tables.proofs.Items.{none_left, none_then, under_ok}
-use Rattle.ms_check.proofs.Repeated.{symbol_fault, function_fault}
 use Rattle.ms_check.proofs.duplicates.first_duplicate.Goals as goal
 
-pub returns-in-Some-2 : goal.returns-in-Some-2
-returns-in-Some-2 c =
-    let m = c.args.m.now in
-    let types : slice_get (repeats [] (type_names m)) 0 ≡ None = sym c.in_ok-name.ensures ∙ ap option_copied (none_left c.in_ok-name.field-0 c.in_default.not-Some) in
-    sym (symbol_fault m c.in-Some-2.name.now types
-    (ap (λ seen. slice_get (repeats seen (global_names m ++ declared_names m)) 0) (sym c.new-symbols.ensures) ∙ sym c.in_ok-name-2.ensures.first ∙ ap option_copied c.in-Some-2.is))
-
-pub returns : goal.returns
-returns c =
-    let m = c.args.m.now in
-    let names = global_names m ++ declared_names m in
-    let types : slice_get (repeats [] (type_names m)) 0 ≡ None = sym c.in_ok-name.ensures ∙ ap option_copied (none_left c.in_ok-name.field-0 c.in_default.not-Some) in
-    let once : slice_get (repeats [] names) 0 ≡ None =
-    ap (λ seen. slice_get (repeats seen names) 0) (sym c.new-symbols.ensures) ∙ sym c.in_ok-name-2.ensures.first ∙ ap option_copied c.in-None.is in
-    let symbols : c.symbol_twice.new.symbols ≡ names =
-    none_then c.in_ok-name-2.field-0 (c.symbol_twice.new.symbols ≡ c.new-symbols.result ++ names) c.in-None.is c.in_ok-name-2.ensures.symbols ∙ ap (λ seen. seen ++ names) c.new-symbols.ensures in
-    under_ok c.functions_twice.result _ _ (λ r p.
-    p ∙ ap (λ funcs. slice_get (function_duplicates c.symbol_twice.new.symbols funcs) 0) c.as_slice.ensures ∙ function_fault m c.symbol_twice.new.symbols types once symbols
-    ) c.functions_twice.ensures
+pub first_symbol_twice-requires : goal.first_symbol_twice-requires
+first_symbol_twice-requires c = sym c.in_ok-name.ensures ∙ ap option_copied c.in-None.is

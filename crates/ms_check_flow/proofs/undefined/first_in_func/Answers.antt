@@ -9,13 +9,14 @@ use Rattle.ms_valid.specs.Paths.{block_successors}
 use Rattle.ms_check_flow.specs.declared.here.NotedUse.{NotedUse}
 use Rattle.ms_check_flow.specs.Asked.{func_uses}
 use Rattle.ms_check_flow.specs.Noted.{numbers_in, blocks_noted}
-use Rattle.ms_check_flow.proofs.PathCounts.{blocks_counted, blocks_few}
+use Rattle.ms_valid.proofs.SmallNumbers.{blocks_written}
+use Rattle.ms_check_flow.proofs.PathCounts.{blocks_few}
 use Rattle.ms_check_flow.proofs.Judged.{InBlock, func_own, place_of, places_of, places_within, all_defined, first_found}
 use Rattle.ms_check_flow.proofs.Ties.{asked, func_tied}
 use Rattle.ms_check_flow.proofs.undefined.first_in_func.Goals as goal
 
 pub asked_of-requires-clause-few : goal.asked_of-requires-clause-few
-asked_of-requires-clause-few c = omega (arith, c.requires.few_operands, blocks_counted c.args.func.now.blocks)
+asked_of-requires-clause-few c = omega (arith, c.requires.few_operands, blocks_written c.args.func.now.blocks)
 
 pub missing-requires-clause-blocks : goal.missing-requires-clause-blocks
 missing-requires-clause-blocks c =

@@ -1,52 +1,8 @@
-use Rattle.std.proofs.Common.{◌≡◌, ℕ, ◌<◌, false, true, Bool, List, length, get_or, vec_len, sym, ap, ◌∙◌, subst, arith, All, ◌⊎◌, ◌↔◌}
-use Rattle.std.proofs.lemmas.Bool.{eqb-false, eqb-true}
-use Rattle.std.proofs.lemmas.List.{with_items_is}
-use Rattle.ms_flow.specs.Search.{IsUndefined, use_at}
-use Rattle.ms_flow.proofs.Visited.{blank_flags}
-use Rattle.ms_flow.proofs.Answered.{Known, AskedAt, known_blocks, flags_answer, flags_none}
+use Rattle.std.proofs.Common.{ℕ, List, sym, subst}
+use Rattle.ms_flow.proofs.Answered.{Known}
 use Rattle.ms_flow.proofs.answers.undefined_uses.Goals as goal
-use Rattle.ms_flow.proofs.answers.undefined_uses.Goals.{then-not-is_empty+in_ok-ask, else-not-is_empty}
 
-pub ask-requires-clause-filled : goal.ask-requires-clause-filled
-ask-requires-clause-filled c =
-    let qs = c.in_ok-questions.questions.items in
-    let ne = eqb-false (vec_len c.in_ok-questions.questions) 0 (sym c.is_empty.ensures ∙ c.if-not-is_empty.true) in
-    let some : 0 < length qs = omega (arith, ne, c.in_ok-questions.questions.ok.0) in
-    let place = c.in_ok-questions.ensures.places 0 (0, 0) some in
-    let block = c.requires.blocks (get_or qs 0 (0, 0)).1 (record { block = 0; value = 0; after = false }) place in
-    omega arith
-
-pub ask-requires-clause-definitions : goal.ask-requires-clause-definitions
-ask-requires-clause-definitions c =
+pub undefined_by-requires-clause-definitions : goal.undefined_by-requires-clause-definitions
+undefined_by-requires-clause-definitions c =
     let P : List (ℕ × ℕ) → Type 0 = λ l. Known c.args.g.now l in
-    subst P (sym c.deref-then-not-is_empty.ensures.value) c.in_ok-definitions.ensures
-
-pub ask-requires-clause-known : goal.ask-requires-clause-known
-ask-requires-clause-known c =
-    let P : List (ℕ × ℕ) → Type 0 = λ l. All (λ d. d.0 < length c.args.g.now.next) l in
-    subst P (sym c.deref-then-not-is_empty.ensures.value) (known_blocks c.args.g.now c.in_ok-definitions.definitions.items c.requires.same_length c.in_ok-definitions.ensures)
-
-pub returns-clause-flags : goal.returns-clause-flags
-returns-clause-flags c k lt =
-    let g = c.args.g.now in
-    let uses = c.args.uses.now in
-    let defs = c.in_ok-definitions.definitions.items in
-    let qs = c.in_ok-questions.questions.items in
-    let made = c.in_ok-undefined.undefined in
-    let blank = blank_flags made.items _ (c.in_ok-undefined.ensures.items_if_clones_equal (λ y e. e)) in
-    let A : List (ℕ × ℕ) → Type 0 = λ l. AskedAt uses l qs k in
-    let asked = subst A c.deref.ensures.value (c.in_ok-questions.ensures.asked k lt) in
-    elim c.if-not-is_empty.branch [
-      | then-not-is_empty+in_ok-ask w ↦
-          let flags = w.ask.new.undefined in
-          let size : length flags ≡ made.len = omega (arith, w.deref_mut.ensures.len, w.ask.auto.undefined) in
-          let M : List (ℕ × ℕ) → Type 0 = λ l. All (λ q. IsUndefined g (use_at uses q.1) → get_or flags q.1 false ≡ true) l in
-          let marked = subst M w.deref-then-not-is_empty-2.ensures.value w.in_ok-ask.ensures.marked in
-          let R : List Bool → Type 0 = λ l. get_or flags k false ≡ true → (get_or l k false ≡ true) ⊎ IsUndefined g (use_at uses k) in
-          let right = subst R w.deref_mut.ensures.value (w.in_ok-ask.ensures.right k) in
-          rw (w.undefined-is, with_items_is made flags size)
-          (flags_answer g uses defs qs made.items flags k c.in_ok-definitions.ensures asked blank marked right)
-      | else-not-is_empty w ↦
-          let none = eqb-true (vec_len c.in_ok-questions.questions) 0 (sym c.is_empty.ensures ∙ w.if-not-is_empty.false) in
-          rw w.undefined-is (flags_none g uses defs qs made.items k c.in_ok-definitions.ensures asked blank (omega (arith, none, c.in_ok-questions.questions.ok.0)))
-    ]
+    subst P (sym c.deref.ensures.value) c.in_ok-definitions.ensures

@@ -14,7 +14,7 @@ pub loop-at-init : goal.loop-at-init
 loop-at-init c =
     let blank = c.in_ok-seen.ensures.items_if_clones_equal (λ y e. e) in
     let size : length c.in_ok-seen.seen.items ≡ length c.args.g.now.next = omega (arith, c.in_ok-seen.seen.ok.0, c.in_ok-seen.ensures.len) in
-    rw (c.in_ok-push.ensures.items, c.new-visits.ensures.items) record {
+    rw c.in_ok-visits.ensures record {
       walk = first_walk c.args.g.now c.args.value;
       marks = first_marks c.in_ok-seen.seen.items (omega arith) (blank_flags c.in_ok-seen.seen.items _ blank);
       closed = λ k h. absurd (omega arith);

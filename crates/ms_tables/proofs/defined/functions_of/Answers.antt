@@ -1,8 +1,7 @@
-use Rattle.std.proofs.Common.{◌++◌, Some, ◌∙◌, ap, filter_map}
+use Rattle.std.proofs.Common.{◌∙◌}
 use Rattle.ms_tables.proofs.Given.{given_is}
+use Rattle.ms_tables.proofs.Items.{under_ok}
 use Rattle.ms_tables.proofs.defined.functions_of.Goals as goal
 
 pub returns : goal.returns
-returns c =
-    c.in_ok-push_all.ensures ∙ ap (λ names. names ++ filter_map (λ f. Some f.name) c.as_slice.result.now) c.new-names.ensures
-    ∙ given_is (λ f. f.name) c.as_slice.result.now c.args.m.now.funcs c.as_slice.ensures
+returns c = under_ok c.names_of.result _ _ (λ _ is. is ∙ given_is (λ f. f.name) c.as_slice.result.now c.args.m.now.funcs c.as_slice.ensures) c.names_of.ensures

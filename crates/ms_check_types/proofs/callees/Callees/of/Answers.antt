@@ -1,8 +1,7 @@
-use Rattle.std.proofs.Common.{ap, ◌∙◌, map}
 use Rattle.ms_check_types.proofs.callees.Callees.of.Goals as goal
 
 pub invariant_of-result : goal.invariant_of-result
 invariant_of-result c = record {
-  decls_are = c.in_ok-decls.ensures ∙ ap (map (λ d. d.name)) c.as_slice.ensures;
+  decls_are = c.in_ok-decls.ensures;
   funcs_are = c.in_ok-funcs.ensures;
 }

@@ -1,10 +1,8 @@
-use Rattle.std.proofs.Common.{ap, ◌∙◌, map, None, take_all}
+use Rattle.std.proofs.Common.{◌∙◌}
 use Rattle.ms_tables.proofs.ExtentRows.{none_kept}
+use Rattle.ms_tables.proofs.Given.{all_given}
 use Rattle.ms_tables.proofs.kept.Kept.new.Goals as goal
 
 pub invariant_of-result : goal.invariant_of-result
 invariant_of-result c =
-    let all = take_all c.loop-name.name-index c.args.types.now c.loop-name-test.false in
-    none_kept c.args.types.now c.loop-name.names c.loop-name.layouts.items
-    (c.loop-name.invariant.0 ∙ ap (map (λ t. t.0)) all)
-    (c.loop-name.invariant.1 ∙ ap (map (λ t. None)) all)
+    none_kept c.args.types.now c.in_ok-names.names c.in_ok-layouts.layouts.items (c.in_ok-names.ensures ∙ all_given (λ t. t.0) c.args.types.now) c.in_ok-layouts.ensures

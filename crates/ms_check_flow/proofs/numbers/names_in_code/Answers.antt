@@ -2,7 +2,7 @@ use Rattle.std.proofs.Common.{◌≤◌, length, arith}
 use Rattle.std.specs.Prelude.{flat_map}
 use Rattle.ms_ir.specs.Locals.{block_locals}
 use Rattle.ms_check_flow.proofs.Appended.{blocks_within}
-use Rattle.ms_check_flow.proofs.numbers.numbers_of.Goals as goal
+use Rattle.ms_check_flow.proofs.numbers.names_in_code.Goals as goal
 
 pub block_numbers-requires : goal.block_numbers-requires
 block_numbers-requires c =

@@ -1,6 +1,6 @@
 use Rattle.std.proofs.Common.{◌≡◌, ℕ, ◌-◌, ◌<◌, ◌≤◌, ◌⊎◌, true, false, length, get_or}
 use Rattle.ms_flow.specs.Search.{IsUndefined, use_at}
-use Rattle.ms_flow.proofs.answers.ask.Given as goal
+use Rattle.ms_flow.proofs.answers.ask_in.Given as goal
 
 abbrev pub invariant-loop-from : goal.invariant-loop-from
 invariant-loop-from l = record {
