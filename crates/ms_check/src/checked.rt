@@ -13,7 +13,7 @@ use std::alloc::Global;
 use std::marker::Model;
 
 /// A module that is formed and valid. Contracts see the module.
-#[derive(Debug, Drop)]
+#[derive(Drop)]
 pub struct CheckedModule {
     module: Module,
 }

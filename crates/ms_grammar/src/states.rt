@@ -4,7 +4,7 @@ use ms_bits::List;
 use ms_ir::{Block, Inst, Module, Name, Operand, Ty};
 
 /// The edges of a phi. A comma begins either an edge or the metadata behind the phi.
-#[derive(Debug, Drop)]
+#[derive(Drop)]
 pub struct Edges {
     pub found: List<(Operand, Name)>,
     /// A comma was read, and no edge stands behind it.
@@ -13,7 +13,7 @@ pub struct Edges {
 
 /// The indices of a `getelementptr`, or the count of an `alloca`. A comma begins either an index or the metadata behind
 /// the instruction.
-#[derive(Debug, Drop)]
+#[derive(Drop)]
 pub struct Indices {
     pub found: List<(Ty, Operand)>,
     /// A comma was read, and no index stands behind it.
@@ -21,7 +21,7 @@ pub struct Indices {
 }
 
 /// The parameters of a function.
-#[derive(Debug, Drop)]
+#[derive(Drop)]
 pub struct Parameters {
     pub found: List<(Ty, Name)>,
     /// The number of the next unnamed parameter or block.
@@ -31,7 +31,7 @@ pub struct Parameters {
 }
 
 /// The body of a function.
-#[derive(Debug, Drop)]
+#[derive(Drop)]
 pub struct Body {
     /// The blocks that have ended.
     pub blocks: List<Block>,
@@ -48,7 +48,7 @@ pub struct Body {
 }
 
 /// The entities of a module.
-#[derive(Debug, Drop)]
+#[derive(Drop)]
 pub struct Parts {
     pub module: Module,
     /// The instructions of its functions.

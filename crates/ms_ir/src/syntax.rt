@@ -13,7 +13,7 @@ pub enum Name {
 }
 
 /// A type ("Type System"). `void` is none: a function without a result has no type there.
-#[derive(Debug, Drop)]
+#[derive(Drop)]
 pub enum Ty {
     /// `iN` by its width in bits, from 1 to 64.
     Int(u8),
@@ -29,7 +29,7 @@ pub enum Ty {
 
 /// What an instruction works on. Its type stands beside it in the instruction ("Constants", "Undefined
 /// Values", "Poison Values").
-#[derive(Debug, PartialEq, Eq, Drop)]
+#[derive(Drop)]
 pub enum Operand {
     /// An integer constant of type `iN`, kept modulo 2 to the power of N; `true` is 1.
     Int(u64),
@@ -49,7 +49,7 @@ pub enum Operand {
 }
 
 /// The initialiser of a global ("Global Variables", "Complex Constants").
-#[derive(Debug, PartialEq, Eq, Drop)]
+#[derive(Drop)]
 pub enum Init {
     /// A constant of type `iN` or `ptr`.
     Value(Operand),
@@ -64,7 +64,7 @@ pub enum Init {
 }
 
 /// What an instruction does, and on what ("Instruction Reference"). Operands stand in written order.
-#[derive(Debug, PartialEq, Eq, Drop)]
+#[derive(Drop)]
 pub enum Op {
     /// `op ty a, b` ("Binary Operations", "Bitwise Binary Operations"); `ty` is that of both operands and
     /// of the result.
@@ -168,7 +168,7 @@ pub enum Op {
 }
 
 /// An instruction.
-#[derive(Debug, PartialEq, Eq, Drop)]
+#[derive(Drop)]
 pub struct Inst {
     pub op: Op,
     /// The name that its result is bound to; none for a `store`, a terminator or a call without a result.
@@ -179,7 +179,7 @@ pub struct Inst {
 }
 
 /// A basic block ("Functions"): phis first, and one terminator, which is the last.
-#[derive(Debug, PartialEq, Eq, Drop)]
+#[derive(Drop)]
 pub struct Block {
     /// Its label.
     pub name: Name,
@@ -187,7 +187,7 @@ pub struct Block {
 }
 
 /// A function definition.
-#[derive(Debug, PartialEq, Eq, Drop)]
+#[derive(Drop)]
 pub struct Func {
     pub name: Name,
     /// The type of the result; none is `void`.
@@ -198,7 +198,7 @@ pub struct Func {
 }
 
 /// The declaration of a function whose body stands elsewhere: an external or a function of the runtime.
-#[derive(Debug, PartialEq, Eq, Drop)]
+#[derive(Drop)]
 pub struct Decl {
     pub name: Name,
     /// The type of the result; none is `void`.
@@ -207,7 +207,7 @@ pub struct Decl {
 }
 
 /// A global variable ("Global Variables").
-#[derive(Debug, PartialEq, Eq, Drop)]
+#[derive(Drop)]
 pub struct GlobalVar {
     pub name: Name,
     /// `constant` and not `global`. It is written out again, and has no meaning in a run.
@@ -217,7 +217,7 @@ pub struct GlobalVar {
 }
 
 /// A module ("Module Structure"): its parts, each kind in written order.
-#[derive(Debug, PartialEq, Eq, Drop)]
+#[derive(Drop)]
 pub struct Module {
     /// The named types ("Structure Type") with what they stand for.
     pub types: List<(Name, Ty)>,

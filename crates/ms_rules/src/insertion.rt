@@ -16,7 +16,7 @@ use ms_ir::Inst;
 use std::alloc::Global;
 
 /// The instructions that are inserted round one.
-#[derive(Debug, Drop)]
+#[derive(Drop)]
 pub struct Emitted {
     /// What stands before it: the checks, and the origin and the mask of its result.
     pub before: List<Inst>,

@@ -96,7 +96,7 @@ fn origin_operand(
 }
 
 /// An operand with its type, and with the operands that hold its mask and its origin.
-#[derive(Debug, Drop)]
+#[derive(Drop)]
 pub struct TrackedOperand {
     pub ty: Ty,
     pub operand: Operand,
