@@ -1,3 +1,4 @@
+pub mod Attributes
 pub mod Narrow
 pub mod Parts
 pub mod ValueTypes
