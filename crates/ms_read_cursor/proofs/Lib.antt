@@ -3,4 +3,3 @@ pub mod Numbers
 pub mod Widths
 pub mod Places
 pub mod Further
-pub mod ItemLoops
