@@ -3,3 +3,4 @@ pub mod Numbers
 pub mod Widths
 pub mod Places
 pub mod Further
+pub mod ItemLoops

@@ -28,3 +28,10 @@ pub fn with_last<T: Drop>(list: List<T>, item: T) -> Result<List<T>, NoMemory>
     items.push(item)?;
     Ok(List::from_vec(items))
 }
+
+/// A list of one item. The one error is want of memory.
+pub fn single<T: Drop>(alloc: Global, item: T) -> Result<List<T>, NoMemory>
+    ensures { IfOk result (λ l. l ≡ item ∷ []) }
+{
+    with_last(List::from_vec(Vec::new(alloc)), item)
+}

@@ -51,8 +51,8 @@ in_place form marked = do
   give marked
 
 -- metadata, or metadata '(' balanced ')'
-abbrev pub by_name : Form → Bool → Rule Bool
-by_name form marked = do
+abbrev pub by_name : Form → Bool → Bool → Rule Bool
+by_name form marked marks = do
   meta
   in_parens form
-  give marked
+  give (marked || marks)

@@ -1,9 +1,8 @@
 //! Initialisers (LLVM Language Reference, "Complex Constants").
 
-ghost use Rattle.std.specs.Prelude.{true};
-ghost use Rattle.ms_grammar.specs.Steps.{items, refuse, with_item};
+ghost use Rattle.ms_grammar.specs.Steps.{items, refuse};
 ghost use Rattle.ms_grammar.specs.Values as spec;
-ghost use Rattle.ms_read_cursor.specs.Lists.{further};
+ghost use Rattle.ms_read_cursor.specs.Lists.{further_items};
 ghost use Rattle.ms_read_cursor.specs.Reading.{Gives, front, run};
 ghost use Rattle.ms_read_values.specs.Parts.{part_of};
 
@@ -12,7 +11,7 @@ use crate::values::value_within;
 use ms_bits::List;
 use ms_grammar::{Limit, Refusal, Symbol};
 use ms_ir::{Form, Init, Ty};
-use ms_read_cursor::{Tokens, with_last};
+use ms_read_cursor::{Tokens, single, with_last};
 use std::alloc::Global;
 
 /// What opens no bracket.
@@ -154,24 +153,9 @@ fn part(
     Ok((ty.into_inner(), init))
 }
 
-/// Reads a part behind those that were found.
-#[cycle(inits)]
-fn next_part(
-    alloc: Global,
-    tokens: &mut Tokens<'_>,
-    form: Form,
-    depth: u8,
-    found: List<(Ty, Init)>,
-) -> Result<List<(Ty, Init)>, Refusal>
-    ensures { Gives (run (with_item (part_of form depth) found) tokens.old) result tokens.new }
-{
-    let part = part(alloc, tokens, form, depth)?;
-    Ok(with_last(found, part)?)
-}
-
 /// Reads further parts behind commas.
 #[cycle(inits)]
-#[tactic(auto, using(ms_read_cursor::proofs::Further::more_goes, ms_read_cursor::proofs::Further::more_stops, ms_read_cursor::proofs::Further::more_ends, ms_read_cursor::proofs::Further::turn_shorter))]
+#[tactic(auto, using(ms_read_cursor::proofs::ItemLoops::more_goes, ms_read_cursor::proofs::ItemLoops::more_stops, ms_read_cursor::proofs::ItemLoops::more_ends, ms_read_cursor::proofs::ItemLoops::turn_shorter))]
 fn more_parts(
     alloc: Global,
     tokens: &mut Tokens<'_>,
@@ -179,19 +163,20 @@ fn more_parts(
     depth: u8,
     start: List<(Ty, Init)>,
 ) -> Result<List<(Ty, Init)>, Refusal>
-    ensures { Gives (run (further (λ found. true) (with_item (part_of form depth)) start) tokens.old) result tokens.new }
+    ensures { Gives (run (further_items (part_of form depth) start) tokens.old) result tokens.new }
 {
     let mut found = start;
     'commas: while tokens.sees(Symbol::Comma) {
         tokens.advance();
-        found = next_part(alloc, tokens, form, depth, found)?;
+        let part = part(alloc, tokens, form, depth)?;
+        found = with_last(found, part)?;
     }
     Ok(found)
 }
 
 /// Parts with commas between, up to the closing symbol.
 #[cycle(inits)]
-#[tactic(auto, using(ms_read_cursor::proofs::Further::listed_whole, ms_read_cursor::proofs::Further::listed_cut, ms_read_cursor::proofs::Further::listed_open, ms_read_cursor::proofs::Further::listed_stops, ms_read_cursor::proofs::Further::listed_empty), unfolding(ms_grammar::specs::Steps::items))]
+#[tactic(auto, using(ms_read_cursor::proofs::ItemLoops::items_whole, ms_read_cursor::proofs::ItemLoops::items_cut, ms_read_cursor::proofs::ItemLoops::items_open, ms_read_cursor::proofs::ItemLoops::items_stop, ms_read_cursor::proofs::ItemLoops::items_empty))]
 fn parts(
     alloc: Global,
     tokens: &mut Tokens<'_>,
@@ -201,13 +186,13 @@ fn parts(
 ) -> Result<List<(Ty, Init)>, Refusal>
     ensures { Gives (run (items closing (part_of form depth)) tokens.old) result tokens.new }
 {
-    let none = List::from_vec(Vec::new(alloc));
     if tokens.sees(closing) {
         tokens.advance();
-        return Ok(none);
+        return Ok(List::from_vec(Vec::new(alloc)));
     }
-    let first = next_part(alloc, tokens, form, depth, none)?;
-    let all = more_parts(alloc, tokens, form, depth, first)?;
+    let first = part(alloc, tokens, form, depth)?;
+    let start = single(alloc, first)?;
+    let all = more_parts(alloc, tokens, form, depth, start)?;
     tokens.word(closing)?;
     Ok(all)
 }

@@ -34,12 +34,13 @@ fn by_name(
     tokens: &mut Tokens<'_>,
     form: Form,
     marked: bool,
+    marks: bool,
 ) -> Result<bool, Refusal>
-    ensures { Gives (run (rest.by_name form marked) tokens.old) result tokens.new }
+    ensures { Gives (run (rest.by_name form marked marks) tokens.old) result tokens.new }
 {
     meta(tokens)?;
     in_parens(alloc, tokens, form)?;
-    Ok(marked)
+    Ok(marked || marks)
 }
 
 /// Reads what is behind the kind of an attachment, which begins with this symbol. Metadata in place marks nothing.
@@ -58,7 +59,7 @@ fn attached_rest(
             tokens.advance();
             in_place(alloc, tokens, form, marked)
         }
-        _ => by_name(alloc, tokens, form, marked || marks),
+        _ => by_name(alloc, tokens, form, marked, marks),
     }
 }
 

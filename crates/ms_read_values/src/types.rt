@@ -1,10 +1,10 @@
 //! Types (LLVM Language Reference, "Type System").
 
-ghost use Rattle.std.specs.Prelude.{◌≡◌, IfOk, true};
+ghost use Rattle.std.specs.Prelude.{◌≡◌, IfOk};
 ghost use Rattle.ms_grammar.specs.declared.symbols.Symbol.TheVariants.{CloseBrace};
-ghost use Rattle.ms_grammar.specs.Steps.{items, with_item};
+ghost use Rattle.ms_grammar.specs.Steps.{items};
 ghost use Rattle.ms_grammar.specs.Types as spec;
-ghost use Rattle.ms_read_cursor.specs.Lists.{further};
+ghost use Rattle.ms_read_cursor.specs.Lists.{further_items};
 ghost use Rattle.ms_read_cursor.specs.Reading.{Gives, Judges, front, run};
 ghost use Rattle.ms_read_values.specs.Narrow.{IsWidth};
 ghost use Rattle.ms_read_values.specs.Rests as rest;
@@ -13,7 +13,7 @@ use crate::value_types::ValueType;
 use ms_bits::{Boxed, List};
 use ms_grammar::{Limit, Outside, Refusal, Symbol};
 use ms_ir::{Form, Ty};
-use ms_read_cursor::{Lexeme, Tokens, local, same_symbol, with_last};
+use ms_read_cursor::{Lexeme, Tokens, local, same_symbol, single, with_last};
 use std::alloc::Global;
 
 /// The width of the integer type that a token is.
@@ -272,24 +272,9 @@ fn packed_rest(alloc: Global, tokens: &mut Tokens<'_>, form: Form, depth: u8) ->
     Ok(Ty::Struct(true, all))
 }
 
-/// Reads a type behind those that were found.
-#[cycle(types)]
-fn next_field(
-    alloc: Global,
-    tokens: &mut Tokens<'_>,
-    form: Form,
-    depth: u8,
-    found: List<Ty>,
-) -> Result<List<Ty>, Refusal>
-    ensures { Gives (run (with_item (spec.type_to form depth) found) tokens.old) result tokens.new }
-{
-    let ty = type_to(alloc, tokens, form, depth)?;
-    Ok(with_last(found, ty)?)
-}
-
 /// Reads further types behind commas.
 #[cycle(types)]
-#[tactic(auto, using(ms_read_cursor::proofs::Further::more_goes, ms_read_cursor::proofs::Further::more_stops, ms_read_cursor::proofs::Further::more_ends, ms_read_cursor::proofs::Further::turn_shorter))]
+#[tactic(auto, using(ms_read_cursor::proofs::ItemLoops::more_goes, ms_read_cursor::proofs::ItemLoops::more_stops, ms_read_cursor::proofs::ItemLoops::more_ends, ms_read_cursor::proofs::ItemLoops::turn_shorter))]
 fn more_fields(
     alloc: Global,
     tokens: &mut Tokens<'_>,
@@ -297,19 +282,20 @@ fn more_fields(
     depth: u8,
     start: List<Ty>,
 ) -> Result<List<Ty>, Refusal>
-    ensures { Gives (run (further (λ found. true) (with_item (spec.type_to form depth)) start) tokens.old) result tokens.new }
+    ensures { Gives (run (further_items (spec.type_to form depth) start) tokens.old) result tokens.new }
 {
     let mut found = start;
     'commas: while tokens.sees(Symbol::Comma) {
         tokens.advance();
-        found = next_field(alloc, tokens, form, depth, found)?;
+        let ty = type_to(alloc, tokens, form, depth)?;
+        found = with_last(found, ty)?;
     }
     Ok(found)
 }
 
 /// Types with commas between, up to `}`.
 #[cycle(types)]
-#[tactic(auto, using(ms_read_cursor::proofs::Further::listed_whole, ms_read_cursor::proofs::Further::listed_cut, ms_read_cursor::proofs::Further::listed_open, ms_read_cursor::proofs::Further::listed_stops, ms_read_cursor::proofs::Further::listed_empty), unfolding(ms_grammar::specs::Steps::items))]
+#[tactic(auto, using(ms_read_cursor::proofs::ItemLoops::items_whole, ms_read_cursor::proofs::ItemLoops::items_cut, ms_read_cursor::proofs::ItemLoops::items_open, ms_read_cursor::proofs::ItemLoops::items_stop, ms_read_cursor::proofs::ItemLoops::items_empty))]
 fn fields(
     alloc: Global,
     tokens: &mut Tokens<'_>,
@@ -318,13 +304,13 @@ fn fields(
 ) -> Result<List<Ty>, Refusal>
     ensures { Gives (run (items CloseBrace (spec.type_to form depth)) tokens.old) result tokens.new }
 {
-    let none = List::from_vec(Vec::new(alloc));
     if tokens.sees(Symbol::CloseBrace) {
         tokens.advance();
-        return Ok(none);
+        return Ok(List::from_vec(Vec::new(alloc)));
     }
-    let first = next_field(alloc, tokens, form, depth, none)?;
-    let all = more_fields(alloc, tokens, form, depth, first)?;
+    let first = type_to(alloc, tokens, form, depth)?;
+    let start = single(alloc, first)?;
+    let all = more_fields(alloc, tokens, form, depth, start)?;
     tokens.word(Symbol::CloseBrace)?;
     Ok(all)
 }

@@ -1,6 +1,5 @@
-use Rattle.std.proofs.Common.{◌≡◌, ℕ, ◌+◌, ◌*◌, true, length}
-use Rattle.ms_grammar.specs.Steps.{with_item}
-use Rattle.ms_read_cursor.specs.Lists.{further}
+use Rattle.std.proofs.Common.{◌≡◌, ℕ, ◌+◌, ◌*◌, length}
+use Rattle.ms_read_cursor.specs.Lists.{further_items}
 use Rattle.ms_read_cursor.specs.Reading.{run}
 use Rattle.ms_read_values.specs.Parts.{part_of}
 use Rattle.ms_read_values.proofs.inits.+inits.Given as goal
@@ -10,9 +9,6 @@ decreases-init_to l = 7 * l.depth
 
 abbrev pub decreases-part : goal.decreases-part
 decreases-part l = 7 * l.depth + 1
-
-abbrev pub decreases-next_part : goal.decreases-next_part
-decreases-next_part l = 7 * l.depth + 2
 
 abbrev pub decreases-more_parts : goal.decreases-more_parts
 decreases-more_parts l = 7 * l.depth + 3
@@ -35,8 +31,8 @@ decreases-nested_init l = 7 * l.depth + 6
 -- what comes behind what was found is what came behind the start
 abbrev pub invariant-more_parts-commas : goal.invariant-more_parts-commas
 invariant-more_parts-commas l =
-    run (further (λ found. true) (with_item (part_of l.form l.depth)) l.fn.start) l.fn.tokens
-    ≡ run (further (λ found. true) (with_item (part_of l.form l.depth)) l.found) l.tokens
+    run (further_items (part_of l.form l.depth) l.fn.start) l.fn.tokens
+    ≡ run (further_items (part_of l.form l.depth) l.found) l.tokens
 
 abbrev pub decreases-more_parts-commas : goal.decreases-more_parts-commas
 decreases-more_parts-commas l = length l.tokens

@@ -1,15 +1,11 @@
-use Rattle.std.proofs.Common.{◌≡◌, ℕ, ◌+◌, ◌*◌, true, length}
-use Rattle.ms_grammar.specs.Steps.{with_item}
+use Rattle.std.proofs.Common.{◌≡◌, ℕ, ◌+◌, ◌*◌, length}
 use Rattle.ms_grammar.specs.Types.{type_to}
-use Rattle.ms_read_cursor.specs.Lists.{further}
+use Rattle.ms_read_cursor.specs.Lists.{further_items}
 use Rattle.ms_read_cursor.specs.Reading.{run}
 use Rattle.ms_read_values.proofs.types.+types.Given as goal
 
 abbrev pub decreases-type_to : goal.decreases-type_to
 decreases-type_to l = 6 * l.depth
-
-abbrev pub decreases-next_field : goal.decreases-next_field
-decreases-next_field l = 6 * l.depth + 1
 
 abbrev pub decreases-more_fields : goal.decreases-more_fields
 decreases-more_fields l = 6 * l.depth + 2
@@ -35,8 +31,8 @@ decreases-nested l = 6 * l.depth + 5
 -- what comes behind what was found is what came behind the start
 abbrev pub invariant-more_fields-commas : goal.invariant-more_fields-commas
 invariant-more_fields-commas l =
-    run (further (λ found. true) (with_item (type_to l.form l.depth)) l.fn.start) l.fn.tokens
-    ≡ run (further (λ found. true) (with_item (type_to l.form l.depth)) l.found) l.tokens
+    run (further_items (type_to l.form l.depth) l.fn.start) l.fn.tokens
+    ≡ run (further_items (type_to l.form l.depth) l.found) l.tokens
 
 abbrev pub decreases-more_fields-commas : goal.decreases-more_fields-commas
 decreases-more_fields-commas l = length l.tokens
