@@ -1,5 +1,7 @@
 //! Initialisers (LLVM Language Reference, "Complex Constants").
 
+ghost use Rattle.std.specs.Prelude.{◌≡◌, false};
+ghost use Rattle.ms_grammar.specs.Lexemes.{is};
 ghost use Rattle.ms_grammar.specs.Steps.{items, refuse};
 ghost use Rattle.ms_grammar.specs.Values as spec;
 ghost use Rattle.ms_read_cursor.specs.Lists.{further_items};
@@ -174,9 +176,29 @@ fn more_parts(
     Ok(found)
 }
 
-/// Parts with commas between, up to the closing symbol.
+/// Parts with commas between, up to the closing symbol, which doesn't come first.
 #[cycle(inits)]
-#[tactic(auto, using(ms_read_cursor::proofs::ItemLoops::items_whole, ms_read_cursor::proofs::ItemLoops::items_cut, ms_read_cursor::proofs::ItemLoops::items_open, ms_read_cursor::proofs::ItemLoops::items_stop, ms_read_cursor::proofs::ItemLoops::items_empty))]
+#[tactic(auto, using(ms_read_cursor::proofs::ItemLoops::items_whole, ms_read_cursor::proofs::ItemLoops::items_cut, ms_read_cursor::proofs::ItemLoops::items_open, ms_read_cursor::proofs::ItemLoops::items_stop))]
+fn some_parts(
+    alloc: Global,
+    tokens: &mut Tokens<'_>,
+    form: Form,
+    depth: u8,
+    closing: Symbol,
+) -> Result<List<(Ty, Init)>, Refusal>
+    requires { is closing (front tokens.old) ≡ false }
+    ensures { Gives (run (items closing (part_of form depth)) tokens.old) result tokens.new }
+{
+    let first = part(alloc, tokens, form, depth)?;
+    let start = single(alloc, first)?;
+    let all = more_parts(alloc, tokens, form, depth, start)?;
+    tokens.word(closing)?;
+    Ok(all)
+}
+
+/// No part, or parts with commas between, up to the closing symbol.
+#[cycle(inits)]
+#[tactic(auto, using(ms_read_cursor::proofs::ItemLoops::items_empty))]
 fn parts(
     alloc: Global,
     tokens: &mut Tokens<'_>,
@@ -188,11 +210,8 @@ fn parts(
 {
     if tokens.sees(closing) {
         tokens.advance();
-        return Ok(List::from_vec(Vec::new(alloc)));
+        Ok(List::from_vec(Vec::new(alloc)))
+    } else {
+        some_parts(alloc, tokens, form, depth, closing)
     }
-    let first = part(alloc, tokens, form, depth)?;
-    let start = single(alloc, first)?;
-    let all = more_parts(alloc, tokens, form, depth, start)?;
-    tokens.word(closing)?;
-    Ok(all)
 }

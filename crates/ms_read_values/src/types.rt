@@ -1,7 +1,8 @@
 //! Types (LLVM Language Reference, "Type System").
 
-ghost use Rattle.std.specs.Prelude.{◌≡◌, IfOk};
+ghost use Rattle.std.specs.Prelude.{◌≡◌, IfOk, false};
 ghost use Rattle.ms_grammar.specs.declared.symbols.Symbol.TheVariants.{CloseBrace};
+ghost use Rattle.ms_grammar.specs.Lexemes.{is};
 ghost use Rattle.ms_grammar.specs.Steps.{items};
 ghost use Rattle.ms_grammar.specs.Types as spec;
 ghost use Rattle.ms_read_cursor.specs.Lists.{further_items};
@@ -293,9 +294,28 @@ fn more_fields(
     Ok(found)
 }
 
-/// Types with commas between, up to `}`.
+/// Types with commas between, up to `}`, which doesn't come first.
 #[cycle(types)]
-#[tactic(auto, using(ms_read_cursor::proofs::ItemLoops::items_whole, ms_read_cursor::proofs::ItemLoops::items_cut, ms_read_cursor::proofs::ItemLoops::items_open, ms_read_cursor::proofs::ItemLoops::items_stop, ms_read_cursor::proofs::ItemLoops::items_empty))]
+#[tactic(auto, using(ms_read_cursor::proofs::ItemLoops::items_whole, ms_read_cursor::proofs::ItemLoops::items_cut, ms_read_cursor::proofs::ItemLoops::items_open, ms_read_cursor::proofs::ItemLoops::items_stop))]
+fn some_fields(
+    alloc: Global,
+    tokens: &mut Tokens<'_>,
+    form: Form,
+    depth: u8,
+) -> Result<List<Ty>, Refusal>
+    requires { is CloseBrace (front tokens.old) ≡ false }
+    ensures { Gives (run (items CloseBrace (spec.type_to form depth)) tokens.old) result tokens.new }
+{
+    let first = type_to(alloc, tokens, form, depth)?;
+    let start = single(alloc, first)?;
+    let all = more_fields(alloc, tokens, form, depth, start)?;
+    tokens.word(Symbol::CloseBrace)?;
+    Ok(all)
+}
+
+/// No type, or types with commas between, up to `}`.
+#[cycle(types)]
+#[tactic(auto, using(ms_read_cursor::proofs::ItemLoops::items_empty))]
 fn fields(
     alloc: Global,
     tokens: &mut Tokens<'_>,
@@ -306,13 +326,10 @@ fn fields(
 {
     if tokens.sees(Symbol::CloseBrace) {
         tokens.advance();
-        return Ok(List::from_vec(Vec::new(alloc)));
+        Ok(List::from_vec(Vec::new(alloc)))
+    } else {
+        some_fields(alloc, tokens, form, depth)
     }
-    let first = type_to(alloc, tokens, form, depth)?;
-    let start = single(alloc, first)?;
-    let all = more_fields(alloc, tokens, form, depth, start)?;
-    tokens.word(Symbol::CloseBrace)?;
-    Ok(all)
 }
 
 /// Takes the struct that a named type is.
