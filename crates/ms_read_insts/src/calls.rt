@@ -265,14 +265,14 @@ fn call_rest(
     alloc: Global,
     tokens: &mut Tokens<'_>,
     form: Form,
-    ret: Option<ValueType>,
+    ret: &Option<ValueType>,
     callee: Name,
 ) -> Result<(Boxed<Op>, bool), Refusal>
-    ensures { Gives (run (rest.call_rest form ret callee) tokens.old) result tokens.new }
+    ensures { Gives (run (rest.call_rest form ret.now callee) tokens.old) result tokens.new }
 {
     let args = arguments(alloc, tokens, form, names_printf(&callee))?;
     let marked = call_end(alloc, tokens, form)?;
-    Ok((call_of(alloc, ret, callee, args)?, marked))
+    Ok((call_of(alloc, *ret, callee, args)?, marked))
 }
 
 /// Reads a call behind its first word, which is `call`, `tail`, `musttail` or `notail`, with what is attached. `named` says
@@ -299,5 +299,5 @@ pub fn call_rule(
     let dotted = callee_type(tokens, ret)?;
     let callee = callee(alloc, tokens, form, dotted)?;
     tokens.word(Symbol::OpenParen)?;
-    call_rest(alloc, tokens, form, ret, callee)
+    call_rest(alloc, tokens, form, &ret, callee)
 }

@@ -1,6 +1,6 @@
 //! Memory and addresses (LLVM Language Reference, "Memory Access and Addressing Operations").
 
-ghost use Rattle.std.specs.Prelude.{◌≡◌, ◌∷◌, ◌++◌, [], IfOk};
+ghost use Rattle.std.specs.Prelude.{◌≡◌, ◌∷◌, ◌++◌, [], IfOk, false};
 ghost use Rattle.ms_ir.specs.declared.syntax.Op.TheVariants as operation;
 ghost use Rattle.ms_lex.specs.Grammar.{one};
 ghost use Rattle.ms_grammar.specs.Values as values;
