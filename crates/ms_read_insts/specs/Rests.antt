@@ -12,12 +12,13 @@ use Rattle.ms_ir.specs.declared.syntax.Op.TheVariants as op
 use Rattle.ms_ir.specs.declared.forms.Form.{Form}
 use Rattle.ms_grammar.specs.declared.symbols.Symbol.TheVariants as s
 use Rattle.ms_grammar.specs.declared.states.Edges.{Edges}
+use Rattle.ms_grammar.specs.declared.states.Indices.{Indices}
 use Rattle.ms_grammar.specs.Steps.{Rule, word}
 use Rattle.ms_grammar.specs.Names.{local}
 use Rattle.ms_grammar.specs.Types.{value_type}
-use Rattle.ms_grammar.specs.Values.{number, value}
+use Rattle.ms_grammar.specs.Values.{value}
 use Rattle.ms_grammar.specs.Skipped.{attributes, suffixes_from}
-use Rattle.ms_grammar.specs.Insts.{Marked, same_type, no_indices, index_turn, index_begins, count_begins, alloca_of, arguments, names_printf, call_end, edge_begins, edge_turn, target, case_begins, case_rest}
+use Rattle.ms_grammar.specs.Insts.{Marked, same_type, no_indices, index_turn, index_begins, count_begins, alloca_of, callee_type, callee, arguments, names_printf, call_end, edge_begins, edge_turn, target, case_begins, case_rest}
 use Rattle.ms_read_insts.specs.declared.computations.OnTwo.{OnTwo}
 use Rattle.ms_read_insts.specs.declared.computations.OnTwo.TheVariants.{Binary, Compare}
 
@@ -33,6 +34,20 @@ two_operands form operation t = do
   word s.Comma
   b ← value form t
   give (on_two operation t a b)
+
+-- ',' value
+abbrev pub second_operand : Form → OnTwo → Ty → Operand → Rule Op
+second_operand form operation t a = do
+  word s.Comma
+  b ← value form t
+  give (on_two operation t a b)
+
+-- 'to' value-type
+abbrev pub cast_end : CastOp → Flags → Ty → Operand → Rule Op
+cast_end o flags from a = do
+  word s.To
+  to ← value_type
+  give (op.Cast o flags from a to)
 
 -- value 'to' value-type
 abbrev pub cast_rest : Form → CastOp → Flags → Ty → Rule Op
@@ -59,6 +74,31 @@ select_end form condition t a = do
   same_type t
   b ← value form t
   give (op.Select condition t a b)
+
+-- the last value
+abbrev pub select_last : Form → Operand → Ty → Operand → Rule Op
+select_last form condition t a = do
+  b ← value form t
+  give (op.Select condition t a b)
+
+-- suffixes
+abbrev pub step_end : Form → Ty → Operand → Indices → Rule Marked
+step_end form t base indices = do
+  marked ← suffixes_from form indices.ended
+  give (op.Gep t base indices.found, marked)
+
+-- a count where one comes, and suffixes
+abbrev pub alloca_rest : Form → Ty → Rule Marked
+alloca_rest form t = do
+  count ← loop count_begins (λ indices comma. index_turn form indices.found) no_indices
+  marked ← suffixes_from form count.ended
+  give (alloca_of t count.found, marked)
+
+-- suffixes
+abbrev pub alloca_end : Form → Ty → Indices → Rule Marked
+alloca_end form t count = do
+  marked ← suffixes_from form count.ended
+  give (alloca_of t count.found, marked)
 
 -- (',' iN value) as many as come, and suffixes
 abbrev pub step_rest : Form → Ty → Operand → Rule Marked
@@ -113,6 +153,12 @@ switch_end form width v other = do
   word s.CloseBracket
   give (op.Switch (ty.Int width) v other cases)
 
+-- ']'
+abbrev pub switch_last : ℕ → Operand → Name → List (ℕ × Name) → Rule Op
+switch_last width v other cases = do
+  word s.CloseBracket
+  give (op.Switch (ty.Int width) v other cases)
+
 -- ',' 'label' local
 abbrev pub case_end : Form → ℕ → List (ℕ × Name) → Rule (List (ℕ × Name))
 case_end form n found = do
@@ -126,6 +172,22 @@ argument_rest form t found = do
   attributes form
   v ← value form t
   give (found ++ (t, v) ∷ [])
+
+-- what stands behind the arguments
+abbrev pub call_marked : Form → Option Ty → Name → List (Ty × Operand) → Rule Marked
+call_marked form result function args = do
+  marked ← call_end form
+  give (op.Call result function args, marked)
+
+-- the callee's type where it is written, the callee, and the rest
+abbrev pub call_callee : Form → Option Ty → Rule Marked
+call_callee form result = do
+  dotted ← callee_type result
+  function ← callee form dotted
+  word s.OpenParen
+  args ← arguments form (names_printf function)
+  marked ← call_end form
+  give (op.Call result function args, marked)
 
 -- arguments, and what stands behind them
 abbrev pub call_rest : Form → Option Ty → Name → Rule Marked

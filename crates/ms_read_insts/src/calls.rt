@@ -260,6 +260,21 @@ fn call_of(
     )
 }
 
+/// Reads what stands behind the arguments of a call.
+fn call_marked(
+    alloc: Global,
+    tokens: &mut Tokens<'_>,
+    form: Form,
+    ret: &Option<ValueType>,
+    callee: Name,
+    args: List<(Ty, Operand)>,
+) -> Result<(Boxed<Op>, bool), Refusal>
+    ensures { Gives (run (rest.call_marked form ret.now callee args) tokens.old) result tokens.new }
+{
+    let marked = call_end(alloc, tokens, form)?;
+    Ok((call_of(alloc, *ret, callee, args)?, marked))
+}
+
 /// Reads the arguments of a call behind `(`, and what stands behind them.
 fn call_rest(
     alloc: Global,
@@ -271,8 +286,22 @@ fn call_rest(
     ensures { Gives (run (rest.call_rest form ret.now callee) tokens.old) result tokens.new }
 {
     let args = arguments(alloc, tokens, form, names_printf(&callee))?;
-    let marked = call_end(alloc, tokens, form)?;
-    Ok((call_of(alloc, *ret, callee, args)?, marked))
+    call_marked(alloc, tokens, form, ret, callee, args)
+}
+
+/// Reads the callee, in front of which its type may stand, and the rest of a call.
+fn call_callee(
+    alloc: Global,
+    tokens: &mut Tokens<'_>,
+    form: Form,
+    ret: &Option<ValueType>,
+) -> Result<(Boxed<Op>, bool), Refusal>
+    ensures { Gives (run (rest.call_callee form ret.now) tokens.old) result tokens.new }
+{
+    let dotted = callee_type(tokens, *ret)?;
+    let callee = callee(alloc, tokens, form, dotted)?;
+    tokens.word(Symbol::OpenParen)?;
+    call_rest(alloc, tokens, form, ret, callee)
 }
 
 /// Reads a call behind its first word, which is `call`, `tail`, `musttail` or `notail`, with what is attached. `named` says
@@ -296,8 +325,5 @@ pub fn call_rule(
     call_word(tokens, first)?;
     attributes(alloc, tokens, form)?;
     let ret = call_type(tokens, named)?;
-    let dotted = callee_type(tokens, ret)?;
-    let callee = callee(alloc, tokens, form, dotted)?;
-    tokens.word(Symbol::OpenParen)?;
-    call_rest(alloc, tokens, form, &ret, callee)
+    call_callee(alloc, tokens, form, &ret)
 }

@@ -59,6 +59,22 @@ impl OnTwo {
     }
 }
 
+/// Reads `, b` behind the first operand.
+fn second_operand(
+    alloc: Global,
+    tokens: &mut Tokens<'_>,
+    form: Form,
+    operation: OnTwo,
+    ty: ValueType,
+    a: Boxed<Operand>,
+) -> Result<Boxed<Op>, Refusal>
+    ensures { Gives (run (rest.second_operand form operation ty a) tokens.old) result tokens.new }
+{
+    tokens.word(Symbol::Comma)?;
+    let b = value(alloc, tokens, form, ty)?;
+    Ok(operation.of(alloc, ty, a, b)?)
+}
+
 /// Reads `a, b` behind their type.
 fn two_operands(
     alloc: Global,
@@ -70,9 +86,7 @@ fn two_operands(
     ensures { Gives (run (rest.two_operands form operation ty) tokens.old) result tokens.new }
 {
     let a = value(alloc, tokens, form, ty)?;
-    tokens.word(Symbol::Comma)?;
-    let b = value(alloc, tokens, form, ty)?;
-    Ok(operation.of(alloc, ty, a, b)?)
+    second_operand(alloc, tokens, form, operation, ty, a)
 }
 
 /// Reads a binary operation behind its word: `flags iN a, b`.
@@ -170,6 +184,22 @@ fn cast_of(
     )
 }
 
+/// Reads `to type` behind the operand of a cast.
+fn cast_end(
+    alloc: Global,
+    tokens: &mut Tokens<'_>,
+    op: CastOp,
+    flags: Flags,
+    from: ValueType,
+    a: Boxed<Operand>,
+) -> Result<Boxed<Op>, Refusal>
+    ensures { Gives (run (rest.cast_end op flags from a) tokens.old) result tokens.new }
+{
+    tokens.word(Symbol::To)?;
+    let to = value_type(tokens)?;
+    Ok(cast_of(alloc, op, flags, from, a, to)?)
+}
+
 /// Reads `a to type` behind the type of `a`.
 fn cast_rest(
     alloc: Global,
@@ -182,9 +212,7 @@ fn cast_rest(
     ensures { Gives (run (rest.cast_rest form op flags from) tokens.old) result tokens.new }
 {
     let a = value(alloc, tokens, form, from)?;
-    tokens.word(Symbol::To)?;
-    let to = value_type(tokens)?;
-    Ok(cast_of(alloc, op, flags, from, a, to)?)
+    cast_end(alloc, tokens, op, flags, from, a)
 }
 
 /// Reads a cast behind its word: `flags type a to type`.
@@ -278,6 +306,21 @@ fn select_of(
     )
 }
 
+/// Reads the second value behind its type.
+fn select_last(
+    alloc: Global,
+    tokens: &mut Tokens<'_>,
+    form: Form,
+    cond: Boxed<Operand>,
+    ty: ValueType,
+    a: Boxed<Operand>,
+) -> Result<Boxed<Op>, Refusal>
+    ensures { Gives (run (rest.select_last form cond ty a) tokens.old) result tokens.new }
+{
+    let b = value(alloc, tokens, form, ty)?;
+    Ok(select_of(alloc, cond, ty, a, b)?)
+}
+
 /// Reads `, type b` behind the first value.
 fn select_end(
     alloc: Global,
@@ -291,8 +334,7 @@ fn select_end(
 {
     tokens.word(Symbol::Comma)?;
     same_type(tokens, ty)?;
-    let b = value(alloc, tokens, form, ty)?;
-    Ok(select_of(alloc, cond, ty, a, b)?)
+    select_last(alloc, tokens, form, cond, ty, a)
 }
 
 /// Reads `type a, type b` behind the condition.

@@ -329,6 +329,21 @@ fn switch_of(
     )
 }
 
+/// Reads `]` behind the cases of a `switch`.
+fn switch_last(
+    alloc: Global,
+    tokens: &mut Tokens<'_>,
+    width: u8,
+    value: Boxed<Operand>,
+    other: Name,
+    cases: List<(u64, Name)>,
+) -> Result<Boxed<Op>, Refusal>
+    ensures { Gives (run (rest.switch_last width value other cases) tokens.old) result tokens.new }
+{
+    tokens.word(Symbol::CloseBracket)?;
+    Ok(switch_of(alloc, width, value, other, cases)?)
+}
+
 /// Reads the cases of a `switch`, and `]`.
 fn switch_end(
     alloc: Global,
@@ -343,8 +358,7 @@ fn switch_end(
 {
     let none = List::from_vec(Vec::new(alloc));
     let cases = repeat(alloc, tokens, &CaseTurn { form, width }, none)?;
-    tokens.word(Symbol::CloseBracket)?;
-    Ok(switch_of(alloc, width, value, other, cases)?)
+    switch_last(alloc, tokens, width, value, other, cases)
 }
 
 /// Reads `label %other [` and the cases of a `switch`.

@@ -200,6 +200,22 @@ fn step_of(
     )
 }
 
+/// Reads what is attached behind the indices.
+fn step_end(
+    alloc: Global,
+    tokens: &mut Tokens<'_>,
+    form: Form,
+    ty: Boxed<Ty>,
+    base: Boxed<Operand>,
+    indices: Indices,
+) -> Result<(Boxed<Op>, bool), Refusal>
+    ensures { Gives (run (rest.step_end form ty base indices) tokens.old) result tokens.new }
+{
+    let Indices { found, ended } = indices;
+    let marked = suffixes_from(alloc, tokens, form, ended)?;
+    Ok((step_of(alloc, ty, base, found)?, marked))
+}
+
 /// Reads the indices behind the base, and what is attached.
 fn step_rest(
     alloc: Global,
@@ -210,9 +226,8 @@ fn step_rest(
 ) -> Result<(Boxed<Op>, bool), Refusal>
     ensures { Gives (run (rest.step_rest form ty base) tokens.old) result tokens.new }
 {
-    let Indices { found, ended } = repeat(alloc, tokens, &IndexTurn { form }, no_indices(alloc))?;
-    let marked = suffixes_from(alloc, tokens, form, ended)?;
-    Ok((step_of(alloc, ty, base, found)?, marked))
+    let indices = repeat(alloc, tokens, &IndexTurn { form }, no_indices(alloc))?;
+    step_end(alloc, tokens, form, ty, base, indices)
 }
 
 /// Reads a `getelementptr` behind its word: `inbounds` and the like, `type, ptr base`, `, iN index` as many as come, and
@@ -319,6 +334,34 @@ fn alloca_of(
     alloca_counted(alloc, ty, counts.swap_remove(0))
 }
 
+/// Reads what is attached behind the count.
+fn alloca_end(
+    alloc: Global,
+    tokens: &mut Tokens<'_>,
+    form: Form,
+    ty: Boxed<Ty>,
+    count: Indices,
+) -> Result<(Boxed<Op>, bool), Refusal>
+    ensures { Gives (run (rest.alloca_end form ty count) tokens.old) result tokens.new }
+{
+    let Indices { found, ended } = count;
+    let marked = suffixes_from(alloc, tokens, form, ended)?;
+    Ok((alloca_of(alloc, ty, found)?, marked))
+}
+
+/// Reads the count behind the type, where one comes, and what is attached.
+fn alloca_rest(
+    alloc: Global,
+    tokens: &mut Tokens<'_>,
+    form: Form,
+    ty: Boxed<Ty>,
+) -> Result<(Boxed<Op>, bool), Refusal>
+    ensures { Gives (run (rest.alloca_rest form ty) tokens.old) result tokens.new }
+{
+    let count = repeat(alloc, tokens, &CountTurn { form }, no_indices(alloc))?;
+    alloca_end(alloc, tokens, form, ty, count)
+}
+
 /// Reads an `alloca` behind its word: `type` and perhaps `, iN count`, and what is attached. The second value is whether
 /// that has the mark.
 ///
@@ -334,7 +377,5 @@ pub fn alloca_rule(
     ensures { Gives (run (spec.alloca_rule form) tokens.old) result tokens.new }
 {
     let ty = boxed_type(alloc, tokens, form, MAX_DEPTH)?;
-    let Indices { found, ended } = repeat(alloc, tokens, &CountTurn { form }, no_indices(alloc))?;
-    let marked = suffixes_from(alloc, tokens, form, ended)?;
-    Ok((alloca_of(alloc, ty, found)?, marked))
+    alloca_rest(alloc, tokens, form, ty)
 }
