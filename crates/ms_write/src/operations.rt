@@ -9,7 +9,6 @@ ghost use Rattle.ms_written.specs.Types.{result_tokens, type_tokens};
 ghost use Rattle.ms_written.specs.Values.{pair_tokens, typed_tokens};
 ghost use Rattle.ms_write_values.specs.Parts.{two_tokens};
 ghost use Rattle.ms_write_values.specs.Sheets.{put};
-ghost use Rattle.ms_write.specs.Flagged.{flagged_tokens};
 
 use ms_bits::{BinOp, CastOp, Flags, NoMemory, Pred};
 use ms_ir::{Name, Op, Operand, Ty};
@@ -414,10 +413,10 @@ fn write_ret(writer: &mut Writer, value: &Option<(Ty, Operand)>) -> Result<(), N
     Ok(())
 }
 
-/// Writes an operation that may carry flags, and nothing for another.
+/// Writes what an instruction does; `dotted` says whether calls of `printf` have three dots.
 #[tactic(auto, unfolding(ms_written::specs::Insts::op_tokens))]
-fn write_flagged(writer: &mut Writer, op: &Op) -> Result<(), NoMemory>
-    ensures { IfOk result (λ _. writer.new ≡ put writer.old (flagged_tokens op.now)) }
+pub fn write_op(writer: &mut Writer, dotted: bool, op: &Op) -> Result<(), NoMemory>
+    ensures { IfOk result (λ _. writer.new ≡ put writer.old (op_tokens dotted op.now)) }
 {
     match op {
         Op::Binary {
@@ -426,55 +425,48 @@ fn write_flagged(writer: &mut Writer, op: &Op) -> Result<(), NoMemory>
             ty,
             a,
             b,
-        } => write_binary(writer, *op, *flags, ty, a, b),
+        } => write_binary(writer, *op, *flags, ty, a, b)?,
         Op::Icmp {
             pred,
             flags,
             ty,
             a,
             b,
-        } => write_icmp(writer, *pred, *flags, ty, a, b),
+        } => write_icmp(writer, *pred, *flags, ty, a, b)?,
         Op::Cast {
             op,
             flags,
             from,
             a,
             to,
-        } => write_cast(writer, *op, *flags, from, a, to),
-        _ => Ok(()),
-    }
-}
-
-/// Writes what an instruction does; `dotted` says whether calls of `printf` have three dots.
-#[tactic(auto, unfolding(ms_written::specs::Insts::op_tokens))]
-pub fn write_op(writer: &mut Writer, dotted: bool, op: &Op) -> Result<(), NoMemory>
-    ensures { IfOk result (λ _. writer.new ≡ put writer.old (op_tokens dotted op.now)) }
-{
-    match op {
-        Op::Binary { .. } | Op::Icmp { .. } | Op::Cast { .. } => write_flagged(writer, op),
-        Op::Select { cond, ty, a, b } => write_select(writer, cond, ty, a, b),
-        Op::Freeze { ty, a } => write_freeze(writer, ty, a),
-        Op::Phi { ty, edges } => write_phi(writer, ty, edges.as_slice()),
+        } => write_cast(writer, *op, *flags, from, a, to)?,
+        Op::Select { cond, ty, a, b } => write_select(writer, cond, ty, a, b)?,
+        Op::Freeze { ty, a } => write_freeze(writer, ty, a)?,
+        Op::Phi { ty, edges } => write_phi(writer, ty, edges.as_slice())?,
         Op::Alloca {
             ty,
             count_ty,
             count,
-        } => write_alloca(writer, ty, count_ty, count),
-        Op::Load { ty, addr } => write_load(writer, ty, addr),
-        Op::Store { ty, value, addr } => write_store(writer, ty, value, addr),
-        Op::Gep { ty, base, indices } => {
-            write_element_pointer(writer, ty, base, indices.as_slice())
-        }
-        Op::Call { ret, callee, args } => write_call(writer, dotted, ret, callee, args.as_slice()),
-        Op::Br { to } => write_branch(writer, to),
-        Op::CondBr { cond, yes, no } => write_branch_on(writer, cond, yes, no),
+        } => write_alloca(writer, ty, count_ty, count)?,
+        Op::Load { ty, addr } => write_load(writer, ty, addr)?,
+        Op::Store { ty, value, addr } => write_store(writer, ty, value, addr)?,
+        Op::Gep { ty, base, indices } => write_element_pointer(
+            writer,
+            ty,
+            base,
+            indices.as_slice(),
+        )?,
+        Op::Call { ret, callee, args } => write_call(writer, dotted, ret, callee, args.as_slice())?,
+        Op::Br { to } => write_branch(writer, to)?,
+        Op::CondBr { cond, yes, no } => write_branch_on(writer, cond, yes, no)?,
         Op::Switch {
             ty,
             value,
             other,
             cases,
-        } => write_switch(writer, ty, value, other, cases.as_slice()),
-        Op::Ret { value } => write_ret(writer, value),
-        Op::Unreachable => writer.token(b"unreachable"),
+        } => write_switch(writer, ty, value, other, cases.as_slice())?,
+        Op::Ret { value } => write_ret(writer, value)?,
+        Op::Unreachable => writer.token(b"unreachable")?,
     }
+    Ok(())
 }
