@@ -19,28 +19,22 @@ struct Counters {
     faults: u64,
 }
 
-/// Why a read gave no bytes, not even none.
-#[derive(Debug, Drop)]
-enum ChunkError {
-    Fault,
-    NoMemory,
-}
-
 /// Reads once, at most `most` bytes, and appends what was read. Answers how many bytes that were, 0 at the
-/// end of the file.
+/// end of the file. Its errors are `Failed`, where a fault was counted, and `NoMemory`.
 fn append_chunk<F: Read>(
     file: &mut F,
     chunk: &mut [u8],
     most: u64,
     bytes: &mut Vec<u8>,
     counters: &mut Counters,
-) -> Result<u64, ChunkError>
+) -> Result<u64, FileError>
     ensures within { IfOk result (λ n. n ≤ most) }
     ensures appended { IfOk result (λ n. length bytes.new.items ≡ length bytes.old.items + n) }
     ensures taken { IfOk result (λ n. RoseBy n counters.old.taken counters.new.taken) }
-    ensures fault { result ≡ Err ChunkError.Fault → Rose counters.old.faults counters.new.faults }
-    ensures ok_faultless { OnOk result (counters.new.faults ≡ counters.old.faults) }
-    ensures memory_faultless { result ≡ Err ChunkError.NoMemory → counters.new.faults ≡ counters.old.faults }
+    ensures failed { IfFailed result (Rose counters.old.faults counters.new.faults) }
+    ensures faultless { UnlessFailed result (counters.new.faults ≡ counters.old.faults) }
+    ensures never_absent { IfAbsent result ⊥ }
+    ensures never_too_long { IfTooLong result (λ n. ⊥) }
     ensures taken_never_falls { counters.old.taken ≤ counters.new.taken }
     ensures taken_ends { counters.new.taken ≤ last_count }
     ensures faults_never_fall { counters.old.faults ≤ counters.new.faults }
@@ -54,12 +48,12 @@ fn append_chunk<F: Read>(
             counters.taken = taken.saturating_add(read as u64);
             match bytes.extend_from_slice(&piece[..read]) {
                 Ok(()) => Ok(read as u64),
-                Err(_) => Err(ChunkError::NoMemory),
+                Err(_) => Err(FileError::NoMemory),
             }
         }
         Err(_) => {
             counters.faults = faults.saturating_add(1);
-            Err(ChunkError::Fault)
+            Err(FileError::Failed)
         }
     }
 }
@@ -93,8 +87,7 @@ fn read_to_end<F: Read>(
         match append_chunk(file, &mut chunk, most, &mut bytes, counters) {
             Ok(0) => return Ok(bytes),
             Ok(_) => {}
-            Err(ChunkError::Fault) => return Err(FileError::Failed),
-            Err(ChunkError::NoMemory) => return Err(FileError::NoMemory),
+            Err(error) => return Err(error),
         }
     }
     Err(FileError::TooLong { taken: limit + 1 })

@@ -22,7 +22,7 @@ kept : (b : Bool) (verdict : Verdict Bool) (e : Refusal) → cond b verdict (Err
 kept true verdict e h = (refl, h)
 kept false verdict e h = absurd cc
 
--- the same, where the refusal comes first
+-- a verdict that comes behind a refusal that doesn't stand
 passed : (b : Bool) (verdict : Verdict Bool) (e : Refusal) → cond b (Err e) verdict ≡ Ok true → verdict ≡ Ok true
 passed true verdict e h = absurd cc
 passed false verdict e h = h

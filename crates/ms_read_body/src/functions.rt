@@ -4,7 +4,6 @@ ghost use Rattle.std.specs.Prelude.{◌≡◌, IfOk, map};
 ghost use Rattle.ms_grammar.specs.Functions as spec;
 ghost use Rattle.ms_read_cursor.specs.Reading.{Gives, run};
 
-use crate::heads::{function_tail, linkage};
 use crate::lines::blocks;
 use crate::parameter_lists::parameters;
 use ms_bits::{Duplicate, List, NoMemory};
@@ -12,7 +11,7 @@ use ms_grammar::{Body, Parameters, Refusal, Symbol};
 use ms_ir::{Decl, Form, Func, Name, Ty};
 use ms_read_cursor::{Tokens, global};
 use ms_read_insts::names_printf;
-use ms_read_values::{attachments, attributes, result_ty, result_type};
+use ms_read_values::{attachments, attributes, function_tail, linkage, result_ty, result_type};
 use std::alloc::Global;
 
 /// The types of parameters. The one error is want of memory.

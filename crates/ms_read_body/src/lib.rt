@@ -6,7 +6,6 @@ mod added;
 mod calls;
 mod errors;
 mod functions;
-mod heads;
 mod instructions;
 mod line_starts;
 mod lines;

@@ -1,6 +1,6 @@
 -- Lists with commas, whose items go on from one another, as a loop reads them.
 use Rattle.std.proofs.Common.{◌≡◌, ◌<◌, Bool, true, false, ◌&&◌, List, length, refl, ◌∙◌, arith, Ok, [], ◌∷◌}
-use Rattle.ms_lex.specs.Grammar.{loop, tail, Outcome, done, fails, and_then}
+use Rattle.ms_lex.specs.Grammar.{tail, Outcome, done, fails, and_then}
 use Rattle.ms_lex.proofs.Exact.{shorter}
 use Rattle.ms_lex.proofs.Loops.{loop_goes, loop_ends}
 use Rattle.ms_grammar.specs.declared.symbols.Symbol.{Symbol}
@@ -9,14 +9,11 @@ use Rattle.ms_grammar.specs.declared.refusals.Refusal.{Refusal}
 use Rattle.ms_grammar.specs.Lexemes.{Lexeme, end_of_text, is, same_symbol}
 use Rattle.ms_grammar.specs.Steps.{Rule, Verdict, comma_begins, word, listed}
 use Rattle.ms_read_cursor.specs.Reading.{front, run}
+use Rattle.ms_read_cursor.specs.Lists.{further}
 
 -- the closing symbol, behind all items
 abbrev pub closed : {S : Type 0} → Symbol → S → List Lexeme → Outcome Lexeme Refusal S
 closed closing all rest = and_then (run (word closing) rest) (λ _. done all)
-
--- further items behind commas
-unfoldable pub further : {S : Type 0} → (S → Bool) → (S → Rule S) → S → Rule S
-further more item state = loop (comma_begins more) (λ state comma. item state) state
 
 module _ {S : Type 0} (more : S → Bool) (item : S → Rule S) where
   comma_comes : (ts : List Lexeme) → is Comma (front ts) ≡ true → length (tail ts) < length ts
@@ -56,10 +53,23 @@ module _ {S : Type 0} (more : S → Bool) (item : S → Rule S) where
   unfolding listed
   listed_stops closing start ts d k h e = rw (h, e) refl
 
-  pub listed_goes : (closing : Symbol) (start : S) (ts : List Lexeme) (x : S) (mid : List Lexeme) → is closing (front ts) ≡ false → run (item start) ts ≡ done x mid
+  listed_goes : (closing : Symbol) (start : S) (ts : List Lexeme) (x : S) (mid : List Lexeme) → is closing (front ts) ≡ false → run (item start) ts ≡ done x mid
       → run (listed closing more item start) ts ≡ and_then (run (further more item x) mid) (closed closing)
   unfolding listed further
   listed_goes closing start ts x mid h e = rw (h, e) refl
 
   pub turn_shorter : (state : S) (ts : List Lexeme) (x : S) (mid : List Lexeme) → is Comma (front ts) ≡ true → run (item state) (tail ts) ≡ done x mid → length mid < length ts
   turn_shorter state ts x mid h e = let less = shorter end_of_text (item state) (tail ts) x mid e in let comes = comma_comes ts h in omega arith
+
+  -- a list that was read up to its closing symbol, one in which a further item stops, and one without that symbol
+  pub listed_whole : (closing : Symbol) (start : S) (ts : List Lexeme) (x : S) (mid : List Lexeme) (all : S) (behind : List Lexeme) (u : Unit {0}) (left : List Lexeme) → is closing (front ts) ≡ false → run (item start) ts ≡ done x mid
+      → run (further more item x) mid ≡ done all behind → run (word closing) behind ≡ done u left → run (listed closing more item start) ts ≡ done all left
+  listed_whole closing start ts x mid all behind u left h e f w = listed_goes closing start ts x mid h e ∙ rw f (rw w refl)
+
+  pub listed_cut : (closing : Symbol) (start : S) (ts : List Lexeme) (x : S) (mid : List Lexeme) (d : Refusal) (k : List Lexeme) → is closing (front ts) ≡ false → run (item start) ts ≡ done x mid
+      → run (further more item x) mid ≡ fails d k → run (listed closing more item start) ts ≡ fails d k
+  listed_cut closing start ts x mid d k h e f = listed_goes closing start ts x mid h e ∙ rw f refl
+
+  pub listed_open : (closing : Symbol) (start : S) (ts : List Lexeme) (x : S) (mid : List Lexeme) (all : S) (behind : List Lexeme) (d : Refusal) (k : List Lexeme) → is closing (front ts) ≡ false → run (item start) ts ≡ done x mid
+      → run (further more item x) mid ≡ done all behind → run (word closing) behind ≡ fails d k → run (listed closing more item start) ts ≡ fails d k
+  listed_open closing start ts x mid all behind d k h e f w = listed_goes closing start ts x mid h e ∙ rw f (rw w refl)

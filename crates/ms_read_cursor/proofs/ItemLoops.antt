@@ -1,18 +1,14 @@
 -- Lists with commas, as a loop reads them.
 use Rattle.std.proofs.Common.{◌≡◌, ◌<◌, true, false, List, [], ◌∷◌, ◌++◌, length, refl}
-use Rattle.ms_lex.specs.Grammar.{tail, done, fails, and_then}
+use Rattle.ms_lex.specs.Grammar.{tail, done, fails}
 use Rattle.ms_grammar.specs.declared.symbols.Symbol.{Symbol}
 use Rattle.ms_grammar.specs.declared.symbols.Symbol.TheVariants.{Comma}
 use Rattle.ms_grammar.specs.declared.refusals.Refusal.{Refusal}
 use Rattle.ms_grammar.specs.Lexemes.{Lexeme, is}
-use Rattle.ms_grammar.specs.Steps.{Rule, with_item, items}
+use Rattle.ms_grammar.specs.Steps.{Rule, with_item, items, word}
 use Rattle.ms_read_cursor.specs.Reading.{front, run}
+use Rattle.ms_read_cursor.specs.Lists.{further_items}
 use Rattle.ms_read_cursor.proofs.Further as series
-use Rattle.ms_read_cursor.proofs.Further.{closed, further}
-
--- further items of a list
-unfoldable pub further_items : {A : Type 0} → Rule A → List A → Rule (List A)
-further_items item = further (λ found. true) (with_item item)
 
 module _ {A : Type 0} (item : Rule A) where
   item_goes : (found : List A) (ts : List Lexeme) (x : A) (mid : List Lexeme) → run item ts ≡ done x mid → run (with_item item found) ts ≡ done (found ++ x ∷ []) mid
@@ -41,10 +37,23 @@ module _ {A : Type 0} (item : Rule A) where
   unfolding items
   items_stop closing ts d k h e = series.listed_stops (λ found. true) (with_item item) closing [] ts d k h (item_stops [] ts d k e)
 
-  pub items_go : (closing : Symbol) (ts : List Lexeme) (x : A) (mid : List Lexeme) → is closing (front ts) ≡ false → run item ts ≡ done x mid
-      → run (items closing item) ts ≡ and_then (run (further_items item (x ∷ [])) mid) (closed closing)
+  -- a list that was read up to its closing symbol, one in which a further item stops, and one without that symbol
+  pub items_whole : (closing : Symbol) (ts : List Lexeme) (x : A) (mid : List Lexeme) (all : List A) (behind : List Lexeme) (u : Unit {0}) (left : List Lexeme) → is closing (front ts) ≡ false → run item ts ≡ done x mid
+      → run (further_items item (x ∷ [])) mid ≡ done all behind → run (word closing) behind ≡ done u left → run (items closing item) ts ≡ done all left
   unfolding items further_items
-  items_go closing ts x mid h e = series.listed_goes (λ found. true) (with_item item) closing [] ts (x ∷ []) mid h (item_goes [] ts x mid e)
+  items_whole closing ts x mid all behind u left h e f w =
+      series.listed_whole (λ found. true) (with_item item) closing [] ts (x ∷ []) mid all behind u left h (item_goes [] ts x mid e) f w
+
+  pub items_cut : (closing : Symbol) (ts : List Lexeme) (x : A) (mid : List Lexeme) (d : Refusal) (k : List Lexeme) → is closing (front ts) ≡ false → run item ts ≡ done x mid
+      → run (further_items item (x ∷ [])) mid ≡ fails d k → run (items closing item) ts ≡ fails d k
+  unfolding items further_items
+  items_cut closing ts x mid d k h e f = series.listed_cut (λ found. true) (with_item item) closing [] ts (x ∷ []) mid d k h (item_goes [] ts x mid e) f
+
+  pub items_open : (closing : Symbol) (ts : List Lexeme) (x : A) (mid : List Lexeme) (all : List A) (behind : List Lexeme) (d : Refusal) (k : List Lexeme) → is closing (front ts) ≡ false → run item ts ≡ done x mid
+      → run (further_items item (x ∷ [])) mid ≡ done all behind → run (word closing) behind ≡ fails d k → run (items closing item) ts ≡ fails d k
+  unfolding items further_items
+  items_open closing ts x mid all behind d k h e f w =
+      series.listed_open (λ found. true) (with_item item) closing [] ts (x ∷ []) mid all behind d k h (item_goes [] ts x mid e) f w
 
   pub turn_shorter : (ts : List Lexeme) (x : A) (mid : List Lexeme) → is Comma (front ts) ≡ true → run item (tail ts) ≡ done x mid → length mid < length ts
   turn_shorter ts x mid h e = series.turn_shorter (λ found. true) (with_item item) [] ts (x ∷ []) mid h (item_goes [] (tail ts) x mid e)

@@ -1,12 +1,10 @@
-//! Lists with commas between, of whatever a rule reads.
+//! What reads one item, and lists that grow by an item.
 
 ghost use Rattle.std.specs.Prelude.{◌≡◌, ◌++◌, ◌∷◌, [], IfOk};
-ghost use Rattle.ms_grammar.specs.Steps.{items};
-ghost use Rattle.ms_read_cursor.specs.Reading.{Gives, run};
 
 use crate::cursor::Tokens;
 use ms_bits::{List, NoMemory};
-use ms_grammar::{Refusal, Symbol};
+use ms_grammar::Refusal;
 use std::alloc::Global;
 
 /// What reads one item, which is a piece of the grammar.
@@ -31,26 +29,9 @@ pub fn with_last<T: Drop>(list: List<T>, item: T) -> Result<List<T>, NoMemory>
     Ok(List::from_vec(items))
 }
 
-/// No item, or items with commas between, and the closing symbol.
-#[tactic(auto, using(crate::proofs::ItemLoops::more_goes, crate::proofs::ItemLoops::more_stops, crate::proofs::ItemLoops::more_ends, crate::proofs::ItemLoops::items_go, crate::proofs::ItemLoops::items_stop, crate::proofs::ItemLoops::items_empty, crate::proofs::ItemLoops::turn_shorter))]
-pub fn list<R: Rule>(
-    alloc: Global,
-    tokens: &mut Tokens<'_>,
-    closing: Symbol,
-    rule: &R,
-) -> Result<List<R::Value>, Refusal>
-    ensures { Gives (run (items closing (R.piece rule.now)) tokens.old) result tokens.new }
+/// A list of one item. The one error is want of memory.
+pub fn single<T: Drop>(alloc: Global, item: T) -> Result<List<T>, NoMemory>
+    ensures { IfOk result (λ l. l ≡ item ∷ []) }
 {
-    let mut found = Vec::new(alloc);
-    if tokens.sees(closing) {
-        tokens.advance();
-        return Ok(List::from_vec(found));
-    }
-    found.push(rule.read(alloc, tokens)?)?;
-    'commas: while tokens.sees(Symbol::Comma) {
-        tokens.advance();
-        found.push(rule.read(alloc, tokens)?)?;
-    }
-    tokens.word(closing)?;
-    Ok(List::from_vec(found))
+    with_last(List::from_vec(Vec::new(alloc)), item)
 }

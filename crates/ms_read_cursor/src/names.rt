@@ -10,8 +10,8 @@ use crate::cursor::Tokens;
 use crate::lexemes::Lexeme;
 use ms_bits::Bytes;
 use ms_grammar::{Limit, Refusal, Symbol};
-use ms_ir::{Form, Name, RuntimeFn, is_slot};
 use ms_ir::spelling::{is_inserted, is_reserved};
+use ms_ir::{Form, Name, RuntimeFn, is_slot};
 use std::alloc::Global;
 
 /// Whether a global can't have this name in the form.

@@ -1,8 +1,10 @@
 //! Lists with commas between, each item of which goes on from what was read before it.
 
-ghost use Rattle.std.specs.Prelude.{◌≡◌};
+ghost use Rattle.std.specs.Prelude.{◌≡◌, false};
+ghost use Rattle.ms_grammar.specs.Lexemes.{is};
 ghost use Rattle.ms_grammar.specs.Steps as spec;
-ghost use Rattle.ms_read_cursor.specs.Reading.{Gives, run};
+ghost use Rattle.ms_read_cursor.specs.Lists as lists;
+ghost use Rattle.ms_read_cursor.specs.Reading.{Gives, front, run};
 
 use crate::cursor::Tokens;
 use ms_grammar::{Refusal, Symbol};
@@ -34,8 +36,44 @@ pub trait Series {
         ensures { Gives (run (item self.now state) tokens.old) result tokens.new };
 }
 
+/// Reads further items behind commas, as long as one may come.
+#[tactic(auto, using(crate::proofs::Further::more_goes, crate::proofs::Further::more_stops, crate::proofs::Further::more_ends, crate::proofs::Further::no_more, crate::proofs::Further::turn_shorter))]
+fn further<S: Series>(
+    alloc: Global,
+    tokens: &mut Tokens<'_>,
+    rule: &S,
+    start: S::State,
+) -> Result<S::State, Refusal>
+    ensures { Gives (run (lists.further (S.more rule.now) (S.item rule.now) start) tokens.old) result tokens.new }
+{
+    let mut state = start;
+    'commas: while rule.has_more(&state) && tokens.sees(Symbol::Comma) {
+        tokens.advance();
+        state = rule.read(alloc, state, tokens)?;
+    }
+    Ok(state)
+}
+
+/// Items with commas between, and the closing symbol, which doesn't come first.
+#[tactic(auto, using(crate::proofs::Further::listed_whole, crate::proofs::Further::listed_cut, crate::proofs::Further::listed_open, crate::proofs::Further::listed_stops))]
+fn filled<S: Series>(
+    alloc: Global,
+    tokens: &mut Tokens<'_>,
+    closing: Symbol,
+    rule: &S,
+    start: S::State,
+) -> Result<S::State, Refusal>
+    requires { is closing (front tokens.old) ≡ false }
+    ensures { Gives (run (spec.listed closing (S.more rule.now) (S.item rule.now) start) tokens.old) result tokens.new }
+{
+    let first = rule.read(alloc, start, tokens)?;
+    let all = further(alloc, tokens, rule, first)?;
+    tokens.word(closing)?;
+    Ok(all)
+}
+
 /// No item, or items with commas between, and the closing symbol.
-#[tactic(auto, using(crate::proofs::Further::more_goes, crate::proofs::Further::more_stops, crate::proofs::Further::more_ends, crate::proofs::Further::no_more, crate::proofs::Further::listed_goes, crate::proofs::Further::listed_stops, crate::proofs::Further::listed_empty, crate::proofs::Further::turn_shorter))]
+#[tactic(auto, using(crate::proofs::Further::listed_empty))]
 pub fn listed<S: Series>(
     alloc: Global,
     tokens: &mut Tokens<'_>,
@@ -47,13 +85,8 @@ pub fn listed<S: Series>(
 {
     if tokens.sees(closing) {
         tokens.advance();
-        return Ok(start);
+        Ok(start)
+    } else {
+        filled(alloc, tokens, closing, rule, start)
     }
-    let mut state = rule.read(alloc, start, tokens)?;
-    'commas: while rule.has_more(&state) && tokens.sees(Symbol::Comma) {
-        tokens.advance();
-        state = rule.read(alloc, state, tokens)?;
-    }
-    tokens.word(closing)?;
-    Ok(state)
 }

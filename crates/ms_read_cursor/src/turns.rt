@@ -1,8 +1,8 @@
 //! Turns of one kind after another, each of which takes the token that begins it.
 
 ghost use Rattle.std.specs.Prelude.{◌≡◌, Ok, true, length};
-ghost use Rattle.ms_lex.specs.Grammar.{loop};
-ghost use Rattle.ms_read_cursor.specs.Reading.{Gives, run};
+ghost use Rattle.ms_lex.specs.Grammar.{loop, tail};
+ghost use Rattle.ms_read_cursor.specs.Reading.{Gives, Judges, front, run};
 
 use crate::cursor::Tokens;
 use crate::lexemes::Lexeme;
@@ -44,6 +44,33 @@ pub trait Turn {
         ensures { Gives (run (body self.now state first.now) tokens.old) result tokens.new };
 }
 
+/// Whether the next token begins a turn, or why it can't stand.
+fn begins_turn<T: Turn>(
+    alloc: Global,
+    tokens: &Tokens<'_>,
+    rule: &T,
+    state: &T::State,
+) -> Result<bool, Refusal>
+    ensures { Judges (T.begins rule.now state.now (front tokens.now)) result }
+{
+    rule.goes_on(alloc, state, &tokens.lexeme())
+}
+
+/// Reads a turn, which the next token begins.
+fn one_turn<T: Turn>(
+    alloc: Global,
+    tokens: &mut Tokens<'_>,
+    rule: &T,
+    state: T::State,
+) -> Result<T::State, Refusal>
+    requires { T.begins rule.now state (front tokens.old) ≡ Ok true }
+    ensures { Gives (run (T.body rule.now state (front tokens.old)) (tail tokens.old)) result tokens.new }
+{
+    let first = tokens.lexeme();
+    tokens.advance();
+    rule.turn(alloc, state, &first, tokens)
+}
+
 /// Turn after turn, as long as the next token begins one.
 #[tactic(auto, using(ms_lex::proofs::Loops::loop_goes, ms_lex::proofs::Loops::loop_ends, ms_lex::proofs::Loops::loop_stops, ms_lex::proofs::Loops::loop_moves, ms_lex::proofs::Loops::loop_all))]
 pub fn repeat<T: Turn>(
@@ -56,12 +83,10 @@ pub fn repeat<T: Turn>(
 {
     let mut state = state;
     'turns: while tokens.left() > 0 {
-        let first = tokens.lexeme();
-        if !rule.goes_on(alloc, &state, &first)? {
+        if !begins_turn(alloc, tokens, rule, &state)? {
             return Ok(state);
         }
-        tokens.advance();
-        state = rule.turn(alloc, state, &first, tokens)?;
+        state = one_turn(alloc, tokens, rule, state)?;
     }
     Ok(state)
 }

@@ -1,14 +1,16 @@
 //! Calls (LLVM Language Reference, "'call' Instruction").
 
-ghost use Rattle.std.specs.Prelude.{◌≡◌, codes, length};
+ghost use Rattle.std.specs.Prelude.{◌≡◌, IfOk, codes, length};
+ghost use Rattle.ms_ir.specs.declared.syntax.Op.TheVariants as operation;
 ghost use Rattle.std.specs.Str.{bytes_eq};
 ghost use Rattle.ms_lex.specs.Grammar.{one};
 ghost use Rattle.ms_grammar.specs.Lexemes.{name_in};
 ghost use Rattle.ms_grammar.specs.Insts as spec;
 ghost use Rattle.ms_read_cursor.specs.Reading.{Gives, Judges, run};
+ghost use Rattle.ms_read_insts.specs.Rests as rest;
 
 use crate::call_ends::call_end;
-use ms_bits::{Boxed, List};
+use ms_bits::{Boxed, List, NoMemory};
 use ms_grammar::{Limit, Outside, Refusal, Symbol};
 use ms_ir::{Form, Name, Op, Operand, Ty};
 use ms_read_cursor::{Lexeme, Series, Tokens, global_name, listed, with_last};
@@ -154,6 +156,21 @@ fn argument_type(
     Ok(ty)
 }
 
+/// Reads attributes and a value behind the type of an argument.
+fn argument_rest(
+    alloc: Global,
+    tokens: &mut Tokens<'_>,
+    form: Form,
+    ty: ValueType,
+    found: List<(Ty, Operand)>,
+) -> Result<List<(Ty, Operand)>, Refusal>
+    ensures { Gives (run (rest.argument_rest form ty found) tokens.old) result tokens.new }
+{
+    attributes(alloc, tokens, form)?;
+    let operand = value(alloc, tokens, form, ty)?;
+    Ok(with_last(found, (ty.ty(), operand.into_inner()))?)
+}
+
 /// Reads an argument behind those that were found.
 #[tactic(auto, unfolding(ms_grammar::specs::Insts::argument))]
 fn argument(
@@ -166,9 +183,7 @@ fn argument(
     ensures { Gives (run (spec.argument form counted found) tokens.old) result tokens.new }
 {
     let ty = argument_type(tokens, counted, &found)?;
-    attributes(alloc, tokens, form)?;
-    let operand = value(alloc, tokens, form, ty)?;
-    Ok(with_last(found, (ty.ty(), operand.into_inner()))?)
+    argument_rest(alloc, tokens, form, ty, found)
 }
 
 #[derive(Clone, Copy)]
@@ -226,6 +241,69 @@ fn call_word(tokens: &mut Tokens<'_>, first: Symbol) -> Result<(), Refusal>
     }
 }
 
+/// A call. The one error is want of memory.
+fn call_of(
+    alloc: Global,
+    ret: Option<ValueType>,
+    callee: Name,
+    args: List<(Ty, Operand)>,
+) -> Result<Boxed<Op>, NoMemory>
+    ensures { IfOk result (λ o. o ≡ operation.Call ret callee args) }
+{
+    Boxed::new(
+        alloc,
+        Op::Call {
+            ret: result_ty(ret),
+            callee,
+            args,
+        },
+    )
+}
+
+/// Reads what stands behind the arguments of a call.
+fn call_marked(
+    alloc: Global,
+    tokens: &mut Tokens<'_>,
+    form: Form,
+    ret: &Option<ValueType>,
+    callee: Name,
+    args: List<(Ty, Operand)>,
+) -> Result<(Boxed<Op>, bool), Refusal>
+    ensures { Gives (run (rest.call_marked form ret.now callee args) tokens.old) result tokens.new }
+{
+    let marked = call_end(alloc, tokens, form)?;
+    Ok((call_of(alloc, *ret, callee, args)?, marked))
+}
+
+/// Reads the arguments of a call behind `(`, and what stands behind them.
+fn call_rest(
+    alloc: Global,
+    tokens: &mut Tokens<'_>,
+    form: Form,
+    ret: &Option<ValueType>,
+    callee: Name,
+) -> Result<(Boxed<Op>, bool), Refusal>
+    ensures { Gives (run (rest.call_rest form ret.now callee) tokens.old) result tokens.new }
+{
+    let args = arguments(alloc, tokens, form, names_printf(&callee))?;
+    call_marked(alloc, tokens, form, ret, callee, args)
+}
+
+/// Reads the callee, in front of which its type may stand, and the rest of a call.
+fn call_callee(
+    alloc: Global,
+    tokens: &mut Tokens<'_>,
+    form: Form,
+    ret: &Option<ValueType>,
+) -> Result<(Boxed<Op>, bool), Refusal>
+    ensures { Gives (run (rest.call_callee form ret.now) tokens.old) result tokens.new }
+{
+    let dotted = callee_type(tokens, *ret)?;
+    let callee = callee(alloc, tokens, form, dotted)?;
+    tokens.word(Symbol::OpenParen)?;
+    call_rest(alloc, tokens, form, ret, callee)
+}
+
 /// Reads a call behind its first word, which is `call`, `tail`, `musttail` or `notail`, with what is attached. `named` says
 /// whether its result has a name. The second value is whether what is attached has the mark.
 ///
@@ -247,15 +325,5 @@ pub fn call_rule(
     call_word(tokens, first)?;
     attributes(alloc, tokens, form)?;
     let ret = call_type(tokens, named)?;
-    let dotted = callee_type(tokens, ret)?;
-    let callee = callee(alloc, tokens, form, dotted)?;
-    tokens.word(Symbol::OpenParen)?;
-    let args = arguments(alloc, tokens, form, names_printf(&callee))?;
-    let marked = call_end(alloc, tokens, form)?;
-    let read = Op::Call {
-        ret: result_ty(ret),
-        callee,
-        args,
-    };
-    Ok((Boxed::new(alloc, read)?, marked))
+    call_callee(alloc, tokens, form, &ret)
 }

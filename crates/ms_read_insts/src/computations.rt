@@ -1,18 +1,93 @@
 //! Operations on words (LLVM Language Reference, "Binary Operations", "Bitwise Binary Operations", "Conversion Operations",
 //! "Other Operations").
 
-ghost use Rattle.std.specs.Prelude.{◌≡◌};
+ghost use Rattle.std.specs.Prelude.{◌≡◌, IfOk};
 ghost use Rattle.ms_ir.specs.declared.syntax.Ty.TheVariants as ty;
+ghost use Rattle.ms_ir.specs.declared.syntax.Op.TheVariants as operation;
 ghost use Rattle.ms_grammar.specs.Insts as spec;
 ghost use Rattle.ms_read_cursor.specs.Reading.{Gives, Judges, run};
+ghost use Rattle.ms_read_insts.specs.Rests as rest;
 
 use crate::flags::{Carrier, flags_of};
-use ms_bits::{BinOp, Boxed, CastOp, Pred};
+use ms_bits::{BinOp, Boxed, CastOp, Flags, NoMemory, Pred};
 use ms_grammar::{Refusal, Symbol};
-use ms_ir::{Form, Op};
+use ms_ir::{Form, Op, Operand};
 use ms_read_cursor::{Lexeme, Tokens, same_symbol};
 use ms_read_values::{ValueType, int_type, value, value_type, value_type_of};
 use std::alloc::Global;
+
+/// An operation on two operands of one type, as far as it is read in front of the type.
+#[derive(Clone, Copy)]
+enum OnTwo {
+    Binary(BinOp, Flags),
+    Compare(Pred, Flags),
+}
+
+impl OnTwo {
+    /// The operation on these operands. The one error is want of memory.
+    fn of(
+        self,
+        alloc: Global,
+        ty: ValueType,
+        a: Boxed<Operand>,
+        b: Boxed<Operand>,
+    ) -> Result<Boxed<Op>, NoMemory>
+        ensures { IfOk result (λ o. o ≡ rest.on_two self ty a b) }
+    {
+        match self {
+            OnTwo::Binary(op, flags) => Boxed::new(
+                alloc,
+                Op::Binary {
+                    op,
+                    flags,
+                    ty: ty.ty(),
+                    a: a.into_inner(),
+                    b: b.into_inner(),
+                },
+            ),
+            OnTwo::Compare(pred, flags) => Boxed::new(
+                alloc,
+                Op::Icmp {
+                    pred,
+                    flags,
+                    ty: ty.ty(),
+                    a: a.into_inner(),
+                    b: b.into_inner(),
+                },
+            ),
+        }
+    }
+}
+
+/// Reads `, b` behind the first operand.
+fn second_operand(
+    alloc: Global,
+    tokens: &mut Tokens<'_>,
+    form: Form,
+    operation: OnTwo,
+    ty: ValueType,
+    a: Boxed<Operand>,
+) -> Result<Boxed<Op>, Refusal>
+    ensures { Gives (run (rest.second_operand form operation ty a) tokens.old) result tokens.new }
+{
+    tokens.word(Symbol::Comma)?;
+    let b = value(alloc, tokens, form, ty)?;
+    Ok(operation.of(alloc, ty, a, b)?)
+}
+
+/// Reads `a, b` behind their type.
+fn two_operands(
+    alloc: Global,
+    tokens: &mut Tokens<'_>,
+    form: Form,
+    operation: OnTwo,
+    ty: ValueType,
+) -> Result<Boxed<Op>, Refusal>
+    ensures { Gives (run (rest.two_operands form operation ty) tokens.old) result tokens.new }
+{
+    let a = value(alloc, tokens, form, ty)?;
+    second_operand(alloc, tokens, form, operation, ty, a)
+}
 
 /// Reads a binary operation behind its word: `flags iN a, b`.
 ///
@@ -30,17 +105,7 @@ pub fn binary_rule(
 {
     let flags = flags_of(alloc, tokens, Carrier::Binary(op))?;
     let ty = ValueType::int(int_type(tokens)?);
-    let a = value(alloc, tokens, form, ty)?;
-    tokens.word(Symbol::Comma)?;
-    let b = value(alloc, tokens, form, ty)?;
-    let read = Op::Binary {
-        op,
-        flags,
-        ty: ty.ty(),
-        a: a.into_inner(),
-        b: b.into_inner(),
-    };
-    Ok(Boxed::new(alloc, read)?)
+    two_operands(alloc, tokens, form, OnTwo::Binary(op, flags), ty)
 }
 
 /// The predicate that a word names.
@@ -93,17 +158,61 @@ pub fn compare_rule(
     let flags = flags_of(alloc, tokens, Carrier::Compare)?;
     let pred = predicate_word(tokens)?;
     let ty = value_type(tokens)?;
-    let a = value(alloc, tokens, form, ty)?;
-    tokens.word(Symbol::Comma)?;
-    let b = value(alloc, tokens, form, ty)?;
-    let read = Op::Icmp {
-        pred,
-        flags,
-        ty: ty.ty(),
-        a: a.into_inner(),
-        b: b.into_inner(),
-    };
-    Ok(Boxed::new(alloc, read)?)
+    two_operands(alloc, tokens, form, OnTwo::Compare(pred, flags), ty)
+}
+
+/// A cast. The one error is want of memory.
+fn cast_of(
+    alloc: Global,
+    op: CastOp,
+    flags: Flags,
+    from: ValueType,
+    a: Boxed<Operand>,
+    to: ValueType,
+) -> Result<Boxed<Op>, NoMemory>
+    ensures { IfOk result (λ o. o ≡ operation.Cast op flags from a to) }
+{
+    Boxed::new(
+        alloc,
+        Op::Cast {
+            op,
+            flags,
+            from: from.ty(),
+            a: a.into_inner(),
+            to: to.ty(),
+        },
+    )
+}
+
+/// Reads `to type` behind the operand of a cast.
+fn cast_end(
+    alloc: Global,
+    tokens: &mut Tokens<'_>,
+    op: CastOp,
+    flags: Flags,
+    from: ValueType,
+    a: Boxed<Operand>,
+) -> Result<Boxed<Op>, Refusal>
+    ensures { Gives (run (rest.cast_end op flags from a) tokens.old) result tokens.new }
+{
+    tokens.word(Symbol::To)?;
+    let to = value_type(tokens)?;
+    Ok(cast_of(alloc, op, flags, from, a, to)?)
+}
+
+/// Reads `a to type` behind the type of `a`.
+fn cast_rest(
+    alloc: Global,
+    tokens: &mut Tokens<'_>,
+    form: Form,
+    op: CastOp,
+    flags: Flags,
+    from: ValueType,
+) -> Result<Boxed<Op>, Refusal>
+    ensures { Gives (run (rest.cast_rest form op flags from) tokens.old) result tokens.new }
+{
+    let a = value(alloc, tokens, form, from)?;
+    cast_end(alloc, tokens, op, flags, from, a)
 }
 
 /// Reads a cast behind its word: `flags type a to type`.
@@ -122,17 +231,7 @@ pub fn cast_rule(
 {
     let flags = flags_of(alloc, tokens, Carrier::Cast(op))?;
     let from = value_type(tokens)?;
-    let a = value(alloc, tokens, form, from)?;
-    tokens.word(Symbol::To)?;
-    let to = value_type(tokens)?;
-    let read = Op::Cast {
-        op,
-        flags,
-        from: from.ty(),
-        a: a.into_inner(),
-        to: to.ty(),
-    };
-    Ok(Boxed::new(alloc, read)?)
+    cast_rest(alloc, tokens, form, op, flags, from)
 }
 
 /// Whether a token is an integer type of this width.
@@ -176,7 +275,7 @@ fn same_type_of(ty: ValueType, token: &Lexeme<'_>) -> Result<(), Refusal>
     Err(token.refusal())
 }
 
-/// Takes the same type of a value again.
+/// Takes this type of a value, and no other.
 #[tactic(auto, unfolding(ms_grammar::specs::Insts::same_type))]
 fn same_type(tokens: &mut Tokens<'_>, ty: ValueType) -> Result<(), Refusal>
     ensures { Gives (run (spec.same_type ty) tokens.old) result tokens.new }
@@ -184,6 +283,72 @@ fn same_type(tokens: &mut Tokens<'_>, ty: ValueType) -> Result<(), Refusal>
     same_type_of(ty, &tokens.lexeme())?;
     tokens.advance();
     Ok(())
+}
+
+/// A `select`. The one error is want of memory.
+fn select_of(
+    alloc: Global,
+    cond: Boxed<Operand>,
+    ty: ValueType,
+    a: Boxed<Operand>,
+    b: Boxed<Operand>,
+) -> Result<Boxed<Op>, NoMemory>
+    ensures { IfOk result (λ o. o ≡ operation.Select cond ty a b) }
+{
+    Boxed::new(
+        alloc,
+        Op::Select {
+            cond: cond.into_inner(),
+            ty: ty.ty(),
+            a: a.into_inner(),
+            b: b.into_inner(),
+        },
+    )
+}
+
+/// Reads the second value behind its type.
+fn select_last(
+    alloc: Global,
+    tokens: &mut Tokens<'_>,
+    form: Form,
+    cond: Boxed<Operand>,
+    ty: ValueType,
+    a: Boxed<Operand>,
+) -> Result<Boxed<Op>, Refusal>
+    ensures { Gives (run (rest.select_last form cond ty a) tokens.old) result tokens.new }
+{
+    let b = value(alloc, tokens, form, ty)?;
+    Ok(select_of(alloc, cond, ty, a, b)?)
+}
+
+/// Reads `, type b` behind the first value.
+fn select_end(
+    alloc: Global,
+    tokens: &mut Tokens<'_>,
+    form: Form,
+    cond: Boxed<Operand>,
+    ty: ValueType,
+    a: Boxed<Operand>,
+) -> Result<Boxed<Op>, Refusal>
+    ensures { Gives (run (rest.select_end form cond ty a) tokens.old) result tokens.new }
+{
+    tokens.word(Symbol::Comma)?;
+    same_type(tokens, ty)?;
+    select_last(alloc, tokens, form, cond, ty, a)
+}
+
+/// Reads `type a, type b` behind the condition.
+fn select_rest(
+    alloc: Global,
+    tokens: &mut Tokens<'_>,
+    form: Form,
+    cond: Boxed<Operand>,
+) -> Result<Boxed<Op>, Refusal>
+    ensures { Gives (run (rest.select_rest form cond) tokens.old) result tokens.new }
+{
+    let ty = value_type(tokens)?;
+    let a = value(alloc, tokens, form, ty)?;
+    select_end(alloc, tokens, form, cond, ty, a)
 }
 
 /// Reads a `select` behind its word: `i1 condition, type a, type b`, with one type twice.
@@ -198,18 +363,7 @@ pub fn select_rule(alloc: Global, tokens: &mut Tokens<'_>, form: Form) -> Result
     bit_type(tokens)?;
     let cond = value(alloc, tokens, form, ValueType::int(1))?;
     tokens.word(Symbol::Comma)?;
-    let ty = value_type(tokens)?;
-    let a = value(alloc, tokens, form, ty)?;
-    tokens.word(Symbol::Comma)?;
-    same_type(tokens, ty)?;
-    let b = value(alloc, tokens, form, ty)?;
-    let read = Op::Select {
-        cond: cond.into_inner(),
-        ty: ty.ty(),
-        a: a.into_inner(),
-        b: b.into_inner(),
-    };
-    Ok(Boxed::new(alloc, read)?)
+    select_rest(alloc, tokens, form, cond)
 }
 
 /// Reads a `freeze` behind its word: `type a`.

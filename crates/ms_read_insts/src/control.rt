@@ -1,17 +1,33 @@
 //! Phis and terminators (LLVM Language Reference, "'phi' Instruction", "Terminator Instructions").
 
-ghost use Rattle.std.specs.Prelude.{◌≡◌, ◌∷◌, ◌++◌, [], IfOk, false};
+ghost use Rattle.std.specs.Prelude.{◌≡◌, ◌∷◌, ◌++◌, [], IfOk, Some, false};
+ghost use Rattle.ms_ir.specs.declared.syntax.Op.TheVariants as operation;
 ghost use Rattle.ms_grammar.specs.Insts as spec;
 ghost use Rattle.ms_read_cursor.specs.Reading.{Gives, run};
 ghost use Rattle.ms_read_values.specs.Narrow.{IsWidth};
+ghost use Rattle.ms_read_insts.specs.Rests as rest;
 
 use crate::computations::{bit_type, is_int_type};
 use ms_bits::{Boxed, List, NoMemory};
 use ms_grammar::{Edges, Refusal, Symbol};
-use ms_ir::{Form, Name, Op, Operand};
+use ms_ir::{Form, Name, Op, Operand, Ty};
 use ms_read_cursor::{Lexeme, Tokens, Turn, local, repeat, with_last};
 use ms_read_values::{ValueType, int_type, number, result_type, suffixes_from, value, value_type};
 use std::alloc::Global;
+
+/// Reads the block that control comes from, and `]`.
+fn edge_end(
+    alloc: Global,
+    tokens: &mut Tokens<'_>,
+    form: Form,
+    operand: Boxed<Operand>,
+) -> Result<(Boxed<Operand>, Name), Refusal>
+    ensures { Gives (run (rest.edge_end form operand) tokens.old) result tokens.new }
+{
+    let from = local(alloc, tokens, form)?;
+    tokens.word(Symbol::CloseBracket)?;
+    Ok((operand, from))
+}
 
 /// Reads an edge of a phi behind its `[`.
 #[tactic(auto, unfolding(ms_grammar::specs::Insts::edge))]
@@ -25,9 +41,7 @@ fn edge(
 {
     let operand = value(alloc, tokens, form, ty)?;
     tokens.word(Symbol::Comma)?;
-    let from = local(alloc, tokens, form)?;
-    tokens.word(Symbol::CloseBracket)?;
-    Ok((operand, from))
+    edge_end(alloc, tokens, form, operand)
 }
 
 /// The state behind one edge more.
@@ -35,8 +49,9 @@ fn with_edge(found: List<(Operand, Name)>, edge: (Boxed<Operand>, Name)) -> Resu
     ensures { IfOk result (λ edges. edges ≡ record { found = found ++ edge ∷ []; ended = false }) }
 {
     let (operand, from) = edge;
+    let found = with_last(found, (operand.into_inner(), from))?;
     Ok(Edges {
-        found: with_last(found, (operand.into_inner(), from))?,
+        found,
         ended: false,
     })
 }
@@ -100,6 +115,28 @@ fn first_edges(alloc: Global, first: (Boxed<Operand>, Name)) -> Result<Edges, No
     with_edge(List::from_vec(Vec::new(alloc)), first)
 }
 
+/// A phi. The one error is want of memory.
+fn phi_of(alloc: Global, ty: ValueType, edges: List<(Operand, Name)>) -> Result<Boxed<Op>, NoMemory>
+    ensures { IfOk result (λ o. o ≡ operation.Phi ty edges) }
+{
+    Boxed::new(alloc, Op::Phi { ty: ty.ty(), edges })
+}
+
+/// Reads the edges behind the first one, and what is attached.
+fn phi_rest(
+    alloc: Global,
+    tokens: &mut Tokens<'_>,
+    form: Form,
+    ty: ValueType,
+    first: Edges,
+) -> Result<(Boxed<Op>, bool), Refusal>
+    ensures { Gives (run (rest.phi_rest form ty first) tokens.old) result tokens.new }
+{
+    let Edges { found, ended } = repeat(alloc, tokens, &EdgeTurn { form, ty }, first)?;
+    let marked = suffixes_from(alloc, tokens, form, ended)?;
+    Ok((phi_of(alloc, ty, found)?, marked))
+}
+
 /// Reads a phi behind its word: `type [value, local]`, more edges behind commas, and what is attached. The second value is
 /// whether that has the mark.
 ///
@@ -116,14 +153,8 @@ pub fn phi_rule(
 {
     let ty = value_type(tokens)?;
     tokens.word(Symbol::OpenBracket)?;
-    let start = first_edges(alloc, edge(alloc, tokens, form, ty)?)?;
-    let Edges { found, ended } = repeat(alloc, tokens, &EdgeTurn { form, ty }, start)?;
-    let marked = suffixes_from(alloc, tokens, form, ended)?;
-    let read = Op::Phi {
-        ty: ty.ty(),
-        edges: found,
-    };
-    Ok((Boxed::new(alloc, read)?, marked))
+    let first = first_edges(alloc, edge(alloc, tokens, form, ty)?)?;
+    phi_rest(alloc, tokens, form, ty, first)
 }
 
 /// Takes `label` and the name of a block.
@@ -135,6 +166,54 @@ fn target(alloc: Global, tokens: &mut Tokens<'_>, form: Form) -> Result<Name, Re
     local(alloc, tokens, form)
 }
 
+/// A `br` on a condition. The one error is want of memory.
+fn branch_of(
+    alloc: Global,
+    cond: Boxed<Operand>,
+    yes: Name,
+    no: Name,
+) -> Result<Boxed<Op>, NoMemory>
+    ensures { IfOk result (λ o. o ≡ operation.CondBr cond yes no) }
+{
+    Boxed::new(
+        alloc,
+        Op::CondBr {
+            cond: cond.into_inner(),
+            yes,
+            no,
+        },
+    )
+}
+
+/// Reads `, label %no` behind the first target.
+fn branch_end(
+    alloc: Global,
+    tokens: &mut Tokens<'_>,
+    form: Form,
+    cond: Boxed<Operand>,
+    yes: Name,
+) -> Result<Boxed<Op>, Refusal>
+    ensures { Gives (run (rest.branch_end form cond yes) tokens.old) result tokens.new }
+{
+    tokens.word(Symbol::Comma)?;
+    let no = target(alloc, tokens, form)?;
+    Ok(branch_of(alloc, cond, yes, no)?)
+}
+
+/// Reads `, label %yes, label %no` behind the condition.
+fn branch_rest(
+    alloc: Global,
+    tokens: &mut Tokens<'_>,
+    form: Form,
+    cond: Boxed<Operand>,
+) -> Result<Boxed<Op>, Refusal>
+    ensures { Gives (run (rest.branch_rest form cond) tokens.old) result tokens.new }
+{
+    tokens.word(Symbol::Comma)?;
+    let yes = target(alloc, tokens, form)?;
+    branch_end(alloc, tokens, form, cond, yes)
+}
+
 /// Reads `i1 condition, label %yes, label %no`.
 #[tactic(auto, unfolding(ms_grammar::specs::Insts::branch_on))]
 fn branch_on(alloc: Global, tokens: &mut Tokens<'_>, form: Form) -> Result<Boxed<Op>, Refusal>
@@ -142,16 +221,7 @@ fn branch_on(alloc: Global, tokens: &mut Tokens<'_>, form: Form) -> Result<Boxed
 {
     bit_type(tokens)?;
     let cond = value(alloc, tokens, form, ValueType::int(1))?;
-    tokens.word(Symbol::Comma)?;
-    let yes = target(alloc, tokens, form)?;
-    tokens.word(Symbol::Comma)?;
-    let no = target(alloc, tokens, form)?;
-    let read = Op::CondBr {
-        cond: cond.into_inner(),
-        yes,
-        no,
-    };
-    Ok(Boxed::new(alloc, read)?)
+    branch_rest(alloc, tokens, form, cond)
 }
 
 /// Reads a `br` behind its word: `label %to`, or `i1 condition, label %yes, label %no`.
@@ -170,6 +240,21 @@ pub fn branch_rule(alloc: Global, tokens: &mut Tokens<'_>, form: Form) -> Result
     Ok(Boxed::new(alloc, Op::Br { to })?)
 }
 
+/// Reads `, label %to` behind the number of a case.
+fn case_end(
+    alloc: Global,
+    tokens: &mut Tokens<'_>,
+    form: Form,
+    n: u64,
+    found: List<(u64, Name)>,
+) -> Result<List<(u64, Name)>, Refusal>
+    ensures { Gives (run (rest.case_end form n found) tokens.old) result tokens.new }
+{
+    tokens.word(Symbol::Comma)?;
+    let to = target(alloc, tokens, form)?;
+    Ok(with_last(found, (n, to))?)
+}
+
 /// Reads a case of a `switch` behind its type.
 #[tactic(auto, unfolding(ms_grammar::specs::Insts::case_rest))]
 fn case_rest(
@@ -183,9 +268,7 @@ fn case_rest(
     ensures { Gives (run (spec.case_rest form width found) tokens.old) result tokens.new }
 {
     let n = number(tokens, width)?;
-    tokens.word(Symbol::Comma)?;
-    let to = target(alloc, tokens, form)?;
-    Ok(with_last(found, (n, to))?)
+    case_end(alloc, tokens, form, n, found)
 }
 
 /// The cases of a `switch` of this width.
@@ -225,6 +308,75 @@ impl Turn for CaseTurn {
     }
 }
 
+/// A `switch` on a value of this width. The one error is want of memory.
+fn switch_of(
+    alloc: Global,
+    width: u8,
+    value: Boxed<Operand>,
+    other: Name,
+    cases: List<(u64, Name)>,
+) -> Result<Boxed<Op>, NoMemory>
+    ensures { IfOk result (λ o. o ≡ operation.Switch (Ty.Int width) value other cases) }
+{
+    Boxed::new(
+        alloc,
+        Op::Switch {
+            ty: Ty::Int(width),
+            value: value.into_inner(),
+            other,
+            cases,
+        },
+    )
+}
+
+/// Reads `]` behind the cases of a `switch`.
+fn switch_last(
+    alloc: Global,
+    tokens: &mut Tokens<'_>,
+    width: u8,
+    value: Boxed<Operand>,
+    other: Name,
+    cases: List<(u64, Name)>,
+) -> Result<Boxed<Op>, Refusal>
+    ensures { Gives (run (rest.switch_last width value other cases) tokens.old) result tokens.new }
+{
+    tokens.word(Symbol::CloseBracket)?;
+    Ok(switch_of(alloc, width, value, other, cases)?)
+}
+
+/// Reads the cases of a `switch`, and `]`.
+fn switch_end(
+    alloc: Global,
+    tokens: &mut Tokens<'_>,
+    form: Form,
+    width: u8,
+    value: Boxed<Operand>,
+    other: Name,
+) -> Result<Boxed<Op>, Refusal>
+    requires { IsWidth width }
+    ensures { Gives (run (rest.switch_end form width value other) tokens.old) result tokens.new }
+{
+    let none = List::from_vec(Vec::new(alloc));
+    let cases = repeat(alloc, tokens, &CaseTurn { form, width }, none)?;
+    switch_last(alloc, tokens, width, value, other, cases)
+}
+
+/// Reads `label %other [` and the cases of a `switch`.
+fn switch_rest(
+    alloc: Global,
+    tokens: &mut Tokens<'_>,
+    form: Form,
+    width: u8,
+    value: Boxed<Operand>,
+) -> Result<Boxed<Op>, Refusal>
+    requires { IsWidth width }
+    ensures { Gives (run (rest.switch_rest form width value) tokens.old) result tokens.new }
+{
+    let other = target(alloc, tokens, form)?;
+    tokens.word(Symbol::OpenBracket)?;
+    switch_end(alloc, tokens, form, width, value, other)
+}
+
 /// Reads a `switch` behind its word: `iN value, label %other [iN number, label %to ..]`.
 ///
 /// # Errors
@@ -235,21 +387,21 @@ pub fn switch_rule(alloc: Global, tokens: &mut Tokens<'_>, form: Form) -> Result
     ensures { Gives (run (spec.switch_rule form) tokens.old) result tokens.new }
 {
     let width = int_type(tokens)?;
-    let ty = ValueType::int(width);
-    let value = value(alloc, tokens, form, ty)?;
+    let value = value(alloc, tokens, form, ValueType::int(width))?;
     tokens.word(Symbol::Comma)?;
-    let other = target(alloc, tokens, form)?;
-    tokens.word(Symbol::OpenBracket)?;
-    let none = List::from_vec(Vec::new(alloc));
-    let cases = repeat(alloc, tokens, &CaseTurn { form, width }, none)?;
-    tokens.word(Symbol::CloseBracket)?;
-    let read = Op::Switch {
-        ty: ty.ty(),
-        value: value.into_inner(),
-        other,
-        cases,
-    };
-    Ok(Boxed::new(alloc, read)?)
+    switch_rest(alloc, tokens, form, width, value)
+}
+
+/// A `ret` of a value. The one error is want of memory.
+fn ret_of(alloc: Global, ty: ValueType, value: Boxed<Operand>) -> Result<Boxed<Op>, NoMemory>
+    ensures { IfOk result (λ o. o ≡ operation.Ret (Some (ty, value))) }
+{
+    Boxed::new(
+        alloc,
+        Op::Ret {
+            value: Some((ty.ty(), value.into_inner())),
+        },
+    )
 }
 
 /// Reads a `ret` behind its word: `void`, or `type value`.
@@ -265,10 +417,7 @@ pub fn ret_rule(alloc: Global, tokens: &mut Tokens<'_>, form: Form) -> Result<Bo
         None => Ok(Boxed::new(alloc, Op::Ret { value: None })?),
         Some(ty) => {
             let operand = value(alloc, tokens, form, ty)?;
-            let read = Op::Ret {
-                value: Some((ty.ty(), operand.into_inner())),
-            };
-            Ok(Boxed::new(alloc, read)?)
+            Ok(ret_of(alloc, ty, operand)?)
         }
     }
 }

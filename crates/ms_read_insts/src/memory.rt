@@ -1,12 +1,14 @@
 //! Memory and addresses (LLVM Language Reference, "Memory Access and Addressing Operations").
 
-ghost use Rattle.std.specs.Prelude.{◌≡◌};
+ghost use Rattle.std.specs.Prelude.{◌≡◌, ◌∷◌, ◌++◌, [], IfOk, false};
+ghost use Rattle.ms_ir.specs.declared.syntax.Op.TheVariants as operation;
 ghost use Rattle.ms_lex.specs.Grammar.{one};
 ghost use Rattle.ms_grammar.specs.Values as values;
 ghost use Rattle.ms_grammar.specs.Insts as spec;
 ghost use Rattle.ms_read_cursor.specs.Reading.{Gives, run};
+ghost use Rattle.ms_read_insts.specs.Rests as rest;
 
-use ms_bits::{Boxed, List};
+use ms_bits::{Boxed, List, NoMemory};
 use ms_grammar::{Indices, Refusal, Symbol};
 use ms_ir::{Form, Op, Operand, Ty};
 use ms_read_cursor::{Lexeme, Tokens, Turn, repeat, with_last};
@@ -46,6 +48,25 @@ pub fn load_rule(alloc: Global, tokens: &mut Tokens<'_>, form: Form) -> Result<B
     Ok(Boxed::new(alloc, read)?)
 }
 
+/// A `store`. The one error is want of memory.
+fn store_of(
+    alloc: Global,
+    ty: ValueType,
+    value: Boxed<Operand>,
+    addr: Boxed<Operand>,
+) -> Result<Boxed<Op>, NoMemory>
+    ensures { IfOk result (λ o. o ≡ operation.Store ty value addr) }
+{
+    Boxed::new(
+        alloc,
+        Op::Store {
+            ty: ty.ty(),
+            value: value.into_inner(),
+            addr: addr.into_inner(),
+        },
+    )
+}
+
 /// Reads a `store` behind its word: `type value, ptr address`.
 ///
 /// # Errors
@@ -58,12 +79,7 @@ pub fn store_rule(alloc: Global, tokens: &mut Tokens<'_>, form: Form) -> Result<
     let ty = value_type(tokens)?;
     let value = value(alloc, tokens, form, ty)?;
     let addr = address(alloc, tokens, form)?;
-    let read = Op::Store {
-        ty: ty.ty(),
-        value: value.into_inner(),
-        addr: addr.into_inner(),
-    };
-    Ok(Boxed::new(alloc, read)?)
+    Ok(store_of(alloc, ty, value, addr)?)
 }
 
 /// Before the first index.
@@ -85,6 +101,21 @@ fn index_width(tokens: &mut Tokens<'_>, before: usize) -> Result<u8, Refusal>
     Ok(width)
 }
 
+/// The indices with one more behind them. The one error is want of memory.
+fn with_index(
+    found: List<(Ty, Operand)>,
+    ty: ValueType,
+    operand: Boxed<Operand>,
+) -> Result<Indices, NoMemory>
+    ensures { IfOk result (λ indices. indices ≡ record { found = found ++ (ty, operand) ∷ []; ended = false }) }
+{
+    let found = with_last(found, (ty.ty(), operand.into_inner()))?;
+    Ok(Indices {
+        found,
+        ended: false,
+    })
+}
+
 /// Reads a further index, whose type comes next.
 fn index(
     alloc: Global,
@@ -96,10 +127,7 @@ fn index(
 {
     let ty = ValueType::int(index_width(tokens, found.as_slice().len())?);
     let operand = value(alloc, tokens, form, ty)?;
-    Ok(Indices {
-        found: with_last(found, (ty.ty(), operand.into_inner()))?,
-        ended: false,
-    })
+    Ok(with_index(found, ty, operand)?)
 }
 
 /// Reads an index behind its comma, or finds that what is attached begins.
@@ -153,6 +181,55 @@ impl Turn for IndexTurn {
     }
 }
 
+/// A `getelementptr`. The one error is want of memory.
+fn step_of(
+    alloc: Global,
+    ty: Boxed<Ty>,
+    base: Boxed<Operand>,
+    indices: List<(Ty, Operand)>,
+) -> Result<Boxed<Op>, NoMemory>
+    ensures { IfOk result (λ o. o ≡ operation.Gep ty base indices) }
+{
+    Boxed::new(
+        alloc,
+        Op::Gep {
+            ty: ty.into_inner(),
+            base: base.into_inner(),
+            indices,
+        },
+    )
+}
+
+/// Reads what is attached behind the indices.
+fn step_end(
+    alloc: Global,
+    tokens: &mut Tokens<'_>,
+    form: Form,
+    ty: Boxed<Ty>,
+    base: Boxed<Operand>,
+    indices: Indices,
+) -> Result<(Boxed<Op>, bool), Refusal>
+    ensures { Gives (run (rest.step_end form ty base indices) tokens.old) result tokens.new }
+{
+    let Indices { found, ended } = indices;
+    let marked = suffixes_from(alloc, tokens, form, ended)?;
+    Ok((step_of(alloc, ty, base, found)?, marked))
+}
+
+/// Reads the indices behind the base, and what is attached.
+fn step_rest(
+    alloc: Global,
+    tokens: &mut Tokens<'_>,
+    form: Form,
+    ty: Boxed<Ty>,
+    base: Boxed<Operand>,
+) -> Result<(Boxed<Op>, bool), Refusal>
+    ensures { Gives (run (rest.step_rest form ty base) tokens.old) result tokens.new }
+{
+    let indices = repeat(alloc, tokens, &IndexTurn { form }, no_indices(alloc))?;
+    step_end(alloc, tokens, form, ty, base, indices)
+}
+
 /// Reads a `getelementptr` behind its word: `inbounds` and the like, `type, ptr base`, `, iN index` as many as come, and
 /// what is attached. The second value is whether that has the mark.
 ///
@@ -170,14 +247,7 @@ pub fn step_rule(
     step_words(alloc, tokens)?;
     let ty = boxed_type(alloc, tokens, form, MAX_DEPTH)?;
     let base = address(alloc, tokens, form)?;
-    let Indices { found, ended } = repeat(alloc, tokens, &IndexTurn { form }, no_indices(alloc))?;
-    let marked = suffixes_from(alloc, tokens, form, ended)?;
-    let read = Op::Gep {
-        ty: ty.into_inner(),
-        base: base.into_inner(),
-        indices: found,
-    };
-    Ok((Boxed::new(alloc, read)?, marked))
+    step_rest(alloc, tokens, form, ty, base)
 }
 
 #[derive(Clone, Copy)]
@@ -215,24 +285,81 @@ impl Turn for CountTurn {
     }
 }
 
-/// An `alloca` with the count that was written, or else with `i32 1`. At most one count is found.
-fn alloca_of(ty: Ty, found: List<(Ty, Operand)>) -> Op
-    ensures { result ≡ spec.alloca_of ty found }
+/// An `alloca` of one item, which is counted by an `i32`. The one error is want of memory.
+fn alloca_of_one(alloc: Global, ty: Boxed<Ty>) -> Result<Boxed<Op>, NoMemory>
+    ensures { IfOk result (λ o. o ≡ spec.alloca_of ty []) }
+{
+    Boxed::new(
+        alloc,
+        Op::Alloca {
+            ty: ty.into_inner(),
+            count_ty: Ty::Int(32),
+            count: Operand::Int(1),
+        },
+    )
+}
+
+/// An `alloca` with this count and its type. The one error is want of memory.
+fn alloca_counted(
+    alloc: Global,
+    ty: Boxed<Ty>,
+    counted: (Ty, Operand),
+) -> Result<Boxed<Op>, NoMemory>
+    ensures { IfOk result (λ o. o ≡ operation.Alloca ty counted.0 counted.1) }
+{
+    let (count_ty, count) = counted;
+    Boxed::new(
+        alloc,
+        Op::Alloca {
+            ty: ty.into_inner(),
+            count_ty,
+            count,
+        },
+    )
+}
+
+/// An `alloca` with the count that was written, or else with `i32 1`. At most one count is found. The one error is want of
+/// memory.
+fn alloca_of(
+    alloc: Global,
+    ty: Boxed<Ty>,
+    found: List<(Ty, Operand)>,
+) -> Result<Boxed<Op>, NoMemory>
+    ensures { IfOk result (λ o. o ≡ spec.alloca_of ty found) }
 {
     let mut counts = found.into_vec();
     if counts.is_empty() {
-        return Op::Alloca {
-            ty,
-            count_ty: Ty::Int(32),
-            count: Operand::Int(1),
-        };
+        return alloca_of_one(alloc, ty);
     }
-    let (count_ty, count) = counts.swap_remove(0);
-    Op::Alloca {
-        ty,
-        count_ty,
-        count,
-    }
+    alloca_counted(alloc, ty, counts.swap_remove(0))
+}
+
+/// Reads what is attached behind the count.
+fn alloca_end(
+    alloc: Global,
+    tokens: &mut Tokens<'_>,
+    form: Form,
+    ty: Boxed<Ty>,
+    count: Indices,
+) -> Result<(Boxed<Op>, bool), Refusal>
+    ensures { Gives (run (rest.alloca_end form ty count) tokens.old) result tokens.new }
+{
+    let Indices { found, ended } = count;
+    let marked = suffixes_from(alloc, tokens, form, ended)?;
+    Ok((alloca_of(alloc, ty, found)?, marked))
+}
+
+/// Reads the count behind the type, where one comes, and what is attached.
+fn alloca_rest(
+    alloc: Global,
+    tokens: &mut Tokens<'_>,
+    form: Form,
+    ty: Boxed<Ty>,
+) -> Result<(Boxed<Op>, bool), Refusal>
+    ensures { Gives (run (rest.alloca_rest form ty) tokens.old) result tokens.new }
+{
+    let count = repeat(alloc, tokens, &CountTurn { form }, no_indices(alloc))?;
+    alloca_end(alloc, tokens, form, ty, count)
 }
 
 /// Reads an `alloca` behind its word: `type` and perhaps `, iN count`, and what is attached. The second value is whether
@@ -250,10 +377,5 @@ pub fn alloca_rule(
     ensures { Gives (run (spec.alloca_rule form) tokens.old) result tokens.new }
 {
     let ty = boxed_type(alloc, tokens, form, MAX_DEPTH)?;
-    let Indices { found, ended } = repeat(alloc, tokens, &CountTurn { form }, no_indices(alloc))?;
-    let marked = suffixes_from(alloc, tokens, form, ended)?;
-    Ok((
-        Boxed::new(alloc, alloca_of(ty.into_inner(), found))?,
-        marked,
-    ))
+    alloca_rest(alloc, tokens, form, ty)
 }

@@ -1,3 +1,5 @@
+pub mod Attributes
 pub mod Narrow
 pub mod Parts
 pub mod ValueTypes
+pub mod Rests

@@ -1,10 +1,12 @@
 //! Attributes (LLVM Language Reference, "Parameter Attributes" and "Function Attributes").
 
+ghost use Rattle.ms_grammar.specs.Functions as functions;
 ghost use Rattle.ms_grammar.specs.Skipped as spec;
 ghost use Rattle.ms_read_cursor.specs.Reading.{Gives, run};
 
 use crate::attribute_words::is_attribute;
 use crate::brackets::in_parens;
+use crate::metadata::{attached_by, meta};
 use ms_grammar::{Refusal, Symbol};
 use ms_ir::Form;
 use ms_read_cursor::{Lexeme, Tokens, Turn, repeat};
@@ -47,23 +49,75 @@ pub fn attribute_rest(
     }
 }
 
-/// Attribute after attribute.
+/// Reads what is behind the first token of an attribute or a word of linkage, which is this symbol.
+fn linkage_rest(
+    alloc: Global,
+    tokens: &mut Tokens<'_>,
+    form: Form,
+    symbol: Symbol,
+) -> Result<(), Refusal>
+    ensures { Gives (run (functions.linkage_rest form symbol) tokens.old) result tokens.new }
+{
+    match symbol {
+        Symbol::ExternalWord => Ok(()),
+        _ => attribute_rest(alloc, tokens, form, symbol),
+    }
+}
+
+/// Reads what is behind the first token of an attribute or an attachment, which is this symbol.
+fn tail_rest(
+    alloc: Global,
+    tokens: &mut Tokens<'_>,
+    form: Form,
+    symbol: Symbol,
+) -> Result<(), Refusal>
+    ensures { Gives (run (functions.tail_rest form symbol) tokens.old) result tokens.new }
+{
+    match symbol {
+        Symbol::Meta | Symbol::NoSanitize => meta(tokens),
+        _ => attribute_rest(alloc, tokens, form, symbol),
+    }
+}
+
+/// What may stand among attributes.
+#[derive(Clone, Copy)]
+enum Among {
+    Nothing,
+    /// Words of linkage, in front of a function's type.
+    Linkage,
+    /// Attached metadata, behind a function's parameters.
+    Metadata,
+}
+
+/// Attribute after attribute, and what may stand among them.
 #[derive(Clone, Copy)]
 struct OneAttribute {
     form: Form,
+    among: Among,
 }
 
 impl Turn for OneAttribute {
     type State = ();
 
-    ghost use Rattle.ms_grammar.specs.Skipped.{attribute_begins, attribute_rest};
+    ghost use Rattle.ms_read_values.specs.Attributes.{begins_among, rest_among};
 
-    ghost begins = { λ rule. attribute_begins };
+    ghost begins = { λ rule. begins_among rule.form rule.among };
 
-    ghost body = { λ rule u t. attribute_rest rule.form t.symbol };
+    ghost body = { λ rule u t. rest_among rule.form rule.among t.symbol };
 
     fn goes_on(&self, _alloc: Global, _state: &(), first: &Lexeme<'_>) -> Result<bool, Refusal> {
-        Ok(is_attribute(first.symbol()))
+        let symbol = first.symbol();
+        match self.among {
+            Among::Nothing => Ok(is_attribute(symbol)),
+            Among::Linkage => Ok(first.is(Symbol::ExternalWord) || is_attribute(symbol)),
+            Among::Metadata => {
+                if is_attribute(symbol) {
+                    Ok(true)
+                } else {
+                    attached_by(self.form, symbol)
+                }
+            }
+        }
     }
 
     fn turn(
@@ -73,7 +127,11 @@ impl Turn for OneAttribute {
         first: &Lexeme<'_>,
         tokens: &mut Tokens<'_>,
     ) -> Result<(), Refusal> {
-        attribute_rest(alloc, tokens, self.form, first.symbol())
+        match self.among {
+            Among::Nothing => attribute_rest(alloc, tokens, self.form, first.symbol()),
+            Among::Linkage => linkage_rest(alloc, tokens, self.form, first.symbol()),
+            Among::Metadata => tail_rest(alloc, tokens, self.form, first.symbol()),
+        }
     }
 }
 
@@ -82,5 +140,29 @@ impl Turn for OneAttribute {
 pub fn attributes(alloc: Global, tokens: &mut Tokens<'_>, form: Form) -> Result<(), Refusal>
     ensures { Gives (run (spec.attributes form) tokens.old) result tokens.new }
 {
-    repeat(alloc, tokens, &OneAttribute { form }, ())
+    let among = Among::Nothing;
+    repeat(alloc, tokens, &OneAttribute { form, among }, ())
+}
+
+/// Reads as many attributes and words of linkage as come, in front of the type of a function's result. Its errors are those
+/// of `attribute_rest`.
+#[tactic(auto, unfolding(ms_grammar::specs::Functions::linkage))]
+pub fn linkage(alloc: Global, tokens: &mut Tokens<'_>, form: Form) -> Result<(), Refusal>
+    ensures { Gives (run (functions.linkage form) tokens.old) result tokens.new }
+{
+    let among = Among::Linkage;
+    repeat(alloc, tokens, &OneAttribute { form, among }, ())
+}
+
+/// Reads the attributes and the attached metadata behind the parameters of a function, as many as come.
+///
+/// # Errors
+///
+/// `Reserved` at the mark where the form doesn't have it, and those of `attribute_rest` and `meta`.
+#[tactic(auto, unfolding(ms_grammar::specs::Functions::function_tail))]
+pub fn function_tail(alloc: Global, tokens: &mut Tokens<'_>, form: Form) -> Result<(), Refusal>
+    ensures { Gives (run (functions.function_tail form) tokens.old) result tokens.new }
+{
+    let among = Among::Metadata;
+    repeat(alloc, tokens, &OneAttribute { form, among }, ())
 }

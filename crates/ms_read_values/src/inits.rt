@@ -1,8 +1,10 @@
 //! Initialisers (LLVM Language Reference, "Complex Constants").
 
-ghost use Rattle.std.specs.Prelude.{◌≡◌};
+ghost use Rattle.std.specs.Prelude.{◌≡◌, false};
+ghost use Rattle.ms_grammar.specs.Lexemes.{is};
 ghost use Rattle.ms_grammar.specs.Steps.{items, refuse};
 ghost use Rattle.ms_grammar.specs.Values as spec;
+ghost use Rattle.ms_read_cursor.specs.Lists.{further_items};
 ghost use Rattle.ms_read_cursor.specs.Reading.{Gives, front, run};
 ghost use Rattle.ms_read_values.specs.Parts.{part_of};
 
@@ -11,7 +13,7 @@ use crate::values::value_within;
 use ms_bits::List;
 use ms_grammar::{Limit, Refusal, Symbol};
 use ms_ir::{Form, Init, Ty};
-use ms_read_cursor::Tokens;
+use ms_read_cursor::{Tokens, single, with_last};
 use std::alloc::Global;
 
 /// What opens no bracket.
@@ -153,9 +155,50 @@ fn part(
     Ok((ty.into_inner(), init))
 }
 
-/// Parts with commas between, up to the closing symbol.
+/// Reads further parts behind commas.
 #[cycle(inits)]
-#[tactic(auto, using(ms_read_cursor::proofs::ItemLoops::more_goes, ms_read_cursor::proofs::ItemLoops::more_stops, ms_read_cursor::proofs::ItemLoops::more_ends, ms_read_cursor::proofs::ItemLoops::items_go, ms_read_cursor::proofs::ItemLoops::items_stop, ms_read_cursor::proofs::ItemLoops::items_empty, ms_read_cursor::proofs::ItemLoops::turn_shorter))]
+#[tactic(auto, using(ms_read_cursor::proofs::ItemLoops::more_goes, ms_read_cursor::proofs::ItemLoops::more_stops, ms_read_cursor::proofs::ItemLoops::more_ends, ms_read_cursor::proofs::ItemLoops::turn_shorter))]
+fn more_parts(
+    alloc: Global,
+    tokens: &mut Tokens<'_>,
+    form: Form,
+    depth: u8,
+    start: List<(Ty, Init)>,
+) -> Result<List<(Ty, Init)>, Refusal>
+    ensures { Gives (run (further_items (part_of form depth) start) tokens.old) result tokens.new }
+{
+    let mut found = start;
+    'commas: while tokens.sees(Symbol::Comma) {
+        tokens.advance();
+        let part = part(alloc, tokens, form, depth)?;
+        found = with_last(found, part)?;
+    }
+    Ok(found)
+}
+
+/// Parts with commas between, up to the closing symbol, which doesn't come first.
+#[cycle(inits)]
+#[tactic(auto, using(ms_read_cursor::proofs::ItemLoops::items_whole, ms_read_cursor::proofs::ItemLoops::items_cut, ms_read_cursor::proofs::ItemLoops::items_open, ms_read_cursor::proofs::ItemLoops::items_stop))]
+fn some_parts(
+    alloc: Global,
+    tokens: &mut Tokens<'_>,
+    form: Form,
+    depth: u8,
+    closing: Symbol,
+) -> Result<List<(Ty, Init)>, Refusal>
+    requires { is closing (front tokens.old) ≡ false }
+    ensures { Gives (run (items closing (part_of form depth)) tokens.old) result tokens.new }
+{
+    let first = part(alloc, tokens, form, depth)?;
+    let start = single(alloc, first)?;
+    let all = more_parts(alloc, tokens, form, depth, start)?;
+    tokens.word(closing)?;
+    Ok(all)
+}
+
+/// No part, or parts with commas between, up to the closing symbol.
+#[cycle(inits)]
+#[tactic(auto, using(ms_read_cursor::proofs::ItemLoops::items_empty))]
 fn parts(
     alloc: Global,
     tokens: &mut Tokens<'_>,
@@ -165,16 +208,10 @@ fn parts(
 ) -> Result<List<(Ty, Init)>, Refusal>
     ensures { Gives (run (items closing (part_of form depth)) tokens.old) result tokens.new }
 {
-    let mut found = Vec::new(alloc);
     if tokens.sees(closing) {
         tokens.advance();
-        return Ok(List::from_vec(found));
+        Ok(List::from_vec(Vec::new(alloc)))
+    } else {
+        some_parts(alloc, tokens, form, depth, closing)
     }
-    found.push(part(alloc, tokens, form, depth)?)?;
-    'commas: while tokens.sees(Symbol::Comma) {
-        tokens.advance();
-        found.push(part(alloc, tokens, form, depth)?)?;
-    }
-    tokens.word(closing)?;
-    Ok(List::from_vec(found))
 }

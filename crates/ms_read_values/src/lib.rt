@@ -17,7 +17,7 @@ mod types;
 mod value_types;
 mod values;
 
-pub use attribute_lists::{attribute_rest, attributes, string_value};
+pub use attribute_lists::{attribute_rest, attributes, function_tail, linkage, string_value};
 pub use attribute_words::{is_attribute, is_attribute_word};
 pub use brackets::{balanced, in_parens};
 pub use inits::init_to;

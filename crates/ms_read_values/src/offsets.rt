@@ -6,12 +6,13 @@ ghost use Rattle.ms_grammar.specs.Steps.{comma_begins};
 ghost use Rattle.ms_grammar.specs.Values as spec;
 ghost use Rattle.ms_read_cursor.specs.Reading.{Gives, Judges, run};
 ghost use Rattle.ms_read_values.specs.Narrow.{IsWidth};
+ghost use Rattle.ms_read_values.specs.Rests as rest;
 
 use crate::numbers::number;
 use crate::types::{boxed_type, int_type_of};
-use ms_bits::List;
+use ms_bits::{Boxed, List};
 use ms_grammar::{Limit, Refusal, Symbol};
-use ms_ir::{Form, Operand, Ty};
+use ms_ir::{Form, Name, Operand, Ty};
 use ms_read_cursor::{Lexeme, Tokens, Turn, global, repeat, with_last};
 use std::alloc::Global;
 
@@ -71,6 +72,19 @@ pub fn index_type_of(before: usize, token: &Lexeme<'_>) -> Result<u8, Refusal>
     }
 }
 
+/// Reads the number of an index of this width.
+fn index_rest(
+    tokens: &mut Tokens<'_>,
+    width: u8,
+    found: List<(Ty, u64)>,
+) -> Result<List<(Ty, u64)>, Refusal>
+    requires { IsWidth width }
+    ensures { Gives (run (rest.index_rest width found) tokens.old) result tokens.new }
+{
+    let n = number(tokens, width)?;
+    Ok(with_last(found, (Ty::Int(width), n))?)
+}
+
 /// An index with its type.
 #[tactic(auto, unfolding(ms_grammar::specs::Values::constant_index))]
 fn constant_index(
@@ -81,8 +95,7 @@ fn constant_index(
 {
     let width = index_type_of(found.as_slice().len(), &tokens.lexeme())?;
     tokens.advance();
-    let n = number(tokens, width)?;
-    Ok(with_last(found, (Ty::Int(width), n))?)
+    index_rest(tokens, width, found)
 }
 
 /// The indices, each behind a comma.
@@ -123,6 +136,35 @@ fn constant_indices(alloc: Global, tokens: &mut Tokens<'_>) -> Result<List<(Ty, 
     repeat(alloc, tokens, &ConstantIndices, none)
 }
 
+/// Reads the indices behind the base, and `)`.
+fn offset_end(
+    alloc: Global,
+    tokens: &mut Tokens<'_>,
+    ty: Boxed<Ty>,
+    base: Name,
+) -> Result<Operand, Refusal>
+    ensures { Gives (run (rest.offset_end ty base) tokens.old) result tokens.new }
+{
+    let indices = constant_indices(alloc, tokens)?;
+    tokens.word(Symbol::CloseParen)?;
+    Ok(Operand::Offset(ty.into_inner(), base, indices))
+}
+
+/// Reads `, ptr @base`, the indices and `)` behind the type.
+fn offset_rest(
+    alloc: Global,
+    tokens: &mut Tokens<'_>,
+    form: Form,
+    ty: Boxed<Ty>,
+) -> Result<Operand, Refusal>
+    ensures { Gives (run (rest.offset_rest form ty) tokens.old) result tokens.new }
+{
+    tokens.word(Symbol::Comma)?;
+    tokens.word(Symbol::PtrType)?;
+    let base = global(alloc, tokens, form)?;
+    offset_end(alloc, tokens, ty, base)
+}
+
 /// What stands behind `getelementptr` in a constant.
 #[tactic(auto, unfolding(ms_grammar::specs::Values::offset))]
 pub fn offset(
@@ -136,10 +178,5 @@ pub fn offset(
     step_words(alloc, tokens)?;
     tokens.word(Symbol::OpenParen)?;
     let ty = boxed_type(alloc, tokens, form, depth)?;
-    tokens.word(Symbol::Comma)?;
-    tokens.word(Symbol::PtrType)?;
-    let base = global(alloc, tokens, form)?;
-    let indices = constant_indices(alloc, tokens)?;
-    tokens.word(Symbol::CloseParen)?;
-    Ok(Operand::Offset(ty.into_inner(), base, indices))
+    offset_rest(alloc, tokens, form, ty)
 }

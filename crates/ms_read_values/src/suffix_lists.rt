@@ -5,6 +5,7 @@ ghost use Rattle.std.specs.Prelude.{cond, false};
 ghost use Rattle.ms_lex.specs.Grammar.{give};
 ghost use Rattle.ms_grammar.specs.Skipped as spec;
 ghost use Rattle.ms_read_cursor.specs.Reading.{Gives, run};
+ghost use Rattle.ms_read_values.specs.Rests as rest;
 
 use crate::brackets::{balanced, in_parens};
 use crate::metadata::{kind_of, meta};
@@ -12,6 +13,35 @@ use ms_grammar::{Refusal, Symbol};
 use ms_ir::Form;
 use ms_read_cursor::{Lexeme, Tokens, Turn, repeat};
 use std::alloc::Global;
+
+/// Reads tokens between braces, where metadata is written in place.
+fn in_place(
+    alloc: Global,
+    tokens: &mut Tokens<'_>,
+    form: Form,
+    marked: bool,
+) -> Result<bool, Refusal>
+    ensures { Gives (run (rest.in_place form marked) tokens.old) result tokens.new }
+{
+    tokens.word(Symbol::OpenBrace)?;
+    balanced(alloc, tokens, form, Symbol::CloseBrace)?;
+    Ok(marked)
+}
+
+/// Reads a name of metadata, and tokens in parentheses where they come.
+fn by_name(
+    alloc: Global,
+    tokens: &mut Tokens<'_>,
+    form: Form,
+    marked: bool,
+    marks: bool,
+) -> Result<bool, Refusal>
+    ensures { Gives (run (rest.by_name form marked marks) tokens.old) result tokens.new }
+{
+    meta(tokens)?;
+    in_parens(alloc, tokens, form)?;
+    Ok(marked || marks)
+}
 
 /// Reads what is behind the kind of an attachment, which begins with this symbol. Metadata in place marks nothing.
 fn attached_rest(
@@ -27,15 +57,9 @@ fn attached_rest(
     match symbol {
         Symbol::Bang => {
             tokens.advance();
-            tokens.word(Symbol::OpenBrace)?;
-            balanced(alloc, tokens, form, Symbol::CloseBrace)?;
-            Ok(marked)
+            in_place(alloc, tokens, form, marked)
         }
-        _ => {
-            meta(tokens)?;
-            in_parens(alloc, tokens, form)?;
-            Ok(marked || marks)
-        }
+        _ => by_name(alloc, tokens, form, marked, marks),
     }
 }
 

@@ -1,17 +1,20 @@
 //! Types (LLVM Language Reference, "Type System").
 
-ghost use Rattle.std.specs.Prelude.{◌≡◌, IfOk};
+ghost use Rattle.std.specs.Prelude.{◌≡◌, IfOk, false};
 ghost use Rattle.ms_grammar.specs.declared.symbols.Symbol.TheVariants.{CloseBrace};
+ghost use Rattle.ms_grammar.specs.Lexemes.{is};
 ghost use Rattle.ms_grammar.specs.Steps.{items};
 ghost use Rattle.ms_grammar.specs.Types as spec;
+ghost use Rattle.ms_read_cursor.specs.Lists.{further_items};
 ghost use Rattle.ms_read_cursor.specs.Reading.{Gives, Judges, front, run};
 ghost use Rattle.ms_read_values.specs.Narrow.{IsWidth};
+ghost use Rattle.ms_read_values.specs.Rests as rest;
 
 use crate::value_types::ValueType;
 use ms_bits::{Boxed, List};
 use ms_grammar::{Limit, Outside, Refusal, Symbol};
 use ms_ir::{Form, Ty};
-use ms_read_cursor::{Lexeme, Tokens, local, same_symbol};
+use ms_read_cursor::{Lexeme, Tokens, local, same_symbol, single, with_last};
 use std::alloc::Global;
 
 /// The width of the integer type that a token is.
@@ -224,6 +227,22 @@ fn nested(alloc: Global, tokens: &mut Tokens<'_>, form: Form, depth: u8) -> Resu
     }
 }
 
+/// Reads the type of an array's items, behind their number, and `]`.
+#[cycle(types)]
+fn array_item(
+    alloc: Global,
+    tokens: &mut Tokens<'_>,
+    form: Form,
+    depth: u8,
+    n: u64,
+) -> Result<Ty, Refusal>
+    ensures { Gives (run (rest.array_item (spec.type_to form depth) n) tokens.old) result tokens.new }
+{
+    let item = Boxed::new(alloc, type_to(alloc, tokens, form, depth)?)?;
+    tokens.word(Symbol::CloseBracket)?;
+    Ok(Ty::Array(n, item))
+}
+
 #[cycle(types)]
 #[tactic(auto, unfolding(ms_grammar::specs::Types::array_rest))]
 fn array_rest(alloc: Global, tokens: &mut Tokens<'_>, form: Form, depth: u8) -> Result<Ty, Refusal>
@@ -231,9 +250,7 @@ fn array_rest(alloc: Global, tokens: &mut Tokens<'_>, form: Form, depth: u8) -> 
 {
     let n = count(tokens)?;
     tokens.word(Symbol::X)?;
-    let item = Boxed::new(alloc, type_to(alloc, tokens, form, depth)?)?;
-    tokens.word(Symbol::CloseBracket)?;
-    Ok(Ty::Array(n, item))
+    array_item(alloc, tokens, form, depth, n)
 }
 
 #[cycle(types)]
@@ -256,9 +273,49 @@ fn packed_rest(alloc: Global, tokens: &mut Tokens<'_>, form: Form, depth: u8) ->
     Ok(Ty::Struct(true, all))
 }
 
-/// Types with commas between, up to `}`.
+/// Reads further types behind commas.
 #[cycle(types)]
-#[tactic(auto, using(ms_read_cursor::proofs::ItemLoops::more_goes, ms_read_cursor::proofs::ItemLoops::more_stops, ms_read_cursor::proofs::ItemLoops::more_ends, ms_read_cursor::proofs::ItemLoops::items_go, ms_read_cursor::proofs::ItemLoops::items_stop, ms_read_cursor::proofs::ItemLoops::items_empty, ms_read_cursor::proofs::ItemLoops::turn_shorter))]
+#[tactic(auto, using(ms_read_cursor::proofs::ItemLoops::more_goes, ms_read_cursor::proofs::ItemLoops::more_stops, ms_read_cursor::proofs::ItemLoops::more_ends, ms_read_cursor::proofs::ItemLoops::turn_shorter))]
+fn more_fields(
+    alloc: Global,
+    tokens: &mut Tokens<'_>,
+    form: Form,
+    depth: u8,
+    start: List<Ty>,
+) -> Result<List<Ty>, Refusal>
+    ensures { Gives (run (further_items (spec.type_to form depth) start) tokens.old) result tokens.new }
+{
+    let mut found = start;
+    'commas: while tokens.sees(Symbol::Comma) {
+        tokens.advance();
+        let ty = type_to(alloc, tokens, form, depth)?;
+        found = with_last(found, ty)?;
+    }
+    Ok(found)
+}
+
+/// Types with commas between, up to `}`, which doesn't come first.
+#[cycle(types)]
+#[tactic(auto, using(ms_read_cursor::proofs::ItemLoops::items_whole, ms_read_cursor::proofs::ItemLoops::items_cut, ms_read_cursor::proofs::ItemLoops::items_open, ms_read_cursor::proofs::ItemLoops::items_stop))]
+fn some_fields(
+    alloc: Global,
+    tokens: &mut Tokens<'_>,
+    form: Form,
+    depth: u8,
+) -> Result<List<Ty>, Refusal>
+    requires { is CloseBrace (front tokens.old) ≡ false }
+    ensures { Gives (run (items CloseBrace (spec.type_to form depth)) tokens.old) result tokens.new }
+{
+    let first = type_to(alloc, tokens, form, depth)?;
+    let start = single(alloc, first)?;
+    let all = more_fields(alloc, tokens, form, depth, start)?;
+    tokens.word(Symbol::CloseBrace)?;
+    Ok(all)
+}
+
+/// No type, or types with commas between, up to `}`.
+#[cycle(types)]
+#[tactic(auto, using(ms_read_cursor::proofs::ItemLoops::items_empty))]
 fn fields(
     alloc: Global,
     tokens: &mut Tokens<'_>,
@@ -267,18 +324,12 @@ fn fields(
 ) -> Result<List<Ty>, Refusal>
     ensures { Gives (run (items CloseBrace (spec.type_to form depth)) tokens.old) result tokens.new }
 {
-    let mut found = Vec::new(alloc);
     if tokens.sees(Symbol::CloseBrace) {
         tokens.advance();
-        return Ok(List::from_vec(found));
+        Ok(List::from_vec(Vec::new(alloc)))
+    } else {
+        some_fields(alloc, tokens, form, depth)
     }
-    found.push(type_to(alloc, tokens, form, depth)?)?;
-    'commas: while tokens.sees(Symbol::Comma) {
-        tokens.advance();
-        found.push(type_to(alloc, tokens, form, depth)?)?;
-    }
-    tokens.word(Symbol::CloseBrace)?;
-    Ok(List::from_vec(found))
 }
 
 /// Takes the struct that a named type is.

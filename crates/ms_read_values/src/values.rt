@@ -165,6 +165,19 @@ pub fn operand(
     value_within(alloc, tokens, form, 32, true, ty)
 }
 
+/// Takes a value of any type, where a local may stand, onto the heap.
+fn boxed_operand(
+    alloc: Global,
+    tokens: &mut Tokens<'_>,
+    form: Form,
+    ty: &Ty,
+) -> Result<Boxed<Operand>, Refusal>
+    ensures { Gives (run (spec.value form ty.now) tokens.old) result tokens.new }
+{
+    let operand = operand(alloc, tokens, form, ty)?;
+    Ok(Boxed::new(alloc, operand)?)
+}
+
 /// Takes an operand of an instruction, behind its type.
 pub fn value(
     alloc: Global,
@@ -174,6 +187,5 @@ pub fn value(
 ) -> Result<Boxed<Operand>, Refusal>
     ensures { Gives (run (spec.value form ty) tokens.old) result tokens.new }
 {
-    let operand = operand(alloc, tokens, form, &ty.ty())?;
-    Ok(Boxed::new(alloc, operand)?)
+    boxed_operand(alloc, tokens, form, &ty.ty())
 }
