@@ -1,7 +1,15 @@
-use Rattle.std.proofs.Common.{◌≡◌, ◌-◌, ◌<◌, List, length, get_or, sym, subst, ◌∙◌}
+use Rattle.std.proofs.Common.{◌≡◌, ◌-◌, ◌<◌, List, length, get_or, sym, subst, refl, arith, ◌∙◌}
+use Rattle.std.proofs.lemmas.List.{take_all}
 use Rattle.ms_alloc.specs.declared.allocations.Allocation.{Allocation}
-use Rattle.ms_alloc.proofs.Cuts.{Cut, cut-step, cut-none}
-use Rattle.ms_alloc.proofs.areas.cut.Goals as goal
+use Rattle.ms_alloc.proofs.Cuts.{Cut, cut-step, cut-none, front-step}
+use Rattle.ms_alloc.proofs.areas.cut_off.Goals as goal
+
+pub loop-last-init : goal.loop-last-init
+loop-last-init c = record {
+  kept = refl;
+  front = sym (take_all (length c.args.stack.now.items) c.args.stack.now.items (omega arith));
+  area = c.requires;
+}
 
 pub loop-last-preserved : goal.loop-last-preserved
 loop-last-preserved c =
@@ -9,7 +17,11 @@ loop-last-preserved c =
     let step : Cut _ _ _ =
     cut-step c.args.mark c.loop-last.stack.items c.pop.new.self.items c.pop.result c.in-Some.last.now c.pop.ensures.items
     (subst P c.deref.ensures.value c.in-Some.ensures.item.1) c.if-last-mark.false c.loop-last.invariant.area in
-    record { kept = step.kept ∙ c.loop-last.invariant.kept; area = step.area }
+    record {
+      kept = step.kept ∙ c.loop-last.invariant.kept;
+      front = front-step c.args.stack.now.items c.loop-last.stack.items c.pop.new.self.items c.pop.result c.pop.ensures.items c.loop-last.invariant.front;
+      area = step.area;
+    }
 
 pub returns-then-last-mark-clause-kept : goal.returns-then-last-mark-clause-kept
 returns-then-last-mark-clause-kept c =
