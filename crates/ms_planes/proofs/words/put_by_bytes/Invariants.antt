@@ -1,7 +1,7 @@
 use Rattle.std.proofs.Common.{◌≡◌, ℕ, ◌+◌, length}
 use Rattle.ms_bits.specs.Maps.{with_range, byte_of}
 use Rattle.ms_planes.specs.Areas.{held}
-use Rattle.ms_planes.proofs.words.put_number.Given as goal
+use Rattle.ms_planes.proofs.words.put_by_bytes.Given as goal
 
 abbrev pub invariant-loop-i : goal.invariant-loop-i
 invariant-loop-i l = record {

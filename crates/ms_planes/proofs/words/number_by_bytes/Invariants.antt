@@ -1,7 +1,7 @@
-use Rattle.std.proofs.Common.{◌≡◌, ◌≤◌, ◌<◌, ◌+◌, ◌-◌, length}
+use Rattle.std.proofs.Common.{◌≡◌, ◌≤◌, ◌+◌, ◌-◌}
 use Rattle.ms_bits.specs.Maps.{number_at}
 use Rattle.ms_planes.specs.Areas.{held}
-use Rattle.ms_planes.proofs.words.number_in.Given as goal
+use Rattle.ms_planes.proofs.words.number_by_bytes.Given as goal
 
 abbrev pub invariant-loop-left : goal.invariant-loop-left
 invariant-loop-left l = record {

@@ -1,8 +1,8 @@
-use Rattle.std.proofs.Common.{ℕ, ◌+◌, ◌-◌, ◌<◌, ◌^◌, arith}
+use Rattle.std.proofs.Common.{◌+◌, ◌-◌, ◌<◌, ◌^◌, arith}
 use Rattle.ms_bits.specs.Maps.{number_at}
 use Rattle.ms_planes.specs.Areas.{held}
 use Rattle.ms_planes.proofs.Numbers.{number-fits}
-use Rattle.ms_planes.proofs.words.number_in.Goals as goal
+use Rattle.ms_planes.proofs.words.number_by_bytes.Goals as goal
 
 pub overflow_mul-value : goal.overflow_mul-value
 overflow_mul-value c =
