@@ -1,9 +1,9 @@
 -- Taking allocations off the end of the stack.
-use Rattle.std.proofs.Common.{◌≡◌, ℕ, ◌+◌, ◌-◌, ◌<◌, ◌≤◌, Bool, false, cond, not, leb, List, [], ◌∷◌, ◌++◌, length, get_or, arith, sym, ap, ◌∙◌, subst, Option, Some, None}
+use Rattle.std.proofs.Common.{◌≡◌, ℕ, ◌+◌, ◌-◌, ◌<◌, ◌≤◌, Bool, false, cond, not, leb, List, [], ◌∷◌, ◌++◌, length, get_or, take, arith, refl, sym, ap, ◌∙◌, subst, Option, Some, None}
 use Rattle.std.specs.List.{filter}
 use Rattle.std.specs.Option.{option_to_list}
 use Rattle.std.proofs.lemmas.Bool.{le-leb, lt-leb}
-use Rattle.std.proofs.lemmas.List.{append-nil, get_or_default}
+use Rattle.std.proofs.lemmas.List.{append-nil, get_or_default, take_at, take-take, length-append}
 use Rattle.std.proofs.Math.Seq.{get_or-append_seam}
 use Rattle.ms_alloc.specs.declared.kinds.AllocKind.TheVariants.{Stack}
 use Rattle.ms_alloc.specs.declared.allocations.Allocation.{Allocation}
@@ -21,6 +21,13 @@ filter-drop p (a ∷ as') x h = ap (λ r. cond (p a) (a ∷ r) r) (filter-drop p
 pub length-seam : (xs : List Allocation) (x : Allocation) → length (xs ++ x ∷ []) ≡ length xs + 1
 length-seam [] x = omega arith
 length-seam (a ∷ as') x = omega (arith, length-seam as' x)
+
+-- the rest of a list that was cut before
+pub front-step : (start old new : List Allocation) (r : Option Allocation) → old ≡ new ++ option_to_list r → old ≡ take (length old) start → new ≡ take (length new) start
+front-step start old new r e front =
+    sym (take_at new (option_to_list r) (length new) refl)
+    ∙ ap (take (length new)) (sym e ∙ front)
+    ∙ take-take (length new) (length old) start (omega (arith, ap (λ (l : List Allocation). length l) e, length-append new (option_to_list r)))
 
 pub record Cut (mark : ℕ) (old new : List Allocation) : Type 0 where
   pub kept : filter (before mark) new ≡ filter (before mark) old

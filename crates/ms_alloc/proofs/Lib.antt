@@ -1,5 +1,5 @@
 pub mod Rows
 pub mod Searches
-pub mod Windows
+pub mod Owners
 pub mod Places
 pub mod Cuts

@@ -1,8 +1,7 @@
--- Which allocation of an area has an address: only the last one that begins at or before it can.
-use Rattle.std.proofs.Common.{◌≡◌, ◌≢◌, ℕ, ◌+◌, ◌-◌, ◌<◌, ◌≤◌, Bool, true, false, cond, leb, eqb, List, ◌++◌, length, get_or, set, map, if◌then◌else◌, option_map, arith, refl, sym, ap, ◌∙◌, Option, Some, None, ◌⊎◌, inl, inr, ⊎_elim}
+-- Which allocation of an area has an address: only the one that takes it can.
+use Rattle.std.proofs.Common.{◌≡◌, ◌≢◌, ℕ, ◌+◌, ◌<◌, ◌≤◌, Bool, true, false, cond, eqb, List, ◌++◌, length, get_or, set, map, if◌then◌else◌, option_map, arith, refl, sym, ap, ◌∙◌, Option, Some, None, ◌⊎◌, inl, inr, ⊎_elim}
 use Rattle.std.specs.List.{find}
 use Rattle.std.specs.Option.{option_or}
-use Rattle.std.specs.List.Sorted.{IsPartitionPoint}
 use Rattle.std.proofs.lemmas.Bool.{cases_lt, and_from, and_left, eq-eqb}
 use Rattle.std.proofs.lemmas.List.{get_or_default}
 use Rattle.std.proofs.lemmas.Grind.{common_steps}
@@ -11,8 +10,9 @@ use Rattle.ms_alloc.specs.declared.kinds.AllocKind.{AllocKind}
 use Rattle.ms_alloc.specs.declared.kinds.AllocKind.TheVariants.{Fixed, Heap, Stack}
 use Rattle.ms_alloc.specs.declared.allocations.Allocation.{Allocation}
 use Rattle.ms_alloc.specs.Layout.{room, area_base, area_limit}
-use Rattle.ms_alloc.specs.Allocations.{Allocations, IsArea, IsLaidOut, listed, covers, is_block}
+use Rattle.ms_alloc.specs.Allocations.{Allocations, IsArea, IsLaidOut, used, listed, covers, is_block}
 use Rattle.ms_alloc.specs.Only.{IsOnly}
+use Rattle.ms_alloc.specs.Owners.{Has, IsOutside}
 use Rattle.ms_alloc.proofs.Rows.{row-from, row-to, row-apart, size-le}
 use Rattle.ms_alloc.proofs.Searches.{find-none, find-only, find-at, map-only}
 
@@ -25,82 +25,80 @@ covers-before addr n a h = grind (arith, common_steps)
 pub block-other : (base : ℕ) (a : Allocation) → a.base ≢ base → is_block base a ≡ false
 block-other base a h = grind (arith, common_steps)
 
-pub leb-false : (m n : ℕ) → leb m n ≡ false → n < m
-leb-false m n h = grind (arith, common_steps)
-
-pub leb-holds : (m n : ℕ) → leb m n ≡ true → m ≤ n
-leb-holds m n h = grind (arith, common_steps)
-
--- the allocations of an area that begin at or before an address are the first ones
-abbrev pub Splits : List Allocation → ℕ → ℕ → Type 0
-Splits xs addr count = IsPartitionPoint (λ a. leb a.base addr ≡ true) (λ a. leb a.base addr ≡ false) xs count
-
--- any other place than the last of these begins after the address or ends before it
-pub other-place : (k : AllocKind) (xs : List Allocation) (addr count : ℕ) → IsArea k xs → Splits xs addr count → count ≤ length xs →
-    (i : ℕ) (d : Allocation) → i < length xs → i + 1 ≢ count →
+-- any other allocation than the one that takes an address begins after it or ends before it
+pub other-place : (k : AllocKind) (xs : List Allocation) (addr o : ℕ) → IsArea k xs → Has xs addr o →
+    (i : ℕ) (d : Allocation) → i < length xs → i ≢ o →
     (addr < (get_or xs i d).base) ⊎ ((get_or xs i d).base + room (get_or xs i d).size ≤ addr)
-other-place k xs addr count area splits within i d inside other =
+other-place k xs addr o area has i d inside other =
     ⊎_elim
-    (λ (low : i < count). inr (
-    let first : (get_or xs (count - 1) d).base ≤ addr = leb-holds _ _ (splits.0 (count - 1) d (omega arith) (omega arith)) in
-    omega (arith, first, row-apart k _ xs area.row i (count - 1) d (omega arith) (omega arith))))
-    (λ (high : count ≤ i). inl (leb-false _ _ (splits.1 i d high inside)))
-    (cases_lt i count)
+    (λ (low : i < o). inr (omega (arith, has.above d, row-apart k _ xs area.row i o d low has.within)))
+    (λ (high : o ≤ i). inl (omega (arith, has.below d, row-apart k _ xs area.row o i d (omega arith) inside)))
+    (cases_lt i o)
 
-pub other-covers : (k : AllocKind) (xs : List Allocation) (addr n count : ℕ) → 0 < n → IsArea k xs → Splits xs addr count → count ≤ length xs →
-    (i : ℕ) (d : Allocation) → i < length xs → i + 1 ≢ count → covers addr n (get_or xs i d) ≡ false
-other-covers k xs addr n count some area splits within i d inside other =
+pub other-covers : (k : AllocKind) (xs : List Allocation) (addr n o : ℕ) → 0 < n → IsArea k xs → Has xs addr o →
+    (i : ℕ) (d : Allocation) → i < length xs → i ≢ o → covers addr n (get_or xs i d) ≡ false
+other-covers k xs addr n o some area has i d inside other =
     ⊎_elim
     (λ (after : addr < (get_or xs i d).base). covers-after addr n (get_or xs i d) after)
     (λ (before : (get_or xs i d).base + room (get_or xs i d).size ≤ addr). covers-before addr n (get_or xs i d) (omega (arith, size-le (get_or xs i d).size)))
-    (other-place k xs addr count area splits within i d inside other)
+    (other-place k xs addr o area has i d inside other)
 
-pub other-block : (xs : List Allocation) (base count : ℕ) → IsArea Heap xs → Splits xs base count → count ≤ length xs →
-    (i : ℕ) (d : Allocation) → i < length xs → i + 1 ≢ count → is_block base (get_or xs i d) ≡ false
-other-block xs base count area splits within i d inside other =
+pub other-block : (xs : List Allocation) (base o : ℕ) → IsArea Heap xs → Has xs base o →
+    (i : ℕ) (d : Allocation) → i < length xs → i ≢ o → is_block base (get_or xs i d) ≡ false
+other-block xs base o area has i d inside other =
     block-other base (get_or xs i d) (λ same. ⊎_elim
     (λ (after : base < (get_or xs i d).base). omega arith)
     (λ (before : (get_or xs i d).base + room (get_or xs i d).size ≤ base). omega arith)
-    (other-place Heap xs base count area splits within i d inside other))
+    (other-place Heap xs base o area has i d inside other))
 
--- where no allocation begins at or before the address, none has it
-pub find-empty : (k : AllocKind) (xs : List Allocation) (addr n count : ℕ) → 0 < n → IsArea k xs → Splits xs addr count → count ≡ 0 → find (covers addr n) xs ≡ None
-find-empty k xs addr n count some area splits none =
-    find-none (covers addr n) xs (λ i d l. other-covers k xs addr n count some area splits (omega arith) i d l (λ q. omega arith))
+-- the one that takes an address is the one to test
+pub find-owner : (k : AllocKind) (xs : List Allocation) (addr n o : ℕ) (d : Allocation) (b : Bool) → 0 < n → IsArea k xs → Has xs addr o →
+    covers addr n (get_or xs o d) ≡ b → cond b (Some (get_or xs o d)) None ≡ find (covers addr n) xs
+find-owner k xs addr n o d b some area has is =
+    sym (find-only (covers addr n) xs o d has.within (λ i e l other. other-covers k xs addr n o some area has i e l other)
+    ∙ ap (λ (t : Bool). cond t (Some (get_or xs o d)) None) is)
 
--- else the last one that does is the one to test
-pub find-last : (k : AllocKind) (xs : List Allocation) (addr n count : ℕ) (d : Allocation) (b : Bool) → 0 < n → IsArea k xs → Splits xs addr count → count ≤ length xs → count ≢ 0 →
-    covers addr n (get_or xs (count - 1) d) ≡ b → cond b (Some (get_or xs (count - 1) d)) None ≡ find (covers addr n) xs
-find-last k xs addr n count d b some area splits within nonzero is =
-    sym (find-only (covers addr n) xs (count - 1) d (omega arith)
-    (λ i e l other. other-covers k xs addr n count some area splits within i e l (λ q. other (omega arith)))
-    ∙ ap (λ (t : Bool). cond t (Some (get_or xs (count - 1) d)) None) is)
+pub block-owner : (xs : List Allocation) (base o : ℕ) (d : Allocation) → IsArea Heap xs → Has xs base o → is_block base (get_or xs o d) ≡ false → find (is_block base) xs ≡ None
+block-owner xs base o d area has is =
+    find-only (is_block base) xs o d has.within (λ i e l other. other-block xs base o area has i e l other)
+    ∙ ap (λ (t : Bool). cond t (Some (get_or xs o d)) None) is
 
-pub block-empty : (xs : List Allocation) (base count : ℕ) → IsArea Heap xs → Splits xs base count → count ≡ 0 → find (is_block base) xs ≡ None
-block-empty xs base count area splits none =
-    find-none (is_block base) xs (λ i d l. other-block xs base count area splits (omega arith) i d l (λ q. omega arith))
-
-pub block-last : (xs : List Allocation) (base count : ℕ) (d : Allocation) → IsArea Heap xs → Splits xs base count → count ≤ length xs → count ≢ 0 →
-    is_block base (get_or xs (count - 1) d) ≡ false → find (is_block base) xs ≡ None
-block-last xs base count d area splits within nonzero is =
-    find-only (is_block base) xs (count - 1) d (omega arith)
-    (λ i e l other. other-block xs base count area splits within i e l (λ q. other (omega arith)))
-    ∙ ap (λ (t : Bool). cond t (Some (get_or xs (count - 1) d)) None) is
-
-pub block-only : (xs : List Allocation) (base count : ℕ) (d : Allocation) → IsArea Heap xs → Splits xs base count → count ≤ length xs → count ≢ 0 →
-    is_block base (get_or xs (count - 1) d) ≡ true → IsOnly (is_block base) xs (count - 1)
-block-only xs base count d area splits within nonzero is = record {
-  within = omega arith;
-  passes = λ e. ap (is_block base) (get_or_default xs (count - 1) e d (omega arith)) ∙ is;
-  others = λ i e l other. other-block xs base count area splits within i e l (λ q. other (omega arith));
+pub block-only : (xs : List Allocation) (base o : ℕ) (d : Allocation) → IsArea Heap xs → Has xs base o → is_block base (get_or xs o d) ≡ true → IsOnly (is_block base) xs o
+block-only xs base o d area has is = record {
+  within = has.within;
+  passes = λ e. ap (is_block base) (get_or_default xs o e d has.within) ∙ is;
+  others = λ i e l other. other-block xs base o area has i e l other;
 }
+
+-- where none takes it, none is found
+pub place-outside : (k : AllocKind) (xs : List Allocation) (addr : ℕ) → IsArea k xs → IsOutside k xs addr → (i : ℕ) (d : Allocation) → i < length xs →
+    (addr < (get_or xs i d).base) ⊎ ((get_or xs i d).base + room (get_or xs i d).size ≤ addr)
+place-outside k xs addr area outside i d inside =
+    ⊎_elim
+    (λ (low : addr < area_base k). inl (omega (arith, low, row-from k _ xs area.row i d inside)))
+    (λ (high : area_base k + used xs ≤ addr). inr (omega (arith, high, row-to k _ xs area.row i d inside)))
+    outside
+
+pub find-nowhere : (k : AllocKind) (xs : List Allocation) (addr n : ℕ) → 0 < n → IsArea k xs → IsOutside k xs addr → find (covers addr n) xs ≡ None
+find-nowhere k xs addr n some area outside =
+    find-none (covers addr n) xs (λ i d l. ⊎_elim
+    (λ (after : addr < (get_or xs i d).base). covers-after addr n (get_or xs i d) after)
+    (λ (before : (get_or xs i d).base + room (get_or xs i d).size ≤ addr). covers-before addr n (get_or xs i d) (omega (arith, size-le (get_or xs i d).size)))
+    (place-outside k xs addr area outside i d l))
+
+pub block-nowhere : (xs : List Allocation) (base : ℕ) → IsArea Heap xs → IsOutside Heap xs base → find (is_block base) xs ≡ None
+block-nowhere xs base area outside =
+    find-none (is_block base) xs (λ i d l. block-other base (get_or xs i d) (λ same. ⊎_elim
+    (λ (after : base < (get_or xs i d).base). omega arith)
+    (λ (before : (get_or xs i d).base + room (get_or xs i d).size ≤ base). omega arith)
+    (place-outside Heap xs base area outside i d l)))
 
 -- an area has no address outside itself
 pub find-outside : (k : AllocKind) (xs : List Allocation) (addr n : ℕ) → 0 < n → IsArea k xs → (addr < area_base k) ⊎ (area_base k + area_limit k ≤ addr) → find (covers addr n) xs ≡ None
 find-outside k xs addr n some area outside =
-    find-none (covers addr n) xs (λ i d l. ⊎_elim
-    (λ (low : addr < area_base k). covers-after addr n (get_or xs i d) (omega (arith, row-from k _ xs area.row i d l)))
-    (λ (high : area_base k + area_limit k ≤ addr). covers-before addr n (get_or xs i d) (omega (arith, area.within, size-le (get_or xs i d).size, row-to k _ xs area.row i d l)))
+    find-nowhere k xs addr n some area (⊎_elim
+    (λ (low : addr < area_base k). inl low)
+    (λ (high : area_base k + area_limit k ≤ addr). inr (omega (arith, area.within)))
     outside)
 
 option_or-none : (o : Option Allocation) → option_or o None ≡ o

@@ -1,3 +1,4 @@
 pub mod Layout
 pub mod Allocations
 pub mod Only
+pub mod Owners

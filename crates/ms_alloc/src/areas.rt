@@ -1,14 +1,16 @@
 //! The allocations of one area, a list in order of address.
-ghost use Rattle.std.specs.Prelude.{◌≡◌, ◌<◌, ◌≤◌, ◌+◌, ◌^◌, ◌∷◌, ◌++◌, [], true, false, not, leb, find, filter, length, IfOk, OnOk, OnErr, MatchOption, IsErrOf, IsTrue, ◌↔◌};
-ghost use Rattle.std.specs.List.Sorted.{IsPartitionPoint};
+ghost use Rattle.std.specs.Prelude.{◌≡◌, ◌<◌, ◌≤◌, ◌+◌, ◌^◌, ◌∷◌, ◌++◌, [], true, false, not, leb, find, filter, map, take, length, IfOk, OnOk, OnErr, MatchOption, IsErr, IsErrOf, IsTrue, ◌↔◌, Some, None, option_map, if◌then◌else◌};
 ghost use Rattle.ms_alloc.specs.declared.kinds.AllocKind.TheVariants.{Heap, Stack};
 ghost use Rattle.ms_alloc.specs.Layout.{room, area_base, area_limit};
 ghost use Rattle.ms_alloc.specs.Allocations.{IsArea, used, covers, is_block};
 ghost use Rattle.ms_alloc.specs.Only.{IsOnly};
+ghost use Rattle.ms_alloc.specs.Owners.{IsOwned, Has, IsOutside};
 
 use crate::allocations::Allocation;
-use crate::errors::AllocError;
+use crate::errors::{AllocError, BadFree};
 use crate::kinds::AllocKind;
+use std::alloc::Global;
+use std::marker::Model;
 
 /// What an allocation of `size` bytes takes of its area: at least one byte, and a multiple of 16.
 pub fn room_of(size: u64) -> u64
@@ -19,7 +21,7 @@ pub fn room_of(size: u64) -> u64
 }
 
 /// What the allocations of an area take: the last one tells, since each begins where the one before it ends.
-pub(crate) fn used_of(kind: AllocKind, area: &[Allocation]) -> u64
+fn used_of(kind: AllocKind, area: &[Allocation]) -> u64
     requires { IsArea kind area.now }
     ensures { result ≡ used area.now }
 {
@@ -38,103 +40,34 @@ pub(crate) fn has_room(kind: AllocKind, used: u64, size: u64) -> bool
     size <= left && room_of(size) <= left
 }
 
-/// Makes an allocation at the end of an area, and answers its base.
-pub(crate) fn append(
-    kind: AllocKind,
-    area: &mut Vec<Allocation>,
-    size: u64,
-) -> Result<u64, AllocError>
-    requires { IsArea kind area.old.items }
-    ensures base { IfOk result (λ base. base ≡ area_base kind + used area.old.items) }
-    ensures made { OnOk result (area.new.items ≡ area.old.items ++ record { base = area_base kind + used area.old.items; size = size; kind = kind; live = true } ∷ []) }
-    ensures area { IsArea kind area.new.items }
-    ensures full { IsErrOf result AllocError.Full ↔ (area_limit kind < used area.old.items + room size) }
-    ensures unchanged { OnErr result (area.new.items ≡ area.old.items) }
+/// One more allocation, which takes the bytes behind those that are taken. Where memory is wanting both lists are as
+/// they were.
+fn push(
+    made: &mut Vec<Allocation>,
+    owners: &mut Vec<u32>,
+    allocation: Allocation,
+) -> Result<(), std::alloc::AllocError>
+    requires owned { IsOwned made.old.items owners.old.items }
+    requires small { used made.old.items + room allocation.size ≤ 2 ^ 26 }
+    ensures made { OnOk result (made.new.items ≡ made.old.items ++ allocation ∷ []) }
+    ensures owned { IsOwned made.new.items owners.new.items }
+    ensures unchanged { OnErr result (made.new.items ≡ made.old.items) }
 {
-    let used = used_of(kind, area);
-    if !has_room(kind, used, size) {
-        return Err(AllocError::Full);
+    let taken = owners.len();
+    let pieces = (room_of(allocation.size) / 16) as usize;
+    owners.resize(taken + pieces, made.len() as u32)?;
+    if made.push(allocation).is_err() {
+        owners.truncate(taken);
+        return Err(std::alloc::AllocError);
     }
-    let base = kind.base() + used;
-    let live = true;
-    area.push(Allocation {
-        base,
-        size,
-        kind,
-        live,
-    })?;
-    Ok(base)
+    Ok(())
 }
 
-/// How many allocations of an area begin at or before `addr`.
-///
-/// A binary search whose windows are powers of two: a step halves the window, whatever it finds.
-fn count_upto(kind: AllocKind, area: &[Allocation], addr: u64) -> usize
-    requires { IsArea kind area.now }
-    ensures point { IsPartitionPoint (λ a. leb a.base addr ≡ true) (λ a. leb a.base addr ≡ false) area.now result }
-    ensures within { result ≤ length area.now }
-{
-    let places = area.len() + 1;
-    let window = 1usize << places.ilog2();
-    let mut count = 0;
-    if window <= area.len() && area[window - 1].base <= addr {
-        count = places - window;
-    }
-    let mut step = window / 2;
-    while 0 < step {
-        let reached = count + step;
-        step /= 2;
-        if area[reached - 1].base <= addr {
-            count = reached;
-        }
-    }
-    count
-}
-
-/// The live allocation of an area that has the `n` bytes from `addr` on.
-pub(crate) fn covering(
-    kind: AllocKind,
-    area: &[Allocation],
-    addr: u64,
-    n: u64,
-) -> Option<Allocation>
-    requires area { IsArea kind area.now }
-    requires some { 0 < n }
-    ensures { result ≡ find (covers addr n) area.now }
-{
-    let count = count_upto(kind, area, addr);
-    if count == 0 {
-        return None;
-    }
-    let candidate = area[count - 1];
-    if candidate.covers(addr, n) {
-        Some(candidate)
-    } else {
-        None
-    }
-}
-
-/// The place of the live heap block that begins at `base`.
-pub(crate) fn place_of_block(heap: &[Allocation], base: u64) -> Option<usize>
-    requires { IsArea Heap heap.now }
-    ensures { MatchOption result (find (is_block base) heap.now ≡ None) (IsOnly (is_block base) heap.now) }
-{
-    let count = count_upto(AllocKind::Heap, heap, base);
-    if count == 0 {
-        return None;
-    }
-    let candidate = heap[count - 1];
-    if candidate.live && candidate.base == base {
-        Some(count - 1)
-    } else {
-        None
-    }
-}
-
-/// Takes the stack's allocations from `mark` on out of its list.
-pub(crate) fn cut(stack: &mut Vec<Allocation>, mark: u64)
+/// Takes the allocations from `mark` on off the end of a stack.
+fn cut_off(stack: &mut Vec<Allocation>, mark: u64)
     requires { IsArea Stack stack.old.items }
     ensures kept { stack.new.items ≡ filter (λ a. not (leb mark a.base)) stack.old.items }
+    ensures front { stack.new.items ≡ take (length stack.new.items) stack.old.items }
     ensures area { IsArea Stack stack.new.items }
 {
     while let Some(last) = stack.last() {
@@ -142,5 +75,157 @@ pub(crate) fn cut(stack: &mut Vec<Allocation>, mark: u64)
             break;
         }
         stack.pop();
+    }
+}
+
+/// The allocations of one area. Contracts see the list of them, in order of address.
+#[derive(Debug, Drop)]
+pub(crate) struct Area {
+    made: Vec<Allocation>,
+    /// For each 16 bytes that are taken, the number of the allocation that takes them.
+    owners: Vec<u32>,
+}
+
+impl Model for Area {
+    ghost use Rattle.std.specs.Prelude.{List};
+    ghost use Rattle.ms_alloc.specs.declared.allocations.Allocation.{Allocation};
+    ghost use Rattle.ms_alloc.specs.Owners.{IsOwned};
+
+    ghost Value = { List Allocation };
+
+    ghost view = { λ a. a.made.items };
+
+    ghost invariant = { λ a. IsOwned a.made.items a.owners.items };
+}
+
+impl Area {
+    /// No allocations. Takes no memory yet.
+    pub(crate) fn new(alloc: Global) -> Area
+        ensures { result ≡ [] }
+    {
+        Area {
+            made: Vec::new(alloc),
+            owners: Vec::new(alloc),
+        }
+    }
+
+    /// What the allocations take.
+    pub(crate) fn used(&self) -> u64
+        ensures { result ≡ used self.now }
+    {
+        self.owners.len() as u64 * 16
+    }
+
+    /// Makes an allocation at the end of the area, and answers its base.
+    pub(crate) fn append(&mut self, kind: AllocKind, size: u64) -> Result<u64, AllocError>
+        requires { IsArea kind self.old }
+        ensures base { IfOk result (λ base. base ≡ area_base kind + used self.old) }
+        ensures made { OnOk result (self.new ≡ self.old ++ record { base = area_base kind + used self.old; size = size; kind = kind; live = true } ∷ []) }
+        ensures area { IsArea kind self.new }
+        ensures full { IsErrOf result AllocError.Full ↔ (area_limit kind < used self.old + room size) }
+        ensures unchanged { OnErr result (self.new ≡ self.old) }
+    {
+        let used = self.used();
+        if !has_room(kind, used, size) {
+            return Err(AllocError::Full);
+        }
+        let base = kind.base() + used;
+        let live = true;
+        let allocation = Allocation {
+            base,
+            size,
+            kind,
+            live,
+        };
+        push(&mut self.made, &mut self.owners, allocation)?;
+        Ok(base)
+    }
+
+    /// The place of the allocation that takes the byte at `addr`.
+    fn owner(&self, kind: AllocKind, addr: u64) -> Option<usize>
+        requires { IsArea kind self.now }
+        ensures { MatchOption result (IsOutside kind self.now addr) (λ i. Has self.now addr i) }
+    {
+        if addr < kind.base() {
+            return None;
+        }
+        let piece = (addr - kind.base()) / 16;
+        if piece < self.owners.len() as u64 {
+            Some(self.owners[piece as usize] as usize)
+        } else {
+            None
+        }
+    }
+
+    /// The live allocation that has the `n` bytes from `addr` on.
+    pub(crate) fn covering(&self, kind: AllocKind, addr: u64, n: u64) -> Option<Allocation>
+        requires area { IsArea kind self.now }
+        requires some { 0 < n }
+        ensures { result ≡ find (covers addr n) self.now }
+    {
+        let Some(place) = self.owner(kind, addr) else {
+            return None;
+        };
+        let candidate = self.made[place];
+        if candidate.covers(addr, n) {
+            Some(candidate)
+        } else {
+            None
+        }
+    }
+
+    /// The place of the live block of the heap that begins at `base`.
+    fn place_of_block(&self, base: u64) -> Option<usize>
+        requires { IsArea Heap self.now }
+        ensures { MatchOption result (find (is_block base) self.now ≡ None) (IsOnly (is_block base) self.now) }
+    {
+        let Some(place) = self.owner(AllocKind::Heap, base) else {
+            return None;
+        };
+        let candidate = self.made[place];
+        if candidate.live && candidate.base == base {
+            Some(place)
+        } else {
+            None
+        }
+    }
+
+    /// The size of the live block of the heap that begins at `base`, if one does.
+    pub(crate) fn block_size(&self, base: u64) -> Option<u64>
+        requires { IsArea Heap self.now }
+        ensures { result ≡ option_map (λ a. a.size) (find (is_block base) self.now) }
+    {
+        let place = self.place_of_block(base)?;
+        Some(self.made[place].size)
+    }
+
+    /// Ends the live block of the heap that begins at `base`, and answers its size.
+    pub(crate) fn end(&mut self, base: u64) -> Result<u64, BadFree>
+        requires { IsArea Heap self.old }
+        ensures size { IfOk result (λ size. option_map (λ a. a.size) (find (is_block base) self.old) ≡ Some size) }
+        ensures ended { OnOk result (self.new ≡ map (λ a. if is_block base a then record a { live = false } else a) self.old) }
+        ensures area { IsArea Heap self.new }
+        ensures bad_free { IsErr result ↔ (option_map (λ a. a.size) (find (is_block base) self.old) ≡ None) }
+        ensures unchanged { OnErr result (self.new ≡ self.old) }
+    {
+        match self.place_of_block(base) {
+            None => Err(BadFree),
+            Some(place) => {
+                let size = self.made[place].size;
+                self.made[place].live = false;
+                Ok(size)
+            }
+        }
+    }
+
+    /// Takes the allocations of the stack from `mark` on out of the area.
+    pub(crate) fn cut(&mut self, mark: u64)
+        requires { IsArea Stack self.old }
+        ensures kept { self.new ≡ filter (λ a. not (leb mark a.base)) self.old }
+        ensures area { IsArea Stack self.new }
+    {
+        cut_off(&mut self.made, mark);
+        let used = used_of(AllocKind::Stack, &self.made);
+        self.owners.truncate((used / 16) as usize);
     }
 }

@@ -4,7 +4,7 @@ ghost use Rattle.ms_alloc.specs.declared.kinds.AllocKind.TheVariants.{Heap, Stac
 ghost use Rattle.ms_alloc.specs.Layout.{room, area_base, area_limit};
 
 use crate::allocations::Allocation;
-use crate::areas::{append, covering, cut, has_room, place_of_block, used_of};
+use crate::areas::{Area, has_room};
 use crate::errors::{AllocError, BadFree};
 use crate::kinds::AllocKind;
 use std::alloc::Global;
@@ -13,9 +13,9 @@ use std::marker::Model;
 /// The allocations of a run. Contracts see three lists, one for each area, in order of address.
 #[derive(Debug, Drop)]
 pub struct Table {
-    fixed: Vec<Allocation>,
-    heap: Vec<Allocation>,
-    stack: Vec<Allocation>,
+    fixed: Area,
+    heap: Area,
+    stack: Area,
 }
 
 impl Model for Table {
@@ -23,9 +23,9 @@ impl Model for Table {
 
     ghost Value = { Allocations };
 
-    ghost view = { λ t. record { fixed = t.fixed.items; heap = t.heap.items; stack = t.stack.items } };
+    ghost view = { λ t. record { fixed = t.fixed; heap = t.heap; stack = t.stack } };
 
-    ghost invariant = { λ t. IsLaidOut (record { fixed = t.fixed.items; heap = t.heap.items; stack = t.stack.items }) };
+    ghost invariant = { λ t. IsLaidOut (record { fixed = t.fixed; heap = t.heap; stack = t.stack }) };
 }
 
 /// The area whose addresses reach `addr`.
@@ -52,9 +52,9 @@ impl Table {
         ensures laid_out { IsLaidOut result }
     {
         Table {
-            fixed: Vec::new(alloc),
-            heap: Vec::new(alloc),
-            stack: Vec::new(alloc),
+            fixed: Area::new(alloc),
+            heap: Area::new(alloc),
+            stack: Area::new(alloc),
         }
     }
 
@@ -77,9 +77,9 @@ impl Table {
         ensures unchanged { OnErr result (self.new ≡ self.old) }
     {
         match kind {
-            AllocKind::Fixed => append(kind, &mut self.fixed, size),
-            AllocKind::Heap => append(kind, &mut self.heap, size),
-            AllocKind::Stack => append(kind, &mut self.stack, size),
+            AllocKind::Fixed => self.fixed.append(kind, size),
+            AllocKind::Heap => self.heap.append(kind, size),
+            AllocKind::Stack => self.stack.append(kind, size),
         }
     }
 
@@ -93,14 +93,7 @@ impl Table {
         ensures bad_free { IsErr result ↔ (heap_size base self.old ≡ None) }
         ensures unchanged { OnErr result (self.new ≡ self.old) }
     {
-        match place_of_block(&self.heap, base) {
-            None => Err(BadFree),
-            Some(place) => {
-                let size = self.heap[place].size;
-                self.heap[place].live = false;
-                Ok(size)
-            }
-        }
+        self.heap.end(base)
     }
 
     /// Where the next allocation of an area begins.
@@ -122,7 +115,7 @@ impl Table {
         ensures released { self.new ≡ without_from mark self.old }
         ensures laid_out { IsLaidOut self.new }
     {
-        cut(&mut self.stack, mark);
+        self.stack.cut(mark);
     }
 
     /// Whether an access of `n` bytes from `addr` on is good: it has no bytes, or all its bytes lie in one live
@@ -145,8 +138,7 @@ impl Table {
     pub fn heap_size(&self, base: u64) -> Option<u64>
         ensures { result ≡ heap_size base self.now }
     {
-        let place = place_of_block(&self.heap, base)?;
-        Some(self.heap[place].size)
+        self.heap.block_size(base)
     }
 
     /// What every table has: in each area an allocation begins where the one before it ends, and all keep its limit.
@@ -162,9 +154,9 @@ impl Table {
         ensures within { result ≤ area_limit kind }
     {
         match kind {
-            AllocKind::Fixed => used_of(kind, &self.fixed),
-            AllocKind::Heap => used_of(kind, &self.heap),
-            AllocKind::Stack => used_of(kind, &self.stack),
+            AllocKind::Fixed => self.fixed.used(),
+            AllocKind::Heap => self.heap.used(),
+            AllocKind::Stack => self.stack.used(),
         }
     }
 
@@ -175,9 +167,9 @@ impl Table {
     {
         let kind = kind_at(addr);
         match kind {
-            AllocKind::Fixed => covering(kind, &self.fixed, addr, n),
-            AllocKind::Heap => covering(kind, &self.heap, addr, n),
-            AllocKind::Stack => covering(kind, &self.stack, addr, n),
+            AllocKind::Fixed => self.fixed.covering(kind, addr, n),
+            AllocKind::Heap => self.heap.covering(kind, addr, n),
+            AllocKind::Stack => self.stack.covering(kind, addr, n),
         }
     }
 }

@@ -1,18 +1,15 @@
 -- Planes as allocations come and go.
-use Rattle.std.proofs.Common.{◌≡◌, ◌≢◌, ℕ, zero, suc, ◌+◌, ◌-◌, ◌*◌, ◌/◌, ◌%◌, ◌^◌, ◌<◌, ◌≤◌, Bool, true, false, List, [], ◌∷◌, ◌++◌, length, get_or, map, min, not, refl, sym, ap, ◌∙◌, subst, arith, ⊎_elim, leb, eqb, ◌&&◌, if◌then◌else◌, IsTrue, Result, Ok, Err, OnOk, OnErr}
+use Rattle.std.proofs.Common.{◌≡◌, ◌≢◌, ℕ, zero, suc, ◌+◌, ◌-◌, ◌*◌, ◌/◌, ◌%◌, ◌^◌, ◌<◌, ◌≤◌, Bool, true, false, List, [], ◌∷◌, length, get_or, map, min, not, refl, sym, ap, ◌∙◌, subst, arith, ⊎_elim, leb, eqb, ◌&&◌, if◌then◌else◌, Result, Ok, Err, OnOk, OnErr}
 use Rattle.std.specs.List.{filter}
-use Rattle.std.proofs.lemmas.Bool.{cases_Bool, cases_eq, cases_lt, eq-eqb, ne_eqb, eqb-true, leb-true, le-leb, and_parts, and_from, and_left}
-use Rattle.ms_alloc.specs.declared.kinds.AllocKind.{AllocKind}
-use Rattle.ms_alloc.specs.declared.kinds.AllocKind.TheVariants.{Fixed, Heap, Stack}
+use Rattle.std.proofs.lemmas.Bool.{cases_Bool, cases_eq, eq-eqb, ne_eqb, eqb-true, leb-true, le-leb, and_parts, and_from, and_left}
+use Rattle.ms_alloc.specs.declared.kinds.AllocKind.TheVariants.{Stack}
 use Rattle.ms_alloc.specs.declared.allocations.Allocation.{Allocation}
-use Rattle.ms_alloc.specs.Layout.{room, area_base, area_limit}
-use Rattle.ms_alloc.specs.Allocations.{Allocations, IsArea, IsLaidOut, used, of_kind, next, next_base, with_made, with_ended, without_from, is_block}
-use Rattle.ms_bits.specs.Maps.{with_range, with_cells}
+use Rattle.ms_alloc.specs.Layout.{room}
+use Rattle.ms_alloc.specs.Allocations.{Allocations, IsLaidOut, used, next_base, with_ended, without_from, is_block}
 use Rattle.ms_planes.specs.Areas.{area_of, cell_area, bytes_shown, cells_shown}
 use Rattle.ms_planes.specs.Memory.{taken, IsBytePlane, IsCellPlane}
-use Rattle.ms_planes.proofs.Ranges.{range-is, range-cells, no-cells}
 use Rattle.ms_planes.proofs.Shown.{area_at, cell-at}
-use Rattle.ms_planes.proofs.Reaches.{Reaches, used-even}
+use Rattle.ms_planes.proofs.Reaches.{Reaches}
 
 -- ---- a block that has ended still takes its place
 

@@ -1,9 +1,9 @@
 -- A map changed in a range: what it holds inside and outside, and the last place of the range.
-use Rattle.std.proofs.Common.{◌≡◌, ◌≢◌, ℕ, zero, suc, ◌+◌, ◌-◌, ◌*◌, ◌/◌, ◌%◌, ◌^◌, ◌<◌, ◌≤◌, Bool, true, false, List, ◌++◌, length, get_or, set, take, drop, refl, sym, ap, ◌∙◌, arith, ⊎_elim, if◌then◌else◌, eqb, Some, None}
+use Rattle.std.proofs.Common.{◌≡◌, ◌≢◌, ℕ, zero, suc, ◌+◌, ◌-◌, ◌/◌, ◌<◌, ◌≤◌, Bool, true, false, List, ◌++◌, length, get_or, set, take, drop, refl, sym, ap, ◌∙◌, arith, ⊎_elim, if◌then◌else◌, eqb, Some, None}
 use Rattle.std.proofs.Math.Path.{fun_ext}
 use Rattle.std.proofs.lemmas.Bool.{le-leb, lt-leb, lt-ltb, le-ltb, cases_lt, cases_eq, eq-eqb, ne_eqb, and_from, and_left, and_right}
 use Rattle.std.proofs.lemmas.List.{length-take-le, length-take, length-drop, length-append, get_or-set_other, get_or-set_same, get_or_append_left, get_or-append_right, get_or-take, get_or-drop, get_or_past}
-use Rattle.ms_bits.specs.Maps.{within, with_range, byte_of, number_at, first_nonzero, touches, with_cells, with_cell, copied_cells}
+use Rattle.ms_bits.specs.Maps.{within, with_range, first_nonzero, touches, with_cells, with_cell, copied_cells}
 use Rattle.ms_planes.specs.Areas.{held}
 
 pub within-true : (a n x : ℕ) → a ≤ x → x < a + n → within a n x ≡ true

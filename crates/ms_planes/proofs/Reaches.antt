@@ -1,5 +1,5 @@
 -- A good range stands in the planes.
-use Rattle.std.proofs.Common.{◌≡◌, ◌≢◌, ℕ, zero, suc, ◌+◌, ◌-◌, ◌*◌, ◌/◌, ◌%◌, ◌^◌, ◌<◌, ◌≤◌, Bool, true, false, List, [], ◌∷◌, ◌++◌, length, get_or, map, refl, sym, ap, ◌∙◌, subst, arith, ◌⊎◌, inl, inr, ⊎_elim, is_some, Option, Some, None, cond, leb, eqb, ◌&&◌, ◌||◌, IsTrue, Result, Ok, Err, OnOk, OnErr}
+use Rattle.std.proofs.Common.{◌≡◌, ◌≢◌, ℕ, ◌+◌, ◌-◌, ◌*◌, ◌/◌, ◌%◌, ◌^◌, ◌<◌, ◌≤◌, true, false, List, [], ◌∷◌, ◌++◌, length, get_or, map, refl, sym, ap, ◌∙◌, subst, arith, ◌⊎◌, inl, inr, ⊎_elim, is_some, Option, Some, None, cond, leb, eqb, ◌&&◌, IsTrue, Result, Ok, Err, OnOk, OnErr}
 use Rattle.std.specs.List.{find}
 use Rattle.std.specs.Option.{option_or}
 use Rattle.std.proofs.lemmas.Bool.{and_parts, or_cases, leb-true, eqb-true, cases_Bool, cases_lt}
@@ -9,7 +9,7 @@ use Rattle.std.proofs.Math.ListN.{get_or-map}
 use Rattle.ms_alloc.specs.declared.kinds.AllocKind.{AllocKind}
 use Rattle.ms_alloc.specs.declared.kinds.AllocKind.TheVariants.{Fixed, Heap, Stack}
 use Rattle.ms_alloc.specs.declared.allocations.Allocation.{Allocation}
-use Rattle.ms_alloc.specs.Layout.{room, area_base, area_limit}
+use Rattle.ms_alloc.specs.Layout.{room, area_base}
 use Rattle.ms_alloc.specs.Allocations.{Allocations, IsRow, IsArea, IsLaidOut, used, covers, listed, is_good}
 use Rattle.ms_bits.specs.Maps.{with_range}
 use Rattle.ms_planes.specs.Areas.{area_of, cell_area, bytes_shown, cells_shown, HasBytes, HasCells}

@@ -1,5 +1,5 @@
 -- A write to one area, seen at addresses.
-use Rattle.std.proofs.Common.{◌≡◌, ◌≢◌, ℕ, zero, suc, ◌+◌, ◌-◌, ◌*◌, ◌/◌, ◌%◌, ◌^◌, ◌<◌, ◌≤◌, true, false, List, [], ◌∷◌, length, get_or, set, map, refl, sym, ap, ◌∙◌, arith, ⊎_elim, if◌then◌else◌, ltb, leb, eqb, ◌&&◌, Bool, take, min}
+use Rattle.std.proofs.Common.{◌≡◌, ◌≢◌, ℕ, zero, suc, ◌+◌, ◌-◌, ◌*◌, ◌/◌, ◌%◌, ◌^◌, ◌<◌, ◌≤◌, true, false, List, [], ◌∷◌, length, get_or, set, map, refl, sym, ap, ◌∙◌, arith, ⊎_elim, if◌then◌else◌, leb, eqb, ◌&&◌, Bool, take, min}
 use Rattle.std.specs.Prelude.{Vec}
 use Rattle.std.specs.Global.{Global}
 use Rattle.std.proofs.lemmas.Bool.{eq-eqb, ne_eqb, lt-leb, le-leb, lt-ltb, le-ltb, cases_lt, cases_eq}

@@ -1,5 +1,5 @@
 -- What lists of numbers, one for each area of memory, hold at an address or at a cell of four bytes.
-use Rattle.std.specs.Prelude.{ℕ, ◌+◌, ◌-◌, ◌*◌, ◌/◌, ◌%◌, ◌^◌, ◌≤◌, ◌<◌, ◌≡◌, List, [], map, length, get_or, ltb, if◌then◌else◌, Vec}
+use Rattle.std.specs.Prelude.{ℕ, ◌+◌, ◌-◌, ◌*◌, ◌/◌, ◌%◌, ◌^◌, ◌≤◌, ◌<◌, List, [], map, length, get_or, ltb, if◌then◌else◌, Vec}
 use Rattle.std.specs.Global.{Global}
 
 -- the contents of vectors

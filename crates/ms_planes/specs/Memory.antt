@@ -1,5 +1,5 @@
 -- The memory of a run: the table of allocations and three maps.
-use Rattle.std.specs.Prelude.{◌≡◌, ◌≤◌, ◌<◌, ◌+◌, ◌*◌, ◌/◌, ◌%◌, ◌^◌, ℕ, List, [], ◌∷◌, length, get_or, IsTrue}
+use Rattle.std.specs.Prelude.{◌≡◌, ◌≤◌, ◌/◌, ◌%◌, ◌^◌, ℕ, List, [], ◌∷◌, length, get_or, IsTrue}
 use Rattle.ms_alloc.specs.Allocations.{Allocations, IsLaidOut, used, is_good}
 use Rattle.ms_planes.specs.Areas.{area_of, cell_area, bytes_shown, cells_shown}
 

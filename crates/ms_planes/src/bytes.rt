@@ -1,8 +1,10 @@
 //! A byte for each address of the three areas.
 ghost use Rattle.std.specs.Prelude.{◌≡◌, ◌≤◌, ◌<◌, ◌+◌, ◌*◌, ◌%◌, ◌^◌, map, take, length, get_or, set, OnOk, OnErr, OnSome, IfOk, ℕ, option_map, ◌-◌, ◌/◌, [], ◌∷◌, if◌then◌else◌, ltb, leb, eqb, ◌&&◌, min};
+ghost use Rattle.ms_bits.specs.Fill.{made_byte};
 ghost use Rattle.ms_bits.specs.Maps.{with_range, byte_of, number_at, copied, first_nonzero};
 ghost use Rattle.ms_planes.specs.Areas.{lists, held, area_of, bytes_shown, HasBytes};
 
+use crate::fills::put_made;
 use crate::words::{
     copy_within, fill_range, first_nonzero_in, grow, number_in, paste, put_number, taken,
 };
@@ -89,6 +91,23 @@ impl BytePlane {
     {
         let place = place_of(addr);
         fill_range(&mut self.areas[place.area], place.offset, n as usize, v);
+    }
+
+    /// Writes the bytes that a run makes of `fill` after `made` others to the `n` addresses from `addr` on.
+    pub(crate) fn put_made(&mut self, addr: u64, n: u64, fill: &[u8], made: u64)
+        requires has { HasBytes (lists self.old.areas) addr n }
+        requires filled { 0 < length fill.now }
+        ensures shown { bytes_shown (lists self.new.areas) ≡ with_range (bytes_shown (lists self.old.areas)) addr n (λ k. made_byte fill.now (made + k)) }
+        ensures sizes { map length (lists self.new.areas) ≡ map length (lists self.old.areas) }
+    {
+        let place = place_of(addr);
+        put_made(
+            &mut self.areas[place.area],
+            place.offset,
+            n as usize,
+            fill,
+            made,
+        );
     }
 
     /// Writes the bytes of `source` from `addr` on.

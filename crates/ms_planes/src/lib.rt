@@ -4,6 +4,7 @@
 
 mod bytes;
 mod cells;
+mod fills;
 mod planes;
 pub mod words;
 

@@ -1,5 +1,6 @@
 //! The planes.
-ghost use Rattle.std.specs.Prelude.{◌≡◌, ◌≤◌, ◌<◌, ◌+◌, ◌/◌, Some, None, IsTrue, IsErr, ◌↔◌, OnOk, OnErr, IfOk, IsErrOf, option_map, eqb, if◌then◌else◌};
+ghost use Rattle.std.specs.Prelude.{◌≡◌, ◌≤◌, ◌<◌, ◌+◌, ◌/◌, Some, None, IsTrue, IsErr, ◌↔◌, OnOk, OnErr, IfOk, IsErrOf, option_map, eqb, length, get_or, if◌then◌else◌};
+ghost use Rattle.ms_bits.specs.Fill.{made_byte};
 ghost use Rattle.ms_bits.specs.Maps.{with_range, byte_of, number_at, first_nonzero, copied, with_cells, with_cell, copied_cells};
 ghost use Rattle.ms_alloc.specs.declared.kinds.AllocKind.TheVariants.{Stack};
 ghost use Rattle.ms_alloc.specs.Layout.{room, area_limit};
@@ -169,6 +170,47 @@ impl Planes {
     {
         if n != 0 {
             self.bytes.put(addr, n, v);
+        }
+    }
+
+    /// Writes the bytes of `source` from `addr` on.
+    pub fn store_bytes(&mut self, addr: u64, source: &[u8])
+        requires { IsTrue (is_good addr (length source.now) self.old.table) }
+        ensures table { self.new.table ≡ self.old.table }
+        ensures bytes { bytes_of self.new ≡ with_range (bytes_of self.old) addr (length source.now) (λ k. get_or source.now k 0) }
+        ensures shadow { shadow_of self.new ≡ shadow_of self.old }
+        ensures origins { origins_of self.new ≡ origins_of self.old }
+    {
+        if source.len() != 0 {
+            self.bytes.paste(addr, source);
+        }
+    }
+
+    /// Makes each of `n` bytes `v`.
+    pub fn fill_bytes(&mut self, addr: u64, n: u64, v: u8)
+        requires { IsTrue (is_good addr n self.old.table) }
+        ensures table { self.new.table ≡ self.old.table }
+        ensures bytes { bytes_of self.new ≡ with_range (bytes_of self.old) addr n (λ k. v) }
+        ensures shadow { shadow_of self.new ≡ shadow_of self.old }
+        ensures origins { origins_of self.new ≡ origins_of self.old }
+    {
+        if n != 0 {
+            self.bytes.fill(addr, n, v);
+        }
+    }
+
+    /// Makes `n` bytes uninitialised: they are the bytes that a run makes of `fill`, which isn't empty, after it has made
+    /// `made` others.
+    pub fn store_made(&mut self, addr: u64, n: u64, fill: &[u8], made: u64)
+        requires good { IsTrue (is_good addr n self.old.table) }
+        requires filled { 0 < length fill.now }
+        ensures table { self.new.table ≡ self.old.table }
+        ensures bytes { bytes_of self.new ≡ with_range (bytes_of self.old) addr n (λ k. made_byte fill.now (made + k)) }
+        ensures shadow { shadow_of self.new ≡ shadow_of self.old }
+        ensures origins { origins_of self.new ≡ origins_of self.old }
+    {
+        if n != 0 {
+            self.bytes.put_made(addr, n, fill, made);
         }
     }
 

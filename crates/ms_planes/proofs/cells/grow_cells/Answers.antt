@@ -1,4 +1,4 @@
-use Rattle.std.proofs.Common.{◌≡◌, ◌++◌, ℕ, ◌-◌, ◌<◌, ◌≤◌, List, length, take, replicate, arith, ap, ◌∙◌, ⊎_elim}
+use Rattle.std.proofs.Common.{◌++◌, ℕ, ◌-◌, ◌<◌, ◌≤◌, List, replicate, arith, ap, ◌∙◌, ⊎_elim}
 use Rattle.std.proofs.lemmas.Bool.{cases_lt}
 use Rattle.std.proofs.lemmas.List.{get_or-replicate, get_or_past, take_all, length-replicate}
 use Rattle.ms_planes.specs.Areas.{held}

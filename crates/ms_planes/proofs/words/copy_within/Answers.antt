@@ -1,5 +1,4 @@
-use Rattle.std.proofs.Common.{ap, ℕ, ◌+◌, ◌-◌, ◌≡◌, arith, ◌∙◌}
-use Rattle.ms_bits.specs.Maps.{copied}
+use Rattle.std.proofs.Common.{◌+◌, ◌-◌, ◌≡◌, arith}
 use Rattle.ms_planes.specs.Areas.{held}
 use Rattle.ms_planes.proofs.Ranges.{range-is}
 use Rattle.ms_planes.proofs.words.copy_within.Goals as goal

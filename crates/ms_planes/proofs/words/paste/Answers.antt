@@ -1,4 +1,4 @@
-use Rattle.std.proofs.Common.{◌≡◌, ℕ, ◌+◌, ◌-◌, ◌<◌, ◌≤◌, List, length, take, drop, refl, arith, ap, ◌∙◌}
+use Rattle.std.proofs.Common.{◌≡◌, ℕ, ◌+◌, ◌-◌, List, length, arith, ap, ◌∙◌}
 use Rattle.ms_bits.specs.Maps.{with_range}
 use Rattle.ms_planes.specs.Areas.{held}
 use Rattle.ms_planes.proofs.Ranges.{splice}

@@ -7,20 +7,17 @@ use Rattle.ms_alloc.proofs.tables.Table.covering.Goals as goal
 pub returns-in-Fixed : goal.returns-in-Fixed
 returns-in-Fixed c =
     c.covering.ensures
-    ∙ ap (find (covers c.args.addr c.args.n)) c.deref.ensures.value
-    ∙ sym (listed-fixed (record { fixed = c.self.inside.fixed.items; heap = c.self.inside.heap.items; stack = c.self.inside.stack.items }) c.args.addr c.args.n c.requires c.self.invariant (c.kind_at-kind.ensures.fixed c.in-Fixed.is))
+    ∙ sym (listed-fixed (record { fixed = c.self.inside.fixed; heap = c.self.inside.heap; stack = c.self.inside.stack }) c.args.addr c.args.n c.requires c.self.invariant (c.kind_at-kind.ensures.fixed c.in-Fixed.is))
     ∙ ap (λ (t : Allocations). find (covers c.args.addr c.args.n) (listed t)) c.self.view_is
 
 pub returns-in-Heap : goal.returns-in-Heap
 returns-in-Heap c =
     c.covering-in-Heap.ensures
-    ∙ ap (find (covers c.args.addr c.args.n)) c.deref-in-Heap.ensures.value
-    ∙ sym (listed-heap (record { fixed = c.self.inside.fixed.items; heap = c.self.inside.heap.items; stack = c.self.inside.stack.items }) c.args.addr c.args.n c.requires c.self.invariant (c.kind_at-kind.ensures.heap c.in-Heap.is).0 (c.kind_at-kind.ensures.heap c.in-Heap.is).1)
+    ∙ sym (listed-heap (record { fixed = c.self.inside.fixed; heap = c.self.inside.heap; stack = c.self.inside.stack }) c.args.addr c.args.n c.requires c.self.invariant (c.kind_at-kind.ensures.heap c.in-Heap.is).0 (c.kind_at-kind.ensures.heap c.in-Heap.is).1)
     ∙ ap (λ (t : Allocations). find (covers c.args.addr c.args.n) (listed t)) c.self.view_is
 
 pub returns-in-Stack : goal.returns-in-Stack
 returns-in-Stack c =
     c.covering-in-Stack.ensures
-    ∙ ap (find (covers c.args.addr c.args.n)) c.deref-in-Stack.ensures.value
-    ∙ sym (listed-stack (record { fixed = c.self.inside.fixed.items; heap = c.self.inside.heap.items; stack = c.self.inside.stack.items }) c.args.addr c.args.n c.requires c.self.invariant (c.kind_at-kind.ensures.stack c.in-Stack.is))
+    ∙ sym (listed-stack (record { fixed = c.self.inside.fixed; heap = c.self.inside.heap; stack = c.self.inside.stack }) c.args.addr c.args.n c.requires c.self.invariant (c.kind_at-kind.ensures.stack c.in-Stack.is))
     ∙ ap (λ (t : Allocations). find (covers c.args.addr c.args.n) (listed t)) c.self.view_is

@@ -1,5 +1,5 @@
-use Rattle.std.proofs.Common.{◌≡◌, ◌<◌, ℕ, ◌+◌, List, length, get_or, ap, refl, ◌∙◌, sym}
-use Rattle.ms_bits.specs.Maps.{with_range, copied}
+use Rattle.std.proofs.Common.{ℕ, ◌+◌, List, length, get_or, ap, ◌∙◌}
+use Rattle.ms_bits.specs.Maps.{with_range}
 use Rattle.ms_planes.specs.Areas.{lists, held, bytes_shown}
 use Rattle.ms_planes.proofs.Ranges.{range-same}
 use Rattle.ms_planes.proofs.Shown.{bytes-write, bytes-read}

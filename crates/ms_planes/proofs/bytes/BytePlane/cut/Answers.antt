@@ -1,5 +1,5 @@
-use Rattle.std.proofs.Common.{◌≡◌, ◌<◌, ℕ, List, [], length, get_or, set, take, leb, eqb, ◌&&◌, min, if◌then◌else◌, ap, refl, ◌∙◌, sym, arith, ◌%◌, ◌^◌}
-use Rattle.ms_planes.specs.Areas.{lists, held, area_of, bytes_shown}
+use Rattle.std.proofs.Common.{◌≡◌, ℕ, List, [], length, get_or, set, take, leb, eqb, ◌&&◌, min, if◌then◌else◌, ap, refl, ◌∙◌, arith, ◌%◌, ◌^◌}
+use Rattle.ms_planes.specs.Areas.{lists, area_of, bytes_shown}
 use Rattle.ms_planes.proofs.Shown.{cut-shown, cut-length, lists-set, vector-at}
 use Rattle.ms_planes.proofs.bytes.BytePlane.cut.Goals as goal
 

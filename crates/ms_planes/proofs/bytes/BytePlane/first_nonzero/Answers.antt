@@ -1,4 +1,4 @@
-use Rattle.std.proofs.Common.{◌≡◌, ℕ, List, get_or, sym, ap, ◌∙◌, ◌+◌, ◌<◌, arith}
+use Rattle.std.proofs.Common.{◌≡◌, ℕ, List, sym, ap, ◌∙◌, ◌+◌, ◌<◌, arith}
 use Rattle.ms_planes.specs.Areas.{lists, held, bytes_shown}
 use Rattle.ms_planes.proofs.Ranges.{nonzero-found, nonzero-none}
 use Rattle.ms_planes.proofs.Shown.{bytes-read}

@@ -1,6 +1,5 @@
-use Rattle.std.proofs.Common.{◌≡◌, ◌≤◌, ◌<◌, ℕ, List, [], length, get_or, ap, subst, refl, ◌∙◌, sym, arith}
+use Rattle.std.proofs.Common.{◌≡◌, ◌≤◌, ℕ, List, [], length, get_or, ap, subst, refl, ◌∙◌, sym, arith}
 use Rattle.std.proofs.Math.Path.{fun_ext}
-use Rattle.std.proofs.lemmas.List.{length-map}
 use Rattle.ms_planes.specs.Areas.{lists, held, area_of, bytes_shown}
 use Rattle.ms_planes.proofs.Shown.{held-set, length-kept, lists-set, vector-at}
 use Rattle.ms_planes.proofs.bytes.BytePlane.grow.Goals as goal

@@ -1,4 +1,4 @@
-use Rattle.std.proofs.Common.{◌≡◌, ℕ, ◌+◌, ◌-◌, ◌/◌, ◌<◌, List, length, get_or, map, ap, sym, ◌∙◌, arith}
+use Rattle.std.proofs.Common.{◌≡◌, ℕ, ◌+◌, ◌-◌, ◌/◌, ◌<◌, List, length, map, ap, sym, ◌∙◌, arith}
 use Rattle.ms_bits.specs.Maps.{copied_cells}
 use Rattle.ms_planes.specs.declared.cells.CellPlane.{CellPlane}
 use Rattle.ms_planes.specs.Areas.{lists, held, cells_shown}

@@ -1,6 +1,5 @@
-use Rattle.std.proofs.Common.{◌≡◌, ◌≤◌, ◌<◌, ℕ, List, [], length, get_or, ap, subst, refl, ◌∙◌, sym, arith}
+use Rattle.std.proofs.Common.{◌≡◌, ◌≤◌, ℕ, List, [], length, get_or, ap, subst, refl, ◌∙◌, sym, arith}
 use Rattle.std.proofs.Math.Path.{fun_ext}
-use Rattle.std.proofs.lemmas.List.{length-map}
 use Rattle.ms_planes.specs.Areas.{lists, held, cell_area, cells_shown}
 use Rattle.ms_planes.proofs.Shown.{held-set, length-kept, lists-set, vector-at}
 use Rattle.ms_planes.proofs.cells.CellPlane.grow.Goals as goal

@@ -1,7 +1,7 @@
-use Rattle.std.proofs.Common.{◌≡◌, ◌+◌, ◌-◌, ◌/◌, ◌<◌, ◌≤◌, ℕ, sym, subst, refl, ap, ◌∙◌, List, length, arith}
+use Rattle.std.proofs.Common.{◌≡◌, ◌+◌, ◌-◌, ◌/◌, ℕ, sym, subst, refl, ap, ◌∙◌, List, length, arith}
 use Rattle.ms_bits.specs.Maps.{with_range, copied, copied_cells}
 use Rattle.ms_planes.specs.Areas.{lists, held, bytes_shown, cells_shown, HasBytes, HasCells}
-use Rattle.ms_planes.specs.Memory.{Memory, taken, bytes_of, shadow_of, origins_of}
+use Rattle.ms_planes.specs.Memory.{Memory, taken, shadow_of}
 use Rattle.ms_planes.proofs.Ranges.{range-same, range-outside, copied-low, copied-high}
 use Rattle.ms_planes.proofs.Reaches.{Reaches, reach, has-bytes, has-cells, bytes-written, cells-written}
 use Rattle.ms_planes.proofs.planes.Planes.copy_shadow.Goals as goal

@@ -1,9 +1,7 @@
-use Rattle.std.proofs.Common.{◌≡◌, ◌≢◌, ℕ, ◌+◌, ◌-◌, ◌/◌, List, ap, refl, sym, arith, ◌∙◌}
-use Rattle.ms_bits.specs.Maps.{byte_of, with_range, with_cells, with_cell, copied}
-use Rattle.ms_planes.specs.Areas.{lists, bytes_shown, cells_shown}
-use Rattle.ms_planes.specs.Memory.{Memory, taken, bytes_of, shadow_of, origins_of}
-use Rattle.ms_planes.proofs.Ranges.{range-none}
-use Rattle.ms_planes.proofs.Reaches.{Reaches, reach, has-bytes, has-cells, bytes-written, cells-written}
+use Rattle.std.proofs.Common.{ap}
+use Rattle.ms_planes.specs.Areas.{lists}
+use Rattle.ms_planes.specs.Memory.{Memory, taken}
+use Rattle.ms_planes.proofs.Reaches.{reach, has-bytes}
 use Rattle.ms_planes.proofs.planes.Planes.load.Goals as goal
 
 pub number-requires-clause-held : goal.number-requires-clause-held

@@ -1,9 +1,8 @@
-use Rattle.std.proofs.Common.{◌≡◌, ◌+◌, ◌≤◌, ℕ, refl, sym, subst, ap, ◌∙◌, List, arith}
-use Rattle.ms_alloc.specs.Layout.{room, area_limit}
+use Rattle.std.proofs.Common.{refl, ap, ◌∙◌, arith}
 use Rattle.ms_alloc.specs.Allocations.{next_base}
 use Rattle.ms_alloc.proofs.Rows.{limit-le, size-le}
 use Rattle.ms_bits.specs.Maps.{with_range, with_cells}
-use Rattle.ms_planes.specs.Areas.{lists, bytes_shown, cells_shown}
+use Rattle.ms_planes.specs.Areas.{lists}
 use Rattle.ms_planes.specs.Memory.{Memory, taken, bytes_of, shadow_of, origins_of}
 use Rattle.ms_planes.proofs.Grows.{bytes-grown, cells-grown, bytes-made_or_not, cells-made_or_not, bytes-blank, cells-blank, bytes-fit, cells-fit, on-ok}
 use Rattle.ms_planes.proofs.planes.Planes.make.Goals as goal

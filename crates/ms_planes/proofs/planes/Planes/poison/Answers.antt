@@ -1,10 +1,10 @@
-use Rattle.std.proofs.Common.{◌≡◌, ◌≢◌, ℕ, ◌+◌, ◌-◌, ◌/◌, ◌<◌, ◌≤◌, List, ap, refl, sym, arith, ◌∙◌, eqb, if◌then◌else◌}
+use Rattle.std.proofs.Common.{◌≡◌, ◌+◌, ◌-◌, ◌/◌, ap, refl, sym, arith, ◌∙◌, if◌then◌else◌}
 use Rattle.std.proofs.lemmas.Bool.{ne_eqb}
-use Rattle.ms_bits.specs.Maps.{byte_of, with_range, with_cells, with_cell, copied}
-use Rattle.ms_planes.specs.Areas.{lists, bytes_shown, cells_shown}
-use Rattle.ms_planes.specs.Memory.{Memory, taken, bytes_of, shadow_of, origins_of}
-use Rattle.ms_planes.proofs.Ranges.{range-none, range-cells, range-cell}
-use Rattle.ms_planes.proofs.Reaches.{Reaches, reach, has-bytes, has-cells, bytes-written, cells-written, bytes-copied}
+use Rattle.ms_bits.specs.Maps.{with_range, with_cells}
+use Rattle.ms_planes.specs.Areas.{lists, cells_shown}
+use Rattle.ms_planes.specs.Memory.{Memory, taken, shadow_of, origins_of}
+use Rattle.ms_planes.proofs.Ranges.{range-cells}
+use Rattle.ms_planes.proofs.Reaches.{Reaches, reach, has-bytes, has-cells, bytes-written, cells-written}
 use Rattle.ms_planes.proofs.planes.Planes.poison.Goals as goal
 
 pub fill-requires : goal.fill-requires

@@ -1,6 +1,6 @@
-use Rattle.std.proofs.Common.{◌≡◌, sym, subst, ap, ◌∙◌, List, ℕ, ◌/◌, arith}
-use Rattle.ms_planes.specs.Areas.{lists, bytes_shown, cells_shown}
-use Rattle.ms_planes.specs.Memory.{Memory, taken, bytes_of, shadow_of, origins_of}
+use Rattle.std.proofs.Common.{ap, ◌∙◌, ◌/◌, arith}
+use Rattle.ms_planes.specs.Areas.{lists}
+use Rattle.ms_planes.specs.Memory.{Memory, bytes_of, shadow_of, origins_of}
 use Rattle.ms_planes.proofs.Reaches.{good-reaches}
 use Rattle.ms_planes.proofs.Changes.{Released, released, bytes-cut, cells-cut, bytes-live, cells-live}
 use Rattle.ms_planes.proofs.planes.Planes.release.Goals as goal

@@ -1,0 +1,13 @@
+use Rattle.std.proofs.Common.{◌≡◌, ◌≤◌, ◌+◌, ◌-◌}
+use Rattle.ms_bits.specs.Maps.{number_at}
+use Rattle.ms_planes.specs.Areas.{held}
+use Rattle.ms_planes.proofs.words.number_by_bytes.Given as goal
+
+abbrev pub invariant-loop-left : goal.invariant-loop-left
+invariant-loop-left l = record {
+  left : l.left ≤ l.n;
+  value : l.value ≡ number_at (held l.bytes) (l.at + l.left) (l.n - l.left);
+}
+
+abbrev pub decreases-loop-left : goal.decreases-loop-left
+decreases-loop-left l = l.left
