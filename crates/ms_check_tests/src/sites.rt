@@ -3,7 +3,9 @@
 ghost use Rattle.ms_ir.specs.Places.{HasSmallNumbers};
 
 use crate::answers::is_written;
-use ms_ir::{Form, Module, Place, Root, RootKind, has_small_numbers, place_of, roots, site_of, strip};
+use ms_ir::{
+    Form, Module, Place, Root, RootKind, has_small_numbers, place_of, roots, site_of, strip,
+};
 use ms_read_top::read;
 use std::alloc::Global;
 use std::test::Fail;

@@ -2,8 +2,8 @@
 
 use crate::cases::Case;
 use crate::cases::Want::{LeftOut, Numbering, Reserved, Syntax, Written};
-use ms_ir::Form::{Instrumented, Plain};
 use ms_grammar::Outside;
+use ms_ir::Form::{Instrumented, Plain};
 
 /// Functions with their parameters, blocks and numbers.
 pub static FUNCTIONS: [Case; 39] = [

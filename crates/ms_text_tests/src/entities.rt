@@ -4,8 +4,8 @@ use crate::cases::Case;
 use crate::cases::Want::{
     BadByte, Kept, LeftOut, Numbering, OpenString, Reserved, Syntax, Written,
 };
-use ms_ir::Form::{Instrumented, Plain};
 use ms_grammar::Outside;
+use ms_ir::Form::{Instrumented, Plain};
 
 /// What stands at the top of a text.
 pub static ENTITIES: [Case; 38] = [

@@ -3,9 +3,9 @@
 use crate::cases::Want::{Kept, Limited, Read, Syntax, TooManyTokens};
 use crate::cases::{Want, is_error, rewritten};
 use ms_bits::NoMemory;
-use ms_ir::Form::Plain;
 use ms_grammar::Limit;
 use ms_ir::Form;
+use ms_ir::Form::Plain;
 use std::alloc::Global;
 use std::test::Fail;
 

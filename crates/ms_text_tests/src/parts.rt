@@ -5,8 +5,8 @@ ghost use Rattle.ms_read_body.specs.Calls.{AreTokens};
 
 use crate::cases::Want::{LeftOut, Limited, Numbering, Reserved, Syntax};
 use crate::cases::{Want, is_error};
-use ms_ir::Form::{Instrumented, Plain};
 use ms_grammar::{Limit, Outside};
+use ms_ir::Form::{Instrumented, Plain};
 use ms_ir::{Form, Ty};
 use ms_lex::{LexError, Token, tokens};
 use ms_read_body::{ReadError, read_body, read_type, read_value, skip_attributes};
