@@ -1,9 +1,10 @@
 //! Copies of modules, modules that differ in one place, and the order of names.
 
-use ms_bits::Duplicate;
+use ms_bits::{Duplicate, NoMemory};
 use ms_ir::{Form, Module, Name, Ty};
 use ms_read_body::ReadError;
 use ms_read_top::read;
+use ms_write::write;
 use std::alloc::Global;
 use std::cmp::Ordering;
 use std::test::Fail;
@@ -78,9 +79,16 @@ fn module_of(alloc: Global, text: &str) -> Result<Module, ReadError> {
     read(alloc, bytes, Form::Instrumented)
 }
 
+/// Whether two modules are equal: these alone are written alike.
+fn are_equal(alloc: Global, a: &Module, b: &Module) -> Result<bool, NoMemory> {
+    let first = write(alloc, a)?;
+    let second = write(alloc, b)?;
+    Ok(first.as_slice() == second.as_slice())
+}
+
 fn has_equal_copy(alloc: Global, m: &Module) -> bool {
     match m.copy(alloc) {
-        Ok(copy) => copy == *m,
+        Ok(copy) => are_equal(alloc, &copy, m).ok() == Some(true),
         Err(_) => false,
     }
 }
@@ -88,7 +96,7 @@ fn has_equal_copy(alloc: Global, m: &Module) -> bool {
 /// Whether the module of this text, which is one, is equal to another.
 fn is_equal(alloc: Global, m: &Module, text: &str) -> Option<bool> {
     match module_of(alloc, text) {
-        Ok(other) => Some(*m == other),
+        Ok(other) => are_equal(alloc, m, &other).ok(),
         Err(_) => None,
     }
 }
