@@ -205,6 +205,10 @@ decl_passes called (g ∷ rest) (suc n) d none e =
 pub record CallsAs (ret : Option Ty) (args : List (Ty × Operand)) (s : Signature) : Type 0 where
   pub words : (words : List ℕ) → HaveTypes IsBelow 0 words (map (λ a. a.0) args) → HaveTypes IsBelow 0 words s.params
   pub widths : map (λ a. width_of a.0) args ≡ map width_of s.params
+  pub fits : Ty × Operand → Bool
+  pub declared_params : List Ty
+  pub arguments : argument_fault fits 0 declared_params args ≡ None
+  pub params : types_eq declared_params s.params ≡ true
   pub declared_ret : Option Ty
   pub first : result_type_eq ret declared_ret ≡ true
   pub second : result_type_eq declared_ret s.ret ≡ true
@@ -324,6 +328,10 @@ module _ (m : Module) (valid : Valid m) (n b p : ℕ) (f : Func) (inst : Inst) (
                 (matched_have IsBelow 0 words (map (λ a. a.0) args) (decl_signature decl.1).params
                 (λ k t l. args_match fitted_call 0 (decl_signature decl.1).params args k t (ap (λ z. argument_fault fitted_call 0 z.params args) decl.4 ∙ both.0) l) have);
             widths = args_widths fitted_call 0 (decl_signature decl.1).params args (ap (λ z. argument_fault fitted_call 0 z.params args) decl.4 ∙ both.0) ∙ types_widths (decl_signature decl.1).params table.params same.1;
+            fits = fitted_call;
+            declared_params = (decl_signature decl.1).params;
+            arguments = ap (λ z. argument_fault fitted_call 0 z.params args) decl.4 ∙ both.0;
+            params = same.1;
             declared_ret = (decl_signature decl.1).ret;
             first = ap (λ z. result_type_eq ret z.ret) decl.4 ∙ both.1;
             second = same.0;

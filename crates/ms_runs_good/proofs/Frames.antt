@@ -1,5 +1,5 @@
 -- Frames and worlds after an effect, and what stands at a frame.
-use Rattle.std.proofs.Common.{◌<◌, ◌≡◌, ◌+◌, ◌^◌, ℕ, zero, suc, List, [], ◌∷◌, map, drop, length, leb, Option, Some, option_map, unwrap_or, slice_get, sym, ap, subst, ◌∙◌, arith, add-one}
+use Rattle.std.proofs.Common.{◌<◌, ◌≡◌, ◌+◌, ◌^◌, ℕ, zero, suc, List, [], ◌∷◌, map, drop, length, false, leb, Option, Some, option_map, unwrap_or, slice_get, sym, ap, subst, ◌∙◌, arith, add-one}
 use Rattle.ms_bits.specs.declared.traps.Trap.TheVariants as trap
 use Rattle.ms_ir.specs.declared.syntax.Name.{Name}
 use Rattle.ms_ir.specs.declared.syntax.Ty.{Ty}
@@ -10,7 +10,7 @@ use Rattle.ms_ir.specs.declared.syntax.Module.{Module}
 use Rattle.ms_runs.specs.declared.runs.End.TheVariants as «end»
 use Rattle.ms_ir.specs.Layout.{width_of}
 use Rattle.ms_runs.specs.World.{World, Setting, Effect, Gives, Does, Goes, Enters, Leaves, Ends}
-use Rattle.ms_ir.specs.Code.{one_undef, func_at, insts_at}
+use Rattle.ms_ir.specs.Code.{one_undef, func_at, insts_at, HeadUnmarked, NoMarks}
 use Rattle.ms_runs.specs.Control.{Frame, Reading, Outcome, On, Over, rest_of, read_all, release, entered, left, after_effect}
 use Rattle.ms_valid.specs.Paths.{insts_of}
 use Rattle.ms_runs_good.specs.GoodStates.{GoodFrame, GoodFrames}
@@ -50,6 +50,15 @@ same_insts m n f b at = ap (λ o. unwrap_or (option_map (λ k. k.insts) (slice_g
 -- the instruction of a function at a place
 pub due_of : (m : Module) (n b p : ℕ) (f : Func) (i : Inst) → func_at m n ≡ Some f → slice_get (insts_at m n b) p ≡ Some i → slice_get (insts_of f b) p ≡ Some i
 due_of m n b p f i at due = ap (λ l. slice_get l p) (sym (same_insts m n f b at)) ∙ due
+
+-- in a module without marks it has none
+head_unmarked : (xs : List Inst) (p : ℕ) (i : Inst) → slice_get xs p ≡ Some i → HeadUnmarked (drop p xs) → i.marked ≡ false
+head_unmarked [] p i e h = grind arith
+head_unmarked (x ∷ xs) zero i e h = ap (λ o. (unwrap_or o x).marked) (sym e) ∙ h
+head_unmarked (x ∷ xs) (suc p) i e h = head_unmarked xs p i e h
+
+pub unmarked_at : (m : Module) → NoMarks m → (n b p : ℕ) (i : Inst) → slice_get (insts_at m n b) p ≡ Some i → i.marked ≡ false
+unmarked_at m bare n b p i e = head_unmarked (insts_at m n b) p i e (bare n b p)
 
 -- the first instruction of the rest of a frame's block is the one that is due
 pub due_first : {V : Type 0} (holds : V → ℕ → Type 0) (m : Module) (frame : Frame V) (good : GoodFrame holds m frame) (i : Inst) (is : List Inst) → rest_of m frame ≡ i ∷ is

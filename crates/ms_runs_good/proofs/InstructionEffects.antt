@@ -52,6 +52,12 @@ formed_at m formed n f at b p i due =
     let insts = formed_insts there.0 (all_get block_formed f.blocks b there.0 blocks.1 there.1) in
     and_parts (op_formed i.op) (name_formed (result_type i.op) i.result) (all_get inst_formed there.0.insts p i insts.1 there.2)
 
+-- so are its types and flags
+pub shape_of : (o : Op) → op_formed o ≡ true → shape_formed o ≡ true
+shape_of o e =
+    let front = and_parts (shape_formed o && list_all (λ a. operand_formed a.0 a.1) (operands o)) (list_all is_local_name (labels o)) e in
+    (and_parts (shape_formed o) (list_all (λ a. operand_formed a.0 a.1) (operands o)) front.0).0
+
 -- what answers nothing has no name
 nameless : (r : Option Ty) (x : Option Name) → name_formed r x ≡ true → r ≡ None → x ≡ None
 nameless None None e h = refl
@@ -107,10 +113,7 @@ module _ {V : Type 0} (holds : V → ℕ → Type 0) (unset : V) (m : Module) (f
       ap (op_fault m f (λ o. operand_fits m (value_type f) o.0 o.1)) (sym same) ∙ (fits_at m valid n b p f inst at there).types_agree
 
   shaped : (o : Op) → inst.op ≡ o → shape_formed o ≡ true
-  shaped o same =
-      let whole : op_formed o ≡ true = ap op_formed (sym same) ∙ (formed_at m formed n f at b p inst due).0 in
-      let front = and_parts (shape_formed o && list_all (λ a. operand_formed a.0 a.1) (operands o)) (list_all is_local_name (labels o)) whole in
-      (and_parts (shape_formed o) (list_all (λ a. operand_formed a.0 a.1) (operands o)) front.0).0
+  shaped o same = shape_of o (ap op_formed (sym same) ∙ (formed_at m formed n f at b p inst due).0)
 
   ordinary : (o : Op) → inst.op ≡ o → is_terminator o ≡ false → (e : Effect) → Answers (GoodWorld P) (result_type o) e → Fits e
   ordinary o same ends e h =

@@ -15,6 +15,8 @@ pub mod OpEffects
 pub mod InstructionEffects
 pub mod MaskRanges
 pub mod Frames
+pub mod Counted
+pub mod Rooms
 pub mod PlainSteps
 pub mod ShadowSteps
 pub mod Starting

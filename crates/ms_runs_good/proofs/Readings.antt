@@ -1,5 +1,5 @@
 -- What a run reads of an operand is in the range of its type.
-use Rattle.std.proofs.Common.{ℕ, zero, suc, ◌+◌, ◌*◌, ◌/◌, ◌%◌, ◌^◌, ◌<◌, arith}
+use Rattle.std.proofs.Common.{◌≡◌, ℕ, zero, suc, ◌+◌, ◌*◌, ◌/◌, ◌%◌, ◌^◌, ◌<◌, List, [], ◌∷◌, map, refl, arith}
 use Rattle.std.proofs.Math.Nat.{pow-suc}
 use Rattle.std.proofs.Math.Pow.{ones_lt}
 use Rattle.std.proofs.lemmas.Nat.{mod_below, pow_pos}
@@ -10,9 +10,10 @@ use Rattle.ms_ir.specs.declared.syntax.Ty.{Ty}
 use Rattle.ms_ir.specs.declared.syntax.Operand.{Operand}
 use Rattle.ms_ir.specs.declared.syntax.Operand.TheVariants as operand
 use Rattle.ms_ir.specs.Layout.{width_of}
-use Rattle.ms_runs.specs.World.{Setting}
+use Rattle.ms_runs.specs.World.{Setting, word}
 use Rattle.ms_runs.specs.Act.{operand_word, plain_reading}
 use Rattle.ms_runs.specs.Poisoned.{Poisoned}
+use Rattle.ms_runs.specs.Masks.{word_at}
 use Rattle.ms_runs.specs.Shadow.{operand_mask, shadow_reading}
 use Rattle.ms_runs_good.specs.GoodStates.{PoisonedBelow}
 
@@ -50,3 +51,9 @@ shadow_unset t = (pow_pos (width_of t), pow_pos (width_of t))
 
 pub shadow_read : (setting : Setting) (values : Name → Poisoned) (n : ℕ) (t : Ty) (o : Operand) → PoisonedBelow (shadow_reading.read setting values n t o) (2 ^ width_of t)
 shadow_read setting values n t o = (word_below setting (λ x. (values x).value) (width_of t) o, mask_below values (width_of t) o)
+
+-- the number of a word among those of operands
+pub word_number : (k : ℕ) (ps : List Poisoned) → word k (map (λ p. p.value) ps) ≡ (word_at k ps).value
+word_number k [] = refl
+word_number zero (p ∷ ps) = refl
+word_number (suc k) (p ∷ ps) = word_number k ps

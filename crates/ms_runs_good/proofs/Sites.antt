@@ -6,10 +6,9 @@ use Rattle.ms_ir.specs.Names.{is_inserted_name}
 use Rattle.ms_ir.specs.declared.syntax.Op.{Op}
 use Rattle.ms_ir.specs.declared.syntax.Op.TheVariants as op
 use Rattle.ms_ir.specs.declared.syntax.Inst.{Inst}
-use Rattle.ms_ir.specs.declared.syntax.Block.{Block}
 use Rattle.ms_ir.specs.declared.syntax.Func.{Func}
 use Rattle.ms_ir.specs.declared.syntax.Module.{Module}
-use Rattle.ms_ir.specs.Code.{one_unmarked, over_insts, over_blocks, over_funcs, func_at, blocks_at, insts_at, site_at, is_phi}
+use Rattle.ms_ir.specs.Code.{one_unmarked, over_insts, over_blocks, func_at, blocks_at, insts_at, site_at, is_phi}
 use Rattle.ms_ir.specs.Written.{mentions}
 use Rattle.ms_valid.specs.MarksFit.{may_be_marked, all_results, is_inserted, marked_results, mark_fits}
 use Rattle.ms_valid.specs.Paths.{insts_of}
@@ -20,6 +19,7 @@ use Rattle.ms_valid.proofs.AtInstructions.{fits_at}
 use Rattle.ms_runs_good.proofs.NextFrames.{Stands, stands_formed}
 use Rattle.ms_runs_good.specs.Sited.{IsSite}
 use Rattle.ms_runs_good.proofs.Frames.{same_insts}
+use Rattle.ms_runs_good.proofs.Counted.{blocks_ahead, funcs_ahead}
 
 -- ---- bodies
 
@@ -54,18 +54,6 @@ body_ahead (x ∷ rest) p i w e free = by_phi (is_phi x.op) w p e (λ q j b d. b
     by_phi true b zero e later = let first = first_there rest b in omega (arith, later 0 first.0 b first.1)
     by_phi true b (suc q) e later = omega (arith, later q i b e)
 
--- ---- blocks and functions
-
-blocks_ahead : (bs : List Block) (b : ℕ) (k : Block) → slice_get bs b ≡ Some k → over_blocks one_unmarked (take b bs) + over_insts one_unmarked k.insts ≤ over_blocks one_unmarked bs
-blocks_ahead [] b k e = grind arith
-blocks_ahead (c ∷ rest) zero k e = let same : over_insts one_unmarked k.insts ≡ over_insts one_unmarked c.insts = ap (λ o. over_insts one_unmarked (unwrap_or o c).insts) (sym e) in omega (arith, same)
-blocks_ahead (c ∷ rest) (suc b) k e = omega (arith, blocks_ahead rest b k e)
-
-funcs_ahead : (fs : List Func) (n : ℕ) (f : Func) → slice_get fs n ≡ Some f → over_funcs one_unmarked (take n fs) + over_blocks one_unmarked f.blocks ≤ over_funcs one_unmarked fs
-funcs_ahead [] n f e = grind arith
-funcs_ahead (g ∷ rest) zero f e = let same : over_blocks one_unmarked f.blocks ≡ over_blocks one_unmarked g.blocks = ap (λ o. over_blocks one_unmarked (unwrap_or o g).blocks) (sym e) in omega (arith, same)
-funcs_ahead (g ∷ rest) (suc n) f e = omega (arith, funcs_ahead rest n f e)
-
 -- ---- modules
 
 ends_unmarked : (m : Module) → Valid m → (n : ℕ) (f : Func) → func_at m n ≡ Some f → (b : ℕ) → EndsUnmarked (insts_of f b)
@@ -98,5 +86,5 @@ site_here m formed valid n b p f inst at due =
     (subst (λ l. over_insts one_unmarked (take p l) + 1 ≤ over_insts one_unmarked l) body (body_ahead (insts_of f b) p inst there.body due (ends_unmarked m valid n f at b))) in
     let before_blocks : over_blocks one_unmarked (take b (blocks_at m n)) + over_insts one_unmarked there.block.insts ≤ over_blocks one_unmarked f.blocks =
     subst (λ l. over_blocks one_unmarked (take b l) + over_insts one_unmarked there.block.insts ≤ over_blocks one_unmarked f.blocks)
-    (sym (ap (λ o. unwrap_or (option_map (λ g. g.blocks) o) []) at)) (blocks_ahead f.blocks b there.block there.at) in
-    (omega arith, omega (arith, before_insts, before_blocks, funcs_ahead m.funcs n f at))
+    (sym (ap (λ o. unwrap_or (option_map (λ g. g.blocks) o) []) at)) (blocks_ahead one_unmarked f.blocks b there.block there.at) in
+    (omega arith, omega (arith, before_insts, before_blocks, funcs_ahead one_unmarked m.funcs n f at))

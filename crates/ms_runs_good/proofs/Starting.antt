@@ -96,7 +96,8 @@ own_part p (Array' n s item) rest e = (and_parts (p (Array' n s item)) (list_all
 own_part p (Struct' q s fields) rest e = (and_parts (p (Struct' q s fields)) (list_all p (row_parts fields ++ rest)) e).0
 own_part p (Named x) rest e = (and_parts (p (Named x)) (list_all p rest) e).0
 
-unless : (t : Bool) (global : Bool) (x : Name) → spelled_unless t global x ≡ [] → t ≡ true
+-- where nothing is spelled unless a test holds, it holds
+pub unless : (t : Bool) (global : Bool) (x : Name) → spelled_unless t global x ≡ [] → t ≡ true
 unless true global x e = refl
 unless false global x e = grind arith
 

@@ -77,14 +77,14 @@ no_second seen (f ∷ rest) none has any =
     or_true false = refl
 
 -- where `main` stands
-record Main (funcs : List Func) : Type 0 where
-  place : ℕ
-  func : Func
-  found : func_index funcs main_name ≡ Some place
-  at : slice_get funcs place ≡ Some func
-  main : is_main func ≡ true
+pub record Main (funcs : List Func) : Type 0 where
+  pub place : ℕ
+  pub func : Func
+  pub found : func_index funcs main_name ≡ Some place
+  pub at : slice_get funcs place ≡ Some func
+  pub main : is_main func ≡ true
 
-main_found : (seen : List Name) (funcs : List Func) → function_duplicates seen funcs ≡ [] → list_any is_main funcs ≡ true → Main funcs
+pub main_found : (seen : List Name) (funcs : List Func) → function_duplicates seen funcs ≡ [] → list_any is_main funcs ≡ true → Main funcs
 main_found seen [] none any = absurd (true≢false (sym any))
 main_found seen (f ∷ rest) none any =
     by_test (name_eq f.name main_name) refl (main_found (f.name ∷ seen) rest later)
@@ -156,7 +156,7 @@ no_edges (k ∷ rest) from to h =
     by_test false = refl
 
 -- an instruction that fits doesn't go to the entry block
-not_to_entry : (at : Spot) (o : Op) → edges_fit at o ≡ true → has_name (targets o) (entry_name at.func) ≡ false
+pub not_to_entry : (at : Spot) (o : Op) → edges_fit at o ≡ true → has_name (targets o) (entry_name at.func) ≡ false
 not_to_entry at (op.Phi t edges) e = refl
 not_to_entry at o e = false_of_not _ e
 

@@ -18,7 +18,7 @@ use Rattle.ms_ir.specs.Code.{operands, one_undef, count_undefs, is_root, func_in
 use Rattle.ms_runs.specs.Control.{Frame, count_phis, read_edge, block_name}
 use Rattle.ms_runs.specs.Plain.{Stepped, More, Stop, setting_of, start_world, start_frame}
 use Rattle.ms_runs.specs.Poisoned.{Poisoned}
-use Rattle.ms_runs.specs.Masks.{Rules, by_completions}
+use Rattle.ms_runs.specs.Masks.{Rules}
 use Rattle.ms_runs.specs.Shadow.{ShadowState, shadow_reading, shadow_step}
 use Rattle.ms_ir.specs.Written.{targets}
 
@@ -140,20 +140,24 @@ pub record HasReachedOrigins (m : Module) (setup : Setup) (walk : Walk) : Type 0
       → IsFromReached m setup walk (frame.values x).origin
   pub cells : (addr : ℕ) → ¬ (walk.state.world.shadow addr ≡ 0) → IsFromReached m setup walk (walk.state.world.origins (addr / 4))
 
--- each report leads back to a root that was reached: an undefined operand of the instruction that is due counts too, where
--- the run ended at its checks
-pub record HasReachedReports (m : Module) (walk : Walk) : Type 0 where
-  pub reports : (r : Report) → Contains walk.state.world.reports r
-      → LeadsBack (HasRun m walk) (λ id. IsReached m walk id ⊎ IsOperand m walk.state id) r.chain
+-- each report shows the trail of its origin, which has not changed since: it leads back, over stores that ran, to a root of
+-- a kind
+pub record ShowsTrails (m : Module) (setup : Setup) (walk : Walk) (root : ℕ → Type 0) : Type 0 where
+  pub leads : (r : Report) → Contains walk.state.world.reports r → LeadsBack (HasRun m walk) root r.chain
+  pub shown : (r : Report) → Contains walk.state.world.reports r → trail (setting_of m setup) walk.state.world r.origin ≡ r.chain
+
+-- a root that the run has reached, or an undefined operand of the instruction that is due, whose checks may end the run
+abbrev pub IsTold : Module → Walk → ℕ → Type 0
+IsTold m walk id = IsReached m walk id ⊎ IsOperand m walk.state id
 
 -- a run whose last step ended it with a world
 abbrev pub ended : Walk → World → Walk
 ended walk world = record walk { state = record walk.state { world = world } }
 
--- in every state of a run, and at its end, poisoned bits come from what the run has reached
-pub record FromReached (m : Module) (setup : Setup) : Type 0 where
-  pub states : (n : ℕ) (walk : Walk) → n ≤ setup.steps → walked by_completions m setup n ≡ Some walk
-      → HasReachedOrigins m setup walk × HasReachedReports m walk
-  pub ends : (n : ℕ) (walk : Walk) (e : End) (world : World) → n < setup.steps → walked by_completions m setup n ≡ Some walk
-      → shadow_step by_completions (setting_of m setup) m walk.state ≡ Stop e world
-      → HasReachedOrigins m setup (ended walk world) × HasReachedReports m (ended walk world)
+-- in every state of a run, and at its end, poisoned bits come from what the run has reached, and so do those that reports
+-- tell of
+pub record FromReached (d : Rules) (m : Module) (setup : Setup) : Type 0 where
+  pub states : (n : ℕ) (walk : Walk) → walked d m setup n ≡ Some walk → HasReachedOrigins m setup walk × ShowsTrails m setup walk (IsReached m walk)
+  pub ends : (n : ℕ) (walk : Walk) (e : End) (world : World) → walked d m setup n ≡ Some walk
+      → shadow_step d (setting_of m setup) m walk.state ≡ Stop e world
+      → HasReachedOrigins m setup (ended walk world) × ShowsTrails m setup (ended walk world) (IsTold m (ended walk world))

@@ -108,7 +108,7 @@ same_mask same s v n op.Unreachable w = refl
 
 -- ---- the same runs
 
-same_result : {d e : Rules} → SameRules d e → (s : Setting) (v : Name → Poisoned) (n : ℕ) (o : Op) → poisoned_result d o (words_of s v n o) ≡ poisoned_result e o (words_of s v n o)
+pub same_result : {d e : Rules} → SameRules d e → (s : Setting) (v : Name → Poisoned) (n : ℕ) (o : Op) → poisoned_result d o (words_of s v n o) ≡ poisoned_result e o (words_of s v n o)
 same_result same s v n o = λ i x w. record { value = x; mask = same_mask same s v n o w i; origin = result_origin o (words_of s v n o) (same_mask same s v n o w i) w }
 
 same_act : {d e : Rules} → SameRules d e → (s : Setting) (m : Module) (i : Inst) (h : Here) (fr : Frame Poisoned) (below : List (Frame Poisoned)) (w : World)

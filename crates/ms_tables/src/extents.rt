@@ -1,8 +1,8 @@
 //! The sizes of types, by the kept layouts of the named types.
-ghost use Rattle.std.specs.Prelude.{◌≡◌, Option, option_map, IfOk};
+ghost use Rattle.std.specs.Prelude.{◌≡◌, ◌≤◌, Option, option_map, unwrap_or, IfOk, IfSome};
 ghost use Rattle.ms_ir.specs.declared.syntax.Ty.{Named};
-ghost use Rattle.ms_ir.specs.Layout.{Extent, size_of};
-ghost use Rattle.ms_ir.specs.Extents.{limit_extent, as_extent};
+ghost use Rattle.ms_ir.specs.Layout.{Extent, size_of, align_in};
+ghost use Rattle.ms_ir.specs.Extents.{IsLayout, limit_extent, as_extent};
 ghost use Rattle.ms_tables.specs.Kept.{size_within};
 
 use crate::kept::{Kept, layout_of};
@@ -25,6 +25,19 @@ fn small_size(layout: Option<Layout>) -> Option<u64>
                 None
             }
         }
+    }
+}
+
+/// The alignment in a layout, and 1 where there is none.
+fn align_in_layout(layout: Option<Layout>) -> u64
+    requires { IfSome layout IsLayout }
+    ensures positive { 1 ≤ result }
+    ensures low { result ≤ 8 }
+    ensures is { (o : Option Extent) → option_map as_extent layout ≡ option_map limit_extent o → result ≡ unwrap_or (option_map (λ whole. whole.align) o) 1 }
+{
+    match layout {
+        None => 1,
+        Some(layout) => layout.align,
     }
 }
 
@@ -70,6 +83,16 @@ impl<'m> Extents<'m> {
         ensures { result ≡ size_of self.now ty.now }
     {
         small_size(layout_of(&self.kept, ty))
+    }
+
+    /// The alignment of a type that has a size, in bytes; 1 where a named type in it has none. It takes no memory, and
+    /// the time of `size_of`.
+    pub fn align_of(&self, ty: &Ty) -> u64
+        ensures is { result ≡ align_in self.now ty.now }
+        ensures positive { 1 ≤ result }
+        ensures low { result ≤ 8 }
+    {
+        align_in_layout(layout_of(&self.kept, ty))
     }
 
     /// The size of a named type in bytes, or none, as `size_of` gives it for the type that is this name.

@@ -1,0 +1,42 @@
+//! Values that are clean in every run.
+ghost use Rattle.std.specs.Prelude.{◌≡◌, ℕ, Some};
+ghost use Rattle.ms_ir.specs.declared.syntax.Module.{Module};
+ghost use Rattle.ms_runs.specs.declared.runs.Setup.{Setup};
+ghost use Rattle.ms_runs.specs.World.{World};
+ghost use Rattle.ms_runs.specs.Plain.{setting_of};
+ghost use Rattle.ms_runs.specs.Masks.{Rules, by_completions, by_formulas};
+ghost use Rattle.ms_runs.specs.Shadow.{ShadowState, shadow_step, shadow_start};
+ghost use Rattle.ms_valid.specs.Formed.{Formed};
+ghost use Rattle.ms_runs_good.specs.GoodStates.{GoodShadow};
+ghost use Rattle.ms_runs_good.specs.Reached.{Walk, walked};
+ghost use Rattle.ms_valid.specs.Valid.{Valid};
+ghost use Rattle.ms_runs_good.specs.GoodRules.{KeepWidths};
+ghost use Rattle.ms_runs_good.specs.GoodRuns.{LeadsTo};
+ghost use Rattle.ms_runs_good.specs.GoodWorlds.{GivesBytes};
+ghost use Rattle.ms_clean_laws.specs.KeepClean.{KeepClean, with_carries};
+ghost use Rattle.ms_clean_laws.specs.CleanStates.{AllCleanValues, ReadsClean};
+
+/// Of words without a poisoned bit, the rules that try all completions give none, nor do the formulas of inserted code. Where
+/// carries count in sums this stays so, and masks go on to keep to widths.
+pub fn clean_rules()
+    ensures completions { KeepClean by_completions }
+    ensures formulas { KeepClean by_formulas }
+    ensures carries { (d : Rules) → KeepClean d → KeepClean (with_carries d) }
+    ensures carried_widths { (d : Rules) → KeepWidths d → KeepWidths (with_carries d) }
+{}
+
+/// A shadow run starts with clean values clean, and each step from a good state keeps them clean.
+pub fn clean_steps()
+    ensures starts { (m : Module) (setup : Setup) → AllCleanValues m (shadow_start m setup) }
+    ensures steps { (d : Rules) → KeepClean d → (m : Module) → Formed m → Valid m → (setup : Setup) → (state : ShadowState) → GoodShadow m state → AllCleanValues m state
+        → LeadsTo (AllCleanValues m) (λ w. Unit {0}) (shadow_step d (setting_of m setup) m state) }
+{}
+
+/// In every state of a shadow run of a formed and valid module clean values have no poisoned bit, and clean operands are read
+/// without one.
+pub fn clean_runs()
+    ensures values { (d : Rules) → KeepClean d → KeepWidths d → (m : Module) → Formed m → Valid m → (setup : Setup) → GivesBytes setup
+        → (n : ℕ) (walk : Walk) → walked d m setup n ≡ Some walk → AllCleanValues m walk.state }
+    ensures operands { (d : Rules) → KeepClean d → KeepWidths d → (m : Module) → Formed m → Valid m → (setup : Setup) → GivesBytes setup
+        → (n : ℕ) (walk : Walk) → walked d m setup n ≡ Some walk → ReadsClean m walk.state }
+{}

@@ -1,0 +1,10 @@
+pub mod Masks
+pub mod Reading
+pub mod SizedTypes
+pub mod Beside
+pub mod Parts
+pub mod SignBits
+pub mod ValidSizes
+pub mod ValidConstants
+pub mod Pushing
+pub mod Depths

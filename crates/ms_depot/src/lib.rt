@@ -1,0 +1,6 @@
+//! The chained origins of a run: from which write to which the uninitialised bits of a value came.
+#![tactic(auto)]
+
+mod depot;
+
+pub use depot::Depot;

@@ -1,0 +1,15 @@
+pub mod Tables
+pub mod Liveness
+pub mod Agreement
+pub mod MadeBytes
+pub mod Changes
+pub mod StringSteps
+pub mod Effects
+pub mod SlotNumbers
+pub mod MarkedAccesses
+pub mod Poisoned
+pub mod OriginSteps
+pub mod Initialised
+pub mod KeptNumbers
+pub mod InitParts
+pub mod GlobalsMade

@@ -1,0 +1,87 @@
+//! The answers to calls of externals.
+ghost use Rattle.std.specs.Prelude.{◌≡◌, ◌≤◌, ◌<◌, ◌+◌, ◌%◌, ◌^◌, get_or, IfOk};
+ghost use Rattle.ms_runs.specs.World.{World as Meant, Setting};
+ghost use Rattle.ms_runs.specs.Externals.{external as external_of};
+ghost use Rattle.ms_host.specs.State.{Beside, Keeps};
+ghost use Rattle.ms_host.specs.Shows.{Shows};
+ghost use Rattle.ms_host.specs.Answers.{Answered, IsExternal, FitsExit, asked_effect};
+
+use crate::calls::{Answer, Asked, HostCall, trap};
+use crate::worlds::World;
+use ms_bits::{NoMemory, Trap};
+use ms_ir::External;
+use ms_runs::End;
+
+/// An argument; 0 where it is missing.
+fn word(args: &[u64], k: usize) -> u64
+    ensures { result ≡ get_or args.now k 0 }
+{
+    if k < args.len() { args[k] } else { 0 }
+}
+
+/// The low byte of a word.
+fn low_byte(word: u64) -> u8
+    ensures { result ≡ word % 256 }
+{
+    (word % 256) as u8
+}
+
+/// Answers a call of an external: what it does to the world, and whether the run goes on.
+///
+/// An argument that is missing counts as 0. The one error is want of memory, and the run is over then.
+pub fn answer(call: &HostCall, world: &mut World) -> Result<Answer, NoMemory>
+    requires few { world.old.made + 2 ^ 26 < 2 ^ 64 }
+    requires external { IsExternal call.now.asked }
+    requires exit { FitsExit call.now.asked call.now.args }
+    ensures answered { (given : Setting) (beside : Beside) (meant : Meant) → world.old.fill ≡ given.fill → Shows world.old beside meant → IfOk result (λ a. Answered beside (asked_effect given call.now meant) a world.new) }
+    ensures keeps { Keeps world.old world.new }
+    ensures made { world.new.made ≤ world.old.made + 2 ^ 26 }
+{
+    match call.asked {
+        Asked::External(external) => {
+            world.answer_external(external, call.args.as_slice(), call.site)
+        }
+        Asked::Runtime(_) => unreachable!(),
+    }
+}
+
+impl World {
+    /// What a call of an external at a site comes to.
+    pub(crate) fn answer_external(
+        &mut self,
+        external: External,
+        args: &[u64],
+        site: u32,
+    ) -> Result<Answer, NoMemory>
+        requires few { self.old.made + 2 ^ 26 < 2 ^ 64 }
+        requires exit { external ≡ External.Exit → get_or args.now 0 0 < 2 ^ 32 }
+        ensures answered { (given : Setting) (beside : Beside) (world : Meant) → self.old.fill ≡ given.fill → Shows self.old beside world → IfOk result (λ a. Answered beside (external_of given site external args.now world) a self.new) }
+        ensures keeps { Keeps self.old self.new }
+        ensures made { self.new.made ≤ self.old.made + 2 ^ 26 }
+    {
+        let a = word(args, 0);
+        let b = word(args, 1);
+        let c = word(args, 2);
+        match external {
+            External::Malloc => self.malloc(a),
+            External::Calloc => self.calloc(a, b),
+            External::Realloc => self.realloc(site, a, b),
+            External::Free => Ok(self.free(site, a)),
+            External::Memcpy | External::Memmove => self.copied(site, a, b, c, Some(a)),
+            External::Memset => Ok(self.filled(site, a, low_byte(b), c, Some(a))),
+            External::Memcmp => Ok(self.memcmp(site, a, b, c)),
+            External::Strlen => Ok(self.strlen(site, a)),
+            External::Putchar => self.putchar(site, low_byte(a)),
+            External::Puts => self.puts(site, a),
+            External::Getchar => Ok(self.getchar()),
+            External::Read => Ok(self.read(site, a, b, c)),
+            External::Write => self.write(site, a, b, c),
+            External::Exit => Ok(Answer::Ended(End::Exit(a as u32))),
+            External::Abort => Ok(trap(Trap::Abort, site)),
+            External::LlvmMemcpy | External::LlvmMemmove => self.copied(site, a, b, c, None),
+            External::LlvmMemset => Ok(self.filled(site, a, low_byte(b), c, None)),
+            External::LifetimeStart => Ok(self.begun(site, a, b)),
+            External::LifetimeEnd => Ok(Answer::Resumed(None)),
+        }
+    }
+}

@@ -1,0 +1,89 @@
+//! The slots, which hand masks and origins over at calls.
+ghost use Rattle.std.specs.Prelude.{◌≡◌, ◌≤◌, ◌<◌, ◌+◌, ◌-◌, ◌^◌, true, false, ℕ, List, length, replicate, IfOk, MatchOption, MatchBool, leb, ◌&&◌, IsTrue};
+ghost use Rattle.ms_bits.specs.Maps.{number_at, byte_of, with_range};
+ghost use Rattle.ms_ir.specs.Names.{slots};
+ghost use Rattle.ms_runs.specs.Plain.{in_slots};
+ghost use Rattle.ms_host.specs.SlotBytes.{ShowsSlots};
+
+use ms_bits::NoMemory;
+use ms_planes::words::{number_in, put_number};
+use std::alloc::Global;
+use std::marker::Model;
+
+/// Where the slots begin.
+const BASE: u64 = 0x6800_0000_0000;
+
+/// How far they reach.
+const REACH: usize = 0x3004;
+
+/// The bytes of the four slots, of 800, 400, 8 and 4 bytes, in one row with those between them, which are never read.
+#[derive(Debug, Drop)]
+pub struct Slots {
+    bytes: Vec<u8>,
+}
+
+impl Model for Slots {
+    ghost use Rattle.std.specs.Prelude.{List as ListOf, ℕ as Natural};
+    ghost use Rattle.ms_host.specs.SlotBytes.{IsSlots};
+
+    ghost Value = { ListOf Natural };
+
+    ghost view = { λ s. s.bytes.items };
+
+    ghost invariant = { λ s. IsSlots s.bytes.items };
+}
+
+/// Whether `n` bytes from `a` on lie among `size` from `base` on.
+fn lies(a: u64, n: u64, base: u64, size: u64) -> bool
+    requires { base + size < 2 ^ 64 }
+    ensures { result ≡ leb base a && leb (a + n) (base + size) }
+{
+    a >= base && a - base <= size && n <= size - (a - base)
+}
+
+/// Whether `n` bytes from `a` on lie in one slot.
+fn among(a: u64, n: u64) -> bool
+    ensures is { result ≡ in_slots a n slots }
+    ensures low { IsTrue result → 0x680000000000 ≤ a }
+    ensures high { IsTrue result → a + n ≤ 0x680000003004 }
+{
+    lies(a, n, BASE, 800)
+        || lies(a, n, BASE + 0x1000, 400)
+        || lies(a, n, BASE + 0x2000, 8)
+        || lies(a, n, BASE + 0x3000, 4)
+}
+
+impl Slots {
+    /// The slots at the start of a run: zeros. The one error is want of memory.
+    pub fn new(alloc: Global) -> Result<Slots, NoMemory>
+        ensures { IfOk result (λ s. ShowsSlots s (λ a. 0)) }
+    {
+        let mut bytes = Vec::new(alloc);
+        bytes.resize(REACH, 0)?;
+        Ok(Slots { bytes })
+    }
+
+    /// The number that `n` bytes of a slot are; `None` where they don't lie in one.
+    pub fn load(&self, a: u64, n: u8) -> Option<u64>
+        requires { n ≤ 8 }
+        ensures { (cells : ℕ → ℕ) → ShowsSlots self.now cells → MatchOption result (in_slots a n slots ≡ false) (λ v. (in_slots a n slots ≡ true) × (v ≡ number_at cells a n)) }
+    {
+        if among(a, u64::from(n)) {
+            Some(number_in(&self.bytes, (a - BASE) as usize, n))
+        } else {
+            None
+        }
+    }
+
+    /// Writes the `n` low bytes of `v` into a slot, and answers whether they lie in one; else nothing changes.
+    pub fn store(&mut self, a: u64, n: u8, v: u64) -> bool
+        requires { n ≤ 8 }
+        ensures { (cells : ℕ → ℕ) → ShowsSlots self.old cells → MatchBool result ((in_slots a n slots ≡ true) × ShowsSlots self.new (with_range cells a n (byte_of v))) ((in_slots a n slots ≡ false) × ShowsSlots self.new cells) }
+    {
+        let found = among(a, u64::from(n));
+        if found {
+            put_number(&mut self.bytes, (a - BASE) as usize, n, v);
+        }
+        found
+    }
+}

@@ -1,0 +1,61 @@
+//! Bytes that are written one after the other.
+ghost use Rattle.std.specs.Prelude.{◌≡◌, ◌≤◌, ◌<◌, ◌+◌, ◌^◌, length, get_or, min, IsTrue};
+ghost use Rattle.ms_alloc.specs.Allocations.{is_good, IsLaidOut};
+ghost use Rattle.ms_bits.specs.Maps.{with_range};
+ghost use Rattle.ms_bits.specs.Fill.{made_byte};
+ghost use Rattle.ms_planes.specs.Memory.{bytes_of, shadow_of, origins_of};
+
+use ms_planes::Planes;
+
+/// Makes `size` bytes from `base` on uninitialised, where `made` were made before: they are the next ones of the fill.
+pub(crate) fn write_unset(planes: &mut Planes, fill: &[u8], made: u64, base: u64, size: u64)
+    requires filled { 0 < length fill.now }
+    requires laid_out { IsLaidOut planes.old.table }
+    requires good { IsTrue (is_good base size planes.old.table) }
+    requires few { made + size < 2 ^ 64 }
+    ensures table { planes.new.table ≡ planes.old.table }
+    ensures bytes { bytes_of planes.new ≡ with_range (bytes_of planes.old) base size (λ k. made_byte fill.now (made + k)) }
+    ensures shadow { shadow_of planes.new ≡ shadow_of planes.old }
+    ensures origins { origins_of planes.new ≡ origins_of planes.old }
+{
+    let count = fill.len() as u64;
+    for k in 0..size {
+        let byte = fill[((made + k) % count) as usize];
+        planes.store(base + k, 1, u64::from(byte));
+    }
+}
+
+/// Makes `size` bytes from `base` on the same.
+pub(crate) fn write_byte(planes: &mut Planes, byte: u8, base: u64, size: u64)
+    requires laid_out { IsLaidOut planes.old.table }
+    requires good { IsTrue (is_good base size planes.old.table) }
+    ensures table { planes.new.table ≡ planes.old.table }
+    ensures bytes { bytes_of planes.new ≡ with_range (bytes_of planes.old) base size (λ k. byte) }
+    ensures shadow { shadow_of planes.new ≡ shadow_of planes.old }
+    ensures origins { origins_of planes.new ≡ origins_of planes.old }
+{
+    for k in 0..size {
+        planes.store(base + k, 1, u64::from(byte));
+    }
+}
+
+/// Writes bytes from `base` on.
+pub(crate) fn write_bytes(planes: &mut Planes, bytes: &[u8], base: u64)
+    requires laid_out { IsLaidOut planes.old.table }
+    requires good { IsTrue (is_good base (length bytes.now) planes.old.table) }
+    ensures table { planes.new.table ≡ planes.old.table }
+    ensures bytes { bytes_of planes.new ≡ with_range (bytes_of planes.old) base (length bytes.now) (λ k. get_or bytes.now k 0) }
+    ensures shadow { shadow_of planes.new ≡ shadow_of planes.old }
+    ensures origins { origins_of planes.new ≡ origins_of planes.old }
+{
+    for k in 0..bytes.len() {
+        planes.store(base + k as u64, 1, u64::from(bytes[k]));
+    }
+}
+
+/// The smaller of two numbers.
+pub(crate) fn smaller(a: u64, b: u64) -> u64
+    ensures { result ≡ min a b }
+{
+    if a < b { a } else { b }
+}

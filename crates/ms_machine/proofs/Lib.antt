@@ -1,0 +1,2 @@
+pub mod StartGlobals
+pub mod Programs

@@ -1,0 +1,74 @@
+-- Frames that stand for those of the definitions have the room that the module's code asks for, whatever program it is.
+use Rattle.std.proofs.Common.{◌≡◌, ℕ, List, [], ◌∷◌, length, refl, sym, ap, ◌∙◌, Some}
+use Rattle.ms_ir.specs.declared.syntax.Module.{Module}
+use Rattle.ms_runs.specs.declared.runs.Setup.{Setup}
+use Rattle.ms_runs.specs.Control.{Frame}
+use Rattle.ms_runs.specs.Plain.{PlainState}
+use Rattle.ms_valid.specs.Formed.{Formed}
+use Rattle.ms_valid.specs.Valid.{Valid}
+use Rattle.ms_code_data.specs.declared.code.Program.{Program}
+use Rattle.ms_code_data.specs.declared.code.Routine.{Routine}
+use Rattle.ms_code_data.specs.Compiled.{most_phis, Compiled}
+use Rattle.ms_host.specs.State.{WorldState, Beside}
+use Rattle.ms_machine_steps.specs.declared.frames.Frame.{Frame as Kept}
+use Rattle.ms_machine_steps.specs.declared.fibers.Fiber.{Fiber}
+use Rattle.ms_machine_steps.specs.Standing.{Stands, FramesStand, frames_of, Ready, IsState}
+use Rattle.ms_machine.specs.Running.{StandsFor, AllStandFor, IsRunning}
+
+module _ (m : Module) (p : Program) (compiled : Compiled m p) where
+  frame_to : (k : Kept) (f : Frame ℕ) → StandsFor m k f → Stands m p k f
+  frame_to k f s = let r = compiled.routines f.func s.func s.is in record {
+    func = s.func;
+    is = s.is;
+    routine = r.0;
+    routed = r.1.0;
+    at = s.at;
+    holds = s.holds;
+    buffer = s.buffer ∙ sym r.1.1.phis;
+    mark = s.mark;
+  }
+
+  frame_of : (k : Kept) (f : Frame ℕ) → Stands m p k f → StandsFor m k f
+  frame_of k f s = let r = compiled.routines f.func s.func s.is in record {
+    func = s.func;
+    is = s.is;
+    at = s.at;
+    holds = s.holds;
+    buffer = s.buffer ∙ ap (λ (x : Routine). x.phis) (same s.routine r.0 (sym s.routed ∙ r.1.0)) ∙ r.1.1.phis;
+    mark = s.mark;
+  }
+    where
+      same : (a b : Routine) → Some a ≡ Some b → a ≡ b
+      same a b e = cc
+
+  pub frames_to : (ks : List Kept) (fs : List (Frame ℕ)) → AllStandFor m ks fs → FramesStand m p ks fs
+  frames_to [] [] s = tt
+  frames_to (k ∷ ks) (f ∷ fs) s = (frame_to k f s.0, frames_to ks fs s.1)
+  frames_to [] (f ∷ fs) s = elim s [ ]
+  frames_to (k ∷ ks) [] s = elim s [ ]
+
+  pub frames_from : (ks : List Kept) (fs : List (Frame ℕ)) → FramesStand m p ks fs → AllStandFor m ks fs
+  frames_from [] [] s = tt
+  frames_from (k ∷ ks) (f ∷ fs) s = (frame_of k f s.0, frames_from ks fs s.1)
+  frames_from [] (f ∷ fs) s = elim s [ ]
+  frames_from (k ∷ ks) [] s = elim s [ ]
+
+  pub state_to : Formed m → Valid m → (u : Setup) (beside : Beside) (fiber : Fiber) (w : WorldState) (state : PlainState) → IsRunning m u beside fiber w state → IsState m p u beside fiber w state
+  state_to formed valid u beside fiber w state r = record {
+    ready = record { formed = formed; valid = valid; bytes = r.bytes; compiled = compiled };
+    frames = frames_to (frames_of fiber) state.frames r.frames;
+    shows = r.shows;
+    slots = r.slots;
+    fill = r.fill;
+    sound = r.sound;
+  }
+
+  pub state_from : (u : Setup) (beside : Beside) (fiber : Fiber) (w : WorldState) (state : PlainState) → IsState m p u beside fiber w state → IsRunning m u beside fiber w state
+  state_from u beside fiber w state s = record {
+    bytes = s.ready.bytes;
+    frames = frames_from (frames_of fiber) state.frames s.frames;
+    shows = s.shows;
+    slots = s.slots;
+    fill = s.fill;
+    sound = s.sound;
+  }

@@ -1,0 +1,54 @@
+-- Fibers and worlds that stand for a state of the plain run of a module (own).
+use Rattle.std.specs.Prelude.{◌≡◌, ℕ, List, [], ◌∷◌, length, Some}
+use Rattle.ms_ir.specs.declared.syntax.Func.{Func}
+use Rattle.ms_ir.specs.declared.syntax.Module.{Module}
+use Rattle.ms_ir.specs.Code.{func_at}
+use Rattle.ms_ir.specs.Locals.{locals}
+use Rattle.ms_runs.specs.declared.runs.Setup.{Setup}
+use Rattle.ms_runs.specs.Control.{Frame}
+use Rattle.ms_runs.specs.Plain.{PlainState}
+use Rattle.ms_runs_good.specs.GoodWorlds.{GivesBytes}
+use Rattle.ms_runs_good.specs.GoodRuns.{SoundPlain}
+use Rattle.ms_code_data.specs.Reads.{Holds}
+use Rattle.ms_code_data.specs.Encodes.{number_of}
+use Rattle.ms_code_data.specs.Compiled.{most_phis}
+use Rattle.ms_host.specs.State.{WorldState, Beside}
+use Rattle.ms_host.specs.Shows.{Shows}
+use Rattle.ms_host.specs.SlotBytes.{ShowsSlots}
+use Rattle.ms_host.specs.declared.calls.HostCall.{HostCall}
+use Rattle.ms_machine_steps.specs.declared.frames.Frame.{Frame as Kept}
+use Rattle.ms_machine_steps.specs.declared.fibers.Fiber.{Fiber}
+use Rattle.ms_machine_steps.specs.Standing.{frames_of}
+use Rattle.ms_machine_steps.specs.Waiting.{FirstWaits}
+
+-- a kept frame stands for one of the definitions
+pub record StandsFor (m : Module) (kept : Kept) (frame : Frame ℕ) : Type 0 where
+  pub func : Func
+  pub is : func_at m frame.func ≡ Some func
+  pub at : kept.at ≡ number_of m frame.func frame.block frame.place
+  pub holds : Holds (locals func) kept.values.items frame.values
+  pub buffer : length kept.buffer.items ≡ most_phis func.blocks
+  pub mark : kept.mark ≡ frame.mark
+
+-- kept frames stand for frames of the definitions, innermost first
+abbrev pub AllStandFor : Module → List Kept → List (Frame ℕ) → Type 0
+AllStandFor m [] [] = Unit {0}
+AllStandFor m (k ∷ ks) (f ∷ fs) = StandsFor m k f × AllStandFor m ks fs
+AllStandFor m ks fs = ⊥
+
+-- a fiber and a world stand for a state of the plain run of a module with a setup, where so much is kept beside
+pub record IsRunning (m : Module) (u : Setup) (beside : Beside) (fiber : Fiber) (w : WorldState) (state : PlainState) : Type 0 where
+  pub bytes : GivesBytes u
+  pub frames : AllStandFor m (frames_of fiber) state.frames
+  pub shows : Shows w beside state.world
+  pub slots : ShowsSlots w.slots state.slots
+  pub fill : w.fill ≡ u.fill
+  pub sound : SoundPlain m state
+
+-- a fiber and a world stand for some state
+abbrev pub Runs : Module → Fiber → WorldState → Type 0
+Runs m fiber w = (u : Setup) × (beside : Beside) × (state : PlainState) × IsRunning m u beside fiber w state
+
+-- a fiber waits for the answer of a call
+abbrev pub WaitsFor : Module → Fiber → Type 0
+WaitsFor m fiber = (u : Setup) × (frames : List (Frame ℕ)) × (call : HostCall) × (AllStandFor m (frames_of fiber) frames × FirstWaits m u frames call)

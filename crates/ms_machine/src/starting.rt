@@ -1,0 +1,48 @@
+//! The world at the start of a run.
+ghost use Rattle.std.specs.Prelude.{◌≡◌, ◌<◌, map, length, IfOk};
+ghost use Rattle.ms_runs.specs.Globals.{address_of, constant};
+ghost use Rattle.ms_runs.specs.Plain.{start_world};
+ghost use Rattle.ms_valid.specs.Valid.{Valid};
+ghost use Rattle.ms_code_data.specs.Constants.{globals_constants};
+ghost use Rattle.ms_host.specs.State.{nothing_beside};
+ghost use Rattle.ms_host.specs.Shows.{Shows};
+ghost use Rattle.ms_host.specs.SlotBytes.{ShowsSlots};
+
+use ms_alloc::AllocError;
+use ms_bits::NoMemory;
+use ms_host::World;
+use ms_ir::Module;
+use ms_runs::Setup;
+use ms_tables::Extents;
+use std::alloc::Global;
+
+/// The world at the start of a run of a valid module: the globals alone stand in memory, and nothing is taken or printed.
+/// `extents` are those of the module's named types, and `words` are the constants in the initialisers of its globals, in
+/// text order.
+///
+/// The time is that of making the globals, and linear in the input and the fill, which are copied. The one error is want of
+/// memory: a valid module's globals fit.
+pub fn start_world(
+    alloc: Global,
+    m: &Module,
+    extents: &Extents<'_>,
+    words: &[u64],
+    setup: &Setup,
+) -> Result<World, NoMemory>
+    requires valid { Valid m.now }
+    requires extents { extents.now ≡ m.now.types }
+    requires words { words.now ≡ map (constant m.now.types (address_of m.now)) (globals_constants m.now.globals) }
+    requires filled { 0 < length setup.now.fill }
+    ensures shows { IfOk result (λ w. Shows w nothing_beside (start_world m.now setup.now)) }
+    ensures slots { IfOk result (λ w. ShowsSlots w.slots (λ a. 0)) }
+    ensures fill { IfOk result (λ w. w.fill ≡ setup.now.fill) }
+    ensures input { IfOk result (λ w. w.input ≡ setup.now.input) }
+    ensures made { IfOk result (λ w. w.made ≡ 0) }
+{
+    let mut world = World::new(alloc, setup.input.as_slice(), setup.fill.as_slice())?;
+    match world.make_globals(extents, m.globals.as_slice(), words) {
+        Ok(()) => Ok(world),
+        Err(AllocError::NoMemory) => Err(std::alloc::AllocError),
+        Err(AllocError::Full) => unreachable!(),
+    }
+}

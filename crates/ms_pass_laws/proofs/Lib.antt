@@ -1,0 +1,15 @@
+pub mod Apart
+pub mod Built
+pub mod Jumps
+pub mod KnownFunctions
+pub mod KnownInstructions
+pub mod Marked
+pub mod NumberedValues
+pub mod Placed
+pub mod Places
+pub mod RangedKept
+pub mod RootRanges
+pub mod Step
+pub mod Taken
+pub mod Whole
+pub mod Unmarked

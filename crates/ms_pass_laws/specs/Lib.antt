@@ -1,0 +1,5 @@
+pub mod Law
+pub mod Numbers
+pub mod Pass
+pub mod Known
+pub mod Examples

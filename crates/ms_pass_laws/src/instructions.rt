@@ -1,0 +1,16 @@
+//! Laws about single instructions that rest on laws of whole runs.
+ghost use Rattle.std.specs.Prelude.{◌≡◌};
+ghost use Rattle.ms_ir.specs.declared.syntax.Name.{Name};
+ghost use Rattle.ms_ir.specs.declared.syntax.Inst.{Inst};
+ghost use Rattle.ms_runs.specs.World.{Setting, Here};
+ghost use Rattle.ms_runs.specs.Poisoned.{Poisoned};
+ghost use Rattle.ms_runs.specs.Masks.{by_completions, by_formulas};
+ghost use Rattle.ms_runs.specs.Shadow.{poisoned_result};
+ghost use Rattle.ms_tasks.specs.InstructionLaw.{words_at};
+
+/// The masks and origins that the inserted code computes by formulas are those that completions of the operands' poisoned
+/// bits give, for every instruction and all words of its operands.
+pub fn masks_are_exact()
+    ensures { (s : Setting) (values : Name → Poisoned) (h : Here) (i : Inst)
+        → poisoned_result by_completions i.op (words_at s values h i) ≡ poisoned_result by_formulas i.op (words_at s values h i) }
+{}

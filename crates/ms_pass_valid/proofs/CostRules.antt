@@ -1,0 +1,73 @@
+-- How much is written round an instruction.
+use Rattle.std.proofs.Common.{ℕ, ◌+◌, ◌*◌, ◌≤◌, List, [], ◌∷◌, Bool, true, false, arith}
+use Rattle.std.specs.Prelude.{length, eqb, if◌then◌else◌}
+use Rattle.ms_bits.specs.declared.operations.BinOp.{BinOp}
+use Rattle.ms_bits.specs.declared.operations.BinOp.TheVariants as binary
+use Rattle.ms_bits.specs.declared.operations.CastOp.TheVariants as cast
+use Rattle.ms_bits.specs.declared.operations.Pred.{Pred}
+use Rattle.ms_bits.specs.declared.operations.Pred.TheVariants as pred
+use Rattle.ms_ir.specs.declared.syntax.Ty.{Ty, Int, Ptr}
+use Rattle.ms_ir.specs.Layout.{width_of}
+use Rattle.ms_tasks.specs.Tasks.{Expr, Turn, Pick}
+use Rattle.ms_tasks.specs.Environments.{Tracked, is_set, mask_type, widened, extended_expr, bits_at, mask_of, origin_of}
+use Rattle.ms_tasks.specs.ResultMasks.{compare_expr, binary_expr, select_expr, union_all, last_expr, first_last}
+use Rattle.ms_tasks.specs.CheckTasks.{union_masks}
+use Rattle.ms_pass_valid.proofs.Costs.{cost}
+
+pub widened_cost : (w : ℕ) (e : Expr) → cost (widened w e) ≤ cost e + 2
+widened_cost w e = by_test (eqb w 64)
+  where
+    by_test : (b : Bool) → cost (if b then e else Turn cast.Zext (Int w) e (Int 64)) ≤ cost e + 2
+    by_test true = omega arith
+    by_test false = omega arith
+
+pub extended_cost : (w : ℕ) (e : Expr) → cost (extended_expr w e) ≤ cost e + 2
+extended_cost w e = by_test (eqb w 64)
+  where
+    by_test : (b : Bool) → cost (if b then e else Turn cast.Sext (Int w) e (Int 64)) ≤ cost e + 2
+    by_test true = omega arith
+    by_test false = omega arith
+
+pub bits_cost : (t : Ty) (e : Expr) → cost (bits_at t e) ≤ cost e + 2
+bits_cost Ptr e = omega arith
+bits_cost _ e = omega arith
+
+pub compare_cost : (o : Pred) (w : ℕ) (v m u k : Expr) → cost (compare_expr o w v m u k) ≤ 60 + 4 * (cost v + (cost m + (cost u + cost k)))
+compare_cost pred.Eq w v m u k = omega arith
+compare_cost pred.Ne w v m u k = omega arith
+compare_cost pred.Ugt w v m u k = omega arith
+compare_cost pred.Uge w v m u k = omega arith
+compare_cost pred.Ult w v m u k = omega arith
+compare_cost pred.Ule w v m u k = omega arith
+compare_cost pred.Sgt w v m u k = omega arith
+compare_cost pred.Sge w v m u k = omega arith
+compare_cost pred.Slt w v m u k = omega arith
+compare_cost pred.Sle w v m u k = omega arith
+
+pub select_cost : (w : ℕ) (t n v m u k : Expr) → cost (select_expr w t n v m u k) ≤ 20 + (cost t + (cost n + 2 * (cost v + (cost m + (cost u + cost k)))))
+select_cost w t n v m u k = omega arith
+
+pub binary_cost : (o : BinOp) (w : ℕ) (a b : Tracked) → cost (binary_expr o w a b) ≤ 21
+binary_cost binary.And w a b = omega arith
+binary_cost binary.Or w a b = omega arith
+binary_cost binary.Xor w a b = omega arith
+binary_cost binary.Add w a b = omega arith
+binary_cost binary.Sub w a b = omega arith
+binary_cost binary.Mul w a b = omega arith
+binary_cost _ w a b = omega arith
+
+pub union_all_cost : (ts : List Tracked) → cost (union_all ts) ≤ 5 * length ts
+union_all_cost [] = omega arith
+union_all_cost (t ∷ ts) = omega (arith, extended_cost (width_of t.ty) (mask_of t), union_all_cost ts)
+
+pub union_masks_cost : (ts : List Tracked) → cost (union_masks ts) ≤ 5 * length ts
+union_masks_cost [] = omega arith
+union_masks_cost (t ∷ ts) = omega (arith, widened_cost (width_of t.ty) (mask_of t), union_masks_cost ts)
+
+last_cost : (ts : List Tracked) (best : Expr) → cost (last_expr ts best) ≤ cost best + 7 * length ts
+last_cost [] best = omega arith
+last_cost (t ∷ ts) best = omega (arith, last_cost ts (Pick (is_set (mask_type t.ty) (mask_of t)) (Int 32) (origin_of t) best))
+
+pub first_last_cost : (ts : List Tracked) → cost (first_last ts) ≤ 7 * length ts
+first_last_cost [] = omega arith
+first_last_cost (t ∷ ts) = omega (arith, last_cost ts (origin_of t))

@@ -1,0 +1,10 @@
+pub mod Trails
+pub mod Worlds
+pub mod Effects
+pub mod Results
+pub mod Checks
+pub mod Frames
+pub mod Steps
+pub mod Starting
+pub mod Runs
+pub mod ListedRoots

@@ -1,0 +1,73 @@
+-- The arguments of calls that are asked for fit.
+use Rattle.std.proofs.Common.{◌≡◌, ◌<◌, ◌≤◌, ℕ, zero, suc, List, [], ◌∷◌, length, get_or, refl, sym, ap, subst, ◌∙◌, arith, Result, Ok, Err, Option, Some, None}
+use Rattle.std.specs.Prelude.{slice_get, IfOk}
+use Rattle.ms_ir.specs.declared.syntax.Ty.{Ty, Int, Ptr}
+use Rattle.ms_ir.specs.declared.calls.External.{External}
+use Rattle.ms_ir.specs.declared.calls.External.TheVariants as external
+use Rattle.ms_ir.specs.declared.calls.RuntimeFn.{RuntimeFn}
+use Rattle.ms_ir.specs.Signatures.{external_signature, runtime_signature}
+use Rattle.ms_ir.specs.declared.syntax.Module.{Module}
+use Rattle.ms_runs.specs.declared.runs.End.{End}
+use Rattle.ms_runs.specs.declared.runs.Setup.{Setup}
+use Rattle.ms_runs_good.specs.GoodStates.{IsBelow}
+use Rattle.ms_runs_good.specs.Straight.{HaveTypes}
+use Rattle.ms_code_data.specs.declared.code.Program.{Program}
+use Rattle.ms_host.specs.Answers.{FitsExit}
+use Rattle.ms_host.specs.declared.calls.Asked.{Asked}
+use Rattle.ms_host.specs.declared.calls.Asked.TheVariants as asked
+use Rattle.ms_host.specs.declared.calls.Answer.{Answer}
+use Rattle.ms_host.specs.declared.calls.Answer.TheVariants as answer
+use Rattle.ms_host.specs.declared.calls.HostCall.{HostCall}
+use Rattle.ms_machine_steps.proofs.Due.{First, first_frame}
+use Rattle.ms_machine_steps.proofs.Resuming.{first_waits}
+use Rattle.ms_machine_steps.proofs.Asking.{asked_types, AreArguments, are_arguments}
+use Rattle.ms_runtime.specs.declared.runs.Running.{Running}
+use Rattle.ms_runtime.specs.Served.{Fits, FitsAsked, IsWithin}
+use Rattle.ms_runtime.specs.Answering.{HasRoom}
+use Rattle.ms_runtime.specs.Going.{Asking, HasSlack, Turned}
+
+pub if_ok : {A E : Type 0} {P Q : A → Type 0} (r : Result A E) → ((a : A) → P a → Q a) → IfOk r P → IfOk r Q
+if_ok (Ok a) f h = f a h
+if_ok (Err e) f h = tt
+
+pub if_ok_both : {A E : Type 0} {P R Q : A → Type 0} (r : Result A E) → ((a : A) → P a → R a → Q a) → IfOk r P → IfOk r R → IfOk r Q
+if_ok_both (Ok a) f h k = f a h k
+if_ok_both (Err e) f h k = tt
+
+pub turned_from : (m : Module) (p : Program) (u : Setup) (far far' : ℕ) (e : Option End) (r : Running) → far' ≤ far → Turned m p u far' e r → Turned m p u far e r
+turned_from m p u far far' None r le t = (t.0, omega (arith, le, t.1))
+turned_from m p u far far' (Some e) r le t = t
+
+-- the words of a call that a run waits for
+pub arguments_of : (m : Module) (p : Program) (u : Setup) (call : HostCall) (r : Running) → Asking m p u call r → AreArguments call
+arguments_of m p u call r a =
+    let f : First m p r.fiber.frame _ a.within.frames = first_frame m p r.fiber.frame _ a.within.frames a.stands.frames in
+    are_arguments m a.stands.ready.valid u f.frame f.stands.func f.stands.is call (first_waits m p u r.fiber.frame _ a.within.frames call f a.waits)
+
+type_at : (ts : List Ty) (k : ℕ) → k < length ts → slice_get ts k ≡ Some (get_or ts k Ptr)
+type_at [] k lt = absurd (omega (arith, lt))
+type_at (t ∷ ts) zero lt = refl
+type_at (t ∷ ts) (suc k) lt = type_at ts k (omega (arith, lt))
+
+fits : (f : RuntimeFn) (args : List ℕ) → length args ≡ length (runtime_signature f).params → HaveTypes IsBelow 0 args (runtime_signature f).params → Fits f args
+fits f args count have = record { count = count; widths = λ k lt. have k (get_or (runtime_signature f).params k Ptr) (type_at (runtime_signature f).params k lt) }
+
+pub fits_asked : (a : Asked) (args : List ℕ) (f : RuntimeFn) → a ≡ asked.Runtime f → length args ≡ length (asked_types a) → HaveTypes IsBelow 0 args (asked_types a) → FitsAsked a args
+fits_asked (asked.Runtime f) args g e count have = fits f args count have
+fits_asked (asked.External x) args g e count have = absurd (cc)
+
+pub fits_exit : (a : Asked) (args : List ℕ) → HaveTypes IsBelow 0 args (asked_types a) → FitsExit a args
+fits_exit (asked.External external.Exit) args have = have 0 (Int 32) refl
+fits_exit (asked.External e) args have = tt
+fits_exit (asked.Runtime f) args have = tt
+
+pub slack_of : (a : Asked) (e : External) (made left : ℕ) → a ≡ asked.External e → HasSlack a made left → HasSlack (asked.External e) made left
+slack_of a e made left same h = subst (λ (x : Asked). HasSlack x made left) same h
+
+pub has_room : (u : Setup) (a : Answer) (r : Running) → length r.told.reports < u.reports → HasRoom u a r
+has_room u (answer.Resumed v) r lt = lt
+has_room u (answer.Ended e) r lt = tt
+
+pub within_room : (u : Setup) (limit : ℕ) (a : Answer) (r : Running) → u.reports ≡ limit → IsWithin limit r.told a → HasRoom u a r
+within_room u limit (answer.Resumed v) r e h = subst (λ (k : ℕ). length r.told.reports < k) (sym e) h
+within_room u limit (answer.Ended x) r e h = tt

@@ -1,0 +1,88 @@
+-- What a run keeps from pause to pause (own).
+use Rattle.std.specs.Prelude.{◌≡◌, ◌<◌, ◌≤◌, ◌+◌, ◌-◌, ◌*◌, ◌^◌, ℕ, suc, length, Option, Some, None}
+use Rattle.ms_ir.specs.declared.syntax.Module.{Module}
+use Rattle.ms_ir.specs.Code.{over_funcs, count_roots}
+use Rattle.ms_runs.specs.declared.runs.End.{End}
+use Rattle.ms_runs.specs.declared.runs.Setup.{Setup}
+use Rattle.ms_runs.specs.declared.runs.RunResult.{RunResult}
+use Rattle.ms_runs.specs.World.{World}
+use Rattle.ms_runs.specs.Plain.{PlainState, go_on, run, plain}
+use Rattle.ms_code_data.specs.declared.code.Program.{Program}
+use Rattle.ms_depot.specs.Depots.{DepotState}
+use Rattle.ms_host.specs.State.{WorldState, Beside}
+use Rattle.ms_host.specs.Shows.{Shows}
+use Rattle.ms_host.specs.declared.calls.Asked.{Asked}
+use Rattle.ms_host.specs.declared.calls.Asked.TheVariants as asked
+use Rattle.ms_host.specs.declared.calls.HostCall.{HostCall}
+use Rattle.ms_machine_steps.specs.declared.fibers.Fiber.{Fiber}
+use Rattle.ms_machine_steps.specs.Standing.{IsState}
+use Rattle.ms_machine_steps.specs.Waiting.{FirstWaits}
+use Rattle.ms_machine_steps.specs.Advances.{step_of}
+use Rattle.ms_runtime.specs.declared.runs.Running.{Running}
+use Rattle.ms_runtime.specs.Served.{IsBeside}
+
+-- how far it is at most to the end of a run, in instructions: each step may be as long as the code
+abbrev pub ahead : Module → Running → ℕ
+ahead m r = let all = over_funcs (λ inst. 1) m.funcs in r.budget.left * (all + 1) + (all - r.fiber.frame.at)
+
+-- what doesn't depend on where the run stands
+pub record Keeping (m : Module) (u : Setup) (r : Running) : Type 0 where
+  pub roots : r.depot.roots ≡ count_roots m
+  pub few : length r.told.reports < u.reports
+  pub room : r.world.made + 2 ^ 27 * r.budget.left ≤ 2 ^ 58
+  pub blind : r.told.blind + ahead m r ≤ 2 ^ 62
+
+-- a run has come to a state from which it answers what the whole run does
+pub record Going (m : Module) (p : Program) (u : Setup) (r : Running) : Type 0 where
+  pub beside : Beside
+  pub state : PlainState
+  pub stands : IsState m p u beside r.fiber r.world state
+  pub told : IsBeside r.depot r.told beside
+  pub keeping : Keeping m u r
+  pub same : run (λ (s : PlainState). s.world) (step_of m u) r.budget.left state ≡ plain m u
+
+-- the steps that are left behind the one within which a call is asked for
+abbrev pub LeftBehind : Asked → (rest left : ℕ) → Type 0
+LeftBehind (asked.External e) rest left = rest ≡ left
+LeftBehind (asked.Runtime f) rest left = suc rest ≡ left
+
+-- room for what an external may make
+abbrev pub HasSlack : Asked → (made left : ℕ) → Type 0
+HasSlack (asked.External e) made left = made + 2 ^ 26 + 2 ^ 27 * left ≤ 2 ^ 58
+HasSlack (asked.Runtime f) made left = Unit {0}
+
+-- a run waits for the answer of a call
+pub record Asking (m : Module) (p : Program) (u : Setup) (call : HostCall) (r : Running) : Type 0 where
+  pub beside : Beside
+  pub within : PlainState
+  pub stands : IsState m p u beside r.fiber r.world within
+  pub waits : FirstWaits m u within.frames call
+  pub told : IsBeside r.depot r.told beside
+  pub keeping : Keeping m u r
+  pub slack : HasSlack call.asked r.world.made r.budget.left
+  pub rest : ℕ
+  pub counted : LeftBehind call.asked rest r.budget.left
+  pub same : go_on (run (λ (s : PlainState). s.world) (step_of m u) rest) (step_of m u within) ≡ plain m u
+
+-- a run has ended, and this is its answer
+pub record Over (m : Module) (u : Setup) (e : End) (r : Running) : Type 0 where
+  pub beside : Beside
+  pub world : World
+  pub shows : Shows r.world beside world
+  pub output : (plain m u).output ≡ world.output
+  pub last : (plain m u).«end» ≡ e
+  pub reports : (plain m u).reports ≡ r.told.reports
+  pub blind : (plain m u).blind ≡ r.told.blind
+
+-- a run goes on, and is nearer to its end, or it has ended
+abbrev pub Turned : Module → Program → Setup → ℕ → Option End → Running → Type 0
+Turned m p u far None r = Going m p u r × (ahead m r < far)
+Turned m p u far (Some e) r = Over m u e r
+
+-- a run that goes on, of some module with some setup
+abbrev pub IsGoing : Program → ℕ → Running → Type 0
+IsGoing p limit r = (m : Module) × (u : Setup) × ((u.reports ≡ limit) × Going m p u r)
+
+-- a run that waits
+abbrev pub IsAsking : Program → ℕ → HostCall → Running → Type 0
+IsAsking p limit call r = (m : Module) × (u : Setup) × ((u.reports ≡ limit) × Asking m p u call r)

@@ -1,0 +1,43 @@
+//! The words of a call's arguments.
+ghost use Rattle.std.specs.Prelude.{◌≡◌, ◌<◌, ◌%◌, ◌^◌, get_or};
+ghost use Rattle.ms_ir.specs.declared.calls.RuntimeFn.TheVariants.{Check};
+ghost use Rattle.ms_runtime.specs.Served.{Fits, use_in};
+
+use crate::reports::Use;
+
+/// The argument at a place; 0 where it is missing.
+pub(crate) fn word(args: &[u64], k: usize) -> u64
+    ensures { result ≡ get_or args.now k 0 }
+{
+    if k < args.len() { args[k] } else { 0 }
+}
+
+/// The argument at a place, of a parameter of 32 bits.
+pub(crate) fn small(args: &[u64], k: usize) -> u32
+    requires { get_or args.now k 0 < 2 ^ 32 }
+    ensures { result ≡ get_or args.now k 0 }
+{
+    word(args, k) as u32
+}
+
+/// The low byte of an argument.
+pub(crate) fn low_byte(args: &[u64], k: usize) -> u8
+    ensures { result ≡ get_or args.now k 0 % 256 }
+{
+    (word(args, k) % 256) as u8
+}
+
+/// The use that a call of `__msan_check` speaks of.
+pub(crate) fn use_of(args: &[u64]) -> Use
+    requires { Fits Check args.now }
+    ensures { result ≡ use_in args.now }
+{
+    Use {
+        mask: word(args, 0),
+        width: small(args, 1),
+        origin: small(args, 2),
+        kind: small(args, 3),
+        part: small(args, 4),
+        site: small(args, 5),
+    }
+}

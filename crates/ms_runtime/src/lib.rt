@@ -1,0 +1,12 @@
+//! The runtime functions, which inserted instructions call: they report uses of uninitialised bits, and keep the shadow
+//! and the origins of memory.
+#![tactic(auto)]
+
+mod arguments;
+mod memory;
+mod reports;
+mod runs;
+mod serving;
+
+pub use runs::run;
+pub use serving::serve;

@@ -1,0 +1,131 @@
+//! A call of a runtime function, answered.
+ghost use Rattle.std.specs.Prelude.{◌≡◌, ◌<◌, length, IfOk};
+ghost use Rattle.ms_runs.specs.World.{World as Meant, Setting};
+ghost use Rattle.ms_runs.specs.Runtime.{runtime};
+ghost use Rattle.ms_host.specs.State.{Beside, Keeps};
+ghost use Rattle.ms_host.specs.Shows.{Shows};
+ghost use Rattle.ms_host.specs.Answers.{asked_effect};
+ghost use Rattle.ms_runtime.specs.Served.{IsFor, IsBeside, Served, IsWithin, TellsMore, Fits, FitsAsked, IsCheck};
+
+use crate::arguments::{use_of, word};
+use crate::memory::{
+    check_memory, check_string, copy, fill, load_origin, poison, size, store_origin, unpoison,
+};
+use crate::reports::{check, count_blind};
+use ms_bits::NoMemory;
+use ms_depot::Depot;
+use ms_host::{Answer, Asked, HostCall, World};
+use ms_ir::RuntimeFn;
+use ms_runs::RunResult;
+use std::alloc::Global;
+
+/// Answers a call of a runtime function: what it does to the world, to the chained origins and to what was told, and
+/// whether the run goes on. It ends exactly where the number of reports comes to `limit`.
+///
+/// The one error is want of memory, and the run is over then.
+pub fn serve(
+    alloc: Global,
+    call: &HostCall,
+    world: &mut World,
+    depot: &mut Depot,
+    told: &mut RunResult,
+    limit: u32,
+) -> Result<Answer, NoMemory>
+    requires fits { FitsAsked call.now.asked call.now.args }
+    requires few { length told.old.reports < limit }
+    ensures served { (setting : Setting) (beside : Beside) (meant : Meant) → IsFor setting depot.old.roots limit → IsBeside depot.old told.old beside → Shows world.old beside meant → IfOk result (λ a. Served (asked_effect setting call.now meant) a world.new depot.new told.new) }
+    ensures within { IfOk result (λ a. IsWithin limit told.new a) }
+    ensures told { TellsMore told.old told.new }
+    ensures roots { depot.new.roots ≡ depot.old.roots }
+    ensures keeps { Keeps world.old world.new }
+    ensures made { world.new.made ≡ world.old.made }
+{
+    let Asked::Runtime(function) = call.asked else {
+        unreachable!();
+    };
+    let args = call.args.as_slice();
+    if matches!(
+        function,
+        RuntimeFn::Check | RuntimeFn::CheckMemory | RuntimeFn::CheckString
+    ) {
+        return report(alloc, function, args, world, depot, told, limit);
+    }
+    let value = change(function, args, world, depot, told)?;
+    Ok(Answer::Resumed(value))
+}
+
+/// What one of the three checks comes to.
+fn report(
+    alloc: Global,
+    function: RuntimeFn,
+    args: &[u64],
+    world: &World,
+    depot: &Depot,
+    told: &mut RunResult,
+    limit: u32,
+) -> Result<Answer, NoMemory>
+    requires fits { Fits function args.now }
+    requires check { IsCheck function }
+    requires few { length told.old.reports < limit }
+    ensures served { (setting : Setting) (beside : Beside) (meant : Meant) → IsFor setting depot.now.roots limit → IsBeside depot.now told.old beside → Shows world.now beside meant → IfOk result (λ a. Served (runtime setting function args.now meant) a world.now depot.now told.new) }
+    ensures within { IfOk result (λ a. IsWithin limit told.new a) }
+    ensures told { TellsMore told.old told.new }
+{
+    match function {
+        RuntimeFn::CheckMemory => return check_memory(alloc, args, world, depot, told, limit),
+        RuntimeFn::CheckString => return check_string(alloc, args, world, depot, told, limit),
+        RuntimeFn::Check => {
+            let used = use_of(args);
+            return check(alloc, depot, told, limit, &used);
+        }
+        _ => unreachable!(),
+    }
+}
+
+/// What a runtime function that is no check comes to: it may give a value, and the run goes on.
+fn change(
+    function: RuntimeFn,
+    args: &[u64],
+    world: &mut World,
+    depot: &mut Depot,
+    told: &mut RunResult,
+) -> Result<Option<u64>, NoMemory>
+    requires fits { Fits function args.now }
+    requires change { ¬ IsCheck function }
+    ensures served { (setting : Setting) (beside : Beside) (meant : Meant) → setting.roots ≡ depot.old.roots → IsBeside depot.old told.old beside → Shows world.old beside meant → IfOk result (λ v. Served (runtime setting function args.now meant) (Answer.Resumed v) world.new depot.new told.new) }
+    ensures reports { told.new.reports ≡ told.old.reports }
+    ensures told { TellsMore told.old told.new }
+    ensures roots { depot.new.roots ≡ depot.old.roots }
+    ensures keeps { Keeps world.old world.new }
+    ensures made { world.new.made ≡ world.old.made }
+{
+    match function {
+        RuntimeFn::Blind => {
+            count_blind(told, word(args, 0));
+            Ok(None)
+        }
+        RuntimeFn::Poison => {
+            poison(args, world);
+            Ok(None)
+        }
+        RuntimeFn::Unpoison => {
+            unpoison(args, world);
+            Ok(None)
+        }
+        RuntimeFn::Copy => {
+            copy(args, world)?;
+            Ok(None)
+        }
+        RuntimeFn::Fill => {
+            fill(args, world, depot)?;
+            Ok(None)
+        }
+        RuntimeFn::StoreOrigin => {
+            store_origin(args, world, depot)?;
+            Ok(None)
+        }
+        RuntimeFn::LoadOrigin => Ok(Some(load_origin(args, world))),
+        RuntimeFn::Size => Ok(Some(size(args, world))),
+        _ => unreachable!(),
+    }
+}

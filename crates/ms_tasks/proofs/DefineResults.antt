@@ -1,0 +1,126 @@
+-- The mask and the origin of each kind of result.
+use Rattle.std.proofs.Common.{◌≡◌, ℕ, ◌+◌, ◌^◌, ◌<◌, List, [], refl, sym, subst, arith, Bool, true, false, Option, Some, None}
+use Rattle.std.specs.Prelude.{if◌then◌else◌, map, is_some}
+use Rattle.ms_bits.specs.declared.operations.BinOp.TheVariants as binary
+use Rattle.ms_bits.specs.declared.traps.Trap.TheVariants as trap
+use Rattle.ms_ir.specs.declared.syntax.Name.{Name}
+use Rattle.ms_ir.specs.declared.syntax.Ty.{Ty}
+use Rattle.ms_ir.specs.declared.syntax.Operand.{Operand}
+use Rattle.ms_ir.specs.declared.syntax.Op.{Op}
+use Rattle.ms_ir.specs.declared.syntax.Op.TheVariants as op
+use Rattle.ms_runs.specs.declared.runs.End.{End}
+use Rattle.ms_runs.specs.declared.runs.End.TheVariants as «end»
+use Rattle.ms_ir.specs.Layout.{stored_size}
+use Rattle.ms_runs.specs.World.{World, Setting, Here, Gives, Does, Goes, Enters, Ends, Leaves, traps, stuck, word}
+use Rattle.ms_runs.specs.Memory.{is_good, store_number}
+use Rattle.ms_ir.specs.Code.{operands, count_undefs, external_named}
+use Rattle.ms_runs.specs.Act.{store}
+use Rattle.ms_runs.specs.Poisoned.{Poisoned}
+use Rattle.ms_runs.specs.Masks.{by_formulas}
+use Rattle.ms_runs.specs.Shadow.{poisoned_result}
+use Rattle.ms_tasks.specs.Meaning.{Values}
+use Rattle.ms_tasks.specs.Environments.{Env, tracked}
+use Rattle.ms_tasks.specs.ResultTasks.{define_tasks, called_tasks, result_tasks}
+use Rattle.ms_tasks.specs.Known.{FitsCallee, IsBuilt, KnownName, KnownOperands, KnownResult, OneName}
+use Rattle.ms_tasks.specs.Match.{RangedWorld, RangedValues, Matches}
+use Rattle.ms_tasks.specs.InstructionLaw.{GoesOn}
+use Rattle.ms_tasks.proofs.MatchedNames.{matches_set}
+use Rattle.ms_tasks.proofs.Defined.{words_for, acts_for, Defined, Fine, clean_kept}
+use Rattle.ms_tasks.proofs.DefineWords.{word_done, answer_done, shift_done}
+use Rattle.ms_tasks.proofs.Externals.{external_goes}
+use Rattle.ms_ir.specs.declared.calls.External.{External}
+use Rattle.ms_runs.specs.Externals.{external}
+use Rattle.ms_tasks.proofs.DefineLoad.{load_done}
+
+-- what some instructions never come to
+goes_gives : (to : Name) (w : World) (k : ℕ) (z u : World) → Goes to w ≡ Gives k u → ⊥
+goes_gives to w k z u e = grind arith
+
+ends_gives : (x : End) (w : World) (k : ℕ) (z u : World) → Ends x w ≡ Gives k u → ⊥
+ends_gives x w k z u e = grind arith
+
+pub store_gives : (site a : ℕ) (t : Ty) (n k : ℕ) (w u : World) → store site a t n w ≡ Gives k u → ⊥
+store_gives site a t n k w u e = by_good (is_good w a (stored_size t)) e
+  where
+    by_good : (b : Bool) → (if b then Does (store_number a (stored_size t) n w) else traps trap.BadAddress site w) ≡ Gives k u → ⊥
+    by_good true e = grind arith
+    by_good false e = grind arith
+
+pub ret_gives : (b : Bool) (e : End) (k : ℕ) (w u : World) → (if b then Ends e w else Leaves w) ≡ Gives k u → ⊥
+ret_gives true e k w u f = grind arith
+ret_gives false e k w u f = grind arith
+
+module _ (s : Setting) (env : Env) (size : ℕ) (h : Here) (values : Name → Poisoned) (v : Values) (m : Matches env values v.names) (r : RangedValues values)
+    (one : OneName env) where
+  -- nothing is defined, since there is no result
+  none_done : (x : Option Name) (o : Op) (w : World) → ((k : ℕ) (u : World) → acts_for s values h o w ≡ Gives k u → ⊥) → Defined s env h values v x o [] w
+  none_done x o w never = Fine v refl refl (λ y own. refl) (λ k u e. absurd (never k u e)) (λ g. m)
+
+  -- a call: what an external answers is clean, and a function of the module comes to no answer yet
+  own_gives : (site : ℕ) (o : Option ℕ) (e : Option External) (words : List ℕ) (w : World) → is_some o ≡ true → (k : ℕ) (u : World)
+      → elim o [ Some f ↦ Enters f w | None ↦ elim e [ Some x ↦ external s site x words w | None ↦ Ends stuck w ] ] ≡ Gives k u → ⊥
+  own_gives site None e words w t k u g = absurd (grind arith)
+  own_gives site (Some f) e words w t k u g = grind arith
+
+  outside_goes : (site : ℕ) (o : Option ℕ) (e : Option External) (x : Name) (args : List (Ty × Operand)) → FitsCallee e (Some x) args → (words : List ℕ) (w : World) → is_some o ≡ false
+      → GoesOn (elim o [ Some f ↦ Enters f w | None ↦ elim e [ Some x ↦ external s site x words w | None ↦ Ends stuck w ] ]) → ⊥
+  outside_goes site (Some f) e x args b words w t g = absurd (grind arith)
+  outside_goes site None None x args b words w t g = g
+  outside_goes site None (Some e) x args b words w t g = external_goes s site e words w b.1 g
+
+  called_done : (x : Name) (k : KnownName env size x) → env.clean x ≡ false → (ret : Option Ty) (callee : Name) (args : List (Ty × Operand))
+      → FitsCallee (external_named s.func callee) (Some x) args → KnownOperands env size args → h.root + count_undefs args < 2 ^ 32 → (w : World)
+      → Defined s env h values v (Some x) (op.Call ret callee args)
+      (called_tasks (is_some (s.func callee)) k.place (op.Call ret callee args) (tracked env h.root args)) w
+  called_done x k c ret callee args built known few w = by_own (is_some (s.func callee)) refl
+    where
+      by_own : (b : Bool) → is_some (s.func callee) ≡ b
+          → Defined s env h values v (Some x) (op.Call ret callee args) (called_tasks b k.place (op.Call ret callee args) (tracked env h.root args)) w
+      by_own true e = none_done (Some x) (op.Call ret callee args) w (λ i u g. own_gives h.site (s.func callee) (external_named s.func callee) (map (λ p. p.value) (words_for s values h (op.Call ret callee args))) w e i u g)
+      by_own false e =
+          answer_done s env size h values v m r one x k c (op.Call ret callee args) tt known few w
+          (λ g. outside_goes h.site (s.func callee) (external_named s.func callee) x args built (map (λ p. p.value) (words_for s values h (op.Call ret callee args))) w e g)
+
+  define_done : (x : Name) (k : KnownName env size x) → env.clean x ≡ false → (o : Op) → IsBuilt s.func (Some x) o → KnownOperands env size (operands o)
+      → h.root + count_undefs (operands o) < 2 ^ 32 → (w : World) → RangedWorld w
+      → Defined s env h values v (Some x) o (define_tasks s.func k.place o (tracked env h.root (operands o))) w
+  define_done x k c (op.Binary binary.Shl f t a b) built known few w ranged = shift_done s env size h values v m r one x k c binary.Shl tt f t a b built known few w
+  define_done x k c (op.Binary binary.Lshr f t a b) built known few w ranged = shift_done s env size h values v m r one x k c binary.Lshr tt f t a b built known few w
+  define_done x k c (op.Binary binary.Ashr f t a b) built known few w ranged = shift_done s env size h values v m r one x k c binary.Ashr tt f t a b built known few w
+  define_done x k c (op.Binary o f t a b) built known few w ranged = word_done s env size h values v m r one x k c (op.Binary o f t a b) tt tt known few w
+  define_done x k c (op.Icmp p f t a b) built known few w ranged = word_done s env size h values v m r one x k c (op.Icmp p f t a b) built tt known few w
+  define_done x k c (op.Cast o f t a u) built known few w ranged = word_done s env size h values v m r one x k c (op.Cast o f t a u) built tt known few w
+  define_done x k c (op.Select i t a b) built known few w ranged = word_done s env size h values v m r one x k c (op.Select i t a b) tt tt known few w
+  define_done x k c (op.Freeze t a) built known few w ranged = word_done s env size h values v m r one x k c (op.Freeze t a) tt tt known few w
+  define_done x k c (op.Gep t a is) built known few w ranged = word_done s env size h values v m r one x k c (op.Gep t a is) tt tt known few w
+  define_done x k c (op.Alloca t u i) built known few w ranged = word_done s env size h values v m r one x k c (op.Alloca t u i) tt tt known few w
+  define_done x k c (op.Load t a) built known few w ranged = load_done s env size h values v m r one x k c t a known w ranged
+  define_done x k c (op.Store t n a) built known few w ranged = none_done (Some x) (op.Store t n a) w (λ i u e.
+      let words = map (λ p. p.value) (words_for s values h (op.Store t n a)) in store_gives h.site (word 1 words) t (word 0 words) i w u e)
+  define_done x k c (op.Ret n) built known few w ranged = none_done (Some x) (op.Ret n) w (λ i u e. ret_gives h.main («end».Exit (word 0 (map (λ p. p.value) (words_for s values h (op.Ret n))))) i w u e)
+  define_done x k c (op.Br to) built known few w ranged = none_done (Some x) (op.Br to) w (λ i u e. goes_gives _ _ i w u e)
+  define_done x k c (op.CondBr i to other) built known few w ranged = none_done (Some x) (op.CondBr i to other) w (λ j u e. goes_gives _ _ j w u e)
+  define_done x k c (op.Switch t i other cases) built known few w ranged = none_done (Some x) (op.Switch t i other cases) w (λ j u e. goes_gives _ _ j w u e)
+  define_done x k c op.Unreachable built known few w ranged = none_done (Some x) op.Unreachable w (λ j u e. ends_gives _ _ j w u e)
+  define_done x k c (op.Call ret callee args) built known few w ranged = called_done x k c ret callee args built.0 known few w
+  define_done x k c (op.Phi t es) built known few w ranged = absurd built
+
+  -- where the result is known to be clean, its mask must be 0 already
+  pub result_done : (x : Option Name) (o : Op) → IsBuilt s.func x o → KnownResult env size x → KnownOperands env size (operands o)
+      → h.root + count_undefs (operands o) < 2 ^ 32 → (w : World) → RangedWorld w
+      → ((y : Name) (k : ℕ) (u : World) → x ≡ Some y → env.clean y ≡ true → acts_for s values h o w ≡ Gives k u
+      → (poisoned_result by_formulas o (words_for s values h o) k u).mask ≡ 0)
+      → Defined s env h values v x o (result_tasks s.func env x o (tracked env h.root (operands o))) w
+  result_done None o built named known few w ranged sound = Fine v refl refl (λ y own. refl) (λ k u e. m) (λ g. m)
+  result_done (Some x) o built named known few w ranged sound = by_clean (env.clean x) refl
+    where
+      by_clean : (b : Bool) → env.clean x ≡ b
+          → Defined s env h values v (Some x) o (if b then [] else elim (env.number x) [ Some n ↦ define_tasks s.func n o (tracked env h.root (operands o)) | None ↦ [] ]) w
+      by_clean true c =
+          Fine v refl refl (λ y own. refl)
+          (λ k u e. matches_set env size x named one values v.names v.names (poisoned_result by_formulas o (words_for s values h o) k u) m
+          (clean_kept env x named.place named.numbered c v.names _ _ (sound x k u refl c e)))
+          (λ g. m)
+      by_clean false c =
+          subst (λ z. Defined s env h values v (Some x) o (elim z [ Some n ↦ define_tasks s.func n o (tracked env h.root (operands o)) | None ↦ [] ]) w)
+          (sym named.numbered) (define_done x named c o built known few w ranged)

@@ -1,0 +1,223 @@
+-- The mask of each kind of result that is one word, and that it is 0 where the operands' are.
+use Rattle.std.proofs.Common.{◌≡◌, ℕ, ◌+◌, ◌-◌, ◌*◌, ◌%◌, ◌^◌, ◌<◌, ◌≤◌, List, [], ◌∷◌, refl, sym, ap, ◌∙◌, subst, arith, Bool, true, false, Some, None}
+use Rattle.std.specs.Prelude.{if◌then◌else◌, eqb, bit_and, bit_or, bit_xor, ltb, leb, map, pos, negsuc, ℤ}
+use Rattle.std.specs.Int.{from_bool}
+use Rattle.std.proofs.Math.Path.{ap₂}
+use Rattle.std.proofs.Math.Nat.{mod-eq_of_lt, zero-mod}
+use Rattle.std.proofs.lemmas.Nat.{mod_below, pow_pos}
+use Rattle.std.specs.Int.Bits.{and_zero_r, xor_self, xor_zero_r}
+use Rattle.ms_bits.specs.declared.operations.BinOp.TheVariants as binary
+use Rattle.ms_bits.specs.declared.operations.CastOp.{CastOp}
+use Rattle.ms_bits.specs.declared.operations.CastOp.TheVariants as cast
+use Rattle.ms_bits.specs.declared.operations.Pred.{Pred}
+use Rattle.ms_bits.specs.declared.operations.Pred.TheVariants as pred
+use Rattle.ms_bits.specs.Signed.{signed, wrap}
+use Rattle.ms_bits.specs.Conversions.{cast_of, Allows}
+use Rattle.ms_bits.specs.Formulas.{and_mask, or_mask, union_mask, least, greatest, order_mask, eq_mask, turned_sign, compare_mask}
+use Rattle.ms_ir.specs.declared.syntax.Name.{Name}
+use Rattle.ms_ir.specs.declared.syntax.Ty.{Ty, Int}
+use Rattle.ms_ir.specs.declared.syntax.Operand.{Operand}
+use Rattle.ms_ir.specs.declared.syntax.Op.{Op}
+use Rattle.ms_ir.specs.declared.syntax.Op.TheVariants as op
+use Rattle.ms_bits.specs.NoFlags.{no_flags}
+use Rattle.ms_ir.specs.Layout.{width_of, extended}
+use Rattle.ms_runs.specs.World.{World, Setting}
+use Rattle.ms_ir.specs.Code.{operands, one_undef}
+use Rattle.ms_runs.specs.Control.{read_all}
+use Rattle.ms_runs.specs.Act.{operand_word, extended_all}
+use Rattle.ms_runs.specs.Poisoned.{Poisoned}
+use Rattle.ms_runs.specs.Masks.{by_formulas, result_mask, value_or_zero, union}
+use Rattle.ms_runs.specs.Shadow.{read_poisoned}
+use Rattle.ms_tasks.specs.Tasks.{Leaf, Turn}
+use Rattle.ms_tasks.specs.Meaning.{whole}
+use Rattle.ms_tasks.specs.Environments.{Env, tracked, extended_expr}
+use Rattle.ms_tasks.specs.ResultMasks.{cast_expr, union_all, mask_expr}
+use Rattle.ms_tasks.specs.ResultTasks.{result_width}
+use Rattle.ms_tasks.proofs.OperandWords.{word_less}
+use Rattle.ms_tasks.proofs.Words.{Is, is_leaf, is_number, is_bits, is_or, mask_and, mask_or, mask_compare, mask_select}
+use Rattle.ms_tasks.proofs.LastOrigins.{AllWords, AllClean}
+
+wrap_below : (w : ℕ) (z : ℤ) → wrap w z < 2 ^ w
+unfolding wrap
+wrap_below w (pos n) = mod_below n (2 ^ w) (pow_pos w)
+wrap_below w (negsuc n) = omega (arith, pow_pos w)
+
+-- a word is its own signed reading
+pub wrap_signed : (w v : ℕ) → v < 2 ^ w → wrap w (signed w v) ≡ v
+unfolding wrap signed
+wrap_signed w v l = by_sign (ltb (2 * v) (2 ^ w))
+  where
+    by_sign : (b : Bool) → wrap w (if b then pos v else negsuc (2 ^ w - 1 - v)) ≡ v
+    by_sign true = mod-eq_of_lt l
+    by_sign false = let e : (2 ^ w - 1 - v) % 2 ^ w ≡ 2 ^ w - 1 - v = mod-eq_of_lt (omega arith) in omega (arith, e)
+
+pub signed_zero : (w : ℕ) → signed w 0 ≡ pos 0
+unfolding signed
+signed_zero w = let e : ltb (2 * 0) (2 ^ w) ≡ true = grind (arith, pow_pos w) in ap (λ b. if b then pos 0 else negsuc (2 ^ w - 1 - 0)) e
+
+wrap_zero : (w to : ℕ) → wrap to (signed w 0) ≡ 0
+unfolding wrap
+wrap_zero w to = ap (wrap to) (signed_zero w) ∙ zero-mod (2 ^ to)
+
+-- what an operation asks of its types
+abbrev pub IsWordOp : Op → Type 0
+IsWordOp (op.Binary binary.Shl f t a b) = ⊥
+IsWordOp (op.Binary binary.Lshr f t a b) = ⊥
+IsWordOp (op.Binary binary.Ashr f t a b) = ⊥
+IsWordOp (op.Binary o f t a b) = Unit {0}
+IsWordOp (op.Icmp p f t a b) = 1 ≤ width_of t
+IsWordOp (op.Cast o f t a u) = Allows o (width_of t) (width_of u)
+IsWordOp (op.Select c t a b) = Unit {0}
+IsWordOp (op.Freeze t a) = Unit {0}
+IsWordOp (op.Gep t a is) = Unit {0}
+IsWordOp (op.Alloca t u c) = Unit {0}
+IsWordOp (op.Call ret callee args) = Unit {0}
+IsWordOp _ = ⊥
+
+module _ (s : Setting) (names : Name → ℕ) where
+  cast_value : (o : CastOp) (w to : ℕ) (m : Operand) (x : ℕ) → Allows o w to → operand_word s names w m ≡ x
+      → whole s names (cast_expr o w to (Leaf m)) (Int to) ≡ value_or_zero (cast_of o no_flags w x to)
+  unfolding cast_of
+  cast_value cast.Trunc w to m x k e = ap (λ n. n % 2 ^ to) e
+  cast_value cast.Zext w to m x k e = e
+  cast_value cast.Sext w to m x k e = ap (λ n. wrap to (signed w n)) e
+  cast_value cast.PtrToInt w to m x k e = by_width (eqb to 64) refl
+    where
+      by_width : (b : Bool) → eqb to 64 ≡ b → whole s names (if b then Leaf m else Turn cast.Trunc (Int w) (Leaf m) (Int to)) (Int to) ≡ x % 2 ^ to
+      by_width true f =
+          let same : to ≡ w = grind (arith, k.0) in
+          sym (mod-eq_of_lt (word_less s names to m)) ∙ ap (λ n. n % 2 ^ to) (ap (λ i. operand_word s names i m) same ∙ e)
+      by_width false f = ap (λ n. n % 2 ^ to) e
+  cast_value cast.IntToPtr w to m x k e = by_width (eqb w 64) refl
+    where
+      by_width : (b : Bool) → eqb w 64 ≡ b → whole s names (if b then Leaf m else Turn cast.Zext (Int w) (Leaf m) (Int 64)) (Int to) ≡ x
+      by_width true f =
+          let same : to ≡ w = grind (arith, k) in
+          ap (λ i. operand_word s names i m) same ∙ e
+      by_width false f = e
+  cast_value cast.Bitcast w to m x k e = ap (λ i. operand_word s names i m) k ∙ e
+
+  -- an index's mask with copies of its sign bit
+  extended_value : (w : ℕ) (m : Operand) (x : ℕ) → operand_word s names w m ≡ x → Is s names 64 (extended_expr w (Leaf m)) (extended w x)
+  unfolding cast_of
+  extended_value w m x e = by_width (eqb w 64) refl
+    where
+      by_width : (b : Bool) → eqb w 64 ≡ b → Is s names 64 (if b then Leaf m else Turn cast.Sext (Int w) (Leaf m) (Int 64)) (wrap 64 (signed w x))
+      by_width true f =
+          let same : 64 ≡ w = grind arith in
+          is_leaf s names 64 m (wrap 64 (signed w x))
+          (ap (λ i. operand_word s names i m) same ∙ e
+          ∙ sym (wrap_signed w x (subst (λ n. n < 2 ^ w) e (word_less s names w m))) ∙ ap (λ i. wrap i (signed w x)) (sym same))
+      by_width false f = record { raw = ap (λ n. wrap 64 (signed w n)) e; less = wrap_below 64 (signed w x) }
+
+  pub union_value : (env : Env) (values : Name → Poisoned) (is : List (Ty × Operand)) (root : ℕ)
+      → AllWords s names (tracked env root is) (read_all (read_poisoned s values) is root)
+      → Is s names 64 (union_all (tracked env root is)) (union (extended_all is (map (λ p. p.mask) (read_all (read_poisoned s values) is root))))
+  union_value env values [] root h = is_number s names 64 0 (omega arith)
+  union_value env values (i ∷ is) root h =
+      is_or s names (extended_value (width_of i.0) _ _ h.0.mask) (union_value env values is (root + one_undef i.1) h.1)
+
+  -- the mask of a result
+  pub mask_value : (env : Env) (values : Name → Poisoned) (root : ℕ) (o : Op) → IsWordOp o → (w : World)
+      → AllWords s names (tracked env root (operands o)) (read_all (read_poisoned s values) (operands o) root)
+      → whole s names (mask_expr o (tracked env root (operands o))) (Int (result_width o)) ≡ result_mask by_formulas o (read_all (read_poisoned s values) (operands o) root) w
+  unfolding union_mask
+  mask_value env values root (op.Binary binary.And f t a b) k w h =
+      (mask_and s names (is_leaf s names (width_of t) a _ h.0.value) (is_leaf s names (width_of t) _ _ h.0.mask) (is_leaf s names (width_of t) b _ h.1.0.value) (is_leaf s names (width_of t) _ _ h.1.0.mask)).raw
+  mask_value env values root (op.Binary binary.Or f t a b) k w h =
+      (mask_or s names (is_leaf s names (width_of t) a _ h.0.value) (is_leaf s names (width_of t) _ _ h.0.mask) (is_leaf s names (width_of t) b _ h.1.0.value) (is_leaf s names (width_of t) _ _ h.1.0.mask)).raw
+  mask_value env values root (op.Binary binary.Xor f t a b) k w h = (is_or s names (is_leaf s names (width_of t) _ _ h.0.mask) (is_leaf s names (width_of t) _ _ h.1.0.mask)).raw
+  mask_value env values root (op.Binary binary.Add f t a b) k w h = (is_or s names (is_leaf s names (width_of t) _ _ h.0.mask) (is_leaf s names (width_of t) _ _ h.1.0.mask)).raw
+  mask_value env values root (op.Binary binary.Sub f t a b) k w h = (is_or s names (is_leaf s names (width_of t) _ _ h.0.mask) (is_leaf s names (width_of t) _ _ h.1.0.mask)).raw
+  mask_value env values root (op.Binary binary.Mul f t a b) k w h = (is_or s names (is_leaf s names (width_of t) _ _ h.0.mask) (is_leaf s names (width_of t) _ _ h.1.0.mask)).raw
+  mask_value env values root (op.Binary binary.Udiv f t a b) k w h = h.0.mask
+  mask_value env values root (op.Binary binary.Sdiv f t a b) k w h = h.0.mask
+  mask_value env values root (op.Binary binary.Urem f t a b) k w h = h.0.mask
+  mask_value env values root (op.Binary binary.Srem f t a b) k w h = h.0.mask
+  mask_value env values root (op.Icmp p f t a b) k w h =
+      (mask_compare s names p k (is_bits s names t a _ h.0.value) (is_leaf s names (width_of t) _ _ h.0.mask) (is_bits s names t b _ h.1.0.value) (is_leaf s names (width_of t) _ _ h.1.0.mask)).raw
+  mask_value env values root (op.Cast o f t a u) k w h = cast_value o (width_of t) (width_of u) _ _ k h.0.mask
+  mask_value env values root (op.Select c t a b) k w h =
+      (mask_select s names (is_leaf s names 1 c _ h.0.value) (is_leaf s names 1 _ _ h.0.mask) (is_bits s names t a _ h.1.0.value) (is_leaf s names (width_of t) _ _ h.1.0.mask)
+      (is_bits s names t b _ h.1.1.0.value) (is_leaf s names (width_of t) _ _ h.1.1.0.mask)).raw
+  mask_value env values root (op.Freeze t a) k w h = zero-mod (2 ^ width_of t)
+  mask_value env values root (op.Alloca t u c) k w h = zero-mod (2 ^ 64)
+  mask_value env values root (op.Call (Some t) callee args) k w h = zero-mod (2 ^ width_of t)
+  mask_value env values root (op.Call None callee args) k w h = zero-mod (2 ^ 64)
+  mask_value env values root (op.Gep t a is) k w h = (is_or s names (is_leaf s names 64 _ _ h.0.mask) (union_value env values is (root + one_undef a) h.1)).raw
+  mask_value env values root (op.Binary binary.Shl f t a b) k w h = absurd k
+  mask_value env values root (op.Binary binary.Lshr f t a b) k w h = absurd k
+  mask_value env values root (op.Binary binary.Ashr f t a b) k w h = absurd k
+  mask_value env values root _ k w h = absurd k
+
+-- ---- masks that are 0
+
+cast_clean : (o : CastOp) (w to : ℕ) → value_or_zero (cast_of o no_flags w 0 to) ≡ 0
+unfolding cast_of
+cast_clean cast.Trunc w to = zero-mod (2 ^ to)
+cast_clean cast.Zext w to = refl
+cast_clean cast.Sext w to = wrap_zero w to
+cast_clean cast.PtrToInt w to = zero-mod (2 ^ to)
+cast_clean cast.IntToPtr w to = refl
+cast_clean cast.Bitcast w to = refl
+
+order_clean : (before : ℕ → ℕ → Bool) (v u : ℕ) → order_mask before v 0 u 0 ≡ 0
+unfolding order_mask least greatest
+order_clean before v u =
+    ap₂ (λ i j. bit_xor (from_bool (before i (bit_or u 0))) (from_bool (before (bit_or v 0) j))) (xor_zero_r (bit_or v 0)) (xor_zero_r (bit_or u 0))
+    ∙ xor_self (from_bool (before (bit_or v 0) (bit_or u 0)))
+
+eq_clean : (v u : ℕ) → eq_mask v 0 u 0 ≡ 0
+unfolding eq_mask
+eq_clean v u = and_zero_r (from_bool (eqb (bit_or (bit_xor v u) (bit_or 0 0)) (bit_or 0 0)))
+
+compare_clean : (p : Pred) (w v u : ℕ) → compare_mask p w v 0 u 0 ≡ 0
+unfolding compare_mask
+compare_clean pred.Eq w v u = eq_clean v u
+compare_clean pred.Ne w v u = eq_clean v u
+compare_clean pred.Ugt w v u = order_clean ltb u v
+compare_clean pred.Uge w v u = order_clean leb u v
+compare_clean pred.Ult w v u = order_clean ltb v u
+compare_clean pred.Ule w v u = order_clean leb v u
+compare_clean pred.Sgt w v u = order_clean ltb (turned_sign w u) (turned_sign w v)
+compare_clean pred.Sge w v u = order_clean leb (turned_sign w u) (turned_sign w v)
+compare_clean pred.Slt w v u = order_clean ltb (turned_sign w v) (turned_sign w u)
+compare_clean pred.Sle w v u = order_clean leb (turned_sign w v) (turned_sign w u)
+
+union_clean : (is : List (Ty × Operand)) (ps : List Poisoned) → AllClean ps → union (extended_all is (map (λ p. p.mask) ps)) ≡ 0
+union_clean [] ps c = refl
+union_clean (i ∷ is) [] c = refl
+union_clean (i ∷ is) (p ∷ ps) c = ap₂ bit_or (ap (λ n. extended (width_of i.0) n) c.0 ∙ wrap_zero (width_of i.0) 64) (union_clean is ps c.1)
+
+two_clean : (m k : ℕ) → m ≡ 0 → k ≡ 0 → bit_or m k ≡ 0
+two_clean m k e f = ap₂ bit_or e f
+
+-- where the origin is that of the last operand
+abbrev pub TakesLast : Op → Type 0
+TakesLast (op.Select c t a b) = ⊥
+TakesLast (op.Freeze t a) = ⊥
+TakesLast (op.Alloca t u c) = ⊥
+TakesLast (op.Call ret callee args) = ⊥
+TakesLast o = IsWordOp o
+
+pub mask_clean : (s : Setting) (values : Name → Poisoned) (root : ℕ) (o : Op) → TakesLast o → (w : World) → AllClean (read_all (read_poisoned s values) (operands o) root)
+    → result_mask by_formulas o (read_all (read_poisoned s values) (operands o) root) w ≡ 0
+unfolding and_mask or_mask union_mask
+mask_clean s values root (op.Binary binary.And f t a b) k w c = ap (bit_and _) (two_clean _ _ c.0 c.1.0) ∙ and_zero_r _
+mask_clean s values root (op.Binary binary.Or f t a b) k w c = ap (bit_and _) (two_clean _ _ c.0 c.1.0) ∙ and_zero_r _
+mask_clean s values root (op.Binary binary.Xor f t a b) k w c = two_clean _ _ c.0 c.1.0
+mask_clean s values root (op.Binary binary.Add f t a b) k w c = two_clean _ _ c.0 c.1.0
+mask_clean s values root (op.Binary binary.Sub f t a b) k w c = two_clean _ _ c.0 c.1.0
+mask_clean s values root (op.Binary binary.Mul f t a b) k w c = two_clean _ _ c.0 c.1.0
+mask_clean s values root (op.Binary binary.Udiv f t a b) k w c = c.0
+mask_clean s values root (op.Binary binary.Sdiv f t a b) k w c = c.0
+mask_clean s values root (op.Binary binary.Urem f t a b) k w c = c.0
+mask_clean s values root (op.Binary binary.Srem f t a b) k w c = c.0
+mask_clean s values root (op.Icmp p f t a b) k w c =
+    ap₂ (λ i j. compare_mask p (width_of t) (read_poisoned s values root t a).value i (read_poisoned s values (root + one_undef a) t b).value j) c.0 c.1.0 ∙ compare_clean p (width_of t) _ _
+mask_clean s values root (op.Cast o f t a u) k w c = ap (λ i. value_or_zero (cast_of o no_flags (width_of t) i (width_of u))) c.0 ∙ cast_clean o (width_of t) (width_of u)
+mask_clean s values root (op.Gep t a is) k w c = two_clean _ _ c.0 (union_clean is (read_all (read_poisoned s values) is (root + one_undef a)) c.1)
+mask_clean s values root (op.Binary binary.Shl f t a b) k w c = absurd k
+mask_clean s values root (op.Binary binary.Lshr f t a b) k w c = absurd k
+mask_clean s values root (op.Binary binary.Ashr f t a b) k w c = absurd k
+mask_clean s values root _ k w c = absurd k

@@ -1,0 +1,14 @@
+pub mod Tasks
+pub mod Meaning
+pub mod Environments
+pub mod ResultMasks
+pub mod ResultTasks
+pub mod CheckTasks
+pub mod SlotTasks
+pub mod PlaneTasks
+pub mod Emit
+pub mod PassLists
+pub mod Known
+pub mod Match
+pub mod InstructionLaw
+pub mod SlotLaw

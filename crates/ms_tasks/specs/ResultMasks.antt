@@ -1,0 +1,135 @@
+-- The mask and the origin of a result that is one word, as words that inserted code computes (after Stepanov and
+-- Serebryany, CGO 2015; own in this exact form).
+use Rattle.std.specs.Prelude.{ℕ, ◌-◌, ◌^◌, eqb, List, [], ◌∷◌, if◌then◌else◌, drop}
+use Rattle.ms_bits.specs.declared.operations.BinOp.{BinOp}
+use Rattle.ms_bits.specs.declared.operations.CastOp.{CastOp}
+use Rattle.ms_bits.specs.declared.operations.Pred.{Pred}
+use Rattle.ms_ir.specs.declared.syntax.Ty.{Ty, Int}
+use Rattle.ms_ir.specs.declared.syntax.Op.{Op}
+use Rattle.ms_ir.specs.declared.syntax.Op.TheVariants as op
+use Rattle.ms_ir.specs.Layout.{width_of}
+use Rattle.ms_bits.specs.declared.operations.BinOp.TheVariants as binary
+use Rattle.ms_bits.specs.declared.operations.CastOp.TheVariants as cast
+use Rattle.ms_bits.specs.declared.operations.Pred.TheVariants as pred
+use Rattle.ms_tasks.specs.Tasks.{Expr, And, Or, Xor, Two, Turn, Test, Pick}
+use Rattle.ms_tasks.specs.Environments.{mask_type, Tracked, tracked_at, mask_of, origin_of, word_of, widened, extended_expr, number, is_set, bits_of}
+
+-- ---- masks: v and u are the words of two operands and m and k their masks
+
+-- a bit is poisoned where it is in either word: of `xor`, sums and products
+abbrev pub union_expr : Ty → (m k : Expr) → Expr
+union_expr t m k = Two Or t m k
+
+-- a bit is poisoned where both are, or one is and the other word has a defined 1
+abbrev pub and_expr : Ty → (v m u k : Expr) → Expr
+and_expr t v m u k = Two And t (Two And t (Two Or t v m) (Two Or t u k)) (Two Or t m k)
+
+-- a bit is poisoned where both are, or one is and the other word has a defined 0
+abbrev pub or_expr : ℕ → (v m u k : Expr) → Expr
+or_expr w v m u k =
+    Two And (Int w)
+    (Two And (Int w) (Two Or (Int w) (Two Xor (Int w) v (number (2 ^ w - 1))) m) (Two Or (Int w) (Two Xor (Int w) u (number (2 ^ w - 1))) k))
+    (Two Or (Int w) m k)
+
+-- the greatest completion of a word
+abbrev pub greatest_expr : ℕ → (v m : Expr) → Expr
+greatest_expr w v m = Two Or (Int w) v m
+
+-- the least completion of a word
+abbrev pub least_expr : ℕ → (v m : Expr) → Expr
+least_expr w v m = Two Xor (Int w) (Two Or (Int w) v m) m
+
+-- an ordered comparison is poisoned where the least and the greatest completions answer differently
+abbrev pub order_expr : Pred → ℕ → (v m u k : Expr) → Expr
+order_expr p w v m u k =
+    Two Xor (Int 1) (Test p (Int w) (least_expr w v m) (greatest_expr w u k)) (Test p (Int w) (greatest_expr w v m) (least_expr w u k))
+
+-- a comparison by `eq` or `ne` is poisoned where no bit that is defined in both words differs and some bit is poisoned
+abbrev pub eq_expr : ℕ → (v m u k : Expr) → Expr
+eq_expr w v m u k =
+    Two And (Int 1)
+    (Test pred.Eq (Int w) (Two Or (Int w) (Two Xor (Int w) v u) (Two Or (Int w) m k)) (Two Or (Int w) m k))
+    (is_set (Int w) (Two Or (Int w) m k))
+
+-- a word with its sign bit turned, by which signed words are ordered as unsigned ones are
+abbrev pub turned_expr : ℕ → Expr → Expr
+turned_expr w v = Two Xor (Int w) v (number (2 ^ (w - 1)))
+
+-- the mask of a comparison
+abbrev pub compare_expr : Pred → ℕ → (v m u k : Expr) → Expr
+compare_expr pred.Eq w v m u k = eq_expr w v m u k
+compare_expr pred.Ne w v m u k = eq_expr w v m u k
+compare_expr pred.Ugt w v m u k = order_expr pred.Ult w u k v m
+compare_expr pred.Uge w v m u k = order_expr pred.Ule w u k v m
+compare_expr pred.Ult w v m u k = order_expr pred.Ult w v m u k
+compare_expr pred.Ule w v m u k = order_expr pred.Ule w v m u k
+compare_expr pred.Sgt w v m u k = order_expr pred.Ult w (turned_expr w u) k (turned_expr w v) m
+compare_expr pred.Sge w v m u k = order_expr pred.Ule w (turned_expr w u) k (turned_expr w v) m
+compare_expr pred.Slt w v m u k = order_expr pred.Ult w (turned_expr w v) m (turned_expr w u) k
+compare_expr pred.Sle w v m u k = order_expr pred.Ule w (turned_expr w v) m (turned_expr w u) k
+
+-- with a defined condition the mask of what is chosen, else each bit that differs or is poisoned in one; t is the
+-- condition, and n its mask
+abbrev pub select_expr : ℕ → (t n v m u k : Expr) → Expr
+select_expr w t n v m u k =
+    Pick n (Int w) (Two Or (Int w) (Two Or (Int w) (Two Xor (Int w) v u) m) k) (Pick t (Int w) m k)
+
+-- the same cast of the mask, where pointers are numbers
+abbrev pub cast_expr : CastOp → (w to : ℕ) → Expr → Expr
+cast_expr cast.Trunc w to m = Turn cast.Trunc (Int w) m (Int to)
+cast_expr cast.Zext w to m = Turn cast.Zext (Int w) m (Int to)
+cast_expr cast.Sext w to m = Turn cast.Sext (Int w) m (Int to)
+cast_expr cast.PtrToInt w to m = if eqb to 64 then m else Turn cast.Trunc (Int w) m (Int to)
+cast_expr cast.IntToPtr w to m = widened w m
+cast_expr cast.Bitcast w to m = m
+
+-- the sign-extended masks of the indices of `getelementptr`, joined
+abbrev pub union_all : List Tracked → Expr
+union_all [] = number 0
+union_all (t ∷ ts) = Two Or (Int 64) (extended_expr (width_of t.ty) (mask_of t)) (union_all ts)
+
+-- the mask of an operation, but a shift's: of a division the dividend's
+abbrev pub binary_expr : BinOp → ℕ → Tracked → Tracked → Expr
+binary_expr binary.And w a b = and_expr (Int w) (word_of a) (mask_of a) (word_of b) (mask_of b)
+binary_expr binary.Or w a b = or_expr w (word_of a) (mask_of a) (word_of b) (mask_of b)
+binary_expr binary.Xor w a b = union_expr (Int w) (mask_of a) (mask_of b)
+binary_expr binary.Add w a b = union_expr (Int w) (mask_of a) (mask_of b)
+binary_expr binary.Sub w a b = union_expr (Int w) (mask_of a) (mask_of b)
+binary_expr binary.Mul w a b = union_expr (Int w) (mask_of a) (mask_of b)
+binary_expr _ w a b = mask_of a
+
+-- the mask of a result that is one word
+abbrev pub mask_expr : Op → List Tracked → Expr
+mask_expr (op.Binary o f t a b) ts = binary_expr o (width_of t) (tracked_at 0 ts) (tracked_at 1 ts)
+mask_expr (op.Icmp p f t a b) ts =
+    compare_expr p (width_of t) (bits_of (tracked_at 0 ts)) (mask_of (tracked_at 0 ts)) (bits_of (tracked_at 1 ts)) (mask_of (tracked_at 1 ts))
+mask_expr (op.Cast o f t a u) ts = cast_expr o (width_of t) (width_of u) (mask_of (tracked_at 0 ts))
+mask_expr (op.Select c t a b) ts =
+    select_expr (width_of t) (word_of (tracked_at 0 ts)) (mask_of (tracked_at 0 ts))
+    (bits_of (tracked_at 1 ts)) (mask_of (tracked_at 1 ts)) (bits_of (tracked_at 2 ts)) (mask_of (tracked_at 2 ts))
+mask_expr (op.Gep t a is) ts = Two Or (Int 64) (mask_of (tracked_at 0 ts)) (union_all (drop 1 ts))
+mask_expr _ ts = number 0
+
+-- ---- origins
+
+-- the origin of the last operand whose mask isn't 0, else the one given
+abbrev pub last_expr : List Tracked → Expr → Expr
+last_expr [] best = best
+last_expr (t ∷ ts) best = last_expr ts (Pick (is_set (mask_type t.ty) (mask_of t)) (Int 32) (origin_of t) best)
+
+-- the origin of the last operand whose mask isn't 0, else the first operand's
+abbrev pub first_last : List Tracked → Expr
+first_last [] = number 0
+first_last (t ∷ ts) = last_expr ts (origin_of t)
+
+-- the origin of a result that is one word: of `select` the condition's where this is poisoned, else that of what is
+-- chosen
+abbrev pub origin_expr : Op → List Tracked → Expr
+origin_expr (op.Binary o f t a b) ts = first_last ts
+origin_expr (op.Icmp p f t a b) ts = first_last ts
+origin_expr (op.Cast o f t a u) ts = first_last ts
+origin_expr (op.Select c t a b) ts =
+    Pick (mask_of (tracked_at 0 ts)) (Int 32) (origin_of (tracked_at 0 ts))
+    (Pick (word_of (tracked_at 0 ts)) (Int 32) (origin_of (tracked_at 1 ts)) (origin_of (tracked_at 2 ts)))
+origin_expr (op.Gep t a is) ts = first_last ts
+origin_expr _ ts = number 0

@@ -1,0 +1,213 @@
+-- Instructions but calls, on words and worlds that are alike.
+use Rattle.std.proofs.Common.{◌≡◌, ℕ, zero, suc, ◌+◌, ◌*◌, ◌/◌, ◌%◌, ◌^◌, ◌<◌, ◌≤◌, List, [], ◌∷◌, map, drop, Bool, true, false, not, ◌||◌, eqb, Option, Some, None, Result, Ok, Err, refl, ap, ap₂, subst, arith, bit_or, if◌then◌else◌}
+use Rattle.std.specs.Int.{bit_at}
+use Rattle.std.proofs.lemmas.Nat.{mod_below, pow_pos}
+use Rattle.ms_bits.specs.declared.traps.Trap.{Trap}
+use Rattle.ms_bits.specs.declared.traps.Trap.TheVariants as trap
+use Rattle.ms_bits.specs.Maps.{number_at}
+use Rattle.ms_ir.specs.declared.syntax.Ty.{Ty}
+use Rattle.ms_ir.specs.declared.syntax.Ty as ty
+use Rattle.ms_ir.specs.declared.syntax.Operand.{Operand}
+use Rattle.ms_ir.specs.declared.syntax.Op.{Op}
+use Rattle.ms_ir.specs.declared.syntax.Op.TheVariants as op
+use Rattle.ms_runs.specs.declared.runs.End.TheVariants as «end»
+use Rattle.ms_ir.specs.Layout.{width_of, stored_size, size_in, indexed}
+use Rattle.ms_ir.specs.Areas.{Stack}
+use Rattle.ms_runs.specs.World.{World, Setting, Here, Gives, Does, Leaves, Ends, traps, word}
+use Rattle.ms_runs.specs.Memory.{is_good, fits, next_base, make_unset, store_number}
+use Rattle.ms_ir.specs.Code.{operands, one_undef}
+use Rattle.ms_runs.specs.Control.{read_all}
+use Rattle.ms_runs.specs.Act.{act, gives, extended_all}
+use Rattle.ms_runs.specs.Origins.{origin_within}
+use Rattle.ms_runs.specs.Poisoned.{Poisoned}
+use Rattle.ms_runs.specs.Masks.{by_formulas, union}
+use Rattle.ms_runs.specs.Uses.{uses, blinded}
+use Rattle.ms_runs.specs.Shadow.{planes, poisoned_result}
+use Rattle.ms_runs.specs.LowEqual.{LowWord, LowWorld, SameBits}
+use Rattle.ms_two_fills.specs.Alike.{refill}
+use Rattle.ms_bits_laws.proofs.ByteAgreement.{loaded_agree}
+use Rattle.ms_bits_laws.proofs.OperationAgreement.{cut}
+use Rattle.ms_two_fills.specs.Passed.{AllPassed}
+use Rattle.ms_two_fills.specs.Effects.{EffectsAlike}
+use Rattle.ms_two_fills.specs.Placed.{FitWorld}
+use Rattle.ms_two_fills.proofs.Words.{LowAt, from_width, alike_word, AllClean, union_clean, AnswersAlike, binary_masks, binary_alike}
+use Rattle.ms_two_fills.proofs.Answers.{CastsTo, compare_masks, compare_alike, cast_masks, cast_alike, select_masks, select_origins, select_alike}
+use Rattle.ms_two_fills.proofs.Reading.{AlikeWords, read_all_alike, number_same, masks_same, numbers_same, origins_same}
+use Rattle.ms_two_fills.proofs.Worlds.{other, BytesAlike, low_other, made_low, stored_low, store_origin_low}
+
+-- words alike without a poisoned bit are one
+pub same_word : (p q : Poisoned) → LowWord p q → p.mask ≡ 0 → p ≡ q
+same_word p q h z = let e = number_same p q h z in λ i. record { value = e i; mask = h.mask i; origin = h.origin i }
+
+-- a word alike is the word with another number
+pub other_word : (p q : Poisoned) → LowWord p q → record p { value = q.value } ≡ q
+other_word p q h = λ i. record { value = q.value; mask = h.mask i; origin = h.origin i }
+
+pub exact_word : (x y m k a c : ℕ) → m ≡ k → a ≡ c → x ≡ y → LowWord (record { value = x; mask = m; origin = a }) (record { value = y; mask = k; origin = c })
+exact_word x y m k a c e f g = record { mask = e; origin = f; value = λ i z. ap (λ v. bit_at v i) g }
+
+origin_same : (n a mask : ℕ) (w : World) (b : ℕ → ℕ) → origin_within n a mask w ≡ origin_within n a mask (other w b)
+origin_same zero a mask w b = refl
+origin_same (suc n) a mask w b = ap (λ o. if eqb (mask % 256) 0 || not (is_good w a 1) then o else w.origins (a / 4)) (origin_same n (a + 1) (mask / 256) w b)
+
+-- an answer
+answer_alike : (lift lift' : ℕ → World → Poisoned) (after after' : ℕ → World → World) (site m : ℕ) (r q : Result ℕ Trap) (w v : World) → LowWorld w v → AnswersAlike m r q
+    → ((x y : ℕ) → SameBits m x y → LowWord (lift x w) (lift' y v) × LowWorld (after x w) (after' y v))
+    → EffectsAlike lift lift' after after' (gives site r w) (gives site q v)
+answer_alike lift lift' after after' site m (Ok x) (Ok y) w v g h f = f x y h
+answer_alike lift lift' after after' site m (Err t) (Err u) w v g h f = (ap (λ k. «end».Trap k site) h, g)
+answer_alike lift lift' after after' site m (Ok x) (Err u) w v g h f = absurd h
+answer_alike lift lift' after after' site m (Err t) (Ok y) w v g h f = absurd h
+
+-- what a cast that stands may be
+abbrev pub CastStands : Op → Type 0
+CastStands (op.Cast o f t a u) = CastsTo o (width_of t) (width_of u)
+CastStands o = Unit {0}
+
+module _ (s : Setting) (fill : List ℕ) (h : Here) (root : ℕ) (w : World) (b : ℕ → ℕ) (alike : BytesAlike w b) (bytes : FitWorld w) (others : (x : ℕ) → b x < 256) where
+  -- an operation comes to the same on two lists of words
+  abbrev pub OpAlike : Op → List Poisoned → List Poisoned → Type 0
+  OpAlike o ps qs =
+      EffectsAlike (poisoned_result by_formulas o ps) (poisoned_result by_formulas o qs) (planes s h.site root o ps w) (planes (refill s fill) h.site root o qs (other w b))
+      (act s h o (map (λ p. p.value) ps) w) (act (refill s fill) h o (map (λ p. p.value) qs) (other w b))
+
+  low : LowWorld w (other w b)
+  low = low_other w b alike
+
+  -- ---- memory
+
+  loaded : (t : Ty) (x : Operand) (p : Poisoned) → OpAlike (op.Load t x) (p ∷ []) (p ∷ [])
+  loaded t x p = by_test (is_good w p.value (stored_size t))
+    where
+      n : ℕ
+      n = stored_size t
+
+      fits_bytes : width_of t ≤ 8 * stored_size t
+      fits_bytes = omega arith
+
+      by_test : (g : Bool)
+          → EffectsAlike (poisoned_result by_formulas (op.Load t x) (p ∷ [])) (poisoned_result by_formulas (op.Load t x) (p ∷ [])) (λ v u. u) (λ v u. u)
+          (if g then Gives (number_at w.bytes p.value (stored_size t) % 2 ^ width_of t) w else traps trap.BadAddress h.site w)
+          (if g then Gives (number_at b p.value (stored_size t) % 2 ^ width_of t) (other w b) else traps trap.BadAddress h.site (other w b))
+      by_test true = (
+        record {
+          mask = refl;
+          origin = origin_same 8 p.value (number_at w.shadow p.value (stored_size t) % 2 ^ width_of t) w b;
+          value =
+              from_width (width_of t) _ _ _ (mod_below _ _ (pow_pos (width_of t))) (mod_below _ _ (pow_pos (width_of t)))
+              (cut (8 * stored_size t) (width_of t) _ _ _ fits_bytes
+              (loaded_agree (stored_size t) p.value w.shadow w.bytes b (λ k l. bytes.shadow (p.value + k)) (λ k l. bytes.bytes (p.value + k)) (λ k l. others (p.value + k)) (λ k l. alike (p.value + k))));
+        },
+        low,
+      )
+      by_test false = (refl, low)
+
+  stored : (t : Ty) (v x : Operand) (p a : Poisoned) (y : ℕ) → SameBits p.mask p.value y → OpAlike (op.Store t v x) (p ∷ a ∷ []) (record p { value = y } ∷ a ∷ [])
+  stored t v x p a y same = by_test (is_good w a.value (stored_size t))
+    where
+      by_test : (g : Bool)
+          → EffectsAlike (poisoned_result by_formulas (op.Store t v x) (p ∷ a ∷ [])) (poisoned_result by_formulas (op.Store t v x) (record p { value = y } ∷ a ∷ []))
+          (planes s h.site root (op.Store t v x) (p ∷ a ∷ []) w) (planes (refill s fill) h.site root (op.Store t v x) (record p { value = y } ∷ a ∷ []) (other w b))
+          (if g then Does (store_number a.value (stored_size t) p.value w) else traps trap.BadAddress h.site w)
+          (if g then Does (store_number a.value (stored_size t) y (other w b)) else traps trap.BadAddress h.site (other w b))
+      by_test true = store_origin_low s a.value p.mask p.origin h.site _ _ (stored_low a.value (stored_size t) p.mask p.value y w b alike same)
+      by_test false = (refl, low)
+
+  made : (t u : Ty) (c : Operand) (p : Poisoned) → OpAlike (op.Alloca t u c) (p ∷ []) (p ∷ [])
+  made t u c p = by_test (fits Stack (size_in s.types t * p.value) w) refl
+    where
+      by_test : (g : Bool) → fits Stack (size_in s.types t * p.value) w ≡ g
+          → EffectsAlike (poisoned_result by_formulas (op.Alloca t u c) (p ∷ [])) (poisoned_result by_formulas (op.Alloca t u c) (p ∷ []))
+          (planes s h.site root (op.Alloca t u c) (p ∷ []) w) (planes (refill s fill) h.site root (op.Alloca t u c) (p ∷ []) (other w b))
+          (if g then Gives (next_base Stack w) (make_unset s.fill Stack (size_in s.types t * p.value) w) else traps trap.Stack h.site w)
+          (if g then Gives (next_base Stack w) (make_unset fill Stack (size_in s.types t * p.value) (other w b)) else traps trap.Stack h.site (other w b))
+      by_test true e = (exact_word _ _ _ _ _ _ refl refl refl, made_low s.fill fill Stack (size_in s.types t * p.value) root w b alike e)
+      by_test false e = (refl, low)
+
+  -- ---- all of them, where operands are read
+
+  module _ (read others_read : ℕ → Ty → Operand → Poisoned) (reads : (n : ℕ) (t : Ty) (o : Operand) → LowAt (width_of t) (read n t o) (others_read n t o)) (n : ℕ) where
+    -- the same on its own operands
+    abbrev pub ReadAlike : Op → Type 0
+    ReadAlike o = OpAlike o (read_all read (operands o) n) (read_all others_read (operands o) n)
+
+    alike_at : (n : ℕ) (t : Ty) (o : Operand) → LowWord (read n t o) (others_read n t o)
+    alike_at n t o = alike_word (width_of t) _ _ (reads n t o)
+
+    -- an instruction of one operand that has no poisoned bit
+    by_one : (t : Ty) (a : Operand) (P : Poisoned → Type 0) → (read n t a).mask ≡ 0 → P (read n t a) → P (others_read n t a)
+    by_one t a P z p = subst P (same_word (read n t a) (others_read n t a) (alike_at n t a) z) p
+
+    located : (t : Ty) (base : Operand) (is : List (Ty × Operand)) → AllClean (read_all read ((ty.Ptr, base) ∷ is) n) → ReadAlike (op.Gep t base is)
+    located t base is z = (
+      exact_word _ _ _ _ _ _
+          (ap₂ (λ m k. bit_or m (union (extended_all is k))) words.0.mask (masks_same (read_all read is (n + one_undef base)) (read_all others_read is (n + one_undef base)) words.1))
+          (origins_same ps qs words (read n ty.Ptr base).origin (others_read n ty.Ptr base).origin words.0.origin)
+          (ap (λ vs. indexed s.types t (word 0 vs) (extended_all is (drop 1 vs))) (numbers_same ps qs words z)),
+      low,
+    )
+      where
+        ps : List Poisoned
+        ps = read_all read ((ty.Ptr, base) ∷ is) n
+
+        qs : List Poisoned
+        qs = read_all others_read ((ty.Ptr, base) ∷ is) n
+
+        words : AlikeWords (read_all read ((ty.Ptr, base) ∷ is) n) (read_all others_read ((ty.Ptr, base) ∷ is) n)
+        words = read_all_alike read others_read reads ((ty.Ptr, base) ∷ is) n
+
+    returned : (v : Option (Ty × Operand)) → AllPassed w (read_all read (operands (op.Ret v)) n) (uses s.func h.main (op.Ret v)) → ReadAlike (op.Ret v)
+    returned None z = by_main h.main
+      where
+        by_main : (m : Bool)
+            → EffectsAlike (poisoned_result by_formulas (op.Ret None) []) (poisoned_result by_formulas (op.Ret None) []) (λ x u. u) (λ x u. u)
+            (if m then Ends («end».Exit 0) w else Leaves w) (if m then Ends («end».Exit 0) (other w b) else Leaves (other w b))
+        by_main true = (refl, low)
+        by_main false = low
+    returned (Some v) z = by_main h.main z
+      where
+        by_main : (m : Bool) → AllPassed w (read n v.0 v.1 ∷ []) (uses s.func m (op.Ret (Some v)))
+            → EffectsAlike (poisoned_result by_formulas (op.Ret (Some v)) (read n v.0 v.1 ∷ [])) (poisoned_result by_formulas (op.Ret (Some v)) (others_read n v.0 v.1 ∷ [])) (λ x u. u) (λ x u. u)
+            (if m then Ends («end».Exit (read n v.0 v.1).value) w else Leaves w) (if m then Ends («end».Exit (others_read n v.0 v.1).value) (other w b) else Leaves (other w b))
+        by_main true z = (ap (λ k. «end».Exit k) (number_same _ _ (alike_at n v.0 v.1) z.0), low)
+        by_main false z = low
+
+    -- calls stand elsewhere
+    abbrev pub IsNoCall : Op → Type 0
+    IsNoCall (op.Call r x args) = ⊥
+    IsNoCall o = Unit {0}
+
+    pub op_alike : (o : Op) → IsNoCall o → CastStands o → union (map (λ p. p.mask) (blinded true o (read_all read (operands o) n))) ≡ 0
+        → AllPassed w (read_all read (operands o) n) (uses s.func h.main o) → ReadAlike o
+    op_alike (op.Binary o f t a c) k fits quiet passed =
+        let p = reads n t a in let q = reads (n + one_undef a) t c in
+        answer_alike _ _ _ _ h.site _ _ _ w (other w b) low (binary_alike (width_of t) _ _ _ _ p q w o f quiet passed)
+        (λ x y same. (record { mask = binary_masks (width_of t) _ _ _ _ p q o; origin = origins_same (read n t a ∷ read (n + one_undef a) t c ∷ []) (others_read n t a ∷ others_read (n + one_undef a) t c ∷ []) (read_all_alike read others_read reads ((t, a) ∷ (t, c) ∷ []) n) (read n t a).origin (others_read n t a).origin p.origin; value = same }, low))
+    op_alike (op.Icmp o f t a c) k fits quiet passed =
+        let p = reads n t a in let q = reads (n + one_undef a) t c in
+        answer_alike _ _ _ _ h.site _ _ _ w (other w b) low (compare_alike (width_of t) _ _ _ _ p q o f quiet)
+        (λ x y same. (record { mask = compare_masks (width_of t) _ _ _ _ p q o; origin = origins_same (read n t a ∷ read (n + one_undef a) t c ∷ []) (others_read n t a ∷ others_read (n + one_undef a) t c ∷ []) (read_all_alike read others_read reads ((t, a) ∷ (t, c) ∷ []) n) (read n t a).origin (others_read n t a).origin p.origin; value = same }, low))
+    op_alike (op.Cast o f t a u) k fits quiet passed =
+        let p = reads n t a in
+        answer_alike _ _ _ _ h.site _ _ _ w (other w b) low (cast_alike (width_of t) (width_of u) _ _ p o f fits quiet)
+        (λ x y same. (record { mask = cast_masks (width_of t) (width_of u) _ _ p o; origin = p.origin; value = same }, low))
+    op_alike (op.Select c t a e) k fits quiet passed =
+        let d = reads n (ty.Int 1) c in let p = reads (n + one_undef c) t a in let q = reads (n + one_undef c + one_undef a) t e in
+        (record { mask = select_masks (width_of t) _ _ _ _ _ _ d p q; origin = select_origins (width_of t) _ _ _ _ _ _ d p q; value = select_alike (width_of t) _ _ _ _ _ _ d p q }, low)
+    op_alike (op.Freeze t a) k fits quiet passed =
+        (exact_word _ _ _ _ _ _ refl refl (number_same _ _ (alike_at n t a) (union_clean (read n t a ∷ []) quiet).0), low)
+    op_alike (op.Phi t edges) k fits quiet passed = (refl, low)
+    op_alike (op.Alloca t u c) k fits quiet passed = by_one u c (λ q. OpAlike (op.Alloca t u c) (read n u c ∷ []) (q ∷ [])) passed.0 (made t u c (read n u c))
+    op_alike (op.Load t x) k fits quiet passed = by_one ty.Ptr x (λ q. OpAlike (op.Load t x) (read n ty.Ptr x ∷ []) (q ∷ [])) passed.0 (loaded t x (read n ty.Ptr x))
+    op_alike (op.Store t v x) k fits quiet passed =
+        let p = read n t v in let q = others_read n t v in let a = read (n + one_undef v) ty.Ptr x in
+        let same = alike_at n t v in
+        subst (λ c. OpAlike (op.Store t v x) (p ∷ a ∷ []) (q ∷ c ∷ [])) (same_word a (others_read (n + one_undef v) ty.Ptr x) (alike_at (n + one_undef v) ty.Ptr x) passed.0)
+        (subst (λ d. OpAlike (op.Store t v x) (p ∷ a ∷ []) (d ∷ a ∷ [])) (other_word p q same) (stored t v x p a q.value same.value))
+    op_alike (op.Gep t base is) k fits quiet passed = located t base is (union_clean (read_all read ((ty.Ptr, base) ∷ is) n) quiet)
+    op_alike (op.Call r x args) k fits quiet passed = absurd k
+    op_alike (op.Br to) k fits quiet passed = (refl, low)
+    op_alike (op.CondBr c to otherwise) k fits quiet passed = by_one (ty.Int 1) c (λ q. OpAlike (op.CondBr c to otherwise) (read n (ty.Int 1) c ∷ []) (q ∷ [])) passed.0 (refl, low)
+    op_alike (op.Switch t v otherwise cases) k fits quiet passed = by_one t v (λ q. OpAlike (op.Switch t v otherwise cases) (read n t v ∷ []) (q ∷ [])) passed.0 (refl, low)
+    op_alike (op.Ret v) k fits quiet passed = returned v passed
+    op_alike op.Unreachable k fits quiet passed = (refl, low)

@@ -1,0 +1,249 @@
+-- A step from states that are alike, where one report ends the run and no blind use occurs.
+use Rattle.std.proofs.Common.{◌≡◌, ℕ, ◌+◌, ◌<◌, List, [], ◌∷◌, map, Bool, true, false, Option, Some, None, refl, sym, ap, ◌∙◌, subst, if◌then◌else◌}
+use Rattle.ms_bits.specs.declared.operations.BinOp.{BinOp}
+use Rattle.ms_bits.specs.declared.operations.BinOp.TheVariants.{Add, Sub, Mul, Udiv, Sdiv, Urem, Srem, Shl, Lshr, Ashr, And, Or, Xor}
+use Rattle.ms_ir.specs.declared.syntax.Name.{Name}
+use Rattle.ms_ir.specs.declared.syntax.Ty.{Ty}
+use Rattle.ms_ir.specs.declared.syntax.Operand.{Operand}
+use Rattle.ms_ir.specs.declared.syntax.Op.{Op}
+use Rattle.ms_ir.specs.declared.syntax.Op.TheVariants as op
+use Rattle.ms_ir.specs.declared.syntax.Inst.{Inst}
+use Rattle.ms_ir.specs.declared.syntax.Module.{Module}
+use Rattle.ms_ir.specs.declared.calls.External.{External}
+use Rattle.ms_ir.specs.declared.calls.External.TheVariants.{Malloc, Calloc, Realloc, Free, Memcpy, Memmove, Memset, Memcmp, Strlen, Putchar, Puts, Getchar, Read, Write, Exit, Abort, LlvmMemcpy, LlvmMemmove, LlvmMemset, LifetimeStart, LifetimeEnd}
+use Rattle.ms_runs.specs.World.{World, Setting, Here, Effect, Gives, Does, Goes, Enters, Leaves, Ends}
+use Rattle.ms_ir.specs.Code.{operands, count_undefs, external_named}
+use Rattle.ms_runs.specs.Control.{Frame, Outcome, On, Over, here, rest_of, read_all}
+use Rattle.ms_runs.specs.Origins.{count_blind}
+use Rattle.ms_runs.specs.Poisoned.{Poisoned}
+use Rattle.ms_runs.specs.Masks.{by_formulas, union}
+use Rattle.ms_runs.specs.Uses.{uses, binary_uses, callee_uses, external_uses, check_uses, has_flag, blind_binary, blinded}
+use Rattle.ms_runs.specs.Shadow.{read_poisoned, ShadowState, shadow_moved, shadow_act, after_checks, shadow_inst, shadow_first, shadow_frames, shadow_step}
+use Rattle.ms_runs.specs.LowEqual.{LowEqual, LowFrames}
+use Rattle.ms_two_fills.specs.Alike.{StepsAlike, refill}
+use Rattle.ms_two_fills.specs.Passed.{AllPassed}
+use Rattle.ms_two_fills.specs.Effects.{CheckedAlike, Ready, MovesAlike}
+use Rattle.ms_two_fills.specs.Placed.{FitWorld}
+use Rattle.std.specs.Prelude.{take, drop}
+use Rattle.ms_two_fills.proofs.Reading.{AlikeWords, masks_same, read_low, read_all_alike}
+use Rattle.ms_two_fills.proofs.Worlds.{other, BytesAlike, low_other, other_is}
+use Rattle.ms_two_fills.proofs.Checks.{uses_alike}
+use Rattle.ms_two_fills.proofs.Ops.{CastStands}
+use Rattle.ms_two_fills.proofs.Calls.{CallStands, inst_alike}
+use Rattle.ms_two_fills.proofs.Moves.{AlikeValues, revalued, by_values, frame_alike, moves_alike}
+
+-- ---- checks of memory stand behind those of words
+
+external_ready : (e : External) (ps : List Poisoned) → Ready ps (external_uses e)
+external_ready Malloc ps = λ a. tt
+external_ready Calloc ps = λ a c. tt
+external_ready Realloc ps = λ a c. tt
+external_ready Free ps = λ a. tt
+external_ready Memcpy ps = λ a c d. tt
+external_ready Memmove ps = λ a c d. tt
+external_ready Memset ps = λ a d. tt
+external_ready Memcmp ps = λ a c d. (a, d, (c, d, tt))
+external_ready Strlen ps = λ a. (a, tt)
+external_ready Putchar ps = λ a. tt
+external_ready Puts ps = λ a. (a, tt)
+external_ready Getchar ps = tt
+external_ready Read ps = λ a c d. tt
+external_ready Write ps = λ a c d. (c, d, tt)
+external_ready Exit ps = λ a. tt
+external_ready Abort ps = tt
+external_ready LlvmMemcpy ps = λ a c d. tt
+external_ready LlvmMemmove ps = λ a c d. tt
+external_ready LlvmMemset ps = λ a d. tt
+external_ready LifetimeStart ps = λ a c. tt
+external_ready LifetimeEnd ps = λ a c. tt
+
+callee_ready : (o : Option External) (ps : List Poisoned) → Ready ps (callee_uses o)
+callee_ready None ps = tt
+callee_ready (Some e) ps = external_ready e ps
+
+binary_ready : (o : BinOp) (ps : List Poisoned) → Ready ps (binary_uses o)
+binary_ready Udiv ps = λ d. tt
+binary_ready Sdiv ps = λ d. tt
+binary_ready Urem ps = λ d. tt
+binary_ready Srem ps = λ d. tt
+binary_ready _ ps = tt
+
+returned_ready : (func : Name → Option ℕ) (main : Bool) (v : Option (Ty × Operand)) (ps : List Poisoned) → Ready ps (uses func main (op.Ret v))
+returned_ready func true v ps = λ z. tt
+returned_ready func false v ps = tt
+
+ready : (func : Name → Option ℕ) (main : Bool) (o : Op) (ps : List Poisoned) → Ready ps (uses func main o)
+ready func main (op.Binary o f t a b) ps = binary_ready o ps
+ready func main (op.Alloca t u c) ps = λ z. tt
+ready func main (op.Load t a) ps = λ z. tt
+ready func main (op.Store t v a) ps = λ z. tt
+ready func main (op.Call r x args) ps = callee_ready (external_named func x) ps
+ready func main (op.CondBr c to otherwise) ps = λ z. tt
+ready func main (op.Switch t v otherwise cases) ps = λ z. tt
+ready func main (op.Ret v) ps = returned_ready func main v ps
+ready func main _ ps = tt
+
+-- ---- one instruction
+
+if_alike : (t : Bool) (ps qs ps' qs' : List Poisoned) → AlikeWords ps qs → AlikeWords ps' qs' → AlikeWords (if t then ps else ps') (if t then qs else qs')
+if_alike true ps qs ps' qs' h g = h
+if_alike false ps qs ps' qs' h g = g
+
+first_of_words : (ps qs : List Poisoned) → AlikeWords ps qs → AlikeWords (take 1 ps) (take 1 qs)
+first_of_words [] [] h = tt
+first_of_words (p ∷ ps) (q ∷ qs) h = (h.0, tt)
+first_of_words [] (q ∷ qs) h = absurd h
+first_of_words (p ∷ ps) [] h = absurd h
+
+but_first_words : (ps qs : List Poisoned) → AlikeWords ps qs → AlikeWords (drop 1 ps) (drop 1 qs)
+but_first_words [] [] h = tt
+but_first_words (p ∷ ps) (q ∷ qs) h = h.1
+but_first_words [] (q ∷ qs) h = absurd h
+but_first_words (p ∷ ps) [] h = absurd h
+
+binary_blinded : (o : BinOp) (ps qs : List Poisoned) → AlikeWords ps qs → AlikeWords (blind_binary true o ps) (blind_binary true o qs)
+binary_blinded Add ps qs h = h
+binary_blinded Sub ps qs h = h
+binary_blinded Mul ps qs h = h
+binary_blinded Udiv ps qs h = first_of_words ps qs h
+binary_blinded Sdiv ps qs h = first_of_words ps qs h
+binary_blinded Urem ps qs h = first_of_words ps qs h
+binary_blinded Srem ps qs h = first_of_words ps qs h
+binary_blinded Shl ps qs h = but_first_words ps qs h
+binary_blinded Lshr ps qs h = but_first_words ps qs h
+binary_blinded Ashr ps qs h = but_first_words ps qs h
+binary_blinded And ps qs h = tt
+binary_blinded Or ps qs h = tt
+binary_blinded Xor ps qs h = tt
+
+blinded_alike : (o : Op) (ps qs : List Poisoned) → AlikeWords ps qs → AlikeWords (blinded true o ps) (blinded true o qs)
+blinded_alike (op.Binary o f t a b) ps qs h = if_alike (has_flag f) ps qs _ _ h (binary_blinded o ps qs h)
+blinded_alike (op.Icmp p f t a b) ps qs h = if_alike (has_flag f) ps qs [] [] h tt
+blinded_alike (op.Cast o f t a u) ps qs h = if_alike (has_flag f) ps qs [] [] h tt
+blinded_alike (op.Freeze t a) ps qs h = h
+blinded_alike (op.Gep t a is) ps qs h = h
+blinded_alike _ ps qs h = tt
+
+-- no poisoned bit is lost at an instruction, where its checks let it run
+abbrev pub QuietAt : Setting → Module → Inst → Frame Poisoned → World → Type 0
+QuietAt s m i fr w =
+    (u : World) → check_uses s (here s m fr).site (operands i.op) (read_all (read_poisoned s fr.values) (operands i.op) (here s m fr).root) (uses s.func (here s m fr).main i.op) w ≡ Does u
+    → union (map (λ p. p.mask) (blinded true i.op (read_all (read_poisoned s fr.values) (operands i.op) (here s m fr).root))) ≡ 0
+
+-- what an instruction of a valid module has: a cast that stands, and words of 64 bits at most
+pub record InstStands (s : Setting) (m : Module) (fr : Frame Poisoned) (i : Inst) : Type 0 where
+  pub cast : CastStands i.op
+  pub small : CallStands i.op (read_all (read_poisoned s fr.values) (operands i.op) (here s m fr).root)
+
+-- the instruction that is due stands, and loses no poisoned bit
+abbrev pub DueStands : Setting → Module → List Inst → Frame Poisoned → Type 0
+DueStands s m [] fr = Unit {0}
+DueStands s m (i ∷ is) fr = InstStands s m fr i
+
+-- what is due is no blind use
+abbrev pub DueQuiet : Setting → Module → List Inst → Frame Poisoned → World → Type 0
+DueQuiet s m [] fr w = Unit {0}
+DueQuiet s m (i ∷ is) fr w = QuietAt s m i fr w
+
+-- what is due in the innermost frame is as a step under two fills asks
+abbrev pub TopStands : Setting → Module → List (Frame Poisoned) → Type 0
+TopStands s m [] = Unit {0}
+TopStands s m (fr ∷ below) = DueStands s m (rest_of m fr) fr
+
+-- what is due in the innermost frame is no blind use
+abbrev pub TopQuiet : Setting → Module → List (Frame Poisoned) → World → Type 0
+TopQuiet s m [] w = Unit {0}
+TopQuiet s m (fr ∷ below) w = DueQuiet s m (rest_of m fr) fr w
+
+module _ (s : Setting) (fill : List ℕ) (one : s.limit ≡ 1) (m : Module) where
+  module _ (fr : Frame Poisoned) (below others_below : List (Frame Poisoned)) (same_below : LowFrames below others_below) (i : Inst) (stands : InstStands s m fr i)
+      (values : Name → Poisoned) (alike_values : AlikeValues fr.values values) where
+    h : Here
+    h = here s m fr
+
+    -- the words of the operands
+    abbrev ps : List Poisoned
+    ps = read_all (read_poisoned s fr.values) (operands i.op) (here s m fr).root
+
+    -- the same under the other fill
+    abbrev qs : List Poisoned
+    qs = read_all (read_poisoned (refill s fill) values) (operands i.op) (here s m fr).root
+
+    words : AlikeWords (read_all (read_poisoned s fr.values) (operands i.op) (here s m fr).root) (read_all (read_poisoned (refill s fill) values) (operands i.op) (here s m fr).root)
+    words = read_all_alike (read_poisoned s fr.values) (read_poisoned (refill s fill) values) (read_low s fill fr.values values alike_values) (operands i.op) (here s m fr).root
+
+    blind_masks : union (map (λ p. p.mask) (blinded true i.op ps)) ≡ 0 → union (map (λ p. p.mask) (blinded true i.op qs)) ≡ 0
+    blind_masks z = ap union (sym (masks_same (blinded true i.op ps) (blinded true i.op qs) (blinded_alike i.op ps qs words))) ∙ z
+
+    act_alike : (w : World) (b : ℕ → ℕ) → BytesAlike w b → FitWorld w → ((x : ℕ) → b x < 256) → AllPassed w ps (uses s.func (here s m fr).main i.op) → union (map (λ p. p.mask) (blinded true i.op ps)) ≡ 0
+        → MovesAlike (shadow_act by_formulas s m i (here s m fr) ps fr below w) (shadow_act by_formulas (refill s fill) m i (here s m fr) qs (revalued fr values) others_below (other w b))
+    act_alike w b alike fit others passed quiet =
+        moves_alike s fill m (here s m fr).site i.result ps qs words _ _ _ _ fr (revalued fr values) (frame_alike fr values alike_values) below others_below same_below _ _
+        (inst_alike s fill (here s m fr) ((here s m fr).root + count_undefs (operands i.op) + 1) w b alike fit others (read_poisoned s fr.values) (read_poisoned (refill s fill) values)
+        (read_low s fill fr.values values alike_values) (here s m fr).root i.op stands.cast stands.small quiet passed)
+
+    checked_alike : (w : World) (b : ℕ → ℕ) → BytesAlike w b → FitWorld w → ((x : ℕ) → b x < 256) → (e d : Effect)
+        → (((u : World) → e ≡ Does u → union (map (λ p. p.mask) (blinded true i.op ps)) ≡ 0))
+        → CheckedAlike (AllPassed w ps (uses s.func (here s m fr).main i.op)) w (other w b) e d
+        → MovesAlike (after_checks by_formulas s m i (here s m fr) ps fr below e) (after_checks by_formulas (refill s fill) m i (here s m fr) qs (revalued fr values) others_below d)
+    checked_alike w b alike fit others (Does u) (Does z) quiet c =
+        let none = quiet u refl in
+        subst (λ k. MovesAlike (shadow_act by_formulas s m i (here s m fr) ps fr below (count_blind k u))
+        (shadow_act by_formulas (refill s fill) m i (here s m fr) qs (revalued fr values) others_below (count_blind (union (map (λ p. p.mask) (blinded true i.op qs))) z))) (sym none)
+        (subst (λ k. MovesAlike (shadow_act by_formulas s m i (here s m fr) ps fr below u)
+        (shadow_act by_formulas (refill s fill) m i (here s m fr) qs (revalued fr values) others_below (count_blind k z))) (sym (blind_masks none))
+        (subst (λ k. MovesAlike (shadow_act by_formulas s m i (here s m fr) ps fr below k) (shadow_act by_formulas (refill s fill) m i (here s m fr) qs (revalued fr values) others_below z)) (sym c.1)
+        (subst (λ k. MovesAlike (shadow_act by_formulas s m i (here s m fr) ps fr below w) (shadow_act by_formulas (refill s fill) m i (here s m fr) qs (revalued fr values) others_below k)) (sym c.2)
+        (act_alike w b alike fit others c.0 none))))
+    checked_alike w b alike fit others (Ends e u) (Ends x z) quiet c = c
+    checked_alike w b alike fit others (Does u) (Ends x z) quiet c = absurd c
+    checked_alike w b alike fit others (Does u) (Gives x z) quiet c = absurd c
+    checked_alike w b alike fit others (Does u) (Goes x z) quiet c = absurd c
+    checked_alike w b alike fit others (Does u) (Enters x z) quiet c = absurd c
+    checked_alike w b alike fit others (Does u) (Leaves z) quiet c = absurd c
+    checked_alike w b alike fit others (Ends e u) (Does z) quiet c = absurd c
+    checked_alike w b alike fit others (Ends e u) (Gives x z) quiet c = absurd c
+    checked_alike w b alike fit others (Ends e u) (Goes x z) quiet c = absurd c
+    checked_alike w b alike fit others (Ends e u) (Enters x z) quiet c = absurd c
+    checked_alike w b alike fit others (Ends e u) (Leaves z) quiet c = absurd c
+    checked_alike w b alike fit others (Gives e u) x quiet c = absurd c
+    checked_alike w b alike fit others (Goes e u) x quiet c = absurd c
+    checked_alike w b alike fit others (Enters e u) x quiet c = absurd c
+    checked_alike w b alike fit others (Leaves u) x quiet c = absurd c
+
+    inst_moves : (w : World) (b : ℕ → ℕ) → BytesAlike w b → FitWorld w → ((x : ℕ) → b x < 256) → QuietAt s m i fr w
+        → MovesAlike (shadow_inst by_formulas s m i fr below w) (shadow_inst by_formulas (refill s fill) m i (revalued fr values) others_below (other w b))
+    inst_moves w b alike fit others quiet =
+        checked_alike w b alike fit others _ _ quiet
+        (uses_alike s fill one (here s m fr).site (operands i.op) ps qs words w b alike fit.bytes others (uses s.func (here s m fr).main i.op) (ready s.func (here s m fr).main i.op ps))
+
+  -- ---- the instruction that is due
+
+  first_moves : (fr : Frame Poisoned) (below others_below : List (Frame Poisoned)) → LowFrames below others_below → (is : List Inst) → DueStands s m is fr
+      → (values : Name → Poisoned) → AlikeValues fr.values values → (w : World) (b : ℕ → ℕ) → BytesAlike w b → FitWorld w → ((x : ℕ) → b x < 256) → DueQuiet s m is fr w
+      → MovesAlike (shadow_first by_formulas s m is fr below w) (shadow_first by_formulas (refill s fill) m is (revalued fr values) others_below (other w b))
+  first_moves fr below others_below k [] stands values h w b alike fit others quiet = (refl, low_other w b alike)
+  first_moves fr below others_below k (i ∷ is) stands values h w b alike fit others quiet = inst_moves fr below others_below k i stands values h w b alike fit others quiet
+
+  frames_move : (fs gs : List (Frame Poisoned)) → LowFrames fs gs → TopStands s m fs → (w : World) (b : ℕ → ℕ) → BytesAlike w b → FitWorld w → ((x : ℕ) → b x < 256) → TopQuiet s m fs w
+      → MovesAlike (shadow_frames by_formulas s m fs w) (shadow_frames by_formulas (refill s fill) m gs (other w b))
+  frames_move [] [] k stands w b alike fit others quiet = (refl, low_other w b alike)
+  frames_move (f ∷ fs) (g ∷ gs) k stands w b alike fit others quiet =
+      by_values f (λ e. MovesAlike (shadow_first by_formulas s m (rest_of m f) f fs w) (shadow_first by_formulas (refill s fill) m (rest_of m e) e gs (other w b)))
+      (λ u h. first_moves f fs gs k.1 (rest_of m f) stands u h w b alike fit others quiet) g k.0
+  frames_move [] (g ∷ gs) k stands w b alike fit others quiet = absurd k
+  frames_move (f ∷ fs) [] k stands w b alike fit others quiet = absurd k
+
+  moved_steps : (x y : Outcome Poisoned) → MovesAlike x y → StepsAlike (shadow_moved x) (shadow_moved y)
+  moved_steps (On fs w) (On gs v) h = record { frames = h.0; world = h.1 }
+  moved_steps (Over e w) (Over x v) h = h
+  moved_steps (On fs w) (Over x v) h = absurd h
+  moved_steps (Over e w) (On gs v) h = absurd h
+
+  -- a step from states alike leads to states alike, or both runs end alike
+  pub step_alike : (c d : ShadowState) → LowEqual c d → TopStands s m c.frames → FitWorld c.world → ((x : ℕ) → d.world.bytes x < 256) → TopQuiet s m c.frames c.world
+      → StepsAlike (shadow_step by_formulas s m c) (shadow_step by_formulas (refill s fill) m d)
+  step_alike c d h stands fit others quiet =
+      moved_steps (shadow_frames by_formulas s m c.frames c.world) (shadow_frames by_formulas (refill s fill) m d.frames d.world)
+      (subst (λ v. MovesAlike (shadow_frames by_formulas s m c.frames c.world) (shadow_frames by_formulas (refill s fill) m d.frames v)) (other_is c.world d.world h.world)
+      (frames_move c.frames d.frames h.frames stands c.world d.world.bytes h.world.bytes fit others quiet))

@@ -1,0 +1,6 @@
+pub mod Alike
+pub mod Effects
+pub mod ExampleWorlds
+pub mod First
+pub mod Passed
+pub mod Placed
