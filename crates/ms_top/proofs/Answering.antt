@@ -45,7 +45,8 @@ use Rattle.ms_report.specs.declared.refusals.Refusal.TheVariants.{Read as Of, Ch
 use Rattle.ms_top.specs.Command.{form_of, options_of, module_limit, input_limit, setup_of, FitRun}
 use Rattle.ms_report.specs.FaultTexts.{fault_line}
 use Rattle.ms_report.specs.RefusalTexts.{IsNumbered, IsReadRefusal, HasLine, refusal_text, wants_memory}
-use Rattle.ms_top.specs.Said.{says, answer_of_result, IsRun, IsAnswerOfRun, IsAnswerToValid, IsAnswerToModule, IsAnswerToReading, IsAnswerToText}
+use Rattle.ms_top.specs.Checking.{IsAnswerOfCheck, IsAnswerToCheck}
+use Rattle.ms_top.specs.Said.{says, answer_of_result, IsBuilt, IsRun, IsAnswerOfRun, IsAnswerToValid, IsAnswerToModule, IsAnswerToReading, IsAnswerToText}
 
 -- ---- runs
 
@@ -80,13 +81,21 @@ Tells b m = (b ≡ true) ↔ HasFirstForm m
 pub of_first_form : (b : Bool) (m : Module) → Tells b m → b ≡ true → HasFirstForm m
 of_first_form b m tells h = tells.0 h
 
-pub not_built : (b : Bool) (command : Command) (input : List ℕ) (m : Module) (a : Answer) → Tells b m → b ≡ false → a ≡ says 5 (codes "refused 99: not built yet\n")
-    → IsAnswerToValid Faithful command input m a
-not_built b command input m a tells h is = inr (λ first. true≢false (sym (tells.1 first) ∙ h), is)
+pub not_built : (b : Bool) (m : Module) (u : Setup) (a : Answer) → Tells b m → b ≡ false → a ≡ says 5 (codes "refused 99: not built yet\n") → IsAnswerToCheck m u a
+not_built b m u a tells h is = inr (λ first. true≢false (sym (tells.1 first) ∙ h), is)
 
-pub answered : (b : Bool) (command : Command) (input : List ℕ) (m : Module) (a : Answer) → Tells b m → b ≡ true → IsAnswerOfRun Faithful command input m a
-    → IsAnswerToValid Faithful command input m a
-answered b command input m a tells h is = inl (tells.0 h, is)
+pub checked : (b : Bool) (m : Module) (u : Setup) (a : Answer) → Tells b m → b ≡ true → IsAnswerOfCheck m u a → IsAnswerToCheck m u a
+checked b m u a tells h is = inl (tells.0 h, is)
+
+-- `run` takes every module
+pub run_valid : (command : Command) (file : List ℕ) (o : Options) (input : List ℕ) (m : Module) (s : Setup) (a : Answer)
+    → command ≡ Run file o → s ≡ setup_of (options_of command) input → a ≡ answer_of_result m (plain m s) → IsAnswerToValid Faithful command input m a
+run_valid command file o input m s a is setup_is answers = inl (subst (λ c. IsBuilt c m) (sym is) tt, run_answer command file o input m s a is setup_is answers)
+
+pub check_valid : (command : Command) (file : List ℕ) (o : Options) (input : List ℕ) (m : Module) (s : Setup) (a : Answer)
+    → command ≡ Check file o → s ≡ setup_of (options_of command) input → IsAnswerToCheck m s a → IsAnswerToValid Faithful command input m a
+check_valid command file o input m s a is setup_is (inl (first, answers)) = inl (subst (λ c. IsBuilt c m) (sym is) first, check_answer command file o input m s a is setup_is answers)
+check_valid command file o input m s a is setup_is (inr (none, said)) = inr (λ built. none (subst (λ c. IsBuilt c m) is built), said)
 
 -- ---- validity
 

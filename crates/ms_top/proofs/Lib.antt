@@ -5,3 +5,4 @@ pub mod Ok
 pub mod OneAnswer
 pub mod Reading
 pub mod Statuses
+pub mod Saying

@@ -9,7 +9,7 @@ use Rattle.ms_top.specs.declared.answers.Answer.{Answer}
 use Rattle.ms_top.specs.declared.commands.Command.{Command}
 use Rattle.ms_top.specs.Command.{command_of}
 use Rattle.ms_top.specs.Files.{Counted, FilesRead, Whole, Fault, Long}
-use Rattle.ms_top.specs.Said.{answer_of, end_status, IsAnswerOfRun, IsAnswerToValid, IsAnswerToModule, IsAnswerToReading, IsAnswerToText, IsAnswerToTexts, IsAnswerToFiles, IsAnswerFor, IsAnswer}
+use Rattle.ms_top.specs.Said.{answer_of, end_status, IsAnswerOfRun, IsAnswerToValid, IsAnswerToModule, IsAnswerToReading, IsAnswerToText, IsAnswerToTexts, IsAnswerToFiles, IsAnswerToCommand, IsAnswerFor, IsAnswer}
 
 with-status : (a : Answer) (s : ℕ) (out err : List ℕ) → a ≡ answer_of s out err → s ≢ 7 → a.status ≢ 7
 with-status a s out err is other seven = other (sym (ap (λ x. x.status) is) ∙ seven)
@@ -55,6 +55,9 @@ module _ (Gives : Module → Module → Type 0) where
   for-not_seven : (c : Counted) (o : Option Command) (a : Answer) → IsAnswerFor Gives c o a → a.status ≢ 7
   for-not_seven c None a is = with-status a 2 _ _ is (λ h. omega arith)
   for-not_seven c (Some command) a (r, can, is) = to_files-not_seven command r a is
+
+  pub command-not_seven : (c : Counted) (command : Command) (a : Answer) → IsAnswerToCommand Gives c command a → a.status ≢ 7
+  command-not_seven c command a is = for-not_seven c (Some command) a is
 
   pub not_seven : (c : Counted) (words : List (List ℕ)) (a : Answer) → IsAnswer Gives c words a → a.status ≢ 7
   not_seven c words a is = for-not_seven c (command_of words) a is

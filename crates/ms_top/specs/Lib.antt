@@ -2,3 +2,4 @@ pub mod Command
 pub mod Files
 pub mod Said
 pub mod Parts
+pub mod Checking

@@ -53,6 +53,11 @@ status_of r = if eqb (length r.reports) 0 then end_status r.«end» else 77
 abbrev pub answer_of_result : Module → RunResult → Answer
 answer_of_result m r = answer_of (status_of r) r.output (report_text_of m r ++ closing_of m r false)
 
+-- `run` takes every valid module, and `check` those of the first form
+abbrev pub IsBuilt : Command → Module → Type 0
+IsBuilt (Run file options) m = Unit {0}
+IsBuilt (Check file options) m = HasFirstForm m
+
 -- ---- from the words to the answer, for a pass that gives modules so
 
 module _ (Gives : Module → Module → Type 0) where
@@ -65,11 +70,11 @@ module _ (Gives : Module → Module → Type 0) where
   abbrev pub IsAnswerOfRun : Command → List ℕ → Module → Answer → Type 0
   IsAnswerOfRun command input m a = (j : Module) × IsRun command m j × (a ≡ answer_of_result m (plain j (setup_of (options_of command) input)))
 
-  -- the answer for a valid module: a run where it is of the first form, and else that it can't be run yet
+  -- the answer for a valid module: a run, but that modules beyond the first form can't be checked yet
   abbrev pub IsAnswerToValid : Command → List ℕ → Module → Answer → Type 0
   IsAnswerToValid command input m a =
-      (HasFirstForm m × IsAnswerOfRun command input m a)
-      ⊎ ((HasFirstForm m → ⊥) × (a ≡ says 5 (codes "refused 99: not built yet\n")))
+      (IsBuilt command m × IsAnswerOfRun command input m a)
+      ⊎ ((IsBuilt command m → ⊥) × (a ≡ says 5 (codes "refused 99: not built yet\n")))
 
   -- the answer for a module: why it isn't valid, or else the answer for a valid one
   abbrev pub IsAnswerToModule : Command → List ℕ → Module → Answer → Type 0
@@ -138,14 +143,37 @@ WritesPart w a =
 
 -- ---- the whole call
 
--- the answer that was asked for, or want of memory
-abbrev pub MayAnswer : (Module → Module → Type 0) → Counted → List (List ℕ) → Answer → Type 0
-MayAnswer Gives c words a = IsAnswer Gives c words a ⊎ (a ≡ no_memory)
+-- an answer of which so much is known, or want of memory, was written whole, and has this status
+abbrev pub IsWritten : (Answer → Type 0) → Written → ℕ → Type 0
+IsWritten Is w status = (a : Answer) × ((Is a ⊎ (a ≡ no_memory)) × (a.status ≡ status) × WritesWhole w a)
 
--- an answer with this status was written whole
+-- a first part of such an answer was written
+abbrev pub IsPartlyWritten : (Answer → Type 0) → Written → Type 0
+IsPartlyWritten Is w = (a : Answer) × ((Is a ⊎ (a ≡ no_memory)) × WritesPart w a)
+
+-- what these words ask for was said
 abbrev pub IsSaid : (Module → Module → Type 0) → Counted → Written → List (List ℕ) → ℕ → Type 0
-IsSaid Gives c w words status = (a : Answer) × (MayAnswer Gives c words a × (a.status ≡ status) × WritesWhole w a)
+IsSaid Gives c w words status = IsWritten (IsAnswer Gives c words) w status
 
--- a first part of an answer was written
 abbrev pub IsPartlySaid : (Module → Module → Type 0) → Counted → Written → List (List ℕ) → Type 0
-IsPartlySaid Gives c w words = (a : Answer) × (MayAnswer Gives c words a × WritesPart w a)
+IsPartlySaid Gives c w words = IsPartlyWritten (IsAnswer Gives c words) w
+
+-- what a command asks for was said
+abbrev pub IsDone : (Module → Module → Type 0) → Counted → Written → Command → ℕ → Type 0
+IsDone Gives c w command status = IsWritten (IsAnswerToCommand Gives c command) w status
+
+abbrev pub IsPartlyDone : (Module → Module → Type 0) → Counted → Written → Command → Type 0
+IsPartlyDone Gives c w command = IsPartlyWritten (IsAnswerToCommand Gives c command) w
+
+-- an answer that was found, or want of memory where none was
+abbrev pub IsFound : {E : Type 0} → Result Answer E → Answer → Type 0
+IsFound (Ok b) a = a ≡ b
+IsFound (Err e) a = a ≡ no_memory
+
+-- it was written whole, and has this status
+abbrev pub IsTold : {E : Type 0} → Result Answer E → Written → ℕ → Type 0
+IsTold r w status = (a : Answer) × (IsFound r a × (a.status ≡ status) × WritesWhole w a)
+
+-- a first part of it was written
+abbrev pub IsPartlyTold : {E : Type 0} → Result Answer E → Written → Type 0
+IsPartlyTold r w = (a : Answer) × (IsFound r a × WritesPart w a)

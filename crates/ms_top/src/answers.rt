@@ -1,27 +1,27 @@
 //! What is said of a module's text.
 ghost use Rattle.std.specs.Prelude.{◌≡◌, ◌≤◌, ℕ, ◌++◌, false, codes, length, IfOk};
-ghost use Rattle.ms_ir.specs.declared.syntax.Module.{Module as Made};
 ghost use Rattle.ms_runs.specs.Faithful.{Faithful};
 ghost use Rattle.ms_runs.specs.Limits.{WithinLimits};
 ghost use Rattle.ms_runs.specs.Plain.{plain};
 ghost use Rattle.ms_valid.specs.Formed.{Formed};
 ghost use Rattle.ms_pass.specs.FirstForm.{HasFirstForm, HasFewInsts};
-ghost use Rattle.ms_straight.specs.Straight.{IsStraight};
 ghost use Rattle.ms_report.specs.RefusalTexts.{HasLine, refusal_text, wants_memory as is_want_of_memory};
 ghost use Rattle.ms_report.specs.ReportTexts.{report_text_of};
 ghost use Rattle.ms_report.specs.RunTexts.{closing_of};
 ghost use Rattle.ms_top.specs.Command.{options_of, setup_of as setup_with, module_limit, input_limit, FitRun};
-ghost use Rattle.ms_top.specs.Said.{answer_of_result, says, status_of as status_of_run, IsAnswerOfRun, IsAnswerToValid, IsAnswerToModule, IsAnswerToText};
+ghost use Rattle.ms_top.specs.Said.{answer_of_result, says, status_of as status_of_run, IsAnswerToValid, IsAnswerToModule, IsAnswerToText};
+ghost use Rattle.ms_top.specs.Checking.{IsAnswerOfCheck, IsAnswerToCheck};
 
 use crate::commands::{Command, Options};
 use ms_bits::{Bytes, NoMemory};
-use ms_check::{CheckError, check};
+use ms_check::{CheckError, CheckedModule, check};
 use ms_first as first;
 use ms_ir::Module;
 use ms_read_body::ReadError;
 use ms_read_top::read;
 use ms_report::{Refusal, closing, refusal_line, report_text};
 use ms_runs::{End, RunResult, Setup};
+use ms_runtime::run;
 use std::alloc::{AllocError, Global};
 
 /// A status, and the texts for the standard output and the standard error.
@@ -77,7 +77,7 @@ fn answer_to_module(
     ensures { IfOk result (λ a. IsAnswerToModule Faithful command.now input.now m a) }
 {
     match check(alloc, m) {
-        Ok(checked) => answer_to_valid(alloc, command, checked.module(), input),
+        Ok(checked) => answer_to_valid(alloc, command, &checked, input),
         Err((cause, _)) => refused(alloc, &Refusal::Check(cause)),
     }
 }
@@ -86,40 +86,18 @@ fn answer_to_module(
 fn answer_to_valid(
     alloc: Global,
     command: &Command,
-    m: &Module,
+    m: &CheckedModule,
     input: &[u8],
 ) -> Result<Answer, NoMemory>
-    requires formed { Formed m.now }
     requires few { HasFewInsts m.now }
     requires limits { FitRun (options_of command.now) }
     requires input { length input.now ≤ input_limit }
     ensures { IfOk result (λ a. IsAnswerToValid Faithful command.now input.now m.now a) }
 {
-    if first::is_first(alloc, m)? {
-        answer_to_first(alloc, command, m, input)
-    } else {
-        not_built(alloc)
-    }
-}
-
-/// The answer to a command on a module of the first form of at most 2^22 instructions.
-fn answer_to_first(
-    alloc: Global,
-    command: &Command,
-    m: &Module,
-    input: &[u8],
-) -> Result<Answer, NoMemory>
-    requires formed { Formed m.now }
-    requires first { HasFirstForm m.now }
-    requires few { HasFewInsts m.now }
-    requires limits { FitRun (options_of command.now) }
-    requires input { length input.now ≤ input_limit }
-    ensures { IfOk result (λ a. IsAnswerOfRun Faithful command.now input.now m.now a) }
-{
     let setup = setup_of(alloc, command.options(), input)?;
     match command {
-        Command::Run { .. } => answer_of_run(alloc, m, m, &setup),
-        Command::Check { .. } => answer_of_check(alloc, m, &setup),
+        Command::Run { .. } => answer_of_run(alloc, m, &setup),
+        Command::Check { .. } => answer_to_check(alloc, m, &setup),
     }
 }
 
@@ -137,26 +115,41 @@ fn setup_of(alloc: Global, options: &Options, input: &[u8]) -> Result<Setup, NoM
     })
 }
 
+/// The answer for the run of a valid module.
+fn answer_of_run(alloc: Global, m: &CheckedModule, setup: &Setup) -> Result<Answer, NoMemory>
+    requires limits { WithinLimits setup.now }
+    ensures { IfOk result (λ a. a ≡ answer_of_result m.now (plain m.now setup.now)) }
+{
+    m.is_valid();
+    let result = run(alloc, m, setup)?;
+    answer_of(alloc, m.module(), result)
+}
+
+/// The answer to `check` on a valid module: modules beyond the first form can't be checked yet.
+fn answer_to_check(alloc: Global, m: &CheckedModule, setup: &Setup) -> Result<Answer, NoMemory>
+    requires few { HasFewInsts m.now }
+    requires limits { WithinLimits setup.now }
+    ensures { IfOk result (λ a. IsAnswerToCheck m.now setup.now a) }
+{
+    m.is_valid();
+    let module = m.module();
+    if first::is_first(alloc, module)? {
+        answer_of_check(alloc, module, setup)
+    } else {
+        not_built(alloc)
+    }
+}
+
 /// The answer for the run of what is instrumented for `m`.
 fn answer_of_check(alloc: Global, m: &Module, setup: &Setup) -> Result<Answer, NoMemory>
     requires formed { Formed m.now }
     requires first { HasFirstForm m.now }
     requires few { HasFewInsts m.now }
     requires limits { WithinLimits setup.now }
-    ensures { IfOk result (λ a. (j : Made) × Faithful m.now j × (a ≡ answer_of_result m.now (plain j setup.now))) }
+    ensures { IfOk result (λ a. IsAnswerOfCheck m.now setup.now a) }
 {
     let instrumented = first::instrument(alloc, m)?;
-    answer_of_run(alloc, m, &instrumented, setup)
-}
-
-/// The answer for the run of `j`, with places by the names of `m`.
-fn answer_of_run(alloc: Global, m: &Module, j: &Module, setup: &Setup) -> Result<Answer, NoMemory>
-    requires formed { Formed m.now }
-    requires straight { IsStraight j.now }
-    requires limits { WithinLimits setup.now }
-    ensures { IfOk result (λ a. a ≡ answer_of_result m.now (plain j.now setup.now)) }
-{
-    let result = first::run(alloc, j, setup)?;
+    let result = first::run(alloc, &instrumented, setup)?;
     answer_of(alloc, m, result)
 }
 

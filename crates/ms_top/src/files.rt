@@ -45,8 +45,8 @@ fn no_command(alloc: Global) -> Result<Answer, NoMemory>
     Ok(Answer::on_err(alloc, 2, line))
 }
 
-/// The answer to a command: its files are read in order, the module's first.
-fn answer_to_command<F: Files>(
+/// The answer to a command: its files are read in order, the module's first. The one error is want of memory.
+pub fn answer_to_command<F: Files>(
     alloc: Global,
     command: &Command,
     files: &mut F,

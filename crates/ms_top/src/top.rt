@@ -1,14 +1,16 @@
-//! The top call.
-ghost use Rattle.std.specs.Prelude.{◌≡◌, ◌≢◌, ◌≤◌, ◌⊎◌, None};
+//! The top calls.
+ghost use Rattle.std.specs.Prelude.{◌≡◌, ◌≢◌, ◌≤◌, ◌⊎◌, None, IfOk};
 ghost use Rattle.ms_io.specs.Counts.{Rose};
 ghost use Rattle.ms_runs.specs.Faithful.{Faithful};
-ghost use Rattle.ms_top.specs.Command.{command_of};
+ghost use Rattle.ms_top.specs.Command.{command_of, options_of, FitRun};
 ghost use Rattle.ms_top.specs.Files.{counted};
-ghost use Rattle.ms_top.specs.Said.{IsSaid, IsPartlySaid, between};
+ghost use Rattle.ms_top.specs.Said.{IsSaid, IsPartlySaid, IsDone, IsPartlyDone, IsTold, IsPartlyTold, between};
 
-use crate::files::answer_to;
+use crate::answers::Answer;
+use crate::commands::Command;
+use crate::files::{answer_to, answer_to_command};
 use crate::pieces::say;
-use ms_bits::Text;
+use ms_bits::{NoMemory, Text};
 use ms_io::{Files, Sink};
 use std::alloc::Global;
 
@@ -44,7 +46,45 @@ pub fn msan<F: Files, O: Sink, E: Sink>(
     ensures err_faults_never_fall { E.faults err.old ≤ E.faults err.new }
     ensures unread { command_of words.now ≡ None → files.new ≡ files.old }
 {
-    match answer_to(alloc, words, files) {
+    put_answer(answer_to(alloc, words, files), out, err)
+}
+
+/// Does what a command asks for, as `msan` does for words: its module's file is read, and its input where it has one; its
+/// run has the fill, the bound of steps and the limit of reports of its options. The statuses are those of `msan`.
+pub fn job<F: Files, O: Sink, E: Sink>(
+    alloc: Global,
+    command: &Command,
+    files: &mut F,
+    out: &mut O,
+    err: &mut E,
+) -> u8
+    requires { FitRun (options_of command.now) }
+    ensures said { result ≢ 7 → IsDone Faithful
+        (counted (F.held files.old) (F.faults files.old) (F.faults files.new) (F.taken files.old) (F.taken files.new))
+        (between (O.written out.old) (E.written err.old) (O.written out.new) (E.written err.new)) command.now result }
+    ensures partly_said { result ≡ 7 → IsPartlyDone Faithful
+        (counted (F.held files.old) (F.faults files.old) (F.faults files.new) (F.taken files.old) (F.taken files.new))
+        (between (O.written out.old) (E.written err.old) (O.written out.new) (E.written err.new)) command.now }
+    ensures failed { result ≡ 7 → Rose (O.faults out.old) (O.faults out.new) ⊎ Rose (E.faults err.old) (E.faults err.new) }
+    ensures holdings_stay { F.held files.new ≡ F.held files.old }
+    ensures faults_never_fall { F.faults files.old ≤ F.faults files.new }
+    ensures taken_never_falls { F.taken files.old ≤ F.taken files.new }
+    ensures out_faults_never_fall { O.faults out.old ≤ O.faults out.new }
+    ensures err_faults_never_fall { E.faults err.old ≤ E.faults err.new }
+{
+    put_answer(answer_to_command(alloc, command, files), out, err)
+}
+
+/// Writes an answer, or that memory is wanting, and answers its status.
+fn put_answer<O: Sink, E: Sink>(answer: Result<Answer, NoMemory>, out: &mut O, err: &mut E) -> u8
+    requires { IfOk answer (λ a. a.status ≢ 7) }
+    ensures told { result ≢ 7 → IsTold answer (between (O.written out.old) (E.written err.old) (O.written out.new) (E.written err.new)) result }
+    ensures partly_told { result ≡ 7 → IsPartlyTold answer (between (O.written out.old) (E.written err.old) (O.written out.new) (E.written err.new)) }
+    ensures failed { result ≡ 7 → Rose (O.faults out.old) (O.faults out.new) ⊎ Rose (E.faults err.old) (E.faults err.new) }
+    ensures out_faults_never_fall { O.faults out.old ≤ O.faults out.new }
+    ensures err_faults_never_fall { E.faults err.old ≤ E.faults err.new }
+{
+    match answer {
         Ok(answer) => say(
             out,
             err,

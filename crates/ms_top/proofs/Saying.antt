@@ -1,0 +1,14 @@
+-- What was written of an answer, by what is known of it.
+use Rattle.std.proofs.Common.{◌≡◌, ◌⊎◌, ℕ, Result, Ok, Err, sym, subst, inl, inr}
+use Rattle.std.specs.Prelude.{IfOk}
+use Rattle.ms_top.specs.declared.answers.Answer.{Answer}
+use Rattle.ms_top.specs.Said.{Written, IsTold, IsPartlyTold, IsWritten, IsPartlyWritten}
+
+module _ {E : Type 0} (Is : Answer → Type 0) (w : Written) where
+  pub told : (r : Result Answer E) (status : ℕ) → IfOk r Is → IsTold r w status → IsWritten Is w status
+  told (Ok b) status h (a, (same, at, whole)) = (a, (inl (subst Is (sym same) h), at, whole))
+  told (Err e) status h (a, (same, at, whole)) = (a, (inr same, at, whole))
+
+  pub partly_told : (r : Result Answer E) → IfOk r Is → IsPartlyTold r w → IsPartlyWritten Is w
+  partly_told (Ok b) h (a, (same, part)) = (a, (inl (subst Is (sym same) h), part))
+  partly_told (Err e) h (a, (same, part)) = (a, (inr same, part))
