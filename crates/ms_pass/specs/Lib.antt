@@ -1,5 +1,4 @@
-pub mod Pass
-pub mod Law
-pub mod FirstForm
-pub mod FirstNumbers
-pub mod Known
+pub mod Valued
+pub mod Counted
+pub mod Passed
+pub mod Ready

@@ -1,120 +1,67 @@
-//! The walk over the instructions of a block.
-ghost use Rattle.std.specs.Prelude.{◌≡◌, ℕ, ◌+◌, ◌*◌, ◌<◌, ◌≤◌, ◌^◌, ◌++◌, ◌∷◌, [], true, All, Option, length, IfOk, OnOk};
-ghost use Rattle.ms_ir.specs.declared.syntax.Name.{Name as NameOf};
-ghost use Rattle.ms_ir.specs.Code.{roots_in as roots_in_of, one_undef, over_insts};
-ghost use Rattle.ms_rules.specs.Arguments.{env_of, here_of};
-ghost use Rattle.ms_rules.specs.Emit.{Given, emit_lists};
-ghost use Rattle.ms_pass.specs.Pass.{next_here, pass_insts};
-ghost use Rattle.ms_pass.specs.FirstNumbers.{IsSimple, first_env, first_here, one_result};
+//! The blocks of a function.
+ghost use Rattle.std.specs.Prelude.{◌≡◌, ◌+◌, ◌++◌, [], ◌∷◌, ◌<◌, ◌≤◌, ◌^◌, All, length, IfOk, OnOk};
+ghost use Rattle.ms_ir.specs.Code.{over_blocks};
+ghost use Rattle.ms_valid.specs.Formed.{count_written};
+ghost use Rattle.ms_rules.specs.Scopes.{env_of, given_of};
+ghost use Rattle.ms_rules.specs.Taken.{IsTaken};
+ghost use Rattle.ms_pass.specs.Counted.{here_of, past_insts, past_blocks, AreSmall};
+ghost use Rattle.ms_pass.specs.Passed.{with_insts, with_blocks};
 
-use crate::vectors::{append, push};
-use ms_bits::{Duplicate, NoMemory};
-use ms_ir::{Inst, Op, Operand};
-use ms_rules::{Emitted, Environment, emit};
+use crate::counts::Counts;
+use crate::insts::push_insts;
+use ms_bits::{Duplicate, List, NoMemory};
+use ms_ir::Block;
+use ms_rules::Scope;
+use ms_rules_code::Code;
 use std::alloc::Global;
 
-fn count_undef(operand: &Operand) -> u32
-    ensures count { result ≡ one_undef operand.now }
-    ensures few { result ≤ 1 }
+/// Adds the instrumented form of a block that begins with code, and answers what the next one begins with: no code, and
+/// the number of the next inserted result. The counts become those behind it.
+fn push_block(
+    alloc: Global,
+    done: &mut Vec<Block>,
+    scope: &Scope<'_, '_>,
+    counts: &mut Counts,
+    start: Code,
+    block: &Block,
+) -> Result<Code, NoMemory>
+    requires values { length scope.now.values.now ≤ 2 ^ 30 }
+    requires taken { All (IsTaken (given_of scope.now).types) block.now.insts }
+    requires small { AreSmall (past_insts (given_of scope.now).func counts.old block.now.insts) }
+    requires room { (with_insts (given_of scope.now) (env_of scope.now) (here_of counts.old scope.now.main) block.now.insts start).next < 2 ^ 40 }
+    ensures block { OnOk result (done.new.items ≡ done.old.items ++ record block.now { insts = (with_insts (given_of scope.now) (env_of scope.now) (here_of counts.old scope.now.main) block.now.insts start).code } ∷ []) }
+    ensures next { IfOk result (λ c. c ≡ record { code = []; next = (with_insts (given_of scope.now) (env_of scope.now) (here_of counts.old scope.now.main) block.now.insts start).next }) }
+    ensures counts { OnOk result (counts.new ≡ past_insts (given_of scope.now).func counts.old block.now.insts) }
 {
-    match operand {
-        Operand::Undef | Operand::Poison => 1,
-        _ => 0,
-    }
+    let mut code = start;
+    push_insts(alloc, &mut code, scope, counts, block.insts.as_slice())?;
+    let next = code.next();
+    let name = block.name.copy(alloc)?;
+    let insts = List::from_vec(code.into_insts());
+    done.push(Block { name, insts })?;
+    Ok(Code::new(alloc, next))
 }
 
-// The number of roots of an instruction.
-fn count_roots(inst: &Inst) -> u32
-    requires { IsSimple inst.now }
-    ensures roots { (func : NameOf → Option ℕ) → result ≡ roots_in_of func inst.now }
-    ensures few { result ≤ 3 }
+/// The instrumented form of blocks of which the first begins with code. The counts become those behind them. The one
+/// error is want of memory.
+pub fn passed_blocks(
+    alloc: Global,
+    scope: &Scope<'_, '_>,
+    counts: &mut Counts,
+    start: Code,
+    blocks: &[Block],
+) -> Result<List<Block>, NoMemory>
+    requires values { length scope.now.values.now ≤ 2 ^ 30 }
+    requires taken { All (λ b. All (IsTaken (given_of scope.now).types) b.insts) blocks.now }
+    requires small { AreSmall (past_blocks (given_of scope.now).func counts.old blocks.now) }
+    requires room { start.next + over_blocks count_written (with_blocks (given_of scope.now) (env_of scope.now) (here_of counts.old scope.now.main) blocks.now start) < 2 ^ 40 }
+    ensures blocks { IfOk result (λ bs. bs ≡ with_blocks (given_of scope.now) (env_of scope.now) (here_of counts.old scope.now.main) blocks.now start) }
+    ensures counts { OnOk result (counts.new ≡ past_blocks (given_of scope.now).func counts.old blocks.now) }
 {
-    match &inst.op {
-        Op::Binary { a, b, .. } => count_undef(a) + count_undef(b),
-        Op::Alloca { count, .. } => count_undef(count) + 1,
-        Op::Load { addr, .. } => count_undef(addr),
-        Op::Store { value, addr, .. } => count_undef(value) + count_undef(addr),
-        Op::Ret { value: Some(value) } => count_undef(&value.1),
-        _ => 0,
+    let mut done = Vec::with_capacity(alloc, blocks.len())?;
+    let mut code = start;
+    for block in blocks {
+        code = push_block(alloc, &mut done, scope, counts, code, block)?;
     }
-}
-
-/// The number of instructions with a result.
-pub fn count_results(insts: &[Inst]) -> u32
-    requires { length insts.now ≤ 2 ^ 22 }
-    ensures results { result ≡ over_insts one_result insts.now }
-    ensures few { result ≤ length insts.now }
-{
-    let mut count = 0u32;
-    for inst in insts {
-        if inst.result.is_some() {
-            count += 1;
-        }
-    }
-    count
-}
-
-// The instrumented instructions so far, and where the next one stands.
-#[derive(Drop)]
-struct Walk {
-    env: Environment,
-    next: u32,
-    insts: Vec<Inst>,
-}
-
-impl Walk {
-    // Adds an instruction between the lists that are inserted round it.
-    fn add(&mut self, alloc: Global, inst: &Inst) -> Result<(), NoMemory>
-        requires simple { IsSimple inst.now }
-        requires main { self.old.env.main ≡ true }
-        requires few { self.old.env.size ≤ 2 ^ 22 }
-        requires sites { self.old.env.site < 2 ^ 30 }
-        requires roots { self.old.env.root < 2 ^ 30 }
-        requires room { self.old.next < 2 ^ 30 }
-        ensures insts { (given : Given) → OnOk result (self.new.insts.items ≡ self.old.insts.items ++ ((emit_lists given (env_of self.old.env) (here_of self.old.env) inst.now self.old.next).before
-            ++ (inst.now ∷ (emit_lists given (env_of self.old.env) (here_of self.old.env) inst.now self.old.next).after))) }
-        ensures next { (given : Given) → OnOk result (self.new.next ≡ (emit_lists given (env_of self.old.env) (here_of self.old.env) inst.now self.old.next).next) }
-        ensures place { (given : Given) → OnOk result (here_of self.new.env ≡ next_here given (here_of self.old.env) inst.now) }
-        ensures size { self.new.env.size ≡ self.old.env.size }
-        ensures little { OnOk result (self.new.next ≤ self.old.next + 12) }
-        ensures site { OnOk result (self.new.env.site ≡ self.old.env.site + 1) }
-        ensures root { OnOk result (self.new.env.root ≤ self.old.env.root + 3) }
-    {
-        let Emitted {
-            before,
-            after,
-            next,
-        } = emit(alloc, inst, &self.env, self.next)?;
-        append(&mut self.insts, before)?;
-        push(&mut self.insts, inst.copy(alloc)?)?;
-        append(&mut self.insts, after)?;
-        self.env.site += 1;
-        self.env.root += count_roots(inst);
-        self.next = next;
-        Ok(())
-    }
-}
-
-/// The instructions of the first block of `main`, each between the lists that are inserted round it, where the
-/// function has `size` results. The one error is want of memory. Linear in the number of instructions.
-pub fn instrument_block(alloc: Global, insts: &[Inst], size: u32) -> Result<Vec<Inst>, NoMemory>
-    requires simple { All IsSimple insts.now }
-    requires few { length insts.now ≤ 2 ^ 22 }
-    requires results { size ≤ 2 ^ 22 }
-    ensures { (given : Given) → IfOk result (λ code. code.items ≡ (pass_insts given (first_env size) insts.now first_here (2 * size + 1)).code) }
-{
-    let mut walk = Walk {
-        env: Environment {
-            site: 1,
-            root: 0,
-            main: true,
-            size,
-        },
-        next: 2 * size + 1,
-        insts: Vec::new(alloc),
-    };
-    for inst in insts {
-        walk.add(alloc, inst)?;
-    }
-    Ok(walk.insts)
+    Ok(List::from_vec(done))
 }

@@ -1,9 +1,12 @@
-//! The pass: shadow code is inserted into a module.
+//! The pass: shadow code is inserted into a module, after Stepanov and Serebryany (CGO 2015).
 #![tactic(auto)]
 
 mod blocks;
+mod counts;
+mod functions;
 mod instruments;
-pub mod laws;
-mod vectors;
+mod insts;
+mod modules;
+mod values;
 
 pub use instruments::instrument;

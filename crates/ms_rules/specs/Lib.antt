@@ -1,6 +1,7 @@
-pub mod Tasks
-pub mod Emit
-pub mod Match
-pub mod First
-pub mod Arguments
-pub mod Pieces
+pub mod Scopes
+pub mod Taken
+pub mod Placed
+pub mod Tracking
+pub mod Callees
+pub mod Around
+pub mod Edges

@@ -1,18 +1,17 @@
-//! The shadow code that is inserted round one instruction.
+//! What is inserted round one instruction.
 #![tactic(auto)]
 
-mod checks;
-mod code;
-mod environment;
-mod insertion;
-pub mod instruction_laws;
-pub mod laws;
-mod names;
-mod planes;
-mod results;
+mod before;
+mod behind;
+mod callees;
+mod copies;
+mod edges;
+mod emitting;
+mod entries;
+mod phis;
+mod scopes;
 mod tracked;
 
-pub use environment::Environment;
-pub use insertion::{Emitted, emit};
-pub use names::runtime_name;
-pub use tracked::count_undef;
+pub use emitting::push_inst;
+pub use entries::push_parameters;
+pub use scopes::Scope;

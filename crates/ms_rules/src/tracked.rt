@@ -1,144 +1,165 @@
-//! Operands with the operands that hold their masks and origins.
-ghost use Rattle.std.specs.Prelude.{◌≡◌, ◌+◌, ◌-◌, ◌<◌, ◌≤◌, ◌^◌, IfOk};
-ghost use Rattle.ms_ir.specs.Code.{one_undef};
-ghost use Rattle.ms_ir.specs.Layout.{width_of as width_in};
-ghost use Rattle.ms_rules.specs.Emit.{local_mask as local_mask_of, local_origin as local_origin_of, mask_operand as mask_operand_of, origin_operand as origin_operand_of};
-ghost use Rattle.ms_rules.specs.Arguments.{env_of, tracked_of};
+//! The operands of an instruction with what is known of their masks and origins.
+ghost use Rattle.std.specs.Prelude.{◌≡◌, ◌+◌, ◌-◌, ◌++◌, ◌<◌, ◌≤◌, ◌^◌, [], ◌∷◌, All, length, map, IfOk, OnOk};
+ghost use Rattle.ms_ir.specs.Code.{one_undef, operands};
+ghost use Rattle.ms_ir.specs.Layout.{width_of};
+ghost use Rattle.ms_ir.specs.ValueTypes.{type_of};
+ghost use Rattle.ms_rules_code.specs.Steps.{tracked_of, shadow_mask, shadow_origin};
+ghost use Rattle.ms_tasks.specs.Environments.{local_mask, local_origin, mask_operand, origin_operand};
+ghost use Rattle.ms_rules.specs.Scopes.{env_of};
+ghost use Rattle.ms_rules.specs.Tracking.{tracked_one, operand_at, IsTracked};
 
-use crate::environment::Environment;
-use crate::names::{mask_name, origin_name};
+use crate::scopes::Scope;
+use ms_bits::NoMemory;
 use ms_bits::words::limit;
-use ms_bits::{Boxed, Duplicate, NoMemory};
-use ms_ir::{Name, Operand, Ty};
+use ms_ir::{Name, Op, Operand, ValueType};
+use ms_rules_code::{Shadow, TrackedOperand};
 use std::alloc::Global;
 
-/// The bits of a word of a type, 64 for a pointer and 0 for what is no word.
-pub fn width_of(ty: &Ty) -> u8
-    ensures { result ≡ width_in ty.now }
-{
-    match ty {
-        Ty::Int(width) => *width,
-        Ty::Ptr => 64,
-        _ => 0,
-    }
-}
-
-/// The word of so many bits that are all set.
-pub fn ones(width: u8) -> u64
-    requires { width ≤ 64 }
-    ensures { result ≡ 2 ^ width - 1 }
-{
-    (limit(width) - 1) as u64
-}
-
-/// Whether an operand is undefined, and so a root, as a number.
-pub fn count_undef(operand: &Operand) -> u32
-    ensures count { result ≡ one_undef operand.now }
-    ensures small { result ≤ 1 }
-{
-    match operand {
-        Operand::Undef | Operand::Poison => 1,
-        _ => 0,
-    }
-}
-
-fn local_mask(alloc: Global, env: &Environment, name: &Name) -> Result<Operand, NoMemory>
-    requires { env.now.size ≤ 2 ^ 30 }
-    ensures { IfOk result (λ o. o ≡ local_mask_of (env_of env.now) name.now) }
-{
-    match env.number(name) {
-        Some(value) => Ok(Operand::Local(mask_name(alloc, value)?)),
-        None => Ok(Operand::Int(0)),
-    }
-}
-
-fn local_origin(alloc: Global, env: &Environment, name: &Name) -> Result<Operand, NoMemory>
-    requires { env.now.size ≤ 2 ^ 30 }
-    ensures { IfOk result (λ o. o ≡ local_origin_of (env_of env.now) name.now) }
-{
-    match env.number(name) {
-        Some(value) => Ok(Operand::Local(origin_name(alloc, value)?)),
-        None => Ok(Operand::Int(0)),
-    }
-}
-
-fn mask_operand(
-    alloc: Global,
-    env: &Environment,
-    width: u8,
-    operand: &Operand,
-) -> Result<Operand, NoMemory>
-    requires few { env.now.size ≤ 2 ^ 30 }
-    requires narrow { width ≤ 64 }
-    ensures { IfOk result (λ o. o ≡ mask_operand_of (env_of env.now) width operand.now) }
-{
-    match operand {
-        Operand::Undef | Operand::Poison => Ok(Operand::Int(ones(width))),
-        Operand::Local(name) => local_mask(alloc, env, name),
-        _ => Ok(Operand::Int(0)),
-    }
-}
-
-fn origin_operand(
-    alloc: Global,
-    env: &Environment,
-    root: u32,
-    operand: &Operand,
-) -> Result<Operand, NoMemory>
-    requires { env.now.size ≤ 2 ^ 30 }
-    ensures { IfOk result (λ o. o ≡ origin_operand_of (env_of env.now) root operand.now) }
-{
-    match operand {
-        Operand::Undef | Operand::Poison => Ok(Operand::Int(root as u64 + 1)),
-        Operand::Local(name) => local_origin(alloc, env, name),
-        _ => Ok(Operand::Int(0)),
-    }
-}
-
-/// An operand with its type, and with the operands that hold its mask and its origin.
+/// The operands of an instruction with what is known of them, and how many roots stand in the text before them and behind
+/// them.
 #[derive(Drop)]
-pub struct TrackedOperand {
-    pub ty: Ty,
-    pub operand: Operand,
-    pub mask: Operand,
-    pub origin: Operand,
+pub struct Tracking<'a> {
+    pub operands: Vec<TrackedOperand<'a>>,
+    pub before: u64,
+    pub behind: u64,
 }
 
-// Puts an operand together with the operands that hold its mask and its origin.
-fn boxed(
-    alloc: Global,
-    ty: Ty,
-    operand: &Operand,
-    mask: Operand,
-    origin: Operand,
-) -> Result<Boxed<TrackedOperand>, NoMemory>
-    ensures { IfOk result (λ t. tracked_of t ≡ record { ty = ty; operand = operand.now; mask = mask; origin = origin }) }
+/// What is known of a value of the function.
+fn value_shadow(scope: &Scope<'_, '_>, name: &Name) -> Shadow
+    requires { length scope.now.values.now ≤ 2 ^ 30 }
+    ensures mask { shadow_mask result ≡ local_mask (env_of scope.now) name.now }
+    ensures origin { shadow_origin result ≡ local_origin (env_of scope.now) name.now }
 {
-    let operand = operand.copy(alloc)?;
-    Boxed::new(
-        alloc,
-        TrackedOperand {
-            ty,
-            operand,
-            mask,
-            origin,
-        },
-    )
+    match scope.number(name) {
+        Some(value) => Shadow::Value(value),
+        None => Shadow::Clean,
+    }
 }
 
-/// Tracks an operand of a type before which so many roots stand. The one error is want of memory.
-pub fn track(
-    alloc: Global,
-    env: &Environment,
-    root: u32,
-    ty: Ty,
-    operand: &Operand,
-) -> Result<Boxed<TrackedOperand>, NoMemory>
-    requires few { env.now.size ≤ 2 ^ 30 }
-    requires narrow { width_in ty ≤ 64 }
-    ensures { IfOk result (λ t. tracked_of t ≡ record { ty = ty; operand = operand.now; mask = mask_operand_of (env_of env.now) (width_in ty) operand.now; origin = origin_operand_of (env_of env.now) root operand.now }) }
+/// What is known of an undefined operand of a width with a number as a root.
+fn undefined_shadow(width: u8, root: u64) -> Shadow
+    requires { width ≤ 64 }
+    ensures { result ≡ Shadow.Undefined (2 ^ width - 1) root }
 {
-    let mask = mask_operand(alloc, env, width_of(&ty), operand)?;
-    let origin = origin_operand(alloc, env, root, operand)?;
-    boxed(alloc, ty, operand, mask, origin)
+    let ones = (limit(width) - 1) as u64;
+    Shadow::Undefined(ones, root)
+}
+
+/// What is known of an operand of a width before which so many roots stand.
+fn shadow_of(scope: &Scope<'_, '_>, width: u8, root: u64, operand: &Operand) -> Shadow
+    requires few { length scope.now.values.now ≤ 2 ^ 30 }
+    requires narrow { width ≤ 64 }
+    requires roots { root + 1 < 2 ^ 64 }
+    ensures mask { shadow_mask result ≡ mask_operand (env_of scope.now) width operand.now }
+    ensures origin { shadow_origin result ≡ origin_operand (env_of scope.now) root operand.now }
+{
+    match operand {
+        Operand::Undef => undefined_shadow(width, root + 1),
+        Operand::Poison => undefined_shadow(width, root + 1),
+        Operand::Local(name) => value_shadow(scope, name),
+        _ => Shadow::Clean,
+    }
+}
+
+/// An operand with what is known of it, where so many roots stand before it.
+fn track_one<'a>(
+    scope: &Scope<'_, '_>,
+    root: u64,
+    ty: ValueType<'a>,
+    operand: &'a Operand,
+) -> TrackedOperand<'a>
+    requires few { length scope.now.values.now ≤ 2 ^ 30 }
+    requires narrow { width_of (type_of ty) ≤ 64 }
+    requires roots { root + 1 < 2 ^ 64 }
+    ensures { tracked_of result ≡ tracked_one (env_of scope.now) root (type_of ty.entry, operand.entry.now) }
+{
+    let clean = TrackedOperand {
+        ty,
+        operand,
+        shadow: Shadow::Clean,
+    };
+    TrackedOperand {
+        ty,
+        operand,
+        shadow: shadow_of(scope, clean.width(), root, operand),
+    }
+}
+
+/// 1 for an undefined operand, which is a root.
+fn one_undefined(operand: &Operand) -> u64
+    ensures { result ≡ one_undef operand.now }
+{
+    match operand {
+        Operand::Undef => 1,
+        Operand::Poison => 1,
+        _ => 0,
+    }
+}
+
+impl<'a> Tracking<'a> {
+    /// Adds an operand behind the others.
+    fn push(
+        &mut self,
+        scope: &Scope<'_, '_>,
+        ty: ValueType<'a>,
+        operand: &'a Operand,
+    ) -> Result<(), NoMemory>
+        requires few { length scope.now.values.now ≤ 2 ^ 30 }
+        requires narrow { width_of (type_of ty) ≤ 64 }
+        requires roots { self.old.behind + 1 < 2 ^ 64 }
+        ensures are { OnOk result (map tracked_of self.new.operands.items ≡ map tracked_of self.old.operands.items ++ tracked_one (env_of scope.now) self.old.behind (type_of ty.entry, operand.entry.now) ∷ []) }
+        ensures behind { OnOk result (self.new.behind ≡ self.old.behind + one_undef operand.entry.now) }
+        ensures before { OnOk result (self.new.before ≡ self.old.before) }
+    {
+        self.operands
+            .push(track_one(scope, self.behind, ty, operand))?;
+        self.behind += one_undefined(operand);
+        Ok(())
+    }
+
+    /// Adds the operand of an operation with a place.
+    fn push_operand(
+        &mut self,
+        scope: &Scope<'_, '_>,
+        op: &'a Op,
+        place: usize,
+    ) -> Result<(), NoMemory>
+        requires few { length scope.now.values.now ≤ 2 ^ 30 }
+        requires narrow { All (λ o. width_of o.0 ≤ 64) (operands op.now) }
+        requires place { place < length (operands op.now) }
+        requires roots { self.old.behind + 1 < 2 ^ 64 }
+        ensures are { OnOk result (map tracked_of self.new.operands.items ≡ map tracked_of self.old.operands.items ++ tracked_one (env_of scope.now) self.old.behind (operand_at (operands op.entry.now) place) ∷ []) }
+        ensures behind { OnOk result (self.new.behind ≡ self.old.behind + one_undef (operand_at (operands op.entry.now) place).1) }
+        ensures before { OnOk result (self.new.before ≡ self.old.before) }
+    {
+        match (op.operand(place), op.operand_type(place)) {
+            (Some(operand), Some(ty)) => self.push(scope, ty, operand),
+            _ => unreachable!(),
+        }
+    }
+}
+
+/// The operands of an operation with what is known of them, where so many roots stand before them. The one error is want of
+/// memory.
+pub fn track<'a>(
+    alloc: Global,
+    scope: &Scope<'_, '_>,
+    root: u64,
+    op: &'a Op,
+) -> Result<Tracking<'a>, NoMemory>
+    requires few { length scope.now.values.now ≤ 2 ^ 30 }
+    requires narrow { All (λ o. width_of o.0 ≤ 64) (operands op.now) }
+    requires roots { root < 2 ^ 40 }
+    ensures is { IfOk result (IsTracked (env_of scope.now) op.now) }
+    ensures before { IfOk result (λ t. t.before ≡ root) }
+{
+    let mut tracking = Tracking {
+        operands: Vec::new(alloc),
+        before: root,
+        behind: root,
+    };
+    for place in 0..op.operand_count() {
+        tracking.push_operand(scope, op, place)?;
+    }
+    Ok(tracking)
 }

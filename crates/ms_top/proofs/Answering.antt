@@ -2,27 +2,20 @@
 use Rattle.std.proofs.Common.{◌≡◌, ◌≢◌, ◌↔◌, ℕ, suc, ◌+◌, ◌^◌, ◌<◌, ◌≤◌, Bool, true, false, List, [], ◌∷◌, length, codes, Option, Some, None, Result, Ok, Err, refl, ap, sym, ◌∙◌, subst, inl, inr, arith, lit≤}
 use Rattle.std.specs.Prelude.{unwrap_or, option_map, slice_get, slice_index_or, nat_lt, is_some, is_none, IfSome, IsTrue}
 use Rattle.std.proofs.lemmas.Bool.{true≢false, and_from, lt-ltb}
-use Rattle.std.proofs.lemmas.List.Elements.{All-cons, All-nil}
 use Rattle.ms_lex.specs.declared.errors.LexError.{LexError}
 use Rattle.ms_lex.specs.declared.errors.LexError.TheVariants as lexing
 use Rattle.ms_lex.specs.Tokens.{tokens_of}
-use Rattle.ms_ir.specs.declared.syntax.Block.{Block}
-use Rattle.ms_ir.specs.declared.syntax.Func.{Func}
 use Rattle.ms_ir.specs.declared.syntax.Module.{Module}
+use Rattle.ms_runs.specs.declared.runs.RunResult.{RunResult}
 use Rattle.ms_runs.specs.declared.runs.Setup.{Setup}
 use Rattle.ms_runs.specs.Plain.{plain}
-use Rattle.ms_runs.specs.Faithful.{Faithful}
 use Rattle.ms_runs.specs.Limits.{WithinLimits as RunFits}
 use Rattle.ms_ir.specs.declared.forms.Form.{Form}
 use Rattle.ms_ir.specs.declared.forms.Form.TheVariants.{Plain, Instrumented}
 use Rattle.ms_grammar.specs.declared.refusals.Refusal.{Refusal}
 use Rattle.ms_grammar.specs.declared.refusals.Refusal.TheVariants as refusal
-use Rattle.ms_grammar.specs.Bodies.{max_instructions}
-use Rattle.ms_grammar.specs.Bounds.{instructions_among, WithinLimits}
 use Rattle.ms_grammar.specs.Causes.{printed_number}
-use Rattle.ms_grammar.specs.Modules.{instructions_of}
 use Rattle.ms_grammar.specs.Texts.{Reads, max_bytes, max_tokens}
-use Rattle.ms_grammar.proofs.Bounds.{module_within}
 use Rattle.ms_read_body.specs.Calls.{what_of}
 use Rattle.ms_read_body.specs.declared.errors.What.{What}
 use Rattle.ms_read_body.specs.declared.errors.ReadError.{ReadError}
@@ -34,33 +27,23 @@ use Rattle.ms_valid.specs.Refusals.{Fault, IsRefused}
 use Rattle.ms_valid.specs.Valid.{Valid}
 use Rattle.ms_check.specs.declared.errors.CheckError.{CheckError}
 use Rattle.ms_check.specs.Faults.{fault_of}
+use Rattle.ms_valid.specs.Uninstrumented.{CanInstrument}
 use Rattle.ms_text_laws.proofs.FormedModules.{read_formed}
-use Rattle.ms_pass.specs.FirstForm.{HasFirstForm, HasFewInsts}
+use Rattle.ms_text_laws.proofs.SmallLimits.{can_instrument}
 use Rattle.ms_top.specs.declared.answers.Answer.{Answer}
 use Rattle.ms_top.specs.declared.commands.Command.{Command}
-use Rattle.ms_top.specs.declared.commands.Command.TheVariants.{Run, Check}
+use Rattle.ms_top.specs.declared.commands.Command.TheVariants.{Instrument, Run, Check}
 use Rattle.ms_top.specs.declared.commands.Options.{Options}
 use Rattle.ms_report.specs.declared.refusals.Refusal.{Refusal as Cause}
 use Rattle.ms_report.specs.declared.refusals.Refusal.TheVariants.{Read as Of, Check as OfCheck}
-use Rattle.ms_top.specs.Command.{form_of, options_of, module_limit, input_limit, setup_of, FitRun}
+use Rattle.ms_top.specs.Command.{form_of, module_limit, input_limit, setup_of, FitRun}
+use Rattle.ms_top.specs.Instrumented.{IsInstrumented}
+use Rattle.ms_top.specs.Parts.{IsReady, IsInstrumentedRun}
 use Rattle.ms_report.specs.FaultTexts.{fault_line}
 use Rattle.ms_report.specs.RefusalTexts.{IsNumbered, IsReadRefusal, HasLine, refusal_text, wants_memory}
-use Rattle.ms_top.specs.Checking.{IsAnswerOfCheck, IsAnswerToCheck}
-use Rattle.ms_top.specs.Said.{says, answer_of_result, IsBuilt, IsRun, IsAnswerOfRun, IsAnswerToValid, IsAnswerToModule, IsAnswerToReading, IsAnswerToText}
+use Rattle.ms_top.specs.Said.{says, answer_of_result, IsAnswerOfInstrument, IsAnswerOfCheck, IsAnswerToValid, IsAnswerToModule, IsAnswerToReading, IsAnswerToText}
 
 -- ---- runs
-
--- the module itself is what `run` runs
-pub run_answer : (command : Command) (file : List ℕ) (o : Options) (input : List ℕ) (m : Module) (s : Setup) (a : Answer)
-    → command ≡ Run file o → s ≡ setup_of (options_of command) input → a ≡ answer_of_result m (plain m s) → IsAnswerOfRun Faithful command input m a
-run_answer command file o input m s a is setup_is answers =
-    (m, subst (λ c. IsRun Faithful c m m) (sym is) refl, answers ∙ ap (λ t. answer_of_result m (plain m t)) setup_is)
-
--- a module that is faithful to it is what `check` runs
-pub check_answer : (command : Command) (file : List ℕ) (o : Options) (input : List ℕ) (m : Module) (s : Setup) (a : Answer)
-    → command ≡ Check file o → s ≡ setup_of (options_of command) input → (j : Module) × Faithful m j × (a ≡ answer_of_result m (plain j s)) → IsAnswerOfRun Faithful command input m a
-check_answer command file o input m s a is setup_is (j, faithful, answers) =
-    (j, subst (λ c. IsRun Faithful c m j) (sym is) faithful, answers ∙ ap (λ t. answer_of_result m (plain j t)) setup_is)
 
 -- the setup of options within the limits is within them, with an input of at most the limit
 pub within : (o : Options) (input : List ℕ) (s : Setup) → FitRun o → length input ≤ input_limit → s ≡ setup_of o input → RunFits s
@@ -73,29 +56,27 @@ within o input s fit short is = subst RunFits (sym is) (record {
   reports = fit.reports;
 })
 
--- ---- modules
+-- ---- valid modules
 
-abbrev Tells : Bool → Module → Type 0
-Tells b m = (b ≡ true) ↔ HasFirstForm m
+pub instrument_valid : (command : Command) (file input : List ℕ) (m : Module) (a : Answer) → command ≡ Instrument file → IsAnswerOfInstrument IsInstrumented m a
+    → IsAnswerToValid IsInstrumented command input m a
+instrument_valid command file input m a is answers = subst (λ c. IsAnswerToValid IsInstrumented c input m a) (sym is) answers
 
-pub of_first_form : (b : Bool) (m : Module) → Tells b m → b ≡ true → HasFirstForm m
-of_first_form b m tells h = tells.0 h
+pub run_valid : (command : Command) (file : List ℕ) (o : Options) (input : List ℕ) (m : Module) (a : Answer) → command ≡ Run file o
+    → a ≡ answer_of_result m (plain m (setup_of o input)) → IsAnswerToValid IsInstrumented command input m a
+run_valid command file o input m a is answers = subst (λ c. IsAnswerToValid IsInstrumented c input m a) (sym is) answers
 
-pub not_built : (b : Bool) (m : Module) (u : Setup) (a : Answer) → Tells b m → b ≡ false → a ≡ says 5 (codes "refused 99: not built yet\n") → IsAnswerToCheck m u a
-not_built b m u a tells h is = inr (λ first. true≢false (sym (tells.1 first) ∙ h), is)
+pub check_valid : (command : Command) (file : List ℕ) (o : Options) (input : List ℕ) (m : Module) (a : Answer) → command ≡ Check file o
+    → IsAnswerOfCheck IsInstrumented (setup_of o input) m a → IsAnswerToValid IsInstrumented command input m a
+check_valid command file o input m a is answers = subst (λ c. IsAnswerToValid IsInstrumented c input m a) (sym is) answers
 
-pub checked : (b : Bool) (m : Module) (u : Setup) (a : Answer) → Tells b m → b ≡ true → IsAnswerOfCheck m u a → IsAnswerToCheck m u a
-checked b m u a tells h is = inl (tells.0 h, is)
+-- the run of the instrumented form
+pub instrumented_run : (m j : Module) (s : Setup) (r : RunResult) → IsInstrumented m j → r ≡ plain j s → IsInstrumentedRun m s r
+instrumented_run m j s r i is = (j, i, is)
 
--- `run` takes every module
-pub run_valid : (command : Command) (file : List ℕ) (o : Options) (input : List ℕ) (m : Module) (s : Setup) (a : Answer)
-    → command ≡ Run file o → s ≡ setup_of (options_of command) input → a ≡ answer_of_result m (plain m s) → IsAnswerToValid Faithful command input m a
-run_valid command file o input m s a is setup_is answers = inl (subst (λ c. IsBuilt c m) (sym is) tt, run_answer command file o input m s a is setup_is answers)
-
-pub check_valid : (command : Command) (file : List ℕ) (o : Options) (input : List ℕ) (m : Module) (s : Setup) (a : Answer)
-    → command ≡ Check file o → s ≡ setup_of (options_of command) input → IsAnswerToCheck m s a → IsAnswerToValid Faithful command input m a
-check_valid command file o input m s a is setup_is (inl (first, answers)) = inl (subst (λ c. IsBuilt c m) (sym is) first, check_answer command file o input m s a is setup_is answers)
-check_valid command file o input m s a is setup_is (inr (none, said)) = inr (λ built. none (subst (λ c. IsBuilt c m) is built), said)
+pub check_answer : (m n : Module) (s t : Setup) (r : RunResult) (a : Answer) → n ≡ m → s ≡ t → IsInstrumentedRun m s r → a ≡ answer_of_result n r
+    → IsAnswerOfCheck IsInstrumented t m a
+check_answer m n s t r a same given q is = (q.0, q.1, is ∙ ap (λ k. answer_of_result k r) same ∙ ap (answer_of_result m) (q.2 ∙ ap (plain q.0) given))
 
 -- ---- validity
 
@@ -107,17 +88,17 @@ pub check_has_line : (cause : CheckError) → wants_memory (OfCheck cause) ≡ f
 check_has_line cause h = some_unless_none (fault_of cause) h
 
 faulty : (command : Command) (input : List ℕ) (m : Module) (o : Option Fault) (a : Answer) → IfSome o (IsRefused m) → is_none o ≡ false → a ≡ says 5 (fault_line o)
-    → IsAnswerToModule Faithful command input m a
+    → IsAnswerToModule IsInstrumented command input m a
 faulty command input m None a refused h is = absurd (true≢false h)
 faulty command input m (Some fault) a refused h is = inl (fault, refused, is)
 
 pub invalid_answer : (command : Command) (input : List ℕ) (m : Module) (cause : CheckError) (a : Answer)
-    → IfSome (fault_of cause) (IsRefused m) → wants_memory (OfCheck cause) ≡ false → a ≡ says 5 (refusal_text (OfCheck cause)) → IsAnswerToModule Faithful command input m a
+    → IfSome (fault_of cause) (IsRefused m) → wants_memory (OfCheck cause) ≡ false → a ≡ says 5 (refusal_text (OfCheck cause)) → IsAnswerToModule IsInstrumented command input m a
 invalid_answer command input m cause a refused h is = faulty command input m (fault_of cause) a refused h is
 
-pub valid_answer : (command : Command) (input : List ℕ) (m n : Module) (a : Answer) → n ≡ m → Valid m → IsAnswerToValid Faithful command input n a
-    → IsAnswerToModule Faithful command input m a
-valid_answer command input m n a same valid is = inr (valid, subst (λ k. IsAnswerToValid Faithful command input k a) same is)
+pub valid_answer : (command : Command) (input : List ℕ) (m n : Module) (a : Answer) → n ≡ m → Valid m → IsAnswerToValid IsInstrumented command input n a
+    → IsAnswerToModule IsInstrumented command input m a
+valid_answer command input m n a same valid is = inr (valid, subst (λ k. IsAnswerToValid IsInstrumented command input k a) same is)
 
 -- ---- texts
 
@@ -134,29 +115,16 @@ reading_is form text (Err (e.Lex cause)) read = ((read.lex cause).0 refl, λ non
 reading_is form text (Err (e.Refused number w token place)) read = (read.refused number w token place).0 refl
 reading_is form text (Err e.NoMemory) read = tt
 
--- a module that is read has few instructions
-first_few : (insts others : ℕ) → insts + others ≤ 2 ^ 22 → insts ≤ 2 ^ 22
-first_few insts others h = omega (arith, h)
+-- a module that is read in the plain form can be instrumented
+read_plain : (form : Form) (text : List ℕ) (r : Result Module ReadError) (m : Module) → form ≡ Plain → Read form text r → r ≡ Ok m → CanInstrument m
+read_plain form text r m same read is = can_instrument text m (subst (λ f. Reads f text m) same ((read.«module» m).0 is))
 
-few_in_blocks : (blocks : List Block) (others : ℕ) → instructions_of blocks + others ≤ 2 ^ 22 → length (unwrap_or (option_map (λ b. b.insts) (slice_get blocks 0)) []) ≤ 2 ^ 22
-few_in_blocks [] others h = lit≤ tt
-few_in_blocks (b ∷ rest) others h = omega (arith, h)
-
-few_in_funcs : (funcs : List Func) → instructions_among funcs ≤ 2 ^ 22
-    → length (unwrap_or (option_map (λ b. b.insts) (slice_get (unwrap_or (option_map (λ f. f.blocks) (slice_get funcs 0)) []) 0)) []) ≤ 2 ^ 22
-few_in_funcs [] h = lit≤ tt
-few_in_funcs (f ∷ rest) h = few_in_blocks f.blocks (instructions_among rest) h
-
-most : (form : Form) → max_instructions form ≤ 2 ^ 22
-unfolding max_instructions
-most Plain = lit≤ tt
-most Instrumented = lit≤ tt
-
-few_read : (form : Form) (m : Module) → WithinLimits form m → HasFewInsts m
-few_read form m within = few_in_funcs m.funcs (omega (arith, most form, within.instructions))
-
-pub few_insts : (form : Form) (text : List ℕ) (r : Result Module ReadError) (m : Module) → Read form text r → r ≡ Ok m → HasFewInsts m
-few_insts form text r m read is = few_read form m (module_within form text m ((read.«module» m).0 is))
+-- so what is read for a command is as the command needs it
+pub ready : (command : Command) (form : Form) (text : List ℕ) (r : Result Module ReadError) (m : Module) → form ≡ form_of command → Read form text r → r ≡ Ok m
+    → IsReady command m
+ready (Instrument file) form text r m same read is = read_plain form text r m same read is
+ready (Run file o) form text r m same read is = tt
+ready (Check file o) form text r m same read is = read_plain form text r m same read is
 
 -- numbers that are bytes pass the test for it
 bytes_pass : (text : List ℕ) → ((i : ℕ) → slice_index_or text i 0 < 2 ^ 8) → IsTrue (are_bytes text)
@@ -197,23 +165,24 @@ pub has_line : (form : Form) (text : List ℕ) (r : Result Module ReadError) (ca
 has_line form text r cause read is some = error_has_line form text cause (subst (IsReading form text) is (reading_is form text r read)) some
 
 pub module_answer : (command : Command) (input : List ℕ) (form : Form) (text : List ℕ) (r : Result Module ReadError) (m : Module) (a : Answer)
-    → form ≡ form_of command → Read form text r → r ≡ Ok m → IsAnswerToModule Faithful command input m a → IsAnswerToText Faithful command input text a
+    → form ≡ form_of command → Read form text r → r ≡ Ok m → IsAnswerToModule IsInstrumented command input m a → IsAnswerToText IsInstrumented command input text a
 module_answer command input form text r m a same read is answers =
     (Ok m, subst (λ f. IsReading f text (Ok m)) same (subst (IsReading form text) is (reading_is form text r read)), answers)
 
 error_answer : (command : Command) (input : List ℕ) (cause : ReadError) (a : Answer) → wants_memory (Of cause) ≡ false → a ≡ says 5 (refusal_text (Of cause))
-    → IsAnswerToReading Faithful command input (Err cause) a
+    → IsAnswerToReading IsInstrumented command input (Err cause) a
 error_answer command input (e.Lex cause) a some is = is
 error_answer command input (e.Refused number w token place) a some is = is
 error_answer command input e.NoMemory a some is = absurd (true≢false some)
 
 pub refusal_answer : (command : Command) (input : List ℕ) (form : Form) (text : List ℕ) (r : Result Module ReadError) (cause : ReadError) (a : Answer)
-    → form ≡ form_of command → Read form text r → r ≡ Err cause → wants_memory (Of cause) ≡ false → a ≡ says 5 (refusal_text (Of cause)) → IsAnswerToText Faithful command input text a
+    → form ≡ form_of command → Read form text r → r ≡ Err cause → wants_memory (Of cause) ≡ false → a ≡ says 5 (refusal_text (Of cause)) → IsAnswerToText IsInstrumented command input text a
 refusal_answer command input form text r cause a same read is some answers =
     (Err cause, subst (λ f. IsReading f text (Err cause)) same (subst (IsReading form text) is (reading_is form text r read)), error_answer command input cause a some answers)
 
 -- the limit of a module's file is that of its form
 pub file_limit : (command : Command) (n : ℕ) → n ≤ module_limit command → n ≤ max_bytes (form_of command)
 unfolding max_bytes
+file_limit (Instrument file) n h = h
 file_limit (Run file o) n h = h
 file_limit (Check file o) n h = h

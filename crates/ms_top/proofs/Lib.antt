@@ -4,5 +4,7 @@ pub mod Faithful
 pub mod Ok
 pub mod OneAnswer
 pub mod Reading
-pub mod Statuses
+pub mod SameLines
 pub mod Saying
+pub mod Statuses
+pub mod WrittenRuns

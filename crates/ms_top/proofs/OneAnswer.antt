@@ -4,7 +4,7 @@ use Rattle.std.proofs.lemmas.Option.{same_Some, none-some}
 use Rattle.ms_io.specs.Counts.{Rose}
 use Rattle.ms_io.specs.Reading.{Holdings, IsWholeFile, IsAbsent, IsTooLong}
 use Rattle.ms_ir.specs.declared.syntax.Module.{Module}
-use Rattle.ms_runs.specs.Faithful.{Faithful, Fair}
+use Rattle.ms_runs.specs.Plain.{plain}
 use Rattle.ms_ir.specs.declared.forms.Form.{Form}
 use Rattle.ms_read_body.specs.declared.errors.ReadError.{ReadError}
 use Rattle.ms_read_body.specs.declared.errors.ReadError.TheVariants as e
@@ -14,20 +14,20 @@ use Rattle.ms_valid.specs.Refusals.{Fault as ModuleFault, Duplicate, Unknown, Ty
 use Rattle.ms_valid.proofs.Refused.{invalid}
 use Rattle.ms_check.specs.Faults.{without_path}
 use Rattle.ms_check.proofs.OneAnswer.{one_answer as one_fault}
+use Rattle.ms_written.specs.Modules.{written}
 use Rattle.ms_report.specs.FaultTexts.{fault_text}
 use Rattle.ms_top.specs.declared.answers.Answer.{Answer}
 use Rattle.ms_top.specs.declared.commands.Command.{Command}
-use Rattle.ms_top.specs.declared.commands.Command.TheVariants.{Run, Check}
-use Rattle.ms_top.specs.Command.{default_options, command_of, form_of, options_of, input_files, files_of, setup_of}
+use Rattle.ms_top.specs.declared.commands.Command.TheVariants.{Instrument, Run, Check}
+use Rattle.ms_top.specs.Command.{command_of, form_of, files_of, setup_of}
 use Rattle.ms_top.specs.Files.{Counted, FilesRead, Whole, Fault, Long, behind, IsAtFault, IsLong, CanRead}
-use Rattle.ms_top.specs.Said.{says, DifferInPath, IsAnswerOfRun, IsAnswerToValid, IsAnswerToModule, IsAnswerToReading, IsAnswerToText, IsAnswerToTexts, IsAnswerToFiles, IsAnswerFor, IsAnswer}
-use Rattle.ms_top.proofs.Faithful.{fair_default, shadow_answer, plain_answer}
-use Rattle.ms_top.proofs.Reading.{words_options}
+use Rattle.ms_top.specs.Instrumented.{IsInstrumented}
+use Rattle.ms_top.specs.Said.{answer_of, answer_of_result, says, DifferInPath, IsAnswerToValid, IsAnswerToModule, IsAnswerToReading, IsAnswerToText, IsAnswerToTexts, IsAnswerToFiles, IsAnswerToCommand, IsAnswerFor, IsAnswer}
 
 -- ---- texts
 
 -- a text comes to one thing when it is read, where memory isn't wanting
-one_reading : (form : Form) (text : List ℕ) (r s : Result Module ReadError) → IsReading form text r → IsReading form text s
+pub one_reading : (form : Form) (text : List ℕ) (r s : Result Module ReadError) → IsReading form text r → IsReading form text s
     → r ≢ Err e.NoMemory → s ≢ Err e.NoMemory → s ≡ r
 one_reading form text (Ok m) s is same some other = elim ((module_exactly form text s same m).1 is) [ inl p ↦ p | inr none ↦ absurd (other none) ]
 one_reading form text (Err (e.Lex cause)) s is same some other = elim ((lex_exactly form text s same cause).1 is.0) [ inl p ↦ p | inr none ↦ absurd (other none) ]
@@ -44,42 +44,41 @@ of_faults (Undefined s path) g a b e p q = absurd cc
 of_faults f (Undefined t other) a b e p q = absurd cc
 of_faults f g a b e p q = inl (p ∙ ap (λ x. says 5 (fault_text x)) e ∙ sym q)
 
-of_run : (command : Command) (input : List ℕ) (m : Module) (a b : Answer) → Fair (setup_of (options_of command) input) → IsAnswerOfRun Faithful command input m a
-    → IsAnswerOfRun Faithful command input m b → a ≡ b
-of_run (Run file o) input m a b fair p q = plain_answer file input o m a p ∙ sym (plain_answer file input o m b q)
-of_run (Check file o) input m a b fair p q = shadow_answer file input o m a fair p ∙ sym (shadow_answer file input o m b fair q)
+-- the pass makes one module
+pub made_once : (m j k : Module) → IsInstrumented m j → IsInstrumented m k → j ≡ k
+made_once m j k p q = p.is_pass ∙ sym q.is_pass
 
-module _ (command : Command) (input : List ℕ) (fair : Fair (setup_of (options_of command) input)) where
-  memory_is_there : (r : Result Module ReadError) (a : Answer) → IsAnswerToReading Faithful command input r a → r ≢ Err e.NoMemory
-  memory_is_there r a is none = subst (λ s. IsAnswerToReading Faithful command input s a) none is
+of_valid : (command : Command) (input : List ℕ) (m : Module) (a b : Answer) → IsAnswerToValid IsInstrumented command input m a
+    → IsAnswerToValid IsInstrumented command input m b → a ≡ b
+of_valid (Instrument file) input m a b (j, p, is) (k, q, same) = is ∙ ap (λ n. answer_of 0 (written n) []) (made_once m j k p q) ∙ sym same
+of_valid (Run file o) input m a b p q = p ∙ sym q
+of_valid (Check file o) input m a b (j, p, is) (k, q, same) = is ∙ ap (λ n. answer_of_result m (plain n (setup_of o input))) (made_once m j k p q) ∙ sym same
 
-  of_valid : (m : Module) (a b : Answer) → IsAnswerToValid Faithful command input m a → IsAnswerToValid Faithful command input m b → a ≡ b
-  of_valid m a b (inl (first, p)) (inl (other, q)) = of_run command input m a b fair p q
-  of_valid m a b (inl (first, p)) (inr (none, q)) = absurd (none first)
-  of_valid m a b (inr (none, p)) (inl (first, q)) = absurd (none first)
-  of_valid m a b (inr (none, p)) (inr (other, q)) = p ∙ sym q
+module _ (command : Command) (input : List ℕ) where
+  pub memory_is_there : (r : Result Module ReadError) (a : Answer) → IsAnswerToReading IsInstrumented command input r a → r ≢ Err e.NoMemory
+  memory_is_there r a is none = subst (λ s. IsAnswerToReading IsInstrumented command input s a) none is
 
-  of_module : (m : Module) (a b : Answer) → IsAnswerToModule Faithful command input m a → IsAnswerToModule Faithful command input m b → (a ≡ b) ⊎ DifferInPath a b
+  of_module : (m : Module) (a b : Answer) → IsAnswerToModule IsInstrumented command input m a → IsAnswerToModule IsInstrumented command input m b → (a ≡ b) ⊎ DifferInPath a b
   of_module m a b (inl (f, p, is)) (inl (g, q, same)) = of_faults f g a b (one_fault m f g p q) is same
   of_module m a b (inl (f, p, is)) (inr (valid, q)) = absurd (invalid m f p valid)
   of_module m a b (inr (valid, p)) (inl (g, q, same)) = absurd (invalid m g q valid)
-  of_module m a b (inr (valid, p)) (inr (other, q)) = inl (of_valid m a b p q)
+  of_module m a b (inr (valid, p)) (inr (other, q)) = inl (of_valid command input m a b p q)
 
-  of_reading : (r : Result Module ReadError) (a b : Answer) → IsAnswerToReading Faithful command input r a → IsAnswerToReading Faithful command input r b
+  of_reading : (r : Result Module ReadError) (a b : Answer) → IsAnswerToReading IsInstrumented command input r a → IsAnswerToReading IsInstrumented command input r b
       → (a ≡ b) ⊎ DifferInPath a b
   of_reading (Ok m) a b p q = of_module m a b p q
   of_reading (Err (e.Lex cause)) a b p q = inl (p ∙ sym q)
   of_reading (Err (e.Refused number w token place)) a b p q = inl (p ∙ sym q)
   of_reading (Err e.NoMemory) a b p q = absurd p
 
-  pub of_text : (text : List ℕ) (a b : Answer) → IsAnswerToText Faithful command input text a → IsAnswerToText Faithful command input text b → (a ≡ b) ⊎ DifferInPath a b
+  pub of_text : (text : List ℕ) (a b : Answer) → IsAnswerToText IsInstrumented command input text a → IsAnswerToText IsInstrumented command input text b → (a ≡ b) ⊎ DifferInPath a b
   of_text text a b (r, is, p) (s, same, q) =
       let e = one_reading (form_of command) text r s is same (memory_is_there r a p) (memory_is_there s b q) in
-      of_reading r a b p (subst (λ t. IsAnswerToReading Faithful command input t b) e q)
+      of_reading r a b p (subst (λ t. IsAnswerToReading IsInstrumented command input t b) e q)
 
-pub one_answer : (command : Command) (input text : List ℕ) (a b : Answer) → Fair (setup_of (options_of command) input)
-    → IsAnswerToText Faithful command input text a → IsAnswerToText Faithful command input text b → (a ≡ b) ⊎ DifferInPath a b
-one_answer command input text a b fair p q = of_text command input fair text a b p q
+pub one_answer : (command : Command) (input text : List ℕ) (a b : Answer)
+    → IsAnswerToText IsInstrumented command input text a → IsAnswerToText IsInstrumented command input text b → (a ≡ b) ⊎ DifferInPath a b
+one_answer command input text a b p q = of_text command input text a b p q
 
 -- ---- files
 
@@ -118,32 +117,30 @@ module _ (c : Counted) (files : Holdings) (told : c.told ≡ Some files) (steady
       let f : later ≡ last = one_read rest later last read again in
       p ∙ ap (λ t. behind t later) e ∙ ap (behind other) f ∙ sym q
 
-  -- words give one file, and a setup that is fair
-  of_files : (command : Command) (r : FilesRead) (a b : Answer) → options_of command ≡ default_options → CanRead c (files_of command) r
-      → IsAnswerToFiles Faithful command r a → IsAnswerToFiles Faithful command r b → (a ≡ b) ⊎ DifferInPath a b
-  of_files command (Fault name) a b o can p q = inl (p ∙ sym q)
-  of_files command (Long name) a b o can p q = inl (p ∙ sym q)
-  of_files command (Whole []) a b o can p q = absurd p
-  of_files command (Whole (text ∷ [])) a b o can p q = of_text command [] (subst (λ x. Fair (setup_of x [])) (sym o) fair_default) text a b p q
-  of_files command (Whole (text ∷ input ∷ rest)) a b o can p q = absurd (one_text command text input rest o can)
-    where
-      one_text : (command : Command) (t i : List ℕ) (ts : List (List ℕ)) → options_of command ≡ default_options → CanRead c (files_of command) (Whole (t ∷ i ∷ ts)) → ⊥
-      one_text command t i ts o (inl (f, is)) = absurd cc
-      one_text command t i ts o (inr (inl (long, is))) = absurd cc
-      one_text command t i ts o (inr (inr (first, whole, later, read, is))) =
-          let none : later ≡ Whole [] = subst (λ x. CanRead c (input_files x.input) later) o read in
-          let e : Whole (t ∷ i ∷ ts) ≡ Whole (first ∷ []) = is ∙ ap (behind first) none in
-          absurd cc
-
-  of_command : (command : Command) (a b : Answer) → options_of command ≡ default_options → IsAnswerFor Faithful c (Some command) a → IsAnswerFor Faithful c (Some command) b
+  of_texts : (command : Command) (texts : List (List ℕ)) (a b : Answer) → IsAnswerToTexts IsInstrumented command texts a → IsAnswerToTexts IsInstrumented command texts b
       → (a ≡ b) ⊎ DifferInPath a b
-  of_command command a b o (r, can, p) (s, again, q) =
-      of_files command r a b o can p (subst (λ x. IsAnswerToFiles Faithful command x b) (one_read (files_of command) s r again can) q)
+  of_texts command [] a b p q = absurd p
+  of_texts command (text ∷ []) a b p q = of_text command [] text a b p q
+  of_texts command (text ∷ input ∷ rest) a b p q = of_text command input text a b p q
 
-  of_words : (words : List (List ℕ)) (o : Option Command) (a b : Answer) → command_of words ≡ o → IsAnswerFor Faithful c o a → IsAnswerFor Faithful c o b → (a ≡ b) ⊎ DifferInPath a b
-  of_words words None a b is p q = inl (p ∙ sym q)
-  of_words words (Some command) a b is p q = of_command command a b (words_options words command is) p q
+  of_files : (command : Command) (r : FilesRead) (a b : Answer) → IsAnswerToFiles IsInstrumented command r a → IsAnswerToFiles IsInstrumented command r b
+      → (a ≡ b) ⊎ DifferInPath a b
+  of_files command (Fault name) a b p q = inl (p ∙ sym q)
+  of_files command (Long name) a b p q = inl (p ∙ sym q)
+  of_files command (Whole texts) a b p q = of_texts command texts a b p q
+
+  of_command : (command : Command) (a b : Answer) → IsAnswerToCommand IsInstrumented c command a → IsAnswerToCommand IsInstrumented c command b → (a ≡ b) ⊎ DifferInPath a b
+  of_command command a b (r, can, p) (s, again, q) =
+      of_files command r a b p (subst (λ x. IsAnswerToFiles IsInstrumented command x b) (one_read (files_of command) s r again can) q)
+
+  of_words : (o : Option Command) (a b : Answer) → IsAnswerFor IsInstrumented c o a → IsAnswerFor IsInstrumented c o b → (a ≡ b) ⊎ DifferInPath a b
+  of_words None a b p q = inl (p ∙ sym q)
+  of_words (Some command) a b p q = of_command command a b p q
+
+pub one_answer_to_commands : (c : Counted) (files : Holdings) (command : Command) (a b : Answer) → c.told ≡ Some files → (Rose c.faults c.faults_after → ⊥)
+    → IsAnswerToCommand IsInstrumented c command a → IsAnswerToCommand IsInstrumented c command b → (a ≡ b) ⊎ DifferInPath a b
+one_answer_to_commands c files command a b told steady p q = of_command c files told steady command a b p q
 
 pub one_answer_to_words : (c : Counted) (files : Holdings) (words : List (List ℕ)) (a b : Answer) → c.told ≡ Some files → (Rose c.faults c.faults_after → ⊥)
-    → IsAnswer Faithful c words a → IsAnswer Faithful c words b → (a ≡ b) ⊎ DifferInPath a b
-one_answer_to_words c files words a b told steady p q = of_words c files told steady words (command_of words) a b refl p q
+    → IsAnswer IsInstrumented c words a → IsAnswer IsInstrumented c words b → (a ≡ b) ⊎ DifferInPath a b
+one_answer_to_words c files words a b told steady p q = of_words c files told steady (command_of words) a b p q

@@ -8,13 +8,12 @@ use Rattle.ms_io.specs.declared.traits.FileError.{FileError}
 use Rattle.ms_io.specs.declared.traits.FileError.TheVariants.{Failed, Absent, TooLong, NoMemory}
 use Rattle.ms_io.specs.Counts.{Rose, RoseBy, last_count}
 use Rattle.ms_io.specs.Reading.{Holdings, IsWholeFile, IsAbsent, IsTooLong, IfFailed, IfAbsent, IfTooLong}
-use Rattle.ms_runs.specs.Faithful.{Faithful}
 use Rattle.ms_report.specs.RunTexts.{line}
 use Rattle.ms_top.specs.declared.answers.Answer.{Answer}
 use Rattle.ms_top.specs.declared.commands.Command.{Command}
-use Rattle.ms_top.specs.declared.commands.Options.{Options}
-use Rattle.ms_top.specs.Command.{default_options, command_of, options_of, module_file, module_limit, input_limit, input_files, files_of, FitRun}
+use Rattle.ms_top.specs.Command.{default_options, command_of, input_file, module_file, module_limit, input_limit, input_files, files_of, FitRun, HasFitOptions}
 use Rattle.ms_top.specs.Files.{Counted, counted, FilesRead, Whole, Fault, Long, behind, IsAtFault, IsLong, CanRead}
+use Rattle.ms_top.specs.Instrumented.{IsInstrumented}
 use Rattle.ms_top.specs.Parts.{IsAnswerBehind, IsAnswerToFault}
 use Rattle.ms_top.specs.Said.{says, IsAnswerToText, IsAnswerToFiles, IsAnswerToCommand, IsAnswerFor, IsAnswer}
 
@@ -30,29 +29,28 @@ default_fits = record {
   reports = omega arith;
 }
 
-chosen : (a b : Bool) (x y : Command) (c : Command) → (if a then Some x else if b then Some y else None) ≡ Some c → options_of x ≡ default_options → options_of y ≡ default_options
-    → options_of c ≡ default_options
-chosen true b x y c h p q = ap options_of (sym (same_Some x c h)) ∙ p
-chosen false true x y c h p q = ap options_of (sym (same_Some y c h)) ∙ q
-chosen false false x y c h p q = absurd (none-some c h)
+chosen : (P : Command → Type 0) (a b d : Bool) (x y z : Command) (c : Command) → (if a then Some x else if b then Some y else if d then Some z else None) ≡ Some c
+    → P x → P y → P z → P c
+chosen P true b d x y z c h p q r = subst P (same_Some x c h) p
+chosen P false true d x y z c h p q r = subst P (same_Some y c h) q
+chosen P false false true x y z c h p q r = subst P (same_Some z c h) r
+chosen P false false false x y z c h p q r = absurd (none-some c h)
 
 -- words give the default options alone
-pub words_options : (words : List (List ℕ)) (c : Command) → command_of words ≡ Some c → options_of c ≡ default_options
-words_options [] c h = absurd (none-some c h)
-words_options (w ∷ []) c h = absurd (none-some c h)
-words_options (w ∷ f ∷ []) c h = chosen (pointwise nat_eq w (codes "run")) (pointwise nat_eq w (codes "check")) _ _ c h refl refl
-words_options (w ∷ f ∷ g ∷ rest) c h = absurd (none-some c h)
-
-pub words_fit : (words : List (List ℕ)) (c : Command) → command_of words ≡ Some c → FitRun (options_of c)
-words_fit words c h = subst FitRun (sym (words_options words c h)) default_fits
+pub words_fit : (words : List (List ℕ)) (c : Command) → command_of words ≡ Some c → HasFitOptions c
+words_fit [] c h = absurd (none-some c h)
+words_fit (w ∷ []) c h = absurd (none-some c h)
+words_fit (w ∷ f ∷ []) c h =
+    chosen HasFitOptions (pointwise nat_eq w (codes "instrument")) (pointwise nat_eq w (codes "run")) (pointwise nat_eq w (codes "check")) _ _ _ c h tt default_fits default_fits
+words_fit (w ∷ f ∷ g ∷ rest) c h = absurd (none-some c h)
 
 pub command_answer : (c : Counted) (words : List (List ℕ)) (o : Option Command) (command : Command) (a : Answer) → o ≡ command_of words → o ≡ Some command
-    → IsAnswerToCommand Faithful c command a → IsAnswer Faithful c words a
-command_answer c words o command a asks some is = subst (λ o. IsAnswerFor Faithful c o a) (sym some ∙ asks) is
+    → IsAnswerToCommand IsInstrumented c command a → IsAnswer IsInstrumented c words a
+command_answer c words o command a asks some is = subst (λ o. IsAnswerFor IsInstrumented c o a) (sym some ∙ asks) is
 
 pub no_answer : (c : Counted) (words : List (List ℕ)) (o : Option Command) (a : Answer) → o ≡ command_of words → o ≡ None
-    → IsAnswerFor Faithful c None a → IsAnswer Faithful c words a
-no_answer c words o a asks none is = subst (λ o. IsAnswerFor Faithful c o a) (sym none ∙ asks) is
+    → IsAnswerFor IsInstrumented c None a → IsAnswer IsInstrumented c words a
+no_answer c words o a asks none is = subst (λ o. IsAnswerFor IsInstrumented c o a) (sym none ∙ asks) is
 
 -- ---- the first file
 
@@ -95,9 +93,9 @@ module _ (c d : Counted) (e : IsEarlier c d) where
 
   -- the module's file is read whole, and then the others
   pub behind_first : (command : Command) (text bytes : List ℕ) (a : Answer) → IsWholeFile c.told (module_file command) (module_limit command) text → bytes ≡ text
-      → IsAnswerBehind Faithful d command bytes a → IsAnswerToCommand Faithful c command a
+      → IsAnswerBehind IsInstrumented d command bytes a → IsAnswerToCommand IsInstrumented c command a
   behind_first command text bytes a whole same (r, read, is) =
-      (behind text r, inr (inr (text, whole, r, can_read_earlier (input_files (options_of command).input) r read, refl)), subst (λ t. IsAnswerToFiles Faithful command (behind t r) a) same is)
+      (behind text r, inr (inr (text, whole, r, can_read_earlier (input_files (input_file command)) r read, refl)), subst (λ t. IsAnswerToFiles IsInstrumented command (behind t r) a) same is)
 
 -- ---- a file that isn't read
 
@@ -122,28 +120,27 @@ pub unread : {A : Type 0} (c : Counted) (name : List ℕ) (limit : ℕ) (r : Res
     → IsAnswerToFault cause name a → Unread c name limit a
 unread c name limit r cause a h same is = by_cause c name limit cause a (subst (Answered c name limit) same h) is
 
-pub unread_first : (c : Counted) (command : Command) (a : Answer) → Unread c (module_file command) (module_limit command) a → IsAnswerToCommand Faithful c command a
+pub unread_first : (c : Counted) (command : Command) (a : Answer) → Unread c (module_file command) (module_limit command) a → IsAnswerToCommand IsInstrumented c command a
 unread_first c command a (inl (fault, is)) = (Fault (module_file command), inl (fault, refl), is)
 unread_first c command a (inr (long, is)) = (Long (module_file command), inr (inl (long, refl)), is)
 
 -- ---- the input
 
-pub without_input : (c : Counted) (command : Command) (o : Options) (text : List ℕ) (a : Answer) → o ≡ options_of command → o.input ≡ None
-    → IsAnswerToText Faithful command [] text a → IsAnswerBehind Faithful c command text a
-without_input c command o text a is none answers =
-    (Whole [], subst (λ i. CanRead c (input_files i) (Whole [])) (sym none ∙ ap (λ p. p.input) is) refl, answers)
+pub without_input : (c : Counted) (command : Command) (text : List ℕ) (a : Answer) → input_file command ≡ None
+    → IsAnswerToText IsInstrumented command [] text a → IsAnswerBehind IsInstrumented c command text a
+without_input c command text a none answers = (Whole [], subst (λ i. CanRead c (input_files i) (Whole [])) (sym none) refl, answers)
 
-pub with_input : (c : Counted) (command : Command) (o : Options) (file text input bytes : List ℕ) (a : Answer) → o ≡ options_of command → o.input ≡ Some file
-    → IsWholeFile c.told file input_limit input → bytes ≡ input → IsAnswerToText Faithful command bytes text a → IsAnswerBehind Faithful c command text a
-with_input c command o file text input bytes a is some whole same answers = (
+pub with_input : (c : Counted) (command : Command) (file text input bytes : List ℕ) (a : Answer) → input_file command ≡ Some file
+    → IsWholeFile c.told file input_limit input → bytes ≡ input → IsAnswerToText IsInstrumented command bytes text a → IsAnswerBehind IsInstrumented c command text a
+with_input c command file text input bytes a some whole same answers = (
   Whole (input ∷ []),
-  subst (λ i. CanRead c (input_files i) (Whole (input ∷ []))) (sym some ∙ ap (λ p. p.input) is) (inr (inr (input, whole, Whole [], refl, refl))),
-  subst (λ b. IsAnswerToText Faithful command b text a) same answers,
+  subst (λ i. CanRead c (input_files i) (Whole (input ∷ []))) (sym some) (inr (inr (input, whole, Whole [], refl, refl))),
+  subst (λ b. IsAnswerToText IsInstrumented command b text a) same answers,
 )
 
-pub unread_input : (c : Counted) (command : Command) (o : Options) (file text : List ℕ) (a : Answer) → o ≡ options_of command → o.input ≡ Some file
-    → Unread c file input_limit a → IsAnswerBehind Faithful c command text a
-unread_input c command o file text a is some (inl (fault, answers)) =
-    (Fault file, subst (λ i. CanRead c (input_files i) (Fault file)) (sym some ∙ ap (λ p. p.input) is) (inl (fault, refl)), answers)
-unread_input c command o file text a is some (inr (long, answers)) =
-    (Long file, subst (λ i. CanRead c (input_files i) (Long file)) (sym some ∙ ap (λ p. p.input) is) (inr (inl (long, refl))), answers)
+pub unread_input : (c : Counted) (command : Command) (file text : List ℕ) (a : Answer) → input_file command ≡ Some file
+    → Unread c file input_limit a → IsAnswerBehind IsInstrumented c command text a
+unread_input c command file text a some (inl (fault, answers)) =
+    (Fault file, subst (λ i. CanRead c (input_files i) (Fault file)) (sym some) (inl (fault, refl)), answers)
+unread_input c command file text a some (inr (long, answers)) =
+    (Long file, subst (λ i. CanRead c (input_files i) (Long file)) (sym some) (inr (inl (long, refl))), answers)

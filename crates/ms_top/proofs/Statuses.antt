@@ -7,9 +7,10 @@ use Rattle.ms_read_body.specs.declared.errors.ReadError.{ReadError}
 use Rattle.ms_read_body.specs.declared.errors.ReadError.TheVariants as e
 use Rattle.ms_top.specs.declared.answers.Answer.{Answer}
 use Rattle.ms_top.specs.declared.commands.Command.{Command}
+use Rattle.ms_top.specs.declared.commands.Command.TheVariants.{Instrument, Run, Check}
 use Rattle.ms_top.specs.Command.{command_of}
 use Rattle.ms_top.specs.Files.{Counted, FilesRead, Whole, Fault, Long}
-use Rattle.ms_top.specs.Said.{answer_of, end_status, IsAnswerOfRun, IsAnswerToValid, IsAnswerToModule, IsAnswerToReading, IsAnswerToText, IsAnswerToTexts, IsAnswerToFiles, IsAnswerToCommand, IsAnswerFor, IsAnswer}
+use Rattle.ms_top.specs.Said.{answer_of, end_status, IsAnswerToValid, IsAnswerToModule, IsAnswerToReading, IsAnswerToText, IsAnswerToTexts, IsAnswerToFiles, IsAnswerToCommand, IsAnswerFor, IsAnswer}
 
 with-status : (a : Answer) (s : ℕ) (out err : List ℕ) → a ≡ answer_of s out err → s ≢ 7 → a.status ≢ 7
 with-status a s out err is other seven = other (sym (ap (λ x. x.status) is) ∙ seven)
@@ -26,8 +27,9 @@ chosen-not_seven false e = λ h. omega arith
 
 module _ (Gives : Module → Module → Type 0) where
   to_valid-not_seven : (command : Command) (input : List ℕ) (m : Module) (a : Answer) → IsAnswerToValid Gives command input m a → a.status ≢ 7
-  to_valid-not_seven command input m a (inl (first, (j, runs, is))) = with-status a _ _ _ is (chosen-not_seven _ _)
-  to_valid-not_seven command input m a (inr (other, is)) = with-status a 5 _ _ is (λ h. omega arith)
+  to_valid-not_seven (Instrument file) input m a (j, gives, is) = with-status a 0 _ _ is (λ h. omega arith)
+  to_valid-not_seven (Run file o) input m a is = with-status a _ _ _ is (chosen-not_seven _ _)
+  to_valid-not_seven (Check file o) input m a (j, gives, is) = with-status a _ _ _ is (chosen-not_seven _ _)
 
   to_module-not_seven : (command : Command) (input : List ℕ) (m : Module) (a : Answer) → IsAnswerToModule Gives command input m a → a.status ≢ 7
   to_module-not_seven command input m a (inl (fault, refused, is)) = with-status a 5 _ _ is (λ h. omega arith)

@@ -6,7 +6,7 @@ use Rattle.ms_runs.specs.Limits.{WithinLimits}
 use Rattle.ms_ir.specs.declared.forms.Form.{Form}
 use Rattle.ms_ir.specs.declared.forms.Form.TheVariants.{Plain, Instrumented}
 use Rattle.ms_top.specs.declared.commands.Command.{Command}
-use Rattle.ms_top.specs.declared.commands.Command.TheVariants.{Run, Check}
+use Rattle.ms_top.specs.declared.commands.Command.TheVariants.{Instrument, Run, Check}
 use Rattle.ms_top.specs.declared.commands.Options.{Options}
 
 -- no input, the fill a5, ten million steps, one report
@@ -16,6 +16,7 @@ default_options = record { input = None; fill = 0xa5 ∷ []; steps = 10000000; r
 -- a command is two words: what to do, and the file to do it on
 abbrev pub command_of : List (List ℕ) → Option Command
 command_of (word ∷ file ∷ []) =
+    if pointwise nat_eq word (codes "instrument") then Some (Instrument file) else
     if pointwise nat_eq word (codes "run") then Some (Run file default_options) else
     if pointwise nat_eq word (codes "check") then Some (Check file default_options) else
     None
@@ -23,24 +24,29 @@ command_of _ = None
 
 -- ---- parts of a command
 
-abbrev pub options_of : Command → Options
-options_of (Run file options) = options
-options_of (Check file options) = options
-
 -- the name of the module's file
 abbrev pub module_file : Command → List ℕ
+module_file (Instrument file) = file
 module_file (Run file options) = file
 module_file (Check file options) = file
 
 -- the form in which the module is read
 abbrev pub form_of : Command → Form
+form_of (Instrument file) = Plain
 form_of (Run file options) = Instrumented
 form_of (Check file options) = Plain
 
 -- the most bytes that the module's file may have
 abbrev pub module_limit : Command → ℕ
+module_limit (Instrument file) = 2 ^ 22
 module_limit (Run file options) = 2 ^ 27
 module_limit (Check file options) = 2 ^ 22
+
+-- the name of the input's file, where one is given; `instrument` runs nothing
+abbrev pub input_file : Command → Option (List ℕ)
+input_file (Instrument file) = None
+input_file (Run file options) = options.input
+input_file (Check file options) = options.input
 
 -- ---- files
 
@@ -54,7 +60,7 @@ input_files (Some name) = (name, input_limit) ∷ []
 
 -- the files that a command reads, in order: their names, and the most bytes that each may have
 abbrev pub files_of : Command → List (List ℕ × ℕ)
-files_of command = (module_file command, module_limit command) ∷ input_files (options_of command).input
+files_of command = (module_file command, module_limit command) ∷ input_files (input_file command)
 
 -- ---- runs
 
@@ -65,3 +71,9 @@ setup_of o input = record { input = input; fill = o.fill; steps = o.steps; repor
 -- the numbers of the options are those that a run may be given
 abbrev pub FitRun : Options → Type 0
 FitRun o = WithinLimits (setup_of o [])
+
+-- so are those of the options of a command, where it has any
+abbrev pub HasFitOptions : Command → Type 0
+HasFitOptions (Instrument file) = Unit {0}
+HasFitOptions (Run file options) = FitRun options
+HasFitOptions (Check file options) = FitRun options

@@ -1,5 +1,5 @@
 pub mod Command
 pub mod Files
+pub mod Instrumented
 pub mod Said
 pub mod Parts
-pub mod Checking

@@ -6,13 +6,14 @@ use Rattle.ms_ir.specs.declared.syntax.Module.{Module}
 use Rattle.ms_runs.specs.declared.runs.End.{End}
 use Rattle.ms_runs.specs.declared.runs.End.TheVariants as ends
 use Rattle.ms_runs.specs.declared.runs.RunResult.{RunResult}
+use Rattle.ms_runs.specs.declared.runs.Setup.{Setup}
 use Rattle.ms_runs.specs.Plain.{plain}
 use Rattle.ms_read_body.specs.declared.errors.ReadError.{ReadError}
 use Rattle.ms_read_body.specs.declared.errors.ReadError.TheVariants as e
 use Rattle.ms_read_top.specs.Reading.{IsReading}
 use Rattle.ms_valid.specs.Valid.{Valid}
 use Rattle.ms_valid.specs.Refusals.{Fault as ModuleFault, Undefined, IsRefused}
-use Rattle.ms_pass.specs.FirstForm.{HasFirstForm}
+use Rattle.ms_written.specs.Modules.{written}
 use Rattle.ms_report.specs.declared.refusals.Refusal.TheVariants.{Read}
 use Rattle.ms_report.specs.RunTexts.{line, closing_of}
 use Rattle.ms_report.specs.ReportTexts.{report_text_of}
@@ -21,8 +22,8 @@ use Rattle.ms_report.specs.RefusalTexts.{refusal_text}
 use Rattle.ms_report.specs.WordsTexts.{words_text}
 use Rattle.ms_top.specs.declared.answers.Answer.{Answer}
 use Rattle.ms_top.specs.declared.commands.Command.{Command}
-use Rattle.ms_top.specs.declared.commands.Command.TheVariants.{Run, Check}
-use Rattle.ms_top.specs.Command.{command_of, form_of, options_of, files_of, setup_of}
+use Rattle.ms_top.specs.declared.commands.Command.TheVariants.{Instrument, Run, Check}
+use Rattle.ms_top.specs.Command.{command_of, form_of, files_of, setup_of}
 use Rattle.ms_top.specs.Files.{Counted, CanRead, FilesRead, Whole, Fault, Long}
 
 abbrev pub answer_of : ℕ → List ℕ → List ℕ → Answer
@@ -53,28 +54,22 @@ status_of r = if eqb (length r.reports) 0 then end_status r.«end» else 77
 abbrev pub answer_of_result : Module → RunResult → Answer
 answer_of_result m r = answer_of (status_of r) r.output (report_text_of m r ++ closing_of m r false)
 
--- `run` takes every valid module, and `check` those of the first form
-abbrev pub IsBuilt : Command → Module → Type 0
-IsBuilt (Run file options) m = Unit {0}
-IsBuilt (Check file options) m = HasFirstForm m
-
 -- ---- from the words to the answer, for a pass that gives modules so
 
 module _ (Gives : Module → Module → Type 0) where
-  -- the module that a command runs for the one that was read: itself, or one that the pass gives
-  abbrev pub IsRun : Command → Module → Module → Type 0
-  IsRun (Run file options) m j = j ≡ m
-  IsRun (Check file options) m j = Gives m j
+  -- the answer of `instrument`: the text of a module that the pass gives
+  abbrev pub IsAnswerOfInstrument : Module → Answer → Type 0
+  IsAnswerOfInstrument m a = (j : Module) × Gives m j × (a ≡ answer_of 0 (written j) [])
 
-  -- the answer of a run with the options of the command and this input
-  abbrev pub IsAnswerOfRun : Command → List ℕ → Module → Answer → Type 0
-  IsAnswerOfRun command input m a = (j : Module) × IsRun command m j × (a ≡ answer_of_result m (plain j (setup_of (options_of command) input)))
+  -- the answer of `check`: of the run of a module that the pass gives
+  abbrev pub IsAnswerOfCheck : Setup → Module → Answer → Type 0
+  IsAnswerOfCheck s m a = (j : Module) × Gives m j × (a ≡ answer_of_result m (plain j s))
 
-  -- the answer for a valid module: a run, but that modules beyond the first form can't be checked yet
+  -- the answer for a valid module; `run` runs it as it stands
   abbrev pub IsAnswerToValid : Command → List ℕ → Module → Answer → Type 0
-  IsAnswerToValid command input m a =
-      (IsBuilt command m × IsAnswerOfRun command input m a)
-      ⊎ ((IsBuilt command m → ⊥) × (a ≡ says 5 (codes "refused 99: not built yet\n")))
+  IsAnswerToValid (Instrument file) input m a = IsAnswerOfInstrument m a
+  IsAnswerToValid (Run file options) input m a = a ≡ answer_of_result m (plain m (setup_of options input))
+  IsAnswerToValid (Check file options) input m a = IsAnswerOfCheck (setup_of options input) m a
 
   -- the answer for a module: why it isn't valid, or else the answer for a valid one
   abbrev pub IsAnswerToModule : Command → List ℕ → Module → Answer → Type 0

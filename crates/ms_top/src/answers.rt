@@ -1,27 +1,28 @@
 //! What is said of a module's text.
-ghost use Rattle.std.specs.Prelude.{◌≡◌, ◌≤◌, ℕ, ◌++◌, false, codes, length, IfOk};
-ghost use Rattle.ms_runs.specs.Faithful.{Faithful};
+ghost use Rattle.std.specs.Prelude.{◌≡◌, ◌≤◌, ◌++◌, [], false, length, IfOk};
 ghost use Rattle.ms_runs.specs.Limits.{WithinLimits};
 ghost use Rattle.ms_runs.specs.Plain.{plain};
 ghost use Rattle.ms_valid.specs.Formed.{Formed};
-ghost use Rattle.ms_pass.specs.FirstForm.{HasFirstForm, HasFewInsts};
+ghost use Rattle.ms_valid.specs.Uninstrumented.{CanInstrument};
 ghost use Rattle.ms_report.specs.RefusalTexts.{HasLine, refusal_text, wants_memory as is_want_of_memory};
 ghost use Rattle.ms_report.specs.ReportTexts.{report_text_of};
 ghost use Rattle.ms_report.specs.RunTexts.{closing_of};
-ghost use Rattle.ms_top.specs.Command.{options_of, setup_of as setup_with, module_limit, input_limit, FitRun};
-ghost use Rattle.ms_top.specs.Said.{answer_of_result, says, status_of as status_of_run, IsAnswerToValid, IsAnswerToModule, IsAnswerToText};
-ghost use Rattle.ms_top.specs.Checking.{IsAnswerOfCheck, IsAnswerToCheck};
+ghost use Rattle.ms_top.specs.Command.{setup_of as setup_with, module_limit, input_limit, FitRun, HasFitOptions};
+ghost use Rattle.ms_top.specs.Instrumented.{IsInstrumented};
+ghost use Rattle.ms_top.specs.Parts.{IsReady, IsInstrumentedRun};
+ghost use Rattle.ms_top.specs.Said.{answer_of, answer_of_result, says, status_of as status_of_run, IsAnswerOfInstrument, IsAnswerOfCheck, IsAnswerToValid, IsAnswerToModule, IsAnswerToText};
 
 use crate::commands::{Command, Options};
 use ms_bits::{Bytes, NoMemory};
 use ms_check::{CheckError, CheckedModule, check};
-use ms_first as first;
 use ms_ir::Module;
+use ms_pass::instrument;
 use ms_read_body::ReadError;
 use ms_read_top::read;
 use ms_report::{Refusal, closing, refusal_line, report_text};
 use ms_runs::{End, RunResult, Setup};
 use ms_runtime::run;
+use ms_write::write;
 use std::alloc::{AllocError, Global};
 
 /// A status, and the texts for the standard output and the standard error.
@@ -33,6 +34,17 @@ pub struct Answer {
 }
 
 impl Answer {
+    /// An answer of a command that is done, with this text on the standard output alone.
+    pub fn on_out(alloc: Global, out: Vec<u8>) -> Answer
+        ensures { result ≡ answer_of 0 out.items [] }
+    {
+        Answer {
+            status: 0,
+            out: Bytes::from_vec(out),
+            err: Bytes::from_vec(Vec::new(alloc)),
+        }
+    }
+
     /// An answer with this text on the standard error alone.
     pub fn on_err(alloc: Global, status: u8, err: Vec<u8>) -> Answer
         ensures { result ≡ says status err.items }
@@ -53,9 +65,9 @@ pub fn answer_to_text(
     input: &[u8],
 ) -> Result<Answer, NoMemory>
     requires fits { length text.now ≤ module_limit command.now }
-    requires limits { FitRun (options_of command.now) }
+    requires limits { HasFitOptions command.now }
     requires input { length input.now ≤ input_limit }
-    ensures { IfOk result (λ a. IsAnswerToText Faithful command.now input.now text.now a) }
+    ensures { IfOk result (λ a. IsAnswerToText IsInstrumented command.now input.now text.now a) }
 {
     match read(alloc, text, command.form()) {
         Ok(module) => answer_to_module(alloc, command, module, input),
@@ -71,10 +83,10 @@ fn answer_to_module(
     input: &[u8],
 ) -> Result<Answer, NoMemory>
     requires formed { Formed m }
-    requires few { HasFewInsts m }
-    requires limits { FitRun (options_of command.now) }
+    requires ready { IsReady command.now m }
+    requires limits { HasFitOptions command.now }
     requires input { length input.now ≤ input_limit }
-    ensures { IfOk result (λ a. IsAnswerToModule Faithful command.now input.now m a) }
+    ensures { IfOk result (λ a. IsAnswerToModule IsInstrumented command.now input.now m a) }
 {
     match check(alloc, m) {
         Ok(checked) => answer_to_valid(alloc, command, &checked, input),
@@ -89,16 +101,81 @@ fn answer_to_valid(
     m: &CheckedModule,
     input: &[u8],
 ) -> Result<Answer, NoMemory>
-    requires few { HasFewInsts m.now }
-    requires limits { FitRun (options_of command.now) }
+    requires ready { IsReady command.now m.now }
+    requires limits { HasFitOptions command.now }
     requires input { length input.now ≤ input_limit }
-    ensures { IfOk result (λ a. IsAnswerToValid Faithful command.now input.now m.now a) }
+    ensures { IfOk result (λ a. IsAnswerToValid IsInstrumented command.now input.now m.now a) }
 {
-    let setup = setup_of(alloc, command.options(), input)?;
     match command {
-        Command::Run { .. } => answer_of_run(alloc, m, &setup),
-        Command::Check { .. } => answer_to_check(alloc, m, &setup),
+        Command::Instrument { .. } => answer_of_instrument(alloc, m),
+        Command::Run { options, .. } => answer_of_run(alloc, m, options, input),
+        Command::Check { options, .. } => answer_of_check(alloc, m, options, input),
     }
+}
+
+/// The answer of `instrument`: the text of the instrumented form.
+fn answer_of_instrument(alloc: Global, m: &CheckedModule) -> Result<Answer, NoMemory>
+    requires { CanInstrument m.now }
+    ensures { IfOk result (λ a. IsAnswerOfInstrument IsInstrumented m.now a) }
+{
+    let instrumented = instrumented_form(alloc, m)?;
+    let text = write(alloc, instrumented.module())?;
+    Ok(Answer::on_out(alloc, text))
+}
+
+/// The answer of `run`: for the run of the module as it stands.
+fn answer_of_run(
+    alloc: Global,
+    m: &CheckedModule,
+    options: &Options,
+    input: &[u8],
+) -> Result<Answer, NoMemory>
+    requires limits { FitRun options.now }
+    requires input { length input.now ≤ input_limit }
+    ensures { IfOk result (λ a. a ≡ answer_of_result m.now (plain m.now (setup_with options.now input.now))) }
+{
+    m.is_valid();
+    let setup = setup_of(alloc, options, input)?;
+    let result = run(alloc, m, &setup)?;
+    answer_of(alloc, m.module(), result)
+}
+
+/// The answer of `check`: for the run of the instrumented form.
+fn answer_of_check(
+    alloc: Global,
+    m: &CheckedModule,
+    options: &Options,
+    input: &[u8],
+) -> Result<Answer, NoMemory>
+    requires plain { CanInstrument m.now }
+    requires limits { FitRun options.now }
+    requires input { length input.now ≤ input_limit }
+    ensures { IfOk result (λ a. IsAnswerOfCheck IsInstrumented (setup_with options.now input.now) m.now a) }
+{
+    m.is_valid();
+    let setup = setup_of(alloc, options, input)?;
+    let result = run_instrumented(alloc, m, &setup)?;
+    answer_of(alloc, m.module(), result)
+}
+
+/// The run of the instrumented form.
+fn run_instrumented(alloc: Global, m: &CheckedModule, setup: &Setup) -> Result<RunResult, NoMemory>
+    requires plain { CanInstrument m.now }
+    requires limits { WithinLimits setup.now }
+    ensures { IfOk result (λ r. IsInstrumentedRun m.now setup.now r) }
+{
+    let instrumented = instrumented_form(alloc, m)?;
+    run(alloc, &instrumented, setup)
+}
+
+/// The instrumented form of a module, with all that is known of it.
+fn instrumented_form(alloc: Global, m: &CheckedModule) -> Result<CheckedModule, NoMemory>
+    requires { CanInstrument m.now }
+    ensures { IfOk result (λ j. IsInstrumented m.now j) }
+{
+    let instrumented = instrument(alloc, m)?;
+    instrumented.is_valid();
+    Ok(instrumented)
 }
 
 /// What a run with these options and this input is given.
@@ -113,44 +190,6 @@ fn setup_of(alloc: Global, options: &Options, input: &[u8]) -> Result<Setup, NoM
         steps: options.steps,
         reports: options.reports,
     })
-}
-
-/// The answer for the run of a valid module.
-fn answer_of_run(alloc: Global, m: &CheckedModule, setup: &Setup) -> Result<Answer, NoMemory>
-    requires limits { WithinLimits setup.now }
-    ensures { IfOk result (λ a. a ≡ answer_of_result m.now (plain m.now setup.now)) }
-{
-    m.is_valid();
-    let result = run(alloc, m, setup)?;
-    answer_of(alloc, m.module(), result)
-}
-
-/// The answer to `check` on a valid module: modules beyond the first form can't be checked yet.
-fn answer_to_check(alloc: Global, m: &CheckedModule, setup: &Setup) -> Result<Answer, NoMemory>
-    requires few { HasFewInsts m.now }
-    requires limits { WithinLimits setup.now }
-    ensures { IfOk result (λ a. IsAnswerToCheck m.now setup.now a) }
-{
-    m.is_valid();
-    let module = m.module();
-    if first::is_first(alloc, module)? {
-        answer_of_check(alloc, module, setup)
-    } else {
-        not_built(alloc)
-    }
-}
-
-/// The answer for the run of what is instrumented for `m`.
-fn answer_of_check(alloc: Global, m: &Module, setup: &Setup) -> Result<Answer, NoMemory>
-    requires formed { Formed m.now }
-    requires first { HasFirstForm m.now }
-    requires few { HasFewInsts m.now }
-    requires limits { WithinLimits setup.now }
-    ensures { IfOk result (λ a. IsAnswerOfCheck m.now setup.now a) }
-{
-    let instrumented = first::instrument(alloc, m)?;
-    let result = first::run(alloc, &instrumented, setup)?;
-    answer_of(alloc, m, result)
 }
 
 /// The answer for the result of a run of `m`.
@@ -190,14 +229,6 @@ fn status_of(r: &RunResult) -> u8
         End::Reported => 0,
         End::Spent => 4,
     }
-}
-
-/// The answer for a module that can't be run yet.
-fn not_built(alloc: Global) -> Result<Answer, NoMemory>
-    ensures { IfOk result (λ a. a ≡ says 5 (codes "refused 99: not built yet\n")) }
-{
-    let line = Vec::from_slice(alloc, b"refused 99: not built yet\n")?;
-    Ok(Answer::on_err(alloc, 5, line))
 }
 
 /// The answer for a module that is refused. Where the cause is want of memory, so is the error.

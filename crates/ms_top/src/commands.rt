@@ -1,6 +1,6 @@
 //! What words ask for.
-ghost use Rattle.std.specs.Prelude.{◌≡◌, [], ◌∷◌, IfOk};
-ghost use Rattle.ms_top.specs.Command.{command_of, default_options as default_options_of, form_of, module_file, module_limit, options_of};
+ghost use Rattle.std.specs.Prelude.{◌≡◌, [], ◌∷◌, Some, None, IfOk, MatchOption};
+ghost use Rattle.ms_top.specs.Command.{command_of, default_options as default_options_of, form_of, input_file, module_file, module_limit};
 
 use ms_bits::{Bytes, NoMemory, Text};
 use ms_ir::Form;
@@ -22,6 +22,8 @@ pub struct Options {
 /// What is asked for.
 #[derive(Debug, Drop)]
 pub enum Command {
+    /// Writes the module in the file with inserted code.
+    Instrument { file: Text },
     /// Runs the module in the file as it stands.
     Run { file: Text, options: Options },
     /// Instruments the module in the file and runs that, so that uses of uninitialised bits are reported.
@@ -34,18 +36,20 @@ impl Command {
         ensures { result.now ≡ module_file self.now }
     {
         match self {
+            Command::Instrument { file } => file,
             Command::Run { file, .. } => file,
             Command::Check { file, .. } => file,
         }
     }
 
-    /// How the module is run.
-    pub fn options(&self) -> &Options
-        ensures { result.now ≡ options_of self.now }
+    /// The name of the input's file, where one is given.
+    pub fn input(&self) -> Option<&Text>
+        ensures { MatchOption result (input_file self.now ≡ None) (λ file. input_file self.now ≡ Some file.now) }
     {
         match self {
-            Command::Run { options, .. } => options,
-            Command::Check { options, .. } => options,
+            Command::Instrument { .. } => None,
+            Command::Run { options, .. } => options.input.as_ref(),
+            Command::Check { options, .. } => options.input.as_ref(),
         }
     }
 
@@ -54,6 +58,7 @@ impl Command {
         ensures { result ≡ form_of self.now }
     {
         match self {
+            Command::Instrument { .. } => Form::Plain,
             Command::Run { .. } => Form::Instrumented,
             Command::Check { .. } => Form::Plain,
         }
@@ -64,6 +69,7 @@ impl Command {
         ensures { result ≡ module_limit self.now }
     {
         match self {
+            Command::Instrument { .. } => 1 << 22,
             Command::Run { .. } => 1 << 27,
             Command::Check { .. } => 1 << 22,
         }
@@ -95,7 +101,10 @@ fn copy_of(alloc: Global, text: &Text) -> Result<Text, NoMemory>
 fn command_on(alloc: Global, word: &str, file: &Text) -> Result<Option<Command>, NoMemory>
     ensures { IfOk result (λ c. c ≡ command_of (word.now ∷ file.now ∷ [])) }
 {
-    if word == "run" {
+    if word == "instrument" {
+        let file = copy_of(alloc, file)?;
+        Ok(Some(Command::Instrument { file }))
+    } else if word == "run" {
         let file = copy_of(alloc, file)?;
         let options = default_options(alloc)?;
         Ok(Some(Command::Run { file, options }))

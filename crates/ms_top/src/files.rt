@@ -1,10 +1,10 @@
 //! What is said of words and files.
 ghost use Rattle.std.specs.Prelude.{◌≡◌, ◌≤◌, ◌++◌, codes, length, None, IfOk};
-ghost use Rattle.ms_runs.specs.Faithful.{Faithful};
 ghost use Rattle.ms_report.specs.RunTexts.{line};
 ghost use Rattle.ms_report.specs.WordsTexts.{words_text};
-ghost use Rattle.ms_top.specs.Command.{command_of, options_of, module_limit, FitRun};
+ghost use Rattle.ms_top.specs.Command.{command_of, module_limit, HasFitOptions};
 ghost use Rattle.ms_top.specs.Files.{counted};
+ghost use Rattle.ms_top.specs.Instrumented.{IsInstrumented};
 ghost use Rattle.ms_top.specs.Parts.{IsAnswerBehind, IsAnswerToFault};
 ghost use Rattle.ms_top.specs.Said.{IsAnswer, IsAnswerToCommand, says};
 
@@ -20,7 +20,7 @@ const INPUT_LIMIT: u64 = 1 << 20;
 
 /// What a call with these words and these files is to say. The one error is want of memory.
 pub fn answer_to<F: Files>(alloc: Global, words: &[Text], files: &mut F) -> Result<Answer, NoMemory>
-    ensures said { IfOk result (λ a. IsAnswer Faithful
+    ensures said { IfOk result (λ a. IsAnswer IsInstrumented
         (counted (F.held files.old) (F.faults files.old) (F.faults files.new) (F.taken files.old) (F.taken files.new)) words.now a) }
     ensures holdings_stay { F.held files.new ≡ F.held files.old }
     ensures faults_never_fall { F.faults files.old ≤ F.faults files.new }
@@ -51,8 +51,8 @@ pub fn answer_to_command<F: Files>(
     command: &Command,
     files: &mut F,
 ) -> Result<Answer, NoMemory>
-    requires { FitRun (options_of command.now) }
-    ensures said { IfOk result (λ a. IsAnswerToCommand Faithful
+    requires { HasFitOptions command.now }
+    ensures said { IfOk result (λ a. IsAnswerToCommand IsInstrumented
         (counted (F.held files.old) (F.faults files.old) (F.faults files.new) (F.taken files.old) (F.taken files.new)) command.now a) }
     ensures holdings_stay { F.held files.new ≡ F.held files.old }
     ensures faults_never_fall { F.faults files.old ≤ F.faults files.new }
@@ -72,15 +72,15 @@ fn answer_behind<F: Files>(
     text: &[u8],
     files: &mut F,
 ) -> Result<Answer, NoMemory>
-    requires limits { FitRun (options_of command.now) }
+    requires limits { HasFitOptions command.now }
     requires fits { length text.now ≤ module_limit command.now }
-    ensures said { IfOk result (λ a. IsAnswerBehind Faithful
+    ensures said { IfOk result (λ a. IsAnswerBehind IsInstrumented
         (counted (F.held files.old) (F.faults files.old) (F.faults files.new) (F.taken files.old) (F.taken files.new)) command.now text.now a) }
     ensures holdings_stay { F.held files.new ≡ F.held files.old }
     ensures faults_never_fall { F.faults files.old ≤ F.faults files.new }
     ensures taken_never_falls { F.taken files.old ≤ F.taken files.new }
 {
-    match &command.options().input {
+    match command.input() {
         None => answer_to_text(alloc, command, text, b""),
         Some(file) => match files.read_whole(alloc, file.as_str(), INPUT_LIMIT) {
             Ok(input) => answer_to_text(alloc, command, text, &input),

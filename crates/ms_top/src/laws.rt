@@ -4,29 +4,46 @@ ghost use Rattle.std.specs.Prelude.{◌≡◌, ◌⊎◌, ℕ, List, [], Some};
 ghost use Rattle.ms_io.specs.Counts.{Rose};
 ghost use Rattle.ms_io.specs.Reading.{Holdings};
 ghost use Rattle.ms_ir.specs.declared.syntax.Module.{Module};
-ghost use Rattle.ms_runs.specs.Faithful.{Faithful, Fair};
+ghost use Rattle.ms_runs.specs.Faithful.{Fair};
 ghost use Rattle.ms_runs.specs.Shadow.{shadow};
+ghost use Rattle.ms_valid.specs.Formed.{Formed};
+ghost use Rattle.ms_written.specs.Modules.{written};
+ghost use Rattle.ms_text_laws.specs.Fits.{FitsText};
+ghost use Rattle.ms_pass_laws.specs.Numbers.{numbering};
+ghost use Rattle.ms_pass_laws.specs.Pass.{pass};
 ghost use Rattle.ms_top.specs.declared.answers.Answer.{Answer};
 ghost use Rattle.ms_top.specs.declared.commands.Command.{Command};
-ghost use Rattle.ms_top.specs.declared.commands.Command.TheVariants.{Check};
+ghost use Rattle.ms_top.specs.declared.commands.Command.TheVariants.{Instrument, Run, Check};
 ghost use Rattle.ms_top.specs.declared.commands.Options.{Options};
-ghost use Rattle.ms_top.specs.Command.{default_options, options_of, setup_of};
+ghost use Rattle.ms_top.specs.Command.{default_options, setup_of};
 ghost use Rattle.ms_top.specs.Files.{Counted};
-ghost use Rattle.ms_top.specs.Said.{IsAnswer, IsAnswerOfRun, IsAnswerToText, DifferInPath, answer_of_result};
+ghost use Rattle.ms_top.specs.Instrumented.{IsInstrumented};
+ghost use Rattle.ms_top.specs.Said.{IsAnswer, IsAnswerToCommand, IsAnswerToText, IsAnswerToValid, DifferInPath, answer_of_result};
 
 /// What is to be said is one answer, but for want of memory, and for the path that shows that a use of a value isn't
-/// defined: of a module's text, and of words where the files are told and no fault of theirs was counted.
+/// defined: of a module's text, and of commands and of words where the files are told and no fault of theirs was counted.
 pub fn one_answer()
-    ensures text { (command : Command) (input text : List ℕ) (a b : Answer) → Fair (setup_of (options_of command) input)
-        → IsAnswerToText Faithful command input text a → IsAnswerToText Faithful command input text b → (a ≡ b) ⊎ DifferInPath a b }
+    ensures text { (command : Command) (input text : List ℕ) (a b : Answer)
+        → IsAnswerToText IsInstrumented command input text a → IsAnswerToText IsInstrumented command input text b → (a ≡ b) ⊎ DifferInPath a b }
+    ensures commands { (c : Counted) (files : Holdings) (command : Command) (a b : Answer) → c.told ≡ Some files → (Rose c.faults c.faults_after → ⊥)
+        → IsAnswerToCommand IsInstrumented c command a → IsAnswerToCommand IsInstrumented c command b → (a ≡ b) ⊎ DifferInPath a b }
     ensures words { (c : Counted) (files : Holdings) (words : List (List ℕ)) (a b : Answer) → c.told ≡ Some files → (Rose c.faults c.faults_after → ⊥)
-        → IsAnswer Faithful c words a → IsAnswer Faithful c words b → (a ≡ b) ⊎ DifferInPath a b }
+        → IsAnswer IsInstrumented c words a → IsAnswer IsInstrumented c words b → (a ≡ b) ⊎ DifferInPath a b }
 {}
 
-/// Where the pass gives a faithful module, a checked one is answered by its shadow run. The setup of the default options is
-/// fair.
+/// A checked module is answered by its shadow run, where the setup is fair. That of the default options is.
 pub fn checks_show_the_shadow_run()
-    ensures shadow { (file input : List ℕ) (o : Options) (m : Module) (a : Answer) → Fair (setup_of o input) → IsAnswerOfRun Faithful (Check file o) input m a
-        → a ≡ answer_of_result m (shadow m (setup_of o input)) }
+    ensures shadow { (file input : List ℕ) (o : Options) (m : Module) (a : Answer) → Fair (setup_of o input)
+        → IsAnswerToValid IsInstrumented (Check file o) input m a → a ≡ answer_of_result m (shadow m (setup_of o input)) }
     ensures defaults { Fair (setup_of default_options []) }
+{}
+
+/// What `instrument` writes is the text of a faithful module, and of no other formed module. Where that text is within the
+/// limits of its form, `run` says of it what `check` says of the module that was read, with the same options and input.
+pub fn written_modules_run_alike()
+    ensures named { (file input : List ℕ) (m j : Module) (a : Answer) → IsAnswerToValid IsInstrumented (Instrument file) input m a
+        → Formed j → a.out ≡ written j → IsInstrumented m j }
+    ensures alike { (file name input : List ℕ) (o : Options) (m : Module) (a b c : Answer) → IsAnswerToValid IsInstrumented (Instrument file) [] m a
+        → FitsText (pass (numbering m) m) → IsAnswerToText IsInstrumented (Run name o) input a.out b
+        → IsAnswerToValid IsInstrumented (Check name o) input m c → b ≡ c }
 {}

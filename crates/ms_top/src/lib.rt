@@ -9,6 +9,5 @@ mod pieces;
 mod top;
 
 pub use commands::{Command, Options};
-pub use ms_first as first;
 pub use ms_report::{Refusal, WordsFault, closing, refusal_line, report_text, words_line};
 pub use top::{job, msan};

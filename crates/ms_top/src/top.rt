@@ -1,9 +1,9 @@
 //! The top calls.
 ghost use Rattle.std.specs.Prelude.{◌≡◌, ◌≢◌, ◌≤◌, ◌⊎◌, None, IfOk};
 ghost use Rattle.ms_io.specs.Counts.{Rose};
-ghost use Rattle.ms_runs.specs.Faithful.{Faithful};
-ghost use Rattle.ms_top.specs.Command.{command_of, options_of, FitRun};
+ghost use Rattle.ms_top.specs.Command.{command_of, HasFitOptions};
 ghost use Rattle.ms_top.specs.Files.{counted};
+ghost use Rattle.ms_top.specs.Instrumented.{IsInstrumented};
 ghost use Rattle.ms_top.specs.Said.{IsSaid, IsPartlySaid, IsDone, IsPartlyDone, IsTold, IsPartlyTold, between};
 
 use crate::answers::Answer;
@@ -19,10 +19,11 @@ const NO_MEMORY_STATUS: u8 = 8;
 
 /// Does what the words after the program's name ask for. `run FILE` runs the module in the file, and
 /// `check FILE` runs it with the shadow of each word. Its output is written to `out`; each use of
-/// uninitialised bits that was found, and how the run ended, to `err`.
+/// uninitialised bits that was found, and how the run ended, to `err`. `instrument FILE` writes to `out` the text of the
+/// module that `check` runs, which `run` takes.
 ///
 /// The status is 77 for a run with a report, else 0 for one that is done, 3 for one that trapped and 4 for
-/// one whose steps were used up. It is 2 where the words are no command, 5 where
+/// one whose steps were used up; 0 where the module is instrumented. It is 2 where the words are no command, 5 where
 /// the module is refused, 6 where the file can't be read, 7 where a put failed, 8 where memory is wanting,
 /// 9 where the file is too long. All memory is taken before the first put. Words that are no command read no file.
 pub fn msan<F: Files, O: Sink, E: Sink>(
@@ -32,10 +33,10 @@ pub fn msan<F: Files, O: Sink, E: Sink>(
     out: &mut O,
     err: &mut E,
 ) -> u8
-    ensures said { result ≢ 7 → IsSaid Faithful
+    ensures said { result ≢ 7 → IsSaid IsInstrumented
         (counted (F.held files.old) (F.faults files.old) (F.faults files.new) (F.taken files.old) (F.taken files.new))
         (between (O.written out.old) (E.written err.old) (O.written out.new) (E.written err.new)) words.now result }
-    ensures partly_said { result ≡ 7 → IsPartlySaid Faithful
+    ensures partly_said { result ≡ 7 → IsPartlySaid IsInstrumented
         (counted (F.held files.old) (F.faults files.old) (F.faults files.new) (F.taken files.old) (F.taken files.new))
         (between (O.written out.old) (E.written err.old) (O.written out.new) (E.written err.new)) words.now }
     ensures failed { result ≡ 7 → Rose (O.faults out.old) (O.faults out.new) ⊎ Rose (E.faults err.old) (E.faults err.new) }
@@ -50,7 +51,7 @@ pub fn msan<F: Files, O: Sink, E: Sink>(
 }
 
 /// Does what a command asks for, as `msan` does for words: its module's file is read, and its input where it has one; its
-/// run has the fill, the bound of steps and the limit of reports of its options. The statuses are those of `msan`.
+/// run, where it has one, has the fill, the bound of steps and the limit of reports of its options. The statuses are those of `msan`.
 pub fn job<F: Files, O: Sink, E: Sink>(
     alloc: Global,
     command: &Command,
@@ -58,11 +59,11 @@ pub fn job<F: Files, O: Sink, E: Sink>(
     out: &mut O,
     err: &mut E,
 ) -> u8
-    requires { FitRun (options_of command.now) }
-    ensures said { result ≢ 7 → IsDone Faithful
+    requires { HasFitOptions command.now }
+    ensures said { result ≢ 7 → IsDone IsInstrumented
         (counted (F.held files.old) (F.faults files.old) (F.faults files.new) (F.taken files.old) (F.taken files.new))
         (between (O.written out.old) (E.written err.old) (O.written out.new) (E.written err.new)) command.now result }
-    ensures partly_said { result ≡ 7 → IsPartlyDone Faithful
+    ensures partly_said { result ≡ 7 → IsPartlyDone IsInstrumented
         (counted (F.held files.old) (F.faults files.old) (F.faults files.new) (F.taken files.old) (F.taken files.new))
         (between (O.written out.old) (E.written err.old) (O.written out.new) (E.written err.new)) command.now }
     ensures failed { result ≡ 7 → Rose (O.faults out.old) (O.faults out.new) ⊎ Rose (E.faults err.old) (E.faults err.new) }

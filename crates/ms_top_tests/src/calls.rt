@@ -32,11 +32,31 @@ pub struct Call {
 
 /// What a call writes and answers.
 #[derive(Clone, Copy)]
-pub struct Wanted {
-    pub out: &'static str,
-    pub err: &'static str,
+pub struct Wanted<'a> {
+    pub out: &'a [u8],
+    pub err: &'a str,
     pub status: u8,
 }
+
+/// What a call wrote and answered.
+#[derive(Drop)]
+pub struct Said {
+    pub out: Vec<u8>,
+    pub err: Vec<u8>,
+    pub status: u8,
+}
+
+impl Said {
+    /// Whether two calls wrote and answered the same.
+    pub fn is_same(&self, other: &Said) -> bool {
+        self.status == other.status
+            && self.out.as_slice() == other.out.as_slice()
+            && self.err.as_slice() == other.err.as_slice()
+    }
+}
+
+/// The bytes that a sink takes of what isn't known beforehand.
+const ROOM: usize = 1 << 20;
 
 /// The words of a line, which stand with a space between.
 fn words_of(alloc: Global, line: &str) -> Result<Vec<Text>, AllocError> {
@@ -74,7 +94,8 @@ fn begun(alloc: Global, head: &[u8], piece: &[u8], count: u32) -> Result<Vec<u8>
     Ok(text)
 }
 
-fn file_of(alloc: Global, call: &Call) -> Result<Vec<u8>, AllocError> {
+/// The text of the file `f`.
+pub fn text_of(alloc: Global, call: &Call) -> Result<Vec<u8>, AllocError> {
     let mut text = begun(
         alloc,
         call.head.as_bytes(),
@@ -85,15 +106,21 @@ fn file_of(alloc: Global, call: &Call) -> Result<Vec<u8>, AllocError> {
     Ok(text)
 }
 
-/// Files that hold `f` alone.
-fn files_of(alloc: Global, call: &Call) -> Result<MemFiles, AllocError> {
-    let file = file_of(alloc, call)?;
+/// Files that hold this text as `f`, and nothing else.
+fn holding(alloc: Global, text: Vec<u8>, failing: &[u64]) -> Result<MemFiles, AllocError> {
     let mut held = BTreeMap::new(alloc);
-    held.insert(String::from_str(alloc, "f")?, file)?;
-    Ok(MemFiles::new(held, Vec::from_slice(alloc, call.failing_reads)?))
+    held.insert(String::from_str(alloc, "f")?, text)?;
+    Ok(MemFiles::new(held, Vec::from_slice(alloc, failing)?))
 }
 
-fn sink_of(alloc: Global, failing: &[u64], room: usize) -> Result<MemSink, AllocError> {
+/// Files that hold `f` alone.
+fn files_of(alloc: Global, call: &Call) -> Result<MemFiles, AllocError> {
+    let file = text_of(alloc, call)?;
+    holding(alloc, file, call.failing_reads)
+}
+
+/// A sink with room for so many bytes, of whose puts those with these numbers fail.
+pub fn sink_of(alloc: Global, failing: &[u64], room: usize) -> Result<MemSink, AllocError> {
     let failing = Vec::from_slice(alloc, failing)?;
     let bytes: Vec<u8> = vec![in alloc; 0; room]?;
     Ok(MemSink::new(failing, bytes))
@@ -110,16 +137,35 @@ fn is_answered(
 ) -> bool {
     let status = msan(alloc, words, files, out, err);
     status == wanted.status
-        && out.as_slice() == wanted.out.as_bytes()
+        && out.as_slice() == wanted.out
         && err.as_slice() == wanted.err.as_bytes()
 }
 
 fn answer(alloc: Global, call: &Call, wanted: &Wanted) -> Result<bool, AllocError> {
     let words = words_of(alloc, call.words)?;
     let mut files = files_of(alloc, call)?;
-    let mut out = sink_of(alloc, &[], 100)?;
+    let mut out = sink_of(alloc, &[], wanted.out.len().saturating_add(100))?;
     let mut err = sink_of(alloc, call.failing_puts, call.room)?;
     Ok(is_answered(alloc, &words, &mut files, &mut out, &mut err, wanted))
+}
+
+/// What a call with these words says of the text `f`.
+pub fn said_of(alloc: Global, words: &str, text: &[u8]) -> Result<Said, AllocError> {
+    let words = words_of(alloc, words)?;
+    let mut files = holding(alloc, Vec::from_slice(alloc, text)?, &[])?;
+    let mut out = sink_of(alloc, &[], ROOM)?;
+    let mut err = sink_of(alloc, &[], ROOM)?;
+    let status = msan(alloc, &words, &mut files, &mut out, &mut err);
+    let out = Vec::from_slice(alloc, out.as_slice())?;
+    let err = Vec::from_slice(alloc, err.as_slice())?;
+    Ok(Said { out, err, status })
+}
+
+/// Whether this is what is wanted.
+pub fn says(said: &Said, wanted: &Wanted) -> bool {
+    said.status == wanted.status
+        && said.out.as_slice() == wanted.out
+        && said.err.as_slice() == wanted.err.as_bytes()
 }
 
 /// Whether a call writes and answers so.
@@ -143,7 +189,7 @@ pub fn case_agrees(alloc: Global, case: &Case) -> bool {
         room: 1000,
     };
     let wanted = Wanted {
-        out: case.2,
+        out: case.2.as_bytes(),
         err: case.3,
         status: case.4,
     };

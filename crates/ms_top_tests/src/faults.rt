@@ -18,7 +18,7 @@ struct Failing(
     u8,
 );
 
-static FAULTS: [Failing; 8] = [
+static FAULTS: [Failing; 9] = [
     Failing(
         "run f",
         &[],
@@ -29,6 +29,7 @@ static FAULTS: [Failing; 8] = [
     ),
     Failing("run f", &[0], &[], 1000, "file fault: f\n", 6),
     Failing("check f", &[0], &[], 1000, "file fault: f\n", 6),
+    Failing("instrument f", &[0], &[], 1000, "file fault: f\n", 6),
     // No second read is made.
     Failing(
         "run f",
@@ -64,7 +65,7 @@ fn failing_agrees(alloc: Global, case: &Failing) -> bool {
         room: case.3,
     };
     let wanted = Wanted {
-        out: "",
+        out: b"",
         err: case.4,
         status: case.5,
     };

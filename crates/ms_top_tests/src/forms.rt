@@ -1,4 +1,4 @@
-//! Which modules can be run yet, and in which spellings.
+//! Modules in other spellings, and such as have little to check.
 
 use crate::calls::{Case, all_agree, case_agrees};
 use std::alloc::Global;
@@ -91,8 +91,8 @@ static SPELLINGS: [Case; 12] = [
     ),
 ];
 
-/// Valid modules beyond the first form, the closing lines of their runs and the status. They can't be checked yet.
-static BEYOND: [Beyond; 14] = [
+/// Modules of which `run` and `check` say the same: the closing lines and the status.
+static BEYOND: [Beyond; 13] = [
     Beyond(
         "define i32 @main() { a: ret i32 0 }",
         "end: exit 0\nreports: 0\nblind: 0\n",
@@ -129,11 +129,6 @@ static BEYOND: [Beyond; 14] = [
         0,
     ),
     Beyond(
-        "define i32 @main() { ret i32 poison }",
-        "end: exit 2779096485\nreports: 0\nblind: 0\n",
-        0,
-    ),
-    Beyond(
         "define i32 @main() { %x = or i32 1, 2 ret i32 0 }",
         "end: exit 0\nreports: 0\nblind: 0\n",
         0,
@@ -165,21 +160,18 @@ static BEYOND: [Beyond; 14] = [
     ),
 ];
 
-/// A module's text, the closing lines of its run and the status.
+/// A module's text, its closing lines and the status.
 #[derive(Clone, Copy)]
 struct Beyond(&'static str, &'static str, u8);
 
-fn runs_unchecked(alloc: Global, row: &Beyond) -> bool {
+fn is_alike(alloc: Global, row: &Beyond) -> bool {
     case_agrees(alloc, &Case("run f", row.0, "", row.1, row.2))
-        && case_agrees(
-            alloc,
-            &Case("check f", row.0, "", "refused 99: not built yet\n", 5),
-        )
+        && case_agrees(alloc, &Case("check f", row.0, "", row.1, row.2))
 }
 
-fn all_run_unchecked(alloc: Global, rows: &[Beyond]) -> bool {
+fn all_are_alike(alloc: Global, rows: &[Beyond]) -> bool {
     for row in rows {
-        if !runs_unchecked(alloc, row) {
+        if !is_alike(alloc, row) {
             return false;
         }
     }
@@ -187,13 +179,13 @@ fn all_run_unchecked(alloc: Global, rows: &[Beyond]) -> bool {
 }
 
 #[test]
-fn other_spellings_of_the_first_form_run(rt: HostRuntime) -> Result<(), Fail> {
+fn other_spellings_run(rt: HostRuntime) -> Result<(), Fail> {
     assert!(rt; all_agree(rt.alloc(), &SPELLINGS));
     Ok(())
 }
 
 #[test]
-fn other_modules_run_and_are_not_checked(rt: HostRuntime) -> Result<(), Fail> {
-    assert!(rt; all_run_unchecked(rt.alloc(), &BEYOND));
+fn other_modules_run_and_are_checked(rt: HostRuntime) -> Result<(), Fail> {
+    assert!(rt; all_are_alike(rt.alloc(), &BEYOND));
     Ok(())
 }

@@ -2,18 +2,48 @@
 #![tactic(auto)]
 
 #[cfg(test)]
+mod alike;
+#[cfg(test)]
+mod bounds;
+#[cfg(test)]
+mod bytes;
+#[cfg(test)]
 mod calls;
+#[cfg(test)]
+mod checks;
+#[cfg(test)]
+mod control;
 #[cfg(test)]
 mod faults;
 #[cfg(test)]
 mod forms;
 #[cfg(test)]
+mod given;
+#[cfg(test)]
+mod heap;
+#[cfg(test)]
 mod limits;
+#[cfg(test)]
+mod listings;
+#[cfg(test)]
+mod marked;
+#[cfg(test)]
+mod memory;
+#[cfg(test)]
+mod modules;
+#[cfg(test)]
+mod outside;
 #[cfg(test)]
 mod refusals;
 #[cfg(test)]
 mod runs;
 #[cfg(test)]
+mod runtime;
+#[cfg(test)]
 mod texts;
 #[cfg(test)]
+mod traps;
+#[cfg(test)]
 mod validity;
+#[cfg(test)]
+mod words;

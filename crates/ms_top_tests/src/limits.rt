@@ -32,8 +32,8 @@ static LIMITS: [Long; 8] = [
         "ret i32 0\n",
         131072,
         "}\n",
-        "refused 99: not built yet\n",
-        5,
+        "end: exit 0\nreports: 0\nblind: 0\n",
+        0,
     ),
     Long(
         "check f",
@@ -92,7 +92,7 @@ static LIMITS: [Long; 8] = [
 ];
 
 // The plain form is short, and the instrumented one is long.
-static FORMS: [Long; 5] = [
+static FORMS: [Long; 7] = [
     Long(
         "check f",
         "",
@@ -111,7 +111,25 @@ static FORMS: [Long; 5] = [
         "refused 4: syntax at token 0, byte 0\n",
         5,
     ),
+    Long(
+        "instrument f",
+        "",
+        "(",
+        1048577,
+        "",
+        "refused 3: too many tokens\n",
+        5,
+    ),
     Long("check f", "", " ", 4194305, "", "file too long: f\n", 9),
+    Long(
+        "instrument f",
+        "",
+        " ",
+        4194305,
+        "",
+        "file too long: f\n",
+        9,
+    ),
     Long("run f", "", " ", 4194305, "", "refused 13: no main\n", 5),
     Long("run f", "", " ", 134217729, "", "file too long: f\n", 9),
 ];
@@ -150,7 +168,7 @@ fn long_agrees(alloc: Global, case: &Long) -> bool {
         room: 1000,
     };
     let wanted = Wanted {
-        out: "",
+        out: b"",
         err: case.5,
         status: case.6,
     };

@@ -1,32 +1,51 @@
-use Rattle.std.proofs.Common.{◌≤◌, ◌^◌, length, sym, ◌∙◌, subst, arith, All}
+use Rattle.std.proofs.Common.{◌≡◌, All, sym, ap, subst, ◌∙◌}
+use Rattle.ms_ir.specs.declared.syntax.Module.{Module}
+use Rattle.ms_ir.specs.Code.{strip}
+use Rattle.ms_ir.specs.Locals.{function_names}
 use Rattle.ms_runs.specs.Faithful.{Faithful}
-use Rattle.ms_pass.specs.FirstNumbers.{IsSimple}
-use Rattle.ms_pass.proofs.FirstSimple.{first_simple}
-use Rattle.ms_pass.proofs.FirstPass.{passed}
-use Rattle.ms_pass.proofs.FaithfulFirst.{faithful_first}
+use Rattle.ms_valid.specs.Formed.{Formed}
+use Rattle.ms_valid.specs.Valid.{Valid}
+use Rattle.ms_tables.specs.FirstPlace.{first_place}
+use Rattle.ms_tables.proofs.Items.{under_ok}
+use Rattle.ms_pass_laws.specs.Numbers.{numbering}
+use Rattle.ms_pass_laws.specs.Pass.{pass}
+use Rattle.ms_pass_laws.proofs.Taken.{instrumented_faithful}
+use Rattle.ms_pass_laws.proofs.Unmarked.{module_strips}
+use Rattle.ms_pass_laws.proofs.Whole.{strip_pass}
+use Rattle.ms_pass_valid.proofs.FormedMain.{numbered_formed_valid}
+use Rattle.ms_pass.specs.Counted.{past_funcs, AreSmall}
+use Rattle.ms_pass.specs.Passed.{no_counts}
+use Rattle.ms_pass.specs.Ready.{IsReady}
+use Rattle.ms_pass.proofs.ModuleReady.{module_ready, module_small}
+use Rattle.ms_pass.proofs.Numbered.{passed_is}
 use Rattle.ms_pass.proofs.instruments.instrument.Goals as goal
 
-pub count_results-size-requires : goal.count_results-size-requires
-count_results-size-requires c =
-    subst (λ l. length l ≤ 2 ^ 22) (sym c.main_insts-insts.ensures) c.requires.few
+pub passed_module-requires-clause-ready : goal.passed_module-requires-clause-ready
+passed_module-requires-clause-ready c =
+    subst (λ (m : Module). All (IsReady m.types) m.funcs) (sym c.module.ensures) (module_ready c.args.m.now c.is_valid.ensures.formed c.is_valid.ensures.valid c.requires)
 
-pub instrument_block-requires-clause-simple : goal.instrument_block-requires-clause-simple
-instrument_block-requires-clause-simple c =
-    subst (All IsSimple) (sym c.main_insts-insts.ensures) (first_simple c.args.m.now c.requires.first)
+pub passed_module-requires-clause-small : goal.passed_module-requires-clause-small
+passed_module-requires-clause-small c =
+    subst (λ (m : Module). AreSmall (past_funcs (first_place (function_names m)) no_counts m.funcs)) (sym c.module.ensures) (module_small c.args.m.now c.is_valid.ensures.formed)
 
-pub instrument_block-requires-clause-few : goal.instrument_block-requires-clause-few
-instrument_block-requires-clause-few c =
-    subst (λ l. length l ≤ 2 ^ 22) (sym c.main_insts-insts.ensures) c.requires.few
+pub of_valid-requires-clause-formed : goal.of_valid-requires-clause-formed
+of_valid-requires-clause-formed c =
+    let m = c.args.m.now in
+    subst Formed (sym (passed_is m c.module.result.now c.in_ok-module.module c.module.ensures c.in_ok-module.ensures)) (numbered_formed_valid m c.is_valid.ensures.formed c.is_valid.ensures.valid c.requires).0
 
-pub instrument_block-requires-clause-results : goal.instrument_block-requires-clause-results
-instrument_block-requires-clause-results c =
-    omega (arith, c.count_results-size.ensures.few, subst (λ l. length l ≤ 2 ^ 22) (sym c.main_insts-insts.ensures) c.requires.few)
+pub of_valid-requires-clause-valid : goal.of_valid-requires-clause-valid
+of_valid-requires-clause-valid c =
+    let m = c.args.m.now in
+    subst Valid (sym (passed_is m c.module.result.now c.in_ok-module.module c.module.ensures c.in_ok-module.ensures)) (numbered_formed_valid m c.is_valid.ensures.formed c.is_valid.ensures.valid c.requires).1
 
-pub returns-clause-pass : goal.returns-clause-pass
-returns-clause-pass c =
-    c.in_ok-made.ensures
-    ∙ passed c.args.m.now c.requires.first c.main_insts-insts.result.now c.in_ok-code.code.items c.count_results-size.result c.main_insts-insts.ensures c.count_results-size.ensures.results c.in_ok-code.ensures
-
-pub returns-clause-faithful : goal.returns-clause-faithful
-returns-clause-faithful c = subst (Faithful c.args.m.now) (sym (c.in_ok-made.ensures
-    ∙ passed c.args.m.now c.requires.first c.main_insts-insts.result.now c.in_ok-code.code.items c.count_results-size.result c.main_insts-insts.ensures c.count_results-size.ensures.results c.in_ok-code.ensures)) (faithful_first c.args.m.now c.requires.first c.requires.few)
+pub returns : goal.returns
+returns c =
+    let m = c.args.m.now in
+    let is = passed_is m c.module.result.now c.in_ok-module.module c.module.ensures c.in_ok-module.ensures in
+    let made : Module → Type 0 = λ j. j ≡ c.in_ok-module.module in
+    record {
+      pass = under_ok c.of_valid.result made (λ j. j ≡ pass (numbering m) m) (λ j same. same ∙ is) c.of_valid.ensures;
+      faithful = under_ok c.of_valid.result made (λ j. Faithful m j)
+          (λ j same. subst (λ (x : Module). Faithful m x) (sym (same ∙ is)) (instrumented_faithful m c.is_valid.ensures.formed c.is_valid.ensures.valid c.requires)) c.of_valid.ensures;
+      stripped = under_ok c.of_valid.result made (λ j. strip j ≡ m) (λ j same. ap strip (same ∙ is) ∙ strip_pass (numbering m) m (module_strips m c.requires)) c.of_valid.ensures;
+    }

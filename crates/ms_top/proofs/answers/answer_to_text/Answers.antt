@@ -1,14 +1,14 @@
 use Rattle.std.proofs.Common.{subst, sym, ◌≤◌, length, arith}
 use Rattle.ms_grammar.specs.Texts.{max_bytes}
-use Rattle.ms_top.proofs.Answering.{file_limit, few_insts, formed, has_line, module_answer, refusal_answer}
+use Rattle.ms_top.proofs.Answering.{file_limit, ready, formed, has_line, module_answer, refusal_answer}
 use Rattle.ms_top.proofs.Ok.{on_ok, on_both}
 use Rattle.ms_top.proofs.answers.answer_to_text.Goals as goal
 
 pub read-requires : goal.read-requires
 read-requires c = subst (λ f. length c.args.text.now ≤ max_bytes f) (sym c.form.ensures) (file_limit c.args.command.now _ c.requires.fits)
 
-pub answer_to_module-requires-clause-few : goal.answer_to_module-requires-clause-few
-answer_to_module-requires-clause-few c = few_insts c.form.result c.args.text.now c.read.result c.in-Ok.module
+pub answer_to_module-requires-clause-ready : goal.answer_to_module-requires-clause-ready
+answer_to_module-requires-clause-ready c = ready c.args.command.now c.form.result c.args.text.now c.read.result c.in-Ok.module c.form.ensures
     (record { «module» = c.read.ensures.«module»; lex = c.read.ensures.lex; refused = c.read.ensures.refused; wanting = c.read.ensures.wanting }) c.in-Ok.is
 
 pub answer_to_module-requires-clause-formed : goal.answer_to_module-requires-clause-formed

@@ -9,13 +9,13 @@ use Rattle.ms_top.proofs.files.answer_behind.Goals as goal
 
 pub returns-in-None-clause-said : goal.returns-in-None-clause-said
 returns-in-None-clause-said g c =
-    on_ok c.answer_to_text.result (λ a is. without_input _ c.args.command.now c.options.result.now c.args.text.now a c.options.ensures c.in-None.is is) c.answer_to_text.ensures
+    on_ok c.answer_to_text.result (λ a is. without_input _ c.args.command.now c.args.text.now a c.in-None.ensures is) c.answer_to_text.ensures
 
 pub returns-in-Ok-clause-said : goal.returns-in-Ok-clause-said
 returns-in-Ok-clause-said g c =
     let whole = subst (λ n. IsWholeFile (g.F.Files.held c.args.files.now) n input_limit c.in-Ok.input.items) c.as_str.ensures c.in-Ok.ensures.whole in
     on_ok c.answer_to_text-in-Ok.result
-    (λ a is. with_input _ c.args.command.now c.options.result.now _ c.args.text.now c.in-Ok.input.items c.deref.result.now a c.options.ensures c.in-Some.is whole c.deref.ensures.value is)
+    (λ a is. with_input _ c.args.command.now _ c.args.text.now c.in-Ok.input.items c.deref.result.now a c.in-Some.ensures whole c.deref.ensures.value is)
     c.answer_to_text-in-Ok.ensures
 
 pub returns-in-Err-clause-said : goal.returns-in-Err-clause-said
@@ -27,6 +27,6 @@ returns-in-Err-clause-said g c =
     (λ a is.
     let is_here = subst (λ n. IsAnswerToFault c.in-Err.cause n a) (sym c.as_str.ensures) is in
     let why = unread counts name input_limit c.read_whole.result c.in-Err.cause a (record { failed = e.failed; absent = e.absent; too_long = e.too_long }) c.in-Err.is is_here in
-    unread_input counts c.args.command.now c.options.result.now _ c.args.text.now a c.options.ensures c.in-Some.is
+    unread_input counts c.args.command.now _ c.args.text.now a c.in-Some.ensures
     (subst (λ n. Unread counts n input_limit a) c.as_str.ensures why))
     c.unread.ensures

@@ -1,0 +1,63 @@
+-- The parts of an instrumented module, as they are built.
+use Rattle.std.specs.Prelude.{ℕ, ◌+◌, ◌*◌, List, [], ◌∷◌, ◌++◌, length}
+use Rattle.ms_ir.specs.declared.syntax.Name.{Name}
+use Rattle.ms_ir.specs.declared.syntax.Inst.{Inst}
+use Rattle.ms_ir.specs.declared.syntax.Block.{Block}
+use Rattle.ms_ir.specs.declared.syntax.Func.{Func}
+use Rattle.ms_ir.specs.declared.syntax.Module.{Module}
+use Rattle.ms_ir.specs.declared.syntax.Ty.{Ty}
+use Rattle.ms_ir.specs.Layout.{Types}
+use Rattle.ms_ir.specs.Locals.{function_names}
+use Rattle.ms_ir.specs.Names.{name_eq, main_name}
+use Rattle.ms_ir.specs.Signatures.{slot_globals, runtime_declarations}
+use Rattle.ms_runs.specs.World.{Here}
+use Rattle.ms_tables.specs.FirstPlace.{first_place}
+use Rattle.ms_tasks.specs.Tasks.{Code}
+use Rattle.ms_tasks.specs.Environments.{Env, Given}
+use Rattle.ms_tasks.specs.PassLists.{pass_insts}
+use Rattle.ms_pass_laws.specs.Pass.{pass_blocks, entry_code, enter_block}
+use Rattle.ms_pass.specs.declared.counts.Counts.{Counts}
+use Rattle.ms_pass.specs.Counted.{here_of, past_blocks}
+use Rattle.ms_pass.specs.Valued.{value_names, env_by}
+
+-- code with instructions behind it, each between its lists
+abbrev pub with_insts : Given → Env → Here → List Inst → Code → Code
+with_insts given env h is c = let x = pass_insts given env is h c.next in record { code = c.code ++ x.code; next = x.next }
+
+-- blocks, the first of which begins with code
+abbrev pub with_blocks : Given → Env → Here → List Block → Code → List Block
+with_blocks given env h bs c = enter_block c.code (pass_blocks given env bs h c.next)
+
+-- the number of the first inserted result of a function with so many values
+abbrev pub first_number : ℕ → ℕ
+first_number size = 2 * size + 1
+
+-- what a function begins with
+abbrev pub entry : Env → ℕ → List (Ty × Name) → Code
+entry env n params = record { code = entry_code env params n; next = n }
+
+-- the instrumented form of a function whose values are numbered in text order
+abbrev pub passed_func : Given → Here → Func → Func
+passed_func given h f = let names = value_names f in record f { blocks = with_blocks given (env_by names) h f.blocks (entry (env_by names) (first_number (length names)) f.params) }
+
+-- the instrumented form of functions
+abbrev pub passed_funcs : Given → Counts → List Func → List Func
+passed_funcs given c [] = []
+passed_funcs given c (f ∷ fs) = passed_func given (here_of c (name_eq f.name main_name)) f ∷ passed_funcs given (past_blocks given.func c f.blocks) fs
+
+-- what is looked up in a module
+abbrev pub given_by : Types → List Name → Given
+given_by types functions = record { types = types; func = first_place functions }
+
+-- the counts before the first instruction
+abbrev pub no_counts : Counts
+no_counts = record { site = 1; root = 0 }
+
+-- the instrumented form of a module
+abbrev pub passed_module : Module → Module
+passed_module m = record {
+  types = m.types;
+  globals = m.globals ++ slot_globals;
+  decls = m.decls ++ runtime_declarations;
+  funcs = passed_funcs (given_by m.types (function_names m)) no_counts m.funcs;
+}

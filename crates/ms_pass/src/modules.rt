@@ -1,0 +1,81 @@
+//! The instrumented form of a module, from its parts.
+ghost use Rattle.std.specs.Prelude.{◌≡◌, ◌++◌, All, IfOk};
+ghost use Rattle.ms_ir.specs.Locals.{function_names};
+ghost use Rattle.ms_ir.specs.Signatures.{slot_globals, runtime_declarations};
+ghost use Rattle.ms_tables.specs.FirstPlace.{first_place};
+ghost use Rattle.ms_pass.specs.Counted.{past_funcs, AreSmall};
+ghost use Rattle.ms_pass.specs.Passed.{given_by, no_counts, passed_funcs, passed_module};
+ghost use Rattle.ms_pass.specs.Ready.{IsReady};
+
+use crate::counts::Counts;
+use crate::functions::passed_funcs;
+use ms_bits::{Duplicate, List, NoMemory};
+use ms_ir::{Decl, Func, GlobalVar, Module, runtime_declarations, slot_globals};
+use ms_tables::{Extents, functions_of};
+use std::alloc::Global;
+
+/// Adds copies at the end of a list.
+fn push_copies<T: Duplicate>(alloc: Global, items: &mut Vec<T>, more: &[T]) -> Result<(), NoMemory>
+    ensures { IfOk result (λ _. items.new.items ≡ items.old.items ++ more.now) }
+{
+    for item in more {
+        items.push(item.copy(alloc)?)?;
+    }
+    Ok(())
+}
+
+/// A copy of one list with that of another behind it.
+fn joined<T: Duplicate>(alloc: Global, first: &[T], more: &[T]) -> Result<List<T>, NoMemory>
+    ensures { IfOk result (λ items. items ≡ first.now ++ more.now) }
+{
+    let mut items = Vec::new(alloc);
+    push_copies(alloc, &mut items, first)?;
+    push_copies(alloc, &mut items, more)?;
+    Ok(List::from_vec(items))
+}
+
+/// The globals of a module, and then the slots.
+fn globals_of(alloc: Global, m: &Module) -> Result<List<GlobalVar>, NoMemory>
+    ensures { IfOk result (λ gs. gs ≡ m.now.globals ++ slot_globals) }
+{
+    let slots = slot_globals(alloc)?;
+    joined(alloc, m.globals.as_slice(), slots.as_slice())
+}
+
+/// The declarations of a module, and then those of the runtime.
+fn declarations_of(alloc: Global, m: &Module) -> Result<List<Decl>, NoMemory>
+    ensures { IfOk result (λ ds. ds ≡ m.now.decls ++ runtime_declarations) }
+{
+    let runtime = runtime_declarations(alloc)?;
+    joined(alloc, m.decls.as_slice(), runtime.as_slice())
+}
+
+/// The instrumented form of the functions of a module.
+fn funcs_of(alloc: Global, m: &Module) -> Result<List<Func>, NoMemory>
+    requires ready { All (IsReady m.now.types) m.now.funcs }
+    requires small { AreSmall (past_funcs (first_place (function_names m.now)) no_counts m.now.funcs) }
+    ensures { IfOk result (λ fs. fs ≡ passed_funcs (given_by m.now.types (function_names m.now)) no_counts m.now.funcs) }
+{
+    let extents = Extents::of(alloc, m)?;
+    let functions = functions_of(alloc, m)?;
+    let start = Counts { site: 1, root: 0 };
+    passed_funcs(alloc, &extents, &functions, start, m.funcs.as_slice())
+}
+
+/// The instrumented form of a module whose functions can be instrumented. The one error is want of memory.
+pub fn passed_module(alloc: Global, m: &Module) -> Result<Module, NoMemory>
+    requires ready { All (IsReady m.now.types) m.now.funcs }
+    requires small { AreSmall (past_funcs (first_place (function_names m.now)) no_counts m.now.funcs) }
+    ensures { IfOk result (λ j. j ≡ passed_module m.now) }
+{
+    let types = m.types.copy(alloc)?;
+    let globals = globals_of(alloc, m)?;
+    let decls = declarations_of(alloc, m)?;
+    let funcs = funcs_of(alloc, m)?;
+    Ok(Module {
+        types,
+        globals,
+        decls,
+        funcs,
+    })
+}

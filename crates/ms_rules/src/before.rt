@@ -1,0 +1,104 @@
+//! What stands before an instruction that is no phi.
+ghost use Rattle.std.specs.Prelude.{◌≡◌, ◌≤◌, ◌^◌, length, map, OnOk};
+ghost use Rattle.ms_tasks.specs.Emit.{before_tasks};
+ghost use Rattle.ms_tasks.specs.ResultTasks.{result_tasks};
+ghost use Rattle.ms_tasks.specs.SlotTasks.{hand_tasks};
+ghost use Rattle.ms_rules_code.specs.Made.{with_tasks};
+ghost use Rattle.ms_rules_code.specs.Steps.{tracked_of};
+ghost use Rattle.ms_rules_results.specs.Widths.{HasWidths};
+ghost use Rattle.ms_rules.specs.Around.{here_of};
+ghost use Rattle.ms_rules.specs.Callees.{IsCallee};
+ghost use Rattle.ms_rules.specs.Scopes.{env_of, given_of};
+ghost use Rattle.ms_rules.specs.Tracking.{IsTracked};
+
+use crate::callees::Callee;
+use crate::scopes::Scope;
+use crate::tracked::Tracking;
+use ms_bits::NoMemory;
+use ms_ir::{Inst, Op};
+use ms_rules_checks::{check, count_blind, save};
+use ms_rules_code::{Code, TrackedOperand};
+use ms_rules_results::define;
+use ms_slots::{hand_arguments, hand_result};
+use std::alloc::Global;
+
+/// Adds what hands masks and origins over to a function of the module that is called, or to the caller.
+#[tactic(auto, using(crate::proofs::Adding::none_with))]
+fn hand_over(
+    alloc: Global,
+    code: &mut Code,
+    scope: &Scope<'_, '_>,
+    op: &Op,
+    callee: Callee,
+    operands: &[TrackedOperand<'_>],
+) -> Result<(), NoMemory>
+    requires { IsCallee (given_of scope.now).func op.now callee }
+    ensures { OnOk result (code.new ≡ with_tasks code.old (hand_tasks (given_of scope.now).func scope.now.main op.now (map tracked_of operands.now))) }
+{
+    match op {
+        Op::Call { .. } => {
+            if callee.own {
+                hand_arguments(alloc, code, operands)
+            } else {
+                Ok(())
+            }
+        }
+        Op::Ret { .. } => {
+            if scope.main {
+                Ok(())
+            } else {
+                hand_result(alloc, code, operands)
+            }
+        }
+        _ => Ok(()),
+    }
+}
+
+/// Adds what defines the mask and the origin of the result, if there is one.
+#[tactic(auto, using(crate::proofs::Adding::none_with))]
+fn define_result(
+    alloc: Global,
+    code: &mut Code,
+    scope: &Scope<'_, '_>,
+    inst: &Inst,
+    callee: Callee,
+    operands: &[TrackedOperand<'_>],
+) -> Result<(), NoMemory>
+    requires few { length scope.now.values.now ≤ 2 ^ 30 }
+    requires widths { HasWidths inst.now.op }
+    requires callee { IsCallee (given_of scope.now).func inst.now.op callee }
+    ensures { OnOk result (code.new ≡ with_tasks code.old (result_tasks (given_of scope.now).func (env_of scope.now) inst.now.result inst.now.op (map tracked_of operands.now))) }
+{
+    match &inst.result {
+        Some(name) => match scope.number(name) {
+            Some(value) => define(alloc, code, value, callee.own, &inst.op, operands),
+            None => Ok(()),
+        },
+        None => Ok(()),
+    }
+}
+
+/// Adds what stands before an instruction that is no phi. `saved` is the number for what is saved.
+pub fn push_before(
+    alloc: Global,
+    code: &mut Code,
+    scope: &Scope<'_, '_>,
+    site: u32,
+    saved: u64,
+    inst: &Inst,
+    callee: Callee,
+    tracking: &Tracking<'_>,
+) -> Result<(), NoMemory>
+    requires few { length scope.now.values.now ≤ 2 ^ 30 }
+    requires widths { HasWidths inst.now.op }
+    requires callee { IsCallee (given_of scope.now).func inst.now.op callee }
+    requires tracked { IsTracked (env_of scope.now) inst.now.op tracking.now }
+    ensures { OnOk result (code.new ≡ with_tasks code.old (before_tasks (given_of scope.now) (env_of scope.now) (here_of scope.now site tracking.now) inst.now saved)) }
+{
+    let operands = tracking.operands.as_slice();
+    hand_over(alloc, code, scope, &inst.op, callee, operands)?;
+    check(code, site, scope.main, callee.external, &inst.op, operands)?;
+    count_blind(alloc, code, &inst.op, operands)?;
+    define_result(alloc, code, scope, inst, callee, operands)?;
+    save(alloc, code, saved, callee.external, &inst.op, operands)
+}

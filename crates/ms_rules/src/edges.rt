@@ -1,0 +1,110 @@
+//! The edges of the phis of masks and origins.
+ghost use Rattle.std.specs.Prelude.{◌≡◌, ◌++◌, [], ◌∷◌, length, map, IfOk, OnOk};
+ghost use Rattle.ms_rules_code.specs.Steps.{shadow_mask, shadow_origin};
+ghost use Rattle.ms_rules.specs.Edges.{masks, origins, with_operands, first_operand, with_first};
+
+use ms_bits::{Duplicate, List, NoMemory};
+use ms_ir::{Name, Operand};
+use ms_rules_code::{Shadow, TrackedOperand, mask_name, origin_name};
+use ms_tables::NameTable;
+use std::alloc::Global;
+
+/// The operand that holds a mask.
+fn mask_operand(alloc: Global, shadow: Shadow) -> Result<Operand, NoMemory>
+    ensures { IfOk result (λ o. o ≡ shadow_mask shadow) }
+{
+    match shadow {
+        Shadow::Clean => Ok(Operand::Int(0)),
+        Shadow::Undefined(mask, _) => Ok(Operand::Int(mask)),
+        Shadow::Value(value) => Ok(Operand::Local(mask_name(alloc, value as u64)?)),
+    }
+}
+
+/// The operand that holds an origin.
+fn origin_operand(alloc: Global, shadow: Shadow) -> Result<Operand, NoMemory>
+    ensures { IfOk result (λ o. o ≡ shadow_origin shadow) }
+{
+    match shadow {
+        Shadow::Clean => Ok(Operand::Int(0)),
+        Shadow::Undefined(_, root) => Ok(Operand::Int(root)),
+        Shadow::Value(value) => Ok(Operand::Local(origin_name(alloc, value as u64)?)),
+    }
+}
+
+/// Adds an edge with a copy of a label.
+fn push_edge(
+    alloc: Global,
+    edges: &mut Vec<(Operand, Name)>,
+    operand: Operand,
+    label: &Name,
+) -> Result<(), NoMemory>
+    ensures { OnOk result (edges.new.items ≡ edges.old.items ++ (operand, label.now) ∷ []) }
+{
+    let label = label.copy(alloc)?;
+    edges.push((operand, label))?;
+    Ok(())
+}
+
+/// Edges with the masks of their operands.
+pub fn mask_edges(
+    alloc: Global,
+    operands: &[TrackedOperand<'_>],
+    edges: &[(Operand, Name)],
+) -> Result<List<(Operand, Name)>, NoMemory>
+    requires { length operands.now ≡ length edges.now }
+    ensures { IfOk result (λ es. es ≡ with_operands (masks operands.now) edges.now) }
+{
+    let mut made = Vec::new(alloc);
+    for (place, edge) in edges.iter().enumerate() {
+        let operand = mask_operand(alloc, operands[place].shadow)?;
+        push_edge(alloc, &mut made, operand, &edge.1)?;
+    }
+    Ok(List::from_vec(made))
+}
+
+/// The labels of edges.
+fn labels_of<'m>(alloc: Global, edges: &'m [(Operand, Name)]) -> Result<NameTable<'m>, NoMemory>
+    ensures { IfOk result (λ names. names ≡ map (λ e. e.1) edges.now) }
+{
+    let mut names = NameTable::new(alloc);
+    for edge in edges {
+        names.push(&edge.1)?;
+    }
+    Ok(names)
+}
+
+/// The operand that holds the origin at the first place of a label.
+fn first_origin(
+    alloc: Global,
+    operands: &[TrackedOperand<'_>],
+    labels: &NameTable<'_>,
+    label: &Name,
+) -> Result<Operand, NoMemory>
+    ensures { IfOk result (λ o. o ≡ first_operand (origins operands.now) labels.now label.now) }
+{
+    match labels.place(label) {
+        Some(place) => match operands.get(place) {
+            Some(tracked) => origin_operand(alloc, tracked.shadow),
+            None => Ok(Operand::Int(0)),
+        },
+        None => Ok(Operand::Int(0)),
+    }
+}
+
+/// Edges with the origins of the first ones that have their labels. These are looked up in a table, since a phi may have
+/// many edges.
+pub fn origin_edges(
+    alloc: Global,
+    operands: &[TrackedOperand<'_>],
+    edges: &[(Operand, Name)],
+) -> Result<List<(Operand, Name)>, NoMemory>
+    ensures { IfOk result (λ es. es ≡ with_first (origins operands.now) (map (λ e. e.1) edges.now) edges.now) }
+{
+    let labels = labels_of(alloc, edges)?;
+    let mut made = Vec::new(alloc);
+    for edge in edges {
+        let operand = first_origin(alloc, operands, &labels, &edge.1)?;
+        push_edge(alloc, &mut made, operand, &edge.1)?;
+    }
+    Ok(List::from_vec(made))
+}

@@ -1,0 +1,107 @@
+//! The lists round one instruction.
+ghost use Rattle.std.specs.Prelude.{◌≡◌, ◌+◌, ◌<◌, ◌≤◌, ◌^◌, false, All, length, IfOk, OnOk};
+ghost use Rattle.ms_ir.specs.Code.{is_phi, operands, roots_in};
+ghost use Rattle.ms_rules_results.specs.Widths.{HasWidths};
+ghost use Rattle.ms_rules.specs.Around.{here_of, saved_for};
+ghost use Rattle.ms_rules.specs.Callees.{IsCallee};
+ghost use Rattle.ms_rules.specs.Placed.{with_inst};
+ghost use Rattle.ms_rules.specs.Scopes.{env_of, given_of};
+ghost use Rattle.ms_rules.specs.Taken.{IsTaken, IsSizedAlloca};
+ghost use Rattle.ms_rules.specs.Tracking.{IsTracked};
+
+use crate::before::push_before;
+use crate::behind::push_behind;
+use crate::callees::{Callee, callee_of, own_roots};
+use crate::copies::push_copy;
+use crate::phis::push_phi;
+use crate::scopes::Scope;
+use crate::tracked::{Tracking, track};
+use ms_bits::NoMemory;
+use ms_ir::{External, Inst, Op};
+use ms_rules_code::Code;
+use std::alloc::Global;
+
+/// The next number, which is kept where something is saved under it.
+fn number_to_save(code: &mut Code, external: Option<External>) -> u64
+    requires { code.old.next < 2 ^ 40 }
+    ensures number { result ≡ code.old.next }
+    ensures code { code.new ≡ record { code = code.old.code; next = code.old.next + saved_for external } }
+{
+    match external {
+        Some(External::Realloc) => code.reserve(),
+        _ => code.next(),
+    }
+}
+
+/// Adds an instruction that is no phi between its lists.
+fn push_around(
+    alloc: Global,
+    code: &mut Code,
+    scope: &Scope<'_, '_>,
+    site: u32,
+    inst: &Inst,
+    callee: Callee,
+    tracking: &Tracking<'_>,
+) -> Result<(), NoMemory>
+    requires few { length scope.now.values.now ≤ 2 ^ 30 }
+    requires taken { IsTaken (given_of scope.now).types inst.now }
+    requires plain { is_phi inst.now.op ≡ false }
+    requires callee { IsCallee (given_of scope.now).func inst.now.op callee }
+    requires tracked { IsTracked (env_of scope.now) inst.now.op tracking.now }
+    requires roots { tracking.now.before < 2 ^ 40 }
+    requires room { code.old.next < 2 ^ 40 }
+    ensures { OnOk result (code.new ≡ with_inst (given_of scope.now) (env_of scope.now) (here_of scope.now site tracking.now) inst.now code.old) }
+{
+    let saved = number_to_save(code, callee.external);
+    push_before(alloc, code, scope, site, saved, inst, callee, tracking)?;
+    push_copy(alloc, code, inst)?;
+    push_behind(alloc, code, scope, site, saved, inst, callee, tracking)
+}
+
+/// Adds an instruction that is no phi between its lists. Answers how many roots it has.
+fn push_plain(
+    alloc: Global,
+    code: &mut Code,
+    scope: &Scope<'_, '_>,
+    site: u32,
+    root: u64,
+    inst: &Inst,
+) -> Result<u64, NoMemory>
+    requires few { length scope.now.values.now ≤ 2 ^ 30 }
+    requires taken { IsTaken (given_of scope.now).types inst.now }
+    requires plain { is_phi inst.now.op ≡ false }
+    requires roots { root < 2 ^ 40 }
+    requires room { code.old.next < 2 ^ 40 }
+    ensures code { OnOk result (code.new ≡ with_inst (given_of scope.now) (env_of scope.now) (record { site = site; root = root; main = scope.now.main }) inst.now code.old) }
+    ensures roots { IfOk result (λ n. n ≡ roots_in (given_of scope.now).func inst.now) }
+{
+    let callee = callee_of(scope, &inst.op);
+    let tracking = track(alloc, scope, root, &inst.op)?;
+    push_around(alloc, code, scope, site, inst, callee, &tracking)?;
+    Ok(tracking.behind - tracking.before + own_roots(scope, callee, &inst.op))
+}
+
+/// Adds an instruction of the program between the lists that are inserted round it, where it has a site and so many roots
+/// stand before it. Answers how many roots it has itself: its undefined operands, and one more where it makes
+/// uninitialised bytes. The one error is want of memory.
+pub fn push_inst(
+    alloc: Global,
+    code: &mut Code,
+    scope: &Scope<'_, '_>,
+    site: u32,
+    root: u64,
+    inst: &Inst,
+) -> Result<u64, NoMemory>
+    requires few { length scope.now.values.now ≤ 2 ^ 30 }
+    requires taken { IsTaken (given_of scope.now).types inst.now }
+    requires roots { root < 2 ^ 40 }
+    requires room { code.old.next < 2 ^ 40 }
+    ensures code { OnOk result (code.new ≡ with_inst (given_of scope.now) (env_of scope.now) (record { site = site; root = root; main = scope.now.main }) inst.now code.old) }
+    ensures roots { IfOk result (λ n. n ≡ roots_in (given_of scope.now).func inst.now) }
+    ensures few { IfOk result (λ n. n ≤ length (operands inst.now.op) + 1) }
+{
+    match &inst.op {
+        Op::Phi { ty, edges } => push_phi(alloc, code, scope, root, inst, ty, edges.as_slice()),
+        _ => push_plain(alloc, code, scope, site, root, inst),
+    }
+}

@@ -1,0 +1,31 @@
+//! What is looked up where an instruction is instrumented.
+ghost use Rattle.std.specs.Prelude.{◌≡◌, ◌≤◌, ◌^◌, length};
+
+use ms_ir::Name;
+use ms_tables::{Extents, NameTable};
+
+/// What is looked up in a module and in a function: the sizes of types, the names of the module's functions, the names of
+/// the function's values in the order in which they are numbered, and whether it is `main`.
+#[derive(Clone, Copy)]
+pub struct Scope<'a, 'm> {
+    pub extents: &'a Extents<'m>,
+    pub functions: &'a NameTable<'m>,
+    pub values: &'a NameTable<'m>,
+    pub main: bool,
+}
+
+impl Scope<'_, '_> {
+    ghost use Rattle.ms_rules.specs.Scopes.{env_of};
+
+    /// The number of the function's value with a name, if there is one.
+    #[tactic(auto, using(crate::proofs::Numbers::number_low))]
+    pub(crate) fn number(&self, name: &Name) -> Option<u32>
+        requires { length self.now.values.now ≤ 2 ^ 30 }
+        ensures { result ≡ (env_of self.now).number name.now }
+    {
+        match self.values.place(name) {
+            Some(place) => Some(place as u32),
+            None => None,
+        }
+    }
+}

@@ -1,0 +1,4 @@
+pub mod Checking
+pub mod Made
+pub mod PlaneRows
+pub mod Unions

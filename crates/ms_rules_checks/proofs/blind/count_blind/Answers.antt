@@ -1,0 +1,23 @@
+use Rattle.std.proofs.Common.{◌≡◌, ◌∙◌, Bool, List, [], ◌∷◌, map, ap, sym, subst, refl}
+use Rattle.std.specs.Prelude.{OnOk, None, reverse, if◌then◌else◌}
+use Rattle.ms_ir.specs.declared.syntax.Ty.{Int}
+use Rattle.ms_ir.specs.declared.calls.RuntimeFn.TheVariants as function
+use Rattle.ms_tasks.specs.Tasks.{Calls}
+use Rattle.ms_tasks.specs.Environments.{Tracked}
+use Rattle.ms_tasks.specs.CheckTasks.{blind_tasks, union_masks}
+use Rattle.ms_rules_code.specs.Made.{with_tasks}
+use Rattle.ms_rules_code.specs.Steps.{tracked_of, words}
+use Rattle.ms_rules_checks.specs.Plain.{plain}
+use Rattle.ms_rules_checks.proofs.Unions.{blinded_map}
+use Rattle.ms_rules_checks.proofs.blind.count_blind.Goals as goal
+
+pub returns : goal.returns
+returns c =
+    let ts = map tracked_of c.blinded-blind.result.now in
+    let Made : List Tracked → Type 0 = λ us. OnOk c.call.result (c.call.new.code ≡ with_tasks c.args.code.now (blind_tasks us)) in
+    let Chosen : Bool → Type 0 = λ b.
+    OnOk c.call.result (c.call.new.code ≡ with_tasks c.args.code.now (if b then [] else Calls None function.Blind ((Int 64, union_masks ts) ∷ []) ∷ [])) in
+    subst Made (ap (map tracked_of) c.blinded-blind.ensures ∙ blinded_map tracked_of c.args.op.now c.args.operands.now)
+    (subst Chosen c.if-are_clean.ensures
+    (c.call.ensures ((Int 64, union_masks ts) ∷ []) refl
+    (ap reverse (sym (ap (λ steps. words (plain ts None) steps []) c.deref.ensures.value ∙ c.in_ok-steps.ensures None)))))

@@ -1,0 +1,5 @@
+pub mod Pieces
+pub mod Plain
+pub mod Sizes
+pub mod Tables
+pub mod Unions

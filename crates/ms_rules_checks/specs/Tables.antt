@@ -1,0 +1,10 @@
+-- What the rows of tables say.
+use Rattle.ms_runs.specs.Uses as uses
+use Rattle.ms_rules_checks.specs.declared.uses.Use.{Use}
+use Rattle.ms_rules_checks.specs.declared.uses.Use.TheVariants as use_case
+
+-- the use that a row says
+abbrev pub use_of : Use → uses.Use
+use_of (use_case.Word kind k) = uses.Word kind k
+use_of (use_case.Bytes kind a n) = uses.Bytes kind a n
+use_of (use_case.Line a) = uses.Line a

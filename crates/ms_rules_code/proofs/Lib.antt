@@ -1,0 +1,3 @@
+pub mod Stacks
+pub mod Zips
+pub mod Tasks

@@ -1,0 +1,5 @@
+pub mod Steps
+pub mod Made
+pub mod Called
+pub mod Stacks
+pub mod Arguments

@@ -1,0 +1,43 @@
+//! The names that inserted code gives and calls.
+ghost use Rattle.std.specs.Prelude.{◌≡◌, ◌+◌, ◌*◌, ◌<◌, ◌^◌, IfOk};
+ghost use Rattle.ms_ir.specs.Names.{runtime_name as runtime_name_of};
+ghost use Rattle.ms_tasks.specs.Tasks.{msan_name as msan_name_of, mask_name as mask_name_of, origin_name as origin_name_of};
+
+use itoa::Buffer;
+use ms_bits::{Bytes, NoMemory};
+use ms_ir::{Name, RuntimeFn};
+use std::alloc::Global;
+
+/// The local name of the inserted result with a number. The one error is want of memory.
+pub fn msan_name(alloc: Global, number: u64) -> Result<Name, NoMemory>
+    ensures { IfOk result (λ x. x ≡ msan_name_of number) }
+{
+    let mut buffer = Buffer::new();
+    let mut text = Vec::from_slice(alloc, b"__msan.")?;
+    text.extend_from_slice(buffer.format(number).as_bytes())?;
+    Ok(Name::Text(Bytes::from_vec(text)))
+}
+
+/// The name of the mask of the function's value with a number. The one error is want of memory.
+pub fn mask_name(alloc: Global, value: u64) -> Result<Name, NoMemory>
+    requires { value < 2 ^ 62 }
+    ensures { IfOk result (λ x. x ≡ mask_name_of value) }
+{
+    msan_name(alloc, 2 * value + 1)
+}
+
+/// The name of the origin of the function's value with a number. The one error is want of memory.
+pub fn origin_name(alloc: Global, value: u64) -> Result<Name, NoMemory>
+    requires { value < 2 ^ 62 }
+    ensures { IfOk result (λ x. x ≡ origin_name_of value) }
+{
+    msan_name(alloc, 2 * value + 2)
+}
+
+/// The name of a runtime function. The one error is want of memory.
+pub fn runtime_name(alloc: Global, function: RuntimeFn) -> Result<Name, NoMemory>
+    ensures { IfOk result (λ x. x ≡ runtime_name_of function) }
+{
+    let text = Vec::from_slice(alloc, function.name())?;
+    Ok(Name::Text(Bytes::from_vec(text)))
+}

@@ -1,0 +1,6 @@
+pub mod Tables
+pub mod Tasks
+pub mod Shifts
+pub mod Others
+pub mod LastOrigin
+pub mod Indices

@@ -1,0 +1,242 @@
+//! The code that defines the mask and the origin of a result.
+ghost use Rattle.std.specs.Prelude.{◌≡◌, ℕ, ◌≤◌, true, List, [], ◌∷◌, map, drop, OnOk, Option};
+ghost use Rattle.ms_bits.specs.declared.operations.Flags.{Flags as FlagsOf};
+ghost use Rattle.ms_ir.specs.declared.syntax.Name.{Name as NameOf};
+ghost use Rattle.ms_ir.specs.declared.syntax.Ty.{Ty as TyOf, Int};
+ghost use Rattle.ms_ir.specs.declared.syntax.Operand.{Operand as OperandOf};
+ghost use Rattle.ms_ir.specs.declared.syntax.Op.TheVariants as operation;
+ghost use Rattle.ms_ir.specs.Layout.{width_of as width_of_type};
+ghost use Rattle.ms_tasks.specs.Tasks.{Expr, Or, Two, Sets, mask_name as mask_name_of, origin_name as origin_name_of};
+ghost use Rattle.ms_tasks.specs.Environments.{number, tracked_at, bits_of, mask_of};
+ghost use Rattle.ms_tasks.specs.ResultMasks.{cast_expr, compare_expr, union_all, first_last};
+ghost use Rattle.ms_tasks.specs.ResultTasks.{binary_tasks, called_tasks, shift_task, word_tasks, define_tasks, result_width as result_width_of};
+ghost use Rattle.ms_rules_code.specs.Called.{calls_own};
+ghost use Rattle.ms_rules_code.specs.Made.{with_tasks};
+ghost use Rattle.ms_rules_code.specs.Steps.{inputs_of, tracked_of, words};
+ghost use Rattle.ms_rules_results.specs.Widths.{HasWidths};
+ghost use Rattle.ms_rules_results.specs.Rules.{is_rule, defined};
+
+use crate::geps::gep_rule;
+use crate::loads::define_load;
+use crate::masks::{CHOICE, CLEAN, FIRST, SHIFT, binary_rule, cast_step, compare_rule};
+use crate::origins::{CHOICE_ORIGIN, set_last_origin};
+use crate::rules::{set_mask, set_origin, try_mask};
+use ms_bits::{BinOp, CastOp, NoMemory, Pred};
+use ms_ir::{Op, Ty};
+use ms_rules_code::Step::Mask;
+use ms_rules_code::{Code, Inputs, Step, TrackedOperand, width_of};
+use std::alloc::Global;
+
+/// The origin and the mask of a value, of a width, get the words of rules.
+fn define_word(
+    alloc: Global,
+    code: &mut Code,
+    value: u32,
+    width: u8,
+    inputs: &Inputs<'_>,
+    origin: &[Step],
+    mask: &[Step],
+) -> Result<(), NoMemory>
+    requires origin { is_rule origin.now ≡ true }
+    requires mask { is_rule mask.now ≡ true }
+    ensures { (e f : Expr) → words (inputs_of inputs.now) origin.now [] ≡ e ∷ [] → words (inputs_of inputs.now) mask.now [] ≡ f ∷ [] → OnOk result (code.new ≡ with_tasks code.old (defined value width e f)) }
+{
+    set_origin(alloc, code, value, inputs, origin)?;
+    set_mask(alloc, code, value, width, inputs, mask)
+}
+
+/// The same where the origin is that of the last operand whose mask isn't 0.
+fn define_joined(
+    alloc: Global,
+    code: &mut Code,
+    value: u32,
+    width: u8,
+    inputs: &Inputs<'_>,
+    mask: &[Step],
+) -> Result<(), NoMemory>
+    requires { is_rule mask.now ≡ true }
+    ensures { (e : Expr) → words (inputs_of inputs.now) mask.now [] ≡ e ∷ [] → OnOk result (code.new ≡ with_tasks code.old (defined value width (first_last (inputs_of inputs.now).operands) e)) }
+{
+    set_last_origin(alloc, code, value, inputs)?;
+    set_mask(alloc, code, value, width, inputs, mask)
+}
+
+/// The same of a result that is clean.
+fn define_clean(
+    alloc: Global,
+    code: &mut Code,
+    value: u32,
+    width: u8,
+    operands: &[TrackedOperand<'_>],
+) -> Result<(), NoMemory>
+    ensures { OnOk result (code.new ≡ with_tasks code.old (defined value width (number 0) (number 0))) }
+{
+    let inputs = Inputs::plain(operands, width, &None);
+    define_word(alloc, code, value, width, &inputs, &CLEAN, &CLEAN)
+}
+
+fn define_shift(
+    alloc: Global,
+    code: &mut Code,
+    value: u32,
+    op: BinOp,
+    width: u8,
+    operands: &[TrackedOperand<'_>],
+) -> Result<(), NoMemory>
+    requires some { 1 ≤ width }
+    requires few { width ≤ 64 }
+    ensures { OnOk result (code.new ≡ with_tasks code.old (Sets (origin_name_of value) (Int 32) (first_last (map tracked_of operands.now)) ∷ shift_task (mask_name_of value) op width (tracked_at 0 (map tracked_of operands.now)) (tracked_at 1 (map tracked_of operands.now)) ∷ [])) }
+{
+    let inputs = Inputs::new(operands, width, &None);
+    set_last_origin(alloc, code, value, &inputs)?;
+    try_mask(alloc, code, value, op, width, &inputs, &SHIFT)
+}
+
+fn define_binary(
+    alloc: Global,
+    code: &mut Code,
+    value: u32,
+    op: BinOp,
+    width: u8,
+    operands: &[TrackedOperand<'_>],
+) -> Result<(), NoMemory>
+    requires some { 1 ≤ width }
+    requires few { width ≤ 64 }
+    ensures { (f : FlagsOf) (t : TyOf) (a b : OperandOf) → width_of_type t ≡ width → OnOk result (code.new ≡ with_tasks code.old (binary_tasks (mask_name_of value) (origin_name_of value) op (operation.Binary op f t a b) width (map tracked_of operands.now))) }
+{
+    match op {
+        BinOp::Shl | BinOp::Lshr | BinOp::Ashr => {
+            define_shift(alloc, code, value, op, width, operands)
+        }
+        _ => {
+            let inputs = Inputs::new(operands, width, &None);
+            define_joined(alloc, code, value, width, &inputs, binary_rule(op))
+        }
+    }
+}
+
+fn define_compare(
+    alloc: Global,
+    code: &mut Code,
+    value: u32,
+    pred: Pred,
+    width: u8,
+    operands: &[TrackedOperand<'_>],
+) -> Result<(), NoMemory>
+    requires some { 1 ≤ width }
+    requires few { width ≤ 64 }
+    ensures { let ts = map tracked_of operands.now in OnOk result (code.new ≡ with_tasks code.old (defined value 1 (first_last ts) (compare_expr pred width (bits_of (tracked_at 0 ts)) (mask_of (tracked_at 0 ts)) (bits_of (tracked_at 1 ts)) (mask_of (tracked_at 1 ts))))) }
+{
+    let inputs = Inputs::new(operands, width, &None);
+    define_joined(alloc, code, value, 1, &inputs, compare_rule(pred))
+}
+
+fn define_cast(
+    alloc: Global,
+    code: &mut Code,
+    value: u32,
+    op: CastOp,
+    from: u8,
+    to: u8,
+    operands: &[TrackedOperand<'_>],
+) -> Result<(), NoMemory>
+    ensures { let ts = map tracked_of operands.now in OnOk result (code.new ≡ with_tasks code.old (defined value to (first_last ts) (cast_expr op from to (mask_of (tracked_at 0 ts))))) }
+{
+    let inputs = Inputs::plain(operands, from, &None);
+    match cast_step(op, from, to) {
+        Some(cast) => define_joined(alloc, code, value, to, &inputs, &[Mask(0), cast]),
+        None => define_joined(alloc, code, value, to, &inputs, &FIRST),
+    }
+}
+
+fn define_select(
+    alloc: Global,
+    code: &mut Code,
+    value: u32,
+    width: u8,
+    operands: &[TrackedOperand<'_>],
+) -> Result<(), NoMemory>
+    ensures { (c a b : OperandOf) (t : TyOf) → width_of_type t ≡ width → OnOk result (code.new ≡ with_tasks code.old (word_tasks (mask_name_of value) (origin_name_of value) (operation.Select c t a b) (map tracked_of operands.now))) }
+{
+    let inputs = Inputs::plain(operands, width, &None);
+    define_word(alloc, code, value, width, &inputs, &CHOICE_ORIGIN, &CHOICE)
+}
+
+fn define_gep(
+    alloc: Global,
+    code: &mut Code,
+    value: u32,
+    operands: &[TrackedOperand<'_>],
+) -> Result<(), NoMemory>
+    ensures { let ts = map tracked_of operands.now in OnOk result (code.new ≡ with_tasks code.old (defined value 64 (first_last ts) (Two Or (Int 64) (mask_of (tracked_at 0 ts)) (union_all (drop 1 ts))))) }
+{
+    let inputs = Inputs::plain(operands, 64, &None);
+    let mask = gep_rule(alloc, operands)?;
+    define_joined(alloc, code, value, 64, &inputs, mask.as_slice())
+}
+
+fn result_width(ret: &Option<Ty>) -> u8
+    ensures { (callee : NameOf) (args : List (TyOf × OperandOf)) → result ≡ result_width_of (operation.Call ret.now callee args) }
+{
+    match ret {
+        Some(ty) => width_of(ty),
+        None => 64,
+    }
+}
+
+fn define_call(
+    alloc: Global,
+    code: &mut Code,
+    value: u32,
+    own: bool,
+    ret: &Option<Ty>,
+    operands: &[TrackedOperand<'_>],
+) -> Result<(), NoMemory>
+    ensures { (callee : NameOf) (args : List (TyOf × OperandOf)) → OnOk result (code.new ≡ with_tasks code.old (called_tasks own value (operation.Call ret.now callee args) (map tracked_of operands.now))) }
+{
+    if own {
+        return Ok(());
+    }
+    define_clean(alloc, code, value, result_width(ret), operands)
+}
+
+/// Defines the mask and the origin of the function's value with a number, which an operation sets; `own` says that it calls
+/// a function of the module, which hands both over itself. The one error is want of memory.
+pub fn define(
+    alloc: Global,
+    code: &mut Code,
+    value: u32,
+    own: bool,
+    op: &Op,
+    operands: &[TrackedOperand<'_>],
+) -> Result<(), NoMemory>
+    requires { HasWidths op.now }
+    ensures { (func : NameOf → Option ℕ) → calls_own func op.now ≡ own → OnOk result (code.new ≡ with_tasks code.old (define_tasks func value op.now (map tracked_of operands.now))) }
+{
+    match op {
+        Op::Binary { op, ty, .. } => {
+            define_binary(alloc, code, value, *op, width_of(ty), operands)
+        }
+        Op::Icmp { pred, ty, .. } => {
+            define_compare(alloc, code, value, *pred, width_of(ty), operands)
+        }
+        Op::Cast { op, from, to, .. } => {
+            define_cast(
+                alloc,
+                code,
+                value,
+                *op,
+                width_of(from),
+                width_of(to),
+                operands,
+            )
+        }
+        Op::Select { ty, .. } => define_select(alloc, code, value, width_of(ty), operands),
+        Op::Freeze { ty, .. } => define_clean(alloc, code, value, width_of(ty), operands),
+        Op::Alloca { .. } => define_clean(alloc, code, value, 64, operands),
+        Op::Load { ty, .. } => define_load(alloc, code, value, width_of(ty), operands),
+        Op::Gep { .. } => define_gep(alloc, code, value, operands),
+        Op::Call { ret, .. } => define_call(alloc, code, value, own, ret, operands),
+        _ => Ok(()),
+    }
+}

@@ -1,0 +1,87 @@
+//! Rules that set names.
+ghost use Rattle.std.specs.Prelude.{◌≡◌, ℕ, true, List, [], ◌∷◌, ◌++◌, replicate, OnOk};
+ghost use Rattle.ms_ir.specs.declared.syntax.Ty.{Int};
+ghost use Rattle.ms_tasks.specs.Tasks.{Expr, Sets, Tries, mask_name as mask_name_of, origin_name as origin_name_of};
+ghost use Rattle.ms_rules_code.specs.Made.{with_tasks};
+ghost use Rattle.ms_rules_code.specs.Steps.{inputs_of, words};
+ghost use Rattle.ms_rules_results.specs.Rules.{is_rule};
+
+use ms_bits::{BinOp, NoMemory};
+use ms_ir::Name;
+use ms_rules_code::{Code, Inputs, Step, mask_name, origin_name};
+use std::alloc::Global;
+
+/// A name of a width gets the word of a rule.
+fn set(
+    code: &mut Code,
+    name: Name,
+    width: u8,
+    inputs: &Inputs<'_>,
+    rule: &[Step],
+) -> Result<(), NoMemory>
+    requires { is_rule rule.now ≡ true }
+    ensures { (e : Expr) → words (inputs_of inputs.now) rule.now [] ≡ e ∷ [] → OnOk result (code.new ≡ with_tasks code.old (Sets name (Int width) e ∷ [])) }
+{
+    match rule {
+        [leaf] => code.set_leaf(name, width, inputs, *leaf),
+        [steps @ .., last] => code.set(name, width, inputs, steps, *last),
+        [] => Ok(()),
+    }
+}
+
+/// The origin of a value gets the word of a rule.
+pub fn set_origin(
+    alloc: Global,
+    code: &mut Code,
+    value: u32,
+    inputs: &Inputs<'_>,
+    rule: &[Step],
+) -> Result<(), NoMemory>
+    requires { is_rule rule.now ≡ true }
+    ensures { (e : Expr) → words (inputs_of inputs.now) rule.now [] ≡ e ∷ [] → OnOk result (code.new ≡ with_tasks code.old (Sets (origin_name_of value) (Int 32) e ∷ [])) }
+{
+    let name = origin_name(alloc, value as u64)?;
+    set(code, name, 32, inputs, rule)
+}
+
+/// The mask of a value, of a width, gets the word of a rule.
+pub fn set_mask(
+    alloc: Global,
+    code: &mut Code,
+    value: u32,
+    width: u8,
+    inputs: &Inputs<'_>,
+    rule: &[Step],
+) -> Result<(), NoMemory>
+    requires { is_rule rule.now ≡ true }
+    ensures { (e : Expr) → words (inputs_of inputs.now) rule.now [] ≡ e ∷ [] → OnOk result (code.new ≡ with_tasks code.old (Sets (mask_name_of value) (Int width) e ∷ [])) }
+{
+    let name = mask_name(alloc, value as u64)?;
+    set(code, name, width, inputs, rule)
+}
+
+/// The mask of a value, of a width, gets what an operation that may trap makes of the two words that steps leave.
+pub fn try_mask(
+    alloc: Global,
+    code: &mut Code,
+    value: u32,
+    op: BinOp,
+    width: u8,
+    inputs: &Inputs<'_>,
+    steps: &[Step],
+) -> Result<(), NoMemory>
+    ensures { (a b : Expr) → words (inputs_of inputs.now) steps.now [] ≡ b ∷ a ∷ [] → OnOk result (code.new ≡ with_tasks code.old (Tries (mask_name_of value) op (Int width) a b ∷ [])) }
+{
+    let name = mask_name(alloc, value as u64)?;
+    code.attempt(name, op, width, inputs, steps)
+}
+
+/// Adds a step so many times.
+pub fn push_times(steps: &mut Vec<Step>, step: Step, times: usize) -> Result<(), NoMemory>
+    ensures { OnOk result (steps.new.items ≡ steps.old.items ++ replicate times step) }
+{
+    for _ in 0..times {
+        steps.push(step)?;
+    }
+    Ok(())
+}

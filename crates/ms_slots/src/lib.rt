@@ -1,0 +1,14 @@
+//! The code that hands masks and origins over at calls and returns, in the slots.
+#![tactic(auto)]
+
+mod arrival;
+mod handing;
+mod lists;
+mod places;
+mod taking;
+mod words;
+
+pub use arrival::{arguments_arrive, result_arrives};
+pub use handing::{hand_arguments, hand_result};
+pub use lists::{give_result, pass_arguments, take_parameters, take_result};
+pub use taking::{fetch_parameter, fetch_result};

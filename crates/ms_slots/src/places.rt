@@ -1,0 +1,71 @@
+//! The slots as operands.
+ghost use Rattle.std.specs.Prelude.{◌≡◌, [], ◌∷◌, IfOk};
+ghost use Rattle.ms_ir.specs.declared.syntax.Ty as type;
+ghost use Rattle.ms_ir.specs.declared.syntax.Operand.TheVariants as operand;
+ghost use Rattle.ms_ir.specs.Names.{slot_name as name_of};
+ghost use Rattle.ms_slots.specs.Places.{mask_slot, origin_slot};
+
+use ms_bits::{Bytes, List, NoMemory};
+use ms_ir::{Name, Operand, Slot, Ty};
+use std::alloc::Global;
+
+/// Where the mask and the origin of a word are handed over.
+#[derive(Clone, Copy)]
+pub enum Place {
+    /// Those of an argument with a place, from 0.
+    Parameter(u64),
+    /// Those of a result.
+    Result,
+}
+
+fn slot_name(alloc: Global, slot: Slot) -> Result<Name, NoMemory>
+    ensures { IfOk result (λ x. x ≡ name_of slot) }
+{
+    let text = Vec::from_slice(alloc, slot.name())?;
+    Ok(Name::Text(Bytes::from_vec(text)))
+}
+
+fn whole_slot(alloc: Global, slot: Slot) -> Result<Operand, NoMemory>
+    ensures { IfOk result (λ o. o ≡ operand.Global (name_of slot)) }
+{
+    Ok(Operand::Global(slot_name(alloc, slot)?))
+}
+
+fn index(alloc: Global, place: u64) -> Result<List<(Ty, u64)>, NoMemory>
+    ensures { IfOk result (λ l. l ≡ (type.Int 64, place) ∷ []) }
+{
+    let mut indices = Vec::with_capacity(alloc, 1)?;
+    indices.push((Ty::Int(64), place))?;
+    Ok(List::from_vec(indices))
+}
+
+/// An item of a width in a slot that is an array.
+fn item_of_slot(alloc: Global, slot: Slot, width: u8, place: u64) -> Result<Operand, NoMemory>
+    ensures { IfOk result (λ o. o ≡ operand.Offset (type.Int width) (name_of slot) ((type.Int 64, place) ∷ [])) }
+{
+    let name = slot_name(alloc, slot)?;
+    let indices = index(alloc, place)?;
+    Ok(Operand::Offset(Ty::Int(width), name, indices))
+}
+
+impl Place {
+    /// The slot of the mask. The one error is want of memory.
+    pub fn mask_slot(self, alloc: Global) -> Result<Operand, NoMemory>
+        ensures { IfOk result (λ o. o ≡ mask_slot self) }
+    {
+        match self {
+            Place::Parameter(place) => item_of_slot(alloc, Slot::ParamMasks, 64, place),
+            Place::Result => whole_slot(alloc, Slot::RetvalMask),
+        }
+    }
+
+    /// The slot of the origin. The one error is want of memory.
+    pub fn origin_slot(self, alloc: Global) -> Result<Operand, NoMemory>
+        ensures { IfOk result (λ o. o ≡ origin_slot self) }
+    {
+        match self {
+            Place::Parameter(place) => item_of_slot(alloc, Slot::ParamOrigins, 32, place),
+            Place::Result => whole_slot(alloc, Slot::RetvalOrigin),
+        }
+    }
+}

@@ -1,8 +1,0 @@
-use Rattle.std.proofs.Common.{◌≡◌, ◌+◌, ◌-◌, ℕ, vec_len, get_or}
-use Rattle.ms_straight.proofs.results.put.Given as goal
-
-abbrev pub invariant-loop-words : goal.invariant-loop-words
-invariant-loop-words l = (k : ℕ) → get_or l.words.items k 0 ≡ get_or l.fn.words.items k 0
-
-abbrev pub decreases-loop-words : goal.decreases-loop-words
-decreases-loop-words l = l.place + 1 - vec_len l.words

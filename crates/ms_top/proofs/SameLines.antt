@@ -1,0 +1,89 @@
+-- A module with inserted code has the same reports and closing lines as without it.
+use Rattle.std.proofs.Common.{◌≡◌, ℕ, ◌+◌, ◌-◌, false, List, [], ◌∷◌, ◌++◌, length, map, ltb, eqb, if◌then◌else◌, Option, Some, None, refl, ap, sym, ◌∙◌}
+use Rattle.std.specs.Prelude.{codes, decimal, slice_get}
+use Rattle.ms_ir.specs.declared.syntax.Func.{Func}
+use Rattle.ms_ir.specs.declared.syntax.Module.{Module}
+use Rattle.ms_ir.specs.declared.places.Root.{Root}
+use Rattle.ms_ir.specs.Code.{one_unmarked, strip_func, strip}
+use Rattle.ms_ir.specs.Roots.{root_numbered}
+use Rattle.ms_runs.specs.declared.runs.End.{End}
+use Rattle.ms_runs.specs.declared.runs.End.TheVariants as ends
+use Rattle.ms_runs.specs.declared.runs.Origin.{Origin}
+use Rattle.ms_runs.specs.declared.runs.Origin.TheVariants as origin
+use Rattle.ms_runs.specs.declared.runs.Report.{Report}
+use Rattle.ms_runs.specs.declared.runs.RunResult.{RunResult}
+use Rattle.ms_runs_laws.proofs.RootLists.{roots_stay}
+use Rattle.ms_runs_laws.proofs.Stripped.{blocks_kept, sites_skip}
+use Rattle.ms_report.specs.RunTexts.{trap_name, sites_of, function_after, function_of, function_text, site_text, end_text, line, closing_of}
+use Rattle.ms_report.specs.ReportTexts.{kind_text, root_name, root_text, origin_text, origin_line, earlier, chain_text, origins_text, bits_text, report_line, reports_text, report_text_of}
+use Rattle.ms_top.specs.Said.{answer_of, answer_of_result, status_of}
+
+-- ---- places
+
+sites_kept : (f : Func) → sites_of (strip_func f) ≡ sites_of f
+sites_kept f = blocks_kept one_unmarked sites_skip f.blocks
+
+after_kept : (fs : List Func) (n : ℕ) → function_after (map strip_func fs) n ≡ function_after fs n
+after_kept [] n = refl
+after_kept (f ∷ fs) n =
+    ap (λ k. if ltb n k then Some f.name else function_after (map strip_func fs) (n - k)) (sites_kept f)
+    ∙ ap (λ g. if ltb n (sites_of f) then Some f.name else g) (after_kept fs (n - sites_of f))
+
+function_kept : (j : Module) (site : ℕ) → function_of (strip j) site ≡ function_of j site
+function_kept j site = ap (λ g. if eqb site 0 then None else g) (after_kept j.funcs (site - 1))
+
+site_kept : (j : Module) (site : ℕ) → site_text (strip j) site ≡ site_text j site
+site_kept j site = ap (λ f. codes " at site " ++ decimal site ++ codes " in " ++ function_text f) (function_kept j site)
+
+-- ---- reports
+
+root_kept : (j : Module) (n : ℕ) → root_numbered (strip j) n ≡ root_numbered j n
+root_kept j n = ap (λ rs. if eqb n 0 then None else slice_get rs (n - 1)) (roots_stay j)
+
+root_text_kept : (j : Module) (r : Option Root) → root_text (strip j) r ≡ root_text j r
+root_text_kept j None = refl
+root_text_kept j (Some r) = ap (λ t. root_name r.kind ++ t) (site_kept j r.site)
+
+origin_kept : (j : Module) (o : Origin) → origin_text (strip j) o ≡ origin_text j o
+origin_kept j (origin.Root number) = ap (root_text (strip j)) (root_kept j number) ∙ root_text_kept j (root_numbered j number)
+origin_kept j (origin.Chain old site) = ap (λ t. codes "stored" ++ t) (site_kept j site)
+
+chain_kept : (j : Module) (n : ℕ) (os : List Origin) → chain_text (strip j) n os ≡ chain_text j n os
+chain_kept j n [] = refl
+chain_kept j n (o ∷ rest) =
+    ap (λ t. origin_line n t ++ chain_text (strip j) (earlier n o) rest) (origin_kept j o)
+    ∙ ap (λ t. origin_line n (origin_text j o) ++ t) (chain_kept j (earlier n o) rest)
+
+origins_kept : (j : Module) (n : ℕ) (os : List Origin) → origins_text (strip j) n os ≡ origins_text j n os
+origins_kept j n [] = refl
+origins_kept j n (o ∷ rest) = chain_kept j n (o ∷ rest)
+
+line_kept : (j : Module) (n : ℕ) (r : Report) → report_line (strip j) n r ≡ report_line j n r
+line_kept j n r = ap (λ t. codes "report " ++ decimal n ++ codes ": " ++ kind_text r.kind ++ t ++ bits_text r ++ codes "\n") (site_kept j r.site)
+
+reports_kept : (j : Module) (n : ℕ) (rs : List Report) → reports_text (strip j) n rs ≡ reports_text j n rs
+reports_kept j n [] = refl
+reports_kept j n (r ∷ rest) =
+    ap (λ t. t ++ origins_text (strip j) r.origin r.chain ++ reports_text (strip j) (n + 1) rest) (line_kept j n r)
+    ∙ ap (λ t. report_line j n r ++ t ++ reports_text (strip j) (n + 1) rest) (origins_kept j r.origin r.chain)
+    ∙ ap (λ t. report_line j n r ++ origins_text j r.origin r.chain ++ t) (reports_kept j (n + 1) rest)
+
+-- ---- ends
+
+end_kept : (j : Module) (e : End) → end_text (strip j) e ≡ end_text j e
+end_kept j (ends.Exit n) = refl
+end_kept j (ends.Trap kind site) = ap (λ t. codes "trap " ++ trap_name kind ++ t) (site_kept j site)
+end_kept j ends.Reported = refl
+end_kept j ends.Spent = refl
+
+closing_kept : (j : Module) (r : RunResult) → closing_of (strip j) r false ≡ closing_of j r false
+closing_kept j r = ap (λ t. line (codes "end") t ++ line (codes "reports") (decimal (length r.reports)) ++ line (codes "blind") (decimal r.blind) ++ []) (end_kept j r.«end»)
+
+answer_kept : (j : Module) (r : RunResult) → answer_of_result (strip j) r ≡ answer_of_result j r
+answer_kept j r =
+    ap (λ t. answer_of (status_of r) r.output (t ++ closing_of (strip j) r false)) (reports_kept j 1 r.reports)
+    ∙ ap (λ t. answer_of (status_of r) r.output (report_text_of j r ++ t)) (closing_kept j r)
+
+-- the answer for a result is that of the module without what was inserted
+pub same_answer : (m j : Module) → strip j ≡ m → (r : RunResult) → answer_of_result j r ≡ answer_of_result m r
+same_answer m j is r = sym (answer_kept j r) ∙ ap (λ k. answer_of_result k r) is

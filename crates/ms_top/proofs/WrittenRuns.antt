@@ -1,0 +1,51 @@
+-- What `run` says of what `instrument` writes is what `check` says of the module that was read.
+use Rattle.std.proofs.Common.{◌≡◌, ◌≢◌, ℕ, List, [], Result, Ok, Err, ap, sym, ◌∙◌, subst, ◌⊎◌, inl, inr}
+use Rattle.ms_ir.specs.declared.syntax.Module.{Module}
+use Rattle.ms_ir.specs.declared.forms.Form.TheVariants.{Instrumented}
+use Rattle.ms_runs.specs.Plain.{plain}
+use Rattle.ms_read_body.specs.declared.errors.ReadError.{ReadError}
+use Rattle.ms_read_body.specs.declared.errors.ReadError.TheVariants as e
+use Rattle.ms_read_top.specs.Reading.{IsReading}
+use Rattle.ms_grammar.specs.Texts.{Reads}
+use Rattle.ms_valid.specs.Formed.{Formed}
+use Rattle.ms_valid.specs.Valid.{Valid}
+use Rattle.ms_valid.proofs.Refused.{invalid}
+use Rattle.ms_written.specs.Modules.{written}
+use Rattle.ms_text_laws.specs.Fits.{FitsText}
+use Rattle.ms_text_laws.proofs.ReadBack.{text_back, same_text}
+use Rattle.ms_pass_laws.specs.Numbers.{numbering}
+use Rattle.ms_pass_laws.specs.Pass.{pass}
+use Rattle.ms_top.specs.declared.answers.Answer.{Answer}
+use Rattle.ms_top.specs.declared.commands.Command.{Command}
+use Rattle.ms_top.specs.declared.commands.Command.TheVariants.{Instrument, Run, Check}
+use Rattle.ms_top.specs.declared.commands.Options.{Options}
+use Rattle.ms_top.specs.Command.{setup_of}
+use Rattle.ms_top.specs.Instrumented.{IsInstrumented}
+use Rattle.ms_top.specs.Said.{answer_of_result, IsAnswerToValid, IsAnswerToModule, IsAnswerToReading, IsAnswerToText}
+use Rattle.ms_top.proofs.OneAnswer.{made_once, memory_is_there, one_reading}
+use Rattle.ms_top.proofs.SameLines.{same_answer}
+
+-- the text is that of no other formed module
+pub named : (file input : List ℕ) (m j : Module) (a : Answer) → IsAnswerToValid IsInstrumented (Instrument file) input m a → Formed j → a.out ≡ written j → IsInstrumented m j
+named file input m j a (k, made, is) formed text = subst (IsInstrumented m) (same_text k j made.formed formed (sym (ap (λ x. x.out) is) ∙ text)) made
+
+-- the answer to a command for a valid module
+for_valid : (command : Command) (input : List ℕ) (j : Module) (b : Answer) → Valid j → IsAnswerToModule IsInstrumented command input j b → IsAnswerToValid IsInstrumented command input j b
+for_valid command input j b valid (inl (fault, refused, is)) = absurd (invalid j fault refused valid)
+for_valid command input j b valid (inr (checked, is)) = is
+
+-- the answer of `run` for a text that reads as a valid module
+ran : (file input text : List ℕ) (o : Options) (j : Module) (b : Answer) → Reads Instrumented text j → Valid j → IsAnswerToText IsInstrumented (Run file o) input text b
+    → b ≡ answer_of_result j (plain j (setup_of o input))
+ran file input text o j b reads valid (r, reading, answers) =
+    let some : Ok j ≢ Err e.NoMemory = λ h. absurd cc in
+    let one : r ≡ Ok j = one_reading Instrumented text (Ok j) r reads reading some (memory_is_there (Run file o) input r b answers) in
+    for_valid (Run file o) input j b valid (subst (λ s. IsAnswerToReading IsInstrumented (Run file o) input s b) one answers)
+
+pub alike : (file name input : List ℕ) (o : Options) (m : Module) (a b c : Answer) → IsAnswerToValid IsInstrumented (Instrument file) [] m a → FitsText (pass (numbering m) m)
+    → IsAnswerToText IsInstrumented (Run name o) input a.out b → IsAnswerToValid IsInstrumented (Check name o) input m c → b ≡ c
+alike file name input o m a b c (j, made, is) fits read (k, other, same) =
+    let text : written j ≡ a.out = sym (ap (λ x. x.out) is) in
+    let reads : Reads Instrumented a.out j = subst (λ t. Reads Instrumented t j) text (text_back j made.formed (subst FitsText (sym made.is_pass) fits)) in
+    ran name input a.out o j b reads made.valid read ∙ same_answer m j made.faithful.strips (plain j (setup_of o input))
+    ∙ ap (λ n. answer_of_result m (plain n (setup_of o input))) (made_once m j k made other) ∙ sym same

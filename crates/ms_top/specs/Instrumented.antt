@@ -1,0 +1,16 @@
+-- What is known of the module that is made of another by the pass.
+use Rattle.std.specs.Prelude.{◌≡◌}
+use Rattle.ms_ir.specs.declared.syntax.Module.{Module}
+use Rattle.ms_runs.specs.Faithful.{Faithful}
+use Rattle.ms_valid.specs.Formed.{Formed}
+use Rattle.ms_valid.specs.Valid.{Valid}
+use Rattle.ms_pass_laws.specs.Numbers.{numbering}
+use Rattle.ms_pass_laws.specs.Pass.{pass}
+
+-- j is m with inserted code: without it j is m, and its plain runs are the shadow runs of m. It is formed and valid, so that
+-- it can be written and run. There is one such module, that of the definition of the pass
+pub record IsInstrumented (m j : Module) : Type 0 where
+  pub faithful : Faithful m j
+  pub formed : Formed j
+  pub valid : Valid j
+  pub is_pass : j ≡ pass (numbering m) m

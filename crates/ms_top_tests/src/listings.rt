@@ -1,0 +1,226 @@
+//! What `instrument` writes, byte for byte. What is inserted was worked out by hand.
+
+use crate::alike::written_of;
+use crate::calls::{Case, all_agree};
+use std::alloc::{AllocError, Global};
+use std::test::Fail;
+
+/// A module's types, globals and declarations, its functions, and these with what is inserted.
+struct Listing(&'static str, &'static str, &'static str, &'static str);
+
+/// The slots, which stand behind the globals of a module.
+const SLOTS: &str =
+    "@__msan_param_tls = global [ 100 x i64 ] zeroinitializer\n@__msan_param_origin_tls = global [ 100 x i32 ] zeroinitializer\n@__msan_retval_tls = global i64 0\n@__msan_retval_origin_tls = global i32 0\n";
+
+/// The declarations of the runtime functions, which stand behind those of a module.
+const RUNTIME: &str =
+    "declare void @__msan_check(i64, i32, i32, i32, i32, i32)\ndeclare void @__msan_check_memory(ptr, i64, i32, i32)\ndeclare void @__msan_check_string(ptr, i32)\ndeclare void @__msan_blind(i64)\ndeclare void @__msan_poison(ptr, i64, i64, i32)\ndeclare void @__msan_unpoison(ptr, i64)\ndeclare void @__msan_copy(ptr, ptr, i64)\ndeclare void @__msan_fill(ptr, i64, i64, i32, i32)\ndeclare void @__msan_store_origin(ptr, i64, i32, i32)\ndeclare i32 @__msan_load_origin(ptr, i64)\ndeclare i64 @__msan_size(ptr)\n";
+
+static LISTINGS: [Listing; 6] = [
+    // Nothing that is known to be defined is checked, and without a mark the last line is missing.
+    Listing(
+        "%t = type { i8, ptr }\n@g = global i8 7\n",
+        "declare void @unused(i1)\n",
+        "define i32 @main() {\n  ret i32 0\n}\n",
+        "define i32 @main() {\n  ret i32 0\n}\n",
+    ),
+    Listing(
+        "",
+        "",
+        "define i32 @main() {\n  %1 = and i32 undef, 255\n  ret i32 %1\n}\n",
+        "define i32 @main() {
+  %__msan.3 = icmp ne i32 0, 0, !nosanitize !0
+  %__msan.2 = select i1 %__msan.3, i32 0, i32 1, !nosanitize !0
+  %__msan.4 = or i32 undef, -1, !nosanitize !0
+  %__msan.5 = or i32 255, 0, !nosanitize !0
+  %__msan.6 = and i32 %__msan.4, %__msan.5, !nosanitize !0
+  %__msan.7 = or i32 -1, 0, !nosanitize !0
+  %__msan.1 = and i32 %__msan.6, %__msan.7, !nosanitize !0
+  %1 = and i32 undef, 255
+  %__msan.8 = zext i32 %__msan.1 to i64, !nosanitize !0
+  call void @__msan_check(i64 %__msan.8, i32 32, i32 %__msan.2, i32 8, i32 0, i32 2), !nosanitize !0
+  ret i32 %1
+}
+!0 = !{}
+",
+    ),
+    Listing(
+        "",
+        "",
+        "define i32 @main() {\n  %1 = alloca i32\n  store i32 undef, ptr %1\n  %2 = load i32, ptr %1\n  ret i32 %2\n}\n",
+        "define i32 @main() {
+  %__msan.2 = or i32 0, 0, !nosanitize !0
+  %__msan.1 = or i64 0, 0, !nosanitize !0
+  %1 = alloca i32
+  %__msan.5 = zext i32 1 to i64, !nosanitize !0
+  %__msan.6 = mul i64 4, %__msan.5, !nosanitize !0
+  call void @__msan_poison(ptr %1, i64 0, i64 %__msan.6, i32 1), !nosanitize !0
+  call void @__msan_check(i64 %__msan.1, i32 64, i32 %__msan.2, i32 3, i32 1, i32 2), !nosanitize !0
+  store i32 undef, ptr %1
+  %__msan.7 = ptrtoint ptr %1 to i64, !nosanitize !0
+  %__msan.8 = xor i64 %__msan.7, 87960930222080, !nosanitize !0
+  %__msan.9 = inttoptr i64 %__msan.8 to ptr, !nosanitize !0
+  store i32 -1, ptr %__msan.9, !nosanitize !0
+  %__msan.10 = zext i32 -1 to i64, !nosanitize !0
+  call void @__msan_store_origin(ptr %1, i64 %__msan.10, i32 2, i32 2), !nosanitize !0
+  call void @__msan_check(i64 %__msan.1, i32 64, i32 %__msan.2, i32 3, i32 0, i32 3), !nosanitize !0
+  %__msan.11 = ptrtoint ptr %1 to i64, !nosanitize !0
+  %__msan.12 = xor i64 %__msan.11, 87960930222080, !nosanitize !0
+  %__msan.13 = inttoptr i64 %__msan.12 to ptr, !nosanitize !0
+  %__msan.3 = load i32, ptr %__msan.13, !nosanitize !0
+  %__msan.14 = zext i32 %__msan.3 to i64, !nosanitize !0
+  %__msan.4 = call i32 @__msan_load_origin(ptr %1, i64 %__msan.14), !nosanitize !0
+  %2 = load i32, ptr %1
+  %__msan.15 = zext i32 %__msan.3 to i64, !nosanitize !0
+  call void @__msan_check(i64 %__msan.15, i32 32, i32 %__msan.4, i32 8, i32 0, i32 4), !nosanitize !0
+  ret i32 %2
+}
+!0 = !{}
+",
+    ),
+    // An ordered comparison, and a phi with those of its mask and its origin.
+    Listing(
+        "",
+        "",
+        "define i32 @main() {\n  %1 = icmp ult i8 undef, 16\n  br i1 %1, label %2, label %3\n2:\n  br label %3\n3:\n  %4 = phi i32 [ undef, %0 ], [ 4, %2 ]\n  ret i32 %4\n}\n",
+        "define i32 @main() {
+  %__msan.5 = icmp ne i8 0, 0, !nosanitize !0
+  %__msan.2 = select i1 %__msan.5, i32 0, i32 1, !nosanitize !0
+  %__msan.6 = or i8 undef, -1, !nosanitize !0
+  %__msan.7 = xor i8 %__msan.6, -1, !nosanitize !0
+  %__msan.8 = or i8 16, 0, !nosanitize !0
+  %__msan.9 = icmp ult i8 %__msan.7, %__msan.8, !nosanitize !0
+  %__msan.10 = or i8 undef, -1, !nosanitize !0
+  %__msan.11 = or i8 16, 0, !nosanitize !0
+  %__msan.12 = xor i8 %__msan.11, 0, !nosanitize !0
+  %__msan.13 = icmp ult i8 %__msan.10, %__msan.12, !nosanitize !0
+  %__msan.1 = xor i1 %__msan.9, %__msan.13, !nosanitize !0
+  %1 = icmp ult i8 undef, 16
+  %__msan.14 = zext i1 %__msan.1 to i64, !nosanitize !0
+  call void @__msan_check(i64 %__msan.14, i32 1, i32 %__msan.2, i32 1, i32 0, i32 2), !nosanitize !0
+  br i1 %1, label %2, label %3
+2:
+  br label %3
+3:
+  %4 = phi i32 [ undef, %0 ], [ 4, %2 ]
+  %__msan.3 = phi i32 [ -1, %0 ], [ 0, %2 ], !nosanitize !0
+  %__msan.4 = phi i32 [ 2, %0 ], [ 0, %2 ], !nosanitize !0
+  %__msan.15 = zext i32 %__msan.3 to i64, !nosanitize !0
+  call void @__msan_check(i64 %__msan.15, i32 32, i32 %__msan.4, i32 8, i32 0, i32 5), !nosanitize !0
+  ret i32 %4
+}
+!0 = !{}
+",
+    ),
+    // What a caller hands over and what it gets back goes through the slots.
+    Listing(
+        "",
+        "",
+        "define i8 @f(i8 %0) {\n  ret i8 %0\n}\ndefine i32 @main() {\n  %1 = call i8 @f(i8 undef)\n  ret i32 0\n}\n",
+        "define i8 @f(i8 %0) {
+  %__msan.1 = load i8, ptr getelementptr (i64, ptr @__msan_param_tls, i64 0), !nosanitize !0
+  %__msan.2 = load i32, ptr getelementptr (i32, ptr @__msan_param_origin_tls, i64 0), !nosanitize !0
+  store i8 %__msan.1, ptr @__msan_retval_tls, !nosanitize !0
+  store i32 %__msan.2, ptr @__msan_retval_origin_tls, !nosanitize !0
+  ret i8 %0
+}
+define i32 @main() {
+  store i8 -1, ptr getelementptr (i64, ptr @__msan_param_tls, i64 0), !nosanitize !0
+  store i32 1, ptr getelementptr (i32, ptr @__msan_param_origin_tls, i64 0), !nosanitize !0
+  %1 = call i8 @f(i8 undef)
+  %__msan.1 = load i8, ptr @__msan_retval_tls, !nosanitize !0
+  %__msan.2 = load i32, ptr @__msan_retval_origin_tls, !nosanitize !0
+  ret i32 0
+}
+!0 = !{}
+",
+    ),
+    // A blind use is counted, and the result of an external is clean.
+    Listing(
+        "",
+        "declare i32 @putchar(i32)\n",
+        "define i32 @main() {\n  %1 = add i32 undef, 1\n  %2 = call i32 @putchar(i32 %1)\n  ret i32 0\n}\n",
+        "define i32 @main() {
+  %__msan.5 = zext i32 -1 to i64, !nosanitize !0
+  %__msan.6 = zext i32 0 to i64, !nosanitize !0
+  %__msan.7 = or i64 %__msan.6, 0, !nosanitize !0
+  %__msan.8 = or i64 %__msan.5, %__msan.7, !nosanitize !0
+  call void @__msan_blind(i64 %__msan.8), !nosanitize !0
+  %__msan.9 = icmp ne i32 0, 0, !nosanitize !0
+  %__msan.2 = select i1 %__msan.9, i32 0, i32 1, !nosanitize !0
+  %__msan.1 = or i32 -1, 0, !nosanitize !0
+  %1 = add i32 undef, 1
+  %__msan.10 = zext i32 %__msan.1 to i64, !nosanitize !0
+  call void @__msan_check(i64 %__msan.10, i32 32, i32 %__msan.2, i32 7, i32 0, i32 2), !nosanitize !0
+  %__msan.4 = or i32 0, 0, !nosanitize !0
+  %__msan.3 = or i32 0, 0, !nosanitize !0
+  %2 = call i32 @putchar(i32 %1)
+  ret i32 0
+}
+!0 = !{}
+",
+    ),
+];
+
+/// Modules that are not instrumented, and words that name no file.
+static REFUSALS: [Case; 8] = [
+    Case("instrument", "", "", "words: NotBuilt at 0\n", 2),
+    Case("instrument f f", "", "", "words: NotBuilt at 0\n", 2),
+    Case("instruments f", "", "", "words: NotBuilt at 0\n", 2),
+    Case("instrument g", "", "", "file fault: g\n", 6),
+    Case("instrument f", "", "", "refused 13: no main\n", 5),
+    Case("instrument f", "?", "", "refused 1: bad byte at 0\n", 5),
+    // What was written with inserted code is not instrumented once more.
+    Case(
+        "instrument f",
+        "define i32 @main() {\n  ret i32 0, !nosanitize !0\n}\n",
+        "",
+        "refused 8: reserved at token 10, byte 34\n",
+        5,
+    ),
+    Case(
+        "instrument f",
+        "define i32 @main() {\n  ret i64 0\n}\n",
+        "",
+        "refused 11: type at site 1, operand 0\n",
+        5,
+    ),
+];
+
+fn text_of(alloc: Global, parts: &[&str]) -> Result<Vec<u8>, AllocError> {
+    let mut text = Vec::new(alloc);
+    for part in parts {
+        text.extend_from_slice(part.as_bytes())?;
+    }
+    Ok(text)
+}
+
+fn is_listed(alloc: Global, row: &Listing) -> Result<bool, AllocError> {
+    let text = text_of(alloc, &[row.0, row.1, row.2])?;
+    let wanted = text_of(alloc, &[row.0, SLOTS, row.1, RUNTIME, row.3])?;
+    match written_of(alloc, &text)? {
+        Some(written) => Ok(written.as_slice() == wanted.as_slice()),
+        None => Ok(false),
+    }
+}
+
+fn all_are_listed(alloc: Global, rows: &[Listing]) -> bool {
+    for row in rows {
+        if is_listed(alloc, row).ok() != Some(true) {
+            return false;
+        }
+    }
+    true
+}
+
+#[test]
+fn modules_are_written_with_inserted_code(rt: HostRuntime) -> Result<(), Fail> {
+    assert!(rt; all_are_listed(rt.alloc(), &LISTINGS));
+    Ok(())
+}
+
+#[test]
+fn says_why_a_module_is_not_instrumented(rt: HostRuntime) -> Result<(), Fail> {
+    assert!(rt; all_agree(rt.alloc(), &REFUSALS));
+    Ok(())
+}
