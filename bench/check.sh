@@ -1,10 +1,10 @@
 #!/usr/bin/env bash
-# Instructions that the check of validity takes for each item of a module, by callgrind: for many small functions, one
-# function of many blocks, one `phi` of many edges, one `switch` of many cases, and many globals, each at two sizes. Where
-# the check is near to linear, the numbers at the two sizes are close.
+# Instructions that reading, the check of validity and compiling take for each item of a module, by callgrind: for many small
+# functions, one function of many blocks, one `phi` of many edges, one `switch` of many cases, and many globals, each at two
+# sizes. Where they are near to linear, the numbers at the two sizes are close.
 #
-# `msan run` reads a valid module, checks it and says that it isn't built yet. The same text with one type twice is refused
-# as soon as it is read; what that takes is taken off.
+# `msan run` reads a valid module, checks it, compiles it and runs its one step. The same text with one type twice is refused as
+# soon as it is read, and with a global of a type that is too large at the end of the check; the differences are given.
 # Wants `valgrind`, and `crates/msan/out/msan`, which `rt run` makes in `crates/msan`. Outside the gate.
 source "$(dirname "$0")/frame.sh"
 
@@ -48,13 +48,15 @@ spent() { # file, the line that is said of it
 }
 
 measure() { # kind, count
-    local whole read
+    local whole checked read
     text "$1" "$2" >"$work/valid.ll"
+    { echo '@z = global [67108865 x i8] zeroinitializer'; cat "$work/valid.ll"; } >"$work/large.ll"
     { echo '%t = type { i8 }'; echo '%t = type { i8 }'; cat "$work/valid.ll"; } >"$work/twice.ll"
-    whole=$(spent "$work/valid.ll" 'refused 99: not built yet')
+    whole=$(spent "$work/valid.ll" $'end: exit 0\nreports: 0\nblind: 0')
+    checked=$(spent "$work/large.ll" 'refused 17: size of @z')
     read=$(spent "$work/twice.ll" 'refused 9: duplicate %t')
-    awk -v kind="$1" -v count="$2" -v whole="$whole" -v read="$read" \
-        'BEGIN { printf "%-10s %7d items: check %9.1f each, read %9.1f each\n", kind, count, (whole - read) / count, read / count }'
+    awk -v kind="$1" -v count="$2" -v whole="$whole" -v checked="$checked" -v read="$read" \
+        'BEGIN { printf "%-10s %7d items: read %9.1f each, check %9.1f, compile %9.1f\n", kind, count, read / count, (checked - read) / count, (whole - checked) / count }'
 }
 
 for kind in functions blocks; do
@@ -66,4 +68,4 @@ for kind in phi switch; do
     measure "$kind" $((1 << 19))
 done
 measure globals $((1 << 10))
-measure globals $((1 << 14))
+measure globals $(((1 << 14) - 1))

@@ -1,5 +1,5 @@
 //! The allocations of one area, a list in order of address.
-ghost use Rattle.std.specs.Prelude.{◌≡◌, ◌<◌, ◌≤◌, ◌+◌, ◌^◌, ◌∷◌, ◌++◌, [], true, false, not, leb, find, filter, map, take, length, IfOk, OnOk, OnErr, MatchOption, IsErr, IsErrOf, IsTrue, ◌↔◌, Some, None, option_map, if◌then◌else◌};
+ghost use Rattle.std.specs.Prelude.{◌≡◌, ◌<◌, ◌≤◌, ◌+◌, ◌^◌, ◌∷◌, ◌++◌, [], true, false, not, leb, find, filter, is_some, map, take, length, IfOk, OnOk, OnErr, MatchOption, IsErr, IsErrOf, IsTrue, ◌↔◌, Some, None, option_map, if◌then◌else◌};
 ghost use Rattle.ms_alloc.specs.declared.kinds.AllocKind.TheVariants.{Heap, Stack};
 ghost use Rattle.ms_alloc.specs.Layout.{room, area_base, area_limit};
 ghost use Rattle.ms_alloc.specs.Allocations.{IsArea, used, covers, is_block};
@@ -154,6 +154,18 @@ impl Area {
             Some(self.owners[piece as usize] as usize)
         } else {
             None
+        }
+    }
+
+    /// Whether a live allocation has the `n` bytes from `addr` on.
+    pub(crate) fn covers(&self, kind: AllocKind, addr: u64, n: u64) -> bool
+        requires area { IsArea kind self.now }
+        requires some { 0 < n }
+        ensures { result ≡ is_some (find (covers addr n) self.now) }
+    {
+        match self.owner(kind, addr) {
+            Some(place) => self.made[place].covers(addr, n),
+            None => false,
         }
     }
 

@@ -1,5 +1,5 @@
 //! The table.
-ghost use Rattle.std.specs.Prelude.{◌≡◌, ◌≤◌, ◌<◌, ◌+◌, find, IfOk, OnOk, OnErr, IsErr, IsErrOf, IsTrue, ◌↔◌, Some, None, option_map, IsNone};
+ghost use Rattle.std.specs.Prelude.{◌≡◌, ◌≤◌, ◌<◌, ◌+◌, find, is_some, IfOk, OnOk, OnErr, IsErr, IsErrOf, IsTrue, ◌↔◌, Some, None, option_map, IsNone};
 ghost use Rattle.ms_alloc.specs.declared.kinds.AllocKind.TheVariants.{Heap, Stack};
 ghost use Rattle.ms_alloc.specs.Layout.{room, area_base, area_limit};
 
@@ -123,7 +123,7 @@ impl Table {
     pub fn covers(&self, addr: u64, n: u64) -> bool
         ensures { result ≡ is_good addr n self.now }
     {
-        n == 0 || self.covering(addr, n).is_some()
+        n == 0 || self.has(addr, n)
     }
 
     /// Base and size of the live allocation that has the byte at `addr`, if one has it.
@@ -157,6 +157,19 @@ impl Table {
             AllocKind::Fixed => self.fixed.used(),
             AllocKind::Heap => self.heap.used(),
             AllocKind::Stack => self.stack.used(),
+        }
+    }
+
+    /// Whether a live allocation has the `n` bytes from `addr` on.
+    fn has(&self, addr: u64, n: u64) -> bool
+        requires { 0 < n }
+        ensures { result ≡ is_some (find (covers addr n) (listed self.now)) }
+    {
+        let kind = kind_at(addr);
+        match kind {
+            AllocKind::Fixed => self.fixed.covers(kind, addr, n),
+            AllocKind::Heap => self.heap.covers(kind, addr, n),
+            AllocKind::Stack => self.stack.covers(kind, addr, n),
         }
     }
 

@@ -1,11 +1,202 @@
--- A checked module may cross threads, since a module may.
-use denote.Param.Send.{IsSend, IsSync, view_send, view_sync}
-use denote.Param.SendFields.{declared_send, declared_sync}
-use Rattle.ms_ir.proofs.Crosses.{Module-send, Module-sync}
+-- A checked module may cross threads, since a module and its code may.
+use denote.Param.Send.{IsSend, IsSync, sendable, view_send, view_sync}
+use denote.Param.SendFields.{declared_send, declared_sync, variants_send, variants_sync}
+use Rattle.std.proofs.Crossing
+use Rattle.ms_bits.proofs.operations.BinOp.TheSendSync as binops
+use Rattle.ms_bits.proofs.operations.Pred.TheSendSync as preds
+use Rattle.ms_bits.proofs.operations.CastOp.TheSendSync as casts
+use Rattle.ms_bits.proofs.operations.Flags.TheSendSync as flags
+use Rattle.ms_ir.proofs.calls.External.TheSendSync as externals
+use Rattle.ms_ir.proofs.calls.RuntimeFn.TheSendSync as functions
+use Rattle.ms_ir.proofs.Crosses.{List-send, List-sync, Module-send, Module-sync}
+use Rattle.ms_code_data.specs.contracts.code.Source as source
+use Rattle.ms_code_data.specs.contracts.code.Move as move
+use Rattle.ms_code_data.specs.contracts.code.Edge as edge
+use Rattle.ms_code_data.specs.contracts.code.Stride as stride
+use Rattle.ms_code_data.specs.contracts.code.Code as code
+use Rattle.ms_code_data.specs.contracts.code.Site as site
+use Rattle.ms_code_data.specs.contracts.code.Routine as routine
+use Rattle.ms_code_data.specs.contracts.code.Program as program
 use Rattle.ms_check.specs.contracts.checked.CheckedModule as checked
 
+pub Source-send : IsSend source.the_row
+Source-send = search (Crossing.crosses, sendable) depth 60 fits 20000
+
+pub Move-send : IsSend move.the_row
+Move-send = declared_send move.the_type (Source-send, (search sendable, tt))
+
+pub Edge-send : IsSend edge.the_row
+Edge-send = declared_send edge.the_type (search sendable, (List-send _ Move-send, tt))
+
+pub Stride-send : IsSend stride.the_row
+Stride-send = declared_send stride.the_type (Source-send, (search sendable, (search sendable, tt)))
+
+-- a tuple for each variant, in their order
+pub Code-send : IsSend code.the_row
+Code-send = variants_send code.enum (
+  (binops.the_send, (flags.the_send, (search sendable, (Source-send, (Source-send, (search sendable, tt)))))),
+  (
+    (preds.the_send, (flags.the_send, (search sendable, (Source-send, (Source-send, (search sendable, tt)))))),
+    (
+      (casts.the_send, (flags.the_send, (search sendable, (Source-send, (search sendable, (search sendable, tt)))))),
+      (
+        (Source-send, (Source-send, (Source-send, (search sendable, tt)))),
+        (
+          (Source-send, (search sendable, tt)),
+          (
+            (search sendable, (Source-send, (search sendable, tt))),
+            (
+              (search sendable, (search sendable, (Source-send, (search sendable, tt)))),
+              (
+                (search sendable, (Source-send, (Source-send, tt))),
+                (
+                  (search sendable, (search sendable, (Source-send, (search sendable, tt)))),
+                  (
+                    (search sendable, (Source-send, (Source-send, tt))),
+                    (
+                      (Source-send, (search sendable, (List-send _ Stride-send, (search sendable, tt)))),
+                      (
+                        (Edge-send, tt),
+                        (
+                          (Source-send, (Edge-send, (Edge-send, tt))),
+                          (
+                            (Source-send, (search (List-send, Edge-send, Crossing.crosses, sendable) depth 60 fits 20000, (Edge-send, tt))),
+                            (
+                              (search sendable, (List-send _ Source-send, (search (Crossing.crosses, sendable) depth 60 fits 20000, tt))),
+                              (
+                                (externals.the_send, (List-send _ Source-send, (search (Crossing.crosses, sendable) depth 60 fits 20000, tt))),
+                                (
+                                  (functions.the_send, (List-send _ Source-send, (search (Crossing.crosses, sendable) depth 60 fits 20000, tt))),
+                                  (
+                                    (Source-send, tt),
+                                    (
+                                      (Source-send, tt),
+                                      (
+                                        tt,
+                                        (
+                                          tt,
+                                          tt,
+                                        ),
+                                      ),
+                                    ),
+                                  ),
+                                ),
+                              ),
+                            ),
+                          ),
+                        ),
+                      ),
+                    ),
+                  ),
+                ),
+              ),
+            ),
+          ),
+        ),
+      ),
+    ),
+  ),
+)
+
+pub Site-send : IsSend site.the_row
+Site-send = declared_send site.the_type (search sendable, (search sendable, tt))
+
+pub Routine-send : IsSend routine.the_row
+Routine-send = declared_send routine.the_type (search sendable, (search sendable, (search sendable, tt)))
+
+pub Program-send : IsSend program.the_row
+Program-send = declared_send program.the_type (List-send _ Code-send, (List-send _ Site-send, (List-send _ Routine-send, (search sendable, (search (List-send, sendable), tt)))))
+
+pub Source-sync : IsSync source.the_row
+Source-sync = search (Crossing.crosses, sendable) depth 60 fits 20000
+
+pub Move-sync : IsSync move.the_row
+Move-sync = declared_sync move.the_type (Source-sync, (search sendable, tt))
+
+pub Edge-sync : IsSync edge.the_row
+Edge-sync = declared_sync edge.the_type (search sendable, (List-sync _ Move-sync, tt))
+
+pub Stride-sync : IsSync stride.the_row
+Stride-sync = declared_sync stride.the_type (Source-sync, (search sendable, (search sendable, tt)))
+
+-- a tuple for each variant, in their order
+pub Code-sync : IsSync code.the_row
+Code-sync = variants_sync code.enum (
+  (binops.the_sync, (flags.the_sync, (search sendable, (Source-sync, (Source-sync, (search sendable, tt)))))),
+  (
+    (preds.the_sync, (flags.the_sync, (search sendable, (Source-sync, (Source-sync, (search sendable, tt)))))),
+    (
+      (casts.the_sync, (flags.the_sync, (search sendable, (Source-sync, (search sendable, (search sendable, tt)))))),
+      (
+        (Source-sync, (Source-sync, (Source-sync, (search sendable, tt)))),
+        (
+          (Source-sync, (search sendable, tt)),
+          (
+            (search sendable, (Source-sync, (search sendable, tt))),
+            (
+              (search sendable, (search sendable, (Source-sync, (search sendable, tt)))),
+              (
+                (search sendable, (Source-sync, (Source-sync, tt))),
+                (
+                  (search sendable, (search sendable, (Source-sync, (search sendable, tt)))),
+                  (
+                    (search sendable, (Source-sync, (Source-sync, tt))),
+                    (
+                      (Source-sync, (search sendable, (List-sync _ Stride-sync, (search sendable, tt)))),
+                      (
+                        (Edge-sync, tt),
+                        (
+                          (Source-sync, (Edge-sync, (Edge-sync, tt))),
+                          (
+                            (Source-sync, (search (List-sync, Edge-sync, Crossing.crosses, sendable) depth 60 fits 20000, (Edge-sync, tt))),
+                            (
+                              (search sendable, (List-sync _ Source-sync, (search (Crossing.crosses, sendable) depth 60 fits 20000, tt))),
+                              (
+                                (externals.the_sync, (List-sync _ Source-sync, (search (Crossing.crosses, sendable) depth 60 fits 20000, tt))),
+                                (
+                                  (functions.the_sync, (List-sync _ Source-sync, (search (Crossing.crosses, sendable) depth 60 fits 20000, tt))),
+                                  (
+                                    (Source-sync, tt),
+                                    (
+                                      (Source-sync, tt),
+                                      (
+                                        tt,
+                                        (
+                                          tt,
+                                          tt,
+                                        ),
+                                      ),
+                                    ),
+                                  ),
+                                ),
+                              ),
+                            ),
+                          ),
+                        ),
+                      ),
+                    ),
+                  ),
+                ),
+              ),
+            ),
+          ),
+        ),
+      ),
+    ),
+  ),
+)
+
+pub Site-sync : IsSync site.the_row
+Site-sync = declared_sync site.the_type (search sendable, (search sendable, tt))
+
+pub Routine-sync : IsSync routine.the_row
+Routine-sync = declared_sync routine.the_type (search sendable, (search sendable, (search sendable, tt)))
+
+pub Program-sync : IsSync program.the_row
+Program-sync = declared_sync program.the_type (List-sync _ Code-sync, (List-sync _ Site-sync, (List-sync _ Routine-sync, (search sendable, (search (List-sync, sendable), tt)))))
+
 pub CheckedModule-send : IsSend checked.the_row
-CheckedModule-send = view_send checked.TheInside.the_row _ _ _ _ (declared_send checked.TheInside.the_type (Module-send, tt))
+CheckedModule-send = view_send checked.TheInside.the_row _ _ _ _ (declared_send checked.TheInside.the_type (Module-send, (Program-send, tt)))
 
 pub CheckedModule-sync : IsSync checked.the_row
-CheckedModule-sync = view_sync checked.TheInside.the_row _ _ _ _ (declared_sync checked.TheInside.the_type (Module-sync, tt))
+CheckedModule-sync = view_sync checked.TheInside.the_row _ _ _ _ (declared_sync checked.TheInside.the_type (Module-sync, (Program-sync, tt)))

@@ -1,21 +1,25 @@
-//! Modules that are known to be valid, and the check by which it is known.
+//! Modules that are known to be valid, with the code that they run as, and the check by which it is known.
 ghost use Rattle.std.specs.Prelude.{◌≡◌, None, IfErr, IfOk, IfSome, OnOk};
 ghost use Rattle.ms_valid.specs.Formed.{Formed};
 ghost use Rattle.ms_valid.specs.Refusals.{IsRefused};
 ghost use Rattle.ms_valid.specs.Valid.{Valid};
+ghost use Rattle.ms_code_data.specs.Compiled.{Compiled};
 ghost use Rattle.ms_check.specs.Faults.{fault_of};
 
 use crate::clauses::all_hold;
 use crate::errors::CheckError;
 use ms_bits::{Duplicate, NoMemory};
+use ms_code::compile;
+use ms_code_data::Program;
 use ms_ir::Module;
 use std::alloc::Global;
 use std::marker::Model;
 
-/// A module that is formed and valid. Contracts see the module.
+/// A module that is formed and valid, with the code that it runs as. Contracts see the module.
 #[derive(Drop)]
 pub struct CheckedModule {
     module: Module,
+    program: Program,
 }
 
 impl Model for CheckedModule {
@@ -24,6 +28,7 @@ impl Model for CheckedModule {
     ghost use Rattle.ms_ir.specs.contracts.syntax.Module as modules;
     ghost use Rattle.ms_valid.specs.Formed.{Formed};
     ghost use Rattle.ms_valid.specs.Valid.{Valid};
+    ghost use Rattle.ms_code_data.specs.Compiled.{Compiled};
 
     ghost Value = { Module };
 
@@ -31,17 +36,19 @@ impl Model for CheckedModule {
 
     ghost view = { λ c. c.module };
 
-    ghost invariant = { λ c. Formed c.module × Valid c.module };
+    ghost invariant = { λ c. Formed c.module × Valid c.module × Compiled c.module c.program };
 }
 
 impl CheckedModule {
-    /// A module that is known to be valid, which is not checked again. The one error is want of memory.
-    pub fn of_valid(_alloc: Global, m: Module) -> Result<CheckedModule, NoMemory>
+    /// A module that is known to be valid, which is not checked again. Its code is made, in the time that `check` takes for
+    /// that. The one error is want of memory.
+    pub fn of_valid(alloc: Global, m: Module) -> Result<CheckedModule, NoMemory>
         requires formed { Formed m }
         requires valid { Valid m }
         ensures { IfOk result (λ checked. checked ≡ m) }
     {
-        Ok(CheckedModule { module: m })
+        let program = compile(alloc, &m)?;
+        Ok(CheckedModule { module: m, program })
     }
 
     /// The module.
@@ -56,6 +63,13 @@ impl CheckedModule {
         ensures { result ≡ self }
     {
         self.module
+    }
+
+    /// The code that the module runs as.
+    pub fn program(&self) -> &Program
+        ensures { Compiled self.now result.now }
+    {
+        &self.program
     }
 
     /// A law: what is checked is formed and valid, for a caller that has to know it.
@@ -73,13 +87,26 @@ impl Duplicate for CheckedModule {
     }
 }
 
+/// The code of a module that meets all clauses, else the first that doesn't hold.
+fn code_of(alloc: Global, m: &Module) -> Result<Program, CheckError>
+    requires { Formed m.now }
+    ensures valid { OnOk result (Valid m.now) }
+    ensures compiled { IfOk result (Compiled m.now) }
+    ensures refused { IfErr result (λ e. IfSome (fault_of e) (IsRefused m.now)) }
+{
+    all_hold(alloc, m)?;
+    let program = compile(alloc, m)?;
+    Ok(program)
+}
+
 /// Checks a module, as a reader or the pass gives it. Ok only where it is valid. Else the error is the first clause that it
 /// breaks, with the first place in its text, and the module comes back as it was. A valid module is never refused: the error is want of
 /// memory then, which alone says nothing. `laws::one_answer` says that a module has one such error at most, but for the path
 /// of an undefined use.
 ///
-/// The time grows with the size of the module, times the logarithm of the number of its names; that of the search for an
-/// undefined use also with the number of edges, once for each 64 of a function's values.
+/// The code of a valid module is made too. The time grows with the size of the module, times the logarithm of the number of
+/// its names; that of the search for an undefined use also with the number of edges, once for each 64 of a function's
+/// values; and that of the code also with the number of a struct's fields, once for each constant index into it.
 #[tactic(auto, using(crate::proofs::Exact::valid_told))]
 pub fn check(alloc: Global, m: Module) -> Result<CheckedModule, (CheckError, Module)>
     requires { Formed m }
@@ -89,8 +116,8 @@ pub fn check(alloc: Global, m: Module) -> Result<CheckedModule, (CheckError, Mod
     ensures exact { Valid m → IfErr result (λ e. fault_of e.0 ≡ None) }
     ensures back { IfErr result (λ e. e.1 ≡ m) }
 {
-    match all_hold(alloc, &m) {
-        Ok(()) => Ok(CheckedModule { module: m }),
+    match code_of(alloc, &m) {
+        Ok(program) => Ok(CheckedModule { module: m, program }),
         Err(error) => Err((error, m)),
     }
 }

@@ -74,7 +74,61 @@ define void @f() {
 }
 "#;
 
-static NUMBERED: [Numbered; 4] = [
+/// What `instrument` writes of `STORED_UNDEFINED`.
+const INSTRUMENTED: &str = r#"@__msan_param_tls = global [ 100 x i64 ] zeroinitializer
+@__msan_param_origin_tls = global [ 100 x i32 ] zeroinitializer
+@__msan_retval_tls = global i64 0
+@__msan_retval_origin_tls = global i32 0
+declare void @__msan_check(i64, i32, i32, i32, i32, i32)
+declare void @__msan_check_memory(ptr, i64, i32, i32)
+declare void @__msan_check_string(ptr, i32)
+declare void @__msan_blind(i64)
+declare void @__msan_poison(ptr, i64, i64, i32)
+declare void @__msan_unpoison(ptr, i64)
+declare void @__msan_copy(ptr, ptr, i64)
+declare void @__msan_fill(ptr, i64, i64, i32, i32)
+declare void @__msan_store_origin(ptr, i64, i32, i32)
+declare i32 @__msan_load_origin(ptr, i64)
+declare i64 @__msan_size(ptr)
+define i32 @main() {
+  %__msan.2 = or i32 0, 0, !nosanitize !0
+  %__msan.1 = or i64 0, 0, !nosanitize !0
+  %1 = alloca i32
+  %__msan.5 = zext i32 1 to i64, !nosanitize !0
+  %__msan.6 = mul i64 4, %__msan.5, !nosanitize !0
+  call void @__msan_poison(ptr %1, i64 0, i64 %__msan.6, i32 1), !nosanitize !0
+  call void @__msan_check(i64 %__msan.1, i32 64, i32 %__msan.2, i32 3, i32 1, i32 2), !nosanitize !0
+  store i32 undef, ptr %1
+  %__msan.7 = ptrtoint ptr %1 to i64, !nosanitize !0
+  %__msan.8 = xor i64 %__msan.7, 87960930222080, !nosanitize !0
+  %__msan.9 = inttoptr i64 %__msan.8 to ptr, !nosanitize !0
+  store i32 -1, ptr %__msan.9, !nosanitize !0
+  %__msan.10 = zext i32 -1 to i64, !nosanitize !0
+  call void @__msan_store_origin(ptr %1, i64 %__msan.10, i32 2, i32 2), !nosanitize !0
+  call void @__msan_check(i64 %__msan.1, i32 64, i32 %__msan.2, i32 3, i32 0, i32 3), !nosanitize !0
+  %__msan.11 = ptrtoint ptr %1 to i64, !nosanitize !0
+  %__msan.12 = xor i64 %__msan.11, 87960930222080, !nosanitize !0
+  %__msan.13 = inttoptr i64 %__msan.12 to ptr, !nosanitize !0
+  %__msan.3 = load i32, ptr %__msan.13, !nosanitize !0
+  %__msan.14 = zext i32 %__msan.3 to i64, !nosanitize !0
+  %__msan.4 = call i32 @__msan_load_origin(ptr %1, i64 %__msan.14), !nosanitize !0
+  %2 = load i32, ptr %1
+  %__msan.15 = zext i32 %__msan.3 to i64, !nosanitize !0
+  call void @__msan_check(i64 %__msan.15, i32 32, i32 %__msan.4, i32 8, i32 0, i32 4), !nosanitize !0
+  ret i32 %2
+}
+!0 = !{}
+"#;
+
+const STORED_UNDEFINED: &str = r#"define i32 @main() {
+  %1 = alloca i32
+  store i32 undef, ptr %1
+  %2 = load i32, ptr %1
+  ret i32 %2
+}
+"#;
+
+static NUMBERED: [Numbered; 5] = [
     Numbered {
         text: "",
         places: &[],
@@ -119,6 +173,12 @@ static NUMBERED: [Numbered; 4] = [
             (RootKind::Undef, 4),
         ],
         left: STRIPPED,
+    },
+    Numbered {
+        text: INSTRUMENTED,
+        places: &[(0, 0, 2), (0, 0, 7), (0, 0, 21), (0, 0, 24)],
+        roots: &[(RootKind::Alloca, 1), (RootKind::Undef, 2)],
+        left: STORED_UNDEFINED,
     },
 ];
 

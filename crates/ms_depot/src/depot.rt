@@ -19,7 +19,7 @@ const MOST_PAIRS: usize = 1 << 20;
 fn deepest() -> u32
     ensures { result ≡ depth_limit }
 {
-    0
+    16
 }
 
 /// The depth of an origin, of `count` pairs with these depths; `None` where it is neither a root nor a pair.

@@ -2,6 +2,7 @@
 ghost use Rattle.std.specs.Prelude.{◌≡◌, [], ◌∷◌};
 ghost use Rattle.ms_bits.specs.declared.traps.Trap.TheVariants as trap;
 ghost use Rattle.ms_runs.specs.declared.runs.End.TheVariants as «end»;
+ghost use Rattle.ms_runs.specs.declared.runs.Origin.TheVariants.{Root, Chain};
 ghost use Rattle.ms_ir.specs.ExampleModules.{returns_zero, shared_cell, lost_in_addition, frozen, undef_sum, carry_of_undef};
 ghost use Rattle.ms_ir.specs.ExampleExternals.{heap_filled, freed};
 ghost use Rattle.ms_ir.specs.ExampleCalls as calls;
@@ -19,10 +20,14 @@ pub fn undefined_bits()
     ensures no_bit_kept { shadow (masked_undef 0) defaults ≡ exits 0 }
 {}
 
-/// Bytes that share one cell of origins: the unset bytes beside a stored word keep their own origin in another cell.
+/// Bytes that share one cell of origins: the unset bytes beside a stored word keep their own origin in another cell, and
+/// the stored byte's leads from the store to the word's.
 pub fn shared_cells()
     ensures shared_cell { shadow shared_cell (record defaults { reports = 3 })
-        ≡ record (prints (0xa5 ∷ 0xa5 ∷ 0 ∷ []) («end».Exit 0)) { reports = report 7 7 0 0xff 32 1 ∷ report 11 7 0 0xff 32 2 ∷ [] } }
+        ≡ record (prints (0xa5 ∷ 0xa5 ∷ 0 ∷ []) («end».Exit 0)) {
+          reports = report 7 7 0 0xff 32 1
+              ∷ record (report 11 7 0 0xff 32 2) { origin = 3; chain = Chain 2 4 ∷ Root 2 ∷ [] } ∷ [];
+        } }
     ensures first_alone { shadow shared_cell defaults ≡ reported (report 7 7 0 0xff 32 1) }
 {}
 
@@ -57,9 +62,13 @@ pub fn heap()
     ensures ended_twice { shadow (freed (does (call calls.free (local 1 ∷ [])) ∷ [])) defaults ≡ trapped trap.BadFree 3 }
 {}
 
-/// No step, one step, and a byte that is copied sixteen times.
+/// No step, one step, and a byte that is copied sixteen times: the last copy makes its way no longer.
 pub fn bounds()
     ensures no_step { shadow returns_zero (steps 0) ≡ spent }
     ensures one_step { shadow returns_zero (steps 1) ≡ exits 0 }
-    ensures sixteen_copies { shadow sixteen_copies defaults ≡ reported (report 37 8 0 0xff 32 2) }
+    ensures sixteen_copies { shadow sixteen_copies defaults ≡ reported (record (report 37 8 0 0xff 32 2) {
+      origin = 18;
+      chain = Chain 17 32 ∷ Chain 16 30 ∷ Chain 15 28 ∷ Chain 14 26 ∷ Chain 13 24 ∷ Chain 12 22 ∷ Chain 11 20 ∷ Chain 10 18
+          ∷ Chain 9 16 ∷ Chain 8 14 ∷ Chain 7 12 ∷ Chain 6 10 ∷ Chain 5 8 ∷ Chain 4 6 ∷ Chain 3 4 ∷ Chain 2 2 ∷ Root 2 ∷ [];
+    }) }
 {}

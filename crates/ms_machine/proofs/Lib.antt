@@ -1,2 +1,3 @@
 pub mod StartGlobals
 pub mod Programs
+pub mod Advancing

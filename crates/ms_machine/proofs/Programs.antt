@@ -1,5 +1,5 @@
 -- Frames that stand for those of the definitions have the room that the module's code asks for, whatever program it is.
-use Rattle.std.proofs.Common.{◌≡◌, ℕ, List, [], ◌∷◌, length, refl, sym, ap, ◌∙◌, Some}
+use Rattle.std.proofs.Common.{◌≡◌, ℕ, List, [], ◌∷◌, sym, ap, ◌∙◌, Some}
 use Rattle.ms_ir.specs.declared.syntax.Module.{Module}
 use Rattle.ms_runs.specs.declared.runs.Setup.{Setup}
 use Rattle.ms_runs.specs.Control.{Frame}
@@ -8,12 +8,13 @@ use Rattle.ms_valid.specs.Formed.{Formed}
 use Rattle.ms_valid.specs.Valid.{Valid}
 use Rattle.ms_code_data.specs.declared.code.Program.{Program}
 use Rattle.ms_code_data.specs.declared.code.Routine.{Routine}
-use Rattle.ms_code_data.specs.Compiled.{most_phis, Compiled}
+use Rattle.ms_code_data.specs.Compiled.{Compiled}
 use Rattle.ms_host.specs.State.{WorldState, Beside}
 use Rattle.ms_machine_steps.specs.declared.frames.Frame.{Frame as Kept}
 use Rattle.ms_machine_steps.specs.declared.fibers.Fiber.{Fiber}
-use Rattle.ms_machine_steps.specs.Standing.{Stands, FramesStand, frames_of, Ready, IsState}
-use Rattle.ms_machine.specs.Running.{StandsFor, AllStandFor, IsRunning}
+use Rattle.ms_machine_steps.specs.Standing.{Stands, FramesStand, frames_of, IsState, Standing}
+use Rattle.ms_machine_steps.specs.Waiting.{IsWaiting}
+use Rattle.ms_machine.specs.Running.{StandsFor, AllStandFor, IsRunning, Runs, WaitsFor}
 
 module _ (m : Module) (p : Program) (compiled : Compiled m p) where
   frame_to : (k : Kept) (f : Frame ℕ) → StandsFor m k f → Stands m p k f
@@ -72,3 +73,11 @@ module _ (m : Module) (p : Program) (compiled : Compiled m p) where
     fill = s.fill;
     sound = s.sound;
   }
+
+  -- a fiber and a world that run stand for some state of the program
+  pub standing_to : Formed m → Valid m → (fiber : Fiber) (w : WorldState) → Runs m fiber w → Standing p fiber w
+  standing_to formed valid fiber w r = (m, r.0, r.1, r.2, state_to formed valid r.0 r.1 fiber w r.2 r.3)
+
+  -- one that waits for an answer does so with the program
+  pub waiting_to : (fiber : Fiber) → WaitsFor m fiber → IsWaiting p fiber
+  waiting_to fiber q = record { whole = m; setup = q.0; compiled = compiled; frames = q.1; stands = frames_to (frames_of fiber) q.1 q.3.0; call = q.2; waits = q.3.1 }

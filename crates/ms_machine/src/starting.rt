@@ -1,17 +1,20 @@
-//! The world at the start of a run.
+//! The fiber and the world at the start of a run.
 ghost use Rattle.std.specs.Prelude.{◌≡◌, ◌<◌, map, length, IfOk};
 ghost use Rattle.ms_runs.specs.Globals.{address_of, constant};
-ghost use Rattle.ms_runs.specs.Plain.{start_world};
+ghost use Rattle.ms_runs.specs.Plain.{start_world, plain_start};
 ghost use Rattle.ms_valid.specs.Valid.{Valid};
 ghost use Rattle.ms_code_data.specs.Constants.{globals_constants};
 ghost use Rattle.ms_host.specs.State.{nothing_beside};
 ghost use Rattle.ms_host.specs.Shows.{Shows};
 ghost use Rattle.ms_host.specs.SlotBytes.{ShowsSlots};
+ghost use Rattle.ms_machine.specs.Running.{IsRunning};
 
 use ms_alloc::AllocError;
-use ms_bits::NoMemory;
+use ms_bits::{NoMemory, bytes_in_range};
+use ms_check::CheckedModule;
 use ms_host::World;
 use ms_ir::Module;
+use ms_machine_steps::{Fiber, start_fiber};
 use ms_runs::Setup;
 use ms_tables::Extents;
 use std::alloc::Global;
@@ -22,7 +25,7 @@ use std::alloc::Global;
 ///
 /// The time is that of making the globals, and linear in the input and the fill, which are copied. The one error is want of
 /// memory: a valid module's globals fit.
-pub fn start_world(
+fn start_world(
     alloc: Global,
     m: &Module,
     extents: &Extents<'_>,
@@ -45,4 +48,35 @@ pub fn start_world(
         Err(AllocError::NoMemory) => Err(std::alloc::AllocError),
         Err(AllocError::Full) => unreachable!(),
     }
+}
+
+/// The world at the start of a run of a checked module.
+fn world_of(alloc: Global, m: &CheckedModule, setup: &Setup) -> Result<World, NoMemory>
+    requires filled { 0 < length setup.now.fill }
+    ensures shows { IfOk result (λ w. Shows w nothing_beside (start_world m.now setup.now)) }
+    ensures slots { IfOk result (λ w. ShowsSlots w.slots (λ a. 0)) }
+    ensures fill { IfOk result (λ w. w.fill ≡ setup.now.fill) }
+    ensures made { IfOk result (λ w. w.made ≡ 0) }
+{
+    m.is_valid();
+    let module = m.module();
+    let extents = Extents::of(alloc, module)?;
+    start_world(alloc, module, &extents, m.program().words.as_slice(), setup)
+}
+
+/// The fiber and the world at the start of a run of a checked module: the globals stand in memory, and `main` is called.
+///
+/// The time is that of making the globals and the values of `main`, near to linear in the module's named types, and linear in
+/// the input and the fill, which are copied. The one error is want of memory: a valid module's globals fit.
+pub fn start(alloc: Global, m: &CheckedModule, setup: &Setup) -> Result<(Fiber, World), NoMemory>
+    requires filled { 0 < length setup.now.fill }
+    ensures running { IfOk result (λ s. IsRunning m.now setup.now nothing_beside s.0 s.1 (plain_start m.now setup.now)) }
+    ensures made { IfOk result (λ s. s.1.made ≡ 0) }
+{
+    m.is_valid();
+    bytes_in_range(&setup.input);
+    bytes_in_range(&setup.fill);
+    let world = world_of(alloc, m, setup)?;
+    let fiber = start_fiber(alloc, m.program())?;
+    Ok((fiber, world))
 }

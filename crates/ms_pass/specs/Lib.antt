@@ -1,4 +1,3 @@
-pub mod Valued
 pub mod Counted
 pub mod Passed
 pub mod Ready

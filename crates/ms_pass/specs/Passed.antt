@@ -1,5 +1,5 @@
 -- The parts of an instrumented module, as they are built.
-use Rattle.std.specs.Prelude.{ℕ, ◌+◌, ◌*◌, List, [], ◌∷◌, ◌++◌, length}
+use Rattle.std.specs.Prelude.{ℕ, ◌+◌, ◌*◌, false, List, [], ◌∷◌, ◌++◌, length}
 use Rattle.ms_ir.specs.declared.syntax.Name.{Name}
 use Rattle.ms_ir.specs.declared.syntax.Inst.{Inst}
 use Rattle.ms_ir.specs.declared.syntax.Block.{Block}
@@ -18,7 +18,11 @@ use Rattle.ms_tasks.specs.PassLists.{pass_insts}
 use Rattle.ms_pass_laws.specs.Pass.{pass_blocks, entry_code, enter_block}
 use Rattle.ms_pass.specs.declared.counts.Counts.{Counts}
 use Rattle.ms_pass.specs.Counted.{here_of, past_blocks}
-use Rattle.ms_pass.specs.Valued.{value_names, env_by}
+use Rattle.ms_rules.specs.Valued.{value_names}
+
+-- values are numbered by the first place of their name, and none is known to be clean
+abbrev pub env_by : List Name → Env
+env_by names = record { number = first_place names; clean = λ x. false }
 
 -- code with instructions behind it, each between its lists
 abbrev pub with_insts : Given → Env → Here → List Inst → Code → Code

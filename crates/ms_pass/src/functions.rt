@@ -9,10 +9,9 @@ ghost use Rattle.ms_pass.specs.Ready.{IsReady};
 
 use crate::blocks::passed_blocks;
 use crate::counts::Counts;
-use crate::values::values_of;
 use ms_bits::{Duplicate, List, NoMemory};
 use ms_ir::{Block, Func, Name, Ty};
-use ms_rules::{Scope, push_parameters};
+use ms_rules::{Scope, push_parameters, values_of};
 use ms_rules_code::Code;
 use ms_tables::{Extents, NameTable};
 use std::alloc::Global;
@@ -41,10 +40,12 @@ fn blocks_in<'m>(
     ensures counts { OnOk result (counts.new ≡ past_blocks (first_place functions.now) counts.old func.now.blocks) }
 {
     let values = values_of(alloc, func)?;
+    let clean = NameTable::new(alloc);
     let scope = Scope {
         extents,
         functions,
         values: &values,
+        clean: &clean,
         main: func.name.is(b"main"),
     };
     let start = entry_of(alloc, &scope, func.params.as_slice())?;

@@ -7,6 +7,5 @@ mod functions;
 mod instruments;
 mod insts;
 mod modules;
-mod values;
 
 pub use instruments::instrument;

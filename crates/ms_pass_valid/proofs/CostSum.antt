@@ -166,7 +166,7 @@ module _ (given : Given) (env : Env) where
       by_number (Some v) = by_clean v (env.clean x)
 
   -- what is written before and behind an instruction
-  lists_cost : (h : Here) (i : Inst) (n : ℕ) (o : Op) → i.op ≡ o
+  pub lists_cost : (h : Here) (i : Inst) (n : ℕ) (o : Op) → i.op ≡ o
       → over_insts count_written (emit_op given env h i n o).before + over_insts count_written (emit_op given env h i n o).after ≤ 192 + 27 * length (operands o)
   lists_cost h i n (op.Phi t es) s = omega (arith, phi_cost h.root i.result t es, length-map {B = Ty × Operand} es (λ (e : Operand × Name). (t, e.0)))
   lists_cost h i n o s =

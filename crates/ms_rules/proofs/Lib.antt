@@ -1,6 +1,12 @@
 pub mod Numbers
+pub mod Unclean
 pub mod Operands
 pub mod Adding
 pub mod Taking
 pub mod RootCounts
 pub mod PhiEdges
+pub mod Growth
+pub mod TakenInsts
+pub mod ValueNames
+pub mod SingleInsts
+pub mod CleanNames

@@ -16,8 +16,9 @@ use Rattle.ms_tasks.specs.PassLists.{mask_edges, origin_from, origins_by, origin
 use Rattle.ms_rules_code.specs.Steps.{tracked_of, shadow_mask, shadow_origin}
 use Rattle.ms_rules_code.specs.declared.tracked.TrackedOperand.{TrackedOperand}
 use Rattle.ms_rules.specs.declared.scopes.Scope.{Scope}
-use Rattle.ms_rules.specs.Scopes.{env_of}
+use Rattle.ms_rules.specs.Scopes.{env_of, unclean_number}
 use Rattle.ms_rules.specs.Edges.{masks, origins, with_operands, first_operand, with_first, pair_of}
+use Rattle.ms_rules.proofs.Unclean.{number_first}
 
 -- ---- edges in turn
 
@@ -85,10 +86,15 @@ module _ (env : Env) (t : Ty) where
     origins_are = ap (λ os. with_first os (map (λ e. e.1) es) es) (origins_tracked ts ∙ ap (map (λ y. y.origin)) are) ∙ origins_from root es es
 
 -- the phis behind a phi
-pub phis_are : (s : Scope) (v root : ℕ) (n : Option Name) (x : Name) (t : Ty) (es : List (Operand × Name)) (ts : List TrackedOperand) → n ≡ Some x → Some v ≡ (env_of s).number x
+pub phis_are : (s : Scope) (v root : ℕ) (n : Option Name) (x : Name) (t : Ty) (es : List (Operand × Name)) (ts : List TrackedOperand) → n ≡ Some x → Some v ≡ unclean_number (env_of s) x
     → map tracked_of ts ≡ tracked (env_of s) root (map (λ e. (t, e.0)) es)
     → pair_of v t (with_operands (masks ts) es) (with_first (origins ts) (map (λ e. e.1) es) es) ≡ phi_code (env_of s) root n t es
 phis_are s v root n x t es ts named numbered are =
     (λ j. pair_of v t (masks_are (env_of s) t root ts es are j) (origins_are (env_of s) t root ts es are j))
-    ∙ ap (λ p. elim p as (λ _. List Inst) [ Some v ↦ phi_pair (env_of s) v root t es | None ↦ [] ]) numbered
+    ∙ number_first {A = List Inst} (λ v. phi_pair (env_of s) v root t es) [] ((env_of s).clean x) ((env_of s).number x) (Some v) numbered
     ∙ ap (λ m. phi_code (env_of s) root m t es) (sym named)
+
+-- none, where the result has no number
+pub no_phis : (s : Scope) (root : ℕ) (n : Option Name) (x : Name) (t : Ty) (es : List (Operand × Name)) → n ≡ Some x → None ≡ unclean_number (env_of s) x → [] ≡ phi_code (env_of s) root n t es
+no_phis s root n x t es named unnumbered =
+    number_first {A = List Inst} (λ v. phi_pair (env_of s) v root t es) [] ((env_of s).clean x) ((env_of s).number x) None unnumbered ∙ ap (λ m. phi_code (env_of s) root m t es) (sym named)

@@ -5,3 +5,5 @@ pub mod Tracking
 pub mod Callees
 pub mod Around
 pub mod Edges
+pub mod Valued
+pub mod Singles

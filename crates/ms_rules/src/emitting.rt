@@ -22,7 +22,7 @@ use ms_rules_code::Code;
 use std::alloc::Global;
 
 /// The next number, which is kept where something is saved under it.
-fn number_to_save(code: &mut Code, external: Option<External>) -> u64
+pub fn number_to_save(code: &mut Code, external: Option<External>) -> u64
     requires { code.old.next < 2 ^ 40 }
     ensures number { result ≡ code.old.next }
     ensures code { code.new ≡ record { code = code.old.code; next = code.old.next + saved_for external } }

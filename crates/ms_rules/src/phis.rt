@@ -109,6 +109,28 @@ fn push_pair(
     }
 }
 
+/// Adds what stands behind a phi: the phis of its mask and its origin. Answers how many of its operands are undefined.
+pub fn push_behind_phi(
+    alloc: Global,
+    code: &mut Code,
+    scope: &Scope<'_, '_>,
+    root: u64,
+    inst: &Inst,
+    ty: &Ty,
+    edges: &[(Operand, Name)],
+) -> Result<u64, NoMemory>
+    requires few { length scope.now.values.now ≤ 2 ^ 30 }
+    requires narrow { All (λ o. width_of o.0 ≤ 64) (operands inst.now.op) }
+    requires roots { root < 2 ^ 40 }
+    requires phi { inst.now.op ≡ Op.Phi ty.now edges.now }
+    ensures code { OnOk result (code.new ≡ with_insts code.old (phi_code (env_of scope.now) root inst.now.result ty.now edges.now)) }
+    ensures roots { IfOk result (λ n. n ≡ count_undefs (operands inst.now.op)) }
+{
+    let tracking = track(alloc, scope, root, &inst.op)?;
+    push_pair(alloc, code, scope, &inst.result, ty, edges, &tracking)?;
+    Ok(tracking.behind - tracking.before)
+}
+
 /// Adds a phi, and the phis of its mask and its origin. Answers how many of its operands are undefined.
 pub fn push_phi(
     alloc: Global,
@@ -126,8 +148,6 @@ pub fn push_phi(
     ensures code { OnOk result (code.new ≡ with_insts code.old (inst.now ∷ phi_code (env_of scope.now) root inst.now.result ty.now edges.now)) }
     ensures roots { IfOk result (λ n. n ≡ count_undefs (operands inst.now.op)) }
 {
-    let tracking = track(alloc, scope, root, &inst.op)?;
     push_copy(alloc, code, inst)?;
-    push_pair(alloc, code, scope, &inst.result, ty, edges, &tracking)?;
-    Ok(tracking.behind - tracking.before)
+    push_behind_phi(alloc, code, scope, root, inst, ty, edges)
 }

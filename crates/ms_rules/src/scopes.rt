@@ -5,24 +5,29 @@ use ms_ir::Name;
 use ms_tables::{Extents, NameTable};
 
 /// What is looked up in a module and in a function: the sizes of types, the names of the module's functions, the names of
-/// the function's values in the order in which they are numbered, and whether it is `main`.
+/// the function's values in the order in which they are numbered, those that are known to be clean, and whether it is
+/// `main`.
 #[derive(Clone, Copy)]
 pub struct Scope<'a, 'm> {
     pub extents: &'a Extents<'m>,
     pub functions: &'a NameTable<'m>,
     pub values: &'a NameTable<'m>,
+    pub clean: &'a NameTable<'m>,
     pub main: bool,
 }
 
 impl Scope<'_, '_> {
-    ghost use Rattle.ms_rules.specs.Scopes.{env_of};
+    ghost use Rattle.ms_rules.specs.Scopes.{env_of, unclean_number};
 
-    /// The number of the function's value with a name, if there is one.
+    /// The number of the function's value with a name, if there is one that isn't known to be clean.
     #[tactic(auto, using(crate::proofs::Numbers::number_low))]
     pub(crate) fn number(&self, name: &Name) -> Option<u32>
         requires { length self.now.values.now ≤ 2 ^ 30 }
-        ensures { result ≡ (env_of self.now).number name.now }
+        ensures { result ≡ unclean_number (env_of self.now) name.now }
     {
+        if self.clean.place(name).is_some() {
+            return None;
+        }
         match self.values.place(name) {
             Some(place) => Some(place as u32),
             None => None,

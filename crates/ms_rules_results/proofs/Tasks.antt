@@ -1,14 +1,10 @@
 -- Code that grows by tasks in two parts.
-use Rattle.std.proofs.Common.{◌≡◌, ℕ, List, [], ◌++◌, Result, refl, sym, ap, ap₂, ◌∙◌, OnOk}
+use Rattle.std.proofs.Common.{◌≡◌, ℕ, List, [], ◌++◌, Result, refl, sym, ap, ap₂, ◌∙◌, subst, OnOk}
 use Rattle.std.proofs.lemmas.List.{append_assoc, append-nil}
-use Rattle.std.proofs.lemmas.Result.{on_ok_weaker}
 use Rattle.ms_ir.specs.declared.syntax.Inst.{Inst}
 use Rattle.ms_tasks.specs.Tasks.{Code, Task, tasks_code}
 use Rattle.ms_tasks.proofs.Marked.{tasks_append, tasks_append_next}
 use Rattle.ms_rules_code.specs.Made.{with_tasks}
-
-code_of : List Inst → ℕ → Code
-code_of l n = record { code = l; next = n }
 
 same_code : (x y : List Inst) (m n : ℕ) → x ≡ y → m ≡ n → let c : Code = record { code = x; next = m } in let d : Code = record { code = y; next = n } in c ≡ d
 same_code x y m n e f = ap₂ (λ (l : List Inst) (k : ℕ). let c : Code = record { code = l; next = k } in c) e f
@@ -26,4 +22,4 @@ no_tasks c = same_code c.code (c.code ++ []) c.next c.next (sym (append-nil c.co
 
 -- one call has added tasks, and the next adds more where it is Ok
 pub more_tasks : {E : Type 0} (r : Result (Unit {0}) E) (old mid new : Code) (a b : List Task) → mid ≡ with_tasks old a → OnOk r (new ≡ with_tasks mid b) → OnOk r (new ≡ with_tasks old (a ++ b))
-more_tasks r old mid new a b e p = on_ok_weaker r (λ q. q ∙ ap (λ c. with_tasks c b) e ∙ tasks_twice old a b) p
+more_tasks r old mid new a b e p = subst (λ (c : Code). OnOk r (new ≡ c)) (ap (λ c. with_tasks c b) e ∙ tasks_twice old a b) p

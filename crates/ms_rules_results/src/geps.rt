@@ -1,8 +1,8 @@
 //! The rule of the mask of `getelementptr`.
-ghost use Rattle.std.specs.Prelude.{◌≡◌, ℕ, ◌-◌, true, List, [], ◌∷◌, ◌++◌, length, map, drop, IfOk, OnOk};
+ghost use Rattle.std.specs.Prelude.{◌≡◌, true, [], ◌∷◌, ◌++◌, map, drop, IfOk, OnOk};
 ghost use Rattle.ms_ir.specs.declared.syntax.Ty.{Int};
 ghost use Rattle.ms_tasks.specs.Tasks.{Or, Two};
-ghost use Rattle.ms_tasks.specs.Environments.{Tracked, tracked_at, mask_of};
+ghost use Rattle.ms_tasks.specs.Environments.{tracked_at, mask_of};
 ghost use Rattle.ms_tasks.specs.ResultMasks.{union_all};
 ghost use Rattle.ms_rules_code.specs.Steps.{Inputs as InputsOf, words, tracked_of};
 ghost use Rattle.ms_rules_results.specs.Rules.{is_rule, extended};

@@ -20,14 +20,14 @@ use crate::geps::gep_rule;
 use crate::loads::define_load;
 use crate::masks::{CHOICE, CLEAN, FIRST, SHIFT, binary_rule, cast_step, compare_rule};
 use crate::origins::{CHOICE_ORIGIN, set_last_origin};
-use crate::rules::{set_mask, set_origin, try_mask};
+use crate::rules::{attempt_mask, set_mask, set_origin};
 use ms_bits::{BinOp, CastOp, NoMemory, Pred};
 use ms_ir::{Op, Ty};
 use ms_rules_code::Step::Mask;
 use ms_rules_code::{Code, Inputs, Step, TrackedOperand, width_of};
 use std::alloc::Global;
 
-/// The origin and the mask of a value, of a width, get the words of rules.
+// The origin and the mask of a value, of a width, get the words of rules.
 fn define_word(
     alloc: Global,
     code: &mut Code,
@@ -45,7 +45,7 @@ fn define_word(
     set_mask(alloc, code, value, width, inputs, mask)
 }
 
-/// The same where the origin is that of the last operand whose mask isn't 0.
+// The same where the origin is that of the last operand whose mask isn't 0.
 fn define_joined(
     alloc: Global,
     code: &mut Code,
@@ -61,7 +61,7 @@ fn define_joined(
     set_mask(alloc, code, value, width, inputs, mask)
 }
 
-/// The same of a result that is clean.
+// The same of a result that is clean.
 fn define_clean(
     alloc: Global,
     code: &mut Code,
@@ -89,7 +89,7 @@ fn define_shift(
 {
     let inputs = Inputs::new(operands, width, &None);
     set_last_origin(alloc, code, value, &inputs)?;
-    try_mask(alloc, code, value, op, width, &inputs, &SHIFT)
+    attempt_mask(alloc, code, value, op, width, &inputs, &SHIFT)
 }
 
 fn define_binary(
@@ -210,7 +210,7 @@ pub fn define(
     op: &Op,
     operands: &[TrackedOperand<'_>],
 ) -> Result<(), NoMemory>
-    requires { HasWidths op.now }
+    requires widths { HasWidths op.now }
     ensures { (func : NameOf → Option ℕ) → calls_own func op.now ≡ own → OnOk result (code.new ≡ with_tasks code.old (define_tasks func value op.now (map tracked_of operands.now))) }
 {
     match op {

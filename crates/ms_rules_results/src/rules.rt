@@ -1,5 +1,5 @@
 //! Rules that set names.
-ghost use Rattle.std.specs.Prelude.{◌≡◌, ℕ, true, List, [], ◌∷◌, ◌++◌, replicate, OnOk};
+ghost use Rattle.std.specs.Prelude.{◌≡◌, true, [], ◌∷◌, ◌++◌, replicate, OnOk};
 ghost use Rattle.ms_ir.specs.declared.syntax.Ty.{Int};
 ghost use Rattle.ms_tasks.specs.Tasks.{Expr, Sets, Tries, mask_name as mask_name_of, origin_name as origin_name_of};
 ghost use Rattle.ms_rules_code.specs.Made.{with_tasks};
@@ -11,7 +11,7 @@ use ms_ir::Name;
 use ms_rules_code::{Code, Inputs, Step, mask_name, origin_name};
 use std::alloc::Global;
 
-/// A name of a width gets the word of a rule.
+// A name of a width gets the word of a rule.
 fn set(
     code: &mut Code,
     name: Name,
@@ -25,7 +25,7 @@ fn set(
     match rule {
         [leaf] => code.set_leaf(name, width, inputs, *leaf),
         [steps @ .., last] => code.set(name, width, inputs, steps, *last),
-        [] => Ok(()),
+        [] => unreachable!(),
     }
 }
 
@@ -61,7 +61,7 @@ pub fn set_mask(
 }
 
 /// The mask of a value, of a width, gets what an operation that may trap makes of the two words that steps leave.
-pub fn try_mask(
+pub fn attempt_mask(
     alloc: Global,
     code: &mut Code,
     value: u32,

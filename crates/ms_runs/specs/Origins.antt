@@ -38,7 +38,7 @@ pub record Chained : Type 0 where
 -- the depth from which on an origin is kept as it is; a root has depth 0, and a pair one more than its earlier origin.
 -- It unfolds where a proof asks for it alone, so that what is proved of chains holds for any limit
 unfoldable pub depth_limit : ℕ
-depth_limit = 0
+depth_limit = 16
 
 -- the pairs that may stand
 abbrev pub pair_limit : ℕ

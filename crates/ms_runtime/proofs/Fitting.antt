@@ -9,18 +9,20 @@ use Rattle.ms_ir.specs.Signatures.{external_signature, runtime_signature}
 use Rattle.ms_ir.specs.declared.syntax.Module.{Module}
 use Rattle.ms_runs.specs.declared.runs.End.{End}
 use Rattle.ms_runs.specs.declared.runs.Setup.{Setup}
+use Rattle.ms_runs.specs.Control.{Frame}
+use Rattle.ms_valid.specs.Valid.{Valid}
 use Rattle.ms_runs_good.specs.GoodStates.{IsBelow}
 use Rattle.ms_runs_good.specs.Straight.{HaveTypes}
-use Rattle.ms_code_data.specs.declared.code.Program.{Program}
 use Rattle.ms_host.specs.Answers.{FitsExit}
 use Rattle.ms_host.specs.declared.calls.Asked.{Asked}
 use Rattle.ms_host.specs.declared.calls.Asked.TheVariants as asked
 use Rattle.ms_host.specs.declared.calls.Answer.{Answer}
 use Rattle.ms_host.specs.declared.calls.Answer.TheVariants as answer
 use Rattle.ms_host.specs.declared.calls.HostCall.{HostCall}
-use Rattle.ms_machine_steps.proofs.Due.{First, first_frame}
-use Rattle.ms_machine_steps.proofs.Resuming.{first_waits}
+use Rattle.ms_machine_steps.specs.Standing.{frames_of}
+use Rattle.ms_machine_steps.specs.Waiting.{FirstWaits}
 use Rattle.ms_machine_steps.proofs.Asking.{asked_types, AreArguments, are_arguments}
+use Rattle.ms_machine.specs.Running.{AllStandFor}
 use Rattle.ms_runtime.specs.declared.runs.Running.{Running}
 use Rattle.ms_runtime.specs.Served.{Fits, FitsAsked, IsWithin}
 use Rattle.ms_runtime.specs.Answering.{HasRoom}
@@ -34,15 +36,17 @@ pub if_ok_both : {A E : Type 0} {P R Q : A → Type 0} (r : Result A E) → ((a 
 if_ok_both (Ok a) f h k = f a h k
 if_ok_both (Err e) f h k = tt
 
-pub turned_from : (m : Module) (p : Program) (u : Setup) (far far' : ℕ) (e : Option End) (r : Running) → far' ≤ far → Turned m p u far' e r → Turned m p u far e r
-turned_from m p u far far' None r le t = (t.0, omega (arith, le, t.1))
-turned_from m p u far far' (Some e) r le t = t
+pub turned_from : (m : Module) (u : Setup) (far far' : ℕ) (e : Option End) (r : Running) → far' ≤ far → Turned m u far' e r → Turned m u far e r
+turned_from m u far far' None r le t = (t.0, omega (arith, le, t.1))
+turned_from m u far far' (Some e) r le t = t
 
 -- the words of a call that a run waits for
-pub arguments_of : (m : Module) (p : Program) (u : Setup) (call : HostCall) (r : Running) → Asking m p u call r → AreArguments call
-arguments_of m p u call r a =
-    let f : First m p r.fiber.frame _ a.within.frames = first_frame m p r.fiber.frame _ a.within.frames a.stands.frames in
-    are_arguments m a.stands.ready.valid u f.frame f.stands.func f.stands.is call (first_waits m p u r.fiber.frame _ a.within.frames call f a.waits)
+pub arguments_of : (m : Module) → Valid m → (u : Setup) (call : HostCall) (r : Running) → Asking m u call r → AreArguments call
+arguments_of m valid u call r a = by_frames a.within.frames a.stands.frames a.waits
+  where
+    by_frames : (fs : List (Frame ℕ)) → AllStandFor m (frames_of r.fiber) fs → FirstWaits m u fs call → AreArguments call
+    by_frames [] stands waits = absurd waits
+    by_frames (f ∷ fs) stands waits = are_arguments m valid u f stands.0.func stands.0.is call waits
 
 type_at : (ts : List Ty) (k : ℕ) → k < length ts → slice_get ts k ≡ Some (get_or ts k Ptr)
 type_at [] k lt = absurd (omega (arith, lt))

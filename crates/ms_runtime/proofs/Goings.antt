@@ -1,5 +1,5 @@
 -- From pause to pause a run keeps what it answers.
-use Rattle.std.proofs.Common.{◌≡◌, ◌<◌, ◌≤◌, ◌+◌, ◌-◌, ◌*◌, ◌^◌, ℕ, zero, suc, List, ◌∷◌, length, min, refl, sym, ap, subst, ◌∙◌, arith, Option, Some, None}
+use Rattle.std.proofs.Common.{◌≡◌, ◌<◌, ◌≤◌, ◌+◌, ◌-◌, ◌*◌, ◌^◌, ℕ, zero, suc, List, [], ◌∷◌, length, min, refl, sym, ap, subst, ◌∙◌, arith, Option, Some, None}
 use Rattle.ms_ir.specs.declared.syntax.Inst.{Inst}
 use Rattle.ms_ir.specs.declared.syntax.Func.{Func}
 use Rattle.ms_ir.specs.declared.syntax.Module.{Module}
@@ -11,7 +11,10 @@ use Rattle.ms_runs.specs.declared.runs.RunResult.{RunResult}
 use Rattle.ms_runs.specs.World.{World, result}
 use Rattle.ms_runs.specs.Control.{Frame}
 use Rattle.ms_runs.specs.Plain.{PlainState, Stepped, More, Stop, go_on, run, plain}
+use Rattle.ms_valid.specs.Formed.{Formed}
+use Rattle.ms_valid.specs.Valid.{Valid}
 use Rattle.ms_code_data.specs.declared.code.Program.{Program}
+use Rattle.ms_code_data.specs.Compiled.{Compiled}
 use Rattle.ms_host.specs.State.{WorldState, Beside}
 use Rattle.ms_host.specs.Shows.{Shows}
 use Rattle.ms_host.specs.declared.calls.Asked.{Asked}
@@ -19,12 +22,12 @@ use Rattle.ms_host.specs.declared.calls.Asked.TheVariants as asked
 use Rattle.ms_host.specs.declared.calls.Answer.TheVariants as answer
 use Rattle.ms_host.specs.declared.calls.HostCall.{HostCall}
 use Rattle.ms_machine_steps.specs.Standing.{FramesStand, frames_of, IsState}
-use Rattle.ms_machine_steps.specs.Waiting.{Waits, answered}
+use Rattle.ms_machine_steps.specs.Waiting.{Waits, FirstWaits, answered}
 use Rattle.ms_machine_steps.specs.Advances.{step_of, Counts, IsSpent, HasEnded, HasAsked, Resumes, HasResumed, HasStopped}
-use Rattle.ms_machine_steps.proofs.Due.{First, first_frame, Due}
-use Rattle.ms_machine_steps.proofs.Resuming.{first_waits, waiting_due}
 use Rattle.ms_machine_steps.proofs.Answered.{waiter, below_it, waits, waiter_stands, answered_on, answered_ends}
 use Rattle.ms_machine_steps.proofs.RunSteps.{run_on, run_spent, run_ends, run_due, number_below}
+use Rattle.ms_machine.specs.Running.{AllStandFor, IsRunning}
+use Rattle.ms_machine.proofs.Programs.{frames_to, frames_from, state_to, state_from}
 use Rattle.ms_runtime.specs.declared.runs.Running.{Running}
 use Rattle.ms_runtime.specs.Served.{IsBeside}
 use Rattle.ms_runtime.specs.Answering.{AnsweredFor}
@@ -56,7 +59,7 @@ uncut b t e few = omega (arith, e, few)
 
 -- ---- ends
 
-module _ (m : Module) (p : Program) (u : Setup) where
+module _ (m : Module) (u : Setup) where
   abbrev goes : ℕ → PlainState → RunResult
   goes left state = run (λ (s : PlainState). s.world) (step_of m u) left state
 
@@ -71,7 +74,7 @@ module _ (m : Module) (p : Program) (u : Setup) where
     blind = ap (λ (x : RunResult). x.blind) is ∙ shows.blind ∙ uncut beside.blind r.told.blind told.blind few;
   }
 
-  module _ (r : Running) (g : Going m p u r) (r' : Running) (depot : r'.depot ≡ r.depot) (told : r'.told ≡ r.told) where
+  module _ (r : Running) (g : Going m u r) (r' : Running) (depot : r'.depot ≡ r.depot) (told : r'.told ≡ r.told) where
     still_beside : IsBeside r'.depot r'.told g.beside
     still_beside = subst (λ d. IsBeside d r'.told g.beside) (sym depot) (subst (λ (t : RunResult). IsBeside r.depot t g.beside) (sym told) g.told)
 
@@ -79,7 +82,7 @@ module _ (m : Module) (p : Program) (u : Setup) where
     still_few = subst (λ (t : RunResult). t.blind ≤ 2 ^ 62) (sym told) (omega (arith, g.keeping.blind))
 
     -- no step is left
-    pub going_spent : IsSpent (IsState m p u g.beside) m u g.state r.budget.left r'.fiber r'.world r'.budget.left → Over m u «end».Spent r'
+    pub going_spent : IsSpent (IsRunning m u g.beside) m u g.state r.budget.left r'.fiber r'.world r'.budget.left → Over m u «end».Spent r'
     going_spent h =
         told_over «end».Spent h.last.world g.beside r' (sym g.same ∙ run_spent (λ (s : PlainState). s.world) (step_of m u) r.budget.left g.state h.last h.came) h.stands.shows still_beside still_few
 
@@ -89,7 +92,7 @@ module _ (m : Module) (p : Program) (u : Setup) where
         told_over e h.last g.beside r' (sym g.same ∙ run_ends (λ (s : PlainState). s.world) (step_of m u) r.budget.left h.done g.state h.before e h.last h.few h.came h.ends) h.shows still_beside still_few
 
     -- a call is asked for
-    module _ (call : HostCall) (h : HasAsked (IsState m p u g.beside) m u g.state r.budget.left r.fiber.frame.at call r'.fiber r'.world r'.budget.left)
+    module _ (call : HostCall) (h : HasAsked (IsRunning m u g.beside) m u g.state r.budget.left r.fiber.frame.at call r'.fiber r'.world r'.budget.left)
         (made : r'.world.made + 2 ^ 26 * r'.budget.left ≤ r.world.made + 2 ^ 26 * r.budget.left) where
       fewer : (a : Asked) → Counts a r.budget.left (r'.budget.left + h.done) → r'.budget.left ≤ r.budget.left
       fewer (asked.External e) c = omega (arith, c)
@@ -113,7 +116,7 @@ module _ (m : Module) (p : Program) (u : Setup) where
       behind (asked.External e) c = (r'.budget.left, (refl, omega (arith, c)))
       behind (asked.Runtime f) c = (r'.budget.left - 1, (omega (arith, c, h.few), omega (arith, c, h.few)))
 
-      pub going_asks : Asking m p u call r'
+      pub going_asks : Asking m u call r'
       going_asks =
           let b : (rest : ℕ) × (LeftBehind call.asked rest r'.budget.left × (rest + h.done + 1 ≡ r.budget.left)) = behind call.asked h.counted in
           record {
@@ -137,20 +140,25 @@ module _ (m : Module) (p : Program) (u : Setup) where
   -- ---- answers
 
   -- where it waits is an instruction of the module
-  at_below : (r : Running) (call : HostCall) → Asking m p u call r → r.fiber.frame.at < over_funcs (λ inst. 1) m.funcs
-  at_below r call a =
-      let f : First m p r.fiber.frame _ a.within.frames = first_frame m p r.fiber.frame _ a.within.frames a.stands.frames in
-      let d : Due m p f.frame r.fiber.frame f.stands = waiting_due m p u a.stands.ready.compiled f.frame r.fiber.frame f.stands call (first_waits m p u r.fiber.frame _ a.within.frames call f a.waits) in
-      subst (λ (n : ℕ). n < over_funcs (λ inst. 1) m.funcs) (sym f.stands.at) (number_below m f.frame.func f.frame.block f.frame.place f.stands.func f.stands.is d.inst d.item)
+  at_below : (r : Running) (call : HostCall) → Asking m u call r → r.fiber.frame.at < over_funcs (λ inst. 1) m.funcs
+  at_below r call a = by_frames a.within.frames a.stands.frames a.waits
+    where
+      by_frames : (fs : List (Frame ℕ)) → AllStandFor m (frames_of r.fiber) fs → FirstWaits m u fs call → r.fiber.frame.at < over_funcs (λ inst. 1) m.funcs
+      by_frames [] stands waits = absurd waits
+      by_frames (f ∷ fs) stands waits =
+          subst (λ (n : ℕ). n < over_funcs (λ inst. 1) m.funcs) (sym stands.0.at) (number_below m f.func f.block f.place stands.0.func stands.0.is waits.inst waits.due)
 
-  below_all : (r : Running) (call : HostCall) → Asking m p u call r → 0 < ahead m r
+  below_all : (r : Running) (call : HostCall) → Asking m u call r → 0 < ahead m r
   below_all r call a = omega (arith, at_below r call a)
 
-  module _ (r : Running) (call : HostCall) (a : Asking m p u call r) (r' : Running) where
+  module _ (p : Program) (compiled : Compiled m p) (formed : Formed m) (valid : Valid m) (r : Running) (call : HostCall) (a : Asking m u call r) (r' : Running) where
+    stands : IsState m p u a.beside r.fiber r.world a.within
+    stands = state_to m p compiled formed valid u a.beside r.fiber r.world a.within a.stands
+
     -- the answer ended it
     pub asked_ends : (e : End) → AnsweredFor m u call a.within (answer.Ended e) r r' → Over m u e r'
     asked_ends e x =
-        let stopped : HasStopped m u x.beside a.within e r'.world = answered_ends m p u a.beside r.fiber r.world a.within a.stands call a.waits x.beside r'.world x.keeps.fill x.keeps.slots e x.answered in
+        let stopped : HasStopped m u x.beside a.within e r'.world = answered_ends m p u a.beside r.fiber r.world a.within stands call a.waits x.beside r'.world x.keeps.fill x.keeps.slots e x.answered in
         told_over e stopped.last x.beside r' (sym a.same ∙ ap (go_on (goes a.rest)) stopped.ends) stopped.shows x.told (omega (arith, x.blind, a.keeping.blind, low))
       where
         low : 0 < ahead m r
@@ -159,13 +167,13 @@ module _ (m : Module) (p : Program) (u : Setup) where
     -- or the run goes on behind it
     pub asked_goes_on : (value : Option ℕ) → AnsweredFor m u call a.within (answer.Resumed value) r r' → (r'' : Running)
         → r''.world ≡ r'.world → r''.depot ≡ r'.depot → r''.told ≡ r'.told → r''.budget ≡ r'.budget → r''.fiber.frame.at ≡ r'.fiber.frame.at + 1
-        → ((frame : Frame ℕ) (below : List (Frame ℕ)) → FramesStand m p (frames_of r'.fiber) (frame ∷ below) → Waits m u frame call → FramesStand m p (frames_of r''.fiber) (answered m value frame ∷ below))
-        → Going m p u r'' × (ahead m r'' < ahead m r)
+        → ((frame : Frame ℕ) (below : List (Frame ℕ)) → AllStandFor m (frames_of r'.fiber) (frame ∷ below) → Waits m u frame call → AllStandFor m (frames_of r''.fiber) (answered m value frame ∷ below))
+        → Going m u r'' × (ahead m r'' < ahead m r)
     asked_goes_on value x r'' world depot told budget at frames = (
       record {
         beside = x.beside;
         state = on.next;
-        stands = subst (λ (w : WorldState). IsState m p u x.beside r''.fiber w on.next) (sym world) on.stands;
+        stands = subst (λ (w : WorldState). IsRunning m u x.beside r''.fiber w on.next) (sym world) (state_from m p compiled u x.beside r''.fiber r'.world on.next on.stands);
         told = subst (λ d. IsBeside d r''.told x.beside) (sym depot) (subst (λ (t : RunResult). IsBeside r'.depot t x.beside) (sym told) x.told);
         keeping = record {
           roots = ap (λ d. d.roots) depot ∙ x.roots ∙ a.keeping.roots;
@@ -179,16 +187,18 @@ module _ (m : Module) (p : Program) (u : Setup) where
     )
       where
         first : Frame ℕ
-        first = waiter m p u a.beside r.fiber r.world a.within a.stands call a.waits
+        first = waiter m p u a.beside r.fiber r.world a.within stands call a.waits
 
         rest : List (Frame ℕ)
-        rest = below_it m p u a.beside r.fiber r.world a.within a.stands call a.waits
+        rest = below_it m p u a.beside r.fiber r.world a.within stands call a.waits
 
         on : HasResumed (IsState m p u x.beside) m u call.asked a.within r''.fiber r'.world
-        on = answered_on m p u a.beside r.fiber r.world a.within a.stands call a.waits x.beside r'.world x.keeps.fill x.keeps.slots r''.fiber value x.answered
+        on = answered_on m p u a.beside r.fiber r.world a.within stands call a.waits x.beside r'.world x.keeps.fill x.keeps.slots r''.fiber value x.answered
+            (frames_to m p compiled (frames_of r''.fiber) (answered m value first ∷ rest)
             (frames first rest
-            (subst (λ f. FramesStand m p (frames_of f) (first ∷ rest)) (sym x.fiber) (waiter_stands m p u a.beside r.fiber r.world a.within a.stands call a.waits))
-            (waits m p u a.beside r.fiber r.world a.within a.stands call a.waits))
+            (frames_from m p compiled (frames_of r'.fiber) (first ∷ rest)
+            (subst (λ f. FramesStand m p (frames_of f) (first ∷ rest)) (sym x.fiber) (waiter_stands m p u a.beside r.fiber r.world a.within stands call a.waits)))
+            (waits m p u a.beside r.fiber r.world a.within stands call a.waits)))
 
         left_is : r''.budget.left ≡ r.budget.left
         left_is = ap (λ b. b.left) (budget ∙ x.budget)

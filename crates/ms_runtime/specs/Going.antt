@@ -7,7 +7,6 @@ use Rattle.ms_runs.specs.declared.runs.Setup.{Setup}
 use Rattle.ms_runs.specs.declared.runs.RunResult.{RunResult}
 use Rattle.ms_runs.specs.World.{World}
 use Rattle.ms_runs.specs.Plain.{PlainState, go_on, run, plain}
-use Rattle.ms_code_data.specs.declared.code.Program.{Program}
 use Rattle.ms_depot.specs.Depots.{DepotState}
 use Rattle.ms_host.specs.State.{WorldState, Beside}
 use Rattle.ms_host.specs.Shows.{Shows}
@@ -15,9 +14,9 @@ use Rattle.ms_host.specs.declared.calls.Asked.{Asked}
 use Rattle.ms_host.specs.declared.calls.Asked.TheVariants as asked
 use Rattle.ms_host.specs.declared.calls.HostCall.{HostCall}
 use Rattle.ms_machine_steps.specs.declared.fibers.Fiber.{Fiber}
-use Rattle.ms_machine_steps.specs.Standing.{IsState}
 use Rattle.ms_machine_steps.specs.Waiting.{FirstWaits}
 use Rattle.ms_machine_steps.specs.Advances.{step_of}
+use Rattle.ms_machine.specs.Running.{IsRunning}
 use Rattle.ms_runtime.specs.declared.runs.Running.{Running}
 use Rattle.ms_runtime.specs.Served.{IsBeside}
 
@@ -33,10 +32,10 @@ pub record Keeping (m : Module) (u : Setup) (r : Running) : Type 0 where
   pub blind : r.told.blind + ahead m r ≤ 2 ^ 62
 
 -- a run has come to a state from which it answers what the whole run does
-pub record Going (m : Module) (p : Program) (u : Setup) (r : Running) : Type 0 where
+pub record Going (m : Module) (u : Setup) (r : Running) : Type 0 where
   pub beside : Beside
   pub state : PlainState
-  pub stands : IsState m p u beside r.fiber r.world state
+  pub stands : IsRunning m u beside r.fiber r.world state
   pub told : IsBeside r.depot r.told beside
   pub keeping : Keeping m u r
   pub same : run (λ (s : PlainState). s.world) (step_of m u) r.budget.left state ≡ plain m u
@@ -52,10 +51,10 @@ HasSlack (asked.External e) made left = made + 2 ^ 26 + 2 ^ 27 * left ≤ 2 ^ 58
 HasSlack (asked.Runtime f) made left = Unit {0}
 
 -- a run waits for the answer of a call
-pub record Asking (m : Module) (p : Program) (u : Setup) (call : HostCall) (r : Running) : Type 0 where
+pub record Asking (m : Module) (u : Setup) (call : HostCall) (r : Running) : Type 0 where
   pub beside : Beside
   pub within : PlainState
-  pub stands : IsState m p u beside r.fiber r.world within
+  pub stands : IsRunning m u beside r.fiber r.world within
   pub waits : FirstWaits m u within.frames call
   pub told : IsBeside r.depot r.told beside
   pub keeping : Keeping m u r
@@ -75,14 +74,14 @@ pub record Over (m : Module) (u : Setup) (e : End) (r : Running) : Type 0 where
   pub blind : (plain m u).blind ≡ r.told.blind
 
 -- a run goes on, and is nearer to its end, or it has ended
-abbrev pub Turned : Module → Program → Setup → ℕ → Option End → Running → Type 0
-Turned m p u far None r = Going m p u r × (ahead m r < far)
-Turned m p u far (Some e) r = Over m u e r
+abbrev pub Turned : Module → Setup → ℕ → Option End → Running → Type 0
+Turned m u far None r = Going m u r × (ahead m r < far)
+Turned m u far (Some e) r = Over m u e r
 
--- a run that goes on, of some module with some setup
-abbrev pub IsGoing : Program → ℕ → Running → Type 0
-IsGoing p limit r = (m : Module) × (u : Setup) × ((u.reports ≡ limit) × Going m p u r)
+-- a run that goes on, with some setup
+abbrev pub IsGoing : Module → ℕ → Running → Type 0
+IsGoing m limit r = (u : Setup) × ((u.reports ≡ limit) × Going m u r)
 
 -- a run that waits
-abbrev pub IsAsking : Program → ℕ → HostCall → Running → Type 0
-IsAsking p limit call r = (m : Module) × (u : Setup) × ((u.reports ≡ limit) × Asking m p u call r)
+abbrev pub IsAsking : Module → ℕ → HostCall → Running → Type 0
+IsAsking m limit call r = (u : Setup) × ((u.reports ≡ limit) × Asking m u call r)

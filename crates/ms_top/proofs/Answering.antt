@@ -63,7 +63,7 @@ pub instrument_valid : (command : Command) (file input : List ℕ) (m : Module) 
 instrument_valid command file input m a is answers = subst (λ c. IsAnswerToValid IsInstrumented c input m a) (sym is) answers
 
 pub run_valid : (command : Command) (file : List ℕ) (o : Options) (input : List ℕ) (m : Module) (a : Answer) → command ≡ Run file o
-    → a ≡ answer_of_result m (plain m (setup_of o input)) → IsAnswerToValid IsInstrumented command input m a
+    → a ≡ answer_of_result false m (plain m (setup_of o input)) → IsAnswerToValid IsInstrumented command input m a
 run_valid command file o input m a is answers = subst (λ c. IsAnswerToValid IsInstrumented c input m a) (sym is) answers
 
 pub check_valid : (command : Command) (file : List ℕ) (o : Options) (input : List ℕ) (m : Module) (a : Answer) → command ≡ Check file o
@@ -74,9 +74,9 @@ check_valid command file o input m a is answers = subst (λ c. IsAnswerToValid I
 pub instrumented_run : (m j : Module) (s : Setup) (r : RunResult) → IsInstrumented m j → r ≡ plain j s → IsInstrumentedRun m s r
 instrumented_run m j s r i is = (j, i, is)
 
-pub check_answer : (m n : Module) (s t : Setup) (r : RunResult) (a : Answer) → n ≡ m → s ≡ t → IsInstrumentedRun m s r → a ≡ answer_of_result n r
+pub check_answer : (m n : Module) (s t : Setup) (r : RunResult) (a : Answer) → n ≡ m → s ≡ t → IsInstrumentedRun m s r → a ≡ answer_of_result true n r
     → IsAnswerOfCheck IsInstrumented t m a
-check_answer m n s t r a same given q is = (q.0, q.1, is ∙ ap (λ k. answer_of_result k r) same ∙ ap (answer_of_result m) (q.2 ∙ ap (plain q.0) given))
+check_answer m n s t r a same given q is = (q.0, q.1, is ∙ ap (λ k. answer_of_result true k r) same ∙ ap (answer_of_result true m) (q.2 ∙ ap (plain q.0) given))
 
 -- ---- validity
 

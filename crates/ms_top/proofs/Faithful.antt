@@ -1,9 +1,10 @@
 -- Where the pass gives faithful modules, what `check` runs is the shadow run of the module.
-use Rattle.std.proofs.Common.{◌≡◌, ℕ, ◌^◌, ◌<◌, List, [], ap, ◌∙◌, sym, arith}
+use Rattle.std.proofs.Common.{◌≡◌, ℕ, true, ◌^◌, ◌<◌, List, [], ap, ◌∙◌, sym, subst, arith}
 use Rattle.std.proofs.lemmas.List.Elements.{All-cons, All-nil}
 use Rattle.ms_ir.specs.declared.syntax.Module.{Module}
 use Rattle.ms_runs.specs.Shadow.{shadow}
 use Rattle.ms_runs.specs.Faithful.{Fair}
+use Rattle.ms_two_fills.specs.Checked.{HoldsUnderFills}
 use Rattle.ms_top.specs.declared.answers.Answer.{Answer}
 use Rattle.ms_top.specs.declared.commands.Command.TheVariants.{Check}
 use Rattle.ms_top.specs.declared.commands.Options.{Options}
@@ -26,5 +27,10 @@ fair_default = record {
 }
 
 pub shadow_answer : (file input : List ℕ) (o : Options) (m : Module) (a : Answer) → Fair (setup_of o input) → IsAnswerToValid IsInstrumented (Check file o) input m a
-    → a ≡ answer_of_result m (shadow m (setup_of o input))
-shadow_answer file input o m a fair (j, made, is) = is ∙ ap (answer_of_result m) (made.faithful.runs (setup_of o input) fair)
+    → a ≡ answer_of_result true m (shadow m (setup_of o input))
+shadow_answer file input o m a fair (j, made, is) = is ∙ ap (answer_of_result true m) (made.faithful.runs (setup_of o input) fair)
+
+pub under_fills : (file input : List ℕ) (o : Options) (m : Module) (a : Answer) → Fair (setup_of o input) → IsAnswerToValid IsInstrumented (Check file o) input m a
+    → HoldsUnderFills m (setup_of o input) (shadow m (setup_of o input))
+under_fills file input o m a fair (j, made, is) =
+    subst (HoldsUnderFills m (setup_of o input)) (made.faithful.runs (setup_of o input) fair) (made.holds (setup_of o input) fair)

@@ -1,5 +1,5 @@
 -- What is to be said is one answer, but for the path of a use.
-use Rattle.std.proofs.Common.{◌≡◌, ◌≢◌, ◌<◌, ◌≤◌, List, ℕ, [], ◌∷◌, length, Option, Some, None, Result, Ok, Err, refl, sym, ◌∙◌, ap, subst, ◌⊎◌, inl, inr, arith}
+use Rattle.std.proofs.Common.{◌≡◌, ◌≢◌, ◌<◌, ◌≤◌, true, List, ℕ, [], ◌∷◌, length, Option, Some, None, Result, Ok, Err, refl, sym, ◌∙◌, ap, subst, ◌⊎◌, inl, inr, arith}
 use Rattle.std.proofs.lemmas.Option.{same_Some, none-some}
 use Rattle.ms_io.specs.Counts.{Rose}
 use Rattle.ms_io.specs.Reading.{Holdings, IsWholeFile, IsAbsent, IsTooLong}
@@ -52,7 +52,7 @@ of_valid : (command : Command) (input : List ℕ) (m : Module) (a b : Answer) �
     → IsAnswerToValid IsInstrumented command input m b → a ≡ b
 of_valid (Instrument file) input m a b (j, p, is) (k, q, same) = is ∙ ap (λ n. answer_of 0 (written n) []) (made_once m j k p q) ∙ sym same
 of_valid (Run file o) input m a b p q = p ∙ sym q
-of_valid (Check file o) input m a b (j, p, is) (k, q, same) = is ∙ ap (λ n. answer_of_result m (plain n (setup_of o input))) (made_once m j k p q) ∙ sym same
+of_valid (Check file o) input m a b (j, p, is) (k, q, same) = is ∙ ap (λ n. answer_of_result true m (plain n (setup_of o input))) (made_once m j k p q) ∙ sym same
 
 module _ (command : Command) (input : List ℕ) where
   pub memory_is_there : (r : Result Module ReadError) (a : Answer) → IsAnswerToReading IsInstrumented command input r a → r ≢ Err e.NoMemory

@@ -1,5 +1,5 @@
 -- A module with inserted code has the same reports and closing lines as without it.
-use Rattle.std.proofs.Common.{◌≡◌, ℕ, ◌+◌, ◌-◌, false, List, [], ◌∷◌, ◌++◌, length, map, ltb, eqb, if◌then◌else◌, Option, Some, None, refl, ap, sym, ◌∙◌}
+use Rattle.std.proofs.Common.{◌≡◌, ℕ, ◌+◌, ◌-◌, Bool, List, [], ◌∷◌, ◌++◌, length, map, ltb, eqb, if◌then◌else◌, Option, Some, None, refl, ap, sym, ◌∙◌}
 use Rattle.std.specs.Prelude.{codes, decimal, slice_get}
 use Rattle.ms_ir.specs.declared.syntax.Func.{Func}
 use Rattle.ms_ir.specs.declared.syntax.Module.{Module}
@@ -14,7 +14,7 @@ use Rattle.ms_runs.specs.declared.runs.Report.{Report}
 use Rattle.ms_runs.specs.declared.runs.RunResult.{RunResult}
 use Rattle.ms_runs_laws.proofs.RootLists.{roots_stay}
 use Rattle.ms_runs_laws.proofs.Stripped.{blocks_kept, sites_skip}
-use Rattle.ms_report.specs.RunTexts.{trap_name, sites_of, function_after, function_of, function_text, site_text, end_text, line, closing_of}
+use Rattle.ms_report.specs.RunTexts.{trap_name, sites_of, function_after, function_of, function_text, site_text, end_text, line, verdict_line, closing_of}
 use Rattle.ms_report.specs.ReportTexts.{kind_text, root_name, root_text, origin_text, origin_line, earlier, chain_text, origins_text, bits_text, report_line, reports_text, report_text_of}
 use Rattle.ms_top.specs.Said.{answer_of, answer_of_result, status_of}
 
@@ -76,14 +76,15 @@ end_kept j (ends.Trap kind site) = ap (λ t. codes "trap " ++ trap_name kind ++ 
 end_kept j ends.Reported = refl
 end_kept j ends.Spent = refl
 
-closing_kept : (j : Module) (r : RunResult) → closing_of (strip j) r false ≡ closing_of j r false
-closing_kept j r = ap (λ t. line (codes "end") t ++ line (codes "reports") (decimal (length r.reports)) ++ line (codes "blind") (decimal r.blind) ++ []) (end_kept j r.«end»)
+closing_kept : (j : Module) (verdict : Bool) (r : RunResult) → closing_of (strip j) r verdict ≡ closing_of j r verdict
+closing_kept j verdict r =
+    ap (λ t. line (codes "end") t ++ line (codes "reports") (decimal (length r.reports)) ++ line (codes "blind") (decimal r.blind) ++ verdict_line verdict r) (end_kept j r.«end»)
 
-answer_kept : (j : Module) (r : RunResult) → answer_of_result (strip j) r ≡ answer_of_result j r
-answer_kept j r =
-    ap (λ t. answer_of (status_of r) r.output (t ++ closing_of (strip j) r false)) (reports_kept j 1 r.reports)
-    ∙ ap (λ t. answer_of (status_of r) r.output (report_text_of j r ++ t)) (closing_kept j r)
+answer_kept : (j : Module) (verdict : Bool) (r : RunResult) → answer_of_result verdict (strip j) r ≡ answer_of_result verdict j r
+answer_kept j verdict r =
+    ap (λ t. answer_of (status_of r) r.output (t ++ closing_of (strip j) r verdict)) (reports_kept j 1 r.reports)
+    ∙ ap (λ t. answer_of (status_of r) r.output (report_text_of j r ++ t)) (closing_kept j verdict r)
 
 -- the answer for a result is that of the module without what was inserted
-pub same_answer : (m j : Module) → strip j ≡ m → (r : RunResult) → answer_of_result j r ≡ answer_of_result m r
-same_answer m j is r = sym (answer_kept j r) ∙ ap (λ k. answer_of_result k r) is
+pub same_answer : (m j : Module) → strip j ≡ m → (verdict : Bool) (r : RunResult) → answer_of_result verdict j r ≡ answer_of_result verdict m r
+same_answer m j is verdict r = sym (answer_kept j verdict r) ∙ ap (λ k. answer_of_result verdict k r) is

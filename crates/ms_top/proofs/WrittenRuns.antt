@@ -1,7 +1,8 @@
 -- What `run` says of what `instrument` writes is what `check` says of the module that was read.
-use Rattle.std.proofs.Common.{◌≡◌, ◌≢◌, ℕ, List, [], Result, Ok, Err, ap, sym, ◌∙◌, subst, ◌⊎◌, inl, inr}
+use Rattle.std.proofs.Common.{◌≡◌, ◌≢◌, ℕ, true, false, List, [], Result, Ok, Err, ap, sym, ◌∙◌, subst, ◌⊎◌, inl, inr}
 use Rattle.ms_ir.specs.declared.syntax.Module.{Module}
 use Rattle.ms_ir.specs.declared.forms.Form.TheVariants.{Instrumented}
+use Rattle.ms_runs.specs.declared.runs.RunResult.{RunResult}
 use Rattle.ms_runs.specs.Plain.{plain}
 use Rattle.ms_read_body.specs.declared.errors.ReadError.{ReadError}
 use Rattle.ms_read_body.specs.declared.errors.ReadError.TheVariants as e
@@ -36,16 +37,20 @@ for_valid command input j b valid (inr (checked, is)) = is
 
 -- the answer of `run` for a text that reads as a valid module
 ran : (file input text : List ℕ) (o : Options) (j : Module) (b : Answer) → Reads Instrumented text j → Valid j → IsAnswerToText IsInstrumented (Run file o) input text b
-    → b ≡ answer_of_result j (plain j (setup_of o input))
+    → b ≡ answer_of_result false j (plain j (setup_of o input))
 ran file input text o j b reads valid (r, reading, answers) =
     let some : Ok j ≢ Err e.NoMemory = λ h. absurd cc in
     let one : r ≡ Ok j = one_reading Instrumented text (Ok j) r reads reading some (memory_is_there (Run file o) input r b answers) in
     for_valid (Run file o) input j b valid (subst (λ s. IsAnswerToReading IsInstrumented (Run file o) input s b) one answers)
 
 pub alike : (file name input : List ℕ) (o : Options) (m : Module) (a b c : Answer) → IsAnswerToValid IsInstrumented (Instrument file) [] m a → FitsText (pass (numbering m) m)
-    → IsAnswerToText IsInstrumented (Run name o) input a.out b → IsAnswerToValid IsInstrumented (Check name o) input m c → b ≡ c
+    → IsAnswerToText IsInstrumented (Run name o) input a.out b → IsAnswerToValid IsInstrumented (Check name o) input m c
+    → (r : RunResult) × (b ≡ answer_of_result false m r) × (c ≡ answer_of_result true m r)
 alike file name input o m a b c (j, made, is) fits read (k, other, same) =
     let text : written j ≡ a.out = sym (ap (λ x. x.out) is) in
     let reads : Reads Instrumented a.out j = subst (λ t. Reads Instrumented t j) text (text_back j made.formed (subst FitsText (sym made.is_pass) fits)) in
-    ran name input a.out o j b reads made.valid read ∙ same_answer m j made.faithful.strips (plain j (setup_of o input))
-    ∙ ap (λ n. answer_of_result m (plain n (setup_of o input))) (made_once m j k made other) ∙ sym same
+    let r = plain j (setup_of o input) in (
+      r,
+      ran name input a.out o j b reads made.valid read ∙ same_answer m j made.faithful.strips false r,
+      same ∙ ap (λ n. answer_of_result true m (plain n (setup_of o input))) (made_once m k j other made),
+    )

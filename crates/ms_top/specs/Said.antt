@@ -1,6 +1,6 @@
 -- What a call is to say: its status and its two texts, for the words and the files that it was given. `Gives m j` is what
 -- is known of the module j that the pass makes of m.
-use Rattle.std.specs.Prelude.{◌≡◌, ℕ, false, List, [], ◌∷◌, ◌++◌, length, Option, Some, None, Result, Ok, Err, eqb, if◌then◌else◌, codes, ◌⊎◌}
+use Rattle.std.specs.Prelude.{◌≡◌, ℕ, Bool, true, false, List, [], ◌∷◌, ◌++◌, length, Option, Some, None, Result, Ok, Err, eqb, if◌then◌else◌, codes, ◌⊎◌}
 use Rattle.ms_io.specs.Writing.{with_appended, AppendsPrefix}
 use Rattle.ms_ir.specs.declared.syntax.Module.{Module}
 use Rattle.ms_runs.specs.declared.runs.End.{End}
@@ -50,9 +50,10 @@ end_status ends.Spent = 4
 abbrev pub status_of : RunResult → ℕ
 status_of r = if eqb (length r.reports) 0 then end_status r.«end» else 77
 
--- the answer for the result of a module's run: its output, and its reports with the closing lines
-abbrev pub answer_of_result : Module → RunResult → Answer
-answer_of_result m r = answer_of (status_of r) r.output (report_text_of m r ++ closing_of m r false)
+-- the answer for the result of a module's run: its output, and its reports with the closing lines, with or without the
+-- verdict
+abbrev pub answer_of_result : (verdict : Bool) → Module → RunResult → Answer
+answer_of_result verdict m r = answer_of (status_of r) r.output (report_text_of m r ++ closing_of m r verdict)
 
 -- ---- from the words to the answer, for a pass that gives modules so
 
@@ -61,14 +62,14 @@ module _ (Gives : Module → Module → Type 0) where
   abbrev pub IsAnswerOfInstrument : Module → Answer → Type 0
   IsAnswerOfInstrument m a = (j : Module) × Gives m j × (a ≡ answer_of 0 (written j) [])
 
-  -- the answer of `check`: of the run of a module that the pass gives
+  -- the answer of `check`: of the run of a module that the pass gives, with the verdict
   abbrev pub IsAnswerOfCheck : Setup → Module → Answer → Type 0
-  IsAnswerOfCheck s m a = (j : Module) × Gives m j × (a ≡ answer_of_result m (plain j s))
+  IsAnswerOfCheck s m a = (j : Module) × Gives m j × (a ≡ answer_of_result true m (plain j s))
 
   -- the answer for a valid module; `run` runs it as it stands
   abbrev pub IsAnswerToValid : Command → List ℕ → Module → Answer → Type 0
   IsAnswerToValid (Instrument file) input m a = IsAnswerOfInstrument m a
-  IsAnswerToValid (Run file options) input m a = a ≡ answer_of_result m (plain m (setup_of options input))
+  IsAnswerToValid (Run file options) input m a = a ≡ answer_of_result false m (plain m (setup_of options input))
   IsAnswerToValid (Check file options) input m a = IsAnswerOfCheck (setup_of options input) m a
 
   -- the answer for a module: why it isn't valid, or else the answer for a valid one

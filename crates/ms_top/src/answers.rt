@@ -132,12 +132,12 @@ fn answer_of_run(
 ) -> Result<Answer, NoMemory>
     requires limits { FitRun options.now }
     requires input { length input.now ≤ input_limit }
-    ensures { IfOk result (λ a. a ≡ answer_of_result m.now (plain m.now (setup_with options.now input.now))) }
+    ensures { IfOk result (λ a. a ≡ answer_of_result false m.now (plain m.now (setup_with options.now input.now))) }
 {
     m.is_valid();
     let setup = setup_of(alloc, options, input)?;
     let result = run(alloc, m, &setup)?;
-    answer_of(alloc, m.module(), result)
+    answer_of(alloc, m.module(), result, false)
 }
 
 /// The answer of `check`: for the run of the instrumented form.
@@ -155,7 +155,7 @@ fn answer_of_check(
     m.is_valid();
     let setup = setup_of(alloc, options, input)?;
     let result = run_instrumented(alloc, m, &setup)?;
-    answer_of(alloc, m.module(), result)
+    answer_of(alloc, m.module(), result, true)
 }
 
 /// The run of the instrumented form.
@@ -192,12 +192,12 @@ fn setup_of(alloc: Global, options: &Options, input: &[u8]) -> Result<Setup, NoM
     })
 }
 
-/// The answer for the result of a run of `m`.
-fn answer_of(alloc: Global, m: &Module, r: RunResult) -> Result<Answer, NoMemory>
+/// The answer for the result of a run of `m`, with or without the verdict.
+fn answer_of(alloc: Global, m: &Module, r: RunResult, verdict: bool) -> Result<Answer, NoMemory>
     requires { Formed m.now }
-    ensures { IfOk result (λ a. a ≡ answer_of_result m.now r) }
+    ensures { IfOk result (λ a. a ≡ answer_of_result verdict m.now r) }
 {
-    let err = lines_of(alloc, m, &r)?;
+    let err = lines_of(alloc, m, &r, verdict)?;
     Ok(Answer {
         status: status_of(&r),
         out: r.output,
@@ -206,12 +206,12 @@ fn answer_of(alloc: Global, m: &Module, r: RunResult) -> Result<Answer, NoMemory
 }
 
 /// The lines of a run's reports, and then the closing lines.
-fn lines_of(alloc: Global, m: &Module, r: &RunResult) -> Result<Vec<u8>, NoMemory>
+fn lines_of(alloc: Global, m: &Module, r: &RunResult, verdict: bool) -> Result<Vec<u8>, NoMemory>
     requires { Formed m.now }
-    ensures { IfOk result (λ text. text.items ≡ report_text_of m.now r.now ++ closing_of m.now r.now false) }
+    ensures { IfOk result (λ text. text.items ≡ report_text_of m.now r.now ++ closing_of m.now r.now verdict) }
 {
     let mut text = report_text(alloc, m, r)?;
-    let lines = closing(alloc, m, r, false)?;
+    let lines = closing(alloc, m, r, verdict)?;
     text.extend_from_slice(&lines)?;
     Ok(text)
 }

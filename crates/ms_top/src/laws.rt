@@ -1,11 +1,13 @@
 //! What holds of answers.
 
-ghost use Rattle.std.specs.Prelude.{◌≡◌, ◌⊎◌, ℕ, List, [], Some};
+ghost use Rattle.std.specs.Prelude.{◌≡◌, ◌⊎◌, ℕ, true, false, List, [], Some};
 ghost use Rattle.ms_io.specs.Counts.{Rose};
 ghost use Rattle.ms_io.specs.Reading.{Holdings};
 ghost use Rattle.ms_ir.specs.declared.syntax.Module.{Module};
+ghost use Rattle.ms_runs.specs.declared.runs.RunResult.{RunResult};
 ghost use Rattle.ms_runs.specs.Faithful.{Fair};
 ghost use Rattle.ms_runs.specs.Shadow.{shadow};
+ghost use Rattle.ms_two_fills.specs.Checked.{HoldsUnderFills};
 ghost use Rattle.ms_valid.specs.Formed.{Formed};
 ghost use Rattle.ms_written.specs.Modules.{written};
 ghost use Rattle.ms_text_laws.specs.Fits.{FitsText};
@@ -31,19 +33,23 @@ pub fn one_answer()
         → IsAnswer IsInstrumented c words a → IsAnswer IsInstrumented c words b → (a ≡ b) ⊎ DifferInPath a b }
 {}
 
-/// A checked module is answered by its shadow run, where the setup is fair. That of the default options is.
+/// A checked module is answered by its shadow run with the verdict, where the setup is fair. That of the default options
+/// is. A clean verdict, and a first report where no blind use was counted, hold under every fill.
 pub fn checks_show_the_shadow_run()
     ensures shadow { (file input : List ℕ) (o : Options) (m : Module) (a : Answer) → Fair (setup_of o input)
-        → IsAnswerToValid IsInstrumented (Check file o) input m a → a ≡ answer_of_result m (shadow m (setup_of o input)) }
+        → IsAnswerToValid IsInstrumented (Check file o) input m a → a ≡ answer_of_result true m (shadow m (setup_of o input)) }
+    ensures under_fills { (file input : List ℕ) (o : Options) (m : Module) (a : Answer) → Fair (setup_of o input)
+        → IsAnswerToValid IsInstrumented (Check file o) input m a → HoldsUnderFills m (setup_of o input) (shadow m (setup_of o input)) }
     ensures defaults { Fair (setup_of default_options []) }
 {}
 
 /// What `instrument` writes is the text of a faithful module, and of no other formed module. Where that text is within the
-/// limits of its form, `run` says of it what `check` says of the module that was read, with the same options and input.
+/// limits of its form, `run` says of it what `check` says of the module that was read, with the same options and input, but
+/// for the verdict.
 pub fn written_modules_run_alike()
     ensures named { (file input : List ℕ) (m j : Module) (a : Answer) → IsAnswerToValid IsInstrumented (Instrument file) input m a
         → Formed j → a.out ≡ written j → IsInstrumented m j }
     ensures alike { (file name input : List ℕ) (o : Options) (m : Module) (a b c : Answer) → IsAnswerToValid IsInstrumented (Instrument file) [] m a
         → FitsText (pass (numbering m) m) → IsAnswerToText IsInstrumented (Run name o) input a.out b
-        → IsAnswerToValid IsInstrumented (Check name o) input m c → b ≡ c }
+        → IsAnswerToValid IsInstrumented (Check name o) input m c → (r : RunResult) × (b ≡ answer_of_result false m r) × (c ≡ answer_of_result true m r) }
 {}

@@ -1,6 +1,7 @@
-//! Modules that are instrumented, and then run: `run` says of what `instrument` writes what `check` says of the module.
+//! Modules that are instrumented, and then run: `run` says of what `instrument` writes what `check` says of the module, but
+//! for the verdict.
 
-use crate::calls::{Case, Said, Wanted, case_agrees, said_of, says};
+use crate::calls::{Case, Said, Wanted, said_of, says};
 use crate::modules::{Run, closing_begins, declared_text};
 use std::alloc::{AllocError, Global};
 
@@ -22,6 +23,22 @@ fn run_of_written(alloc: Global, text: &[u8]) -> Result<Option<Said>, AllocError
     Ok(Some(said_of(alloc, "run f", &written)?))
 }
 
+/// Whether a line is that of a verdict.
+fn is_verdict(line: &[u8]) -> bool {
+    line == b"verdict: clean\n".as_slice()
+        || line == b"verdict: unsure\n".as_slice()
+        || line == b"verdict: poisoned\n".as_slice()
+}
+
+/// Whether this is what `check` says, but for the verdict, which is its last line.
+fn says_all_but_the_verdict(said: &Said, checked: &Said) -> bool {
+    let same = said.status == checked.status && said.out.as_slice() == checked.out.as_slice();
+    match checked.err.as_slice().strip_prefix(said.err.as_slice()) {
+        Some(line) => same && is_verdict(line),
+        None => false,
+    }
+}
+
 /// Whether a case of `check` is answered so, also where its module is first written with inserted code.
 fn case_agrees_twice(alloc: Global, case: &Case) -> Result<bool, AllocError> {
     let wanted = Wanted {
@@ -29,8 +46,9 @@ fn case_agrees_twice(alloc: Global, case: &Case) -> Result<bool, AllocError> {
         err: case.3,
         status: case.4,
     };
+    let checked = said_of(alloc, "check f", case.1.as_bytes())?;
     match run_of_written(alloc, case.1.as_bytes())? {
-        Some(said) => Ok(says(&said, &wanted) && case_agrees(alloc, case)),
+        Some(said) => Ok(says(&checked, &wanted) && says_all_but_the_verdict(&said, &checked)),
         None => Ok(false),
     }
 }
@@ -59,7 +77,9 @@ fn row_is_alike(alloc: Global, row: &Run) -> Result<bool, AllocError> {
     let text = declared_text(alloc, row)?;
     let checked = said_of(alloc, "check f", &text)?;
     match run_of_written(alloc, &text)? {
-        Some(said) => Ok(said.is_same(&checked) && is_undisturbed(alloc, row, &checked)?),
+        Some(said) => Ok(
+            says_all_but_the_verdict(&said, &checked) && is_undisturbed(alloc, row, &checked)?,
+        ),
         None => Ok(false),
     }
 }

@@ -46,15 +46,6 @@ pub struct Said {
     pub status: u8,
 }
 
-impl Said {
-    /// Whether two calls wrote and answered the same.
-    pub fn is_same(&self, other: &Said) -> bool {
-        self.status == other.status
-            && self.out.as_slice() == other.out.as_slice()
-            && self.err.as_slice() == other.err.as_slice()
-    }
-}
-
 /// The bytes that a sink takes of what isn't known beforehand.
 const ROOM: usize = 1 << 20;
 

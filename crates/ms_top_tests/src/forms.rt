@@ -1,7 +1,7 @@
 //! Modules in other spellings, and such as have little to check.
 
-use crate::calls::{Case, all_agree, case_agrees};
-use std::alloc::Global;
+use crate::calls::{Case, Wanted, all_agree, case_agrees, said_of, says};
+use std::alloc::{AllocError, Global};
 use std::test::Fail;
 
 static SPELLINGS: [Case; 12] = [
@@ -51,47 +51,47 @@ static SPELLINGS: [Case; 12] = [
         "check f",
         "; a comment\ntarget triple = \"x\"\ndefine dso_local i32 @main() #0 {\n%1=alloca i32, align 4\n   store i32 12 , ptr %1, align 4 ; twelve\n  load i32, ptr %1\n  %3 = xor i32 %2, 0010\n  ret i32 %3\n}\nattributes #0 = { nounwind }",
         "",
-        "end: exit 6\nreports: 0\nblind: 0\n",
+        "end: exit 6\nreports: 0\nblind: 0\nverdict: clean\n",
         0,
     ),
     Case(
         "check f",
         "define i32 @main() {\n  ret i32 0\n}",
         "",
-        "end: exit 0\nreports: 0\nblind: 0\n",
+        "end: exit 0\nreports: 0\nblind: 0\nverdict: clean\n",
         0,
     ),
     Case(
         "check f",
         "define i32 @main() { ret i32 -1 }",
         "",
-        "end: exit 4294967295\nreports: 0\nblind: 0\n",
+        "end: exit 4294967295\nreports: 0\nblind: 0\nverdict: clean\n",
         0,
     ),
     Case(
         "check f",
         "define i32 @main() { 0: ret i32 -2147483648 }",
         "",
-        "end: exit 2147483648\nreports: 0\nblind: 0\n",
+        "end: exit 2147483648\nreports: 0\nblind: 0\nverdict: clean\n",
         0,
     ),
     Case(
         "check f",
         "define i32 @main() { alloca i32, i32 1 store i32 7, ptr %1 %2 = load i32, ptr %1 ret i32 %2 }",
         "",
-        "end: exit 7\nreports: 0\nblind: 0\n",
+        "end: exit 7\nreports: 0\nblind: 0\nverdict: clean\n",
         0,
     ),
     Case(
         "check f",
         "define i32 @main() { %1 = and i32 12, 10 %2 = or i32 %1, 1 ret i32 %2 }",
         "",
-        "end: exit 9\nreports: 0\nblind: 0\n",
+        "end: exit 9\nreports: 0\nblind: 0\nverdict: clean\n",
         0,
     ),
 ];
 
-/// Modules of which `run` and `check` say the same: the closing lines and the status.
+/// Modules of which `run` and `check` say the same, but that `check` calls each clean: the closing lines and the status.
 static BEYOND: [Beyond; 13] = [
     Beyond(
         "define i32 @main() { a: ret i32 0 }",
@@ -164,9 +164,20 @@ static BEYOND: [Beyond; 13] = [
 #[derive(Clone, Copy)]
 struct Beyond(&'static str, &'static str, u8);
 
+fn is_checked_clean(alloc: Global, row: &Beyond) -> Result<bool, AllocError> {
+    let lines = format!(in alloc; "{}verdict: clean\n", row.1)?;
+    let wanted = Wanted {
+        out: b"",
+        err: lines.as_str(),
+        status: row.2,
+    };
+    let said = said_of(alloc, "check f", row.0.as_bytes())?;
+    Ok(says(&said, &wanted))
+}
+
 fn is_alike(alloc: Global, row: &Beyond) -> bool {
     case_agrees(alloc, &Case("run f", row.0, "", row.1, row.2))
-        && case_agrees(alloc, &Case("check f", row.0, "", row.1, row.2))
+        && is_checked_clean(alloc, row).ok() == Some(true)
 }
 
 fn all_are_alike(alloc: Global, rows: &[Beyond]) -> bool {

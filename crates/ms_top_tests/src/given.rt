@@ -14,7 +14,7 @@ static INPUTS: [Checked; 4] = [
         },
         "define i32 @main() {\n  %1 = alloca [4 x i8]\n  %2 = call i64 @read(i32 0, ptr %1, i64 4)\n  %3 = getelementptr i8, ptr %1, i64 2\n  %4 = load i8, ptr %3\n  %5 = zext i8 %4 to i32\n  ret i32 %5\n}\ndeclare i64 @read(i32, ptr, i64)\n",
         b"",
-        "end: exit 99\nreports: 0\nblind: 0\n",
+        "end: exit 99\nreports: 0\nblind: 0\nverdict: clean\n",
         0,
     ),
     Checked(
@@ -26,7 +26,7 @@ static INPUTS: [Checked; 4] = [
         },
         "define i32 @main() {\n  %1 = alloca [4 x i8]\n  %2 = call i64 @read(i32 0, ptr %1, i64 4)\n  %3 = getelementptr i8, ptr %1, i64 3\n  %4 = load i8, ptr %3\n  %5 = zext i8 %4 to i32\n  ret i32 %5\n}\ndeclare i64 @read(i32, ptr, i64)\n",
         b"",
-        "report 1: exit at site 6 in @main, part 0, bits 0xff of i32\n  origin 1: alloca at site 1 in @main\nend: reported\nreports: 1\nblind: 0\n",
+        "report 1: exit at site 6 in @main, part 0, bits 0xff of i32\n  origin 1: alloca at site 1 in @main\nend: reported\nreports: 1\nblind: 0\nverdict: poisoned\n",
         77,
     ),
     Checked(
@@ -38,7 +38,7 @@ static INPUTS: [Checked; 4] = [
         },
         "define i32 @main() {\n  %1 = call i32 @getchar()\n  %2 = icmp eq i32 %1, 65\n  br i1 %2, label %3, label %4\n3:\n  br label %5\n4:\n  br label %5\n5:\n  %6 = phi i32 [ 0, %3 ], [ undef, %4 ]\n  ret i32 %6\n}\ndeclare i32 @getchar()\n",
         b"",
-        "end: exit 0\nreports: 0\nblind: 0\n",
+        "end: exit 0\nreports: 0\nblind: 0\nverdict: clean\n",
         0,
     ),
     Checked(
@@ -50,7 +50,7 @@ static INPUTS: [Checked; 4] = [
         },
         "define i32 @main() {\n  %1 = call i32 @getchar()\n  %2 = icmp eq i32 %1, 65\n  br i1 %2, label %3, label %4\n3:\n  br label %5\n4:\n  br label %5\n5:\n  %6 = phi i32 [ 0, %3 ], [ undef, %4 ]\n  ret i32 %6\n}\ndeclare i32 @getchar()\n",
         b"",
-        "report 1: exit at site 7 in @main, part 0, bits 0xffffffff of i32\n  origin 1: undef at site 6 in @main\nend: reported\nreports: 1\nblind: 0\n",
+        "report 1: exit at site 7 in @main, part 0, bits 0xffffffff of i32\n  origin 1: undef at site 6 in @main\nend: reported\nreports: 1\nblind: 0\nverdict: poisoned\n",
         77,
     ),
 ];
@@ -66,7 +66,7 @@ static FILLS: [Checked; 6] = [
         },
         "define i32 @main() {\n  %1 = udiv i32 8, undef\n  ret i32 0\n}\n",
         b"",
-        "report 1: divisor at site 1 in @main, part 1, bits 0xffffffff of i32\n  origin 1: undef at site 1 in @main\nend: reported\nreports: 1\nblind: 0\n",
+        "report 1: divisor at site 1 in @main, part 1, bits 0xffffffff of i32\n  origin 1: undef at site 1 in @main\nend: reported\nreports: 1\nblind: 0\nverdict: poisoned\n",
         77,
     ),
     Checked(
@@ -78,7 +78,7 @@ static FILLS: [Checked; 6] = [
         },
         "define i32 @main() {\n  %1 = freeze i32 undef\n  ret i32 %1\n}\n",
         b"",
-        "end: exit 0\nreports: 0\nblind: 1\n",
+        "end: exit 0\nreports: 0\nblind: 1\nverdict: unsure\n",
         0,
     ),
     Checked(
@@ -90,7 +90,7 @@ static FILLS: [Checked; 6] = [
         },
         "define i32 @main() {\n  %1 = add nsw i32 undef, 1\n  ret i32 %1\n}\n",
         b"",
-        "end: trap nsw at site 1 in @main\nreports: 0\nblind: 1\n",
+        "end: trap nsw at site 1 in @main\nreports: 0\nblind: 1\nverdict: unsure\n",
         3,
     ),
     Checked(
@@ -102,7 +102,7 @@ static FILLS: [Checked; 6] = [
         },
         "define i32 @main() {\n  %1 = add nsw i32 undef, 1\n  ret i32 %1\n}\n",
         b"",
-        "report 1: exit at site 2 in @main, part 0, bits 0xffffffff of i32\n  origin 1: undef at site 1 in @main\nend: reported\nreports: 1\nblind: 1\n",
+        "report 1: exit at site 2 in @main, part 0, bits 0xffffffff of i32\n  origin 1: undef at site 1 in @main\nend: reported\nreports: 1\nblind: 1\nverdict: poisoned\n",
         77,
     ),
     Checked(
@@ -114,7 +114,7 @@ static FILLS: [Checked; 6] = [
         },
         "define i32 @main() {\n  %1 = and i32 undef, 1\n  %2 = add i32 %1, 1\n  %3 = lshr i32 %2, 1\n  %4 = icmp eq i32 %3, 0\n  br i1 %4, label %5, label %7\n5:\n  %6 = call i32 @putchar(i32 65)\n  ret i32 0\n7:\n  %8 = call i32 @putchar(i32 66)\n  ret i32 0\n}\ndeclare i32 @putchar(i32)\n",
         b"A",
-        "end: exit 0\nreports: 0\nblind: 1\n",
+        "end: exit 0\nreports: 0\nblind: 1\nverdict: unsure\n",
         0,
     ),
     Checked(
@@ -126,7 +126,7 @@ static FILLS: [Checked; 6] = [
         },
         "define i32 @main() {\n  %1 = and i32 undef, 1\n  %2 = add i32 %1, 1\n  %3 = lshr i32 %2, 1\n  %4 = icmp eq i32 %3, 0\n  br i1 %4, label %5, label %7\n5:\n  %6 = call i32 @putchar(i32 65)\n  ret i32 0\n7:\n  %8 = call i32 @putchar(i32 66)\n  ret i32 0\n}\ndeclare i32 @putchar(i32)\n",
         b"B",
-        "end: exit 0\nreports: 0\nblind: 1\n",
+        "end: exit 0\nreports: 0\nblind: 1\nverdict: unsure\n",
         0,
     ),
 ];
@@ -142,7 +142,7 @@ static STEPS: [Checked; 4] = [
         },
         "define i32 @main() {\n  ret i32 0\n}\n",
         b"",
-        "end: spent\nreports: 0\nblind: 0\n",
+        "end: spent\nreports: 0\nblind: 0\nverdict: clean\n",
         4,
     ),
     Checked(
@@ -154,7 +154,7 @@ static STEPS: [Checked; 4] = [
         },
         "define i32 @main() {\n  ret i32 0\n}\n",
         b"",
-        "end: exit 0\nreports: 0\nblind: 0\n",
+        "end: exit 0\nreports: 0\nblind: 0\nverdict: clean\n",
         0,
     ),
     Checked(
@@ -166,7 +166,7 @@ static STEPS: [Checked; 4] = [
         },
         "define i32 @main() {\n  %1 = alloca i32\n  %2 = load i32, ptr %1\n  %3 = icmp eq i32 %2, 0\n  br i1 %3, label %4, label %5\n4:\n  ret i32 0\n5:\n  ret i32 1\n}\n",
         b"",
-        "end: spent\nreports: 0\nblind: 0\n",
+        "end: spent\nreports: 0\nblind: 0\nverdict: clean\n",
         4,
     ),
     Checked(
@@ -178,7 +178,7 @@ static STEPS: [Checked; 4] = [
         },
         "define i32 @main() {\n  %1 = alloca i32\n  %2 = load i32, ptr %1\n  %3 = icmp eq i32 %2, 0\n  br i1 %3, label %4, label %5\n4:\n  ret i32 0\n5:\n  ret i32 1\n}\n",
         b"",
-        "report 1: branch at site 4 in @main, part 0, bits 0x1 of i1\n  origin 1: alloca at site 1 in @main\nend: reported\nreports: 1\nblind: 0\n",
+        "report 1: branch at site 4 in @main, part 0, bits 0x1 of i1\n  origin 1: alloca at site 1 in @main\nend: reported\nreports: 1\nblind: 0\nverdict: poisoned\n",
         77,
     ),
 ];
@@ -193,7 +193,7 @@ static REPORTS: [Checked; 3] = [
         },
         "define i32 @main() {\n  %1 = call i32 @putchar(i32 97)\n  br i1 undef, label %2, label %2\n2:\n  %3 = call i32 @putchar(i32 98)\n  br i1 undef, label %4, label %4\n4:\n  %5 = call i32 @putchar(i32 99)\n  br i1 undef, label %6, label %6\n6:\n  ret i32 0\n}\ndeclare i32 @putchar(i32)\n",
         b"ab",
-        "report 1: branch at site 2 in @main, part 0, bits 0x1 of i1\n  origin 1: undef at site 2 in @main\nreport 2: branch at site 4 in @main, part 0, bits 0x1 of i1\n  origin 2: undef at site 4 in @main\nend: reported\nreports: 2\nblind: 0\n",
+        "report 1: branch at site 2 in @main, part 0, bits 0x1 of i1\n  origin 1: undef at site 2 in @main\nreport 2: branch at site 4 in @main, part 0, bits 0x1 of i1\n  origin 2: undef at site 4 in @main\nend: reported\nreports: 2\nblind: 0\nverdict: poisoned\n",
         77,
     ),
     Checked(
@@ -205,7 +205,7 @@ static REPORTS: [Checked; 3] = [
         },
         "define i32 @main() {\n  %1 = alloca i32\n  %2 = load i32, ptr %1\n  %3 = icmp eq i32 %2, 0\n  br i1 %3, label %4, label %5\n4:\n  ret i32 0\n5:\n  ret i32 1\n}\n",
         b"",
-        "report 1: branch at site 4 in @main, part 0, bits 0x1 of i1\n  origin 1: alloca at site 1 in @main\nend: exit 1\nreports: 1\nblind: 0\n",
+        "report 1: branch at site 4 in @main, part 0, bits 0x1 of i1\n  origin 1: alloca at site 1 in @main\nend: exit 1\nreports: 1\nblind: 0\nverdict: poisoned\n",
         77,
     ),
     // The poisoned byte lies in a cell of its own.
@@ -218,7 +218,7 @@ static REPORTS: [Checked; 3] = [
         },
         "define i32 @main() {\n  %1 = alloca [8 x i8]\n  %2 = and i16 undef, -256\n  %3 = getelementptr i8, ptr %1, i64 3\n  store i16 %2, ptr %3\n  %4 = load i8, ptr %1\n  %5 = zext i8 %4 to i32\n  %6 = call i32 @putchar(i32 %5)\n  %7 = getelementptr i8, ptr %1, i64 4\n  %8 = load i8, ptr %7\n  %9 = zext i8 %8 to i32\n  %10 = call i32 @putchar(i32 %9)\n  %11 = load i8, ptr %3\n  %12 = zext i8 %11 to i32\n  %13 = call i32 @putchar(i32 %12)\n  ret i32 0\n}\ndeclare i32 @putchar(i32)\n",
         b"\xa5\xa5\x00",
-        "report 1: value at site 7 in @main, part 0, bits 0xff of i32\n  origin 1: alloca at site 1 in @main\nreport 2: value at site 11 in @main, part 0, bits 0xff of i32\n  origin 2: undef at site 2 in @main\nend: exit 0\nreports: 2\nblind: 0\n",
+        "report 1: value at site 7 in @main, part 0, bits 0xff of i32\n  origin 1: alloca at site 1 in @main\nreport 2: value at site 11 in @main, part 0, bits 0xff of i32\n  origin 3: stored at site 4 in @main\n  origin 2: undef at site 2 in @main\nend: exit 0\nreports: 2\nblind: 0\nverdict: poisoned\n",
         77,
     ),
 ];

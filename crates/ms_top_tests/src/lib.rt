@@ -10,9 +10,15 @@ mod bytes;
 #[cfg(test)]
 mod calls;
 #[cfg(test)]
+mod chains;
+#[cfg(test)]
 mod checks;
 #[cfg(test)]
 mod control;
+#[cfg(test)]
+mod external_bytes;
+#[cfg(test)]
+mod externals;
 #[cfg(test)]
 mod faults;
 #[cfg(test)]

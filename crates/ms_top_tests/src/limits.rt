@@ -32,7 +32,7 @@ static LIMITS: [Long; 8] = [
         "ret i32 0\n",
         131072,
         "}\n",
-        "end: exit 0\nreports: 0\nblind: 0\n",
+        "end: exit 0\nreports: 0\nblind: 0\nverdict: clean\n",
         0,
     ),
     Long(

@@ -1,5 +1,5 @@
 -- Runs of formed and valid modules under two fills.
-use Rattle.std.proofs.Common.{◌≡◌, ◌<◌, ◌≤◌, ◌^◌, ℕ, List, [], length, All, refl, sym, ap, ◌∙◌, subst, arith, ◌⊎◌, inl, inr, ◌∷◌}
+use Rattle.std.proofs.Common.{◌≡◌, ◌<◌, ◌≤◌, ◌^◌, ℕ, zero, suc, List, [], length, All, refl, sym, ap, ◌∙◌, subst, arith, ◌⊎◌, inl, inr, ◌∷◌}
 use Rattle.ms_ir.specs.declared.syntax.Module.{Module}
 use Rattle.ms_runs.specs.declared.runs.Setup.{Setup}
 use Rattle.ms_runs.specs.declared.runs.End.TheVariants as «end»
@@ -31,6 +31,8 @@ use Rattle.ms_two_fills.proofs.FirstReport.{runs_first}
 use Rattle.ms_runs.specs.declared.runs.Report.{Report}
 use Rattle.ms_runs.specs.declared.runs.RunResult.{RunResult}
 use Rattle.ms_runs.specs.Globals.{address_of}
+use Rattle.ms_runs.specs.Verdict.{Clean, verdict_by, verdict_of}
+use Rattle.ms_two_fills.specs.Checked.{HoldsUnderFills}
 use Rattle.std.specs.Prelude.{take}
 
 -- the masks that are said by completions are computed by formulas
@@ -149,3 +151,23 @@ module _ (m : Module) (formed : Formed m) (valid : Valid m) (bare : NoMarks m) (
       by_first : FirstOf (shadow m (to_first_report setup)) (shadow m setup) → (shadow m (to_first_report setup)).reports ≡ report ∷ []
       by_first (inl h) = absurd (omega (arith, ap length (sym h.1 ∙ some)))
       by_first (inr h) = h.one ∙ ap (λ l. take 1 l) (sym h.more ∙ some)
+
+-- ---- what a checked run says
+
+-- a clean verdict has neither a report nor a blind use
+nothing_told : (reports : List Report) (blind : ℕ) → verdict_by reports blind ≡ Clean → (reports ≡ []) × (blind ≡ 0)
+nothing_told [] zero h = (refl, refl)
+nothing_told [] (suc n) h = absurd cc
+nothing_told (r ∷ rest) blind h = absurd cc
+
+module _ (m : Module) (formed : Formed m) (valid : Valid m) (bare : NoMarks m) where
+  shadow_holds : (setup : Setup) → GivesBytes setup → HoldsUnderFills m setup (shadow m setup)
+  shadow_holds setup bytes = record {
+    clean = λ is fill h. let none = nothing_told (shadow m setup).reports (shadow m setup).blind is in clean_shown m formed valid bare setup bytes none.1 none.0 fill h;
+    first = λ quiet report rest some fill h. first_reported m formed valid bare setup bytes quiet report rest some fill h;
+  }
+
+  -- the same of the plain run of a faithful form
+  pub checked_holds : (j : Module) → Faithful m j → (setup : Setup) → Fair setup → HoldsUnderFills m setup (plain j setup)
+  checked_holds j faithful setup fair =
+      subst (HoldsUnderFills m setup) (sym (faithful.runs setup fair)) (shadow_holds setup (record { input = fair.bytes; fill = fair.fill }))

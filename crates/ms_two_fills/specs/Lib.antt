@@ -1,4 +1,5 @@
 pub mod Alike
+pub mod Checked
 pub mod Effects
 pub mod ExampleWorlds
 pub mod First

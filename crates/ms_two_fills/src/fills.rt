@@ -18,6 +18,7 @@ ghost use Rattle.ms_runs.specs.Shadow.{shadow_start};
 ghost use Rattle.ms_two_fills.specs.Placed.{SoundPlaced};
 ghost use Rattle.ms_two_fills.specs.First.{FirstOf};
 ghost use Rattle.ms_two_fills.specs.Alike.{StepsAlike, CountsNone};
+ghost use Rattle.ms_two_fills.specs.Checked.{HoldsUnderFills};
 
 /// Two runs of a formed and valid module under two fills start in low equal states. From low equal states a step that
 /// counts no blind use leads to low equal states, or ends both runs alike, where one report ends a run. The states that
@@ -51,4 +52,10 @@ pub fn first_reports()
     ensures reported { (m : Module) → Formed m → Valid m → NoMarks m → (setup : Setup) → GivesBytes setup → (shadow m setup).blind ≡ 0
         → (report : Report) (rest : List Report) → (shadow m setup).reports ≡ report ∷ rest
         → (fill : List ℕ) → IsFill fill → (shadow m (refilled (to_first_report setup) fill)).reports ≡ report ∷ [] }
+{}
+
+/// What a plain run of a faithful form says of a module holds under every fill: a clean verdict of the program itself, and
+/// the first report where no blind use was counted.
+pub fn checked_runs()
+    ensures { (m : Module) → Formed m → Valid m → NoMarks m → (j : Module) → Faithful m j → (setup : Setup) → Fair setup → HoldsUnderFills m setup (plain j setup) }
 {}

@@ -2,9 +2,14 @@ use Rattle.std.proofs.Common.{◌≡◌, All, sym, ap, subst, ◌∙◌}
 use Rattle.ms_ir.specs.declared.syntax.Module.{Module}
 use Rattle.ms_ir.specs.Code.{strip}
 use Rattle.ms_ir.specs.Locals.{function_names}
-use Rattle.ms_runs.specs.Faithful.{Faithful}
+use Rattle.ms_runs.specs.declared.runs.Setup.{Setup}
+use Rattle.ms_runs.specs.Faithful.{Fair, Faithful}
+use Rattle.ms_runs.specs.Plain.{plain}
 use Rattle.ms_valid.specs.Formed.{Formed}
 use Rattle.ms_valid.specs.Valid.{Valid}
+use Rattle.ms_runs_good.specs.Fills.{InsertedUnderFills}
+use Rattle.ms_two_fills.specs.Checked.{HoldsUnderFills}
+use Rattle.ms_two_fills.proofs.Whole.{inserted_fills, checked_holds}
 use Rattle.ms_tables.specs.FirstPlace.{first_place}
 use Rattle.ms_tables.proofs.Items.{under_ok}
 use Rattle.ms_pass_laws.specs.Numbers.{numbering}
@@ -43,9 +48,16 @@ returns c =
     let m = c.args.m.now in
     let is = passed_is m c.module.result.now c.in_ok-module.module c.module.ensures c.in_ok-module.ensures in
     let made : Module → Type 0 = λ j. j ≡ c.in_ok-module.module in
+    let formed = c.is_valid.ensures.formed in
+    let valid = c.is_valid.ensures.valid in
+    let faithful : (j : Module) → made j → Faithful m j =
+    λ j same. subst (λ (x : Module). Faithful m x) (sym (same ∙ is)) (instrumented_faithful m formed valid c.requires) in
     record {
       pass = under_ok c.of_valid.result made (λ j. j ≡ pass (numbering m) m) (λ j same. same ∙ is) c.of_valid.ensures;
-      faithful = under_ok c.of_valid.result made (λ j. Faithful m j)
-          (λ j same. subst (λ (x : Module). Faithful m x) (sym (same ∙ is)) (instrumented_faithful m c.is_valid.ensures.formed c.is_valid.ensures.valid c.requires)) c.of_valid.ensures;
+      faithful = under_ok c.of_valid.result made (λ j. Faithful m j) faithful c.of_valid.ensures;
       stripped = under_ok c.of_valid.result made (λ j. strip j ≡ m) (λ j same. ap strip (same ∙ is) ∙ strip_pass (numbering m) m (module_strips m c.requires)) c.of_valid.ensures;
+      under_fills = under_ok c.of_valid.result made (λ j. (setup : Setup) → Fair setup → InsertedUnderFills j setup)
+          (λ j same setup fair. inserted_fills m formed valid j (faithful j same) setup fair) c.of_valid.ensures;
+      holds = under_ok c.of_valid.result made (λ j. (setup : Setup) → Fair setup → HoldsUnderFills m setup (plain j setup))
+          (λ j same setup fair. checked_holds m formed valid c.requires.plain.unmarked j (faithful j same) setup fair) c.of_valid.ensures;
     }

@@ -1,7 +1,7 @@
-use Rattle.std.proofs.Common.{◌∙◌, sym, ap, ap₂, map, subst, arith}
-use Rattle.std.proofs.lemmas.Result.{on_ok_weaker}
+use Rattle.std.proofs.Common.{◌≡◌, ◌∙◌, sym, ap, ap₂, List, map, subst, OnOk, arith}
+use Rattle.ms_ir.specs.declared.syntax.Op.{Op}
 use Rattle.ms_ir.specs.declared.syntax.Op.TheVariants as operation
-use Rattle.ms_tasks.specs.Tasks.{mask_name, origin_name}
+use Rattle.ms_tasks.specs.Tasks.{Task, mask_name, origin_name}
 use Rattle.ms_tasks.specs.Environments.{number, tracked_at, mask_of, bits_of}
 use Rattle.ms_tasks.specs.ResultMasks.{first_last, cast_expr, compare_expr}
 use Rattle.ms_tasks.specs.ResultTasks.{binary_tasks, called_tasks, define_tasks}
@@ -18,78 +18,73 @@ pub returns-in-Cast : goal.returns-in-Cast
 returns-in-Cast c = λ func q.
     let r = c.define_cast in let x = c.in-Cast in let v = c.args.value in
     let ts = map tracked_of c.args.operands.now in
-    on_ok_weaker r.result
-    (λ p. p ∙ ap (with_tasks c.args.code.now)
+    subst (λ (l : List Task). OnOk r.result (r.new.code ≡ with_tasks c.args.code.now l))
     (ap₂ (λ from to. defined v to (first_last ts) (cast_expr x.op from to (mask_of (tracked_at 0 ts)))) c.width_of-in-Cast.ensures c.width_of-in-Cast-2.ensures
-    ∙ ap (λ o. define_tasks func v o ts) (sym x.is)))
+    ∙ ap (λ o. define_tasks func v o ts) (sym x.is))
     r.ensures
 
 pub returns-in-Select : goal.returns-in-Select
 returns-in-Select c = λ func q.
     let r = c.define_select in let x = c.in-Select in
-    on_ok_weaker r.result (λ p. p ∙ ap (λ o. with_tasks c.args.code.now (define_tasks func c.args.value o (map tracked_of c.args.operands.now))) (sym x.is))
+    subst (λ (o : Op). OnOk r.result (r.new.code ≡ with_tasks c.args.code.now (define_tasks func c.args.value o (map tracked_of c.args.operands.now)))) (sym x.is)
     (r.ensures x.cond x.a x.b x.ty (sym c.width_of-in-Select.ensures))
 
 pub returns-in-Freeze : goal.returns-in-Freeze
 returns-in-Freeze c = λ func q.
     let r = c.define_clean in let v = c.args.value in
-    on_ok_weaker r.result
-    (λ p. p ∙ ap (with_tasks c.args.code.now)
-    (ap (λ w. defined v w (number 0) (number 0)) c.width_of-in-Freeze.ensures ∙ ap (λ o. define_tasks func v o (map tracked_of c.args.operands.now)) (sym c.in-Freeze.is)))
+    subst (λ (l : List Task). OnOk r.result (r.new.code ≡ with_tasks c.args.code.now l))
+    (ap (λ w. defined v w (number 0) (number 0)) c.width_of-in-Freeze.ensures ∙ ap (λ o. define_tasks func v o (map tracked_of c.args.operands.now)) (sym c.in-Freeze.is))
     r.ensures
 
 pub returns-in-Alloca : goal.returns-in-Alloca
 returns-in-Alloca c = λ func q.
     let r = c.define_clean-in-Alloca in
-    on_ok_weaker r.result (λ p. p ∙ ap (λ o. with_tasks c.args.code.now (define_tasks func c.args.value o (map tracked_of c.args.operands.now))) (sym c.in-Alloca.is)) r.ensures
+    subst (λ (o : Op). OnOk r.result (r.new.code ≡ with_tasks c.args.code.now (define_tasks func c.args.value o (map tracked_of c.args.operands.now)))) (sym c.in-Alloca.is) r.ensures
 
 pub returns-in-Load : goal.returns-in-Load
 returns-in-Load c = λ func q.
     let r = c.define_load in let x = c.in-Load in
-    on_ok_weaker r.result (λ p. p ∙ ap (λ o. with_tasks c.args.code.now (define_tasks func c.args.value o (map tracked_of c.args.operands.now))) (sym x.is))
+    subst (λ (o : Op). OnOk r.result (r.new.code ≡ with_tasks c.args.code.now (define_tasks func c.args.value o (map tracked_of c.args.operands.now)))) (sym x.is)
     (r.ensures func x.ty x.addr (sym c.width_of-in-Load.ensures))
 
 pub returns-in-Gep : goal.returns-in-Gep
 returns-in-Gep c = λ func q.
     let r = c.define_gep in
-    on_ok_weaker r.result (λ p. p ∙ ap (λ o. with_tasks c.args.code.now (define_tasks func c.args.value o (map tracked_of c.args.operands.now))) (sym c.in-Gep.is)) r.ensures
+    subst (λ (o : Op). OnOk r.result (r.new.code ≡ with_tasks c.args.code.now (define_tasks func c.args.value o (map tracked_of c.args.operands.now)))) (sym c.in-Gep.is) r.ensures
 
 pub returns-in-Call : goal.returns-in-Call
 returns-in-Call c = λ func q.
     let r = c.define_call in let x = c.in-Call in let v = c.args.value in
     let ts = map tracked_of c.args.operands.now in
-    on_ok_weaker r.result
-    (λ p. p ∙ ap (with_tasks c.args.code.now)
-    (ap (λ own. called_tasks own v (operation.Call x.ret x.callee x.args) ts) (sym (ap (calls_own func) (sym x.is) ∙ q)) ∙ ap (λ o. define_tasks func v o ts) (sym x.is)))
+    subst (λ (l : List Task). OnOk r.result (r.new.code ≡ with_tasks c.args.code.now l))
+    (ap (λ own. called_tasks own v (operation.Call x.ret x.callee x.args) ts) (sym (ap (calls_own func) (sym x.is) ∙ q)) ∙ ap (λ o. define_tasks func v o ts) (sym x.is))
     (r.ensures x.callee x.args)
 
 pub define_binary-requires : goal.define_binary-requires
 define_binary-requires c =
-    let p = subst HasWidths c.in-Binary.is c.requires in
+    let p = subst HasWidths c.in-Binary.is c.requires.widths in
     record { some = omega (arith, p.0, c.width_of.ensures); few = omega (arith, p.1, c.width_of.ensures) }
 
 pub define_compare-requires : goal.define_compare-requires
 define_compare-requires c =
-    let p = subst HasWidths c.in-Icmp.is c.requires in
+    let p = subst HasWidths c.in-Icmp.is c.requires.widths in
     record { some = omega (arith, p.0, c.width_of-in-Icmp.ensures); few = omega (arith, p.1, c.width_of-in-Icmp.ensures) }
 
 pub returns-in-Binary : goal.returns-in-Binary
 returns-in-Binary c = λ func q.
     let r = c.define_binary in let x = c.in-Binary in let v = c.args.value in
     let ts = map tracked_of c.args.operands.now in
-    on_ok_weaker r.result
-    (λ p. p ∙ ap (with_tasks c.args.code.now)
-    (ap (λ w. binary_tasks (mask_name v) (origin_name v) x.op (operation.Binary x.op x.flags x.ty x.a x.b) w ts) c.width_of.ensures ∙ ap (λ o. define_tasks func v o ts) (sym x.is)))
+    subst (λ (l : List Task). OnOk r.result (r.new.code ≡ with_tasks c.args.code.now l))
+    (ap (λ w. binary_tasks (mask_name v) (origin_name v) x.op (operation.Binary x.op x.flags x.ty x.a x.b) w ts) c.width_of.ensures ∙ ap (λ o. define_tasks func v o ts) (sym x.is))
     (r.ensures x.flags x.ty x.a x.b (sym c.width_of.ensures))
 
 pub returns-in-Icmp : goal.returns-in-Icmp
 returns-in-Icmp c = λ func q.
     let r = c.define_compare in let x = c.in-Icmp in let v = c.args.value in
     let ts = map tracked_of c.args.operands.now in
-    on_ok_weaker r.result
-    (λ p. p ∙ ap (with_tasks c.args.code.now)
+    subst (λ (l : List Task). OnOk r.result (r.new.code ≡ with_tasks c.args.code.now l))
     (ap (λ w. defined v 1 (first_last ts) (compare_expr x.pred w (bits_of (tracked_at 0 ts)) (mask_of (tracked_at 0 ts)) (bits_of (tracked_at 1 ts)) (mask_of (tracked_at 1 ts)))) c.width_of-in-Icmp.ensures
-    ∙ ap (λ o. define_tasks func v o ts) (sym x.is)))
+    ∙ ap (λ o. define_tasks func v o ts) (sym x.is))
     r.ensures
 
 pub returns-in_default : goal.returns-in_default

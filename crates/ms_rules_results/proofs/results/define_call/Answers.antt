@@ -1,6 +1,6 @@
-use Rattle.std.proofs.Common.{◌∙◌, map, sym, ap}
-use Rattle.std.proofs.lemmas.Result.{on_ok_weaker}
+use Rattle.std.proofs.Common.{◌≡◌, ◌∙◌, List, map, sym, ap, subst, OnOk}
 use Rattle.ms_ir.specs.declared.syntax.Op.TheVariants as operation
+use Rattle.ms_tasks.specs.Tasks.{Task}
 use Rattle.ms_tasks.specs.Environments.{number}
 use Rattle.ms_tasks.specs.ResultTasks.{called_tasks}
 use Rattle.ms_rules_code.specs.Made.{with_tasks}
@@ -16,8 +16,7 @@ returns-then-own c = λ callee args.
 pub returns : goal.returns
 returns c = λ callee args.
     let r = c.define_clean in let v = c.args.value in
-    on_ok_weaker r.result
-    (λ p. p ∙ ap (with_tasks c.args.code.now)
+    subst (λ (l : List Task). OnOk r.result (r.new.code ≡ with_tasks c.args.code.now l))
     (ap (λ w. defined v w (number 0) (number 0)) (c.result_width.ensures callee args)
-    ∙ ap (λ own. called_tasks own v (operation.Call c.args.ret.now callee args) (map tracked_of c.args.operands.now)) (sym c.if-own.false)))
+    ∙ ap (λ own. called_tasks own v (operation.Call c.args.ret.now callee args) (map tracked_of c.args.operands.now)) (sym c.if-own.false))
     r.ensures

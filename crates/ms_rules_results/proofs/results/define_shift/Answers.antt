@@ -16,7 +16,7 @@ returns c =
     let w = c.args.width in
     let b = tracked_at 1 ts in
     let i = c.new-inputs.ensures in
-    more_tasks c.try_mask.result c.args.code.now c.set_last_origin.new.code c.try_mask.new.code
+    more_tasks c.attempt_mask.result c.args.code.now c.set_last_origin.new.code c.attempt_mask.new.code
     (Sets (origin_name c.args.value) (Int 32) (first_last ts) ∷ []) (shift_task (mask_name c.args.value) c.args.op w (tracked_at 0 ts) b ∷ [])
     (subst (λ (x : Inputs). c.set_last_origin.new.code ≡ with_tasks c.args.code.now (Sets (origin_name c.args.value) (Int 32) (first_last x.operands) ∷ [])) i c.in_ok-set_last_origin.ensures)
-    (c.try_mask.ensures (Pick (is_set (Int w) (mask_of b)) (Int w) (number (2 ^ w - 1)) (mask_of (tracked_at 0 ts))) (Pick (is_set (Int w) (mask_of b)) (Int w) (number 0) (word_of b)) (ap (λ x. words x SHIFT []) i))
+    (c.attempt_mask.ensures (Pick (is_set (Int w) (mask_of b)) (Int w) (number (2 ^ w - 1)) (mask_of (tracked_at 0 ts))) (Pick (is_set (Int w) (mask_of b)) (Int w) (number 0) (word_of b)) (ap (λ x. words x SHIFT []) i))

@@ -6,17 +6,17 @@ use Rattle.ms_runtime.proofs.runs.Running.answer_of.Goals as goal
 pub answer-requires-clause-exit : goal.answer-requires-clause-exit
 answer-requires-clause-exit c =
     let q = c.requires.asking in
-    fits_exit c.args.call.now.asked c.args.call.now.args (arguments_of q.1.0 q.0 q.1.1 c.args.call.now c.args.self.now q.1.2.1).words
+    fits_exit c.args.call.now.asked c.args.call.now.args (arguments_of q.0 q.1.0 q.1.1.0 c.args.call.now c.args.self.now q.1.1.1.1).words
 
 pub serve-requires-clause-fits : goal.serve-requires-clause-fits
 serve-requires-clause-fits c =
     let q = c.requires.asking in
-    let a = arguments_of q.1.0 q.0 q.1.1 c.args.call.now c.args.self.now q.1.2.1 in
+    let a = arguments_of q.0 q.1.0 q.1.1.0 c.args.call.now c.args.self.now q.1.1.1.1 in
     fits_asked c.args.call.now.asked c.args.call.now.args c.in-Runtime.field-0 c.in-Runtime.is a.count a.words
 
 pub returns-in-External : goal.returns-in-External
 returns-in-External c = record {
-  answered = λ m p u same q.
+  answered = λ m u same q.
       let slack = slack_of c.args.call.now.asked c.in-External.field-0 c.args.self.now.world.made c.args.self.now.budget.left c.in-External.is q.slack in
       if_ok c.answer.result
       (λ a answered. record {
@@ -36,7 +36,7 @@ returns-in-External c = record {
 
 pub returns-in-Runtime : goal.returns-in-Runtime
 returns-in-Runtime c = record {
-  answered = λ m p u same q.
+  answered = λ m u same q.
       if_ok_both c.serve.result
       (λ a served within. record {
         beside = served.0;

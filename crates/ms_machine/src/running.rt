@@ -1,0 +1,49 @@
+//! Runs of checked modules, from pause to pause.
+ghost use Rattle.std.specs.Prelude.{◌≡◌, ◌≤◌, ◌<◌, ◌+◌, ◌*◌, ◌^◌, ◌∷◌, ℕ, List, IfOk};
+ghost use Rattle.ms_runs.specs.declared.runs.Setup.{Setup};
+ghost use Rattle.ms_runs.specs.Control.{Frame as FrameOf};
+ghost use Rattle.ms_runs.specs.Plain.{PlainState};
+ghost use Rattle.ms_host.specs.declared.calls.HostCall.{HostCall as CallOf};
+ghost use Rattle.ms_host.specs.State.{Beside, KeepsGiven};
+ghost use Rattle.ms_machine_steps.specs.Standing.{frames_of};
+ghost use Rattle.ms_machine_steps.specs.Waiting.{Waits, answered};
+ghost use Rattle.ms_machine_steps.specs.Advances.{Advanced};
+ghost use Rattle.ms_machine.specs.Running.{AllStandFor, IsRunning, Runs, WaitsFor};
+
+use ms_bits::NoMemory;
+use ms_check::CheckedModule;
+use ms_host::World;
+use ms_machine_steps as steps;
+use ms_machine_steps::{Budget, Fiber, Pause};
+use std::alloc::Global;
+
+/// Goes on until a function is called that the module doesn't define, until the run ends, or until no step is left.
+///
+/// A step is an unmarked instruction with the marked ones before it. None is begun where none is left. That of an
+/// external is counted when it is asked for; then `resume` goes on behind the call. A step takes as long in a large
+/// module as in a small one. The one error is want of memory, and the run is over then.
+pub fn advance(
+    alloc: Global,
+    m: &CheckedModule,
+    fiber: &mut Fiber,
+    world: &mut World,
+    budget: &mut Budget,
+) -> Result<Pause, NoMemory>
+    requires runs { Runs m.now fiber.old world.old }
+    requires room { world.old.made + 2 ^ 26 * budget.old.left < 2 ^ 64 }
+    ensures advanced { (u : Setup) (beside : Beside) (state : PlainState) → IsRunning m.now u beside fiber.old world.old state → IfOk result (λ pause. Advanced (IsRunning m.now u beside) m.now u beside state budget.old.left fiber.old.frame.at pause fiber.new world.new budget.new.left) }
+    ensures given { KeepsGiven world.old world.new }
+    ensures made { world.new.made + 2 ^ 26 * budget.new.left ≤ world.old.made + 2 ^ 26 * budget.old.left }
+{
+    m.is_valid();
+    steps::advance(alloc, m.program(), fiber, world, budget)
+}
+
+/// Goes on behind the call at which a fiber waits, with its answer where it has one. Takes no memory.
+pub fn resume(m: &CheckedModule, fiber: &mut Fiber, value: Option<u64>)
+    requires { WaitsFor m.now fiber.old }
+    ensures at { fiber.new.frame.at ≡ fiber.old.frame.at + 1 }
+    ensures stands { (u : Setup) (frame : FrameOf ℕ) (below : List (FrameOf ℕ)) (call : CallOf) → AllStandFor m.now (frames_of fiber.old) (frame ∷ below) → Waits m.now u frame call → AllStandFor m.now (frames_of fiber.new) (answered m.now value frame ∷ below) }
+{
+    steps::resume(m.program(), fiber, value);
+}

@@ -1,6 +1,0 @@
-use Rattle.std.proofs.Common.{◌≡◌, ◌++◌, take}
-use Rattle.ms_pass.specs.Valued.{block_results}
-use Rattle.ms_pass.proofs.values.push_blocks.Given as goal
-
-abbrev pub invariant-loop-block : goal.invariant-loop-block
-invariant-loop-block l = l.names ≡ l.fn.names ++ block_results (take l.block-index l.blocks)

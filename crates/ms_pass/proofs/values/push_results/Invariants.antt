@@ -1,6 +1,0 @@
-use Rattle.std.proofs.Common.{◌≡◌, ◌++◌, take}
-use Rattle.ms_pass.specs.Valued.{result_names}
-use Rattle.ms_pass.proofs.values.push_results.Given as goal
-
-abbrev pub invariant-loop-inst : goal.invariant-loop-inst
-invariant-loop-inst l = l.names ≡ l.fn.names ++ result_names (take l.inst-index l.insts)

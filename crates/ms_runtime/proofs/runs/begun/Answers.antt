@@ -1,0 +1,49 @@
+use Rattle.std.proofs.Common.{arith, sym, ap, subst, refl, ◌≡◌, ◌∙◌, ◌<◌, ◌≤◌, ◌+◌, ◌-◌, ◌*◌, ◌^◌, ℕ, List, length}
+use Rattle.std.proofs.Math.Nat.{mul-le-mul_right}
+use Rattle.ms_ir.specs.declared.syntax.Module.{Module}
+use Rattle.ms_ir.specs.declared.places.Root.{Root}
+use Rattle.ms_ir.specs.Code.{over_funcs}
+use Rattle.ms_ir.specs.Roots.{roots_of}
+use Rattle.ms_valid.specs.Formed.{Formed}
+use Rattle.ms_valid.proofs.SmallNumbers.{small_numbers}
+use Rattle.ms_runs.specs.Plain.{plain_start}
+use Rattle.ms_host.specs.State.{nothing_beside}
+use Rattle.ms_runtime.proofs.RootCounts.{roots_counted, few_roots, few_insts}
+use Rattle.ms_runtime.proofs.runs.begun.Goals as goal
+
+pub roots-requires : goal.roots-requires
+roots-requires c = small_numbers c.«module».result.now (subst Formed (sym c.«module».ensures) c.is_valid.ensures.formed)
+
+few : (m : Module) → Formed m → (roots : List Root) → roots ≡ roots_of m → length roots < 2 ^ 30
+few m formed roots e = subst (λ (n : ℕ). n < 2 ^ 30) (sym (ap length e ∙ roots_counted m)) (few_roots m formed)
+
+pub overflow_cast-count : goal.overflow_cast-count
+overflow_cast-count c = omega (arith, few c.args.m.now c.is_valid.ensures.formed c.as_slice-count.result.now (c.as_slice-count.ensures ∙ c.in_ok-roots.ensures ∙ ap roots_of c.«module».ensures))
+
+pub new-requires : goal.new-requires
+new-requires c = few c.args.m.now c.is_valid.ensures.formed c.as_slice-count.result.now (c.as_slice-count.ensures ∙ c.in_ok-roots.ensures ∙ ap roots_of c.«module».ensures)
+
+-- so few steps through so little code
+near : (steps all : ℕ) → steps ≤ 1000000000 → all < 2 ^ 30 → 0 + (steps * (all + 1) + (all - 0)) ≤ 2 ^ 62
+near steps all few little = omega (arith, mul-le-mul_right (all + 1) few, little)
+
+pub returns : goal.returns
+returns c =
+    let m = c.args.m.now in
+    let u = c.args.setup.now in
+    let formed = c.is_valid.ensures.formed in
+    let limits = c.requires.limits in
+    record {
+      beside = nothing_beside;
+      state = plain_start m u;
+      stands = c.in_ok-fiber.ensures.running;
+      told = record { pairs = sym c.new.ensures.pairs; reports = sym (c.from_vec-2.ensures ∙ c.new-3.ensures.items); blind = refl };
+      keeping = record {
+        roots = c.new.ensures.roots ∙ ap length (c.as_slice-count.ensures ∙ c.in_ok-roots.ensures ∙ ap roots_of c.«module».ensures) ∙ roots_counted m;
+        few = omega (arith, ap length (c.from_vec-2.ensures ∙ c.new-3.ensures.items), limits.some_reports);
+        room = omega (arith, c.in_ok-fiber.ensures.made, limits.steps);
+        blind = let at : over_funcs (λ inst. 1) m.funcs - c.in_ok-fiber.fiber.frame.at ≤ over_funcs (λ inst. 1) m.funcs = omega arith in
+            omega (arith, near u.steps (over_funcs (λ inst. 1) m.funcs) limits.steps (few_insts m formed), at);
+      };
+      same = refl;
+    }
