@@ -56,6 +56,39 @@ done:
 END
 }
 
+call_loop() { # $1 rounds of fourteen steps, of which one calls a function of five
+  cat <<END
+define i32 @next(i32 %0) {
+  %2 = alloca i32
+  store i32 %0, ptr %2
+  %3 = load i32, ptr %2
+  %4 = add i32 %3, 1
+  ret i32 %4
+}
+define i32 @main() {
+  %i = alloca i32
+  %s = alloca i32
+  store i32 0, ptr %i
+  store i32 0, ptr %s
+  br label %head
+head:
+  %1 = load i32, ptr %i
+  %2 = icmp ult i32 %1, $1
+  br i1 %2, label %body, label %done
+body:
+  %3 = call i32 @next(i32 %1)
+  store i32 %3, ptr %i
+  %4 = load i32, ptr %s
+  %5 = add i32 %4, %3
+  store i32 %5, ptr %s
+  br label %head
+done:
+  %6 = load i32, ptr %s
+  ret i32 %6
+}
+END
+}
+
 for count in 300 3000; do
   functions "$count" > "$work/functions.ll"
   awk -v n="$(instructions "$program" instrument "$work/functions.ll")" -v b="$(stat -c %s "$work/functions.ll")" -v c="$count" \
@@ -75,9 +108,14 @@ for turn in 1 2 3; do
   done
 done
 
-memory_loop 1000 > "$work/short.ll"
-memory_loop 11000 > "$work/long.ll"
-for command in run check; do
-  awk -v a="$(instructions "$program" "$command" "$work/short.ll")" -v b="$(instructions "$program" "$command" "$work/long.ll")" -v name="$command" \
-    'BEGIN {printf "%s: %.1f instructions a step\n", name, (b - a) / 110000}'
-done
+per_step() { # the loop, the steps of a round, what it is
+  "$1" 1000 > "$work/short.ll"
+  "$1" 11000 > "$work/long.ll"
+  for command in run check; do
+    awk -v a="$(instructions "$program" "$command" "$work/short.ll")" -v b="$(instructions "$program" "$command" "$work/long.ll")" -v name="$command" -v steps="$2" -v what="$3" \
+      'BEGIN {printf "%s, %s: %.1f instructions a step\n", name, what, (b - a) / (10000 * steps)}'
+  done
+}
+
+per_step memory_loop 11 'loads and stores'
+per_step call_loop 14 'a call every fourteen steps'

@@ -8,4 +8,4 @@ mod instruments;
 mod insts;
 mod modules;
 
-pub use instruments::instrument;
+pub use instruments::{instrument, instrumented};

@@ -16,7 +16,7 @@ use crate::commands::{Command, Options};
 use ms_bits::{Bytes, NoMemory};
 use ms_check::{CheckError, CheckedModule, check};
 use ms_ir::Module;
-use ms_pass::instrument;
+use ms_pass::{instrument, instrumented};
 use ms_read_body::ReadError;
 use ms_read_top::read;
 use ms_report::{Refusal, closing, refusal_line, report_text};
@@ -118,8 +118,8 @@ fn answer_of_instrument(alloc: Global, m: &CheckedModule) -> Result<Answer, NoMe
     requires { CanInstrument m.now }
     ensures { IfOk result (λ a. IsAnswerOfInstrument IsInstrumented m.now a) }
 {
-    let instrumented = instrumented_form(alloc, m)?;
-    let text = write(alloc, instrumented.module())?;
+    let module = instrumented_module(alloc, m)?;
+    let text = write(alloc, &module)?;
     Ok(Answer::on_out(alloc, text))
 }
 
@@ -168,7 +168,16 @@ fn run_instrumented(alloc: Global, m: &CheckedModule, setup: &Setup) -> Result<R
     run(alloc, &instrumented, setup)
 }
 
-/// The instrumented form of a module, with all that is known of it.
+/// The instrumented form of a module, to be written.
+fn instrumented_module(alloc: Global, m: &CheckedModule) -> Result<Module, NoMemory>
+    requires { CanInstrument m.now }
+    ensures { IfOk result (λ j. IsInstrumented m.now j) }
+{
+    let module = instrumented(alloc, m)?;
+    Ok(module)
+}
+
+/// The instrumented form of a module, to be run.
 fn instrumented_form(alloc: Global, m: &CheckedModule) -> Result<CheckedModule, NoMemory>
     requires { CanInstrument m.now }
     ensures { IfOk result (λ j. IsInstrumented m.now j) }

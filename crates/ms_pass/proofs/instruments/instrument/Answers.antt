@@ -1,63 +1,28 @@
-use Rattle.std.proofs.Common.{◌≡◌, All, sym, ap, subst, ◌∙◌}
+use Rattle.std.proofs.Common.{◌≡◌, sym, ap, subst, ◌∙◌}
 use Rattle.ms_ir.specs.declared.syntax.Module.{Module}
 use Rattle.ms_ir.specs.Code.{strip}
-use Rattle.ms_ir.specs.Locals.{function_names}
 use Rattle.ms_runs.specs.declared.runs.Setup.{Setup}
 use Rattle.ms_runs.specs.Faithful.{Fair, Faithful}
 use Rattle.ms_runs.specs.Plain.{plain}
-use Rattle.ms_valid.specs.Formed.{Formed}
-use Rattle.ms_valid.specs.Valid.{Valid}
 use Rattle.ms_runs_good.specs.Fills.{InsertedUnderFills}
 use Rattle.ms_two_fills.specs.Checked.{HoldsUnderFills}
-use Rattle.ms_two_fills.proofs.Whole.{inserted_fills, checked_holds}
-use Rattle.ms_tables.specs.FirstPlace.{first_place}
 use Rattle.ms_tables.proofs.Items.{under_ok}
 use Rattle.ms_pass_laws.specs.Numbers.{numbering}
 use Rattle.ms_pass_laws.specs.Pass.{pass}
-use Rattle.ms_pass_laws.proofs.Taken.{instrumented_faithful}
-use Rattle.ms_pass_laws.proofs.Unmarked.{module_strips}
-use Rattle.ms_pass_laws.proofs.Whole.{strip_pass}
-use Rattle.ms_pass_valid.proofs.FormedMain.{numbered_formed_valid}
-use Rattle.ms_pass.specs.Counted.{past_funcs, AreSmall}
-use Rattle.ms_pass.specs.Passed.{no_counts}
-use Rattle.ms_pass.specs.Ready.{IsReady}
-use Rattle.ms_pass.proofs.ModuleReady.{module_ready, module_small}
-use Rattle.ms_pass.proofs.Numbered.{passed_is}
 use Rattle.ms_pass.proofs.instruments.instrument.Goals as goal
-
-pub passed_module-requires-clause-ready : goal.passed_module-requires-clause-ready
-passed_module-requires-clause-ready c =
-    subst (λ (m : Module). All (IsReady m.types) m.funcs) (sym c.module.ensures) (module_ready c.args.m.now c.is_valid.ensures.formed c.is_valid.ensures.valid c.requires)
-
-pub passed_module-requires-clause-small : goal.passed_module-requires-clause-small
-passed_module-requires-clause-small c =
-    subst (λ (m : Module). AreSmall (past_funcs (first_place (function_names m)) no_counts m.funcs)) (sym c.module.ensures) (module_small c.args.m.now c.is_valid.ensures.formed)
-
-pub of_valid-requires-clause-formed : goal.of_valid-requires-clause-formed
-of_valid-requires-clause-formed c =
-    let m = c.args.m.now in
-    subst Formed (sym (passed_is m c.module.result.now c.in_ok-module.module c.module.ensures c.in_ok-module.ensures)) (numbered_formed_valid m c.is_valid.ensures.formed c.is_valid.ensures.valid c.requires).0
-
-pub of_valid-requires-clause-valid : goal.of_valid-requires-clause-valid
-of_valid-requires-clause-valid c =
-    let m = c.args.m.now in
-    subst Valid (sym (passed_is m c.module.result.now c.in_ok-module.module c.module.ensures c.in_ok-module.ensures)) (numbered_formed_valid m c.is_valid.ensures.formed c.is_valid.ensures.valid c.requires).1
 
 pub returns : goal.returns
 returns c =
     let m = c.args.m.now in
-    let is = passed_is m c.module.result.now c.in_ok-module.module c.module.ensures c.in_ok-module.ensures in
-    let made : Module → Type 0 = λ j. j ≡ c.in_ok-module.module in
-    let formed = c.is_valid.ensures.formed in
-    let valid = c.is_valid.ensures.valid in
-    let faithful : (j : Module) → made j → Faithful m j =
-    λ j same. subst (λ (x : Module). Faithful m x) (sym (same ∙ is)) (instrumented_faithful m formed valid c.requires) in
+    let answer = c.in_ok-module.module in
+    let made : Module → Type 0 = λ j. j ≡ answer in
+    let given = c.in_ok-module.ensures in
     record {
-      pass = under_ok c.of_valid.result made (λ j. j ≡ pass (numbering m) m) (λ j same. same ∙ is) c.of_valid.ensures;
-      faithful = under_ok c.of_valid.result made (λ j. Faithful m j) faithful c.of_valid.ensures;
-      stripped = under_ok c.of_valid.result made (λ j. strip j ≡ m) (λ j same. ap strip (same ∙ is) ∙ strip_pass (numbering m) m (module_strips m c.requires)) c.of_valid.ensures;
+      pass = under_ok c.of_valid.result made (λ j. j ≡ pass (numbering m) m) (λ j same. same ∙ given.pass) c.of_valid.ensures;
+      faithful = under_ok c.of_valid.result made (λ j. Faithful m j) (λ j same. subst (λ (x : Module). Faithful m x) (sym same) given.faithful) c.of_valid.ensures;
+      stripped = under_ok c.of_valid.result made (λ j. strip j ≡ m) (λ j same. ap strip same ∙ given.stripped) c.of_valid.ensures;
       under_fills = under_ok c.of_valid.result made (λ j. (setup : Setup) → Fair setup → InsertedUnderFills j setup)
-          (λ j same setup fair. inserted_fills m formed valid j (faithful j same) setup fair) c.of_valid.ensures;
+          (λ j same. subst (λ (x : Module). (setup : Setup) → Fair setup → InsertedUnderFills x setup) (sym same) given.under_fills) c.of_valid.ensures;
       holds = under_ok c.of_valid.result made (λ j. (setup : Setup) → Fair setup → HoldsUnderFills m setup (plain j setup))
-          (λ j same setup fair. checked_holds m formed valid c.requires.plain.unmarked j (faithful j same) setup fair) c.of_valid.ensures;
+          (λ j same. subst (λ (x : Module). (setup : Setup) → Fair setup → HoldsUnderFills m setup (plain x setup)) (sym same) given.holds) c.of_valid.ensures;
     }

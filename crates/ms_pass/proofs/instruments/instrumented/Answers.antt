@@ -1,0 +1,52 @@
+use Rattle.std.proofs.Common.{◌≡◌, All, sym, ap, subst, ◌∙◌}
+use Rattle.ms_ir.specs.declared.syntax.Module.{Module}
+use Rattle.ms_ir.specs.Code.{strip}
+use Rattle.ms_ir.specs.Locals.{function_names}
+use Rattle.ms_runs.specs.declared.runs.Setup.{Setup}
+use Rattle.ms_runs.specs.Faithful.{Fair, Faithful}
+use Rattle.ms_runs.specs.Plain.{plain}
+use Rattle.ms_valid.specs.Formed.{Formed}
+use Rattle.ms_valid.specs.Valid.{Valid}
+use Rattle.ms_runs_good.specs.Fills.{InsertedUnderFills}
+use Rattle.ms_two_fills.specs.Checked.{HoldsUnderFills}
+use Rattle.ms_two_fills.proofs.Whole.{inserted_fills, checked_holds}
+use Rattle.ms_tables.specs.FirstPlace.{first_place}
+use Rattle.ms_pass_laws.specs.Numbers.{numbering}
+use Rattle.ms_pass_laws.specs.Pass.{pass}
+use Rattle.ms_pass_laws.proofs.Taken.{instrumented_faithful}
+use Rattle.ms_pass_laws.proofs.Unmarked.{module_strips}
+use Rattle.ms_pass_laws.proofs.Whole.{strip_pass}
+use Rattle.ms_pass_valid.proofs.FormedMain.{numbered_formed_valid}
+use Rattle.ms_pass.specs.Counted.{past_funcs, AreSmall}
+use Rattle.ms_pass.specs.Passed.{no_counts}
+use Rattle.ms_pass.specs.Ready.{IsReady}
+use Rattle.ms_pass.proofs.ModuleReady.{module_ready, module_small}
+use Rattle.ms_pass.proofs.Numbered.{passed_is}
+use Rattle.ms_pass.proofs.instruments.instrumented.Goals as goal
+
+pub passed_module-requires-clause-ready : goal.passed_module-requires-clause-ready
+passed_module-requires-clause-ready c =
+    subst (λ (m : Module). All (IsReady m.types) m.funcs) (sym c.module.ensures) (module_ready c.args.m.now c.is_valid.ensures.formed c.is_valid.ensures.valid c.requires)
+
+pub passed_module-requires-clause-small : goal.passed_module-requires-clause-small
+passed_module-requires-clause-small c =
+    subst (λ (m : Module). AreSmall (past_funcs (first_place (function_names m)) no_counts m.funcs)) (sym c.module.ensures) (module_small c.args.m.now c.is_valid.ensures.formed)
+
+pub returns : goal.returns
+returns c =
+    let m = c.args.m.now in
+    let formed = c.is_valid.ensures.formed in
+    let valid = c.is_valid.ensures.valid in
+    let j = c.in_ok-module.module in
+    let is = passed_is m c.module.result.now j c.module.ensures c.in_ok-module.ensures in
+    let faithful : Faithful m j = subst (λ (x : Module). Faithful m x) (sym is) (instrumented_faithful m formed valid c.requires) in
+    let both = numbered_formed_valid m formed valid c.requires in
+    record {
+      pass = is;
+      faithful = faithful;
+      stripped = ap strip is ∙ strip_pass (numbering m) m (module_strips m c.requires);
+      formed = subst Formed (sym is) both.0;
+      valid = subst Valid (sym is) both.1;
+      under_fills = λ setup fair. inserted_fills m formed valid j faithful setup fair;
+      holds = λ setup fair. checked_holds m formed valid c.requires.plain.unmarked j faithful setup fair;
+    }
