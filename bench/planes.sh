@@ -1,12 +1,12 @@
 #!/usr/bin/env bash
 # Instructions that `ms_planes::Planes` takes to find that an access is good, and to load a word and its shadow, with 10, 10,000 and 1,000,000 live
-# allocations, and what poisoning and copying take for each byte.
+# allocations, and what poisoning, setting and copying take for each byte.
 #
 # The program that calls it is made in a temporary repository, beside copies of this repository's crates.
 # Wants `rt`, `python3` and `valgrind`. Outside the gate.
 source "$(dirname "$0")/frame.sh"
 
-repository planes_bench 'ms_alloc ms_planes' 'ms_bits ms_alloc ms_planes' <<'PROGRAM'
+repository planes_bench 'ms_alloc ms_planes' 'ms_bits ms_alloc ms_raw ms_planes' <<'PROGRAM'
 //! Makes so many heap blocks of 16 bytes, and then loads, poisons or copies.
 #![tactic(auto)]
 
@@ -59,6 +59,29 @@ fn sweep(planes: &mut Planes, size: u64, times: u64) -> bool {
     true
 }
 
+/// Sets all bytes of the first block with their shadow, as `memset` does.
+fn set(planes: &mut Planes, size: u64, times: u64) {
+    for _ in 0..times {
+        if planes.covers(HEAP, size) {
+            planes.fill_bytes(HEAP, size, 7);
+            planes.unpoison(HEAP, size);
+        }
+    }
+}
+
+/// Copies all bytes of the first block, a multiple of 16, with their shadow to the second, as `memcpy` does.
+fn copy(planes: &mut Planes, size: u64, times: u64) -> bool {
+    let second = HEAP.wrapping_add(size);
+    for _ in 0..times {
+        if planes.covers(HEAP, size) && planes.covers(second, size) {
+            if planes.copy_bytes(second, HEAP, size).is_err() || planes.copy_shadow(second, HEAP, size).is_err() {
+                return false;
+            }
+        }
+    }
+    true
+}
+
 fn main(rt: HostRuntime) -> io::Result<()> {
     let mut words = env::args(&rt)?;
     let _name = words.next();
@@ -67,12 +90,16 @@ fn main(rt: HostRuntime) -> io::Result<()> {
     let finds = words.next().and_then(|word| word.parse::<u64>().ok()).unwrap_or(0);
     let loads = words.next().and_then(|word| word.parse::<u64>().ok()).unwrap_or(0);
     let sweeps = words.next().and_then(|word| word.parse::<u64>().ok()).unwrap_or(0);
+    let sets = words.next().and_then(|word| word.parse::<u64>().ok()).unwrap_or(0);
+    let copies = words.next().and_then(|word| word.parse::<u64>().ok()).unwrap_or(0);
     let mut planes = Planes::new(rt.alloc());
     let size = size % 0x10000000;
     let made = fill(&mut planes, count, size);
     let sum = load(&planes, count, finds, loads);
     let swept = sweep(&mut planes, size, sweeps);
-    println!(rt; "{made} {sum} {swept}")?;
+    set(&mut planes, size, sets);
+    let copied = copy(&mut planes, size, copies);
+    println!(rt; "{made} {sum} {swept} {copied}")?;
     Ok(())
 }
 PROGRAM
@@ -88,3 +115,9 @@ done
 none=$(instructions "$program" 1 1048576 0 0 0)
 some=$(instructions "$program" 1 1048576 0 0 16)
 echo "poison of 1 MiB and copy of the shadow of half of it: $(python3 -c "print(f'{($some - $none) / 16 / 1048576:.2f}')") instructions a byte"
+none=$(instructions "$program" 2 1048576 0 0 0 0 0)
+set=$(instructions "$program" 2 1048576 0 0 0 16 0)
+copy=$(instructions "$program" 2 1048576 0 0 0 0 16)
+marked=$(instructions "$program" 2 1048576 0 0 1 0 0)
+both=$(instructions "$program" 2 1048576 0 0 1 0 16)
+echo "1 MiB set with its shadow: $(python3 -c "print(f'{($set - $none) / 16 / 1048576:.2f}')") instructions a byte; copied with its shadow to another block: $(python3 -c "print(f'{($copy - $none) / 16 / 1048576:.2f}')") where it is clean, $(python3 -c "print(f'{($both - $marked) / 16 / 1048576:.2f}')") where it is poisoned"

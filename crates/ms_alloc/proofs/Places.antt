@@ -1,8 +1,8 @@
 -- Which allocation of an area has an address: only the one that takes it can.
-use Rattle.std.proofs.Common.{◌≡◌, ◌≢◌, ℕ, ◌+◌, ◌<◌, ◌≤◌, Bool, true, false, cond, eqb, List, ◌++◌, length, get_or, set, map, if◌then◌else◌, option_map, arith, refl, sym, ap, ◌∙◌, Option, Some, None, ◌⊎◌, inl, inr, ⊎_elim}
+use Rattle.std.proofs.Common.{◌≡◌, ◌≢◌, ℕ, ◌+◌, ◌<◌, ◌≤◌, Bool, true, false, cond, eqb, List, ◌++◌, length, get_or, set, map, if◌then◌else◌, option_map, arith, refl, sym, ap, ◌∙◌, Option, Some, None, ◌⊎◌, inl, inr, ⊎_elim, is_some, subst, ◌||◌, MatchOption}
 use Rattle.std.specs.List.{find}
 use Rattle.std.specs.Option.{option_or}
-use Rattle.std.proofs.lemmas.Bool.{cases_lt, and_from, and_left, eq-eqb}
+use Rattle.std.proofs.lemmas.Bool.{cases_lt, and_from, and_left, eq-eqb, ne_eqb}
 use Rattle.std.proofs.lemmas.List.{get_or_default}
 use Rattle.std.proofs.lemmas.Grind.{common_steps}
 use Rattle.std.proofs.lemmas.List.Folds.{find-append}
@@ -10,7 +10,9 @@ use Rattle.ms_alloc.specs.declared.kinds.AllocKind.{AllocKind}
 use Rattle.ms_alloc.specs.declared.kinds.AllocKind.TheVariants.{Fixed, Heap, Stack}
 use Rattle.ms_alloc.specs.declared.allocations.Allocation.{Allocation}
 use Rattle.ms_alloc.specs.Layout.{room, area_base, area_limit}
-use Rattle.ms_alloc.specs.Allocations.{Allocations, IsArea, IsLaidOut, used, listed, covers, is_block}
+use Rattle.ms_alloc.specs.Allocations.{Allocations, IsArea, IsLaidOut, used, listed, of_kind, covers, is_block, is_good}
+use Rattle.ms_alloc.specs.declared.allocations.Place.{Place}
+use Rattle.ms_alloc.specs.Places.{IsPlace}
 use Rattle.ms_alloc.specs.Only.{IsOnly}
 use Rattle.ms_alloc.specs.Owners.{Has, IsOutside}
 use Rattle.ms_alloc.proofs.Rows.{row-from, row-to, row-apart, size-le}
@@ -149,3 +151,20 @@ pub ended-set : (xs : List Allocation) (base i : ℕ) (a : Allocation) → IsOnl
 ended-set xs base i a only is =
     ap (λ (b : Allocation). set xs i (record b { live = false })) is
     ∙ sym (map-only (is_block base) (λ b. record b { live = false }) xs i a only.within only.others (only.passes a))
+
+-- the place that has a range
+pub owner-only : (k : AllocKind) (xs : List Allocation) (addr n o : ℕ) (d : Allocation) → 0 < n → IsArea k xs → Has xs addr o → covers addr n (get_or xs o d) ≡ true → IsOnly (covers addr n) xs o
+owner-only k xs addr n o d some area has is = record {
+  within = has.within;
+  passes = λ e. ap (covers addr n) (get_or_default xs o e d has.within) ∙ is;
+  others = λ i e l other. other-covers k xs addr n o some area has i e l other;
+}
+
+-- in its area, and so in the whole table
+pub place-listed : (r : Option Place) (j k : AllocKind) (t : Allocations) (addr n : ℕ) → 0 < n → j ≡ k → find (covers addr n) (listed t) ≡ find (covers addr n) (of_kind k t) →
+    MatchOption r (find (covers addr n) (of_kind k t) ≡ None) (λ p. IsPlace j (of_kind k t) addr n p) →
+    MatchOption r (is_good addr n t ≡ false) (λ p. IsPlace p.kind (of_kind p.kind t) addr n p)
+place-listed None j k t addr n some here same none =
+    ap (λ (b : Bool). b || is_some (find (covers addr n) (listed t))) (ne_eqb n 0 (λ e. omega arith)) ∙ ap is_some (same ∙ none)
+place-listed (Some p) j k t addr n some here same is =
+    subst (λ (i : AllocKind). IsPlace i (of_kind i t) addr n p) (sym (is.kind_is ∙ here)) (record { kind_is = is.kind_is ∙ here; only = is.only; base_is = is.base_is })

@@ -29,3 +29,14 @@ impl Allocation {
         offset <= self.size && n <= self.size - offset
     }
 }
+
+/// Where an allocation stands in a table.
+#[derive(Clone, Copy, Debug)]
+pub struct Place {
+    /// Its area.
+    pub kind: AllocKind,
+    /// How many allocations stand before it in the list of its area.
+    pub index: usize,
+    /// The address of its first byte.
+    pub base: u64,
+}

@@ -4,9 +4,10 @@ ghost use Rattle.ms_alloc.specs.declared.kinds.AllocKind.TheVariants.{Heap, Stac
 ghost use Rattle.ms_alloc.specs.Layout.{room, area_base, area_limit};
 ghost use Rattle.ms_alloc.specs.Allocations.{IsArea, used, covers, is_block};
 ghost use Rattle.ms_alloc.specs.Only.{IsOnly};
+ghost use Rattle.ms_alloc.specs.Places.{IsPlace};
 ghost use Rattle.ms_alloc.specs.Owners.{IsOwned, Has, IsOutside};
 
-use crate::allocations::Allocation;
+use crate::allocations::{Allocation, Place};
 use crate::errors::{AllocError, BadFree};
 use crate::kinds::AllocKind;
 use std::alloc::Global;
@@ -186,8 +187,33 @@ impl Area {
         }
     }
 
+    /// The place of the live allocation that has the `n` bytes from `addr` on.
+    pub(crate) fn place_of(&self, kind: AllocKind, addr: u64, n: u64) -> Option<Place>
+        requires area { IsArea kind self.now }
+        requires some { 0 < n }
+        ensures { MatchOption result (find (covers addr n) self.now ≡ None) (λ p. IsPlace kind self.now addr n p) }
+    {
+        let Some(index) = self.owner(kind, addr) else {
+            return None;
+        };
+        let candidate = self.made[index];
+        if candidate.covers(addr, n) {
+            let base = candidate.base;
+            Some(Place { kind, index, base })
+        } else {
+            None
+        }
+    }
+
+    /// The number of allocations.
+    pub(crate) fn count(&self) -> usize
+        ensures { result ≡ length self.now }
+    {
+        self.made.len()
+    }
+
     /// The place of the live block of the heap that begins at `base`.
-    fn place_of_block(&self, base: u64) -> Option<usize>
+    pub(crate) fn place_of_block(&self, base: u64) -> Option<usize>
         requires { IsArea Heap self.now }
         ensures { MatchOption result (find (is_block base) self.now ≡ None) (IsOnly (is_block base) self.now) }
     {

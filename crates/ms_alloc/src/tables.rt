@@ -1,9 +1,9 @@
 //! The table.
-ghost use Rattle.std.specs.Prelude.{◌≡◌, ◌≤◌, ◌<◌, ◌+◌, find, is_some, IfOk, OnOk, OnErr, IsErr, IsErrOf, IsTrue, ◌↔◌, Some, None, option_map, IsNone};
+ghost use Rattle.std.specs.Prelude.{◌≡◌, ◌≤◌, ◌<◌, ◌+◌, find, is_some, IfOk, OnOk, OnErr, IsErr, IsErrOf, IsTrue, ◌↔◌, Some, None, option_map, IsNone, MatchOption, false, length};
 ghost use Rattle.ms_alloc.specs.declared.kinds.AllocKind.TheVariants.{Heap, Stack};
 ghost use Rattle.ms_alloc.specs.Layout.{room, area_base, area_limit};
 
-use crate::allocations::Allocation;
+use crate::allocations::{Allocation, Place};
 use crate::areas::{Area, has_room};
 use crate::errors::{AllocError, BadFree};
 use crate::kinds::AllocKind;
@@ -44,7 +44,9 @@ fn kind_at(addr: u64) -> AllocKind
 }
 
 impl Table {
-    ghost use Rattle.ms_alloc.specs.Allocations.{no_allocations, next_base, used, of_kind, with_made, with_ended, without_from, is_good, block_of, heap_size, listed, covers, IsLaidOut};
+    ghost use Rattle.ms_alloc.specs.Allocations.{no_allocations, next_base, used, of_kind, with_made, with_ended, without_from, is_good, block_of, heap_size, listed, covers, is_block, IsLaidOut};
+    ghost use Rattle.ms_alloc.specs.Only.{IsOnly};
+    ghost use Rattle.ms_alloc.specs.Places.{IsPlace};
 
     /// A table without allocations. Takes no memory yet.
     pub fn new(alloc: Global) -> Table
@@ -139,6 +141,38 @@ impl Table {
         ensures { result ≡ heap_size base self.now }
     {
         self.heap.block_size(base)
+    }
+
+    /// Where the live allocation stands that has the `n` bytes from `addr` on; `None` exactly where none has them.
+    pub fn place_of(&self, addr: u64, n: u64) -> Option<Place>
+        requires { 0 < n }
+        ensures { MatchOption result (is_good addr n self.now ≡ false) (λ p. IsPlace p.kind (of_kind p.kind self.now) addr n p) }
+    {
+        let kind = kind_at(addr);
+        match kind {
+            AllocKind::Fixed => self.fixed.place_of(kind, addr, n),
+            AllocKind::Heap => self.heap.place_of(kind, addr, n),
+            AllocKind::Stack => self.stack.place_of(kind, addr, n),
+        }
+    }
+
+    /// How many allocations stand before the live heap block that begins at `base`; `None` exactly where none begins
+    /// there.
+    pub fn place_of_block(&self, base: u64) -> Option<usize>
+        ensures { MatchOption result (heap_size base self.now ≡ None) (IsOnly (is_block base) self.now.heap) }
+    {
+        self.heap.place_of_block(base)
+    }
+
+    /// How many allocations an area has, ended ones among them.
+    pub fn count(&self, kind: AllocKind) -> usize
+        ensures { result ≡ length (of_kind kind self.now) }
+    {
+        match kind {
+            AllocKind::Fixed => self.fixed.count(),
+            AllocKind::Heap => self.heap.count(),
+            AllocKind::Stack => self.stack.count(),
+        }
     }
 
     /// What every table has: in each area an allocation begins where the one before it ends, and all keep its limit.

@@ -5,7 +5,11 @@
 #[cfg(test)]
 mod allocations;
 #[cfg(test)]
+mod blocks;
+#[cfg(test)]
 mod files;
+#[cfg(test)]
+mod forks;
 #[cfg(test)]
 mod lists;
 #[cfg(test)]

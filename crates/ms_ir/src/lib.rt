@@ -30,7 +30,7 @@ pub use calls::{External, RuntimeFn, Slot};
 pub use equality::same_operand;
 pub use extents::{align_of, offset_of, parts_of, size_of};
 pub use forms::Form;
-pub use numbers::has_small_numbers;
+pub use numbers::{has_small_numbers, sites_of_funcs};
 pub use places::{Place, Root, RootKind};
 pub use rooting::roots;
 pub use runtime::runtime_declarations;

@@ -1,6 +1,6 @@
 -- The functions of a module at the one to which a loop has come.
-use Rattle.std.proofs.Common.{◌≡◌, ℕ, ◌+◌, ◌<◌, ◌≤◌, ◌^◌, List, [], ◌∷◌, ◌++◌, Option, length, get_or, drop, sym, ap, ◌∙◌, append_assoc, append-nil, add_assoc, arith}
-use Rattle.std.proofs.Math.Path.{ap₂}
+use Rattle.std.proofs.Common.{◌≡◌, ℕ, suc, ◌+◌, ◌<◌, ◌≤◌, ◌^◌, List, [], ◌∷◌, ◌++◌, Option, length, get_or, drop, sym, ap, ◌∙◌, append_assoc, append-nil, add_assoc, arith}
+use Rattle.std.proofs.Math.Path.{ap₂, fun_ext}
 use Rattle.std.proofs.lemmas.List.{drop_all}
 use Rattle.ms_ir.specs.declared.syntax.Name.{Name}
 use Rattle.ms_ir.specs.declared.syntax.Func.{Func}
@@ -32,15 +32,21 @@ module _ (func : Name → Option ℕ) where
       below_sum a b c total limit e l = omega (arith, e, l)
 
 module _ (given : Given) where
-  pub funcs_next : (counts next : Counts) (done more whole : List Func) (funcs : List Func) (i : ℕ) (f : Func) → i < length funcs → f ≡ get_or funcs i f
-      → next ≡ past_blocks given.func counts f.blocks → more ≡ done ++ passed_func given (here_of counts (name_eq f.name main_name)) f ∷ []
-      → done ++ passed_funcs given counts (drop i funcs) ≡ whole → more ++ passed_funcs given next (drop (i + 1) funcs) ≡ whole
-  funcs_next counts next done more whole funcs i f below is behind pushed before =
-      let own = passed_func given (here_of counts (name_eq f.name main_name)) f in
-      ap₂ (λ l k. l ++ k) pushed (ap (λ n. passed_funcs given n (drop (i + 1) funcs)) behind)
-      ∙ append_assoc done (own ∷ []) (passed_funcs given (past_blocks given.func counts f.blocks) (drop (i + 1) funcs))
-      ∙ ap (λ l. done ++ passed_funcs given counts l) (sym (drop_item funcs i f below is)) ∙ before
+  pub funcs_next : (clean : ℕ → List Name) (counts next : Counts) (done more whole : List Func) (funcs : List Func) (i : ℕ) (f : Func) → i < length funcs → f ≡ get_or funcs i f
+      → next ≡ past_blocks given.func counts f.blocks → more ≡ done ++ passed_func given (clean i) (here_of counts (name_eq f.name main_name)) f ∷ []
+      → done ++ passed_funcs given (λ k. clean (i + k)) counts (drop i funcs) ≡ whole → more ++ passed_funcs given (λ k. clean (i + 1 + k)) next (drop (i + 1) funcs) ≡ whole
+  funcs_next clean counts next done more whole funcs i f below is behind pushed before =
+      let own = passed_func given (clean i) (here_of counts (name_eq f.name main_name)) f in
+      let rest : (ℕ → List Name) → List Func = λ c. passed_funcs given c (past_blocks given.func counts f.blocks) (drop (i + 1) funcs) in
+      let later : (λ k. clean (i + 1 + k)) ≡ (λ k. clean (i + suc k)) = fun_ext (λ k. let same : i + 1 + k ≡ i + suc k = omega arith in ap clean same) in
+      ap₂ (λ l k. l ++ k) pushed (ap (λ n. passed_funcs given (λ k. clean (i + 1 + k)) n (drop (i + 1) funcs)) behind ∙ ap rest later)
+      ∙ append_assoc done (own ∷ []) (rest (λ k. clean (i + suc k)))
+      ∙ ap (λ c. done ++ passed_func given (clean c) (here_of counts (name_eq f.name main_name)) f ∷ rest (λ k. clean (i + suc k))) (add_zero i)
+      ∙ ap (λ l. done ++ passed_funcs given (λ k. clean (i + k)) counts l) (sym (drop_item funcs i f below is)) ∙ before
+    where
+      add_zero : (n : ℕ) → n ≡ n + 0
+      add_zero n = omega arith
 
-  pub funcs_end : (counts : Counts) (done whole : List Func) (funcs : List Func) (i : ℕ) → length funcs ≤ i → done ++ passed_funcs given counts (drop i funcs) ≡ whole → done ≡ whole
-  funcs_end counts done whole funcs i past before =
-      sym (append-nil done) ∙ ap (λ l. done ++ passed_funcs given counts l) (sym (drop_all i funcs past)) ∙ before
+  pub funcs_end : (clean : ℕ → List Name) (counts : Counts) (done whole : List Func) (funcs : List Func) (i : ℕ) → length funcs ≤ i → done ++ passed_funcs given clean counts (drop i funcs) ≡ whole → done ≡ whole
+  funcs_end clean counts done whole funcs i past before =
+      sym (append-nil done) ∙ ap (λ l. done ++ passed_funcs given clean counts l) (sym (drop_all i funcs past)) ∙ before

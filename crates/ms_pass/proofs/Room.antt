@@ -1,6 +1,6 @@
 -- There are numbers for all inserted results of a function.
 use Rattle.std.proofs.Common.{◌≡◌, ℕ, ◌+◌, ◌*◌, ◌<◌, ◌≤◌, ◌^◌, Bool, true, List, [], ◌∷◌, Option, Some, None, length, map, sym, ap, subst, ◌∙◌, arith}
-use Rattle.std.specs.Prelude.{◌&&◌, is_some, nat_le}
+use Rattle.std.specs.Prelude.{◌&&◌, nat_le}
 use Rattle.std.specs.List.{cons_option, list_all}
 use Rattle.std.proofs.Math.Path.{ap₂}
 use Rattle.std.proofs.lemmas.Bool.{le-leb}
@@ -16,7 +16,6 @@ use Rattle.ms_ir.specs.Names.{name_eq, main_name}
 use Rattle.ms_runs.specs.World.{Here}
 use Rattle.ms_valid.specs.Formed.{count_written}
 use Rattle.ms_tasks.specs.Tasks.{Code}
-use Rattle.ms_tables.specs.FirstPlace.{first_place}
 use Rattle.ms_tasks.specs.Environments.{Env, Given}
 use Rattle.ms_pass_laws.specs.Pass.{Numbering}
 use Rattle.ms_pass_valid.proofs.CostSum.{funcs_cost, funcs_bound}
@@ -56,39 +55,35 @@ values_fit types f names same ready = let e = ap length same in fit (length name
 
 -- ---- room
 
-pub func_room : (types : Types) (given : Given) (c : Counts) (f : Func) → IsReady types f →
-    let names = value_names f in let start = entry (env_by names) (first_number (length names)) f.params in
-    start.next + over_blocks count_written (with_blocks given (env_by names) (here_of c (name_eq f.name main_name)) f.blocks start) < 2 ^ 40
-func_room types given c f ready =
+pub func_room : (types : Types) (given : Given) (clean : List Name) (c : Counts) (f : Func) → IsReady types f →
+    let names = value_names f in let start = entry (env_by names clean) (first_number (length names)) f.params in
+    start.next + over_blocks count_written (with_blocks given (env_by names clean) (here_of c (name_eq f.name main_name)) f.blocks start) < 2 ^ 40
+func_room types given clean c f ready =
     let names = value_names f in
-    let numbers : ℕ → Numbering = λ k. record { env = env_by names; size = length names } in
+    let numbers : ℕ → Numbering = λ k. record { env = env_by names clean; size = length names } in
     let limits : list_all (λ g. nat_le (length g.params) 100) (f ∷ []) ≡ true = ap (λ a. a && true) (le-leb (length f.params) 100 ready.params) in
     few (length names) _ _ _ _ (values_few types f ready) (funcs_cost given numbers (f ∷ []) c.site c.root limits) (funcs_bound (f ∷ [])) ready.instructions ready.operands
   where
     few : (size a b c d : ℕ) → size ≤ 100 + 2 ^ 17 → a + 0 ≤ b + 1000 * 1 → b ≡ 200 * (c + 0) + 30 * (d + 0) → c ≤ 2 ^ 17 → d ≤ 2 ^ 20 → 2 * size + 1 + a < 2 ^ 40
     few size a b c d s l e p q = omega (arith, s, l, e, p, q)
 
--- how values are numbered, and which are known to be clean, as tables have them
-abbrev pub env_seen : (names clean : List Name) → Env
-env_seen names clean = record { number = first_place names; clean = λ x. is_some (first_place clean x) }
-
-module _ (given : Given) (c : Counts) (f : Func) (names clean : List Name) (main : Bool) (params : List (Ty × Name)) (blocks : List Block) (start : Code) (named : names ≡ value_names f) (none : clean ≡ [])
-    (mains : main ≡ name_eq f.name main_name) (given_params : params ≡ f.params) (blocked : blocks ≡ f.blocks) (started : start ≡ entry (env_seen names clean) (first_number (length names)) params) where
+module _ (given : Given) (c : Counts) (f : Func) (names clean : List Name) (main : Bool) (params : List (Ty × Name)) (blocks : List Block) (start : Code) (named : names ≡ value_names f)
+    (mains : main ≡ name_eq f.name main_name) (given_params : params ≡ f.params) (blocked : blocks ≡ f.blocks) (started : start ≡ entry (env_by names clean) (first_number (length names)) params) where
   -- what is made of them is made of the function
   seen_is : {A : Type 0} (made : Env → Here → List Block → Code → A)
-      → made (env_seen names clean) (here_of c main) blocks start
-      ≡ made (env_by (value_names f)) (here_of c (name_eq f.name main_name)) f.blocks (entry (env_by (value_names f)) (first_number (length (value_names f))) f.params)
+      → made (env_by names clean) (here_of c main) blocks start
+      ≡ made (env_by (value_names f) clean) (here_of c (name_eq f.name main_name)) f.blocks (entry (env_by (value_names f) clean) (first_number (length (value_names f))) f.params)
   seen_is {A} made =
-      let whole : List Name → List Name → Bool → List Block → Code → A = λ ns cs b bs k. made (env_seen ns cs) (here_of c b) bs k in
-      let entered : List Name → List Name → List (Ty × Name) → Code = λ ns cs ps. entry (env_seen ns cs) (first_number (length ns)) ps in
-      let begins = started ∙ ap (λ cs. entered names cs params) none ∙ ap₂ (λ ns ps. entered ns [] ps) named given_params in
-      ap (λ cs. whole names cs main blocks start) none ∙ ap₂ (λ ns b. whole ns [] b blocks start) named mains ∙ ap₂ (λ bs k. whole (value_names f) [] (name_eq f.name main_name) bs k) blocked begins
+      let whole : List Name → Bool → List Block → Code → A = λ ns b bs k. made (env_by ns clean) (here_of c b) bs k in
+      let entered : List Name → List (Ty × Name) → Code = λ ns ps. entry (env_by ns clean) (first_number (length ns)) ps in
+      let begins = started ∙ ap₂ entered named given_params in
+      ap₂ (λ ns b. whole ns b blocks start) named mains ∙ ap₂ (λ bs k. whole (value_names f) (name_eq f.name main_name) bs k) blocked begins
 
-  pub blocks_seen : with_blocks given (env_seen names clean) (here_of c main) blocks start
-      ≡ with_blocks given (env_by (value_names f)) (here_of c (name_eq f.name main_name)) f.blocks (entry (env_by (value_names f)) (first_number (length (value_names f))) f.params)
+  pub blocks_seen : with_blocks given (env_by names clean) (here_of c main) blocks start
+      ≡ with_blocks given (env_by (value_names f) clean) (here_of c (name_eq f.name main_name)) f.blocks (entry (env_by (value_names f) clean) (first_number (length (value_names f))) f.params)
   blocks_seen = seen_is {A = List Block} (λ env h bs k. with_blocks given env h bs k)
 
-  pub func_room_at : (types : Types) → IsReady types f → start.next + over_blocks count_written (with_blocks given (env_seen names clean) (here_of c main) blocks start) < 2 ^ 40
+  pub func_room_at : (types : Types) → IsReady types f → start.next + over_blocks count_written (with_blocks given (env_by names clean) (here_of c main) blocks start) < 2 ^ 40
   func_room_at types ready =
       let P : ℕ → Type 0 = λ n. n < 2 ^ 40 in
-      subst P (sym (seen_is {A = ℕ} (λ env h bs k. k.next + over_blocks count_written (with_blocks given env h bs k)))) (func_room types given c f ready)
+      subst P (sym (seen_is {A = ℕ} (λ env h bs k. k.next + over_blocks count_written (with_blocks given env h bs k)))) (func_room types given clean c f ready)

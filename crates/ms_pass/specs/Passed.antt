@@ -1,5 +1,5 @@
 -- The parts of an instrumented module, as they are built.
-use Rattle.std.specs.Prelude.{ℕ, ◌+◌, ◌*◌, false, List, [], ◌∷◌, ◌++◌, length}
+use Rattle.std.specs.Prelude.{ℕ, suc, ◌+◌, ◌*◌, List, [], ◌∷◌, ◌++◌, length, is_some, slice_index_or}
 use Rattle.ms_ir.specs.declared.syntax.Name.{Name}
 use Rattle.ms_ir.specs.declared.syntax.Inst.{Inst}
 use Rattle.ms_ir.specs.declared.syntax.Block.{Block}
@@ -20,9 +20,13 @@ use Rattle.ms_pass.specs.declared.counts.Counts.{Counts}
 use Rattle.ms_pass.specs.Counted.{here_of, past_blocks}
 use Rattle.ms_rules.specs.Valued.{value_names}
 
--- values are numbered by the first place of their name, and none is known to be clean
-abbrev pub env_by : List Name → Env
-env_by names = record { number = first_place names; clean = λ x. false }
+-- values are numbered by the first place of their name, and those with some names are known to be clean
+abbrev pub env_by : (names clean : List Name) → Env
+env_by names clean = record { number = first_place names; clean = λ x. is_some (first_place clean x) }
+
+-- the names for the function with a number, where each function has a list of them
+abbrev pub names_in : List (List Name) → ℕ → List Name
+names_in sets k = slice_index_or sets k []
 
 -- code with instructions behind it, each between its lists
 abbrev pub with_insts : Given → Env → Here → List Inst → Code → Code
@@ -41,13 +45,16 @@ abbrev pub entry : Env → ℕ → List (Ty × Name) → Code
 entry env n params = record { code = entry_code env params n; next = n }
 
 -- the instrumented form of a function whose values are numbered in text order
-abbrev pub passed_func : Given → Here → Func → Func
-passed_func given h f = let names = value_names f in record f { blocks = with_blocks given (env_by names) h f.blocks (entry (env_by names) (first_number (length names)) f.params) }
+abbrev pub passed_func : Given → (clean : List Name) → Here → Func → Func
+passed_func given clean h f =
+    let names = value_names f in
+    record f { blocks = with_blocks given (env_by names clean) h f.blocks (entry (env_by names clean) (first_number (length names)) f.params) }
 
 -- the instrumented form of functions
-abbrev pub passed_funcs : Given → Counts → List Func → List Func
-passed_funcs given c [] = []
-passed_funcs given c (f ∷ fs) = passed_func given (here_of c (name_eq f.name main_name)) f ∷ passed_funcs given (past_blocks given.func c f.blocks) fs
+abbrev pub passed_funcs : Given → (clean : ℕ → List Name) → Counts → List Func → List Func
+passed_funcs given clean c [] = []
+passed_funcs given clean c (f ∷ fs) =
+    passed_func given (clean 0) (here_of c (name_eq f.name main_name)) f ∷ passed_funcs given (λ k. clean (suc k)) (past_blocks given.func c f.blocks) fs
 
 -- what is looked up in a module
 abbrev pub given_by : Types → List Name → Given
@@ -57,11 +64,11 @@ given_by types functions = record { types = types; func = first_place functions 
 abbrev pub no_counts : Counts
 no_counts = record { site = 1; root = 0 }
 
--- the instrumented form of a module
-abbrev pub passed_module : Module → Module
-passed_module m = record {
+-- the instrumented form of a module, where each function has a list of names of values that are known to be clean
+abbrev pub passed_module : List (List Name) → Module → Module
+passed_module clean m = record {
   types = m.types;
   globals = m.globals ++ slot_globals;
   decls = m.decls ++ runtime_declarations;
-  funcs = passed_funcs (given_by m.types (function_names m)) no_counts m.funcs;
+  funcs = passed_funcs (given_by m.types (function_names m)) (names_in clean) no_counts m.funcs;
 }

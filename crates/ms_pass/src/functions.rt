@@ -4,12 +4,13 @@ ghost use Rattle.ms_ir.specs.Names.{name_eq, main_name};
 ghost use Rattle.ms_tables.specs.FirstPlace.{first_place};
 ghost use Rattle.ms_rules.specs.Scopes.{env_of};
 ghost use Rattle.ms_pass.specs.Counted.{here_of, past_blocks, past_funcs, AreSmall};
-ghost use Rattle.ms_pass.specs.Passed.{entry, first_number, given_by, passed_func, passed_funcs};
+ghost use Rattle.ms_pass.specs.Passed.{entry, first_number, given_by, names_in, passed_func, passed_funcs};
 ghost use Rattle.ms_pass.specs.Ready.{IsReady};
 
 use crate::blocks::passed_blocks;
 use crate::counts::Counts;
 use ms_bits::{Duplicate, List, NoMemory};
+use ms_elide::CleanSet;
 use ms_ir::{Block, Func, Name, Ty};
 use ms_rules::{Scope, push_parameters, values_of};
 use ms_rules_code::Code;
@@ -26,26 +27,27 @@ fn entry_of(alloc: Global, scope: &Scope<'_, '_>, params: &[(Ty, Name)]) -> Resu
     Ok(code)
 }
 
-/// The blocks of the instrumented form of a function. The counts become those behind it.
+/// The blocks of the instrumented form of a function, where the values with some names are known to be clean. The counts
+/// become those behind it.
 fn blocks_in<'m>(
     alloc: Global,
     extents: &Extents<'m>,
     functions: &NameTable<'m>,
+    clean: &NameTable<'m>,
     counts: &mut Counts,
     func: &'m Func,
 ) -> Result<List<Block>, NoMemory>
     requires ready { IsReady extents.now func.now }
     requires small { AreSmall (past_blocks (first_place functions.now) counts.old func.now.blocks) }
-    ensures blocks { IfOk result (λ bs. bs ≡ (passed_func (given_by extents.now functions.now) (here_of counts.old (name_eq func.now.name main_name)) func.now).blocks) }
+    ensures blocks { IfOk result (λ bs. bs ≡ (passed_func (given_by extents.now functions.now) clean.now (here_of counts.old (name_eq func.now.name main_name)) func.now).blocks) }
     ensures counts { OnOk result (counts.new ≡ past_blocks (first_place functions.now) counts.old func.now.blocks) }
 {
     let values = values_of(alloc, func)?;
-    let clean = NameTable::new(alloc);
     let scope = Scope {
         extents,
         functions,
         values: &values,
-        clean: &clean,
+        clean,
         main: func.name.is(b"main"),
     };
     let start = entry_of(alloc, &scope, func.params.as_slice())?;
@@ -73,35 +75,48 @@ fn push_func<'m>(
     done: &mut Vec<Func>,
     extents: &Extents<'m>,
     functions: &NameTable<'m>,
+    clean: &NameTable<'m>,
     counts: &mut Counts,
     func: &'m Func,
 ) -> Result<(), NoMemory>
     requires ready { IsReady extents.now func.now }
     requires small { AreSmall (past_blocks (first_place functions.now) counts.old func.now.blocks) }
-    ensures func { OnOk result (done.new.items ≡ done.old.items ++ passed_func (given_by extents.now functions.now) (here_of counts.old (name_eq func.now.name main_name)) func.now ∷ []) }
+    ensures func { OnOk result (done.new.items ≡ done.old.items ++ passed_func (given_by extents.now functions.now) clean.now (here_of counts.old (name_eq func.now.name main_name)) func.now ∷ []) }
     ensures counts { OnOk result (counts.new ≡ past_blocks (first_place functions.now) counts.old func.now.blocks) }
 {
-    let blocks = blocks_in(alloc, extents, functions, counts, func)?;
+    let blocks = blocks_in(alloc, extents, functions, clean, counts, func)?;
     done.push(with_blocks(alloc, func, blocks)?)?;
     Ok(())
 }
 
-/// The instrumented form of functions, where so many sites and roots stand before them. The one error is want of memory.
+/// The instrumented form of functions, where so many sites and roots stand before them, and `clean` has the clean values of
+/// each. The one error is want of memory.
 pub fn passed_funcs<'m>(
     alloc: Global,
     extents: &Extents<'m>,
     functions: &NameTable<'m>,
+    clean: &CleanSet<'m>,
     start: Counts,
     funcs: &'m [Func],
 ) -> Result<List<Func>, NoMemory>
+    requires sets { length clean.now ≡ length funcs.now }
     requires ready { All (IsReady extents.now) funcs.now }
     requires small { AreSmall (past_funcs (first_place functions.now) start funcs.now) }
-    ensures { IfOk result (λ fs. fs ≡ passed_funcs (given_by extents.now functions.now) start funcs.now) }
+    ensures { IfOk result (λ fs. fs ≡ passed_funcs (given_by extents.now functions.now) (names_in clean.now) start funcs.now) }
 {
     let mut counts = start;
     let mut done = Vec::with_capacity(alloc, funcs.len())?;
-    for func in funcs {
-        push_func(alloc, &mut done, extents, functions, &mut counts, func)?;
+    for index in 0..funcs.len() {
+        let names = clean.names(index);
+        push_func(
+            alloc,
+            &mut done,
+            extents,
+            functions,
+            names,
+            &mut counts,
+            &funcs[index],
+        )?;
     }
     Ok(List::from_vec(done))
 }

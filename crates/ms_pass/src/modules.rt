@@ -1,15 +1,16 @@
 //! The instrumented form of a module, from its parts.
-ghost use Rattle.std.specs.Prelude.{◌≡◌, ◌++◌, All, IfOk};
+ghost use Rattle.std.specs.Prelude.{◌≡◌, ◌++◌, All, length, IfOk};
 ghost use Rattle.ms_ir.specs.Locals.{function_names};
 ghost use Rattle.ms_ir.specs.Signatures.{slot_globals, runtime_declarations};
 ghost use Rattle.ms_tables.specs.FirstPlace.{first_place};
 ghost use Rattle.ms_pass.specs.Counted.{past_funcs, AreSmall};
-ghost use Rattle.ms_pass.specs.Passed.{given_by, no_counts, passed_funcs, passed_module};
+ghost use Rattle.ms_pass.specs.Passed.{given_by, names_in, no_counts, passed_funcs, passed_module};
 ghost use Rattle.ms_pass.specs.Ready.{IsReady};
 
 use crate::counts::Counts;
 use crate::functions::passed_funcs;
 use ms_bits::{Duplicate, List, NoMemory};
+use ms_elide::CleanSet;
 use ms_ir::{Decl, Func, GlobalVar, Module, runtime_declarations, slot_globals};
 use ms_tables::{Extents, functions_of};
 use std::alloc::Global;
@@ -50,28 +51,42 @@ fn declarations_of(alloc: Global, m: &Module) -> Result<List<Decl>, NoMemory>
     joined(alloc, m.decls.as_slice(), runtime.as_slice())
 }
 
-/// The instrumented form of the functions of a module.
-fn funcs_of(alloc: Global, m: &Module) -> Result<List<Func>, NoMemory>
+/// The instrumented form of the functions of a module with these clean values.
+fn funcs_of<'m>(alloc: Global, m: &'m Module, clean: &CleanSet<'m>) -> Result<List<Func>, NoMemory>
+    requires sets { length clean.now ≡ length m.now.funcs }
     requires ready { All (IsReady m.now.types) m.now.funcs }
     requires small { AreSmall (past_funcs (first_place (function_names m.now)) no_counts m.now.funcs) }
-    ensures { IfOk result (λ fs. fs ≡ passed_funcs (given_by m.now.types (function_names m.now)) no_counts m.now.funcs) }
+    ensures { IfOk result (λ fs. fs ≡ passed_funcs (given_by m.now.types (function_names m.now)) (names_in clean.now) no_counts m.now.funcs) }
 {
     let extents = Extents::of(alloc, m)?;
     let functions = functions_of(alloc, m)?;
     let start = Counts { site: 1, root: 0 };
-    passed_funcs(alloc, &extents, &functions, start, m.funcs.as_slice())
+    passed_funcs(
+        alloc,
+        &extents,
+        &functions,
+        clean,
+        start,
+        m.funcs.as_slice(),
+    )
 }
 
-/// The instrumented form of a module whose functions can be instrumented. The one error is want of memory.
-pub fn passed_module(alloc: Global, m: &Module) -> Result<Module, NoMemory>
+/// The instrumented form of a module with these clean values, whose functions can be instrumented. The one error is want of
+/// memory.
+pub fn passed_module<'m>(
+    alloc: Global,
+    m: &'m Module,
+    clean: &CleanSet<'m>,
+) -> Result<Module, NoMemory>
+    requires sets { length clean.now ≡ length m.now.funcs }
     requires ready { All (IsReady m.now.types) m.now.funcs }
     requires small { AreSmall (past_funcs (first_place (function_names m.now)) no_counts m.now.funcs) }
-    ensures { IfOk result (λ j. j ≡ passed_module m.now) }
+    ensures { IfOk result (λ j. j ≡ passed_module clean.now m.now) }
 {
     let types = m.types.copy(alloc)?;
     let globals = globals_of(alloc, m)?;
     let decls = declarations_of(alloc, m)?;
-    let funcs = funcs_of(alloc, m)?;
+    let funcs = funcs_of(alloc, m, clean)?;
     Ok(Module {
         types,
         globals,

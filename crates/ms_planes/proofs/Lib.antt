@@ -1,7 +1,12 @@
-pub mod Ranges
 pub mod Numbers
-pub mod Rounds
-pub mod Shown
 pub mod Reaches
-pub mod Changes
-pub mod Grows
+pub mod Ranges
+pub mod Shown
+pub mod Lists
+pub mod Rounds
+pub mod Found
+pub mod Standing
+pub mod Readings
+pub mod Stores
+pub mod Histories
+pub mod Copied

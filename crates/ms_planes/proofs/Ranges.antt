@@ -176,6 +176,14 @@ copy-skip shadow old f t s n k l none =
     (sym (ap (λ b. if b then f else with_cell f (t + k) (old ((s + k) / 4))) (eq-eqb (shadow (s + k)) 0 none)))
     ∙ sym (copied-step shadow old f t s n k l)
 
+-- clean bytes bring no origin
+pub copy-clean : (shadow old f : ℕ → ℕ) (t s n : ℕ) → ((k : ℕ) → k < n → shadow (s + k) ≡ 0) → copied_cells shadow old t s n f ≡ f
+copy-clean shadow old f t s zero clean = refl
+copy-clean shadow old f t s (suc n) clean =
+    let first : shadow s ≡ 0 = ap shadow (let e : s ≡ s + 0 = omega arith in e) ∙ clean 0 (omega arith) in
+    ap (λ b. copied_cells shadow old (t + 1) (s + 1) n (if b then f else with_cell f t (old (s / 4)))) (eq-eqb (shadow s) 0 first)
+    ∙ copy-clean shadow old f (t + 1) (s + 1) n (λ k l. ap shadow (let e : s + 1 + k ≡ s + suc k = omega arith in e) ∙ clean (suc k) (omega (arith, l)))
+
 -- a map that differs in a range alone
 pub range-outside : (f h : ℕ → ℕ) (a n : ℕ) → ((x : ℕ) → x < a → h x ≡ f x) → ((x : ℕ) → a + n ≤ x → h x ≡ f x) → h ≡ with_range f a n (λ k. h (a + k))
 range-outside f h a n low high =

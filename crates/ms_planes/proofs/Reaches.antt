@@ -1,21 +1,26 @@
--- A good range stands in the planes.
-use Rattle.std.proofs.Common.{◌≡◌, ◌≢◌, ℕ, ◌+◌, ◌-◌, ◌*◌, ◌/◌, ◌%◌, ◌^◌, ◌<◌, ◌≤◌, true, false, List, [], ◌∷◌, ◌++◌, length, get_or, map, refl, sym, ap, ◌∙◌, subst, arith, ◌⊎◌, inl, inr, ⊎_elim, is_some, Option, Some, None, cond, leb, eqb, ◌&&◌, IsTrue, Result, Ok, Err, OnOk, OnErr}
+-- A good range lies within what the allocations of its area take.
+use Rattle.std.proofs.Common.{◌≡◌, ℕ, ◌+◌, ◌-◌, ◌*◌, ◌/◌, ◌%◌, ◌^◌, ◌<◌, ◌≤◌, true, false, List, [], ◌∷◌, ◌++◌, get_or, refl, sym, ap, ◌∙◌, arith, ◌⊎◌, inl, inr, ⊎_elim, is_some, Option, Some, None, cond, leb, eqb, ltb, ◌&&◌, IsTrue, if◌then◌else◌}
 use Rattle.std.specs.List.{find}
 use Rattle.std.specs.Option.{option_or}
-use Rattle.std.proofs.lemmas.Bool.{and_parts, or_cases, leb-true, eqb-true, cases_Bool, cases_lt}
+use Rattle.std.proofs.lemmas.Bool.{and_parts, or_cases, leb-true, eqb-true, cases_Bool, le-ltb}
 use Rattle.std.proofs.lemmas.List.Folds.{find-append}
-use Rattle.std.proofs.lemmas.List.{length-map}
-use Rattle.std.proofs.Math.ListN.{get_or-map}
 use Rattle.ms_alloc.specs.declared.kinds.AllocKind.{AllocKind}
 use Rattle.ms_alloc.specs.declared.kinds.AllocKind.TheVariants.{Fixed, Heap, Stack}
 use Rattle.ms_alloc.specs.declared.allocations.Allocation.{Allocation}
 use Rattle.ms_alloc.specs.Layout.{room, area_base}
 use Rattle.ms_alloc.specs.Allocations.{Allocations, IsRow, IsArea, IsLaidOut, used, covers, listed, is_good}
-use Rattle.ms_bits.specs.Maps.{with_range}
-use Rattle.ms_planes.specs.Areas.{area_of, cell_area, bytes_shown, cells_shown, HasBytes, HasCells}
-use Rattle.ms_planes.specs.Memory.{Memory, taken, IsBytePlane, IsCellPlane}
-use Rattle.ms_planes.proofs.Ranges.{range-low, range-high}
-use Rattle.ms_planes.proofs.Shown.{IsTold, area_at, cell-at, bytes-told, cells-told}
+
+-- the areas begin 2^40 bytes apart, and stand in this order
+abbrev pub area_of : ℕ → ℕ
+area_of addr = if ltb addr (0x70 * 2 ^ 40) then 3 else addr / 2 ^ 40 - 0x70
+
+-- what the allocations of each area take
+abbrev pub taken : Allocations → List ℕ
+taken t = used t.fixed ∷ used t.heap ∷ used t.stack ∷ []
+
+-- which area an address has
+area_at : (x : ℕ) → 0x70 * 2 ^ 40 ≤ x → area_of x ≡ x / 2 ^ 40 - 0x70
+area_at x low = ap (λ b. if b then 3 else x / 2 ^ 40 - 0x70) (le-ltb x (0x70 * 2 ^ 40) low)
 
 -- a range of at least one byte within what is taken
 pub record Reaches (sizes : List ℕ) (addr n : ℕ) : Type 0 where
@@ -90,86 +95,3 @@ good-reaches t addr n laid some good =
       where
         here : get_or (taken t) (area_of addr) 0 ≡ u
         here = ap (λ (j : ℕ). get_or (taken t) j 0) at ∙ is
-
-pub has-bytes : (s : List ℕ) (p : List (List ℕ)) (addr n : ℕ) → Reaches s addr n → IsBytePlane s p → HasBytes p addr n
-has-bytes s p addr n r plane = record {
-  some = r.some;
-  low = r.low;
-  area = r.area;
-  within = omega (arith, r.within, plane.enough (area_of addr));
-  apart = omega (arith, r.within, r.apart);
-}
-
--- the cells that a range touches
-pub has-cells : (s : List ℕ) (p : List (List ℕ)) (addr n cell m : ℕ) → Reaches s addr n → IsCellPlane s p → cell ≡ addr / 4 → cell + m ≡ (addr + n - 1) / 4 + 1 → HasCells p cell m
-has-cells s p addr n cell m r plane at to =
-    let low : 0x70 * 2 ^ 38 ≤ cell = omega (arith, r.low, at) in
-    let same : cell_area cell ≡ area_of addr = cell-at cell low ∙ (let e : cell / 2 ^ 38 - 0x70 ≡ addr / 2 ^ 40 - 0x70 = omega (arith, at) in e) ∙ sym (area_at addr r.low) in
-    let rows : length (get_or p (cell_area cell) []) ≡ length (get_or p (area_of addr) []) = ap (λ (i : ℕ). length (get_or p i [])) same in
-    let place : cell % 2 ^ 38 ≡ addr % 2 ^ 40 / 4 = omega (arith, at) in
-    record {
-      some = omega (arith, at, to, r.some);
-      low = low;
-      area = omega (arith, r.area, at);
-      within = omega (arith, rows, place, at, to, r.within, r.even, r.some, plane.enough (area_of addr));
-      apart = omega (arith, place, at, to, r.within, r.apart, r.some);
-    }
-
--- lengths that are kept
-pub size-same : (p q : List (List ℕ)) → map length q ≡ map length p → (i : ℕ) → length (get_or q i []) ≡ length (get_or p i [])
-size-same p q e i = sym (at q) ∙ ap (λ (s : List ℕ). get_or s i 0) e ∙ at p
-  where
-    at : (r : List (List ℕ)) → get_or (map length r) i 0 ≡ length (get_or r i [])
-    at [] = refl
-    at (a ∷ as') = get_or-map (λ (l : List ℕ). length l) (a ∷ as') i []
-
--- a write within what is taken keeps a plane
-pub bytes-written : (s : List ℕ) (p q : List (List ℕ)) (addr n : ℕ) (g : ℕ → ℕ) → IsBytePlane s p → Reaches s addr n →
-    bytes_shown q ≡ with_range (bytes_shown p) addr n g → map length q ≡ map length p → IsBytePlane s q
-bytes-written s p q addr n g plane r is sizes = record {
-  three = sym (length-map q (λ (l : List ℕ). length l)) ∙ ap (λ (l : List ℕ). length l) sizes ∙ length-map p (λ (l : List ℕ). length l) ∙ plane.three;
-  enough = λ i. omega (arith, plane.enough i, size-same p q sizes i);
-  blank = λ x beyond. ap (λ (h : ℕ → ℕ). h x) is ∙ ⊎_elim
-      (λ (low : x < addr). range-low (bytes_shown p) g addr n x low ∙ plane.blank x beyond)
-      (λ (low : addr ≤ x). ⊎_elim
-      (λ (high : x < addr + n).
-      let told : IsTold area_of (λ y. y % 2 ^ 40) addr n = bytes-told p addr n (has-bytes s p addr n r plane) in
-      let same : area_of x ≡ area_of addr = told.areas x low high in
-      let size : get_or s (area_of x) 0 ≡ get_or s (area_of addr) 0 = ap (λ (i : ℕ). get_or s i 0) same in
-      absurd (omega (arith, told.offsets x same, size, r.within)))
-      (λ (high : addr + n ≤ x). range-high (bytes_shown p) g addr n x high ∙ plane.blank x beyond)
-      (cases_lt x (addr + n)))
-      (cases_lt x addr);
-}
-
-pub cells-written : (s : List ℕ) (p q : List (List ℕ)) (addr n cell m : ℕ) (g : ℕ → ℕ) → IsCellPlane s p → Reaches s addr n → cell ≡ addr / 4 → cell + m ≡ (addr + n - 1) / 4 + 1 →
-    cells_shown q ≡ with_range (cells_shown p) cell m g → map length q ≡ map length p → IsCellPlane s q
-cells-written s p q addr n cell m g plane r at to is sizes = record {
-  three = sym (length-map q (λ (l : List ℕ). length l)) ∙ ap (λ (l : List ℕ). length l) sizes ∙ length-map p (λ (l : List ℕ). length l) ∙ plane.three;
-  enough = λ i. omega (arith, plane.enough i, size-same p q sizes i);
-  blank = λ x beyond. ap (λ (h : ℕ → ℕ). h x) is ∙ ⊎_elim
-      (λ (low : x < cell). range-low (cells_shown p) g cell m x low ∙ plane.blank x beyond)
-      (λ (low : cell ≤ x). ⊎_elim
-      (λ (high : x < cell + m).
-      let has : HasCells p cell m = has-cells s p addr n cell m r plane at to in
-      let told : IsTold cell_area (λ y. y % 2 ^ 38) cell m = cells-told p cell m has in
-      let same : cell_area x ≡ cell_area cell = told.areas x low high in
-      let area : cell_area cell ≡ area_of addr = cell-at cell has.low ∙ (let e : cell / 2 ^ 38 - 0x70 ≡ addr / 2 ^ 40 - 0x70 = omega (arith, at) in e) ∙ sym (area_at addr r.low) in
-      let size : get_or s (cell_area x) 0 ≡ get_or s (area_of addr) 0 = ap (λ (i : ℕ). get_or s i 0) (same ∙ area) in
-      let place : cell % 2 ^ 38 ≡ addr % 2 ^ 40 / 4 = omega (arith, at) in
-      absurd (omega (arith, told.offsets x same, size, place, at, to, r.within, r.even, r.some)))
-      (λ (high : cell + m ≤ x). range-high (cells_shown p) g cell m x high ∙ plane.blank x beyond)
-      (cases_lt x (cell + m)))
-      (cases_lt x cell);
-}
-
--- what a call that asks for a good range knows
-pub reach : (t : Allocations) (v : Memory) (addr n : ℕ) → t ≡ v.table → IsLaidOut t → n ≢ 0 → IsTrue (is_good addr n v.table) → Reaches (taken t) addr n
-reach t v addr n same laid some good =
-    good-reaches t addr n laid (omega arith) (subst (λ (u : Allocations). IsTrue (is_good addr n u)) (sym same) good)
-
--- a copy keeps a plane, whether it was made or not
-pub bytes-copied : {A E : Type 0} (r : Result A E) (s : List ℕ) (p q : List (List ℕ)) (addr n : ℕ) (g : ℕ → ℕ) → IsBytePlane s p → Reaches s addr n →
-    OnOk r (bytes_shown q ≡ with_range (bytes_shown p) addr n g) → map length q ≡ map length p → OnErr r (q ≡ p) → IsBytePlane s q
-bytes-copied (Ok x) s p q addr n g plane r made sizes same = bytes-written s p q addr n g plane r made sizes
-bytes-copied (Err e) s p q addr n g plane r made sizes same = subst (IsBytePlane s) (sym same) plane

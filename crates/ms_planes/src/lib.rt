@@ -2,9 +2,9 @@
 //! four bytes, an origin.
 #![tactic(auto)]
 
-mod bytes;
-mod cells;
-mod fills;
+mod copies;
+mod origins;
+mod parts;
 mod planes;
 pub mod words;
 

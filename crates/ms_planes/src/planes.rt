@@ -1,45 +1,83 @@
 //! The planes.
-ghost use Rattle.std.specs.Prelude.{◌≡◌, ◌≤◌, ◌<◌, ◌+◌, ◌/◌, Some, None, IsTrue, IsErr, ◌↔◌, OnOk, OnErr, IfOk, IsErrOf, option_map, eqb, length, get_or, if◌then◌else◌};
+ghost use Rattle.std.specs.Prelude.{◌≡◌, ◌≢◌, ◌≤◌, ◌<◌, ◌+◌, ◌/◌, Some, None, IsTrue, IsErr, ◌↔◌, OnOk, OnErr, IfOk, IsErrOf, option_map, eqb, length, get_or, if◌then◌else◌, [], option_copied};
 ghost use Rattle.ms_bits.specs.Fill.{made_byte};
 ghost use Rattle.ms_bits.specs.Maps.{with_range, byte_of, number_at, first_nonzero, copied, with_cells, with_cell, copied_cells};
 ghost use Rattle.ms_alloc.specs.declared.kinds.AllocKind.TheVariants.{Stack};
 ghost use Rattle.ms_alloc.specs.Layout.{room, area_limit};
 ghost use Rattle.ms_alloc.specs.Allocations.{no_allocations, next_base, used, of_kind, with_made, with_ended, without_from, is_good, block_of, heap_size, IsLaidOut};
+ghost use Rattle.ms_planes.specs.Memory.{area_index as index_of};
 
-use crate::bytes::BytePlane;
-use crate::cells::CellPlane;
-use ms_alloc::{AllocError, AllocKind, BadFree, Table, room_of};
+use crate::copies::{copy_into, copy_within};
+use crate::origins::fill_origins;
+use crate::parts::{Part, fill_into, first_marked, number, paste, put_made};
+use ms_alloc::{AllocError, AllocKind, BadFree, Place, Table};
 use ms_bits::NoMemory;
+use ms_raw::Block;
 use std::alloc::Global;
+use std::fmt;
 use std::marker::Model;
+
+/// The number of areas.
+const AREAS: usize = 3;
+
+/// The place of an area among the three.
+fn area_of(kind: AllocKind) -> usize
+    ensures { result ≡ index_of kind }
+{
+    match kind {
+        AllocKind::Fixed => 0,
+        AllocKind::Heap => 1,
+        AllocKind::Stack => 2,
+    }
+}
+
+/// Frees a block.
+fn free(slot: &mut Option<Block>)
+    ensures { slot.new ≡ None }
+{
+    *slot = None;
+}
+
+/// Puts a block back that was taken out.
+fn put_back(slot: &mut Option<Block>, block: Option<Block>)
+    ensures { slot.new ≡ block }
+{
+    *slot = block;
+}
 
 /// The memory of a run. Contracts see the table of allocations and three maps: bytes and shadow bytes by address,
 /// origins by cell, which is the address divided by 4.
 ///
 /// A range is good where it has no bytes, or where all its bytes lie in one live allocation. Calls that read or
 /// write a range ask that it is good.
-#[derive(Debug, Drop)]
+#[derive(Drop)]
 pub struct Planes {
     alloc: Global,
     table: Table,
-    bytes: BytePlane,
-    shadow: BytePlane,
-    origins: CellPlane,
+    /// For each area a block for each of its allocations, in the order of the table; none for one that has ended.
+    areas: [Vec<Option<Block>>; AREAS],
 }
 
 impl Model for Planes {
-    ghost use Rattle.ms_planes.specs.Areas.{lists};
-    ghost use Rattle.ms_planes.specs.Memory.{Memory, IsMemory};
+    ghost use Rattle.ms_planes.specs.Memory.{Memory, IsMemory, lists};
 
     ghost Value = { Memory };
 
-    ghost view = { λ p. record { table = p.table; bytes = lists p.bytes.areas; shadow = lists p.shadow.areas; origins = lists p.origins.areas } };
+    ghost view = { λ p. record { table = p.table; blocks = lists p.areas } };
 
-    ghost invariant = { λ p. IsMemory (record { table = p.table; bytes = lists p.bytes.areas; shadow = lists p.shadow.areas; origins = lists p.origins.areas }) };
+    ghost invariant = { λ p. IsMemory (record { table = p.table; blocks = lists p.areas }) };
+}
+
+impl fmt::Debug for Planes {
+    fn fmt<W: fmt::Write>(&self, f: &mut fmt::Formatter<W>) -> fmt::Result {
+        self.table.fmt(f)
+    }
 }
 
 impl Planes {
-    ghost use Rattle.ms_planes.specs.Memory.{bytes_of, shadow_of, origins_of, IsSame, KeepsLive};
+    ghost use Rattle.ms_planes.specs.Memory.{bytes_of, shadow_of, origins_of, part_of, area_index, IsSame, KeepsLive, MapsCopied};
+    ghost use Rattle.ms_alloc.specs.Places.{IsPlace};
+    ghost use Rattle.ms_planes.specs.Blocks.{other};
 
     /// No allocations. Takes no memory yet.
     pub fn new(alloc: Global) -> Planes
@@ -48,9 +86,7 @@ impl Planes {
         Planes {
             alloc,
             table: Table::new(alloc),
-            bytes: BytePlane::new(alloc),
-            shadow: BytePlane::new(alloc),
-            origins: CellPlane::new(alloc),
+            areas: [Vec::new(alloc), Vec::new(alloc), Vec::new(alloc)],
         }
     }
 
@@ -70,12 +106,15 @@ impl Planes {
         if !self.table.fits(kind, size) {
             return Err(AllocError::Full);
         }
-        let base = self.table.next_base(kind);
-        let room = room_of(size);
-        self.bytes.grow(base, room)?;
-        self.shadow.grow(base, room)?;
-        self.origins.grow(base / 4, room / 4)?;
-        self.table.make(kind, size)
+        let block = Block::new(self.alloc, size)?;
+        let area = &mut self.areas[area_of(kind)];
+        let count = area.len();
+        area.push(Some(block))?;
+        let made = self.table.make(kind, size);
+        if made.is_err() {
+            area.truncate(count);
+        }
+        made
     }
 
     /// Ends the live heap block that begins at `base`, and answers its size.
@@ -88,7 +127,12 @@ impl Planes {
         ensures bad_free { IsErr result ↔ (heap_size base self.old.table ≡ None) }
         ensures unchanged { OnErr result (IsSame self.old self.new) }
     {
-        self.table.end(base)
+        let place = self.table.place_of_block(base);
+        let size = self.table.end(base)?;
+        if let Some(index) = place {
+            free(&mut self.areas[area_of(AllocKind::Heap)][index]);
+        }
+        Ok(size)
     }
 
     /// Where the next allocation of the stack begins.
@@ -104,10 +148,8 @@ impl Planes {
         ensures live { KeepsLive self.old self.new }
     {
         self.table.release(mark);
-        let top = self.table.mark();
-        self.bytes.cut(top);
-        self.shadow.cut(top);
-        self.origins.cut(top / 4);
+        let left = self.table.count(AllocKind::Stack);
+        self.areas[area_of(AllocKind::Stack)].truncate(left);
     }
 
     /// What every table of allocations has.
@@ -143,7 +185,13 @@ impl Planes {
         requires { IsTrue (is_good addr 1 self.now.table) }
         ensures { result ≡ bytes_of self.now addr }
     {
-        self.bytes.get(addr)
+        let Some(place) = self.table.place_of(addr, 1) else {
+            return 0;
+        };
+        match self.block(place) {
+            Some(block) => block.byte(addr - place.base),
+            None => 0,
+        }
     }
 
     /// The number that `n` bytes are, the least first.
@@ -152,11 +200,7 @@ impl Planes {
         requires short { n ≤ 8 }
         ensures { result ≡ number_at (bytes_of self.now) addr n }
     {
-        if n == 0 {
-            0
-        } else {
-            self.bytes.number(addr, n)
-        }
+        self.number(Part::Bytes, addr, n)
     }
 
     /// Writes the `n` low bytes of `v`, the least first.
@@ -168,9 +212,7 @@ impl Planes {
         ensures shadow { shadow_of self.new ≡ shadow_of self.old }
         ensures origins { origins_of self.new ≡ origins_of self.old }
     {
-        if n != 0 {
-            self.bytes.put(addr, n, v);
-        }
+        self.paste(Part::Bytes, addr, &v.to_le_bytes()[..usize::from(n)]);
     }
 
     /// Writes the bytes of `source` from `addr` on.
@@ -181,9 +223,7 @@ impl Planes {
         ensures shadow { shadow_of self.new ≡ shadow_of self.old }
         ensures origins { origins_of self.new ≡ origins_of self.old }
     {
-        if source.len() != 0 {
-            self.bytes.paste(addr, source);
-        }
+        self.paste(Part::Bytes, addr, source);
     }
 
     /// Makes each of `n` bytes `v`.
@@ -194,9 +234,7 @@ impl Planes {
         ensures shadow { shadow_of self.new ≡ shadow_of self.old }
         ensures origins { origins_of self.new ≡ origins_of self.old }
     {
-        if n != 0 {
-            self.bytes.fill(addr, n, v);
-        }
+        self.fill(Part::Bytes, addr, n, v);
     }
 
     /// Makes `n` bytes uninitialised: they are the bytes that a run makes of `fill`, which isn't empty, after it has made
@@ -209,8 +247,16 @@ impl Planes {
         ensures shadow { shadow_of self.new ≡ shadow_of self.old }
         ensures origins { origins_of self.new ≡ origins_of self.old }
     {
-        if n != 0 {
-            self.bytes.put_made(addr, n, fill, made);
+        if n == 0 {
+            return;
+        }
+        let Some(place) = self.table.place_of(addr, n) else {
+            return;
+        };
+        let area = &mut self.areas[area_of(place.kind)];
+        match &mut area[place.index] {
+            Some(block) => put_made(block, addr - place.base, n, fill, made),
+            None => {}
         }
     }
 
@@ -220,11 +266,7 @@ impl Planes {
         requires short { n ≤ 8 }
         ensures { result ≡ number_at (shadow_of self.now) addr n }
     {
-        if n == 0 {
-            0
-        } else {
-            self.shadow.number(addr, n)
-        }
+        self.number(Part::Shadow, addr, n)
     }
 
     /// Writes the `n` low bytes of `v` as shadow, the least first.
@@ -236,9 +278,7 @@ impl Planes {
         ensures shadow { shadow_of self.new ≡ with_range (shadow_of self.old) addr n (byte_of v) }
         ensures origins { origins_of self.new ≡ origins_of self.old }
     {
-        if n != 0 {
-            self.shadow.put(addr, n, v);
-        }
+        self.paste(Part::Shadow, addr, &v.to_le_bytes()[..usize::from(n)]);
     }
 
     /// The origin of the cell of a byte.
@@ -246,7 +286,13 @@ impl Planes {
         requires { IsTrue (is_good addr 1 self.now.table) }
         ensures { result ≡ origins_of self.now (addr / 4) }
     {
-        self.origins.get(addr / 4)
+        let Some(place) = self.table.place_of(addr, 1) else {
+            return 0;
+        };
+        match self.block(place) {
+            Some(block) => block.origin((addr - place.base) / 4),
+            None => 0,
+        }
     }
 
     /// Puts an origin into the cell of a byte.
@@ -257,7 +303,7 @@ impl Planes {
         ensures shadow { shadow_of self.new ≡ shadow_of self.old }
         ensures origins { origins_of self.new ≡ with_cell (origins_of self.old) addr origin }
     {
-        self.origins.put(addr / 4, origin);
+        self.fill_origins(addr, 1, origin);
     }
 
     /// Sets each shadow byte of a range to `mask` and, where `mask` isn't 0, each cell that the range touches to
@@ -269,14 +315,9 @@ impl Planes {
         ensures shadow { shadow_of self.new ≡ with_range (shadow_of self.old) addr n (λ k. mask) }
         ensures origins { origins_of self.new ≡ (if eqb mask 0 then origins_of self.old else with_cells (origins_of self.old) addr n origin) }
     {
-        if n == 0 {
-            return;
-        }
-        self.shadow.fill(addr, n, mask);
+        self.fill(Part::Shadow, addr, n, mask);
         if mask != 0 {
-            let first = addr / 4;
-            let last = (addr + (n - 1)) / 4;
-            self.origins.fill(first, last - first + 1, origin);
+            self.fill_origins(addr, n, origin);
         }
     }
 
@@ -288,9 +329,7 @@ impl Planes {
         ensures shadow { shadow_of self.new ≡ with_range (shadow_of self.old) addr n (λ k. 0) }
         ensures origins { origins_of self.new ≡ origins_of self.old }
     {
-        if n != 0 {
-            self.shadow.fill(addr, n, 0);
-        }
+        self.fill(Part::Shadow, addr, n, 0);
     }
 
     /// Copies `n` bytes, as they were before. The planes are as they were where memory is wanting.
@@ -303,10 +342,10 @@ impl Planes {
         ensures origins { origins_of self.new ≡ origins_of self.old }
         ensures unchanged { OnErr result (IsSame self.old self.new) }
     {
-        if n == 0 {
-            return Ok(());
+        if n != 0 {
+            self.copy(Part::Bytes, to, from, n);
         }
-        self.bytes.copy(self.alloc, to, from, n)
+        Ok(())
     }
 
     /// Gives each of `n` bytes the shadow that its source had before, and each of them whose new shadow isn't 0, in
@@ -321,15 +360,9 @@ impl Planes {
         ensures origins { OnOk result (origins_of self.new ≡ copied_cells (shadow_of self.old) (origins_of self.old) to from n (origins_of self.old)) }
         ensures unchanged { OnErr result (IsSame self.old self.new) }
     {
-        if n == 0 {
-            return Ok(());
+        if n != 0 {
+            self.copy(Part::Shadow, to, from, n);
         }
-        let shadows = self.shadow.taken(self.alloc, from, n)?;
-        let first = from / 4;
-        let last = (from + (n - 1)) / 4;
-        let cells = self.origins.taken(self.alloc, first, last - first + 1)?;
-        self.shadow.paste(to, &shadows);
-        self.origins.copy(to, from, &shadows, &cells);
         Ok(())
     }
 
@@ -339,9 +372,152 @@ impl Planes {
         ensures { option_map (λ k. addr + k) result ≡ first_nonzero (shadow_of self.now) addr n }
     {
         if n == 0 {
-            None
-        } else {
-            self.shadow.first_nonzero(addr, n)
+            return None;
         }
+        let Some(place) = self.table.place_of(addr, n) else {
+            return None;
+        };
+        match self.block(place) {
+            Some(block) => first_marked(block, addr - place.base, n),
+            None => None,
+        }
+    }
+
+    /// The block of an allocation, if it hasn't ended.
+    fn block(&self, place: Place) -> Option<&Block>
+        requires { place.index < length (get_or self.now.blocks (area_index place.kind) []) }
+        ensures { option_copied result ≡ get_or (get_or self.now.blocks (area_index place.kind) []) place.index None }
+    {
+        self.areas[area_of(place.kind)][place.index].as_ref()
+    }
+
+    /// The number that `n` bytes or shadow bytes are, the least first.
+    fn number(&self, part: Part, addr: u64, n: u8) -> u64
+        requires good { IsTrue (is_good addr n self.now.table) }
+        requires short { n ≤ 8 }
+        ensures { result ≡ number_at (part_of part self.now) addr n }
+    {
+        if n == 0 {
+            return 0;
+        }
+        let Some(place) = self.table.place_of(addr, u64::from(n)) else {
+            return 0;
+        };
+        match self.block(place) {
+            Some(block) => number(block, part, addr - place.base, n),
+            None => 0,
+        }
+    }
+
+    /// Writes the bytes of `source` from `addr` on.
+    fn paste(&mut self, part: Part, addr: u64, source: &[u8])
+        requires { IsTrue (is_good addr (length source.now) self.old.table) }
+        ensures table { self.new.table ≡ self.old.table }
+        ensures shown { part_of part self.new ≡ with_range (part_of part self.old) addr (length source.now) (λ k. get_or source.now k 0) }
+        ensures rest { part_of (other part) self.new ≡ part_of (other part) self.old }
+        ensures origins { origins_of self.new ≡ origins_of self.old }
+    {
+        if source.len() == 0 {
+            return;
+        }
+        let Some(place) = self.table.place_of(addr, source.len() as u64) else {
+            return;
+        };
+        let area = &mut self.areas[area_of(place.kind)];
+        match &mut area[place.index] {
+            Some(block) => paste(block, part, addr - place.base, source),
+            None => {}
+        }
+    }
+
+    /// Makes each of `n` bytes or shadow bytes `v`.
+    fn fill(&mut self, part: Part, addr: u64, n: u64, v: u8)
+        requires { IsTrue (is_good addr n self.old.table) }
+        ensures table { self.new.table ≡ self.old.table }
+        ensures shown { part_of part self.new ≡ with_range (part_of part self.old) addr n (λ k. v) }
+        ensures rest { part_of (other part) self.new ≡ part_of (other part) self.old }
+        ensures origins { origins_of self.new ≡ origins_of self.old }
+    {
+        if n == 0 {
+            return;
+        }
+        let Some(place) = self.table.place_of(addr, n) else {
+            return;
+        };
+        let area = &mut self.areas[area_of(place.kind)];
+        fill_into(&mut area[place.index], part, addr - place.base, n, v);
+    }
+
+    /// Puts an origin into each cell that a range touches.
+    fn fill_origins(&mut self, addr: u64, n: u64, origin: u32)
+        requires { IsTrue (is_good addr n self.old.table) }
+        ensures table { self.new.table ≡ self.old.table }
+        ensures bytes { bytes_of self.new ≡ bytes_of self.old }
+        ensures shadow { shadow_of self.new ≡ shadow_of self.old }
+        ensures origins { origins_of self.new ≡ with_cells (origins_of self.old) addr n origin }
+    {
+        if n == 0 {
+            return;
+        }
+        let Some(place) = self.table.place_of(addr, n) else {
+            return;
+        };
+        let area = &mut self.areas[area_of(place.kind)];
+        let at = addr - place.base;
+        match &mut area[place.index] {
+            Some(block) => fill_origins(block, at / 4, (at + (n - 1)) / 4 - at / 4 + 1, origin),
+            None => {}
+        }
+    }
+
+    /// Copies bytes, or shadow bytes with their origins, as they were before.
+    fn copy(&mut self, part: Part, to: u64, from: u64, n: u64)
+        requires to { IsTrue (is_good to n self.old.table) }
+        requires from { IsTrue (is_good from n self.old.table) }
+        requires some { 0 < n }
+        ensures table { self.new.table ≡ self.old.table }
+        ensures copied { MapsCopied part self.old self.new to from n }
+    {
+        let Some(target) = self.table.place_of(to, n) else {
+            return;
+        };
+        let Some(source) = self.table.place_of(from, n) else {
+            return;
+        };
+        if area_of(target.kind) == area_of(source.kind) && target.index == source.index {
+            self.copy_in(part, target, to, from, n);
+        } else {
+            self.copy_over(part, target, to, source, from, n);
+        }
+    }
+
+    /// Copies from one place of an allocation to another.
+    fn copy_in(&mut self, part: Part, place: Place, to: u64, from: u64, n: u64)
+        requires to { IsPlace place.kind (of_kind place.kind self.old.table) to n place }
+        requires from { IsPlace place.kind (of_kind place.kind self.old.table) from n place }
+        requires some { 0 < n }
+        ensures table { self.new.table ≡ self.old.table }
+        ensures copied { MapsCopied part self.old self.new to from n }
+    {
+        let area = &mut self.areas[area_of(place.kind)];
+        match &mut area[place.index] {
+            Some(block) => copy_within(block, part, to - place.base, from - place.base, n),
+            None => {}
+        }
+    }
+
+    /// Copies from one allocation to another.
+    fn copy_over(&mut self, part: Part, target: Place, to: u64, source: Place, from: u64, n: u64)
+        requires to { IsPlace target.kind (of_kind target.kind self.old.table) to n target }
+        requires from { IsPlace source.kind (of_kind source.kind self.old.table) from n source }
+        requires some { 0 < n }
+        requires apart { index_of target.kind ≡ index_of source.kind → target.index ≢ source.index }
+        ensures table { self.new.table ≡ self.old.table }
+        ensures copied { MapsCopied part self.old self.new to from n }
+    {
+        let taken = self.areas[area_of(source.kind)][source.index].take();
+        let block = &mut self.areas[area_of(target.kind)][target.index];
+        copy_into(block, part, to - target.base, &taken, from - source.base, n);
+        put_back(&mut self.areas[area_of(source.kind)][source.index], taken);
     }
 }

@@ -1,10 +1,7 @@
-//! Numbers, copies and searches in a row of bytes.
-ghost use Rattle.std.specs.Prelude.{◌≡◌, ◌≤◌, ◌+◌, ◌<◌, ℕ, length, ◌≢◌, OnOk, IfOk, IfSome, IfNone};
-ghost use Rattle.ms_bits.specs.Maps.{with_range, byte_of, number_at, copied};
+//! Numbers in a row of bytes.
+ghost use Rattle.std.specs.Prelude.{◌≡◌, ◌≤◌, ◌+◌, length};
+ghost use Rattle.ms_bits.specs.Maps.{with_range, byte_of, number_at};
 ghost use Rattle.ms_planes.specs.Areas.{held};
-
-use ms_bits::NoMemory;
-use std::alloc::Global;
 
 /// The number that two bytes from place `at` on are, the least first.
 fn two_in(bytes: &[u8], at: usize) -> u16
@@ -97,25 +94,6 @@ pub fn put_number(bytes: &mut Vec<u8>, at: usize, n: u8, v: u64)
     }
 }
 
-/// Puts `v` at the `n` places from `at` on.
-pub(crate) fn fill_range(bytes: &mut Vec<u8>, at: usize, n: usize, v: u8)
-    requires { at + n ≤ length bytes.old.items }
-    ensures shown { held bytes.new.items ≡ with_range (held bytes.old.items) at n (λ k. v) }
-    ensures len { length bytes.new.items ≡ length bytes.old.items }
-{
-    bytes[at..at + n].fill(v);
-}
-
-/// Copies `n` bytes from place `from` on to place `to` on, as they were before.
-pub(crate) fn copy_within(bytes: &mut Vec<u8>, to: usize, from: usize, n: usize)
-    requires to { to + n ≤ length bytes.old.items }
-    requires from { from + n ≤ length bytes.old.items }
-    ensures shown { held bytes.new.items ≡ copied (held bytes.old.items) to from n }
-    ensures len { length bytes.new.items ≡ length bytes.old.items }
-{
-    bytes.copy_within(from..from + n, to);
-}
-
 /// Writes the bytes of `source` from place `at` on.
 pub(crate) fn paste(bytes: &mut Vec<u8>, at: usize, source: &[u8])
     requires { at + length source.now ≤ length bytes.old.items }
@@ -123,40 +101,4 @@ pub(crate) fn paste(bytes: &mut Vec<u8>, at: usize, source: &[u8])
     ensures len { length bytes.new.items ≡ length bytes.old.items }
 {
     bytes[at..at + source.len()].copy_from_slice(source);
-}
-
-/// How far from place `at` the first of `n` bytes stands that isn't 0.
-pub(crate) fn first_nonzero_in(bytes: &[u8], at: usize, n: usize) -> Option<usize>
-    requires { at + n ≤ length bytes.now }
-    ensures none { IfNone result ((k : ℕ) → k < n → held bytes.now (at + k) ≡ 0) }
-    ensures found { IfSome result (λ i. (i < n) × (held bytes.now (at + i) ≢ 0)) }
-    ensures first { IfSome result (λ i. (k : ℕ) → k < i → held bytes.now (at + k) ≡ 0) }
-{
-    for i in 0..n {
-        if bytes[at + i] != 0 {
-            return Some(i);
-        }
-    }
-    None
-}
-
-/// Makes the row at least `len` long, by zeros.
-pub(crate) fn grow(bytes: &mut Vec<u8>, len: usize) -> Result<(), NoMemory>
-    ensures shown { held bytes.new.items ≡ held bytes.old.items }
-    ensures kept { length bytes.old.items ≤ length bytes.new.items }
-    ensures len { OnOk result (len ≤ length bytes.new.items) }
-{
-    if bytes.len() < len {
-        bytes.resize(len, 0)?;
-    }
-    Ok(())
-}
-
-/// A copy of the `n` bytes from place `at` on.
-pub(crate) fn taken(alloc: Global, bytes: &[u8], at: usize, n: usize) -> Result<Vec<u8>, NoMemory>
-    requires { at + n ≤ length bytes.now }
-    ensures len { IfOk result (λ v. length v.items ≡ n) }
-    ensures same { IfOk result (λ v. (k : ℕ) → k < n → held v.items k ≡ held bytes.now (at + k)) }
-{
-    bytes[at..at + n].to_vec(alloc)
 }

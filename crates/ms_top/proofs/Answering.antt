@@ -31,22 +31,24 @@ use Rattle.ms_valid.specs.Uninstrumented.{CanInstrument}
 use Rattle.ms_text_laws.proofs.FormedModules.{read_formed}
 use Rattle.ms_text_laws.proofs.SmallLimits.{can_instrument}
 use Rattle.ms_top.specs.declared.answers.Answer.{Answer}
-use Rattle.ms_top.specs.declared.commands.Command.{Command}
-use Rattle.ms_top.specs.declared.commands.Command.TheVariants.{Instrument, Run, Check}
-use Rattle.ms_top.specs.declared.commands.Options.{Options}
+use Rattle.ms_words.specs.declared.commands.Command.{Command}
+use Rattle.ms_words.specs.declared.commands.Command.TheVariants.{Instrument, Run, Check, Gen}
+use Rattle.ms_words.specs.declared.commands.Options.{Options}
 use Rattle.ms_report.specs.declared.refusals.Refusal.{Refusal as Cause}
 use Rattle.ms_report.specs.declared.refusals.Refusal.TheVariants.{Read as Of, Check as OfCheck}
-use Rattle.ms_top.specs.Command.{form_of, module_limit, input_limit, setup_of, FitRun}
+use Rattle.ms_words.specs.Limits.{RunsWithinLimits}
+use Rattle.ms_top.specs.Command.{form_of, module_limit, input_limit, setup_of}
 use Rattle.ms_top.specs.Instrumented.{IsInstrumented}
 use Rattle.ms_top.specs.Parts.{IsReady, IsInstrumentedRun}
 use Rattle.ms_report.specs.FaultTexts.{fault_line}
 use Rattle.ms_report.specs.RefusalTexts.{IsNumbered, IsReadRefusal, HasLine, refusal_text, wants_memory}
-use Rattle.ms_top.specs.Said.{says, answer_of_result, IsAnswerOfInstrument, IsAnswerOfCheck, IsAnswerToValid, IsAnswerToModule, IsAnswerToReading, IsAnswerToText}
+use Rattle.ms_words.specs.Words.{defaults}
+use Rattle.ms_top.specs.Said.{says, answer_of, answer_of_result, status_of, summary_of, IsAnswerOfInstrument, IsAnswerOfCheck, IsAnswerOfGen, IsAnswerToValid, IsAnswerToModule, IsAnswerToReading, IsAnswerToText}
 
 -- ---- runs
 
 -- the setup of options within the limits is within them, with an input of at most the limit
-pub within : (o : Options) (input : List ℕ) (s : Setup) → FitRun o → length input ≤ input_limit → s ≡ setup_of o input → RunFits s
+pub within : (o : Options) (input : List ℕ) (s : Setup) → RunsWithinLimits o → length input ≤ input_limit → s ≡ setup_of o input → RunFits s
 within o input s fit short is = subst RunFits (sym is) (record {
   input = omega (arith, short);
   filled = fit.filled;
@@ -70,6 +72,10 @@ pub check_valid : (command : Command) (file : List ℕ) (o : Options) (input : L
     → IsAnswerOfCheck IsInstrumented (setup_of o input) m a → IsAnswerToValid IsInstrumented command input m a
 check_valid command file o input m a is answers = subst (λ c. IsAnswerToValid IsInstrumented c input m a) (sym is) answers
 
+pub gen_valid : (command : Command) (seed functions : ℕ) (run : Bool) (input : List ℕ) (m : Module) (a : Answer) → command ≡ Gen seed functions run
+    → IsAnswerOfGen IsInstrumented run m a → IsAnswerToValid IsInstrumented command input m a
+gen_valid command seed functions run input m a is answers = subst (λ c. IsAnswerToValid IsInstrumented c input m a) (sym is) answers
+
 -- the run of the instrumented form
 pub instrumented_run : (m j : Module) (s : Setup) (r : RunResult) → IsInstrumented m j → r ≡ plain j s → IsInstrumentedRun m s r
 instrumented_run m j s r i is = (j, i, is)
@@ -77,6 +83,13 @@ instrumented_run m j s r i is = (j, i, is)
 pub check_answer : (m n : Module) (s t : Setup) (r : RunResult) (a : Answer) → n ≡ m → s ≡ t → IsInstrumentedRun m s r → a ≡ answer_of_result true n r
     → IsAnswerOfCheck IsInstrumented t m a
 check_answer m n s t r a same given q is = (q.0, q.1, is ∙ ap (λ k. answer_of_result true k r) same ∙ ap (answer_of_result true m) (q.2 ∙ ap (plain q.0) given))
+
+-- the summary of that run
+pub summary_answer : (m n : Module) (s : Setup) (r : RunResult) (a : Answer) → n ≡ m → s ≡ setup_of defaults [] → IsInstrumentedRun m s r → a ≡ answer_of (status_of r) (summary_of n r) []
+    → IsAnswerOfGen IsInstrumented true m a
+summary_answer m n s r a same given q is =
+    let run : r ≡ plain q.0 (setup_of defaults []) = q.2 ∙ ap (plain q.0) given in
+    (q.0, q.1, is ∙ ap (λ k. answer_of (status_of r) (summary_of k r) []) same ∙ ap (λ x. answer_of (status_of x) (summary_of m x) []) run)
 
 -- ---- validity
 
@@ -125,6 +138,7 @@ pub ready : (command : Command) (form : Form) (text : List ℕ) (r : Result Modu
 ready (Instrument file) form text r m same read is = read_plain form text r m same read is
 ready (Run file o) form text r m same read is = tt
 ready (Check file o) form text r m same read is = read_plain form text r m same read is
+ready (Gen seed functions run) form text r m same read is = read_plain form text r m same read is
 
 -- numbers that are bytes pass the test for it
 bytes_pass : (text : List ℕ) → ((i : ℕ) → slice_index_or text i 0 < 2 ^ 8) → IsTrue (are_bytes text)
@@ -186,3 +200,4 @@ unfolding max_bytes
 file_limit (Instrument file) n h = h
 file_limit (Run file o) n h = h
 file_limit (Check file o) n h = h
+file_limit (Gen seed functions run) n h = h

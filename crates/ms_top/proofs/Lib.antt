@@ -7,4 +7,5 @@ pub mod Reading
 pub mod SameLines
 pub mod Saying
 pub mod Statuses
+pub mod Summaries
 pub mod WrittenRuns

@@ -1,5 +1,5 @@
 -- What is to be said is one answer, but for the path of a use.
-use Rattle.std.proofs.Common.{◌≡◌, ◌≢◌, ◌<◌, ◌≤◌, true, List, ℕ, [], ◌∷◌, length, Option, Some, None, Result, Ok, Err, refl, sym, ◌∙◌, ap, subst, ◌⊎◌, inl, inr, arith}
+use Rattle.std.proofs.Common.{◌≡◌, ◌≢◌, ◌<◌, ◌≤◌, Bool, true, false, List, ℕ, [], ◌∷◌, length, Some, None, Result, Ok, Err, refl, sym, ◌∙◌, ap, subst, ◌⊎◌, inl, inr, arith}
 use Rattle.std.proofs.lemmas.Option.{same_Some, none-some}
 use Rattle.ms_io.specs.Counts.{Rose}
 use Rattle.ms_io.specs.Reading.{Holdings, IsWholeFile, IsAbsent, IsTooLong}
@@ -14,15 +14,19 @@ use Rattle.ms_valid.specs.Refusals.{Fault as ModuleFault, Duplicate, Unknown, Ty
 use Rattle.ms_valid.proofs.Refused.{invalid}
 use Rattle.ms_check.specs.Faults.{without_path}
 use Rattle.ms_check.proofs.OneAnswer.{one_answer as one_fault}
+use Rattle.ms_elision_laws.proofs.Once.{elided_once}
 use Rattle.ms_written.specs.Modules.{written}
 use Rattle.ms_report.specs.FaultTexts.{fault_text}
 use Rattle.ms_top.specs.declared.answers.Answer.{Answer}
-use Rattle.ms_top.specs.declared.commands.Command.{Command}
-use Rattle.ms_top.specs.declared.commands.Command.TheVariants.{Instrument, Run, Check}
-use Rattle.ms_top.specs.Command.{command_of, form_of, files_of, setup_of}
+use Rattle.ms_words.specs.declared.commands.Command.{Command}
+use Rattle.ms_words.specs.declared.commands.Command.TheVariants.{Instrument, Run, Check, Gen}
+use Rattle.ms_words.specs.declared.commands.WordsError.{WordsError}
+use Rattle.ms_words.specs.Words.{command_of, defaults}
+use Rattle.ms_gen.specs.Generator.{generated}
+use Rattle.ms_top.specs.Command.{form_of, files_of, setup_of}
 use Rattle.ms_top.specs.Files.{Counted, FilesRead, Whole, Fault, Long, behind, IsAtFault, IsLong, CanRead}
 use Rattle.ms_top.specs.Instrumented.{IsInstrumented}
-use Rattle.ms_top.specs.Said.{answer_of, answer_of_result, says, DifferInPath, IsAnswerToValid, IsAnswerToModule, IsAnswerToReading, IsAnswerToText, IsAnswerToTexts, IsAnswerToFiles, IsAnswerToCommand, IsAnswerFor, IsAnswer}
+use Rattle.ms_top.specs.Said.{answer_of, answer_of_result, status_of, summary_of, says, DifferInPath, IsAnswerOfGen, IsAnswerWithoutFile, IsAnswerToValid, IsAnswerToModule, IsAnswerToReading, IsAnswerToText, IsAnswerToTexts, IsAnswerToFiles, IsAnswerToCommand, IsAnswerFor, IsAnswer}
 
 -- ---- texts
 
@@ -46,12 +50,18 @@ of_faults f g a b e p q = inl (p ∙ ap (λ x. says 5 (fault_text x)) e ∙ sym 
 
 -- the pass makes one module
 pub made_once : (m j k : Module) → IsInstrumented m j → IsInstrumented m k → j ≡ k
-made_once m j k p q = p.is_pass ∙ sym q.is_pass
+made_once m j k p q = elided_once m j k p.elided q.elided
+
+of_gen : (run : Bool) (m : Module) (a b : Answer) → IsAnswerOfGen IsInstrumented run m a → IsAnswerOfGen IsInstrumented run m b → a ≡ b
+of_gen true m a b (j, p, is) (k, q, same) =
+    is ∙ ap (λ n. answer_of (status_of (plain n (setup_of defaults []))) (summary_of m (plain n (setup_of defaults []))) []) (made_once m j k p q) ∙ sym same
+of_gen false m a b p q = p ∙ sym q
 
 of_valid : (command : Command) (input : List ℕ) (m : Module) (a b : Answer) → IsAnswerToValid IsInstrumented command input m a
     → IsAnswerToValid IsInstrumented command input m b → a ≡ b
 of_valid (Instrument file) input m a b (j, p, is) (k, q, same) = is ∙ ap (λ n. answer_of 0 (written n) []) (made_once m j k p q) ∙ sym same
 of_valid (Run file o) input m a b p q = p ∙ sym q
+of_valid (Gen seed functions run) input m a b p q = of_gen run m a b p q
 of_valid (Check file o) input m a b (j, p, is) (k, q, same) = is ∙ ap (λ n. answer_of_result true m (plain n (setup_of o input))) (made_once m j k p q) ∙ sym same
 
 module _ (command : Command) (input : List ℕ) where
@@ -117,9 +127,15 @@ module _ (c : Counted) (files : Holdings) (told : c.told ≡ Some files) (steady
       let f : later ≡ last = one_read rest later last read again in
       p ∙ ap (λ t. behind t later) e ∙ ap (behind other) f ∙ sym q
 
+  without_file : (command : Command) (a b : Answer) → IsAnswerWithoutFile IsInstrumented command a → IsAnswerWithoutFile IsInstrumented command b → a ≡ b
+  without_file (Instrument file) a b p q = absurd p
+  without_file (Run file o) a b p q = absurd p
+  without_file (Check file o) a b p q = absurd p
+  without_file (Gen seed functions run) a b p q = of_gen run (generated seed functions) a b p q
+
   of_texts : (command : Command) (texts : List (List ℕ)) (a b : Answer) → IsAnswerToTexts IsInstrumented command texts a → IsAnswerToTexts IsInstrumented command texts b
       → (a ≡ b) ⊎ DifferInPath a b
-  of_texts command [] a b p q = absurd p
+  of_texts command [] a b p q = inl (without_file command a b p q)
   of_texts command (text ∷ []) a b p q = of_text command [] text a b p q
   of_texts command (text ∷ input ∷ rest) a b p q = of_text command input text a b p q
 
@@ -133,9 +149,9 @@ module _ (c : Counted) (files : Holdings) (told : c.told ≡ Some files) (steady
   of_command command a b (r, can, p) (s, again, q) =
       of_files command r a b p (subst (λ x. IsAnswerToFiles IsInstrumented command x b) (one_read (files_of command) s r again can) q)
 
-  of_words : (o : Option Command) (a b : Answer) → IsAnswerFor IsInstrumented c o a → IsAnswerFor IsInstrumented c o b → (a ≡ b) ⊎ DifferInPath a b
-  of_words None a b p q = inl (p ∙ sym q)
-  of_words (Some command) a b p q = of_command command a b p q
+  of_words : (r : Result Command WordsError) (a b : Answer) → IsAnswerFor IsInstrumented c r a → IsAnswerFor IsInstrumented c r b → (a ≡ b) ⊎ DifferInPath a b
+  of_words (Ok command) a b p q = of_command command a b p q
+  of_words (Err fault) a b p q = inl (p ∙ sym q)
 
 pub one_answer_to_commands : (c : Counted) (files : Holdings) (command : Command) (a b : Answer) → c.told ≡ Some files → (Rose c.faults c.faults_after → ⊥)
     → IsAnswerToCommand IsInstrumented c command a → IsAnswerToCommand IsInstrumented c command b → (a ≡ b) ⊎ DifferInPath a b

@@ -1,56 +1,52 @@
 -- From what reading files answers to what the answer is.
-use Rattle.std.proofs.Common.{◌≡◌, ◌⊎◌, ℕ, ◌^◌, ◌<◌, ◌≤◌, List, [], ◌∷◌, length, codes, Option, Some, None, Result, Ok, Err, refl, ap, sym, ◌∙◌, subst, inl, inr, arith, min}
-use Rattle.std.specs.Prelude.{if◌then◌else◌, nat_eq, true, false, Bool}
-use Rattle.std.specs.Cmp.Lexicographic.{pointwise}
-use Rattle.std.proofs.lemmas.Bool.{cases_Bool}
-use Rattle.std.proofs.lemmas.Option.{same_Some, none-some}
+use Rattle.std.proofs.Common.{◌≡◌, ◌⊎◌, ℕ, ◌≤◌, List, [], ◌∷◌, codes, Option, Some, None, Result, Ok, Err, refl, ap, sym, ◌∙◌, subst, inl, inr, arith}
+use Rattle.std.specs.Prelude.{true, false, Bool}
+use Rattle.std.proofs.lemmas.Bool.{true≢false}
 use Rattle.ms_io.specs.declared.traits.FileError.{FileError}
 use Rattle.ms_io.specs.declared.traits.FileError.TheVariants.{Failed, Absent, TooLong, NoMemory}
 use Rattle.ms_io.specs.Counts.{Rose, RoseBy, last_count}
 use Rattle.ms_io.specs.Reading.{Holdings, IsWholeFile, IsAbsent, IsTooLong, IfFailed, IfAbsent, IfTooLong}
 use Rattle.ms_report.specs.RunTexts.{line}
 use Rattle.ms_top.specs.declared.answers.Answer.{Answer}
-use Rattle.ms_top.specs.declared.commands.Command.{Command}
-use Rattle.ms_top.specs.Command.{default_options, command_of, input_file, module_file, module_limit, input_limit, input_files, files_of, FitRun, HasFitOptions}
+use Rattle.ms_words.specs.declared.commands.Command.{Command}
+use Rattle.ms_words.specs.declared.commands.Command.TheVariants.{Gen}
+use Rattle.ms_words.specs.declared.commands.WordsError.{WordsError}
+use Rattle.ms_words.specs.declared.commands.WordsError.TheVariants.{NoMemory as WantsMemory}
+use Rattle.ms_words.specs.Words.{command_of, name_of, place_of, IsAnswer as IsRead}
+use Rattle.ms_gen.specs.Generator.{generated}
+use Rattle.ms_top.specs.Command.{input_file, module_file, module_limit, input_limit, input_files, files_of}
 use Rattle.ms_top.specs.Files.{Counted, counted, FilesRead, Whole, Fault, Long, behind, IsAtFault, IsLong, CanRead}
 use Rattle.ms_top.specs.Instrumented.{IsInstrumented}
-use Rattle.ms_top.specs.Parts.{IsAnswerBehind, IsAnswerToFault}
-use Rattle.ms_top.specs.Said.{says, IsAnswerToText, IsAnswerToFiles, IsAnswerToCommand, IsAnswerFor, IsAnswer}
+use Rattle.ms_top.specs.Parts.{IsAnswerBehind, IsAnswerToFault, is_want_of_memory}
+use Rattle.ms_report.specs.WordsTexts.{words_text}
+use Rattle.ms_top.specs.Said.{says, IsAnswerOfGen, IsAnswerToText, IsAnswerToFiles, IsAnswerToCommand, IsAnswerFor, IsAnswer}
 
 -- ---- words
 
-pub default_fits : FitRun default_options
-default_fits = record {
-  input = omega arith;
-  filled = omega arith;
-  fill = omega arith;
-  steps = omega arith;
-  some_reports = omega arith;
-  reports = omega arith;
-}
-
-chosen : (P : Command → Type 0) (a b d : Bool) (x y z : Command) (c : Command) → (if a then Some x else if b then Some y else if d then Some z else None) ≡ Some c
-    → P x → P y → P z → P c
-chosen P true b d x y z c h p q r = subst P (same_Some x c h) p
-chosen P false true d x y z c h p q r = subst P (same_Some y c h) q
-chosen P false false true x y z c h p q r = subst P (same_Some z c h) r
-chosen P false false false x y z c h p q r = absurd (none-some c h)
-
--- words give the default options alone
-pub words_fit : (words : List (List ℕ)) (c : Command) → command_of words ≡ Some c → HasFitOptions c
-words_fit [] c h = absurd (none-some c h)
-words_fit (w ∷ []) c h = absurd (none-some c h)
-words_fit (w ∷ f ∷ []) c h =
-    chosen HasFitOptions (pointwise nat_eq w (codes "instrument")) (pointwise nat_eq w (codes "run")) (pointwise nat_eq w (codes "check")) _ _ _ c h tt default_fits default_fits
-words_fit (w ∷ f ∷ g ∷ rest) c h = absurd (none-some c h)
-
-pub command_answer : (c : Counted) (words : List (List ℕ)) (o : Option Command) (command : Command) (a : Answer) → o ≡ command_of words → o ≡ Some command
+pub command_answer : (c : Counted) (words : List (List ℕ)) (r : Result Command WordsError) (command : Command) (a : Answer) → IsRead words r → r ≡ Ok command
     → IsAnswerToCommand IsInstrumented c command a → IsAnswer IsInstrumented c words a
-command_answer c words o command a asks some is = subst (λ o. IsAnswerFor IsInstrumented c o a) (sym some ∙ asks) is
+command_answer c words r command a (inl none) is answers = absurd cc
+command_answer c words r command a (inr read) is answers = subst (λ o. IsAnswerFor IsInstrumented c o a) (sym is ∙ read) answers
 
-pub no_answer : (c : Counted) (words : List (List ℕ)) (o : Option Command) (a : Answer) → o ≡ command_of words → o ≡ None
-    → IsAnswerFor IsInstrumented c None a → IsAnswer IsInstrumented c words a
-no_answer c words o a asks none is = subst (λ o. IsAnswerFor IsInstrumented c o a) (sym none ∙ asks) is
+by_fault : (c : Counted) (words : List (List ℕ)) (fault : WordsError) (a : Answer) → IsRead words (Err fault) → is_want_of_memory fault ≡ false
+    → a ≡ says 2 (words_text (name_of fault) (place_of fault)) → IsAnswer IsInstrumented c words a
+by_fault c words fault a (inl none) some answers = let wants : fault ≡ WantsMemory = cc in absurd (true≢false (ap is_want_of_memory (sym wants) ∙ some))
+by_fault c words fault a (inr read) some answers = subst (λ o. IsAnswerFor IsInstrumented c o a) read answers
+
+pub fault_answer : (c : Counted) (words : List (List ℕ)) (r : Result Command WordsError) (fault : WordsError) (a : Answer) → IsRead words r → r ≡ Err fault → is_want_of_memory fault ≡ false
+    → a ≡ says 2 (words_text (name_of fault) (place_of fault)) → IsAnswer IsInstrumented c words a
+fault_answer c words r fault a read is some answers = by_fault c words fault a (subst (IsRead words) is read) some answers
+
+-- words that are no command aren't read as one
+pub no_command : (words : List (List ℕ)) (r : Result Command WordsError) (command : Command) (fault : WordsError) → IsRead words r → r ≡ Ok command → command_of words ≡ Err fault → ⊥
+no_command words r command fault (inl none) is wrong = absurd cc
+no_command words r command fault (inr read) is wrong = absurd cc
+
+-- ---- without a file
+
+pub generated_answer : (c : Counted) (command : Command) (seed functions : ℕ) (run : Bool) (a : Answer) → command ≡ Gen seed functions run
+    → IsAnswerOfGen IsInstrumented run (generated seed functions) a → IsAnswerToCommand IsInstrumented c command a
+generated_answer c command seed functions run a is answers = subst (λ x. IsAnswerToCommand IsInstrumented c x a) (sym is) (Whole [], refl, answers)
 
 -- ---- the first file
 
@@ -65,6 +61,10 @@ absent_earlier (Some files) name a b d l h = h
 too_long_earlier : (t : Option Holdings) (name : List ℕ) (limit n a b d : ℕ) → a ≤ b → IsTooLong t name limit n b d → IsTooLong t name limit n a d
 too_long_earlier None name limit n a b d l (is, rose) = (is, rose_by_earlier n a b d l rose)
 too_long_earlier (Some files) name limit n a b d l h = h
+
+-- the files of a command whose module stands in a file
+files_named : (command : Command) (file : List ℕ) → module_file command ≡ Some file → files_of command ≡ (file, module_limit command) ∷ input_files (input_file command)
+files_named command file named = ap (λ o. elim o [ Some f ↦ (f, module_limit command) ∷ input_files (input_file command) | None ↦ [] ]) named
 
 -- the counts of the same files, from an earlier time on
 pub record IsEarlier (c d : Counted) : Type 0 where
@@ -92,10 +92,13 @@ module _ (c d : Counted) (e : IsEarlier c d) where
       inr (inr (text, subst (λ t. IsWholeFile t name limit text) (sym e.told) whole, later, can_read_earlier rest later read, is))
 
   -- the module's file is read whole, and then the others
-  pub behind_first : (command : Command) (text bytes : List ℕ) (a : Answer) → IsWholeFile c.told (module_file command) (module_limit command) text → bytes ≡ text
+  pub behind_first : (command : Command) (file text bytes : List ℕ) (a : Answer) → module_file command ≡ Some file → IsWholeFile c.told file (module_limit command) text → bytes ≡ text
       → IsAnswerBehind IsInstrumented d command bytes a → IsAnswerToCommand IsInstrumented c command a
-  behind_first command text bytes a whole same (r, read, is) =
-      (behind text r, inr (inr (text, whole, r, can_read_earlier (input_files (input_file command)) r read, refl)), subst (λ t. IsAnswerToFiles IsInstrumented command (behind t r) a) same is)
+  behind_first command file text bytes a named whole same (r, read, is) = (
+    behind text r,
+    subst (λ fs. CanRead c fs (behind text r)) (sym (files_named command file named)) (inr (inr (text, whole, r, can_read_earlier (input_files (input_file command)) r read, refl))),
+    subst (λ t. IsAnswerToFiles IsInstrumented command (behind t r) a) same is,
+  )
 
 -- ---- a file that isn't read
 
@@ -120,9 +123,10 @@ pub unread : {A : Type 0} (c : Counted) (name : List ℕ) (limit : ℕ) (r : Res
     → IsAnswerToFault cause name a → Unread c name limit a
 unread c name limit r cause a h same is = by_cause c name limit cause a (subst (Answered c name limit) same h) is
 
-pub unread_first : (c : Counted) (command : Command) (a : Answer) → Unread c (module_file command) (module_limit command) a → IsAnswerToCommand IsInstrumented c command a
-unread_first c command a (inl (fault, is)) = (Fault (module_file command), inl (fault, refl), is)
-unread_first c command a (inr (long, is)) = (Long (module_file command), inr (inl (long, refl)), is)
+pub unread_first : (c : Counted) (command : Command) (file : List ℕ) (a : Answer) → module_file command ≡ Some file → Unread c file (module_limit command) a
+    → IsAnswerToCommand IsInstrumented c command a
+unread_first c command file a named (inl (fault, is)) = (Fault file, subst (λ fs. CanRead c fs (Fault file)) (sym (files_named command file named)) (inl (fault, refl)), is)
+unread_first c command file a named (inr (long, is)) = (Long file, subst (λ fs. CanRead c fs (Long file)) (sym (files_named command file named)) (inr (inl (long, refl))), is)
 
 -- ---- the input
 

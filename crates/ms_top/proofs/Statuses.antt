@@ -1,16 +1,18 @@
 -- The status of an answer is never that of a failed put.
-use Rattle.std.proofs.Common.{◌≡◌, ◌≢◌, ℕ, Bool, true, false, List, [], ◌∷◌, if◌then◌else◌, Option, Some, None, Result, Ok, Err, ap, sym, ◌∙◌, inl, inr, arith}
+use Rattle.std.proofs.Common.{◌≡◌, ◌≢◌, ℕ, Bool, true, false, List, [], ◌∷◌, if◌then◌else◌, Result, Ok, Err, ap, sym, ◌∙◌, inl, inr, arith}
 use Rattle.ms_runs.specs.declared.runs.End.{End}
 use Rattle.ms_runs.specs.declared.runs.End.TheVariants.{Exit, Trap, Reported, Spent}
 use Rattle.ms_ir.specs.declared.syntax.Module.{Module}
 use Rattle.ms_read_body.specs.declared.errors.ReadError.{ReadError}
 use Rattle.ms_read_body.specs.declared.errors.ReadError.TheVariants as e
 use Rattle.ms_top.specs.declared.answers.Answer.{Answer}
-use Rattle.ms_top.specs.declared.commands.Command.{Command}
-use Rattle.ms_top.specs.declared.commands.Command.TheVariants.{Instrument, Run, Check}
-use Rattle.ms_top.specs.Command.{command_of}
+use Rattle.ms_words.specs.declared.commands.Command.{Command}
+use Rattle.ms_words.specs.declared.commands.Command.TheVariants.{Instrument, Run, Check, Gen}
+use Rattle.ms_words.specs.declared.commands.WordsError.{WordsError}
+use Rattle.ms_words.specs.Words.{command_of}
+use Rattle.ms_gen.specs.Generator.{generated}
 use Rattle.ms_top.specs.Files.{Counted, FilesRead, Whole, Fault, Long}
-use Rattle.ms_top.specs.Said.{answer_of, end_status, IsAnswerToValid, IsAnswerToModule, IsAnswerToReading, IsAnswerToText, IsAnswerToTexts, IsAnswerToFiles, IsAnswerToCommand, IsAnswerFor, IsAnswer}
+use Rattle.ms_top.specs.Said.{answer_of, end_status, IsAnswerOfGen, IsAnswerWithoutFile, IsAnswerToValid, IsAnswerToModule, IsAnswerToReading, IsAnswerToText, IsAnswerToTexts, IsAnswerToFiles, IsAnswerToCommand, IsAnswerFor, IsAnswer}
 
 with-status : (a : Answer) (s : ℕ) (out err : List ℕ) → a ≡ answer_of s out err → s ≢ 7 → a.status ≢ 7
 with-status a s out err is other seven = other (sym (ap (λ x. x.status) is) ∙ seven)
@@ -26,10 +28,15 @@ chosen-not_seven true e = end_status-not_seven e
 chosen-not_seven false e = λ h. omega arith
 
 module _ (Gives : Module → Module → Type 0) where
+  of_gen-not_seven : (run : Bool) (m : Module) (a : Answer) → IsAnswerOfGen Gives run m a → a.status ≢ 7
+  of_gen-not_seven true m a (j, gives, is) = with-status a _ _ _ is (chosen-not_seven _ _)
+  of_gen-not_seven false m a is = with-status a 0 _ _ is (λ h. omega arith)
+
   to_valid-not_seven : (command : Command) (input : List ℕ) (m : Module) (a : Answer) → IsAnswerToValid Gives command input m a → a.status ≢ 7
   to_valid-not_seven (Instrument file) input m a (j, gives, is) = with-status a 0 _ _ is (λ h. omega arith)
   to_valid-not_seven (Run file o) input m a is = with-status a _ _ _ is (chosen-not_seven _ _)
   to_valid-not_seven (Check file o) input m a (j, gives, is) = with-status a _ _ _ is (chosen-not_seven _ _)
+  to_valid-not_seven (Gen seed functions run) input m a is = of_gen-not_seven run m a is
 
   to_module-not_seven : (command : Command) (input : List ℕ) (m : Module) (a : Answer) → IsAnswerToModule Gives command input m a → a.status ≢ 7
   to_module-not_seven command input m a (inl (fault, refused, is)) = with-status a 5 _ _ is (λ h. omega arith)
@@ -44,8 +51,14 @@ module _ (Gives : Module → Module → Type 0) where
   to_text-not_seven : (command : Command) (input text : List ℕ) (a : Answer) → IsAnswerToText Gives command input text a → a.status ≢ 7
   to_text-not_seven command input text a (r, reading, is) = to_reading-not_seven command input r a is
 
+  without_file-not_seven : (command : Command) (a : Answer) → IsAnswerWithoutFile Gives command a → a.status ≢ 7
+  without_file-not_seven (Instrument file) a is = absurd is
+  without_file-not_seven (Run file o) a is = absurd is
+  without_file-not_seven (Check file o) a is = absurd is
+  without_file-not_seven (Gen seed functions run) a is = of_gen-not_seven run (generated seed functions) a is
+
   to_texts-not_seven : (command : Command) (texts : List (List ℕ)) (a : Answer) → IsAnswerToTexts Gives command texts a → a.status ≢ 7
-  to_texts-not_seven command [] a is = absurd is
+  to_texts-not_seven command [] a is = without_file-not_seven command a is
   to_texts-not_seven command (text ∷ []) a is = to_text-not_seven command [] text a is
   to_texts-not_seven command (text ∷ input ∷ rest) a is = to_text-not_seven command input text a is
 
@@ -54,12 +67,12 @@ module _ (Gives : Module → Module → Type 0) where
   to_files-not_seven command (Fault name) a is = with-status a 6 _ _ is (λ h. omega arith)
   to_files-not_seven command (Long name) a is = with-status a 9 _ _ is (λ h. omega arith)
 
-  for-not_seven : (c : Counted) (o : Option Command) (a : Answer) → IsAnswerFor Gives c o a → a.status ≢ 7
-  for-not_seven c None a is = with-status a 2 _ _ is (λ h. omega arith)
-  for-not_seven c (Some command) a (r, can, is) = to_files-not_seven command r a is
+  for-not_seven : (c : Counted) (r : Result Command WordsError) (a : Answer) → IsAnswerFor Gives c r a → a.status ≢ 7
+  for-not_seven c (Ok command) a (r, can, is) = to_files-not_seven command r a is
+  for-not_seven c (Err fault) a is = with-status a 2 _ _ is (λ h. omega arith)
 
   pub command-not_seven : (c : Counted) (command : Command) (a : Answer) → IsAnswerToCommand Gives c command a → a.status ≢ 7
-  command-not_seven c command a is = for-not_seven c (Some command) a is
+  command-not_seven c command a is = for-not_seven c (Ok command) a is
 
   pub not_seven : (c : Counted) (words : List (List ℕ)) (a : Answer) → IsAnswer Gives c words a → a.status ≢ 7
   not_seven c words a is = for-not_seven c (command_of words) a is

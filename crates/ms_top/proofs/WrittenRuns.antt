@@ -14,12 +14,12 @@ use Rattle.ms_valid.proofs.Refused.{invalid}
 use Rattle.ms_written.specs.Modules.{written}
 use Rattle.ms_text_laws.specs.Fits.{FitsText}
 use Rattle.ms_text_laws.proofs.ReadBack.{text_back, same_text}
-use Rattle.ms_pass_laws.specs.Numbers.{numbering}
-use Rattle.ms_pass_laws.specs.Pass.{pass}
+use Rattle.ms_elision_laws.specs.Elided.{IsElided}
+use Rattle.ms_elision_laws.proofs.Once.{elided_once}
 use Rattle.ms_top.specs.declared.answers.Answer.{Answer}
-use Rattle.ms_top.specs.declared.commands.Command.{Command}
-use Rattle.ms_top.specs.declared.commands.Command.TheVariants.{Instrument, Run, Check}
-use Rattle.ms_top.specs.declared.commands.Options.{Options}
+use Rattle.ms_words.specs.declared.commands.Command.{Command}
+use Rattle.ms_words.specs.declared.commands.Command.TheVariants.{Instrument, Run, Check}
+use Rattle.ms_words.specs.declared.commands.Options.{Options}
 use Rattle.ms_top.specs.Command.{setup_of}
 use Rattle.ms_top.specs.Instrumented.{IsInstrumented}
 use Rattle.ms_top.specs.Said.{answer_of_result, IsAnswerToValid, IsAnswerToModule, IsAnswerToReading, IsAnswerToText}
@@ -43,12 +43,12 @@ ran file input text o j b reads valid (r, reading, answers) =
     let one : r ≡ Ok j = one_reading Instrumented text (Ok j) r reads reading some (memory_is_there (Run file o) input r b answers) in
     for_valid (Run file o) input j b valid (subst (λ s. IsAnswerToReading IsInstrumented (Run file o) input s b) one answers)
 
-pub alike : (file name input : List ℕ) (o : Options) (m : Module) (a b c : Answer) → IsAnswerToValid IsInstrumented (Instrument file) [] m a → FitsText (pass (numbering m) m)
+pub alike : (file name input : List ℕ) (o : Options) (m i : Module) (a b c : Answer) → IsAnswerToValid IsInstrumented (Instrument file) [] m a → IsElided m i → FitsText i
     → IsAnswerToText IsInstrumented (Run name o) input a.out b → IsAnswerToValid IsInstrumented (Check name o) input m c
     → (r : RunResult) × (b ≡ answer_of_result false m r) × (c ≡ answer_of_result true m r)
-alike file name input o m a b c (j, made, is) fits read (k, other, same) =
+alike file name input o m i a b c (j, made, is) elided fits read (k, other, same) =
     let text : written j ≡ a.out = sym (ap (λ x. x.out) is) in
-    let reads : Reads Instrumented a.out j = subst (λ t. Reads Instrumented t j) text (text_back j made.formed (subst FitsText (sym made.is_pass) fits)) in
+    let reads : Reads Instrumented a.out j = subst (λ t. Reads Instrumented t j) text (text_back j made.formed (subst FitsText (elided_once m i j elided made.elided) fits)) in
     let r = plain j (setup_of o input) in (
       r,
       ran name input a.out o j b reads made.valid read ∙ same_answer m j made.faithful.strips false r,

@@ -8,17 +8,17 @@ use Rattle.ms_valid.specs.Formed.{Formed}
 use Rattle.ms_valid.specs.Valid.{Valid}
 use Rattle.ms_runs_good.specs.Fills.{InsertedUnderFills}
 use Rattle.ms_two_fills.specs.Checked.{HoldsUnderFills}
-use Rattle.ms_pass_laws.specs.Numbers.{numbering}
-use Rattle.ms_pass_laws.specs.Pass.{pass}
+use Rattle.ms_elision_laws.specs.Elided.{IsElided}
 
 -- j is m with inserted code: without it j is m, and its plain runs are the shadow runs of m. It is formed and valid, so that
--- it can be written and run. There is one such module, that of the definition of the pass. A run of it without a blind use
+-- it can be written and run. There is one such module, that of the definition of the
+-- pass, which computes nothing of values that are clean in every run. A run of it without a blind use
 -- up to its first report is the same under every fill, and what its runs say of m with a clean verdict, or report first
 -- where no blind use was counted, holds under every fill
 pub record IsInstrumented (m j : Module) : Type 0 where
   pub faithful : Faithful m j
   pub formed : Formed j
   pub valid : Valid j
-  pub is_pass : j ≡ pass (numbering m) m
+  pub elided : IsElided m j
   pub under_fills : (setup : Setup) → Fair setup → InsertedUnderFills j setup
   pub holds : (setup : Setup) → Fair setup → HoldsUnderFills m setup (plain j setup)

@@ -1,5 +1,5 @@
 -- What the parts of the code say of files and modules. What `msan` promises does not name them.
-use Rattle.std.specs.Prelude.{◌≡◌, ℕ, List, codes}
+use Rattle.std.specs.Prelude.{◌≡◌, ℕ, Bool, true, false, List, codes}
 use Rattle.ms_io.specs.declared.traits.FileError.{FileError}
 use Rattle.ms_io.specs.declared.traits.FileError.TheVariants.{Failed, Absent, TooLong, NoMemory}
 use Rattle.ms_ir.specs.declared.syntax.Module.{Module}
@@ -9,8 +9,10 @@ use Rattle.ms_runs.specs.Plain.{plain}
 use Rattle.ms_valid.specs.Uninstrumented.{CanInstrument}
 use Rattle.ms_report.specs.RunTexts.{line}
 use Rattle.ms_top.specs.declared.answers.Answer.{Answer}
-use Rattle.ms_top.specs.declared.commands.Command.{Command}
-use Rattle.ms_top.specs.declared.commands.Command.TheVariants.{Instrument, Run, Check}
+use Rattle.ms_words.specs.declared.commands.Command.{Command}
+use Rattle.ms_words.specs.declared.commands.Command.TheVariants.{Instrument, Run, Check, Gen}
+use Rattle.ms_words.specs.declared.commands.WordsError.{WordsError}
+use Rattle.ms_words.specs.declared.commands.WordsError.TheVariants.{NoMemory as WantsMemory}
 use Rattle.ms_top.specs.Command.{input_file, input_files}
 use Rattle.ms_top.specs.Files.{Counted, CanRead, FilesRead, behind}
 use Rattle.ms_top.specs.Instrumented.{IsInstrumented}
@@ -33,6 +35,12 @@ abbrev pub IsReady : Command → Module → Type 0
 IsReady (Instrument file) m = CanInstrument m
 IsReady (Run file options) m = Unit {0}
 IsReady (Check file options) m = CanInstrument m
+IsReady (Gen seed functions run) m = CanInstrument m
+
+-- the fault in words is want of memory
+abbrev pub is_want_of_memory : WordsError → Bool
+is_want_of_memory WantsMemory = true
+is_want_of_memory fault = false
 
 -- the plain run of the instrumented form
 abbrev pub IsInstrumentedRun : Module → Setup → RunResult → Type 0

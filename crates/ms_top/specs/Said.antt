@@ -1,8 +1,9 @@
 -- What a call is to say: its status and its two texts, for the words and the files that it was given. `Gives m j` is what
 -- is known of the module j that the pass makes of m.
-use Rattle.std.specs.Prelude.{◌≡◌, ℕ, Bool, true, false, List, [], ◌∷◌, ◌++◌, length, Option, Some, None, Result, Ok, Err, eqb, if◌then◌else◌, codes, ◌⊎◌}
+use Rattle.std.specs.Prelude.{◌≡◌, ℕ, Bool, true, false, List, [], ◌∷◌, ◌++◌, length, Option, Result, Ok, Err, eqb, if◌then◌else◌, codes, decimal, ◌⊎◌}
 use Rattle.ms_io.specs.Writing.{with_appended, AppendsPrefix}
 use Rattle.ms_ir.specs.declared.syntax.Module.{Module}
+use Rattle.ms_ir.specs.Places.{count_sites}
 use Rattle.ms_runs.specs.declared.runs.End.{End}
 use Rattle.ms_runs.specs.declared.runs.End.TheVariants as ends
 use Rattle.ms_runs.specs.declared.runs.RunResult.{RunResult}
@@ -21,9 +22,12 @@ use Rattle.ms_report.specs.FaultTexts.{fault_text}
 use Rattle.ms_report.specs.RefusalTexts.{refusal_text}
 use Rattle.ms_report.specs.WordsTexts.{words_text}
 use Rattle.ms_top.specs.declared.answers.Answer.{Answer}
-use Rattle.ms_top.specs.declared.commands.Command.{Command}
-use Rattle.ms_top.specs.declared.commands.Command.TheVariants.{Instrument, Run, Check}
-use Rattle.ms_top.specs.Command.{command_of, form_of, files_of, setup_of}
+use Rattle.ms_gen.specs.Generator.{generated}
+use Rattle.ms_words.specs.declared.commands.Command.{Command}
+use Rattle.ms_words.specs.declared.commands.Command.TheVariants.{Instrument, Run, Check, Gen}
+use Rattle.ms_words.specs.declared.commands.WordsError.{WordsError}
+use Rattle.ms_words.specs.Words.{command_of, defaults, name_of, place_of}
+use Rattle.ms_top.specs.Command.{form_of, files_of, setup_of}
 use Rattle.ms_top.specs.Files.{Counted, CanRead, FilesRead, Whole, Fault, Long}
 
 abbrev pub answer_of : ℕ → List ℕ → List ℕ → Answer
@@ -55,6 +59,13 @@ status_of r = if eqb (length r.reports) 0 then end_status r.«end» else 77
 abbrev pub answer_of_result : (verdict : Bool) → Module → RunResult → Answer
 answer_of_result verdict m r = answer_of (status_of r) r.output (report_text_of m r ++ closing_of m r verdict)
 
+-- the summary of a module's run: how many functions and sites the module has and how many bytes were output, and then the
+-- reports with the closing lines
+abbrev pub summary_of : Module → RunResult → List ℕ
+summary_of m r =
+    line (codes "functions") (decimal (length m.funcs)) ++ line (codes "sites") (decimal (count_sites m)) ++ line (codes "output") (decimal (length r.output) ++ codes " bytes")
+    ++ report_text_of m r ++ closing_of m r true
+
 -- ---- from the words to the answer, for a pass that gives modules so
 
 module _ (Gives : Module → Module → Type 0) where
@@ -66,11 +77,18 @@ module _ (Gives : Module → Module → Type 0) where
   abbrev pub IsAnswerOfCheck : Setup → Module → Answer → Type 0
   IsAnswerOfCheck s m a = (j : Module) × Gives m j × (a ≡ answer_of_result true m (plain j s))
 
+  -- the answer of `gen` for the module that it makes: the module's text, or the summary of the run of a module that the
+  -- pass gives, with no option given
+  abbrev pub IsAnswerOfGen : (run : Bool) → Module → Answer → Type 0
+  IsAnswerOfGen false m a = a ≡ answer_of 0 (written m) []
+  IsAnswerOfGen true m a = (j : Module) × Gives m j × (let r = plain j (setup_of defaults []) in a ≡ answer_of (status_of r) (summary_of m r) [])
+
   -- the answer for a valid module; `run` runs it as it stands
   abbrev pub IsAnswerToValid : Command → List ℕ → Module → Answer → Type 0
   IsAnswerToValid (Instrument file) input m a = IsAnswerOfInstrument m a
   IsAnswerToValid (Run file options) input m a = a ≡ answer_of_result false m (plain m (setup_of options input))
   IsAnswerToValid (Check file options) input m a = IsAnswerOfCheck (setup_of options input) m a
+  IsAnswerToValid (Gen seed functions run) input m a = IsAnswerOfGen run m a
 
   -- the answer for a module: why it isn't valid, or else the answer for a valid one
   abbrev pub IsAnswerToModule : Command → List ℕ → Module → Answer → Type 0
@@ -87,9 +105,14 @@ module _ (Gives : Module → Module → Type 0) where
   abbrev pub IsAnswerToText : Command → List ℕ → List ℕ → Answer → Type 0
   IsAnswerToText command input text a = (r : Result Module ReadError) × IsReading (form_of command) text r × IsAnswerToReading command input r a
 
+  -- the answer without a file, which `gen` alone has
+  abbrev pub IsAnswerWithoutFile : Command → Answer → Type 0
+  IsAnswerWithoutFile (Gen seed functions run) a = IsAnswerOfGen run (generated seed functions) a
+  IsAnswerWithoutFile command a = ⊥
+
   -- the answer for the texts of a command's files, the module's first
   abbrev pub IsAnswerToTexts : Command → List (List ℕ) → Answer → Type 0
-  IsAnswerToTexts command [] a = ⊥
+  IsAnswerToTexts command [] a = IsAnswerWithoutFile command a
   IsAnswerToTexts command (text ∷ []) a = IsAnswerToText command [] text a
   IsAnswerToTexts command (text ∷ input ∷ rest) a = IsAnswerToText command input text a
 
@@ -102,9 +125,10 @@ module _ (Gives : Module → Module → Type 0) where
   abbrev pub IsAnswerToCommand : Counted → Command → Answer → Type 0
   IsAnswerToCommand c command a = (r : FilesRead) × CanRead c (files_of command) r × IsAnswerToFiles command r a
 
-  abbrev pub IsAnswerFor : Counted → Option Command → Answer → Type 0
-  IsAnswerFor c None a = a ≡ says 2 (words_text (codes "NotBuilt") 0)
-  IsAnswerFor c (Some command) a = IsAnswerToCommand c command a
+  -- the answer for what words come to: a command, or the first fault in them
+  abbrev pub IsAnswerFor : Counted → Result Command WordsError → Answer → Type 0
+  IsAnswerFor c (Ok command) a = IsAnswerToCommand c command a
+  IsAnswerFor c (Err fault) a = a ≡ says 2 (words_text (name_of fault) (place_of fault))
 
   -- what a call with these words and these files is to say, but for want of memory
   abbrev pub IsAnswer : Counted → List (List ℕ) → Answer → Type 0

@@ -7,12 +7,14 @@ ghost use Rattle.ms_valid.specs.Uninstrumented.{CanInstrument};
 ghost use Rattle.ms_report.specs.RefusalTexts.{HasLine, refusal_text, wants_memory as is_want_of_memory};
 ghost use Rattle.ms_report.specs.ReportTexts.{report_text_of};
 ghost use Rattle.ms_report.specs.RunTexts.{closing_of};
-ghost use Rattle.ms_top.specs.Command.{setup_of as setup_with, module_limit, input_limit, FitRun, HasFitOptions};
+ghost use Rattle.ms_words.specs.Limits.{RunsWithinLimits, IsWithinLimits};
+ghost use Rattle.ms_top.specs.Command.{setup_of as setup_with, module_limit, input_limit};
 ghost use Rattle.ms_top.specs.Instrumented.{IsInstrumented};
 ghost use Rattle.ms_top.specs.Parts.{IsReady, IsInstrumentedRun};
 ghost use Rattle.ms_top.specs.Said.{answer_of, answer_of_result, says, status_of as status_of_run, IsAnswerOfInstrument, IsAnswerOfCheck, IsAnswerToValid, IsAnswerToModule, IsAnswerToText};
 
-use crate::commands::{Command, Options};
+use crate::commands::form_of;
+use crate::generated::{summarised, written};
 use ms_bits::{Bytes, NoMemory};
 use ms_check::{CheckError, CheckedModule, check};
 use ms_ir::Module;
@@ -22,7 +24,7 @@ use ms_read_top::read;
 use ms_report::{Refusal, closing, refusal_line, report_text};
 use ms_runs::{End, RunResult, Setup};
 use ms_runtime::run;
-use ms_write::write;
+use ms_words::{Command, Options};
 use std::alloc::{AllocError, Global};
 
 /// A status, and the texts for the standard output and the standard error.
@@ -65,11 +67,11 @@ pub fn answer_to_text(
     input: &[u8],
 ) -> Result<Answer, NoMemory>
     requires fits { length text.now ≤ module_limit command.now }
-    requires limits { HasFitOptions command.now }
+    requires limits { IsWithinLimits command.now }
     requires input { length input.now ≤ input_limit }
     ensures { IfOk result (λ a. IsAnswerToText IsInstrumented command.now input.now text.now a) }
 {
-    match read(alloc, text, command.form()) {
+    match read(alloc, text, form_of(command)) {
         Ok(module) => answer_to_module(alloc, command, module, input),
         Err(cause) => refused(alloc, &Refusal::Read(cause)),
     }
@@ -84,7 +86,7 @@ fn answer_to_module(
 ) -> Result<Answer, NoMemory>
     requires formed { Formed m }
     requires ready { IsReady command.now m }
-    requires limits { HasFitOptions command.now }
+    requires limits { IsWithinLimits command.now }
     requires input { length input.now ≤ input_limit }
     ensures { IfOk result (λ a. IsAnswerToModule IsInstrumented command.now input.now m a) }
 {
@@ -102,14 +104,17 @@ fn answer_to_valid(
     input: &[u8],
 ) -> Result<Answer, NoMemory>
     requires ready { IsReady command.now m.now }
-    requires limits { HasFitOptions command.now }
+    requires limits { IsWithinLimits command.now }
     requires input { length input.now ≤ input_limit }
     ensures { IfOk result (λ a. IsAnswerToValid IsInstrumented command.now input.now m.now a) }
 {
+    m.is_valid();
     match command {
         Command::Instrument { .. } => answer_of_instrument(alloc, m),
         Command::Run { options, .. } => answer_of_run(alloc, m, options, input),
         Command::Check { options, .. } => answer_of_check(alloc, m, options, input),
+        Command::Gen { run: true, .. } => summarised(alloc, m),
+        Command::Gen { run: false, .. } => written(alloc, m.module()),
     }
 }
 
@@ -119,8 +124,7 @@ fn answer_of_instrument(alloc: Global, m: &CheckedModule) -> Result<Answer, NoMe
     ensures { IfOk result (λ a. IsAnswerOfInstrument IsInstrumented m.now a) }
 {
     let module = instrumented_module(alloc, m)?;
-    let text = write(alloc, &module)?;
-    Ok(Answer::on_out(alloc, text))
+    written(alloc, &module)
 }
 
 /// The answer of `run`: for the run of the module as it stands.
@@ -130,7 +134,7 @@ fn answer_of_run(
     options: &Options,
     input: &[u8],
 ) -> Result<Answer, NoMemory>
-    requires limits { FitRun options.now }
+    requires limits { RunsWithinLimits options.now }
     requires input { length input.now ≤ input_limit }
     ensures { IfOk result (λ a. a ≡ answer_of_result false m.now (plain m.now (setup_with options.now input.now))) }
 {
@@ -148,7 +152,7 @@ fn answer_of_check(
     input: &[u8],
 ) -> Result<Answer, NoMemory>
     requires plain { CanInstrument m.now }
-    requires limits { FitRun options.now }
+    requires limits { RunsWithinLimits options.now }
     requires input { length input.now ≤ input_limit }
     ensures { IfOk result (λ a. IsAnswerOfCheck IsInstrumented (setup_with options.now input.now) m.now a) }
 {
@@ -159,7 +163,11 @@ fn answer_of_check(
 }
 
 /// The run of the instrumented form.
-fn run_instrumented(alloc: Global, m: &CheckedModule, setup: &Setup) -> Result<RunResult, NoMemory>
+pub fn run_instrumented(
+    alloc: Global,
+    m: &CheckedModule,
+    setup: &Setup,
+) -> Result<RunResult, NoMemory>
     requires plain { CanInstrument m.now }
     requires limits { WithinLimits setup.now }
     ensures { IfOk result (λ r. IsInstrumentedRun m.now setup.now r) }
@@ -188,7 +196,7 @@ fn instrumented_form(alloc: Global, m: &CheckedModule) -> Result<CheckedModule, 
 }
 
 /// What a run with these options and this input is given.
-fn setup_of(alloc: Global, options: &Options, input: &[u8]) -> Result<Setup, NoMemory>
+pub fn setup_of(alloc: Global, options: &Options, input: &[u8]) -> Result<Setup, NoMemory>
     ensures { IfOk result (λ s. s ≡ setup_with options.now input.now) }
 {
     let input = Vec::from_slice(alloc, input)?;
@@ -215,7 +223,12 @@ fn answer_of(alloc: Global, m: &Module, r: RunResult, verdict: bool) -> Result<A
 }
 
 /// The lines of a run's reports, and then the closing lines.
-fn lines_of(alloc: Global, m: &Module, r: &RunResult, verdict: bool) -> Result<Vec<u8>, NoMemory>
+pub fn lines_of(
+    alloc: Global,
+    m: &Module,
+    r: &RunResult,
+    verdict: bool,
+) -> Result<Vec<u8>, NoMemory>
     requires { Formed m.now }
     ensures { IfOk result (λ text. text.items ≡ report_text_of m.now r.now ++ closing_of m.now r.now verdict) }
 {
@@ -226,7 +239,7 @@ fn lines_of(alloc: Global, m: &Module, r: &RunResult, verdict: bool) -> Result<V
 }
 
 /// The status that a run decides: 77 exactly where it has a report.
-fn status_of(r: &RunResult) -> u8
+pub fn status_of(r: &RunResult) -> u8
     ensures { result ≡ status_of_run r.now }
 {
     if !r.reports.as_slice().is_empty() {

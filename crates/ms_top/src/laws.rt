@@ -1,6 +1,6 @@
 //! What holds of answers.
 
-ghost use Rattle.std.specs.Prelude.{◌≡◌, ◌⊎◌, ℕ, true, false, List, [], Some};
+ghost use Rattle.std.specs.Prelude.{◌≡◌, ◌⊎◌, ℕ, true, false, ◌^◌, ◌<◌, ◌≤◌, List, [], ◌∷◌, All, length, Some, None};
 ghost use Rattle.ms_io.specs.Counts.{Rose};
 ghost use Rattle.ms_io.specs.Reading.{Holdings};
 ghost use Rattle.ms_ir.specs.declared.syntax.Module.{Module};
@@ -11,16 +11,17 @@ ghost use Rattle.ms_two_fills.specs.Checked.{HoldsUnderFills};
 ghost use Rattle.ms_valid.specs.Formed.{Formed};
 ghost use Rattle.ms_written.specs.Modules.{written};
 ghost use Rattle.ms_text_laws.specs.Fits.{FitsText};
-ghost use Rattle.ms_pass_laws.specs.Numbers.{numbering};
-ghost use Rattle.ms_pass_laws.specs.Pass.{pass};
+ghost use Rattle.ms_elision_laws.specs.Elided.{IsElided};
 ghost use Rattle.ms_top.specs.declared.answers.Answer.{Answer};
-ghost use Rattle.ms_top.specs.declared.commands.Command.{Command};
-ghost use Rattle.ms_top.specs.declared.commands.Command.TheVariants.{Instrument, Run, Check};
-ghost use Rattle.ms_top.specs.declared.commands.Options.{Options};
-ghost use Rattle.ms_top.specs.Command.{default_options, setup_of};
+ghost use Rattle.ms_words.specs.declared.commands.Command.{Command};
+ghost use Rattle.ms_words.specs.declared.commands.Command.TheVariants.{Instrument, Run, Check};
+ghost use Rattle.ms_words.specs.declared.commands.Options.{Options};
+ghost use Rattle.ms_words.specs.Limits.{RunsWithinLimits};
+ghost use Rattle.ms_words.specs.Words.{defaults};
+ghost use Rattle.ms_top.specs.Command.{input_limit, setup_of};
 ghost use Rattle.ms_top.specs.Files.{Counted};
 ghost use Rattle.ms_top.specs.Instrumented.{IsInstrumented};
-ghost use Rattle.ms_top.specs.Said.{IsAnswer, IsAnswerToCommand, IsAnswerToText, IsAnswerToValid, DifferInPath, answer_of_result};
+ghost use Rattle.ms_top.specs.Said.{IsAnswer, IsAnswerToCommand, IsAnswerOfGen, IsAnswerToText, IsAnswerToValid, DifferInPath, answer_of, answer_of_result, status_of, summary_of};
 
 /// What is to be said is one answer, but for want of memory, and for the path that shows that a use of a value isn't
 /// defined: of a module's text, and of commands and of words where the files are told and no fault of theirs was counted.
@@ -33,14 +34,20 @@ pub fn one_answer()
         → IsAnswer IsInstrumented c words a → IsAnswer IsInstrumented c words b → (a ≡ b) ⊎ DifferInPath a b }
 {}
 
-/// A checked module is answered by its shadow run with the verdict, where the setup is fair. That of the default options
-/// is. A clean verdict, and a first report where no blind use was counted, hold under every fill.
+/// A checked module is answered by its shadow run with the verdict, where the setup is fair, as those of options within the
+/// limits are with an input of bytes that is within its limit; a generated one that is run, by
+/// the summary of its shadow run with the default options, whose setup is fair: no input, the fill a5, ten million steps, one
+/// report. A clean verdict, and a first report where no blind use was counted, hold under every fill.
 pub fn checks_show_the_shadow_run()
     ensures shadow { (file input : List ℕ) (o : Options) (m : Module) (a : Answer) → Fair (setup_of o input)
         → IsAnswerToValid IsInstrumented (Check file o) input m a → a ≡ answer_of_result true m (shadow m (setup_of o input)) }
     ensures under_fills { (file input : List ℕ) (o : Options) (m : Module) (a : Answer) → Fair (setup_of o input)
         → IsAnswerToValid IsInstrumented (Check file o) input m a → HoldsUnderFills m (setup_of o input) (shadow m (setup_of o input)) }
-    ensures defaults { Fair (setup_of default_options []) }
+    ensures summary { (m : Module) (a : Answer) → IsAnswerOfGen IsInstrumented true m a
+        → let r = shadow m (setup_of defaults []) in a ≡ answer_of (status_of r) (summary_of m r) [] }
+    ensures fair { (o : Options) (input : List ℕ) → RunsWithinLimits o → length input ≤ input_limit → All (λ b. b < 2 ^ 8) input → Fair (setup_of o input) }
+    ensures defaults { Fair (setup_of defaults []) }
+    ensures spelled { defaults ≡ record { input = None; fill = 0xa5 ∷ []; steps = 10000000; reports = 1 } }
 {}
 
 /// What `instrument` writes is the text of a faithful module, and of no other formed module. Where that text is within the
@@ -49,7 +56,7 @@ pub fn checks_show_the_shadow_run()
 pub fn written_modules_run_alike()
     ensures named { (file input : List ℕ) (m j : Module) (a : Answer) → IsAnswerToValid IsInstrumented (Instrument file) input m a
         → Formed j → a.out ≡ written j → IsInstrumented m j }
-    ensures alike { (file name input : List ℕ) (o : Options) (m : Module) (a b c : Answer) → IsAnswerToValid IsInstrumented (Instrument file) [] m a
-        → FitsText (pass (numbering m) m) → IsAnswerToText IsInstrumented (Run name o) input a.out b
+    ensures alike { (file name input : List ℕ) (o : Options) (m i : Module) (a b c : Answer) → IsAnswerToValid IsInstrumented (Instrument file) [] m a
+        → IsElided m i → FitsText i → IsAnswerToText IsInstrumented (Run name o) input a.out b
         → IsAnswerToValid IsInstrumented (Check name o) input m c → (r : RunResult) × (b ≡ answer_of_result false m r) × (c ≡ answer_of_result true m r) }
 {}

@@ -2,12 +2,12 @@
 #![tactic(auto)]
 
 pub mod answers;
-pub mod commands;
+mod commands;
 mod files;
+mod generated;
 pub mod laws;
 mod pieces;
 mod top;
 
-pub use commands::{Command, Options};
-pub use ms_report::{Refusal, WordsFault, closing, refusal_line, report_text, words_line};
+pub use ms_words::{Command, Options};
 pub use top::{job, msan};

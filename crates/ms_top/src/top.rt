@@ -1,31 +1,33 @@
 //! The top calls.
-ghost use Rattle.std.specs.Prelude.{◌≡◌, ◌≢◌, ◌≤◌, ◌⊎◌, None, IfOk};
+ghost use Rattle.std.specs.Prelude.{◌≡◌, ◌≢◌, ◌≤◌, ◌⊎◌, Err, IfOk};
 ghost use Rattle.ms_io.specs.Counts.{Rose};
-ghost use Rattle.ms_top.specs.Command.{command_of, HasFitOptions};
+ghost use Rattle.ms_words.specs.declared.commands.WordsError.{WordsError};
+ghost use Rattle.ms_words.specs.Limits.{IsWithinLimits};
+ghost use Rattle.ms_words.specs.Words.{command_of};
 ghost use Rattle.ms_top.specs.Files.{counted};
 ghost use Rattle.ms_top.specs.Instrumented.{IsInstrumented};
 ghost use Rattle.ms_top.specs.Said.{IsSaid, IsPartlySaid, IsDone, IsPartlyDone, IsTold, IsPartlyTold, between};
 
 use crate::answers::Answer;
-use crate::commands::Command;
 use crate::files::{answer_to, answer_to_command};
 use crate::pieces::say;
 use ms_bits::{NoMemory, Text};
 use ms_io::{Files, Sink};
+use ms_words::Command;
 use std::alloc::Global;
 
 /// The status where memory is wanting.
 const NO_MEMORY_STATUS: u8 = 8;
 
-/// Does what the words after the program's name ask for. `run FILE` runs the module in the file, and
-/// `check FILE` runs it with the shadow of each word. Its output is written to `out`; each use of
-/// uninitialised bits that was found, and how the run ended, to `err`. `instrument FILE` writes to `out` the text of the
-/// module that `check` runs, which `run` takes.
+/// Does what the words after the program's name ask for. `run` runs the module in a file, and `check` runs it with the
+/// shadow of each word: the output is written to `out`; each use of uninitialised bits that was found, and how the run
+/// ended, to `err`. `instrument` writes to `out` the text of the module that `check` runs, which `run` takes. `gen` writes
+/// a generated module to `out`, or the summary of its check.
 ///
 /// The status is 77 for a run with a report, else 0 for one that is done, 3 for one that trapped and 4 for
-/// one whose steps were used up; 0 where the module is instrumented. It is 2 where the words are no command, 5 where
-/// the module is refused, 6 where the file can't be read, 7 where a put failed, 8 where memory is wanting,
-/// 9 where the file is too long. All memory is taken before the first put. Words that are no command read no file.
+/// one whose steps were used up; 0 where a module is written. It is 2 where the words are no command, 5 where
+/// the module is refused, 6 where a file can't be read, 7 where a put failed, 8 where memory is wanting,
+/// 9 where a file is too long. All memory is taken before the first put. Words that are no command read no file.
 pub fn msan<F: Files, O: Sink, E: Sink>(
     alloc: Global,
     words: &[Text],
@@ -45,13 +47,13 @@ pub fn msan<F: Files, O: Sink, E: Sink>(
     ensures taken_never_falls { F.taken files.old ≤ F.taken files.new }
     ensures out_faults_never_fall { O.faults out.old ≤ O.faults out.new }
     ensures err_faults_never_fall { E.faults err.old ≤ E.faults err.new }
-    ensures unread { command_of words.now ≡ None → files.new ≡ files.old }
+    ensures unread { (fault : WordsError) → command_of words.now ≡ Err fault → files.new ≡ files.old }
 {
     put_answer(answer_to(alloc, words, files), out, err)
 }
 
-/// Does what a command asks for, as `msan` does for words: its module's file is read, and its input where it has one; its
-/// run, where it has one, has the fill, the bound of steps and the limit of reports of its options. The statuses are those of `msan`.
+/// Does what a command asks for, as `msan` does for words. The numbers of the command are within their limits, as those of
+/// words always are. The statuses are those of `msan`, but for 2.
 pub fn job<F: Files, O: Sink, E: Sink>(
     alloc: Global,
     command: &Command,
@@ -59,7 +61,7 @@ pub fn job<F: Files, O: Sink, E: Sink>(
     out: &mut O,
     err: &mut E,
 ) -> u8
-    requires { HasFitOptions command.now }
+    requires { IsWithinLimits command.now }
     ensures said { result ≢ 7 → IsDone IsInstrumented
         (counted (F.held files.old) (F.faults files.old) (F.faults files.new) (F.taken files.old) (F.taken files.new))
         (between (O.written out.old) (E.written err.old) (O.written out.new) (E.written err.new)) command.now result }

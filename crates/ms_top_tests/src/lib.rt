@@ -16,6 +16,8 @@ mod checks;
 #[cfg(test)]
 mod control;
 #[cfg(test)]
+mod elided;
+#[cfg(test)]
 mod external_bytes;
 #[cfg(test)]
 mod externals;
@@ -37,6 +39,8 @@ mod marked;
 mod memory;
 #[cfg(test)]
 mod modules;
+#[cfg(test)]
+mod options;
 #[cfg(test)]
 mod outside;
 #[cfg(test)]

@@ -16,7 +16,7 @@ const SLOTS: &str =
 const RUNTIME: &str =
     "declare void @__msan_check(i64, i32, i32, i32, i32, i32)\ndeclare void @__msan_check_memory(ptr, i64, i32, i32)\ndeclare void @__msan_check_string(ptr, i32)\ndeclare void @__msan_blind(i64)\ndeclare void @__msan_poison(ptr, i64, i64, i32)\ndeclare void @__msan_unpoison(ptr, i64)\ndeclare void @__msan_copy(ptr, ptr, i64)\ndeclare void @__msan_fill(ptr, i64, i64, i32, i32)\ndeclare void @__msan_store_origin(ptr, i64, i32, i32)\ndeclare i32 @__msan_load_origin(ptr, i64)\ndeclare i64 @__msan_size(ptr)\n";
 
-static LISTINGS: [Listing; 6] = [
+static LISTINGS: [Listing; 8] = [
     // Nothing that is known to be defined is checked, and without a mark the last line is missing.
     Listing(
         "%t = type { i8, ptr }\n@g = global i8 7\n",
@@ -49,13 +49,10 @@ static LISTINGS: [Listing; 6] = [
         "",
         "define i32 @main() {\n  %1 = alloca i32\n  store i32 undef, ptr %1\n  %2 = load i32, ptr %1\n  ret i32 %2\n}\n",
         "define i32 @main() {
-  %__msan.2 = or i32 0, 0, !nosanitize !0
-  %__msan.1 = or i64 0, 0, !nosanitize !0
   %1 = alloca i32
   %__msan.5 = zext i32 1 to i64, !nosanitize !0
   %__msan.6 = mul i64 4, %__msan.5, !nosanitize !0
   call void @__msan_poison(ptr %1, i64 0, i64 %__msan.6, i32 1), !nosanitize !0
-  call void @__msan_check(i64 %__msan.1, i32 64, i32 %__msan.2, i32 3, i32 1, i32 2), !nosanitize !0
   store i32 undef, ptr %1
   %__msan.7 = ptrtoint ptr %1 to i64, !nosanitize !0
   %__msan.8 = xor i64 %__msan.7, 87960930222080, !nosanitize !0
@@ -63,7 +60,6 @@ static LISTINGS: [Listing; 6] = [
   store i32 -1, ptr %__msan.9, !nosanitize !0
   %__msan.10 = zext i32 -1 to i64, !nosanitize !0
   call void @__msan_store_origin(ptr %1, i64 %__msan.10, i32 2, i32 2), !nosanitize !0
-  call void @__msan_check(i64 %__msan.1, i32 64, i32 %__msan.2, i32 3, i32 0, i32 3), !nosanitize !0
   %__msan.11 = ptrtoint ptr %1 to i64, !nosanitize !0
   %__msan.12 = xor i64 %__msan.11, 87960930222080, !nosanitize !0
   %__msan.13 = inttoptr i64 %__msan.12 to ptr, !nosanitize !0
@@ -135,7 +131,7 @@ define i32 @main() {
 !0 = !{}
 ",
     ),
-    // A blind use is counted, and the result of an external is clean.
+    // A blind use is counted, and nothing is computed of the result of an external, which is clean.
     Listing(
         "",
         "declare i32 @putchar(i32)\n",
@@ -152,21 +148,65 @@ define i32 @main() {
   %1 = add i32 undef, 1
   %__msan.10 = zext i32 %__msan.1 to i64, !nosanitize !0
   call void @__msan_check(i64 %__msan.10, i32 32, i32 %__msan.2, i32 7, i32 0, i32 2), !nosanitize !0
-  %__msan.4 = or i32 0, 0, !nosanitize !0
-  %__msan.3 = or i32 0, 0, !nosanitize !0
   %2 = call i32 @putchar(i32 %1)
   ret i32 0
 }
 !0 = !{}
 ",
     ),
+    // Of a word on the stack the address is clean, and what is loaded isn't: the branch alone is checked.
+    Listing(
+        "",
+        "",
+        "define i32 @main() {\n  %1 = alloca i32\n  %2 = load i32, ptr %1\n  %3 = icmp eq i32 %2, 0\n  br i1 %3, label %4, label %5\n4:\n  ret i32 0\n5:\n  ret i32 1\n}\n",
+        "define i32 @main() {
+  %1 = alloca i32
+  %__msan.7 = zext i32 1 to i64, !nosanitize !0
+  %__msan.8 = mul i64 4, %__msan.7, !nosanitize !0
+  call void @__msan_poison(ptr %1, i64 0, i64 %__msan.8, i32 1), !nosanitize !0
+  %__msan.9 = ptrtoint ptr %1 to i64, !nosanitize !0
+  %__msan.10 = xor i64 %__msan.9, 87960930222080, !nosanitize !0
+  %__msan.11 = inttoptr i64 %__msan.10 to ptr, !nosanitize !0
+  %__msan.3 = load i32, ptr %__msan.11, !nosanitize !0
+  %__msan.12 = zext i32 %__msan.3 to i64, !nosanitize !0
+  %__msan.4 = call i32 @__msan_load_origin(ptr %1, i64 %__msan.12), !nosanitize !0
+  %2 = load i32, ptr %1
+  %__msan.13 = icmp ne i32 0, 0, !nosanitize !0
+  %__msan.6 = select i1 %__msan.13, i32 0, i32 %__msan.4, !nosanitize !0
+  %__msan.14 = xor i32 %2, 0, !nosanitize !0
+  %__msan.15 = or i32 %__msan.3, 0, !nosanitize !0
+  %__msan.16 = or i32 %__msan.14, %__msan.15, !nosanitize !0
+  %__msan.17 = or i32 %__msan.3, 0, !nosanitize !0
+  %__msan.18 = icmp eq i32 %__msan.16, %__msan.17, !nosanitize !0
+  %__msan.19 = or i32 %__msan.3, 0, !nosanitize !0
+  %__msan.20 = icmp ne i32 %__msan.19, 0, !nosanitize !0
+  %__msan.5 = and i1 %__msan.18, %__msan.20, !nosanitize !0
+  %3 = icmp eq i32 %2, 0
+  %__msan.21 = zext i1 %__msan.5 to i64, !nosanitize !0
+  call void @__msan_check(i64 %__msan.21, i32 1, i32 %__msan.6, i32 1, i32 0, i32 4), !nosanitize !0
+  br i1 %3, label %4, label %5
+4:
+  ret i32 0
+5:
+  ret i32 1
+}
+!0 = !{}
+",
+    ),
+    // A loop over sums, a comparison and a division, of which each is clean where the others are: nothing is inserted.
+    Listing(
+        "",
+        "",
+        "define i32 @main() {\n  br label %1\n1:\n  %2 = phi i32 [ 0, %0 ], [ %4, %1 ]\n  %3 = udiv i32 %2, 1\n  %4 = add i32 %3, 1\n  %5 = icmp ult i32 %4, 5\n  br i1 %5, label %1, label %6\n6:\n  ret i32 %4\n}\n",
+        "define i32 @main() {\n  br label %1\n1:\n  %2 = phi i32 [ 0, %0 ], [ %4, %1 ]\n  %3 = udiv i32 %2, 1\n  %4 = add i32 %3, 1\n  %5 = icmp ult i32 %4, 5\n  br i1 %5, label %1, label %6\n6:\n  ret i32 %4\n}\n",
+    ),
 ];
 
 /// Modules that are not instrumented, and words that name no file.
 static REFUSALS: [Case; 8] = [
-    Case("instrument", "", "", "words: NotBuilt at 0\n", 2),
-    Case("instrument f f", "", "", "words: NotBuilt at 0\n", 2),
-    Case("instruments f", "", "", "words: NotBuilt at 0\n", 2),
+    Case("instrument", "", "", "words: MissingFile at 1\n", 2),
+    Case("instrument f f", "", "", "words: Extra at 2\n", 2),
+    Case("instruments f", "", "", "words: UnknownCommand at 0\n", 2),
     Case("instrument g", "", "", "file fault: g\n", 6),
     Case("instrument f", "", "", "refused 13: no main\n", 5),
     Case("instrument f", "?", "", "refused 1: bad byte at 0\n", 5),

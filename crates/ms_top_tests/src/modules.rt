@@ -1,8 +1,8 @@
 //! Runs of modules that may call every external and every runtime function: rows of a text, of what is printed and of how the
 //! run ends.
 
-ghost use Rattle.std.specs.Prelude.{IfOk, IfSome};
-ghost use Rattle.ms_top.specs.Command.{FitRun, HasFitOptions};
+ghost use Rattle.std.specs.Prelude.{◌≡◌, ◌<◌, ◌^◌, All, IfOk, IfSome};
+ghost use Rattle.ms_words.specs.Limits.{RunsWithinLimits, IsWithinLimits};
 
 use crate::calls::{Call, Wanted, agrees, sink_of, text_of};
 use ms_bits::{Bytes, Text};
@@ -118,9 +118,18 @@ pub fn all_run(alloc: Global, rows: &[Run]) -> bool {
     true
 }
 
+/// A copy of bytes.
+fn bytes_of(alloc: Global, bytes: &[u8]) -> Result<Bytes, AllocError>
+    ensures same { IfOk result (λ b. b ≡ bytes.now) }
+    ensures small { IfOk result (λ b. All (λ x. x < 2 ^ 8) b) }
+{
+    let copy = Vec::from_slice(alloc, bytes)?;
+    Ok(Bytes::from_vec(copy))
+}
+
 /// The options of a run on these terms, with its input in the file `i`; none where no run may have them.
 fn options_of(alloc: Global, terms: &Terms) -> Result<Option<Options>, AllocError>
-    ensures { IfOk result (λ o. IfSome o FitRun) }
+    ensures { IfOk result (λ o. IfSome o RunsWithinLimits) }
 {
     if terms.fill.is_empty()
         || terms.fill.len() > 2048
@@ -131,10 +140,10 @@ fn options_of(alloc: Global, terms: &Terms) -> Result<Option<Options>, AllocErro
         return Ok(None);
     }
     let input = Text::from_string(String::from_str(alloc, "i")?);
-    let fill = Vec::from_slice(alloc, terms.fill)?;
+    let fill = bytes_of(alloc, terms.fill)?;
     Ok(Some(Options {
         input: Some(input),
-        fill: Bytes::from_vec(fill),
+        fill,
         steps: terms.steps,
         reports: terms.reports,
     }))
@@ -158,7 +167,7 @@ fn is_done(
     files: &mut MemFiles,
     wanted: &Wanted,
 ) -> Result<bool, AllocError>
-    requires { HasFitOptions command.now }
+    requires { IsWithinLimits command.now }
 {
     let mut out = sink_of(alloc, &[], wanted.out.len().saturating_add(100))?;
     let mut err = sink_of(alloc, &[], wanted.err.len().saturating_add(100))?;
@@ -172,8 +181,8 @@ fn is_done(
 
 /// The command that runs the module `f`, or checks it.
 fn command_on(check: bool, file: Text, options: Options) -> Command
-    requires { FitRun options }
-    ensures { HasFitOptions result }
+    requires { RunsWithinLimits options }
+    ensures { IsWithinLimits result }
 {
     if check {
         Command::Check { file, options }

@@ -38,16 +38,11 @@ const NEIGHBOURS: &str =
 const BEFORE_DEFINITION: &str =
     "define i32 @main() {\n  %a = or i32 %b, 1\n  %b = or i32 1, 2\n  ret i32 %a\n}\n";
 
-static WORDS: [Case; 11] = [
-    Case("", STORED, "", "words: NotBuilt at 0\n", 2),
-    Case("run", STORED, "", "words: NotBuilt at 0\n", 2),
-    Case("check", STORED, "", "words: NotBuilt at 0\n", 2),
-    Case("run f f", STORED, "", "words: NotBuilt at 0\n", 2),
-    Case("checks f", STORED, "", "words: NotBuilt at 0\n", 2),
-    Case("runs f", STORED, "", "words: NotBuilt at 0\n", 2),
+static WORDS: [Case; 6] = [
     Case("run g", STORED, "", "file fault: g\n", 6),
-    Case("run --", STORED, "", "file fault: --\n", 6),
+    Case("run -- --", STORED, "", "file fault: --\n", 6),
     Case("check g", STORED, "", "file fault: g\n", 6),
+    Case("run --input g f", STORED, "", "file fault: g\n", 6),
     Case("run f", "", "", "refused 13: no main\n", 5),
     Case("check f", "", "", "refused 13: no main\n", 5),
 ];

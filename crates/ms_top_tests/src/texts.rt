@@ -5,8 +5,8 @@ ghost use Rattle.ms_valid.specs.Formed.{Formed};
 use ms_bits::{Bytes, Duplicate, List, Trap};
 use ms_ir::{Form, Module};
 use ms_read_top::read;
+use ms_report::{closing, report_text};
 use ms_runs::{End, Origin, Report, RunResult, Setup};
-use ms_top::{closing, report_text};
 use std::alloc::{AllocError, Global};
 use std::test::Fail;
 

@@ -7,8 +7,7 @@ use Rattle.ms_runs.specs.Plain.{plain}
 use Rattle.ms_runs_good.specs.Fills.{InsertedUnderFills}
 use Rattle.ms_two_fills.specs.Checked.{HoldsUnderFills}
 use Rattle.ms_tables.proofs.Items.{under_ok}
-use Rattle.ms_pass_laws.specs.Numbers.{numbering}
-use Rattle.ms_pass_laws.specs.Pass.{pass}
+use Rattle.ms_elision_laws.specs.Elided.{IsElided, ChecksUnclean}
 use Rattle.ms_pass.proofs.instruments.instrument.Goals as goal
 
 pub returns : goal.returns
@@ -18,7 +17,8 @@ returns c =
     let made : Module → Type 0 = λ j. j ≡ answer in
     let given = c.in_ok-module.ensures in
     record {
-      pass = under_ok c.of_valid.result made (λ j. j ≡ pass (numbering m) m) (λ j same. same ∙ given.pass) c.of_valid.ensures;
+      pass = under_ok c.of_valid.result made (λ j. IsElided m j) (λ j same. subst (λ (x : Module). IsElided m x) (sym same) given.pass) c.of_valid.ensures;
+      checks = under_ok c.of_valid.result made (λ j. ChecksUnclean m j) (λ j same. subst (λ (x : Module). ChecksUnclean m x) (sym same) given.checks) c.of_valid.ensures;
       faithful = under_ok c.of_valid.result made (λ j. Faithful m j) (λ j same. subst (λ (x : Module). Faithful m x) (sym same) given.faithful) c.of_valid.ensures;
       stripped = under_ok c.of_valid.result made (λ j. strip j ≡ m) (λ j same. ap strip same ∙ given.stripped) c.of_valid.ensures;
       under_fills = under_ok c.of_valid.result made (λ j. (setup : Setup) → Fair setup → InsertedUnderFills j setup)

@@ -1,6 +1,7 @@
-use Rattle.std.proofs.Common.{◌≡◌, All, sym, ap, subst, ◌∙◌}
+use Rattle.std.proofs.Common.{◌≡◌, List, All, option_map, sym, ap, subst, ◌∙◌}
+use Rattle.ms_ir.specs.declared.syntax.Name.{Name}
 use Rattle.ms_ir.specs.declared.syntax.Module.{Module}
-use Rattle.ms_ir.specs.Code.{strip}
+use Rattle.ms_ir.specs.Code.{func_at, strip}
 use Rattle.ms_ir.specs.Locals.{function_names}
 use Rattle.ms_runs.specs.declared.runs.Setup.{Setup}
 use Rattle.ms_runs.specs.Faithful.{Fair, Faithful}
@@ -11,18 +12,27 @@ use Rattle.ms_runs_good.specs.Fills.{InsertedUnderFills}
 use Rattle.ms_two_fills.specs.Checked.{HoldsUnderFills}
 use Rattle.ms_two_fills.proofs.Whole.{inserted_fills, checked_holds}
 use Rattle.ms_tables.specs.FirstPlace.{first_place}
-use Rattle.ms_pass_laws.specs.Numbers.{numbering}
+use Rattle.ms_elide.specs.CleanSets.{is_in, IsExact}
 use Rattle.ms_pass_laws.specs.Pass.{pass}
-use Rattle.ms_pass_laws.proofs.Taken.{instrumented_faithful}
 use Rattle.ms_pass_laws.proofs.Unmarked.{module_strips}
 use Rattle.ms_pass_laws.proofs.Whole.{strip_pass}
-use Rattle.ms_pass_valid.proofs.FormedMain.{numbered_formed_valid}
+use Rattle.ms_elision_laws.specs.Checks.{check_calls}
+use Rattle.ms_elision_laws.specs.Eliding.{eliding, SaysExactly}
+use Rattle.ms_elision_laws.proofs.CheckCount.{checks_counted}
+use Rattle.ms_elision_laws.proofs.Elided.{faithful, formed_valid}
 use Rattle.ms_pass.specs.Counted.{past_funcs, AreSmall}
 use Rattle.ms_pass.specs.Passed.{no_counts}
 use Rattle.ms_pass.specs.Ready.{IsReady}
 use Rattle.ms_pass.proofs.ModuleReady.{module_ready, module_small}
 use Rattle.ms_pass.proofs.Numbered.{passed_is}
 use Rattle.ms_pass.proofs.instruments.instrumented.Goals as goal
+
+-- a set that is exact says exactly what is clean
+says_exactly : (m : Module) (set : List (List Name)) → IsExact m set → SaysExactly m (is_in set)
+says_exactly m set exact = record {
+  sound = λ n f at x e. (exact.values n f at x).0 e;
+  whole = λ n f at x h. (exact.values n f at x).1 h;
+}
 
 pub passed_module-requires-clause-ready : goal.passed_module-requires-clause-ready
 passed_module-requires-clause-ready c =
@@ -38,15 +48,18 @@ returns c =
     let formed = c.is_valid.ensures.formed in
     let valid = c.is_valid.ensures.valid in
     let j = c.in_ok-module.module in
-    let is = passed_is m c.module.result.now j c.module.ensures c.in_ok-module.ensures in
-    let faithful : Faithful m j = subst (λ (x : Module). Faithful m x) (sym is) (instrumented_faithful m formed valid c.requires) in
-    let both = numbered_formed_valid m formed valid c.requires in
+    let set = c.in_ok-values.values in
+    let exact = says_exactly m set c.in_ok-values.ensures.exact in
+    let is = passed_is m c.module.result.now j set c.module.ensures c.in_ok-module.ensures in
+    let runs : Faithful m j = subst (λ (x : Module). Faithful m x) (sym is) (faithful m formed valid c.requires (is_in set) exact.sound) in
+    let both = formed_valid m formed valid c.requires (is_in set) in
     record {
-      pass = is;
-      faithful = faithful;
-      stripped = ap strip is ∙ strip_pass (numbering m) m (module_strips m c.requires);
+      pass = record { clean = is_in set; exact = exact; is_pass = is };
+      checks = record { clean = is_in set; exact = exact; counted = λ n f at. ap (λ k. option_map check_calls (func_at k n)) is ∙ checks_counted m (is_in set) formed valid c.requires n f at };
+      faithful = runs;
+      stripped = ap strip is ∙ strip_pass (eliding (is_in set) m) m (module_strips m c.requires);
       formed = subst Formed (sym is) both.0;
       valid = subst Valid (sym is) both.1;
-      under_fills = λ setup fair. inserted_fills m formed valid j faithful setup fair;
-      holds = λ setup fair. checked_holds m formed valid c.requires.plain.unmarked j faithful setup fair;
+      under_fills = λ setup fair. inserted_fills m formed valid j runs setup fair;
+      holds = λ setup fair. checked_holds m formed valid c.requires.plain.unmarked j runs setup fair;
     }

@@ -1,37 +1,6 @@
-use Rattle.std.proofs.Common.{◌≡◌, refl, sym, ◌∙◌, subst}
-use Rattle.ms_io.specs.Reading.{IsWholeFile}
-use Rattle.ms_top.specs.Command.{module_file, module_limit}
-use Rattle.ms_top.specs.Files.{Counted, counted}
-use Rattle.ms_top.specs.Parts.{IsAnswerToFault}
 use Rattle.ms_top.proofs.Ok.{on_ok}
-use Rattle.ms_top.proofs.Reading.{Unread, behind_first, unread, unread_first}
+use Rattle.ms_top.proofs.Reading.{generated_answer}
 use Rattle.ms_top.proofs.files.answer_to_command.Goals as goal
 
-pub returns-in-Ok-clause-said : goal.returns-in-Ok-clause-said
-returns-in-Ok-clause-said g c =
-    let before : Counted = counted (g.F.Files.held c.args.files.now) (g.F.Files.faults c.args.files.now) (g.F.Files.faults c.answer_behind.new.files) (g.F.Files.taken c.args.files.now) (g.F.Files.taken c.answer_behind.new.files) in
-    let between : Counted = counted (g.F.Files.held c.read_whole.new.self) (g.F.Files.faults c.read_whole.new.self) (g.F.Files.faults c.answer_behind.new.files) (g.F.Files.taken c.read_whole.new.self) (g.F.Files.taken c.answer_behind.new.files) in
-    let held = g.F.Files.held c.args.files.now in
-    let bytes = c.in-Ok.text.items in
-    let named = subst (λ n. IsWholeFile held n c.module_limit.result bytes) (c.as_str.ensures ∙ c.file-file.ensures) c.in-Ok.ensures.whole in
-    let whole = subst (λ l. IsWholeFile held (module_file c.args.command.now) l bytes) c.module_limit.ensures named in
-    let e = c.read_whole.ensures in
-    on_ok c.answer_behind.result
-    (λ a is. behind_first before between
-    (record { told = sym e.holdings_stay; faults = e.faults_never_fall; faults_after = refl; taken = e.taken_never_falls; taken_after = refl })
-    c.args.command.now bytes c.deref.result.now a whole c.deref.ensures.value is)
-    c.answer_behind.ensures.said
-
-pub returns-in-Err-clause-said : goal.returns-in-Err-clause-said
-returns-in-Err-clause-said g c =
-    let counts : Counted = counted (g.F.Files.held c.args.files.now) (g.F.Files.faults c.args.files.now) (g.F.Files.faults c.read_whole.new.self) (g.F.Files.taken c.args.files.now) (g.F.Files.taken c.read_whole.new.self) in
-    let name = c.as_str.result.now in
-    let limit = c.module_limit.result in
-    let e = c.read_whole.ensures in
-    on_ok c.unread.result
-    (λ a is.
-    let is_here = subst (λ n. IsAnswerToFault c.in-Err.cause n a) (sym c.as_str.ensures) is in
-    let why = unread counts name limit c.read_whole.result c.in-Err.cause a (record { failed = e.failed; absent = e.absent; too_long = e.too_long }) c.in-Err.is is_here in
-    let of_module = subst (λ n. Unread counts n limit a) (c.as_str.ensures ∙ c.file-file.ensures) why in
-    unread_first counts c.args.command.now a (subst (λ l. Unread counts (module_file c.args.command.now) l a) c.module_limit.ensures of_module))
-    c.unread.ensures
+pub returns-in-Gen-clause-said : goal.returns-in-Gen-clause-said
+returns-in-Gen-clause-said g c = on_ok c.answer_of_gen.result (λ a is. generated_answer _ c.args.command.now _ _ _ a c.in-Gen.is is) c.answer_of_gen.ensures

@@ -1,4 +1,4 @@
-use Rattle.ms_top.proofs.Faithful.{shadow_answer, under_fills, fair_default}
+use Rattle.ms_top.proofs.Faithful.{shadow_answer, summary_shown, under_fills, fair_default, fair_options}
 use Rattle.ms_top.proofs.laws.checks_show_the_shadow_run.Goals as goal
 
 pub returns-clause-shadow : goal.returns-clause-shadow
@@ -6,6 +6,12 @@ returns-clause-shadow c = shadow_answer
 
 pub returns-clause-under_fills : goal.returns-clause-under_fills
 returns-clause-under_fills c = under_fills
+
+pub returns-clause-summary : goal.returns-clause-summary
+returns-clause-summary c = summary_shown
+
+pub returns-clause-fair : goal.returns-clause-fair
+returns-clause-fair c = fair_options
 
 pub returns-clause-defaults : goal.returns-clause-defaults
 returns-clause-defaults c = fair_default

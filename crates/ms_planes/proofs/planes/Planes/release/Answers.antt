@@ -1,28 +1,29 @@
-use Rattle.std.proofs.Common.{ap, ◌∙◌, ◌/◌, arith}
-use Rattle.ms_planes.specs.Areas.{lists}
-use Rattle.ms_planes.specs.Memory.{Memory, bytes_of, shadow_of, origins_of}
-use Rattle.ms_planes.proofs.Reaches.{good-reaches}
-use Rattle.ms_planes.proofs.Changes.{Released, released, bytes-cut, cells-cut, bytes-live, cells-live}
+use Rattle.std.proofs.Common.{◌≡◌, ℕ, ◌<◌, length, get_or, set, take, sym, ap, ◌∙◌, subst, arith, List, Option, []}
+use Rattle.ms_alloc.specs.Allocations.{Allocations, IsLaidOut, without_from}
+use Rattle.ms_raw.specs.Blocks.{Lists}
+use Rattle.ms_planes.specs.Memory.{Memory, IsMemory, KeepsLive, lists}
+use Rattle.ms_planes.proofs.Standing.{vector-at, vector-set}
+use Rattle.ms_planes.proofs.Histories.{memory_of, same-memory, released_memory, released-memory, released-live}
 use Rattle.ms_planes.proofs.planes.Planes.release.Goals as goal
+
+now : (c : goal.After-truncate) → memory_of c.release.new.self (lists (set c.self.inside.areas c.area_of.result c.truncate.new.self)) ≡ released_memory (memory_of c.self.inside.table (lists c.self.inside.areas)) c.args.mark
+now c =
+    let low : 2 < length (lists c.self.inside.areas) = omega (arith, c.self.invariant.three) in
+    let left : c.count-left.result ≡ length (without_from c.args.mark c.self.inside.table).stack = c.count-left.ensures ∙ ap (λ (t : Allocations). length t.stack) c.release.ensures.released in
+    same-memory c.release.new.self (without_from c.args.mark c.self.inside.table) _ (set (lists c.self.inside.areas) 2 (take (length (without_from c.args.mark c.self.inside.table).stack) (get_or (lists c.self.inside.areas) 2 []))) c.release.ensures.released
+    (vector-set c.self.inside.areas c.area_of.result c.truncate.new.self
+    ∙ ap (λ (bs : List (Option Lists)). set (lists c.self.inside.areas) c.area_of.result bs) (c.truncate.ensures.items
+    ∙ ap (λ (k : ℕ). take c.count-left.result (get_or c.self.inside.areas k c.index-self-area_of.result).items) c.area_of.ensures
+    ∙ ap (λ (bs : List (Option Lists)). take c.count-left.result bs) (vector-at c.self.inside.areas 2 c.index-self-area_of.result low)
+    ∙ ap (λ (k : ℕ). take k (get_or (lists c.self.inside.areas) 2 [])) left)
+    ∙ ap (λ (k : ℕ). set (lists c.self.inside.areas) k (take (length (without_from c.args.mark c.self.inside.table).stack) (get_or (lists c.self.inside.areas) 2 []))) c.area_of.ensures)
 
 pub invariant_of-self : goal.invariant_of-self
 invariant_of-self c =
-    let r : Released c.self.inside.table c.release.new.self c.mark-top.result = released c.self.inside.table c.release.new.self c.args.mark c.mark-top.result c.release.ensures.released c.release.ensures.laid_out c.mark-top.ensures in
-    record {
-      laid_out = c.release.ensures.laid_out;
-      bytes = bytes-cut c.self.inside.table c.release.new.self c.mark-top.result (lists c.self.inside.bytes.areas) (lists c.cut.new.self.areas) r c.self.invariant.bytes c.cut.ensures.three c.cut.ensures.shown c.cut.ensures.kept;
-      shadow = bytes-cut c.self.inside.table c.release.new.self c.mark-top.result (lists c.self.inside.shadow.areas) (lists c.cut-2.new.self.areas) r c.self.invariant.shadow c.cut-2.ensures.three c.cut-2.ensures.shown c.cut-2.ensures.kept;
-      origins = cells-cut c.self.inside.table c.release.new.self c.mark-top.result (lists c.self.inside.origins.areas) (lists c.cut-3.new.self.areas) r c.self.invariant.origins c.cut-3.ensures.three c.cut-3.ensures.shown c.cut-3.ensures.kept;
-    }
+    subst IsMemory (sym (now c)) (released-memory (memory_of c.self.inside.table (lists c.self.inside.areas)) c.args.mark c.self.invariant (subst IsLaidOut c.release.ensures.released c.release.ensures.laid_out))
 
 pub returns-clause-live : goal.returns-clause-live
 returns-clause-live c =
-    let r : Released c.self.inside.table c.release.new.self c.mark-top.result = released c.self.inside.table c.release.new.self c.args.mark c.mark-top.result c.release.ensures.released c.release.ensures.laid_out c.mark-top.ensures in
-    record {
-      bytes = λ x good. bytes-live c.self.inside.table c.release.new.self c.mark-top.result (lists c.self.inside.bytes.areas) (lists c.cut.new.self.areas) r c.cut.ensures.shown x (good-reaches c.release.new.self x 1 c.release.ensures.laid_out (omega arith) good)
-          ∙ ap (λ (m : Memory). bytes_of m x) c.self.view_is;
-      shadow = λ x good. bytes-live c.self.inside.table c.release.new.self c.mark-top.result (lists c.self.inside.shadow.areas) (lists c.cut-2.new.self.areas) r c.cut-2.ensures.shown x (good-reaches c.release.new.self x 1 c.release.ensures.laid_out (omega arith) good)
-          ∙ ap (λ (m : Memory). shadow_of m x) c.self.view_is;
-      origins = λ x good. cells-live c.self.inside.table c.release.new.self c.mark-top.result (lists c.self.inside.origins.areas) (lists c.cut-3.new.self.areas) r c.cut-3.ensures.shown x (good-reaches c.release.new.self x 1 c.release.ensures.laid_out (omega arith) good)
-          ∙ ap (λ (m : Memory). origins_of m (x / 4)) c.self.view_is;
-    }
+    let m : Memory = memory_of c.self.inside.table (lists c.self.inside.areas) in
+    subst (λ (q : Memory). KeepsLive q (memory_of c.release.new.self (lists (set c.self.inside.areas c.area_of.result c.truncate.new.self)))) c.self.view_is
+    (subst (KeepsLive m) (sym (now c)) (released-live m c.args.mark c.self.invariant (subst IsLaidOut c.release.ensures.released c.release.ensures.laid_out)))

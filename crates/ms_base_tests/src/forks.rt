@@ -1,0 +1,140 @@
+//! Lists made in halves: that two pieces run at once, and short lists.
+ghost use Rattle.std.specs.Prelude.{◌≡◌, ℕ, ◌*◌, ◌%◌, ◌^◌};
+
+use ms_bits::NoMemory;
+use ms_fork::{Cuts, Gate, OpenGate, Work, by_halves};
+use std::alloc::Global;
+use std::hint::spin_loop;
+use std::sync::atomic::{AtomicBool, Ordering};
+use std::test::Fail;
+use std::thread::Threads;
+
+/// How often a piece looks whether another one has come.
+const TURNS: u32 = 100_000_000;
+
+/// The squares of numbers, which wrap.
+#[derive(Drop)]
+struct Squares;
+
+impl Work for Squares {
+    type Item = u64;
+
+    ghost can = { λ work k. Unit {0} };
+
+    ghost answer = { λ work k. k * k % 2 ^ 64 };
+
+    fn make(&self, _alloc: Global, index: usize) -> Result<u64, NoMemory> {
+        Ok((index as u64).wrapping_mul(index as u64))
+    }
+}
+
+/// A gate at which the first piece and a later one wait for each other. A body that runs one after the other, in whatever
+/// order, keeps the one that comes first waiting until its turns are used up.
+#[derive(Drop)]
+struct Meeting {
+    later: u64,
+    first_came: AtomicBool,
+    later_came: AtomicBool,
+    first_met: AtomicBool,
+    later_met: AtomicBool,
+}
+
+fn has_come(came: &AtomicBool) -> bool {
+    for _ in 0..TURNS {
+        if came.load(Ordering::SeqCst) {
+            return true;
+        }
+        spin_loop();
+    }
+    false
+}
+
+impl Meeting {
+    fn new(later: u64) -> Meeting {
+        Meeting {
+            later,
+            first_came: AtomicBool::new(false),
+            later_came: AtomicBool::new(false),
+            first_met: AtomicBool::new(false),
+            later_met: AtomicBool::new(false),
+        }
+    }
+
+    fn is_met(&self) -> bool {
+        self.first_met.load(Ordering::SeqCst) && self.later_met.load(Ordering::SeqCst)
+    }
+}
+
+impl Gate for Meeting {
+    fn enter(&self, job: u64) {
+        if job == 0 {
+            self.first_came.store(true, Ordering::SeqCst);
+            self.first_met
+                .store(has_come(&self.later_came), Ordering::SeqCst);
+        } else if job == self.later {
+            self.later_came.store(true, Ordering::SeqCst);
+            self.later_met
+                .store(has_come(&self.first_came), Ordering::SeqCst);
+        }
+    }
+}
+
+/// Whether the squares below `count` are made by so many threads, and the piece 0 and another one meet.
+fn meets<R: Threads + Sync>(
+    rt: &R,
+    alloc: Global,
+    count: usize,
+    cuts: Cuts,
+    later: u64,
+    last: u64,
+) -> bool {
+    let gate = Meeting::new(later);
+    match by_halves(rt, alloc, &Squares, count, cuts, &gate) {
+        Ok(all) => gate.is_met()
+            && all.as_slice().len() == count
+            && all.as_slice().last() == Some(&last),
+        Err(_) => false,
+    }
+}
+
+#[test]
+fn two_pieces_run_at_once(rt: HostRuntime) -> Result<(), Fail> {
+    let cuts = Cuts {
+        most: 8,
+        threads: 16,
+    };
+    assert!(rt; meets(&rt, rt.alloc(), 16, cuts, 8, 225));
+    Ok(())
+}
+
+#[test]
+fn two_workers_meet(rt: HostRuntime) -> Result<(), Fail> {
+    let cuts = Cuts {
+        most: 1,
+        threads: 2,
+    };
+    assert!(rt; meets(&rt, rt.alloc(), 2, cuts, 1, 1));
+    Ok(())
+}
+
+/// Whether the squares of 0, 1 and 2 are made in this way.
+fn makes_three<R: Threads + Sync>(rt: &R, alloc: Global, cuts: Cuts) -> bool {
+    match by_halves(rt, alloc, &Squares, 3, cuts, &OpenGate) {
+        Ok(all) => all.as_slice() == [0, 1, 4].as_slice(),
+        Err(_) => false,
+    }
+}
+
+#[test]
+fn short_lists_are_made(rt: HostRuntime) -> Result<(), Fail> {
+    let alone = Cuts {
+        most: 0,
+        threads: 0,
+    };
+    let both = Cuts {
+        most: 1,
+        threads: 8,
+    };
+    assert!(rt; makes_three(&rt, rt.alloc(), alone) && makes_three(&rt, rt.alloc(), both));
+    Ok(())
+}

@@ -1,0 +1,20 @@
+use denote.Param.Send.{sendable}
+use Rattle.std.proofs.Common.{◌≡◌, ◌∙◌, ℕ, List, [], map}
+use Rattle.std.proofs.Crossing
+use Rattle.std.proofs.lemmas.Result.{IfOk-weaker}
+use Rattle.ms_ir.proofs.Crosses.{List-sync}
+use Rattle.ms_runs.specs.declared.runs.RunResult.{RunResult}
+use Rattle.ms_runs.specs.Plain.{plain}
+use Rattle.ms_check.proofs.Crosses.{CheckedModule-sync}
+use Rattle.ms_fork.proofs.Rows.{by_each}
+use Rattle.ms_corpus.specs.Jobs.{with_input}
+use Rattle.ms_corpus.proofs.jobs.run_all.Goals as goal
+
+pub by_halves-requires-sync-W : goal.by_halves-requires-sync-W
+by_halves-requires-sync-W g c κs within = search (CheckedModule-sync, List-sync, Crossing.crosses, sendable) depth 60 fits 20000
+
+pub returns : goal.returns
+returns g c =
+    let of_each : List ℕ → RunResult = λ input. plain c.args.j.now (with_input c.args.setup.now input) in
+    let inputs = c.args.inputs.now in
+    IfOk-weaker c.by_halves.result _ (λ all. all ≡ map of_each inputs) (λ all made. made ∙ by_each of_each inputs []) c.by_halves.ensures

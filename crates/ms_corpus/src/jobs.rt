@@ -1,0 +1,79 @@
+//! The jobs of a list of inputs: each is a piece of its own, and as many threads make them as there are workers.
+ghost use Rattle.std.specs.Prelude.{◌≡◌, ℕ, ◌<◌, ◌≤◌, All, length, map, IfOk};
+ghost use Rattle.ms_runs.specs.Limits.{WithinLimits};
+ghost use Rattle.ms_runs.specs.Plain.{plain};
+ghost use Rattle.ms_corpus.specs.Jobs.{with_input, input_of};
+
+use ms_bits::{Bytes, Duplicate, List, NoMemory};
+use ms_check::CheckedModule;
+use ms_fork::{Cuts, Gate, Work, by_halves};
+use ms_runs::{RunResult, Setup};
+use ms_runtime::run;
+use std::alloc::Global;
+use std::thread::Threads;
+
+/// What the jobs share, to read alone.
+#[derive(Drop)]
+struct Jobs<'a> {
+    module: &'a CheckedModule,
+    inputs: &'a [Bytes],
+    setup: &'a Setup,
+}
+
+impl<'a> Jobs<'a> {
+    /// What the run on an input is given.
+    fn setup_of(&self, alloc: Global, input: &Bytes) -> Result<Setup, NoMemory>
+        ensures { IfOk result (λ s. s ≡ with_input self.now.setup.now input.now) }
+    {
+        Ok(Setup {
+            input: input.copy(alloc)?,
+            fill: self.setup.fill.copy(alloc)?,
+            steps: self.setup.steps,
+            reports: self.setup.reports,
+        })
+    }
+}
+
+impl<'a> Work for Jobs<'a> {
+    type Item = RunResult;
+
+    ghost can = { λ work k. (k < length work.inputs.now) × WithinLimits (with_input work.setup.now (input_of work.inputs.now k)) };
+
+    ghost answer = { λ work k. plain work.module.now (with_input work.setup.now (input_of work.inputs.now k)) };
+
+    fn make(&self, alloc: Global, index: usize) -> Result<RunResult, NoMemory> {
+        let setup = self.setup_of(alloc, &self.inputs[index])?;
+        run(alloc, self.module, &setup)
+    }
+}
+
+/// Runs a module on each of the inputs, with the fill, the bound of steps and the limit of reports of `setup`: the list of
+/// what each run alone gives, in the order of the inputs, for every number of workers and every gate.
+///
+/// Each job enters the gate with its number, counted from 0, before it does anything else. The list is cut in halves, and at
+/// most `workers` threads are at work at once; where no thread can be made, jobs run one after another. The one error is want
+/// of memory, in any job.
+pub fn run_all<R: Threads + Sync, G: Gate + Sync>(
+    rt: &R,
+    alloc: Global,
+    j: &CheckedModule,
+    inputs: &[Bytes],
+    setup: &Setup,
+    workers: u8,
+    gate: &G,
+) -> Result<List<RunResult>, NoMemory>
+    requires workers { (1 ≤ workers) × (workers ≤ 8) }
+    requires limits { All (λ input. WithinLimits (with_input setup.now input)) inputs.now }
+    ensures { IfOk result (λ all. all ≡ map (λ input. plain j.now (with_input setup.now input)) inputs.now) }
+{
+    let work = Jobs {
+        module: j,
+        inputs,
+        setup,
+    };
+    let cuts = Cuts {
+        most: 1,
+        threads: usize::from(workers),
+    };
+    by_halves(rt, alloc, &work, inputs.len(), cuts, gate)
+}

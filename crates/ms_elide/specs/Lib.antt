@@ -1,0 +1,2 @@
+pub mod CleanSets
+pub mod Needed

@@ -1,0 +1,56 @@
+//! Which operands decide whether a result is clean.
+ghost use Rattle.std.specs.Prelude.{◌≡◌, is_some, if◌then◌else◌};
+ghost use Rattle.ms_ir.specs.Code.{external_named};
+ghost use Rattle.ms_tables.specs.FirstPlace.{first_place};
+ghost use Rattle.ms_valid.specs.CleanValues.{is_division};
+ghost use Rattle.ms_elide.specs.Needed.{premises};
+
+use ms_bits::BinOp;
+use ms_ir::{External, Name, Op};
+use ms_tables::NameTable;
+
+/// How many operands of an arithmetic or bitwise operation decide: of a division or a remainder the dividend alone, since
+/// a divisor that has a poisoned bit ends the run before there is a result.
+fn binary_premises(op: BinOp) -> usize
+    ensures { result ≡ (if is_division op then 1 else 2) }
+{
+    match op {
+        BinOp::Udiv | BinOp::Sdiv | BinOp::Urem | BinOp::Srem => 1,
+        _ => 2,
+    }
+}
+
+/// Whether a name is that of an external, and not that of a function of the module.
+fn is_external(functions: &NameTable<'_>, name: &Name) -> bool
+    ensures { result ≡ is_some (external_named (first_place functions.now) name.now) }
+{
+    match functions.place(name) {
+        Some(_) => false,
+        None => External::named(name).is_some(),
+    }
+}
+
+/// How many operands of an operation, from the first on, have to be clean so that its result is; none where its result
+/// never is.
+pub fn premises(functions: &NameTable<'_>, op: &Op) -> Option<usize>
+    ensures { result ≡ premises (first_place functions.now) op.now }
+{
+    match op {
+        Op::Binary { op, .. } => Some(binary_premises(*op)),
+        Op::Icmp { .. } => Some(2),
+        Op::Cast { .. } => Some(1),
+        Op::Select { .. } => Some(3),
+        Op::Freeze { .. } => Some(0),
+        Op::Phi { edges, .. } => Some(edges.as_slice().len()),
+        Op::Alloca { .. } => Some(0),
+        Op::Gep { indices, .. } => Some(indices.as_slice().len() + 1),
+        Op::Call { callee, .. } => {
+            if is_external(functions, callee) {
+                Some(0)
+            } else {
+                None
+            }
+        }
+        _ => None,
+    }
+}

@@ -1,0 +1,71 @@
+//! The clean values of a module.
+ghost use Rattle.std.specs.Prelude.{◌≡◌, ◌<◌, [], length, IfOk, slice_index_or};
+ghost use Rattle.ms_valid.specs.Valid.{Valid};
+ghost use Rattle.ms_elide.specs.CleanSets.{is_in, IsExact};
+
+use crate::values::values_of;
+use ms_bits::NoMemory;
+use ms_ir::{Module, Name};
+use ms_tables::{NameTable, functions_of};
+use std::alloc::Global;
+use std::marker::Model;
+
+/// Values of the functions of a module, by name. The names are borrowed from the module. Contracts see for each function
+/// the list of the names.
+#[derive(Drop)]
+pub struct CleanSet<'m> {
+    funcs: Vec<NameTable<'m>>,
+}
+
+impl<'m> Model for CleanSet<'m> {
+    ghost use Rattle.std.specs.Prelude.{List};
+    ghost use Rattle.ms_ir.specs.declared.syntax.Name.{Name};
+
+    ghost Value = { List (List Name) };
+
+    ghost view = { λ s. s.funcs.items };
+}
+
+impl<'m> CleanSet<'m> {
+    /// Whether the function with a number, counted from 0 in written order, has this value. It takes no memory, and the
+    /// time to find a name.
+    pub fn has(&self, func: u32, value: &Name) -> bool
+        ensures { result ≡ is_in self.now func value.now }
+    {
+        match self.funcs.get(func as usize) {
+            Some(names) => names.contains(value),
+            None => false,
+        }
+    }
+
+    /// How many functions there are.
+    pub fn len(&self) -> usize
+        ensures { result ≡ length self.now }
+    {
+        self.funcs.len()
+    }
+
+    /// The names of the values of the function with a number.
+    pub fn names(&self, func: usize) -> &NameTable<'m>
+        requires { func < length self.now }
+        ensures { result.now ≡ slice_index_or self.now func [] }
+    {
+        &self.funcs[func]
+    }
+}
+
+/// The clean values of a valid module: its results that have no poisoned bit in any run, as far as the text of their
+/// functions shows. Near to linear in the module. The one error is want of memory.
+pub fn clean_values(alloc: Global, m: &Module) -> Result<CleanSet<'_>, NoMemory>
+    requires { Valid m.now }
+    ensures functions { IfOk result (λ s. length s ≡ length m.now.funcs) }
+    ensures exact { IfOk result (λ s. IsExact m.now s) }
+{
+    let functions = functions_of(alloc, m)?;
+    let mut funcs = Vec::with_capacity(alloc, m.funcs.as_slice().len())?;
+    for func in m.funcs.as_slice() {
+        let names = values_of(alloc, &functions, func)?;
+        funcs.push(names)?;
+    }
+    Ok(CleanSet { funcs })
+}

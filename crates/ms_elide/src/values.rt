@@ -1,0 +1,94 @@
+//! The clean values of a function.
+ghost use Rattle.std.specs.Prelude.{◌≡◌, ◌++◌, ◌↔◌, [], IfOk, IsTrue, OnOk, filter, option_to_list};
+ghost use Rattle.ms_ir.specs.declared.syntax.Name.{Name as NameOf};
+ghost use Rattle.ms_ir.specs.declared.syntax.Module.{Module};
+ghost use Rattle.ms_ir.specs.Equal.{has_name};
+ghost use Rattle.ms_ir.specs.Locals.{locals, results, func_insts, function_names};
+ghost use Rattle.ms_valid.specs.NamesOnce.{repeats};
+ghost use Rattle.ms_valid.specs.CleanValues.{IsClean};
+ghost use Rattle.ms_elide.specs.Needed.{is_member};
+
+use crate::needs::needs_of;
+use crate::scopes::Scope;
+use ms_bits::NoMemory;
+use ms_greatest::greatest;
+use ms_ir::{Block, Func, Inst, Name};
+use ms_tables::{NameTable, locals_of};
+use std::alloc::Global;
+
+/// Whether the local with a name is among the members, by places.
+fn is_member(locals: &NameTable<'_>, members: &[bool], name: &Name) -> bool
+    ensures { result ≡ is_member locals.now members.now name.now }
+{
+    match locals.place(name) {
+        Some(place) => members.get(place).copied().unwrap_or(false),
+        None => false,
+    }
+}
+
+/// Adds the name of the result of an instruction, if it is a member.
+fn push_member<'m>(
+    names: &mut NameTable<'m>,
+    locals: &NameTable<'m>,
+    members: &[bool],
+    inst: &'m Inst,
+) -> Result<(), NoMemory>
+    ensures { OnOk result (names.new ≡ names.old ++ filter (is_member locals.now members.now) (option_to_list inst.now.result)) }
+{
+    if let Some(name) = &inst.result {
+        if is_member(locals, members, name) {
+            names.push(name)?;
+        }
+    }
+    Ok(())
+}
+
+/// Adds the names of the results of instructions that are members.
+fn push_members<'m>(
+    names: &mut NameTable<'m>,
+    locals: &NameTable<'m>,
+    members: &[bool],
+    insts: &'m [Inst],
+) -> Result<(), NoMemory>
+    ensures { OnOk result (names.new ≡ names.old ++ filter (is_member locals.now members.now) (results insts.now)) }
+{
+    for inst in insts {
+        push_member(names, locals, members, inst)?;
+    }
+    Ok(())
+}
+
+/// The names of the results of a function that are members.
+fn members_of<'m>(
+    alloc: Global,
+    locals: &NameTable<'m>,
+    members: &[bool],
+    func: &'m Func,
+) -> Result<NameTable<'m>, NoMemory>
+    ensures { IfOk result (λ names. names ≡ filter (is_member locals.now members.now) (results (func_insts func.now))) }
+{
+    let mut names = NameTable::new(alloc);
+    for block in func.blocks.as_slice() {
+        push_members(&mut names, locals, members, block.insts.as_slice())?;
+    }
+    Ok(names)
+}
+
+/// The names of the clean values of a function. The one error is want of memory.
+pub fn values_of<'m>(
+    alloc: Global,
+    functions: &NameTable<'m>,
+    func: &'m Func,
+) -> Result<NameTable<'m>, NoMemory>
+    requires { repeats [] (locals func.now) ≡ [] }
+    ensures { IfOk result (λ names. (m : Module) → functions.now ≡ function_names m → (x : NameOf) → IsTrue (has_name names x) ↔ IsClean m func.now x) }
+{
+    let locals = locals_of(alloc, func)?;
+    let scope = Scope {
+        functions,
+        locals: &locals,
+    };
+    let needs = needs_of(alloc, &scope, func)?;
+    let members = greatest(alloc, &needs)?;
+    members_of(alloc, &locals, members.as_slice(), func)
+}

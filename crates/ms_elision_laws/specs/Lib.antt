@@ -1,0 +1,4 @@
+pub mod Eliding
+pub mod Checks
+pub mod ExampleSayings
+pub mod Elided

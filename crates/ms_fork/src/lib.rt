@@ -1,0 +1,8 @@
+//! Lists whose items several threads make, by fork and join: the same list as one thread makes.
+#![tactic(auto)]
+
+mod gates;
+mod halves;
+
+pub use gates::{Gate, OpenGate};
+pub use halves::{Cuts, Work, by_halves};

@@ -1,0 +1,9 @@
+pub mod Steps
+pub mod Names
+pub mod Callable
+pub mod Fits
+pub mod FormedFunctions
+pub mod Whole
+pub mod Once
+pub mod Unmarked
+pub mod Generated

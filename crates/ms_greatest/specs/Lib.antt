@@ -1,0 +1,2 @@
+pub mod SelfSupport
+pub mod Removal

@@ -1,0 +1,62 @@
+//! The origins of one block, one for each cell of four bytes.
+ghost use Rattle.std.specs.Prelude.{◌≡◌, ◌≤◌, ◌<◌, ◌+◌, ◌^◌, length};
+ghost use Rattle.ms_bits.specs.Maps.{with_range, copied_cells};
+ghost use Rattle.ms_raw.specs.Blocks.{cells};
+ghost use Rattle.ms_planes.specs.Areas.{held};
+
+use crate::parts::is_clean;
+use ms_raw::Block;
+
+/// Puts an origin into the `n` cells from `first` on.
+pub(crate) fn fill_origins(block: &mut Block, first: u64, n: u64, origin: u32)
+    requires within { first + n ≤ cells (length block.old.bytes) }
+    requires lists { length block.old.origins ≡ cells (length block.old.bytes) }
+    requires small { first + n < 2 ^ 40 }
+    ensures shown { held block.new.origins ≡ with_range (held block.old.origins) first n (λ k. origin) }
+    ensures len { length block.new.origins ≡ length block.old.origins }
+    ensures bytes { block.new.bytes ≡ block.old.bytes }
+    ensures shadow { block.new.shadow ≡ block.old.shadow }
+{
+    for i in 0..n {
+        block.set_origin(first + i, origin);
+    }
+}
+
+/// For each of `n` bytes of another block from place `from` on, in rising order: where its shadow isn't 0, puts the
+/// origin of its cell into the cell of the byte as far from place `at`.
+fn copy_origins(block: Block, at: u64, source: &Block, from: u64, n: u64) -> Block
+    requires within { at + n ≤ length block.bytes }
+    requires from { from + n ≤ length source.now.bytes }
+    requires lists { length block.origins ≡ cells (length block.bytes) }
+    requires small { (at + n < 2 ^ 40) × (from + n < 2 ^ 40) }
+    ensures shown { held result.origins ≡ copied_cells (held source.now.shadow) (held source.now.origins) at from n (held block.origins) }
+    ensures len { length result.origins ≡ length block.origins }
+    ensures bytes { result.bytes ≡ block.bytes }
+    ensures shadow { result.shadow ≡ block.shadow }
+{
+    let mut copied = block;
+    for i in 0..n {
+        if source.shadow(from + i) != 0 {
+            let origin = source.origin((from + i) / 4);
+            copied.set_origin((at + i) / 4, origin);
+        }
+    }
+    copied
+}
+
+/// The same, at once where all of those bytes are clean.
+pub(crate) fn take_origins(block: Block, at: u64, source: &Block, from: u64, n: u64) -> Block
+    requires within { at + n ≤ length block.bytes }
+    requires from { from + n ≤ length source.now.bytes }
+    requires lists { length block.origins ≡ cells (length block.bytes) }
+    requires small { (at + n < 2 ^ 40) × (from + n < 2 ^ 40) }
+    ensures shown { held result.origins ≡ copied_cells (held source.now.shadow) (held source.now.origins) at from n (held block.origins) }
+    ensures len { length result.origins ≡ length block.origins }
+    ensures bytes { result.bytes ≡ block.bytes }
+    ensures shadow { result.shadow ≡ block.shadow }
+{
+    if is_clean(source, from, n) {
+        return block;
+    }
+    copy_origins(block, at, source, from, n)
+}

@@ -1,0 +1,165 @@
+//! The bytes of one block, or its shadow bytes: numbers, fills, copies and searches in them.
+ghost use Rattle.std.specs.Prelude.{◌≡◌, ◌≢◌, ◌≤◌, ◌<◌, ◌+◌, ◌^◌, ℕ, length, set, IfNone, IfSome, IsTrue};
+ghost use Rattle.ms_bits.specs.Fill.{made_byte};
+ghost use Rattle.ms_bits.specs.Maps.{with_range, number_at};
+ghost use Rattle.ms_raw.specs.Blocks.{IsLists};
+ghost use Rattle.ms_planes.specs.Areas.{held};
+ghost use Rattle.ms_planes.specs.Blocks.{bytes_in, KeepsOthers, IsFilled, IsFilledInto};
+
+use ms_raw::Block;
+
+/// One of the two lists of bytes that a block has.
+#[derive(Clone, Copy)]
+pub(crate) enum Part {
+    /// The bytes of the program.
+    Bytes,
+    /// Their shadow bytes.
+    Shadow,
+}
+
+/// The byte at a place of a block.
+fn get(block: &Block, part: Part, at: u64) -> u8
+    requires { at < length block.now.bytes }
+    ensures { result ≡ held (bytes_in part block.now) at }
+{
+    match part {
+        Part::Bytes => block.byte(at),
+        Part::Shadow => block.shadow(at),
+    }
+}
+
+/// Puts a byte at a place of a block.
+fn set(block: &mut Block, part: Part, at: u64, v: u8)
+    requires { at < length block.old.bytes }
+    ensures shown { bytes_in part block.new ≡ set (bytes_in part block.old) at v }
+    ensures others { KeepsOthers part block.old block.new }
+{
+    match part {
+        Part::Bytes => block.set_byte(at, v),
+        Part::Shadow => block.set_shadow(at, v),
+    }
+}
+
+/// The number that the `n` bytes from place `at` on are, the least first.
+pub(crate) fn number(block: &Block, part: Part, at: u64, n: u8) -> u64
+    requires within { at + n ≤ length block.now.bytes }
+    requires short { n ≤ 8 }
+    requires small { at < 2 ^ 40 }
+    ensures { result ≡ number_at (held (bytes_in part block.now)) at n }
+{
+    let mut value = 0u64;
+    let mut left = u64::from(n);
+    while left > 0 {
+        left -= 1;
+        value = value * 256 + u64::from(get(block, part, at + left));
+    }
+    value
+}
+
+/// Writes the bytes of `source` from place `at` on.
+pub(crate) fn paste(block: &mut Block, part: Part, at: u64, source: &[u8])
+    requires within { at + length source.now ≤ length block.old.bytes }
+    requires small { at < 2 ^ 40 }
+    requires whole { IsLists (length block.old.bytes) block.old }
+    ensures shown { held (bytes_in part block.new) ≡ with_range (held (bytes_in part block.old)) at (length source.now) (held source.now) }
+    ensures others { KeepsOthers part block.old block.new }
+{
+    for i in 0..source.len() {
+        set(block, part, at + i as u64, source[i]);
+    }
+}
+
+/// Puts `v` at the `n` places from `at` on.
+///
+/// Takes the block by value: behind a reference the compiler has to assume that a byte that is written changes the
+/// block's own pointers, and loads them again in each round.
+fn fill(block: Block, part: Part, at: u64, n: u64, v: u8) -> Block
+    requires within { at + n ≤ length block.bytes }
+    requires small { at + n < 2 ^ 40 }
+    requires whole { IsLists (length block.bytes) block }
+    ensures { IsFilled part block result at n v }
+{
+    let mut filled = block;
+    for i in 0..n {
+        set(&mut filled, part, at + i, v);
+    }
+    filled
+}
+
+/// The same for a block that there may be.
+pub(crate) fn fill_into(slot: &mut Option<Block>, part: Part, at: u64, n: u64, v: u8)
+    requires within { IfSome slot.old (λ l. at + n ≤ length l.bytes) }
+    requires small { at + n < 2 ^ 40 }
+    requires whole { IfSome slot.old (λ l. IsLists (length l.bytes) l) }
+    ensures { IsFilledInto part slot.old slot.new at n v }
+{
+    match slot.take() {
+        Some(block) => *slot = Some(fill(block, part, at, n, v)),
+        None => {}
+    }
+}
+
+/// Copies `n` bytes of another block, from place `from` on, to place `at` on. Takes the block by value, as `fill` does.
+pub(crate) fn copy(block: Block, part: Part, at: u64, source: &Block, from: u64, n: u64) -> Block
+    requires within { at + n ≤ length block.bytes }
+    requires from { from + n ≤ length source.now.bytes }
+    requires small { (at + n < 2 ^ 40) × (from + n < 2 ^ 40) }
+    requires whole { IsLists (length block.bytes) block }
+    ensures shown { held (bytes_in part result) ≡ with_range (held (bytes_in part block)) at n (λ k. held (bytes_in part source.now) (from + k)) }
+    ensures others { KeepsOthers part block result }
+{
+    let mut copied = block;
+    for i in 0..n {
+        let byte = get(source, part, from + i);
+        set(&mut copied, part, at + i, byte);
+    }
+    copied
+}
+
+/// Writes the bytes that a run makes of `fill` after `made` others to the `n` places from `at` on.
+pub(crate) fn put_made(block: &mut Block, at: u64, n: u64, fill: &[u8], made: u64)
+    requires within { at + n ≤ length block.old.bytes }
+    requires filled { 0 < length fill.now }
+    requires small { at + n < 2 ^ 40 }
+    ensures shown { held block.new.bytes ≡ with_range (held block.old.bytes) at n (λ k. made_byte fill.now (made + k)) }
+    ensures others { KeepsOthers Part.Bytes block.old block.new }
+{
+    let count = fill.len();
+    let mut next = (made % count as u64) as usize;
+    for i in 0..n {
+        block.set_byte(at + i, fill[next]);
+        next = if next + 1 == count { 0 } else { next + 1 };
+    }
+}
+
+/// Whether all of the `n` shadow bytes from place `at` on are 0. The loop doesn't stop at the first that isn't, so that
+/// the compiler can look at many at a time.
+pub(crate) fn is_clean(block: &Block, at: u64, n: u64) -> bool
+    requires within { at + n ≤ length block.now.bytes }
+    requires small { at + n < 2 ^ 40 }
+    ensures { IsTrue result → (k : ℕ) → k < n → held block.now.shadow (at + k) ≡ 0 }
+{
+    let mut clean = true;
+    for i in 0..n {
+        if block.shadow(at + i) != 0 {
+            clean = false;
+        }
+    }
+    clean
+}
+
+/// How far from place `at` the first of `n` shadow bytes stands that isn't 0.
+pub(crate) fn first_marked(block: &Block, at: u64, n: u64) -> Option<u64>
+    requires within { at + n ≤ length block.now.bytes }
+    requires small { at + n < 2 ^ 40 }
+    ensures none { IfNone result ((k : ℕ) → k < n → held block.now.shadow (at + k) ≡ 0) }
+    ensures found { IfSome result (λ i. (i < n) × (held block.now.shadow (at + i) ≢ 0)) }
+    ensures first { IfSome result (λ i. (k : ℕ) → k < i → held block.now.shadow (at + k) ≡ 0) }
+{
+    for i in 0..n {
+        if block.shadow(at + i) != 0 {
+            return Some(i);
+        }
+    }
+    None
+}

@@ -1,0 +1,153 @@
+//! What `gen` says: the text of the module that it makes, or the summary of its run.
+ghost use Rattle.std.specs.Prelude.{◌≡◌, ◌++◌, [], true, decimal, codes, length, IfOk};
+ghost use Rattle.ms_ir.specs.Places.{count_sites};
+ghost use Rattle.ms_valid.specs.Formed.{Formed};
+ghost use Rattle.ms_valid.specs.Uninstrumented.{CanInstrument};
+ghost use Rattle.ms_valid.specs.Valid.{Valid};
+ghost use Rattle.ms_written.specs.Modules.{written as text_of};
+ghost use Rattle.ms_report.specs.RunTexts.{line};
+ghost use Rattle.ms_words.specs.Limits.{MadeWithinLimits};
+ghost use Rattle.ms_words.specs.Words.{defaults};
+ghost use Rattle.ms_gen.specs.Generator.{generated};
+ghost use Rattle.ms_top.specs.Command.{setup_of};
+ghost use Rattle.ms_top.specs.Instrumented.{IsInstrumented};
+ghost use Rattle.ms_top.specs.Said.{answer_of, status_of as status_of_run, summary_of, IsAnswerOfGen};
+
+use crate::answers::{Answer, lines_of, run_instrumented, status_of};
+use ms_bits::{Bytes, NoMemory};
+use ms_check::CheckedModule;
+use ms_gen::generate;
+use ms_ir::{Module, sites_of_funcs};
+use ms_runs::{RunResult, Setup};
+use ms_write::write;
+use ms_write_values::push_number;
+use std::alloc::Global;
+
+/// The answer of `gen`: its module is made and written, or checked with no option given. The one error is want of memory.
+pub fn answer_of_gen(
+    alloc: Global,
+    seed: u64,
+    functions: u32,
+    run: bool,
+) -> Result<Answer, NoMemory>
+    requires { MadeWithinLimits seed functions }
+    ensures { IfOk result (λ a. IsAnswerOfGen IsInstrumented run (generated seed functions) a) }
+{
+    let module = generate(alloc, seed, functions)?;
+    if run {
+        summary_of_module(alloc, module)
+    } else {
+        written(alloc, &module)
+    }
+}
+
+/// The answer with a module's text.
+pub fn written(alloc: Global, m: &Module) -> Result<Answer, NoMemory>
+    requires { Formed m.now }
+    ensures { IfOk result (λ a. a ≡ answer_of 0 (text_of m.now) []) }
+{
+    let text = write(alloc, m)?;
+    Ok(Answer::on_out(alloc, text))
+}
+
+/// The summary of the run of a module that is known to be valid.
+fn summary_of_module(alloc: Global, m: Module) -> Result<Answer, NoMemory>
+    requires formed { Formed m }
+    requires valid { Valid m }
+    requires plain { CanInstrument m }
+    ensures { IfOk result (λ a. IsAnswerOfGen IsInstrumented true m a) }
+{
+    let checked = CheckedModule::of_valid(alloc, m)?;
+    summarised(alloc, &checked)
+}
+
+/// The summary of a module's run: the module is checked with no option given.
+pub fn summarised(alloc: Global, m: &CheckedModule) -> Result<Answer, NoMemory>
+    requires { CanInstrument m.now }
+    ensures { IfOk result (λ a. IsAnswerOfGen IsInstrumented true m.now a) }
+{
+    m.is_valid();
+    let setup = default_setup(alloc)?;
+    let result = run_instrumented(alloc, m, &setup)?;
+    summary_answer(alloc, m.module(), &result)
+}
+
+/// What a run is given where no option is: no input, the fill a5, ten million steps, one report.
+fn default_setup(alloc: Global) -> Result<Setup, NoMemory>
+    ensures { IfOk result (λ s. s ≡ setup_of defaults []) }
+{
+    let fill = vec![in alloc; 0xa5]?;
+    Ok(Setup {
+        input: Bytes::from_vec(Vec::new(alloc)),
+        fill: Bytes::from_vec(fill),
+        steps: 10000000,
+        reports: 1,
+    })
+}
+
+/// The answer with the summary of a run.
+fn summary_answer(alloc: Global, m: &Module, r: &RunResult) -> Result<Answer, NoMemory>
+    requires { Formed m.now }
+    ensures { IfOk result (λ a. a ≡ answer_of (status_of_run r.now) (summary_of m.now r.now) []) }
+{
+    let out = summary(alloc, m, r)?;
+    Ok(Answer {
+        status: status_of(r),
+        out: Bytes::from_vec(out),
+        err: Bytes::from_vec(Vec::new(alloc)),
+    })
+}
+
+/// The lines of a summary.
+fn summary(alloc: Global, m: &Module, r: &RunResult) -> Result<Vec<u8>, NoMemory>
+    requires { Formed m.now }
+    ensures { IfOk result (λ text. text.items ≡ summary_of m.now r.now) }
+{
+    let mut text = lines_of_size(alloc, m, r)?;
+    let lines = lines_of(alloc, m, r, true)?;
+    text.extend_from_slice(&lines)?;
+    Ok(text)
+}
+
+/// The lines on the size of a module and of its output.
+fn lines_of_size(alloc: Global, m: &Module, r: &RunResult) -> Result<Vec<u8>, NoMemory>
+    requires { Formed m.now }
+    ensures { IfOk result (λ text. text.items ≡
+        line (codes "functions") (decimal (length m.now.funcs)) ++ line (codes "sites") (decimal (count_sites m.now)) ++ line (codes "output") (decimal (length r.now.output) ++ codes " bytes")) }
+{
+    let mut text = Vec::new(alloc);
+    push_count(&mut text, b"functions", m.funcs.as_slice().len() as u64)?;
+    push_sites(&mut text, m)?;
+    push_output(&mut text, r)?;
+    Ok(text)
+}
+
+/// Adds the line of a number with a name.
+fn push_count(text: &mut Vec<u8>, name: &[u8], count: u64) -> Result<(), NoMemory>
+    ensures { IfOk result (λ _. text.new.items ≡ text.old.items ++ line name.now (decimal count)) }
+{
+    text.extend_from_slice(name)?;
+    text.extend_from_slice(b": ")?;
+    push_number(text, count)?;
+    text.push(b'\n')?;
+    Ok(())
+}
+
+/// Adds the line of a module's number of sites.
+fn push_sites(text: &mut Vec<u8>, m: &Module) -> Result<(), NoMemory>
+    requires { Formed m.now }
+    ensures { IfOk result (λ _. text.new.items ≡ text.old.items ++ line (codes "sites") (decimal (count_sites m.now))) }
+{
+    let sites = sites_of_funcs(m.funcs.as_slice());
+    push_count(text, b"sites", sites as u64)
+}
+
+/// Adds the line of how many bytes a run put out.
+fn push_output(text: &mut Vec<u8>, r: &RunResult) -> Result<(), NoMemory>
+    ensures { IfOk result (λ _. text.new.items ≡ text.old.items ++ line (codes "output") (decimal (length r.now.output) ++ codes " bytes")) }
+{
+    text.extend_from_slice(b"output: ")?;
+    push_number(text, r.output.as_slice().len() as u64)?;
+    text.extend_from_slice(b" bytes\n")?;
+    Ok(())
+}

@@ -1,0 +1,80 @@
+//! Runs in which nothing is computed of values that are clean in every run.
+
+use crate::modules::{Checked, Terms, all_checked};
+use std::test::Fail;
+
+/// Of the phi's two edges one is undefined: an `A` takes the other one.
+const ONE_EDGE: &str =
+    "define i32 @main() {\n  %1 = call i32 @getchar()\n  %2 = icmp eq i32 %1, 65\n  br i1 %2, label %3, label %4\n3:\n  br label %5\n4:\n  br label %5\n5:\n  %6 = phi i32 [ 0, %3 ], [ undef, %4 ]\n  ret i32 %6\n}\ndeclare i32 @getchar()\n";
+
+/// The loop's phi is undefined at first, and so is each sum: they support each other, and none is clean.
+const UNDEFINED_FIRST: &str =
+    "define i32 @main() {\n  br label %1\n1:\n  %2 = phi i32 [ undef, %0 ], [ %3, %1 ]\n  %3 = and i32 %2, 7\n  %4 = icmp eq i32 0, 0\n  br i1 %4, label %5, label %1\n5:\n  ret i32 %3\n}\n";
+
+/// A quotient is poisoned with its dividend, and so is a product of it.
+const DIVIDEND: &str =
+    "define i32 @main() {\n  %1 = udiv i32 undef, 4\n  %2 = mul i32 %1, 2\n  ret i32 %2\n}\n";
+
+/// A parameter has the bits that the caller hands over, in one of two calls.
+const PARAMETER: &str =
+    "define i32 @id(i32 %0) {\n  ret i32 %0\n}\ndefine i32 @main() {\n  %1 = call i32 @id(i32 3)\n  %2 = call i32 @id(i32 undef)\n  %3 = xor i32 %1, %2\n  ret i32 %3\n}\n";
+
+/// An input for the first of these modules alone.
+const AN_A: Terms = Terms {
+    input: b"A",
+    fill: b"\xa5",
+    steps: 10000000,
+    reports: 1,
+};
+
+const NO_INPUT: Terms = Terms {
+    input: b"",
+    fill: b"\xa5",
+    steps: 10000000,
+    reports: 1,
+};
+
+static ROWS: [Checked; 5] = [
+    Checked(
+        AN_A,
+        ONE_EDGE,
+        b"",
+        "end: exit 0\nreports: 0\nblind: 0\nverdict: clean\n",
+        0,
+    ),
+    Checked(
+        NO_INPUT,
+        ONE_EDGE,
+        b"",
+        "report 1: exit at site 7 in @main, part 0, bits 0xffffffff of i32\n  origin 1: undef at site 6 in @main\nend: reported\nreports: 1\nblind: 0\nverdict: poisoned\n",
+        77,
+    ),
+    Checked(
+        NO_INPUT,
+        UNDEFINED_FIRST,
+        b"",
+        "report 1: exit at site 6 in @main, part 0, bits 0x7 of i32\n  origin 1: undef at site 2 in @main\nend: reported\nreports: 1\nblind: 0\nverdict: poisoned\n",
+        77,
+    ),
+    // The dividend and the factor are two blind uses; 0xa5a5a5a5 by 4.
+    Checked(
+        NO_INPUT,
+        DIVIDEND,
+        b"",
+        "report 1: exit at site 3 in @main, part 0, bits 0xffffffff of i32\n  origin 1: undef at site 1 in @main\nend: reported\nreports: 1\nblind: 2\nverdict: poisoned\n",
+        77,
+    ),
+    Checked(
+        NO_INPUT,
+        PARAMETER,
+        b"",
+        "report 1: exit at site 5 in @main, part 0, bits 0xffffffff of i32\n  origin 1: undef at site 3 in @main\nend: reported\nreports: 1\nblind: 0\nverdict: poisoned\n",
+        77,
+    ),
+];
+
+#[test]
+fn clean_values_alone_are_left_out(rt: HostRuntime) -> Result<(), Fail> {
+    assert!(rt; all_checked(rt.alloc(), &ROWS));
+    Ok(())
+}

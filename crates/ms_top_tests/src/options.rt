@@ -1,0 +1,283 @@
+//! Words that are no command, options that are read, and modules that are generated.
+
+use crate::calls::{Case, all_agree};
+use crate::modules::{Checked, Terms, all_checked};
+use std::test::Fail;
+
+/// Its word is made of the bytes of the fill.
+const FROZEN: &str = "define i32 @main() {\n  %1 = freeze i32 undef\n  ret i32 %1\n}\n";
+
+/// Traps under a fill whose word is the greatest number with a sign.
+const SUM: &str = "define i32 @main() {\n  %1 = add nsw i32 undef, 1\n  ret i32 %1\n}\n";
+
+/// Two uses of undefined words.
+const TWO_USES: &str =
+    "define i32 @main() {\n  br i1 undef, label %1, label %1\n1:\n  ret i32 undef\n}\n";
+
+const RETURNS: &str = "define i32 @main() {\n  ret i32 0\n}\n";
+
+/// Echoes one byte.
+const ECHO: &str =
+    "declare i32 @putchar(i32)\ndeclare i32 @getchar()\ndefine i32 @main() {\n  %1 = call i32 @getchar()\n  %2 = call i32 @putchar(i32 %1)\n  ret i32 0\n}\n";
+
+/// A module of one function, from the seed 0.
+const FROM_ZERO: &str =
+    "declare i32 @putchar(i32)\ndefine i32 @f0(i32 %0) {\n  %2 = alloca i32\n  store i32 %0, ptr %2\n  %3 = load i32, ptr %2\n  %4 = add i32 %3, 30472\n  %5 = or i32 %4, 3444\n  %6 = or i32 %5, 16283\n  %7 = and i32 %6, 48071\n  %8 = and i32 %7, 29851\n  %9 = add i32 %8, 42706\n  %10 = xor i32 %9, 34877\n  %11 = and i32 %10, 22814\n  ret i32 %11\n}\ndefine i32 @main() {\n  %1 = call i32 @f0(i32 1)\n  %2 = call i32 @putchar(i32 %1)\n  ret i32 0\n}\n";
+
+/// A module of two functions, from the seed 7.
+const FROM_SEVEN: &str =
+    "declare i32 @putchar(i32)\ndefine i32 @f0(i32 %0) {\n  %2 = alloca i32\n  store i32 %0, ptr %2\n  %3 = load i32, ptr %2\n  %4 = xor i32 %3, 3391\n  %5 = or i32 %4, 23441\n  %6 = or i32 %5, 51459\n  %7 = and i32 %6, 14356\n  %8 = add i32 %7, 42614\n  %9 = add i32 %8, 2483\n  %10 = and i32 %9, 21616\n  %11 = or i32 %10, 63906\n  ret i32 %11\n}\ndefine i32 @f1(i32 %0) {\n  %2 = alloca i32\n  store i32 %0, ptr %2\n  %3 = load i32, ptr %2\n  %4 = or i32 %3, 36467\n  %5 = and i32 %4, 39071\n  %6 = and i32 %5, 31649\n  %7 = xor i32 %6, 18226\n  %8 = or i32 %7, 49264\n  %9 = and i32 %8, 7641\n  %10 = or i32 %9, 52080\n  %11 = and i32 %10, 61853\n  %12 = call i32 @f0(i32 %11)\n  ret i32 %12\n}\ndefine i32 @main() {\n  %1 = call i32 @f1(i32 1)\n  %2 = call i32 @putchar(i32 %1)\n  ret i32 0\n}\n";
+
+/// What a run is given where no option is.
+const DEFAULTS: Terms = Terms {
+    input: b"",
+    fill: b"\xa5",
+    steps: 10000000,
+    reports: 1,
+};
+
+static FAULTS: [Case; 37] = [
+    Case("", "", "", "words: UnknownCommand at 0\n", 2),
+    Case("corpus f a", "", "", "words: UnknownCommand at 0\n", 2),
+    Case("runs f", "", "", "words: UnknownCommand at 0\n", 2),
+    Case("checks f", "", "", "words: UnknownCommand at 0\n", 2),
+    Case("run", "", "", "words: MissingFile at 1\n", 2),
+    Case("check", "", "", "words: MissingFile at 1\n", 2),
+    Case("check --steps 01 f", "", "", "words: BadNumber at 2\n", 2),
+    Case("check --fill a f", "", "", "words: BadHex at 2\n", 2),
+    Case("check a b", "", "", "words: Extra at 2\n", 2),
+    Case(
+        "run --steps 5 --steps 6 f",
+        "",
+        "",
+        "words: Repeated at 3\n",
+        2,
+    ),
+    Case("run --input", "", "", "words: MissingValue at 2\n", 2),
+    Case("run -x f", "", "", "words: UnknownOption at 1\n", 2),
+    Case("run --reports 0 f", "", "", "words: OutOfRange at 2\n", 2),
+    Case("gen --seed 7", "", "", "words: MissingOption at 3\n", 2),
+    Case(
+        "instrument --fill 00 f",
+        "",
+        "",
+        "words: UnknownOption at 1\n",
+        2,
+    ),
+    Case("run --", "", "", "words: MissingFile at 2\n", 2),
+    Case("run f --steps=5", "", "", "words: Extra at 2\n", 2),
+    Case("run f --", "", "", "words: Extra at 2\n", 2),
+    Case("gen --seed=1 f", "", "", "words: Extra at 2\n", 2),
+    Case("run --steps= f", "", "", "words: BadNumber at 1\n", 2),
+    Case("run --steps 00 f", "", "", "words: BadNumber at 2\n", 2),
+    Case("run --steps +1 f", "", "", "words: BadNumber at 2\n", 2),
+    Case(
+        "run --steps 1000000001 f",
+        "",
+        "",
+        "words: OutOfRange at 2\n",
+        2,
+    ),
+    Case(
+        "gen --seed 18446744073709551616",
+        "",
+        "",
+        "words: OutOfRange at 2\n",
+        2,
+    ),
+    Case("gen --functions=0", "", "", "words: OutOfRange at 1\n", 2),
+    Case(
+        "gen --functions 1001",
+        "",
+        "",
+        "words: OutOfRange at 2\n",
+        2,
+    ),
+    Case("run --speed", "", "", "words: UnknownOption at 1\n", 2),
+    Case("run --=5 f", "", "", "words: UnknownOption at 1\n", 2),
+    Case("run ---steps 5 f", "", "", "words: UnknownOption at 1\n", 2),
+    Case("gen --run=x", "", "", "words: UnknownOption at 1\n", 2),
+    Case(
+        "gen --run --run=x",
+        "",
+        "",
+        "words: UnknownOption at 2\n",
+        2,
+    ),
+    Case("gen --run --run", "", "", "words: Repeated at 2\n", 2),
+    Case("run --steps=1 --steps", "", "", "words: Repeated at 2\n", 2),
+    Case(
+        "run --steps=1 --steps=x",
+        "",
+        "",
+        "words: Repeated at 2\n",
+        2,
+    ),
+    Case("run --fill=g --speed", "", "", "words: BadHex at 1\n", 2),
+    Case("run --step 5 f", "", "", "words: UnknownOption at 1\n", 2),
+    Case("run --seed 5 f", "", "", "words: UnknownOption at 1\n", 2),
+];
+
+static OPTIONS: [Case; 16] = [
+    Case(
+        "run --fill=A5 -- f",
+        FROZEN,
+        "",
+        "end: exit 2779096485\nreports: 0\nblind: 0\n",
+        0,
+    ),
+    Case(
+        "run --fill 00 f",
+        FROZEN,
+        "",
+        "end: exit 0\nreports: 0\nblind: 0\n",
+        0,
+    ),
+    Case(
+        "run --fill 0102 f",
+        FROZEN,
+        "",
+        "end: exit 33620481\nreports: 0\nblind: 0\n",
+        0,
+    ),
+    Case(
+        "check f",
+        FROZEN,
+        "",
+        "end: exit 2779096485\nreports: 0\nblind: 1\nverdict: unsure\n",
+        0,
+    ),
+    Case(
+        "check --fill=00 f",
+        FROZEN,
+        "",
+        "end: exit 0\nreports: 0\nblind: 1\nverdict: unsure\n",
+        0,
+    ),
+    Case(
+        "check --fill ffffff7f f",
+        SUM,
+        "",
+        "end: trap nsw at site 1 in @main\nreports: 0\nblind: 1\nverdict: unsure\n",
+        3,
+    ),
+    Case(
+        "check --fill 00 f",
+        SUM,
+        "",
+        "report 1: exit at site 2 in @main, part 0, bits 0xffffffff of i32\n  origin 1: undef at site 1 in @main\nend: reported\nreports: 1\nblind: 1\nverdict: poisoned\n",
+        77,
+    ),
+    Case(
+        "check --reports 2 f",
+        TWO_USES,
+        "",
+        "report 1: branch at site 1 in @main, part 0, bits 0x1 of i1\n  origin 1: undef at site 1 in @main\nreport 2: exit at site 2 in @main, part 0, bits 0xffffffff of i32\n  origin 2: undef at site 2 in @main\nend: reported\nreports: 2\nblind: 0\nverdict: poisoned\n",
+        77,
+    ),
+    Case(
+        "check --reports=3 --fill=00 f",
+        TWO_USES,
+        "",
+        "report 1: branch at site 1 in @main, part 0, bits 0x1 of i1\n  origin 1: undef at site 1 in @main\nreport 2: exit at site 2 in @main, part 0, bits 0xffffffff of i32\n  origin 2: undef at site 2 in @main\nend: exit 0\nreports: 2\nblind: 0\nverdict: poisoned\n",
+        77,
+    ),
+    Case(
+        "run --steps 0 f",
+        RETURNS,
+        "",
+        "end: spent\nreports: 0\nblind: 0\n",
+        4,
+    ),
+    Case(
+        "run --steps=1 f",
+        RETURNS,
+        "",
+        "end: exit 0\nreports: 0\nblind: 0\n",
+        0,
+    ),
+    Case(
+        "run --steps 1000000000 --reports 1000 f",
+        RETURNS,
+        "",
+        "end: exit 0\nreports: 0\nblind: 0\n",
+        0,
+    ),
+    Case(
+        "run --input f f",
+        ECHO,
+        "d",
+        "end: exit 0\nreports: 0\nblind: 0\n",
+        0,
+    ),
+    Case(
+        "run --input=f f",
+        ECHO,
+        "d",
+        "end: exit 0\nreports: 0\nblind: 0\n",
+        0,
+    ),
+    Case("instrument -- g", RETURNS, "", "file fault: g\n", 6),
+    Case("run - f", RETURNS, "", "words: Extra at 2\n", 2),
+];
+
+static GENERATED: [Case; 4] = [
+    Case("gen --seed 0 --functions 1", "", FROM_ZERO, "", 0),
+    Case("gen --functions=2 --seed=7", "", FROM_SEVEN, "", 0),
+    Case(
+        "gen --seed 7 --functions 500 --run",
+        "",
+        "functions: 501\nsites: 6502\noutput: 1 bytes\nend: exit 0\nreports: 0\nblind: 0\nverdict: clean\n",
+        "",
+        0,
+    ),
+    Case(
+        "gen --run --seed 18446744073709551615 --functions 3",
+        "",
+        "functions: 4\nsites: 41\noutput: 1 bytes\nend: exit 0\nreports: 0\nblind: 0\nverdict: clean\n",
+        "",
+        0,
+    ),
+];
+
+/// The bytes that these functions put out were computed from the generator's numbers by hand.
+static GENERATED_RUNS: [Checked; 2] = [
+    Checked(
+        DEFAULTS,
+        FROM_ZERO,
+        b"\x08",
+        "end: exit 0\nreports: 0\nblind: 0\nverdict: clean\n",
+        0,
+    ),
+    Checked(
+        DEFAULTS,
+        FROM_SEVEN,
+        b"\xb2",
+        "end: exit 0\nreports: 0\nblind: 0\nverdict: clean\n",
+        0,
+    ),
+];
+
+#[test]
+fn the_first_fault_is_said(rt: HostRuntime) -> Result<(), Fail> {
+    assert!(rt; all_agree(rt.alloc(), &FAULTS));
+    Ok(())
+}
+
+#[test]
+fn options_are_read(rt: HostRuntime) -> Result<(), Fail> {
+    assert!(rt; all_agree(rt.alloc(), &OPTIONS));
+    Ok(())
+}
+
+#[test]
+fn modules_are_generated(rt: HostRuntime) -> Result<(), Fail> {
+    assert!(rt; all_agree(rt.alloc(), &GENERATED));
+    Ok(())
+}
+
+#[test]
+fn generated_modules_are_checked(rt: HostRuntime) -> Result<(), Fail> {
+    assert!(rt; all_checked(rt.alloc(), &GENERATED_RUNS));
+    Ok(())
+}

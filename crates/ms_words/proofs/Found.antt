@@ -1,0 +1,192 @@
+-- What `clap` finds in accepted words.
+use Rattle.std.proofs.Common.{◌≡◌, ◌∙◌, ◌++◌, ◌≤◌, true, List, [], ◌∷◌, Option, Some, None, refl, sym, ap, ap₂, subst, codes, length, arith}
+use Rattle.std.specs.Prelude.{All, ◌^◌, ◌-◌, is_some, slice_get, unwrap_or}
+use Rattle.clap.specs.Words.{App, Row, matches_of, rows_of, takes as takes_words, first_of, first_value, new_app, with_rule}
+use Rattle.clap.specs.declared.parser.matches.Found.{Found}
+use Rattle.clap.proofs.OnLiterals.{clap_on_literals}
+use Rattle.clap.proofs.WalkLemmas.{first_value-rows}
+use Rattle.ms_words.specs.declared.commands.Command.TheVariants as made
+use Rattle.ms_words.specs.declared.commands.Options.{Options}
+use Rattle.ms_words.specs.declared.names.CommandName.{CommandName}
+use Rattle.ms_words.specs.declared.names.CommandName.TheVariants.{Instrument, Run, Check, Gen}
+use Rattle.ms_words.specs.declared.names.OptionName.{OptionName}
+use Rattle.ms_words.specs.declared.names.OptionName.TheVariants as option
+use Rattle.ms_words.specs.declared.names.Takes.TheVariants.{Nothing}
+use Rattle.ms_words.specs.Table.{Word, takes, command_word, options_of}
+use Rattle.ms_words.specs.Values.{number, hex_bytes, value_fault}
+use Rattle.ms_words.specs.Reading.{Given}
+use Rattle.ms_words.specs.Words.{value_of, number_by, options_by, command_by, command_given}
+use Rattle.ms_words.specs.ClapForm.{app_for, files_rule, with_options, spelled, spelled_option, spelled_options}
+use Rattle.ms_words.specs.Fields.{Fits, FitsRun, found_value, found_file, found_by}
+use Rattle.ms_words.specs.Accepted.{Whole}
+use Rattle.ms_words.proofs.GoodValues.{IsGood, good_value, hex_good, number_good}
+
+-- ---- the commands that run a module, by their words' form
+
+abbrev run_app : Word → App
+run_app word = with_rule (with_options (new_app word) (options_of Run)) files_rule
+
+abbrev run_form : Word → Option Word → (fill steps reports file : Word) → List Word
+run_form word input fill steps reports file =
+    word ∷ ((spelled_option option.Input input ++ (spelled_option option.Fill (Some fill) ++ (spelled_option option.Steps (Some steps)
+    ++ (spelled_option option.Reports (Some reports) ++ [])))) ++ codes "--" ∷ file ∷ [])
+
+run_takes : (word : Word) (a : Option Word) (b c d f : Word) → takes_words (run_app word) (run_form word a b c d f) ≡ true
+unfolding clap_on_literals
+run_takes word None b c d f = refl
+run_takes word (Some a) b c d f = refl
+
+run_input : (word : Word) (a : Option Word) (b c d f : Word) → first_of (codes "input") (matches_of (run_app word) (run_form word a b c d f)) ≡ a
+unfolding clap_on_literals
+run_input word None b c d f = refl
+run_input word (Some a) b c d f = refl
+
+run_fill : (word : Word) (a : Option Word) (b c d f : Word) → first_of (codes "fill") (matches_of (run_app word) (run_form word a b c d f)) ≡ Some b
+unfolding clap_on_literals
+run_fill word None b c d f = refl
+run_fill word (Some a) b c d f = refl
+
+run_steps : (word : Word) (a : Option Word) (b c d f : Word) → first_of (codes "steps") (matches_of (run_app word) (run_form word a b c d f)) ≡ Some c
+unfolding clap_on_literals
+run_steps word None b c d f = refl
+run_steps word (Some a) b c d f = refl
+
+run_reports : (word : Word) (a : Option Word) (b c d f : Word) → first_of (codes "reports") (matches_of (run_app word) (run_form word a b c d f)) ≡ Some d
+unfolding clap_on_literals
+run_reports word None b c d f = refl
+run_reports word (Some a) b c d f = refl
+
+run_file : (word : Word) (a : Option Word) (b c d f : Word) → first_of (codes "files") (matches_of (run_app word) (run_form word a b c d f)) ≡ Some f
+unfolding clap_on_literals
+run_file word None b c d f = refl
+run_file word (Some a) b c d f = refl
+
+at : (f : Found) (id : Word) (rows : List Row) → rows_of f ≡ rows → first_value f id ≡ first_of id rows
+at f id rows are = first_value-rows f id ∙ ap (first_of id) are
+
+run_fields : (word : Word) (a : Option Word) (b c d file : Word) (f : Found) → rows_of f ≡ matches_of (run_app word) (run_form word a b c d file)
+    → (options_by (found_value f) ≡ record { input = a; fill = hex_bytes b; steps = number c; reports = number d })
+    × (found_file f ≡ file)
+run_fields word a b c d file f are =
+    let input = at f (codes "input") _ are ∙ run_input word a b c d file in
+    let fill = at f (codes "fill") _ are ∙ run_fill word a b c d file in
+    let steps = at f (codes "steps") _ are ∙ run_steps word a b c d file in
+    let reports = at f (codes "reports") _ are ∙ run_reports word a b c d file in
+    let files = at f (codes "files") _ are ∙ run_file word a b c d file in (
+      rw (input, fill, steps, reports) refl,
+      rw files refl,
+    )
+
+-- ---- every command
+
+one_file : (files : List Word) → 1 ≤ length files → length files ≤ 1 → (file : Word) × (files ≡ file ∷ [])
+one_file [] least most = absurd (omega (arith, least))
+one_file (file ∷ []) least most = (file, refl)
+one_file (file ∷ other ∷ rest) least most = absurd (omega (arith, most))
+
+no_files : (files : List Word) → length files ≤ 0 → files ≡ []
+no_files [] most = refl
+no_files (file ∷ rest) most = absurd (omega (arith, most))
+
+instrument_takes : (file : Word) → takes_words (app_for Instrument) (codes "instrument" ∷ codes "--" ∷ file ∷ []) ≡ true
+unfolding clap_on_literals
+instrument_takes file = refl
+
+instrument_file : (file : Word) → first_of (codes "files") (matches_of (app_for Instrument) (codes "instrument" ∷ codes "--" ∷ file ∷ [])) ≡ Some file
+unfolding clap_on_literals
+instrument_file file = refl
+
+abbrev gen_form : (seed functions run : Option Word) → List Word
+gen_form seed functions run =
+    codes "gen" ∷ ((spelled_option option.Seed seed ++ (spelled_option option.Functions functions ++ (spelled_option option.Run run ++ []))) ++ codes "--" ∷ [])
+
+gen_takes : (a b c : Option Word) → takes_words (app_for Gen) (gen_form a b c) ≡ true
+unfolding clap_on_literals
+gen_takes None None None = refl
+gen_takes None None (Some c) = refl
+gen_takes None (Some b) None = refl
+gen_takes None (Some b) (Some c) = refl
+gen_takes (Some a) None None = refl
+gen_takes (Some a) None (Some c) = refl
+gen_takes (Some a) (Some b) None = refl
+gen_takes (Some a) (Some b) (Some c) = refl
+
+gen_found : (a b c : Option Word) → let rows = matches_of (app_for Gen) (gen_form a b c) in
+    (first_of (codes "seed") rows ≡ a) × (first_of (codes "functions") rows ≡ b) × (is_some (found_by Nothing (first_of (codes "run") rows)) ≡ is_some c)
+unfolding clap_on_literals
+gen_found None None None = (refl, refl, refl)
+gen_found None None (Some c) = (refl, refl, refl)
+gen_found None (Some b) None = (refl, refl, refl)
+gen_found None (Some b) (Some c) = (refl, refl, refl)
+gen_found (Some a) None None = (refl, refl, refl)
+gen_found (Some a) None (Some c) = (refl, refl, refl)
+gen_found (Some a) (Some b) None = (refl, refl, refl)
+gen_found (Some a) (Some b) (Some c) = (refl, refl, refl)
+
+gen_fields : (a b c : Option Word) (f : Found) → rows_of f ≡ matches_of (app_for Gen) (gen_form a b c)
+    → made.Gen (number_by (found_value f option.Seed)) (number_by (found_value f option.Functions)) (is_some (found_value f option.Run))
+    ≡ made.Gen (number_by a) (number_by b) (is_some c)
+gen_fields a b c f are =
+    let found = gen_found a b c in
+    let seed = at f (codes "seed") _ are ∙ found.0 in
+    let functions = at f (codes "functions") _ are ∙ found.1 in
+    let run = ap (λ (v : Option Word). is_some (found_by Nothing v)) (at f (codes "run") _ are) ∙ found.2 in
+    rw (seed, functions, run) refl
+
+-- the command of `clap` takes accepted words
+pub takes_spelled : (c : CommandName) (g : Given) → Whole c g → takes_words (app_for c) (spelled c g) ≡ true
+takes_spelled Instrument g whole = let one = one_file g.files whole.enough whole.few in rw one.1 (instrument_takes one.0)
+takes_spelled Run g whole = let one = one_file g.files whole.enough whole.few in rw one.1 (run_takes (codes "run") (value_of option.Input g) _ _ _ one.0)
+takes_spelled Check g whole = let one = one_file g.files whole.enough whole.few in rw one.1 (run_takes (codes "check") (value_of option.Input g) _ _ _ one.0)
+takes_spelled Gen g whole = rw (no_files g.files whole.few) (gen_takes (value_of option.Seed g) (value_of option.Functions g) (value_of option.Run g))
+
+-- the same with its one file
+with_file : (c : CommandName) (g : Given) (file : Word) (rows : List Row) → g.files ≡ file ∷ [] → rows ≡ matches_of (app_for c) (spelled c g)
+    → rows ≡ matches_of (app_for c) (command_word c ∷ (spelled_options (options_of c) g ++ codes "--" ∷ file ∷ []))
+with_file c g file rows is are = are ∙ ap (λ (files : List Word). matches_of (app_for c) (command_word c ∷ (spelled_options (options_of c) g ++ codes "--" ∷ files))) is
+
+first_of_files : (g : Given) (file : Word) → g.files ≡ file ∷ [] → unwrap_or (slice_get g.files 0) [] ≡ file
+first_of_files g file is = rw is refl
+
+-- and finds the fields in them
+pub fields_found : (c : CommandName) (g : Given) (f : Found) → Whole c g → rows_of f ≡ matches_of (app_for c) (spelled c g)
+    → command_by c (found_value f) (found_file f) ≡ command_given c g
+fields_found Instrument g f whole are =
+    let one = one_file g.files whole.enough whole.few in
+    let found = at f (codes "files") _ (with_file Instrument g one.0 (rows_of f) one.1 are) ∙ instrument_file one.0 in
+    ap (λ (file : Word). made.Instrument file) (ap (λ (o : Option Word). unwrap_or o []) found ∙ sym (first_of_files g one.0 one.1))
+fields_found Run g f whole are =
+    let one = one_file g.files whole.enough whole.few in
+    let fields = run_fields (codes "run") (value_of option.Input g) _ _ _ one.0 f (with_file Run g one.0 (rows_of f) one.1 are) in
+    ap₂ (λ (file : Word) (o : Options). made.Run file o) (fields.1 ∙ sym (first_of_files g one.0 one.1)) fields.0
+fields_found Check g f whole are =
+    let one = one_file g.files whole.enough whole.few in
+    let fields = run_fields (codes "check") (value_of option.Input g) _ _ _ one.0 f (with_file Check g one.0 (rows_of f) one.1 are) in
+    ap₂ (λ (file : Word) (o : Options). made.Check file o) (fields.1 ∙ sym (first_of_files g one.0 one.1)) fields.0
+fields_found Gen g f whole are =
+    gen_fields (value_of option.Seed g) (value_of option.Functions g) (value_of option.Run g) f
+    (are ∙ ap (λ (files : List Word). matches_of (app_for Gen) (command_word Gen ∷ (spelled_options (options_of Gen) g ++ codes "--" ∷ files))) (no_files g.files whole.few))
+
+found_good : (o : OptionName) (g : Given) (v : Option Word) → All (λ p. value_fault (takes p.0) 0 p.1 ≡ None) g.options → v ≡ value_of o g → IsGood o v
+found_good o g v all is = subst (IsGood o) (sym is) (good_value o g all)
+
+run_fits : (word : Word) (g : Given) (file : Word) (f : Found) → All (λ p. value_fault (takes p.0) 0 p.1 ≡ None) g.options
+    → rows_of f ≡ matches_of (run_app word) (word ∷ (spelled_options (options_of Run) g ++ codes "--" ∷ file ∷ [])) → FitsRun (found_value f)
+run_fits word g file f all are = record {
+  fill = hex_good 2048 _ (found_good option.Fill g (found_value f option.Fill) all (at f (codes "fill") _ are ∙ run_fill word (value_of option.Input g) _ _ _ file));
+  steps = number_good 0 1000000000 (2 ^ 64 - 1) _ (omega arith) (found_good option.Steps g (found_value f option.Steps) all (at f (codes "steps") _ are ∙ run_steps word (value_of option.Input g) _ _ _ file));
+  reports = number_good 1 1000 1000 _ (omega arith) (found_good option.Reports g (found_value f option.Reports) all (at f (codes "reports") _ are ∙ run_reports word (value_of option.Input g) _ _ _ file));
+}
+
+-- and these can be made fields
+pub fits_found : (c : CommandName) (g : Given) (f : Found) → Whole c g → rows_of f ≡ matches_of (app_for c) (spelled c g) → Fits c (found_value f)
+fits_found Instrument g f whole are = tt
+fits_found Run g f whole are = let one = one_file g.files whole.enough whole.few in run_fits (codes "run") g one.0 f whole.values (with_file Run g one.0 (rows_of f) one.1 are)
+fits_found Check g f whole are = let one = one_file g.files whole.enough whole.few in run_fits (codes "check") g one.0 f whole.values (with_file Check g one.0 (rows_of f) one.1 are)
+fits_found Gen g f whole are =
+    let form = are ∙ ap (λ (files : List Word). matches_of (app_for Gen) (command_word Gen ∷ (spelled_options (options_of Gen) g ++ codes "--" ∷ files))) (no_files g.files whole.few) in
+    let found = gen_found (value_of option.Seed g) (value_of option.Functions g) (value_of option.Run g) in
+    record {
+      seed = number_good 0 (2 ^ 64 - 1) (2 ^ 64 - 1) _ (omega arith) (found_good option.Seed g (found_value f option.Seed) whole.values (at f (codes "seed") _ form ∙ found.0));
+      functions = number_good 1 1000 1000 _ (omega arith) (found_good option.Functions g (found_value f option.Functions) whole.values (at f (codes "functions") _ form ∙ found.1));
+    }

@@ -1,0 +1,10 @@
+pub mod Apps
+pub mod Finding
+pub mod Found
+pub mod Keeping
+pub mod GivenValues
+pub mod GoodValues
+pub mod Splits
+pub mod Numbers
+pub mod Placing
+pub mod WithinLimits

@@ -1,0 +1,121 @@
+-- The fields of accepted words are within their limits.
+use Rattle.std.proofs.Common.{◌≡◌, ◌≤◌, ◌<◌, ◌+◌, ◌*◌, ◌-◌, ◌^◌, ◌&&◌, ◌||◌, inl, inr, ℕ, Bool, true, false, List, [], ◌∷◌, Option, Some, None, option_map, refl, sym, arith, true≢false, length, find, cond}
+use Rattle.std.specs.Prelude.{All, IfSome, is_some, nat_lt, nat_le, ◌/◌, ◌%◌, ◌==◌}
+use Rattle.std.specs.Char.{digit_value, is_ascii_hexdigit}
+use Rattle.std.specs.Int.{is_in_range}
+use Rattle.std.specs.List.{list_all, list_any}
+use Rattle.std.specs.Option.{option_map_or}
+use Rattle.std.proofs.lemmas.Bool.{and_parts, or_cases, eqb-true, leb-true, ltb-true, ltb-false}
+use Rattle.std.proofs.lemmas.List.Elements.{All-cons, All-nil}
+use Rattle.ms_words.specs.declared.names.CommandName.{CommandName}
+use Rattle.ms_words.specs.declared.names.CommandName.TheVariants.{Instrument, Run, Check, Gen}
+use Rattle.ms_words.specs.declared.names.OptionName.{OptionName}
+use Rattle.ms_words.specs.declared.names.OptionName.TheVariants as option
+use Rattle.ms_words.specs.declared.names.Takes.TheVariants.{Hex, Number}
+use Rattle.ms_words.specs.Table.{Word, takes}
+use Rattle.ms_words.specs.Values.{value_fault, is_hex, is_number, number, hex_bytes}
+use Rattle.ms_words.specs.Reading.{Given, is_given, option_eq}
+use Rattle.ms_words.specs.Words.{value_of, number_by, options_by, command_given}
+use Rattle.ms_words.specs.Accepted.{Whole}
+use Rattle.ms_words.specs.Limits.{RunsWithinLimits, MadeWithinLimits, IsWithinLimits}
+use Rattle.ms_words.proofs.GoodValues.{good_value, hex_tests, number_tests}
+
+-- ---- fills
+
+decimal_small : (b : ℕ) → is_in_range 48 57 b ≡ true → digit_value b < 16
+decimal_small b is = grind (arith, is)
+
+upper_small : (b : ℕ) → is_in_range 65 70 b ≡ true → digit_value b < 16
+upper_small b is = grind (arith, is)
+
+lower_small : (b : ℕ) → is_in_range 97 102 b ≡ true → digit_value b < 16
+lower_small b is = grind (arith, is)
+
+digit_small : (b : ℕ) → is_ascii_hexdigit b ≡ true → digit_value b < 16
+digit_small b is = elim (or_cases (is_in_range 48 57 b || is_in_range 65 70 b) (is_in_range 97 102 b) is) [
+  | inl letter ↦ elim (or_cases (is_in_range 48 57 b) (is_in_range 65 70 b) letter) [
+    | inl decimal ↦ decimal_small b decimal
+    | inr upper ↦ upper_small b upper
+  ]
+  | inr lower ↦ lower_small b lower
+]
+
+bytes_small : (ds : Word) → list_all is_ascii_hexdigit ds ≡ true → All (λ b. b < 2 ^ 8) (hex_bytes ds)
+bytes_small [] all = All-nil (λ b. b < 2 ^ 8)
+bytes_small (high ∷ []) all = All-nil (λ b. b < 2 ^ 8)
+bytes_small (high ∷ low ∷ rest) all =
+    let first = and_parts (is_ascii_hexdigit high) (is_ascii_hexdigit low && list_all is_ascii_hexdigit rest) all in
+    let second = and_parts (is_ascii_hexdigit low) (list_all is_ascii_hexdigit rest) first.1 in
+    let a = digit_small high first.0 in
+    let b = digit_small low second.0 in
+    All-cons (λ b. b < 2 ^ 8) (digit_value high * 16 + digit_value low) (hex_bytes rest) (omega (arith, a, b)) (bytes_small rest second.1)
+
+count_of : (ds : Word) → length (hex_bytes ds) ≡ length ds / 2
+count_of [] = refl
+count_of (high ∷ []) = refl
+count_of (high ∷ low ∷ rest) = omega (arith, count_of rest)
+
+pub record FillFits (fill : List ℕ) : Type 0 where
+  pub some : 1 ≤ length fill
+  pub few : length fill ≤ 2048
+  pub bytes : All (λ b. b < 2 ^ 8) fill
+
+fill_fits : (v : Option Word) → is_some v ≡ true → IfSome v (λ w. value_fault (Hex 2048) 0 w ≡ None) → FillFits (option_map_or hex_bytes v [])
+fill_fits None is good = absurd (true≢false (sym is))
+fill_fits (Some w) is good =
+    let tests = hex_tests (is_hex w) (nat_lt 2048 (length w / 2)) 0 good in
+    let parts = and_parts (nat_lt 0 (length w) && length w % 2 == 0) (list_all is_ascii_hexdigit w) tests.0 in
+    let lengths = and_parts (nat_lt 0 (length w)) (length w % 2 == 0) parts.0 in
+    let some : 0 < length w = ltb-true _ _ lengths.0 in
+    let even : length w % 2 ≡ 0 = eqb-true _ _ lengths.1 in
+    let few : length w / 2 ≤ 2048 = ltb-false _ _ tests.1 in
+    record {
+      some = omega (arith, some, even, count_of w);
+      few = omega (arith, few, count_of w);
+      bytes = bytes_small w parts.1;
+    }
+
+-- ---- numbers
+
+number_fits : (least most : ℕ) (v : Option Word) → is_some v ≡ true → IfSome v (λ w. value_fault (Number least most) 0 w ≡ None)
+    → (least ≤ number_by v) × (number_by v ≤ most)
+number_fits least most None is good = absurd (true≢false (sym is))
+number_fits least most (Some w) is good =
+    let tests = number_tests (is_number w) (nat_le least (number w) && nat_le (number w) most) 0 good in
+    let bounds = and_parts (nat_le least (number w)) (nat_le (number w) most) tests.1 in
+    (leb-true _ _ bounds.0, leb-true _ _ bounds.1)
+
+-- ---- commands
+
+found_if : (b : Bool) (p : OptionName × Word) (rest : Option (OptionName × Word)) (others : Bool)
+    → (others ≡ true → is_some (option_map (λ q. q.1) rest) ≡ true) → (b || others) ≡ true → is_some (option_map (λ q. q.1) (cond b (Some p) rest)) ≡ true
+found_if true p rest others more any = refl
+found_if false p rest others more any = more any
+
+found_some : (o : OptionName) (ps : List (OptionName × Word)) → list_any (λ p. option_eq p.0 o) ps ≡ true
+    → is_some (option_map (λ p. p.1) (find (λ p. option_eq p.0 o) ps)) ≡ true
+found_some o [] any = absurd (true≢false (sym any))
+found_some o (p ∷ ps) any =
+    found_if (option_eq p.0 o) p (find (λ q. option_eq q.0 o) ps) (list_any (λ q. option_eq q.0 o) ps) (found_some o ps) any
+
+run_within : (g : Given) → All (λ p. value_fault (takes p.0) 0 p.1 ≡ None) g.options → RunsWithinLimits (options_by (λ o. value_of o g))
+run_within g all =
+    let fits = fill_fits (value_of option.Fill g) refl (good_value option.Fill g all) in
+    let steps = number_fits 0 1000000000 (value_of option.Steps g) refl (good_value option.Steps g all) in
+    let reports = number_fits 1 1000 (value_of option.Reports g) refl (good_value option.Reports g all) in
+    record { filled = fits.some; fill = fits.few; bytes = fits.bytes; steps = steps.1; some_reports = reports.0; reports = reports.1 }
+
+made_within : (g : Given) → Whole Gen g → MadeWithinLimits (number_by (value_of option.Seed g)) (number_by (value_of option.Functions g))
+made_within g whole =
+    let given = and_parts (is_given option.Seed g) (is_given option.Functions g && true) whole.wanted in
+    let functions_given = (and_parts (is_given option.Functions g) true given.1).0 in
+    let seed = number_fits 0 (2 ^ 64 - 1) (value_of option.Seed g) (found_some option.Seed g.options given.0) (good_value option.Seed g whole.values) in
+    let functions = number_fits 1 1000 (value_of option.Functions g) (found_some option.Functions g.options functions_given) (good_value option.Functions g whole.values) in
+    let most : number_by (value_of option.Seed g) ≤ 2 ^ 64 - 1 = seed.1 in
+    record { bits = omega (arith, most); some = functions.0; few = functions.1 }
+
+pub within_limits : (c : CommandName) (g : Given) → Whole c g → IsWithinLimits (command_given c g)
+within_limits Instrument g whole = tt
+within_limits Run g whole = run_within g whole.values
+within_limits Check g whole = run_within g whole.values
+within_limits Gen g whole = made_within g whole

@@ -1,0 +1,27 @@
+-- What the fields of a command may be (own).
+use Rattle.std.specs.Prelude.{◌≤◌, ◌<◌, ◌^◌, ℕ, All, length, ⊤}
+use Rattle.ms_words.specs.declared.commands.Command.{Command}
+use Rattle.ms_words.specs.declared.commands.Command.TheVariants.{Instrument, Run, Check, Gen}
+use Rattle.ms_words.specs.declared.commands.Options.{Options}
+
+-- a fill of 1 to 2048 bytes, at most a thousand million steps, and a limit of 1 to 1000 reports
+pub record RunsWithinLimits (o : Options) : Type 0 where
+  pub filled : 1 ≤ length o.fill
+  pub fill : length o.fill ≤ 2048
+  pub bytes : All (λ b. b < 2 ^ 8) o.fill
+  pub steps : o.steps ≤ 1000000000
+  pub some_reports : 1 ≤ o.reports
+  pub reports : o.reports ≤ 1000
+
+-- a seed of 64 bits, and 1 to 1000 functions
+pub record MadeWithinLimits (seed functions : ℕ) : Type 0 where
+  pub bits : seed < 2 ^ 64
+  pub some : 1 ≤ functions
+  pub few : functions ≤ 1000
+
+-- the fields of a command are within their limits; `instrument` has none but the name of its file
+abbrev pub IsWithinLimits : Command → Type 0
+IsWithinLimits (Instrument file) = ⊤
+IsWithinLimits (Run file options) = RunsWithinLimits options
+IsWithinLimits (Check file options) = RunsWithinLimits options
+IsWithinLimits (Gen seed functions run) = MadeWithinLimits seed functions

@@ -1,0 +1,99 @@
+-- What a list of words asks for: a command, or the first fault with its place (own).
+use Rattle.std.specs.Prelude.{◌≡◌, ◌⊎◌, ℕ, List, [], ◌∷◌, Option, Some, None, option_map, is_some, Result, Ok, Err, find, slice_get, unwrap_or, codes}
+use Rattle.std.specs.Option.{option_map_or}
+use Rattle.ms_words.specs.declared.names.CommandName.{CommandName}
+use Rattle.ms_words.specs.declared.names.CommandName.TheVariants as name
+use Rattle.ms_words.specs.declared.names.OptionName.{OptionName}
+use Rattle.ms_words.specs.declared.names.OptionName.TheVariants as option
+use Rattle.ms_words.specs.declared.commands.Command.{Command}
+use Rattle.ms_words.specs.declared.commands.Command.TheVariants.{Instrument, Run, Check, Gen}
+use Rattle.ms_words.specs.declared.commands.Options.{Options}
+use Rattle.ms_words.specs.declared.commands.WordsError.{WordsError}
+use Rattle.ms_words.specs.declared.commands.WordsError.TheVariants.{NoMemory, UnknownCommand, UnknownOption, MissingValue, MissingFile, MissingOption, Extra, BadNumber, BadHex, Repeated, OutOfRange}
+use Rattle.ms_words.specs.declared.reading.Next.TheVariants.{AnOption}
+use Rattle.ms_words.specs.Table.{Word, commands, command_word, default_of}
+use Rattle.ms_words.specs.Values.{number, hex_bytes}
+use Rattle.ms_words.specs.Reading.{Given, nothing, same, option_eq, read_words_from}
+
+-- the value that an option was given, or else its default
+abbrev pub or_default : Option Word → Option Word → Option Word
+or_default None given = given
+or_default (Some default) given = Some (unwrap_or given default)
+
+-- the value of an option, where it has one
+abbrev pub value_of : OptionName → Given → Option Word
+value_of o g = or_default (default_of o) (option_map (λ p. p.1) (find (λ p. option_eq p.0 o) g.options))
+
+-- the fields of a command, by the values of its options
+abbrev pub number_by : Option Word → ℕ
+number_by value = option_map_or number value 0
+
+abbrev pub options_by : (OptionName → Option Word) → Options
+options_by value = record {
+  input = value option.Input;
+  fill = option_map_or hex_bytes (value option.Fill) [];
+  steps = number_by (value option.Steps);
+  reports = number_by (value option.Reports);
+}
+
+-- what is given where no option is: no input, the fill a5, ten million steps, one report
+abbrev pub defaults : Options
+defaults = options_by (λ o. value_of o nothing)
+
+-- a command by the values of its options and by its file
+abbrev pub command_by : CommandName → (OptionName → Option Word) → Word → Command
+command_by name.Instrument value file = Instrument file
+command_by name.Run value file = Run file (options_by value)
+command_by name.Check value file = Check file (options_by value)
+command_by name.Gen value file = Gen (number_by (value option.Seed)) (number_by (value option.Functions)) (is_some (value option.Run))
+
+-- a command by all that its words give
+abbrev pub command_given : CommandName → Given → Command
+command_given c g = command_by c (λ o. value_of o g) (unwrap_or (slice_get g.files 0) [])
+
+abbrev pub command_in : CommandName → Result Given WordsError → Result Command WordsError
+command_in c (Ok g) = Ok (command_given c g)
+command_in c (Err fault) = Err fault
+
+abbrev pub command_named : Option CommandName → List Word → Result Command WordsError
+command_named None rest = Err (UnknownCommand 0)
+command_named (Some c) rest = command_in c (read_words_from c AnOption 1 nothing rest)
+
+-- what words ask for; the first word, at place 0, names the command
+abbrev pub command_of : List Word → Result Command WordsError
+command_of [] = Err (UnknownCommand 0)
+command_of (word ∷ rest) = command_named (find (λ c. same word (command_word c)) commands) rest
+
+-- the answer to words: what they ask for, or that memory is wanting
+abbrev pub IsAnswer : List Word → Result Command WordsError → Type 0
+IsAnswer words answer = (answer ≡ Err NoMemory) ⊎ (answer ≡ command_of words)
+
+-- ---- how a fault is printed
+
+-- the name of the fault
+abbrev pub name_of : WordsError → Word
+name_of (UnknownCommand place) = codes "UnknownCommand"
+name_of (UnknownOption place) = codes "UnknownOption"
+name_of (MissingValue place) = codes "MissingValue"
+name_of (MissingFile place) = codes "MissingFile"
+name_of (MissingOption place) = codes "MissingOption"
+name_of (Extra place) = codes "Extra"
+name_of (BadNumber place) = codes "BadNumber"
+name_of (BadHex place) = codes "BadHex"
+name_of (Repeated place) = codes "Repeated"
+name_of (OutOfRange place) = codes "OutOfRange"
+name_of NoMemory = codes "NoMemory"
+
+-- the place of the word at fault; want of memory has none
+abbrev pub place_of : WordsError → ℕ
+place_of (UnknownCommand place) = place
+place_of (UnknownOption place) = place
+place_of (MissingValue place) = place
+place_of (MissingFile place) = place
+place_of (MissingOption place) = place
+place_of (Extra place) = place
+place_of (BadNumber place) = place
+place_of (BadHex place) = place
+place_of (Repeated place) = place
+place_of (OutOfRange place) = place
+place_of NoMemory = 0

@@ -1,0 +1,123 @@
+//! What words ask for, and what can be wrong with them.
+ghost use Rattle.std.specs.Prelude.{◌≡◌};
+ghost use Rattle.ms_words.specs.Words.{name_of, place_of};
+ghost use Rattle.ms_words.specs.declared.commands.WordsError.TheVariants.{NoMemory as WantsMemory};
+
+use ms_bits::{Bytes, Text};
+use std::alloc::AllocError;
+
+/// How a module is run.
+#[derive(Drop)]
+pub struct Options {
+    /// The name of the file with the bytes of the standard input; none are there without one.
+    pub input: Option<Text>,
+    /// The bytes that uninitialised memory and undefined operands are made of, 1 to 2048 of them.
+    pub fill: Bytes,
+    /// The greatest number of steps, up to 1000000000.
+    pub steps: u64,
+    /// The number of reports at which the run ends, 1 to 1000.
+    pub reports: u32,
+}
+
+/// What is asked for.
+#[derive(Drop)]
+pub enum Command {
+    /// Writes the module in the file with inserted code.
+    Instrument {
+        file: Text,
+    },
+    /// Runs the module in the file as it stands.
+    Run {
+        file: Text,
+        options: Options,
+    },
+    /// Instruments the module in the file and runs that, so that uses of uninitialised bits are reported.
+    Check {
+        file: Text,
+        options: Options,
+    },
+    /// Makes a module of `functions` functions, 1 to 1000, from the number `seed`, and writes it. With `run` it is
+    /// checked as `Check` does with no option given, and a summary is written.
+    Gen {
+        seed: u64,
+        functions: u32,
+        run: bool,
+    },
+}
+
+/// Why words are no command: the first fault from left to right. `place` is the place of the word at fault, counted
+/// from 0; what is missing stands behind the last word.
+#[derive(Clone, Copy)]
+pub enum WordsError {
+    /// The first word names no command, or there is none.
+    UnknownCommand { place: u32 },
+    /// The command has no option of this name, or it has one that takes no value and was given one. A word that begins
+    /// with one dash, as `-x`, is never an option.
+    UnknownOption { place: u32 },
+    /// The words end where the value of an option should stand.
+    MissingValue { place: u32 },
+    /// The words end before the file.
+    MissingFile { place: u32 },
+    /// The words end without an option that the command must have.
+    MissingOption { place: u32 },
+    /// A word behind the last file that the command takes.
+    Extra { place: u32 },
+    /// The value isn't decimal digits alone, or has a zero before another digit.
+    BadNumber { place: u32 },
+    /// The value isn't two hexadecimal digits for each byte, or is empty.
+    BadHex { place: u32 },
+    /// The option was given before.
+    Repeated { place: u32 },
+    /// The value is a number below the least or above the greatest that the option takes, or more bytes than it takes.
+    OutOfRange { place: u32 },
+    /// Memory is wanting.
+    NoMemory,
+}
+
+impl WordsError {
+    /// The name of the fault, as it is printed.
+    pub fn name(&self) -> &'static str
+        ensures { result.now ≡ name_of self.now }
+    {
+        match self {
+            WordsError::UnknownCommand { .. } => "UnknownCommand",
+            WordsError::UnknownOption { .. } => "UnknownOption",
+            WordsError::MissingValue { .. } => "MissingValue",
+            WordsError::MissingFile { .. } => "MissingFile",
+            WordsError::MissingOption { .. } => "MissingOption",
+            WordsError::Extra { .. } => "Extra",
+            WordsError::BadNumber { .. } => "BadNumber",
+            WordsError::BadHex { .. } => "BadHex",
+            WordsError::Repeated { .. } => "Repeated",
+            WordsError::OutOfRange { .. } => "OutOfRange",
+            WordsError::NoMemory => "NoMemory",
+        }
+    }
+
+    /// The place of the word at fault, counted from 0; 0 for want of memory, which has none.
+    pub fn place(&self) -> u32
+        ensures { result ≡ place_of self.now }
+    {
+        match *self {
+            WordsError::UnknownCommand { place }
+            | WordsError::UnknownOption { place }
+            | WordsError::MissingValue { place }
+            | WordsError::MissingFile { place }
+            | WordsError::MissingOption { place }
+            | WordsError::Extra { place }
+            | WordsError::BadNumber { place }
+            | WordsError::BadHex { place }
+            | WordsError::Repeated { place }
+            | WordsError::OutOfRange { place } => place,
+            WordsError::NoMemory => 0,
+        }
+    }
+}
+
+impl From<AllocError> for WordsError {
+    ghost from_gives = { λ _ e. e ≡ WantsMemory };
+
+    fn from(_e: AllocError) -> WordsError {
+        WordsError::NoMemory
+    }
+}

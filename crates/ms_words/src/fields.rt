@@ -1,0 +1,131 @@
+//! The fields of a command, from what `clap` found.
+ghost use Rattle.std.specs.Prelude.{◌≡◌, ◌-◌, ◌^◌, IfOk, unwrap_or, [], codes};
+ghost use Rattle.std.specs.Option.{option_map_or};
+ghost use Rattle.clap.specs.Words.{found_of, first_value};
+ghost use Rattle.ms_words.specs.Table.{option_word};
+ghost use Rattle.ms_words.specs.Values.{hex_bytes as hex_bytes_of};
+ghost use Rattle.ms_words.specs.Words.{number_by, options_by, command_by};
+ghost use Rattle.ms_words.specs.Fields.{IsNumber, IsHex, FitsRun, FitsGen, Fits, found_value, found_file, is_set as is_set_of};
+
+use crate::commands::{Command, Options};
+use crate::names::{CommandName, OptionName};
+use crate::texts::copy_text;
+use crate::values::{hex_bytes, number};
+use clap::ArgMatches;
+use ms_bits::{Bytes, NoMemory, Text};
+use std::alloc::Global;
+
+/// The number that an option was found with.
+fn number_in(found: &ArgMatches, option: OptionName) -> u64
+    requires { IsNumber (2 ^ 64 - 1) (first_value (found_of found.now) (option_word option)) }
+    ensures { result ≡ number_by (first_value (found_of found.now) (option_word option)) }
+{
+    match found.get_str(option.word()) {
+        Some(word) => number(word).unwrap_or(0),
+        None => 0,
+    }
+}
+
+/// The same of an option that takes at most 1000.
+fn small_number_in(found: &ArgMatches, option: OptionName) -> u32
+    requires { IsNumber 1000 (first_value (found_of found.now) (option_word option)) }
+    ensures { result ≡ number_by (first_value (found_of found.now) (option_word option)) }
+{
+    number_in(found, option) as u32
+}
+
+/// Whether an option that takes no value was found.
+fn is_set(found: &ArgMatches, option: OptionName) -> bool
+    ensures { result ≡ is_set_of (first_value (found_of found.now) (option_word option)) }
+{
+    match found.get_str(option.word()) {
+        Some(text) => text == "true",
+        None => false,
+    }
+}
+
+/// The text that an option was found with.
+fn text_in(alloc: Global, found: &ArgMatches, option: OptionName) -> Result<Option<Text>, NoMemory>
+    ensures { IfOk result (λ t. t ≡ first_value (found_of found.now) (option_word option)) }
+{
+    match found.get_str(option.word()) {
+        Some(text) => Ok(Some(copy_text(alloc, text)?)),
+        None => Ok(None),
+    }
+}
+
+/// The bytes that an option was found with.
+fn bytes_in(alloc: Global, found: &ArgMatches, option: OptionName) -> Result<Bytes, NoMemory>
+    requires { IsHex (first_value (found_of found.now) (option_word option)) }
+    ensures { IfOk result (λ b. b ≡ option_map_or hex_bytes_of (first_value (found_of found.now) (option_word option)) []) }
+{
+    match found.get_str(option.word()) {
+        Some(text) => Ok(Bytes::from_vec(hex_bytes(alloc, text.as_bytes())?)),
+        None => Ok(Bytes::from_vec(Vec::new(alloc))),
+    }
+}
+
+/// The first file that was found.
+fn file_in(alloc: Global, found: &ArgMatches) -> Result<Text, NoMemory>
+    ensures { IfOk result (λ t. t ≡ found_file (found_of found.now)) }
+{
+    match found.get_str("files") {
+        Some(text) => copy_text(alloc, text),
+        None => copy_text(alloc, ""),
+    }
+}
+
+/// The options of a run, by what was found.
+fn options_in(alloc: Global, found: &ArgMatches) -> Result<Options, NoMemory>
+    requires { FitsRun (found_value (found_of found.now)) }
+    ensures { IfOk result (λ o. o ≡ options_by (found_value (found_of found.now))) }
+{
+    let input = text_in(alloc, found, OptionName::Input)?;
+    let fill = bytes_in(alloc, found, OptionName::Fill)?;
+    Ok(Options {
+        input,
+        fill,
+        steps: number_in(found, OptionName::Steps),
+        reports: small_number_in(found, OptionName::Reports),
+    })
+}
+
+/// What generates a module, by what was found.
+fn generating(found: &ArgMatches) -> Command
+    requires { FitsGen (found_value (found_of found.now)) }
+    ensures { result ≡ command_by CommandName.Gen (found_value (found_of found.now)) (found_file (found_of found.now)) }
+{
+    Command::Gen {
+        seed: number_in(found, OptionName::Seed),
+        functions: small_number_in(found, OptionName::Functions),
+        run: is_set(found, OptionName::Run),
+    }
+}
+
+/// The command with the fields that `clap` found.
+pub fn command_in(
+    alloc: Global,
+    command: CommandName,
+    found: &ArgMatches,
+) -> Result<Command, NoMemory>
+    requires { Fits command (found_value (found_of found.now)) }
+    ensures { IfOk result (λ c. c ≡ command_by command (found_value (found_of found.now)) (found_file (found_of found.now))) }
+{
+    match command {
+        CommandName::Instrument => {
+            let file = file_in(alloc, found)?;
+            Ok(Command::Instrument { file })
+        }
+        CommandName::Run => {
+            let file = file_in(alloc, found)?;
+            let options = options_in(alloc, found)?;
+            Ok(Command::Run { file, options })
+        }
+        CommandName::Check => {
+            let file = file_in(alloc, found)?;
+            let options = options_in(alloc, found)?;
+            Ok(Command::Check { file, options })
+        }
+        CommandName::Gen => Ok(generating(found)),
+    }
+}

@@ -1,0 +1,206 @@
+//! The names of commands and of their options: one row each.
+ghost use Rattle.std.specs.Prelude.{◌≡◌, ◌&&◌, not, find, option_map};
+ghost use Rattle.ms_words.specs.Table.{commands, command_word, default_of, option_word, options_of, wanted_of, takes as takes_of, least_files as least_files_of, most_files as most_files_of};
+ghost use Rattle.ms_words.specs.Reading.{same, takes_nothing};
+
+/// A command.
+#[derive(Clone, Copy)]
+pub enum CommandName {
+    Instrument,
+    Run,
+    Check,
+    Gen,
+}
+
+/// An option of a command.
+#[derive(Clone, Copy)]
+pub enum OptionName {
+    Input,
+    Fill,
+    Steps,
+    Reports,
+    Seed,
+    Functions,
+    Run,
+}
+
+/// What an option takes.
+#[derive(Clone, Copy)]
+pub enum Takes {
+    /// No value.
+    Nothing,
+    /// Any text.
+    Anything,
+    /// Bytes, of two hexadecimal digits each, and at most so many.
+    Hex { most: usize },
+    /// A decimal number within these.
+    Number { least: u64, most: u64 },
+}
+
+static COMMANDS: [CommandName; 4] = [
+    CommandName::Instrument,
+    CommandName::Run,
+    CommandName::Check,
+    CommandName::Gen,
+];
+
+static NO_OPTIONS: [OptionName; 0] = [];
+
+static RUN_OPTIONS: [OptionName; 4] = [
+    OptionName::Input,
+    OptionName::Fill,
+    OptionName::Steps,
+    OptionName::Reports,
+];
+
+static GEN_OPTIONS: [OptionName; 3] = [OptionName::Seed, OptionName::Functions, OptionName::Run];
+
+static GEN_WANTED: [OptionName; 2] = [OptionName::Seed, OptionName::Functions];
+
+impl CommandName {
+    /// The command that the word names.
+    #[tactic(auto, using(crate::proofs::Finding::find_here, crate::proofs::Finding::find_passed))]
+    pub fn named(word: &str) -> Option<CommandName>
+        ensures { result ≡ find (λ c. same word.now (command_word c)) commands }
+    {
+        for command in &COMMANDS {
+            if word == command.word() {
+                return Some(*command);
+            }
+        }
+        None
+    }
+
+    /// The word that names it.
+    pub fn word(self) -> &'static str
+        ensures { result.now ≡ command_word self }
+    {
+        match self {
+            CommandName::Instrument => "instrument",
+            CommandName::Run => "run",
+            CommandName::Check => "check",
+            CommandName::Gen => "gen",
+        }
+    }
+
+    /// The options that it may have.
+    pub fn options(self) -> &'static [OptionName]
+        ensures { result.now ≡ options_of self }
+    {
+        match self {
+            CommandName::Instrument => NO_OPTIONS.as_slice(),
+            CommandName::Run => RUN_OPTIONS.as_slice(),
+            CommandName::Check => RUN_OPTIONS.as_slice(),
+            CommandName::Gen => GEN_OPTIONS.as_slice(),
+        }
+    }
+
+    /// The options that it must have.
+    pub fn wanted(self) -> &'static [OptionName]
+        ensures { result.now ≡ wanted_of self }
+    {
+        match self {
+            CommandName::Gen => GEN_WANTED.as_slice(),
+            _ => NO_OPTIONS.as_slice(),
+        }
+    }
+
+    /// How many files it has at least.
+    pub fn least_files(self) -> usize
+        ensures { result ≡ least_files_of self }
+    {
+        match self {
+            CommandName::Gen => 0,
+            _ => 1,
+        }
+    }
+
+    /// How many files it has at most.
+    pub fn most_files(self) -> usize
+        ensures { result ≡ most_files_of self }
+    {
+        match self {
+            CommandName::Gen => 0,
+            _ => 1,
+        }
+    }
+
+    /// The option that has the name; one that takes no value isn't known with a value.
+    #[tactic(auto, using(crate::proofs::Finding::find_here, crate::proofs::Finding::find_passed))]
+    pub fn option_named(self, name: &str, has_value: bool) -> Option<OptionName>
+        ensures { result ≡ find (λ o. same (option_word o) name.now && not (takes_nothing (takes_of o) && has_value)) (options_of self) }
+    {
+        for option in self.options() {
+            if option.word() == name && !(option.takes_nothing() && has_value) {
+                return Some(*option);
+            }
+        }
+        None
+    }
+}
+
+impl OptionName {
+    /// The word that names it.
+    pub fn word(self) -> &'static str
+        ensures { result.now ≡ option_word self }
+    {
+        match self {
+            OptionName::Input => "input",
+            OptionName::Fill => "fill",
+            OptionName::Steps => "steps",
+            OptionName::Reports => "reports",
+            OptionName::Seed => "seed",
+            OptionName::Functions => "functions",
+            OptionName::Run => "run",
+        }
+    }
+
+    /// What it takes.
+    pub fn takes(self) -> Takes
+        ensures { result ≡ takes_of self }
+    {
+        match self {
+            OptionName::Input => Takes::Anything,
+            OptionName::Fill => Takes::Hex { most: 2048 },
+            OptionName::Steps => Takes::Number {
+                least: 0,
+                most: 1000000000,
+            },
+            OptionName::Reports => Takes::Number {
+                least: 1,
+                most: 1000,
+            },
+            OptionName::Seed => Takes::Number {
+                least: 0,
+                most: u64::MAX,
+            },
+            OptionName::Functions => Takes::Number {
+                least: 1,
+                most: 1000,
+            },
+            OptionName::Run => Takes::Nothing,
+        }
+    }
+
+    /// Its value where it isn't given.
+    pub fn default_value(self) -> Option<&'static str>
+        ensures { option_map (λ v. v.now) result ≡ default_of self }
+    {
+        match self {
+            OptionName::Fill => Some("a5"),
+            OptionName::Steps => Some("10000000"),
+            OptionName::Reports => Some("1"),
+            _ => None,
+        }
+    }
+
+    /// Whether it takes no value.
+    pub fn takes_nothing(self) -> bool
+        ensures { result ≡ takes_nothing (takes_of self) }
+    {
+        match self.takes() {
+            Takes::Nothing => true,
+            _ => false,
+        }
+    }
+}
