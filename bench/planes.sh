@@ -1,13 +1,13 @@
 #!/usr/bin/env bash
-# Instructions that `ms_planes::Planes` takes to find that an access is good, and to load a word and its shadow, with 10, 10,000 and 1,000,000 live
-# allocations, and what poisoning, setting and copying take for each byte.
+# Instructions that `ms_planes::Planes` takes to read a word of 8 bytes and its shadow and to write it, where the access is good or not, with 10, 10,000 and 1,000,000
+# live allocations, and what poisoning, setting and copying take for each byte.
 #
 # The program that calls it is made in a temporary repository, beside copies of this repository's crates.
 # Wants `rt`, `python3` and `valgrind`. Outside the gate.
 source "$(dirname "$0")/frame.sh"
 
 repository planes_bench 'ms_alloc ms_planes' 'ms_bits ms_alloc ms_raw ms_planes' <<'PROGRAM'
-//! Makes so many heap blocks of 16 bytes, and then loads, poisons or copies.
+//! Makes so many heap blocks of 16 bytes, and then reads, writes, poisons or copies.
 #![tactic(auto)]
 
 use ms_alloc::AllocKind;
@@ -27,17 +27,25 @@ fn fill(planes: &mut Planes, count: u64, size: u64) -> bool {
     true
 }
 
-/// Finds that addresses all over the blocks are good, loads words and shadows there so many times, and sums them.
-fn load(planes: &Planes, count: u64, times: u64, loads: u64) -> u64 {
+/// An address of a block, chosen by a number.
+fn chosen(place: u64, count: u64) -> u64 {
+    HEAP + 16 * ((place >> 33) % count.max(1)) % 0x10000000
+}
+
+/// Reads words all over the blocks, then so many times their shadow, writes them so many times, and sums what is read.
+fn access(planes: &mut Planes, count: u64, times: u64, shadows: u64, writes: u64) -> u64 {
     let mut sum = 0u64;
     let mut place = 0u64;
     for _ in 0..times {
         place = place.wrapping_mul(6364136223846793005).wrapping_add(1442695040888963407);
-        let addr = HEAP + 16 * ((place >> 33) % count.max(1)) % 0x10000000;
-        if planes.covers(addr, 8) {
-            sum = sum.wrapping_add(1);
-            for _ in 0..loads {
-                sum = sum.wrapping_add(planes.load(addr, 8)).wrapping_add(planes.load_shadow(addr, 8));
+        let addr = chosen(place, count);
+        sum = sum.wrapping_add(planes.read(addr, 8).unwrap_or(0));
+        for _ in 0..shadows {
+            sum = sum.wrapping_add(planes.read_shadow(addr, 8).unwrap_or(0));
+        }
+        for _ in 0..writes {
+            if planes.write(addr, 8, sum) {
+                sum = sum.wrapping_add(1);
             }
         }
     }
@@ -87,15 +95,16 @@ fn main(rt: HostRuntime) -> io::Result<()> {
     let _name = words.next();
     let count = words.next().and_then(|word| word.parse::<u64>().ok()).unwrap_or(0);
     let size = words.next().and_then(|word| word.parse::<u64>().ok()).unwrap_or(0);
-    let finds = words.next().and_then(|word| word.parse::<u64>().ok()).unwrap_or(0);
-    let loads = words.next().and_then(|word| word.parse::<u64>().ok()).unwrap_or(0);
+    let reads = words.next().and_then(|word| word.parse::<u64>().ok()).unwrap_or(0);
+    let shadows = words.next().and_then(|word| word.parse::<u64>().ok()).unwrap_or(0);
     let sweeps = words.next().and_then(|word| word.parse::<u64>().ok()).unwrap_or(0);
     let sets = words.next().and_then(|word| word.parse::<u64>().ok()).unwrap_or(0);
     let copies = words.next().and_then(|word| word.parse::<u64>().ok()).unwrap_or(0);
+    let writes = words.next().and_then(|word| word.parse::<u64>().ok()).unwrap_or(0);
     let mut planes = Planes::new(rt.alloc());
     let size = size % 0x10000000;
     let made = fill(&mut planes, count, size);
-    let sum = load(&planes, count, finds, loads);
+    let sum = access(&mut planes, count, reads, shadows, writes);
     let swept = sweep(&mut planes, size, sweeps);
     set(&mut planes, size, sets);
     let copied = copy(&mut planes, size, copies);
@@ -108,9 +117,10 @@ build planes_bench 1 16 1 1 1
 
 for blocks in 10 10000 1000000; do
     none=$(instructions "$program" "$blocks" 16 0 0 0)
-    find=$(instructions "$program" "$blocks" 16 100000 0 0)
-    load=$(instructions "$program" "$blocks" 16 100000 1 0)
-    echo "$blocks blocks: $(python3 -c "print(f'{($find - $none) / 100000:.1f} instructions to find that an access is good, {($load - $find) / 100000:.1f} to load a word and its shadow')")"
+    read=$(instructions "$program" "$blocks" 16 100000 0 0)
+    both=$(instructions "$program" "$blocks" 16 100000 1 0)
+    written=$(instructions "$program" "$blocks" 16 100000 0 0 0 0 1)
+    echo "$blocks blocks: $(python3 -c "print(f'{($read - $none) / 100000:.1f} instructions to read a word, with the loop that asks, {($both - $read) / 100000:.1f} more to read its shadow, {($written - $read) / 100000:.1f} more to write it')")"
 done
 none=$(instructions "$program" 1 1048576 0 0 0)
 some=$(instructions "$program" 1 1048576 0 0 16)

@@ -1,5 +1,5 @@
 #!/usr/bin/env bash
-# Instructions a step of `msan run`: a loop as -O0 writes it, one with phis as -O1 does, and recursive calls, each at two lengths,
+# Instructions a step of `msan run`: a loop as -O0 writes it, the same in a heap block among many, one with phis as -O1 does, and recursive calls, each at two lengths,
 # so that what reading, checking and compiling take falls out; and the second again among ten thousand functions.
 # Needs valgrind, and the program as `rt run` built it (crates/msan/out/msan). Outside the gate.
 source "$(dirname "$0")/frame.sh"
@@ -34,6 +34,44 @@ done:
 }
 END
 }
+
+heap_loop() { # $1 rounds of eleven steps, which load and store in a heap block, behind $2 live blocks
+  cat <<END
+declare ptr @malloc(i64)
+define i32 @main() {
+  br label %make
+make:
+  %n = phi i32 [ 0, %0 ], [ %m, %make ]
+  %p = call ptr @malloc(i64 8)
+  %m = add i32 %n, 1
+  %e = icmp ult i32 %m, $2
+  br i1 %e, label %make, label %start
+start:
+  %s = getelementptr i32, ptr %p, i64 1
+  store i32 0, ptr %p
+  store i32 0, ptr %s
+  br label %head
+head:
+  %1 = load i32, ptr %p
+  %2 = icmp ult i32 %1, $1
+  br i1 %2, label %body, label %done
+body:
+  %3 = load i32, ptr %s
+  %4 = load i32, ptr %p
+  %5 = add i32 %3, %4
+  store i32 %5, ptr %s
+  %6 = load i32, ptr %p
+  %7 = add i32 %6, 1
+  store i32 %7, ptr %p
+  br label %head
+done:
+  %8 = load i32, ptr %s
+  ret i32 %8
+}
+END
+}
+ten_blocks() { heap_loop "$1" 10; }
+million_blocks() { heap_loop "$1" 1000000; }
 
 phi_loop() { # $1 rounds of four steps, each with two phis
   cat <<END
@@ -91,6 +129,8 @@ measure() { # name, the maker, two lengths, the steps between them
 }
 
 measure "a loop of loads and stores" memory_loop 1000 11000 110000
+measure "the same in the last of 10 heap blocks" ten_blocks 1000 11000 110000
+measure "the same in the last of 1000000 heap blocks" million_blocks 1000 11000 110000
 measure "a loop with phis" phi_loop 1000 26000 100000
 measure "recursive calls" calls 10 20 $(($(steps_of_calls 20) - $(steps_of_calls 10)))
 measure "the loop with phis among 10000 functions" many 1000 26000 100000

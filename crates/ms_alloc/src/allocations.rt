@@ -19,6 +19,7 @@ pub struct Allocation {
 
 impl Allocation {
     /// Whether it is live and has the `n` bytes from `addr` on.
+    #[inline(always)]
     pub(crate) fn covers(&self, addr: u64, n: u64) -> bool
         ensures { result ≡ covers addr n self.now }
     {

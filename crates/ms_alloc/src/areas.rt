@@ -143,6 +143,7 @@ impl Area {
     }
 
     /// The place of the allocation that takes the byte at `addr`.
+    #[inline(always)]
     fn owner(&self, kind: AllocKind, addr: u64) -> Option<usize>
         requires { IsArea kind self.now }
         ensures { MatchOption result (IsOutside kind self.now addr) (λ i. Has self.now addr i) }
@@ -188,6 +189,7 @@ impl Area {
     }
 
     /// The place of the live allocation that has the `n` bytes from `addr` on.
+    #[inline(always)]
     pub(crate) fn place_of(&self, kind: AllocKind, addr: u64, n: u64) -> Option<Place>
         requires area { IsArea kind self.now }
         requires some { 0 < n }

@@ -28,7 +28,8 @@ impl Model for Table {
     ghost invariant = { λ t. IsLaidOut (record { fixed = t.fixed; heap = t.heap; stack = t.stack }) };
 }
 
-/// The area whose addresses reach `addr`.
+/// The area whose addresses reach `addr`. Inlined with what asks it, so that the area is decided once.
+#[inline(always)]
 fn kind_at(addr: u64) -> AllocKind
     ensures fixed { result ≡ AllocKind.Fixed → addr < area_base Heap }
     ensures heap { result ≡ AllocKind.Heap → (area_base Heap ≤ addr) × (addr < area_base Stack) }
@@ -144,6 +145,7 @@ impl Table {
     }
 
     /// Where the live allocation stands that has the `n` bytes from `addr` on; `None` exactly where none has them.
+    #[inline(always)]
     pub fn place_of(&self, addr: u64, n: u64) -> Option<Place>
         requires { 0 < n }
         ensures { MatchOption result (is_good addr n self.now ≡ false) (λ p. IsPlace p.kind (of_kind p.kind self.now) addr n p) }

@@ -9,8 +9,6 @@ mod blocks;
 #[cfg(test)]
 mod files;
 #[cfg(test)]
-mod forks;
-#[cfg(test)]
 mod lists;
 #[cfg(test)]
 mod paths;

@@ -188,6 +188,19 @@ unchanged w beside world m shows same =
     (kept w.planes.table world.shadow (shadow_of w.planes) (shadow_of m) (sym same.shadow) shows.shadow)
     (cells-kept w.planes.table world.origins (origins_of w.planes) (origins_of m) (sym same.origins) shows.origins)
 
+-- what a write answers, and what it then shows
+pub bytes-written : (w : WorldState) (beside : Beside) (world : World) (m : Memory) (addr n : ℕ) (new : ℕ → ℕ) (good : Bool) → Shows w beside world → good ≡ is_live addr n w.planes.table → m.table ≡ w.planes.table →
+    bytes_of m ≡ (if good then with_range (bytes_of w.planes) addr n new else bytes_of w.planes) → shadow_of m ≡ shadow_of w.planes → origins_of m ≡ origins_of w.planes →
+    MatchBool good ((is_good world addr n ≡ true) × Shows (record w { planes = m }) beside (record world { bytes = with_range world.bytes addr n new })) ((is_good world addr n ≡ false) × Shows (record w { planes = m }) beside world)
+bytes-written w beside world m addr n new true shows is same b s o = (good-of w beside world addr n shows ∙ sym is, bytes-set w beside world m addr n new shows same b s o)
+bytes-written w beside world m addr n new false shows is same b s o = (good-of w beside world addr n shows ∙ sym is, unchanged w beside world m shows (record { table = sym same; bytes = sym b; shadow = sym s; origins = sym o }))
+
+pub shadow-written : (w : WorldState) (beside : Beside) (world : World) (m : Memory) (addr n : ℕ) (new : ℕ → ℕ) (good : Bool) → Shows w beside world → good ≡ is_live addr n w.planes.table → m.table ≡ w.planes.table →
+    bytes_of m ≡ bytes_of w.planes → shadow_of m ≡ (if good then with_range (shadow_of w.planes) addr n new else shadow_of w.planes) → origins_of m ≡ origins_of w.planes →
+    MatchBool good ((is_good world addr n ≡ true) × Shows (record w { planes = m }) beside (record world { shadow = with_range world.shadow addr n new })) ((is_good world addr n ≡ false) × Shows (record w { planes = m }) beside world)
+shadow-written w beside world m addr n new true shows is same b s o = (good-of w beside world addr n shows ∙ sym is, shadow-set w beside world m addr n new shows same b s o)
+shadow-written w beside world m addr n new false shows is same b s o = (good-of w beside world addr n shows ∙ sym is, unchanged w beside world m shows (record { table = sym same; bytes = sym b; shadow = sym s; origins = sym o }))
+
 -- they didn't fit
 pub not-allocated : (k : AllocKind) (w : WorldState) (beside : Beside) (world : World) (n : ℕ) (m : Memory) → Shows w beside world → IsLaidOut w.planes.table → limit_of k < taken_by (of_kind k w.planes.table) + room_taken n → IsSame w.planes m →
     Allocated k beside world n (Err refused.Full) (record w { planes = m })

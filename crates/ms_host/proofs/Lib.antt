@@ -13,3 +13,4 @@ pub mod Initialised
 pub mod KeptNumbers
 pub mod InitParts
 pub mod GlobalsMade
+pub mod Matched

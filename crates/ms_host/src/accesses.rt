@@ -25,11 +25,7 @@ impl World {
         requires { n ≤ 8 }
         ensures { (beside : Beside) (world : Meant) → Shows self.now beside world → MatchOption result (is_good world addr n ≡ false) (λ v. (is_good world addr n ≡ true) × (v ≡ number_at world.bytes addr n)) }
     {
-        if self.planes.covers(addr, u64::from(n)) {
-            Some(self.planes.load(addr, n))
-        } else {
-            None
-        }
+        self.planes.read(addr, n)
     }
 
     /// Writes the `n` low bytes of `v`, the least first, and answers whether they are good; else nothing changes.
@@ -39,11 +35,7 @@ impl World {
         ensures keeps { Keeps self.old self.new }
         ensures made { self.new.made ≡ self.old.made }
     {
-        let good = self.planes.covers(addr, u64::from(n));
-        if good {
-            self.planes.store(addr, n, v);
-        }
-        good
+        self.planes.write(addr, n, v)
     }
 
     /// The number that `n` shadow bytes are, the least first; `None` where the bytes aren't good.
@@ -51,11 +43,7 @@ impl World {
         requires { n ≤ 8 }
         ensures { (beside : Beside) (world : Meant) → Shows self.now beside world → MatchOption result (is_good world addr n ≡ false) (λ v. (is_good world addr n ≡ true) × (v ≡ number_at world.shadow addr n)) }
     {
-        if self.planes.covers(addr, u64::from(n)) {
-            Some(self.planes.load_shadow(addr, n))
-        } else {
-            None
-        }
+        self.planes.read_shadow(addr, n)
     }
 
     /// Writes the `n` low bytes of `v` as shadow, the least first, and answers whether the bytes are good; else
@@ -66,11 +54,7 @@ impl World {
         ensures keeps { Keeps self.old self.new }
         ensures made { self.new.made ≡ self.old.made }
     {
-        let good = self.planes.covers(addr, u64::from(n));
-        if good {
-            self.planes.store_shadow(addr, n, v);
-        }
-        good
+        self.planes.write_shadow(addr, n, v)
     }
 
     /// The byte at a live address.

@@ -1,52 +1,69 @@
--- The functions of a module at the one to which a loop has come.
-use Rattle.std.proofs.Common.{◌≡◌, ℕ, suc, ◌+◌, ◌<◌, ◌≤◌, ◌^◌, List, [], ◌∷◌, ◌++◌, Option, length, get_or, drop, sym, ap, ◌∙◌, append_assoc, append-nil, add_assoc, arith}
-use Rattle.std.proofs.Math.Path.{ap₂, fun_ext}
-use Rattle.std.proofs.lemmas.List.{drop_all}
+-- The counts before each function of a module.
+use Rattle.std.proofs.Common.{◌≡◌, ℕ, zero, suc, ◌+◌, ◌<◌, ◌≤◌, ◌^◌, List, [], ◌∷◌, Option, All, length, get_or, take, refl, sym, ap, subst, ◌∙◌, add_assoc, add-one, arith}
+use Rattle.std.proofs.lemmas.List.FromFn.{length-map-range_with_len}
+use Rattle.std.specs.Prelude.{map, slice_get, unwrap_or}
+use Rattle.std.specs.List.{range_with_len}
+use Rattle.std.proofs.Math.Path.{ap₂}
 use Rattle.ms_ir.specs.declared.syntax.Name.{Name}
+use Rattle.ms_ir.specs.declared.syntax.Inst.{Inst}
 use Rattle.ms_ir.specs.declared.syntax.Func.{Func}
 use Rattle.ms_ir.specs.Code.{one_unmarked, roots_in, over_blocks, over_funcs}
-use Rattle.ms_ir.specs.Names.{name_eq, main_name}
-use Rattle.ms_tables.proofs.Items.{drop_item}
-use Rattle.ms_tasks.specs.Environments.{Given}
 use Rattle.ms_pass.specs.declared.counts.Counts.{Counts}
-use Rattle.ms_pass.specs.Counted.{here_of, past_blocks, past_funcs, AreSmall}
-use Rattle.ms_pass.specs.Passed.{passed_func, passed_funcs}
+use Rattle.ms_pass.specs.Counted.{past_blocks, past_funcs, AreSmall}
+use Rattle.ms_ir.specs.Layout.{Types}
+use Rattle.ms_pass.specs.Passed.{before_func, func_in, no_counts}
+use Rattle.ms_pass.specs.Pieces.{counts_at}
+use Rattle.ms_pass.specs.Ready.{IsReady}
+
+-- what a list has at a place below its length, whatever stands for what is missing
+pub found_at : {A : Type 0} (xs : List A) (k : ℕ) (d e : A) → k < length xs → get_or xs k d ≡ unwrap_or (slice_get xs k) e
+found_at [] k d e below = absurd (omega (arith, below))
+found_at (x ∷ xs) zero d e below = refl
+found_at (x ∷ xs) (suc k) d e below = found_at xs k d e (omega (arith, below))
+
+-- what a list made of numbers in a row has at a place
+pub made_at : {A : Type 0} (f : ℕ → A) (from n k : ℕ) (d : A) → k < n → unwrap_or (slice_get (map f (range_with_len from n)) k) d ≡ f (from + k)
+made_at f from zero k d below = absurd (omega (arith, below))
+made_at f from (suc n) zero d below = let same : from ≡ from + 0 = omega arith in ap f same
+made_at f from (suc n) (suc k) d below =
+    let same : from + 1 + k ≡ from + suc k = omega arith in made_at f (from + 1) n k d (omega (arith, below)) ∙ ap f same
+
+-- functions in front, and one more
+over_more : (count : Inst → ℕ) (fs : List Func) (k : ℕ) → k < length fs → over_funcs count (take (suc k) fs) ≡ over_funcs count (take k fs) + over_blocks count (func_in fs k).blocks
+over_more count [] k below = absurd (omega (arith, below))
+over_more count (f ∷ fs) zero below = omega arith
+over_more count (f ∷ fs) (suc k) below = let rest = over_more count fs k (omega (arith, below)) in omega (arith, rest)
+
+over_within : (count : Inst → ℕ) (fs : List Func) (k : ℕ) → k < length fs → over_funcs count (take k fs) + over_blocks count (func_in fs k).blocks ≤ over_funcs count fs
+over_within count [] k below = absurd (omega (arith, below))
+over_within count (f ∷ fs) zero below = omega arith
+over_within count (f ∷ fs) (suc k) below = let rest = over_within count fs k (omega (arith, below)) in omega (arith, rest)
 
 module _ (func : Name → Option ℕ) where
-  pub counts_next : (counts next whole : Counts) (funcs : List Func) (i : ℕ) (f : Func) → i < length funcs → f ≡ get_or funcs i f → next ≡ past_blocks func counts f.blocks
-      → past_funcs func counts (drop i funcs) ≡ whole → past_funcs func next (drop (i + 1) funcs) ≡ whole
-  counts_next counts next whole funcs i f below is behind before =
-      ap (λ n. past_funcs func n (drop (i + 1) funcs)) behind
-      ∙ ap₂ {C = Counts} (λ s r. record { site = s; root = r })
-      (add_assoc counts.site (over_blocks one_unmarked f.blocks) (over_funcs one_unmarked (drop (i + 1) funcs)))
-      (add_assoc counts.root (over_blocks (roots_in func) f.blocks) (over_funcs (roots_in func) (drop (i + 1) funcs)))
-      ∙ ap (past_funcs func counts) (sym (drop_item funcs i f below is)) ∙ before
+  -- the counts behind a function are those before the next one
+  pub next_counts : (fs : List Func) (k : ℕ) → k < length fs → past_blocks func (before_func func fs k) (func_in fs k).blocks ≡ before_func func fs (k + 1)
+  next_counts fs k below =
+      let sum : (count : Inst → ℕ) → over_funcs count (take k fs) + over_blocks count (func_in fs k).blocks ≡ over_funcs count (take (suc k) fs) = λ count. sym (over_more count fs k below) in
+      ap₂ {C = Counts} (λ s r. record { site = s; root = r })
+      (add_assoc 1 (over_funcs one_unmarked (take k fs)) (over_blocks one_unmarked (func_in fs k).blocks) ∙ ap (λ n. 1 + n) (sum one_unmarked))
+      (add_assoc 0 (over_funcs (roots_in func) (take k fs)) (over_blocks (roots_in func) (func_in fs k).blocks) ∙ ap (λ n. 0 + n) (sum (roots_in func)))
+      ∙ ap (before_func func fs) (sym (add-one k))
 
-  pub small_next : (counts whole : Counts) (funcs : List Func) (i : ℕ) (f : Func) → i < length funcs → f ≡ get_or funcs i f
-      → past_funcs func counts (drop i funcs) ≡ whole → AreSmall whole → AreSmall (past_blocks func counts f.blocks)
-  small_next counts whole funcs i f below is before small =
-      let parts = ap (past_funcs func counts) (sym (drop_item funcs i f below is)) ∙ before in
-      (below_sum counts.site (over_blocks one_unmarked f.blocks) _ _ (2 ^ 32) (ap (λ c. c.site) parts) small.0, below_sum counts.root (over_blocks (roots_in func) f.blocks) _ _ (2 ^ 40) (ap (λ c. c.root) parts) small.1)
+  -- they are small where those behind all functions are
+  pub small_at : (fs : List Func) (k : ℕ) → k < length fs → AreSmall (past_funcs func no_counts fs) → AreSmall (past_blocks func (before_func func fs k) (func_in fs k).blocks)
+  small_at fs k below small =
+      (within 1 (over_funcs one_unmarked (take k fs)) _ _ (2 ^ 32) (over_within one_unmarked fs k below) small.0, within 0 (over_funcs (roots_in func) (take k fs)) _ _ (2 ^ 40) (over_within (roots_in func) fs k below) small.1)
     where
-      below_sum : (a b c total limit : ℕ) → a + (b + c) ≡ total → total < limit → a + b < limit
-      below_sum a b c total limit e l = omega (arith, e, l)
+      within : (start a b whole limit : ℕ) → a + b ≤ whole → start + whole < limit → start + a + b < limit
+      within start a b whole limit l h = omega (arith, l, h)
 
-module _ (given : Given) where
-  pub funcs_next : (clean : ℕ → List Name) (counts next : Counts) (done more whole : List Func) (funcs : List Func) (i : ℕ) (f : Func) → i < length funcs → f ≡ get_or funcs i f
-      → next ≡ past_blocks given.func counts f.blocks → more ≡ done ++ passed_func given (clean i) (here_of counts (name_eq f.name main_name)) f ∷ []
-      → done ++ passed_funcs given (λ k. clean (i + k)) counts (drop i funcs) ≡ whole → more ++ passed_funcs given (λ k. clean (i + 1 + k)) next (drop (i + 1) funcs) ≡ whole
-  funcs_next clean counts next done more whole funcs i f below is behind pushed before =
-      let own = passed_func given (clean i) (here_of counts (name_eq f.name main_name)) f in
-      let rest : (ℕ → List Name) → List Func = λ c. passed_funcs given c (past_blocks given.func counts f.blocks) (drop (i + 1) funcs) in
-      let later : (λ k. clean (i + 1 + k)) ≡ (λ k. clean (i + suc k)) = fun_ext (λ k. let same : i + 1 + k ≡ i + suc k = omega arith in ap clean same) in
-      ap₂ (λ l k. l ++ k) pushed (ap (λ n. passed_funcs given (λ k. clean (i + 1 + k)) n (drop (i + 1) funcs)) behind ∙ ap rest later)
-      ∙ append_assoc done (own ∷ []) (rest (λ k. clean (i + suc k)))
-      ∙ ap (λ c. done ++ passed_func given (clean c) (here_of counts (name_eq f.name main_name)) f ∷ rest (λ k. clean (i + suc k))) (add_zero i)
-      ∙ ap (λ l. done ++ passed_funcs given (λ k. clean (i + k)) counts l) (sym (drop_item funcs i f below is)) ∙ before
-    where
-      add_zero : (n : ℕ) → n ≡ n + 0
-      add_zero n = omega arith
+  -- ---- what is kept of them
 
-  pub funcs_end : (clean : ℕ → List Name) (counts : Counts) (done whole : List Func) (funcs : List Func) (i : ℕ) → length funcs ≤ i → done ++ passed_funcs given clean counts (drop i funcs) ≡ whole → done ≡ whole
-  funcs_end clean counts done whole funcs i past before =
-      sym (append-nil done) ∙ ap (λ l. done ++ passed_funcs given clean counts l) (sym (drop_all i funcs past)) ∙ before
+  pub counts_many : (fs : List Func) (all : List Counts) → all ≡ map (before_func func fs) (range_with_len 0 (length fs)) → length all ≡ length fs
+  counts_many fs all is = ap length is ∙ length-map-range_with_len (before_func func fs) 0 (length fs)
+
+  pub counts_kept : (fs : List Func) (all : List Counts) (k : ℕ) → k < length fs → all ≡ map (before_func func fs) (range_with_len 0 (length fs)) → counts_at all k ≡ before_func func fs k
+  counts_kept fs all k below is = let same : 0 + k ≡ k = omega arith in ap (λ l. counts_at l k) is ∙ made_at (before_func func fs) 0 (length fs) k no_counts below ∙ ap (before_func func fs) same
+
+pub ready_at : (types : Types) (fs : List Func) (k : ℕ) → k < length fs → All (IsReady types) fs → IsReady types (func_in fs k)
+ready_at types fs k below ready = subst (λ f. IsReady types f) (found_at fs k (func_in [] 0) (func_in [] 0) below) (ready k (func_in [] 0) below)

@@ -6,3 +6,4 @@ pub mod Entered
 pub mod Numbered
 pub mod Room
 pub mod ModuleReady
+pub mod Crosses

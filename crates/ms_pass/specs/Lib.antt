@@ -1,3 +1,4 @@
 pub mod Counted
 pub mod Passed
 pub mod Ready
+pub mod Pieces

@@ -1,6 +1,8 @@
 -- The parts of an instrumented module, as they are built.
-use Rattle.std.specs.Prelude.{ℕ, suc, ◌+◌, ◌*◌, List, [], ◌∷◌, ◌++◌, length, is_some, slice_index_or}
+use Rattle.std.specs.Prelude.{◌≡◌, ℕ, ◌+◌, ◌*◌, List, [], ◌++◌, Option, None, length, map, take, is_some, unwrap_or, slice_get, slice_index_or}
+use Rattle.std.specs.List.{range_with_len}
 use Rattle.ms_ir.specs.declared.syntax.Name.{Name}
+use Rattle.ms_ir.specs.declared.syntax.Name.TheVariants.{Number}
 use Rattle.ms_ir.specs.declared.syntax.Inst.{Inst}
 use Rattle.ms_ir.specs.declared.syntax.Block.{Block}
 use Rattle.ms_ir.specs.declared.syntax.Func.{Func}
@@ -11,13 +13,14 @@ use Rattle.ms_ir.specs.Locals.{function_names}
 use Rattle.ms_ir.specs.Names.{name_eq, main_name}
 use Rattle.ms_ir.specs.Signatures.{slot_globals, runtime_declarations}
 use Rattle.ms_runs.specs.World.{Here}
+use Rattle.ms_elide.specs.CleanSets.{IsExact}
 use Rattle.ms_tables.specs.FirstPlace.{first_place}
 use Rattle.ms_tasks.specs.Tasks.{Code}
 use Rattle.ms_tasks.specs.Environments.{Env, Given}
 use Rattle.ms_tasks.specs.PassLists.{pass_insts}
 use Rattle.ms_pass_laws.specs.Pass.{pass_blocks, entry_code, enter_block}
 use Rattle.ms_pass.specs.declared.counts.Counts.{Counts}
-use Rattle.ms_pass.specs.Counted.{here_of, past_blocks}
+use Rattle.ms_pass.specs.Counted.{here_of, past_funcs}
 use Rattle.ms_rules.specs.Valued.{value_names}
 
 -- values are numbered by the first place of their name, and those with some names are known to be clean
@@ -50,12 +53,6 @@ passed_func given clean h f =
     let names = value_names f in
     record f { blocks = with_blocks given (env_by names clean) h f.blocks (entry (env_by names clean) (first_number (length names)) f.params) }
 
--- the instrumented form of functions
-abbrev pub passed_funcs : Given → (clean : ℕ → List Name) → Counts → List Func → List Func
-passed_funcs given clean c [] = []
-passed_funcs given clean c (f ∷ fs) =
-    passed_func given (clean 0) (here_of c (name_eq f.name main_name)) f ∷ passed_funcs given (λ k. clean (suc k)) (past_blocks given.func c f.blocks) fs
-
 -- what is looked up in a module
 abbrev pub given_by : Types → List Name → Given
 given_by types functions = record { types = types; func = first_place functions }
@@ -64,11 +61,35 @@ given_by types functions = record { types = types; func = first_place functions 
 abbrev pub no_counts : Counts
 no_counts = record { site = 1; root = 0 }
 
--- the instrumented form of a module, where each function has a list of names of values that are known to be clean
-abbrev pub passed_module : List (List Name) → Module → Module
+-- the function with a number, and one without blocks where there is none
+abbrev pub func_in : List Func → ℕ → Func
+func_in funcs k = unwrap_or (slice_get funcs k) (record { name = Number 0; ret = None; params = []; blocks = [] })
+
+-- the counts before the function with a number
+abbrev pub before_func : (Name → Option ℕ) → List Func → ℕ → Counts
+before_func func funcs k = past_funcs func no_counts (take k funcs)
+
+-- the instrumented form of the function with a number
+abbrev pub func_made : Given → (clean : ℕ → List Name) → List Func → ℕ → Func
+func_made given clean funcs k =
+    let f = func_in funcs k in passed_func given (clean k) (here_of (before_func given.func funcs k) (name_eq f.name main_name)) f
+
+-- the instrumented form of the function with a number: the lists round its instructions, given the sites and roots before
+-- it, where each function has a list of names of values that are known to be clean (CGO 2015)
+abbrev pub inst : (clean : List (List Name)) → Module → ℕ → Func
+inst clean m = func_made (given_by m.types (function_names m)) (names_in clean) m.funcs
+
+-- the instrumented form of a module: its functions one by one, and behind its globals and declarations those of the runtime
+abbrev pub passed_module : (clean : List (List Name)) → Module → Module
 passed_module clean m = record {
   types = m.types;
   globals = m.globals ++ slot_globals;
   decls = m.decls ++ runtime_declarations;
-  funcs = passed_funcs (given_by m.types (function_names m)) (names_in clean) no_counts m.funcs;
+  funcs = map (inst clean m) (range_with_len 0 (length m.funcs));
 }
+
+-- a module is made of another function by function, where what is known to be clean is what is clean in every run
+pub record IsMadeOf (m j : Module) : Type 0 where
+  pub clean : List (List Name)
+  pub exact : IsExact m clean
+  pub made : j ≡ passed_module clean m

@@ -1,21 +1,25 @@
 //! The functions of a module.
-ghost use Rattle.std.specs.Prelude.{◌≡◌, ◌++◌, [], ◌∷◌, ◌≤◌, ◌^◌, All, length, IfOk, OnOk};
+ghost use Rattle.std.specs.Prelude.{◌≡◌, ◌≤◌, ◌^◌, All, length, map, IfOk};
+ghost use Rattle.std.specs.List.{range_with_len};
 ghost use Rattle.ms_ir.specs.Names.{name_eq, main_name};
 ghost use Rattle.ms_tables.specs.FirstPlace.{first_place};
 ghost use Rattle.ms_rules.specs.Scopes.{env_of};
 ghost use Rattle.ms_pass.specs.Counted.{here_of, past_blocks, past_funcs, AreSmall};
-ghost use Rattle.ms_pass.specs.Passed.{entry, first_number, given_by, names_in, passed_func, passed_funcs};
+ghost use Rattle.ms_pass.specs.Passed.{entry, first_number, func_made, given_by, names_in, no_counts, passed_func};
 ghost use Rattle.ms_pass.specs.Ready.{IsReady};
+ghost use Rattle.ms_pass.specs.Pieces.{CanPass};
 
 use crate::blocks::passed_blocks;
-use crate::counts::Counts;
+use crate::counts::{Counts, counts_before};
 use ms_bits::{Duplicate, List, NoMemory};
 use ms_elide::CleanSet;
+use ms_fork::{Cuts, Gate, Work, by_halves};
 use ms_ir::{Block, Func, Name, Ty};
 use ms_rules::{Scope, push_parameters, values_of};
 use ms_rules_code::Code;
 use ms_tables::{Extents, NameTable};
 use std::alloc::Global;
+use std::thread::Threads;
 
 /// What a function begins with.
 fn entry_of(alloc: Global, scope: &Scope<'_, '_>, params: &[(Ty, Name)]) -> Result<Code, NoMemory>
@@ -27,20 +31,19 @@ fn entry_of(alloc: Global, scope: &Scope<'_, '_>, params: &[(Ty, Name)]) -> Resu
     Ok(code)
 }
 
-/// The blocks of the instrumented form of a function, where the values with some names are known to be clean. The counts
-/// become those behind it.
+/// The blocks of the instrumented form of a function, where so many sites and roots stand before it and the values with
+/// some names are known to be clean.
 fn blocks_in<'m>(
     alloc: Global,
     extents: &Extents<'m>,
     functions: &NameTable<'m>,
     clean: &NameTable<'m>,
-    counts: &mut Counts,
+    before: Counts,
     func: &'m Func,
 ) -> Result<List<Block>, NoMemory>
     requires ready { IsReady extents.now func.now }
-    requires small { AreSmall (past_blocks (first_place functions.now) counts.old func.now.blocks) }
-    ensures blocks { IfOk result (λ bs. bs ≡ (passed_func (given_by extents.now functions.now) clean.now (here_of counts.old (name_eq func.now.name main_name)) func.now).blocks) }
-    ensures counts { OnOk result (counts.new ≡ past_blocks (first_place functions.now) counts.old func.now.blocks) }
+    requires small { AreSmall (past_blocks (first_place functions.now) before func.now.blocks) }
+    ensures { IfOk result (λ bs. bs ≡ (passed_func (given_by extents.now functions.now) clean.now (here_of before (name_eq func.now.name main_name)) func.now).blocks) }
 {
     let values = values_of(alloc, func)?;
     let scope = Scope {
@@ -51,7 +54,8 @@ fn blocks_in<'m>(
         main: func.name.is(b"main"),
     };
     let start = entry_of(alloc, &scope, func.params.as_slice())?;
-    passed_blocks(alloc, &scope, counts, start, func.blocks.as_slice())
+    let mut counts = before;
+    passed_blocks(alloc, &scope, &mut counts, start, func.blocks.as_slice())
 }
 
 /// A function with other blocks.
@@ -69,54 +73,59 @@ fn with_blocks(alloc: Global, func: &Func, blocks: List<Block>) -> Result<Func, 
     })
 }
 
-/// Adds the instrumented form of a function. The counts become those behind it.
-fn push_func<'m>(
-    alloc: Global,
-    done: &mut Vec<Func>,
-    extents: &Extents<'m>,
-    functions: &NameTable<'m>,
-    clean: &NameTable<'m>,
-    counts: &mut Counts,
-    func: &'m Func,
-) -> Result<(), NoMemory>
-    requires ready { IsReady extents.now func.now }
-    requires small { AreSmall (past_blocks (first_place functions.now) counts.old func.now.blocks) }
-    ensures func { OnOk result (done.new.items ≡ done.old.items ++ passed_func (given_by extents.now functions.now) clean.now (here_of counts.old (name_eq func.now.name main_name)) func.now ∷ []) }
-    ensures counts { OnOk result (counts.new ≡ past_blocks (first_place functions.now) counts.old func.now.blocks) }
-{
-    let blocks = blocks_in(alloc, extents, functions, clean, counts, func)?;
-    done.push(with_blocks(alloc, func, blocks)?)?;
-    Ok(())
+/// What the functions of a module are instrumented with. The threads that make them share it, to read alone.
+#[derive(Drop)]
+struct Functions<'a, 'm> {
+    extents: &'a Extents<'m>,
+    functions: &'a NameTable<'m>,
+    clean: &'a CleanSet<'m>,
+    counts: &'a [Counts],
+    funcs: &'m [Func],
 }
 
-/// The instrumented form of functions, where so many sites and roots stand before them, and `clean` has the clean values of
-/// each. The one error is want of memory.
-pub fn passed_funcs<'m>(
+impl<'a, 'm> Work for Functions<'a, 'm> {
+    type Item = Func;
+
+    ghost can = { λ work k. CanPass work.extents.now work.functions.now work.clean.now work.counts.now work.funcs.now k };
+
+    ghost answer = { λ work k. func_made (given_by work.extents.now work.functions.now) (names_in work.clean.now) work.funcs.now k };
+
+    fn make(&self, alloc: Global, index: usize) -> Result<Func, NoMemory> {
+        let func = &self.funcs[index];
+        let clean = self.clean.names(index);
+        let before = self.counts[index];
+        let blocks = blocks_in(alloc, self.extents, self.functions, clean, before, func)?;
+        with_blocks(alloc, func, blocks)
+    }
+}
+
+/// The instrumented form of the functions of a module, where `clean` has the clean values of each: the same for every gate.
+/// They are made in pieces of at most eight by several threads. The one error is want of memory, in any piece.
+pub fn passed_funcs<'m, R: Threads + Sync, G: Gate + Sync>(
+    rt: &R,
     alloc: Global,
     extents: &Extents<'m>,
     functions: &NameTable<'m>,
     clean: &CleanSet<'m>,
-    start: Counts,
     funcs: &'m [Func],
+    gate: &G,
 ) -> Result<List<Func>, NoMemory>
     requires sets { length clean.now ≡ length funcs.now }
     requires ready { All (IsReady extents.now) funcs.now }
-    requires small { AreSmall (past_funcs (first_place functions.now) start funcs.now) }
-    ensures { IfOk result (λ fs. fs ≡ passed_funcs (given_by extents.now functions.now) (names_in clean.now) start funcs.now) }
+    requires small { AreSmall (past_funcs (first_place functions.now) no_counts funcs.now) }
+    ensures { IfOk result (λ fs. fs ≡ map (func_made (given_by extents.now functions.now) (names_in clean.now) funcs.now) (range_with_len 0 (length funcs.now))) }
 {
-    let mut counts = start;
-    let mut done = Vec::with_capacity(alloc, funcs.len())?;
-    for index in 0..funcs.len() {
-        let names = clean.names(index);
-        push_func(
-            alloc,
-            &mut done,
-            extents,
-            functions,
-            names,
-            &mut counts,
-            &funcs[index],
-        )?;
-    }
-    Ok(List::from_vec(done))
+    let counts = counts_before(alloc, functions, funcs)?;
+    let work = Functions {
+        extents,
+        functions,
+        clean,
+        counts: &counts,
+        funcs,
+    };
+    let cuts = Cuts {
+        most: 8,
+        threads: 16,
+    };
+    by_halves(rt, alloc, &work, funcs.len(), cuts, gate)
 }

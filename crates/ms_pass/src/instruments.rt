@@ -10,21 +10,34 @@ ghost use Rattle.ms_valid.specs.Valid.{Valid};
 ghost use Rattle.ms_runs_good.specs.Fills.{InsertedUnderFills};
 ghost use Rattle.ms_two_fills.specs.Checked.{HoldsUnderFills};
 ghost use Rattle.ms_elision_laws.specs.Elided.{IsElided, ChecksUnclean};
+ghost use Rattle.ms_pass.specs.Passed.{IsMadeOf};
 
 use crate::modules::passed_module;
 use ms_bits::NoMemory;
 use ms_check::CheckedModule;
 use ms_elide::clean;
+use ms_fork::Gate;
 use ms_ir::Module;
 use std::alloc::Global;
+use std::thread::Threads;
 
 /// Inserts shadow code into a module that can be instrumented, after Stepanov and Serebryany (CGO 2015): the plain run of
 /// the answer is the shadow run of the module with every fair setup, and without what is inserted it is the module itself.
 /// Nothing is computed of values that are clean in every run, and they aren't checked.
 /// Where its run up to the first report counts no blind use, it is the same under every fill, and what a run says with a
 /// clean verdict the module itself prints under every fill. The answer is formed and valid, and isn't compiled: it is for
-/// being written. The one error is want of memory. Linear in the module.
-pub fn instrumented(alloc: Global, m: &CheckedModule) -> Result<Module, NoMemory>
+/// being written.
+///
+/// The functions are made in pieces of at most eight, by several threads where there are more. Each piece enters the gate with
+/// the number of its first function, counted from 0, before it does anything else. The answer is the same for every gate: its
+/// functions are made one by one, each with the sites and roots before it, and its globals and declarations are those of the
+/// module and then the slots and the runtime functions. The one error is want of memory, in any piece. Linear in the module.
+pub fn instrumented<R: Threads + Sync, G: Gate + Sync>(
+    rt: &R,
+    alloc: Global,
+    m: &CheckedModule,
+    gate: &G,
+) -> Result<Module, NoMemory>
     requires { CanInstrument m.now }
     ensures pass { IfOk result (λ j. IsElided m.now j) }
     ensures checks { IfOk result (λ j. ChecksUnclean m.now j) }
@@ -34,15 +47,21 @@ pub fn instrumented(alloc: Global, m: &CheckedModule) -> Result<Module, NoMemory
     ensures valid { IfOk result (λ j. Valid j) }
     ensures under_fills { IfOk result (λ j. (setup : SetupOf) → Fair setup → InsertedUnderFills j setup) }
     ensures holds { IfOk result (λ j. (setup : SetupOf) → Fair setup → HoldsUnderFills m.now setup (plain j setup)) }
+    ensures pieces { IfOk result (λ j. IsMadeOf m.now j) }
 {
     m.is_valid();
     let values = clean(alloc, m)?;
-    let module = passed_module(alloc, m.module(), &values)?;
+    let module = passed_module(rt, alloc, m.module(), &values, gate)?;
     Ok(module)
 }
 
 /// The same as a checked module, which can be run. The one error is want of memory. Linear in the module.
-pub fn instrument(alloc: Global, m: &CheckedModule) -> Result<CheckedModule, NoMemory>
+pub fn instrument<R: Threads + Sync, G: Gate + Sync>(
+    rt: &R,
+    alloc: Global,
+    m: &CheckedModule,
+    gate: &G,
+) -> Result<CheckedModule, NoMemory>
     requires { CanInstrument m.now }
     ensures pass { IfOk result (λ j. IsElided m.now j) }
     ensures checks { IfOk result (λ j. ChecksUnclean m.now j) }
@@ -50,7 +69,8 @@ pub fn instrument(alloc: Global, m: &CheckedModule) -> Result<CheckedModule, NoM
     ensures stripped { IfOk result (λ j. strip j ≡ m.now) }
     ensures under_fills { IfOk result (λ j. (setup : SetupOf) → Fair setup → InsertedUnderFills j setup) }
     ensures holds { IfOk result (λ j. (setup : SetupOf) → Fair setup → HoldsUnderFills m.now setup (plain j setup)) }
+    ensures pieces { IfOk result (λ j. IsMadeOf m.now j) }
 {
-    let module = instrumented(alloc, m)?;
+    let module = instrumented(rt, alloc, m, gate)?;
     CheckedModule::of_valid(alloc, module)
 }

@@ -9,3 +9,4 @@ mod insts;
 mod modules;
 
 pub use instruments::{instrument, instrumented};
+pub use ms_fork::{Gate, OpenGate};

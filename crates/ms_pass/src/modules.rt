@@ -1,19 +1,21 @@
 //! The instrumented form of a module, from its parts.
-ghost use Rattle.std.specs.Prelude.{◌≡◌, ◌++◌, All, length, IfOk};
+ghost use Rattle.std.specs.Prelude.{◌≡◌, ◌++◌, All, length, map, IfOk};
+ghost use Rattle.std.specs.List.{range_with_len};
 ghost use Rattle.ms_ir.specs.Locals.{function_names};
 ghost use Rattle.ms_ir.specs.Signatures.{slot_globals, runtime_declarations};
 ghost use Rattle.ms_tables.specs.FirstPlace.{first_place};
 ghost use Rattle.ms_pass.specs.Counted.{past_funcs, AreSmall};
-ghost use Rattle.ms_pass.specs.Passed.{given_by, names_in, no_counts, passed_funcs, passed_module};
+ghost use Rattle.ms_pass.specs.Passed.{inst, no_counts, passed_module};
 ghost use Rattle.ms_pass.specs.Ready.{IsReady};
 
-use crate::counts::Counts;
 use crate::functions::passed_funcs;
 use ms_bits::{Duplicate, List, NoMemory};
 use ms_elide::CleanSet;
+use ms_fork::Gate;
 use ms_ir::{Decl, Func, GlobalVar, Module, runtime_declarations, slot_globals};
 use ms_tables::{Extents, functions_of};
 use std::alloc::Global;
+use std::thread::Threads;
 
 /// Adds copies at the end of a list.
 fn push_copies<T: Duplicate>(alloc: Global, items: &mut Vec<T>, more: &[T]) -> Result<(), NoMemory>
@@ -52,31 +54,39 @@ fn declarations_of(alloc: Global, m: &Module) -> Result<List<Decl>, NoMemory>
 }
 
 /// The instrumented form of the functions of a module with these clean values.
-fn funcs_of<'m>(alloc: Global, m: &'m Module, clean: &CleanSet<'m>) -> Result<List<Func>, NoMemory>
+fn funcs_of<'m, R: Threads + Sync, G: Gate + Sync>(
+    rt: &R,
+    alloc: Global,
+    m: &'m Module,
+    clean: &CleanSet<'m>,
+    gate: &G,
+) -> Result<List<Func>, NoMemory>
     requires sets { length clean.now ≡ length m.now.funcs }
     requires ready { All (IsReady m.now.types) m.now.funcs }
     requires small { AreSmall (past_funcs (first_place (function_names m.now)) no_counts m.now.funcs) }
-    ensures { IfOk result (λ fs. fs ≡ passed_funcs (given_by m.now.types (function_names m.now)) (names_in clean.now) no_counts m.now.funcs) }
+    ensures { IfOk result (λ fs. fs ≡ map (inst clean.now m.now) (range_with_len 0 (length m.now.funcs))) }
 {
     let extents = Extents::of(alloc, m)?;
     let functions = functions_of(alloc, m)?;
-    let start = Counts { site: 1, root: 0 };
     passed_funcs(
+        rt,
         alloc,
         &extents,
         &functions,
         clean,
-        start,
         m.funcs.as_slice(),
+        gate,
     )
 }
 
 /// The instrumented form of a module with these clean values, whose functions can be instrumented. The one error is want of
 /// memory.
-pub fn passed_module<'m>(
+pub fn passed_module<'m, R: Threads + Sync, G: Gate + Sync>(
+    rt: &R,
     alloc: Global,
     m: &'m Module,
     clean: &CleanSet<'m>,
+    gate: &G,
 ) -> Result<Module, NoMemory>
     requires sets { length clean.now ≡ length m.now.funcs }
     requires ready { All (IsReady m.now.types) m.now.funcs }
@@ -86,7 +96,7 @@ pub fn passed_module<'m>(
     let types = m.types.copy(alloc)?;
     let globals = globals_of(alloc, m)?;
     let decls = declarations_of(alloc, m)?;
-    let funcs = funcs_of(alloc, m, clean)?;
+    let funcs = funcs_of(rt, alloc, m, clean, gate)?;
     Ok(Module {
         types,
         globals,

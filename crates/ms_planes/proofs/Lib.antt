@@ -10,3 +10,4 @@ pub mod Readings
 pub mod Stores
 pub mod Histories
 pub mod Copied
+pub mod Good

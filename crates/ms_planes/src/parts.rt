@@ -1,7 +1,7 @@
 //! The bytes of one block, or its shadow bytes: numbers, fills, copies and searches in them.
 ghost use Rattle.std.specs.Prelude.{◌≡◌, ◌≢◌, ◌≤◌, ◌<◌, ◌+◌, ◌^◌, ℕ, length, set, IfNone, IfSome, IsTrue};
 ghost use Rattle.ms_bits.specs.Fill.{made_byte};
-ghost use Rattle.ms_bits.specs.Maps.{with_range, number_at};
+ghost use Rattle.ms_bits.specs.Maps.{with_range, byte_of, number_at};
 ghost use Rattle.ms_raw.specs.Blocks.{IsLists};
 ghost use Rattle.ms_planes.specs.Areas.{held};
 ghost use Rattle.ms_planes.specs.Blocks.{bytes_in, KeepsOthers, IsFilled, IsFilledInto};
@@ -40,8 +40,8 @@ fn set(block: &mut Block, part: Part, at: u64, v: u8)
     }
 }
 
-/// The number that the `n` bytes from place `at` on are, the least first.
-pub(crate) fn number(block: &Block, part: Part, at: u64, n: u8) -> u64
+/// The number that the `n` bytes from place `at` on are, the least first, byte by byte.
+fn number_by_bytes(block: &Block, part: Part, at: u64, n: u8) -> u64
     requires within { at + n ≤ length block.now.bytes }
     requires short { n ≤ 8 }
     requires small { at < 2 ^ 40 }
@@ -54,6 +54,127 @@ pub(crate) fn number(block: &Block, part: Part, at: u64, n: u8) -> u64
         value = value * 256 + u64::from(get(block, part, at + left));
     }
     value
+}
+
+/// The number that the two bytes from place `at` on are, the least first.
+fn two_at(block: &Block, part: Part, at: u64) -> u16
+    requires within { at + 2 ≤ length block.now.bytes }
+    requires small { at < 2 ^ 40 }
+    ensures { result ≡ number_at (held (bytes_in part block.now)) at 2 }
+{
+    u16::from_le_bytes([get(block, part, at), get(block, part, at + 1)])
+}
+
+/// The number that the four bytes from place `at` on are, the least first.
+fn four_at(block: &Block, part: Part, at: u64) -> u32
+    requires within { at + 4 ≤ length block.now.bytes }
+    requires small { at < 2 ^ 40 }
+    ensures { result ≡ number_at (held (bytes_in part block.now)) at 4 }
+{
+    u32::from_le_bytes([
+        get(block, part, at),
+        get(block, part, at + 1),
+        get(block, part, at + 2),
+        get(block, part, at + 3),
+    ])
+}
+
+/// The number that the eight bytes from place `at` on are, the least first.
+fn eight_at(block: &Block, part: Part, at: u64) -> u64
+    requires within { at + 8 ≤ length block.now.bytes }
+    requires small { at < 2 ^ 40 }
+    ensures { result ≡ number_at (held (bytes_in part block.now)) at 8 }
+{
+    u64::from_le_bytes([
+        get(block, part, at),
+        get(block, part, at + 1),
+        get(block, part, at + 2),
+        get(block, part, at + 3),
+        get(block, part, at + 4),
+        get(block, part, at + 5),
+        get(block, part, at + 6),
+        get(block, part, at + 7),
+    ])
+}
+
+/// The number that the `n` bytes from place `at` on are, the least first, where `n` is no usual one. Never inlined, so that
+/// the usual ones don't save registers for its loop.
+#[inline(never)]
+fn rare_number(block: &Block, part: Part, at: u64, n: u8) -> u64
+    requires within { at + n ≤ length block.now.bytes }
+    requires short { n ≤ 8 }
+    requires small { at < 2 ^ 40 }
+    ensures { result ≡ number_at (held (bytes_in part block.now)) at n }
+{
+    match n {
+        2 => u64::from(two_at(block, part, at)),
+        _ => number_by_bytes(block, part, at, n),
+    }
+}
+
+/// The number that the `n` bytes from place `at` on are, the least first.
+#[inline(always)]
+pub(crate) fn number(block: &Block, part: Part, at: u64, n: u8) -> u64
+    requires within { at + n ≤ length block.now.bytes }
+    requires short { n ≤ 8 }
+    requires small { at < 2 ^ 40 }
+    ensures { result ≡ number_at (held (bytes_in part block.now)) at n }
+{
+    match n {
+        1 => u64::from(get(block, part, at)),
+        4 => u64::from(four_at(block, part, at)),
+        8 => eight_at(block, part, at),
+        _ => rare_number(block, part, at, n),
+    }
+}
+
+/// Puts the `n` low bytes of `v` at the places from `at` on, the least first. Where `n` is known the compiler makes no loop
+/// of it.
+#[inline(always)]
+fn put_bytes(block: &mut Block, part: Part, at: u64, n: u8, v: u64)
+    requires within { at + n ≤ length block.old.bytes }
+    requires small { at < 2 ^ 40 }
+    requires whole { IsLists (length block.old.bytes) block.old }
+    ensures shown { held (bytes_in part block.new) ≡ with_range (held (bytes_in part block.old)) at n (byte_of v) }
+    ensures others { KeepsOthers part block.old block.new }
+{
+    let mut rest = v;
+    for i in 0..u64::from(n) {
+        set(block, part, at + i, (rest % 256) as u8);
+        rest /= 256;
+    }
+}
+
+/// The same where `n` is no usual one. Never inlined, as `rare_number`.
+#[inline(never)]
+fn put_rare(block: &mut Block, part: Part, at: u64, n: u8, v: u64)
+    requires within { at + n ≤ length block.old.bytes }
+    requires small { at < 2 ^ 40 }
+    requires whole { IsLists (length block.old.bytes) block.old }
+    ensures shown { held (bytes_in part block.new) ≡ with_range (held (bytes_in part block.old)) at n (byte_of v) }
+    ensures others { KeepsOthers part block.old block.new }
+{
+    match n {
+        2 => put_bytes(block, part, at, 2, v),
+        _ => put_bytes(block, part, at, n, v),
+    }
+}
+
+/// Puts the `n` low bytes of `v` at the places from `at` on, the least first.
+#[inline(always)]
+pub(crate) fn put_number(block: &mut Block, part: Part, at: u64, n: u8, v: u64)
+    requires within { at + n ≤ length block.old.bytes }
+    requires small { at < 2 ^ 40 }
+    requires whole { IsLists (length block.old.bytes) block.old }
+    ensures shown { held (bytes_in part block.new) ≡ with_range (held (bytes_in part block.old)) at n (byte_of v) }
+    ensures others { KeepsOthers part block.old block.new }
+{
+    match n {
+        1 => put_bytes(block, part, at, 1, v),
+        4 => put_bytes(block, part, at, 4, v),
+        8 => put_bytes(block, part, at, 8, v),
+        _ => put_rare(block, part, at, n, v),
+    }
 }
 
 /// Writes the bytes of `source` from place `at` on.

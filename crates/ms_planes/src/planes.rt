@@ -1,5 +1,5 @@
 //! The planes.
-ghost use Rattle.std.specs.Prelude.{◌≡◌, ◌≢◌, ◌≤◌, ◌<◌, ◌+◌, ◌/◌, Some, None, IsTrue, IsErr, ◌↔◌, OnOk, OnErr, IfOk, IsErrOf, option_map, eqb, length, get_or, if◌then◌else◌, [], option_copied};
+ghost use Rattle.std.specs.Prelude.{◌≡◌, ◌≢◌, ◌≤◌, ◌<◌, ◌+◌, ◌/◌, Some, None, IsTrue, IsErr, ◌↔◌, OnOk, OnErr, IfOk, IsErrOf, option_map, eqb, length, get_or, if◌then◌else◌, [], option_copied, MatchOption, true, false};
 ghost use Rattle.ms_bits.specs.Fill.{made_byte};
 ghost use Rattle.ms_bits.specs.Maps.{with_range, byte_of, number_at, first_nonzero, copied, with_cells, with_cell, copied_cells};
 ghost use Rattle.ms_alloc.specs.declared.kinds.AllocKind.TheVariants.{Stack};
@@ -9,7 +9,7 @@ ghost use Rattle.ms_planes.specs.Memory.{area_index as index_of};
 
 use crate::copies::{copy_into, copy_within};
 use crate::origins::fill_origins;
-use crate::parts::{Part, fill_into, first_marked, number, paste, put_made};
+use crate::parts::{Part, fill_into, first_marked, number, paste, put_made, put_number};
 use ms_alloc::{AllocError, AllocKind, BadFree, Place, Table};
 use ms_bits::NoMemory;
 use ms_raw::Block;
@@ -194,13 +194,36 @@ impl Planes {
         }
     }
 
+    /// The number that `n` bytes are, the least first; `None` where they aren't good.
+    pub fn read(&self, addr: u64, n: u8) -> Option<u64>
+        requires { n ≤ 8 }
+        ensures { MatchOption result (is_good addr n self.now.table ≡ false) (λ v. (is_good addr n self.now.table ≡ true) × (v ≡ number_at (bytes_of self.now) addr n)) }
+    {
+        self.number(Part::Bytes, addr, n)
+    }
+
     /// The number that `n` bytes are, the least first.
     pub fn load(&self, addr: u64, n: u8) -> u64
         requires good { IsTrue (is_good addr n self.now.table) }
         requires short { n ≤ 8 }
         ensures { result ≡ number_at (bytes_of self.now) addr n }
     {
-        self.number(Part::Bytes, addr, n)
+        match self.number(Part::Bytes, addr, n) {
+            Some(v) => v,
+            None => 0,
+        }
+    }
+
+    /// Writes the `n` low bytes of `v`, the least first, and answers whether they are good; else nothing changes.
+    pub fn write(&mut self, addr: u64, n: u8, v: u64) -> bool
+        requires { n ≤ 8 }
+        ensures good { result ≡ is_good addr n self.old.table }
+        ensures table { self.new.table ≡ self.old.table }
+        ensures bytes { bytes_of self.new ≡ (if result then with_range (bytes_of self.old) addr n (byte_of v) else bytes_of self.old) }
+        ensures shadow { shadow_of self.new ≡ shadow_of self.old }
+        ensures origins { origins_of self.new ≡ origins_of self.old }
+    {
+        self.put(Part::Bytes, addr, n, v)
     }
 
     /// Writes the `n` low bytes of `v`, the least first.
@@ -212,7 +235,7 @@ impl Planes {
         ensures shadow { shadow_of self.new ≡ shadow_of self.old }
         ensures origins { origins_of self.new ≡ origins_of self.old }
     {
-        self.paste(Part::Bytes, addr, &v.to_le_bytes()[..usize::from(n)]);
+        self.put(Part::Bytes, addr, n, v);
     }
 
     /// Writes the bytes of `source` from `addr` on.
@@ -260,13 +283,37 @@ impl Planes {
         }
     }
 
+    /// The number that `n` shadow bytes are, the least first; `None` where the bytes aren't good.
+    pub fn read_shadow(&self, addr: u64, n: u8) -> Option<u64>
+        requires { n ≤ 8 }
+        ensures { MatchOption result (is_good addr n self.now.table ≡ false) (λ v. (is_good addr n self.now.table ≡ true) × (v ≡ number_at (shadow_of self.now) addr n)) }
+    {
+        self.number(Part::Shadow, addr, n)
+    }
+
     /// The number that `n` shadow bytes are, the least first.
     pub fn load_shadow(&self, addr: u64, n: u8) -> u64
         requires good { IsTrue (is_good addr n self.now.table) }
         requires short { n ≤ 8 }
         ensures { result ≡ number_at (shadow_of self.now) addr n }
     {
-        self.number(Part::Shadow, addr, n)
+        match self.number(Part::Shadow, addr, n) {
+            Some(v) => v,
+            None => 0,
+        }
+    }
+
+    /// Writes the `n` low bytes of `v` as shadow, the least first, and answers whether the bytes are good; else nothing
+    /// changes.
+    pub fn write_shadow(&mut self, addr: u64, n: u8, v: u64) -> bool
+        requires { n ≤ 8 }
+        ensures good { result ≡ is_good addr n self.old.table }
+        ensures table { self.new.table ≡ self.old.table }
+        ensures bytes { bytes_of self.new ≡ bytes_of self.old }
+        ensures shadow { shadow_of self.new ≡ (if result then with_range (shadow_of self.old) addr n (byte_of v) else shadow_of self.old) }
+        ensures origins { origins_of self.new ≡ origins_of self.old }
+    {
+        self.put(Part::Shadow, addr, n, v)
     }
 
     /// Writes the `n` low bytes of `v` as shadow, the least first.
@@ -278,7 +325,7 @@ impl Planes {
         ensures shadow { shadow_of self.new ≡ with_range (shadow_of self.old) addr n (byte_of v) }
         ensures origins { origins_of self.new ≡ origins_of self.old }
     {
-        self.paste(Part::Shadow, addr, &v.to_le_bytes()[..usize::from(n)]);
+        self.put(Part::Shadow, addr, n, v);
     }
 
     /// The origin of the cell of a byte.
@@ -391,22 +438,46 @@ impl Planes {
         self.areas[area_of(place.kind)][place.index].as_ref()
     }
 
-    /// The number that `n` bytes or shadow bytes are, the least first.
-    fn number(&self, part: Part, addr: u64, n: u8) -> u64
-        requires good { IsTrue (is_good addr n self.now.table) }
-        requires short { n ≤ 8 }
-        ensures { result ≡ number_at (part_of part self.now) addr n }
+    /// The number that `n` bytes or shadow bytes are, the least first; `None` where the bytes aren't good.
+    #[inline(always)]
+    fn number(&self, part: Part, addr: u64, n: u8) -> Option<u64>
+        requires { n ≤ 8 }
+        ensures { MatchOption result (is_good addr n self.now.table ≡ false) (λ v. (is_good addr n self.now.table ≡ true) × (v ≡ number_at (part_of part self.now) addr n)) }
     {
         if n == 0 {
-            return 0;
+            return Some(0);
         }
         let Some(place) = self.table.place_of(addr, u64::from(n)) else {
-            return 0;
+            return None;
         };
         match self.block(place) {
-            Some(block) => number(block, part, addr - place.base, n),
-            None => 0,
+            Some(block) => Some(number(block, part, addr - place.base, n)),
+            None => None,
         }
+    }
+
+    /// Writes the `n` low bytes of `v` as bytes or shadow bytes, the least first, and answers whether the bytes are good;
+    /// else nothing changes.
+    #[inline(always)]
+    fn put(&mut self, part: Part, addr: u64, n: u8, v: u64) -> bool
+        ensures good { result ≡ is_good addr n self.old.table }
+        ensures table { self.new.table ≡ self.old.table }
+        ensures shown { part_of part self.new ≡ (if result then with_range (part_of part self.old) addr n (byte_of v) else part_of part self.old) }
+        ensures rest { part_of (other part) self.new ≡ part_of (other part) self.old }
+        ensures origins { origins_of self.new ≡ origins_of self.old }
+    {
+        if n == 0 {
+            return true;
+        }
+        let Some(place) = self.table.place_of(addr, u64::from(n)) else {
+            return false;
+        };
+        let area = &mut self.areas[area_of(place.kind)];
+        match &mut area[place.index] {
+            Some(block) => put_number(block, part, addr - place.base, n, v),
+            None => {}
+        }
+        true
     }
 
     /// Writes the bytes of `source` from `addr` on.

@@ -83,3 +83,18 @@ module _ (env : Env) (root : ℕ) (os : List (Ty × Operand)) where
     sym (append-nil ts) ∙ ap (λ xs. ts ++ tracked env behind xs) (sym (drop-all os k l)) ∙ h.are,
     (let left : count_undefs (drop k os) ≡ 0 = ap count_undefs (drop-all os k l) in omega (arith, left, h.roots)),
   )
+
+-- ---- undefined operands in turn
+
+module _ (os : List (Ty × Operand)) where
+  pub undefs_none : 0 + count_undefs (drop 0 os) ≡ count_undefs os
+  undefs_none = let same : count_undefs (drop 0 os) ≡ count_undefs os = ap count_undefs (drop-none os) in omega (arith, same)
+    where
+      drop-none : (l : List (Ty × Operand)) → drop 0 l ≡ l
+      drop-none [] = refl
+      drop-none (o ∷ l) = refl
+
+  -- behind one more
+  pub undefs_more : (k count next : ℕ) → k < length os → next ≡ count + one_undef (operand_at os k).1 → count + count_undefs (drop k os) ≡ count_undefs os → next + count_undefs (drop (k + 1) os) ≡ count_undefs os
+  undefs_more k count next l e h =
+      let step : count_undefs (drop k os) ≡ one_undef (operand_at os k).1 + count_undefs (drop (k + 1) os) = ap count_undefs (drop-cons os k (Ptr, constant.Null) l ∙ ap (λ n. operand_at os k ∷ drop n os) (sym (add-one k))) in omega (arith, step, e, h)

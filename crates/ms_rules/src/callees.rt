@@ -2,10 +2,10 @@
 ghost use Rattle.std.specs.Prelude.{◌≡◌, is_some, true, if◌then◌else◌};
 ghost use Rattle.ms_ir.specs.Code.{external_named, is_root, makes_unset};
 ghost use Rattle.ms_rules.specs.Callees.{IsCallee};
-ghost use Rattle.ms_rules.specs.Scopes.{given_of};
+ghost use Rattle.ms_tables.specs.FirstPlace.{first_place};
 
-use crate::scopes::Scope;
 use ms_ir::{External, Name, Op};
+use ms_tables::NameTable;
 
 /// What an operation calls: a function of the module, an external, or nothing.
 #[derive(Clone, Copy)]
@@ -14,12 +14,12 @@ pub struct Callee {
     pub external: Option<External>,
 }
 
-/// What a call of a name goes to.
-fn named_callee(scope: &Scope<'_, '_>, name: &Name) -> Callee
-    ensures own { is_some ((given_of scope.now).func name.now) ≡ result.own }
-    ensures external { external_named (given_of scope.now).func name.now ≡ result.external }
+/// What a call of a name goes to, in a module with these functions.
+fn named_callee(functions: &NameTable<'_>, name: &Name) -> Callee
+    ensures own { is_some (first_place functions.now name.now) ≡ result.own }
+    ensures external { external_named (first_place functions.now) name.now ≡ result.external }
 {
-    match scope.functions.place(name) {
+    match functions.place(name) {
         Some(_) => Callee {
             own: true,
             external: None,
@@ -31,12 +31,12 @@ fn named_callee(scope: &Scope<'_, '_>, name: &Name) -> Callee
     }
 }
 
-/// What an operation calls.
-pub fn callee_of(scope: &Scope<'_, '_>, op: &Op) -> Callee
-    ensures { IsCallee (given_of scope.now).func op.now result }
+/// What an operation calls, in a module with these functions.
+pub fn callee_of(functions: &NameTable<'_>, op: &Op) -> Callee
+    ensures { IsCallee (first_place functions.now) op.now result }
 {
     match op {
-        Op::Call { callee, .. } => named_callee(scope, callee),
+        Op::Call { callee, .. } => named_callee(functions, callee),
         _ => Callee {
             own: false,
             external: None,
@@ -57,9 +57,9 @@ fn makes_unset(external: Option<External>) -> bool
 }
 
 /// How many roots an operation is itself.
-pub fn own_roots(scope: &Scope<'_, '_>, callee: Callee, op: &Op) -> u64
-    requires { IsCallee (given_of scope.now).func op.now callee }
-    ensures { result ≡ if is_root (given_of scope.now).func op.now then 1 else 0 }
+pub fn own_roots(functions: &NameTable<'_>, callee: Callee, op: &Op) -> u64
+    requires { IsCallee (first_place functions.now) op.now callee }
+    ensures { result ≡ if is_root (first_place functions.now) op.now then 1 else 0 }
 {
     match op {
         Op::Alloca { .. } => 1,

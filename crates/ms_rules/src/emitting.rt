@@ -75,10 +75,10 @@ fn push_plain(
     ensures code { OnOk result (code.new ≡ with_inst (given_of scope.now) (env_of scope.now) (record { site = site; root = root; main = scope.now.main }) inst.now code.old) }
     ensures roots { IfOk result (λ n. n ≡ roots_in (given_of scope.now).func inst.now) }
 {
-    let callee = callee_of(scope, &inst.op);
+    let callee = callee_of(scope.functions, &inst.op);
     let tracking = track(alloc, scope, root, &inst.op)?;
     push_around(alloc, code, scope, site, inst, callee, &tracking)?;
-    Ok(tracking.behind - tracking.before + own_roots(scope, callee, &inst.op))
+    Ok(tracking.behind - tracking.before + own_roots(scope.functions, callee, &inst.op))
 }
 
 /// Adds an instruction of the program between the lists that are inserted round it, where it has a site and so many roots

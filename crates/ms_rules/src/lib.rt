@@ -10,6 +10,7 @@ mod edges;
 mod emitting;
 mod entries;
 mod phis;
+mod roots;
 mod scopes;
 mod singles;
 mod tracked;
@@ -17,6 +18,7 @@ mod values;
 
 pub use emitting::push_inst;
 pub use entries::push_parameters;
+pub use roots::root_count;
 pub use scopes::Scope;
 pub use singles::{Emitted, Env, emit};
 pub use values::values_of;

@@ -139,7 +139,7 @@ fn round_plain(
     requires room { next + 200 + 30 * length (operands inst.now.op) < 2 ^ 32 }
     ensures { IfOk result (λ e. lists_of e ≡ emit_lists (given_of scope.now) (env_of scope.now) (record { site = site; root = root; main = scope.now.main }) inst.now next) }
 {
-    let callee = callee_of(scope, &inst.op);
+    let callee = callee_of(scope.functions, &inst.op);
     let tracking = track(alloc, scope, root, &inst.op)?;
     round_tracked(alloc, scope, site, next, inst, callee, &tracking)
 }

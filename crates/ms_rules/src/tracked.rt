@@ -86,7 +86,7 @@ fn track_one<'a>(
 }
 
 /// 1 for an undefined operand, which is a root.
-fn one_undefined(operand: &Operand) -> u64
+pub fn one_undefined(operand: &Operand) -> u64
     ensures { result ≡ one_undef operand.now }
 {
     match operand {

@@ -1,6 +1,6 @@
 -- From what the parts of an answer are to what the answer is.
-use Rattle.std.proofs.Common.{◌≡◌, ◌≢◌, ◌↔◌, ℕ, suc, ◌+◌, ◌^◌, ◌<◌, ◌≤◌, Bool, true, false, List, [], ◌∷◌, length, codes, Option, Some, None, Result, Ok, Err, refl, ap, sym, ◌∙◌, subst, inl, inr, arith, lit≤}
-use Rattle.std.specs.Prelude.{unwrap_or, option_map, slice_get, slice_index_or, nat_lt, is_some, is_none, IfSome, IsTrue}
+use Rattle.std.proofs.Common.{◌≡◌, ◌≢◌, ℕ, suc, ◌^◌, ◌<◌, ◌≤◌, Bool, true, false, List, [], ◌∷◌, length, Option, Some, None, Result, Ok, Err, refl, ap, sym, ◌∙◌, subst, inl, inr, arith}
+use Rattle.std.specs.Prelude.{get_or, map, slice_index_or, nat_lt, is_some, is_none, IfSome, IsTrue}
 use Rattle.std.proofs.lemmas.Bool.{true≢false, and_from, lt-ltb}
 use Rattle.ms_lex.specs.declared.errors.LexError.{LexError}
 use Rattle.ms_lex.specs.declared.errors.LexError.TheVariants as lexing
@@ -11,7 +11,7 @@ use Rattle.ms_runs.specs.declared.runs.Setup.{Setup}
 use Rattle.ms_runs.specs.Plain.{plain}
 use Rattle.ms_runs.specs.Limits.{WithinLimits as RunFits}
 use Rattle.ms_ir.specs.declared.forms.Form.{Form}
-use Rattle.ms_ir.specs.declared.forms.Form.TheVariants.{Plain, Instrumented}
+use Rattle.ms_ir.specs.declared.forms.Form.TheVariants.{Plain}
 use Rattle.ms_grammar.specs.declared.refusals.Refusal.{Refusal}
 use Rattle.ms_grammar.specs.declared.refusals.Refusal.TheVariants as refusal
 use Rattle.ms_grammar.specs.Causes.{printed_number}
@@ -32,18 +32,17 @@ use Rattle.ms_text_laws.proofs.FormedModules.{read_formed}
 use Rattle.ms_text_laws.proofs.SmallLimits.{can_instrument}
 use Rattle.ms_top.specs.declared.answers.Answer.{Answer}
 use Rattle.ms_words.specs.declared.commands.Command.{Command}
-use Rattle.ms_words.specs.declared.commands.Command.TheVariants.{Instrument, Run, Check, Gen}
+use Rattle.ms_words.specs.declared.commands.Command.TheVariants.{Instrument, Run, Check, Corpus, Gen}
 use Rattle.ms_words.specs.declared.commands.Options.{Options}
-use Rattle.ms_report.specs.declared.refusals.Refusal.{Refusal as Cause}
 use Rattle.ms_report.specs.declared.refusals.Refusal.TheVariants.{Read as Of, Check as OfCheck}
 use Rattle.ms_words.specs.Limits.{RunsWithinLimits}
-use Rattle.ms_top.specs.Command.{form_of, module_limit, input_limit, setup_of}
-use Rattle.ms_top.specs.Instrumented.{IsInstrumented}
-use Rattle.ms_top.specs.Parts.{IsReady, IsInstrumentedRun}
+use Rattle.ms_top.specs.Command.{form_of, module_limit, input_limit, only_input, setup_of}
+use Rattle.ms_corpus.specs.Jobs.{with_input}
+use Rattle.ms_top.specs.Parts.{AreShort, AreWithinLimits, IsReady, IsRunOfGiven, AreRunsOfGiven}
 use Rattle.ms_report.specs.FaultTexts.{fault_line}
 use Rattle.ms_report.specs.RefusalTexts.{IsNumbered, IsReadRefusal, HasLine, refusal_text, wants_memory}
 use Rattle.ms_words.specs.Words.{defaults}
-use Rattle.ms_top.specs.Said.{says, answer_of, answer_of_result, status_of, summary_of, IsAnswerOfInstrument, IsAnswerOfCheck, IsAnswerOfGen, IsAnswerToValid, IsAnswerToModule, IsAnswerToReading, IsAnswerToText}
+use Rattle.ms_top.specs.Said.{says, answer_of, answer_of_result, answer_of_results, status_of, summary_of, IsAnswerOfInstrument, IsAnswerOfCheck, IsAnswerOfCorpus, IsAnswerOfGen, IsAnswerToValid, IsAnswerToModule, IsAnswerToReading, IsAnswerToText}
 
 -- ---- runs
 
@@ -60,34 +59,54 @@ within o input s fit short is = subst RunFits (sym is) (record {
 
 -- ---- valid modules
 
-pub instrument_valid : (command : Command) (file input : List ℕ) (m : Module) (a : Answer) → command ≡ Instrument file → IsAnswerOfInstrument IsInstrumented m a
-    → IsAnswerToValid IsInstrumented command input m a
-instrument_valid command file input m a is answers = subst (λ c. IsAnswerToValid IsInstrumented c input m a) (sym is) answers
+pub instrument_valid : (Gives : Module → Module → Type 0) (command : Command) (file : List ℕ) (inputs : List (List ℕ)) (m : Module) (a : Answer) → command ≡ Instrument file → IsAnswerOfInstrument Gives m a
+    → IsAnswerToValid Gives command inputs m a
+instrument_valid Gives command file inputs m a is answers = subst (λ c. IsAnswerToValid Gives c inputs m a) (sym is) answers
 
-pub run_valid : (command : Command) (file : List ℕ) (o : Options) (input : List ℕ) (m : Module) (a : Answer) → command ≡ Run file o
-    → a ≡ answer_of_result false m (plain m (setup_of o input)) → IsAnswerToValid IsInstrumented command input m a
-run_valid command file o input m a is answers = subst (λ c. IsAnswerToValid IsInstrumented c input m a) (sym is) answers
+pub run_valid : (Gives : Module → Module → Type 0) (command : Command) (file : List ℕ) (o : Options) (inputs : List (List ℕ)) (m : Module) (a : Answer) → command ≡ Run file o
+    → a ≡ answer_of_result false m (plain m (setup_of o (only_input inputs))) → IsAnswerToValid Gives command inputs m a
+run_valid Gives command file o inputs m a is answers = subst (λ c. IsAnswerToValid Gives c inputs m a) (sym is) answers
 
-pub check_valid : (command : Command) (file : List ℕ) (o : Options) (input : List ℕ) (m : Module) (a : Answer) → command ≡ Check file o
-    → IsAnswerOfCheck IsInstrumented (setup_of o input) m a → IsAnswerToValid IsInstrumented command input m a
-check_valid command file o input m a is answers = subst (λ c. IsAnswerToValid IsInstrumented c input m a) (sym is) answers
+pub check_valid : (Gives : Module → Module → Type 0) (command : Command) (file : List ℕ) (o : Options) (inputs : List (List ℕ)) (m : Module) (a : Answer) → command ≡ Check file o
+    → IsAnswerOfCheck Gives (setup_of o (only_input inputs)) m a → IsAnswerToValid Gives command inputs m a
+check_valid Gives command file o inputs m a is answers = subst (λ c. IsAnswerToValid Gives c inputs m a) (sym is) answers
 
-pub gen_valid : (command : Command) (seed functions : ℕ) (run : Bool) (input : List ℕ) (m : Module) (a : Answer) → command ≡ Gen seed functions run
-    → IsAnswerOfGen IsInstrumented run m a → IsAnswerToValid IsInstrumented command input m a
-gen_valid command seed functions run input m a is answers = subst (λ c. IsAnswerToValid IsInstrumented c input m a) (sym is) answers
+pub gen_valid : (Gives : Module → Module → Type 0) (command : Command) (seed functions : ℕ) (run : Bool) (inputs : List (List ℕ)) (m : Module) (a : Answer) → command ≡ Gen seed functions run
+    → IsAnswerOfGen Gives run m a → IsAnswerToValid Gives command inputs m a
+gen_valid Gives command seed functions run inputs m a is answers = subst (λ c. IsAnswerToValid Gives c inputs m a) (sym is) answers
 
 -- the run of the instrumented form
-pub instrumented_run : (m j : Module) (s : Setup) (r : RunResult) → IsInstrumented m j → r ≡ plain j s → IsInstrumentedRun m s r
-instrumented_run m j s r i is = (j, i, is)
+pub instrumented_run : (Gives : Module → Module → Type 0) (m j : Module) (s : Setup) (r : RunResult) → Gives m j → r ≡ plain j s → IsRunOfGiven Gives m s r
+instrumented_run Gives m j s r i is = (j, i, is)
 
-pub check_answer : (m n : Module) (s t : Setup) (r : RunResult) (a : Answer) → n ≡ m → s ≡ t → IsInstrumentedRun m s r → a ≡ answer_of_result true n r
-    → IsAnswerOfCheck IsInstrumented t m a
-check_answer m n s t r a same given q is = (q.0, q.1, is ∙ ap (λ k. answer_of_result true k r) same ∙ ap (answer_of_result true m) (q.2 ∙ ap (plain q.0) given))
+pub check_answer : (Gives : Module → Module → Type 0) (m n : Module) (s t : Setup) (r : RunResult) (a : Answer) → n ≡ m → s ≡ t → IsRunOfGiven Gives m s r → a ≡ answer_of_result true n r
+    → IsAnswerOfCheck Gives t m a
+check_answer Gives m n s t r a same given q is = (q.0, q.1, is ∙ ap (λ k. answer_of_result true k r) same ∙ ap (answer_of_result true m) (q.2 ∙ ap (plain q.0) given))
+
+-- the runs on many inputs
+pub corpus_valid : (Gives : Module → Module → Type 0) (command : Command) (file : List ℕ) (names : List (List ℕ)) (o : Options) (workers : ℕ) (inputs : List (List ℕ)) (m : Module) (a : Answer)
+    → command ≡ Corpus file names o workers → IsAnswerOfCorpus Gives names o inputs m a → IsAnswerToValid Gives command inputs m a
+corpus_valid Gives command file names o workers inputs m a is answers = subst (λ c. IsAnswerToValid Gives c inputs m a) (sym is) answers
+
+pub corpus_answer : (Gives : Module → Module → Type 0) (m n : Module) (names : List (List ℕ)) (o : Options) (s : Setup) (inputs : List (List ℕ)) (rs : List RunResult) (a : Answer) → n ≡ m → s ≡ setup_of o []
+    → AreRunsOfGiven Gives m s inputs rs → a ≡ answer_of_results n names rs → IsAnswerOfCorpus Gives names o inputs m a
+corpus_answer Gives m n names o s inputs rs a same given q is =
+    let runs : rs ≡ map (λ input. plain q.0 (setup_of o input)) inputs = q.2 ∙ ap (λ t. map (λ input. plain q.0 (with_input t input)) inputs) given in
+    (q.0, q.1, is ∙ ap (λ k. answer_of_results k names rs) same ∙ ap (answer_of_results m names) runs)
+
+-- with each of some short inputs options within the limits are within them
+pub all_within : (o : Options) (s : Setup) (inputs : List (List ℕ)) → RunsWithinLimits o → AreShort inputs → s ≡ setup_of o [] → AreWithinLimits s inputs
+all_within o s inputs fit short is n d below = within o (get_or inputs n d) (with_input s (get_or inputs n d)) fit (short n d below) (ap (λ t. with_input t (get_or inputs n d)) is)
+
+-- the input of a run that has one at most is short
+pub only_short : (inputs : List (List ℕ)) → AreShort inputs → length (only_input inputs) ≤ input_limit
+only_short [] short = omega arith
+only_short (input ∷ rest) short = short 0 [] (omega arith)
 
 -- the summary of that run
-pub summary_answer : (m n : Module) (s : Setup) (r : RunResult) (a : Answer) → n ≡ m → s ≡ setup_of defaults [] → IsInstrumentedRun m s r → a ≡ answer_of (status_of r) (summary_of n r) []
-    → IsAnswerOfGen IsInstrumented true m a
-summary_answer m n s r a same given q is =
+pub summary_answer : (Gives : Module → Module → Type 0) (m n : Module) (s : Setup) (r : RunResult) (a : Answer) → n ≡ m → s ≡ setup_of defaults [] → IsRunOfGiven Gives m s r → a ≡ answer_of (status_of r) (summary_of n r) []
+    → IsAnswerOfGen Gives true m a
+summary_answer Gives m n s r a same given q is =
     let run : r ≡ plain q.0 (setup_of defaults []) = q.2 ∙ ap (plain q.0) given in
     (q.0, q.1, is ∙ ap (λ k. answer_of (status_of r) (summary_of k r) []) same ∙ ap (λ x. answer_of (status_of x) (summary_of m x) []) run)
 
@@ -100,18 +119,18 @@ some_unless_none (Some x) h = refl
 pub check_has_line : (cause : CheckError) → wants_memory (OfCheck cause) ≡ false → HasLine (OfCheck cause)
 check_has_line cause h = some_unless_none (fault_of cause) h
 
-faulty : (command : Command) (input : List ℕ) (m : Module) (o : Option Fault) (a : Answer) → IfSome o (IsRefused m) → is_none o ≡ false → a ≡ says 5 (fault_line o)
-    → IsAnswerToModule IsInstrumented command input m a
-faulty command input m None a refused h is = absurd (true≢false h)
-faulty command input m (Some fault) a refused h is = inl (fault, refused, is)
+faulty : (Gives : Module → Module → Type 0) (command : Command) (inputs : List (List ℕ)) (m : Module) (o : Option Fault) (a : Answer) → IfSome o (IsRefused m) → is_none o ≡ false → a ≡ says 5 (fault_line o)
+    → IsAnswerToModule Gives command inputs m a
+faulty Gives command inputs m None a refused h is = absurd (true≢false h)
+faulty Gives command inputs m (Some fault) a refused h is = inl (fault, refused, is)
 
-pub invalid_answer : (command : Command) (input : List ℕ) (m : Module) (cause : CheckError) (a : Answer)
-    → IfSome (fault_of cause) (IsRefused m) → wants_memory (OfCheck cause) ≡ false → a ≡ says 5 (refusal_text (OfCheck cause)) → IsAnswerToModule IsInstrumented command input m a
-invalid_answer command input m cause a refused h is = faulty command input m (fault_of cause) a refused h is
+pub invalid_answer : (Gives : Module → Module → Type 0) (command : Command) (inputs : List (List ℕ)) (m : Module) (cause : CheckError) (a : Answer)
+    → IfSome (fault_of cause) (IsRefused m) → wants_memory (OfCheck cause) ≡ false → a ≡ says 5 (refusal_text (OfCheck cause)) → IsAnswerToModule Gives command inputs m a
+invalid_answer Gives command inputs m cause a refused h is = faulty Gives command inputs m (fault_of cause) a refused h is
 
-pub valid_answer : (command : Command) (input : List ℕ) (m n : Module) (a : Answer) → n ≡ m → Valid m → IsAnswerToValid IsInstrumented command input n a
-    → IsAnswerToModule IsInstrumented command input m a
-valid_answer command input m n a same valid is = inr (valid, subst (λ k. IsAnswerToValid IsInstrumented command input k a) same is)
+pub valid_answer : (Gives : Module → Module → Type 0) (command : Command) (inputs : List (List ℕ)) (m n : Module) (a : Answer) → n ≡ m → Valid m → IsAnswerToValid Gives command inputs n a
+    → IsAnswerToModule Gives command inputs m a
+valid_answer Gives command inputs m n a same valid is = inr (valid, subst (λ k. IsAnswerToValid Gives command inputs k a) same is)
 
 -- ---- texts
 
@@ -138,6 +157,7 @@ pub ready : (command : Command) (form : Form) (text : List ℕ) (r : Result Modu
 ready (Instrument file) form text r m same read is = read_plain form text r m same read is
 ready (Run file o) form text r m same read is = tt
 ready (Check file o) form text r m same read is = read_plain form text r m same read is
+ready (Corpus file inputs o workers) form text r m same read is = read_plain form text r m same read is
 ready (Gen seed functions run) form text r m same read is = read_plain form text r m same read is
 
 -- numbers that are bytes pass the test for it
@@ -178,21 +198,21 @@ error_has_line form text e.NoMemory is some = absurd (true≢false some)
 pub has_line : (form : Form) (text : List ℕ) (r : Result Module ReadError) (cause : ReadError) → Read form text r → r ≡ Err cause → wants_memory (Of cause) ≡ false → IsReadRefusal cause
 has_line form text r cause read is some = error_has_line form text cause (subst (IsReading form text) is (reading_is form text r read)) some
 
-pub module_answer : (command : Command) (input : List ℕ) (form : Form) (text : List ℕ) (r : Result Module ReadError) (m : Module) (a : Answer)
-    → form ≡ form_of command → Read form text r → r ≡ Ok m → IsAnswerToModule IsInstrumented command input m a → IsAnswerToText IsInstrumented command input text a
-module_answer command input form text r m a same read is answers =
+pub module_answer : (Gives : Module → Module → Type 0) (command : Command) (inputs : List (List ℕ)) (form : Form) (text : List ℕ) (r : Result Module ReadError) (m : Module) (a : Answer)
+    → form ≡ form_of command → Read form text r → r ≡ Ok m → IsAnswerToModule Gives command inputs m a → IsAnswerToText Gives command inputs text a
+module_answer Gives command inputs form text r m a same read is answers =
     (Ok m, subst (λ f. IsReading f text (Ok m)) same (subst (IsReading form text) is (reading_is form text r read)), answers)
 
-error_answer : (command : Command) (input : List ℕ) (cause : ReadError) (a : Answer) → wants_memory (Of cause) ≡ false → a ≡ says 5 (refusal_text (Of cause))
-    → IsAnswerToReading IsInstrumented command input (Err cause) a
-error_answer command input (e.Lex cause) a some is = is
-error_answer command input (e.Refused number w token place) a some is = is
-error_answer command input e.NoMemory a some is = absurd (true≢false some)
+error_answer : (Gives : Module → Module → Type 0) (command : Command) (inputs : List (List ℕ)) (cause : ReadError) (a : Answer) → wants_memory (Of cause) ≡ false → a ≡ says 5 (refusal_text (Of cause))
+    → IsAnswerToReading Gives command inputs (Err cause) a
+error_answer Gives command inputs (e.Lex cause) a some is = is
+error_answer Gives command inputs (e.Refused number w token place) a some is = is
+error_answer Gives command inputs e.NoMemory a some is = absurd (true≢false some)
 
-pub refusal_answer : (command : Command) (input : List ℕ) (form : Form) (text : List ℕ) (r : Result Module ReadError) (cause : ReadError) (a : Answer)
-    → form ≡ form_of command → Read form text r → r ≡ Err cause → wants_memory (Of cause) ≡ false → a ≡ says 5 (refusal_text (Of cause)) → IsAnswerToText IsInstrumented command input text a
-refusal_answer command input form text r cause a same read is some answers =
-    (Err cause, subst (λ f. IsReading f text (Err cause)) same (subst (IsReading form text) is (reading_is form text r read)), error_answer command input cause a some answers)
+pub refusal_answer : (Gives : Module → Module → Type 0) (command : Command) (inputs : List (List ℕ)) (form : Form) (text : List ℕ) (r : Result Module ReadError) (cause : ReadError) (a : Answer)
+    → form ≡ form_of command → Read form text r → r ≡ Err cause → wants_memory (Of cause) ≡ false → a ≡ says 5 (refusal_text (Of cause)) → IsAnswerToText Gives command inputs text a
+refusal_answer Gives command inputs form text r cause a same read is some answers =
+    (Err cause, subst (λ f. IsReading f text (Err cause)) same (subst (IsReading form text) is (reading_is form text r read)), error_answer Gives command inputs cause a some answers)
 
 -- the limit of a module's file is that of its form
 pub file_limit : (command : Command) (n : ℕ) → n ≤ module_limit command → n ≤ max_bytes (form_of command)
@@ -200,4 +220,5 @@ unfolding max_bytes
 file_limit (Instrument file) n h = h
 file_limit (Run file o) n h = h
 file_limit (Check file o) n h = h
+file_limit (Corpus file inputs o workers) n h = h
 file_limit (Gen seed functions run) n h = h

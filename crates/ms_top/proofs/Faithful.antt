@@ -1,19 +1,21 @@
 -- Where the pass gives faithful modules, what `check` runs is the shadow run of the module.
-use Rattle.std.proofs.Common.{◌≡◌, ℕ, true, ◌^◌, ◌<◌, ◌≤◌, List, [], length, ap, ◌∙◌, sym, subst, arith}
-use Rattle.std.specs.Prelude.{All}
+use Rattle.std.proofs.Common.{◌≡◌, ℕ, true, ◌^◌, ◌<◌, ◌≤◌, List, [], length, refl, ap, ◌∙◌, subst, arith}
+use Rattle.std.specs.Prelude.{All, map, suc, ◌∷◌}
+use Rattle.std.proofs.Math.Path.{ap₂}
 use Rattle.std.proofs.lemmas.List.Elements.{All-cons, All-nil}
 use Rattle.ms_ir.specs.declared.syntax.Module.{Module}
+use Rattle.ms_runs.specs.Plain.{plain}
 use Rattle.ms_runs.specs.Shadow.{shadow}
 use Rattle.ms_runs.specs.Faithful.{Fair}
 use Rattle.ms_two_fills.specs.Checked.{HoldsUnderFills}
 use Rattle.ms_top.specs.declared.answers.Answer.{Answer}
-use Rattle.ms_words.specs.declared.commands.Command.TheVariants.{Check}
+use Rattle.ms_words.specs.declared.commands.Command.TheVariants.{Check, Corpus}
 use Rattle.ms_words.specs.declared.commands.Options.{Options}
 use Rattle.ms_words.specs.Limits.{RunsWithinLimits}
 use Rattle.ms_words.specs.Words.{defaults}
-use Rattle.ms_top.specs.Command.{input_limit, setup_of}
+use Rattle.ms_top.specs.Command.{input_limit, only_input, setup_of}
 use Rattle.ms_top.specs.Instrumented.{IsInstrumented}
-use Rattle.ms_top.specs.Said.{answer_of, answer_of_result, status_of, summary_of, IsAnswerOfGen, IsAnswerToValid}
+use Rattle.ms_top.specs.Said.{answer_of, answer_of_result, answer_of_results, status_of, summary_of, IsAnswerOfGen, IsAnswerToValid}
 
 abbrev IsByte : ℕ → Type 0
 IsByte b = b < 2 ^ 8
@@ -40,14 +42,29 @@ fair_options o input fit short bytes = record {
   reports = fit.reports;
 }
 
-pub shadow_answer : (file input : List ℕ) (o : Options) (m : Module) (a : Answer) → Fair (setup_of o input) → IsAnswerToValid IsInstrumented (Check file o) input m a
-    → a ≡ answer_of_result true m (shadow m (setup_of o input))
-shadow_answer file input o m a fair (j, made, is) = is ∙ ap (answer_of_result true m) (made.faithful.runs (setup_of o input) fair)
+pub shadow_answer : (file : List ℕ) (inputs : List (List ℕ)) (o : Options) (m : Module) (a : Answer) → let s = setup_of o (only_input inputs) in Fair s → IsAnswerToValid IsInstrumented (Check file o) inputs m a
+    → a ≡ answer_of_result true m (shadow m s)
+shadow_answer file inputs o m a fair (j, made, is) = is ∙ ap (answer_of_result true m) (made.faithful.runs (setup_of o (only_input inputs)) fair)
 
-pub under_fills : (file input : List ℕ) (o : Options) (m : Module) (a : Answer) → Fair (setup_of o input) → IsAnswerToValid IsInstrumented (Check file o) input m a
-    → HoldsUnderFills m (setup_of o input) (shadow m (setup_of o input))
-under_fills file input o m a fair (j, made, is) =
-    subst (HoldsUnderFills m (setup_of o input)) (made.faithful.runs (setup_of o input) fair) (made.holds (setup_of o input) fair)
+pub under_fills : (file : List ℕ) (inputs : List (List ℕ)) (o : Options) (m : Module) (a : Answer) → let s = setup_of o (only_input inputs) in Fair s → IsAnswerToValid IsInstrumented (Check file o) inputs m a
+    → HoldsUnderFills m s (shadow m s)
+under_fills file inputs o m a fair (j, made, is) =
+    let s = setup_of o (only_input inputs) in subst (HoldsUnderFills m s) (made.faithful.runs s fair) (made.holds s fair)
+
+-- each section of a corpus is that of the shadow run on its input, and holds under every fill as that of a check does
+all_shadow : (m j : Module) (o : Options) (inputs : List (List ℕ)) → IsInstrumented m j → All (λ input. Fair (setup_of o input)) inputs
+    → map (λ input. plain j (setup_of o input)) inputs ≡ map (λ input. shadow m (setup_of o input)) inputs
+all_shadow m j o [] made fair = refl
+all_shadow m j o (input ∷ rest) made fair =
+    ap₂ (λ r rs. r ∷ rs) (made.faithful.runs (setup_of o input) (fair 0 [] (omega arith))) (all_shadow m j o rest made (λ n d below. fair (suc n) d (omega (arith, below))))
+
+pub corpus_shown : (file : List ℕ) (names inputs : List (List ℕ)) (o : Options) (workers : ℕ) (m : Module) (a : Answer) → All (λ input. Fair (setup_of o input)) inputs
+    → IsAnswerToValid IsInstrumented (Corpus file names o workers) inputs m a → a ≡ answer_of_results m names (map (λ input. shadow m (setup_of o input)) inputs)
+corpus_shown file names inputs o workers m a fair (j, made, is) = is ∙ ap (answer_of_results m names) (all_shadow m j o inputs made fair)
+
+pub corpus_holds : (file : List ℕ) (names inputs : List (List ℕ)) (o : Options) (workers : ℕ) (m : Module) (a : Answer)
+    → IsAnswerToValid IsInstrumented (Corpus file names o workers) inputs m a → (input : List ℕ) → Fair (setup_of o input) → HoldsUnderFills m (setup_of o input) (shadow m (setup_of o input))
+corpus_holds file names inputs o workers m a (j, made, is) input fair = let s = setup_of o input in subst (HoldsUnderFills m s) (made.faithful.runs s fair) (made.holds s fair)
 
 pub summary_shown : (m : Module) (a : Answer) → IsAnswerOfGen IsInstrumented true m a
     → let r = shadow m (setup_of defaults []) in a ≡ answer_of (status_of r) (summary_of m r) []

@@ -9,3 +9,5 @@ pub mod Saying
 pub mod Statuses
 pub mod Summaries
 pub mod WrittenRuns
+pub mod Plainly
+pub mod Sections

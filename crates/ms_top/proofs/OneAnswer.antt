@@ -1,5 +1,5 @@
 -- What is to be said is one answer, but for the path of a use.
-use Rattle.std.proofs.Common.{◌≡◌, ◌≢◌, ◌<◌, ◌≤◌, Bool, true, false, List, ℕ, [], ◌∷◌, length, Some, None, Result, Ok, Err, refl, sym, ◌∙◌, ap, subst, ◌⊎◌, inl, inr, arith}
+use Rattle.std.proofs.Common.{◌≡◌, ◌≢◌, ◌<◌, ◌≤◌, Bool, true, false, List, ℕ, [], ◌∷◌, length, map, Some, None, Result, Ok, Err, refl, sym, ◌∙◌, ap, subst, ◌⊎◌, inl, inr, arith}
 use Rattle.std.proofs.lemmas.Option.{same_Some, none-some}
 use Rattle.ms_io.specs.Counts.{Rose}
 use Rattle.ms_io.specs.Reading.{Holdings, IsWholeFile, IsAbsent, IsTooLong}
@@ -10,7 +10,7 @@ use Rattle.ms_read_body.specs.declared.errors.ReadError.{ReadError}
 use Rattle.ms_read_body.specs.declared.errors.ReadError.TheVariants as e
 use Rattle.ms_read_top.specs.Reading.{IsReading}
 use Rattle.ms_read_top.proofs.Exactly.{module_exactly, lex_exactly, refused_exactly}
-use Rattle.ms_valid.specs.Refusals.{Fault as ModuleFault, Duplicate, Unknown, TypeMismatch, BadPhi, NoMain, BadExternal, Undefined, BadMark, BadSize}
+use Rattle.ms_valid.specs.Refusals.{Fault as ModuleFault, Undefined}
 use Rattle.ms_valid.proofs.Refused.{invalid}
 use Rattle.ms_check.specs.Faults.{without_path}
 use Rattle.ms_check.proofs.OneAnswer.{one_answer as one_fault}
@@ -19,14 +19,14 @@ use Rattle.ms_written.specs.Modules.{written}
 use Rattle.ms_report.specs.FaultTexts.{fault_text}
 use Rattle.ms_top.specs.declared.answers.Answer.{Answer}
 use Rattle.ms_words.specs.declared.commands.Command.{Command}
-use Rattle.ms_words.specs.declared.commands.Command.TheVariants.{Instrument, Run, Check, Gen}
+use Rattle.ms_words.specs.declared.commands.Command.TheVariants.{Instrument, Run, Check, Corpus, Gen}
 use Rattle.ms_words.specs.declared.commands.WordsError.{WordsError}
 use Rattle.ms_words.specs.Words.{command_of, defaults}
 use Rattle.ms_gen.specs.Generator.{generated}
-use Rattle.ms_top.specs.Command.{form_of, files_of, setup_of}
+use Rattle.ms_top.specs.Command.{form_of, files_of, only_input, setup_of}
 use Rattle.ms_top.specs.Files.{Counted, FilesRead, Whole, Fault, Long, behind, IsAtFault, IsLong, CanRead}
 use Rattle.ms_top.specs.Instrumented.{IsInstrumented}
-use Rattle.ms_top.specs.Said.{answer_of, answer_of_result, status_of, summary_of, says, DifferInPath, IsAnswerOfGen, IsAnswerWithoutFile, IsAnswerToValid, IsAnswerToModule, IsAnswerToReading, IsAnswerToText, IsAnswerToTexts, IsAnswerToFiles, IsAnswerToCommand, IsAnswerFor, IsAnswer}
+use Rattle.ms_top.specs.Said.{answer_of, answer_of_result, answer_of_results, status_of, summary_of, says, DifferInPath, IsAnswerOfGen, IsAnswerWithoutFile, IsAnswerToValid, IsAnswerToModule, IsAnswerToReading, IsAnswerToText, IsAnswerToTexts, IsAnswerToFiles, IsAnswerToCommand, IsAnswerFor, IsAnswer}
 
 -- ---- texts
 
@@ -57,38 +57,40 @@ of_gen true m a b (j, p, is) (k, q, same) =
     is ∙ ap (λ n. answer_of (status_of (plain n (setup_of defaults []))) (summary_of m (plain n (setup_of defaults []))) []) (made_once m j k p q) ∙ sym same
 of_gen false m a b p q = p ∙ sym q
 
-of_valid : (command : Command) (input : List ℕ) (m : Module) (a b : Answer) → IsAnswerToValid IsInstrumented command input m a
-    → IsAnswerToValid IsInstrumented command input m b → a ≡ b
-of_valid (Instrument file) input m a b (j, p, is) (k, q, same) = is ∙ ap (λ n. answer_of 0 (written n) []) (made_once m j k p q) ∙ sym same
-of_valid (Run file o) input m a b p q = p ∙ sym q
-of_valid (Gen seed functions run) input m a b p q = of_gen run m a b p q
-of_valid (Check file o) input m a b (j, p, is) (k, q, same) = is ∙ ap (λ n. answer_of_result true m (plain n (setup_of o input))) (made_once m j k p q) ∙ sym same
+of_valid : (command : Command) (inputs : List (List ℕ)) (m : Module) (a b : Answer) → IsAnswerToValid IsInstrumented command inputs m a
+    → IsAnswerToValid IsInstrumented command inputs m b → a ≡ b
+of_valid (Instrument file) inputs m a b (j, p, is) (k, q, same) = is ∙ ap (λ n. answer_of 0 (written n) []) (made_once m j k p q) ∙ sym same
+of_valid (Run file o) inputs m a b p q = p ∙ sym q
+of_valid (Corpus file names o workers) inputs m a b (j, p, is) (k, q, same) =
+    is ∙ ap (λ n. answer_of_results m names (map (λ input. plain n (setup_of o input)) inputs)) (made_once m j k p q) ∙ sym same
+of_valid (Gen seed functions run) inputs m a b p q = of_gen run m a b p q
+of_valid (Check file o) inputs m a b (j, p, is) (k, q, same) = is ∙ ap (λ n. answer_of_result true m (plain n (setup_of o (only_input inputs)))) (made_once m j k p q) ∙ sym same
 
-module _ (command : Command) (input : List ℕ) where
-  pub memory_is_there : (r : Result Module ReadError) (a : Answer) → IsAnswerToReading IsInstrumented command input r a → r ≢ Err e.NoMemory
-  memory_is_there r a is none = subst (λ s. IsAnswerToReading IsInstrumented command input s a) none is
+module _ (command : Command) (inputs : List (List ℕ)) where
+  pub memory_is_there : (r : Result Module ReadError) (a : Answer) → IsAnswerToReading IsInstrumented command inputs r a → r ≢ Err e.NoMemory
+  memory_is_there r a is none = subst (λ s. IsAnswerToReading IsInstrumented command inputs s a) none is
 
-  of_module : (m : Module) (a b : Answer) → IsAnswerToModule IsInstrumented command input m a → IsAnswerToModule IsInstrumented command input m b → (a ≡ b) ⊎ DifferInPath a b
+  of_module : (m : Module) (a b : Answer) → IsAnswerToModule IsInstrumented command inputs m a → IsAnswerToModule IsInstrumented command inputs m b → (a ≡ b) ⊎ DifferInPath a b
   of_module m a b (inl (f, p, is)) (inl (g, q, same)) = of_faults f g a b (one_fault m f g p q) is same
   of_module m a b (inl (f, p, is)) (inr (valid, q)) = absurd (invalid m f p valid)
   of_module m a b (inr (valid, p)) (inl (g, q, same)) = absurd (invalid m g q valid)
-  of_module m a b (inr (valid, p)) (inr (other, q)) = inl (of_valid command input m a b p q)
+  of_module m a b (inr (valid, p)) (inr (other, q)) = inl (of_valid command inputs m a b p q)
 
-  of_reading : (r : Result Module ReadError) (a b : Answer) → IsAnswerToReading IsInstrumented command input r a → IsAnswerToReading IsInstrumented command input r b
+  of_reading : (r : Result Module ReadError) (a b : Answer) → IsAnswerToReading IsInstrumented command inputs r a → IsAnswerToReading IsInstrumented command inputs r b
       → (a ≡ b) ⊎ DifferInPath a b
   of_reading (Ok m) a b p q = of_module m a b p q
   of_reading (Err (e.Lex cause)) a b p q = inl (p ∙ sym q)
   of_reading (Err (e.Refused number w token place)) a b p q = inl (p ∙ sym q)
   of_reading (Err e.NoMemory) a b p q = absurd p
 
-  pub of_text : (text : List ℕ) (a b : Answer) → IsAnswerToText IsInstrumented command input text a → IsAnswerToText IsInstrumented command input text b → (a ≡ b) ⊎ DifferInPath a b
+  pub of_text : (text : List ℕ) (a b : Answer) → IsAnswerToText IsInstrumented command inputs text a → IsAnswerToText IsInstrumented command inputs text b → (a ≡ b) ⊎ DifferInPath a b
   of_text text a b (r, is, p) (s, same, q) =
       let e = one_reading (form_of command) text r s is same (memory_is_there r a p) (memory_is_there s b q) in
-      of_reading r a b p (subst (λ t. IsAnswerToReading IsInstrumented command input t b) e q)
+      of_reading r a b p (subst (λ t. IsAnswerToReading IsInstrumented command inputs t b) e q)
 
-pub one_answer : (command : Command) (input text : List ℕ) (a b : Answer)
-    → IsAnswerToText IsInstrumented command input text a → IsAnswerToText IsInstrumented command input text b → (a ≡ b) ⊎ DifferInPath a b
-one_answer command input text a b p q = of_text command input text a b p q
+pub one_answer : (command : Command) (inputs : List (List ℕ)) (text : List ℕ) (a b : Answer)
+    → IsAnswerToText IsInstrumented command inputs text a → IsAnswerToText IsInstrumented command inputs text b → (a ≡ b) ⊎ DifferInPath a b
+one_answer command inputs text a b p q = of_text command inputs text a b p q
 
 -- ---- files
 
@@ -131,13 +133,13 @@ module _ (c : Counted) (files : Holdings) (told : c.told ≡ Some files) (steady
   without_file (Instrument file) a b p q = absurd p
   without_file (Run file o) a b p q = absurd p
   without_file (Check file o) a b p q = absurd p
+  without_file (Corpus file names o workers) a b p q = absurd p
   without_file (Gen seed functions run) a b p q = of_gen run (generated seed functions) a b p q
 
   of_texts : (command : Command) (texts : List (List ℕ)) (a b : Answer) → IsAnswerToTexts IsInstrumented command texts a → IsAnswerToTexts IsInstrumented command texts b
       → (a ≡ b) ⊎ DifferInPath a b
   of_texts command [] a b p q = inl (without_file command a b p q)
-  of_texts command (text ∷ []) a b p q = of_text command [] text a b p q
-  of_texts command (text ∷ input ∷ rest) a b p q = of_text command input text a b p q
+  of_texts command (text ∷ inputs) a b p q = of_text command inputs text a b p q
 
   of_files : (command : Command) (r : FilesRead) (a b : Answer) → IsAnswerToFiles IsInstrumented command r a → IsAnswerToFiles IsInstrumented command r b
       → (a ≡ b) ⊎ DifferInPath a b

@@ -1,10 +1,12 @@
 -- From what reading files answers to what the answer is.
-use Rattle.std.proofs.Common.{◌≡◌, ◌⊎◌, ℕ, ◌≤◌, List, [], ◌∷◌, codes, Option, Some, None, Result, Ok, Err, refl, ap, sym, ◌∙◌, subst, inl, inr, arith}
-use Rattle.std.specs.Prelude.{true, false, Bool}
+use Rattle.std.proofs.Common.{◌≡◌, ◌⊎◌, ℕ, ◌+◌, ◌<◌, ◌≤◌, List, [], ◌∷◌, ◌++◌, length, get_or, drop, append_assoc, append-nil, codes, Option, Some, None, Result, Ok, Err, refl, ap, sym, ◌∙◌, subst, inl, inr, arith}
+use Rattle.std.specs.Prelude.{false, Bool}
 use Rattle.std.proofs.lemmas.Bool.{true≢false}
+use Rattle.std.proofs.lemmas.List.{drop_all, get_or_read}
+use Rattle.std.proofs.lemmas.List.Elements.{All-nil, All-cons, All-append, All-same}
 use Rattle.ms_io.specs.declared.traits.FileError.{FileError}
 use Rattle.ms_io.specs.declared.traits.FileError.TheVariants.{Failed, Absent, TooLong, NoMemory}
-use Rattle.ms_io.specs.Counts.{Rose, RoseBy, last_count}
+use Rattle.ms_io.specs.Counts.{Rose, RoseBy}
 use Rattle.ms_io.specs.Reading.{Holdings, IsWholeFile, IsAbsent, IsTooLong, IfFailed, IfAbsent, IfTooLong}
 use Rattle.ms_report.specs.RunTexts.{line}
 use Rattle.ms_top.specs.declared.answers.Answer.{Answer}
@@ -14,10 +16,13 @@ use Rattle.ms_words.specs.declared.commands.WordsError.{WordsError}
 use Rattle.ms_words.specs.declared.commands.WordsError.TheVariants.{NoMemory as WantsMemory}
 use Rattle.ms_words.specs.Words.{command_of, name_of, place_of, IsAnswer as IsRead}
 use Rattle.ms_gen.specs.Generator.{generated}
-use Rattle.ms_top.specs.Command.{input_file, module_file, module_limit, input_limit, input_files, files_of}
+use Rattle.ms_ir.specs.declared.syntax.Module.{Module}
+use Rattle.ms_top.specs.Command.{input_names, module_file, module_limit, input_limit, input_files, files_of}
+use Rattle.ms_top.specs.Unread.{CauseShows}
 use Rattle.ms_top.specs.Files.{Counted, counted, FilesRead, Whole, Fault, Long, behind, IsAtFault, IsLong, CanRead}
 use Rattle.ms_top.specs.Instrumented.{IsInstrumented}
-use Rattle.ms_top.specs.Parts.{IsAnswerBehind, IsAnswerToFault, is_want_of_memory}
+use Rattle.ms_tables.proofs.Items.{drop_item}
+use Rattle.ms_top.specs.Parts.{AreShort, IsAnswerBehind, IsAnswerToFault, is_want_of_memory}
 use Rattle.ms_report.specs.WordsTexts.{words_text}
 use Rattle.ms_top.specs.Said.{says, IsAnswerOfGen, IsAnswerToText, IsAnswerToFiles, IsAnswerToCommand, IsAnswerFor, IsAnswer}
 
@@ -44,9 +49,9 @@ no_command words r command fault (inr read) is wrong = absurd cc
 
 -- ---- without a file
 
-pub generated_answer : (c : Counted) (command : Command) (seed functions : ℕ) (run : Bool) (a : Answer) → command ≡ Gen seed functions run
-    → IsAnswerOfGen IsInstrumented run (generated seed functions) a → IsAnswerToCommand IsInstrumented c command a
-generated_answer c command seed functions run a is answers = subst (λ x. IsAnswerToCommand IsInstrumented c x a) (sym is) (Whole [], refl, answers)
+pub generated_answer : (Gives : Module → Module → Type 0) (c : Counted) (command : Command) (seed functions : ℕ) (run : Bool) (a : Answer) → command ≡ Gen seed functions run
+    → IsAnswerOfGen Gives run (generated seed functions) a → IsAnswerToCommand Gives c command a
+generated_answer Gives c command seed functions run a is answers = subst (λ x. IsAnswerToCommand Gives c x a) (sym is) (Whole [], refl, answers)
 
 -- ---- the first file
 
@@ -63,8 +68,8 @@ too_long_earlier None name limit n a b d l (is, rose) = (is, rose_by_earlier n a
 too_long_earlier (Some files) name limit n a b d l h = h
 
 -- the files of a command whose module stands in a file
-files_named : (command : Command) (file : List ℕ) → module_file command ≡ Some file → files_of command ≡ (file, module_limit command) ∷ input_files (input_file command)
-files_named command file named = ap (λ o. elim o [ Some f ↦ (f, module_limit command) ∷ input_files (input_file command) | None ↦ [] ]) named
+files_named : (command : Command) (file : List ℕ) → module_file command ≡ Some file → files_of command ≡ (file, module_limit command) ∷ input_files (input_names command)
+files_named command file named = ap (λ o. elim o [ Some f ↦ (f, module_limit command) ∷ input_files (input_names command) | None ↦ [] ]) named
 
 -- the counts of the same files, from an earlier time on
 pub record IsEarlier (c d : Counted) : Type 0 where
@@ -92,12 +97,12 @@ module _ (c d : Counted) (e : IsEarlier c d) where
       inr (inr (text, subst (λ t. IsWholeFile t name limit text) (sym e.told) whole, later, can_read_earlier rest later read, is))
 
   -- the module's file is read whole, and then the others
-  pub behind_first : (command : Command) (file text bytes : List ℕ) (a : Answer) → module_file command ≡ Some file → IsWholeFile c.told file (module_limit command) text → bytes ≡ text
-      → IsAnswerBehind IsInstrumented d command bytes a → IsAnswerToCommand IsInstrumented c command a
-  behind_first command file text bytes a named whole same (r, read, is) = (
+  pub behind_first : (Gives : Module → Module → Type 0) (command : Command) (file text bytes : List ℕ) (a : Answer) → module_file command ≡ Some file → IsWholeFile c.told file (module_limit command) text → bytes ≡ text
+      → IsAnswerBehind Gives d command bytes a → IsAnswerToCommand Gives c command a
+  behind_first Gives command file text bytes a named whole same (r, read, is) = (
     behind text r,
-    subst (λ fs. CanRead c fs (behind text r)) (sym (files_named command file named)) (inr (inr (text, whole, r, can_read_earlier (input_files (input_file command)) r read, refl))),
-    subst (λ t. IsAnswerToFiles IsInstrumented command (behind t r) a) same is,
+    subst (λ fs. CanRead c fs (behind text r)) (sym (files_named command file named)) (inr (inr (text, whole, r, can_read_earlier (input_files (input_names command)) r read, refl))),
+    subst (λ t. IsAnswerToFiles Gives command (behind t r) a) same is,
   )
 
 -- ---- a file that isn't read
@@ -123,28 +128,111 @@ pub unread : {A : Type 0} (c : Counted) (name : List ℕ) (limit : ℕ) (r : Res
     → IsAnswerToFault cause name a → Unread c name limit a
 unread c name limit r cause a h same is = by_cause c name limit cause a (subst (Answered c name limit) same h) is
 
-pub unread_first : (c : Counted) (command : Command) (file : List ℕ) (a : Answer) → module_file command ≡ Some file → Unread c file (module_limit command) a
-    → IsAnswerToCommand IsInstrumented c command a
-unread_first c command file a named (inl (fault, is)) = (Fault file, subst (λ fs. CanRead c fs (Fault file)) (sym (files_named command file named)) (inl (fault, refl)), is)
-unread_first c command file a named (inr (long, is)) = (Long file, subst (λ fs. CanRead c fs (Long file)) (sym (files_named command file named)) (inr (inl (long, refl))), is)
+pub unread_first : (Gives : Module → Module → Type 0) (c : Counted) (command : Command) (file : List ℕ) (a : Answer) → module_file command ≡ Some file → Unread c file (module_limit command) a
+    → IsAnswerToCommand Gives c command a
+unread_first Gives c command file a named (inl (fault, is)) = (Fault file, subst (λ fs. CanRead c fs (Fault file)) (sym (files_named command file named)) (inl (fault, refl)), is)
+unread_first Gives c command file a named (inr (long, is)) = (Long file, subst (λ fs. CanRead c fs (Long file)) (sym (files_named command file named)) (inr (inl (long, refl))), is)
 
--- ---- the input
+-- ---- the inputs
 
-pub without_input : (c : Counted) (command : Command) (text : List ℕ) (a : Answer) → input_file command ≡ None
-    → IsAnswerToText IsInstrumented command [] text a → IsAnswerBehind IsInstrumented c command text a
-without_input c command text a none answers = (Whole [], subst (λ i. CanRead c (input_files i) (Whole [])) (sym none) refl, answers)
+-- behind files that are read whole
+pub behind_all : List (List ℕ) → FilesRead → FilesRead
+behind_all texts (Whole more) = Whole (texts ++ more)
+behind_all texts (Fault name) = Fault name
+behind_all texts (Long name) = Long name
 
-pub with_input : (c : Counted) (command : Command) (file text input bytes : List ℕ) (a : Answer) → input_file command ≡ Some file
-    → IsWholeFile c.told file input_limit input → bytes ≡ input → IsAnswerToText IsInstrumented command bytes text a → IsAnswerBehind IsInstrumented c command text a
-with_input c command file text input bytes a some whole same answers = (
-  Whole (input ∷ []),
-  subst (λ i. CanRead c (input_files i) (Whole (input ∷ []))) (sym some) (inr (inr (input, whole, Whole [], refl, refl))),
-  subst (λ b. IsAnswerToText IsInstrumented command b text a) same answers,
-)
+all_behind : (texts : List (List ℕ)) (text : List ℕ) (r : FilesRead) → behind_all texts (behind text r) ≡ behind_all (texts ++ text ∷ []) r
+unfolding behind_all
+all_behind texts text (Whole more) = ap Whole (sym (append_assoc texts (text ∷ []) more))
+all_behind texts text (Fault name) = refl
+all_behind texts text (Long name) = refl
 
-pub unread_input : (c : Counted) (command : Command) (file text : List ℕ) (a : Answer) → input_file command ≡ Some file
-    → Unread c file input_limit a → IsAnswerBehind IsInstrumented c command text a
-unread_input c command file text a some (inl (fault, answers)) =
-    (Fault file, subst (λ i. CanRead c (input_files i) (Fault file)) (sym some) (inl (fault, refl)), answers)
-unread_input c command file text a some (inr (long, answers)) =
-    (Long file, subst (λ i. CanRead c (input_files i) (Long file)) (sym some) (inr (inl (long, refl))), answers)
+none_behind : (r : FilesRead) → behind_all [] r ≡ r
+unfolding behind_all
+none_behind (Whole more) = refl
+none_behind (Fault name) = refl
+none_behind (Long name) = refl
+
+-- the files from one on, where those before were read whole: what reading them comes to from these counts on
+abbrev pub ReadSoFar : Option Holdings → (faults taken faults_now taken_now : ℕ) → (texts names left : List (List ℕ)) → Type 0
+ReadSoFar held faults taken faults_now taken_now texts names left = (faults_after taken_after : ℕ) (r : FilesRead)
+    → CanRead (counted held faults_now faults_after taken_now taken_after) (input_files left) r → CanRead (counted held faults faults_after taken taken_after) (input_files names) (behind_all texts r)
+
+-- at the first, none is read
+pub read_none : (held : Option Holdings) (faults taken : ℕ) (texts names : List (List ℕ)) → texts ≡ [] → ReadSoFar held faults taken faults taken texts names names
+read_none held faults taken texts names none = λ faults_after taken_after r can.
+    subst (λ l. CanRead (counted held faults faults_after taken taken_after) (input_files names) (behind_all l r)) (sym none)
+    (subst (CanRead (counted held faults faults_after taken taken_after) (input_files names)) (sym (none_behind r)) can)
+
+one_behind : (held : Option Holdings) (faults taken faults_now taken_now faults_next taken_next : ℕ) (texts names left : List (List ℕ)) (name text : List ℕ)
+    → IsWholeFile held name input_limit text → faults_now ≤ faults_next → taken_now ≤ taken_next
+    → ReadSoFar held faults taken faults_now taken_now texts names (name ∷ left) → ReadSoFar held faults taken faults_next taken_next (texts ++ text ∷ []) names left
+one_behind held faults taken faults_now taken_now faults_next taken_next texts names left name text whole more later before = λ faults_after taken_after r can.
+    let now = counted held faults_now faults_after taken_now taken_after in
+    let next = counted held faults_next faults_after taken_next taken_after in
+    let earlier : IsEarlier now next = record { told = refl; faults = more; faults_after = refl; taken = later; taken_after = refl } in
+    subst (CanRead (counted held faults faults_after taken taken_after) (input_files names)) (all_behind texts text r)
+    (before faults_after taken_after (behind text r) (inr (inr (text, whole, r, can_read_earlier now next earlier (input_files left) r can, refl))))
+
+whole_is_short : (held : Option Holdings) (name text : List ℕ) → IsWholeFile held name input_limit text → length text ≤ input_limit
+whole_is_short None name text whole = whole
+whole_is_short (Some files) name text whole = whole.1
+
+pub short_next : (held : Option Holdings) (name text bytes : List ℕ) (texts more : List (List ℕ)) → IsWholeFile held name input_limit bytes → text ≡ bytes → more ≡ texts ++ text ∷ [] → AreShort texts → AreShort more
+short_next held name text bytes texts more whole got grown short =
+    let brief : length text ≤ input_limit = subst (λ t. length t ≤ input_limit) (sym got) (whole_is_short held name bytes whole) in
+    let fits = λ (input : List ℕ). length input ≤ input_limit in
+    All-same fits more (texts ++ text ∷ []) grown (All-append fits texts (text ∷ []) short (All-cons fits text [] brief (All-nil fits)))
+
+-- a loop over the inputs, at the one of this index and name; `held_now` is what is held then, which stays
+module _ (held held_now : Option Holdings) (faults taken faults_now taken_now : ℕ) (texts names : List (List ℕ)) (i : ℕ) (same : held_now ≡ held) where
+  left_from : (name : List ℕ) → i < length names → name ≡ get_or names i name → ReadSoFar held faults taken faults_now taken_now texts names (drop i names)
+      → ReadSoFar held faults taken faults_now taken_now texts names (name ∷ drop (i + 1) names)
+  left_from name below is before = subst (ReadSoFar held faults taken faults_now taken_now texts names) (drop_item names i name below is) before
+
+  -- it is read
+  pub read_next : (name text bytes : List ℕ) (more : List (List ℕ)) (faults_next taken_next : ℕ) → i < length names → name ≡ get_or names i name → IsWholeFile held_now name input_limit bytes → text ≡ bytes
+      → more ≡ texts ++ text ∷ [] → faults_now ≤ faults_next → taken_now ≤ taken_next → ReadSoFar held faults taken faults_now taken_now texts names (drop i names)
+      → ReadSoFar held faults taken faults_next taken_next more names (drop (i + 1) names)
+  read_next name text bytes more faults_next taken_next below is whole got grown rose later before =
+      let told : IsWholeFile held name input_limit text = subst (λ t. IsWholeFile t name input_limit text) same (subst (IsWholeFile held_now name input_limit) (sym got) whole) in
+      subst (λ l. ReadSoFar held faults taken faults_next taken_next l names (drop (i + 1) names)) (sym grown)
+      (one_behind held faults taken faults_now taken_now faults_next taken_next texts names (drop (i + 1) names) name text told rose later (left_from name below is before))
+
+  -- it isn't read, for a cause
+  pub read_stops : (name : List ℕ) (cause : FileError) (faults_next taken_next : ℕ) → i < length names → name ≡ get_or names i name
+      → Answered (counted held_now faults_now faults_next taken_now taken_next) name input_limit {A = List ℕ} (Err cause) → ReadSoFar held faults taken faults_now taken_now texts names (drop i names)
+      → CauseShows (counted held faults faults_next taken taken_next) names (get_or names i []) cause
+  unfolding behind_all
+  read_stops name cause faults_next taken_next below is answered before =
+      subst (λ n. CauseShows (counted held faults faults_next taken taken_next) names n cause) (get_or_read names i name below is [])
+      (by_cause_shown cause (subst (λ t. Answered (counted t faults_now faults_next taken_now taken_next) name input_limit {A = List ℕ} (Err cause)) same answered))
+    where
+      reads : ReadSoFar held faults taken faults_now taken_now texts names (name ∷ drop (i + 1) names)
+      reads = left_from name below is before
+
+      by_cause_shown : (cause : FileError) → Answered (counted held faults_now faults_next taken_now taken_next) name input_limit {A = List ℕ} (Err cause)
+          → CauseShows (counted held faults faults_next taken taken_next) names name cause
+      by_cause_shown Failed h = reads faults_next taken_next (Fault name) (inl (inr h.failed, refl))
+      by_cause_shown Absent h = reads faults_next taken_next (Fault name) (inl (inl h.absent, refl))
+      by_cause_shown (TooLong n) h = reads faults_next taken_next (Long name) (inr (inl ((n, h.too_long), refl)))
+      by_cause_shown NoMemory h = tt
+
+-- behind the last, all are read
+pub read_all : (held : Option Holdings) (faults taken faults_now taken_now : ℕ) (texts all names : List (List ℕ)) (i : ℕ) → length names ≤ i → all ≡ texts
+    → ReadSoFar held faults taken faults_now taken_now texts names (drop i names) → CanRead (counted held faults faults_now taken taken_now) (input_files names) (Whole all)
+unfolding behind_all
+read_all held faults taken faults_now taken_now texts all names i past is before =
+    let reads = subst (ReadSoFar held faults taken faults_now taken_now texts names) (drop_all i names past) before in
+    subst (λ l. CanRead (counted held faults faults_now taken taken_now) (input_files names) (Whole l)) (append-nil texts ∙ sym is) (reads faults_now taken_now (Whole []) refl)
+
+pub inputs_read : (Gives : Module → Module → Type 0) (c : Counted) (command : Command) (names : List (List ℕ)) (text : List ℕ) (inputs : List (List ℕ)) (a : Answer) → names ≡ input_names command
+    → CanRead c (input_files names) (Whole inputs) → IsAnswerToText Gives command inputs text a → IsAnswerBehind Gives c command text a
+inputs_read Gives c command names text inputs a same can answers = (Whole inputs, subst (λ ns. CanRead c (input_files ns) (Whole inputs)) same can, answers)
+
+pub input_unread : (Gives : Module → Module → Type 0) (c : Counted) (command : Command) (names : List (List ℕ)) (name text : List ℕ) (cause : FileError) (a : Answer) → names ≡ input_names command
+    → CauseShows c names name cause → IsAnswerToFault cause name a → IsAnswerBehind Gives c command text a
+input_unread Gives c command names name text Failed a same can is = (Fault name, subst (λ ns. CanRead c (input_files ns) (Fault name)) same can, is)
+input_unread Gives c command names name text Absent a same can is = (Fault name, subst (λ ns. CanRead c (input_files ns) (Fault name)) same can, is)
+input_unread Gives c command names name text (TooLong n) a same can is = (Long name, subst (λ ns. CanRead c (input_files ns) (Long name)) same can, is)
+input_unread Gives c command names name text NoMemory a same can is = absurd is

@@ -7,7 +7,7 @@ use Rattle.ms_read_body.specs.declared.errors.ReadError.{ReadError}
 use Rattle.ms_read_body.specs.declared.errors.ReadError.TheVariants as e
 use Rattle.ms_top.specs.declared.answers.Answer.{Answer}
 use Rattle.ms_words.specs.declared.commands.Command.{Command}
-use Rattle.ms_words.specs.declared.commands.Command.TheVariants.{Instrument, Run, Check, Gen}
+use Rattle.ms_words.specs.declared.commands.Command.TheVariants.{Instrument, Run, Check, Corpus, Gen}
 use Rattle.ms_words.specs.declared.commands.WordsError.{WordsError}
 use Rattle.ms_words.specs.Words.{command_of}
 use Rattle.ms_gen.specs.Generator.{generated}
@@ -27,40 +27,47 @@ chosen-not_seven : (b : Bool) (e : End) → (if b then end_status e else 77) ≢
 chosen-not_seven true e = end_status-not_seven e
 chosen-not_seven false e = λ h. omega arith
 
+all-not_seven : (report trap spent : Bool) → ◌≢◌ {A = ℕ} (if report then 77 else if trap then 3 else if spent then 4 else 0) 7
+all-not_seven true trap spent = λ h. omega arith
+all-not_seven false true spent = λ h. omega arith
+all-not_seven false false true = λ h. omega arith
+all-not_seven false false false = λ h. omega arith
+
 module _ (Gives : Module → Module → Type 0) where
   of_gen-not_seven : (run : Bool) (m : Module) (a : Answer) → IsAnswerOfGen Gives run m a → a.status ≢ 7
   of_gen-not_seven true m a (j, gives, is) = with-status a _ _ _ is (chosen-not_seven _ _)
   of_gen-not_seven false m a is = with-status a 0 _ _ is (λ h. omega arith)
 
-  to_valid-not_seven : (command : Command) (input : List ℕ) (m : Module) (a : Answer) → IsAnswerToValid Gives command input m a → a.status ≢ 7
-  to_valid-not_seven (Instrument file) input m a (j, gives, is) = with-status a 0 _ _ is (λ h. omega arith)
-  to_valid-not_seven (Run file o) input m a is = with-status a _ _ _ is (chosen-not_seven _ _)
-  to_valid-not_seven (Check file o) input m a (j, gives, is) = with-status a _ _ _ is (chosen-not_seven _ _)
-  to_valid-not_seven (Gen seed functions run) input m a is = of_gen-not_seven run m a is
+  to_valid-not_seven : (command : Command) (inputs : List (List ℕ)) (m : Module) (a : Answer) → IsAnswerToValid Gives command inputs m a → a.status ≢ 7
+  to_valid-not_seven (Instrument file) inputs m a (j, gives, is) = with-status a 0 _ _ is (λ h. omega arith)
+  to_valid-not_seven (Run file o) inputs m a is = with-status a _ _ _ is (chosen-not_seven _ _)
+  to_valid-not_seven (Check file o) inputs m a (j, gives, is) = with-status a _ _ _ is (chosen-not_seven _ _)
+  to_valid-not_seven (Corpus file names o workers) inputs m a (j, gives, is) = with-status a _ _ _ is (all-not_seven _ _ _)
+  to_valid-not_seven (Gen seed functions run) inputs m a is = of_gen-not_seven run m a is
 
-  to_module-not_seven : (command : Command) (input : List ℕ) (m : Module) (a : Answer) → IsAnswerToModule Gives command input m a → a.status ≢ 7
-  to_module-not_seven command input m a (inl (fault, refused, is)) = with-status a 5 _ _ is (λ h. omega arith)
-  to_module-not_seven command input m a (inr (valid, is)) = to_valid-not_seven command input m a is
+  to_module-not_seven : (command : Command) (inputs : List (List ℕ)) (m : Module) (a : Answer) → IsAnswerToModule Gives command inputs m a → a.status ≢ 7
+  to_module-not_seven command inputs m a (inl (fault, refused, is)) = with-status a 5 _ _ is (λ h. omega arith)
+  to_module-not_seven command inputs m a (inr (valid, is)) = to_valid-not_seven command inputs m a is
 
-  to_reading-not_seven : (command : Command) (input : List ℕ) (r : Result Module ReadError) (a : Answer) → IsAnswerToReading Gives command input r a → a.status ≢ 7
-  to_reading-not_seven command input (Ok m) a is = to_module-not_seven command input m a is
-  to_reading-not_seven command input (Err (e.Lex cause)) a is = with-status a 5 _ _ is (λ h. omega arith)
-  to_reading-not_seven command input (Err (e.Refused number w token place)) a is = with-status a 5 _ _ is (λ h. omega arith)
-  to_reading-not_seven command input (Err e.NoMemory) a is = absurd is
+  to_reading-not_seven : (command : Command) (inputs : List (List ℕ)) (r : Result Module ReadError) (a : Answer) → IsAnswerToReading Gives command inputs r a → a.status ≢ 7
+  to_reading-not_seven command inputs (Ok m) a is = to_module-not_seven command inputs m a is
+  to_reading-not_seven command inputs (Err (e.Lex cause)) a is = with-status a 5 _ _ is (λ h. omega arith)
+  to_reading-not_seven command inputs (Err (e.Refused number w token place)) a is = with-status a 5 _ _ is (λ h. omega arith)
+  to_reading-not_seven command inputs (Err e.NoMemory) a is = absurd is
 
-  to_text-not_seven : (command : Command) (input text : List ℕ) (a : Answer) → IsAnswerToText Gives command input text a → a.status ≢ 7
-  to_text-not_seven command input text a (r, reading, is) = to_reading-not_seven command input r a is
+  to_text-not_seven : (command : Command) (inputs : List (List ℕ)) (text : List ℕ) (a : Answer) → IsAnswerToText Gives command inputs text a → a.status ≢ 7
+  to_text-not_seven command inputs text a (r, reading, is) = to_reading-not_seven command inputs r a is
 
   without_file-not_seven : (command : Command) (a : Answer) → IsAnswerWithoutFile Gives command a → a.status ≢ 7
   without_file-not_seven (Instrument file) a is = absurd is
   without_file-not_seven (Run file o) a is = absurd is
   without_file-not_seven (Check file o) a is = absurd is
+  without_file-not_seven (Corpus file names o workers) a is = absurd is
   without_file-not_seven (Gen seed functions run) a is = of_gen-not_seven run (generated seed functions) a is
 
   to_texts-not_seven : (command : Command) (texts : List (List ℕ)) (a : Answer) → IsAnswerToTexts Gives command texts a → a.status ≢ 7
   to_texts-not_seven command [] a is = without_file-not_seven command a is
-  to_texts-not_seven command (text ∷ []) a is = to_text-not_seven command [] text a is
-  to_texts-not_seven command (text ∷ input ∷ rest) a is = to_text-not_seven command input text a is
+  to_texts-not_seven command (text ∷ inputs) a is = to_text-not_seven command inputs text a is
 
   to_files-not_seven : (command : Command) (r : FilesRead) (a : Answer) → IsAnswerToFiles Gives command r a → a.status ≢ 7
   to_files-not_seven command (Whole texts) a is = to_texts-not_seven command texts a is

@@ -1,12 +1,10 @@
 -- What `run` says of what `instrument` writes is what `check` says of the module that was read.
-use Rattle.std.proofs.Common.{◌≡◌, ◌≢◌, ℕ, true, false, List, [], Result, Ok, Err, ap, sym, ◌∙◌, subst, ◌⊎◌, inl, inr}
+use Rattle.std.proofs.Common.{◌≡◌, ◌≢◌, ℕ, true, false, List, [], Ok, Err, ap, sym, ◌∙◌, subst, inl, inr}
 use Rattle.ms_ir.specs.declared.syntax.Module.{Module}
 use Rattle.ms_ir.specs.declared.forms.Form.TheVariants.{Instrumented}
 use Rattle.ms_runs.specs.declared.runs.RunResult.{RunResult}
 use Rattle.ms_runs.specs.Plain.{plain}
-use Rattle.ms_read_body.specs.declared.errors.ReadError.{ReadError}
 use Rattle.ms_read_body.specs.declared.errors.ReadError.TheVariants as e
-use Rattle.ms_read_top.specs.Reading.{IsReading}
 use Rattle.ms_grammar.specs.Texts.{Reads}
 use Rattle.ms_valid.specs.Formed.{Formed}
 use Rattle.ms_valid.specs.Valid.{Valid}
@@ -20,37 +18,37 @@ use Rattle.ms_top.specs.declared.answers.Answer.{Answer}
 use Rattle.ms_words.specs.declared.commands.Command.{Command}
 use Rattle.ms_words.specs.declared.commands.Command.TheVariants.{Instrument, Run, Check}
 use Rattle.ms_words.specs.declared.commands.Options.{Options}
-use Rattle.ms_top.specs.Command.{setup_of}
+use Rattle.ms_top.specs.Command.{only_input, setup_of}
 use Rattle.ms_top.specs.Instrumented.{IsInstrumented}
 use Rattle.ms_top.specs.Said.{answer_of_result, IsAnswerToValid, IsAnswerToModule, IsAnswerToReading, IsAnswerToText}
 use Rattle.ms_top.proofs.OneAnswer.{made_once, memory_is_there, one_reading}
 use Rattle.ms_top.proofs.SameLines.{same_answer}
 
 -- the text is that of no other formed module
-pub named : (file input : List ℕ) (m j : Module) (a : Answer) → IsAnswerToValid IsInstrumented (Instrument file) input m a → Formed j → a.out ≡ written j → IsInstrumented m j
-named file input m j a (k, made, is) formed text = subst (IsInstrumented m) (same_text k j made.formed formed (sym (ap (λ x. x.out) is) ∙ text)) made
+pub named : (file : List ℕ) (inputs : List (List ℕ)) (m j : Module) (a : Answer) → IsAnswerToValid IsInstrumented (Instrument file) inputs m a → Formed j → a.out ≡ written j → IsInstrumented m j
+named file inputs m j a (k, made, is) formed text = subst (IsInstrumented m) (same_text k j made.formed formed (sym (ap (λ x. x.out) is) ∙ text)) made
 
 -- the answer to a command for a valid module
-for_valid : (command : Command) (input : List ℕ) (j : Module) (b : Answer) → Valid j → IsAnswerToModule IsInstrumented command input j b → IsAnswerToValid IsInstrumented command input j b
-for_valid command input j b valid (inl (fault, refused, is)) = absurd (invalid j fault refused valid)
-for_valid command input j b valid (inr (checked, is)) = is
+for_valid : (command : Command) (inputs : List (List ℕ)) (j : Module) (b : Answer) → Valid j → IsAnswerToModule IsInstrumented command inputs j b → IsAnswerToValid IsInstrumented command inputs j b
+for_valid command inputs j b valid (inl (fault, refused, is)) = absurd (invalid j fault refused valid)
+for_valid command inputs j b valid (inr (checked, is)) = is
 
 -- the answer of `run` for a text that reads as a valid module
-ran : (file input text : List ℕ) (o : Options) (j : Module) (b : Answer) → Reads Instrumented text j → Valid j → IsAnswerToText IsInstrumented (Run file o) input text b
-    → b ≡ answer_of_result false j (plain j (setup_of o input))
-ran file input text o j b reads valid (r, reading, answers) =
+ran : (file : List ℕ) (inputs : List (List ℕ)) (text : List ℕ) (o : Options) (j : Module) (b : Answer) → Reads Instrumented text j → Valid j → IsAnswerToText IsInstrumented (Run file o) inputs text b
+    → b ≡ answer_of_result false j (plain j (setup_of o (only_input inputs)))
+ran file inputs text o j b reads valid (r, reading, answers) =
     let some : Ok j ≢ Err e.NoMemory = λ h. absurd cc in
-    let one : r ≡ Ok j = one_reading Instrumented text (Ok j) r reads reading some (memory_is_there (Run file o) input r b answers) in
-    for_valid (Run file o) input j b valid (subst (λ s. IsAnswerToReading IsInstrumented (Run file o) input s b) one answers)
+    let one : r ≡ Ok j = one_reading Instrumented text (Ok j) r reads reading some (memory_is_there (Run file o) inputs r b answers) in
+    for_valid (Run file o) inputs j b valid (subst (λ s. IsAnswerToReading IsInstrumented (Run file o) inputs s b) one answers)
 
-pub alike : (file name input : List ℕ) (o : Options) (m i : Module) (a b c : Answer) → IsAnswerToValid IsInstrumented (Instrument file) [] m a → IsElided m i → FitsText i
-    → IsAnswerToText IsInstrumented (Run name o) input a.out b → IsAnswerToValid IsInstrumented (Check name o) input m c
+pub alike : (file name : List ℕ) (inputs : List (List ℕ)) (o : Options) (m i : Module) (a b c : Answer) → IsAnswerToValid IsInstrumented (Instrument file) [] m a → IsElided m i → FitsText i
+    → IsAnswerToText IsInstrumented (Run name o) inputs a.out b → IsAnswerToValid IsInstrumented (Check name o) inputs m c
     → (r : RunResult) × (b ≡ answer_of_result false m r) × (c ≡ answer_of_result true m r)
-alike file name input o m i a b c (j, made, is) elided fits read (k, other, same) =
+alike file name inputs o m i a b c (j, made, is) elided fits read (k, other, same) =
     let text : written j ≡ a.out = sym (ap (λ x. x.out) is) in
     let reads : Reads Instrumented a.out j = subst (λ t. Reads Instrumented t j) text (text_back j made.formed (subst FitsText (elided_once m i j elided made.elided) fits)) in
-    let r = plain j (setup_of o input) in (
+    let r = plain j (setup_of o (only_input inputs)) in (
       r,
-      ran name input a.out o j b reads made.valid read ∙ same_answer m j made.faithful.strips false r,
-      same ∙ ap (λ n. answer_of_result true m (plain n (setup_of o input))) (made_once m k j other made),
+      ran name inputs a.out o j b reads made.valid read ∙ same_answer m j made.faithful.strips false r,
+      same ∙ ap (λ n. answer_of_result true m (plain n (setup_of o (only_input inputs)))) (made_once m k j other made),
     )

@@ -1,10 +1,10 @@
 -- What belongs to a command: its files, and the setup of its run.
-use Rattle.std.specs.Prelude.{ℕ, ◌^◌, List, [], ◌∷◌, Option, Some, None}
+use Rattle.std.specs.Prelude.{ℕ, ◌^◌, List, [], ◌∷◌, map, Option, Some, None, option_to_list}
 use Rattle.ms_runs.specs.declared.runs.Setup.{Setup}
 use Rattle.ms_ir.specs.declared.forms.Form.{Form}
 use Rattle.ms_ir.specs.declared.forms.Form.TheVariants.{Plain, Instrumented}
 use Rattle.ms_words.specs.declared.commands.Command.{Command}
-use Rattle.ms_words.specs.declared.commands.Command.TheVariants.{Instrument, Run, Check, Gen}
+use Rattle.ms_words.specs.declared.commands.Command.TheVariants.{Instrument, Run, Check, Corpus, Gen}
 use Rattle.ms_words.specs.declared.commands.Options.{Options}
 
 -- ---- parts of a command
@@ -14,6 +14,7 @@ abbrev pub module_file : Command → Option (List ℕ)
 module_file (Instrument file) = Some file
 module_file (Run file options) = Some file
 module_file (Check file options) = Some file
+module_file (Corpus file inputs options workers) = Some file
 module_file (Gen seed functions run) = None
 
 -- the form in which the module is read
@@ -21,6 +22,7 @@ abbrev pub form_of : Command → Form
 form_of (Instrument file) = Plain
 form_of (Run file options) = Instrumented
 form_of (Check file options) = Plain
+form_of (Corpus file inputs options workers) = Plain
 form_of (Gen seed functions run) = Plain
 
 -- the most bytes that the module's text may have
@@ -28,14 +30,16 @@ abbrev pub module_limit : Command → ℕ
 module_limit (Instrument file) = 2 ^ 22
 module_limit (Run file options) = 2 ^ 27
 module_limit (Check file options) = 2 ^ 22
+module_limit (Corpus file inputs options workers) = 2 ^ 22
 module_limit (Gen seed functions run) = 2 ^ 22
 
--- the name of the input's file, where one is given; `instrument` runs nothing, and what is generated reads nothing
-abbrev pub input_file : Command → Option (List ℕ)
-input_file (Instrument file) = None
-input_file (Run file options) = options.input
-input_file (Check file options) = options.input
-input_file (Gen seed functions run) = None
+-- the names of the inputs' files; `instrument` runs nothing, and what is generated reads nothing
+abbrev pub input_names : Command → List (List ℕ)
+input_names (Instrument file) = []
+input_names (Run file options) = option_to_list options.input
+input_names (Check file options) = option_to_list options.input
+input_names (Corpus file inputs options workers) = inputs
+input_names (Gen seed functions run) = []
 
 -- ---- files
 
@@ -43,16 +47,20 @@ input_file (Gen seed functions run) = None
 abbrev pub input_limit : ℕ
 input_limit = 2 ^ 20
 
-abbrev pub input_files : Option (List ℕ) → List (List ℕ × ℕ)
-input_files None = []
-input_files (Some name) = (name, input_limit) ∷ []
+abbrev pub input_files : List (List ℕ) → List (List ℕ × ℕ)
+input_files names = map (λ name. (name, input_limit)) names
 
 -- the files that a command reads, in order: their names, and the most bytes that each may have
 abbrev pub files_of : Command → List (List ℕ × ℕ)
-files_of command = elim (module_file command) [ Some file ↦ (file, module_limit command) ∷ input_files (input_file command) | None ↦ [] ]
+files_of command = elim (module_file command) [ Some file ↦ (file, module_limit command) ∷ input_files (input_names command) | None ↦ [] ]
 
 -- ---- runs
 
 -- what a run is given, with the bytes of its input
 abbrev pub setup_of : Options → List ℕ → Setup
 setup_of o input = record { input = input; fill = o.fill; steps = o.steps; reports = o.reports }
+
+-- the input of a run that has one at most
+abbrev pub only_input : List (List ℕ) → List ℕ
+only_input [] = []
+only_input (input ∷ rest) = input

@@ -3,3 +3,4 @@ pub mod Files
 pub mod Instrumented
 pub mod Said
 pub mod Parts
+pub mod Unread

@@ -1,5 +1,5 @@
 -- What the parts of the code say of files and modules. What `msan` promises does not name them.
-use Rattle.std.specs.Prelude.{◌≡◌, ℕ, Bool, true, false, List, codes}
+use Rattle.std.specs.Prelude.{◌≡◌, ◌≤◌, ℕ, Bool, true, false, List, All, length, map, codes}
 use Rattle.ms_io.specs.declared.traits.FileError.{FileError}
 use Rattle.ms_io.specs.declared.traits.FileError.TheVariants.{Failed, Absent, TooLong, NoMemory}
 use Rattle.ms_ir.specs.declared.syntax.Module.{Module}
@@ -10,12 +10,13 @@ use Rattle.ms_valid.specs.Uninstrumented.{CanInstrument}
 use Rattle.ms_report.specs.RunTexts.{line}
 use Rattle.ms_top.specs.declared.answers.Answer.{Answer}
 use Rattle.ms_words.specs.declared.commands.Command.{Command}
-use Rattle.ms_words.specs.declared.commands.Command.TheVariants.{Instrument, Run, Check, Gen}
+use Rattle.ms_words.specs.declared.commands.Command.TheVariants.{Instrument, Run, Check, Corpus, Gen}
 use Rattle.ms_words.specs.declared.commands.WordsError.{WordsError}
 use Rattle.ms_words.specs.declared.commands.WordsError.TheVariants.{NoMemory as WantsMemory}
-use Rattle.ms_top.specs.Command.{input_file, input_files}
+use Rattle.ms_runs.specs.Limits.{WithinLimits}
+use Rattle.ms_corpus.specs.Jobs.{with_input}
+use Rattle.ms_top.specs.Command.{input_names, input_files, input_limit}
 use Rattle.ms_top.specs.Files.{Counted, CanRead, FilesRead, behind}
-use Rattle.ms_top.specs.Instrumented.{IsInstrumented}
 use Rattle.ms_top.specs.Said.{says, IsAnswerToFiles}
 
 -- the answer for why a file isn't read whole; want of memory has an answer of its own
@@ -28,13 +29,14 @@ IsAnswerToFault NoMemory name a = ⊥
 -- the answer to a command whose module's file has this text, for what reading the other files comes to
 abbrev pub IsAnswerBehind : (Module → Module → Type 0) → Counted → Command → List ℕ → Answer → Type 0
 IsAnswerBehind Gives c command text a =
-    (r : FilesRead) × CanRead c (input_files (input_file command)) r × IsAnswerToFiles Gives command (behind text r) a
+    (r : FilesRead) × CanRead c (input_files (input_names command)) r × IsAnswerToFiles Gives command (behind text r) a
 
 -- a module that is read for a command can be instrumented, but where the command runs it as it stands
 abbrev pub IsReady : Command → Module → Type 0
 IsReady (Instrument file) m = CanInstrument m
 IsReady (Run file options) m = Unit {0}
 IsReady (Check file options) m = CanInstrument m
+IsReady (Corpus file inputs options workers) m = CanInstrument m
 IsReady (Gen seed functions run) m = CanInstrument m
 
 -- the fault in words is want of memory
@@ -42,6 +44,18 @@ abbrev pub is_want_of_memory : WordsError → Bool
 is_want_of_memory WantsMemory = true
 is_want_of_memory fault = false
 
--- the plain run of the instrumented form
-abbrev pub IsInstrumentedRun : Module → Setup → RunResult → Type 0
-IsInstrumentedRun m s r = (j : Module) × IsInstrumented m j × (r ≡ plain j s)
+-- the plain run of a module that a pass gives
+abbrev pub IsRunOfGiven : (Module → Module → Type 0) → Module → Setup → RunResult → Type 0
+IsRunOfGiven Gives m s r = (j : Module) × Gives m j × (r ≡ plain j s)
+
+-- the runs of such a module on inputs
+abbrev pub AreRunsOfGiven : (Module → Module → Type 0) → Module → Setup → List (List ℕ) → List RunResult → Type 0
+AreRunsOfGiven Gives m s inputs rs = (j : Module) × Gives m j × (rs ≡ map (λ input. plain j (with_input s input)) inputs)
+
+-- inputs have no more bytes than they may have
+abbrev pub AreShort : List (List ℕ) → Type 0
+AreShort inputs = All (λ input. length input ≤ input_limit) inputs
+
+-- with each of the inputs a setup is within its limits
+abbrev pub AreWithinLimits : Setup → List (List ℕ) → Type 0
+AreWithinLimits s inputs = All (λ input. WithinLimits (with_input s input)) inputs

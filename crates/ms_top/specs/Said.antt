@@ -1,6 +1,7 @@
 -- What a call is to say: its status and its two texts, for the words and the files that it was given. `Gives m j` is what
 -- is known of the module j that the pass makes of m.
-use Rattle.std.specs.Prelude.{◌≡◌, ℕ, Bool, true, false, List, [], ◌∷◌, ◌++◌, length, Option, Result, Ok, Err, eqb, if◌then◌else◌, codes, decimal, ◌⊎◌}
+use Rattle.std.specs.Prelude.{◌≡◌, ℕ, suc, Bool, true, false, List, [], ◌∷◌, ◌++◌, length, map, Option, Result, Ok, Err, eqb, if◌then◌else◌, codes, decimal, ◌⊎◌}
+use Rattle.std.specs.List.{list_any}
 use Rattle.ms_io.specs.Writing.{with_appended, AppendsPrefix}
 use Rattle.ms_ir.specs.declared.syntax.Module.{Module}
 use Rattle.ms_ir.specs.Places.{count_sites}
@@ -24,10 +25,11 @@ use Rattle.ms_report.specs.WordsTexts.{words_text}
 use Rattle.ms_top.specs.declared.answers.Answer.{Answer}
 use Rattle.ms_gen.specs.Generator.{generated}
 use Rattle.ms_words.specs.declared.commands.Command.{Command}
-use Rattle.ms_words.specs.declared.commands.Command.TheVariants.{Instrument, Run, Check, Gen}
+use Rattle.ms_words.specs.declared.commands.Command.TheVariants.{Instrument, Run, Check, Corpus, Gen}
 use Rattle.ms_words.specs.declared.commands.WordsError.{WordsError}
 use Rattle.ms_words.specs.Words.{command_of, defaults, name_of, place_of}
-use Rattle.ms_top.specs.Command.{form_of, files_of, setup_of}
+use Rattle.ms_words.specs.declared.commands.Options.{Options}
+use Rattle.ms_top.specs.Command.{form_of, files_of, only_input, setup_of}
 use Rattle.ms_top.specs.Files.{Counted, CanRead, FilesRead, Whole, Fault, Long}
 
 abbrev pub answer_of : ℕ → List ℕ → List ℕ → Answer
@@ -66,6 +68,34 @@ summary_of m r =
     line (codes "functions") (decimal (length m.funcs)) ++ line (codes "sites") (decimal (count_sites m)) ++ line (codes "output") (decimal (length r.output) ++ codes " bytes")
     ++ report_text_of m r ++ closing_of m r true
 
+-- ---- many runs
+
+-- the first line of the section of a run: its number, how many bytes were output, and the name of its input
+abbrev pub heading_of : (number : ℕ) → (name : List ℕ) → RunResult → List ℕ
+heading_of number name r = codes "input " ++ decimal number ++ codes ", " ++ decimal (length r.output) ++ codes " bytes: " ++ name ++ codes "\n"
+
+-- the section: that line, the output, a newline, the reports and the closing lines
+abbrev pub section_of : Module → (number : ℕ) → (name : List ℕ) → RunResult → List ℕ
+section_of m number name r = heading_of number name r ++ r.output ++ codes "\n" ++ report_text_of m r ++ closing_of m r true
+
+-- the sections of runs with numbers from one on
+abbrev pub sections_of : Module → (number : ℕ) → (names : List (List ℕ)) → List RunResult → List ℕ
+sections_of m number [] rs = []
+sections_of m number names [] = []
+sections_of m number (name ∷ names) (r ∷ rs) = section_of m number name r ++ sections_of m (suc number) names rs
+
+-- one of the runs has a status
+abbrev pub has_status : ℕ → List RunResult → Bool
+has_status status rs = list_any (λ r. eqb (status_of r) status) rs
+
+-- a report decides first, then a trap, then that a run is spent
+abbrev pub status_of_all : List RunResult → ℕ
+status_of_all rs = if has_status 77 rs then 77 else if has_status 3 rs then 3 else if has_status 4 rs then 4 else 0
+
+-- the answer for the results of many runs
+abbrev pub answer_of_results : Module → (names : List (List ℕ)) → List RunResult → Answer
+answer_of_results m names rs = answer_of (status_of_all rs) (sections_of m 1 names rs) []
+
 -- ---- from the words to the answer, for a pass that gives modules so
 
 module _ (Gives : Module → Module → Type 0) where
@@ -77,6 +107,10 @@ module _ (Gives : Module → Module → Type 0) where
   abbrev pub IsAnswerOfCheck : Setup → Module → Answer → Type 0
   IsAnswerOfCheck s m a = (j : Module) × Gives m j × (a ≡ answer_of_result true m (plain j s))
 
+  -- the answer of `corpus`: of the runs on the inputs of a module that the pass gives
+  abbrev pub IsAnswerOfCorpus : (names : List (List ℕ)) → Options → (inputs : List (List ℕ)) → Module → Answer → Type 0
+  IsAnswerOfCorpus names options inputs m a = (j : Module) × Gives m j × (a ≡ answer_of_results m names (map (λ input. plain j (setup_of options input)) inputs))
+
   -- the answer of `gen` for the module that it makes: the module's text, or the summary of the run of a module that the
   -- pass gives, with no option given
   abbrev pub IsAnswerOfGen : (run : Bool) → Module → Answer → Type 0
@@ -84,26 +118,27 @@ module _ (Gives : Module → Module → Type 0) where
   IsAnswerOfGen true m a = (j : Module) × Gives m j × (let r = plain j (setup_of defaults []) in a ≡ answer_of (status_of r) (summary_of m r) [])
 
   -- the answer for a valid module; `run` runs it as it stands
-  abbrev pub IsAnswerToValid : Command → List ℕ → Module → Answer → Type 0
-  IsAnswerToValid (Instrument file) input m a = IsAnswerOfInstrument m a
-  IsAnswerToValid (Run file options) input m a = a ≡ answer_of_result false m (plain m (setup_of options input))
-  IsAnswerToValid (Check file options) input m a = IsAnswerOfCheck (setup_of options input) m a
-  IsAnswerToValid (Gen seed functions run) input m a = IsAnswerOfGen run m a
+  abbrev pub IsAnswerToValid : Command → List (List ℕ) → Module → Answer → Type 0
+  IsAnswerToValid (Instrument file) inputs m a = IsAnswerOfInstrument m a
+  IsAnswerToValid (Run file options) inputs m a = a ≡ answer_of_result false m (plain m (setup_of options (only_input inputs)))
+  IsAnswerToValid (Check file options) inputs m a = IsAnswerOfCheck (setup_of options (only_input inputs)) m a
+  IsAnswerToValid (Corpus file names options workers) inputs m a = IsAnswerOfCorpus names options inputs m a
+  IsAnswerToValid (Gen seed functions run) inputs m a = IsAnswerOfGen run m a
 
   -- the answer for a module: why it isn't valid, or else the answer for a valid one
-  abbrev pub IsAnswerToModule : Command → List ℕ → Module → Answer → Type 0
-  IsAnswerToModule command input m a =
-      ((fault : ModuleFault) × IsRefused m fault × (a ≡ says 5 (fault_text fault))) ⊎ (Valid m × IsAnswerToValid command input m a)
+  abbrev pub IsAnswerToModule : Command → List (List ℕ) → Module → Answer → Type 0
+  IsAnswerToModule command inputs m a =
+      ((fault : ModuleFault) × IsRefused m fault × (a ≡ says 5 (fault_text fault))) ⊎ (Valid m × IsAnswerToValid command inputs m a)
 
   -- the answer for what reading a text comes to: a module, or why there is none; want of memory has an answer of its own
-  abbrev pub IsAnswerToReading : Command → List ℕ → Result Module ReadError → Answer → Type 0
-  IsAnswerToReading command input (Ok m) a = IsAnswerToModule command input m a
-  IsAnswerToReading command input (Err e.NoMemory) a = ⊥
-  IsAnswerToReading command input (Err cause) a = a ≡ says 5 (refusal_text (Read cause))
+  abbrev pub IsAnswerToReading : Command → List (List ℕ) → Result Module ReadError → Answer → Type 0
+  IsAnswerToReading command inputs (Ok m) a = IsAnswerToModule command inputs m a
+  IsAnswerToReading command inputs (Err e.NoMemory) a = ⊥
+  IsAnswerToReading command inputs (Err cause) a = a ≡ says 5 (refusal_text (Read cause))
 
   -- the answer for a module's text: what it reads as in the form of the command, or why it isn't read, decides
-  abbrev pub IsAnswerToText : Command → List ℕ → List ℕ → Answer → Type 0
-  IsAnswerToText command input text a = (r : Result Module ReadError) × IsReading (form_of command) text r × IsAnswerToReading command input r a
+  abbrev pub IsAnswerToText : Command → List (List ℕ) → List ℕ → Answer → Type 0
+  IsAnswerToText command inputs text a = (r : Result Module ReadError) × IsReading (form_of command) text r × IsAnswerToReading command inputs r a
 
   -- the answer without a file, which `gen` alone has
   abbrev pub IsAnswerWithoutFile : Command → Answer → Type 0
@@ -113,8 +148,7 @@ module _ (Gives : Module → Module → Type 0) where
   -- the answer for the texts of a command's files, the module's first
   abbrev pub IsAnswerToTexts : Command → List (List ℕ) → Answer → Type 0
   IsAnswerToTexts command [] a = IsAnswerWithoutFile command a
-  IsAnswerToTexts command (text ∷ []) a = IsAnswerToText command [] text a
-  IsAnswerToTexts command (text ∷ input ∷ rest) a = IsAnswerToText command input text a
+  IsAnswerToTexts command (text ∷ inputs) a = IsAnswerToText command inputs text a
 
   -- the answer for what reading the files comes to
   abbrev pub IsAnswerToFiles : Command → FilesRead → Answer → Type 0

@@ -8,17 +8,18 @@ ghost use Rattle.ms_report.specs.RefusalTexts.{HasLine, refusal_text, wants_memo
 ghost use Rattle.ms_report.specs.ReportTexts.{report_text_of};
 ghost use Rattle.ms_report.specs.RunTexts.{closing_of};
 ghost use Rattle.ms_words.specs.Limits.{RunsWithinLimits, IsWithinLimits};
-ghost use Rattle.ms_top.specs.Command.{setup_of as setup_with, module_limit, input_limit};
-ghost use Rattle.ms_top.specs.Instrumented.{IsInstrumented};
-ghost use Rattle.ms_top.specs.Parts.{IsReady, IsInstrumentedRun};
+ghost use Rattle.ms_top.specs.Command.{setup_of as setup_with, module_limit, input_limit, only_input as only_input_of};
+ghost use Rattle.ms_top.specs.Parts.{AreShort, IsReady, IsRunOfGiven};
 ghost use Rattle.ms_top.specs.Said.{answer_of, answer_of_result, says, status_of as status_of_run, IsAnswerOfInstrument, IsAnswerOfCheck, IsAnswerToValid, IsAnswerToModule, IsAnswerToText};
 
 use crate::commands::form_of;
+use crate::corpus::{Jobs, answer_of_corpus};
 use crate::generated::{summarised, written};
+use crate::passes::Pass;
 use ms_bits::{Bytes, NoMemory};
 use ms_check::{CheckError, CheckedModule, check};
+use ms_fork::Gate;
 use ms_ir::Module;
-use ms_pass::{instrument, instrumented};
 use ms_read_body::ReadError;
 use ms_read_top::read;
 use ms_report::{Refusal, closing, refusal_line, report_text};
@@ -26,6 +27,7 @@ use ms_runs::{End, RunResult, Setup};
 use ms_runtime::run;
 use ms_words::{Command, Options};
 use std::alloc::{AllocError, Global};
+use std::thread::Threads;
 
 /// A status, and the texts for the standard output and the standard error.
 #[derive(Debug, Drop)]
@@ -59,72 +61,116 @@ impl Answer {
     }
 }
 
-/// The answer to a command on a module's text of at most the command's bytes, whose runs have this input.
-pub fn answer_to_text(
+/// The answer to a command on a module's text of at most the command's bytes, whose runs have these inputs.
+pub fn answer_to_text<R: Threads + Sync, P: Pass, G: Gate + Sync>(
+    rt: &R,
     alloc: Global,
     command: &Command,
     text: &[u8],
-    input: &[u8],
+    inputs: &[Bytes],
+    pass: &P,
+    gate: &G,
 ) -> Result<Answer, NoMemory>
     requires fits { length text.now ≤ module_limit command.now }
     requires limits { IsWithinLimits command.now }
-    requires input { length input.now ≤ input_limit }
-    ensures { IfOk result (λ a. IsAnswerToText IsInstrumented command.now input.now text.now a) }
+    requires inputs { AreShort inputs.now }
+    ensures { IfOk result (λ a. IsAnswerToText P.gives command.now inputs.now text.now a) }
 {
     match read(alloc, text, form_of(command)) {
-        Ok(module) => answer_to_module(alloc, command, module, input),
+        Ok(module) => answer_to_module(rt, alloc, command, module, inputs, pass, gate),
         Err(cause) => refused(alloc, &Refusal::Read(cause)),
     }
 }
 
 /// The answer to a command on a module.
-fn answer_to_module(
+fn answer_to_module<R: Threads + Sync, P: Pass, G: Gate + Sync>(
+    rt: &R,
     alloc: Global,
     command: &Command,
     m: Module,
-    input: &[u8],
+    inputs: &[Bytes],
+    pass: &P,
+    gate: &G,
 ) -> Result<Answer, NoMemory>
     requires formed { Formed m }
     requires ready { IsReady command.now m }
     requires limits { IsWithinLimits command.now }
-    requires input { length input.now ≤ input_limit }
-    ensures { IfOk result (λ a. IsAnswerToModule IsInstrumented command.now input.now m a) }
+    requires inputs { AreShort inputs.now }
+    ensures { IfOk result (λ a. IsAnswerToModule P.gives command.now inputs.now m a) }
 {
     match check(alloc, m) {
-        Ok(checked) => answer_to_valid(alloc, command, &checked, input),
+        Ok(checked) => answer_to_valid(rt, alloc, command, &checked, inputs, pass, gate),
         Err((cause, _)) => refused(alloc, &Refusal::Check(cause)),
     }
 }
 
 /// The answer to a command on a valid module.
-fn answer_to_valid(
+fn answer_to_valid<R: Threads + Sync, P: Pass, G: Gate + Sync>(
+    rt: &R,
     alloc: Global,
     command: &Command,
     m: &CheckedModule,
-    input: &[u8],
+    inputs: &[Bytes],
+    pass: &P,
+    gate: &G,
 ) -> Result<Answer, NoMemory>
     requires ready { IsReady command.now m.now }
     requires limits { IsWithinLimits command.now }
-    requires input { length input.now ≤ input_limit }
-    ensures { IfOk result (λ a. IsAnswerToValid IsInstrumented command.now input.now m.now a) }
+    requires inputs { AreShort inputs.now }
+    ensures { IfOk result (λ a. IsAnswerToValid P.gives command.now inputs.now m.now a) }
 {
     m.is_valid();
     match command {
-        Command::Instrument { .. } => answer_of_instrument(alloc, m),
-        Command::Run { options, .. } => answer_of_run(alloc, m, options, input),
-        Command::Check { options, .. } => answer_of_check(alloc, m, options, input),
-        Command::Gen { run: true, .. } => summarised(alloc, m),
+        Command::Instrument { .. } => answer_of_instrument(rt, alloc, m, pass),
+        Command::Run { options, .. } => answer_of_run(alloc, m, options, only_input(inputs)),
+        Command::Check { options, .. } => answer_of_check(
+            rt,
+            alloc,
+            m,
+            options,
+            only_input(inputs),
+            pass,
+        ),
+        Command::Corpus {
+            inputs: names,
+            options,
+            workers,
+            ..
+        } => {
+            let jobs = Jobs {
+                names: names.as_slice(),
+                inputs,
+                workers: *workers,
+            };
+            answer_of_corpus(rt, alloc, m, options, &jobs, pass, gate)
+        }
+        Command::Gen { run: true, .. } => summarised(rt, alloc, m, pass),
         Command::Gen { run: false, .. } => written(alloc, m.module()),
     }
 }
 
-/// The answer of `instrument`: the text of the instrumented form.
-fn answer_of_instrument(alloc: Global, m: &CheckedModule) -> Result<Answer, NoMemory>
-    requires { CanInstrument m.now }
-    ensures { IfOk result (λ a. IsAnswerOfInstrument IsInstrumented m.now a) }
+/// The input of a run that has one at most.
+fn only_input(inputs: &[Bytes]) -> &[u8]
+    ensures { result.now ≡ only_input_of inputs.now }
 {
-    let module = instrumented_module(alloc, m)?;
-    written(alloc, &module)
+    match inputs {
+        [input, ..] => input.as_slice(),
+        [] => b"",
+    }
+}
+
+/// The answer of `instrument`: the text of the module that the pass gives.
+fn answer_of_instrument<R: Threads + Sync, P: Pass>(
+    rt: &R,
+    alloc: Global,
+    m: &CheckedModule,
+    pass: &P,
+) -> Result<Answer, NoMemory>
+    requires { CanInstrument m.now }
+    ensures { IfOk result (λ a. IsAnswerOfInstrument P.gives m.now a) }
+{
+    let instrumented = pass.instrumented(rt, alloc, m)?;
+    written(alloc, &instrumented)
 }
 
 /// The answer of `run`: for the run of the module as it stands.
@@ -144,55 +190,40 @@ fn answer_of_run(
     answer_of(alloc, m.module(), result, false)
 }
 
-/// The answer of `check`: for the run of the instrumented form.
-fn answer_of_check(
+/// The answer of `check`: for the run of the module that the pass gives.
+fn answer_of_check<R: Threads + Sync, P: Pass>(
+    rt: &R,
     alloc: Global,
     m: &CheckedModule,
     options: &Options,
     input: &[u8],
+    pass: &P,
 ) -> Result<Answer, NoMemory>
     requires plain { CanInstrument m.now }
     requires limits { RunsWithinLimits options.now }
     requires input { length input.now ≤ input_limit }
-    ensures { IfOk result (λ a. IsAnswerOfCheck IsInstrumented (setup_with options.now input.now) m.now a) }
+    ensures { IfOk result (λ a. IsAnswerOfCheck P.gives (setup_with options.now input.now) m.now a) }
 {
     m.is_valid();
     let setup = setup_of(alloc, options, input)?;
-    let result = run_instrumented(alloc, m, &setup)?;
+    let result = run_given(rt, alloc, m, &setup, pass)?;
     answer_of(alloc, m.module(), result, true)
 }
 
-/// The run of the instrumented form.
-pub fn run_instrumented(
+/// The run of the module that the pass gives.
+pub fn run_given<R: Threads + Sync, P: Pass>(
+    rt: &R,
     alloc: Global,
     m: &CheckedModule,
     setup: &Setup,
+    pass: &P,
 ) -> Result<RunResult, NoMemory>
     requires plain { CanInstrument m.now }
     requires limits { WithinLimits setup.now }
-    ensures { IfOk result (λ r. IsInstrumentedRun m.now setup.now r) }
+    ensures { IfOk result (λ r. IsRunOfGiven P.gives m.now setup.now r) }
 {
-    let instrumented = instrumented_form(alloc, m)?;
+    let instrumented = pass.instrument(rt, alloc, m)?;
     run(alloc, &instrumented, setup)
-}
-
-/// The instrumented form of a module, to be written.
-fn instrumented_module(alloc: Global, m: &CheckedModule) -> Result<Module, NoMemory>
-    requires { CanInstrument m.now }
-    ensures { IfOk result (λ j. IsInstrumented m.now j) }
-{
-    let module = instrumented(alloc, m)?;
-    Ok(module)
-}
-
-/// The instrumented form of a module, to be run.
-fn instrumented_form(alloc: Global, m: &CheckedModule) -> Result<CheckedModule, NoMemory>
-    requires { CanInstrument m.now }
-    ensures { IfOk result (λ j. IsInstrumented m.now j) }
-{
-    let instrumented = instrument(alloc, m)?;
-    instrumented.is_valid();
-    Ok(instrumented)
 }
 
 /// What a run with these options and this input is given.

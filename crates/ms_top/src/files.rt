@@ -1,45 +1,32 @@
 //! What is said of words and files.
-ghost use Rattle.std.specs.Prelude.{◌≡◌, ◌≤◌, ◌++◌, false, codes, length, Some, Err, IfOk};
+ghost use Rattle.std.specs.Prelude.{◌≡◌, ◌≤◌, ◌++◌, false, codes, length, Some, IfErr, IfOk};
 ghost use Rattle.ms_report.specs.RunTexts.{line};
 ghost use Rattle.ms_report.specs.WordsTexts.{words_text};
-ghost use Rattle.ms_words.specs.declared.commands.WordsError.{WordsError as WordsErrorOf};
 ghost use Rattle.ms_words.specs.Limits.{IsWithinLimits};
-ghost use Rattle.ms_words.specs.Words.{command_of, name_of, place_of};
-ghost use Rattle.ms_top.specs.Command.{module_file, module_limit};
-ghost use Rattle.ms_top.specs.Files.{counted};
-ghost use Rattle.ms_top.specs.Instrumented.{IsInstrumented};
-ghost use Rattle.ms_top.specs.Parts.{IsAnswerBehind, IsAnswerToFault, is_want_of_memory};
-ghost use Rattle.ms_top.specs.Said.{IsAnswer, IsAnswerToCommand, says};
+ghost use Rattle.ms_words.specs.Words.{name_of, place_of};
+ghost use Rattle.ms_top.specs.Command.{input_files, module_file, module_limit};
+ghost use Rattle.ms_top.specs.Files.{counted, CanRead, Whole};
+ghost use Rattle.ms_top.specs.Parts.{AreShort, IsAnswerBehind, IsAnswerToFault, is_want_of_memory};
+ghost use Rattle.ms_top.specs.Said.{IsAnswerToCommand, says};
+ghost use Rattle.ms_top.specs.Unread.{IsUnread};
 
 use crate::answers::{Answer, answer_to_text};
-use crate::commands::{input_of, module_limit};
+use crate::commands::{inputs_of, module_limit};
 use crate::generated::answer_of_gen;
-use ms_bits::{NoMemory, Text};
+use crate::passes::Pass;
+use ms_bits::{Bytes, List, NoMemory, Text};
+use ms_fork::Gate;
 use ms_io::{FileError, Files};
 use ms_report::{WordsFault, words_line};
-use ms_words::{Command, WordsError, read_words};
+use ms_words::{Command, WordsError};
 use std::alloc::{AllocError, Global};
+use std::thread::Threads;
 
 /// The most bytes that an input file may have.
 const INPUT_LIMIT: u64 = 1 << 20;
 
-/// What a call with these words and these files is to say. The one error is want of memory.
-pub fn answer_to<F: Files>(alloc: Global, words: &[Text], files: &mut F) -> Result<Answer, NoMemory>
-    ensures said { IfOk result (λ a. IsAnswer IsInstrumented
-        (counted (F.held files.old) (F.faults files.old) (F.faults files.new) (F.taken files.old) (F.taken files.new)) words.now a) }
-    ensures holdings_stay { F.held files.new ≡ F.held files.old }
-    ensures faults_never_fall { F.faults files.old ≤ F.faults files.new }
-    ensures taken_never_falls { F.taken files.old ≤ F.taken files.new }
-    ensures unread { (fault : WordsErrorOf) → command_of words.now ≡ Err fault → files.new ≡ files.old }
-{
-    match read_words(alloc, words) {
-        Ok(command) => answer_to_command(alloc, &command, files),
-        Err(fault) => no_command(alloc, fault),
-    }
-}
-
 /// The answer for words that are no command. Where the fault is want of memory, so is the error.
-fn no_command(alloc: Global, fault: WordsError) -> Result<Answer, NoMemory>
+pub fn no_command(alloc: Global, fault: WordsError) -> Result<Answer, NoMemory>
     ensures reason { IfOk result (λ a. is_want_of_memory fault ≡ false) }
     ensures line { IfOk result (λ a. a ≡ says 2 (words_text (name_of fault) (place_of fault))) }
 {
@@ -65,73 +52,120 @@ fn wants_memory(fault: WordsError) -> bool
 }
 
 /// The answer to a command: what is generated needs no file. The one error is want of memory.
-pub fn answer_to_command<F: Files>(
+pub fn answer_to_command<R: Threads + Sync, F: Files, P: Pass, G: Gate + Sync>(
+    rt: &R,
     alloc: Global,
     command: &Command,
     files: &mut F,
+    pass: &P,
+    gate: &G,
 ) -> Result<Answer, NoMemory>
     requires { IsWithinLimits command.now }
-    ensures said { IfOk result (λ a. IsAnswerToCommand IsInstrumented
+    ensures said { IfOk result (λ a. IsAnswerToCommand P.gives
         (counted (F.held files.old) (F.faults files.old) (F.faults files.new) (F.taken files.old) (F.taken files.new)) command.now a) }
     ensures holdings_stay { F.held files.new ≡ F.held files.old }
     ensures faults_never_fall { F.faults files.old ≤ F.faults files.new }
     ensures taken_never_falls { F.taken files.old ≤ F.taken files.new }
 {
     match command {
-        Command::Instrument { file } => answer_to_file(alloc, command, file, files),
-        Command::Run { file, .. } => answer_to_file(alloc, command, file, files),
-        Command::Check { file, .. } => answer_to_file(alloc, command, file, files),
+        Command::Instrument { file } => answer_to_file(rt, alloc, command, file, files, pass, gate),
+        Command::Run { file, .. } => answer_to_file(rt, alloc, command, file, files, pass, gate),
+        Command::Check { file, .. } => answer_to_file(rt, alloc, command, file, files, pass, gate),
+        Command::Corpus { file, .. } => answer_to_file(rt, alloc, command, file, files, pass, gate),
         Command::Gen {
             seed,
             functions,
             run,
-        } => answer_of_gen(alloc, *seed, *functions, *run),
+        } => { answer_of_gen(rt, alloc, *seed, *functions, *run, pass) }
     }
 }
 
 /// The answer to a command on the module in a file: its files are read in order, the module's first.
-fn answer_to_file<F: Files>(
+fn answer_to_file<R: Threads + Sync, F: Files, P: Pass, G: Gate + Sync>(
+    rt: &R,
     alloc: Global,
     command: &Command,
     file: &Text,
     files: &mut F,
+    pass: &P,
+    gate: &G,
 ) -> Result<Answer, NoMemory>
     requires limits { IsWithinLimits command.now }
     requires named { module_file command.now ≡ Some file.now }
-    ensures said { IfOk result (λ a. IsAnswerToCommand IsInstrumented
+    ensures said { IfOk result (λ a. IsAnswerToCommand P.gives
         (counted (F.held files.old) (F.faults files.old) (F.faults files.new) (F.taken files.old) (F.taken files.new)) command.now a) }
     ensures holdings_stay { F.held files.new ≡ F.held files.old }
     ensures faults_never_fall { F.faults files.old ≤ F.faults files.new }
     ensures taken_never_falls { F.taken files.old ≤ F.taken files.new }
 {
     match files.read_whole(alloc, file.as_str(), module_limit(command)) {
-        Ok(text) => answer_behind(alloc, command, &text, files),
+        Ok(text) => answer_behind(rt, alloc, command, &text, files, pass, gate),
         Err(cause) => unread(alloc, file, cause),
     }
 }
 
-/// The answer to a command whose module's file has this text: its input is read, where it has a file.
-fn answer_behind<F: Files>(
+/// The answer to a command whose module's file has this text: its inputs are read, in their order.
+fn answer_behind<R: Threads + Sync, F: Files, P: Pass, G: Gate + Sync>(
+    rt: &R,
     alloc: Global,
     command: &Command,
     text: &[u8],
     files: &mut F,
+    pass: &P,
+    gate: &G,
 ) -> Result<Answer, NoMemory>
     requires limits { IsWithinLimits command.now }
     requires fits { length text.now ≤ module_limit command.now }
-    ensures said { IfOk result (λ a. IsAnswerBehind IsInstrumented
+    ensures said { IfOk result (λ a. IsAnswerBehind P.gives
         (counted (F.held files.old) (F.faults files.old) (F.faults files.new) (F.taken files.old) (F.taken files.new)) command.now text.now a) }
     ensures holdings_stay { F.held files.new ≡ F.held files.old }
     ensures faults_never_fall { F.faults files.old ≤ F.faults files.new }
     ensures taken_never_falls { F.taken files.old ≤ F.taken files.new }
 {
-    match input_of(command) {
-        None => answer_to_text(alloc, command, text, b""),
-        Some(file) => match files.read_whole(alloc, file.as_str(), INPUT_LIMIT) {
-            Ok(input) => answer_to_text(alloc, command, text, &input),
-            Err(cause) => unread(alloc, file, cause),
-        },
+    let names = inputs_of(command);
+    match read_inputs(alloc, names, files) {
+        Ok(inputs) => answer_to_text(rt, alloc, command, text, inputs.as_slice(), pass, gate),
+        Err(at) => unread(alloc, &names[at.index], at.cause),
     }
+}
+
+/// Why inputs aren't read: the first of their files that isn't, by its place among them, with the cause.
+#[derive(Drop)]
+pub struct InputFault {
+    pub index: usize,
+    pub cause: FileError,
+}
+
+/// The inputs in the files with these names, read in order to the first that isn't read whole.
+fn read_inputs<F: Files>(
+    alloc: Global,
+    names: &[Text],
+    files: &mut F,
+) -> Result<List<Bytes>, InputFault>
+    ensures read { IfOk result (λ inputs. CanRead
+        (counted (F.held files.old) (F.faults files.old) (F.faults files.new) (F.taken files.old) (F.taken files.new)) (input_files names.now) (Whole inputs)) }
+    ensures short { IfOk result AreShort }
+    ensures unread { IfErr result (IsUnread
+        (counted (F.held files.old) (F.faults files.old) (F.faults files.new) (F.taken files.old) (F.taken files.new)) names.now) }
+    ensures holdings_stay { F.held files.new ≡ F.held files.old }
+    ensures faults_never_fall { F.faults files.old ≤ F.faults files.new }
+    ensures taken_never_falls { F.taken files.old ≤ F.taken files.new }
+{
+    let mut inputs = Vec::new(alloc);
+    for index in 0..names.len() {
+        match files.read_whole(alloc, names[index].as_str(), INPUT_LIMIT) {
+            Ok(input) => {
+                if inputs.push(Bytes::from_vec(input)).is_err() {
+                    return Err(InputFault {
+                        index,
+                        cause: FileError::NoMemory,
+                    });
+                }
+            }
+            Err(cause) => return Err(InputFault { index, cause }),
+        }
+    }
+    Ok(List::from_vec(inputs))
 }
 
 /// The answer for a file that isn't read whole. Where the cause is want of memory, so is the error.

@@ -10,10 +10,10 @@ ghost use Rattle.ms_words.specs.Limits.{MadeWithinLimits};
 ghost use Rattle.ms_words.specs.Words.{defaults};
 ghost use Rattle.ms_gen.specs.Generator.{generated};
 ghost use Rattle.ms_top.specs.Command.{setup_of};
-ghost use Rattle.ms_top.specs.Instrumented.{IsInstrumented};
 ghost use Rattle.ms_top.specs.Said.{answer_of, status_of as status_of_run, summary_of, IsAnswerOfGen};
 
-use crate::answers::{Answer, lines_of, run_instrumented, status_of};
+use crate::answers::{Answer, lines_of, run_given, status_of};
+use crate::passes::Pass;
 use ms_bits::{Bytes, NoMemory};
 use ms_check::CheckedModule;
 use ms_gen::generate;
@@ -22,20 +22,23 @@ use ms_runs::{RunResult, Setup};
 use ms_write::write;
 use ms_write_values::push_number;
 use std::alloc::Global;
+use std::thread::Threads;
 
 /// The answer of `gen`: its module is made and written, or checked with no option given. The one error is want of memory.
-pub fn answer_of_gen(
+pub fn answer_of_gen<R: Threads + Sync, P: Pass>(
+    rt: &R,
     alloc: Global,
     seed: u64,
     functions: u32,
     run: bool,
+    pass: &P,
 ) -> Result<Answer, NoMemory>
     requires { MadeWithinLimits seed functions }
-    ensures { IfOk result (λ a. IsAnswerOfGen IsInstrumented run (generated seed functions) a) }
+    ensures { IfOk result (λ a. IsAnswerOfGen P.gives run (generated seed functions) a) }
 {
     let module = generate(alloc, seed, functions)?;
     if run {
-        summary_of_module(alloc, module)
+        summary_of_module(rt, alloc, module, pass)
     } else {
         written(alloc, &module)
     }
@@ -51,24 +54,34 @@ pub fn written(alloc: Global, m: &Module) -> Result<Answer, NoMemory>
 }
 
 /// The summary of the run of a module that is known to be valid.
-fn summary_of_module(alloc: Global, m: Module) -> Result<Answer, NoMemory>
+fn summary_of_module<R: Threads + Sync, P: Pass>(
+    rt: &R,
+    alloc: Global,
+    m: Module,
+    pass: &P,
+) -> Result<Answer, NoMemory>
     requires formed { Formed m }
     requires valid { Valid m }
     requires plain { CanInstrument m }
-    ensures { IfOk result (λ a. IsAnswerOfGen IsInstrumented true m a) }
+    ensures { IfOk result (λ a. IsAnswerOfGen P.gives true m a) }
 {
     let checked = CheckedModule::of_valid(alloc, m)?;
-    summarised(alloc, &checked)
+    summarised(rt, alloc, &checked, pass)
 }
 
 /// The summary of a module's run: the module is checked with no option given.
-pub fn summarised(alloc: Global, m: &CheckedModule) -> Result<Answer, NoMemory>
+pub fn summarised<R: Threads + Sync, P: Pass>(
+    rt: &R,
+    alloc: Global,
+    m: &CheckedModule,
+    pass: &P,
+) -> Result<Answer, NoMemory>
     requires { CanInstrument m.now }
-    ensures { IfOk result (λ a. IsAnswerOfGen IsInstrumented true m.now a) }
+    ensures { IfOk result (λ a. IsAnswerOfGen P.gives true m.now a) }
 {
     m.is_valid();
     let setup = default_setup(alloc)?;
-    let result = run_instrumented(alloc, m, &setup)?;
+    let result = run_given(rt, alloc, m, &setup, pass)?;
     summary_answer(alloc, m.module(), &result)
 }
 

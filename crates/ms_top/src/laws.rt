@@ -1,6 +1,6 @@
 //! What holds of answers.
 
-ghost use Rattle.std.specs.Prelude.{◌≡◌, ◌⊎◌, ℕ, true, false, ◌^◌, ◌<◌, ◌≤◌, List, [], ◌∷◌, All, length, Some, None};
+ghost use Rattle.std.specs.Prelude.{◌≡◌, ◌⊎◌, ℕ, true, false, ◌^◌, ◌<◌, ◌≤◌, List, [], ◌∷◌, All, length, map, Some, None};
 ghost use Rattle.ms_io.specs.Counts.{Rose};
 ghost use Rattle.ms_io.specs.Reading.{Holdings};
 ghost use Rattle.ms_ir.specs.declared.syntax.Module.{Module};
@@ -14,20 +14,20 @@ ghost use Rattle.ms_text_laws.specs.Fits.{FitsText};
 ghost use Rattle.ms_elision_laws.specs.Elided.{IsElided};
 ghost use Rattle.ms_top.specs.declared.answers.Answer.{Answer};
 ghost use Rattle.ms_words.specs.declared.commands.Command.{Command};
-ghost use Rattle.ms_words.specs.declared.commands.Command.TheVariants.{Instrument, Run, Check};
+ghost use Rattle.ms_words.specs.declared.commands.Command.TheVariants.{Instrument, Run, Check, Corpus};
 ghost use Rattle.ms_words.specs.declared.commands.Options.{Options};
 ghost use Rattle.ms_words.specs.Limits.{RunsWithinLimits};
 ghost use Rattle.ms_words.specs.Words.{defaults};
-ghost use Rattle.ms_top.specs.Command.{input_limit, setup_of};
+ghost use Rattle.ms_top.specs.Command.{input_limit, only_input, setup_of};
 ghost use Rattle.ms_top.specs.Files.{Counted};
 ghost use Rattle.ms_top.specs.Instrumented.{IsInstrumented};
-ghost use Rattle.ms_top.specs.Said.{IsAnswer, IsAnswerToCommand, IsAnswerOfGen, IsAnswerToText, IsAnswerToValid, DifferInPath, answer_of, answer_of_result, status_of, summary_of};
+ghost use Rattle.ms_top.specs.Said.{IsAnswer, IsAnswerToCommand, IsAnswerOfGen, IsAnswerToText, IsAnswerToValid, DifferInPath, answer_of, answer_of_result, answer_of_results, status_of, summary_of};
 
 /// What is to be said is one answer, but for want of memory, and for the path that shows that a use of a value isn't
 /// defined: of a module's text, and of commands and of words where the files are told and no fault of theirs was counted.
 pub fn one_answer()
-    ensures text { (command : Command) (input text : List ℕ) (a b : Answer)
-        → IsAnswerToText IsInstrumented command input text a → IsAnswerToText IsInstrumented command input text b → (a ≡ b) ⊎ DifferInPath a b }
+    ensures text { (command : Command) (inputs : List (List ℕ)) (text : List ℕ) (a b : Answer)
+        → IsAnswerToText IsInstrumented command inputs text a → IsAnswerToText IsInstrumented command inputs text b → (a ≡ b) ⊎ DifferInPath a b }
     ensures commands { (c : Counted) (files : Holdings) (command : Command) (a b : Answer) → c.told ≡ Some files → (Rose c.faults c.faults_after → ⊥)
         → IsAnswerToCommand IsInstrumented c command a → IsAnswerToCommand IsInstrumented c command b → (a ≡ b) ⊎ DifferInPath a b }
     ensures words { (c : Counted) (files : Holdings) (words : List (List ℕ)) (a b : Answer) → c.told ≡ Some files → (Rose c.faults c.faults_after → ⊥)
@@ -39,10 +39,14 @@ pub fn one_answer()
 /// the summary of its shadow run with the default options, whose setup is fair: no input, the fill a5, ten million steps, one
 /// report. A clean verdict, and a first report where no blind use was counted, hold under every fill.
 pub fn checks_show_the_shadow_run()
-    ensures shadow { (file input : List ℕ) (o : Options) (m : Module) (a : Answer) → Fair (setup_of o input)
-        → IsAnswerToValid IsInstrumented (Check file o) input m a → a ≡ answer_of_result true m (shadow m (setup_of o input)) }
-    ensures under_fills { (file input : List ℕ) (o : Options) (m : Module) (a : Answer) → Fair (setup_of o input)
-        → IsAnswerToValid IsInstrumented (Check file o) input m a → HoldsUnderFills m (setup_of o input) (shadow m (setup_of o input)) }
+    ensures shadow { (file : List ℕ) (inputs : List (List ℕ)) (o : Options) (m : Module) (a : Answer) → let s = setup_of o (only_input inputs) in Fair s
+        → IsAnswerToValid IsInstrumented (Check file o) inputs m a → a ≡ answer_of_result true m (shadow m s) }
+    ensures under_fills { (file : List ℕ) (inputs : List (List ℕ)) (o : Options) (m : Module) (a : Answer) → let s = setup_of o (only_input inputs) in Fair s
+        → IsAnswerToValid IsInstrumented (Check file o) inputs m a → HoldsUnderFills m s (shadow m s) }
+    ensures sections { (file : List ℕ) (names inputs : List (List ℕ)) (o : Options) (workers : ℕ) (m : Module) (a : Answer) → All (λ input. Fair (setup_of o input)) inputs
+        → IsAnswerToValid IsInstrumented (Corpus file names o workers) inputs m a → a ≡ answer_of_results m names (map (λ input. shadow m (setup_of o input)) inputs) }
+    ensures sections_under_fills { (file : List ℕ) (names inputs : List (List ℕ)) (o : Options) (workers : ℕ) (m : Module) (a : Answer)
+        → IsAnswerToValid IsInstrumented (Corpus file names o workers) inputs m a → (input : List ℕ) → Fair (setup_of o input) → HoldsUnderFills m (setup_of o input) (shadow m (setup_of o input)) }
     ensures summary { (m : Module) (a : Answer) → IsAnswerOfGen IsInstrumented true m a
         → let r = shadow m (setup_of defaults []) in a ≡ answer_of (status_of r) (summary_of m r) [] }
     ensures fair { (o : Options) (input : List ℕ) → RunsWithinLimits o → length input ≤ input_limit → All (λ b. b < 2 ^ 8) input → Fair (setup_of o input) }
@@ -54,9 +58,9 @@ pub fn checks_show_the_shadow_run()
 /// limits of its form, `run` says of it what `check` says of the module that was read, with the same options and input, but
 /// for the verdict.
 pub fn written_modules_run_alike()
-    ensures named { (file input : List ℕ) (m j : Module) (a : Answer) → IsAnswerToValid IsInstrumented (Instrument file) input m a
+    ensures named { (file : List ℕ) (inputs : List (List ℕ)) (m j : Module) (a : Answer) → IsAnswerToValid IsInstrumented (Instrument file) inputs m a
         → Formed j → a.out ≡ written j → IsInstrumented m j }
-    ensures alike { (file name input : List ℕ) (o : Options) (m i : Module) (a b c : Answer) → IsAnswerToValid IsInstrumented (Instrument file) [] m a
-        → IsElided m i → FitsText i → IsAnswerToText IsInstrumented (Run name o) input a.out b
-        → IsAnswerToValid IsInstrumented (Check name o) input m c → (r : RunResult) × (b ≡ answer_of_result false m r) × (c ≡ answer_of_result true m r) }
+    ensures alike { (file name : List ℕ) (inputs : List (List ℕ)) (o : Options) (m i : Module) (a b c : Answer) → IsAnswerToValid IsInstrumented (Instrument file) [] m a
+        → IsElided m i → FitsText i → IsAnswerToText IsInstrumented (Run name o) inputs a.out b
+        → IsAnswerToValid IsInstrumented (Check name o) inputs m c → (r : RunResult) × (b ≡ answer_of_result false m r) × (c ≡ answer_of_result true m r) }
 {}

@@ -3,11 +3,15 @@
 
 pub mod answers;
 mod commands;
+mod corpus;
 mod files;
 mod generated;
 pub mod laws;
+pub mod passes;
 mod pieces;
 mod top;
 
+pub use ms_fork::{Gate, OpenGate};
 pub use ms_words::{Command, Options};
+pub use passes::{Pass, PlainPass, RealPass};
 pub use top::{job, msan};

@@ -9,26 +9,31 @@ ghost use Rattle.ms_top.specs.Instrumented.{IsInstrumented};
 ghost use Rattle.ms_top.specs.Said.{IsSaid, IsPartlySaid, IsDone, IsPartlyDone, IsTold, IsPartlyTold, between};
 
 use crate::answers::Answer;
-use crate::files::{answer_to, answer_to_command};
+use crate::files::{answer_to_command, no_command};
+use crate::passes::{Pass, RealPass};
 use crate::pieces::say;
 use ms_bits::{NoMemory, Text};
+use ms_fork::{Gate, OpenGate};
 use ms_io::{Files, Sink};
-use ms_words::Command;
+use ms_words::{Command, read_words};
 use std::alloc::Global;
+use std::thread::Threads;
 
 /// The status where memory is wanting.
 const NO_MEMORY_STATUS: u8 = 8;
 
 /// Does what the words after the program's name ask for. `run` runs the module in a file, and `check` runs it with the
 /// shadow of each word: the output is written to `out`; each use of uninitialised bits that was found, and how the run
-/// ended, to `err`. `instrument` writes to `out` the text of the module that `check` runs, which `run` takes. `gen` writes
-/// a generated module to `out`, or the summary of its check.
+/// ended, to `err`. `corpus` does what `check` does for each of many inputs, and writes a section for each to `out`.
+/// `instrument` writes to `out` the text of the module that `check` runs, which `run` takes. `gen` writes
+/// a generated module to `out`, or the summary of its check. Threads are those of the runtime.
 ///
 /// The status is 77 for a run with a report, else 0 for one that is done, 3 for one that trapped and 4 for
-/// one whose steps were used up; 0 where a module is written. It is 2 where the words are no command, 5 where
+/// one whose steps were used up; of many runs 77, else 3, else 4 where one has it; 0 where a module is written. It is 2 where the words are no command, 5 where
 /// the module is refused, 6 where a file can't be read, 7 where a put failed, 8 where memory is wanting,
 /// 9 where a file is too long. All memory is taken before the first put. Words that are no command read no file.
-pub fn msan<F: Files, O: Sink, E: Sink>(
+pub fn msan<R: Threads + Sync, F: Files, O: Sink, E: Sink>(
+    rt: &R,
     alloc: Global,
     words: &[Text],
     files: &mut F,
@@ -49,23 +54,33 @@ pub fn msan<F: Files, O: Sink, E: Sink>(
     ensures err_faults_never_fall { E.faults err.old ≤ E.faults err.new }
     ensures unread { (fault : WordsError) → command_of words.now ≡ Err fault → files.new ≡ files.old }
 {
-    put_answer(answer_to(alloc, words, files), out, err)
+    match read_words(alloc, words) {
+        Ok(command) => {
+            let pass = RealPass::new(OpenGate);
+            job(rt, alloc, &command, files, out, err, &pass, &OpenGate)
+        }
+        Err(fault) => put_answer(no_command(alloc, fault), out, err),
+    }
 }
 
-/// Does what a command asks for, as `msan` does for words. The numbers of the command are within their limits, as those of
-/// words always are. The statuses are those of `msan`, but for 2.
-pub fn job<F: Files, O: Sink, E: Sink>(
+/// Does what a command asks for, as `msan` does for words, where the pass makes the module that is run, and each run on one
+/// of many inputs enters the gate. The numbers of the command are within their limits, as those of words always are. The
+/// statuses are those of `msan`, but for 2.
+pub fn job<R: Threads + Sync, F: Files, O: Sink, E: Sink, P: Pass, G: Gate + Sync>(
+    rt: &R,
     alloc: Global,
     command: &Command,
     files: &mut F,
     out: &mut O,
     err: &mut E,
+    pass: &P,
+    gate: &G,
 ) -> u8
     requires { IsWithinLimits command.now }
-    ensures said { result ≢ 7 → IsDone IsInstrumented
+    ensures said { result ≢ 7 → IsDone P.gives
         (counted (F.held files.old) (F.faults files.old) (F.faults files.new) (F.taken files.old) (F.taken files.new))
         (between (O.written out.old) (E.written err.old) (O.written out.new) (E.written err.new)) command.now result }
-    ensures partly_said { result ≡ 7 → IsPartlyDone IsInstrumented
+    ensures partly_said { result ≡ 7 → IsPartlyDone P.gives
         (counted (F.held files.old) (F.faults files.old) (F.faults files.new) (F.taken files.old) (F.taken files.new))
         (between (O.written out.old) (E.written err.old) (O.written out.new) (E.written err.new)) command.now }
     ensures failed { result ≡ 7 → Rose (O.faults out.old) (O.faults out.new) ⊎ Rose (E.faults err.old) (E.faults err.new) }
@@ -75,7 +90,11 @@ pub fn job<F: Files, O: Sink, E: Sink>(
     ensures out_faults_never_fall { O.faults out.old ≤ O.faults out.new }
     ensures err_faults_never_fall { E.faults err.old ≤ E.faults err.new }
 {
-    put_answer(answer_to_command(alloc, command, files), out, err)
+    put_answer(
+        answer_to_command(rt, alloc, command, files, pass, gate),
+        out,
+        err,
+    )
 }
 
 /// Writes an answer, or that memory is wanting, and answers its status.

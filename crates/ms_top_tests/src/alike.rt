@@ -4,10 +4,15 @@
 use crate::calls::{Case, Said, Wanted, said_of, says};
 use crate::modules::{Run, closing_begins, declared_text};
 use std::alloc::{AllocError, Global};
+use std::thread::Threads;
 
 /// The text that `instrument` writes; none where it says anything else.
-pub fn written_of(alloc: Global, text: &[u8]) -> Result<Option<Vec<u8>>, AllocError> {
-    let said = said_of(alloc, "instrument f", text)?;
+pub fn written_of<R: Threads + Sync>(
+    rt: &R,
+    alloc: Global,
+    text: &[u8],
+) -> Result<Option<Vec<u8>>, AllocError> {
+    let said = said_of(rt, alloc, "instrument f", text)?;
     if said.status == 0 && said.err.is_empty() {
         Ok(Some(said.out))
     } else {
@@ -16,11 +21,15 @@ pub fn written_of(alloc: Global, text: &[u8]) -> Result<Option<Vec<u8>>, AllocEr
 }
 
 /// What `run` says of what `instrument` writes; none where nothing is written.
-fn run_of_written(alloc: Global, text: &[u8]) -> Result<Option<Said>, AllocError> {
-    let Some(written) = written_of(alloc, text)? else {
+fn run_of_written<R: Threads + Sync>(
+    rt: &R,
+    alloc: Global,
+    text: &[u8],
+) -> Result<Option<Said>, AllocError> {
+    let Some(written) = written_of(rt, alloc, text)? else {
         return Ok(None);
     };
-    Ok(Some(said_of(alloc, "run f", &written)?))
+    Ok(Some(said_of(rt, alloc, "run f", &written)?))
 }
 
 /// Whether a line is that of a verdict.
@@ -40,23 +49,27 @@ fn says_all_but_the_verdict(said: &Said, checked: &Said) -> bool {
 }
 
 /// Whether a case of `check` is answered so, also where its module is first written with inserted code.
-fn case_agrees_twice(alloc: Global, case: &Case) -> Result<bool, AllocError> {
+fn case_agrees_twice<R: Threads + Sync>(
+    rt: &R,
+    alloc: Global,
+    case: &Case,
+) -> Result<bool, AllocError> {
     let wanted = Wanted {
         out: case.2.as_bytes(),
         err: case.3,
         status: case.4,
     };
-    let checked = said_of(alloc, "check f", case.1.as_bytes())?;
-    match run_of_written(alloc, case.1.as_bytes())? {
+    let checked = said_of(rt, alloc, "check f", case.1.as_bytes())?;
+    match run_of_written(rt, alloc, case.1.as_bytes())? {
         Some(said) => Ok(says(&checked, &wanted) && says_all_but_the_verdict(&said, &checked)),
         None => Ok(false),
     }
 }
 
 /// Whether each case is answered so both ways.
-pub fn all_agree_twice(alloc: Global, cases: &[Case]) -> bool {
+pub fn all_agree_twice<R: Threads + Sync>(rt: &R, alloc: Global, cases: &[Case]) -> bool {
     for case in cases {
-        if case_agrees_twice(alloc, case).ok() != Some(true) {
+        if case_agrees_twice(rt, alloc, case).ok() != Some(true) {
             return false;
         }
     }
@@ -73,10 +86,10 @@ fn is_undisturbed(alloc: Global, row: &Run, said: &Said) -> Result<bool, AllocEr
 }
 
 /// Whether a row's module is said the same of by `check`, and by `run` of what `instrument` writes.
-fn row_is_alike(alloc: Global, row: &Run) -> Result<bool, AllocError> {
+fn row_is_alike<R: Threads + Sync>(rt: &R, alloc: Global, row: &Run) -> Result<bool, AllocError> {
     let text = declared_text(alloc, row)?;
-    let checked = said_of(alloc, "check f", &text)?;
-    match run_of_written(alloc, &text)? {
+    let checked = said_of(rt, alloc, "check f", &text)?;
+    match run_of_written(rt, alloc, &text)? {
         Some(said) => Ok(
             says_all_but_the_verdict(&said, &checked) && is_undisturbed(alloc, row, &checked)?,
         ),
@@ -85,9 +98,9 @@ fn row_is_alike(alloc: Global, row: &Run) -> Result<bool, AllocError> {
 }
 
 /// Whether that holds of each row's module, and without a report each ends as the row says.
-pub fn all_alike(alloc: Global, rows: &[Run]) -> bool {
+pub fn all_alike<R: Threads + Sync>(rt: &R, alloc: Global, rows: &[Run]) -> bool {
     for row in rows {
-        if row_is_alike(alloc, row).ok() != Some(true) {
+        if row_is_alike(rt, alloc, row).ok() != Some(true) {
             return false;
         }
     }

@@ -4,6 +4,7 @@ use crate::calls::{Call, Wanted, agrees};
 use crate::modules::{Run, all_run, closing_of};
 use std::alloc::{AllocError, Global};
 use std::test::Fail;
+use std::thread::Threads;
 
 /// A module whose text has a piece so many times, how its run ends, and the status.
 struct Long(
@@ -212,7 +213,8 @@ static TYPES: [Run; 4] = [
     ),
 ];
 
-fn agrees_with(
+fn agrees_with<R: Threads + Sync>(
+    rt: &R,
     alloc: Global,
     call: &Call,
     out: &[u8],
@@ -225,10 +227,10 @@ fn agrees_with(
         err: err.as_str(),
         status,
     };
-    Ok(agrees(alloc, call, &wanted))
+    Ok(agrees(rt, alloc, call, &wanted))
 }
 
-fn long_runs(alloc: Global, row: &Long) -> Result<bool, AllocError> {
+fn long_runs<R: Threads + Sync>(rt: &R, alloc: Global, row: &Long) -> Result<bool, AllocError> {
     let call = Call {
         words: "run f",
         head: row.0,
@@ -239,19 +241,19 @@ fn long_runs(alloc: Global, row: &Long) -> Result<bool, AllocError> {
         failing_puts: &[],
         room: 1000,
     };
-    agrees_with(alloc, &call, b"", row.4, row.5)
+    agrees_with(rt, alloc, &call, b"", row.4, row.5)
 }
 
-fn all_long(alloc: Global, rows: &[Long]) -> bool {
+fn all_long<R: Threads + Sync>(rt: &R, alloc: Global, rows: &[Long]) -> bool {
     for row in rows {
-        if long_runs(alloc, row).ok() != Some(true) {
+        if long_runs(rt, alloc, row).ok() != Some(true) {
             return false;
         }
     }
     true
 }
 
-fn prints(alloc: Global, row: &Printing) -> Result<bool, AllocError> {
+fn prints<R: Threads + Sync>(rt: &R, alloc: Global, row: &Printing) -> Result<bool, AllocError> {
     let call = Call {
         words: "run f",
         head: "",
@@ -263,12 +265,12 @@ fn prints(alloc: Global, row: &Printing) -> Result<bool, AllocError> {
         room: 1000,
     };
     let out: Vec<u8> = vec![in alloc; b'A'; row.1]?;
-    agrees_with(alloc, &call, &out, row.2, row.3)
+    agrees_with(rt, alloc, &call, &out, row.2, row.3)
 }
 
-fn all_print(alloc: Global, rows: &[Printing]) -> bool {
+fn all_print<R: Threads + Sync>(rt: &R, alloc: Global, rows: &[Printing]) -> bool {
     for row in rows {
-        if prints(alloc, row).ok() != Some(true) {
+        if prints(rt, alloc, row).ok() != Some(true) {
             return false;
         }
     }
@@ -277,24 +279,24 @@ fn all_print(alloc: Global, rows: &[Printing]) -> bool {
 
 #[test]
 fn output_ends(rt: HostRuntime) -> Result<(), Fail> {
-    assert!(rt; all_print(rt.alloc(), &OUTPUTS));
+    assert!(rt; all_print(&rt, rt.alloc(), &OUTPUTS));
     Ok(())
 }
 
 #[test]
 fn long_texts_run(rt: HostRuntime) -> Result<(), Fail> {
-    assert!(rt; all_long(rt.alloc(), &TEXTS));
+    assert!(rt; all_long(&rt, rt.alloc(), &TEXTS));
     Ok(())
 }
 
 #[test]
 fn frames_and_blocks_end(rt: HostRuntime) -> Result<(), Fail> {
-    assert!(rt; all_run(rt.alloc(), &FRAMES));
+    assert!(rt; all_run(&rt, rt.alloc(), &FRAMES));
     Ok(())
 }
 
 #[test]
 fn named_types_grow(rt: HostRuntime) -> Result<(), Fail> {
-    assert!(rt; all_run(rt.alloc(), &TYPES));
+    assert!(rt; all_run(&rt, rt.alloc(), &TYPES));
     Ok(())
 }

@@ -304,54 +304,54 @@ static LIFETIMES: [Run; 7] = [
 
 #[test]
 fn bytes_are_copied(rt: HostRuntime) -> Result<(), Fail> {
-    assert!(rt; all_run(rt.alloc(), &COPIES));
+    assert!(rt; all_run(&rt, rt.alloc(), &COPIES));
     Ok(())
 }
 
 #[test]
 fn overlapping_bytes_are_copied_as_they_were(rt: HostRuntime) -> Result<(), Fail> {
-    assert!(rt; all_run(rt.alloc(), &OVERLAPS));
+    assert!(rt; all_run(&rt, rt.alloc(), &OVERLAPS));
     Ok(())
 }
 
 #[test]
 fn copies_reach_one_allocation(rt: HostRuntime) -> Result<(), Fail> {
-    assert!(rt; all_run(rt.alloc(), &BAD_COPIES));
+    assert!(rt; all_run(&rt, rt.alloc(), &BAD_COPIES));
     Ok(())
 }
 
 #[test]
 fn bytes_are_set(rt: HostRuntime) -> Result<(), Fail> {
-    assert!(rt; all_run(rt.alloc(), &SETS));
+    assert!(rt; all_run(&rt, rt.alloc(), &SETS));
     Ok(())
 }
 
 #[test]
 fn bytes_are_compared(rt: HostRuntime) -> Result<(), Fail> {
-    assert!(rt; all_run(rt.alloc(), &COMPARISONS));
+    assert!(rt; all_run(&rt, rt.alloc(), &COMPARISONS));
     Ok(())
 }
 
 #[test]
 fn strings_are_measured(rt: HostRuntime) -> Result<(), Fail> {
-    assert!(rt; all_run(rt.alloc(), &LENGTHS));
+    assert!(rt; all_run(&rt, rt.alloc(), &LENGTHS));
     Ok(())
 }
 
 #[test]
 fn lifetimes_unset_bytes(rt: HostRuntime) -> Result<(), Fail> {
-    assert!(rt; all_run(rt.alloc(), &LIFETIMES));
+    assert!(rt; all_run(&rt, rt.alloc(), &LIFETIMES));
     Ok(())
 }
 
 #[test]
 fn bytes_are_checked_as_they_are_run(rt: HostRuntime) -> Result<(), Fail> {
-    assert!(rt; all_alike(rt.alloc(), &COPIES));
-    assert!(rt; all_alike(rt.alloc(), &OVERLAPS));
-    assert!(rt; all_alike(rt.alloc(), &BAD_COPIES));
-    assert!(rt; all_alike(rt.alloc(), &SETS));
-    assert!(rt; all_alike(rt.alloc(), &COMPARISONS));
-    assert!(rt; all_alike(rt.alloc(), &LENGTHS));
-    assert!(rt; all_alike(rt.alloc(), &LIFETIMES));
+    assert!(rt; all_alike(&rt, rt.alloc(), &COPIES));
+    assert!(rt; all_alike(&rt, rt.alloc(), &OVERLAPS));
+    assert!(rt; all_alike(&rt, rt.alloc(), &BAD_COPIES));
+    assert!(rt; all_alike(&rt, rt.alloc(), &SETS));
+    assert!(rt; all_alike(&rt, rt.alloc(), &COMPARISONS));
+    assert!(rt; all_alike(&rt, rt.alloc(), &LENGTHS));
+    assert!(rt; all_alike(&rt, rt.alloc(), &LIFETIMES));
     Ok(())
 }

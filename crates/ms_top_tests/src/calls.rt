@@ -5,6 +5,7 @@ use ms_io::{MemFiles, MemSink};
 use ms_top::msan;
 use std::alloc::{AllocError, Global};
 use std::collections::BTreeMap;
+use std::thread::Threads;
 
 /// The words, the text of the file `f`, what is written to the output and to the standard error, and the status.
 #[derive(Clone, Copy)]
@@ -50,7 +51,7 @@ pub struct Said {
 const ROOM: usize = 1 << 20;
 
 /// The words of a line, which stand with a space between.
-fn words_of(alloc: Global, line: &str) -> Result<Vec<Text>, AllocError> {
+pub fn words_of(alloc: Global, line: &str) -> Result<Vec<Text>, AllocError> {
     let mut texts = Vec::new(alloc);
     for word in line.split_whitespace() {
         texts.push(Text::from_string(String::from_str(alloc, word)?))?;
@@ -118,7 +119,8 @@ pub fn sink_of(alloc: Global, failing: &[u64], room: usize) -> Result<MemSink, A
 }
 
 /// Whether a call on these ends writes and answers so.
-fn is_answered(
+pub fn is_answered<R: Threads + Sync>(
+    rt: &R,
     alloc: Global,
     words: &[Text],
     files: &mut MemFiles,
@@ -126,30 +128,51 @@ fn is_answered(
     err: &mut MemSink,
     wanted: &Wanted,
 ) -> bool {
-    let status = msan(alloc, words, files, out, err);
+    let status = msan(rt, alloc, words, files, out, err);
     status == wanted.status
         && out.as_slice() == wanted.out
         && err.as_slice() == wanted.err.as_bytes()
 }
 
-fn answer(alloc: Global, call: &Call, wanted: &Wanted) -> Result<bool, AllocError> {
+fn answer<R: Threads + Sync>(
+    rt: &R,
+    alloc: Global,
+    call: &Call,
+    wanted: &Wanted,
+) -> Result<bool, AllocError> {
     let words = words_of(alloc, call.words)?;
     let mut files = files_of(alloc, call)?;
     let mut out = sink_of(alloc, &[], wanted.out.len().saturating_add(100))?;
     let mut err = sink_of(alloc, call.failing_puts, call.room)?;
-    Ok(is_answered(alloc, &words, &mut files, &mut out, &mut err, wanted))
+    Ok(is_answered(rt, alloc, &words, &mut files, &mut out, &mut err, wanted))
 }
 
-/// What a call with these words says of the text `f`.
-pub fn said_of(alloc: Global, words: &str, text: &[u8]) -> Result<Said, AllocError> {
+/// What a call with these words says of the text `f`, to sinks of so many bytes.
+pub fn said_within<R: Threads + Sync>(
+    rt: &R,
+    alloc: Global,
+    words: &str,
+    text: &[u8],
+    room: usize,
+) -> Result<Said, AllocError> {
     let words = words_of(alloc, words)?;
     let mut files = holding(alloc, Vec::from_slice(alloc, text)?, &[])?;
-    let mut out = sink_of(alloc, &[], ROOM)?;
-    let mut err = sink_of(alloc, &[], ROOM)?;
-    let status = msan(alloc, &words, &mut files, &mut out, &mut err);
+    let mut out = sink_of(alloc, &[], room)?;
+    let mut err = sink_of(alloc, &[], room)?;
+    let status = msan(rt, alloc, &words, &mut files, &mut out, &mut err);
     let out = Vec::from_slice(alloc, out.as_slice())?;
     let err = Vec::from_slice(alloc, err.as_slice())?;
     Ok(Said { out, err, status })
+}
+
+/// What a call with these words says of the text `f`.
+pub fn said_of<R: Threads + Sync>(
+    rt: &R,
+    alloc: Global,
+    words: &str,
+    text: &[u8],
+) -> Result<Said, AllocError> {
+    said_within(rt, alloc, words, text, ROOM)
 }
 
 /// Whether this is what is wanted.
@@ -160,15 +183,15 @@ pub fn says(said: &Said, wanted: &Wanted) -> bool {
 }
 
 /// Whether a call writes and answers so.
-pub fn agrees(alloc: Global, call: &Call, wanted: &Wanted) -> bool {
-    match answer(alloc, call, wanted) {
+pub fn agrees<R: Threads + Sync>(rt: &R, alloc: Global, call: &Call, wanted: &Wanted) -> bool {
+    match answer(rt, alloc, call, wanted) {
         Ok(same) => same,
         Err(_) => false,
     }
 }
 
 /// Whether the call of a case writes and answers so.
-pub fn case_agrees(alloc: Global, case: &Case) -> bool {
+pub fn case_agrees<R: Threads + Sync>(rt: &R, alloc: Global, case: &Case) -> bool {
     let call = Call {
         words: case.0,
         head: case.1,
@@ -184,12 +207,12 @@ pub fn case_agrees(alloc: Global, case: &Case) -> bool {
         err: case.3,
         status: case.4,
     };
-    agrees(alloc, &call, &wanted)
+    agrees(rt, alloc, &call, &wanted)
 }
 
-pub fn all_agree(alloc: Global, cases: &[Case]) -> bool {
+pub fn all_agree<R: Threads + Sync>(rt: &R, alloc: Global, cases: &[Case]) -> bool {
     for case in cases {
-        if !case_agrees(alloc, case) {
+        if !case_agrees(rt, alloc, case) {
             return false;
         }
     }

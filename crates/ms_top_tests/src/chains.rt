@@ -96,12 +96,12 @@ static PAIRS: [Marked; 6] = [
 
 #[test]
 fn origins_lead_back_over_stores(rt: HostRuntime) -> Result<(), Fail> {
-    assert!(rt; all_agree(rt.alloc(), &CHAINS));
+    assert!(rt; all_agree(&rt, rt.alloc(), &CHAINS));
     Ok(())
 }
 
 #[test]
 fn equal_pairs_have_one_number(rt: HostRuntime) -> Result<(), Fail> {
-    assert!(rt; all_marked(rt.alloc(), &PAIRS));
+    assert!(rt; all_marked(&rt, rt.alloc(), &PAIRS));
     Ok(())
 }

@@ -5,6 +5,10 @@ use crate::alike::all_agree_twice;
 use crate::calls::Case;
 use std::test::Fail;
 
+/// A text as `clang -O0` writes it.
+pub const CLANG_UNOPTIMISED: &str =
+    "; ModuleID = 'a.c'\nsource_filename = \"a.c\"\ntarget triple = \"x86_64-unknown-linux-gnu\"\n@.str = private unnamed_addr constant [3 x i8] c\"ok\\00\", align 1\n; Function Attrs: noinline nounwind optnone uwtable\ndefine dso_local i32 @main() #0 {\n  %1 = alloca i32, align 4\n  %2 = alloca ptr, align 8\n  %3 = alloca i32, align 4\n  store i32 0, ptr %1, align 4\n  %4 = call noalias ptr @malloc(i64 noundef 16) #3\n  store ptr %4, ptr %2, align 8\n  store i32 0, ptr %3, align 4\n  br label %5\n\n5:                                                ; preds = %14, %0\n  %6 = load i32, ptr %3, align 4\n  %7 = icmp slt i32 %6, 4\n  br i1 %7, label %8, label %17\n\n8:                                                ; preds = %5\n  %9 = load i32, ptr %3, align 4\n  %10 = load ptr, ptr %2, align 8\n  %11 = load i32, ptr %3, align 4\n  %12 = sext i32 %11 to i64\n  %13 = getelementptr inbounds i32, ptr %10, i64 %12\n  store i32 %9, ptr %13, align 4\n  br label %14\n\n14:                                               ; preds = %8\n  %15 = load i32, ptr %3, align 4\n  %16 = add nsw i32 %15, 1\n  store i32 %16, ptr %3, align 4\n  br label %5, !llvm.loop !6\n\n17:                                               ; preds = %5\n  %18 = load ptr, ptr %2, align 8\n  %19 = getelementptr inbounds i32, ptr %18, i64 3\n  %20 = load i32, ptr %19, align 4\n  %21 = icmp eq i32 %20, 3\n  br i1 %21, label %22, label %24\n\n22:                                               ; preds = %17\n  %23 = call i32 @puts(ptr noundef @.str)\n  br label %24\n\n24:                                               ; preds = %22, %17\n  %25 = load ptr, ptr %2, align 8\n  call void @free(ptr noundef %25) #4\n  ret i32 0\n}\ndeclare noalias ptr @malloc(i64 noundef) #1\ndeclare i32 @puts(ptr noundef) #2\ndeclare void @free(ptr noundef) #1\nattributes #0 = { noinline nounwind optnone uwtable \"frame-pointer\"=\"all\" }\n!llvm.module.flags = !{!0}\n!0 = !{i32 1, !\"wchar_size\", i32 4}\n!6 = distinct !{!6, !7}\n!7 = !{!\"llvm.loop.mustprogress\"}\n";
+
 static COMPARISONS: [Case; 10] = [
     Case(
         "check f",
@@ -424,7 +428,7 @@ static OUTSIDE: [Case; 12] = [
     ),
     Case(
         "check f",
-        "; ModuleID = 'a.c'\nsource_filename = \"a.c\"\ntarget triple = \"x86_64-unknown-linux-gnu\"\n@.str = private unnamed_addr constant [3 x i8] c\"ok\\00\", align 1\n; Function Attrs: noinline nounwind optnone uwtable\ndefine dso_local i32 @main() #0 {\n  %1 = alloca i32, align 4\n  %2 = alloca ptr, align 8\n  %3 = alloca i32, align 4\n  store i32 0, ptr %1, align 4\n  %4 = call noalias ptr @malloc(i64 noundef 16) #3\n  store ptr %4, ptr %2, align 8\n  store i32 0, ptr %3, align 4\n  br label %5\n\n5:                                                ; preds = %14, %0\n  %6 = load i32, ptr %3, align 4\n  %7 = icmp slt i32 %6, 4\n  br i1 %7, label %8, label %17\n\n8:                                                ; preds = %5\n  %9 = load i32, ptr %3, align 4\n  %10 = load ptr, ptr %2, align 8\n  %11 = load i32, ptr %3, align 4\n  %12 = sext i32 %11 to i64\n  %13 = getelementptr inbounds i32, ptr %10, i64 %12\n  store i32 %9, ptr %13, align 4\n  br label %14\n\n14:                                               ; preds = %8\n  %15 = load i32, ptr %3, align 4\n  %16 = add nsw i32 %15, 1\n  store i32 %16, ptr %3, align 4\n  br label %5, !llvm.loop !6\n\n17:                                               ; preds = %5\n  %18 = load ptr, ptr %2, align 8\n  %19 = getelementptr inbounds i32, ptr %18, i64 3\n  %20 = load i32, ptr %19, align 4\n  %21 = icmp eq i32 %20, 3\n  br i1 %21, label %22, label %24\n\n22:                                               ; preds = %17\n  %23 = call i32 @puts(ptr noundef @.str)\n  br label %24\n\n24:                                               ; preds = %22, %17\n  %25 = load ptr, ptr %2, align 8\n  call void @free(ptr noundef %25) #4\n  ret i32 0\n}\ndeclare noalias ptr @malloc(i64 noundef) #1\ndeclare i32 @puts(ptr noundef) #2\ndeclare void @free(ptr noundef) #1\nattributes #0 = { noinline nounwind optnone uwtable \"frame-pointer\"=\"all\" }\n!llvm.module.flags = !{!0}\n!0 = !{i32 1, !\"wchar_size\", i32 4}\n!6 = distinct !{!6, !7}\n!7 = !{!\"llvm.loop.mustprogress\"}\n",
+        CLANG_UNOPTIMISED,
         "ok\n",
         "end: exit 0\nreports: 0\nblind: 0\nverdict: clean\n",
         0,
@@ -686,72 +690,72 @@ static TRAPS: [Case; 6] = [
 
 #[test]
 fn comparisons_are_poisoned_where_completions_differ(rt: HostRuntime) -> Result<(), Fail> {
-    assert!(rt; all_agree_twice(rt.alloc(), &COMPARISONS));
+    assert!(rt; all_agree_twice(&rt, rt.alloc(), &COMPARISONS));
     Ok(())
 }
 
 #[test]
 fn bits_are_poisoned_one_by_one(rt: HostRuntime) -> Result<(), Fail> {
-    assert!(rt; all_agree_twice(rt.alloc(), &BITS));
+    assert!(rt; all_agree_twice(&rt, rt.alloc(), &BITS));
     Ok(())
 }
 
 #[test]
 fn selections_take_what_is_chosen(rt: HostRuntime) -> Result<(), Fail> {
-    assert!(rt; all_agree_twice(rt.alloc(), &SELECTIONS));
+    assert!(rt; all_agree_twice(&rt, rt.alloc(), &SELECTIONS));
     Ok(())
 }
 
 #[test]
 fn shifts_move_poisoned_bits(rt: HostRuntime) -> Result<(), Fail> {
-    assert!(rt; all_agree_twice(rt.alloc(), &SHIFTS));
+    assert!(rt; all_agree_twice(&rt, rt.alloc(), &SHIFTS));
     Ok(())
 }
 
 #[test]
 fn phis_take_the_edge(rt: HostRuntime) -> Result<(), Fail> {
-    assert!(rt; all_agree_twice(rt.alloc(), &PHIS));
+    assert!(rt; all_agree_twice(&rt, rt.alloc(), &PHIS));
     Ok(())
 }
 
 #[test]
 fn memory_keeps_shadow_and_origins(rt: HostRuntime) -> Result<(), Fail> {
-    assert!(rt; all_agree_twice(rt.alloc(), &MEMORY));
+    assert!(rt; all_agree_twice(&rt, rt.alloc(), &MEMORY));
     Ok(())
 }
 
 #[test]
 fn calls_hand_masks_over(rt: HostRuntime) -> Result<(), Fail> {
-    assert!(rt; all_agree_twice(rt.alloc(), &CALLS));
+    assert!(rt; all_agree_twice(&rt, rt.alloc(), &CALLS));
     Ok(())
 }
 
 #[test]
 fn blocks_of_the_heap_are_poisoned(rt: HostRuntime) -> Result<(), Fail> {
-    assert!(rt; all_agree_twice(rt.alloc(), &HEAP));
+    assert!(rt; all_agree_twice(&rt, rt.alloc(), &HEAP));
     Ok(())
 }
 
 #[test]
 fn externals_check_their_bytes(rt: HostRuntime) -> Result<(), Fail> {
-    assert!(rt; all_agree_twice(rt.alloc(), &OUTSIDE));
+    assert!(rt; all_agree_twice(&rt, rt.alloc(), &OUTSIDE));
     Ok(())
 }
 
 #[test]
 fn each_kind_of_use_is_checked(rt: HostRuntime) -> Result<(), Fail> {
-    assert!(rt; all_agree_twice(rt.alloc(), &KINDS));
+    assert!(rt; all_agree_twice(&rt, rt.alloc(), &KINDS));
     Ok(())
 }
 
 #[test]
 fn blind_uses_are_counted(rt: HostRuntime) -> Result<(), Fail> {
-    assert!(rt; all_agree_twice(rt.alloc(), &BLIND));
+    assert!(rt; all_agree_twice(&rt, rt.alloc(), &BLIND));
     Ok(())
 }
 
 #[test]
 fn traps_have_no_report(rt: HostRuntime) -> Result<(), Fail> {
-    assert!(rt; all_agree_twice(rt.alloc(), &TRAPS));
+    assert!(rt; all_agree_twice(&rt, rt.alloc(), &TRAPS));
     Ok(())
 }

@@ -553,39 +553,39 @@ static STEPS: [Given; 16] = [
 
 #[test]
 fn calls_return(rt: HostRuntime) -> Result<(), Fail> {
-    assert!(rt; all_run(rt.alloc(), &CALLS));
+    assert!(rt; all_run(&rt, rt.alloc(), &CALLS));
     Ok(())
 }
 
 #[test]
 fn the_stack_is_taken_back(rt: HostRuntime) -> Result<(), Fail> {
-    assert!(rt; all_run(rt.alloc(), &STACKS));
+    assert!(rt; all_run(&rt, rt.alloc(), &STACKS));
     Ok(())
 }
 
 #[test]
 fn jumps_go_to_their_blocks(rt: HostRuntime) -> Result<(), Fail> {
-    assert!(rt; all_run(rt.alloc(), &JUMPS));
+    assert!(rt; all_run(&rt, rt.alloc(), &JUMPS));
     Ok(())
 }
 
 #[test]
 fn phis_read_at_once(rt: HostRuntime) -> Result<(), Fail> {
-    assert!(rt; all_run(rt.alloc(), &PHIS));
+    assert!(rt; all_run(&rt, rt.alloc(), &PHIS));
     Ok(())
 }
 
 #[test]
 fn steps_are_counted(rt: HostRuntime) -> Result<(), Fail> {
-    assert!(rt; all_given(rt.alloc(), &STEPS));
+    assert!(rt; all_given(&rt, rt.alloc(), &STEPS));
     Ok(())
 }
 
 #[test]
 fn control_is_checked_as_it_is_run(rt: HostRuntime) -> Result<(), Fail> {
-    assert!(rt; all_alike(rt.alloc(), &CALLS));
-    assert!(rt; all_alike(rt.alloc(), &STACKS));
-    assert!(rt; all_alike(rt.alloc(), &JUMPS));
-    assert!(rt; all_alike(rt.alloc(), &PHIS));
+    assert!(rt; all_alike(&rt, rt.alloc(), &CALLS));
+    assert!(rt; all_alike(&rt, rt.alloc(), &STACKS));
+    assert!(rt; all_alike(&rt, rt.alloc(), &JUMPS));
+    assert!(rt; all_alike(&rt, rt.alloc(), &PHIS));
     Ok(())
 }

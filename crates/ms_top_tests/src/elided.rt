@@ -75,6 +75,6 @@ static ROWS: [Checked; 5] = [
 
 #[test]
 fn clean_values_alone_are_left_out(rt: HostRuntime) -> Result<(), Fail> {
-    assert!(rt; all_checked(rt.alloc(), &ROWS));
+    assert!(rt; all_checked(&rt, rt.alloc(), &ROWS));
     Ok(())
 }

@@ -691,54 +691,54 @@ static INPUTS: [Checked; 7] = [
 
 #[test]
 fn blocks_begin_poisoned_or_clean(rt: HostRuntime) -> Result<(), Fail> {
-    assert!(rt; all_agree_twice(rt.alloc(), &BLOCKS));
+    assert!(rt; all_agree_twice(&rt, rt.alloc(), &BLOCKS));
     Ok(())
 }
 
 #[test]
 fn blocks_that_move_keep_their_shadow(rt: HostRuntime) -> Result<(), Fail> {
-    assert!(rt; all_agree_twice(rt.alloc(), &MOVED_BLOCKS));
+    assert!(rt; all_agree_twice(&rt, rt.alloc(), &MOVED_BLOCKS));
     Ok(())
 }
 
 #[test]
 fn copies_take_shadow_and_origins(rt: HostRuntime) -> Result<(), Fail> {
-    assert!(rt; all_agree_twice(rt.alloc(), &COPIES));
+    assert!(rt; all_agree_twice(&rt, rt.alloc(), &COPIES));
     Ok(())
 }
 
 #[test]
 fn bytes_that_are_set_have_the_mask_of_the_value(rt: HostRuntime) -> Result<(), Fail> {
-    assert!(rt; all_agree_twice(rt.alloc(), &SETS));
+    assert!(rt; all_agree_twice(&rt, rt.alloc(), &SETS));
     Ok(())
 }
 
 #[test]
 fn bytes_that_are_compared_are_checked(rt: HostRuntime) -> Result<(), Fail> {
-    assert!(rt; all_agree_twice(rt.alloc(), &COMPARED));
+    assert!(rt; all_agree_twice(&rt, rt.alloc(), &COMPARED));
     Ok(())
 }
 
 #[test]
 fn strings_are_checked_up_to_their_end(rt: HostRuntime) -> Result<(), Fail> {
-    assert!(rt; all_agree_twice(rt.alloc(), &STRINGS));
+    assert!(rt; all_agree_twice(&rt, rt.alloc(), &STRINGS));
     Ok(())
 }
 
 #[test]
 fn bytes_that_are_written_are_checked(rt: HostRuntime) -> Result<(), Fail> {
-    assert!(rt; all_agree_twice(rt.alloc(), &WRITTEN));
+    assert!(rt; all_agree_twice(&rt, rt.alloc(), &WRITTEN));
     Ok(())
 }
 
 #[test]
 fn lifetimes_begin_poisoned(rt: HostRuntime) -> Result<(), Fail> {
-    assert!(rt; all_agree_twice(rt.alloc(), &LIFETIMES));
+    assert!(rt; all_agree_twice(&rt, rt.alloc(), &LIFETIMES));
     Ok(())
 }
 
 #[test]
 fn bytes_of_the_input_are_clean(rt: HostRuntime) -> Result<(), Fail> {
-    assert!(rt; all_checked(rt.alloc(), &INPUTS));
+    assert!(rt; all_checked(&rt, rt.alloc(), &INPUTS));
     Ok(())
 }

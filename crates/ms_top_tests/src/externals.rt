@@ -566,36 +566,36 @@ static ORDER: [Checked; 8] = [
 
 #[test]
 fn arguments_about_blocks_are_checked(rt: HostRuntime) -> Result<(), Fail> {
-    assert!(rt; all_agree_twice(rt.alloc(), &BLOCKS));
+    assert!(rt; all_agree_twice(&rt, rt.alloc(), &BLOCKS));
     Ok(())
 }
 
 #[test]
 fn arguments_of_copies_are_checked(rt: HostRuntime) -> Result<(), Fail> {
-    assert!(rt; all_agree_twice(rt.alloc(), &COPIES));
+    assert!(rt; all_agree_twice(&rt, rt.alloc(), &COPIES));
     Ok(())
 }
 
 #[test]
 fn arguments_about_bytes_are_checked(rt: HostRuntime) -> Result<(), Fail> {
-    assert!(rt; all_agree_twice(rt.alloc(), &BYTES));
+    assert!(rt; all_agree_twice(&rt, rt.alloc(), &BYTES));
     Ok(())
 }
 
 #[test]
 fn arguments_about_input_and_output_are_checked(rt: HostRuntime) -> Result<(), Fail> {
-    assert!(rt; all_agree_twice(rt.alloc(), &STREAMS));
+    assert!(rt; all_agree_twice(&rt, rt.alloc(), &STREAMS));
     Ok(())
 }
 
 #[test]
 fn arguments_about_ends_are_checked(rt: HostRuntime) -> Result<(), Fail> {
-    assert!(rt; all_agree_twice(rt.alloc(), &ENDS));
+    assert!(rt; all_agree_twice(&rt, rt.alloc(), &ENDS));
     Ok(())
 }
 
 #[test]
 fn checks_come_in_their_order(rt: HostRuntime) -> Result<(), Fail> {
-    assert!(rt; all_checked(rt.alloc(), &ORDER));
+    assert!(rt; all_checked(&rt, rt.alloc(), &ORDER));
     Ok(())
 }

@@ -1,80 +1,584 @@
-//! Files and sinks that fail.
+//! Files and sinks that fail, files that are too long, and which of several faults is said.
 
-use crate::calls::{Call, Wanted, agrees};
-use std::alloc::Global;
+use crate::calls::{Wanted, is_answered, sink_of, words_of};
+use ms_io::MemFiles;
+use std::alloc::{AllocError, Global};
+use std::collections::BTreeMap;
 use std::test::Fail;
+use std::thread::Threads;
+
+const RETURNS: &str = "define i32 @main() {\n  ret i32 0\n}\n";
 
 const STORED: &str =
     "define i32 @main() {\n  %1 = alloca i32\n  store i32 12, ptr %1\n  %2 = load i32, ptr %1\n  %3 = xor i32 %2, 10\n  ret i32 %3\n}\n";
 
-/// The words, the numbers of the reads and of the puts that fail, the bytes that the standard error takes, what is written
-/// to it, and the status.
+/// Writes four bytes, of which the third is unset, behind one that is printed.
+const WITH_GAP: &str =
+    "define i32 @main() {\n  %1 = alloca [4 x i8]\n  %2 = call i32 @putchar(i32 62)\n  %3 = call ptr @memset(ptr %1, i32 65, i64 2)\n  %4 = getelementptr i8, ptr %1, i64 3\n  store i8 66, ptr %4\n  %5 = call i64 @write(i32 1, ptr %1, i64 4)\n  ret i32 0\n}\ndeclare i32 @putchar(i32)\ndeclare ptr @memset(ptr, i32, i64)\ndeclare i64 @write(i32, ptr, i64)\n";
+
+const BAD_BYTE: &str = "?";
+
+/// Prints the letter A two times 65536 times and once more.
+const PRINTS: &str =
+    "@g = global [131073 x i8] zeroinitializer\ndefine i32 @main() {\n  %1 = call ptr @memset(ptr @g, i32 65, i64 131073)\n  %2 = call i64 @write(i32 1, ptr @g, i64 131073)\n  ret i32 0\n}\ndeclare ptr @memset(ptr, i32, i64)\ndeclare i64 @write(i32, ptr, i64)\n";
+
+/// A sink: the numbers of its puts that fail, and the bytes that fit.
+#[derive(Clone, Copy)]
+struct Taking(&'static [u64], usize);
+
+/// Takes all that is put.
+const ALL: Taking = Taking(&[], 1000);
+
+/// The words, the text of the file `f`, the number of bytes of the file `a`, the numbers of the reads that fail, the output and
+/// the standard error, what is written to each, and the status. The file `b` is empty, and there is no other.
 struct Failing(
     &'static str,
-    &'static [u64],
-    &'static [u64],
+    &'static str,
     usize,
+    &'static [u64],
+    Taking,
+    Taking,
+    &'static str,
     &'static str,
     u8,
 );
 
-static FAULTS: [Failing; 9] = [
+/// The numbers of the puts to the output that fail, how many bytes of `PRINTS` are written then, what is said, and the status.
+struct Piece(&'static [u64], usize, &'static str, u8);
+
+static READS: [Failing; 12] = [
+    Failing("run f", STORED, 0, &[0], ALL, ALL, "", "file fault: f\n", 6),
     Failing(
-        "run f",
-        &[],
-        &[],
-        1000,
-        "end: exit 6\nreports: 0\nblind: 0\n",
+        "check f",
+        STORED,
         0,
+        &[0],
+        ALL,
+        ALL,
+        "",
+        "file fault: f\n",
+        6,
     ),
-    Failing("run f", &[0], &[], 1000, "file fault: f\n", 6),
-    Failing("check f", &[0], &[], 1000, "file fault: f\n", 6),
-    Failing("instrument f", &[0], &[], 1000, "file fault: f\n", 6),
-    // No second read is made.
     Failing(
-        "run f",
+        "instrument f",
+        STORED,
+        0,
+        &[0],
+        ALL,
+        ALL,
+        "",
+        "file fault: f\n",
+        6,
+    ),
+    Failing(
+        "corpus f a b",
+        RETURNS,
+        0,
+        &[0],
+        ALL,
+        ALL,
+        "",
+        "file fault: f\n",
+        6,
+    ),
+    Failing(
+        "run --input a f",
+        STORED,
+        0,
         &[1],
-        &[],
-        1000,
+        ALL,
+        ALL,
+        "",
+        "file fault: a\n",
+        6,
+    ),
+    Failing(
+        "check --input a f",
+        STORED,
+        0,
+        &[1],
+        ALL,
+        ALL,
+        "",
+        "file fault: a\n",
+        6,
+    ),
+    Failing(
+        "corpus f a b",
+        RETURNS,
+        0,
+        &[1],
+        ALL,
+        ALL,
+        "",
+        "file fault: a\n",
+        6,
+    ),
+    Failing(
+        "corpus f a b",
+        RETURNS,
+        0,
+        &[2],
+        ALL,
+        ALL,
+        "",
+        "file fault: b\n",
+        6,
+    ),
+    // No further read is made.
+    Failing(
+        "run f",
+        STORED,
+        0,
+        &[1],
+        ALL,
+        ALL,
+        "",
         "end: exit 6\nreports: 0\nblind: 0\n",
         0,
     ),
-    Failing("run f", &[], &[0], 1000, "", 7),
-    Failing("check f", &[], &[0], 1000, "", 7),
-    // A part is written, and then all but the last byte.
-    Failing("run f", &[], &[], 4, "end:", 7),
     Failing(
-        "run f",
-        &[],
-        &[],
-        31,
-        "end: exit 6\nreports: 0\nblind: 0",
-        7,
+        "corpus f a b",
+        RETURNS,
+        0,
+        &[3],
+        ALL,
+        ALL,
+        "input 1, 0 bytes: a\n\nend: exit 0\nreports: 0\nblind: 0\nverdict: clean\ninput 2, 0 bytes: b\n\nend: exit 0\nreports: 0\nblind: 0\nverdict: clean\n",
+        "",
+        0,
+    ),
+    // No file is read.
+    Failing(
+        "gen --seed 7 --functions 1 --run",
+        RETURNS,
+        0,
+        &[0],
+        ALL,
+        ALL,
+        "functions: 2\nsites: 15\noutput: 1 bytes\nend: exit 0\nreports: 0\nblind: 0\nverdict: clean\n",
+        "",
+        0,
+    ),
+    Failing(
+        "check",
+        RETURNS,
+        0,
+        &[0],
+        ALL,
+        ALL,
+        "",
+        "words: MissingFile at 1\n",
+        2,
     ),
 ];
 
-fn failing_agrees(alloc: Global, case: &Failing) -> bool {
-    let call = Call {
-        words: case.0,
-        head: STORED,
-        piece: "",
-        times: 0,
-        tail: "",
-        failing_reads: case.1,
-        failing_puts: case.2,
-        room: case.3,
-    };
-    let wanted = Wanted {
-        out: b"",
-        err: case.4,
-        status: case.5,
-    };
-    agrees(alloc, &call, &wanted)
+static LONG_AND_UNHELD: [Failing; 12] = [
+    Failing(
+        "corpus g a",
+        RETURNS,
+        0,
+        &[],
+        ALL,
+        ALL,
+        "",
+        "file fault: g\n",
+        6,
+    ),
+    Failing(
+        "corpus f c b",
+        RETURNS,
+        0,
+        &[],
+        ALL,
+        ALL,
+        "",
+        "file fault: c\n",
+        6,
+    ),
+    Failing(
+        "run --input c f",
+        RETURNS,
+        0,
+        &[],
+        ALL,
+        ALL,
+        "",
+        "file fault: c\n",
+        6,
+    ),
+    Failing(
+        "corpus f a",
+        RETURNS,
+        1048577,
+        &[],
+        ALL,
+        ALL,
+        "",
+        "file too long: a\n",
+        9,
+    ),
+    Failing(
+        "run --input a f",
+        RETURNS,
+        1048577,
+        &[],
+        ALL,
+        ALL,
+        "",
+        "file too long: a\n",
+        9,
+    ),
+    Failing(
+        "check --input a f",
+        RETURNS,
+        1048577,
+        &[],
+        ALL,
+        ALL,
+        "",
+        "file too long: a\n",
+        9,
+    ),
+    Failing(
+        "corpus f a",
+        RETURNS,
+        1048576,
+        &[],
+        ALL,
+        ALL,
+        "input 1, 0 bytes: a\n\nend: exit 0\nreports: 0\nblind: 0\nverdict: clean\n",
+        "",
+        0,
+    ),
+    // The first fault is said.
+    Failing(
+        "corpus f a c",
+        RETURNS,
+        1048577,
+        &[],
+        ALL,
+        ALL,
+        "",
+        "file too long: a\n",
+        9,
+    ),
+    Failing(
+        "corpus f c a",
+        RETURNS,
+        1048577,
+        &[],
+        ALL,
+        ALL,
+        "",
+        "file fault: c\n",
+        6,
+    ),
+    Failing(
+        "corpus f b a",
+        RETURNS,
+        1048577,
+        &[1],
+        ALL,
+        ALL,
+        "",
+        "file fault: b\n",
+        6,
+    ),
+    // All files are read before the text is.
+    Failing(
+        "check --input c f",
+        BAD_BYTE,
+        0,
+        &[],
+        ALL,
+        ALL,
+        "",
+        "file fault: c\n",
+        6,
+    ),
+    Failing(
+        "corpus f a",
+        BAD_BYTE,
+        0,
+        &[],
+        ALL,
+        ALL,
+        "",
+        "refused 1: bad byte at 0\n",
+        5,
+    ),
+];
+
+static SINKS: [Failing; 22] = [
+    Failing("check f", WITH_GAP, 0, &[], Taking(&[], 0), ALL, "", "", 7),
+    Failing(
+        "check f",
+        WITH_GAP,
+        0,
+        &[],
+        Taking(&[0], 1000),
+        ALL,
+        "",
+        "",
+        7,
+    ),
+    // The output stands before anything is said of it.
+    Failing(
+        "check f",
+        WITH_GAP,
+        0,
+        &[],
+        ALL,
+        Taking(&[0], 1000),
+        ">",
+        "",
+        7,
+    ),
+    Failing(
+        "check f",
+        WITH_GAP,
+        0,
+        &[],
+        ALL,
+        Taking(&[], 15),
+        ">",
+        "report 1: outpu",
+        7,
+    ),
+    Failing(
+        "instrument f",
+        RETURNS,
+        0,
+        &[],
+        Taking(&[0], 1000),
+        ALL,
+        "",
+        "",
+        7,
+    ),
+    Failing(
+        "instrument f",
+        RETURNS,
+        0,
+        &[],
+        Taking(&[], 9),
+        ALL,
+        "@__msan_p",
+        "",
+        7,
+    ),
+    Failing(
+        "corpus f a",
+        RETURNS,
+        0,
+        &[],
+        Taking(&[0], 1000),
+        ALL,
+        "",
+        "",
+        7,
+    ),
+    Failing(
+        "corpus f a b",
+        RETURNS,
+        0,
+        &[],
+        Taking(&[], 75),
+        ALL,
+        "input 1, 0 bytes: a\n\nend: exit 0\nreports: 0\nblind: 0\nverdict: clean\ninput 2",
+        "",
+        7,
+    ),
+    Failing(
+        "gen --seed 7 --functions 1",
+        RETURNS,
+        0,
+        &[],
+        Taking(&[], 9),
+        ALL,
+        "declare i",
+        "",
+        7,
+    ),
+    Failing(
+        "gen --seed 7 --functions 1 --run",
+        RETURNS,
+        0,
+        &[],
+        Taking(&[], 12),
+        ALL,
+        "functions: 2",
+        "",
+        7,
+    ),
+    Failing(
+        "check f",
+        RETURNS,
+        0,
+        &[],
+        ALL,
+        Taking(&[], 4),
+        "",
+        "end:",
+        7,
+    ),
+    Failing(
+        "check f",
+        RETURNS,
+        0,
+        &[],
+        ALL,
+        Taking(&[0], 1000),
+        "",
+        "",
+        7,
+    ),
+    Failing("run f", STORED, 0, &[], ALL, Taking(&[0], 1000), "", "", 7),
+    Failing("run f", STORED, 0, &[], ALL, Taking(&[], 4), "", "end:", 7),
+    // All but the last byte is written, and then all.
+    Failing(
+        "run f",
+        STORED,
+        0,
+        &[],
+        ALL,
+        Taking(&[], 31),
+        "",
+        "end: exit 6\nreports: 0\nblind: 0",
+        7,
+    ),
+    Failing(
+        "run f",
+        STORED,
+        0,
+        &[],
+        ALL,
+        Taking(&[1], 32),
+        "",
+        "end: exit 6\nreports: 0\nblind: 0\n",
+        0,
+    ),
+    // A line that says why nothing is done.
+    Failing("check", RETURNS, 0, &[], ALL, Taking(&[0], 1000), "", "", 7),
+    Failing(
+        "check f",
+        BAD_BYTE,
+        0,
+        &[],
+        ALL,
+        Taking(&[0], 1000),
+        "",
+        "",
+        7,
+    ),
+    Failing("run g", RETURNS, 0, &[], ALL, Taking(&[0], 1000), "", "", 7),
+    Failing(
+        "run g",
+        RETURNS,
+        0,
+        &[],
+        ALL,
+        Taking(&[], 13),
+        "",
+        "file fault: g",
+        7,
+    ),
+    Failing(
+        "corpus f a",
+        RETURNS,
+        1048577,
+        &[],
+        ALL,
+        Taking(&[], 5),
+        "",
+        "file ",
+        7,
+    ),
+    // Nothing is put to the output.
+    Failing(
+        "run g",
+        RETURNS,
+        0,
+        &[],
+        Taking(&[0], 0),
+        ALL,
+        "",
+        "file fault: g\n",
+        6,
+    ),
+];
+
+// A text is put in pieces of at most 65536 bytes, and behind one that fails nothing is put.
+static PIECES: [Piece; 4] = [
+    Piece(&[0], 0, "", 7),
+    Piece(&[1], 65536, "", 7),
+    Piece(&[2], 131072, "", 7),
+    Piece(&[3], 131073, "end: exit 0\nreports: 0\nblind: 0\n", 0),
+];
+
+/// Files that hold a text as `f`, so many bytes as `a`, and nothing as `b`.
+fn held_of(
+    alloc: Global,
+    text: &str,
+    count: usize,
+) -> Result<BTreeMap<String, Vec<u8>>, AllocError> {
+    let mut held = BTreeMap::new(alloc);
+    held.insert(
+        String::from_str(alloc, "f")?,
+        Vec::from_slice(alloc, text.as_bytes())?,
+    )?;
+    held.insert(String::from_str(alloc, "a")?, vec![in alloc; b'x'; count]?)?;
+    held.insert(String::from_str(alloc, "b")?, Vec::new(alloc))?;
+    Ok(held)
 }
 
-fn all_agree(alloc: Global, cases: &[Failing]) -> bool {
-    for case in cases {
-        if !failing_agrees(alloc, case) {
+fn files_of(alloc: Global, row: &Failing) -> Result<MemFiles, AllocError> {
+    let held = held_of(alloc, row.1, row.2)?;
+    Ok(MemFiles::new(held, Vec::from_slice(alloc, row.3)?))
+}
+
+/// Whether a row's call writes and answers so.
+fn row_agrees<R: Threads + Sync>(rt: &R, alloc: Global, row: &Failing) -> Result<bool, AllocError> {
+    let wanted = Wanted {
+        out: row.6.as_bytes(),
+        err: row.7,
+        status: row.8,
+    };
+    let words = words_of(alloc, row.0)?;
+    let mut files = files_of(alloc, row)?;
+    let mut out = sink_of(alloc, row.4.0, row.4.1)?;
+    let mut err = sink_of(alloc, row.5.0, row.5.1)?;
+    Ok(is_answered(rt, alloc, &words, &mut files, &mut out, &mut err, &wanted))
+}
+
+fn all_agree<R: Threads + Sync>(rt: &R, alloc: Global, rows: &[Failing]) -> bool {
+    for row in rows {
+        if row_agrees(rt, alloc, row).ok() != Some(true) {
+            return false;
+        }
+    }
+    true
+}
+
+/// Whether that much of a long output is written.
+fn piece_agrees<R: Threads + Sync>(rt: &R, alloc: Global, row: &Piece) -> Result<bool, AllocError> {
+    let printed: Vec<u8> = vec![in alloc; b'A'; row.1]?;
+    let wanted = Wanted {
+        out: &printed,
+        err: row.2,
+        status: row.3,
+    };
+    let words = words_of(alloc, "run f")?;
+    let mut files = MemFiles::new(held_of(alloc, PRINTS, 0)?, Vec::new(alloc));
+    let mut out = sink_of(alloc, row.0, 140000)?;
+    let mut err = sink_of(alloc, &[], 1000)?;
+    Ok(is_answered(rt, alloc, &words, &mut files, &mut out, &mut err, &wanted))
+}
+
+fn all_pieces_agree<R: Threads + Sync>(rt: &R, alloc: Global, rows: &[Piece]) -> bool {
+    for row in rows {
+        if piece_agrees(rt, alloc, row).ok() != Some(true) {
             return false;
         }
     }
@@ -82,7 +586,25 @@ fn all_agree(alloc: Global, cases: &[Failing]) -> bool {
 }
 
 #[test]
-fn faults_have_their_own_statuses(rt: HostRuntime) -> Result<(), Fail> {
-    assert!(rt; all_agree(rt.alloc(), &FAULTS));
+fn reads_that_fail_are_said(rt: HostRuntime) -> Result<(), Fail> {
+    assert!(rt; all_agree(&rt, rt.alloc(), &READS));
+    Ok(())
+}
+
+#[test]
+fn the_first_file_at_fault_is_said(rt: HostRuntime) -> Result<(), Fail> {
+    assert!(rt; all_agree(&rt, rt.alloc(), &LONG_AND_UNHELD));
+    Ok(())
+}
+
+#[test]
+fn behind_a_failed_put_nothing_is_put(rt: HostRuntime) -> Result<(), Fail> {
+    assert!(rt; all_agree(&rt, rt.alloc(), &SINKS));
+    Ok(())
+}
+
+#[test]
+fn long_texts_are_put_in_pieces(rt: HostRuntime) -> Result<(), Fail> {
+    assert!(rt; all_pieces_agree(&rt, rt.alloc(), &PIECES));
     Ok(())
 }

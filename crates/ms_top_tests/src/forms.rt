@@ -3,6 +3,7 @@
 use crate::calls::{Case, Wanted, all_agree, case_agrees, said_of, says};
 use std::alloc::{AllocError, Global};
 use std::test::Fail;
+use std::thread::Threads;
 
 static SPELLINGS: [Case; 12] = [
     Case(
@@ -164,25 +165,29 @@ static BEYOND: [Beyond; 13] = [
 #[derive(Clone, Copy)]
 struct Beyond(&'static str, &'static str, u8);
 
-fn is_checked_clean(alloc: Global, row: &Beyond) -> Result<bool, AllocError> {
+fn is_checked_clean<R: Threads + Sync>(
+    rt: &R,
+    alloc: Global,
+    row: &Beyond,
+) -> Result<bool, AllocError> {
     let lines = format!(in alloc; "{}verdict: clean\n", row.1)?;
     let wanted = Wanted {
         out: b"",
         err: lines.as_str(),
         status: row.2,
     };
-    let said = said_of(alloc, "check f", row.0.as_bytes())?;
+    let said = said_of(rt, alloc, "check f", row.0.as_bytes())?;
     Ok(says(&said, &wanted))
 }
 
-fn is_alike(alloc: Global, row: &Beyond) -> bool {
-    case_agrees(alloc, &Case("run f", row.0, "", row.1, row.2))
-        && is_checked_clean(alloc, row).ok() == Some(true)
+fn is_alike<R: Threads + Sync>(rt: &R, alloc: Global, row: &Beyond) -> bool {
+    case_agrees(rt, alloc, &Case("run f", row.0, "", row.1, row.2))
+        && is_checked_clean(rt, alloc, row).ok() == Some(true)
 }
 
-fn all_are_alike(alloc: Global, rows: &[Beyond]) -> bool {
+fn all_are_alike<R: Threads + Sync>(rt: &R, alloc: Global, rows: &[Beyond]) -> bool {
     for row in rows {
-        if !is_alike(alloc, row) {
+        if !is_alike(rt, alloc, row) {
             return false;
         }
     }
@@ -191,12 +196,12 @@ fn all_are_alike(alloc: Global, rows: &[Beyond]) -> bool {
 
 #[test]
 fn other_spellings_run(rt: HostRuntime) -> Result<(), Fail> {
-    assert!(rt; all_agree(rt.alloc(), &SPELLINGS));
+    assert!(rt; all_agree(&rt, rt.alloc(), &SPELLINGS));
     Ok(())
 }
 
 #[test]
 fn other_modules_run_and_are_checked(rt: HostRuntime) -> Result<(), Fail> {
-    assert!(rt; all_are_alike(rt.alloc(), &BEYOND));
+    assert!(rt; all_are_alike(&rt, rt.alloc(), &BEYOND));
     Ok(())
 }

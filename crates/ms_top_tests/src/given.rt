@@ -225,24 +225,24 @@ static REPORTS: [Checked; 3] = [
 
 #[test]
 fn bytes_that_are_read_are_clean(rt: HostRuntime) -> Result<(), Fail> {
-    assert!(rt; all_checked(rt.alloc(), &INPUTS));
+    assert!(rt; all_checked(&rt, rt.alloc(), &INPUTS));
     Ok(())
 }
 
 #[test]
 fn fills_change_values_and_no_masks(rt: HostRuntime) -> Result<(), Fail> {
-    assert!(rt; all_checked(rt.alloc(), &FILLS));
+    assert!(rt; all_checked(&rt, rt.alloc(), &FILLS));
     Ok(())
 }
 
 #[test]
 fn inserted_code_is_no_step(rt: HostRuntime) -> Result<(), Fail> {
-    assert!(rt; all_checked(rt.alloc(), &STEPS));
+    assert!(rt; all_checked(&rt, rt.alloc(), &STEPS));
     Ok(())
 }
 
 #[test]
 fn a_run_ends_with_its_last_report(rt: HostRuntime) -> Result<(), Fail> {
-    assert!(rt; all_checked(rt.alloc(), &REPORTS));
+    assert!(rt; all_checked(&rt, rt.alloc(), &REPORTS));
     Ok(())
 }

@@ -285,33 +285,33 @@ static FREE: [Run; 10] = [
 
 #[test]
 fn malloc_makes_blocks(rt: HostRuntime) -> Result<(), Fail> {
-    assert!(rt; all_run(rt.alloc(), &MALLOC));
+    assert!(rt; all_run(&rt, rt.alloc(), &MALLOC));
     Ok(())
 }
 
 #[test]
 fn calloc_makes_zero_bytes(rt: HostRuntime) -> Result<(), Fail> {
-    assert!(rt; all_run(rt.alloc(), &CALLOC));
+    assert!(rt; all_run(&rt, rt.alloc(), &CALLOC));
     Ok(())
 }
 
 #[test]
 fn realloc_moves_blocks(rt: HostRuntime) -> Result<(), Fail> {
-    assert!(rt; all_run(rt.alloc(), &REALLOC));
+    assert!(rt; all_run(&rt, rt.alloc(), &REALLOC));
     Ok(())
 }
 
 #[test]
 fn free_ends_blocks(rt: HostRuntime) -> Result<(), Fail> {
-    assert!(rt; all_run(rt.alloc(), &FREE));
+    assert!(rt; all_run(&rt, rt.alloc(), &FREE));
     Ok(())
 }
 
 #[test]
 fn the_heap_is_checked_as_it_is_run(rt: HostRuntime) -> Result<(), Fail> {
-    assert!(rt; all_alike(rt.alloc(), &MALLOC));
-    assert!(rt; all_alike(rt.alloc(), &CALLOC));
-    assert!(rt; all_alike(rt.alloc(), &REALLOC));
-    assert!(rt; all_alike(rt.alloc(), &FREE));
+    assert!(rt; all_alike(&rt, rt.alloc(), &MALLOC));
+    assert!(rt; all_alike(&rt, rt.alloc(), &CALLOC));
+    assert!(rt; all_alike(&rt, rt.alloc(), &REALLOC));
+    assert!(rt; all_alike(&rt, rt.alloc(), &FREE));
     Ok(())
 }

@@ -16,6 +16,8 @@ mod checks;
 #[cfg(test)]
 mod control;
 #[cfg(test)]
+mod corpus;
+#[cfg(test)]
 mod elided;
 #[cfg(test)]
 mod external_bytes;
@@ -30,11 +32,15 @@ mod given;
 #[cfg(test)]
 mod heap;
 #[cfg(test)]
+mod hostile;
+#[cfg(test)]
 mod limits;
 #[cfg(test)]
 mod listings;
 #[cfg(test)]
 mod marked;
+#[cfg(test)]
+mod meetings;
 #[cfg(test)]
 mod memory;
 #[cfg(test)]
@@ -43,6 +49,8 @@ mod modules;
 mod options;
 #[cfg(test)]
 mod outside;
+#[cfg(test)]
+mod passes;
 #[cfg(test)]
 mod refusals;
 #[cfg(test)]

@@ -3,6 +3,7 @@
 use crate::calls::{Call, Wanted, agrees};
 use std::alloc::Global;
 use std::test::Fail;
+use std::thread::Threads;
 
 /// The words, the pieces of the file, of which the second stands so many times, what is written to the standard error, and
 /// the status.
@@ -92,7 +93,7 @@ static LIMITS: [Long; 8] = [
 ];
 
 // The plain form is short, and the instrumented one is long.
-static FORMS: [Long; 7] = [
+static FORMS: [Long; 9] = [
     Long(
         "check f",
         "",
@@ -130,6 +131,9 @@ static FORMS: [Long; 7] = [
         "file too long: f\n",
         9,
     ),
+    Long("corpus f f", "", " ", 4194305, "", "file too long: f\n", 9),
+    // The module is no longer than it may be, and is too long as an input.
+    Long("corpus f f", "", " ", 1048577, "", "file too long: f\n", 9),
     Long("run f", "", " ", 4194305, "", "refused 13: no main\n", 5),
     Long("run f", "", " ", 134217729, "", "file too long: f\n", 9),
 ];
@@ -156,7 +160,7 @@ static STACKS: [Long; 2] = [
     ),
 ];
 
-fn long_agrees(alloc: Global, case: &Long) -> bool {
+fn long_agrees<R: Threads + Sync>(rt: &R, alloc: Global, case: &Long) -> bool {
     let call = Call {
         words: case.0,
         head: case.1,
@@ -172,12 +176,12 @@ fn long_agrees(alloc: Global, case: &Long) -> bool {
         err: case.5,
         status: case.6,
     };
-    agrees(alloc, &call, &wanted)
+    agrees(rt, alloc, &call, &wanted)
 }
 
-fn all_agree(alloc: Global, cases: &[Long]) -> bool {
+fn all_agree<R: Threads + Sync>(rt: &R, alloc: Global, cases: &[Long]) -> bool {
     for case in cases {
-        if !long_agrees(alloc, case) {
+        if !long_agrees(rt, alloc, case) {
             return false;
         }
     }
@@ -186,18 +190,18 @@ fn all_agree(alloc: Global, cases: &[Long]) -> bool {
 
 #[test]
 fn names_each_limit(rt: HostRuntime) -> Result<(), Fail> {
-    assert!(rt; all_agree(rt.alloc(), &LIMITS));
+    assert!(rt; all_agree(&rt, rt.alloc(), &LIMITS));
     Ok(())
 }
 
 #[test]
 fn the_forms_have_their_own_limits(rt: HostRuntime) -> Result<(), Fail> {
-    assert!(rt; all_agree(rt.alloc(), &FORMS));
+    assert!(rt; all_agree(&rt, rt.alloc(), &FORMS));
     Ok(())
 }
 
 #[test]
 fn the_stack_ends(rt: HostRuntime) -> Result<(), Fail> {
-    assert!(rt; all_agree(rt.alloc(), &STACKS));
+    assert!(rt; all_agree(&rt, rt.alloc(), &STACKS));
     Ok(())
 }

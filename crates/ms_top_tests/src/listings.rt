@@ -4,6 +4,7 @@ use crate::alike::written_of;
 use crate::calls::{Case, all_agree};
 use std::alloc::{AllocError, Global};
 use std::test::Fail;
+use std::thread::Threads;
 
 /// A module's types, globals and declarations, its functions, and these with what is inserted.
 struct Listing(&'static str, &'static str, &'static str, &'static str);
@@ -235,18 +236,18 @@ fn text_of(alloc: Global, parts: &[&str]) -> Result<Vec<u8>, AllocError> {
     Ok(text)
 }
 
-fn is_listed(alloc: Global, row: &Listing) -> Result<bool, AllocError> {
+fn is_listed<R: Threads + Sync>(rt: &R, alloc: Global, row: &Listing) -> Result<bool, AllocError> {
     let text = text_of(alloc, &[row.0, row.1, row.2])?;
     let wanted = text_of(alloc, &[row.0, SLOTS, row.1, RUNTIME, row.3])?;
-    match written_of(alloc, &text)? {
+    match written_of(rt, alloc, &text)? {
         Some(written) => Ok(written.as_slice() == wanted.as_slice()),
         None => Ok(false),
     }
 }
 
-fn all_are_listed(alloc: Global, rows: &[Listing]) -> bool {
+fn all_are_listed<R: Threads + Sync>(rt: &R, alloc: Global, rows: &[Listing]) -> bool {
     for row in rows {
-        if is_listed(alloc, row).ok() != Some(true) {
+        if is_listed(rt, alloc, row).ok() != Some(true) {
             return false;
         }
     }
@@ -255,12 +256,12 @@ fn all_are_listed(alloc: Global, rows: &[Listing]) -> bool {
 
 #[test]
 fn modules_are_written_with_inserted_code(rt: HostRuntime) -> Result<(), Fail> {
-    assert!(rt; all_are_listed(rt.alloc(), &LISTINGS));
+    assert!(rt; all_are_listed(&rt, rt.alloc(), &LISTINGS));
     Ok(())
 }
 
 #[test]
 fn says_why_a_module_is_not_instrumented(rt: HostRuntime) -> Result<(), Fail> {
-    assert!(rt; all_agree(rt.alloc(), &REFUSALS));
+    assert!(rt; all_agree(&rt, rt.alloc(), &REFUSALS));
     Ok(())
 }

@@ -488,24 +488,24 @@ static MARKS: [Marked; 12] = [
 
 #[test]
 fn checks_report(rt: HostRuntime) -> Result<(), Fail> {
-    assert!(rt; all_marked(rt.alloc(), &CHECKS));
+    assert!(rt; all_marked(&rt, rt.alloc(), &CHECKS));
     Ok(())
 }
 
 #[test]
 fn marked_accesses_reach_shadow(rt: HostRuntime) -> Result<(), Fail> {
-    assert!(rt; all_marked(rt.alloc(), &SHADOW));
+    assert!(rt; all_marked(&rt, rt.alloc(), &SHADOW));
     Ok(())
 }
 
 #[test]
 fn marked_accesses_reach_slots(rt: HostRuntime) -> Result<(), Fail> {
-    assert!(rt; all_marked(rt.alloc(), &SLOTS));
+    assert!(rt; all_marked(&rt, rt.alloc(), &SLOTS));
     Ok(())
 }
 
 #[test]
 fn marked_instructions_are_no_steps(rt: HostRuntime) -> Result<(), Fail> {
-    assert!(rt; all_marked(rt.alloc(), &MARKS));
+    assert!(rt; all_marked(&rt, rt.alloc(), &MARKS));
     Ok(())
 }

@@ -646,33 +646,33 @@ static GLOBALS: [Run; 32] = [
 
 #[test]
 fn stores_write_their_bytes(rt: HostRuntime) -> Result<(), Fail> {
-    assert!(rt; all_run(rt.alloc(), &BYTES));
+    assert!(rt; all_run(&rt, rt.alloc(), &BYTES));
     Ok(())
 }
 
 #[test]
 fn loads_read_their_bytes(rt: HostRuntime) -> Result<(), Fail> {
-    assert!(rt; all_run(rt.alloc(), &LOADS));
+    assert!(rt; all_run(&rt, rt.alloc(), &LOADS));
     Ok(())
 }
 
 #[test]
 fn addresses_are_computed(rt: HostRuntime) -> Result<(), Fail> {
-    assert!(rt; all_run(rt.alloc(), &ADDRESSES));
+    assert!(rt; all_run(&rt, rt.alloc(), &ADDRESSES));
     Ok(())
 }
 
 #[test]
 fn globals_begin_as_they_say(rt: HostRuntime) -> Result<(), Fail> {
-    assert!(rt; all_run(rt.alloc(), &GLOBALS));
+    assert!(rt; all_run(&rt, rt.alloc(), &GLOBALS));
     Ok(())
 }
 
 #[test]
 fn memory_is_checked_as_it_is_run(rt: HostRuntime) -> Result<(), Fail> {
-    assert!(rt; all_alike(rt.alloc(), &BYTES));
-    assert!(rt; all_alike(rt.alloc(), &LOADS));
-    assert!(rt; all_alike(rt.alloc(), &ADDRESSES));
-    assert!(rt; all_alike(rt.alloc(), &GLOBALS));
+    assert!(rt; all_alike(&rt, rt.alloc(), &BYTES));
+    assert!(rt; all_alike(&rt, rt.alloc(), &LOADS));
+    assert!(rt; all_alike(&rt, rt.alloc(), &ADDRESSES));
+    assert!(rt; all_alike(&rt, rt.alloc(), &GLOBALS));
     Ok(())
 }

@@ -7,9 +7,10 @@ ghost use Rattle.ms_words.specs.Limits.{RunsWithinLimits, IsWithinLimits};
 use crate::calls::{Call, Wanted, agrees, sink_of, text_of};
 use ms_bits::{Bytes, Text};
 use ms_io::MemFiles;
-use ms_top::{Command, Options, job};
+use ms_top::{Command, OpenGate, Options, Pass, PlainPass, RealPass, job};
 use std::alloc::{AllocError, Global};
 use std::collections::BTreeMap;
+use std::thread::Threads;
 
 /// Declares every external; it stands behind the text of each row.
 const EXTERNALS: &str =
@@ -98,20 +99,20 @@ pub fn closing_begins(alloc: Global, row: &Run, lines: &[u8]) -> Result<bool, Al
     Ok(lines.starts_with(begin.as_bytes()))
 }
 
-fn row_runs(alloc: Global, row: &Run) -> Result<bool, AllocError> {
+fn row_runs<R: Threads + Sync>(rt: &R, alloc: Global, row: &Run) -> Result<bool, AllocError> {
     let err = closing_of(alloc, row.2)?;
     let wanted = Wanted {
         out: row.1,
         err: err.as_str(),
         status: row.3,
     };
-    Ok(agrees(alloc, &call_of("", row.0, EXTERNALS), &wanted))
+    Ok(agrees(rt, alloc, &call_of("", row.0, EXTERNALS), &wanted))
 }
 
 /// Whether each row's module runs so.
-pub fn all_run(alloc: Global, rows: &[Run]) -> bool {
+pub fn all_run<R: Threads + Sync>(rt: &R, alloc: Global, rows: &[Run]) -> bool {
     for row in rows {
-        if row_runs(alloc, row).ok() != Some(true) {
+        if row_runs(rt, alloc, row).ok() != Some(true) {
             return false;
         }
     }
@@ -160,18 +161,22 @@ fn files_of(alloc: Global, text: Vec<u8>, input: &[u8]) -> Result<MemFiles, Allo
     Ok(MemFiles::new(held, Vec::new(alloc)))
 }
 
-/// Whether a command on these files writes and answers so.
-fn is_done(
+/// Whether a command on these files writes and answers so, where a pass makes the module that is run.
+fn is_done<R: Threads + Sync, P: Pass>(
+    rt: &R,
     alloc: Global,
     command: &Command,
     files: &mut MemFiles,
+    pass: &P,
     wanted: &Wanted,
 ) -> Result<bool, AllocError>
     requires { IsWithinLimits command.now }
 {
     let mut out = sink_of(alloc, &[], wanted.out.len().saturating_add(100))?;
     let mut err = sink_of(alloc, &[], wanted.err.len().saturating_add(100))?;
-    let status = job(alloc, command, files, &mut out, &mut err);
+    let status = job(
+        rt, alloc, command, files, &mut out, &mut err, pass, &OpenGate,
+    );
     Ok(
         status == wanted.status
             && out.as_slice() == wanted.out
@@ -191,12 +196,14 @@ fn command_on(check: bool, file: Text, options: Options) -> Command
     }
 }
 
-/// Whether the run of a text on these terms, checked or not, writes and answers so.
-fn is_given(
+/// Whether the run of a text on these terms writes and answers so, checked or not, where a pass makes the module that is run.
+fn is_given<R: Threads + Sync, P: Pass>(
+    rt: &R,
     alloc: Global,
     check: bool,
     text: Vec<u8>,
     terms: &Terms,
+    pass: &P,
     wanted: &Wanted,
 ) -> Result<bool, AllocError> {
     let Some(options) = options_of(alloc, terms)? else {
@@ -204,30 +211,46 @@ fn is_given(
     };
     let file = Text::from_string(String::from_str(alloc, "f")?);
     let mut files = files_of(alloc, text, terms.input)?;
-    is_done(alloc, &command_on(check, file, options), &mut files, wanted)
+    let command = command_on(check, file, options);
+    is_done(rt, alloc, &command, &mut files, pass, wanted)
 }
 
-fn row_is_checked(alloc: Global, row: &Checked) -> Result<bool, AllocError> {
+fn row_is_checked<R: Threads + Sync, P: Pass>(
+    rt: &R,
+    alloc: Global,
+    pass: &P,
+    row: &Checked,
+) -> Result<bool, AllocError> {
     let wanted = Wanted {
         out: row.2,
         err: row.3,
         status: row.4,
     };
     let text = Vec::from_slice(alloc, row.1.as_bytes())?;
-    is_given(alloc, true, text, &row.0, &wanted)
+    is_given(rt, alloc, true, text, &row.0, pass, &wanted)
 }
 
-/// Whether each row's module is checked so.
-pub fn all_checked(alloc: Global, rows: &[Checked]) -> bool {
+/// Whether each row's module is checked so, where a pass makes the module that is run.
+pub fn all_checked_by<R: Threads + Sync, P: Pass>(
+    rt: &R,
+    alloc: Global,
+    pass: &P,
+    rows: &[Checked],
+) -> bool {
     for row in rows {
-        if row_is_checked(alloc, row).ok() != Some(true) {
+        if row_is_checked(rt, alloc, pass, row).ok() != Some(true) {
             return false;
         }
     }
     true
 }
 
-fn given_runs(alloc: Global, row: &Given) -> Result<bool, AllocError> {
+/// Whether each row's module is checked so.
+pub fn all_checked<R: Threads + Sync>(rt: &R, alloc: Global, rows: &[Checked]) -> bool {
+    all_checked_by(rt, alloc, &RealPass::new(OpenGate), rows)
+}
+
+fn given_runs<R: Threads + Sync>(rt: &R, alloc: Global, row: &Given) -> Result<bool, AllocError> {
     let terms = Terms {
         input: row.0,
         fill: row.1,
@@ -241,20 +264,20 @@ fn given_runs(alloc: Global, row: &Given) -> Result<bool, AllocError> {
         status: row.3.3,
     };
     let text = text_of(alloc, &call_of("", row.3.0, EXTERNALS))?;
-    is_given(alloc, false, text, &terms, &wanted)
+    is_given(rt, alloc, false, text, &terms, &PlainPass, &wanted)
 }
 
 /// Whether each row's module runs so.
-pub fn all_given(alloc: Global, rows: &[Given]) -> bool {
+pub fn all_given<R: Threads + Sync>(rt: &R, alloc: Global, rows: &[Given]) -> bool {
     for row in rows {
-        if given_runs(alloc, row).ok() != Some(true) {
+        if given_runs(rt, alloc, row).ok() != Some(true) {
             return false;
         }
     }
     true
 }
 
-fn marked_runs(alloc: Global, row: &Marked) -> Result<bool, AllocError> {
+fn marked_runs<R: Threads + Sync>(rt: &R, alloc: Global, row: &Marked) -> Result<bool, AllocError> {
     let terms = Terms {
         input: b"",
         fill: b"\xa5",
@@ -267,13 +290,13 @@ fn marked_runs(alloc: Global, row: &Marked) -> Result<bool, AllocError> {
         status: row.5,
     };
     let text = text_of(alloc, &call_of(SLOTS, row.0, RUNTIME))?;
-    is_given(alloc, false, text, &terms, &wanted)
+    is_given(rt, alloc, false, text, &terms, &PlainPass, &wanted)
 }
 
 /// Whether each row's module runs so.
-pub fn all_marked(alloc: Global, rows: &[Marked]) -> bool {
+pub fn all_marked<R: Threads + Sync>(rt: &R, alloc: Global, rows: &[Marked]) -> bool {
     for row in rows {
-        if marked_runs(alloc, row).ok() != Some(true) {
+        if marked_runs(rt, alloc, row).ok() != Some(true) {
             return false;
         }
     }

@@ -36,9 +36,31 @@ const DEFAULTS: Terms = Terms {
     reports: 1,
 };
 
-static FAULTS: [Case; 37] = [
+static FAULTS: [Case; 41] = [
     Case("", "", "", "words: UnknownCommand at 0\n", 2),
-    Case("corpus f a", "", "", "words: UnknownCommand at 0\n", 2),
+    Case("corpora f a", "", "", "words: UnknownCommand at 0\n", 2),
+    Case("corpus f", "", "", "words: MissingFile at 2\n", 2),
+    Case(
+        "corpus --workers 9 f a",
+        "",
+        "",
+        "words: OutOfRange at 2\n",
+        2,
+    ),
+    Case(
+        "corpus --workers=0 f a",
+        "",
+        "",
+        "words: OutOfRange at 1\n",
+        2,
+    ),
+    Case(
+        "check --workers=2 f",
+        "",
+        "",
+        "words: UnknownOption at 1\n",
+        2,
+    ),
     Case("runs f", "", "", "words: UnknownCommand at 0\n", 2),
     Case("checks f", "", "", "words: UnknownCommand at 0\n", 2),
     Case("run", "", "", "words: MissingFile at 1\n", 2),
@@ -260,24 +282,24 @@ static GENERATED_RUNS: [Checked; 2] = [
 
 #[test]
 fn the_first_fault_is_said(rt: HostRuntime) -> Result<(), Fail> {
-    assert!(rt; all_agree(rt.alloc(), &FAULTS));
+    assert!(rt; all_agree(&rt, rt.alloc(), &FAULTS));
     Ok(())
 }
 
 #[test]
 fn options_are_read(rt: HostRuntime) -> Result<(), Fail> {
-    assert!(rt; all_agree(rt.alloc(), &OPTIONS));
+    assert!(rt; all_agree(&rt, rt.alloc(), &OPTIONS));
     Ok(())
 }
 
 #[test]
 fn modules_are_generated(rt: HostRuntime) -> Result<(), Fail> {
-    assert!(rt; all_agree(rt.alloc(), &GENERATED));
+    assert!(rt; all_agree(&rt, rt.alloc(), &GENERATED));
     Ok(())
 }
 
 #[test]
 fn generated_modules_are_checked(rt: HostRuntime) -> Result<(), Fail> {
-    assert!(rt; all_checked(rt.alloc(), &GENERATED_RUNS));
+    assert!(rt; all_checked(&rt, rt.alloc(), &GENERATED_RUNS));
     Ok(())
 }

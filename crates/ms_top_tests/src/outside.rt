@@ -267,39 +267,39 @@ static ENDINGS: [Run; 6] = [
 
 #[test]
 fn bytes_are_printed(rt: HostRuntime) -> Result<(), Fail> {
-    assert!(rt; all_run(rt.alloc(), &PRINTS));
+    assert!(rt; all_run(&rt, rt.alloc(), &PRINTS));
     Ok(())
 }
 
 #[test]
 fn ranges_are_written(rt: HostRuntime) -> Result<(), Fail> {
-    assert!(rt; all_run(rt.alloc(), &WRITES));
+    assert!(rt; all_run(&rt, rt.alloc(), &WRITES));
     Ok(())
 }
 
 #[test]
 fn no_input_is_empty(rt: HostRuntime) -> Result<(), Fail> {
-    assert!(rt; all_run(rt.alloc(), &EMPTY_INPUT));
+    assert!(rt; all_run(&rt, rt.alloc(), &EMPTY_INPUT));
     Ok(())
 }
 
 #[test]
 fn input_is_taken_once(rt: HostRuntime) -> Result<(), Fail> {
-    assert!(rt; all_given(rt.alloc(), &INPUTS));
+    assert!(rt; all_given(&rt, rt.alloc(), &INPUTS));
     Ok(())
 }
 
 #[test]
 fn calls_end_the_run(rt: HostRuntime) -> Result<(), Fail> {
-    assert!(rt; all_run(rt.alloc(), &ENDINGS));
+    assert!(rt; all_run(&rt, rt.alloc(), &ENDINGS));
     Ok(())
 }
 
 #[test]
 fn externals_are_checked_as_they_are_run(rt: HostRuntime) -> Result<(), Fail> {
-    assert!(rt; all_alike(rt.alloc(), &PRINTS));
-    assert!(rt; all_alike(rt.alloc(), &WRITES));
-    assert!(rt; all_alike(rt.alloc(), &EMPTY_INPUT));
-    assert!(rt; all_alike(rt.alloc(), &ENDINGS));
+    assert!(rt; all_alike(&rt, rt.alloc(), &PRINTS));
+    assert!(rt; all_alike(&rt, rt.alloc(), &WRITES));
+    assert!(rt; all_alike(&rt, rt.alloc(), &EMPTY_INPUT));
+    assert!(rt; all_alike(&rt, rt.alloc(), &ENDINGS));
     Ok(())
 }

@@ -301,24 +301,24 @@ static INSTRUCTIONS: [Case; 14] = [
 
 #[test]
 fn says_why_a_text_is_refused(rt: HostRuntime) -> Result<(), Fail> {
-    assert!(rt; all_agree(rt.alloc(), &TEXTS));
+    assert!(rt; all_agree(&rt, rt.alloc(), &TEXTS));
     Ok(())
 }
 
 #[test]
 fn run_reads_inserted_code(rt: HostRuntime) -> Result<(), Fail> {
-    assert!(rt; all_agree(rt.alloc(), &INSERTED));
+    assert!(rt; all_agree(&rt, rt.alloc(), &INSERTED));
     Ok(())
 }
 
 #[test]
 fn names_each_construct_of_entities(rt: HostRuntime) -> Result<(), Fail> {
-    assert!(rt; all_agree(rt.alloc(), &ENTITIES));
+    assert!(rt; all_agree(&rt, rt.alloc(), &ENTITIES));
     Ok(())
 }
 
 #[test]
 fn names_each_construct_of_instructions(rt: HostRuntime) -> Result<(), Fail> {
-    assert!(rt; all_agree(rt.alloc(), &INSTRUCTIONS));
+    assert!(rt; all_agree(&rt, rt.alloc(), &INSTRUCTIONS));
     Ok(())
 }

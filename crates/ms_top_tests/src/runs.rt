@@ -7,6 +7,7 @@ use ms_top::msan;
 use std::alloc::{AllocError, Global};
 use std::collections::BTreeMap;
 use std::test::Fail;
+use std::thread::Threads;
 
 const STORED: &str =
     "define i32 @main() {\n  %1 = alloca i32\n  store i32 12, ptr %1\n  %2 = load i32, ptr %1\n  %3 = xor i32 %2, 10\n  ret i32 %3\n}\n";
@@ -204,34 +205,34 @@ fn run_words(alloc: Global) -> Result<Vec<Text>, AllocError> {
 }
 
 /// The status over files and sinks that never fail.
-fn sure_status(alloc: Global) -> Result<u8, AllocError> {
+fn sure_status<R: Threads + Sync>(rt: &R, alloc: Global) -> Result<u8, AllocError> {
     let words = run_words(alloc)?;
     let mut files = sure_files(alloc)?;
     let mut out = SureSink::new();
     let mut err = SureSink::new();
-    Ok(msan(alloc, &words, &mut files, &mut out, &mut err))
+    Ok(msan(rt, alloc, &words, &mut files, &mut out, &mut err))
 }
 
 #[test]
 fn words_are_commands(rt: HostRuntime) -> Result<(), Fail> {
-    assert!(rt; all_agree(rt.alloc(), &WORDS));
+    assert!(rt; all_agree(&rt, rt.alloc(), &WORDS));
     Ok(())
 }
 
 #[test]
 fn modules_run(rt: HostRuntime) -> Result<(), Fail> {
-    assert!(rt; all_agree(rt.alloc(), &RUNS));
+    assert!(rt; all_agree(&rt, rt.alloc(), &RUNS));
     Ok(())
 }
 
 #[test]
 fn each_use_is_checked(rt: HostRuntime) -> Result<(), Fail> {
-    assert!(rt; all_agree(rt.alloc(), &CHECKS));
+    assert!(rt; all_agree(&rt, rt.alloc(), &CHECKS));
     Ok(())
 }
 
 #[test]
 fn ends_that_never_fail_serve_too(rt: HostRuntime) -> Result<(), Fail> {
-    assert!(rt; sure_status(rt.alloc()).ok() == Some(0));
+    assert!(rt; sure_status(&rt, rt.alloc()).ok() == Some(0));
     Ok(())
 }

@@ -506,24 +506,24 @@ static OTHERS: [Marked; 11] = [
 
 #[test]
 fn bytes_are_checked(rt: HostRuntime) -> Result<(), Fail> {
-    assert!(rt; all_marked(rt.alloc(), &MEMORY));
+    assert!(rt; all_marked(&rt, rt.alloc(), &MEMORY));
     Ok(())
 }
 
 #[test]
 fn strings_are_checked(rt: HostRuntime) -> Result<(), Fail> {
-    assert!(rt; all_marked(rt.alloc(), &STRINGS));
+    assert!(rt; all_marked(&rt, rt.alloc(), &STRINGS));
     Ok(())
 }
 
 #[test]
 fn origins_stand_in_cells(rt: HostRuntime) -> Result<(), Fail> {
-    assert!(rt; all_marked(rt.alloc(), &ORIGINS));
+    assert!(rt; all_marked(&rt, rt.alloc(), &ORIGINS));
     Ok(())
 }
 
 #[test]
 fn sizes_and_blind_uses_are_told(rt: HostRuntime) -> Result<(), Fail> {
-    assert!(rt; all_marked(rt.alloc(), &OTHERS));
+    assert!(rt; all_marked(&rt, rt.alloc(), &OTHERS));
     Ok(())
 }

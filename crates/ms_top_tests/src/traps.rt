@@ -581,47 +581,47 @@ static PLACES: [Run; 9] = [
 
 #[test]
 fn shifts_stay_below_the_width(rt: HostRuntime) -> Result<(), Fail> {
-    assert!(rt; all_run(rt.alloc(), &SHIFTS));
+    assert!(rt; all_run(&rt, rt.alloc(), &SHIFTS));
     Ok(())
 }
 
 #[test]
 fn divisors_are_tested(rt: HostRuntime) -> Result<(), Fail> {
-    assert!(rt; all_run(rt.alloc(), &DIVISIONS));
+    assert!(rt; all_run(&rt, rt.alloc(), &DIVISIONS));
     Ok(())
 }
 
 #[test]
 fn sums_and_shifts_keep_their_flags(rt: HostRuntime) -> Result<(), Fail> {
-    assert!(rt; all_run(rt.alloc(), &SUMS));
+    assert!(rt; all_run(&rt, rt.alloc(), &SUMS));
     Ok(())
 }
 
 #[test]
 fn other_flags_are_kept(rt: HostRuntime) -> Result<(), Fail> {
-    assert!(rt; all_run(rt.alloc(), &OTHER_FLAGS));
+    assert!(rt; all_run(&rt, rt.alloc(), &OTHER_FLAGS));
     Ok(())
 }
 
 #[test]
 fn the_first_cause_is_named(rt: HostRuntime) -> Result<(), Fail> {
-    assert!(rt; all_run(rt.alloc(), &TWO_CAUSES));
+    assert!(rt; all_run(&rt, rt.alloc(), &TWO_CAUSES));
     Ok(())
 }
 
 #[test]
 fn traps_have_a_place(rt: HostRuntime) -> Result<(), Fail> {
-    assert!(rt; all_run(rt.alloc(), &PLACES));
+    assert!(rt; all_run(&rt, rt.alloc(), &PLACES));
     Ok(())
 }
 
 #[test]
 fn traps_are_checked_as_they_are_run(rt: HostRuntime) -> Result<(), Fail> {
-    assert!(rt; all_alike(rt.alloc(), &SHIFTS));
-    assert!(rt; all_alike(rt.alloc(), &DIVISIONS));
-    assert!(rt; all_alike(rt.alloc(), &SUMS));
-    assert!(rt; all_alike(rt.alloc(), &OTHER_FLAGS));
-    assert!(rt; all_alike(rt.alloc(), &TWO_CAUSES));
-    assert!(rt; all_alike(rt.alloc(), &PLACES));
+    assert!(rt; all_alike(&rt, rt.alloc(), &SHIFTS));
+    assert!(rt; all_alike(&rt, rt.alloc(), &DIVISIONS));
+    assert!(rt; all_alike(&rt, rt.alloc(), &SUMS));
+    assert!(rt; all_alike(&rt, rt.alloc(), &OTHER_FLAGS));
+    assert!(rt; all_alike(&rt, rt.alloc(), &TWO_CAUSES));
+    assert!(rt; all_alike(&rt, rt.alloc(), &PLACES));
     Ok(())
 }

@@ -310,54 +310,54 @@ static SIZES: [Case; 5] = [
 
 #[test]
 fn names_are_defined_once(rt: HostRuntime) -> Result<(), Fail> {
-    assert!(rt; all_agree(rt.alloc(), &DUPLICATES));
+    assert!(rt; all_agree(&rt, rt.alloc(), &DUPLICATES));
     Ok(())
 }
 
 #[test]
 fn names_are_known(rt: HostRuntime) -> Result<(), Fail> {
-    assert!(rt; all_agree(rt.alloc(), &UNKNOWNS));
+    assert!(rt; all_agree(&rt, rt.alloc(), &UNKNOWNS));
     Ok(())
 }
 
 #[test]
 fn types_agree(rt: HostRuntime) -> Result<(), Fail> {
-    assert!(rt; all_agree(rt.alloc(), &TYPES));
+    assert!(rt; all_agree(&rt, rt.alloc(), &TYPES));
     Ok(())
 }
 
 #[test]
 fn phis_fit(rt: HostRuntime) -> Result<(), Fail> {
-    assert!(rt; all_agree(rt.alloc(), &PHIS));
+    assert!(rt; all_agree(&rt, rt.alloc(), &PHIS));
     Ok(())
 }
 
 #[test]
 fn main_is_there(rt: HostRuntime) -> Result<(), Fail> {
-    assert!(rt; all_agree(rt.alloc(), &MAINS));
+    assert!(rt; all_agree(&rt, rt.alloc(), &MAINS));
     Ok(())
 }
 
 #[test]
 fn externals_are_known(rt: HostRuntime) -> Result<(), Fail> {
-    assert!(rt; all_agree(rt.alloc(), &EXTERNALS));
+    assert!(rt; all_agree(&rt, rt.alloc(), &EXTERNALS));
     Ok(())
 }
 
 #[test]
 fn uses_are_defined(rt: HostRuntime) -> Result<(), Fail> {
-    assert!(rt; all_agree(rt.alloc(), &USES));
+    assert!(rt; all_agree(&rt, rt.alloc(), &USES));
     Ok(())
 }
 
 #[test]
 fn marks_fit(rt: HostRuntime) -> Result<(), Fail> {
-    assert!(rt; all_agree(rt.alloc(), &MARKS));
+    assert!(rt; all_agree(&rt, rt.alloc(), &MARKS));
     Ok(())
 }
 
 #[test]
 fn sizes_fit(rt: HostRuntime) -> Result<(), Fail> {
-    assert!(rt; all_agree(rt.alloc(), &SIZES));
+    assert!(rt; all_agree(&rt, rt.alloc(), &SIZES));
     Ok(())
 }

@@ -530,46 +530,46 @@ static FILLS: [Given; 10] = [
 
 #[test]
 fn words_keep_their_width(rt: HostRuntime) -> Result<(), Fail> {
-    assert!(rt; all_run(rt.alloc(), &BITS));
+    assert!(rt; all_run(&rt, rt.alloc(), &BITS));
     Ok(())
 }
 
 #[test]
 fn words_are_compared(rt: HostRuntime) -> Result<(), Fail> {
-    assert!(rt; all_run(rt.alloc(), &COMPARISONS));
+    assert!(rt; all_run(&rt, rt.alloc(), &COMPARISONS));
     Ok(())
 }
 
 #[test]
 fn words_are_cast(rt: HostRuntime) -> Result<(), Fail> {
-    assert!(rt; all_run(rt.alloc(), &CASTS));
+    assert!(rt; all_run(&rt, rt.alloc(), &CASTS));
     Ok(())
 }
 
 #[test]
 fn words_are_chosen(rt: HostRuntime) -> Result<(), Fail> {
-    assert!(rt; all_run(rt.alloc(), &CHOICES));
+    assert!(rt; all_run(&rt, rt.alloc(), &CHOICES));
     Ok(())
 }
 
 #[test]
 fn undefined_words_are_the_fill(rt: HostRuntime) -> Result<(), Fail> {
-    assert!(rt; all_run(rt.alloc(), &UNDEFINED));
+    assert!(rt; all_run(&rt, rt.alloc(), &UNDEFINED));
     Ok(())
 }
 
 #[test]
 fn fills_are_gone_through(rt: HostRuntime) -> Result<(), Fail> {
-    assert!(rt; all_given(rt.alloc(), &FILLS));
+    assert!(rt; all_given(&rt, rt.alloc(), &FILLS));
     Ok(())
 }
 
 #[test]
 fn words_are_checked_as_they_are_run(rt: HostRuntime) -> Result<(), Fail> {
-    assert!(rt; all_alike(rt.alloc(), &BITS));
-    assert!(rt; all_alike(rt.alloc(), &COMPARISONS));
-    assert!(rt; all_alike(rt.alloc(), &CASTS));
-    assert!(rt; all_alike(rt.alloc(), &CHOICES));
-    assert!(rt; all_alike(rt.alloc(), &UNDEFINED));
+    assert!(rt; all_alike(&rt, rt.alloc(), &BITS));
+    assert!(rt; all_alike(&rt, rt.alloc(), &COMPARISONS));
+    assert!(rt; all_alike(&rt, rt.alloc(), &CASTS));
+    assert!(rt; all_alike(&rt, rt.alloc(), &CHOICES));
+    assert!(rt; all_alike(&rt, rt.alloc(), &UNDEFINED));
     Ok(())
 }

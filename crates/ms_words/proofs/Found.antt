@@ -1,24 +1,25 @@
 -- What `clap` finds in accepted words.
 use Rattle.std.proofs.Common.{◌≡◌, ◌∙◌, ◌++◌, ◌≤◌, true, List, [], ◌∷◌, Option, Some, None, refl, sym, ap, ap₂, subst, codes, length, arith}
-use Rattle.std.specs.Prelude.{All, ◌^◌, ◌-◌, is_some, slice_get, unwrap_or}
-use Rattle.clap.specs.Words.{App, Row, matches_of, rows_of, takes as takes_words, first_of, first_value, new_app, with_rule}
+use Rattle.std.specs.Prelude.{All, ◌^◌, ◌-◌, is_some, slice_get, unwrap_or, option_map, drop}
+use Rattle.clap.specs.Words.{App, Row, matches_of, rows_of, takes as takes_words, first_of, all_of, first_value, matched_of, raw_values, new_app, with_rule}
 use Rattle.clap.specs.declared.parser.matches.Found.{Found}
 use Rattle.clap.proofs.OnLiterals.{clap_on_literals}
-use Rattle.clap.proofs.WalkLemmas.{first_value-rows}
+use Rattle.clap.proofs.WalkLemmas.{first_value-rows, raw_values-rows}
 use Rattle.ms_words.specs.declared.commands.Command.TheVariants as made
 use Rattle.ms_words.specs.declared.commands.Options.{Options}
 use Rattle.ms_words.specs.declared.names.CommandName.{CommandName}
-use Rattle.ms_words.specs.declared.names.CommandName.TheVariants.{Instrument, Run, Check, Gen}
+use Rattle.ms_words.specs.declared.names.CommandName.TheVariants.{Instrument, Run, Check, Corpus, Gen}
 use Rattle.ms_words.specs.declared.names.OptionName.{OptionName}
 use Rattle.ms_words.specs.declared.names.OptionName.TheVariants as option
 use Rattle.ms_words.specs.declared.names.Takes.TheVariants.{Nothing}
 use Rattle.ms_words.specs.Table.{Word, takes, command_word, options_of}
 use Rattle.ms_words.specs.Values.{number, hex_bytes, value_fault}
 use Rattle.ms_words.specs.Reading.{Given}
-use Rattle.ms_words.specs.Words.{value_of, number_by, options_by, command_by, command_given}
+use Rattle.ms_words.specs.Words.{value_of, number_by, options_by, corpus_options_by, command_by, command_given}
 use Rattle.ms_words.specs.ClapForm.{app_for, files_rule, with_options, spelled, spelled_option, spelled_options}
-use Rattle.ms_words.specs.Fields.{Fits, FitsRun, found_value, found_file, found_by}
+use Rattle.ms_words.specs.Fields.{Fits, FitsRun, FitsCorpus, found_value, found_file, found_inputs, found_by}
 use Rattle.ms_words.specs.Accepted.{Whole}
+use Rattle.ms_words.proofs.Files.{corpus_form, corpus_takes, corpus_workers, corpus_fill, corpus_steps, corpus_reports, corpus_file, corpus_files}
 use Rattle.ms_words.proofs.GoodValues.{IsGood, good_value, hex_good, number_good}
 
 -- ---- the commands that run a module, by their words' form
@@ -133,11 +134,37 @@ gen_fields a b c f are =
     let run = ap (λ (v : Option Word). is_some (found_by Nothing v)) (at f (codes "run") _ are) ∙ found.2 in
     rw (seed, functions, run) refl
 
+some_files : (files : List Word) → 2 ≤ length files → length files ≤ 257 → (file : Word) × (inputs : List Word) × (files ≡ file ∷ inputs) × (length inputs ≤ 256)
+some_files [] least most = absurd (omega (arith, least))
+some_files (file ∷ inputs) least most = (file, inputs, refl, omega (arith, most))
+
+all_at : (f : Found) (id : Word) (rows : List Row) → rows_of f ≡ rows → option_map raw_values (matched_of f id) ≡ all_of id rows
+all_at f id rows are = raw_values-rows f id ∙ ap (all_of id) are
+
+corpus_fields : (b c d e file : Word) (inputs : List Word) (f : Found) → rows_of f ≡ matches_of (app_for Corpus) (corpus_form b c d e (file ∷ inputs))
+    → made.Corpus (found_file f) (found_inputs f) (corpus_options_by (found_value f)) (number_by (found_value f option.Workers))
+    ≡ made.Corpus file inputs (record { input = None; fill = hex_bytes c; steps = number d; reports = number e }) (number b)
+corpus_fields b c d e file inputs f are =
+    let workers = at f (codes "workers") _ are ∙ corpus_workers b c d e file inputs in
+    let fill = at f (codes "fill") _ are ∙ corpus_fill b c d e file inputs in
+    let steps = at f (codes "steps") _ are ∙ corpus_steps b c d e file inputs in
+    let reports = at f (codes "reports") _ are ∙ corpus_reports b c d e file inputs in
+    let first = at f (codes "files") _ are ∙ corpus_file b c d e file inputs in
+    let all = all_at f (codes "files") _ are ∙ corpus_files b c d e file inputs in
+    rw (workers, fill, steps, reports, first, all) refl
+
+-- the words of a corpus in their form, with its files
+with_files : (g : Given) (files : List Word) (rows : List Row) → g.files ≡ files → rows ≡ matches_of (app_for Corpus) (spelled Corpus g)
+    → rows ≡ matches_of (app_for Corpus) (command_word Corpus ∷ (spelled_options (options_of Corpus) g ++ codes "--" ∷ files))
+with_files g files rows is are =
+    are ∙ ap (λ (files : List Word). matches_of (app_for Corpus) (command_word Corpus ∷ (spelled_options (options_of Corpus) g ++ codes "--" ∷ files))) is
+
 -- the command of `clap` takes accepted words
 pub takes_spelled : (c : CommandName) (g : Given) → Whole c g → takes_words (app_for c) (spelled c g) ≡ true
 takes_spelled Instrument g whole = let one = one_file g.files whole.enough whole.few in rw one.1 (instrument_takes one.0)
 takes_spelled Run g whole = let one = one_file g.files whole.enough whole.few in rw one.1 (run_takes (codes "run") (value_of option.Input g) _ _ _ one.0)
 takes_spelled Check g whole = let one = one_file g.files whole.enough whole.few in rw one.1 (run_takes (codes "check") (value_of option.Input g) _ _ _ one.0)
+takes_spelled Corpus g whole = let some = some_files g.files whole.enough whole.few in rw some.2 (corpus_takes _ _ _ _ some.0 some.1 some.3)
 takes_spelled Gen g whole = rw (no_files g.files whole.few) (gen_takes (value_of option.Seed g) (value_of option.Functions g) (value_of option.Run g))
 
 -- the same with its one file
@@ -150,7 +177,7 @@ first_of_files g file is = rw is refl
 
 -- and finds the fields in them
 pub fields_found : (c : CommandName) (g : Given) (f : Found) → Whole c g → rows_of f ≡ matches_of (app_for c) (spelled c g)
-    → command_by c (found_value f) (found_file f) ≡ command_given c g
+    → command_by c (found_value f) (found_file f) (found_inputs f) ≡ command_given c g
 fields_found Instrument g f whole are =
     let one = one_file g.files whole.enough whole.few in
     let found = at f (codes "files") _ (with_file Instrument g one.0 (rows_of f) one.1 are) ∙ instrument_file one.0 in
@@ -163,6 +190,10 @@ fields_found Check g f whole are =
     let one = one_file g.files whole.enough whole.few in
     let fields = run_fields (codes "check") (value_of option.Input g) _ _ _ one.0 f (with_file Check g one.0 (rows_of f) one.1 are) in
     ap₂ (λ (file : Word) (o : Options). made.Check file o) (fields.1 ∙ sym (first_of_files g one.0 one.1)) fields.0
+fields_found Corpus g f whole are =
+    let some = some_files g.files whole.enough whole.few in
+    corpus_fields _ _ _ _ some.0 some.1 f (with_files g (some.0 ∷ some.1) (rows_of f) some.2 are)
+    ∙ ap (λ (files : List Word). made.Corpus (unwrap_or (slice_get files 0) []) (drop 1 files) (corpus_options_by (λ o. value_of o g)) (number_by (value_of option.Workers g))) (sym some.2)
 fields_found Gen g f whole are =
     gen_fields (value_of option.Seed g) (value_of option.Functions g) (value_of option.Run g) f
     (are ∙ ap (λ (files : List Word). matches_of (app_for Gen) (command_word Gen ∷ (spelled_options (options_of Gen) g ++ codes "--" ∷ files))) (no_files g.files whole.few))
@@ -178,11 +209,25 @@ run_fits word g file f all are = record {
   reports = number_good 1 1000 1000 _ (omega arith) (found_good option.Reports g (found_value f option.Reports) all (at f (codes "reports") _ are ∙ run_reports word (value_of option.Input g) _ _ _ file));
 }
 
+corpus_fits : (g : Given) (file : Word) (inputs : List Word) (f : Found) → All (λ p. value_fault (takes p.0) 0 p.1 ≡ None) g.options
+    → rows_of f ≡ matches_of (app_for Corpus) (command_word Corpus ∷ (spelled_options (options_of Corpus) g ++ codes "--" ∷ file ∷ inputs)) → FitsCorpus (found_value f)
+corpus_fits g file inputs f all are = record {
+  run = record {
+    fill = hex_good 2048 _ (found_good option.Fill g (found_value f option.Fill) all (at f (codes "fill") _ are ∙ corpus_fill _ _ _ _ file inputs));
+    steps = number_good 0 1000000000 (2 ^ 64 - 1) _ (omega arith) (found_good option.Steps g (found_value f option.Steps) all (at f (codes "steps") _ are ∙ corpus_steps _ _ _ _ file inputs));
+    reports = number_good 1 1000 1000 _ (omega arith) (found_good option.Reports g (found_value f option.Reports) all (at f (codes "reports") _ are ∙ corpus_reports _ _ _ _ file inputs));
+  };
+  workers = number_good 1 8 8 _ (omega arith) (found_good option.Workers g (found_value f option.Workers) all (at f (codes "workers") _ are ∙ corpus_workers _ _ _ _ file inputs));
+}
+
 -- and these can be made fields
 pub fits_found : (c : CommandName) (g : Given) (f : Found) → Whole c g → rows_of f ≡ matches_of (app_for c) (spelled c g) → Fits c (found_value f)
 fits_found Instrument g f whole are = tt
 fits_found Run g f whole are = let one = one_file g.files whole.enough whole.few in run_fits (codes "run") g one.0 f whole.values (with_file Run g one.0 (rows_of f) one.1 are)
 fits_found Check g f whole are = let one = one_file g.files whole.enough whole.few in run_fits (codes "check") g one.0 f whole.values (with_file Check g one.0 (rows_of f) one.1 are)
+fits_found Corpus g f whole are =
+    let some = some_files g.files whole.enough whole.few in
+    corpus_fits g some.0 some.1 f whole.values (with_files g (some.0 ∷ some.1) (rows_of f) some.2 are)
 fits_found Gen g f whole are =
     let form = are ∙ ap (λ (files : List Word). matches_of (app_for Gen) (command_word Gen ∷ (spelled_options (options_of Gen) g ++ codes "--" ∷ files))) (no_files g.files whole.few) in
     let found = gen_found (value_of option.Seed g) (value_of option.Functions g) (value_of option.Run g) in

@@ -1,4 +1,5 @@
 pub mod Apps
+pub mod Files
 pub mod Finding
 pub mod Found
 pub mod Keeping

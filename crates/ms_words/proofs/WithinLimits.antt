@@ -1,5 +1,5 @@
 -- The fields of accepted words are within their limits.
-use Rattle.std.proofs.Common.{◌≡◌, ◌≤◌, ◌<◌, ◌+◌, ◌*◌, ◌-◌, ◌^◌, ◌&&◌, ◌||◌, inl, inr, ℕ, Bool, true, false, List, [], ◌∷◌, Option, Some, None, option_map, refl, sym, arith, true≢false, length, find, cond}
+use Rattle.std.proofs.Common.{◌≡◌, ◌≤◌, ◌<◌, ◌+◌, ◌*◌, ◌-◌, ◌^◌, ◌&&◌, ◌||◌, inl, inr, ℕ, Bool, true, false, List, [], ◌∷◌, Option, Some, None, option_map, refl, sym, arith, true≢false, length, find, cond, drop}
 use Rattle.std.specs.Prelude.{All, IfSome, is_some, nat_lt, nat_le, ◌/◌, ◌%◌, ◌==◌}
 use Rattle.std.specs.Char.{digit_value, is_ascii_hexdigit}
 use Rattle.std.specs.Int.{is_in_range}
@@ -8,16 +8,16 @@ use Rattle.std.specs.Option.{option_map_or}
 use Rattle.std.proofs.lemmas.Bool.{and_parts, or_cases, eqb-true, leb-true, ltb-true, ltb-false}
 use Rattle.std.proofs.lemmas.List.Elements.{All-cons, All-nil}
 use Rattle.ms_words.specs.declared.names.CommandName.{CommandName}
-use Rattle.ms_words.specs.declared.names.CommandName.TheVariants.{Instrument, Run, Check, Gen}
+use Rattle.ms_words.specs.declared.names.CommandName.TheVariants.{Instrument, Run, Check, Corpus, Gen}
 use Rattle.ms_words.specs.declared.names.OptionName.{OptionName}
 use Rattle.ms_words.specs.declared.names.OptionName.TheVariants as option
 use Rattle.ms_words.specs.declared.names.Takes.TheVariants.{Hex, Number}
 use Rattle.ms_words.specs.Table.{Word, takes}
 use Rattle.ms_words.specs.Values.{value_fault, is_hex, is_number, number, hex_bytes}
 use Rattle.ms_words.specs.Reading.{Given, is_given, option_eq}
-use Rattle.ms_words.specs.Words.{value_of, number_by, options_by, command_given}
+use Rattle.ms_words.specs.Words.{value_of, number_by, options_by, corpus_options_by, command_given}
 use Rattle.ms_words.specs.Accepted.{Whole}
-use Rattle.ms_words.specs.Limits.{RunsWithinLimits, MadeWithinLimits, IsWithinLimits}
+use Rattle.ms_words.specs.Limits.{RunsWithinLimits, CorpusWithinLimits, MadeWithinLimits, IsWithinLimits}
 use Rattle.ms_words.proofs.GoodValues.{good_value, hex_tests, number_tests}
 
 -- ---- fills
@@ -105,6 +105,23 @@ run_within g all =
     let reports = number_fits 1 1000 (value_of option.Reports g) refl (good_value option.Reports g all) in
     record { filled = fits.some; fill = fits.few; bytes = fits.bytes; steps = steps.1; some_reports = reports.0; reports = reports.1 }
 
+inputs_within : (files : List Word) → 2 ≤ length files → length files ≤ 257 → (1 ≤ length (drop 1 files)) × (length (drop 1 files) ≤ 256)
+inputs_within [] least most = absurd (omega (arith, least))
+inputs_within (file ∷ inputs) least most = (omega (arith, least), omega (arith, most))
+
+corpus_within : (g : Given) → Whole Corpus g → CorpusWithinLimits (drop 1 g.files) (corpus_options_by (λ o. value_of o g)) (number_by (value_of option.Workers g))
+corpus_within g whole =
+    let runs = run_within g whole.values in
+    let inputs = inputs_within g.files whole.enough whole.few in
+    let workers = number_fits 1 8 (value_of option.Workers g) refl (good_value option.Workers g whole.values) in
+    record {
+      runs = record { filled = runs.filled; fill = runs.fill; bytes = runs.bytes; steps = runs.steps; some_reports = runs.some_reports; reports = runs.reports };
+      some_inputs = inputs.0;
+      few_inputs = inputs.1;
+      some_workers = workers.0;
+      few_workers = workers.1;
+    }
+
 made_within : (g : Given) → Whole Gen g → MadeWithinLimits (number_by (value_of option.Seed g)) (number_by (value_of option.Functions g))
 made_within g whole =
     let given = and_parts (is_given option.Seed g) (is_given option.Functions g && true) whole.wanted in
@@ -118,4 +135,5 @@ pub within_limits : (c : CommandName) (g : Given) → Whole c g → IsWithinLimi
 within_limits Instrument g whole = tt
 within_limits Run g whole = run_within g whole.values
 within_limits Check g whole = run_within g whole.values
+within_limits Corpus g whole = corpus_within g whole
 within_limits Gen g whole = made_within g whole

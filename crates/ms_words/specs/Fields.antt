@@ -1,11 +1,11 @@
 -- The values that `clap` found, and what makes fields of them (own).
-use Rattle.std.specs.Prelude.{◌≡◌, ◌≤◌, ◌^◌, ◌-◌, ℕ, Bool, true, false, Option, Some, None, IfSome, [], if◌then◌else◌, codes, unwrap_or, ⊤}
+use Rattle.std.specs.Prelude.{◌≡◌, ◌≤◌, ◌^◌, ◌-◌, ℕ, Bool, true, false, Option, Some, None, IfSome, [], if◌then◌else◌, codes, List, drop, option_map, unwrap_or, ⊤}
 use Rattle.std.specs.Char.{is_ascii_hexdigit}
 use Rattle.std.specs.List.{list_all}
-use Rattle.clap.specs.Words.{first_value}
+use Rattle.clap.specs.Words.{first_value, matched_of, raw_values}
 use Rattle.clap.specs.declared.parser.matches.Found.{Found}
 use Rattle.ms_words.specs.declared.names.CommandName.{CommandName}
-use Rattle.ms_words.specs.declared.names.CommandName.TheVariants.{Instrument, Run, Check, Gen}
+use Rattle.ms_words.specs.declared.names.CommandName.TheVariants.{Instrument, Run, Check, Corpus, Gen}
 use Rattle.ms_words.specs.declared.names.OptionName.{OptionName}
 use Rattle.ms_words.specs.declared.names.OptionName.TheVariants as option
 use Rattle.ms_words.specs.declared.names.Takes.{Takes}
@@ -29,6 +29,10 @@ found_value f o = found_by (takes o) (first_value f (option_word o))
 abbrev pub found_file : Found → Word
 found_file f = unwrap_or (first_value f (codes "files")) []
 
+-- the files behind the first one
+abbrev pub found_inputs : Found → List Word
+found_inputs f = drop 1 (unwrap_or (option_map raw_values (matched_of f (codes "files"))) [])
+
 -- a number up to a most one, or none
 abbrev pub IsNumber : ℕ → Option Word → Type 0
 IsNumber most value = IfSome value (λ word. (is_number word ≡ true) × (number word ≤ most))
@@ -42,6 +46,10 @@ pub record FitsRun (value : OptionName → Option Word) : Type 0 where
   pub steps : IsNumber (2 ^ 64 - 1) (value option.Steps)
   pub reports : IsNumber 1000 (value option.Reports)
 
+pub record FitsCorpus (value : OptionName → Option Word) : Type 0 where
+  pub run : FitsRun value
+  pub workers : IsNumber 8 (value option.Workers)
+
 pub record FitsGen (value : OptionName → Option Word) : Type 0 where
   pub seed : IsNumber (2 ^ 64 - 1) (value option.Seed)
   pub functions : IsNumber 1000 (value option.Functions)
@@ -50,4 +58,5 @@ abbrev pub Fits : CommandName → (OptionName → Option Word) → Type 0
 Fits Instrument value = ⊤
 Fits Run value = FitsRun value
 Fits Check value = FitsRun value
+Fits Corpus value = FitsCorpus value
 Fits Gen value = FitsGen value

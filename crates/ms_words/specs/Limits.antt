@@ -1,8 +1,9 @@
 -- What the fields of a command may be (own).
-use Rattle.std.specs.Prelude.{◌≤◌, ◌<◌, ◌^◌, ℕ, All, length, ⊤}
+use Rattle.std.specs.Prelude.{◌≤◌, ◌<◌, ◌^◌, ℕ, List, All, length, ⊤}
 use Rattle.ms_words.specs.declared.commands.Command.{Command}
-use Rattle.ms_words.specs.declared.commands.Command.TheVariants.{Instrument, Run, Check, Gen}
+use Rattle.ms_words.specs.declared.commands.Command.TheVariants.{Instrument, Run, Check, Corpus, Gen}
 use Rattle.ms_words.specs.declared.commands.Options.{Options}
+use Rattle.ms_words.specs.Table.{Word}
 
 -- a fill of 1 to 2048 bytes, at most a thousand million steps, and a limit of 1 to 1000 reports
 pub record RunsWithinLimits (o : Options) : Type 0 where
@@ -12,6 +13,14 @@ pub record RunsWithinLimits (o : Options) : Type 0 where
   pub steps : o.steps ≤ 1000000000
   pub some_reports : 1 ≤ o.reports
   pub reports : o.reports ≤ 1000
+
+-- 1 to 256 inputs, and 1 to 8 workers
+pub record CorpusWithinLimits (inputs : List Word) (o : Options) (workers : ℕ) : Type 0 where
+  pub runs : RunsWithinLimits o
+  pub some_inputs : 1 ≤ length inputs
+  pub few_inputs : length inputs ≤ 256
+  pub some_workers : 1 ≤ workers
+  pub few_workers : workers ≤ 8
 
 -- a seed of 64 bits, and 1 to 1000 functions
 pub record MadeWithinLimits (seed functions : ℕ) : Type 0 where
@@ -24,4 +33,5 @@ abbrev pub IsWithinLimits : Command → Type 0
 IsWithinLimits (Instrument file) = ⊤
 IsWithinLimits (Run file options) = RunsWithinLimits options
 IsWithinLimits (Check file options) = RunsWithinLimits options
+IsWithinLimits (Corpus file inputs options workers) = CorpusWithinLimits inputs options workers
 IsWithinLimits (Gen seed functions run) = MadeWithinLimits seed functions

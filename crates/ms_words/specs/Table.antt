@@ -1,7 +1,7 @@
 -- The commands and their options: one row each (own).
 use Rattle.std.specs.Prelude.{ℕ, ◌^◌, ◌-◌, List, [], ◌∷◌, Option, Some, None, codes}
 use Rattle.ms_words.specs.declared.names.CommandName.{CommandName}
-use Rattle.ms_words.specs.declared.names.CommandName.TheVariants.{Instrument, Run, Check, Gen}
+use Rattle.ms_words.specs.declared.names.CommandName.TheVariants.{Instrument, Run, Check, Corpus, Gen}
 use Rattle.ms_words.specs.declared.names.OptionName.{OptionName}
 use Rattle.ms_words.specs.declared.names.OptionName.TheVariants as option
 use Rattle.ms_words.specs.declared.names.Takes.{Takes}
@@ -13,13 +13,14 @@ Word = List ℕ
 
 -- the commands
 abbrev pub commands : List CommandName
-commands = Instrument ∷ Run ∷ Check ∷ Gen ∷ []
+commands = Instrument ∷ Run ∷ Check ∷ Corpus ∷ Gen ∷ []
 
 -- the word that names a command
 abbrev pub command_word : CommandName → Word
 command_word Instrument = codes "instrument"
 command_word Run = codes "run"
 command_word Check = codes "check"
+command_word Corpus = codes "corpus"
 command_word Gen = codes "gen"
 
 -- the word that names an option, behind two dashes
@@ -28,6 +29,7 @@ option_word option.Input = codes "input"
 option_word option.Fill = codes "fill"
 option_word option.Steps = codes "steps"
 option_word option.Reports = codes "reports"
+option_word option.Workers = codes "workers"
 option_word option.Seed = codes "seed"
 option_word option.Functions = codes "functions"
 option_word option.Run = codes "run"
@@ -38,6 +40,7 @@ takes option.Input = Anything
 takes option.Fill = Hex 2048
 takes option.Steps = Number 0 1000000000
 takes option.Reports = Number 1 1000
+takes option.Workers = Number 1 8
 takes option.Seed = Number 0 (2 ^ 64 - 1)
 takes option.Functions = Number 1 1000
 takes option.Run = Nothing
@@ -47,6 +50,7 @@ abbrev pub default_of : OptionName → Option Word
 default_of option.Fill = Some (codes "a5")
 default_of option.Steps = Some (codes "10000000")
 default_of option.Reports = Some (codes "1")
+default_of option.Workers = Some (codes "2")
 default_of _ = None
 
 -- the options that a command may have
@@ -54,6 +58,7 @@ abbrev pub options_of : CommandName → List OptionName
 options_of Instrument = []
 options_of Run = option.Input ∷ option.Fill ∷ option.Steps ∷ option.Reports ∷ []
 options_of Check = option.Input ∷ option.Fill ∷ option.Steps ∷ option.Reports ∷ []
+options_of Corpus = option.Workers ∷ option.Fill ∷ option.Steps ∷ option.Reports ∷ []
 options_of Gen = option.Seed ∷ option.Functions ∷ option.Run ∷ []
 
 -- the options that it must have
@@ -61,11 +66,13 @@ abbrev pub wanted_of : CommandName → List OptionName
 wanted_of Gen = option.Seed ∷ option.Functions ∷ []
 wanted_of _ = []
 
--- how many files it has, at least and at most
+-- how many files it has, at least and at most: a corpus has 1 to 256 inputs behind its module
 abbrev pub least_files : CommandName → ℕ
+least_files Corpus = 2
 least_files Gen = 0
 least_files _ = 1
 
 abbrev pub most_files : CommandName → ℕ
+most_files Corpus = 257
 most_files Gen = 0
 most_files _ = 1

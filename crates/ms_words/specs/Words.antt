@@ -1,12 +1,12 @@
 -- What a list of words asks for: a command, or the first fault with its place (own).
-use Rattle.std.specs.Prelude.{◌≡◌, ◌⊎◌, ℕ, List, [], ◌∷◌, Option, Some, None, option_map, is_some, Result, Ok, Err, find, slice_get, unwrap_or, codes}
+use Rattle.std.specs.Prelude.{◌≡◌, ◌⊎◌, ℕ, List, [], ◌∷◌, Option, Some, None, option_map, is_some, Result, Ok, Err, find, slice_get, drop, unwrap_or, codes}
 use Rattle.std.specs.Option.{option_map_or}
 use Rattle.ms_words.specs.declared.names.CommandName.{CommandName}
 use Rattle.ms_words.specs.declared.names.CommandName.TheVariants as name
 use Rattle.ms_words.specs.declared.names.OptionName.{OptionName}
 use Rattle.ms_words.specs.declared.names.OptionName.TheVariants as option
 use Rattle.ms_words.specs.declared.commands.Command.{Command}
-use Rattle.ms_words.specs.declared.commands.Command.TheVariants.{Instrument, Run, Check, Gen}
+use Rattle.ms_words.specs.declared.commands.Command.TheVariants.{Instrument, Run, Check, Corpus, Gen}
 use Rattle.ms_words.specs.declared.commands.Options.{Options}
 use Rattle.ms_words.specs.declared.commands.WordsError.{WordsError}
 use Rattle.ms_words.specs.declared.commands.WordsError.TheVariants.{NoMemory, UnknownCommand, UnknownOption, MissingValue, MissingFile, MissingOption, Extra, BadNumber, BadHex, Repeated, OutOfRange}
@@ -36,20 +36,25 @@ options_by value = record {
   reports = number_by (value option.Reports);
 }
 
+-- the options of a corpus have no input, since each of its runs has its own
+abbrev pub corpus_options_by : (OptionName → Option Word) → Options
+corpus_options_by value = record (options_by value) { input = None }
+
 -- what is given where no option is: no input, the fill a5, ten million steps, one report
 abbrev pub defaults : Options
 defaults = options_by (λ o. value_of o nothing)
 
--- a command by the values of its options and by its file
-abbrev pub command_by : CommandName → (OptionName → Option Word) → Word → Command
-command_by name.Instrument value file = Instrument file
-command_by name.Run value file = Run file (options_by value)
-command_by name.Check value file = Check file (options_by value)
-command_by name.Gen value file = Gen (number_by (value option.Seed)) (number_by (value option.Functions)) (is_some (value option.Run))
+-- a command by the values of its options, its first file and the files behind it
+abbrev pub command_by : CommandName → (OptionName → Option Word) → Word → List Word → Command
+command_by name.Instrument value file inputs = Instrument file
+command_by name.Run value file inputs = Run file (options_by value)
+command_by name.Check value file inputs = Check file (options_by value)
+command_by name.Corpus value file inputs = Corpus file inputs (corpus_options_by value) (number_by (value option.Workers))
+command_by name.Gen value file inputs = Gen (number_by (value option.Seed)) (number_by (value option.Functions)) (is_some (value option.Run))
 
 -- a command by all that its words give
 abbrev pub command_given : CommandName → Given → Command
-command_given c g = command_by c (λ o. value_of o g) (unwrap_or (slice_get g.files 0) [])
+command_given c g = command_by c (λ o. value_of o g) (unwrap_or (slice_get g.files 0) []) (drop 1 g.files)
 
 abbrev pub command_in : CommandName → Result Given WordsError → Result Command WordsError
 command_in c (Ok g) = Ok (command_given c g)

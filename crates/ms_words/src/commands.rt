@@ -3,7 +3,7 @@ ghost use Rattle.std.specs.Prelude.{◌≡◌};
 ghost use Rattle.ms_words.specs.Words.{name_of, place_of};
 ghost use Rattle.ms_words.specs.declared.commands.WordsError.TheVariants.{NoMemory as WantsMemory};
 
-use ms_bits::{Bytes, Text};
+use ms_bits::{Bytes, List, Text};
 use std::alloc::AllocError;
 
 /// How a module is run.
@@ -36,6 +36,14 @@ pub enum Command {
         file: Text,
         options: Options,
     },
+    /// Does what `Check` does for each of the inputs, the names of 1 to 256 files, in up to `workers` threads, 1 to 8.
+    /// `options` has no input of its own.
+    Corpus {
+        file: Text,
+        inputs: List<Text>,
+        options: Options,
+        workers: u8,
+    },
     /// Makes a module of `functions` functions, 1 to 1000, from the number `seed`, and writes it. With `run` it is
     /// checked as `Check` does with no option given, and a summary is written.
     Gen {
@@ -56,7 +64,7 @@ pub enum WordsError {
     UnknownOption { place: u32 },
     /// The words end where the value of an option should stand.
     MissingValue { place: u32 },
-    /// The words end before the file.
+    /// The words end before the file, or before the first input of a corpus.
     MissingFile { place: u32 },
     /// The words end without an option that the command must have.
     MissingOption { place: u32 },

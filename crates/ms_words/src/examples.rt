@@ -1,6 +1,6 @@
 //! What lists of words ask for: laws about the definitions, computed by the check. The answers are worked out by hand.
-ghost use Rattle.std.specs.Prelude.{◌≡◌, [], ◌∷◌, Ok, Err, Some, true, false, codes};
-ghost use Rattle.ms_words.specs.declared.commands.Command.TheVariants.{Instrument, Run, Check, Gen};
+ghost use Rattle.std.specs.Prelude.{◌≡◌, [], ◌∷◌, Ok, Err, Some, true, false, codes, replicate};
+ghost use Rattle.ms_words.specs.declared.commands.Command.TheVariants.{Instrument, Run, Check, Corpus, Gen};
 ghost use Rattle.ms_words.specs.declared.commands.WordsError.TheVariants.{UnknownCommand, UnknownOption, MissingValue, MissingFile, MissingOption, Extra, BadNumber, BadHex, Repeated, OutOfRange};
 ghost use Rattle.ms_words.specs.Words.{command_of, defaults};
 
@@ -22,13 +22,28 @@ pub fn usual_words()
 pub fn each_command()
     ensures none { command_of ([]) ≡ Err (UnknownCommand 0) }
     ensures empty { command_of ([] ∷ []) ≡ Err (UnknownCommand 0) }
-    ensures unknown { command_of (codes "corpus" ∷ codes "f" ∷ codes "a" ∷ []) ≡ Err (UnknownCommand 0) }
+    ensures unknown { command_of (codes "corpora" ∷ codes "f" ∷ codes "a" ∷ []) ≡ Err (UnknownCommand 0) }
     ensures longer { command_of (codes "runs" ∷ codes "f" ∷ []) ≡ Err (UnknownCommand 0) }
     ensures instrument { command_of (codes "instrument" ∷ codes "f" ∷ []) ≡ Ok (Instrument (codes "f")) }
     ensures no_options { command_of (codes "instrument" ∷ codes "--fill" ∷ codes "00" ∷ codes "f" ∷ []) ≡ Err (UnknownOption 1) }
     ensures all_options { command_of (codes "check" ∷ codes "--reports=3" ∷ codes "--input" ∷ codes "in" ∷ codes "--steps=0" ∷ codes "--fill" ∷ codes "00fF" ∷ codes "m" ∷ []) ≡ Ok (Check (codes "m") (record defaults { input = Some (codes "in"); fill = 0 ∷ 255 ∷ []; steps = 0; reports = 3 })) }
     ensures generates { command_of (codes "gen" ∷ codes "--functions=1000" ∷ codes "--run" ∷ codes "--seed" ∷ codes "18446744073709551615" ∷ []) ≡ Ok (Gen 18446744073709551615 1000 true) }
     ensures generates_quietly { command_of (codes "gen" ∷ codes "--seed=0" ∷ codes "--functions=1" ∷ codes "--" ∷ []) ≡ Ok (Gen 0 1 false) }
+{}
+
+/// A module and its inputs.
+pub fn words_of_a_corpus()
+    ensures one_input { command_of (codes "corpus" ∷ codes "f" ∷ codes "a" ∷ []) ≡ Ok (Corpus (codes "f") (codes "a" ∷ []) defaults 2) }
+    ensures all_options { command_of (codes "corpus" ∷ codes "--workers=8" ∷ codes "--fill" ∷ codes "00fF" ∷ codes "--steps=5" ∷ codes "--reports" ∷ codes "3" ∷ codes "m" ∷ codes "a" ∷ codes "b" ∷ []) ≡ Ok (Corpus (codes "m") (codes "a" ∷ codes "b" ∷ []) (record defaults { fill = 0 ∷ 255 ∷ []; steps = 5; reports = 3 }) 8) }
+    ensures dashed_input { command_of (codes "corpus" ∷ codes "f" ∷ codes "--workers=3" ∷ []) ≡ Ok (Corpus (codes "f") (codes "--workers=3" ∷ []) defaults 2) }
+    ensures most_inputs { command_of (codes "corpus" ∷ codes "m" ∷ replicate 256 (codes "a")) ≡ Ok (Corpus (codes "m") (replicate 256 (codes "a")) defaults 2) }
+    ensures too_many_inputs { command_of (codes "corpus" ∷ codes "m" ∷ replicate 257 (codes "a")) ≡ Err (Extra 258) }
+    ensures no_input { command_of (codes "corpus" ∷ codes "f" ∷ []) ≡ Err (MissingFile 2) }
+    ensures no_module { command_of (codes "corpus" ∷ []) ≡ Err (MissingFile 1) }
+    ensures no_worker { command_of (codes "corpus" ∷ codes "--workers=0" ∷ codes "f" ∷ codes "a" ∷ []) ≡ Err (OutOfRange 1) }
+    ensures nine_workers { command_of (codes "corpus" ∷ codes "--workers" ∷ codes "9" ∷ codes "f" ∷ codes "a" ∷ []) ≡ Err (OutOfRange 2) }
+    ensures input_as_an_option { command_of (codes "corpus" ∷ codes "--input" ∷ codes "a" ∷ codes "f" ∷ codes "b" ∷ []) ≡ Err (UnknownOption 1) }
+    ensures workers_of_run { command_of (codes "run" ∷ codes "--workers" ∷ codes "2" ∷ codes "f" ∷ []) ≡ Err (UnknownOption 1) }
 {}
 
 /// Where the options end.

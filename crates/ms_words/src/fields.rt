@@ -1,18 +1,18 @@
 //! The fields of a command, from what `clap` found.
-ghost use Rattle.std.specs.Prelude.{◌≡◌, ◌-◌, ◌^◌, IfOk, unwrap_or, [], codes};
+ghost use Rattle.std.specs.Prelude.{◌≡◌, ◌-◌, ◌^◌, IfOk, unwrap_or, [], codes, map, drop};
 ghost use Rattle.std.specs.Option.{option_map_or};
 ghost use Rattle.clap.specs.Words.{found_of, first_value};
 ghost use Rattle.ms_words.specs.Table.{option_word};
 ghost use Rattle.ms_words.specs.Values.{hex_bytes as hex_bytes_of};
 ghost use Rattle.ms_words.specs.Words.{number_by, options_by, command_by};
-ghost use Rattle.ms_words.specs.Fields.{IsNumber, IsHex, FitsRun, FitsGen, Fits, found_value, found_file, is_set as is_set_of};
+ghost use Rattle.ms_words.specs.Fields.{IsNumber, IsHex, FitsRun, FitsCorpus, FitsGen, Fits, found_value, found_file, found_inputs, is_set as is_set_of};
 
 use crate::commands::{Command, Options};
 use crate::names::{CommandName, OptionName};
-use crate::texts::copy_text;
+use crate::texts::{copy_text, copy_texts};
 use crate::values::{hex_bytes, number};
 use clap::ArgMatches;
-use ms_bits::{Bytes, NoMemory, Text};
+use ms_bits::{Bytes, List, NoMemory, Text};
 use std::alloc::Global;
 
 /// The number that an option was found with.
@@ -32,6 +32,14 @@ fn small_number_in(found: &ArgMatches, option: OptionName) -> u32
     ensures { result ≡ number_by (first_value (found_of found.now) (option_word option)) }
 {
     number_in(found, option) as u32
+}
+
+/// The number of workers that was found.
+fn workers_in(found: &ArgMatches) -> u8
+    requires { IsNumber 8 (first_value (found_of found.now) (option_word OptionName.Workers)) }
+    ensures { result ≡ number_by (first_value (found_of found.now) (option_word OptionName.Workers)) }
+{
+    number_in(found, OptionName::Workers) as u8
 }
 
 /// Whether an option that takes no value was found.
@@ -75,12 +83,31 @@ fn file_in(alloc: Global, found: &ArgMatches) -> Result<Text, NoMemory>
     }
 }
 
-/// The options of a run, by what was found.
-fn options_in(alloc: Global, found: &ArgMatches) -> Result<Options, NoMemory>
-    requires { FitsRun (found_value (found_of found.now)) }
-    ensures { IfOk result (λ o. o ≡ options_by (found_value (found_of found.now))) }
+/// Equal texts of the words behind the first one.
+fn texts_behind_first(alloc: Global, words: &[&str]) -> Result<List<Text>, NoMemory>
+    ensures { IfOk result (λ ts. ts ≡ drop 1 (map (λ w. w.now) words.now)) }
 {
-    let input = text_in(alloc, found, OptionName::Input)?;
+    match words {
+        [_, rest @ ..] => Ok(List::from_vec(copy_texts(alloc, rest)?)),
+        [] => Ok(List::from_vec(Vec::new(alloc))),
+    }
+}
+
+/// The files that were found behind the first one.
+fn inputs_in(alloc: Global, found: &ArgMatches) -> Result<List<Text>, NoMemory>
+    ensures { IfOk result (λ ts. ts ≡ found_inputs (found_of found.now)) }
+{
+    match found.get_strs("files") {
+        Some(files) => texts_behind_first(alloc, files),
+        None => Ok(List::from_vec(Vec::new(alloc))),
+    }
+}
+
+/// The options of a run with this input, by what was found.
+fn options_with(alloc: Global, found: &ArgMatches, input: Option<Text>) -> Result<Options, NoMemory>
+    requires { FitsRun (found_value (found_of found.now)) }
+    ensures { IfOk result (λ o. o ≡ record (options_by (found_value (found_of found.now))) { input = input }) }
+{
     let fill = bytes_in(alloc, found, OptionName::Fill)?;
     Ok(Options {
         input,
@@ -90,10 +117,35 @@ fn options_in(alloc: Global, found: &ArgMatches) -> Result<Options, NoMemory>
     })
 }
 
+/// The options of a run, by what was found.
+fn options_in(alloc: Global, found: &ArgMatches) -> Result<Options, NoMemory>
+    requires { FitsRun (found_value (found_of found.now)) }
+    ensures { IfOk result (λ o. o ≡ options_by (found_value (found_of found.now))) }
+{
+    let input = text_in(alloc, found, OptionName::Input)?;
+    options_with(alloc, found, input)
+}
+
+/// What runs a module on many inputs, by what was found.
+fn corpus_in(alloc: Global, found: &ArgMatches) -> Result<Command, NoMemory>
+    requires { FitsCorpus (found_value (found_of found.now)) }
+    ensures { IfOk result (λ c. c ≡ command_by CommandName.Corpus (found_value (found_of found.now)) (found_file (found_of found.now)) (found_inputs (found_of found.now))) }
+{
+    let file = file_in(alloc, found)?;
+    let inputs = inputs_in(alloc, found)?;
+    let options = options_with(alloc, found, None)?;
+    Ok(Command::Corpus {
+        file,
+        inputs,
+        options,
+        workers: workers_in(found),
+    })
+}
+
 /// What generates a module, by what was found.
 fn generating(found: &ArgMatches) -> Command
     requires { FitsGen (found_value (found_of found.now)) }
-    ensures { result ≡ command_by CommandName.Gen (found_value (found_of found.now)) (found_file (found_of found.now)) }
+    ensures { result ≡ command_by CommandName.Gen (found_value (found_of found.now)) (found_file (found_of found.now)) (found_inputs (found_of found.now)) }
 {
     Command::Gen {
         seed: number_in(found, OptionName::Seed),
@@ -109,7 +161,7 @@ pub fn command_in(
     found: &ArgMatches,
 ) -> Result<Command, NoMemory>
     requires { Fits command (found_value (found_of found.now)) }
-    ensures { IfOk result (λ c. c ≡ command_by command (found_value (found_of found.now)) (found_file (found_of found.now))) }
+    ensures { IfOk result (λ c. c ≡ command_by command (found_value (found_of found.now)) (found_file (found_of found.now)) (found_inputs (found_of found.now))) }
 {
     match command {
         CommandName::Instrument => {
@@ -126,6 +178,7 @@ pub fn command_in(
             let options = options_in(alloc, found)?;
             Ok(Command::Check { file, options })
         }
+        CommandName::Corpus => corpus_in(alloc, found),
         CommandName::Gen => Ok(generating(found)),
     }
 }

@@ -9,6 +9,7 @@ pub enum CommandName {
     Instrument,
     Run,
     Check,
+    Corpus,
     Gen,
 }
 
@@ -19,6 +20,7 @@ pub enum OptionName {
     Fill,
     Steps,
     Reports,
+    Workers,
     Seed,
     Functions,
     Run,
@@ -37,10 +39,11 @@ pub enum Takes {
     Number { least: u64, most: u64 },
 }
 
-static COMMANDS: [CommandName; 4] = [
+static COMMANDS: [CommandName; 5] = [
     CommandName::Instrument,
     CommandName::Run,
     CommandName::Check,
+    CommandName::Corpus,
     CommandName::Gen,
 ];
 
@@ -48,6 +51,13 @@ static NO_OPTIONS: [OptionName; 0] = [];
 
 static RUN_OPTIONS: [OptionName; 4] = [
     OptionName::Input,
+    OptionName::Fill,
+    OptionName::Steps,
+    OptionName::Reports,
+];
+
+static CORPUS_OPTIONS: [OptionName; 4] = [
+    OptionName::Workers,
     OptionName::Fill,
     OptionName::Steps,
     OptionName::Reports,
@@ -79,6 +89,7 @@ impl CommandName {
             CommandName::Instrument => "instrument",
             CommandName::Run => "run",
             CommandName::Check => "check",
+            CommandName::Corpus => "corpus",
             CommandName::Gen => "gen",
         }
     }
@@ -91,6 +102,7 @@ impl CommandName {
             CommandName::Instrument => NO_OPTIONS.as_slice(),
             CommandName::Run => RUN_OPTIONS.as_slice(),
             CommandName::Check => RUN_OPTIONS.as_slice(),
+            CommandName::Corpus => CORPUS_OPTIONS.as_slice(),
             CommandName::Gen => GEN_OPTIONS.as_slice(),
         }
     }
@@ -110,6 +122,7 @@ impl CommandName {
         ensures { result ≡ least_files_of self }
     {
         match self {
+            CommandName::Corpus => 2,
             CommandName::Gen => 0,
             _ => 1,
         }
@@ -120,6 +133,7 @@ impl CommandName {
         ensures { result ≡ most_files_of self }
     {
         match self {
+            CommandName::Corpus => 257,
             CommandName::Gen => 0,
             _ => 1,
         }
@@ -149,6 +163,7 @@ impl OptionName {
             OptionName::Fill => "fill",
             OptionName::Steps => "steps",
             OptionName::Reports => "reports",
+            OptionName::Workers => "workers",
             OptionName::Seed => "seed",
             OptionName::Functions => "functions",
             OptionName::Run => "run",
@@ -170,6 +185,7 @@ impl OptionName {
                 least: 1,
                 most: 1000,
             },
+            OptionName::Workers => Takes::Number { least: 1, most: 8 },
             OptionName::Seed => Takes::Number {
                 least: 0,
                 most: u64::MAX,
@@ -190,6 +206,7 @@ impl OptionName {
             OptionName::Fill => Some("a5"),
             OptionName::Steps => Some("10000000"),
             OptionName::Reports => Some("1"),
+            OptionName::Workers => Some("2"),
             _ => None,
         }
     }

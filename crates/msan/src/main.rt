@@ -39,6 +39,6 @@ fn main(rt: HostRuntime) -> ExitCode {
     let mut files = RealFiles::new(&rt);
     let mut out = RealSink::new(rt.stdout());
     let mut err = RealSink::new(rt.stderr());
-    let status = ms_top::msan(rt.alloc(), &words, &mut files, &mut out, &mut err);
+    let status = ms_top::msan(&rt, rt.alloc(), &words, &mut files, &mut out, &mut err);
     ExitCode::from(status)
 }

@@ -13,11 +13,11 @@ passed_blocks-requires-clause-values c = values_fit c.args.extents.now c.args.fu
 
 pub passed_blocks-requires-clause-room : goal.passed_blocks-requires-clause-room
 passed_blocks-requires-clause-room c =
-    func_room_at (given_by c.args.extents.now c.args.functions.now) c.args.counts.now c.args.func.now c.in_ok-values.values c.args.clean.now c.is.result c.as_slice.result.now c.as_slice-2.result.now c.in_ok-start.start
+    func_room_at (given_by c.args.extents.now c.args.functions.now) c.args.before c.args.func.now c.in_ok-values.values c.args.clean.now c.is.result c.as_slice.result.now c.as_slice-2.result.now c.in_ok-start.start
     c.in_ok-values.ensures c.is.ensures c.as_slice.ensures c.as_slice-2.ensures c.in_ok-start.ensures c.args.extents.now c.requires.ready
 
-pub returns-clause-blocks : goal.returns-clause-blocks
-returns-clause-blocks c =
+pub returns : goal.returns
+returns c =
     subst (λ (made : List Block). IfOk c.passed_blocks.result (λ bs. bs ≡ made))
-    (blocks_seen (given_by c.args.extents.now c.args.functions.now) c.args.counts.now c.args.func.now c.in_ok-values.values c.args.clean.now c.is.result c.as_slice.result.now c.as_slice-2.result.now c.in_ok-start.start
+    (blocks_seen (given_by c.args.extents.now c.args.functions.now) c.args.before c.args.func.now c.in_ok-values.values c.args.clean.now c.is.result c.as_slice.result.now c.as_slice-2.result.now c.in_ok-start.start
     c.in_ok-values.ensures c.is.ensures c.as_slice.ensures c.as_slice-2.ensures c.in_ok-start.ensures) c.passed_blocks.ensures.blocks

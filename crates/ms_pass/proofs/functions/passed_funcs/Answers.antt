@@ -1,36 +1,28 @@
-use Rattle.std.proofs.Common.{◌+◌, ◌++◌, List, [], ◌∷◌, ap, arith, subst, sym, ◌∙◌}
-use Rattle.ms_ir.specs.declared.syntax.Func.{Func}
-use Rattle.ms_ir.specs.declared.syntax.Name.{Name}
-use Rattle.ms_ir.specs.Names.{name_eq, main_name}
+use denote.Exit.{yes}
+use denote.Param.Send.{param_send, param_sync, arg_send, arg_sync}
+use Rattle.std.proofs.Common.{◌∙◌, arith}
+use Rattle.ms_ir.proofs.Crosses.{Func-send}
 use Rattle.ms_tables.specs.FirstPlace.{first_place}
-use Rattle.ms_pass.specs.Counted.{here_of}
-use Rattle.ms_pass.specs.Passed.{given_by, names_in, passed_func}
-use Rattle.ms_pass.specs.Ready.{IsReady}
-use Rattle.ms_pass.proofs.FuncWalk.{counts_next, small_next, funcs_next, funcs_end}
+use Rattle.ms_pass.proofs.Crosses.{Functions-sync}
+use Rattle.ms_pass.proofs.FuncWalk.{counts_many, counts_kept, ready_at, small_at}
 use Rattle.ms_pass.proofs.functions.passed_funcs.Goals as goal
 
-pub push_func-requires-clause-ready : goal.push_func-requires-clause-ready
-push_func-requires-clause-ready c =
-    subst (λ (f : Func). IsReady c.args.extents.now f) (sym c.index-funcs-index.is) (c.requires.ready c.loop-index.index c.index-funcs-index.result (omega arith))
+pub by_halves-requires-send-T : goal.by_halves-requires-send-T
+by_halves-requires-send-T g c κs within = param_send 2 _ (arg_send _ yes _ Func-send)
 
-pub push_func-requires-clause-small : goal.push_func-requires-clause-small
-push_func-requires-clause-small c =
-    small_next (first_place c.args.functions.now) c.loop-index.counts _ c.args.funcs.now c.loop-index.index c.index-funcs-index.result (omega arith) c.index-funcs-index.is c.loop-index.invariant.counts c.requires.small
+pub by_halves-requires-sync-W : goal.by_halves-requires-sync-W
+by_halves-requires-sync-W g c κs within = param_sync 1 _ (arg_sync _ yes _ (Functions-sync _ _))
 
-pub loop-index-preserved : goal.loop-index-preserved
-loop-index-preserved c =
-    let given = given_by c.args.extents.now c.args.functions.now in
-    let is = c.index-funcs-index.is in
-    let e = c.in_ok-push_func.ensures in
-    let f = c.index-funcs-index.result in
-    let by : List Name → List Func = λ names. c.loop-index.done.items ++ passed_func given names (here_of c.loop-index.counts (name_eq f.name main_name)) f ∷ [] in
+pub by_halves-requires-after_bounds : goal.by_halves-requires-after_bounds
+by_halves-requires-after_bounds g c κs within = λ k below.
+    let func = first_place c.args.functions.now in let fs = c.args.funcs.now in
+    let kept = c.deref.ensures.value ∙ c.in_ok-counts.ensures in
+    let many = counts_many func fs c.deref.result.now kept in
     record {
-      funcs = funcs_next given (names_in c.args.clean.now) c.loop-index.counts c.push_func.new.counts c.loop-index.done.items c.push_func.new.done.items _ c.args.funcs.now c.loop-index.index f (omega arith) is e.counts
-          (e.func ∙ ap by c.names-names.ensures) c.loop-index.invariant.funcs;
-      counts = counts_next given.func c.loop-index.counts c.push_func.new.counts _ c.args.funcs.now c.loop-index.index f (omega arith) is e.counts c.loop-index.invariant.counts;
+      is_func = below;
+      has_names = omega (arith, c.requires.sets, below);
+      has_counts = omega (arith, many, below);
+      counted = counts_kept func fs c.deref.result.now k below kept;
+      ready = ready_at c.args.extents.now fs k below c.requires.ready;
+      small = small_at func fs k below c.requires.small;
     }
-
-pub returns : goal.returns
-returns c =
-    let given = given_by c.args.extents.now c.args.functions.now in
-    c.from_vec.ensures ∙ funcs_end given (λ k. names_in c.args.clean.now (c.loop-index.index + k)) c.loop-index.counts c.loop-index.done.items _ c.args.funcs.now c.loop-index.index (omega arith) c.loop-index.invariant.funcs

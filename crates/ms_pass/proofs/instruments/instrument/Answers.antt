@@ -8,10 +8,11 @@ use Rattle.ms_runs_good.specs.Fills.{InsertedUnderFills}
 use Rattle.ms_two_fills.specs.Checked.{HoldsUnderFills}
 use Rattle.ms_tables.proofs.Items.{under_ok}
 use Rattle.ms_elision_laws.specs.Elided.{IsElided, ChecksUnclean}
+use Rattle.ms_pass.specs.Passed.{IsMadeOf}
 use Rattle.ms_pass.proofs.instruments.instrument.Goals as goal
 
 pub returns : goal.returns
-returns c =
+returns g c =
     let m = c.args.m.now in
     let answer = c.in_ok-module.module in
     let made : Module → Type 0 = λ j. j ≡ answer in
@@ -25,4 +26,5 @@ returns c =
           (λ j same. subst (λ (x : Module). (setup : Setup) → Fair setup → InsertedUnderFills x setup) (sym same) given.under_fills) c.of_valid.ensures;
       holds = under_ok c.of_valid.result made (λ j. (setup : Setup) → Fair setup → HoldsUnderFills m setup (plain j setup))
           (λ j same. subst (λ (x : Module). (setup : Setup) → Fair setup → HoldsUnderFills m setup (plain x setup)) (sym same) given.holds) c.of_valid.ensures;
+      pieces = under_ok c.of_valid.result made (λ j. IsMadeOf m j) (λ j same. subst (λ (x : Module). IsMadeOf m x) (sym same) given.pieces) c.of_valid.ensures;
     }

@@ -21,7 +21,7 @@ use Rattle.ms_elision_laws.specs.Eliding.{eliding, SaysExactly}
 use Rattle.ms_elision_laws.proofs.CheckCount.{checks_counted}
 use Rattle.ms_elision_laws.proofs.Elided.{faithful, formed_valid}
 use Rattle.ms_pass.specs.Counted.{past_funcs, AreSmall}
-use Rattle.ms_pass.specs.Passed.{no_counts}
+use Rattle.ms_pass.specs.Passed.{no_counts, passed_module}
 use Rattle.ms_pass.specs.Ready.{IsReady}
 use Rattle.ms_pass.proofs.ModuleReady.{module_ready, module_small}
 use Rattle.ms_pass.proofs.Numbered.{passed_is}
@@ -35,15 +35,15 @@ says_exactly m set exact = record {
 }
 
 pub passed_module-requires-clause-ready : goal.passed_module-requires-clause-ready
-passed_module-requires-clause-ready c =
+passed_module-requires-clause-ready g c κs within =
     subst (λ (m : Module). All (IsReady m.types) m.funcs) (sym c.module.ensures) (module_ready c.args.m.now c.is_valid.ensures.formed c.is_valid.ensures.valid c.requires)
 
 pub passed_module-requires-clause-small : goal.passed_module-requires-clause-small
-passed_module-requires-clause-small c =
+passed_module-requires-clause-small g c κs within =
     subst (λ (m : Module). AreSmall (past_funcs (first_place (function_names m)) no_counts m.funcs)) (sym c.module.ensures) (module_small c.args.m.now c.is_valid.ensures.formed)
 
 pub returns : goal.returns
-returns c =
+returns g c =
     let m = c.args.m.now in
     let formed = c.is_valid.ensures.formed in
     let valid = c.is_valid.ensures.valid in
@@ -62,4 +62,5 @@ returns c =
       valid = subst Valid (sym is) both.1;
       under_fills = λ setup fair. inserted_fills m formed valid j runs setup fair;
       holds = λ setup fair. checked_holds m formed valid c.requires.plain.unmarked j runs setup fair;
+      pieces = record { clean = set; exact = c.in_ok-values.ensures.exact; made = c.in_ok-module.ensures ∙ ap (passed_module set) c.module.ensures };
     }

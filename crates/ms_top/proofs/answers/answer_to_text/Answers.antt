@@ -5,24 +5,24 @@ use Rattle.ms_top.proofs.Ok.{on_ok, on_both}
 use Rattle.ms_top.proofs.answers.answer_to_text.Goals as goal
 
 pub read-requires : goal.read-requires
-read-requires c = subst (λ f. length c.args.text.now ≤ max_bytes f) (sym c.form_of.ensures) (file_limit c.args.command.now _ c.requires.fits)
+read-requires g c = subst (λ f. length c.args.text.now ≤ max_bytes f) (sym c.form_of.ensures) (file_limit c.args.command.now _ c.requires.fits)
 
 pub answer_to_module-requires-clause-ready : goal.answer_to_module-requires-clause-ready
-answer_to_module-requires-clause-ready c = ready c.args.command.now c.form_of.result c.args.text.now c.read.result c.in-Ok.module c.form_of.ensures
+answer_to_module-requires-clause-ready g c κs within = ready c.args.command.now c.form_of.result c.args.text.now c.read.result c.in-Ok.module c.form_of.ensures
     (record { «module» = c.read.ensures.«module»; lex = c.read.ensures.lex; refused = c.read.ensures.refused; wanting = c.read.ensures.wanting }) c.in-Ok.is
 
 pub answer_to_module-requires-clause-formed : goal.answer_to_module-requires-clause-formed
-answer_to_module-requires-clause-formed c = formed c.form_of.result c.args.text.now c.read.result c.in-Ok.module (λ i. omega (arith, c.type_inv.text i))
+answer_to_module-requires-clause-formed g c κs within = formed c.form_of.result c.args.text.now c.read.result c.in-Ok.module (λ i. omega (arith, c.type_inv.text i))
     (record { «module» = c.read.ensures.«module»; lex = c.read.ensures.lex; refused = c.read.ensures.refused; wanting = c.read.ensures.wanting }) c.in-Ok.is
 
 pub refused-requires : goal.refused-requires
-refused-requires c = has_line c.form_of.result c.args.text.now c.read.result c.in-Err.cause
+refused-requires g c = has_line c.form_of.result c.args.text.now c.read.result c.in-Err.cause
     (record { «module» = c.read.ensures.«module»; lex = c.read.ensures.lex; refused = c.read.ensures.refused; wanting = c.read.ensures.wanting }) c.in-Err.is
 
 pub returns-in-Ok : goal.returns-in-Ok
-returns-in-Ok c = on_ok c.answer_to_module.result (λ a is. module_answer c.args.command.now c.args.input.now c.form_of.result c.args.text.now c.read.result c.in-Ok.module a c.form_of.ensures
+returns-in-Ok g c = on_ok c.answer_to_module.result (λ a is. module_answer g.P.Pass.gives c.args.command.now c.args.inputs.now c.form_of.result c.args.text.now c.read.result c.in-Ok.module a c.form_of.ensures
     (record { «module» = c.read.ensures.«module»; lex = c.read.ensures.lex; refused = c.read.ensures.refused; wanting = c.read.ensures.wanting }) c.in-Ok.is is) c.answer_to_module.ensures
 
 pub returns-in-Err : goal.returns-in-Err
-returns-in-Err c = on_both c.refused.result (λ a h is. refusal_answer c.args.command.now c.args.input.now c.form_of.result c.args.text.now c.read.result c.in-Err.cause a c.form_of.ensures
+returns-in-Err g c = on_both c.refused.result (λ a h is. refusal_answer g.P.Pass.gives c.args.command.now c.args.inputs.now c.form_of.result c.args.text.now c.read.result c.in-Err.cause a c.form_of.ensures
     (record { «module» = c.read.ensures.«module»; lex = c.read.ensures.lex; refused = c.read.ensures.refused; wanting = c.read.ensures.wanting }) c.in-Err.is h is) c.refused.ensures.reason c.refused.ensures.line

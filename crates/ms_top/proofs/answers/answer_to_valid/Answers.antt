@@ -1,6 +1,13 @@
+use Rattle.std.proofs.Common.{subst}
+use Rattle.ms_top.specs.Command.{setup_of}
+use Rattle.ms_top.specs.Said.{IsAnswerOfCheck}
 use Rattle.ms_top.proofs.Answering.{check_valid}
 use Rattle.ms_top.proofs.Ok.{on_ok}
 use Rattle.ms_top.proofs.answers.answer_to_valid.Goals as goal
 
 pub returns-in-Check : goal.returns-in-Check
-returns-in-Check c = on_ok c.answer_of_check.result (λ a is. check_valid c.args.command.now _ _ c.args.input.now c.args.m.now a c.in-Check.is is) c.answer_of_check.ensures
+returns-in-Check g c =
+    on_ok c.answer_of_check.result
+    (λ a is. check_valid g.P.Pass.gives c.args.command.now _ _ c.args.inputs.now c.args.m.now a c.in-Check.is
+    (subst (λ input. IsAnswerOfCheck g.P.Pass.gives (setup_of c.in-Check.options input) c.args.m.now a) c.only_input-in-Check.ensures is))
+    c.answer_of_check.ensures

@@ -1,4 +1,4 @@
-use Rattle.std.proofs.Common.{◌≡◌, refl, sym, subst}
+use Rattle.std.proofs.Common.{refl, sym, subst}
 use Rattle.ms_io.specs.Reading.{IsWholeFile}
 use Rattle.ms_top.specs.Files.{Counted, counted}
 use Rattle.ms_top.specs.Parts.{IsAnswerToFault}
@@ -18,7 +18,7 @@ returns-in-Ok-clause-said g c =
     on_ok c.answer_behind.result
     (λ a is. behind_first before between
     (record { told = sym e.holdings_stay; faults = e.faults_never_fall; faults_after = refl; taken = e.taken_never_falls; taken_after = refl })
-    c.args.command.now c.args.file.now bytes c.deref.result.now a c.requires.named whole c.deref.ensures.value is)
+    g.P.Pass.gives c.args.command.now c.args.file.now bytes c.deref.result.now a c.requires.named whole c.deref.ensures.value is)
     c.answer_behind.ensures.said
 
 pub returns-in-Err-clause-said : goal.returns-in-Err-clause-said
@@ -32,5 +32,5 @@ returns-in-Err-clause-said g c =
     let is_here = subst (λ n. IsAnswerToFault c.in-Err.cause n a) (sym c.as_str.ensures) is in
     let why = unread counts name limit c.read_whole.result c.in-Err.cause a (record { failed = e.failed; absent = e.absent; too_long = e.too_long }) c.in-Err.is is_here in
     let of_module = subst (λ n. Unread counts n limit a) c.as_str.ensures why in
-    unread_first counts c.args.command.now c.args.file.now a c.requires.named (subst (λ l. Unread counts c.args.file.now l a) c.module_limit.ensures of_module))
+    unread_first g.P.Pass.gives counts c.args.command.now c.args.file.now a c.requires.named (subst (λ l. Unread counts c.args.file.now l a) c.module_limit.ensures of_module))
     c.unread.ensures

@@ -1,25 +1,45 @@
-use Rattle.ms_top.specs.Files.{counted}
+use Rattle.std.proofs.Common.{◌≢◌, sym, subst, arith}
+use Rattle.ms_top.specs.declared.answers.Answer.{Answer}
+use Rattle.ms_top.specs.Files.{Counted, counted}
 use Rattle.ms_top.specs.Instrumented.{IsInstrumented}
-use Rattle.ms_top.specs.Said.{IsAnswer, between}
-use Rattle.ms_top.proofs.Ok.{on_ok}
-use Rattle.ms_top.proofs.Saying.{told, partly_told}
-use Rattle.ms_top.proofs.Statuses.{not_seven}
+use Rattle.ms_top.specs.Said.{Written, IsAnswer, IsAnswerToCommand, between}
+use Rattle.ms_top.proofs.Ok.{on_ok, on_both}
+use Rattle.ms_top.proofs.Reading.{command_answer, fault_answer, no_command}
+use Rattle.ms_top.proofs.Saying.{told, partly_told, written_more, partly_more}
 use Rattle.ms_top.proofs.top.msan.Goals as goal
 
 pub put_answer-requires : goal.put_answer-requires
-put_answer-requires g c =
-    on_ok c.answer_to.result (λ a is. not_seven IsInstrumented
-    (counted (g.F.Files.held c.args.files.now) (g.F.Files.faults c.args.files.now) (g.F.Files.faults c.answer_to.new.files) (g.F.Files.taken c.args.files.now) (g.F.Files.taken c.answer_to.new.files))
-    c.args.words.now a is) c.answer_to.ensures.said
+put_answer-requires g c = on_ok c.no_command.result (λ a is. subst (λ (x : Answer). x.status ≢ 7) (sym is) (λ h. omega arith)) c.no_command.ensures.line
 
-pub returns-clause-said : goal.returns-clause-said
-returns-clause-said g c = λ done.
-    told (IsAnswer IsInstrumented (counted (g.F.Files.held c.args.files.now) (g.F.Files.faults c.args.files.now) (g.F.Files.faults c.answer_to.new.files) (g.F.Files.taken c.args.files.now) (g.F.Files.taken c.answer_to.new.files)) c.args.words.now)
-    (between (g.O.Sink.written c.args.out.now) (g.E.Sink.written c.args.err.now) (g.O.Sink.written c.put_answer.new.out) (g.E.Sink.written c.put_answer.new.err))
-    c.answer_to.result c.put_answer.result c.answer_to.ensures.said (c.put_answer.ensures.told done)
+pub returns-in-Ok-clause-said : goal.returns-in-Ok-clause-said
+returns-in-Ok-clause-said g c = λ done.
+    let counts : Counted = counted (g.F.Files.held c.args.files.now) (g.F.Files.faults c.args.files.now) (g.F.Files.faults c.job.new.files) (g.F.Files.taken c.args.files.now) (g.F.Files.taken c.job.new.files) in
+    let w : Written = between (g.O.Sink.written c.args.out.now) (g.E.Sink.written c.args.err.now) (g.O.Sink.written c.job.new.out) (g.E.Sink.written c.job.new.err) in
+    written_more (IsAnswerToCommand IsInstrumented counts c.in-Ok.command) (IsAnswer IsInstrumented counts c.args.words.now)
+    (λ a is. command_answer counts c.args.words.now c.read_words.result c.in-Ok.command a c.read_words.ensures.answer c.in-Ok.is is) w c.job.result (c.job.ensures.said done)
 
-pub returns-clause-partly_said : goal.returns-clause-partly_said
-returns-clause-partly_said g c = λ failed.
-    partly_told (IsAnswer IsInstrumented (counted (g.F.Files.held c.args.files.now) (g.F.Files.faults c.args.files.now) (g.F.Files.faults c.answer_to.new.files) (g.F.Files.taken c.args.files.now) (g.F.Files.taken c.answer_to.new.files)) c.args.words.now)
-    (between (g.O.Sink.written c.args.out.now) (g.E.Sink.written c.args.err.now) (g.O.Sink.written c.put_answer.new.out) (g.E.Sink.written c.put_answer.new.err))
-    c.answer_to.result c.answer_to.ensures.said (c.put_answer.ensures.partly_told failed)
+pub returns-in-Ok-clause-partly_said : goal.returns-in-Ok-clause-partly_said
+returns-in-Ok-clause-partly_said g c = λ failed.
+    let counts : Counted = counted (g.F.Files.held c.args.files.now) (g.F.Files.faults c.args.files.now) (g.F.Files.faults c.job.new.files) (g.F.Files.taken c.args.files.now) (g.F.Files.taken c.job.new.files) in
+    let w : Written = between (g.O.Sink.written c.args.out.now) (g.E.Sink.written c.args.err.now) (g.O.Sink.written c.job.new.out) (g.E.Sink.written c.job.new.err) in
+    partly_more (IsAnswerToCommand IsInstrumented counts c.in-Ok.command) (IsAnswer IsInstrumented counts c.args.words.now)
+    (λ a is. command_answer counts c.args.words.now c.read_words.result c.in-Ok.command a c.read_words.ensures.answer c.in-Ok.is is) w (c.job.ensures.partly_said failed)
+
+pub returns-in-Ok-clause-unread : goal.returns-in-Ok-clause-unread
+returns-in-Ok-clause-unread g c = λ fault wrong. absurd (no_command c.args.words.now c.read_words.result c.in-Ok.command fault c.read_words.ensures.answer c.in-Ok.is wrong)
+
+pub returns-in-Err-clause-said : goal.returns-in-Err-clause-said
+returns-in-Err-clause-said g c = λ done.
+    let counts : Counted = counted (g.F.Files.held c.args.files.now) (g.F.Files.faults c.args.files.now) (g.F.Files.faults c.args.files.now) (g.F.Files.taken c.args.files.now) (g.F.Files.taken c.args.files.now) in
+    let w : Written = between (g.O.Sink.written c.args.out.now) (g.E.Sink.written c.args.err.now) (g.O.Sink.written c.put_answer.new.out) (g.E.Sink.written c.put_answer.new.err) in
+    told (IsAnswer IsInstrumented counts c.args.words.now) w c.no_command.result c.put_answer.result
+    (on_both c.no_command.result (λ a some is. fault_answer counts c.args.words.now c.read_words.result c.in-Err.fault a c.read_words.ensures.answer c.in-Err.is some is) c.no_command.ensures.reason c.no_command.ensures.line)
+    (c.put_answer.ensures.told done)
+
+pub returns-in-Err-clause-partly_said : goal.returns-in-Err-clause-partly_said
+returns-in-Err-clause-partly_said g c = λ failed.
+    let counts : Counted = counted (g.F.Files.held c.args.files.now) (g.F.Files.faults c.args.files.now) (g.F.Files.faults c.args.files.now) (g.F.Files.taken c.args.files.now) (g.F.Files.taken c.args.files.now) in
+    let w : Written = between (g.O.Sink.written c.args.out.now) (g.E.Sink.written c.args.err.now) (g.O.Sink.written c.put_answer.new.out) (g.E.Sink.written c.put_answer.new.err) in
+    partly_told (IsAnswer IsInstrumented counts c.args.words.now) w c.no_command.result
+    (on_both c.no_command.result (λ a some is. fault_answer counts c.args.words.now c.read_words.result c.in-Err.fault a c.read_words.ensures.answer c.in-Err.is some is) c.no_command.ensures.reason c.no_command.ensures.line)
+    (c.put_answer.ensures.partly_told failed)

@@ -1,4 +1,4 @@
-use Rattle.std.proofs.Common.{sym, ◌∙◌, subst, arith}
+use Rattle.std.proofs.Common.{◌≡◌, ℕ, true, sym, ◌∙◌, subst, arith}
 use Rattle.ms_raw.specs.Blocks.{Lists}
 use Rattle.ms_planes.specs.Memory.{Memory}
 use Rattle.ms_planes.proofs.Standing.{Stands, stands, held-block, never-none}
@@ -7,6 +7,8 @@ use Rattle.ms_alloc.specs.Places.{IsPlace}
 use Rattle.ms_alloc.specs.Allocations.{of_kind}
 use Rattle.ms_planes.specs.Memory.{IsMemory}
 use Rattle.ms_planes.proofs.Readings.{part-number}
+use Rattle.ms_planes.proofs.Good.{placed-good}
+use Rattle.ms_alloc.specs.Allocations.{is_good}
 
 pub block-requires : goal.block-requires
 block-requires c =
@@ -55,7 +57,11 @@ returns-in-Some-block c =
     let s1 : (was : Lists) × Stands m c.args.addr c.from.result p was = stands m c.args.addr c.from.result p is (subst (λ (q : Memory). IsPlace p.kind (of_kind p.kind q.table) c.args.addr c.from.result p) c.self.view_is c.in-Some.ensures) in
     let s0 : Stands m c.args.addr c.from.result p s1.0 = s1.1 in
     let s : Stands m c.args.addr c.from.result p c.in-Some-block.block.now = held-block m c.args.addr c.from.result p s1.0 s0 c.in-Some-block.block.now (sym c.in-Some-block.ensures) in
-    c.number.ensures ∙ part-number c.args.part m c.args.addr c.from.result c.args.n p c.in-Some-block.block.now s is c.from.ensures
+    let good : is_good c.args.addr c.from.result m.table ≡ true =
+    placed-good p m.table c.args.addr c.from.result (omega (arith, c.if-n-eq0.false, c.from.ensures)) (subst (λ (q : Memory). IsPlace p.kind (of_kind p.kind q.table) c.args.addr c.from.result p) c.self.view_is c.in-Some.ensures) in (
+      subst (λ (n : ℕ). is_good c.args.addr n m.table ≡ true) c.from.ensures good,
+      c.number.ensures ∙ part-number c.args.part m c.args.addr c.from.result c.args.n p c.in-Some-block.block.now s is c.from.ensures,
+    )
 
 pub returns-in-None : goal.returns-in-None
 returns-in-None c =

@@ -1,6 +1,0 @@
-use Rattle.ms_top.proofs.Answering.{instrumented_run}
-use Rattle.ms_top.proofs.Ok.{on_ok}
-use Rattle.ms_top.proofs.answers.run_instrumented.Goals as goal
-
-pub returns : goal.returns
-returns c = on_ok c.run.result (λ r is. instrumented_run c.args.m.now c.in_ok-instrumented.instrumented c.args.setup.now r c.in_ok-instrumented.ensures is) c.run.ensures

@@ -1,0 +1,181 @@
+//! What `corpus` says: a section for each input.
+ghost use Rattle.std.specs.Prelude.{◌≡◌, ◌≤◌, ◌++◌, IfOk};
+ghost use Rattle.ms_valid.specs.Formed.{Formed};
+ghost use Rattle.ms_valid.specs.Uninstrumented.{CanInstrument};
+ghost use Rattle.ms_words.specs.Limits.{RunsWithinLimits};
+ghost use Rattle.ms_top.specs.Parts.{AreShort, AreRunsOfGiven, AreWithinLimits};
+ghost use Rattle.ms_top.specs.Said.{answer_of_results, has_status, heading_of, section_of, sections_of, status_of_all as status_of_runs, IsAnswerOfCorpus};
+
+use crate::answers::{Answer, lines_of, setup_of, status_of};
+use crate::passes::Pass;
+use ms_bits::{Bytes, List, NoMemory, Text};
+use ms_check::CheckedModule;
+use ms_corpus::run_all;
+use ms_fork::Gate;
+use ms_ir::Module;
+use ms_runs::{RunResult, Setup};
+use ms_words::Options;
+use ms_write_values::push_number;
+use std::alloc::Global;
+use std::thread::Threads;
+
+/// The inputs of a corpus with the names of their files, and by how many threads they are run at most.
+#[derive(Clone, Copy)]
+pub struct Jobs<'a> {
+    pub names: &'a [Text],
+    pub inputs: &'a [Bytes],
+    pub workers: u8,
+}
+
+/// The answer of `corpus`: the runs of the module that the pass gives, one section each.
+pub fn answer_of_corpus<R: Threads + Sync, P: Pass, G: Gate + Sync>(
+    rt: &R,
+    alloc: Global,
+    m: &CheckedModule,
+    options: &Options,
+    jobs: &Jobs<'_>,
+    pass: &P,
+    gate: &G,
+) -> Result<Answer, NoMemory>
+    requires plain { CanInstrument m.now }
+    requires limits { RunsWithinLimits options.now }
+    requires workers { (1 ≤ jobs.now.workers) × (jobs.now.workers ≤ 8) }
+    requires inputs { AreShort jobs.now.inputs.now }
+    ensures { IfOk result (λ a. IsAnswerOfCorpus P.gives jobs.now.names.now options.now jobs.now.inputs.now m.now a) }
+{
+    m.is_valid();
+    let setup = setup_of(alloc, options, b"")?;
+    let results = run_jobs(rt, alloc, m, &setup, jobs, pass, gate)?;
+    answer_of_runs(alloc, m.module(), jobs.names, results.as_slice())
+}
+
+/// The runs of the module that the pass gives, in the order of the inputs.
+fn run_jobs<R: Threads + Sync, P: Pass, G: Gate + Sync>(
+    rt: &R,
+    alloc: Global,
+    m: &CheckedModule,
+    setup: &Setup,
+    jobs: &Jobs<'_>,
+    pass: &P,
+    gate: &G,
+) -> Result<List<RunResult>, NoMemory>
+    requires plain { CanInstrument m.now }
+    requires limits { AreWithinLimits setup.now jobs.now.inputs.now }
+    requires workers { (1 ≤ jobs.now.workers) × (jobs.now.workers ≤ 8) }
+    ensures { IfOk result (λ rs. AreRunsOfGiven P.gives m.now setup.now jobs.now.inputs.now rs) }
+{
+    let instrumented = pass.instrument(rt, alloc, m)?;
+    run_all(
+        rt,
+        alloc,
+        &instrumented,
+        jobs.inputs,
+        setup,
+        jobs.workers,
+        gate,
+    )
+}
+
+/// The answer for the results of runs.
+fn answer_of_runs(
+    alloc: Global,
+    m: &Module,
+    names: &[Text],
+    results: &[RunResult],
+) -> Result<Answer, NoMemory>
+    requires { Formed m.now }
+    ensures { IfOk result (λ a. a ≡ answer_of_results m.now names.now results.now) }
+{
+    let out = sections(alloc, m, names, results)?;
+    Ok(Answer {
+        status: status_of_all(results),
+        out: Bytes::from_vec(out),
+        err: Bytes::from_vec(Vec::new(alloc)),
+    })
+}
+
+/// The sections of runs, of which each has a name.
+fn sections(
+    alloc: Global,
+    m: &Module,
+    names: &[Text],
+    results: &[RunResult],
+) -> Result<Vec<u8>, NoMemory>
+    requires { Formed m.now }
+    ensures { IfOk result (λ text. text.items ≡ sections_of m.now 1 names.now results.now) }
+{
+    let mut text = Vec::new(alloc);
+    for index in 0..names.len().min(results.len()) {
+        push_section(
+            alloc,
+            &mut text,
+            m,
+            index as u64 + 1,
+            &names[index],
+            &results[index],
+        )?;
+    }
+    Ok(text)
+}
+
+/// Adds the section of a run.
+fn push_section(
+    alloc: Global,
+    text: &mut Vec<u8>,
+    m: &Module,
+    number: u64,
+    name: &Text,
+    r: &RunResult,
+) -> Result<(), NoMemory>
+    requires { Formed m.now }
+    ensures { IfOk result (λ _. text.new.items ≡ text.old.items ++ section_of m.now number name.now r.now) }
+{
+    push_heading(text, number, name, r)?;
+    text.extend_from_slice(r.output.as_slice())?;
+    text.push(b'\n')?;
+    let lines = lines_of(alloc, m, r, true)?;
+    text.extend_from_slice(&lines)?;
+    Ok(())
+}
+
+/// Adds the first line of a section.
+fn push_heading(text: &mut Vec<u8>, number: u64, name: &Text, r: &RunResult) -> Result<(), NoMemory>
+    ensures { IfOk result (λ _. text.new.items ≡ text.old.items ++ heading_of number name.now r.now) }
+{
+    text.extend_from_slice(b"input ")?;
+    push_number(text, number)?;
+    text.extend_from_slice(b", ")?;
+    push_number(text, r.output.as_slice().len() as u64)?;
+    text.extend_from_slice(b" bytes: ")?;
+    text.extend_from_slice(name.as_str().as_bytes())?;
+    text.push(b'\n')?;
+    Ok(())
+}
+
+/// Whether a run has a status.
+#[tactic(auto, using(crate::proofs::Sections::any_here, crate::proofs::Sections::any_passed))]
+fn any_with(results: &[RunResult], status: u8) -> bool
+    ensures { result ≡ has_status status results.now }
+{
+    for result in results {
+        if status_of(result) == status {
+            return true;
+        }
+    }
+    false
+}
+
+/// The status of runs: 77 where one has a report, else 3 where one trapped, else 4 where one is spent.
+fn status_of_all(results: &[RunResult]) -> u8
+    ensures { result ≡ status_of_runs results.now }
+{
+    if any_with(results, 77) {
+        77
+    } else if any_with(results, 3) {
+        3
+    } else if any_with(results, 4) {
+        4
+    } else {
+        0
+    }
+}

@@ -1,0 +1,108 @@
+//! The pass as a parameter of the top call.
+ghost use Rattle.std.specs.Prelude.{◌≡◌, IfOk};
+ghost use Rattle.std.specs.Thread.{IsSync};
+ghost use Rattle.ms_ir.specs.declared.syntax.Module.{Module as ModuleOf};
+ghost use Rattle.ms_ir.specs.Code.{strip};
+ghost use Rattle.ms_valid.specs.Formed.{Formed};
+ghost use Rattle.ms_valid.specs.Uninstrumented.{CanInstrument};
+ghost use Rattle.ms_top.specs.Instrumented.{IsInstrumented};
+
+use ms_bits::{Duplicate, NoMemory};
+use ms_check::CheckedModule;
+use ms_fork::OpenGate;
+use ms_ir::Module;
+use ms_pass::{instrument, instrumented};
+use std::alloc::Global;
+use std::thread::Threads;
+
+/// What makes the module that is run in place of the one that is read.
+pub trait Pass {
+    /// What the pass may make of a module.
+    ghost gives: { ModuleOf → ModuleOf → Type 0 };
+
+    /// The module as the pass makes it, by threads of the runtime where it makes some. Without what is inserted it is the
+    /// module itself. The one error is want of memory.
+    fn instrument<R: Threads + Sync>(
+        &self,
+        rt: &R,
+        alloc: Global,
+        m: &CheckedModule,
+    ) -> Result<CheckedModule, NoMemory>
+        requires shared { IsSync R.row }
+        requires plain { CanInstrument m.now }
+        ensures gives { IfOk result (λ j. gives m.now j) }
+        ensures stripped { IfOk result (λ j. strip j ≡ m.now) };
+
+    /// Such a module that is to be written and not run, so that no code of it is needed. It is formed. The one error is want of
+    /// memory.
+    fn instrumented<R: Threads + Sync>(
+        &self,
+        rt: &R,
+        alloc: Global,
+        m: &CheckedModule,
+    ) -> Result<Module, NoMemory>
+        requires shared { IsSync R.row }
+        requires plain { CanInstrument m.now }
+        ensures gives { IfOk result (λ j. gives m.now j) }
+        ensures formed { IfOk result (λ j. Formed j) }
+    {
+        let module = self.instrument(rt, alloc, m)?;
+        module.is_valid();
+        Ok(module.into_module())
+    }
+}
+
+/// The pass itself, each of whose pieces enters a gate.
+#[derive(Drop)]
+pub struct RealPass<G> {
+    gate: G,
+}
+
+impl<G> RealPass<G> {
+    /// The pass whose pieces enter this gate.
+    pub fn new(gate: G) -> RealPass<G> {
+        RealPass { gate }
+    }
+}
+
+impl Pass for RealPass<OpenGate> {
+    ghost gives = { IsInstrumented };
+
+    fn instrument<R: Threads + Sync>(
+        &self,
+        rt: &R,
+        alloc: Global,
+        m: &CheckedModule,
+    ) -> Result<CheckedModule, NoMemory> {
+        let module = instrument(rt, alloc, m, &self.gate)?;
+        module.is_valid();
+        Ok(module)
+    }
+
+    fn instrumented<R: Threads + Sync>(
+        &self,
+        rt: &R,
+        alloc: Global,
+        m: &CheckedModule,
+    ) -> Result<Module, NoMemory> {
+        instrumented(rt, alloc, m, &self.gate)
+    }
+}
+
+/// A pass that inserts nothing: what is then said is said of the module itself.
+#[derive(Drop)]
+pub struct PlainPass;
+
+impl Pass for PlainPass {
+    ghost gives = { λ m j. j ≡ m };
+
+    #[tactic(auto, using(crate::proofs::Plainly::strips))]
+    fn instrument<R: Threads + Sync>(
+        &self,
+        _rt: &R,
+        alloc: Global,
+        m: &CheckedModule,
+    ) -> Result<CheckedModule, NoMemory> {
+        m.copy(alloc)
+    }
+}

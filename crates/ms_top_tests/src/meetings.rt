@@ -1,0 +1,220 @@
+//! Work in several threads: that two pieces of a list, of a module or of a corpus run at once, and short lists.
+ghost use Rattle.std.specs.Prelude.{◌≡◌, ℕ, ◌*◌, ◌%◌, ◌^◌, IfOk};
+ghost use Rattle.ms_words.specs.Limits.{IsWithinLimits};
+
+use crate::calls::sink_of;
+use ms_bits::{Bytes, List, NoMemory, Text};
+use ms_check::CheckedModule;
+use ms_fork::{Cuts, Gate, OpenGate, Work, by_halves};
+use ms_gen::generate;
+use ms_io::MemFiles;
+use ms_pass::instrument;
+use ms_top::{Command, Options, RealPass, job};
+use std::alloc::{AllocError, Global};
+use std::collections::BTreeMap;
+use std::hint::spin_loop;
+use std::sync::atomic::{AtomicBool, Ordering};
+use std::test::Fail;
+use std::thread::Threads;
+
+/// How often a piece looks whether another one has come.
+const TURNS: u32 = 100_000_000;
+
+/// The squares of numbers, which wrap.
+#[derive(Drop)]
+struct Squares;
+
+impl Work for Squares {
+    type Item = u64;
+
+    ghost can = { λ work k. Unit {0} };
+
+    ghost answer = { λ work k. k * k % 2 ^ 64 };
+
+    fn make(&self, _alloc: Global, index: usize) -> Result<u64, NoMemory> {
+        Ok((index as u64).wrapping_mul(index as u64))
+    }
+}
+
+/// A gate at which the first piece and a later one wait for each other. A body that runs one after the other, in whatever
+/// order, keeps the one that comes first waiting until its turns are used up.
+#[derive(Drop)]
+struct Meeting {
+    later: u64,
+    first_came: AtomicBool,
+    later_came: AtomicBool,
+    first_met: AtomicBool,
+    later_met: AtomicBool,
+}
+
+fn has_come(came: &AtomicBool) -> bool {
+    for _ in 0..TURNS {
+        if came.load(Ordering::SeqCst) {
+            return true;
+        }
+        spin_loop();
+    }
+    false
+}
+
+impl Meeting {
+    fn new(later: u64) -> Meeting {
+        Meeting {
+            later,
+            first_came: AtomicBool::new(false),
+            later_came: AtomicBool::new(false),
+            first_met: AtomicBool::new(false),
+            later_met: AtomicBool::new(false),
+        }
+    }
+
+    fn is_met(&self) -> bool {
+        self.first_met.load(Ordering::SeqCst) && self.later_met.load(Ordering::SeqCst)
+    }
+}
+
+impl Gate for Meeting {
+    fn enter(&self, job: u64) {
+        if job == 0 {
+            self.first_came.store(true, Ordering::SeqCst);
+            self.first_met
+                .store(has_come(&self.later_came), Ordering::SeqCst);
+        } else if job == self.later {
+            self.later_came.store(true, Ordering::SeqCst);
+            self.later_met
+                .store(has_come(&self.first_came), Ordering::SeqCst);
+        }
+    }
+}
+
+/// Whether the squares below `count` are made by so many threads, and the piece 0 and another one meet.
+fn meets<R: Threads + Sync>(
+    rt: &R,
+    alloc: Global,
+    count: usize,
+    cuts: Cuts,
+    later: u64,
+    last: u64,
+) -> bool {
+    let gate = Meeting::new(later);
+    match by_halves(rt, alloc, &Squares, count, cuts, &gate) {
+        Ok(all) => gate.is_met()
+            && all.as_slice().len() == count
+            && all.as_slice().last() == Some(&last),
+        Err(_) => false,
+    }
+}
+
+#[test]
+fn two_pieces_run_at_once(rt: HostRuntime) -> Result<(), Fail> {
+    let cuts = Cuts {
+        most: 8,
+        threads: 16,
+    };
+    assert!(rt; meets(&rt, rt.alloc(), 16, cuts, 8, 225));
+    Ok(())
+}
+
+#[test]
+fn two_workers_meet(rt: HostRuntime) -> Result<(), Fail> {
+    let cuts = Cuts {
+        most: 1,
+        threads: 2,
+    };
+    assert!(rt; meets(&rt, rt.alloc(), 2, cuts, 1, 1));
+    Ok(())
+}
+
+/// Whether the functions of a module of sixteen are instrumented at once: the piece of the first eight meets the other one.
+fn pieces_meet<R: Threads + Sync>(rt: &R, alloc: Global) -> Result<bool, NoMemory> {
+    let module = generate(alloc, 7, 15)?;
+    let checked = CheckedModule::of_valid(alloc, module)?;
+    let gate = Meeting::new(8);
+    instrument(rt, alloc, &checked, &gate)?;
+    Ok(gate.is_met())
+}
+
+#[test]
+fn two_pieces_of_a_module_meet(rt: HostRuntime) -> Result<(), Fail> {
+    assert!(rt; pieces_meet(&rt, rt.alloc()).ok() == Some(true));
+    Ok(())
+}
+
+fn text_of(alloc: Global, text: &str) -> Result<Text, AllocError> {
+    Ok(Text::from_string(String::from_str(alloc, text)?))
+}
+
+/// The module of two inputs, which two workers run.
+fn two_inputs(alloc: Global) -> Result<Command, AllocError>
+    ensures { IfOk result IsWithinLimits }
+{
+    let mut inputs = Vec::new(alloc);
+    inputs.push(text_of(alloc, "a")?)?;
+    inputs.push(text_of(alloc, "b")?)?;
+    let fill = vec![in alloc; 0xa5]?;
+    Ok(Command::Corpus {
+        file: text_of(alloc, "f")?,
+        inputs: List::from_vec(inputs),
+        options: Options {
+            input: None,
+            fill: Bytes::from_vec(fill),
+            steps: 100,
+            reports: 1,
+        },
+        workers: 2,
+    })
+}
+
+/// Files that hold a module and two inputs.
+fn three_files(alloc: Global) -> Result<MemFiles, AllocError> {
+    let mut held = BTreeMap::new(alloc);
+    held.insert(
+        String::from_str(alloc, "f")?,
+        Vec::from_slice(alloc, b"define i32 @main() {\n  ret i32 0\n}\n")?,
+    )?;
+    held.insert(String::from_str(alloc, "a")?, Vec::new(alloc))?;
+    held.insert(String::from_str(alloc, "b")?, Vec::new(alloc))?;
+    Ok(MemFiles::new(held, Vec::new(alloc)))
+}
+
+/// Whether the runs of two inputs by two workers meet.
+fn workers_meet<R: Threads + Sync>(rt: &R, alloc: Global) -> Result<bool, AllocError> {
+    let command = two_inputs(alloc)?;
+    let mut files = three_files(alloc)?;
+    let mut out = sink_of(alloc, &[], 1000)?;
+    let mut err = sink_of(alloc, &[], 1000)?;
+    let pass = RealPass::new(OpenGate);
+    let gate = Meeting::new(1);
+    let status = job(
+        rt, alloc, &command, &mut files, &mut out, &mut err, &pass, &gate,
+    );
+    Ok(status == 0 && gate.is_met())
+}
+
+#[test]
+fn two_workers_of_a_corpus_meet(rt: HostRuntime) -> Result<(), Fail> {
+    assert!(rt; workers_meet(&rt, rt.alloc()).ok() == Some(true));
+    Ok(())
+}
+
+/// Whether the squares of 0, 1 and 2 are made in this way.
+fn makes_three<R: Threads + Sync>(rt: &R, alloc: Global, cuts: Cuts) -> bool {
+    match by_halves(rt, alloc, &Squares, 3, cuts, &OpenGate) {
+        Ok(all) => all.as_slice() == [0, 1, 4].as_slice(),
+        Err(_) => false,
+    }
+}
+
+#[test]
+fn short_lists_are_made(rt: HostRuntime) -> Result<(), Fail> {
+    let alone = Cuts {
+        most: 0,
+        threads: 0,
+    };
+    let both = Cuts {
+        most: 1,
+        threads: 8,
+    };
+    assert!(rt; makes_three(&rt, rt.alloc(), alone) && makes_three(&rt, rt.alloc(), both));
+    Ok(())
+}

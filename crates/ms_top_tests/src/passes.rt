@@ -1,0 +1,41 @@
+//! What is checked is the module that the pass makes: with a pass that inserts nothing no use is reported.
+
+use crate::modules::{Checked, Terms, all_checked, all_checked_by};
+use ms_top::PlainPass;
+use std::test::Fail;
+
+/// Compares an unset word with 0, and branches on that.
+const BRANCH_ON_UNSET: &str =
+    "define i32 @main() {\n  %1 = alloca i32\n  %2 = load i32, ptr %1\n  %3 = icmp eq i32 %2, 0\n  br i1 %3, label %4, label %5\n4:\n  ret i32 0\n5:\n  ret i32 1\n}\n";
+
+const DEFAULTS: Terms = Terms {
+    input: b"",
+    fill: b"\xa5",
+    steps: 10000000,
+    reports: 1,
+};
+
+static INSTRUMENTED: [Checked; 1] = [Checked(
+    DEFAULTS,
+    BRANCH_ON_UNSET,
+    b"",
+    "report 1: branch at site 4 in @main, part 0, bits 0x1 of i1\n  origin 1: alloca at site 1 in @main\nend: reported\nreports: 1\nblind: 0\nverdict: poisoned\n",
+    77,
+)];
+
+static PLAIN: [Checked; 1] = [Checked(
+    DEFAULTS,
+    BRANCH_ON_UNSET,
+    b"",
+    "end: exit 1\nreports: 0\nblind: 0\nverdict: clean\n",
+    0,
+)];
+
+#[test]
+fn the_module_of_the_pass_is_run(rt: HostRuntime) -> Result<(), Fail> {
+    assert!(rt;
+        all_checked(&rt, rt.alloc(), &INSTRUMENTED)
+            && all_checked_by(&rt, rt.alloc(), &PlainPass, &PLAIN)
+    );
+    Ok(())
+}
