@@ -160,11 +160,23 @@ owner-only k xs addr n o d some area has is = record {
   others = λ i e l other. other-covers k xs addr n o some area has i e l other;
 }
 
+-- a range that is not found is not good
+pub none-good : (t : Allocations) (addr n : ℕ) → 0 < n → find (covers addr n) (listed t) ≡ None → is_good addr n t ≡ false
+none-good t addr n some none = ap (λ (b : Bool). b || is_some (find (covers addr n) (listed t))) (ne_eqb n 0 (λ e. omega arith)) ∙ ap is_some none
+
 -- in its area, and so in the whole table
 pub place-listed : (r : Option Place) (j k : AllocKind) (t : Allocations) (addr n : ℕ) → 0 < n → j ≡ k → find (covers addr n) (listed t) ≡ find (covers addr n) (of_kind k t) →
     MatchOption r (find (covers addr n) (of_kind k t) ≡ None) (λ p. IsPlace j (of_kind k t) addr n p) →
     MatchOption r (is_good addr n t ≡ false) (λ p. IsPlace p.kind (of_kind p.kind t) addr n p)
 place-listed None j k t addr n some here same none =
-    ap (λ (b : Bool). b || is_some (find (covers addr n) (listed t))) (ne_eqb n 0 (λ e. omega arith)) ∙ ap is_some (same ∙ none)
+    none-good t addr n some (same ∙ none)
 place-listed (Some p) j k t addr n some here same is =
     subst (λ (i : AllocKind). IsPlace i (of_kind i t) addr n p) (sym (is.kind_is ∙ here)) (record { kind_is = is.kind_is ∙ here; only = is.only; base_is = is.base_is })
+
+-- below the first area nothing is found
+pub listed-below : (t : Allocations) (addr n : ℕ) → 0 < n → IsLaidOut t → addr < area_base Fixed → find (covers addr n) (listed t) ≡ None
+listed-below t addr n some laid low = listed-fixed t addr n some laid (omega arith) ∙ find-outside Fixed t.fixed addr n some laid.fixed (inl low)
+
+-- an answer that is nothing
+pub none-matches : {X : Type 0} (P : Type 0) (Q : X → Type 0) (r : Option X) → r ≡ None → P → MatchOption r P Q
+none-matches P Q r is p = subst (λ (o : Option _). MatchOption o P Q) (sym is) p

@@ -1,5 +1,5 @@
 -- Where the areas of memory begin, how much they hold, and what an allocation takes of them.
-use Rattle.std.specs.Prelude.{ℕ, ◌+◌, ◌*◌, ◌/◌, ◌^◌, max}
+use Rattle.std.specs.Prelude.{ℕ, ◌≤◌, ◌<◌, ◌+◌, ◌*◌, ◌/◌, ◌^◌, max}
 use Rattle.ms_alloc.specs.declared.kinds.AllocKind.{AllocKind}
 use Rattle.ms_alloc.specs.declared.kinds.AllocKind.TheVariants.{Fixed, Heap, Stack}
 
@@ -18,3 +18,9 @@ area_limit Stack = 2 ^ 20
 -- what an allocation of n bytes takes: at least one byte, and a multiple of 16
 abbrev pub room : ℕ → ℕ
 room n = (max n 1 + 15) / 16 * 16
+
+-- an address is at or past the first of an area, and before the next area
+abbrev pub IsReached : ℕ → AllocKind → Type 0
+IsReached addr Fixed = (area_base Fixed ≤ addr) × (addr < area_base Heap)
+IsReached addr Heap = (area_base Heap ≤ addr) × (addr < area_base Stack)
+IsReached addr Stack = area_base Stack ≤ addr

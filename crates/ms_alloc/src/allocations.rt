@@ -1,5 +1,5 @@
 //! One allocation.
-ghost use Rattle.std.specs.Prelude.{◌≡◌};
+ghost use Rattle.std.specs.Prelude.{◌≡◌, ◌≤◌};
 ghost use Rattle.ms_alloc.specs.Allocations.{covers};
 
 use crate::kinds::AllocKind;
@@ -18,12 +18,13 @@ pub struct Allocation {
 }
 
 impl Allocation {
-    /// Whether it is live and has the `n` bytes from `addr` on.
+    /// Whether it is live and has the `n` bytes from `addr` on, an address that isn't below its first.
     #[inline(always)]
     pub(crate) fn covers(&self, addr: u64, n: u64) -> bool
+        requires { self.now.base ≤ addr }
         ensures { result ≡ covers addr n self.now }
     {
-        if !self.live || addr < self.base {
+        if !self.live {
             return false;
         }
         let offset = addr - self.base;

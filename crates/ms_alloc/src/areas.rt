@@ -1,5 +1,5 @@
 //! The allocations of one area, a list in order of address.
-ghost use Rattle.std.specs.Prelude.{◌≡◌, ◌<◌, ◌≤◌, ◌+◌, ◌^◌, ◌∷◌, ◌++◌, [], true, false, not, leb, find, filter, is_some, map, take, length, IfOk, OnOk, OnErr, MatchOption, IsErr, IsErrOf, IsTrue, ◌↔◌, Some, None, option_map, if◌then◌else◌};
+ghost use Rattle.std.specs.Prelude.{◌≡◌, ◌<◌, ◌≤◌, ◌+◌, ◌^◌, ◌∷◌, ◌++◌, [], true, false, not, leb, find, filter, map, take, length, IfOk, OnOk, OnErr, MatchOption, IsErr, IsErrOf, IsTrue, ◌↔◌, Some, None, option_map, if◌then◌else◌};
 ghost use Rattle.ms_alloc.specs.declared.kinds.AllocKind.TheVariants.{Heap, Stack};
 ghost use Rattle.ms_alloc.specs.Layout.{room, area_base, area_limit};
 ghost use Rattle.ms_alloc.specs.Allocations.{IsArea, used, covers, is_block};
@@ -142,15 +142,13 @@ impl Area {
         Ok(base)
     }
 
-    /// The place of the allocation that takes the byte at `addr`.
+    /// The place of the allocation that takes the byte at `addr`, which isn't below the area.
     #[inline(always)]
     fn owner(&self, kind: AllocKind, addr: u64) -> Option<usize>
-        requires { IsArea kind self.now }
+        requires area { IsArea kind self.now }
+        requires from { area_base kind ≤ addr }
         ensures { MatchOption result (IsOutside kind self.now addr) (λ i. Has self.now addr i) }
     {
-        if addr < kind.base() {
-            return None;
-        }
         let piece = (addr - kind.base()) / 16;
         if piece < self.owners.len() as u64 {
             Some(self.owners[piece as usize] as usize)
@@ -159,52 +157,45 @@ impl Area {
         }
     }
 
-    /// Whether a live allocation has the `n` bytes from `addr` on.
-    pub(crate) fn covers(&self, kind: AllocKind, addr: u64, n: u64) -> bool
+    /// The place of the live allocation that has the `n` bytes from `addr` on, which isn't below the area.
+    #[inline(always)]
+    fn place_covering(&self, kind: AllocKind, addr: u64, n: u64) -> Option<usize>
         requires area { IsArea kind self.now }
+        requires from { area_base kind ≤ addr }
         requires some { 0 < n }
-        ensures { result ≡ is_some (find (covers addr n) self.now) }
+        ensures { MatchOption result (find (covers addr n) self.now ≡ None) (IsOnly (covers addr n) self.now) }
     {
-        match self.owner(kind, addr) {
-            Some(place) => self.made[place].covers(addr, n),
-            None => false,
+        let index = self.owner(kind, addr)?;
+        if self.made[index].covers(addr, n) {
+            Some(index)
+        } else {
+            None
         }
     }
 
-    /// The live allocation that has the `n` bytes from `addr` on.
+    /// The live allocation that has the `n` bytes from `addr` on, which isn't below the area.
+    #[inline(always)]
     pub(crate) fn covering(&self, kind: AllocKind, addr: u64, n: u64) -> Option<Allocation>
         requires area { IsArea kind self.now }
+        requires from { area_base kind ≤ addr }
         requires some { 0 < n }
         ensures { result ≡ find (covers addr n) self.now }
     {
-        let Some(place) = self.owner(kind, addr) else {
-            return None;
-        };
-        let candidate = self.made[place];
-        if candidate.covers(addr, n) {
-            Some(candidate)
-        } else {
-            None
-        }
+        let index = self.place_covering(kind, addr, n)?;
+        Some(self.made[index])
     }
 
-    /// The place of the live allocation that has the `n` bytes from `addr` on.
+    /// The place of that allocation.
     #[inline(always)]
     pub(crate) fn place_of(&self, kind: AllocKind, addr: u64, n: u64) -> Option<Place>
         requires area { IsArea kind self.now }
+        requires from { area_base kind ≤ addr }
         requires some { 0 < n }
         ensures { MatchOption result (find (covers addr n) self.now ≡ None) (λ p. IsPlace kind self.now addr n p) }
     {
-        let Some(index) = self.owner(kind, addr) else {
-            return None;
-        };
-        let candidate = self.made[index];
-        if candidate.covers(addr, n) {
-            let base = candidate.base;
-            Some(Place { kind, index, base })
-        } else {
-            None
-        }
+        let index = self.place_covering(kind, addr, n)?;
+        let base = self.made[index].base;
+        Some(Place { kind, index, base })
     }
 
     /// The number of allocations.
@@ -219,9 +210,10 @@ impl Area {
         requires { IsArea Heap self.now }
         ensures { MatchOption result (find (is_block base) self.now ≡ None) (IsOnly (is_block base) self.now) }
     {
-        let Some(place) = self.owner(AllocKind::Heap, base) else {
+        if base < AllocKind::Heap.base() {
             return None;
-        };
+        }
+        let place = self.owner(AllocKind::Heap, base)?;
         let candidate = self.made[place];
         if candidate.live && candidate.base == base {
             Some(place)

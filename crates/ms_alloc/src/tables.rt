@@ -1,7 +1,7 @@
 //! The table.
 ghost use Rattle.std.specs.Prelude.{◌≡◌, ◌≤◌, ◌<◌, ◌+◌, find, is_some, IfOk, OnOk, OnErr, IsErr, IsErrOf, IsTrue, ◌↔◌, Some, None, option_map, IsNone, MatchOption, false, length};
-ghost use Rattle.ms_alloc.specs.declared.kinds.AllocKind.TheVariants.{Heap, Stack};
-ghost use Rattle.ms_alloc.specs.Layout.{room, area_base, area_limit};
+ghost use Rattle.ms_alloc.specs.declared.kinds.AllocKind.TheVariants.{Fixed, Heap, Stack};
+ghost use Rattle.ms_alloc.specs.Layout.{room, area_base, area_limit, IsReached};
 
 use crate::allocations::{Allocation, Place};
 use crate::areas::{Area, has_room};
@@ -28,19 +28,20 @@ impl Model for Table {
     ghost invariant = { λ t. IsLaidOut (record { fixed = t.fixed; heap = t.heap; stack = t.stack }) };
 }
 
-/// The area whose addresses reach `addr`. Inlined with what asks it, so that the area is decided once.
+/// The area whose addresses reach `addr`, if one begins at or below it. Inlined with what asks it, so that the area is
+/// decided once.
 #[inline(always)]
-fn kind_at(addr: u64) -> AllocKind
-    ensures fixed { result ≡ AllocKind.Fixed → addr < area_base Heap }
-    ensures heap { result ≡ AllocKind.Heap → (area_base Heap ≤ addr) × (addr < area_base Stack) }
-    ensures stack { result ≡ AllocKind.Stack → area_base Stack ≤ addr }
+fn kind_at(addr: u64) -> Option<AllocKind>
+    ensures { MatchOption result (addr < area_base Fixed) (IsReached addr) }
 {
-    if addr < AllocKind::Heap.base() {
-        AllocKind::Fixed
-    } else if addr < AllocKind::Stack.base() {
-        AllocKind::Heap
+    if addr >= AllocKind::Stack.base() {
+        Some(AllocKind::Stack)
+    } else if addr >= AllocKind::Heap.base() {
+        Some(AllocKind::Heap)
+    } else if addr >= AllocKind::Fixed.base() {
+        Some(AllocKind::Fixed)
     } else {
-        AllocKind::Stack
+        None
     }
 }
 
@@ -126,7 +127,7 @@ impl Table {
     pub fn covers(&self, addr: u64, n: u64) -> bool
         ensures { result ≡ is_good addr n self.now }
     {
-        n == 0 || self.has(addr, n)
+        n == 0 || self.covering(addr, n).is_some()
     }
 
     /// Base and size of the live allocation that has the byte at `addr`, if one has it.
@@ -150,7 +151,8 @@ impl Table {
         requires { 0 < n }
         ensures { MatchOption result (is_good addr n self.now ≡ false) (λ p. IsPlace p.kind (of_kind p.kind self.now) addr n p) }
     {
-        let kind = kind_at(addr);
+        self.is_laid_out();
+        let kind = kind_at(addr)?;
         match kind {
             AllocKind::Fixed => self.fixed.place_of(kind, addr, n),
             AllocKind::Heap => self.heap.place_of(kind, addr, n),
@@ -196,25 +198,14 @@ impl Table {
         }
     }
 
-    /// Whether a live allocation has the `n` bytes from `addr` on.
-    fn has(&self, addr: u64, n: u64) -> bool
-        requires { 0 < n }
-        ensures { result ≡ is_some (find (covers addr n) (listed self.now)) }
-    {
-        let kind = kind_at(addr);
-        match kind {
-            AllocKind::Fixed => self.fixed.covers(kind, addr, n),
-            AllocKind::Heap => self.heap.covers(kind, addr, n),
-            AllocKind::Stack => self.stack.covers(kind, addr, n),
-        }
-    }
-
     /// The live allocation that has the `n` bytes from `addr` on.
+    #[inline(always)]
     fn covering(&self, addr: u64, n: u64) -> Option<Allocation>
         requires { 0 < n }
         ensures { result ≡ find (covers addr n) (listed self.now) }
     {
-        let kind = kind_at(addr);
+        self.is_laid_out();
+        let kind = kind_at(addr)?;
         match kind {
             AllocKind::Fixed => self.fixed.covering(kind, addr, n),
             AllocKind::Heap => self.heap.covering(kind, addr, n),

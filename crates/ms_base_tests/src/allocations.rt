@@ -44,6 +44,7 @@ use Step::{
     Release,
 };
 
+/// Each area is laid out.
 static LAYOUT: [Step; 31] = [
     Mark(STACK),
     Makes(Fixed, 5, FIXED),
@@ -78,6 +79,7 @@ static LAYOUT: [Step; 31] = [
     NoHeapBlock(STACK),
 ];
 
+/// Limits are kept.
 static LIMITS: [Step; 19] = [
     Fits(Fixed, 16777216, true),
     Fits(Fixed, 16777217, false),
@@ -100,6 +102,7 @@ static LIMITS: [Step; 19] = [
     Refuses(Stack, 1),
 ];
 
+/// Allocations end.
 /// A heap's address is never used again, and the stack's are.
 static ENDS: [Step; 22] = [
     Makes(Heap, 10, HEAP),
@@ -170,19 +173,9 @@ fn is_so(alloc: Global, steps: &[Step]) -> bool {
 }
 
 #[test]
-fn each_area_is_laid_out(rt: HostRuntime) -> Result<(), Fail> {
-    assert!(rt; is_so(rt.alloc(), &LAYOUT));
-    Ok(())
-}
-
-#[test]
-fn limits_are_kept(rt: HostRuntime) -> Result<(), Fail> {
-    assert!(rt; is_so(rt.alloc(), &LIMITS));
-    Ok(())
-}
-
-#[test]
-fn allocations_end(rt: HostRuntime) -> Result<(), Fail> {
-    assert!(rt; is_so(rt.alloc(), &ENDS));
+fn allocations_are_made_and_ended(rt: HostRuntime) -> Result<(), Fail> {
+    assert!(rt;
+        is_so(rt.alloc(), &LAYOUT) && is_so(rt.alloc(), &LIMITS) && is_so(rt.alloc(), &ENDS)
+    );
     Ok(())
 }

@@ -30,6 +30,7 @@ enum Step {
 
 use Step::{Byte, CopyBytes, CopyShadow, Len, Origin, SetByte, SetOrigin, SetShadow, Shadow};
 
+/// Shadow and cells of a block are copied.
 /// In a block of 8.
 static COPIED_SHADOW: [Step; 22] = [
     Len(8),
@@ -56,6 +57,7 @@ static COPIED_SHADOW: [Step; 22] = [
     Byte(4, 0),
 ];
 
+/// Bytes of a block are copied.
 /// In a block of 5, whose second cell has one byte.
 static COPIED_BYTES: [Step; 14] = [
     SetByte(0, 1),
@@ -74,6 +76,7 @@ static COPIED_BYTES: [Step; 14] = [
     Shadow(4, 0),
 ];
 
+/// A block may have no bytes.
 static NO_BYTES: [Step; 4] = [Len(0), CopyBytes(0, 0, 0), CopyShadow(0, 0, 0), Len(0)];
 
 static BYTES: [u8; 5] = [11, 12, 13, 14, 15];
@@ -221,25 +224,12 @@ fn all_copied(alloc: Global) -> bool {
 }
 
 #[test]
-fn shadow_and_cells_of_a_block_are_copied(rt: HostRuntime) -> Result<(), Fail> {
-    assert!(rt; is_so(rt.alloc(), 8, &COPIED_SHADOW));
-    Ok(())
-}
-
-#[test]
-fn bytes_of_a_block_are_copied(rt: HostRuntime) -> Result<(), Fail> {
-    assert!(rt; is_so(rt.alloc(), 5, &COPIED_BYTES));
-    Ok(())
-}
-
-#[test]
-fn a_block_may_have_no_bytes(rt: HostRuntime) -> Result<(), Fail> {
-    assert!(rt; is_so(rt.alloc(), 0, &NO_BYTES));
-    Ok(())
-}
-
-#[test]
-fn all_copies_in_a_block_are_those_of_arrays(rt: HostRuntime) -> Result<(), Fail> {
-    assert!(rt; all_copied(rt.alloc()));
+fn blocks_are_copied(rt: HostRuntime) -> Result<(), Fail> {
+    assert!(rt;
+        is_so(rt.alloc(), 8, &COPIED_SHADOW)
+            && is_so(rt.alloc(), 5, &COPIED_BYTES)
+            && is_so(rt.alloc(), 0, &NO_BYTES)
+            && all_copied(rt.alloc())
+    );
     Ok(())
 }

@@ -214,25 +214,14 @@ fn written_file_answers<R: rt::Files>(rt: &R, alloc: Global) -> bool {
 }
 
 #[test]
-fn files_in_memory_answer_by_what_they_hold(rt: HostRuntime) -> Result<(), Fail> {
-    assert!(rt; memory_answers(rt.alloc()) && sure_files_answer(rt.alloc()));
-    Ok(())
-}
-
-#[test]
-fn a_caller_copies_through_the_bounds(rt: HostRuntime) -> Result<(), Fail> {
-    assert!(rt; copies_fill_a_sink(rt.alloc()) && copies_are_whole(rt.alloc()));
-    Ok(())
-}
-
-#[test]
-fn a_caller_meets_a_failed_read(rt: HostRuntime) -> Result<(), Fail> {
-    assert!(rt; failed_reads_are_told(rt.alloc()));
-    Ok(())
-}
-
-#[test]
-fn files_of_the_file_system_are_read_whole(rt: HostRuntime) -> Result<(), Fail> {
-    assert!(rt; written_file_answers(&rt, rt.alloc()));
+fn files_are_read_and_copied(rt: HostRuntime) -> Result<(), Fail> {
+    assert!(rt;
+        memory_answers(rt.alloc())
+            && sure_files_answer(rt.alloc())
+            && copies_fill_a_sink(rt.alloc())
+            && copies_are_whole(rt.alloc())
+            && failed_reads_are_told(rt.alloc())
+            && written_file_answers(&rt, rt.alloc())
+    );
     Ok(())
 }

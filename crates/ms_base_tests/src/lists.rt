@@ -12,6 +12,7 @@ use std::test::Fail;
 /// Two lists of bytes, and their order.
 struct Ordered(&'static [u8], &'static [u8], Ordering);
 
+/// Lists are ordered by their first difference.
 static ORDERS: [Ordered; 8] = [
     Ordered(&[], &[], Ordering::Equal),
     Ordered(&[], &[0], Ordering::Less),
@@ -23,6 +24,7 @@ static ORDERS: [Ordered; 8] = [
     Ordered(&[0], &[], Ordering::Greater),
 ];
 
+/// Texts keep their bytes.
 static TEXTS: [&str; 4] = ["", "a", "main.0", "ä\n"];
 
 fn list(alloc: Global, items: &[u8]) -> Result<Bytes, NoMemory> {
@@ -125,26 +127,19 @@ fn all_kept(alloc: Global, texts: &[&str]) -> bool {
 }
 
 #[test]
-fn lists_are_ordered_by_their_first_difference(rt: HostRuntime) -> Result<(), Fail> {
-    assert!(rt; all_agree(rt.alloc(), &ORDERS));
-    Ok(())
-}
-
-#[test]
-fn copies_are_equal(rt: HostRuntime) -> Result<(), Fail> {
-    assert!(rt; small_values_are_copied(rt.alloc()) && words_are_copied(rt.alloc()));
-    Ok(())
-}
-
-#[test]
-fn texts_keep_their_bytes(rt: HostRuntime) -> Result<(), Fail> {
-    assert!(rt; all_kept(rt.alloc(), &TEXTS));
-    Ok(())
-}
-
-#[test]
 fn all_types_cross_threads() {
     all_shared();
     list_is_shared::<u64>();
     boxed_is_shared::<Bytes>();
+}
+
+#[test]
+fn lists_are_compared_and_copied(rt: HostRuntime) -> Result<(), Fail> {
+    assert!(rt;
+        all_agree(rt.alloc(), &ORDERS)
+            && small_values_are_copied(rt.alloc())
+            && words_are_copied(rt.alloc())
+            && all_kept(rt.alloc(), &TEXTS)
+    );
+    Ok(())
 }

@@ -24,6 +24,7 @@ enum Asked {
 
 use Asked::{Before, Behind};
 
+/// Uses are missed on a path.
 static ROWS: [Row; 13] = [
     // One side of a diamond defines.
     Row {
@@ -280,12 +281,6 @@ fn many_are_answered(alloc: Global) -> bool {
 
 #[test]
 fn uses_are_missed_on_a_path(rt: HostRuntime) -> Result<(), Fail> {
-    assert!(rt; all_agree(rt.alloc(), &ROWS));
-    Ok(())
-}
-
-#[test]
-fn many_values_are_looked_for(rt: HostRuntime) -> Result<(), Fail> {
-    assert!(rt; many_are_answered(rt.alloc()));
+    assert!(rt; all_agree(rt.alloc(), &ROWS) && many_are_answered(rt.alloc()));
     Ok(())
 }

@@ -59,6 +59,7 @@ use Step::{
     Poisoned, Refuses, Release, SetOrigin, Shadow, Store, StoreShadow, Unpoison,
 };
 
+/// Shadow and cells are copied.
 /// Cells are of four bytes.
 static SHADOW: [Step; 32] = [
     Makes(Heap, 8, HEAP),
@@ -95,6 +96,7 @@ static SHADOW: [Step; 32] = [
     Origin(HEAP + 4, 7),
 ];
 
+/// Bytes are copied both ways.
 static COPIES_UP: [Step; 5] = [
     Makes(Fixed, 8, FIXED),
     Store(FIXED, 8, 0x0807_0605_0403_0201),
@@ -103,6 +105,7 @@ static COPIES_UP: [Step; 5] = [
     Bytes(FIXED + 6, 0, 0),
 ];
 
+/// Bytes are copied both ways.
 static COPIES_DOWN: [Step; 4] = [
     Makes(Fixed, 8, FIXED),
     Store(FIXED, 8, 0x0807_0605_0403_0201),
@@ -110,6 +113,7 @@ static COPIES_DOWN: [Step; 4] = [
     Bytes(FIXED, 8, 0x0808_0706_0504_0302),
 ];
 
+/// Bytes are copied onto themselves.
 static COPIES_IN_PLACE: [Step; 4] = [
     Makes(Fixed, 8, FIXED),
     Store(FIXED, 8, 0x0807_0605_0403_0201),
@@ -117,6 +121,7 @@ static COPIES_IN_PLACE: [Step; 4] = [
     Bytes(FIXED, 8, 0x0807_0605_0403_0201),
 ];
 
+/// Bytes are copied between areas.
 static COPIES_BETWEEN_AREAS: [Step; 7] = [
     Makes(Heap, 3, HEAP),
     Makes(Stack, 3, STACK),
@@ -127,6 +132,7 @@ static COPIES_BETWEEN_AREAS: [Step; 7] = [
     Shadow(STACK, 3, 0),
 ];
 
+/// Allocations come and go.
 static ALLOCATIONS: [Step; 14] = [
     Makes(Heap, 16, HEAP),
     Block(HEAP, 16),
@@ -267,31 +273,14 @@ fn is_so(alloc: Global, steps: &[Step]) -> bool {
 }
 
 #[test]
-fn shadow_and_cells_are_copied(rt: HostRuntime) -> Result<(), Fail> {
-    assert!(rt; is_so(rt.alloc(), &SHADOW));
-    Ok(())
-}
-
-#[test]
-fn bytes_are_copied_both_ways(rt: HostRuntime) -> Result<(), Fail> {
-    assert!(rt; is_so(rt.alloc(), &COPIES_UP) && is_so(rt.alloc(), &COPIES_DOWN));
-    Ok(())
-}
-
-#[test]
-fn bytes_are_copied_onto_themselves(rt: HostRuntime) -> Result<(), Fail> {
-    assert!(rt; is_so(rt.alloc(), &COPIES_IN_PLACE));
-    Ok(())
-}
-
-#[test]
-fn bytes_are_copied_between_areas(rt: HostRuntime) -> Result<(), Fail> {
-    assert!(rt; is_so(rt.alloc(), &COPIES_BETWEEN_AREAS));
-    Ok(())
-}
-
-#[test]
-fn allocations_come_and_go(rt: HostRuntime) -> Result<(), Fail> {
-    assert!(rt; is_so(rt.alloc(), &ALLOCATIONS));
+fn planes_follow_their_histories(rt: HostRuntime) -> Result<(), Fail> {
+    assert!(rt;
+        is_so(rt.alloc(), &SHADOW)
+            && is_so(rt.alloc(), &COPIES_UP)
+            && is_so(rt.alloc(), &COPIES_DOWN)
+            && is_so(rt.alloc(), &COPIES_IN_PLACE)
+            && is_so(rt.alloc(), &COPIES_BETWEEN_AREAS)
+            && is_so(rt.alloc(), &ALLOCATIONS)
+    );
     Ok(())
 }

@@ -22,6 +22,7 @@ static PUTS: [Put; 6] = [
     Put("h", false, "abcde"),
 ];
 
+/// A write that takes nothing is a fault.
 /// Four bytes fit.
 static SENT: [Sent; 5] = [
     Sent("abc", true),
@@ -31,6 +32,7 @@ static SENT: [Sent; 5] = [
     Sent("", true),
 ];
 
+/// Standard error takes a put.
 static TO_STANDARD_ERROR: [Sent; 2] = [Sent("one put\n", true), Sent("", true)];
 
 /// A writer that takes one byte at a time, and none once its room is used up.
@@ -84,19 +86,11 @@ fn all_sent<O: Sink>(sink: &mut O, rows: &[Sent]) -> bool {
 }
 
 #[test]
-fn a_sink_in_memory_takes_what_fits(rt: HostRuntime) -> Result<(), Fail> {
-    assert!(rt; small_sink_takes(rt.alloc()));
-    Ok(())
-}
-
-#[test]
-fn a_write_that_takes_nothing_is_a_fault(rt: HostRuntime) -> Result<(), Fail> {
-    assert!(rt; all_sent(&mut RealSink::new(Trickle { room: 4 }), &SENT));
-    Ok(())
-}
-
-#[test]
-fn standard_error_takes_a_put(rt: HostRuntime) -> Result<(), Fail> {
-    assert!(rt; all_sent(&mut RealSink::new(rt.stderr()), &TO_STANDARD_ERROR));
+fn sinks_take_puts(rt: HostRuntime) -> Result<(), Fail> {
+    assert!(rt;
+        small_sink_takes(rt.alloc())
+            && all_sent(&mut RealSink::new(Trickle { room: 4 }), &SENT)
+            && all_sent(&mut RealSink::new(rt.stderr()), &TO_STANDARD_ERROR)
+    );
     Ok(())
 }

@@ -42,6 +42,7 @@ struct Cast(CastOp, Marks, u8, u64, u8, Answer);
 /// The bytes of a fill, a width, and the undefined word.
 struct Filled(&'static [u8], u8, u64);
 
+/// Operations are modulo two to the width.
 static RESULTS: [Binary; 34] = [
     Binary(BinOp::Add, Plain, 1, 1, 1, Gives(0)),
     Binary(BinOp::Add, Plain, 64, 0xffff_ffff_ffff_ffff, 2, Gives(1)),
@@ -107,6 +108,7 @@ static RESULTS: [Binary; 34] = [
     Binary(BinOp::Shl, Plain, 1, 1, 0, Gives(1)),
 ];
 
+/// Operations trap in order.
 static TRAPS: [Binary; 27] = [
     Binary(BinOp::Shl, Plain, 8, 1, 8, Traps(Trap::Shift)),
     Binary(BinOp::Shl, NuwNsw, 8, 0xff, 0xff, Traps(Trap::Shift)),
@@ -158,6 +160,7 @@ static TRAPS: [Binary; 27] = [
     Binary(BinOp::Sub, NuwNsw, 8, 0x7f, 0xff, Traps(Trap::Nuw)),
 ];
 
+/// Comparisons read signs.
 static COMPARISONS: [Compared; 25] = [
     Compared(Pred::Eq, Plain, 64, 5, 5, Gives(1)),
     Compared(Pred::Eq, Plain, 8, 0xff, 1, Gives(0)),
@@ -186,6 +189,7 @@ static COMPARISONS: [Compared; 25] = [
     Compared(Pred::Ult, Nuw, 8, 0x7f, 0x80, Gives(1)),
 ];
 
+/// Casts keep what their flags ask for.
 static CASTS: [Cast; 21] = [
     Cast(CastOp::Trunc, Plain, 16, 0x1ff, 8, Gives(0xff)),
     Cast(CastOp::Trunc, Nuw, 16, 256, 8, Traps(Trap::Nuw)),
@@ -238,6 +242,7 @@ static CASTS: [Cast; 21] = [
     Cast(CastOp::Bitcast, Plain, 64, 0xa5, 64, Gives(0xa5)),
 ];
 
+/// Undefined words go through their fill.
 static FILLS: [Filled; 6] = [
     Filled(&[0xa5, 0x01], 12, 0x1a5),
     Filled(&[0xa5, 0x01], 8, 0xa5),
@@ -360,31 +365,13 @@ fn all_filled(rows: &[Filled]) -> bool {
 }
 
 #[test]
-fn operations_are_modulo_two_to_the_width(rt: HostRuntime) -> Result<(), Fail> {
-    assert!(rt; all_computed(&RESULTS));
-    Ok(())
-}
-
-#[test]
-fn operations_trap_in_order(rt: HostRuntime) -> Result<(), Fail> {
-    assert!(rt; all_computed(&TRAPS));
-    Ok(())
-}
-
-#[test]
-fn comparisons_read_signs(rt: HostRuntime) -> Result<(), Fail> {
-    assert!(rt; all_compared(&COMPARISONS));
-    Ok(())
-}
-
-#[test]
-fn casts_keep_what_their_flags_ask_for(rt: HostRuntime) -> Result<(), Fail> {
-    assert!(rt; all_cast(&CASTS));
-    Ok(())
-}
-
-#[test]
-fn undefined_words_go_through_their_fill(rt: HostRuntime) -> Result<(), Fail> {
-    assert!(rt; all_filled(&FILLS));
+fn words_are_computed(rt: HostRuntime) -> Result<(), Fail> {
+    assert!(rt;
+        all_computed(&RESULTS)
+            && all_computed(&TRAPS)
+            && all_compared(&COMPARISONS)
+            && all_cast(&CASTS)
+            && all_filled(&FILLS)
+    );
     Ok(())
 }

@@ -4,7 +4,7 @@ use Rattle.std.specs.Prelude.{◌≢◌, ◌↔◌, ◌||◌, All, AllPairs, Con
 use Rattle.std.proofs.lemmas.Bool.{not-true}
 use Rattle.std.proofs.lemmas.List.{take-map}
 use Rattle.std.proofs.lemmas.List.Elements.{All-nil, All-cons, All-head, All-tail, All-append, All-map, All-filter}
-use Rattle.std.proofs.lemmas.Option.{slice_get-map, get_or_from_slice_get}
+use Rattle.std.proofs.lemmas.Option.{slice_get-map}
 use Rattle.ms_flow.specs.Paths as flow
 use Rattle.ms_flow.specs.declared.graphs.Use.{Use}
 use Rattle.ms_ir.specs.declared.syntax.Name.{Name}
@@ -122,10 +122,10 @@ module _ (f : Func) (defined : DefinedThere) where
       All-cons IsUseDefined u xs h.0 (all_defined xs (All-tail (IsOf f) u xs own) (All-tail IsWithin u xs within) h.1)
 
   -- the first of them that isn't is that of the first use that isn't
-  pub first_found : MissedThere → (xs : List SiteUse) → All (IsOf f) xs → All IsWithin xs → (w : ℕ) (path : List ℕ) (n : NotedUse)
+  pub first_found : MissedThere → (xs : List SiteUse) → All (IsOf f) xs → All IsWithin xs → (w : ℕ) (path : List ℕ) (site : ℕ)
       → w < length (asked xs) → All IsDefinedPlace (take w (places_of xs)) → IfSome (slice_get (places_of xs) w) (λ u. flow.Misses (graph_of f) u path)
-      → AllPairs (λ a b. a ≢ b) path → n ≡ slice_index_or (asked xs) w n → IsFirstOf xs n.site path
-  first_found missed xs own within w path n l before misses once read =
+      → AllPairs (λ a b. a ≢ b) path → IfSome (slice_get (asked xs) w) (λ n. site ≡ n.site) → IsFirstOf xs site path
+  first_found missed xs own within w path site l before misses once read =
       let r = kept_at is_asked noted_of xs w l in
       let mine = all_parts (IsOf f) r.earlier (r.item ∷ r.later) (subst (All (IsOf f)) r.splits own) in
       let inside = all_parts IsWithin r.earlier (r.item ∷ r.later) (subst (All IsWithin) r.splits within) in
@@ -143,5 +143,5 @@ module _ (f : Func) (defined : DefinedThere) where
         misses = missed r.item.func r.item.value path (no_parameter r.item.func r.item.value.name no)
             (subst (λ g. flow.Misses (graph_of g) (flow_use r.item.func r.item.value) path) (sym is) path_there);
         once = once;
-        stands = sym (ap (λ (k : NotedUse). k.site) (read ∙ get_or_from_slice_get (asked xs) w (noted_of r.item) n r.here));
+        stands = sym (subst (λ o. IfSome o (λ n. site ≡ n.site)) r.here read);
       }

@@ -1,14 +1,17 @@
 //! The first use that isn't defined on every path.
-ghost use Rattle.std.specs.Prelude.{◌≡◌, ◌+◌, IfOk, IfNone, IfSome, OnOk, All};
+ghost use Rattle.std.specs.Prelude.{◌≡◌, ◌≢◌, ◌+◌, ◌<◌, ◌^◌, ◌↔◌, length, map, take, slice_get, IfOk, IfNone, IfSome, IsNone, OnOk, All, AllPairs};
+ghost use Rattle.ms_flow.specs.Paths.{IsDefined, Misses};
+ghost use Rattle.ms_flow.specs.Search.{StaysIn};
 ghost use Rattle.ms_ir.specs.Code.{one_unmarked, over_blocks};
 ghost use Rattle.ms_valid.specs.Formed.{Formed};
 ghost use Rattle.ms_valid.specs.Refusals.{UpToPhis, IsFirstUndefined};
 ghost use Rattle.ms_valid.specs.UsesDefined.{IsUseDefined, UsesDefined};
 ghost use Rattle.ms_check_flow.specs.Asked.{func_uses, CanBeAsked, IsFirstOf};
 
-use crate::walks::{asked_of, places};
+use crate::here::NotedUse;
+use crate::walks::{Asked, asked_of, places};
 use ms_bits::{List, NoMemory};
-use ms_flow::missing;
+use ms_flow::{Missing, missing};
 use ms_ir::{Func, Module};
 use ms_valid::laws::graph_paths;
 use std::alloc::Global;
@@ -23,6 +26,36 @@ pub struct Undefined {
     pub path: List<u32>,
 }
 
+/// The first of the uses that are asked about that isn't defined, and a path to it.
+fn first_missing(alloc: Global, asked: &Asked) -> Result<Option<Missing>, NoMemory>
+    requires same_length { length asked.now.graph.next ≡ length asked.now.graph.defs }
+    requires successors { StaysIn asked.now.graph }
+    requires blocks { All (λ u. u.block < length asked.now.graph.next) (map (λ u. u.place) asked.now.noted.items) }
+    requires few { length (map (λ u. u.place) asked.now.noted.items) < 2 ^ 32 }
+    ensures none { IfOk result (λ answer. IsNone answer ↔ All (IsDefined asked.now.graph) (map (λ u. u.place) asked.now.noted.items)) }
+    ensures in_range { IfOk result (λ answer. IfSome answer (λ m. m.which < length (map (λ u. u.place) asked.now.noted.items))) }
+    ensures least { IfOk result (λ answer. IfSome answer (λ m.
+        All (IsDefined asked.now.graph) (take m.which (map (λ u. u.place) asked.now.noted.items)))) }
+    ensures path { IfOk result (λ answer. IfSome answer (λ m.
+        IfSome (slice_get (map (λ u. u.place) asked.now.noted.items) m.which) (λ u. Misses asked.now.graph u m.path))) }
+    ensures once { IfOk result (λ answer. IfSome answer (λ m. AllPairs (λ a b. a ≢ b) m.path)) }
+{
+    let uses = places(alloc, &asked.noted)?;
+    missing(alloc, &asked.graph, &uses)
+}
+
+/// The noted use of which an answer tells.
+fn undefined_at(noted: &[NotedUse], missing: Missing) -> Undefined
+    requires { missing.which < length noted.now }
+    ensures site { IfSome (slice_get noted.now missing.which) (λ u. result.site ≡ u.site) }
+    ensures path { result.path ≡ missing.path }
+{
+    Undefined {
+        site: noted[missing.which as usize].site,
+        path: missing.path,
+    }
+}
+
 /// The first use of a function that isn't defined, where its first instruction has a site. The site becomes that behind the
 /// function.
 fn first_in_func(alloc: Global, site: &mut u32, func: &Func) -> Result<Option<Undefined>, NoMemory>
@@ -33,13 +66,9 @@ fn first_in_func(alloc: Global, site: &mut u32, func: &Func) -> Result<Option<Un
 {
     graph_paths();
     let asked = asked_of(alloc, site, func)?;
-    let uses = places(alloc, &asked.noted)?;
-    match missing(alloc, &asked.graph, &uses)? {
+    match first_missing(alloc, &asked)? {
         None => Ok(None),
-        Some(missing) => Ok(Some(Undefined {
-            site: asked.noted[missing.which as usize].site,
-            path: missing.path,
-        })),
+        Some(missing) => Ok(Some(undefined_at(&asked.noted, missing))),
     }
 }
 

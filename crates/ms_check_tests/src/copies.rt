@@ -41,6 +41,7 @@ d:
 !0 = !{}
 "#;
 
+/// Copies are equal and changes are seen.
 static PAIRS: [Differing; 10] = [
     Differing(PARTS, PARTS, true),
     Differing("", PARTS, false),
@@ -146,13 +147,7 @@ fn has_names_in_order(alloc: Global, text: &str) -> bool {
 }
 
 #[test]
-fn copies_are_equal_and_changes_are_seen(rt: HostRuntime) -> Result<(), Fail> {
-    assert!(rt; all_agree(rt.alloc(), &PAIRS));
-    Ok(())
-}
-
-#[test]
-fn names_are_ordered(rt: HostRuntime) -> Result<(), Fail> {
-    assert!(rt; has_names_in_order(rt.alloc(), ORDERED));
+fn copies_are_equal_and_names_are_ordered(rt: HostRuntime) -> Result<(), Fail> {
+    assert!(rt; all_agree(rt.alloc(), &PAIRS) && has_names_in_order(rt.alloc(), ORDERED));
     Ok(())
 }

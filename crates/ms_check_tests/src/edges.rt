@@ -3,6 +3,7 @@
 use crate::answers::{Case, Want, all_agree};
 use std::test::Fail;
 
+/// Phis and branches.
 static EDGES: [Case; 17] = [
     // A branch to the entry block.
     Case(
@@ -257,13 +258,7 @@ define i32 @f() {
 ];
 
 #[test]
-fn phis_and_branches(rt: HostRuntime) -> Result<(), Fail> {
-    assert!(rt; all_agree(rt.alloc(), &EDGES));
-    Ok(())
-}
-
-#[test]
-fn mains(rt: HostRuntime) -> Result<(), Fail> {
-    assert!(rt; all_agree(rt.alloc(), &MAINS));
+fn edges_and_mains_fit(rt: HostRuntime) -> Result<(), Fail> {
+    assert!(rt; all_agree(rt.alloc(), &EDGES) && all_agree(rt.alloc(), &MAINS));
     Ok(())
 }

@@ -228,13 +228,7 @@ define i32 @main() {
 ];
 
 #[test]
-fn externals(rt: HostRuntime) -> Result<(), Fail> {
-    assert!(rt; all_agree(rt.alloc(), &EXTERNALS));
-    Ok(())
-}
-
-#[test]
-fn slots(rt: HostRuntime) -> Result<(), Fail> {
-    assert!(rt; all_agree(rt.alloc(), &SLOTS));
+fn externals_and_slots_fit(rt: HostRuntime) -> Result<(), Fail> {
+    assert!(rt; all_agree(rt.alloc(), &EXTERNALS) && all_agree(rt.alloc(), &SLOTS));
     Ok(())
 }

@@ -3,6 +3,7 @@
 use crate::answers::{Case, Want, all_agree};
 use std::test::Fail;
 
+/// Names are defined once.
 static DUPLICATES: [Case; 14] = [
     Case(
         r#"define i32 @main() {
@@ -156,6 +157,7 @@ define i32 @main() {
     ),
 ];
 
+/// Names are known.
 static UNKNOWNS: [Case; 9] = [
     Case(
         r#"define i32 @main() {
@@ -243,13 +245,7 @@ define i32 @main() {
 ];
 
 #[test]
-fn names_are_defined_once(rt: HostRuntime) -> Result<(), Fail> {
-    assert!(rt; all_agree(rt.alloc(), &DUPLICATES));
-    Ok(())
-}
-
-#[test]
-fn names_are_known(rt: HostRuntime) -> Result<(), Fail> {
-    assert!(rt; all_agree(rt.alloc(), &UNKNOWNS));
+fn names_are_known_once(rt: HostRuntime) -> Result<(), Fail> {
+    assert!(rt; all_agree(rt.alloc(), &DUPLICATES) && all_agree(rt.alloc(), &UNKNOWNS));
     Ok(())
 }

@@ -220,13 +220,7 @@ fn all_are_chains(alloc: Global, cases: &[Chain]) -> bool {
 }
 
 #[test]
-fn sizes(rt: HostRuntime) -> Result<(), Fail> {
-    assert!(rt; all_are_sized(rt.alloc(), &SIZES));
-    Ok(())
-}
-
-#[test]
-fn chains(rt: HostRuntime) -> Result<(), Fail> {
-    assert!(rt; all_are_chains(rt.alloc(), &CHAINS));
+fn sizes_and_chains_fit(rt: HostRuntime) -> Result<(), Fail> {
+    assert!(rt; all_are_sized(rt.alloc(), &SIZES) && all_are_chains(rt.alloc(), &CHAINS));
     Ok(())
 }

@@ -23,6 +23,7 @@ const TAIL: &str = "  ret i32 0\n}\n";
 /// A line of `@f`, and the answer.
 struct Line(&'static str, Want);
 
+/// Values and globals.
 static VALUES: [Line; 7] = [
     Line("  %4 = add i32 %0, %1\n", Want::TypeMismatch(3, 1)),
     Line("  %4 = add i32 %0, 7\n", Want::Valid),
@@ -83,7 +84,7 @@ static ARGUMENTS: [Line; 5] = [
     Line("  call void @g()\n", Want::TypeMismatch(3, 0)),
 ];
 
-// Types come before externals, so the last answer here says that the types agree.
+/// Types come before externals, so the last answer here says that the types agree.
 static PRINTED: [Line; 4] = [
     Line(
         "  %4 = call i32 (ptr, ...) @printf()\n",
@@ -269,43 +270,15 @@ fn all_agree_within(alloc: Global, head: &str, tail: &str, lines: &[Line]) -> bo
 }
 
 #[test]
-fn values_and_globals(rt: HostRuntime) -> Result<(), Fail> {
-    assert!(rt; all_agree_within(rt.alloc(), HEAD, TAIL, &VALUES));
-    Ok(())
-}
-
-#[test]
-fn casts(rt: HostRuntime) -> Result<(), Fail> {
-    assert!(rt; all_agree_within(rt.alloc(), HEAD, TAIL, &CASTS));
-    Ok(())
-}
-
-#[test]
-fn indices(rt: HostRuntime) -> Result<(), Fail> {
-    assert!(rt; all_agree_within(rt.alloc(), HEAD, TAIL, &INDICES));
-    Ok(())
-}
-
-#[test]
-fn arguments(rt: HostRuntime) -> Result<(), Fail> {
-    assert!(rt; all_agree_within(rt.alloc(), HEAD, TAIL, &ARGUMENTS));
-    Ok(())
-}
-
-#[test]
-fn printed(rt: HostRuntime) -> Result<(), Fail> {
-    assert!(rt; all_agree_within(rt.alloc(), HEAD, TAIL, &PRINTED));
-    Ok(())
-}
-
-#[test]
-fn terminators(rt: HostRuntime) -> Result<(), Fail> {
-    assert!(rt; all_agree(rt.alloc(), &TERMINATORS));
-    Ok(())
-}
-
-#[test]
-fn initialisers(rt: HostRuntime) -> Result<(), Fail> {
-    assert!(rt; all_agree_within(rt.alloc(), TYPES, MAIN, &INITIALISERS));
+fn types_agree(rt: HostRuntime) -> Result<(), Fail> {
+    assert!(rt;
+        all_agree_within(rt.alloc(), HEAD, TAIL, &VALUES)
+            && all_agree_within(rt.alloc(), HEAD, TAIL, &CASTS)
+            && all_agree_within(rt.alloc(), HEAD, TAIL, &INDICES)
+            && all_agree_within(rt.alloc(), HEAD, TAIL, &ARGUMENTS)
+            && all_agree_within(rt.alloc(), HEAD, TAIL, &PRINTED)
+            && all_agree(rt.alloc(), &TERMINATORS)
+            && all_agree_within(rt.alloc(), TYPES, MAIN, &INITIALISERS)
+    );
     Ok(())
 }

@@ -1,7 +1,7 @@
 //! The question, and its answer.
 ghost use Rattle.std.specs.Prelude.{◌≡◌, ◌≢◌, ℕ, ◌<◌, ◌≤◌, ◌^◌, ◌↔◌, ◌⊎◌, false, true, length, take, vec_len, IfOk, OnOk, IfSome, IfNone, IsNone, IsTrue, All, AllPairs, Contains, slice_get, slice_index_or};
 ghost use Rattle.ms_flow.specs.Paths.{Defines, IsDefined, Misses};
-ghost use Rattle.ms_flow.specs.Search.{StaysIn, IsUndefined, StandsAt, Leaves, Covers, use_at};
+ghost use Rattle.ms_flow.specs.Search.{Has, StaysIn, IsUndefined, StandsAt, Leaves, Covers, Comes, use_at};
 
 use crate::definitions::{definitions, tell};
 use crate::graphs::{Graph, Missing, Use};
@@ -108,6 +108,85 @@ fn ask(
     ask_in(alloc, g, &order, uses, definitions, questions, undefined)
 }
 
+/// What the blocks hold of the values of a round. Each list has an entry for each block.
+#[derive(Drop)]
+struct Room {
+    /// The values that the block defines.
+    kills: Vec<u64>,
+    /// The values that come to the block without a definition.
+    words: Vec<u64>,
+    /// Whether the block has something to hand on.
+    queued: Vec<bool>,
+}
+
+impl Room {
+    /// That for a number of blocks.
+    fn of(alloc: Global, blocks: usize) -> Result<Room, NoMemory>
+        ensures kills { IfOk result (λ r. vec_len r.kills ≡ blocks) }
+        ensures words { IfOk result (λ r. vec_len r.words ≡ blocks) }
+        ensures queued { IfOk result (λ r. vec_len r.queued ≡ blocks) }
+    {
+        let kills = vec![in alloc; 0u64; blocks]?;
+        let words = vec![in alloc; 0u64; blocks]?;
+        let queued = vec![in alloc; false; blocks]?;
+        Ok(Room {
+            kills,
+            words,
+            queued,
+        })
+    }
+
+    /// Takes up the values of a round, and hands them on in an order.
+    fn take_up(&mut self, g: &Graph, order: &[usize], definitions: &[(usize, u32)], values: &[u32])
+        requires filled { 0 < length g.now.next }
+        requires successors { StaysIn g.now }
+        requires order { All (λ b. b < length g.now.next) order.now }
+        requires all { Covers (length g.now.next) order.now }
+        requires known { All (λ d. d.0 < length g.now.next) definitions.now }
+        requires few { length values.now ≤ 64 }
+        requires kills { length self.old.kills.items ≡ length g.now.next }
+        requires words { length self.old.words.items ≡ length g.now.next }
+        requires queued { length self.old.queued.items ≡ length g.now.next }
+        ensures kills { length self.new.kills.items ≡ length g.now.next }
+        ensures words { length self.new.words.items ≡ length g.now.next }
+        ensures queued { length self.new.queued.items ≡ length g.now.next }
+        ensures tells { (b i : ℕ) → i < length values.now →
+            Has (slice_index_or self.new.kills.items b 0) i ↔ Contains definitions.now (b, slice_index_or values.now i 0) }
+        ensures comes { (b i : ℕ) → i < 64 →
+            Has (slice_index_or self.new.words.items b 0) i ↔ Comes g.now self.new.kills.items i b }
+    {
+        tell(values, definitions, &mut self.kills);
+        spread(g, order, &self.kills, &mut self.words, &mut self.queued);
+    }
+
+    /// Marks the uses whose values arrive and aren't defined before.
+    fn judge(
+        &self,
+        questions: &[(u32, usize)],
+        uses: &[Use],
+        values: &[u32],
+        undefined: &mut [bool],
+    )
+        requires few { length values.now ≤ 64 }
+        requires kills { length self.now.kills.items ≡ length self.now.words.items }
+        requires blocks { All (λ u. u.block < length self.now.words.items) uses.now }
+        requires places { All (λ q. q.1 < length uses.now) questions.now }
+        requires values { All (λ q. Contains values.now (use_at uses.now q.1).value) questions.now }
+        requires flags { length undefined.old ≡ length uses.now }
+        ensures marked { All (λ q. let u = use_at uses.now q.1 in
+            (i : ℕ) × StandsAt values.now u i
+            × (Leaves self.now.kills.items self.now.words.items u i → slice_index_or undefined.new q.1 false ≡ true)) questions.now }
+        ensures kept { (k : ℕ) →
+            slice_index_or undefined.old k false ≡ true → slice_index_or undefined.new k false ≡ true }
+        ensures right { (k : ℕ) → slice_index_or undefined.new k false ≡ true →
+            (slice_index_or undefined.old k false ≡ true)
+            ⊎ ((i : ℕ) × StandsAt values.now (use_at uses.now k) i
+            × Leaves self.now.kills.items self.now.words.items (use_at uses.now k) i) }
+    {
+        judge(questions, uses, values, &self.kills, &self.words, undefined);
+    }
+}
+
 /// Marks the uses that are asked about and that some path reaches without a definition, where blocks hand on in an order.
 fn ask_in(
     alloc: Global,
@@ -133,22 +212,12 @@ fn ask_in(
     ensures right { OnOk result ((k : ℕ) → slice_index_or undefined.new k false ≡ true →
         (slice_index_or undefined.old k false ≡ true) ⊎ IsUndefined g.now (use_at uses.now k)) }
 {
-    let mut kills = vec![in alloc; 0u64; g.len()]?;
-    let mut words = vec![in alloc; 0u64; g.len()]?;
-    let mut queued = vec![in alloc; false; g.len()]?;
+    let mut room = Room::of(alloc, g.len())?;
     let mut from = 0;
     while from < questions.len() {
         let (values, count) = first_values(alloc, &questions[from..])?;
-        tell(&values, definitions, &mut kills);
-        spread(g, order, &kills, &mut words, &mut queued);
-        judge(
-            &questions[from..from + count],
-            uses,
-            &values,
-            &kills,
-            &words,
-            undefined,
-        );
+        room.take_up(g, order, definitions, &values);
+        room.judge(&questions[from..from + count], uses, &values, undefined);
         from += count;
     }
     Ok(())

@@ -1,7 +1,8 @@
 -- Roots of operands and of calls.
 use Rattle.std.proofs.Math.Seq.{drop-cons}
-use Rattle.std.proofs.Common.{◌≡◌, ℕ, ◌<◌, suc, drop, length, get_or, Bool, true, false, List, [], ◌∷◌, ◌++◌, map, Option, Some, None, is_some, if◌then◌else◌, codes, refl, ap, sym, ◌∙◌, subst, inl, inr}
-use Rattle.std.specs.List.{flat_map}
+use Rattle.std.proofs.Common.{◌≡◌, ℕ, ◌+◌, ◌<◌, zero, suc, take, drop, add-one, append_assoc, length, get_or, Bool, true, false, List, [], ◌∷◌, ◌++◌, map, Option, Some, None, is_some, if◌then◌else◌, codes, refl, ap, sym, ◌∙◌, subst, inl, inr}
+use Rattle.std.specs.Prelude.{flat_map, option_to_list, slice_get}
+use Rattle.std.proofs.lemmas.Grind.{flat_map-append}
 use Rattle.std.specs.Cmp.Lexicographic.{same_text}
 use Rattle.std.proofs.lemmas.Bool.{cases_Bool, eqb-true}
 use Rattle.std.proofs.lemmas.Option.{same_Some}
@@ -19,7 +20,7 @@ use Rattle.ms_ir.specs.declared.places.Root.{Root}
 use Rattle.ms_ir.specs.declared.places.RootKind.{RootKind}
 use Rattle.ms_ir.specs.declared.places.RootKind.TheVariants as kind
 use Rattle.ms_ir.specs.Names.{name_eq, lookup, externals, external_name}
-use Rattle.ms_ir.specs.Code.{func_index, external_named, operands}
+use Rattle.ms_ir.specs.Code.{func_index, external_named}
 use Rattle.ms_ir.specs.Roots.{undef_roots, call_roots, own_roots}
 use Rattle.ms_ir.specs.Rooted.{operand_roots, roots_of_kind, kind_of, called_kind}
 
@@ -34,16 +35,23 @@ undef_roots-cons site t (operand.Local x) rest = refl
 undef_roots-cons site t (operand.Global x) rest = refl
 undef_roots-cons site t (operand.Offset u x is) rest = refl
 
-of_edges : (site : ℕ) (t : Ty) (edges : List (Operand × Name)) → flat_map (λ e. operand_roots site e.0) edges ≡ undef_roots site (map (λ e. (t, e.0)) edges)
-of_edges site t [] = refl
-of_edges site t (e ∷ rest) = ap (λ r. operand_roots site e.0 ++ r) (of_edges site t rest) ∙ sym (undef_roots-cons site t e.0 (map (λ e. (t, e.0)) rest))
+-- the roots of operands are those of each in turn
+pub roots_of_all : (site : ℕ) (os : List (Ty × Operand)) → flat_map (operand_roots site) (map (λ o. o.1) os) ≡ undef_roots site os
+roots_of_all site [] = refl
+roots_of_all site ((t, o) ∷ rest) = ap (λ r. operand_roots site o ++ r) (roots_of_all site rest) ∙ sym (undef_roots-cons site t o rest)
 
--- the edges of a phi, as the calls gave them
-pub phi_roots : (site : ℕ) (o : Op) (t : Ty) (edges given : List (Operand × Name)) (old new : List Root) → o ≡ op.Phi t edges → given ≡ edges
-    → new ≡ old ++ flat_map (λ e. operand_roots site e.0) given → new ≡ old ++ undef_roots site (operands o)
-phi_roots site o t edges given old new phi same is =
-    is ∙ ap (λ es. old ++ flat_map (λ e. operand_roots site e.0) es) same ∙ ap (λ r. old ++ r) (of_edges site t edges)
-    ∙ ap (λ p. old ++ undef_roots site (operands p)) (sym phi)
+one_more : {A : Type 0} (xs : List A) (k : ℕ) → take (suc k) xs ≡ take k xs ++ option_to_list (slice_get xs k)
+one_more [] zero = refl
+one_more [] (suc k) = refl
+one_more (x ∷ xs) zero = refl
+one_more (x ∷ xs) (suc k) = ap (λ l. x ∷ l) (one_more xs k)
+
+-- those of one operand more
+pub roots_next : {A B : Type 0} (h : A → List B) (xs : List A) (k : ℕ) (start before after : List B) → after ≡ before ++ flat_map h (option_to_list (slice_get xs k))
+    → before ≡ start ++ flat_map h (take k xs) → after ≡ start ++ flat_map h (take (k + 1) xs)
+roots_next h xs k start before after next so_far =
+    next ∙ ap (λ l. l ++ flat_map h (option_to_list (slice_get xs k))) so_far ∙ append_assoc start (flat_map h (take k xs)) (flat_map h (option_to_list (slice_get xs k)))
+    ∙ ap (λ l. start ++ l) (sym (flat_map-append h (take k xs) (option_to_list (slice_get xs k))) ∙ ap (flat_map h) (sym (ap (λ n. take n xs) (add-one k) ∙ one_more xs k)))
 
 -- ---- calls
 

@@ -1,10 +1,11 @@
 //! Equality of types and operands, named types by name (LLVM Language Reference, "Structure Type").
 ghost use Rattle.std.specs.Prelude.{◌≡◌};
 ghost use Rattle.std.specs.Cmp.{partial_equiv_from_equiv};
+ghost use Rattle.ms_ir.specs.declared.syntax.Operand.TheVariants as operand;
 ghost use Rattle.ms_ir.specs.Equal.{type_eq, types_eq, indices_eq, is_undefined, operand_eq};
 ghost use Rattle.ms_ir.specs.TypeLaws.{type_eq_equiv};
 
-use crate::syntax::{Operand, Ty};
+use crate::syntax::{Name, Operand, Ty};
 use ms_bits::List;
 
 impl PartialEq for Ty {
@@ -73,18 +74,68 @@ fn same_indices(indices: &List<(Ty, u64)>, others: &List<(Ty, u64)>) -> bool
     indices == others
 }
 
+/// Whether it is the integer.
+fn is_int(other: &Operand, value: u64) -> bool
+    ensures { result ≡ operand_eq (operand.Int value) other.now }
+{
+    match other {
+        Operand::Int(own) => value == *own,
+        _ => false,
+    }
+}
+
+/// Whether it is the null pointer.
+fn is_null(other: &Operand) -> bool
+    ensures { result ≡ operand_eq operand.Null other.now }
+{
+    match other {
+        Operand::Null => true,
+        _ => false,
+    }
+}
+
+/// Whether it is the local.
+fn is_local(other: &Operand, name: &Name) -> bool
+    ensures { result ≡ operand_eq (operand.Local name.now) other.now }
+{
+    match other {
+        Operand::Local(own) => name == own,
+        _ => false,
+    }
+}
+
+/// Whether it is the address of the global.
+fn is_global(other: &Operand, name: &Name) -> bool
+    ensures { result ≡ operand_eq (operand.Global name.now) other.now }
+{
+    match other {
+        Operand::Global(own) => name == own,
+        _ => false,
+    }
+}
+
+/// Whether it is the address that the indices lead to from the global.
+fn is_offset(other: &Operand, ty: &Ty, name: &Name, indices: &List<(Ty, u64)>) -> bool
+    ensures { result ≡ operand_eq (operand.Offset ty.now name.now indices.now) other.now }
+{
+    match other {
+        Operand::Offset(own, global, others) => {
+            ty == own && name == global && same_indices(indices, others)
+        }
+        _ => false,
+    }
+}
+
 /// Whether two operands of one type mean the same: `poison` is `undef` here, which `==` tells apart.
 pub fn same_operand(a: &Operand, b: &Operand) -> bool
     ensures { result ≡ operand_eq a.now b.now }
 {
-    match (a, b) {
-        (Operand::Int(m), Operand::Int(n)) => *m == *n,
-        (Operand::Null, Operand::Null) => true,
-        (Operand::Local(x), Operand::Local(y)) => x == y,
-        (Operand::Global(x), Operand::Global(y)) => x == y,
-        (Operand::Offset(t, x, indices), Operand::Offset(u, y, others)) => {
-            t == u && x == y && same_indices(indices, others)
-        }
-        _ => a.is_undefined() && b.is_undefined(),
+    match a {
+        Operand::Int(value) => is_int(b, *value),
+        Operand::Null => is_null(b),
+        Operand::Local(name) => is_local(b, name),
+        Operand::Global(name) => is_global(b, name),
+        Operand::Offset(ty, name, indices) => is_offset(b, ty, name, indices),
+        _ => b.is_undefined(),
     }
 }

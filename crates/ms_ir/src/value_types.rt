@@ -83,6 +83,28 @@ fn of_two<'a>(a: ValueType<'a>, b: ValueType<'a>, k: usize) -> Option<ValueType<
     }
 }
 
+/// The type of one operand, as it is written.
+fn of_written(ty: &Ty, k: usize) -> Option<ValueType<'_>>
+    ensures { option_map type_of result ≡ slice_get (ty.now ∷ []) k }
+{
+    of_one(ValueType::Written(ty), k)
+}
+
+/// The type that two operands have, as it is written.
+fn of_both(ty: &Ty, k: usize) -> Option<ValueType<'_>>
+    ensures { option_map type_of result ≡ slice_get (ty.now ∷ ty.now ∷ []) k }
+{
+    let ty = ValueType::Written(ty);
+    of_two(ty, ty, k)
+}
+
+/// The type of a `store`'s operand with a place.
+fn of_store(ty: &Ty, k: usize) -> Option<ValueType<'_>>
+    ensures { option_map type_of result ≡ slice_get (ty.now ∷ type.Ptr ∷ []) k }
+{
+    of_two(ValueType::Written(ty), ValueType::Pointer, k)
+}
+
 /// The type of the edge of a phi with a place, which is that of the phi.
 fn of_edge<'a>(ty: &'a Ty, edges: &[(Operand, Name)], k: usize) -> Option<ValueType<'a>>
     ensures { option_map type_of result ≡ slice_get (map (λ e. ty.now) edges.now) k }
@@ -132,20 +154,20 @@ impl Op {
         ensures { option_map type_of result ≡ slice_get (map (λ o. o.0) (operands self.now)) k }
     {
         match self {
-            Op::Binary { ty, .. } => of_two(ValueType::Written(ty), ValueType::Written(ty), k),
-            Op::Icmp { ty, .. } => of_two(ValueType::Written(ty), ValueType::Written(ty), k),
-            Op::Cast { from, .. } => of_one(ValueType::Written(from), k),
+            Op::Binary { ty, .. } => of_both(ty, k),
+            Op::Icmp { ty, .. } => of_both(ty, k),
+            Op::Cast { from, .. } => of_written(from, k),
             Op::Select { ty, .. } => of_select(ty, k),
-            Op::Freeze { ty, .. } => of_one(ValueType::Written(ty), k),
+            Op::Freeze { ty, .. } => of_written(ty, k),
             Op::Phi { ty, edges } => of_edge(ty, edges.as_slice(), k),
-            Op::Alloca { count_ty, .. } => of_one(ValueType::Written(count_ty), k),
+            Op::Alloca { count_ty, .. } => of_written(count_ty, k),
             Op::Load { .. } => of_one(ValueType::Pointer, k),
-            Op::Store { ty, .. } => of_two(ValueType::Written(ty), ValueType::Pointer, k),
+            Op::Store { ty, .. } => of_store(ty, k),
             Op::Gep { indices, .. } => of_step(indices.as_slice(), k),
             Op::Call { args, .. } => of_typed(args.as_slice(), k),
             Op::CondBr { .. } => of_one(ValueType::Bit, k),
-            Op::Switch { ty, .. } => of_one(ValueType::Written(ty), k),
-            Op::Ret { value: Some(typed) } => of_one(ValueType::Written(&typed.0), k),
+            Op::Switch { ty, .. } => of_written(ty, k),
+            Op::Ret { value: Some(typed) } => of_written(&typed.0, k),
             _ => None,
         }
     }

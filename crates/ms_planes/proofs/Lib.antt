@@ -11,3 +11,4 @@ pub mod Stores
 pub mod Histories
 pub mod Copied
 pub mod Good
+pub mod Cells

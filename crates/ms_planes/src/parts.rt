@@ -66,7 +66,7 @@ fn two_at(block: &Block, part: Part, at: u64) -> u16
 }
 
 /// The number that the four bytes from place `at` on are, the least first.
-fn four_at(block: &Block, part: Part, at: u64) -> u32
+pub(crate) fn four_at(block: &Block, part: Part, at: u64) -> u32
     requires within { at + 4 ≤ length block.now.bytes }
     requires small { at < 2 ^ 40 }
     ensures { result ≡ number_at (held (bytes_in part block.now)) at 4 }

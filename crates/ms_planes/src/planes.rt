@@ -208,10 +208,7 @@ impl Planes {
         requires short { n ≤ 8 }
         ensures { result ≡ number_at (bytes_of self.now) addr n }
     {
-        match self.number(Part::Bytes, addr, n) {
-            Some(v) => v,
-            None => 0,
-        }
+        self.number(Part::Bytes, addr, n).unwrap()
     }
 
     /// Writes the `n` low bytes of `v`, the least first, and answers whether they are good; else nothing changes.
@@ -297,10 +294,7 @@ impl Planes {
         requires short { n ≤ 8 }
         ensures { result ≡ number_at (shadow_of self.now) addr n }
     {
-        match self.number(Part::Shadow, addr, n) {
-            Some(v) => v,
-            None => 0,
-        }
+        self.number(Part::Shadow, addr, n).unwrap()
     }
 
     /// Writes the `n` low bytes of `v` as shadow, the least first, and answers whether the bytes are good; else nothing
@@ -452,7 +446,7 @@ impl Planes {
         };
         match self.block(place) {
             Some(block) => Some(number(block, part, addr - place.base, n)),
-            None => None,
+            None => unreachable!(),
         }
     }
 

@@ -31,18 +31,30 @@ fn origin_operand(alloc: Global, shadow: Shadow) -> Result<Operand, NoMemory>
     }
 }
 
-/// Adds an edge with a copy of a label.
+/// Adds an edge.
 fn push_edge(
-    alloc: Global,
     edges: &mut Vec<(Operand, Name)>,
     operand: Operand,
-    label: &Name,
+    label: Name,
 ) -> Result<(), NoMemory>
-    ensures { OnOk result (edges.new.items ≡ edges.old.items ++ (operand, label.now) ∷ []) }
+    ensures { OnOk result (edges.new.items ≡ edges.old.items ++ (operand, label) ∷ []) }
 {
-    let label = label.copy(alloc)?;
     edges.push((operand, label))?;
     Ok(())
+}
+
+/// Adds an edge with a mask and a copy of a label.
+fn push_mask(
+    alloc: Global,
+    edges: &mut Vec<(Operand, Name)>,
+    shadow: Shadow,
+    label: &Name,
+) -> Result<(), NoMemory>
+    ensures { OnOk result (edges.new.items ≡ edges.old.items ++ (shadow_mask shadow, label.now) ∷ []) }
+{
+    let label = label.copy(alloc)?;
+    let operand = mask_operand(alloc, shadow)?;
+    push_edge(edges, operand, label)
 }
 
 /// Edges with the masks of their operands.
@@ -56,8 +68,7 @@ pub fn mask_edges(
 {
     let mut made = Vec::new(alloc);
     for (place, edge) in edges.iter().enumerate() {
-        let operand = mask_operand(alloc, operands[place].shadow)?;
-        push_edge(alloc, &mut made, operand, &edge.1)?;
+        push_mask(alloc, &mut made, operands[place].shadow, &edge.1)?;
     }
     Ok(List::from_vec(made))
 }
@@ -91,6 +102,37 @@ fn first_origin(
     }
 }
 
+/// Adds an edge with the origin at the first place of a label and a copy of the label.
+fn push_first(
+    alloc: Global,
+    edges: &mut Vec<(Operand, Name)>,
+    operands: &[TrackedOperand<'_>],
+    labels: &NameTable<'_>,
+    label: &Name,
+) -> Result<(), NoMemory>
+    ensures { OnOk result (edges.new.items ≡ edges.old.items ++ (first_operand (origins operands.now) labels.now label.now, label.now) ∷ []) }
+{
+    let copied = label.copy(alloc)?;
+    let operand = first_origin(alloc, operands, labels, label)?;
+    push_edge(edges, operand, copied)
+}
+
+/// Edges with the origins at the first places of their labels.
+fn first_edges(
+    alloc: Global,
+    operands: &[TrackedOperand<'_>],
+    edges: &[(Operand, Name)],
+    labels: &NameTable<'_>,
+) -> Result<List<(Operand, Name)>, NoMemory>
+    ensures { IfOk result (λ es. es ≡ with_first (origins operands.now) labels.now edges.now) }
+{
+    let mut made = Vec::new(alloc);
+    for edge in edges {
+        push_first(alloc, &mut made, operands, labels, &edge.1)?;
+    }
+    Ok(List::from_vec(made))
+}
+
 /// Edges with the origins of the first ones that have their labels. These are looked up in a table, since a phi may have
 /// many edges.
 pub fn origin_edges(
@@ -101,10 +143,5 @@ pub fn origin_edges(
     ensures { IfOk result (λ es. es ≡ with_first (origins operands.now) (map (λ e. e.1) edges.now) edges.now) }
 {
     let labels = labels_of(alloc, edges)?;
-    let mut made = Vec::new(alloc);
-    for edge in edges {
-        let operand = first_origin(alloc, operands, &labels, &edge.1)?;
-        push_edge(alloc, &mut made, operand, &edge.1)?;
-    }
-    Ok(List::from_vec(made))
+    first_edges(alloc, operands, edges, &labels)
 }

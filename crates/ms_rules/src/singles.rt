@@ -179,6 +179,34 @@ fn round_inst(
     }
 }
 
+/// The lists round an instruction of a function, with the names of the function's values.
+fn round_named<'m>(
+    alloc: Global,
+    extents: &Extents<'m>,
+    functions: &NameTable<'m>,
+    func: &'m Func,
+    values: &NameTable<'m>,
+    inst: &Inst,
+    env: &'m Env,
+    next: u32,
+) -> Result<Emitted, NoMemory>
+    requires few { length values.now ≤ 2 ^ 30 }
+    requires named { values.now ≡ value_names func.now }
+    requires taken { IsTaken extents.now inst.now }
+    requires room { next + 200 + 30 * length (operands inst.now.op) < 2 ^ 32 }
+    ensures { IfOk result (λ e. lists_of e ≡ single_lists (record { types = extents.now; func = first_place functions.now }) (env_named (value_names func.now) env.now.values) (record { site = env.now.site; root = env.now.root; main = name_eq func.now.name main_name }) inst.now next) }
+{
+    let clean = clean_names(alloc, &env.values)?;
+    let scope = Scope {
+        extents,
+        functions,
+        values,
+        clean: &clean,
+        main: func.name.is(b"main"),
+    };
+    round_inst(alloc, &scope, env.site, env.root as u64, next as u64, inst)
+}
+
 /// The lists round an instruction of a function.
 fn round_in<'m>(
     alloc: Global,
@@ -195,15 +223,27 @@ fn round_in<'m>(
     ensures { IfOk result (λ e. lists_of e ≡ single_lists (record { types = extents.now; func = first_place functions.now }) (env_named (value_names func.now) env.now.values) (record { site = env.now.site; root = env.now.root; main = name_eq func.now.name main_name }) inst.now next) }
 {
     let values = values_of(alloc, func)?;
-    let clean = clean_names(alloc, &env.values)?;
-    let scope = Scope {
-        extents,
-        functions,
-        values: &values,
-        clean: &clean,
-        main: func.name.is(b"main"),
-    };
-    round_inst(alloc, &scope, env.site, env.root as u64, next as u64, inst)
+    round_named(alloc, extents, functions, func, &values, inst, env, next)
+}
+
+/// The lists round an instruction of a function of a module, with the sizes of the module's types.
+fn round_sized<'m>(
+    alloc: Global,
+    m: &'m Module,
+    extents: &Extents<'m>,
+    func: &'m Func,
+    inst: &Inst,
+    env: &'m Env,
+    next: u32,
+) -> Result<Emitted, NoMemory>
+    requires few { length (value_names func.now) ≤ 2 ^ 30 }
+    requires sized { extents.now ≡ m.now.types }
+    requires taken { IsTaken extents.now inst.now }
+    requires room { next + 200 + 30 * length (operands inst.now.op) < 2 ^ 32 }
+    ensures { IfOk result (λ e. lists_of e ≡ single_lists (given_in m.now) (env_named (value_names func.now) env.now.values) (record { site = env.now.site; root = env.now.root; main = name_eq func.now.name main_name }) inst.now next) }
+{
+    let functions = functions_of(alloc, m)?;
+    round_in(alloc, extents, &functions, func, inst, env, next)
 }
 
 /// The lists round an instruction of a function of a module.
@@ -221,8 +261,7 @@ fn round_of<'m>(
     ensures { IfOk result (λ e. lists_of e ≡ single_lists (given_in m.now) (env_named (value_names func.now) env.now.values) (record { site = env.now.site; root = env.now.root; main = name_eq func.now.name main_name }) inst.now next) }
 {
     let extents = Extents::of(alloc, m)?;
-    let functions = functions_of(alloc, m)?;
-    round_in(alloc, &extents, &functions, func, inst, env, next)
+    round_sized(alloc, m, &extents, func, inst, env, next)
 }
 
 /// The lists that stand round an unmarked instruction of the function with a number, in a module that can be instrumented.

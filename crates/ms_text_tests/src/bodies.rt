@@ -6,7 +6,7 @@ use ms_grammar::Outside;
 use ms_ir::Form::{Instrumented, Plain};
 
 /// Functions with their parameters, blocks and numbers.
-pub static FUNCTIONS: [Case; 39] = [
+pub static FUNCTIONS: [Case; 40] = [
     Case(
         Plain,
         "define i32 @main() {\n  ret i32 0\n}\n",
@@ -88,6 +88,12 @@ pub static FUNCTIONS: [Case; 39] = [
     Case(
         Plain,
         "define i32 @main() {\n  %__msan.x = add i32 1, 2\n",
+        Reserved(6, 23),
+    ),
+    // Inserted code has names of this form.
+    Case(
+        Plain,
+        "define i32 @main() {\n  %__msan.1 = add i32 1, 2\n",
         Reserved(6, 23),
     ),
     Case(

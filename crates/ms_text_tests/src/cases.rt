@@ -196,3 +196,13 @@ pub fn all_agree(alloc: Global, frame: &Frame, cases: &[Case]) -> bool {
     }
     true
 }
+
+/// Whether that holds of each of these tables.
+pub fn all_tables_agree(alloc: Global, frame: &Frame, tables: &[&[Case]]) -> bool {
+    for cases in tables {
+        if !all_agree(alloc, frame, cases) {
+            return false;
+        }
+    }
+    true
+}

@@ -146,7 +146,6 @@ pub static MEMORY: [Case; 20] = [
     ),
 ];
 
-/// Calls.
 pub static CALLS: [Case; 22] = [
     Case(
         Plain,

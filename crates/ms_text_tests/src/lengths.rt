@@ -22,6 +22,7 @@ struct Long(
     Want,
 );
 
+/// Limits are kept.
 /// At the limit and one past it.
 static LIMITS: [Long; 24] = [
     Long(Plain, "@", "a", 1024, " = global i8 0\n", "", "", Kept),
@@ -221,6 +222,7 @@ static LIMITS: [Long; 24] = [
     ),
 ];
 
+/// Brackets nest without limit.
 /// Each bracket is open in the one before.
 static BRACKETS: [Long; 2] = [
     Long(
@@ -245,6 +247,7 @@ static BRACKETS: [Long; 2] = [
     ),
 ];
 
+/// Tokens are counted.
 /// As many tokens as a text of the plain form may have, and one more.
 static TOKENS: [Long; 2] = [
     Long(Plain, "", "((((((((", 131072, "", "", "", Syntax(0, 0)),
@@ -297,18 +300,10 @@ fn all_agree(alloc: Global, rows: &[Long]) -> bool {
 
 #[test]
 fn limits_are_kept(rt: HostRuntime) -> Result<(), Fail> {
-    assert!(rt; all_agree(rt.alloc(), &LIMITS));
-    Ok(())
-}
-
-#[test]
-fn brackets_nest_without_limit(rt: HostRuntime) -> Result<(), Fail> {
-    assert!(rt; all_agree(rt.alloc(), &BRACKETS));
-    Ok(())
-}
-
-#[test]
-fn tokens_are_counted(rt: HostRuntime) -> Result<(), Fail> {
-    assert!(rt; all_agree(rt.alloc(), &TOKENS));
+    assert!(rt;
+        all_agree(rt.alloc(), &LIMITS)
+            && all_agree(rt.alloc(), &BRACKETS)
+            && all_agree(rt.alloc(), &TOKENS)
+    );
     Ok(())
 }

@@ -24,6 +24,7 @@ struct Numbered(&'static str, Option<i128>);
 /// An error, and what is shown of it.
 struct Shown(LexError, &'static str);
 
+/// Texts have these tokens.
 static CUTS: [Cut; 22] = [
     Cut("", &[]),
     Cut(" \t\r\n; no token ? \"", &[]),
@@ -98,6 +99,7 @@ static CUTS: [Cut; 22] = [
     ),
 ];
 
+/// Texts are refused there.
 static REFUSED: [Refused; 15] = [
     Refused("?", 9, LexError::BadByte { place: 0 }),
     Refused("\"abc", 9, LexError::OpenString { place: 0 }),
@@ -116,6 +118,7 @@ static REFUSED: [Refused; 15] = [
     Refused("x", 0, LexError::TooManyTokens),
 ];
 
+/// Tokens have these names.
 static NAMES: [Named; 14] = [
     Named("\"a\\5Cb\\22\"", b"a\\b\""),
     Named("\"\\\\41\"", b"\\41"),
@@ -133,6 +136,7 @@ static NAMES: [Named; 14] = [
     Named("\"\"", b""),
 ];
 
+/// Tokens have these numbers.
 static NUMBERS: [Numbered; 9] = [
     Numbered("-5", Some(-5)),
     Numbered("-0", Some(0)),
@@ -148,6 +152,7 @@ static NUMBERS: [Numbered; 9] = [
     ),
 ];
 
+/// Errors are shown.
 static SHOWN: [Shown; 4] = [
     Shown(LexError::BadByte { place: 3 }, "bad byte at 3"),
     Shown(LexError::OpenString { place: 0 }, "open string at 0"),
@@ -275,31 +280,13 @@ fn all_shown(alloc: Global, rows: &[Shown]) -> bool {
 }
 
 #[test]
-fn texts_have_these_tokens(rt: HostRuntime) -> Result<(), Fail> {
-    assert!(rt; all_cut(rt.alloc(), &CUTS));
-    Ok(())
-}
-
-#[test]
-fn texts_are_refused_there(rt: HostRuntime) -> Result<(), Fail> {
-    assert!(rt; all_refused(rt.alloc(), &REFUSED));
-    Ok(())
-}
-
-#[test]
-fn tokens_have_these_names(rt: HostRuntime) -> Result<(), Fail> {
-    assert!(rt; all_named(rt.alloc(), &NAMES));
-    Ok(())
-}
-
-#[test]
-fn tokens_have_these_numbers(rt: HostRuntime) -> Result<(), Fail> {
-    assert!(rt; all_numbered(rt.alloc(), &NUMBERS));
-    Ok(())
-}
-
-#[test]
-fn errors_are_shown(rt: HostRuntime) -> Result<(), Fail> {
-    assert!(rt; all_shown(rt.alloc(), &SHOWN));
+fn texts_are_cut(rt: HostRuntime) -> Result<(), Fail> {
+    assert!(rt;
+        all_cut(rt.alloc(), &CUTS)
+            && all_refused(rt.alloc(), &REFUSED)
+            && all_named(rt.alloc(), &NAMES)
+            && all_numbered(rt.alloc(), &NUMBERS)
+            && all_shown(rt.alloc(), &SHOWN)
+    );
     Ok(())
 }

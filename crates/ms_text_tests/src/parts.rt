@@ -47,7 +47,7 @@ struct Part(Piece, Form, &'static str, u32, Answer);
 
 const MAIN: &str = "define i32 @main() {\n  %1 = add i32 1, 2\n  ret i32 0\n}\n";
 
-/// Types.
+/// Types are read.
 static TYPES: [Part; 19] = [
     Part(Type, Plain, "[ 2 x { i8, ptr } ] x", 0, Next(9)),
     Part(Type, Plain, "<{ i064 }>", 0, Next(5)),
@@ -94,6 +94,7 @@ static TYPES: [Part; 19] = [
     ),
 ];
 
+/// Values are read.
 /// Values behind their types.
 static VALUES: [Part; 24] = [
     Part(Byte, Plain, "-128", 0, Next(1)),
@@ -146,6 +147,7 @@ static VALUES: [Part; 24] = [
     ),
 ];
 
+/// Attributes are read over.
 /// Attributes, as many as come.
 static ATTRIBUTES: [Part; 10] = [
     Part(
@@ -184,6 +186,7 @@ static ATTRIBUTES: [Part; 10] = [
     Part(Attributes, Instrumented, "w(%__msan.1) )", 0, Next(4)),
 ];
 
+/// Functions are read.
 /// Functions, also behind others and up to the limit of instructions.
 static FUNCTIONS: [Part; 10] = [
     Part(Function, Plain, MAIN, 0, Next(17)),
@@ -320,25 +323,12 @@ fn all_agree(alloc: Global, parts: &[Part]) -> bool {
 }
 
 #[test]
-fn types_are_read(rt: HostRuntime) -> Result<(), Fail> {
-    assert!(rt; all_agree(rt.alloc(), &TYPES));
-    Ok(())
-}
-
-#[test]
-fn values_are_read(rt: HostRuntime) -> Result<(), Fail> {
-    assert!(rt; all_agree(rt.alloc(), &VALUES));
-    Ok(())
-}
-
-#[test]
-fn attributes_are_read_over(rt: HostRuntime) -> Result<(), Fail> {
-    assert!(rt; all_agree(rt.alloc(), &ATTRIBUTES));
-    Ok(())
-}
-
-#[test]
-fn functions_are_read(rt: HostRuntime) -> Result<(), Fail> {
-    assert!(rt; all_agree(rt.alloc(), &FUNCTIONS));
+fn parts_are_read(rt: HostRuntime) -> Result<(), Fail> {
+    assert!(rt;
+        all_agree(rt.alloc(), &TYPES)
+            && all_agree(rt.alloc(), &VALUES)
+            && all_agree(rt.alloc(), &ATTRIBUTES)
+            && all_agree(rt.alloc(), &FUNCTIONS)
+    );
     Ok(())
 }

@@ -1,6 +1,6 @@
 //! Modules that are read, refused, written and read back.
 
-use crate::cases::{ENTITY, LAST, LINE, WHOLE, all_agree, rewritten};
+use crate::cases::{ENTITY, LAST, LINE, WHOLE, all_agree, all_tables_agree, rewritten};
 use crate::{bodies, entities, instructions, layouts, other_layouts};
 use ms_ir::Form;
 use std::alloc::Global;
@@ -64,97 +64,59 @@ fn all_read_back(alloc: Global, texts: &[&str]) -> bool {
 }
 
 #[test]
-fn layouts_are_kept(rt: HostRuntime) -> Result<(), Fail> {
-    assert!(rt; all_layouts(rt.alloc(), &LAYOUTS, Form::Plain));
+fn layouts_are_kept_and_read_back(rt: HostRuntime) -> Result<(), Fail> {
+    assert!(rt;
+        all_layouts(rt.alloc(), &LAYOUTS, Form::Plain)
+            && all_layouts(rt.alloc(), &MARKED_LAYOUTS, Form::Instrumented)
+            && all_read_back(rt.alloc(), &OTHER_LAYOUTS)
+            && all_read_back(rt.alloc(), &LAYOUTS)
+    );
     Ok(())
 }
 
 #[test]
-fn marks_are_kept(rt: HostRuntime) -> Result<(), Fail> {
-    assert!(rt; all_layouts(rt.alloc(), &MARKED_LAYOUTS, Form::Instrumented));
+fn instructions_are_read(rt: HostRuntime) -> Result<(), Fail> {
+    assert!(rt;
+        all_tables_agree(
+            rt.alloc(),
+            &LINE,
+            &[
+                &instructions::COMPUTATIONS,
+                &instructions::MEMORY,
+                &instructions::CALLS,
+                &instructions::SUFFIXES
+            ]
+        ) && all_agree(rt.alloc(), &LAST, &instructions::TERMINATORS)
+    );
     Ok(())
 }
 
 #[test]
-fn modules_are_read_back(rt: HostRuntime) -> Result<(), Fail> {
-    assert!(rt; all_read_back(rt.alloc(), &OTHER_LAYOUTS) && all_read_back(rt.alloc(), &LAYOUTS));
+fn lines_of_entities_are_read(rt: HostRuntime) -> Result<(), Fail> {
+    assert!(rt;
+        all_tables_agree(
+            rt.alloc(),
+            &ENTITY,
+            &[&entities::GLOBALS, &entities::VALUES, &entities::TYPES]
+        )
+    );
     Ok(())
 }
 
 #[test]
-fn computations_are_read(rt: HostRuntime) -> Result<(), Fail> {
-    assert!(rt; all_agree(rt.alloc(), &LINE, &instructions::COMPUTATIONS));
-    Ok(())
-}
-
-#[test]
-fn memory_is_reached(rt: HostRuntime) -> Result<(), Fail> {
-    assert!(rt; all_agree(rt.alloc(), &LINE, &instructions::MEMORY));
-    Ok(())
-}
-
-#[test]
-fn calls_are_read(rt: HostRuntime) -> Result<(), Fail> {
-    assert!(rt; all_agree(rt.alloc(), &LINE, &instructions::CALLS));
-    Ok(())
-}
-
-#[test]
-fn suffixes_are_read_over(rt: HostRuntime) -> Result<(), Fail> {
-    assert!(rt; all_agree(rt.alloc(), &LINE, &instructions::SUFFIXES));
-    Ok(())
-}
-
-#[test]
-fn blocks_end(rt: HostRuntime) -> Result<(), Fail> {
-    assert!(rt; all_agree(rt.alloc(), &LAST, &instructions::TERMINATORS));
-    Ok(())
-}
-
-#[test]
-fn entities_are_read(rt: HostRuntime) -> Result<(), Fail> {
-    assert!(rt; all_agree(rt.alloc(), &WHOLE, &entities::ENTITIES));
-    Ok(())
-}
-
-#[test]
-fn globals_are_read(rt: HostRuntime) -> Result<(), Fail> {
-    assert!(rt; all_agree(rt.alloc(), &ENTITY, &entities::GLOBALS));
-    Ok(())
-}
-
-#[test]
-fn values_are_read(rt: HostRuntime) -> Result<(), Fail> {
-    assert!(rt; all_agree(rt.alloc(), &ENTITY, &entities::VALUES));
-    Ok(())
-}
-
-#[test]
-fn types_are_read(rt: HostRuntime) -> Result<(), Fail> {
-    assert!(rt; all_agree(rt.alloc(), &ENTITY, &entities::TYPES));
-    Ok(())
-}
-
-#[test]
-fn functions_are_read(rt: HostRuntime) -> Result<(), Fail> {
-    assert!(rt; all_agree(rt.alloc(), &WHOLE, &bodies::FUNCTIONS));
-    Ok(())
-}
-
-#[test]
-fn marks_are_read(rt: HostRuntime) -> Result<(), Fail> {
-    assert!(rt; all_agree(rt.alloc(), &WHOLE, &bodies::MARKS));
-    Ok(())
-}
-
-#[test]
-fn attributes_are_read_over(rt: HostRuntime) -> Result<(), Fail> {
-    assert!(rt; all_agree(rt.alloc(), &WHOLE, &bodies::SKIPPED));
-    Ok(())
-}
-
-#[test]
-fn constructs_are_left_out(rt: HostRuntime) -> Result<(), Fail> {
-    assert!(rt; all_agree(rt.alloc(), &WHOLE, &bodies::LEFT_OUT));
+fn texts_are_read(rt: HostRuntime) -> Result<(), Fail> {
+    assert!(rt;
+        all_tables_agree(
+            rt.alloc(),
+            &WHOLE,
+            &[
+                &entities::ENTITIES,
+                &bodies::FUNCTIONS,
+                &bodies::MARKS,
+                &bodies::SKIPPED,
+                &bodies::LEFT_OUT
+            ]
+        )
+    );
     Ok(())
 }

@@ -1,35 +1,36 @@
 //! Modules that are instrumented, and then run: `run` says of what `instrument` writes what `check` says of the module, but
 //! for the verdict.
 
-use crate::calls::{Case, Said, Wanted, said_of, says};
-use crate::modules::{Run, closing_begins, declared_text};
-use std::alloc::{AllocError, Global};
+use crate::calls::{Call, Case, Desk, NOTHING, Row, all_agree, behind, on_text, said, says};
+use crate::modules::Run;
+use std::alloc::Global;
 use std::thread::Threads;
 
-/// The text that `instrument` writes; none where it says anything else.
-pub fn written_of<R: Threads + Sync>(
-    rt: &R,
-    alloc: Global,
-    text: &[u8],
-) -> Result<Option<Vec<u8>>, AllocError> {
-    let said = said_of(rt, alloc, "instrument f", text)?;
-    if said.status == 0 && said.err.is_empty() {
-        Ok(Some(said.out))
-    } else {
-        Ok(None)
+/// A row that tells of a module what `check` says of it.
+pub trait CheckedRow: Row {
+    fn is_shown(&self, checked: &Desk) -> bool;
+}
+
+impl CheckedRow for Case {
+    fn is_shown(&self, checked: &Desk) -> bool {
+        says(checked, &self.call().wanted)
     }
 }
 
-/// What `run` says of what `instrument` writes; none where nothing is written.
-fn run_of_written<R: Threads + Sync>(
-    rt: &R,
-    alloc: Global,
-    text: &[u8],
-) -> Result<Option<Said>, AllocError> {
-    let Some(written) = written_of(rt, alloc, text)? else {
-        return Ok(None);
-    };
-    Ok(Some(said_of(rt, alloc, "run f", &written)?))
+/// A checked run that has no report prints and ends as the module itself does. The number of blind uses may be any.
+impl CheckedRow for Run {
+    fn is_shown(&self, checked: &Desk) -> bool {
+        if checked.status == 77 {
+            return true;
+        }
+        checked.status == self.3
+            && checked.out.as_slice() == self.1
+            && behind(
+                checked.err.as_slice(),
+                &["end: ", self.2, "\nreports: 0\nblind: "],
+            )
+            .is_some()
+    }
 }
 
 /// Whether a line is that of a verdict.
@@ -40,7 +41,7 @@ fn is_verdict(line: &[u8]) -> bool {
 }
 
 /// Whether this is what `check` says, but for the verdict, which is its last line.
-fn says_all_but_the_verdict(said: &Said, checked: &Said) -> bool {
+fn says_all_but_the_verdict(said: &Desk, checked: &Desk) -> bool {
     let same = said.status == checked.status && said.out.as_slice() == checked.out.as_slice();
     match checked.err.as_slice().strip_prefix(said.err.as_slice()) {
         Some(line) => same && is_verdict(line),
@@ -48,61 +49,65 @@ fn says_all_but_the_verdict(said: &Said, checked: &Said) -> bool {
     }
 }
 
-/// Whether a case of `check` is answered so, also where its module is first written with inserted code.
-fn case_agrees_twice<R: Threads + Sync>(
+/// Whether `run` says of what `instrument` wrote, if it wrote a module, what `check` says, but for the verdict.
+fn runs_alike<R: Threads + Sync>(rt: &R, alloc: Global, written: &Desk, checked: &Desk) -> bool {
+    if written.status != 0 || !written.err.as_slice().is_empty() {
+        return false;
+    }
+    match said(
+        rt,
+        alloc,
+        &on_text("run f", written.out.as_slice(), NOTHING),
+    ) {
+        Ok(run) => says_all_but_the_verdict(&run, checked),
+        Err(_) => false,
+    }
+}
+
+fn with_words<'a>(call: &Call<'a>, words: &'a str) -> Call<'a> {
+    Call { words, ..*call }
+}
+
+fn is_written_alike<R: Threads + Sync>(rt: &R, alloc: Global, call: &Call, checked: &Desk) -> bool {
+    match said(rt, alloc, &with_words(call, "instrument f")) {
+        Ok(written) => runs_alike(rt, alloc, &written, checked),
+        Err(_) => false,
+    }
+}
+
+fn agrees_twice<R: Threads + Sync, T: CheckedRow>(rt: &R, alloc: Global, row: &T) -> bool {
+    let call = row.call();
+    match said(rt, alloc, &with_words(&call, "check f")) {
+        Ok(checked) => { row.is_shown(&checked) && is_written_alike(rt, alloc, &call, &checked) }
+        Err(_) => false,
+    }
+}
+
+fn table_agrees_twice<R: Threads + Sync, T: CheckedRow>(rt: &R, alloc: Global, rows: &[T]) -> bool {
+    for row in rows {
+        if !agrees_twice(rt, alloc, row) {
+            return false;
+        }
+    }
+    true
+}
+
+/// Whether `check` says what each row of these tables tells, also where its module is first written with inserted code.
+pub fn all_agree_twice<R: Threads + Sync, T: CheckedRow>(
     rt: &R,
     alloc: Global,
-    case: &Case,
-) -> Result<bool, AllocError> {
-    let wanted = Wanted {
-        out: case.2.as_bytes(),
-        err: case.3,
-        status: case.4,
-    };
-    let checked = said_of(rt, alloc, "check f", case.1.as_bytes())?;
-    match run_of_written(rt, alloc, case.1.as_bytes())? {
-        Some(said) => Ok(says(&checked, &wanted) && says_all_but_the_verdict(&said, &checked)),
-        None => Ok(false),
-    }
-}
-
-/// Whether each case is answered so both ways.
-pub fn all_agree_twice<R: Threads + Sync>(rt: &R, alloc: Global, cases: &[Case]) -> bool {
-    for case in cases {
-        if case_agrees_twice(rt, alloc, case).ok() != Some(true) {
+    tables: &[&[T]],
+) -> bool {
+    for rows in tables {
+        if !table_agrees_twice(rt, alloc, rows) {
             return false;
         }
     }
     true
 }
 
-/// Whether a checked run that has no report prints and ends as the module itself does.
-fn is_undisturbed(alloc: Global, row: &Run, said: &Said) -> Result<bool, AllocError> {
-    if said.status == 77 {
-        return Ok(true);
-    }
-    let begins = closing_begins(alloc, row, &said.err)?;
-    Ok(begins && said.status == row.3 && said.out.as_slice() == row.1)
-}
-
-/// Whether a row's module is said the same of by `check`, and by `run` of what `instrument` writes.
-fn row_is_alike<R: Threads + Sync>(rt: &R, alloc: Global, row: &Run) -> Result<bool, AllocError> {
-    let text = declared_text(alloc, row)?;
-    let checked = said_of(rt, alloc, "check f", &text)?;
-    match run_of_written(rt, alloc, &text)? {
-        Some(said) => Ok(
-            says_all_but_the_verdict(&said, &checked) && is_undisturbed(alloc, row, &checked)?,
-        ),
-        None => Ok(false),
-    }
-}
-
-/// Whether that holds of each row's module, and without a report each ends as the row says.
-pub fn all_alike<R: Threads + Sync>(rt: &R, alloc: Global, rows: &[Run]) -> bool {
-    for row in rows {
-        if row_is_alike(rt, alloc, row).ok() != Some(true) {
-            return false;
-        }
-    }
-    true
+/// Whether each row's module runs as it says, is said the same of by `check`, and by `run` of what `instrument` writes of it;
+/// without a report each ends as the row says.
+pub fn all_run_and_checked<R: Threads + Sync>(rt: &R, alloc: Global, tables: &[&[Run]]) -> bool {
+    all_agree(rt, alloc, tables) && all_agree_twice(rt, alloc, tables)
 }

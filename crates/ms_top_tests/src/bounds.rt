@@ -1,10 +1,8 @@
 //! Runs that reach the limits: of output, of frames and stack, of long texts and of many types.
 
-use crate::calls::{Call, Wanted, agrees};
-use crate::modules::{Run, all_run, closing_of};
-use std::alloc::{AllocError, Global};
+use crate::calls::{ALL, Beside, Call, MORE, Row, all_agree, on_text};
+use crate::modules::{Run, closed};
 use std::test::Fail;
-use std::thread::Threads;
 
 /// A module whose text has a piece so many times, how its run ends, and the status.
 struct Long(
@@ -19,6 +17,7 @@ struct Long(
 /// A module, how often its run prints the letter A and nothing else, how it ends, and the status.
 struct Printing(&'static str, usize, &'static str, u8);
 
+/// Output ends.
 static OUTPUTS: [Printing; 12] = [
     // 16 times 65536 bytes are allowed, and then no byte more; a call that prints none is good.
     Printing(
@@ -97,6 +96,7 @@ static OUTPUTS: [Printing; 12] = [
     ),
 ];
 
+/// Long texts run.
 static TEXTS: [Long; 5] = [
     Long(
         "define i32 @main() {\n  br label %1\n1:\n",
@@ -141,6 +141,7 @@ static TEXTS: [Long; 5] = [
     ),
 ];
 
+/// Frames and blocks end.
 static FRAMES: [Run; 6] = [
     // A thousand and eight frames with 1040 bytes each fit; a thousand and twenty-three with 1024 do, and then one frame more does not.
     Run(
@@ -185,7 +186,8 @@ static FRAMES: [Run; 6] = [
     ),
 ];
 
-// Named types of which each has the one before it twice.
+/// Named types grow.
+/// Named types of which each has the one before it twice.
 static TYPES: [Run; 4] = [
     Run(
         "%a0 = type { } %a1 = type { %a0, %a0 } %a2 = type { %a1, %a1 } %a3 = type { %a2, %a2 } %a4 = type { %a3, %a3 } %a5 = type { %a4, %a4 } %a6 = type { %a5, %a5 } %a7 = type { %a6, %a6 } %a8 = type { %a7, %a7 } %a9 = type { %a8, %a8 } %a10 = type { %a9, %a9 } %a11 = type { %a10, %a10 } %a12 = type { %a11, %a11 } %a13 = type { %a12, %a12 } %a14 = type { %a13, %a13 } %a15 = type { %a14, %a14 } %a16 = type { %a15, %a15 } %a17 = type { %a16, %a16 } %a18 = type { %a17, %a17 } %a19 = type { %a18, %a18 } %a20 = type { %a19, %a19 } %a21 = type { %a20, %a20 } %a22 = type { %a21, %a21 } %a23 = type { %a22, %a22 } %a24 = type { %a23, %a23 } %a25 = type { %a24, %a24 } %a26 = type { %a25, %a25 } %a27 = type { %a26, %a26 } %a28 = type { %a27, %a27 } %a29 = type { %a28, %a28 } %a30 = type { %a29, %a29 } %a31 = type { %a30, %a30 } define i32 @main() { %p = alloca %a31 %q = getelementptr %a31, ptr null, i64 5 %a = ptrtoint ptr %q to i32 ret i32 %a }",
@@ -213,90 +215,43 @@ static TYPES: [Run; 4] = [
     ),
 ];
 
-fn agrees_with<R: Threads + Sync>(
-    rt: &R,
-    alloc: Global,
-    call: &Call,
-    out: &[u8],
-    end: &str,
-    status: u8,
-) -> Result<bool, AllocError> {
-    let err = closing_of(alloc, end)?;
-    let wanted = Wanted {
-        out,
-        err: err.as_str(),
-        status,
-    };
-    Ok(agrees(rt, alloc, call, &wanted))
-}
-
-fn long_runs<R: Threads + Sync>(rt: &R, alloc: Global, row: &Long) -> Result<bool, AllocError> {
-    let call = Call {
-        words: "run f",
-        head: row.0,
-        piece: row.1,
-        times: row.2,
-        tail: row.3,
-        failing_reads: &[],
-        failing_puts: &[],
-        room: 1000,
-    };
-    agrees_with(rt, alloc, &call, b"", row.4, row.5)
-}
-
-fn all_long<R: Threads + Sync>(rt: &R, alloc: Global, rows: &[Long]) -> bool {
-    for row in rows {
-        if long_runs(rt, alloc, row).ok() != Some(true) {
-            return false;
+impl Row for Long {
+    fn call(&self) -> Call<'static> {
+        Call {
+            words: "run f",
+            head: self.0.as_bytes(),
+            piece: self.1.as_bytes(),
+            times: self.2,
+            tail: self.3.as_bytes(),
+            beside: Beside::Nothing,
+            failing_reads: &[],
+            out: ALL,
+            err: ALL,
+            wanted: closed(b"", 0, self.4, self.5),
         }
     }
-    true
 }
 
-fn prints<R: Threads + Sync>(rt: &R, alloc: Global, row: &Printing) -> Result<bool, AllocError> {
-    let call = Call {
-        words: "run f",
-        head: "",
-        piece: row.0,
-        times: 1,
-        tail: "",
-        failing_reads: &[],
-        failing_puts: &[],
-        room: 1000,
-    };
-    let out: Vec<u8> = vec![in alloc; b'A'; row.1]?;
-    agrees_with(rt, alloc, &call, &out, row.2, row.3)
-}
-
-fn all_print<R: Threads + Sync>(rt: &R, alloc: Global, rows: &[Printing]) -> bool {
-    for row in rows {
-        if prints(rt, alloc, row).ok() != Some(true) {
-            return false;
+impl Row for Printing {
+    fn call(&self) -> Call<'static> {
+        let wanted = closed(b"", self.1, self.2, self.3);
+        Call {
+            out: MORE,
+            ..on_text("run f", self.0.as_bytes(), wanted)
         }
     }
-    true
 }
 
 #[test]
-fn output_ends(rt: HostRuntime) -> Result<(), Fail> {
-    assert!(rt; all_print(&rt, rt.alloc(), &OUTPUTS));
+fn outputs_end(rt: HostRuntime) -> Result<(), Fail> {
+    assert!(rt; all_agree(&rt, rt.alloc(), &[&OUTPUTS]));
     Ok(())
 }
 
 #[test]
-fn long_texts_run(rt: HostRuntime) -> Result<(), Fail> {
-    assert!(rt; all_long(&rt, rt.alloc(), &TEXTS));
-    Ok(())
-}
-
-#[test]
-fn frames_and_blocks_end(rt: HostRuntime) -> Result<(), Fail> {
-    assert!(rt; all_run(&rt, rt.alloc(), &FRAMES));
-    Ok(())
-}
-
-#[test]
-fn named_types_grow(rt: HostRuntime) -> Result<(), Fail> {
-    assert!(rt; all_run(&rt, rt.alloc(), &TYPES));
+fn long_texts_and_frames_end(rt: HostRuntime) -> Result<(), Fail> {
+    assert!(rt;
+        all_agree(&rt, rt.alloc(), &[&TEXTS]) && all_agree(&rt, rt.alloc(), &[&FRAMES, &TYPES])
+    );
     Ok(())
 }

@@ -1,10 +1,11 @@
 //! Runs that copy, set, compare and measure bytes, and that begin and end lifetimes.
 
-use crate::alike::all_alike;
-use crate::modules::{Run, all_run};
+use crate::alike::all_run_and_checked;
+use crate::modules::Run;
 use std::test::Fail;
 
-// 287454020 is 0x11223344.
+/// Bytes are copied.
+/// 287454020 is 0x11223344.
 static COPIES: [Run; 6] = [
     Run(
         "define i32 @main() { %s = alloca i32 %t = alloca i32 store i32 287454020, ptr %s %r = call ptr @memcpy(ptr %t, ptr %s, i64 4) %v = load i32, ptr %r ret i32 %v }",
@@ -46,7 +47,8 @@ static COPIES: [Run; 6] = [
     ),
 ];
 
-// Five bytes 01 to 05: four of them move one place up, to 01 01 02 03 04, or one down, to 02 03 04 05 05.
+/// Overlapping bytes are copied as they were.
+/// Five bytes 01 to 05: four of them move one place up, to 01 01 02 03 04, or one down, to 02 03 04 05 05.
 static OVERLAPS: [Run; 6] = [
     Run(
         "define i32 @main() { %p = alloca i40 store i40 21542142465, ptr %p %q = getelementptr i8, ptr %p, i64 1 %r = call ptr @memcpy(ptr %q, ptr %p, i64 4) %v = load i40, ptr %p %w = icmp eq i40 %v, 17230332161 %x = zext i1 %w to i32 ret i32 %x }",
@@ -86,6 +88,7 @@ static OVERLAPS: [Run; 6] = [
     ),
 ];
 
+/// Copies reach one allocation.
 static BAD_COPIES: [Run; 7] = [
     Run(
         "define i32 @main() { %s = alloca i32 %t = alloca i16 %r = call ptr @memcpy(ptr %t, ptr %s, i64 3) ret i32 0 }",
@@ -132,7 +135,8 @@ static BAD_COPIES: [Run; 7] = [
     ),
 ];
 
-// 0x41414141 is 1094795585; 321 is 0x141.
+/// Bytes are set.
+/// 0x41414141 is 1094795585; 321 is 0x141.
 static SETS: [Run; 7] = [
     Run(
         "define i32 @main() { %p = alloca i32 %r = call ptr @memset(ptr %p, i32 65, i64 4) %v = load i32, ptr %r ret i32 %v }",
@@ -179,6 +183,7 @@ static SETS: [Run; 7] = [
     ),
 ];
 
+/// Bytes are compared.
 static COMPARISONS: [Run; 6] = [
     Run(
         "@a = global [2 x i8] c\"ab\" @b = global [2 x i8] c\"ac\" define i32 @main() { %r = call i32 @memcmp(ptr @a, ptr @b, i64 2) ret i32 %r }",
@@ -220,6 +225,7 @@ static COMPARISONS: [Run; 6] = [
     ),
 ];
 
+/// Strings are measured.
 static LENGTHS: [Run; 5] = [
     Run(
         "@s = global [6 x i8] c\"abc\\00d\\00\" define i32 @main() { %n = call i64 @strlen(ptr @s) %a = trunc i64 %n to i32 %m = call i64 @strlen(ptr getelementptr (i8, ptr @s, i64 3)) %b = trunc i64 %m to i32 %o = call i64 @strlen(ptr getelementptr (i8, ptr @s, i64 4)) %c = trunc i64 %o to i32 %d = mul i32 %a, 100 %e = mul i32 %b, 10 %f = add i32 %d, %e %g = add i32 %f, %c ret i32 %g }",
@@ -255,6 +261,7 @@ static LENGTHS: [Run; 5] = [
     ),
 ];
 
+/// Lifetimes unset bytes.
 static LIFETIMES: [Run; 7] = [
     Run(
         "define i32 @main() { %p = alloca i32 store i32 7, ptr %p call void @llvm.lifetime.start.p0(i64 4, ptr %p) %v = load i32, ptr %p ret i32 %v }",
@@ -303,55 +310,21 @@ static LIFETIMES: [Run; 7] = [
 ];
 
 #[test]
-fn bytes_are_copied(rt: HostRuntime) -> Result<(), Fail> {
-    assert!(rt; all_run(&rt, rt.alloc(), &COPIES));
-    Ok(())
-}
-
-#[test]
-fn overlapping_bytes_are_copied_as_they_were(rt: HostRuntime) -> Result<(), Fail> {
-    assert!(rt; all_run(&rt, rt.alloc(), &OVERLAPS));
-    Ok(())
-}
-
-#[test]
-fn copies_reach_one_allocation(rt: HostRuntime) -> Result<(), Fail> {
-    assert!(rt; all_run(&rt, rt.alloc(), &BAD_COPIES));
-    Ok(())
-}
-
-#[test]
-fn bytes_are_set(rt: HostRuntime) -> Result<(), Fail> {
-    assert!(rt; all_run(&rt, rt.alloc(), &SETS));
-    Ok(())
-}
-
-#[test]
-fn bytes_are_compared(rt: HostRuntime) -> Result<(), Fail> {
-    assert!(rt; all_run(&rt, rt.alloc(), &COMPARISONS));
-    Ok(())
-}
-
-#[test]
-fn strings_are_measured(rt: HostRuntime) -> Result<(), Fail> {
-    assert!(rt; all_run(&rt, rt.alloc(), &LENGTHS));
-    Ok(())
-}
-
-#[test]
-fn lifetimes_unset_bytes(rt: HostRuntime) -> Result<(), Fail> {
-    assert!(rt; all_run(&rt, rt.alloc(), &LIFETIMES));
-    Ok(())
-}
-
-#[test]
-fn bytes_are_checked_as_they_are_run(rt: HostRuntime) -> Result<(), Fail> {
-    assert!(rt; all_alike(&rt, rt.alloc(), &COPIES));
-    assert!(rt; all_alike(&rt, rt.alloc(), &OVERLAPS));
-    assert!(rt; all_alike(&rt, rt.alloc(), &BAD_COPIES));
-    assert!(rt; all_alike(&rt, rt.alloc(), &SETS));
-    assert!(rt; all_alike(&rt, rt.alloc(), &COMPARISONS));
-    assert!(rt; all_alike(&rt, rt.alloc(), &LENGTHS));
-    assert!(rt; all_alike(&rt, rt.alloc(), &LIFETIMES));
+fn bytes_are_moved_and_told(rt: HostRuntime) -> Result<(), Fail> {
+    assert!(rt;
+        all_run_and_checked(
+            &rt,
+            rt.alloc(),
+            &[
+                &COPIES,
+                &OVERLAPS,
+                &BAD_COPIES,
+                &SETS,
+                &COMPARISONS,
+                &LENGTHS,
+                &LIFETIMES
+            ]
+        )
+    );
     Ok(())
 }

@@ -1,11 +1,90 @@
-//! One call of `msan`, over a file `f` and two sinks in memory.
+//! Calls of `msan` over files and two sinks in memory, as rows of tables tell them, and the one runner of all tables.
 
 use ms_bits::Text;
 use ms_io::{MemFiles, MemSink};
-use ms_top::msan;
+use ms_top::{Gate, Pass, job, msan};
+use ms_words::read_words;
 use std::alloc::{AllocError, Global};
 use std::collections::BTreeMap;
 use std::thread::Threads;
+
+/// What a run is given; the digits of the fill are those of the option.
+#[derive(Clone, Copy)]
+pub struct Terms {
+    pub input: &'static [u8],
+    pub fill: &'static str,
+    pub steps: u64,
+    pub reports: u32,
+}
+
+/// What a run is given where no option is.
+pub const DEFAULTS: Terms = Terms {
+    input: b"",
+    fill: "a5",
+    steps: 10000000,
+    reports: 1,
+};
+
+/// What stands beside the file `f`.
+#[derive(Clone, Copy)]
+pub enum Beside<'a> {
+    Nothing,
+    /// The input of these terms as the file `i`, and the terms as options behind the words.
+    On(Terms),
+    /// So many times the letter x as the file `a`, and nothing as `b`.
+    Letters(usize),
+    /// These files.
+    These(&'a [(&'a str, &'a str)]),
+}
+
+/// A sink: the numbers of its puts that fail, and the bytes that fit.
+#[derive(Clone, Copy)]
+pub struct Taking<'a>(pub &'a [u64], pub usize);
+
+/// Takes all that is put, but for the longest outputs.
+pub const ALL: Taking<'static> = Taking(&[], 131072);
+
+/// Takes more than a run may print.
+pub const MORE: Taking<'static> = Taking(&[], 1049600);
+
+/// What a call writes and answers: the output, behind which the letter A stands so many times, the pieces of the standard
+/// error, and the status.
+#[derive(Clone, Copy)]
+pub struct Wanted<'a> {
+    pub out: &'a [u8],
+    pub letters: usize,
+    pub err: [&'a str; 3],
+    pub status: u8,
+}
+
+/// Of a call of which all that is said counts.
+pub const NOTHING: Wanted<'static> = Wanted {
+    out: b"",
+    letters: 0,
+    err: ["", "", ""],
+    status: 0,
+};
+
+/// A call: its words, the pieces of the file `f`, of which the second stands so many times, the other files, the numbers of
+/// the reads that fail, the two sinks, and what is wanted.
+#[derive(Clone, Copy)]
+pub struct Call<'a> {
+    pub words: &'a str,
+    pub head: &'a [u8],
+    pub piece: &'a [u8],
+    pub times: u32,
+    pub tail: &'a [u8],
+    pub beside: Beside<'a>,
+    pub failing_reads: &'a [u64],
+    pub out: Taking<'a>,
+    pub err: Taking<'a>,
+    pub wanted: Wanted<'a>,
+}
+
+/// A row of a table, which tells a call.
+pub trait Row {
+    fn call(&self) -> Call<'static>;
+}
 
 /// The words, the text of the file `f`, what is written to the output and to the standard error, and the status.
 #[derive(Clone, Copy)]
@@ -17,38 +96,46 @@ pub struct Case(
     pub u8,
 );
 
-/// A call: its words, the pieces of the file `f`, of which the second stands so many times, the numbers of the reads and of
-/// the puts to the standard error that fail, and the bytes that this takes.
-#[derive(Clone, Copy)]
-pub struct Call {
-    pub words: &'static str,
-    pub head: &'static str,
-    pub piece: &'static str,
-    pub times: u32,
-    pub tail: &'static str,
-    pub failing_reads: &'static [u64],
-    pub failing_puts: &'static [u64],
-    pub room: usize,
+impl Row for Case {
+    fn call(&self) -> Call<'static> {
+        let wanted = Wanted {
+            out: self.2.as_bytes(),
+            letters: 0,
+            err: [self.3, "", ""],
+            status: self.4,
+        };
+        on_text(self.0, self.1.as_bytes(), wanted)
+    }
 }
 
-/// What a call writes and answers.
-#[derive(Clone, Copy)]
-pub struct Wanted<'a> {
-    pub out: &'a [u8],
-    pub err: &'a str,
-    pub status: u8,
-}
-
-/// What a call wrote and answered.
+/// The words and the ends of a call, with its status.
 #[derive(Drop)]
-pub struct Said {
-    pub out: Vec<u8>,
-    pub err: Vec<u8>,
+pub struct Desk {
+    words: Vec<Text>,
+    files: MemFiles,
+    pub out: MemSink,
+    pub err: MemSink,
     pub status: u8,
 }
 
-/// The bytes that a sink takes of what isn't known beforehand.
-const ROOM: usize = 1 << 20;
+/// The status before a call; none answers it.
+const NO_STATUS: u8 = 255;
+
+/// A call on this text alone, to sinks that take all.
+pub fn on_text<'a>(words: &'a str, text: &'a [u8], wanted: Wanted<'a>) -> Call<'a> {
+    Call {
+        words,
+        head: text,
+        piece: b"",
+        times: 0,
+        tail: b"",
+        beside: Beside::Nothing,
+        failing_reads: &[],
+        out: ALL,
+        err: ALL,
+        wanted,
+    }
+}
 
 /// The words of a line, which stand with a space between.
 pub fn words_of(alloc: Global, line: &str) -> Result<Vec<Text>, AllocError> {
@@ -59,160 +146,207 @@ pub fn words_of(alloc: Global, line: &str) -> Result<Vec<Text>, AllocError> {
     Ok(texts)
 }
 
-fn repeated(alloc: Global, piece: &[u8], times: u32) -> Result<Vec<u8>, AllocError> {
-    let mut text = Vec::new(alloc);
+fn words_of_call(alloc: Global, call: &Call) -> Result<Vec<Text>, AllocError> {
+    match &call.beside {
+        Beside::On(terms) => {
+            let line = format!(in alloc;
+                "{} --input i --fill {} --steps {} --reports {} f",
+                call.words, terms.fill, terms.steps, terms.reports
+            )?;
+            words_of(alloc, line.as_str())
+        }
+        _ => words_of(alloc, call.words),
+    }
+}
+
+fn push_times(text: &mut Vec<u8>, piece: &[u8], times: u32) -> Result<(), AllocError> {
     for _time in 0..times {
         text.extend_from_slice(piece)?;
     }
-    Ok(text)
-}
-
-/// A piece so many times. One of one byte may stand very often.
-fn times(alloc: Global, piece: &[u8], count: u32) -> Result<Vec<u8>, AllocError> {
-    match piece {
-        [byte] => vec![in alloc; *byte; count as usize],
-        _ => repeated(alloc, piece, count),
-    }
-}
-
-/// The first pieces of a file. What is very long isn't copied.
-fn begun(alloc: Global, head: &[u8], piece: &[u8], count: u32) -> Result<Vec<u8>, AllocError> {
-    let middle = times(alloc, piece, count)?;
-    if head.is_empty() {
-        return Ok(middle);
-    }
-    let mut text = Vec::from_slice(alloc, head)?;
-    text.extend_from_slice(&middle)?;
-    Ok(text)
+    Ok(())
 }
 
 /// The text of the file `f`.
-pub fn text_of(alloc: Global, call: &Call) -> Result<Vec<u8>, AllocError> {
-    let mut text = begun(
-        alloc,
-        call.head.as_bytes(),
-        call.piece.as_bytes(),
-        call.times,
-    )?;
-    text.extend_from_slice(call.tail.as_bytes())?;
+fn text_of(alloc: Global, call: &Call) -> Result<Vec<u8>, AllocError> {
+    let mut text = Vec::from_slice(alloc, call.head)?;
+    push_times(&mut text, call.piece, call.times)?;
+    text.extend_from_slice(call.tail)?;
     Ok(text)
 }
 
-/// Files that hold this text as `f`, and nothing else.
-fn holding(alloc: Global, text: Vec<u8>, failing: &[u64]) -> Result<MemFiles, AllocError> {
-    let mut held = BTreeMap::new(alloc);
-    held.insert(String::from_str(alloc, "f")?, text)?;
-    Ok(MemFiles::new(held, Vec::from_slice(alloc, failing)?))
+fn hold(
+    alloc: Global,
+    held: &mut BTreeMap<String, Vec<u8>>,
+    name: &str,
+    bytes: Vec<u8>,
+) -> Result<(), AllocError> {
+    held.insert(String::from_str(alloc, name)?, bytes)?;
+    Ok(())
 }
 
-/// Files that hold `f` alone.
+fn hold_all(
+    alloc: Global,
+    held: &mut BTreeMap<String, Vec<u8>>,
+    files: &[(&str, &str)],
+) -> Result<(), AllocError> {
+    for (name, text) in files {
+        hold(alloc, held, name, Vec::from_slice(alloc, text.as_bytes())?)?;
+    }
+    Ok(())
+}
+
+fn hold_beside(
+    alloc: Global,
+    held: &mut BTreeMap<String, Vec<u8>>,
+    beside: &Beside,
+) -> Result<(), AllocError> {
+    match beside {
+        Beside::Nothing => Ok(()),
+        Beside::On(terms) => hold(alloc, held, "i", Vec::from_slice(alloc, terms.input)?),
+        Beside::Letters(count) => {
+            hold(alloc, held, "a", vec![in alloc; b'x'; *count]?)?;
+            hold(alloc, held, "b", Vec::new(alloc))
+        }
+        Beside::These(files) => hold_all(alloc, held, files),
+    }
+}
+
 fn files_of(alloc: Global, call: &Call) -> Result<MemFiles, AllocError> {
-    let file = text_of(alloc, call)?;
-    holding(alloc, file, call.failing_reads)
+    let mut held = BTreeMap::new(alloc);
+    hold(alloc, &mut held, "f", text_of(alloc, call)?)?;
+    hold_beside(alloc, &mut held, &call.beside)?;
+    Ok(MemFiles::new(held, Vec::from_slice(alloc, call.failing_reads)?))
 }
 
-/// A sink with room for so many bytes, of whose puts those with these numbers fail.
-pub fn sink_of(alloc: Global, failing: &[u64], room: usize) -> Result<MemSink, AllocError> {
-    let failing = Vec::from_slice(alloc, failing)?;
-    let bytes: Vec<u8> = vec![in alloc; 0; room]?;
-    Ok(MemSink::new(failing, bytes))
+fn sink_of(alloc: Global, taking: &Taking) -> Result<MemSink, AllocError> {
+    let failing = Vec::from_slice(alloc, taking.0)?;
+    let room: Vec<u8> = vec![in alloc; 0; taking.1]?;
+    Ok(MemSink::new(failing, room))
 }
 
-/// Whether a call on these ends writes and answers so.
-pub fn is_answered<R: Threads + Sync>(
+fn desk_of(alloc: Global, call: &Call) -> Result<Desk, AllocError> {
+    Ok(Desk {
+        words: words_of_call(alloc, call)?,
+        files: files_of(alloc, call)?,
+        out: sink_of(alloc, &call.out)?,
+        err: sink_of(alloc, &call.err)?,
+        status: NO_STATUS,
+    })
+}
+
+/// What a call writes and answers.
+pub fn said<R: Threads + Sync>(rt: &R, alloc: Global, call: &Call) -> Result<Desk, AllocError> {
+    let mut desk = desk_of(alloc, call)?;
+    desk.status = msan(
+        rt,
+        alloc,
+        &desk.words,
+        &mut desk.files,
+        &mut desk.out,
+        &mut desk.err,
+    );
+    Ok(desk)
+}
+
+/// Does what the words ask for, if they are a command.
+fn do_job<R: Threads + Sync, P: Pass, G: Gate + Sync>(
     rt: &R,
     alloc: Global,
-    words: &[Text],
-    files: &mut MemFiles,
-    out: &mut MemSink,
-    err: &mut MemSink,
-    wanted: &Wanted,
-) -> bool {
-    let status = msan(rt, alloc, words, files, out, err);
-    status == wanted.status
-        && out.as_slice() == wanted.out
-        && err.as_slice() == wanted.err.as_bytes()
+    desk: &mut Desk,
+    pass: &P,
+    gate: &G,
+) {
+    if let Ok(command) = read_words(alloc, &desk.words) {
+        desk.status = job(
+            rt,
+            alloc,
+            &command,
+            &mut desk.files,
+            &mut desk.out,
+            &mut desk.err,
+            pass,
+            gate,
+        );
+    }
 }
 
-fn answer<R: Threads + Sync>(
+/// What a call writes and answers where a pass makes the module that is run, and each run on one of many inputs enters a gate.
+pub fn said_by<R: Threads + Sync, P: Pass, G: Gate + Sync>(
     rt: &R,
     alloc: Global,
     call: &Call,
-    wanted: &Wanted,
-) -> Result<bool, AllocError> {
-    let words = words_of(alloc, call.words)?;
-    let mut files = files_of(alloc, call)?;
-    let mut out = sink_of(alloc, &[], wanted.out.len().saturating_add(100))?;
-    let mut err = sink_of(alloc, call.failing_puts, call.room)?;
-    Ok(is_answered(rt, alloc, &words, &mut files, &mut out, &mut err, wanted))
+    pass: &P,
+    gate: &G,
+) -> Result<Desk, AllocError> {
+    let mut desk = desk_of(alloc, call)?;
+    do_job(rt, alloc, &mut desk, pass, gate);
+    Ok(desk)
 }
 
-/// What a call with these words says of the text `f`, to sinks of so many bytes.
-pub fn said_within<R: Threads + Sync>(
-    rt: &R,
-    alloc: Global,
-    words: &str,
-    text: &[u8],
-    room: usize,
-) -> Result<Said, AllocError> {
-    let words = words_of(alloc, words)?;
-    let mut files = holding(alloc, Vec::from_slice(alloc, text)?, &[])?;
-    let mut out = sink_of(alloc, &[], room)?;
-    let mut err = sink_of(alloc, &[], room)?;
-    let status = msan(rt, alloc, &words, &mut files, &mut out, &mut err);
-    let out = Vec::from_slice(alloc, out.as_slice())?;
-    let err = Vec::from_slice(alloc, err.as_slice())?;
-    Ok(Said { out, err, status })
+/// What stands behind these pieces, if a text begins with them.
+pub fn behind<'a>(text: &'a [u8], pieces: &[&str]) -> Option<&'a [u8]> {
+    let mut rest = text;
+    for piece in pieces {
+        match rest.strip_prefix(piece.as_bytes()) {
+            Some(next) => rest = next,
+            None => return None,
+        }
+    }
+    Some(rest)
 }
 
-/// What a call with these words says of the text `f`.
-pub fn said_of<R: Threads + Sync>(
-    rt: &R,
-    alloc: Global,
-    words: &str,
-    text: &[u8],
-) -> Result<Said, AllocError> {
-    said_within(rt, alloc, words, text, ROOM)
+/// Whether a text is these pieces, one behind the other.
+pub fn is_joined(text: &[u8], pieces: &[&str]) -> bool {
+    match behind(text, pieces) {
+        Some(rest) => rest.is_empty(),
+        None => false,
+    }
+}
+
+fn are_letters(text: &[u8], count: usize) -> bool {
+    for byte in text {
+        if *byte != b'A' {
+            return false;
+        }
+    }
+    text.len() == count
+}
+
+fn is_output(text: &[u8], wanted: &Wanted) -> bool {
+    match text.strip_prefix(wanted.out) {
+        Some(rest) => are_letters(rest, wanted.letters),
+        None => false,
+    }
 }
 
 /// Whether this is what is wanted.
-pub fn says(said: &Said, wanted: &Wanted) -> bool {
-    said.status == wanted.status
-        && said.out.as_slice() == wanted.out
-        && said.err.as_slice() == wanted.err.as_bytes()
+pub fn says(desk: &Desk, wanted: &Wanted) -> bool {
+    desk.status == wanted.status
+        && is_output(desk.out.as_slice(), wanted)
+        && is_joined(desk.err.as_slice(), &wanted.err)
 }
 
-/// Whether a call writes and answers so.
-pub fn agrees<R: Threads + Sync>(rt: &R, alloc: Global, call: &Call, wanted: &Wanted) -> bool {
-    match answer(rt, alloc, call, wanted) {
-        Ok(same) => same,
+/// Whether a call writes and answers what it wants.
+pub fn agrees<R: Threads + Sync>(rt: &R, alloc: Global, call: &Call) -> bool {
+    match said(rt, alloc, call) {
+        Ok(desk) => says(&desk, &call.wanted),
         Err(_) => false,
     }
 }
 
-/// Whether the call of a case writes and answers so.
-pub fn case_agrees<R: Threads + Sync>(rt: &R, alloc: Global, case: &Case) -> bool {
-    let call = Call {
-        words: case.0,
-        head: case.1,
-        piece: "",
-        times: 0,
-        tail: "",
-        failing_reads: &[],
-        failing_puts: &[],
-        room: 1000,
-    };
-    let wanted = Wanted {
-        out: case.2.as_bytes(),
-        err: case.3,
-        status: case.4,
-    };
-    agrees(rt, alloc, &call, &wanted)
+fn table_agrees<R: Threads + Sync, T: Row>(rt: &R, alloc: Global, rows: &[T]) -> bool {
+    for row in rows {
+        if !agrees(rt, alloc, &row.call()) {
+            return false;
+        }
+    }
+    true
 }
 
-pub fn all_agree<R: Threads + Sync>(rt: &R, alloc: Global, cases: &[Case]) -> bool {
-    for case in cases {
-        if !case_agrees(rt, alloc, case) {
+/// Whether the call of each row of these tables writes and answers what the row says.
+pub fn all_agree<R: Threads + Sync, T: Row>(rt: &R, alloc: Global, tables: &[&[T]]) -> bool {
+    for rows in tables {
+        if !table_agrees(rt, alloc, rows) {
             return false;
         }
     }

@@ -1,9 +1,10 @@
 //! Origins that lead over stores back to a root. Pairs of an origin and a site are numbered behind the roots.
 
 use crate::calls::{Case, all_agree};
-use crate::modules::{Marked, all_marked};
+use crate::modules::Marked;
 use std::test::Fail;
 
+/// Origins lead back over stores.
 static CHAINS: [Case; 4] = [
     // A byte is stored and then copied sixteen times: the last copy makes the way no longer.
     Case(
@@ -39,6 +40,7 @@ static CHAINS: [Case; 4] = [
     ),
 ];
 
+/// Equal pairs have one number.
 static PAIRS: [Marked; 6] = [
     Marked(
         "define i32 @main() { %p = alloca [8 x i8] call void @__msan_store_origin(ptr %p, i64 255, i32 1, i32 2), !nosanitize !0 %__msan.8 = call i32 @__msan_load_origin(ptr %p, i64 255), !nosanitize !0 call void @__msan_check(i64 1, i32 64, i32 %__msan.8, i32 7, i32 0, i32 1), !nosanitize !0 ret i32 0 }",
@@ -95,13 +97,7 @@ static PAIRS: [Marked; 6] = [
 ];
 
 #[test]
-fn origins_lead_back_over_stores(rt: HostRuntime) -> Result<(), Fail> {
-    assert!(rt; all_agree(&rt, rt.alloc(), &CHAINS));
-    Ok(())
-}
-
-#[test]
-fn equal_pairs_have_one_number(rt: HostRuntime) -> Result<(), Fail> {
-    assert!(rt; all_marked(&rt, rt.alloc(), &PAIRS));
+fn origins_are_chained(rt: HostRuntime) -> Result<(), Fail> {
+    assert!(rt; all_agree(&rt, rt.alloc(), &[&CHAINS]) && all_agree(&rt, rt.alloc(), &[&PAIRS]));
     Ok(())
 }

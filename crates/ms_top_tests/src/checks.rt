@@ -9,6 +9,7 @@ use std::test::Fail;
 pub const CLANG_UNOPTIMISED: &str =
     "; ModuleID = 'a.c'\nsource_filename = \"a.c\"\ntarget triple = \"x86_64-unknown-linux-gnu\"\n@.str = private unnamed_addr constant [3 x i8] c\"ok\\00\", align 1\n; Function Attrs: noinline nounwind optnone uwtable\ndefine dso_local i32 @main() #0 {\n  %1 = alloca i32, align 4\n  %2 = alloca ptr, align 8\n  %3 = alloca i32, align 4\n  store i32 0, ptr %1, align 4\n  %4 = call noalias ptr @malloc(i64 noundef 16) #3\n  store ptr %4, ptr %2, align 8\n  store i32 0, ptr %3, align 4\n  br label %5\n\n5:                                                ; preds = %14, %0\n  %6 = load i32, ptr %3, align 4\n  %7 = icmp slt i32 %6, 4\n  br i1 %7, label %8, label %17\n\n8:                                                ; preds = %5\n  %9 = load i32, ptr %3, align 4\n  %10 = load ptr, ptr %2, align 8\n  %11 = load i32, ptr %3, align 4\n  %12 = sext i32 %11 to i64\n  %13 = getelementptr inbounds i32, ptr %10, i64 %12\n  store i32 %9, ptr %13, align 4\n  br label %14\n\n14:                                               ; preds = %8\n  %15 = load i32, ptr %3, align 4\n  %16 = add nsw i32 %15, 1\n  store i32 %16, ptr %3, align 4\n  br label %5, !llvm.loop !6\n\n17:                                               ; preds = %5\n  %18 = load ptr, ptr %2, align 8\n  %19 = getelementptr inbounds i32, ptr %18, i64 3\n  %20 = load i32, ptr %19, align 4\n  %21 = icmp eq i32 %20, 3\n  br i1 %21, label %22, label %24\n\n22:                                               ; preds = %17\n  %23 = call i32 @puts(ptr noundef @.str)\n  br label %24\n\n24:                                               ; preds = %22, %17\n  %25 = load ptr, ptr %2, align 8\n  call void @free(ptr noundef %25) #4\n  ret i32 0\n}\ndeclare noalias ptr @malloc(i64 noundef) #1\ndeclare i32 @puts(ptr noundef) #2\ndeclare void @free(ptr noundef) #1\nattributes #0 = { noinline nounwind optnone uwtable \"frame-pointer\"=\"all\" }\n!llvm.module.flags = !{!0}\n!0 = !{i32 1, !\"wchar_size\", i32 4}\n!6 = distinct !{!6, !7}\n!7 = !{!\"llvm.loop.mustprogress\"}\n";
 
+/// Comparisons are poisoned where completions differ.
 static COMPARISONS: [Case; 10] = [
     Case(
         "check f",
@@ -86,6 +87,7 @@ static COMPARISONS: [Case; 10] = [
     ),
 ];
 
+/// Bits are poisoned one by one.
 static BITS: [Case; 6] = [
     Case(
         "check f",
@@ -133,6 +135,7 @@ static BITS: [Case; 6] = [
     ),
 ];
 
+/// Selections take what is chosen.
 static SELECTIONS: [Case; 5] = [
     // 6 and 4 differ in one bit.
     Case(
@@ -172,6 +175,7 @@ static SELECTIONS: [Case; 5] = [
     ),
 ];
 
+/// Shifts move poisoned bits.
 static SHIFTS: [Case; 6] = [
     Case(
         "check f",
@@ -218,6 +222,7 @@ static SHIFTS: [Case; 6] = [
     ),
 ];
 
+/// Phis take the edge.
 static PHIS: [Case; 4] = [
     Case(
         "check f",
@@ -251,6 +256,7 @@ static PHIS: [Case; 4] = [
     ),
 ];
 
+/// Memory keeps shadow and origins.
 static MEMORY: [Case; 7] = [
     // The first poisoned byte gives the origin.
     Case(
@@ -306,7 +312,8 @@ static MEMORY: [Case; 7] = [
     ),
 ];
 
-static CALLS: [Case; 6] = [
+/// Calls hand masks over.
+static CALLS: [Case; 7] = [
     Case(
         "check f",
         "define i32 @f(i32 %0) {\n  %2 = icmp eq i32 %0, 1\n  br i1 %2, label %3, label %4\n3:\n  ret i32 7\n4:\n  %5 = sub i32 %0, 1\n  %6 = call i32 @f(i32 %5)\n  ret i32 %6\n}\ndefine i32 @main() {\n  %1 = call i32 @f(i32 1023)\n  ret i32 %1\n}\n",
@@ -326,6 +333,14 @@ static CALLS: [Case; 6] = [
         "define i32 @g(i32 %0, i32 %1, i32 %2) {\n  ret i32 %2\n}\ndefine i32 @main() {\n  %1 = call i32 @g(i32 1, i32 2, i32 undef)\n  %2 = call i32 @g(i32 3, i32 4, i32 5)\n  ret i32 %1\n}\n",
         "",
         "report 1: exit at site 4 in @main, part 0, bits 0xffffffff of i32\n  origin 1: undef at site 2 in @main\nend: reported\nreports: 1\nblind: 0\nverdict: poisoned\n",
+        77,
+    ),
+    // A further call hands over a mask of its own, and the parameter keeps the one that it came with.
+    Case(
+        "check f",
+        "define i32 @g(i32 %0) {\n  ret i32 %0\n}\ndefine i32 @f(i32 %0) {\n  %2 = call i32 @g(i32 5)\n  ret i32 %0\n}\ndefine i32 @main() {\n  %1 = call i32 @f(i32 undef)\n  ret i32 %1\n}\n",
+        "",
+        "report 1: exit at site 5 in @main, part 0, bits 0xffffffff of i32\n  origin 1: undef at site 4 in @main\nend: reported\nreports: 1\nblind: 0\nverdict: poisoned\n",
         77,
     ),
     Case(
@@ -351,6 +366,7 @@ static CALLS: [Case; 6] = [
     ),
 ];
 
+/// Blocks of the heap are poisoned.
 static HEAP: [Case; 9] = [
     Case(
         "check f",
@@ -418,6 +434,7 @@ static HEAP: [Case; 9] = [
     ),
 ];
 
+/// Externals check their bytes.
 static OUTSIDE: [Case; 12] = [
     Case(
         "check f",
@@ -507,7 +524,8 @@ static OUTSIDE: [Case; 12] = [
     ),
 ];
 
-// Each kind of use of a word is checked, before its instruction.
+/// Each kind of use is checked.
+/// Each kind of use of a word is checked, before its instruction.
 static KINDS: [Case; 10] = [
     Case(
         "check f",
@@ -581,7 +599,8 @@ static KINDS: [Case; 10] = [
     ),
 ];
 
-// Uses whose poison is lost are counted once for each instruction that runs.
+/// Blind uses are counted.
+/// Uses whose poison is lost are counted once for each instruction that runs.
 static BLIND: [Case; 8] = [
     Case(
         "check f",
@@ -642,6 +661,7 @@ static BLIND: [Case; 8] = [
     ),
 ];
 
+/// Traps have no report.
 static TRAPS: [Case; 6] = [
     Case(
         "check f",
@@ -689,73 +709,26 @@ static TRAPS: [Case; 6] = [
 ];
 
 #[test]
-fn comparisons_are_poisoned_where_completions_differ(rt: HostRuntime) -> Result<(), Fail> {
-    assert!(rt; all_agree_twice(&rt, rt.alloc(), &COMPARISONS));
-    Ok(())
-}
-
-#[test]
-fn bits_are_poisoned_one_by_one(rt: HostRuntime) -> Result<(), Fail> {
-    assert!(rt; all_agree_twice(&rt, rt.alloc(), &BITS));
-    Ok(())
-}
-
-#[test]
-fn selections_take_what_is_chosen(rt: HostRuntime) -> Result<(), Fail> {
-    assert!(rt; all_agree_twice(&rt, rt.alloc(), &SELECTIONS));
-    Ok(())
-}
-
-#[test]
-fn shifts_move_poisoned_bits(rt: HostRuntime) -> Result<(), Fail> {
-    assert!(rt; all_agree_twice(&rt, rt.alloc(), &SHIFTS));
-    Ok(())
-}
-
-#[test]
-fn phis_take_the_edge(rt: HostRuntime) -> Result<(), Fail> {
-    assert!(rt; all_agree_twice(&rt, rt.alloc(), &PHIS));
-    Ok(())
-}
-
-#[test]
-fn memory_keeps_shadow_and_origins(rt: HostRuntime) -> Result<(), Fail> {
-    assert!(rt; all_agree_twice(&rt, rt.alloc(), &MEMORY));
-    Ok(())
-}
-
-#[test]
-fn calls_hand_masks_over(rt: HostRuntime) -> Result<(), Fail> {
-    assert!(rt; all_agree_twice(&rt, rt.alloc(), &CALLS));
-    Ok(())
-}
-
-#[test]
-fn blocks_of_the_heap_are_poisoned(rt: HostRuntime) -> Result<(), Fail> {
-    assert!(rt; all_agree_twice(&rt, rt.alloc(), &HEAP));
-    Ok(())
-}
-
-#[test]
-fn externals_check_their_bytes(rt: HostRuntime) -> Result<(), Fail> {
-    assert!(rt; all_agree_twice(&rt, rt.alloc(), &OUTSIDE));
-    Ok(())
-}
-
-#[test]
-fn each_kind_of_use_is_checked(rt: HostRuntime) -> Result<(), Fail> {
-    assert!(rt; all_agree_twice(&rt, rt.alloc(), &KINDS));
-    Ok(())
-}
-
-#[test]
-fn blind_uses_are_counted(rt: HostRuntime) -> Result<(), Fail> {
-    assert!(rt; all_agree_twice(&rt, rt.alloc(), &BLIND));
-    Ok(())
-}
-
-#[test]
-fn traps_have_no_report(rt: HostRuntime) -> Result<(), Fail> {
-    assert!(rt; all_agree_twice(&rt, rt.alloc(), &TRAPS));
+fn uses_are_checked(rt: HostRuntime) -> Result<(), Fail> {
+    assert!(rt;
+        all_agree_twice(
+            &rt,
+            rt.alloc(),
+            &[
+                &COMPARISONS,
+                &BITS,
+                &SELECTIONS,
+                &SHIFTS,
+                &PHIS,
+                &MEMORY,
+                &CALLS,
+                &HEAP,
+                &OUTSIDE,
+                &KINDS,
+                &BLIND,
+                &TRAPS
+            ]
+        )
+    );
     Ok(())
 }

@@ -1,9 +1,11 @@
 //! Runs that call, return, branch and jump.
 
-use crate::alike::all_alike;
-use crate::modules::{Given, Run, all_given, all_run};
+use crate::alike::all_run_and_checked;
+use crate::calls::all_agree;
+use crate::modules::{Given, Run};
 use std::test::Fail;
 
+/// Calls return.
 static CALLS: [Run; 15] = [
     Run(
         "define i32 @main() { %r = call i32 @f(i1 true, i7 -1, i8 -2, i24 -3, i33 -4, i64 -5, ptr @g) ret i32 %r } define i32 @f(i1 %a, i7 %b, i8 %c, i24 %d, i33 %e, i64 %f, ptr %p) { %b8 = sext i7 %b to i32 %c8 = sext i8 %c to i32 %d8 = sext i24 %d to i32 %e8 = trunc i33 %e to i32 %f8 = trunc i64 %f to i32 %g8 = load i32, ptr %p %a8 = zext i1 %a to i32 %s = add i32 %a8, %b8 %t = add i32 %s, %c8 %u = add i32 %t, %d8 %v = add i32 %u, %e8 %w = add i32 %v, %f8 %x = add i32 %w, %g8 ret i32 %x } @g = global i32 100",
@@ -103,7 +105,8 @@ static CALLS: [Run; 15] = [
     ),
 ];
 
-// The stack begins at 125344325566464 and has 1048576 bytes.
+/// The stack is taken back.
+/// The stack begins at 125344325566464 and has 1048576 bytes.
 static STACKS: [Run; 19] = [
     Run(
         "define i32 @main() { %p = alloca i8 %q = alloca [17 x i8] %r = alloca i8 %a = ptrtoint ptr %r to i64 %b = sub i64 %a, 125344325566464 %c = trunc i64 %b to i32 ret i32 %c }",
@@ -226,6 +229,7 @@ static STACKS: [Run; 19] = [
     ),
 ];
 
+/// Jumps go to their blocks.
 static JUMPS: [Run; 14] = [
     Run(
         "define i32 @main() { br i1 true, label %a, label %b a: ret i32 1 b: ret i32 2 }",
@@ -316,6 +320,7 @@ static JUMPS: [Run; 14] = [
     ),
 ];
 
+/// Phis read at once.
 static PHIS: [Run; 10] = [
     // They all read before any is set: two that change places.
     Run(
@@ -386,23 +391,24 @@ static PHIS: [Run; 10] = [
     ),
 ];
 
-// A phi is no step; a call, a return and a terminator are one each.
+/// Steps are counted.
+/// A phi is no step; a call, a return and a terminator are one each.
 static STEPS: [Given; 16] = [
     Given(
         b"",
-        b"\xa5",
+        "a5",
         0,
         Run("define i32 @main() { ret i32 0 }", b"", "spent", 4),
     ),
     Given(
         b"",
-        b"\xa5",
+        "a5",
         1,
         Run("define i32 @main() { ret i32 0 }", b"", "exit 0", 0),
     ),
     Given(
         b"",
-        b"\xa5",
+        "a5",
         1,
         Run(
             "define i32 @main() { %a = add i32 1, 2 ret i32 %a }",
@@ -413,7 +419,7 @@ static STEPS: [Given; 16] = [
     ),
     Given(
         b"",
-        b"\xa5",
+        "a5",
         2,
         Run(
             "define i32 @main() { %a = add i32 1, 2 ret i32 %a }",
@@ -424,7 +430,7 @@ static STEPS: [Given; 16] = [
     ),
     Given(
         b"",
-        b"\xa5",
+        "a5",
         1,
         Run(
             "define i32 @main() { br label %e e: %a = phi i32 [ 1, %0 ] %b = phi i32 [ 2, %0 ] ret i32 %b }",
@@ -435,7 +441,7 @@ static STEPS: [Given; 16] = [
     ),
     Given(
         b"",
-        b"\xa5",
+        "a5",
         2,
         Run(
             "define i32 @main() { br label %e e: %a = phi i32 [ 1, %0 ] %b = phi i32 [ 2, %0 ] ret i32 %b }",
@@ -446,7 +452,7 @@ static STEPS: [Given; 16] = [
     ),
     Given(
         b"",
-        b"\xa5",
+        "a5",
         2,
         Run(
             "define i32 @f() { ret i32 3 } define i32 @main() { %a = call i32 @f() ret i32 %a }",
@@ -457,7 +463,7 @@ static STEPS: [Given; 16] = [
     ),
     Given(
         b"",
-        b"\xa5",
+        "a5",
         3,
         Run(
             "define i32 @f() { ret i32 3 } define i32 @main() { %a = call i32 @f() ret i32 %a }",
@@ -468,7 +474,7 @@ static STEPS: [Given; 16] = [
     ),
     Given(
         b"",
-        b"\xa5",
+        "a5",
         1,
         Run(
             "define i32 @main() { %a = call i32 @putchar(i32 65) %b = call i32 @putchar(i32 66) ret i32 0 }",
@@ -479,7 +485,7 @@ static STEPS: [Given; 16] = [
     ),
     Given(
         b"",
-        b"\xa5",
+        "a5",
         3,
         Run(
             "define i32 @main() { %a = call i32 @putchar(i32 65) %b = call i32 @putchar(i32 66) ret i32 0 }",
@@ -490,7 +496,7 @@ static STEPS: [Given; 16] = [
     ),
     Given(
         b"",
-        b"\xa5",
+        "a5",
         1,
         Run(
             "define i32 @main() { call void @exit(i32 5) ret i32 0 }",
@@ -501,7 +507,7 @@ static STEPS: [Given; 16] = [
     ),
     Given(
         b"",
-        b"\xa5",
+        "a5",
         0,
         Run(
             "define i32 @main() { call void @exit(i32 5) ret i32 0 }",
@@ -512,7 +518,7 @@ static STEPS: [Given; 16] = [
     ),
     Given(
         b"",
-        b"\xa5",
+        "a5",
         1,
         Run(
             "define i32 @main() { unreachable }",
@@ -523,13 +529,13 @@ static STEPS: [Given; 16] = [
     ),
     Given(
         b"",
-        b"\xa5",
+        "a5",
         0,
         Run("define i32 @main() { unreachable }", b"", "spent", 4),
     ),
     Given(
         b"",
-        b"\xa5",
+        "a5",
         1000,
         Run(
             "define i32 @main() { br label %l l: br label %l }",
@@ -540,7 +546,7 @@ static STEPS: [Given; 16] = [
     ),
     Given(
         b"",
-        b"\xa5",
+        "a5",
         100000,
         Run(
             "define i32 @main() { br label %l l: br label %l }",
@@ -552,40 +558,10 @@ static STEPS: [Given; 16] = [
 ];
 
 #[test]
-fn calls_return(rt: HostRuntime) -> Result<(), Fail> {
-    assert!(rt; all_run(&rt, rt.alloc(), &CALLS));
-    Ok(())
-}
-
-#[test]
-fn the_stack_is_taken_back(rt: HostRuntime) -> Result<(), Fail> {
-    assert!(rt; all_run(&rt, rt.alloc(), &STACKS));
-    Ok(())
-}
-
-#[test]
-fn jumps_go_to_their_blocks(rt: HostRuntime) -> Result<(), Fail> {
-    assert!(rt; all_run(&rt, rt.alloc(), &JUMPS));
-    Ok(())
-}
-
-#[test]
-fn phis_read_at_once(rt: HostRuntime) -> Result<(), Fail> {
-    assert!(rt; all_run(&rt, rt.alloc(), &PHIS));
-    Ok(())
-}
-
-#[test]
-fn steps_are_counted(rt: HostRuntime) -> Result<(), Fail> {
-    assert!(rt; all_given(&rt, rt.alloc(), &STEPS));
-    Ok(())
-}
-
-#[test]
-fn control_is_checked_as_it_is_run(rt: HostRuntime) -> Result<(), Fail> {
-    assert!(rt; all_alike(&rt, rt.alloc(), &CALLS));
-    assert!(rt; all_alike(&rt, rt.alloc(), &STACKS));
-    assert!(rt; all_alike(&rt, rt.alloc(), &JUMPS));
-    assert!(rt; all_alike(&rt, rt.alloc(), &PHIS));
+fn control_goes_its_way(rt: HostRuntime) -> Result<(), Fail> {
+    assert!(rt;
+        all_run_and_checked(&rt, rt.alloc(), &[&CALLS, &STACKS, &JUMPS, &PHIS])
+            && all_agree(&rt, rt.alloc(), &[&STEPS])
+    );
     Ok(())
 }

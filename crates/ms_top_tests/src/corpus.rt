@@ -1,11 +1,7 @@
 //! Many inputs: a section for each, in their order, whatever the number of workers.
 
-use crate::calls::{Wanted, is_answered, sink_of, words_of};
-use ms_io::MemFiles;
-use std::alloc::{AllocError, Global};
-use std::collections::BTreeMap;
+use crate::calls::{ALL, Beside, Call, Row, Wanted, all_agree};
 use std::test::Fail;
-use std::thread::Threads;
 
 /// Puts out one byte, and then four of which the third is unset.
 const GAP: &str =
@@ -36,7 +32,7 @@ const TWICE: &str =
 /// The words, the module in the file `f`, what is written to the output and to the standard error, and the status. The
 /// files `a`, `b` and `c` are empty; `r`, `s`, `t` and `x` hold two bytes, the first of which is the name, as a capital
 /// but for `x`.
-struct Row(&'static str, &'static str, &'static str, &'static str, u8);
+struct Inputs(&'static str, &'static str, &'static str, &'static str, u8);
 
 static INPUTS: [(&str, &str); 7] = [
     ("a", ""),
@@ -48,26 +44,26 @@ static INPUTS: [(&str, &str); 7] = [
     ("x", "xx"),
 ];
 
-static ROWS: [Row; 12] = [
-    Row("corpus f a", GAP, ONE, "", 77),
-    Row("corpus f c a b", GAP, THREE, "", 77),
-    Row("corpus --workers 1 f c a b", GAP, THREE, "", 77),
-    Row("corpus --workers=2 f c a b", GAP, THREE, "", 77),
-    Row("corpus --workers=8 -- f c a b", GAP, THREE, "", 77),
-    Row("corpus --steps 100 f t x s r x", ENDS, ALL_ENDS, "", 77),
-    Row(
+static ROWS: [Inputs; 12] = [
+    Inputs("corpus f a", GAP, ONE, "", 77),
+    Inputs("corpus f c a b", GAP, THREE, "", 77),
+    Inputs("corpus --workers 1 f c a b", GAP, THREE, "", 77),
+    Inputs("corpus --workers=2 f c a b", GAP, THREE, "", 77),
+    Inputs("corpus --workers=8 -- f c a b", GAP, THREE, "", 77),
+    Inputs("corpus --steps 100 f t x s r x", ENDS, ALL_ENDS, "", 77),
+    Inputs(
         "corpus --steps 100 --workers 3 f t x s r x",
         ENDS,
         ALL_ENDS,
         "",
         77,
     ),
-    Row("corpus --steps=100 f s t", ENDS, A_TRAP, "", 3),
-    Row("corpus --steps=100 f s x", ENDS, A_SPENT, "", 4),
-    Row("corpus f x x", ENDS, TWICE, "", 0),
+    Inputs("corpus --steps=100 f s t", ENDS, A_TRAP, "", 3),
+    Inputs("corpus --steps=100 f s x", ENDS, A_SPENT, "", 4),
+    Inputs("corpus f x x", ENDS, TWICE, "", 0),
     // The first file that isn't held is named, and no module is refused before.
-    Row("corpus f a y z", "define", "", "file fault: y\n", 6),
-    Row(
+    Inputs("corpus f a y z", "define", "", "file fault: y\n", 6),
+    Inputs(
         "corpus f a",
         "define i32 @main() {",
         "",
@@ -76,46 +72,30 @@ static ROWS: [Row; 12] = [
     ),
 ];
 
-/// Files that hold this text as `f`, and the inputs.
-fn files_of(alloc: Global, text: &str) -> Result<MemFiles, AllocError> {
-    let mut held = BTreeMap::new(alloc);
-    held.insert(
-        String::from_str(alloc, "f")?,
-        Vec::from_slice(alloc, text.as_bytes())?,
-    )?;
-    for (name, input) in &INPUTS {
-        held.insert(
-            String::from_str(alloc, name)?,
-            Vec::from_slice(alloc, input.as_bytes())?,
-        )?;
-    }
-    Ok(MemFiles::new(held, Vec::new(alloc)))
-}
-
-fn row_agrees<R: Threads + Sync>(rt: &R, alloc: Global, row: &Row) -> Result<bool, AllocError> {
-    let words = words_of(alloc, row.0)?;
-    let mut files = files_of(alloc, row.1)?;
-    let wanted = Wanted {
-        out: row.2.as_bytes(),
-        err: row.3,
-        status: row.4,
-    };
-    let mut out = sink_of(alloc, &[], row.2.len().saturating_add(100))?;
-    let mut err = sink_of(alloc, &[], row.3.len().saturating_add(100))?;
-    Ok(is_answered(rt, alloc, &words, &mut files, &mut out, &mut err, &wanted))
-}
-
-fn all_rows_agree<R: Threads + Sync>(rt: &R, alloc: Global, rows: &[Row]) -> bool {
-    for row in rows {
-        if row_agrees(rt, alloc, row).ok() != Some(true) {
-            return false;
+impl Row for Inputs {
+    fn call(&self) -> Call<'static> {
+        Call {
+            words: self.0,
+            head: self.1.as_bytes(),
+            piece: b"",
+            times: 0,
+            tail: b"",
+            beside: Beside::These(&INPUTS),
+            failing_reads: &[],
+            out: ALL,
+            err: ALL,
+            wanted: Wanted {
+                out: self.2.as_bytes(),
+                letters: 0,
+                err: [self.3, "", ""],
+                status: self.4,
+            },
         }
     }
-    true
 }
 
 #[test]
 fn each_input_has_a_section(rt: HostRuntime) -> Result<(), Fail> {
-    assert!(rt; all_rows_agree(&rt, rt.alloc(), &ROWS));
+    assert!(rt; all_agree(&rt, rt.alloc(), &[&ROWS]));
     Ok(())
 }

@@ -1,6 +1,7 @@
 //! Runs in which nothing is computed of values that are clean in every run.
 
-use crate::modules::{Checked, Terms, all_checked};
+use crate::calls::{DEFAULTS, Terms, all_agree};
+use crate::modules::Checked;
 use std::test::Fail;
 
 /// Of the phi's two edges one is undefined: an `A` takes the other one.
@@ -22,14 +23,7 @@ const PARAMETER: &str =
 /// An input for the first of these modules alone.
 const AN_A: Terms = Terms {
     input: b"A",
-    fill: b"\xa5",
-    steps: 10000000,
-    reports: 1,
-};
-
-const NO_INPUT: Terms = Terms {
-    input: b"",
-    fill: b"\xa5",
+    fill: "a5",
     steps: 10000000,
     reports: 1,
 };
@@ -43,14 +37,14 @@ static ROWS: [Checked; 5] = [
         0,
     ),
     Checked(
-        NO_INPUT,
+        DEFAULTS,
         ONE_EDGE,
         b"",
         "report 1: exit at site 7 in @main, part 0, bits 0xffffffff of i32\n  origin 1: undef at site 6 in @main\nend: reported\nreports: 1\nblind: 0\nverdict: poisoned\n",
         77,
     ),
     Checked(
-        NO_INPUT,
+        DEFAULTS,
         UNDEFINED_FIRST,
         b"",
         "report 1: exit at site 6 in @main, part 0, bits 0x7 of i32\n  origin 1: undef at site 2 in @main\nend: reported\nreports: 1\nblind: 0\nverdict: poisoned\n",
@@ -58,14 +52,14 @@ static ROWS: [Checked; 5] = [
     ),
     // The dividend and the factor are two blind uses; 0xa5a5a5a5 by 4.
     Checked(
-        NO_INPUT,
+        DEFAULTS,
         DIVIDEND,
         b"",
         "report 1: exit at site 3 in @main, part 0, bits 0xffffffff of i32\n  origin 1: undef at site 1 in @main\nend: reported\nreports: 1\nblind: 2\nverdict: poisoned\n",
         77,
     ),
     Checked(
-        NO_INPUT,
+        DEFAULTS,
         PARAMETER,
         b"",
         "report 1: exit at site 5 in @main, part 0, bits 0xffffffff of i32\n  origin 1: undef at site 3 in @main\nend: reported\nreports: 1\nblind: 0\nverdict: poisoned\n",
@@ -75,6 +69,6 @@ static ROWS: [Checked; 5] = [
 
 #[test]
 fn clean_values_alone_are_left_out(rt: HostRuntime) -> Result<(), Fail> {
-    assert!(rt; all_checked(&rt, rt.alloc(), &ROWS));
+    assert!(rt; all_agree(&rt, rt.alloc(), &[&ROWS]));
     Ok(())
 }

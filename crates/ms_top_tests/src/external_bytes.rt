@@ -2,10 +2,11 @@
 //! were worked out by hand.
 
 use crate::alike::all_agree_twice;
-use crate::calls::Case;
-use crate::modules::{Checked, Terms, all_checked};
+use crate::calls::{Case, Terms, all_agree};
+use crate::modules::Checked;
 use std::test::Fail;
 
+/// Blocks begin poisoned or clean.
 static BLOCKS: [Case; 9] = [
     Case(
         "check f",
@@ -75,6 +76,7 @@ static BLOCKS: [Case; 9] = [
     ),
 ];
 
+/// Blocks that move keep their shadow.
 static MOVED_BLOCKS: [Case; 12] = [
     Case(
         "check f",
@@ -167,6 +169,7 @@ static MOVED_BLOCKS: [Case; 12] = [
     ),
 ];
 
+/// Copies take shadow and origins.
 static COPIES: [Case; 15] = [
     Case(
         "check f",
@@ -278,6 +281,7 @@ static COPIES: [Case; 15] = [
     ),
 ];
 
+/// Bytes that are set have the mask of the value.
 static SETS: [Case; 13] = [
     // Four bytes 5.
     Case(
@@ -377,6 +381,7 @@ static SETS: [Case; 13] = [
     ),
 ];
 
+/// Bytes that are compared are checked.
 static COMPARED: [Case; 8] = [
     // Also behind the first byte that differs.
     Case(
@@ -438,6 +443,7 @@ static COMPARED: [Case; 8] = [
     ),
 ];
 
+/// Strings are checked up to their end.
 static STRINGS: [Case; 12] = [
     Case(
         "check f",
@@ -528,6 +534,7 @@ static STRINGS: [Case; 12] = [
     ),
 ];
 
+/// Bytes that are written are checked.
 static WRITTEN: [Case; 4] = [
     // For any descriptor.
     Case(
@@ -560,6 +567,7 @@ static WRITTEN: [Case; 4] = [
     ),
 ];
 
+/// Lifetimes begin poisoned.
 static LIFETIMES: [Case; 5] = [
     Case(
         "check f",
@@ -599,12 +607,13 @@ static LIFETIMES: [Case; 5] = [
     ),
 ];
 
-// Of the input no bit is poisoned, and what is not read stays as it is.
+/// Bytes of the input are clean.
+/// Of the input no bit is poisoned, and what is not read stays as it is.
 static INPUTS: [Checked; 7] = [
     Checked(
         Terms {
             input: b"a",
-            fill: b"\xa5",
+            fill: "a5",
             steps: 10000000,
             reports: 1,
         },
@@ -617,7 +626,7 @@ static INPUTS: [Checked; 7] = [
     Checked(
         Terms {
             input: b"abc",
-            fill: b"\xa5",
+            fill: "a5",
             steps: 10000000,
             reports: 1,
         },
@@ -629,7 +638,7 @@ static INPUTS: [Checked; 7] = [
     Checked(
         Terms {
             input: b"a",
-            fill: b"\xa5",
+            fill: "a5",
             steps: 10000000,
             reports: 1,
         },
@@ -641,7 +650,7 @@ static INPUTS: [Checked; 7] = [
     Checked(
         Terms {
             input: b"a",
-            fill: b"\xa5",
+            fill: "a5",
             steps: 10000000,
             reports: 1,
         },
@@ -654,7 +663,7 @@ static INPUTS: [Checked; 7] = [
     Checked(
         Terms {
             input: b"a",
-            fill: b"\xa5",
+            fill: "a5",
             steps: 10000000,
             reports: 1,
         },
@@ -666,7 +675,7 @@ static INPUTS: [Checked; 7] = [
     Checked(
         Terms {
             input: b"",
-            fill: b"\xa5",
+            fill: "a5",
             steps: 10000000,
             reports: 1,
         },
@@ -678,7 +687,7 @@ static INPUTS: [Checked; 7] = [
     Checked(
         Terms {
             input: b"ab",
-            fill: b"\xa5",
+            fill: "a5",
             steps: 10000000,
             reports: 1,
         },
@@ -690,55 +699,22 @@ static INPUTS: [Checked; 7] = [
 ];
 
 #[test]
-fn blocks_begin_poisoned_or_clean(rt: HostRuntime) -> Result<(), Fail> {
-    assert!(rt; all_agree_twice(&rt, rt.alloc(), &BLOCKS));
-    Ok(())
-}
-
-#[test]
-fn blocks_that_move_keep_their_shadow(rt: HostRuntime) -> Result<(), Fail> {
-    assert!(rt; all_agree_twice(&rt, rt.alloc(), &MOVED_BLOCKS));
-    Ok(())
-}
-
-#[test]
-fn copies_take_shadow_and_origins(rt: HostRuntime) -> Result<(), Fail> {
-    assert!(rt; all_agree_twice(&rt, rt.alloc(), &COPIES));
-    Ok(())
-}
-
-#[test]
-fn bytes_that_are_set_have_the_mask_of_the_value(rt: HostRuntime) -> Result<(), Fail> {
-    assert!(rt; all_agree_twice(&rt, rt.alloc(), &SETS));
-    Ok(())
-}
-
-#[test]
-fn bytes_that_are_compared_are_checked(rt: HostRuntime) -> Result<(), Fail> {
-    assert!(rt; all_agree_twice(&rt, rt.alloc(), &COMPARED));
-    Ok(())
-}
-
-#[test]
-fn strings_are_checked_up_to_their_end(rt: HostRuntime) -> Result<(), Fail> {
-    assert!(rt; all_agree_twice(&rt, rt.alloc(), &STRINGS));
-    Ok(())
-}
-
-#[test]
-fn bytes_that_are_written_are_checked(rt: HostRuntime) -> Result<(), Fail> {
-    assert!(rt; all_agree_twice(&rt, rt.alloc(), &WRITTEN));
-    Ok(())
-}
-
-#[test]
-fn lifetimes_begin_poisoned(rt: HostRuntime) -> Result<(), Fail> {
-    assert!(rt; all_agree_twice(&rt, rt.alloc(), &LIFETIMES));
-    Ok(())
-}
-
-#[test]
-fn bytes_of_the_input_are_clean(rt: HostRuntime) -> Result<(), Fail> {
-    assert!(rt; all_checked(&rt, rt.alloc(), &INPUTS));
+fn externals_move_shadow(rt: HostRuntime) -> Result<(), Fail> {
+    assert!(rt;
+        all_agree_twice(
+            &rt,
+            rt.alloc(),
+            &[
+                &BLOCKS,
+                &MOVED_BLOCKS,
+                &COPIES,
+                &SETS,
+                &COMPARED,
+                &STRINGS,
+                &WRITTEN,
+                &LIFETIMES
+            ]
+        ) && all_agree(&rt, rt.alloc(), &[&INPUTS])
+    );
     Ok(())
 }

@@ -2,11 +2,12 @@
 //! sites and origins were worked out by hand.
 
 use crate::alike::all_agree_twice;
-use crate::calls::Case;
-use crate::modules::{Checked, Terms, all_checked};
+use crate::calls::{Case, Terms, all_agree};
+use crate::modules::Checked;
 use std::test::Fail;
 
-// The lengths and the pointers of the four externals that make and end blocks of the heap.
+/// Arguments about blocks are checked.
+/// The lengths and the pointers of the four externals that make and end blocks of the heap.
 static BLOCKS: [Case; 11] = [
     Case(
         "check f",
@@ -88,7 +89,8 @@ static BLOCKS: [Case; 11] = [
     ),
 ];
 
-// No bytes are good everywhere.
+/// Arguments of copies are checked.
+/// No bytes are good everywhere.
 static COPIES: [Case; 16] = [
     Case(
         "check f",
@@ -204,7 +206,8 @@ static COPIES: [Case; 16] = [
     ),
 ];
 
-// The byte that is set is checked at no call.
+/// Arguments about bytes are checked.
+/// The byte that is set is checked at no call.
 static BYTES: [Case; 12] = [
     Case(
         "check f",
@@ -292,6 +295,7 @@ static BYTES: [Case; 12] = [
     ),
 ];
 
+/// Arguments about input and output are checked.
 static STREAMS: [Case; 12] = [
     // Also the bits that are not printed.
     Case(
@@ -380,7 +384,8 @@ static STREAMS: [Case; 12] = [
     ),
 ];
 
-// The end of a run, and of lifetimes.
+/// Arguments about ends are checked.
+/// The end of a run, and of lifetimes.
 static ENDS: [Case; 11] = [
     Case(
         "check f",
@@ -463,12 +468,13 @@ static ENDS: [Case; 11] = [
     ),
 ];
 
-// Checks come in the order of the arguments, those of bytes last, and what is answered is clean.
+/// Checks come in their order.
+/// Checks come in the order of the arguments, those of bytes last, and what is answered is clean.
 static ORDER: [Checked; 8] = [
     Checked(
         Terms {
             input: b"",
-            fill: b"\xa5",
+            fill: "a5",
             steps: 10000000,
             reports: 2,
         },
@@ -480,7 +486,7 @@ static ORDER: [Checked; 8] = [
     Checked(
         Terms {
             input: b"",
-            fill: b"\xa5",
+            fill: "a5",
             steps: 10000000,
             reports: 4,
         },
@@ -492,7 +498,7 @@ static ORDER: [Checked; 8] = [
     Checked(
         Terms {
             input: b"",
-            fill: b"\xa5",
+            fill: "a5",
             steps: 10000000,
             reports: 3,
         },
@@ -504,7 +510,7 @@ static ORDER: [Checked; 8] = [
     Checked(
         Terms {
             input: b"",
-            fill: b"\xa5",
+            fill: "a5",
             steps: 10000000,
             reports: 2,
         },
@@ -516,7 +522,7 @@ static ORDER: [Checked; 8] = [
     Checked(
         Terms {
             input: b"",
-            fill: b"\xa5",
+            fill: "a5",
             steps: 10000000,
             reports: 2,
         },
@@ -529,7 +535,7 @@ static ORDER: [Checked; 8] = [
     Checked(
         Terms {
             input: b"",
-            fill: b"\xa5",
+            fill: "a5",
             steps: 10000000,
             reports: 2,
         },
@@ -541,7 +547,7 @@ static ORDER: [Checked; 8] = [
     Checked(
         Terms {
             input: b"",
-            fill: b"\xa5",
+            fill: "a5",
             steps: 10000000,
             reports: 2,
         },
@@ -553,7 +559,7 @@ static ORDER: [Checked; 8] = [
     Checked(
         Terms {
             input: b"",
-            fill: b"\xa5",
+            fill: "a5",
             steps: 10000000,
             reports: 2,
         },
@@ -565,37 +571,13 @@ static ORDER: [Checked; 8] = [
 ];
 
 #[test]
-fn arguments_about_blocks_are_checked(rt: HostRuntime) -> Result<(), Fail> {
-    assert!(rt; all_agree_twice(&rt, rt.alloc(), &BLOCKS));
-    Ok(())
-}
-
-#[test]
-fn arguments_of_copies_are_checked(rt: HostRuntime) -> Result<(), Fail> {
-    assert!(rt; all_agree_twice(&rt, rt.alloc(), &COPIES));
-    Ok(())
-}
-
-#[test]
-fn arguments_about_bytes_are_checked(rt: HostRuntime) -> Result<(), Fail> {
-    assert!(rt; all_agree_twice(&rt, rt.alloc(), &BYTES));
-    Ok(())
-}
-
-#[test]
-fn arguments_about_input_and_output_are_checked(rt: HostRuntime) -> Result<(), Fail> {
-    assert!(rt; all_agree_twice(&rt, rt.alloc(), &STREAMS));
-    Ok(())
-}
-
-#[test]
-fn arguments_about_ends_are_checked(rt: HostRuntime) -> Result<(), Fail> {
-    assert!(rt; all_agree_twice(&rt, rt.alloc(), &ENDS));
-    Ok(())
-}
-
-#[test]
-fn checks_come_in_their_order(rt: HostRuntime) -> Result<(), Fail> {
-    assert!(rt; all_checked(&rt, rt.alloc(), &ORDER));
+fn arguments_are_checked(rt: HostRuntime) -> Result<(), Fail> {
+    assert!(rt;
+        all_agree_twice(
+            &rt,
+            rt.alloc(),
+            &[&BLOCKS, &COPIES, &BYTES, &STREAMS, &ENDS]
+        ) && all_agree(&rt, rt.alloc(), &[&ORDER])
+    );
     Ok(())
 }

@@ -1,11 +1,7 @@
 //! Files and sinks that fail, files that are too long, and which of several faults is said.
 
-use crate::calls::{Wanted, is_answered, sink_of, words_of};
-use ms_io::MemFiles;
-use std::alloc::{AllocError, Global};
-use std::collections::BTreeMap;
+use crate::calls::{ALL, Beside, Call, Row, Taking, Wanted, all_agree};
 use std::test::Fail;
-use std::thread::Threads;
 
 const RETURNS: &str = "define i32 @main() {\n  ret i32 0\n}\n";
 
@@ -22,13 +18,6 @@ const BAD_BYTE: &str = "?";
 const PRINTS: &str =
     "@g = global [131073 x i8] zeroinitializer\ndefine i32 @main() {\n  %1 = call ptr @memset(ptr @g, i32 65, i64 131073)\n  %2 = call i64 @write(i32 1, ptr @g, i64 131073)\n  ret i32 0\n}\ndeclare ptr @memset(ptr, i32, i64)\ndeclare i64 @write(i32, ptr, i64)\n";
 
-/// A sink: the numbers of its puts that fail, and the bytes that fit.
-#[derive(Clone, Copy)]
-struct Taking(&'static [u64], usize);
-
-/// Takes all that is put.
-const ALL: Taking = Taking(&[], 1000);
-
 /// The words, the text of the file `f`, the number of bytes of the file `a`, the numbers of the reads that fail, the output and
 /// the standard error, what is written to each, and the status. The file `b` is empty, and there is no other.
 struct Failing(
@@ -36,8 +25,8 @@ struct Failing(
     &'static str,
     usize,
     &'static [u64],
-    Taking,
-    Taking,
+    Taking<'static>,
+    Taking<'static>,
     &'static str,
     &'static str,
     u8,
@@ -46,6 +35,7 @@ struct Failing(
 /// The numbers of the puts to the output that fail, how many bytes of `PRINTS` are written then, what is said, and the status.
 struct Piece(&'static [u64], usize, &'static str, u8);
 
+/// Reads that fail are said.
 static READS: [Failing; 12] = [
     Failing("run f", STORED, 0, &[0], ALL, ALL, "", "file fault: f\n", 6),
     Failing(
@@ -173,6 +163,7 @@ static READS: [Failing; 12] = [
     ),
 ];
 
+/// The first file at fault is said.
 static LONG_AND_UNHELD: [Failing; 12] = [
     Failing(
         "corpus g a",
@@ -310,6 +301,7 @@ static LONG_AND_UNHELD: [Failing; 12] = [
     ),
 ];
 
+/// Behind a failed put nothing is put.
 static SINKS: [Failing; 22] = [
     Failing("check f", WITH_GAP, 0, &[], Taking(&[], 0), ALL, "", "", 7),
     Failing(
@@ -509,7 +501,8 @@ static SINKS: [Failing; 22] = [
     ),
 ];
 
-// A text is put in pieces of at most 65536 bytes, and behind one that fails nothing is put.
+/// Long texts are put in pieces.
+/// A text is put in pieces of at most 65536 bytes, and behind one that fails nothing is put.
 static PIECES: [Piece; 4] = [
     Piece(&[0], 0, "", 7),
     Piece(&[1], 65536, "", 7),
@@ -517,94 +510,55 @@ static PIECES: [Piece; 4] = [
     Piece(&[3], 131073, "end: exit 0\nreports: 0\nblind: 0\n", 0),
 ];
 
-/// Files that hold a text as `f`, so many bytes as `a`, and nothing as `b`.
-fn held_of(
-    alloc: Global,
-    text: &str,
-    count: usize,
-) -> Result<BTreeMap<String, Vec<u8>>, AllocError> {
-    let mut held = BTreeMap::new(alloc);
-    held.insert(
-        String::from_str(alloc, "f")?,
-        Vec::from_slice(alloc, text.as_bytes())?,
-    )?;
-    held.insert(String::from_str(alloc, "a")?, vec![in alloc; b'x'; count]?)?;
-    held.insert(String::from_str(alloc, "b")?, Vec::new(alloc))?;
-    Ok(held)
-}
-
-fn files_of(alloc: Global, row: &Failing) -> Result<MemFiles, AllocError> {
-    let held = held_of(alloc, row.1, row.2)?;
-    Ok(MemFiles::new(held, Vec::from_slice(alloc, row.3)?))
-}
-
-/// Whether a row's call writes and answers so.
-fn row_agrees<R: Threads + Sync>(rt: &R, alloc: Global, row: &Failing) -> Result<bool, AllocError> {
-    let wanted = Wanted {
-        out: row.6.as_bytes(),
-        err: row.7,
-        status: row.8,
-    };
-    let words = words_of(alloc, row.0)?;
-    let mut files = files_of(alloc, row)?;
-    let mut out = sink_of(alloc, row.4.0, row.4.1)?;
-    let mut err = sink_of(alloc, row.5.0, row.5.1)?;
-    Ok(is_answered(rt, alloc, &words, &mut files, &mut out, &mut err, &wanted))
-}
-
-fn all_agree<R: Threads + Sync>(rt: &R, alloc: Global, rows: &[Failing]) -> bool {
-    for row in rows {
-        if row_agrees(rt, alloc, row).ok() != Some(true) {
-            return false;
+impl Row for Failing {
+    fn call(&self) -> Call<'static> {
+        Call {
+            words: self.0,
+            head: self.1.as_bytes(),
+            piece: b"",
+            times: 0,
+            tail: b"",
+            beside: Beside::Letters(self.2),
+            failing_reads: self.3,
+            out: self.4,
+            err: self.5,
+            wanted: Wanted {
+                out: self.6.as_bytes(),
+                letters: 0,
+                err: [self.7, "", ""],
+                status: self.8,
+            },
         }
     }
-    true
 }
 
-/// Whether that much of a long output is written.
-fn piece_agrees<R: Threads + Sync>(rt: &R, alloc: Global, row: &Piece) -> Result<bool, AllocError> {
-    let printed: Vec<u8> = vec![in alloc; b'A'; row.1]?;
-    let wanted = Wanted {
-        out: &printed,
-        err: row.2,
-        status: row.3,
-    };
-    let words = words_of(alloc, "run f")?;
-    let mut files = MemFiles::new(held_of(alloc, PRINTS, 0)?, Vec::new(alloc));
-    let mut out = sink_of(alloc, row.0, 140000)?;
-    let mut err = sink_of(alloc, &[], 1000)?;
-    Ok(is_answered(rt, alloc, &words, &mut files, &mut out, &mut err, &wanted))
-}
-
-fn all_pieces_agree<R: Threads + Sync>(rt: &R, alloc: Global, rows: &[Piece]) -> bool {
-    for row in rows {
-        if piece_agrees(rt, alloc, row).ok() != Some(true) {
-            return false;
+impl Row for Piece {
+    fn call(&self) -> Call<'static> {
+        Call {
+            words: "run f",
+            head: PRINTS.as_bytes(),
+            piece: b"",
+            times: 0,
+            tail: b"",
+            beside: Beside::Letters(0),
+            failing_reads: &[],
+            out: Taking(self.0, 140000),
+            err: ALL,
+            wanted: Wanted {
+                out: b"",
+                letters: self.1,
+                err: [self.2, "", ""],
+                status: self.3,
+            },
         }
     }
-    true
 }
 
 #[test]
-fn reads_that_fail_are_said(rt: HostRuntime) -> Result<(), Fail> {
-    assert!(rt; all_agree(&rt, rt.alloc(), &READS));
-    Ok(())
-}
-
-#[test]
-fn the_first_file_at_fault_is_said(rt: HostRuntime) -> Result<(), Fail> {
-    assert!(rt; all_agree(&rt, rt.alloc(), &LONG_AND_UNHELD));
-    Ok(())
-}
-
-#[test]
-fn behind_a_failed_put_nothing_is_put(rt: HostRuntime) -> Result<(), Fail> {
-    assert!(rt; all_agree(&rt, rt.alloc(), &SINKS));
-    Ok(())
-}
-
-#[test]
-fn long_texts_are_put_in_pieces(rt: HostRuntime) -> Result<(), Fail> {
-    assert!(rt; all_pieces_agree(&rt, rt.alloc(), &PIECES));
+fn faults_are_said(rt: HostRuntime) -> Result<(), Fail> {
+    assert!(rt;
+        all_agree(&rt, rt.alloc(), &[&READS, &LONG_AND_UNHELD, &SINKS])
+            && all_agree(&rt, rt.alloc(), &[&PIECES])
+    );
     Ok(())
 }

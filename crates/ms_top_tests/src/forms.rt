@@ -1,10 +1,11 @@
 //! Modules in other spellings, and such as have little to check.
 
-use crate::calls::{Case, Wanted, all_agree, case_agrees, said_of, says};
-use std::alloc::{AllocError, Global};
+use crate::calls::{Call, Case, Wanted, agrees, all_agree, on_text};
+use std::alloc::Global;
 use std::test::Fail;
 use std::thread::Threads;
 
+/// Other spellings run.
 static SPELLINGS: [Case; 12] = [
     Case(
         "run f",
@@ -165,29 +166,21 @@ static BEYOND: [Beyond; 13] = [
 #[derive(Clone, Copy)]
 struct Beyond(&'static str, &'static str, u8);
 
-fn is_checked_clean<R: Threads + Sync>(
-    rt: &R,
-    alloc: Global,
-    row: &Beyond,
-) -> Result<bool, AllocError> {
-    let lines = format!(in alloc; "{}verdict: clean\n", row.1)?;
+fn of_row(words: &'static str, row: &Beyond, verdict: &'static str) -> Call<'static> {
     let wanted = Wanted {
         out: b"",
-        err: lines.as_str(),
+        letters: 0,
+        err: [row.1, verdict, ""],
         status: row.2,
     };
-    let said = said_of(rt, alloc, "check f", row.0.as_bytes())?;
-    Ok(says(&said, &wanted))
-}
-
-fn is_alike<R: Threads + Sync>(rt: &R, alloc: Global, row: &Beyond) -> bool {
-    case_agrees(rt, alloc, &Case("run f", row.0, "", row.1, row.2))
-        && is_checked_clean(rt, alloc, row).ok() == Some(true)
+    on_text(words, row.0.as_bytes(), wanted)
 }
 
 fn all_are_alike<R: Threads + Sync>(rt: &R, alloc: Global, rows: &[Beyond]) -> bool {
     for row in rows {
-        if !is_alike(rt, alloc, row) {
+        if !agrees(rt, alloc, &of_row("run f", row, ""))
+            || !agrees(rt, alloc, &of_row("check f", row, "verdict: clean\n"))
+        {
             return false;
         }
     }
@@ -195,13 +188,9 @@ fn all_are_alike<R: Threads + Sync>(rt: &R, alloc: Global, rows: &[Beyond]) -> b
 }
 
 #[test]
-fn other_spellings_run(rt: HostRuntime) -> Result<(), Fail> {
-    assert!(rt; all_agree(&rt, rt.alloc(), &SPELLINGS));
-    Ok(())
-}
-
-#[test]
-fn other_modules_run_and_are_checked(rt: HostRuntime) -> Result<(), Fail> {
-    assert!(rt; all_are_alike(&rt, rt.alloc(), &BEYOND));
+fn other_forms_run(rt: HostRuntime) -> Result<(), Fail> {
+    assert!(rt;
+        all_agree(&rt, rt.alloc(), &[&SPELLINGS]) && all_are_alike(&rt, rt.alloc(), &BEYOND)
+    );
     Ok(())
 }

@@ -1,14 +1,16 @@
 //! What `check` says with an input, a fill, a bound of steps and a limit of reports of its own.
 
-use crate::modules::{Checked, Terms, all_checked};
+use crate::calls::{Terms, all_agree};
+use crate::modules::Checked;
 use std::test::Fail;
 
+/// Bytes that are read are clean.
 static INPUTS: [Checked; 4] = [
     // The bytes that are read are no longer poisoned, and the others are.
     Checked(
         Terms {
             input: b"abc",
-            fill: b"\xa5",
+            fill: "a5",
             steps: 10000000,
             reports: 1,
         },
@@ -20,7 +22,7 @@ static INPUTS: [Checked; 4] = [
     Checked(
         Terms {
             input: b"abc",
-            fill: b"\xa5",
+            fill: "a5",
             steps: 10000000,
             reports: 1,
         },
@@ -32,7 +34,7 @@ static INPUTS: [Checked; 4] = [
     Checked(
         Terms {
             input: b"A",
-            fill: b"\xa5",
+            fill: "a5",
             steps: 10000000,
             reports: 1,
         },
@@ -44,7 +46,7 @@ static INPUTS: [Checked; 4] = [
     Checked(
         Terms {
             input: b"B",
-            fill: b"\xa5",
+            fill: "a5",
             steps: 10000000,
             reports: 1,
         },
@@ -55,12 +57,13 @@ static INPUTS: [Checked; 4] = [
     ),
 ];
 
+/// Fills change values and no masks.
 static FILLS: [Checked; 6] = [
     // The check comes before the trap.
     Checked(
         Terms {
             input: b"",
-            fill: b"\x00",
+            fill: "00",
             steps: 10000000,
             reports: 1,
         },
@@ -72,7 +75,7 @@ static FILLS: [Checked; 6] = [
     Checked(
         Terms {
             input: b"",
-            fill: b"\x00",
+            fill: "00",
             steps: 10000000,
             reports: 1,
         },
@@ -84,7 +87,7 @@ static FILLS: [Checked; 6] = [
     Checked(
         Terms {
             input: b"",
-            fill: b"\xff\xff\xff\x7f",
+            fill: "ffffff7f",
             steps: 10000000,
             reports: 1,
         },
@@ -96,7 +99,7 @@ static FILLS: [Checked; 6] = [
     Checked(
         Terms {
             input: b"",
-            fill: b"\x00",
+            fill: "00",
             steps: 10000000,
             reports: 1,
         },
@@ -108,7 +111,7 @@ static FILLS: [Checked; 6] = [
     Checked(
         Terms {
             input: b"",
-            fill: b"\x00",
+            fill: "00",
             steps: 10000000,
             reports: 1,
         },
@@ -120,7 +123,7 @@ static FILLS: [Checked; 6] = [
     Checked(
         Terms {
             input: b"",
-            fill: b"\x01",
+            fill: "01",
             steps: 10000000,
             reports: 1,
         },
@@ -131,12 +134,13 @@ static FILLS: [Checked; 6] = [
     ),
 ];
 
+/// Inserted code is no step.
 static STEPS: [Checked; 4] = [
     // What is inserted is no step.
     Checked(
         Terms {
             input: b"",
-            fill: b"\xa5",
+            fill: "a5",
             steps: 0,
             reports: 1,
         },
@@ -148,7 +152,7 @@ static STEPS: [Checked; 4] = [
     Checked(
         Terms {
             input: b"",
-            fill: b"\xa5",
+            fill: "a5",
             steps: 1,
             reports: 1,
         },
@@ -160,7 +164,7 @@ static STEPS: [Checked; 4] = [
     Checked(
         Terms {
             input: b"",
-            fill: b"\xa5",
+            fill: "a5",
             steps: 3,
             reports: 1,
         },
@@ -172,7 +176,7 @@ static STEPS: [Checked; 4] = [
     Checked(
         Terms {
             input: b"",
-            fill: b"\xa5",
+            fill: "a5",
             steps: 4,
             reports: 1,
         },
@@ -183,11 +187,12 @@ static STEPS: [Checked; 4] = [
     ),
 ];
 
+/// A run ends with its last report.
 static REPORTS: [Checked; 3] = [
     Checked(
         Terms {
             input: b"",
-            fill: b"\xa5",
+            fill: "a5",
             steps: 10000000,
             reports: 2,
         },
@@ -199,7 +204,7 @@ static REPORTS: [Checked; 3] = [
     Checked(
         Terms {
             input: b"",
-            fill: b"\xa5",
+            fill: "a5",
             steps: 10000000,
             reports: 2,
         },
@@ -212,7 +217,7 @@ static REPORTS: [Checked; 3] = [
     Checked(
         Terms {
             input: b"",
-            fill: b"\xa5",
+            fill: "a5",
             steps: 10000000,
             reports: 3,
         },
@@ -224,25 +229,7 @@ static REPORTS: [Checked; 3] = [
 ];
 
 #[test]
-fn bytes_that_are_read_are_clean(rt: HostRuntime) -> Result<(), Fail> {
-    assert!(rt; all_checked(&rt, rt.alloc(), &INPUTS));
-    Ok(())
-}
-
-#[test]
-fn fills_change_values_and_no_masks(rt: HostRuntime) -> Result<(), Fail> {
-    assert!(rt; all_checked(&rt, rt.alloc(), &FILLS));
-    Ok(())
-}
-
-#[test]
-fn inserted_code_is_no_step(rt: HostRuntime) -> Result<(), Fail> {
-    assert!(rt; all_checked(&rt, rt.alloc(), &STEPS));
-    Ok(())
-}
-
-#[test]
-fn a_run_ends_with_its_last_report(rt: HostRuntime) -> Result<(), Fail> {
-    assert!(rt; all_checked(&rt, rt.alloc(), &REPORTS));
+fn terms_are_kept(rt: HostRuntime) -> Result<(), Fail> {
+    assert!(rt; all_agree(&rt, rt.alloc(), &[&INPUTS, &FILLS, &STEPS, &REPORTS]));
     Ok(())
 }

@@ -1,10 +1,11 @@
 //! Runs that take, change and give back blocks of the heap.
 
-use crate::alike::all_alike;
-use crate::modules::{Run, all_run};
+use crate::alike::all_run_and_checked;
+use crate::modules::Run;
 use std::test::Fail;
 
-// The heap begins at 124244813938688 and has 67108864 bytes; each block takes a multiple of 16, at least 16.
+/// Malloc makes blocks.
+/// The heap begins at 124244813938688 and has 67108864 bytes; each block takes a multiple of 16, at least 16.
 static MALLOC: [Run; 9] = [
     Run(
         "define i32 @main() { %p = call ptr @malloc(i64 5) %a = ptrtoint ptr %p to i64 %b = sub i64 %a, 124244813938688 %c = trunc i64 %b to i32 ret i32 %c }",
@@ -65,6 +66,7 @@ static MALLOC: [Run; 9] = [
     ),
 ];
 
+/// Calloc makes zero bytes.
 static CALLOC: [Run; 7] = [
     Run(
         "define i32 @main() { %p = call ptr @calloc(i64 3, i64 2) %v = load i48, ptr %p %a = icmp eq i48 %v, 0 %b = zext i1 %a to i32 ret i32 %b }",
@@ -112,6 +114,7 @@ static CALLOC: [Run; 7] = [
     ),
 ];
 
+/// Realloc moves blocks.
 static REALLOC: [Run; 16] = [
     // Of null it is `malloc`.
     Run(
@@ -218,6 +221,7 @@ static REALLOC: [Run; 16] = [
     ),
 ];
 
+/// Free ends blocks.
 static FREE: [Run; 10] = [
     Run(
         "define i32 @main() { call void @free(ptr null) call void @free(ptr null) ret i32 0 }",
@@ -284,34 +288,7 @@ static FREE: [Run; 10] = [
 ];
 
 #[test]
-fn malloc_makes_blocks(rt: HostRuntime) -> Result<(), Fail> {
-    assert!(rt; all_run(&rt, rt.alloc(), &MALLOC));
-    Ok(())
-}
-
-#[test]
-fn calloc_makes_zero_bytes(rt: HostRuntime) -> Result<(), Fail> {
-    assert!(rt; all_run(&rt, rt.alloc(), &CALLOC));
-    Ok(())
-}
-
-#[test]
-fn realloc_moves_blocks(rt: HostRuntime) -> Result<(), Fail> {
-    assert!(rt; all_run(&rt, rt.alloc(), &REALLOC));
-    Ok(())
-}
-
-#[test]
-fn free_ends_blocks(rt: HostRuntime) -> Result<(), Fail> {
-    assert!(rt; all_run(&rt, rt.alloc(), &FREE));
-    Ok(())
-}
-
-#[test]
-fn the_heap_is_checked_as_it_is_run(rt: HostRuntime) -> Result<(), Fail> {
-    assert!(rt; all_alike(&rt, rt.alloc(), &MALLOC));
-    assert!(rt; all_alike(&rt, rt.alloc(), &CALLOC));
-    assert!(rt; all_alike(&rt, rt.alloc(), &REALLOC));
-    assert!(rt; all_alike(&rt, rt.alloc(), &FREE));
+fn blocks_are_made_and_ended(rt: HostRuntime) -> Result<(), Fail> {
+    assert!(rt; all_run_and_checked(&rt, rt.alloc(), &[&MALLOC, &CALLOC, &REALLOC, &FREE]));
     Ok(())
 }

@@ -1,8 +1,10 @@
 //! Texts that end anywhere, code that reaches for what isn't its own, and output without end.
 
-use crate::calls::{Call, Case, Said, Wanted, agrees, all_agree, said_within, says};
+use crate::calls::{
+    Beside, Call, Case, Desk, MORE, Row, Taking, Wanted, all_agree, on_text, said, says,
+};
 use crate::checks::CLANG_UNOPTIMISED;
-use std::alloc::{AllocError, Global};
+use std::alloc::Global;
 use std::test::Fail;
 use std::thread::Threads;
 
@@ -13,10 +15,16 @@ const PRINTS_ON: &str =
 /// What is said where the text is read to its end.
 const RUN: Wanted<'static> = Wanted {
     out: b"ok\n",
-    err: "end: exit 0\nreports: 0\nblind: 0\nverdict: clean\n",
+    letters: 0,
+    err: [
+        "end: exit 0\nreports: 0\nblind: 0\nverdict: clean\n",
+        "",
+        "",
+    ],
     status: 0,
 };
 
+/// Marked code reaches no more than its own.
 static MARKED: [Case; 2] = [
     // A marked load reaches no byte of the module's.
     Case(
@@ -36,64 +44,107 @@ static MARKED: [Case; 2] = [
     ),
 ];
 
-/// Whether a text is a line that names one of the refusals from 1 to 17.
-fn is_refusal_line(alloc: Global, text: &[u8]) -> Result<bool, AllocError> {
-    for number in 1..18 {
-        let begin = format!(in alloc; "refused {number}: ")?;
+/// How a line begins that names a refusal.
+static REFUSALS: [&str; 17] = [
+    "refused 1: ",
+    "refused 2: ",
+    "refused 3: ",
+    "refused 4: ",
+    "refused 5: ",
+    "refused 6: ",
+    "refused 7: ",
+    "refused 8: ",
+    "refused 9: ",
+    "refused 10: ",
+    "refused 11: ",
+    "refused 12: ",
+    "refused 13: ",
+    "refused 14: ",
+    "refused 15: ",
+    "refused 16: ",
+    "refused 17: ",
+];
+
+/// A sink for a few lines.
+const FEW: Taking<'static> = Taking(&[], 1000);
+
+/// The words, and the verdict behind the closing lines.
+struct Printed(&'static str, &'static str);
+
+/// Output has an end: what a run may print at most is printed, and then it traps.
+static PRINTED: [Printed; 2] = [
+    Printed("run --steps 10000000 f", ""),
+    Printed("check --steps 10000000 f", "verdict: clean\n"),
+];
+
+/// Whether a text is a line that names one of these refusals.
+fn is_refusal_line(text: &[u8], refusals: &[&str]) -> bool {
+    for begin in refusals {
         if text.starts_with(begin.as_bytes()) {
-            return Ok(text.ends_with(b"\n"));
+            return text.ends_with(b"\n");
         }
     }
-    Ok(false)
+    false
 }
 
 /// Whether a text is refused by a number or runs as it does where nothing is cut off.
-fn is_refused_or_runs(alloc: Global, said: &Said) -> Result<bool, AllocError> {
-    if said.status == 5 {
-        return Ok(said.out.is_empty() && is_refusal_line(alloc, &said.err)?);
+fn is_refused_or_runs(desk: &Desk) -> bool {
+    if desk.status == 5 {
+        return desk.out.as_slice().is_empty() && is_refusal_line(desk.err.as_slice(), &REFUSALS);
     }
-    Ok(says(said, &RUN))
+    says(desk, &RUN)
 }
 
-fn cut_agrees<R: Threads + Sync>(rt: &R, alloc: Global, text: &[u8]) -> Result<bool, AllocError> {
-    let said = said_within(rt, alloc, "check f", text, 1000)?;
-    is_refused_or_runs(alloc, &said)
+/// A check of a text, whose lines are few.
+fn check_of(text: &[u8]) -> Call<'_> {
+    Call {
+        words: "check f",
+        head: text,
+        piece: b"",
+        times: 0,
+        tail: b"",
+        beside: Beside::Nothing,
+        failing_reads: &[],
+        out: FEW,
+        err: FEW,
+        wanted: RUN,
+    }
+}
+
+fn cut_agrees<R: Threads + Sync>(rt: &R, alloc: Global, text: &[u8]) -> bool {
+    match said(rt, alloc, &check_of(text)) {
+        Ok(desk) => is_refused_or_runs(&desk),
+        Err(_) => false,
+    }
 }
 
 /// Whether that holds of a text that is cut off after each of its bytes.
 fn all_cuts_agree<R: Threads + Sync>(rt: &R, alloc: Global, text: &[u8]) -> bool {
     for count in 0..text.len() {
-        if cut_agrees(rt, alloc, &text[..count]).ok() != Some(true) {
+        if !cut_agrees(rt, alloc, &text[..count]) {
             return false;
         }
     }
     true
 }
 
-/// Whether these words print what a run may print at most, and then trap.
-fn prints_all<R: Threads + Sync>(
-    rt: &R,
-    alloc: Global,
-    words: &'static str,
-    err: &str,
-) -> Result<bool, AllocError> {
-    let out: Vec<u8> = vec![in alloc; b'A'; 1048576]?;
-    let call = Call {
-        words,
-        head: PRINTS_ON,
-        piece: "",
-        times: 0,
-        tail: "",
-        failing_reads: &[],
-        failing_puts: &[],
-        room: 1000,
-    };
-    let wanted = Wanted {
-        out: &out,
-        err,
-        status: 3,
-    };
-    Ok(agrees(rt, alloc, &call, &wanted))
+impl Row for Printed {
+    fn call(&self) -> Call<'static> {
+        let wanted = Wanted {
+            out: b"",
+            letters: 1048576,
+            err: [
+                "end: trap output at site 3 in @main\nreports: 0\nblind: 0\n",
+                self.1,
+                "",
+            ],
+            status: 3,
+        };
+        Call {
+            out: MORE,
+            ..on_text(self.0, PRINTS_ON.as_bytes(), wanted)
+        }
+    }
 }
 
 #[test]
@@ -103,25 +154,7 @@ fn a_text_may_end_anywhere(rt: HostRuntime) -> Result<(), Fail> {
 }
 
 #[test]
-fn marked_code_reaches_no_more_than_its_own(rt: HostRuntime) -> Result<(), Fail> {
-    assert!(rt; all_agree(&rt, rt.alloc(), &MARKED));
-    Ok(())
-}
-
-#[test]
-fn output_has_an_end(rt: HostRuntime) -> Result<(), Fail> {
-    let run = prints_all(
-        &rt,
-        rt.alloc(),
-        "run --steps 10000000 f",
-        "end: trap output at site 3 in @main\nreports: 0\nblind: 0\n",
-    );
-    let check = prints_all(
-        &rt,
-        rt.alloc(),
-        "check --steps 10000000 f",
-        "end: trap output at site 3 in @main\nreports: 0\nblind: 0\nverdict: clean\n",
-    );
-    assert!(rt; run.ok() == Some(true) && check.ok() == Some(true));
+fn marked_code_and_output_stay_within(rt: HostRuntime) -> Result<(), Fail> {
+    assert!(rt; all_agree(&rt, rt.alloc(), &[&MARKED]) && all_agree(&rt, rt.alloc(), &[&PRINTED]));
     Ok(())
 }

@@ -1,9 +1,7 @@
 //! Limits on what a text may have, which its first token behind them passes. Tokens and bytes were counted by hand.
 
-use crate::calls::{Call, Wanted, agrees};
-use std::alloc::Global;
+use crate::calls::{ALL, Beside, Call, Row, Wanted, all_agree};
 use std::test::Fail;
-use std::thread::Threads;
 
 /// The words, the pieces of the file, of which the second stands so many times, what is written to the standard error, and
 /// the status.
@@ -17,6 +15,7 @@ struct Long(
     u8,
 );
 
+/// Names each limit.
 static LIMITS: [Long; 8] = [
     Long(
         "check f",
@@ -92,7 +91,8 @@ static LIMITS: [Long; 8] = [
     ),
 ];
 
-// The plain form is short, and the instrumented one is long.
+/// The forms have their own limits.
+/// The plain form is short, and the instrumented one is long.
 static FORMS: [Long; 9] = [
     Long(
         "check f",
@@ -138,7 +138,8 @@ static FORMS: [Long; 9] = [
     Long("run f", "", " ", 134217729, "", "file too long: f\n", 9),
 ];
 
-// 65536 words of 16 bytes fill the stack.
+/// The stack ends.
+/// 65536 words of 16 bytes fill the stack.
 static STACKS: [Long; 2] = [
     Long(
         "run f",
@@ -160,48 +161,30 @@ static STACKS: [Long; 2] = [
     ),
 ];
 
-fn long_agrees<R: Threads + Sync>(rt: &R, alloc: Global, case: &Long) -> bool {
-    let call = Call {
-        words: case.0,
-        head: case.1,
-        piece: case.2,
-        times: case.3,
-        tail: case.4,
-        failing_reads: &[],
-        failing_puts: &[],
-        room: 1000,
-    };
-    let wanted = Wanted {
-        out: b"",
-        err: case.5,
-        status: case.6,
-    };
-    agrees(rt, alloc, &call, &wanted)
-}
-
-fn all_agree<R: Threads + Sync>(rt: &R, alloc: Global, cases: &[Long]) -> bool {
-    for case in cases {
-        if !long_agrees(rt, alloc, case) {
-            return false;
+impl Row for Long {
+    fn call(&self) -> Call<'static> {
+        Call {
+            words: self.0,
+            head: self.1.as_bytes(),
+            piece: self.2.as_bytes(),
+            times: self.3,
+            tail: self.4.as_bytes(),
+            beside: Beside::Nothing,
+            failing_reads: &[],
+            out: ALL,
+            err: ALL,
+            wanted: Wanted {
+                out: b"",
+                letters: 0,
+                err: [self.5, "", ""],
+                status: self.6,
+            },
         }
     }
-    true
 }
 
 #[test]
-fn names_each_limit(rt: HostRuntime) -> Result<(), Fail> {
-    assert!(rt; all_agree(&rt, rt.alloc(), &LIMITS));
-    Ok(())
-}
-
-#[test]
-fn the_forms_have_their_own_limits(rt: HostRuntime) -> Result<(), Fail> {
-    assert!(rt; all_agree(&rt, rt.alloc(), &FORMS));
-    Ok(())
-}
-
-#[test]
-fn the_stack_ends(rt: HostRuntime) -> Result<(), Fail> {
-    assert!(rt; all_agree(&rt, rt.alloc(), &STACKS));
+fn limits_are_named(rt: HostRuntime) -> Result<(), Fail> {
+    assert!(rt; all_agree(&rt, rt.alloc(), &[&LIMITS, &FORMS, &STACKS]));
     Ok(())
 }

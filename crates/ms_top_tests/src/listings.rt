@@ -1,8 +1,7 @@
 //! What `instrument` writes, byte for byte. What is inserted was worked out by hand.
 
-use crate::alike::written_of;
-use crate::calls::{Case, all_agree};
-use std::alloc::{AllocError, Global};
+use crate::calls::{ALL, Beside, Call, Case, NOTHING, all_agree, is_joined, said};
+use std::alloc::Global;
 use std::test::Fail;
 use std::thread::Threads;
 
@@ -17,6 +16,7 @@ const SLOTS: &str =
 const RUNTIME: &str =
     "declare void @__msan_check(i64, i32, i32, i32, i32, i32)\ndeclare void @__msan_check_memory(ptr, i64, i32, i32)\ndeclare void @__msan_check_string(ptr, i32)\ndeclare void @__msan_blind(i64)\ndeclare void @__msan_poison(ptr, i64, i64, i32)\ndeclare void @__msan_unpoison(ptr, i64)\ndeclare void @__msan_copy(ptr, ptr, i64)\ndeclare void @__msan_fill(ptr, i64, i64, i32, i32)\ndeclare void @__msan_store_origin(ptr, i64, i32, i32)\ndeclare i32 @__msan_load_origin(ptr, i64)\ndeclare i64 @__msan_size(ptr)\n";
 
+/// Modules are written with inserted code.
 static LISTINGS: [Listing; 8] = [
     // Nothing that is known to be defined is checked, and without a mark the last line is missing.
     Listing(
@@ -228,26 +228,34 @@ static REFUSALS: [Case; 8] = [
     ),
 ];
 
-fn text_of(alloc: Global, parts: &[&str]) -> Result<Vec<u8>, AllocError> {
-    let mut text = Vec::new(alloc);
-    for part in parts {
-        text.extend_from_slice(part.as_bytes())?;
+/// A call that writes a row's module.
+fn call_of(row: &Listing) -> Call<'static> {
+    Call {
+        words: "instrument f",
+        head: row.0.as_bytes(),
+        piece: row.1.as_bytes(),
+        times: 1,
+        tail: row.2.as_bytes(),
+        beside: Beside::Nothing,
+        failing_reads: &[],
+        out: ALL,
+        err: ALL,
+        wanted: NOTHING,
     }
-    Ok(text)
 }
 
-fn is_listed<R: Threads + Sync>(rt: &R, alloc: Global, row: &Listing) -> Result<bool, AllocError> {
-    let text = text_of(alloc, &[row.0, row.1, row.2])?;
-    let wanted = text_of(alloc, &[row.0, SLOTS, row.1, RUNTIME, row.3])?;
-    match written_of(rt, alloc, &text)? {
-        Some(written) => Ok(written.as_slice() == wanted.as_slice()),
-        None => Ok(false),
+fn is_listed<R: Threads + Sync>(rt: &R, alloc: Global, row: &Listing) -> bool {
+    match said(rt, alloc, &call_of(row)) {
+        Ok(desk) => desk.status == 0
+            && desk.err.as_slice().is_empty()
+            && is_joined(desk.out.as_slice(), &[row.0, SLOTS, row.1, RUNTIME, row.3]),
+        Err(_) => false,
     }
 }
 
 fn all_are_listed<R: Threads + Sync>(rt: &R, alloc: Global, rows: &[Listing]) -> bool {
     for row in rows {
-        if is_listed(rt, alloc, row).ok() != Some(true) {
+        if !is_listed(rt, alloc, row) {
             return false;
         }
     }
@@ -256,12 +264,8 @@ fn all_are_listed<R: Threads + Sync>(rt: &R, alloc: Global, rows: &[Listing]) ->
 
 #[test]
 fn modules_are_written_with_inserted_code(rt: HostRuntime) -> Result<(), Fail> {
-    assert!(rt; all_are_listed(&rt, rt.alloc(), &LISTINGS));
-    Ok(())
-}
-
-#[test]
-fn says_why_a_module_is_not_instrumented(rt: HostRuntime) -> Result<(), Fail> {
-    assert!(rt; all_agree(&rt, rt.alloc(), &REFUSALS));
+    assert!(rt;
+        all_are_listed(&rt, rt.alloc(), &LISTINGS) && all_agree(&rt, rt.alloc(), &[&REFUSALS])
+    );
     Ok(())
 }

@@ -1,9 +1,11 @@
 //! Runs of modules with marked instructions, which reach shadow and slots. What a check is handed shows in its report.
 
-use crate::modules::{Marked, all_marked};
+use crate::calls::all_agree;
+use crate::modules::Marked;
 use std::test::Fail;
 
-// A check of a mask that is 0 says nothing. With the last report the run ends, before the instruction.
+/// Checks report.
+/// A check of a mask that is 0 says nothing. With the last report the run ends, before the instruction.
 static CHECKS: [Marked; 12] = [
     Marked(
         "define i32 @main() { call void @__msan_check(i64 0, i32 64, i32 0, i32 7, i32 0, i32 1), !nosanitize !0 ret i32 3 }",
@@ -105,7 +107,8 @@ static CHECKS: [Marked; 12] = [
     ),
 ];
 
-// The shadow of an allocation is clean until it is poisoned, also that of an alloca.
+/// Marked accesses reach shadow.
+/// The shadow of an allocation is clean until it is poisoned, also that of an alloca.
 static SHADOW: [Marked; 15] = [
     Marked(
         "define i32 @main() { %p = alloca [8 x i8] %__msan.1 = ptrtoint ptr %p to i64, !nosanitize !0 %__msan.2 = xor i64 %__msan.1, 87960930222080, !nosanitize !0 %__msan.3 = inttoptr i64 %__msan.2 to ptr, !nosanitize !0 %__msan.8 = load i64, ptr %__msan.3, !nosanitize !0 call void @__msan_check(i64 %__msan.8, i32 64, i32 0, i32 7, i32 0, i32 1), !nosanitize !0 ret i32 0 }",
@@ -232,7 +235,8 @@ static SHADOW: [Marked; 15] = [
     ),
 ];
 
-// The slots begin as zero, keep what is stored, and end where they end.
+/// Marked accesses reach slots.
+/// The slots begin as zero, keep what is stored, and end where they end.
 static SLOTS: [Marked; 18] = [
     Marked(
         "define i32 @main() { %__msan.8 = load i64, ptr @__msan_param_tls, !nosanitize !0 call void @__msan_check(i64 %__msan.8, i32 64, i32 0, i32 7, i32 0, i32 1), !nosanitize !0 %__msan.18 = load i64, ptr @__msan_retval_tls, !nosanitize !0 call void @__msan_check(i64 %__msan.18, i32 64, i32 0, i32 7, i32 0, i32 1), !nosanitize !0 ret i32 0 }",
@@ -382,7 +386,8 @@ static SLOTS: [Marked; 18] = [
     ),
 ];
 
-// Marked instructions are no steps, and none runs where no step is left.
+/// Marked instructions are no steps.
+/// Marked instructions are no steps, and none runs where no step is left.
 static MARKS: [Marked; 12] = [
     Marked(
         "define i32 @main() { call void @__msan_check(i64 1, i32 64, i32 0, i32 7, i32 0, i32 1), !nosanitize !0 ret i32 0 }",
@@ -487,25 +492,7 @@ static MARKS: [Marked; 12] = [
 ];
 
 #[test]
-fn checks_report(rt: HostRuntime) -> Result<(), Fail> {
-    assert!(rt; all_marked(&rt, rt.alloc(), &CHECKS));
-    Ok(())
-}
-
-#[test]
-fn marked_accesses_reach_shadow(rt: HostRuntime) -> Result<(), Fail> {
-    assert!(rt; all_marked(&rt, rt.alloc(), &SHADOW));
-    Ok(())
-}
-
-#[test]
-fn marked_accesses_reach_slots(rt: HostRuntime) -> Result<(), Fail> {
-    assert!(rt; all_marked(&rt, rt.alloc(), &SLOTS));
-    Ok(())
-}
-
-#[test]
-fn marked_instructions_are_no_steps(rt: HostRuntime) -> Result<(), Fail> {
-    assert!(rt; all_marked(&rt, rt.alloc(), &MARKS));
+fn inserted_code_runs(rt: HostRuntime) -> Result<(), Fail> {
+    assert!(rt; all_agree(&rt, rt.alloc(), &[&CHECKS, &SHADOW, &SLOTS, &MARKS]));
     Ok(())
 }

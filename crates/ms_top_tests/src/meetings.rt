@@ -1,17 +1,14 @@
 //! Work in several threads: that two pieces of a list, of a module or of a corpus run at once, and short lists.
-ghost use Rattle.std.specs.Prelude.{◌≡◌, ℕ, ◌*◌, ◌%◌, ◌^◌, IfOk};
-ghost use Rattle.ms_words.specs.Limits.{IsWithinLimits};
+ghost use Rattle.std.specs.Prelude.{◌≡◌, ℕ, ◌*◌, ◌%◌, ◌^◌};
 
-use crate::calls::sink_of;
-use ms_bits::{Bytes, List, NoMemory, Text};
+use crate::calls::{ALL, Beside, Call, NOTHING, said_by};
+use ms_bits::NoMemory;
 use ms_check::CheckedModule;
 use ms_fork::{Cuts, Gate, OpenGate, Work, by_halves};
 use ms_gen::generate;
-use ms_io::MemFiles;
 use ms_pass::instrument;
-use ms_top::{Command, Options, RealPass, job};
-use std::alloc::{AllocError, Global};
-use std::collections::BTreeMap;
+use ms_top::RealPass;
+use std::alloc::Global;
 use std::hint::spin_loop;
 use std::sync::atomic::{AtomicBool, Ordering};
 use std::test::Fail;
@@ -140,60 +137,36 @@ fn two_pieces_of_a_module_meet(rt: HostRuntime) -> Result<(), Fail> {
     Ok(())
 }
 
-fn text_of(alloc: Global, text: &str) -> Result<Text, AllocError> {
-    Ok(Text::from_string(String::from_str(alloc, text)?))
-}
+static TWO_INPUTS: [(&str, &str); 2] = [("a", ""), ("b", "")];
 
 /// The module of two inputs, which two workers run.
-fn two_inputs(alloc: Global) -> Result<Command, AllocError>
-    ensures { IfOk result IsWithinLimits }
-{
-    let mut inputs = Vec::new(alloc);
-    inputs.push(text_of(alloc, "a")?)?;
-    inputs.push(text_of(alloc, "b")?)?;
-    let fill = vec![in alloc; 0xa5]?;
-    Ok(Command::Corpus {
-        file: text_of(alloc, "f")?,
-        inputs: List::from_vec(inputs),
-        options: Options {
-            input: None,
-            fill: Bytes::from_vec(fill),
-            steps: 100,
-            reports: 1,
-        },
-        workers: 2,
-    })
-}
-
-/// Files that hold a module and two inputs.
-fn three_files(alloc: Global) -> Result<MemFiles, AllocError> {
-    let mut held = BTreeMap::new(alloc);
-    held.insert(
-        String::from_str(alloc, "f")?,
-        Vec::from_slice(alloc, b"define i32 @main() {\n  ret i32 0\n}\n")?,
-    )?;
-    held.insert(String::from_str(alloc, "a")?, Vec::new(alloc))?;
-    held.insert(String::from_str(alloc, "b")?, Vec::new(alloc))?;
-    Ok(MemFiles::new(held, Vec::new(alloc)))
+fn two_inputs() -> Call<'static> {
+    Call {
+        words: "corpus --steps 100 --workers 2 f a b",
+        head: b"define i32 @main() {\n  ret i32 0\n}\n",
+        piece: b"",
+        times: 0,
+        tail: b"",
+        beside: Beside::These(&TWO_INPUTS),
+        failing_reads: &[],
+        out: ALL,
+        err: ALL,
+        wanted: NOTHING,
+    }
 }
 
 /// Whether the runs of two inputs by two workers meet.
-fn workers_meet<R: Threads + Sync>(rt: &R, alloc: Global) -> Result<bool, AllocError> {
-    let command = two_inputs(alloc)?;
-    let mut files = three_files(alloc)?;
-    let mut out = sink_of(alloc, &[], 1000)?;
-    let mut err = sink_of(alloc, &[], 1000)?;
-    let pass = RealPass::new(OpenGate);
+fn workers_meet<R: Threads + Sync>(rt: &R, alloc: Global) -> bool {
     let gate = Meeting::new(1);
-    let status = job(
-        rt, alloc, &command, &mut files, &mut out, &mut err, &pass, &gate,
-    );
-    Ok(status == 0 && gate.is_met())
+    match said_by(rt, alloc, &two_inputs(), &RealPass::new(OpenGate), &gate) {
+        Ok(desk) => desk.status == 0 && gate.is_met(),
+        Err(_) => false,
+    }
 }
 
 #[test]
 fn two_workers_of_a_corpus_meet(rt: HostRuntime) -> Result<(), Fail> {
-    assert!(rt; workers_meet(&rt, rt.alloc()).ok() == Some(true));
+    assert!(rt; workers_meet(&rt, rt.alloc()));
     Ok(())
 }
 

@@ -1,10 +1,11 @@
 //! Runs that load, store, compute addresses and begin with globals.
 
-use crate::alike::all_alike;
-use crate::modules::{Run, all_run};
+use crate::alike::all_run_and_checked;
+use crate::modules::Run;
 use std::test::Fail;
 
-// Eight bytes ff, then a store over the first of them. Bits past the width are zero, and no byte more is touched.
+/// Stores write their bytes.
+/// Eight bytes ff, then a store over the first of them. Bits past the width are zero, and no byte more is touched.
 static BYTES: [Run; 17] = [
     Run(
         "define i32 @main() { %p = alloca i64 store i64 -1, ptr %p store i1 true, ptr %p %q = getelementptr i8, ptr %p, i64 0 %v = load i8, ptr %q %w = zext i8 %v to i32 ret i32 %w }",
@@ -112,7 +113,8 @@ static BYTES: [Run; 17] = [
     ),
 ];
 
-// Bits past the width are left out when they are read.
+/// Loads read their bytes.
+/// Bits past the width are left out when they are read.
 static LOADS: [Run; 18] = [
     Run(
         "define i32 @main() { %p = alloca i64 store i64 -1, ptr %p %r = load i1, ptr %p %v = zext i1 %r to i32 ret i32 %v }",
@@ -226,7 +228,8 @@ static LOADS: [Run; 18] = [
     ),
 ];
 
-// The distance from a global.
+/// Addresses are computed.
+/// The distance from a global.
 static ADDRESSES: [Run; 35] = [
     Run(
         "@g = global i64 0 define i32 @main() { %q = getelementptr i32, ptr @g, i64 3 %a = ptrtoint ptr %q to i64 %b = ptrtoint ptr @g to i64 %c = sub i64 %a, %b %d = trunc i64 %c to i32 ret i32 %d }",
@@ -444,7 +447,8 @@ static ADDRESSES: [Run; 35] = [
     ),
 ];
 
-// A word that the global holds at a distance from its beginning.
+/// Globals begin as they say.
+/// A word that the global holds at a distance from its beginning.
 static GLOBALS: [Run; 32] = [
     Run(
         "@g = global i32 -2 define i32 @main() { %v = load i32, ptr getelementptr (i8, ptr @g, i64 0) ret i32 %v }",
@@ -645,34 +649,7 @@ static GLOBALS: [Run; 32] = [
 ];
 
 #[test]
-fn stores_write_their_bytes(rt: HostRuntime) -> Result<(), Fail> {
-    assert!(rt; all_run(&rt, rt.alloc(), &BYTES));
-    Ok(())
-}
-
-#[test]
-fn loads_read_their_bytes(rt: HostRuntime) -> Result<(), Fail> {
-    assert!(rt; all_run(&rt, rt.alloc(), &LOADS));
-    Ok(())
-}
-
-#[test]
-fn addresses_are_computed(rt: HostRuntime) -> Result<(), Fail> {
-    assert!(rt; all_run(&rt, rt.alloc(), &ADDRESSES));
-    Ok(())
-}
-
-#[test]
-fn globals_begin_as_they_say(rt: HostRuntime) -> Result<(), Fail> {
-    assert!(rt; all_run(&rt, rt.alloc(), &GLOBALS));
-    Ok(())
-}
-
-#[test]
-fn memory_is_checked_as_it_is_run(rt: HostRuntime) -> Result<(), Fail> {
-    assert!(rt; all_alike(&rt, rt.alloc(), &BYTES));
-    assert!(rt; all_alike(&rt, rt.alloc(), &LOADS));
-    assert!(rt; all_alike(&rt, rt.alloc(), &ADDRESSES));
-    assert!(rt; all_alike(&rt, rt.alloc(), &GLOBALS));
+fn memory_is_read_and_written(rt: HostRuntime) -> Result<(), Fail> {
+    assert!(rt; all_run_and_checked(&rt, rt.alloc(), &[&BYTES, &LOADS, &ADDRESSES, &GLOBALS]));
     Ok(())
 }

@@ -1,7 +1,7 @@
 //! Words that are no command, options that are read, and modules that are generated.
 
-use crate::calls::{Case, all_agree};
-use crate::modules::{Checked, Terms, all_checked};
+use crate::calls::{Case, DEFAULTS, all_agree};
+use crate::modules::Checked;
 use std::test::Fail;
 
 /// Its word is made of the bytes of the fill.
@@ -28,14 +28,7 @@ const FROM_ZERO: &str =
 const FROM_SEVEN: &str =
     "declare i32 @putchar(i32)\ndefine i32 @f0(i32 %0) {\n  %2 = alloca i32\n  store i32 %0, ptr %2\n  %3 = load i32, ptr %2\n  %4 = xor i32 %3, 3391\n  %5 = or i32 %4, 23441\n  %6 = or i32 %5, 51459\n  %7 = and i32 %6, 14356\n  %8 = add i32 %7, 42614\n  %9 = add i32 %8, 2483\n  %10 = and i32 %9, 21616\n  %11 = or i32 %10, 63906\n  ret i32 %11\n}\ndefine i32 @f1(i32 %0) {\n  %2 = alloca i32\n  store i32 %0, ptr %2\n  %3 = load i32, ptr %2\n  %4 = or i32 %3, 36467\n  %5 = and i32 %4, 39071\n  %6 = and i32 %5, 31649\n  %7 = xor i32 %6, 18226\n  %8 = or i32 %7, 49264\n  %9 = and i32 %8, 7641\n  %10 = or i32 %9, 52080\n  %11 = and i32 %10, 61853\n  %12 = call i32 @f0(i32 %11)\n  ret i32 %12\n}\ndefine i32 @main() {\n  %1 = call i32 @f1(i32 1)\n  %2 = call i32 @putchar(i32 %1)\n  ret i32 0\n}\n";
 
-/// What a run is given where no option is.
-const DEFAULTS: Terms = Terms {
-    input: b"",
-    fill: b"\xa5",
-    steps: 10000000,
-    reports: 1,
-};
-
+/// The first fault is said.
 static FAULTS: [Case; 41] = [
     Case("", "", "", "words: UnknownCommand at 0\n", 2),
     Case("corpora f a", "", "", "words: UnknownCommand at 0\n", 2),
@@ -140,6 +133,7 @@ static FAULTS: [Case; 41] = [
     Case("run --seed 5 f", "", "", "words: UnknownOption at 1\n", 2),
 ];
 
+/// Options are read.
 static OPTIONS: [Case; 16] = [
     Case(
         "run --fill=A5 -- f",
@@ -243,6 +237,7 @@ static OPTIONS: [Case; 16] = [
     Case("run - f", RETURNS, "", "words: Extra at 2\n", 2),
 ];
 
+/// Modules are generated.
 static GENERATED: [Case; 4] = [
     Case("gen --seed 0 --functions 1", "", FROM_ZERO, "", 0),
     Case("gen --functions=2 --seed=7", "", FROM_SEVEN, "", 0),
@@ -262,6 +257,7 @@ static GENERATED: [Case; 4] = [
     ),
 ];
 
+/// Generated modules are checked.
 /// The bytes that these functions put out were computed from the generator's numbers by hand.
 static GENERATED_RUNS: [Checked; 2] = [
     Checked(
@@ -281,25 +277,10 @@ static GENERATED_RUNS: [Checked; 2] = [
 ];
 
 #[test]
-fn the_first_fault_is_said(rt: HostRuntime) -> Result<(), Fail> {
-    assert!(rt; all_agree(&rt, rt.alloc(), &FAULTS));
-    Ok(())
-}
-
-#[test]
-fn options_are_read(rt: HostRuntime) -> Result<(), Fail> {
-    assert!(rt; all_agree(&rt, rt.alloc(), &OPTIONS));
-    Ok(())
-}
-
-#[test]
-fn modules_are_generated(rt: HostRuntime) -> Result<(), Fail> {
-    assert!(rt; all_agree(&rt, rt.alloc(), &GENERATED));
-    Ok(())
-}
-
-#[test]
-fn generated_modules_are_checked(rt: HostRuntime) -> Result<(), Fail> {
-    assert!(rt; all_checked(&rt, rt.alloc(), &GENERATED_RUNS));
+fn words_are_read(rt: HostRuntime) -> Result<(), Fail> {
+    assert!(rt;
+        all_agree(&rt, rt.alloc(), &[&FAULTS, &OPTIONS, &GENERATED])
+            && all_agree(&rt, rt.alloc(), &[&GENERATED_RUNS])
+    );
     Ok(())
 }

@@ -1,9 +1,11 @@
 //! Runs that print, take input and end by a call.
 
-use crate::alike::all_alike;
-use crate::modules::{Given, Run, all_given, all_run};
+use crate::alike::all_run_and_checked;
+use crate::calls::all_agree;
+use crate::modules::{Given, Run};
 use std::test::Fail;
 
+/// Bytes are printed.
 static PRINTS: [Run; 8] = [
     Run(
         "define i32 @main() { %r = call i32 @putchar(i32 65) ret i32 %r }",
@@ -56,7 +58,8 @@ static PRINTS: [Run; 8] = [
     ),
 ];
 
-// Descriptor 1 is the output, and no other is one.
+/// Ranges are written.
+/// Descriptor 1 is the output, and no other is one.
 static WRITES: [Run; 7] = [
     Run(
         "@s = global [3 x i8] c\"a\\00b\" define i32 @main() { %n = call i64 @write(i32 1, ptr @s, i64 3) %r = trunc i64 %n to i32 ret i32 %r }",
@@ -103,7 +106,8 @@ static WRITES: [Run; 7] = [
     ),
 ];
 
-// A run without an input file has an empty input.
+/// No input is empty.
+/// A run without an input file has an empty input.
 static EMPTY_INPUT: [Run; 2] = [
     Run(
         "define i32 @main() { %r = call i32 @getchar() %s = call i32 @getchar() %t = and i32 %r, %s ret i32 %t }",
@@ -119,10 +123,11 @@ static EMPTY_INPUT: [Run; 2] = [
     ),
 ];
 
+/// Input is taken once.
 static INPUTS: [Given; 9] = [
     Given(
         b"AB",
-        b"\xa5",
+        "a5",
         10000000,
         Run(
             "define i32 @main() { %a = call i32 @getchar() %b = call i32 @putchar(i32 %a) %c = call i32 @getchar() %d = call i32 @putchar(i32 %c) %e = call i32 @getchar() ret i32 %e }",
@@ -134,7 +139,7 @@ static INPUTS: [Given; 9] = [
     // A byte ff isn't the end, and neither is a zero byte.
     Given(
         b"\xff\x00",
-        b"\xa5",
+        "a5",
         10000000,
         Run(
             "define i32 @main() { %a = call i32 @getchar() %b = call i32 @getchar() %c = mul i32 %b, 1000 %d = add i32 %a, %c ret i32 %d }",
@@ -146,7 +151,7 @@ static INPUTS: [Given; 9] = [
     // Two bytes, then the one that is left, then none.
     Given(
         b"abc",
-        b"\xa5",
+        "a5",
         10000000,
         Run(
             "define i32 @main() { %p = alloca i32 %a = call i64 @read(i32 0, ptr %p, i64 2) %b = call i64 @read(i32 0, ptr %p, i64 4) %c = call i64 @read(i32 0, ptr %p, i64 4) %d = mul i64 %a, 100 %e = mul i64 %b, 10 %f = add i64 %d, %e %g = add i64 %f, %c %h = trunc i64 %g to i32 ret i32 %h }",
@@ -158,7 +163,7 @@ static INPUTS: [Given; 9] = [
     // The bytes are then c, the old b, and what was unset: a5 a5 62 63.
     Given(
         b"abc",
-        b"\xa5",
+        "a5",
         10000000,
         Run(
             "define i32 @main() { %p = alloca i32 %a = call i64 @read(i32 0, ptr %p, i64 2) %b = call i64 @read(i32 0, ptr %p, i64 4) %v = load i32, ptr %p ret i32 %v }",
@@ -169,7 +174,7 @@ static INPUTS: [Given; 9] = [
     ),
     Given(
         b"abc",
-        b"\xa5",
+        "a5",
         10000000,
         Run(
             "define i32 @main() { %p = alloca i32 %a = call i32 @getchar() %b = call i64 @read(i32 0, ptr %p, i64 1) %c = call i32 @getchar() %v = load i8, ptr %p %w = zext i8 %v to i32 %x = call i32 @putchar(i32 %a) %y = call i32 @putchar(i32 %w) %z = call i32 @putchar(i32 %c) ret i32 0 }",
@@ -180,7 +185,7 @@ static INPUTS: [Given; 9] = [
     ),
     Given(
         b"abc",
-        b"\xa5",
+        "a5",
         10000000,
         Run(
             "define i32 @main() { %a = call i64 @read(i32 0, ptr null, i64 0) %b = trunc i64 %a to i32 %c = call i32 @getchar() %d = add i32 %b, %c ret i32 %d }",
@@ -192,7 +197,7 @@ static INPUTS: [Given; 9] = [
     // Another descriptor gives -1 and takes nothing.
     Given(
         b"abc",
-        b"\xa5",
+        "a5",
         10000000,
         Run(
             "define i32 @main() { %p = alloca i32 store i32 0, ptr %p %a = call i64 @read(i32 1, ptr %p, i64 3) %b = call i64 @read(i32 -1, ptr %p, i64 3) %c = and i64 %a, %b %d = icmp eq i64 %c, -1 %e = zext i1 %d to i32 %v = load i32, ptr %p %f = call i32 @getchar() %g = add i32 %e, %v %h = add i32 %g, %f ret i32 %h }",
@@ -204,7 +209,7 @@ static INPUTS: [Given; 9] = [
     // All the bytes asked for must be good, also where fewer are there, and for every descriptor.
     Given(
         b"a",
-        b"\xa5",
+        "a5",
         10000000,
         Run(
             "define i32 @main() { %p = alloca i32 %a = call i64 @read(i32 0, ptr %p, i64 5) ret i32 0 }",
@@ -215,7 +220,7 @@ static INPUTS: [Given; 9] = [
     ),
     Given(
         b"a",
-        b"\xa5",
+        "a5",
         10000000,
         Run(
             "define i32 @main() { %p = alloca i32 %a = call i64 @read(i32 2, ptr %p, i64 5) ret i32 0 }",
@@ -226,6 +231,7 @@ static INPUTS: [Given; 9] = [
     ),
 ];
 
+/// Calls end the run.
 static ENDINGS: [Run; 6] = [
     Run(
         "define i32 @main() { %a = call i32 @putchar(i32 65) call void @exit(i32 7) %b = call i32 @putchar(i32 66) ret i32 0 }",
@@ -266,40 +272,10 @@ static ENDINGS: [Run; 6] = [
 ];
 
 #[test]
-fn bytes_are_printed(rt: HostRuntime) -> Result<(), Fail> {
-    assert!(rt; all_run(&rt, rt.alloc(), &PRINTS));
-    Ok(())
-}
-
-#[test]
-fn ranges_are_written(rt: HostRuntime) -> Result<(), Fail> {
-    assert!(rt; all_run(&rt, rt.alloc(), &WRITES));
-    Ok(())
-}
-
-#[test]
-fn no_input_is_empty(rt: HostRuntime) -> Result<(), Fail> {
-    assert!(rt; all_run(&rt, rt.alloc(), &EMPTY_INPUT));
-    Ok(())
-}
-
-#[test]
-fn input_is_taken_once(rt: HostRuntime) -> Result<(), Fail> {
-    assert!(rt; all_given(&rt, rt.alloc(), &INPUTS));
-    Ok(())
-}
-
-#[test]
-fn calls_end_the_run(rt: HostRuntime) -> Result<(), Fail> {
-    assert!(rt; all_run(&rt, rt.alloc(), &ENDINGS));
-    Ok(())
-}
-
-#[test]
-fn externals_are_checked_as_they_are_run(rt: HostRuntime) -> Result<(), Fail> {
-    assert!(rt; all_alike(&rt, rt.alloc(), &PRINTS));
-    assert!(rt; all_alike(&rt, rt.alloc(), &WRITES));
-    assert!(rt; all_alike(&rt, rt.alloc(), &EMPTY_INPUT));
-    assert!(rt; all_alike(&rt, rt.alloc(), &ENDINGS));
+fn streams_are_used(rt: HostRuntime) -> Result<(), Fail> {
+    assert!(rt;
+        all_run_and_checked(&rt, rt.alloc(), &[&PRINTS, &WRITES, &EMPTY_INPUT, &ENDINGS])
+            && all_agree(&rt, rt.alloc(), &[&INPUTS])
+    );
     Ok(())
 }

@@ -3,6 +3,7 @@
 use crate::calls::{Case, all_agree};
 use std::test::Fail;
 
+/// Says why a text is refused.
 static TEXTS: [Case; 9] = [
     Case("check f", "?", "", "refused 1: bad byte at 0\n", 5),
     Case("check f", "\"abc", "", "refused 2: open string at 0\n", 5),
@@ -58,6 +59,7 @@ static TEXTS: [Case; 9] = [
     ),
 ];
 
+/// Run reads inserted code.
 static INSERTED: [Case; 7] = [
     Case(
         "run f",
@@ -111,6 +113,7 @@ static INSERTED: [Case; 7] = [
     ),
 ];
 
+/// Names each construct of entities.
 static ENTITIES: [Case; 12] = [
     Case(
         "check f",
@@ -198,6 +201,7 @@ static ENTITIES: [Case; 12] = [
     ),
 ];
 
+/// Names each construct of instructions.
 static INSTRUCTIONS: [Case; 14] = [
     Case(
         "check f",
@@ -300,25 +304,13 @@ static INSTRUCTIONS: [Case; 14] = [
 ];
 
 #[test]
-fn says_why_a_text_is_refused(rt: HostRuntime) -> Result<(), Fail> {
-    assert!(rt; all_agree(&rt, rt.alloc(), &TEXTS));
-    Ok(())
-}
-
-#[test]
-fn run_reads_inserted_code(rt: HostRuntime) -> Result<(), Fail> {
-    assert!(rt; all_agree(&rt, rt.alloc(), &INSERTED));
-    Ok(())
-}
-
-#[test]
-fn names_each_construct_of_entities(rt: HostRuntime) -> Result<(), Fail> {
-    assert!(rt; all_agree(&rt, rt.alloc(), &ENTITIES));
-    Ok(())
-}
-
-#[test]
-fn names_each_construct_of_instructions(rt: HostRuntime) -> Result<(), Fail> {
-    assert!(rt; all_agree(&rt, rt.alloc(), &INSTRUCTIONS));
+fn texts_are_refused(rt: HostRuntime) -> Result<(), Fail> {
+    assert!(rt;
+        all_agree(
+            &rt,
+            rt.alloc(),
+            &[&TEXTS, &INSERTED, &ENTITIES, &INSTRUCTIONS]
+        )
+    );
     Ok(())
 }

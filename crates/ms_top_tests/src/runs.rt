@@ -1,7 +1,6 @@
 //! Words, and modules that are run as they stand or with a check of each use.
 
-use crate::calls::{Case, all_agree};
-use ms_bits::Text;
+use crate::calls::{Case, all_agree, words_of};
 use ms_io::{SureFiles, SureSink};
 use ms_top::msan;
 use std::alloc::{AllocError, Global};
@@ -39,6 +38,7 @@ const NEIGHBOURS: &str =
 const BEFORE_DEFINITION: &str =
     "define i32 @main() {\n  %a = or i32 %b, 1\n  %b = or i32 1, 2\n  ret i32 %a\n}\n";
 
+/// Words are commands.
 static WORDS: [Case; 6] = [
     Case("run g", STORED, "", "file fault: g\n", 6),
     Case("run -- --", STORED, "", "file fault: --\n", 6),
@@ -48,6 +48,7 @@ static WORDS: [Case; 6] = [
     Case("check f", "", "", "refused 13: no main\n", 5),
 ];
 
+/// Modules run.
 static RUNS: [Case; 9] = [
     Case(
         "run f",
@@ -116,6 +117,7 @@ static RUNS: [Case; 9] = [
     ),
 ];
 
+/// Each use is checked.
 static CHECKS: [Case; 10] = [
     Case(
         "check f",
@@ -197,16 +199,9 @@ fn sure_files(alloc: Global) -> Result<SureFiles, AllocError> {
     Ok(SureFiles::new(held))
 }
 
-fn run_words(alloc: Global) -> Result<Vec<Text>, AllocError> {
-    let mut words = Vec::new(alloc);
-    words.push(Text::from_string(String::from_str(alloc, "run")?))?;
-    words.push(Text::from_string(String::from_str(alloc, "f")?))?;
-    Ok(words)
-}
-
 /// The status over files and sinks that never fail.
 fn sure_status<R: Threads + Sync>(rt: &R, alloc: Global) -> Result<u8, AllocError> {
-    let words = run_words(alloc)?;
+    let words = words_of(alloc, "run f")?;
     let mut files = sure_files(alloc)?;
     let mut out = SureSink::new();
     let mut err = SureSink::new();
@@ -214,20 +209,8 @@ fn sure_status<R: Threads + Sync>(rt: &R, alloc: Global) -> Result<u8, AllocErro
 }
 
 #[test]
-fn words_are_commands(rt: HostRuntime) -> Result<(), Fail> {
-    assert!(rt; all_agree(&rt, rt.alloc(), &WORDS));
-    Ok(())
-}
-
-#[test]
-fn modules_run(rt: HostRuntime) -> Result<(), Fail> {
-    assert!(rt; all_agree(&rt, rt.alloc(), &RUNS));
-    Ok(())
-}
-
-#[test]
-fn each_use_is_checked(rt: HostRuntime) -> Result<(), Fail> {
-    assert!(rt; all_agree(&rt, rt.alloc(), &CHECKS));
+fn words_run_and_check_modules(rt: HostRuntime) -> Result<(), Fail> {
+    assert!(rt; all_agree(&rt, rt.alloc(), &[&WORDS, &RUNS, &CHECKS]));
     Ok(())
 }
 

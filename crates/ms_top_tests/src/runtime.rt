@@ -1,9 +1,11 @@
 //! Runs of modules whose marked calls go to each runtime function.
 
-use crate::modules::{Marked, all_marked};
+use crate::calls::all_agree;
+use crate::modules::Marked;
 use std::test::Fail;
 
-// Checks of bytes report the first poisoned one; the origins here are no roots, so each is kept as it is.
+/// Bytes are checked.
+/// Checks of bytes report the first poisoned one; the origins here are no roots, so each is kept as it is.
 static MEMORY: [Marked; 24] = [
     Marked(
         "define i32 @main() { %p = alloca [8 x i8] call void @__msan_poison(ptr %p, i64 3, i64 8, i32 9), !nosanitize !0 call void @__msan_check_memory(ptr %p, i64 8, i32 9, i32 1), !nosanitize !0 ret i32 0 }",
@@ -202,7 +204,8 @@ static MEMORY: [Marked; 24] = [
     ),
 ];
 
-// Four bytes: a, b, 0, x. A check of a string ends at a clean zero byte, or with the allocation.
+/// Strings are checked.
+/// Four bytes: a, b, 0, x. A check of a string ends at a clean zero byte, or with the allocation.
 static STRINGS: [Marked; 9] = [
     Marked(
         "define i32 @main() { %p = alloca i32 store i32 2013291105, ptr %p call void @__msan_check_string(ptr %p, i32 1), !nosanitize !0 ret i32 0 }",
@@ -278,7 +281,8 @@ static STRINGS: [Marked; 9] = [
     ),
 ];
 
-// Four bytes share a cell. The origin 9 is no root, so that it is kept.
+/// Origins stand in cells.
+/// Four bytes share a cell. The origin 9 is no root, so that it is kept.
 static ORIGINS: [Marked; 16] = [
     Marked(
         "define i32 @main() { %p = alloca [8 x i8] call void @__msan_store_origin(ptr %p, i64 255, i32 9, i32 1), !nosanitize !0 %__msan.8 = call i32 @__msan_load_origin(ptr %p, i64 255), !nosanitize !0 call void @__msan_check(i64 1, i32 64, i32 %__msan.8, i32 7, i32 0, i32 1), !nosanitize !0 ret i32 0 }",
@@ -412,7 +416,8 @@ static ORIGINS: [Marked; 16] = [
     ),
 ];
 
-// The size of a live block of the heap by its base, else 0; and the count of blind uses.
+/// Sizes and blind uses are told.
+/// The size of a live block of the heap by its base, else 0; and the count of blind uses.
 static OTHERS: [Marked; 11] = [
     Marked(
         "define i32 @main() { %p = call ptr @malloc(i64 19) %__msan.8 = call i64 @__msan_size(ptr %p), !nosanitize !0 call void @__msan_check(i64 %__msan.8, i32 64, i32 0, i32 7, i32 0, i32 1), !nosanitize !0 ret i32 0 }",
@@ -505,25 +510,7 @@ static OTHERS: [Marked; 11] = [
 ];
 
 #[test]
-fn bytes_are_checked(rt: HostRuntime) -> Result<(), Fail> {
-    assert!(rt; all_marked(&rt, rt.alloc(), &MEMORY));
-    Ok(())
-}
-
-#[test]
-fn strings_are_checked(rt: HostRuntime) -> Result<(), Fail> {
-    assert!(rt; all_marked(&rt, rt.alloc(), &STRINGS));
-    Ok(())
-}
-
-#[test]
-fn origins_stand_in_cells(rt: HostRuntime) -> Result<(), Fail> {
-    assert!(rt; all_marked(&rt, rt.alloc(), &ORIGINS));
-    Ok(())
-}
-
-#[test]
-fn sizes_and_blind_uses_are_told(rt: HostRuntime) -> Result<(), Fail> {
-    assert!(rt; all_marked(&rt, rt.alloc(), &OTHERS));
+fn runtime_functions_serve(rt: HostRuntime) -> Result<(), Fail> {
+    assert!(rt; all_agree(&rt, rt.alloc(), &[&MEMORY, &STRINGS, &ORIGINS, &OTHERS]));
     Ok(())
 }

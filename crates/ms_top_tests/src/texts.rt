@@ -2,6 +2,7 @@
 
 ghost use Rattle.ms_valid.specs.Formed.{Formed};
 
+use crate::calls::is_joined;
 use ms_bits::{Bytes, Duplicate, List, Trap};
 use ms_ir::{Form, Module};
 use ms_read_top::read;
@@ -15,6 +16,7 @@ const TWO_UNSET: &str =
     "define i32 @main() {\n  %1 = alloca i32\n  %2 = alloca i32\n  %3 = load i32, ptr %1\n  %4 = load i32, ptr %2\n  %5 = xor i32 %3, %4\n  ret i32 %5\n}\n";
 
 /// A report's site, kind, part, width, mask and origin.
+#[derive(Clone, Copy)]
 struct Found {
     site: u32,
     kind: u32,
@@ -24,7 +26,8 @@ struct Found {
     origin: u32,
 }
 
-/// A report with the origins from its own to a root, and its lines behind their number.
+/// A report with the origins from its own to a root, and its lines.
+#[derive(Clone, Copy)]
 struct Reported(Found, &'static [Origin], &'static str);
 
 static REPORTS: [Reported; 3] = [
@@ -41,7 +44,7 @@ static REPORTS: [Reported; 3] = [
             Origin::Chain { old: 2, site: 4 },
             Origin::Root { number: 2 },
         ],
-        "exit at site 6 in @main, part 0, bits 0xff of i32\n  origin 3: stored at site 4 in @main\n  origin 2: alloca at site 2 in @main\n",
+        "report 1: exit at site 6 in @main, part 0, bits 0xff of i32\n  origin 3: stored at site 4 in @main\n  origin 2: alloca at site 2 in @main\n",
     ),
     // No kind, no site, and no origin of the module.
     Reported(
@@ -54,7 +57,7 @@ static REPORTS: [Reported; 3] = [
             origin: 9,
         },
         &[],
-        "kind 13 at site 7 in ?, part 1, bits 0x10 of i64\n  origin 9: unknown\n",
+        "report 2: kind 13 at site 7 in ?, part 1, bits 0x10 of i64\n  origin 9: unknown\n",
     ),
     Reported(
         Found {
@@ -66,9 +69,12 @@ static REPORTS: [Reported; 3] = [
             origin: 1,
         },
         &[Origin::Root { number: 1 }],
-        "kind 0 at site 1 in @main, part 0, bits 0x1 of i1\n  origin 1: alloca at site 1 in @main\n",
+        "report 3: kind 0 at site 1 in @main, part 0, bits 0x1 of i1\n  origin 1: alloca at site 1 in @main\n",
     ),
 ];
+
+/// The way of an origin that is a root.
+static ROOT: [Origin; 1] = [Origin::Root { number: 1 }];
 
 /// The name of each kind of use.
 static KINDS: [(u32, &str); 12] = [
@@ -176,35 +182,34 @@ fn reports_of(alloc: Global, cases: &[Reported]) -> Result<Vec<Report>, AllocErr
     Ok(reports)
 }
 
-/// The lines of these reports, one after the other.
-fn lines_of(alloc: Global, cases: &[Reported]) -> Result<Vec<u8>, AllocError> {
-    let mut lines = Vec::new(alloc);
-    let mut number: u32 = 0;
-    for case in cases {
-        number = number.saturating_add(1);
-        let head = format!(in alloc; "report {number}: ")?;
-        lines.extend_from_slice(head.as_bytes())?;
-        lines.extend_from_slice(case.2.as_bytes())?;
+/// Whether these pieces are the lines of the reports of a run.
+fn are_lines(alloc: Global, m: &Module, r: &RunResult, pieces: &[&str]) -> bool
+    requires { Formed m.now }
+{
+    match report_text(alloc, m, r) {
+        Ok(text) => is_joined(text.as_slice(), pieces),
+        Err(_) => false,
     }
-    Ok(lines)
 }
 
-fn are_printed(alloc: Global, m: &Module, cases: &[Reported]) -> Result<bool, AllocError>
+/// Whether these pieces are the closing lines of a run.
+fn is_closing(alloc: Global, m: &Module, r: &RunResult, verdict: bool, pieces: &[&str]) -> bool
     requires { Formed m.now }
 {
-    let reports = reports_of(alloc, cases)?;
-    let r = result_of(alloc, End::Reported, reports, 0);
-    let text = report_text(alloc, m, &r)?;
-    let lines = lines_of(alloc, cases)?;
-    Ok(text.as_slice() == lines.as_slice())
+    match closing(alloc, m, r, verdict) {
+        Ok(text) => is_joined(text.as_slice(), pieces),
+        Err(_) => false,
+    }
 }
 
-fn is_closed(alloc: Global, m: &Module, case: &Ended) -> bool
+fn are_printed(alloc: Global, m: &Module, cases: &[Reported], pieces: &[&str]) -> bool
     requires { Formed m.now }
 {
-    let r = result_of(alloc, case.0, Vec::new(alloc), case.1);
-    match closing(alloc, m, &r, case.2) {
-        Ok(text) => text.as_slice() == case.3.as_bytes(),
+    match reports_of(alloc, cases) {
+        Ok(reports) => {
+            let r = result_of(alloc, End::Reported, reports, 0);
+            are_lines(alloc, m, &r, pieces)
+        }
         Err(_) => false,
     }
 }
@@ -213,7 +218,8 @@ fn all_are_closed(alloc: Global, m: &Module, cases: &[Ended]) -> bool
     requires { Formed m.now }
 {
     for case in cases {
-        if !is_closed(alloc, m, case) {
+        let r = result_of(alloc, case.0, Vec::new(alloc), case.1);
+        if !is_closing(alloc, m, &r, case.2, &[case.3]) {
             return false;
         }
     }
@@ -221,62 +227,62 @@ fn all_are_closed(alloc: Global, m: &Module, cases: &[Ended]) -> bool
 }
 
 /// Whether the closing lines of a run with one report say that it has one.
-fn is_poisoned(alloc: Global, m: &Module, case: &Reported) -> Result<bool, AllocError>
+fn is_poisoned(alloc: Global, m: &Module, case: &Reported) -> bool
     requires { Formed m.now }
 {
-    let mut reports = Vec::new(alloc);
-    reports.push(report_of(alloc, case)?)?;
-    let r = result_of(alloc, End::Reported, reports, 4);
-    let text = closing(alloc, m, &r, true)?;
-    Ok(text.as_slice() == b"end: reported\nreports: 1\nblind: 4\nverdict: poisoned\n".as_slice())
+    match reports_of(alloc, &[*case]) {
+        Ok(reports) => {
+            let r = result_of(alloc, End::Reported, reports, 4);
+            let lines = "end: reported\nreports: 1\nblind: 4\nverdict: poisoned\n";
+            is_closing(alloc, m, &r, true, &[lines])
+        }
+        Err(_) => false,
+    }
 }
 
-fn is_named(alloc: Global, m: &Module, kind: u32, name: &str) -> Result<bool, AllocError>
+fn is_named(alloc: Global, m: &Module, kind: u32, name: &str) -> bool
     requires { Formed m.now }
 {
-    let chain: Vec<Origin> = Vec::from_slice(alloc, &[Origin::Root { number: 1 }])?;
-    let report = Report {
+    let found = Found {
         site: 3,
         kind,
         part: 2,
         width: 8,
         mask: 0xa0,
         origin: 1,
-        chain: List::from_vec(chain),
     };
-    let r = result_of(alloc, End::Reported, vec![in alloc; report]?, 0);
-    let text = report_text(alloc, m, &r)?;
-    let wanted = format!(in alloc;
-        "report 1: {name} at site 3 in @main, part 2, bits 0xa0 of i8\n  origin 1: alloca at site 1 in @main\n"
-    )?;
-    Ok(text.as_slice() == wanted.as_bytes())
+    let behind =
+        " at site 3 in @main, part 2, bits 0xa0 of i8\n  origin 1: alloca at site 1 in @main\n";
+    are_printed(
+        alloc,
+        m,
+        &[Reported(found, &ROOT, "")],
+        &["report 1: ", name, behind],
+    )
 }
 
 fn all_are_named(alloc: Global, m: &Module, kinds: &[(u32, &str)]) -> bool
     requires { Formed m.now }
 {
     for (kind, name) in kinds {
-        if is_named(alloc, m, *kind, name).ok() != Some(true) {
+        if !is_named(alloc, m, *kind, name) {
             return false;
         }
     }
     true
 }
 
-fn is_trap(alloc: Global, m: &Module, kind: Trap, name: &str) -> Result<bool, AllocError>
-    requires { Formed m.now }
-{
-    let r = result_of(alloc, End::Trap { kind, site: 5 }, Vec::new(alloc), 0);
-    let text = closing(alloc, m, &r, false)?;
-    let wanted = format!(in alloc; "end: trap {name} at site 5 in @main\nreports: 0\nblind: 0\n")?;
-    Ok(text.as_slice() == wanted.as_bytes())
-}
-
 fn all_are_traps(alloc: Global, m: &Module, traps: &[(Trap, &str)]) -> bool
     requires { Formed m.now }
 {
     for (kind, name) in traps {
-        if is_trap(alloc, m, *kind, name).ok() != Some(true) {
+        let end = End::Trap {
+            kind: *kind,
+            site: 5,
+        };
+        let r = result_of(alloc, end, Vec::new(alloc), 0);
+        let behind = " at site 5 in @main\nreports: 0\nblind: 0\n";
+        if !is_closing(alloc, m, &r, false, &["end: trap ", name, behind]) {
             return false;
         }
     }
@@ -286,8 +292,12 @@ fn all_are_traps(alloc: Global, m: &Module, traps: &[(Trap, &str)]) -> bool
 fn all_are_printed(alloc: Global, m: &Module) -> bool
     requires { Formed m.now }
 {
-    are_printed(alloc, m, &REPORTS).ok() == Some(true)
-        && is_poisoned(alloc, m, &REPORTS[0]).ok() == Some(true)
+    are_printed(
+        alloc,
+        m,
+        &REPORTS,
+        &[REPORTS[0].2, REPORTS[1].2, REPORTS[2].2],
+    ) && is_poisoned(alloc, m, &REPORTS[0])
         && all_are_named(alloc, m, &KINDS)
         && all_are_closed(alloc, m, &ENDS)
         && all_are_traps(alloc, m, &TRAPS)
@@ -324,19 +334,11 @@ fn results_are_copied(alloc: Global) -> Result<bool, AllocError> {
 }
 
 #[test]
-fn reports_and_ends_are_printed(rt: HostRuntime) -> Result<(), Fail> {
-    assert!(rt; agrees(rt.alloc(), TWO_UNSET.as_bytes()));
-    Ok(())
-}
-
-#[test]
-fn setups_are_copied(rt: HostRuntime) -> Result<(), Fail> {
-    assert!(rt; are_copied(rt.alloc()).ok() == Some(true));
-    Ok(())
-}
-
-#[test]
-fn answers_of_runs_are_copied(rt: HostRuntime) -> Result<(), Fail> {
-    assert!(rt; results_are_copied(rt.alloc()).ok() == Some(true));
+fn reports_and_ends_are_printed_and_copied(rt: HostRuntime) -> Result<(), Fail> {
+    assert!(rt;
+        agrees(rt.alloc(), TWO_UNSET.as_bytes())
+            && are_copied(rt.alloc()).ok() == Some(true)
+            && results_are_copied(rt.alloc()).ok() == Some(true)
+    );
     Ok(())
 }

@@ -1,9 +1,10 @@
 //! Runs that trap, by each cause and its place, and runs in which the same instructions don't.
 
-use crate::alike::all_alike;
-use crate::modules::{Run, all_run};
+use crate::alike::all_run_and_checked;
+use crate::modules::Run;
 use std::test::Fail;
 
+/// Shifts stay below the width.
 static SHIFTS: [Run; 11] = [
     Run(
         "define i32 @main() { %r = shl i8 1, 8 ret i32 0 }",
@@ -74,6 +75,7 @@ static SHIFTS: [Run; 11] = [
     ),
 ];
 
+/// Divisors are tested.
 static DIVISIONS: [Run; 16] = [
     Run(
         "define i32 @main() { %r = udiv i8 1, 0 ret i32 0 }",
@@ -175,6 +177,7 @@ static DIVISIONS: [Run; 16] = [
     ),
 ];
 
+/// Sums and shifts keep their flags.
 static SUMS: [Run; 24] = [
     Run(
         "define i32 @main() { %r = add nuw i8 -1, 1 ret i32 0 }",
@@ -324,6 +327,7 @@ static SUMS: [Run; 24] = [
     ),
 ];
 
+/// Other flags are kept.
 static OTHER_FLAGS: [Run; 16] = [
     Run(
         "define i32 @main() { %r = udiv exact i8 7, 2 ret i32 0 }",
@@ -423,7 +427,8 @@ static OTHER_FLAGS: [Run; 16] = [
     ),
 ];
 
-// Where two causes meet in one instruction, the first in the order of tests is named.
+/// The first cause is named.
+/// Where two causes meet in one instruction, the first in the order of tests is named.
 static TWO_CAUSES: [Run; 15] = [
     Run(
         "define i32 @main() { %r = add nuw nsw i8 -1, -128 ret i32 0 }",
@@ -518,7 +523,8 @@ static TWO_CAUSES: [Run; 15] = [
     ),
 ];
 
-// Each in its own function, and by its place in the text of the whole module.
+/// Traps have a place.
+/// Each in its own function, and by its place in the text of the whole module.
 static PLACES: [Run; 9] = [
     Run(
         "define i32 @main() { %r = load i8, ptr null ret i32 0 }",
@@ -580,48 +586,20 @@ static PLACES: [Run; 9] = [
 ];
 
 #[test]
-fn shifts_stay_below_the_width(rt: HostRuntime) -> Result<(), Fail> {
-    assert!(rt; all_run(&rt, rt.alloc(), &SHIFTS));
-    Ok(())
-}
-
-#[test]
-fn divisors_are_tested(rt: HostRuntime) -> Result<(), Fail> {
-    assert!(rt; all_run(&rt, rt.alloc(), &DIVISIONS));
-    Ok(())
-}
-
-#[test]
-fn sums_and_shifts_keep_their_flags(rt: HostRuntime) -> Result<(), Fail> {
-    assert!(rt; all_run(&rt, rt.alloc(), &SUMS));
-    Ok(())
-}
-
-#[test]
-fn other_flags_are_kept(rt: HostRuntime) -> Result<(), Fail> {
-    assert!(rt; all_run(&rt, rt.alloc(), &OTHER_FLAGS));
-    Ok(())
-}
-
-#[test]
-fn the_first_cause_is_named(rt: HostRuntime) -> Result<(), Fail> {
-    assert!(rt; all_run(&rt, rt.alloc(), &TWO_CAUSES));
-    Ok(())
-}
-
-#[test]
-fn traps_have_a_place(rt: HostRuntime) -> Result<(), Fail> {
-    assert!(rt; all_run(&rt, rt.alloc(), &PLACES));
-    Ok(())
-}
-
-#[test]
-fn traps_are_checked_as_they_are_run(rt: HostRuntime) -> Result<(), Fail> {
-    assert!(rt; all_alike(&rt, rt.alloc(), &SHIFTS));
-    assert!(rt; all_alike(&rt, rt.alloc(), &DIVISIONS));
-    assert!(rt; all_alike(&rt, rt.alloc(), &SUMS));
-    assert!(rt; all_alike(&rt, rt.alloc(), &OTHER_FLAGS));
-    assert!(rt; all_alike(&rt, rt.alloc(), &TWO_CAUSES));
-    assert!(rt; all_alike(&rt, rt.alloc(), &PLACES));
+fn traps_are_named(rt: HostRuntime) -> Result<(), Fail> {
+    assert!(rt;
+        all_run_and_checked(
+            &rt,
+            rt.alloc(),
+            &[
+                &SHIFTS,
+                &DIVISIONS,
+                &SUMS,
+                &OTHER_FLAGS,
+                &TWO_CAUSES,
+                &PLACES
+            ]
+        )
+    );
     Ok(())
 }

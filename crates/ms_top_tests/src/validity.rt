@@ -3,6 +3,7 @@
 use crate::calls::{Case, all_agree};
 use std::test::Fail;
 
+/// Names are defined once.
 static DUPLICATES: [Case; 4] = [
     Case(
         "run f",
@@ -36,6 +37,7 @@ static DUPLICATES: [Case; 4] = [
     ),
 ];
 
+/// Names are known.
 static UNKNOWNS: [Case; 5] = [
     Case(
         "run f",
@@ -75,6 +77,7 @@ static UNKNOWNS: [Case; 5] = [
     ),
 ];
 
+/// Types agree.
 static TYPES: [Case; 5] = [
     Case(
         "run f",
@@ -114,6 +117,7 @@ static TYPES: [Case; 5] = [
     ),
 ];
 
+/// Phis fit.
 static PHIS: [Case; 4] = [
     Case(
         "run f",
@@ -146,6 +150,7 @@ static PHIS: [Case; 4] = [
     ),
 ];
 
+/// Main is there.
 static MAINS: [Case; 4] = [
     Case("run f", "", "", "refused 13: no main\n", 5),
     Case(
@@ -172,6 +177,7 @@ static MAINS: [Case; 4] = [
     ),
 ];
 
+/// Externals are known.
 static EXTERNALS: [Case; 4] = [
     Case(
         "run f",
@@ -204,6 +210,7 @@ static EXTERNALS: [Case; 4] = [
     ),
 ];
 
+/// Uses are defined.
 static USES: [Case; 4] = [
     Case(
         "run f",
@@ -236,6 +243,7 @@ static USES: [Case; 4] = [
     ),
 ];
 
+/// Marks fit.
 static MARKS: [Case; 4] = [
     Case(
         "run f",
@@ -268,6 +276,7 @@ static MARKS: [Case; 4] = [
     ),
 ];
 
+/// Sizes fit.
 static SIZES: [Case; 5] = [
     Case(
         "run f",
@@ -309,55 +318,23 @@ static SIZES: [Case; 5] = [
 ];
 
 #[test]
-fn names_are_defined_once(rt: HostRuntime) -> Result<(), Fail> {
-    assert!(rt; all_agree(&rt, rt.alloc(), &DUPLICATES));
-    Ok(())
-}
-
-#[test]
-fn names_are_known(rt: HostRuntime) -> Result<(), Fail> {
-    assert!(rt; all_agree(&rt, rt.alloc(), &UNKNOWNS));
-    Ok(())
-}
-
-#[test]
-fn types_agree(rt: HostRuntime) -> Result<(), Fail> {
-    assert!(rt; all_agree(&rt, rt.alloc(), &TYPES));
-    Ok(())
-}
-
-#[test]
-fn phis_fit(rt: HostRuntime) -> Result<(), Fail> {
-    assert!(rt; all_agree(&rt, rt.alloc(), &PHIS));
-    Ok(())
-}
-
-#[test]
-fn main_is_there(rt: HostRuntime) -> Result<(), Fail> {
-    assert!(rt; all_agree(&rt, rt.alloc(), &MAINS));
-    Ok(())
-}
-
-#[test]
-fn externals_are_known(rt: HostRuntime) -> Result<(), Fail> {
-    assert!(rt; all_agree(&rt, rt.alloc(), &EXTERNALS));
-    Ok(())
-}
-
-#[test]
-fn uses_are_defined(rt: HostRuntime) -> Result<(), Fail> {
-    assert!(rt; all_agree(&rt, rt.alloc(), &USES));
-    Ok(())
-}
-
-#[test]
-fn marks_fit(rt: HostRuntime) -> Result<(), Fail> {
-    assert!(rt; all_agree(&rt, rt.alloc(), &MARKS));
-    Ok(())
-}
-
-#[test]
-fn sizes_fit(rt: HostRuntime) -> Result<(), Fail> {
-    assert!(rt; all_agree(&rt, rt.alloc(), &SIZES));
+fn modules_are_refused(rt: HostRuntime) -> Result<(), Fail> {
+    assert!(rt;
+        all_agree(
+            &rt,
+            rt.alloc(),
+            &[
+                &DUPLICATES,
+                &UNKNOWNS,
+                &TYPES,
+                &PHIS,
+                &MAINS,
+                &EXTERNALS,
+                &USES,
+                &MARKS,
+                &SIZES
+            ]
+        )
+    );
     Ok(())
 }

@@ -1,9 +1,11 @@
 //! Runs that compute with words of many widths, and with undefined ones.
 
-use crate::alike::all_alike;
-use crate::modules::{Given, Run, all_given, all_run};
+use crate::alike::all_run_and_checked;
+use crate::calls::all_agree;
+use crate::modules::{Given, Run};
 use std::test::Fail;
 
+/// Words keep their width.
 static BITS: [Run; 10] = [
     Run(
         "define i32 @main() { %r = and i8 12, 10 %v = zext i8 %r to i32 ret i32 %v }",
@@ -67,7 +69,8 @@ static BITS: [Run; 10] = [
     ),
 ];
 
-// 200 is above 100 without a sign, and below it with one.
+/// Words are compared.
+/// 200 is above 100 without a sign, and below it with one.
 static COMPARISONS: [Run; 19] = [
     Run(
         "define i32 @main() { %r = icmp eq i8 -56, 200 %v = zext i1 %r to i32 ret i32 %v }",
@@ -188,6 +191,7 @@ static COMPARISONS: [Run; 19] = [
     ),
 ];
 
+/// Words are cast.
 static CASTS: [Run; 14] = [
     Run(
         "define i32 @main() { %r = trunc i64 4294967297 to i33 %v = trunc i33 %r to i32 ret i32 %v }",
@@ -276,6 +280,7 @@ static CASTS: [Run; 14] = [
     ),
 ];
 
+/// Words are chosen.
 static CHOICES: [Run; 5] = [
     Run(
         "define i32 @main() { %r = select i1 true, i32 6, i32 4 ret i32 %r }",
@@ -309,7 +314,8 @@ static CHOICES: [Run; 5] = [
     ),
 ];
 
-// Each byte of an undefined word is a5, which has the bits 10100101; `poison` is such a word too.
+/// Undefined words are the fill.
+/// Each byte of an undefined word is a5, which has the bits 10100101; `poison` is such a word too.
 static UNDEFINED: [Run; 16] = [
     Run(
         "define i32 @main() { %r = freeze i32 undef ret i32 %r }",
@@ -409,11 +415,12 @@ static UNDEFINED: [Run; 16] = [
     ),
 ];
 
-// Bit i of an undefined word is a bit of the fill; each word begins with the first byte, and does not move on the fill of memory.
+/// Fills are gone through.
+/// Bit i of an undefined word is a bit of the fill; each word begins with the first byte, and does not move on the fill of memory.
 static FILLS: [Given; 10] = [
     Given(
         b"",
-        b"\xa5\x01",
+        "a501",
         10000000,
         Run(
             "define i32 @main() { %r = freeze i12 undef %v = zext i12 %r to i32 ret i32 %v }",
@@ -424,7 +431,7 @@ static FILLS: [Given; 10] = [
     ),
     Given(
         b"",
-        b"\x01\x02\x03\x04\x05",
+        "0102030405",
         10000000,
         Run(
             "define i32 @main() { %r = freeze i32 undef ret i32 %r }",
@@ -435,7 +442,7 @@ static FILLS: [Given; 10] = [
     ),
     Given(
         b"",
-        b"\x01\x02",
+        "0102",
         10000000,
         Run(
             "define i32 @main() { %r = freeze i24 undef %v = zext i24 %r to i32 ret i32 %v }",
@@ -446,7 +453,7 @@ static FILLS: [Given; 10] = [
     ),
     Given(
         b"",
-        b"\x01\x02",
+        "0102",
         10000000,
         Run(
             "define i32 @main() { %a = freeze i8 undef %p = alloca i8 %b = freeze i8 undef %c = load i8, ptr %p %d = add i8 %a, %b %e = add i8 %d, %c %f = zext i8 %e to i32 ret i32 %f }",
@@ -458,7 +465,7 @@ static FILLS: [Given; 10] = [
     // Memory takes the fill byte by byte in the order in which it is made: four bytes for 24 bits, 01 02 03 01, and then 02 03.
     Given(
         b"",
-        b"\x01\x02\x03",
+        "010203",
         10000000,
         Run(
             "define i32 @main() { %p = alloca i24 %q = call ptr @malloc(i64 2) %a = load i8, ptr %p %b = load i16, ptr %q %c = zext i8 %a to i32 %d = zext i16 %b to i32 %e = mul i32 %c, 100000 %f = add i32 %d, %e ret i32 %f }",
@@ -470,7 +477,7 @@ static FILLS: [Given; 10] = [
     // What is refused makes no bytes, nor does what is zero.
     Given(
         b"",
-        b"\x01\x02\x03",
+        "010203",
         10000000,
         Run(
             "define i32 @main() { %p = call ptr @malloc(i64 67108865) %q = call ptr @calloc(i64 5, i64 1) %r = call ptr @malloc(i64 1) %v = load i8, ptr %r %w = zext i8 %v to i32 ret i32 %w }",
@@ -482,7 +489,7 @@ static FILLS: [Given; 10] = [
     // The second block is made whole, 03 and 01, before the old bytes are put over it; the next byte is 02.
     Given(
         b"",
-        b"\x01\x02\x03",
+        "010203",
         10000000,
         Run(
             "define i32 @main() { %p = call ptr @malloc(i64 2) %q = call ptr @realloc(ptr %p, i64 2) %a = load i16, ptr %q %r = call ptr @malloc(i64 1) %b = load i8, ptr %r %c = zext i16 %a to i32 %d = zext i8 %b to i32 %e = mul i32 %d, 1000 %f = add i32 %c, %e ret i32 %f }",
@@ -494,7 +501,7 @@ static FILLS: [Given; 10] = [
     // A lifetime that begins makes its bytes anew: after 01 02 03 the first two are 04 01.
     Given(
         b"",
-        b"\x01\x02\x03\x04",
+        "01020304",
         10000000,
         Run(
             "define i32 @main() { %p = alloca [3 x i8] call void @llvm.lifetime.start.p0(i64 2, ptr %p) %q = getelementptr i8, ptr %p, i64 1 %a = load i16, ptr %q %b = zext i16 %a to i32 ret i32 %b }",
@@ -505,7 +512,7 @@ static FILLS: [Given; 10] = [
     ),
     Given(
         b"",
-        b"\x01\x02\x03",
+        "010203",
         10000000,
         Run(
             "define i32 @main() { %p = alloca i8 call void @llvm.lifetime.end.p0(i64 1, ptr %p) %q = alloca i8 %a = load i8, ptr %q %b = zext i8 %a to i32 ret i32 %b }",
@@ -517,7 +524,7 @@ static FILLS: [Given; 10] = [
     // A frame that returns gives its bytes back, and not their numbers.
     Given(
         b"",
-        b"\x01\x02\x03",
+        "010203",
         10000000,
         Run(
             "define i32 @main() { %a = call i32 @f() %b = call i32 @f() %c = mul i32 %a, 10 %d = add i32 %c, %b ret i32 %d } define i32 @f() { %p = alloca i8 %v = load i8, ptr %p %w = zext i8 %v to i32 ret i32 %w }",
@@ -529,47 +536,13 @@ static FILLS: [Given; 10] = [
 ];
 
 #[test]
-fn words_keep_their_width(rt: HostRuntime) -> Result<(), Fail> {
-    assert!(rt; all_run(&rt, rt.alloc(), &BITS));
-    Ok(())
-}
-
-#[test]
-fn words_are_compared(rt: HostRuntime) -> Result<(), Fail> {
-    assert!(rt; all_run(&rt, rt.alloc(), &COMPARISONS));
-    Ok(())
-}
-
-#[test]
-fn words_are_cast(rt: HostRuntime) -> Result<(), Fail> {
-    assert!(rt; all_run(&rt, rt.alloc(), &CASTS));
-    Ok(())
-}
-
-#[test]
-fn words_are_chosen(rt: HostRuntime) -> Result<(), Fail> {
-    assert!(rt; all_run(&rt, rt.alloc(), &CHOICES));
-    Ok(())
-}
-
-#[test]
-fn undefined_words_are_the_fill(rt: HostRuntime) -> Result<(), Fail> {
-    assert!(rt; all_run(&rt, rt.alloc(), &UNDEFINED));
-    Ok(())
-}
-
-#[test]
-fn fills_are_gone_through(rt: HostRuntime) -> Result<(), Fail> {
-    assert!(rt; all_given(&rt, rt.alloc(), &FILLS));
-    Ok(())
-}
-
-#[test]
-fn words_are_checked_as_they_are_run(rt: HostRuntime) -> Result<(), Fail> {
-    assert!(rt; all_alike(&rt, rt.alloc(), &BITS));
-    assert!(rt; all_alike(&rt, rt.alloc(), &COMPARISONS));
-    assert!(rt; all_alike(&rt, rt.alloc(), &CASTS));
-    assert!(rt; all_alike(&rt, rt.alloc(), &CHOICES));
-    assert!(rt; all_alike(&rt, rt.alloc(), &UNDEFINED));
+fn words_are_computed(rt: HostRuntime) -> Result<(), Fail> {
+    assert!(rt;
+        all_run_and_checked(
+            &rt,
+            rt.alloc(),
+            &[&BITS, &COMPARISONS, &CASTS, &CHOICES, &UNDEFINED]
+        ) && all_agree(&rt, rt.alloc(), &[&FILLS])
+    );
     Ok(())
 }

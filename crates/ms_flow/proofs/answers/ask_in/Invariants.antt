@@ -5,9 +5,9 @@ use Rattle.ms_flow.proofs.answers.ask_in.Given as goal
 abbrev pub invariant-loop-from : goal.invariant-loop-from
 invariant-loop-from l = record {
   within : l.from ≤ length l.questions;
-  kills : length l.kills.items ≡ length l.g.next;
-  words : length l.words.items ≡ length l.g.next;
-  queued : length l.queued.items ≡ length l.g.next;
+  kills : length l.room.kills.items ≡ length l.g.next;
+  words : length l.room.words.items ≡ length l.g.next;
+  queued : length l.room.queued.items ≡ length l.g.next;
   marked : (k : ℕ) → k < l.from → IsUndefined l.g (use_at l.uses (get_or l.questions k (0, 0)).1) → get_or l.undefined (get_or l.questions k (0, 0)).1 false ≡ true;
   right : (k : ℕ) → get_or l.undefined k false ≡ true → (get_or l.initial.undefined k false ≡ true) ⊎ IsUndefined l.g (use_at l.uses k);
 }

@@ -1,31 +1,17 @@
-use Rattle.std.proofs.Common.{ℕ, ◌+◌, ◌-◌, ◌/◌, length, ap, sym, ◌∙◌, arith, List}
-use Rattle.std.proofs.lemmas.List.{length-set}
-use Rattle.ms_bits.specs.Maps.{copied_cells}
-use Rattle.ms_raw.specs.Blocks.{Lists}
+use Rattle.std.proofs.Common.{◌≡◌, ◌<◌, ◌≤◌, ◌+◌, ◌-◌, ◌/◌, ◌%◌, ◌⊎◌, inl, inr, ⊎_elim, ℕ, arith}
+use Rattle.std.proofs.lemmas.Bool.{cases_lt}
 use Rattle.ms_planes.specs.Areas.{held}
-use Rattle.ms_planes.proofs.Ranges.{range-one, copy-put, copy-skip}
+use Rattle.ms_planes.proofs.Cells.{whole-between}
 use Rattle.ms_planes.proofs.origins.copy_origins.Goals as goal
-use Rattle.ms_planes.proofs.origins.copy_origins.Goals.{then-shadow-ne0, else-shadow-ne0}
 
-pub loop-i-preserved : goal.loop-i-preserved
-loop-i-preserved c =
-    let sh : ℕ → ℕ = held c.args.source.now.shadow in
-    let old : ℕ → ℕ = held c.args.source.now.origins in
-    let i : ℕ = c.loop-i.i in
-    elim c.if-shadow-ne0.branch [
-      | then-shadow-ne0 w ↦
-          let new = w.set_origin.ensures in
-          record {
-            shown = copy-put sh old (held c.loop-i.copied.origins) (held c.if-shadow-ne0.copied.origins) c.args.at c.args.from c.args.n i w.origin-origin.result c.loop-i-test.true (λ e. w.if-shadow-ne0.true (c.shadow.ensures ∙ e)) w.origin-origin.ensures
-                (ap (λ (l : Lists). held l.origins) w.copied-is ∙ ap held new.origins ∙ range-one c.loop-i.copied.origins ((c.args.at + i) / 4) w.origin-origin.result (omega (arith, c.loop-i.invariant.len, c.requires.lists, c.requires.within, c.loop-i-test.true))) ∙ c.loop-i.invariant.shown;
-            len = ap (λ (l : Lists). length l.origins) w.copied-is ∙ ap (λ (xs : List ℕ). length xs) new.origins ∙ length-set c.loop-i.copied.origins _ _ ∙ c.loop-i.invariant.len;
-            bytes = ap (λ (l : Lists). l.bytes) w.copied-is ∙ new.bytes ∙ c.loop-i.invariant.bytes;
-            shadow = ap (λ (l : Lists). l.shadow) w.copied-is ∙ new.shadow ∙ c.loop-i.invariant.shadow;
-          }
-      | else-shadow-ne0 w ↦ record {
-        shown = ap (λ (l : Lists). copied_cells sh old (c.args.at + (i + 1)) (c.args.from + (i + 1)) (c.args.n - (i + 1)) (held l.origins)) w.copied-is ∙ copy-skip sh old (held c.loop-i.copied.origins) c.args.at c.args.from c.args.n i c.loop-i-test.true (sym c.shadow.ensures ∙ w.if-shadow-ne0.false) ∙ c.loop-i.invariant.shown;
-        len = ap (λ (l : Lists). length l.origins) w.copied-is ∙ c.loop-i.invariant.len;
-        bytes = ap (λ (l : Lists). l.bytes) w.copied-is ∙ c.loop-i.invariant.bytes;
-        shadow = ap (λ (l : Lists). l.shadow) w.copied-is ∙ c.loop-i.invariant.shadow;
-      }
-    ]
+pub returns-clause-shown : goal.returns-clause-shown
+returns-clause-shown c =
+    let at : ℕ = c.args.at in
+    let n : ℕ = c.args.n in
+    let head : ℕ = c.min-head.result in
+    let even : ((n - head) / 4 ≡ 0) ⊎ ((at + head) % 4 ≡ 0) = ⊎_elim
+    (λ (short : n < (4 - at % 4) % 4). inl (omega (arith, short, c.min-head.ensures)))
+    (λ (long : (4 - at % 4) % 4 ≤ n). inr (omega (arith, long, c.min-head.ensures)))
+    (cases_lt n ((4 - at % 4) % 4)) in
+    whole-between (held c.args.source.now.shadow) (held c.args.source.now.origins) (held c.args.block.origins) (held c.copy_by_bytes-begun.result.origins) (held c.copy_by_cells-copied.result.origins) (held c.copy_by_bytes-2.result.origins)
+    at c.args.from n head ((n - head) / 4) c.cell_of.result c.cell_of-2.result c.cell_of.ensures c.cell_of-2.ensures (omega (arith, c.min-head.ensures)) even c.if-at-from.false c.copy_by_bytes-begun.ensures.shown c.copy_by_cells-copied.ensures.shown c.copy_by_bytes-2.ensures.shown

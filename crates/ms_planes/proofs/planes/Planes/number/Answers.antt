@@ -49,8 +49,8 @@ number-requires-clause-small c =
     let s : Stands m c.args.addr c.from.result p c.in-Some-block.block.now = held-block m c.args.addr c.from.result p s1.0 s0 c.in-Some-block.block.now (sym c.in-Some-block.ensures) in
     omega (arith, s.low, s.high, s.base_is, s.size)
 
-pub returns-in-Some-block : goal.returns-in-Some-block
-returns-in-Some-block c =
+pub returns : goal.returns
+returns c =
     let m : Memory = c.args.self.now in
     let p = c.in-Some.place in
     let is : IsMemory m = subst IsMemory c.self.view_is c.self.invariant in
@@ -63,11 +63,11 @@ returns-in-Some-block c =
       c.number.ensures ∙ part-number c.args.part m c.args.addr c.from.result c.args.n p c.in-Some-block.block.now s is c.from.ensures,
     )
 
-pub returns-in-None : goal.returns-in-None
-returns-in-None c =
+pub unreachable-requires : goal.unreachable-requires
+unreachable-requires c =
     let m : Memory = c.args.self.now in
     let p = c.in-Some.place in
     let is : IsMemory m = subst IsMemory c.self.view_is c.self.invariant in
     let s1 : (was : Lists) × Stands m c.args.addr c.from.result p was = stands m c.args.addr c.from.result p is (subst (λ (q : Memory). IsPlace p.kind (of_kind p.kind q.table) c.args.addr c.from.result p) c.self.view_is c.in-Some.ensures) in
     let s0 : Stands m c.args.addr c.from.result p s1.0 = s1.1 in
-    absurd (never-none m c.args.addr c.from.result p s1.0 s0 (sym c.in-None.ensures))
+    never-none m c.args.addr c.from.result p s1.0 s0 (sym c.in-None.ensures)
