@@ -1,6 +1,7 @@
 #!/usr/bin/env bash
 # Instructions a step of `msan run`: a loop as -O0 writes it, the same in a heap block among many, one with phis as -O1 does, and recursive calls, each at two lengths,
-# so that what reading, checking and compiling take falls out; and the second again among ten thousand functions.
+# so that what reading, checking and compiling take falls out; and the second again among ten thousand functions. Then, where there is `lli` (LLVM 14),
+# the processor time of longer ones beside its interpreter, in turn.
 # Needs valgrind, and the program as `rt run` built it (crates/msan/out/msan). Outside the gate.
 source "$(dirname "$0")/frame.sh"
 
@@ -134,3 +135,20 @@ measure "the same in the last of 1000000 heap blocks" million_blocks 1000 11000 
 measure "a loop with phis" phi_loop 1000 26000 100000
 measure "recursive calls" calls 10 20 $(($(steps_of_calls 20) - $(steps_of_calls 10)))
 measure "the loop with phis among 10000 functions" many 1000 26000 100000
+
+seconds() { # command
+  local TIMEFORMAT='%U'
+  { time "$@" >/dev/null 2>&1 || true; } 2>&1
+}
+
+beside() { # name, the maker, the length
+  "$2" "$3" > "$work/beside.ll"
+  for turn in 1 2 3; do
+    echo "$1, turn $turn: msan run $(seconds "$program" run "$work/beside.ll") s, lli $(seconds lli -opaque-pointers --jit-kind=mcjit -force-interpreter "$work/beside.ll") s"
+  done
+}
+
+command -v lli >/dev/null || { echo "no lli: nothing is compared"; exit 0; }
+beside "9900000 steps of loads and stores" memory_loop 900000
+beside "9600000 steps with phis" phi_loop 2400000
+beside "the 26th Fibonacci number" calls 26
