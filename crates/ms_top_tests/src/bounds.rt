@@ -1,6 +1,6 @@
 //! Runs that reach the limits: of output, of frames and stack, of long texts and of many types.
 
-use crate::calls::{ALL, Beside, Call, MORE, Row, all_agree, on_text};
+use crate::calls::{Call, MORE, Row, all_agree, on_text};
 use crate::modules::{Run, closed};
 use std::test::Fail;
 
@@ -217,17 +217,12 @@ static TYPES: [Run; 4] = [
 
 impl Row for Long {
     fn call(&self) -> Call<'static> {
+        let wanted = closed(b"", 0, self.4, self.5);
         Call {
-            words: "run f",
-            head: self.0.as_bytes(),
             piece: self.1.as_bytes(),
             times: self.2,
             tail: self.3.as_bytes(),
-            beside: Beside::Nothing,
-            failing_reads: &[],
-            out: ALL,
-            err: ALL,
-            wanted: closed(b"", 0, self.4, self.5),
+            ..on_text("run f", self.0.as_bytes(), wanted)
         }
     }
 }

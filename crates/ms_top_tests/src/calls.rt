@@ -65,6 +65,16 @@ pub const NOTHING: Wanted<'static> = Wanted {
     status: 0,
 };
 
+/// What a call writes to its two ends, and its status.
+pub fn saying<'a>(out: &'a [u8], err: &'a str, status: u8) -> Wanted<'a> {
+    Wanted {
+        out,
+        letters: 0,
+        err: [err, "", ""],
+        status,
+    }
+}
+
 /// A call: its words, the pieces of the file `f`, of which the second stands so many times, the other files, the numbers of
 /// the reads that fail, the two sinks, and what is wanted.
 #[derive(Clone, Copy)]
@@ -98,12 +108,7 @@ pub struct Case(
 
 impl Row for Case {
     fn call(&self) -> Call<'static> {
-        let wanted = Wanted {
-            out: self.2.as_bytes(),
-            letters: 0,
-            err: [self.3, "", ""],
-            status: self.4,
-        };
+        let wanted = saying(self.2.as_bytes(), self.3, self.4);
         on_text(self.0, self.1.as_bytes(), wanted)
     }
 }

@@ -1,6 +1,6 @@
 //! Many inputs: a section for each, in their order, whatever the number of workers.
 
-use crate::calls::{ALL, Beside, Call, Row, Wanted, all_agree};
+use crate::calls::{Beside, Call, Row, all_agree, on_text, saying};
 use std::test::Fail;
 
 /// Puts out one byte, and then four of which the third is unset.
@@ -74,22 +74,10 @@ static ROWS: [Inputs; 12] = [
 
 impl Row for Inputs {
     fn call(&self) -> Call<'static> {
+        let wanted = saying(self.2.as_bytes(), self.3, self.4);
         Call {
-            words: self.0,
-            head: self.1.as_bytes(),
-            piece: b"",
-            times: 0,
-            tail: b"",
             beside: Beside::These(&INPUTS),
-            failing_reads: &[],
-            out: ALL,
-            err: ALL,
-            wanted: Wanted {
-                out: self.2.as_bytes(),
-                letters: 0,
-                err: [self.3, "", ""],
-                status: self.4,
-            },
+            ..on_text(self.0, self.1.as_bytes(), wanted)
         }
     }
 }

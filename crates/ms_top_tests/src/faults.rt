@@ -1,6 +1,6 @@
 //! Files and sinks that fail, files that are too long, and which of several faults is said.
 
-use crate::calls::{ALL, Beside, Call, Row, Taking, Wanted, all_agree};
+use crate::calls::{ALL, Beside, Call, Row, Taking, Wanted, all_agree, on_text, saying};
 use std::test::Fail;
 
 const RETURNS: &str = "define i32 @main() {\n  ret i32 0\n}\n";
@@ -512,44 +512,28 @@ static PIECES: [Piece; 4] = [
 
 impl Row for Failing {
     fn call(&self) -> Call<'static> {
+        let wanted = saying(self.6.as_bytes(), self.7, self.8);
         Call {
-            words: self.0,
-            head: self.1.as_bytes(),
-            piece: b"",
-            times: 0,
-            tail: b"",
             beside: Beside::Letters(self.2),
             failing_reads: self.3,
             out: self.4,
             err: self.5,
-            wanted: Wanted {
-                out: self.6.as_bytes(),
-                letters: 0,
-                err: [self.7, "", ""],
-                status: self.8,
-            },
+            ..on_text(self.0, self.1.as_bytes(), wanted)
         }
     }
 }
 
 impl Row for Piece {
     fn call(&self) -> Call<'static> {
+        let wanted = Wanted {
+            out: b"",
+            letters: self.1,
+            err: [self.2, "", ""],
+            status: self.3,
+        };
         Call {
-            words: "run f",
-            head: PRINTS.as_bytes(),
-            piece: b"",
-            times: 0,
-            tail: b"",
-            beside: Beside::Letters(0),
-            failing_reads: &[],
             out: Taking(self.0, 140000),
-            err: ALL,
-            wanted: Wanted {
-                out: b"",
-                letters: self.1,
-                err: [self.2, "", ""],
-                status: self.3,
-            },
+            ..on_text("run f", PRINTS.as_bytes(), wanted)
         }
     }
 }

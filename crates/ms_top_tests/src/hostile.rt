@@ -1,8 +1,6 @@
 //! Texts that end anywhere, code that reaches for what isn't its own, and output without end.
 
-use crate::calls::{
-    Beside, Call, Case, Desk, MORE, Row, Taking, Wanted, all_agree, on_text, said, says,
-};
+use crate::calls::{Call, Case, Desk, MORE, Row, Taking, Wanted, all_agree, on_text, said, says};
 use crate::checks::CLANG_UNOPTIMISED;
 use std::alloc::Global;
 use std::test::Fail;
@@ -98,16 +96,9 @@ fn is_refused_or_runs(desk: &Desk) -> bool {
 /// A check of a text, whose lines are few.
 fn check_of(text: &[u8]) -> Call<'_> {
     Call {
-        words: "check f",
-        head: text,
-        piece: b"",
-        times: 0,
-        tail: b"",
-        beside: Beside::Nothing,
-        failing_reads: &[],
         out: FEW,
         err: FEW,
-        wanted: RUN,
+        ..on_text("check f", text, RUN)
     }
 }
 

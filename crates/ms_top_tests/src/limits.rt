@@ -1,6 +1,6 @@
 //! Limits on what a text may have, which its first token behind them passes. Tokens and bytes were counted by hand.
 
-use crate::calls::{ALL, Beside, Call, Row, Wanted, all_agree};
+use crate::calls::{Call, Row, all_agree, on_text, saying};
 use std::test::Fail;
 
 /// The words, the pieces of the file, of which the second stands so many times, what is written to the standard error, and
@@ -164,21 +164,10 @@ static STACKS: [Long; 2] = [
 impl Row for Long {
     fn call(&self) -> Call<'static> {
         Call {
-            words: self.0,
-            head: self.1.as_bytes(),
             piece: self.2.as_bytes(),
             times: self.3,
             tail: self.4.as_bytes(),
-            beside: Beside::Nothing,
-            failing_reads: &[],
-            out: ALL,
-            err: ALL,
-            wanted: Wanted {
-                out: b"",
-                letters: 0,
-                err: [self.5, "", ""],
-                status: self.6,
-            },
+            ..on_text(self.0, self.1.as_bytes(), saying(b"", self.5, self.6))
         }
     }
 }

@@ -1,6 +1,6 @@
 //! What `instrument` writes, byte for byte. What is inserted was worked out by hand.
 
-use crate::calls::{ALL, Beside, Call, Case, NOTHING, all_agree, is_joined, said};
+use crate::calls::{Call, Case, NOTHING, all_agree, is_joined, on_text, said};
 use std::alloc::Global;
 use std::test::Fail;
 use std::thread::Threads;
@@ -231,16 +231,10 @@ static REFUSALS: [Case; 8] = [
 /// A call that writes a row's module.
 fn call_of(row: &Listing) -> Call<'static> {
     Call {
-        words: "instrument f",
-        head: row.0.as_bytes(),
         piece: row.1.as_bytes(),
         times: 1,
         tail: row.2.as_bytes(),
-        beside: Beside::Nothing,
-        failing_reads: &[],
-        out: ALL,
-        err: ALL,
-        wanted: NOTHING,
+        ..on_text("instrument f", row.0.as_bytes(), NOTHING)
     }
 }
 

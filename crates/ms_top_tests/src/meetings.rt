@@ -1,7 +1,7 @@
 //! Work in several threads: that two pieces of a list, of a module or of a corpus run at once, and short lists.
 ghost use Rattle.std.specs.Prelude.{◌≡◌, ℕ, ◌*◌, ◌%◌, ◌^◌};
 
-use crate::calls::{ALL, Beside, Call, NOTHING, said_by};
+use crate::calls::{Beside, Call, NOTHING, on_text, said_by};
 use ms_bits::NoMemory;
 use ms_check::CheckedModule;
 use ms_fork::{Cuts, Gate, OpenGate, Work, by_halves};
@@ -142,16 +142,12 @@ static TWO_INPUTS: [(&str, &str); 2] = [("a", ""), ("b", "")];
 /// The module of two inputs, which two workers run.
 fn two_inputs() -> Call<'static> {
     Call {
-        words: "corpus --steps 100 --workers 2 f a b",
-        head: b"define i32 @main() {\n  ret i32 0\n}\n",
-        piece: b"",
-        times: 0,
-        tail: b"",
         beside: Beside::These(&TWO_INPUTS),
-        failing_reads: &[],
-        out: ALL,
-        err: ALL,
-        wanted: NOTHING,
+        ..on_text(
+            "corpus --steps 100 --workers 2 f a b",
+            b"define i32 @main() {\n  ret i32 0\n}\n",
+            NOTHING,
+        )
     }
 }
 

@@ -1,6 +1,6 @@
 //! Rows of modules that may call every external and every runtime function: a text, what is printed, and how the run ends.
 
-use crate::calls::{ALL, Beside, Call, Row, Terms, Wanted};
+use crate::calls::{Beside, Call, Row, Terms, Wanted, on_text, saying};
 
 /// Declares every external; it stands behind the text of each row.
 const EXTERNALS: &str =
@@ -69,16 +69,11 @@ fn on_texts<'a>(
 ) -> Call<'a> {
     let [head, piece, tail] = texts;
     Call {
-        words,
-        head: head.as_bytes(),
         piece: piece.as_bytes(),
         times: 1,
         tail: tail.as_bytes(),
         beside,
-        failing_reads: &[],
-        out: ALL,
-        err: ALL,
-        wanted,
+        ..on_text(words, head.as_bytes(), wanted)
     }
 }
 
@@ -110,24 +105,14 @@ impl Row for Marked {
             steps: self.2,
             reports: self.1,
         };
-        let wanted = Wanted {
-            out: self.3,
-            letters: 0,
-            err: [self.4, "", ""],
-            status: self.5,
-        };
+        let wanted = saying(self.3, self.4, self.5);
         on_texts("run", [SLOTS, self.0, RUNTIME], Beside::On(terms), wanted)
     }
 }
 
 impl Row for Checked {
     fn call(&self) -> Call<'static> {
-        let wanted = Wanted {
-            out: self.2,
-            letters: 0,
-            err: [self.3, "", ""],
-            status: self.4,
-        };
+        let wanted = saying(self.2, self.3, self.4);
         on_texts("check", [self.1, "", ""], Beside::On(self.0), wanted)
     }
 }
