@@ -2,3 +2,6 @@ pub mod Begun
 pub mod Suffixes
 pub mod Answering
 pub mod Places
+pub mod Headed
+pub mod Words
+pub mod Closed

@@ -1,3 +1,7 @@
 pub mod Operations
 pub mod Room
 pub mod Calls
+pub mod Leaving
+pub mod Headed
+pub mod Words
+pub mod Beginnings

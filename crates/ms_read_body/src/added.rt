@@ -1,13 +1,14 @@
 //! What a line adds to a body.
 
-ghost use Rattle.std.specs.Prelude.{◌≡◌, ◌<◌, ◌+◌, ◌^◌, IfOk};
+ghost use Rattle.std.specs.Prelude.{◌≡◌, ◌<◌, ◌+◌, ◌^◌, ◌++◌, ◌∷◌, [], IfOk};
 ghost use Rattle.ms_grammar.specs.Bodies as spec;
 
+use crate::lists::push;
 use ms_bits::{Boxed, List, NoMemory};
 use ms_grammar::Body;
 use ms_ir::{Block, Inst, Name, Op};
-use ms_read_cursor::with_last;
 use std::alloc::Global;
+use std::mem;
 
 /// The name, or where there is none the number.
 fn name_or(name: Option<Name>, number: u32) -> Name
@@ -30,84 +31,77 @@ fn numbers_of(name: &Option<Name>) -> u32
     }
 }
 
-/// The body with an instruction that has a result, which is named by its name or else by the next number. `phis` says
-/// whether a phi may come behind it. The one error is want of memory.
-pub fn with_value(
-    body: Body,
+/// Adds an instruction to the open block, whose result has this name. The one error is want of memory.
+fn add(
+    alloc: Global,
+    body: &mut Body,
+    operation: (Boxed<Op>, bool),
     name: Option<Name>,
+) -> Result<(), NoMemory>
+    requires { body.old.count + 1 < 2 ^ 32 }
+    ensures { IfOk result (λ _. body.new ≡ record body.old { insts = body.old.insts ++ record { op = operation.0; result = name; marked = operation.1 } ∷ []; count = body.old.count + 1 }) }
+{
+    let (op, marked) = operation;
+    body.count += 1;
+    let inst = Inst {
+        op: op.into_inner(),
+        result: name,
+        marked,
+    };
+    push(alloc, &mut body.insts, inst)
+}
+
+/// Adds an instruction that has a result, which takes its name, or else the next number. `phis` says whether a phi may come
+/// behind it. The one error is want of memory.
+pub fn add_value(
+    alloc: Global,
+    body: &mut Body,
+    name: &mut Option<Name>,
     phis: bool,
     operation: (Boxed<Op>, bool),
-) -> Result<Body, NoMemory>
-    requires next { body.next + 1 < 2 ^ 32 }
-    requires count { body.count + 1 < 2 ^ 32 }
-    ensures { IfOk result (λ b. b ≡ spec.with_value body name phis operation) }
+) -> Result<(), NoMemory>
+    requires next { body.old.next + 1 < 2 ^ 32 }
+    requires count { body.old.count + 1 < 2 ^ 32 }
+    ensures { IfOk result (λ _. body.new ≡ spec.with_value body.old name.old phis operation) }
 {
-    let (op, marked) = operation;
-    let next = body.next + numbers_of(&name);
-    let result = Some(name_or(name, body.next));
-    let inst = Inst {
-        op: op.into_inner(),
-        result,
-        marked,
-    };
-    let insts = with_last(body.insts, inst)?;
-    Ok(Body {
-        blocks: body.blocks,
-        name: body.name,
-        insts,
-        next,
-        count: body.count + 1,
-        phis,
-    })
+    let numbers = numbers_of(name);
+    let result = name_or(name.take(), body.next);
+    body.next += numbers;
+    body.phis = phis;
+    add(alloc, body, operation, Some(result))
 }
 
-/// The body with an instruction that has no result. The one error is want of memory.
-pub fn with_effect(body: Body, operation: (Boxed<Op>, bool)) -> Result<Body, NoMemory>
-    requires { body.count + 1 < 2 ^ 32 }
-    ensures { IfOk result (λ b. b ≡ spec.with_effect body operation) }
+/// Adds an instruction that has no result. The one error is want of memory.
+pub fn add_effect(
+    alloc: Global,
+    body: &mut Body,
+    operation: (Boxed<Op>, bool),
+) -> Result<(), NoMemory>
+    requires { body.old.count + 1 < 2 ^ 32 }
+    ensures { IfOk result (λ _. body.new ≡ spec.with_effect body.old operation) }
 {
-    let (op, marked) = operation;
-    let inst = Inst {
-        op: op.into_inner(),
-        result: None,
-        marked,
-    };
-    let insts = with_last(body.insts, inst)?;
-    Ok(Body {
-        blocks: body.blocks,
-        name: body.name,
-        insts,
-        next: body.next,
-        count: body.count + 1,
-        phis: false,
-    })
+    body.phis = false;
+    add(alloc, body, operation, None)
 }
 
-/// The body with a terminator, which ends the block. The one error is want of memory.
-pub fn with_end(alloc: Global, body: Body, operation: (Boxed<Op>, bool)) -> Result<Body, NoMemory>
-    requires { body.count + 1 < 2 ^ 32 }
-    ensures { IfOk result (λ b. b ≡ spec.with_end body operation) }
+/// Ends the open block. The one error is want of memory.
+fn end_block(alloc: Global, body: &mut Body) -> Result<(), NoMemory>
+    ensures { IfOk result (λ _. body.new ≡ record body.old { blocks = body.old.blocks ++ record { name = spec.name_or body.old.name 0; insts = body.old.insts } ∷ []; name = None; insts = [] }) }
 {
-    let (op, marked) = operation;
-    let inst = Inst {
-        op: op.into_inner(),
-        result: None,
-        marked,
-    };
-    let insts = with_last(body.insts, inst)?;
     let block = Block {
-        name: name_or(body.name, 0),
-        insts,
+        name: name_or(body.name.take(), 0),
+        insts: mem::replace(&mut body.insts, List::from_vec(Vec::new(alloc))),
     };
-    let blocks = with_last(body.blocks, block)?;
-    Ok(Body {
-        blocks,
-        name: None,
-        insts: List::from_vec(Vec::new(alloc)),
-        next: body.next,
-        count: body.count + 1,
-        phis: false,
-    })
+    push(alloc, &mut body.blocks, block)
+}
+
+/// Adds a terminator, which ends the block. The one error is want of memory.
+pub fn add_end(alloc: Global, body: &mut Body, operation: (Boxed<Op>, bool)) -> Result<(), NoMemory>
+    requires { body.old.count + 1 < 2 ^ 32 }
+    ensures { IfOk result (λ _. body.new ≡ spec.with_end body.old operation) }
+{
+    add_effect(alloc, body, operation)?;
+    end_block(alloc, body)
 }
 
 /// Whether an operation is a call of type `void`.
@@ -120,19 +114,20 @@ fn is_void_call(op: &Op) -> bool
     }
 }
 
-/// The body with a call, which has a result unless its type is `void`. The one error is want of memory.
-pub fn with_call(
-    body: Body,
-    name: Option<Name>,
+/// Adds a call, which has a result unless its type is `void`. The one error is want of memory.
+pub fn add_call(
+    alloc: Global,
+    body: &mut Body,
+    name: &mut Option<Name>,
     operation: (Boxed<Op>, bool),
-) -> Result<Body, NoMemory>
-    requires next { body.next + 1 < 2 ^ 32 }
-    requires count { body.count + 1 < 2 ^ 32 }
-    ensures { IfOk result (λ b. b ≡ spec.with_call body name operation) }
+) -> Result<(), NoMemory>
+    requires next { body.old.next + 1 < 2 ^ 32 }
+    requires count { body.old.count + 1 < 2 ^ 32 }
+    ensures { IfOk result (λ _. body.new ≡ spec.with_call body.old name.old operation) }
 {
     if is_void_call(operation.0.get()) {
-        with_effect(body, operation)
+        add_effect(alloc, body, operation)
     } else {
-        with_value(body, name, false, operation)
+        add_value(alloc, body, name, false, operation)
     }
 }

@@ -3,15 +3,18 @@
 ghost use Rattle.std.specs.Prelude.{◌≡◌, IfOk, map};
 ghost use Rattle.ms_grammar.specs.Functions as spec;
 ghost use Rattle.ms_read_cursor.specs.Reading.{Gives, run};
+ghost use Rattle.ms_read_body.specs.Headed as headed;
 
 use crate::lines::blocks;
 use crate::parameter_lists::parameters;
 use ms_bits::{Duplicate, List, NoMemory};
 use ms_grammar::{Body, Parameters, Refusal, Symbol};
-use ms_ir::{Decl, Form, Func, Name, Ty};
+use ms_ir::{Block, Decl, Form, Func, Name, Ty};
 use ms_read_cursor::{Tokens, global};
 use ms_read_insts::names_printf;
-use ms_read_values::{attachments, attributes, function_tail, linkage, result_ty, result_type};
+use ms_read_values::{
+    ValueType, attachments, attributes, function_tail, linkage, result_ty, result_type,
+};
 use std::alloc::Global;
 
 /// The types of parameters. The one error is want of memory.
@@ -26,13 +29,47 @@ fn types_of(alloc: Global, parameters: &List<(Ty, Name)>) -> Result<List<Ty>, No
     Ok(List::from_vec(types))
 }
 
+/// Reads the types of the parameters of a declaration behind its name, and the attributes behind them.
+fn types_behind(
+    alloc: Global,
+    tokens: &mut Tokens<'_>,
+    form: Form,
+    name: &Name,
+) -> Result<List<Ty>, Refusal>
+    ensures { Gives (run (headed.types_behind form name.now) tokens.old) result tokens.new }
+{
+    tokens.word(Symbol::OpenParen)?;
+    let parameters = parameters(alloc, tokens, form, names_printf(name))?;
+    attributes(alloc, tokens, form)?;
+    Ok(types_of(alloc, &parameters.found)?)
+}
+
+/// Reads a declaration behind its name.
+#[tactic(auto, using(crate::proofs::Headed::declared_reads, crate::proofs::Headed::declared_stops))]
+fn declared(
+    alloc: Global,
+    tokens: &mut Tokens<'_>,
+    form: Form,
+    ret: Option<ValueType>,
+    name: Name,
+) -> Result<Decl, Refusal>
+    ensures { Gives (run (headed.declared form ret name) tokens.old) result tokens.new }
+{
+    let params = types_behind(alloc, tokens, form, &name)?;
+    Ok(Decl {
+        name,
+        ret: result_ty(ret),
+        params,
+    })
+}
+
 /// Reads a declaration behind `declare`.
 ///
 /// # Errors
 ///
 /// At the first token that can't stand: `Limit(Parameters)` at the 101st parameter, `Numbering` at a written number that
 /// isn't the next one, `Reserved` and `Limit(Name)` at names, `Syntax` and `Outside`.
-#[tactic(auto, unfolding(ms_grammar::specs::Functions::declaration))]
+#[tactic(auto, unfolding(ms_grammar::specs::Functions::declaration, crate::specs::Headed::declared))]
 pub fn declaration(alloc: Global, tokens: &mut Tokens<'_>, form: Form) -> Result<Decl, Refusal>
     ensures { Gives (run (spec.declaration form) tokens.old) result tokens.new }
 {
@@ -40,16 +77,7 @@ pub fn declaration(alloc: Global, tokens: &mut Tokens<'_>, form: Form) -> Result
     linkage(alloc, tokens, form)?;
     let ret = result_type(tokens)?;
     let name = global(alloc, tokens, form)?;
-    tokens.word(Symbol::OpenParen)?;
-    let dotted = names_printf(&name);
-    let Parameters { found, .. } = parameters(alloc, tokens, form, dotted)?;
-    attributes(alloc, tokens, form)?;
-    let params = types_of(alloc, &found)?;
-    Ok(Decl {
-        name,
-        ret: result_ty(ret),
-        params,
-    })
+    declared(alloc, tokens, form, ret, name)
 }
 
 /// The body of a function, in front of which the text has so many instructions.
@@ -66,6 +94,60 @@ fn body_behind(alloc: Global, parameters: &Parameters, before: u32) -> Body
     }
 }
 
+/// Reads the blocks of a function behind its parameters, with the braces round them.
+fn blocks_behind(
+    alloc: Global,
+    tokens: &mut Tokens<'_>,
+    form: Form,
+    before: u32,
+    parameters: &Parameters,
+) -> Result<List<Block>, Refusal>
+    ensures { Gives (run (headed.blocks_behind form before parameters.now) tokens.old) result tokens.new }
+{
+    function_tail(alloc, tokens, form)?;
+    tokens.word(Symbol::OpenBrace)?;
+    let start = body_behind(alloc, parameters, before);
+    blocks(alloc, tokens, form, start)
+}
+
+/// Reads a function behind its parameters.
+#[tactic(auto, using(crate::proofs::Headed::bodied_reads, crate::proofs::Headed::bodied_stops))]
+fn bodied(
+    alloc: Global,
+    tokens: &mut Tokens<'_>,
+    form: Form,
+    before: u32,
+    ret: Option<ValueType>,
+    name: Name,
+    parameters: Parameters,
+) -> Result<Func, Refusal>
+    ensures { Gives (run (headed.bodied form before ret name parameters) tokens.old) result tokens.new }
+{
+    let blocks = blocks_behind(alloc, tokens, form, before, &parameters)?;
+    Ok(Func {
+        name,
+        ret: result_ty(ret),
+        params: parameters.found,
+        blocks,
+    })
+}
+
+/// Reads a function behind its name.
+fn named(
+    alloc: Global,
+    tokens: &mut Tokens<'_>,
+    form: Form,
+    before: u32,
+    ret: Option<ValueType>,
+    name: Name,
+) -> Result<Func, Refusal>
+    ensures { Gives (run (headed.named form before ret name) tokens.old) result tokens.new }
+{
+    tokens.word(Symbol::OpenParen)?;
+    let params = parameters(alloc, tokens, form, false)?;
+    bodied(alloc, tokens, form, before, ret, name, params)
+}
+
 /// Reads a function behind `define`, in front of which the text has so many instructions.
 ///
 /// # Errors
@@ -73,7 +155,7 @@ fn body_behind(alloc: Global, parameters: &Parameters, before: u32) -> Body
 /// At the first token that can't stand: `Limit(Instructions)` at the first token of the instruction that is one too many,
 /// `Limit(Parameters)` at the 101st parameter, `Numbering` at a written number that isn't the next one, `Reserved` and
 /// `Limit(Name)` at names, `Syntax` and `Outside`.
-#[tactic(auto, unfolding(ms_grammar::specs::Functions::function))]
+#[tactic(auto, unfolding(ms_grammar::specs::Functions::function, crate::specs::Headed::bodied))]
 pub fn function(
     alloc: Global,
     tokens: &mut Tokens<'_>,
@@ -85,16 +167,5 @@ pub fn function(
     linkage(alloc, tokens, form)?;
     let ret = result_type(tokens)?;
     let name = global(alloc, tokens, form)?;
-    tokens.word(Symbol::OpenParen)?;
-    let params = parameters(alloc, tokens, form, false)?;
-    function_tail(alloc, tokens, form)?;
-    tokens.word(Symbol::OpenBrace)?;
-    let start = body_behind(alloc, &params, before);
-    let blocks = blocks(alloc, tokens, form, start)?;
-    Ok(Func {
-        name,
-        ret: result_ty(ret),
-        params: params.found,
-        blocks,
-    })
+    named(alloc, tokens, form, before, ret, name)
 }

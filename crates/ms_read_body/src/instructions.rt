@@ -1,12 +1,14 @@
 //! Instructions behind their first word (LLVM Language Reference, "Instruction Reference").
 
-ghost use Rattle.std.specs.Prelude.{◌<◌, ◌+◌, ◌^◌};
+ghost use Rattle.std.specs.Prelude.{◌≡◌, ◌<◌, ◌+◌, ◌^◌};
 ghost use Rattle.ms_grammar.specs.Insts.{alloca_rule as alloca_piece, step_rule as step_piece};
 ghost use Rattle.ms_grammar.specs.Lines as spec;
-ghost use Rattle.ms_read_cursor.specs.Reading.{Gives, run};
+ghost use Rattle.ms_read_cursor.specs.Reading.{run};
+ghost use Rattle.ms_read_body.specs.Leaving.{Leaves};
 ghost use Rattle.ms_read_body.specs.Operations.{rule_of};
+ghost use Rattle.ms_read_body.specs.Words as words;
 
-use crate::added::{with_call, with_effect, with_end, with_value};
+use crate::added::{add_call, add_effect, add_end, add_value};
 use crate::open_blocks::is_open;
 use crate::operation_rules::{Operation, OperationIn};
 use ms_grammar::{Body, Refusal, Symbol};
@@ -22,16 +24,16 @@ fn value_line(
     alloc: Global,
     tokens: &mut Tokens<'_>,
     form: Form,
-    body: Body,
-    name: Option<Name>,
+    body: &mut Body,
+    name: &mut Option<Name>,
     operation: Operation,
-) -> Result<Body, Refusal>
-    requires next { body.next + 1 < 2 ^ 32 }
-    requires count { body.count + 1 < 2 ^ 32 }
-    ensures { Gives (run (spec.value_line form body name (rule_of form operation)) tokens.old) result tokens.new }
+) -> Result<(), Refusal>
+    requires next { body.old.next + 1 < 2 ^ 32 }
+    requires count { body.old.count + 1 < 2 ^ 32 }
+    ensures { Leaves (run (spec.value_line form body.old name.old (rule_of form operation)) tokens.old) result body.new tokens.new }
 {
     let read = with_suffixes(alloc, tokens, form, &OperationIn { form, operation })?;
-    Ok(with_value(body, name, false, read)?)
+    Ok(add_value(alloc, body, name, false, read)?)
 }
 
 /// An `alloca`.
@@ -40,15 +42,15 @@ fn alloca_line(
     alloc: Global,
     tokens: &mut Tokens<'_>,
     form: Form,
-    body: Body,
-    name: Option<Name>,
-) -> Result<Body, Refusal>
-    requires next { body.next + 1 < 2 ^ 32 }
-    requires count { body.count + 1 < 2 ^ 32 }
-    ensures { Gives (run (spec.marked_line body name (alloca_piece form)) tokens.old) result tokens.new }
+    body: &mut Body,
+    name: &mut Option<Name>,
+) -> Result<(), Refusal>
+    requires next { body.old.next + 1 < 2 ^ 32 }
+    requires count { body.old.count + 1 < 2 ^ 32 }
+    ensures { Leaves (run (spec.marked_line body.old name.old (alloca_piece form)) tokens.old) result body.new tokens.new }
 {
     let read = alloca_rule(alloc, tokens, form)?;
-    Ok(with_value(body, name, false, read)?)
+    Ok(add_value(alloc, body, name, false, read)?)
 }
 
 /// A `getelementptr`.
@@ -57,15 +59,15 @@ fn step_line(
     alloc: Global,
     tokens: &mut Tokens<'_>,
     form: Form,
-    body: Body,
-    name: Option<Name>,
-) -> Result<Body, Refusal>
-    requires next { body.next + 1 < 2 ^ 32 }
-    requires count { body.count + 1 < 2 ^ 32 }
-    ensures { Gives (run (spec.marked_line body name (step_piece form)) tokens.old) result tokens.new }
+    body: &mut Body,
+    name: &mut Option<Name>,
+) -> Result<(), Refusal>
+    requires next { body.old.next + 1 < 2 ^ 32 }
+    requires count { body.old.count + 1 < 2 ^ 32 }
+    ensures { Leaves (run (spec.marked_line body.old name.old (step_piece form)) tokens.old) result body.new tokens.new }
 {
     let read = step_rule(alloc, tokens, form)?;
-    Ok(with_value(body, name, false, read)?)
+    Ok(add_value(alloc, body, name, false, read)?)
 }
 
 /// A phi, behind which another may stand.
@@ -74,15 +76,15 @@ fn phi_line(
     alloc: Global,
     tokens: &mut Tokens<'_>,
     form: Form,
-    body: Body,
-    name: Option<Name>,
-) -> Result<Body, Refusal>
-    requires next { body.next + 1 < 2 ^ 32 }
-    requires count { body.count + 1 < 2 ^ 32 }
-    ensures { Gives (run (spec.phi_line form body name) tokens.old) result tokens.new }
+    body: &mut Body,
+    name: &mut Option<Name>,
+) -> Result<(), Refusal>
+    requires next { body.old.next + 1 < 2 ^ 32 }
+    requires count { body.old.count + 1 < 2 ^ 32 }
+    ensures { Leaves (run (spec.phi_line form body.old name.old) tokens.old) result body.new tokens.new }
 {
     let read = phi_rule(alloc, tokens, form)?;
-    Ok(with_value(body, name, true, read)?)
+    Ok(add_value(alloc, body, name, true, read)?)
 }
 
 /// A call, which knows whether it has a name.
@@ -91,17 +93,17 @@ fn call_line(
     alloc: Global,
     tokens: &mut Tokens<'_>,
     form: Form,
-    body: Body,
-    name: Option<Name>,
+    body: &mut Body,
+    name: &mut Option<Name>,
     first: Symbol,
-) -> Result<Body, Refusal>
-    requires next { body.next + 1 < 2 ^ 32 }
-    requires count { body.count + 1 < 2 ^ 32 }
-    ensures { Gives (run (spec.call_line form body name first) tokens.old) result tokens.new }
+) -> Result<(), Refusal>
+    requires next { body.old.next + 1 < 2 ^ 32 }
+    requires count { body.old.count + 1 < 2 ^ 32 }
+    ensures { Leaves (run (spec.call_line form body.old name.old first) tokens.old) result body.new tokens.new }
 {
-    let named = is_open(&name);
+    let named = is_open(name);
     let read = call_rule(alloc, tokens, form, named, first)?;
-    Ok(with_call(body, name, read)?)
+    Ok(add_call(alloc, body, name, read)?)
 }
 
 /// An instruction without a result.
@@ -110,14 +112,14 @@ fn effect_line(
     alloc: Global,
     tokens: &mut Tokens<'_>,
     form: Form,
-    body: Body,
+    body: &mut Body,
     operation: Operation,
-) -> Result<Body, Refusal>
-    requires { body.count + 1 < 2 ^ 32 }
-    ensures { Gives (run (spec.effect_line form body (rule_of form operation)) tokens.old) result tokens.new }
+) -> Result<(), Refusal>
+    requires { body.old.count + 1 < 2 ^ 32 }
+    ensures { Leaves (run (spec.effect_line form body.old (rule_of form operation)) tokens.old) result body.new tokens.new }
 {
     let read = with_suffixes(alloc, tokens, form, &OperationIn { form, operation })?;
-    Ok(with_effect(body, read)?)
+    Ok(add_effect(alloc, body, read)?)
 }
 
 /// A terminator.
@@ -126,50 +128,91 @@ fn end_line(
     alloc: Global,
     tokens: &mut Tokens<'_>,
     form: Form,
-    body: Body,
+    body: &mut Body,
     operation: Operation,
-) -> Result<Body, Refusal>
-    requires { body.count + 1 < 2 ^ 32 }
-    ensures { Gives (run (spec.end_line form body (rule_of form operation)) tokens.old) result tokens.new }
+) -> Result<(), Refusal>
+    requires { body.old.count + 1 < 2 ^ 32 }
+    ensures { Leaves (run (spec.end_line form body.old (rule_of form operation)) tokens.old) result body.new tokens.new }
 {
     let read = with_suffixes(alloc, tokens, form, &OperationIn { form, operation })?;
-    Ok(with_end(alloc, body, read)?)
+    Ok(add_end(alloc, body, read)?)
 }
 
-/// An instruction behind a word that names no binary operation and no cast.
-fn instruction_by(
+/// The operation that a word stands for, where it has a result and takes any suffix.
+fn value_operation(symbol: Symbol) -> Option<Operation>
+    ensures { result ≡ words.value_operation symbol }
+{
+    match symbol {
+        Symbol::Icmp => Some(Operation::Compare),
+        Symbol::Select => Some(Operation::Select),
+        Symbol::Freeze => Some(Operation::Freeze),
+        Symbol::Load => Some(Operation::Load),
+        _ => None,
+    }
+}
+
+/// The terminator that a word stands for.
+fn end_operation(symbol: Symbol) -> Option<Operation>
+    ensures { result ≡ words.end_operation symbol }
+{
+    match symbol {
+        Symbol::Br => Some(Operation::Branch),
+        Symbol::Switch => Some(Operation::Switch),
+        Symbol::Ret => Some(Operation::Ret),
+        Symbol::Unreachable => Some(Operation::Unreachable),
+        _ => None,
+    }
+}
+
+/// An instruction behind a word that is none of the others.
+fn further_instruction(
     alloc: Global,
     tokens: &mut Tokens<'_>,
     form: Form,
-    body: Body,
-    name: Option<Name>,
+    body: &mut Body,
+    name: &mut Option<Name>,
     symbol: Symbol,
-) -> Result<Body, Refusal>
-    requires next { body.next + 1 < 2 ^ 32 }
-    requires count { body.count + 1 < 2 ^ 32 }
-    ensures { Gives (run (spec.instruction_by form body name symbol) tokens.old) result tokens.new }
+) -> Result<(), Refusal>
+    requires next { body.old.next + 1 < 2 ^ 32 }
+    requires count { body.old.count + 1 < 2 ^ 32 }
+    ensures { Leaves (run (words.further_instruction form body.old name.old symbol) tokens.old) result body.new tokens.new }
 {
     match symbol {
         Symbol::Phi => phi_line(alloc, tokens, form, body, name),
-        Symbol::Icmp => value_line(alloc, tokens, form, body, name, Operation::Compare),
-        Symbol::Select => value_line(alloc, tokens, form, body, name, Operation::Select),
-        Symbol::Freeze => value_line(alloc, tokens, form, body, name, Operation::Freeze),
         Symbol::Alloca => alloca_line(alloc, tokens, form, body, name),
-        Symbol::Load => value_line(alloc, tokens, form, body, name, Operation::Load),
         Symbol::Store => effect_line(alloc, tokens, form, body, Operation::Store),
         Symbol::GetElementPtr => step_line(alloc, tokens, form, body, name),
         Symbol::Tail | Symbol::MustTail | Symbol::NoTail | Symbol::Call => {
             call_line(alloc, tokens, form, body, name, symbol)
         }
-        Symbol::Br => end_line(alloc, tokens, form, body, Operation::Branch),
-        Symbol::Switch => end_line(alloc, tokens, form, body, Operation::Switch),
-        Symbol::Ret => end_line(alloc, tokens, form, body, Operation::Ret),
-        Symbol::Unreachable => end_line(alloc, tokens, form, body, Operation::Unreachable),
         _ => Err(tokens.refusal()),
     }
 }
 
-/// Reads an instruction behind its first word, and adds it to the body. Its result has this name, or else the next number.
+/// An instruction behind a word that names no binary operation and no cast.
+#[tactic(auto, using(crate::proofs::Words::by_value, crate::proofs::Words::by_end, crate::proofs::Words::by_further))]
+fn instruction_by(
+    alloc: Global,
+    tokens: &mut Tokens<'_>,
+    form: Form,
+    body: &mut Body,
+    name: &mut Option<Name>,
+    symbol: Symbol,
+) -> Result<(), Refusal>
+    requires next { body.old.next + 1 < 2 ^ 32 }
+    requires count { body.old.count + 1 < 2 ^ 32 }
+    ensures { Leaves (run (spec.instruction_by form body.old name.old symbol) tokens.old) result body.new tokens.new }
+{
+    if let Some(operation) = value_operation(symbol) {
+        return value_line(alloc, tokens, form, body, name, operation);
+    }
+    match end_operation(symbol) {
+        Some(operation) => end_line(alloc, tokens, form, body, operation),
+        None => further_instruction(alloc, tokens, form, body, name, symbol),
+    }
+}
+
+/// Reads an instruction behind its first word, and adds it to the body. Its result takes this name, or else the next number.
 ///
 /// # Errors
 ///
@@ -179,13 +222,13 @@ pub fn instruction(
     alloc: Global,
     tokens: &mut Tokens<'_>,
     form: Form,
-    body: Body,
-    name: Option<Name>,
+    body: &mut Body,
+    name: &mut Option<Name>,
     symbol: Symbol,
-) -> Result<Body, Refusal>
-    requires next { body.next + 1 < 2 ^ 32 }
-    requires count { body.count + 1 < 2 ^ 32 }
-    ensures { Gives (run (spec.instruction form body name symbol) tokens.old) result tokens.new }
+) -> Result<(), Refusal>
+    requires next { body.old.next + 1 < 2 ^ 32 }
+    requires count { body.old.count + 1 < 2 ^ 32 }
+    ensures { Leaves (run (spec.instruction form body.old name.old symbol) tokens.old) result body.new tokens.new }
 {
     if let Some(op) = binary_op(symbol) {
         return value_line(alloc, tokens, form, body, name, Operation::Binary(op));

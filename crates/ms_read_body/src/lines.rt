@@ -1,14 +1,18 @@
 //! The lines of a body: labels, debug records and instructions (LLVM Language Reference, "Functions").
 
-ghost use Rattle.std.specs.Prelude.{◌≡◌, ◌<◌, ◌+◌, ◌^◌};
+ghost use Rattle.std.specs.Prelude.{◌≡◌, ◌<◌, ◌+◌, ◌^◌, IfOk, None, cond};
+ghost use Rattle.ms_grammar.specs.Bodies as bodies;
 ghost use Rattle.ms_grammar.specs.Lines as spec;
+ghost use Rattle.ms_grammar.specs.Steps.{refuse, word};
 ghost use Rattle.ms_read_cursor.specs.Reading.{Gives, Judges, run};
+ghost use Rattle.ms_read_body.specs.Beginnings as beginnings;
+ghost use Rattle.ms_read_body.specs.Leaving.{Leaves};
 ghost use Rattle.ms_read_body.specs.Room.{HasRoom};
 
 use crate::instructions::instruction;
 use crate::line_starts::{begins_instruction, line_begins};
-use crate::open_blocks::{is_open, opened, opened_as};
-use ms_bits::List;
+use crate::open_blocks::{is_open, open, open_as};
+use ms_bits::{List, NoMemory};
 use ms_grammar::{Body, Refusal, Symbol};
 use ms_ir::{Block, Form, Name};
 use ms_read_cursor::{Lexeme, Tokens, Turn, repeat};
@@ -38,80 +42,106 @@ fn value_word_of(phis: bool, token: &Lexeme<'_>) -> Result<Symbol, Refusal>
     }
 }
 
-/// Reads an instruction behind its result's name.
-#[tactic(auto, unfolding(ms_grammar::specs::Lines::named_line))]
-fn named_line(
-    alloc: Global,
-    tokens: &mut Tokens<'_>,
-    form: Form,
-    body: Body,
-    name: Name,
-) -> Result<Body, Refusal>
-    requires next { body.next + 1 < 2 ^ 32 }
-    requires count { body.count + 1 < 2 ^ 32 }
-    ensures { Gives (run (spec.named_line form body name) tokens.old) result tokens.new }
+/// Begins the block of a label: of a name, or of the next number. The one error is want of memory.
+fn label_line(alloc: Global, body: &mut Body, label: &Lexeme<'_>) -> Result<(), NoMemory>
+    requires { body.old.next + 1 < 2 ^ 32 }
+    ensures { IfOk result (λ _. body.new ≡ beginnings.labelled body.old label.now.symbol label.now) }
 {
-    tokens.word(Symbol::Equals)?;
-    let symbol = value_word_of(body.phis, &tokens.lexeme())?;
-    tokens.advance();
-    instruction(alloc, tokens, form, body, Some(name), symbol)
+    match label.symbol() {
+        Symbol::Label => {
+            let name = label.name(alloc)?;
+            open_as(alloc, body, Name::Text(name), 0);
+        }
+        _ => {
+            let number = body.next;
+            open_as(alloc, body, Name::Number(number), 1);
+        }
+    }
+    Ok(())
 }
 
-/// Reads a debug record behind its group.
+/// Reads a debug record behind its group, which stands in a block.
 #[tactic(auto, unfolding(ms_grammar::specs::Lines::record_line))]
 fn record_line(
     alloc: Global,
     tokens: &mut Tokens<'_>,
     form: Form,
-    body: Body,
-) -> Result<Body, Refusal>
-    ensures { Gives (run (spec.record_line form body) tokens.old) result tokens.new }
+    body: &mut Body,
+) -> Result<(), Refusal>
+    requires { body.old.next + 1 < 2 ^ 32 }
+    ensures { Leaves (run (spec.record_line form (bodies.opened body.old)) tokens.old) result body.new tokens.new }
 {
+    open(alloc, body);
     tokens.word(Symbol::OpenParen)?;
     balanced(alloc, tokens, form, Symbol::CloseParen)?;
-    Ok(body)
+    Ok(())
 }
 
-/// Reads a line behind its first token.
+/// The name of a result, which a token is: a name, or the next number. The one error is want of memory.
+fn result_name(alloc: Global, number: u32, token: &Lexeme<'_>) -> Result<Name, NoMemory>
+    ensures { IfOk result (λ n. n ≡ beginnings.result_name number token.now.symbol token.now) }
+{
+    match token.symbol() {
+        Symbol::Local => Ok(Name::Text(token.name(alloc)?)),
+        _ => Ok(Name::Number(number)),
+    }
+}
+
+/// Reads an instruction behind its result's name, in a block.
+#[tactic(auto, unfolding(ms_grammar::specs::Lines::named_line))]
+fn named_line(
+    alloc: Global,
+    tokens: &mut Tokens<'_>,
+    form: Form,
+    body: &mut Body,
+    first: &Lexeme<'_>,
+) -> Result<(), Refusal>
+    requires next { body.old.next + 2 < 2 ^ 32 }
+    requires count { body.old.count + 1 < 2 ^ 32 }
+    ensures { Leaves (run (spec.named_line form (bodies.opened body.old) (beginnings.result_name (bodies.opened body.old).next first.now.symbol first.now)) tokens.old) result body.new tokens.new }
+{
+    open(alloc, body);
+    tokens.word(Symbol::Equals)?;
+    let symbol = value_word_of(body.phis, &tokens.lexeme())?;
+    tokens.advance();
+    let name = result_name(alloc, body.next, first)?;
+    instruction(alloc, tokens, form, body, &mut Some(name), symbol)
+}
+
+/// Reads an instruction behind its first word, in a block, where no name stands in front of it.
+fn unnamed_line(
+    alloc: Global,
+    tokens: &mut Tokens<'_>,
+    form: Form,
+    body: &mut Body,
+    symbol: Symbol,
+) -> Result<(), Refusal>
+    requires next { body.old.next + 2 < 2 ^ 32 }
+    requires count { body.old.count + 1 < 2 ^ 32 }
+    ensures { Leaves (run (spec.instruction form (bodies.opened body.old) None symbol) tokens.old) result body.new tokens.new }
+{
+    open(alloc, body);
+    instruction(alloc, tokens, form, body, &mut None, symbol)
+}
+
+/// Reads a line behind its first token, and adds it to the body.
 #[tactic(auto, unfolding(ms_grammar::specs::Lines::line))]
 fn line(
     alloc: Global,
     tokens: &mut Tokens<'_>,
     form: Form,
-    body: Body,
+    body: &mut Body,
     first: &Lexeme<'_>,
-) -> Result<Body, Refusal>
-    requires next { body.next + 2 < 2 ^ 32 }
-    requires count { HasRoom first.now.symbol body.count }
-    ensures { Gives (run (spec.line form body first.now) tokens.old) result tokens.new }
+) -> Result<(), Refusal>
+    requires next { body.old.next + 2 < 2 ^ 32 }
+    requires count { HasRoom first.now.symbol body.old.count }
+    ensures { Leaves (run (spec.line form body.old first.now) tokens.old) result body.new tokens.new }
 {
     match first.symbol() {
-        Symbol::Label => {
-            let name = first.name(alloc)?;
-            Ok(opened_as(alloc, body, Name::Text(name), 0))
-        }
-        Symbol::NumberedLabel => {
-            let number = body.next;
-            Ok(opened_as(alloc, body, Name::Number(number), 1))
-        }
-        Symbol::DebugGroup => {
-            let body = opened(alloc, body);
-            record_line(alloc, tokens, form, body)
-        }
-        Symbol::Local => {
-            let name = first.name(alloc)?;
-            let body = opened(alloc, body);
-            named_line(alloc, tokens, form, body, Name::Text(name))
-        }
-        Symbol::NumberedLocal => {
-            let body = opened(alloc, body);
-            let number = body.next;
-            named_line(alloc, tokens, form, body, Name::Number(number))
-        }
-        _ => {
-            let body = opened(alloc, body);
-            instruction(alloc, tokens, form, body, None, first.symbol())
-        }
+        Symbol::Label | Symbol::NumberedLabel => Ok(label_line(alloc, body, first)?),
+        Symbol::DebugGroup => record_line(alloc, tokens, form, body),
+        Symbol::Local | Symbol::NumberedLocal => named_line(alloc, tokens, form, body, first),
+        _ => unnamed_line(alloc, tokens, form, body, first.symbol()),
     }
 }
 
@@ -143,7 +173,20 @@ impl Turn for EachLine {
         first: &Lexeme<'_>,
         tokens: &mut Tokens<'_>,
     ) -> Result<Body, Refusal> {
-        line(alloc, tokens, self.form, state, first)
+        let mut body = state;
+        line(alloc, tokens, self.form, &mut body, first)?;
+        Ok(body)
+    }
+}
+
+/// Takes the brace behind the blocks of a body, where one stands and none is open.
+fn closing_brace(tokens: &mut Tokens<'_>, body: &Body) -> Result<(), Refusal>
+    ensures { Gives (run (cond (spec.is_whole body.now) (word Symbol.CloseBrace) refuse) tokens.old) result tokens.new }
+{
+    if is_open(&body.name) || body.blocks.as_slice().is_empty() {
+        Err(tokens.refusal())
+    } else {
+        tokens.word(Symbol::CloseBrace)
     }
 }
 
@@ -153,7 +196,7 @@ impl Turn for EachLine {
 ///
 /// At the first token that can't stand: those of `line_begins` at the first token of a line, those of the lines, and
 /// `Syntax` or `Outside` where a block is open that no terminator has ended, or where no block stands.
-#[tactic(auto, unfolding(ms_grammar::specs::Lines::blocks))]
+#[tactic(auto, using(crate::proofs::Closed::closed_reads, crate::proofs::Closed::closed_stops), unfolding(ms_grammar::specs::Lines::blocks))]
 pub fn blocks(
     alloc: Global,
     tokens: &mut Tokens<'_>,
@@ -163,10 +206,7 @@ pub fn blocks(
     ensures { Gives (run (spec.blocks form start) tokens.old) result tokens.new }
 {
     let body = repeat(alloc, tokens, &EachLine { form }, start)?;
-    if is_open(&body.name) || body.blocks.as_slice().is_empty() {
-        return Err(tokens.refusal());
-    }
-    tokens.word(Symbol::CloseBrace)?;
+    closing_brace(tokens, &body)?;
     let Body { blocks, .. } = body;
     Ok(blocks)
 }

@@ -18,40 +18,29 @@ pub fn is_open(name: &Option<Name>) -> bool
     }
 }
 
-/// The body where a block begins under this name, which took so many numbers.
-pub fn opened_as(alloc: Global, body: Body, name: Name, numbers: u32) -> Body
-    requires { body.next + numbers < 2 ^ 32 }
-    ensures { result ≡ spec.opened_as body name numbers }
+/// Begins a block under this name, which took so many numbers.
+pub fn open_as(alloc: Global, body: &mut Body, name: Name, numbers: u32)
+    requires { body.old.next + numbers < 2 ^ 32 }
+    ensures { body.new ≡ spec.opened_as body.old name numbers }
 {
-    let Body {
-        blocks,
-        next,
-        count,
-        ..
-    } = body;
-    Body {
-        blocks,
-        name: Some(name),
-        insts: List::from_vec(Vec::new(alloc)),
-        next: next + numbers,
-        count,
-        phis: true,
-    }
+    body.name = Some(name);
+    body.insts = List::from_vec(Vec::new(alloc));
+    body.next += numbers;
+    body.phis = true;
 }
 
-/// The body in a block: in the open one, or in one without a label that begins here.
+/// Begins a block without a label, unless one is open.
 #[tactic(auto, unfolding(ms_grammar::specs::Bodies::opened))]
-pub fn opened(alloc: Global, body: Body) -> Body
-    requires { body.next + 1 < 2 ^ 32 }
-    ensures exact { result ≡ spec.opened body }
-    ensures next { result.next ≤ body.next + 1 }
-    ensures count { result.count ≡ body.count }
+pub fn open(alloc: Global, body: &mut Body)
+    requires { body.old.next + 1 < 2 ^ 32 }
+    ensures exact { body.new ≡ spec.opened body.old }
+    ensures next { body.new.next ≤ body.old.next + 1 }
+    ensures count { body.new.count ≡ body.old.count }
 {
-    if body.name.is_some() {
-        return body;
+    if body.name.is_none() {
+        let number = body.next;
+        open_as(alloc, body, Name::Number(number), 1);
     }
-    let number = body.next;
-    opened_as(alloc, body, Name::Number(number), 1)
 }
 
 /// The number of the next value, in whichever block it stands.

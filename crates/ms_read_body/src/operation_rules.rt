@@ -1,6 +1,9 @@
 //! The operations whose suffixes a line reads.
 
-use ms_bits::{BinOp, Boxed, CastOp};
+ghost use Rattle.std.specs.Prelude.{◌≡◌, IfOk};
+ghost use Rattle.ms_ir.specs.declared.syntax.Op.TheVariants as operation;
+
+use ms_bits::{BinOp, Boxed, CastOp, NoMemory};
 use ms_grammar::Refusal;
 use ms_ir::{Form, Op};
 use ms_read_cursor::{Rule, Tokens};
@@ -9,6 +12,13 @@ use ms_read_insts::{
     select_rule, store_rule, switch_rule,
 };
 use std::alloc::Global;
+
+/// `unreachable`, which has no parts. The one error is want of memory.
+fn unreachable(alloc: Global) -> Result<Boxed<Op>, NoMemory>
+    ensures { IfOk result (λ o. o ≡ operation.Unreachable) }
+{
+    Boxed::new(alloc, Op::Unreachable)
+}
 
 /// What a word stands for.
 #[derive(Clone, Copy)]
@@ -52,7 +62,7 @@ impl Rule for OperationIn {
             Operation::Branch => branch_rule(alloc, tokens, self.form),
             Operation::Switch => switch_rule(alloc, tokens, self.form),
             Operation::Ret => ret_rule(alloc, tokens, self.form),
-            Operation::Unreachable => Ok(Boxed::new(alloc, Op::Unreachable)?),
+            Operation::Unreachable => Ok(unreachable(alloc)?),
         }
     }
 }

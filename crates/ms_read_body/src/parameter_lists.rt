@@ -5,11 +5,13 @@ ghost use Rattle.std.specs.Prelude.{◌≡◌, ◌<◌, IfOk, OnOk};
 ghost use Rattle.ms_grammar.specs.Functions as spec;
 ghost use Rattle.ms_grammar.specs.Types as types;
 ghost use Rattle.ms_read_cursor.specs.Reading.{Gives, Judges, run};
+ghost use Rattle.ms_read_body.specs.Leaving.{Leaves};
 
+use crate::lists::push;
 use ms_bits::{List, NoMemory};
 use ms_grammar::{Limit, Parameters, Refusal, Symbol};
 use ms_ir::{Form, Name, Ty};
-use ms_read_cursor::{Lexeme, Series, Tokens, listed, local_name, with_last};
+use ms_read_cursor::{Lexeme, Series, Tokens, listed, local_name};
 use ms_read_values::{ValueType, attributes, value_type_of};
 use std::alloc::Global;
 
@@ -93,32 +95,35 @@ fn next_behind(name: &Name, next: u32) -> u32
     }
 }
 
-/// One parameter more. The one error is want of memory.
-fn with_parameter(parameters: Parameters, ty: ValueType, name: Name) -> Result<Parameters, NoMemory>
-    requires { parameters.next < 100 }
-    ensures { IfOk result (λ ps. ps ≡ spec.with_parameter parameters ty name) }
+/// Adds a parameter. The one error is want of memory.
+fn add(
+    alloc: Global,
+    parameters: &mut Parameters,
+    ty: ValueType,
+    name: Name,
+) -> Result<(), NoMemory>
+    requires { parameters.old.next < 100 }
+    ensures { IfOk result (λ _. parameters.new ≡ spec.with_parameter parameters.old ty name) }
 {
-    let Parameters { found, next, dots } = parameters;
-    let next = next_behind(&name, next);
-    let found = with_last(found, (ty.ty(), name))?;
-    Ok(Parameters { found, next, dots })
+    parameters.next = next_behind(&name, parameters.next);
+    push(alloc, &mut parameters.found, (ty.ty(), name))
 }
 
-/// Reads a parameter that isn't dots: its type, attributes, and its name or nothing.
+/// Reads a parameter that isn't dots, and adds it to the others: its type, attributes, and its name or nothing.
 #[tactic(auto, unfolding(ms_grammar::specs::Functions::typed_parameter))]
 fn typed_parameter(
     alloc: Global,
     tokens: &mut Tokens<'_>,
     form: Form,
-    parameters: Parameters,
-) -> Result<Parameters, Refusal>
-    ensures { Gives (run (spec.typed_parameter form parameters) tokens.old) result tokens.new }
+    parameters: &mut Parameters,
+) -> Result<(), Refusal>
+    ensures { Leaves (run (spec.typed_parameter form parameters.old) tokens.old) result parameters.new tokens.new }
 {
-    let ty = parameter_type_of(&parameters, &tokens.lexeme())?;
+    let ty = parameter_type_of(parameters, &tokens.lexeme())?;
     tokens.advance();
     attributes(alloc, tokens, form)?;
     let name = parameter_name(alloc, tokens, form, parameters.next)?;
-    Ok(with_parameter(parameters, ty, name)?)
+    Ok(add(alloc, parameters, ty, name)?)
 }
 
 /// Whether a type is `ptr`.
@@ -141,7 +146,7 @@ fn is_one_pointer(found: &[(Ty, Name)]) -> bool
     }
 }
 
-/// Reads a parameter, or the dots; `dotted` in a declaration of `printf`.
+/// Reads a parameter, or the dots, and adds it to the others; `dotted` in a declaration of `printf`.
 ///
 /// # Errors
 ///
@@ -152,19 +157,15 @@ fn parameter(
     tokens: &mut Tokens<'_>,
     form: Form,
     dotted: bool,
-    parameters: Parameters,
-) -> Result<Parameters, Refusal>
-    ensures { Gives (run (spec.parameter form dotted parameters) tokens.old) result tokens.new }
+    parameters: &mut Parameters,
+) -> Result<(), Refusal>
+    ensures { Leaves (run (spec.parameter form dotted parameters.old) tokens.old) result parameters.new tokens.new }
 {
     let dots = dotted && is_one_pointer(parameters.found.as_slice()) && tokens.sees(Symbol::Dots);
     if dots {
         tokens.advance();
-        let Parameters { found, next, .. } = parameters;
-        return Ok(Parameters {
-            found,
-            next,
-            dots: true,
-        });
+        parameters.dots = true;
+        return Ok(());
     }
     typed_parameter(alloc, tokens, form, parameters)
 }
@@ -196,7 +197,9 @@ impl Series for EachParameter {
         state: Parameters,
         tokens: &mut Tokens<'_>,
     ) -> Result<Parameters, Refusal> {
-        parameter(alloc, tokens, self.form, self.dotted, state)
+        let mut parameters = state;
+        parameter(alloc, tokens, self.form, self.dotted, &mut parameters)?;
+        Ok(parameters)
     }
 }
 

@@ -1,0 +1,54 @@
+-- Functions and declarations behind what was read of them.
+use Rattle.std.specs.Prelude.{ℕ, false, List, Option, map}
+use Rattle.ms_lex.specs.Grammar.{give, ◌>>=◌, ◌>>◌}
+use Rattle.ms_ir.specs.declared.syntax.Name.{Name}
+use Rattle.ms_ir.specs.declared.syntax.Ty.{Ty}
+use Rattle.ms_ir.specs.declared.syntax.Block.{Block}
+use Rattle.ms_ir.specs.declared.syntax.Func.{Func}
+use Rattle.ms_ir.specs.declared.syntax.Decl.{Decl}
+use Rattle.ms_ir.specs.declared.forms.Form.{Form}
+use Rattle.ms_grammar.specs.declared.states.Parameters.{Parameters}
+use Rattle.ms_grammar.specs.declared.symbols.Symbol.TheVariants as s
+use Rattle.ms_grammar.specs.Functions.{body_behind, function_tail, parameters}
+use Rattle.ms_grammar.specs.Insts.{names_printf}
+use Rattle.ms_grammar.specs.Lines.{blocks}
+use Rattle.ms_grammar.specs.Skipped.{attributes}
+use Rattle.ms_grammar.specs.Steps.{Rule, word}
+
+-- the types of the parameters of a declaration, behind its name
+abbrev pub types_behind : Form → Name → Rule (List Ty)
+types_behind form function = do
+  word s.OpenParen
+  ps ← parameters form (names_printf function)
+  attributes form
+  give (map (λ p. p.0) ps.found)
+
+-- a declaration behind its name
+unfoldable pub declared : Form → Option Ty → Name → Rule Decl
+declared form result function = do
+  word s.OpenParen
+  ps ← parameters form (names_printf function)
+  attributes form
+  give (record { name = function; ret = result; params = map (λ p. p.0) ps.found })
+
+-- the blocks of a function behind its parameters
+abbrev pub blocks_behind : Form → ℕ → Parameters → Rule (List Block)
+blocks_behind form before ps = do
+  function_tail form
+  word s.OpenBrace
+  blocks form (body_behind ps before)
+
+-- a function behind its parameters
+unfoldable pub bodied : Form → ℕ → Option Ty → Name → Parameters → Rule Func
+bodied form before result n ps = do
+  function_tail form
+  word s.OpenBrace
+  all ← blocks form (body_behind ps before)
+  give (record { name = n; ret = result; params = ps.found; blocks = all })
+
+-- a function behind its name
+abbrev pub named : Form → ℕ → Option Ty → Name → Rule Func
+named form before result n = do
+  word s.OpenParen
+  ps ← parameters form false
+  bodied form before result n ps

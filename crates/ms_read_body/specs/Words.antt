@@ -1,0 +1,40 @@
+-- The words of instructions, by what a line adds.
+use Rattle.std.specs.Prelude.{Option, Some, None}
+use Rattle.ms_ir.specs.declared.syntax.Name.{Name}
+use Rattle.ms_ir.specs.declared.forms.Form.{Form}
+use Rattle.ms_grammar.specs.declared.states.Body.{Body}
+use Rattle.ms_grammar.specs.declared.symbols.Symbol.{Symbol}
+use Rattle.ms_grammar.specs.declared.symbols.Symbol.TheVariants as s
+use Rattle.ms_grammar.specs.Insts.{alloca_rule, step_rule, store_rule}
+use Rattle.ms_grammar.specs.Lines.{marked_line, phi_line, call_line, effect_line}
+use Rattle.ms_grammar.specs.Steps.{Rule, refuse}
+use Rattle.ms_read_body.specs.declared.operation_rules.Operation.{Operation}
+use Rattle.ms_read_body.specs.declared.operation_rules.Operation.TheVariants as o
+
+-- an operation with a result that takes any suffix
+abbrev pub value_operation : Symbol → Option Operation
+value_operation s.Icmp = Some o.Compare
+value_operation s.Select = Some o.Select
+value_operation s.Freeze = Some o.Freeze
+value_operation s.Load = Some o.Load
+value_operation symbol = None
+
+-- a terminator
+abbrev pub end_operation : Symbol → Option Operation
+end_operation s.Br = Some o.Branch
+end_operation s.Switch = Some o.Switch
+end_operation s.Ret = Some o.Ret
+end_operation s.Unreachable = Some o.Unreachable
+end_operation symbol = None
+
+-- behind any other word
+abbrev pub further_instruction : Form → Body → Option Name → Symbol → Rule Body
+further_instruction form body result s.Phi = phi_line form body result
+further_instruction form body result s.Alloca = marked_line body result (alloca_rule form)
+further_instruction form body result s.Store = effect_line form body (store_rule form)
+further_instruction form body result s.GetElementPtr = marked_line body result (step_rule form)
+further_instruction form body result s.Tail = call_line form body result s.Tail
+further_instruction form body result s.MustTail = call_line form body result s.MustTail
+further_instruction form body result s.NoTail = call_line form body result s.NoTail
+further_instruction form body result s.Call = call_line form body result s.Call
+further_instruction form body result symbol = refuse
