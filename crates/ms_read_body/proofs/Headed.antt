@@ -1,5 +1,5 @@
 -- Functions and declarations as what is made of their last part.
-use Rattle.std.proofs.Common.{◌≡◌, ℕ, List, Option, Ok, Err, false, map, refl, ap, ◌∙◌, sym}
+use Rattle.std.proofs.Common.{◌≡◌, ℕ, List, Option, refl, ap, ◌∙◌, sym}
 use Rattle.ms_lex.specs.Grammar.{Outcome, done, fails, and_then}
 use Rattle.ms_ir.specs.declared.syntax.Name.{Name}
 use Rattle.ms_ir.specs.declared.syntax.Ty.{Ty}
@@ -10,10 +10,9 @@ use Rattle.ms_ir.specs.declared.forms.Form.{Form}
 use Rattle.ms_grammar.specs.declared.refusals.Refusal.{Refusal}
 use Rattle.ms_grammar.specs.declared.states.Parameters.{Parameters}
 use Rattle.ms_grammar.specs.declared.symbols.Symbol.TheVariants as s
-use Rattle.ms_grammar.specs.Functions.{body_behind, function_tail, parameters}
+use Rattle.ms_grammar.specs.Functions.{function_tail, parameters}
 use Rattle.ms_grammar.specs.Insts.{names_printf}
 use Rattle.ms_grammar.specs.Lexemes.{Lexeme}
-use Rattle.ms_grammar.specs.Lines.{blocks}
 use Rattle.ms_grammar.specs.Skipped.{attributes}
 use Rattle.ms_grammar.specs.Steps.{word}
 use Rattle.ms_read_cursor.specs.Reading.{run}

@@ -4,4 +4,3 @@ pub mod Answering
 pub mod Places
 pub mod Headed
 pub mod Words
-pub mod Closed

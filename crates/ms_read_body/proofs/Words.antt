@@ -8,35 +8,37 @@ use Rattle.ms_grammar.specs.declared.symbols.Symbol.TheVariants as s
 use Rattle.ms_grammar.specs.Lexemes.{Lexeme}
 use Rattle.ms_grammar.specs.Lines.{instruction_by, value_line, end_line}
 use Rattle.ms_read_cursor.specs.Reading.{run}
-use Rattle.ms_read_body.specs.declared.operation_rules.Operation.{Operation}
-use Rattle.ms_read_body.specs.declared.operation_rules.Operation.TheVariants as o
-use Rattle.ms_read_body.specs.Operations.{rule_of}
+use Rattle.ms_read_body.specs.declared.operation_rules.EffectOperation.{EffectOperation}
+use Rattle.ms_read_body.specs.declared.operation_rules.EffectOperation.TheVariants as effect
+use Rattle.ms_read_body.specs.declared.operation_rules.ValueOperation.{ValueOperation}
+use Rattle.ms_read_body.specs.declared.operation_rules.ValueOperation.TheVariants as value
+use Rattle.ms_read_body.specs.Operations.{effect_rule, value_rule}
 use Rattle.ms_read_body.specs.Words.{value_operation, end_operation, further_instruction}
 
 -- the operation that is given is the one that the word stands for
-same : (a b : Operation) → Some a ≡ Some b → b ≡ a
+same : {O : Type 0} (a b : O) → Some a ≡ Some b → b ≡ a
 same a b h = cc
 
-none : (b : Operation) → ◌≡◌ {A = Option Operation} None (Some b) → ⊥
+none : {O : Type 0} (b : O) → ◌≡◌ {A = Option O} None (Some b) → ⊥
 none b h = cc
 
-pub by_value : (form : Form) (body : Body) (result : Option Name) (x : Symbol) (operation : Operation) (ts : List Lexeme) → value_operation x ≡ Some operation
-    → run (instruction_by form body result x) ts ≡ run (value_line form body result (rule_of form operation)) ts
-by_value form body result s.Icmp operation ts h = rw (same o.Compare operation h) refl
-by_value form body result s.Select operation ts h = rw (same o.Select operation h) refl
-by_value form body result s.Freeze operation ts h = rw (same o.Freeze operation h) refl
-by_value form body result s.Load operation ts h = rw (same o.Load operation h) refl
+pub by_value : (form : Form) (body : Body) (result : Option Name) (x : Symbol) (operation : ValueOperation) (ts : List Lexeme) → value_operation x ≡ Some operation
+    → run (instruction_by form body result x) ts ≡ run (value_line form body result (value_rule form operation)) ts
+by_value form body result s.Icmp operation ts h = rw (same value.Compare operation h) refl
+by_value form body result s.Select operation ts h = rw (same value.Select operation h) refl
+by_value form body result s.Freeze operation ts h = rw (same value.Freeze operation h) refl
+by_value form body result s.Load operation ts h = rw (same value.Load operation h) refl
 by_value form body result x operation ts h = absurd (none operation h)
 
-pub by_end : (form : Form) (body : Body) (result : Option Name) (x : Symbol) (operation : Operation) (ts : List Lexeme) → end_operation x ≡ Some operation
-    → run (instruction_by form body result x) ts ≡ run (end_line form body (rule_of form operation)) ts
-by_end form body result s.Br operation ts h = rw (same o.Branch operation h) refl
-by_end form body result s.Switch operation ts h = rw (same o.Switch operation h) refl
-by_end form body result s.Ret operation ts h = rw (same o.Ret operation h) refl
-by_end form body result s.Unreachable operation ts h = rw (same o.Unreachable operation h) refl
+pub by_end : (form : Form) (body : Body) (result : Option Name) (x : Symbol) (operation : EffectOperation) (ts : List Lexeme) → end_operation x ≡ Some operation
+    → run (instruction_by form body result x) ts ≡ run (end_line form body (effect_rule form operation)) ts
+by_end form body result s.Br operation ts h = rw (same effect.Branch operation h) refl
+by_end form body result s.Switch operation ts h = rw (same effect.Switch operation h) refl
+by_end form body result s.Ret operation ts h = rw (same effect.Ret operation h) refl
+by_end form body result s.Unreachable operation ts h = rw (same effect.Unreachable operation h) refl
 by_end form body result x operation ts h = absurd (none operation h)
 
-some : (a : Operation) → ◌≡◌ {A = Option Operation} (Some a) None → ⊥
+some : {O : Type 0} (a : O) → ◌≡◌ {A = Option O} (Some a) None → ⊥
 some a h = cc
 
 pub by_further : (form : Form) (body : Body) (result : Option Name) (x : Symbol) (ts : List Lexeme) → value_operation x ≡ None → end_operation x ≡ None

@@ -9,19 +9,26 @@ use Rattle.ms_ir.specs.declared.syntax.Decl.{Decl}
 use Rattle.ms_ir.specs.declared.forms.Form.{Form}
 use Rattle.ms_grammar.specs.declared.states.Parameters.{Parameters}
 use Rattle.ms_grammar.specs.declared.symbols.Symbol.TheVariants as s
-use Rattle.ms_grammar.specs.Functions.{body_behind, function_tail, parameters}
+use Rattle.ms_grammar.specs.Functions.{body_behind, function_tail, parameter_name, parameters, with_parameter}
 use Rattle.ms_grammar.specs.Insts.{names_printf}
 use Rattle.ms_grammar.specs.Lines.{blocks}
 use Rattle.ms_grammar.specs.Skipped.{attributes}
 use Rattle.ms_grammar.specs.Steps.{Rule, word}
+
+-- a parameter behind its attributes
+abbrev pub named_parameter : Form → Parameters → Ty → Rule Parameters
+named_parameter form ps type = parameter_name form ps.next >>= λ n. give (with_parameter ps type n)
+
+-- the types of the parameters of a declaration, behind these
+abbrev pub types_of : Form → Parameters → Rule (List Ty)
+types_of form ps = attributes form >> give (map (λ p. p.0) ps.found)
 
 -- the types of the parameters of a declaration, behind its name
 abbrev pub types_behind : Form → Name → Rule (List Ty)
 types_behind form function = do
   word s.OpenParen
   ps ← parameters form (names_printf function)
-  attributes form
-  give (map (λ p. p.0) ps.found)
+  types_of form ps
 
 -- a declaration behind its name
 unfoldable pub declared : Form → Option Ty → Name → Rule Decl

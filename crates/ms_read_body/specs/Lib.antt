@@ -5,3 +5,4 @@ pub mod Leaving
 pub mod Headed
 pub mod Words
 pub mod Beginnings
+pub mod Closing

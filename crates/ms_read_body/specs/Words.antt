@@ -8,23 +8,25 @@ use Rattle.ms_grammar.specs.declared.symbols.Symbol.TheVariants as s
 use Rattle.ms_grammar.specs.Insts.{alloca_rule, step_rule, store_rule}
 use Rattle.ms_grammar.specs.Lines.{marked_line, phi_line, call_line, effect_line}
 use Rattle.ms_grammar.specs.Steps.{Rule, refuse}
-use Rattle.ms_read_body.specs.declared.operation_rules.Operation.{Operation}
-use Rattle.ms_read_body.specs.declared.operation_rules.Operation.TheVariants as o
+use Rattle.ms_read_body.specs.declared.operation_rules.EffectOperation.{EffectOperation}
+use Rattle.ms_read_body.specs.declared.operation_rules.EffectOperation.TheVariants as effect
+use Rattle.ms_read_body.specs.declared.operation_rules.ValueOperation.{ValueOperation}
+use Rattle.ms_read_body.specs.declared.operation_rules.ValueOperation.TheVariants as value
 
 -- an operation with a result that takes any suffix
-abbrev pub value_operation : Symbol → Option Operation
-value_operation s.Icmp = Some o.Compare
-value_operation s.Select = Some o.Select
-value_operation s.Freeze = Some o.Freeze
-value_operation s.Load = Some o.Load
+abbrev pub value_operation : Symbol → Option ValueOperation
+value_operation s.Icmp = Some value.Compare
+value_operation s.Select = Some value.Select
+value_operation s.Freeze = Some value.Freeze
+value_operation s.Load = Some value.Load
 value_operation symbol = None
 
 -- a terminator
-abbrev pub end_operation : Symbol → Option Operation
-end_operation s.Br = Some o.Branch
-end_operation s.Switch = Some o.Switch
-end_operation s.Ret = Some o.Ret
-end_operation s.Unreachable = Some o.Unreachable
+abbrev pub end_operation : Symbol → Option EffectOperation
+end_operation s.Br = Some effect.Branch
+end_operation s.Switch = Some effect.Switch
+end_operation s.Ret = Some effect.Ret
+end_operation s.Unreachable = Some effect.Unreachable
 end_operation symbol = None
 
 -- behind any other word

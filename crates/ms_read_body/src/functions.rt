@@ -29,7 +29,20 @@ fn types_of(alloc: Global, parameters: &List<(Ty, Name)>) -> Result<List<Ty>, No
     Ok(List::from_vec(types))
 }
 
-/// Reads the types of the parameters of a declaration behind its name, and the attributes behind them.
+/// Reads the attributes behind the parameters of a declaration, and gives the types of these.
+fn types_of_read(
+    alloc: Global,
+    tokens: &mut Tokens<'_>,
+    form: Form,
+    parameters: &Parameters,
+) -> Result<List<Ty>, Refusal>
+    ensures { Gives (run (headed.types_of form parameters.now) tokens.old) result tokens.new }
+{
+    attributes(alloc, tokens, form)?;
+    Ok(types_of(alloc, &parameters.found)?)
+}
+
+/// Reads the parameters of a declaration behind its name, and the attributes behind them. Gives the types of the parameters.
 fn types_behind(
     alloc: Global,
     tokens: &mut Tokens<'_>,
@@ -40,8 +53,7 @@ fn types_behind(
 {
     tokens.word(Symbol::OpenParen)?;
     let parameters = parameters(alloc, tokens, form, names_printf(name))?;
-    attributes(alloc, tokens, form)?;
-    Ok(types_of(alloc, &parameters.found)?)
+    types_of_read(alloc, tokens, form, &parameters)
 }
 
 /// Reads a declaration behind its name.

@@ -5,12 +5,12 @@ ghost use Rattle.ms_grammar.specs.Insts.{alloca_rule as alloca_piece, step_rule 
 ghost use Rattle.ms_grammar.specs.Lines as spec;
 ghost use Rattle.ms_read_cursor.specs.Reading.{run};
 ghost use Rattle.ms_read_body.specs.Leaving.{Leaves};
-ghost use Rattle.ms_read_body.specs.Operations.{rule_of};
+ghost use Rattle.ms_read_body.specs.Operations.{effect_rule, value_rule};
 ghost use Rattle.ms_read_body.specs.Words as words;
 
 use crate::added::{add_call, add_effect, add_end, add_value};
 use crate::open_blocks::is_open;
-use crate::operation_rules::{Operation, OperationIn};
+use crate::operation_rules::{EffectIn, EffectOperation, ValueIn, ValueOperation};
 use ms_grammar::{Body, Refusal, Symbol};
 use ms_ir::{Form, Name};
 use ms_read_cursor::Tokens;
@@ -26,13 +26,13 @@ fn value_line(
     form: Form,
     body: &mut Body,
     name: &mut Option<Name>,
-    operation: Operation,
+    operation: ValueOperation,
 ) -> Result<(), Refusal>
     requires next { body.old.next + 1 < 2 ^ 32 }
     requires count { body.old.count + 1 < 2 ^ 32 }
-    ensures { Leaves (run (spec.value_line form body.old name.old (rule_of form operation)) tokens.old) result body.new tokens.new }
+    ensures { Leaves (run (spec.value_line form body.old name.old (value_rule form operation)) tokens.old) result body.new tokens.new }
 {
-    let read = with_suffixes(alloc, tokens, form, &OperationIn { form, operation })?;
+    let read = with_suffixes(alloc, tokens, form, &ValueIn { form, operation })?;
     Ok(add_value(alloc, body, name, false, read)?)
 }
 
@@ -113,12 +113,12 @@ fn effect_line(
     tokens: &mut Tokens<'_>,
     form: Form,
     body: &mut Body,
-    operation: Operation,
+    operation: EffectOperation,
 ) -> Result<(), Refusal>
     requires { body.old.count + 1 < 2 ^ 32 }
-    ensures { Leaves (run (spec.effect_line form body.old (rule_of form operation)) tokens.old) result body.new tokens.new }
+    ensures { Leaves (run (spec.effect_line form body.old (effect_rule form operation)) tokens.old) result body.new tokens.new }
 {
-    let read = with_suffixes(alloc, tokens, form, &OperationIn { form, operation })?;
+    let read = with_suffixes(alloc, tokens, form, &EffectIn { form, operation })?;
     Ok(add_effect(alloc, body, read)?)
 }
 
@@ -129,37 +129,37 @@ fn end_line(
     tokens: &mut Tokens<'_>,
     form: Form,
     body: &mut Body,
-    operation: Operation,
+    operation: EffectOperation,
 ) -> Result<(), Refusal>
     requires { body.old.count + 1 < 2 ^ 32 }
-    ensures { Leaves (run (spec.end_line form body.old (rule_of form operation)) tokens.old) result body.new tokens.new }
+    ensures { Leaves (run (spec.end_line form body.old (effect_rule form operation)) tokens.old) result body.new tokens.new }
 {
-    let read = with_suffixes(alloc, tokens, form, &OperationIn { form, operation })?;
+    let read = with_suffixes(alloc, tokens, form, &EffectIn { form, operation })?;
     Ok(add_end(alloc, body, read)?)
 }
 
 /// The operation that a word stands for, where it has a result and takes any suffix.
-fn value_operation(symbol: Symbol) -> Option<Operation>
+fn value_operation(symbol: Symbol) -> Option<ValueOperation>
     ensures { result ≡ words.value_operation symbol }
 {
     match symbol {
-        Symbol::Icmp => Some(Operation::Compare),
-        Symbol::Select => Some(Operation::Select),
-        Symbol::Freeze => Some(Operation::Freeze),
-        Symbol::Load => Some(Operation::Load),
+        Symbol::Icmp => Some(ValueOperation::Compare),
+        Symbol::Select => Some(ValueOperation::Select),
+        Symbol::Freeze => Some(ValueOperation::Freeze),
+        Symbol::Load => Some(ValueOperation::Load),
         _ => None,
     }
 }
 
 /// The terminator that a word stands for.
-fn end_operation(symbol: Symbol) -> Option<Operation>
+fn end_operation(symbol: Symbol) -> Option<EffectOperation>
     ensures { result ≡ words.end_operation symbol }
 {
     match symbol {
-        Symbol::Br => Some(Operation::Branch),
-        Symbol::Switch => Some(Operation::Switch),
-        Symbol::Ret => Some(Operation::Ret),
-        Symbol::Unreachable => Some(Operation::Unreachable),
+        Symbol::Br => Some(EffectOperation::Branch),
+        Symbol::Switch => Some(EffectOperation::Switch),
+        Symbol::Ret => Some(EffectOperation::Ret),
+        Symbol::Unreachable => Some(EffectOperation::Unreachable),
         _ => None,
     }
 }
@@ -180,7 +180,7 @@ fn further_instruction(
     match symbol {
         Symbol::Phi => phi_line(alloc, tokens, form, body, name),
         Symbol::Alloca => alloca_line(alloc, tokens, form, body, name),
-        Symbol::Store => effect_line(alloc, tokens, form, body, Operation::Store),
+        Symbol::Store => effect_line(alloc, tokens, form, body, EffectOperation::Store),
         Symbol::GetElementPtr => step_line(alloc, tokens, form, body, name),
         Symbol::Tail | Symbol::MustTail | Symbol::NoTail | Symbol::Call => {
             call_line(alloc, tokens, form, body, name, symbol)
@@ -231,10 +231,10 @@ pub fn instruction(
     ensures { Leaves (run (spec.instruction form body.old name.old symbol) tokens.old) result body.new tokens.new }
 {
     if let Some(op) = binary_op(symbol) {
-        return value_line(alloc, tokens, form, body, name, Operation::Binary(op));
+        return value_line(alloc, tokens, form, body, name, ValueOperation::Binary(op));
     }
     match cast_op(symbol) {
-        Some(op) => value_line(alloc, tokens, form, body, name, Operation::Cast(op)),
+        Some(op) => value_line(alloc, tokens, form, body, name, ValueOperation::Cast(op)),
         None => instruction_by(alloc, tokens, form, body, name, symbol),
     }
 }

@@ -1,12 +1,12 @@
 //! The lines of a body: labels, debug records and instructions (LLVM Language Reference, "Functions").
 
-ghost use Rattle.std.specs.Prelude.{◌≡◌, ◌<◌, ◌+◌, ◌^◌, IfOk, None, cond};
+ghost use Rattle.std.specs.Prelude.{◌≡◌, ◌<◌, ◌+◌, ◌^◌, IfOk, None, Some};
 ghost use Rattle.ms_grammar.specs.Bodies as bodies;
 ghost use Rattle.ms_grammar.specs.Lines as spec;
-ghost use Rattle.ms_grammar.specs.Steps.{refuse, word};
 ghost use Rattle.ms_read_cursor.specs.Reading.{Gives, Judges, run};
 ghost use Rattle.ms_read_body.specs.Beginnings as beginnings;
 ghost use Rattle.ms_read_body.specs.Leaving.{Leaves};
+ghost use Rattle.ms_read_body.specs.Closing.{closed as closed_piece};
 ghost use Rattle.ms_read_body.specs.Room.{HasRoom};
 
 use crate::instructions::instruction;
@@ -18,6 +18,7 @@ use ms_ir::{Block, Form, Name};
 use ms_read_cursor::{Lexeme, Tokens, Turn, repeat};
 use ms_read_values::balanced;
 use std::alloc::Global;
+use std::mem;
 
 /// Whether a word may stand behind a result's name.
 fn gives_value(phis: bool, symbol: Symbol) -> bool
@@ -87,25 +88,41 @@ fn result_name(alloc: Global, number: u32, token: &Lexeme<'_>) -> Result<Name, N
     }
 }
 
-/// Reads an instruction behind its result's name, in a block.
+/// Reads an instruction behind its first word, whose result has the name that a token is.
+fn named_instruction(
+    alloc: Global,
+    tokens: &mut Tokens<'_>,
+    form: Form,
+    body: &mut Body,
+    name: &Lexeme<'_>,
+    symbol: Symbol,
+) -> Result<(), Refusal>
+    requires next { body.old.next + 1 < 2 ^ 32 }
+    requires count { body.old.count + 1 < 2 ^ 32 }
+    ensures { Leaves (run (spec.instruction form body.old (Some (beginnings.result_name body.old.next name.now.symbol name.now)) symbol) tokens.old) result body.new tokens.new }
+{
+    let name = result_name(alloc, body.next, name)?;
+    instruction(alloc, tokens, form, body, &mut Some(name), symbol)
+}
+
+/// Reads an instruction behind its result's name, which is a token, in a block.
 #[tactic(auto, unfolding(ms_grammar::specs::Lines::named_line))]
 fn named_line(
     alloc: Global,
     tokens: &mut Tokens<'_>,
     form: Form,
     body: &mut Body,
-    first: &Lexeme<'_>,
+    name: &Lexeme<'_>,
 ) -> Result<(), Refusal>
     requires next { body.old.next + 2 < 2 ^ 32 }
     requires count { body.old.count + 1 < 2 ^ 32 }
-    ensures { Leaves (run (spec.named_line form (bodies.opened body.old) (beginnings.result_name (bodies.opened body.old).next first.now.symbol first.now)) tokens.old) result body.new tokens.new }
+    ensures { Leaves (run (spec.named_line form (bodies.opened body.old) (beginnings.result_name (bodies.opened body.old).next name.now.symbol name.now)) tokens.old) result body.new tokens.new }
 {
     open(alloc, body);
     tokens.word(Symbol::Equals)?;
     let symbol = value_word_of(body.phis, &tokens.lexeme())?;
     tokens.advance();
-    let name = result_name(alloc, body.next, first)?;
-    instruction(alloc, tokens, form, body, &mut Some(name), symbol)
+    named_instruction(alloc, tokens, form, body, name, symbol)
 }
 
 /// Reads an instruction behind its first word, in a block, where no name stands in front of it.
@@ -179,15 +196,15 @@ impl Turn for EachLine {
     }
 }
 
-/// Takes the brace behind the blocks of a body, where one stands and none is open.
-fn closing_brace(tokens: &mut Tokens<'_>, body: &Body) -> Result<(), Refusal>
-    ensures { Gives (run (cond (spec.is_whole body.now) (word Symbol.CloseBrace) refuse) tokens.old) result tokens.new }
+/// Takes the brace behind the blocks of a body, where one stands and none is open, and gives the blocks.
+fn closed(alloc: Global, tokens: &mut Tokens<'_>, body: &mut Body) -> Result<List<Block>, Refusal>
+    ensures { Gives (run (closed_piece body.old) tokens.old) result tokens.new }
 {
     if is_open(&body.name) || body.blocks.as_slice().is_empty() {
-        Err(tokens.refusal())
-    } else {
-        tokens.word(Symbol::CloseBrace)
+        return Err(tokens.refusal());
     }
+    tokens.word(Symbol::CloseBrace)?;
+    Ok(mem::replace(&mut body.blocks, List::from_vec(Vec::new(alloc))))
 }
 
 /// Reads the blocks of a function behind `{`, up to and with `}`, from a body that none has begun in.
@@ -196,7 +213,7 @@ fn closing_brace(tokens: &mut Tokens<'_>, body: &Body) -> Result<(), Refusal>
 ///
 /// At the first token that can't stand: those of `line_begins` at the first token of a line, those of the lines, and
 /// `Syntax` or `Outside` where a block is open that no terminator has ended, or where no block stands.
-#[tactic(auto, using(crate::proofs::Closed::closed_reads, crate::proofs::Closed::closed_stops), unfolding(ms_grammar::specs::Lines::blocks))]
+#[tactic(auto, unfolding(ms_grammar::specs::Lines::blocks))]
 pub fn blocks(
     alloc: Global,
     tokens: &mut Tokens<'_>,
@@ -205,8 +222,6 @@ pub fn blocks(
 ) -> Result<List<Block>, Refusal>
     ensures { Gives (run (spec.blocks form start) tokens.old) result tokens.new }
 {
-    let body = repeat(alloc, tokens, &EachLine { form }, start)?;
-    closing_brace(tokens, &body)?;
-    let Body { blocks, .. } = body;
-    Ok(blocks)
+    let mut body = repeat(alloc, tokens, &EachLine { form }, start)?;
+    closed(alloc, tokens, &mut body)
 }

@@ -20,15 +20,20 @@ fn unreachable(alloc: Global) -> Result<Boxed<Op>, NoMemory>
     Boxed::new(alloc, Op::Unreachable)
 }
 
-/// What a word stands for.
+/// An operation with a result.
 #[derive(Clone, Copy)]
-pub enum Operation {
+pub enum ValueOperation {
     Binary(BinOp),
     Cast(CastOp),
     Compare,
     Select,
     Freeze,
     Load,
+}
+
+/// An operation without a result: a store or a terminator.
+#[derive(Clone, Copy)]
+pub enum EffectOperation {
     Store,
     Branch,
     Switch,
@@ -36,33 +41,53 @@ pub enum Operation {
     Unreachable,
 }
 
-/// An operation in a form of the text.
+/// An operation with a result, in a form of the text.
 #[derive(Clone, Copy)]
-pub struct OperationIn {
+pub struct ValueIn {
     pub form: Form,
-    pub operation: Operation,
+    pub operation: ValueOperation,
 }
 
-impl Rule for OperationIn {
+impl Rule for ValueIn {
     type Value = Boxed<Op>;
 
-    ghost use Rattle.ms_read_body.specs.Operations.{rule_of};
+    ghost use Rattle.ms_read_body.specs.Operations.{value_rule};
 
-    ghost piece = { λ rule. rule_of rule.form rule.operation };
+    ghost piece = { λ rule. value_rule rule.form rule.operation };
 
     fn read(&self, alloc: Global, tokens: &mut Tokens<'_>) -> Result<Boxed<Op>, Refusal> {
         match self.operation {
-            Operation::Binary(op) => binary_rule(alloc, tokens, self.form, op),
-            Operation::Cast(op) => cast_rule(alloc, tokens, self.form, op),
-            Operation::Compare => compare_rule(alloc, tokens, self.form),
-            Operation::Select => select_rule(alloc, tokens, self.form),
-            Operation::Freeze => freeze_rule(alloc, tokens, self.form),
-            Operation::Load => load_rule(alloc, tokens, self.form),
-            Operation::Store => store_rule(alloc, tokens, self.form),
-            Operation::Branch => branch_rule(alloc, tokens, self.form),
-            Operation::Switch => switch_rule(alloc, tokens, self.form),
-            Operation::Ret => ret_rule(alloc, tokens, self.form),
-            Operation::Unreachable => Ok(unreachable(alloc)?),
+            ValueOperation::Binary(op) => binary_rule(alloc, tokens, self.form, op),
+            ValueOperation::Cast(op) => cast_rule(alloc, tokens, self.form, op),
+            ValueOperation::Compare => compare_rule(alloc, tokens, self.form),
+            ValueOperation::Select => select_rule(alloc, tokens, self.form),
+            ValueOperation::Freeze => freeze_rule(alloc, tokens, self.form),
+            ValueOperation::Load => load_rule(alloc, tokens, self.form),
+        }
+    }
+}
+
+/// An operation without a result, in a form of the text.
+#[derive(Clone, Copy)]
+pub struct EffectIn {
+    pub form: Form,
+    pub operation: EffectOperation,
+}
+
+impl Rule for EffectIn {
+    type Value = Boxed<Op>;
+
+    ghost use Rattle.ms_read_body.specs.Operations.{effect_rule};
+
+    ghost piece = { λ rule. effect_rule rule.form rule.operation };
+
+    fn read(&self, alloc: Global, tokens: &mut Tokens<'_>) -> Result<Boxed<Op>, Refusal> {
+        match self.operation {
+            EffectOperation::Store => store_rule(alloc, tokens, self.form),
+            EffectOperation::Branch => branch_rule(alloc, tokens, self.form),
+            EffectOperation::Switch => switch_rule(alloc, tokens, self.form),
+            EffectOperation::Ret => ret_rule(alloc, tokens, self.form),
+            EffectOperation::Unreachable => Ok(unreachable(alloc)?),
         }
     }
 }

@@ -5,6 +5,7 @@ ghost use Rattle.std.specs.Prelude.{◌≡◌, ◌<◌, IfOk, OnOk};
 ghost use Rattle.ms_grammar.specs.Functions as spec;
 ghost use Rattle.ms_grammar.specs.Types as types;
 ghost use Rattle.ms_read_cursor.specs.Reading.{Gives, Judges, run};
+ghost use Rattle.ms_read_body.specs.Headed.{named_parameter as named_piece};
 ghost use Rattle.ms_read_body.specs.Leaving.{Leaves};
 
 use crate::lists::push;
@@ -109,6 +110,21 @@ fn add(
     push(alloc, &mut parameters.found, (ty.ty(), name))
 }
 
+/// Reads the name of a parameter, or nothing, and adds the parameter to the others.
+fn add_named(
+    alloc: Global,
+    tokens: &mut Tokens<'_>,
+    form: Form,
+    parameters: &mut Parameters,
+    ty: ValueType,
+) -> Result<(), Refusal>
+    requires { parameters.old.next < 100 }
+    ensures { Leaves (run (named_piece form parameters.old ty) tokens.old) result parameters.new tokens.new }
+{
+    let name = parameter_name(alloc, tokens, form, parameters.next)?;
+    Ok(add(alloc, parameters, ty, name)?)
+}
+
 /// Reads a parameter that isn't dots, and adds it to the others: its type, attributes, and its name or nothing.
 #[tactic(auto, unfolding(ms_grammar::specs::Functions::typed_parameter))]
 fn typed_parameter(
@@ -122,8 +138,7 @@ fn typed_parameter(
     let ty = parameter_type_of(parameters, &tokens.lexeme())?;
     tokens.advance();
     attributes(alloc, tokens, form)?;
-    let name = parameter_name(alloc, tokens, form, parameters.next)?;
-    Ok(add(alloc, parameters, ty, name)?)
+    add_named(alloc, tokens, form, parameters, ty)
 }
 
 /// Whether a type is `ptr`.
