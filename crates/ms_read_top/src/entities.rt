@@ -3,7 +3,8 @@
 ghost use Rattle.std.specs.Prelude.{◌≡◌, ◌≤◌, IfOk, Ok, true};
 ghost use Rattle.ms_grammar.specs.Bodies.{max_instructions};
 ghost use Rattle.ms_grammar.specs.Modules as spec;
-ghost use Rattle.ms_read_cursor.specs.Reading.{Gives, run};
+ghost use Rattle.ms_read_top.specs.Leaving.{Leaves};
+ghost use Rattle.ms_read_cursor.specs.Reading.{run};
 
 use crate::function_entities::{declaration_entity, function_entity};
 use crate::other_entities::other_entity;
@@ -12,19 +13,19 @@ use ms_ir::Form;
 use ms_read_cursor::{Lexeme, Tokens};
 use std::alloc::Global;
 
-/// Reads an entity behind its first token, with which it may begin. Gives the parts with what it adds to them.
+/// Reads an entity behind its first token, with which it may begin, and adds it to the parts.
 #[tactic(auto, unfolding(ms_grammar::specs::Modules::entity))]
 pub fn entity(
     alloc: Global,
     tokens: &mut Tokens<'_>,
     form: Form,
-    parts: Parts,
+    parts: &mut Parts,
     first: &Lexeme<'_>,
-) -> Result<Parts, Refusal>
-    requires begins { spec.entity_begins form parts first.now ≡ Ok true }
-    requires few { parts.count ≤ max_instructions form }
-    ensures exact { Gives (run (spec.entity form parts first.now) tokens.old) result tokens.new }
-    ensures few { IfOk result (λ p. p.count ≤ max_instructions form) }
+) -> Result<(), Refusal>
+    requires begins { spec.entity_begins form parts.old first.now ≡ Ok true }
+    requires few { parts.old.count ≤ max_instructions form }
+    ensures exact { Leaves (run (spec.entity form parts.old first.now) tokens.old) result parts.new tokens.new }
+    ensures few { IfOk result (λ _. parts.new.count ≤ max_instructions form) }
 {
     match first.symbol() {
         Symbol::Declare => declaration_entity(alloc, tokens, form, parts),

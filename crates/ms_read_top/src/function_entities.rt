@@ -5,14 +5,16 @@ ghost use Rattle.ms_lex.specs.Grammar.{give, seq};
 ghost use Rattle.ms_grammar.specs.Bodies.{max_instructions};
 ghost use Rattle.ms_grammar.specs.Functions.{declaration as declaration_piece, function as function_piece};
 ghost use Rattle.ms_grammar.specs.Modules as spec;
-ghost use Rattle.ms_read_cursor.specs.Reading.{Gives, run};
+ghost use Rattle.ms_read_top.specs.Leaving.{Leaves};
+ghost use Rattle.ms_read_cursor.specs.Reading.{run};
 
-use crate::more_parts::with_declaration;
+use crate::lists::push;
+use crate::more_parts::add_declaration;
 use ms_bits::NoMemory;
 use ms_grammar::{Parts, Refusal};
-use ms_ir::{Block, Form, Func, Module};
+use ms_ir::{Block, Form, Func};
 use ms_read_body::{declaration, function};
-use ms_read_cursor::{Tokens, with_last};
+use ms_read_cursor::Tokens;
 use std::alloc::Global;
 
 /// How many instructions these blocks have.
@@ -29,49 +31,41 @@ fn instructions_of(blocks: &[Block]) -> u32
     count
 }
 
-/// One function more, with its instructions. The one error is want of memory.
-fn with_function(parts: Parts, found: Func) -> Result<Parts, NoMemory>
-    requires { parts.count + spec.instructions_of found.blocks ≤ 2 ^ 22 }
-    ensures { IfOk result (λ p. p ≡ spec.with_function parts found) }
+/// Adds a function, with its instructions. The one error is want of memory.
+fn add_function(alloc: Global, parts: &mut Parts, found: Func) -> Result<(), NoMemory>
+    requires { parts.old.count + spec.instructions_of found.blocks ≤ 2 ^ 22 }
+    ensures { IfOk result (λ _. parts.new ≡ spec.with_function parts.old found) }
 {
-    let count = parts.count + instructions_of(found.blocks.as_slice());
-    let module = parts.module;
-    let funcs = with_last(module.funcs, found)?;
-    let module = Module {
-        types: module.types,
-        globals: module.globals,
-        decls: module.decls,
-        funcs,
-    };
-    Ok(Parts { module, count })
+    parts.count += instructions_of(found.blocks.as_slice());
+    push(alloc, &mut parts.module.funcs, found)
 }
 
-/// One function more, behind `define`.
+/// Reads a function behind `define`, and adds it to the parts.
 #[tactic(auto, using(crate::proofs::Few::function_few, crate::proofs::Few::most))]
 pub fn function_entity(
     alloc: Global,
     tokens: &mut Tokens<'_>,
     form: Form,
-    parts: Parts,
-) -> Result<Parts, Refusal>
-    requires { parts.count ≤ max_instructions form }
-    ensures exact { Gives (run (seq (function_piece form parts.count) (λ f. give (spec.with_function parts f))) tokens.old) result tokens.new }
-    ensures few { IfOk result (λ p. p.count ≤ max_instructions form) }
+    parts: &mut Parts,
+) -> Result<(), Refusal>
+    requires { parts.old.count ≤ max_instructions form }
+    ensures exact { Leaves (run (seq (function_piece form parts.old.count) (λ f. give (spec.with_function parts.old f))) tokens.old) result parts.new tokens.new }
+    ensures few { IfOk result (λ _. parts.new.count ≤ max_instructions form) }
 {
     let found = function(alloc, tokens, form, parts.count)?;
-    Ok(with_function(parts, found)?)
+    Ok(add_function(alloc, parts, found)?)
 }
 
-/// One declaration more, behind `declare`.
+/// Reads a declaration behind `declare`, and adds it to the parts.
 pub fn declaration_entity(
     alloc: Global,
     tokens: &mut Tokens<'_>,
     form: Form,
-    parts: Parts,
-) -> Result<Parts, Refusal>
-    ensures exact { Gives (run (seq (declaration_piece form) (λ d. give (spec.with_declaration parts d))) tokens.old) result tokens.new }
-    ensures count { IfOk result (λ p. p.count ≡ parts.count) }
+    parts: &mut Parts,
+) -> Result<(), Refusal>
+    ensures exact { Leaves (run (seq (declaration_piece form) (λ d. give (spec.with_declaration parts.old d))) tokens.old) result parts.new tokens.new }
+    ensures count { IfOk result (λ _. parts.new.count ≡ parts.old.count) }
 {
     let found = declaration(alloc, tokens, form)?;
-    Ok(with_declaration(parts, found)?)
+    Ok(add_declaration(alloc, parts, found)?)
 }

@@ -1,14 +1,18 @@
 //! Global variables (LLVM Language Reference, "Global Variables").
 
-ghost use Rattle.std.specs.Prelude.{true};
+ghost use Rattle.std.specs.Prelude.{◌≡◌, IfOk, true};
 ghost use Rattle.ms_lex.specs.Grammar.{give, loop};
+ghost use Rattle.ms_grammar.specs.Lexemes.{name_in};
 ghost use Rattle.ms_grammar.specs.Modules as spec;
 ghost use Rattle.ms_grammar.specs.Steps.{comma_begins};
+ghost use Rattle.ms_grammar.specs.Types.{max_depth};
+ghost use Rattle.ms_grammar.specs.Values.{init_to as init_piece};
 ghost use Rattle.ms_read_cursor.specs.Reading.{Gives, Judges, front, run};
+ghost use Rattle.ms_read_top.specs.Globals as globals;
 
-use ms_bits::Boxed;
+use ms_bits::{Boxed, NoMemory};
 use ms_grammar::{Outside, Refusal, Symbol};
-use ms_ir::{Form, GlobalVar, Name};
+use ms_ir::{Form, GlobalVar, Init, Name, Ty};
 use ms_read_cursor::{Lexeme, Tokens, Turn, repeat};
 use ms_read_values::{boxed_type, init_to, is_attribute_word, kind_of, meta};
 use std::alloc::Global;
@@ -92,7 +96,7 @@ struct EachSuffix {
 impl Turn for EachSuffix {
     type State = ();
 
-    ghost use Rattle.std.specs.Prelude.{true};
+    ghost use Rattle.std.specs.Prelude.{◌≡◌, IfOk, true};
     ghost use Rattle.ms_grammar.specs.Modules.{global_suffix};
     ghost use Rattle.ms_grammar.specs.Steps.{comma_begins};
 
@@ -115,7 +119,71 @@ impl Turn for EachSuffix {
     }
 }
 
-/// Reads a global of this name, behind the name: words of linkage, `global` or `constant`, its type, its initial value,
+/// Reads the initial value of a global of this type onto the heap.
+fn boxed_init(
+    alloc: Global,
+    tokens: &mut Tokens<'_>,
+    form: Form,
+    ty: &Ty,
+) -> Result<Boxed<Init>, Refusal>
+    ensures { Gives (run (init_piece form max_depth ty.now) tokens.old) result tokens.new }
+{
+    let init = init_to(alloc, tokens, form, MAX_DEPTH, ty)?;
+    Ok(Boxed::new(alloc, init)?)
+}
+
+/// The global of the name that a token is. The one error is want of memory.
+fn global_of(
+    alloc: Global,
+    name: &Lexeme<'_>,
+    constant: bool,
+    ty: Boxed<Ty>,
+    init: Boxed<Init>,
+) -> Result<Boxed<GlobalVar>, NoMemory>
+    ensures { IfOk result (λ g. g ≡ record { name = Name.Text (name_in name.now); constant = constant; ty = ty; init = init }) }
+{
+    let text = name.name(alloc)?;
+    let found = GlobalVar {
+        name: Name::Text(text),
+        constant,
+        ty: ty.into_inner(),
+        init: init.into_inner(),
+    };
+    Boxed::new(alloc, found)
+}
+
+/// Reads what may stand behind the initial value of a global, and gives the global.
+fn suffixed_global(
+    alloc: Global,
+    tokens: &mut Tokens<'_>,
+    form: Form,
+    name: &Lexeme<'_>,
+    constant: bool,
+    ty: Boxed<Ty>,
+    init: Boxed<Init>,
+) -> Result<Boxed<GlobalVar>, Refusal>
+    ensures { Gives (run (globals.suffixed_global form (Name.Text (name_in name.now)) constant ty init) tokens.old) result tokens.new }
+{
+    repeat(alloc, tokens, &EachSuffix { form }, ())?;
+    Ok(global_of(alloc, name, constant, ty, init)?)
+}
+
+/// Reads a global behind `global` or `constant`.
+fn typed_global(
+    alloc: Global,
+    tokens: &mut Tokens<'_>,
+    form: Form,
+    name: &Lexeme<'_>,
+    constant: bool,
+) -> Result<Boxed<GlobalVar>, Refusal>
+    ensures { Gives (run (globals.typed_global form (Name.Text (name_in name.now)) constant) tokens.old) result tokens.new }
+{
+    let ty = boxed_type(alloc, tokens, form, MAX_DEPTH)?;
+    let init = boxed_init(alloc, tokens, form, ty.get())?;
+    suffixed_global(alloc, tokens, form, name, constant, ty, init)
+}
+
+/// Reads a global behind its name, which is a token: words of linkage, `global` or `constant`, its type, its initial value,
 /// and what may stand behind them.
 ///
 /// # Errors
@@ -127,22 +195,13 @@ pub fn global_variable(
     alloc: Global,
     tokens: &mut Tokens<'_>,
     form: Form,
-    name: Name,
+    name: &Lexeme<'_>,
 ) -> Result<Boxed<GlobalVar>, Refusal>
-    ensures { Gives (run (spec.global_variable form name) tokens.old) result tokens.new }
+    ensures { Gives (run (spec.global_variable form (Name.Text (name_in name.now))) tokens.old) result tokens.new }
 {
     tokens.word(Symbol::Equals)?;
     repeat(alloc, tokens, &EachLinkageWord {}, ())?;
     let constant = global_kind_of(&tokens.lexeme())?;
     tokens.advance();
-    let ty = boxed_type(alloc, tokens, form, MAX_DEPTH)?;
-    let init = Boxed::new(alloc, init_to(alloc, tokens, form, MAX_DEPTH, ty.get())?)?;
-    repeat(alloc, tokens, &EachSuffix { form }, ())?;
-    let found = GlobalVar {
-        name,
-        constant,
-        ty: ty.into_inner(),
-        init: init.into_inner(),
-    };
-    Ok(Boxed::new(alloc, found)?)
+    typed_global(alloc, tokens, form, name, constant)
 }

@@ -1,9 +1,12 @@
 //! Modules (LLVM Language Reference, "Module Structure").
 
-ghost use Rattle.std.specs.Prelude.{◌≡◌};
+ghost use Rattle.std.specs.Prelude.{◌≡◌, ◌≤◌};
 ghost use Rattle.ms_lex.specs.Grammar.{loop};
+ghost use Rattle.ms_grammar.specs.Bodies.{max_instructions};
 ghost use Rattle.ms_grammar.specs.Modules as spec;
 ghost use Rattle.ms_read_cursor.specs.Reading.{Gives, Judges, run};
+ghost use Rattle.ms_read_top.specs.Behind as behind;
+ghost use Rattle.ms_read_top.specs.Leaving.{Leaves};
 
 use crate::entities::entity;
 use crate::entity_starts::entity_begins;
@@ -26,21 +29,26 @@ fn no_parts(alloc: Global) -> Parts
     Parts { module, count: 0 }
 }
 
-/// Entity after entity, as long as the next token begins one.
+/// Reads entity after entity, as long as the next token begins one, and adds them to the parts.
 #[tactic(auto, using(ms_lex::proofs::Loops::loop_goes, ms_lex::proofs::Loops::loop_ends, ms_lex::proofs::Loops::loop_stops, ms_lex::proofs::Loops::loop_moves, ms_lex::proofs::Loops::loop_all))]
-fn entities(alloc: Global, tokens: &mut Tokens<'_>, form: Form) -> Result<Parts, Refusal>
-    ensures { Gives (run (loop (spec.entity_begins form) (spec.entity form) spec.no_parts) tokens.old) result tokens.new }
+fn entities(
+    alloc: Global,
+    tokens: &mut Tokens<'_>,
+    form: Form,
+    parts: &mut Parts,
+) -> Result<(), Refusal>
+    requires { parts.old.count ≤ max_instructions form }
+    ensures { Leaves (run (loop (spec.entity_begins form) (spec.entity form) parts.old) tokens.old) result parts.new tokens.new }
 {
-    let mut parts = no_parts(alloc);
     'entities: while tokens.left() > 0 {
         let first = tokens.lexeme();
-        if !entity_begins(alloc, form, &parts, &first)? {
-            return Ok(parts);
+        if !entity_begins(alloc, form, parts, &first)? {
+            return Ok(());
         }
         tokens.advance();
-        parts = entity(alloc, tokens, form, parts, &first)?;
+        entity(alloc, tokens, form, parts, &first)?;
     }
-    Ok(parts)
+    Ok(())
 }
 
 /// The end of the text, and nothing else.
@@ -54,6 +62,14 @@ fn end_of(token: &Lexeme<'_>) -> Result<(), Refusal>
     }
 }
 
+/// Gives the module of these parts, where the text ends.
+fn ended(tokens: &Tokens<'_>, parts: Parts) -> Result<Module, Refusal>
+    ensures { Gives (run (behind.ended parts) tokens.now) result tokens.now }
+{
+    end_of(&tokens.lexeme())?;
+    Ok(parts.module)
+}
+
 /// Reads a module up to the end of its text.
 ///
 /// # Errors
@@ -64,7 +80,7 @@ fn end_of(token: &Lexeme<'_>) -> Result<(), Refusal>
 pub fn whole_module(alloc: Global, tokens: &mut Tokens<'_>, form: Form) -> Result<Module, Refusal>
     ensures { Gives (run (spec.module_rule form) tokens.old) result tokens.new }
 {
-    let parts = entities(alloc, tokens, form)?;
-    end_of(&tokens.lexeme())?;
-    Ok(parts.module)
+    let mut parts = no_parts(alloc);
+    entities(alloc, tokens, form, &mut parts)?;
+    ended(tokens, parts)
 }

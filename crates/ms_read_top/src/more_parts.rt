@@ -3,61 +3,29 @@
 ghost use Rattle.std.specs.Prelude.{◌≡◌, IfOk};
 ghost use Rattle.ms_grammar.specs.Modules as spec;
 
+use crate::lists::push;
 use ms_bits::NoMemory;
 use ms_grammar::Parts;
-use ms_ir::{Decl, GlobalVar, Module, Name, Ty};
-use ms_read_cursor::with_last;
+use ms_ir::{Decl, GlobalVar, Name, Ty};
+use std::alloc::Global;
 
-/// One named type more. The one error is want of memory.
-pub fn with_type(parts: Parts, ty: (Name, Ty)) -> Result<Parts, NoMemory>
-    ensures { IfOk result (λ p. p ≡ spec.with_type parts ty) }
+/// Adds a named type. The one error is want of memory.
+pub fn add_type(alloc: Global, parts: &mut Parts, ty: (Name, Ty)) -> Result<(), NoMemory>
+    ensures { IfOk result (λ _. parts.new ≡ spec.with_type parts.old ty) }
 {
-    let module = parts.module;
-    let types = with_last(module.types, ty)?;
-    let module = Module {
-        types,
-        globals: module.globals,
-        decls: module.decls,
-        funcs: module.funcs,
-    };
-    Ok(Parts {
-        module,
-        count: parts.count,
-    })
+    push(alloc, &mut parts.module.types, ty)
 }
 
-/// One global more. The one error is want of memory.
-pub fn with_global(parts: Parts, global: GlobalVar) -> Result<Parts, NoMemory>
-    ensures { IfOk result (λ p. p ≡ spec.with_global parts global) }
+/// Adds a global. The one error is want of memory.
+pub fn add_global(alloc: Global, parts: &mut Parts, global: GlobalVar) -> Result<(), NoMemory>
+    ensures { IfOk result (λ _. parts.new ≡ spec.with_global parts.old global) }
 {
-    let module = parts.module;
-    let globals = with_last(module.globals, global)?;
-    let module = Module {
-        types: module.types,
-        globals,
-        decls: module.decls,
-        funcs: module.funcs,
-    };
-    Ok(Parts {
-        module,
-        count: parts.count,
-    })
+    push(alloc, &mut parts.module.globals, global)
 }
 
-/// One declaration more. The one error is want of memory.
-pub fn with_declaration(parts: Parts, declaration: Decl) -> Result<Parts, NoMemory>
-    ensures { IfOk result (λ p. p ≡ spec.with_declaration parts declaration) }
+/// Adds a declaration. The one error is want of memory.
+pub fn add_declaration(alloc: Global, parts: &mut Parts, declaration: Decl) -> Result<(), NoMemory>
+    ensures { IfOk result (λ _. parts.new ≡ spec.with_declaration parts.old declaration) }
 {
-    let module = parts.module;
-    let decls = with_last(module.decls, declaration)?;
-    let module = Module {
-        types: module.types,
-        globals: module.globals,
-        decls,
-        funcs: module.funcs,
-    };
-    Ok(Parts {
-        module,
-        count: parts.count,
-    })
+    push(alloc, &mut parts.module.decls, declaration)
 }

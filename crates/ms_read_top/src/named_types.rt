@@ -2,12 +2,27 @@
 
 ghost use Rattle.ms_grammar.specs.Modules as spec;
 ghost use Rattle.ms_read_cursor.specs.Reading.{Gives, run};
+ghost use Rattle.ms_read_top.specs.Behind as behind;
 
+use ms_bits::Boxed;
 use ms_grammar::{Refusal, Symbol};
 use ms_ir::{Form, Name, Ty};
 use ms_read_cursor::Tokens;
 use ms_read_values::struct_type;
 use std::alloc::Global;
+
+/// Reads the struct that a type of this name is, behind `type`.
+fn named_struct(
+    alloc: Global,
+    tokens: &mut Tokens<'_>,
+    form: Form,
+    name: Name,
+) -> Result<Boxed<(Name, Ty)>, Refusal>
+    ensures { Gives (run (behind.named_struct form name) tokens.old) result tokens.new }
+{
+    let ty = struct_type(alloc, tokens, form)?;
+    Ok(Boxed::new(alloc, (name, ty))?)
+}
 
 /// Reads `=`, `type` and the struct that a type of this name is, behind the name.
 ///
@@ -20,11 +35,10 @@ pub fn named_type(
     tokens: &mut Tokens<'_>,
     form: Form,
     name: Name,
-) -> Result<(Name, Ty), Refusal>
+) -> Result<Boxed<(Name, Ty)>, Refusal>
     ensures { Gives (run (spec.named_type form name) tokens.old) result tokens.new }
 {
     tokens.word(Symbol::Equals)?;
     tokens.word(Symbol::TypeWord)?;
-    let ty = struct_type(alloc, tokens, form)?;
-    Ok((name, ty))
+    named_struct(alloc, tokens, form, name)
 }

@@ -2,16 +2,19 @@
 
 ghost use Rattle.std.specs.Prelude.{◌≡◌, ◌≢◌, IfOk, Ok, true};
 ghost use Rattle.ms_lex.specs.Grammar.{give, seq};
+ghost use Rattle.ms_grammar.specs.Lexemes.{name_in};
 ghost use Rattle.ms_grammar.specs.Modules as spec;
 ghost use Rattle.ms_grammar.specs.Names as names;
 ghost use Rattle.ms_grammar.specs.Steps.{judge_map};
+ghost use Rattle.ms_read_top.specs.Leaving.{Leaves};
 ghost use Rattle.ms_read_cursor.specs.Reading.{Gives, Judges, run};
+ghost use Rattle.ms_read_top.specs.Behind as behind;
 ghost use Rattle.ms_read_top.specs.TypeNames.{type_name as name_of_type};
 
 use crate::global_variables::global_variable;
 use crate::left_out::{source_filename, target_entity};
 use crate::metadata_nodes::{attribute_group, metadata_entity};
-use crate::more_parts::{with_global, with_type};
+use crate::more_parts::{add_global, add_type};
 use crate::named_types::named_type;
 use ms_grammar::{Parts, Refusal, Symbol};
 use ms_ir::{Form, Name};
@@ -27,38 +30,51 @@ fn type_name(alloc: Global, form: Form, token: &Lexeme<'_>) -> Result<Name, Refu
     local_by(alloc, form, token)
 }
 
-/// One named type more, behind its name.
+/// Reads a named type behind its name, which is a token, and adds it to the parts.
 fn type_entity(
     alloc: Global,
     tokens: &mut Tokens<'_>,
     form: Form,
-    parts: Parts,
-    name: Name,
-) -> Result<Parts, Refusal>
-    ensures exact { Gives (run (seq (spec.named_type form name) (λ x. give (spec.with_type parts x))) tokens.old) result tokens.new }
-    ensures count { IfOk result (λ p. p.count ≡ parts.count) }
+    parts: &mut Parts,
+    name: &Lexeme<'_>,
+) -> Result<(), Refusal>
+    requires { judge_map (λ n. true) (names.local_by form name.now.symbol name.now) ≡ Ok true }
+    ensures exact { Leaves (run (seq (spec.named_type form (name_of_type name.now.symbol name.now)) (λ x. give (spec.with_type parts.old x))) tokens.old) result parts.new tokens.new }
+    ensures count { IfOk result (λ _. parts.new.count ≡ parts.old.count) }
 {
+    let name = type_name(alloc, form, name)?;
     let ty = named_type(alloc, tokens, form, name)?;
-    Ok(with_type(parts, ty)?)
+    Ok(add_type(alloc, parts, ty.into_inner())?)
 }
 
-/// One global more, behind its name.
+/// Reads a global behind its name, which is a token, and adds it to the parts.
 fn global_entity(
     alloc: Global,
     tokens: &mut Tokens<'_>,
     form: Form,
-    parts: Parts,
-    name: Name,
-) -> Result<Parts, Refusal>
-    ensures exact { Gives (run (seq (spec.global_variable form name) (λ g. give (spec.with_global parts g))) tokens.old) result tokens.new }
-    ensures count { IfOk result (λ p. p.count ≡ parts.count) }
+    parts: &mut Parts,
+    name: &Lexeme<'_>,
+) -> Result<(), Refusal>
+    ensures exact { Leaves (run (seq (spec.global_variable form (Name.Text (name_in name.now))) (λ g. give (spec.with_global parts.old g))) tokens.old) result parts.new tokens.new }
+    ensures count { IfOk result (λ _. parts.new.count ≡ parts.old.count) }
 {
     let global = global_variable(alloc, tokens, form, name)?;
-    Ok(with_global(parts, global.into_inner())?)
+    Ok(add_global(alloc, parts, global.into_inner())?)
 }
 
-/// Reads an entity that is neither a function nor a declaration, behind its first token, with which it may begin. Gives the
-/// parts with what it adds to them.
+/// Reads what says nothing of a module's values, behind its word: its source, its target or a group of attributes.
+fn heading(alloc: Global, tokens: &mut Tokens<'_>, form: Form, word: Symbol) -> Result<(), Refusal>
+    ensures { Gives (run (behind.heading form word) tokens.old) result tokens.new }
+{
+    match word {
+        Symbol::SourceFilename => source_filename(tokens),
+        Symbol::Target => target_entity(tokens),
+        _ => attribute_group(alloc, tokens, form),
+    }
+}
+
+/// Reads an entity that is neither a function nor a declaration, behind its first token, with which it may begin, and adds it
+/// to the parts.
 ///
 /// # Errors
 ///
@@ -69,39 +85,25 @@ pub fn other_entity(
     alloc: Global,
     tokens: &mut Tokens<'_>,
     form: Form,
-    parts: Parts,
+    parts: &mut Parts,
     first: &Lexeme<'_>,
-) -> Result<Parts, Refusal>
-    requires begins { spec.entity_begins form parts first.now ≡ Ok true }
+) -> Result<(), Refusal>
+    requires begins { spec.entity_begins form parts.old first.now ≡ Ok true }
     requires no_declaration { first.now.symbol ≢ Symbol.Declare }
     requires no_function { first.now.symbol ≢ Symbol.Define }
-    ensures exact { Gives (run (spec.entity form parts first.now) tokens.old) result tokens.new }
-    ensures count { IfOk result (λ p. p.count ≡ parts.count) }
+    ensures exact { Leaves (run (spec.entity form parts.old first.now) tokens.old) result parts.new tokens.new }
+    ensures count { IfOk result (λ _. parts.new.count ≡ parts.old.count) }
 {
     match first.symbol() {
-        Symbol::SourceFilename => {
-            source_filename(tokens)?;
-            Ok(parts)
+        Symbol::SourceFilename | Symbol::Target | Symbol::Attributes => {
+            heading(alloc, tokens, form, first.symbol())?;
+            Ok(())
         }
-        Symbol::Target => {
-            target_entity(tokens)?;
-            Ok(parts)
-        }
-        Symbol::Attributes => {
-            attribute_group(alloc, tokens, form)?;
-            Ok(parts)
-        }
-        Symbol::Local | Symbol::NumberedLocal => {
-            let name = type_name(alloc, form, first)?;
-            type_entity(alloc, tokens, form, parts, name)
-        }
-        Symbol::Global => {
-            let name = Name::Text(first.name(alloc)?);
-            global_entity(alloc, tokens, form, parts, name)
-        }
+        Symbol::Local | Symbol::NumberedLocal => { type_entity(alloc, tokens, form, parts, first) }
+        Symbol::Global => global_entity(alloc, tokens, form, parts, first),
         _ => {
             metadata_entity(alloc, tokens, form)?;
-            Ok(parts)
+            Ok(())
         }
     }
 }

@@ -15,8 +15,8 @@ entities-smaller c =
     let form = c.args.form in
     let ts = c.entities.tokens in
     let read = ap (λ (x : Lexeme). run (entity form c.entities.parts x) (tail ts)) (sym c.lexeme-first.ensures)
-    ∙ ap (run (entity form c.entities.parts c.lexeme-first.result)) (sym c.advance.ensures) ∙ c.in_ok-parts.ensures.exact in
-    loop_moves end_of_text (entity_begins form) (entity form) c.entities.parts ts c.in_ok-parts.parts c.entity.new.tokens (omega arith) read
+    ∙ ap (run (entity form c.entities.parts c.lexeme-first.result)) (sym c.advance.ensures) ∙ c.in_ok-entity.ensures.exact in
+    loop_moves end_of_text (entity_begins form) (entity form) c.entities.parts ts c.entity.new.parts c.entity.new.tokens (omega arith) read
 
 pub entities-preserved : goal.entities-preserved
 unfolding said
@@ -24,8 +24,8 @@ entities-preserved c =
     let form = c.args.form in
     let ts = c.entities.tokens in
     let read = ap (λ (x : Lexeme). run (entity form c.entities.parts x) (tail ts)) (sym c.lexeme-first.ensures)
-    ∙ ap (run (entity form c.entities.parts c.lexeme-first.result)) (sym c.advance.ensures) ∙ c.in_ok-parts.ensures.exact in
+    ∙ ap (run (entity form c.entities.parts c.lexeme-first.result)) (sym c.advance.ensures) ∙ c.in_ok-entity.ensures.exact in
     let is_true : c.in_ok-entity_begins.field-0 ≡ true = grind arith in
     let begins = ap (λ (x : Lexeme). entity_begins form c.entities.parts x) (sym c.lexeme-first.ensures) ∙ c.in_ok-entity_begins.ensures ∙ ap said is_true in
     let step = loop_goes end_of_text (entity_begins form) (entity form) c.entities.parts ts (omega arith) begins in
-    (sym (step ∙ after end_of_text _ (λ s. run (loop (entity_begins form) (entity form) s)) _ _ read) ∙ c.entities.invariant.0, c.in_ok-parts.ensures.few)
+    (sym (step ∙ after end_of_text _ (λ s. run (loop (entity_begins form) (entity form) s)) _ _ read) ∙ c.entities.invariant.0, c.in_ok-entity.ensures.few)
