@@ -1,7 +1,9 @@
 //! Functions with their blocks (LLVM Language Reference, "Functions").
 ghost use Rattle.std.specs.Prelude.{◌≡◌, [], ◌∷◌, ◌++◌, IfOk, codes, flat_map, map};
 ghost use Rattle.ms_written.specs.Modules.{parameter_tokens, head_line, entry_label, body_lines, block_lines, blocks_lines, function_lines};
-ghost use Rattle.ms_written.specs.Pieces.{behind_commas, flush, sign, with_commas};
+ghost use Rattle.ms_written.specs.Names.{global_token};
+ghost use Rattle.ms_written.specs.Pieces.{behind_commas, enclosed, flush, sign, with_commas, word};
+ghost use Rattle.ms_written.specs.Types.{result_tokens};
 ghost use Rattle.ms_write_values.specs.Sheets.{put, put_line, put_lines};
 
 use crate::instructions::write_inst_lines;
@@ -46,19 +48,37 @@ fn write_parameters(writer: &mut Writer, parameters: &[(Ty, Name)]) -> Result<()
     Ok(())
 }
 
+/// Writes parameters between parentheses.
+#[tactic(auto, using(ms_write_values::proofs::Puts::put_append))]
+fn write_parameter_list(writer: &mut Writer, parameters: &[(Ty, Name)]) -> Result<(), NoMemory>
+    ensures { IfOk result (λ _. writer.new ≡ put writer.old (enclosed (codes "(") (codes ")") (map parameter_tokens parameters.now))) }
+{
+    writer.token(b"(")?;
+    write_parameters(writer, parameters)?;
+    writer.token(b")")?;
+    Ok(())
+}
+
+/// Writes the tokens of the head of a function.
+#[tactic(auto, using(ms_write_values::proofs::Puts::put_append))]
+fn write_head(writer: &mut Writer, func: &Func) -> Result<(), NoMemory>
+    ensures { IfOk result (λ _. writer.new ≡ put writer.old (word (codes "define") ∷ (result_tokens func.now.ret ++ global_token func.now.name ∷ (enclosed (codes "(") (codes ")") (map parameter_tokens func.now.params) ++ sign (codes "{") ∷ [])))) }
+{
+    writer.token(b"define")?;
+    writer.result_type(&func.ret)?;
+    writer.global(&func.name)?;
+    write_parameter_list(writer, func.params.as_slice())?;
+    writer.token(b"{")?;
+    Ok(())
+}
+
 /// Writes the head of a function.
-#[tactic(auto, using(ms_write_values::proofs::Puts::put_append), unfolding(ms_written::specs::Modules::head_line))]
+#[tactic(auto, unfolding(ms_written::specs::Modules::head_line))]
 fn write_head_line(writer: &mut Writer, func: &Func) -> Result<(), NoMemory>
     ensures { IfOk result (λ _. writer.new ≡ put_line writer.old (head_line func.now)) }
 {
     writer.start_line(b"")?;
-    writer.token(b"define")?;
-    writer.result_type(&func.ret)?;
-    writer.global(&func.name)?;
-    writer.token(b"(")?;
-    write_parameters(writer, func.params.as_slice())?;
-    writer.token(b")")?;
-    writer.token(b"{")?;
+    write_head(writer, func)?;
     writer.end_line()?;
     Ok(())
 }

@@ -2,8 +2,11 @@
 //! marks (LLVM Language Reference, "Module Structure"; own: the order).
 ghost use Rattle.std.specs.Prelude.{◌≡◌, ◌++◌, [], ◌∷◌, IfOk, codes, flat_map, map};
 ghost use Rattle.std.specs.List.{list_any};
-ghost use Rattle.ms_written.specs.Modules.{global_word as global_word_of, type_line, global_line, is_one_pointer as is_one_pointer_of, is_dotted as is_dotted_of, declaration_line, function_lines, has_dots as has_dots_of, has_mark_in as has_mark_in_of, has_mark as has_mark_of, module_lines, mark_pieces, written};
-ghost use Rattle.ms_written.specs.Pieces.{render};
+ghost use Rattle.ms_written.specs.Modules.{global_word as global_word_of, type_line, global_line, is_one_pointer as is_one_pointer_of, is_dotted as is_dotted_of, declaration_line, function_lines, has_dots as has_dots_of, has_mark_in as has_mark_in_of, has_mark as has_mark_of, module_lines, mark_pieces, written, dots};
+ghost use Rattle.ms_written.specs.Names.{global_token};
+ghost use Rattle.ms_written.specs.Pieces.{enclosed, render, sign, word};
+ghost use Rattle.ms_written.specs.Types.{result_tokens, type_tokens};
+ghost use Rattle.ms_written.specs.Values.{init_tokens};
 ghost use Rattle.ms_grammar.specs.Types.{is_ptr as is_ptr_of};
 ghost use Rattle.ms_write_values.specs.Parts.{dot_tokens};
 ghost use Rattle.ms_write_values.specs.Sheets.{grown, put, put_line, put_lines};
@@ -105,16 +108,25 @@ fn write_type_lines(writer: &mut Writer, types: &[(Name, Ty)]) -> Result<(), NoM
     Ok(())
 }
 
-#[tactic(auto, using(ms_write_values::proofs::Puts::put_append), unfolding(ms_written::specs::Modules::global_line))]
-fn write_global_line(writer: &mut Writer, global: &GlobalVar) -> Result<(), NoMemory>
-    ensures { IfOk result (λ _. writer.new ≡ put_line writer.old (global_line global.now)) }
+/// Writes the tokens of a global.
+#[tactic(auto, using(ms_write_values::proofs::Puts::put_append))]
+fn write_global(writer: &mut Writer, global: &GlobalVar) -> Result<(), NoMemory>
+    ensures { IfOk result (λ _. writer.new ≡ put writer.old (global_token global.now.name ∷ sign (codes "=") ∷ word (global_word_of global.now.constant) ∷ (type_tokens global.now.ty ++ init_tokens global.now.ty global.now.init))) }
 {
-    writer.start_line(b"")?;
     writer.global(&global.name)?;
     writer.token(b"=")?;
     writer.token(global_word(global.constant))?;
     writer.ty(&global.ty)?;
     writer.init(&global.ty, &global.init)?;
+    Ok(())
+}
+
+#[tactic(auto, unfolding(ms_written::specs::Modules::global_line))]
+fn write_global_line(writer: &mut Writer, global: &GlobalVar) -> Result<(), NoMemory>
+    ensures { IfOk result (λ _. writer.new ≡ put_line writer.old (global_line global.now)) }
+{
+    writer.start_line(b"")?;
+    write_global(writer, global)?;
     writer.end_line()?;
     Ok(())
 }
@@ -139,18 +151,36 @@ fn write_dots(writer: &mut Writer, dotted: bool) -> Result<(), NoMemory>
     Ok(())
 }
 
-#[tactic(auto, using(ms_write_values::proofs::Puts::put_append, crate::proofs::Dots::put_dots), unfolding(ms_written::specs::Modules::declaration_line))]
-fn write_declaration_line(writer: &mut Writer, decl: &Decl) -> Result<(), NoMemory>
-    ensures { IfOk result (λ _. writer.new ≡ put_line writer.old (declaration_line decl.now)) }
+/// Writes the types of a declaration's parameters between parentheses, with dots behind them where it has some.
+#[tactic(auto, using(ms_write_values::proofs::Puts::put_append, crate::proofs::Dots::put_dots))]
+fn write_parameter_types(writer: &mut Writer, decl: &Decl) -> Result<(), NoMemory>
+    ensures { IfOk result (λ _. writer.new ≡ put writer.old (enclosed (codes "(") (codes ")") (map type_tokens decl.now.params ++ dots (is_dotted_of decl.now)))) }
 {
-    writer.start_line(b"")?;
-    writer.token(b"declare")?;
-    writer.result_type(&decl.ret)?;
-    writer.global(&decl.name)?;
     writer.token(b"(")?;
     writer.types(decl.params.as_slice())?;
     write_dots(writer, is_dotted(decl))?;
     writer.token(b")")?;
+    Ok(())
+}
+
+/// Writes the tokens of a declaration.
+#[tactic(auto, using(ms_write_values::proofs::Puts::put_append))]
+fn write_declaration(writer: &mut Writer, decl: &Decl) -> Result<(), NoMemory>
+    ensures { IfOk result (λ _. writer.new ≡ put writer.old (word (codes "declare") ∷ (result_tokens decl.now.ret ++ global_token decl.now.name ∷ enclosed (codes "(") (codes ")") (map type_tokens decl.now.params ++ dots (is_dotted_of decl.now))))) }
+{
+    writer.token(b"declare")?;
+    writer.result_type(&decl.ret)?;
+    writer.global(&decl.name)?;
+    write_parameter_types(writer, decl)?;
+    Ok(())
+}
+
+#[tactic(auto, unfolding(ms_written::specs::Modules::declaration_line))]
+fn write_declaration_line(writer: &mut Writer, decl: &Decl) -> Result<(), NoMemory>
+    ensures { IfOk result (λ _. writer.new ≡ put_line writer.old (declaration_line decl.now)) }
+{
+    writer.start_line(b"")?;
+    write_declaration(writer, decl)?;
     writer.end_line()?;
     Ok(())
 }

@@ -1,5 +1,5 @@
 //! What instructions do (LLVM Language Reference, "Instruction Reference").
-ghost use Rattle.std.specs.Prelude.{◌≡◌, ◌&&◌, [], ◌∷◌, ◌++◌, IfOk, codes, flat_map, map};
+ghost use Rattle.std.specs.Prelude.{◌≡◌, ◌&&◌, Bool, [], ◌∷◌, ◌++◌, IfOk, codes, flat_map, map};
 ghost use Rattle.ms_grammar.specs.Types.{int_width, is_width};
 ghost use Rattle.ms_grammar.specs.Insts.{is_i32 as is_i32_result, names_printf as names_printf_of};
 ghost use Rattle.ms_written.specs.Insts.{binary_word as binary_word_of, cast_word as cast_word_of, predicate_text, flag_tokens, address_tokens, target_tokens, bit_tokens, edge_tokens, case_tokens, is_one as is_one_of, count_tokens, callee_type_tokens, returned_tokens, op_tokens};
@@ -7,6 +7,7 @@ ghost use Rattle.ms_written.specs.Names.{global_token};
 ghost use Rattle.ms_written.specs.Pieces.{behind_commas, enclosed, sign, with_commas, word};
 ghost use Rattle.ms_written.specs.Types.{result_tokens, type_tokens};
 ghost use Rattle.ms_written.specs.Values.{pair_tokens, typed_tokens};
+ghost use Rattle.ms_write.specs.Kinds.{IsComputation, IsAccess, IsTerminator};
 ghost use Rattle.ms_write_values.specs.Parts.{two_tokens};
 ghost use Rattle.ms_write_values.specs.Sheets.{put};
 
@@ -59,8 +60,7 @@ fn write_address(writer: &mut Writer, address: &Operand) -> Result<(), NoMemory>
     ensures { IfOk result (λ _. writer.new ≡ put writer.old (address_tokens address.now)) }
 {
     let ty = Ty::Ptr;
-    writer.typed(&ty, address)?;
-    Ok(())
+    writer.typed(&ty, address)
 }
 
 /// Writes a bit behind its type.
@@ -68,8 +68,7 @@ fn write_bit(writer: &mut Writer, bit: &Operand) -> Result<(), NoMemory>
     ensures { IfOk result (λ _. writer.new ≡ put writer.old (bit_tokens bit.now)) }
 {
     let ty = Ty::Int(1);
-    writer.typed(&ty, bit)?;
-    Ok(())
+    writer.typed(&ty, bit)
 }
 
 /// Writes `label` and the name of a block.
@@ -382,6 +381,17 @@ fn write_cases(writer: &mut Writer, ty: &Ty, cases: &[(u64, Name)]) -> Result<()
     Ok(())
 }
 
+/// Writes cases between brackets.
+#[tactic(auto, using(ms_write_values::proofs::Puts::put_append))]
+fn write_case_list(writer: &mut Writer, ty: &Ty, cases: &[(u64, Name)]) -> Result<(), NoMemory>
+    ensures { IfOk result (λ _. writer.new ≡ put writer.old (sign (codes "[") ∷ (flat_map (case_tokens ty.now) cases.now ++ sign (codes "]") ∷ []))) }
+{
+    writer.token(b"[")?;
+    write_cases(writer, ty, cases)?;
+    writer.token(b"]")?;
+    Ok(())
+}
+
 #[tactic(auto, using(ms_write_values::proofs::Puts::put_append))]
 fn write_switch(
     writer: &mut Writer,
@@ -396,9 +406,7 @@ fn write_switch(
     writer.typed(ty, value)?;
     writer.token(b",")?;
     write_target(writer, other)?;
-    writer.token(b"[")?;
-    write_cases(writer, ty, cases)?;
-    writer.token(b"]")?;
+    write_case_list(writer, ty, cases)?;
     Ok(())
 }
 
@@ -413,10 +421,11 @@ fn write_ret(writer: &mut Writer, value: &Option<(Ty, Operand)>) -> Result<(), N
     Ok(())
 }
 
-/// Writes what an instruction does; `dotted` says whether calls of `printf` have three dots.
+/// Writes an operation, a comparison, a cast, a choice or a `freeze`.
 #[tactic(auto, unfolding(ms_written::specs::Insts::op_tokens))]
-pub fn write_op(writer: &mut Writer, dotted: bool, op: &Op) -> Result<(), NoMemory>
-    ensures { IfOk result (λ _. writer.new ≡ put writer.old (op_tokens dotted op.now)) }
+fn write_computation(writer: &mut Writer, op: &Op) -> Result<(), NoMemory>
+    requires { IsComputation op.now }
+    ensures { (dotted : Bool) → IfOk result (λ _. writer.new ≡ put writer.old (op_tokens dotted op.now)) }
 {
     match op {
         Op::Binary {
@@ -425,48 +434,86 @@ pub fn write_op(writer: &mut Writer, dotted: bool, op: &Op) -> Result<(), NoMemo
             ty,
             a,
             b,
-        } => write_binary(writer, *op, *flags, ty, a, b)?,
+        } => write_binary(writer, *op, *flags, ty, a, b),
         Op::Icmp {
             pred,
             flags,
             ty,
             a,
             b,
-        } => write_icmp(writer, *pred, *flags, ty, a, b)?,
+        } => write_icmp(writer, *pred, *flags, ty, a, b),
         Op::Cast {
             op,
             flags,
             from,
             a,
             to,
-        } => write_cast(writer, *op, *flags, from, a, to)?,
-        Op::Select { cond, ty, a, b } => write_select(writer, cond, ty, a, b)?,
-        Op::Freeze { ty, a } => write_freeze(writer, ty, a)?,
-        Op::Phi { ty, edges } => write_phi(writer, ty, edges.as_slice())?,
+        } => write_cast(writer, *op, *flags, from, a, to),
+        Op::Select { cond, ty, a, b } => write_select(writer, cond, ty, a, b),
+        Op::Freeze { ty, a } => write_freeze(writer, ty, a),
+        _ => unreachable!(),
+    }
+}
+
+/// Writes an instruction that makes, reads or writes memory, or makes an address.
+#[tactic(auto, unfolding(ms_written::specs::Insts::op_tokens))]
+fn write_access(writer: &mut Writer, op: &Op) -> Result<(), NoMemory>
+    requires { IsAccess op.now }
+    ensures { (dotted : Bool) → IfOk result (λ _. writer.new ≡ put writer.old (op_tokens dotted op.now)) }
+{
+    match op {
         Op::Alloca {
             ty,
             count_ty,
             count,
-        } => write_alloca(writer, ty, count_ty, count)?,
-        Op::Load { ty, addr } => write_load(writer, ty, addr)?,
-        Op::Store { ty, value, addr } => write_store(writer, ty, value, addr)?,
-        Op::Gep { ty, base, indices } => write_element_pointer(
-            writer,
-            ty,
-            base,
-            indices.as_slice(),
-        )?,
-        Op::Call { ret, callee, args } => write_call(writer, dotted, ret, callee, args.as_slice())?,
-        Op::Br { to } => write_branch(writer, to)?,
-        Op::CondBr { cond, yes, no } => write_branch_on(writer, cond, yes, no)?,
+        } => write_alloca(writer, ty, count_ty, count),
+        Op::Load { ty, addr } => write_load(writer, ty, addr),
+        Op::Store { ty, value, addr } => write_store(writer, ty, value, addr),
+        Op::Gep { ty, base, indices } => {
+            write_element_pointer(writer, ty, base, indices.as_slice())
+        }
+        _ => unreachable!(),
+    }
+}
+
+/// Writes an instruction that ends a block.
+#[tactic(auto, unfolding(ms_written::specs::Insts::op_tokens))]
+fn write_terminator(writer: &mut Writer, op: &Op) -> Result<(), NoMemory>
+    requires { IsTerminator op.now }
+    ensures { (dotted : Bool) → IfOk result (λ _. writer.new ≡ put writer.old (op_tokens dotted op.now)) }
+{
+    match op {
+        Op::Br { to } => write_branch(writer, to),
+        Op::CondBr { cond, yes, no } => write_branch_on(writer, cond, yes, no),
         Op::Switch {
             ty,
             value,
             other,
             cases,
-        } => write_switch(writer, ty, value, other, cases.as_slice())?,
-        Op::Ret { value } => write_ret(writer, value)?,
-        Op::Unreachable => writer.token(b"unreachable")?,
+        } => write_switch(writer, ty, value, other, cases.as_slice()),
+        Op::Ret { value } => write_ret(writer, value),
+        Op::Unreachable => writer.token(b"unreachable"),
+        _ => unreachable!(),
     }
-    Ok(())
+}
+
+/// Writes what an instruction does; `dotted` says whether calls of `printf` have three dots.
+#[tactic(auto, unfolding(ms_written::specs::Insts::op_tokens))]
+pub fn write_op(writer: &mut Writer, dotted: bool, op: &Op) -> Result<(), NoMemory>
+    ensures { IfOk result (λ _. writer.new ≡ put writer.old (op_tokens dotted op.now)) }
+{
+    match op {
+        Op::Binary { .. }
+        | Op::Icmp { .. }
+        | Op::Cast { .. }
+        | Op::Select { .. }
+        | Op::Freeze { .. } => write_computation(writer, op),
+        Op::Alloca { .. } | Op::Load { .. } | Op::Store { .. } | Op::Gep { .. } => {
+            write_access(writer, op)
+        }
+        Op::Phi { ty, edges } => write_phi(writer, ty, edges.as_slice()),
+        Op::Call { ret, callee, args } => write_call(writer, dotted, ret, callee, args.as_slice()),
+        Op::Br { .. } | Op::CondBr { .. } | Op::Switch { .. } | Op::Ret { .. } | Op::Unreachable =>
+            write_terminator(writer, op),
+    }
 }
