@@ -118,6 +118,23 @@ fn symbol_twice<'m>(
     }
 }
 
+/// Appends the symbols of a module whose types have different names, up to the first fault: a global or a declaration that
+/// stands already among them, or a fault of a function.
+fn any_symbol_twice<'m>(
+    alloc: Global,
+    symbols: &mut NameTable<'m>,
+    m: &'m Module,
+) -> Result<Option<Spelled<'m>>, NoMemory>
+    requires types { slice_get (repeats [] (type_names m.now)) 0 ≡ None }
+    requires empty { symbols.old ≡ [] }
+    ensures { IfOk result (λ r. r ≡ slice_get (duplicates m.now) 0) }
+{
+    match symbol_twice(symbols, m)? {
+        Some(name) => Ok(Some(Spelled { global: true, name })),
+        None => functions_twice(alloc, symbols, m.funcs.as_slice()),
+    }
+}
+
 /// The first name that a module defines twice whose types have different names: a global's or a declaration's, then of
 /// each function its symbol and the names of its parameters, blocks and results.
 fn first_symbol_twice(alloc: Global, m: &Module) -> Result<Option<Spelled<'_>>, NoMemory>
@@ -125,10 +142,7 @@ fn first_symbol_twice(alloc: Global, m: &Module) -> Result<Option<Spelled<'_>>, 
     ensures { IfOk result (λ r. r ≡ slice_get (duplicates m.now) 0) }
 {
     let mut symbols = NameTable::new(alloc);
-    match symbol_twice(&mut symbols, m)? {
-        Some(name) => Ok(Some(Spelled { global: true, name })),
-        None => functions_twice(alloc, &mut symbols, m.funcs.as_slice()),
-    }
+    any_symbol_twice(alloc, &mut symbols, m)
 }
 
 /// The first name that a module defines twice, in text order: a type's, then a global's or a declaration's, then of
