@@ -1,7 +1,6 @@
 pub mod Operations
 pub mod Room
 pub mod Calls
-pub mod Leaving
 pub mod Headed
 pub mod Words
 pub mod Beginnings

@@ -3,10 +3,10 @@
 ghost use Rattle.std.specs.Prelude.{◌≡◌, ◌<◌, ◌+◌, ◌^◌, ◌++◌, ◌∷◌, [], IfOk};
 ghost use Rattle.ms_grammar.specs.Bodies as spec;
 
-use crate::lists::push;
 use ms_bits::{Boxed, List, NoMemory};
 use ms_grammar::Body;
 use ms_ir::{Block, Inst, Name, Op};
+use ms_read_cursor::push;
 use std::alloc::Global;
 use std::mem;
 

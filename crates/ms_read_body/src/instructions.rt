@@ -3,8 +3,7 @@
 ghost use Rattle.std.specs.Prelude.{◌≡◌, ◌<◌, ◌+◌, ◌^◌};
 ghost use Rattle.ms_grammar.specs.Insts.{alloca_rule as alloca_piece, step_rule as step_piece};
 ghost use Rattle.ms_grammar.specs.Lines as spec;
-ghost use Rattle.ms_read_cursor.specs.Reading.{run};
-ghost use Rattle.ms_read_body.specs.Leaving.{Leaves};
+ghost use Rattle.ms_read_cursor.specs.Reading.{Leaves, run};
 ghost use Rattle.ms_read_body.specs.Operations.{effect_rule, value_rule};
 ghost use Rattle.ms_read_body.specs.Words as words;
 

@@ -9,7 +9,6 @@ mod functions;
 mod instructions;
 mod line_starts;
 mod lines;
-mod lists;
 mod open_blocks;
 mod operation_rules;
 mod parameter_lists;

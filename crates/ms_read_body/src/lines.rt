@@ -3,9 +3,8 @@
 ghost use Rattle.std.specs.Prelude.{◌≡◌, ◌<◌, ◌+◌, ◌^◌, IfOk, None, Some};
 ghost use Rattle.ms_grammar.specs.Bodies as bodies;
 ghost use Rattle.ms_grammar.specs.Lines as spec;
-ghost use Rattle.ms_read_cursor.specs.Reading.{Gives, Judges, run};
+ghost use Rattle.ms_read_cursor.specs.Reading.{Gives, Judges, Leaves, run};
 ghost use Rattle.ms_read_body.specs.Beginnings as beginnings;
-ghost use Rattle.ms_read_body.specs.Leaving.{Leaves};
 ghost use Rattle.ms_read_body.specs.Closing.{closed as closed_piece};
 ghost use Rattle.ms_read_body.specs.Room.{HasRoom};
 

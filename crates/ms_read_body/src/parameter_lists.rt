@@ -4,15 +4,13 @@
 ghost use Rattle.std.specs.Prelude.{◌≡◌, ◌<◌, IfOk, OnOk};
 ghost use Rattle.ms_grammar.specs.Functions as spec;
 ghost use Rattle.ms_grammar.specs.Types as types;
-ghost use Rattle.ms_read_cursor.specs.Reading.{Gives, Judges, run};
+ghost use Rattle.ms_read_cursor.specs.Reading.{Gives, Judges, Leaves, run};
 ghost use Rattle.ms_read_body.specs.Headed.{named_parameter as named_piece};
-ghost use Rattle.ms_read_body.specs.Leaving.{Leaves};
 
-use crate::lists::push;
 use ms_bits::{List, NoMemory};
 use ms_grammar::{Limit, Parameters, Refusal, Symbol};
 use ms_ir::{Form, Name, Ty};
-use ms_read_cursor::{Lexeme, Series, Tokens, listed, local_name};
+use ms_read_cursor::{Lexeme, Series, Tokens, listed, local_name, push};
 use ms_read_values::{ValueType, attributes, value_type_of};
 use std::alloc::Global;
 

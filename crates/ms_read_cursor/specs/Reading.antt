@@ -1,4 +1,4 @@
--- What a function that reads tokens ensures, and what one that only judges a token does.
+-- What a function that reads tokens ensures, what one that adds to a value besides, and what one that only judges a token does.
 use Rattle.std.specs.Prelude.{◌≡◌, ◌≢◌, List, Result, Ok, Err}
 use Rattle.ms_lex.specs.Grammar.{Outcome, done, fails, head}
 use Rattle.ms_lex.specs.Grammar as grammar
@@ -19,6 +19,12 @@ run = grammar.run end_of_text
 abbrev pub Gives : {A : Type 0} → Outcome Lexeme Refusal A → Result A Refusal → List Lexeme → Type 0
 Gives outcome (Ok a) left = outcome ≡ done a left
 Gives outcome (Err e) left = e ≢ NoMemory → outcome ≡ fails e left
+
+-- What a function returned, and the value and the tokens that it left, are this outcome. Only want of memory is free, and a
+-- value behind an error says nothing.
+abbrev pub Leaves : {A : Type 0} → Outcome Lexeme Refusal A → Result (Unit {0}) Refusal → A → List Lexeme → Type 0
+Leaves outcome (Ok u) value left = outcome ≡ done value left
+Leaves outcome (Err e) value left = e ≢ NoMemory → outcome ≡ fails e left
 
 -- what a function returned is this verdict; only want of memory is free
 abbrev pub Judges : {A : Type 0} → Verdict A → Result A Refusal → Type 0

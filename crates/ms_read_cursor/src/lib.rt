@@ -15,7 +15,7 @@ mod words;
 pub use cursor::Tokens;
 pub use decimals::{decimal, is_digits};
 pub use lexemes::Lexeme;
-pub use lists::{Rule, single, with_last};
+pub use lists::{Rule, push, single, with_last};
 pub use names::{
     global, global_by, global_name, local, local_by, local_name, name_fits, number_name,
     reserved_global, reserved_local,

@@ -6,6 +6,7 @@ use crate::cursor::Tokens;
 use ms_bits::{List, NoMemory};
 use ms_grammar::Refusal;
 use std::alloc::Global;
+use std::mem;
 
 /// What reads one item, which is a piece of the grammar.
 pub trait Rule {
@@ -34,4 +35,13 @@ pub fn single<T: Drop>(alloc: Global, item: T) -> Result<List<T>, NoMemory>
     ensures { IfOk result (λ l. l ≡ item ∷ []) }
 {
     with_last(List::from_vec(Vec::new(alloc)), item)
+}
+
+/// Adds an item behind the others. The one error is want of memory.
+pub fn push<T: Drop>(alloc: Global, list: &mut List<T>, item: T) -> Result<(), NoMemory>
+    ensures { IfOk result (λ _. list.new ≡ list.old ++ item ∷ []) }
+{
+    let items = mem::replace(list, List::from_vec(Vec::new(alloc)));
+    *list = with_last(items, item)?;
+    Ok(())
 }

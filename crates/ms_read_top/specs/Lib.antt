@@ -1,5 +1,4 @@
 pub mod Reading
 pub mod TypeNames
 pub mod Globals
-pub mod Leaving
 pub mod Behind

@@ -3,8 +3,7 @@
 ghost use Rattle.std.specs.Prelude.{◌≡◌, ◌≤◌, IfOk, Ok, true};
 ghost use Rattle.ms_grammar.specs.Bodies.{max_instructions};
 ghost use Rattle.ms_grammar.specs.Modules as spec;
-ghost use Rattle.ms_read_top.specs.Leaving.{Leaves};
-ghost use Rattle.ms_read_cursor.specs.Reading.{run};
+ghost use Rattle.ms_read_cursor.specs.Reading.{Leaves, run};
 
 use crate::function_entities::{declaration_entity, function_entity};
 use crate::other_entities::other_entity;

@@ -5,16 +5,14 @@ ghost use Rattle.ms_lex.specs.Grammar.{give, seq};
 ghost use Rattle.ms_grammar.specs.Bodies.{max_instructions};
 ghost use Rattle.ms_grammar.specs.Functions.{declaration as declaration_piece, function as function_piece};
 ghost use Rattle.ms_grammar.specs.Modules as spec;
-ghost use Rattle.ms_read_top.specs.Leaving.{Leaves};
-ghost use Rattle.ms_read_cursor.specs.Reading.{run};
+ghost use Rattle.ms_read_cursor.specs.Reading.{Leaves, run};
 
-use crate::lists::push;
 use crate::more_parts::add_declaration;
 use ms_bits::NoMemory;
 use ms_grammar::{Parts, Refusal};
 use ms_ir::{Block, Form, Func};
 use ms_read_body::{declaration, function};
-use ms_read_cursor::Tokens;
+use ms_read_cursor::{Tokens, push};
 use std::alloc::Global;
 
 /// How many instructions these blocks have.

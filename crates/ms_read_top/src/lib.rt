@@ -7,7 +7,6 @@ mod entity_starts;
 mod function_entities;
 mod global_variables;
 mod left_out;
-mod lists;
 mod metadata_nodes;
 mod modules;
 mod more_parts;

@@ -4,9 +4,8 @@ ghost use Rattle.std.specs.Prelude.{◌≡◌, ◌≤◌};
 ghost use Rattle.ms_lex.specs.Grammar.{loop};
 ghost use Rattle.ms_grammar.specs.Bodies.{max_instructions};
 ghost use Rattle.ms_grammar.specs.Modules as spec;
-ghost use Rattle.ms_read_cursor.specs.Reading.{Gives, Judges, run};
+ghost use Rattle.ms_read_cursor.specs.Reading.{Gives, Judges, Leaves, run};
 ghost use Rattle.ms_read_top.specs.Behind as behind;
-ghost use Rattle.ms_read_top.specs.Leaving.{Leaves};
 
 use crate::entities::entity;
 use crate::entity_starts::entity_begins;

@@ -3,10 +3,10 @@
 ghost use Rattle.std.specs.Prelude.{◌≡◌, IfOk};
 ghost use Rattle.ms_grammar.specs.Modules as spec;
 
-use crate::lists::push;
 use ms_bits::NoMemory;
 use ms_grammar::Parts;
 use ms_ir::{Decl, GlobalVar, Name, Ty};
+use ms_read_cursor::push;
 use std::alloc::Global;
 
 /// Adds a named type. The one error is want of memory.

@@ -6,8 +6,7 @@ ghost use Rattle.ms_grammar.specs.Lexemes.{name_in};
 ghost use Rattle.ms_grammar.specs.Modules as spec;
 ghost use Rattle.ms_grammar.specs.Names as names;
 ghost use Rattle.ms_grammar.specs.Steps.{judge_map};
-ghost use Rattle.ms_read_top.specs.Leaving.{Leaves};
-ghost use Rattle.ms_read_cursor.specs.Reading.{Gives, Judges, run};
+ghost use Rattle.ms_read_cursor.specs.Reading.{Gives, Judges, Leaves, run};
 ghost use Rattle.ms_read_top.specs.Behind as behind;
 ghost use Rattle.ms_read_top.specs.TypeNames.{type_name as name_of_type};
 
