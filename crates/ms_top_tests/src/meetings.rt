@@ -1,8 +1,9 @@
 //! Work in several threads: that two pieces of a list, of a module or of a corpus run at once, and short lists.
-ghost use Rattle.std.specs.Prelude.{◌≡◌, ℕ, ◌*◌, ◌%◌, ◌^◌};
+ghost use Rattle.std.specs.Prelude.{◌≡◌, ℕ, ◌*◌, ◌%◌, ◌^◌, IfOk};
+ghost use Rattle.ms_valid.specs.Uninstrumented.{CanInstrument};
 
 use crate::calls::{Beside, Call, NOTHING, on_text, said_by};
-use ms_bits::NoMemory;
+use ms_bits::{Boxed, NoMemory};
 use ms_check::CheckedModule;
 use ms_fork::{Cuts, Gate, OpenGate, Work, by_halves};
 use ms_gen::generate;
@@ -122,18 +123,33 @@ fn two_workers_meet(rt: HostRuntime) -> Result<(), Fail> {
     Ok(())
 }
 
-/// Whether the functions of a module of sixteen are instrumented at once: the piece of the first eight meets the other one.
-fn pieces_meet<R: Threads + Sync>(rt: &R, alloc: Global) -> Result<bool, NoMemory> {
+/// A module of sixteen functions, checked.
+fn sixteen_functions(alloc: Global) -> Result<Boxed<CheckedModule>, NoMemory>
+    ensures { IfOk result (λ m. CanInstrument m) }
+{
     let module = generate(alloc, 7, 15)?;
-    let checked = CheckedModule::of_valid(alloc, module)?;
+    Boxed::new(alloc, CheckedModule::of_valid(alloc, module)?)
+}
+
+/// Instruments a module, whose pieces enter a gate, and answers whether there was memory for it.
+fn enter<R: Threads + Sync>(rt: &R, alloc: Global, m: &CheckedModule, gate: &Meeting) -> bool
+    requires { CanInstrument m.now }
+{
+    instrument(rt, alloc, m, gate).is_ok()
+}
+
+/// Whether the functions of a module of sixteen are instrumented at once: the piece of the first eight meets the other one.
+fn pieces_meet<R: Threads + Sync>(rt: &R, alloc: Global) -> bool {
     let gate = Meeting::new(8);
-    instrument(rt, alloc, &checked, &gate)?;
-    Ok(gate.is_met())
+    match sixteen_functions(alloc) {
+        Ok(module) => enter(rt, alloc, module.get(), &gate) && gate.is_met(),
+        Err(_) => false,
+    }
 }
 
 #[test]
 fn two_pieces_of_a_module_meet(rt: HostRuntime) -> Result<(), Fail> {
-    assert!(rt; pieces_meet(&rt, rt.alloc()).ok() == Some(true));
+    assert!(rt; pieces_meet(&rt, rt.alloc()));
     Ok(())
 }
 
