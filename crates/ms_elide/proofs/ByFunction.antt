@@ -1,5 +1,5 @@
 -- Lists of names, one for each function, as they grow.
-use Rattle.std.proofs.Common.{◌≡◌, ℕ, zero, suc, ◌+◌, ◌<◌, ◌≤◌, ◌↔◌, List, [], ◌∷◌, ◌++◌, length, get_or, Some, None, IsTrue, sym, ap, ◌∙◌, subst, arith, ⊎_elim}
+use Rattle.std.proofs.Common.{◌≡◌, ℕ, zero, suc, ◌+◌, ◌<◌, ◌≤◌, ◌↔◌, List, [], ◌∷◌, ◌++◌, length, get_or, Some, None, IsTrue, sym, ap, ◌∙◌, subst, arith, length-append, ⊎_elim}
 use Rattle.std.specs.Prelude.{slice_get}
 use Rattle.std.proofs.lemmas.Bool.{cases_eq}
 use Rattle.std.proofs.lemmas.List.{get_or_at, get_or_append_left, get_or_past}
@@ -25,6 +25,9 @@ none_past : {A : Type 0} (xs : List A) (k : ℕ) → slice_get xs k ≡ None →
 none_past [] k e = omega arith
 none_past (y ∷ xs) zero e = absurd (cc)
 none_past (y ∷ xs) (suc k) e = let past = none_past xs k e in omega arith
+
+pub one_longer : {A : Type 0} (xs : List A) (x : A) (n : ℕ) → length xs ≡ n → length (xs ++ x ∷ []) ≡ n + 1
+one_longer xs x n size = omega (arith, length-append xs (x ∷ []))
 
 -- the values of the first functions
 abbrev pub AreFirst : Module → List (List Name) → ℕ → Type 0

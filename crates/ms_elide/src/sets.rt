@@ -1,11 +1,13 @@
 //! The clean values of a module.
-ghost use Rattle.std.specs.Prelude.{◌≡◌, ◌<◌, [], length, IfOk, slice_index_or};
+ghost use Rattle.std.specs.Prelude.{◌≡◌, ◌<◌, [], length, IfOk, OnOk, slice_index_or};
+ghost use Rattle.ms_ir.specs.Locals.{function_names, locals};
+ghost use Rattle.ms_valid.specs.NamesOnce.{repeats};
 ghost use Rattle.ms_valid.specs.Valid.{Valid};
-ghost use Rattle.ms_elide.specs.CleanSets.{is_in, IsExact};
+ghost use Rattle.ms_elide.specs.CleanSets.{is_in, HasMore, IsExact};
 
 use crate::values::values_of;
 use ms_bits::NoMemory;
-use ms_ir::{Module, Name};
+use ms_ir::{Func, Module, Name};
 use ms_tables::{NameTable, functions_of};
 use std::alloc::Global;
 use std::marker::Model;
@@ -62,10 +64,39 @@ pub fn clean_values(alloc: Global, m: &Module) -> Result<CleanSet<'_>, NoMemory>
     ensures exact { IfOk result (λ s. IsExact m.now s) }
 {
     let functions = functions_of(alloc, m)?;
+    let funcs = values_by_function(alloc, &functions, m)?;
+    Ok(CleanSet { funcs })
+}
+
+/// The clean values of each function of a valid module, whose functions have the names `functions`.
+fn values_by_function<'m>(
+    alloc: Global,
+    functions: &NameTable<'m>,
+    m: &'m Module,
+) -> Result<Vec<NameTable<'m>>, NoMemory>
+    requires valid { Valid m.now }
+    requires named { functions.now ≡ function_names m.now }
+    ensures functions { IfOk result (λ all. length all.items ≡ length m.now.funcs) }
+    ensures exact { IfOk result (λ all. IsExact m.now all.items) }
+{
     let mut funcs = Vec::with_capacity(alloc, m.funcs.as_slice().len())?;
     for func in m.funcs.as_slice() {
-        let names = values_of(alloc, &functions, func)?;
-        funcs.push(names)?;
+        push_values(alloc, &mut funcs, functions, func)?;
     }
-    Ok(CleanSet { funcs })
+    Ok(funcs)
+}
+
+/// Adds the clean values of a function to those of the functions before it.
+fn push_values<'m>(
+    alloc: Global,
+    funcs: &mut Vec<NameTable<'m>>,
+    functions: &NameTable<'m>,
+    func: &'m Func,
+) -> Result<(), NoMemory>
+    requires { repeats [] (locals func.now) ≡ [] }
+    ensures { OnOk result (HasMore functions.now func.now funcs.old.items funcs.new.items) }
+{
+    let names = values_of(alloc, functions, func)?;
+    funcs.push(names)?;
+    Ok(())
 }

@@ -1,16 +1,18 @@
 //! The clean values of a function.
-ghost use Rattle.std.specs.Prelude.{◌≡◌, ◌++◌, ◌↔◌, [], IfOk, IsTrue, OnOk, filter, option_to_list};
+ghost use Rattle.std.specs.Prelude.{◌≡◌, ◌++◌, ◌↔◌, ℕ, [], false, IfOk, IsTrue, OnOk, filter, map, option_to_list, slice_index_or};
 ghost use Rattle.ms_ir.specs.declared.syntax.Name.{Name as NameOf};
 ghost use Rattle.ms_ir.specs.declared.syntax.Module.{Module};
 ghost use Rattle.ms_ir.specs.Equal.{has_name};
 ghost use Rattle.ms_ir.specs.Locals.{locals, results, func_insts, function_names};
 ghost use Rattle.ms_valid.specs.NamesOnce.{repeats};
 ghost use Rattle.ms_valid.specs.CleanValues.{IsClean};
-ghost use Rattle.ms_elide.specs.Needed.{is_member};
+ghost use Rattle.ms_tables.specs.FirstPlace.{first_place};
+ghost use Rattle.ms_greatest.specs.SelfSupport.{IsInGreatest};
+ghost use Rattle.ms_elide.specs.Needed.{is_member, row_needs, rows};
 
 use crate::needs::needs_of;
 use crate::scopes::Scope;
-use ms_bits::NoMemory;
+use ms_bits::{List, NoMemory};
 use ms_greatest::greatest;
 use ms_ir::{Block, Func, Inst, Name};
 use ms_tables::{NameTable, locals_of};
@@ -74,6 +76,15 @@ fn members_of<'m>(
     Ok(names)
 }
 
+/// Whether each local of a function is clean, by their places. The one error is want of memory.
+fn clean_places(alloc: Global, scope: &Scope<'_, '_>, func: &Func) -> Result<List<bool>, NoMemory>
+    requires { scope.now.locals.now ≡ locals func.now }
+    ensures { IfOk result (λ members. (place : ℕ) → IsTrue (slice_index_or members place false) ↔ IsInGreatest (map (row_needs (first_place scope.now.locals.now) (first_place scope.now.functions.now)) (rows func.now)) place) }
+{
+    let needs = needs_of(alloc, scope, func)?;
+    greatest(alloc, &needs)
+}
+
 /// The names of the clean values of a function. The one error is want of memory.
 pub fn values_of<'m>(
     alloc: Global,
@@ -88,7 +99,6 @@ pub fn values_of<'m>(
         functions,
         locals: &locals,
     };
-    let needs = needs_of(alloc, &scope, func)?;
-    let members = greatest(alloc, &needs)?;
+    let members = clean_places(alloc, &scope, func)?;
     members_of(alloc, &locals, members.as_slice(), func)
 }
