@@ -1,9 +1,12 @@
 //! What is said of a module's text.
-ghost use Rattle.std.specs.Prelude.{◌≡◌, ◌≤◌, ◌++◌, [], false, length, IfOk};
+ghost use Rattle.std.specs.Prelude.{◌≡◌, ◌≤◌, ◌++◌, [], false, length, IfErr, IfOk, IfSome, OnOk};
 ghost use Rattle.ms_runs.specs.Limits.{WithinLimits};
 ghost use Rattle.ms_runs.specs.Plain.{plain};
 ghost use Rattle.ms_valid.specs.Formed.{Formed};
+ghost use Rattle.ms_valid.specs.Refusals.{IsRefused};
 ghost use Rattle.ms_valid.specs.Uninstrumented.{CanInstrument};
+ghost use Rattle.ms_valid.specs.Valid.{Valid};
+ghost use Rattle.ms_check.specs.Faults.{fault_of};
 ghost use Rattle.ms_report.specs.RefusalTexts.{HasLine, refusal_text, wants_memory as is_want_of_memory};
 ghost use Rattle.ms_report.specs.ReportTexts.{report_text_of};
 ghost use Rattle.ms_report.specs.RunTexts.{closing_of};
@@ -15,8 +18,8 @@ ghost use Rattle.ms_top.specs.Said.{answer_of, answer_of_result, says, status_of
 use crate::commands::form_of;
 use crate::corpus::{Jobs, answer_of_corpus};
 use crate::generated::{summarised, written};
-use crate::passes::Pass;
-use ms_bits::{Bytes, NoMemory};
+use crate::passes::{Pass, instrumented_by};
+use ms_bits::{Boxed, Bytes, NoMemory};
 use ms_check::{CheckError, CheckedModule, check};
 use ms_fork::Gate;
 use ms_ir::Module;
@@ -78,7 +81,7 @@ pub fn answer_to_text<R: Threads + Sync, P: Pass, G: Gate + Sync>(
 {
     match read(alloc, text, form_of(command)) {
         Ok(module) => answer_to_module(rt, alloc, command, module, inputs, pass, gate),
-        Err(cause) => refused(alloc, &Refusal::Read(cause)),
+        Err(cause) => refused(alloc, Refusal::Read(cause)),
     }
 }
 
@@ -98,10 +101,30 @@ fn answer_to_module<R: Threads + Sync, P: Pass, G: Gate + Sync>(
     requires inputs { AreShort inputs.now }
     ensures { IfOk result (λ a. IsAnswerToModule P.gives command.now inputs.now m a) }
 {
-    match check(alloc, m) {
-        Ok(checked) => answer_to_valid(rt, alloc, command, &checked, inputs, pass, gate),
-        Err((cause, _)) => refused(alloc, &Refusal::Check(cause)),
+    match checked(alloc, m) {
+        Ok(module) => answer_to_valid(rt, alloc, command, module.get(), inputs, pass, gate),
+        Err(cause) => refused(alloc, Refusal::Check(cause)),
     }
+}
+
+/// A module that is checked, on the heap, or why it isn't valid.
+fn checked(alloc: Global, m: Module) -> Result<Boxed<CheckedModule>, CheckError>
+    requires { Formed m }
+    ensures valid { OnOk result (Valid m) }
+    ensures kept { IfOk result (λ known. known ≡ m) }
+    ensures refused { IfErr result (λ cause. IfSome (fault_of cause) (IsRefused m)) }
+{
+    match check(alloc, m) {
+        Ok(module) => Ok(Boxed::new(alloc, module)?),
+        Err(refused) => Err(cause_of(refused)),
+    }
+}
+
+/// Why a module isn't valid. The module is let go.
+fn cause_of(refused: (CheckError, Module)) -> CheckError
+    ensures { result ≡ refused.0 }
+{
+    refused.0
 }
 
 /// The answer to a command on a valid module.
@@ -222,8 +245,8 @@ pub fn run_given<R: Threads + Sync, P: Pass>(
     requires limits { WithinLimits setup.now }
     ensures { IfOk result (λ r. IsRunOfGiven P.gives m.now setup.now r) }
 {
-    let instrumented = pass.instrument(rt, alloc, m)?;
-    run(alloc, &instrumented, setup)
+    let instrumented = instrumented_by(rt, alloc, m, pass)?;
+    run(alloc, instrumented.get(), setup)
 }
 
 /// What a run with these options and this input is given.
@@ -285,7 +308,17 @@ pub fn status_of(r: &RunResult) -> u8
 }
 
 /// The answer for a module that is refused. Where the cause is want of memory, so is the error.
-fn refused(alloc: Global, cause: &Refusal) -> Result<Answer, NoMemory>
+fn refused(alloc: Global, cause: Refusal) -> Result<Answer, NoMemory>
+    requires { is_want_of_memory cause ≡ false → HasLine cause }
+    ensures reason { IfOk result (λ a. is_want_of_memory cause ≡ false) }
+    ensures line { IfOk result (λ a. a ≡ says 5 (refusal_text cause)) }
+{
+    let cause = Boxed::new(alloc, cause)?;
+    refused_for(alloc, cause.get())
+}
+
+/// The answer for a module that is refused for this cause.
+fn refused_for(alloc: Global, cause: &Refusal) -> Result<Answer, NoMemory>
     requires { is_want_of_memory cause.now ≡ false → HasLine cause.now }
     ensures reason { IfOk result (λ a. is_want_of_memory cause.now ≡ false) }
     ensures line { IfOk result (λ a. a ≡ says 5 (refusal_text cause.now)) }

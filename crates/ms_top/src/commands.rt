@@ -1,10 +1,23 @@
-//! What belongs to a command: the form and the size of its module's text, and the names of its inputs' files.
-ghost use Rattle.std.specs.Prelude.{◌≡◌};
+//! The command that words ask for, and what belongs to it: the form and the size of its module's text, and the names of its
+//! inputs' files.
+ghost use Rattle.std.specs.Prelude.{◌≡◌, IfOk};
+ghost use Rattle.ms_words.specs.Limits.{IsWithinLimits};
+ghost use Rattle.ms_words.specs.Words.{IsAnswer};
 ghost use Rattle.ms_top.specs.Command.{form_of, input_names, module_limit};
 
-use ms_bits::Text;
+use ms_bits::{Boxed, Text};
 use ms_ir::Form;
-use ms_words::Command;
+use ms_words::{Command, WordsError, read_words};
+use std::alloc::Global;
+
+/// The command that words ask for, on the heap.
+pub fn read_command(alloc: Global, words: &[Text]) -> Result<Boxed<Command>, WordsError>
+    ensures answer { IsAnswer words.now result }
+    ensures limits { IfOk result IsWithinLimits }
+{
+    let command = read_words(alloc, words)?;
+    Ok(Boxed::new(alloc, command)?)
+}
 
 /// The names of the inputs' files, in order.
 pub fn inputs_of(command: &Command) -> &[Text]

@@ -1,13 +1,14 @@
 //! What `corpus` says: a section for each input.
-ghost use Rattle.std.specs.Prelude.{◌≡◌, ◌≤◌, ◌++◌, IfOk};
+ghost use Rattle.std.specs.Prelude.{◌≡◌, ◌≤◌, ◌++◌, [], codes, decimal, IfOk};
 ghost use Rattle.ms_valid.specs.Formed.{Formed};
 ghost use Rattle.ms_valid.specs.Uninstrumented.{CanInstrument};
 ghost use Rattle.ms_words.specs.Limits.{RunsWithinLimits};
+ghost use Rattle.ms_top.specs.Command.{setup_of as setup_with};
 ghost use Rattle.ms_top.specs.Parts.{AreShort, AreRunsOfGiven, AreWithinLimits};
 ghost use Rattle.ms_top.specs.Said.{answer_of_results, has_status, heading_of, section_of, sections_of, status_of_all as status_of_runs, IsAnswerOfCorpus};
 
 use crate::answers::{Answer, lines_of, setup_of, status_of};
-use crate::passes::Pass;
+use crate::passes::{Pass, instrumented_by};
 use ms_bits::{Bytes, List, NoMemory, Text};
 use ms_check::CheckedModule;
 use ms_corpus::run_all;
@@ -44,9 +45,28 @@ pub fn answer_of_corpus<R: Threads + Sync, P: Pass, G: Gate + Sync>(
     ensures { IfOk result (λ a. IsAnswerOfCorpus P.gives jobs.now.names.now options.now jobs.now.inputs.now m.now a) }
 {
     m.is_valid();
-    let setup = setup_of(alloc, options, b"")?;
-    let results = run_jobs(rt, alloc, m, &setup, jobs, pass, gate)?;
+    let results = run_with(rt, alloc, m, options, jobs, pass, gate)?;
     answer_of_runs(alloc, m.module(), jobs.names, results.as_slice())
+}
+
+/// The runs with these options of the module that the pass gives, in the order of the inputs.
+fn run_with<R: Threads + Sync, P: Pass, G: Gate + Sync>(
+    rt: &R,
+    alloc: Global,
+    m: &CheckedModule,
+    options: &Options,
+    jobs: &Jobs<'_>,
+    pass: &P,
+    gate: &G,
+) -> Result<List<RunResult>, NoMemory>
+    requires plain { CanInstrument m.now }
+    requires limits { RunsWithinLimits options.now }
+    requires workers { (1 ≤ jobs.now.workers) × (jobs.now.workers ≤ 8) }
+    requires inputs { AreShort jobs.now.inputs.now }
+    ensures { IfOk result (λ rs. AreRunsOfGiven P.gives m.now (setup_with options.now []) jobs.now.inputs.now rs) }
+{
+    let setup = setup_of(alloc, options, b"")?;
+    run_jobs(rt, alloc, m, &setup, jobs, pass, gate)
 }
 
 /// The runs of the module that the pass gives, in the order of the inputs.
@@ -64,11 +84,11 @@ fn run_jobs<R: Threads + Sync, P: Pass, G: Gate + Sync>(
     requires workers { (1 ≤ jobs.now.workers) × (jobs.now.workers ≤ 8) }
     ensures { IfOk result (λ rs. AreRunsOfGiven P.gives m.now setup.now jobs.now.inputs.now rs) }
 {
-    let instrumented = pass.instrument(rt, alloc, m)?;
+    let instrumented = instrumented_by(rt, alloc, m, pass)?;
     run_all(
         rt,
         alloc,
-        &instrumented,
+        instrumented.get(),
         jobs.inputs,
         setup,
         jobs.workers,
@@ -142,14 +162,21 @@ fn push_section(
 fn push_heading(text: &mut Vec<u8>, number: u64, name: &Text, r: &RunResult) -> Result<(), NoMemory>
     ensures { IfOk result (λ _. text.new.items ≡ text.old.items ++ heading_of number name.now r.now) }
 {
-    text.extend_from_slice(b"input ")?;
-    push_number(text, number)?;
-    text.extend_from_slice(b", ")?;
-    push_number(text, r.output.as_slice().len() as u64)?;
-    text.extend_from_slice(b" bytes: ")?;
+    push_size(text, number, r.output.as_slice().len() as u64)?;
     text.extend_from_slice(name.as_str().as_bytes())?;
     text.push(b'\n')?;
     Ok(())
+}
+
+/// Begins the first line of a section, with its number and how many bytes the run put out.
+fn push_size(text: &mut Vec<u8>, number: u64, size: u64) -> Result<(), NoMemory>
+    ensures { IfOk result (λ _. text.new.items ≡ text.old.items ++ (codes "input " ++ decimal number ++ codes ", " ++ decimal size ++ codes " bytes: ")) }
+{
+    text.extend_from_slice(b"input ")?;
+    push_number(text, number)?;
+    text.extend_from_slice(b", ")?;
+    push_number(text, size)?;
+    text.extend_from_slice(b" bytes: ")
 }
 
 /// Whether a run has a status.

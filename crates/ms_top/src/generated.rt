@@ -14,7 +14,7 @@ ghost use Rattle.ms_top.specs.Said.{answer_of, status_of as status_of_run, summa
 
 use crate::answers::{Answer, lines_of, run_given, status_of};
 use crate::passes::Pass;
-use ms_bits::{Bytes, NoMemory};
+use ms_bits::{Boxed, Bytes, NoMemory};
 use ms_check::CheckedModule;
 use ms_gen::generate;
 use ms_ir::{Module, sites_of_funcs};
@@ -65,8 +65,18 @@ fn summary_of_module<R: Threads + Sync, P: Pass>(
     requires plain { CanInstrument m }
     ensures { IfOk result (λ a. IsAnswerOfGen P.gives true m a) }
 {
+    let checked = with_code(alloc, m)?;
+    summarised(rt, alloc, checked.get(), pass)
+}
+
+/// A module that is known to be valid, with its code, on the heap.
+fn with_code(alloc: Global, m: Module) -> Result<Boxed<CheckedModule>, NoMemory>
+    requires formed { Formed m }
+    requires valid { Valid m }
+    ensures { IfOk result (λ checked. checked ≡ m) }
+{
     let checked = CheckedModule::of_valid(alloc, m)?;
-    summarised(rt, alloc, &checked, pass)
+    Boxed::new(alloc, checked)
 }
 
 /// The summary of a module's run: the module is checked with no option given.

@@ -7,7 +7,7 @@ ghost use Rattle.ms_valid.specs.Formed.{Formed};
 ghost use Rattle.ms_valid.specs.Uninstrumented.{CanInstrument};
 ghost use Rattle.ms_top.specs.Instrumented.{IsInstrumented};
 
-use ms_bits::{Duplicate, NoMemory};
+use ms_bits::{Boxed, Duplicate, NoMemory};
 use ms_check::CheckedModule;
 use ms_fork::OpenGate;
 use ms_ir::Module;
@@ -50,6 +50,20 @@ pub trait Pass {
         module.is_valid();
         Ok(module.into_module())
     }
+}
+
+/// The module that a pass makes, on the heap. The one error is want of memory.
+pub(crate) fn instrumented_by<R: Threads + Sync, P: Pass>(
+    rt: &R,
+    alloc: Global,
+    m: &CheckedModule,
+    pass: &P,
+) -> Result<Boxed<CheckedModule>, NoMemory>
+    requires { CanInstrument m.now }
+    ensures { IfOk result (λ j. P.gives m.now j) }
+{
+    let instrumented = pass.instrument(rt, alloc, m)?;
+    Boxed::new(alloc, instrumented)
 }
 
 /// The pass itself, each of whose pieces enters a gate.

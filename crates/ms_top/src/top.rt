@@ -9,13 +9,14 @@ ghost use Rattle.ms_top.specs.Instrumented.{IsInstrumented};
 ghost use Rattle.ms_top.specs.Said.{IsSaid, IsPartlySaid, IsDone, IsPartlyDone, IsTold, IsPartlyTold, between};
 
 use crate::answers::Answer;
+use crate::commands::read_command;
 use crate::files::{answer_to_command, no_command};
 use crate::passes::{Pass, RealPass};
 use crate::pieces::say;
 use ms_bits::{NoMemory, Text};
 use ms_fork::{Gate, OpenGate};
 use ms_io::{Files, Sink};
-use ms_words::{Command, read_words};
+use ms_words::Command;
 use std::alloc::Global;
 use std::thread::Threads;
 
@@ -54,10 +55,10 @@ pub fn msan<R: Threads + Sync, F: Files, O: Sink, E: Sink>(
     ensures err_faults_never_fall { E.faults err.old ≤ E.faults err.new }
     ensures unread { (fault : WordsError) → command_of words.now ≡ Err fault → files.new ≡ files.old }
 {
-    match read_words(alloc, words) {
+    match read_command(alloc, words) {
         Ok(command) => {
             let pass = RealPass::new(OpenGate);
-            job(rt, alloc, &command, files, out, err, &pass, &OpenGate)
+            job(rt, alloc, command.get(), files, out, err, &pass, &OpenGate)
         }
         Err(fault) => put_answer(no_command(alloc, fault), out, err),
     }

@@ -1,4 +1,4 @@
-use Rattle.std.proofs.Common.{◌≢◌, sym, subst, arith}
+use Rattle.std.proofs.Common.{◌≢◌, Ok, ap, sym, ◌∙◌, subst, arith}
 use Rattle.ms_top.specs.declared.answers.Answer.{Answer}
 use Rattle.ms_top.specs.Files.{Counted, counted}
 use Rattle.ms_top.specs.Instrumented.{IsInstrumented}
@@ -15,25 +15,25 @@ pub returns-in-Ok-clause-said : goal.returns-in-Ok-clause-said
 returns-in-Ok-clause-said g c = λ done.
     let counts : Counted = counted (g.F.Files.held c.args.files.now) (g.F.Files.faults c.args.files.now) (g.F.Files.faults c.job.new.files) (g.F.Files.taken c.args.files.now) (g.F.Files.taken c.job.new.files) in
     let w : Written = between (g.O.Sink.written c.args.out.now) (g.E.Sink.written c.args.err.now) (g.O.Sink.written c.job.new.out) (g.E.Sink.written c.job.new.err) in
-    written_more (IsAnswerToCommand IsInstrumented counts c.in-Ok.command) (IsAnswer IsInstrumented counts c.args.words.now)
-    (λ a is. command_answer counts c.args.words.now c.read_words.result c.in-Ok.command a c.read_words.ensures.answer c.in-Ok.is is) w c.job.result (c.job.ensures.said done)
+    written_more (IsAnswerToCommand IsInstrumented counts c.get.result.now) (IsAnswer IsInstrumented counts c.args.words.now)
+    (λ a is. command_answer counts c.args.words.now c.read_command.result c.get.result.now a c.read_command.ensures.answer (c.in-Ok.is ∙ ap Ok (sym c.get.ensures)) is) w c.job.result (c.job.ensures.said done)
 
 pub returns-in-Ok-clause-partly_said : goal.returns-in-Ok-clause-partly_said
 returns-in-Ok-clause-partly_said g c = λ failed.
     let counts : Counted = counted (g.F.Files.held c.args.files.now) (g.F.Files.faults c.args.files.now) (g.F.Files.faults c.job.new.files) (g.F.Files.taken c.args.files.now) (g.F.Files.taken c.job.new.files) in
     let w : Written = between (g.O.Sink.written c.args.out.now) (g.E.Sink.written c.args.err.now) (g.O.Sink.written c.job.new.out) (g.E.Sink.written c.job.new.err) in
-    partly_more (IsAnswerToCommand IsInstrumented counts c.in-Ok.command) (IsAnswer IsInstrumented counts c.args.words.now)
-    (λ a is. command_answer counts c.args.words.now c.read_words.result c.in-Ok.command a c.read_words.ensures.answer c.in-Ok.is is) w (c.job.ensures.partly_said failed)
+    partly_more (IsAnswerToCommand IsInstrumented counts c.get.result.now) (IsAnswer IsInstrumented counts c.args.words.now)
+    (λ a is. command_answer counts c.args.words.now c.read_command.result c.get.result.now a c.read_command.ensures.answer (c.in-Ok.is ∙ ap Ok (sym c.get.ensures)) is) w (c.job.ensures.partly_said failed)
 
 pub returns-in-Ok-clause-unread : goal.returns-in-Ok-clause-unread
-returns-in-Ok-clause-unread g c = λ fault wrong. absurd (no_command c.args.words.now c.read_words.result c.in-Ok.command fault c.read_words.ensures.answer c.in-Ok.is wrong)
+returns-in-Ok-clause-unread g c = λ fault wrong. absurd (no_command c.args.words.now c.read_command.result c.in-Ok.command fault c.read_command.ensures.answer c.in-Ok.is wrong)
 
 pub returns-in-Err-clause-said : goal.returns-in-Err-clause-said
 returns-in-Err-clause-said g c = λ done.
     let counts : Counted = counted (g.F.Files.held c.args.files.now) (g.F.Files.faults c.args.files.now) (g.F.Files.faults c.args.files.now) (g.F.Files.taken c.args.files.now) (g.F.Files.taken c.args.files.now) in
     let w : Written = between (g.O.Sink.written c.args.out.now) (g.E.Sink.written c.args.err.now) (g.O.Sink.written c.put_answer.new.out) (g.E.Sink.written c.put_answer.new.err) in
     told (IsAnswer IsInstrumented counts c.args.words.now) w c.no_command.result c.put_answer.result
-    (on_both c.no_command.result (λ a some is. fault_answer counts c.args.words.now c.read_words.result c.in-Err.fault a c.read_words.ensures.answer c.in-Err.is some is) c.no_command.ensures.reason c.no_command.ensures.line)
+    (on_both c.no_command.result (λ a some is. fault_answer counts c.args.words.now c.read_command.result c.in-Err.fault a c.read_command.ensures.answer c.in-Err.is some is) c.no_command.ensures.reason c.no_command.ensures.line)
     (c.put_answer.ensures.told done)
 
 pub returns-in-Err-clause-partly_said : goal.returns-in-Err-clause-partly_said
@@ -41,5 +41,5 @@ returns-in-Err-clause-partly_said g c = λ failed.
     let counts : Counted = counted (g.F.Files.held c.args.files.now) (g.F.Files.faults c.args.files.now) (g.F.Files.faults c.args.files.now) (g.F.Files.taken c.args.files.now) (g.F.Files.taken c.args.files.now) in
     let w : Written = between (g.O.Sink.written c.args.out.now) (g.E.Sink.written c.args.err.now) (g.O.Sink.written c.put_answer.new.out) (g.E.Sink.written c.put_answer.new.err) in
     partly_told (IsAnswer IsInstrumented counts c.args.words.now) w c.no_command.result
-    (on_both c.no_command.result (λ a some is. fault_answer counts c.args.words.now c.read_words.result c.in-Err.fault a c.read_words.ensures.answer c.in-Err.is some is) c.no_command.ensures.reason c.no_command.ensures.line)
+    (on_both c.no_command.result (λ a some is. fault_answer counts c.args.words.now c.read_command.result c.in-Err.fault a c.read_command.ensures.answer c.in-Err.is some is) c.no_command.ensures.reason c.no_command.ensures.line)
     (c.put_answer.ensures.partly_told failed)
