@@ -4,6 +4,7 @@ ghost use Rattle.std.specs.List.{range_with_len};
 ghost use Rattle.ms_ir.specs.Names.{name_eq, main_name};
 ghost use Rattle.ms_tables.specs.FirstPlace.{first_place};
 ghost use Rattle.ms_rules.specs.Scopes.{env_of};
+ghost use Rattle.ms_rules.specs.Valued.{value_names};
 ghost use Rattle.ms_pass.specs.Counted.{here_of, past_blocks, past_funcs, AreSmall};
 ghost use Rattle.ms_pass.specs.Passed.{entry, first_number, func_made, given_by, names_in, no_counts, passed_func};
 ghost use Rattle.ms_pass.specs.Ready.{IsReady};
@@ -46,10 +47,28 @@ fn blocks_in<'m>(
     ensures { IfOk result (λ bs. bs ≡ (passed_func (given_by extents.now functions.now) clean.now (here_of before (name_eq func.now.name main_name)) func.now).blocks) }
 {
     let values = values_of(alloc, func)?;
+    blocks_by(alloc, extents, functions, &values, clean, before, func)
+}
+
+/// The same, where `values` are the names of the function's values.
+fn blocks_by<'m>(
+    alloc: Global,
+    extents: &Extents<'m>,
+    functions: &NameTable<'m>,
+    values: &NameTable<'m>,
+    clean: &NameTable<'m>,
+    before: Counts,
+    func: &'m Func,
+) -> Result<List<Block>, NoMemory>
+    requires values { values.now ≡ value_names func.now }
+    requires ready { IsReady extents.now func.now }
+    requires small { AreSmall (past_blocks (first_place functions.now) before func.now.blocks) }
+    ensures { IfOk result (λ bs. bs ≡ (passed_func (given_by extents.now functions.now) clean.now (here_of before (name_eq func.now.name main_name)) func.now).blocks) }
+{
     let scope = Scope {
         extents,
         functions,
-        values: &values,
+        values,
         clean,
         main: func.name.is(b"main"),
     };
@@ -62,9 +81,21 @@ fn blocks_in<'m>(
 fn with_blocks(alloc: Global, func: &Func, blocks: List<Block>) -> Result<Func, NoMemory>
     ensures { IfOk result (λ f. f ≡ record func.now { blocks = blocks }) }
 {
+    let params = func.params.copy(alloc)?;
+    with_parts(alloc, func, params, blocks)
+}
+
+/// A function with other parameters and blocks.
+fn with_parts(
+    alloc: Global,
+    func: &Func,
+    params: List<(Ty, Name)>,
+    blocks: List<Block>,
+) -> Result<Func, NoMemory>
+    ensures { IfOk result (λ f. f ≡ record func.now { params = params; blocks = blocks }) }
+{
     let name = func.name.copy(alloc)?;
     let ret = func.ret.copy(alloc)?;
-    let params = func.params.copy(alloc)?;
     Ok(Func {
         name,
         ret,

@@ -12,7 +12,7 @@ use crate::functions::passed_funcs;
 use ms_bits::{Duplicate, List, NoMemory};
 use ms_elide::CleanSet;
 use ms_fork::Gate;
-use ms_ir::{Decl, Func, GlobalVar, Module, runtime_declarations, slot_globals};
+use ms_ir::{Decl, Func, GlobalVar, Module, Name, Ty, runtime_declarations, slot_globals};
 use ms_tables::{Extents, functions_of};
 use std::alloc::Global;
 use std::thread::Threads;
@@ -67,16 +67,53 @@ fn funcs_of<'m, R: Threads + Sync, G: Gate + Sync>(
     ensures { IfOk result (λ fs. fs ≡ map (inst clean.now m.now) (range_with_len 0 (length m.now.funcs))) }
 {
     let extents = Extents::of(alloc, m)?;
+    funcs_within(rt, alloc, m, &extents, clean, gate)
+}
+
+/// The same, where `extents` are those of the module's named types.
+fn funcs_within<'m, R: Threads + Sync, G: Gate + Sync>(
+    rt: &R,
+    alloc: Global,
+    m: &'m Module,
+    extents: &Extents<'m>,
+    clean: &CleanSet<'m>,
+    gate: &G,
+) -> Result<List<Func>, NoMemory>
+    requires extents { extents.now ≡ m.now.types }
+    requires sets { length clean.now ≡ length m.now.funcs }
+    requires ready { All (IsReady m.now.types) m.now.funcs }
+    requires small { AreSmall (past_funcs (first_place (function_names m.now)) no_counts m.now.funcs) }
+    ensures { IfOk result (λ fs. fs ≡ map (inst clean.now m.now) (range_with_len 0 (length m.now.funcs))) }
+{
     let functions = functions_of(alloc, m)?;
     passed_funcs(
         rt,
         alloc,
-        &extents,
+        extents,
         &functions,
         clean,
         m.funcs.as_slice(),
         gate,
     )
+}
+
+/// A module with these types and functions, and behind its globals and declarations the slots and the runtime's.
+fn with_funcs(
+    alloc: Global,
+    m: &Module,
+    types: List<(Name, Ty)>,
+    funcs: List<Func>,
+) -> Result<Module, NoMemory>
+    ensures { IfOk result (λ j. j ≡ record { types = types; globals = m.now.globals ++ slot_globals; decls = m.now.decls ++ runtime_declarations; funcs = funcs }) }
+{
+    let globals = globals_of(alloc, m)?;
+    let decls = declarations_of(alloc, m)?;
+    Ok(Module {
+        types,
+        globals,
+        decls,
+        funcs,
+    })
 }
 
 /// The instrumented form of a module with these clean values, whose functions can be instrumented. The one error is want of
@@ -94,13 +131,6 @@ pub fn passed_module<'m, R: Threads + Sync, G: Gate + Sync>(
     ensures { IfOk result (λ j. j ≡ passed_module clean.now m.now) }
 {
     let types = m.types.copy(alloc)?;
-    let globals = globals_of(alloc, m)?;
-    let decls = declarations_of(alloc, m)?;
     let funcs = funcs_of(rt, alloc, m, clean, gate)?;
-    Ok(Module {
-        types,
-        globals,
-        decls,
-        funcs,
-    })
+    with_funcs(alloc, m, types, funcs)
 }
