@@ -114,10 +114,13 @@ pub fn agrees(alloc: Global, text: &[u8], want: &Want) -> bool {
     }
 }
 
-pub fn all_agree(alloc: Global, cases: &[Case]) -> bool {
-    for case in cases {
-        if !agrees(alloc, case.0.as_bytes(), &case.1) {
-            return false;
+/// Whether the check answers on each module of these tables as it is wanted.
+pub fn all_agree(alloc: Global, tables: &[&[Case]]) -> bool {
+    for cases in tables {
+        for case in *cases {
+            if !agrees(alloc, case.0.as_bytes(), &case.1) {
+                return false;
+            }
         }
     }
     true

@@ -1,10 +1,9 @@
 //! Phis and branches, and functions that are or aren't `main`.
 
-use crate::answers::{Case, Want, all_agree};
-use std::test::Fail;
+use crate::answers::{Case, Want};
 
 /// Phis and branches.
-static EDGES: [Case; 17] = [
+pub static EDGES: [Case; 17] = [
     // A branch to the entry block.
     Case(
         r#"define i32 @main() {
@@ -217,7 +216,7 @@ define i8 @f(i1 %0) {
     ),
 ];
 
-static MAINS: [Case; 6] = [
+pub static MAINS: [Case; 6] = [
     Case("", Want::NoMain),
     Case(
         r#"define i32 @main() {
@@ -256,9 +255,3 @@ define i32 @f() {
         Want::NoMain,
     ),
 ];
-
-#[test]
-fn edges_and_mains_fit(rt: HostRuntime) -> Result<(), Fail> {
-    assert!(rt; all_agree(rt.alloc(), &EDGES) && all_agree(rt.alloc(), &MAINS));
-    Ok(())
-}

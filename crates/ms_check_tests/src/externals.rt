@@ -1,9 +1,8 @@
 //! Declarations, calls and globals, by the C library's declarations and the LLVM Language Reference.
 
-use crate::answers::{Case, Want, all_agree};
-use std::test::Fail;
+use crate::answers::{Case, Want};
 
-static EXTERNALS: [Case; 15] = [
+pub static EXTERNALS: [Case; 15] = [
     Case(
         r#"declare i32 @putchar(i32)
 define i32 @main() {
@@ -152,7 +151,7 @@ define i32 @main() {
     ),
 ];
 
-static SLOTS: [Case; 9] = [
+pub static SLOTS: [Case; 9] = [
     Case(
         r#"@__msan_param_tls = global [ 100 x i64 ] zeroinitializer
 define i32 @main() {
@@ -226,9 +225,3 @@ define i32 @main() {
         Want::Valid,
     ),
 ];
-
-#[test]
-fn externals_and_slots_fit(rt: HostRuntime) -> Result<(), Fail> {
-    assert!(rt; all_agree(rt.alloc(), &EXTERNALS) && all_agree(rt.alloc(), &SLOTS));
-    Ok(())
-}

@@ -23,6 +23,8 @@ mod sites;
 #[cfg(test)]
 mod sizes;
 #[cfg(test)]
+mod tests;
+#[cfg(test)]
 mod types;
 #[cfg(test)]
 mod uses;

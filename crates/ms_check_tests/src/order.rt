@@ -1,9 +1,8 @@
 //! Modules that break two clauses: the first clause is answered, wherever its fault stands.
 
-use crate::answers::{Case, Want, all_agree};
-use std::test::Fail;
+use crate::answers::{Case, Want};
 
-static ORDERS: [Case; 9] = [
+pub static ORDERS: [Case; 9] = [
     Case(
         r#"define i32 @main() {
   ret i32 %9
@@ -89,9 +88,3 @@ define i32 @main() {
         Want::BadMark(1),
     ),
 ];
-
-#[test]
-fn the_first_clause_is_answered(rt: HostRuntime) -> Result<(), Fail> {
-    assert!(rt; all_agree(rt.alloc(), &ORDERS));
-    Ok(())
-}

@@ -1,6 +1,6 @@
 //! Operands, calls, jumps and initialisers whose types agree or don't.
 
-use crate::answers::{Case, Want, agrees, all_agree};
+use crate::answers::{Case, Want, agrees};
 use std::alloc::Global;
 use std::test::Fail;
 
@@ -104,7 +104,7 @@ static PRINTED: [Line; 4] = [
     ),
 ];
 
-static TERMINATORS: [Case; 11] = [
+pub static TERMINATORS: [Case; 11] = [
     Case(
         r#"define i32 @main() {
   ret i32 0
@@ -260,25 +260,26 @@ fn agrees_within(alloc: Global, head: &str, line: &Line, tail: &str) -> bool {
         && agrees(alloc, &text, &line.1)
 }
 
-fn all_agree_within(alloc: Global, head: &str, tail: &str, lines: &[Line]) -> bool {
-    for line in lines {
-        if !agrees_within(alloc, head, line, tail) {
-            return false;
+fn all_agree_within(alloc: Global, head: &str, tail: &str, tables: &[&[Line]]) -> bool {
+    for lines in tables {
+        for line in *lines {
+            if !agrees_within(alloc, head, line, tail) {
+                return false;
+            }
         }
     }
     true
 }
 
 #[test]
-fn types_agree(rt: HostRuntime) -> Result<(), Fail> {
+fn types_of_lines_agree(rt: HostRuntime) -> Result<(), Fail> {
     assert!(rt;
-        all_agree_within(rt.alloc(), HEAD, TAIL, &VALUES)
-            && all_agree_within(rt.alloc(), HEAD, TAIL, &CASTS)
-            && all_agree_within(rt.alloc(), HEAD, TAIL, &INDICES)
-            && all_agree_within(rt.alloc(), HEAD, TAIL, &ARGUMENTS)
-            && all_agree_within(rt.alloc(), HEAD, TAIL, &PRINTED)
-            && all_agree(rt.alloc(), &TERMINATORS)
-            && all_agree_within(rt.alloc(), TYPES, MAIN, &INITIALISERS)
+        all_agree_within(
+            rt.alloc(),
+            HEAD,
+            TAIL,
+            &[&VALUES, &CASTS, &INDICES, &ARGUMENTS, &PRINTED]
+        ) && all_agree_within(rt.alloc(), TYPES, MAIN, &[&INITIALISERS])
     );
     Ok(())
 }
