@@ -1,5 +1,5 @@
 //! The fiber and the world at the start of a run.
-ghost use Rattle.std.specs.Prelude.{◌≡◌, ◌<◌, map, length, IfOk};
+ghost use Rattle.std.specs.Prelude.{◌≡◌, ◌≢◌, ◌<◌, map, length, IfOk};
 ghost use Rattle.ms_runs.specs.Globals.{address_of, constant};
 ghost use Rattle.ms_runs.specs.Plain.{start_world, plain_start};
 ghost use Rattle.ms_valid.specs.Valid.{Valid};
@@ -45,8 +45,17 @@ fn start_world(
     let mut world = World::new(alloc, setup.input.as_slice(), setup.fill.as_slice())?;
     match world.make_globals(extents, m.globals.as_slice(), words) {
         Ok(()) => Ok(world),
-        Err(AllocError::NoMemory) => Err(std::alloc::AllocError),
-        Err(AllocError::Full) => unreachable!(),
+        Err(fault) => Err(wanting(fault)),
+    }
+}
+
+/// Want of memory, where a fault can be nothing else.
+fn wanting(fault: AllocError) -> NoMemory
+    requires { fault ≢ AllocError.Full }
+{
+    match fault {
+        AllocError::NoMemory => std::alloc::AllocError,
+        AllocError::Full => unreachable!(),
     }
 }
 

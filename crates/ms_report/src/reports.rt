@@ -1,5 +1,5 @@
 //! The lines of a run's reports.
-ghost use Rattle.std.specs.Prelude.{◌≡◌, ◌++◌, IfOk, codes, decimal};
+ghost use Rattle.std.specs.Prelude.{◌≡◌, ◌++◌, None, IfOk, IfSome, codes, decimal};
 ghost use Rattle.ms_ir.specs.Places.{HasSmallNumbers};
 ghost use Rattle.ms_ir.specs.Roots.{roots_of, root_numbered};
 ghost use Rattle.ms_valid.specs.Formed.{Formed};
@@ -20,24 +20,35 @@ fn push_hexadecimal(alloc: Global, text: &mut Vec<u8>, number: u64) -> Result<()
     text.extend_from_slice(digits.as_bytes())
 }
 
+/// The printed name of a kind of use, where it has one.
+fn name_of_kind(kind: u32) -> Option<&'static [u8]>
+    ensures named { IfSome result (λ name. kind_text kind ≡ name.now) }
+    ensures unnamed { result ≡ None → kind_text kind ≡ codes "kind " ++ decimal kind }
+{
+    match kind {
+        1 => Some(b"branch"),
+        2 => Some(b"switch"),
+        3 => Some(b"address"),
+        4 => Some(b"divisor"),
+        5 => Some(b"size"),
+        6 => Some(b"pointer"),
+        7 => Some(b"value"),
+        8 => Some(b"exit"),
+        9 => Some(b"output"),
+        10 => Some(b"string"),
+        11 => Some(b"first-bytes"),
+        12 => Some(b"second-bytes"),
+        _ => None,
+    }
+}
+
 /// Adds the name of a kind of use.
 fn push_kind(text: &mut Vec<u8>, kind: u32) -> Result<(), NoMemory>
     ensures { IfOk result (λ _. text.new.items ≡ text.old.items ++ kind_text kind) }
 {
-    match kind {
-        1 => text.extend_from_slice(b"branch"),
-        2 => text.extend_from_slice(b"switch"),
-        3 => text.extend_from_slice(b"address"),
-        4 => text.extend_from_slice(b"divisor"),
-        5 => text.extend_from_slice(b"size"),
-        6 => text.extend_from_slice(b"pointer"),
-        7 => text.extend_from_slice(b"value"),
-        8 => text.extend_from_slice(b"exit"),
-        9 => text.extend_from_slice(b"output"),
-        10 => text.extend_from_slice(b"string"),
-        11 => text.extend_from_slice(b"first-bytes"),
-        12 => text.extend_from_slice(b"second-bytes"),
-        _ => {
+    match name_of_kind(kind) {
+        Some(name) => text.extend_from_slice(name),
+        None => {
             text.extend_from_slice(b"kind ")?;
             push_number(text, kind as u64)
         }

@@ -17,7 +17,7 @@ const RUNTIME: &str =
     "declare void @__msan_check(i64, i32, i32, i32, i32, i32)\ndeclare void @__msan_check_memory(ptr, i64, i32, i32)\ndeclare void @__msan_check_string(ptr, i32)\ndeclare void @__msan_blind(i64)\ndeclare void @__msan_poison(ptr, i64, i64, i32)\ndeclare void @__msan_unpoison(ptr, i64)\ndeclare void @__msan_copy(ptr, ptr, i64)\ndeclare void @__msan_fill(ptr, i64, i64, i32, i32)\ndeclare void @__msan_store_origin(ptr, i64, i32, i32)\ndeclare i32 @__msan_load_origin(ptr, i64)\ndeclare i64 @__msan_size(ptr)\n";
 
 /// Modules are written with inserted code.
-static LISTINGS: [Listing; 8] = [
+static LISTINGS: [Listing; 10] = [
     // Nothing that is known to be defined is checked, and without a mark the last line is missing.
     Listing(
         "%t = type { i8, ptr }\n@g = global i8 7\n",
@@ -190,6 +190,44 @@ define i32 @main() {
   ret i32 0
 5:
   ret i32 1
+}
+!0 = !{}
+",
+    ),
+    // The count is undefined at its own place, and then comes what the allocation leaves undefined.
+    Listing(
+        "",
+        "",
+        "define i32 @main() {\n  %1 = alloca i8, i32 undef\n  ret i32 0\n}\n",
+        "define i32 @main() {
+  %__msan.3 = zext i32 -1 to i64, !nosanitize !0
+  call void @__msan_check(i64 %__msan.3, i32 32, i32 1, i32 5, i32 0, i32 1), !nosanitize !0
+  %1 = alloca i8, i32 undef
+  %__msan.4 = zext i32 undef to i64, !nosanitize !0
+  %__msan.5 = mul i64 1, %__msan.4, !nosanitize !0
+  call void @__msan_poison(ptr %1, i64 0, i64 %__msan.5, i32 2), !nosanitize !0
+  ret i32 0
+}
+!0 = !{}
+",
+    ),
+    // Of a block that is made anew what lies behind its old size is undefined; the name of that size isn't taken again.
+    Listing(
+        "",
+        "declare ptr @realloc(ptr, i64)\n",
+        "define i32 @main() {\n  %1 = call ptr @realloc(ptr null, i64 4)\n  %2 = load i8, ptr %1\n  ret i32 0\n}\n",
+        "define i32 @main() {
+  %__msan.5 = call i64 @__msan_size(ptr null), !nosanitize !0
+  %1 = call ptr @realloc(ptr null, i64 4)
+  call void @__msan_poison(ptr %1, i64 %__msan.5, i64 4, i32 1), !nosanitize !0
+  %__msan.6 = ptrtoint ptr %1 to i64, !nosanitize !0
+  %__msan.7 = xor i64 %__msan.6, 87960930222080, !nosanitize !0
+  %__msan.8 = inttoptr i64 %__msan.7 to ptr, !nosanitize !0
+  %__msan.3 = load i8, ptr %__msan.8, !nosanitize !0
+  %__msan.9 = zext i8 %__msan.3 to i64, !nosanitize !0
+  %__msan.4 = call i32 @__msan_load_origin(ptr %1, i64 %__msan.9), !nosanitize !0
+  %2 = load i8, ptr %1
+  ret i32 0
 }
 !0 = !{}
 ",

@@ -4,10 +4,10 @@ use Rattle.ms_host.specs.Shows.{Shows, first_world}
 use Rattle.ms_machine.proofs.StartGlobals.{globals_made, never_full}
 use Rattle.ms_machine.proofs.starting.start_world.Goals as goal
 
-pub unreachable-requires : goal.unreachable-requires
-unreachable-requires c =
+pub wanting-requires : goal.wanting-requires
+wanting-requires c = λ full.
     never_full c.args.m.now c.args.extents.now c.as_slice-3.result.now c.args.words.now c.as_slice.result.now c.in_ok-world.world c.requires.valid c.requires.extents c.as_slice-3.ensures c.requires.words
-    c.in_ok-world.ensures.shows (c.in-Err-Full.ensures.full (ap Err c.in-Err-Full.field-0-is))
+    c.in_ok-world.ensures.shows (c.in-Err.ensures.full (ap Err full))
 
 pub returns-in-Ok-clause-shows : goal.returns-in-Ok-clause-shows
 returns-in-Ok-clause-shows c =
