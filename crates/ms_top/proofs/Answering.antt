@@ -75,10 +75,6 @@ pub gen_valid : (Gives : Module → Module → Type 0) (command : Command) (seed
     → IsAnswerOfGen Gives run m a → IsAnswerToValid Gives command inputs m a
 gen_valid Gives command seed functions run inputs m a is answers = subst (λ c. IsAnswerToValid Gives c inputs m a) (sym is) answers
 
--- the run of the instrumented form
-pub instrumented_run : (Gives : Module → Module → Type 0) (m j : Module) (s : Setup) (r : RunResult) → Gives m j → r ≡ plain j s → IsRunOfGiven Gives m s r
-instrumented_run Gives m j s r i is = (j, i, is)
-
 pub check_answer : (Gives : Module → Module → Type 0) (m n : Module) (s t : Setup) (r : RunResult) (a : Answer) → n ≡ m → s ≡ t → IsRunOfGiven Gives m s r → a ≡ answer_of_result true n r
     → IsAnswerOfCheck Gives t m a
 check_answer Gives m n s t r a same given q is = (q.0, q.1, is ∙ ap (λ k. answer_of_result true k r) same ∙ ap (answer_of_result true m) (q.2 ∙ ap (plain q.0) given))
