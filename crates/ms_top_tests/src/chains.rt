@@ -5,7 +5,7 @@ use crate::modules::Marked;
 use std::test::Fail;
 
 /// Origins lead back over stores.
-static CHAINS: [Case; 4] = [
+static CHAINS: [Case; 6] = [
     // A byte is stored and then copied sixteen times: the last copy makes the way no longer.
     Case(
         "check f",
@@ -28,6 +28,22 @@ static CHAINS: [Case; 4] = [
         "define i32 @main() {\n  %1 = alloca i8\n  store i8 7, ptr %1\n  store i8 undef, ptr %1\n  %2 = load i8, ptr %1\n  %3 = zext i8 %2 to i32\n  ret i32 %3\n}\n",
         "",
         "report 1: exit at site 6 in @main, part 0, bits 0xff of i32\n  origin 3: stored at site 3 in @main\n  origin 2: undef at site 3 in @main\nend: reported\nreports: 1\nblind: 0\nverdict: poisoned\n",
+        77,
+    ),
+    // Nor does a store of a word whose mask turns out to be 0, though it has an origin.
+    Case(
+        "check f",
+        "define i32 @main() {\n  %1 = and i32 undef, 0\n  %2 = alloca i32\n  store i32 %1, ptr %2\n  store i32 undef, ptr %2\n  %3 = load i32, ptr %2\n  ret i32 %3\n}\n",
+        "",
+        "report 1: exit at site 6 in @main, part 0, bits 0xffffffff of i32\n  origin 4: stored at site 4 in @main\n  origin 3: undef at site 4 in @main\nend: reported\nreports: 1\nblind: 0\nverdict: poisoned\n",
+        77,
+    ),
+    // Of a word of two stores the origin is that of the first byte.
+    Case(
+        "check f",
+        "define i32 @main() {\n  %1 = alloca i64\n  store i32 undef, ptr %1\n  %2 = getelementptr i8, ptr %1, i64 4\n  store i32 undef, ptr %2\n  %3 = load i64, ptr %1\n  %4 = icmp eq i64 %3, 0\n  br i1 %4, label %5, label %6\n5:\n  ret i32 0\n6:\n  ret i32 1\n}\n",
+        "",
+        "report 1: branch at site 7 in @main, part 0, bits 0x1 of i1\n  origin 4: stored at site 2 in @main\n  origin 2: undef at site 2 in @main\nend: reported\nreports: 1\nblind: 0\nverdict: poisoned\n",
         77,
     ),
     // A store in another function.
