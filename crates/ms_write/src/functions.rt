@@ -17,8 +17,7 @@ fn write_parameter(writer: &mut Writer, parameter: &(Ty, Name)) -> Result<(), No
     ensures { IfOk result (λ _. writer.new ≡ put writer.old (parameter_tokens parameter.now)) }
 {
     writer.ty(&parameter.0)?;
-    writer.local(&parameter.1)?;
-    Ok(())
+    writer.local(&parameter.1)
 }
 
 /// Writes parameters behind a comma each.
@@ -55,8 +54,7 @@ fn write_parameter_list(writer: &mut Writer, parameters: &[(Ty, Name)]) -> Resul
 {
     writer.token(b"(")?;
     write_parameters(writer, parameters)?;
-    writer.token(b")")?;
-    Ok(())
+    writer.token(b")")
 }
 
 /// Writes the tokens of the head of a function.
@@ -68,8 +66,7 @@ fn write_head(writer: &mut Writer, func: &Func) -> Result<(), NoMemory>
     writer.result_type(&func.ret)?;
     writer.global(&func.name)?;
     write_parameter_list(writer, func.params.as_slice())?;
-    writer.token(b"{")?;
-    Ok(())
+    writer.token(b"{")
 }
 
 /// Writes the head of a function.
@@ -79,8 +76,7 @@ fn write_head_line(writer: &mut Writer, func: &Func) -> Result<(), NoMemory>
 {
     writer.start_line(b"")?;
     write_head(writer, func)?;
-    writer.end_line()?;
-    Ok(())
+    writer.end_line()
 }
 
 /// Writes a block behind its label.
@@ -89,8 +85,7 @@ fn write_block_lines(writer: &mut Writer, dotted: bool, block: &Block) -> Result
     ensures { IfOk result (λ _. writer.new ≡ put_lines writer.old (block_lines dotted block.now)) }
 {
     writer.label_line(&block.name)?;
-    write_inst_lines(writer, dotted, block.insts.as_slice())?;
-    Ok(())
+    write_inst_lines(writer, dotted, block.insts.as_slice())
 }
 
 /// Writes the label of the first block; it has none where its name is a number.
@@ -110,8 +105,7 @@ fn write_entry_lines(writer: &mut Writer, dotted: bool, entry: &Block) -> Result
     ensures { IfOk result (λ _. writer.new ≡ put_lines writer.old (entry_label entry.now.name ++ body_lines dotted entry.now)) }
 {
     write_entry_label(writer, &entry.name)?;
-    write_inst_lines(writer, dotted, entry.insts.as_slice())?;
-    Ok(())
+    write_inst_lines(writer, dotted, entry.insts.as_slice())
 }
 
 /// Writes blocks behind the first one.
@@ -146,8 +140,7 @@ fn write_last_line(writer: &mut Writer) -> Result<(), NoMemory>
 {
     writer.start_line(b"")?;
     writer.token(b"}")?;
-    writer.end_line()?;
-    Ok(())
+    writer.end_line()
 }
 
 /// Writes a function; `dotted` says whether calls of `printf` have three dots.
@@ -157,6 +150,5 @@ pub fn write_function_lines(writer: &mut Writer, dotted: bool, func: &Func) -> R
 {
     write_head_line(writer, func)?;
     write_blocks_lines(writer, dotted, func.blocks.as_slice())?;
-    write_last_line(writer)?;
-    Ok(())
+    write_last_line(writer)
 }

@@ -37,8 +37,7 @@ fn write_inst(writer: &mut Writer, dotted: bool, inst: &Inst) -> Result<(), NoMe
 {
     write_result_name(writer, &inst.result)?;
     write_op(writer, dotted, &inst.op)?;
-    write_mark(writer, inst.marked)?;
-    Ok(())
+    write_mark(writer, inst.marked)
 }
 
 fn write_inst_line(writer: &mut Writer, dotted: bool, inst: &Inst) -> Result<(), NoMemory>
@@ -46,8 +45,7 @@ fn write_inst_line(writer: &mut Writer, dotted: bool, inst: &Inst) -> Result<(),
 {
     writer.start_line(b"  ")?;
     write_inst(writer, dotted, inst)?;
-    writer.end_line()?;
-    Ok(())
+    writer.end_line()
 }
 
 /// Writes instructions, a line each; `dotted` says whether calls of `printf` have three dots.

@@ -95,8 +95,7 @@ fn write_type_line(writer: &mut Writer, named: &(Name, Ty)) -> Result<(), NoMemo
     writer.token(b"=")?;
     writer.token(b"type")?;
     writer.ty(&named.1)?;
-    writer.end_line()?;
-    Ok(())
+    writer.end_line()
 }
 
 fn write_type_lines(writer: &mut Writer, types: &[(Name, Ty)]) -> Result<(), NoMemory>
@@ -117,8 +116,7 @@ fn write_global(writer: &mut Writer, global: &GlobalVar) -> Result<(), NoMemory>
     writer.token(b"=")?;
     writer.token(global_word(global.constant))?;
     writer.ty(&global.ty)?;
-    writer.init(&global.ty, &global.init)?;
-    Ok(())
+    writer.init(&global.ty, &global.init)
 }
 
 #[tactic(auto, unfolding(ms_written::specs::Modules::global_line))]
@@ -127,8 +125,7 @@ fn write_global_line(writer: &mut Writer, global: &GlobalVar) -> Result<(), NoMe
 {
     writer.start_line(b"")?;
     write_global(writer, global)?;
-    writer.end_line()?;
-    Ok(())
+    writer.end_line()
 }
 
 fn write_global_lines(writer: &mut Writer, globals: &[GlobalVar]) -> Result<(), NoMemory>
@@ -159,8 +156,7 @@ fn write_parameter_types(writer: &mut Writer, decl: &Decl) -> Result<(), NoMemor
     writer.token(b"(")?;
     writer.types(decl.params.as_slice())?;
     write_dots(writer, is_dotted(decl))?;
-    writer.token(b")")?;
-    Ok(())
+    writer.token(b")")
 }
 
 /// Writes the tokens of a declaration.
@@ -171,8 +167,7 @@ fn write_declaration(writer: &mut Writer, decl: &Decl) -> Result<(), NoMemory>
     writer.token(b"declare")?;
     writer.result_type(&decl.ret)?;
     writer.global(&decl.name)?;
-    write_parameter_types(writer, decl)?;
-    Ok(())
+    write_parameter_types(writer, decl)
 }
 
 #[tactic(auto, unfolding(ms_written::specs::Modules::declaration_line))]
@@ -181,8 +176,7 @@ fn write_declaration_line(writer: &mut Writer, decl: &Decl) -> Result<(), NoMemo
 {
     writer.start_line(b"")?;
     write_declaration(writer, decl)?;
-    writer.end_line()?;
-    Ok(())
+    writer.end_line()
 }
 
 fn write_declaration_lines(writer: &mut Writer, decls: &[Decl]) -> Result<(), NoMemory>
@@ -211,8 +205,7 @@ fn write_module_lines(writer: &mut Writer, m: &Module) -> Result<(), NoMemory>
     write_type_lines(writer, m.types.as_slice())?;
     write_global_lines(writer, m.globals.as_slice())?;
     write_declaration_lines(writer, m.decls.as_slice())?;
-    write_functions(writer, has_dots(m), m.funcs.as_slice())?;
-    Ok(())
+    write_functions(writer, has_dots(m), m.funcs.as_slice())
 }
 
 /// Writes the metadata that every mark names.

@@ -76,8 +76,7 @@ fn write_target(writer: &mut Writer, to: &Name) -> Result<(), NoMemory>
     ensures { IfOk result (λ _. writer.new ≡ put writer.old (target_tokens to.now)) }
 {
     writer.token(b"label")?;
-    writer.local(to)?;
-    Ok(())
+    writer.local(to)
 }
 
 #[tactic(auto, using(ms_write_values::proofs::Puts::put_append))]
@@ -93,8 +92,7 @@ fn write_binary(
 {
     writer.token(binary_word(op))?;
     writer.flags(flags)?;
-    writer.two(ty, a, b)?;
-    Ok(())
+    writer.two(ty, a, b)
 }
 
 #[tactic(auto, using(ms_write_values::proofs::Puts::put_append))]
@@ -111,8 +109,7 @@ fn write_icmp(
     writer.token(b"icmp")?;
     writer.flags(flags)?;
     writer.token(predicate_word(pred))?;
-    writer.two(ty, a, b)?;
-    Ok(())
+    writer.two(ty, a, b)
 }
 
 #[tactic(auto, using(ms_write_values::proofs::Puts::put_append))]
@@ -130,8 +127,7 @@ fn write_cast(
     writer.flags(flags)?;
     writer.typed(from, a)?;
     writer.token(b"to")?;
-    writer.ty(to)?;
-    Ok(())
+    writer.ty(to)
 }
 
 #[tactic(auto, using(ms_write_values::proofs::Puts::put_append))]
@@ -149,8 +145,7 @@ fn write_select(
     writer.token(b",")?;
     writer.typed(ty, a)?;
     writer.token(b",")?;
-    writer.typed(ty, b)?;
-    Ok(())
+    writer.typed(ty, b)
 }
 
 #[tactic(auto, using(ms_write_values::proofs::Puts::put_append))]
@@ -158,8 +153,7 @@ fn write_freeze(writer: &mut Writer, ty: &Ty, a: &Operand) -> Result<(), NoMemor
     ensures { IfOk result (λ _. writer.new ≡ put writer.old (word (codes "freeze") ∷ typed_tokens ty.now a.now)) }
 {
     writer.token(b"freeze")?;
-    writer.typed(ty, a)?;
-    Ok(())
+    writer.typed(ty, a)
 }
 
 /// Writes the edge of a phi of a type: a value, and the block that control comes from.
@@ -171,8 +165,7 @@ fn write_edge(writer: &mut Writer, ty: &Ty, edge: &(Operand, Name)) -> Result<()
     writer.value(ty, &edge.0)?;
     writer.token(b",")?;
     writer.local(&edge.1)?;
-    writer.token(b"]")?;
-    Ok(())
+    writer.token(b"]")
 }
 
 /// Writes edges behind a comma each.
@@ -208,8 +201,7 @@ fn write_phi(writer: &mut Writer, ty: &Ty, edges: &[(Operand, Name)]) -> Result<
 {
     writer.token(b"phi")?;
     writer.ty(ty)?;
-    write_edges(writer, ty, edges)?;
-    Ok(())
+    write_edges(writer, ty, edges)
 }
 
 /// Writes the count of an `alloca` behind a comma. That of one item isn't written where its type is `i32`.
@@ -235,8 +227,7 @@ fn write_alloca(
 {
     writer.token(b"alloca")?;
     writer.ty(ty)?;
-    write_item_count(writer, count_ty, count)?;
-    Ok(())
+    write_item_count(writer, count_ty, count)
 }
 
 #[tactic(auto, using(ms_write_values::proofs::Puts::put_append))]
@@ -246,8 +237,7 @@ fn write_load(writer: &mut Writer, ty: &Ty, address: &Operand) -> Result<(), NoM
     writer.token(b"load")?;
     writer.ty(ty)?;
     writer.token(b",")?;
-    write_address(writer, address)?;
-    Ok(())
+    write_address(writer, address)
 }
 
 #[tactic(auto, using(ms_write_values::proofs::Puts::put_append))]
@@ -262,8 +252,7 @@ fn write_store(
     writer.token(b"store")?;
     writer.typed(ty, value)?;
     writer.token(b",")?;
-    write_address(writer, address)?;
-    Ok(())
+    write_address(writer, address)
 }
 
 #[tactic(auto, using(ms_write_values::proofs::Puts::put_append))]
@@ -309,8 +298,7 @@ fn write_arguments(writer: &mut Writer, args: &[(Ty, Operand)]) -> Result<(), No
 {
     writer.token(b"(")?;
     writer.pairs(args)?;
-    writer.token(b")")?;
-    Ok(())
+    writer.token(b")")
 }
 
 #[tactic(auto, using(ms_write_values::proofs::Puts::put_append))]
@@ -327,8 +315,7 @@ fn write_call(
     writer.result_type(ret)?;
     write_callee_type(writer, dotted, ret, callee)?;
     writer.global(callee)?;
-    write_arguments(writer, args)?;
-    Ok(())
+    write_arguments(writer, args)
 }
 
 #[tactic(auto, using(ms_write_values::proofs::Puts::put_append))]
@@ -336,8 +323,7 @@ fn write_branch(writer: &mut Writer, to: &Name) -> Result<(), NoMemory>
     ensures { IfOk result (λ _. writer.new ≡ put writer.old (word (codes "br") ∷ target_tokens to.now)) }
 {
     writer.token(b"br")?;
-    write_target(writer, to)?;
-    Ok(())
+    write_target(writer, to)
 }
 
 #[tactic(auto, using(ms_write_values::proofs::Puts::put_append))]
@@ -354,8 +340,7 @@ fn write_branch_on(
     writer.token(b",")?;
     write_target(writer, yes)?;
     writer.token(b",")?;
-    write_target(writer, no)?;
-    Ok(())
+    write_target(writer, no)
 }
 
 /// Writes a case of a switch: a number, of a single bit too, and a block.
@@ -366,8 +351,7 @@ fn write_case(writer: &mut Writer, ty: &Ty, case: &(u64, Name)) -> Result<(), No
     writer.ty(ty)?;
     writer.number(width_of(ty), case.0)?;
     writer.token(b",")?;
-    write_target(writer, &case.1)?;
-    Ok(())
+    write_target(writer, &case.1)
 }
 
 /// Writes cases behind one another.
@@ -388,8 +372,7 @@ fn write_case_list(writer: &mut Writer, ty: &Ty, cases: &[(u64, Name)]) -> Resul
 {
     writer.token(b"[")?;
     write_cases(writer, ty, cases)?;
-    writer.token(b"]")?;
-    Ok(())
+    writer.token(b"]")
 }
 
 #[tactic(auto, using(ms_write_values::proofs::Puts::put_append))]
@@ -406,8 +389,7 @@ fn write_switch(
     writer.typed(ty, value)?;
     writer.token(b",")?;
     write_target(writer, other)?;
-    write_case_list(writer, ty, cases)?;
-    Ok(())
+    write_case_list(writer, ty, cases)
 }
 
 fn write_ret(writer: &mut Writer, value: &Option<(Ty, Operand)>) -> Result<(), NoMemory>
@@ -415,10 +397,9 @@ fn write_ret(writer: &mut Writer, value: &Option<(Ty, Operand)>) -> Result<(), N
 {
     writer.token(b"ret")?;
     match value {
-        None => writer.token(b"void")?,
-        Some(value) => writer.typed(&value.0, &value.1)?,
+        None => writer.token(b"void"),
+        Some(value) => writer.typed(&value.0, &value.1),
     }
-    Ok(())
 }
 
 /// Writes an operation, a comparison, a cast, a choice or a `freeze`.

@@ -17,13 +17,12 @@ impl Writer {
         ensures { IfOk result (λ _. self.new ≡ put self.old (init_tokens ty.now init.now)) }
     {
         match init {
-            Init::Value(value) => self.value(ty, value)?,
-            Init::Zero => self.token(b"zeroinitializer")?,
-            Init::Array(items) => self.array_items(items.as_slice())?,
-            Init::Struct(packed, fields) => self.struct_items(*packed, fields.as_slice())?,
-            Init::Text(bytes) => self.bytes(bytes.as_slice())?,
+            Init::Value(value) => self.value(ty, value),
+            Init::Zero => self.token(b"zeroinitializer"),
+            Init::Array(items) => self.array_items(items.as_slice()),
+            Init::Struct(packed, fields) => self.struct_items(*packed, fields.as_slice()),
+            Init::Text(bytes) => self.bytes(bytes.as_slice()),
         }
-        Ok(())
     }
 
     #[cycle(inits)]
@@ -33,8 +32,7 @@ impl Writer {
     {
         self.token(b"[")?;
         self.items(items)?;
-        self.token(b"]")?;
-        Ok(())
+        self.token(b"]")
     }
 
     #[cycle(inits)]
@@ -44,8 +42,7 @@ impl Writer {
     {
         self.open_struct(packed)?;
         self.items(fields)?;
-        self.close_struct(packed)?;
-        Ok(())
+        self.close_struct(packed)
     }
 
     /// Writes an item of an array or a field of a struct behind its type.
@@ -55,8 +52,7 @@ impl Writer {
         ensures { IfOk result (λ _. self.new ≡ put self.old (item_tokens item.now)) }
     {
         self.ty(&item.0)?;
-        self.init(&item.0, &item.1)?;
-        Ok(())
+        self.init(&item.0, &item.1)
     }
 
     /// Writes items with commas between.

@@ -30,8 +30,7 @@ impl Writer {
     pub fn count(&mut self, number: u64) -> Result<(), NoMemory>
         ensures { IfOk result (λ _. self.new ≡ put self.old (count_token number ∷ [])) }
     {
-        self.number_text(number)?;
-        Ok(())
+        self.number_text(number)
     }
 
     /// Writes a word of an integer type of so many bits as a signed number.

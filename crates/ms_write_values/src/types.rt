@@ -27,8 +27,7 @@ impl Writer {
         ensures { IfOk result (λ _. self.new ≡ put self.old (word (105 ∷ decimal width) ∷ [])) }
     {
         self.begin(b'i')?;
-        self.digits(width as u64)?;
-        Ok(())
+        self.digits(width as u64)
     }
 
     /// Writes what opens a struct, which may be packed.
@@ -38,8 +37,7 @@ impl Writer {
         if packed {
             self.token(b"<")?;
         }
-        self.token(b"{")?;
-        Ok(())
+        self.token(b"{")
     }
 
     /// Writes what closes it.
@@ -59,13 +57,12 @@ impl Writer {
         ensures { IfOk result (λ _. self.new ≡ put self.old (type_tokens ty.now)) }
     {
         match ty {
-            Ty::Int(width) => self.int_type(*width)?,
-            Ty::Ptr => self.token(b"ptr")?,
-            Ty::Array(count, item) => self.array_type(*count, item.get())?,
-            Ty::Struct(packed, fields) => self.struct_type(*packed, fields.as_slice())?,
-            Ty::Named(name) => self.local(name)?,
+            Ty::Int(width) => self.int_type(*width),
+            Ty::Ptr => self.token(b"ptr"),
+            Ty::Array(count, item) => self.array_type(*count, item.get()),
+            Ty::Struct(packed, fields) => self.struct_type(*packed, fields.as_slice()),
+            Ty::Named(name) => self.local(name),
         }
-        Ok(())
     }
 
     #[cycle(types)]
@@ -77,8 +74,7 @@ impl Writer {
         self.count(count)?;
         self.token(b"x")?;
         self.ty(item)?;
-        self.token(b"]")?;
-        Ok(())
+        self.token(b"]")
     }
 
     #[cycle(types)]
@@ -88,8 +84,7 @@ impl Writer {
     {
         self.open_struct(packed)?;
         self.types(fields)?;
-        self.close_struct(packed)?;
-        Ok(())
+        self.close_struct(packed)
     }
 
     /// Writes types with commas between.
@@ -126,9 +121,8 @@ impl Writer {
         ensures { IfOk result (λ _. self.new ≡ put self.old (result_tokens ty.now)) }
     {
         match ty {
-            None => self.token(b"void")?,
-            Some(ty) => self.ty(ty)?,
+            None => self.token(b"void"),
+            Some(ty) => self.ty(ty),
         }
-        Ok(())
     }
 }

@@ -19,8 +19,7 @@ impl Writer {
         ensures { IfOk result (λ _. self.new ≡ put self.old (constant_index_tokens index.now)) }
     {
         self.ty(&index.0)?;
-        self.number(width_of(&index.0), index.1)?;
-        Ok(())
+        self.number(width_of(&index.0), index.1)
     }
 
     /// Writes constant indices behind a comma each.
@@ -44,8 +43,7 @@ impl Writer {
         self.token(b",")?;
         self.token(b"ptr")?;
         self.global(base)?;
-        self.constant_indices(indices)?;
-        Ok(())
+        self.constant_indices(indices)
     }
 
     /// Writes a constant `getelementptr`.
@@ -56,8 +54,7 @@ impl Writer {
         self.token(b"getelementptr")?;
         self.token(b"(")?;
         self.offset_parts(ty, base, indices)?;
-        self.token(b")")?;
-        Ok(())
+        self.token(b")")
     }
 
     /// Writes a value of a type, which isn't written.
@@ -66,15 +63,14 @@ impl Writer {
         ensures { IfOk result (λ _. self.new ≡ put self.old (value_tokens ty.now operand.now)) }
     {
         match operand {
-            Operand::Int(value) => self.integer(width_of(ty), *value)?,
-            Operand::Null => self.token(b"null")?,
-            Operand::Undef => self.token(b"undef")?,
-            Operand::Poison => self.token(b"poison")?,
-            Operand::Local(name) => self.local(name)?,
-            Operand::Global(name) => self.global(name)?,
-            Operand::Offset(ty, base, indices) => self.offset(ty, base, indices.as_slice())?,
+            Operand::Int(value) => self.integer(width_of(ty), *value),
+            Operand::Null => self.token(b"null"),
+            Operand::Undef => self.token(b"undef"),
+            Operand::Poison => self.token(b"poison"),
+            Operand::Local(name) => self.local(name),
+            Operand::Global(name) => self.global(name),
+            Operand::Offset(ty, base, indices) => self.offset(ty, base, indices.as_slice()),
         }
-        Ok(())
     }
 
     /// Writes a value behind its type.
@@ -83,8 +79,7 @@ impl Writer {
         ensures { IfOk result (λ _. self.new ≡ put self.old (typed_tokens ty.now operand.now)) }
     {
         self.ty(ty)?;
-        self.value(ty, operand)?;
-        Ok(())
+        self.value(ty, operand)
     }
 
     /// Writes two values behind their one type.
@@ -94,8 +89,7 @@ impl Writer {
     {
         self.typed(ty, a)?;
         self.token(b",")?;
-        self.value(ty, b)?;
-        Ok(())
+        self.value(ty, b)
     }
 
     /// Writes values with their types, and commas between.

@@ -83,7 +83,6 @@ impl Writer {
         self.flag(flags.exact, b"exact")?;
         self.flag(flags.disjoint, b"disjoint")?;
         self.flag(flags.nneg, b"nneg")?;
-        self.flag(flags.samesign, b"samesign")?;
-        Ok(())
+        self.flag(flags.samesign, b"samesign")
     }
 }

@@ -136,8 +136,7 @@ impl Writer {
         ensures { IfOk result (λ _. self.new ≡ put_text self.old (decimal number)) }
     {
         let mut buffer = Buffer::new();
-        self.token(buffer.format(number).as_bytes())?;
-        Ok(())
+        self.token(buffer.format(number).as_bytes())
     }
 
     /// Begins a line, behind these bytes.

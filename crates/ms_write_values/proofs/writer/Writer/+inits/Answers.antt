@@ -1,5 +1,6 @@
-use Rattle.std.proofs.Common.{◌∙◌, ap, sym}
-use Rattle.std.specs.Prelude.{codes, map}
+use Rattle.std.proofs.Common.{◌≡◌, List, ◌∙◌, ap, subst, sym}
+use Rattle.std.specs.Prelude.{IfOk, codes, map}
+use Rattle.ms_grammar.specs.Lexemes.{Lexeme}
 use Rattle.ms_written.specs.Pieces.{enclosed}
 use Rattle.ms_written.specs.Types.{struct_tokens}
 use Rattle.ms_written.specs.Values.{init_tokens}
@@ -9,18 +10,18 @@ use Rattle.ms_write_values.proofs.Loops.{commas_step, commas_first}
 use Rattle.ms_write_values.proofs.Shapes.{init_array, init_struct}
 use Rattle.ms_write_values.proofs.writer.Writer.+inits.Goals as goal
 
-pub init-returns-in_ok-array_items-in-Array : goal.init-returns-in_ok-array_items-in-Array
-init-returns-in_ok-array_items-in-Array t c =
-    c.in_ok-array_items-in-Array.ensures
-    ∙ ap (put c.args.self.now) (
-    ap (λ items. enclosed (codes "[") (codes "]") (map item_tokens items)) c.as_slice.ensures ∙ sym (init_array c.args.ty.now c.in-Array.items) ∙ ap (init_tokens c.args.ty.now) (sym c.in-Array.is))
+pub init-returns-in-Array : goal.init-returns-in-Array
+init-returns-in-Array t c =
+    subst (λ (tokens : List Lexeme). IfOk c.array_items.result (λ _. c.array_items.new.self ≡ put c.args.self.now tokens))
+    (ap (λ items. enclosed (codes "[") (codes "]") (map item_tokens items)) c.as_slice.ensures ∙ sym (init_array c.args.ty.now c.in-Array.items) ∙ ap (init_tokens c.args.ty.now) (sym c.in-Array.is))
+    c.array_items.ensures
 
-pub init-returns-in_ok-struct_items-in-Struct : goal.init-returns-in_ok-struct_items-in-Struct
-init-returns-in_ok-struct_items-in-Struct t c =
-    c.in_ok-struct_items-in-Struct.ensures
-    ∙ ap (put c.args.self.now) (
-    ap (λ fields. struct_tokens c.in-Struct.packed (map item_tokens fields)) c.as_slice-in-Struct.ensures ∙ sym (init_struct c.args.ty.now c.in-Struct.packed c.in-Struct.fields)
+pub init-returns-in-Struct : goal.init-returns-in-Struct
+init-returns-in-Struct t c =
+    subst (λ (tokens : List Lexeme). IfOk c.struct_items.result (λ _. c.struct_items.new.self ≡ put c.args.self.now tokens))
+    (ap (λ fields. struct_tokens c.in-Struct.packed (map item_tokens fields)) c.as_slice-in-Struct.ensures ∙ sym (init_struct c.args.ty.now c.in-Struct.packed c.in-Struct.fields)
     ∙ ap (init_tokens c.args.ty.now) (sym c.in-Struct.is))
+    c.struct_items.ensures
 
 pub more_items-loop-item-preserved : goal.more_items-loop-item-preserved
 more_items-loop-item-preserved t c =

@@ -1,22 +1,23 @@
-use Rattle.std.proofs.Common.{◌∙◌, ap, sym}
-use Rattle.std.specs.Prelude.{map}
+use Rattle.std.proofs.Common.{◌≡◌, List, ◌∙◌, ap, subst, sym}
+use Rattle.std.specs.Prelude.{IfOk, map}
+use Rattle.ms_grammar.specs.Lexemes.{Lexeme}
 use Rattle.ms_written.specs.Types.{type_tokens, array_tokens, struct_tokens}
 use Rattle.ms_write_values.specs.Sheets.{put}
 use Rattle.ms_write_values.proofs.Loops.{commas_step, commas_first}
 use Rattle.ms_write_values.proofs.Shapes.{type_array, type_struct}
 use Rattle.ms_write_values.proofs.writer.Writer.+types.Goals as goal
 
-pub ty-returns-in_ok-array_type-in-Array : goal.ty-returns-in_ok-array_type-in-Array
-ty-returns-in_ok-array_type-in-Array t c =
-    c.in_ok-array_type-in-Array.ensures
-    ∙ ap (put c.args.self.now) (
-    ap (λ u. array_tokens c.in-Array.count (type_tokens u)) c.get.ensures ∙ sym (type_array c.in-Array.count c.in-Array.item) ∙ ap type_tokens (sym c.in-Array.is))
+pub ty-returns-in-Array : goal.ty-returns-in-Array
+ty-returns-in-Array t c =
+    subst (λ (tokens : List Lexeme). IfOk c.array_type.result (λ _. c.array_type.new.self ≡ put c.args.self.now tokens))
+    (ap (λ u. array_tokens c.in-Array.count (type_tokens u)) c.get.ensures ∙ sym (type_array c.in-Array.count c.in-Array.item) ∙ ap type_tokens (sym c.in-Array.is))
+    c.array_type.ensures
 
-pub ty-returns-in_ok-struct_type-in-Struct : goal.ty-returns-in_ok-struct_type-in-Struct
-ty-returns-in_ok-struct_type-in-Struct t c =
-    c.in_ok-struct_type-in-Struct.ensures
-    ∙ ap (put c.args.self.now) (
-    ap (λ us. struct_tokens c.in-Struct.packed (map type_tokens us)) c.as_slice.ensures ∙ sym (type_struct c.in-Struct.packed c.in-Struct.fields) ∙ ap type_tokens (sym c.in-Struct.is))
+pub ty-returns-in-Struct : goal.ty-returns-in-Struct
+ty-returns-in-Struct t c =
+    subst (λ (tokens : List Lexeme). IfOk c.struct_type.result (λ _. c.struct_type.new.self ≡ put c.args.self.now tokens))
+    (ap (λ us. struct_tokens c.in-Struct.packed (map type_tokens us)) c.as_slice.ensures ∙ sym (type_struct c.in-Struct.packed c.in-Struct.fields) ∙ ap type_tokens (sym c.in-Struct.is))
+    c.struct_type.ensures
 
 pub more_types-loop-ty-preserved : goal.more_types-loop-ty-preserved
 more_types-loop-ty-preserved t c =
