@@ -1,6 +1,7 @@
 -- Operands on a stack, of which the last is on top, and what steps make of them.
 use Rattle.std.proofs.Common.{◌≡◌, true, ℕ, ◌+◌, List, [], ◌∷◌, ◌++◌, refl, sym, ap, ◌∙◌, subst, append_assoc, Some}
 use Rattle.std.proofs.Math.Path.{ap₂}
+use Rattle.std.specs.Prelude.{OnOk, Result, Ok, Err}
 use Rattle.std.proofs.lemmas.Bool.{false≢true}
 use Rattle.ms_bits.specs.NoFlags.{no_flags}
 use Rattle.ms_bits.specs.declared.operations.CastOp.{CastOp}
@@ -183,6 +184,11 @@ numbered o rest os from c st others e a p q =
           ∙ ap (λ f. let r : Code = record { code = from.code ++ (base.code ++ f.code); next = f.next } in r) (sym closed);
       operands = q ∙ ap₂ (λ d f. d ++ f.operand ∷ []) a.rest_is (sym closed);
     }
+
+-- what holds of an answer, where there is one
+pub on_ok : {A E P Q : Type 0} (r : Result A E) → (P → Q) → OnOk r P → OnOk r Q
+on_ok (Ok a) f h = f h
+on_ok (Err e) f h = tt
 
 pub operation_holds : (i : Inputs) (s : Step) (from old new : Code) (st : List Expr) (os more : List Operand) → is_operation s ≡ true
     → new ≡ with_operation old (operation_at i s os) → more ≡ left_by s os ++ operand.Local (msan_name old.next) ∷ [] → Holds from st old os

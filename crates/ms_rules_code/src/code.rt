@@ -1,6 +1,8 @@
 //! A list of instructions that grows at its end.
-ghost use Rattle.std.specs.Prelude.{◌≡◌, ℕ, length, ◌+◌, ◌-◌, ◌<◌, ◌≤◌, ◌^◌, ◌++◌, [], ◌∷◌, true, reverse, map, List, OnOk, Option, Some, None};
+ghost use Rattle.std.specs.Prelude.{◌≡◌, ℕ, length, ◌+◌, ◌-◌, ◌<◌, ◌≤◌, ◌^◌, ◌++◌, [], ◌∷◌, true, reverse, map, List as ListOf, OnOk, Option, Some, None};
 ghost use Rattle.ms_ir.specs.declared.syntax.Ty.{Ty as TyOf, Int};
+ghost use Rattle.ms_ir.specs.declared.syntax.Op.TheVariants as instruction;
+ghost use Rattle.ms_ir.specs.Names.{runtime_name as runtime_name_of};
 ghost use Rattle.ms_ir.specs.Signatures.{runtime_signature};
 ghost use Rattle.ms_tasks.specs.Tasks.{inserted, Expr, Sets, Tries, Fetches, Puts, Calls};
 ghost use Rattle.ms_rules_code.specs.Made.{with_tasks};
@@ -14,7 +16,7 @@ use crate::names::runtime_name;
 use crate::operands::leaf_operand;
 use crate::operations::{NO_FLAGS, binary, load, operation_at, store};
 use crate::steps::Step;
-use ms_bits::{BinOp, NoMemory};
+use ms_bits::{BinOp, List, NoMemory};
 use ms_ir::{Inst, Name, Op, Operand, RuntimeFn, Ty};
 use std::alloc::Global;
 use std::marker::Model;
@@ -198,10 +200,22 @@ impl Code {
         inputs: &Inputs<'_>,
         steps: &[Step],
     ) -> Result<(), NoMemory>
-        ensures { (args : List (TyOf × Expr)) → map (λ a. a.0) args ≡ (runtime_signature function).params → map (λ a. a.1) args ≡ reverse (words (inputs_of inputs.now) steps.now []) → OnOk result (self.new ≡ with_tasks self.old (Calls name function args ∷ [])) }
+        ensures { (args : ListOf (TyOf × Expr)) → map (λ a. a.0) args ≡ (runtime_signature function).params → map (λ a. a.1) args ≡ reverse (words (inputs_of inputs.now) steps.now []) → OnOk result (self.new ≡ with_tasks self.old (Calls name function args ∷ [])) }
     {
         let stack = self.run(inputs, steps)?;
         let args = arguments(self.alloc, function, stack)?;
+        self.put_call(name, function, args)
+    }
+
+    /// Adds a call of a runtime function with these arguments.
+    fn put_call(
+        &mut self,
+        name: Option<Name>,
+        function: RuntimeFn,
+        args: List<(Ty, Operand)>,
+    ) -> Result<(), NoMemory>
+        ensures { OnOk result (self.new ≡ record { code = self.old.code ++ inserted name (instruction.Call (runtime_signature function).ret (runtime_name_of function) args) ∷ []; next = self.old.next }) }
+    {
         let callee = runtime_name(self.alloc, function)?;
         self.put(
             name,

@@ -1,7 +1,6 @@
-use Rattle.std.proofs.Common.{◌≡◌, OnOk, subst, ap, ◌∙◌, List, Option}
-use Rattle.std.proofs.Math.Path.{ap₂}
+use Rattle.std.proofs.Common.{◌≡◌, OnOk, subst, ap, ◌∙◌, List}
+use Rattle.ms_ir.specs.Names.{runtime_name}
 use Rattle.ms_ir.specs.Signatures.{runtime_signature}
-use Rattle.ms_ir.specs.declared.syntax.Name.{Name}
 use Rattle.ms_ir.specs.declared.syntax.Ty.{Ty}
 use Rattle.ms_ir.specs.declared.syntax.Operand.{Operand}
 use Rattle.ms_ir.specs.declared.syntax.Op.TheVariants as op
@@ -13,9 +12,7 @@ use Rattle.ms_rules_code.proofs.code.Code.call.Goals as goal
 pub returns : goal.returns
 returns c = λ args types is.
     let f = c.args.function in
-    let with = with_inserted c.run.new.self c.args.name in
-    subst (λ (d : Code). OnOk c.put.result (c.put.new.self ≡ d))
-    (ap (λ (t : Option Ty). with (op.Call t c.in_ok-callee.callee c.in_ok-args.args)) c.result_type.ensures
-    ∙ ap₂ (λ (x : Name) (l : List (Ty × Operand)). with (op.Call (runtime_signature f).ret x l)) c.in_ok-callee.ensures c.in_ok-args.ensures
+    subst (λ (d : Code). OnOk c.put_call.result (c.put_call.new.self ≡ d))
+    (ap (λ (l : List (Ty × Operand)). with_inserted c.run.new.self c.args.name (op.Call (runtime_signature f).ret (runtime_name f) l)) c.in_ok-args.ensures
     ∙ calls (inputs_of c.args.inputs.now) c.args.steps.now c.args.self.now c.run.new.self c.in_ok-stack.stack.items c.args.name f args types is c.in_ok-stack.ensures)
-    c.put.ensures
+    c.put_call.ensures
