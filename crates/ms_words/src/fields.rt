@@ -126,6 +126,16 @@ fn options_in(alloc: Global, found: &ArgMatches) -> Result<Options, NoMemory>
     options_with(alloc, found, input)
 }
 
+/// The file and the options of a run, by what was found.
+fn file_and_options(alloc: Global, found: &ArgMatches) -> Result<(Text, Options), NoMemory>
+    requires { FitsRun (found_value (found_of found.now)) }
+    ensures { IfOk result (λ r. r ≡ (found_file (found_of found.now), options_by (found_value (found_of found.now)))) }
+{
+    let file = file_in(alloc, found)?;
+    let options = options_in(alloc, found)?;
+    Ok((file, options))
+}
+
 /// What runs a module on many inputs, by what was found.
 fn corpus_in(alloc: Global, found: &ArgMatches) -> Result<Command, NoMemory>
     requires { FitsCorpus (found_value (found_of found.now)) }
@@ -169,13 +179,11 @@ pub fn command_in(
             Ok(Command::Instrument { file })
         }
         CommandName::Run => {
-            let file = file_in(alloc, found)?;
-            let options = options_in(alloc, found)?;
+            let (file, options) = file_and_options(alloc, found)?;
             Ok(Command::Run { file, options })
         }
         CommandName::Check => {
-            let file = file_in(alloc, found)?;
-            let options = options_in(alloc, found)?;
+            let (file, options) = file_and_options(alloc, found)?;
             Ok(Command::Check { file, options })
         }
         CommandName::Corpus => corpus_in(alloc, found),
