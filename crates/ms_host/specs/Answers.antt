@@ -2,6 +2,7 @@
 use Rattle.std.specs.Prelude.{◌≡◌, ◌<◌, ◌^◌, ℕ, List, Option, Some, None, [], ◌∷◌, ◌++◌, length, get_or, eqb, if◌then◌else◌}
 use Rattle.ms_bits.specs.declared.traps.Trap.TheVariants as trap
 use Rattle.ms_bits.specs.Maps.{bytes_at}
+use Rattle.ms_ir.specs.declared.calls.External.{External}
 use Rattle.ms_ir.specs.declared.calls.External.TheVariants as external
 use Rattle.ms_runs.specs.Externals.{external as external_effect, where_good, printed, taken, string_at, minus_one}
 use Rattle.ms_runs.specs.Runtime.{runtime}
@@ -25,6 +26,15 @@ Answered beside _ _ w = ⊥
 abbrev pub IsExternal : Asked → Type 0
 IsExternal (asked.External e) = Unit {0}
 IsExternal (asked.Runtime f) = ⊥
+
+-- an external prints, or takes input
+abbrev pub IsStream : External → Type 0
+IsStream external.Putchar = Unit {0}
+IsStream external.Puts = Unit {0}
+IsStream external.Getchar = Unit {0}
+IsStream external.Read = Unit {0}
+IsStream external.Write = Unit {0}
+IsStream e = ⊥
 
 -- the argument of `exit` is a word of 32 bits
 abbrev pub FitsExit : Asked → List ℕ → Type 0

@@ -4,7 +4,7 @@ ghost use Rattle.ms_runs.specs.World.{World as Meant, Setting};
 ghost use Rattle.ms_runs.specs.Externals.{external as external_of};
 ghost use Rattle.ms_host.specs.State.{Beside, Keeps};
 ghost use Rattle.ms_host.specs.Shows.{Shows};
-ghost use Rattle.ms_host.specs.Answers.{Answered, IsExternal, FitsExit, asked_effect};
+ghost use Rattle.ms_host.specs.Answers.{Answered, IsExternal, IsStream, FitsExit, asked_effect};
 
 use crate::calls::{Answer, Asked, HostCall, trap};
 use crate::worlds::World;
@@ -46,6 +46,31 @@ pub fn answer(call: &HostCall, world: &mut World) -> Result<Answer, NoMemory>
 }
 
 impl World {
+    /// What a call at a site comes to of an external that prints, or takes input.
+    fn answer_stream(
+        &mut self,
+        external: External,
+        args: &[u64],
+        site: u32,
+    ) -> Result<Answer, NoMemory>
+        requires { IsStream external }
+        ensures answered { (given : Setting) (beside : Beside) (world : Meant) → Shows self.old beside world → IfOk result (λ a. Answered beside (external_of given site external args.now world) a self.new) }
+        ensures keeps { Keeps self.old self.new }
+        ensures made { self.new.made ≡ self.old.made }
+    {
+        let a = word(args, 0);
+        let b = word(args, 1);
+        let c = word(args, 2);
+        match external {
+            External::Putchar => self.putchar(site, low_byte(a)),
+            External::Puts => self.puts(site, a),
+            External::Getchar => Ok(self.getchar()),
+            External::Read => Ok(self.read(site, a, b, c)),
+            External::Write => self.write(site, a, b, c),
+            _ => unreachable!(),
+        }
+    }
+
     /// What a call of an external at a site comes to.
     pub(crate) fn answer_external(
         &mut self,
@@ -71,11 +96,11 @@ impl World {
             External::Memset => Ok(self.filled(site, a, low_byte(b), c, Some(a))),
             External::Memcmp => Ok(self.memcmp(site, a, b, c)),
             External::Strlen => Ok(self.strlen(site, a)),
-            External::Putchar => self.putchar(site, low_byte(a)),
-            External::Puts => self.puts(site, a),
-            External::Getchar => Ok(self.getchar()),
-            External::Read => Ok(self.read(site, a, b, c)),
-            External::Write => self.write(site, a, b, c),
+            External::Putchar
+            | External::Puts
+            | External::Getchar
+            | External::Read
+            | External::Write => self.answer_stream(external, args, site),
             External::Exit => Ok(Answer::Ended(End::Exit(a as u32))),
             External::Abort => Ok(trap(Trap::Abort, site)),
             External::LlvmMemcpy | External::LlvmMemmove => self.copied(site, a, b, c, None),
