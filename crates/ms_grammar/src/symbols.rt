@@ -2,7 +2,7 @@
 
 /// What a token is to the grammar. Each word that has a meaning of its own is a symbol, and so is each group of words that
 /// mean the same to it. `symbol_of` of the definitions says which symbol a token is.
-#[derive(Clone, Copy, Debug, PartialEq, Eq)]
+#[derive(Clone, Copy, PartialEq, Eq)]
 pub enum Symbol {
     /// The end of the text.
     EndOfText,

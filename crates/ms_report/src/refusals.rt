@@ -14,7 +14,7 @@ use ms_write_values::push_number;
 use std::alloc::Global;
 
 /// Why a module is refused.
-#[derive(Debug, PartialEq, Eq, Drop)]
+#[derive(Drop)]
 pub enum Refusal {
     /// Its text isn't read.
     Read(ReadError),
