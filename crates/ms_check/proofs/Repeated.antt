@@ -1,5 +1,5 @@
 -- The first repeated name of lists that follow one another.
-use Rattle.std.proofs.Common.{◌≡◌, ℕ, ◌+◌, ◌<◌, List, [], ◌∷◌, ◌++◌, Bool, true, false, Option, Some, None, length, get_or, drop, map, filter_map, option_map, refl, sym, append_assoc, ◌∙◌, ap}
+use Rattle.std.proofs.Common.{◌≡◌, ℕ, ◌+◌, ◌<◌, List, [], ◌∷◌, ◌++◌, Bool, true, false, Option, Some, None, length, get_or, drop, map, option_map, refl, sym, append_assoc, ◌∙◌, ap}
 use Rattle.std.specs.Prelude.{slice_get, flat_map, ◌||◌}
 use Rattle.std.specs.Option.{option_or}
 use Rattle.std.proofs.lemmas.Option.{slice_get-map}

@@ -1,6 +1,6 @@
 -- The branches of a function go to its blocks, where the types of its module agree.
-use Rattle.std.proofs.Common.{◌≡◌, ℕ, suc, ◌<◌, List, [], ◌∷◌, Bool, true, Some, refl, ap, ◌∙◌, arith, length, map, get_or, false, if◌then◌else◌}
-use Rattle.std.specs.Prelude.{◌&&◌, ◌||◌, All, None, Option, option_map, unwrap_or, flat_map, slice_get}
+use Rattle.std.proofs.Common.{◌≡◌, ℕ, ◌<◌, List, [], ◌∷◌, Bool, true, Some, refl, ap, ◌∙◌, arith, length, map, get_or, false}
+use Rattle.std.specs.Prelude.{◌&&◌, All, None, Option, option_map, unwrap_or, flat_map, slice_get}
 use Rattle.std.specs.List.{list_all}
 use Rattle.std.specs.Option.{option_or}
 use Rattle.std.proofs.lemmas.Bool.{and_parts}

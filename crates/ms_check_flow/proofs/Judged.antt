@@ -1,6 +1,6 @@
 -- What an answer about the graph of a function says of the uses of the function.
 use Rattle.std.proofs.Common.{◌≡◌, ℕ, ◌+◌, ◌<◌, List, [], ◌∷◌, Bool, true, false, cond, not, refl, sym, ap, subst, ◌∙◌, inl, true≢false, length, take, map}
-use Rattle.std.specs.Prelude.{◌≢◌, ◌↔◌, ◌||◌, All, AllPairs, Contains, IfSome, Some, option_map, filter, flat_map, slice_get, slice_index_or}
+use Rattle.std.specs.Prelude.{◌≢◌, ◌↔◌, All, AllPairs, Contains, IfSome, Some, option_map, filter, flat_map, slice_get, slice_index_or}
 use Rattle.std.proofs.lemmas.Bool.{not-true}
 use Rattle.std.proofs.lemmas.List.{take-map}
 use Rattle.std.proofs.lemmas.List.Elements.{All-nil, All-cons, All-head, All-tail, All-append, All-map, All-filter}

@@ -1,12 +1,12 @@
 -- A phi fits its block exactly where its edges by numbers are those into the block's row, and agree.
 use Rattle.std.proofs.Common.{◌≡◌, ℕ, zero, suc, List, [], ◌∷◌, ◌++◌, Bool, true, false, refl, sym, ap, subst, ◌∙◌, arith, true≢false, inl, inr}
-use Rattle.std.specs.Prelude.{◌<◌, ◌≤◌, ◌+◌, ◌⊎◌, ◌&&◌, ◌||◌, not, nat_eq, cond, length, map, All, Option, Some, None, slice_get, slice_index, slice_index_or}
+use Rattle.std.specs.Prelude.{◌<◌, ◌+◌, ◌⊎◌, ◌||◌, not, nat_eq, cond, length, map, All, Some, slice_get, slice_index, slice_index_or}
 use Rattle.std.specs.List.{list_all}
 use Rattle.std.proofs.lemmas.Bool.{eq-eqb, eqb-true, and_parts}
-use Rattle.std.proofs.lemmas.List.{length-map, get_or-map}
+use Rattle.std.proofs.lemmas.List.{length-map}
 use Rattle.std.proofs.lemmas.List.Folds.{list_all-append}
 use Rattle.std.proofs.lemmas.List.Sums.{sum_by-cons}
-use Rattle.std.proofs.lemmas.Option.{none-some, same_Some, slice_get-get_or, slice_get_within, get_or_from_slice_get}
+use Rattle.std.proofs.lemmas.Option.{none-some, same_Some, slice_get_within, get_or_from_slice_get}
 use Rattle.ms_ir.specs.declared.syntax.Name.{Name}
 use Rattle.ms_ir.specs.declared.syntax.Operand.{Operand}
 use Rattle.ms_ir.specs.declared.syntax.Block.{Block}
@@ -19,9 +19,9 @@ use Rattle.ms_valid.specs.PhisFit.{count_name, edges_between, edges_agree, phi_f
 use Rattle.ms_valid.proofs.NameTests.{name_same, name_sound}
 use Rattle.ms_check_flow.specs.Arriving.{arrivals}
 use Rattle.ms_check_flow.specs.Counted.{count_of}
-use Rattle.ms_check_flow.specs.Fitting.{Agree, AgreeBelow, FitsRow}
+use Rattle.ms_check_flow.specs.Fitting.{Agree, FitsRow}
 use Rattle.ms_check_flow.proofs.Arrived.{count_names, count_arrivals, counted_name, counted_block, from_known, has_at, block_known}
-use Rattle.ms_check_flow.proofs.Counts.{one_if, count-cons}
+use Rattle.ms_check_flow.proofs.Counts.{one_if}
 use Rattle.ms_check_flow.proofs.SameOperands.{both}
 use Rattle.ms_valid.proofs.NamePlaces.{place_below, below_place, same_place}
 

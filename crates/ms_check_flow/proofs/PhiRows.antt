@@ -1,6 +1,6 @@
 -- A phi fits its block where its edges are those of the block's row.
-use Rattle.std.proofs.Common.{◌≡◌, ℕ, zero, suc, List, [], ◌∷◌, ◌++◌, Bool, true, false, refl, sym, ap, subst, ◌∙◌, arith}
-use Rattle.std.specs.Prelude.{◌<◌, ◌+◌, ◌||◌, ◌↔◌, nat_eq, not, length, map, drop, All, IsTrue, Option, None, Some, option_map, unwrap_or, Result, Ok, Err, IfOk, slice_get, slice_index_or, if◌then◌else◌}
+use Rattle.std.proofs.Common.{◌≡◌, ℕ, List, [], ◌∷◌, Bool, true, false, refl, sym, ap, subst, ◌∙◌, arith}
+use Rattle.std.specs.Prelude.{◌<◌, ◌↔◌, length, All, IsTrue, Option, None, Some, option_map, unwrap_or, Result, Ok, Err, IfOk, slice_get, slice_index_or, if◌then◌else◌}
 use Rattle.std.proofs.lemmas.List.{length-map}
 use Rattle.std.proofs.lemmas.Option.{slice_get_read}
 use Rattle.ms_ir.specs.declared.syntax.Name.{Name}
@@ -13,7 +13,7 @@ use Rattle.ms_ir.specs.declared.syntax.Block.{Block}
 use Rattle.ms_ir.specs.declared.syntax.Func.{Func}
 use Rattle.ms_ir.specs.Equal.{has_name}
 use Rattle.ms_valid.specs.FlowGraph.{name_place}
-use Rattle.ms_ir.specs.Locals.{block_names, block_name_at, entry_name}
+use Rattle.ms_ir.specs.Locals.{block_names, entry_name}
 use Rattle.ms_valid.specs.PhisFit.{edges_fit, phi_fits}
 use Rattle.ms_ir.specs.Spots.{spot}
 use Rattle.ms_check_flow.specs.declared.edges.Edges.{Edges}

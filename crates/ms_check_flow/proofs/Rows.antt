@@ -1,5 +1,5 @@
 -- The rows of a function's graph, by the numbers of its blocks and values.
-use Rattle.std.proofs.Common.{◌≡◌, ℕ, List, [], ◌∷◌, refl, sym, ap, ◌∙◌}
+use Rattle.std.proofs.Common.{◌≡◌, ℕ, List, [], ◌∷◌, refl, ap, ◌∙◌}
 use Rattle.std.specs.Prelude.{map}
 use Rattle.std.proofs.Math.Path.{ap₂}
 use Rattle.ms_flow.specs.declared.graphs.Graph.{Graph}
@@ -7,7 +7,7 @@ use Rattle.ms_ir.specs.declared.syntax.Name.{Name}
 use Rattle.ms_ir.specs.declared.syntax.Block.{Block}
 use Rattle.ms_ir.specs.declared.syntax.Func.{Func}
 use Rattle.ms_ir.specs.Code.{block_index}
-use Rattle.ms_ir.specs.Locals.{block_names, parameter_names}
+use Rattle.ms_ir.specs.Locals.{block_names}
 use Rattle.ms_ir.specs.Written.{block_targets}
 use Rattle.ms_valid.specs.FlowGraph.{name_place, value_names, graph_of}
 use Rattle.ms_valid.specs.Paths.{block_successors}

@@ -1,6 +1,6 @@
 -- The walk over a function notes its uses of values that are no parameters.
 use Rattle.std.proofs.Common.{◌≡◌, ℕ, ◌+◌, ◌<◌, List, [], ◌∷◌, ◌++◌, Bool, true, false, cond, not, refl, sym, ap, ◌∙◌, arith, append_assoc, length, take, map, if◌then◌else◌}
-use Rattle.std.specs.Prelude.{suc, ◌||◌, slice_get, Option, Some, None, option_map, option_to_list, unwrap_or}
+use Rattle.std.specs.Prelude.{slice_get, Option, Some, None, option_map, option_to_list, unwrap_or}
 use Rattle.std.specs.List.{cons_option}
 use Rattle.std.proofs.Math.Path.{ap₂}
 use Rattle.std.proofs.Math.Seq.{take-append_seam}
@@ -16,7 +16,7 @@ use Rattle.ms_ir.specs.declared.syntax.Block.{Block}
 use Rattle.ms_ir.specs.declared.syntax.Func.{Func}
 use Rattle.ms_ir.specs.Code.{operands, block_index, one_unmarked, over_insts}
 use Rattle.ms_ir.specs.Equal.{has_name}
-use Rattle.ms_ir.specs.Locals.{results, block_names, parameter_names}
+use Rattle.ms_ir.specs.Locals.{results, parameter_names}
 use Rattle.ms_valid.specs.Paths.{ValueUse, insts_of}
 use Rattle.ms_ir.specs.Spots.{Spot, spot, over_spots, over_block_spots}
 use Rattle.ms_valid.specs.UsesDefined.{SiteUse, operand_use, edge_use, inst_uses}

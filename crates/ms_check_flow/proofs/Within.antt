@@ -1,6 +1,6 @@
 -- Each use of a value of a module whose names are known and whose phis fit is of a value of its function, in one of its
 -- blocks.
-use Rattle.std.proofs.Common.{◌≡◌, ℕ, suc, ◌+◌, ◌<◌, List, [], ◌∷◌, ◌++◌, Bool, true, false, cond, not, Some, None, refl, sym, ap, subst, ◌∙◌, arith, length, map, if◌then◌else◌}
+use Rattle.std.proofs.Common.{◌≡◌, ℕ, ◌+◌, ◌<◌, List, [], ◌∷◌, ◌++◌, Bool, true, false, cond, not, Some, None, refl, sym, ap, subst, ◌∙◌, arith, length, map, if◌then◌else◌}
 use Rattle.std.specs.Prelude.{◌&&◌, ◌||◌, nat_eq, All, Option, option_map, unwrap_or, filter, flat_map, slice_get}
 use Rattle.std.specs.List.{list_all}
 use Rattle.std.proofs.lemmas.Bool.{and_parts, and_from, or_left, or_right, eqb-true}
@@ -27,7 +27,7 @@ use Rattle.ms_valid.specs.PhisFit.{count_name, edges_between, edges_agree, phi_f
 use Rattle.ms_ir.specs.Spots.{Spot, spot, found_at_insts}
 use Rattle.ms_valid.specs.Refusals.{UpToPhis}
 use Rattle.ms_valid.specs.UsesDefined.{SiteUse, operand_use, edge_use, inst_uses, uses}
-use Rattle.ms_ir.specs.Written.{Mention, OfLocal, OfGlobal, type_mentions, operand_mentions, operands_mentions, labels, mentions, block_targets}
+use Rattle.ms_ir.specs.Written.{Mention, OfLocal, OfGlobal, type_mentions, operand_mentions, operands_mentions, labels, mentions}
 use Rattle.ms_valid.proofs.Finding.{both_empty, at_insts}
 use Rattle.ms_valid.proofs.Joining.{from_module}
 use Rattle.ms_valid.proofs.NamePlaces.{index_below}

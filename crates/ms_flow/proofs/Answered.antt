@@ -1,14 +1,14 @@
 -- From the words of the blocks to uses that are undefined, and from these to paths.
-use Rattle.std.proofs.Common.{◌≡◌, ℕ, zero, suc, ◌+◌, ◌-◌, ◌<◌, ◌≤◌, ◌⊎◌, ◌↔◌, Bool, true, false, List, [], ◌∷◌, ◌++◌, length, get_or, take, drop, refl, sym, ap, ◌∙◌, inl, inr, ⊎_elim, subst, arith, below_more, get_or-set_other, All, Any, Contains, IsTrue, Option, Some, slice_get}
+use Rattle.std.proofs.Common.{◌≡◌, ℕ, zero, suc, ◌+◌, ◌-◌, ◌<◌, ◌≤◌, ◌⊎◌, ◌↔◌, Bool, true, false, List, [], ◌∷◌, ◌++◌, length, get_or, take, drop, refl, sym, ap, ◌∙◌, inl, inr, ⊎_elim, subst, arith, get_or-set_other, All, Any, Contains, IsTrue, Option, slice_get}
 use Rattle.std.specs.Option.{IfSome}
 use Rattle.std.proofs.lemmas.Option.{slice_get-get_or}
 use Rattle.std.proofs.Math.ListN.{set}
-use Rattle.std.proofs.lemmas.Bool.{cases_eq, cases_lt, cases_Bool, true≢false, false≢true}
-use Rattle.std.proofs.lemmas.List.{get_or_past, get_or_default, get_or-take, get_or-drop, length-take, length-drop}
+use Rattle.std.proofs.lemmas.Bool.{cases_eq, cases_lt, cases_Bool, true≢false}
+use Rattle.std.proofs.lemmas.List.{get_or_default, get_or-take, get_or-drop, length-take, length-drop}
 use Rattle.std.proofs.lemmas.List.Elements.{All-nil, All-cons, All-head, All-tail, All-take, All-drop, All-contains, Contains-get_or}
 use Rattle.ms_flow.specs.declared.graphs.Graph.{Graph}
 use Rattle.ms_flow.specs.declared.graphs.Use.{Use}
-use Rattle.ms_flow.specs.Paths.{HasEdge, Defines, Follows, IsPath, Passes, IsDefined, Misses}
+use Rattle.ms_flow.specs.Paths.{Defines, Follows, IsPath, IsDefined, Misses}
 use Rattle.ms_flow.specs.Search.{Has, Arrives, Comes, IsUndefined, StandsAt, Leaves, use_at}
 use Rattle.ms_flow.specs.Search.Arrives.{Entry, Along}
 use Rattle.ms_flow.proofs.States.{get_set_same, has_same}

@@ -1,5 +1,5 @@
 -- The words of the blocks after a step of `tell`.
-use Rattle.std.proofs.Common.{◌≡◌, ◌≢◌, ℕ, ◌+◌, ◌<◌, ◌⊎◌, ◌↔◌, List, length, get_or, take, refl, sym, ap, ◌∙◌, inl, inr, ⊎_elim, subst, get_or-set_other, Contains}
+use Rattle.std.proofs.Common.{◌≡◌, ℕ, ◌+◌, ◌<◌, ◌⊎◌, ◌↔◌, List, length, get_or, take, refl, sym, ap, inl, inr, ⊎_elim, get_or-set_other, Contains}
 use Rattle.std.proofs.Math.ListN.{set}
 use Rattle.std.proofs.lemmas.Bool.{cases_eq}
 use Rattle.ms_flow.specs.Search.{Has}

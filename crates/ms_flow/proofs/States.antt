@@ -1,16 +1,15 @@
 -- How the words of the blocks are filled.
-use Rattle.std.proofs.Common.{◌≡◌, ◌≢◌, ℕ, ◌+◌, ◌-◌, ◌*◌, ◌^◌, ◌<◌, ◌≤◌, ◌⊎◌, ◌↔◌, Bool, true, false, cond, List, [], ◌∷◌, ◌++◌, length, get_or, take, replicate, refl, sym, ap, ◌∙◌, inl, inr, ⊎_elim, subst, arith, get_or-set_same, get_or-set_other, below_more, All, Contains}
-use Rattle.std.proofs.lemmas.Bool.{cases_eq, cases_lt, cases_Bool, cond-true, true≢false, false≢true}
+use Rattle.std.proofs.Common.{◌≡◌, ◌≢◌, ℕ, ◌+◌, ◌-◌, ◌^◌, ◌<◌, ◌≤◌, ◌⊎◌, ◌↔◌, Bool, true, false, cond, List, [], ◌∷◌, ◌++◌, length, get_or, replicate, refl, sym, ap, ◌∙◌, inl, inr, ⊎_elim, subst, arith, get_or-set_same, get_or-set_other, below_more, Contains}
+use Rattle.std.proofs.lemmas.Bool.{cases_eq, cases_lt, cond-true, true≢false}
 use Rattle.std.proofs.Math.ListN.{set}
 use Rattle.std.proofs.lemmas.List.{get_or_default, get_or_past, get_or-replicate, length-replicate}
 use Rattle.ms_flow.proofs.BitSets.{has_none, has_all}
 use Rattle.std.specs.Bool.{beq}
-use Rattle.std.specs.List.{sum_by, count_by}
 use Rattle.std.proofs.lemmas.List.Sums.{sum_by-set}
 use Rattle.std.proofs.lemmas.List.Elements.{All-nil, All-push, All-weaker, All-contains, Contains-push, Contains-append_left}
 use Rattle.ms_flow.specs.declared.graphs.Graph.{Graph}
 use Rattle.ms_flow.specs.Paths.{HasEdge}
-use Rattle.ms_flow.specs.Search.{Has, Arrives, Comes, HandsOn, IsState, Merged, waiting, work_left}
+use Rattle.ms_flow.specs.Search.{Has, Arrives, Comes, IsState, Merged, work_left}
 use Rattle.ms_flow.specs.Search.Arrives.{Entry, Along}
 
 pub has_same : (x y i : ℕ) → x ≡ y → Has x i → Has y i

@@ -1,8 +1,7 @@
 -- Walks that are recorded, and the path that a record holds.
-use Rattle.std.proofs.Common.{◌≡◌, ◌≢◌, ℕ, zero, suc, ◌+◌, ◌<◌, ◌≤◌, ◌⊎◌, Bool, true, false, not, cond, List, [], ◌∷◌, ◌++◌, length, get_or, take, replicate, refl, sym, ap, ◌∙◌, inl, inr, ⊎_elim, subst, arith, below_more, get_or-set_same, get_or-set_other, length-append, All, AllPairs, Any, Contains, IsTrue, Result, Ok, Err}
+use Rattle.std.proofs.Common.{◌≡◌, ◌≢◌, ℕ, zero, suc, ◌+◌, ◌<◌, ◌≤◌, ◌⊎◌, Bool, true, false, not, cond, List, [], ◌∷◌, ◌++◌, length, get_or, take, replicate, refl, sym, ap, ◌∙◌, inl, inr, ⊎_elim, subst, arith, below_more, get_or-set_same, get_or-set_other, length-append, All, AllPairs, Contains, Result, Ok, Err}
 use Rattle.std.specs.Result.{IfOk}
 use Rattle.std.proofs.Math.ListN.{set}
-use Rattle.std.specs.List.{sum_by, count_by}
 use Rattle.std.proofs.lemmas.Bool.{cases_eq, cases_lt, true≢false, cond-true}
 use Rattle.std.proofs.lemmas.List.{get_or-replicate, length-replicate, get_or_append_left, get_or_at, get_or_past, get_or_default, get_or-take, take_all, take-append-le, length-take}
 use Rattle.std.proofs.lemmas.List.Sums.{sum_by-set}
@@ -10,7 +9,7 @@ use Rattle.std.proofs.lemmas.List.Elements.{All-nil, All-cons, Contains-get_or}
 use Rattle.ms_flow.specs.declared.graphs.Graph.{Graph}
 use Rattle.ms_flow.specs.declared.graphs.Use.{Use}
 use Rattle.ms_flow.specs.declared.visits.Visit.{Visit}
-use Rattle.ms_flow.specs.Paths.{HasEdge, Defines, Follows, IsPath, Passes, Misses}
+use Rattle.ms_flow.specs.Paths.{HasEdge, Defines, Follows, IsPath, Misses}
 use Rattle.ms_flow.specs.Search.{StaysIn, Arrives, IsUndefined}
 use Rattle.ms_flow.specs.Search.Arrives.{Entry, Along}
 use Rattle.ms_flow.specs.Walks.{visit_at, block_at, from_at, Visits, IsWalk, Marks, unseen, IsClosed, Trail}

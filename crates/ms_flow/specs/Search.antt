@@ -1,5 +1,5 @@
 -- What the steps of the search for undefined uses promise each other.
-use Rattle.std.specs.Prelude.{◌≡◌, ℕ, ◌+◌, ◌-◌, ◌^◌, ◌<◌, ◌≤◌, ◌↔◌, ◌⊎◌, Bool, true, false, List, [], ◌∷◌, length, IsTrue, Contains, All, slice_index_or, count_by}
+use Rattle.std.specs.Prelude.{◌≡◌, ℕ, ◌+◌, ◌-◌, ◌^◌, ◌<◌, ◌≤◌, ◌⊎◌, Bool, false, List, length, IsTrue, Contains, All, slice_index_or, count_by}
 use Rattle.std.specs.List.{sum_by}
 use Rattle.std.specs.Int.{bit_at}
 use Rattle.ms_flow.specs.declared.graphs.Graph.{Graph}

@@ -1,5 +1,5 @@
 -- Walks through a graph as they are recorded.
-use Rattle.std.specs.Prelude.{◌≡◌, ℕ, ◌+◌, ◌<◌, ◌≤◌, Bool, true, false, List, [], ◌∷◌, length, not, slice_index_or, count_by}
+use Rattle.std.specs.Prelude.{◌≡◌, ℕ, ◌<◌, Bool, true, false, List, [], ◌∷◌, length, not, slice_index_or, count_by}
 use Rattle.ms_flow.specs.declared.graphs.Graph.{Graph}
 use Rattle.ms_flow.specs.declared.visits.Visit.{Visit}
 use Rattle.ms_flow.specs.Paths.{HasEdge, Defines}

@@ -1,5 +1,5 @@
 -- Looking up in a table with a function of what its rows have.
-use Rattle.std.proofs.Common.{◌≡◌, List, [], ◌∷◌, Bool, true, false, Option, Some, None, map, option_map, is_some, refl, sym, ap, ◌∙◌, if◌then◌else◌}
+use Rattle.std.proofs.Common.{◌≡◌, List, [], ◌∷◌, Bool, true, false, Option, Some, None, map, option_map, is_some, refl, if◌then◌else◌}
 use Rattle.ms_ir.specs.declared.syntax.Name.{Name}
 use Rattle.ms_ir.specs.declared.syntax.Name.TheVariants.{Text}
 use Rattle.ms_ir.specs.declared.rows.Row.{Row}

@@ -1,12 +1,9 @@
 -- The rows of the tables of externals, of runtime functions and of slots, as the code keeps them. What is promised of a
 -- name does not name these.
-use Rattle.std.specs.Prelude.{ℕ, List, map, Option, Some, None, option_map}
+use Rattle.std.specs.Prelude.{List, map, option_map}
 use Rattle.ms_ir.specs.declared.syntax.Name.{Name}
 use Rattle.ms_ir.specs.declared.syntax.Name.TheVariants.{Text}
-use Rattle.ms_ir.specs.declared.syntax.Ty.{Ty, Int, Ptr, Array}
-use Rattle.ms_ir.specs.declared.syntax.Operand.TheVariants as operand
-use Rattle.ms_ir.specs.declared.syntax.Init as initial
-use Rattle.ms_ir.specs.declared.syntax.GlobalVar.{GlobalVar}
+use Rattle.ms_ir.specs.declared.syntax.Ty.{Ty, Int, Ptr}
 use Rattle.ms_ir.specs.declared.syntax.Decl.{Decl}
 use Rattle.ms_ir.specs.declared.rows.Kind.{Kind}
 use Rattle.ms_ir.specs.declared.rows.Kind.TheVariants as kind

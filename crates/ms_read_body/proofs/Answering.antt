@@ -1,5 +1,5 @@
 -- What a call answers, from what a reader gave.
-use Rattle.std.proofs.Common.{◌≡◌, ◌≢◌, ◌≤◌, ◌<◌, ℕ, ◌+◌, ◌-◌, ◌^◌, Bool, true, false, cond, ltb, List, [], ◌∷◌, length, take, drop, Option, Some, None, Result, Ok, Err, refl, sym, subst, ap, ◌∙◌, arith}
+use Rattle.std.proofs.Common.{◌≡◌, ◌≢◌, ◌≤◌, ◌<◌, ℕ, ◌-◌, ◌^◌, Bool, true, false, cond, ltb, List, length, drop, Option, Some, None, Result, Ok, Err, refl, sym, subst, ap, ◌∙◌, arith}
 use Rattle.std.specs.Prelude.{Vec, IfOk}
 use Rattle.std.specs.declared.alloc.Global.{Global}
 use Rattle.std.proofs.lemmas.Bool.{ltb-false}
@@ -16,12 +16,11 @@ use Rattle.ms_grammar.specs.declared.refusals.Refusal.TheVariants as r
 use Rattle.ms_grammar.specs.Causes.{printed_number}
 use Rattle.ms_grammar.specs.Lexemes.{Lexeme, end_of_text, lexeme_of, lexemes_of}
 use Rattle.ms_grammar.specs.Steps.{Rule}
-use Rattle.ms_grammar.specs.Texts.{ReadsUpTo, StopsAt, place_in}
+use Rattle.ms_grammar.specs.Texts.{ReadsUpTo, StopsAt}
 use Rattle.ms_read_cursor.specs.Reading.{Gives, run}
 use Rattle.ms_read_body.specs.declared.errors.ReadError.{ReadError}
-use Rattle.ms_read_body.specs.declared.errors.ReadError.TheVariants as e
-use Rattle.ms_read_body.specs.Calls.{AreTokens, lexemes_from, ReadsAt, StopsFor, what_of, numbered_error, error_at, error_in, ReadsExactly, with_nothing, answer_of}
-use Rattle.ms_read_body.proofs.Suffixes.{IsEnd, reads_end, stops_end, by_length, shorter, behind}
+use Rattle.ms_read_body.specs.Calls.{AreTokens, lexemes_from, ReadsAt, StopsFor, error_in, ReadsExactly, answer_of}
+use Rattle.ms_read_body.proofs.Suffixes.{IsEnd, reads_end, stops_end, by_length, behind}
 
 -- ---- the number of tokens
 

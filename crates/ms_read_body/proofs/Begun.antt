@@ -1,8 +1,6 @@
 -- Where a line begins, numbers are left, and there is room for its instruction.
-use Rattle.std.proofs.Common.{◌≡◌, ◌<◌, ◌+◌, ◌-◌, ◌^◌, ℕ, Bool, true, false, ltb, cond, Ok, Err, refl, arith}
+use Rattle.std.proofs.Common.{◌≡◌, ◌<◌, ◌+◌, ◌-◌, ◌^◌, Bool, true, false, ltb, cond, Ok, Err, refl, arith}
 use Rattle.std.proofs.lemmas.Bool.{ltb-true}
-use Rattle.ms_lex.specs.Numbers.{decimal}
-use Rattle.ms_lex.specs.Tokens.{Text}
 use Rattle.ms_ir.specs.declared.forms.Form.{Form}
 use Rattle.ms_ir.specs.declared.forms.Form.TheVariants.{Plain, Instrumented}
 use Rattle.ms_grammar.specs.declared.symbols.Symbol.{Symbol}
@@ -14,7 +12,7 @@ use Rattle.ms_grammar.specs.declared.states.Body.{Body}
 use Rattle.ms_grammar.specs.Lexemes.{Lexeme, name_in}
 use Rattle.ms_grammar.specs.Names.{reserved_local}
 use Rattle.ms_grammar.specs.Steps.{Verdict}
-use Rattle.ms_grammar.specs.Bodies.{opened, max_instructions, counted, short, numbered, numbers_left, begins_instruction, line_begins_by, line_begins}
+use Rattle.ms_grammar.specs.Bodies.{opened, max_instructions, counted, short, numbers_left, begins_instruction, line_begins_by, line_begins}
 use Rattle.ms_read_body.specs.Room.{HasRoom}
 
 -- a verdict that a refusal could stand in the way of

@@ -1,5 +1,5 @@
 -- What a grammar leaves is the end of what it was given.
-use Rattle.std.proofs.Common.{◌≡◌, ◌≤◌, ℕ, zero, suc, ◌+◌, ◌-◌, Bool, List, [], ◌∷◌, ◌++◌, length, take, drop, Result, Ok, Err, refl, sym, ap, ◌∙◌, append_assoc, length-append, arith, inl, inr}
+use Rattle.std.proofs.Common.{◌≡◌, ◌≤◌, ℕ, zero, suc, ◌+◌, ◌-◌, Bool, List, [], ◌∷◌, ◌++◌, length, take, drop, Result, refl, sym, ap, ◌∙◌, append_assoc, length-append, arith, inl, inr}
 use Rattle.std.proofs.lemmas.List.{take-append-drop, drop_at}
 use Rattle.ms_lex.specs.Grammar.{tail, Grammar, give, one, look, seq, loop, Turns, Reads, TurnStops, Stops}
 

@@ -1,5 +1,5 @@
 -- What the calls that read a part of a text promise, in the words of the grammar's relations.
-use Rattle.std.specs.Prelude.{◌≡◌, ◌≢◌, ◌≤◌, ◌<◌, ◌-◌, ◌^◌, ℕ, zero, suc, List, [], ◌∷◌, length, drop, Option, Some, None, Result, Ok, Err}
+use Rattle.std.specs.Prelude.{◌≡◌, ◌≢◌, ◌≤◌, ◌<◌, ◌-◌, ◌^◌, ℕ, List, length, drop, Option, Some, None, Result, Ok, Err}
 use Rattle.ms_lex.specs.declared.kinds.Token.{Token}
 use Rattle.ms_lex.specs.Tokens.{Text, tokens_of}
 use Rattle.ms_lex.specs.Grammar.{◌>>◌}

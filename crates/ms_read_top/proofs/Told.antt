@@ -1,5 +1,5 @@
 -- What a text comes to, from what a reader of its tokens gave.
-use Rattle.std.proofs.Common.{◌≡◌, ◌≢◌, ◌≤◌, ◌^◌, ℕ, zero, suc, ◌+◌, ◌-◌, Bool, true, false, cond, ltb, List, [], ◌∷◌, length, drop, Option, Some, None, Result, Ok, Err, refl, sym, subst, ap, ◌∙◌, inl, inr, arith, lit≤}
+use Rattle.std.proofs.Common.{◌≡◌, ◌≢◌, ◌≤◌, ◌^◌, ℕ, ◌+◌, ◌-◌, Bool, true, false, cond, ltb, List, [], length, drop, Option, Some, None, Ok, Err, refl, sym, subst, ap, inl, inr, arith, lit≤}
 use Rattle.std.proofs.lemmas.Bool.{ltb-false}
 use Rattle.std.proofs.lemmas.List.{length-map}
 use Rattle.ms_lex.specs.declared.errors.LexError.{LexError}
@@ -8,7 +8,7 @@ use Rattle.ms_lex.specs.declared.errors.LexError.TheVariants as lex
 use Rattle.ms_lex.specs.declared.kinds.Token.{Token}
 use Rattle.ms_lex.specs.Tokens.{Text, cut_of, unless_stopped, tokens_of}
 use Rattle.ms_lex.specs.Grammar.{Outcome, done, fails}
-use Rattle.ms_lex.proofs.Exact.{sound, complete, stop_sound, stop_complete}
+use Rattle.ms_lex.proofs.Exact.{complete, stop_sound, stop_complete}
 use Rattle.ms_ir.specs.declared.syntax.Module.{Module}
 use Rattle.ms_ir.specs.declared.forms.Form.{Form}
 use Rattle.ms_ir.specs.declared.forms.Form.TheVariants.{Plain, Instrumented}

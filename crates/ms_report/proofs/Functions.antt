@@ -1,15 +1,14 @@
 -- The function that has a site, by the place of its instruction.
-use Rattle.std.proofs.Common.{◌≡◌, ◌≢◌, ◌<◌, ◌≤◌, ◌⊎◌, ℕ, zero, suc, ◌+◌, ◌-◌, List, [], ◌∷◌, Option, Some, None, refl, sym, ap, ◌∙◌, subst, arith, take, length, if◌then◌else◌, Bool, true, false, inl, inr}
-use Rattle.std.specs.Prelude.{slice_get, option_map, ltb, eqb}
-use Rattle.std.proofs.lemmas.Bool.{cases_lt, cases_Bool, lt-ltb, le-ltb, ne_eqb}
+use Rattle.std.proofs.Common.{◌≡◌, ◌<◌, ◌≤◌, ℕ, zero, suc, ◌+◌, ◌-◌, List, [], ◌∷◌, Some, None, refl, sym, ap, ◌∙◌, subst, arith, take, length, if◌then◌else◌, Bool, true, false, inl, inr}
+use Rattle.std.specs.Prelude.{slice_get}
+use Rattle.std.proofs.lemmas.Bool.{cases_lt, lt-ltb, le-ltb, ne_eqb}
 use Rattle.std.proofs.lemmas.Option.{same_Some, none-some, slice_get_within}
 use Rattle.ms_ir.specs.declared.syntax.Inst.{Inst}
 use Rattle.ms_ir.specs.declared.syntax.Block.{Block}
 use Rattle.ms_ir.specs.declared.syntax.Func.{Func}
-use Rattle.ms_ir.specs.declared.syntax.Name.{Name}
 use Rattle.ms_ir.specs.declared.syntax.Module.{Module}
 use Rattle.ms_ir.specs.declared.places.Place.{Place}
-use Rattle.ms_ir.specs.Code.{blocks_at, insts_at, over_insts, over_blocks, over_funcs, one_unmarked}
+use Rattle.ms_ir.specs.Code.{over_insts, over_blocks, over_funcs, one_unmarked}
 use Rattle.ms_ir.specs.Places.{count_sites, IsPlaceOf}
 use Rattle.ms_ir.specs.Searches.{FoundInst, FoundBlock, FoundFunc}
 use Rattle.ms_ir.proofs.Counting.{stands, site_by_parts, insts_part, blocks_part, blocks_are, insts_are, found_place}

@@ -10,7 +10,6 @@ use Rattle.ms_read_body.specs.declared.errors.What.{What}
 use Rattle.ms_read_body.specs.declared.errors.What.TheVariants as what
 use Rattle.ms_read_body.specs.declared.errors.ReadError.{ReadError}
 use Rattle.ms_read_body.specs.declared.errors.ReadError.TheVariants as e
-use Rattle.ms_check.specs.declared.errors.CheckError.{CheckError}
 use Rattle.ms_check.specs.Faults.{fault_of}
 use Rattle.ms_report.specs.declared.refusals.Refusal.{Refusal}
 use Rattle.ms_report.specs.declared.refusals.Refusal.TheVariants.{Read, Check}

@@ -1,14 +1,14 @@
 -- Chained origins, reports, and what the runtime functions do to the world (own, after "MemorySanitizer: fast detector
 -- of uninitialized memory use in C++", Stepanov and Serebryany, CGO 2015). An origin is a root's number, from 1 to the
 -- number of roots, or that of a pair of an earlier origin and the site of a store, from there on.
-use Rattle.std.specs.Prelude.{ℕ, zero, suc, ◌+◌, ◌-◌, ◌/◌, ◌%◌, ◌^◌, Bool, ◌&&◌, ◌||◌, not, List, [], ◌∷◌, ◌++◌, length, eqb, leb, ltb, if◌then◌else◌, Option, Some, None, unwrap_or, option_map, slice_get}
+use Rattle.std.specs.Prelude.{ℕ, zero, suc, ◌+◌, ◌-◌, ◌/◌, ◌%◌, ◌^◌, Bool, ◌&&◌, ◌||◌, not, List, [], ◌∷◌, ◌++◌, length, eqb, leb, ltb, if◌then◌else◌, Option, Some, None, option_map, slice_get}
 use Rattle.ms_runs.specs.declared.runs.Origin.{Origin}
 use Rattle.ms_runs.specs.declared.runs.Origin.TheVariants.{Root, Chain}
 use Rattle.ms_runs.specs.declared.runs.End.TheVariants as «end»
 use Rattle.ms_runs.specs.declared.runs.Report.{Report}
 use Rattle.ms_runs.specs.World.{World, Setting, Effect, Does, Ends}
 use Rattle.ms_bits.specs.Maps.{first_nonzero, with_cell}
-use Rattle.ms_runs.specs.Memory.{is_good, block_of, set_shadow, set_cells, copy_shadow, bytes_left}
+use Rattle.ms_runs.specs.Memory.{is_good, set_shadow, set_cells, copy_shadow, bytes_left}
 
 -- the origins from one to its root, in at most n moves
 abbrev pub trail_within : ℕ → ℕ → List (ℕ × ℕ) → ℕ → List Origin

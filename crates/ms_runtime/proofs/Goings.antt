@@ -1,7 +1,5 @@
 -- From pause to pause a run keeps what it answers.
-use Rattle.std.proofs.Common.{◌≡◌, ◌<◌, ◌≤◌, ◌+◌, ◌-◌, ◌*◌, ◌^◌, ℕ, zero, suc, List, [], ◌∷◌, length, min, refl, sym, ap, subst, ◌∙◌, arith, Option, Some, None}
-use Rattle.ms_ir.specs.declared.syntax.Inst.{Inst}
-use Rattle.ms_ir.specs.declared.syntax.Func.{Func}
+use Rattle.std.proofs.Common.{◌≡◌, ◌<◌, ◌≤◌, ◌+◌, ◌-◌, ◌*◌, ◌^◌, ℕ, zero, suc, List, [], ◌∷◌, length, min, refl, sym, ap, subst, ◌∙◌, arith, Option}
 use Rattle.ms_ir.specs.declared.syntax.Module.{Module}
 use Rattle.ms_ir.specs.Code.{over_funcs}
 use Rattle.ms_runs.specs.declared.runs.End.{End}
@@ -10,7 +8,7 @@ use Rattle.ms_runs.specs.declared.runs.Setup.{Setup}
 use Rattle.ms_runs.specs.declared.runs.RunResult.{RunResult}
 use Rattle.ms_runs.specs.World.{World, result}
 use Rattle.ms_runs.specs.Control.{Frame}
-use Rattle.ms_runs.specs.Plain.{PlainState, Stepped, More, Stop, go_on, run, plain}
+use Rattle.ms_runs.specs.Plain.{PlainState, go_on, run, plain}
 use Rattle.ms_valid.specs.Formed.{Formed}
 use Rattle.ms_valid.specs.Valid.{Valid}
 use Rattle.ms_code_data.specs.declared.code.Program.{Program}
@@ -25,13 +23,13 @@ use Rattle.ms_machine_steps.specs.Standing.{FramesStand, frames_of, IsState}
 use Rattle.ms_machine_steps.specs.Waiting.{Waits, FirstWaits, answered}
 use Rattle.ms_machine_steps.specs.Advances.{step_of, Counts, IsSpent, HasEnded, HasAsked, Resumes, HasResumed, HasStopped}
 use Rattle.ms_machine_steps.proofs.Answered.{waiter, below_it, waits, waiter_stands, answered_on, answered_ends}
-use Rattle.ms_machine_steps.proofs.RunSteps.{run_on, run_spent, run_ends, run_due, number_below}
+use Rattle.ms_machine_steps.proofs.RunSteps.{run_spent, run_ends, run_due, number_below}
 use Rattle.ms_machine.specs.Running.{AllStandFor, IsRunning}
 use Rattle.ms_machine.proofs.Programs.{frames_to, frames_from, state_to, state_from}
 use Rattle.ms_runtime.specs.declared.runs.Running.{Running}
 use Rattle.ms_runtime.specs.Served.{IsBeside}
 use Rattle.ms_runtime.specs.Answering.{AnsweredFor}
-use Rattle.ms_runtime.specs.Going.{ahead, Keeping, Going, LeftBehind, HasSlack, Asking, Over}
+use Rattle.ms_runtime.specs.Going.{ahead, Going, LeftBehind, HasSlack, Asking, Over}
 
 -- ---- numbers
 

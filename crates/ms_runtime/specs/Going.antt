@@ -4,16 +4,13 @@ use Rattle.ms_ir.specs.declared.syntax.Module.{Module}
 use Rattle.ms_ir.specs.Code.{over_funcs, count_roots}
 use Rattle.ms_runs.specs.declared.runs.End.{End}
 use Rattle.ms_runs.specs.declared.runs.Setup.{Setup}
-use Rattle.ms_runs.specs.declared.runs.RunResult.{RunResult}
 use Rattle.ms_runs.specs.World.{World}
 use Rattle.ms_runs.specs.Plain.{PlainState, go_on, run, plain}
-use Rattle.ms_depot.specs.Depots.{DepotState}
-use Rattle.ms_host.specs.State.{WorldState, Beside}
+use Rattle.ms_host.specs.State.{Beside}
 use Rattle.ms_host.specs.Shows.{Shows}
 use Rattle.ms_host.specs.declared.calls.Asked.{Asked}
 use Rattle.ms_host.specs.declared.calls.Asked.TheVariants as asked
 use Rattle.ms_host.specs.declared.calls.HostCall.{HostCall}
-use Rattle.ms_machine_steps.specs.declared.fibers.Fiber.{Fiber}
 use Rattle.ms_machine_steps.specs.Waiting.{FirstWaits}
 use Rattle.ms_machine_steps.specs.Advances.{step_of}
 use Rattle.ms_machine.specs.Running.{IsRunning}

@@ -31,7 +31,7 @@ use Rattle.ms_two_fills.proofs.FirstReport.{runs_first}
 use Rattle.ms_runs.specs.declared.runs.Report.{Report}
 use Rattle.ms_runs.specs.declared.runs.RunResult.{RunResult}
 use Rattle.ms_runs.specs.Globals.{address_of}
-use Rattle.ms_runs.specs.Verdict.{Clean, verdict_by, verdict_of}
+use Rattle.ms_runs.specs.Verdict.{Clean, verdict_by}
 use Rattle.ms_two_fills.specs.Checked.{HoldsUnderFills}
 use Rattle.std.specs.Prelude.{take}
 

@@ -6,7 +6,7 @@ use Rattle.ms_ir.specs.declared.syntax.Ty.{Ty}
 use Rattle.ms_grammar.specs.Insts.{names_printf, is_i32}
 use Rattle.ms_grammar.specs.Lexemes.{Lexeme}
 use Rattle.ms_written.specs.Modules.{is_one_pointer, is_dotted, dots}
-use Rattle.ms_written.specs.Pieces.{comma, three_dots, behind_commas, with_commas}
+use Rattle.ms_written.specs.Pieces.{comma, behind_commas, with_commas}
 use Rattle.ms_written.specs.Types.{type_tokens}
 use Rattle.ms_write_values.specs.Parts.{dot_tokens}
 use Rattle.ms_write_values.specs.Sheets.{Sheet, put}

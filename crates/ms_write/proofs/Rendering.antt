@@ -1,5 +1,5 @@
 -- What is put on a sheet token by token are the bytes of its pieces.
-use Rattle.std.proofs.Common.{◌≡◌, ℕ, Bool, List, [], ◌∷◌, ◌++◌, Some, refl, ap, sym, ◌∙◌, append_assoc, append-nil}
+use Rattle.std.proofs.Common.{◌≡◌, Bool, List, [], ◌∷◌, ◌++◌, Some, refl, ap, sym, ◌∙◌, append_assoc, append-nil}
 use Rattle.std.specs.Prelude.{◌||◌, ◌&&◌, codes, if◌then◌else◌}
 use Rattle.ms_lex.specs.Tokens.{Text}
 use Rattle.ms_grammar.specs.Lexemes.{Lexeme}

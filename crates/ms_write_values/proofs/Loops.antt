@@ -1,10 +1,10 @@
 -- A step of the loops over lists, and the first item of a list that has one.
-use Rattle.std.proofs.Common.{◌≡◌, ◌<◌, ◌≤◌, ℕ, suc, ◌+◌, ◌-◌, List, [], ◌∷◌, ◌++◌, map, refl, sym, ap, ◌∙◌, arith, take, drop, length, get_or, add-one, length-drop}
+use Rattle.std.proofs.Common.{◌≡◌, ◌<◌, ◌≤◌, ℕ, suc, ◌+◌, ◌-◌, List, ◌∷◌, ◌++◌, map, sym, ap, ◌∙◌, arith, take, drop, length, get_or, add-one, length-drop}
 use Rattle.std.specs.Prelude.{codes, flat_map}
 use Rattle.std.proofs.Math.Seq.{drop-cons}
 use Rattle.std.proofs.lemmas.List.{take_all}
 use Rattle.ms_grammar.specs.Lexemes.{Lexeme}
-use Rattle.ms_written.specs.Pieces.{Line, comma, behind_commas, with_commas}
+use Rattle.ms_written.specs.Pieces.{Line, behind_commas, with_commas}
 use Rattle.ms_write_values.specs.Sheets.{Sheet, put_text, put, put_lines}
 use Rattle.ms_write_values.proofs.Puts.{put_append, put_lines_append}
 

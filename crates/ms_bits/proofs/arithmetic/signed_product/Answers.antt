@@ -1,4 +1,4 @@
-use Rattle.std.proofs.Common.{◌∙◌, ap, ◌*ℤ◌}
+use Rattle.std.proofs.Common.{◌∙◌}
 use Rattle.ms_bits.proofs.Products.{product_fits, product_is}
 use Rattle.ms_bits.proofs.arithmetic.signed_product.Goals as goal
 

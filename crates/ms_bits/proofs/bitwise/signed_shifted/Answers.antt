@@ -1,4 +1,4 @@
-use Rattle.std.proofs.Common.{◌∙◌, ap, ◌*ℤ◌}
+use Rattle.std.proofs.Common.{◌∙◌}
 use Rattle.ms_bits.proofs.Products.{shifted_fits, shifted_is}
 use Rattle.ms_bits.proofs.bitwise.signed_shifted.Goals as goal
 

@@ -1,4 +1,4 @@
-use Rattle.std.proofs.Common.{◌<◌, List, ℕ, refl, take, All, subst, arith}
+use Rattle.std.proofs.Common.{◌<◌, List, ℕ, refl, All, subst, arith}
 use Rattle.std.proofs.lemmas.List.{take_all}
 use Rattle.std.proofs.lemmas.List.Elements.{All-more}
 use Rattle.ms_check_flow.proofs.phis.all_below.Goals as goal

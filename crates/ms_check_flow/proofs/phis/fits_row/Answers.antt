@@ -1,4 +1,4 @@
-use Rattle.std.proofs.Common.{◌≡◌, ◌<◌, ℕ, List, All, length, refl, sym, ap, subst, ◌∙◌, true≢false}
+use Rattle.std.proofs.Common.{◌<◌, ℕ, List, All, length, refl, sym, ap, subst, ◌∙◌, true≢false}
 use Rattle.ms_check_flow.specs.Counted.{count_of}
 use Rattle.ms_check_flow.specs.Fitting.{Agree}
 use Rattle.ms_check_flow.proofs.phis.fits_row.Goals as goal

@@ -1,5 +1,5 @@
-use Rattle.std.proofs.Common.{◌≡◌, ◌<◌, ℕ, true, sym, ap, subst, ◌∙◌, arith, length, refl, slice_index}
-use Rattle.std.proofs.lemmas.Option.{slice_get_read, same_Some}
+use Rattle.std.proofs.Common.{◌<◌, sym, ap, ◌∙◌, arith, length, refl, slice_index}
+use Rattle.std.proofs.lemmas.Option.{slice_get_read}
 use Rattle.ms_ir.specs.declared.syntax.Name.{Name}
 use Rattle.ms_ir.specs.declared.syntax.Operand.{Operand}
 use Rattle.ms_ir.specs.Equal.{operand_eq}

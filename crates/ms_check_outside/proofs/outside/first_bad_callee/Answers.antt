@@ -1,7 +1,7 @@
 use Rattle.std.proofs.Common.{sym, ◌∙◌, ap}
 use Rattle.std.specs.Option.{option_copied, option_or}
 use Rattle.ms_tables.proofs.Items.{under_ok}
-use Rattle.ms_check_outside.proofs.Outsiders.{of_decls, of_funcs, callees_are}
+use Rattle.ms_check_outside.proofs.Outsiders.{of_funcs, callees_are}
 use Rattle.ms_check_outside.proofs.outside.first_bad_callee.Goals as goal
 
 pub returns-in-Some : goal.returns-in-Some

@@ -1,4 +1,4 @@
-use Rattle.std.proofs.Common.{◌↔◌, refl, arith}
+use Rattle.std.proofs.Common.{◌↔◌, arith}
 use Rattle.ms_flow.specs.Search.{Has, Leaves}
 use Rattle.ms_flow.proofs.Answered.{leaves_after, leaves_before, leaves_answer}
 use Rattle.ms_flow.proofs.answers.arrives.Goals as goal

@@ -1,4 +1,4 @@
-use Rattle.std.proofs.Common.{◌≡◌, ℕ, ◌+◌, ◌<◌, true, false, get_or, List, length, subst, below_more, set, refl, sym, ◌∙◌, arith}
+use Rattle.std.proofs.Common.{ℕ, true, false, get_or, subst, below_more, set, refl, sym, ◌∙◌, arith}
 use Rattle.std.proofs.lemmas.Bool.{true≢false}
 use Rattle.std.proofs.lemmas.List.{get_or_default}
 use Rattle.ms_flow.proofs.Answered.{Judged, flag_kept, judged_kept, right_set}

@@ -1,5 +1,4 @@
-use Rattle.std.proofs.Common.{◌≡◌, ℕ, ◌<◌, ◌⊎◌, true, false, get_or}
-use Rattle.ms_flow.specs.Search.{StandsAt, Leaves, use_at}
+use Rattle.std.proofs.Common.{◌≡◌, ℕ, ◌<◌, true, false, get_or}
 use Rattle.ms_flow.proofs.Answered.{Judged, IsRight}
 use Rattle.ms_flow.proofs.answers.judge.Given as goal
 

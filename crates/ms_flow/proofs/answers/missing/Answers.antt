@@ -1,4 +1,4 @@
-use Rattle.std.proofs.Common.{◌≡◌, ℕ, ◌<◌, false, Bool, List, length, get_or, refl, sym, subst, arith}
+use Rattle.std.proofs.Common.{◌≡◌, ℕ, ◌<◌, false, Bool, List, get_or, refl, subst, arith}
 use Rattle.ms_flow.proofs.Answered.{defined_at, defined_before, misses_at}
 use Rattle.ms_flow.proofs.answers.missing.Goals as goal
 

@@ -1,4 +1,4 @@
-use Rattle.std.proofs.Common.{◌≡◌, ℕ, ◌<◌, false, true, Bool, List, length, get_or, vec_len, sym, ap, ◌∙◌, subst, arith, All, ◌⊎◌, ◌↔◌}
+use Rattle.std.proofs.Common.{◌≡◌, ℕ, ◌<◌, false, true, Bool, List, length, get_or, vec_len, sym, ◌∙◌, subst, arith, All, ◌⊎◌}
 use Rattle.std.proofs.lemmas.Bool.{eqb-false, eqb-true}
 use Rattle.std.proofs.lemmas.List.{with_items_is}
 use Rattle.ms_flow.specs.Search.{IsUndefined, use_at}

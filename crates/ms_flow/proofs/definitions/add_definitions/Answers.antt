@@ -1,4 +1,3 @@
-use Rattle.std.proofs.Common.{ℕ, refl}
 use Rattle.std.proofs.lemmas.List.{take_all}
 use Rattle.ms_flow.proofs.Members.{pairs_more}
 use Rattle.ms_flow.proofs.definitions.add_definitions.Goals as goal

@@ -1,4 +1,4 @@
-use Rattle.std.proofs.Common.{◌≡◌, ℕ, ◌+◌, ◌<◌, true, false, get_or, List, [], ◌∷◌, ◌++◌, below_more, length, sym, ◌∙◌, arith, Contains}
+use Rattle.std.proofs.Common.{ℕ, ◌<◌, false, [], ◌∷◌, ◌++◌, below_more, length, sym, ◌∙◌, arith, Contains}
 use Rattle.std.proofs.lemmas.List.{get_or_read}
 use Rattle.std.proofs.lemmas.List.Elements.{All-push, Contains-append_left, Contains-push}
 use Rattle.ms_flow.proofs.orders.add_others.Goals as goal

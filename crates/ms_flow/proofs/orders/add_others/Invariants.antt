@@ -1,4 +1,4 @@
-use Rattle.std.proofs.Common.{◌≡◌, ℕ, ◌<◌, true, false, get_or, vec_len, All, Contains}
+use Rattle.std.proofs.Common.{◌≡◌, ℕ, ◌<◌, true, false, get_or, All, Contains}
 use Rattle.ms_flow.proofs.orders.add_others.Given as goal
 
 abbrev pub invariant-loop-block : goal.invariant-loop-block

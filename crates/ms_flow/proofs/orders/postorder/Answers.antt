@@ -1,6 +1,6 @@
-use Rattle.std.proofs.Common.{◌≡◌, ℕ, ◌+◌, ◌<◌, ◌++◌, List, length, Option, Some, All, arith}
+use Rattle.std.proofs.Common.{◌≡◌, ℕ, ◌<◌, ◌++◌, List, length, Some, All}
 use Rattle.std.specs.Option.{option_to_list}
-use Rattle.std.proofs.lemmas.List.Elements.{All-pop, All-push}
+use Rattle.std.proofs.lemmas.List.Elements.{All-pop}
 use Rattle.ms_flow.specs.declared.orders.Step.{Step}
 use Rattle.ms_flow.proofs.orders.postorder.Goals as goal
 

@@ -1,4 +1,4 @@
-use Rattle.std.proofs.Common.{◌≡◌, ℕ, ◌+◌, ◌<◌, true, false, get_or, arith}
+use Rattle.std.proofs.Common.{get_or, arith}
 use Rattle.ms_flow.proofs.Members.{contained, values_more, values_push}
 use Rattle.ms_flow.proofs.questions.first_values.Goals as goal
 use Rattle.ms_flow.proofs.questions.first_values.Goals.{then-not-contains+else-len-eq64+in_ok-push, else-not-contains}

@@ -1,4 +1,4 @@
-use Rattle.std.proofs.Common.{◌≡◌, ℕ, ◌+◌, ◌<◌, ◌⊎◌, true, false, get_or, length, List, [], ◌∷◌, ◌++◌, refl, inl, inr, ⊎_elim, below_more, IsTrue, All, Contains, arith}
+use Rattle.std.proofs.Common.{◌≡◌, ℕ, ◌+◌, ◌<◌, ◌⊎◌, length, List, [], ◌∷◌, ◌++◌, refl, inl, inr, ⊎_elim, below_more, IsTrue, Contains, arith}
 use Rattle.std.proofs.lemmas.List.Elements.{All-push, Contains-append_left, Contains-push}
 use Rattle.std.proofs.lemmas.List.Sorted.{Contains-permutation, All-permutation}
 use Rattle.ms_flow.specs.declared.graphs.Use.{Use}

@@ -1,5 +1,4 @@
-use Rattle.std.proofs.Common.{List, ℕ, arith, set, false}
-use Rattle.ms_flow.specs.Search.{Merged}
+use Rattle.std.proofs.Common.{arith}
 use Rattle.ms_flow.proofs.States.{state_handed, work_handed}
 use Rattle.ms_flow.proofs.spread.hand_on.Goals as goal
 

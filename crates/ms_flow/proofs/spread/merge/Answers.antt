@@ -1,6 +1,5 @@
-use Rattle.std.proofs.Common.{ℕ, ◌≡◌, ◌<◌, take, length, get_or, arith}
+use Rattle.std.proofs.Common.{◌<◌, take, length, get_or, arith}
 use Rattle.std.proofs.lemmas.List.{take_more, take_all}
-use Rattle.ms_flow.specs.Search.{Merged}
 use Rattle.ms_flow.proofs.States.{merged_none, merged_same, merged_new}
 use Rattle.ms_flow.proofs.spread.merge.Goals as goal
 use Rattle.ms_flow.proofs.spread.merge.Goals.{then-word-words, else-word-words}

@@ -1,4 +1,4 @@
-use Rattle.std.proofs.Common.{Bool, length, true, false, refl, arith}
+use Rattle.std.proofs.Common.{length, true, arith}
 use Rattle.ms_flow.proofs.States.{state_first, state_last, none_queued, is_true, is_false}
 use Rattle.ms_flow.proofs.spread.spread.Goals as goal
 

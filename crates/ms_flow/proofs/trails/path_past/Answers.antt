@@ -1,4 +1,4 @@
-use Rattle.std.proofs.Common.{◌≡◌, ◌≢◌, ℕ, ◌<◌, List, ◌∷◌, Result, Ok, Err, Vec, Global, AllPairs, subst}
+use Rattle.std.proofs.Common.{◌≡◌, ◌≢◌, ℕ, List, ◌∷◌, Vec, Global, AllPairs, subst}
 use Rattle.std.specs.Result.{IfOk}
 use Rattle.ms_flow.specs.declared.visits.Visit.{Visit}
 use Rattle.ms_flow.specs.Paths.{Misses}

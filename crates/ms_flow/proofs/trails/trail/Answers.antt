@@ -1,6 +1,6 @@
-use Rattle.std.proofs.Common.{◌≡◌, ℕ, ◌<◌, List, [], ◌∷◌, ◌++◌, reverse, refl, sym, ap, ◌∙◌, subst, arith}
+use Rattle.std.proofs.Common.{◌≡◌, ℕ, ◌<◌, List, [], ◌∷◌, ◌++◌, reverse, ap, ◌∙◌, subst, arith}
 use Rattle.std.proofs.lemmas.List.{reverse-append}
-use Rattle.ms_flow.specs.Walks.{Trail, block_at, from_at}
+use Rattle.ms_flow.specs.Walks.{Trail, block_at}
 use Rattle.ms_flow.specs.Walks.Trail.{Last, Back}
 use Rattle.ms_flow.proofs.trails.trail.Goals as goal
 

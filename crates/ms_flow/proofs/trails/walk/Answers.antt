@@ -1,4 +1,4 @@
-use Rattle.std.proofs.Common.{◌≡◌, ℕ, ◌<◌, false, true, List, [], ◌∷◌, length, get_or, sym, ap, ◌∙◌, refl, subst, arith, Bool, Decides, Contains}
+use Rattle.std.proofs.Common.{◌≡◌, ℕ, ◌<◌, true, List, [], length, get_or, sym, ap, ◌∙◌, subst, arith, Bool, Decides, Contains}
 use Rattle.std.proofs.lemmas.Bool.{false≢true}
 use Rattle.ms_flow.specs.declared.graphs.Graph.{Graph}
 use Rattle.std.proofs.lemmas.List.{get_or_read, with_items_is, take_all, length-set}

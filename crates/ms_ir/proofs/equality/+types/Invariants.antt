@@ -1,4 +1,4 @@
-use Rattle.std.proofs.Common.{◌≡◌, drop, length}
+use Rattle.std.proofs.Common.{◌≡◌, drop}
 use Rattle.ms_ir.specs.Equal.{types_eq}
 use Rattle.ms_ir.proofs.equality.+types.Given as goal
 

@@ -1,19 +1,14 @@
-use Rattle.std.proofs.Common.{◌≡◌, List, All, option_map, sym, ap, subst, ◌∙◌}
+use Rattle.std.proofs.Common.{List, All, option_map, sym, ap, subst, ◌∙◌}
 use Rattle.ms_ir.specs.declared.syntax.Name.{Name}
 use Rattle.ms_ir.specs.declared.syntax.Module.{Module}
 use Rattle.ms_ir.specs.Code.{func_at, strip}
 use Rattle.ms_ir.specs.Locals.{function_names}
-use Rattle.ms_runs.specs.declared.runs.Setup.{Setup}
-use Rattle.ms_runs.specs.Faithful.{Fair, Faithful}
-use Rattle.ms_runs.specs.Plain.{plain}
+use Rattle.ms_runs.specs.Faithful.{Faithful}
 use Rattle.ms_valid.specs.Formed.{Formed}
 use Rattle.ms_valid.specs.Valid.{Valid}
-use Rattle.ms_runs_good.specs.Fills.{InsertedUnderFills}
-use Rattle.ms_two_fills.specs.Checked.{HoldsUnderFills}
 use Rattle.ms_two_fills.proofs.Whole.{inserted_fills, checked_holds}
 use Rattle.ms_tables.specs.FirstPlace.{first_place}
 use Rattle.ms_elide.specs.CleanSets.{is_in, IsExact}
-use Rattle.ms_pass_laws.specs.Pass.{pass}
 use Rattle.ms_pass_laws.proofs.Unmarked.{module_strips}
 use Rattle.ms_pass_laws.proofs.Whole.{strip_pass}
 use Rattle.ms_elision_laws.specs.Checks.{check_calls}

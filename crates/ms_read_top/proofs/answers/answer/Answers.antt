@@ -1,4 +1,4 @@
-use Rattle.std.proofs.Common.{◌≤◌, ◌<◌, ◌^◌, length, arith}
+use Rattle.std.proofs.Common.{length, arith}
 use Rattle.ms_read_top.proofs.Told.{short_text}
 use Rattle.ms_read_top.proofs.answers.answer.Goals as goal
 

@@ -1,4 +1,4 @@
-use Rattle.std.proofs.Common.{◌++◌, refl, sym, append_assoc}
+use Rattle.std.proofs.Common.{◌++◌, sym, append_assoc}
 use Rattle.ms_written.specs.Modules.{entry_label, body_lines, block_lines, blocks_lines}
 use Rattle.std.specs.Prelude.{flat_map}
 use Rattle.ms_write_values.proofs.Loops.{lines_first}
