@@ -16,8 +16,8 @@ repository read_bench 'ms_bits ms_io ms_lex ms_ir ms_grammar ms_read_body ms_rea
 
 ghost use Rattle.std.specs.Prelude.{◌≤◌, ◌^◌, length};
 
-use ms_grammar::Form;
 use ms_io::{Files, RealFiles};
+use ms_ir::Form;
 use ms_read_body::ReadError;
 use ms_read_top::read;
 use std::alloc::Global;
