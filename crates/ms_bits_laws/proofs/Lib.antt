@@ -8,6 +8,7 @@ pub mod SignedMasks
 pub mod PredicateMasks
 pub mod SelectMasks
 pub mod MaskFunctions
+pub mod CarryBits
 pub mod Agreement
 pub mod FormulaMasks
 pub mod BitSources

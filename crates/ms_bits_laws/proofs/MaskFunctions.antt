@@ -102,7 +102,7 @@ number_bit f h (suc n) i l =
     bit_at_cat_high (f n) n (number_of_bits f n) i (number_fits f h n) ge ∙ ap (bit_at (f n)) z ∙ bit_at_lowest (f n) ∙ omega (arith, h n, ap f e))
     (cases_lt i n)
 
-from_bool-lt : (b : Bool) → from_bool b < 2
+pub from_bool-lt : (b : Bool) → from_bool b < 2
 from_bool-lt true = omega arith
 from_bool-lt false = omega arith
 

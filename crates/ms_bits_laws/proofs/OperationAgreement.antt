@@ -94,7 +94,7 @@ padded w to m a c pa pc h i l z = ⊎_elim
     (cases_lt i w)
 
 -- a word widened with copies of its sign bit
-extended : (w to m a c : ℕ) → 1 ≤ w → w < to → m < 2 ^ w → a < 2 ^ w → c < 2 ^ w → Agrees w m a c → Agrees to (wrap to (signed w m)) (wrap to (signed w a)) (wrap to (signed w c))
+pub extended : (w to m a c : ℕ) → 1 ≤ w → w ≤ to → m < 2 ^ w → a < 2 ^ w → c < 2 ^ w → Agrees w m a c → Agrees to (wrap to (signed w m)) (wrap to (signed w a)) (wrap to (signed w c))
 extended zero to m a c some lt pm pa pc h i l z = absurd (omega arith)
 extended (suc t) to m a c some lt pm pa pc h i l z =
     sext_bit t to a i (omega arith) pa l ∙ h (min i t) (omega arith) (sym (sext_bit t to m i (omega arith) pm l) ∙ z) ∙ sym (sext_bit t to c i (omega arith) pc l)
@@ -106,7 +106,7 @@ casts_agree Trunc f g h w to m a c n r s some fit ha hc p en er es =
 casts_agree Zext f g h w to m a c n r s some fit ha hc p en er es =
     moved to _ _ _ _ _ _ (zext_is h w m to n en) (zext_is f w a to r er) (zext_is g w c to s es) (padded w to m a c ha.value hc.value p)
 casts_agree Sext f g h w to m a c n r s some fit ha hc p en er es =
-    moved to _ _ _ _ _ _ (sext_is h w m to n en) (sext_is f w a to r er) (sext_is g w c to s es) (extended w to m a c some fit.0 ha.mask ha.value hc.value p)
+    moved to _ _ _ _ _ _ (sext_is h w m to n en) (sext_is f w a to r er) (sext_is g w c to s es) (extended w to m a c some (omega (arith, fit.0)) ha.mask ha.value hc.value p)
 casts_agree PtrToInt f g h w to m a c n r s some fit ha hc p en er es =
     moved to _ _ _ _ _ _ (ptrtoint_is h w m to n en) (ptrtoint_is f w a to r er) (ptrtoint_is g w c to s es) (cut w to m a c (omega (arith, fit)) p)
 casts_agree IntToPtr f g h w to m a c n r s some fit ha hc p en er es =
@@ -156,7 +156,7 @@ sext_bit_of f (suc t) a to i r s g p e l =
 
 -- ---- results fit
 
-wrap-lt : (w : ℕ) (z : ℤ) → wrap w z < 2 ^ w
+pub wrap-lt : (w : ℕ) (z : ℤ) → wrap w z < 2 ^ w
 unfolding wrap
 wrap-lt w (pos n) = mod_below n (2 ^ w) (pow_pos w)
 wrap-lt w (negsuc n) = omega (arith, pow_pos w)

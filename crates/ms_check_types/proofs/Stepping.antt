@@ -1,5 +1,5 @@
 -- Steps from a type to its parts, as the definition has them and as the code takes them.
-use Rattle.std.proofs.Common.{◌≡◌, ℕ, zero, suc, ◌<◌, ◌≤◌, List, [], ◌∷◌, length, Bool, true, false, Option, Some, None, refl, sym, ap, ◌∙◌, arith, ◌+◌, drop, get_or, add-one}
+use Rattle.std.proofs.Common.{◌≡◌, ℕ, zero, suc, ◌^◌, min, ◌<◌, ◌≤◌, List, [], ◌∷◌, length, Bool, true, false, Option, Some, None, refl, sym, ap, ◌∙◌, arith, ◌+◌, drop, get_or, add-one}
 use Rattle.std.specs.Prelude.{option_and_then, slice_get, if◌then◌else◌, ◌&&◌, nat_lt, is_none}
 use Rattle.std.proofs.lemmas.Bool.{ltb-true, ltb-false}
 use Rattle.std.proofs.lemmas.Option.{same_Some, none-some}
@@ -11,7 +11,7 @@ use Rattle.ms_ir.specs.Layout.{Types, resolved, row_types, type_at, part_type}
 use Rattle.ms_ir.specs.Equal.{type_eq}
 use Rattle.ms_valid.specs.TypesAgree.{leads_into, number_or_zero, is_below, first_misstep, constant_indices}
 use Rattle.ms_check_types.proofs.Lists.{drop_item}
-use Rattle.ms_check_types.specs.Parts.{constant_of, part_by}
+use Rattle.ms_check_types.specs.Parts.{constant_of, field_at, part_by}
 
 -- ---- parts of arrays and structs
 
@@ -26,8 +26,8 @@ pub part-array : (n : ℕ) (t u : Ty) (k : Option ℕ) → part_by (Array n t) u
 unfolding hidden-the_row-Ty-0 shape-the_row-Ty-0 denote.Hole.Carrier.hidden
 part-array n t u k = refl
 
-pub part-struct : (p : Bool) (ts : List Ty) (u : Ty) (k : Option ℕ) → part_by (Struct p ts) u k ≡ (if type_eq u (Int 32) then option_and_then (slice_get ts) k else None)
-part-struct p ts u k = ap (λ us. if type_eq u (Int 32) then option_and_then (slice_get us) k else None) (struct_types ts)
+pub part-struct : (p : Bool) (ts : List Ty) (u : Ty) (k : Option ℕ) → part_by (Struct p ts) u k ≡ (if type_eq u (Int 32) then option_and_then (field_at ts) k else None)
+part-struct p ts u k = ap (λ us. if type_eq u (Int 32) then option_and_then (field_at us) k else None) (struct_types ts)
 
 -- ---- what an index leads to
 
@@ -41,29 +41,41 @@ get_beyond [] k l = refl
 get_beyond (t ∷ ts) zero l = absurd (omega arith)
 get_beyond (t ∷ ts) (suc k) l = get_beyond ts k (omega arith)
 
-get_at : (ts : List Ty) (k : ℕ) → slice_get ts k ≡ (if nat_lt k (length ts) then Some (type_at ts k) else None)
-get_at ts k = by_test (nat_lt k (length ts)) refl
+get_at : (ts : List Ty) (k : ℕ) → field_at ts k ≡ (if nat_lt k (min (length ts) (2 ^ 31)) then Some (type_at ts k) else None)
+get_at ts k = by_tests (nat_lt k (2 ^ 31)) (nat_lt k (min (length ts) (2 ^ 31))) refl refl
   where
-    by_test : (b : Bool) → nat_lt k (length ts) ≡ b → slice_get ts k ≡ (if b then Some (type_at ts k) else None)
-    by_test true e = get_within ts k (ltb-true k (length ts) e)
-    by_test false e = get_beyond ts k (ltb-false k (length ts) e)
+    both : k < min (length ts) (2 ^ 31) → (k < length ts) × (k < 2 ^ 31)
+    both l = (omega (arith, l), omega (arith, l))
 
-field_at : (ts : List Ty) (b : Bool) (o : Operand)
-    → (if b then option_and_then (slice_get ts) (constant_of o) else None) ≡ (if b && is_below (length ts) o then Some (type_at ts (number_or_zero o)) else None)
-field_at ts false o = refl
-field_at ts true (operand.Int k) = get_at ts k
-field_at ts true operand.Null = refl
-field_at ts true operand.Undef = refl
-field_at ts true operand.Poison = refl
-field_at ts true (operand.Local x) = refl
-field_at ts true (operand.Global x) = refl
-field_at ts true (operand.Offset t x is) = refl
+    beyond : k < 2 ^ 31 → min (length ts) (2 ^ 31) ≤ k → length ts ≤ k
+    beyond l g = omega (arith, l, g)
+
+    apart : 2 ^ 31 ≤ k → k < 2 ^ 31 → ⊥
+    apart g l = omega (arith, g, l)
+
+    by_tests : (a b : Bool) → nat_lt k (2 ^ 31) ≡ a → nat_lt k (min (length ts) (2 ^ 31)) ≡ b
+        → (if a then slice_get ts k else None) ≡ (if b then Some (type_at ts k) else None)
+    by_tests true true e f = get_within ts k (both (ltb-true k (min (length ts) (2 ^ 31)) f)).0
+    by_tests true false e f = get_beyond ts k (beyond (ltb-true k (2 ^ 31) e) (ltb-false k (min (length ts) (2 ^ 31)) f))
+    by_tests false true e f = absurd (apart (ltb-false k (2 ^ 31) e) (both (ltb-true k (min (length ts) (2 ^ 31)) f)).1)
+    by_tests false false e f = refl
+
+field_told : (ts : List Ty) (b : Bool) (o : Operand)
+    → (if b then option_and_then (field_at ts) (constant_of o) else None) ≡ (if b && is_below (min (length ts) (2 ^ 31)) o then Some (type_at ts (number_or_zero o)) else None)
+field_told ts false o = refl
+field_told ts true (operand.Int k) = get_at ts k
+field_told ts true operand.Null = refl
+field_told ts true operand.Undef = refl
+field_told ts true operand.Poison = refl
+field_told ts true (operand.Local x) = refl
+field_told ts true (operand.Global x) = refl
+field_told ts true (operand.Offset t x is) = refl
 
 pub leads : (t u : Ty) (o : Operand) → part_by t u (constant_of o) ≡ (if leads_into t (u, o) then Some (part_type t (number_or_zero o)) else None)
 leads (Int n) u o = refl
 leads Ptr u o = refl
 leads (Array' n shape item) u o = refl
-leads (Struct' packed shape fields) u o = field_at (row_types fields) (type_eq u (Int 32)) o
+leads (Struct' packed shape fields) u o = field_told (row_types fields) (type_eq u (Int 32)) o
 leads (Named x) u o = refl
 
 -- ---- a step of the first index at fault

@@ -1,11 +1,11 @@
 //! Steps from a type to its parts (LLVM Language Reference, "'getelementptr' Instruction").
-ghost use Rattle.std.specs.Prelude.{◌≡◌, length, option_and_then, slice_get, if◌then◌else◌, is_none, true, None};
+ghost use Rattle.std.specs.Prelude.{◌≡◌, length, option_and_then, if◌then◌else◌, is_none, true, None};
 ghost use Rattle.std.specs.Option.{option_copied};
 ghost use Rattle.ms_ir.specs.declared.syntax.Ty as type;
 ghost use Rattle.ms_ir.specs.Layout.{resolved};
 ghost use Rattle.ms_ir.specs.Equal.{type_eq};
 ghost use Rattle.ms_valid.specs.TypesAgree.{first_misstep, constant_indices};
-ghost use Rattle.ms_check_types.specs.Parts.{constant_of, part_by};
+ghost use Rattle.ms_check_types.specs.Parts.{constant_of, field_at, part_by};
 
 use crate::symbols::Symbols;
 use crate::types::is_int;
@@ -21,12 +21,12 @@ pub fn constant(operand: &Operand) -> Option<u64>
     }
 }
 
-/// The field of a struct to which an index leads: one of type `i32` with a number in range.
+/// The field of a struct to which an index leads: one of type `i32` with a number in range and below 2^31.
 fn field<'a>(fields: &'a [Ty], index_ty: &Ty, index: Option<u64>) -> Option<&'a Ty>
-    ensures { option_copied result ≡ if type_eq index_ty.now (type.Int 32) then option_and_then (slice_get fields.now) index else None }
+    ensures { option_copied result ≡ if type_eq index_ty.now (type.Int 32) then option_and_then (field_at fields.now) index else None }
 {
     match index {
-        Some(place) if is_int(index_ty, 32) => fields.get(place as usize),
+        Some(place) if is_int(index_ty, 32) && place < 1 << 31 => fields.get(place as usize),
         _ => None,
     }
 }

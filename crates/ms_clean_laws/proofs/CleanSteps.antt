@@ -195,7 +195,7 @@ module _ (m : Module) (valid : Valid m) where
         checked_clean : (e : Effect) → CleanMoved m (after_checks d s m i (here s m frame) words frame below e)
         checked_clean (Does w) =
             moves_clean (here s m frame).site i.result words (poisoned_result d i.op words)
-            (planes s (here s m frame).site ((here s m frame).root + count_undefs (operands i.op) + 1) i.op words (count_blind (union (map (λ p. p.mask) (blinded d.sums_blind i.op words))) w))
+            (planes s (here s m frame).site ((here s m frame).root + count_undefs (operands i.op) + 1) i.op words (count_blind (union (map (λ p. p.mask) (blinded i.op words))) w))
             frame below good h k lifted _
         checked_clean (Ends x w) = tt
         checked_clean (Gives v w) = tt

@@ -1,8 +1,7 @@
 -- Rules for masks that poison nothing of their own (own).
-use Rattle.std.specs.Prelude.{◌≡◌, ℕ, false}
+use Rattle.std.specs.Prelude.{◌≡◌, ℕ}
 use Rattle.ms_bits.specs.declared.operations.Pred.{Pred}
 use Rattle.ms_bits.specs.Conversions.{select_of}
-use Rattle.ms_bits.specs.Formulas.{carry_mask}
 use Rattle.ms_runs.specs.Poisoned.{Poisoned, InRange}
 use Rattle.ms_runs.specs.Masks.{Rules}
 
@@ -15,7 +14,3 @@ pub record KeepClean (d : Rules) : Type 0 where
   pub compare : (o : Pred) (w : ℕ) (p q : Poisoned) → InRange w p → InRange w q → p.mask ≡ 0 → q.mask ≡ 0 → d.compare o w p q ≡ 0
   pub select : (w : ℕ) (k p q : Poisoned) → InRange 1 k → InRange w p → InRange w q → k.mask ≡ 0 → select_of k.value p.mask q.mask ≡ 0 → d.select w k p q ≡ 0
   pub sum : (w : ℕ) → d.sum w 0 ≡ 0
-
--- rules in which carries count in a sum, and no operand of a sum is a blind use
-abbrev pub with_carries : Rules → Rules
-with_carries d = record d { sum = carry_mask; sums_blind = false }

@@ -13,16 +13,13 @@ ghost use Rattle.ms_valid.specs.Valid.{Valid};
 ghost use Rattle.ms_runs_good.specs.GoodRules.{KeepWidths};
 ghost use Rattle.ms_runs_good.specs.GoodRuns.{LeadsTo};
 ghost use Rattle.ms_runs_good.specs.GoodWorlds.{GivesBytes};
-ghost use Rattle.ms_clean_laws.specs.KeepClean.{KeepClean, with_carries};
+ghost use Rattle.ms_clean_laws.specs.KeepClean.{KeepClean};
 ghost use Rattle.ms_clean_laws.specs.CleanStates.{AllCleanValues, ReadsClean};
 
-/// Of words without a poisoned bit, the rules that try all completions give none, nor do the formulas of inserted code. Where
-/// carries count in sums this stays so, and masks go on to keep to widths.
+/// Of words without a poisoned bit, the rules that try all completions give none, nor do the formulas of inserted code.
 pub fn clean_rules()
     ensures completions { KeepClean by_completions }
     ensures formulas { KeepClean by_formulas }
-    ensures carries { (d : Rules) → KeepClean d → KeepClean (with_carries d) }
-    ensures carried_widths { (d : Rules) → KeepWidths d → KeepWidths (with_carries d) }
 {}
 
 /// A shadow run starts with clean values clean, and each step from a good state keeps them clean.

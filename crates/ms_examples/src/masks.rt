@@ -5,19 +5,18 @@ ghost use Rattle.ms_bits.specs.declared.operations.CastOp.TheVariants as cast;
 ghost use Rattle.ms_bits.specs.declared.operations.Pred.TheVariants as predicate;
 ghost use Rattle.ms_runs.specs.Masks.{by_completions, binary_mask};
 ghost use Rattle.ms_examples.specs.Programs.{word, cast_mask};
-ghost use Rattle.ms_examples.specs.Sums.{carried};
 
-/// A shift shifts the mask, and by a poisoned amount it poisons all bits. A division has its dividend's mask, a sum the
-/// union; with carry each bit above a poisoned one is poisoned.
+/// A shift shifts the mask, and by a poisoned amount it poisons all bits. A division has its dividend's mask; in a sum each
+/// bit above a poisoned one is poisoned.
 pub fn of_arithmetic()
     ensures shl { binary_mask by_completions binary.Shl 8 (word 0 0x81) (word 1 0) ≡ 0x02 }
     ensures lshr { binary_mask by_completions binary.Lshr 8 (word 0 0x81) (word 1 0) ≡ 0x40 }
     ensures ashr { binary_mask by_completions binary.Ashr 8 (word 0 0x81) (word 1 0) ≡ 0xc0 }
     ensures poisoned_amount { binary_mask by_completions binary.Shl 8 (word 1 0) (word 0 1) ≡ 0xff }
     ensures division { binary_mask by_completions binary.Udiv 8 (word 8 0x0c) (word 2 0) ≡ 0x0c }
-    ensures sum { binary_mask by_completions binary.Add 8 (word 0 0x10) (word 3 0x01) ≡ 0x11 }
-    ensures sum_with_carry { binary_mask (carried by_completions) binary.Add 8 (word 0 0x10) (word 3 0) ≡ 0xf0 }
-    ensures clean_sum_with_carry { binary_mask (carried by_completions) binary.Add 8 (word 1 0) (word 3 0) ≡ 0 }
+    ensures sum { binary_mask by_completions binary.Add 8 (word 0 0x10) (word 3 0) ≡ 0xf0 }
+    ensures difference { binary_mask by_completions binary.Sub 8 (word 0 0x10) (word 3 0x04) ≡ 0xfc }
+    ensures clean_product { binary_mask by_completions binary.Mul 8 (word 1 0) (word 3 0) ≡ 0 }
 {}
 
 /// A known 0 settles an `and`, a known 1 an `or`, and nothing an exclusive or.

@@ -8,9 +8,7 @@ ghost use Rattle.ms_ir.specs.ExampleExternals.{heap_filled, freed};
 ghost use Rattle.ms_ir.specs.ExampleCalls as calls;
 ghost use Rattle.ms_runs.specs.ExampleRuns.{defaults, filled, steps, exits, prints, spent, trapped, reported, report};
 ghost use Rattle.ms_ir.specs.ExampleParts.{does, call, local};
-ghost use Rattle.ms_runs.specs.Masks.{by_completions};
-ghost use Rattle.ms_runs.specs.Shadow.{shadow, shadow_by};
-ghost use Rattle.ms_examples.specs.Sums.{carried};
+ghost use Rattle.ms_runs.specs.Shadow.{shadow};
 ghost use Rattle.ms_examples.specs.Programs.{masked_undef, indexed_by_undef, branch_on_zeroed, sixteen_copies};
 
 /// A word of which some bits are undefined comes to the return of `main`: they are reported there, unless they were
@@ -31,21 +29,13 @@ pub fn shared_cells()
     ensures first_alone { shadow shared_cell defaults ≡ reported (report 7 7 0 0xff 32 1) }
 {}
 
-/// Sums by the union of their operands' masks: a carry out of a poisoned bit is lost, and such a use is counted as blind.
-pub fn sums_by_union()
-    ensures lost { shadow lost_in_addition defaults ≡ record (prints (66 ∷ []) («end».Exit 0)) { blind = 1 } }
-    ensures lost_under_zeros { shadow lost_in_addition (filled (0 ∷ [])) ≡ record (prints (65 ∷ []) («end».Exit 0)) { blind = 1 } }
-    ensures lost_under_ones { shadow lost_in_addition (filled (1 ∷ [])) ≡ record (prints (66 ∷ []) («end».Exit 0)) { blind = 1 } }
-    ensures one_bit { shadow carry_of_undef defaults ≡ record (reported (report 3 8 0 0x10 32 1)) { blind = 1 } }
-    ensures index { shadow indexed_by_undef defaults ≡ record (reported (report 4 3 0 1 64 2)) { blind = 1 } }
-{}
-
-/// The same sums where a poisoned bit poisons each one above it: nothing is lost, and no use is blind for it.
+/// Sums, in which a poisoned bit poisons each one above it, since it may carry: nothing is lost, and no use is blind for it.
 pub fn sums_with_carry()
-    ensures found { shadow_by (carried by_completions) lost_in_addition defaults ≡ reported (report 5 1 0 1 1 1) }
-    ensures found_under_zeros { shadow_by (carried by_completions) lost_in_addition (filled (0 ∷ [])) ≡ reported (report 5 1 0 1 1 1) }
-    ensures one_bit { shadow_by (carried by_completions) carry_of_undef defaults ≡ reported (report 3 8 0 0xfffffff0 32 1) }
-    ensures index { shadow_by (carried by_completions) indexed_by_undef defaults ≡ reported (report 4 3 0 0xffffffffffffffff 64 2) }
+    ensures found { shadow lost_in_addition defaults ≡ reported (report 5 1 0 1 1 1) }
+    ensures found_under_zeros { shadow lost_in_addition (filled (0 ∷ [])) ≡ reported (report 5 1 0 1 1 1) }
+    ensures found_under_ones { shadow lost_in_addition (filled (1 ∷ [])) ≡ reported (report 5 1 0 1 1 1) }
+    ensures one_bit { shadow carry_of_undef defaults ≡ reported (report 3 8 0 0xfffffff0 32 1) }
+    ensures index { shadow indexed_by_undef defaults ≡ reported (report 4 3 0 0xffffffffffffffff 64 2) }
 {}
 
 /// Blind uses: a `freeze`, and an operation with a flag, whatever the fill is.

@@ -652,7 +652,7 @@ inst_ranged s m env size i f below w many k rh pr rv rf r c e = by_checks (check
     by_checks : (x : Effect) → Quiet w x → shadow_moved (after_checks by_formulas s m i (here s m f) (read_all (read_poisoned s f.values) (operands i.op) (here s m f).root) f below x) ≡ More c → Ranged c
     by_checks (Does z) q e =
         let ps = read_all (read_poisoned s f.values) (operands i.op) (here s m f).root in
-        let u = count_blind (union (map (λ p. p.mask) (blinded by_formulas.sums_blind i.op ps))) z in
+        let u = count_blind (union (map (λ p. p.mask) (blinded i.op ps))) z in
         let rz : RangedWorld u = ranged_left z u (counted _ z) (ranged_left w z q r) in
         outcome_ranged s m (here s m f) i ps f below u (act s (here s m f) i.op (map (λ p. p.value) ps) u) many k.built
         (words_ranged s f.values (operands i.op) (here s m f).root rv (undefs_fit s.func i (here s m f).root k.unmarked rh.root))

@@ -46,10 +46,10 @@ cast_cost cast.PtrToInt w to m = by_test (eqb to 64)
 cast_cost cast.IntToPtr w to m = widened_cost w m
 cast_cost cast.Bitcast w to m = omega arith
 
-pub define_cost : (func : Name → Option ℕ) (v : ℕ) (o : Op) (ts : List Tracked) → tasks_cost (define_tasks func v o ts) ≤ 110 + 12 * length ts
+pub define_cost : (func : Name → Option ℕ) (v : ℕ) (o : Op) (ts : List Tracked) → tasks_cost (define_tasks func v o ts) ≤ 110 + 17 * length ts
 define_cost func v (op.Binary o f t a b) ts = by_op o
   where
-    by_op : (c : BinOp) → tasks_cost (define_tasks func v (op.Binary c f t a b) ts) ≤ 110 + 12 * length ts
+    by_op : (c : BinOp) → tasks_cost (define_tasks func v (op.Binary c f t a b) ts) ≤ 110 + 17 * length ts
     by_op binary.Shl = omega (arith, first_last_cost ts)
     by_op binary.Lshr = omega (arith, first_last_cost ts)
     by_op binary.Ashr = omega (arith, first_last_cost ts)
@@ -67,7 +67,7 @@ define_cost func v (op.Alloca t u c) ts = omega arith
 define_cost func v (op.Load t a) ts = omega (arith, widened_cost (width_of t) (Leaf (operand.Local (mask_name v))))
 define_cost func v (op.Call r x as') ts = by_own (is_some (func x))
   where
-    by_own : (b : Bool) → tasks_cost (called_tasks b v (op.Call r x as') ts) ≤ 110 + 12 * length ts
+    by_own : (b : Bool) → tasks_cost (called_tasks b v (op.Call r x as') ts) ≤ 110 + 17 * length ts
     by_own true = omega arith
     by_own false = omega arith
 define_cost func v _ ts = omega arith

@@ -95,24 +95,24 @@ uses_few func main (op.Ret v) = by_main main
     by_main false = omega arith
 uses_few func main _ = omega arith
 
-result_cost : (func : Name → Option ℕ) (env : Env) (r : Option Name) (o : Op) (ts : List Tracked) → tasks_cost (result_tasks func env r o ts) ≤ 110 + 12 * length ts
+result_cost : (func : Name → Option ℕ) (env : Env) (r : Option Name) (o : Op) (ts : List Tracked) → tasks_cost (result_tasks func env r o ts) ≤ 110 + 17 * length ts
 result_cost func env None o ts = omega arith
 result_cost func env (Some x) o ts = by_clean (env.clean x)
   where
-    by_number : (n : Option ℕ) → tasks_cost (elim n as (λ w. List Task) [ Some v ↦ define_tasks func v o ts | None ↦ [] ]) ≤ 110 + 12 * length ts
+    by_number : (n : Option ℕ) → tasks_cost (elim n as (λ w. List Task) [ Some v ↦ define_tasks func v o ts | None ↦ [] ]) ≤ 110 + 17 * length ts
     by_number None = omega arith
     by_number (Some v) = define_cost func v o ts
 
-    by_clean : (b : Bool) → tasks_cost (if b then [] else elim (env.number x) as (λ w. List Task) [ Some v ↦ define_tasks func v o ts | None ↦ [] ]) ≤ 110 + 12 * length ts
+    by_clean : (b : Bool) → tasks_cost (if b then [] else elim (env.number x) as (λ w. List Task) [ Some v ↦ define_tasks func v o ts | None ↦ [] ]) ≤ 110 + 17 * length ts
     by_clean true = omega arith
     by_clean false = by_number (env.number x)
 
 -- the bound of a round with its own instruction
 abbrev pub bound : Inst → ℕ
-bound i = 200 + 30 * length (operands i.op)
+bound i = 200 + 35 * length (operands i.op)
 
 module _ (given : Given) (env : Env) where
-  before_cost : (h : Here) (i : Inst) (n : ℕ) → tasks_cost (before_tasks given env h i n) ≤ 162 + 27 * length (operands i.op)
+  before_cost : (h : Here) (i : Inst) (n : ℕ) → tasks_cost (before_tasks given env h i n) ≤ 162 + 32 * length (operands i.op)
   before_cost h i n =
       let ts = tracked env h.root (operands i.op) in
       let us = uses given.func h.main i.op in
@@ -167,7 +167,7 @@ module _ (given : Given) (env : Env) where
 
   -- what is written before and behind an instruction
   pub lists_cost : (h : Here) (i : Inst) (n : ℕ) (o : Op) → i.op ≡ o
-      → over_insts count_written (emit_op given env h i n o).before + over_insts count_written (emit_op given env h i n o).after ≤ 192 + 27 * length (operands o)
+      → over_insts count_written (emit_op given env h i n o).before + over_insts count_written (emit_op given env h i n o).after ≤ 192 + 32 * length (operands o)
   lists_cost h i n (op.Phi t es) s = omega (arith, phi_cost h.root i.result t es, length-map {B = Ty × Operand} es (λ (e : Operand × Name). (t, e.0)))
   lists_cost h i n o s =
       let bs = before_tasks given env h i n in let as' = after_tasks given env h i n in
@@ -255,14 +255,14 @@ funcs_few (f ∷ fs) h =
 
 -- ---- the sum
 
-insts_bound : (is : List Inst) → over_insts bound is ≡ 200 * over_insts (λ i. 1) is + 30 * over_insts (λ i. length (operands i.op)) is
+insts_bound : (is : List Inst) → over_insts bound is ≡ 200 * over_insts (λ i. 1) is + 35 * over_insts (λ i. length (operands i.op)) is
 insts_bound [] = refl
 insts_bound (i ∷ is) = let e = insts_bound is in omega (arith, e)
 
-blocks_bound : (bs : List Block) → over_blocks bound bs ≡ 200 * over_blocks (λ i. 1) bs + 30 * over_blocks (λ i. length (operands i.op)) bs
+blocks_bound : (bs : List Block) → over_blocks bound bs ≡ 200 * over_blocks (λ i. 1) bs + 35 * over_blocks (λ i. length (operands i.op)) bs
 blocks_bound [] = refl
 blocks_bound (b ∷ bs) = let e = blocks_bound bs in omega (arith, e, insts_bound b.insts)
 
-pub funcs_bound : (fs : List Func) → over_funcs bound fs ≡ 200 * over_funcs (λ i. 1) fs + 30 * over_funcs (λ i. length (operands i.op)) fs
+pub funcs_bound : (fs : List Func) → over_funcs bound fs ≡ 200 * over_funcs (λ i. 1) fs + 35 * over_funcs (λ i. length (operands i.op)) fs
 funcs_bound [] = refl
 funcs_bound (f ∷ fs) = let e = funcs_bound fs in omega (arith, e, blocks_bound f.blocks)

@@ -18,7 +18,7 @@ use Rattle.ms_ir.specs.Code.{one_undef, count_undefs}
 use Rattle.ms_valid.specs.FormedCode.{is_int_type, is_value_type, number_formed}
 use Rattle.ms_tasks.specs.Tasks.{mask_name, origin_name, Or, Expr, Two, Turn, Pick}
 use Rattle.ms_tasks.specs.Environments.{Env, Tracked, mask_type, mask_operand, origin_operand, local_mask, local_origin, tracked, mask_of, origin_of, word_of, bits_at, widened, extended_expr, is_set}
-use Rattle.ms_tasks.specs.ResultMasks.{union_expr, and_expr, or_expr, least_expr, order_expr, eq_expr, turned_expr, compare_expr, select_expr, cast_expr, union_all, binary_expr, last_expr, first_last}
+use Rattle.ms_tasks.specs.ResultMasks.{union_expr, carry_expr, and_expr, or_expr, least_expr, order_expr, eq_expr, turned_expr, compare_expr, select_expr, cast_expr, union_all, binary_expr, last_expr, first_last}
 use Rattle.ms_tasks.specs.CheckTasks.{union_masks}
 use Rattle.ms_tasks.specs.ResultTasks.{shadow_address}
 use Rattle.ms_pass_valid.proofs.Checked.{IsInt, TurnFits, OperandFits, Typed}
@@ -156,6 +156,9 @@ module _ (C : Ty → Operand → Type 0) (K : Name → Ty → Type 0) where
     union_typed : (m k : Expr) → Typed K C (Int w) m → Typed K C (Int w) k → Typed K C (Int w) (union_expr (Int w) m k)
     union_typed m k p q = (refl, i, p, q)
 
+    pub carry_typed : (e : Expr) → Typed K C (Int w) e → Typed K C (Int w) (carry_expr (Int w) e)
+    carry_typed e p = (refl, i, p, (refl, i, no_bits w i, p))
+
     and_typed : (v m u k : Expr) → Typed K C (Int w) v → Typed K C (Int w) m → Typed K C (Int w) u → Typed K C (Int w) k → Typed K C (Int w) (and_expr (Int w) v m u k)
     and_typed v m u k p q r s = (refl, i, (refl, i, (refl, i, p, q), (refl, i, r, s)), (refl, i, q, s))
 
@@ -208,9 +211,9 @@ module _ (C : Ty → Operand → Type 0) (K : Name → Ty → Type 0) where
     binary_typed binary.And a b p q r s = and_typed (word_of a) (mask_of a) (word_of b) (mask_of b) p q r s
     binary_typed binary.Or a b p q r s = or_typed (word_of a) (mask_of a) (word_of b) (mask_of b) p q r s
     binary_typed binary.Xor a b p q r s = (refl, i, q, s)
-    binary_typed binary.Add a b p q r s = (refl, i, q, s)
-    binary_typed binary.Sub a b p q r s = (refl, i, q, s)
-    binary_typed binary.Mul a b p q r s = (refl, i, q, s)
+    binary_typed binary.Add a b p q r s = carry_typed (union_expr (Int w) (mask_of a) (mask_of b)) (refl, i, q, s)
+    binary_typed binary.Sub a b p q r s = carry_typed (union_expr (Int w) (mask_of a) (mask_of b)) (refl, i, q, s)
+    binary_typed binary.Mul a b p q r s = carry_typed (union_expr (Int w) (mask_of a) (mask_of b)) (refl, i, q, s)
     binary_typed _ a b p q r s = q
 
   -- ---- lists of operands

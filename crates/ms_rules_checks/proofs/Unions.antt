@@ -42,9 +42,6 @@ binary_map f binary.Srem xs = first_map f xs
 binary_map f binary.Shl xs = rest_map f xs
 binary_map f binary.Lshr xs = rest_map f xs
 binary_map f binary.Ashr xs = rest_map f xs
-binary_map f binary.Add xs = refl
-binary_map f binary.Sub xs = refl
-binary_map f binary.Mul xs = refl
 binary_map f _ xs = refl
 
 pub blinded_map : {A B : Type 0} (f : A → B) (o : Op) (xs : List A) → map f (blinded_of o xs) ≡ blinded_of o (map f xs)
@@ -53,7 +50,6 @@ blinded_map f (op.Binary o g t a b) xs =
 blinded_map f (op.Icmp p g t a b) xs = if_same (map f) (has_flag g) xs []
 blinded_map f (op.Cast o g t a u) xs = if_same (map f) (has_flag g) xs []
 blinded_map f (op.Freeze t a) xs = refl
-blinded_map f (op.Gep t a is) xs = refl
 blinded_map f _ xs = refl
 
 -- ---- steps

@@ -48,7 +48,6 @@ fn blind_binary<'a, 'm>(op: BinOp, operands: &'a [TrackedOperand<'m>]) -> &'a [T
     ensures { result.now ≡ blind_binary_of op operands.now }
 {
     match op {
-        BinOp::Add | BinOp::Sub | BinOp::Mul => operands,
         BinOp::Udiv | BinOp::Sdiv | BinOp::Urem | BinOp::Srem => first(operands),
         BinOp::Shl | BinOp::Lshr | BinOp::Ashr => rest(operands),
         _ => &[],
@@ -64,7 +63,7 @@ fn blinded<'a, 'm>(op: &Op, operands: &'a [TrackedOperand<'m>]) -> &'a [TrackedO
         Op::Binary { op, .. } => blind_binary(*op, operands),
         Op::Icmp { flags, .. } if has_flag(flags) => operands,
         Op::Cast { flags, .. } if has_flag(flags) => operands,
-        Op::Freeze { .. } | Op::Gep { .. } => operands,
+        Op::Freeze { .. } => operands,
         _ => &[],
     }
 }

@@ -57,6 +57,7 @@ abbrev pub task_operation : Operation → tasks.Operation
 task_operation operation.And = tasks.And
 task_operation operation.Or = tasks.Or
 task_operation operation.Xor = tasks.Xor
+task_operation operation.Sub = tasks.Sub
 task_operation operation.Mul = tasks.Mul
 
 abbrev pub bits_in : Inputs → Width → ℕ

@@ -7,6 +7,7 @@ pub enum Operation {
     And,
     Or,
     Xor,
+    Sub,
     Mul,
 }
 

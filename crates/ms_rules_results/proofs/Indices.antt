@@ -4,24 +4,23 @@ use Rattle.std.proofs.lemmas.List.{append_assoc, drop_more, drop-drop, get_or-dr
 use Rattle.ms_ir.specs.declared.syntax.Ty.{Int}
 use Rattle.ms_ir.specs.Layout.{width_of}
 use Rattle.ms_ir.specs.ValueTypes.{type_of}
-use Rattle.ms_tasks.specs.Tasks.{Expr, Or, Two}
-use Rattle.ms_tasks.specs.Environments.{Tracked, untracked, tracked_at, mask_of, extended_expr}
-use Rattle.ms_tasks.specs.ResultMasks.{union_all}
+use Rattle.ms_tasks.specs.Tasks.{Expr}
+use Rattle.ms_tasks.specs.Environments.{Tracked, untracked, tracked_at, mask_of, extended_expr, number}
+use Rattle.ms_tasks.specs.ResultMasks.{carry_expr, union_all, union_expr}
 use Rattle.ms_rules_code.specs.declared.tracked.TrackedOperand.{TrackedOperand}
 use Rattle.ms_rules_code.specs.declared.steps.Operation.TheVariants as operation
 use Rattle.ms_rules_code.specs.declared.steps.Width.TheVariants as width
 use Rattle.ms_rules_code.specs.declared.steps.Step.{Step}
 use Rattle.ms_rules_code.specs.declared.steps.Step.TheVariants as step
 use Rattle.ms_rules_code.specs.Steps.{Inputs, tracked_of, words}
-use Rattle.ms_rules_results.specs.Rules.{is_rule, extended}
+use Rattle.ms_rules_results.specs.Rules.{is_rule, extended, union_steps}
 use Rattle.ms_rules_results.proofs.Tables.{ends_behind, ends_after, times_and_once}
 
 abbrev or : Step
 or = step.Two operation.Or (width.Bits 64)
 
--- the steps behind the base's mask
-abbrev pub index_steps : List Tracked → ℕ → List Step
-index_steps ts n = extended 1 (drop 1 ts) ++ step.Constant 0 ∷ (replicate n or ++ or ∷ [])
+abbrev sub : Step
+sub = step.Two operation.Sub (width.Bits 64)
 
 -- one more index
 extended_more : (ts : List Tracked) (k : ℕ) → k < length ts
@@ -60,29 +59,57 @@ module _ (i : Inputs) where
       ∙ ap (λ l. words i (extended (suc k) ts ++ step.Constant 0 ∷ l) (x ∷ st)) (times_and_once (length ts) or rest)
       ∙ unions ts (suc k) behind (or ∷ rest) (x ∷ st)
 
--- what the rule comes to
-pub all_masks : (i : Inputs) (ts : List Tracked) (n : ℕ) (steps : List Step) → i.operands ≡ ts → n ≡ length ts - 1 → steps ≡ step.Mask 0 ∷ index_steps ts n
-    → words i steps [] ≡ Two Or (Int 64) (mask_of (tracked_at 0 i.operands)) (union_all (drop 1 i.operands)) ∷ []
-all_masks i ts n steps e p q =
+-- what the steps of the joined masks come to, where others follow
+union_words : (i : Inputs) (ts : List Tracked) → i.operands ≡ ts → (rest : List Step) (st : List Expr)
+    → words i (union_steps ts ++ rest) st ≡ words i rest (union_expr (Int 64) (mask_of (tracked_at 0 i.operands)) (union_all (drop 1 i.operands)) ∷ st)
+union_words i ts e rest st =
     let l = i.operands in
-    let m : List Expr = mask_of (tracked_at 0 l) ∷ [] in
-    ap (λ x. words i x []) q
-    ∙ ap (λ k. words i (index_steps ts k) m) (p ∙ ap (λ x. length x - 1) (sym e) ∙ sym (length-drop 1 l))
-    ∙ ap (λ x. words i (index_steps x (length (drop 1 l))) m) (sym e)
-    ∙ unions i (drop 1 l) 1 refl (or ∷ []) m
-
-pub indices_are_rule : (ts : List Tracked) (n : ℕ) → is_rule (step.Mask 0 ∷ index_steps ts n) ≡ true
-indices_are_rule ts n =
-    ends_after (step.Mask 0) (index_steps ts n)
-    (ends_behind (extended 1 (drop 1 ts)) (step.Constant 0 ∷ (replicate n or ++ or ∷ [])) (ends_behind (step.Constant 0 ∷ replicate n or) (or ∷ []) refl))
-
--- the steps as they are added
-pub index_steps_made : (ts : List Tracked) (n m : ℕ) (none first masks ended many all : List Step) → none ≡ [] → first ≡ none ++ step.Mask 0 ∷ [] → masks ≡ first ++ extended 1 (drop 1 ts)
-    → ended ≡ masks ++ step.Constant 0 ∷ [] → m ≡ n → many ≡ ended ++ replicate m or → all ≡ many ++ or ∷ [] → all ≡ step.Mask 0 ∷ index_steps ts n
-index_steps_made ts n m none first masks ended many all a b c d e f g =
+    let m : List Expr = mask_of (tracked_at 0 l) ∷ st in
     let x = extended 1 (drop 1 ts) in
-    let to_end : ended ≡ step.Mask 0 ∷ (x ++ step.Constant 0 ∷ []) =
-    d ∙ ap (λ l. l ++ step.Constant 0 ∷ []) (c ∙ ap (λ l. l ++ x) (b ∙ ap (λ l. l ++ step.Mask 0 ∷ []) a)) in
+    let r = replicate (length ts - 1) or in
+    ap (λ a. words i a m) (append_assoc x (step.Constant 0 ∷ (r ++ or ∷ [])) rest ∙ ap (λ a. x ++ step.Constant 0 ∷ a) (append_assoc r (or ∷ []) rest))
+    ∙ ap (λ k. words i (x ++ step.Constant 0 ∷ (replicate k or ++ or ∷ rest)) m) (ap (λ y. length y - 1) (sym e) ∙ sym (length-drop 1 l))
+    ∙ ap (λ y. words i (extended 1 (drop 1 y) ++ step.Constant 0 ∷ (replicate (length (drop 1 l)) or ++ or ∷ rest)) m) (sym e)
+    ∙ unions i (drop 1 l) 1 refl (or ∷ rest) m
+
+-- the rule of an address: the joined masks, and 0 less the same
+abbrev pub address_steps : List Tracked → List Step
+address_steps ts = union_steps ts ++ step.Constant 0 ∷ (union_steps ts ++ sub ∷ or ∷ [])
+
+pub address_words : (i : Inputs) (ts : List Tracked) (steps : List Step) → i.operands ≡ ts → steps ≡ address_steps ts
+    → words i steps [] ≡ carry_expr (Int 64) (union_expr (Int 64) (mask_of (tracked_at 0 i.operands)) (union_all (drop 1 i.operands))) ∷ []
+address_words i ts steps e p =
+    let u = union_expr (Int 64) (mask_of (tracked_at 0 i.operands)) (union_all (drop 1 i.operands)) in
+    ap (λ l. words i l []) p
+    ∙ union_words i ts e (step.Constant 0 ∷ (union_steps ts ++ sub ∷ or ∷ [])) []
+    ∙ union_words i ts e (sub ∷ or ∷ []) (number 0 ∷ u ∷ [])
+
+pub address_is_rule : (ts : List Tracked) → is_rule (address_steps ts) ≡ true
+address_is_rule ts =
+    let behind = extended 1 (drop 1 ts) ++ step.Constant 0 ∷ (replicate (length ts - 1) or ++ or ∷ []) in
+    let tail = step.Constant 0 ∷ (union_steps ts ++ sub ∷ or ∷ []) in
+    ends_after (step.Mask 0) (behind ++ tail) (ends_behind behind tail (ends_behind (step.Constant 0 ∷ union_steps ts) (sub ∷ or ∷ []) refl))
+
+-- the joined masks as they are added
+pub unions_made : (ts : List Tracked) (m : ℕ) (old first masks ended many all : List Step) → first ≡ old ++ step.Mask 0 ∷ [] → masks ≡ first ++ extended 1 (drop 1 ts)
+    → ended ≡ masks ++ step.Constant 0 ∷ [] → m ≡ length ts - 1 → many ≡ ended ++ replicate m or → all ≡ many ++ or ∷ [] → all ≡ old ++ union_steps ts
+unions_made ts m old first masks ended many all b c d e f g =
+    let x = extended 1 (drop 1 ts) in
+    let r = replicate (length ts - 1) or in
+    let to_end : ended ≡ old ++ step.Mask 0 ∷ (x ++ step.Constant 0 ∷ []) =
+    d ∙ ap (λ l. l ++ step.Constant 0 ∷ []) (c ∙ ap (λ l. l ++ x) b ∙ append_assoc old (step.Mask 0 ∷ []) x) ∙ append_assoc old (step.Mask 0 ∷ x) (step.Constant 0 ∷ []) in
     g
     ∙ ap (λ l. l ++ or ∷ []) (f ∙ ap₂ (λ l k. l ++ replicate k or) to_end e)
-    ∙ ap (λ l. step.Mask 0 ∷ l) (append_assoc (x ++ step.Constant 0 ∷ []) (replicate n or) (or ∷ []) ∙ append_assoc x (step.Constant 0 ∷ []) (replicate n or ++ or ∷ []))
+    ∙ append_assoc (old ++ step.Mask 0 ∷ (x ++ step.Constant 0 ∷ [])) r (or ∷ [])
+    ∙ append_assoc old (step.Mask 0 ∷ (x ++ step.Constant 0 ∷ [])) (r ++ or ∷ [])
+    ∙ ap (λ l. old ++ step.Mask 0 ∷ l) (append_assoc x (step.Constant 0 ∷ []) (r ++ or ∷ []))
+
+-- the rule as it is added
+pub address_made : (ts : List Tracked) (none once zero twice all : List Step) → none ≡ [] → once ≡ none ++ union_steps ts → zero ≡ once ++ step.Constant 0 ∷ [] → twice ≡ zero ++ union_steps ts
+    → all ≡ twice ++ sub ∷ or ∷ [] → all ≡ address_steps ts
+address_made ts none once zero twice all a b c d e =
+    let u = union_steps ts in
+    e
+    ∙ ap (λ l. l ++ sub ∷ or ∷ []) (d ∙ ap (λ l. l ++ u) (c ∙ ap (λ l. l ++ step.Constant 0 ∷ []) (b ∙ ap (λ l. l ++ u) a)))
+    ∙ append_assoc (u ++ step.Constant 0 ∷ []) u (sub ∷ or ∷ [])
+    ∙ append_assoc u (step.Constant 0 ∷ []) (u ++ sub ∷ or ∷ [])

@@ -17,6 +17,8 @@ const OR: Step = Step::Two(Operation::Or, Width::Own);
 
 const XOR: Step = Step::Two(Operation::Xor, Width::Own);
 
+const SUB: Step = Step::Two(Operation::Sub, Width::Own);
+
 const IS_EQUAL: Step = Step::Test(Pred::Eq, Width::Own);
 
 const IS_OTHER: Step = Step::Test(Pred::Ne, Width::Own);
@@ -33,8 +35,21 @@ pub const CLEAN: [Step; 1] = [Constant(0)];
 /// Of a result that has the mask of the first operand, as that of a division.
 pub const FIRST: [Step; 1] = [Mask(0)];
 
-// A bit is poisoned where it is in either word: of `xor`, sums and products.
+// A bit is poisoned where it is in either word: of `xor`.
 const UNION: [Step; 3] = [Mask(0), Mask(1), OR];
+
+// A bit is poisoned where it or a lower one is in either word: of sums and products.
+const CARRY: [Step; 9] = [
+    Mask(0),
+    Mask(1),
+    OR,
+    Constant(0),
+    Mask(0),
+    Mask(1),
+    OR,
+    SUB,
+    OR,
+];
 
 // Of `and`: where both bits are poisoned, or one is and the other word has a defined 1.
 const BOTH: [Step; 11] = [
@@ -168,7 +183,8 @@ pub fn binary_rule(op: BinOp) -> &'static [Step]
     match op {
         BinOp::And => &BOTH,
         BinOp::Or => &EITHER,
-        BinOp::Xor | BinOp::Add | BinOp::Sub | BinOp::Mul => &UNION,
+        BinOp::Xor => &UNION,
+        BinOp::Add | BinOp::Sub | BinOp::Mul => &CARRY,
         _ => &FIRST,
     }
 }

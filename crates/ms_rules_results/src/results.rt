@@ -6,9 +6,9 @@ ghost use Rattle.ms_ir.specs.declared.syntax.Ty.{Ty as TyOf, Int};
 ghost use Rattle.ms_ir.specs.declared.syntax.Operand.{Operand as OperandOf};
 ghost use Rattle.ms_ir.specs.declared.syntax.Op.TheVariants as operation;
 ghost use Rattle.ms_ir.specs.Layout.{width_of as width_of_type};
-ghost use Rattle.ms_tasks.specs.Tasks.{Expr, Or, Two, Sets, mask_name as mask_name_of, origin_name as origin_name_of};
+ghost use Rattle.ms_tasks.specs.Tasks.{Expr, Sets, mask_name as mask_name_of, origin_name as origin_name_of};
 ghost use Rattle.ms_tasks.specs.Environments.{number, tracked_at, bits_of, mask_of};
-ghost use Rattle.ms_tasks.specs.ResultMasks.{cast_expr, compare_expr, union_all, first_last};
+ghost use Rattle.ms_tasks.specs.ResultMasks.{carry_expr, cast_expr, compare_expr, union_all, union_expr, first_last};
 ghost use Rattle.ms_tasks.specs.ResultTasks.{binary_tasks, called_tasks, shift_task, word_tasks, define_tasks, result_width as result_width_of};
 ghost use Rattle.ms_rules_code.specs.Called.{calls_own};
 ghost use Rattle.ms_rules_code.specs.Made.{with_tasks};
@@ -168,7 +168,7 @@ fn define_gep(
     value: u32,
     operands: &[TrackedOperand<'_>],
 ) -> Result<(), NoMemory>
-    ensures { let ts = map tracked_of operands.now in OnOk result (code.new ≡ with_tasks code.old (defined value 64 (first_last ts) (Two Or (Int 64) (mask_of (tracked_at 0 ts)) (union_all (drop 1 ts))))) }
+    ensures { let ts = map tracked_of operands.now in OnOk result (code.new ≡ with_tasks code.old (defined value 64 (first_last ts) (carry_expr (Int 64) (union_expr (Int 64) (mask_of (tracked_at 0 ts)) (union_all (drop 1 ts)))))) }
 {
     let inputs = Inputs::plain(operands, 64, &None);
     let mask = gep_rule(alloc, operands)?;

@@ -1,5 +1,6 @@
 -- Which bits of a result are poisoned, and where they come from (after Stepanov and Serebryany, CGO 2015; own in this form).
-use Rattle.std.specs.Prelude.{◌≡◌, ℕ, zero, suc, ◌-◌, ◌%◌, ◌^◌, Bool, true, List, [], ◌∷◌, map, drop, eqb, if◌then◌else◌, bit_or, Result, Ok, Err}
+use Rattle.std.specs.Prelude.{◌≡◌, ◌<◌, ℕ, zero, suc, ◌-◌, ◌%◌, ◌^◌, not, List, [], ◌∷◌, map, drop, eqb, if◌then◌else◌, bit_or, Result, Ok, Err}
+use Rattle.std.specs.Int.{from_bool}
 use Rattle.ms_bits.specs.declared.traps.Trap.{Trap}
 use Rattle.ms_bits.specs.declared.operations.BinOp.{BinOp}
 use Rattle.ms_bits.specs.declared.operations.BinOp.TheVariants.{Add, Sub, Mul, Udiv, Sdiv, Urem, Srem, Shl, Lshr, Ashr, And, Or, Xor}
@@ -7,6 +8,7 @@ use Rattle.ms_bits.specs.declared.operations.Pred.{Pred}
 use Rattle.ms_bits.specs.Arithmetic.{binary_of}
 use Rattle.ms_bits.specs.Conversions.{compare_of, cast_of, select_of}
 use Rattle.ms_bits.specs.Maps.{number_at}
+use Rattle.ms_bits.specs.Fill.{number_of_bits}
 use Rattle.ms_bits.specs.Completion.{mask_of, select_mask_of}
 use Rattle.ms_bits.specs.Formulas as formulas
 use Rattle.ms_ir.specs.declared.syntax.Op.{Op}
@@ -18,8 +20,7 @@ use Rattle.ms_runs.specs.Origins.{load_origin}
 use Rattle.ms_runs.specs.Act.{truth, extended_all}
 use Rattle.ms_runs.specs.Poisoned.{Poisoned, clean, InRange}
 
--- which rules give the masks of results: of `and`, `or`, `xor`, comparisons, selections, and sums, whose union of masks is given;
--- and whether an operand of a sum is a blind use
+-- which rules give the masks of results: of `and`, `or`, `xor`, comparisons, selections, and sums, whose union of masks is given
 pub record Rules : Type 0 where
   pub both : (w : ℕ) → Poisoned → Poisoned → ℕ
   pub either : (w : ℕ) → Poisoned → Poisoned → ℕ
@@ -27,7 +28,6 @@ pub record Rules : Type 0 where
   pub compare : Pred → (w : ℕ) → Poisoned → Poisoned → ℕ
   pub select : (w : ℕ) → Poisoned → Poisoned → Poisoned → ℕ
   pub sum : (w union : ℕ) → ℕ
-  pub sums_blind : Bool
 
 abbrev pub value_or_zero : Result ℕ Trap → ℕ
 value_or_zero (Ok v) = v
@@ -40,7 +40,12 @@ exact_mask f w bits p q = mask_of f w p.value p.mask q.value q.mask bits
 abbrev pub exact_binary : BinOp → ℕ → Poisoned → Poisoned → ℕ
 exact_binary o w p q = exact_mask (λ a b. value_or_zero (binary_of o no_flags w a b)) w w p q
 
--- the rules: two choices of completions give results that differ at the bit; a sum has the union of its operands' masks
+-- the bits of a mask of w bits, and all bits above its lowest one: bit i is set where bit i or a lower one is
+abbrev pub from_lowest : (w mask : ℕ) → ℕ
+from_lowest w mask = number_of_bits (λ i. from_bool (not (eqb (mask % 2 ^ suc i) 0))) w
+
+-- the rules: two choices of completions give results that differ at the bit; in a sum a poisoned bit of either operand poisons
+-- each bit above it too, since it may carry
 abbrev pub by_completions : Rules
 by_completions = record {
   both = exact_binary And;
@@ -48,8 +53,7 @@ by_completions = record {
   one = exact_binary Xor;
   compare = λ o w p q. exact_mask (λ a b. value_or_zero (truth (compare_of o no_flags w a b))) w 1 p q;
   select = λ w k p q. select_mask_of k.value k.mask w p.value p.mask q.value q.mask;
-  sum = λ w union. union;
-  sums_blind = true;
+  sum = λ w union. from_lowest w union;
 }
 
 -- the same as inserted instructions compute it
@@ -60,8 +64,7 @@ by_formulas = record {
   one = λ w p q. formulas.union_mask p.mask q.mask;
   compare = λ o w p q. formulas.compare_mask o w p.value p.mask q.value q.mask;
   select = λ w k p q. formulas.select_mask k.value k.mask p.value p.mask q.value q.mask;
-  sum = λ w union. union;
-  sums_blind = true;
+  sum = λ w union. formulas.carry_mask w union;
 }
 
 -- ---- results
@@ -126,5 +129,4 @@ pub record SameRules (d e : Rules) : Type 0 where
   pub one : (w : ℕ) (p q : Poisoned) → InRange w p → InRange w q → d.one w p q ≡ e.one w p q
   pub compare : (o : Pred) (w : ℕ) (p q : Poisoned) → InRange w p → InRange w q → d.compare o w p q ≡ e.compare o w p q
   pub select : (w : ℕ) (k p q : Poisoned) → InRange 1 k → InRange w p → InRange w q → d.select w k p q ≡ e.select w k p q
-  pub sum : (w u : ℕ) → d.sum w u ≡ e.sum w u
-  pub blind : d.sums_blind ≡ e.sums_blind
+  pub sum : (w u : ℕ) → u < 2 ^ w → d.sum w u ≡ e.sum w u

@@ -2,7 +2,7 @@
 use Rattle.std.specs.Prelude.{ℕ, zero, suc, Bool, ◌||◌, List, [], ◌∷◌, take, drop, if◌then◌else◌, Option, Some, None}
 use Rattle.ms_bits.specs.declared.operations.Flags.{Flags}
 use Rattle.ms_bits.specs.declared.operations.BinOp.{BinOp}
-use Rattle.ms_bits.specs.declared.operations.BinOp.TheVariants.{Add, Sub, Mul, Udiv, Sdiv, Urem, Srem, Shl, Lshr, Ashr}
+use Rattle.ms_bits.specs.declared.operations.BinOp.TheVariants.{Udiv, Sdiv, Urem, Srem, Shl, Lshr, Ashr}
 use Rattle.ms_ir.specs.declared.syntax.Ty.{Ty}
 use Rattle.ms_ir.specs.declared.syntax.Ty as ty
 use Rattle.ms_ir.specs.declared.syntax.Operand.{Operand}
@@ -88,24 +88,21 @@ check_uses s site os ps (u ∷ us) w = then_does (check_use s site os ps u w) (c
 abbrev pub has_flag : Flags → Bool
 has_flag f = f.nuw || f.nsw || f.exact || f.disjoint || f.nneg || f.samesign
 
-abbrev pub blind_binary : Bool → BinOp → List Poisoned → List Poisoned
-blind_binary sums Add ps = if sums then ps else []
-blind_binary sums Sub ps = if sums then ps else []
-blind_binary sums Mul ps = if sums then ps else []
-blind_binary sums Udiv ps = take 1 ps
-blind_binary sums Sdiv ps = take 1 ps
-blind_binary sums Urem ps = take 1 ps
-blind_binary sums Srem ps = take 1 ps
-blind_binary sums Shl ps = drop 1 ps
-blind_binary sums Lshr ps = drop 1 ps
-blind_binary sums Ashr ps = drop 1 ps
-blind_binary sums _ ps = []
+-- of a division the dividend, of a shift the amount
+abbrev pub blind_binary : BinOp → List Poisoned → List Poisoned
+blind_binary Udiv ps = take 1 ps
+blind_binary Sdiv ps = take 1 ps
+blind_binary Urem ps = take 1 ps
+blind_binary Srem ps = take 1 ps
+blind_binary Shl ps = drop 1 ps
+blind_binary Lshr ps = drop 1 ps
+blind_binary Ashr ps = drop 1 ps
+blind_binary _ ps = []
 
--- the words whose poison an instruction loses
-abbrev pub blinded : Bool → Op → List Poisoned → List Poisoned
-blinded sums (op.Binary o f t a b) ps = if has_flag f then ps else blind_binary sums o ps
-blinded sums (op.Icmp p f t a b) ps = if has_flag f then ps else []
-blinded sums (op.Cast o f t a u) ps = if has_flag f then ps else []
-blinded sums (op.Freeze t a) ps = ps
-blinded sums (op.Gep t a is) ps = if sums then ps else []
-blinded sums _ ps = []
+-- the words whose poison an instruction loses; one with a flag may trap by it, whatever its mask says
+abbrev pub blinded : Op → List Poisoned → List Poisoned
+blinded (op.Binary o f t a b) ps = if has_flag f then ps else blind_binary o ps
+blinded (op.Icmp p f t a b) ps = if has_flag f then ps else []
+blinded (op.Cast o f t a u) ps = if has_flag f then ps else []
+blinded (op.Freeze t a) ps = ps
+blinded _ ps = []

@@ -1,5 +1,5 @@
 -- The masks of results are in the range of the results.
-use Rattle.std.proofs.Common.{◌≡◌, ◌<◌, ℕ, zero, suc, ◌+◌, ◌*◌, ◌-◌, ◌^◌, List, [], ◌∷◌, map, drop, get_or, Bool, Some, Result, Ok, Err, IfOk, refl, subst, arith, eqb, not, bit_and, bit_or, bit_xor}
+use Rattle.std.proofs.Common.{◌≡◌, ◌<◌, ℕ, zero, suc, ◌+◌, ◌*◌, ◌-◌, ◌%◌, ◌^◌, List, [], ◌∷◌, map, drop, get_or, Bool, Some, Result, Ok, Err, IfOk, refl, subst, arith, eqb, not, bit_and, bit_or, bit_xor}
 use Rattle.std.specs.Prelude.{slice_get}
 use Rattle.std.specs.Int.{from_bool}
 use Rattle.std.proofs.Math.Nat.{pow-suc}
@@ -16,7 +16,7 @@ use Rattle.ms_bits.specs.Arithmetic.{binary_of}
 use Rattle.ms_bits.specs.Conversions.{cast_of}
 use Rattle.ms_bits.specs.Maps.{number_at}
 use Rattle.ms_bits.specs.Completion.{differs, mask_of, selections_differ, select_mask_of}
-use Rattle.ms_bits.specs.Formulas.{greatest, least, union_mask, and_mask, or_mask, eq_mask, order_mask, turned_sign, compare_mask, select_mask}
+use Rattle.ms_bits.specs.Formulas.{greatest, least, union_mask, and_mask, or_mask, eq_mask, order_mask, turned_sign, compare_mask, select_mask, carry_mask}
 use Rattle.ms_bits.specs.NoFlags.{no_flags}
 use Rattle.ms_ir.specs.declared.syntax.Ty.{Ty, Int, Ptr}
 use Rattle.ms_ir.specs.declared.syntax.Operand.{Operand}
@@ -62,7 +62,7 @@ completions_keep = record {
   one = λ w p q a b. mask_below _ w p.value p.mask q.value q.mask w;
   compare = λ o w p q a b. mask_below _ w p.value p.mask q.value q.mask 1;
   select = λ w k p q c a b. selection_below k.value k.mask w p.value p.mask q.value q.mask;
-  sum = λ w u h. h;
+  sum = λ w u h. bits_below (λ i. from_bool (not (eqb (u % 2 ^ suc i) 0))) (λ i. bool_below (not (eqb (u % 2 ^ suc i) 0))) w;
 }
 
 -- ---- the rules by formulas
@@ -108,6 +108,10 @@ unfolding select_mask
 choice_below w t n v m u k pv pm pu pk =
     select_below (2 ^ w) n (bit_or (bit_or (bit_xor v u) m) k) _ (or_lt w (bit_or (bit_xor v u) m) k (or_lt w (bit_xor v u) m (xor_lt w v u pv pu) pm) pk) (select_below (2 ^ w) t m k pm pk)
 
+carry_below : (w u : ℕ) → u < 2 ^ w → carry_mask w u < 2 ^ w
+unfolding carry_mask
+carry_below w u p = or_lt w u _ p (mod_below (0 + (2 ^ w - u)) (2 ^ w) (pow_pos w))
+
 pub formulas_keep : KeepWidths by_formulas
 formulas_keep = record {
   both = λ w p q a b. and_below w p.value p.mask q.value q.mask a.mask b.mask;
@@ -115,7 +119,7 @@ formulas_keep = record {
   one = λ w p q a b. xor_below w p.mask q.mask a.mask b.mask;
   compare = λ o w p q a b. compare_below o w p.value p.mask q.value q.mask;
   select = λ w k p q c a b. choice_below w k.value k.mask p.value p.mask q.value q.mask a.value a.mask b.value b.mask;
-  sum = λ w u h. h;
+  sum = carry_below;
 }
 
 -- ---- results

@@ -10,6 +10,7 @@ use Rattle.ms_bits.specs.Conversions.{compare_of}
 use Rattle.ms_bits.specs.Completion.{Differs, mask_of}
 use Rattle.ms_bits.specs.Formulas.{greatest, least, eq_mask, order_mask, turned_sign, compare_mask}
 use Rattle.ms_bits_laws.proofs.MaskFunctions.{mask_is}
+use Rattle.ms_bits_laws.proofs.CarryBits.{carry_told}
 use Rattle.ms_bits_laws.proofs.FormulaMasks.{and_mask_is, or_mask_is, xor_mask_is, answer_bit, compare_mask_is, select_mask-is}
 use Rattle.ms_ir.specs.declared.syntax.Module.{Module}
 use Rattle.ms_runs.specs.declared.runs.Setup.{Setup}
@@ -92,8 +93,7 @@ formulas_exact = record {
   one = same_one;
   compare = same_compare;
   select = same_select;
-  sum = λ w u. refl;
-  blind = refl;
+  sum = carry_told;
 }
 
 -- the shadow meaning is said by completions, and computed by formulas

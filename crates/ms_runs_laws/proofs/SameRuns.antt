@@ -1,8 +1,8 @@
 -- Rules that agree on words in range give the same runs.
-use Rattle.std.proofs.Common.{◌≡◌, ℕ, zero, suc, ◌+◌, ◌-◌, ◌*◌, ◌^◌, ◌<◌, List, [], ◌∷◌, refl, ap, ◌∙◌, arith}
+use Rattle.std.proofs.Common.{◌≡◌, ℕ, zero, suc, ◌+◌, ◌-◌, ◌*◌, ◌^◌, ◌<◌, List, [], ◌∷◌, refl, ap, arith}
 use Rattle.std.specs.Prelude.{map}
 use Rattle.std.proofs.Math.Nat.{pow-suc}
-use Rattle.std.proofs.lemmas.Nat.{mod_below, pow_pos}
+use Rattle.std.proofs.lemmas.Nat.{mod_below, pow_pos, or_lt}
 use Rattle.std.proofs.lemmas.Nat.Bits.{bit_at-lt}
 use Rattle.ms_bits.specs.declared.operations.BinOp.{BinOp}
 use Rattle.ms_bits.specs.declared.operations.BinOp.TheVariants.{Add, Sub, Mul, Udiv, Sdiv, Urem, Srem, Shl, Lshr, Ashr, And, Or, Xor}
@@ -17,16 +17,16 @@ use Rattle.ms_ir.specs.declared.syntax.Inst.{Inst}
 use Rattle.ms_ir.specs.declared.syntax.Module.{Module}
 use Rattle.ms_runs.specs.declared.runs.Setup.{Setup}
 use Rattle.ms_bits.specs.Fill.{number_of_bits, undef_bit, undef_word_of}
-use Rattle.ms_ir.specs.Layout.{width_of}
+use Rattle.ms_bits.specs.Signed.{signed}
+use Rattle.ms_bits_laws.proofs.OperationAgreement.{wrap-lt}
+use Rattle.ms_ir.specs.Layout.{width_of, extended}
 use Rattle.ms_runs.specs.World.{World, Setting, Here, Effect, Gives, Does, Goes, Enters, Leaves, Ends}
 use Rattle.ms_ir.specs.Code.{operands, count_undefs, one_undef}
 use Rattle.ms_runs.specs.Control.{Frame, here, rest_of, read_all, after_effect}
-use Rattle.ms_runs.specs.Act.{operand_word, act}
+use Rattle.ms_runs.specs.Act.{operand_word, act, extended_all}
 use Rattle.ms_runs.specs.Plain.{run, setting_of, start_world, start_frame}
 use Rattle.ms_runs.specs.Poisoned.{Poisoned, InRange}
 use Rattle.ms_runs.specs.Masks.{Rules, SameRules, union, binary_mask, result_mask, result_origin}
-use Rattle.ms_runs.specs.Uses.{blinded}
-use Rattle.ms_runs.specs.Origins.{count_blind}
 use Rattle.ms_runs.specs.Shadow.{read_poisoned, shadow_reading, operand_mask, planes, poisoned_result, shadow_act, after_checks, shadow_first, shadow_frames, shadow_moved, ShadowState, shadow_step, shadow_by}
 
 -- ---- words that are read are in range
@@ -70,9 +70,9 @@ read_fits s v root t o = record { value = word_fits s _ (width_of t) o; mask = m
 -- ---- the same masks
 
 same_binary : {d e : Rules} → SameRules d e → (o : BinOp) (w : ℕ) (p q : Poisoned) → InRange w p → InRange w q → binary_mask d o w p q ≡ binary_mask e o w p q
-same_binary same Add w p q a b = same.sum w _
-same_binary same Sub w p q a b = same.sum w _
-same_binary same Mul w p q a b = same.sum w _
+same_binary same Add w p q a b = same.sum w _ (or_lt w p.mask q.mask a.mask b.mask)
+same_binary same Sub w p q a b = same.sum w _ (or_lt w p.mask q.mask a.mask b.mask)
+same_binary same Mul w p q a b = same.sum w _ (or_lt w p.mask q.mask a.mask b.mask)
 same_binary same Udiv w p q a b = refl
 same_binary same Sdiv w p q a b = refl
 same_binary same Urem w p q a b = refl
@@ -83,6 +83,11 @@ same_binary same Ashr w p q a b = refl
 same_binary same And w p q a b = same.both w p q a b
 same_binary same Or w p q a b = same.either w p q a b
 same_binary same Xor w p q a b = same.one w p q a b
+
+pub union_fits : (is : List (Ty × Operand)) (masks : List ℕ) → union (extended_all is masks) < 2 ^ 64
+union_fits [] masks = pow_pos 64
+union_fits (i ∷ is) [] = pow_pos 64
+union_fits (i ∷ is) (m ∷ masks) = or_lt 64 (extended (width_of i.0) m) (union (extended_all is masks)) (wrap-lt 64 (signed (width_of i.0) m)) (union_fits is masks)
 
 -- the words of an instruction
 abbrev words_of : Setting → (Name → Poisoned) → ℕ → Op → List Poisoned
@@ -98,7 +103,7 @@ same_mask same s v n (op.Phi t es) w = refl
 same_mask same s v n (op.Alloca t u c) w = refl
 same_mask same s v n (op.Load t a) w = refl
 same_mask same s v n (op.Store t x a) w = refl
-same_mask same s v n (op.Gep t a is) w = same.sum 64 _
+same_mask same s v n (op.Gep t a is) w = same.sum 64 _ (or_lt 64 _ _ (read_fits s v n ty.Ptr a).mask (union_fits is _))
 same_mask same s v n (op.Call r x as') w = refl
 same_mask same s v n (op.Br to) w = refl
 same_mask same s v n (op.CondBr c to other) w = refl
@@ -121,9 +126,7 @@ same_act same s m i h fr below w =
 
 same_after : {d e : Rules} → SameRules d e → (s : Setting) (m : Module) (i : Inst) (h : Here) (fr : Frame Poisoned) (below : List (Frame Poisoned)) (x : Effect)
     → after_checks d s m i h (words_of s fr.values h.root i.op) fr below x ≡ after_checks e s m i h (words_of s fr.values h.root i.op) fr below x
-same_after {d} {e} same s m i h fr below (Does w) =
-    ap (λ b. shadow_act d s m i h (words_of s fr.values h.root i.op) fr below (count_blind (union (map (λ p. p.mask) (blinded b i.op (words_of s fr.values h.root i.op)))) w)) same.blind
-    ∙ same_act same s m i h fr below _
+same_after same s m i h fr below (Does w) = same_act same s m i h fr below _
 same_after same s m i h fr below (Gives v w) = refl
 same_after same s m i h fr below (Goes x w) = refl
 same_after same s m i h fr below (Enters f w) = refl

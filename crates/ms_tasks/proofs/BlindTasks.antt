@@ -34,10 +34,10 @@ use Rattle.ms_tasks.proofs.OperandWords.{word_less, mask_known}
 use Rattle.ms_tasks.proofs.CheckTasks.{zero_word}
 use Rattle.ms_tasks.proofs.Words.{Is, is_eval, is_leaf, is_number, is_or}
 
-pub blinded_same : (o : Op) (ps : List Poisoned) → blinded true o ps ≡ blinded_of o ps
+pub blinded_same : (o : Op) (ps : List Poisoned) → blinded o ps ≡ blinded_of o ps
 blinded_same (op.Binary o f t a b) ps = by_op o
   where
-    by_op : (o : BinOp) → (if has_flag f then ps else blind_binary true o ps) ≡ (if has_flag f then ps else blind_binary_of o ps)
+    by_op : (o : BinOp) → (if has_flag f then ps else blind_binary o ps) ≡ (if has_flag f then ps else blind_binary_of o ps)
     by_op _ = refl
 blinded_same _ ps = refl
 
@@ -79,9 +79,6 @@ module _ (s : Setting) (names : Name → ℕ) where
   later_ones (t ∷ ts) (p ∷ ps) h = h.1
 
   binary_blinded : (o : BinOp) (ts : List Tracked) (ps : List Poisoned) → AllMasks s names ts ps → AllMasks s names (blind_binary_of o ts) (blind_binary_of o ps)
-  binary_blinded binary.Add ts ps h = h
-  binary_blinded binary.Sub ts ps h = h
-  binary_blinded binary.Mul ts ps h = h
   binary_blinded binary.Udiv ts ps h = first_one ts ps h
   binary_blinded binary.Sdiv ts ps h = first_one ts ps h
   binary_blinded binary.Urem ts ps h = first_one ts ps h
@@ -96,7 +93,6 @@ module _ (s : Setting) (names : Name → ℕ) where
   masks_blinded (op.Icmp p f t a b) ts ps h = either (has_flag f) ts [] ps [] h tt
   masks_blinded (op.Cast o f t a u) ts ps h = either (has_flag f) ts [] ps [] h tt
   masks_blinded (op.Freeze t a) ts ps h = h
-  masks_blinded (op.Gep t a is) ts ps h = h
   masks_blinded _ ts ps h = tt
 
   widened_is : (w : ℕ) (m : Operand) (x : ℕ) → w ≤ 64 → operand_word s names w m ≡ x → Is s names 64 (widened w (Leaf m)) x

@@ -22,9 +22,9 @@ use Rattle.ms_ir.specs.declared.calls.External.TheVariants.{Malloc, Realloc, Mem
 use Rattle.ms_runs.specs.Uses.{Use, Word, Bytes, Line, uses, has_flag}
 use Rattle.ms_tasks.specs.Tasks.{mask_name, origin_name, Expr, Leaf, Turn, Task, Sets}
 use Rattle.ms_tasks.specs.Meaning.{BelowOperand, BelowExpr, BelowTasks}
-use Rattle.ms_tasks.specs.Environments.{Env, Given, Tracked, mask_operand, origin_operand, local_mask, local_origin, tracked, tracked_at, is_zero, widened, bits_at, extended_expr}
+use Rattle.ms_tasks.specs.Environments.{Env, Given, Tracked, mask_operand, origin_operand, local_mask, local_origin, tracked, tracked_at, is_zero, mask_of, widened, bits_at, extended_expr}
 use Rattle.ms_tasks.specs.CheckTasks.{use_tasks, check_tasks, blind_binary_of, blinded_of, all_zero, union_masks, blind_tasks}
-use Rattle.ms_tasks.specs.ResultMasks.{order_expr, compare_expr, turned_expr, cast_expr, union_all, binary_expr, mask_expr, last_expr, first_last, origin_expr}
+use Rattle.ms_tasks.specs.ResultMasks.{union_expr, carry_expr, order_expr, compare_expr, turned_expr, cast_expr, union_all, binary_expr, mask_expr, last_expr, first_last, origin_expr}
 use Rattle.ms_tasks.specs.ResultTasks.{word_tasks, shift_task, define_tasks, called_tasks, result_tasks}
 use Rattle.ms_tasks.specs.PlaneTasks.{plane_tasks, saves, saved_by, saved_tasks, save_tasks, copy_task, fill_task, external_tasks, callee_tasks}
 use Rattle.ms_tasks.specs.Emit.{before_tasks, after_tasks, start}
@@ -173,13 +173,16 @@ module _ (env : Env) (size base : ℕ) (room : 2 * size + 1 ≤ base) where
   take_low [] p = tt
   take_low (t ∷ ts) p = (p.0, tt)
 
+  carry_low : (t : Ty) (e : Expr) → BelowExpr base e → BelowExpr base (carry_expr t e)
+  carry_low t e p = (p, (tt, p))
+
   binary_low : (o : BinOp) (w : ℕ) (a b : Tracked) → LowTracked a → LowTracked b → BelowExpr base (binary_expr o w a b)
   binary_low binary.And w a b p q = (((p.own, p.mask), (q.own, q.mask)), (p.mask, q.mask))
   binary_low binary.Or w a b p q = ((((p.own, tt), p.mask), ((q.own, tt), q.mask)), (p.mask, q.mask))
   binary_low binary.Xor w a b p q = (p.mask, q.mask)
-  binary_low binary.Add w a b p q = (p.mask, q.mask)
-  binary_low binary.Sub w a b p q = (p.mask, q.mask)
-  binary_low binary.Mul w a b p q = (p.mask, q.mask)
+  binary_low binary.Add w a b p q = carry_low (Int w) (union_expr (Int w) (mask_of a) (mask_of b)) (p.mask, q.mask)
+  binary_low binary.Sub w a b p q = carry_low (Int w) (union_expr (Int w) (mask_of a) (mask_of b)) (p.mask, q.mask)
+  binary_low binary.Mul w a b p q = carry_low (Int w) (union_expr (Int w) (mask_of a) (mask_of b)) (p.mask, q.mask)
   binary_low _ w a b p q = p.mask
 
   mask_expr_low : (o : Op) (ts : List Tracked) → AllLow ts → BelowExpr base (mask_expr o ts)
@@ -193,7 +196,7 @@ module _ (env : Env) (size base : ℕ) (room : 2 * size + 1 ≤ base) where
       let v = bits_low (tracked_at 1 ts).ty (Leaf (tracked_at 1 ts).operand) x.own in
       let u = bits_low (tracked_at 2 ts).ty (Leaf (tracked_at 2 ts).operand) y.own in
       (k.mask, (((v, u), x.mask), y.mask), (k.own, x.mask, y.mask))
-  mask_expr_low (op.Gep t a is) ts p = ((at_low 0 ts p).mask, union_low (drop 1 ts) (later_low ts p))
+  mask_expr_low (op.Gep t a is) ts p = carry_low (Int 64) (union_expr (Int 64) (mask_of (tracked_at 0 ts)) (union_all (drop 1 ts))) ((at_low 0 ts p).mask, union_low (drop 1 ts) (later_low ts p))
   mask_expr_low _ ts p = tt
 
   last_low : (ts : List Tracked) → AllLow ts → (best : Expr) → BelowExpr base best → BelowExpr base (last_expr ts best)
@@ -264,9 +267,6 @@ module _ (env : Env) (size base : ℕ) (room : 2 * size + 1 ≤ base) where
   blinded_low (op.Binary o f t a b) ts p = low_if (has_flag f) ts (blind_binary_of o ts) p (by_op o)
     where
       by_op : (o : BinOp) → AllLow (blind_binary_of o ts)
-      by_op binary.Add = p
-      by_op binary.Sub = p
-      by_op binary.Mul = p
       by_op binary.Udiv = take_low ts p
       by_op binary.Sdiv = take_low ts p
       by_op binary.Urem = take_low ts p
@@ -278,7 +278,6 @@ module _ (env : Env) (size base : ℕ) (room : 2 * size + 1 ≤ base) where
   blinded_low (op.Icmp q f t a b) ts p = low_if (has_flag f) ts [] p tt
   blinded_low (op.Cast o f t a u) ts p = low_if (has_flag f) ts [] p tt
   blinded_low (op.Freeze t a) ts p = p
-  blinded_low (op.Gep t a is) ts p = p
   blinded_low _ ts p = tt
 
   blind_low : (ts : List Tracked) → AllLow ts → BelowTasks base (blind_tasks ts)

@@ -13,7 +13,7 @@ use Rattle.ms_bits.specs.declared.operations.Pred.{Pred}
 use Rattle.ms_bits.specs.declared.operations.Pred.TheVariants as pred
 use Rattle.ms_bits.specs.Signed.{signed, wrap}
 use Rattle.ms_bits.specs.Conversions.{cast_of, Allows}
-use Rattle.ms_bits.specs.Formulas.{and_mask, or_mask, union_mask, least, greatest, order_mask, eq_mask, turned_sign, compare_mask}
+use Rattle.ms_bits.specs.Formulas.{and_mask, or_mask, union_mask, carry_mask, least, greatest, order_mask, eq_mask, turned_sign, compare_mask}
 use Rattle.ms_ir.specs.declared.syntax.Name.{Name}
 use Rattle.ms_ir.specs.declared.syntax.Ty.{Ty, Int}
 use Rattle.ms_ir.specs.declared.syntax.Operand.{Operand}
@@ -34,7 +34,7 @@ use Rattle.ms_tasks.specs.Environments.{Env, tracked, extended_expr}
 use Rattle.ms_tasks.specs.ResultMasks.{cast_expr, union_all, mask_expr}
 use Rattle.ms_tasks.specs.ResultTasks.{result_width}
 use Rattle.ms_tasks.proofs.OperandWords.{word_less}
-use Rattle.ms_tasks.proofs.Words.{Is, is_leaf, is_number, is_bits, is_or, mask_and, mask_or, mask_compare, mask_select}
+use Rattle.ms_tasks.proofs.Words.{Is, is_leaf, is_number, is_bits, is_or, mask_carry, mask_and, mask_or, mask_compare, mask_select}
 use Rattle.ms_tasks.proofs.LastOrigins.{AllWords, AllClean}
 
 wrap_below : (w : ℕ) (z : ℤ) → wrap w z < 2 ^ w
@@ -127,9 +127,9 @@ module _ (s : Setting) (names : Name → ℕ) where
   mask_value env values root (op.Binary binary.Or f t a b) k w h =
       (mask_or s names (is_leaf s names (width_of t) a _ h.0.value) (is_leaf s names (width_of t) _ _ h.0.mask) (is_leaf s names (width_of t) b _ h.1.0.value) (is_leaf s names (width_of t) _ _ h.1.0.mask)).raw
   mask_value env values root (op.Binary binary.Xor f t a b) k w h = (is_or s names (is_leaf s names (width_of t) _ _ h.0.mask) (is_leaf s names (width_of t) _ _ h.1.0.mask)).raw
-  mask_value env values root (op.Binary binary.Add f t a b) k w h = (is_or s names (is_leaf s names (width_of t) _ _ h.0.mask) (is_leaf s names (width_of t) _ _ h.1.0.mask)).raw
-  mask_value env values root (op.Binary binary.Sub f t a b) k w h = (is_or s names (is_leaf s names (width_of t) _ _ h.0.mask) (is_leaf s names (width_of t) _ _ h.1.0.mask)).raw
-  mask_value env values root (op.Binary binary.Mul f t a b) k w h = (is_or s names (is_leaf s names (width_of t) _ _ h.0.mask) (is_leaf s names (width_of t) _ _ h.1.0.mask)).raw
+  mask_value env values root (op.Binary binary.Add f t a b) k w h = (mask_carry s names (is_or s names (is_leaf s names (width_of t) _ _ h.0.mask) (is_leaf s names (width_of t) _ _ h.1.0.mask))).raw
+  mask_value env values root (op.Binary binary.Sub f t a b) k w h = (mask_carry s names (is_or s names (is_leaf s names (width_of t) _ _ h.0.mask) (is_leaf s names (width_of t) _ _ h.1.0.mask))).raw
+  mask_value env values root (op.Binary binary.Mul f t a b) k w h = (mask_carry s names (is_or s names (is_leaf s names (width_of t) _ _ h.0.mask) (is_leaf s names (width_of t) _ _ h.1.0.mask))).raw
   mask_value env values root (op.Binary binary.Udiv f t a b) k w h = h.0.mask
   mask_value env values root (op.Binary binary.Sdiv f t a b) k w h = h.0.mask
   mask_value env values root (op.Binary binary.Urem f t a b) k w h = h.0.mask
@@ -144,7 +144,7 @@ module _ (s : Setting) (names : Name → ℕ) where
   mask_value env values root (op.Alloca t u c) k w h = zero-mod (2 ^ 64)
   mask_value env values root (op.Call (Some t) callee args) k w h = zero-mod (2 ^ width_of t)
   mask_value env values root (op.Call None callee args) k w h = zero-mod (2 ^ 64)
-  mask_value env values root (op.Gep t a is) k w h = (is_or s names (is_leaf s names 64 _ _ h.0.mask) (union_value env values is (root + one_undef a) h.1)).raw
+  mask_value env values root (op.Gep t a is) k w h = (mask_carry s names (is_or s names (is_leaf s names 64 _ _ h.0.mask) (union_value env values is (root + one_undef a) h.1))).raw
   mask_value env values root (op.Binary binary.Shl f t a b) k w h = absurd k
   mask_value env values root (op.Binary binary.Lshr f t a b) k w h = absurd k
   mask_value env values root (op.Binary binary.Ashr f t a b) k w h = absurd k
@@ -192,6 +192,13 @@ union_clean (i ∷ is) (p ∷ ps) c = ap₂ bit_or (ap (λ n. extended (width_of
 two_clean : (m k : ℕ) → m ≡ 0 → k ≡ 0 → bit_or m k ≡ 0
 two_clean m k e f = ap₂ bit_or e f
 
+carry_clean : (w u : ℕ) → u ≡ 0 → carry_mask w u ≡ 0
+unfolding carry_mask
+carry_clean w u e = ap (λ n. bit_or n ((0 + (2 ^ w - n)) % 2 ^ w)) e ∙ full (2 ^ w)
+  where
+    full : (n : ℕ) → (0 + (n - 0)) % n ≡ 0
+    full n = grind arith
+
 -- where the origin is that of the last operand
 abbrev pub TakesLast : Op → Type 0
 TakesLast (op.Select c t a b) = ⊥
@@ -206,9 +213,9 @@ unfolding and_mask or_mask union_mask
 mask_clean s values root (op.Binary binary.And f t a b) k w c = ap (bit_and _) (two_clean _ _ c.0 c.1.0) ∙ and_zero_r _
 mask_clean s values root (op.Binary binary.Or f t a b) k w c = ap (bit_and _) (two_clean _ _ c.0 c.1.0) ∙ and_zero_r _
 mask_clean s values root (op.Binary binary.Xor f t a b) k w c = two_clean _ _ c.0 c.1.0
-mask_clean s values root (op.Binary binary.Add f t a b) k w c = two_clean _ _ c.0 c.1.0
-mask_clean s values root (op.Binary binary.Sub f t a b) k w c = two_clean _ _ c.0 c.1.0
-mask_clean s values root (op.Binary binary.Mul f t a b) k w c = two_clean _ _ c.0 c.1.0
+mask_clean s values root (op.Binary binary.Add f t a b) k w c = carry_clean (width_of t) _ (two_clean _ _ c.0 c.1.0)
+mask_clean s values root (op.Binary binary.Sub f t a b) k w c = carry_clean (width_of t) _ (two_clean _ _ c.0 c.1.0)
+mask_clean s values root (op.Binary binary.Mul f t a b) k w c = carry_clean (width_of t) _ (two_clean _ _ c.0 c.1.0)
 mask_clean s values root (op.Binary binary.Udiv f t a b) k w c = c.0
 mask_clean s values root (op.Binary binary.Sdiv f t a b) k w c = c.0
 mask_clean s values root (op.Binary binary.Urem f t a b) k w c = c.0
@@ -216,7 +223,7 @@ mask_clean s values root (op.Binary binary.Srem f t a b) k w c = c.0
 mask_clean s values root (op.Icmp p f t a b) k w c =
     ap₂ (λ i j. compare_mask p (width_of t) (read_poisoned s values root t a).value i (read_poisoned s values (root + one_undef a) t b).value j) c.0 c.1.0 ∙ compare_clean p (width_of t) _ _
 mask_clean s values root (op.Cast o f t a u) k w c = ap (λ i. value_or_zero (cast_of o no_flags (width_of t) i (width_of u))) c.0 ∙ cast_clean o (width_of t) (width_of u)
-mask_clean s values root (op.Gep t a is) k w c = two_clean _ _ c.0 (union_clean is (read_all (read_poisoned s values) is (root + one_undef a)) c.1)
+mask_clean s values root (op.Gep t a is) k w c = carry_clean 64 _ (two_clean _ _ c.0 (union_clean is (read_all (read_poisoned s values) is (root + one_undef a)) c.1))
 mask_clean s values root (op.Binary binary.Shl f t a b) k w c = absurd k
 mask_clean s values root (op.Binary binary.Lshr f t a b) k w c = absurd k
 mask_clean s values root (op.Binary binary.Ashr f t a b) k w c = absurd k

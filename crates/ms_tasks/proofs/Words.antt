@@ -1,5 +1,5 @@
 -- Words that expressions compute, as whole numbers below the power of their width.
-use Rattle.std.proofs.Common.{◌≡◌, ℕ, zero, suc, ◌-◌, ◌%◌, ◌^◌, ◌<◌, ◌≤◌, refl, sym, ap, ◌∙◌, subst, arith, Bool, true, false}
+use Rattle.std.proofs.Common.{◌≡◌, ℕ, zero, suc, ◌+◌, ◌-◌, ◌%◌, ◌^◌, ◌<◌, ◌≤◌, refl, sym, ap, ◌∙◌, subst, arith, Bool, true, false}
 use Rattle.std.specs.Prelude.{bit_and, bit_or, bit_xor, ltb, leb}
 use Rattle.std.specs.Int.{from_bool}
 use Rattle.std.proofs.Math.Path.{ap₂}
@@ -10,17 +10,17 @@ use Rattle.std.specs.Int.Bits.{and_lt}
 use Rattle.ms_bits.specs.declared.operations.Pred.{Pred}
 use Rattle.ms_bits.specs.declared.operations.Pred.TheVariants as pred
 use Rattle.ms_bits.specs.Conversions.{cast_of, select_of, holds}
-use Rattle.ms_bits.specs.Formulas.{and_mask, or_mask, least, greatest, order_mask, eq_mask, turned_sign, compare_mask, select_mask}
+use Rattle.ms_bits.specs.Formulas.{carry_mask, and_mask, or_mask, least, greatest, order_mask, eq_mask, turned_sign, compare_mask, select_mask}
 use Rattle.ms_ir.specs.declared.syntax.Name.{Name}
 use Rattle.ms_ir.specs.declared.syntax.Ty.{Ty, Int, Ptr}
 use Rattle.ms_ir.specs.declared.syntax.Operand.{Operand}
 use Rattle.ms_ir.specs.Layout.{width_of}
 use Rattle.ms_runs.specs.World.{Setting}
 use Rattle.ms_runs.specs.Act.{operand_word}
-use Rattle.ms_tasks.specs.Tasks.{And, Or, Xor, Expr, Leaf, Two, Turn, Test, Pick}
+use Rattle.ms_tasks.specs.Tasks.{And, Or, Xor, Sub, Expr, Leaf, Two, Turn, Test, Pick}
 use Rattle.ms_tasks.specs.Meaning.{evaluate, whole}
 use Rattle.ms_tasks.specs.Environments.{number, bits_at}
-use Rattle.ms_tasks.specs.ResultMasks.{and_expr, or_expr, order_expr, eq_expr, turned_expr, compare_expr, select_expr}
+use Rattle.ms_tasks.specs.ResultMasks.{carry_expr, and_expr, or_expr, order_expr, eq_expr, turned_expr, compare_expr, select_expr}
 use Rattle.ms_tasks.proofs.OperandWords.{ap₃, word_less}
 
 bool_less : (b : Bool) → from_bool b < 2 ^ 1
@@ -84,7 +84,14 @@ module _ (s : Setting) (names : Name → ℕ) where
   pub is_pick : {w : ℕ} {c a b : Expr} {t x y : ℕ} → Is 1 c t → Is w a x → Is w b y → Is w (Pick c (Int w) a b) (select_of t x y)
   is_pick {w} {c} {a} {b} {t} {x} {y} h i j = record { raw = ap₃ select_of (is_eval h) (is_eval i) (is_eval j); less = select_less w t x y i.less j.less }
 
+  is_sub : {w : ℕ} {a b : Expr} {x y : ℕ} → Is w a x → Is w b y → Is w (Two Sub (Int w) a b) ((x + (2 ^ w - y)) % 2 ^ w)
+  is_sub {w} {a} {b} {x} {y} i j = record { raw = ap₂ (λ k l. (k + (2 ^ w - l)) % 2 ^ w) (is_eval i) (is_eval j); less = mod_below _ (2 ^ w) (pow_pos w) }
+
   -- ---- masks
+
+  pub mask_carry : {w : ℕ} {e : Expr} {x : ℕ} → Is w e x → Is w (carry_expr (Int w) e) (carry_mask w x)
+  unfolding carry_mask
+  mask_carry {w} i = is_or i (is_sub (is_number w 0 (pow_pos w)) i)
 
   pub mask_and : {w : ℕ} {v m u k : Expr} {V M U K : ℕ} → Is w v V → Is w m M → Is w u U → Is w k K → Is w (and_expr (Int w) v m u k) (and_mask V M U K)
   unfolding and_mask

@@ -42,11 +42,8 @@ check_tasks site ts (u ∷ us) = use_tasks site ts u ++ check_tasks site ts us
 
 -- ---- blind uses
 
--- the operands of an operation whose poisoned bits are blind uses: both of a sum or product, the dividend, a shift amount
+-- the operands of an operation whose poisoned bits are blind uses: the dividend, a shift amount
 abbrev pub blind_binary_of : {A : Type 0} → BinOp → List A → List A
-blind_binary_of binary.Add ps = ps
-blind_binary_of binary.Sub ps = ps
-blind_binary_of binary.Mul ps = ps
 blind_binary_of binary.Udiv ps = take 1 ps
 blind_binary_of binary.Sdiv ps = take 1 ps
 blind_binary_of binary.Urem ps = take 1 ps
@@ -62,7 +59,6 @@ blinded_of (op.Binary o f t a b) ps = if has_flag f then ps else blind_binary_of
 blinded_of (op.Icmp p f t a b) ps = if has_flag f then ps else []
 blinded_of (op.Cast o f t a u) ps = if has_flag f then ps else []
 blinded_of (op.Freeze t a) ps = ps
-blinded_of (op.Gep t a is) ps = ps
 blinded_of _ ps = []
 
 -- the masks of all operands are known to be 0

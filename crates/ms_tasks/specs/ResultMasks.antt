@@ -11,14 +11,18 @@ use Rattle.ms_ir.specs.Layout.{width_of}
 use Rattle.ms_bits.specs.declared.operations.BinOp.TheVariants as binary
 use Rattle.ms_bits.specs.declared.operations.CastOp.TheVariants as cast
 use Rattle.ms_bits.specs.declared.operations.Pred.TheVariants as pred
-use Rattle.ms_tasks.specs.Tasks.{Expr, And, Or, Xor, Two, Turn, Test, Pick}
+use Rattle.ms_tasks.specs.Tasks.{Expr, And, Or, Xor, Sub, Two, Turn, Test, Pick}
 use Rattle.ms_tasks.specs.Environments.{mask_type, Tracked, tracked_at, mask_of, origin_of, word_of, widened, extended_expr, number, is_set, bits_of}
 
 -- ---- masks: v and u are the words of two operands and m and k their masks
 
--- a bit is poisoned where it is in either word: of `xor`, sums and products
+-- a bit is poisoned where it is in either word: of `xor`
 abbrev pub union_expr : Ty → (m k : Expr) → Expr
 union_expr t m k = Two Or t m k
+
+-- a bit is poisoned where it or a lower one is in a union of masks: of sums, products and addresses
+abbrev pub carry_expr : Ty → (union : Expr) → Expr
+carry_expr t union = Two Or t union (Two Sub t (number 0) union)
 
 -- a bit is poisoned where both are, or one is and the other word has a defined 1
 abbrev pub and_expr : Ty → (v m u k : Expr) → Expr
@@ -93,9 +97,9 @@ abbrev pub binary_expr : BinOp → ℕ → Tracked → Tracked → Expr
 binary_expr binary.And w a b = and_expr (Int w) (word_of a) (mask_of a) (word_of b) (mask_of b)
 binary_expr binary.Or w a b = or_expr w (word_of a) (mask_of a) (word_of b) (mask_of b)
 binary_expr binary.Xor w a b = union_expr (Int w) (mask_of a) (mask_of b)
-binary_expr binary.Add w a b = union_expr (Int w) (mask_of a) (mask_of b)
-binary_expr binary.Sub w a b = union_expr (Int w) (mask_of a) (mask_of b)
-binary_expr binary.Mul w a b = union_expr (Int w) (mask_of a) (mask_of b)
+binary_expr binary.Add w a b = carry_expr (Int w) (union_expr (Int w) (mask_of a) (mask_of b))
+binary_expr binary.Sub w a b = carry_expr (Int w) (union_expr (Int w) (mask_of a) (mask_of b))
+binary_expr binary.Mul w a b = carry_expr (Int w) (union_expr (Int w) (mask_of a) (mask_of b))
 binary_expr _ w a b = mask_of a
 
 -- the mask of a result that is one word
@@ -107,7 +111,7 @@ mask_expr (op.Cast o f t a u) ts = cast_expr o (width_of t) (width_of u) (mask_o
 mask_expr (op.Select c t a b) ts =
     select_expr (width_of t) (word_of (tracked_at 0 ts)) (mask_of (tracked_at 0 ts))
     (bits_of (tracked_at 1 ts)) (mask_of (tracked_at 1 ts)) (bits_of (tracked_at 2 ts)) (mask_of (tracked_at 2 ts))
-mask_expr (op.Gep t a is) ts = Two Or (Int 64) (mask_of (tracked_at 0 ts)) (union_all (drop 1 ts))
+mask_expr (op.Gep t a is) ts = carry_expr (Int 64) (union_expr (Int 64) (mask_of (tracked_at 0 ts)) (union_all (drop 1 ts)))
 mask_expr _ ts = number 0
 
 -- ---- origins

@@ -601,41 +601,12 @@ static KINDS: [Case; 10] = [
 
 /// Blind uses are counted.
 /// Uses whose poison is lost are counted once for each instruction that runs.
-static BLIND: [Case; 8] = [
+static BLIND: [Case; 4] = [
     Case(
         "check f",
         "define i32 @main() {\n  %1 = freeze i32 undef\n  ret i32 %1\n}\n",
         "",
         "end: exit 2779096485\nreports: 0\nblind: 1\nverdict: unsure\n",
-        0,
-    ),
-    Case(
-        "check f",
-        "define i32 @main() {\n  %1 = and i32 undef, 1\n  %2 = add i32 %1, 1\n  %3 = lshr i32 %2, 1\n  %4 = icmp eq i32 %3, 0\n  br i1 %4, label %5, label %7\n5:\n  %6 = call i32 @putchar(i32 65)\n  ret i32 0\n7:\n  %8 = call i32 @putchar(i32 66)\n  ret i32 0\n}\ndeclare i32 @putchar(i32)\n",
-        "B",
-        "end: exit 0\nreports: 0\nblind: 1\nverdict: unsure\n",
-        0,
-    ),
-    Case(
-        "check f",
-        "define i32 @main() {\n  %1 = and i32 undef, 16\n  %2 = add i32 %1, 3\n  ret i32 %2\n}\n",
-        "",
-        "report 1: exit at site 3 in @main, part 0, bits 0x10 of i32\n  origin 1: undef at site 1 in @main\nend: reported\nreports: 1\nblind: 1\nverdict: poisoned\n",
-        77,
-    ),
-    // A sum of defined words is none.
-    Case(
-        "check f",
-        "define i32 @main() {\n  %1 = add i32 1, 2\n  %2 = mul i32 %1, %1\n  %3 = sub i32 %2, 2\n  ret i32 %3\n}\n",
-        "",
-        "end: exit 7\nreports: 0\nblind: 0\nverdict: clean\n",
-        0,
-    ),
-    Case(
-        "check f",
-        "define i32 @main() {\n  %1 = and i32 undef, 0\n  %2 = add i32 %1, 3\n  ret i32 %2\n}\n",
-        "",
-        "end: exit 3\nreports: 0\nblind: 0\nverdict: clean\n",
         0,
     ),
     Case(
@@ -652,12 +623,92 @@ static BLIND: [Case; 8] = [
         "end: exit 0\nreports: 0\nblind: 2\nverdict: unsure\n",
         0,
     ),
+    // A flag makes a use of a sum blind.
+    Case(
+        "check f",
+        "define i32 @main() {\n  %1 = and i32 undef, 16\n  %2 = add nsw i32 %1, 3\n  ret i32 0\n}\n",
+        "",
+        "end: exit 0\nreports: 0\nblind: 1\nverdict: unsure\n",
+        0,
+    ),
+];
+
+/// A poisoned bit of a sum, a difference, a product or an address poisons each bit above it, and no lower one.
+static CARRIES: [Case; 10] = [
+    Case(
+        "check f",
+        "define i32 @main() {\n  %1 = and i32 undef, 1\n  %2 = add i32 %1, 1\n  %3 = lshr i32 %2, 1\n  %4 = icmp eq i32 %3, 0\n  br i1 %4, label %5, label %7\n5:\n  %6 = call i32 @putchar(i32 65)\n  ret i32 0\n7:\n  %8 = call i32 @putchar(i32 66)\n  ret i32 0\n}\ndeclare i32 @putchar(i32)\n",
+        "",
+        "report 1: branch at site 5 in @main, part 0, bits 0x1 of i1\n  origin 1: undef at site 1 in @main\nend: reported\nreports: 1\nblind: 0\nverdict: poisoned\n",
+        77,
+    ),
+    Case(
+        "check f",
+        "define i32 @main() {\n  %1 = and i32 undef, 16\n  %2 = add i32 %1, 3\n  ret i32 %2\n}\n",
+        "",
+        "report 1: exit at site 3 in @main, part 0, bits 0xfffffff0 of i32\n  origin 1: undef at site 1 in @main\nend: reported\nreports: 1\nblind: 0\nverdict: poisoned\n",
+        77,
+    ),
+    // The lowest poisoned bit of either operand counts, and the last operand's origin.
+    Case(
+        "check f",
+        "define i32 @main() {\n  %1 = and i32 undef, 16\n  %2 = and i32 undef, 4\n  %3 = sub i32 %1, %2\n  ret i32 %3\n}\n",
+        "",
+        "report 1: exit at site 4 in @main, part 0, bits 0xfffffffc of i32\n  origin 2: undef at site 2 in @main\nend: reported\nreports: 1\nblind: 0\nverdict: poisoned\n",
+        77,
+    ),
+    Case(
+        "check f",
+        "define i32 @main() {\n  %1 = and i8 undef, 8\n  %2 = mul i8 %1, 3\n  %3 = zext i8 %2 to i32\n  ret i32 %3\n}\n",
+        "",
+        "report 1: exit at site 4 in @main, part 0, bits 0xf8 of i32\n  origin 1: undef at site 1 in @main\nend: reported\nreports: 1\nblind: 0\nverdict: poisoned\n",
+        77,
+    ),
+    // What lies below a poisoned bit is known.
+    Case(
+        "check f",
+        "define i32 @main() {\n  %1 = and i32 undef, 16\n  %2 = add i32 %1, 3\n  %3 = and i32 %2, 15\n  ret i32 %3\n}\n",
+        "",
+        "end: exit 3\nreports: 0\nblind: 0\nverdict: clean\n",
+        0,
+    ),
+    // A sum of defined words is defined.
+    Case(
+        "check f",
+        "define i32 @main() {\n  %1 = add i32 1, 2\n  %2 = mul i32 %1, %1\n  %3 = sub i32 %2, 2\n  ret i32 %3\n}\n",
+        "",
+        "end: exit 7\nreports: 0\nblind: 0\nverdict: clean\n",
+        0,
+    ),
+    Case(
+        "check f",
+        "define i32 @main() {\n  %1 = and i32 undef, 0\n  %2 = add i32 %1, 3\n  ret i32 %2\n}\n",
+        "",
+        "end: exit 3\nreports: 0\nblind: 0\nverdict: clean\n",
+        0,
+    ),
+    // An address by a poisoned index: the index alone is no use of it.
+    Case(
+        "check f",
+        "define i32 @main() {\n  %1 = alloca [2 x i8]\n  %2 = and i64 undef, 1\n  %3 = getelementptr i8, ptr %1, i64 %2\n  %4 = load i8, ptr %3\n  ret i32 0\n}\n",
+        "",
+        "report 1: address at site 4 in @main, part 0, bits 0xffffffffffffffff of i64\n  origin 2: undef at site 2 in @main\nend: reported\nreports: 1\nblind: 0\nverdict: poisoned\n",
+        77,
+    ),
     Case(
         "check f",
         "define i32 @main() {\n  %1 = alloca i8\n  %2 = getelementptr i8, ptr %1, i64 undef\n  ret i32 0\n}\n",
         "",
-        "end: exit 0\nreports: 0\nblind: 1\nverdict: unsure\n",
+        "end: exit 0\nreports: 0\nblind: 0\nverdict: clean\n",
         0,
+    ),
+    // The lowest poisoned bit of an index counts, whatever the size of what it counts.
+    Case(
+        "check f",
+        "define i32 @main() {\n  %1 = alloca [8 x i32]\n  %2 = and i8 undef, -2\n  %3 = getelementptr [8 x i32], ptr %1, i64 0, i8 %2\n  %4 = ptrtoint ptr %3 to i32\n  ret i32 %4\n}\n",
+        "",
+        "report 1: exit at site 5 in @main, part 0, bits 0xfffffffe of i32\n  origin 2: undef at site 2 in @main\nend: reported\nreports: 1\nblind: 0\nverdict: poisoned\n",
+        77,
     ),
 ];
 
@@ -726,6 +777,7 @@ fn uses_are_checked(rt: HostRuntime) -> Result<(), Fail> {
                 &OUTSIDE,
                 &KINDS,
                 &BLIND,
+                &CARRIES,
                 &TRAPS
             ]
         )

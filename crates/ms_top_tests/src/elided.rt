@@ -50,12 +50,12 @@ static ROWS: [Checked; 5] = [
         "report 1: exit at site 6 in @main, part 0, bits 0x7 of i32\n  origin 1: undef at site 2 in @main\nend: reported\nreports: 1\nblind: 0\nverdict: poisoned\n",
         77,
     ),
-    // The dividend and the factor are two blind uses; 0xa5a5a5a5 by 4.
+    // The dividend is a blind use, and the factor none; 0xa5a5a5a5 by 4.
     Checked(
         DEFAULTS,
         DIVIDEND,
         b"",
-        "report 1: exit at site 3 in @main, part 0, bits 0xffffffff of i32\n  origin 1: undef at site 1 in @main\nend: reported\nreports: 1\nblind: 2\nverdict: poisoned\n",
+        "report 1: exit at site 3 in @main, part 0, bits 0xffffffff of i32\n  origin 1: undef at site 1 in @main\nend: reported\nreports: 1\nblind: 1\nverdict: poisoned\n",
         77,
     ),
     Checked(

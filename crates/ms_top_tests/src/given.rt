@@ -116,9 +116,9 @@ static FILLS: [Checked; 6] = [
             reports: 1,
         },
         "define i32 @main() {\n  %1 = and i32 undef, 1\n  %2 = add i32 %1, 1\n  %3 = lshr i32 %2, 1\n  %4 = icmp eq i32 %3, 0\n  br i1 %4, label %5, label %7\n5:\n  %6 = call i32 @putchar(i32 65)\n  ret i32 0\n7:\n  %8 = call i32 @putchar(i32 66)\n  ret i32 0\n}\ndeclare i32 @putchar(i32)\n",
-        b"A",
-        "end: exit 0\nreports: 0\nblind: 1\nverdict: unsure\n",
-        0,
+        b"",
+        "report 1: branch at site 5 in @main, part 0, bits 0x1 of i1\n  origin 1: undef at site 1 in @main\nend: reported\nreports: 1\nblind: 0\nverdict: poisoned\n",
+        77,
     ),
     Checked(
         Terms {
@@ -128,9 +128,9 @@ static FILLS: [Checked; 6] = [
             reports: 1,
         },
         "define i32 @main() {\n  %1 = and i32 undef, 1\n  %2 = add i32 %1, 1\n  %3 = lshr i32 %2, 1\n  %4 = icmp eq i32 %3, 0\n  br i1 %4, label %5, label %7\n5:\n  %6 = call i32 @putchar(i32 65)\n  ret i32 0\n7:\n  %8 = call i32 @putchar(i32 66)\n  ret i32 0\n}\ndeclare i32 @putchar(i32)\n",
-        b"B",
-        "end: exit 0\nreports: 0\nblind: 1\nverdict: unsure\n",
-        0,
+        b"",
+        "report 1: branch at site 5 in @main, part 0, bits 0x1 of i1\n  origin 1: undef at site 1 in @main\nend: reported\nreports: 1\nblind: 0\nverdict: poisoned\n",
+        77,
     ),
 ];
 

@@ -1,5 +1,5 @@
 -- Calls on words and worlds that are alike.
-use Rattle.std.proofs.Common.{◌≡◌, ℕ, ◌^◌, ◌<◌, List, [], ◌∷◌, map, true, Option, Some, None, refl, sym, ap, ◌∙◌, subst}
+use Rattle.std.proofs.Common.{◌≡◌, ℕ, ◌^◌, ◌<◌, List, [], ◌∷◌, map, Option, Some, None, refl, sym, ap, ◌∙◌, subst}
 use Rattle.ms_ir.specs.declared.syntax.Name.{Name}
 use Rattle.ms_ir.specs.declared.syntax.Ty.{Ty}
 use Rattle.ms_ir.specs.declared.syntax.Operand.{Operand}
@@ -23,6 +23,7 @@ use Rattle.ms_two_fills.specs.Placed.{FitWorld}
 use Rattle.ms_two_fills.proofs.Words.{LowAt}
 use Rattle.ms_two_fills.proofs.Reading.{AlikeWords, word_alike, word_number, read_all_alike}
 use Rattle.ms_two_fills.proofs.Worlds.{other, BytesAlike, low_other}
+use Rattle.ms_two_fills.proofs.Addresses.{AddressStands}
 use Rattle.ms_two_fills.proofs.Ops.{CastStands, OpAlike, ReadAlike, op_alike}
 use Rattle.ms_two_fills.proofs.Externals.{answered, ExtAlike, three_alike}
 
@@ -142,8 +143,8 @@ module _ (s : Setting) (fill : List ℕ) (h : Here) (root : ℕ) (w : World) (b 
 
   module _ (read others_read : ℕ → Ty → Operand → Poisoned) (reads : (n : ℕ) (t : Ty) (o : Operand) → LowAt (width_of t) (read n t o) (others_read n t o)) (n : ℕ) where
     -- what an instruction comes to, where its checks found nothing and it loses no poisoned bit
-    pub inst_alike : (o : Op) → CastStands o → CallStands o (read_all read (operands o) n) → union (map (λ p. p.mask) (blinded true o (read_all read (operands o) n))) ≡ 0
+    pub inst_alike : (o : Op) → CastStands o → CallStands o (read_all read (operands o) n) → AddressStands s.types o (read_all read (operands o) n) → union (map (λ p. p.mask) (blinded o (read_all read (operands o) n))) ≡ 0
         → AllPassed w (read_all read (operands o) n) (uses s.func h.main o) → ReadAlike s fill h root w b alike fit others read others_read reads n o
-    inst_alike (op.Call r x args) fits small quiet passed =
+    inst_alike (op.Call r x args) fits small stands quiet passed =
         call_alike (read_all read args n) (read_all others_read args n) (read_all_alike read others_read reads args n) small r x args passed
-    inst_alike o fits small quiet passed = op_alike s fill h root w b alike fit others read others_read reads n o tt fits quiet passed
+    inst_alike o fits small stands quiet passed = op_alike s fill h root w b alike fit others read others_read reads n o tt fits stands quiet passed

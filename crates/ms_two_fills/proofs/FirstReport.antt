@@ -247,7 +247,7 @@ module _ (s : Setting) where
     after_first : (i : Inst) (h : Here) (ps : List Poisoned) (fr : Frame Poisoned) (below : List (Frame Poisoned)) (w : World) → w.reports ≡ [] → (e x : Effect) → CheckedFirst w e x
         → MovedFirst w (after_checks by_formulas first_only m i h ps fr below e) (after_checks by_formulas s m i h ps fr below x)
     after_first i h ps fr below w none (Does u) (Does z) c =
-        let k = union (map (λ p. p.mask) (blinded true i.op ps)) in
+        let k = union (map (λ p. p.mask) (blinded i.op ps)) in
         inl (
           ap (λ v. shadow_act by_formulas first_only m i h ps fr below (count_blind k v)) (c.0 ∙ sym c.1) ∙ act_same i h ps fr below (count_blind k z),
           kept_reports (count_blind k z) (shadow_act by_formulas s m i h ps fr below (count_blind k z)) (act_moves_kept s m i h ps fr below (count_blind k z)) ∙ count_reports k z ∙ ap (λ v. v.reports) c.1 ∙ none,

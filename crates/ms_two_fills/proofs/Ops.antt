@@ -1,5 +1,5 @@
 -- Instructions but calls, on words and worlds that are alike.
-use Rattle.std.proofs.Common.{◌≡◌, ℕ, zero, suc, ◌+◌, ◌*◌, ◌/◌, ◌%◌, ◌^◌, ◌<◌, ◌≤◌, List, [], ◌∷◌, map, drop, Bool, true, false, not, ◌||◌, eqb, Option, Some, None, Result, Ok, Err, refl, ap, ap₂, subst, arith, bit_or, if◌then◌else◌}
+use Rattle.std.proofs.Common.{◌≡◌, ℕ, zero, suc, ◌+◌, ◌*◌, ◌/◌, ◌%◌, ◌^◌, ◌<◌, ◌≤◌, List, [], ◌∷◌, map, Bool, true, false, not, ◌||◌, eqb, Option, Some, None, Result, Ok, Err, refl, ap, ap₂, subst, arith, bit_or, if◌then◌else◌}
 use Rattle.std.specs.Int.{bit_at}
 use Rattle.std.proofs.lemmas.Nat.{mod_below, pow_pos}
 use Rattle.ms_bits.specs.declared.traps.Trap.{Trap}
@@ -11,9 +11,9 @@ use Rattle.ms_ir.specs.declared.syntax.Operand.{Operand}
 use Rattle.ms_ir.specs.declared.syntax.Op.{Op}
 use Rattle.ms_ir.specs.declared.syntax.Op.TheVariants as op
 use Rattle.ms_runs.specs.declared.runs.End.TheVariants as «end»
-use Rattle.ms_ir.specs.Layout.{width_of, stored_size, size_in, indexed}
+use Rattle.ms_ir.specs.Layout.{width_of, stored_size, size_in}
 use Rattle.ms_ir.specs.Areas.{Stack}
-use Rattle.ms_runs.specs.World.{World, Setting, Here, Gives, Does, Leaves, Ends, traps, word}
+use Rattle.ms_runs.specs.World.{World, Setting, Here, Gives, Does, Leaves, Ends, traps}
 use Rattle.ms_runs.specs.Memory.{is_good, fits, next_base, make_unset, store_number}
 use Rattle.ms_ir.specs.Code.{operands, one_undef}
 use Rattle.ms_runs.specs.Control.{read_all}
@@ -27,12 +27,14 @@ use Rattle.ms_runs.specs.LowEqual.{LowWord, LowWorld, SameBits}
 use Rattle.ms_two_fills.specs.Alike.{refill}
 use Rattle.ms_bits_laws.proofs.ByteAgreement.{loaded_agree}
 use Rattle.ms_bits_laws.proofs.OperationAgreement.{cut}
+use Rattle.ms_bits.specs.Formulas as formulas
 use Rattle.ms_two_fills.specs.Passed.{AllPassed}
 use Rattle.ms_two_fills.specs.Effects.{EffectsAlike}
 use Rattle.ms_two_fills.specs.Placed.{FitWorld}
-use Rattle.ms_two_fills.proofs.Words.{LowAt, from_width, alike_word, AllClean, union_clean, AnswersAlike, binary_masks, binary_alike}
+use Rattle.ms_two_fills.proofs.Words.{LowAt, from_width, alike_word, union_clean, AnswersAlike, binary_masks, binary_alike}
+use Rattle.ms_two_fills.proofs.Addresses.{AddressStands, read_all_at, addresses_agree, address_fits}
 use Rattle.ms_two_fills.proofs.Answers.{CastsTo, compare_masks, compare_alike, cast_masks, cast_alike, select_masks, select_origins, select_alike}
-use Rattle.ms_two_fills.proofs.Reading.{AlikeWords, read_all_alike, number_same, masks_same, numbers_same, origins_same}
+use Rattle.ms_two_fills.proofs.Reading.{AlikeWords, read_all_alike, number_same, masks_same, origins_same}
 use Rattle.ms_two_fills.proofs.Worlds.{other, BytesAlike, low_other, made_low, stored_low, store_origin_low}
 
 -- words alike without a poisoned bit are one
@@ -138,20 +140,32 @@ module _ (s : Setting) (fill : List ℕ) (h : Here) (root : ℕ) (w : World) (b 
     by_one : (t : Ty) (a : Operand) (P : Poisoned → Type 0) → (read n t a).mask ≡ 0 → P (read n t a) → P (others_read n t a)
     by_one t a P z p = subst P (same_word (read n t a) (others_read n t a) (alike_at n t a) z) p
 
-    located : (t : Ty) (base : Operand) (is : List (Ty × Operand)) → AllClean (read_all read ((ty.Ptr, base) ∷ is) n) → ReadAlike (op.Gep t base is)
-    located t base is z = (
-      exact_word _ _ _ _ _ _
-          (ap₂ (λ m k. bit_or m (union (extended_all is k))) words.0.mask (masks_same (read_all read is (n + one_undef base)) (read_all others_read is (n + one_undef base)) words.1))
-          (origins_same ps qs words (read n ty.Ptr base).origin (others_read n ty.Ptr base).origin words.0.origin)
-          (ap (λ vs. indexed s.types t (word 0 vs) (extended_all is (drop 1 vs))) (numbers_same ps qs words z)),
+    located : (t : Ty) (base : Operand) (is : List (Ty × Operand)) → AddressStands s.types (op.Gep t base is) (read_all read ((ty.Ptr, base) ∷ is) n) → ReadAlike (op.Gep t base is)
+    located t base is stands = (
+      record {
+        mask = ap₂ (λ m k. formulas.carry_mask 64 (bit_or m (union (extended_all is k)))) words.0.mask (masks_same ps qs words.1);
+        origin = origins_same (p ∷ ps) (q ∷ qs) words (read n ty.Ptr base).origin (others_read n ty.Ptr base).origin words.0.origin;
+        value =
+            from_width 64 _ _ _ (address_fits s.types t p.value (extended_all is (map (λ r. r.value) ps)) low_base.left.value) (address_fits s.types t q.value (extended_all is (map (λ r. r.value) qs)) low_base.right.value)
+            (addresses_agree s.types t is p q ps qs low_base (read_all_at read others_read reads is (n + one_undef base)) stands);
+      },
       low,
     )
       where
+        p : Poisoned
+        p = read n ty.Ptr base
+
+        q : Poisoned
+        q = others_read n ty.Ptr base
+
         ps : List Poisoned
-        ps = read_all read ((ty.Ptr, base) ∷ is) n
+        ps = read_all read is (n + one_undef base)
 
         qs : List Poisoned
-        qs = read_all others_read ((ty.Ptr, base) ∷ is) n
+        qs = read_all others_read is (n + one_undef base)
+
+        low_base : LowAt 64 (read n ty.Ptr base) (others_read n ty.Ptr base)
+        low_base = reads n ty.Ptr base
 
         words : AlikeWords (read_all read ((ty.Ptr, base) ∷ is) n) (read_all others_read ((ty.Ptr, base) ∷ is) n)
         words = read_all_alike read others_read reads ((ty.Ptr, base) ∷ is) n
@@ -177,37 +191,37 @@ module _ (s : Setting) (fill : List ℕ) (h : Here) (root : ℕ) (w : World) (b 
     IsNoCall (op.Call r x args) = ⊥
     IsNoCall o = Unit {0}
 
-    pub op_alike : (o : Op) → IsNoCall o → CastStands o → union (map (λ p. p.mask) (blinded true o (read_all read (operands o) n))) ≡ 0
+    pub op_alike : (o : Op) → IsNoCall o → CastStands o → AddressStands s.types o (read_all read (operands o) n) → union (map (λ p. p.mask) (blinded o (read_all read (operands o) n))) ≡ 0
         → AllPassed w (read_all read (operands o) n) (uses s.func h.main o) → ReadAlike o
-    op_alike (op.Binary o f t a c) k fits quiet passed =
+    op_alike (op.Binary o f t a c) k fits stands quiet passed =
         let p = reads n t a in let q = reads (n + one_undef a) t c in
         answer_alike _ _ _ _ h.site _ _ _ w (other w b) low (binary_alike (width_of t) _ _ _ _ p q w o f quiet passed)
         (λ x y same. (record { mask = binary_masks (width_of t) _ _ _ _ p q o; origin = origins_same (read n t a ∷ read (n + one_undef a) t c ∷ []) (others_read n t a ∷ others_read (n + one_undef a) t c ∷ []) (read_all_alike read others_read reads ((t, a) ∷ (t, c) ∷ []) n) (read n t a).origin (others_read n t a).origin p.origin; value = same }, low))
-    op_alike (op.Icmp o f t a c) k fits quiet passed =
+    op_alike (op.Icmp o f t a c) k fits stands quiet passed =
         let p = reads n t a in let q = reads (n + one_undef a) t c in
         answer_alike _ _ _ _ h.site _ _ _ w (other w b) low (compare_alike (width_of t) _ _ _ _ p q o f quiet)
         (λ x y same. (record { mask = compare_masks (width_of t) _ _ _ _ p q o; origin = origins_same (read n t a ∷ read (n + one_undef a) t c ∷ []) (others_read n t a ∷ others_read (n + one_undef a) t c ∷ []) (read_all_alike read others_read reads ((t, a) ∷ (t, c) ∷ []) n) (read n t a).origin (others_read n t a).origin p.origin; value = same }, low))
-    op_alike (op.Cast o f t a u) k fits quiet passed =
+    op_alike (op.Cast o f t a u) k fits stands quiet passed =
         let p = reads n t a in
         answer_alike _ _ _ _ h.site _ _ _ w (other w b) low (cast_alike (width_of t) (width_of u) _ _ p o f fits quiet)
         (λ x y same. (record { mask = cast_masks (width_of t) (width_of u) _ _ p o; origin = p.origin; value = same }, low))
-    op_alike (op.Select c t a e) k fits quiet passed =
+    op_alike (op.Select c t a e) k fits stands quiet passed =
         let d = reads n (ty.Int 1) c in let p = reads (n + one_undef c) t a in let q = reads (n + one_undef c + one_undef a) t e in
         (record { mask = select_masks (width_of t) _ _ _ _ _ _ d p q; origin = select_origins (width_of t) _ _ _ _ _ _ d p q; value = select_alike (width_of t) _ _ _ _ _ _ d p q }, low)
-    op_alike (op.Freeze t a) k fits quiet passed =
+    op_alike (op.Freeze t a) k fits stands quiet passed =
         (exact_word _ _ _ _ _ _ refl refl (number_same _ _ (alike_at n t a) (union_clean (read n t a ∷ []) quiet).0), low)
-    op_alike (op.Phi t edges) k fits quiet passed = (refl, low)
-    op_alike (op.Alloca t u c) k fits quiet passed = by_one u c (λ q. OpAlike (op.Alloca t u c) (read n u c ∷ []) (q ∷ [])) passed.0 (made t u c (read n u c))
-    op_alike (op.Load t x) k fits quiet passed = by_one ty.Ptr x (λ q. OpAlike (op.Load t x) (read n ty.Ptr x ∷ []) (q ∷ [])) passed.0 (loaded t x (read n ty.Ptr x))
-    op_alike (op.Store t v x) k fits quiet passed =
+    op_alike (op.Phi t edges) k fits stands quiet passed = (refl, low)
+    op_alike (op.Alloca t u c) k fits stands quiet passed = by_one u c (λ q. OpAlike (op.Alloca t u c) (read n u c ∷ []) (q ∷ [])) passed.0 (made t u c (read n u c))
+    op_alike (op.Load t x) k fits stands quiet passed = by_one ty.Ptr x (λ q. OpAlike (op.Load t x) (read n ty.Ptr x ∷ []) (q ∷ [])) passed.0 (loaded t x (read n ty.Ptr x))
+    op_alike (op.Store t v x) k fits stands quiet passed =
         let p = read n t v in let q = others_read n t v in let a = read (n + one_undef v) ty.Ptr x in
         let same = alike_at n t v in
         subst (λ c. OpAlike (op.Store t v x) (p ∷ a ∷ []) (q ∷ c ∷ [])) (same_word a (others_read (n + one_undef v) ty.Ptr x) (alike_at (n + one_undef v) ty.Ptr x) passed.0)
         (subst (λ d. OpAlike (op.Store t v x) (p ∷ a ∷ []) (d ∷ a ∷ [])) (other_word p q same) (stored t v x p a q.value same.value))
-    op_alike (op.Gep t base is) k fits quiet passed = located t base is (union_clean (read_all read ((ty.Ptr, base) ∷ is) n) quiet)
-    op_alike (op.Call r x args) k fits quiet passed = absurd k
-    op_alike (op.Br to) k fits quiet passed = (refl, low)
-    op_alike (op.CondBr c to otherwise) k fits quiet passed = by_one (ty.Int 1) c (λ q. OpAlike (op.CondBr c to otherwise) (read n (ty.Int 1) c ∷ []) (q ∷ [])) passed.0 (refl, low)
-    op_alike (op.Switch t v otherwise cases) k fits quiet passed = by_one t v (λ q. OpAlike (op.Switch t v otherwise cases) (read n t v ∷ []) (q ∷ [])) passed.0 (refl, low)
-    op_alike (op.Ret v) k fits quiet passed = returned v passed
-    op_alike op.Unreachable k fits quiet passed = (refl, low)
+    op_alike (op.Gep t base is) k fits stands quiet passed = located t base is stands
+    op_alike (op.Call r x args) k fits stands quiet passed = absurd k
+    op_alike (op.Br to) k fits stands quiet passed = (refl, low)
+    op_alike (op.CondBr c to otherwise) k fits stands quiet passed = by_one (ty.Int 1) c (λ q. OpAlike (op.CondBr c to otherwise) (read n (ty.Int 1) c ∷ []) (q ∷ [])) passed.0 (refl, low)
+    op_alike (op.Switch t v otherwise cases) k fits stands quiet passed = by_one t v (λ q. OpAlike (op.Switch t v otherwise cases) (read n t v ∷ []) (q ∷ [])) passed.0 (refl, low)
+    op_alike (op.Ret v) k fits stands quiet passed = returned v passed
+    op_alike op.Unreachable k fits stands quiet passed = (refl, low)

@@ -20,7 +20,7 @@ use Rattle.ms_bits_laws.proofs.BitLemmas.{bit_at_mod}
 use Rattle.ms_bits_laws.proofs.OperationAgreement.{nothing_outside_ones}
 use Rattle.ms_runs.specs.LowEqual.{LowWord}
 use Rattle.ms_two_fills.specs.Alike.{refill}
-use Rattle.ms_two_fills.proofs.Words.{LowAt, AllClean, alike_word}
+use Rattle.ms_two_fills.proofs.Words.{LowAt, alike_word}
 
 -- ---- words that are read are in range
 
@@ -115,12 +115,6 @@ masks_same [] [] h = refl
 masks_same (p ∷ ps) (q ∷ qs) h = ap₂ (λ m ms. m ∷ ms) h.0.mask (masks_same ps qs h.1)
 masks_same [] (q ∷ qs) h = absurd h
 masks_same (p ∷ ps) [] h = absurd h
-
-pub numbers_same : (ps qs : List Poisoned) → AlikeWords ps qs → AllClean ps → map (λ p. p.value) ps ≡ map (λ p. p.value) qs
-numbers_same [] [] h z = refl
-numbers_same (p ∷ ps) (q ∷ qs) h z = ap₂ (λ m ms. m ∷ ms) (number_same p q h.0 z.0) (numbers_same ps qs h.1 z.1)
-numbers_same [] (q ∷ qs) h z = absurd h
-numbers_same (p ∷ ps) [] h z = absurd h
 
 pub origins_same : (ps qs : List Poisoned) → AlikeWords ps qs → (best other : ℕ) → best ≡ other → last_origin ps best ≡ last_origin qs other
 origins_same [] [] h best other e = e

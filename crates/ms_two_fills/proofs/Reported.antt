@@ -189,7 +189,7 @@ moves_told s m site x ps lift after fr below (Ends e u) h = h
 module _ (d : Rules) (s : Setting) (m : Module) where
   after_told : (i : Inst) (h : Here) (ps : List Poisoned) (fr : Frame Poisoned) (below : List (Frame Poisoned)) (e : Effect) → ToldAfter e → ToldOutcome (after_checks d s m i h ps fr below e)
   after_told i h ps fr below (Does u) k =
-      let w = count_blind (union (map (λ p. p.mask) (blinded d.sums_blind i.op ps))) u in
+      let w = count_blind (union (map (λ p. p.mask) (blinded i.op ps))) u in
       moves_told s m h.site i.result ps (poisoned_result d i.op ps) (planes s h.site (h.root + count_undefs (operands i.op) + 1) i.op ps w) fr below _ (act_told s h i.op (map (λ p. p.value) ps) w)
   after_told i h ps fr below (Ends e u) k = k
   after_told i h ps fr below (Gives v u) k = trapped trap.Unreachable 0 u

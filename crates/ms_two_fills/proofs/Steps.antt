@@ -28,6 +28,7 @@ use Rattle.std.specs.Prelude.{take, drop}
 use Rattle.ms_two_fills.proofs.Reading.{AlikeWords, masks_same, read_low, read_all_alike}
 use Rattle.ms_two_fills.proofs.Worlds.{other, BytesAlike, low_other, other_is}
 use Rattle.ms_two_fills.proofs.Checks.{uses_alike}
+use Rattle.ms_two_fills.proofs.Addresses.{AddressStands}
 use Rattle.ms_two_fills.proofs.Ops.{CastStands}
 use Rattle.ms_two_fills.proofs.Calls.{CallStands, inst_alike}
 use Rattle.ms_two_fills.proofs.Moves.{AlikeValues, revalued, by_values, frame_alike, moves_alike}
@@ -101,10 +102,10 @@ but_first_words (p ∷ ps) (q ∷ qs) h = h.1
 but_first_words [] (q ∷ qs) h = absurd h
 but_first_words (p ∷ ps) [] h = absurd h
 
-binary_blinded : (o : BinOp) (ps qs : List Poisoned) → AlikeWords ps qs → AlikeWords (blind_binary true o ps) (blind_binary true o qs)
-binary_blinded Add ps qs h = h
-binary_blinded Sub ps qs h = h
-binary_blinded Mul ps qs h = h
+binary_blinded : (o : BinOp) (ps qs : List Poisoned) → AlikeWords ps qs → AlikeWords (blind_binary o ps) (blind_binary o qs)
+binary_blinded Add ps qs h = tt
+binary_blinded Sub ps qs h = tt
+binary_blinded Mul ps qs h = tt
 binary_blinded Udiv ps qs h = first_of_words ps qs h
 binary_blinded Sdiv ps qs h = first_of_words ps qs h
 binary_blinded Urem ps qs h = first_of_words ps qs h
@@ -116,24 +117,24 @@ binary_blinded And ps qs h = tt
 binary_blinded Or ps qs h = tt
 binary_blinded Xor ps qs h = tt
 
-blinded_alike : (o : Op) (ps qs : List Poisoned) → AlikeWords ps qs → AlikeWords (blinded true o ps) (blinded true o qs)
+blinded_alike : (o : Op) (ps qs : List Poisoned) → AlikeWords ps qs → AlikeWords (blinded o ps) (blinded o qs)
 blinded_alike (op.Binary o f t a b) ps qs h = if_alike (has_flag f) ps qs _ _ h (binary_blinded o ps qs h)
 blinded_alike (op.Icmp p f t a b) ps qs h = if_alike (has_flag f) ps qs [] [] h tt
 blinded_alike (op.Cast o f t a u) ps qs h = if_alike (has_flag f) ps qs [] [] h tt
 blinded_alike (op.Freeze t a) ps qs h = h
-blinded_alike (op.Gep t a is) ps qs h = h
 blinded_alike _ ps qs h = tt
 
 -- no poisoned bit is lost at an instruction, where its checks let it run
 abbrev pub QuietAt : Setting → Module → Inst → Frame Poisoned → World → Type 0
 QuietAt s m i fr w =
     (u : World) → check_uses s (here s m fr).site (operands i.op) (read_all (read_poisoned s fr.values) (operands i.op) (here s m fr).root) (uses s.func (here s m fr).main i.op) w ≡ Does u
-    → union (map (λ p. p.mask) (blinded true i.op (read_all (read_poisoned s fr.values) (operands i.op) (here s m fr).root))) ≡ 0
+    → union (map (λ p. p.mask) (blinded i.op (read_all (read_poisoned s fr.values) (operands i.op) (here s m fr).root))) ≡ 0
 
--- what an instruction of a valid module has: a cast that stands, and words of 64 bits at most
+-- what an instruction of a valid module has: a cast that stands, words of 64 bits at most, and indices that lead into parts
 pub record InstStands (s : Setting) (m : Module) (fr : Frame Poisoned) (i : Inst) : Type 0 where
   pub cast : CastStands i.op
   pub small : CallStands i.op (read_all (read_poisoned s fr.values) (operands i.op) (here s m fr).root)
+  pub parts : AddressStands s.types i.op (read_all (read_poisoned s fr.values) (operands i.op) (here s m fr).root)
 
 -- the instruction that is due stands, and loses no poisoned bit
 abbrev pub DueStands : Setting → Module → List Inst → Frame Poisoned → Type 0
@@ -172,24 +173,24 @@ module _ (s : Setting) (fill : List ℕ) (one : s.limit ≡ 1) (m : Module) wher
     words : AlikeWords (read_all (read_poisoned s fr.values) (operands i.op) (here s m fr).root) (read_all (read_poisoned (refill s fill) values) (operands i.op) (here s m fr).root)
     words = read_all_alike (read_poisoned s fr.values) (read_poisoned (refill s fill) values) (read_low s fill fr.values values alike_values) (operands i.op) (here s m fr).root
 
-    blind_masks : union (map (λ p. p.mask) (blinded true i.op ps)) ≡ 0 → union (map (λ p. p.mask) (blinded true i.op qs)) ≡ 0
-    blind_masks z = ap union (sym (masks_same (blinded true i.op ps) (blinded true i.op qs) (blinded_alike i.op ps qs words))) ∙ z
+    blind_masks : union (map (λ p. p.mask) (blinded i.op ps)) ≡ 0 → union (map (λ p. p.mask) (blinded i.op qs)) ≡ 0
+    blind_masks z = ap union (sym (masks_same (blinded i.op ps) (blinded i.op qs) (blinded_alike i.op ps qs words))) ∙ z
 
-    act_alike : (w : World) (b : ℕ → ℕ) → BytesAlike w b → FitWorld w → ((x : ℕ) → b x < 256) → AllPassed w ps (uses s.func (here s m fr).main i.op) → union (map (λ p. p.mask) (blinded true i.op ps)) ≡ 0
+    act_alike : (w : World) (b : ℕ → ℕ) → BytesAlike w b → FitWorld w → ((x : ℕ) → b x < 256) → AllPassed w ps (uses s.func (here s m fr).main i.op) → union (map (λ p. p.mask) (blinded i.op ps)) ≡ 0
         → MovesAlike (shadow_act by_formulas s m i (here s m fr) ps fr below w) (shadow_act by_formulas (refill s fill) m i (here s m fr) qs (revalued fr values) others_below (other w b))
     act_alike w b alike fit others passed quiet =
         moves_alike s fill m (here s m fr).site i.result ps qs words _ _ _ _ fr (revalued fr values) (frame_alike fr values alike_values) below others_below same_below _ _
         (inst_alike s fill (here s m fr) ((here s m fr).root + count_undefs (operands i.op) + 1) w b alike fit others (read_poisoned s fr.values) (read_poisoned (refill s fill) values)
-        (read_low s fill fr.values values alike_values) (here s m fr).root i.op stands.cast stands.small quiet passed)
+        (read_low s fill fr.values values alike_values) (here s m fr).root i.op stands.cast stands.small stands.parts quiet passed)
 
     checked_alike : (w : World) (b : ℕ → ℕ) → BytesAlike w b → FitWorld w → ((x : ℕ) → b x < 256) → (e d : Effect)
-        → (((u : World) → e ≡ Does u → union (map (λ p. p.mask) (blinded true i.op ps)) ≡ 0))
+        → (((u : World) → e ≡ Does u → union (map (λ p. p.mask) (blinded i.op ps)) ≡ 0))
         → CheckedAlike (AllPassed w ps (uses s.func (here s m fr).main i.op)) w (other w b) e d
         → MovesAlike (after_checks by_formulas s m i (here s m fr) ps fr below e) (after_checks by_formulas (refill s fill) m i (here s m fr) qs (revalued fr values) others_below d)
     checked_alike w b alike fit others (Does u) (Does z) quiet c =
         let none = quiet u refl in
         subst (λ k. MovesAlike (shadow_act by_formulas s m i (here s m fr) ps fr below (count_blind k u))
-        (shadow_act by_formulas (refill s fill) m i (here s m fr) qs (revalued fr values) others_below (count_blind (union (map (λ p. p.mask) (blinded true i.op qs))) z))) (sym none)
+        (shadow_act by_formulas (refill s fill) m i (here s m fr) qs (revalued fr values) others_below (count_blind (union (map (λ p. p.mask) (blinded i.op qs))) z))) (sym none)
         (subst (λ k. MovesAlike (shadow_act by_formulas s m i (here s m fr) ps fr below u)
         (shadow_act by_formulas (refill s fill) m i (here s m fr) qs (revalued fr values) others_below (count_blind k z))) (sym (blind_masks none))
         (subst (λ k. MovesAlike (shadow_act by_formulas s m i (here s m fr) ps fr below k) (shadow_act by_formulas (refill s fill) m i (here s m fr) qs (revalued fr values) others_below z)) (sym c.1)

@@ -1,19 +1,26 @@
 -- Good states of formed and valid modules have what the proof on two fills asks for.
-use Rattle.std.proofs.Common.{◌≡◌, ℕ, ◌+◌, ◌^◌, ◌<◌, ◌≤◌, List, [], ◌∷◌, true, ◌&&◌, not, refl, subst, arith, pow_mono}
+use Rattle.std.proofs.Common.{◌≡◌, ℕ, suc, ◌+◌, ◌%◌, ◌^◌, ◌<◌, ◌≤◌, min, List, [], ◌∷◌, length, drop, take, Bool, true, false, ◌&&◌, not, Option, Some, None, option_map, unwrap_or, slice_get, refl, sym, ap, ◌∙◌, subst, arith, pow_mono, if◌then◌else◌, ◌⊎◌, inl, inr}
+use Rattle.std.proofs.Math.Nat.{mod-eq_of_lt}
 use Rattle.std.specs.List.{list_all}
-use Rattle.std.proofs.lemmas.Bool.{and_parts}
+use Rattle.std.proofs.lemmas.Bool.{and_parts, eqb-true, ltb-true}
 use Rattle.ms_ir.specs.declared.syntax.Name.{Name}
-use Rattle.ms_ir.specs.declared.syntax.Ty.{Ty}
+use Rattle.ms_ir.specs.declared.syntax.Ty.{Ty, Int, Ptr, Array', Struct', Named}
 use Rattle.ms_ir.specs.declared.syntax.Operand.{Operand}
+use Rattle.ms_ir.specs.declared.syntax.Operand.TheVariants as operand
 use Rattle.ms_ir.specs.declared.syntax.Op.{Op}
 use Rattle.ms_ir.specs.declared.syntax.Op.TheVariants as op
 use Rattle.ms_ir.specs.declared.syntax.Inst.{Inst}
+use Rattle.ms_ir.specs.declared.syntax.Func.{Func}
 use Rattle.ms_ir.specs.declared.syntax.Module.{Module}
 use Rattle.ms_runs.specs.declared.runs.Setup.{Setup}
 use Rattle.ms_ir.specs.Names.{name_eq}
-use Rattle.ms_ir.specs.Layout.{width_of}
+use Rattle.ms_bits.specs.Signed.{wrap}
+use Rattle.ms_bits_laws.proofs.SignedMasks.{signed_low}
+use Rattle.ms_ir.specs.Equal.{type_eq}
+use Rattle.ms_ir.specs.Layout.{Types, width_of, extended, resolved, row_types, type_at, part_type}
+use Rattle.ms_ir.specs.Locals.{value_type}
 use Rattle.ms_runs.specs.World.{Setting}
-use Rattle.ms_ir.specs.Code.{operands, one_undef}
+use Rattle.ms_ir.specs.Code.{operands, one_undef, func_at, insts_at}
 use Rattle.ms_runs.specs.Globals.{address_of}
 use Rattle.ms_runs.specs.Control.{Frame, here, rest_of, read_all}
 use Rattle.ms_ir.specs.Names.{main_name}
@@ -23,13 +30,17 @@ use Rattle.ms_runs.specs.Masks.{by_formulas, word_at}
 use Rattle.ms_runs.specs.Shadow.{read_poisoned, ShadowState, shadow_step}
 use Rattle.ms_ir.specs.Written.{labels}
 use Rattle.ms_valid.specs.FormedNames.{is_local_name, is_global_name}
-use Rattle.ms_valid.specs.FormedCode.{is_value_type, shape_formed, operand_formed, op_formed, result_formed}
+use Rattle.ms_valid.specs.TypesAgree.{is_below, number_or_zero, leads_into, first_misfit, first_misstep, operand_fits, op_fault}
+use Rattle.ms_valid.specs.Paths.{insts_of}
+use Rattle.ms_valid.proofs.AtInstructions.{fits_at}
+use Rattle.ms_valid.specs.FormedCode.{is_int_type, is_value_type, type_formed, shape_formed, operand_formed, op_formed, result_formed}
 use Rattle.ms_valid.specs.Formed.{Formed}
 use Rattle.ms_runs_good.specs.GoodStates.{IsBelow, PoisonedBelow, GoodFrames}
 use Rattle.ms_valid.specs.Valid.{Valid}
 use Rattle.ms_runs_good.specs.GoodWorlds.{GoodWorld, GivesBytes, AnyOrigin}
 use Rattle.ms_runs_good.specs.GoodRuns.{SoundShadow, LeadsTo}
 use Rattle.ms_runs.specs.Shadow.{shadow_start}
+use Rattle.ms_runs_good.proofs.CallTypes.{both_none}
 use Rattle.ms_runs_good.proofs.Frames.{top_good, due_first}
 use Rattle.ms_runs_good.proofs.InstructionEffects.{formed_at, cast_fits}
 use Rattle.ms_runs_good.proofs.MaskRanges.{formulas_keep}
@@ -37,6 +48,7 @@ use Rattle.ms_runs_good.proofs.OpEffects.{CastFits, value_width, cast_allowed}
 use Rattle.ms_runs_good.proofs.Sound.{shadow_sound, shadow_keeps}
 use Rattle.ms_two_fills.specs.Placed.{SoundPlaced}
 use Rattle.ms_two_fills.proofs.Reading.{read_low}
+use Rattle.ms_two_fills.proofs.Addresses.{IsEven, PartsStand, IndicesStand, AddressStands}
 use Rattle.ms_two_fills.proofs.Ops.{CastStands}
 use Rattle.ms_two_fills.proofs.Calls.{CallStands}
 use Rattle.ms_two_fills.proofs.Kept.{globals_kept}
@@ -106,26 +118,143 @@ module _ (s : Setting) (values : Name → Poisoned) where
   call_stands (op.Ret v) n h = tt
   call_stands op.Unreachable n h = tt
 
+-- ---- indices of addresses
+
+int_width : (t : Ty) → is_int_type t ≡ true → (1 ≤ width_of t) × (width_of t ≤ 64)
+int_width (Int n) e = value_width (Int n) e
+int_width Ptr e = absurd (cc)
+int_width (Array' n shape item) e = absurd (cc)
+int_width (Struct' packed shape fields) e = absurd (cc)
+int_width (Named x) e = absurd (cc)
+
+width_32 : (t : Ty) → type_eq t (Int 32) ≡ true → width_of t ≡ 32
+width_32 (Int n) e = eqb-true n 32 e
+width_32 Ptr e = absurd (cc)
+width_32 (Array' n shape item) e = absurd (cc)
+width_32 (Struct' packed shape fields) e = absurd (cc)
+width_32 (Named x) e = absurd (cc)
+
+-- a number below 2 ^ 31 is its own reading as a signed word of 32 bits
+number_kept : (k : ℕ) → k < 2 ^ 31 → extended 32 (k % 2 ^ 32) ≡ k
+unfolding wrap
+number_kept k l =
+    let wide : k % 2 ^ 32 ≡ k = mod-eq_of_lt (omega (arith, l)) in
+    ap (extended 32) wide ∙ ap (wrap 64) (signed_low 31 k l) ∙ mod-eq_of_lt (omega (arith, l))
+
+-- of a test that is passed
+passes : (a b : Bool) (f : Option ℕ) (k : ℕ) → (if a && b then f else Some k) ≡ None → (b ≡ true) × (f ≡ None)
+passes true true f k e = (refl, e)
+passes true false f k e = absurd (cc)
+passes false b f k e = absurd (cc)
+
+module _ (s : Setting) (values : Name → Poisoned) where
+  -- an index leads into a struct by a number without a poisoned bit, and into the same part where it is read
+  abbrev Leads : ℕ → Ty → Operand → Ty → Type 0
+  Leads n t o r =
+      (IsEven r ⊎ ((read_poisoned s values n t o).mask ≡ 0))
+      × (part_type r (number_or_zero o) ≡ part_type r (extended (width_of t) (read_poisoned s values n t o).value))
+
+  -- a number that names a field is read as itself
+  field_leads : (n : ℕ) (t : Ty) (o : Operand) (ts : List Ty) → type_eq t (Int 32) ≡ true → is_below (min (length ts) (2 ^ 31)) o ≡ true
+      → ((read_poisoned s values n t o).mask ≡ 0) × (type_at ts (number_or_zero o) ≡ type_at ts (extended (width_of t) (read_poisoned s values n t o).value))
+  field_leads n t (operand.Int k) ts same below =
+      let few : k < 2 ^ 31 = under (length ts) (ltb-true k (min (length ts) (2 ^ 31)) below) in
+      let read : extended (width_of t) (k % 2 ^ width_of t) ≡ k = ap (λ w. extended w (k % 2 ^ w)) (width_32 t same) ∙ number_kept k few in
+      (refl, ap (type_at ts) (sym read))
+    where
+      under : (m : ℕ) → k < min m (2 ^ 31) → k < 2 ^ 31
+      under m l = omega (arith, l)
+  field_leads n t operand.Null ts same below = absurd (cc)
+  field_leads n t operand.Undef ts same below = absurd (cc)
+  field_leads n t operand.Poison ts same below = absurd (cc)
+  field_leads n t (operand.Local x) ts same below = absurd (cc)
+  field_leads n t (operand.Global x) ts same below = absurd (cc)
+  field_leads n t (operand.Offset u x is) ts same below = absurd (cc)
+
+  part_leads : (n : ℕ) (t : Ty) (o : Operand) (r : Ty) → leads_into r (t, o) ≡ true → Leads n t o r
+  part_leads n t o (Array' m shape item) h = (inl tt, refl)
+  part_leads n t o (Struct' packed shape fields) h =
+      let parts = and_parts (type_eq t (Int 32)) (is_below (min (length (row_types fields)) (2 ^ 31)) o) h in
+      let led = field_leads n t o (row_types fields) parts.0 parts.1 in
+      (inr led.0, led.1)
+  part_leads n t o (Int m) h = absurd (cc)
+  part_leads n t o Ptr h = absurd (cc)
+  part_leads n t o (Named x) h = absurd (cc)
+
+  parts_stand : (fits : Ty × Operand → Bool) (types : Types) (t : Ty) (k : ℕ) (is : List (Ty × Operand)) (n : ℕ) → list_all (λ i. is_int_type i.0) is ≡ true → first_misstep fits types t k is ≡ None
+      → PartsStand types t is (read_all (read_poisoned s values) is n)
+  parts_stand fits types t k [] n widths e = tt
+  parts_stand fits types t k (i ∷ is) n widths e =
+      let r = resolved types t in
+      let both = and_parts (is_int_type i.0) (list_all (λ i. is_int_type i.0) is) widths in
+      let width = int_width i.0 both.0 in
+      let next = passes (fits i) (leads_into r i) (first_misstep fits types (part_type r (number_or_zero i.1)) (suc k) is) k e in
+      let led = part_leads n i.0 i.1 r next.0 in (
+        width.0,
+        width.1,
+        led.0,
+        subst (λ u. PartsStand types u is (read_all (read_poisoned s values) is (n + one_undef i.1))) led.1
+            (parts_stand fits types (part_type r (number_or_zero i.1)) (suc k) is (n + one_undef i.1) both.1 next.1),
+      )
+
+  indices_stand : (fits : Ty × Operand → Bool) (types : Types) (t : Ty) (is : List (Ty × Operand)) (n : ℕ) → list_all (λ i. is_int_type i.0) is ≡ true → first_misstep fits types t 2 (drop 1 is) ≡ None
+      → IndicesStand types t is (read_all (read_poisoned s values) is n)
+  indices_stand fits types t [] n widths e = tt
+  indices_stand fits types t (i ∷ is) n widths e =
+      let both = and_parts (is_int_type i.0) (list_all (λ i. is_int_type i.0) is) widths in
+      let width = int_width i.0 both.0 in
+      (width.0, width.1, parts_stand fits types t 2 is (n + one_undef i.1) both.1 e)
+
+  address_stands : (m : Module) (f : Func) (fits : Ty × Operand → Bool) (o : Op) (n : ℕ) → shape_formed o ≡ true → op_fault m f fits o ≡ None → AddressStands m.types o (read_all (read_poisoned s values) (operands o) n)
+  address_stands m f fits (op.Gep t base is) n h e =
+      indices_stand fits m.types t is (n + one_undef base) (and_parts (type_formed t) (list_all (λ i. is_int_type i.0) is) h).1
+      (both_none (first_misfit fits 0 ((Ptr, base) ∷ take 1 is)) (first_misstep fits m.types t 2 (drop 1 is)) e).1
+  address_stands m f fits (op.Binary o g t a b) n h e = tt
+  address_stands m f fits (op.Icmp p g t a b) n h e = tt
+  address_stands m f fits (op.Cast o g t a u) n h e = tt
+  address_stands m f fits (op.Select c t a b) n h e = tt
+  address_stands m f fits (op.Freeze t a) n h e = tt
+  address_stands m f fits (op.Phi t edges) n h e = tt
+  address_stands m f fits (op.Alloca t u c) n h e = tt
+  address_stands m f fits (op.Load t a) n h e = tt
+  address_stands m f fits (op.Store t v a) n h e = tt
+  address_stands m f fits (op.Call r x args) n h e = tt
+  address_stands m f fits (op.Br to) n h e = tt
+  address_stands m f fits (op.CondBr c to otherwise) n h e = tt
+  address_stands m f fits (op.Switch t v otherwise cases) n h e = tt
+  address_stands m f fits (op.Ret v) n h e = tt
+  address_stands m f fits op.Unreachable n h e = tt
+
 -- ---- good states
 
 module _ (m : Module) (formed : Formed m) (valid : Valid m) where
-  due_stands : (s : Setting) (fr : Frame Poisoned) (below : List (Frame Poisoned)) → GoodFrames PoisonedBelow m (fr ∷ below) → (is : List Inst) → rest_of m fr ≡ is → DueStands s m is fr
-  due_stands s fr below frames [] e = tt
-  due_stands s fr below frames (i ∷ is) e =
+  -- an instruction that is due is at no fault
+  no_fault : (fr : Frame Poisoned) (f : Func) (i : Inst) → func_at m fr.func ≡ Some f → slice_get (insts_of f fr.block) fr.place ≡ Some i → op_fault m f (λ o. operand_fits m (value_type f) o.0 o.1) i.op ≡ None
+  no_fault fr f i at due =
+      let there : slice_get (insts_at m fr.func fr.block) fr.place ≡ Some i =
+      ap (λ o. slice_get (unwrap_or (option_map (λ k. k.insts) (slice_get (unwrap_or (option_map (λ g. g.blocks) o) []) fr.block)) []) fr.place) at ∙ due in
+      (fits_at m valid fr.func fr.block fr.place f i at there).types_agree
+
+  due_stands : (s : Setting) → m.types ≡ s.types → (fr : Frame Poisoned) (below : List (Frame Poisoned)) → GoodFrames PoisonedBelow m (fr ∷ below) → (is : List Inst) → rest_of m fr ≡ is → DueStands s m is fr
+  due_stands s same fr below frames [] e = tt
+  due_stands s same fr below frames (i ∷ is) e =
       let good = top_good PoisonedBelow m fr below frames in
       let due = due_first PoisonedBelow m fr good i is e in
+      let shape = shaped i.op (formed_at m formed fr.func good.func good.stands fr.block fr.place i due).0 in
       record {
         cast = cast_stands i.op (cast_fits IsBelow 0 m formed valid AnyOrigin fr.func fr.block fr.place good.func i good.stands due [] (λ x u. x) (λ x u z k c. c) i.op refl);
-        small = call_stands s fr.values i.op (here s m fr).root (shaped i.op (formed_at m formed fr.func good.func good.stands fr.block fr.place i due).0);
+        small = call_stands s fr.values i.op (here s m fr).root shape;
+        parts = subst (λ types. AddressStands types i.op (read_all (read_poisoned s fr.values) (operands i.op) (here s m fr).root)) same
+            (address_stands s fr.values m good.func (λ o. operand_fits m (value_type good.func) o.0 o.1) i.op (here s m fr).root shape (no_fault fr good.func i good.stands due));
       }
 
-  top_stands : (s : Setting) (fs : List (Frame Poisoned)) → GoodFrames PoisonedBelow m fs → TopStands s m fs
-  top_stands s [] frames = tt
-  top_stands s (fr ∷ below) frames = due_stands s fr below frames (rest_of m fr) refl
+  top_stands : (s : Setting) → m.types ≡ s.types → (fs : List (Frame Poisoned)) → GoodFrames PoisonedBelow m fs → TopStands s m fs
+  top_stands s same [] frames = tt
+  top_stands s same (fr ∷ below) frames = due_stands s same fr below frames (rest_of m fr) refl
 
-  pub good_sure : (s : Setting) → Sure (SoundPlaced m) s m
-  good_sure s = record {
-    stands = λ c g. top_stands s c.frames g.sound.frames;
+  pub good_sure : (s : Setting) → m.types ≡ s.types → Sure (SoundPlaced m) s m
+  good_sure s same = record {
+    stands = λ c g. top_stands s same c.frames g.sound.frames;
     fit = λ c g. record { bytes = g.sound.world.bytes; shadow = g.sound.world.shadow; sizes = g.sound.world.sizes; placed = g.placed };
   }
 

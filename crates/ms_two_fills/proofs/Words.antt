@@ -1,15 +1,15 @@
 -- Words that agree outside their masks, and the results of operations on them.
-use Rattle.std.proofs.Common.{◌≡◌, ℕ, ◌-◌, ◌*◌, ◌/◌, ◌%◌, ◌^◌, ◌<◌, List, [], ◌∷◌, map, Bool, true, false, cond, ◌||◌, eqb, leb, Result, Ok, Err, refl, sym, ap, ap₂, ◌∙◌, subst, arith, bit_or, bit_and, bit_xor, ⊎_elim, if◌then◌else◌}
+use Rattle.std.proofs.Common.{◌≡◌, ℕ, ◌+◌, ◌-◌, ◌*◌, ◌/◌, ◌%◌, ◌^◌, ◌<◌, List, [], ◌∷◌, map, Bool, true, false, cond, ◌||◌, eqb, leb, Result, Ok, Err, refl, sym, ap, ap₂, ◌∙◌, subst, arith, bit_or, bit_and, bit_xor, ⊎_elim, if◌then◌else◌}
 use Rattle.std.specs.Int.{bit_at}
 use Rattle.std.proofs.lemmas.Bool.{cases_lt, eqb-true}
-use Rattle.std.proofs.lemmas.Nat.{or_lt, xor_lt, and_le_l}
+use Rattle.std.proofs.lemmas.Nat.{or_lt, xor_lt, and_le_l, mod_below, pow_pos}
 use Rattle.std.proofs.lemmas.Nat.Bits.{bit_at_above, bit_at-zero, bit_at_or, same_from_bits, same_from_bits_below}
 use Rattle.ms_bits.specs.declared.operations.Flags.{Flags}
 use Rattle.ms_bits.specs.declared.operations.BinOp.{BinOp}
 use Rattle.ms_bits.specs.declared.operations.BinOp.TheVariants.{Add, Sub, Mul, Udiv, Sdiv, Urem, Srem, Shl, Lshr, Ashr, And, Or, Xor}
 use Rattle.ms_bits.specs.declared.traps.Trap.{Trap}
 use Rattle.ms_bits.specs.declared.traps.Trap.TheVariants.{Shift}
-use Rattle.ms_bits.specs.Arithmetic.{binary_of, shl_of, lshr_of, ashr_of, or_of}
+use Rattle.ms_bits.specs.Arithmetic.{binary_of, add_of, sub_of, mul_of, shl_of, lshr_of, ashr_of, or_of}
 use lib.Signed.{shr_z}
 use Rattle.ms_bits.specs.Signed.{signed, wrap}
 use Rattle.ms_bits.specs.Completion.{Agrees, Completes}
@@ -19,7 +19,7 @@ use Rattle.ms_bits.specs.NoFlags.{no_flags}
 use Rattle.ms_runs.specs.Masks.{by_formulas, union, binary_mask, shift_mask, value_or_zero}
 use Rattle.ms_runs.specs.World.{World}
 use Rattle.ms_runs.specs.Uses.{has_flag, binary_uses, blind_binary}
-use Rattle.ms_bits_laws.proofs.Agreement.{agrees_from_exact}
+use Rattle.ms_bits_laws.proofs.Agreement.{agrees_from_exact, add_agrees, sub_agrees, mul_agrees}
 use Rattle.ms_bits_laws.proofs.BitwiseMasks.{and_exact, or_exact, xor_exact}
 use Rattle.ms_bits_laws.proofs.FormulaMasks.{and_same, or_same}
 use Rattle.ms_bits_laws.proofs.OperationAgreement.{left_shifts_agree, right_shifts_agree, signed_shifts_agree, left_shift-lt, right_shift-lt, signed_shift-lt}
@@ -124,9 +124,9 @@ module _ (w : ℕ) (p q p' q' : Poisoned) (a : LowAt w p p') (b : LowAt w q q') 
       by_test false e = ap (λ t. if t then value_or_zero (binary_of o no_flags w p'.mask q'.value) else (2 ^ w - 1)) (sym e ∙ ap (λ m. eqb m 0) b.mask)
 
   pub binary_masks : (o : BinOp) → binary_mask by_formulas o w p q ≡ binary_mask by_formulas o w p' q'
-  binary_masks Add = ap₂ (λ m k. bit_or m k) a.mask b.mask
-  binary_masks Sub = ap₂ (λ m k. bit_or m k) a.mask b.mask
-  binary_masks Mul = ap₂ (λ m k. bit_or m k) a.mask b.mask
+  binary_masks Add = ap₂ (λ m k. formulas.carry_mask w (bit_or m k)) a.mask b.mask
+  binary_masks Sub = ap₂ (λ m k. formulas.carry_mask w (bit_or m k)) a.mask b.mask
+  binary_masks Mul = ap₂ (λ m k. formulas.carry_mask w (bit_or m k)) a.mask b.mask
   binary_masks Udiv = a.mask
   binary_masks Sdiv = a.mask
   binary_masks Urem = a.mask
@@ -165,6 +165,21 @@ module _ (w : ℕ) (p q p' q' : Poisoned) (a : LowAt w p p') (b : LowAt w q q') 
       from_width w _ _ _ (xor_lt w p.value q.value a.left.value b.left.value) (xor_lt w p'.value q'.value a.right.value b.right.value)
       (agrees_from_exact bit_xor w p.value p.mask q.value q.mask w _ (xor_exact w p.value p.mask q.value q.mask a.left.value a.left.mask b.left.value b.left.mask)
       p.value q.value p'.value q'.value (itself_completes w p p' a) (itself_completes w q q' b) (other_completes w p p' a) (other_completes w q q' b))
+
+  add_alike : AnswersAlike (formulas.carry_mask w (bit_or p.mask q.mask)) (Ok ((p.value + q.value) % 2 ^ w)) (Ok ((p'.value + q'.value) % 2 ^ w))
+  add_alike =
+      from_width w _ _ _ (mod_below _ (2 ^ w) (pow_pos w)) (mod_below _ (2 ^ w) (pow_pos w))
+      (add_agrees w p.mask q.mask a.left.mask b.left.mask p.value q.value p'.value q'.value a.value b.value)
+
+  sub_alike : AnswersAlike (formulas.carry_mask w (bit_or p.mask q.mask)) (Ok ((p.value + (2 ^ w - q.value)) % 2 ^ w)) (Ok ((p'.value + (2 ^ w - q'.value)) % 2 ^ w))
+  sub_alike =
+      from_width w _ _ _ (mod_below _ (2 ^ w) (pow_pos w)) (mod_below _ (2 ^ w) (pow_pos w))
+      (sub_agrees w p.mask q.mask a.left.mask b.left.mask p.value q.value p'.value q'.value b.left.value b.right.value a.value b.value)
+
+  mul_alike : AnswersAlike (formulas.carry_mask w (bit_or p.mask q.mask)) (Ok ((p.value * q.value) % 2 ^ w)) (Ok ((p'.value * q'.value) % 2 ^ w))
+  mul_alike =
+      from_width w _ _ _ (mod_below _ (2 ^ w) (pow_pos w)) (mod_below _ (2 ^ w) (pow_pos w))
+      (mul_agrees w p.mask q.mask a.left.mask b.left.mask p.value q.value p'.value q'.value a.value b.value)
 
   -- ---- shifts by an amount without a poisoned bit
 
@@ -229,12 +244,12 @@ module _ (w : ℕ) (p q p' q' : Poisoned) (a : LowAt w p p') (b : LowAt w q q') 
   -- ---- the operation
 
   -- without flags, where the words whose poison it would lose have none, and a divisor has none
-  plain_alike : (u : World) (o : BinOp) → AllClean (blind_binary true o (p ∷ q ∷ [])) → AllPassed u (p ∷ q ∷ []) (binary_uses o)
+  plain_alike : (u : World) (o : BinOp) → AllClean (blind_binary o (p ∷ q ∷ [])) → AllPassed u (p ∷ q ∷ []) (binary_uses o)
       → AnswersAlike (binary_mask by_formulas o w p q) (binary_of o no_flags w p.value q.value) (binary_of o no_flags w p'.value q'.value)
-  unfolding binary_of or_of
-  plain_alike u Add z d = both_clean no_flags Add z.0 z.1.0
-  plain_alike u Sub z d = both_clean no_flags Sub z.0 z.1.0
-  plain_alike u Mul z d = both_clean no_flags Mul z.0 z.1.0
+  unfolding binary_of add_of sub_of mul_of or_of
+  plain_alike u Add z d = add_alike
+  plain_alike u Sub z d = sub_alike
+  plain_alike u Mul z d = mul_alike
   plain_alike u Udiv z d = both_clean no_flags Udiv z.0 d.0
   plain_alike u Sdiv z d = both_clean no_flags Sdiv z.0 d.0
   plain_alike u Urem z d = both_clean no_flags Urem z.0 d.0
@@ -246,13 +261,13 @@ module _ (w : ℕ) (p q p' q' : Poisoned) (a : LowAt w p p') (b : LowAt w q q') 
   plain_alike u Or z d = or_alike
   plain_alike u Xor z d = xor_alike
 
-  pub binary_alike : (u : World) (o : BinOp) (f : Flags) → union (map (λ r. r.mask) (if has_flag f then (p ∷ q ∷ []) else blind_binary true o (p ∷ q ∷ []))) ≡ 0 → AllPassed u (p ∷ q ∷ []) (binary_uses o)
+  pub binary_alike : (u : World) (o : BinOp) (f : Flags) → union (map (λ r. r.mask) (if has_flag f then (p ∷ q ∷ []) else blind_binary o (p ∷ q ∷ []))) ≡ 0 → AllPassed u (p ∷ q ∷ []) (binary_uses o)
       → AnswersAlike (binary_mask by_formulas o w p q) (binary_of o f w p.value q.value) (binary_of o f w p'.value q'.value)
   binary_alike u o f quiet d = by_flags (has_flag f) refl quiet
     where
-      by_flags : (t : Bool) → has_flag f ≡ t → union (map (λ r. r.mask) (if t then (p ∷ q ∷ []) else blind_binary true o (p ∷ q ∷ []))) ≡ 0
+      by_flags : (t : Bool) → has_flag f ≡ t → union (map (λ r. r.mask) (if t then (p ∷ q ∷ []) else blind_binary o (p ∷ q ∷ []))) ≡ 0
           → AnswersAlike (binary_mask by_formulas o w p q) (binary_of o f w p.value q.value) (binary_of o f w p'.value q'.value)
       by_flags true e z = let c = union_clean (p ∷ q ∷ []) z in both_clean f o c.0 c.1.0
       by_flags false e z =
           subst (λ g. AnswersAlike (binary_mask by_formulas o w p q) (binary_of o g w p.value q.value) (binary_of o g w p'.value q'.value)) (sym (flagless f e))
-          (plain_alike u o (union_clean (blind_binary true o (p ∷ q ∷ [])) z) d)
+          (plain_alike u o (union_clean (blind_binary o (p ∷ q ∷ [])) z) d)

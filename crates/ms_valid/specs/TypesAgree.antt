@@ -1,6 +1,6 @@
 -- Each operand has the type that is asked for (LLVM Language Reference, "Instruction Reference", "'getelementptr'
 -- Instruction", "'call' Instruction", "'ret' Instruction", "'switch' Instruction"; own: which operand is named).
-use Rattle.std.specs.Prelude.{ℕ, suc, Bool, true, false, ◌&&◌, ◌||◌, not, nat_eq, nat_lt, List, [], ◌∷◌, ◌++◌, length, map, take, drop, if◌then◌else◌, Option, Some, None, is_some, is_none, codes}
+use Rattle.std.specs.Prelude.{ℕ, suc, ◌^◌, min, Bool, true, false, ◌&&◌, ◌||◌, not, nat_eq, nat_lt, List, [], ◌∷◌, ◌++◌, length, map, take, drop, if◌then◌else◌, Option, Some, None, is_some, is_none, codes}
 use Rattle.std.specs.List.{list_all, list_any}
 use Rattle.std.specs.Option.{option_or}
 use Rattle.ms_bits.specs.declared.operations.CastOp.{CastOp}
@@ -46,10 +46,11 @@ abbrev pub number_or_zero : Operand → ℕ
 number_or_zero (operand.Int k) = k
 number_or_zero o = 0
 
--- an index leads into a part of a type: any one into an array, and a constant `i32` in range into a struct
+-- an index leads into a part of a type: any one into an array, and a constant `i32` in range into a struct; runs read it with
+-- its sign, so it is below 2 ^ 31 too
 abbrev pub leads_into : Ty → Ty × Operand → Bool
 leads_into (Array' n shape item) index = true
-leads_into (Struct' packed shape fields) index = type_eq index.0 (Int 32) && is_below (length (row_types fields)) index.1
+leads_into (Struct' packed shape fields) index = type_eq index.0 (Int 32) && is_below (min (length (row_types fields)) (2 ^ 31)) index.1
 leads_into t index = false
 
 -- of the indices behind the first, which are counted from k on, the first that doesn't fit or leads into no part

@@ -26,10 +26,10 @@ pub returns-clause-sum : goal.returns-clause-sum
 unfolding words
 returns-clause-sum c = refl
 
-pub returns-clause-sum_with_carry : goal.returns-clause-sum_with_carry
+pub returns-clause-difference : goal.returns-clause-difference
 unfolding words
-returns-clause-sum_with_carry c = refl
+returns-clause-difference c = refl
 
-pub returns-clause-clean_sum_with_carry : goal.returns-clause-clean_sum_with_carry
+pub returns-clause-clean_product : goal.returns-clause-clean_product
 unfolding words
-returns-clause-clean_sum_with_carry c = refl
+returns-clause-clean_product c = refl

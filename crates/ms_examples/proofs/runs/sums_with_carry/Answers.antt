@@ -4,21 +4,25 @@ use Rattle.ms_ir.specs.ExampleModules.{lost_in_addition, carry_of_undef}
 use Rattle.ms_runs.specs.ExampleRuns.{defaults, filled}
 use Rattle.ms_examples.specs.Programs.{indexed_by_undef}
 use Rattle.ms_runs_laws.specs.Formulas.{formulas}
-use Rattle.ms_examples.proofs.Carried.{carried_computed}
+use Rattle.ms_runs_laws.proofs.ExactRules.{computed}
 use Rattle.ms_examples.proofs.runs.sums_with_carry.Goals as goal
 
 pub returns-clause-found : goal.returns-clause-found
 unfolding words formulas
-returns-clause-found c = carried_computed lost_in_addition defaults ∙ refl
+returns-clause-found c = computed lost_in_addition defaults ∙ refl
 
 pub returns-clause-found_under_zeros : goal.returns-clause-found_under_zeros
 unfolding words formulas
-returns-clause-found_under_zeros c = carried_computed lost_in_addition (filled (0 ∷ [])) ∙ refl
+returns-clause-found_under_zeros c = computed lost_in_addition (filled (0 ∷ [])) ∙ refl
+
+pub returns-clause-found_under_ones : goal.returns-clause-found_under_ones
+unfolding words formulas
+returns-clause-found_under_ones c = computed lost_in_addition (filled (1 ∷ [])) ∙ refl
 
 pub returns-clause-one_bit : goal.returns-clause-one_bit
 unfolding words formulas
-returns-clause-one_bit c = carried_computed carry_of_undef defaults ∙ refl
+returns-clause-one_bit c = computed carry_of_undef defaults ∙ refl
 
 pub returns-clause-index : goal.returns-clause-index
 unfolding words formulas
-returns-clause-index c = carried_computed indexed_by_undef defaults ∙ refl
+returns-clause-index c = computed indexed_by_undef defaults ∙ refl
