@@ -1,0 +1,365 @@
+#!/usr/bin/env bash
+# Checks the documents against the program and the tree:
+#
+# - runs the commands in the fenced blocks of README.md and docs/MANUAL.md, in a folder for each document, and compares what they
+#   print with what is shown. A file that `cat` shows before it exists is created from what is shown. Commands with `rt` prove
+#   everything, so only their paths are checked
+# - runs a small program for each row of MANUAL's two tables of refusals, and for some flags of its command; and commands that
+#   are wrong
+# - looks for each path, file, crate, function and clause that the documents name
+# - counts words: README.md, CONTRIBUTING.md and docs together have at most 12000
+#
+# Usage: documents.sh [PROGRAM], by default crates/msan/out/msan as `rt run` builds it. The status is 1 if anything is wrong.
+# Needs python3, awk, and clang and llvm-link of release 19, or of $RELEASE. Outside the gate.
+source "$(dirname "$0")/frame.sh"
+
+program=$(realpath -m "${1:-$top/crates/msan/out/msan}")
+[ -x "$program" ] || { echo "build it first: (cd crates/msan && rt run -- run ../../examples/stored.ll)" >&2; exit 1; }
+release=${RELEASE:-19}
+
+mkdir "$work/bin"
+ln -s "$program" "$work/bin/msan"
+ln -s "$(command -v "clang-$release")" "$work/bin/clang"
+ln -s "$(command -v "llvm-link-$release")" "$work/bin/llvm-link-19"
+PATH=$work/bin:$PATH
+
+python3 - "$top" "$work" <<'PYTHON'
+import glob, os, re, subprocess, sys
+
+top, work = sys.argv[1:3]
+TRANSCRIPTS = ["README.md", "docs/MANUAL.md"]
+NAMING = ["README.md", "CONTRIBUTING.md", "docs/MANUAL.md", "docs/PROVED.md", "docs/MAP.md", "docs/DEFINITIONS.md"]
+MOST_WORDS = 12000
+FENCE = re.compile(r"^```\n(.*?)^```$", re.M | re.S)
+faults = []
+
+
+def fault(document, text):
+    faults.append(text)
+    print(f"{document}: {text}")
+
+
+def read(name):
+    with open(os.path.join(top, name)) as file:
+        return file.read()
+
+
+# ---- commands and transcripts
+
+def commands_of(block):
+    """The commands of a block with the lines that stand below each."""
+    commands = []
+    for line in block.splitlines():
+        if line.startswith("$ "):
+            commands.append((line[2:], []))
+        elif commands:
+            commands[-1][1].append(line)
+    return commands
+
+
+def run(command, folder, status):
+    """What a command prints, and its status, after one that ended with this status."""
+    done = subprocess.run(["bash", "-c", f"(exit {status})\n{command}"], cwd=folder, stdin=subprocess.DEVNULL,
+                          stdout=subprocess.PIPE, stderr=subprocess.STDOUT, timeout=600)
+    return done.stdout.decode(errors="replace"), done.returncode
+
+
+def check_transcript(document, block, folder):
+    status = 0
+    for command, shown in commands_of(block):
+        words = command.split()
+        if words[0] == "cat" and not os.path.exists(f"{folder}/{words[1]}"):
+            with open(f"{folder}/{words[1]}", "w") as file:
+                file.write("\n".join(shown) + "\n")
+            continue
+        printed, status = run(command, folder, status)
+        if printed.splitlines() != shown:
+            fault(document, f"$ {command}\n  shown:\n    " + "\n    ".join(shown) + "\n  printed:\n    " + printed.replace("\n", "\n    "))
+
+
+def check_command(document, command, folder):
+    """A command that is shown without what it prints."""
+    if re.search(r"\brt\b", command):
+        below = re.search(r"\bcd (\S+)", command)
+        below = os.path.join(top, below[1] if below else "")
+        for path in re.findall(r"(?:\.\./)+\S+?(?=[)\s]|$)", command) + [""]:
+            if not os.path.exists(os.path.join(below, path)):
+                fault(document, f"{command}: no {path or below}")
+        return
+    for name in re.findall(r"\b\w+\.c\b", command):
+        with open(f"{folder}/{name}", "w") as file:
+            file.write("int main(void) { return 0; }\n")
+    printed, status = run(command, folder, 0)
+    if status != 0:
+        fault(document, f"{command}: status {status}, {printed}")
+
+
+def check_commands(document):
+    folder = f"{work}/{os.path.basename(document)}.folder"
+    os.mkdir(folder)
+    os.symlink(f"{top}/examples", f"{folder}/examples")
+    count = 0
+    for block in FENCE.findall(read(document)):
+        if block.startswith("$ "):
+            check_transcript(document, block, folder)
+            count += len(commands_of(block))
+        else:
+            for line in block.splitlines():
+                check_command(document, line.split("  #")[0].strip(), folder)
+                count += 1
+    print(f"{document}: {count} commands")
+    return set(os.listdir(folder))
+
+
+# ---- what isn't taken: a program, and the message that MANUAL has for it
+
+C = {
+    '#include <stdio.h>\nint main(void) { printf("%d", 3); return 0; }': "14: external @printf",
+    '#include <stdio.h>\nint main(void) { int n; scanf("%d", &n); return n; }': "5: outside function type",
+    '#include <stdio.h>\nint main(void) { char b[9]; sprintf(b, "%d", 3); return 0; }': "4: syntax",
+    "static int f(void) { return 0; }\nstatic int g(int (*p)(void)) { return p(); }\nint main(void) { return g(f); }": "5: outside indirect call",
+    "void f(void (*)(void)) {}\nstatic void g(void) {}\nint main(void) { f(g); return 0; }": "11: type",
+    "static int f(void) { return 0; }\nstruct { int k; int (*p)(void); } rows[] = {{1, f}};\nint main(void) { return rows[0].k; }":
+        "11: type at site 0, operand 0",
+    '#include <stdio.h>\nint main(void) { fputs("x", stderr); return 0; }': "5: outside external global",
+    "int main(int argc, char **argv) { return argc; }": "13: no main",
+    '#include <string.h>\nint main(void) { char b[9]; strcpy(b, "x"); return 0; }': "14: external @strcpy",
+    "#include <ctype.h>\nint main(void) { return isdigit('3'); }": "14: external @__ctype_b_loc",
+    "#include <errno.h>\nint main(void) { return errno; }": "14: external @__errno_location",
+    "int f(void);\nint main(void) { return f(); }": "14: external @f",
+    "extern int n;\nint main(void) { return n; }": "5: outside external global",
+    "volatile int n;\nint main(void) { return n; }": "5: outside volatile",
+    "double half(int n) { return n; }\nint main(void) { return 0; }": "5: outside floating point",
+    "int main(void) { double d = 1.5; return 0; }": "1: bad byte",
+    "int main(void) { unsigned __int128 n = 3; return 0; }": "5: outside wide integer",
+    "typedef int four __attribute__((vector_size(16)));\nint main(void) { four v = {1}; return v[0]; }": "5: outside vector",
+    "#include <assert.h>\nint main(void) { int n = 1; assert(n); return 0; }": "14: external @__assert_fail",
+    "int main(void) { unsigned n = 8; return __builtin_ctz(n); }": "14: external @llvm.cttz.i32",
+    "#include <stdarg.h>\nint f(int n, ...) { va_list v; va_start(v, n); return 0; }\nint main(void) { return 0; }": "5: outside variadic",
+    "void f(int n, ...);\nint main(void) { f(1, 2); return 0; }": "5: outside function type",
+    "static int f(int n, ...) { return n; }\nint main(void) { return f(1, 2); }": "4: syntax",
+    "struct s { long x, y; };\nstatic struct s f(void) { struct s s = {1}; return s; }\nint main(void) { f(); return 0; }": "5: outside aggregate value",
+    "int main(void) { int n; return __builtin_add_overflow(1, 2, &n); }": "5: outside aggregate value",
+    "struct s { long x, y, z; };\nstatic void f(struct s s) {}\nint main(void) { struct s s = {1}; f(s); return 0; }": "5: outside by value",
+    "int main(void) { int n = 4, a[n]; a[0] = 1; return 0; }": "14: external @llvm.stacksave.p0",
+    "int m[3][4];\nint main(void) { return m[2][1]; }": "4: syntax",
+    "int a[4];\nint main(void) { int *p = a + 2; return p - a; }": "5: outside constant expression",
+    "static void f(void) {}\n__attribute__((constructor)) static void g(void) {}\nint main(void) { f(); return 0; }": "11: type",
+    "__attribute__((weak)) int f(void);\nint main(void) { return f ? 1 : 0; }": "11: type",
+}
+# What a flag of the command is for: a program, a change of the command, and what is printed without it and with it.
+SUM = "int main(void) { int a[4] = {1, 2, 3}, sum, k; for (k = 0; k < 4; k++) sum += a[k] * 1000000000; return sum > 9; }"
+LOOP = "int main(void) { int *p = 0; for (int k = 0; k < 2; k++) { int x; if (k == 0) x = 7; p = &x; } return *p; }"
+BRANCH = "int puts(const char *);\nint main(void) { int wanted; if (wanted == 3) puts(\"three\"); return 0; }"
+AHEAD = "__attribute__((noinline)) int f(int n, int a, int b) { if (n) return a + b; return 0; }\nint main(void) { return f(0, 2147483647, 1); }"
+FLAGS = [
+    (SUM, ("-fwrapv ", ""), "end: trap nsw.*verdict: unsure", "report 1: exit"),
+    (LOOP, ("-O1 ", "-O0 "), "end: exit 7.*verdict: clean", "report 1: exit"),
+    (BRANCH, ("-Xclang -disable-llvm-passes ", ""), "end: trap unreachable", "report 1: branch"),
+    (AHEAD, ("-fwrapv -fno-discard-value-names -Xclang -disable-llvm-passes ", ""), "end: trap nsw", "end: exit 0"),
+]
+CURES = [
+    "int m[3][4];\nint main(void) { int *row = m[2]; return row[1]; }",
+    "int a[4];\nint main(void) { int *p = a + 2, *start = a; return p - start - 2; }",
+]
+MAIN = "define i32 @main() {\n  %s\n}\n"
+TEXTS = {
+    "?": "1: bad byte",
+    '"abc': "2: open string",
+    ";\n" + "," * 1048577: "3: too many tokens",
+    "define i32 @main() {": "4: syntax",
+    MAIN % "%1 = fadd i32 1, 2": "5: outside floating point",
+    "".join(f"@g{n} = global i8 0\n" for n in range(16385)): "6: limit globals",
+    MAIN % "%2 = alloca i32": "7: numbering",
+    MAIN % "%__msan.x = add i32 1, 2": "8: reserved",
+    MAIN % "%a = add i32 1, 2\n  br label %a\na:\n  ret i32 0": "9: duplicate %a",
+    MAIN % "ret i32 %9": "10: unknown %9",
+    MAIN % "ret i64 0": "11: type",
+    MAIN % "br label %0": "12: phi",
+    "": "13: no main",
+    "declare void @f()\n" + MAIN % "call void @f()\n  ret i32 0": "14: external @f",
+    MAIN % "br i1 0, label %1, label %2\n1:\n  %x = add i32 1, 2\n  br label %2\n2:\n  ret i32 %x": "15: undefined at site 4, path 0 2",
+    "@g = global [67108865 x i8] zeroinitializer\n" + MAIN % "ret i32 0": "17: size of @g",
+}
+OTHERS = [(MAIN % "ret i32 undef", "end: exit 2779096485\n")]
+MARKED = MAIN % "%1 = alloca i32, !nosanitize !0\n  ret i32 0" + "!0 = !{}\n"
+
+
+def message(text, command="check"):
+    with open(f"{work}/text.ll", "w") as file:
+        file.write(text)
+    return run(f"msan {command} {work}/text.ll", work, 0)[0]
+
+
+def compiled(source, command):
+    with open(f"{work}/x.c", "w") as file:
+        file.write(source + "\n")
+    printed, status = run(f"{command} -w", work, 0)
+    if status != 0:
+        fault("docs/MANUAL.md", f"{source}\n  clang: {printed}")
+    with open(f"{work}/x.ll") as file:
+        return file.read()
+
+
+def check_refusals():
+    manual = read("docs/MANUAL.md")
+    command = FENCE.search(manual)[1].strip()
+    said = [(source, message(compiled(source, command)), told) for source, told in C.items()]
+    said += [(text[:60], message(text), told) for text, told in TEXTS.items()]
+    said.append((MARKED, message(MARKED, "run"), "16: mark"))
+    for source, printed, told in said:
+        if not printed.startswith("refused " + told):
+            fault("docs/MANUAL.md", f"{source}\n  printed: {printed}  not: {told}")
+        name = told.split()[-1]
+        if f"`{told}" not in manual and not (name.startswith("@") and f"`{name}`" in manual):
+            fault("docs/MANUAL.md", f"doesn't name {told}")
+    for source in CURES:
+        printed = message(compiled(source, command))
+        if not printed.startswith("end: exit 0\n"):
+            fault("docs/MANUAL.md", f"{source}\n  printed: {printed}")
+    for text, printed in OTHERS:
+        if printed not in message(text, "run"):
+            fault("docs/MANUAL.md", f"{text}\n  not: {printed}")
+    for source, change, without, given in FLAGS:
+        for words, printed in (command, given), (command.replace(*change), without):
+            if not re.match(printed, message(compiled(source, words)), re.S):
+                fault("docs/MANUAL.md", f"{source}\n  {words}\n  not: {printed}")
+    print(f"docs/MANUAL.md: {len(said)} refusals, {len(FLAGS)} flags")
+
+
+# ---- commands by their words: how what they print begins, and their status
+
+WORDS = {
+    "": ("words: UnknownCommand at 0", 2),
+    "fly": ("words: UnknownCommand at 0", 2),
+    "check --seed 1 f": ("words: UnknownOption at 1", 2),
+    "gen --run=x": ("words: UnknownOption at 1", 2),
+    "check --steps 1 --steps 2 f": ("words: Repeated at 3", 2),
+    "check --steps": ("words: MissingValue at 2", 2),
+    "check": ("words: MissingFile at 1", 2),
+    "corpus f": ("words: MissingFile at 2", 2),
+    "gen --seed 1": ("words: MissingOption at 3", 2),
+    "check --steps 01 f": ("words: BadNumber at 2", 2),
+    "check --fill a f": ("words: BadHex at 2", 2),
+    "check --steps=1000000001 f": ("words: OutOfRange at 1", 2),
+    "run --reports 1001 f": ("words: OutOfRange at 2", 2),
+    "check f g": ("words: Extra at 2", 2),
+    "check -- --steps": ("file fault: --steps", 6),
+    "check --input text.ll -": ("file fault: -", 6),
+    "corpus nowhere.ll nofile": ("file fault: nowhere.ll", 6),
+    "gen --seed 7 --functions 2 --run": ("functions: 3", 0),
+    "help check": ("usage", 0),
+    "version please": ("msan 0.2.0", 0),
+}
+
+
+def check_words():
+    manual = read("docs/MANUAL.md")
+    for words, (printed, status) in WORDS.items():
+        found, ended = run(f"msan {words}", work, 0)
+        if not found.lower().startswith(printed.lower()) or ended != status:
+            fault("docs/MANUAL.md", f"msan {words}\n  printed: {found}  status: {ended}\n  not: {printed}, {status}")
+        if printed.startswith("words: ") and f"`{printed.split()[1]}`" not in manual:
+            fault("docs/MANUAL.md", f"doesn't name {printed}")
+    print(f"docs/MANUAL.md: {len(WORDS)} commands by their words")
+
+
+# ---- names
+
+def sources(crate, modules):
+    """The files of a crate's code, or those of the module that a path names."""
+    files = glob.glob(f"{top}/crates/{crate}/src/**/*.rt", recursive=True)
+    for module in modules:
+        files = [f for f in files if f.endswith(f"/{module}.rt") or f"/{module}/" in f]
+    return [read(f) for f in files]
+
+
+def is_declared(crate, modules, name):
+    declared = rf"\b(?:fn|struct|enum|trait|type|const|static|mod)\s+{name}\b|\bpub use [^;]*\b{name}\b"
+    return any(re.search(declared, source) for source in sources(crate, modules))
+
+
+def clauses(crate, modules, name):
+    """The names of the clauses of a function: what stands between its name and its body."""
+    found = set()
+    for source in sources(crate, modules):
+        for head in re.findall(rf"\bfn {name}\b(.*?)(?:^\s*\{{|\Z)", source, re.M | re.S):
+            found |= set(re.findall(r"\bensures (\w+) \{", head))
+    return found
+
+
+def names_of(path):
+    """The crate, the modules and the names of a path such as `ms_ir::{site_of, place_of}`."""
+    parts = path.split("::")
+    last = re.findall(r"\w+", parts[-1])
+    return parts[0], parts[1:-1], last
+
+
+def check_functions(document, prose):
+    count = 0
+    path = r"(ms_\w+(?:::\w+)*::(?:\w+|\{[^}]*\}))"
+    for found in re.finditer(rf"`{path}`(?:\s+\(((?:`\w+`(?:,\s+)?)+)\))?", prose):
+        crate, modules, names = names_of(found[1])
+        for name in names:
+            count += 1
+            if not is_declared(crate, modules, name):
+                fault(document, f"no {name} in {found[1]}")
+            for clause in re.findall(r"\w+", found[2] or ""):
+                count += 1
+                if clause not in clauses(crate, modules, name):
+                    fault(document, f"no clause {clause} of {name} in {found[1]}")
+    return count
+
+
+def exists(path, files, shown):
+    if re.match(r"crates/\w+/out\b", path):
+        return True
+    if any(glob.glob(os.path.join(top, start, path)) for start in ("", "crates", "docs")):
+        return True
+    return "/" not in path and (path in shown or path in files)
+
+
+def check_names(document, files, shown):
+    prose = FENCE.sub("", read(document))
+    words = {word.rstrip("./") for word in re.findall(r"(?<![\w/.@%$-])[\w*][\w*./-]*", prose)}
+    paths = {word for word in words if re.search(r"\.(?:md|sh|rt|antt|ll|txt|edit)$", word) or re.match(r"(?:crates|docs|bench|examples|ms_\w+)/", word)}
+    crates = set(re.findall(r"(?<![\w/%@:.])ms_\w+\*?", prose))
+    for path in sorted(paths):
+        if not exists(path, files, shown):
+            fault(document, f"no {path}")
+    for crate in sorted(crates):
+        if not glob.glob(f"{top}/crates/{crate}"):
+            fault(document, f"no crate {crate}")
+    functions = check_functions(document, prose)
+    print(f"{document}: {len(paths)} paths, {len(crates)} crates, {functions} functions and clauses")
+
+
+# ---- words
+
+def count_words():
+    total = 0
+    for document in ["README.md", "CONTRIBUTING.md"] + sorted(glob.glob("docs/*.md", root_dir=top)):
+        if os.path.exists(os.path.join(top, document)):
+            words = len(read(document).split())
+            total += words
+            print(f"{words:6} {document}")
+    print(f"{total:6} words, of at most {MOST_WORDS}")
+    if total > MOST_WORDS:
+        fault("documents", f"{total} words")
+
+
+files = {name for folder, _, names in os.walk(top) if not re.search(r"/(?:out|\.git)(?:/|$)", folder) for name in names}
+shown = set()
+for document in TRANSCRIPTS:
+    shown |= check_commands(document)
+check_refusals()
+check_words()
+for document in NAMING:
+    if os.path.exists(os.path.join(top, document)):
+        check_names(document, files, shown)
+    else:
+        fault(document, "is missing")
+count_words()
+print(f"{len(faults)} faults")
+sys.exit(1 if faults else 0)
+PYTHON
