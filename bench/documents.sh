@@ -248,7 +248,7 @@ WORDS = {
     "check --input text.ll -": ("file fault: -", 6),
     "corpus nowhere.ll nofile": ("file fault: nowhere.ll", 6),
     "gen --seed 7 --functions 2 --run": ("functions: 3", 0),
-    "help check": ("usage", 0),
+    "help check": ("msan finds uses", 0),
     "version please": ("msan 0.2.0", 0),
 }
 

@@ -32,7 +32,7 @@ use Rattle.ms_text_laws.proofs.FormedModules.{read_formed}
 use Rattle.ms_text_laws.proofs.SmallLimits.{can_instrument}
 use Rattle.ms_top.specs.declared.answers.Answer.{Answer}
 use Rattle.ms_words.specs.declared.commands.Command.{Command}
-use Rattle.ms_words.specs.declared.commands.Command.TheVariants.{Instrument, Run, Check, Corpus, Gen}
+use Rattle.ms_words.specs.declared.commands.Command.TheVariants.{Instrument, Run, Check, Corpus, Gen, Help, Version}
 use Rattle.ms_words.specs.declared.commands.Options.{Options}
 use Rattle.ms_report.specs.declared.refusals.Refusal.TheVariants.{Read as Of, Check as OfCheck}
 use Rattle.ms_words.specs.Limits.{RunsWithinLimits}
@@ -155,6 +155,8 @@ ready (Run file o) form text r m same read is = tt
 ready (Check file o) form text r m same read is = read_plain form text r m same read is
 ready (Corpus file inputs o workers) form text r m same read is = read_plain form text r m same read is
 ready (Gen seed functions run) form text r m same read is = read_plain form text r m same read is
+ready Help form text r m same read is = read_plain form text r m same read is
+ready Version form text r m same read is = read_plain form text r m same read is
 
 -- numbers that are bytes pass the test for it
 bytes_pass : (text : List ℕ) → ((i : ℕ) → slice_index_or text i 0 < 2 ^ 8) → IsTrue (are_bytes text)
@@ -218,3 +220,5 @@ file_limit (Run file o) n h = h
 file_limit (Check file o) n h = h
 file_limit (Corpus file inputs o workers) n h = h
 file_limit (Gen seed functions run) n h = h
+file_limit Help n h = h
+file_limit Version n h = h

@@ -3,6 +3,7 @@ pub mod Answering
 pub mod Faithful
 pub mod Ok
 pub mod OneAnswer
+pub mod Questions
 pub mod Reading
 pub mod SameLines
 pub mod Saying

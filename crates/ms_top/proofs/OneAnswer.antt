@@ -19,7 +19,7 @@ use Rattle.ms_written.specs.Modules.{written}
 use Rattle.ms_report.specs.FaultTexts.{fault_text}
 use Rattle.ms_top.specs.declared.answers.Answer.{Answer}
 use Rattle.ms_words.specs.declared.commands.Command.{Command}
-use Rattle.ms_words.specs.declared.commands.Command.TheVariants.{Instrument, Run, Check, Corpus, Gen}
+use Rattle.ms_words.specs.declared.commands.Command.TheVariants.{Instrument, Run, Check, Corpus, Gen, Help, Version}
 use Rattle.ms_words.specs.declared.commands.WordsError.{WordsError}
 use Rattle.ms_words.specs.Words.{command_of, defaults}
 use Rattle.ms_gen.specs.Generator.{generated}
@@ -64,6 +64,8 @@ of_valid (Run file o) inputs m a b p q = p ∙ sym q
 of_valid (Corpus file names o workers) inputs m a b (j, p, is) (k, q, same) =
     is ∙ ap (λ n. answer_of_results m names (map (λ input. plain n (setup_of o input)) inputs)) (made_once m j k p q) ∙ sym same
 of_valid (Gen seed functions run) inputs m a b p q = of_gen run m a b p q
+of_valid Help inputs m a b p q = p ∙ sym q
+of_valid Version inputs m a b p q = p ∙ sym q
 of_valid (Check file o) inputs m a b (j, p, is) (k, q, same) = is ∙ ap (λ n. answer_of_result true m (plain n (setup_of o (only_input inputs)))) (made_once m j k p q) ∙ sym same
 
 module _ (command : Command) (inputs : List (List ℕ)) where
@@ -135,6 +137,8 @@ module _ (c : Counted) (files : Holdings) (told : c.told ≡ Some files) (steady
   without_file (Check file o) a b p q = absurd p
   without_file (Corpus file names o workers) a b p q = absurd p
   without_file (Gen seed functions run) a b p q = of_gen run (generated seed functions) a b p q
+  without_file Help a b p q = p ∙ sym q
+  without_file Version a b p q = p ∙ sym q
 
   of_texts : (command : Command) (texts : List (List ℕ)) (a b : Answer) → IsAnswerToTexts IsInstrumented command texts a → IsAnswerToTexts IsInstrumented command texts b
       → (a ≡ b) ⊎ DifferInPath a b

@@ -11,7 +11,7 @@ use Rattle.ms_io.specs.Reading.{Holdings, IsWholeFile, IsAbsent, IsTooLong, IfFa
 use Rattle.ms_report.specs.RunTexts.{line}
 use Rattle.ms_top.specs.declared.answers.Answer.{Answer}
 use Rattle.ms_words.specs.declared.commands.Command.{Command}
-use Rattle.ms_words.specs.declared.commands.Command.TheVariants.{Gen}
+use Rattle.ms_words.specs.declared.commands.Command.TheVariants.{Gen, Help, Version}
 use Rattle.ms_words.specs.declared.commands.WordsError.{WordsError}
 use Rattle.ms_words.specs.declared.commands.WordsError.TheVariants.{NoMemory as WantsMemory}
 use Rattle.ms_words.specs.Words.{command_of, name_of, place_of, IsAnswer as IsRead}
@@ -24,7 +24,7 @@ use Rattle.ms_top.specs.Instrumented.{IsInstrumented}
 use Rattle.ms_tables.proofs.Items.{drop_item}
 use Rattle.ms_top.specs.Parts.{AreShort, IsAnswerBehind, IsAnswerToFault, is_want_of_memory}
 use Rattle.ms_report.specs.WordsTexts.{words_text}
-use Rattle.ms_top.specs.Said.{says, IsAnswerOfGen, IsAnswerToText, IsAnswerToFiles, IsAnswerToCommand, IsAnswerFor, IsAnswer}
+use Rattle.ms_top.specs.Said.{says, answer_of_help, answer_of_version, IsAnswerOfGen, IsAnswerToText, IsAnswerToFiles, IsAnswerToCommand, IsAnswerFor, IsAnswer}
 
 -- ---- words
 
@@ -52,6 +52,14 @@ no_command words r command fault (inr read) is wrong = absurd cc
 pub generated_answer : (Gives : Module → Module → Type 0) (c : Counted) (command : Command) (seed functions : ℕ) (run : Bool) (a : Answer) → command ≡ Gen seed functions run
     → IsAnswerOfGen Gives run (generated seed functions) a → IsAnswerToCommand Gives c command a
 generated_answer Gives c command seed functions run a is answers = subst (λ x. IsAnswerToCommand Gives c x a) (sym is) (Whole [], refl, answers)
+
+pub help_answer : (Gives : Module → Module → Type 0) (c : Counted) (command : Command) (a : Answer) → command ≡ Help → a ≡ answer_of_help
+    → IsAnswerToCommand Gives c command a
+help_answer Gives c command a is answers = subst (λ x. IsAnswerToCommand Gives c x a) (sym is) (Whole [], refl, answers)
+
+pub version_answer : (Gives : Module → Module → Type 0) (c : Counted) (command : Command) (a : Answer) → command ≡ Version → a ≡ answer_of_version
+    → IsAnswerToCommand Gives c command a
+version_answer Gives c command a is answers = subst (λ x. IsAnswerToCommand Gives c x a) (sym is) (Whole [], refl, answers)
 
 -- ---- the first file
 

@@ -7,7 +7,7 @@ use Rattle.ms_read_body.specs.declared.errors.ReadError.{ReadError}
 use Rattle.ms_read_body.specs.declared.errors.ReadError.TheVariants as e
 use Rattle.ms_top.specs.declared.answers.Answer.{Answer}
 use Rattle.ms_words.specs.declared.commands.Command.{Command}
-use Rattle.ms_words.specs.declared.commands.Command.TheVariants.{Instrument, Run, Check, Corpus, Gen}
+use Rattle.ms_words.specs.declared.commands.Command.TheVariants.{Instrument, Run, Check, Corpus, Gen, Help, Version}
 use Rattle.ms_words.specs.declared.commands.WordsError.{WordsError}
 use Rattle.ms_words.specs.Words.{command_of}
 use Rattle.ms_gen.specs.Generator.{generated}
@@ -44,6 +44,8 @@ module _ (Gives : Module → Module → Type 0) where
   to_valid-not_seven (Check file o) inputs m a (j, gives, is) = with-status a _ _ _ is (chosen-not_seven _ _)
   to_valid-not_seven (Corpus file names o workers) inputs m a (j, gives, is) = with-status a _ _ _ is (all-not_seven _ _ _)
   to_valid-not_seven (Gen seed functions run) inputs m a is = of_gen-not_seven run m a is
+  to_valid-not_seven Help inputs m a is = with-status a 0 _ _ is (λ h. omega arith)
+  to_valid-not_seven Version inputs m a is = with-status a 0 _ _ is (λ h. omega arith)
 
   to_module-not_seven : (command : Command) (inputs : List (List ℕ)) (m : Module) (a : Answer) → IsAnswerToModule Gives command inputs m a → a.status ≢ 7
   to_module-not_seven command inputs m a (inl (fault, refused, is)) = with-status a 5 _ _ is (λ h. omega arith)
@@ -64,6 +66,8 @@ module _ (Gives : Module → Module → Type 0) where
   without_file-not_seven (Check file o) a is = absurd is
   without_file-not_seven (Corpus file names o workers) a is = absurd is
   without_file-not_seven (Gen seed functions run) a is = of_gen-not_seven run (generated seed functions) a is
+  without_file-not_seven Help a is = with-status a 0 _ _ is (λ h. omega arith)
+  without_file-not_seven Version a is = with-status a 0 _ _ is (λ h. omega arith)
 
   to_texts-not_seven : (command : Command) (texts : List (List ℕ)) (a : Answer) → IsAnswerToTexts Gives command texts a → a.status ≢ 7
   to_texts-not_seven command [] a is = without_file-not_seven command a is

@@ -4,18 +4,20 @@ use Rattle.ms_runs.specs.declared.runs.Setup.{Setup}
 use Rattle.ms_ir.specs.declared.forms.Form.{Form}
 use Rattle.ms_ir.specs.declared.forms.Form.TheVariants.{Plain, Instrumented}
 use Rattle.ms_words.specs.declared.commands.Command.{Command}
-use Rattle.ms_words.specs.declared.commands.Command.TheVariants.{Instrument, Run, Check, Corpus, Gen}
+use Rattle.ms_words.specs.declared.commands.Command.TheVariants.{Instrument, Run, Check, Corpus, Gen, Help, Version}
 use Rattle.ms_words.specs.declared.commands.Options.{Options}
 
 -- ---- parts of a command
 
--- the name of the module's file; `gen` makes its module
+-- the name of the module's file; `gen` makes its module, `help` and `version` have none
 abbrev pub module_file : Command → Option (List ℕ)
 module_file (Instrument file) = Some file
 module_file (Run file options) = Some file
 module_file (Check file options) = Some file
 module_file (Corpus file inputs options workers) = Some file
 module_file (Gen seed functions run) = None
+module_file Help = None
+module_file Version = None
 
 -- the form in which the module is read
 abbrev pub form_of : Command → Form
@@ -24,6 +26,8 @@ form_of (Run file options) = Instrumented
 form_of (Check file options) = Plain
 form_of (Corpus file inputs options workers) = Plain
 form_of (Gen seed functions run) = Plain
+form_of Help = Plain
+form_of Version = Plain
 
 -- the most bytes that the module's text may have
 abbrev pub module_limit : Command → ℕ
@@ -32,6 +36,8 @@ module_limit (Run file options) = 2 ^ 27
 module_limit (Check file options) = 2 ^ 22
 module_limit (Corpus file inputs options workers) = 2 ^ 22
 module_limit (Gen seed functions run) = 2 ^ 22
+module_limit Help = 2 ^ 22
+module_limit Version = 2 ^ 22
 
 -- the names of the inputs' files; `instrument` runs nothing, and what is generated reads nothing
 abbrev pub input_names : Command → List (List ℕ)
@@ -40,6 +46,8 @@ input_names (Run file options) = option_to_list options.input
 input_names (Check file options) = option_to_list options.input
 input_names (Corpus file inputs options workers) = inputs
 input_names (Gen seed functions run) = []
+input_names Help = []
+input_names Version = []
 
 -- ---- files
 

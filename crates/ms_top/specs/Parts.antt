@@ -10,7 +10,7 @@ use Rattle.ms_valid.specs.Uninstrumented.{CanInstrument}
 use Rattle.ms_report.specs.RunTexts.{line}
 use Rattle.ms_top.specs.declared.answers.Answer.{Answer}
 use Rattle.ms_words.specs.declared.commands.Command.{Command}
-use Rattle.ms_words.specs.declared.commands.Command.TheVariants.{Instrument, Run, Check, Corpus, Gen}
+use Rattle.ms_words.specs.declared.commands.Command.TheVariants.{Instrument, Run, Check, Corpus, Gen, Help, Version}
 use Rattle.ms_words.specs.declared.commands.WordsError.{WordsError}
 use Rattle.ms_words.specs.declared.commands.WordsError.TheVariants.{NoMemory as WantsMemory}
 use Rattle.ms_runs.specs.Limits.{WithinLimits}
@@ -38,6 +38,8 @@ IsReady (Run file options) m = Unit {0}
 IsReady (Check file options) m = CanInstrument m
 IsReady (Corpus file inputs options workers) m = CanInstrument m
 IsReady (Gen seed functions run) m = CanInstrument m
+IsReady Help m = CanInstrument m
+IsReady Version m = CanInstrument m
 
 -- the fault in words is want of memory
 abbrev pub is_want_of_memory : WordsError → Bool

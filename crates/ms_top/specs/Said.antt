@@ -25,8 +25,9 @@ use Rattle.ms_report.specs.WordsTexts.{words_text}
 use Rattle.ms_top.specs.declared.answers.Answer.{Answer}
 use Rattle.ms_gen.specs.Generator.{generated}
 use Rattle.ms_words.specs.declared.commands.Command.{Command}
-use Rattle.ms_words.specs.declared.commands.Command.TheVariants.{Instrument, Run, Check, Corpus, Gen}
+use Rattle.ms_words.specs.declared.commands.Command.TheVariants.{Instrument, Run, Check, Corpus, Gen, Help, Version}
 use Rattle.ms_words.specs.declared.commands.WordsError.{WordsError}
+use Rattle.ms_words.specs.Usage.{usage, version_line}
 use Rattle.ms_words.specs.Words.{command_of, defaults, name_of, place_of}
 use Rattle.ms_words.specs.declared.commands.Options.{Options}
 use Rattle.ms_top.specs.Command.{form_of, files_of, only_input, setup_of}
@@ -42,6 +43,16 @@ says status err = answer_of status [] err
 -- both say that a use of a value isn't defined at one site, each with a path that shows it
 abbrev pub DifferInPath : Answer → Answer → Type 0
 DifferInPath a b = (site : ℕ) × (p : List ℕ) × (q : List ℕ) × (a ≡ says 5 (fault_text (Undefined site p))) × (b ≡ says 5 (fault_text (Undefined site q)))
+
+-- ---- the program itself
+
+-- the answer of `help` is the usage
+abbrev pub answer_of_help : Answer
+answer_of_help = answer_of 0 usage []
+
+-- the answer of `version` is its line
+abbrev pub answer_of_version : Answer
+answer_of_version = answer_of 0 version_line []
 
 -- ---- a run
 
@@ -124,6 +135,8 @@ module _ (Gives : Module → Module → Type 0) where
   IsAnswerToValid (Check file options) inputs m a = IsAnswerOfCheck (setup_of options (only_input inputs)) m a
   IsAnswerToValid (Corpus file names options workers) inputs m a = IsAnswerOfCorpus names options inputs m a
   IsAnswerToValid (Gen seed functions run) inputs m a = IsAnswerOfGen run m a
+  IsAnswerToValid Help inputs m a = a ≡ answer_of_help
+  IsAnswerToValid Version inputs m a = a ≡ answer_of_version
 
   -- the answer for a module: why it isn't valid, or else the answer for a valid one
   abbrev pub IsAnswerToModule : Command → List (List ℕ) → Module → Answer → Type 0
@@ -140,9 +153,11 @@ module _ (Gives : Module → Module → Type 0) where
   abbrev pub IsAnswerToText : Command → List (List ℕ) → List ℕ → Answer → Type 0
   IsAnswerToText command inputs text a = (r : Result Module ReadError) × IsReading (form_of command) text r × IsAnswerToReading command inputs r a
 
-  -- the answer without a file, which `gen` alone has
+  -- the answer without a file, which `gen`, `help` and `version` have
   abbrev pub IsAnswerWithoutFile : Command → Answer → Type 0
   IsAnswerWithoutFile (Gen seed functions run) a = IsAnswerOfGen run (generated seed functions) a
+  IsAnswerWithoutFile Help a = a ≡ answer_of_help
+  IsAnswerWithoutFile Version a = a ≡ answer_of_version
   IsAnswerWithoutFile command a = ⊥
 
   -- the answer for the texts of a command's files, the module's first

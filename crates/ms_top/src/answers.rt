@@ -18,6 +18,7 @@ ghost use Rattle.ms_top.specs.Said.{answer_of, answer_of_result, says, status_of
 use crate::commands::form_of;
 use crate::corpus::{Jobs, answer_of_corpus};
 use crate::generated::{summarised, written};
+use crate::itself::{answer_of_help, answer_of_version};
 use crate::passes::{Pass, instrumented_by};
 use ms_bits::{Boxed, Bytes, NoMemory};
 use ms_check::{CheckError, CheckedModule, check};
@@ -169,6 +170,8 @@ fn answer_to_valid<R: Threads + Sync, P: Pass, G: Gate + Sync>(
         }
         Command::Gen { run: true, .. } => summarised(rt, alloc, m, pass),
         Command::Gen { run: false, .. } => written(alloc, m.module()),
+        Command::Help => answer_of_help(alloc),
+        Command::Version => answer_of_version(alloc),
     }
 }
 
@@ -196,7 +199,7 @@ fn answer_of_instrument<R: Threads + Sync, P: Pass>(
     written(alloc, &instrumented)
 }
 
-/// The answer of `run`: for the run of the module as it stands.
+/// The answer of `run`: for the run of the module as it is.
 fn answer_of_run(
     alloc: Global,
     m: &CheckedModule,
@@ -307,7 +310,7 @@ pub fn status_of(r: &RunResult) -> u8
     }
 }
 
-/// The answer for a module that is refused. Where the cause is want of memory, so is the error.
+/// The answer for a module that is refused. Where the cause is that memory ran out, so is the error.
 fn refused(alloc: Global, cause: Refusal) -> Result<Answer, NoMemory>
     requires { is_want_of_memory cause ≡ false → HasLine cause }
     ensures reason { IfOk result (λ a. is_want_of_memory cause ≡ false) }
@@ -330,7 +333,7 @@ fn refused_for(alloc: Global, cause: &Refusal) -> Result<Answer, NoMemory>
     Ok(Answer::on_err(alloc, 5, line))
 }
 
-/// Whether a cause is want of memory.
+/// Whether a cause is that memory ran out.
 fn wants_memory(cause: &Refusal) -> bool
     ensures { result ≡ is_want_of_memory cause.now }
 {

@@ -29,10 +29,12 @@ pub fn inputs_of(command: &Command) -> &[Text]
         Command::Corpus { inputs, .. } => inputs.as_slice(),
         Command::Instrument { .. } => &[],
         Command::Gen { .. } => &[],
+        Command::Help => &[],
+        Command::Version => &[],
     }
 }
 
-/// The form in which the module is read; what is generated has the plain one.
+/// The form in which the module is read; what is generated has the plain one. Where no module is read the plain one too.
 pub fn form_of(command: &Command) -> Form
     ensures { result ≡ form_of command.now }
 {
@@ -42,6 +44,8 @@ pub fn form_of(command: &Command) -> Form
         Command::Check { .. } => Form::Plain,
         Command::Corpus { .. } => Form::Plain,
         Command::Gen { .. } => Form::Plain,
+        Command::Help => Form::Plain,
+        Command::Version => Form::Plain,
     }
 }
 
@@ -55,5 +59,7 @@ pub fn module_limit(command: &Command) -> u64
         Command::Check { .. } => 1 << 22,
         Command::Corpus { .. } => 1 << 22,
         Command::Gen { .. } => 1 << 22,
+        Command::Help => 1 << 22,
+        Command::Version => 1 << 22,
     }
 }

@@ -13,6 +13,7 @@ ghost use Rattle.ms_top.specs.Unread.{IsUnread};
 use crate::answers::{Answer, answer_to_text};
 use crate::commands::{inputs_of, module_limit};
 use crate::generated::answer_of_gen;
+use crate::itself::{answer_of_help, answer_of_version};
 use crate::passes::Pass;
 use ms_bits::{Bytes, List, NoMemory, Text};
 use ms_fork::Gate;
@@ -25,7 +26,7 @@ use std::thread::Threads;
 /// The most bytes that an input file may have.
 const INPUT_LIMIT: u64 = 1 << 20;
 
-/// The answer for words that are no command. Where the fault is want of memory, so is the error.
+/// The answer for words that are no command. Where the fault is that memory ran out, so is the error.
 pub fn no_command(alloc: Global, fault: WordsError) -> Result<Answer, NoMemory>
     ensures reason { IfOk result (λ a. is_want_of_memory fault ≡ false) }
     ensures line { IfOk result (λ a. a ≡ says 2 (words_text (name_of fault) (place_of fault))) }
@@ -41,7 +42,7 @@ pub fn no_command(alloc: Global, fault: WordsError) -> Result<Answer, NoMemory>
     Ok(Answer::on_err(alloc, 2, line))
 }
 
-/// Whether a fault in words is want of memory.
+/// Whether a fault in words is that memory ran out.
 fn wants_memory(fault: WordsError) -> bool
     ensures { result ≡ is_want_of_memory fault }
 {
@@ -51,7 +52,8 @@ fn wants_memory(fault: WordsError) -> bool
     }
 }
 
-/// The answer to a command: what is generated needs no file. The one error is want of memory.
+/// The answer to a command: what is generated needs no file, nor does what the program says of itself. The one error is
+/// that it runs out of memory.
 pub fn answer_to_command<R: Threads + Sync, F: Files, P: Pass, G: Gate + Sync>(
     rt: &R,
     alloc: Global,
@@ -77,6 +79,8 @@ pub fn answer_to_command<R: Threads + Sync, F: Files, P: Pass, G: Gate + Sync>(
             functions,
             run,
         } => { answer_of_gen(rt, alloc, *seed, *functions, *run, pass) }
+        Command::Help => answer_of_help(alloc),
+        Command::Version => answer_of_version(alloc),
     }
 }
 
@@ -168,7 +172,7 @@ fn read_inputs<F: Files>(
     Ok(List::from_vec(inputs))
 }
 
-/// The answer for a file that isn't read whole. Where the cause is want of memory, so is the error.
+/// The answer for a file that isn't read whole. Where the cause is that memory ran out, so is the error.
 fn unread(alloc: Global, file: &Text, cause: FileError) -> Result<Answer, NoMemory>
     ensures { IfOk result (λ a. IsAnswerToFault cause file.now a) }
 {

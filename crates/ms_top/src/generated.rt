@@ -24,7 +24,8 @@ use ms_write_values::push_number;
 use std::alloc::Global;
 use std::thread::Threads;
 
-/// The answer of `gen`: its module is made and written, or checked with no option given. The one error is want of memory.
+/// The answer of `gen`: its module is made and written, or checked with no option given. The one error is
+/// that it runs out of memory.
 pub fn answer_of_gen<R: Threads + Sync, P: Pass>(
     rt: &R,
     alloc: Global,

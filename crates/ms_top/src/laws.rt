@@ -1,6 +1,6 @@
 //! What holds of answers.
 
-ghost use Rattle.std.specs.Prelude.{◌≡◌, ◌⊎◌, ℕ, true, false, ◌^◌, ◌<◌, ◌≤◌, List, [], ◌∷◌, All, length, map, Some, None};
+ghost use Rattle.std.specs.Prelude.{◌≡◌, ◌⊎◌, ℕ, true, false, ◌^◌, ◌<◌, ◌≤◌, List, [], ◌∷◌, All, length, map, Some, None, Ok, codes, find};
 ghost use Rattle.ms_io.specs.Counts.{Rose};
 ghost use Rattle.ms_io.specs.Reading.{Holdings};
 ghost use Rattle.ms_ir.specs.declared.syntax.Module.{Module};
@@ -14,16 +14,20 @@ ghost use Rattle.ms_text_laws.specs.Fits.{FitsText};
 ghost use Rattle.ms_elision_laws.specs.Elided.{IsElided};
 ghost use Rattle.ms_top.specs.declared.answers.Answer.{Answer};
 ghost use Rattle.ms_words.specs.declared.commands.Command.{Command};
-ghost use Rattle.ms_words.specs.declared.commands.Command.TheVariants.{Instrument, Run, Check, Corpus};
+ghost use Rattle.ms_words.specs.declared.commands.Command.TheVariants.{Instrument, Run, Check, Corpus, Help, Version};
 ghost use Rattle.ms_words.specs.declared.commands.Options.{Options};
 ghost use Rattle.ms_words.specs.Limits.{RunsWithinLimits};
-ghost use Rattle.ms_words.specs.Words.{defaults};
+ghost use Rattle.ms_words.specs.Reading.{same};
+ghost use Rattle.ms_words.specs.Table.{commands, command_word, topics};
+ghost use Rattle.ms_words.specs.Usage.{usage, version_line};
+ghost use Rattle.ms_words.specs.Words.{asks, command_of, defaults};
+ghost use Rattle.ms_report.specs.WordsTexts.{words_text};
 ghost use Rattle.ms_top.specs.Command.{input_limit, only_input, setup_of};
 ghost use Rattle.ms_top.specs.Files.{Counted};
 ghost use Rattle.ms_top.specs.Instrumented.{IsInstrumented};
-ghost use Rattle.ms_top.specs.Said.{IsAnswer, IsAnswerToCommand, IsAnswerOfGen, IsAnswerToText, IsAnswerToValid, DifferInPath, answer_of, answer_of_result, answer_of_results, status_of, summary_of};
+ghost use Rattle.ms_top.specs.Said.{IsAnswer, IsAnswerToCommand, IsAnswerOfGen, IsAnswerToText, IsAnswerToValid, DifferInPath, answer_of, answer_of_result, answer_of_results, says, status_of, summary_of};
 
-/// What is to be said is one answer, but for want of memory, and for the path that shows that a use of a value isn't
+/// What is to be said is one answer, but where memory runs out, and for the path that shows that a use of a value isn't
 /// defined: of a module's text, and of commands and of words where the files are told and no fault of theirs was counted.
 pub fn one_answer()
     ensures text { (command : Command) (inputs : List (List ℕ)) (text : List ℕ) (a b : Answer)
@@ -34,8 +38,17 @@ pub fn one_answer()
         → IsAnswer IsInstrumented c words a → IsAnswer IsInstrumented c words b → (a ≡ b) ⊎ DifferInPath a b }
 {}
 
-/// A checked module is answered by its shadow run with the verdict, where the setup is fair, as those of options within the
-/// limits are with an input of bytes that is within its limit; a generated one that is run, by
+/// What is said of a question about the program itself is the usage, or the line with the version, and of a first word that
+/// is neither a question nor a command the line `words: UnknownCommand at 0`, whatever words follow.
+pub fn questions_are_answered()
+    ensures help { (c : Counted) (words : List (List ℕ)) (a : Answer) → command_of words ≡ Ok Help → IsAnswer IsInstrumented c words a → a ≡ answer_of 0 usage [] }
+    ensures version { (c : Counted) (words : List (List ℕ)) (a : Answer) → command_of words ≡ Ok Version → IsAnswer IsInstrumented c words a → a ≡ answer_of 0 version_line [] }
+    ensures unknown { (c : Counted) (word : List ℕ) (rest : List (List ℕ)) (a : Answer) → find (asks word) topics ≡ None → find (λ n. same word (command_word n)) commands ≡ None
+        → IsAnswer IsInstrumented c (word ∷ rest) a → a ≡ says 2 (words_text (codes "UnknownCommand") 0) }
+{}
+
+/// What is said of a checked module is its shadow run with the verdict, where the setup is fair, as those of options within the
+/// limits are with an input of bytes that is within its limit; of a generated one that is run,
 /// the summary of its shadow run with the default options, whose setup is fair: no input, the fill a5, ten million steps, one
 /// report. A clean verdict, and a first report where no blind use was counted, hold under every fill.
 pub fn checks_show_the_shadow_run()

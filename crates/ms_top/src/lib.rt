@@ -6,6 +6,7 @@ mod commands;
 mod corpus;
 mod files;
 mod generated;
+mod itself;
 pub mod laws;
 pub mod passes;
 mod pieces;

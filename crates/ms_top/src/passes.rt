@@ -21,7 +21,7 @@ pub trait Pass {
     ghost gives: { ModuleOf → ModuleOf → Type 0 };
 
     /// The module as the pass makes it, by threads of the runtime where it makes some. Without what is inserted it is the
-    /// module itself. The one error is want of memory.
+    /// module itself. The one error is that it runs out of memory.
     fn instrument<R: Threads + Sync>(
         &self,
         rt: &R,
@@ -52,7 +52,7 @@ pub trait Pass {
     }
 }
 
-/// The module that a pass makes, on the heap. The one error is want of memory.
+/// The module that a pass makes, on the heap. The one error is that it runs out of memory.
 pub(crate) fn instrumented_by<R: Threads + Sync, P: Pass>(
     rt: &R,
     alloc: Global,

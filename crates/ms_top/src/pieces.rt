@@ -33,7 +33,7 @@ fn put_text<S: Sink>(sink: &mut S, text: &[u8]) -> Result<(), SinkFailed>
     Ok(())
 }
 
-/// Writes the texts of an answer, the standard output's first. Answers its status, or 7 where a put failed.
+/// Writes the texts of an answer, the standard output's first. Returns its status, or 7 where a put failed.
 pub fn say<O: Sink, E: Sink>(
     out: &mut O,
     err: &mut E,

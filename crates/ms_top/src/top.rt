@@ -20,19 +20,21 @@ use ms_words::Command;
 use std::alloc::Global;
 use std::thread::Threads;
 
-/// The status where memory is wanting.
+/// The status where memory runs out.
 const NO_MEMORY_STATUS: u8 = 8;
 
 /// Does what the words after the program's name ask for. `run` runs the module in a file, and `check` runs it with the
 /// shadow of each word: the output is written to `out`; each use of uninitialised bits that was found, and how the run
 /// ended, to `err`. `corpus` does what `check` does for each of many inputs, and writes a section for each to `out`.
 /// `instrument` writes to `out` the text of the module that `check` runs, which `run` takes. `gen` writes
-/// a generated module to `out`, or the summary of its check. Threads are those of the runtime.
+/// a generated module to `out`, or the summary of its check. `help` writes the usage to `out`, and `version` one line with
+/// the version. Threads are those of the runtime.
 ///
 /// The status is 77 for a run with a report, else 0 for one that is done, 3 for one that trapped and 4 for
-/// one whose steps were used up; of many runs 77, else 3, else 4 where one has it; 0 where a module is written. It is 2 where the words are no command, 5 where
-/// the module is refused, 6 where a file can't be read, 7 where a put failed, 8 where memory is wanting,
-/// 9 where a file is too long. All memory is taken before the first put. Words that are no command read no file.
+/// one whose steps were used up; of many runs 77, else 3, else 4 where one has it; 0 where a module, the usage or the
+/// version is written. It is 2 where the words are no command, 5 where the module is refused, 6 where a file can't be
+/// read, 7 where a put failed, 8 where memory runs out, 9 where a file is too long. All memory is taken before the first
+/// put. Words that are no command read no file.
 pub fn msan<R: Threads + Sync, F: Files, O: Sink, E: Sink>(
     rt: &R,
     alloc: Global,
@@ -98,7 +100,7 @@ pub fn job<R: Threads + Sync, F: Files, O: Sink, E: Sink, P: Pass, G: Gate + Syn
     )
 }
 
-/// Writes an answer, or that memory is wanting, and answers its status.
+/// Writes an answer, or that memory ran out, and returns its status.
 fn put_answer<O: Sink, E: Sink>(answer: Result<Answer, NoMemory>, out: &mut O, err: &mut E) -> u8
     requires { IfOk answer (λ a. a.status ≢ 7) }
     ensures told { result ≢ 7 → IsTold answer (between (O.written out.old) (E.written err.old) (O.written out.new) (E.written err.new)) result }

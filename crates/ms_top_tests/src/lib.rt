@@ -52,6 +52,8 @@ mod outside;
 #[cfg(test)]
 mod passes;
 #[cfg(test)]
+mod questions;
+#[cfg(test)]
 mod refusals;
 #[cfg(test)]
 mod runs;

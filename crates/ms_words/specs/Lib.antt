@@ -6,3 +6,4 @@ pub mod ClapForm
 pub mod Accepted
 pub mod Fields
 pub mod Limits
+pub mod Usage

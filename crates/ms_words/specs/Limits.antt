@@ -1,7 +1,7 @@
 -- What the fields of a command may be (own).
 use Rattle.std.specs.Prelude.{◌≤◌, ◌<◌, ◌^◌, ℕ, List, All, length, ⊤}
 use Rattle.ms_words.specs.declared.commands.Command.{Command}
-use Rattle.ms_words.specs.declared.commands.Command.TheVariants.{Instrument, Run, Check, Corpus, Gen}
+use Rattle.ms_words.specs.declared.commands.Command.TheVariants.{Instrument, Run, Check, Corpus, Gen, Help, Version}
 use Rattle.ms_words.specs.declared.commands.Options.{Options}
 use Rattle.ms_words.specs.Table.{Word}
 
@@ -28,10 +28,12 @@ pub record MadeWithinLimits (seed functions : ℕ) : Type 0 where
   pub some : 1 ≤ functions
   pub few : functions ≤ 1000
 
--- the fields of a command are within their limits; `instrument` has none but the name of its file
+-- the fields of a command are within their limits; `instrument` has none but the name of its file, `help` and `version` none at all
 abbrev pub IsWithinLimits : Command → Type 0
 IsWithinLimits (Instrument file) = ⊤
 IsWithinLimits (Run file options) = RunsWithinLimits options
 IsWithinLimits (Check file options) = RunsWithinLimits options
 IsWithinLimits (Corpus file inputs options workers) = CorpusWithinLimits inputs options workers
 IsWithinLimits (Gen seed functions run) = MadeWithinLimits seed functions
+IsWithinLimits Help = ⊤
+IsWithinLimits Version = ⊤

@@ -1,5 +1,7 @@
--- The commands and their options: one row each (own).
+-- The commands and their options, and the questions about the program itself: one row each (own).
 use Rattle.std.specs.Prelude.{ℕ, ◌^◌, ◌-◌, List, [], ◌∷◌, Option, Some, None, codes}
+use Rattle.ms_words.specs.declared.topics.Topic.{Topic}
+use Rattle.ms_words.specs.declared.topics.Topic.TheVariants.{Help, Version}
 use Rattle.ms_words.specs.declared.names.CommandName.{CommandName}
 use Rattle.ms_words.specs.declared.names.CommandName.TheVariants.{Instrument, Run, Check, Corpus, Gen}
 use Rattle.ms_words.specs.declared.names.OptionName.{OptionName}
@@ -23,7 +25,11 @@ command_word Check = codes "check"
 command_word Corpus = codes "corpus"
 command_word Gen = codes "gen"
 
--- the word that names an option, behind two dashes
+-- the options, in the order of the usage
+abbrev pub options : List OptionName
+options = option.Input ∷ option.Fill ∷ option.Steps ∷ option.Reports ∷ option.Workers ∷ option.Seed ∷ option.Functions ∷ option.Run ∷ []
+
+-- the word that names an option, after two dashes
 abbrev pub option_word : OptionName → Word
 option_word option.Input = codes "input"
 option_word option.Fill = codes "fill"
@@ -66,7 +72,7 @@ abbrev pub wanted_of : CommandName → List OptionName
 wanted_of Gen = option.Seed ∷ option.Functions ∷ []
 wanted_of _ = []
 
--- how many files it has, at least and at most: a corpus has 1 to 256 inputs behind its module
+-- how many files it has, at least and at most: a corpus has 1 to 256 inputs after its module
 abbrev pub least_files : CommandName → ℕ
 least_files Corpus = 2
 least_files Gen = 0
@@ -76,3 +82,20 @@ abbrev pub most_files : CommandName → ℕ
 most_files Corpus = 257
 most_files Gen = 0
 most_files _ = 1
+
+-- what the program is asked about itself
+abbrev pub topics : List Topic
+topics = Help ∷ Version ∷ []
+
+-- the three first words that ask for it
+abbrev pub topic_word : Topic → Word
+topic_word Help = codes "help"
+topic_word Version = codes "version"
+
+abbrev pub topic_long : Topic → Word
+topic_long Help = codes "--help"
+topic_long Version = codes "--version"
+
+abbrev pub topic_short : Topic → Word
+topic_short Help = codes "-h"
+topic_short Version = codes "-V"

@@ -1,17 +1,19 @@
 -- What a list of words asks for: a command, or the first fault with its place (own).
-use Rattle.std.specs.Prelude.{◌≡◌, ◌⊎◌, ℕ, List, [], ◌∷◌, Option, Some, None, option_map, is_some, Result, Ok, Err, find, slice_get, drop, unwrap_or, codes}
+use Rattle.std.specs.Prelude.{◌≡◌, ◌⊎◌, ◌||◌, ℕ, Bool, List, [], ◌∷◌, Option, Some, None, option_map, is_some, Result, Ok, Err, find, slice_get, drop, unwrap_or, codes}
 use Rattle.std.specs.Option.{option_map_or}
 use Rattle.ms_words.specs.declared.names.CommandName.{CommandName}
 use Rattle.ms_words.specs.declared.names.CommandName.TheVariants as name
 use Rattle.ms_words.specs.declared.names.OptionName.{OptionName}
 use Rattle.ms_words.specs.declared.names.OptionName.TheVariants as option
 use Rattle.ms_words.specs.declared.commands.Command.{Command}
-use Rattle.ms_words.specs.declared.commands.Command.TheVariants.{Instrument, Run, Check, Corpus, Gen}
+use Rattle.ms_words.specs.declared.commands.Command.TheVariants.{Instrument, Run, Check, Corpus, Gen, Help, Version}
 use Rattle.ms_words.specs.declared.commands.Options.{Options}
 use Rattle.ms_words.specs.declared.commands.WordsError.{WordsError}
 use Rattle.ms_words.specs.declared.commands.WordsError.TheVariants.{NoMemory, UnknownCommand, UnknownOption, MissingValue, MissingFile, MissingOption, Extra, BadNumber, BadHex, Repeated, OutOfRange}
 use Rattle.ms_words.specs.declared.reading.Next.TheVariants.{AnOption}
-use Rattle.ms_words.specs.Table.{Word, commands, command_word, default_of}
+use Rattle.ms_words.specs.declared.topics.Topic.{Topic}
+use Rattle.ms_words.specs.declared.topics.Topic.TheVariants as topic
+use Rattle.ms_words.specs.Table.{Word, commands, command_word, default_of, topics, topic_word, topic_long, topic_short}
 use Rattle.ms_words.specs.Values.{number, hex_bytes}
 use Rattle.ms_words.specs.Reading.{Given, nothing, same, option_eq, read_words_from}
 
@@ -44,7 +46,7 @@ corpus_options_by value = record (options_by value) { input = None }
 abbrev pub defaults : Options
 defaults = options_by (λ o. value_of o nothing)
 
--- a command by the values of its options, its first file and the files behind it
+-- a command by the values of its options, its first file and the files after it
 abbrev pub command_by : CommandName → (OptionName → Option Word) → Word → List Word → Command
 command_by name.Instrument value file inputs = Instrument file
 command_by name.Run value file inputs = Run file (options_by value)
@@ -64,10 +66,22 @@ abbrev pub command_named : Option CommandName → List Word → Result Command W
 command_named None rest = Err (UnknownCommand 0)
 command_named (Some c) rest = command_in c (read_words_from c AnOption 1 nothing rest)
 
+-- a question about the program itself is a command, whatever words follow
+abbrev pub asks : Word → Topic → Bool
+asks word t = same word (topic_word t) || (same word (topic_long t) || same word (topic_short t))
+
+abbrev pub asked : Topic → Command
+asked topic.Help = Help
+asked topic.Version = Version
+
+abbrev pub asked_or : Option Topic → Word → List Word → Result Command WordsError
+asked_or (Some t) word rest = Ok (asked t)
+asked_or None word rest = command_named (find (λ c. same word (command_word c)) commands) rest
+
 -- what words ask for; the first word, at place 0, names the command
 abbrev pub command_of : List Word → Result Command WordsError
 command_of [] = Err (UnknownCommand 0)
-command_of (word ∷ rest) = command_named (find (λ c. same word (command_word c)) commands) rest
+command_of (word ∷ rest) = asked_or (find (asks word) topics) word rest
 
 -- the answer to words: what they ask for, or that memory is wanting
 abbrev pub IsAnswer : List Word → Result Command WordsError → Type 0

@@ -1,4 +1,4 @@
-//! Accepted words, read by `clap`: they are spelled in one form, in which its answer is known for every value.
+//! Accepted words, read by `clap`: they are spelled in one form, in which its result is known for every value.
 ghost use Rattle.std.specs.Prelude.{◌≡◌, ◌++◌, ◌∷◌, [], true, false, Some as Held, IfOk, map, option_map, string_bytes};
 ghost use Rattle.clap.specs.Words.{rule_of, app_of, rows_of, found_of, matches_of, takes as takes_words};
 ghost use Rattle.ms_words.specs.ClapForm.{option_rule, files_rule, app_for, spelled, spelled_option, spelled_options};
@@ -58,7 +58,7 @@ fn option_text(alloc: Global, option: OptionName, value: &str) -> Result<String,
     Ok(word)
 }
 
-/// A copy of the word behind the others.
+/// Adds a copy of the word after the others.
 fn push_word(alloc: Global, words: &mut Vec<String>, word: &str) -> Result<(), NoMemory>
     ensures { IfOk result (λ _. map string_bytes words.new.items ≡ map string_bytes words.old.items ++ word.now ∷ []) }
 {
@@ -66,7 +66,7 @@ fn push_word(alloc: Global, words: &mut Vec<String>, word: &str) -> Result<(), N
     Ok(())
 }
 
-/// The option behind the words, where it has a value.
+/// Adds the option after the words, where it has a value.
 fn push_option(
     alloc: Global,
     words: &mut Vec<String>,
@@ -81,7 +81,7 @@ fn push_option(
     Ok(())
 }
 
-/// Each of the options behind the words.
+/// Adds each of the options after the words.
 fn push_options(
     alloc: Global,
     words: &mut Vec<String>,
@@ -96,7 +96,7 @@ fn push_options(
     Ok(())
 }
 
-/// The files behind the words.
+/// Adds the files after the words.
 fn push_files(alloc: Global, words: &mut Vec<String>, files: &[Text]) -> Result<(), NoMemory>
     ensures { IfOk result (λ _. map string_bytes words.new.items ≡ map string_bytes words.old.items ++ files.now) }
 {
@@ -122,7 +122,7 @@ pub fn spell(
     Ok(words)
 }
 
-/// What `clap` finds in words that the command takes: it fails only for want of memory.
+/// What `clap` finds in words that the command takes: it fails only where it runs out of memory.
 pub fn matches<'a>(
     alloc: Global,
     command: CommandName,

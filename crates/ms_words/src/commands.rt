@@ -26,7 +26,7 @@ pub enum Command {
     Instrument {
         file: Text,
     },
-    /// Runs the module in the file as it stands.
+    /// Runs the module in the file as it is.
     Run {
         file: Text,
         options: Options,
@@ -51,10 +51,14 @@ pub enum Command {
         functions: u32,
         run: bool,
     },
+    /// Writes the usage.
+    Help,
+    /// Writes the version.
+    Version,
 }
 
 /// Why words are no command: the first fault from left to right. `place` is the place of the word at fault, counted
-/// from 0; what is missing stands behind the last word.
+/// from 0; what is missing belongs after the last word.
 #[derive(Clone, Copy)]
 pub enum WordsError {
     /// The first word names no command, or there is none.
@@ -62,13 +66,13 @@ pub enum WordsError {
     /// The command has no option of this name, or it has one that takes no value and was given one. A word that begins
     /// with one dash, as `-x`, is never an option.
     UnknownOption { place: u32 },
-    /// The words end where the value of an option should stand.
+    /// The words end where the value of an option should be.
     MissingValue { place: u32 },
     /// The words end before the file, or before the first input of a corpus.
     MissingFile { place: u32 },
     /// The words end without an option that the command must have.
     MissingOption { place: u32 },
-    /// A word behind the last file that the command takes.
+    /// A word after the last file that the command takes.
     Extra { place: u32 },
     /// The value isn't decimal digits alone, or has a zero before another digit.
     BadNumber { place: u32 },
@@ -78,7 +82,7 @@ pub enum WordsError {
     Repeated { place: u32 },
     /// The value is a number below the least or above the greatest that the option takes, or more bytes than it takes.
     OutOfRange { place: u32 },
-    /// Memory is wanting.
+    /// Reading the words ran out of memory.
     NoMemory,
 }
 
@@ -102,7 +106,7 @@ impl WordsError {
         }
     }
 
-    /// The place of the word at fault, counted from 0; 0 for want of memory, which has none.
+    /// The place of the word at fault, counted from 0; 0 where memory ran out, which has none.
     pub fn place(&self) -> u32
         ensures { result ≡ place_of self.now }
     {

@@ -1,7 +1,11 @@
-//! What lists of words ask for: laws about the definitions, computed by the check. The answers are worked out by hand.
-ghost use Rattle.std.specs.Prelude.{◌≡◌, [], ◌∷◌, Ok, Err, Some, true, false, codes, replicate};
-ghost use Rattle.ms_words.specs.declared.commands.Command.TheVariants.{Instrument, Run, Check, Corpus, Gen};
+//! What lists of words ask for: laws about the definitions, computed by the check. The results are worked out by hand.
+ghost use Rattle.std.specs.Prelude.{◌≡◌, ◌++◌, [], ◌∷◌, Ok, Err, Some, true, false, codes, decimal, replicate};
+ghost use Rattle.ms_words.specs.declared.commands.Command.TheVariants.{Instrument, Run, Check, Corpus, Gen, Help, Version};
 ghost use Rattle.ms_words.specs.declared.commands.WordsError.TheVariants.{UnknownCommand, UnknownOption, MissingValue, MissingFile, MissingOption, Extra, BadNumber, BadHex, Repeated, OutOfRange};
+ghost use Rattle.ms_words.specs.declared.names.CommandName.TheVariants as name;
+ghost use Rattle.ms_words.specs.declared.names.OptionName.TheVariants as option;
+ghost use Rattle.ms_words.specs.declared.topics.Topic.TheVariants as topic;
+ghost use Rattle.ms_words.specs.Usage.{synopsis, command_about, topic_line, option_line};
 ghost use Rattle.ms_words.specs.Words.{command_of, defaults};
 
 /// Lists of words as they are met most.
@@ -87,4 +91,46 @@ pub fn order_of_faults()
     ensures left_to_right { command_of (codes "run" ∷ codes "--fill=g" ∷ codes "--speed" ∷ []) ≡ Err (BadHex 1) }
     ensures prefix_of_a_name { command_of (codes "run" ∷ codes "--step" ∷ codes "5" ∷ codes "f" ∷ []) ≡ Err (UnknownOption 1) }
     ensures other_command_option { command_of (codes "run" ∷ codes "--seed" ∷ codes "5" ∷ codes "f" ∷ []) ≡ Err (UnknownOption 1) }
+{}
+
+/// Questions about the program itself, whatever words follow; as a later word none of these is one.
+pub fn questions()
+    ensures help { command_of (codes "help" ∷ []) ≡ Ok Help }
+    ensures long_help { command_of (codes "--help" ∷ []) ≡ Ok Help }
+    ensures short_help { command_of (codes "-h" ∷ []) ≡ Ok Help }
+    ensures help_and_more { command_of (codes "help" ∷ codes "check" ∷ codes "--speed" ∷ []) ≡ Ok Help }
+    ensures version { command_of (codes "version" ∷ []) ≡ Ok Version }
+    ensures long_version { command_of (codes "--version" ∷ []) ≡ Ok Version }
+    ensures short_version { command_of (codes "-V" ∷ codes "x" ∷ []) ≡ Ok Version }
+    ensures other_case { command_of (codes "-v" ∷ []) ≡ Err (UnknownCommand 0) }
+    ensures longer { command_of (codes "--helps" ∷ []) ≡ Err (UnknownCommand 0) }
+    ensures value { command_of (codes "--help=run" ∷ []) ≡ Err (UnknownCommand 0) }
+    ensures one_dash { command_of (codes "-help" ∷ []) ≡ Err (UnknownCommand 0) }
+    ensures after_a_command { command_of (codes "run" ∷ codes "--help" ∷ []) ≡ Err (UnknownOption 1) }
+    ensures short_after_a_command { command_of (codes "run" ∷ codes "-h" ∷ []) ≡ Err (UnknownOption 1) }
+    ensures file { command_of (codes "run" ∷ codes "help" ∷ []) ≡ Ok (Run (codes "help") defaults) }
+{}
+
+/// The lines of commands in the usage.
+pub fn lines_of_commands()
+    ensures instrument { synopsis name.Instrument ≡ codes "  msan instrument FILE\n" }
+    ensures run { synopsis name.Run ≡ codes "  msan run [--input FILE] [--fill HEX] [--steps N] [--reports N] FILE\n" }
+    ensures check { synopsis name.Check ≡ codes "  msan check [--input FILE] [--fill HEX] [--steps N] [--reports N] FILE\n" }
+    ensures corpus { synopsis name.Corpus ≡ codes "  msan corpus [--workers N] [--fill HEX] [--steps N] [--reports N] FILE INPUT...\n" }
+    ensures inputs { command_about name.Corpus ≡ codes "      check the module in FILE with each INPUT as its standard input: " ++ decimal 1 ++ codes " to " ++ decimal 256 ++ codes " inputs\n" }
+    ensures generates { synopsis name.Gen ≡ codes "  msan gen --seed N --functions N [--run]\n" }
+    ensures help { topic_line topic.Help ≡ codes "  msan help, --help, -h: print this text\n" }
+    ensures version { topic_line topic.Version ≡ codes "  msan version, --version, -V: print the version\n" }
+{}
+
+/// The lines of options in the usage.
+pub fn lines_of_options()
+    ensures input { option_line option.Input ≡ codes "  --input FILE   file with the bytes of standard input, which is empty without it\n" }
+    ensures fill { option_line option.Fill ≡ codes "  --fill HEX     bytes of uninitialised memory, two digits each: 1 to " ++ decimal 2048 ++ codes " bytes, default a5\n" }
+    ensures steps { option_line option.Steps ≡ codes "  --steps N      greatest number of steps of a run: " ++ decimal 0 ++ codes " to " ++ decimal 1000000000 ++ codes ", default 10000000\n" }
+    ensures reports { option_line option.Reports ≡ codes "  --reports N    number of reports at which a run ends: " ++ decimal 1 ++ codes " to " ++ decimal 1000 ++ codes ", default 1\n" }
+    ensures workers { option_line option.Workers ≡ codes "  --workers N    inputs that are run at once: " ++ decimal 1 ++ codes " to " ++ decimal 8 ++ codes ", default 2\n" }
+    ensures seed { option_line option.Seed ≡ codes "  --seed N       number that the module is made from: " ++ decimal 0 ++ codes " to " ++ decimal 18446744073709551615 ++ codes "\n" }
+    ensures functions { option_line option.Functions ≡ codes "  --functions N  number of functions beside main: " ++ decimal 1 ++ codes " to " ++ decimal 1000 ++ codes "\n" }
+    ensures runs { option_line option.Run ≡ codes "  --run          check the module instead of writing it\n" }
 {}

@@ -83,7 +83,7 @@ fn file_in(alloc: Global, found: &ArgMatches) -> Result<Text, NoMemory>
     }
 }
 
-/// Equal texts of the words behind the first one.
+/// Equal texts of the words after the first one.
 fn texts_behind_first(alloc: Global, words: &[&str]) -> Result<List<Text>, NoMemory>
     ensures { IfOk result (λ ts. ts ≡ drop 1 (map (λ w. w.now) words.now)) }
 {
@@ -93,7 +93,7 @@ fn texts_behind_first(alloc: Global, words: &[&str]) -> Result<List<Text>, NoMem
     }
 }
 
-/// The files that were found behind the first one.
+/// The files that were found after the first one.
 fn inputs_in(alloc: Global, found: &ArgMatches) -> Result<List<Text>, NoMemory>
     ensures { IfOk result (λ ts. ts ≡ found_inputs (found_of found.now)) }
 {

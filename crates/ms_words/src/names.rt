@@ -2,6 +2,7 @@
 ghost use Rattle.std.specs.Prelude.{◌≡◌, ◌&&◌, not, find, option_map};
 ghost use Rattle.ms_words.specs.Table.{commands, command_word, default_of, option_word, options_of, wanted_of, takes as takes_of, least_files as least_files_of, most_files as most_files_of};
 ghost use Rattle.ms_words.specs.Reading.{same, takes_nothing};
+ghost use Rattle.ms_words.specs.Usage.{is_wanted};
 
 /// A command.
 #[derive(Clone, Copy)]
@@ -33,18 +34,30 @@ pub enum Takes {
     Nothing,
     /// Any text.
     Anything,
-    /// Bytes, of two hexadecimal digits each, and at most so many.
+    /// Bytes, of two hexadecimal digits each, and at most this many.
     Hex { most: usize },
     /// A decimal number within these.
     Number { least: u64, most: u64 },
 }
 
-static COMMANDS: [CommandName; 5] = [
+pub static COMMANDS: [CommandName; 5] = [
     CommandName::Instrument,
     CommandName::Run,
     CommandName::Check,
     CommandName::Corpus,
     CommandName::Gen,
+];
+
+/// The options, in the order of the usage.
+pub static OPTIONS: [OptionName; 8] = [
+    OptionName::Input,
+    OptionName::Fill,
+    OptionName::Steps,
+    OptionName::Reports,
+    OptionName::Workers,
+    OptionName::Seed,
+    OptionName::Functions,
+    OptionName::Run,
 ];
 
 static NO_OPTIONS: [OptionName; 0] = [];
@@ -115,6 +128,19 @@ impl CommandName {
             CommandName::Gen => GEN_WANTED.as_slice(),
             _ => NO_OPTIONS.as_slice(),
         }
+    }
+
+    /// Whether it must have the option.
+    #[tactic(auto, using(crate::proofs::Finding::holds_here, crate::proofs::Finding::any_passed))]
+    pub fn wants(self, option: OptionName) -> bool
+        ensures { result ≡ is_wanted self option }
+    {
+        for wanted in self.wanted() {
+            if wanted.word() == option.word() {
+                return true;
+            }
+        }
+        false
     }
 
     /// How many files it has at least.

@@ -110,7 +110,7 @@ impl Accepted {
         Ok(Next::AnOption)
     }
 
-    /// An option that wasn't given before, with the value behind `=` where there is one.
+    /// An option that wasn't given before, with the value after `=` where there is one.
     fn begin_option(
         &mut self,
         alloc: Global,
@@ -155,7 +155,7 @@ impl Accepted {
         }
     }
 
-    /// What stands behind two dashes.
+    /// What follows two dashes.
     fn read_option(
         &mut self,
         alloc: Global,
@@ -225,7 +225,7 @@ impl Accepted {
         }
     }
 
-    /// The word at a place, by what may come there; then what may come behind it.
+    /// The word at a place, by what may come there; then what may come after it.
     fn read_word(
         &mut self,
         alloc: Global,
@@ -286,7 +286,7 @@ impl Accepted {
     }
 }
 
-/// The words behind the command.
+/// The words after the command.
 #[tactic(auto, using(crate::proofs::Placing::first_place, crate::proofs::Placing::next_place))]
 pub fn accept(alloc: Global, command: CommandName, words: &[Text]) -> Result<Accepted, WordsError>
     ensures { AnswersAll (read_words_from command Next.AnOption 1 nothing words.now) result }

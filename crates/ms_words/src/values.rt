@@ -109,7 +109,7 @@ fn number_fault(least: u64, most: u64, place: u32, value: &str) -> Option<WordsE
     }
 }
 
-/// What is wrong with hexadecimal digits that are to be so many bytes at most.
+/// What is wrong with hexadecimal digits that are to be at most `most` bytes.
 fn hex_fault(most: usize, place: u32, value: &str) -> Option<WordsError>
     ensures { result ≡ value_fault_of (Hex most) place value.now }
 {

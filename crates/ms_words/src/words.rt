@@ -9,6 +9,7 @@ use crate::commands::{Command, WordsError};
 use crate::fields::command_in;
 use crate::names::CommandName;
 use crate::reading::{Accepted, accept};
+use crate::topics::Topic;
 use ms_bits::{NoMemory, Text};
 use std::alloc::Global;
 
@@ -28,13 +29,14 @@ fn with_fields(
 }
 
 /// The command that the words ask for: `words` are those after the program's name, the first names the command. Its
-/// fields are within their limits.
+/// fields are within their limits. After `help`, `--help`, `-h`, `version`, `--version` or `-V` as the first word all
+/// others are ignored.
 ///
 /// # Errors
 ///
 /// The first fault from left to right, with its place; at one option first that it isn't known, then that it is repeated,
 /// that its value is missing, that this is no number or no hexadecimal digits, and that it is out of range. Or
-/// `NoMemory`, where memory is wanting.
+/// `NoMemory`, where it runs out of memory.
 pub fn read_words(alloc: Global, words: &[Text]) -> Result<Command, WordsError>
     ensures answer { IsAnswer words.now result }
     ensures limits { IfOk result IsWithinLimits }
@@ -42,6 +44,9 @@ pub fn read_words(alloc: Global, words: &[Text]) -> Result<Command, WordsError>
     let [word, rest @ ..] = words else {
         return Err(WordsError::UnknownCommand { place: 0 });
     };
+    if let Some(topic) = Topic::named(word.as_str()) {
+        return Ok(topic.command());
+    }
     let Some(command) = CommandName::named(word.as_str()) else {
         return Err(WordsError::UnknownCommand { place: 0 });
     };

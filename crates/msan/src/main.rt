@@ -8,7 +8,7 @@ use std::process::ExitCode;
 use std::rt::Env;
 use std::{env, io};
 
-/// The status where memory is wanting for the words.
+/// The status where memory runs out for the words.
 const NO_MEMORY: u8 = 8;
 
 /// The status where the system doesn't give the words, as where one isn't UTF-8.
