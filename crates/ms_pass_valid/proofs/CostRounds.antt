@@ -1,6 +1,6 @@
 -- How much is written before and behind an instruction.
 use Rattle.std.proofs.Common.{◌≡◌, ℕ, suc, ◌+◌, ◌*◌, ◌≤◌, List, [], ◌∷◌, ◌++◌, Bool, true, false, Option, Some, None, arith}
-use Rattle.std.specs.Prelude.{length, drop, eqb, if◌then◌else◌, is_some}
+use Rattle.std.specs.Prelude.{length, eqb, if◌then◌else◌, is_some}
 use Rattle.ms_bits.specs.declared.operations.BinOp.{BinOp}
 use Rattle.ms_bits.specs.declared.operations.BinOp.TheVariants as binary
 use Rattle.ms_bits.specs.declared.operations.CastOp.{CastOp}
@@ -24,15 +24,11 @@ use Rattle.ms_tasks.specs.ResultTasks.{define_tasks, called_tasks}
 use Rattle.ms_tasks.specs.PlaneTasks.{plane_tasks, save_tasks, saved_tasks, external_tasks, callee_tasks, fill_task}
 use Rattle.ms_tasks.specs.SlotTasks.{hand_tasks, give_result, give_arguments, take_result, take_tasks, result_mask_slot, result_origin_slot}
 use Rattle.ms_pass_valid.proofs.Costs.{cost, task_cost, tasks_cost}
-use Rattle.ms_pass_valid.proofs.CostRules.{widened_cost, bits_cost, compare_cost, select_cost, binary_cost, union_all_cost, union_masks_cost, first_last_cost}
+use Rattle.ms_pass_valid.proofs.CostRules.{widened_cost, bits_cost, compare_cost, select_cost, binary_cost, address_cost, union_masks_cost, first_last_cost}
 
 pub tasks_cost_append : (a b : List Task) → tasks_cost (a ++ b) ≡ tasks_cost a + tasks_cost b
 tasks_cost_append [] b = omega arith
 tasks_cost_append (t ∷ a) b = let e = tasks_cost_append a b in omega (arith, e)
-
-fewer : {A : Type 0} (l : List A) → length (drop 1 l) ≤ length l
-fewer [] = omega arith
-fewer (x ∷ l) = omega arith
 
 cast_cost : (o : CastOp) (w to : ℕ) (m : Expr) → cost (cast_expr o w to m) ≤ cost m + 2
 cast_cost cast.Trunc w to m = omega arith
@@ -62,7 +58,7 @@ define_cost func v (op.Select c t a b) ts =
     let z = tracked_at 0 ts in let x = tracked_at 1 ts in let y = tracked_at 2 ts in
     omega (arith, select_cost (width_of t) (word_of z) (mask_of z) (bits_of x) (mask_of x) (bits_of y) (mask_of y), bits_cost x.ty (word_of x), bits_cost y.ty (word_of y))
 define_cost func v (op.Freeze t a) ts = omega arith
-define_cost func v (op.Gep t a is) ts = omega (arith, first_last_cost ts, union_all_cost (drop 1 ts), fewer ts)
+define_cost func v (op.Gep t a is) ts = omega (arith, first_last_cost ts, address_cost ts)
 define_cost func v (op.Alloca t u c) ts = omega arith
 define_cost func v (op.Load t a) ts = omega (arith, widened_cost (width_of t) (Leaf (operand.Local (mask_name v))))
 define_cost func v (op.Call r x as') ts = by_own (is_some (func x))

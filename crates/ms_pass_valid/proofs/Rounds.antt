@@ -25,7 +25,7 @@ use Rattle.ms_runs.specs.Uses.{Use, Word, Bytes, Line, uses, has_flag}
 use Rattle.ms_valid.specs.FormedCode.{is_int_type, is_value_type}
 use Rattle.ms_tasks.specs.Tasks.{msan_name, mask_name, origin_name, Expr, Leaf, Task, Sets, Fetches, Puts, Calls}
 use Rattle.ms_tasks.specs.Environments.{Env, Given, Tracked, mask_type, tracked, tracked_at, mask_of, origin_of, word_of, bits_of, widened, number, is_zero}
-use Rattle.ms_tasks.specs.ResultMasks.{union_expr, union_all, mask_expr, origin_expr, first_last}
+use Rattle.ms_tasks.specs.ResultMasks.{mask_expr, origin_expr, first_last}
 use Rattle.ms_tasks.specs.ResultTasks.{result_width, called_tasks, shift_task, word_tasks, binary_tasks, shadow_address, define_tasks, result_tasks}
 use Rattle.ms_tasks.specs.CheckTasks.{memory_task, string_task, check_task, use_tasks, check_tasks, blind_binary_of, blinded_of, all_zero, union_masks, blind_tasks}
 use Rattle.ms_tasks.specs.PlaneTasks.{saves, saved_by, saved_tasks, poison_task, copy_task, fill_task, external_tasks, callee_tasks, plane_tasks, save_tasks}
@@ -34,7 +34,7 @@ use Rattle.ms_tasks.specs.SlotTasks.{hand_tasks, give_result, give_tasks, give_a
 use Rattle.ms_pass_valid.proofs.Checked.{IsInt, OperandFits, Typed, TaskFits, sets, TasksFit}
 use Rattle.ms_pass_valid.proofs.Emitted.{TrackedFits, AllTracked, CallGood, OpGood}
 use Rattle.ms_pass_valid.proofs.Lists.{typed_more, operand_more, tasks_more}
-use Rattle.ms_pass_valid.proofs.Words.{number_fits, no_bits, all_bits, wide, widened_typed, set_typed, bits_typed, address_typed, binary_typed, carry_typed, compare_typed, select_typed, cast_typed, union_all_typed, union_masks_typed, first_last_typed}
+use Rattle.ms_pass_valid.proofs.Words.{number_fits, no_bits, all_bits, wide, widened_typed, set_typed, bits_typed, address_typed, address_mask_typed, binary_typed, compare_typed, select_typed, cast_typed, union_masks_typed, first_last_typed}
 
 -- an operand has a type
 abbrev pub TypeAt : List (Ty × Operand) → ℕ → Ty → Type 0
@@ -298,7 +298,7 @@ module _ (C : Ty → Operand → Type 0) where
     define_fits v (op.Gep t a is) g p =
         let ts = tracked env root (operands (op.Gep t a is)) in
         two_sets v (Int 64) (first_last ts) (mask_expr (op.Gep t a is) ts) refl (first_last_typed C K ts p)
-        (carry_typed C K 64 refl (union_expr (Int 64) (mask_of (tracked_at 0 ts)) (union_all (drop 1 ts))) (refl, refl, p.0.mask, union_all_typed C K (drop 1 ts) p.1))
+        (address_mask_typed C K ts p)
     define_fits v (op.Alloca t u c) g p = two_sets v (Int 64) (number 0) (number 0) refl refl refl
     define_fits v (op.Load t a) g p =
         let L = sets K (Fetches (mask_name v) (mask_type t) (shadow_address (Leaf a))) in (

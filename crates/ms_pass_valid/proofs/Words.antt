@@ -17,8 +17,8 @@ use Rattle.ms_ir.specs.Layout.{width_of}
 use Rattle.ms_ir.specs.Code.{one_undef, count_undefs}
 use Rattle.ms_valid.specs.FormedCode.{is_int_type, is_value_type, number_formed}
 use Rattle.ms_tasks.specs.Tasks.{mask_name, origin_name, Or, Expr, Two, Turn, Pick}
-use Rattle.ms_tasks.specs.Environments.{Env, Tracked, mask_type, mask_operand, origin_operand, local_mask, local_origin, tracked, mask_of, origin_of, word_of, bits_at, widened, extended_expr, is_set}
-use Rattle.ms_tasks.specs.ResultMasks.{union_expr, carry_expr, and_expr, or_expr, least_expr, order_expr, eq_expr, turned_expr, compare_expr, select_expr, cast_expr, union_all, binary_expr, last_expr, first_last}
+use Rattle.ms_tasks.specs.Environments.{Env, Tracked, mask_type, mask_operand, origin_operand, local_mask, local_origin, tracked, mask_of, origin_of, word_of, bits_at, widened, widened_mask, extended_expr, extended_mask, joined, unknown, is_zero, is_set}
+use Rattle.ms_tasks.specs.ResultMasks.{union_expr, carry_expr, and_expr, or_expr, least_expr, order_expr, eq_expr, turned_expr, compare_expr, select_expr, cast_expr, sum_expr, address_expr, binary_expr, last_expr, first_last}
 use Rattle.ms_tasks.specs.CheckTasks.{union_masks}
 use Rattle.ms_tasks.specs.ResultTasks.{shadow_address}
 use Rattle.ms_pass_valid.proofs.Checked.{IsInt, TurnFits, OperandFits, Typed}
@@ -206,25 +206,56 @@ module _ (C : Ty → Operand → Type 0) (K : Name → Ty → Type 0) where
         → Typed K C (Int w) (select_expr w t n v m u k)
     select_typed t n v m u k a b p q r s = (refl, i, b, (refl, i, (refl, i, (refl, i, p, r), q), s), (refl, i, a, q, s))
 
+    -- ---- masks joined, where those that are known to be 0 are left out
+
+    abbrev AllHave : (Tracked → Expr) → List Tracked → Type 0
+    AllHave f [] = Unit {0}
+    AllHave f (t ∷ ts) = Typed K C (Int w) (f t) × AllHave f ts
+
+    unknown_have : (f : Tracked → Expr) (ts : List Tracked) → AllHave f ts → AllHave f (unknown ts)
+    unknown_have f [] p = tt
+    unknown_have f (t ∷ ts) p = by_mask (is_zero t.mask) (unknown_have f ts p.1)
+      where
+        by_mask : (b : Bool) → AllHave f (unknown ts) → AllHave f (if b then unknown ts else t ∷ unknown ts)
+        by_mask true q = q
+        by_mask false q = (p.0, q)
+
+    joined_typed : (f : Tracked → Expr) (ts : List Tracked) → AllHave f ts → Typed K C (Int w) (joined (Int w) f ts)
+    joined_typed f [] p = no_bits w i
+    joined_typed f (t ∷ []) p = p.0
+    joined_typed f (t ∷ u ∷ us) p = (refl, i, p.0, joined_typed f (u ∷ us) p.1)
+
+    unknown_typed : (f : Tracked → Expr) (ts : List Tracked) → AllHave f ts → Typed K C (Int w) (joined (Int w) f (unknown ts))
+    unknown_typed f ts p = joined_typed f (unknown ts) (unknown_have f ts p)
+
+    sum_typed : (a b : Tracked) → Typed K C (Int w) (mask_of a) → Typed K C (Int w) (mask_of b) → Typed K C (Int w) (sum_expr w (a ∷ b ∷ []))
+    sum_typed a b p q = carry_typed (joined (Int w) mask_of (unknown (a ∷ b ∷ []))) (unknown_typed mask_of (a ∷ b ∷ []) (p, (q, tt)))
+
     pub binary_typed : (o : BinOp) (a b : Tracked) → Typed K C (Int w) (word_of a) → Typed K C (Int w) (mask_of a) → Typed K C (Int w) (word_of b) → Typed K C (Int w) (mask_of b)
         → Typed K C (Int w) (binary_expr o w a b)
     binary_typed binary.And a b p q r s = and_typed (word_of a) (mask_of a) (word_of b) (mask_of b) p q r s
     binary_typed binary.Or a b p q r s = or_typed (word_of a) (mask_of a) (word_of b) (mask_of b) p q r s
     binary_typed binary.Xor a b p q r s = (refl, i, q, s)
-    binary_typed binary.Add a b p q r s = carry_typed (union_expr (Int w) (mask_of a) (mask_of b)) (refl, i, q, s)
-    binary_typed binary.Sub a b p q r s = carry_typed (union_expr (Int w) (mask_of a) (mask_of b)) (refl, i, q, s)
-    binary_typed binary.Mul a b p q r s = carry_typed (union_expr (Int w) (mask_of a) (mask_of b)) (refl, i, q, s)
+    binary_typed binary.Add a b p q r s = sum_typed a b q s
+    binary_typed binary.Sub a b p q r s = sum_typed a b q s
+    binary_typed binary.Mul a b p q r s = sum_typed a b q s
     binary_typed _ a b p q r s = q
 
   -- ---- lists of operands
 
-  pub union_all_typed : (ts : List Tracked) → AllTracked K C ts → Typed K C (Int 64) (union_all ts)
-  union_all_typed [] p = refl
-  union_all_typed (t ∷ ts) p = (refl, refl, extended_typed (width_of t.ty) (mask_of t) (wide t.ty p.0.value) p.0.mask, union_all_typed ts p.1)
+  pub address_mask_typed : (ts : List Tracked) → AllTracked K C ts → Typed K C (Int 64) (address_expr ts)
+  address_mask_typed ts p = carry_typed 64 refl (joined (Int 64) extended_mask (unknown ts)) (unknown_typed 64 refl extended_mask ts (all ts p))
+    where
+      all : (us : List Tracked) → AllTracked K C us → AllHave 64 refl extended_mask us
+      all [] q = tt
+      all (t ∷ us) q = (extended_typed (width_of t.ty) (mask_of t) (wide t.ty q.0.value) q.0.mask, all us q.1)
 
   pub union_masks_typed : (ts : List Tracked) → AllTracked K C ts → Typed K C (Int 64) (union_masks ts)
-  union_masks_typed [] p = refl
-  union_masks_typed (t ∷ ts) p = (refl, refl, widened_typed (width_of t.ty) (mask_of t) (wide t.ty p.0.value) p.0.mask, union_masks_typed ts p.1)
+  union_masks_typed ts p = unknown_typed 64 refl widened_mask ts (all ts p)
+    where
+      all : (us : List Tracked) → AllTracked K C us → AllHave 64 refl widened_mask us
+      all [] q = tt
+      all (t ∷ us) q = (widened_typed (width_of t.ty) (mask_of t) (wide t.ty q.0.value) q.0.mask, all us q.1)
 
   last_typed : (ts : List Tracked) (best : Expr) → AllTracked K C ts → Typed K C (Int 32) best → Typed K C (Int 32) (last_expr ts best)
   last_typed [] best p b = b

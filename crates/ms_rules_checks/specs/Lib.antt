@@ -2,4 +2,3 @@ pub mod Pieces
 pub mod Plain
 pub mod Sizes
 pub mod Tables
-pub mod Unions

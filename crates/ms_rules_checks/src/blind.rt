@@ -1,17 +1,16 @@
 //! The code that counts blind uses.
-ghost use Rattle.std.specs.Prelude.{◌≡◌, ◌++◌, [], ◌∷◌, map, take, drop, length, replicate, IfOk, OnOk, Option};
+ghost use Rattle.std.specs.Prelude.{◌≡◌, [], ◌∷◌, map, take, drop, IfOk, OnOk, Option};
 ghost use Rattle.ms_ir.specs.declared.syntax.Name.{Name as NameOf};
 ghost use Rattle.ms_runs.specs.Uses.{has_flag as has_flag_of};
 ghost use Rattle.ms_tasks.specs.CheckTasks.{all_zero, blind_tasks, blinded_of, blind_binary_of, union_masks};
 ghost use Rattle.ms_rules_code.specs.Made.{with_tasks};
 ghost use Rattle.ms_rules_code.specs.Steps.{tracked_of, words};
 ghost use Rattle.ms_rules_checks.specs.Plain.{plain};
-ghost use Rattle.ms_rules_checks.specs.Unions.{masks_on, or_step};
 
 use crate::calls::call;
 use ms_bits::{BinOp, Flags, NoMemory};
 use ms_ir::{Op, RuntimeFn};
-use ms_rules_code::{Code, Operation, Step, TrackedOperand, Width};
+use ms_rules_code::{Code, Step, TrackedOperand, Widening, push_union};
 use std::alloc::Global;
 
 /// Whether an operation carries a flag.
@@ -80,35 +79,12 @@ fn are_clean(operands: &[TrackedOperand<'_>]) -> bool
     true
 }
 
-/// Adds the steps that put the masks of operands on the stack.
-fn push_masks(steps: &mut Vec<Step>, operands: &[TrackedOperand<'_>]) -> Result<(), NoMemory>
-    ensures { (x : Option NameOf) → OnOk result (words (plain (map tracked_of operands.now) x) steps.new.items [] ≡ masks_on (map tracked_of operands.now) (words (plain (map tracked_of operands.now) x) steps.old.items [])) }
-{
-    for (place, operand) in operands.iter().enumerate() {
-        steps.push(Step::Mask(place))?;
-        steps.push(Step::Widen(operand.width()))?;
-    }
-    Ok(())
-}
-
-/// Adds so many steps that join two masks.
-fn push_unions(steps: &mut Vec<Step>, count: usize) -> Result<(), NoMemory>
-    ensures { OnOk result (steps.new.items ≡ steps.old.items ++ replicate count or_step) }
-{
-    for _ in 0..count {
-        steps.push(Step::Two(Operation::Or, Width::Bits(64)))?;
-    }
-    Ok(())
-}
-
 /// The steps that join the masks of operands.
 fn union_steps(alloc: Global, operands: &[TrackedOperand<'_>]) -> Result<Vec<Step>, NoMemory>
     ensures { (x : Option NameOf) → IfOk result (λ steps. words (plain (map tracked_of operands.now) x) steps.items [] ≡ union_masks (map tracked_of operands.now) ∷ []) }
 {
     let mut steps = Vec::new(alloc);
-    push_masks(&mut steps, operands)?;
-    steps.push(Step::Constant(0))?;
-    push_unions(&mut steps, operands.len())?;
+    push_union(&mut steps, operands, Widening::Zeros)?;
     Ok(steps)
 }
 

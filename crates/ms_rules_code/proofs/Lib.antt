@@ -1,3 +1,4 @@
 pub mod Stacks
 pub mod Zips
 pub mod Tasks
+pub mod Joins

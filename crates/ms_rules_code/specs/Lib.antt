@@ -3,3 +3,4 @@ pub mod Made
 pub mod Called
 pub mod Stacks
 pub mod Arguments
+pub mod Joins

@@ -12,9 +12,11 @@ mod operands;
 mod operations;
 mod steps;
 mod tracked;
+mod unions;
 
 pub use code::Code;
 pub use inputs::Inputs;
 pub use names::{mask_name, msan_name, origin_name, runtime_name};
 pub use steps::{Operation, Step, Width};
 pub use tracked::{Shadow, TrackedOperand, width_of};
+pub use unions::{Widening, push_times, push_union};

@@ -3,4 +3,4 @@ pub mod Tasks
 pub mod Shifts
 pub mod Others
 pub mod LastOrigin
-pub mod Indices
+pub mod Sums

@@ -37,6 +37,10 @@ pub ends_after : (s : Step) (l : List Step) → ends_in_operation l ≡ true →
 ends_after s [] p = cc
 ends_after s (t ∷ l) p = p
 
+pub rule_behind : (a : List Step) (s : Step) (l : List Step) → ends_in_operation l ≡ true → is_rule (a ++ s ∷ l) ≡ true
+rule_behind [] s l p = ends_after s l p
+rule_behind (t ∷ a) s l p = ends_after t (a ++ s ∷ l) (ends_behind a (s ∷ l) (ends_behind (s ∷ []) l p))
+
 pub ends_in_times : (n : ℕ) (s : Step) → is_operation s ≡ true → ends_in_operation (replicate (suc n) s) ≡ true
 ends_in_times zero s p = p
 ends_in_times (suc n) s p = ends_in_times n s p

@@ -1,15 +1,17 @@
 -- Rules: tables of steps that come to one word.
-use Rattle.std.specs.Prelude.{ℕ, zero, suc, ◌-◌, ◌^◌, Bool, false, List, [], ◌∷◌, ◌++◌, length, drop, replicate, None}
+use Rattle.std.specs.Prelude.{ℕ, zero, suc, ◌-◌, ◌^◌, Bool, false, List, [], ◌∷◌, None}
 use Rattle.ms_bits.specs.declared.operations.Pred.TheVariants as pred
 use Rattle.ms_ir.specs.declared.syntax.Ty.{Int}
 use Rattle.ms_ir.specs.Layout.{width_of}
 use Rattle.ms_tasks.specs.Tasks.{mask_name, origin_name, Expr, Task, Sets}
 use Rattle.ms_tasks.specs.Environments.{Tracked, tracked_at}
-use Rattle.ms_rules_code.specs.declared.steps.Operation.TheVariants as operation
+use Rattle.ms_tasks.specs.ResultMasks.{carry_expr}
 use Rattle.ms_rules_code.specs.declared.steps.Width.TheVariants as width
 use Rattle.ms_rules_code.specs.declared.steps.Step.{Step}
 use Rattle.ms_rules_code.specs.declared.steps.Step.TheVariants as step
-use Rattle.ms_rules_code.specs.Steps.{Inputs, is_leaf, is_operation}
+use Rattle.ms_rules_code.specs.declared.unions.Widening.{Widening}
+use Rattle.ms_rules_code.specs.Steps.{Inputs, bits_in, is_leaf, is_operation}
+use Rattle.ms_rules_code.specs.Joins.{width_in, union_in}
 
 -- the last step is an operation
 abbrev pub ends_in_operation : List Step → Bool
@@ -37,15 +39,9 @@ tests ts zero = []
 tests ts (suc k) =
     step.Mask (suc k) ∷ step.Constant 0 ∷ step.Test pred.Ne (width.Bits (width_of (tracked_at (suc k) ts).ty)) ∷ step.Origin (suc k) ∷ tests ts k
 
--- the masks of operands, of which the first has a place, as words of 64 bits
-abbrev pub extended : ℕ → List Tracked → List Step
-extended k [] = []
-extended k (t ∷ ts) = step.Mask k ∷ step.Extend (width_of t.ty) ∷ extended (suc k) ts
-
--- the mask of the base of an address joined with those of its indices
-abbrev pub union_steps : List Tracked → List Step
-union_steps ts =
-    step.Mask 0 ∷ (extended 1 (drop 1 ts) ++ step.Constant 0 ∷ (replicate (length ts - 1) (step.Two operation.Or (width.Bits 64)) ++ step.Two operation.Or (width.Bits 64) ∷ []))
+-- the mask in which the poisoned bits of the joined masks carry
+abbrev pub carry_in : Inputs → Widening → List Tracked → Expr
+carry_in i how ts = carry_expr (Int (bits_in i (width_in how))) (union_in i how ts)
 
 -- the origin and the mask of the value with a number, which has a width, get words
 abbrev pub defined : ℕ → ℕ → (origin mask : Expr) → List Task

@@ -1,7 +1,7 @@
 //! The code that computes the masks and origins of results: one table of steps for each rule.
 #![tactic(auto)]
 
-mod geps;
+mod carries;
 mod loads;
 mod masks;
 mod origins;

@@ -1,6 +1,7 @@
 //! The rules of masks that are the same for all operands: each is a table of steps, in which an operation stands behind the
 //! words that it works on.
-ghost use Rattle.std.specs.Prelude.{◌≡◌, ℕ, true, List, [], ◌∷◌, MatchOption};
+ghost use Rattle.std.specs.Prelude.{◌≡◌, ◌≢◌, ℕ, true, List, [], ◌∷◌, MatchOption};
+ghost use Rattle.ms_bits.specs.declared.operations.BinOp.TheVariants as binary;
 ghost use Rattle.ms_tasks.specs.Tasks.{Expr};
 ghost use Rattle.ms_tasks.specs.Environments.{Tracked, tracked_at, bits_of, mask_of};
 ghost use Rattle.ms_tasks.specs.ResultMasks.{binary_expr, cast_expr, compare_expr};
@@ -16,8 +17,6 @@ const AND: Step = Step::Two(Operation::And, Width::Own);
 const OR: Step = Step::Two(Operation::Or, Width::Own);
 
 const XOR: Step = Step::Two(Operation::Xor, Width::Own);
-
-const SUB: Step = Step::Two(Operation::Sub, Width::Own);
 
 const IS_EQUAL: Step = Step::Test(Pred::Eq, Width::Own);
 
@@ -37,19 +36,6 @@ pub const FIRST: [Step; 1] = [Mask(0)];
 
 // A bit is poisoned where it is in either word: of `xor`.
 const UNION: [Step; 3] = [Mask(0), Mask(1), OR];
-
-// A bit is poisoned where it or a lower one is in either word: of sums and products.
-const CARRY: [Step; 9] = [
-    Mask(0),
-    Mask(1),
-    OR,
-    Constant(0),
-    Mask(0),
-    Mask(1),
-    OR,
-    SUB,
-    OR,
-];
 
 // Of `and`: where both bits are poisoned, or one is and the other word has a defined 1.
 const BOTH: [Step; 11] = [
@@ -175,8 +161,11 @@ pub const SHIFT: [Step; 12] = [
     PICK,
 ];
 
-/// The rule of the mask of an operation on two words, but a shift.
+/// The rule of the mask of an operation on two words, but a shift, a sum, a difference or a product.
 pub fn binary_rule(op: BinOp) -> &'static [Step]
+    requires add { op ≢ binary.Add }
+    requires sub { op ≢ binary.Sub }
+    requires mul { op ≢ binary.Mul }
     ensures rule { is_rule result.now ≡ true }
     ensures mask { (w : ℕ) (ts : List Tracked) → words (on_width w ts) result.now [] ≡ binary_expr op w (tracked_at 0 ts) (tracked_at 1 ts) ∷ [] }
 {
@@ -184,7 +173,6 @@ pub fn binary_rule(op: BinOp) -> &'static [Step]
         BinOp::And => &BOTH,
         BinOp::Or => &EITHER,
         BinOp::Xor => &UNION,
-        BinOp::Add | BinOp::Sub | BinOp::Mul => &CARRY,
         _ => &FIRST,
     }
 }

@@ -7,10 +7,10 @@ ghost use Rattle.ms_rules_code.specs.Made.{with_tasks};
 ghost use Rattle.ms_rules_code.specs.Steps.{Inputs as InputsOf, inputs_of, words, tracked_of};
 ghost use Rattle.ms_rules_results.specs.Rules.{is_rule, tests};
 
-use crate::rules::{push_times, set_origin};
+use crate::rules::set_origin;
 use ms_bits::{NoMemory, Pred};
 use ms_rules_code::Step::{Constant, Mask, Origin, Word};
-use ms_rules_code::{Code, Inputs, Step, TrackedOperand, Width};
+use ms_rules_code::{Code, Inputs, Step, TrackedOperand, Width, push_times};
 use std::alloc::Global;
 
 const PICK: Step = Step::Pick(Width::Bits(32));

@@ -1,5 +1,5 @@
 //! The code that defines the mask and the origin of a result.
-ghost use Rattle.std.specs.Prelude.{◌≡◌, ℕ, ◌≤◌, true, List, [], ◌∷◌, map, drop, OnOk, Option};
+ghost use Rattle.std.specs.Prelude.{◌≡◌, ℕ, ◌≤◌, true, List, [], ◌∷◌, map, take, OnOk, Option};
 ghost use Rattle.ms_bits.specs.declared.operations.Flags.{Flags as FlagsOf};
 ghost use Rattle.ms_ir.specs.declared.syntax.Name.{Name as NameOf};
 ghost use Rattle.ms_ir.specs.declared.syntax.Ty.{Ty as TyOf, Int};
@@ -8,7 +8,7 @@ ghost use Rattle.ms_ir.specs.declared.syntax.Op.TheVariants as operation;
 ghost use Rattle.ms_ir.specs.Layout.{width_of as width_of_type};
 ghost use Rattle.ms_tasks.specs.Tasks.{Expr, Sets, mask_name as mask_name_of, origin_name as origin_name_of};
 ghost use Rattle.ms_tasks.specs.Environments.{number, tracked_at, bits_of, mask_of};
-ghost use Rattle.ms_tasks.specs.ResultMasks.{carry_expr, cast_expr, compare_expr, union_all, union_expr, first_last};
+ghost use Rattle.ms_tasks.specs.ResultMasks.{address_expr, cast_expr, compare_expr, sum_expr, first_last};
 ghost use Rattle.ms_tasks.specs.ResultTasks.{binary_tasks, called_tasks, shift_task, word_tasks, define_tasks, result_width as result_width_of};
 ghost use Rattle.ms_rules_code.specs.Called.{calls_own};
 ghost use Rattle.ms_rules_code.specs.Made.{with_tasks};
@@ -16,7 +16,7 @@ ghost use Rattle.ms_rules_code.specs.Steps.{inputs_of, tracked_of, words};
 ghost use Rattle.ms_rules_results.specs.Widths.{HasWidths};
 ghost use Rattle.ms_rules_results.specs.Rules.{is_rule, defined};
 
-use crate::geps::gep_rule;
+use crate::carries::carry_rule;
 use crate::loads::define_load;
 use crate::masks::{CHOICE, CLEAN, FIRST, SHIFT, binary_rule, cast_step, compare_rule};
 use crate::origins::{CHOICE_ORIGIN, set_last_origin};
@@ -24,7 +24,7 @@ use crate::rules::{attempt_mask, set_mask, set_origin};
 use ms_bits::{BinOp, CastOp, NoMemory, Pred};
 use ms_ir::{Op, Ty};
 use ms_rules_code::Step::Mask;
-use ms_rules_code::{Code, Inputs, Step, TrackedOperand, width_of};
+use ms_rules_code::{Code, Inputs, Step, TrackedOperand, Widening, width_of};
 use std::alloc::Global;
 
 // The origin and the mask of a value, of a width, get the words of rules.
@@ -92,6 +92,31 @@ fn define_shift(
     attempt_mask(alloc, code, value, op, width, &inputs, &SHIFT)
 }
 
+// The operands of an operation on two words.
+fn pair<'a, 'm>(operands: &'a [TrackedOperand<'m>]) -> &'a [TrackedOperand<'m>]
+    ensures { result.now ≡ take 2 operands.now }
+{
+    if operands.len() < 2 {
+        operands
+    } else {
+        &operands[..2]
+    }
+}
+
+fn define_sum(
+    alloc: Global,
+    code: &mut Code,
+    value: u32,
+    width: u8,
+    operands: &[TrackedOperand<'_>],
+) -> Result<(), NoMemory>
+    ensures { let ts = map tracked_of operands.now in OnOk result (code.new ≡ with_tasks code.old (defined value width (first_last ts) (sum_expr width (tracked_at 0 ts ∷ tracked_at 1 ts ∷ [])))) }
+{
+    let inputs = Inputs::plain(operands, width, &None);
+    let mask = carry_rule(alloc, pair(operands), Widening::Own)?;
+    define_joined(alloc, code, value, width, &inputs, mask.as_slice())
+}
+
 fn define_binary(
     alloc: Global,
     code: &mut Code,
@@ -108,6 +133,7 @@ fn define_binary(
         BinOp::Shl | BinOp::Lshr | BinOp::Ashr => {
             define_shift(alloc, code, value, op, width, operands)
         }
+        BinOp::Add | BinOp::Sub | BinOp::Mul => define_sum(alloc, code, value, width, operands),
         _ => {
             let inputs = Inputs::new(operands, width, &None);
             define_joined(alloc, code, value, width, &inputs, binary_rule(op))
@@ -168,10 +194,10 @@ fn define_gep(
     value: u32,
     operands: &[TrackedOperand<'_>],
 ) -> Result<(), NoMemory>
-    ensures { let ts = map tracked_of operands.now in OnOk result (code.new ≡ with_tasks code.old (defined value 64 (first_last ts) (carry_expr (Int 64) (union_expr (Int 64) (mask_of (tracked_at 0 ts)) (union_all (drop 1 ts)))))) }
+    ensures { let ts = map tracked_of operands.now in OnOk result (code.new ≡ with_tasks code.old (defined value 64 (first_last ts) (address_expr ts))) }
 {
     let inputs = Inputs::plain(operands, 64, &None);
-    let mask = gep_rule(alloc, operands)?;
+    let mask = carry_rule(alloc, operands, Widening::Sign)?;
     define_joined(alloc, code, value, 64, &inputs, mask.as_slice())
 }
 

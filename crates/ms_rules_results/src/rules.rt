@@ -1,5 +1,5 @@
 //! Rules that set names.
-ghost use Rattle.std.specs.Prelude.{◌≡◌, true, [], ◌∷◌, ◌++◌, replicate, OnOk};
+ghost use Rattle.std.specs.Prelude.{◌≡◌, true, [], ◌∷◌, OnOk};
 ghost use Rattle.ms_ir.specs.declared.syntax.Ty.{Int};
 ghost use Rattle.ms_tasks.specs.Tasks.{Expr, Sets, Tries, mask_name as mask_name_of, origin_name as origin_name_of};
 ghost use Rattle.ms_rules_code.specs.Made.{with_tasks};
@@ -74,14 +74,4 @@ pub fn attempt_mask(
 {
     let name = mask_name(alloc, value as u64)?;
     code.attempt(name, op, width, inputs, steps)
-}
-
-/// Adds a step so many times.
-pub fn push_times(steps: &mut Vec<Step>, step: Step, times: usize) -> Result<(), NoMemory>
-    ensures { OnOk result (steps.new.items ≡ steps.old.items ++ replicate times step) }
-{
-    for _ in 0..times {
-        steps.push(step)?;
-    }
-    Ok(())
 }

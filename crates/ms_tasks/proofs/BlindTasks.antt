@@ -26,13 +26,14 @@ use Rattle.ms_runs.specs.Uses.{blinded, blind_binary, has_flag}
 use Rattle.ms_runs.specs.Shadow.{read_poisoned}
 use Rattle.ms_tasks.specs.Tasks.{Leaf, Turn, Task, Calls}
 use Rattle.ms_tasks.specs.Meaning.{Values, do_tasks}
-use Rattle.ms_tasks.specs.Environments.{Env, Tracked, tracked, is_zero, widened}
+use Rattle.ms_tasks.specs.Environments.{Env, Tracked, tracked, is_zero, widened, widened_mask}
 use Rattle.ms_tasks.specs.CheckTasks.{blind_binary_of, blinded_of, all_zero, union_masks, blind_tasks}
 use Rattle.ms_tasks.specs.Known.{KnownOperands}
 use Rattle.ms_tasks.specs.Match.{Matches}
 use Rattle.ms_tasks.proofs.OperandWords.{word_less, mask_known}
 use Rattle.ms_tasks.proofs.CheckTasks.{zero_word}
-use Rattle.ms_tasks.proofs.Words.{Is, is_eval, is_leaf, is_number, is_or}
+use Rattle.ms_tasks.proofs.JoinedWords.{AllMake, joined_is}
+use Rattle.ms_tasks.proofs.Words.{Is, is_eval, is_leaf}
 
 pub blinded_same : (o : Op) (ps : List Poisoned) → blinded o ps ≡ blinded_of o ps
 blinded_same (op.Binary o f t a b) ps = by_op o
@@ -103,11 +104,17 @@ module _ (s : Setting) (names : Name → ℕ) where
       by_width true f = let same : 64 ≡ w = grind arith in is_leaf s names 64 m x (ap (λ i. operand_word s names i m) same ∙ e)
       by_width false f = record { raw = e; less = let l : x < 2 ^ w = subst (λ k. k < 2 ^ w) e (word_less s names w m) in omega (arith, l, pow_mono le) }
 
+  masks_make : (ts : List Tracked) (ps : List Poisoned) → AllMasks s names ts ps → AllMake s names 64 widened_mask ts (map (λ p. p.mask) ps)
+  masks_make [] [] h = tt
+  masks_make [] (p ∷ ps) h = absurd h
+  masks_make (t ∷ ts) [] h = absurd h
+  masks_make (t ∷ ts) (p ∷ ps) h = (
+    record { word = widened_is (width_of t.ty) t.mask p.mask h.0.narrow h.0.mask; clean = λ z. sym h.0.mask ∙ zero_word s names (width_of t.ty) t.mask z },
+    masks_make ts ps h.1,
+  )
+
   pub masks_union : (ts : List Tracked) (ps : List Poisoned) → AllMasks s names ts ps → Is s names 64 (union_masks ts) (union (map (λ p. p.mask) ps))
-  masks_union [] [] h = is_number s names 64 0 (omega arith)
-  masks_union [] (p ∷ ps) h = absurd h
-  masks_union (t ∷ ts) [] h = absurd h
-  masks_union (t ∷ ts) (p ∷ ps) h = is_or s names (widened_is (width_of t.ty) t.mask p.mask h.0.narrow h.0.mask) (masks_union ts ps h.1)
+  masks_union ts ps h = joined_is s names 64 widened_mask ts (map (λ p. p.mask) ps) (masks_make ts ps h)
 
   zero_union : (ts : List Tracked) (ps : List Poisoned) → AllMasks s names ts ps → all_zero ts ≡ true → union (map (λ p. p.mask) ps) ≡ 0
   zero_union [] [] h e = refl

@@ -10,6 +10,7 @@ pub mod Effects
 pub mod Externals
 pub mod Flatten
 pub mod InsertedNames
+pub mod JoinedWords
 pub mod LastOrigins
 pub mod Marked
 pub mod MatchedNames

@@ -22,9 +22,9 @@ use Rattle.ms_ir.specs.declared.calls.External.TheVariants.{Malloc, Realloc, Mem
 use Rattle.ms_runs.specs.Uses.{Use, Word, Bytes, Line, uses, has_flag}
 use Rattle.ms_tasks.specs.Tasks.{mask_name, origin_name, Expr, Leaf, Turn, Task, Sets}
 use Rattle.ms_tasks.specs.Meaning.{BelowOperand, BelowExpr, BelowTasks}
-use Rattle.ms_tasks.specs.Environments.{Env, Given, Tracked, mask_operand, origin_operand, local_mask, local_origin, tracked, tracked_at, is_zero, mask_of, widened, bits_at, extended_expr}
+use Rattle.ms_tasks.specs.Environments.{Env, Given, Tracked, mask_operand, origin_operand, local_mask, local_origin, tracked, tracked_at, is_zero, mask_of, widened, widened_mask, extended_expr, extended_mask, joined, unknown, bits_at}
 use Rattle.ms_tasks.specs.CheckTasks.{use_tasks, check_tasks, blind_binary_of, blinded_of, all_zero, union_masks, blind_tasks}
-use Rattle.ms_tasks.specs.ResultMasks.{union_expr, carry_expr, order_expr, compare_expr, turned_expr, cast_expr, union_all, binary_expr, mask_expr, last_expr, first_last, origin_expr}
+use Rattle.ms_tasks.specs.ResultMasks.{carry_expr, order_expr, compare_expr, turned_expr, cast_expr, sum_expr, address_expr, binary_expr, mask_expr, last_expr, first_last, origin_expr}
 use Rattle.ms_tasks.specs.ResultTasks.{word_tasks, shift_task, define_tasks, called_tasks, result_tasks}
 use Rattle.ms_tasks.specs.PlaneTasks.{plane_tasks, saves, saved_by, saved_tasks, save_tasks, copy_task, fill_task, external_tasks, callee_tasks}
 use Rattle.ms_tasks.specs.Emit.{before_tasks, after_tasks, start}
@@ -158,10 +158,20 @@ module _ (env : Env) (size base : ℕ) (room : 2 * size + 1 ≤ base) where
   cast_low cast.IntToPtr w to m p = widened_low w m p
   cast_low cast.Bitcast w to m p = p
 
-  union_low : (ts : List Tracked) → AllLow ts → BelowExpr base (union_all ts)
+  low_if : (b : Bool) (x y : List Tracked) → AllLow x → AllLow y → AllLow (if b then x else y)
+  low_if true x y p q = p
+  low_if false x y p q = q
+
+  unknown_low : (ts : List Tracked) → AllLow ts → AllLow (unknown ts)
   unfolding AllLow
-  union_low [] p = tt
-  union_low (t ∷ ts) p = (extended_low (width_of t.ty) (Leaf t.mask) p.0.mask, union_low ts p.1)
+  unknown_low [] p = tt
+  unknown_low (t ∷ ts) p = low_if (is_zero t.mask) (unknown ts) (t ∷ unknown ts) (unknown_low ts p.1) (p.0, unknown_low ts p.1)
+
+  joined_low : (ty : Ty) (f : Tracked → Expr) → ((t : Tracked) → LowTracked t → BelowExpr base (f t)) → (ts : List Tracked) → AllLow ts → BelowExpr base (joined ty f ts)
+  unfolding AllLow
+  joined_low ty f low [] p = tt
+  joined_low ty f low (t ∷ []) p = low t p.0
+  joined_low ty f low (t ∷ u ∷ us) p = (low t p.0, joined_low ty f low (u ∷ us) p.1)
 
   later_low : (ts : List Tracked) → AllLow ts → AllLow (drop 1 ts)
   unfolding AllLow
@@ -176,13 +186,20 @@ module _ (env : Env) (size base : ℕ) (room : 2 * size + 1 ≤ base) where
   carry_low : (t : Ty) (e : Expr) → BelowExpr base e → BelowExpr base (carry_expr t e)
   carry_low t e p = (p, (tt, p))
 
+  sum_low : (w : ℕ) (a b : Tracked) → LowTracked a → LowTracked b → BelowExpr base (sum_expr w (a ∷ b ∷ []))
+  unfolding AllLow
+  sum_low w a b p q = carry_low (Int w) (joined (Int w) mask_of (unknown (a ∷ b ∷ []))) (joined_low (Int w) mask_of (λ t l. l.mask) (unknown (a ∷ b ∷ [])) (unknown_low (a ∷ b ∷ []) (p, (q, tt))))
+
+  address_low : (ts : List Tracked) → AllLow ts → BelowExpr base (address_expr ts)
+  address_low ts p = carry_low (Int 64) (joined (Int 64) extended_mask (unknown ts)) (joined_low (Int 64) extended_mask (λ t l. extended_low (width_of t.ty) (Leaf t.mask) l.mask) (unknown ts) (unknown_low ts p))
+
   binary_low : (o : BinOp) (w : ℕ) (a b : Tracked) → LowTracked a → LowTracked b → BelowExpr base (binary_expr o w a b)
   binary_low binary.And w a b p q = (((p.own, p.mask), (q.own, q.mask)), (p.mask, q.mask))
   binary_low binary.Or w a b p q = ((((p.own, tt), p.mask), ((q.own, tt), q.mask)), (p.mask, q.mask))
   binary_low binary.Xor w a b p q = (p.mask, q.mask)
-  binary_low binary.Add w a b p q = carry_low (Int w) (union_expr (Int w) (mask_of a) (mask_of b)) (p.mask, q.mask)
-  binary_low binary.Sub w a b p q = carry_low (Int w) (union_expr (Int w) (mask_of a) (mask_of b)) (p.mask, q.mask)
-  binary_low binary.Mul w a b p q = carry_low (Int w) (union_expr (Int w) (mask_of a) (mask_of b)) (p.mask, q.mask)
+  binary_low binary.Add w a b p q = sum_low w a b p q
+  binary_low binary.Sub w a b p q = sum_low w a b p q
+  binary_low binary.Mul w a b p q = sum_low w a b p q
   binary_low _ w a b p q = p.mask
 
   mask_expr_low : (o : Op) (ts : List Tracked) → AllLow ts → BelowExpr base (mask_expr o ts)
@@ -196,7 +213,7 @@ module _ (env : Env) (size base : ℕ) (room : 2 * size + 1 ≤ base) where
       let v = bits_low (tracked_at 1 ts).ty (Leaf (tracked_at 1 ts).operand) x.own in
       let u = bits_low (tracked_at 2 ts).ty (Leaf (tracked_at 2 ts).operand) y.own in
       (k.mask, (((v, u), x.mask), y.mask), (k.own, x.mask, y.mask))
-  mask_expr_low (op.Gep t a is) ts p = carry_low (Int 64) (union_expr (Int 64) (mask_of (tracked_at 0 ts)) (union_all (drop 1 ts))) ((at_low 0 ts p).mask, union_low (drop 1 ts) (later_low ts p))
+  mask_expr_low (op.Gep t a is) ts p = address_low ts p
   mask_expr_low _ ts p = tt
 
   last_low : (ts : List Tracked) → AllLow ts → (best : Expr) → BelowExpr base best → BelowExpr base (last_expr ts best)
@@ -254,13 +271,7 @@ module _ (env : Env) (size base : ℕ) (room : 2 * size + 1 ≤ base) where
   -- ---- blind uses
 
   masks_low : (ts : List Tracked) → AllLow ts → BelowExpr base (union_masks ts)
-  unfolding AllLow
-  masks_low [] p = tt
-  masks_low (t ∷ ts) p = (widened_low (width_of t.ty) (Leaf t.mask) p.0.mask, masks_low ts p.1)
-
-  low_if : (b : Bool) (x y : List Tracked) → AllLow x → AllLow y → AllLow (if b then x else y)
-  low_if true x y p q = p
-  low_if false x y p q = q
+  masks_low ts p = joined_low (Int 64) widened_mask (λ t l. widened_low (width_of t.ty) (Leaf t.mask) l.mask) (unknown ts) (unknown_low ts p)
 
   blinded_low : (o : Op) (ts : List Tracked) → AllLow ts → AllLow (blinded_of o ts)
   unfolding AllLow

@@ -5,7 +5,7 @@ use Rattle.std.specs.Int.{from_bool}
 use Rattle.std.proofs.Math.Path.{ap₂}
 use Rattle.std.proofs.Math.Nat.{mod-eq_of_lt, zero-mod}
 use Rattle.std.proofs.lemmas.Nat.{mod_below, pow_pos}
-use Rattle.std.specs.Int.Bits.{and_zero_r, xor_self, xor_zero_r}
+use Rattle.std.specs.Int.Bits.{and_zero_r, or_zero_r, xor_self, xor_zero_r}
 use Rattle.ms_bits.specs.declared.operations.BinOp.TheVariants as binary
 use Rattle.ms_bits.specs.declared.operations.CastOp.{CastOp}
 use Rattle.ms_bits.specs.declared.operations.CastOp.TheVariants as cast
@@ -15,7 +15,7 @@ use Rattle.ms_bits.specs.Signed.{signed, wrap}
 use Rattle.ms_bits.specs.Conversions.{cast_of, Allows}
 use Rattle.ms_bits.specs.Formulas.{and_mask, or_mask, union_mask, carry_mask, least, greatest, order_mask, eq_mask, turned_sign, compare_mask}
 use Rattle.ms_ir.specs.declared.syntax.Name.{Name}
-use Rattle.ms_ir.specs.declared.syntax.Ty.{Ty, Int}
+use Rattle.ms_ir.specs.declared.syntax.Ty.{Ty, Int, Ptr}
 use Rattle.ms_ir.specs.declared.syntax.Operand.{Operand}
 use Rattle.ms_ir.specs.declared.syntax.Op.{Op}
 use Rattle.ms_ir.specs.declared.syntax.Op.TheVariants as op
@@ -30,11 +30,13 @@ use Rattle.ms_runs.specs.Masks.{by_formulas, result_mask, value_or_zero, union}
 use Rattle.ms_runs.specs.Shadow.{read_poisoned}
 use Rattle.ms_tasks.specs.Tasks.{Leaf, Turn}
 use Rattle.ms_tasks.specs.Meaning.{whole}
-use Rattle.ms_tasks.specs.Environments.{Env, tracked, extended_expr}
-use Rattle.ms_tasks.specs.ResultMasks.{cast_expr, union_all, mask_expr}
+use Rattle.ms_tasks.specs.Environments.{Env, Tracked, tracked, mask_of, extended_expr, extended_mask, joined, unknown}
+use Rattle.ms_tasks.specs.ResultMasks.{cast_expr, sum_expr, address_expr, mask_expr}
 use Rattle.ms_tasks.specs.ResultTasks.{result_width}
 use Rattle.ms_tasks.proofs.OperandWords.{word_less}
-use Rattle.ms_tasks.proofs.Words.{Is, is_leaf, is_number, is_bits, is_or, mask_carry, mask_and, mask_or, mask_compare, mask_select}
+use Rattle.ms_tasks.proofs.CheckTasks.{zero_word}
+use Rattle.ms_tasks.proofs.JoinedWords.{Makes, AllMake, own_mask, joined_is}
+use Rattle.ms_tasks.proofs.Words.{Is, is_leaf, is_bits, is_or, mask_carry, mask_and, mask_or, mask_compare, mask_select}
 use Rattle.ms_tasks.proofs.LastOrigins.{AllWords, AllClean}
 
 wrap_below : (w : ℕ) (z : ℤ) → wrap w z < 2 ^ w
@@ -110,12 +112,36 @@ module _ (s : Setting) (names : Name → ℕ) where
           ∙ sym (wrap_signed w x (subst (λ n. n < 2 ^ w) e (word_less s names w m))) ∙ ap (λ i. wrap i (signed w x)) (sym same))
       by_width false f = record { raw = ap (λ n. wrap 64 (signed w n)) e; less = wrap_below 64 (signed w x) }
 
-  pub union_value : (env : Env) (values : Name → Poisoned) (is : List (Ty × Operand)) (root : ℕ)
+  -- the masks of indices
+  indices_make : (env : Env) (values : Name → Poisoned) (is : List (Ty × Operand)) (root : ℕ)
       → AllWords s names (tracked env root is) (read_all (read_poisoned s values) is root)
-      → Is s names 64 (union_all (tracked env root is)) (union (extended_all is (map (λ p. p.mask) (read_all (read_poisoned s values) is root))))
-  union_value env values [] root h = is_number s names 64 0 (omega arith)
-  union_value env values (i ∷ is) root h =
-      is_or s names (extended_value (width_of i.0) _ _ h.0.mask) (union_value env values is (root + one_undef i.1) h.1)
+      → AllMake s names 64 extended_mask (tracked env root is) (extended_all is (map (λ p. p.mask) (read_all (read_poisoned s values) is root)))
+  indices_make env values [] root h = tt
+  indices_make env values (i ∷ is) root h = (
+    record {
+      word = extended_value (width_of i.0) _ _ h.0.mask;
+      clean = λ z. ap (extended (width_of i.0)) (sym h.0.mask ∙ zero_word s names (width_of i.0) _ z) ∙ wrap_zero (width_of i.0) 64;
+    },
+    indices_make env values is (root + one_undef i.1) h.1,
+  )
+
+  -- of an address, of which the base's mask has 64 bits as it is
+  address_value : (env : Env) (values : Name → Poisoned) (a : Operand) (is : List (Ty × Operand)) (root : ℕ)
+      → AllWords s names (tracked env root ((Ptr, a) ∷ is)) (read_all (read_poisoned s values) ((Ptr, a) ∷ is) root)
+      → Is s names 64 (address_expr (tracked env root ((Ptr, a) ∷ is)))
+      (carry_mask 64 (bit_or (read_poisoned s values root Ptr a).mask (union (extended_all is (map (λ p. p.mask) (read_all (read_poisoned s values) is (root + one_undef a)))))))
+  address_value env values a is root h =
+      let base : Makes s names 64 extended_mask _ _ = record { word = is_leaf s names 64 _ _ h.0.mask; clean = λ z. sym h.0.mask ∙ zero_word s names 64 _ z } in
+      mask_carry s names
+      (joined_is s names 64 extended_mask (tracked env root ((Ptr, a) ∷ is))
+      ((read_poisoned s values root Ptr a).mask ∷ extended_all is (map (λ p. p.mask) (read_all (read_poisoned s values) is (root + one_undef a))))
+      (base, indices_make env values is (root + one_undef a) h.1))
+
+  sum_value : (w : ℕ) (a b : Tracked) (x y : ℕ) → operand_word s names w a.mask ≡ x → operand_word s names w b.mask ≡ y → Is s names w (sum_expr w (a ∷ b ∷ [])) (carry_mask w (bit_or x y))
+  sum_value w a b x y p q =
+      let made : AllMake s names w mask_of (a ∷ b ∷ []) (x ∷ y ∷ []) = (own_mask s names w a x p, (own_mask s names w b y q, tt)) in
+      mask_carry s names
+      (subst (Is s names w (joined (Int w) mask_of (unknown (a ∷ b ∷ [])))) (ap (bit_or x) (or_zero_r y)) (joined_is s names w mask_of (a ∷ b ∷ []) (x ∷ y ∷ []) made))
 
   -- the mask of a result
   pub mask_value : (env : Env) (values : Name → Poisoned) (root : ℕ) (o : Op) → IsWordOp o → (w : World)
@@ -127,9 +153,9 @@ module _ (s : Setting) (names : Name → ℕ) where
   mask_value env values root (op.Binary binary.Or f t a b) k w h =
       (mask_or s names (is_leaf s names (width_of t) a _ h.0.value) (is_leaf s names (width_of t) _ _ h.0.mask) (is_leaf s names (width_of t) b _ h.1.0.value) (is_leaf s names (width_of t) _ _ h.1.0.mask)).raw
   mask_value env values root (op.Binary binary.Xor f t a b) k w h = (is_or s names (is_leaf s names (width_of t) _ _ h.0.mask) (is_leaf s names (width_of t) _ _ h.1.0.mask)).raw
-  mask_value env values root (op.Binary binary.Add f t a b) k w h = (mask_carry s names (is_or s names (is_leaf s names (width_of t) _ _ h.0.mask) (is_leaf s names (width_of t) _ _ h.1.0.mask))).raw
-  mask_value env values root (op.Binary binary.Sub f t a b) k w h = (mask_carry s names (is_or s names (is_leaf s names (width_of t) _ _ h.0.mask) (is_leaf s names (width_of t) _ _ h.1.0.mask))).raw
-  mask_value env values root (op.Binary binary.Mul f t a b) k w h = (mask_carry s names (is_or s names (is_leaf s names (width_of t) _ _ h.0.mask) (is_leaf s names (width_of t) _ _ h.1.0.mask))).raw
+  mask_value env values root (op.Binary binary.Add f t a b) k w h = (sum_value (width_of t) _ _ _ _ h.0.mask h.1.0.mask).raw
+  mask_value env values root (op.Binary binary.Sub f t a b) k w h = (sum_value (width_of t) _ _ _ _ h.0.mask h.1.0.mask).raw
+  mask_value env values root (op.Binary binary.Mul f t a b) k w h = (sum_value (width_of t) _ _ _ _ h.0.mask h.1.0.mask).raw
   mask_value env values root (op.Binary binary.Udiv f t a b) k w h = h.0.mask
   mask_value env values root (op.Binary binary.Sdiv f t a b) k w h = h.0.mask
   mask_value env values root (op.Binary binary.Urem f t a b) k w h = h.0.mask
@@ -144,7 +170,7 @@ module _ (s : Setting) (names : Name → ℕ) where
   mask_value env values root (op.Alloca t u c) k w h = zero-mod (2 ^ 64)
   mask_value env values root (op.Call (Some t) callee args) k w h = zero-mod (2 ^ width_of t)
   mask_value env values root (op.Call None callee args) k w h = zero-mod (2 ^ 64)
-  mask_value env values root (op.Gep t a is) k w h = (mask_carry s names (is_or s names (is_leaf s names 64 _ _ h.0.mask) (union_value env values is (root + one_undef a) h.1))).raw
+  mask_value env values root (op.Gep t a is) k w h = (address_value env values a is root h).raw
   mask_value env values root (op.Binary binary.Shl f t a b) k w h = absurd k
   mask_value env values root (op.Binary binary.Lshr f t a b) k w h = absurd k
   mask_value env values root (op.Binary binary.Ashr f t a b) k w h = absurd k

@@ -8,8 +8,8 @@ use Rattle.ms_ir.specs.Layout.{width_of}
 use Rattle.ms_bits.specs.declared.operations.BinOp.TheVariants as binary
 use Rattle.ms_ir.specs.declared.calls.RuntimeFn.TheVariants as function
 use Rattle.ms_runs.specs.Uses.{Use, Word, Bytes, Line, has_flag}
-use Rattle.ms_tasks.specs.Tasks.{Expr, Task, Or, Two, Calls}
-use Rattle.ms_tasks.specs.Environments.{Tracked, tracked_at, is_zero, mask_of, origin_of, word_of, widened, number}
+use Rattle.ms_tasks.specs.Tasks.{Expr, Task, Calls}
+use Rattle.ms_tasks.specs.Environments.{Tracked, tracked_at, is_zero, mask_of, origin_of, word_of, widened, widened_mask, joined, unknown, number}
 
 -- ---- checks
 
@@ -68,8 +68,7 @@ all_zero (t ∷ ts) = is_zero t.mask && all_zero ts
 
 -- the masks of operands, widened and joined
 abbrev pub union_masks : List Tracked → Expr
-union_masks [] = number 0
-union_masks (t ∷ ts) = Two Or (Int 64) (widened (width_of t.ty) (mask_of t)) (union_masks ts)
+union_masks ts = joined (Int 64) widened_mask (unknown ts)
 
 -- the blind count of one instruction, which is left out where all masks are known to be 0
 abbrev pub blind_tasks : List Tracked → List Task

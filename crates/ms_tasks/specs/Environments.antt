@@ -8,7 +8,7 @@ use Rattle.ms_ir.specs.Layout.{width_of, Types}
 use Rattle.ms_ir.specs.Code.{one_undef}
 use Rattle.ms_bits.specs.declared.operations.CastOp.TheVariants as cast
 use Rattle.ms_bits.specs.declared.operations.Pred.TheVariants as pred
-use Rattle.ms_tasks.specs.Tasks.{mask_name, origin_name, Expr, Leaf, Turn, Test}
+use Rattle.ms_tasks.specs.Tasks.{mask_name, origin_name, Expr, Or, Leaf, Two, Turn, Test}
 
 -- a function's values: the number of each, counted from 0, parameters first and then results in text order; and which are
 -- known to have the mask 0
@@ -78,6 +78,11 @@ abbrev pub is_zero : Operand → Bool
 is_zero (operand.Int n) = eqb n 0
 is_zero _ = false
 
+-- the operands whose masks aren't known to be 0
+abbrev pub unknown : List Tracked → List Tracked
+unknown [] = []
+unknown (t ∷ ts) = if is_zero t.mask then unknown ts else t ∷ unknown ts
+
 -- the mask of an operand
 abbrev pub mask_of : Tracked → Expr
 mask_of t = Leaf t.mask
@@ -107,6 +112,19 @@ number n = Leaf (operand.Int n)
 -- a word isn't 0
 abbrev pub is_set : Ty → Expr → Expr
 is_set t e = Test pred.Ne t e (number 0)
+
+-- the mask of an operand as a word of 64 bits, with zeros above it or with copies of its sign bit
+abbrev pub widened_mask : Tracked → Expr
+widened_mask t = widened (width_of t.ty) (mask_of t)
+
+abbrev pub extended_mask : Tracked → Expr
+extended_mask t = extended_expr (width_of t.ty) (mask_of t)
+
+-- the union of words of one type, each made of an operand
+abbrev pub joined : Ty → (Tracked → Expr) → List Tracked → Expr
+joined ty f [] = number 0
+joined ty f (t ∷ []) = f t
+joined ty f (t ∷ u ∷ us) = Two Or ty (f t) (joined ty f (u ∷ us))
 
 -- the word of an operand as a number of a mask's type
 abbrev pub bits_at : Ty → Expr → Expr

@@ -1,6 +1,6 @@
 -- The mask and the origin of a result that is one word, as words that inserted code computes (after Stepanov and
 -- Serebryany, CGO 2015; own in this exact form).
-use Rattle.std.specs.Prelude.{ℕ, ◌-◌, ◌^◌, eqb, List, [], ◌∷◌, if◌then◌else◌, drop}
+use Rattle.std.specs.Prelude.{ℕ, ◌-◌, ◌^◌, eqb, List, [], ◌∷◌, if◌then◌else◌}
 use Rattle.ms_bits.specs.declared.operations.BinOp.{BinOp}
 use Rattle.ms_bits.specs.declared.operations.CastOp.{CastOp}
 use Rattle.ms_bits.specs.declared.operations.Pred.{Pred}
@@ -12,7 +12,7 @@ use Rattle.ms_bits.specs.declared.operations.BinOp.TheVariants as binary
 use Rattle.ms_bits.specs.declared.operations.CastOp.TheVariants as cast
 use Rattle.ms_bits.specs.declared.operations.Pred.TheVariants as pred
 use Rattle.ms_tasks.specs.Tasks.{Expr, And, Or, Xor, Sub, Two, Turn, Test, Pick}
-use Rattle.ms_tasks.specs.Environments.{mask_type, Tracked, tracked_at, mask_of, origin_of, word_of, widened, extended_expr, number, is_set, bits_of}
+use Rattle.ms_tasks.specs.Environments.{mask_type, Tracked, tracked_at, mask_of, origin_of, word_of, widened, extended_mask, joined, unknown, number, is_set, bits_of}
 
 -- ---- masks: v and u are the words of two operands and m and k their masks
 
@@ -87,19 +87,21 @@ cast_expr cast.PtrToInt w to m = if eqb to 64 then m else Turn cast.Trunc (Int w
 cast_expr cast.IntToPtr w to m = widened w m
 cast_expr cast.Bitcast w to m = m
 
--- the sign-extended masks of the indices of `getelementptr`, joined
-abbrev pub union_all : List Tracked → Expr
-union_all [] = number 0
-union_all (t ∷ ts) = Two Or (Int 64) (extended_expr (width_of t.ty) (mask_of t)) (union_all ts)
+-- of a sum or a product, and of an address, whose base's mask has 64 bits: a mask that is known to be 0 is left out
+abbrev pub sum_expr : ℕ → List Tracked → Expr
+sum_expr w ts = carry_expr (Int w) (joined (Int w) mask_of (unknown ts))
+
+abbrev pub address_expr : List Tracked → Expr
+address_expr ts = carry_expr (Int 64) (joined (Int 64) extended_mask (unknown ts))
 
 -- the mask of an operation, but a shift's: of a division the dividend's
 abbrev pub binary_expr : BinOp → ℕ → Tracked → Tracked → Expr
 binary_expr binary.And w a b = and_expr (Int w) (word_of a) (mask_of a) (word_of b) (mask_of b)
 binary_expr binary.Or w a b = or_expr w (word_of a) (mask_of a) (word_of b) (mask_of b)
 binary_expr binary.Xor w a b = union_expr (Int w) (mask_of a) (mask_of b)
-binary_expr binary.Add w a b = carry_expr (Int w) (union_expr (Int w) (mask_of a) (mask_of b))
-binary_expr binary.Sub w a b = carry_expr (Int w) (union_expr (Int w) (mask_of a) (mask_of b))
-binary_expr binary.Mul w a b = carry_expr (Int w) (union_expr (Int w) (mask_of a) (mask_of b))
+binary_expr binary.Add w a b = sum_expr w (a ∷ b ∷ [])
+binary_expr binary.Sub w a b = sum_expr w (a ∷ b ∷ [])
+binary_expr binary.Mul w a b = sum_expr w (a ∷ b ∷ [])
 binary_expr _ w a b = mask_of a
 
 -- the mask of a result that is one word
@@ -111,7 +113,7 @@ mask_expr (op.Cast o f t a u) ts = cast_expr o (width_of t) (width_of u) (mask_o
 mask_expr (op.Select c t a b) ts =
     select_expr (width_of t) (word_of (tracked_at 0 ts)) (mask_of (tracked_at 0 ts))
     (bits_of (tracked_at 1 ts)) (mask_of (tracked_at 1 ts)) (bits_of (tracked_at 2 ts)) (mask_of (tracked_at 2 ts))
-mask_expr (op.Gep t a is) ts = carry_expr (Int 64) (union_expr (Int 64) (mask_of (tracked_at 0 ts)) (union_all (drop 1 ts)))
+mask_expr (op.Gep t a is) ts = address_expr ts
 mask_expr _ ts = number 0
 
 -- ---- origins

@@ -17,7 +17,7 @@ const RUNTIME: &str =
     "declare void @__msan_check(i64, i32, i32, i32, i32, i32)\ndeclare void @__msan_check_memory(ptr, i64, i32, i32)\ndeclare void @__msan_check_string(ptr, i32)\ndeclare void @__msan_blind(i64)\ndeclare void @__msan_poison(ptr, i64, i64, i32)\ndeclare void @__msan_unpoison(ptr, i64)\ndeclare void @__msan_copy(ptr, ptr, i64)\ndeclare void @__msan_fill(ptr, i64, i64, i32, i32)\ndeclare void @__msan_store_origin(ptr, i64, i32, i32)\ndeclare i32 @__msan_load_origin(ptr, i64)\ndeclare i64 @__msan_size(ptr)\n";
 
 /// Modules are written with inserted code.
-static LISTINGS: [Listing; 12] = [
+static LISTINGS: [Listing; 13] = [
     // Nothing that is known to be defined is checked, and without a mark the last line is missing.
     Listing(
         "%t = type { i8, ptr }\n@g = global i8 7\n",
@@ -139,19 +139,14 @@ define i32 @main() {
         "define i32 @main() {\n  %1 = add nsw i32 undef, 1\n  %2 = call i32 @putchar(i32 %1)\n  ret i32 0\n}\n",
         "define i32 @main() {
   %__msan.5 = zext i32 -1 to i64, !nosanitize !0
-  %__msan.6 = zext i32 0 to i64, !nosanitize !0
-  %__msan.7 = or i64 %__msan.6, 0, !nosanitize !0
-  %__msan.8 = or i64 %__msan.5, %__msan.7, !nosanitize !0
-  call void @__msan_blind(i64 %__msan.8), !nosanitize !0
-  %__msan.9 = icmp ne i32 0, 0, !nosanitize !0
-  %__msan.2 = select i1 %__msan.9, i32 0, i32 1, !nosanitize !0
-  %__msan.10 = or i32 -1, 0, !nosanitize !0
-  %__msan.11 = or i32 -1, 0, !nosanitize !0
-  %__msan.12 = sub i32 0, %__msan.11, !nosanitize !0
-  %__msan.1 = or i32 %__msan.10, %__msan.12, !nosanitize !0
+  call void @__msan_blind(i64 %__msan.5), !nosanitize !0
+  %__msan.6 = icmp ne i32 0, 0, !nosanitize !0
+  %__msan.2 = select i1 %__msan.6, i32 0, i32 1, !nosanitize !0
+  %__msan.7 = sub i32 0, -1, !nosanitize !0
+  %__msan.1 = or i32 -1, %__msan.7, !nosanitize !0
   %1 = add nsw i32 undef, 1
-  %__msan.13 = zext i32 %__msan.1 to i64, !nosanitize !0
-  call void @__msan_check(i64 %__msan.13, i32 32, i32 %__msan.2, i32 7, i32 0, i32 2), !nosanitize !0
+  %__msan.8 = zext i32 %__msan.1 to i64, !nosanitize !0
+  call void @__msan_check(i64 %__msan.8, i32 32, i32 %__msan.2, i32 7, i32 0, i32 2), !nosanitize !0
   %2 = call i32 @putchar(i32 %1)
   ret i32 0
 }
@@ -168,10 +163,8 @@ define i32 @main() {
   %__msan.2 = load i32, ptr getelementptr (i32, ptr @__msan_param_origin_tls, i64 0), !nosanitize !0
   %__msan.5 = icmp ne i8 0, 0, !nosanitize !0
   %__msan.4 = select i1 %__msan.5, i32 0, i32 %__msan.2, !nosanitize !0
-  %__msan.6 = or i8 %__msan.1, 0, !nosanitize !0
-  %__msan.7 = or i8 %__msan.1, 0, !nosanitize !0
-  %__msan.8 = sub i8 0, %__msan.7, !nosanitize !0
-  %__msan.3 = or i8 %__msan.6, %__msan.8, !nosanitize !0
+  %__msan.6 = sub i8 0, %__msan.1, !nosanitize !0
+  %__msan.3 = or i8 %__msan.1, %__msan.6, !nosanitize !0
   %2 = mul i8 %0, 3
   store i8 %__msan.3, ptr @__msan_retval_tls, !nosanitize !0
   store i32 %__msan.4, ptr @__msan_retval_origin_tls, !nosanitize !0
@@ -183,23 +176,54 @@ define i32 @main() {
 !0 = !{}
 ",
     ),
-    // The same of an address, of whose base and indices the masks are joined as words of 64 bits.
+    // Masks that aren't known to be 0 are joined, of a blind use as words of 64 bits.
     Listing(
         "",
         "",
-        "define i32 @main() {\n  %1 = getelementptr i8, ptr undef, i8 1\n  ret i32 0\n}\n",
+        "define i8 @f(i8 %0, i8 %1) {\n  %3 = add nsw i8 %0, %1\n  ret i8 %3\n}\ndefine i32 @main() {\n  ret i32 0\n}\n",
+        "define i8 @f(i8 %0, i8 %1) {
+  %__msan.1 = load i8, ptr getelementptr (i64, ptr @__msan_param_tls, i64 0), !nosanitize !0
+  %__msan.2 = load i32, ptr getelementptr (i32, ptr @__msan_param_origin_tls, i64 0), !nosanitize !0
+  %__msan.3 = load i8, ptr getelementptr (i64, ptr @__msan_param_tls, i64 1), !nosanitize !0
+  %__msan.4 = load i32, ptr getelementptr (i32, ptr @__msan_param_origin_tls, i64 1), !nosanitize !0
+  %__msan.7 = zext i8 %__msan.1 to i64, !nosanitize !0
+  %__msan.8 = zext i8 %__msan.3 to i64, !nosanitize !0
+  %__msan.9 = or i64 %__msan.7, %__msan.8, !nosanitize !0
+  call void @__msan_blind(i64 %__msan.9), !nosanitize !0
+  %__msan.10 = icmp ne i8 %__msan.3, 0, !nosanitize !0
+  %__msan.6 = select i1 %__msan.10, i32 %__msan.4, i32 %__msan.2, !nosanitize !0
+  %__msan.11 = or i8 %__msan.1, %__msan.3, !nosanitize !0
+  %__msan.12 = or i8 %__msan.1, %__msan.3, !nosanitize !0
+  %__msan.13 = sub i8 0, %__msan.12, !nosanitize !0
+  %__msan.5 = or i8 %__msan.11, %__msan.13, !nosanitize !0
+  %3 = add nsw i8 %0, %1
+  store i8 %__msan.5, ptr @__msan_retval_tls, !nosanitize !0
+  store i32 %__msan.6, ptr @__msan_retval_origin_tls, !nosanitize !0
+  ret i8 %3
+}
+define i32 @main() {
+  ret i32 0
+}
+!0 = !{}
+",
+    ),
+    // An address: the masks of its base and of the index that isn't known are joined as words of 64 bits.
+    Listing(
+        "",
+        "",
+        "define i32 @main() {\n  %1 = getelementptr [2 x i8], ptr undef, i64 0, i8 undef\n  ret i32 0\n}\n",
         "define i32 @main() {
-  %__msan.3 = icmp ne i8 0, 0, !nosanitize !0
-  %__msan.2 = select i1 %__msan.3, i32 0, i32 1, !nosanitize !0
-  %__msan.4 = sext i8 0 to i64, !nosanitize !0
-  %__msan.5 = or i64 %__msan.4, 0, !nosanitize !0
-  %__msan.6 = or i64 -1, %__msan.5, !nosanitize !0
-  %__msan.7 = sext i8 0 to i64, !nosanitize !0
-  %__msan.8 = or i64 %__msan.7, 0, !nosanitize !0
+  %__msan.3 = icmp ne i8 -1, 0, !nosanitize !0
+  %__msan.4 = icmp ne i64 0, 0, !nosanitize !0
+  %__msan.5 = select i1 %__msan.4, i32 0, i32 1, !nosanitize !0
+  %__msan.2 = select i1 %__msan.3, i32 2, i32 %__msan.5, !nosanitize !0
+  %__msan.6 = sext i8 -1 to i64, !nosanitize !0
+  %__msan.7 = or i64 -1, %__msan.6, !nosanitize !0
+  %__msan.8 = sext i8 -1 to i64, !nosanitize !0
   %__msan.9 = or i64 -1, %__msan.8, !nosanitize !0
   %__msan.10 = sub i64 0, %__msan.9, !nosanitize !0
-  %__msan.1 = or i64 %__msan.6, %__msan.10, !nosanitize !0
-  %1 = getelementptr i8, ptr undef, i8 1
+  %__msan.1 = or i64 %__msan.7, %__msan.10, !nosanitize !0
+  %1 = getelementptr [ 2 x i8 ], ptr undef, i64 0, i8 undef
   ret i32 0
 }
 !0 = !{}

@@ -1,12 +1,12 @@
-use Rattle.std.proofs.Common.{◌≡◌, ℕ, [], List, map, sym, ap, ◌∙◌, subst, OnOk}
+use Rattle.std.proofs.Common.{◌≡◌, ℕ, [], ◌∷◌, List, map, sym, ap, ◌∙◌, subst, OnOk}
 use Rattle.ms_ir.specs.declared.syntax.Op.TheVariants as operation
 use Rattle.ms_tasks.specs.Tasks.{Task, mask_name, origin_name}
 use Rattle.ms_tasks.specs.Environments.{tracked_at}
-use Rattle.ms_tasks.specs.ResultMasks.{binary_expr, first_last}
+use Rattle.ms_tasks.specs.ResultMasks.{binary_expr, sum_expr, first_last}
 use Rattle.ms_rules_code.specs.Made.{with_tasks}
 use Rattle.ms_rules_code.specs.Steps.{Inputs, tracked_of, words}
 use Rattle.ms_rules_results.specs.Rules.{defined}
-use Rattle.ms_rules_results.proofs.Shifts.{of_a_shift, of_no_shift}
+use Rattle.ms_rules_results.proofs.Shifts.{of_a_shift, of_no_shift, of_a_sum}
 use Rattle.ms_rules_results.proofs.results.define_binary.Goals as goal
 
 pub returns-in-Shl : goal.returns-in-Shl
@@ -14,6 +14,13 @@ returns-in-Shl c = λ f t a b e.
     let v = c.args.value in let o = c.args.op in
     subst (λ (l : List Task). OnOk c.define_shift.result (c.define_shift.new.code ≡ with_tasks c.args.code.now l))
     (sym (of_a_shift (mask_name v) (origin_name v) (operation.Binary o f t a b) c.args.width (map tracked_of c.args.operands.now) o c.in-Shl.is)) c.define_shift.ensures
+
+pub returns-in-Add : goal.returns-in-Add
+returns-in-Add c = λ f t a b e.
+    let v = c.args.value in let ts = map tracked_of c.args.operands.now in
+    let tasks = λ (u : ℕ). let l : List Task = defined v u (first_last ts) (sum_expr u (tracked_at 0 ts ∷ tracked_at 1 ts ∷ [])) in l in
+    subst (λ (l : List Task). OnOk c.define_sum.result (c.define_sum.new.code ≡ with_tasks c.args.code.now l))
+    (ap tasks (sym e) ∙ sym (of_a_sum (mask_name v) (origin_name v) f t a b c.args.width ts c.args.op c.in-Add.is)) c.define_sum.ensures
 
 pub returns-in_default : goal.returns-in_default
 returns-in_default c = λ f t a b e.
