@@ -114,7 +114,6 @@ def check_commands(document):
 # ---- what isn't taken: a program, and the message that MANUAL has for it
 
 C = {
-    '#include <stdio.h>\nint main(void) { printf("%d", 3); return 0; }': "14: external @printf",
     '#include <stdio.h>\nint main(void) { int n; scanf("%d", &n); return n; }': "5: outside function type",
     '#include <stdio.h>\nint main(void) { char b[9]; sprintf(b, "%d", 3); return 0; }': "4: syntax",
     "static int f(void) { return 0; }\nstatic int g(int (*p)(void)) { return p(); }\nint main(void) { return g(f); }": "5: outside indirect call",

@@ -2,7 +2,7 @@
 
 use crate::answers::{Case, Want};
 
-pub static EXTERNALS: [Case; 15] = [
+pub static EXTERNALS: [Case; 21] = [
     Case(
         r#"declare i32 @putchar(i32)
 define i32 @main() {
@@ -70,6 +70,59 @@ define i32 @main() {
 }
 "#,
         Want::BadExternal("@rename"),
+    ),
+    // `printf` as it is declared; with a parameter too many; with another result, also where it isn't called.
+    Case(
+        r#"declare i32 @printf(ptr, ...)
+define i32 @main() {
+  %1 = call i32 (ptr, ...) @printf(ptr null, i32 1, i64 2, ptr null)
+  ret i32 0
+}
+"#,
+        Want::Valid,
+    ),
+    Case(
+        r#"declare i32 @printf(ptr, i32)
+define i32 @main() {
+  %1 = call i32 @printf(ptr null, i32 1)
+  ret i32 0
+}
+"#,
+        Want::BadExternal("@printf"),
+    ),
+    Case(
+        r#"declare void @printf(ptr)
+define i32 @main() {
+  call void @printf(ptr null)
+  ret i32 0
+}
+"#,
+        Want::BadExternal("@printf"),
+    ),
+    Case(
+        r#"declare void @printf(ptr)
+define i32 @main() {
+  ret i32 0
+}
+"#,
+        Want::Valid,
+    ),
+    // The check of a format has its types, called or not.
+    Case(
+        r#"declare void @__msan_check_format(ptr, i32, ptr, i32)
+define i32 @main() {
+  ret i32 0
+}
+"#,
+        Want::Valid,
+    ),
+    Case(
+        r#"declare void @__msan_check_format(ptr, i64, ptr, i32)
+define i32 @main() {
+  ret i32 0
+}
+"#,
+        Want::BadExternal("@__msan_check_format"),
     ),
     // A copy that isn't volatile, one that is, and a function of the module with that name.
     Case(

@@ -94,13 +94,10 @@ static PRINTED: [Line; 4] = [
         "  %4 = call i32 (ptr, ...) @printf(ptr @g, i8 1)\n",
         Want::TypeMismatch(3, 1),
     ),
+    Line("  %4 = call i32 (ptr, ...) @printf(ptr @g)\n", Want::Valid),
     Line(
-        "  %4 = call i32 (ptr, ...) @printf(ptr @g)\n",
-        Want::BadExternal("@printf"),
-    ),
-    Line(
-        "  %4 = call i32 (ptr, ...) @printf(ptr @g, ptr @g, ptr @g)\n",
-        Want::BadExternal("@printf"),
+        "  %4 = call i32 (ptr, ...) @printf(ptr @g, i32 %0, i64 %1, ptr %2)\n",
+        Want::Valid,
     ),
 ];
 

@@ -18,7 +18,7 @@ use Rattle.ms_ir.specs.declared.calls.External.{External}
 use Rattle.ms_ir.specs.declared.calls.External.TheVariants.{Realloc, Memset}
 use Rattle.ms_ir.specs.Code.{operands, one_undef, count_undefs, external_named, over_insts}
 use Rattle.ms_ir.specs.Layout.{width_of}
-use Rattle.ms_runs.specs.Uses.{Use, Word, Bytes, Line, uses}
+use Rattle.ms_runs.specs.Uses.{Use, Word, Bytes, Line, uses, Asked}
 use Rattle.ms_runs.specs.World.{Here}
 use Rattle.ms_runs_good.proofs.OpEffects.{value_width}
 use Rattle.ms_valid.specs.CleanValues.{is_clean_operand}
@@ -202,6 +202,7 @@ module _ (clean : Name → Bool) (os : List (Ty × Operand)) (site : ℕ) (ts : 
   uses_counted (Word kind k ∷ us) = one_word kind k (check_tasks site ts us) us (uses_counted us) (is_zero (tracked_at k ts).mask) (is_clean_at clean os k) (same k)
   uses_counted (Bytes kind a n ∷ us) = let e = uses_counted us in omega (arith, e)
   uses_counted (Line a ∷ us) = let e = uses_counted us in omega (arith, e)
+  uses_counted (Asked a ∷ us) = let e = uses_counted us in omega (arith, e)
 
 -- ---- an instruction
 

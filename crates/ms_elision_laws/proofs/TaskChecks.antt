@@ -80,6 +80,7 @@ call_checks : (f : RuntimeFn) (x : Option Name) (ret : Option Ty) (args : List (
 call_checks function.Check x ret args = refl
 call_checks function.CheckMemory x ret args = refl
 call_checks function.CheckString x ret args = refl
+call_checks function.CheckFormat x ret args = refl
 call_checks function.Blind x ret args = refl
 call_checks function.Poison x ret args = refl
 call_checks function.Unpoison x ret args = refl

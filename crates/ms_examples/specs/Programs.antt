@@ -1,21 +1,26 @@
 -- Example programs beside those of `ms_ir`, and words and worlds for writing examples down.
-use Rattle.std.specs.Prelude.{ℕ, zero, suc, ◌+◌, ◌*◌, List, [], ◌∷◌, ◌++◌}
+use Rattle.std.specs.Prelude.{ℕ, zero, suc, ◌+◌, ◌*◌, true, List, [], ◌∷◌, ◌++◌, length, Some, codes}
 use Rattle.ms_bits.specs.declared.operations.BinOp.TheVariants as binary
 use Rattle.ms_bits.specs.declared.operations.CastOp.{CastOp}
 use Rattle.ms_bits.specs.declared.operations.CastOp.TheVariants as cast
 use Rattle.ms_bits.specs.declared.operations.Pred.TheVariants as predicate
 use Rattle.ms_bits.specs.Conversions.{cast_of}
+use Rattle.ms_ir.specs.declared.syntax.GlobalVar.{GlobalVar}
+use Rattle.ms_ir.specs.declared.syntax.Init as init
 use Rattle.ms_ir.specs.declared.syntax.Inst.{Inst}
 use Rattle.ms_ir.specs.declared.syntax.Module.{Module}
 use Rattle.ms_ir.specs.declared.syntax.Op.TheVariants as op
+use Rattle.ms_ir.specs.declared.syntax.Operand.{Operand}
+use Rattle.ms_ir.specs.declared.syntax.Operand.TheVariants as operand
+use Rattle.ms_ir.specs.declared.syntax.Ty.{Ty, Ptr}
 use Rattle.ms_bits.specs.NoFlags.{no_flags}
 use Rattle.ms_runs.specs.Masks.{value_or_zero}
 use Rattle.ms_runs.specs.Plain.{start_world}
 use Rattle.ms_runs.specs.Poisoned.{Poisoned}
 use Rattle.ms_runs.specs.World.{World}
-use Rattle.ms_ir.specs.ExampleCalls.{calloc}
+use Rattle.ms_ir.specs.ExampleCalls.{calloc, printf}
 use Rattle.ms_ir.specs.ExampleModules.{shared_cell}
-use Rattle.ms_ir.specs.ExampleParts.{i8, i32, i64, array, local, int, undef, sets, does, binary as combine, icmp, convert, alloca, branch, ret, call, block, main_blocks, main_of}
+use Rattle.ms_ir.specs.ExampleParts.{i8, i32, i64, array, local, int, undef, sets, does, binary as combine, icmp, convert, alloca, branch, ret, call, name, returns, block, main_blocks, main_of}
 use Rattle.ms_runs.specs.ExampleRuns.{defaults}
 
 -- a word with a mask, from no origin
@@ -67,3 +72,22 @@ sixteen_pairs = pairs_from 16 2 2
 -- a world with pairs
 abbrev pub with_pairs : List (ℕ × ℕ) → World
 with_pairs pairs = record (start_world shared_cell defaults) { pairs = pairs }
+
+-- a constant of these bytes
+abbrev pub text_global : List ℕ → List ℕ → GlobalVar
+text_global x bytes = record { name = name x; constant = true; ty = array (length bytes) i8; init = init.Text bytes }
+
+-- `printf` is called with a format, whose zero byte is among its bytes, and further arguments; what it gives is returned
+abbrev pub prints_by : List ℕ → List (Ty × Operand) → Module
+prints_by format rest =
+    record (main_of (sets 1 (op.Call (Some i32) (name (codes "printf")) ((Ptr, operand.Global (name (codes "f"))) ∷ rest)) ∷ returns 1) (printf ∷ [])) {
+      globals = text_global (codes "f") format ∷ text_global (codes "s") (118 ∷ 0 ∷ []) ∷ text_global (codes "t") (118 ∷ []) ∷ [];
+    }
+
+-- the string `v`
+abbrev pub letter_v : Ty × Operand
+letter_v = (Ptr, operand.Global (name (codes "s")))
+
+-- the same byte without a zero byte after it
+abbrev pub no_string : Ty × Operand
+no_string = (Ptr, operand.Global (name (codes "t")))

@@ -146,7 +146,7 @@ pub fn externals_differ()
     ensures main { defines_main (with_func (codes "main") (Some i32) [] ends (module_of [] [])) ≡ true }
     ensures not_called { bad_externals (body_with (declares (codes "putchar") None [] ∷ declares (codes "f") None [] ∷ []) []) ≡ [] }
     ensures none_of_them { bad_externals (body_with (declares (codes "f") None [] ∷ []) (calls_void (codes "f") [] ∷ [])) ≡ name (codes "f") ∷ [] }
-    ensures printf { bad_externals (body_with (declares (codes "printf") (Some i32) (ty.Ptr ∷ []) ∷ []) (sets 1 (op.Call (Some i32) (name (codes "printf")) ((ty.Ptr, operand.Null) ∷ [])) ∷ [])) ≡ name (codes "printf") ∷ [] }
+    ensures printf { bad_externals (body_with (declares (codes "printf") (Some i32) (ty.Ptr ∷ []) ∷ []) (sets 1 (op.Call (Some i32) (name (codes "printf")) ((ty.Ptr, operand.Null) ∷ [])) ∷ [])) ≡ [] }
     ensures own_malloc { bad_externals own_malloc ≡ [] }
     ensures volatile { bad_externals (body_with (llvm_memcpy ∷ []) (does (call llvm_memcpy (operand.Null ∷ operand.Null ∷ int 0 ∷ int 1 ∷ [])) ∷ [])) ≡ llvm_memcpy.name ∷ [] }
     ensures not_volatile { bad_externals (body_with (llvm_memcpy ∷ []) (does (call llvm_memcpy (operand.Null ∷ operand.Null ∷ int 0 ∷ int 0 ∷ [])) ∷ [])) ≡ [] }

@@ -4,6 +4,7 @@
 
 pub mod chains;
 pub mod faults;
+pub mod formats;
 pub mod forms;
 pub mod masks;
 pub mod plain_runs;

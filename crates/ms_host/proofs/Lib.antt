@@ -14,3 +14,4 @@ pub mod KeptNumbers
 pub mod InitParts
 pub mod GlobalsMade
 pub mod Matched
+pub mod FixedNumbers

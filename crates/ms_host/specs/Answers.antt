@@ -2,6 +2,7 @@
 use Rattle.std.specs.Prelude.{◌≡◌, ◌<◌, ◌^◌, ℕ, List, Option, Some, None, [], ◌∷◌, ◌++◌, length, get_or, eqb, if◌then◌else◌}
 use Rattle.ms_bits.specs.declared.traps.Trap.TheVariants as trap
 use Rattle.ms_bits.specs.Maps.{bytes_at}
+use Rattle.ms_ir.specs.declared.syntax.Ty.{Ty}
 use Rattle.ms_ir.specs.declared.calls.External.{External}
 use Rattle.ms_ir.specs.declared.calls.External.TheVariants as external
 use Rattle.ms_runs.specs.Externals.{external as external_effect, where_good, printed, taken, string_at, minus_one}
@@ -22,8 +23,9 @@ Answered beside (Does world) (answer.Resumed None) w = Shows w beside world
 Answered beside (Ends e world) (answer.Ended x) w = (x ≡ e) × Shows w beside world
 Answered beside _ _ w = ⊥
 
--- an external is asked for
+-- an external is asked for, other than `printf`, whose answer needs the types of its arguments
 abbrev pub IsExternal : Asked → Type 0
+IsExternal (asked.External external.Printf) = ⊥
 IsExternal (asked.External e) = Unit {0}
 IsExternal (asked.Runtime f) = ⊥
 
@@ -41,13 +43,13 @@ abbrev pub FitsExit : Asked → List ℕ → Type 0
 FitsExit (asked.External external.Exit) args = get_or args 0 0 < 2 ^ 32
 FitsExit _ args = Unit {0}
 
--- what a call that a run asks for comes to
-abbrev pub effect_asked : Setting → ℕ → Asked → List ℕ → World → Effect
-effect_asked setting site (asked.External e) args world = external_effect setting site e args world
-effect_asked setting site (asked.Runtime f) args world = runtime setting f args world
+-- what a call that a run asks for comes to, where the types of its arguments are given
+abbrev pub effect_asked : Setting → ℕ → Asked → List Ty → List ℕ → World → Effect
+effect_asked setting site (asked.External e) types args world = external_effect setting site e types args world
+effect_asked setting site (asked.Runtime f) types args world = runtime setting f args world
 
-abbrev pub asked_effect : Setting → HostCall → World → Effect
-asked_effect setting call world = effect_asked setting call.site call.asked call.args world
+abbrev pub asked_effect : Setting → List Ty → HostCall → World → Effect
+asked_effect setting types call world = effect_asked setting call.site call.asked types call.args world
 
 -- the run goes on with this result, or without one
 abbrev pub resumed : Option ℕ → World → Effect

@@ -1,5 +1,7 @@
 //! The answers to calls of externals.
-ghost use Rattle.std.specs.Prelude.{◌≡◌, ◌≤◌, ◌<◌, ◌+◌, ◌%◌, ◌^◌, get_or, IfOk};
+ghost use Rattle.std.specs.Prelude.{false, List, ◌≡◌, ◌≤◌, ◌<◌, ◌+◌, ◌%◌, ◌^◌, get_or, IfOk};
+ghost use Rattle.ms_ir.specs.declared.syntax.Ty.{Ty};
+ghost use Rattle.ms_ir.specs.Signatures.{is_variadic};
 ghost use Rattle.ms_runs.specs.World.{World as Meant, Setting};
 ghost use Rattle.ms_runs.specs.Externals.{external as external_of};
 ghost use Rattle.ms_host.specs.State.{Beside, Keeps};
@@ -26,14 +28,15 @@ fn low_byte(word: u64) -> u8
     (word % 256) as u8
 }
 
-/// Answers a call of an external: what it does to the world, and whether the run goes on.
+/// Answers a call of an external other than `printf`: what it does to the world, and whether the run goes on.
 ///
 /// An argument that is missing counts as 0. The one error is want of memory, and the run is over then.
+#[tactic(auto, using(crate::proofs::FixedNumbers::fixed_number))]
 pub fn answer(call: &HostCall, world: &mut World) -> Result<Answer, NoMemory>
     requires few { world.old.made + 2 ^ 26 < 2 ^ 64 }
     requires external { IsExternal call.now.asked }
     requires exit { FitsExit call.now.asked call.now.args }
-    ensures answered { (given : Setting) (beside : Beside) (meant : Meant) → world.old.fill ≡ given.fill → Shows world.old beside meant → IfOk result (λ a. Answered beside (asked_effect given call.now meant) a world.new) }
+    ensures answered { (given : Setting) (types : List Ty) (beside : Beside) (meant : Meant) → world.old.fill ≡ given.fill → Shows world.old beside meant → IfOk result (λ a. Answered beside (asked_effect given types call.now meant) a world.new) }
     ensures keeps { Keeps world.old world.new }
     ensures made { world.new.made ≤ world.old.made + 2 ^ 26 }
 {
@@ -54,7 +57,7 @@ impl World {
         site: u32,
     ) -> Result<Answer, NoMemory>
         requires { IsStream external }
-        ensures answered { (given : Setting) (beside : Beside) (world : Meant) → Shows self.old beside world → IfOk result (λ a. Answered beside (external_of given site external args.now world) a self.new) }
+        ensures answered { (given : Setting) (types : List Ty) (beside : Beside) (world : Meant) → Shows self.old beside world → IfOk result (λ a. Answered beside (external_of given site external types args.now world) a self.new) }
         ensures keeps { Keeps self.old self.new }
         ensures made { self.new.made ≡ self.old.made }
     {
@@ -80,7 +83,8 @@ impl World {
     ) -> Result<Answer, NoMemory>
         requires few { self.old.made + 2 ^ 26 < 2 ^ 64 }
         requires exit { external ≡ External.Exit → get_or args.now 0 0 < 2 ^ 32 }
-        ensures answered { (given : Setting) (beside : Beside) (world : Meant) → self.old.fill ≡ given.fill → Shows self.old beside world → IfOk result (λ a. Answered beside (external_of given site external args.now world) a self.new) }
+        requires fixed { is_variadic external ≡ false }
+        ensures answered { (given : Setting) (types : List Ty) (beside : Beside) (world : Meant) → self.old.fill ≡ given.fill → Shows self.old beside world → IfOk result (λ a. Answered beside (external_of given site external types args.now world) a self.new) }
         ensures keeps { Keeps self.old self.new }
         ensures made { self.new.made ≤ self.old.made + 2 ^ 26 }
     {
@@ -107,6 +111,7 @@ impl World {
             External::LlvmMemset => Ok(self.filled(site, a, low_byte(b), c, None)),
             External::LifetimeStart => Ok(self.begun(site, a, b)),
             External::LifetimeEnd => Ok(Answer::Resumed(None)),
+            External::Printf => unreachable!(),
         }
     }
 }

@@ -35,6 +35,17 @@ impl World {
         Ok(())
     }
 
+    /// Prints bytes.
+    pub fn print_bytes(&mut self, bytes: &[u8]) -> Result<(), NoMemory>
+        ensures printed { (beside : Beside) (world : Meant) → Shows self.old beside world → OnOk result (Shows self.new beside (record world { output = world.output ++ bytes.now })) }
+        ensures planes { self.new.planes ≡ self.old.planes }
+        ensures keeps { Keeps self.old self.new }
+        ensures made { self.new.made ≡ self.old.made }
+    {
+        self.output.extend_from_slice(bytes)?;
+        Ok(())
+    }
+
     /// Prints good bytes.
     pub fn print_range(&mut self, addr: u64, n: u64) -> Result<(), NoMemory>
         requires { IsTrue (is_live addr n self.old.planes.table) }

@@ -1,5 +1,5 @@
 //! Strings, and bytes that are compared.
-ghost use Rattle.std.specs.Prelude.{◌≡◌, ◌≤◌, ◌^◌, Some, None, MatchOption, IsTrue};
+ghost use Rattle.std.specs.Prelude.{◌≡◌, ◌≤◌, ◌<◌, ◌+◌, ◌^◌, Some, None, MatchOption, IsTrue};
 ghost use Rattle.ms_alloc.specs.Allocations.{is_good as is_live};
 ghost use Rattle.ms_bits.specs.Maps.{bytes_at};
 ghost use Rattle.ms_runs.specs.World.{World as Meant};
@@ -29,6 +29,7 @@ impl World {
         ensures string { (beside : Beside) (world : Meant) → Shows self.now beside world → MatchOption result (string_at world addr ≡ None) (λ n. string_at world addr ≡ Some (bytes_at world.bytes addr n)) }
         ensures good { MatchOption result (Unit {0}) (λ n. IsTrue (is_live addr n self.now.planes.table)) }
         ensures short { MatchOption result (Unit {0}) (λ n. n ≤ 2 ^ 26) }
+        ensures low { MatchOption result (Unit {0}) (λ n. addr + n < 2 ^ 64) }
     {
         self.planes.is_laid_out();
         let room = self.bytes_left(addr);

@@ -15,7 +15,7 @@ use Rattle.ms_ir.specs.declared.syntax.Op.{Op}
 use Rattle.ms_ir.specs.declared.syntax.Op.TheVariants as op
 use Rattle.ms_ir.specs.declared.syntax.Func.{Func}
 use Rattle.ms_ir.specs.declared.calls.External.{External}
-use Rattle.ms_ir.specs.declared.calls.External.TheVariants.{Malloc, Calloc, Realloc, Free, Memcpy, Memmove, Memset, Memcmp, Strlen, Putchar, Puts, Getchar, Read, Write, Exit, Abort, LlvmMemcpy, LlvmMemmove, LlvmMemset, LifetimeStart, LifetimeEnd}
+use Rattle.ms_ir.specs.declared.calls.External.TheVariants.{Malloc, Calloc, Realloc, Free, Memcpy, Memmove, Memset, Memcmp, Strlen, Putchar, Puts, Getchar, Read, Write, Exit, Abort, LlvmMemcpy, LlvmMemmove, LlvmMemset, LifetimeStart, LifetimeEnd, Printf}
 use Rattle.ms_ir.specs.declared.places.RootKind.{RootKind}
 use Rattle.ms_ir.specs.Names.{name_eq, lookup, externals, external_name}
 use Rattle.ms_ir.specs.Code.{func_index, external_named}
@@ -83,6 +83,7 @@ kind_roots site (Some LlvmMemmove) = refl
 kind_roots site (Some LlvmMemset) = refl
 kind_roots site (Some LifetimeStart) = refl
 kind_roots site (Some LifetimeEnd) = refl
+kind_roots site (Some Printf) = refl
 
 of_call : (func : Name → Option ℕ) (site : ℕ) (x : Name) → call_roots site (external_named func x) ≡ roots_of_kind site (called_kind func x)
 of_call func site x = kind_roots site (external_named func x)
@@ -100,7 +101,7 @@ named_in (d ∷ es) x e h = elim (cases_Bool (name_eq (external_name d) x)) [
 -- the kind of root that a call of an external is, by whether the module defines a function of its name
 pub called_as : (func : Name → Option ℕ) (x : Name) (e : External) → Some e ≡ lookup externals x → (if is_some (func (external_name e)) then None else kind_of (Some e)) ≡ called_kind func x
 called_as func x e found =
-    ap (λ y. if is_some (func y) then None else kind_of (Some e)) (named_in (Malloc ∷ Calloc ∷ Realloc ∷ Free ∷ Memcpy ∷ Memmove ∷ Memset ∷ Memcmp ∷ Strlen ∷ Putchar ∷ Puts ∷ Getchar ∷ Read ∷ Write ∷ Exit ∷ Abort ∷ LlvmMemcpy ∷ LlvmMemmove ∷ LlvmMemset ∷ LifetimeStart ∷ LifetimeEnd ∷ []) x e (sym found)) ∙ by_choice (is_some (func x))
+    ap (λ y. if is_some (func y) then None else kind_of (Some e)) (named_in (Malloc ∷ Calloc ∷ Realloc ∷ Free ∷ Memcpy ∷ Memmove ∷ Memset ∷ Memcmp ∷ Strlen ∷ Putchar ∷ Puts ∷ Getchar ∷ Read ∷ Write ∷ Exit ∷ Abort ∷ LlvmMemcpy ∷ LlvmMemmove ∷ LlvmMemset ∷ LifetimeStart ∷ LifetimeEnd ∷ Printf ∷ []) x e (sym found)) ∙ by_choice (is_some (func x))
   where
     by_choice : (b : Bool) → (if b then None else kind_of (Some e)) ≡ kind_of (if b then None else lookup externals x)
     by_choice true = refl

@@ -88,6 +88,10 @@ lifetime_start = declares (codes "llvm.lifetime.start.p0") None (i64 ∷ ty.Ptr 
 abbrev pub lifetime_end : Decl
 lifetime_end = declares (codes "llvm.lifetime.end.p0") None (i64 ∷ ty.Ptr ∷ [])
 
+-- prints by a format, which further arguments may follow
+abbrev pub printf : Decl
+printf = declares (codes "printf") (Some i32) (ty.Ptr ∷ [])
+
 -- reports a mask: its width, origin, kind of use, part and site
 abbrev pub msan_check : Decl
 msan_check = declares (codes "__msan_check") None (i64 ∷ i32 ∷ i32 ∷ i32 ∷ i32 ∷ i32 ∷ [])
@@ -131,3 +135,8 @@ msan_load_origin = declares (codes "__msan_load_origin") (Some i32) (ty.Ptr ∷ 
 -- the size of a heap block
 abbrev pub msan_size : Decl
 msan_size = declares (codes "__msan_size") (Some i64) (ty.Ptr ∷ [])
+
+-- reports the first poisoned byte of a string that a format asks for: the format, the argument's number, the string and
+-- the site
+abbrev pub msan_check_format : Decl
+msan_check_format = declares (codes "__msan_check_format") None (ty.Ptr ∷ i32 ∷ ty.Ptr ∷ i32 ∷ [])

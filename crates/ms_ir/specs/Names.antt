@@ -8,9 +8,9 @@ use Rattle.std.specs.Cmp.Lexicographic.{pointwise}
 use Rattle.ms_ir.specs.declared.syntax.Name.{Name}
 use Rattle.ms_ir.specs.declared.syntax.Name.TheVariants.{Number, Text}
 use Rattle.ms_ir.specs.declared.calls.External.{External}
-use Rattle.ms_ir.specs.declared.calls.External.TheVariants.{Malloc, Calloc, Realloc, Free, Memcpy, Memmove, Memset, Memcmp, Strlen, Putchar, Puts, Getchar, Read, Write, Exit, Abort, LlvmMemcpy, LlvmMemmove, LlvmMemset, LifetimeStart, LifetimeEnd}
+use Rattle.ms_ir.specs.declared.calls.External.TheVariants.{Malloc, Calloc, Realloc, Free, Memcpy, Memmove, Memset, Memcmp, Strlen, Putchar, Puts, Getchar, Read, Write, Exit, Abort, LlvmMemcpy, LlvmMemmove, LlvmMemset, LifetimeStart, LifetimeEnd, Printf}
 use Rattle.ms_ir.specs.declared.calls.RuntimeFn.{RuntimeFn}
-use Rattle.ms_ir.specs.declared.calls.RuntimeFn.TheVariants.{Check, CheckMemory, CheckString, Blind, Poison, Unpoison, Copy, Fill, StoreOrigin, LoadOrigin, Size}
+use Rattle.ms_ir.specs.declared.calls.RuntimeFn.TheVariants.{Check, CheckMemory, CheckString, Blind, Poison, Unpoison, Copy, Fill, StoreOrigin, LoadOrigin, Size, CheckFormat}
 use Rattle.ms_ir.specs.declared.calls.Slot.{Slot}
 use Rattle.ms_ir.specs.declared.calls.Slot.TheVariants.{ParamMasks, ParamOrigins, RetvalMask, RetvalOrigin}
 
@@ -49,13 +49,14 @@ external_name LlvmMemmove = Text (codes "llvm.memmove.p0.p0.i64")
 external_name LlvmMemset = Text (codes "llvm.memset.p0.i64")
 external_name LifetimeStart = Text (codes "llvm.lifetime.start.p0")
 external_name LifetimeEnd = Text (codes "llvm.lifetime.end.p0")
+external_name Printf = Text (codes "printf")
 
 -- the externals by name: what a module may call without defining it
 abbrev pub externals : List (Name × External)
 externals =
     map (λ e. (external_name e, e))
     (Malloc ∷ Calloc ∷ Realloc ∷ Free ∷ Memcpy ∷ Memmove ∷ Memset ∷ Memcmp ∷ Strlen ∷ Putchar ∷ Puts ∷ Getchar ∷ Read ∷ Write ∷ Exit ∷ Abort ∷ LlvmMemcpy ∷ LlvmMemmove
-    ∷ LlvmMemset ∷ LifetimeStart ∷ LifetimeEnd ∷ [])
+    ∷ LlvmMemset ∷ LifetimeStart ∷ LifetimeEnd ∷ Printf ∷ [])
 
 -- the name of each runtime function
 abbrev pub runtime_name : RuntimeFn → Name
@@ -70,12 +71,13 @@ runtime_name Fill = Text (codes "__msan_fill")
 runtime_name StoreOrigin = Text (codes "__msan_store_origin")
 runtime_name LoadOrigin = Text (codes "__msan_load_origin")
 runtime_name Size = Text (codes "__msan_size")
+runtime_name CheckFormat = Text (codes "__msan_check_format")
 
 -- the runtime functions by name, which marked calls alone reach
 abbrev pub runtime_functions : List (Name × RuntimeFn)
 runtime_functions =
     map (λ f. (runtime_name f, f))
-    (Check ∷ CheckMemory ∷ CheckString ∷ Blind ∷ Poison ∷ Unpoison ∷ Copy ∷ Fill ∷ StoreOrigin ∷ LoadOrigin ∷ Size ∷ [])
+    (Check ∷ CheckMemory ∷ CheckString ∷ Blind ∷ Poison ∷ Unpoison ∷ Copy ∷ Fill ∷ StoreOrigin ∷ LoadOrigin ∷ Size ∷ CheckFormat ∷ [])
 
 -- the name of each slot
 abbrev pub slot_name : Slot → Name

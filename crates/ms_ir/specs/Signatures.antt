@@ -1,6 +1,6 @@
 -- The types of functions, and those of the externals, the runtime functions and the slots (C library; LLVM Language
 -- Reference, "Standard C/C++ Library Intrinsics" and "Memory Use Markers"; own: the runtime functions and the slots).
-use Rattle.std.specs.Prelude.{Bool, false, ◌&&◌, List, [], ◌∷◌, map, Option, Some, None}
+use Rattle.std.specs.Prelude.{Bool, true, false, drop, ◌&&◌, List, [], ◌∷◌, map, Option, Some, None}
 use Rattle.std.specs.Option.{option_or}
 use Rattle.ms_ir.specs.declared.syntax.Name.{Name}
 use Rattle.ms_ir.specs.declared.syntax.Ty.{Ty, Int, Ptr}
@@ -62,7 +62,7 @@ signature_of m x = option_or (defined_signature m.funcs x) (declared_signature m
 -- ---- the externals
 
 -- the types that each external has where it is declared; the last parameter of `llvm.memcpy` and its kin says whether
--- the access is volatile
+-- the access is volatile, and `printf` takes more arguments than it has parameters
 abbrev pub external_signature : External → Signature
 external_signature external.Malloc = answers Ptr (Int 64 ∷ [])
 external_signature external.Calloc = answers Ptr (Int 64 ∷ Int 64 ∷ [])
@@ -85,6 +85,22 @@ external_signature external.LlvmMemmove = answers_nothing (Ptr ∷ Ptr ∷ Int 6
 external_signature external.LlvmMemset = answers_nothing (Ptr ∷ Int 8 ∷ Int 64 ∷ Int 1 ∷ [])
 external_signature external.LifetimeStart = answers_nothing (Int 64 ∷ Ptr ∷ [])
 external_signature external.LifetimeEnd = answers_nothing (Int 64 ∷ Ptr ∷ [])
+external_signature external.Printf = answers (Int 32) (Ptr ∷ [])
+
+-- whether an external takes more arguments than it has parameters
+abbrev pub is_variadic : External → Bool
+is_variadic external.Printf = true
+is_variadic e = false
+
+-- the types that an external's arguments must have where it is called with arguments of these types: `printf` takes any
+-- after its format
+abbrev pub called_params : External → List Ty → List Ty
+called_params external.Printf types = Ptr ∷ drop 1 types
+called_params e types = (external_signature e).params
+
+-- the types of an external as it is called with arguments of these types
+abbrev pub called_signature : External → List Ty → Signature
+called_signature e types = record { ret = (external_signature e).ret; params = called_params e types }
 
 -- a declaration by the name and the types of its function
 abbrev pub declared_as : Name → Signature → Decl
@@ -109,6 +125,7 @@ runtime_signature runtime.Fill = answers_nothing (Ptr ∷ Int 64 ∷ Int 64 ∷ 
 runtime_signature runtime.StoreOrigin = answers_nothing (Ptr ∷ Int 64 ∷ Int 32 ∷ Int 32 ∷ [])
 runtime_signature runtime.LoadOrigin = answers (Int 32) (Ptr ∷ Int 64 ∷ [])
 runtime_signature runtime.Size = answers (Int 64) (Ptr ∷ [])
+runtime_signature runtime.CheckFormat = answers_nothing (Ptr ∷ Int 32 ∷ Ptr ∷ Int 32 ∷ [])
 
 -- the declarations of the runtime functions, in the order of their table
 abbrev pub runtime_declarations : List Decl

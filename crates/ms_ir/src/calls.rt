@@ -45,6 +45,8 @@ pub enum External {
     LifetimeStart,
     /// `llvm.lifetime.end.p0`.
     LifetimeEnd,
+    /// `printf`.
+    Printf,
 }
 
 /// The runtime functions, which inserted instructions alone call.
@@ -72,6 +74,8 @@ pub enum RuntimeFn {
     LoadOrigin,
     /// `__msan_size`: the size of a live heap block.
     Size,
+    /// `__msan_check_format`: checks the string at an argument of `printf`, where its format asks for one.
+    CheckFormat,
 }
 
 /// The slots, globals that hand masks and origins over at calls.

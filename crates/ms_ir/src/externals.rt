@@ -11,7 +11,7 @@ use crate::rows::{Kind, Row, named};
 use crate::syntax::{Decl, Name};
 
 /// Each external at the place of its variant.
-static EXTERNALS: [Row<External>; 21] = [
+static EXTERNALS: [Row<External>; 22] = [
     Row {
         name: b"malloc",
         is: External::Malloc,
@@ -137,6 +137,12 @@ static EXTERNALS: [Row<External>; 21] = [
         is: External::LifetimeEnd,
         ret: None,
         params: &[Kind::Int(64), Kind::Ptr],
+    },
+    Row {
+        name: b"printf",
+        is: External::Printf,
+        ret: Some(Kind::Int(32)),
+        params: &[Kind::Ptr],
     },
 ];
 

@@ -12,7 +12,7 @@ use ms_bits::{List, NoMemory};
 use std::alloc::Global;
 
 /// Each runtime function at the place of its variant.
-static RUNTIME_FUNCTIONS: [Row<RuntimeFn>; 11] = [
+static RUNTIME_FUNCTIONS: [Row<RuntimeFn>; 12] = [
     Row {
         name: b"__msan_check",
         is: RuntimeFn::Check,
@@ -91,6 +91,12 @@ static RUNTIME_FUNCTIONS: [Row<RuntimeFn>; 11] = [
         is: RuntimeFn::Size,
         ret: Some(Kind::Int(64)),
         params: &[Kind::Ptr],
+    },
+    Row {
+        name: b"__msan_check_format",
+        is: RuntimeFn::CheckFormat,
+        ret: None,
+        params: &[Kind::Ptr, Kind::Int(32), Kind::Ptr, Kind::Int(32)],
     },
 ];
 

@@ -64,7 +64,7 @@ func_room types given clean c f ready =
     let limits : list_all (λ g. nat_le (length g.params) 100) (f ∷ []) ≡ true = ap (λ a. a && true) (le-leb (length f.params) 100 ready.params) in
     few (length names) _ _ _ _ (values_few types f ready) (funcs_cost given numbers (f ∷ []) c.site c.root limits) (funcs_bound (f ∷ [])) ready.instructions ready.operands
   where
-    few : (size a b c d : ℕ) → size ≤ 100 + 2 ^ 17 → a + 0 ≤ b + 1000 * 1 → b ≡ 200 * (c + 0) + 35 * (d + 0) → c ≤ 2 ^ 17 → d ≤ 2 ^ 20 → 2 * size + 1 + a < 2 ^ 40
+    few : (size a b c d : ℕ) → size ≤ 100 + 2 ^ 17 → a + 0 ≤ b + 1000 * 1 → b ≡ 200 * (c + 0) + 55 * (d + 0) → c ≤ 2 ^ 17 → d ≤ 2 ^ 20 → 2 * size + 1 + a < 2 ^ 40
     few size a b c d s l e p q = omega (arith, s, l, e, p, q)
 
 module _ (given : Given) (c : Counts) (f : Func) (names clean : List Name) (main : Bool) (params : List (Ty × Name)) (blocks : List Block) (start : Code) (named : names ≡ value_names f)

@@ -1,6 +1,6 @@
 -- What an instruction comes to that isn't done with itself: calls, returns and jumps.
 use Rattle.std.proofs.Common.{◌≡◌, ℕ, List, [], ◌∷◌, ◌++◌, Bool, true, false, Option, Some, None, Result, Ok, Err, refl, inl, inr}
-use Rattle.std.specs.Prelude.{if◌then◌else◌, ◌+◌, ◌*◌, ◌%◌, ◌^◌, ◌&&◌, eqb, ltb, leb, length}
+use Rattle.std.specs.Prelude.{if◌then◌else◌, ◌+◌, ◌*◌, ◌%◌, ◌^◌, ◌&&◌, eqb, ltb, leb, length, map}
 use Rattle.ms_bits.specs.declared.traps.Trap.{Trap}
 use Rattle.ms_bits.specs.declared.traps.Trap.TheVariants as trap
 use Rattle.ms_bits.specs.Maps.{bytes_at}
@@ -10,14 +10,14 @@ use Rattle.ms_ir.specs.declared.syntax.Operand.{Operand}
 use Rattle.ms_ir.specs.declared.syntax.Op.{Op}
 use Rattle.ms_ir.specs.declared.syntax.Op.TheVariants as op
 use Rattle.ms_ir.specs.declared.calls.External.{External}
-use Rattle.ms_ir.specs.declared.calls.External.TheVariants.{Malloc, Calloc, Realloc, Free, Memcpy, Memmove, Memset, Memcmp, Strlen, Putchar, Puts, Getchar, Read, Write, Exit, Abort, LlvmMemcpy, LlvmMemmove, LlvmMemset, LifetimeStart, LifetimeEnd}
+use Rattle.ms_ir.specs.declared.calls.External.TheVariants.{Malloc, Calloc, Realloc, Free, Memcpy, Memmove, Memset, Memcmp, Strlen, Putchar, Puts, Getchar, Read, Write, Exit, Abort, LlvmMemcpy, LlvmMemmove, LlvmMemset, LifetimeStart, LifetimeEnd, Printf}
 use Rattle.ms_runs.specs.declared.runs.End.TheVariants as «end»
 use Rattle.ms_ir.specs.Areas.{Heap, Stack}
 use Rattle.ms_runs.specs.World.{World, Setting, Here, Effect, Gives, Does, Goes, Enters, Leaves, Ends, traps, stuck, word}
 use Rattle.ms_ir.specs.Layout.{stored_size, size_in}
 use Rattle.ms_runs.specs.Memory.{is_good, fits, heap_size}
 use Rattle.ms_ir.specs.Code.{external_named}
-use Rattle.ms_runs.specs.Externals.{malloc, reallocated, where_good, string_at, printed, taken, next_byte, external, output_limit}
+use Rattle.ms_runs.specs.Externals.{malloc, reallocated, where_good, string_at, printed, taken, next_byte, external, output_limit, formatted, prints}
 use Rattle.ms_runs.specs.Act.{act, gives}
 use Rattle.ms_pass_laws.specs.Known.{GoesTo}
 
@@ -50,33 +50,38 @@ plain_good site a n w e p = plain_if (is_good w a n) e (traps trap.BadAddress si
 plain_printed : (site : ℕ) (bs : List ℕ) (go : World → Effect) (w : World) → ((u : World) → IsPlain (go u)) → IsPlain (printed site bs go w)
 plain_printed site bs go w h = plain_if (leb (length w.output + length bs) output_limit) (go _) (traps trap.Output site w) (h _) tt
 
-pub external_plain : (s : Setting) (site : ℕ) (e : External) (words : List ℕ) (w : World) → IsPlain (external s site e words w)
-external_plain s site Malloc words w = plain_if (fits Heap (word 0 words) w) (Gives _ _) (Gives 0 w) tt tt
-external_plain s site Calloc words w = plain_if (ltb (word 0 words * word 1 words) (2 ^ 64) && fits Heap (word 0 words * word 1 words) w) (Gives _ _) (Gives 0 w) tt tt
-external_plain s site Realloc words w =
+plain_prints : (site : ℕ) (r : Result (List ℕ) Trap) (w : World) → IsPlain (prints site r w)
+plain_prints site (Ok bs) w = plain_printed site bs (Gives (length bs)) w (λ u. tt)
+plain_prints site (Err t) w = tt
+
+pub external_plain : (s : Setting) (site : ℕ) (e : External) (types : List Ty) (words : List ℕ) (w : World) → IsPlain (external s site e types words w)
+external_plain s site Malloc types words w = plain_if (fits Heap (word 0 words) w) (Gives _ _) (Gives 0 w) tt tt
+external_plain s site Calloc types words w = plain_if (ltb (word 0 words * word 1 words) (2 ^ 64) && fits Heap (word 0 words * word 1 words) w) (Gives _ _) (Gives 0 w) tt tt
+external_plain s site Realloc types words w =
     plain_if (eqb (word 0 words) 0) (malloc s.fill (word 1 words) w) _ (plain_if (fits Heap (word 1 words) w) (Gives _ _) (Gives 0 w) tt tt)
     (plain_reallocated s.fill site (word 0 words) (word 1 words) w (heap_size w (word 0 words)))
-external_plain s site Free words w = plain_if (eqb (word 0 words) 0) (Does w) _ tt (plain_if _ (Does _) (traps trap.BadFree site w) tt tt)
-external_plain s site Memcpy words w = plain_good site (word 0 words) (word 2 words) w _ (plain_good site (word 1 words) (word 2 words) w (Gives _ _) tt)
-external_plain s site Memmove words w = plain_good site (word 0 words) (word 2 words) w _ (plain_good site (word 1 words) (word 2 words) w (Gives _ _) tt)
-external_plain s site Memset words w = plain_good site (word 0 words) (word 2 words) w (Gives _ _) tt
-external_plain s site Memcmp words w = plain_good site (word 0 words) (word 2 words) w _ (plain_good site (word 1 words) (word 2 words) w (Gives _ _) tt)
-external_plain s site Strlen words w = plain_text site (string_at w (word 0 words)) (λ bs. Gives (length bs) w) w (λ bs. tt)
-external_plain s site Putchar words w = plain_printed site (word 0 words % 256 ∷ []) (Gives (word 0 words % 256)) w (λ u. tt)
-external_plain s site Puts words w = plain_text site (string_at w (word 0 words)) (λ bs. printed site (bs ++ 10 ∷ []) (Gives 1) w) w (λ bs. plain_printed site (bs ++ 10 ∷ []) (Gives 1) w (λ u. tt))
-external_plain s site Getchar words w = plain_byte w.input w
-external_plain s site Read words w = plain_good site (word 1 words) (word 2 words) w _ (plain_if (eqb (word 0 words) 0) (taken (word 1 words) (word 2 words) w) (Gives _ w) tt tt)
-external_plain s site Write words w =
+external_plain s site Free types words w = plain_if (eqb (word 0 words) 0) (Does w) _ tt (plain_if _ (Does _) (traps trap.BadFree site w) tt tt)
+external_plain s site Memcpy types words w = plain_good site (word 0 words) (word 2 words) w _ (plain_good site (word 1 words) (word 2 words) w (Gives _ _) tt)
+external_plain s site Memmove types words w = plain_good site (word 0 words) (word 2 words) w _ (plain_good site (word 1 words) (word 2 words) w (Gives _ _) tt)
+external_plain s site Memset types words w = plain_good site (word 0 words) (word 2 words) w (Gives _ _) tt
+external_plain s site Memcmp types words w = plain_good site (word 0 words) (word 2 words) w _ (plain_good site (word 1 words) (word 2 words) w (Gives _ _) tt)
+external_plain s site Strlen types words w = plain_text site (string_at w (word 0 words)) (λ bs. Gives (length bs) w) w (λ bs. tt)
+external_plain s site Putchar types words w = plain_printed site (word 0 words % 256 ∷ []) (Gives (word 0 words % 256)) w (λ u. tt)
+external_plain s site Puts types words w = plain_text site (string_at w (word 0 words)) (λ bs. printed site (bs ++ 10 ∷ []) (Gives 1) w) w (λ bs. plain_printed site (bs ++ 10 ∷ []) (Gives 1) w (λ u. tt))
+external_plain s site Getchar types words w = plain_byte w.input w
+external_plain s site Read types words w = plain_good site (word 1 words) (word 2 words) w _ (plain_if (eqb (word 0 words) 0) (taken (word 1 words) (word 2 words) w) (Gives _ w) tt tt)
+external_plain s site Write types words w =
     plain_good site (word 1 words) (word 2 words) w _
     (plain_if (eqb (word 0 words) 1) (printed site (bytes_at w.bytes (word 1 words) (word 2 words)) (Gives (word 2 words)) w) (Gives _ w)
     (plain_printed site (bytes_at w.bytes (word 1 words) (word 2 words)) (Gives (word 2 words)) w (λ u. tt)) tt)
-external_plain s site Exit words w = tt
-external_plain s site Abort words w = tt
-external_plain s site LlvmMemcpy words w = plain_good site (word 0 words) (word 2 words) w _ (plain_good site (word 1 words) (word 2 words) w (Does _) tt)
-external_plain s site LlvmMemmove words w = plain_good site (word 0 words) (word 2 words) w _ (plain_good site (word 1 words) (word 2 words) w (Does _) tt)
-external_plain s site LlvmMemset words w = plain_good site (word 0 words) (word 2 words) w (Does _) tt
-external_plain s site LifetimeStart words w = plain_good site (word 1 words) (word 0 words) w (Does _) tt
-external_plain s site LifetimeEnd words w = tt
+external_plain s site Exit types words w = tt
+external_plain s site Abort types words w = tt
+external_plain s site LlvmMemcpy types words w = plain_good site (word 0 words) (word 2 words) w _ (plain_good site (word 1 words) (word 2 words) w (Does _) tt)
+external_plain s site LlvmMemmove types words w = plain_good site (word 0 words) (word 2 words) w _ (plain_good site (word 1 words) (word 2 words) w (Does _) tt)
+external_plain s site LlvmMemset types words w = plain_good site (word 0 words) (word 2 words) w (Does _) tt
+external_plain s site LifetimeStart types words w = plain_good site (word 1 words) (word 0 words) w (Does _) tt
+external_plain s site LifetimeEnd types words w = tt
+external_plain s site Printf types words w = plain_prints site (formatted w types words) w
 
 -- ---- what an effect tells of its instruction
 
@@ -114,10 +119,10 @@ plain_gives site (Ok v) w = tt
 plain_gives site (Err t) w = tt
 
 tells_call : (s : Setting) (h : Here) (ret : Option Ty) (callee : Name) (args : List (Ty × Operand)) (words : List ℕ) (w : World) (o : Option ℕ) → s.func callee ≡ o → (e : Option External)
-    → Tells s h (op.Call ret callee args) (elim o [ Some f ↦ Enters f w | None ↦ elim e [ Some x ↦ external s h.site x words w | None ↦ Ends stuck w ] ])
+    → Tells s h (op.Call ret callee args) (elim o [ Some f ↦ Enters f w | None ↦ elim e [ Some x ↦ external s h.site x (map (λ a. a.0) args) words w | None ↦ Ends stuck w ] ])
 tells_call s h ret callee args words w (Some f) own e = record { ret = ret; callee = callee; args = args; is = refl; own = own }
 tells_call s h ret callee args words w None own None = tt
-tells_call s h ret callee args words w None own (Some e) = tells_plain s h (op.Call ret callee args) (external s h.site e words w) (external_plain s h.site e words w)
+tells_call s h ret callee args words w None own (Some e) = tells_plain s h (op.Call ret callee args) (external s h.site e (map (λ a. a.0) args) words w) (external_plain s h.site e (map (λ a. a.0) args) words w)
 
 tells_ret : (s : Setting) (h : Here) (v : Option (Ty × Operand)) (k : ℕ) (w : World) (b : Bool) → h.main ≡ b → Tells s h (op.Ret v) (if b then Ends («end».Exit k) w else Leaves w)
 tells_ret s h v k w true e = tt

@@ -1,5 +1,5 @@
 -- What the pass asks of each instruction, of a formed and valid module.
-use Rattle.std.proofs.Common.{◌≡◌, ℕ, suc, ◌≤◌, List, [], ◌∷◌, length, Bool, true, false, Option, Some, None, refl, sym, ap, ◌∙◌, subst, arith, true≢false}
+use Rattle.std.proofs.Common.{◌≡◌, ℕ, suc, ◌≤◌, List, [], ◌∷◌, length, Bool, true, false, Option, Some, None, refl, sym, ap, ◌∙◌, subst, arith, true≢false, zero, ◌+◌, ◌^◌, ◌<◌}
 use Rattle.std.specs.Prelude.{◌&&◌, not, map, take, drop, nat_le, if◌then◌else◌, option_map, unwrap_or, is_some, slice_get}
 use Rattle.std.specs.List.{list_all}
 use Rattle.std.specs.Option.{option_or}
@@ -11,12 +11,13 @@ use Rattle.ms_ir.specs.declared.syntax.Operand.TheVariants as operand
 use Rattle.ms_ir.specs.declared.syntax.Op.{Op}
 use Rattle.ms_ir.specs.declared.syntax.Op.TheVariants as op
 use Rattle.ms_ir.specs.declared.syntax.Inst.{Inst}
+use Rattle.ms_ir.specs.declared.syntax.Block.{Block}
 use Rattle.ms_ir.specs.declared.syntax.Func.{Func}
 use Rattle.ms_ir.specs.declared.syntax.Module.{Module}
 use Rattle.ms_ir.specs.declared.calls.External.{External}
 use Rattle.ms_ir.specs.Names.{externals, lookup, name_eq, main_name}
 use Rattle.ms_ir.specs.Layout.{Types, resolved, part_type}
-use Rattle.ms_ir.specs.Code.{operands, func_index, func_at, insts_at, is_phi}
+use Rattle.ms_ir.specs.Code.{operands, func_index, func_at, insts_at, is_phi, over_insts, over_blocks, over_funcs}
 use Rattle.ms_runs.specs.Control.{params_at}
 use Rattle.ms_ir.specs.Equal.{type_eq, result_type_eq}
 use Rattle.ms_ir.specs.Written.{result_type}
@@ -216,6 +217,23 @@ returns_as fits None v e = tt
 returns_as fits (Some t) None e = absurd (true≢false (sym e))
 returns_as fits (Some t) (Some v) e = same_width v.0 t (and_parts (type_eq v.0 t) (fits v) e).0
 
+-- ---- a sum over all instructions is at least the count of each
+
+within_insts : (count : Inst → ℕ) (is : List Inst) (p : ℕ) (i : Inst) → slice_get is p ≡ Some i → count i ≤ over_insts count is
+within_insts count [] p i e = grind arith
+within_insts count (x ∷ is) zero i e = subst (λ y. count y ≤ count x + over_insts count is) (ap (λ o. unwrap_or o x) e) (omega arith)
+within_insts count (x ∷ is) (suc p) i e = let l = within_insts count is p i e in omega (arith, l)
+
+within_blocks : (count : Inst → ℕ) (bs : List Block) (b p : ℕ) (i : Inst) → slice_get (unwrap_or (option_map (λ (k : Block). k.insts) (slice_get bs b)) []) p ≡ Some i → count i ≤ over_blocks count bs
+within_blocks count [] b p i e = grind arith
+within_blocks count (x ∷ bs) zero p i e = let l = within_insts count x.insts p i e in omega (arith, l)
+within_blocks count (x ∷ bs) (suc b) p i e = let l = within_blocks count bs b p i e in omega (arith, l)
+
+within_funcs : (count : Inst → ℕ) (fs : List Func) (n : ℕ) (f : Func) → slice_get fs n ≡ Some f → over_blocks count f.blocks ≤ over_funcs count fs
+within_funcs count [] n f e = grind arith
+within_funcs count (x ∷ fs) zero f e = subst (λ (y : Func). over_blocks count y.blocks ≤ over_blocks count x.blocks + over_funcs count fs) (ap (λ o. unwrap_or o x) e) (omega arith)
+within_funcs count (x ∷ fs) (suc n) f e = let l = within_funcs count fs n f e in omega (arith, l)
+
 -- ---- an instruction that stands in the module
 
 module _ (m : Module) (formed : Formed m) (valid : Valid m) (can : CanInstrument m) (n b p : ℕ) (f : Func) (i : Inst) (at : func_at m n ≡ Some f)
@@ -285,6 +303,13 @@ module _ (m : Module) (formed : Formed m) (valid : Valid m) (can : CanInstrument
       let few = leb-true (length g.0.params) 100 (all_get (λ (h : Func). nat_le (length h.params) 100) m.funcs k g.0 can.parameters g.1) in
       omega (arith, many, few)
 
+  few_operands : (ret : Option Ty) (callee : Name) (args : List (Ty × Operand)) → i.op ≡ op.Call ret callee args → length args < 2 ^ 32
+  few_operands ret callee args e =
+      let l = within_blocks (λ x. length (operands x.op)) f.blocks b p i due in
+      let k = within_funcs (λ x. length (operands x.op)) m.funcs n f at in
+      let many = can.operands in
+      subst (λ o. length (operands o) < 2 ^ 32) e (omega (arith, l, k, many))
+
   outside_fits : (ret : Option Ty) (callee : Name) (args : List (Ty × Operand)) → i.op ≡ op.Call ret callee args → (q : Option ℕ) → func_index m.funcs callee ≡ q
       → FitsCallee (if is_some q then None else lookup externals callee) i.result args
   outside_fits ret callee args e (Some k) found = tt
@@ -292,7 +317,7 @@ module _ (m : Module) (formed : Formed m) (valid : Valid m) (can : CanInstrument
       let x = known_external m valid n b p f i at due ret callee args e unmarked found in
       let c = external_call m valid n b p f i at due ret callee args e x.0 found x.1 in
       subst (λ o. FitsCallee o i.result args) (sym x.1)
-      (c.widths, has_result x.0 i.result ret c.declared_ret (ap (λ o. name_formed (result_type o) i.result) (sym e) ∙ name) c.first c.second)
+      (c.widths, has_result x.0 i.result ret c.declared_ret (ap (λ o. name_formed (result_type o) i.result) (sym e) ∙ name) c.first c.second, few_operands ret callee args e)
 
   pub built : (o : Op) → i.op ≡ o → is_phi o ≡ false → IsBuilt (func_index m.funcs) i.result o
   built (op.Binary o flags t a c) e np = (value_width t (int_value t (and_parts (is_int_type t) (are_among flags (binary_flags o)) (ap shape_formed (sym e) ∙ shape)).0)).0

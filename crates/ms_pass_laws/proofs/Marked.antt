@@ -18,7 +18,7 @@ use Rattle.ms_bits.specs.Maps.{first_nonzero}
 use Rattle.ms_ir.specs.Names.{lookup, runtime_functions, slots}
 use Rattle.ms_ir.specs.Layout.{width_of, stored_size}
 use Rattle.ms_runs.specs.World.{World, Setting, Here, Effect, Gives, Does, Goes, Enters, Leaves, Ends, stuck, word}
-use Rattle.ms_runs.specs.Origins.{trail, add_report, check, check_byte, check_memory}
+use Rattle.ms_runs.specs.Origins.{trail, add_report, check, check_byte, check_memory, check_string, asks_string_at, check_format}
 use Rattle.ms_runs.specs.Memory.{is_good}
 use Rattle.ms_ir.specs.Code.{operands, is_phi}
 use Rattle.ms_runs.specs.Act.{gives, act, operand_word, plain_reading}
@@ -160,10 +160,18 @@ memory_quiet s a n kind site w = by_good (is_good w a n)
     by_good true = byte_quiet s kind site a (first_nonzero w.shadow a n) w
     by_good false = tt
 
+format_quiet : (s : Setting) (format index a site : ℕ) (w : World) → IsQuiet (check_format s format index a site w)
+format_quiet s format index a site w = by_asked (asks_string_at w format index)
+  where
+    by_asked : (b : Bool) → IsQuiet (if b then check_string s a site w else Does w)
+    by_asked true = byte_quiet s _ _ _ _ w
+    by_asked false = tt
+
 runtime_quiet : (s : Setting) (f : RuntimeFn) (words : List ℕ) (w : World) → IsQuiet (runtime s f words w)
 runtime_quiet s function.Check words w = check_quiet s _ _ _ _ _ _ w
 runtime_quiet s function.CheckMemory words w = memory_quiet s (word 0 words) (word 1 words) (word 2 words) (word 3 words) w
 runtime_quiet s function.CheckString words w = byte_quiet s _ _ _ _ w
+runtime_quiet s function.CheckFormat words w = format_quiet s (word 0 words) (word 1 words) (word 2 words) (word 3 words) w
 runtime_quiet s function.Blind words w = tt
 runtime_quiet s function.Poison words w = tt
 runtime_quiet s function.Unpoison words w = tt

@@ -22,7 +22,7 @@ use Rattle.ms_ir.specs.Areas.{Heap, Stack, room}
 use Rattle.ms_bits.specs.declared.traps.Trap.TheVariants as trap
 use Rattle.ms_ir.specs.Layout.{stored_size, width_of, size_in}
 use Rattle.ms_runs.specs.Memory.{make, heap_size, is_heap_block, end_block, copy_bytes, copy_shadow, keeps, store_number, set_shadow, used, fits, next_base, is_good, make_unset, set_cells, bytes_left}
-use Rattle.ms_runs.specs.Origins.{keeps_old, pair_index, copy_planes, fill_planes, unpoison, Chained, chain, add_report, check, check_byte, check_memory, count_blind, poison, mark_cells, store_origin, origin_within, trail, first_in_string, pair_limit}
+use Rattle.ms_runs.specs.Origins.{keeps_old, pair_index, copy_planes, fill_planes, unpoison, Chained, chain, add_report, check, check_byte, check_memory, count_blind, poison, mark_cells, store_origin, origin_within, trail, first_in_string, pair_limit, check_string, asks_string_at, check_format}
 use Rattle.ms_ir.specs.Code.{makes_unset, external_named, operands, one_undef, count_undefs, is_root, roots_in, blocks_at, insts_at, block_index, root_at, is_phi}
 use Rattle.ms_runs.specs.Control.{Frame, here, rest_of, read_all, with_value, put, after_effect, read_edge, phis, block_name, result_at, left, Over, On, bind, entered, params_at, frame_limit}
 use Rattle.ms_runs.specs.Act.{act, alloca, gives, load, store}
@@ -30,7 +30,7 @@ use Rattle.ms_runs.specs.Plain.{Stepped, More, Stop}
 use Rattle.ms_runs.specs.Poisoned.{Poisoned, clean}
 use Rattle.ms_bits.specs.Conversions.{select_of}
 use Rattle.ms_runs.specs.Masks.{by_formulas, word_at, last_origin, result_origin, union}
-use Rattle.ms_runs.specs.Uses.{Use, Word, Bytes, Line, blinded, uses, check_use, check_uses}
+use Rattle.ms_runs.specs.Uses.{Use, Word, Bytes, Line, blinded, uses, check_use, check_uses, Asked}
 use Rattle.ms_runs.specs.Shadow.{ShadowState, read_poisoned, operand_origin, external_planes, callee_planes, planes, poisoned_result, shadow_moved, after_checks, shadow_inst, shadow_first, shadow_frames, shadow_step, shadow_reading}
 use Rattle.ms_tasks.specs.Environments.{Env}
 use Rattle.ms_tasks.specs.Known.{IsBuilt, KnownInst, edge_roots, PhiRoot, PhiRoots}
@@ -39,8 +39,8 @@ use Rattle.ms_pass_laws.specs.Pass.{Numbering}
 use Rattle.ms_pass_laws.specs.Law.{RangedFrames, Ranged}
 use Rattle.ms_pass_laws.specs.Known.{KnownModule}
 use Rattle.ms_ir.specs.declared.calls.External.{External}
-use Rattle.ms_ir.specs.declared.calls.External.TheVariants.{Malloc, Calloc, Realloc, Free, Memcpy, Memmove, Memset, Memcmp, Strlen, Putchar, Puts, Getchar, Read, Write, Exit, Abort, LlvmMemcpy, LlvmMemmove, LlvmMemset, LifetimeStart, LifetimeEnd}
-use Rattle.ms_runs.specs.Externals.{malloc, calloc, reallocated, where_good, string_at, printed, taken, next_byte, external, output_limit}
+use Rattle.ms_ir.specs.declared.calls.External.TheVariants.{Malloc, Calloc, Realloc, Free, Memcpy, Memmove, Memset, Memcmp, Strlen, Putchar, Puts, Getchar, Read, Write, Exit, Abort, LlvmMemcpy, LlvmMemmove, LlvmMemset, LifetimeStart, LifetimeEnd, Printf}
+use Rattle.ms_runs.specs.Externals.{malloc, calloc, reallocated, where_good, string_at, printed, taken, next_byte, external, output_limit, formatted, prints}
 
 -- ---- checks leave allocations and cells
 
@@ -96,10 +96,18 @@ memory_quiet s a n kind site w = go (is_good w a n)
     go true = byte_quiet s kind site a (first_nonzero w.shadow a n) w
     go false = same w
 
+format_quiet : (s : Setting) (format index a site : ℕ) (w : World) → Quiet w (check_format s format index a site w)
+format_quiet s format index a site w = go (asks_string_at w format index)
+  where
+    go : (b : Bool) → Quiet w (if b then check_string s a site w else Does w)
+    go true = byte_quiet s 10 site a (first_in_string w a (bytes_left w a)) w
+    go false = same w
+
 use_quiet : (s : Setting) (site : ℕ) (os : List (Ty × Operand)) (ps : List Poisoned) (u : Use) (w : World) → Quiet w (check_use s site os ps u w)
 use_quiet s site os ps (Word kind k) w = check_quiet s (word_at k ps).mask _ (word_at k ps).origin kind k site w
 use_quiet s site os ps (Bytes kind a n) w = memory_quiet s (word_at a ps).value (word_at n ps).value kind site w
 use_quiet s site os ps (Line a) w = byte_quiet s 10 site (word_at a ps).value (first_in_string w (word_at a ps).value (bytes_left w (word_at a ps).value)) w
+use_quiet s site os ps (Asked a) w = format_quiet s (word_at 0 ps).value a (word_at a ps).value site w
 
 then_quiet : (w : World) (e : Effect) (go : World → Effect) → Quiet w e → ((z : World) → Quiet z (go z)) → Quiet w (then_does e go)
 then_quiet w (Does z) go q h = on (go z) (h z)
@@ -405,38 +413,43 @@ good_ranged site a n w e p = ranged_if (is_good w a n) e (Ends («end».Trap tra
 printed_ranged : (site : ℕ) (bs : List ℕ) (k : ℕ) (w : World) → RangedWorld w → RangedEffect (printed site bs (Gives k) w)
 printed_ranged site bs k w r = ranged_if (leb (length w.output + length bs) output_limit) (Gives k _) (Ends («end».Trap trap.Output site) w) (record { placed = r.placed; origins = r.origins; pairs = r.pairs }) tt
 
-external_ranged : (s : Setting) (site : ℕ) (e : External) (words : List ℕ) (w : World) → RangedWorld w → RangedEffect (external s site e words w)
-external_ranged s site Malloc words w r = malloc_ranged s.fill (word 0 words) w r
-external_ranged s site Calloc words w r = calloc_ranged (word 0 words * word 1 words) w r
-external_ranged s site Realloc words w r =
+prints_ranged : (site : ℕ) (t : Result (List ℕ) Trap) (w : World) → RangedWorld w → RangedEffect (prints site t w)
+prints_ranged site (Ok bs) w r = printed_ranged site bs (length bs) w r
+prints_ranged site (Err t) w r = tt
+
+external_ranged : (s : Setting) (site : ℕ) (e : External) (types : List Ty) (words : List ℕ) (w : World) → RangedWorld w → RangedEffect (external s site e types words w)
+external_ranged s site Malloc types words w r = malloc_ranged s.fill (word 0 words) w r
+external_ranged s site Calloc types words w r = calloc_ranged (word 0 words * word 1 words) w r
+external_ranged s site Realloc types words w r =
     ranged_if (eqb (word 0 words) 0) (malloc s.fill (word 1 words) w) _ (malloc_ranged s.fill (word 1 words) w r) (reallocated_block s.fill site (word 0 words) (word 1 words) w r (heap_size w (word 0 words)))
-external_ranged s site Free words w r = ranged_if (eqb (word 0 words) 0) (Does w) _ r (ranged_if _ (Does _) (Ends _ w) (ended_ranged (word 0 words) w r) tt)
-external_ranged s site Memcpy words w r = good_ranged site (word 0 words) (word 2 words) w _ (good_ranged site (word 1 words) (word 2 words) w (Gives _ _) (record { placed = r.placed; origins = r.origins; pairs = r.pairs }))
-external_ranged s site Memmove words w r = good_ranged site (word 0 words) (word 2 words) w _ (good_ranged site (word 1 words) (word 2 words) w (Gives _ _) (record { placed = r.placed; origins = r.origins; pairs = r.pairs }))
-external_ranged s site Memset words w r = good_ranged site (word 0 words) (word 2 words) w (Gives _ _) (record { placed = r.placed; origins = r.origins; pairs = r.pairs })
-external_ranged s site Memcmp words w r = good_ranged site (word 0 words) (word 2 words) w _ (good_ranged site (word 1 words) (word 2 words) w (Gives _ _) r)
-external_ranged s site Strlen words w r = text_ranged site (string_at w (word 0 words)) (λ bs. Gives (length bs) w) w (λ bs. r)
-external_ranged s site Putchar words w r = printed_ranged site (word 0 words % 256 ∷ []) (word 0 words % 256) w r
-external_ranged s site Puts words w r = text_ranged site (string_at w (word 0 words)) (λ bs. printed site (bs ++ 10 ∷ []) (Gives 1) w) w (λ bs. printed_ranged site (bs ++ 10 ∷ []) 1 w r)
-external_ranged s site Getchar words w r = byte_ranged w.input w r
-external_ranged s site Read words w r =
+external_ranged s site Free types words w r = ranged_if (eqb (word 0 words) 0) (Does w) _ r (ranged_if _ (Does _) (Ends _ w) (ended_ranged (word 0 words) w r) tt)
+external_ranged s site Memcpy types words w r = good_ranged site (word 0 words) (word 2 words) w _ (good_ranged site (word 1 words) (word 2 words) w (Gives _ _) (record { placed = r.placed; origins = r.origins; pairs = r.pairs }))
+external_ranged s site Memmove types words w r = good_ranged site (word 0 words) (word 2 words) w _ (good_ranged site (word 1 words) (word 2 words) w (Gives _ _) (record { placed = r.placed; origins = r.origins; pairs = r.pairs }))
+external_ranged s site Memset types words w r = good_ranged site (word 0 words) (word 2 words) w (Gives _ _) (record { placed = r.placed; origins = r.origins; pairs = r.pairs })
+external_ranged s site Memcmp types words w r = good_ranged site (word 0 words) (word 2 words) w _ (good_ranged site (word 1 words) (word 2 words) w (Gives _ _) r)
+external_ranged s site Strlen types words w r = text_ranged site (string_at w (word 0 words)) (λ bs. Gives (length bs) w) w (λ bs. r)
+external_ranged s site Putchar types words w r = printed_ranged site (word 0 words % 256 ∷ []) (word 0 words % 256) w r
+external_ranged s site Puts types words w r = text_ranged site (string_at w (word 0 words)) (λ bs. printed site (bs ++ 10 ∷ []) (Gives 1) w) w (λ bs. printed_ranged site (bs ++ 10 ∷ []) 1 w r)
+external_ranged s site Getchar types words w r = byte_ranged w.input w r
+external_ranged s site Read types words w r =
     good_ranged site (word 1 words) (word 2 words) w _ (ranged_if (eqb (word 0 words) 0) (taken (word 1 words) (word 2 words) w) (Gives _ w) (record { placed = r.placed; origins = r.origins; pairs = r.pairs }) r)
-external_ranged s site Write words w r =
+external_ranged s site Write types words w r =
     good_ranged site (word 1 words) (word 2 words) w _
     (ranged_if (eqb (word 0 words) 1) (printed site (bytes_at w.bytes (word 1 words) (word 2 words)) (Gives (word 2 words)) w) (Gives _ w) (printed_ranged site (bytes_at w.bytes (word 1 words) (word 2 words)) (word 2 words) w r) r)
-external_ranged s site Exit words w r = tt
-external_ranged s site Abort words w r = tt
-external_ranged s site LlvmMemcpy words w r = good_ranged site (word 0 words) (word 2 words) w _ (good_ranged site (word 1 words) (word 2 words) w (Does _) (record { placed = r.placed; origins = r.origins; pairs = r.pairs }))
-external_ranged s site LlvmMemmove words w r = good_ranged site (word 0 words) (word 2 words) w _ (good_ranged site (word 1 words) (word 2 words) w (Does _) (record { placed = r.placed; origins = r.origins; pairs = r.pairs }))
-external_ranged s site LlvmMemset words w r = good_ranged site (word 0 words) (word 2 words) w (Does _) (record { placed = r.placed; origins = r.origins; pairs = r.pairs })
-external_ranged s site LifetimeStart words w r = good_ranged site (word 1 words) (word 0 words) w (Does _) (record { placed = r.placed; origins = r.origins; pairs = r.pairs })
-external_ranged s site LifetimeEnd words w r = r
+external_ranged s site Exit types words w r = tt
+external_ranged s site Abort types words w r = tt
+external_ranged s site LlvmMemcpy types words w r = good_ranged site (word 0 words) (word 2 words) w _ (good_ranged site (word 1 words) (word 2 words) w (Does _) (record { placed = r.placed; origins = r.origins; pairs = r.pairs }))
+external_ranged s site LlvmMemmove types words w r = good_ranged site (word 0 words) (word 2 words) w _ (good_ranged site (word 1 words) (word 2 words) w (Does _) (record { placed = r.placed; origins = r.origins; pairs = r.pairs }))
+external_ranged s site LlvmMemset types words w r = good_ranged site (word 0 words) (word 2 words) w (Does _) (record { placed = r.placed; origins = r.origins; pairs = r.pairs })
+external_ranged s site LifetimeStart types words w r = good_ranged site (word 1 words) (word 0 words) w (Does _) (record { placed = r.placed; origins = r.origins; pairs = r.pairs })
+external_ranged s site LifetimeEnd types words w r = r
+external_ranged s site Printf types words w r = prints_ranged site (formatted w types words) w r
 
-call_ranged : (s : Setting) (site : ℕ) (words : List ℕ) (w : World) → RangedWorld w → (o : Option ℕ) (e : Option External)
-    → RangedEffect (elim o [ Some f ↦ Enters f w | None ↦ elim e [ Some x ↦ external s site x words w | None ↦ Ends stuck w ] ])
-call_ranged s site words w r (Some f) e = r
-call_ranged s site words w r None None = tt
-call_ranged s site words w r None (Some e) = external_ranged s site e words w r
+call_ranged : (s : Setting) (site : ℕ) (types : List Ty) (words : List ℕ) (w : World) → RangedWorld w → (o : Option ℕ) (e : Option External)
+    → RangedEffect (elim o [ Some f ↦ Enters f w | None ↦ elim e [ Some x ↦ external s site x types words w | None ↦ Ends stuck w ] ])
+call_ranged s site types words w r (Some f) e = r
+call_ranged s site types words w r None None = tt
+call_ranged s site types words w r None (Some e) = external_ranged s site e types words w r
 
 filled_ranged : (s : Setting) (a n mask o site : ℕ) (w : World) → s.roots + pair_limit + 1 < 2 ^ 32 → RangedWorld w → o < 2 ^ 32 → RangedWorld (fill_planes s a n mask o site w)
 filled_ranged s a n mask o site w many r lt = go (is_good w a n) (eqb (mask % 256) 0 || eqb n 0)
@@ -497,7 +510,7 @@ act_ranged s h x (op.Br to) words w k r = r
 act_ranged s h x (op.CondBr c to other) words w k r = r
 act_ranged s h x (op.Switch t v other cases) words w k r = r
 act_ranged s h x op.Unreachable words w k r = tt
-act_ranged s h x (op.Call ret callee args) words w k r = call_ranged s h.site words w r (s.func callee) (external_named s.func callee)
+act_ranged s h x (op.Call ret callee args) words w k r = call_ranged s h.site (map (λ a. a.0) args) words w r (s.func callee) (external_named s.func callee)
 act_ranged s h x (op.Phi t es) words w k r = absurd k
 
 select_ranged : (c x y : ℕ) → x < 2 ^ 32 → y < 2 ^ 32 → select_of c x y < 2 ^ 32

@@ -1,6 +1,6 @@
 -- The arguments and the answer of a call of a valid module have the types of its callee.
-use Rattle.std.proofs.Common.{◌≡◌, ℕ, suc, List, [], ◌∷◌, Bool, true, false, Option, Some, None, refl, sym, ap, ◌∙◌, subst, arith, true≢false}
-use Rattle.std.specs.Prelude.{◌&&◌, not, map, if◌then◌else◌, is_some, slice_get, unwrap_or, option_map}
+use Rattle.std.proofs.Common.{◌≡◌, ℕ, suc, List, [], ◌∷◌, Bool, true, false, Option, Some, None, refl, sym, ap, ◌∙◌, subst, arith, true≢false, ◌^◌, ◌<◌}
+use Rattle.std.specs.Prelude.{◌&&◌, not, map, if◌then◌else◌, is_some, slice_get, unwrap_or, option_map, length}
 use Rattle.std.specs.List.{list_all}
 use Rattle.std.proofs.Math.Path.{ap₂}
 use Rattle.std.proofs.lemmas.Bool.{and_parts}
@@ -12,11 +12,11 @@ use Rattle.ms_ir.specs.declared.syntax.Inst.{Inst}
 use Rattle.ms_ir.specs.declared.syntax.Func.{Func}
 use Rattle.ms_ir.specs.declared.syntax.Module.{Module}
 use Rattle.ms_ir.specs.declared.calls.External.{External}
-use Rattle.ms_ir.specs.declared.calls.External.TheVariants.{Malloc}
+use Rattle.ms_ir.specs.declared.calls.External.TheVariants.{Malloc, Printf}
 use Rattle.ms_ir.specs.Names.{name_eq, main_name, lookup, externals}
 use Rattle.ms_ir.specs.Code.{func_index, func_at, insts_at, is_phi}
 use Rattle.ms_ir.specs.Equal.{type_eq, types_eq, result_type_eq}
-use Rattle.ms_ir.specs.Signatures.{external_signature}
+use Rattle.ms_ir.specs.Signatures.{external_signature, called_params}
 use Rattle.ms_valid.specs.Formed.{Formed}
 use Rattle.ms_valid.specs.FormedNames.{is_global_name}
 use Rattle.ms_valid.specs.FormedCode.{is_value_type, result_formed, shape_formed}
@@ -25,7 +25,7 @@ use Rattle.ms_valid.specs.Paths.{insts_of}
 use Rattle.ms_valid.specs.Uninstrumented.{CanInstrument}
 use Rattle.ms_valid.specs.Valid.{Valid}
 use Rattle.ms_runs_good.proofs.CallTypes.{external_call}
-use Rattle.ms_tasks.specs.Known.{IsBuilt}
+use Rattle.ms_tasks.specs.Known.{IsBuilt, FitsCallee}
 use Rattle.ms_pass_laws.proofs.KnownInstructions.{inst_known}
 use Rattle.ms_pass_valid.proofs.Emitted.{CallGood}
 use Rattle.ms_pass_valid.proofs.Ready.{type_is}
@@ -65,9 +65,16 @@ answer_type (Some a) None c e h v = absurd (true≢false (sym e))
 answer_type (Some a) (Some b) None e h v = absurd (true≢false (sym h))
 answer_type (Some a) (Some b) (Some c) e h v = ap Some (type_is a c v (subst (λ t. type_eq a t ≡ true) (type_is b c v h) e))
 
-external_values : (e : External) → list_all is_value_type (external_signature e).params ≡ true
-external_values Malloc = refl
-external_values _ = refl
+rest_values : (rest : List (Ty × Operand)) → list_all (λ a. is_value_type a.0) rest ≡ true → list_all is_value_type (map (λ a. a.0) rest) ≡ true
+rest_values [] h = refl
+rest_values (a ∷ rest) h =
+    let parts = and_parts (is_value_type a.0) (list_all (λ b. is_value_type b.0) rest) h in ap₂ (λ s t. s && t) parts.0 (rest_values rest parts.1)
+
+external_values : (e : External) (args : List (Ty × Operand)) → list_all (λ a. is_value_type a.0) args ≡ true → list_all is_value_type (called_params e (map (λ a. a.0) args)) ≡ true
+external_values Printf [] h = refl
+external_values Printf (a ∷ rest) h = rest_values rest (and_parts (is_value_type a.0) (list_all (λ b. is_value_type b.0) rest) h).1
+external_values Malloc args h = refl
+external_values _ args h = refl
 
 external_answers : (e : External) → AnswersValue (external_signature e).ret
 external_answers Malloc = refl
@@ -97,11 +104,16 @@ call_good m formed valid can n b p f i at due unmarked ret callee args calls sha
         let front = (and_parts (result_formed ret && is_global_name callee && not (name_eq callee main_name)) (list_all (λ a. is_value_type a.0) args) (subst (λ o. shape_formed o ≡ true) calls shape)).0 in
         (and_parts (result_formed ret) (is_global_name callee) (and_parts (result_formed ret && is_global_name callee) (not (name_eq callee main_name)) front).0).0
 
+    formed_args : list_all (λ a. is_value_type a.0) args ≡ true
+    formed_args = (and_parts (result_formed ret && is_global_name callee && not (name_eq callee main_name)) (list_all (λ a. is_value_type a.0) args) (subst (λ o. shape_formed o ≡ true) calls shape)).1
+
     by_func : (q : Option ℕ) → func_index m.funcs callee ≡ q → (e : External) → (if is_some q then None else lookup externals callee) ≡ Some e
-        → (map (λ a. a.0) args ≡ (external_signature e).params) × (ret ≡ (external_signature e).ret)
+        → (map (λ a. a.0) args ≡ called_params e (map (λ a. a.0) args)) × (ret ≡ (external_signature e).ret) × (length args < 2 ^ 32)
     by_func (Some k) found e w = grind arith
     by_func None found e w =
         let c = external_call m valid n b p f i at due ret callee args calls e found w in (
-          argument_types c.fits 0 c.declared_params (external_signature e).params args c.arguments c.params (external_values e),
+          argument_types c.fits 0 c.declared_params (called_params e (map (λ a. a.0) args)) args c.arguments c.params (external_values e args formed_args),
           answer_type ret c.declared_ret (external_signature e).ret c.first c.second (external_answers e),
+          (subst (λ o. FitsCallee o i.result args) (ap (λ q. if is_some q then None else lookup externals callee) found ∙ w)
+              (subst (λ o. IsBuilt (func_index m.funcs) i.result o) calls (inst_known m formed valid can n b p f i at there due unmarked (ap is_phi calls)).built).0).2,
         )

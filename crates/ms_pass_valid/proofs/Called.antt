@@ -64,6 +64,7 @@ call_reserved function.Fill = refl
 call_reserved function.StoreOrigin = refl
 call_reserved function.LoadOrigin = refl
 call_reserved function.Size = refl
+call_reserved function.CheckFormat = refl
 
 fits_reserved : (o : Op) (x : Name) → OpFits o → In (callees o) x → is_reserved x ≡ true
 fits_reserved (op.Call r y as') x s (inl e) = ap is_reserved (sym e ∙ s.named) ∙ call_reserved s.function

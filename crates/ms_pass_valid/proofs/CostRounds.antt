@@ -15,7 +15,7 @@ use Rattle.ms_ir.specs.Layout.{width_of}
 use Rattle.ms_ir.specs.Code.{count_undefs, external_named}
 use Rattle.ms_ir.specs.declared.calls.External.{External}
 use Rattle.ms_ir.specs.declared.calls.External.TheVariants.{Malloc, Realloc, Memset, LlvmMemset}
-use Rattle.ms_runs.specs.Uses.{Use, Word, Bytes, Line}
+use Rattle.ms_runs.specs.Uses.{Use, Word, Bytes, Line, Asked}
 use Rattle.ms_tasks.specs.Tasks.{mask_name, Expr, Leaf, Turn, Task}
 use Rattle.ms_tasks.specs.Environments.{Env, Given, Tracked, is_zero, tracked_at, mask_of, word_of, bits_of}
 use Rattle.ms_tasks.specs.CheckTasks.{check_task, use_tasks, check_tasks, all_zero, blind_tasks}
@@ -78,6 +78,7 @@ use_cost site ts (Word kind k) =
     unless_cost (is_zero t.mask) (check_task site kind k t) 9 (let w = widened_cost (width_of t.ty) (mask_of t) in omega (arith, w))
 use_cost site ts (Bytes kind a n) = omega arith
 use_cost site ts (Line a) = omega arith
+use_cost site ts (Asked a) = omega arith
 
 pub checks_cost : (site : ℕ) (ts : List Tracked) (us : List Use) → tasks_cost (check_tasks site ts us) ≤ 9 * length us
 checks_cost site ts [] = omega arith

@@ -4,7 +4,7 @@ use Rattle.std.specs.Prelude.{length, map, take, drop, if◌then◌else◌, nat_
 use Rattle.ms_bits.specs.declared.operations.BinOp.{BinOp}
 use Rattle.ms_bits.specs.declared.operations.BinOp.TheVariants as binary
 use Rattle.ms_ir.specs.declared.syntax.Name.{Name}
-use Rattle.ms_ir.specs.declared.syntax.Ty.{Ty, Int}
+use Rattle.ms_ir.specs.declared.syntax.Ty.{Ty, Int, Ptr}
 use Rattle.ms_ir.specs.declared.syntax.Operand.{Operand}
 use Rattle.ms_ir.specs.declared.syntax.Op.{Op}
 use Rattle.ms_ir.specs.declared.syntax.Op.TheVariants as op
@@ -13,8 +13,9 @@ use Rattle.ms_ir.specs.declared.syntax.Block.{Block}
 use Rattle.ms_ir.specs.declared.syntax.Func.{Func}
 use Rattle.ms_ir.specs.Names.{name_eq, main_name}
 use Rattle.ms_runs.specs.World.{Here}
+use Rattle.ms_ir.specs.Equal.{type_eq}
 use Rattle.ms_ir.specs.Code.{operands, one_undef, over_insts, over_blocks, over_funcs, one_unmarked, roots_in, external_named}
-use Rattle.ms_runs.specs.Uses.{uses, has_flag, external_uses, callee_uses}
+use Rattle.ms_runs.specs.Uses.{Use, Asked, uses, has_flag, value_uses, string_uses, external_uses, callee_uses}
 use Rattle.ms_ir.specs.Layout.{width_of}
 use Rattle.ms_valid.specs.Formed.{count_written, block_formed, func_formed}
 use Rattle.ms_valid.specs.FormedCode.{is_body}
@@ -31,7 +32,7 @@ use Rattle.ms_tasks.specs.Emit.{before_tasks, after_tasks, start}
 use Rattle.ms_tasks.specs.PassLists.{mask_edges, origins_by, origin_edges, phi_pair, phi_code, next_here, pass_insts, emit_op}
 use Rattle.ms_pass_laws.specs.Pass.{Numbering, here_after, pass_blocks, pass_funcs, entry_code, enter_block}
 use Rattle.ms_ir.specs.declared.calls.External.{External}
-use Rattle.ms_ir.specs.declared.calls.External.TheVariants.{Malloc}
+use Rattle.ms_ir.specs.declared.calls.External.TheVariants.{Malloc, Printf}
 use Rattle.ms_pass_valid.proofs.Costs.{written_append, tasks_cost, tasks_written}
 use Rattle.ms_pass_valid.proofs.CostRounds.{tasks_cost_append, define_cost, checks_cost, blind_cost, plane_cost, hand_cost, save_cost}
 use Rattle.std.proofs.lemmas.List.{length-map}
@@ -70,10 +71,10 @@ blinded_few (op.Icmp q f t a b) ts = either (has_flag f) ts [] (length ts) (omeg
 blinded_few (op.Cast o f t a u) ts = either (has_flag f) ts [] (length ts) (omega arith) (omega arith)
 blinded_few _ ts = omega arith
 
-uses_few : (func : Name → Option ℕ) (main : Bool) (o : Op) → length (uses func main o) ≤ 5
+uses_few : (func : Name → Option ℕ) (main : Bool) (o : Op) → length (uses func main o) ≤ 5 + 2 * length (operands o)
 uses_few func main (op.Binary o f t a b) = by_op o
   where
-    by_op : (c : BinOp) → length (uses func main (op.Binary c f t a b)) ≤ 5
+    by_op : (c : BinOp) → length (uses func main (op.Binary c f t a b)) ≤ 5 + 2 * length (operands (op.Binary c f t a b))
     by_op binary.Udiv = omega arith
     by_op binary.Sdiv = omega arith
     by_op binary.Urem = omega arith
@@ -81,16 +82,33 @@ uses_few func main (op.Binary o f t a b) = by_op o
     by_op _ = omega arith
 uses_few func main (op.Call r x as') = by_name (external_named func x)
   where
-    by_external : (e : External) → length (external_uses e) ≤ 5
+    values_many : (k : ℕ) (args : List (Ty × Operand)) (us : List Use) → length (value_uses k args ++ us) ≡ length args + length us
+    values_many k [] us = omega arith
+    values_many k (a ∷ args) us = let l = values_many (suc k) args us in omega (arith, l)
+
+    strings_many : (k : ℕ) (args : List (Ty × Operand)) → length (string_uses k args) ≤ length args
+    strings_many k [] = omega arith
+    strings_many k (a ∷ args) = by_test (type_eq a.0 Ptr) (strings_many (suc k) args)
+      where
+        by_test : (t : Bool) → length (string_uses (suc k) args) ≤ length args → length (if t then Asked k ∷ string_uses (suc k) args else string_uses (suc k) args) ≤ suc (length args)
+        by_test true l = omega (arith, l)
+        by_test false l = omega (arith, l)
+
+    fewer : (args : List (Ty × Operand)) → length (drop 1 args) ≤ length args
+    fewer [] = omega arith
+    fewer (a ∷ rest) = omega arith
+
+    by_external : (e : External) → length (external_uses e as') ≤ 5 + 2 * length as'
     by_external Malloc = omega arith
+    by_external Printf = omega (arith, values_many 1 (drop 1 as') (string_uses 1 (drop 1 as')), strings_many 1 (drop 1 as'), fewer as')
     by_external _ = omega arith
 
-    by_name : (e : Option External) → length (callee_uses e) ≤ 5
+    by_name : (e : Option External) → length (callee_uses e as') ≤ 5 + 2 * length as'
     by_name None = omega arith
     by_name (Some e) = by_external e
 uses_few func main (op.Ret v) = by_main main
   where
-    by_main : (c : Bool) → length (uses func c (op.Ret v)) ≤ 5
+    by_main : (c : Bool) → length (uses func c (op.Ret v)) ≤ 5 + 2 * length (operands (op.Ret v))
     by_main true = omega arith
     by_main false = omega arith
 uses_few func main _ = omega arith
@@ -109,10 +127,10 @@ result_cost func env (Some x) o ts = by_clean (env.clean x)
 
 -- the bound of a round with its own instruction
 abbrev pub bound : Inst → ℕ
-bound i = 200 + 35 * length (operands i.op)
+bound i = 200 + 55 * length (operands i.op)
 
 module _ (given : Given) (env : Env) where
-  before_cost : (h : Here) (i : Inst) (n : ℕ) → tasks_cost (before_tasks given env h i n) ≤ 162 + 32 * length (operands i.op)
+  before_cost : (h : Here) (i : Inst) (n : ℕ) → tasks_cost (before_tasks given env h i n) ≤ 162 + 50 * length (operands i.op)
   before_cost h i n =
       let ts = tracked env h.root (operands i.op) in
       let us = uses given.func h.main i.op in
@@ -167,7 +185,7 @@ module _ (given : Given) (env : Env) where
 
   -- what is written before and behind an instruction
   pub lists_cost : (h : Here) (i : Inst) (n : ℕ) (o : Op) → i.op ≡ o
-      → over_insts count_written (emit_op given env h i n o).before + over_insts count_written (emit_op given env h i n o).after ≤ 192 + 32 * length (operands o)
+      → over_insts count_written (emit_op given env h i n o).before + over_insts count_written (emit_op given env h i n o).after ≤ 192 + 50 * length (operands o)
   lists_cost h i n (op.Phi t es) s = omega (arith, phi_cost h.root i.result t es, length-map {B = Ty × Operand} es (λ (e : Operand × Name). (t, e.0)))
   lists_cost h i n o s =
       let bs = before_tasks given env h i n in let as' = after_tasks given env h i n in
@@ -255,14 +273,14 @@ funcs_few (f ∷ fs) h =
 
 -- ---- the sum
 
-insts_bound : (is : List Inst) → over_insts bound is ≡ 200 * over_insts (λ i. 1) is + 35 * over_insts (λ i. length (operands i.op)) is
+insts_bound : (is : List Inst) → over_insts bound is ≡ 200 * over_insts (λ i. 1) is + 55 * over_insts (λ i. length (operands i.op)) is
 insts_bound [] = refl
 insts_bound (i ∷ is) = let e = insts_bound is in omega (arith, e)
 
-blocks_bound : (bs : List Block) → over_blocks bound bs ≡ 200 * over_blocks (λ i. 1) bs + 35 * over_blocks (λ i. length (operands i.op)) bs
+blocks_bound : (bs : List Block) → over_blocks bound bs ≡ 200 * over_blocks (λ i. 1) bs + 55 * over_blocks (λ i. length (operands i.op)) bs
 blocks_bound [] = refl
 blocks_bound (b ∷ bs) = let e = blocks_bound bs in omega (arith, e, insts_bound b.insts)
 
-pub funcs_bound : (fs : List Func) → over_funcs bound fs ≡ 200 * over_funcs (λ i. 1) fs + 35 * over_funcs (λ i. length (operands i.op)) fs
+pub funcs_bound : (fs : List Func) → over_funcs bound fs ≡ 200 * over_funcs (λ i. 1) fs + 55 * over_funcs (λ i. length (operands i.op)) fs
 funcs_bound [] = refl
 funcs_bound (f ∷ fs) = let e = funcs_bound fs in omega (arith, e, blocks_bound f.blocks)

@@ -8,7 +8,7 @@ use Rattle.ms_ir.specs.declared.syntax.Op.{Op}
 use Rattle.ms_ir.specs.declared.syntax.Op.TheVariants as op
 use Rattle.ms_ir.specs.declared.calls.External.{External}
 use Rattle.ms_ir.specs.Code.{external_named}
-use Rattle.ms_ir.specs.Signatures.{external_signature}
+use Rattle.ms_ir.specs.Signatures.{external_signature, called_params}
 use Rattle.ms_ir.specs.Layout.{size_in}
 use Rattle.ms_valid.specs.FormedCode.{is_value_type}
 use Rattle.ms_tasks.specs.Tasks.{mask_name, origin_name}
@@ -40,7 +40,7 @@ AllTracked K C (t ∷ ts) = TrackedFits K C t × AllTracked K C ts
 
 -- a call of an external has its types, one of a function of the module few arguments, and an answer is a value
 pub record CallGood (given : Given) (ret : Option Ty) (callee : Name) (args : List (Ty × Operand)) : Type 0 where
-  pub outside : (e : External) → external_named given.func callee ≡ Some e → (map (λ a. a.0) args ≡ (external_signature e).params) × (ret ≡ (external_signature e).ret)
+  pub outside : (e : External) → external_named given.func callee ≡ Some e → (map (λ a. a.0) args ≡ called_params e (map (λ a. a.0) args)) × (ret ≡ (external_signature e).ret) × (length args < 2 ^ 32)
   pub few : is_some (given.func callee) ≡ true → length args ≤ 100
   pub value : (t : Ty) → ret ≡ Some t → is_value_type t ≡ true
 

@@ -58,6 +58,7 @@ module _ (j : Module) (K : Name → Ty → Type 0) (named : (x : Name) (t : Ty) 
   params_values function.StoreOrigin = refl
   params_values function.LoadOrigin = refl
   params_values function.Size = refl
+  params_values function.CheckFormat = refl
 
   callee_formed : (fn : RuntimeFn) → (result_formed (runtime_signature fn).ret && is_global_name (runtime_name fn) && not (name_eq (runtime_name fn) main_name)) ≡ true
   callee_formed function.Check = refl
@@ -71,6 +72,7 @@ module _ (j : Module) (K : Name → Ty → Type 0) (named : (x : Name) (t : Ty) 
   callee_formed function.StoreOrigin = refl
   callee_formed function.LoadOrigin = refl
   callee_formed function.Size = refl
+  callee_formed function.CheckFormat = refl
 
   shape_is : (o : Op) → OpFits o → shape_formed o ≡ true
   shape_is (op.Binary o f t x y) s = ap (λ g. is_int_type t && are_among g (binary_flags o)) s.0 ∙ ap (λ c. c && true) s.1

@@ -85,7 +85,7 @@ instrumented_formed_valid numbers m w v can good = (
     room : (n : ℕ) → n ≤ 16384 → n + 4 < 2 ^ 30
     room n l = omega (arith, l)
 
-    few : (a b c d k : ℕ) → a ≤ b + 1000 * k → b ≡ 200 * c + 35 * d → k ≤ c → c ≤ 2 ^ 17 → d ≤ 2 ^ 20 → a < 2 ^ 30
+    few : (a b c d k : ℕ) → a ≤ b + 1000 * k → b ≡ 200 * c + 55 * d → k ≤ c → c ≤ 2 ^ 17 → d ≤ 2 ^ 20 → a < 2 ^ 30
     few a b c d k l e h p q = omega (arith, l, e, h, p, q)
 
 -- the numbering of a module by the order of its text is good

@@ -182,6 +182,7 @@ module _ (j : Module) (g : Func) (b q site : ℕ)
   not_printf function.StoreOrigin = refl
   not_printf function.LoadOrigin = refl
   not_printf function.Size = refl
+  not_printf function.CheckFormat = refl
 
   ret_same : (fn : RuntimeFn) → result_type_eq (runtime_signature fn).ret (runtime_signature fn).ret ≡ true
   ret_same function.Check = refl
@@ -195,6 +196,7 @@ module _ (j : Module) (g : Func) (b q site : ℕ)
   ret_same function.StoreOrigin = refl
   ret_same function.LoadOrigin = refl
   ret_same function.Size = refl
+  ret_same function.CheckFormat = refl
 
   call_agrees : (ret : Option Ty) (callee : Name) (args : List (Ty × Operand)) → CallFits ret callee args → AllFitting args → call_fault j fits (signature_of j callee) ret callee args ≡ None
   call_agrees ret callee args s p =
@@ -253,6 +255,7 @@ module _ (j : Module) (g : Func) (b q site : ℕ)
   no_external function.StoreOrigin = refl
   no_external function.LoadOrigin = refl
   no_external function.Size = refl
+  no_external function.CheckFormat = refl
 
   is_runtime : (fn : RuntimeFn) → may_be_marked (op.Call None (runtime_name fn) []) ≡ true
   is_runtime function.Check = refl
@@ -266,6 +269,7 @@ module _ (j : Module) (g : Func) (b q site : ℕ)
   is_runtime function.StoreOrigin = refl
   is_runtime function.LoadOrigin = refl
   is_runtime function.Size = refl
+  is_runtime function.CheckFormat = refl
 
   not_volatile : (c : Bool) (fn : RuntimeFn) → says_volatile (if c then None else lookup externals (runtime_name fn)) ≡ false
   not_volatile true fn = refl

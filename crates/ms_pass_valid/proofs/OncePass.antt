@@ -19,7 +19,7 @@ use Rattle.ms_runs.specs.World.{Here}
 use Rattle.ms_ir.specs.Code.{operands, count_undefs, external_named}
 use Rattle.ms_ir.specs.declared.calls.External.{External}
 use Rattle.ms_ir.specs.declared.calls.External.TheVariants.{Malloc, Realloc}
-use Rattle.ms_runs.specs.Uses.{Use, Word, Bytes, Line, uses}
+use Rattle.ms_runs.specs.Uses.{Use, Word, Bytes, Line, uses, Asked}
 use Rattle.ms_ir.specs.Locals.{results, block_locals, parameter_names, locals}
 use Rattle.ms_valid.specs.NamesOnce.{repeats}
 use Rattle.ms_tasks.specs.Tasks.{msan_name, mask_name, origin_name, Task, target, tasks_code}
@@ -158,6 +158,7 @@ module _ (given : Given) (env : Env) (size : ℕ) (one : OneName env) (few : Few
   use_sets site ts (Word kind k) = set_nothing (is_zero (tracked_at k ts).mask) (check_task site kind k (tracked_at k ts)) refl
   use_sets site ts (Bytes kind a n) = refl
   use_sets site ts (Line a) = refl
+  use_sets site ts (Asked a) = refl
 
   checks_set : (site : ℕ) (ts : List Tracked) (us : List Use) → set_by (check_tasks site ts us) ≡ []
   checks_set site ts [] = refl

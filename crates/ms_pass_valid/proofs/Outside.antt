@@ -111,6 +111,7 @@ module _ (numbers : ℕ → Numbering) (m : Module) (u : IsUninstrumented m) whe
   in_runtime function.StoreOrigin = refl
   in_runtime function.LoadOrigin = refl
   in_runtime function.Size = refl
+  in_runtime function.CheckFormat = refl
 
   runtime_known : (fn : RuntimeFn) → has_name (symbols j) (runtime_name fn) ≡ true
   runtime_known fn =
@@ -178,6 +179,7 @@ module _ (numbers : ℕ → Numbering) (m : Module) (u : IsUninstrumented m) whe
   is_kept function.StoreOrigin = refl
   is_kept function.LoadOrigin = refl
   is_kept function.Size = refl
+  is_kept function.CheckFormat = refl
 
   other_name : (y x : Name) → is_reserved y ≡ false → is_reserved x ≡ true → name_eq y x ≡ false
   other_name y x free kept = by_test (name_eq y x) refl
@@ -208,6 +210,7 @@ module _ (numbers : ℕ → Numbering) (m : Module) (u : IsUninstrumented m) whe
   runtime_declared function.StoreOrigin = refl
   runtime_declared function.LoadOrigin = refl
   runtime_declared function.Size = refl
+  runtime_declared function.CheckFormat = refl
 
   funcs_free : (y : Name) → In (function_names j) y → is_reserved y ≡ false
   funcs_free y i =

@@ -1,6 +1,6 @@
 -- What validity and form of a module give at each of its instructions, so that code can be inserted round it.
-use Rattle.std.proofs.Common.{◌≡◌, ℕ, ◌+◌, List, [], ◌∷◌, ◌++◌, Bool, true, false, Option, Some, None, refl, sym, ap, ◌∙◌, arith, true≢false}
-use Rattle.std.specs.Prelude.{◌&&◌, All, map, flat_map, drop, length, is_none, slice_get}
+use Rattle.std.proofs.Common.{◌≡◌, ℕ, ◌+◌, List, [], ◌∷◌, ◌++◌, Bool, true, false, Option, Some, None, refl, sym, ap, ◌∙◌, arith, true≢false, zero, suc, ◌^◌, ◌<◌}
+use Rattle.std.specs.Prelude.{◌&&◌, All, map, flat_map, drop, length, is_none, slice_get, if◌then◌else◌}
 use Rattle.std.proofs.Math.Path.{ap₂}
 use Rattle.std.proofs.lemmas.Bool.{eqb-true, and_parts}
 use Rattle.ms_bits.specs.declared.operations.BinOp.{BinOp}
@@ -14,10 +14,10 @@ use Rattle.ms_ir.specs.declared.syntax.Op.TheVariants as op
 use Rattle.ms_ir.specs.declared.syntax.Func.{Func}
 use Rattle.ms_ir.specs.declared.syntax.Module.{Module}
 use Rattle.ms_ir.specs.declared.calls.External.{External}
-use Rattle.ms_ir.specs.declared.calls.External.TheVariants.{Malloc, Calloc, Realloc, Free, Memcpy, Memmove, Memset, Memcmp, Strlen, Putchar, Puts, Getchar, Read, Write, Exit, Abort, LlvmMemcpy, LlvmMemmove, LlvmMemset, LifetimeStart, LifetimeEnd}
-use Rattle.ms_ir.specs.Signatures.{external_signature}
+use Rattle.ms_ir.specs.declared.calls.External.TheVariants.{Malloc, Calloc, Realloc, Free, Memcpy, Memmove, Memset, Memcmp, Strlen, Putchar, Puts, Getchar, Read, Write, Exit, Abort, LlvmMemcpy, LlvmMemmove, LlvmMemset, LifetimeStart, LifetimeEnd, Printf}
+use Rattle.ms_ir.specs.Signatures.{external_signature, called_params}
 use Rattle.ms_ir.specs.Code.{operands, block_index, count_undefs, one_undef, external_named}
-use Rattle.ms_runs.specs.Uses.{uses, external_uses, callee_uses}
+use Rattle.ms_runs.specs.Uses.{uses, external_uses, callee_uses, Use, Asked, value_uses, string_uses}
 use Rattle.ms_ir.specs.Equal.{type_eq}
 use Rattle.ms_ir.specs.Written.{Mention, OfType, OfLocal, OfGlobal, type_mentions, row_mentions, operand_mentions, operand_types, result_type}
 use Rattle.ms_ir.specs.Locals.{locals, value_type}
@@ -29,7 +29,7 @@ use Rattle.ms_valid.specs.TypesAgree.{operand_fits, is_type, is_variable, first_
 use Rattle.ms_valid.specs.FormedCode.{is_value_type, operand_formed}
 use Rattle.ms_valid.specs.SizesFit.{sized}
 use Rattle.ms_valid.proofs.AtInstructions.{all_parts}
-use Rattle.ms_pass_valid.proofs.Rounds.{SmallUses}
+use Rattle.ms_pass_valid.proofs.Rounds.{TypeAt, SmallUses}
 use Rattle.ms_pass_valid.proofs.PassPaths.{HasMask}
 use Rattle.ms_pass_valid.proofs.Inserted.{ConstGood, unknown_append, unknown_one}
 use Rattle.ms_pass_valid.proofs.Emitted.{OpGood}
@@ -178,6 +178,31 @@ undefs_same t (e ∷ es) = ap (λ k. one_undef e.0 + k) (undefs_same t es)
 
 -- ---- uses and masks
 
+-- ---- the uses of `printf`
+
+small_values : (os : List (Ty × Operand)) (k : ℕ) (args : List (Ty × Operand)) (us : List Use) → k + length args < 2 ^ 32 → SmallUses os us → SmallUses os (value_uses k args ++ us)
+small_values os k [] us l h = h
+small_values os k (a ∷ args) us l h = ((omega arith, omega (arith, l)), small_values os (suc k) args us (omega (arith, l)) h)
+
+small_strings : (os : List (Ty × Operand)) (k : ℕ) (args : List (Ty × Operand)) → k + length args < 2 ^ 32 → TypeAt os 0 Ptr
+    → ((j : ℕ) → slice_get (map (λ o. o.0) os) (k + j) ≡ slice_get (map (λ a. a.0) args) j) → SmallUses os (string_uses k args)
+small_strings os k [] l f at = tt
+small_strings os k (a ∷ args) l f at =
+    by_type a.0 first (small_strings os (suc k) args (omega (arith, l)) f (λ j. ap (slice_get (map (λ o. o.0) os)) (moved k j) ∙ at (suc j)))
+  where
+    moved : (m j : ℕ) → suc m + j ≡ m + suc j
+    moved m j = omega arith
+
+    none : (m : ℕ) → m ≡ m + 0
+    none m = omega arith
+
+    first : TypeAt os k a.0
+    first = ap (slice_get (map (λ o. o.0) os)) (none k) ∙ at 0
+
+    by_type : (t : Ty) → TypeAt os k t → SmallUses os (string_uses (suc k) args) → SmallUses os (if type_eq t Ptr then Asked k ∷ string_uses (suc k) args else string_uses (suc k) args)
+    by_type Ptr e later = ((f, e, omega (arith, l)), later)
+    by_type t e later = later
+
 pub small_uses : (given : Given) (main : Bool) (o : Op) → OpGood given o → SmallUses (operands o) (uses given.func main o)
 small_uses given main (op.Binary o f t x y) e = by_op o
   where
@@ -192,32 +217,46 @@ small_uses given main (op.Load t x) e = ((omega arith, omega arith), tt)
 small_uses given main (op.Store t x y) e = ((omega arith, omega arith), tt)
 small_uses given main (op.Call r x as') g = by_name (external_named given.func x) refl
   where
-    by_external : (e : External) → map (λ a. a.0) as' ≡ (external_signature e).params → SmallUses as' (external_uses e)
-    by_external Malloc t = ((omega arith, omega arith), tt)
-    by_external Calloc t = ((omega arith, omega arith), ((omega arith, omega arith), tt))
-    by_external Realloc t = ((omega arith, omega arith), ((omega arith, omega arith), tt))
-    by_external Free t = ((omega arith, omega arith), tt)
-    by_external Memcpy t = ((omega arith, omega arith), ((omega arith, omega arith), ((omega arith, omega arith), tt)))
-    by_external Memmove t = ((omega arith, omega arith), ((omega arith, omega arith), ((omega arith, omega arith), tt)))
-    by_external Memset t = ((omega arith, omega arith), ((omega arith, omega arith), tt))
-    by_external Memcmp t = ((omega arith, omega arith), ((omega arith, omega arith), ((omega arith, omega arith), ((omega arith, ap (λ l. slice_get l 0) t, ap (λ l. slice_get l 2) t), ((omega arith, ap (λ l. slice_get l 1) t, ap (λ l. slice_get l 2) t), tt)))))
-    by_external Strlen t = ((omega arith, omega arith), (ap (λ l. slice_get l 0) t, tt))
-    by_external Putchar t = ((omega arith, omega arith), tt)
-    by_external Puts t = ((omega arith, omega arith), (ap (λ l. slice_get l 0) t, tt))
-    by_external Getchar t = tt
-    by_external Read t = ((omega arith, omega arith), ((omega arith, omega arith), ((omega arith, omega arith), tt)))
-    by_external Write t = ((omega arith, omega arith), ((omega arith, omega arith), ((omega arith, omega arith), ((omega arith, ap (λ l. slice_get l 1) t, ap (λ l. slice_get l 2) t), tt))))
-    by_external Exit t = ((omega arith, omega arith), tt)
-    by_external Abort t = tt
-    by_external LlvmMemcpy t = ((omega arith, omega arith), ((omega arith, omega arith), ((omega arith, omega arith), tt)))
-    by_external LlvmMemmove t = ((omega arith, omega arith), ((omega arith, omega arith), ((omega arith, omega arith), tt)))
-    by_external LlvmMemset t = ((omega arith, omega arith), ((omega arith, omega arith), tt))
-    by_external LifetimeStart t = ((omega arith, omega arith), ((omega arith, omega arith), tt))
-    by_external LifetimeEnd t = ((omega arith, omega arith), ((omega arith, omega arith), tt))
+    by_external : (e : External) → map (λ a. a.0) as' ≡ called_params e (map (λ a. a.0) as') → length as' < 2 ^ 32 → SmallUses as' (external_uses e as')
+    by_external Malloc t l = ((omega arith, omega arith), tt)
+    by_external Calloc t l = ((omega arith, omega arith), ((omega arith, omega arith), tt))
+    by_external Realloc t l = ((omega arith, omega arith), ((omega arith, omega arith), tt))
+    by_external Free t l = ((omega arith, omega arith), tt)
+    by_external Memcpy t l = ((omega arith, omega arith), ((omega arith, omega arith), ((omega arith, omega arith), tt)))
+    by_external Memmove t l = ((omega arith, omega arith), ((omega arith, omega arith), ((omega arith, omega arith), tt)))
+    by_external Memset t l = ((omega arith, omega arith), ((omega arith, omega arith), tt))
+    by_external Memcmp t l = ((omega arith, omega arith), ((omega arith, omega arith), ((omega arith, omega arith), ((omega arith, ap (λ l. slice_get l 0) t, ap (λ l. slice_get l 2) t), ((omega arith, ap (λ l. slice_get l 1) t, ap (λ l. slice_get l 2) t), tt)))))
+    by_external Strlen t l = ((omega arith, omega arith), (ap (λ l. slice_get l 0) t, tt))
+    by_external Putchar t l = ((omega arith, omega arith), tt)
+    by_external Puts t l = ((omega arith, omega arith), (ap (λ l. slice_get l 0) t, tt))
+    by_external Getchar t l = tt
+    by_external Read t l = ((omega arith, omega arith), ((omega arith, omega arith), ((omega arith, omega arith), tt)))
+    by_external Write t l = ((omega arith, omega arith), ((omega arith, omega arith), ((omega arith, omega arith), ((omega arith, ap (λ l. slice_get l 1) t, ap (λ l. slice_get l 2) t), tt))))
+    by_external Exit t l = ((omega arith, omega arith), tt)
+    by_external Abort t l = tt
+    by_external LlvmMemcpy t l = ((omega arith, omega arith), ((omega arith, omega arith), ((omega arith, omega arith), tt)))
+    by_external LlvmMemmove t l = ((omega arith, omega arith), ((omega arith, omega arith), ((omega arith, omega arith), tt)))
+    by_external LlvmMemset t l = ((omega arith, omega arith), ((omega arith, omega arith), tt))
+    by_external LifetimeStart t l = ((omega arith, omega arith), ((omega arith, omega arith), tt))
+    by_external LifetimeEnd t l = ((omega arith, omega arith), ((omega arith, omega arith), tt))
+    by_external Printf t l =
+        let f : TypeAt as' 0 Ptr = ap (λ l. slice_get l 0) t in
+        ((omega arith, omega arith), (f, small_values as' 1 (drop 1 as') (string_uses 1 (drop 1 as')) (fewer as' l) (small_strings as' 1 (drop 1 as') (fewer as' l) f (next_type as'))))
+      where
+        fewer : (args : List (Ty × Operand)) → length args < 2 ^ 32 → 1 + length (drop 1 args) < 2 ^ 32
+        fewer [] l = omega arith
+        fewer (a ∷ rest) l = omega (arith, l)
 
-    by_name : (e : Option External) → external_named given.func x ≡ e → SmallUses as' (callee_uses e)
+        next_type : (args : List (Ty × Operand)) (j : ℕ) → slice_get (map (λ o. o.0) args) (1 + j) ≡ slice_get (map (λ a. a.0) (drop 1 args)) j
+        next_type [] j = refl
+        next_type (a ∷ rest) j = ap (λ n. slice_get (a.0 ∷ map (λ b. b.0) rest) n) (next j)
+          where
+            next : (m : ℕ) → 1 + m ≡ suc m
+            next m = omega arith
+
+    by_name : (e : Option External) → external_named given.func x ≡ e → SmallUses as' (callee_uses e as')
     by_name None w = tt
-    by_name (Some e) w = by_external e (g.outside e w).0
+    by_name (Some e) w = by_external e (g.outside e w).0 (g.outside e w).2
 small_uses given main (op.CondBr c to other) e = ((omega arith, omega arith), tt)
 small_uses given main (op.Switch t x other cases) e = ((omega arith, omega arith), tt)
 small_uses given main (op.Ret v) e = by_main main

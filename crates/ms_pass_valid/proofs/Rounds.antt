@@ -18,16 +18,16 @@ use Rattle.ms_ir.specs.Layout.{width_of, size_in}
 use Rattle.ms_runs.specs.World.{Here}
 use Rattle.ms_ir.specs.Code.{operands, count_undefs, one_undef, external_named}
 use Rattle.ms_ir.specs.Written.{result_type}
-use Rattle.ms_ir.specs.Signatures.{external_signature}
+use Rattle.ms_ir.specs.Signatures.{external_signature, called_params}
 use Rattle.ms_ir.specs.declared.calls.External.{External}
 use Rattle.ms_ir.specs.declared.calls.External.TheVariants.{Malloc, Realloc, Memcpy, Memmove, Memset, Read, LlvmMemcpy, LlvmMemmove, LlvmMemset, LifetimeStart}
-use Rattle.ms_runs.specs.Uses.{Use, Word, Bytes, Line, uses, has_flag}
+use Rattle.ms_runs.specs.Uses.{Use, Word, Bytes, Line, uses, has_flag, Asked}
 use Rattle.ms_valid.specs.FormedCode.{is_int_type, is_value_type}
 use Rattle.ms_tasks.specs.Tasks.{msan_name, mask_name, origin_name, Expr, Leaf, Task, Sets, Fetches, Puts, Calls}
 use Rattle.ms_tasks.specs.Environments.{Env, Given, Tracked, mask_type, tracked, tracked_at, mask_of, origin_of, word_of, bits_of, widened, number, is_zero}
 use Rattle.ms_tasks.specs.ResultMasks.{mask_expr, origin_expr, first_last}
 use Rattle.ms_tasks.specs.ResultTasks.{result_width, called_tasks, shift_task, word_tasks, binary_tasks, shadow_address, define_tasks, result_tasks}
-use Rattle.ms_tasks.specs.CheckTasks.{memory_task, string_task, check_task, use_tasks, check_tasks, blind_binary_of, blinded_of, all_zero, union_masks, blind_tasks}
+use Rattle.ms_tasks.specs.CheckTasks.{memory_task, string_task, check_task, use_tasks, check_tasks, blind_binary_of, blinded_of, all_zero, union_masks, blind_tasks, format_task}
 use Rattle.ms_tasks.specs.PlaneTasks.{saves, saved_by, saved_tasks, poison_task, copy_task, fill_task, external_tasks, callee_tasks, plane_tasks, save_tasks}
 use Rattle.ms_tasks.specs.Emit.{before_tasks}
 use Rattle.ms_tasks.specs.SlotTasks.{hand_tasks, give_result, give_tasks, give_arguments, take_tasks, take_value, take_result, take_parameters, param_mask, param_origin, result_mask_slot, result_origin_slot}
@@ -45,6 +45,7 @@ abbrev pub SmallUse : List (Ty × Operand) → Use → Type 0
 SmallUse os (Word kind k) = (kind < 2 ^ 32) × (k < 2 ^ 32)
 SmallUse os (Bytes kind a n) = (kind < 2 ^ 32) × TypeAt os a Ptr × TypeAt os n (Int 64)
 SmallUse os (Line a) = TypeAt os a Ptr
+SmallUse os (Asked a) = TypeAt os 0 Ptr × TypeAt os a Ptr × (a < 2 ^ 32)
 
 abbrev pub SmallUses : List (Ty × Operand) → List Use → Type 0
 SmallUses os [] = Unit {0}
@@ -133,6 +134,9 @@ module _ (C : Ty → Operand → Type 0) where
   string_fits : (K : Name → Ty → Type 0) (site : ℕ) (a : Tracked) → Typed K C Ptr (word_of a) → site < 2 ^ 32 → TaskFits K C (string_task site a)
   string_fits K site a p s = record { shape = refl; words = (p, (number_fits 32 site refl s, tt)); gives = tt }
 
+  format_fits : (K : Name → Ty → Type 0) (site k : ℕ) (f a : Tracked) → Typed K C Ptr (word_of f) → Typed K C Ptr (word_of a) → site < 2 ^ 32 → k < 2 ^ 32 → TaskFits K C (format_task site k f a)
+  format_fits K site k f a p q s l = record { shape = refl; words = (p, (number_fits 32 k refl l, (q, (number_fits 32 site refl s, tt)))); gives = tt }
+
   use_fits : (K : Name → Ty → Type 0) (site : ℕ) (env : Env) (root : ℕ) (os : List (Ty × Operand)) (u : Use) → AllTracked K C (tracked env root os) → site < 2 ^ 32 → SmallUse os u
       → TasksFit K C (use_tasks site (tracked env root os) u)
   use_fits K site env root os (Word kind n) p s k = word_use K site kind n n (tracked env root os) p s k.0 k.1
@@ -140,6 +144,8 @@ module _ (C : Ty → Operand → Type 0) where
       let ts = tracked env root os in
       (memory_fits K site kind (tracked_at a ts) (tracked_at n ts) (nth_word K env a root os Ptr p k.1) (nth_word K env n root os (Int 64) p k.2) s k.0, tt)
   use_fits K site env root os (Line a) p s k = (string_fits K site (tracked_at a (tracked env root os)) (nth_word K env a root os Ptr p k) s, tt)
+  use_fits K site env root os (Asked a) p s k =
+      let ts = tracked env root os in (format_fits K site a (tracked_at 0 ts) (tracked_at a ts) (nth_word K env 0 root os Ptr p k.0) (nth_word K env a root os Ptr p k.1) s k.2, tt)
 
   checks_fit : (us : List Use) (K : Name → Ty → Type 0) (site : ℕ) (env : Env) (root : ℕ) (os : List (Ty × Operand)) → AllTracked K C (tracked env root os) → site < 2 ^ 32 → SmallUses os us
       → TasksFit K C (check_tasks site (tracked env root os) us)
@@ -388,7 +394,7 @@ module _ (C : Ty → Operand → Type 0) where
 
     -- what is set behind an external
     external_fits : (site n saved : ℕ) (r : Option Name) (ret : Option Ty) (e : External) (args : List (Ty × Operand)) → AllTracked K C (tracked env root args)
-        → map (λ a. a.0) args ≡ (external_signature e).params → ret ≡ (external_signature e).ret → ((y : Name) (t : Ty) → r ≡ Some y → ret ≡ Some t → K y t)
+        → map (λ a. a.0) args ≡ called_params e (map (λ a. a.0) args) → ret ≡ (external_signature e).ret → ((y : Name) (t : Ty) → r ≡ Some y → ret ≡ Some t → K y t)
         → (saved_by e ≡ 1 → K (msan_name saved) (Int 64)) → site < 2 ^ 32 → n < 2 ^ 32 → TasksFit K C (external_tasks site n saved r e (tracked env root args))
     external_fits site n saved (Some x) u Malloc args p t q k d s l =
         poison_fits (Leaf (operand.Local x)) (number 0) (word_of (tracked_at 0 (tracked env root args))) n (k x Ptr refl q) refl (word_there args p _ t 0 (Int 64) refl) l

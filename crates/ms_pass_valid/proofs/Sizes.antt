@@ -85,6 +85,7 @@ module _ (types : Types) where
     params_sized function.StoreOrigin = (refl, (refl, (refl, (refl, tt))))
     params_sized function.LoadOrigin = (refl, (refl, tt))
     params_sized function.Size = (refl, tt)
+    params_sized function.CheckFormat = (refl, (refl, (refl, (refl, tt))))
 
     ret_sized : (fn : RuntimeFn) (x : Name) (args : List (Ty × Operand)) → sized types (own_types (op.Call (runtime_signature fn).ret x args)) ≡ true
     ret_sized function.Check x args = refl
@@ -98,6 +99,7 @@ module _ (types : Types) where
     ret_sized function.StoreOrigin x args = refl
     ret_sized function.LoadOrigin x args = refl
     ret_sized function.Size x args = refl
+    ret_sized function.CheckFormat x args = refl
 
     whole_op : (o : Op) → sized types (own_types o) ≡ true → TypesSized (map (λ x. x.0) (operands o)) → OperandsFit K (ConstGood j) (operands o) → sized types (op_types o) ≡ true
     whole_op o own ts k = sized_join (own_types o) (flat_map (λ a. a.0 ∷ operand_types a.1) (operands o)) own (operands_sized (operands o) ts k)

@@ -10,10 +10,10 @@ use Rattle.ms_runs.specs.declared.runs.Report.{Report}
 use Rattle.ms_ir.specs.Layout.{width_of}
 use Rattle.ms_runs.specs.World.{World, Setting, Effect, Gives, Does, Goes, Enters, Leaves, Ends, then_does}
 use Rattle.ms_runs.specs.Memory.{is_good, bytes_left}
-use Rattle.ms_runs.specs.Origins.{trail, trail_within, add_report, check, check_byte, first_in_string, count_blind}
+use Rattle.ms_runs.specs.Origins.{trail, trail_within, add_report, check, check_byte, first_in_string, count_blind, asks_string_at}
 use Rattle.ms_runs.specs.Poisoned.{Poisoned}
 use Rattle.ms_runs.specs.Masks.{word_at}
-use Rattle.ms_runs.specs.Uses.{Use, Word, Bytes, Line, type_at, check_use, check_uses}
+use Rattle.ms_runs.specs.Uses.{Use, Word, Bytes, Line, type_at, check_use, check_uses, Asked}
 use Rattle.ms_runs_good.specs.Reached.{LeadsBack}
 use Rattle.ms_reached_laws.proofs.Trails.{back_weaker}
 use Rattle.ms_reached_laws.proofs.Worlds.{Backed, NoneFree}
@@ -72,6 +72,9 @@ module _ (site root told : ℕ → Type 0) (s : Setting) (known : (id : ℕ) →
   use_checked at os ps (Bytes kind a n) w words b =
       either_checked (is_good w (word_at a ps).value (word_at n ps).value) w _ _ (byte_checked kind at (word_at a ps).value (first_nonzero w.shadow (word_at a ps).value (word_at n ps).value) w b) (itself w b)
   use_checked at os ps (Line a) w words b = byte_checked 10 at (word_at a ps).value (first_in_string w (word_at a ps).value (bytes_left w (word_at a ps).value)) w b
+  use_checked at os ps (Asked a) w words b =
+      either_checked (asks_string_at w (word_at 0 ps).value a) w _ _
+      (byte_checked 10 at (word_at a ps).value (first_in_string w (word_at a ps).value (bytes_left w (word_at a ps).value)) w b) (itself w b)
 
   further : (w u : World) (e : Effect) → Same w u → Checked u e → Checked w e
   further w u (Does z) h g = (g.0 ∙ h.0, g.1 ∙ h.1, g.2)

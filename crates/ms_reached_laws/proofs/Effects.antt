@@ -9,14 +9,14 @@ use Rattle.ms_ir.specs.declared.syntax.Ty.{Ty}
 use Rattle.ms_ir.specs.declared.syntax.Op.{Op}
 use Rattle.ms_ir.specs.declared.syntax.Op.TheVariants as op
 use Rattle.ms_ir.specs.declared.calls.External.{External}
-use Rattle.ms_ir.specs.declared.calls.External.TheVariants.{Malloc, Calloc, Realloc, Free, Memcpy, Memmove, Memset, Memcmp, Strlen, Putchar, Puts, Getchar, Read, Write, Exit, Abort, LlvmMemcpy, LlvmMemmove, LlvmMemset, LifetimeStart, LifetimeEnd}
+use Rattle.ms_ir.specs.declared.calls.External.TheVariants.{Malloc, Calloc, Realloc, Free, Memcpy, Memmove, Memset, Memcmp, Strlen, Putchar, Puts, Getchar, Read, Write, Exit, Abort, LlvmMemcpy, LlvmMemmove, LlvmMemset, LifetimeStart, LifetimeEnd, Printf}
 use Rattle.ms_runs.specs.declared.runs.Origin.TheVariants.{Root, Chain}
 use Rattle.ms_ir.specs.Layout.{stored_size, size_in}
 use Rattle.ms_ir.specs.Areas.{Heap, Stack, area_base, room}
 use Rattle.ms_runs.specs.World.{World, Setting, Here, Effect, Gives, Does, Goes, Enters, Leaves, Ends, traps, stuck, word}
 use Rattle.ms_runs.specs.Memory.{used, fits, next_base, is_good, heap_size, store_number, set_shadow, set_cells, copy_bytes, copy_shadow, make_unset}
 use Rattle.ms_ir.specs.Code.{external_named, is_root, makes_unset}
-use Rattle.ms_runs.specs.Externals.{malloc, reallocated, realloc, where_good, string_at, output_limit, printed, next_byte, external}
+use Rattle.ms_runs.specs.Externals.{malloc, reallocated, realloc, where_good, string_at, output_limit, printed, next_byte, external, formatted, prints}
 use Rattle.ms_runs.specs.Act.{act, gives, alloca, store}
 use Rattle.ms_runs.specs.Origins.{trail_within, poison, unpoison, copy_planes, store_origin}
 use Rattle.ms_runs.specs.Poisoned.{Poisoned}
@@ -148,29 +148,34 @@ module _ (site root told : ℕ → Type 0) (s : Setting) where
   good_kept : (at a n : ℕ) (w : World) (e : Effect) → KeptAfter w e → KeptAfter w (where_good at a n w e)
   good_kept at a n w e h = either_after (is_good w a n) w _ _ (λ g. h) refl
 
-  external_kept : (at : ℕ) (e : External) (vs : List ℕ) (w : World) → KeptAfter w (external s at e vs w)
-  external_kept at Malloc vs w = malloc_kept s.fill (word 0 vs) w
-  external_kept at Calloc vs w = either_after (ltb (word 0 vs * word 1 vs) (2 ^ 64) && fits Heap (word 0 vs * word 1 vs) w) w _ _
+  prints_kept : (at : ℕ) (r : Result (List ℕ) Trap) (w : World) → KeptAfter w (prints at r w)
+  prints_kept at (Ok bs) w = printed_kept at bs (length bs) w
+  prints_kept at (Err t) w = refl
+
+  external_kept : (at : ℕ) (e : External) (ts : List Ty) (vs : List ℕ) (w : World) → KeptAfter w (external s at e ts vs w)
+  external_kept at Malloc ts vs w = malloc_kept s.fill (word 0 vs) w
+  external_kept at Calloc ts vs w = either_after (ltb (word 0 vs * word 1 vs) (2 ^ 64) && fits Heap (word 0 vs * word 1 vs) w) w _ _
       (λ e. (refl, λ b. made_heap site root told s.roots (word 0 vs * word 1 vs) w (and_parts (ltb (word 0 vs * word 1 vs) (2 ^ 64)) (fits Heap (word 0 vs * word 1 vs) w) e).1 b)) (itself w)
-  external_kept at Realloc vs w = realloc_kept s.fill at (word 0 vs) (word 1 vs) w
-  external_kept at Free vs w = either_after (eqb (word 0 vs) 0) w _ _ (λ e. itself w) (either_after (is_some (heap_size w (word 0 vs))) w _ _ (λ e. (refl, λ b. ended_back site root told s.roots (word 0 vs) w b)) refl)
-  external_kept at Memcpy vs w = good_kept at (word 0 vs) (word 2 vs) w _ (good_kept at (word 1 vs) (word 2 vs) w _ (refl, λ b. b))
-  external_kept at Memmove vs w = good_kept at (word 0 vs) (word 2 vs) w _ (good_kept at (word 1 vs) (word 2 vs) w _ (refl, λ b. b))
-  external_kept at Memset vs w = good_kept at (word 0 vs) (word 2 vs) w _ (refl, λ b. b)
-  external_kept at Memcmp vs w = good_kept at (word 0 vs) (word 2 vs) w _ (good_kept at (word 1 vs) (word 2 vs) w _ (itself w))
-  external_kept at Strlen vs w = string_kept w (string_at w (word 0 vs)) (λ bs. Gives (length bs) w) at (λ bs. itself w)
-  external_kept at Putchar vs w = printed_kept at (word 0 vs % 256 ∷ []) (word 0 vs % 256) w
-  external_kept at Puts vs w = string_kept w (string_at w (word 0 vs)) (λ bs. printed at (bs ++ 10 ∷ []) (Gives 1) w) at (λ bs. printed_kept at (bs ++ 10 ∷ []) 1 w)
-  external_kept at Getchar vs w = next_kept w.input w
-  external_kept at Read vs w = good_kept at (word 1 vs) (word 2 vs) w _ (either_after (eqb (word 0 vs) 0) w _ _ (λ e. (refl, λ b. b)) (itself w))
-  external_kept at Write vs w = good_kept at (word 1 vs) (word 2 vs) w _ (either_after (eqb (word 0 vs) 1) w _ _ (λ e. printed_kept at (bytes_at w.bytes (word 1 vs) (word 2 vs)) (word 2 vs) w) (itself w))
-  external_kept at Exit vs w = refl
-  external_kept at Abort vs w = refl
-  external_kept at LlvmMemcpy vs w = good_kept at (word 0 vs) (word 2 vs) w _ (good_kept at (word 1 vs) (word 2 vs) w _ (refl, λ b. b))
-  external_kept at LlvmMemmove vs w = good_kept at (word 0 vs) (word 2 vs) w _ (good_kept at (word 1 vs) (word 2 vs) w _ (refl, λ b. b))
-  external_kept at LlvmMemset vs w = good_kept at (word 0 vs) (word 2 vs) w _ (refl, λ b. b)
-  external_kept at LifetimeStart vs w = good_kept at (word 1 vs) (word 0 vs) w _ (refl, λ b. b)
-  external_kept at LifetimeEnd vs w = itself w
+  external_kept at Realloc ts vs w = realloc_kept s.fill at (word 0 vs) (word 1 vs) w
+  external_kept at Free ts vs w = either_after (eqb (word 0 vs) 0) w _ _ (λ e. itself w) (either_after (is_some (heap_size w (word 0 vs))) w _ _ (λ e. (refl, λ b. ended_back site root told s.roots (word 0 vs) w b)) refl)
+  external_kept at Memcpy ts vs w = good_kept at (word 0 vs) (word 2 vs) w _ (good_kept at (word 1 vs) (word 2 vs) w _ (refl, λ b. b))
+  external_kept at Memmove ts vs w = good_kept at (word 0 vs) (word 2 vs) w _ (good_kept at (word 1 vs) (word 2 vs) w _ (refl, λ b. b))
+  external_kept at Memset ts vs w = good_kept at (word 0 vs) (word 2 vs) w _ (refl, λ b. b)
+  external_kept at Memcmp ts vs w = good_kept at (word 0 vs) (word 2 vs) w _ (good_kept at (word 1 vs) (word 2 vs) w _ (itself w))
+  external_kept at Strlen ts vs w = string_kept w (string_at w (word 0 vs)) (λ bs. Gives (length bs) w) at (λ bs. itself w)
+  external_kept at Putchar ts vs w = printed_kept at (word 0 vs % 256 ∷ []) (word 0 vs % 256) w
+  external_kept at Puts ts vs w = string_kept w (string_at w (word 0 vs)) (λ bs. printed at (bs ++ 10 ∷ []) (Gives 1) w) at (λ bs. printed_kept at (bs ++ 10 ∷ []) 1 w)
+  external_kept at Getchar ts vs w = next_kept w.input w
+  external_kept at Read ts vs w = good_kept at (word 1 vs) (word 2 vs) w _ (either_after (eqb (word 0 vs) 0) w _ _ (λ e. (refl, λ b. b)) (itself w))
+  external_kept at Write ts vs w = good_kept at (word 1 vs) (word 2 vs) w _ (either_after (eqb (word 0 vs) 1) w _ _ (λ e. printed_kept at (bytes_at w.bytes (word 1 vs) (word 2 vs)) (word 2 vs) w) (itself w))
+  external_kept at Exit ts vs w = refl
+  external_kept at Abort ts vs w = refl
+  external_kept at LlvmMemcpy ts vs w = good_kept at (word 0 vs) (word 2 vs) w _ (good_kept at (word 1 vs) (word 2 vs) w _ (refl, λ b. b))
+  external_kept at LlvmMemmove ts vs w = good_kept at (word 0 vs) (word 2 vs) w _ (good_kept at (word 1 vs) (word 2 vs) w _ (refl, λ b. b))
+  external_kept at LlvmMemset ts vs w = good_kept at (word 0 vs) (word 2 vs) w _ (refl, λ b. b)
+  external_kept at LifetimeStart ts vs w = good_kept at (word 1 vs) (word 0 vs) w _ (refl, λ b. b)
+  external_kept at LifetimeEnd ts vs w = itself w
+  external_kept at Printf ts vs w = prints_kept at (formatted w ts vs) w
 
   -- ---- shadow and origins after it
 
@@ -222,12 +227,12 @@ module _ (site root told : ℕ → Type 0) (s : Setting) where
     -- ---- instructions
 
     module _ (jumps : Type 0) where
-      call_grown : (h : Here) (f : Option ℕ) (e : Option External) (w : World) → (makes_unset e ≡ true → (pairs : List (ℕ × ℕ)) → Back site root s.roots pairs own) → WordsBack site root s.roots w.pairs ps
-          → GrownAfter jumps w (λ v u. callee_planes s at own e ps w v u) (elim f [ Some g ↦ Enters g w | None ↦ elim e [ Some x ↦ external s at x (map (λ p. p.value) ps) w | None ↦ Ends stuck w ] ])
-      call_grown h (Some g) e w is words = refl
-      call_grown h None None w is words = refl
-      call_grown h None (Some x) w is words =
-          then_grown jumps w (λ v u. external_planes s at own x ps w v u) (external s at x (map (λ p. p.value) ps) w) (external_kept at x (map (λ p. p.value) ps) w)
+      call_grown : (h : Here) (types : List Ty) (f : Option ℕ) (e : Option External) (w : World) → (makes_unset e ≡ true → (pairs : List (ℕ × ℕ)) → Back site root s.roots pairs own) → WordsBack site root s.roots w.pairs ps
+          → GrownAfter jumps w (λ v u. callee_planes s at own e ps w v u) (elim f [ Some g ↦ Enters g w | None ↦ elim e [ Some x ↦ external s at x types (map (λ p. p.value) ps) w | None ↦ Ends stuck w ] ])
+      call_grown h types (Some g) e w is words = refl
+      call_grown h types None None w is words = refl
+      call_grown h types None (Some x) w is words =
+          then_grown jumps w (λ v u. external_planes s at own x ps w v u) (external s at x types (map (λ p. p.value) ps) w) (external_kept at x types (map (λ p. p.value) ps) w)
           (λ v u e. external_grown x w v u is (subst (λ pairs. WordsBack site root s.roots pairs ps) (sym e) words))
 
       gives_grown : (r : Result ℕ Trap) (w : World) → GrownAfter jumps w (λ v u. u) (gives at r w)
@@ -278,7 +283,7 @@ module _ (site root told : ℕ → Type 0) (s : Setting) where
     op_grown h (op.Load t a) small is w words = load_grown (¬ (targets (op.Load t a) ≡ [])) (is_good w (word 0 (map (λ p. p.value) ps)) (stored_size t)) _ w
     op_grown h (op.Store t v a) small is w words = store_grown (¬ (targets (op.Store t v a) ≡ [])) t (word_at 1 ps).value (word 1 (map (λ p. p.value) ps)) (word_number 1 ps) (word 0 (map (λ p. p.value) ps)) w small words
     op_grown h (op.Gep t a ix) small is w words = grown_itself w
-    op_grown h (op.Call r x args) small is w words = call_grown (¬ (targets (op.Call r x args) ≡ [])) h (s.func x) (external_named s.func x) w is words
+    op_grown h (op.Call r x args) small is w words = call_grown (¬ (targets (op.Call r x args) ≡ [])) h (map (λ a. a.0) args) (s.func x) (external_named s.func x) w is words
     op_grown h (op.Br to) small is w words = (refl, λ e. some_name to [] e)
     op_grown h (op.CondBr c to other) small is w words = (refl, λ e. some_name to (other ∷ []) e)
     op_grown h (op.Switch t v other cases) small is w words = (refl, λ e. some_name other (map (λ c. c.1) cases) e)

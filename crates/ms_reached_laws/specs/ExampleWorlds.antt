@@ -34,4 +34,4 @@ world_of (Ends e w) = w
 
 -- `calloc` of one byte
 abbrev pub one_byte_more : World
-one_byte_more = world_of (external bare_setting 1 Calloc (1 ∷ 1 ∷ []) poisoned_room)
+one_byte_more = world_of (external bare_setting 1 Calloc [] (1 ∷ 1 ∷ []) poisoned_room)

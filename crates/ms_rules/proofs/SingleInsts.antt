@@ -47,7 +47,7 @@ use Rattle.ms_rules.proofs.ValueNames.{value_place, names_are}
 -- ---- how many numbers the lists take
 
 module _ (given : Given) (env : environments.Env) (h : Here) (i : Inst) (n : ℕ) where
-  pub lists_low : (emit_lists given env h i n).next ≤ n + 200 + 35 * length (operands i.op)
+  pub lists_low : (emit_lists given env h i n).next ≤ n + 200 + 55 * length (operands i.op)
   lists_low =
       let x = emit_op given env h i n i.op in
       omega (arith, (round_grows given env h i n i.op).few, written_append x.before (i ∷ x.after), lists_cost given env h i n i.op refl)
@@ -74,13 +74,13 @@ module _ (given : Given) (env : environments.Env) (h : Here) (i : Inst) (n : ℕ
   abbrev pub between : ℕ
   between = (tasks_code (before_tasks given env h i n) (start given i n)).next
 
-  pub between_low : between ≤ n + 200 + 35 * length (operands i.op)
+  pub between_low : between ≤ n + 200 + 55 * length (operands i.op)
   between_low =
       let grows : between ≤ (emit_tasks given env h i n).next = (tasks_grow (after_tasks given env h i n) between).more in
       let same : (emit_tasks given env h i n).next ≡ (emit_lists given env h i n).next = ap (λ l. l.next) (plain_lists given env h i n plain) in
       omega (arith, grows, same, lists_low given env h i n)
 
-  pub behind_low : (made : Code) → made.next ≡ (emit_tasks given env h i n).next → made.next ≤ n + 200 + 35 * length (operands i.op)
+  pub behind_low : (made : Code) → made.next ≡ (emit_tasks given env h i n).next → made.next ≤ n + 200 + 55 * length (operands i.op)
   behind_low made is =
       let same : (emit_tasks given env h i n).next ≡ (emit_lists given env h i n).next = ap (λ l. l.next) (plain_lists given env h i n plain) in
       omega (arith, is, same, lists_low given env h i n)
@@ -113,7 +113,7 @@ module _ (m : Module) (func : ℕ) (i : Inst) (site root : ℕ) (stands : Stands
   single_taken formed valid can = inst_taken m (plain_module m formed valid can) func stands.block stands.place i stands.is
 
   module _ (f : Func) (at : func_at m func ≡ Some f) where
-    pub single_fits : CanInstrument m → (n : ℕ) → n < 2 ^ 31 → n + 200 + 35 * length (operands i.op) < 2 ^ 32
+    pub single_fits : CanInstrument m → (n : ℕ) → n < 2 ^ 31 → n + 200 + 55 * length (operands i.op) < 2 ^ 32
     single_fits can n low = omega (arith, low, can.operands, counted_within (λ k. length (operands k.op)) m func f stands.block stands.place i at stands.is)
 
 -- ---- the function

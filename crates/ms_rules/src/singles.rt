@@ -101,7 +101,7 @@ fn round_tracked(
     requires callee { IsCallee (given_of scope.now).func inst.now.op callee }
     requires tracked { IsTracked (env_of scope.now) inst.now.op tracking.now }
     requires roots { tracking.now.before < 2 ^ 40 }
-    requires room { next + 200 + 35 * length (operands inst.now.op) < 2 ^ 32 }
+    requires room { next + 200 + 55 * length (operands inst.now.op) < 2 ^ 32 }
     ensures { IfOk result (λ e. lists_of e ≡ emit_lists (given_of scope.now) (env_of scope.now) (here_of scope.now site tracking.now) inst.now next) }
 {
     let mut before = Code::new(alloc, next);
@@ -136,7 +136,7 @@ fn round_plain(
     requires taken { IsTaken (given_of scope.now).types inst.now }
     requires plain { is_phi inst.now.op ≡ false }
     requires roots { root < 2 ^ 40 }
-    requires room { next + 200 + 35 * length (operands inst.now.op) < 2 ^ 32 }
+    requires room { next + 200 + 55 * length (operands inst.now.op) < 2 ^ 32 }
     ensures { IfOk result (λ e. lists_of e ≡ emit_lists (given_of scope.now) (env_of scope.now) (record { site = site; root = root; main = scope.now.main }) inst.now next) }
 {
     let callee = callee_of(scope.functions, &inst.op);
@@ -167,7 +167,7 @@ fn round_inst(
     requires few { length scope.now.values.now ≤ 2 ^ 30 }
     requires taken { IsTaken (given_of scope.now).types inst.now }
     requires roots { root < 2 ^ 40 }
-    requires room { next + 200 + 35 * length (operands inst.now.op) < 2 ^ 32 }
+    requires room { next + 200 + 55 * length (operands inst.now.op) < 2 ^ 32 }
     ensures { IfOk result (λ e. lists_of e ≡ single_lists (given_of scope.now) (env_of scope.now) (record { site = site; root = root; main = scope.now.main }) inst.now next) }
 {
     if is_handing_over(scope, &inst.op) {
@@ -193,7 +193,7 @@ fn round_named<'m>(
     requires few { length values.now ≤ 2 ^ 30 }
     requires named { values.now ≡ value_names func.now }
     requires taken { IsTaken extents.now inst.now }
-    requires room { next + 200 + 35 * length (operands inst.now.op) < 2 ^ 32 }
+    requires room { next + 200 + 55 * length (operands inst.now.op) < 2 ^ 32 }
     ensures { IfOk result (λ e. lists_of e ≡ single_lists (record { types = extents.now; func = first_place functions.now }) (env_named (value_names func.now) env.now.values) (record { site = env.now.site; root = env.now.root; main = name_eq func.now.name main_name }) inst.now next) }
 {
     let clean = clean_names(alloc, &env.values)?;
@@ -219,7 +219,7 @@ fn round_in<'m>(
 ) -> Result<Emitted, NoMemory>
     requires few { length (value_names func.now) ≤ 2 ^ 30 }
     requires taken { IsTaken extents.now inst.now }
-    requires room { next + 200 + 35 * length (operands inst.now.op) < 2 ^ 32 }
+    requires room { next + 200 + 55 * length (operands inst.now.op) < 2 ^ 32 }
     ensures { IfOk result (λ e. lists_of e ≡ single_lists (record { types = extents.now; func = first_place functions.now }) (env_named (value_names func.now) env.now.values) (record { site = env.now.site; root = env.now.root; main = name_eq func.now.name main_name }) inst.now next) }
 {
     let values = values_of(alloc, func)?;
@@ -239,7 +239,7 @@ fn round_sized<'m>(
     requires few { length (value_names func.now) ≤ 2 ^ 30 }
     requires sized { extents.now ≡ m.now.types }
     requires taken { IsTaken extents.now inst.now }
-    requires room { next + 200 + 35 * length (operands inst.now.op) < 2 ^ 32 }
+    requires room { next + 200 + 55 * length (operands inst.now.op) < 2 ^ 32 }
     ensures { IfOk result (λ e. lists_of e ≡ single_lists (given_in m.now) (env_named (value_names func.now) env.now.values) (record { site = env.now.site; root = env.now.root; main = name_eq func.now.name main_name }) inst.now next) }
 {
     let functions = functions_of(alloc, m)?;
@@ -257,7 +257,7 @@ fn round_of<'m>(
 ) -> Result<Emitted, NoMemory>
     requires few { length (value_names func.now) ≤ 2 ^ 30 }
     requires taken { IsTaken m.now.types inst.now }
-    requires room { next + 200 + 35 * length (operands inst.now.op) < 2 ^ 32 }
+    requires room { next + 200 + 55 * length (operands inst.now.op) < 2 ^ 32 }
     ensures { IfOk result (λ e. lists_of e ≡ single_lists (given_in m.now) (env_named (value_names func.now) env.now.values) (record { site = env.now.site; root = env.now.root; main = name_eq func.now.name main_name }) inst.now next) }
 {
     let extents = Extents::of(alloc, m)?;

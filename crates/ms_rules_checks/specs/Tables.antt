@@ -8,3 +8,4 @@ abbrev pub use_of : Use → uses.Use
 use_of (use_case.Word kind k) = uses.Word kind k
 use_of (use_case.Bytes kind a n) = uses.Bytes kind a n
 use_of (use_case.Line a) = uses.Line a
+use_of (use_case.Asked a) = uses.Asked a

@@ -1,7 +1,8 @@
 //! The code that checks uses.
-ghost use Rattle.std.specs.Prelude.{◌≡◌, ℕ, map, OnOk, Option};
+ghost use Rattle.std.specs.Prelude.{◌≡◌, ℕ, map, drop, OnOk, Option};
 ghost use Rattle.ms_ir.specs.declared.syntax.Name.{Name as NameOf};
-ghost use Rattle.ms_runs.specs.Uses.{uses, Word};
+ghost use Rattle.ms_ir.specs.declared.calls.External.TheVariants.{Printf};
+ghost use Rattle.ms_runs.specs.Uses.{uses, external_uses, value_uses, string_uses, Word};
 ghost use Rattle.ms_tasks.specs.CheckTasks.{check_tasks, use_tasks};
 ghost use Rattle.ms_rules_code.specs.Called.{called_external};
 ghost use Rattle.ms_rules_code.specs.Made.{with_tasks};
@@ -9,9 +10,9 @@ ghost use Rattle.ms_rules_code.specs.Steps.{tracked_of};
 ghost use Rattle.ms_rules_checks.specs.Tables.{use_of};
 
 use crate::calls::{call, is_clean_at, width_at};
-use crate::uses::{Use, checked_uses};
+use crate::uses::{POINTER, Use, VALUE, checked_uses};
 use ms_bits::NoMemory;
-use ms_ir::{External, Op, RuntimeFn};
+use ms_ir::{External, Op, Operand, RuntimeFn, Ty};
 use ms_rules_code::{Code, Step, TrackedOperand};
 
 /// Checks the mask of an operand by its place, unless it is known to be 0.
@@ -75,7 +76,68 @@ fn check_use(
             &None,
             &[Step::Word(start), Step::Constant(site as u64)],
         ),
+        Use::Asked(start) => call(
+            code,
+            RuntimeFn::CheckFormat,
+            operands,
+            &None,
+            &[
+                Step::Word(0),
+                Step::Constant(start as u64),
+                Step::Word(start),
+                Step::Constant(site as u64),
+            ],
+        ),
     }
+}
+
+/// Checks the word of each argument of `printf` after the format.
+fn check_values(
+    code: &mut Code,
+    site: u32,
+    args: &[(Ty, Operand)],
+    operands: &[TrackedOperand<'_>],
+) -> Result<(), NoMemory>
+    ensures { OnOk result (code.new ≡ with_tasks code.old (check_tasks site (map tracked_of operands.now) (value_uses 1 (drop 1 args.now)))) }
+{
+    for place in 1..args.len() {
+        check_use(code, site, Use::Word(VALUE, place), operands)?;
+    }
+    Ok(())
+}
+
+/// Checks the text at each argument of `printf` after the format that is written as a pointer, where the format asks for a
+/// text there.
+fn check_texts(
+    code: &mut Code,
+    site: u32,
+    args: &[(Ty, Operand)],
+    operands: &[TrackedOperand<'_>],
+) -> Result<(), NoMemory>
+    ensures { OnOk result (code.new ≡ with_tasks code.old (check_tasks site (map tracked_of operands.now) (string_uses 1 (drop 1 args.now)))) }
+{
+    for place in 1..args.len() {
+        if let Ty::Ptr = args[place].0 {
+            check_use(code, site, Use::Asked(place), operands)?;
+        }
+    }
+    Ok(())
+}
+
+/// Checks the arguments of `printf`: the format and its text, the word of each further one, and the text at each pointer
+/// for which the format asks.
+fn check_printf(
+    code: &mut Code,
+    site: u32,
+    args: &[(Ty, Operand)],
+    operands: &[TrackedOperand<'_>],
+) -> Result<(), NoMemory>
+    ensures { OnOk result (code.new ≡ with_tasks code.old (check_tasks site (map tracked_of operands.now) (external_uses Printf args.now))) }
+{
+    check_use(code, site, Use::Word(POINTER, 0), operands)?;
+    check_use(code, site, Use::Line(0), operands)?;
+    check_values(code, site, args, operands)?;
+    check_texts(code, site, args, operands)
 }
 
 /// Checks the uses of an operation at a site; `main` says whether it stands in the function `main`, and `external` which
@@ -90,6 +152,12 @@ pub fn check(
 ) -> Result<(), NoMemory>
     ensures { (func : NameOf → Option ℕ) → called_external func op.now ≡ external → OnOk result (code.new ≡ with_tasks code.old (check_tasks site (map tracked_of operands.now) (uses func main op.now))) }
 {
+    if let Some(External::Printf) = external {
+        return match op {
+            Op::Call { args, .. } => check_printf(code, site, args.as_slice(), operands),
+            _ => Ok(()),
+        };
+    }
     for used in checked_uses(main, external, op) {
         check_use(code, site, *used, operands)?;
     }

@@ -1,5 +1,8 @@
 //! The uses that are checked, as tables.
-ghost use Rattle.std.specs.Prelude.{◌≡◌, ℕ, map, Option};
+ghost use Rattle.std.specs.Prelude.{◌≡◌, ℕ, false, List, map, Option, IfSome};
+ghost use Rattle.ms_ir.specs.declared.syntax.Ty.{Ty as TyOf};
+ghost use Rattle.ms_ir.specs.declared.syntax.Operand.{Operand as OperandOf};
+ghost use Rattle.ms_ir.specs.Signatures.{is_variadic};
 ghost use Rattle.ms_ir.specs.declared.syntax.Name.{Name as NameOf};
 ghost use Rattle.ms_runs.specs.Uses.{external_uses as external_uses_of, binary_uses as binary_uses_of, uses};
 ghost use Rattle.ms_rules_code.specs.Called.{called_external};
@@ -20,9 +23,9 @@ const DIVISOR: u64 = 4;
 
 const SIZE: u64 = 5;
 
-const POINTER: u64 = 6;
+pub const POINTER: u64 = 6;
 
-const VALUE: u64 = 7;
+pub const VALUE: u64 = 7;
 
 const EXIT: u64 = 8;
 
@@ -41,11 +44,14 @@ pub enum Use {
     Bytes(u64, usize, usize),
     /// The text at an operand.
     Line(usize),
+    /// The text at an operand, where the format at operand 0 asks for one.
+    Asked(usize),
 }
 
-/// The uses of an external.
+/// The uses of an external other than `printf`, whose arguments decide them.
 fn external_uses(external: External) -> &'static [Use]
-    ensures { map use_of result.now ≡ external_uses_of external }
+    requires fixed { is_variadic external ≡ false }
+    ensures { (args : List (TyOf × OperandOf)) → map use_of result.now ≡ external_uses_of external args }
 {
     match external {
         External::Malloc => &[Word(SIZE, 0)],
@@ -77,6 +83,7 @@ fn external_uses(external: External) -> &'static [Use]
         External::Exit => &[Word(EXIT, 0)],
         External::Getchar | External::Abort => &[],
         External::LifetimeStart | External::LifetimeEnd => &[Word(SIZE, 0), Word(POINTER, 1)],
+        External::Printf => unreachable!(),
     }
 }
 
@@ -91,8 +98,9 @@ fn binary_uses(op: BinOp) -> &'static [Use]
 }
 
 /// The uses of an operation; `main` says whether it stands in the function `main`, and `external` which external it
-/// calls.
+/// calls, which isn't `printf`.
 pub fn checked_uses(main: bool, external: Option<External>, op: &Op) -> &'static [Use]
+    requires fixed { IfSome external (λ e. is_variadic e ≡ false) }
     ensures { (func : NameOf → Option ℕ) → called_external func op.now ≡ external → map use_of result.now ≡ uses func main op.now }
 {
     match op {

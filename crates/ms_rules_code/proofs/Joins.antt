@@ -120,14 +120,16 @@ module _ (ops : List TrackedOperand) (how : Widening) (k : ℕ) (x : TrackedOper
   pub clean_passed : (steps all after : List Step) (masks count n : ℕ) → is_zero (tracked_of x).mask ≡ true → after ≡ steps → n ≡ masks
       → Added (map tracked_of ops) how k steps masks all count → Added (map tracked_of ops) how (k + 1) after n all count
   clean_passed steps all after masks count n clean a b held =
-      let us = drop (k + 1) (map tracked_of ops) in
-      (ap (λ l. l ++ masks_from how (k + 1) us) a ∙ ap (λ l. steps ++ l) (sym (masks_next true clean)) ∙ held.0,
-      (ap (λ m. m + length (unknown us)) b ∙ ap (λ m. masks + m) (sym (count_next true clean)) ∙ held.1.0, omega (arith, b, held.1.1)))
+      let us = drop (k + 1) (map tracked_of ops) in (
+        ap (λ l. l ++ masks_from how (k + 1) us) a ∙ ap (λ l. steps ++ l) (sym (masks_next true clean)) ∙ held.0,
+        (ap (λ m. m + length (unknown us)) b ∙ ap (λ m. masks + m) (sym (count_next true clean)) ∙ held.1.0, omega (arith, b, held.1.1)),
+      )
 
   pub mask_added : (steps all after : List Step) (masks count n w : ℕ) → is_zero (tracked_of x).mask ≡ false → w ≡ width_of (type_of x.ty) → after ≡ steps ++ mask_steps how k w → n ≡ masks + 1
       → Added (map tracked_of ops) how k steps masks all count → Added (map tracked_of ops) how (k + 1) after n all count
   mask_added steps all after masks count n w some wide a b held =
-      let more = masks_from how (k + 1) (drop (k + 1) (map tracked_of ops)) in
-      (ap (λ l. l ++ more) a ∙ append_assoc steps (mask_steps how k w) more ∙ ap (λ v. steps ++ (mask_steps how k v ++ more)) wide
-      ∙ ap (λ l. steps ++ l) (sym (masks_next false some)) ∙ held.0,
-      (omega (arith, b, count_next false some, held.1.0), omega (arith, b, held.1.1)))
+      let more = masks_from how (k + 1) (drop (k + 1) (map tracked_of ops)) in (
+        ap (λ l. l ++ more) a ∙ append_assoc steps (mask_steps how k w) more ∙ ap (λ v. steps ++ (mask_steps how k v ++ more)) wide
+            ∙ ap (λ l. steps ++ l) (sym (masks_next false some)) ∙ held.0,
+        (omega (arith, b, count_next false some, held.1.0), omega (arith, b, held.1.1)),
+      )

@@ -51,6 +51,7 @@ fn parameters(function: RuntimeFn) -> &'static [Parameter]
         RuntimeFn::StoreOrigin => &[POINTER, LONG, SHORT, SHORT],
         RuntimeFn::LoadOrigin => &[POINTER, LONG],
         RuntimeFn::Size => &[POINTER],
+        RuntimeFn::CheckFormat => &[POINTER, SHORT, POINTER, SHORT],
     }
 }
 

@@ -1,6 +1,7 @@
 -- The rule of masks that carry, and the two operands of a sum.
-use Rattle.std.proofs.Common.{◌≡◌, true, List, [], ◌∷◌, ◌++◌, map, take, drop, refl, ap, ◌∙◌}
+use Rattle.std.proofs.Common.{◌≡◌, true, List, [], ◌∷◌, ◌++◌, map, take, drop, refl, sym, ap, ◌∙◌}
 use Rattle.std.proofs.lemmas.List.{append_assoc}
+use Rattle.ms_tasks.specs.Tasks.{Expr}
 use Rattle.ms_tasks.specs.Environments.{Tracked, tracked_at, unknown, number}
 use Rattle.ms_rules_code.specs.declared.steps.Operation.TheVariants as operation
 use Rattle.ms_rules_code.specs.declared.steps.Step.{Step}

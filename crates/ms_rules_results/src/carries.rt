@@ -24,6 +24,9 @@ pub fn carry_rule(
     push_union(&mut steps, operands, widening)?;
     steps.push(Constant(0))?;
     push_union(&mut steps, operands, widening)?;
-    steps.extend_from_slice(&[Step::Two(Operation::Sub, width), Step::Two(Operation::Or, width)])?;
+    steps.extend_from_slice(&[
+        Step::Two(Operation::Sub, width),
+        Step::Two(Operation::Or, width),
+    ])?;
     Ok(steps)
 }

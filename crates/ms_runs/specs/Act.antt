@@ -65,7 +65,7 @@ abbrev pub call : Setting → ℕ → Name → List Ty → List ℕ → World �
 call setting site x types words world =
     elim (setting.func x) [
       | Some f ↦ Enters f world
-      | None ↦ elim (external_named setting.func x) [ Some e ↦ external setting site e words world | None ↦ Ends stuck world ]
+      | None ↦ elim (external_named setting.func x) [ Some e ↦ external setting site e types words world | None ↦ Ends stuck world ]
     ]
 
 -- the block to which a 'switch' goes: that of the case with the value, else the other one

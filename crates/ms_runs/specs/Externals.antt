@@ -1,14 +1,17 @@
 -- What the externals do to memory, input and output (C library; LLVM Language Reference, "'llvm.memcpy' Intrinsic" and
 -- its neighbours, "'llvm.lifetime.start' Intrinsic"; own: the heap's limit, traps, and what is answered at a limit).
-use Rattle.std.specs.Prelude.{ℕ, ◌+◌, ◌-◌, ◌*◌, ◌%◌, ◌^◌, min, ◌&&◌, List, [], ◌∷◌, ◌++◌, length, take, drop, get_or, eqb, leb, ltb, if◌then◌else◌, Option, Some, None, is_some}
+use Rattle.std.specs.Prelude.{ℕ, ◌+◌, ◌-◌, ◌*◌, ◌%◌, ◌^◌, min, ◌&&◌, List, [], ◌∷◌, ◌++◌, length, map, zip, take, drop, get_or, eqb, leb, ltb, if◌then◌else◌, Option, Some, None, is_some, Result, Ok, Err}
+use Rattle.ms_bits.specs.declared.traps.Trap.{Trap}
 use Rattle.ms_bits.specs.declared.traps.Trap.TheVariants as trap
 use Rattle.ms_runs.specs.declared.runs.End.TheVariants as «end»
 use Rattle.ms_ir.specs.declared.calls.External.{External}
-use Rattle.ms_ir.specs.declared.calls.External.TheVariants.{Malloc, Calloc, Realloc, Free, Memcpy, Memmove, Memset, Memcmp, Strlen, Putchar, Puts, Getchar, Read, Write, Exit, Abort, LlvmMemcpy, LlvmMemmove, LlvmMemset, LifetimeStart, LifetimeEnd}
+use Rattle.ms_ir.specs.declared.calls.External.TheVariants.{Malloc, Calloc, Realloc, Free, Memcpy, Memmove, Memset, Memcmp, Strlen, Putchar, Puts, Getchar, Read, Write, Exit, Abort, LlvmMemcpy, LlvmMemmove, LlvmMemset, LifetimeStart, LifetimeEnd, Printf}
+use Rattle.ms_ir.specs.declared.syntax.Ty.{Ty}
 use Rattle.ms_ir.specs.Areas.{Heap}
 use Rattle.ms_runs.specs.World.{World, Setting, Effect, Gives, Does, Ends, traps, word}
 use Rattle.ms_bits.specs.Maps.{bytes_at, string_within}
 use Rattle.ms_runs.specs.Memory.{fits, next_base, is_good, heap_size, end_block, make, make_unset, make_bytes, set_bytes, copy_bytes, copy_shadow, bytes_left}
+use Rattle.ms_runs.specs.Formats.{cut_of, with_arguments, shown, all_shown}
 
 -- -1 as a word of so many bits
 abbrev pub minus_one : ℕ → ℕ
@@ -79,49 +82,66 @@ abbrev pub next_byte : List ℕ → World → Effect
 next_byte [] world = Gives (minus_one 32) world
 next_byte (b ∷ bs) world = Gives b (record world { input = bs })
 
--- an external with its arguments; 'read' and 'write' ask for a good range whatever the descriptor is
-abbrev pub external : Setting → ℕ → External → List ℕ → World → Effect
-external setting site Malloc words world = malloc setting.fill (word 0 words) world
-external setting site Calloc words world = calloc (word 0 words * word 1 words) world
-external setting site Realloc words world = realloc setting.fill site (word 0 words) (word 1 words) world
-external setting site Free words world = free site (word 0 words) world
-external setting site Memcpy words world =
+-- what a format prints for arguments of these types and words
+abbrev pub cut_shown : World → List ℕ → List Ty → List ℕ → Result (List ℕ) Trap
+cut_shown world format types words =
+    all_shown (cut_of format).bad (map (shown (string_at world)) (with_arguments (cut_of format).pieces (zip types words)))
+
+-- what 'printf' prints: its first argument is the format; a string that doesn't end within its allocation comes before
+-- any fault of the format
+abbrev pub formatted : World → List Ty → List ℕ → Result (List ℕ) Trap
+formatted world types words =
+    elim (string_at world (word 0 words)) [ Some format ↦ cut_shown world format (drop 1 types) (drop 1 words) | None ↦ Err trap.BadAddress ]
+
+-- prints bytes and returns their number, or traps
+abbrev pub prints : (site : ℕ) → Result (List ℕ) Trap → World → Effect
+prints site (Ok bs) world = printed site bs (Gives (length bs)) world
+prints site (Err t) world = traps t site world
+
+-- an external with its arguments' types and words; 'read' and 'write' ask for a good range whatever the descriptor is
+abbrev pub external : Setting → ℕ → External → List Ty → List ℕ → World → Effect
+external setting site Malloc types words world = malloc setting.fill (word 0 words) world
+external setting site Calloc types words world = calloc (word 0 words * word 1 words) world
+external setting site Realloc types words world = realloc setting.fill site (word 0 words) (word 1 words) world
+external setting site Free types words world = free site (word 0 words) world
+external setting site Memcpy types words world =
     where_good site (word 0 words) (word 2 words) world
     (where_good site (word 1 words) (word 2 words) world (Gives (word 0 words) (copy_bytes (word 0 words) (word 1 words) (word 2 words) world)))
-external setting site Memmove words world =
+external setting site Memmove types words world =
     where_good site (word 0 words) (word 2 words) world
     (where_good site (word 1 words) (word 2 words) world (Gives (word 0 words) (copy_bytes (word 0 words) (word 1 words) (word 2 words) world)))
-external setting site Memset words world =
+external setting site Memset types words world =
     where_good site (word 0 words) (word 2 words) world
     (Gives (word 0 words) (set_bytes (word 0 words) (word 2 words) (λ k. word 1 words % 256) world))
-external setting site Memcmp words world =
+external setting site Memcmp types words world =
     where_good site (word 0 words) (word 2 words) world
     (where_good site (word 1 words) (word 2 words) world
     (Gives (compared (bytes_at world.bytes (word 0 words) (word 2 words)) (bytes_at world.bytes (word 1 words) (word 2 words))) world))
-external setting site Strlen words world =
+external setting site Strlen types words world =
     elim (string_at world (word 0 words)) [ Some bs ↦ Gives (length bs) world | None ↦ traps trap.BadAddress site world ]
-external setting site Putchar words world = printed site (word 0 words % 256 ∷ []) (Gives (word 0 words % 256)) world
-external setting site Puts words world =
+external setting site Putchar types words world = printed site (word 0 words % 256 ∷ []) (Gives (word 0 words % 256)) world
+external setting site Puts types words world =
     elim (string_at world (word 0 words)) [ Some bs ↦ printed site (bs ++ 10 ∷ []) (Gives 1) world | None ↦ traps trap.BadAddress site world ]
-external setting site Getchar words world = next_byte world.input world
-external setting site Read words world =
+external setting site Getchar types words world = next_byte world.input world
+external setting site Read types words world =
     where_good site (word 1 words) (word 2 words) world
     (if eqb (word 0 words) 0 then taken (word 1 words) (word 2 words) world else Gives (minus_one 64) world)
-external setting site Write words world =
+external setting site Write types words world =
     where_good site (word 1 words) (word 2 words) world
     (if eqb (word 0 words) 1
     then printed site (bytes_at world.bytes (word 1 words) (word 2 words)) (Gives (word 2 words)) world
     else Gives (minus_one 64) world)
-external setting site Exit words world = Ends («end».Exit (word 0 words)) world
-external setting site Abort words world = traps trap.Abort site world
-external setting site LlvmMemcpy words world =
+external setting site Exit types words world = Ends («end».Exit (word 0 words)) world
+external setting site Abort types words world = traps trap.Abort site world
+external setting site LlvmMemcpy types words world =
     where_good site (word 0 words) (word 2 words) world
     (where_good site (word 1 words) (word 2 words) world (Does (copy_bytes (word 0 words) (word 1 words) (word 2 words) world)))
-external setting site LlvmMemmove words world =
+external setting site LlvmMemmove types words world =
     where_good site (word 0 words) (word 2 words) world
     (where_good site (word 1 words) (word 2 words) world (Does (copy_bytes (word 0 words) (word 1 words) (word 2 words) world)))
-external setting site LlvmMemset words world =
+external setting site LlvmMemset types words world =
     where_good site (word 0 words) (word 2 words) world (Does (set_bytes (word 0 words) (word 2 words) (λ k. word 1 words % 256) world))
-external setting site LifetimeStart words world =
+external setting site LifetimeStart types words world =
     where_good site (word 1 words) (word 0 words) world (Does (make_bytes setting.fill (word 1 words) (word 0 words) world))
-external setting site LifetimeEnd words world = Does world
+external setting site LifetimeEnd types words world = Does world
+external setting site Printf types words world = prints site (formatted world types words) world

@@ -1,6 +1,7 @@
 pub mod World
 pub mod Memory
 pub mod Origins
+pub mod Formats
 pub mod Externals
 pub mod Runtime
 pub mod Globals

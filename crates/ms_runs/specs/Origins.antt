@@ -1,7 +1,7 @@
 -- Chained origins, reports, and what the runtime functions do to the world (own, after "MemorySanitizer: fast detector
 -- of uninitialized memory use in C++", Stepanov and Serebryany, CGO 2015). An origin is a root's number, from 1 to the
 -- number of roots, or that of a pair of an earlier origin and the site of a store, from there on.
-use Rattle.std.specs.Prelude.{ℕ, zero, suc, ◌+◌, ◌-◌, ◌/◌, ◌%◌, ◌^◌, Bool, ◌&&◌, ◌||◌, not, List, [], ◌∷◌, ◌++◌, length, eqb, leb, ltb, if◌then◌else◌, Option, Some, None, option_map, slice_get}
+use Rattle.std.specs.Prelude.{ℕ, zero, suc, ◌+◌, ◌-◌, ◌/◌, ◌%◌, ◌^◌, Bool, false, ◌&&◌, ◌||◌, not, List, [], ◌∷◌, ◌++◌, length, eqb, leb, ltb, if◌then◌else◌, Option, Some, None, option_map, slice_get}
 use Rattle.ms_runs.specs.declared.runs.Origin.{Origin}
 use Rattle.ms_runs.specs.declared.runs.Origin.TheVariants.{Root, Chain}
 use Rattle.ms_runs.specs.declared.runs.End.TheVariants as «end»
@@ -9,6 +9,8 @@ use Rattle.ms_runs.specs.declared.runs.Report.{Report}
 use Rattle.ms_runs.specs.World.{World, Setting, Effect, Does, Ends}
 use Rattle.ms_bits.specs.Maps.{first_nonzero, with_cell}
 use Rattle.ms_runs.specs.Memory.{is_good, set_shadow, set_cells, copy_shadow, bytes_left}
+use Rattle.ms_runs.specs.Formats.{asks_string}
+use Rattle.ms_runs.specs.Externals.{string_at}
 
 -- the origins from one to its root, in at most n moves
 abbrev pub trail_within : ℕ → ℕ → List (ℕ × ℕ) → ℕ → List Origin
@@ -90,6 +92,14 @@ first_in_string world a (suc n) =
 -- a check of a string, to the end of its allocation: a report, of the kind of strings, of its first poisoned byte
 abbrev pub check_string : Setting → (a site : ℕ) → World → Effect
 check_string setting a site world = check_byte setting 10 site a (first_in_string world a (bytes_left world a)) world
+
+-- whether the format at an address has the directive `%s` for an argument; the format itself is argument 0
+abbrev pub asks_string_at : World → (format index : ℕ) → Bool
+asks_string_at world format index = elim (string_at world format) [ Some bs ↦ asks_string bs index | None ↦ false ]
+
+-- a check of the string at an address, where a format has the directive `%s` for it
+abbrev pub check_format : Setting → (format index a site : ℕ) → World → Effect
+check_format setting format index a site world = if asks_string_at world format index then check_string setting a site world else Does world
 
 -- one blind use more where a mask isn't 0
 abbrev pub count_blind : ℕ → World → World

@@ -1,5 +1,5 @@
 -- The uses that are checked, and the blind ones.
-use Rattle.std.specs.Prelude.{ℕ, zero, suc, Bool, ◌||◌, List, [], ◌∷◌, take, drop, if◌then◌else◌, Option, Some, None}
+use Rattle.std.specs.Prelude.{ℕ, zero, suc, Bool, ◌||◌, List, [], ◌∷◌, ◌++◌, take, drop, if◌then◌else◌, Option, Some, None}
 use Rattle.ms_bits.specs.declared.operations.Flags.{Flags}
 use Rattle.ms_bits.specs.declared.operations.BinOp.{BinOp}
 use Rattle.ms_bits.specs.declared.operations.BinOp.TheVariants.{Udiv, Sdiv, Urem, Srem, Shl, Lshr, Ashr}
@@ -10,42 +10,56 @@ use Rattle.ms_ir.specs.declared.syntax.Op.{Op}
 use Rattle.ms_ir.specs.declared.syntax.Op.TheVariants as op
 use Rattle.ms_ir.specs.declared.syntax.Name.{Name}
 use Rattle.ms_ir.specs.declared.calls.External.{External}
-use Rattle.ms_ir.specs.declared.calls.External.TheVariants.{Malloc, Calloc, Realloc, Free, Memcpy, Memmove, Memset, Memcmp, Strlen, Putchar, Puts, Getchar, Read, Write, Exit, Abort, LlvmMemcpy, LlvmMemmove, LlvmMemset, LifetimeStart, LifetimeEnd}
+use Rattle.ms_ir.specs.declared.calls.External.TheVariants.{Malloc, Calloc, Realloc, Free, Memcpy, Memmove, Memset, Memcmp, Strlen, Putchar, Puts, Getchar, Read, Write, Exit, Abort, LlvmMemcpy, LlvmMemmove, LlvmMemset, LifetimeStart, LifetimeEnd, Printf}
+use Rattle.ms_ir.specs.Equal.{type_eq}
 use Rattle.ms_ir.specs.Layout.{width_of}
 use Rattle.ms_runs.specs.World.{World, Setting, Effect, Does, then_does}
-use Rattle.ms_runs.specs.Origins.{check, check_memory, check_string}
+use Rattle.ms_runs.specs.Origins.{check, check_memory, check_string, check_format}
 use Rattle.ms_ir.specs.Code.{external_named}
 use Rattle.ms_runs.specs.Poisoned.{Poisoned}
 use Rattle.ms_runs.specs.Masks.{word_at}
 
--- a checked use: the mask of an operand, whose place is the part; the bytes at an operand; the string there
+-- a checked use: the mask of an operand, whose place is the part; the bytes at an operand; the string there; the string
+-- there, where the format at operand 0 asks for one
 pub data Use : Type 0 where
   Word : (kind operand : ℕ) → Use
   Bytes : (kind addr size : ℕ) → Use
   Line : (addr : ℕ) → Use
+  Asked : (addr : ℕ) → Use
 
-abbrev pub external_uses : External → List Use
-external_uses Malloc = Word 5 0 ∷ []
-external_uses Calloc = Word 5 0 ∷ Word 5 1 ∷ []
-external_uses Realloc = Word 6 0 ∷ Word 5 1 ∷ []
-external_uses Free = Word 6 0 ∷ []
-external_uses Memcpy = Word 6 0 ∷ Word 6 1 ∷ Word 5 2 ∷ []
-external_uses Memmove = Word 6 0 ∷ Word 6 1 ∷ Word 5 2 ∷ []
-external_uses Memset = Word 6 0 ∷ Word 5 2 ∷ []
-external_uses Memcmp = Word 6 0 ∷ Word 6 1 ∷ Word 5 2 ∷ Bytes 11 0 2 ∷ Bytes 12 1 2 ∷ []
-external_uses Strlen = Word 6 0 ∷ Line 0 ∷ []
-external_uses Putchar = Word 7 0 ∷ []
-external_uses Puts = Word 6 0 ∷ Line 0 ∷ []
-external_uses Getchar = []
-external_uses Read = Word 7 0 ∷ Word 6 1 ∷ Word 5 2 ∷ []
-external_uses Write = Word 7 0 ∷ Word 6 1 ∷ Word 5 2 ∷ Bytes 9 1 2 ∷ []
-external_uses Exit = Word 8 0 ∷ []
-external_uses Abort = []
-external_uses LlvmMemcpy = Word 6 0 ∷ Word 6 1 ∷ Word 5 2 ∷ []
-external_uses LlvmMemmove = Word 6 0 ∷ Word 6 1 ∷ Word 5 2 ∷ []
-external_uses LlvmMemset = Word 6 0 ∷ Word 5 2 ∷ []
-external_uses LifetimeStart = Word 5 0 ∷ Word 6 1 ∷ []
-external_uses LifetimeEnd = Word 5 0 ∷ Word 6 1 ∷ []
+-- of the arguments of `printf` after its format, which are counted from k on: the word of each
+abbrev pub value_uses : ℕ → List (Ty × Operand) → List Use
+value_uses k [] = []
+value_uses k (a ∷ args) = Word 7 k ∷ value_uses (suc k) args
+
+-- and the string at each pointer, where the format asks for one
+abbrev pub string_uses : ℕ → List (Ty × Operand) → List Use
+string_uses k [] = []
+string_uses k (a ∷ args) = if type_eq a.0 ty.Ptr then Asked k ∷ string_uses (suc k) args else string_uses (suc k) args
+
+abbrev pub external_uses : External → List (Ty × Operand) → List Use
+external_uses Malloc args = Word 5 0 ∷ []
+external_uses Calloc args = Word 5 0 ∷ Word 5 1 ∷ []
+external_uses Realloc args = Word 6 0 ∷ Word 5 1 ∷ []
+external_uses Free args = Word 6 0 ∷ []
+external_uses Memcpy args = Word 6 0 ∷ Word 6 1 ∷ Word 5 2 ∷ []
+external_uses Memmove args = Word 6 0 ∷ Word 6 1 ∷ Word 5 2 ∷ []
+external_uses Memset args = Word 6 0 ∷ Word 5 2 ∷ []
+external_uses Memcmp args = Word 6 0 ∷ Word 6 1 ∷ Word 5 2 ∷ Bytes 11 0 2 ∷ Bytes 12 1 2 ∷ []
+external_uses Strlen args = Word 6 0 ∷ Line 0 ∷ []
+external_uses Putchar args = Word 7 0 ∷ []
+external_uses Puts args = Word 6 0 ∷ Line 0 ∷ []
+external_uses Getchar args = []
+external_uses Read args = Word 7 0 ∷ Word 6 1 ∷ Word 5 2 ∷ []
+external_uses Write args = Word 7 0 ∷ Word 6 1 ∷ Word 5 2 ∷ Bytes 9 1 2 ∷ []
+external_uses Exit args = Word 8 0 ∷ []
+external_uses Abort args = []
+external_uses LlvmMemcpy args = Word 6 0 ∷ Word 6 1 ∷ Word 5 2 ∷ []
+external_uses LlvmMemmove args = Word 6 0 ∷ Word 6 1 ∷ Word 5 2 ∷ []
+external_uses LlvmMemset args = Word 6 0 ∷ Word 5 2 ∷ []
+external_uses LifetimeStart args = Word 5 0 ∷ Word 6 1 ∷ []
+external_uses LifetimeEnd args = Word 5 0 ∷ Word 6 1 ∷ []
+external_uses Printf args = Word 6 0 ∷ Line 0 ∷ (value_uses 1 (drop 1 args) ++ string_uses 1 (drop 1 args))
 
 abbrev pub binary_uses : BinOp → List Use
 binary_uses Udiv = Word 4 1 ∷ []
@@ -54,16 +68,16 @@ binary_uses Urem = Word 4 1 ∷ []
 binary_uses Srem = Word 4 1 ∷ []
 binary_uses _ = []
 
-abbrev pub callee_uses : Option External → List Use
-callee_uses None = []
-callee_uses (Some e) = external_uses e
+abbrev pub callee_uses : Option External → List (Ty × Operand) → List Use
+callee_uses None args = []
+callee_uses (Some e) args = external_uses e args
 
 abbrev pub uses : (Name → Option ℕ) → (main : Bool) → Op → List Use
 uses func main (op.Binary o f t a b) = binary_uses o
 uses func main (op.Alloca t u c) = Word 5 0 ∷ []
 uses func main (op.Load t a) = Word 3 0 ∷ []
 uses func main (op.Store t v a) = Word 3 1 ∷ []
-uses func main (op.Call r x as') = callee_uses (external_named func x)
+uses func main (op.Call r x as') = callee_uses (external_named func x) as'
 uses func main (op.CondBr c to other) = Word 1 0 ∷ []
 uses func main (op.Switch t v other cases) = Word 2 0 ∷ []
 uses func main (op.Ret v) = if main then Word 8 0 ∷ [] else []
@@ -78,6 +92,7 @@ abbrev pub check_use : Setting → (site : ℕ) → List (Ty × Operand) → Lis
 check_use s site os ps (Word kind k) w = check s (word_at k ps).mask (width_of (type_at k os)) (word_at k ps).origin kind k site w
 check_use s site os ps (Bytes kind a n) w = check_memory s (word_at a ps).value (word_at n ps).value kind site w
 check_use s site os ps (Line a) w = check_string s (word_at a ps).value site w
+check_use s site os ps (Asked a) w = check_format s (word_at 0 ps).value a (word_at a ps).value site w
 
 abbrev pub check_uses : Setting → (site : ℕ) → List (Ty × Operand) → List Poisoned → List Use → World → Effect
 check_uses s site os ps [] w = Does w

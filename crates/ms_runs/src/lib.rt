@@ -2,7 +2,9 @@
 #![tactic(auto)]
 
 pub mod copying;
+pub mod formats;
 pub mod runs;
 pub mod shared;
 
+pub use formats::{Cut, Piece};
 pub use runs::{End, Origin, Report, RunResult, Setup};

@@ -1,10 +1,10 @@
 -- A call of a valid module has words of the types of its callee, and answers what its callee does.
-use Rattle.std.proofs.Common.{◌≡◌, ◌<◌, ◌^◌, get_or, ℕ, zero, suc, List, [], ◌∷◌, ◌++◌, map, flat_map, Bool, true, false, not, ◌&&◌, ◌||◌, Option, Some, None, option_map, unwrap_or, is_some, slice_get, refl, sym, ap, subst, ◌∙◌, arith, if◌then◌else◌, true≢false, eqb-true, codes}
+use Rattle.std.proofs.Common.{◌≡◌, ◌<◌, ◌^◌, get_or, ℕ, zero, suc, List, [], ◌∷◌, ◌++◌, map, drop, flat_map, Bool, true, false, not, ◌&&◌, ◌||◌, Option, Some, None, option_map, unwrap_or, is_some, slice_get, refl, sym, ap, subst, ◌∙◌, arith, if◌then◌else◌, true≢false, eqb-true, codes}
 use Rattle.std.proofs.Math.Path.{ap₂}
 use Rattle.std.specs.Prelude.{IsFalse}
 use Rattle.std.specs.List.{list_all, list_any}
 use Rattle.std.specs.Option.{option_or}
-use Rattle.std.proofs.lemmas.Bool.{and_parts, or_parts, or_left, or_right}
+use Rattle.std.proofs.lemmas.Bool.{eq-eqb, and_parts, or_parts, or_left, or_right}
 use Rattle.std.proofs.lemmas.List.Folds.{list_any-append}
 use Rattle.std.proofs.lemmas.Grind.{flat_map-append}
 use Rattle.ms_ir.specs.declared.syntax.Name.{Name}
@@ -17,6 +17,7 @@ use Rattle.ms_ir.specs.declared.syntax.Func.{Func}
 use Rattle.ms_ir.specs.declared.syntax.Decl.{Decl}
 use Rattle.ms_ir.specs.declared.syntax.Module.{Module}
 use Rattle.ms_ir.specs.declared.calls.External.{External}
+use Rattle.ms_ir.specs.declared.calls.External.TheVariants as external
 use Rattle.ms_ir.specs.declared.calls.RuntimeFn.{RuntimeFn}
 use Rattle.ms_ir.specs.Names.{name_eq, lookup, externals, runtime_functions, is_reserved, is_inserted_name}
 use Rattle.ms_ir.specs.Layout.{width_of}
@@ -25,8 +26,8 @@ use Rattle.ms_ir.specs.Code.{func_index, func_at, insts_at}
 use Rattle.ms_ir.specs.Equal.{has_name, type_eq, result_type_eq, types_eq}
 use Rattle.ms_ir.specs.Locals.{locals, global_names, declared_names, type_names, func_insts, value_type}
 use Rattle.ms_valid.specs.NamesOnce.{repeats, at_sign, percent_sign, function_duplicates}
-use Rattle.ms_ir.specs.Signatures.{Signature, signature_eq, func_signature, decl_signature, defined_signature, declared_signature, signature_of, external_signature, runtime_signature}
-use Rattle.ms_valid.specs.TypesAgree.{operand_fits, argument_fault, call_fault, first_misfit, is_printf, printf_fault, fault_unless, op_fault}
+use Rattle.ms_ir.specs.Signatures.{Signature, signature_eq, func_signature, decl_signature, defined_signature, declared_signature, signature_of, external_signature, is_variadic, called_signature, runtime_signature}
+use Rattle.ms_valid.specs.TypesAgree.{operand_fits, argument_fault, call_fault, first_misfit, is_printable, is_printf, printf_fault, fault_unless, op_fault}
 use Rattle.ms_valid.specs.ExternalsFit.{name_unless, callees, called_names, is_runtime, is_external, decl_fits}
 use Rattle.ms_valid.specs.MarksFit.{may_be_marked, all_results, is_inserted, marked_results}
 use Rattle.ms_ir.specs.Written.{mentions, operands_mentions}
@@ -118,26 +119,64 @@ result_eq_trans a b c p q good e h = same_answers good a b e p (same_answers goo
 
 -- ---- tables
 
--- what all names of a table pass, a name that is found in it passes
-table_passes : {A : Type 0} (p : Name → Bool) (table : List (Name × A)) (x : Name) (v : A) → list_all (λ row. p row.0) table ≡ true → lookup table x ≡ Some v → p x ≡ true
+-- a row that is found in a table passes what all its rows pass
+table_passes : {A : Type 0} (p : Name → A → Bool) (table : List (Name × A)) (x : Name) (v : A) → list_all (λ row. p row.0 row.1) table ≡ true → lookup table x ≡ Some v → p x v ≡ true
 table_passes p [] x v all e = grind arith
-table_passes p (row ∷ rest) x v all e = by_test (name_eq row.0 x) refl e (λ h. table_passes p rest x v (and_parts (p row.0) (list_all (λ r. p r.0) rest) all).1 h)
+table_passes p (row ∷ rest) x v all e = by_test (name_eq row.0 x) refl e (λ h. table_passes p rest x v (and_parts (p row.0 row.1) (list_all (λ r. p r.0 r.1) rest) all).1 h)
   where
-    by_test : (t : Bool) → name_eq row.0 x ≡ t → (if t then Some row.1 else lookup rest x) ≡ Some v → (lookup rest x ≡ Some v → p x ≡ true) → p x ≡ true
-    by_test true same h later = ap p (sym (name_sound row.0 x same)) ∙ (and_parts (p row.0) (list_all (λ r. p r.0) rest) all).0
+    by_test : (t : Bool) → name_eq row.0 x ≡ t → (if t then Some row.1 else lookup rest x) ≡ Some v → (lookup rest x ≡ Some v → p x v ≡ true) → p x v ≡ true
+    by_test true same h later =
+        ap (p x) (sym (ap (λ o. unwrap_or o row.1) h)) ∙ ap (λ y. p y row.1) (sym (name_sound row.0 x same)) ∙ (and_parts (p row.0 row.1) (list_all (λ r. p r.0 r.1) rest) all).0
     by_test false same h later = later h
 
 printf_name : Name
 printf_name = Text (codes "printf")
 
--- names of externals are neither reserved nor `printf`, and those of runtime functions are reserved and not `printf`
-external_apart : (x : Name) (e : External) → lookup externals x ≡ Some e → (not (is_reserved x) && not (name_eq x printf_name)) ≡ true
+-- names of externals are not reserved, and `printf` names the variadic one alone; those of runtime functions are reserved,
+-- and none is `printf`
+external_apart : (x : Name) (e : External) → lookup externals x ≡ Some e → (not (is_reserved x) && (if is_variadic e then name_eq x printf_name else not (name_eq x printf_name))) ≡ true
 unfolding printf_name
-external_apart x e h = table_passes (λ y. not (is_reserved y) && not (name_eq y printf_name)) externals x e refl h
+external_apart x e h = table_passes (λ y d. not (is_reserved y) && (if is_variadic d then name_eq y printf_name else not (name_eq y printf_name))) externals x e refl h
 
 runtime_apart : (x : Name) (f : RuntimeFn) → lookup runtime_functions x ≡ Some f → (is_reserved x && not (name_eq x printf_name)) ≡ true
 unfolding printf_name
-runtime_apart x f h = table_passes (λ y. is_reserved y && not (name_eq y printf_name)) runtime_functions x f refl h
+runtime_apart x f h = table_passes (λ y g. is_reserved y && not (name_eq y printf_name)) runtime_functions x f refl h
+
+-- ---- what `printf` takes
+
+printable_same : (t : Ty) → is_printable t ≡ true → type_eq t t ≡ true
+printable_same (Int n) e = eq-eqb n n refl
+printable_same Ptr e = refl
+printable_same t e = absurd (true≢false (sym e))
+
+rest_arguments : (fits : Ty × Operand → Bool) (k : ℕ) (rest : List (Ty × Operand)) → first_misfit (λ b. is_printable b.0 && fits b) k rest ≡ None
+    → (argument_fault fits k (map (λ a. a.0) rest) rest ≡ None) × (types_eq (map (λ a. a.0) rest) (map (λ a. a.0) rest) ≡ true)
+rest_arguments fits k [] e = (refl, refl)
+rest_arguments fits k (b ∷ rest) e =
+    let parts = no_fault_at (is_printable b.0 && fits b) (first_misfit (λ c. is_printable c.0 && fits c) (suc k) rest) k e in
+    let both = and_parts (is_printable b.0) (fits b) parts.0 in
+    let later = rest_arguments fits (suc k) rest parts.1 in
+    let same = printable_same b.0 both.0 in (
+      ap (λ t. if t then argument_fault fits (suc k) (map (λ a. a.0) rest) rest else Some k) (ap₂ (λ s t. s && t) same both.1) ∙ later.0,
+      ap₂ (λ s t. s && t) same later.1,
+    )
+
+printf_arguments : (fits : Ty × Operand → Bool) (args : List (Ty × Operand)) → printf_fault fits args ≡ None
+    → (argument_fault fits 0 (Ptr ∷ drop 1 (map (λ a. a.0) args)) args ≡ None) × (types_eq (drop 1 (map (λ a. a.0) args)) (drop 1 (map (λ a. a.0) args)) ≡ true)
+printf_arguments fits [] e = grind arith
+printf_arguments fits (a ∷ rest) e =
+    let parts = no_fault_at (type_eq a.0 Ptr && fits a) (first_misfit (λ b. is_printable b.0 && fits b) 1 rest) 0 e in
+    let later = rest_arguments fits 1 rest parts.1 in
+    (ap (λ t. if t then argument_fault fits 1 (map (λ b. b.0) rest) rest else Some 0) parts.0 ∙ later.0, later.1)
+
+-- an external that isn't variadic is called with the types that it is declared with
+fixed_signature : (e : External) (types : List Ty) → is_variadic e ≡ false → external_signature e ≡ called_signature e types
+fixed_signature external.Printf types h = absurd (true≢false h)
+fixed_signature e types h = refl
+
+one_variadic : (e : External) → is_variadic e ≡ true → external.Printf ≡ e
+one_variadic external.Printf h = refl
+one_variadic e h = absurd (true≢false (sym h))
 
 -- ---- callees
 
@@ -340,19 +379,66 @@ module _ (m : Module) (valid : Valid m) (n b p : ℕ) (f : Func) (inst : Inst) (
   decl_there : (k : ℕ) (d : Decl) → slice_get m.decls k ≡ Some d → decl_fits (called_names m) d ≡ true
   decl_there k d e = decl_passes (called_names m) m.decls k d (fits_outside m valid).declarations_fit e
 
-  -- an external
-  pub external_call : (e : External) → func_index m.funcs callee ≡ None → lookup externals callee ≡ Some e → CallsAs ret args (external_signature e)
-  external_call e none found =
-      let apart = and_parts (not (is_reserved callee)) (not (name_eq callee printf_name)) (external_apart callee e found) in
-      outside (external_signature e) (undefined m.funcs callee none) (not_true (name_eq callee printf_name) apart.1) (λ k d l same.
+  -- its declaration is that of an external
+  declared_external : (e : External) → is_reserved callee ≡ false → lookup externals callee ≡ Some e
+      → (k : ℕ) (d : Decl) → slice_get m.decls k ≡ Some d → d.name ≡ callee → signature_eq (decl_signature d) (external_signature e) ≡ true
+  declared_external e free found k d l same =
       sym (ap (λ o. elim o [ Some r ↦ signature_eq (decl_signature d) (external_signature r) | None ↦ false ]) (ap (lookup externals) same ∙ found))
       ∙ passed (is_external d)
       (sym (ap (λ t. not t || is_external d) (ap (has_name (called_names m)) same ∙ called))
-      ∙ sym (ap (λ t. if t then is_runtime d else (not (has_name (called_names m) d.name) || is_external d)) (ap is_reserved same ∙ not_true (is_reserved callee) apart.0))
-      ∙ decl_there k d l))
+      ∙ sym (ap (λ t. if t then is_runtime d else (not (has_name (called_names m) d.name) || is_external d)) (ap is_reserved same ∙ free))
+      ∙ decl_there k d l)
     where
       passed : (t : Bool) → (not true || t) ≡ true → t ≡ true
       passed t h = h
+
+  -- `printf`
+  printf_call : name_eq callee printf_name ≡ true → defined_signature m.funcs callee ≡ None
+      → ((k : ℕ) (d : Decl) → slice_get m.decls k ≡ Some d → d.name ≡ callee → signature_eq (decl_signature d) (external_signature external.Printf) ≡ true)
+      → CallsAs ret args (called_signature external.Printf (map (λ a. a.0) args))
+  unfolding printf_name
+  printf_call named none fits =
+      by_signature (declared_signature m.decls callee) refl
+      (ap (λ o. call_fault m fitted_call (option_or o (declared_signature m.decls callee)) ret callee args) (sym none) ∙ no_call_fault)
+    where
+      by_signature : (o : Option Signature) → declared_signature m.decls callee ≡ o → call_fault m fitted_call o ret callee args ≡ None
+          → CallsAs ret args (called_signature external.Printf (map (λ a. a.0) args))
+      by_signature None e h = absurd (some_second (first_misfit fitted_call 0 args) 0 h)
+      by_signature (Some s) e h =
+          let decl = declared m.decls callee s e in
+          let table = external_signature external.Printf in
+          let same = and_parts (result_type_eq (decl_signature decl.1).ret table.ret) (types_eq (decl_signature decl.1).params table.params) (fits decl.0 decl.1 decl.2 decl.3) in
+          let both = both_none (if is_printf m callee then printf_fault fitted_call args else argument_fault fitted_call 0 s.params args) (fault_unless (result_type_eq ret s.ret)) h in
+          let is_it : is_printf m callee ≡ true = ap₂ (λ t o. t && is_some o) named e in
+          let wanted : List Ty = Ptr ∷ drop 1 (map (λ a. a.0) args) in
+          let found = printf_arguments fitted_call args (sym (ap (λ t. if t then printf_fault fitted_call args else argument_fault fitted_call 0 s.params args) is_it) ∙ both.0) in record {
+            words = λ words have. matched_have IsBelow 0 words (map (λ a. a.0) args) wanted (λ k t l. args_match fitted_call 0 wanted args k t found.0 l) have;
+            widths = args_widths fitted_call 0 wanted args found.0;
+            fits = fitted_call;
+            declared_params = wanted;
+            arguments = found.0;
+            params = found.1;
+            declared_ret = (decl_signature decl.1).ret;
+            first = ap (λ z. result_type_eq ret z.ret) decl.4 ∙ holds_unless (result_type_eq ret s.ret) both.1;
+            second = same.0;
+          }
+
+  -- an external
+  pub external_call : (e : External) → func_index m.funcs callee ≡ None → lookup externals callee ≡ Some e → CallsAs ret args (called_signature e (map (λ a. a.0) args))
+  external_call e none found =
+      let apart = and_parts (not (is_reserved callee)) (if is_variadic e then name_eq callee printf_name else not (name_eq callee printf_name)) (external_apart callee e found) in
+      let free = not_true (is_reserved callee) apart.0 in
+      by_kind free (is_variadic e) refl apart.1
+    where
+      by_kind : is_reserved callee ≡ false → (t : Bool) → is_variadic e ≡ t → (if t then name_eq callee printf_name else not (name_eq callee printf_name)) ≡ true
+          → CallsAs ret args (called_signature e (map (λ a. a.0) args))
+      by_kind free true k named =
+          let is = one_variadic e k in
+          subst (λ x. CallsAs ret args (called_signature x (map (λ a. a.0) args))) is
+          (printf_call named (undefined m.funcs callee none) (declared_external external.Printf free (found ∙ ap Some (sym is))))
+      by_kind free false k other =
+          subst (CallsAs ret args) (fixed_signature e (map (λ a. a.0) args) k)
+          (outside (external_signature e) (undefined m.funcs callee none) (not_true (name_eq callee printf_name) other) (declared_external e free found))
 
   -- a runtime function
   pub runtime_call : (r : RuntimeFn) → lookup runtime_functions callee ≡ Some r → CallsAs ret args (runtime_signature r)

@@ -1,22 +1,25 @@
 -- What an external answers is in the range of its type, and leaves a good world.
-use Rattle.std.proofs.Common.{◌≡◌, ◌<◌, ◌≤◌, ℕ, zero, suc, ◌+◌, ◌-◌, ◌*◌, ◌%◌, ◌^◌, min, List, [], ◌∷◌, ◌++◌, length, take, drop, get_or, Bool, true, ◌&&◌, leb, ltb, eqb, Option, Some, None, option_map, unwrap_or, is_some, IfSome, All, refl, ap, subst, arith, if◌then◌else◌, leb-true}
+use Rattle.std.proofs.Common.{◌≡◌, ◌<◌, ◌≤◌, ℕ, zero, suc, ◌+◌, ◌-◌, ◌*◌, ◌%◌, ◌^◌, min, List, [], ◌∷◌, ◌++◌, length, take, drop, get_or, Bool, true, ◌&&◌, leb, ltb, eqb, Option, Some, None, option_map, unwrap_or, is_some, IfSome, IfOk, All, Result, Ok, Err, refl, ap, subst, arith, if◌then◌else◌, leb-true}
 use Rattle.std.proofs.lemmas.Nat.{mod_below}
 use Rattle.std.proofs.lemmas.Bool.{and_parts}
 use Rattle.std.proofs.lemmas.List.Elements.{All-nil, All-cons, All-head, All-tail, All-append, All-take, All-drop}
+use Rattle.std.specs.Prelude.{zip}
+use Rattle.ms_bits.specs.declared.traps.Trap.{Trap}
 use Rattle.ms_bits.specs.declared.traps.Trap.TheVariants as trap
 use Rattle.ms_bits.specs.Maps.{bytes_at, string_within}
 use Rattle.ms_ir.specs.declared.syntax.Ty.{Ty, Int, Ptr}
 use Rattle.ms_ir.specs.declared.calls.External.{External}
-use Rattle.ms_ir.specs.declared.calls.External.TheVariants.{Malloc, Calloc, Realloc, Free, Memcpy, Memmove, Memset, Memcmp, Strlen, Putchar, Puts, Getchar, Read, Write, Exit, Abort, LlvmMemcpy, LlvmMemmove, LlvmMemset, LifetimeStart, LifetimeEnd}
+use Rattle.ms_ir.specs.declared.calls.External.TheVariants.{Malloc, Calloc, Realloc, Free, Memcpy, Memmove, Memset, Memcmp, Strlen, Putchar, Puts, Getchar, Read, Write, Exit, Abort, LlvmMemcpy, LlvmMemmove, LlvmMemset, LifetimeStart, LifetimeEnd, Printf}
 use Rattle.ms_ir.specs.Layout.{width_of}
 use Rattle.ms_ir.specs.Areas.{Area, Fixed, Heap, Stack, room}
 use Rattle.ms_runs.specs.World.{Allocation, World, Setting, Effect, Gives, Does, traps, word}
 use Rattle.ms_runs.specs.Memory.{used, fits, next_base, first_that, covers, is_good, block_of, is_heap_block, heap_size, end_block, set_bytes, copy_bytes, make_bytes, copy_shadow, make, make_unset, bytes_left}
-use Rattle.ms_runs.specs.Externals.{minus_one, malloc, calloc, reallocated, realloc, free, where_good, compared, string_at, printed, taken, next_byte, external}
-use Rattle.ms_ir.specs.Signatures.{external_signature}
+use Rattle.ms_runs.specs.Externals.{minus_one, malloc, calloc, reallocated, realloc, free, where_good, compared, string_at, printed, taken, next_byte, cut_shown, formatted, prints, external}
+use Rattle.ms_ir.specs.Signatures.{external_signature, called_params}
 use Rattle.ms_runs_good.specs.GoodWorlds.{GoodWorld}
 use Rattle.ms_runs_good.specs.GoodStates.{IsBelow}
 use Rattle.ms_runs_good.specs.Straight.{Answers, HaveTypes}
+use Rattle.ms_runs_good.proofs.FormatBytes.{AreBytes, format_bytes}
 use Rattle.ms_runs_good.proofs.WorldChanges.{chosen, either, item_below, with_input, with_output, set_bytes_good, copy_bytes_good, make_bytes_good, copy_shadow_good, make_good, make_unset_good, end_block_good, GoodSetting}
 
 -- a word of a type is one of each type that is the same
@@ -178,53 +181,77 @@ module _ (P : ℕ → Type 0) (setting : Setting) (given : GoodSetting P setting
             (All-drop (λ b. b < 256) n w.input g.input),
       )
 
-  pub external_answers : (e : External) (words : List ℕ) → HaveTypes IsBelow 0 words (external_signature e).params → Answers (GoodWorld P) (external_signature e).ret (external setting site e words w)
-  external_answers Malloc words h = malloc_answers (word 0 words)
-  external_answers Calloc words h = calloc_answers (word 0 words * word 1 words)
-  external_answers Realloc words h = realloc_answers (word 0 words) (word 1 words)
-  external_answers Free words h = free_answers (word 0 words)
-  external_answers Memcpy words h =
+  prints_answers : (r : Result (List ℕ) Trap) → IfOk r AreBytes → Answers (GoodWorld P) (Some (Int 32)) (prints site r w)
+  prints_answers (Ok bs) h =
+      chosen (Answers (GoodWorld P) (Some (Int 32))) (leb (length w.output + length bs) 1048576) (Gives (length bs) (record w { output = w.output ++ bs })) (traps trap.Output site w)
+      (λ e. let l = leb-true (length w.output + length bs) 1048576 e in
+      (in_type (Int 32) (length bs) (omega (arith, l)), with_output P w g (w.output ++ bs) (All-append (λ b. b < 256) w.output bs g.output h))) (λ e. g)
+  prints_answers (Err t) h = g
+
+  string_bytes : (a : ℕ) → IfSome (string_at w a) AreBytes
+  string_bytes a = by_string (string_at w a) (string_is a)
+    where
+      by_string : (o : Option (List ℕ)) → IfSome o (λ bs. (length bs ≤ bytes_left w a) × All (λ b. b < 256) bs) → IfSome o AreBytes
+      by_string (Some bs) h = h.1
+      by_string None h = tt
+
+  formatted_bytes : (types : List Ty) (words : List ℕ) → IfOk (formatted w types words) AreBytes
+  formatted_bytes types words = by_string (string_at w (word 0 words)) (string_bytes (word 0 words))
+    where
+      by_string : (o : Option (List ℕ)) → IfSome o AreBytes
+          → IfOk (elim o as (λ z. Result (List ℕ) Trap) [ Some format ↦ cut_shown w format (drop 1 types) (drop 1 words) | None ↦ Err trap.BadAddress ]) AreBytes
+      by_string (Some format) h = format_bytes (string_at w) string_bytes format (zip (drop 1 types) (drop 1 words)) h
+      by_string None h = tt
+
+  pub external_answers : (e : External) (types : List Ty) (words : List ℕ) → HaveTypes IsBelow 0 words (called_params e types)
+      → Answers (GoodWorld P) (external_signature e).ret (external setting site e types words w)
+  external_answers Malloc types words h = malloc_answers (word 0 words)
+  external_answers Calloc types words h = calloc_answers (word 0 words * word 1 words)
+  external_answers Realloc types words h = realloc_answers (word 0 words) (word 1 words)
+  external_answers Free types words h = free_answers (word 0 words)
+  external_answers Memcpy types words h =
       both_good_answers (Some Ptr) (word 0 words) (word 1 words) (word 2 words) (Gives (word 0 words) (copy_bytes (word 0 words) (word 1 words) (word 2 words) w))
       (in_type Ptr (word 0 words) (h 0 Ptr refl), copy_bytes_good P (word 0 words) (word 1 words) (word 2 words) w g)
-  external_answers Memmove words h =
+  external_answers Memmove types words h =
       both_good_answers (Some Ptr) (word 0 words) (word 1 words) (word 2 words) (Gives (word 0 words) (copy_bytes (word 0 words) (word 1 words) (word 2 words) w))
       (in_type Ptr (word 0 words) (h 0 Ptr refl), copy_bytes_good P (word 0 words) (word 1 words) (word 2 words) w g)
-  external_answers Memset words h =
+  external_answers Memset types words h =
       where_good_answers (Some Ptr) (word 0 words) (word 2 words) (Gives (word 0 words) (set_bytes (word 0 words) (word 2 words) (λ k. word 1 words % 256) w))
       (in_type Ptr (word 0 words) (h 0 Ptr refl), set_bytes_good P (word 0 words) (word 2 words) (λ k. word 1 words % 256) w g (λ k. mod_below (word 1 words) 256 (omega arith)))
-  external_answers Memcmp words h =
+  external_answers Memcmp types words h =
       let c = compared (bytes_at w.bytes (word 0 words) (word 2 words)) (bytes_at w.bytes (word 1 words) (word 2 words)) in
       both_good_answers (Some (Int 32)) (word 0 words) (word 1 words) (word 2 words) (Gives c w)
       (in_type (Int 32) c (compared_below (bytes_at w.bytes (word 0 words) (word 2 words)) (bytes_at w.bytes (word 1 words) (word 2 words))), g)
-  external_answers Strlen words h = strlen_answers (word 0 words)
-  external_answers Putchar words h =
+  external_answers Strlen types words h = strlen_answers (word 0 words)
+  external_answers Putchar types words h =
       let l : word 0 words % 256 < 256 = mod_below (word 0 words) 256 (omega arith) in
       printed_answers (Int 32) (word 0 words % 256) (word 0 words % 256 ∷ []) (omega (arith, l)) (All-cons (λ b. b < 256) (word 0 words % 256) [] l (All-nil (λ b. b < 256)))
-  external_answers Puts words h = puts_answers (word 0 words)
-  external_answers Getchar words h = next_byte_answers
-  external_answers Read words h =
+  external_answers Puts types words h = puts_answers (word 0 words)
+  external_answers Getchar types words h = next_byte_answers
+  external_answers Read types words h =
       let rest = if eqb (word 0 words) 0 then taken (word 1 words) (word 2 words) w else Gives (minus_one 64) w in
       where_good_answers (Some (Int 64)) (word 1 words) (word 2 words) rest
       (either (Answers (GoodWorld P) (Some (Int 64))) (eqb (word 0 words) 0) (taken (word 1 words) (word 2 words) w) (Gives (minus_one 64) w)
       (taken_answers (word 1 words) (word 2 words) (h 2 (Int 64) refl)) (in_type (Int 64) (minus_one 64) (omega arith), g))
-  external_answers Write words h =
+  external_answers Write types words h =
       let bs = bytes_at w.bytes (word 1 words) (word 2 words) in
       let rest = if eqb (word 0 words) 1 then printed site bs (Gives (word 2 words)) w else Gives (minus_one 64) w in
       where_good_answers (Some (Int 64)) (word 1 words) (word 2 words) rest
       (either (Answers (GoodWorld P) (Some (Int 64))) (eqb (word 0 words) 1) (printed site bs (Gives (word 2 words)) w) (Gives (minus_one 64) w)
       (printed_answers (Int 64) (word 2 words) bs (h 2 (Int 64) refl) (bytes_at_below w.bytes g.bytes (word 1 words) (word 2 words))) (in_type (Int 64) (minus_one 64) (omega arith), g))
-  external_answers Exit words h = g
-  external_answers Abort words h = g
-  external_answers LlvmMemcpy words h =
+  external_answers Exit types words h = g
+  external_answers Abort types words h = g
+  external_answers LlvmMemcpy types words h =
       both_good_answers None (word 0 words) (word 1 words) (word 2 words) (Does (copy_bytes (word 0 words) (word 1 words) (word 2 words) w))
       (refl, copy_bytes_good P (word 0 words) (word 1 words) (word 2 words) w g)
-  external_answers LlvmMemmove words h =
+  external_answers LlvmMemmove types words h =
       both_good_answers None (word 0 words) (word 1 words) (word 2 words) (Does (copy_bytes (word 0 words) (word 1 words) (word 2 words) w))
       (refl, copy_bytes_good P (word 0 words) (word 1 words) (word 2 words) w g)
-  external_answers LlvmMemset words h =
+  external_answers LlvmMemset types words h =
       where_good_answers None (word 0 words) (word 2 words) (Does (set_bytes (word 0 words) (word 2 words) (λ k. word 1 words % 256) w))
       (refl, set_bytes_good P (word 0 words) (word 2 words) (λ k. word 1 words % 256) w g (λ k. mod_below (word 1 words) 256 (omega arith)))
-  external_answers LifetimeStart words h =
+  external_answers LifetimeStart types words h =
       where_good_answers None (word 1 words) (word 0 words) (Does (make_bytes setting.fill (word 1 words) (word 0 words) w))
       (refl, make_bytes_good P setting.fill (word 1 words) (word 0 words) w given.fill g)
-  external_answers LifetimeEnd words h = (refl, g)
+  external_answers LifetimeEnd types words h = (refl, g)
+  external_answers Printf types words h = prints_answers (formatted w types words) (formatted_bytes types words)

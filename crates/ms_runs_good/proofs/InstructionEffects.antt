@@ -23,7 +23,7 @@ use Rattle.ms_runs.specs.Plain.{setting_of}
 use Rattle.ms_ir.specs.Equal.{has_name, type_eq}
 use Rattle.ms_ir.specs.Written.{targets, labels, result_type}
 use Rattle.ms_ir.specs.Locals.{value_type}
-use Rattle.ms_ir.specs.Signatures.{external_signature}
+use Rattle.ms_ir.specs.Signatures.{called_signature}
 use Rattle.ms_valid.specs.TypesAgree.{operand_fits, op_fault, first_misfit, fault_unless, cast_allows, returns_fit}
 use Rattle.ms_valid.specs.Paths.{insts_of}
 use Rattle.ms_valid.specs.FormedCode.{is_value_type, are_among, cast_flags, shape_formed, operand_formed, op_formed, inst_formed, name_formed, is_terminator}
@@ -169,21 +169,21 @@ module _ {V : Type 0} (holds : V → ℕ → Type 0) (unset : V) (m : Module) (f
       call_fits ret callee args same = by_index (func_index m.funcs callee) refl
         where
           by_external : (q : Option External) → lookup externals callee ≡ q → func_index m.funcs callee ≡ None
-              → Fits (elim q [ Some e ↦ external (setting_of m setup) here.site e numbers w | None ↦ Ends stuck w ])
+              → Fits (elim q [ Some e ↦ external (setting_of m setup) here.site e (map (λ a. a.0) args) numbers w | None ↦ Ends stuck w ])
           by_external (Some e) found none =
               let as_declared = external_call m valid n b p f inst at due ret callee args same e none found in
-              let answers = external_answers P (setting_of m setup) given here.site w g e numbers (as_declared.words numbers (numbers_of (op.Call ret callee args) same)) in
-              ordinary (op.Call ret callee args) same refl (external (setting_of m setup) here.site e numbers w)
-              (calls_answer ret args (external_signature e) as_declared (GoodWorld P) (external (setting_of m setup) here.site e numbers w) answers)
+              let answers = external_answers P (setting_of m setup) given here.site w g e (map (λ a. a.0) args) numbers (as_declared.words numbers (numbers_of (op.Call ret callee args) same)) in
+              ordinary (op.Call ret callee args) same refl (external (setting_of m setup) here.site e (map (λ a. a.0) args) numbers w)
+              (calls_answer ret args (called_signature e (map (λ a. a.0) args)) as_declared (GoodWorld P) (external (setting_of m setup) here.site e (map (λ a. a.0) args) numbers w) answers)
           by_external None found none = (tt, g)
 
           by_index : (o : Option ℕ) → func_index m.funcs callee ≡ o → Fits (elim o [
             | Some k ↦ Enters k w
-            | None ↦ elim (external_named (func_index m.funcs) callee) [ Some e ↦ external (setting_of m setup) here.site e numbers w | None ↦ Ends stuck w ]
+            | None ↦ elim (external_named (func_index m.funcs) callee) [ Some e ↦ external (setting_of m setup) here.site e (map (λ a. a.0) args) numbers w | None ↦ Ends stuck w ]
           ])
           by_index (Some k) found = (enters ret callee args same k found, g)
           by_index None found =
-              subst (λ q. Fits (elim q [ Some e ↦ external (setting_of m setup) here.site e numbers w | None ↦ Ends stuck w ]))
+              subst (λ q. Fits (elim q [ Some e ↦ external (setting_of m setup) here.site e (map (λ a. a.0) args) numbers w | None ↦ Ends stuck w ]))
               (sym (ap (λ o. if is_some o then None else lookup externals callee) found)) (by_external (lookup externals callee) refl found)
 
       goes : (o : Op) → inst.op ≡ o → is_terminator o ≡ true → (to : Name) → has_name (targets o) to ≡ true → Fits (Goes to w)

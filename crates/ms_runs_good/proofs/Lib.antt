@@ -8,6 +8,7 @@ pub mod PoisonedPlaces
 pub mod Walks
 pub mod WordRanges
 pub mod WorldChanges
+pub mod FormatBytes
 pub mod ExternalEffects
 pub mod RuntimeEffects
 pub mod CallTypes

@@ -5,10 +5,10 @@ use Rattle.ms_ir.specs.declared.syntax.Ty.{Int}
 use Rattle.ms_runs.specs.declared.runs.End.TheVariants as «end»
 use Rattle.ms_runs.specs.declared.runs.Report.{Report}
 use Rattle.ms_ir.specs.declared.calls.RuntimeFn.{RuntimeFn}
-use Rattle.ms_ir.specs.declared.calls.RuntimeFn.TheVariants.{Check, CheckMemory, CheckString, Blind, Poison, Unpoison, Copy, Fill, StoreOrigin, LoadOrigin, Size}
+use Rattle.ms_ir.specs.declared.calls.RuntimeFn.TheVariants.{Check, CheckMemory, CheckString, Blind, Poison, Unpoison, Copy, Fill, StoreOrigin, LoadOrigin, Size, CheckFormat}
 use Rattle.ms_runs.specs.World.{World, Setting, Effect, Gives, Does, Goes, Enters, Leaves, Ends, then_does, word}
 use Rattle.ms_runs.specs.Memory.{is_good, heap_size, bytes_left}
-use Rattle.ms_runs.specs.Origins.{add_report, check, check_byte, check_memory, check_string, count_blind, trail, first_in_string, origin_within, load_origin}
+use Rattle.ms_runs.specs.Origins.{add_report, check, check_byte, check_memory, check_string, asks_string_at, check_format, count_blind, trail, first_in_string, origin_within, load_origin}
 use Rattle.ms_runs.specs.Runtime.{runtime}
 use Rattle.ms_ir.specs.Signatures.{runtime_signature}
 use Rattle.ms_runs_good.specs.GoodWorlds.{GoodWorld, FitsCell}
@@ -60,6 +60,10 @@ module _ (P : ℕ → Type 0) (setting : Setting) (w : World) (g : GoodWorld P w
   pub string_answers : (a site : ℕ) → Answers (GoodWorld P) None (check_string setting a site w)
   string_answers a site = byte_answers 10 site a (first_in_string w a (bytes_left w a))
 
+  pub format_answers : (format index a site : ℕ) → Answers (GoodWorld P) None (check_format setting format index a site w)
+  format_answers format index a site =
+      either (Answers (GoodWorld P) None) (asks_string_at w format index) (check_string setting a site w) (Does w) (string_answers a site) (refl, g)
+
   pub blind_good : (mask : ℕ) → GoodWorld P (count_blind mask w)
   blind_good mask = either (GoodWorld P) (eqb mask 0) w (record w { blind = w.blind + 1 }) g (with_blind P w g (w.blind + 1))
 
@@ -89,3 +93,4 @@ runtime_answers setting given LoadOrigin words w g h =
     (in_type (Int 32) (load_origin (word 0 words) (word 1 words) w) (load_origin_kept FitsCell setting w g (word 0 words) (word 1 words) given.none), g)
 runtime_answers setting given Size words w g h =
     (in_type (Int 64) (unwrap_or (heap_size w (word 0 words)) 0) (omega (arith, heap_small FitsCell w (word 0 words) g)), g)
+runtime_answers setting given CheckFormat words w g h = format_answers FitsCell setting w g (word 0 words) (word 1 words) (word 2 words) (word 3 words)

@@ -22,7 +22,7 @@ use Rattle.ms_runs.specs.Act.{act}
 use Rattle.ms_runs.specs.Plain.{setting_of}
 use Rattle.ms_runs.specs.Poisoned.{Poisoned, clean}
 use Rattle.ms_runs.specs.Masks.{Rules, union, word_at}
-use Rattle.ms_runs.specs.Uses.{Use, Word, Bytes, Line, uses, type_at, check_use, check_uses, blinded}
+use Rattle.ms_runs.specs.Uses.{Use, Word, Bytes, Line, Asked, uses, type_at, check_use, check_uses, blinded}
 use Rattle.ms_runs.specs.Shadow.{read_poisoned, shadow_reading, external_planes, callee_planes, planes, ShadowState, shadow_moved, poisoned_result, shadow_act, after_checks, shadow_inst, shadow_first, shadow_frames, shadow_step}
 use Rattle.ms_ir.specs.Written.{result_type}
 use Rattle.ms_valid.specs.Paths.{insts_of}
@@ -37,7 +37,7 @@ use Rattle.ms_runs_good.specs.Straight.{Answers, HaveTypes}
 use Rattle.ms_runs_good.specs.GoodRules.{KeepWidths}
 use Rattle.ms_runs_good.specs.GoodRuns.{SoundShadow, LeadsTo}
 use Rattle.ms_runs_good.proofs.WorldChanges.{byte_below, set_shadow_good, release_good, GoodSetting, poison_good, unpoison_good, copy_planes_good, fill_planes_good, store_origin_good}
-use Rattle.ms_runs_good.proofs.RuntimeEffects.{then_answers, check_answers, memory_answers, string_answers, blind_good}
+use Rattle.ms_runs_good.proofs.RuntimeEffects.{then_answers, check_answers, memory_answers, string_answers, format_answers, blind_good}
 use Rattle.ms_runs_good.proofs.InstructionEffects.{cast_fits, act_fits}
 use Rattle.ms_runs_good.proofs.MaskRanges.{result_mask_below}
 use Rattle.ms_runs_good.proofs.Frames.{top_good, read_all_have, due_first, MovedTo, moves_to}
@@ -88,6 +88,7 @@ module _ (s : Setting) (given : GoodSetting AnyOrigin s) where
   use_answers site os ps (Word kind k) w g = check_answers AnyOrigin s w g (word_at k ps).mask (width_of (type_at k os)) (word_at k ps).origin kind k site
   use_answers site os ps (Bytes kind a n) w g = memory_answers AnyOrigin s w g (word_at a ps).value (word_at n ps).value kind site
   use_answers site os ps (Line a) w g = string_answers AnyOrigin s w g (word_at a ps).value site
+  use_answers site os ps (Asked a) w g = format_answers AnyOrigin s w g (word_at 0 ps).value a (word_at a ps).value site
 
   uses_answer : (site : ℕ) (os : List (Ty × Operand)) (ps : List Poisoned) (us : List Use) (w : World) → GoodWorld AnyOrigin w → Answers (GoodWorld AnyOrigin) None (check_uses s site os ps us w)
   uses_answer site os ps [] w g = (refl, g)

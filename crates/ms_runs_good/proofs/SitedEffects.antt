@@ -1,5 +1,5 @@
 -- Where an instruction of a valid module ends a run by a trap, it has a site.
-use Rattle.std.proofs.Common.{◌≡◌, ◌+◌, ◌*◌, ◌-◌, ◌%◌, ◌/◌, ◌^◌, ℕ, List, [], ◌∷◌, ◌++◌, length, min, Bool, false, ◌&&◌, leb, ltb, eqb, Option, Some, None, is_some, Result, Ok, Err, refl, ap, ◌∙◌, arith, if◌then◌else◌, true≢false, bit_xor}
+use Rattle.std.proofs.Common.{◌≡◌, ◌+◌, ◌*◌, ◌-◌, ◌%◌, ◌/◌, ◌^◌, ℕ, List, [], ◌∷◌, ◌++◌, length, map, min, Bool, false, ◌&&◌, leb, ltb, eqb, Option, Some, None, is_some, Result, Ok, Err, refl, ap, ◌∙◌, arith, if◌then◌else◌, true≢false, bit_xor}
 use Rattle.ms_bits.specs.declared.traps.Trap.{Trap}
 use Rattle.ms_bits.specs.declared.traps.Trap.TheVariants as trap
 use Rattle.ms_bits.specs.Maps.{byte_of, bytes_at, number_at, first_nonzero}
@@ -8,20 +8,21 @@ use Rattle.ms_bits.specs.Conversions.{compare_of, cast_of}
 use Rattle.ms_runs.specs.declared.runs.End.TheVariants as «end»
 use Rattle.ms_runs.specs.declared.runs.Report.{Report}
 use Rattle.ms_ir.specs.declared.syntax.Name.{Name}
+use Rattle.ms_ir.specs.declared.syntax.Ty.{Ty}
 use Rattle.ms_ir.specs.declared.syntax.Module.{Module}
 use Rattle.ms_ir.specs.declared.syntax.Op.{Op}
 use Rattle.ms_ir.specs.declared.syntax.Op.TheVariants as op
 use Rattle.ms_ir.specs.declared.calls.External.{External}
-use Rattle.ms_ir.specs.declared.calls.External.TheVariants.{Malloc, Calloc, Realloc, Free, Memcpy, Memmove, Memset, Memcmp, Strlen, Putchar, Puts, Getchar, Read, Write, Exit, Abort, LlvmMemcpy, LlvmMemmove, LlvmMemset, LifetimeStart, LifetimeEnd}
+use Rattle.ms_ir.specs.declared.calls.External.TheVariants.{Malloc, Calloc, Realloc, Free, Memcpy, Memmove, Memset, Memcmp, Strlen, Putchar, Puts, Getchar, Read, Write, Exit, Abort, LlvmMemcpy, LlvmMemmove, LlvmMemset, LifetimeStart, LifetimeEnd, Printf}
 use Rattle.ms_ir.specs.declared.calls.RuntimeFn.{RuntimeFn}
-use Rattle.ms_ir.specs.declared.calls.RuntimeFn.TheVariants.{Check, CheckMemory, CheckString}
+use Rattle.ms_ir.specs.declared.calls.RuntimeFn.TheVariants.{Check, CheckMemory, CheckString, CheckFormat}
 use Rattle.ms_ir.specs.Names.{lookup, externals, runtime_functions, slots}
 use Rattle.ms_ir.specs.Layout.{width_of, stored_size, size_in}
 use Rattle.ms_ir.specs.Areas.{Heap, Stack}
 use Rattle.ms_runs.specs.World.{World, Setting, Here, Effect, Gives, Does, Goes, Enters, Leaves, Ends, traps, stuck, word}
 use Rattle.ms_runs.specs.Memory.{fits, next_base, is_good, heap_size, end_block, make, make_unset, copy_bytes, copy_shadow, set_shadow, store_number, bytes_left}
-use Rattle.ms_runs.specs.Origins.{trail, add_report, check, check_byte, check_memory, check_string, first_in_string}
-use Rattle.ms_runs.specs.Externals.{minus_one, malloc, reallocated, realloc, free, where_good, string_at, printed, taken, next_byte, external}
+use Rattle.ms_runs.specs.Origins.{trail, add_report, check, check_byte, check_memory, check_string, asks_string_at, check_format, first_in_string}
+use Rattle.ms_runs.specs.Externals.{minus_one, malloc, reallocated, realloc, free, where_good, string_at, printed, taken, next_byte, formatted, prints, external}
 use Rattle.ms_runs.specs.Runtime.{runtime}
 use Rattle.ms_ir.specs.Code.{external_named, is_phi}
 use Rattle.ms_runs.specs.Act.{truth, gives, act}
@@ -74,35 +75,40 @@ module _ (m : Module) (main : Bool) (setting : Setting) (site : ℕ) (sited : Is
   next_byte_sited [] = tt
   next_byte_sited (b ∷ bs) = tt
 
-  pub external_sited : (e : External) (words : List ℕ) → IsSited m main (external setting site e words w)
-  external_sited Malloc words = malloc_sited (word 0 words)
-  external_sited Calloc words =
+  prints_sited : (r : Result (List ℕ) Trap) → IsSited m main (prints site r w)
+  prints_sited (Ok bs) = printed_sited (length bs) bs
+  prints_sited (Err t) = sited
+
+  pub external_sited : (e : External) (types : List Ty) (words : List ℕ) → IsSited m main (external setting site e types words w)
+  external_sited Malloc types words = malloc_sited (word 0 words)
+  external_sited Calloc types words =
       let n = word 0 words * word 1 words in
       either (IsSited m main) (ltb n (2 ^ 64) && fits Heap n w) (Gives (next_base Heap w) (make Heap n w)) (Gives 0 w) tt tt
-  external_sited Realloc words = realloc_sited (word 0 words) (word 1 words)
-  external_sited Free words = free_sited (word 0 words)
-  external_sited Memcpy words = both_good_sited (word 0 words) (word 1 words) (word 2 words) _ tt
-  external_sited Memmove words = both_good_sited (word 0 words) (word 1 words) (word 2 words) _ tt
-  external_sited Memset words = where_good_sited (word 0 words) (word 2 words) _ tt
-  external_sited Memcmp words = both_good_sited (word 0 words) (word 1 words) (word 2 words) _ tt
-  external_sited Strlen words = strlen_sited (string_at w (word 0 words))
-  external_sited Putchar words = printed_sited (word 0 words % 256) (word 0 words % 256 ∷ [])
-  external_sited Puts words = puts_sited (string_at w (word 0 words))
-  external_sited Getchar words = next_byte_sited w.input
-  external_sited Read words =
+  external_sited Realloc types words = realloc_sited (word 0 words) (word 1 words)
+  external_sited Free types words = free_sited (word 0 words)
+  external_sited Memcpy types words = both_good_sited (word 0 words) (word 1 words) (word 2 words) _ tt
+  external_sited Memmove types words = both_good_sited (word 0 words) (word 1 words) (word 2 words) _ tt
+  external_sited Memset types words = where_good_sited (word 0 words) (word 2 words) _ tt
+  external_sited Memcmp types words = both_good_sited (word 0 words) (word 1 words) (word 2 words) _ tt
+  external_sited Strlen types words = strlen_sited (string_at w (word 0 words))
+  external_sited Putchar types words = printed_sited (word 0 words % 256) (word 0 words % 256 ∷ [])
+  external_sited Puts types words = puts_sited (string_at w (word 0 words))
+  external_sited Getchar types words = next_byte_sited w.input
+  external_sited Read types words =
       where_good_sited (word 1 words) (word 2 words) (if eqb (word 0 words) 0 then taken (word 1 words) (word 2 words) w else Gives (minus_one 64) w)
       (either (IsSited m main) (eqb (word 0 words) 0) (taken (word 1 words) (word 2 words) w) (Gives (minus_one 64) w) tt tt)
-  external_sited Write words =
+  external_sited Write types words =
       let bs = bytes_at w.bytes (word 1 words) (word 2 words) in
       where_good_sited (word 1 words) (word 2 words) (if eqb (word 0 words) 1 then printed site bs (Gives (word 2 words)) w else Gives (minus_one 64) w)
       (either (IsSited m main) (eqb (word 0 words) 1) (printed site bs (Gives (word 2 words)) w) (Gives (minus_one 64) w) (printed_sited (word 2 words) bs) tt)
-  external_sited Exit words = tt
-  external_sited Abort words = sited
-  external_sited LlvmMemcpy words = both_good_sited (word 0 words) (word 1 words) (word 2 words) _ tt
-  external_sited LlvmMemmove words = both_good_sited (word 0 words) (word 1 words) (word 2 words) _ tt
-  external_sited LlvmMemset words = where_good_sited (word 0 words) (word 2 words) _ tt
-  external_sited LifetimeStart words = where_good_sited (word 1 words) (word 0 words) _ tt
-  external_sited LifetimeEnd words = tt
+  external_sited Exit types words = tt
+  external_sited Abort types words = sited
+  external_sited LlvmMemcpy types words = both_good_sited (word 0 words) (word 1 words) (word 2 words) _ tt
+  external_sited LlvmMemmove types words = both_good_sited (word 0 words) (word 1 words) (word 2 words) _ tt
+  external_sited LlvmMemset types words = where_good_sited (word 0 words) (word 2 words) _ tt
+  external_sited LifetimeStart types words = where_good_sited (word 1 words) (word 0 words) _ tt
+  external_sited LifetimeEnd types words = tt
+  external_sited Printf types words = prints_sited (formatted w types words)
 
 -- ---- checks
 
@@ -141,6 +147,9 @@ module _ (setting : Setting) (w : World) where
   pub string_checks : (a site : ℕ) → Checks (check_string setting a site w)
   string_checks a site = byte_checks 10 site a (first_in_string w a (bytes_left w a))
 
+  pub format_checks : (format index a site : ℕ) → Checks (check_format setting format index a site w)
+  format_checks format index a site = either Checks (asks_string_at w format index) (check_string setting a site w) (Does w) (string_checks a site) tt
+
 checks_sited : (m : Module) (main : Bool) (e : Effect) → Checks e → IsSited m main e
 checks_sited m main (Does w) h = tt
 checks_sited m main (Ends («end».Trap k s) w) h = absurd (no_trap h)
@@ -160,6 +169,8 @@ runtime_sited m main setting Check words w =
     checks_sited m main (runtime setting Check words w) (check_checks setting w (word 0 words) (word 1 words) (word 2 words) (word 3 words) (word 4 words) (word 5 words))
 runtime_sited m main setting CheckMemory words w = checks_sited m main (runtime setting CheckMemory words w) (memory_checks setting w (word 0 words) (word 1 words) (word 2 words) (word 3 words))
 runtime_sited m main setting CheckString words w = checks_sited m main (runtime setting CheckString words w) (string_checks setting w (word 0 words) (word 1 words))
+runtime_sited m main setting CheckFormat words w =
+    checks_sited m main (runtime setting CheckFormat words w) (format_checks setting w (word 0 words) (word 1 words) (word 2 words) (word 3 words))
 runtime_sited m main setting f words w = tt
 
 -- ---- instructions
@@ -179,15 +190,15 @@ module _ (m : Module) (setting : Setting) (here : Here) (sited : IsSite m here.s
   gives_sited (Ok v) = tt
   gives_sited (Err t) = sited
 
-  call_sited : (callee : Name) (words : List ℕ) → (setting.func callee ≡ None → (e : External) × (lookup externals callee ≡ Some e))
+  call_sited : (callee : Name) (types : List Ty) (words : List ℕ) → (setting.func callee ≡ None → (e : External) × (lookup externals callee ≡ Some e))
       → IsSited m here.main (elim (setting.func callee) [
         | Some f ↦ Enters f w
-        | None ↦ elim (external_named setting.func callee) [ Some e ↦ external setting here.site e words w | None ↦ Ends stuck w ]
+        | None ↦ elim (external_named setting.func callee) [ Some e ↦ external setting here.site e types words w | None ↦ Ends stuck w ]
       ])
-  call_sited callee words known = by_index (setting.func callee) refl
+  call_sited callee types words known = by_index (setting.func callee) refl
     where
-      by_external : (q : Option External) → (e : External) × (q ≡ Some e) → IsSited m here.main (elim q [ Some e ↦ external setting here.site e words w | None ↦ Ends stuck w ])
-      by_external (Some e) h = external_sited m here.main setting here.site sited w e words
+      by_external : (q : Option External) → (e : External) × (q ≡ Some e) → IsSited m here.main (elim q [ Some e ↦ external setting here.site e types words w | None ↦ Ends stuck w ])
+      by_external (Some e) h = external_sited m here.main setting here.site sited w e types words
       by_external None h = absurd (none_some h.0 h.1)
         where
           none_some : (e : External) → None ≡ Some e → ⊥
@@ -195,7 +206,7 @@ module _ (m : Module) (setting : Setting) (here : Here) (sited : IsSite m here.s
 
       by_index : (o : Option ℕ) → setting.func callee ≡ o → IsSited m here.main (elim o [
         | Some f ↦ Enters f w
-        | None ↦ elim (external_named setting.func callee) [ Some e ↦ external setting here.site e words w | None ↦ Ends stuck w ]
+        | None ↦ elim (external_named setting.func callee) [ Some e ↦ external setting here.site e types words w | None ↦ Ends stuck w ]
       ])
       by_index (Some f) e = tt
       by_index None e =
@@ -217,7 +228,7 @@ module _ (m : Module) (setting : Setting) (here : Here) (sited : IsSite m here.s
   act_sited (op.Store t v addr) words p k =
       either (IsSited m here.main) (is_good w (word 1 words) (stored_size t)) (Does (store_number (word 1 words) (stored_size t) (word 0 words) w)) (traps trap.BadAddress here.site w) tt sited
   act_sited (op.Gep t base indices) words p k = tt
-  act_sited (op.Call ret callee args) words p k = call_sited callee words k
+  act_sited (op.Call ret callee args) words p k = call_sited callee (map (λ a. a.0) args) words k
   act_sited (op.Br to) words p k = tt
   act_sited (op.CondBr c to other) words p k = tt
   act_sited (op.Switch t v other cases) words p k = tt

@@ -13,7 +13,7 @@ use Rattle.ms_runs.specs.Origins.{count_blind}
 use Rattle.ms_runs.specs.Plain.{setting_of}
 use Rattle.ms_runs.specs.Poisoned.{Poisoned}
 use Rattle.ms_runs.specs.Masks.{Rules, union, word_at}
-use Rattle.ms_runs.specs.Uses.{Use, Word, Bytes, Line, uses, type_at, check_use, check_uses, blinded}
+use Rattle.ms_runs.specs.Uses.{Use, Word, Bytes, Line, Asked, uses, type_at, check_use, check_uses, blinded}
 use Rattle.ms_runs.specs.Shadow.{read_poisoned, shadow_reading, planes, ShadowState, shadow_moved, poisoned_result, shadow_act, after_checks, shadow_first, shadow_frames, shadow_step}
 use Rattle.ms_valid.specs.Paths.{insts_of}
 use Rattle.ms_valid.specs.Formed.{Formed}
@@ -22,7 +22,7 @@ use Rattle.ms_valid.specs.Valid.{Valid}
 use Rattle.ms_runs_good.proofs.NextFrames.{stands_formed}
 use Rattle.ms_runs_good.specs.Sited.{IsSite, HasSite, StopsAtSite}
 use Rattle.ms_runs_good.proofs.Sites.{site_here}
-use Rattle.ms_runs_good.proofs.SitedEffects.{Checks, check_checks, memory_checks, string_checks, act_sited}
+use Rattle.ms_runs_good.proofs.SitedEffects.{Checks, check_checks, memory_checks, string_checks, format_checks, act_sited}
 use Rattle.ms_runs_good.proofs.SitedMoves.{behind_phis, MovedSited, moves_sited}
 use Rattle.ms_runs_good.proofs.Frames.{top_good, due_first, nothing_left}
 use Rattle.ms_runs_good.proofs.PlainSteps.{calls_known}
@@ -41,6 +41,7 @@ use_checks : (s : Setting) (site : ℕ) (os : List (Ty × Operand)) (ps : List P
 use_checks s site os ps (Word kind k) w = check_checks s w (word_at k ps).mask (width_of (type_at k os)) (word_at k ps).origin kind k site
 use_checks s site os ps (Bytes kind a n) w = memory_checks s w (word_at a ps).value (word_at n ps).value kind site
 use_checks s site os ps (Line a) w = string_checks s w (word_at a ps).value site
+use_checks s site os ps (Asked a) w = format_checks s w (word_at 0 ps).value a (word_at a ps).value site
 
 uses_check : (s : Setting) (site : ℕ) (os : List (Ty × Operand)) (ps : List Poisoned) (us : List Use) (w : World) → Checks (check_uses s site os ps us w)
 uses_check s site os ps [] w = tt

@@ -1,5 +1,6 @@
 //! What instructions and the functions that they call come to in good worlds.
 ghost use Rattle.std.specs.Prelude.{◌≡◌, ℕ, List, map, true, Some, slice_get};
+ghost use Rattle.ms_ir.specs.declared.syntax.Ty.{Ty};
 ghost use Rattle.ms_ir.specs.declared.syntax.Func.{Func};
 ghost use Rattle.ms_ir.specs.declared.syntax.Inst.{Inst};
 ghost use Rattle.ms_ir.specs.declared.syntax.Module.{Module};
@@ -15,7 +16,7 @@ ghost use Rattle.ms_runs.specs.Plain.{act_marked, setting_of};
 ghost use Rattle.ms_runs.specs.Poisoned.{Poisoned, clean};
 ghost use Rattle.ms_runs.specs.Masks.{Rules};
 ghost use Rattle.ms_runs.specs.Shadow.{poisoned_result};
-ghost use Rattle.ms_ir.specs.Signatures.{external_signature, runtime_signature};
+ghost use Rattle.ms_ir.specs.Signatures.{external_signature, called_params, runtime_signature};
 ghost use Rattle.ms_valid.specs.Formed.{Formed};
 ghost use Rattle.ms_runs_good.specs.GoodStates.{IsBelow, PoisonedBelow};
 ghost use Rattle.ms_runs_good.specs.GoodEffects.{FitsEffect};
@@ -27,10 +28,10 @@ ghost use Rattle.ms_runs_good.specs.Straight.{Answers, HaveTypes};
 /// An external that gets words of its parameters' types in a good world answers a word of its type, or nothing where it
 /// answers none, or ends the run, and leaves a good world.
 pub fn externals_fit()
-    ensures plain_runs { (m : Module) → Formed m → (setup : Setup) → GivesBytes setup → (site : ℕ) (e : External) (words : List ℕ) → HaveTypes IsBelow 0 words (external_signature e).params
-        → (world : World) → GoodWorld FitsCell world → Answers (GoodWorld FitsCell) (external_signature e).ret (external (setting_of m setup) site e words world) }
-    ensures shadow_runs { (m : Module) (setup : Setup) → GivesBytes setup → (site : ℕ) (e : External) (words : List ℕ) → HaveTypes IsBelow 0 words (external_signature e).params
-        → (world : World) → GoodWorld AnyOrigin world → Answers (GoodWorld AnyOrigin) (external_signature e).ret (external (setting_of m setup) site e words world) }
+    ensures plain_runs { (m : Module) → Formed m → (setup : Setup) → GivesBytes setup → (site : ℕ) (e : External) (types : List Ty) (words : List ℕ) → HaveTypes IsBelow 0 words (called_params e types)
+        → (world : World) → GoodWorld FitsCell world → Answers (GoodWorld FitsCell) (external_signature e).ret (external (setting_of m setup) site e types words world) }
+    ensures shadow_runs { (m : Module) (setup : Setup) → GivesBytes setup → (site : ℕ) (e : External) (types : List Ty) (words : List ℕ) → HaveTypes IsBelow 0 words (called_params e types)
+        → (world : World) → GoodWorld AnyOrigin world → Answers (GoodWorld AnyOrigin) (external_signature e).ret (external (setting_of m setup) site e types words world) }
 {}
 
 /// So does a runtime function.

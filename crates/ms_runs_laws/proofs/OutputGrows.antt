@@ -1,16 +1,17 @@
 -- A step of the plain run only adds to the output.
 use Rattle.std.proofs.Common.{◌≡◌, ℕ, zero, suc, ◌+◌, ◌*◌, ◌%◌, ◌^◌, List, [], ◌∷◌, ◌++◌, Bool, true, false, Option, Some, None, Result, Ok, Err, refl, sym, ap, ◌∙◌, subst, append_assoc}
-use Rattle.std.specs.Prelude.{if◌then◌else◌, eqb, leb, ltb, length, ◌&&◌, is_some}
+use Rattle.std.specs.Prelude.{if◌then◌else◌, eqb, leb, ltb, length, map, ◌&&◌, is_some}
 use Rattle.ms_bits.specs.declared.traps.Trap.{Trap}
 use Rattle.ms_bits.specs.declared.traps.Trap.TheVariants.{Depth}
 use Rattle.ms_ir.specs.declared.syntax.Name.{Name}
+use Rattle.ms_ir.specs.declared.syntax.Ty.{Ty}
 use Rattle.ms_ir.specs.declared.syntax.Op.{Op}
 use Rattle.ms_ir.specs.declared.syntax.Op.TheVariants as op
 use Rattle.ms_ir.specs.declared.syntax.Inst.{Inst}
 use Rattle.ms_ir.specs.declared.syntax.Module.{Module}
 use Rattle.ms_runs.specs.declared.runs.End.TheVariants as «end»
 use Rattle.ms_ir.specs.declared.calls.External.{External}
-use Rattle.ms_ir.specs.declared.calls.External.TheVariants.{Malloc, Calloc, Realloc, Free, Memcpy, Memmove, Memset, Memcmp, Strlen, Putchar, Puts, Getchar, Read, Write, Exit, Abort, LlvmMemcpy, LlvmMemmove, LlvmMemset, LifetimeStart, LifetimeEnd}
+use Rattle.ms_ir.specs.declared.calls.External.TheVariants.{Malloc, Calloc, Realloc, Free, Memcpy, Memmove, Memset, Memcmp, Strlen, Putchar, Puts, Getchar, Read, Write, Exit, Abort, LlvmMemcpy, LlvmMemmove, LlvmMemset, LifetimeStart, LifetimeEnd, Printf}
 use Rattle.ms_ir.specs.Areas.{Heap, Stack}
 use Rattle.ms_runs.specs.World.{World, Setting, Here, Effect, Gives, Does, Goes, Enters, Leaves, Ends, word}
 use Rattle.ms_ir.specs.Layout.{width_of, stored_size, size_in}
@@ -20,7 +21,7 @@ use Rattle.ms_runs.specs.Memory.{fits, is_good, heap_size}
 use Rattle.ms_bits.specs.Maps.{bytes_at}
 use Rattle.ms_ir.specs.Code.{operands, external_named, HeadUnmarked, NoMarks}
 use Rattle.ms_runs.specs.Control.{Frame, Outcome, On, Over, here, rest_of, read_all, entered, left, after_effect}
-use Rattle.ms_runs.specs.Externals.{external, malloc, reallocated, where_good, string_at, printed, next_byte}
+use Rattle.ms_runs.specs.Externals.{external, malloc, reallocated, where_good, string_at, printed, next_byte, formatted, prints}
 use Rattle.ms_runs.specs.Act.{plain_reading, act, gives, truth}
 use Rattle.ms_runs.specs.Plain.{act_marked, slots_after, PlainState, Stepped, More, Stop, and_then, plain_state, through, plain_step, go_on, run}
 use Rattle.ms_runs.specs.Faithful.{Prefix}
@@ -75,30 +76,35 @@ adds_next : (bs : List ℕ) (w : World) → Adds w.output (next_byte bs w)
 adds_next [] w = record { more = whole _ }
 adds_next (b ∷ bs) w = record { more = whole _ }
 
-adds_external : (s : Setting) (site : ℕ) (e : External) (vs : List ℕ) (w : World) → Adds w.output (external s site e vs w)
-adds_external s site Malloc vs w = adds_malloc s.fill (word 0 vs) w
-adds_external s site Calloc vs w = adds_if (ltb (word 0 vs * word 1 vs) (2 ^ 64) && fits Heap (word 0 vs * word 1 vs) w) (record { more = whole _ }) (record { more = whole _ })
-adds_external s site Realloc vs w =
+adds_prints : (site : ℕ) (r : Result (List ℕ) Trap) (w : World) → Adds w.output (prints site r w)
+adds_prints site (Ok bs) w = adds_printed site (length bs) bs w
+adds_prints site (Err t) w = record { more = whole _ }
+
+adds_external : (s : Setting) (site : ℕ) (e : External) (ts : List Ty) (vs : List ℕ) (w : World) → Adds w.output (external s site e ts vs w)
+adds_external s site Malloc ts vs w = adds_malloc s.fill (word 0 vs) w
+adds_external s site Calloc ts vs w = adds_if (ltb (word 0 vs * word 1 vs) (2 ^ 64) && fits Heap (word 0 vs * word 1 vs) w) (record { more = whole _ }) (record { more = whole _ })
+adds_external s site Realloc ts vs w =
     adds_if (eqb (word 0 vs) 0) (adds_malloc s.fill (word 1 vs) w) (adds_option (heap_size w (word 0 vs)) (λ old. adds_moved s.fill (word 0 vs) old (word 1 vs) w) (record { more = whole _ }))
-adds_external s site Free vs w = adds_if (eqb (word 0 vs) 0) (record { more = whole _ }) (adds_if (is_some (heap_size w (word 0 vs))) (record { more = whole _ }) (record { more = whole _ }))
-adds_external s site Memcpy vs w = adds_good site (word 0 vs) (word 2 vs) w (adds_good site (word 1 vs) (word 2 vs) w (record { more = whole _ }))
-adds_external s site Memmove vs w = adds_good site (word 0 vs) (word 2 vs) w (adds_good site (word 1 vs) (word 2 vs) w (record { more = whole _ }))
-adds_external s site Memset vs w = adds_good site (word 0 vs) (word 2 vs) w (record { more = whole _ })
-adds_external s site Memcmp vs w = adds_good site (word 0 vs) (word 2 vs) w (adds_good site (word 1 vs) (word 2 vs) w (record { more = whole _ }))
-adds_external s site Strlen vs w = adds_option (string_at w (word 0 vs)) (λ bs. record { more = whole _ }) (record { more = whole _ })
-adds_external s site Putchar vs w = adds_printed site (word 0 vs % 256) (word 0 vs % 256 ∷ []) w
-adds_external s site Puts vs w = adds_option (string_at w (word 0 vs)) (λ bs. adds_printed site 1 (bs ++ 10 ∷ []) w) (record { more = whole _ })
-adds_external s site Getchar vs w = adds_next w.input w
-adds_external s site Read vs w = adds_good site (word 1 vs) (word 2 vs) w (adds_if (eqb (word 0 vs) 0) (record { more = whole _ }) (record { more = whole _ }))
-adds_external s site Write vs w =
+adds_external s site Free ts vs w = adds_if (eqb (word 0 vs) 0) (record { more = whole _ }) (adds_if (is_some (heap_size w (word 0 vs))) (record { more = whole _ }) (record { more = whole _ }))
+adds_external s site Memcpy ts vs w = adds_good site (word 0 vs) (word 2 vs) w (adds_good site (word 1 vs) (word 2 vs) w (record { more = whole _ }))
+adds_external s site Memmove ts vs w = adds_good site (word 0 vs) (word 2 vs) w (adds_good site (word 1 vs) (word 2 vs) w (record { more = whole _ }))
+adds_external s site Memset ts vs w = adds_good site (word 0 vs) (word 2 vs) w (record { more = whole _ })
+adds_external s site Memcmp ts vs w = adds_good site (word 0 vs) (word 2 vs) w (adds_good site (word 1 vs) (word 2 vs) w (record { more = whole _ }))
+adds_external s site Strlen ts vs w = adds_option (string_at w (word 0 vs)) (λ bs. record { more = whole _ }) (record { more = whole _ })
+adds_external s site Putchar ts vs w = adds_printed site (word 0 vs % 256) (word 0 vs % 256 ∷ []) w
+adds_external s site Puts ts vs w = adds_option (string_at w (word 0 vs)) (λ bs. adds_printed site 1 (bs ++ 10 ∷ []) w) (record { more = whole _ })
+adds_external s site Getchar ts vs w = adds_next w.input w
+adds_external s site Read ts vs w = adds_good site (word 1 vs) (word 2 vs) w (adds_if (eqb (word 0 vs) 0) (record { more = whole _ }) (record { more = whole _ }))
+adds_external s site Write ts vs w =
     adds_good site (word 1 vs) (word 2 vs) w (adds_if (eqb (word 0 vs) 1) (adds_printed site (word 2 vs) (bytes_at w.bytes (word 1 vs) (word 2 vs)) w) (record { more = whole _ }))
-adds_external s site Exit vs w = record { more = whole _ }
-adds_external s site Abort vs w = record { more = whole _ }
-adds_external s site LlvmMemcpy vs w = adds_good site (word 0 vs) (word 2 vs) w (adds_good site (word 1 vs) (word 2 vs) w (record { more = whole _ }))
-adds_external s site LlvmMemmove vs w = adds_good site (word 0 vs) (word 2 vs) w (adds_good site (word 1 vs) (word 2 vs) w (record { more = whole _ }))
-adds_external s site LlvmMemset vs w = adds_good site (word 0 vs) (word 2 vs) w (record { more = whole _ })
-adds_external s site LifetimeStart vs w = adds_good site (word 1 vs) (word 0 vs) w (record { more = whole _ })
-adds_external s site LifetimeEnd vs w = record { more = whole _ }
+adds_external s site Exit ts vs w = record { more = whole _ }
+adds_external s site Abort ts vs w = record { more = whole _ }
+adds_external s site LlvmMemcpy ts vs w = adds_good site (word 0 vs) (word 2 vs) w (adds_good site (word 1 vs) (word 2 vs) w (record { more = whole _ }))
+adds_external s site LlvmMemmove ts vs w = adds_good site (word 0 vs) (word 2 vs) w (adds_good site (word 1 vs) (word 2 vs) w (record { more = whole _ }))
+adds_external s site LlvmMemset ts vs w = adds_good site (word 0 vs) (word 2 vs) w (record { more = whole _ })
+adds_external s site LifetimeStart ts vs w = adds_good site (word 1 vs) (word 0 vs) w (record { more = whole _ })
+adds_external s site LifetimeEnd ts vs w = record { more = whole _ }
+adds_external s site Printf ts vs w = adds_prints site (formatted w ts vs) w
 
 adds_act : (s : Setting) (h : Here) (o : Op) (vs : List ℕ) (w : World) → Adds w.output (act s h o vs w)
 adds_act s h (op.Binary o f t a b) vs w = adds_gives h.site (binary_of o f (width_of t) (word 0 vs) (word 1 vs)) w
@@ -112,7 +118,7 @@ adds_act s h (op.Load t a) vs w = adds_if (is_good w (word 0 vs) (stored_size t)
 adds_act s h (op.Store t v a) vs w = adds_if (is_good w (word 1 vs) (stored_size t)) (record { more = whole _ }) (record { more = whole _ })
 adds_act s h (op.Gep t a is) vs w = record { more = whole _ }
 adds_act s h (op.Call r x as') vs w =
-    adds_option (s.func x) (λ f. record { more = whole _ }) (adds_option (external_named s.func x) (λ e. adds_external s h.site e vs w) (record { more = whole _ }))
+    adds_option (s.func x) (λ f. record { more = whole _ }) (adds_option (external_named s.func x) (λ e. adds_external s h.site e (map (λ a. a.0) as') vs w) (record { more = whole _ }))
 adds_act s h (op.Br to) vs w = record { more = whole _ }
 adds_act s h (op.CondBr c to other) vs w = record { more = whole _ }
 adds_act s h (op.Switch t v other cases) vs w = record { more = whole _ }

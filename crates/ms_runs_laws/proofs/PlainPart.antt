@@ -1,11 +1,12 @@
 -- What the plain part of a step looks at: everything but shadow, origins, pairs, reports and the blind count.
 use Rattle.std.proofs.Common.{◌≡◌, ℕ, ◌+◌, ◌*◌, ◌%◌, ◌^◌, List, [], ◌∷◌, ◌++◌, Bool, true, false, Option, Some, None, Result, Ok, Err, refl}
-use Rattle.std.specs.Prelude.{if◌then◌else◌, eqb, leb, ltb, length, ◌&&◌, is_some}
+use Rattle.std.specs.Prelude.{if◌then◌else◌, eqb, leb, ltb, length, map, ◌&&◌, is_some}
 use Rattle.ms_bits.specs.declared.traps.Trap.{Trap}
+use Rattle.ms_ir.specs.declared.syntax.Ty.{Ty}
 use Rattle.ms_ir.specs.declared.syntax.Op.{Op}
 use Rattle.ms_ir.specs.declared.syntax.Op.TheVariants as op
 use Rattle.ms_ir.specs.declared.calls.External.{External}
-use Rattle.ms_ir.specs.declared.calls.External.TheVariants.{Malloc, Calloc, Realloc, Free, Memcpy, Memmove, Memset, Memcmp, Strlen, Putchar, Puts, Getchar, Read, Write, Exit, Abort, LlvmMemcpy, LlvmMemmove, LlvmMemset, LifetimeStart, LifetimeEnd}
+use Rattle.ms_ir.specs.declared.calls.External.TheVariants.{Malloc, Calloc, Realloc, Free, Memcpy, Memmove, Memset, Memcmp, Strlen, Putchar, Puts, Getchar, Read, Write, Exit, Abort, LlvmMemcpy, LlvmMemmove, LlvmMemset, LifetimeStart, LifetimeEnd, Printf}
 use Rattle.ms_ir.specs.Areas.{Heap, Stack}
 use Rattle.ms_runs.specs.World.{World, Setting, Here, Effect, Gives, Does, Goes, Enters, Leaves, Ends, word}
 use Rattle.ms_ir.specs.Layout.{width_of, stored_size, size_in}
@@ -14,7 +15,7 @@ use Rattle.ms_bits.specs.Conversions.{compare_of, cast_of}
 use Rattle.ms_runs.specs.Memory.{fits, is_good, heap_size}
 use Rattle.ms_bits.specs.Maps.{bytes_at}
 use Rattle.ms_ir.specs.Code.{external_named}
-use Rattle.ms_runs.specs.Externals.{external, malloc, reallocated, where_good, string_at, printed, next_byte}
+use Rattle.ms_runs.specs.Externals.{external, malloc, reallocated, where_good, string_at, printed, next_byte, formatted, prints}
 use Rattle.ms_runs.specs.Act.{act, gives, truth}
 
 abbrev pub bare : World → World
@@ -61,29 +62,34 @@ bare_next : (bs : List ℕ) (w : World) → Alike (next_byte bs w) (next_byte bs
 bare_next [] w = (record { same = refl })
 bare_next (b ∷ bs) w = (record { same = refl })
 
-bare_external : (s : Setting) (site : ℕ) (e : External) (vs : List ℕ) (w : World) → Alike (external s site e vs w) (external s site e vs (bare w))
-bare_external s site Malloc vs w = bare_malloc s.fill (word 0 vs) w
-bare_external s site Calloc vs w = at_if (ltb (word 0 vs * word 1 vs) (2 ^ 64) && fits Heap (word 0 vs * word 1 vs) w) (record { same = refl }) (record { same = refl })
-bare_external s site Realloc vs w =
+bare_prints : (site : ℕ) (r : Result (List ℕ) Trap) (w : World) → Alike (prints site r w) (prints site r (bare w))
+bare_prints site (Ok bs) w = bare_printed site (length bs) bs w
+bare_prints site (Err t) w = (record { same = refl })
+
+bare_external : (s : Setting) (site : ℕ) (e : External) (ts : List Ty) (vs : List ℕ) (w : World) → Alike (external s site e ts vs w) (external s site e ts vs (bare w))
+bare_external s site Malloc ts vs w = bare_malloc s.fill (word 0 vs) w
+bare_external s site Calloc ts vs w = at_if (ltb (word 0 vs * word 1 vs) (2 ^ 64) && fits Heap (word 0 vs * word 1 vs) w) (record { same = refl }) (record { same = refl })
+bare_external s site Realloc ts vs w =
     at_if (eqb (word 0 vs) 0) (bare_malloc s.fill (word 1 vs) w) (at_option (heap_size w (word 0 vs)) (λ old. bare_moved s.fill (word 0 vs) old (word 1 vs) w) (record { same = refl }))
-bare_external s site Free vs w = at_if (eqb (word 0 vs) 0) (record { same = refl }) (at_if (is_some (heap_size w (word 0 vs))) (record { same = refl }) (record { same = refl }))
-bare_external s site Memcpy vs w = bare_good site (word 0 vs) (word 2 vs) w (bare_good site (word 1 vs) (word 2 vs) w (record { same = refl }))
-bare_external s site Memmove vs w = bare_good site (word 0 vs) (word 2 vs) w (bare_good site (word 1 vs) (word 2 vs) w (record { same = refl }))
-bare_external s site Memset vs w = bare_good site (word 0 vs) (word 2 vs) w (record { same = refl })
-bare_external s site Memcmp vs w = bare_good site (word 0 vs) (word 2 vs) w (bare_good site (word 1 vs) (word 2 vs) w (record { same = refl }))
-bare_external s site Strlen vs w = at_option (string_at w (word 0 vs)) (λ bs. (record { same = refl })) (record { same = refl })
-bare_external s site Putchar vs w = bare_printed site (word 0 vs % 256) (word 0 vs % 256 ∷ []) w
-bare_external s site Puts vs w = at_option (string_at w (word 0 vs)) (λ bs. bare_printed site 1 (bs ++ 10 ∷ []) w) (record { same = refl })
-bare_external s site Getchar vs w = bare_next w.input w
-bare_external s site Read vs w = bare_good site (word 1 vs) (word 2 vs) w (at_if (eqb (word 0 vs) 0) (record { same = refl }) (record { same = refl }))
-bare_external s site Write vs w = bare_good site (word 1 vs) (word 2 vs) w (at_if (eqb (word 0 vs) 1) (bare_printed site (word 2 vs) (bytes_at w.bytes (word 1 vs) (word 2 vs)) w) (record { same = refl }))
-bare_external s site Exit vs w = (record { same = refl })
-bare_external s site Abort vs w = (record { same = refl })
-bare_external s site LlvmMemcpy vs w = bare_good site (word 0 vs) (word 2 vs) w (bare_good site (word 1 vs) (word 2 vs) w (record { same = refl }))
-bare_external s site LlvmMemmove vs w = bare_good site (word 0 vs) (word 2 vs) w (bare_good site (word 1 vs) (word 2 vs) w (record { same = refl }))
-bare_external s site LlvmMemset vs w = bare_good site (word 0 vs) (word 2 vs) w (record { same = refl })
-bare_external s site LifetimeStart vs w = bare_good site (word 1 vs) (word 0 vs) w (record { same = refl })
-bare_external s site LifetimeEnd vs w = (record { same = refl })
+bare_external s site Free ts vs w = at_if (eqb (word 0 vs) 0) (record { same = refl }) (at_if (is_some (heap_size w (word 0 vs))) (record { same = refl }) (record { same = refl }))
+bare_external s site Memcpy ts vs w = bare_good site (word 0 vs) (word 2 vs) w (bare_good site (word 1 vs) (word 2 vs) w (record { same = refl }))
+bare_external s site Memmove ts vs w = bare_good site (word 0 vs) (word 2 vs) w (bare_good site (word 1 vs) (word 2 vs) w (record { same = refl }))
+bare_external s site Memset ts vs w = bare_good site (word 0 vs) (word 2 vs) w (record { same = refl })
+bare_external s site Memcmp ts vs w = bare_good site (word 0 vs) (word 2 vs) w (bare_good site (word 1 vs) (word 2 vs) w (record { same = refl }))
+bare_external s site Strlen ts vs w = at_option (string_at w (word 0 vs)) (λ bs. (record { same = refl })) (record { same = refl })
+bare_external s site Putchar ts vs w = bare_printed site (word 0 vs % 256) (word 0 vs % 256 ∷ []) w
+bare_external s site Puts ts vs w = at_option (string_at w (word 0 vs)) (λ bs. bare_printed site 1 (bs ++ 10 ∷ []) w) (record { same = refl })
+bare_external s site Getchar ts vs w = bare_next w.input w
+bare_external s site Read ts vs w = bare_good site (word 1 vs) (word 2 vs) w (at_if (eqb (word 0 vs) 0) (record { same = refl }) (record { same = refl }))
+bare_external s site Write ts vs w = bare_good site (word 1 vs) (word 2 vs) w (at_if (eqb (word 0 vs) 1) (bare_printed site (word 2 vs) (bytes_at w.bytes (word 1 vs) (word 2 vs)) w) (record { same = refl }))
+bare_external s site Exit ts vs w = (record { same = refl })
+bare_external s site Abort ts vs w = (record { same = refl })
+bare_external s site LlvmMemcpy ts vs w = bare_good site (word 0 vs) (word 2 vs) w (bare_good site (word 1 vs) (word 2 vs) w (record { same = refl }))
+bare_external s site LlvmMemmove ts vs w = bare_good site (word 0 vs) (word 2 vs) w (bare_good site (word 1 vs) (word 2 vs) w (record { same = refl }))
+bare_external s site LlvmMemset ts vs w = bare_good site (word 0 vs) (word 2 vs) w (record { same = refl })
+bare_external s site LifetimeStart ts vs w = bare_good site (word 1 vs) (word 0 vs) w (record { same = refl })
+bare_external s site LifetimeEnd ts vs w = (record { same = refl })
+bare_external s site Printf ts vs w = bare_prints site (formatted w ts vs) w
 
 pub bare_act : (s : Setting) (h : Here) (o : Op) (vs : List ℕ) (w : World) → Alike (act s h o vs w) (act s h o vs (bare w))
 bare_act s h (op.Binary o f t a b) vs w = bare_gives h.site (binary_of o f (width_of t) (word 0 vs) (word 1 vs)) w
@@ -97,7 +103,7 @@ bare_act s h (op.Load t a) vs w = at_if (is_good w (word 0 vs) (stored_size t)) 
 bare_act s h (op.Store t v a) vs w = at_if (is_good w (word 1 vs) (stored_size t)) (record { same = refl }) (record { same = refl })
 bare_act s h (op.Gep t a is) vs w = (record { same = refl })
 bare_act s h (op.Call r x as') vs w =
-    at_option (s.func x) (λ f. (record { same = refl })) (at_option (external_named s.func x) (λ e. bare_external s h.site e vs w) (record { same = refl }))
+    at_option (s.func x) (λ f. (record { same = refl })) (at_option (external_named s.func x) (λ e. bare_external s h.site e (map (λ a. a.0) as') vs w) (record { same = refl }))
 bare_act s h (op.Br to) vs w = (record { same = refl })
 bare_act s h (op.CondBr c to other) vs w = (record { same = refl })
 bare_act s h (op.Switch t v other cases) vs w = (record { same = refl })

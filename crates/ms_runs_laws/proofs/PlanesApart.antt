@@ -7,16 +7,16 @@ use Rattle.ms_ir.specs.declared.syntax.Op.{Op}
 use Rattle.ms_ir.specs.declared.syntax.Op.TheVariants as op
 use Rattle.ms_runs.specs.declared.runs.End.TheVariants as «end»
 use Rattle.ms_ir.specs.declared.calls.External.{External}
-use Rattle.ms_ir.specs.declared.calls.External.TheVariants.{Malloc, Calloc, Realloc, Free, Memcpy, Memmove, Memset, Memcmp, Strlen, Putchar, Puts, Getchar, Read, Write, Exit, Abort, LlvmMemcpy, LlvmMemmove, LlvmMemset, LifetimeStart, LifetimeEnd}
+use Rattle.ms_ir.specs.declared.calls.External.TheVariants.{Malloc, Calloc, Realloc, Free, Memcpy, Memmove, Memset, Memcmp, Strlen, Putchar, Puts, Getchar, Read, Write, Exit, Abort, LlvmMemcpy, LlvmMemmove, LlvmMemset, LifetimeStart, LifetimeEnd, Printf}
 use Rattle.ms_runs.specs.World.{World, Setting, Effect, Gives, Does, Goes, Enters, Leaves, Ends, then_does}
 use Rattle.ms_ir.specs.Layout.{stored_size, size_in}
 use Rattle.ms_runs.specs.Memory.{is_good, heap_size, set_shadow}
 use Rattle.ms_bits.specs.Maps.{byte_of}
 use Rattle.ms_ir.specs.Code.{external_named}
-use Rattle.ms_runs.specs.Origins.{Chained, keeps_old, pair_index, chain, check, check_byte, count_blind, poison, copy_planes, fill_planes, mark_cells, store_origin}
+use Rattle.ms_runs.specs.Origins.{Chained, keeps_old, pair_index, chain, check, check_byte, asks_string_at, count_blind, poison, copy_planes, fill_planes, mark_cells, store_origin}
 use Rattle.ms_runs.specs.Poisoned.{Poisoned}
 use Rattle.ms_runs.specs.Masks.{word_at}
-use Rattle.ms_runs.specs.Uses.{Use, Word, Bytes, Line, check_use, check_uses}
+use Rattle.ms_runs.specs.Uses.{Use, Word, Bytes, Line, Asked, check_use, check_uses}
 use Rattle.ms_runs.specs.Shadow.{external_planes, callee_planes, planes}
 use Rattle.ms_runs_laws.proofs.PlainPart.{bare}
 
@@ -86,6 +86,7 @@ external_shows s site root LlvmMemmove ps before x w = copy_shows ((word_at 0 ps
 external_shows s site root LlvmMemset ps before x w = fill_shows s ((word_at 0 ps).value) ((word_at 2 ps).value) ((word_at 1 ps).mask) ((word_at 1 ps).origin) site w
 external_shows s site root LifetimeStart ps before x w = poison_shows ((word_at 1 ps).value) 0 ((word_at 0 ps).value) root w
 external_shows s site root LifetimeEnd ps before x w = here w
+external_shows s site root Printf ps before x w = here w
 
 callee_shows : (s : Setting) (site root : ℕ) (e : Option External) (ps : List Poisoned) (before : World) (x : ℕ) (w : World) → Shows w (callee_planes s site root e ps before x w)
 callee_shows s site root None ps before x w = here w
@@ -137,6 +138,7 @@ use_passes : (s : Setting) (site : ℕ) (os : List (Ty × Operand)) (ps : List P
 use_passes s site os ps (Word kind k) w = check_passes s _ _ _ kind k site w
 use_passes s site os ps (Bytes kind a n) w = pass_if w (is_good w (word_at a ps).value (word_at n ps).value) _ _ (byte_passes s kind site _ _ w) (here w)
 use_passes s site os ps (Line a) w = byte_passes s 10 site _ _ w
+use_passes s site os ps (Asked a) w = pass_if w (asks_string_at w (word_at 0 ps).value a) _ _ (byte_passes s 10 site _ _ w) (here w)
 
 pub uses_pass : (s : Setting) (site : ℕ) (os : List (Ty × Operand)) (ps : List Poisoned) (us : List Use) (w : World) → Passes w (check_uses s site os ps us w)
 uses_pass s site os ps [] w = here w

@@ -6,7 +6,7 @@ use Rattle.ms_runs.specs.declared.runs.RunResult.{RunResult}
 use Rattle.ms_ir.specs.declared.calls.RuntimeFn.{RuntimeFn}
 use Rattle.ms_runs.specs.World.{World, Setting, Effect, Does, Gives}
 use Rattle.ms_runs.specs.Memory.{is_good, set_shadow, set_cells}
-use Rattle.ms_runs.specs.Origins.{Chained, chain, keeps_old, pair_index, check_byte, check_memory, unpoison, fill_planes, store_origin, mark_cells}
+use Rattle.ms_runs.specs.Origins.{Chained, chain, keeps_old, pair_index, check_byte, check_memory, check_string, asks_string_at, check_format, unpoison, fill_planes, store_origin, mark_cells}
 use Rattle.ms_depot.specs.Depots.{DepotState, IsChained}
 use Rattle.ms_host.specs.declared.calls.Answer.{Answer}
 use Rattle.ms_host.specs.declared.calls.Answer.TheVariants.{Resumed}
@@ -52,6 +52,16 @@ pub memory-good : (setting : Setting) (w : WorldState) (world : World) (d : Depo
     Served (check_byte setting kind site a (first_nonzero world.shadow a n) world) answer w d told → Served (check_memory setting a n kind site world) answer w d told
 memory-good setting w world d told answer a n kind site good served =
     subst (λ (b : Bool). Served (if b then check_byte setting kind site a (first_nonzero world.shadow a n) world else Does world) answer w d told) (sym good) served
+
+-- ---- checks of strings that a format asks for
+
+pub format-skips : (setting : Setting) (w : WorldState) (beside : Beside) (world : World) (d : DepotState) (told : RunResult) (format index a site : ℕ) → asks_string_at world format index ≡ false → IsBeside d told beside → Shows w beside world →
+    Served (check_format setting format index a site world) (Resumed None) w d told
+format-skips setting w beside world d told format index a site none kept shows =
+    subst (λ (b : Bool). Served (if b then check_string setting a site world else Does world) (Resumed None) w d told) (sym none) (beside, (kept, shows))
+
+pub format-checks : (P : Effect → Type 0) (setting : Setting) (world : World) (format index a site : ℕ) → asks_string_at world format index ≡ true → P (check_string setting a site world) → P (check_format setting format index a site world)
+format-checks P setting world format index a site asks h = subst (λ (b : Bool). P (if b then check_string setting a site world else Does world)) (sym asks) h
 
 -- ---- chained origins
 

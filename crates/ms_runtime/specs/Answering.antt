@@ -8,6 +8,7 @@ use Rattle.ms_host.specs.Answers.{Answered, asked_effect}
 use Rattle.ms_host.specs.declared.calls.Answer.{Answer}
 use Rattle.ms_host.specs.declared.calls.Answer.TheVariants as answer
 use Rattle.ms_host.specs.declared.calls.HostCall.{HostCall}
+use Rattle.ms_machine_steps.specs.Waiting.{types_due}
 use Rattle.ms_runtime.specs.declared.runs.Running.{Running}
 use Rattle.ms_runtime.specs.Served.{IsBeside}
 
@@ -20,7 +21,7 @@ HasRoom u (answer.Ended e) r = Unit {0}
 pub record AnsweredFor (m : Module) (u : Setup) (call : HostCall) (within : PlainState) (a : Answer) (before after : Running) : Type 0 where
   pub beside : Beside
   pub told : IsBeside after.depot after.told beside
-  pub answered : Answered beside (asked_effect (setting_of m u) call within.world) a after.world
+  pub answered : Answered beside (asked_effect (setting_of m u) (types_due m within.frames) call within.world) a after.world
   pub few : HasRoom u a after
   pub blind : after.told.blind ≤ before.told.blind + 1
   pub roots : after.depot.roots ≡ before.depot.roots

@@ -66,4 +66,5 @@ abbrev pub IsCheck : RuntimeFn → Type 0
 IsCheck function.Check = Unit {0}
 IsCheck function.CheckMemory = Unit {0}
 IsCheck function.CheckString = Unit {0}
+IsCheck function.CheckFormat = Unit {0}
 IsCheck _ = ⊥

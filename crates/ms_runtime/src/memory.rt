@@ -1,7 +1,7 @@
 //! The runtime functions on the shadow and the origins of memory, each on the words of its arguments.
 ghost use Rattle.std.specs.Prelude.{◌≡◌, ◌≢◌, ◌<◌, None, length, IfOk, OnOk, IsTrue};
 ghost use Rattle.ms_alloc.specs.Allocations.{is_good as is_live};
-ghost use Rattle.ms_ir.specs.declared.calls.RuntimeFn.TheVariants.{CheckMemory, CheckString, Poison, Unpoison, Copy, Fill, StoreOrigin, LoadOrigin, Size};
+ghost use Rattle.ms_ir.specs.declared.calls.RuntimeFn.TheVariants.{CheckMemory, CheckString, CheckFormat, Poison, Unpoison, Copy, Fill, StoreOrigin, LoadOrigin, Size};
 ghost use Rattle.ms_runs.specs.World.{World as Meant, Setting, Does, Gives};
 ghost use Rattle.ms_runs.specs.Memory.{set_cells, set_shadow};
 ghost use Rattle.ms_runs.specs.Origins.{chain, mark_cells};
@@ -15,6 +15,7 @@ use crate::reports::check_byte;
 use ms_bits::NoMemory;
 use ms_depot::Depot;
 use ms_host::{Answer, World};
+use ms_printf::asks_string;
 use ms_runs::RunResult;
 use std::alloc::Global;
 
@@ -68,6 +69,34 @@ pub(crate) fn check_string(
     let found = world.first_poisoned_in_string(start);
     let answer = check_byte(alloc, depot, told, limit, found, STRING, site)?;
     Ok(answer)
+}
+
+/// `__msan_check_format`: the check of a string, where the format at an address asks for a string by its directive of an
+/// argument; it does nothing elsewhere.
+pub(crate) fn check_format(
+    alloc: Global,
+    args: &[u64],
+    world: &World,
+    depot: &Depot,
+    told: &mut RunResult,
+    limit: u32,
+) -> Result<Answer, NoMemory>
+    requires fits { Fits CheckFormat args.now }
+    requires few { length told.old.reports < limit }
+    ensures served { (setting : Setting) (beside : Beside) (meant : Meant) → IsFor setting depot.now.roots limit → IsBeside depot.now told.old beside → Shows world.now beside meant → IfOk result (λ a. Served (runtime setting CheckFormat args.now meant) a world.now depot.now told.new) }
+    ensures within { IfOk result (λ a. IsWithin limit told.new a) }
+    ensures told { TellsMore told.old told.new }
+{
+    let format = word(args, 0);
+    let index = word(args, 1);
+    let start = word(args, 2);
+    let site = small(args, 3);
+    let asks = asks_string(alloc, world, format, index)?;
+    if !asks {
+        return Ok(Answer::Resumed(None));
+    }
+    let found = world.first_poisoned_in_string(start);
+    check_byte(alloc, depot, told, limit, found, STRING, site)
 }
 
 /// `__msan_poison`: bytes of a range that is good become uninitialised, with an origin.

@@ -4,7 +4,6 @@ ghost use Rattle.ms_ir.specs.declared.syntax.Module.{Module as ModuleOf};
 ghost use Rattle.ms_runs.specs.declared.runs.Setup.{Setup as SetupOf};
 ghost use Rattle.ms_runs.specs.Limits.{WithinLimits};
 ghost use Rattle.ms_runs.specs.Plain.{plain};
-ghost use Rattle.ms_valid.specs.Valid.{Valid};
 ghost use Rattle.ms_host.specs.Answers.{Answered};
 ghost use Rattle.ms_runtime.specs.Going.{Going, Asking, Over, Turned, IsGoing, IsAsking, ahead};
 ghost use Rattle.ms_runtime.specs.Answering.{AnsweredFor};
@@ -14,9 +13,10 @@ use ms_bits::{Bytes, List, NoMemory};
 use ms_check::CheckedModule;
 use ms_depot::Depot;
 use ms_host::{Answer, Asked, HostCall, World, answer};
-use ms_ir::roots;
+use ms_ir::{External, roots};
 use ms_machine::{advance, resume, start};
 use ms_machine_steps::{Budget, Fiber, Pause};
+use ms_printf::answer_printf;
 use ms_runs::{End, RunResult, Setup};
 use std::alloc::Global;
 
@@ -36,13 +36,18 @@ impl Running {
     fn answer_of(
         &mut self,
         alloc: Global,
+        m: &CheckedModule,
         call: &HostCall,
         reports: u32,
     ) -> Result<Answer, NoMemory>
-        requires asking { (m : ModuleOf) × (Valid m × IsAsking m reports call.now self.old) }
-        ensures answered { (m : ModuleOf) (u : SetupOf) → u.reports ≡ reports → (q : Asking m u call.now self.old) → IfOk result (λ a. AnsweredFor m u call.now q.within a self.old self.new) }
+        requires asking { IsAsking m.now reports call.now self.old }
+        ensures answered { (u : SetupOf) → u.reports ≡ reports → (q : Asking m.now u call.now self.old) → IfOk result (λ a. AnsweredFor m.now u call.now q.within a self.old self.new) }
     {
+        m.is_valid();
         match call.asked {
+            Asked::External(External::Printf) => {
+                answer_printf(alloc, m.module(), call, &mut self.world)
+            }
             Asked::External(_) => answer(call, &mut self.world),
             Asked::Runtime(_) => serve(
                 alloc,
@@ -68,7 +73,7 @@ impl Running {
     {
         m.is_valid();
         let _code = m.program();
-        match self.answer_of(alloc, &call, reports)? {
+        match self.answer_of(alloc, m, &call, reports)? {
             Answer::Ended(end) => Ok(Some(end)),
             Answer::Resumed(value) => {
                 resume(m, &mut self.fiber, value);
@@ -133,7 +138,8 @@ fn begun(alloc: Global, m: &CheckedModule, setup: &Setup) -> Result<Running, NoM
 
 /// Runs a checked module. Ok is what its plain run answers; the one error is want of memory.
 ///
-/// A step takes as long in a large module as in a small one.
+/// A step takes as long in a large module as in a small one, except for a call of `printf`: the types of its arguments are
+/// looked up in the module.
 pub fn run(alloc: Global, m: &CheckedModule, setup: &Setup) -> Result<RunResult, NoMemory>
     requires limits { WithinLimits setup.now }
     ensures { IfOk result (λ r. r ≡ plain m.now setup.now) }

@@ -1,5 +1,6 @@
 //! A call of a runtime function, answered.
-ghost use Rattle.std.specs.Prelude.{◌≡◌, ◌<◌, length, IfOk};
+ghost use Rattle.std.specs.Prelude.{List, ◌≡◌, ◌<◌, length, IfOk};
+ghost use Rattle.ms_ir.specs.declared.syntax.Ty.{Ty};
 ghost use Rattle.ms_runs.specs.World.{World as Meant, Setting};
 ghost use Rattle.ms_runs.specs.Runtime.{runtime};
 ghost use Rattle.ms_host.specs.State.{Beside, Keeps};
@@ -9,7 +10,8 @@ ghost use Rattle.ms_runtime.specs.Served.{IsFor, IsBeside, Served, IsWithin, Tel
 
 use crate::arguments::{use_of, word};
 use crate::memory::{
-    check_memory, check_string, copy, fill, load_origin, poison, size, store_origin, unpoison,
+    check_format, check_memory, check_string, copy, fill, load_origin, poison, size, store_origin,
+    unpoison,
 };
 use crate::reports::{check, count_blind};
 use ms_bits::NoMemory;
@@ -33,7 +35,7 @@ pub fn serve(
 ) -> Result<Answer, NoMemory>
     requires fits { FitsAsked call.now.asked call.now.args }
     requires few { length told.old.reports < limit }
-    ensures served { (setting : Setting) (beside : Beside) (meant : Meant) → IsFor setting depot.old.roots limit → IsBeside depot.old told.old beside → Shows world.old beside meant → IfOk result (λ a. Served (asked_effect setting call.now meant) a world.new depot.new told.new) }
+    ensures served { (setting : Setting) (types : List Ty) (beside : Beside) (meant : Meant) → IsFor setting depot.old.roots limit → IsBeside depot.old told.old beside → Shows world.old beside meant → IfOk result (λ a. Served (asked_effect setting types call.now meant) a world.new depot.new told.new) }
     ensures within { IfOk result (λ a. IsWithin limit told.new a) }
     ensures told { TellsMore told.old told.new }
     ensures roots { depot.new.roots ≡ depot.old.roots }
@@ -46,7 +48,7 @@ pub fn serve(
     let args = call.args.as_slice();
     if matches!(
         function,
-        RuntimeFn::Check | RuntimeFn::CheckMemory | RuntimeFn::CheckString
+        RuntimeFn::Check | RuntimeFn::CheckMemory | RuntimeFn::CheckString | RuntimeFn::CheckFormat
     ) {
         return report(alloc, function, args, world, depot, told, limit);
     }
@@ -54,7 +56,7 @@ pub fn serve(
     Ok(Answer::Resumed(value))
 }
 
-/// What one of the three checks comes to.
+/// What one of the four checks comes to.
 fn report(
     alloc: Global,
     function: RuntimeFn,
@@ -74,6 +76,7 @@ fn report(
     match function {
         RuntimeFn::CheckMemory => return check_memory(alloc, args, world, depot, told, limit),
         RuntimeFn::CheckString => return check_string(alloc, args, world, depot, told, limit),
+        RuntimeFn::CheckFormat => return check_format(alloc, args, world, depot, told, limit),
         RuntimeFn::Check => {
             let used = use_of(args);
             return check(alloc, depot, told, limit, &used);

@@ -178,7 +178,7 @@ module _ (s : Setting) (env : Env) (size saved next : ℕ) (h : Here) (values : 
             (ap (λ l. do_tasks s at l (record { names = names; slots = cells }) w) (call_tasks r)
             ∙ ap₂ (λ k o. do_tasks s at (callee_tasks env h.site root saved r ret k o (tracked env h.root args)) (record { names = names; slots = cells }) w) no_own named
             ∙ external_done s at h.site root saved st.ranged.site x names cells (tracked env h.root args) ps holds r e
-            (λ u. roots u (roots_small s env size saved h i st)) (λ k. width_at env h.root args k ∙ ap (λ l. get_or l k 64) fits.0) fits.1 answered small before w size_saved
+            (λ u. roots u (roots_small s env size saved h i st)) (map (λ a. a.0) args) (λ k. width_at env h.root args k ∙ ap (λ l. get_or l k 64) fits.0) fits.1 answered small before w size_saved
             (block_less before.allocs (word_at 0 ps).value rn.placed)
             ∙ ap (λ z. Went (record { names = names; slots = cells }) z) (sym planes_are)) after m;
         quiet = λ f. planes_alike s h.site root e ps before x w f ∙ ap (result_of f) (sym planes_are);
@@ -206,24 +206,24 @@ module _ (s : Setting) (env : Env) (size saved next : ℕ) (h : Here) (values : 
       → (o : Option ℕ) → s.func callee ≡ o → (e : Option External) → external_named s.func callee ≡ e
       → AfterLaw s env saved next h (record { op = op.Call ret callee args; result = r; marked = b }) values after before x (set_result names r x) w
   called_gives b r ret callee args before x w names after st le rn rv same apart size_saved acts m (Some f) no_own e named =
-      absurd (enters_gives (sym (ap₂ (λ o e. elim o [ Some f ↦ Enters f before | None ↦ elim e [ Some y ↦ external s h.site y (map (λ p. p.value) (read_all (read_poisoned s values) args h.root)) before | None ↦ Ends stuck before ] ]) no_own named) ∙ acts))
+      absurd (enters_gives (sym (ap₂ (λ o e. elim o [ Some f ↦ Enters f before | None ↦ elim e [ Some y ↦ external s h.site y (map (λ a. a.0) args) (map (λ p. p.value) (read_all (read_poisoned s values) args h.root)) before | None ↦ Ends stuck before ] ]) no_own named) ∙ acts))
     where
       enters_gives : Enters f before ≡ Gives x w → ⊥
       enters_gives q = grind arith
   called_gives b r ret callee args before x w names after st le rn rv same apart size_saved acts m None no_own None named =
-      absurd (ends_gives (sym (ap₂ (λ o e. elim o [ Some f ↦ Enters f before | None ↦ elim e [ Some y ↦ external s h.site y (map (λ p. p.value) (read_all (read_poisoned s values) args h.root)) before | None ↦ Ends stuck before ] ]) no_own named) ∙ acts))
+      absurd (ends_gives (sym (ap₂ (λ o e. elim o [ Some f ↦ Enters f before | None ↦ elim e [ Some y ↦ external s h.site y (map (λ a. a.0) args) (map (λ p. p.value) (read_all (read_poisoned s values) args h.root)) before | None ↦ Ends stuck before ] ]) no_own named) ∙ acts))
     where
       ends_gives : Ends stuck before ≡ Gives x w → ⊥
       ends_gives q = grind arith
   called_gives b r ret callee args before x w names after st le rn rv same apart size_saved acts m None no_own (Some e) named =
       let ps = read_all (read_poisoned s values) args h.root in
-      let does : external s h.site e (map (λ p. p.value) ps) before ≡ Gives x w =
-      sym (ap₂ (λ o e. elim o [ Some f ↦ Enters f before | None ↦ elim e [ Some y ↦ external s h.site y (map (λ p. p.value) ps) before | None ↦ Ends stuck before ] ]) no_own named) ∙ acts in
+      let does : external s h.site e (map (λ a. a.0) args) (map (λ p. p.value) ps) before ≡ Gives x w =
+      sym (ap₂ (λ o e. elim o [ Some f ↦ Enters f before | None ↦ elim e [ Some y ↦ external s h.site y (map (λ a. a.0) args) (map (λ p. p.value) ps) before | None ↦ Ends stuck before ] ]) no_own named) ∙ acts in
       let p = poisoned_result by_formulas (op.Call ret callee args) ps x w in
       set_behind b r ret callee args e before x w (set_result names r x) after st le rn (ap is_some no_own) named
       (holds_behind s env size values r p (set_result names r x) (subst (λ f. Matches env f (set_result names r x)) same m) (ranged_result r rv)
       args h.root apart st.known.reads (few_undefs s env size saved h (record { op = op.Call ret callee args; result = r; marked = b }) st))
-      (λ y q. here r y q) (answers_less s h.site e (map (λ p. p.value) ps) before (value_less s env size values args h.root st.known.reads 2) x w does)
+      (λ y q. here r y q) (answers_less s h.site e (map (λ a. a.0) args) (map (λ p. p.value) ps) before (value_less s env size values args h.root st.known.reads 2) x w does)
       (saved_kept r st.known.named e (subst (λ o. SavedSize o saved ps before names) named size_saved)) m
     where
       here : (r : Option Name) (y : Name) → r ≡ Some y → set_result names r x y ≡ x
@@ -302,26 +302,26 @@ module _ (s : Setting) (env : Env) (size saved next : ℕ) (h : Here) (values : 
       → (o : Option ℕ) → s.func callee ≡ o → (e : Option External) → external_named s.func callee ≡ e
       → AfterLaw s env saved next h (record { op = op.Call ret callee args; result = r; marked = b }) values values before 0 names w
   called_does b r ret callee args before w names st le rn rv size_saved acts m (Some f) no_own e named =
-      absurd (enters_does (sym (ap₂ (λ o e. elim o [ Some f ↦ Enters f before | None ↦ elim e [ Some y ↦ external s h.site y (map (λ p. p.value) (read_all (read_poisoned s values) args h.root)) before | None ↦ Ends stuck before ] ]) no_own named) ∙ acts))
+      absurd (enters_does (sym (ap₂ (λ o e. elim o [ Some f ↦ Enters f before | None ↦ elim e [ Some y ↦ external s h.site y (map (λ a. a.0) args) (map (λ p. p.value) (read_all (read_poisoned s values) args h.root)) before | None ↦ Ends stuck before ] ]) no_own named) ∙ acts))
     where
       enters_does : Enters f before ≡ Does w → ⊥
       enters_does q = grind arith
   called_does b r ret callee args before w names st le rn rv size_saved acts m None no_own None named =
-      absurd (ends_does (sym (ap₂ (λ o e. elim o [ Some f ↦ Enters f before | None ↦ elim e [ Some y ↦ external s h.site y (map (λ p. p.value) (read_all (read_poisoned s values) args h.root)) before | None ↦ Ends stuck before ] ]) no_own named) ∙ acts))
+      absurd (ends_does (sym (ap₂ (λ o e. elim o [ Some f ↦ Enters f before | None ↦ elim e [ Some y ↦ external s h.site y (map (λ a. a.0) args) (map (λ p. p.value) (read_all (read_poisoned s values) args h.root)) before | None ↦ Ends stuck before ] ]) no_own named) ∙ acts))
     where
       ends_does : Ends stuck before ≡ Does w → ⊥
       ends_does q = grind arith
   called_does b r ret callee args before w names st le rn rv size_saved acts m None no_own (Some e) named =
       let ps = read_all (read_poisoned s values) args h.root in
-      let does : external s h.site e (map (λ p. p.value) ps) before ≡ Does w =
-      sym (ap₂ (λ o e. elim o [ Some f ↦ Enters f before | None ↦ elim e [ Some y ↦ external s h.site y (map (λ p. p.value) ps) before | None ↦ Ends stuck before ] ]) no_own named) ∙ acts in
+      let does : external s h.site e (map (λ a. a.0) args) (map (λ p. p.value) ps) before ≡ Does w =
+      sym (ap₂ (λ o e. elim o [ Some f ↦ Enters f before | None ↦ elim e [ Some y ↦ external s h.site y (map (λ a. a.0) args) (map (λ p. p.value) ps) before | None ↦ Ends stuck before ] ]) no_own named) ∙ acts in
       set_behind b r ret callee args e before 0 w names values st le rn (ap is_some no_own) named
       (tracked_holds s env size values names m rv args h.root st.known.reads (few_undefs s env size saved h (record { op = op.Call ret callee args; result = r; marked = b }) st))
       (λ y q. absurd (none_of r (subst (λ o. FitsCallee o r args) named st.known.built.0).1 does y q)) (zero_small e) (subst (λ o. SavedSize o saved ps before names) named size_saved) m
     where
-      none_of : (r : Option Name) → HasResult e r → external s h.site e (map (λ p. p.value) (read_all (read_poisoned s values) args h.root)) before ≡ Does w → (y : Name) → r ≡ Some y → ⊥
+      none_of : (r : Option Name) → HasResult e r → external s h.site e (map (λ a. a.0) args) (map (λ p. p.value) (read_all (read_poisoned s values) args h.root)) before ≡ Does w → (y : Name) → r ≡ Some y → ⊥
       none_of None k q y g = grind arith
-      none_of (Some z) k q y g = external_goes s h.site e (map (λ p. p.value) (read_all (read_poisoned s values) args h.root)) before k (subst GoesOn (sym q) tt)
+      none_of (Some z) k q y g = external_goes s h.site e (map (λ a. a.0) args) (map (λ p. p.value) (read_all (read_poisoned s values) args h.root)) before k (subst GoesOn (sym q) tt)
 
       zero_small : (e : External) → IsSmall e 0
       zero_small Malloc = omega arith

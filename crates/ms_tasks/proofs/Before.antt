@@ -1,9 +1,10 @@
 -- The law of what is inserted before an instruction.
 use Rattle.std.proofs.Common.{◌≡◌, ℕ, zero, suc, ◌+◌, ◌^◌, ◌<◌, ◌≤◌, List, [], ◌∷◌, ◌++◌, length, refl, sym, ap, ◌∙◌, subst, arith, Bool, true, false, Option, Some, None}
-use Rattle.std.specs.Prelude.{◌-◌, ◌/◌, if◌then◌else◌, map, eqb, leb, get_or, is_some, unwrap_or}
+use Rattle.std.specs.Prelude.{◌-◌, ◌/◌, if◌then◌else◌, map, drop, eqb, leb, get_or, is_some, unwrap_or}
 use Rattle.ms_bits.specs.declared.operations.BinOp.TheVariants as binary
 use Rattle.ms_ir.specs.declared.syntax.Name.{Name}
-use Rattle.ms_ir.specs.declared.syntax.Ty.{Ty}
+use Rattle.ms_ir.specs.declared.syntax.Ty.{Ty, Ptr}
+use Rattle.ms_ir.specs.Equal.{type_eq}
 use Rattle.ms_ir.specs.declared.syntax.Operand.{Operand}
 use Rattle.ms_ir.specs.declared.syntax.Op.{Op}
 use Rattle.ms_ir.specs.declared.syntax.Op.TheVariants as op
@@ -14,14 +15,14 @@ use Rattle.ms_runs.specs.declared.runs.Report.{Report}
 use Rattle.ms_ir.specs.Names.{name_eq}
 use Rattle.ms_ir.specs.Layout.{width_of}
 use Rattle.ms_runs.specs.World.{World, Setting, Here, Effect, Gives, Does, Goes, Enters, Leaves, Ends, then_does}
-use Rattle.ms_runs.specs.Origins.{check, check_byte, check_memory, add_report, trail, count_blind, first_in_string}
+use Rattle.ms_runs.specs.Origins.{check, check_byte, check_memory, check_string, asks_string_at, add_report, trail, count_blind, first_in_string}
 use Rattle.ms_runs.specs.Memory.{bytes_left, is_good, heap_size}
 use Rattle.ms_runs.specs.Act.{operand_word}
 use Rattle.ms_ir.specs.Code.{operands, one_undef, count_undefs, external_named}
 use Rattle.ms_runs.specs.Control.{read_all, with_value}
 use Rattle.ms_runs.specs.Poisoned.{Poisoned}
 use Rattle.ms_runs.specs.Masks.{by_formulas, union, word_at}
-use Rattle.ms_runs.specs.Uses.{Use, Word, Bytes, Line, uses, type_at, check_use, check_uses, external_uses, callee_uses}
+use Rattle.ms_runs.specs.Uses.{Use, Word, Bytes, Line, Asked, uses, type_at, check_use, check_uses, value_uses, string_uses, external_uses, callee_uses}
 use Rattle.ms_runs.specs.Shadow.{read_poisoned, poisoned_result}
 use Rattle.ms_tasks.specs.Tasks.{msan_name, Task, target, parts}
 use Rattle.ms_tasks.specs.Meaning.{Values, Reach, Went, Over, Reaches, Same, Below, run_marked, do_tasks, set_result, marked_next, task_slots, task_effect, evaluate_all}
@@ -42,7 +43,7 @@ use Rattle.ms_tasks.proofs.CheckTasks.{AreFit, check_on, checks_done}
 use Rattle.ms_tasks.proofs.Externals.{width_at}
 use Rattle.ms_tasks.proofs.Slots.{HandDone, hand_done, given_all}
 use Rattle.ms_ir.specs.declared.calls.External.{External}
-use Rattle.ms_ir.specs.declared.calls.External.TheVariants.{Malloc, Calloc, Realloc, Free, Memcpy, Memmove, Memset, Memcmp, Strlen, Putchar, Puts, Getchar, Read, Write, Exit, Abort, LlvmMemcpy, LlvmMemmove, LlvmMemset, LifetimeStart, LifetimeEnd}
+use Rattle.ms_ir.specs.declared.calls.External.TheVariants.{Malloc, Calloc, Realloc, Free, Memcpy, Memmove, Memset, Memcmp, Strlen, Putchar, Puts, Getchar, Read, Write, Exit, Abort, LlvmMemcpy, LlvmMemmove, LlvmMemset, LifetimeStart, LifetimeEnd, Printf}
 use Rattle.ms_bits.specs.Maps.{first_nonzero}
 use Rattle.ms_tasks.proofs.BlindTasks.{blinded_same, masks_hold, masks_blinded, blind_done}
 use Rattle.ms_tasks.proofs.Defined.{Defined, Fine, Fails}
@@ -63,32 +64,75 @@ tracked_narrow env size root (o ∷ os) known (suc k) = tracked_narrow env size 
 
 -- ---- the checks of what is built
 
-external_fit : (ts : List Tracked) (e : External) → ((k : ℕ) → width_of (tracked_at k ts).ty ≡ get_or (external_widths e) k 64) → AreFit ts (external_uses e)
-external_fit ts Malloc w = (omega arith, omega arith, tt)
-external_fit ts Calloc w = (omega arith, omega arith, (omega arith, omega arith, tt))
-external_fit ts Realloc w = (omega arith, omega arith, (omega arith, omega arith, tt))
-external_fit ts Free w = (omega arith, omega arith, tt)
-external_fit ts Memcpy w = (omega arith, omega arith, (omega arith, omega arith, (omega arith, omega arith, tt)))
-external_fit ts Memmove w = (omega arith, omega arith, (omega arith, omega arith, (omega arith, omega arith, tt)))
-external_fit ts Memset w = (omega arith, omega arith, (omega arith, omega arith, tt))
-external_fit ts Memcmp w = (omega arith, omega arith, (omega arith, omega arith, (omega arith, omega arith, (omega arith, w 0, w 2, (omega arith, w 1, w 2, tt)))))
-external_fit ts Strlen w = (omega arith, omega arith, (w 0, tt))
-external_fit ts Putchar w = (omega arith, omega arith, tt)
-external_fit ts Puts w = (omega arith, omega arith, (w 0, tt))
-external_fit ts Getchar w = tt
-external_fit ts Read w = (omega arith, omega arith, (omega arith, omega arith, (omega arith, omega arith, tt)))
-external_fit ts Write w = (omega arith, omega arith, (omega arith, omega arith, (omega arith, omega arith, (omega arith, w 1, w 2, tt))))
-external_fit ts Exit w = (omega arith, omega arith, tt)
-external_fit ts Abort w = tt
-external_fit ts LlvmMemcpy w = (omega arith, omega arith, (omega arith, omega arith, (omega arith, omega arith, tt)))
-external_fit ts LlvmMemmove w = (omega arith, omega arith, (omega arith, omega arith, (omega arith, omega arith, tt)))
-external_fit ts LlvmMemset w = (omega arith, omega arith, (omega arith, omega arith, tt))
-external_fit ts LifetimeStart w = (omega arith, omega arith, (omega arith, omega arith, tt))
-external_fit ts LifetimeEnd w = (omega arith, omega arith, (omega arith, omega arith, tt))
+-- those of the arguments of `printf`, whose numbers are small
+values_fit : (ts : List Tracked) (k : ℕ) (args : List (Ty × Operand)) (us : List Use) → k + length args < 2 ^ 32 → AreFit ts us → AreFit ts (value_uses k args ++ us)
+values_fit ts k [] us l h = h
+values_fit ts k (a ∷ args) us l h = (omega arith, omega (arith, l), values_fit ts (suc k) args us (omega (arith, l)) h)
 
-callee_fit : (env : Env) (root : ℕ) (x : Option Name) (args : List (Ty × Operand)) (e : Option External) → FitsCallee e x args → AreFit (tracked env root args) (callee_uses e)
+-- a pointer among them has 64 bits
+strings_fit : (ts : List Tracked) (k : ℕ) (args : List (Ty × Operand)) → k + length args < 2 ^ 32 → width_of (tracked_at 0 ts).ty ≡ 64
+    → ((j : ℕ) → width_of (tracked_at (k + j) ts).ty ≡ get_or (map (λ a. width_of a.0) args) j 64) → AreFit ts (string_uses k args)
+strings_fit ts k [] l f w = tt
+strings_fit ts k (a ∷ args) l f w =
+    by_type a.0 first (strings_fit ts (suc k) args (omega (arith, l)) f (λ j. subst (λ n. width_of (tracked_at n ts).ty ≡ get_or (map (λ b. width_of b.0) args) j 64) (moved k j) (w (suc j))))
+  where
+    moved : (m j : ℕ) → m + suc j ≡ suc m + j
+    moved m j = omega arith
+
+    none : (m : ℕ) → m + 0 ≡ m
+    none m = omega arith
+
+    first : width_of (tracked_at k ts).ty ≡ width_of a.0
+    first = subst (λ n. width_of (tracked_at n ts).ty ≡ width_of a.0) (none k) (w 0)
+
+    by_type : (t : Ty) → width_of (tracked_at k ts).ty ≡ width_of t → AreFit ts (string_uses (suc k) args)
+        → AreFit ts (if type_eq t Ptr then Asked k ∷ string_uses (suc k) args else string_uses (suc k) args)
+    by_type Ptr e later = (f, e, omega (arith, l), later)
+    by_type t e later = later
+
+external_fit : (ts : List Tracked) (e : External) (args : List (Ty × Operand)) → length args < 2 ^ 32
+    → ((k : ℕ) → width_of (tracked_at k ts).ty ≡ get_or (external_widths e (map (λ a. a.0) args)) k 64) → AreFit ts (external_uses e args)
+external_fit ts Malloc args l w = (omega arith, omega arith, tt)
+external_fit ts Calloc args l w = (omega arith, omega arith, (omega arith, omega arith, tt))
+external_fit ts Realloc args l w = (omega arith, omega arith, (omega arith, omega arith, tt))
+external_fit ts Free args l w = (omega arith, omega arith, tt)
+external_fit ts Memcpy args l w = (omega arith, omega arith, (omega arith, omega arith, (omega arith, omega arith, tt)))
+external_fit ts Memmove args l w = (omega arith, omega arith, (omega arith, omega arith, (omega arith, omega arith, tt)))
+external_fit ts Memset args l w = (omega arith, omega arith, (omega arith, omega arith, tt))
+external_fit ts Memcmp args l w = (omega arith, omega arith, (omega arith, omega arith, (omega arith, omega arith, (omega arith, w 0, w 2, (omega arith, w 1, w 2, tt)))))
+external_fit ts Strlen args l w = (omega arith, omega arith, (w 0, tt))
+external_fit ts Putchar args l w = (omega arith, omega arith, tt)
+external_fit ts Puts args l w = (omega arith, omega arith, (w 0, tt))
+external_fit ts Getchar args l w = tt
+external_fit ts Read args l w = (omega arith, omega arith, (omega arith, omega arith, (omega arith, omega arith, tt)))
+external_fit ts Write args l w = (omega arith, omega arith, (omega arith, omega arith, (omega arith, omega arith, (omega arith, w 1, w 2, tt))))
+external_fit ts Exit args l w = (omega arith, omega arith, tt)
+external_fit ts Abort args l w = tt
+external_fit ts LlvmMemcpy args l w = (omega arith, omega arith, (omega arith, omega arith, (omega arith, omega arith, tt)))
+external_fit ts LlvmMemmove args l w = (omega arith, omega arith, (omega arith, omega arith, (omega arith, omega arith, tt)))
+external_fit ts LlvmMemset args l w = (omega arith, omega arith, (omega arith, omega arith, tt))
+external_fit ts LifetimeStart args l w = (omega arith, omega arith, (omega arith, omega arith, tt))
+external_fit ts LifetimeEnd args l w = (omega arith, omega arith, (omega arith, omega arith, tt))
+external_fit ts Printf args l w = (omega arith, omega arith, (w 0, values_fit ts 1 (drop 1 args) (string_uses 1 (drop 1 args)) (fewer args l) (strings_fit ts 1 (drop 1 args) (fewer args l) (w 0) (λ j. subst (λ n. width_of (tracked_at n ts).ty ≡ get_or (map (λ a. width_of a.0) (drop 1 args)) j 64) (next j) (w (suc j) ∙ ap (λ ws. get_or ws j 64) (widths args))))))
+  where
+    next : (j : ℕ) → suc j ≡ 1 + j
+    next j = omega arith
+
+    fewer : (args : List (Ty × Operand)) → length args < 2 ^ 32 → 1 + length (drop 1 args) < 2 ^ 32
+    fewer [] l = omega arith
+    fewer (a ∷ rest) l = omega (arith, l)
+
+    widths : (args : List (Ty × Operand)) → map width_of (drop 1 (map (λ a. a.0) args)) ≡ map (λ a. width_of a.0) (drop 1 args)
+    widths [] = refl
+    widths (a ∷ rest) = all rest
+      where
+        all : (rest : List (Ty × Operand)) → map width_of (map (λ a. a.0) rest) ≡ map (λ a. width_of a.0) rest
+        all [] = refl
+        all (b ∷ rest) = ap (λ ws. width_of b.0 ∷ ws) (all rest)
+
+callee_fit : (env : Env) (root : ℕ) (x : Option Name) (args : List (Ty × Operand)) (e : Option External) → FitsCallee e x args → AreFit (tracked env root args) (callee_uses e args)
 callee_fit env root x args None built = tt
-callee_fit env root x args (Some e) built = external_fit (tracked env root args) e (λ k. width_at env root args k ∙ ap (λ l. get_or l k 64) built.0)
+callee_fit env root x args (Some e) built = external_fit (tracked env root args) e args built.2 (λ k. width_at env root args k ∙ ap (λ l. get_or l k 64) built.0)
 
 uses_fit : (env : Env) (root : ℕ) (func : Name → Option ℕ) (main : Bool) (x : Option Name) (o : Op) → IsBuilt func x o → AreFit (tracked env root (operands o)) (uses func main o)
 uses_fit env root func main x (op.Binary binary.Udiv f t a b) built = (omega arith, omega arith, tt)
@@ -164,6 +208,12 @@ checks_left s site os ps (Bytes kind a n ∷ us) w r =
 checks_left s site os ps (Line a ∷ us) w r =
     then_left (check_use s site os ps (Line a) w) (check_uses s site os ps us)
     (byte_left s 10 site (word_at a ps).value (first_in_string w (word_at a ps).value (bytes_left w (word_at a ps).value)) w r) (λ u q. checks_left s site os ps us u q)
+checks_left s site os ps (Asked a ∷ us) w r =
+    then_left (check_use s site os ps (Asked a) w) (check_uses s site os ps us) (by_asked (asks_string_at w (word_at 0 ps).value a)) (λ u q. checks_left s site os ps us u q)
+  where
+    by_asked : (b : Bool) → IsLeft (if b then check_string s (word_at a ps).value site w else Does w)
+    by_asked true = byte_left s 10 site (word_at a ps).value (first_in_string w (word_at a ps).value (bytes_left w (word_at a ps).value)) w r
+    by_asked false = r
 
 -- ---- tasks in two parts
 

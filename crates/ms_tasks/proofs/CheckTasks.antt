@@ -15,17 +15,17 @@ use Rattle.ms_runs.specs.declared.runs.Report.{Report}
 use Rattle.ms_runs.specs.declared.runs.End.TheVariants as «end»
 use Rattle.ms_ir.specs.Layout.{width_of}
 use Rattle.ms_runs.specs.World.{World, Setting, Here, Effect, Gives, Does, Goes, Enters, Leaves, Ends, stuck, then_does}
-use Rattle.ms_runs.specs.Origins.{check, add_report, trail, check_byte, check_memory, check_string, first_in_string}
+use Rattle.ms_runs.specs.Origins.{check, add_report, trail, check_byte, check_memory, check_string, asks_string_at, check_format, first_in_string}
 use Rattle.ms_runs.specs.Act.{operand_word}
 use Rattle.ms_runs.specs.Poisoned.{Poisoned}
 use Rattle.ms_runs.specs.Masks.{word_at}
-use Rattle.ms_runs.specs.Uses.{Use, Word, Bytes, Line, type_at, check_use, check_uses}
+use Rattle.ms_runs.specs.Uses.{Use, Word, Bytes, Line, Asked, type_at, check_use, check_uses}
 use Rattle.ms_bits.specs.Maps.{first_nonzero}
 use Rattle.ms_runs.specs.Memory.{is_good, bytes_left}
 use Rattle.ms_tasks.specs.Tasks.{Leaf, Turn, Task, parts}
 use Rattle.ms_tasks.specs.Meaning.{Values, Reach, Over, evaluate, evaluate_all, task_effect, do_tasks, marked_next}
 use Rattle.ms_tasks.specs.Environments.{Tracked, tracked_at, is_zero, widened, mask_of}
-use Rattle.ms_tasks.specs.CheckTasks.{check_task, memory_task, string_task, use_tasks, check_tasks}
+use Rattle.ms_tasks.specs.CheckTasks.{check_task, memory_task, string_task, format_task, use_tasks, check_tasks}
 use Rattle.ms_tasks.proofs.OperandWords.{ap₃, Holds, word_less}
 
 -- ---- a mask as a word of 64 bits
@@ -108,12 +108,23 @@ memory_is s a n kind site w = by_good (is_good w a n)
     by_good true = byte_is s kind site a (first_nonzero w.shadow a n) w
     by_good false = tt
 
+string_is : (s : Setting) (a site : ℕ) (w : World) → IsCheck (check_string s a site w)
+string_is s a site w = byte_is s 10 site a (first_in_string w a (bytes_left w a)) w
+
+format_is : (s : Setting) (format index a site : ℕ) (w : World) → IsCheck (check_format s format index a site w)
+format_is s format index a site w = by_asked (asks_string_at w format index)
+  where
+    by_asked : (b : Bool) → IsCheck (if b then check_string s a site w else Does w)
+    by_asked true = string_is s a site w
+    by_asked false = tt
+
 -- words are checked, of kinds and at places that are small numbers; bytes at words of 64 bits
 abbrev pub AreFit : List Tracked → List Use → Type 0
 AreFit ts [] = Unit {0}
 AreFit ts (Word kind k ∷ us) = (kind < 2 ^ 32) × (k < 2 ^ 32) × AreFit ts us
 AreFit ts (Bytes kind a n ∷ us) = (kind < 2 ^ 32) × (width_of (tracked_at a ts).ty ≡ 64) × (width_of (tracked_at n ts).ty ≡ 64) × AreFit ts us
 AreFit ts (Line a ∷ us) = (width_of (tracked_at a ts).ty ≡ 64) × AreFit ts us
+AreFit ts (Asked a ∷ us) = (width_of (tracked_at 0 ts).ty ≡ 64) × (width_of (tracked_at a ts).ty ≡ 64) × (a < 2 ^ 32) × AreFit ts us
 
 module _ (s : Setting) (h : Here) (v : Values) (ts : List Tracked) (os : List (Ty × Operand)) (ps : List Poisoned) (site : h.site < 2 ^ 32)
     (holds : (k : ℕ) → Holds s v.names (tracked_at k ts) (word_at k ps))
@@ -170,6 +181,18 @@ module _ (s : Setting) (h : Here) (v : Values) (ts : List Tracked) (os : List (T
       (subst IsCheck (sym same) (byte_is s 10 h.site (word_at a ps).value (first_in_string w (word_at a ps).value (bytes_left w (word_at a ps).value)) w)) next
       ∙ ap (λ x. check_on (then_does x f) go) same
 
+  format_done : (a : ℕ) → width_of (tracked_at 0 ts).ty ≡ 64 → width_of (tracked_at a ts).ty ≡ 64 → a < 2 ^ 32 → (rest : List Task) (f : World → Effect) (go : World → Reach) (w : World)
+      → ((u : World) → do_tasks s h rest v u ≡ check_on (f u) go)
+      → do_tasks s h (format_task h.site a (tracked_at 0 ts) (tracked_at a ts) ∷ rest) v w ≡ check_on (then_does (check_use s h.site os ps (Asked a) w) f) go
+  format_done a wf wa la rest f go w next =
+      let t = format_task h.site a (tracked_at 0 ts) (tracked_at a ts) in
+      let same : task_effect s h v.names t (evaluate_all s v.names (parts t)) v.slots w ≡ check_format s (word_at 0 ps).value a (word_at a ps).value h.site w =
+      ap₂ (λ i j. check_format s i (a % 2 ^ 32) j (h.site % 2 ^ 32) w) (address 0 wf) (address a wa)
+      ∙ ap₂ (λ i j. check_format s (word_at 0 ps).value i (word_at a ps).value j w) (mod-eq_of_lt la) (mod-eq_of_lt site) in
+      one_check v (task_effect s h v.names t (evaluate_all s v.names (parts t)) v.slots w) f (do_tasks s h rest) go
+      (subst IsCheck (sym same) (format_is s (word_at 0 ps).value a (word_at a ps).value h.site w)) next
+      ∙ ap (λ x. check_on (then_does x f) go) same
+
   pub checks_done : (us : List Use) → AreFit ts us → (rest : List Task) (w : World)
       → do_tasks s h (check_tasks h.site ts us ++ rest) v w ≡ check_on (check_uses s h.site os ps us w) (do_tasks s h rest v)
   checks_done [] a rest w = refl
@@ -181,3 +204,5 @@ module _ (s : Setting) (h : Here) (v : Values) (ts : List Tracked) (os : List (T
       memory_done kind a n b.0 b.1 b.2 (check_tasks h.site ts us ++ rest) (check_uses s h.site os ps us) (do_tasks s h rest v) w (λ u. checks_done us b.3 rest u)
   checks_done (Line a ∷ us) b rest w =
       string_done a b.0 (check_tasks h.site ts us ++ rest) (check_uses s h.site os ps us) (do_tasks s h rest v) w (λ u. checks_done us b.1 rest u)
+  checks_done (Asked a ∷ us) b rest w =
+      format_done a b.0 b.1 b.2 (check_tasks h.site ts us ++ rest) (check_uses s h.site os ps us) (do_tasks s h rest v) w (λ u. checks_done us b.3 rest u)

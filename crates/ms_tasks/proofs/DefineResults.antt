@@ -57,16 +57,16 @@ module _ (s : Setting) (env : Env) (size : ℕ) (h : Here) (values : Name → Po
   none_done x o w never = Fine v refl refl (λ y own. refl) (λ k u e. absurd (never k u e)) (λ g. m)
 
   -- a call: what an external answers is clean, and a function of the module comes to no answer yet
-  own_gives : (site : ℕ) (o : Option ℕ) (e : Option External) (words : List ℕ) (w : World) → is_some o ≡ true → (k : ℕ) (u : World)
-      → elim o [ Some f ↦ Enters f w | None ↦ elim e [ Some x ↦ external s site x words w | None ↦ Ends stuck w ] ] ≡ Gives k u → ⊥
-  own_gives site None e words w t k u g = absurd (grind arith)
-  own_gives site (Some f) e words w t k u g = grind arith
+  own_gives : (site : ℕ) (o : Option ℕ) (e : Option External) (types : List Ty) (words : List ℕ) (w : World) → is_some o ≡ true → (k : ℕ) (u : World)
+      → elim o [ Some f ↦ Enters f w | None ↦ elim e [ Some x ↦ external s site x types words w | None ↦ Ends stuck w ] ] ≡ Gives k u → ⊥
+  own_gives site None e types words w t k u g = absurd (grind arith)
+  own_gives site (Some f) e types words w t k u g = grind arith
 
-  outside_goes : (site : ℕ) (o : Option ℕ) (e : Option External) (x : Name) (args : List (Ty × Operand)) → FitsCallee e (Some x) args → (words : List ℕ) (w : World) → is_some o ≡ false
-      → GoesOn (elim o [ Some f ↦ Enters f w | None ↦ elim e [ Some x ↦ external s site x words w | None ↦ Ends stuck w ] ]) → ⊥
-  outside_goes site (Some f) e x args b words w t g = absurd (grind arith)
-  outside_goes site None None x args b words w t g = g
-  outside_goes site None (Some e) x args b words w t g = external_goes s site e words w b.1 g
+  outside_goes : (site : ℕ) (o : Option ℕ) (e : Option External) (x : Name) (args : List (Ty × Operand)) → FitsCallee e (Some x) args → (types : List Ty) (words : List ℕ) (w : World) → is_some o ≡ false
+      → GoesOn (elim o [ Some f ↦ Enters f w | None ↦ elim e [ Some x ↦ external s site x types words w | None ↦ Ends stuck w ] ]) → ⊥
+  outside_goes site (Some f) e x args b types words w t g = absurd (grind arith)
+  outside_goes site None None x args b types words w t g = g
+  outside_goes site None (Some e) x args b types words w t g = external_goes s site e types words w b.1 g
 
   called_done : (x : Name) (k : KnownName env size x) → env.clean x ≡ false → (ret : Option Ty) (callee : Name) (args : List (Ty × Operand))
       → FitsCallee (external_named s.func callee) (Some x) args → KnownOperands env size args → h.root + count_undefs args < 2 ^ 32 → (w : World)
@@ -76,10 +76,10 @@ module _ (s : Setting) (env : Env) (size : ℕ) (h : Here) (values : Name → Po
     where
       by_own : (b : Bool) → is_some (s.func callee) ≡ b
           → Defined s env h values v (Some x) (op.Call ret callee args) (called_tasks b k.place (op.Call ret callee args) (tracked env h.root args)) w
-      by_own true e = none_done (Some x) (op.Call ret callee args) w (λ i u g. own_gives h.site (s.func callee) (external_named s.func callee) (map (λ p. p.value) (words_for s values h (op.Call ret callee args))) w e i u g)
+      by_own true e = none_done (Some x) (op.Call ret callee args) w (λ i u g. own_gives h.site (s.func callee) (external_named s.func callee) (map (λ a. a.0) args) (map (λ p. p.value) (words_for s values h (op.Call ret callee args))) w e i u g)
       by_own false e =
           answer_done s env size h values v m r one x k c (op.Call ret callee args) tt known few w
-          (λ g. outside_goes h.site (s.func callee) (external_named s.func callee) x args built (map (λ p. p.value) (words_for s values h (op.Call ret callee args))) w e g)
+          (λ g. outside_goes h.site (s.func callee) (external_named s.func callee) x args built (map (λ a. a.0) args) (map (λ p. p.value) (words_for s values h (op.Call ret callee args))) w e g)
 
   define_done : (x : Name) (k : KnownName env size x) → env.clean x ≡ false → (o : Op) → IsBuilt s.func (Some x) o → KnownOperands env size (operands o)
       → h.root + count_undefs (operands o) < 2 ^ 32 → (w : World) → RangedWorld w

@@ -57,6 +57,7 @@ runtime_known function.Fill = refl
 runtime_known function.StoreOrigin = refl
 runtime_known function.LoadOrigin = refl
 runtime_known function.Size = refl
+runtime_known function.CheckFormat = refl
 
 -- a task whose last instruction takes words
 abbrev pub TakesWords : Task → Type 0

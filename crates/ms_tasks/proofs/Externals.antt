@@ -1,5 +1,5 @@
 -- What stands behind a call of an external: its operands still hold their words, where none is the call's result.
-use Rattle.std.proofs.Common.{◌≡◌, ◌≢◌, ℕ, zero, suc, ◌+◌, ◌%◌, ◌^◌, ◌<◌, ◌≤◌, List, [], ◌∷◌, refl, sym, ap, ◌∙◌, subst, arith, Bool, true, false, Option, Some, None}
+use Rattle.std.proofs.Common.{◌≡◌, ◌≢◌, ℕ, zero, suc, ◌+◌, ◌%◌, ◌^◌, ◌<◌, ◌≤◌, List, [], ◌∷◌, refl, sym, ap, ◌∙◌, subst, arith, Bool, true, false, Option, Some, None, Result, Ok, Err}
 use Rattle.std.specs.Prelude.{◌*◌, ◌/◌, ◌++◌, ◌&&◌, ◌||◌, not, max, if◌then◌else◌, map, take, length, get_or, eqb, leb, ltb, option_map, unwrap_or}
 use Rattle.std.proofs.Math.Path.{ap₂}
 use Rattle.std.proofs.Math.Nat.{mod-eq_of_lt}
@@ -9,10 +9,11 @@ use Rattle.ms_ir.specs.declared.syntax.Ty.{Ty, Int}
 use Rattle.ms_ir.specs.declared.syntax.Operand.{Operand}
 use Rattle.ms_ir.specs.declared.syntax.Operand.TheVariants as operand
 use Rattle.ms_ir.specs.declared.calls.External.{External}
-use Rattle.ms_ir.specs.declared.calls.External.TheVariants.{Malloc, Calloc, Realloc, Memcpy, Memmove, Memset, Memcmp, Strlen, Putchar, Puts, Getchar, Read, Write, LlvmMemcpy, LlvmMemmove, LlvmMemset, LifetimeStart}
+use Rattle.ms_ir.specs.declared.calls.External.TheVariants.{Malloc, Calloc, Realloc, Memcpy, Memmove, Memset, Memcmp, Strlen, Putchar, Puts, Getchar, Read, Write, LlvmMemcpy, LlvmMemmove, LlvmMemset, LifetimeStart, Printf}
+use Rattle.ms_bits.specs.declared.traps.Trap.{Trap}
 use Rattle.ms_bits.specs.declared.traps.Trap.TheVariants as trap
 use Rattle.ms_bits.specs.Maps.{bytes_at}
-use Rattle.ms_runs.specs.Externals.{minus_one, malloc, reallocated, where_good, string_at, printed, taken, next_byte, external, output_limit}
+use Rattle.ms_runs.specs.Externals.{minus_one, malloc, reallocated, where_good, string_at, printed, taken, next_byte, external, output_limit, formatted, prints}
 use Rattle.ms_ir.specs.Layout.{width_of}
 use Rattle.ms_runs.specs.World.{Allocation, World, Setting, Here, Effect, Gives, traps, word, result}
 use Rattle.ms_ir.specs.Areas.{Heap}
@@ -79,27 +80,32 @@ absurd_byte (b ∷ bs) w g = g
 absurd_good : (site a n : ℕ) (w : World) (e : Effect) → (GoesOn e → ⊥) → GoesOn (where_good site a n w e) → ⊥
 absurd_good site a n w e p = absurd_if (is_good w a n) e (traps trap.BadAddress site w) p (λ g. g)
 
+absurd_prints : (site : ℕ) (r : Result (List ℕ) Trap) (w : World) → GoesOn (prints site r w) → ⊥
+absurd_prints site (Ok bs) w g = absurd_printed site bs (length bs) w g
+absurd_prints site (Err t) w g = g
+
 -- an external that answers something goes on with nothing else
-pub external_goes : (s : Setting) (site : ℕ) (e : External) (words : List ℕ) (w : World) → is_void e ≡ false → GoesOn (external s site e words w) → ⊥
-external_goes s site Malloc words w v g = absurd_malloc s.fill (word 0 words) w g
-external_goes s site Calloc words w v g =
+pub external_goes : (s : Setting) (site : ℕ) (e : External) (types : List Ty) (words : List ℕ) (w : World) → is_void e ≡ false → GoesOn (external s site e types words w) → ⊥
+external_goes s site Malloc types words w v g = absurd_malloc s.fill (word 0 words) w g
+external_goes s site Calloc types words w v g =
     absurd_if (ltb (word 0 words * word 1 words) (2 ^ 64) && fits Heap (word 0 words * word 1 words) w) (Gives _ _) (Gives 0 w) (λ g. g) (λ g. g) g
-external_goes s site Realloc words w v g =
+external_goes s site Realloc types words w v g =
     absurd_if (eqb (word 0 words) 0) (malloc s.fill (word 1 words) w) _ (absurd_malloc s.fill (word 1 words) w) (absurd_reallocated s.fill site (word 0 words) (word 1 words) w (heap_size w (word 0 words))) g
-external_goes s site Memcpy words w v g = absurd_good site (word 0 words) (word 2 words) w _ (absurd_good site (word 1 words) (word 2 words) w (Gives _ _) (λ g. g)) g
-external_goes s site Memmove words w v g = absurd_good site (word 0 words) (word 2 words) w _ (absurd_good site (word 1 words) (word 2 words) w (Gives _ _) (λ g. g)) g
-external_goes s site Memset words w v g = absurd_good site (word 0 words) (word 2 words) w (Gives _ _) (λ g. g) g
-external_goes s site Memcmp words w v g = absurd_good site (word 0 words) (word 2 words) w _ (absurd_good site (word 1 words) (word 2 words) w (Gives _ _) (λ g. g)) g
-external_goes s site Strlen words w v g = absurd_text site (string_at w (word 0 words)) (λ bs. Gives (length bs) w) w (λ bs g. g) g
-external_goes s site Putchar words w v g = absurd_printed site (word 0 words % 256 ∷ []) (word 0 words % 256) w g
-external_goes s site Puts words w v g = absurd_text site (string_at w (word 0 words)) (λ bs. printed site (bs ++ 10 ∷ []) (Gives 1) w) w (λ bs. absurd_printed site (bs ++ 10 ∷ []) 1 w) g
-external_goes s site Getchar words w v g = absurd_byte w.input w g
-external_goes s site Read words w v g =
+external_goes s site Memcpy types words w v g = absurd_good site (word 0 words) (word 2 words) w _ (absurd_good site (word 1 words) (word 2 words) w (Gives _ _) (λ g. g)) g
+external_goes s site Memmove types words w v g = absurd_good site (word 0 words) (word 2 words) w _ (absurd_good site (word 1 words) (word 2 words) w (Gives _ _) (λ g. g)) g
+external_goes s site Memset types words w v g = absurd_good site (word 0 words) (word 2 words) w (Gives _ _) (λ g. g) g
+external_goes s site Memcmp types words w v g = absurd_good site (word 0 words) (word 2 words) w _ (absurd_good site (word 1 words) (word 2 words) w (Gives _ _) (λ g. g)) g
+external_goes s site Strlen types words w v g = absurd_text site (string_at w (word 0 words)) (λ bs. Gives (length bs) w) w (λ bs g. g) g
+external_goes s site Putchar types words w v g = absurd_printed site (word 0 words % 256 ∷ []) (word 0 words % 256) w g
+external_goes s site Puts types words w v g = absurd_text site (string_at w (word 0 words)) (λ bs. printed site (bs ++ 10 ∷ []) (Gives 1) w) w (λ bs. absurd_printed site (bs ++ 10 ∷ []) 1 w) g
+external_goes s site Getchar types words w v g = absurd_byte w.input w g
+external_goes s site Read types words w v g =
     absurd_good site (word 1 words) (word 2 words) w _ (absurd_if (eqb (word 0 words) 0) (taken (word 1 words) (word 2 words) w) (Gives _ w) (λ g. g) (λ g. g)) g
-external_goes s site Write words w v g =
+external_goes s site Write types words w v g =
     absurd_good site (word 1 words) (word 2 words) w _
     (absurd_if (eqb (word 0 words) 1) (printed site (bytes_at w.bytes (word 1 words) (word 2 words)) (Gives (word 2 words)) w) (Gives _ w) (absurd_printed site _ _ w) (λ g. g)) g
-external_goes s site _ words w v g = absurd (grind arith)
+external_goes s site Printf types words w v g = absurd_prints site (formatted w types words) w g
+external_goes s site _ types words w v g = absurd (grind arith)
 
 -- what makes an answer fit 64 bits, where it is looked at afterwards
 abbrev pub IsSmall : External → ℕ → Type 0
@@ -130,16 +136,16 @@ take_less zero l = omega arith
 take_less (suc n) [] = omega arith
 take_less (suc n) (x ∷ l) = let r = take_less n l in omega (arith, r)
 
-pub answers_less : (s : Setting) (site : ℕ) (e : External) (words : List ℕ) (w : World) → word 2 words < 2 ^ 64 → (v : ℕ) (u : World) → external s site e words w ≡ Gives v u → IsSmall e v
-answers_less s site Malloc words w l v u h = subst GivesLess h (heap_less (word 0 words) w (fits Heap (word 0 words) w) refl _ _)
-answers_less s site Realloc words w l v u h =
+pub answers_less : (s : Setting) (site : ℕ) (e : External) (types : List Ty) (words : List ℕ) (w : World) → word 2 words < 2 ^ 64 → (v : ℕ) (u : World) → external s site e types words w ≡ Gives v u → IsSmall e v
+answers_less s site Malloc types words w l v u h = subst GivesLess h (heap_less (word 0 words) w (fits Heap (word 0 words) w) refl _ _)
+answers_less s site Realloc types words w l v u h =
     subst GivesLess h (less_if (eqb (word 0 words) 0) (malloc s.fill (word 1 words) w) _ (heap_less (word 1 words) w (fits Heap (word 1 words) w) refl _ _)
     (less_reallocated s.fill site (word 0 words) (word 1 words) w (heap_size w (word 0 words))))
-answers_less s site Read words w l v u h =
+answers_less s site Read types words w l v u h =
     subst GivesLess h (less_if (is_good w (word 1 words) (word 2 words)) _ (traps trap.BadAddress site w)
     (less_if (eqb (word 0 words) 0) (taken (word 1 words) (word 2 words) w) (Gives (minus_one 64) w)
     (let r = take_less (word 2 words) w.input in omega (arith, r, l)) (omega arith)) tt)
-answers_less s site _ words w l v u h = tt
+answers_less s site _ types words w l v u h = tt
 
 -- the size of a block of a ranged world
 pub block_less : (allocs : List Allocation) (p : ℕ) → ArePlaced allocs → unwrap_or (option_map (λ a. a.size) (first_that (is_heap_block p) allocs)) 0 < 2 ^ 64
@@ -219,30 +225,30 @@ module _ (s : Setting) (at : Here) (site root saved : ℕ) (ls : site < 2 ^ 32) 
       ∙ fill_origin s (word_at 0 ps).value (word_at 2 ps).value (word_at 1 ps).mask (operand_word s names 32 c.origin) (word_at 1 ps).origin site w (holds 1).origin)
 
   -- the planes of an external are set as in the shadow run
-  pub external_done : (r : Option Name) (e : External) → (makes_unset (Some e) ≡ true → root < 2 ^ 32) → ((k : ℕ) → width_of (tracked_at k ts).ty ≡ get_or (external_widths e) k 64) → HasResult e r
+  pub external_done : (r : Option Name) (e : External) → (makes_unset (Some e) ≡ true → root < 2 ^ 32) → (types : List Ty) → ((k : ℕ) → width_of (tracked_at k ts).ty ≡ get_or (external_widths e types) k 64) → HasResult e r
       → ((x : Name) → r ≡ Some x → names x ≡ v) → IsSmall e v
       → (before w : World) → SavedSize (Some e) saved ps before names → unwrap_or (heap_size before (word_at 0 ps).value) 0 < 2 ^ 64
       → Sets (external_tasks site root saved r e ts) w (external_planes s site root e ps before v w)
-  external_done (Some x) Malloc lr k hr rs small before w old less =
+  external_done (Some x) Malloc lr types k hr rs small before w old less =
       ap (λ z. Went (record { names = names; slots = cells }) z) (ap₃ (λ i j l. poison i 0 j l w) (ap (λ n. n % 2 ^ 64) (rs x refl) ∙ mod-eq_of_lt small) (address 0 (k 0)) (mod-eq_of_lt (lr refl)))
-  external_done (Some x) Realloc lr k hr rs small before w old less =
+  external_done (Some x) Realloc lr types k hr rs small before w old less =
       ap (λ z. Went (record { names = names; slots = cells }) z)
       (ap₃ (λ i j l. poison i (names (msan_name saved) % 2 ^ 64) j l w) (ap (λ n. n % 2 ^ 64) (rs x refl) ∙ mod-eq_of_lt small) (address 1 (k 1)) (mod-eq_of_lt (lr refl))
       ∙ ap (λ i. poison v i (word_at 1 ps).value root w) (ap (λ n. n % 2 ^ 64) old ∙ mod-eq_of_lt less))
-  external_done (Some x) Read lr k hr rs small before w old less =
+  external_done (Some x) Read lr types k hr rs small before w old less =
       ap (λ z. Went (record { names = names; slots = cells }) z) (ap₂ (λ i j. unpoison i j w) (address 1 (k 1)) (ap (λ n. n % 2 ^ 64) (rs x refl) ∙ mod-eq_of_lt small))
-  external_done None Malloc lr k hr rs small before w old less = absurd (grind arith)
-  external_done None Realloc lr k hr rs small before w old less = absurd (grind arith)
-  external_done None Read lr k hr rs small before w old less = absurd (grind arith)
-  external_done r LifetimeStart lr k hr rs small before w old less =
+  external_done None Malloc lr types k hr rs small before w old less = absurd (grind arith)
+  external_done None Realloc lr types k hr rs small before w old less = absurd (grind arith)
+  external_done None Read lr types k hr rs small before w old less = absurd (grind arith)
+  external_done r LifetimeStart lr types k hr rs small before w old less =
       ap (λ z. Went (record { names = names; slots = cells }) z) (ap₃ (λ i j l. poison i 0 j l w) (address 1 (k 1)) (address 0 (k 0)) (mod-eq_of_lt (lr refl)))
-  external_done r Memcpy lr k hr rs small before w old less = copied_done (k 0) (k 1) (k 2) w
-  external_done r Memmove lr k hr rs small before w old less = copied_done (k 0) (k 1) (k 2) w
-  external_done r LlvmMemcpy lr k hr rs small before w old less = copied_done (k 0) (k 1) (k 2) w
-  external_done r LlvmMemmove lr k hr rs small before w old less = copied_done (k 0) (k 1) (k 2) w
-  external_done r Memset lr k hr rs small before w old less = filled_done (k 0) (let q = k 1 in omega (arith, q)) (k 2) w
-  external_done r LlvmMemset lr k hr rs small before w old less = filled_done (k 0) (let q = k 1 in omega (arith, q)) (k 2) w
-  external_done r _ lr k hr rs small before w old less = refl
+  external_done r Memcpy lr types k hr rs small before w old less = copied_done (k 0) (k 1) (k 2) w
+  external_done r Memmove lr types k hr rs small before w old less = copied_done (k 0) (k 1) (k 2) w
+  external_done r LlvmMemcpy lr types k hr rs small before w old less = copied_done (k 0) (k 1) (k 2) w
+  external_done r LlvmMemmove lr types k hr rs small before w old less = copied_done (k 0) (k 1) (k 2) w
+  external_done r Memset lr types k hr rs small before w old less = filled_done (k 0) (let q = k 1 in omega (arith, q)) (k 2) w
+  external_done r LlvmMemset lr types k hr rs small before w old less = filled_done (k 0) (let q = k 1 in omega (arith, q)) (k 2) w
+  external_done r _ lr types k hr rs small before w old less = refl
 
 -- what stands for operands behind a call, where none is the result
 pub holds_behind : (s : Setting) (env : Env) (size : ℕ) (values : Name → Poisoned) (r : Option Name) (p : Poisoned) (names : Name → ℕ) → Matches env (after_result values r p) names → RangedValues (after_result values r p)

@@ -35,7 +35,7 @@ no_result given env (Some x) ret callee args ts e =
 pub call_alone : (given : Given) (env : Env) (h : Here) (x : Option Name) (ret : Option Ty) (callee : Name) (args : List (Ty × Operand)) (saved : ℕ) (ts : List Tracked) → is_some (given.func callee) ≡ true
     → own_tasks given env h x (op.Call ret callee args) saved ts ≡ []
 call_alone given env h x ret callee args saved ts e =
-    ap₂ (λ o r. check_tasks h.site ts (callee_uses o) ++ (r ++ elim o [ Some e ↦ saved_tasks saved e ts | None ↦ [] ])) (no_external given.func callee e) (no_result given env x ret callee args ts e)
+    ap₂ (λ o r. check_tasks h.site ts (callee_uses o args) ++ (r ++ elim o [ Some e ↦ saved_tasks saved e ts | None ↦ [] ])) (no_external given.func callee e) (no_result given env x ret callee args ts e)
 
 pub return_alone : (given : Given) (env : Env) (h : Here) (v : Option (Ty × Operand)) (saved : ℕ) (ts : List Tracked) → h.main ≡ false → own_tasks given env h None (op.Ret v) saved ts ≡ []
 return_alone given env h v saved ts e = ap (λ b. check_tasks h.site ts (if b then Word 8 0 ∷ [] else []) ++ []) e

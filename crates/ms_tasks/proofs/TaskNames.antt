@@ -19,7 +19,7 @@ use Rattle.ms_runs.specs.World.{Setting, Here}
 use Rattle.ms_ir.specs.Code.{operands, one_undef, count_undefs, external_named}
 use Rattle.ms_ir.specs.declared.calls.External.{External}
 use Rattle.ms_ir.specs.declared.calls.External.TheVariants.{Malloc, Realloc, Memcpy, Memmove, Memset, Read, LlvmMemcpy, LlvmMemmove, LlvmMemset, LifetimeStart}
-use Rattle.ms_runs.specs.Uses.{Use, Word, Bytes, Line, uses, has_flag}
+use Rattle.ms_runs.specs.Uses.{Use, Word, Bytes, Line, Asked, uses, has_flag}
 use Rattle.ms_tasks.specs.Tasks.{mask_name, origin_name, Expr, Leaf, Turn, Task, Sets}
 use Rattle.ms_tasks.specs.Meaning.{BelowOperand, BelowExpr, BelowTasks}
 use Rattle.ms_tasks.specs.Environments.{Env, Given, Tracked, mask_operand, origin_operand, local_mask, local_origin, tracked, tracked_at, is_zero, mask_of, widened, widened_mask, extended_expr, extended_mask, joined, unknown, bits_at}
@@ -113,6 +113,7 @@ module _ (env : Env) (size base : ℕ) (room : 2 * size + 1 ≤ base) where
       below_if base (is_zero t.mask) _ _ tt (tt, (widened_low (width_of t.ty) (Leaf t.mask) l.mask, (tt, (l.origin, (tt, (tt, (tt, tt)))))), tt)
   use_low site ts p (Bytes kind a n) = (tt, ((at_low a ts p).own, ((at_low n ts p).own, (tt, (tt, tt)))), tt)
   use_low site ts p (Line a) = (tt, ((at_low a ts p).own, (tt, tt)), tt)
+  use_low site ts p (Asked a) = (tt, ((at_low 0 ts p).own, (tt, ((at_low a ts p).own, (tt, tt)))), tt)
 
   checks_low : (site : ℕ) (ts : List Tracked) → AllLow ts → (us : List Use) → BelowTasks base (check_tasks site ts us)
   checks_low site ts p [] = tt

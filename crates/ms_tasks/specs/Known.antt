@@ -9,7 +9,7 @@ use Rattle.ms_ir.specs.declared.syntax.Op.{Op}
 use Rattle.ms_ir.specs.declared.syntax.Op.TheVariants as op
 use Rattle.ms_ir.specs.declared.syntax.Inst.{Inst}
 use Rattle.ms_ir.specs.Names.{is_reserved}
-use Rattle.ms_ir.specs.Signatures.{external_signature}
+use Rattle.ms_ir.specs.Signatures.{external_signature, called_params}
 use Rattle.ms_ir.specs.Layout.{width_of}
 use Rattle.ms_ir.specs.Code.{operands, one_undef, external_named, roots_in}
 use Rattle.ms_ir.specs.declared.calls.External.{External}
@@ -60,9 +60,9 @@ AllApart None os = Unit {0}
 AllApart (Some x) [] = Unit {0}
 AllApart (Some x) (o ∷ os) = Apart x o.1 × AllApart (Some x) os
 
--- the widths of an external's arguments
-abbrev pub external_widths : External → List ℕ
-external_widths e = map width_of (external_signature e).params
+-- the widths of an external's arguments, where it is called with some types
+abbrev pub external_widths : External → List Ty → List ℕ
+external_widths e types = map width_of (called_params e types)
 
 -- an external that answers nothing
 abbrev pub is_void : External → Bool
@@ -73,10 +73,10 @@ abbrev pub HasResult : External → Option Name → Type 0
 HasResult e (Some x) = is_void e ≡ false
 HasResult e None = is_void e ≡ true
 
--- a call that is no call of the module's own
+-- a call that is no call of the module's own: widths and result fit, and operands have numbers of 32 bits
 abbrev pub FitsCallee : Option External → Option Name → List (Ty × Operand) → Type 0
 FitsCallee None x args = Unit {0}
-FitsCallee (Some e) x args = (map (λ a. width_of a.0) args ≡ external_widths e) × HasResult e x
+FitsCallee (Some e) x args = (map (λ a. width_of a.0) args ≡ external_widths e (map (λ a. a.0) args)) × HasResult e x × (length args < 2 ^ 32)
 
 -- an operation of the form for which the lists compute what is wanted: words have a bit at least, casts fit, a call of an
 -- external fits it, a call of a function of the module has at most 100 arguments, and an `alloca` has a name

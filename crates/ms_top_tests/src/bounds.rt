@@ -18,7 +18,7 @@ struct Long(
 struct Printing(&'static str, usize, &'static str, u8);
 
 /// Output ends.
-static OUTPUTS: [Printing; 12] = [
+static OUTPUTS: [Printing; 17] = [
     // 16 times 65536 bytes are allowed, and then no byte more; a call that prints none is good.
     Printing(
         "@g = global [65536 x i8] zeroinitializer @e = global [2 x i8] c\"A\\00\" define i32 @main() { %m = call ptr @memset(ptr @g, i32 65, i64 65536) br label %l l: %i = phi i32 [ 0, %0 ], [ %j, %l ] %w = call i64 @write(i32 1, ptr @g, i64 65536) %j = add i32 %i, 1 %c = icmp ult i32 %j, 16 br i1 %c, label %l, label %e e: ret i32 0 } declare i64 @write(i32, ptr, i64)\ndeclare ptr @memset(ptr, i32, i64)\ndeclare i32 @putchar(i32)\ndeclare i32 @puts(ptr)\n",
@@ -92,6 +92,38 @@ static OUTPUTS: [Printing; 12] = [
         "@g = global [65536 x i8] zeroinitializer @e = global [2 x i8] c\"A\\00\" define i32 @main() { %m = call ptr @memset(ptr @g, i32 65, i64 65536) br label %l l: %i = phi i32 [ 0, %0 ], [ %j, %l ] %w = call i64 @write(i32 1, ptr @g, i64 65536) %j = add i32 %i, 1 %c = icmp ult i32 %j, 16 br i1 %c, label %l, label %e e: %v = call i32 @puts(ptr @g) ret i32 0 } declare i64 @write(i32, ptr, i64)\ndeclare ptr @memset(ptr, i32, i64)\ndeclare i32 @putchar(i32)\ndeclare i32 @puts(ptr)\n",
         1048576,
         "trap bad-address at site 8 in @main",
+        3,
+    ),
+    // Two strings of 524288 bytes reach the limit, after which no byte may come.
+    Printing(
+        "@f = constant [5 x i8] c\"%s%s\\00\" @e = constant [2 x i8] c\"A\\00\" define i32 @main() { %m = call ptr @malloc(i64 524289) %s = call ptr @memset(ptr %m, i32 65, i64 524288) %z = getelementptr i8, ptr %m, i64 524288 store i8 0, ptr %z %v = call i32 (ptr, ...) @printf(ptr @f, ptr %m, ptr %m) %w = call i32 (ptr, ...) @printf(ptr getelementptr (i8, ptr @e, i64 1)) %x = add i32 %v, %w ret i32 %x } declare ptr @malloc(i64)\ndeclare ptr @memset(ptr, i32, i64)\ndeclare i32 @printf(ptr, ...)\n",
+        1048576,
+        "exit 1048576",
+        0,
+    ),
+    Printing(
+        "@f = constant [5 x i8] c\"%s%s\\00\" @e = constant [2 x i8] c\"A\\00\" define i32 @main() { %m = call ptr @malloc(i64 524289) %s = call ptr @memset(ptr %m, i32 65, i64 524288) %z = getelementptr i8, ptr %m, i64 524288 store i8 0, ptr %z %v = call i32 (ptr, ...) @printf(ptr @f, ptr %m, ptr %m) %w = call i32 (ptr, ...) @printf(ptr @e) ret i32 0 } declare ptr @malloc(i64)\ndeclare ptr @memset(ptr, i32, i64)\ndeclare i32 @printf(ptr, ...)\n",
+        1048576,
+        "trap output at site 6 in @main",
+        3,
+    ),
+    Printing(
+        "@f = constant [6 x i8] c\"%s%sA\\00\" @e = constant [2 x i8] c\"A\\00\" define i32 @main() { %m = call ptr @malloc(i64 524289) %s = call ptr @memset(ptr %m, i32 65, i64 524288) %z = getelementptr i8, ptr %m, i64 524288 store i8 0, ptr %z %v = call i32 (ptr, ...) @printf(ptr @f, ptr %m, ptr %m) ret i32 0 } declare ptr @malloc(i64)\ndeclare ptr @memset(ptr, i32, i64)\ndeclare i32 @printf(ptr, ...)\n",
+        0,
+        "trap output at site 5 in @main",
+        3,
+    ),
+    // A bad format comes before it, and a string without an end before both.
+    Printing(
+        "@f = constant [9 x i8] c\"%s%s%s%q\\00\" @e = constant [2 x i8] c\"A\\00\" define i32 @main() { %m = call ptr @malloc(i64 524289) %s = call ptr @memset(ptr %m, i32 65, i64 524288) %z = getelementptr i8, ptr %m, i64 524288 store i8 0, ptr %z %v = call i32 (ptr, ...) @printf(ptr @f, ptr %m, ptr %m, ptr %m) ret i32 0 } declare ptr @malloc(i64)\ndeclare ptr @memset(ptr, i32, i64)\ndeclare i32 @printf(ptr, ...)\n",
+        0,
+        "trap format at site 5 in @main",
+        3,
+    ),
+    Printing(
+        "@f = constant [11 x i8] c\"%s%s%s%s%q\\00\" @e = constant [2 x i8] c\"A\\00\" @u = constant [1 x i8] c\"u\" define i32 @main() { %m = call ptr @malloc(i64 524289) %s = call ptr @memset(ptr %m, i32 65, i64 524288) %z = getelementptr i8, ptr %m, i64 524288 store i8 0, ptr %z %v = call i32 (ptr, ...) @printf(ptr @f, ptr %m, ptr %m, ptr %m, ptr @u) ret i32 0 } declare ptr @malloc(i64)\ndeclare ptr @memset(ptr, i32, i64)\ndeclare i32 @printf(ptr, ...)\n",
+        0,
+        "trap bad-address at site 5 in @main",
         3,
     ),
 ];

@@ -26,6 +26,10 @@ mod externals;
 #[cfg(test)]
 mod faults;
 #[cfg(test)]
+mod format_checks;
+#[cfg(test)]
+mod formats;
+#[cfg(test)]
 mod forms;
 #[cfg(test)]
 mod given;

@@ -14,10 +14,10 @@ const SLOTS: &str =
 
 /// The declarations of the runtime functions, which stand behind those of a module.
 const RUNTIME: &str =
-    "declare void @__msan_check(i64, i32, i32, i32, i32, i32)\ndeclare void @__msan_check_memory(ptr, i64, i32, i32)\ndeclare void @__msan_check_string(ptr, i32)\ndeclare void @__msan_blind(i64)\ndeclare void @__msan_poison(ptr, i64, i64, i32)\ndeclare void @__msan_unpoison(ptr, i64)\ndeclare void @__msan_copy(ptr, ptr, i64)\ndeclare void @__msan_fill(ptr, i64, i64, i32, i32)\ndeclare void @__msan_store_origin(ptr, i64, i32, i32)\ndeclare i32 @__msan_load_origin(ptr, i64)\ndeclare i64 @__msan_size(ptr)\n";
+    "declare void @__msan_check(i64, i32, i32, i32, i32, i32)\ndeclare void @__msan_check_memory(ptr, i64, i32, i32)\ndeclare void @__msan_check_string(ptr, i32)\ndeclare void @__msan_blind(i64)\ndeclare void @__msan_poison(ptr, i64, i64, i32)\ndeclare void @__msan_unpoison(ptr, i64)\ndeclare void @__msan_copy(ptr, ptr, i64)\ndeclare void @__msan_fill(ptr, i64, i64, i32, i32)\ndeclare void @__msan_store_origin(ptr, i64, i32, i32)\ndeclare i32 @__msan_load_origin(ptr, i64)\ndeclare i64 @__msan_size(ptr)\ndeclare void @__msan_check_format(ptr, i32, ptr, i32)\n";
 
 /// Modules are written with inserted code.
-static LISTINGS: [Listing; 13] = [
+static LISTINGS: [Listing; 14] = [
     // Nothing that is known to be defined is checked, and without a mark the last line is missing.
     Listing(
         "%t = type { i8, ptr }\n@g = global i8 7\n",
@@ -301,6 +301,26 @@ define i32 @main() {
   %__msan.9 = zext i8 %__msan.3 to i64, !nosanitize !0
   %__msan.4 = call i32 @__msan_load_origin(ptr %1, i64 %__msan.9), !nosanitize !0
   %2 = load i8, ptr %1
+  ret i32 0
+}
+!0 = !{}
+",
+    ),
+    // The text of a format, the words of further arguments, and the string at each pointer among them, if the format asks.
+    Listing(
+        "@f = constant [ 3 x i8 ] c\"%s\\00\"\n",
+        "declare i32 @printf(ptr, ...)\n",
+        "define i32 @main() {\n  %1 = alloca i8\n  %2 = call i32 (ptr, ...) @printf(ptr @f, i32 undef, ptr %1)\n  ret i32 0\n}\n",
+        "define i32 @main() {
+  %1 = alloca i8
+  %__msan.5 = zext i32 1 to i64, !nosanitize !0
+  %__msan.6 = mul i64 1, %__msan.5, !nosanitize !0
+  call void @__msan_poison(ptr %1, i64 0, i64 %__msan.6, i32 1), !nosanitize !0
+  call void @__msan_check_string(ptr @f, i32 2), !nosanitize !0
+  %__msan.7 = zext i32 -1 to i64, !nosanitize !0
+  call void @__msan_check(i64 %__msan.7, i32 32, i32 2, i32 7, i32 1, i32 2), !nosanitize !0
+  call void @__msan_check_format(ptr @f, i32 2, ptr %1, i32 2), !nosanitize !0
+  %2 = call i32 (ptr, ...) @printf(ptr @f, i32 undef, ptr %1)
   ret i32 0
 }
 !0 = !{}

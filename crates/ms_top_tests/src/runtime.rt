@@ -281,6 +281,120 @@ static STRINGS: [Marked; 9] = [
     ),
 ];
 
+/// Strings are checked for which a format asks.
+/// Four bytes: a, a poisoned b, a poisoned 0, a poisoned x.
+static FORMATS: [Marked; 13] = [
+    Marked(
+        "@f = constant [3 x i8] c\"%s\\00\" define i32 @main() { %p = alloca i32 store i32 2013291105, ptr %p call void @__msan_poison(ptr %p, i64 1, i64 4, i32 9), !nosanitize !0 call void @__msan_check_format(ptr @f, i32 1, ptr %p, i32 1), !nosanitize !0 ret i32 0 }",
+        1,
+        10000000,
+        b"",
+        "report 1: string at site 1 in @main, part 1, bits 0xff of i8\n  origin 9: unknown\nend: reported\nreports: 1\nblind: 0\n",
+        77,
+    ),
+    // Neither the format itself nor an argument that no directive takes.
+    Marked(
+        "@f = constant [3 x i8] c\"%s\\00\" define i32 @main() { %p = alloca i32 store i32 2013291105, ptr %p call void @__msan_poison(ptr %p, i64 1, i64 4, i32 9), !nosanitize !0 call void @__msan_check_format(ptr @f, i32 0, ptr %p, i32 1), !nosanitize !0 ret i32 0 }",
+        1,
+        10000000,
+        b"",
+        "end: exit 0\nreports: 0\nblind: 0\n",
+        0,
+    ),
+    Marked(
+        "@f = constant [3 x i8] c\"%s\\00\" define i32 @main() { %p = alloca i32 store i32 2013291105, ptr %p call void @__msan_poison(ptr %p, i64 1, i64 4, i32 9), !nosanitize !0 call void @__msan_check_format(ptr @f, i32 2, ptr %p, i32 1), !nosanitize !0 ret i32 0 }",
+        1,
+        10000000,
+        b"",
+        "end: exit 0\nreports: 0\nblind: 0\n",
+        0,
+    ),
+    // Text and `%%` take no argument, and each other directive one.
+    Marked(
+        "@f = constant [8 x i8] c\"a%%%d%s\\00\" define i32 @main() { %p = alloca i32 store i32 2013291105, ptr %p call void @__msan_poison(ptr %p, i64 1, i64 4, i32 9), !nosanitize !0 call void @__msan_check_format(ptr @f, i32 2, ptr %p, i32 1), !nosanitize !0 ret i32 0 }",
+        1,
+        10000000,
+        b"",
+        "report 1: string at site 1 in @main, part 1, bits 0xff of i8\n  origin 9: unknown\nend: reported\nreports: 1\nblind: 0\n",
+        77,
+    ),
+    Marked(
+        "@f = constant [8 x i8] c\"a%%%d%s\\00\" define i32 @main() { %p = alloca i32 store i32 2013291105, ptr %p call void @__msan_poison(ptr %p, i64 1, i64 4, i32 9), !nosanitize !0 call void @__msan_check_format(ptr @f, i32 1, ptr %p, i32 1), !nosanitize !0 ret i32 0 }",
+        1,
+        10000000,
+        b"",
+        "end: exit 0\nreports: 0\nblind: 0\n",
+        0,
+    ),
+    Marked(
+        "@f = constant [8 x i8] c\"a%%%d%s\\00\" define i32 @main() { %p = alloca i32 store i32 2013291105, ptr %p call void @__msan_poison(ptr %p, i64 1, i64 4, i32 9), !nosanitize !0 call void @__msan_check_format(ptr @f, i32 3, ptr %p, i32 1), !nosanitize !0 ret i32 0 }",
+        1,
+        10000000,
+        b"",
+        "end: exit 0\nreports: 0\nblind: 0\n",
+        0,
+    ),
+    // Before a bad place, and after it.
+    Marked(
+        "@f = constant [8 x i8] c\"%s%5d%s\\00\" define i32 @main() { %p = alloca i32 store i32 2013291105, ptr %p call void @__msan_poison(ptr %p, i64 1, i64 4, i32 9), !nosanitize !0 call void @__msan_check_format(ptr @f, i32 1, ptr %p, i32 1), !nosanitize !0 ret i32 0 }",
+        1,
+        10000000,
+        b"",
+        "report 1: string at site 1 in @main, part 1, bits 0xff of i8\n  origin 9: unknown\nend: reported\nreports: 1\nblind: 0\n",
+        77,
+    ),
+    Marked(
+        "@f = constant [8 x i8] c\"%s%5d%s\\00\" define i32 @main() { %p = alloca i32 store i32 2013291105, ptr %p call void @__msan_poison(ptr %p, i64 1, i64 4, i32 9), !nosanitize !0 call void @__msan_check_format(ptr @f, i32 2, ptr %p, i32 1), !nosanitize !0 ret i32 0 }",
+        1,
+        10000000,
+        b"",
+        "end: exit 0\nreports: 0\nblind: 0\n",
+        0,
+    ),
+    Marked(
+        "@f = constant [8 x i8] c\"%s%5d%s\\00\" define i32 @main() { %p = alloca i32 store i32 2013291105, ptr %p call void @__msan_poison(ptr %p, i64 1, i64 4, i32 9), !nosanitize !0 call void @__msan_check_format(ptr @f, i32 3, ptr %p, i32 1), !nosanitize !0 ret i32 0 }",
+        1,
+        10000000,
+        b"",
+        "end: exit 0\nreports: 0\nblind: 0\n",
+        0,
+    ),
+    // After the end of the format, and where it has none.
+    Marked(
+        "@f = constant [3 x i8] c\"\\00%s\" define i32 @main() { %p = alloca i32 store i32 2013291105, ptr %p call void @__msan_poison(ptr %p, i64 1, i64 4, i32 9), !nosanitize !0 call void @__msan_check_format(ptr @f, i32 1, ptr %p, i32 1), !nosanitize !0 ret i32 0 }",
+        1,
+        10000000,
+        b"",
+        "end: exit 0\nreports: 0\nblind: 0\n",
+        0,
+    ),
+    Marked(
+        "@f = constant [2 x i8] c\"%s\" define i32 @main() { %p = alloca i32 store i32 2013291105, ptr %p call void @__msan_poison(ptr %p, i64 1, i64 4, i32 9), !nosanitize !0 call void @__msan_check_format(ptr @f, i32 1, ptr %p, i32 1), !nosanitize !0 ret i32 0 }",
+        1,
+        10000000,
+        b"",
+        "end: exit 0\nreports: 0\nblind: 0\n",
+        0,
+    ),
+    Marked(
+        "@f = constant [2 x i8] c\"%s\" define i32 @main() { %p = alloca i32 store i32 2013291105, ptr %p call void @__msan_poison(ptr %p, i64 1, i64 4, i32 9), !nosanitize !0 call void @__msan_check_format(ptr null, i32 1, ptr %p, i32 1), !nosanitize !0 ret i32 0 }",
+        1,
+        10000000,
+        b"",
+        "end: exit 0\nreports: 0\nblind: 0\n",
+        0,
+    ),
+    // Where no allocation is, there is no string.
+    Marked(
+        "@f = constant [3 x i8] c\"%s\\00\" define i32 @main() { %p = alloca i32 store i32 2013291105, ptr %p call void @__msan_poison(ptr %p, i64 1, i64 4, i32 9), !nosanitize !0 call void @__msan_check_format(ptr @f, i32 1, ptr null, i32 1), !nosanitize !0 ret i32 0 }",
+        1,
+        10000000,
+        b"",
+        "end: exit 0\nreports: 0\nblind: 0\n",
+        0,
+    ),
+];
+
 /// Origins stand in cells.
 /// Four bytes share a cell. The origin 9 is no root, so that it is kept.
 static ORIGINS: [Marked; 16] = [
@@ -511,6 +625,12 @@ static OTHERS: [Marked; 11] = [
 
 #[test]
 fn runtime_functions_serve(rt: HostRuntime) -> Result<(), Fail> {
-    assert!(rt; all_agree(&rt, rt.alloc(), &[&MEMORY, &STRINGS, &ORIGINS, &OTHERS]));
+    assert!(rt;
+        all_agree(
+            &rt,
+            rt.alloc(),
+            &[&MEMORY, &STRINGS, &FORMATS, &ORIGINS, &OTHERS]
+        )
+    );
     Ok(())
 }

@@ -12,7 +12,7 @@ use Rattle.ms_runs.specs.Origins.{poison, first_in_string}
 use Rattle.ms_runs.specs.LowEqual.{LowWorld}
 use Rattle.ms_two_fills.specs.Placed.{IsPlaced, HeapPlaced}
 use Rattle.ms_two_fills.proofs.Worlds.{other, BytesAlike, poisoned_low}
-use Rattle.ms_two_fills.proofs.Checks.{byte_same}
+use Rattle.ms_two_fills.proofs.Checks.{byte_same, string_unchanged}
 
 pub head_of : (P : Allocation → Type 0) (a : Allocation) (xs : List Allocation) → All P (a ∷ xs) → P a
 head_of P a xs h = h 0 a (omega arith)
@@ -170,16 +170,4 @@ module _ (w : World) (b : ℕ → ℕ) (h : BytesAlike w b) (l : (a : ℕ) → w
       by_test false f z rest = absurd (none_some a z)
 
   pub string_checked : (n a : ℕ) → first_in_string w a n ≡ None → string_within w.bytes a n ≡ string_within b a n
-  string_checked zero a e = refl
-  string_checked (suc n) a e = by_test (eqb (w.shadow a) 0) (eqb (w.bytes a) 0) refl refl e (string_checked n (a + 1))
-    where
-      by_test : (t u : Bool) → eqb (w.shadow a) 0 ≡ t → eqb (w.bytes a) 0 ≡ u → (if t then (if u then None else first_in_string w (a + 1) n) else Some a) ≡ None
-          → (first_in_string w (a + 1) n ≡ None → string_within w.bytes (a + 1) n ≡ string_within b (a + 1) n)
-          → (if u then Some [] else option_map (λ rest. w.bytes a ∷ rest) (string_within w.bytes (a + 1) n)) ≡ (if eqb (b a) 0 then Some [] else option_map (λ rest. b a ∷ rest) (string_within b (a + 1) n))
-      by_test true true f k z rest =
-          ap (λ t. if t then Some [] else option_map (λ rest. b a ∷ rest) (string_within b (a + 1) n)) (sym (sym (ap (λ x. eqb x 0) (byte_same w b h l g a (eqb-true (w.shadow a) 0 f))) ∙ k))
-      by_test true false f k z rest =
-          let same = byte_same w b h l g a (eqb-true (w.shadow a) 0 f) in
-          ap₂ (λ x o. option_map (λ rest. x ∷ rest) o) same (rest z)
-          ∙ ap (λ t. if t then Some [] else option_map (λ rest. b a ∷ rest) (string_within b (a + 1) n)) (sym (sym (ap (λ x. eqb x 0) same) ∙ k))
-      by_test false u f k z rest = absurd (none_some a z)
+  string_checked n a e = string_unchanged w b h l g n a e

@@ -1,9 +1,9 @@
 -- Checks in two worlds that differ in poisoned bytes alone, where one report ends the run.
-use Rattle.std.proofs.Common.{◌≡◌, ℕ, zero, suc, ◌+◌, ◌-◌, ◌/◌, ◌<◌, List, [], ◌∷◌, ◌++◌, length, Bool, true, false, eqb, leb, Option, Some, None, refl, sym, ap, ap₂, ◌∙◌, subst, arith, length-append, if◌then◌else◌}
+use Rattle.std.proofs.Common.{◌≡◌, ℕ, zero, suc, ◌+◌, ◌-◌, ◌/◌, ◌<◌, List, [], ◌∷◌, ◌++◌, length, Bool, true, false, eqb, leb, Option, Some, None, refl, sym, ap, ap₂, ◌∙◌, subst, arith, length-append, if◌then◌else◌, option_map}
 use Rattle.std.proofs.lemmas.Bool.{eqb-true, eqb-false, leb-false}
 use Rattle.std.proofs.lemmas.Nat.Bits.{bit_at-zero, same_from_bits_below}
 use Rattle.std.specs.Int.{bit_at}
-use Rattle.ms_bits.specs.Maps.{first_nonzero}
+use Rattle.ms_bits.specs.Maps.{first_nonzero, string_within}
 use Rattle.ms_ir.specs.declared.syntax.Ty.{Ty}
 use Rattle.ms_ir.specs.declared.syntax.Operand.{Operand}
 use Rattle.ms_runs.specs.declared.runs.End.TheVariants as «end»
@@ -11,11 +11,13 @@ use Rattle.ms_runs.specs.declared.runs.Report.{Report}
 use Rattle.ms_ir.specs.Layout.{width_of}
 use Rattle.ms_runs.specs.World.{World, Setting, Effect, Gives, Does, Goes, Enters, Leaves, Ends, then_does}
 use Rattle.ms_runs.specs.Memory.{is_good}
-use Rattle.ms_runs.specs.Origins.{trail, add_report, check, check_byte, check_memory, check_string, first_in_string}
+use Rattle.ms_runs.specs.Origins.{trail, add_report, check, check_byte, check_memory, check_string, first_in_string, asks_string_at, check_format}
 use Rattle.ms_runs.specs.Memory.{bytes_left}
+use Rattle.ms_runs.specs.Formats.{asks_string}
+use Rattle.ms_runs.specs.Externals.{string_at}
 use Rattle.ms_runs.specs.Poisoned.{Poisoned}
 use Rattle.ms_runs.specs.Masks.{word_at}
-use Rattle.ms_runs.specs.Uses.{Use, Word, Bytes, Line, type_at, check_use, check_uses}
+use Rattle.ms_runs.specs.Uses.{Use, Word, Bytes, Line, type_at, check_use, check_uses, Asked}
 use Rattle.ms_two_fills.specs.Alike.{refill}
 use Rattle.ms_two_fills.specs.Passed.{Passed, AllPassed}
 use Rattle.ms_two_fills.specs.Effects.{CheckedAlike, Ready}
@@ -101,6 +103,26 @@ string_same w b h l g (suc n) a = by_test (eqb (w.shadow a) 0) refl (string_same
     by_test true e rest = ap₂ (λ k o. if eqb k 0 then None else o) (byte_same w b h l g a (eqb-true (w.shadow a) 0 e)) rest
     by_test false e rest = refl
 
+-- a string that was checked is the same in both
+pub string_unchanged : (w : World) (b : ℕ → ℕ) → BytesAlike w b → ((x : ℕ) → w.bytes x < 256) → ((x : ℕ) → b x < 256)
+    → (n a : ℕ) → first_in_string w a n ≡ None → string_within w.bytes a n ≡ string_within b a n
+string_unchanged w b h l g zero a e = refl
+string_unchanged w b h l g (suc n) a e = by_test (eqb (w.shadow a) 0) (eqb (w.bytes a) 0) refl refl e (string_unchanged w b h l g n (a + 1))
+  where
+    none_some : (u : ℕ) → Some u ≡ None → ⊥
+    none_some u e = grind arith
+
+    by_test : (t u : Bool) → eqb (w.shadow a) 0 ≡ t → eqb (w.bytes a) 0 ≡ u → (if t then (if u then None else first_in_string w (a + 1) n) else Some a) ≡ None
+        → (first_in_string w (a + 1) n ≡ None → string_within w.bytes (a + 1) n ≡ string_within b (a + 1) n)
+        → (if u then Some [] else option_map (λ rest. w.bytes a ∷ rest) (string_within w.bytes (a + 1) n)) ≡ (if eqb (b a) 0 then Some [] else option_map (λ rest. b a ∷ rest) (string_within b (a + 1) n))
+    by_test true true f k z rest =
+        ap (λ t. if t then Some [] else option_map (λ rest. b a ∷ rest) (string_within b (a + 1) n)) (sym (sym (ap (λ x. eqb x 0) (byte_same w b h l g a (eqb-true (w.shadow a) 0 f))) ∙ k))
+    by_test true false f k z rest =
+        let same = byte_same w b h l g a (eqb-true (w.shadow a) 0 f) in
+        ap₂ (λ x o. option_map (λ rest. x ∷ rest) o) same (rest z)
+        ∙ ap (λ t. if t then Some [] else option_map (λ rest. b a ∷ rest) (string_within b (a + 1) n)) (sym (sym (ap (λ x. eqb x 0) same) ∙ k))
+    by_test false u f k z rest = absurd (none_some a z)
+
 -- ---- one check
 
 module _ (s : Setting) (fill : List ℕ) (one : s.limit ≡ 1) where
@@ -157,6 +179,22 @@ module _ (s : Setting) (fill : List ℕ) (one : s.limit ≡ 1) where
       (string_same w b h l g (bytes_left w a) a)
       (byte_alike 10 site a w b h (first_in_string w a (bytes_left w a)) (λ x f z. found_in_string w (bytes_left w a) a x f z))
 
+  asked_alike : (f k a site : ℕ) (w : World) (b : ℕ → ℕ) → BytesAlike w b → ((x : ℕ) → w.bytes x < 256) → ((x : ℕ) → b x < 256) → string_at w f ≡ string_at (other w b) f
+      → CheckedAlike (asks_string_at w f k ≡ true → first_in_string w a (bytes_left w a) ≡ None) w (other w b) (check_format s f k a site w) (check_format (refill s fill) f k a site (other w b))
+  asked_alike f k a site w b h l g same =
+      subst (λ o. CheckedAlike (asks_string_at w f k ≡ true → first_in_string w a (bytes_left w a) ≡ None) w (other w b) (check_format s f k a site w)
+      (if elim o [ Some bs ↦ asks_string bs k | None ↦ false ] then check_string (refill s fill) a site (other w b) else Does (other w b))) same (by_test (asks_string_at w f k) refl)
+    where
+      false_true : false ≡ true → ⊥
+      false_true e = grind arith
+
+      by_test : (t : Bool) → asks_string_at w f k ≡ t
+          → CheckedAlike (asks_string_at w f k ≡ true → first_in_string w a (bytes_left w a) ≡ None) w (other w b)
+          (if t then check_string s a site w else Does w) (if t then check_string (refill s fill) a site (other w b) else Does (other w b))
+      by_test true e =
+          weaken (first_in_string w a (bytes_left w a) ≡ None) (asks_string_at w f k ≡ true → first_in_string w a (bytes_left w a) ≡ None) (λ z q. z) w (other w b) _ _ (line_alike a site w b h l g)
+      by_test false e = ((λ q. absurd (false_true (sym e ∙ q))), refl, refl)
+
   -- ---- all checks of an instruction
 
   module _ (site : ℕ) (os : List (Ty × Operand)) (ps qs : List Poisoned) (words : AlikeWords ps qs) (w : World) (b : ℕ → ℕ) (h : BytesAlike w b) (l : (x : ℕ) → w.bytes x < 256) (g : (x : ℕ) → b x < 256) where
@@ -170,7 +208,7 @@ module _ (s : Setting) (fill : List ℕ) (one : s.limit ≡ 1) where
     at_same : (k : ℕ) → (word_at k ps).mask ≡ 0 → (word_at k ps).value ≡ (word_at k qs).value
     at_same k z = number_same (word_at k ps) (word_at k qs) (word_alike k ps qs words) z
 
-    pub uses_alike : (us : List Use) → Ready ps us → CheckedAlike (AllPassed w ps us) w (other w b) (check_uses s site os ps us w) (check_uses (refill s fill) site os qs us (other w b))
+    pub uses_alike : (us : List Use) → Ready w ps us → CheckedAlike (AllPassed w ps us) w (other w b) (check_uses s site os ps us w) (check_uses (refill s fill) site os qs us (other w b))
     uses_alike [] ready = (tt, refl, refl)
     uses_alike (Word kind k ∷ us) ready =
         then_alike ((word_at k ps).mask ≡ 0) (AllPassed w ps us) w (other w b) _ _ (check_uses s site os ps us) (check_uses (refill s fill) site os qs us) (word_checked kind k) (λ z. uses_alike us (ready z))
@@ -184,4 +222,10 @@ module _ (s : Setting) (fill : List ℕ) (one : s.limit ≡ 1) where
         then_alike (Passed w ps (Line a)) (AllPassed w ps us) w (other w b) _ _ (check_uses s site os ps us) (check_uses (refill s fill) site os qs us)
         (subst (λ x. CheckedAlike (Passed w ps (Line a)) w (other w b) (check_use s site os ps (Line a) w) (check_string (refill s fill) x site (other w b))) (at_same a ready.0)
         (line_alike (word_at a ps).value site w b h l g))
-        (λ z. uses_alike us ready.1)
+        (λ z. uses_alike us (ready.1 z))
+    uses_alike (Asked a ∷ us) ready =
+        then_alike (Passed w ps (Asked a)) (AllPassed w ps us) w (other w b) _ _ (check_uses s site os ps us) (check_uses (refill s fill) site os qs us)
+        (subst (λ f. CheckedAlike (Passed w ps (Asked a)) w (other w b) (check_use s site os ps (Asked a) w) (check_format (refill s fill) f a (word_at a qs).value site (other w b))) (at_same 0 ready.0)
+        (subst (λ x. CheckedAlike (Passed w ps (Asked a)) w (other w b) (check_use s site os ps (Asked a) w) (check_format (refill s fill) (word_at 0 ps).value a x site (other w b))) (at_same a ready.1)
+        (asked_alike (word_at 0 ps).value a (word_at a ps).value site w b h l g (string_unchanged w b h l g (bytes_left w (word_at 0 ps).value) (word_at 0 ps).value ready.2))))
+        (λ z. uses_alike us ready.3)

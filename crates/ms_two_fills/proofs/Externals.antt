@@ -1,17 +1,21 @@
 -- Externals on words and worlds that are alike.
-use Rattle.std.proofs.Common.{◌≡◌, ℕ, ◌+◌, ◌*◌, ◌%◌, ◌^◌, ◌<◌, min, List, [], ◌∷◌, ◌++◌, map, take, drop, length, get_or, Bool, true, false, not, ◌&&◌, ◌||◌, eqb, leb, ltb, Option, Some, None, unwrap_or, is_some, refl, sym, ap₂, subst, arith, if◌then◌else◌}
+use Rattle.std.proofs.Common.{◌≡◌, ℕ, ◌+◌, ◌*◌, ◌%◌, ◌^◌, ◌<◌, min, List, [], ◌∷◌, ◌++◌, map, take, drop, length, get_or, Bool, true, false, not, ◌&&◌, ◌||◌, eqb, leb, ltb, Option, Some, None, unwrap_or, is_some, refl, sym, ap₂, subst, arith, if◌then◌else◌, Result, Ok, Err, true≢false}
 use Rattle.std.proofs.lemmas.Bool.{eqb-true}
 use Rattle.ms_bits.specs.Completion.{Agrees}
+use Rattle.ms_bits.specs.declared.traps.Trap.{Trap}
 use Rattle.ms_bits.specs.declared.traps.Trap.TheVariants as trap
 use Rattle.ms_bits.specs.Maps.{bytes_at, first_nonzero}
 use Rattle.ms_ir.specs.declared.calls.External.{External}
-use Rattle.ms_ir.specs.declared.calls.External.TheVariants.{Malloc, Calloc, Realloc, Free, Memcpy, Memmove, Memset, Memcmp, Strlen, Putchar, Puts, Getchar, Read, Write, Exit, Abort, LlvmMemcpy, LlvmMemmove, LlvmMemset, LifetimeStart, LifetimeEnd}
+use Rattle.ms_ir.specs.declared.calls.External.TheVariants.{Malloc, Calloc, Realloc, Free, Memcpy, Memmove, Memset, Memcmp, Strlen, Putchar, Puts, Getchar, Read, Write, Exit, Abort, LlvmMemcpy, LlvmMemmove, LlvmMemset, LifetimeStart, LifetimeEnd, Printf}
+use Rattle.ms_ir.specs.declared.syntax.Ty.{Ty}
+use Rattle.ms_ir.specs.declared.syntax.Operand.{Operand}
+use Rattle.ms_ir.specs.Signatures.{is_variadic}
 use Rattle.ms_ir.specs.Areas.{Heap}
 use Rattle.ms_runs.specs.World.{World, Setting, Effect, Gives, Does, traps}
 use Rattle.ms_runs.specs.Memory.{is_good, fits, next_base, heap_size, end_block, set_bytes, set_shadow, set_cells, copy_bytes, copy_shadow, make, make_unset}
 use Rattle.ms_runs.specs.Origins.{Chained, keeps_old, pair_index, chain, poison, unpoison, copy_planes, fill_planes, first_in_string}
 use Rattle.ms_runs.specs.Memory.{bytes_left}
-use Rattle.ms_runs.specs.Externals.{minus_one, malloc, calloc, reallocated, realloc, free, where_good, compared, string_at, printed, taken, next_byte, external, output_limit}
+use Rattle.ms_runs.specs.Externals.{minus_one, malloc, calloc, reallocated, realloc, free, where_good, compared, string_at, printed, taken, next_byte, external, output_limit, prints}
 use Rattle.ms_runs.specs.Poisoned.{Poisoned}
 use Rattle.ms_runs.specs.Uses.{external_uses}
 use Rattle.ms_runs.specs.Shadow.{external_planes}
@@ -33,10 +37,10 @@ answers_same v = exact_word v v 0 0 0 0 refl refl refl
 
 module _ (s : Setting) (fill : List ℕ) (site root : ℕ) (w : World) (b : ℕ → ℕ) (alike : BytesAlike w b) (fit : FitWorld w) (others : (x : ℕ) → b x < 256) where
   -- an external does the same in both worlds
-  abbrev pub ExtAlike : External → List Poisoned → List Poisoned → Type 0
-  ExtAlike e ps qs =
+  abbrev pub ExtAlike : External → List Ty → List Poisoned → List Poisoned → Type 0
+  ExtAlike e types ps qs =
       EffectsAlike answered answered (external_planes s site root e ps w) (external_planes (refill s fill) site root e qs (other w b))
-      (external s site e (map (λ p. p.value) ps) w) (external (refill s fill) site e (map (λ p. p.value) qs) (other w b))
+      (external s site e types (map (λ p. p.value) ps) w) (external (refill s fill) site e types (map (λ p. p.value) qs) (other w b))
 
   low : LowWorld w (other w b)
   low = low_other w b alike
@@ -173,6 +177,13 @@ module _ (s : Setting) (fill : List ℕ) (site root : ℕ) (w : World) (b : ℕ 
       by_test true = (answers_same v, record { allocs = refl; shadow = refl; origins = refl; pairs = refl; made = refl; input = refl; output = refl; reports = refl; blind = refl; bytes = alike })
       by_test false = (refl, low)
 
+  pub prints_alike : (r t : Result (List ℕ) Trap) → r ≡ t → EffectsAlike answered answered (λ x u. u) (λ x u. u) (prints site r w) (prints site t (other w b))
+  prints_alike r t e = subst (λ k. EffectsAlike answered answered (λ x u. u) (λ x u. u) (prints site r w) (prints site k (other w b))) e (itself r)
+    where
+      itself : (r : Result (List ℕ) Trap) → EffectsAlike answered answered (λ x u. u) (λ x u. u) (prints site r w) (prints site r (other w b))
+      itself (Ok bs) = print_alike (length bs) bs bs refl
+      itself (Err t) = (refl, low)
+
   taken_alike : (a n : ℕ) → EffectsAlike answered answered (λ v u. unpoison a v u) (λ v u. unpoison a v u) (taken a n w) (taken a n (other w b))
   taken_alike a n = (answers_same (length (take n w.input)), by_test (is_good w a (length (take n w.input))))
     where
@@ -221,7 +232,7 @@ module _ (s : Setting) (fill : List ℕ) (site root : ℕ) (w : World) (b : ℕ 
   checked_bytes : (a n : ℕ) → (is_good w a n ≡ true → first_nonzero w.shadow a n ≡ None) → is_good w a n ≡ true → bytes_at w.bytes a n ≡ bytes_at b a n
   checked_bytes a n h g = bytes_checked w b alike fit.bytes others n a (h g)
 
-  checked_string : (a : ℕ) → first_in_string w a (bytes_left w a) ≡ None → string_at w a ≡ string_at (other w b) a
+  pub checked_string : (a : ℕ) → first_in_string w a (bytes_left w a) ≡ None → string_at w a ≡ string_at (other w b) a
   checked_string a h = string_checked w b alike fit.bytes others (bytes_left w a) a h
 
   sized : (o p : Option (List ℕ)) → o ≡ p → EffectsAlike answered answered (λ v u. u) (λ v u. u)
@@ -248,10 +259,10 @@ module _ (s : Setting) (fill : List ℕ) (site root : ℕ) (w : World) (b : ℕ 
 
   -- ---- all of them, on three words, of which checked ones are the same in both runs
 
-  module _ (a c d a' c' d' : Poisoned) (at_a : LowWord a a') (at_c : LowWord c c') (at_d : LowWord d d') where
+  module _ (a c d a' c' d' : Poisoned) (at_a : LowWord a a') (at_c : LowWord c c') (at_d : LowWord d d') (types : List Ty) (args : List (Ty × Operand)) where
     -- the same for three words
     abbrev Both : External → List Poisoned → Type 0
-    Both e qs = ExtAlike e (a ∷ c ∷ d ∷ []) qs
+    Both e qs = ExtAlike e types (a ∷ c ∷ d ∷ []) qs
 
     by_a : (e : External) → a.mask ≡ 0 → Both e (a ∷ c' ∷ d' ∷ []) → Both e (a' ∷ c' ∷ d' ∷ [])
     by_a e x h = subst (λ k. Both e (k ∷ c' ∷ d' ∷ [])) (same_word a a' at_a x) h
@@ -276,31 +287,32 @@ module _ (s : Setting) (fill : List ℕ) (site root : ℕ) (w : World) (b : ℕ 
     written bs cs e n true = print_alike n bs cs e
     written bs cs e n false = (answers_same (minus_one 64), low)
 
-    pub three_alike : c.value < 2 ^ 64 → (e : External) → AllPassed w (a ∷ c ∷ d ∷ []) (external_uses e) → ExtAlike e (a ∷ c ∷ d ∷ []) (a' ∷ c' ∷ d' ∷ [])
-    three_alike small Malloc p = by_a Malloc p.0 (made a.value)
-    three_alike small Calloc p = by_ac Calloc p.0 p.1.0 (zeros (a.value * c.value))
-    three_alike small Realloc p = by_ac Realloc p.0 p.1.0 (again a.value c.value)
-    three_alike small Free p = by_a Free p.0 (freed a.value)
-    three_alike small Memcpy p = by_acd Memcpy p.0 p.1.0 p.1.1.0 (guarded _ _ _ _ a.value d.value _ _ (λ g. guarded _ _ _ _ c.value d.value _ _ (λ k. copy_alike g k)))
-    three_alike small Memmove p = by_acd Memmove p.0 p.1.0 p.1.1.0 (guarded _ _ _ _ a.value d.value _ _ (λ g. guarded _ _ _ _ c.value d.value _ _ (λ k. copy_alike g k)))
-    three_alike small Memset p =
+    pub three_alike : c.value < 2 ^ 64 → (e : External) → is_variadic e ≡ false → AllPassed w (a ∷ c ∷ d ∷ []) (external_uses e args) → ExtAlike e types (a ∷ c ∷ d ∷ []) (a' ∷ c' ∷ d' ∷ [])
+    three_alike small Malloc f p = by_a Malloc p.0 (made a.value)
+    three_alike small Calloc f p = by_ac Calloc p.0 p.1.0 (zeros (a.value * c.value))
+    three_alike small Realloc f p = by_ac Realloc p.0 p.1.0 (again a.value c.value)
+    three_alike small Free f p = by_a Free p.0 (freed a.value)
+    three_alike small Memcpy f p = by_acd Memcpy p.0 p.1.0 p.1.1.0 (guarded _ _ _ _ a.value d.value _ _ (λ g. guarded _ _ _ _ c.value d.value _ _ (λ k. copy_alike g k)))
+    three_alike small Memmove f p = by_acd Memmove p.0 p.1.0 p.1.1.0 (guarded _ _ _ _ a.value d.value _ _ (λ g. guarded _ _ _ _ c.value d.value _ _ (λ k. copy_alike g k)))
+    three_alike small Memset f p =
         by_ad Memset p.0 p.1.0 (guarded _ _ _ _ a.value d.value _ _ (λ g. (answers_same a.value, filled_planes a.value d.value c.mask c.value c'.value c.origin at_c.value g)))
-    three_alike small Memcmp p =
+    three_alike small Memcmp f p =
         by_acd Memcmp p.0 p.1.0 p.1.1.0
         (guarded _ _ _ _ a.value d.value _ _ (λ g. guarded _ _ _ _ c.value d.value _ _ (λ k.
         (exact_word _ _ 0 0 0 0 refl refl (ap₂ compared (checked_bytes a.value d.value p.1.1.1.0 g) (checked_bytes c.value d.value p.1.1.1.1.0 k)), low))))
-    three_alike small Strlen p = by_a Strlen p.0 (sized (string_at w a.value) (string_at (other w b) a.value) (checked_string a.value p.1.0))
-    three_alike small Putchar p = by_a Putchar p.0 (print_alike (a.value % 256) (a.value % 256 ∷ []) (a.value % 256 ∷ []) refl)
-    three_alike small Puts p = by_a Puts p.0 (put_line (string_at w a.value) (string_at (other w b) a.value) (checked_string a.value p.1.0))
-    three_alike small Getchar p = next_alike w.input
-    three_alike small Read p = by_acd Read p.0 p.1.0 p.1.1.0 (guarded _ _ _ _ c.value d.value _ _ (λ g. read_alike a.value c.value d.value))
-    three_alike small Write p =
+    three_alike small Strlen f p = by_a Strlen p.0 (sized (string_at w a.value) (string_at (other w b) a.value) (checked_string a.value p.1.0))
+    three_alike small Putchar f p = by_a Putchar p.0 (print_alike (a.value % 256) (a.value % 256 ∷ []) (a.value % 256 ∷ []) refl)
+    three_alike small Puts f p = by_a Puts p.0 (put_line (string_at w a.value) (string_at (other w b) a.value) (checked_string a.value p.1.0))
+    three_alike small Getchar f p = next_alike w.input
+    three_alike small Read f p = by_acd Read p.0 p.1.0 p.1.1.0 (guarded _ _ _ _ c.value d.value _ _ (λ g. read_alike a.value c.value d.value))
+    three_alike small Write f p =
         by_acd Write p.0 p.1.0 p.1.1.0
         (guarded _ _ _ _ c.value d.value _ _ (λ g. written (bytes_at w.bytes c.value d.value) (bytes_at b c.value d.value) (checked_bytes c.value d.value p.1.1.1.0 g) d.value (eqb a.value 1)))
-    three_alike small Exit p = by_a Exit p.0 (refl, low)
-    three_alike small Abort p = (refl, low)
-    three_alike small LlvmMemcpy p = by_acd LlvmMemcpy p.0 p.1.0 p.1.1.0 (guarded _ _ _ _ a.value d.value _ _ (λ g. guarded _ _ _ _ c.value d.value _ _ (λ k. copied_planes a.value c.value d.value g k)))
-    three_alike small LlvmMemmove p = by_acd LlvmMemmove p.0 p.1.0 p.1.1.0 (guarded _ _ _ _ a.value d.value _ _ (λ g. guarded _ _ _ _ c.value d.value _ _ (λ k. copied_planes a.value c.value d.value g k)))
-    three_alike small LlvmMemset p = by_ad LlvmMemset p.0 p.1.0 (guarded _ _ _ _ a.value d.value _ _ (λ g. filled_planes a.value d.value c.mask c.value c'.value c.origin at_c.value g))
-    three_alike small LifetimeStart p = by_ac LifetimeStart p.0 p.1.0 (guarded _ _ _ _ c.value a.value _ _ (λ g. remade_low s.fill fill c.value a.value root w b alike small g))
-    three_alike small LifetimeEnd p = low
+    three_alike small Exit f p = by_a Exit p.0 (refl, low)
+    three_alike small Abort f p = (refl, low)
+    three_alike small LlvmMemcpy f p = by_acd LlvmMemcpy p.0 p.1.0 p.1.1.0 (guarded _ _ _ _ a.value d.value _ _ (λ g. guarded _ _ _ _ c.value d.value _ _ (λ k. copied_planes a.value c.value d.value g k)))
+    three_alike small LlvmMemmove f p = by_acd LlvmMemmove p.0 p.1.0 p.1.1.0 (guarded _ _ _ _ a.value d.value _ _ (λ g. guarded _ _ _ _ c.value d.value _ _ (λ k. copied_planes a.value c.value d.value g k)))
+    three_alike small LlvmMemset f p = by_ad LlvmMemset p.0 p.1.0 (guarded _ _ _ _ a.value d.value _ _ (λ g. filled_planes a.value d.value c.mask c.value c'.value c.origin at_c.value g))
+    three_alike small LifetimeStart f p = by_ac LifetimeStart p.0 p.1.0 (guarded _ _ _ _ c.value a.value _ _ (λ g. remade_low s.fill fill c.value a.value root w b alike small g))
+    three_alike small LifetimeEnd f p = low
+    three_alike small Printf f p = absurd (true≢false f)

@@ -13,19 +13,19 @@ use Rattle.ms_ir.specs.declared.syntax.Module.{Module}
 use Rattle.ms_runs.specs.declared.runs.End.TheVariants as «end»
 use Rattle.ms_runs.specs.declared.runs.Report.{Report}
 use Rattle.ms_ir.specs.declared.calls.External.{External}
-use Rattle.ms_ir.specs.declared.calls.External.TheVariants.{Malloc, Calloc, Realloc, Free, Memcpy, Memmove, Memset, Memcmp, Strlen, Putchar, Puts, Getchar, Read, Write, Exit, Abort, LlvmMemcpy, LlvmMemmove, LlvmMemset, LifetimeStart, LifetimeEnd}
+use Rattle.ms_ir.specs.declared.calls.External.TheVariants.{Malloc, Calloc, Realloc, Free, Memcpy, Memmove, Memset, Memcmp, Strlen, Putchar, Puts, Getchar, Read, Write, Exit, Abort, LlvmMemcpy, LlvmMemmove, LlvmMemset, LifetimeStart, LifetimeEnd, Printf}
 use Rattle.ms_ir.specs.Layout.{width_of}
 use Rattle.ms_runs.specs.World.{World, Setting, Here, Effect, Gives, Does, Goes, Enters, Leaves, Ends, then_does, result}
 use Rattle.ms_runs.specs.Memory.{is_good}
 use Rattle.ms_ir.specs.Code.{operands, count_undefs, external_named, root_at, block_index, blocks_at, insts_at}
 use Rattle.ms_runs.specs.Control.{Frame, Outcome, On, Over, here, rest_of, read_all, phis, count_phis, block_name, after_effect}
 use Rattle.ms_runs.specs.Act.{operand_word, act}
-use Rattle.ms_runs.specs.Origins.{trail, add_report, check, check_byte, first_in_string, count_blind}
+use Rattle.ms_runs.specs.Origins.{trail, add_report, check, check_byte, first_in_string, count_blind, asks_string_at}
 use Rattle.ms_runs.specs.Memory.{bytes_left}
 use Rattle.ms_runs.specs.Plain.{Stepped, More, Stop, go_on, run}
 use Rattle.ms_runs.specs.Poisoned.{Poisoned, clean}
 use Rattle.ms_runs.specs.Masks.{by_formulas, union, word_at}
-use Rattle.ms_runs.specs.Uses.{Use, Word, Bytes, Line, type_at, uses, check_use, check_uses, blinded}
+use Rattle.ms_runs.specs.Uses.{Use, Word, Bytes, Line, type_at, uses, check_use, check_uses, blinded, Asked}
 use Rattle.ms_runs.specs.Shadow.{read_poisoned, shadow_reading, operand_mask, operand_origin, external_planes, callee_planes, planes, ShadowState, shadow_moved, poisoned_result, shadow_act, after_checks, shadow_inst, shadow_first, shadow_frames, shadow_step}
 use Rattle.ms_two_fills.specs.First.{FirstOf}
 use Rattle.ms_two_fills.specs.Placed.{FirstIs, Checks, ChecksAfter}
@@ -130,6 +130,8 @@ module _ (s : Setting) where
     use_first site os ps (Bytes kind a n) =
         if_first (is_good w (word_at a ps).value (word_at n ps).value) _ _ _ _ (byte_first kind site (word_at a ps).value (first_nonzero w.shadow (word_at a ps).value (word_at n ps).value)) (refl, refl)
     use_first site os ps (Line a) = byte_first 10 site (word_at a ps).value (first_in_string w (word_at a ps).value (bytes_left w (word_at a ps).value))
+    use_first site os ps (Asked a) =
+        if_first (asks_string_at w (word_at 0 ps).value a) _ _ _ _ (byte_first 10 site (word_at a ps).value (first_in_string w (word_at a ps).value (bytes_left w (word_at a ps).value))) (refl, refl)
 
     uses_first : (site : ℕ) (os : List (Ty × Operand)) (ps : List Poisoned) (us : List Use) → CheckedFirst w (check_uses first_only site os ps us w) (check_uses s site os ps us w)
     uses_first site os ps [] = (refl, refl)
@@ -161,6 +163,7 @@ module _ (s : Setting) where
   external_planes_free site root LlvmMemset ps before v w = refl
   external_planes_free site root LifetimeStart ps before v w = refl
   external_planes_free site root LifetimeEnd ps before v w = refl
+  external_planes_free site root Printf ps before v w = refl
 
   callee_planes_free : (site root : ℕ) (o : Option External) (ps : List Poisoned) (before : World) (v : ℕ) (w : World) → callee_planes first_only site root o ps before v w ≡ callee_planes s site root o ps before v w
   callee_planes_free site root None ps before v w = refl

@@ -11,7 +11,7 @@ use Rattle.ms_ir.specs.declared.syntax.Op.{Op}
 use Rattle.ms_ir.specs.declared.syntax.Op.TheVariants as op
 use Rattle.ms_runs.specs.declared.runs.Report.{Report}
 use Rattle.ms_ir.specs.declared.calls.External.{External}
-use Rattle.ms_ir.specs.declared.calls.External.TheVariants.{Malloc, Calloc, Realloc, Free, Memcpy, Memmove, Memset, Memcmp, Strlen, Putchar, Puts, Getchar, Read, Write, Exit, Abort, LlvmMemcpy, LlvmMemmove, LlvmMemset, LifetimeStart, LifetimeEnd}
+use Rattle.ms_ir.specs.declared.calls.External.TheVariants.{Malloc, Calloc, Realloc, Free, Memcpy, Memmove, Memset, Memcmp, Strlen, Putchar, Puts, Getchar, Read, Write, Exit, Abort, LlvmMemcpy, LlvmMemmove, LlvmMemset, LifetimeStart, LifetimeEnd, Printf}
 use Rattle.ms_ir.specs.declared.syntax.Init.{Init, Row_of-Init-Array-0-2, end_of-Init-Array-0-2, more_of-Init-Array-0-2}
 use Rattle.ms_ir.specs.declared.syntax.Init as initial
 use Rattle.ms_ir.specs.declared.syntax.GlobalVar.{GlobalVar}
@@ -23,14 +23,14 @@ use Rattle.ms_runs.specs.World.{Allocation, World, Setting, Here, Effect, Gives,
 use Rattle.ms_ir.specs.Areas.{area_eq, area_base, room}
 use Rattle.ms_runs.specs.Memory.{used, fits, next_base, is_good, is_heap_block, heap_size, end_block, set_shadow, copy_bytes, copy_shadow, make, make_unset, keeps}
 use Rattle.ms_ir.specs.Code.{external_named}
-use Rattle.ms_runs.specs.Origins.{Chained, keeps_old, pair_index, chain, add_report, check, check_byte, first_in_string, poison, unpoison, copy_planes, fill_planes, mark_cells, store_origin}
+use Rattle.ms_runs.specs.Origins.{Chained, keeps_old, pair_index, chain, add_report, check, check_byte, first_in_string, poison, unpoison, copy_planes, fill_planes, mark_cells, store_origin, asks_string_at}
 use Rattle.ms_runs.specs.Memory.{bytes_left}
-use Rattle.ms_runs.specs.Externals.{malloc, reallocated, realloc, where_good, string_at, printed, next_byte, external, output_limit}
+use Rattle.ms_runs.specs.Externals.{malloc, reallocated, realloc, where_good, string_at, printed, next_byte, external, output_limit, formatted, prints}
 use Rattle.ms_runs.specs.Act.{act, gives}
 use Rattle.ms_runs.specs.Control.{release}
 use Rattle.ms_runs.specs.Poisoned.{Poisoned}
 use Rattle.ms_runs.specs.Masks.{word_at}
-use Rattle.ms_runs.specs.Uses.{Use, Word, Bytes, Line, type_at, check_use, check_uses}
+use Rattle.ms_runs.specs.Uses.{Use, Word, Bytes, Line, type_at, check_use, check_uses, Asked}
 use Rattle.ms_runs.specs.Shadow.{external_planes, callee_planes, planes}
 use Rattle.ms_two_fills.specs.Placed.{IsPlaced, Keeps, KeepsAfter, Checks, ChecksAfter}
 
@@ -242,34 +242,39 @@ next_kept (b ∷ bs) w = same_kept _ _ refl refl refl
 good_kept : (site a n : ℕ) (w : World) (e : Effect) → KeepsAfter w e → KeepsAfter w (where_good site a n w e)
 good_kept site a n w e h = either_after (is_good w a n) w _ _ h (itself w)
 
-pub external_kept : (s : Setting) (site : ℕ) (e : External) (vs : List ℕ) (w : World) → KeepsAfter w (external s site e vs w)
-external_kept s site Malloc vs w = malloc_kept s.fill (word 0 vs) w
-external_kept s site Calloc vs w = either_after (ltb (word 0 vs * word 1 vs) (2 ^ 64) && fits Heap (word 0 vs * word 1 vs) w) w _ _ (make_kept Heap (word 0 vs * word 1 vs) w) (itself w)
-external_kept s site Realloc vs w = realloc_kept s.fill site (word 0 vs) (word 1 vs) w
-external_kept s site Free vs w = either_after (eqb (word 0 vs) 0) w _ _ (itself w) (either_after (is_some (heap_size w (word 0 vs))) w _ _ (end_kept (word 0 vs) w) (itself w))
-external_kept s site Memcpy vs w = good_kept site (word 0 vs) (word 2 vs) w _ (good_kept site (word 1 vs) (word 2 vs) w _ (same_kept _ _ refl refl refl))
-external_kept s site Memmove vs w = good_kept site (word 0 vs) (word 2 vs) w _ (good_kept site (word 1 vs) (word 2 vs) w _ (same_kept _ _ refl refl refl))
-external_kept s site Memset vs w = good_kept site (word 0 vs) (word 2 vs) w _ (same_kept _ _ refl refl refl)
-external_kept s site Memcmp vs w = good_kept site (word 0 vs) (word 2 vs) w _ (good_kept site (word 1 vs) (word 2 vs) w _ (itself w))
-external_kept s site Strlen vs w = string_kept w (string_at w (word 0 vs)) (λ bs. Gives (length bs) w) site (λ bs. itself w)
-external_kept s site Putchar vs w = printed_kept site (word 0 vs % 256 ∷ []) (word 0 vs % 256) w
-external_kept s site Puts vs w = string_kept w (string_at w (word 0 vs)) (λ bs. printed site (bs ++ 10 ∷ []) (Gives 1) w) site (λ bs. printed_kept site (bs ++ 10 ∷ []) 1 w)
-external_kept s site Getchar vs w = next_kept w.input w
-external_kept s site Read vs w = good_kept site (word 1 vs) (word 2 vs) w _ (either_after (eqb (word 0 vs) 0) w _ _ (same_kept _ _ refl refl refl) (itself w))
-external_kept s site Write vs w = good_kept site (word 1 vs) (word 2 vs) w _ (either_after (eqb (word 0 vs) 1) w _ _ (printed_kept site (bytes_at w.bytes (word 1 vs) (word 2 vs)) (word 2 vs) w) (itself w))
-external_kept s site Exit vs w = itself w
-external_kept s site Abort vs w = itself w
-external_kept s site LlvmMemcpy vs w = good_kept site (word 0 vs) (word 2 vs) w _ (good_kept site (word 1 vs) (word 2 vs) w _ (same_kept _ _ refl refl refl))
-external_kept s site LlvmMemmove vs w = good_kept site (word 0 vs) (word 2 vs) w _ (good_kept site (word 1 vs) (word 2 vs) w _ (same_kept _ _ refl refl refl))
-external_kept s site LlvmMemset vs w = good_kept site (word 0 vs) (word 2 vs) w _ (same_kept _ _ refl refl refl)
-external_kept s site LifetimeStart vs w = good_kept site (word 1 vs) (word 0 vs) w _ (same_kept _ _ refl refl refl)
-external_kept s site LifetimeEnd vs w = itself w
+prints_kept : (site : ℕ) (r : Result (List ℕ) Trap) (w : World) → KeepsAfter w (prints site r w)
+prints_kept site (Ok bs) w = printed_kept site bs (length bs) w
+prints_kept site (Err t) w = itself w
 
-call_kept : (s : Setting) (site : ℕ) (vs : List ℕ) (w : World) (o : Option ℕ) (e : Option External)
-    → KeepsAfter w (elim o [ Some f ↦ Enters f w | None ↦ elim e [ Some x ↦ external s site x vs w | None ↦ Ends stuck w ] ])
-call_kept s site vs w (Some f) e = itself w
-call_kept s site vs w None (Some x) = external_kept s site x vs w
-call_kept s site vs w None None = itself w
+pub external_kept : (s : Setting) (site : ℕ) (e : External) (ts : List Ty) (vs : List ℕ) (w : World) → KeepsAfter w (external s site e ts vs w)
+external_kept s site Malloc ts vs w = malloc_kept s.fill (word 0 vs) w
+external_kept s site Calloc ts vs w = either_after (ltb (word 0 vs * word 1 vs) (2 ^ 64) && fits Heap (word 0 vs * word 1 vs) w) w _ _ (make_kept Heap (word 0 vs * word 1 vs) w) (itself w)
+external_kept s site Realloc ts vs w = realloc_kept s.fill site (word 0 vs) (word 1 vs) w
+external_kept s site Free ts vs w = either_after (eqb (word 0 vs) 0) w _ _ (itself w) (either_after (is_some (heap_size w (word 0 vs))) w _ _ (end_kept (word 0 vs) w) (itself w))
+external_kept s site Memcpy ts vs w = good_kept site (word 0 vs) (word 2 vs) w _ (good_kept site (word 1 vs) (word 2 vs) w _ (same_kept _ _ refl refl refl))
+external_kept s site Memmove ts vs w = good_kept site (word 0 vs) (word 2 vs) w _ (good_kept site (word 1 vs) (word 2 vs) w _ (same_kept _ _ refl refl refl))
+external_kept s site Memset ts vs w = good_kept site (word 0 vs) (word 2 vs) w _ (same_kept _ _ refl refl refl)
+external_kept s site Memcmp ts vs w = good_kept site (word 0 vs) (word 2 vs) w _ (good_kept site (word 1 vs) (word 2 vs) w _ (itself w))
+external_kept s site Strlen ts vs w = string_kept w (string_at w (word 0 vs)) (λ bs. Gives (length bs) w) site (λ bs. itself w)
+external_kept s site Putchar ts vs w = printed_kept site (word 0 vs % 256 ∷ []) (word 0 vs % 256) w
+external_kept s site Puts ts vs w = string_kept w (string_at w (word 0 vs)) (λ bs. printed site (bs ++ 10 ∷ []) (Gives 1) w) site (λ bs. printed_kept site (bs ++ 10 ∷ []) 1 w)
+external_kept s site Getchar ts vs w = next_kept w.input w
+external_kept s site Read ts vs w = good_kept site (word 1 vs) (word 2 vs) w _ (either_after (eqb (word 0 vs) 0) w _ _ (same_kept _ _ refl refl refl) (itself w))
+external_kept s site Write ts vs w = good_kept site (word 1 vs) (word 2 vs) w _ (either_after (eqb (word 0 vs) 1) w _ _ (printed_kept site (bytes_at w.bytes (word 1 vs) (word 2 vs)) (word 2 vs) w) (itself w))
+external_kept s site Exit ts vs w = itself w
+external_kept s site Abort ts vs w = itself w
+external_kept s site LlvmMemcpy ts vs w = good_kept site (word 0 vs) (word 2 vs) w _ (good_kept site (word 1 vs) (word 2 vs) w _ (same_kept _ _ refl refl refl))
+external_kept s site LlvmMemmove ts vs w = good_kept site (word 0 vs) (word 2 vs) w _ (good_kept site (word 1 vs) (word 2 vs) w _ (same_kept _ _ refl refl refl))
+external_kept s site LlvmMemset ts vs w = good_kept site (word 0 vs) (word 2 vs) w _ (same_kept _ _ refl refl refl)
+external_kept s site LifetimeStart ts vs w = good_kept site (word 1 vs) (word 0 vs) w _ (same_kept _ _ refl refl refl)
+external_kept s site LifetimeEnd ts vs w = itself w
+external_kept s site Printf ts vs w = prints_kept site (formatted w ts vs) w
+
+call_kept : (s : Setting) (site : ℕ) (ts : List Ty) (vs : List ℕ) (w : World) (o : Option ℕ) (e : Option External)
+    → KeepsAfter w (elim o [ Some f ↦ Enters f w | None ↦ elim e [ Some x ↦ external s site x ts vs w | None ↦ Ends stuck w ] ])
+call_kept s site ts vs w (Some f) e = itself w
+call_kept s site ts vs w None (Some x) = external_kept s site x ts vs w
+call_kept s site ts vs w None None = itself w
 
 pub act_kept : (s : Setting) (h : Here) (o : Op) (vs : List ℕ) (w : World) → KeepsAfter w (act s h o vs w)
 act_kept s h (op.Binary o f t a b) vs w = gives_kept h.site _ w
@@ -278,7 +283,7 @@ act_kept s h (op.Cast o f t a u) vs w = gives_kept h.site _ w
 act_kept s h (op.Alloca t u c) vs w = either_after (fits Stack (size_in s.types t * word 0 vs) w) w _ _ (make_unset_kept s.fill Stack (size_in s.types t * word 0 vs) w) (itself w)
 act_kept s h (op.Load t a) vs w = either_after (is_good w (word 0 vs) (stored_size t)) w _ _ (itself w) (itself w)
 act_kept s h (op.Store t v a) vs w = either_after (is_good w (word 1 vs) (stored_size t)) w _ _ (same_kept _ _ refl refl refl) (itself w)
-act_kept s h (op.Call r x args) vs w = call_kept s h.site vs w (s.func x) (external_named s.func x)
+act_kept s h (op.Call r x args) vs w = call_kept s h.site (map (λ a. a.0) args) vs w (s.func x) (external_named s.func x)
 act_kept s h (op.Ret v) vs w = either_after h.main w _ _ (itself w) (itself w)
 act_kept s h o vs w = itself w
 
@@ -311,6 +316,8 @@ use_kept : (s : Setting) (site : ℕ) (os : List (Ty × Operand)) (ps : List Poi
 use_kept s site os ps (Word kind k) w = check_kept s (word_at k ps).mask (width_of (type_at k os)) (word_at k ps).origin kind k site w
 use_kept s site os ps (Bytes kind a n) w = either_checked (is_good w (word_at a ps).value (word_at n ps).value) w _ _ (byte_kept s kind site (word_at a ps).value (first_nonzero w.shadow (word_at a ps).value (word_at n ps).value) w) (unchecked w)
 use_kept s site os ps (Line a) w = byte_kept s 10 site (word_at a ps).value (first_in_string w (word_at a ps).value (bytes_left w (word_at a ps).value)) w
+use_kept s site os ps (Asked a) w =
+    either_checked (asks_string_at w (word_at 0 ps).value a) w _ _ (byte_kept s 10 site (word_at a ps).value (first_in_string w (word_at a ps).value (bytes_left w (word_at a ps).value)) w) (unchecked w)
 
 kept_from : (w u : World) (e : Effect) → Checks w u → ChecksAfter u e → ChecksAfter w e
 kept_from w u (Gives v z) h g = then_checked w u z h g

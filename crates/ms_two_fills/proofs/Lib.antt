@@ -5,6 +5,7 @@ pub mod Calls
 pub mod Checks
 pub mod Externals
 pub mod FirstReport
+pub mod Formats
 pub mod Kept
 pub mod LimitFree
 pub mod Moves

@@ -1,5 +1,7 @@
 -- The plain run of a module without marked instructions doesn't depend on the limit of reports.
-use Rattle.std.proofs.Common.{◌≡◌, ℕ, List, [], ◌∷◌, Bool, false, Option, Some, None, refl, sym, ap, ◌∙◌, if◌then◌else◌}
+use Rattle.std.proofs.Common.{◌≡◌, ℕ, List, [], ◌∷◌, Bool, false, Option, Some, None, refl, sym, ap, ◌∙◌, if◌then◌else◌, Result, Ok, Err, map}
+use Rattle.ms_bits.specs.declared.traps.Trap.{Trap}
+use Rattle.ms_ir.specs.declared.syntax.Ty.{Ty}
 use Rattle.ms_ir.specs.declared.syntax.Name.{Name}
 use Rattle.ms_ir.specs.declared.syntax.Operand.{Operand}
 use Rattle.ms_ir.specs.declared.syntax.Operand.TheVariants as operand
@@ -9,7 +11,7 @@ use Rattle.ms_ir.specs.declared.syntax.Inst.{Inst}
 use Rattle.ms_ir.specs.declared.syntax.Module.{Module}
 use Rattle.ms_runs.specs.declared.runs.Setup.{Setup}
 use Rattle.ms_ir.specs.declared.calls.External.{External}
-use Rattle.ms_ir.specs.declared.calls.External.TheVariants.{Malloc, Calloc, Realloc, Free, Memcpy, Memmove, Memset, Memcmp, Strlen, Putchar, Puts, Getchar, Read, Write, Exit, Abort, LlvmMemcpy, LlvmMemmove, LlvmMemset, LifetimeStart, LifetimeEnd}
+use Rattle.ms_ir.specs.declared.calls.External.TheVariants.{Malloc, Calloc, Realloc, Free, Memcpy, Memmove, Memset, Memcmp, Strlen, Putchar, Puts, Getchar, Read, Write, Exit, Abort, LlvmMemcpy, LlvmMemmove, LlvmMemset, LifetimeStart, LifetimeEnd, Printf}
 use Rattle.ms_ir.specs.Layout.{width_of}
 use Rattle.ms_runs.specs.World.{World, Setting, Here, Effect, Gives, Does, Goes, Enters, Leaves, Ends, stuck}
 use Rattle.ms_ir.specs.Code.{operands, external_named, root_at, block_index, blocks_at, insts_at}
@@ -24,38 +26,39 @@ module _ (s : Setting) (k : ℕ) where
   abbrev relimited : Setting
   relimited = record s { limit = k }
 
-  external_free : (site : ℕ) (e : External) (vs : List ℕ) (w : World) → external relimited site e vs w ≡ external s site e vs w
-  external_free site Malloc vs w = refl
-  external_free site Calloc vs w = refl
-  external_free site Realloc vs w = refl
-  external_free site Free vs w = refl
-  external_free site Memcpy vs w = refl
-  external_free site Memmove vs w = refl
-  external_free site Memset vs w = refl
-  external_free site Memcmp vs w = refl
-  external_free site Strlen vs w = refl
-  external_free site Putchar vs w = refl
-  external_free site Puts vs w = refl
-  external_free site Getchar vs w = refl
-  external_free site Read vs w = refl
-  external_free site Write vs w = refl
-  external_free site Exit vs w = refl
-  external_free site Abort vs w = refl
-  external_free site LlvmMemcpy vs w = refl
-  external_free site LlvmMemmove vs w = refl
-  external_free site LlvmMemset vs w = refl
-  external_free site LifetimeStart vs w = refl
-  external_free site LifetimeEnd vs w = refl
+  external_free : (site : ℕ) (e : External) (ts : List Ty) (vs : List ℕ) (w : World) → external relimited site e ts vs w ≡ external s site e ts vs w
+  external_free site Malloc ts vs w = refl
+  external_free site Calloc ts vs w = refl
+  external_free site Realloc ts vs w = refl
+  external_free site Free ts vs w = refl
+  external_free site Memcpy ts vs w = refl
+  external_free site Memmove ts vs w = refl
+  external_free site Memset ts vs w = refl
+  external_free site Memcmp ts vs w = refl
+  external_free site Strlen ts vs w = refl
+  external_free site Putchar ts vs w = refl
+  external_free site Puts ts vs w = refl
+  external_free site Getchar ts vs w = refl
+  external_free site Read ts vs w = refl
+  external_free site Write ts vs w = refl
+  external_free site Exit ts vs w = refl
+  external_free site Abort ts vs w = refl
+  external_free site LlvmMemcpy ts vs w = refl
+  external_free site LlvmMemmove ts vs w = refl
+  external_free site LlvmMemset ts vs w = refl
+  external_free site LifetimeStart ts vs w = refl
+  external_free site LifetimeEnd ts vs w = refl
+  external_free site Printf ts vs w = refl
 
   -- what a call comes to
   -- what a call comes to
-  abbrev called : Setting → ℕ → List ℕ → World → Option ℕ → Option External → Effect
-  called g site vs w o e = elim o [ Some f ↦ Enters f w | None ↦ elim e [ Some x ↦ external g site x vs w | None ↦ Ends stuck w ] ]
+  abbrev called : Setting → ℕ → List Ty → List ℕ → World → Option ℕ → Option External → Effect
+  called g site ts vs w o e = elim o [ Some f ↦ Enters f w | None ↦ elim e [ Some x ↦ external g site x ts vs w | None ↦ Ends stuck w ] ]
 
-  call_free : (site : ℕ) (vs : List ℕ) (w : World) (o : Option ℕ) (e : Option External) → called relimited site vs w o e ≡ called s site vs w o e
-  call_free site vs w (Some f) e = refl
-  call_free site vs w None (Some x) = external_free site x vs w
-  call_free site vs w None None = refl
+  call_free : (site : ℕ) (ts : List Ty) (vs : List ℕ) (w : World) (o : Option ℕ) (e : Option External) → called relimited site ts vs w o e ≡ called s site ts vs w o e
+  call_free site ts vs w (Some f) e = refl
+  call_free site ts vs w None (Some x) = external_free site x ts vs w
+  call_free site ts vs w None None = refl
 
   pub act_free : (h : Here) (o : Op) (vs : List ℕ) (w : World) → act relimited h o vs w ≡ act s h o vs w
   act_free h (op.Binary o f t a b) vs w = refl
@@ -68,7 +71,7 @@ module _ (s : Setting) (k : ℕ) where
   act_free h (op.Load t a) vs w = refl
   act_free h (op.Store t v a) vs w = refl
   act_free h (op.Gep t a is) vs w = refl
-  act_free h (op.Call r x args) vs w = call_free h.site vs w (s.func x) (external_named s.func x)
+  act_free h (op.Call r x args) vs w = call_free h.site (map (λ a. a.0) args) vs w (s.func x) (external_named s.func x)
   act_free h (op.Br to) vs w = refl
   act_free h (op.CondBr c to other) vs w = refl
   act_free h (op.Switch t v other cases) vs w = refl

@@ -14,21 +14,21 @@ use Rattle.ms_runs.specs.declared.runs.End.{End}
 use Rattle.ms_runs.specs.declared.runs.End.TheVariants as «end»
 use Rattle.ms_runs.specs.declared.runs.Report.{Report}
 use Rattle.ms_ir.specs.declared.calls.External.{External}
-use Rattle.ms_ir.specs.declared.calls.External.TheVariants.{Malloc, Calloc, Realloc, Free, Memcpy, Memmove, Memset, Memcmp, Strlen, Putchar, Puts, Getchar, Read, Write, Exit, Abort, LlvmMemcpy, LlvmMemmove, LlvmMemset, LifetimeStart, LifetimeEnd}
+use Rattle.ms_ir.specs.declared.calls.External.TheVariants.{Malloc, Calloc, Realloc, Free, Memcpy, Memmove, Memset, Memcmp, Strlen, Putchar, Puts, Getchar, Read, Write, Exit, Abort, LlvmMemcpy, LlvmMemmove, LlvmMemset, LifetimeStart, LifetimeEnd, Printf}
 use Rattle.ms_ir.specs.Layout.{stored_size, size_in, width_of}
 use Rattle.ms_ir.specs.Areas.{Heap, Stack}
 use Rattle.ms_runs.specs.World.{World, Setting, Here, Effect, Gives, Does, Goes, Enters, Leaves, Ends, traps, stuck, word, then_does}
 use Rattle.ms_runs.specs.Memory.{fits, is_good, heap_size}
 use Rattle.ms_ir.specs.Code.{operands, count_undefs, external_named}
-use Rattle.ms_runs.specs.Origins.{add_report, check, check_byte, first_in_string, count_blind}
+use Rattle.ms_runs.specs.Origins.{add_report, check, check_byte, first_in_string, count_blind, asks_string_at}
 use Rattle.ms_runs.specs.Memory.{bytes_left}
-use Rattle.ms_runs.specs.Externals.{malloc, reallocated, realloc, where_good, string_at, printed, taken, next_byte, external, output_limit}
+use Rattle.ms_runs.specs.Externals.{malloc, reallocated, realloc, where_good, string_at, printed, taken, next_byte, external, output_limit, formatted, prints}
 use Rattle.ms_runs.specs.Act.{act, gives}
 use Rattle.ms_runs.specs.Control.{Frame, Outcome, On, Over, here, rest_of, read_all, entered, left, after_effect, frame_limit}
 use Rattle.ms_runs.specs.Plain.{Stepped, More, Stop, go_on, run}
 use Rattle.ms_runs.specs.Poisoned.{Poisoned}
 use Rattle.ms_runs.specs.Masks.{Rules, union, word_at}
-use Rattle.ms_runs.specs.Uses.{Use, Word, Bytes, Line, type_at, uses, check_use, check_uses, blinded}
+use Rattle.ms_runs.specs.Uses.{Use, Word, Bytes, Line, type_at, uses, check_use, check_uses, blinded, Asked}
 use Rattle.ms_runs.specs.Shadow.{read_poisoned, shadow_reading, planes, ShadowState, shadow_moved, poisoned_result, after_checks, shadow_first, shadow_frames, shadow_step}
 
 is_reported : End → Bool
@@ -86,34 +86,39 @@ next_told (b ∷ bs) w = tt
 good_told : (site a n : ℕ) (w : World) (e : Effect) → ToldAfter e → ToldAfter (where_good site a n w e)
 good_told site a n w e h = either_told (is_good w a n) _ _ h (trapped trap.BadAddress site w)
 
-external_told : (s : Setting) (site : ℕ) (e : External) (vs : List ℕ) (w : World) → ToldAfter (external s site e vs w)
-external_told s site Malloc vs w = malloc_told s.fill (word 0 vs) w
-external_told s site Calloc vs w = either_told (ltb (word 0 vs * word 1 vs) (2 ^ 64) && fits Heap (word 0 vs * word 1 vs) w) _ _ tt tt
-external_told s site Realloc vs w = realloc_told s.fill site (word 0 vs) (word 1 vs) w
-external_told s site Free vs w = either_told (eqb (word 0 vs) 0) _ _ tt (either_told (is_some (heap_size w (word 0 vs))) _ _ tt (trapped trap.BadFree site w))
-external_told s site Memcpy vs w = good_told site (word 0 vs) (word 2 vs) w _ (good_told site (word 1 vs) (word 2 vs) w _ tt)
-external_told s site Memmove vs w = good_told site (word 0 vs) (word 2 vs) w _ (good_told site (word 1 vs) (word 2 vs) w _ tt)
-external_told s site Memset vs w = good_told site (word 0 vs) (word 2 vs) w _ tt
-external_told s site Memcmp vs w = good_told site (word 0 vs) (word 2 vs) w _ (good_told site (word 1 vs) (word 2 vs) w _ tt)
-external_told s site Strlen vs w = string_told w (string_at w (word 0 vs)) (λ bs. Gives (length bs) w) site (λ bs. tt)
-external_told s site Putchar vs w = printed_told site (word 0 vs % 256 ∷ []) (word 0 vs % 256) w
-external_told s site Puts vs w = string_told w (string_at w (word 0 vs)) (λ bs. printed site (bs ++ 10 ∷ []) (Gives 1) w) site (λ bs. printed_told site (bs ++ 10 ∷ []) 1 w)
-external_told s site Getchar vs w = next_told w.input w
-external_told s site Read vs w = good_told site (word 1 vs) (word 2 vs) w _ (either_told (eqb (word 0 vs) 0) (taken (word 1 vs) (word 2 vs) w) _ tt tt)
-external_told s site Write vs w = good_told site (word 1 vs) (word 2 vs) w _ (either_told (eqb (word 0 vs) 1) _ _ (printed_told site (bytes_at w.bytes (word 1 vs) (word 2 vs)) (word 2 vs) w) tt)
-external_told s site Exit vs w = exited (word 0 vs) w
-external_told s site Abort vs w = trapped trap.Abort site w
-external_told s site LlvmMemcpy vs w = good_told site (word 0 vs) (word 2 vs) w _ (good_told site (word 1 vs) (word 2 vs) w _ tt)
-external_told s site LlvmMemmove vs w = good_told site (word 0 vs) (word 2 vs) w _ (good_told site (word 1 vs) (word 2 vs) w _ tt)
-external_told s site LlvmMemset vs w = good_told site (word 0 vs) (word 2 vs) w _ tt
-external_told s site LifetimeStart vs w = good_told site (word 1 vs) (word 0 vs) w _ tt
-external_told s site LifetimeEnd vs w = tt
+prints_told : (site : ℕ) (r : Result (List ℕ) Trap) (w : World) → ToldAfter (prints site r w)
+prints_told site (Ok bs) w = printed_told site bs (length bs) w
+prints_told site (Err t) w = trapped t site w
 
-call_told : (s : Setting) (site : ℕ) (vs : List ℕ) (w : World) (o : Option ℕ) (e : Option External)
-    → ToldAfter (elim o [ Some f ↦ Enters f w | None ↦ elim e [ Some x ↦ external s site x vs w | None ↦ Ends stuck w ] ])
-call_told s site vs w (Some f) e = tt
-call_told s site vs w None (Some x) = external_told s site x vs w
-call_told s site vs w None None = trapped trap.Unreachable 0 w
+external_told : (s : Setting) (site : ℕ) (e : External) (ts : List Ty) (vs : List ℕ) (w : World) → ToldAfter (external s site e ts vs w)
+external_told s site Malloc ts vs w = malloc_told s.fill (word 0 vs) w
+external_told s site Calloc ts vs w = either_told (ltb (word 0 vs * word 1 vs) (2 ^ 64) && fits Heap (word 0 vs * word 1 vs) w) _ _ tt tt
+external_told s site Realloc ts vs w = realloc_told s.fill site (word 0 vs) (word 1 vs) w
+external_told s site Free ts vs w = either_told (eqb (word 0 vs) 0) _ _ tt (either_told (is_some (heap_size w (word 0 vs))) _ _ tt (trapped trap.BadFree site w))
+external_told s site Memcpy ts vs w = good_told site (word 0 vs) (word 2 vs) w _ (good_told site (word 1 vs) (word 2 vs) w _ tt)
+external_told s site Memmove ts vs w = good_told site (word 0 vs) (word 2 vs) w _ (good_told site (word 1 vs) (word 2 vs) w _ tt)
+external_told s site Memset ts vs w = good_told site (word 0 vs) (word 2 vs) w _ tt
+external_told s site Memcmp ts vs w = good_told site (word 0 vs) (word 2 vs) w _ (good_told site (word 1 vs) (word 2 vs) w _ tt)
+external_told s site Strlen ts vs w = string_told w (string_at w (word 0 vs)) (λ bs. Gives (length bs) w) site (λ bs. tt)
+external_told s site Putchar ts vs w = printed_told site (word 0 vs % 256 ∷ []) (word 0 vs % 256) w
+external_told s site Puts ts vs w = string_told w (string_at w (word 0 vs)) (λ bs. printed site (bs ++ 10 ∷ []) (Gives 1) w) site (λ bs. printed_told site (bs ++ 10 ∷ []) 1 w)
+external_told s site Getchar ts vs w = next_told w.input w
+external_told s site Read ts vs w = good_told site (word 1 vs) (word 2 vs) w _ (either_told (eqb (word 0 vs) 0) (taken (word 1 vs) (word 2 vs) w) _ tt tt)
+external_told s site Write ts vs w = good_told site (word 1 vs) (word 2 vs) w _ (either_told (eqb (word 0 vs) 1) _ _ (printed_told site (bytes_at w.bytes (word 1 vs) (word 2 vs)) (word 2 vs) w) tt)
+external_told s site Exit ts vs w = exited (word 0 vs) w
+external_told s site Abort ts vs w = trapped trap.Abort site w
+external_told s site LlvmMemcpy ts vs w = good_told site (word 0 vs) (word 2 vs) w _ (good_told site (word 1 vs) (word 2 vs) w _ tt)
+external_told s site LlvmMemmove ts vs w = good_told site (word 0 vs) (word 2 vs) w _ (good_told site (word 1 vs) (word 2 vs) w _ tt)
+external_told s site LlvmMemset ts vs w = good_told site (word 0 vs) (word 2 vs) w _ tt
+external_told s site LifetimeStart ts vs w = good_told site (word 1 vs) (word 0 vs) w _ tt
+external_told s site LifetimeEnd ts vs w = tt
+external_told s site Printf ts vs w = prints_told site (formatted w ts vs) w
+
+call_told : (s : Setting) (site : ℕ) (ts : List Ty) (vs : List ℕ) (w : World) (o : Option ℕ) (e : Option External)
+    → ToldAfter (elim o [ Some f ↦ Enters f w | None ↦ elim e [ Some x ↦ external s site x ts vs w | None ↦ Ends stuck w ] ])
+call_told s site ts vs w (Some f) e = tt
+call_told s site ts vs w None (Some x) = external_told s site x ts vs w
+call_told s site ts vs w None None = trapped trap.Unreachable 0 w
 
 act_told : (s : Setting) (h : Here) (o : Op) (vs : List ℕ) (w : World) → ToldAfter (act s h o vs w)
 act_told s h (op.Binary o f t a b) vs w = gives_told h.site _ w
@@ -123,7 +128,7 @@ act_told s h (op.Phi t edges) vs w = trapped trap.Unreachable 0 w
 act_told s h (op.Alloca t u c) vs w = either_told (fits Stack (size_in s.types t * word 0 vs) w) _ _ tt (trapped trap.Stack h.site w)
 act_told s h (op.Load t a) vs w = either_told (is_good w (word 0 vs) (stored_size t)) _ _ tt (trapped trap.BadAddress h.site w)
 act_told s h (op.Store t v a) vs w = either_told (is_good w (word 1 vs) (stored_size t)) _ _ tt (trapped trap.BadAddress h.site w)
-act_told s h (op.Call r x args) vs w = call_told s h.site vs w (s.func x) (external_named s.func x)
+act_told s h (op.Call r x args) vs w = call_told s h.site (map (λ a. a.0) args) vs w (s.func x) (external_named s.func x)
 act_told s h (op.Ret v) vs w = either_told h.main _ _ (exited (word 0 vs) w) tt
 act_told s h op.Unreachable vs w = trapped trap.Unreachable h.site w
 act_told s h (op.Select c t a b) vs w = tt
@@ -149,6 +154,8 @@ use_told : (s : Setting) (site : ℕ) (os : List (Ty × Operand)) (ps : List Poi
 use_told s site os ps (Word kind k) w = check_told s (word_at k ps).mask (width_of (type_at k os)) (word_at k ps).origin kind k site w
 use_told s site os ps (Bytes kind a n) w = either_told (is_good w (word_at a ps).value (word_at n ps).value) _ _ (byte_told s kind site (word_at a ps).value (first_nonzero w.shadow (word_at a ps).value (word_at n ps).value) w) tt
 use_told s site os ps (Line a) w = byte_told s 10 site (word_at a ps).value (first_in_string w (word_at a ps).value (bytes_left w (word_at a ps).value)) w
+use_told s site os ps (Asked a) w =
+    either_told (asks_string_at w (word_at 0 ps).value a) _ _ (byte_told s 10 site (word_at a ps).value (first_in_string w (word_at a ps).value (bytes_left w (word_at a ps).value)) w) tt
 
 then_told : (e : Effect) (go : World → Effect) → ToldAfter e → ((u : World) → ToldAfter (go u)) → ToldAfter (then_does e go)
 then_told (Does u) go h f = f u

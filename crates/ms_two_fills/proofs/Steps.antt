@@ -1,27 +1,28 @@
 -- A step from states that are alike, where one report ends the run and no blind use occurs.
-use Rattle.std.proofs.Common.{◌≡◌, ℕ, ◌+◌, ◌<◌, List, [], ◌∷◌, map, Bool, true, false, Option, Some, None, refl, sym, ap, ◌∙◌, subst, if◌then◌else◌}
+use Rattle.std.proofs.Common.{◌≡◌, ℕ, ◌+◌, ◌<◌, List, [], ◌∷◌, map, Bool, true, false, Option, Some, None, refl, sym, ap, ◌∙◌, subst, if◌then◌else◌, suc, ◌++◌}
 use Rattle.ms_bits.specs.declared.operations.BinOp.{BinOp}
 use Rattle.ms_bits.specs.declared.operations.BinOp.TheVariants.{Add, Sub, Mul, Udiv, Sdiv, Urem, Srem, Shl, Lshr, Ashr, And, Or, Xor}
 use Rattle.ms_ir.specs.declared.syntax.Name.{Name}
-use Rattle.ms_ir.specs.declared.syntax.Ty.{Ty}
+use Rattle.ms_ir.specs.declared.syntax.Ty.{Ty, Ptr}
 use Rattle.ms_ir.specs.declared.syntax.Operand.{Operand}
 use Rattle.ms_ir.specs.declared.syntax.Op.{Op}
 use Rattle.ms_ir.specs.declared.syntax.Op.TheVariants as op
 use Rattle.ms_ir.specs.declared.syntax.Inst.{Inst}
 use Rattle.ms_ir.specs.declared.syntax.Module.{Module}
 use Rattle.ms_ir.specs.declared.calls.External.{External}
-use Rattle.ms_ir.specs.declared.calls.External.TheVariants.{Malloc, Calloc, Realloc, Free, Memcpy, Memmove, Memset, Memcmp, Strlen, Putchar, Puts, Getchar, Read, Write, Exit, Abort, LlvmMemcpy, LlvmMemmove, LlvmMemset, LifetimeStart, LifetimeEnd}
+use Rattle.ms_ir.specs.declared.calls.External.TheVariants.{Malloc, Calloc, Realloc, Free, Memcpy, Memmove, Memset, Memcmp, Strlen, Putchar, Puts, Getchar, Read, Write, Exit, Abort, LlvmMemcpy, LlvmMemmove, LlvmMemset, LifetimeStart, LifetimeEnd, Printf}
 use Rattle.ms_runs.specs.World.{World, Setting, Here, Effect, Gives, Does, Goes, Enters, Leaves, Ends}
+use Rattle.ms_ir.specs.Equal.{type_eq}
 use Rattle.ms_ir.specs.Code.{operands, count_undefs, external_named}
 use Rattle.ms_runs.specs.Control.{Frame, Outcome, On, Over, here, rest_of, read_all}
 use Rattle.ms_runs.specs.Origins.{count_blind}
 use Rattle.ms_runs.specs.Poisoned.{Poisoned}
-use Rattle.ms_runs.specs.Masks.{by_formulas, union}
-use Rattle.ms_runs.specs.Uses.{uses, binary_uses, callee_uses, external_uses, check_uses, has_flag, blind_binary, blinded}
+use Rattle.ms_runs.specs.Masks.{by_formulas, union, word_at}
+use Rattle.ms_runs.specs.Uses.{uses, binary_uses, callee_uses, external_uses, check_uses, has_flag, blind_binary, blinded, Use, Line, Asked, value_uses, string_uses}
 use Rattle.ms_runs.specs.Shadow.{read_poisoned, ShadowState, shadow_moved, shadow_act, after_checks, shadow_inst, shadow_first, shadow_frames, shadow_step}
 use Rattle.ms_runs.specs.LowEqual.{LowEqual, LowFrames}
 use Rattle.ms_two_fills.specs.Alike.{StepsAlike, refill}
-use Rattle.ms_two_fills.specs.Passed.{AllPassed}
+use Rattle.ms_two_fills.specs.Passed.{Passed, AllPassed}
 use Rattle.ms_two_fills.specs.Effects.{CheckedAlike, Ready, MovesAlike}
 use Rattle.ms_two_fills.specs.Placed.{FitWorld}
 use Rattle.std.specs.Prelude.{take, drop}
@@ -35,54 +36,72 @@ use Rattle.ms_two_fills.proofs.Moves.{AlikeValues, revalued, by_values, frame_al
 
 -- ---- checks of memory stand behind those of words
 
-external_ready : (e : External) (ps : List Poisoned) → Ready ps (external_uses e)
-external_ready Malloc ps = λ a. tt
-external_ready Calloc ps = λ a c. tt
-external_ready Realloc ps = λ a c. tt
-external_ready Free ps = λ a. tt
-external_ready Memcpy ps = λ a c d. tt
-external_ready Memmove ps = λ a c d. tt
-external_ready Memset ps = λ a d. tt
-external_ready Memcmp ps = λ a c d. (a, d, (c, d, tt))
-external_ready Strlen ps = λ a. (a, tt)
-external_ready Putchar ps = λ a. tt
-external_ready Puts ps = λ a. (a, tt)
-external_ready Getchar ps = tt
-external_ready Read ps = λ a c d. tt
-external_ready Write ps = λ a c d. (c, d, tt)
-external_ready Exit ps = λ a. tt
-external_ready Abort ps = tt
-external_ready LlvmMemcpy ps = λ a c d. tt
-external_ready LlvmMemmove ps = λ a c d. tt
-external_ready LlvmMemset ps = λ a d. tt
-external_ready LifetimeStart ps = λ a c. tt
-external_ready LifetimeEnd ps = λ a c. tt
+-- the words of arguments have no poisoned bit
+abbrev AreZero : List Poisoned → ℕ → List (Ty × Operand) → Type 0
+AreZero ps k [] = Unit {0}
+AreZero ps k (a ∷ args) = ((word_at k ps).mask ≡ 0) × AreZero ps (suc k) args
 
-callee_ready : (o : Option External) (ps : List Poisoned) → Ready ps (callee_uses o)
-callee_ready None ps = tt
-callee_ready (Some e) ps = external_ready e ps
+values_ready : (w : World) (ps : List Poisoned) (k : ℕ) (args : List (Ty × Operand)) (us : List Use) → (AreZero ps k args → Ready w ps us) → Ready w ps (value_uses k args ++ us)
+values_ready w ps k [] us f = f tt
+values_ready w ps k (a ∷ args) us f = λ z. values_ready w ps (suc k) args us (λ zs. f (z, zs))
 
-binary_ready : (o : BinOp) (ps : List Poisoned) → Ready ps (binary_uses o)
-binary_ready Udiv ps = λ d. tt
-binary_ready Sdiv ps = λ d. tt
-binary_ready Urem ps = λ d. tt
-binary_ready Srem ps = λ d. tt
-binary_ready _ ps = tt
+strings_ready : (w : World) (ps : List Poisoned) → (word_at 0 ps).mask ≡ 0 → Passed w ps (Line 0) → (k : ℕ) (args : List (Ty × Operand)) → AreZero ps k args → Ready w ps (string_uses k args)
+strings_ready w ps z p k [] zs = tt
+strings_ready w ps z p k (a ∷ args) zs = by_test (type_eq a.0 Ptr) (strings_ready w ps z p (suc k) args zs.1)
+  where
+    by_test : (t : Bool) → Ready w ps (string_uses (suc k) args) → Ready w ps (if t then Asked k ∷ string_uses (suc k) args else string_uses (suc k) args)
+    by_test true later = (z, zs.0, p, later)
+    by_test false later = later
 
-returned_ready : (func : Name → Option ℕ) (main : Bool) (v : Option (Ty × Operand)) (ps : List Poisoned) → Ready ps (uses func main (op.Ret v))
-returned_ready func true v ps = λ z. tt
-returned_ready func false v ps = tt
+external_ready : (e : External) (args : List (Ty × Operand)) (w : World) (ps : List Poisoned) → Ready w ps (external_uses e args)
+external_ready Malloc args w ps = λ a. tt
+external_ready Calloc args w ps = λ a c. tt
+external_ready Realloc args w ps = λ a c. tt
+external_ready Free args w ps = λ a. tt
+external_ready Memcpy args w ps = λ a c d. tt
+external_ready Memmove args w ps = λ a c d. tt
+external_ready Memset args w ps = λ a d. tt
+external_ready Memcmp args w ps = λ a c d. (a, d, (c, d, tt))
+external_ready Strlen args w ps = λ a. (a, λ p. tt)
+external_ready Putchar args w ps = λ a. tt
+external_ready Puts args w ps = λ a. (a, λ p. tt)
+external_ready Getchar args w ps = tt
+external_ready Read args w ps = λ a c d. tt
+external_ready Write args w ps = λ a c d. (c, d, tt)
+external_ready Exit args w ps = λ a. tt
+external_ready Abort args w ps = tt
+external_ready LlvmMemcpy args w ps = λ a c d. tt
+external_ready LlvmMemmove args w ps = λ a c d. tt
+external_ready LlvmMemset args w ps = λ a d. tt
+external_ready LifetimeStart args w ps = λ a c. tt
+external_ready LifetimeEnd args w ps = λ a c. tt
+external_ready Printf args w ps = λ a. (a, λ p. values_ready w ps 1 (drop 1 args) (string_uses 1 (drop 1 args)) (λ zs. strings_ready w ps a p 1 (drop 1 args) zs))
 
-ready : (func : Name → Option ℕ) (main : Bool) (o : Op) (ps : List Poisoned) → Ready ps (uses func main o)
-ready func main (op.Binary o f t a b) ps = binary_ready o ps
-ready func main (op.Alloca t u c) ps = λ z. tt
-ready func main (op.Load t a) ps = λ z. tt
-ready func main (op.Store t v a) ps = λ z. tt
-ready func main (op.Call r x args) ps = callee_ready (external_named func x) ps
-ready func main (op.CondBr c to otherwise) ps = λ z. tt
-ready func main (op.Switch t v otherwise cases) ps = λ z. tt
-ready func main (op.Ret v) ps = returned_ready func main v ps
-ready func main _ ps = tt
+callee_ready : (o : Option External) (args : List (Ty × Operand)) (w : World) (ps : List Poisoned) → Ready w ps (callee_uses o args)
+callee_ready None args w ps = tt
+callee_ready (Some e) args w ps = external_ready e args w ps
+
+binary_ready : (o : BinOp) (w : World) (ps : List Poisoned) → Ready w ps (binary_uses o)
+binary_ready Udiv w ps = λ d. tt
+binary_ready Sdiv w ps = λ d. tt
+binary_ready Urem w ps = λ d. tt
+binary_ready Srem w ps = λ d. tt
+binary_ready _ w ps = tt
+
+returned_ready : (func : Name → Option ℕ) (main : Bool) (v : Option (Ty × Operand)) (w : World) (ps : List Poisoned) → Ready w ps (uses func main (op.Ret v))
+returned_ready func true v w ps = λ z. tt
+returned_ready func false v w ps = tt
+
+ready : (func : Name → Option ℕ) (main : Bool) (o : Op) (w : World) (ps : List Poisoned) → Ready w ps (uses func main o)
+ready func main (op.Binary o f t a b) w ps = binary_ready o w ps
+ready func main (op.Alloca t u c) w ps = λ z. tt
+ready func main (op.Load t a) w ps = λ z. tt
+ready func main (op.Store t v a) w ps = λ z. tt
+ready func main (op.Call r x args) w ps = callee_ready (external_named func x) args w ps
+ready func main (op.CondBr c to otherwise) w ps = λ z. tt
+ready func main (op.Switch t v otherwise cases) w ps = λ z. tt
+ready func main (op.Ret v) w ps = returned_ready func main v w ps
+ready func main _ w ps = tt
 
 -- ---- one instruction
 
@@ -216,7 +235,7 @@ module _ (s : Setting) (fill : List ℕ) (one : s.limit ≡ 1) (m : Module) wher
         → MovesAlike (shadow_inst by_formulas s m i fr below w) (shadow_inst by_formulas (refill s fill) m i (revalued fr values) others_below (other w b))
     inst_moves w b alike fit others quiet =
         checked_alike w b alike fit others _ _ quiet
-        (uses_alike s fill one (here s m fr).site (operands i.op) ps qs words w b alike fit.bytes others (uses s.func (here s m fr).main i.op) (ready s.func (here s m fr).main i.op ps))
+        (uses_alike s fill one (here s m fr).site (operands i.op) ps qs words w b alike fit.bytes others (uses s.func (here s m fr).main i.op) (ready s.func (here s m fr).main i.op w ps))
 
   -- ---- the instruction that is due
 

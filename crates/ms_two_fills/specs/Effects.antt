@@ -4,7 +4,8 @@ use Rattle.ms_runs.specs.World.{World, Effect, Gives, Does, Goes, Enters, Leaves
 use Rattle.ms_runs.specs.Control.{Outcome, On, Over}
 use Rattle.ms_runs.specs.Poisoned.{Poisoned}
 use Rattle.ms_runs.specs.Masks.{word_at}
-use Rattle.ms_runs.specs.Uses.{Use, Word, Bytes, Line}
+use Rattle.ms_runs.specs.Uses.{Use, Word, Bytes, Line, Asked}
+use Rattle.ms_two_fills.specs.Passed.{Passed}
 use Rattle.ms_runs.specs.LowEqual.{LowFrames, LowWord, LowWorld}
 
 -- checks that find nothing in both worlds, which they leave, or that end both runs alike
@@ -13,12 +14,14 @@ CheckedAlike passed w v (Does u) (Does z) = passed × (u ≡ w) × (z ≡ v)
 CheckedAlike passed w v (Ends e u) (Ends x z) = (e ≡ x) × LowWorld u z
 CheckedAlike passed w v _ _ = ⊥
 
--- a check of memory stands behind checks of the words that say where it is
-abbrev pub Ready : List Poisoned → List Use → Type 0
-Ready ps [] = Unit {0}
-Ready ps (Word kind k ∷ us) = (word_at k ps).mask ≡ 0 → Ready ps us
-Ready ps (Bytes kind a n ∷ us) = ((word_at a ps).mask ≡ 0) × ((word_at n ps).mask ≡ 0) × Ready ps us
-Ready ps (Line a ∷ us) = ((word_at a ps).mask ≡ 0) × Ready ps us
+-- a check of memory comes after checks of the words that say where it is, and one that a format asks for after the check
+-- of the format too
+abbrev pub Ready : World → List Poisoned → List Use → Type 0
+Ready w ps [] = Unit {0}
+Ready w ps (Word kind k ∷ us) = (word_at k ps).mask ≡ 0 → Ready w ps us
+Ready w ps (Bytes kind a n ∷ us) = ((word_at a ps).mask ≡ 0) × ((word_at n ps).mask ≡ 0) × Ready w ps us
+Ready w ps (Line a ∷ us) = ((word_at a ps).mask ≡ 0) × (Passed w ps (Line a) → Ready w ps us)
+Ready w ps (Asked a ∷ us) = ((word_at 0 ps).mask ≡ 0) × ((word_at a ps).mask ≡ 0) × Passed w ps (Line 0) × Ready w ps us
 
 -- effects that give words alike, and leave worlds alike
 abbrev pub EffectsAlike : (ℕ → World → Poisoned) → (ℕ → World → Poisoned) → (ℕ → World → World) → (ℕ → World → World) → Effect → Effect → Type 0

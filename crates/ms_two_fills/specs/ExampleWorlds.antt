@@ -39,4 +39,4 @@ with_planes after (Ends e w) = w
 abbrev pub grown_from_null : List ℕ → World
 grown_from_null fill =
     with_planes (external_planes (bare_setting fill) 1 1 Realloc (clean ∷ record clean { value = 8 } ∷ []) block_at_zero)
-    (external (bare_setting fill) 1 Realloc (0 ∷ 8 ∷ []) block_at_zero)
+    (external (bare_setting fill) 1 Realloc [] (0 ∷ 8 ∷ []) block_at_zero)

@@ -24,3 +24,11 @@ returns-in-Line c =
     subst Made (sym c.in-Line.is)
     (c.call-in-Line.ensures
     ((Ptr, word_of (tracked_at c.in-Line.start ts)) ∷ (Int 32, number c.args.site) ∷ []) refl refl)
+
+pub returns-in-Asked : goal.returns-in-Asked
+returns-in-Asked c =
+    let ts = map tracked_of c.args.operands.now in
+    let Made : Use → Type 0 = λ u. OnOk c.call-in-Asked.result (c.call-in-Asked.new.code ≡ with_tasks c.args.code.now (use_tasks c.args.site ts (use_of u))) in
+    subst Made (sym c.in-Asked.is)
+    (c.call-in-Asked.ensures
+    ((Ptr, word_of (tracked_at 0 ts)) ∷ (Int 32, number c.in-Asked.start) ∷ (Ptr, word_of (tracked_at c.in-Asked.start ts)) ∷ (Int 32, number c.args.site) ∷ []) refl refl)

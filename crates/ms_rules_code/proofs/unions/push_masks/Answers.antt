@@ -13,8 +13,8 @@ loop-place-preserved c =
     let all = c.args.steps.now.items ++ masks_from how 0 ts in
     let after = c.if-not-is_clean in
     elim after.branch [
-      then-not-is_clean+in_ok-push_mask w ↦ mask_added ops how c.loop-place.place x.result c.loop-place-test.true x.is c.loop-place.steps.items all after.steps.items c.loop-place.masks (length (unknown ts)) after.masks
+      | then-not-is_clean+in_ok-push_mask w ↦ mask_added ops how c.loop-place.place x.result c.loop-place-test.true x.is c.loop-place.steps.items all after.steps.items c.loop-place.masks (length (unknown ts)) after.masks
           w.width.result (sym c.is_clean.ensures ∙ w.if-not-is_clean.true) w.width.ensures (ap (λ s. s.items) w.steps-is ∙ w.in_ok-push_mask.ensures) w.masks-is c.loop-place.invariant
-    | else-not-is_clean w ↦ clean_passed ops how c.loop-place.place x.result c.loop-place-test.true x.is c.loop-place.steps.items all after.steps.items c.loop-place.masks (length (unknown ts)) after.masks
+      | else-not-is_clean w ↦ clean_passed ops how c.loop-place.place x.result c.loop-place-test.true x.is c.loop-place.steps.items all after.steps.items c.loop-place.masks (length (unknown ts)) after.masks
           (sym c.is_clean.ensures ∙ w.if-not-is_clean.false) (ap (λ s. s.items) w.steps-is) w.masks-is c.loop-place.invariant
     ]

@@ -1,6 +1,7 @@
 use Rattle.std.proofs.Common.{◌≡◌, List, [], ◌∷◌, ◌++◌, ap, sym, ◌∙◌, map, take, drop, subst, OnOk}
 use Rattle.ms_ir.specs.declared.syntax.Ty.{Int}
-use Rattle.ms_tasks.specs.Environments.{Tracked, tracked_at, mask_of, joined}
+use Rattle.ms_tasks.specs.Tasks.{Expr}
+use Rattle.ms_tasks.specs.Environments.{Tracked, tracked_at, mask_of, unknown, joined}
 use Rattle.ms_tasks.specs.ResultMasks.{carry_expr, sum_expr, first_last}
 use Rattle.ms_rules_code.specs.declared.unions.Widening.TheVariants as widening
 use Rattle.ms_rules_code.specs.Made.{with_tasks}

@@ -16,6 +16,11 @@ returns-in-CheckString-clause-served c = λ setting beside meant for kept shows.
     from-kind (λ f. IfOk c.check_string.result (λ a. Served (runtime setting f c.args.args.now meant) a c.args.world.now c.args.depot.now c.check_string.new.told)) c.in-CheckString.is
     (c.check_string.ensures.served setting beside meant for kept shows)
 
+pub returns-in-CheckFormat-clause-served : goal.returns-in-CheckFormat-clause-served
+returns-in-CheckFormat-clause-served c = λ setting beside meant for kept shows.
+    from-kind (λ f. IfOk c.check_format.result (λ a. Served (runtime setting f c.args.args.now meant) a c.args.world.now c.args.depot.now c.check_format.new.told)) c.in-CheckFormat.is
+    (c.check_format.ensures.served setting beside meant for kept shows)
+
 pub returns-in-Check-clause-served : goal.returns-in-Check-clause-served
 returns-in-Check-clause-served c = λ setting beside meant for kept shows.
     from-kind (λ f. IfOk c.check.result (λ a. Served (runtime setting f c.args.args.now meant) a c.args.world.now c.args.depot.now c.check.new.told)) c.in-Check.is

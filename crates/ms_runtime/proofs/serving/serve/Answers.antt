@@ -7,13 +7,13 @@ use Rattle.ms_runtime.specs.Served.{Served}
 use Rattle.ms_runtime.proofs.serving.serve.Goals as goal
 
 pub returns-then-matches-clause-served : goal.returns-then-matches-clause-served
-returns-then-matches-clause-served c = λ setting beside meant for kept shows.
-    subst (λ (asked : Asked). IfOk c.report.result (λ a. Served (effect_asked setting c.args.call.now.site asked c.args.call.now.args meant) a c.args.world.now c.args.depot.now c.report.new.told)) (sym c.in-Runtime.is)
+returns-then-matches-clause-served c = λ setting types beside meant for kept shows.
+    subst (λ (asked : Asked). IfOk c.report.result (λ a. Served (effect_asked setting c.args.call.now.site asked types c.args.call.now.args meant) a c.args.world.now c.args.depot.now c.report.new.told)) (sym c.in-Runtime.is)
     (subst (λ (args : List ℕ). IfOk c.report.result (λ a. Served (runtime setting c.in-Runtime.function args meant) a c.args.world.now c.args.depot.now c.report.new.told)) c.as_slice-args.ensures
     (c.report.ensures.served setting beside meant for kept shows))
 
 pub returns-clause-served : goal.returns-clause-served
-returns-clause-served c = λ setting beside meant for kept shows.
-    subst (λ (asked : Asked). Served (effect_asked setting c.args.call.now.site asked c.args.call.now.args meant) (Resumed c.in_ok-value.value) c.change.new.world c.change.new.depot c.change.new.told) (sym c.in-Runtime.is)
+returns-clause-served c = λ setting types beside meant for kept shows.
+    subst (λ (asked : Asked). Served (effect_asked setting c.args.call.now.site asked types c.args.call.now.args meant) (Resumed c.in_ok-value.value) c.change.new.world c.change.new.depot c.change.new.told) (sym c.in-Runtime.is)
     (subst (λ (args : List ℕ). Served (runtime setting c.in-Runtime.function args meant) (Resumed c.in_ok-value.value) c.change.new.world c.change.new.depot c.change.new.told) c.as_slice-args.ensures
     (c.in_ok-value.ensures.served setting beside meant for.same_roots kept shows))

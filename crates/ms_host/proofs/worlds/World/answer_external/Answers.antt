@@ -7,35 +7,35 @@ use Rattle.ms_host.proofs.Effects.{filled-by}
 use Rattle.ms_host.proofs.worlds.World.answer_external.Goals as goal
 
 pub returns-in-Malloc-clause-answered : goal.returns-in-Malloc-clause-answered
-returns-in-Malloc-clause-answered c = λ given beside world fill shows.
+returns-in-Malloc-clause-answered c = λ given types beside world fill shows.
     let P : Effect → Type 0 = λ e. IfOk c.malloc.result (λ a. Answered beside e a c.malloc.new.self) in
-    subst (λ (e : External). P (external_of given c.args.site e c.args.args.now world)) (sym c.in-Malloc.is)
+    subst (λ (e : External). P (external_of given c.args.site e types c.args.args.now world)) (sym c.in-Malloc.is)
     (subst (λ (x : ℕ). P (malloc given.fill x world)) c.word-a.ensures
     (subst (λ (f : List ℕ). P (malloc f c.word-a.result world)) fill
     (c.malloc.ensures.answered beside world shows)))
 
 pub returns-in-Realloc-clause-answered : goal.returns-in-Realloc-clause-answered
-returns-in-Realloc-clause-answered c = λ given beside world fill shows.
+returns-in-Realloc-clause-answered c = λ given types beside world fill shows.
     let P : Effect → Type 0 = λ e. IfOk c.realloc.result (λ a. Answered beside e a c.realloc.new.self) in
-    subst (λ (e : External). P (external_of given c.args.site e c.args.args.now world)) (sym c.in-Realloc.is)
+    subst (λ (e : External). P (external_of given c.args.site e types c.args.args.now world)) (sym c.in-Realloc.is)
     (subst (λ (x : ℕ). P (realloc given.fill c.args.site x (get_or c.args.args.now 1 0) world)) c.word-a.ensures
     (subst (λ (x : ℕ). P (realloc given.fill c.args.site c.word-a.result x world)) c.word-b.ensures
     (subst (λ (f : List ℕ). P (realloc f c.args.site c.word-a.result c.word-b.result world)) fill
     (c.realloc.ensures.answered beside world shows))))
 
 pub returns-in-Memset-clause-answered : goal.returns-in-Memset-clause-answered
-returns-in-Memset-clause-answered c = λ given beside world fill shows.
-    subst (λ (e : External). Answered beside (external_of given c.args.site e c.args.args.now world) c.filled.result c.filled.new.self) (sym c.in-Memset.is)
+returns-in-Memset-clause-answered c = λ given types beside world fill shows.
+    subst (λ (e : External). Answered beside (external_of given c.args.site e types c.args.args.now world) c.filled.result c.filled.new.self) (sym c.in-Memset.is)
     (filled-by beside c.args.site c.word-a.result _ c.low_byte.result _ c.word-c.result _ (Some c.word-a.result) _ world c.filled.result c.filled.new.self c.word-a.ensures (c.low_byte.ensures ∙ ap (λ (x : ℕ). x % 256) c.word-b.ensures) c.word-c.ensures (ap Some c.word-a.ensures)
     (c.filled.ensures.answered beside world shows))
 
 pub returns-in-LlvmMemset-clause-answered : goal.returns-in-LlvmMemset-clause-answered
-returns-in-LlvmMemset-clause-answered c = λ given beside world fill shows.
-    subst (λ (e : External). Answered beside (external_of given c.args.site e c.args.args.now world) c.filled-in-LlvmMemset.result c.filled-in-LlvmMemset.new.self) (sym c.in-LlvmMemset.is)
+returns-in-LlvmMemset-clause-answered c = λ given types beside world fill shows.
+    subst (λ (e : External). Answered beside (external_of given c.args.site e types c.args.args.now world) c.filled-in-LlvmMemset.result c.filled-in-LlvmMemset.new.self) (sym c.in-LlvmMemset.is)
     (filled-by beside c.args.site c.word-a.result _ c.low_byte-in-LlvmMemset.result _ c.word-c.result _ None None world c.filled-in-LlvmMemset.result c.filled-in-LlvmMemset.new.self c.word-a.ensures (c.low_byte-in-LlvmMemset.ensures ∙ ap (λ (x : ℕ). x % 256) c.word-b.ensures) c.word-c.ensures refl
     (c.filled-in-LlvmMemset.ensures.answered beside world shows))
 
 pub returns-in-Strlen-clause-answered : goal.returns-in-Strlen-clause-answered
-returns-in-Strlen-clause-answered c = λ given beside world fill shows.
-    subst (λ (e : External). Answered beside (external_of given c.args.site e c.args.args.now world) c.strlen.result c.args.self.now) (sym c.in-Strlen.is)
+returns-in-Strlen-clause-answered c = λ given types beside world fill shows.
+    subst (λ (e : External). Answered beside (external_of given c.args.site e types c.args.args.now world) c.strlen.result c.args.self.now) (sym c.in-Strlen.is)
     (subst (λ (x : ℕ). Answered beside (strlen_of c.args.site x world) c.strlen.result c.args.self.now) c.word-a.ensures (c.strlen.ensures beside world shows))

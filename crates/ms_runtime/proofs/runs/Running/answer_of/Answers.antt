@@ -1,22 +1,58 @@
-use Rattle.std.proofs.Common.{arith, refl, sym}
+use Rattle.std.proofs.Common.{◌≡◌, IfOk, arith, refl, sym, ap, subst, ◌∙◌}
+use Rattle.ms_ir.specs.declared.calls.External.TheVariants as external
+use Rattle.ms_valid.specs.Formed.{Formed}
+use Rattle.ms_valid.proofs.SmallNumbers.{small_numbers}
+use Rattle.ms_runs.specs.Externals.{formatted, prints}
 use Rattle.ms_runs.specs.Plain.{setting_of}
-use Rattle.ms_runtime.proofs.Fitting.{if_ok, if_ok_both, arguments_of, fits_asked, fits_exit, slack_of, has_room, within_room}
+use Rattle.ms_host.specs.Answers.{Answered, effect_asked}
+use Rattle.ms_host.specs.declared.calls.Asked.{Asked}
+use Rattle.ms_host.specs.declared.calls.Asked.TheVariants as asked
+use Rattle.ms_machine_steps.specs.Waiting.{types_due}
+use Rattle.ms_runtime.proofs.Fitting.{if_ok, if_ok_both, arguments_of, fits_asked, fits_exit, slack_of, has_room, within_room, at_call}
 use Rattle.ms_runtime.proofs.runs.Running.answer_of.Goals as goal
+
+pub answer_printf-requires : goal.answer_printf-requires
+answer_printf-requires c = record { small = small_numbers c.«module».result.now (subst Formed (sym c.«module».ensures) c.is_valid.ensures.formed) }
 
 pub answer-requires-clause-exit : goal.answer-requires-clause-exit
 answer-requires-clause-exit c =
     let q = c.requires.asking in
-    fits_exit c.args.call.now.asked c.args.call.now.args (arguments_of q.0 q.1.0 q.1.1.0 c.args.call.now c.args.self.now q.1.1.1.1).words
+    let a = arguments_of c.args.m.now c.is_valid.ensures.valid q.0 c.args.call.now c.args.self.now q.1.1 in
+    fits_exit c.args.call.now.asked a.0 c.args.call.now.args a.1.words
 
 pub serve-requires-clause-fits : goal.serve-requires-clause-fits
 serve-requires-clause-fits c =
     let q = c.requires.asking in
-    let a = arguments_of q.0 q.1.0 q.1.1.0 c.args.call.now c.args.self.now q.1.1.1.1 in
-    fits_asked c.args.call.now.asked c.args.call.now.args c.in-Runtime.field-0 c.in-Runtime.is a.count a.words
+    let a = arguments_of c.args.m.now c.is_valid.ensures.valid q.0 c.args.call.now c.args.self.now q.1.1 in
+    fits_asked c.args.call.now.asked a.0 c.args.call.now.args c.in-Runtime.field-0 c.in-Runtime.is a.1.count a.1.words
+
+pub returns-in-External-Printf : goal.returns-in-External-Printf
+returns-in-External-Printf c = record {
+  answered = λ u same q.
+      let which : c.in-External-Printf.field-0 ≡ external.Printf = rw c.in-External-Printf.is at c.in-External-Printf.field-0-is in
+      let is_printf : c.args.call.now.asked ≡ asked.External external.Printf = c.in-External-Printf.is ∙ ap asked.External which in
+      let types = types_due c.args.m.now q.within.frames in
+      if_ok c.answer_printf.result
+      (λ a answered. record {
+        beside = q.beside;
+        told = q.told;
+        answered = subst (λ (x : Asked). Answered q.beside (effect_asked (setting_of c.args.m.now u) c.args.call.now.site x types c.args.call.now.args q.within.world) a c.answer_printf.new.world) (sym is_printf) answered;
+        few = has_room u a _ q.keeping.few;
+        blind = omega arith;
+        roots = refl;
+        room = omega (arith, c.answer_printf.ensures.made, q.keeping.room);
+        keeps = c.answer_printf.ensures.keeps;
+        fiber = refl;
+        budget = refl;
+      })
+      (at_call (λ ts. IfOk c.answer_printf.result (λ a. Answered q.beside (prints c.args.call.now.site (formatted q.within.world ts c.args.call.now.args) q.within.world) a c.answer_printf.new.world))
+      c.args.m.now c.«module».result.now c.«module».ensures u c.args.call.now q.within.frames c.in-External-Printf.field-0 c.in-External-Printf.is q.waits
+      (λ place inst is there. c.answer_printf.ensures.answered place inst is there q.beside q.within.world q.stands.shows));
+}
 
 pub returns-in-External : goal.returns-in-External
 returns-in-External c = record {
-  answered = λ m u same q.
+  answered = λ u same q.
       let slack = slack_of c.args.call.now.asked c.in-External.field-0 c.args.self.now.world.made c.args.self.now.budget.left c.in-External.is q.slack in
       if_ok c.answer.result
       (λ a answered. record {
@@ -31,12 +67,12 @@ returns-in-External c = record {
         fiber = refl;
         budget = refl;
       })
-      (c.answer.ensures.answered (setting_of m u) q.beside q.within.world q.stands.fill q.stands.shows);
+      (c.answer.ensures.answered (setting_of c.args.m.now u) (types_due c.args.m.now q.within.frames) q.beside q.within.world q.stands.fill q.stands.shows);
 }
 
 pub returns-in-Runtime : goal.returns-in-Runtime
 returns-in-Runtime c = record {
-  answered = λ m u same q.
+  answered = λ u same q.
       if_ok_both c.serve.result
       (λ a served within. record {
         beside = served.0;
@@ -50,6 +86,6 @@ returns-in-Runtime c = record {
         fiber = refl;
         budget = refl;
       })
-      (c.serve.ensures.served (setting_of m u) q.beside q.within.world (record { same_roots = sym q.keeping.roots; same_limit = same }) q.told q.stands.shows)
+      (c.serve.ensures.served (setting_of c.args.m.now u) (types_due c.args.m.now q.within.frames) q.beside q.within.world (record { same_roots = sym q.keeping.roots; same_limit = same }) q.told q.stands.shows)
       c.serve.ensures.within;
 }

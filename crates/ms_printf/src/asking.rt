@@ -1,0 +1,73 @@
+//! Which arguments a format asks for as strings.
+ghost use Rattle.std.specs.Prelude.{◌≡◌, ◌<◌, ◌-◌, IfOk};
+ghost use Rattle.ms_bits.specs.Maps.{bytes_at};
+ghost use Rattle.ms_runs.specs.World.{World as Meant};
+ghost use Rattle.ms_runs.specs.Formats.{asks_string as asks};
+ghost use Rattle.ms_runs.specs.Origins.{asks_string_at};
+ghost use Rattle.ms_host.specs.State.{Beside};
+ghost use Rattle.ms_host.specs.Shows.{Shows};
+ghost use Rattle.ms_printf.specs.Walks.{IsRest, asks_for_string, arguments_taken};
+
+use crate::parts::{Part, part_at};
+use ms_bits::NoMemory;
+use ms_host::World;
+use ms_runs::Piece;
+use std::alloc::Global;
+
+/// Whether a part is `%s`.
+fn is_string(part: &Part) -> bool
+    ensures { result ≡ asks_for_string part.now }
+{
+    match part {
+        Part::Directive(Piece::Str) => true,
+        _ => false,
+    }
+}
+
+/// The number of a directive, counted from 1, among those after a part; 0 where it is the part itself.
+fn number_after(part: &Part, number: u64) -> u64
+    requires { 0 < number }
+    ensures { result ≡ number - arguments_taken part.now }
+{
+    match part {
+        Part::Plain { .. } => number,
+        Part::Directive(_) => number - 1,
+    }
+}
+
+/// Whether the directive with a number, counted from 1, of the rest of a format is `%s`.
+fn asks_within(world: &World, format: u64, length: u64, index: u64) -> bool
+    requires rest { IsRest world.now.planes.table format length }
+    requires number { 0 < index }
+    ensures { (beside : Beside) (meant : Meant) → Shows world.now beside meant → result ≡ asks (bytes_at meant.bytes format length) index }
+{
+    let mut addr = format;
+    let mut left = length;
+    let mut number = index;
+    'parts: while left > 0 {
+        let Some((part, len)) = part_at(world, addr, left) else {
+            return false;
+        };
+        number = number_after(&part, number);
+        if number == 0 {
+            return is_string(&part);
+        }
+        addr += len;
+        left -= len;
+    }
+    false
+}
+
+/// Whether the format at an address asks for a string by its directive of an argument; the format itself is argument 0.
+/// False where the format doesn't end within its allocation. Takes no memory; linear in the format.
+pub fn asks_string(_alloc: Global, world: &World, format: u64, index: u64) -> Result<bool, NoMemory>
+    ensures { (beside : Beside) (meant : Meant) → Shows world.now beside meant → IfOk result (λ b. b ≡ asks_string_at meant format index) }
+{
+    if index == 0 {
+        return Ok(false);
+    }
+    match world.string_length(format) {
+        Some(length) => Ok(asks_within(world, format, length, index)),
+        None => Ok(false),
+    }
+}
