@@ -9,12 +9,12 @@
 # - looks for each path, file, crate, function and clause that the documents name
 # - counts words: README.md, CONTRIBUTING.md and docs together have at most 12000
 #
-# Usage: documents.sh [PROGRAM], by default crates/msan/out/msan as `rt run` builds it. The status is 1 if anything is wrong.
+# Usage: documents.sh [PROGRAM], by default crates/msan/out/msan as `rt ci` builds it. The status is 1 if anything is wrong.
 # Needs python3, awk, and clang and llvm-link of release 19, or of $RELEASE. Outside the gate.
 source "$(dirname "$0")/frame.sh"
 
 program=$(realpath -m "${1:-$top/crates/msan/out/msan}")
-[ -x "$program" ] || { echo "build it first: (cd crates/msan && rt run -- run ../../examples/stored.ll)" >&2; exit 1; }
+[ -x "$program" ] || { echo "build it first: rt ci" >&2; exit 1; }
 release=${RELEASE:-19}
 
 mkdir "$work/bin"
@@ -288,10 +288,10 @@ def clauses(crate, modules, name):
 
 
 def names_of(path):
-    """The crate, the modules and the names of a path such as `ms_ir::{site_of, place_of}`."""
+    """The crate, the modules and the names of a path such as `ms_ir::{site_of, place_of}`; a type on the way is passed over."""
     parts = path.split("::")
     last = re.findall(r"\w+", parts[-1])
-    return parts[0], parts[1:-1], last
+    return parts[0], [part for part in parts[1:-1] if part.islower()], last
 
 
 def check_functions(document, prose):

@@ -1,6 +1,8 @@
 //! The answer to a call of `printf`.
 ghost use Rattle.std.specs.Prelude.{◌≡◌, map, Some, get_or, IfOk};
+ghost use Rattle.std.specs.Option.{option_copied};
 ghost use Rattle.ms_ir.specs.declared.syntax.Inst.{Inst as InstOf};
+ghost use Rattle.ms_ir.specs.declared.syntax.Op.{Op as OpOf};
 ghost use Rattle.ms_ir.specs.declared.places.Place.{Place as PlaceOf};
 ghost use Rattle.ms_ir.specs.Code.{operands};
 ghost use Rattle.ms_ir.specs.Places.{HasSmallNumbers, IsPlaceOf, inst_at};
@@ -9,10 +11,12 @@ ghost use Rattle.ms_runs.specs.Externals.{formatted, prints};
 ghost use Rattle.ms_host.specs.State.{Beside, Keeps};
 ghost use Rattle.ms_host.specs.Shows.{Shows};
 ghost use Rattle.ms_host.specs.Answers.{Answered};
+ghost use Rattle.ms_printf.specs.CallSites.{AreCallSites};
 ghost use Rattle.ms_printf.specs.Walks.{types_of};
 
 use crate::arguments::op_at;
 use crate::printing::{measured, print_rest};
+use crate::sites::CallSites;
 use crate::walks::Walk;
 use ms_bits::{NoMemory, Trap};
 use ms_host::{Answer, HostCall, World};
@@ -66,6 +70,24 @@ fn answer_call(
     Ok(Answer::Resumed(Some(total)))
 }
 
+/// What a call comes to whose instruction has an operation, if it was found.
+fn answer_at(
+    alloc: Global,
+    op: Option<&Op>,
+    call: &HostCall,
+    world: &mut World,
+) -> Result<Answer, NoMemory>
+    ensures answered { (o : OpOf) → option_copied op.entry ≡ Some o → (beside : Beside) (meant : Meant) → Shows world.old beside meant
+        → IfOk result (λ a. Answered beside (prints call.now.site (formatted meant (types_of o) call.now.args) meant) a world.new) }
+    ensures keeps { Keeps world.old world.new }
+    ensures made { world.new.made ≡ world.old.made }
+{
+    match op {
+        Some(op) => answer_call(alloc, op, call.site, call.args.as_slice(), world),
+        None => Ok(ended(Trap::Format, call.site)),
+    }
+}
+
 /// Answers a call of `printf`: prints what its format says of its arguments and returns the number of bytes, or ends the
 /// run by a trap and prints nothing. The types of the arguments are those of the unmarked instruction with the call's
 /// site.
@@ -86,8 +108,26 @@ pub fn answer_printf(
     ensures keeps { Keeps world.old world.new }
     ensures made { world.new.made ≡ world.old.made }
 {
-    match op_at(m, call.site) {
-        Some(op) => answer_call(alloc, op, call.site, call.args.as_slice(), world),
-        None => Ok(ended(Trap::Format, call.site)),
+    answer_at(alloc, op_at(m, call.site), call, world)
+}
+
+impl CallSites {
+    /// Answers a call of `printf` as `answer_printf` does, in a module whose calls these are. Linear in the format and the
+    /// strings; the module adds a binary search among its calls of `printf`.
+    pub fn answer_printf(
+        &self,
+        alloc: Global,
+        m: &Module,
+        call: &HostCall,
+        world: &mut World,
+    ) -> Result<Answer, NoMemory>
+        requires small { HasSmallNumbers m.now }
+        requires sites { AreCallSites m.now self.now.calls }
+        ensures answered { (place : PlaceOf) (inst : InstOf) → IsPlaceOf m.now call.now.site place → inst_at m.now place ≡ Some inst → (beside : Beside) (meant : Meant) → Shows world.old beside meant
+            → IfOk result (λ a. Answered beside (prints call.now.site (formatted meant (map (λ o. o.0) (operands inst.op)) call.now.args) meant) a world.new) }
+        ensures keeps { Keeps world.old world.new }
+        ensures made { world.new.made ≡ world.old.made }
+    {
+        answer_at(alloc, self.op_at(m, call.site), call, world)
     }
 }

@@ -3,10 +3,11 @@ ghost use Rattle.std.specs.Prelude.{◌≡◌, Some, option_map, slice_get, drop
 ghost use Rattle.std.specs.Option.{option_copied};
 ghost use Rattle.ms_ir.specs.declared.syntax.Inst.{Inst as InstOf};
 ghost use Rattle.ms_ir.specs.declared.places.Place.{Place as PlaceOf};
+ghost use Rattle.ms_ir.specs.Code.{insts_at};
 ghost use Rattle.ms_ir.specs.Places.{HasSmallNumbers, IsPlaceOf, inst_at};
 ghost use Rattle.ms_printf.specs.Walks.{types_of, given};
 
-use ms_ir::{Inst, Module, Op, Place, ValueType, place_of};
+use ms_ir::{Inst, Module, Op, ValueType, place_of};
 
 /// An argument: its type and its word.
 #[derive(Clone, Copy)]
@@ -40,17 +41,17 @@ pub(crate) fn argument_at<'m>(op: &'m Op, words: &[u64], k: usize) -> Option<Arg
     }
 }
 
-/// The instruction at a place.
-fn inst_of(m: &Module, place: Place) -> Option<&Inst>
-    ensures { option_copied result ≡ inst_at m.now place }
+/// The instruction at a place: the numbers of its function, its block and itself, counted from 0.
+pub(crate) fn inst_of(m: &Module, func: usize, block: usize, inst: usize) -> Option<&Inst>
+    ensures { option_copied result ≡ slice_get (insts_at m.now func block) inst }
 {
-    let Some(func) = m.funcs.as_slice().get(place.func as usize) else {
+    let Some(func) = m.funcs.as_slice().get(func) else {
         return None;
     };
-    let Some(block) = func.blocks.as_slice().get(place.block as usize) else {
+    let Some(block) = func.blocks.as_slice().get(block) else {
         return None;
     };
-    block.insts.as_slice().get(place.inst as usize)
+    block.insts.as_slice().get(inst)
 }
 
 /// The operation of the unmarked instruction with a site, if there is one.
@@ -61,7 +62,12 @@ pub(crate) fn op_at(m: &Module, site: u32) -> Option<&Op>
     let Some(place) = place_of(m, site) else {
         return None;
     };
-    match inst_of(m, place) {
+    match inst_of(
+        m,
+        place.func as usize,
+        place.block as usize,
+        place.inst as usize,
+    ) {
         Some(inst) => Some(&inst.op),
         None => None,
     }

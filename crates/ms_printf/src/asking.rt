@@ -1,5 +1,5 @@
 //! Which arguments a format asks for as strings.
-ghost use Rattle.std.specs.Prelude.{◌≡◌, ◌<◌, ◌-◌, IfOk};
+ghost use Rattle.std.specs.Prelude.{◌≡◌, ◌<◌, ◌-◌};
 ghost use Rattle.ms_bits.specs.Maps.{bytes_at};
 ghost use Rattle.ms_runs.specs.World.{World as Meant};
 ghost use Rattle.ms_runs.specs.Formats.{asks_string as asks};
@@ -9,10 +9,8 @@ ghost use Rattle.ms_host.specs.Shows.{Shows};
 ghost use Rattle.ms_printf.specs.Walks.{IsRest, asks_for_string, arguments_taken};
 
 use crate::parts::{Part, part_at};
-use ms_bits::NoMemory;
 use ms_host::World;
 use ms_runs::Piece;
-use std::alloc::Global;
 
 /// Whether a part is `%s`.
 fn is_string(part: &Part) -> bool
@@ -60,14 +58,14 @@ fn asks_within(world: &World, format: u64, length: u64, index: u64) -> bool
 
 /// Whether the format at an address asks for a string by its directive of an argument; the format itself is argument 0.
 /// False where the format doesn't end within its allocation. Takes no memory; linear in the format.
-pub fn asks_string(_alloc: Global, world: &World, format: u64, index: u64) -> Result<bool, NoMemory>
-    ensures { (beside : Beside) (meant : Meant) → Shows world.now beside meant → IfOk result (λ b. b ≡ asks_string_at meant format index) }
+pub fn asks_string(world: &World, format: u64, index: u64) -> bool
+    ensures { (beside : Beside) (meant : Meant) → Shows world.now beside meant → result ≡ asks_string_at meant format index }
 {
     if index == 0 {
-        return Ok(false);
+        return false;
     }
     match world.string_length(format) {
-        Some(length) => Ok(asks_within(world, format, length, index)),
-        None => Ok(false),
+        Some(length) => asks_within(world, format, length, index),
+        None => false,
     }
 }

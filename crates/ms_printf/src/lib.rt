@@ -12,6 +12,7 @@ mod directives;
 mod parts;
 mod printing;
 mod shown;
+mod sites;
 mod texts;
 mod walks;
 
@@ -19,3 +20,4 @@ pub use answering::answer_printf;
 pub use asking::asks_string;
 pub use cutting::cut;
 pub use ms_runs::{Cut, Piece};
+pub use sites::CallSites;

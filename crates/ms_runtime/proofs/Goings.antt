@@ -19,6 +19,7 @@ use Rattle.ms_host.specs.declared.calls.Asked.{Asked}
 use Rattle.ms_host.specs.declared.calls.Asked.TheVariants as asked
 use Rattle.ms_host.specs.declared.calls.Answer.TheVariants as answer
 use Rattle.ms_host.specs.declared.calls.HostCall.{HostCall}
+use Rattle.ms_printf.specs.CallSites.{AreCallSites}
 use Rattle.ms_machine_steps.specs.Standing.{FramesStand, frames_of, IsState}
 use Rattle.ms_machine_steps.specs.Waiting.{Waits, FirstWaits, answered}
 use Rattle.ms_machine_steps.specs.Advances.{step_of, Counts, IsSpent, HasEnded, HasAsked, Resumes, HasResumed, HasStopped}
@@ -72,7 +73,7 @@ module _ (m : Module) (u : Setup) where
     blind = ap (λ (x : RunResult). x.blind) is ∙ shows.blind ∙ uncut beside.blind r.told.blind told.blind few;
   }
 
-  module _ (r : Running) (g : Going m u r) (r' : Running) (depot : r'.depot ≡ r.depot) (told : r'.told ≡ r.told) where
+  module _ (r : Running) (g : Going m u r) (r' : Running) (depot : r'.depot ≡ r.depot) (told : r'.told ≡ r.told) (printf : r'.printf ≡ r.printf) where
     still_beside : IsBeside r'.depot r'.told g.beside
     still_beside = subst (λ d. IsBeside d r'.told g.beside) (sym depot) (subst (λ (t : RunResult). IsBeside r.depot t g.beside) (sym told) g.told)
 
@@ -128,6 +129,7 @@ module _ (m : Module) (u : Setup) where
               few = subst (λ (t : RunResult). length t.reports < u.reports) (sym told) g.keeping.few;
               room = omega (arith, fewer call.asked h.counted, made, g.keeping.room);
               blind = let same : r'.told.blind ≡ r.told.blind = ap (λ (t : RunResult). t.blind) told in omega (arith, same, not_further, g.keeping.blind);
+              printf = subst (λ t. AreCallSites m t.calls) (sym printf) g.keeping.printf;
             };
             slack = slack_is call.asked h.counted;
             rest = b.0;
@@ -164,10 +166,10 @@ module _ (m : Module) (u : Setup) where
 
     -- or the run goes on behind it
     pub asked_goes_on : (value : Option ℕ) → AnsweredFor m u call a.within (answer.Resumed value) r r' → (r'' : Running)
-        → r''.world ≡ r'.world → r''.depot ≡ r'.depot → r''.told ≡ r'.told → r''.budget ≡ r'.budget → r''.fiber.frame.at ≡ r'.fiber.frame.at + 1
+        → r''.world ≡ r'.world → r''.depot ≡ r'.depot → r''.told ≡ r'.told → r''.budget ≡ r'.budget → r''.printf ≡ r'.printf → r''.fiber.frame.at ≡ r'.fiber.frame.at + 1
         → ((frame : Frame ℕ) (below : List (Frame ℕ)) → AllStandFor m (frames_of r'.fiber) (frame ∷ below) → Waits m u frame call → AllStandFor m (frames_of r''.fiber) (answered m value frame ∷ below))
         → Going m u r'' × (ahead m r'' < ahead m r)
-    asked_goes_on value x r'' world depot told budget at frames = (
+    asked_goes_on value x r'' world depot told budget printf at frames = (
       record {
         beside = x.beside;
         state = on.next;
@@ -178,6 +180,7 @@ module _ (m : Module) (u : Setup) where
           few = subst (λ (t : RunResult). length t.reports < u.reports) (sym told) x.few;
           room = let made : r''.world.made ≡ r'.world.made = ap (λ (w : WorldState). w.made) world in let left : r''.budget.left ≡ r'.budget.left = ap (λ b. b.left) budget in omega (arith, made, left, x.room);
           blind = let same : r''.told.blind ≡ r'.told.blind = ap (λ (t : RunResult). t.blind) told in omega (arith, same, x.blind, less, a.keeping.blind);
+          printf = subst (λ t. AreCallSites m t.calls) (sym (printf ∙ x.printf)) a.keeping.printf;
         };
         same = by_asked call.asked a.counted on.goes;
       },

@@ -11,6 +11,7 @@ use Rattle.ms_host.specs.Shows.{Shows}
 use Rattle.ms_host.specs.declared.calls.Asked.{Asked}
 use Rattle.ms_host.specs.declared.calls.Asked.TheVariants as asked
 use Rattle.ms_host.specs.declared.calls.HostCall.{HostCall}
+use Rattle.ms_printf.specs.CallSites.{AreCallSites}
 use Rattle.ms_machine_steps.specs.Waiting.{FirstWaits}
 use Rattle.ms_machine_steps.specs.Advances.{step_of}
 use Rattle.ms_machine.specs.Running.{IsRunning}
@@ -27,6 +28,7 @@ pub record Keeping (m : Module) (u : Setup) (r : Running) : Type 0 where
   pub few : length r.told.reports < u.reports
   pub room : r.world.made + 2 ^ 27 * r.budget.left ≤ 2 ^ 58
   pub blind : r.told.blind + ahead m r ≤ 2 ^ 62
+  pub printf : AreCallSites m r.printf.calls
 
 -- a run has come to a state from which it answers what the whole run does
 pub record Going (m : Module) (u : Setup) (r : Running) : Type 0 where

@@ -91,8 +91,7 @@ pub(crate) fn check_format(
     let index = word(args, 1);
     let start = word(args, 2);
     let site = small(args, 3);
-    let asks = asks_string(alloc, world, format, index)?;
-    if !asks {
+    if !asks_string(world, format, index) {
         return Ok(Answer::Resumed(None));
     }
     let found = world.first_poisoned_in_string(start);

@@ -16,7 +16,7 @@ use ms_host::{Answer, Asked, HostCall, World, answer};
 use ms_ir::{External, roots};
 use ms_machine::{advance, resume, start};
 use ms_machine_steps::{Budget, Fiber, Pause};
-use ms_printf::answer_printf;
+use ms_printf::CallSites;
 use ms_runs::{End, RunResult, Setup};
 use std::alloc::Global;
 
@@ -29,6 +29,8 @@ pub struct Running {
     /// Its reports and its number of blind uses so far.
     pub told: RunResult,
     pub budget: Budget,
+    /// The calls of `printf` in its module.
+    pub printf: CallSites,
 }
 
 impl Running {
@@ -46,7 +48,8 @@ impl Running {
         m.is_valid();
         match call.asked {
             Asked::External(External::Printf) => {
-                answer_printf(alloc, m.module(), call, &mut self.world)
+                self.printf
+                    .answer_printf(alloc, m.module(), call, &mut self.world)
             }
             Asked::External(_) => answer(call, &mut self.world),
             Asked::Runtime(_) => serve(
@@ -120,7 +123,9 @@ fn begun(alloc: Global, m: &CheckedModule, setup: &Setup) -> Result<Running, NoM
     ensures { IfOk result (Going m.now setup.now) }
 {
     m.is_valid();
-    let count = roots(alloc, m.module())?.as_slice().len();
+    let code = m.module();
+    let count = roots(alloc, code)?.as_slice().len();
+    let printf = CallSites::of(alloc, code)?;
     let (fiber, world) = start(alloc, m, setup)?;
     Ok(Running {
         fiber,
@@ -133,13 +138,14 @@ fn begun(alloc: Global, m: &CheckedModule, setup: &Setup) -> Result<Running, NoM
             blind: 0,
         },
         budget: Budget { left: setup.steps },
+        printf,
     })
 }
 
 /// Runs a checked module. Ok is what its plain run answers; the one error is want of memory.
 ///
-/// A step takes as long in a large module as in a small one, except for a call of `printf`: the types of its arguments are
-/// looked up in the module.
+/// A step takes as long in a large module as in a small one; a call of `printf` adds a binary search among the calls of
+/// `printf` in the module, which are listed once, at the start.
 pub fn run(alloc: Global, m: &CheckedModule, setup: &Setup) -> Result<RunResult, NoMemory>
     requires limits { WithinLimits setup.now }
     ensures { IfOk result (λ r. r ≡ plain m.now setup.now) }

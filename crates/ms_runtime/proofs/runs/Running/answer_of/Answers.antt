@@ -1,5 +1,6 @@
 use Rattle.std.proofs.Common.{◌≡◌, IfOk, arith, refl, sym, ap, subst, ◌∙◌}
 use Rattle.ms_ir.specs.declared.calls.External.TheVariants as external
+use Rattle.ms_ir.specs.declared.syntax.Module.{Module}
 use Rattle.ms_valid.specs.Formed.{Formed}
 use Rattle.ms_valid.proofs.SmallNumbers.{small_numbers}
 use Rattle.ms_runs.specs.Externals.{formatted, prints}
@@ -7,12 +8,16 @@ use Rattle.ms_runs.specs.Plain.{setting_of}
 use Rattle.ms_host.specs.Answers.{Answered, effect_asked}
 use Rattle.ms_host.specs.declared.calls.Asked.{Asked}
 use Rattle.ms_host.specs.declared.calls.Asked.TheVariants as asked
+use Rattle.ms_printf.specs.CallSites.{AreCallSites}
 use Rattle.ms_machine_steps.specs.Waiting.{types_due}
 use Rattle.ms_runtime.proofs.Fitting.{if_ok, if_ok_both, arguments_of, fits_asked, fits_exit, slack_of, has_room, within_room, at_call}
 use Rattle.ms_runtime.proofs.runs.Running.answer_of.Goals as goal
 
 pub answer_printf-requires : goal.answer_printf-requires
-answer_printf-requires c = record { small = small_numbers c.«module».result.now (subst Formed (sym c.«module».ensures) c.is_valid.ensures.formed) }
+answer_printf-requires c = record {
+  small = small_numbers c.«module».result.now (subst Formed (sym c.«module».ensures) c.is_valid.ensures.formed);
+  sites = subst (λ (m : Module). AreCallSites m c.args.self.now.printf.calls) (sym c.«module».ensures) c.requires.asking.1.1.keeping.printf;
+}
 
 pub answer-requires-clause-exit : goal.answer-requires-clause-exit
 answer-requires-clause-exit c =
@@ -44,6 +49,7 @@ returns-in-External-Printf c = record {
         keeps = c.answer_printf.ensures.keeps;
         fiber = refl;
         budget = refl;
+        printf = refl;
       })
       (at_call (λ ts. IfOk c.answer_printf.result (λ a. Answered q.beside (prints c.args.call.now.site (formatted q.within.world ts c.args.call.now.args) q.within.world) a c.answer_printf.new.world))
       c.args.m.now c.«module».result.now c.«module».ensures u c.args.call.now q.within.frames c.in-External-Printf.field-0 c.in-External-Printf.is q.waits
@@ -66,6 +72,7 @@ returns-in-External c = record {
         keeps = c.answer.ensures.keeps;
         fiber = refl;
         budget = refl;
+        printf = refl;
       })
       (c.answer.ensures.answered (setting_of c.args.m.now u) (types_due c.args.m.now q.within.frames) q.beside q.within.world q.stands.fill q.stands.shows);
 }
@@ -85,6 +92,7 @@ returns-in-Runtime c = record {
         keeps = c.serve.ensures.keeps;
         fiber = refl;
         budget = refl;
+        printf = refl;
       })
       (c.serve.ensures.served (setting_of c.args.m.now u) (types_due c.args.m.now q.within.frames) q.beside q.within.world (record { same_roots = sym q.keeping.roots; same_limit = same }) q.told q.stands.shows)
       c.serve.ensures.within;

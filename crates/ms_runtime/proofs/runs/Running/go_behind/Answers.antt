@@ -33,6 +33,6 @@ returns-in-Resumed c = record {
       let m = c.args.m.now in
       asked_goes_on m u c.program-code.result.now c.program-code.ensures c.is_valid.ensures.formed c.is_valid.ensures.valid c.args.self.now c.args.call a c.answer_of.new.self c.in-Resumed.value
       (subst (λ (x : Answer). AnsweredFor m u c.args.call a.within x c.args.self.now c.answer_of.new.self) c.in-Resumed.is (c.in_ok-end.ensures.answered u same a))
-      _ refl refl refl refl (c.keep.ensures.at ∙ c.resume.ensures.at)
+      _ refl refl refl refl refl (c.keep.ensures.at ∙ c.resume.ensures.at)
       (λ frame below stands waits. subst (λ (ks : List Kept). AllStandFor m ks (answered m c.in-Resumed.value frame ∷ below)) (sym c.keep.ensures.frames) (c.resume.ensures.stands u frame below c.args.call stands waits));
 }

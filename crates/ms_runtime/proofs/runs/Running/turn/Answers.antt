@@ -22,7 +22,7 @@ go_behind-requires c =
         u,
         (
           q.1.0,
-          going_asks m u old g _ refl refl c.in-Asked.call
+          going_asks m u old g _ refl refl refl c.in-Asked.call
               (subst (λ (x : Pause). Advanced (IsRunning m u g.beside) m u g.beside g.state old.budget.left old.fiber.frame.at x c.advance.new.fiber c.advance.new.world c.advance.new.budget.left) c.in-Asked.is
               (c.in_ok-advance.ensures.advanced u g.beside g.state g.stands)) c.advance.ensures.made,
         ),
@@ -34,7 +34,7 @@ returns-in-Spent c = record {
   turned = λ u same g.
       let m = c.args.m.now in
       let old = c.args.self.now in
-      going_spent m u old g _ refl refl
+      going_spent m u old g _ refl refl refl
       (subst (λ (x : Pause). Advanced (IsRunning m u g.beside) m u g.beside g.state old.budget.left old.fiber.frame.at x c.advance.new.fiber c.advance.new.world c.advance.new.budget.left) c.in-Spent.is
       (c.in_ok-advance.ensures.advanced u g.beside g.state g.stands));
 }
@@ -44,7 +44,7 @@ returns-in-Ended c = record {
   turned = λ u same g.
       let m = c.args.m.now in
       let old = c.args.self.now in
-      going_ended m u old g _ refl refl c.in-Ended.end
+      going_ended m u old g _ refl refl refl c.in-Ended.end
       (subst (λ (x : Pause). Advanced (IsRunning m u g.beside) m u g.beside g.state old.budget.left old.fiber.frame.at x c.advance.new.fiber c.advance.new.world c.advance.new.budget.left) c.in-Ended.is
       (c.in_ok-advance.ensures.advanced u g.beside g.state g.stands));
 }
@@ -57,6 +57,6 @@ returns-in-Asked c = record {
       let h = subst (λ (x : Pause). Advanced (IsRunning m u g.beside) m u g.beside g.state old.budget.left old.fiber.frame.at x c.advance.new.fiber c.advance.new.world c.advance.new.budget.left) c.in-Asked.is
       (c.in_ok-advance.ensures.advanced u g.beside g.state g.stands) in
       if_ok c.go_behind.result
-      (λ e. turned_from m u (ahead m old) _ e c.go_behind.new.self (not_further m u old g _ refl refl c.in-Asked.call h c.advance.ensures.made))
-      (c.go_behind.ensures.turned u same (going_asks m u old g _ refl refl c.in-Asked.call h c.advance.ensures.made));
+      (λ e. turned_from m u (ahead m old) _ e c.go_behind.new.self (not_further m u old g _ refl refl refl c.in-Asked.call h c.advance.ensures.made))
+      (c.go_behind.ensures.turned u same (going_asks m u old g _ refl refl refl c.in-Asked.call h c.advance.ensures.made));
 }
