@@ -169,6 +169,29 @@ static void formats(void) {
   printed += printf("");
 }
 
+static void bits(unsigned word) {
+  title("Bits of a word");
+  printed += printf("%x:", word);
+  for (int k = 31; k >= 0; k--) {
+    if (k % 8 == 7)
+      printed += printf(" ");
+    printed += printf("%u", word >> k & 1);
+  }
+  printed += printf("\n");
+}
+
+static void divisors(int most) {
+  title("Divisors");
+  for (int n = 1; n <= most; n++) {
+    number(n, 4);
+    printed += printf(" |");
+    for (int k = 1; k <= n; k++)
+      if (n % k == 0)
+        printed += printf(" %d", k);
+    printed += printf("\n");
+  }
+}
+
 int main(void) {
   products(12);
   powers();
@@ -178,6 +201,8 @@ int main(void) {
   words();
   long sum = stock();
   triangle(12);
+  bits(0x8badf00du);
+  divisors(30);
   formats();
   printed += printf("\n%d primes, %ld, %d bytes before this line\n", count, sum, printed);
   return printed % 256;
