@@ -43,20 +43,20 @@ instructions_more : (bs : List Block) (b : Block) → instructions_of (bs ++ b �
 instructions_more [] b = omega arith
 instructions_more (c ∷ bs) b = let rest = instructions_more bs b in omega (arith, rest)
 
-abbrev inside : Body → ℕ
+abbrev pub inside : Body → ℕ
 inside b = instructions_of b.blocks + length b.insts
 
 -- before a body, and within it, stand as many instructions as it counts, and those are not too many
-record Kept (form : Form) (before : ℕ) (b : Body) : Type 0 where
-  all : before + inside b ≡ b.count
-  few : b.count ≤ max_instructions form
-  closed : is_open b.name ≡ false → length b.insts ≡ 0
+pub record Kept (form : Form) (before : ℕ) (b : Body) : Type 0 where
+  pub all : before + inside b ≡ b.count
+  pub few : b.count ≤ max_instructions form
+  pub closed : is_open b.name ≡ false → length b.insts ≡ 0
 
 -- one instruction more
-record Grown (a b : Body) : Type 0 where
-  more : inside b ≡ inside a + 1
-  count : b.count ≡ a.count + 1
-  ended : is_open b.name ≡ false → length b.insts ≡ 0
+pub record Grown (a b : Body) : Type 0 where
+  pub more : inside b ≡ inside a + 1
+  pub count : b.count ≡ a.count + 1
+  pub ended : is_open b.name ≡ false → length b.insts ≡ 0
 
 module _ (a : Body) (open_here : is_open a.name ≡ true) where
   not_closed : {A : Type 0} → is_open a.name ≡ false → A
@@ -137,16 +137,16 @@ module _ (a : Body) (open_here : is_open a.name ≡ true) where
     by_operation result x None (Some c) h = value_line_grows result _ h
     by_operation result x None None h = by_word result x h
 
-    instruction_grows : (result : Option Name) (x : Symbol) → ReadsUpTo (instruction form a result x) ts v rest → Grown a v
+    pub instruction_grows : (result : Option Name) (x : Symbol) → ReadsUpTo (instruction form a result x) ts v rest → Grown a v
     unfolding instruction
     instruction_grows result x h = by_operation result x (binary_op x) (cast_op x) h
 
-named_line_grows : (form : Form) (a : Body) (open_here : is_open a.name ≡ true) (n : Name) (ts : List Lexeme) (v : Body) (rest : List Lexeme)
+pub named_line_grows : (form : Form) (a : Body) (open_here : is_open a.name ≡ true) (n : Name) (ts : List Lexeme) (v : Body) (rest : List Lexeme)
     → ReadsUpTo (named_line form a n) ts v rest → Grown a v
 unfolding named_line
 named_line_grows form a o n ts v rest h = instruction_grows a o form h.3.1 v rest (Some n) h.3.0 h.3.3
 
-record_line_is : (form : Form) (a : Body) (ts : List Lexeme) (v : Body) (rest : List Lexeme) → ReadsUpTo (record_line form a) ts v rest → v ≡ a
+pub record_line_is : (form : Form) (a : Body) (ts : List Lexeme) (v : Body) (rest : List Lexeme) → ReadsUpTo (record_line form a) ts v rest → v ≡ a
 unfolding record_line
 record_line_is form a ts v rest h = h.3.3.0
 
@@ -227,7 +227,7 @@ module _ (form : Form) (before : ℕ) (b : Body) (k : Kept form before b) (t : L
   line_kept_by s.Phi g h = by_instruction s.Phi (if_good (ltb b.count (max_instructions form)) _ _ (if_goes _ _ g)).0 h
   line_kept_by x g h = by_instruction x (if_good (ltb b.count (max_instructions form)) _ _ (if_goes (begins_instruction x) _ g)).0 h
 
-  line_kept : line_begins form b t ≡ Ok true → ReadsUpTo (line form b t) ts v rest → Kept form before v
+  pub line_kept : line_begins form b t ≡ Ok true → ReadsUpTo (line form b t) ts v rest → Kept form before v
   unfolding line_begins line
   line_kept g h = line_kept_by t.symbol (if_good _ _ _ g).1 h
 
@@ -235,19 +235,19 @@ module _ (form : Form) (before : ℕ) (b : Body) (k : Kept form before b) (t : L
 
 module _ {S : Type 0} (begins : S → Lexeme → Result Bool Refusal) (R : S → Lexeme → List Lexeme → S → List Lexeme → Type 0) (P : S → Type 0)
     (keep : (a : S) (t : Lexeme) (ts : List Lexeme) (v : S) (rest : List Lexeme) → begins a t ≡ Ok true → R a t ts v rest → P a → P v) where
-  turns_kept : (n : ℕ) (a : S) (ts : List Lexeme) (v : S) (rest : List Lexeme) → Turns begins R n a ts v rest → P a → P v
+  pub turns_kept : (n : ℕ) (a : S) (ts : List Lexeme) (v : S) (rest : List Lexeme) → Turns begins R n a ts v rest → P a → P v
   turns_kept zero a ts v rest h p = subst P (sym h.1) p
   turns_kept (suc n) a [] v rest h p = absurd h
   turns_kept (suc n) a (t ∷ ts) v rest h p = turns_kept n h.1 h.2 v rest h.4 (keep a t ts h.1 h.2 h.0 h.3 p)
 
 -- ---- functions
 
-blocks_end : (b : Bool) (body : Body) (mid : List Lexeme) (v : List Block) (rest : List Lexeme)
+pub blocks_end : (b : Bool) (body : Body) (mid : List Lexeme) (v : List Block) (rest : List Lexeme)
     → ReadsUpTo (cond b (word s.CloseBrace >> give body.blocks) refuse) mid v rest → (b ≡ true) × (v ≡ body.blocks)
 blocks_end true body mid v rest h = (refl, h.3.0)
 blocks_end false body mid v rest h = absurd (no_value _ v h.0)
 
-not_open : (a b : Bool) → (not a && b) ≡ true → a ≡ false
+pub not_open : (a b : Bool) → (not a && b) ≡ true → a ≡ false
 not_open true b h = absurd (true≢false (sym h))
 not_open false b h = refl
 
@@ -282,9 +282,9 @@ among_more [] f = omega arith
 among_more (g ∷ fs) f = let rest = among_more fs f in omega (arith, rest)
 
 -- what the entities so far keep
-record KeptParts (form : Form) (p : Parts) : Type 0 where
-  all : instructions_among p.«module».funcs ≡ p.count
-  bounds : WithinLimits form p.«module»
+pub record KeptParts (form : Form) (p : Parts) : Type 0 where
+  pub all : instructions_among p.«module».funcs ≡ p.count
+  pub bounds : WithinLimits form p.«module»
 
 module _ (form : Form) (p : Parts) (k : KeptParts form p) where
   global_kept : (g : GlobalVar) → length p.«module».globals < max_globals → KeptParts form (with_global p g)
@@ -305,7 +305,7 @@ module _ (form : Form) (p : Parts) (k : KeptParts form p) where
       let whole = k.all in
       record { all = omega (arith, among, whole); bounds = record { instructions = omega (arith, among, whole, few); functions = omega (arith, e, room); globals = k.bounds.globals } }
 
-  few_here : p.count ≤ max_instructions form
+  pub few_here : p.count ≤ max_instructions form
   few_here =
       let whole = k.all in
       let few = k.bounds.instructions in
@@ -330,7 +330,7 @@ module _ (form : Form) (p : Parts) (k : KeptParts form p) where
         (function_kept h.0 (ltb-true _ _ (if_good (ltb (length p.«module».funcs + length p.«module».decls) max_functions) _ _ g).0) (function_bound form p.count ts h.0 h.1 few_here h.2))
     entity_kept_by x g h = same_kept h.3.0
 
-    entity_kept : entity_begins form p t ≡ Ok true → ReadsUpTo (entity form p t) ts v rest → KeptParts form v
+    pub entity_kept : entity_begins form p t ≡ Ok true → ReadsUpTo (entity form p t) ts v rest → KeptParts form v
     unfolding entity_begins entity
     entity_kept g h = entity_kept_by t.symbol g h
 

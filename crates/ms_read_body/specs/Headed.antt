@@ -7,13 +7,16 @@ use Rattle.ms_ir.specs.declared.syntax.Block.{Block}
 use Rattle.ms_ir.specs.declared.syntax.Func.{Func}
 use Rattle.ms_ir.specs.declared.syntax.Decl.{Decl}
 use Rattle.ms_ir.specs.declared.forms.Form.{Form}
+use Rattle.ms_grammar.specs.declared.states.Body.{Body}
 use Rattle.ms_grammar.specs.declared.states.Parameters.{Parameters}
 use Rattle.ms_grammar.specs.declared.symbols.Symbol.TheVariants as s
-use Rattle.ms_grammar.specs.Functions.{body_behind, function_tail, parameter_name, parameters, with_parameter}
+use Rattle.ms_grammar.specs.Functions.{body_behind, function_tail, linkage, parameter_name, parameters, with_parameter}
 use Rattle.ms_grammar.specs.Insts.{names_printf}
 use Rattle.ms_grammar.specs.Lines.{blocks}
+use Rattle.ms_grammar.specs.Names.{global}
 use Rattle.ms_grammar.specs.Skipped.{attributes}
 use Rattle.ms_grammar.specs.Steps.{Rule, word}
+use Rattle.ms_grammar.specs.Types.{result_type}
 
 -- a parameter behind its attributes
 abbrev pub named_parameter : Form → Parameters → Ty → Rule Parameters
@@ -59,3 +62,27 @@ named form before result n = do
   word s.OpenParen
   ps ← parameters form false
   bodied form before result n ps
+
+-- ---- functions up to their blocks
+
+-- behind the parameters, up to and with the brace in front of the blocks: a body in which no block has begun
+abbrev pub body_opened : Form → ℕ → Parameters → Rule Body
+body_opened form before ps = do
+  function_tail form
+  word s.OpenBrace
+  give (body_behind ps before)
+
+-- behind the name
+abbrev pub parameters_opened : Form → ℕ → Rule Body
+parameters_opened form before = do
+  word s.OpenParen
+  ps ← parameters form false
+  body_opened form before ps
+
+-- behind `define`
+abbrev pub heading : Form → ℕ → Rule Body
+heading form before = do
+  linkage form
+  result ← result_type
+  n ← global form
+  parameters_opened form before

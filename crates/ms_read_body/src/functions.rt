@@ -181,3 +181,52 @@ pub fn function(
     let name = global(alloc, tokens, form)?;
     named(alloc, tokens, form, before, ret, name)
 }
+
+/// Reads what stands between the parameters of a function and its blocks, and gives its body, in which no block has begun.
+fn body_opened(
+    alloc: Global,
+    tokens: &mut Tokens<'_>,
+    form: Form,
+    before: u32,
+    parameters: &Parameters,
+) -> Result<Body, Refusal>
+    ensures { Gives (run (headed.body_opened form before parameters.now) tokens.old) result tokens.new }
+{
+    function_tail(alloc, tokens, form)?;
+    tokens.word(Symbol::OpenBrace)?;
+    Ok(body_behind(alloc, parameters, before))
+}
+
+/// Reads a function behind its name up to its blocks.
+fn parameters_opened(
+    alloc: Global,
+    tokens: &mut Tokens<'_>,
+    form: Form,
+    before: u32,
+) -> Result<Body, Refusal>
+    ensures { Gives (run (headed.parameters_opened form before) tokens.old) result tokens.new }
+{
+    tokens.word(Symbol::OpenParen)?;
+    let params = parameters(alloc, tokens, form, false)?;
+    body_opened(alloc, tokens, form, before, &params)
+}
+
+/// Reads a function behind `define` up to and with the brace in front of its blocks, and gives its body, in which no block
+/// has begun.
+///
+/// # Errors
+///
+/// Those of [`function`] up to there.
+pub fn heading(
+    alloc: Global,
+    tokens: &mut Tokens<'_>,
+    form: Form,
+    before: u32,
+) -> Result<Body, Refusal>
+    ensures { Gives (run (headed.heading form before) tokens.old) result tokens.new }
+{
+    linkage(alloc, tokens, form)?;
+    result_type(tokens)?;
+    global(alloc, tokens, form)?;
+    parameters_opened(alloc, tokens, form, before)
+}

@@ -15,6 +15,8 @@ mod parameter_lists;
 
 pub use calls::{place_of, read_body, read_type, read_value, skip_attributes};
 pub use errors::{ReadError, What, error_at};
-pub use functions::{declaration, function};
+pub use functions::{declaration, function, heading};
+pub use line_starts::line_begins;
+pub use lines::line;
 pub use ms_grammar::{Limit, Outside, Refusal};
 pub use ms_ir::Form;

@@ -142,7 +142,7 @@ fn unnamed_line(
 
 /// Reads a line behind its first token, and adds it to the body.
 #[tactic(auto, unfolding(ms_grammar::specs::Lines::line))]
-fn line(
+pub fn line(
     alloc: Global,
     tokens: &mut Tokens<'_>,
     form: Form,

@@ -69,6 +69,17 @@ impl<'a> Tokens<'a> {
         Tokens { text, rest, symbol }
     }
 
+    /// The same tokens once more.
+    pub fn copy(&self) -> Tokens<'a>
+        ensures { result ≡ self.now }
+    {
+        Tokens {
+            text: self.text,
+            rest: self.rest,
+            symbol: self.symbol,
+        }
+    }
+
     /// How many tokens are left. The place of the next one is that many before the end.
     pub fn left(&self) -> usize
         ensures { result ≡ length self.now }

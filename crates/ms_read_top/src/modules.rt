@@ -16,7 +16,7 @@ use ms_read_cursor::{Lexeme, Tokens};
 use std::alloc::Global;
 
 /// Before the first entity.
-fn no_parts(alloc: Global) -> Parts
+pub fn no_parts(alloc: Global) -> Parts
     ensures { result ≡ spec.no_parts }
 {
     let module = Module {

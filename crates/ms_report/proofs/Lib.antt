@@ -1,1 +1,5 @@
 mod Functions
+pub mod WithoutLines
+mod Singles
+mod Indents
+pub mod Unindented

@@ -3,3 +3,4 @@ pub mod ReportTexts
 pub mod FaultTexts
 pub mod RefusalTexts
 pub mod WordsTexts
+pub mod WithLines

@@ -4,7 +4,9 @@ ghost use Rattle.ms_ir.specs.Places.{HasSmallNumbers};
 ghost use Rattle.ms_valid.specs.Formed.{Formed};
 ghost use Rattle.ms_runs.specs.Verdict.{verdict_of};
 ghost use Rattle.ms_report.specs.RunTexts.{trap_name, end_text, verdict_text, verdict_line, line, closing_of};
+ghost use Rattle.ms_report.specs.WithLines.{end_site, closing_text_with};
 
+use crate::site_lines::{NoLines, SiteLines, push_under};
 use crate::sites::push_site;
 use ms_bits::{NoMemory, Trap};
 use ms_ir::Module;
@@ -58,6 +60,16 @@ fn push_end(text: &mut Vec<u8>, m: &Module, end: End) -> Result<(), NoMemory>
     }
 }
 
+/// The site that the line of how a run ended names, where it names one.
+fn site_of_end(end: End) -> Option<u32>
+    ensures { result ≡ end_site end }
+{
+    match end {
+        End::Trap { site, .. } => Some(site),
+        _ => None,
+    }
+}
+
 /// The printed verdict of a run.
 fn name_of_verdict(r: &RunResult) -> &'static [u8]
     ensures { result.now ≡ verdict_text (verdict_of r.now) }
@@ -103,16 +115,18 @@ fn push_verdict(text: &mut Vec<u8>, r: &RunResult, asked: bool) -> Result<(), No
 }
 
 /// Adds the closing lines of a run.
-fn push_closing(
+fn push_closing<L: SiteLines>(
     text: &mut Vec<u8>,
     m: &Module,
     r: &RunResult,
     verdict: bool,
+    under: &L,
 ) -> Result<(), NoMemory>
     requires { HasSmallNumbers m.now }
-    ensures { IfOk result (λ _. text.new.items ≡ text.old.items ++ closing_of m.now r.now verdict) }
+    ensures { IfOk result (λ _. text.new.items ≡ text.old.items ++ closing_text_with (L.lines under.now) m.now r.now verdict) }
 {
     push_end_line(text, m, r.end)?;
+    push_under(text, site_of_end(r.end), under)?;
     push_count(text, b"reports", r.reports.as_slice().len() as u64)?;
     push_count(text, b"blind", r.blind)?;
     push_verdict(text, r, verdict)
@@ -120,11 +134,30 @@ fn push_closing(
 
 /// The closing lines of a run of `m`: how it ended, its number of reports, its number of blind uses, and
 /// where `verdict` is set whether it used uninitialised bits. The one error is want of memory.
+#[tactic(auto, using(crate::proofs::WithoutLines::closing_alone))]
 pub fn closing(alloc: Global, m: &Module, r: &RunResult, verdict: bool) -> Result<Vec<u8>, NoMemory>
     requires { Formed m.now }
     ensures { IfOk result (λ text. text.items ≡ closing_of m.now r.now verdict) }
 {
+    closing_with(alloc, m, r, verdict, &NoLines)
+}
+
+/// The closing lines of a run of `m`, with these lines under the site of a trap.
+///
+/// # Errors
+///
+/// `NoMemory`, where it runs out of memory.
+pub fn closing_with<L: SiteLines>(
+    alloc: Global,
+    m: &Module,
+    r: &RunResult,
+    verdict: bool,
+    under: &L,
+) -> Result<Vec<u8>, NoMemory>
+    requires { Formed m.now }
+    ensures { IfOk result (λ text. text.items ≡ closing_text_with (L.lines under.now) m.now r.now verdict) }
+{
     let mut text = Vec::new(alloc);
-    push_closing(&mut text, m, r, verdict)?;
+    push_closing(&mut text, m, r, verdict, under)?;
     Ok(text)
 }

@@ -2,6 +2,7 @@
 ghost use Rattle.std.specs.Prelude.{◌≡◌, ◌++◌, true, is_some, IfOk, codes, decimal};
 ghost use Rattle.ms_check.specs.Faults.{fault_of};
 ghost use Rattle.ms_report.specs.FaultTexts.{refused_line, signed, at_site, spaced, fault_line};
+ghost use Rattle.ms_report.specs.WithLines.{fault_site};
 
 use crate::lines::begin_line;
 use ms_bits::NoMemory;
@@ -122,6 +123,20 @@ fn push_path(text: &mut Vec<u8>, site: u32, path: &[u32]) -> Result<(), NoMemory
     push_undefined(text, site, path)?;
     text.push(b'\n')?;
     Ok(())
+}
+
+/// The site that the line of a cause names, where it names one.
+pub fn site_of_fault(cause: &CheckError) -> Option<u32>
+    ensures { result ≡ fault_site (fault_of cause.now) }
+{
+    match cause {
+        CheckError::Unknown { site, .. }
+        | CheckError::TypeMismatch { site, .. }
+        | CheckError::BadPhi { site }
+        | CheckError::Undefined { site, .. }
+        | CheckError::BadMark { site } => Some(*site),
+        _ => None,
+    }
 }
 
 /// Adds the line that says why a module isn't valid. The cause isn't want of memory.

@@ -4,13 +4,17 @@
 
 mod endings;
 mod faults;
+mod laws;
 mod lines;
 mod refusals;
 mod reports;
+mod site_lines;
 mod sites;
 mod words;
 
-pub use endings::closing;
-pub use refusals::{Refusal, refusal_line};
-pub use reports::report_text;
+pub use endings::{closing, closing_with};
+pub use laws::lines_are_added;
+pub use refusals::{Refusal, refusal_line, refusal_line_with};
+pub use reports::{report_text, report_text_with};
+pub use site_lines::{NoLines, SiteLines};
 pub use words::{WordsFault, words_line};

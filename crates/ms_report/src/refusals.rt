@@ -2,9 +2,11 @@
 ghost use Rattle.std.specs.Prelude.{◌≡◌, ◌++◌, IfOk, codes, decimal};
 ghost use Rattle.ms_report.specs.FaultTexts.{refused_line};
 ghost use Rattle.ms_report.specs.RefusalTexts.{HasLine, IsReadRefusal, IsNumbered, outside_name, limit_name, cause_name, what_text, token_text, lexer_text, reader_text, refusal_text};
+ghost use Rattle.ms_report.specs.WithLines.{refusal_site, refusal_text_with};
 
-use crate::faults::push_check;
+use crate::faults::{push_check, site_of_fault};
 use crate::lines::begin_line;
+use crate::site_lines::{NoLines, SiteLines, push_under};
 use ms_bits::NoMemory;
 use ms_check::CheckError;
 use ms_grammar::{Limit, Outside};
@@ -189,14 +191,44 @@ fn push_refusal(text: &mut Vec<u8>, e: &Refusal) -> Result<(), NoMemory>
     }
 }
 
+/// The site that the line of a refusal names, where it names one.
+fn site_of_refusal(e: &Refusal) -> Option<u32>
+    ensures { result ≡ refusal_site e.now }
+{
+    match e {
+        Refusal::Read(_) => None,
+        Refusal::Check(cause) => site_of_fault(cause),
+    }
+}
+
 /// The line that says why a module is refused: the number of the cause, what it is, and where. The cause isn't want of
 /// memory; a `Refused` has a number from 4 to 8, and names a construct exactly at 5 and a limit exactly at 6. Causes that
 /// a module isn't valid have the numbers 9 to 17. The one error is want of memory.
+#[tactic(auto, using(crate::proofs::WithoutLines::refusal_alone))]
 pub fn refusal_line(alloc: Global, e: &Refusal) -> Result<Vec<u8>, NoMemory>
     requires { HasLine e.now }
     ensures { IfOk result (λ text. text.items ≡ refusal_text e.now) }
 {
+    refusal_line_with(alloc, e, &NoLines)
+}
+
+/// The line that says why a module is refused, and these lines under its site where it names one: where a name isn't
+/// defined, a type or a phi is wrong, a path reaches a use without a definition, or a mark doesn't fit. The cause isn't that
+/// memory ran out.
+///
+/// # Errors
+///
+/// `NoMemory`, where it runs out of memory.
+pub fn refusal_line_with<L: SiteLines>(
+    alloc: Global,
+    e: &Refusal,
+    under: &L,
+) -> Result<Vec<u8>, NoMemory>
+    requires { HasLine e.now }
+    ensures { IfOk result (λ text. text.items ≡ refusal_text_with (L.lines under.now) e.now) }
+{
     let mut text = Vec::new(alloc);
     push_refusal(&mut text, e)?;
+    push_under(&mut text, site_of_refusal(e), under)?;
     Ok(text)
 }

@@ -3,8 +3,10 @@ ghost use Rattle.std.specs.Prelude.{◌≡◌, ◌++◌, None, IfOk, IfSome, cod
 ghost use Rattle.ms_ir.specs.Places.{HasSmallNumbers};
 ghost use Rattle.ms_ir.specs.Roots.{roots_of, root_numbered};
 ghost use Rattle.ms_valid.specs.Formed.{Formed};
-ghost use Rattle.ms_report.specs.ReportTexts.{hexadecimal, kind_text, root_name, root_text, origin_text, origin_line, earlier as earlier_of, chain_text, origins_text, use_text, bits_text, report_line, reports_text, report_text_of};
+ghost use Rattle.ms_report.specs.ReportTexts.{hexadecimal, kind_text, root_name, root_text, origin_text, origin_line, earlier as earlier_of, use_text, bits_text, report_line, report_text_of};
+ghost use Rattle.ms_report.specs.WithLines.{origin_site, under_line, chain_with, origins_with, reports_with};
 
+use crate::site_lines::{NoLines, SiteLines, push_under};
 use crate::sites::push_site;
 use ms_bits::NoMemory;
 use ms_ir::{Module, Root, RootKind, roots};
@@ -112,6 +114,20 @@ fn push_origin(
     }
 }
 
+/// The site that the line of an origin names, where it names one; `roots` are the module's.
+fn site_of_origin(m: &Module, roots: &[Root], origin: Origin) -> Option<u32>
+    requires { roots.now ≡ roots_of m.now }
+    ensures { result ≡ origin_site m.now origin }
+{
+    match origin {
+        Origin::Root { number } => match root_at(m, roots, number) {
+            Some(root) => Some(root.site),
+            None => None,
+        },
+        Origin::Chain { site, .. } => Some(site),
+    }
+}
+
 /// The number of the origin behind one with the number `number`.
 fn earlier(number: u32, origin: Origin) -> u32
     ensures { result ≡ earlier_of number origin }
@@ -132,7 +148,7 @@ fn begin_origin(text: &mut Vec<u8>, number: u32) -> Result<(), NoMemory>
 }
 
 /// Adds the line of an origin with a number.
-fn push_link(
+fn push_origin_line(
     text: &mut Vec<u8>,
     m: &Module,
     roots: &[Root],
@@ -149,43 +165,62 @@ fn push_link(
     Ok(())
 }
 
+/// Adds the line of an origin with a number, and the lines under it.
+fn push_link<L: SiteLines>(
+    text: &mut Vec<u8>,
+    m: &Module,
+    roots: &[Root],
+    number: u32,
+    origin: Origin,
+    under: &L,
+) -> Result<(), NoMemory>
+    requires numbers { HasSmallNumbers m.now }
+    requires roots { roots.now ≡ roots_of m.now }
+    ensures { IfOk result (λ _. text.new.items ≡ text.old.items ++ (origin_line number (origin_text m.now origin) ++ under_line (L.lines under.now) (origin_site m.now origin))) }
+{
+    push_origin_line(text, m, roots, number, origin)?;
+    push_under(text, site_of_origin(m, roots, origin), under)
+}
+
 /// Adds the lines of the origins from the number `number` on.
-fn push_chain(
+fn push_chain<L: SiteLines>(
     text: &mut Vec<u8>,
     m: &Module,
     roots: &[Root],
     number: u32,
     chain: &[Origin],
+    under: &L,
 ) -> Result<(), NoMemory>
     requires numbers { HasSmallNumbers m.now }
     requires roots { roots.now ≡ roots_of m.now }
-    ensures { IfOk result (λ _. text.new.items ≡ text.old.items ++ chain_text m.now number chain.now) }
+    ensures { IfOk result (λ _. text.new.items ≡ text.old.items ++ chain_with (L.lines under.now) m.now number chain.now) }
 {
     let mut number = number;
     for origin in chain {
-        push_link(text, m, roots, number, *origin)?;
+        push_link(text, m, roots, number, *origin, under)?;
         number = earlier(number, *origin);
     }
     Ok(())
 }
 
 /// Adds the lines of an origin with its chain.
-fn push_origins(
+fn push_origins<L: SiteLines>(
     text: &mut Vec<u8>,
     m: &Module,
     roots: &[Root],
     number: u32,
     chain: &[Origin],
+    under: &L,
 ) -> Result<(), NoMemory>
     requires numbers { HasSmallNumbers m.now }
     requires roots { roots.now ≡ roots_of m.now }
-    ensures { IfOk result (λ _. text.new.items ≡ text.old.items ++ origins_text m.now number chain.now) }
+    ensures { IfOk result (λ _. text.new.items ≡ text.old.items ++ origins_with (L.lines under.now) m.now number chain.now) }
 {
     if chain.is_empty() {
         begin_origin(text, number)?;
         text.extend_from_slice(b"unknown\n")
     } else {
-        push_chain(text, m, roots, number, chain)
+        push_chain(text, m, roots, number, chain, under)
     }
 }
 
@@ -214,7 +249,7 @@ fn push_bits(alloc: Global, text: &mut Vec<u8>, report: &Report) -> Result<(), N
 }
 
 /// Adds the line of a report with a number.
-fn push_report(
+fn push_report_line(
     alloc: Global,
     text: &mut Vec<u8>,
     m: &Module,
@@ -230,39 +265,63 @@ fn push_report(
     Ok(())
 }
 
+/// Adds the line of a report with a number, and the lines under it.
+fn push_report<L: SiteLines>(
+    alloc: Global,
+    text: &mut Vec<u8>,
+    m: &Module,
+    number: u64,
+    report: &Report,
+    under: &L,
+) -> Result<(), NoMemory>
+    requires { HasSmallNumbers m.now }
+    ensures { IfOk result (λ _. text.new.items ≡ text.old.items ++ (report_line m.now number report.now ++ L.lines under.now report.now.site)) }
+{
+    push_report_line(alloc, text, m, number, report)?;
+    under.push_lines(text, report.site)
+}
+
 /// Adds the lines of reports, which are counted from 1.
-fn push_reports(
+fn push_reports<L: SiteLines>(
     alloc: Global,
     text: &mut Vec<u8>,
     m: &Module,
     roots: &[Root],
     reports: &[Report],
+    under: &L,
 ) -> Result<(), NoMemory>
     requires numbers { HasSmallNumbers m.now }
     requires roots { roots.now ≡ roots_of m.now }
-    ensures { IfOk result (λ _. text.new.items ≡ text.old.items ++ reports_text m.now 1 reports.now) }
+    ensures { IfOk result (λ _. text.new.items ≡ text.old.items ++ reports_with (L.lines under.now) m.now 1 reports.now) }
 {
     let mut index = 0;
     while index < reports.len() {
         let report = &reports[index];
+        let chain = report.chain.as_slice();
         index += 1;
-        push_report(alloc, text, m, index as u64, report)?;
-        push_origins(text, m, roots, report.origin, report.chain.as_slice())?;
+        push_report(alloc, text, m, index as u64, report, under)?;
+        push_origins(text, m, roots, report.origin, chain, under)?;
     }
     Ok(())
 }
 
 /// Adds the lines of a run's reports. The roots of the module are found where there is a report.
-fn push_all(alloc: Global, text: &mut Vec<u8>, m: &Module, r: &RunResult) -> Result<(), NoMemory>
+fn push_all<L: SiteLines>(
+    alloc: Global,
+    text: &mut Vec<u8>,
+    m: &Module,
+    r: &RunResult,
+    under: &L,
+) -> Result<(), NoMemory>
     requires { HasSmallNumbers m.now }
-    ensures { IfOk result (λ _. text.new.items ≡ text.old.items ++ report_text_of m.now r.now) }
+    ensures { IfOk result (λ _. text.new.items ≡ text.old.items ++ reports_with (L.lines under.now) m.now 1 r.now.reports) }
 {
     let reports = r.reports.as_slice();
     if reports.is_empty() {
         return Ok(());
     }
     let roots = roots(alloc, m)?;
-    push_reports(alloc, text, m, roots.as_slice(), reports)
+    push_reports(alloc, text, m, roots.as_slice(), reports, under)
 }
 
 /// The lines of the reports of a run of `m`, with the way of each to its root. The one error is want of
@@ -271,7 +330,25 @@ pub fn report_text(alloc: Global, m: &Module, r: &RunResult) -> Result<Vec<u8>, 
     requires { Formed m.now }
     ensures { IfOk result (λ text. text.items ≡ report_text_of m.now r.now) }
 {
+    report_text_with(alloc, m, r, &NoLines)
+}
+
+/// The lines of the reports of a run of `m`, with the way of each to its root, and these lines under each line that names a
+/// site. Linear as `report_text` is, beside what adding lines costs.
+///
+/// # Errors
+///
+/// `NoMemory`, where it runs out of memory.
+pub fn report_text_with<L: SiteLines>(
+    alloc: Global,
+    m: &Module,
+    r: &RunResult,
+    under: &L,
+) -> Result<Vec<u8>, NoMemory>
+    requires { Formed m.now }
+    ensures { IfOk result (λ text. text.items ≡ reports_with (L.lines under.now) m.now 1 r.now.reports) }
+{
     let mut text = Vec::new(alloc);
-    push_all(alloc, &mut text, m, r)?;
+    push_all(alloc, &mut text, m, r, under)?;
     Ok(text)
 }

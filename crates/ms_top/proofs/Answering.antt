@@ -1,9 +1,10 @@
 -- From what the parts of an answer are to what the answer is.
-use Rattle.std.proofs.Common.{◌≡◌, ◌≢◌, ℕ, suc, ◌^◌, ◌<◌, ◌≤◌, Bool, true, false, List, [], ◌∷◌, length, Option, Some, None, Result, Ok, Err, refl, ap, sym, ◌∙◌, subst, inl, inr, arith}
+use Rattle.std.proofs.Common.{◌≡◌, ◌≢◌, ℕ, suc, ◌^◌, ◌<◌, ◌≤◌, true, false, List, [], ◌∷◌, ◌++◌, length, append-nil, Option, Some, None, Result, Ok, Err, refl, ap, sym, ◌∙◌, subst, inl, inr, arith}
 use Rattle.std.specs.Prelude.{get_or, map, slice_index_or, nat_lt, is_some, is_none, IfSome, IsTrue}
 use Rattle.std.proofs.lemmas.Bool.{true≢false, and_from, lt-ltb}
 use Rattle.ms_lex.specs.declared.errors.LexError.{LexError}
 use Rattle.ms_lex.specs.declared.errors.LexError.TheVariants as lexing
+use Rattle.ms_lex.specs.declared.kinds.Token.{Token}
 use Rattle.ms_lex.specs.Tokens.{tokens_of}
 use Rattle.ms_ir.specs.declared.syntax.Module.{Module}
 use Rattle.ms_runs.specs.declared.runs.RunResult.{RunResult}
@@ -15,7 +16,7 @@ use Rattle.ms_ir.specs.declared.forms.Form.TheVariants.{Plain}
 use Rattle.ms_grammar.specs.declared.refusals.Refusal.{Refusal}
 use Rattle.ms_grammar.specs.declared.refusals.Refusal.TheVariants as refusal
 use Rattle.ms_grammar.specs.Causes.{printed_number}
-use Rattle.ms_grammar.specs.Texts.{Reads, max_bytes, max_tokens}
+use Rattle.ms_grammar.specs.Texts.{HasTokens, Reads, max_bytes, max_tokens}
 use Rattle.ms_read_body.specs.Calls.{what_of}
 use Rattle.ms_read_body.specs.declared.errors.What.{What}
 use Rattle.ms_read_body.specs.declared.errors.ReadError.{ReadError}
@@ -24,7 +25,6 @@ use Rattle.ms_read_top.specs.Reading.{IsTextRefused, AnswersExactly, IsReading}
 use Rattle.ms_valid.specs.Formed.{Formed}
 use Rattle.ms_valid.specs.FormedNames.{are_bytes}
 use Rattle.ms_valid.specs.Refusals.{Fault, IsRefused}
-use Rattle.ms_valid.specs.Valid.{Valid}
 use Rattle.ms_check.specs.declared.errors.CheckError.{CheckError}
 use Rattle.ms_check.specs.Faults.{fault_of}
 use Rattle.ms_valid.specs.Uninstrumented.{CanInstrument}
@@ -36,13 +36,18 @@ use Rattle.ms_words.specs.declared.commands.Command.TheVariants.{Instrument, Run
 use Rattle.ms_words.specs.declared.commands.Options.{Options}
 use Rattle.ms_report.specs.declared.refusals.Refusal.TheVariants.{Read as Of, Check as OfCheck}
 use Rattle.ms_words.specs.Limits.{RunsWithinLimits}
-use Rattle.ms_top.specs.Command.{form_of, module_limit, input_limit, only_input, setup_of}
+use Rattle.ms_places.specs.declared.marks.Mark.{Mark}
+use Rattle.ms_places.specs.Marks.{AreMarks}
+use Rattle.ms_source_map.specs.Lines.{lines_of_site}
+use Rattle.ms_top.specs.Command.{form_of, located_file, module_limit, input_limit, only_input, setup_of}
+use Rattle.ms_top.specs.Lines.{AreLinesIn, AreLines}
 use Rattle.ms_corpus.specs.Jobs.{with_input}
 use Rattle.ms_top.specs.Parts.{AreShort, AreWithinLimits, IsReady, IsRunOfGiven, AreRunsOfGiven}
 use Rattle.ms_report.specs.FaultTexts.{fault_line}
+use Rattle.ms_report.specs.WithLines.{Lines, no_lines, under_line, fault_site, refusal_text_with}
 use Rattle.ms_report.specs.RefusalTexts.{IsNumbered, IsReadRefusal, HasLine, refusal_text, wants_memory}
 use Rattle.ms_words.specs.Words.{defaults}
-use Rattle.ms_top.specs.Said.{says, answer_of, answer_of_result, answer_of_results, status_of, summary_of, IsAnswerOfInstrument, IsAnswerOfCheck, IsAnswerOfCorpus, IsAnswerOfGen, IsAnswerToValid, IsAnswerToModule, IsAnswerToReading, IsAnswerToText}
+use Rattle.ms_top.specs.Said.{says, answer_of, answer_of_result, answer_of_results, status_of, summary_of, IsAnswerOfCheck, IsAnswerOfCorpus, IsAnswerOfGen, IsAnswerToValid, IsAnswerToModule, IsAnswerToReading, IsAnswerToText}
 
 -- ---- runs
 
@@ -59,36 +64,21 @@ within o input s fit short is = subst RunFits (sym is) (record {
 
 -- ---- valid modules
 
-pub instrument_valid : (Gives : Module → Module → Type 0) (command : Command) (file : List ℕ) (inputs : List (List ℕ)) (m : Module) (a : Answer) → command ≡ Instrument file → IsAnswerOfInstrument Gives m a
-    → IsAnswerToValid Gives command inputs m a
-instrument_valid Gives command file inputs m a is answers = subst (λ c. IsAnswerToValid Gives c inputs m a) (sym is) answers
+pub check_valid : (Gives : Module → Module → Type 0) (under : Lines) (command : Command) (file : List ℕ) (o : Options) (inputs : List (List ℕ)) (m : Module) (a : Answer) → command ≡ Check file o
+    → IsAnswerOfCheck Gives under (setup_of o (only_input inputs)) m a → IsAnswerToValid Gives under command inputs m a
+check_valid Gives under command file o inputs m a is answers = subst (λ c. IsAnswerToValid Gives under c inputs m a) (sym is) answers
 
-pub run_valid : (Gives : Module → Module → Type 0) (command : Command) (file : List ℕ) (o : Options) (inputs : List (List ℕ)) (m : Module) (a : Answer) → command ≡ Run file o
-    → a ≡ answer_of_result false m (plain m (setup_of o (only_input inputs))) → IsAnswerToValid Gives command inputs m a
-run_valid Gives command file o inputs m a is answers = subst (λ c. IsAnswerToValid Gives c inputs m a) (sym is) answers
-
-pub check_valid : (Gives : Module → Module → Type 0) (command : Command) (file : List ℕ) (o : Options) (inputs : List (List ℕ)) (m : Module) (a : Answer) → command ≡ Check file o
-    → IsAnswerOfCheck Gives (setup_of o (only_input inputs)) m a → IsAnswerToValid Gives command inputs m a
-check_valid Gives command file o inputs m a is answers = subst (λ c. IsAnswerToValid Gives c inputs m a) (sym is) answers
-
-pub gen_valid : (Gives : Module → Module → Type 0) (command : Command) (seed functions : ℕ) (run : Bool) (inputs : List (List ℕ)) (m : Module) (a : Answer) → command ≡ Gen seed functions run
-    → IsAnswerOfGen Gives run m a → IsAnswerToValid Gives command inputs m a
-gen_valid Gives command seed functions run inputs m a is answers = subst (λ c. IsAnswerToValid Gives c inputs m a) (sym is) answers
-
-pub check_answer : (Gives : Module → Module → Type 0) (m n : Module) (s t : Setup) (r : RunResult) (a : Answer) → n ≡ m → s ≡ t → IsRunOfGiven Gives m s r → a ≡ answer_of_result true n r
-    → IsAnswerOfCheck Gives t m a
-check_answer Gives m n s t r a same given q is = (q.0, q.1, is ∙ ap (λ k. answer_of_result true k r) same ∙ ap (answer_of_result true m) (q.2 ∙ ap (plain q.0) given))
+pub check_answer : (Gives : Module → Module → Type 0) (under : Lines) (m n : Module) (s t : Setup) (r : RunResult) (a : Answer) → n ≡ m → s ≡ t → IsRunOfGiven Gives m s r → a ≡ answer_of_result under true n r
+    → IsAnswerOfCheck Gives under t m a
+check_answer Gives under m n s t r a same given q is =
+    (q.0, q.1, is ∙ ap (λ k. answer_of_result under true k r) same ∙ ap (answer_of_result under true m) (q.2 ∙ ap (plain q.0) given))
 
 -- the runs on many inputs
-pub corpus_valid : (Gives : Module → Module → Type 0) (command : Command) (file : List ℕ) (names : List (List ℕ)) (o : Options) (workers : ℕ) (inputs : List (List ℕ)) (m : Module) (a : Answer)
-    → command ≡ Corpus file names o workers → IsAnswerOfCorpus Gives names o inputs m a → IsAnswerToValid Gives command inputs m a
-corpus_valid Gives command file names o workers inputs m a is answers = subst (λ c. IsAnswerToValid Gives c inputs m a) (sym is) answers
-
-pub corpus_answer : (Gives : Module → Module → Type 0) (m n : Module) (names : List (List ℕ)) (o : Options) (s : Setup) (inputs : List (List ℕ)) (rs : List RunResult) (a : Answer) → n ≡ m → s ≡ setup_of o []
-    → AreRunsOfGiven Gives m s inputs rs → a ≡ answer_of_results n names rs → IsAnswerOfCorpus Gives names o inputs m a
-corpus_answer Gives m n names o s inputs rs a same given q is =
+pub corpus_answer : (Gives : Module → Module → Type 0) (under : Lines) (m n : Module) (names : List (List ℕ)) (o : Options) (s : Setup) (inputs : List (List ℕ)) (rs : List RunResult) (a : Answer) → n ≡ m → s ≡ setup_of o []
+    → AreRunsOfGiven Gives m s inputs rs → a ≡ answer_of_results under n names rs → IsAnswerOfCorpus Gives under names o inputs m a
+corpus_answer Gives under m n names o s inputs rs a same given q is =
     let runs : rs ≡ map (λ input. plain q.0 (setup_of o input)) inputs = q.2 ∙ ap (λ t. map (λ input. plain q.0 (with_input t input)) inputs) given in
-    (q.0, q.1, is ∙ ap (λ k. answer_of_results k names rs) same ∙ ap (answer_of_results m names) runs)
+    (q.0, q.1, is ∙ ap (λ k. answer_of_results under k names rs) same ∙ ap (answer_of_results under m names) runs)
 
 -- with each of some short inputs options within the limits are within them
 pub all_within : (o : Options) (s : Setup) (inputs : List (List ℕ)) → RunsWithinLimits o → AreShort inputs → s ≡ setup_of o [] → AreWithinLimits s inputs
@@ -115,18 +105,14 @@ some_unless_none (Some x) h = refl
 pub check_has_line : (cause : CheckError) → wants_memory (OfCheck cause) ≡ false → HasLine (OfCheck cause)
 check_has_line cause h = some_unless_none (fault_of cause) h
 
-faulty : (Gives : Module → Module → Type 0) (command : Command) (inputs : List (List ℕ)) (m : Module) (o : Option Fault) (a : Answer) → IfSome o (IsRefused m) → is_none o ≡ false → a ≡ says 5 (fault_line o)
-    → IsAnswerToModule Gives command inputs m a
-faulty Gives command inputs m None a refused h is = absurd (true≢false h)
-faulty Gives command inputs m (Some fault) a refused h is = inl (fault, refused, is)
+faulty : (Gives : Module → Module → Type 0) (under : Lines) (command : Command) (inputs : List (List ℕ)) (m : Module) (o : Option Fault) (a : Answer) → IfSome o (IsRefused m) → is_none o ≡ false
+    → a ≡ says 5 (fault_line o ++ under_line under (fault_site o)) → IsAnswerToModule Gives under command inputs m a
+faulty Gives under command inputs m None a refused h is = absurd (true≢false h)
+faulty Gives under command inputs m (Some fault) a refused h is = inl (fault, refused, is)
 
-pub invalid_answer : (Gives : Module → Module → Type 0) (command : Command) (inputs : List (List ℕ)) (m : Module) (cause : CheckError) (a : Answer)
-    → IfSome (fault_of cause) (IsRefused m) → wants_memory (OfCheck cause) ≡ false → a ≡ says 5 (refusal_text (OfCheck cause)) → IsAnswerToModule Gives command inputs m a
-invalid_answer Gives command inputs m cause a refused h is = faulty Gives command inputs m (fault_of cause) a refused h is
-
-pub valid_answer : (Gives : Module → Module → Type 0) (command : Command) (inputs : List (List ℕ)) (m n : Module) (a : Answer) → n ≡ m → Valid m → IsAnswerToValid Gives command inputs n a
-    → IsAnswerToModule Gives command inputs m a
-valid_answer Gives command inputs m n a same valid is = inr (valid, subst (λ k. IsAnswerToValid Gives command inputs k a) same is)
+pub invalid_answer : (Gives : Module → Module → Type 0) (under : Lines) (command : Command) (inputs : List (List ℕ)) (m : Module) (cause : CheckError) (a : Answer)
+    → IfSome (fault_of cause) (IsRefused m) → wants_memory (OfCheck cause) ≡ false → a ≡ says 5 (refusal_text_with under (OfCheck cause)) → IsAnswerToModule Gives under command inputs m a
+invalid_answer Gives under command inputs m cause a refused h is = faulty Gives under command inputs m (fault_of cause) a refused h is
 
 -- ---- texts
 
@@ -196,21 +182,32 @@ error_has_line form text e.NoMemory is some = absurd (true≢false some)
 pub has_line : (form : Form) (text : List ℕ) (r : Result Module ReadError) (cause : ReadError) → Read form text r → r ≡ Err cause → wants_memory (Of cause) ≡ false → IsReadRefusal cause
 has_line form text r cause read is some = error_has_line form text cause (subst (IsReading form text) is (reading_is form text r read)) some
 
+-- the lines under each site of the module that a text reads as, where the command asks for none
+pub none_shown : (command : Command) (text : List ℕ) (m : Module) → located_file command ≡ None → AreLines command text m no_lines
+none_shown command text m none = subst (λ o. AreLinesIn o (form_of command) text m no_lines) (sym none) refl
+
+-- where it asks for them
+pub lines_shown : (command : Command) (file text : List ℕ) (tokens : List Token) (marks : List Mark) (m : Module) (under : Lines) → located_file command ≡ Some file
+    → HasTokens (form_of command) text tokens → AreMarks (form_of command) text tokens marks → under ≡ lines_of_site file (record { text = text; tokens = tokens; marks = marks }) m
+    → AreLines command text m under
+lines_shown command file text tokens marks m under named has are is = subst (λ o. AreLinesIn o (form_of command) text m under) (sym named) (tokens, has, marks, are, is)
+
 pub module_answer : (Gives : Module → Module → Type 0) (command : Command) (inputs : List (List ℕ)) (form : Form) (text : List ℕ) (r : Result Module ReadError) (m : Module) (a : Answer)
-    → form ≡ form_of command → Read form text r → r ≡ Ok m → IsAnswerToModule Gives command inputs m a → IsAnswerToText Gives command inputs text a
+    → form ≡ form_of command → Read form text r → r ≡ Ok m → IsAnswerToReading Gives command inputs text (Ok m) a → IsAnswerToText Gives command inputs text a
 module_answer Gives command inputs form text r m a same read is answers =
     (Ok m, subst (λ f. IsReading f text (Ok m)) same (subst (IsReading form text) is (reading_is form text r read)), answers)
 
-error_answer : (Gives : Module → Module → Type 0) (command : Command) (inputs : List (List ℕ)) (cause : ReadError) (a : Answer) → wants_memory (Of cause) ≡ false → a ≡ says 5 (refusal_text (Of cause))
-    → IsAnswerToReading Gives command inputs (Err cause) a
-error_answer Gives command inputs (e.Lex cause) a some is = is
-error_answer Gives command inputs (e.Refused number w token place) a some is = is
-error_answer Gives command inputs e.NoMemory a some is = absurd (true≢false some)
+error_answer : (Gives : Module → Module → Type 0) (command : Command) (inputs : List (List ℕ)) (text : List ℕ) (cause : ReadError) (a : Answer) → wants_memory (Of cause) ≡ false
+    → a ≡ says 5 (refusal_text (Of cause)) → IsAnswerToReading Gives command inputs text (Err cause) a
+error_answer Gives command inputs text (e.Lex cause) a some is = is
+error_answer Gives command inputs text (e.Refused number w token place) a some is = is
+error_answer Gives command inputs text e.NoMemory a some is = absurd (true≢false some)
 
 pub refusal_answer : (Gives : Module → Module → Type 0) (command : Command) (inputs : List (List ℕ)) (form : Form) (text : List ℕ) (r : Result Module ReadError) (cause : ReadError) (a : Answer)
-    → form ≡ form_of command → Read form text r → r ≡ Err cause → wants_memory (Of cause) ≡ false → a ≡ says 5 (refusal_text (Of cause)) → IsAnswerToText Gives command inputs text a
+    → form ≡ form_of command → Read form text r → r ≡ Err cause → wants_memory (Of cause) ≡ false → a ≡ says 5 (refusal_text_with no_lines (Of cause)) → IsAnswerToText Gives command inputs text a
 refusal_answer Gives command inputs form text r cause a same read is some answers =
-    (Err cause, subst (λ f. IsReading f text (Err cause)) same (subst (IsReading form text) is (reading_is form text r read)), error_answer Gives command inputs cause a some answers)
+    let line : a ≡ says 5 (refusal_text (Of cause)) = answers ∙ ap (says 5) (append-nil (refusal_text (Of cause))) in
+    (Err cause, subst (λ f. IsReading f text (Err cause)) same (subst (IsReading form text) is (reading_is form text r read)), error_answer Gives command inputs text cause a some line)
 
 -- the limit of a module's file is that of its form
 pub file_limit : (command : Command) (n : ℕ) → n ≤ module_limit command → n ≤ max_bytes (form_of command)

@@ -1,7 +1,9 @@
+pub mod Added
 pub mod Appending
 pub mod Answering
 pub mod Faithful
 pub mod Ok
+pub mod Placing
 pub mod OneAnswer
 pub mod Questions
 pub mod Reading

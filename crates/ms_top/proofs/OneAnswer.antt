@@ -1,5 +1,5 @@
 -- What is to be said is one answer, but for the path of a use.
-use Rattle.std.proofs.Common.{◌≡◌, ◌≢◌, ◌<◌, ◌≤◌, Bool, true, false, List, ℕ, [], ◌∷◌, length, map, Some, None, Result, Ok, Err, refl, sym, ◌∙◌, ap, subst, ◌⊎◌, inl, inr, arith}
+use Rattle.std.proofs.Common.{◌≡◌, ◌≢◌, ◌<◌, ◌≤◌, Bool, true, false, List, ℕ, [], ◌∷◌, length, map, Option, Some, None, Result, Ok, Err, refl, sym, ◌∙◌, ap, subst, ◌⊎◌, inl, inr, arith}
 use Rattle.std.proofs.lemmas.Option.{same_Some, none-some}
 use Rattle.ms_io.specs.Counts.{Rose}
 use Rattle.ms_io.specs.Reading.{Holdings, IsWholeFile, IsAbsent, IsTooLong}
@@ -16,16 +16,21 @@ use Rattle.ms_check.specs.Faults.{without_path}
 use Rattle.ms_check.proofs.OneAnswer.{one_answer as one_fault}
 use Rattle.ms_elision_laws.proofs.Once.{elided_once}
 use Rattle.ms_written.specs.Modules.{written}
-use Rattle.ms_report.specs.FaultTexts.{fault_text}
+use Rattle.ms_grammar.proofs.Readings.{same_tokens}
+use Rattle.ms_places.specs.Marks.{AreMarks}
+use Rattle.ms_places.proofs.One.{one_list_of_marks}
+use Rattle.ms_source_map.specs.Lines.{lines_of_site}
+use Rattle.ms_report.specs.WithLines.{Lines}
 use Rattle.ms_top.specs.declared.answers.Answer.{Answer}
 use Rattle.ms_words.specs.declared.commands.Command.{Command}
 use Rattle.ms_words.specs.declared.commands.Command.TheVariants.{Instrument, Run, Check, Corpus, Gen, Help, Version}
 use Rattle.ms_words.specs.declared.commands.WordsError.{WordsError}
 use Rattle.ms_words.specs.Words.{command_of, defaults}
 use Rattle.ms_gen.specs.Generator.{generated}
-use Rattle.ms_top.specs.Command.{form_of, files_of, only_input, setup_of}
+use Rattle.ms_top.specs.Command.{form_of, files_of, located_file, only_input, setup_of}
 use Rattle.ms_top.specs.Files.{Counted, FilesRead, Whole, Fault, Long, behind, IsAtFault, IsLong, CanRead}
 use Rattle.ms_top.specs.Instrumented.{IsInstrumented}
+use Rattle.ms_top.specs.Lines.{AreLinesIn, AreLines, fault_text_with}
 use Rattle.ms_top.specs.Said.{answer_of, answer_of_result, answer_of_results, status_of, summary_of, says, DifferInPath, IsAnswerOfGen, IsAnswerWithoutFile, IsAnswerToValid, IsAnswerToModule, IsAnswerToReading, IsAnswerToText, IsAnswerToTexts, IsAnswerToFiles, IsAnswerToCommand, IsAnswerFor, IsAnswer}
 
 -- ---- texts
@@ -39,14 +44,25 @@ one_reading form text (Err (e.Refused number w token place)) s is same some othe
     elim ((refused_exactly form text s same number w token place).1 is) [ inl p ↦ p | inr none ↦ absurd (other none) ]
 one_reading form text (Err e.NoMemory) s is same some other = absurd (some refl)
 
+-- a text has its tokens once, and so what stands in them and the lines under each site are one
+one_lines_in : (file : Option (List ℕ)) (form : Form) (text : List ℕ) (m : Module) (under other : Lines) → AreLinesIn file form text m under → AreLinesIn file form text m other → under ≡ other
+one_lines_in None form text m under other p q = p ∙ sym q
+one_lines_in (Some file) form text m under other (tokens, has, marks, are, is) (again, have, found, stand, same) =
+    let e : again ≡ tokens = same_tokens form text tokens again has have in
+    let f : marks ≡ found = one_list_of_marks form text tokens marks found are (subst (λ ts. AreMarks form text ts found) e stand) in
+    is ∙ ap (λ ms. lines_of_site file (record { text = text; tokens = tokens; marks = ms }) m) f ∙ ap (λ ts. lines_of_site file (record { text = text; tokens = ts; marks = found }) m) (sym e) ∙ sym same
+
+pub one_lines : (command : Command) (text : List ℕ) (m : Module) (under other : Lines) → AreLines command text m under → AreLines command text m other → under ≡ other
+one_lines command text m under other p q = one_lines_in (located_file command) (form_of command) text m under other p q
+
 -- two faults that differ in no more than the path
-of_faults : (f g : ModuleFault) (a b : Answer) → without_path f ≡ without_path g → a ≡ says 5 (fault_text f) → b ≡ says 5 (fault_text g) → (a ≡ b) ⊎ DifferInPath a b
-of_faults (Undefined s path) (Undefined t other) a b e p q =
+of_faults : (under : Lines) (f g : ModuleFault) (a b : Answer) → without_path f ≡ without_path g → a ≡ says 5 (fault_text_with under f) → b ≡ says 5 (fault_text_with under g) → (a ≡ b) ⊎ DifferInPath a b
+of_faults under (Undefined s path) (Undefined t other) a b e p q =
     let same : s ≡ t = cc in
-    inr (t, path, other, p ∙ ap (λ site. says 5 (fault_text (Undefined site path))) same, q)
-of_faults (Undefined s path) g a b e p q = absurd cc
-of_faults f (Undefined t other) a b e p q = absurd cc
-of_faults f g a b e p q = inl (p ∙ ap (λ x. says 5 (fault_text x)) e ∙ sym q)
+    inr (under, t, path, other, p ∙ ap (λ site. says 5 (fault_text_with under (Undefined site path))) same, q)
+of_faults under (Undefined s path) g a b e p q = absurd cc
+of_faults under f (Undefined t other) a b e p q = absurd cc
+of_faults under f g a b e p q = inl (p ∙ ap (λ x. says 5 (fault_text_with under x)) e ∙ sym q)
 
 -- the pass makes one module
 pub made_once : (m j k : Module) → IsInstrumented m j → IsInstrumented m k → j ≡ k
@@ -57,38 +73,41 @@ of_gen true m a b (j, p, is) (k, q, same) =
     is ∙ ap (λ n. answer_of (status_of (plain n (setup_of defaults []))) (summary_of m (plain n (setup_of defaults []))) []) (made_once m j k p q) ∙ sym same
 of_gen false m a b p q = p ∙ sym q
 
-of_valid : (command : Command) (inputs : List (List ℕ)) (m : Module) (a b : Answer) → IsAnswerToValid IsInstrumented command inputs m a
-    → IsAnswerToValid IsInstrumented command inputs m b → a ≡ b
-of_valid (Instrument file) inputs m a b (j, p, is) (k, q, same) = is ∙ ap (λ n. answer_of 0 (written n) []) (made_once m j k p q) ∙ sym same
-of_valid (Run file o) inputs m a b p q = p ∙ sym q
-of_valid (Corpus file names o workers) inputs m a b (j, p, is) (k, q, same) =
-    is ∙ ap (λ n. answer_of_results m names (map (λ input. plain n (setup_of o input)) inputs)) (made_once m j k p q) ∙ sym same
-of_valid (Gen seed functions run) inputs m a b p q = of_gen run m a b p q
-of_valid Help inputs m a b p q = p ∙ sym q
-of_valid Version inputs m a b p q = p ∙ sym q
-of_valid (Check file o) inputs m a b (j, p, is) (k, q, same) = is ∙ ap (λ n. answer_of_result true m (plain n (setup_of o (only_input inputs)))) (made_once m j k p q) ∙ sym same
+of_valid : (under : Lines) (command : Command) (inputs : List (List ℕ)) (m : Module) (a b : Answer) → IsAnswerToValid IsInstrumented under command inputs m a
+    → IsAnswerToValid IsInstrumented under command inputs m b → a ≡ b
+of_valid under (Instrument file) inputs m a b (j, p, is) (k, q, same) = is ∙ ap (λ n. answer_of 0 (written n) []) (made_once m j k p q) ∙ sym same
+of_valid under (Run file o) inputs m a b p q = p ∙ sym q
+of_valid under (Corpus file names o workers) inputs m a b (j, p, is) (k, q, same) =
+    is ∙ ap (λ n. answer_of_results under m names (map (λ input. plain n (setup_of o input)) inputs)) (made_once m j k p q) ∙ sym same
+of_valid under (Gen seed functions run) inputs m a b p q = of_gen run m a b p q
+of_valid under Help inputs m a b p q = p ∙ sym q
+of_valid under Version inputs m a b p q = p ∙ sym q
+of_valid under (Check file o) inputs m a b (j, p, is) (k, q, same) =
+    is ∙ ap (λ n. answer_of_result under true m (plain n (setup_of o (only_input inputs)))) (made_once m j k p q) ∙ sym same
 
 module _ (command : Command) (inputs : List (List ℕ)) where
-  pub memory_is_there : (r : Result Module ReadError) (a : Answer) → IsAnswerToReading IsInstrumented command inputs r a → r ≢ Err e.NoMemory
-  memory_is_there r a is none = subst (λ s. IsAnswerToReading IsInstrumented command inputs s a) none is
+  of_module : (under : Lines) (m : Module) (a b : Answer) → IsAnswerToModule IsInstrumented under command inputs m a → IsAnswerToModule IsInstrumented under command inputs m b → (a ≡ b) ⊎ DifferInPath a b
+  of_module under m a b (inl (f, p, is)) (inl (g, q, same)) = of_faults under f g a b (one_fault m f g p q) is same
+  of_module under m a b (inl (f, p, is)) (inr (valid, q)) = absurd (invalid m f p valid)
+  of_module under m a b (inr (valid, p)) (inl (g, q, same)) = absurd (invalid m g q valid)
+  of_module under m a b (inr (valid, p)) (inr (other, q)) = inl (of_valid under command inputs m a b p q)
 
-  of_module : (m : Module) (a b : Answer) → IsAnswerToModule IsInstrumented command inputs m a → IsAnswerToModule IsInstrumented command inputs m b → (a ≡ b) ⊎ DifferInPath a b
-  of_module m a b (inl (f, p, is)) (inl (g, q, same)) = of_faults f g a b (one_fault m f g p q) is same
-  of_module m a b (inl (f, p, is)) (inr (valid, q)) = absurd (invalid m f p valid)
-  of_module m a b (inr (valid, p)) (inl (g, q, same)) = absurd (invalid m g q valid)
-  of_module m a b (inr (valid, p)) (inr (other, q)) = inl (of_valid command inputs m a b p q)
+  module _ (text : List ℕ) where
+    pub memory_is_there : (r : Result Module ReadError) (a : Answer) → IsAnswerToReading IsInstrumented command inputs text r a → r ≢ Err e.NoMemory
+    memory_is_there r a is none = subst (λ s. IsAnswerToReading IsInstrumented command inputs text s a) none is
 
-  of_reading : (r : Result Module ReadError) (a b : Answer) → IsAnswerToReading IsInstrumented command inputs r a → IsAnswerToReading IsInstrumented command inputs r b
-      → (a ≡ b) ⊎ DifferInPath a b
-  of_reading (Ok m) a b p q = of_module m a b p q
-  of_reading (Err (e.Lex cause)) a b p q = inl (p ∙ sym q)
-  of_reading (Err (e.Refused number w token place)) a b p q = inl (p ∙ sym q)
-  of_reading (Err e.NoMemory) a b p q = absurd p
+    of_reading : (r : Result Module ReadError) (a b : Answer) → IsAnswerToReading IsInstrumented command inputs text r a → IsAnswerToReading IsInstrumented command inputs text r b
+        → (a ≡ b) ⊎ DifferInPath a b
+    of_reading (Ok m) a b (under, are, p) (other, show, q) =
+        of_module under m a b p (subst (λ l. IsAnswerToModule IsInstrumented l command inputs m b) (one_lines command text m other under show are) q)
+    of_reading (Err (e.Lex cause)) a b p q = inl (p ∙ sym q)
+    of_reading (Err (e.Refused number w token place)) a b p q = inl (p ∙ sym q)
+    of_reading (Err e.NoMemory) a b p q = absurd p
 
-  pub of_text : (text : List ℕ) (a b : Answer) → IsAnswerToText IsInstrumented command inputs text a → IsAnswerToText IsInstrumented command inputs text b → (a ≡ b) ⊎ DifferInPath a b
-  of_text text a b (r, is, p) (s, same, q) =
-      let e = one_reading (form_of command) text r s is same (memory_is_there r a p) (memory_is_there s b q) in
-      of_reading r a b p (subst (λ t. IsAnswerToReading IsInstrumented command inputs t b) e q)
+    pub of_text : (a b : Answer) → IsAnswerToText IsInstrumented command inputs text a → IsAnswerToText IsInstrumented command inputs text b → (a ≡ b) ⊎ DifferInPath a b
+    of_text a b (r, is, p) (s, same, q) =
+        let e = one_reading (form_of command) text r s is same (memory_is_there r a p) (memory_is_there s b q) in
+        of_reading r a b p (subst (λ t. IsAnswerToReading IsInstrumented command inputs text t b) e q)
 
 pub one_answer : (command : Command) (inputs : List (List ℕ)) (text : List ℕ) (a b : Answer)
     → IsAnswerToText IsInstrumented command inputs text a → IsAnswerToText IsInstrumented command inputs text b → (a ≡ b) ⊎ DifferInPath a b

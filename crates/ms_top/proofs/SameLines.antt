@@ -1,6 +1,6 @@
--- A module with inserted code has the same reports and closing lines as without it.
+-- A module with inserted code has the same reports and closing lines as without it, whatever the lines under each site are.
 use Rattle.std.proofs.Common.{◌≡◌, ℕ, ◌+◌, ◌-◌, Bool, List, [], ◌∷◌, ◌++◌, length, map, ltb, eqb, if◌then◌else◌, Option, Some, None, refl, ap, sym, ◌∙◌}
-use Rattle.std.specs.Prelude.{codes, decimal, slice_get}
+use Rattle.std.specs.Prelude.{codes, decimal, option_map, slice_get}
 use Rattle.ms_ir.specs.declared.syntax.Func.{Func}
 use Rattle.ms_ir.specs.declared.syntax.Module.{Module}
 use Rattle.ms_ir.specs.declared.places.Root.{Root}
@@ -14,8 +14,9 @@ use Rattle.ms_runs.specs.declared.runs.Report.{Report}
 use Rattle.ms_runs.specs.declared.runs.RunResult.{RunResult}
 use Rattle.ms_runs_laws.proofs.RootLists.{roots_stay}
 use Rattle.ms_runs_laws.proofs.Stripped.{blocks_kept, sites_skip}
-use Rattle.ms_report.specs.RunTexts.{trap_name, sites_of, function_after, function_of, function_text, site_text, end_text, line, verdict_line, closing_of}
-use Rattle.ms_report.specs.ReportTexts.{kind_text, root_name, root_text, origin_text, origin_line, earlier, chain_text, origins_text, bits_text, report_line, reports_text, report_text_of}
+use Rattle.ms_report.specs.RunTexts.{trap_name, sites_of, function_after, function_of, function_text, site_text, end_text, line, verdict_line}
+use Rattle.ms_report.specs.ReportTexts.{kind_text, root_name, root_text, origin_text, origin_line, earlier, bits_text, report_line}
+use Rattle.ms_report.specs.WithLines.{Lines, under_line, origin_site, end_site, chain_with, origins_with, reports_with, closing_text_with}
 use Rattle.ms_top.specs.Said.{answer_of, answer_of_result, status_of}
 
 -- ---- places
@@ -48,25 +49,12 @@ origin_kept : (j : Module) (o : Origin) → origin_text (strip j) o ≡ origin_t
 origin_kept j (origin.Root number) = ap (root_text (strip j)) (root_kept j number) ∙ root_text_kept j (root_numbered j number)
 origin_kept j (origin.Chain old site) = ap (λ t. codes "stored" ++ t) (site_kept j site)
 
-chain_kept : (j : Module) (n : ℕ) (os : List Origin) → chain_text (strip j) n os ≡ chain_text j n os
-chain_kept j n [] = refl
-chain_kept j n (o ∷ rest) =
-    ap (λ t. origin_line n t ++ chain_text (strip j) (earlier n o) rest) (origin_kept j o)
-    ∙ ap (λ t. origin_line n (origin_text j o) ++ t) (chain_kept j (earlier n o) rest)
-
-origins_kept : (j : Module) (n : ℕ) (os : List Origin) → origins_text (strip j) n os ≡ origins_text j n os
-origins_kept j n [] = refl
-origins_kept j n (o ∷ rest) = chain_kept j n (o ∷ rest)
+origin_site_kept : (j : Module) (o : Origin) → origin_site (strip j) o ≡ origin_site j o
+origin_site_kept j (origin.Root number) = ap (option_map (λ r. r.site)) (root_kept j number)
+origin_site_kept j (origin.Chain old site) = refl
 
 line_kept : (j : Module) (n : ℕ) (r : Report) → report_line (strip j) n r ≡ report_line j n r
 line_kept j n r = ap (λ t. codes "report " ++ decimal n ++ codes ": " ++ kind_text r.kind ++ t ++ bits_text r ++ codes "\n") (site_kept j r.site)
-
-reports_kept : (j : Module) (n : ℕ) (rs : List Report) → reports_text (strip j) n rs ≡ reports_text j n rs
-reports_kept j n [] = refl
-reports_kept j n (r ∷ rest) =
-    ap (λ t. t ++ origins_text (strip j) r.origin r.chain ++ reports_text (strip j) (n + 1) rest) (line_kept j n r)
-    ∙ ap (λ t. report_line j n r ++ t ++ reports_text (strip j) (n + 1) rest) (origins_kept j r.origin r.chain)
-    ∙ ap (λ t. report_line j n r ++ origins_text j r.origin r.chain ++ t) (reports_kept j (n + 1) rest)
 
 -- ---- ends
 
@@ -76,15 +64,35 @@ end_kept j (ends.Trap kind site) = ap (λ t. codes "trap " ++ trap_name kind ++ 
 end_kept j ends.Reported = refl
 end_kept j ends.Spent = refl
 
-closing_kept : (j : Module) (verdict : Bool) (r : RunResult) → closing_of (strip j) r verdict ≡ closing_of j r verdict
-closing_kept j verdict r =
-    ap (λ t. line (codes "end") t ++ line (codes "reports") (decimal (length r.reports)) ++ line (codes "blind") (decimal r.blind) ++ verdict_line verdict r) (end_kept j r.«end»)
+module _ (under : Lines) where
+  chain_kept : (j : Module) (n : ℕ) (os : List Origin) → chain_with under (strip j) n os ≡ chain_with under j n os
+  chain_kept j n [] = refl
+  chain_kept j n (o ∷ rest) =
+      ap (λ t. origin_line n t ++ under_line under (origin_site (strip j) o) ++ chain_with under (strip j) (earlier n o) rest) (origin_kept j o)
+      ∙ ap (λ s. origin_line n (origin_text j o) ++ under_line under s ++ chain_with under (strip j) (earlier n o) rest) (origin_site_kept j o)
+      ∙ ap (λ t. origin_line n (origin_text j o) ++ under_line under (origin_site j o) ++ t) (chain_kept j (earlier n o) rest)
 
-answer_kept : (j : Module) (verdict : Bool) (r : RunResult) → answer_of_result verdict (strip j) r ≡ answer_of_result verdict j r
-answer_kept j verdict r =
-    ap (λ t. answer_of (status_of r) r.output (t ++ closing_of (strip j) r verdict)) (reports_kept j 1 r.reports)
-    ∙ ap (λ t. answer_of (status_of r) r.output (report_text_of j r ++ t)) (closing_kept j verdict r)
+  origins_kept : (j : Module) (n : ℕ) (os : List Origin) → origins_with under (strip j) n os ≡ origins_with under j n os
+  origins_kept j n [] = refl
+  origins_kept j n (o ∷ rest) = chain_kept j n (o ∷ rest)
 
--- the answer for a result is that of the module without what was inserted
-pub same_answer : (m j : Module) → strip j ≡ m → (verdict : Bool) (r : RunResult) → answer_of_result verdict j r ≡ answer_of_result verdict m r
-same_answer m j is verdict r = sym (answer_kept j verdict r) ∙ ap (λ k. answer_of_result verdict k r) is
+  reports_kept : (j : Module) (n : ℕ) (rs : List Report) → reports_with under (strip j) n rs ≡ reports_with under j n rs
+  reports_kept j n [] = refl
+  reports_kept j n (r ∷ rest) =
+      ap (λ t. t ++ under r.site ++ origins_with under (strip j) r.origin r.chain ++ reports_with under (strip j) (n + 1) rest) (line_kept j n r)
+      ∙ ap (λ t. report_line j n r ++ under r.site ++ t ++ reports_with under (strip j) (n + 1) rest) (origins_kept j r.origin r.chain)
+      ∙ ap (λ t. report_line j n r ++ under r.site ++ origins_with under j r.origin r.chain ++ t) (reports_kept j (n + 1) rest)
+
+  closing_kept : (j : Module) (verdict : Bool) (r : RunResult) → closing_text_with under (strip j) r verdict ≡ closing_text_with under j r verdict
+  closing_kept j verdict r =
+      ap (λ t. line (codes "end") t ++ under_line under (end_site r.«end») ++ line (codes "reports") (decimal (length r.reports)) ++ line (codes "blind") (decimal r.blind) ++ verdict_line verdict r)
+      (end_kept j r.«end»)
+
+  answer_kept : (j : Module) (verdict : Bool) (r : RunResult) → answer_of_result under verdict (strip j) r ≡ answer_of_result under verdict j r
+  answer_kept j verdict r =
+      ap (λ t. answer_of (status_of r) r.output (t ++ closing_text_with under (strip j) r verdict)) (reports_kept j 1 r.reports)
+      ∙ ap (λ t. answer_of (status_of r) r.output (reports_with under j 1 r.reports ++ t)) (closing_kept j verdict r)
+
+  -- the answer for a result is that of the module without what was inserted
+  pub same_answer : (m j : Module) → strip j ≡ m → (verdict : Bool) (r : RunResult) → answer_of_result under verdict j r ≡ answer_of_result under verdict m r
+  same_answer m j is verdict r = sym (answer_kept j verdict r) ∙ ap (λ k. answer_of_result under verdict k r) is

@@ -10,6 +10,7 @@ use Rattle.ms_words.specs.declared.commands.Command.{Command}
 use Rattle.ms_words.specs.declared.commands.Command.TheVariants.{Instrument, Run, Check, Corpus, Gen, Help, Version}
 use Rattle.ms_words.specs.declared.commands.WordsError.{WordsError}
 use Rattle.ms_words.specs.Words.{command_of}
+use Rattle.ms_report.specs.WithLines.{Lines}
 use Rattle.ms_gen.specs.Generator.{generated}
 use Rattle.ms_top.specs.Files.{Counted, FilesRead, Whole, Fault, Long}
 use Rattle.ms_top.specs.Said.{answer_of, end_status, IsAnswerOfGen, IsAnswerWithoutFile, IsAnswerToValid, IsAnswerToModule, IsAnswerToReading, IsAnswerToText, IsAnswerToTexts, IsAnswerToFiles, IsAnswerToCommand, IsAnswerFor, IsAnswer}
@@ -38,27 +39,27 @@ module _ (Gives : Module → Module → Type 0) where
   of_gen-not_seven true m a (j, gives, is) = with-status a _ _ _ is (chosen-not_seven _ _)
   of_gen-not_seven false m a is = with-status a 0 _ _ is (λ h. omega arith)
 
-  to_valid-not_seven : (command : Command) (inputs : List (List ℕ)) (m : Module) (a : Answer) → IsAnswerToValid Gives command inputs m a → a.status ≢ 7
-  to_valid-not_seven (Instrument file) inputs m a (j, gives, is) = with-status a 0 _ _ is (λ h. omega arith)
-  to_valid-not_seven (Run file o) inputs m a is = with-status a _ _ _ is (chosen-not_seven _ _)
-  to_valid-not_seven (Check file o) inputs m a (j, gives, is) = with-status a _ _ _ is (chosen-not_seven _ _)
-  to_valid-not_seven (Corpus file names o workers) inputs m a (j, gives, is) = with-status a _ _ _ is (all-not_seven _ _ _)
-  to_valid-not_seven (Gen seed functions run) inputs m a is = of_gen-not_seven run m a is
-  to_valid-not_seven Help inputs m a is = with-status a 0 _ _ is (λ h. omega arith)
-  to_valid-not_seven Version inputs m a is = with-status a 0 _ _ is (λ h. omega arith)
+  to_valid-not_seven : (under : Lines) (command : Command) (inputs : List (List ℕ)) (m : Module) (a : Answer) → IsAnswerToValid Gives under command inputs m a → a.status ≢ 7
+  to_valid-not_seven under (Instrument file) inputs m a (j, gives, is) = with-status a 0 _ _ is (λ h. omega arith)
+  to_valid-not_seven under (Run file o) inputs m a is = with-status a _ _ _ is (chosen-not_seven _ _)
+  to_valid-not_seven under (Check file o) inputs m a (j, gives, is) = with-status a _ _ _ is (chosen-not_seven _ _)
+  to_valid-not_seven under (Corpus file names o workers) inputs m a (j, gives, is) = with-status a _ _ _ is (all-not_seven _ _ _)
+  to_valid-not_seven under (Gen seed functions run) inputs m a is = of_gen-not_seven run m a is
+  to_valid-not_seven under Help inputs m a is = with-status a 0 _ _ is (λ h. omega arith)
+  to_valid-not_seven under Version inputs m a is = with-status a 0 _ _ is (λ h. omega arith)
 
-  to_module-not_seven : (command : Command) (inputs : List (List ℕ)) (m : Module) (a : Answer) → IsAnswerToModule Gives command inputs m a → a.status ≢ 7
-  to_module-not_seven command inputs m a (inl (fault, refused, is)) = with-status a 5 _ _ is (λ h. omega arith)
-  to_module-not_seven command inputs m a (inr (valid, is)) = to_valid-not_seven command inputs m a is
+  to_module-not_seven : (under : Lines) (command : Command) (inputs : List (List ℕ)) (m : Module) (a : Answer) → IsAnswerToModule Gives under command inputs m a → a.status ≢ 7
+  to_module-not_seven under command inputs m a (inl (fault, refused, is)) = with-status a 5 _ _ is (λ h. omega arith)
+  to_module-not_seven under command inputs m a (inr (valid, is)) = to_valid-not_seven under command inputs m a is
 
-  to_reading-not_seven : (command : Command) (inputs : List (List ℕ)) (r : Result Module ReadError) (a : Answer) → IsAnswerToReading Gives command inputs r a → a.status ≢ 7
-  to_reading-not_seven command inputs (Ok m) a is = to_module-not_seven command inputs m a is
-  to_reading-not_seven command inputs (Err (e.Lex cause)) a is = with-status a 5 _ _ is (λ h. omega arith)
-  to_reading-not_seven command inputs (Err (e.Refused number w token place)) a is = with-status a 5 _ _ is (λ h. omega arith)
-  to_reading-not_seven command inputs (Err e.NoMemory) a is = absurd is
+  to_reading-not_seven : (command : Command) (inputs : List (List ℕ)) (text : List ℕ) (r : Result Module ReadError) (a : Answer) → IsAnswerToReading Gives command inputs text r a → a.status ≢ 7
+  to_reading-not_seven command inputs text (Ok m) a (under, are, is) = to_module-not_seven under command inputs m a is
+  to_reading-not_seven command inputs text (Err (e.Lex cause)) a is = with-status a 5 _ _ is (λ h. omega arith)
+  to_reading-not_seven command inputs text (Err (e.Refused number w token place)) a is = with-status a 5 _ _ is (λ h. omega arith)
+  to_reading-not_seven command inputs text (Err e.NoMemory) a is = absurd is
 
   to_text-not_seven : (command : Command) (inputs : List (List ℕ)) (text : List ℕ) (a : Answer) → IsAnswerToText Gives command inputs text a → a.status ≢ 7
-  to_text-not_seven command inputs text a (r, reading, is) = to_reading-not_seven command inputs r a is
+  to_text-not_seven command inputs text a (r, reading, is) = to_reading-not_seven command inputs text r a is
 
   without_file-not_seven : (command : Command) (a : Answer) → IsAnswerWithoutFile Gives command a → a.status ≢ 7
   without_file-not_seven (Instrument file) a is = absurd is

@@ -19,36 +19,47 @@ use Rattle.ms_words.specs.declared.commands.Command.{Command}
 use Rattle.ms_words.specs.declared.commands.Command.TheVariants.{Instrument, Run, Check}
 use Rattle.ms_words.specs.declared.commands.Options.{Options}
 use Rattle.ms_top.specs.Command.{only_input, setup_of}
+use Rattle.ms_report.specs.WithLines.{Lines}
 use Rattle.ms_top.specs.Instrumented.{IsInstrumented}
+use Rattle.ms_top.specs.Lines.{AreLines}
 use Rattle.ms_top.specs.Said.{answer_of_result, IsAnswerToValid, IsAnswerToModule, IsAnswerToReading, IsAnswerToText}
 use Rattle.ms_top.proofs.OneAnswer.{made_once, memory_is_there, one_reading}
 use Rattle.ms_top.proofs.SameLines.{same_answer}
 
 -- the text is that of no other formed module
-pub named : (file : List ℕ) (inputs : List (List ℕ)) (m j : Module) (a : Answer) → IsAnswerToValid IsInstrumented (Instrument file) inputs m a → Formed j → a.out ≡ written j → IsInstrumented m j
-named file inputs m j a (k, made, is) formed text = subst (IsInstrumented m) (same_text k j made.formed formed (sym (ap (λ x. x.out) is) ∙ text)) made
+pub named : (under : Lines) (file : List ℕ) (inputs : List (List ℕ)) (m j : Module) (a : Answer) → IsAnswerToValid IsInstrumented under (Instrument file) inputs m a → Formed j → a.out ≡ written j
+    → IsInstrumented m j
+named under file inputs m j a (k, made, is) formed text = subst (IsInstrumented m) (same_text k j made.formed formed (sym (ap (λ x. x.out) is) ∙ text)) made
 
 -- the answer to a command for a valid module
-for_valid : (command : Command) (inputs : List (List ℕ)) (j : Module) (b : Answer) → Valid j → IsAnswerToModule IsInstrumented command inputs j b → IsAnswerToValid IsInstrumented command inputs j b
-for_valid command inputs j b valid (inl (fault, refused, is)) = absurd (invalid j fault refused valid)
-for_valid command inputs j b valid (inr (checked, is)) = is
+for_valid : (under : Lines) (command : Command) (inputs : List (List ℕ)) (j : Module) (b : Answer) → Valid j → IsAnswerToModule IsInstrumented under command inputs j b
+    → IsAnswerToValid IsInstrumented under command inputs j b
+for_valid under command inputs j b valid (inl (fault, refused, is)) = absurd (invalid j fault refused valid)
+for_valid under command inputs j b valid (inr (checked, is)) = is
 
--- the answer of `run` for a text that reads as a valid module
+-- the answer of `run` for a text that reads as a valid module, with the lines of that text
 ran : (file : List ℕ) (inputs : List (List ℕ)) (text : List ℕ) (o : Options) (j : Module) (b : Answer) → Reads Instrumented text j → Valid j → IsAnswerToText IsInstrumented (Run file o) inputs text b
-    → b ≡ answer_of_result false j (plain j (setup_of o (only_input inputs)))
+    → (under : Lines) × AreLines (Run file o) text j under × (b ≡ answer_of_result under false j (plain j (setup_of o (only_input inputs))))
 ran file inputs text o j b reads valid (r, reading, answers) =
     let some : Ok j ≢ Err e.NoMemory = λ h. absurd cc in
-    let one : r ≡ Ok j = one_reading Instrumented text (Ok j) r reads reading some (memory_is_there (Run file o) inputs r b answers) in
-    for_valid (Run file o) inputs j b valid (subst (λ s. IsAnswerToReading IsInstrumented (Run file o) inputs s b) one answers)
+    let one : r ≡ Ok j = one_reading Instrumented text (Ok j) r reads reading some (memory_is_there (Run file o) inputs text r b answers) in
+    let shown = subst (λ s. IsAnswerToReading IsInstrumented (Run file o) inputs text s b) one answers in
+    (shown.0, shown.1, for_valid shown.0 (Run file o) inputs j b valid shown.2)
 
-pub alike : (file name : List ℕ) (inputs : List (List ℕ)) (o : Options) (m i : Module) (a b c : Answer) → IsAnswerToValid IsInstrumented (Instrument file) [] m a → IsElided m i → FitsText i
-    → IsAnswerToText IsInstrumented (Run name o) inputs a.out b → IsAnswerToValid IsInstrumented (Check name o) inputs m c
-    → (r : RunResult) × (b ≡ answer_of_result false m r) × (c ≡ answer_of_result true m r)
-alike file name inputs o m i a b c (j, made, is) elided fits read (k, other, same) =
+pub alike : (under : Lines) (file name : List ℕ) (inputs : List (List ℕ)) (o : Options) (m i : Module) (a b c : Answer) → IsAnswerToValid IsInstrumented under (Instrument file) [] m a → IsElided m i → FitsText i
+    → IsAnswerToText IsInstrumented (Run name o) inputs a.out b → IsAnswerToValid IsInstrumented under (Check name o) inputs m c
+    → (j : Module) × IsInstrumented m j × (below : Lines) × AreLines (Run name o) a.out j below
+    × (r : RunResult) × (b ≡ answer_of_result below false m r) × (c ≡ answer_of_result under true m r)
+alike under file name inputs o m i a b c (j, made, is) elided fits read (k, other, same) =
     let text : written j ≡ a.out = sym (ap (λ x. x.out) is) in
     let reads : Reads Instrumented a.out j = subst (λ t. Reads Instrumented t j) text (text_back j made.formed (subst FitsText (elided_once m i j elided made.elided) fits)) in
-    let r = plain j (setup_of o (only_input inputs)) in (
+    let r = plain j (setup_of o (only_input inputs)) in
+    let run = ran name inputs a.out o j b reads made.valid read in (
+      j,
+      made,
+      run.0,
+      run.1,
       r,
-      ran name inputs a.out o j b reads made.valid read ∙ same_answer m j made.faithful.strips false r,
-      same ∙ ap (λ n. answer_of_result true m (plain n (setup_of o (only_input inputs)))) (made_once m k j other made),
+      run.2 ∙ same_answer run.0 m j made.faithful.strips false r,
+      same ∙ ap (λ n. answer_of_result under true m (plain n (setup_of o (only_input inputs)))) (made_once m k j other made),
     )

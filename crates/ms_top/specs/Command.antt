@@ -1,5 +1,5 @@
 -- What belongs to a command: its files, and the setup of its run.
-use Rattle.std.specs.Prelude.{ℕ, ◌^◌, List, [], ◌∷◌, map, Option, Some, None, option_to_list}
+use Rattle.std.specs.Prelude.{ℕ, ◌^◌, List, [], ◌∷◌, if◌then◌else◌, map, Option, Some, None, option_to_list}
 use Rattle.ms_runs.specs.declared.runs.Setup.{Setup}
 use Rattle.ms_ir.specs.declared.forms.Form.{Form}
 use Rattle.ms_ir.specs.declared.forms.Form.TheVariants.{Plain, Instrumented}
@@ -48,6 +48,13 @@ input_names (Corpus file inputs options workers) = inputs
 input_names (Gen seed functions run) = []
 input_names Help = []
 input_names Version = []
+
+-- the name of the module's file, where each line that names a site is to be followed by where it stands
+abbrev pub located_file : Command → Option (List ℕ)
+located_file (Run file options) = if options.locations then Some file else None
+located_file (Check file options) = if options.locations then Some file else None
+located_file (Corpus file inputs options workers) = if options.locations then Some file else None
+located_file command = None
 
 -- ---- files
 

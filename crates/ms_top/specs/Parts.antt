@@ -3,6 +3,8 @@ use Rattle.std.specs.Prelude.{◌≡◌, ◌≤◌, ℕ, Bool, true, false, List
 use Rattle.ms_io.specs.declared.traits.FileError.{FileError}
 use Rattle.ms_io.specs.declared.traits.FileError.TheVariants.{Failed, Absent, TooLong, NoMemory}
 use Rattle.ms_ir.specs.declared.syntax.Module.{Module}
+use Rattle.ms_ir.specs.declared.forms.Form.{Form}
+use Rattle.ms_grammar.specs.Texts.{Reads}
 use Rattle.ms_runs.specs.declared.runs.RunResult.{RunResult}
 use Rattle.ms_runs.specs.declared.runs.Setup.{Setup}
 use Rattle.ms_runs.specs.Plain.{plain}
@@ -30,6 +32,10 @@ IsAnswerToFault NoMemory name a = ⊥
 abbrev pub IsAnswerBehind : (Module → Module → Type 0) → Counted → Command → List ℕ → Answer → Type 0
 IsAnswerBehind Gives c command text a =
     (r : FilesRead) × CanRead c (input_files (input_names command)) r × IsAnswerToFiles Gives command (behind text r) a
+
+-- a text that reads as a module
+abbrev pub IsModuleText : Form → List ℕ → Type 0
+IsModuleText form text = (m : Module) × Reads form text m
 
 -- a module that is read for a command can be instrumented, but where the command runs it as it stands
 abbrev pub IsReady : Command → Module → Type 0

@@ -19,7 +19,7 @@ use Rattle.ms_written.specs.Modules.{written}
 use Rattle.ms_report.specs.declared.refusals.Refusal.TheVariants.{Read}
 use Rattle.ms_report.specs.RunTexts.{line, closing_of}
 use Rattle.ms_report.specs.ReportTexts.{report_text_of}
-use Rattle.ms_report.specs.FaultTexts.{fault_text}
+use Rattle.ms_report.specs.WithLines.{Lines, reports_with, closing_text_with}
 use Rattle.ms_report.specs.RefusalTexts.{refusal_text}
 use Rattle.ms_report.specs.WordsTexts.{words_text}
 use Rattle.ms_top.specs.declared.answers.Answer.{Answer}
@@ -32,6 +32,7 @@ use Rattle.ms_words.specs.Words.{command_of, defaults, name_of, place_of}
 use Rattle.ms_words.specs.declared.commands.Options.{Options}
 use Rattle.ms_top.specs.Command.{form_of, files_of, only_input, setup_of}
 use Rattle.ms_top.specs.Files.{Counted, CanRead, FilesRead, Whole, Fault, Long}
+use Rattle.ms_top.specs.Lines.{AreLines, fault_text_with}
 
 abbrev pub answer_of : ℕ → List ℕ → List ℕ → Answer
 answer_of status out err = record { status = status; out = out; err = err }
@@ -40,9 +41,11 @@ answer_of status out err = record { status = status; out = out; err = err }
 abbrev pub says : ℕ → List ℕ → Answer
 says status err = answer_of status [] err
 
--- both say that a use of a value isn't defined at one site, each with a path that shows it
+-- both say that a use of a value isn't defined at one site, each with a path that shows it and the same lines under it
 abbrev pub DifferInPath : Answer → Answer → Type 0
-DifferInPath a b = (site : ℕ) × (p : List ℕ) × (q : List ℕ) × (a ≡ says 5 (fault_text (Undefined site p))) × (b ≡ says 5 (fault_text (Undefined site q)))
+DifferInPath a b =
+    (under : Lines) × (site : ℕ) × (p : List ℕ) × (q : List ℕ)
+    × (a ≡ says 5 (fault_text_with under (Undefined site p))) × (b ≡ says 5 (fault_text_with under (Undefined site q)))
 
 -- ---- the program itself
 
@@ -67,10 +70,13 @@ end_status ends.Spent = 4
 abbrev pub status_of : RunResult → ℕ
 status_of r = if eqb (length r.reports) 0 then end_status r.«end» else 77
 
--- the answer for the result of a module's run: its output, and its reports with the closing lines, with or without the
--- verdict
-abbrev pub answer_of_result : (verdict : Bool) → Module → RunResult → Answer
-answer_of_result verdict m r = answer_of (status_of r) r.output (report_text_of m r ++ closing_of m r verdict)
+-- the lines of a run's reports, and then the closing lines, with or without the verdict; `under` are the lines under each site
+abbrev pub run_text : Lines → (verdict : Bool) → Module → RunResult → List ℕ
+run_text under verdict m r = reports_with under m 1 r.reports ++ closing_text_with under m r verdict
+
+-- the answer for the result of a module's run: its output, and those lines
+abbrev pub answer_of_result : Lines → (verdict : Bool) → Module → RunResult → Answer
+answer_of_result under verdict m r = answer_of (status_of r) r.output (run_text under verdict m r)
 
 -- the summary of a module's run: how many functions and sites the module has and how many bytes were output, and then the
 -- reports with the closing lines
@@ -86,14 +92,14 @@ abbrev pub heading_of : (number : ℕ) → (name : List ℕ) → RunResult → L
 heading_of number name r = codes "input " ++ decimal number ++ codes ", " ++ decimal (length r.output) ++ codes " bytes: " ++ name ++ codes "\n"
 
 -- the section: that line, the output, a newline, the reports and the closing lines
-abbrev pub section_of : Module → (number : ℕ) → (name : List ℕ) → RunResult → List ℕ
-section_of m number name r = heading_of number name r ++ r.output ++ codes "\n" ++ report_text_of m r ++ closing_of m r true
+abbrev pub section_of : Lines → Module → (number : ℕ) → (name : List ℕ) → RunResult → List ℕ
+section_of under m number name r = heading_of number name r ++ r.output ++ codes "\n" ++ run_text under true m r
 
 -- the sections of runs with numbers from one on
-abbrev pub sections_of : Module → (number : ℕ) → (names : List (List ℕ)) → List RunResult → List ℕ
-sections_of m number [] rs = []
-sections_of m number names [] = []
-sections_of m number (name ∷ names) (r ∷ rs) = section_of m number name r ++ sections_of m (suc number) names rs
+abbrev pub sections_of : Lines → Module → (number : ℕ) → (names : List (List ℕ)) → List RunResult → List ℕ
+sections_of under m number [] rs = []
+sections_of under m number names [] = []
+sections_of under m number (name ∷ names) (r ∷ rs) = section_of under m number name r ++ sections_of under m (suc number) names rs
 
 -- one of the runs has a status
 abbrev pub has_status : ℕ → List RunResult → Bool
@@ -104,8 +110,8 @@ abbrev pub status_of_all : List RunResult → ℕ
 status_of_all rs = if has_status 77 rs then 77 else if has_status 3 rs then 3 else if has_status 4 rs then 4 else 0
 
 -- the answer for the results of many runs
-abbrev pub answer_of_results : Module → (names : List (List ℕ)) → List RunResult → Answer
-answer_of_results m names rs = answer_of (status_of_all rs) (sections_of m 1 names rs) []
+abbrev pub answer_of_results : Lines → Module → (names : List (List ℕ)) → List RunResult → Answer
+answer_of_results under m names rs = answer_of (status_of_all rs) (sections_of under m 1 names rs) []
 
 -- ---- from the words to the answer, for a pass that gives modules so
 
@@ -115,12 +121,13 @@ module _ (Gives : Module → Module → Type 0) where
   IsAnswerOfInstrument m a = (j : Module) × Gives m j × (a ≡ answer_of 0 (written j) [])
 
   -- the answer of `check`: of the run of a module that the pass gives, with the verdict
-  abbrev pub IsAnswerOfCheck : Setup → Module → Answer → Type 0
-  IsAnswerOfCheck s m a = (j : Module) × Gives m j × (a ≡ answer_of_result true m (plain j s))
+  abbrev pub IsAnswerOfCheck : Lines → Setup → Module → Answer → Type 0
+  IsAnswerOfCheck under s m a = (j : Module) × Gives m j × (a ≡ answer_of_result under true m (plain j s))
 
   -- the answer of `corpus`: of the runs on the inputs of a module that the pass gives
-  abbrev pub IsAnswerOfCorpus : (names : List (List ℕ)) → Options → (inputs : List (List ℕ)) → Module → Answer → Type 0
-  IsAnswerOfCorpus names options inputs m a = (j : Module) × Gives m j × (a ≡ answer_of_results m names (map (λ input. plain j (setup_of options input)) inputs))
+  abbrev pub IsAnswerOfCorpus : Lines → (names : List (List ℕ)) → Options → (inputs : List (List ℕ)) → Module → Answer → Type 0
+  IsAnswerOfCorpus under names options inputs m a =
+      (j : Module) × Gives m j × (a ≡ answer_of_results under m names (map (λ input. plain j (setup_of options input)) inputs))
 
   -- the answer of `gen` for the module that it makes: the module's text, or the summary of the run of a module that the
   -- pass gives, with no option given
@@ -128,30 +135,31 @@ module _ (Gives : Module → Module → Type 0) where
   IsAnswerOfGen false m a = a ≡ answer_of 0 (written m) []
   IsAnswerOfGen true m a = (j : Module) × Gives m j × (let r = plain j (setup_of defaults []) in a ≡ answer_of (status_of r) (summary_of m r) [])
 
-  -- the answer for a valid module; `run` runs it as it stands
-  abbrev pub IsAnswerToValid : Command → List (List ℕ) → Module → Answer → Type 0
-  IsAnswerToValid (Instrument file) inputs m a = IsAnswerOfInstrument m a
-  IsAnswerToValid (Run file options) inputs m a = a ≡ answer_of_result false m (plain m (setup_of options (only_input inputs)))
-  IsAnswerToValid (Check file options) inputs m a = IsAnswerOfCheck (setup_of options (only_input inputs)) m a
-  IsAnswerToValid (Corpus file names options workers) inputs m a = IsAnswerOfCorpus names options inputs m a
-  IsAnswerToValid (Gen seed functions run) inputs m a = IsAnswerOfGen run m a
-  IsAnswerToValid Help inputs m a = a ≡ answer_of_help
-  IsAnswerToValid Version inputs m a = a ≡ answer_of_version
+  -- the answer for a valid module, with these lines under each site; `run` runs it as it stands
+  abbrev pub IsAnswerToValid : Lines → Command → List (List ℕ) → Module → Answer → Type 0
+  IsAnswerToValid under (Instrument file) inputs m a = IsAnswerOfInstrument m a
+  IsAnswerToValid under (Run file options) inputs m a = a ≡ answer_of_result under false m (plain m (setup_of options (only_input inputs)))
+  IsAnswerToValid under (Check file options) inputs m a = IsAnswerOfCheck under (setup_of options (only_input inputs)) m a
+  IsAnswerToValid under (Corpus file names options workers) inputs m a = IsAnswerOfCorpus under names options inputs m a
+  IsAnswerToValid under (Gen seed functions run) inputs m a = IsAnswerOfGen run m a
+  IsAnswerToValid under Help inputs m a = a ≡ answer_of_help
+  IsAnswerToValid under Version inputs m a = a ≡ answer_of_version
 
   -- the answer for a module: why it isn't valid, or else the answer for a valid one
-  abbrev pub IsAnswerToModule : Command → List (List ℕ) → Module → Answer → Type 0
-  IsAnswerToModule command inputs m a =
-      ((fault : ModuleFault) × IsRefused m fault × (a ≡ says 5 (fault_text fault))) ⊎ (Valid m × IsAnswerToValid command inputs m a)
+  abbrev pub IsAnswerToModule : Lines → Command → List (List ℕ) → Module → Answer → Type 0
+  IsAnswerToModule under command inputs m a =
+      ((fault : ModuleFault) × IsRefused m fault × (a ≡ says 5 (fault_text_with under fault))) ⊎ (Valid m × IsAnswerToValid under command inputs m a)
 
-  -- the answer for what reading a text comes to: a module, or why there is none; want of memory has an answer of its own
-  abbrev pub IsAnswerToReading : Command → List (List ℕ) → Result Module ReadError → Answer → Type 0
-  IsAnswerToReading command inputs (Ok m) a = IsAnswerToModule command inputs m a
-  IsAnswerToReading command inputs (Err e.NoMemory) a = ⊥
-  IsAnswerToReading command inputs (Err cause) a = a ≡ says 5 (refusal_text (Read cause))
+  -- the answer for what reading a text comes to: a module, with the lines under its sites that the command asks for, or why
+  -- there is none; want of memory has an answer of its own
+  abbrev pub IsAnswerToReading : Command → List (List ℕ) → List ℕ → Result Module ReadError → Answer → Type 0
+  IsAnswerToReading command inputs text (Ok m) a = (under : Lines) × AreLines command text m under × IsAnswerToModule under command inputs m a
+  IsAnswerToReading command inputs text (Err e.NoMemory) a = ⊥
+  IsAnswerToReading command inputs text (Err cause) a = a ≡ says 5 (refusal_text (Read cause))
 
   -- the answer for a module's text: what it reads as in the form of the command, or why it isn't read, decides
   abbrev pub IsAnswerToText : Command → List (List ℕ) → List ℕ → Answer → Type 0
-  IsAnswerToText command inputs text a = (r : Result Module ReadError) × IsReading (form_of command) text r × IsAnswerToReading command inputs r a
+  IsAnswerToText command inputs text a = (r : Result Module ReadError) × IsReading (form_of command) text r × IsAnswerToReading command inputs text r a
 
   -- the answer without a file, which `gen`, `help` and `version` have
   abbrev pub IsAnswerWithoutFile : Command → Answer → Type 0

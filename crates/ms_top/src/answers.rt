@@ -1,5 +1,5 @@
 //! What is said of a module's text.
-ghost use Rattle.std.specs.Prelude.{◌≡◌, ◌≤◌, ◌++◌, [], false, length, IfErr, IfOk, IfSome, OnOk};
+ghost use Rattle.std.specs.Prelude.{◌≡◌, ◌≤◌, [], false, length, IfErr, IfOk, IfSome, OnOk, Ok};
 ghost use Rattle.ms_runs.specs.Limits.{WithinLimits};
 ghost use Rattle.ms_runs.specs.Plain.{plain};
 ghost use Rattle.ms_valid.specs.Formed.{Formed};
@@ -7,18 +7,19 @@ ghost use Rattle.ms_valid.specs.Refusals.{IsRefused};
 ghost use Rattle.ms_valid.specs.Uninstrumented.{CanInstrument};
 ghost use Rattle.ms_valid.specs.Valid.{Valid};
 ghost use Rattle.ms_check.specs.Faults.{fault_of};
-ghost use Rattle.ms_report.specs.RefusalTexts.{HasLine, refusal_text, wants_memory as is_want_of_memory};
-ghost use Rattle.ms_report.specs.ReportTexts.{report_text_of};
-ghost use Rattle.ms_report.specs.RunTexts.{closing_of};
+ghost use Rattle.ms_grammar.specs.Texts.{Reads};
+ghost use Rattle.ms_report.specs.RefusalTexts.{HasLine, wants_memory as is_want_of_memory};
+ghost use Rattle.ms_report.specs.WithLines.{refusal_text_with};
 ghost use Rattle.ms_words.specs.Limits.{RunsWithinLimits, IsWithinLimits};
-ghost use Rattle.ms_top.specs.Command.{setup_of as setup_with, module_limit, input_limit, only_input as only_input_of};
+ghost use Rattle.ms_top.specs.Command.{form_of, setup_of as setup_with, module_limit, input_limit, only_input as only_input_of};
 ghost use Rattle.ms_top.specs.Parts.{AreShort, IsReady, IsRunOfGiven};
-ghost use Rattle.ms_top.specs.Said.{answer_of, answer_of_result, says, status_of as status_of_run, IsAnswerOfInstrument, IsAnswerOfCheck, IsAnswerToValid, IsAnswerToModule, IsAnswerToText};
+ghost use Rattle.ms_top.specs.Said.{answer_of, answer_of_result, run_text, says, status_of as status_of_run, IsAnswerOfInstrument, IsAnswerOfCheck, IsAnswerToValid, IsAnswerToModule, IsAnswerToReading, IsAnswerToText};
 
-use crate::commands::form_of;
+use crate::commands::{form_of, located_file};
 use crate::corpus::{Jobs, answer_of_corpus};
 use crate::generated::{summarised, written};
 use crate::itself::{answer_of_help, answer_of_version};
+use crate::located::Places;
 use crate::passes::{Pass, instrumented_by};
 use ms_bits::{Boxed, Bytes, NoMemory};
 use ms_check::{CheckError, CheckedModule, check};
@@ -26,7 +27,7 @@ use ms_fork::Gate;
 use ms_ir::Module;
 use ms_read_body::ReadError;
 use ms_read_top::read;
-use ms_report::{Refusal, closing, refusal_line, report_text};
+use ms_report::{NoLines, Refusal, SiteLines, closing_with, refusal_line_with, report_text_with};
 use ms_runs::{End, RunResult, Setup};
 use ms_runtime::run;
 use ms_words::{Command, Options};
@@ -81,13 +82,42 @@ pub fn answer_to_text<R: Threads + Sync, P: Pass, G: Gate + Sync>(
     ensures { IfOk result (λ a. IsAnswerToText P.gives command.now inputs.now text.now a) }
 {
     match read(alloc, text, form_of(command)) {
-        Ok(module) => answer_to_module(rt, alloc, command, module, inputs, pass, gate),
-        Err(cause) => refused(alloc, Refusal::Read(cause)),
+        Ok(module) => answer_to_read(rt, alloc, command, text, module, inputs, pass, gate),
+        Err(cause) => refused(alloc, Refusal::Read(cause), &NoLines),
+    }
+}
+
+/// The answer to a command on the module that a text reads as. Where each site stands in the text is found only where the
+/// command asks for it.
+fn answer_to_read<R: Threads + Sync, P: Pass, G: Gate + Sync>(
+    rt: &R,
+    alloc: Global,
+    command: &Command,
+    text: &[u8],
+    m: Module,
+    inputs: &[Bytes],
+    pass: &P,
+    gate: &G,
+) -> Result<Answer, NoMemory>
+    requires reads { Reads (form_of command.now) text.now m }
+    requires formed { Formed m }
+    requires ready { IsReady command.now m }
+    requires limits { IsWithinLimits command.now }
+    requires inputs { AreShort inputs.now }
+    ensures { IfOk result (λ a. IsAnswerToReading P.gives command.now inputs.now text.now (Ok m) a) }
+{
+    match located_file(command) {
+        None => answer_to_module(rt, alloc, command, m, inputs, pass, gate, &NoLines),
+        Some(file) => {
+            let places = Places::of(alloc, text, form_of(command))?;
+            let located = places.located(alloc, file, text, &m)?;
+            answer_to_module(rt, alloc, command, m, inputs, pass, gate, &located)
+        }
     }
 }
 
 /// The answer to a command on a module.
-fn answer_to_module<R: Threads + Sync, P: Pass, G: Gate + Sync>(
+fn answer_to_module<R: Threads + Sync, P: Pass, G: Gate + Sync, L: SiteLines>(
     rt: &R,
     alloc: Global,
     command: &Command,
@@ -95,16 +125,17 @@ fn answer_to_module<R: Threads + Sync, P: Pass, G: Gate + Sync>(
     inputs: &[Bytes],
     pass: &P,
     gate: &G,
+    under: &L,
 ) -> Result<Answer, NoMemory>
     requires formed { Formed m }
     requires ready { IsReady command.now m }
     requires limits { IsWithinLimits command.now }
     requires inputs { AreShort inputs.now }
-    ensures { IfOk result (λ a. IsAnswerToModule P.gives command.now inputs.now m a) }
+    ensures { IfOk result (λ a. IsAnswerToModule P.gives (L.lines under.now) command.now inputs.now m a) }
 {
     match checked(alloc, m) {
-        Ok(module) => answer_to_valid(rt, alloc, command, module.get(), inputs, pass, gate),
-        Err(cause) => refused(alloc, Refusal::Check(cause)),
+        Ok(module) => answer_to_valid(rt, alloc, command, module.get(), inputs, pass, gate, under),
+        Err(cause) => refused(alloc, Refusal::Check(cause), under),
     }
 }
 
@@ -129,7 +160,7 @@ fn cause_of(refused: (CheckError, Module)) -> CheckError
 }
 
 /// The answer to a command on a valid module.
-fn answer_to_valid<R: Threads + Sync, P: Pass, G: Gate + Sync>(
+fn answer_to_valid<R: Threads + Sync, P: Pass, G: Gate + Sync, L: SiteLines>(
     rt: &R,
     alloc: Global,
     command: &Command,
@@ -137,16 +168,19 @@ fn answer_to_valid<R: Threads + Sync, P: Pass, G: Gate + Sync>(
     inputs: &[Bytes],
     pass: &P,
     gate: &G,
+    under: &L,
 ) -> Result<Answer, NoMemory>
     requires ready { IsReady command.now m.now }
     requires limits { IsWithinLimits command.now }
     requires inputs { AreShort inputs.now }
-    ensures { IfOk result (λ a. IsAnswerToValid P.gives command.now inputs.now m.now a) }
+    ensures { IfOk result (λ a. IsAnswerToValid P.gives (L.lines under.now) command.now inputs.now m.now a) }
 {
     m.is_valid();
     match command {
         Command::Instrument { .. } => answer_of_instrument(rt, alloc, m, pass),
-        Command::Run { options, .. } => answer_of_run(alloc, m, options, only_input(inputs)),
+        Command::Run { options, .. } => {
+            answer_of_run(alloc, m, options, only_input(inputs), under)
+        }
         Command::Check { options, .. } => answer_of_check(
             rt,
             alloc,
@@ -154,6 +188,7 @@ fn answer_to_valid<R: Threads + Sync, P: Pass, G: Gate + Sync>(
             options,
             only_input(inputs),
             pass,
+            under,
         ),
         Command::Corpus {
             inputs: names,
@@ -166,7 +201,7 @@ fn answer_to_valid<R: Threads + Sync, P: Pass, G: Gate + Sync>(
                 inputs,
                 workers: *workers,
             };
-            answer_of_corpus(rt, alloc, m, options, &jobs, pass, gate)
+            answer_of_corpus(rt, alloc, m, options, &jobs, pass, gate, under)
         }
         Command::Gen { run: true, .. } => summarised(rt, alloc, m, pass),
         Command::Gen { run: false, .. } => written(alloc, m.module()),
@@ -200,40 +235,42 @@ fn answer_of_instrument<R: Threads + Sync, P: Pass>(
 }
 
 /// The answer of `run`: for the run of the module as it is.
-fn answer_of_run(
+fn answer_of_run<L: SiteLines>(
     alloc: Global,
     m: &CheckedModule,
     options: &Options,
     input: &[u8],
+    under: &L,
 ) -> Result<Answer, NoMemory>
     requires limits { RunsWithinLimits options.now }
     requires input { length input.now ≤ input_limit }
-    ensures { IfOk result (λ a. a ≡ answer_of_result false m.now (plain m.now (setup_with options.now input.now))) }
+    ensures { IfOk result (λ a. a ≡ answer_of_result (L.lines under.now) false m.now (plain m.now (setup_with options.now input.now))) }
 {
     m.is_valid();
     let setup = setup_of(alloc, options, input)?;
     let result = run(alloc, m, &setup)?;
-    answer_of(alloc, m.module(), result, false)
+    answer_of(alloc, m.module(), result, false, under)
 }
 
 /// The answer of `check`: for the run of the module that the pass gives.
-fn answer_of_check<R: Threads + Sync, P: Pass>(
+fn answer_of_check<R: Threads + Sync, P: Pass, L: SiteLines>(
     rt: &R,
     alloc: Global,
     m: &CheckedModule,
     options: &Options,
     input: &[u8],
     pass: &P,
+    under: &L,
 ) -> Result<Answer, NoMemory>
     requires plain { CanInstrument m.now }
     requires limits { RunsWithinLimits options.now }
     requires input { length input.now ≤ input_limit }
-    ensures { IfOk result (λ a. IsAnswerOfCheck P.gives (setup_with options.now input.now) m.now a) }
+    ensures { IfOk result (λ a. IsAnswerOfCheck P.gives (L.lines under.now) (setup_with options.now input.now) m.now a) }
 {
     m.is_valid();
     let setup = setup_of(alloc, options, input)?;
     let result = run_given(rt, alloc, m, &setup, pass)?;
-    answer_of(alloc, m.module(), result, true)
+    answer_of(alloc, m.module(), result, true, under)
 }
 
 /// The run of the module that the pass gives.
@@ -267,11 +304,17 @@ pub fn setup_of(alloc: Global, options: &Options, input: &[u8]) -> Result<Setup,
 }
 
 /// The answer for the result of a run of `m`, with or without the verdict.
-fn answer_of(alloc: Global, m: &Module, r: RunResult, verdict: bool) -> Result<Answer, NoMemory>
+fn answer_of<L: SiteLines>(
+    alloc: Global,
+    m: &Module,
+    r: RunResult,
+    verdict: bool,
+    under: &L,
+) -> Result<Answer, NoMemory>
     requires { Formed m.now }
-    ensures { IfOk result (λ a. a ≡ answer_of_result verdict m.now r) }
+    ensures { IfOk result (λ a. a ≡ answer_of_result (L.lines under.now) verdict m.now r) }
 {
-    let err = lines_of(alloc, m, &r, verdict)?;
+    let err = text_of_run(alloc, m, &r, verdict, under)?;
     Ok(Answer {
         status: status_of(&r),
         out: r.output,
@@ -279,18 +322,19 @@ fn answer_of(alloc: Global, m: &Module, r: RunResult, verdict: bool) -> Result<A
     })
 }
 
-/// The lines of a run's reports, and then the closing lines.
-pub fn lines_of(
+/// The lines of a run's reports, and then the closing lines, with these under each that names a site.
+pub fn text_of_run<L: SiteLines>(
     alloc: Global,
     m: &Module,
     r: &RunResult,
     verdict: bool,
+    under: &L,
 ) -> Result<Vec<u8>, NoMemory>
     requires { Formed m.now }
-    ensures { IfOk result (λ text. text.items ≡ report_text_of m.now r.now ++ closing_of m.now r.now verdict) }
+    ensures { IfOk result (λ text. text.items ≡ run_text (L.lines under.now) verdict m.now r.now) }
 {
-    let mut text = report_text(alloc, m, r)?;
-    let lines = closing(alloc, m, r, verdict)?;
+    let mut text = report_text_with(alloc, m, r, under)?;
+    let lines = closing_with(alloc, m, r, verdict, under)?;
     text.extend_from_slice(&lines)?;
     Ok(text)
 }
@@ -311,25 +355,25 @@ pub fn status_of(r: &RunResult) -> u8
 }
 
 /// The answer for a module that is refused. Where the cause is that memory ran out, so is the error.
-fn refused(alloc: Global, cause: Refusal) -> Result<Answer, NoMemory>
+fn refused<L: SiteLines>(alloc: Global, cause: Refusal, under: &L) -> Result<Answer, NoMemory>
     requires { is_want_of_memory cause ≡ false → HasLine cause }
     ensures reason { IfOk result (λ a. is_want_of_memory cause ≡ false) }
-    ensures line { IfOk result (λ a. a ≡ says 5 (refusal_text cause)) }
+    ensures line { IfOk result (λ a. a ≡ says 5 (refusal_text_with (L.lines under.now) cause)) }
 {
     let cause = Boxed::new(alloc, cause)?;
-    refused_for(alloc, cause.get())
+    refused_for(alloc, cause.get(), under)
 }
 
 /// The answer for a module that is refused for this cause.
-fn refused_for(alloc: Global, cause: &Refusal) -> Result<Answer, NoMemory>
+fn refused_for<L: SiteLines>(alloc: Global, cause: &Refusal, under: &L) -> Result<Answer, NoMemory>
     requires { is_want_of_memory cause.now ≡ false → HasLine cause.now }
     ensures reason { IfOk result (λ a. is_want_of_memory cause.now ≡ false) }
-    ensures line { IfOk result (λ a. a ≡ says 5 (refusal_text cause.now)) }
+    ensures line { IfOk result (λ a. a ≡ says 5 (refusal_text_with (L.lines under.now) cause.now)) }
 {
     if wants_memory(cause) {
         return Err(AllocError);
     }
-    let line = refusal_line(alloc, cause)?;
+    let line = refusal_line_with(alloc, cause, under)?;
     Ok(Answer::on_err(alloc, 5, line))
 }
 

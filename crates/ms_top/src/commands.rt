@@ -1,9 +1,9 @@
-//! The command that words ask for, and what belongs to it: the form and the size of its module's text, and the names of its
-//! inputs' files.
-ghost use Rattle.std.specs.Prelude.{◌≡◌, IfOk};
+//! The command that words ask for, and what belongs to it: the form and the size of its module's text, the name of its file,
+//! and those of its inputs' files.
+ghost use Rattle.std.specs.Prelude.{◌≡◌, None, Some, IfOk, IfSome};
 ghost use Rattle.ms_words.specs.Limits.{IsWithinLimits};
 ghost use Rattle.ms_words.specs.Words.{IsAnswer};
-ghost use Rattle.ms_top.specs.Command.{form_of, input_names, module_limit};
+ghost use Rattle.ms_top.specs.Command.{form_of, input_names, located_file as located_file_of, module_limit};
 
 use ms_bits::{Boxed, Text};
 use ms_ir::Form;
@@ -46,6 +46,21 @@ pub fn form_of(command: &Command) -> Form
         Command::Gen { .. } => Form::Plain,
         Command::Help => Form::Plain,
         Command::Version => Form::Plain,
+    }
+}
+
+/// The name of the module's file, where each line that names a site is to be followed by where it stands.
+pub fn located_file(command: &Command) -> Option<&[u8]>
+    ensures named { IfSome result (λ file. located_file_of command.now ≡ Some file.now) }
+    ensures unnamed { result ≡ None → located_file_of command.now ≡ None }
+{
+    match command {
+        Command::Run { file, options }
+        | Command::Check { file, options }
+        | Command::Corpus { file, options, .. } => {
+            options.locations.then_some(file.as_str().as_bytes())
+        }
+        _ => None,
     }
 }
 

@@ -7,13 +7,14 @@ ghost use Rattle.ms_top.specs.Command.{setup_of as setup_with};
 ghost use Rattle.ms_top.specs.Parts.{AreShort, AreRunsOfGiven, AreWithinLimits};
 ghost use Rattle.ms_top.specs.Said.{answer_of_results, has_status, heading_of, section_of, sections_of, status_of_all as status_of_runs, IsAnswerOfCorpus};
 
-use crate::answers::{Answer, lines_of, setup_of, status_of};
+use crate::answers::{Answer, setup_of, status_of, text_of_run};
 use crate::passes::{Pass, instrumented_by};
 use ms_bits::{Bytes, List, NoMemory, Text};
 use ms_check::CheckedModule;
 use ms_corpus::run_all;
 use ms_fork::Gate;
 use ms_ir::Module;
+use ms_report::SiteLines;
 use ms_runs::{RunResult, Setup};
 use ms_words::Options;
 use ms_write_values::push_number;
@@ -29,7 +30,7 @@ pub struct Jobs<'a> {
 }
 
 /// The answer of `corpus`: the runs of the module that the pass gives, one section each.
-pub fn answer_of_corpus<R: Threads + Sync, P: Pass, G: Gate + Sync>(
+pub fn answer_of_corpus<R: Threads + Sync, P: Pass, G: Gate + Sync, L: SiteLines>(
     rt: &R,
     alloc: Global,
     m: &CheckedModule,
@@ -37,16 +38,17 @@ pub fn answer_of_corpus<R: Threads + Sync, P: Pass, G: Gate + Sync>(
     jobs: &Jobs<'_>,
     pass: &P,
     gate: &G,
+    under: &L,
 ) -> Result<Answer, NoMemory>
     requires plain { CanInstrument m.now }
     requires limits { RunsWithinLimits options.now }
     requires workers { (1 ≤ jobs.now.workers) × (jobs.now.workers ≤ 8) }
     requires inputs { AreShort jobs.now.inputs.now }
-    ensures { IfOk result (λ a. IsAnswerOfCorpus P.gives jobs.now.names.now options.now jobs.now.inputs.now m.now a) }
+    ensures { IfOk result (λ a. IsAnswerOfCorpus P.gives (L.lines under.now) jobs.now.names.now options.now jobs.now.inputs.now m.now a) }
 {
     m.is_valid();
     let results = run_with(rt, alloc, m, options, jobs, pass, gate)?;
-    answer_of_runs(alloc, m.module(), jobs.names, results.as_slice())
+    answer_of_runs(alloc, m.module(), jobs.names, results.as_slice(), under)
 }
 
 /// The runs with these options of the module that the pass gives, in the order of the inputs.
@@ -97,16 +99,17 @@ fn run_jobs<R: Threads + Sync, P: Pass, G: Gate + Sync>(
 }
 
 /// The answer for the results of runs.
-fn answer_of_runs(
+fn answer_of_runs<L: SiteLines>(
     alloc: Global,
     m: &Module,
     names: &[Text],
     results: &[RunResult],
+    under: &L,
 ) -> Result<Answer, NoMemory>
     requires { Formed m.now }
-    ensures { IfOk result (λ a. a ≡ answer_of_results m.now names.now results.now) }
+    ensures { IfOk result (λ a. a ≡ answer_of_results (L.lines under.now) m.now names.now results.now) }
 {
-    let out = sections(alloc, m, names, results)?;
+    let out = sections(alloc, m, names, results, under)?;
     Ok(Answer {
         status: status_of_all(results),
         out: Bytes::from_vec(out),
@@ -115,14 +118,15 @@ fn answer_of_runs(
 }
 
 /// The sections of runs, of which each has a name.
-fn sections(
+fn sections<L: SiteLines>(
     alloc: Global,
     m: &Module,
     names: &[Text],
     results: &[RunResult],
+    under: &L,
 ) -> Result<Vec<u8>, NoMemory>
     requires { Formed m.now }
-    ensures { IfOk result (λ text. text.items ≡ sections_of m.now 1 names.now results.now) }
+    ensures { IfOk result (λ text. text.items ≡ sections_of (L.lines under.now) m.now 1 names.now results.now) }
 {
     let mut text = Vec::new(alloc);
     for index in 0..names.len().min(results.len()) {
@@ -133,27 +137,29 @@ fn sections(
             index as u64 + 1,
             &names[index],
             &results[index],
+            under,
         )?;
     }
     Ok(text)
 }
 
 /// Adds the section of a run.
-fn push_section(
+fn push_section<L: SiteLines>(
     alloc: Global,
     text: &mut Vec<u8>,
     m: &Module,
     number: u64,
     name: &Text,
     r: &RunResult,
+    under: &L,
 ) -> Result<(), NoMemory>
     requires { Formed m.now }
-    ensures { IfOk result (λ _. text.new.items ≡ text.old.items ++ section_of m.now number name.now r.now) }
+    ensures { IfOk result (λ _. text.new.items ≡ text.old.items ++ section_of (L.lines under.now) m.now number name.now r.now) }
 {
     push_heading(text, number, name, r)?;
     text.extend_from_slice(r.output.as_slice())?;
     text.push(b'\n')?;
-    let lines = lines_of(alloc, m, r, true)?;
+    let lines = text_of_run(alloc, m, r, true, under)?;
     text.extend_from_slice(&lines)?;
     Ok(())
 }

@@ -5,19 +5,21 @@ ghost use Rattle.ms_valid.specs.Formed.{Formed};
 ghost use Rattle.ms_valid.specs.Uninstrumented.{CanInstrument};
 ghost use Rattle.ms_valid.specs.Valid.{Valid};
 ghost use Rattle.ms_written.specs.Modules.{written as text_of};
-ghost use Rattle.ms_report.specs.RunTexts.{line};
+ghost use Rattle.ms_report.specs.ReportTexts.{report_text_of};
+ghost use Rattle.ms_report.specs.RunTexts.{line, closing_of};
 ghost use Rattle.ms_words.specs.Limits.{MadeWithinLimits};
 ghost use Rattle.ms_words.specs.Words.{defaults};
 ghost use Rattle.ms_gen.specs.Generator.{generated};
 ghost use Rattle.ms_top.specs.Command.{setup_of};
 ghost use Rattle.ms_top.specs.Said.{answer_of, status_of as status_of_run, summary_of, IsAnswerOfGen};
 
-use crate::answers::{Answer, lines_of, run_given, status_of};
+use crate::answers::{Answer, run_given, status_of};
 use crate::passes::Pass;
 use ms_bits::{Boxed, Bytes, NoMemory};
 use ms_check::CheckedModule;
 use ms_gen::generate;
 use ms_ir::{Module, sites_of_funcs};
+use ms_report::{closing, report_text};
 use ms_runs::{RunResult, Setup};
 use ms_write::write;
 use ms_write_values::push_number;
@@ -128,7 +130,18 @@ fn summary(alloc: Global, m: &Module, r: &RunResult) -> Result<Vec<u8>, NoMemory
     ensures { IfOk result (λ text. text.items ≡ summary_of m.now r.now) }
 {
     let mut text = lines_of_size(alloc, m, r)?;
-    let lines = lines_of(alloc, m, r, true)?;
+    let lines = lines_of(alloc, m, r)?;
+    text.extend_from_slice(&lines)?;
+    Ok(text)
+}
+
+/// The lines of a run's reports, and then the closing lines, with the verdict.
+fn lines_of(alloc: Global, m: &Module, r: &RunResult) -> Result<Vec<u8>, NoMemory>
+    requires { Formed m.now }
+    ensures { IfOk result (λ text. text.items ≡ report_text_of m.now r.now ++ closing_of m.now r.now true) }
+{
+    let mut text = report_text(alloc, m, r)?;
+    let lines = closing(alloc, m, r, true)?;
     text.extend_from_slice(&lines)?;
     Ok(text)
 }

@@ -1,6 +1,6 @@
 //! What holds of answers.
 
-ghost use Rattle.std.specs.Prelude.{◌≡◌, ◌⊎◌, ℕ, true, false, ◌^◌, ◌<◌, ◌≤◌, List, [], ◌∷◌, All, length, map, Some, None, Ok, codes, find};
+ghost use Rattle.std.specs.Prelude.{◌≡◌, ◌⊎◌, ℕ, true, false, ◌^◌, ◌<◌, ◌≤◌, Bool, List, [], ◌∷◌, ◌++◌, All, length, map, Some, None, Ok, codes, find};
 ghost use Rattle.ms_io.specs.Counts.{Rose};
 ghost use Rattle.ms_io.specs.Reading.{Holdings};
 ghost use Rattle.ms_ir.specs.declared.syntax.Module.{Module};
@@ -21,11 +21,19 @@ ghost use Rattle.ms_words.specs.Reading.{same};
 ghost use Rattle.ms_words.specs.Table.{commands, command_word, topics};
 ghost use Rattle.ms_words.specs.Usage.{usage, version_line};
 ghost use Rattle.ms_words.specs.Words.{asks, command_of, defaults};
+ghost use Rattle.ms_places.specs.Indented.{unindented};
+ghost use Rattle.ms_report.specs.FaultTexts.{fault_text};
+ghost use Rattle.ms_report.specs.ReportTexts.{report_text_of};
+ghost use Rattle.ms_report.specs.RunTexts.{closing_of};
+ghost use Rattle.ms_report.specs.WithLines.{Lines, no_lines};
 ghost use Rattle.ms_report.specs.WordsTexts.{words_text};
+ghost use Rattle.ms_valid.specs.Refusals.{Fault};
+ghost use Rattle.ms_top.specs.Added.{with_locations, without_lines, CorpusAdds};
 ghost use Rattle.ms_top.specs.Command.{input_limit, only_input, setup_of};
 ghost use Rattle.ms_top.specs.Files.{Counted};
 ghost use Rattle.ms_top.specs.Instrumented.{IsInstrumented};
-ghost use Rattle.ms_top.specs.Said.{IsAnswer, IsAnswerToCommand, IsAnswerOfGen, IsAnswerToText, IsAnswerToValid, DifferInPath, answer_of, answer_of_result, answer_of_results, says, status_of, summary_of};
+ghost use Rattle.ms_top.specs.Lines.{AreLines, fault_text_with};
+ghost use Rattle.ms_top.specs.Said.{IsAnswer, IsAnswerToCommand, IsAnswerOfGen, IsAnswerToText, IsAnswerToValid, DifferInPath, answer_of, answer_of_result, answer_of_results, run_text, says, status_of, summary_of};
 
 /// What is to be said is one answer, but where memory runs out, and for the path that shows that a use of a value isn't
 /// defined: of a module's text, and of commands and of words where the files are told and no fault of theirs was counted.
@@ -52,28 +60,47 @@ pub fn questions_are_answered()
 /// the summary of its shadow run with the default options, whose setup is fair: no input, the fill a5, ten million steps, one
 /// report. A clean verdict, and a first report where no blind use was counted, hold under every fill.
 pub fn checks_show_the_shadow_run()
-    ensures shadow { (file : List ℕ) (inputs : List (List ℕ)) (o : Options) (m : Module) (a : Answer) → let s = setup_of o (only_input inputs) in Fair s
-        → IsAnswerToValid IsInstrumented (Check file o) inputs m a → a ≡ answer_of_result true m (shadow m s) }
-    ensures under_fills { (file : List ℕ) (inputs : List (List ℕ)) (o : Options) (m : Module) (a : Answer) → let s = setup_of o (only_input inputs) in Fair s
-        → IsAnswerToValid IsInstrumented (Check file o) inputs m a → HoldsUnderFills m s (shadow m s) }
-    ensures sections { (file : List ℕ) (names inputs : List (List ℕ)) (o : Options) (workers : ℕ) (m : Module) (a : Answer) → All (λ input. Fair (setup_of o input)) inputs
-        → IsAnswerToValid IsInstrumented (Corpus file names o workers) inputs m a → a ≡ answer_of_results m names (map (λ input. shadow m (setup_of o input)) inputs) }
-    ensures sections_under_fills { (file : List ℕ) (names inputs : List (List ℕ)) (o : Options) (workers : ℕ) (m : Module) (a : Answer)
-        → IsAnswerToValid IsInstrumented (Corpus file names o workers) inputs m a → (input : List ℕ) → Fair (setup_of o input) → HoldsUnderFills m (setup_of o input) (shadow m (setup_of o input)) }
+    ensures shadow { (under : Lines) (file : List ℕ) (inputs : List (List ℕ)) (o : Options) (m : Module) (a : Answer) → let s = setup_of o (only_input inputs) in Fair s
+        → IsAnswerToValid IsInstrumented under (Check file o) inputs m a → a ≡ answer_of_result under true m (shadow m s) }
+    ensures under_fills { (under : Lines) (file : List ℕ) (inputs : List (List ℕ)) (o : Options) (m : Module) (a : Answer) → let s = setup_of o (only_input inputs) in Fair s
+        → IsAnswerToValid IsInstrumented under (Check file o) inputs m a → HoldsUnderFills m s (shadow m s) }
+    ensures sections { (under : Lines) (file : List ℕ) (names inputs : List (List ℕ)) (o : Options) (workers : ℕ) (m : Module) (a : Answer) → All (λ input. Fair (setup_of o input)) inputs
+        → IsAnswerToValid IsInstrumented under (Corpus file names o workers) inputs m a → a ≡ answer_of_results under m names (map (λ input. shadow m (setup_of o input)) inputs) }
+    ensures sections_under_fills { (under : Lines) (file : List ℕ) (names inputs : List (List ℕ)) (o : Options) (workers : ℕ) (m : Module) (a : Answer)
+        → IsAnswerToValid IsInstrumented under (Corpus file names o workers) inputs m a → (input : List ℕ) → Fair (setup_of o input) → HoldsUnderFills m (setup_of o input) (shadow m (setup_of o input)) }
     ensures summary { (m : Module) (a : Answer) → IsAnswerOfGen IsInstrumented true m a
         → let r = shadow m (setup_of defaults []) in a ≡ answer_of (status_of r) (summary_of m r) [] }
     ensures fair { (o : Options) (input : List ℕ) → RunsWithinLimits o → length input ≤ input_limit → All (λ b. b < 2 ^ 8) input → Fair (setup_of o input) }
     ensures defaults { Fair (setup_of defaults []) }
-    ensures spelled { defaults ≡ record { input = None; fill = 0xa5 ∷ []; steps = 10000000; reports = 1 } }
+    ensures spelled { defaults ≡ record { input = None; fill = 0xa5 ∷ []; steps = 10000000; reports = 1; locations = false } }
 {}
 
 /// What `instrument` writes is the text of a faithful module, and of no other formed module. Where that text is within the
 /// limits of its form, `run` says of it what `check` says of the module that was read, with the same options and input, but
-/// for the verdict.
+/// for the verdict; where lines under each site are asked for, `run` shows where the sites stand in the text that was written.
 pub fn written_modules_run_alike()
-    ensures named { (file : List ℕ) (inputs : List (List ℕ)) (m j : Module) (a : Answer) → IsAnswerToValid IsInstrumented (Instrument file) inputs m a
+    ensures named { (under : Lines) (file : List ℕ) (inputs : List (List ℕ)) (m j : Module) (a : Answer) → IsAnswerToValid IsInstrumented under (Instrument file) inputs m a
         → Formed j → a.out ≡ written j → IsInstrumented m j }
-    ensures alike { (file name : List ℕ) (inputs : List (List ℕ)) (o : Options) (m i : Module) (a b c : Answer) → IsAnswerToValid IsInstrumented (Instrument file) [] m a
+    ensures alike { (under : Lines) (file name : List ℕ) (inputs : List (List ℕ)) (o : Options) (m i : Module) (a b c : Answer) → IsAnswerToValid IsInstrumented under (Instrument file) [] m a
         → IsElided m i → FitsText i → IsAnswerToText IsInstrumented (Run name o) inputs a.out b
-        → IsAnswerToValid IsInstrumented (Check name o) inputs m c → (r : RunResult) × (b ≡ answer_of_result false m r) × (c ≡ answer_of_result true m r) }
+        → IsAnswerToValid IsInstrumented under (Check name o) inputs m c
+        → (j : Module) × IsInstrumented m j × (below : Lines) × AreLines (Run name o) a.out j below
+        × (r : RunResult) × (b ≡ answer_of_result below false m r) × (c ≡ answer_of_result under true m r) }
+{}
+
+/// What the option `--where` adds is lines that begin with four blanks, under those that name a site: once these are taken out,
+/// what `run` and `check` say with the option is what they say without it. So is each text of which the sections of `corpus` are
+/// made beside the output, which may have such lines of its own. Without the option each text is as it always was.
+pub fn lines_are_added()
+    ensures run { (file : List ℕ) (inputs : List (List ℕ)) (o : Options) (text : List ℕ) (a : Answer) → IsAnswerToText IsInstrumented (Run file (with_locations true o)) inputs text a
+        → IsAnswerToText IsInstrumented (Run file (with_locations false o)) inputs text (without_lines a) }
+    ensures check { (file : List ℕ) (inputs : List (List ℕ)) (o : Options) (text : List ℕ) (a : Answer) → IsAnswerToText IsInstrumented (Check file (with_locations true o)) inputs text a
+        → IsAnswerToText IsInstrumented (Check file (with_locations false o)) inputs text (without_lines a) }
+    ensures corpus { (file : List ℕ) (names inputs : List (List ℕ)) (o : Options) (workers : ℕ) (text : List ℕ) (a : Answer)
+        → IsAnswerToText IsInstrumented (Corpus file names (with_locations true o) workers) inputs text a → CorpusAdds IsInstrumented file names o workers inputs text a }
+    ensures runs { (command : Command) (text : List ℕ) (m : Module) (under : Lines) (verdict : Bool) (r : RunResult) → AreLines command text m under
+        → unindented (run_text under verdict m r) ≡ report_text_of m r ++ closing_of m r verdict }
+    ensures faults { (command : Command) (text : List ℕ) (m : Module) (under : Lines) (fault : Fault) → AreLines command text m under → unindented (fault_text_with under fault) ≡ fault_text fault }
+    ensures none_in_runs { (verdict : Bool) (m : Module) (r : RunResult) → run_text no_lines verdict m r ≡ report_text_of m r ++ closing_of m r verdict }
+    ensures none_in_faults { (fault : Fault) → fault_text_with no_lines fault ≡ fault_text fault }
 {}

@@ -8,6 +8,7 @@ mod files;
 mod generated;
 mod itself;
 pub mod laws;
+mod located;
 pub mod passes;
 mod pieces;
 mod top;

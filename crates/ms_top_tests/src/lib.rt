@@ -42,6 +42,8 @@ mod limits;
 #[cfg(test)]
 mod listings;
 #[cfg(test)]
+mod located;
+#[cfg(test)]
 mod marked;
 #[cfg(test)]
 mod meetings;
@@ -63,6 +65,8 @@ mod refusals;
 mod runs;
 #[cfg(test)]
 mod runtime;
+#[cfg(test)]
+mod site_lines;
 #[cfg(test)]
 mod texts;
 #[cfg(test)]

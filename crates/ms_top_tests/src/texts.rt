@@ -12,12 +12,12 @@ use std::alloc::{AllocError, Global};
 use std::test::Fail;
 
 /// A module of six sites, and of two roots at its first two.
-const TWO_UNSET: &str =
+pub const TWO_UNSET: &str =
     "define i32 @main() {\n  %1 = alloca i32\n  %2 = alloca i32\n  %3 = load i32, ptr %1\n  %4 = load i32, ptr %2\n  %5 = xor i32 %3, %4\n  ret i32 %5\n}\n";
 
 /// A report's site, kind, part, width, mask and origin.
 #[derive(Clone, Copy)]
-struct Found {
+pub struct Found {
     site: u32,
     kind: u32,
     part: u32,
@@ -28,9 +28,9 @@ struct Found {
 
 /// A report with the origins from its own to a root, and its lines.
 #[derive(Clone, Copy)]
-struct Reported(Found, &'static [Origin], &'static str);
+pub struct Reported(Found, &'static [Origin], &'static str);
 
-static REPORTS: [Reported; 3] = [
+pub static REPORTS: [Reported; 3] = [
     Reported(
         Found {
             site: 6,
@@ -165,7 +165,7 @@ fn report_of(alloc: Global, case: &Reported) -> Result<Report, AllocError> {
     })
 }
 
-fn result_of(alloc: Global, end: End, reports: Vec<Report>, blind: u64) -> RunResult {
+pub fn result_of(alloc: Global, end: End, reports: Vec<Report>, blind: u64) -> RunResult {
     RunResult {
         output: Bytes::from_vec(Vec::new(alloc)),
         end,
@@ -174,7 +174,7 @@ fn result_of(alloc: Global, end: End, reports: Vec<Report>, blind: u64) -> RunRe
     }
 }
 
-fn reports_of(alloc: Global, cases: &[Reported]) -> Result<Vec<Report>, AllocError> {
+pub fn reports_of(alloc: Global, cases: &[Reported]) -> Result<Vec<Report>, AllocError> {
     let mut reports = Vec::new(alloc);
     for case in cases {
         reports.push(report_of(alloc, case)?)?;

@@ -12,6 +12,8 @@ use Rattle.clap.proofs.OnLiterals.{clap_on_literals}
 use Rattle.ms_words.specs.declared.names.CommandName.TheVariants.{Corpus}
 use Rattle.ms_words.specs.declared.names.OptionName.TheVariants as option
 use Rattle.ms_words.specs.Table.{Word}
+use Rattle.ms_words.specs.declared.names.Takes.TheVariants.{Nothing}
+use Rattle.ms_words.specs.Fields.{found_by}
 use Rattle.ms_words.specs.ClapForm.{app_for, spelled_option}
 
 abbrev app : App
@@ -76,68 +78,83 @@ settles rows file rest few =
 
 -- ---- the words of a corpus
 
-abbrev option_words : (workers fill steps reports : Word) → List Word
-option_words workers fill steps reports =
+abbrev option_words : (workers fill steps reports : Word) → (locations : Option Word) → List Word
+option_words workers fill steps reports locations =
     spelled_option option.Workers (Some workers) ++ (spelled_option option.Fill (Some fill) ++ (spelled_option option.Steps (Some steps)
-    ++ (spelled_option option.Reports (Some reports) ++ [])))
+    ++ (spelled_option option.Reports (Some reports) ++ (spelled_option option.Where locations ++ []))))
 
-abbrev pub corpus_form : (workers fill steps reports : Word) → List Word → List Word
-corpus_form workers fill steps reports files = codes "corpus" ∷ (option_words workers fill steps reports ++ codes "--" ∷ files)
+abbrev pub corpus_form : (workers fill steps reports : Word) → (locations : Option Word) → List Word → List Word
+corpus_form workers fill steps reports locations files = codes "corpus" ∷ (option_words workers fill steps reports locations ++ codes "--" ∷ files)
 
-module _ (b c d e file : Word) (rest : List Word) where
-  abbrev option_rows : List Row
-  option_rows = (walk rules [] nothing_held (option_words b c d e)).held.rows
+abbrev option_rows : (b c d e : Word) → Option Word → List Row
+option_rows b c d e w = (walk rules [] nothing_held (option_words b c d e w)).held.rows
 
-  abbrev corpus_words : List Word
-  corpus_words = corpus_form b c d e (file ∷ rest)
+-- where the walk stands behind the words of a corpus
+abbrev at_end : (b c d e : Word) → Option Word → (file : Word) → List Word → Walk
+at_end b c d e w file rest = behind (option_rows b c d e w) (file ∷ rest)
 
-  rows_at_end : matches_of (app_for Corpus) corpus_words ≡ finished rules (behind option_rows (file ∷ rest)).held
-  unfolding clap_on_literals
-  rows_at_end = ap (λ (w : Walk). finished rules w.held) (all_files option_rows (file ∷ []) rest)
+rows_at_end : (b c d e : Word) (w : Option Word) (file : Word) (rest : List Word)
+    → matches_of (app_for Corpus) (corpus_form b c d e w (file ∷ rest)) ≡ finished rules (at_end b c d e w file rest).held
+unfolding clap_on_literals
+rows_at_end b c d e None file rest = ap (λ (w : Walk). finished rules w.held) (all_files (option_rows b c d e None) (file ∷ []) rest)
+rows_at_end b c d e (Some v) file rest = ap (λ (w : Walk). finished rules w.held) (all_files (option_rows b c d e (Some v)) (file ∷ []) rest)
 
-  abbrev passes_by : Bool → Walk → Bool
-  passes_by passes end =
-      is_simple (app_for Corpus) && (entered_passes app end.stopped && (passes && (settle_passes rules app.top.args_override_self end.held
-      && (list_all default_passes rules && is_valid app.top (finished rules end.held) (is_some (entered app end.stopped))))))
+abbrev passes_by : Bool → Walk → Bool
+passes_by passes end =
+    is_simple (app_for Corpus) && (entered_passes app end.stopped && (passes && (settle_passes rules app.top.args_override_self end.held
+    && (list_all default_passes rules && is_valid app.top (finished rules end.held) (is_some (entered app end.stopped))))))
 
-  takes_by : takes_words (app_for Corpus) corpus_words
-      ≡ passes_by (walk_passes app.top [] (behind option_rows (file ∷ [])) rest) (fold (walked rules []) (behind option_rows (file ∷ [])) rest)
-  unfolding clap_on_literals
-  takes_by = refl
+takes_by : (b c d e : Word) (w : Option Word) (file : Word) (rest : List Word) → takes_words (app_for Corpus) (corpus_form b c d e w (file ∷ rest))
+    ≡ passes_by (walk_passes app.top [] (at_end b c d e w file []) rest) (fold (walked rules []) (at_end b c d e w file []) rest)
+unfolding clap_on_literals
+takes_by b c d e None file rest = refl
+takes_by b c d e (Some v) file rest = refl
 
-  at_end : length rest ≤ 256 → passes_by true (behind option_rows (file ∷ rest)) ≡ true
-  unfolding clap_on_literals
-  at_end few = ap (λ (b : Bool). b && true) (settles option_rows file rest few)
+end_passes : (b c d e : Word) (w : Option Word) (file : Word) (rest : List Word) → length rest ≤ 256 → passes_by true (at_end b c d e w file rest) ≡ true
+unfolding clap_on_literals
+end_passes b c d e None file rest few = ap (λ (b : Bool). b && true) (settles (option_rows b c d e None) file rest few)
+end_passes b c d e (Some v) file rest few = ap (λ (b : Bool). b && true) (settles (option_rows b c d e (Some v)) file rest few)
 
-  -- the command of `clap` takes the words of a corpus
-  pub corpus_takes : length rest ≤ 256 → takes_words (app_for Corpus) corpus_words ≡ true
-  corpus_takes few = takes_by ∙ ap₂ passes_by (all_pass option_rows (file ∷ []) rest) (all_files option_rows (file ∷ []) rest) ∙ at_end few
+-- the command of `clap` takes the words of a corpus
+pub corpus_takes : (b c d e : Word) (w : Option Word) (file : Word) (rest : List Word) → length rest ≤ 256 → takes_words (app_for Corpus) (corpus_form b c d e w (file ∷ rest)) ≡ true
+corpus_takes b c d e w file rest few =
+    takes_by b c d e w file rest
+    ∙ ap₂ passes_by (all_pass (option_rows b c d e w) (file ∷ []) rest) (all_files (option_rows b c d e w) (file ∷ []) rest)
+    ∙ end_passes b c d e w file rest few
 
-  value_at_end : (id : Word) (v : Option Word) → first_of id (finished rules (behind option_rows (file ∷ rest)).held) ≡ v
-      → first_of id (matches_of (app_for Corpus) corpus_words) ≡ v
-  value_at_end id v is = ap (first_of id) rows_at_end ∙ is
+-- and finds their values
+pub corpus_workers : (b c d e : Word) (w : Option Word) (file : Word) (rest : List Word) → first_of (codes "workers") (matches_of (app_for Corpus) (corpus_form b c d e w (file ∷ rest))) ≡ Some b
+unfolding clap_on_literals
+corpus_workers b c d e None file rest = ap (first_of (codes "workers")) (rows_at_end b c d e None file rest)
+corpus_workers b c d e (Some v) file rest = ap (first_of (codes "workers")) (rows_at_end b c d e (Some v) file rest)
 
-  -- and finds their values
-  pub corpus_workers : first_of (codes "workers") (matches_of (app_for Corpus) corpus_words) ≡ Some b
-  unfolding clap_on_literals
-  corpus_workers = value_at_end (codes "workers") (Some b) refl
+pub corpus_fill : (b c d e : Word) (w : Option Word) (file : Word) (rest : List Word) → first_of (codes "fill") (matches_of (app_for Corpus) (corpus_form b c d e w (file ∷ rest))) ≡ Some c
+unfolding clap_on_literals
+corpus_fill b c d e None file rest = ap (first_of (codes "fill")) (rows_at_end b c d e None file rest)
+corpus_fill b c d e (Some v) file rest = ap (first_of (codes "fill")) (rows_at_end b c d e (Some v) file rest)
 
-  pub corpus_fill : first_of (codes "fill") (matches_of (app_for Corpus) corpus_words) ≡ Some c
-  unfolding clap_on_literals
-  corpus_fill = value_at_end (codes "fill") (Some c) refl
+pub corpus_steps : (b c d e : Word) (w : Option Word) (file : Word) (rest : List Word) → first_of (codes "steps") (matches_of (app_for Corpus) (corpus_form b c d e w (file ∷ rest))) ≡ Some d
+unfolding clap_on_literals
+corpus_steps b c d e None file rest = ap (first_of (codes "steps")) (rows_at_end b c d e None file rest)
+corpus_steps b c d e (Some v) file rest = ap (first_of (codes "steps")) (rows_at_end b c d e (Some v) file rest)
 
-  pub corpus_steps : first_of (codes "steps") (matches_of (app_for Corpus) corpus_words) ≡ Some d
-  unfolding clap_on_literals
-  corpus_steps = value_at_end (codes "steps") (Some d) refl
+pub corpus_reports : (b c d e : Word) (w : Option Word) (file : Word) (rest : List Word) → first_of (codes "reports") (matches_of (app_for Corpus) (corpus_form b c d e w (file ∷ rest))) ≡ Some e
+unfolding clap_on_literals
+corpus_reports b c d e None file rest = ap (first_of (codes "reports")) (rows_at_end b c d e None file rest)
+corpus_reports b c d e (Some v) file rest = ap (first_of (codes "reports")) (rows_at_end b c d e (Some v) file rest)
 
-  pub corpus_reports : first_of (codes "reports") (matches_of (app_for Corpus) corpus_words) ≡ Some e
-  unfolding clap_on_literals
-  corpus_reports = value_at_end (codes "reports") (Some e) refl
+pub corpus_locations : (b c d e : Word) (w : Option Word) (file : Word) (rest : List Word)
+    → is_some (found_by Nothing (first_of (codes "where") (matches_of (app_for Corpus) (corpus_form b c d e w (file ∷ rest))))) ≡ is_some w
+unfolding clap_on_literals
+corpus_locations b c d e None file rest = ap (λ rows. is_some (found_by Nothing (first_of (codes "where") rows))) (rows_at_end b c d e None file rest)
+corpus_locations b c d e (Some v) file rest = ap (λ rows. is_some (found_by Nothing (first_of (codes "where") rows))) (rows_at_end b c d e (Some v) file rest)
 
-  pub corpus_file : first_of (codes "files") (matches_of (app_for Corpus) corpus_words) ≡ Some file
-  unfolding clap_on_literals
-  corpus_file = value_at_end (codes "files") (Some file) refl
+pub corpus_file : (b c d e : Word) (w : Option Word) (file : Word) (rest : List Word) → first_of (codes "files") (matches_of (app_for Corpus) (corpus_form b c d e w (file ∷ rest))) ≡ Some file
+unfolding clap_on_literals
+corpus_file b c d e None file rest = ap (first_of (codes "files")) (rows_at_end b c d e None file rest)
+corpus_file b c d e (Some v) file rest = ap (first_of (codes "files")) (rows_at_end b c d e (Some v) file rest)
 
-  pub corpus_files : all_of (codes "files") (matches_of (app_for Corpus) corpus_words) ≡ Some (file ∷ rest)
-  unfolding clap_on_literals
-  corpus_files = ap (all_of (codes "files")) rows_at_end
+pub corpus_files : (b c d e : Word) (w : Option Word) (file : Word) (rest : List Word) → all_of (codes "files") (matches_of (app_for Corpus) (corpus_form b c d e w (file ∷ rest))) ≡ Some (file ∷ rest)
+unfolding clap_on_literals
+corpus_files b c d e None file rest = ap (all_of (codes "files")) (rows_at_end b c d e None file rest)
+corpus_files b c d e (Some v) file rest = ap (all_of (codes "files")) (rows_at_end b c d e (Some v) file rest)

@@ -19,7 +19,7 @@ use Rattle.ms_words.specs.Words.{value_of, number_by, options_by, corpus_options
 use Rattle.ms_words.specs.ClapForm.{app_for, files_rule, with_options, spelled, spelled_option, spelled_options}
 use Rattle.ms_words.specs.Fields.{Fits, FitsRun, FitsCorpus, found_value, found_file, found_inputs, found_by}
 use Rattle.ms_words.specs.Accepted.{Whole}
-use Rattle.ms_words.proofs.Files.{corpus_form, corpus_takes, corpus_workers, corpus_fill, corpus_steps, corpus_reports, corpus_file, corpus_files}
+use Rattle.ms_words.proofs.Files.{corpus_form, corpus_takes, corpus_workers, corpus_fill, corpus_steps, corpus_reports, corpus_locations, corpus_file, corpus_files}
 use Rattle.ms_words.proofs.GoodValues.{IsGood, good_value, hex_good, number_good}
 
 -- ---- the commands that run a module, by their words' form
@@ -27,54 +27,75 @@ use Rattle.ms_words.proofs.GoodValues.{IsGood, good_value, hex_good, number_good
 abbrev run_app : Word → App
 run_app word = with_rule (with_options (new_app word) (options_of Run)) files_rule
 
-abbrev run_form : Word → Option Word → (fill steps reports file : Word) → List Word
-run_form word input fill steps reports file =
+abbrev run_form : Word → Option Word → (fill steps reports : Word) → Option Word → (file : Word) → List Word
+run_form word input fill steps reports locations file =
     word ∷ ((spelled_option option.Input input ++ (spelled_option option.Fill (Some fill) ++ (spelled_option option.Steps (Some steps)
-    ++ (spelled_option option.Reports (Some reports) ++ [])))) ++ codes "--" ∷ file ∷ [])
+    ++ (spelled_option option.Reports (Some reports) ++ (spelled_option option.Where locations ++ []))))) ++ codes "--" ∷ file ∷ [])
 
-run_takes : (word : Word) (a : Option Word) (b c d f : Word) → takes_words (run_app word) (run_form word a b c d f) ≡ true
+run_takes : (word : Word) (a : Option Word) (b c d : Word) (e : Option Word) (f : Word) → takes_words (run_app word) (run_form word a b c d e f) ≡ true
 unfolding clap_on_literals
-run_takes word None b c d f = refl
-run_takes word (Some a) b c d f = refl
+run_takes word None b c d None f = refl
+run_takes word None b c d (Some e) f = refl
+run_takes word (Some a) b c d None f = refl
+run_takes word (Some a) b c d (Some e) f = refl
 
-run_input : (word : Word) (a : Option Word) (b c d f : Word) → first_of (codes "input") (matches_of (run_app word) (run_form word a b c d f)) ≡ a
+run_input : (word : Word) (a : Option Word) (b c d : Word) (e : Option Word) (f : Word) → first_of (codes "input") (matches_of (run_app word) (run_form word a b c d e f)) ≡ a
 unfolding clap_on_literals
-run_input word None b c d f = refl
-run_input word (Some a) b c d f = refl
+run_input word None b c d None f = refl
+run_input word None b c d (Some e) f = refl
+run_input word (Some a) b c d None f = refl
+run_input word (Some a) b c d (Some e) f = refl
 
-run_fill : (word : Word) (a : Option Word) (b c d f : Word) → first_of (codes "fill") (matches_of (run_app word) (run_form word a b c d f)) ≡ Some b
+run_fill : (word : Word) (a : Option Word) (b c d : Word) (e : Option Word) (f : Word) → first_of (codes "fill") (matches_of (run_app word) (run_form word a b c d e f)) ≡ Some b
 unfolding clap_on_literals
-run_fill word None b c d f = refl
-run_fill word (Some a) b c d f = refl
+run_fill word None b c d None f = refl
+run_fill word None b c d (Some e) f = refl
+run_fill word (Some a) b c d None f = refl
+run_fill word (Some a) b c d (Some e) f = refl
 
-run_steps : (word : Word) (a : Option Word) (b c d f : Word) → first_of (codes "steps") (matches_of (run_app word) (run_form word a b c d f)) ≡ Some c
+run_steps : (word : Word) (a : Option Word) (b c d : Word) (e : Option Word) (f : Word) → first_of (codes "steps") (matches_of (run_app word) (run_form word a b c d e f)) ≡ Some c
 unfolding clap_on_literals
-run_steps word None b c d f = refl
-run_steps word (Some a) b c d f = refl
+run_steps word None b c d None f = refl
+run_steps word None b c d (Some e) f = refl
+run_steps word (Some a) b c d None f = refl
+run_steps word (Some a) b c d (Some e) f = refl
 
-run_reports : (word : Word) (a : Option Word) (b c d f : Word) → first_of (codes "reports") (matches_of (run_app word) (run_form word a b c d f)) ≡ Some d
+run_reports : (word : Word) (a : Option Word) (b c d : Word) (e : Option Word) (f : Word) → first_of (codes "reports") (matches_of (run_app word) (run_form word a b c d e f)) ≡ Some d
 unfolding clap_on_literals
-run_reports word None b c d f = refl
-run_reports word (Some a) b c d f = refl
+run_reports word None b c d None f = refl
+run_reports word None b c d (Some e) f = refl
+run_reports word (Some a) b c d None f = refl
+run_reports word (Some a) b c d (Some e) f = refl
 
-run_file : (word : Word) (a : Option Word) (b c d f : Word) → first_of (codes "files") (matches_of (run_app word) (run_form word a b c d f)) ≡ Some f
+run_file : (word : Word) (a : Option Word) (b c d : Word) (e : Option Word) (f : Word) → first_of (codes "files") (matches_of (run_app word) (run_form word a b c d e f)) ≡ Some f
 unfolding clap_on_literals
-run_file word None b c d f = refl
-run_file word (Some a) b c d f = refl
+run_file word None b c d None f = refl
+run_file word None b c d (Some e) f = refl
+run_file word (Some a) b c d None f = refl
+run_file word (Some a) b c d (Some e) f = refl
+
+run_locations : (word : Word) (a : Option Word) (b c d : Word) (e : Option Word) (f : Word)
+    → is_some (found_by Nothing (first_of (codes "where") (matches_of (run_app word) (run_form word a b c d e f)))) ≡ is_some e
+unfolding clap_on_literals
+run_locations word None b c d None f = refl
+run_locations word None b c d (Some e) f = refl
+run_locations word (Some a) b c d None f = refl
+run_locations word (Some a) b c d (Some e) f = refl
 
 at : (f : Found) (id : Word) (rows : List Row) → rows_of f ≡ rows → first_value f id ≡ first_of id rows
 at f id rows are = first_value-rows f id ∙ ap (first_of id) are
 
-run_fields : (word : Word) (a : Option Word) (b c d file : Word) (f : Found) → rows_of f ≡ matches_of (run_app word) (run_form word a b c d file)
-    → (options_by (found_value f) ≡ record { input = a; fill = hex_bytes b; steps = number c; reports = number d })
+run_fields : (word : Word) (a : Option Word) (b c d : Word) (e : Option Word) (file : Word) (f : Found) → rows_of f ≡ matches_of (run_app word) (run_form word a b c d e file)
+    → (options_by (found_value f) ≡ record { input = a; fill = hex_bytes b; steps = number c; reports = number d; locations = is_some e })
     × (found_file f ≡ file)
-run_fields word a b c d file f are =
-    let input = at f (codes "input") _ are ∙ run_input word a b c d file in
-    let fill = at f (codes "fill") _ are ∙ run_fill word a b c d file in
-    let steps = at f (codes "steps") _ are ∙ run_steps word a b c d file in
-    let reports = at f (codes "reports") _ are ∙ run_reports word a b c d file in
-    let files = at f (codes "files") _ are ∙ run_file word a b c d file in (
-      rw (input, fill, steps, reports) refl,
+run_fields word a b c d e file f are =
+    let input = at f (codes "input") _ are ∙ run_input word a b c d e file in
+    let fill = at f (codes "fill") _ are ∙ run_fill word a b c d e file in
+    let steps = at f (codes "steps") _ are ∙ run_steps word a b c d e file in
+    let reports = at f (codes "reports") _ are ∙ run_reports word a b c d e file in
+    let locations = ap (λ (v : Option Word). is_some (found_by Nothing v)) (at f (codes "where") _ are) ∙ run_locations word a b c d e file in
+    let files = at f (codes "files") _ are ∙ run_file word a b c d e file in (
+      rw (input, fill, steps, reports, locations) refl,
       rw files refl,
     )
 
@@ -141,17 +162,18 @@ some_files (file ∷ inputs) least most = (file, inputs, refl, omega (arith, mos
 all_at : (f : Found) (id : Word) (rows : List Row) → rows_of f ≡ rows → option_map raw_values (matched_of f id) ≡ all_of id rows
 all_at f id rows are = raw_values-rows f id ∙ ap (all_of id) are
 
-corpus_fields : (b c d e file : Word) (inputs : List Word) (f : Found) → rows_of f ≡ matches_of (app_for Corpus) (corpus_form b c d e (file ∷ inputs))
+corpus_fields : (b c d e : Word) (w : Option Word) (file : Word) (inputs : List Word) (f : Found) → rows_of f ≡ matches_of (app_for Corpus) (corpus_form b c d e w (file ∷ inputs))
     → made.Corpus (found_file f) (found_inputs f) (corpus_options_by (found_value f)) (number_by (found_value f option.Workers))
-    ≡ made.Corpus file inputs (record { input = None; fill = hex_bytes c; steps = number d; reports = number e }) (number b)
-corpus_fields b c d e file inputs f are =
-    let workers = at f (codes "workers") _ are ∙ corpus_workers b c d e file inputs in
-    let fill = at f (codes "fill") _ are ∙ corpus_fill b c d e file inputs in
-    let steps = at f (codes "steps") _ are ∙ corpus_steps b c d e file inputs in
-    let reports = at f (codes "reports") _ are ∙ corpus_reports b c d e file inputs in
-    let first = at f (codes "files") _ are ∙ corpus_file b c d e file inputs in
-    let all = all_at f (codes "files") _ are ∙ corpus_files b c d e file inputs in
-    rw (workers, fill, steps, reports, first, all) refl
+    ≡ made.Corpus file inputs (record { input = None; fill = hex_bytes c; steps = number d; reports = number e; locations = is_some w }) (number b)
+corpus_fields b c d e w file inputs f are =
+    let workers = at f (codes "workers") _ are ∙ corpus_workers b c d e w file inputs in
+    let fill = at f (codes "fill") _ are ∙ corpus_fill b c d e w file inputs in
+    let steps = at f (codes "steps") _ are ∙ corpus_steps b c d e w file inputs in
+    let reports = at f (codes "reports") _ are ∙ corpus_reports b c d e w file inputs in
+    let locations = ap (λ (v : Option Word). is_some (found_by Nothing v)) (at f (codes "where") _ are) ∙ corpus_locations b c d e w file inputs in
+    let first = at f (codes "files") _ are ∙ corpus_file b c d e w file inputs in
+    let all = all_at f (codes "files") _ are ∙ corpus_files b c d e w file inputs in
+    rw (workers, fill, steps, reports, locations, first, all) refl
 
 -- the words of a corpus in their form, with its files
 with_files : (g : Given) (files : List Word) (rows : List Row) → g.files ≡ files → rows ≡ matches_of (app_for Corpus) (spelled Corpus g)
@@ -162,9 +184,9 @@ with_files g files rows is are =
 -- the command of `clap` takes accepted words
 pub takes_spelled : (c : CommandName) (g : Given) → Whole c g → takes_words (app_for c) (spelled c g) ≡ true
 takes_spelled Instrument g whole = let one = one_file g.files whole.enough whole.few in rw one.1 (instrument_takes one.0)
-takes_spelled Run g whole = let one = one_file g.files whole.enough whole.few in rw one.1 (run_takes (codes "run") (value_of option.Input g) _ _ _ one.0)
-takes_spelled Check g whole = let one = one_file g.files whole.enough whole.few in rw one.1 (run_takes (codes "check") (value_of option.Input g) _ _ _ one.0)
-takes_spelled Corpus g whole = let some = some_files g.files whole.enough whole.few in rw some.2 (corpus_takes _ _ _ _ some.0 some.1 some.3)
+takes_spelled Run g whole = let one = one_file g.files whole.enough whole.few in rw one.1 (run_takes (codes "run") (value_of option.Input g) _ _ _ (value_of option.Where g) one.0)
+takes_spelled Check g whole = let one = one_file g.files whole.enough whole.few in rw one.1 (run_takes (codes "check") (value_of option.Input g) _ _ _ (value_of option.Where g) one.0)
+takes_spelled Corpus g whole = let some = some_files g.files whole.enough whole.few in rw some.2 (corpus_takes _ _ _ _ (value_of option.Where g) some.0 some.1 some.3)
 takes_spelled Gen g whole = rw (no_files g.files whole.few) (gen_takes (value_of option.Seed g) (value_of option.Functions g) (value_of option.Run g))
 
 -- the same with its one file
@@ -184,15 +206,15 @@ fields_found Instrument g f whole are =
     ap (λ (file : Word). made.Instrument file) (ap (λ (o : Option Word). unwrap_or o []) found ∙ sym (first_of_files g one.0 one.1))
 fields_found Run g f whole are =
     let one = one_file g.files whole.enough whole.few in
-    let fields = run_fields (codes "run") (value_of option.Input g) _ _ _ one.0 f (with_file Run g one.0 (rows_of f) one.1 are) in
+    let fields = run_fields (codes "run") (value_of option.Input g) _ _ _ (value_of option.Where g) one.0 f (with_file Run g one.0 (rows_of f) one.1 are) in
     ap₂ (λ (file : Word) (o : Options). made.Run file o) (fields.1 ∙ sym (first_of_files g one.0 one.1)) fields.0
 fields_found Check g f whole are =
     let one = one_file g.files whole.enough whole.few in
-    let fields = run_fields (codes "check") (value_of option.Input g) _ _ _ one.0 f (with_file Check g one.0 (rows_of f) one.1 are) in
+    let fields = run_fields (codes "check") (value_of option.Input g) _ _ _ (value_of option.Where g) one.0 f (with_file Check g one.0 (rows_of f) one.1 are) in
     ap₂ (λ (file : Word) (o : Options). made.Check file o) (fields.1 ∙ sym (first_of_files g one.0 one.1)) fields.0
 fields_found Corpus g f whole are =
     let some = some_files g.files whole.enough whole.few in
-    corpus_fields _ _ _ _ some.0 some.1 f (with_files g (some.0 ∷ some.1) (rows_of f) some.2 are)
+    corpus_fields _ _ _ _ (value_of option.Where g) some.0 some.1 f (with_files g (some.0 ∷ some.1) (rows_of f) some.2 are)
     ∙ ap (λ (files : List Word). made.Corpus (unwrap_or (slice_get files 0) []) (drop 1 files) (corpus_options_by (λ o. value_of o g)) (number_by (value_of option.Workers g))) (sym some.2)
 fields_found Gen g f whole are =
     gen_fields (value_of option.Seed g) (value_of option.Functions g) (value_of option.Run g) f
@@ -204,20 +226,20 @@ found_good o g v all is = subst (IsGood o) (sym is) (good_value o g all)
 run_fits : (word : Word) (g : Given) (file : Word) (f : Found) → All (λ p. value_fault (takes p.0) 0 p.1 ≡ None) g.options
     → rows_of f ≡ matches_of (run_app word) (word ∷ (spelled_options (options_of Run) g ++ codes "--" ∷ file ∷ [])) → FitsRun (found_value f)
 run_fits word g file f all are = record {
-  fill = hex_good 2048 _ (found_good option.Fill g (found_value f option.Fill) all (at f (codes "fill") _ are ∙ run_fill word (value_of option.Input g) _ _ _ file));
-  steps = number_good 0 1000000000 (2 ^ 64 - 1) _ (omega arith) (found_good option.Steps g (found_value f option.Steps) all (at f (codes "steps") _ are ∙ run_steps word (value_of option.Input g) _ _ _ file));
-  reports = number_good 1 1000 1000 _ (omega arith) (found_good option.Reports g (found_value f option.Reports) all (at f (codes "reports") _ are ∙ run_reports word (value_of option.Input g) _ _ _ file));
+  fill = hex_good 2048 _ (found_good option.Fill g (found_value f option.Fill) all (at f (codes "fill") _ are ∙ run_fill word (value_of option.Input g) _ _ _ (value_of option.Where g) file));
+  steps = number_good 0 1000000000 (2 ^ 64 - 1) _ (omega arith) (found_good option.Steps g (found_value f option.Steps) all (at f (codes "steps") _ are ∙ run_steps word (value_of option.Input g) _ _ _ (value_of option.Where g) file));
+  reports = number_good 1 1000 1000 _ (omega arith) (found_good option.Reports g (found_value f option.Reports) all (at f (codes "reports") _ are ∙ run_reports word (value_of option.Input g) _ _ _ (value_of option.Where g) file));
 }
 
 corpus_fits : (g : Given) (file : Word) (inputs : List Word) (f : Found) → All (λ p. value_fault (takes p.0) 0 p.1 ≡ None) g.options
     → rows_of f ≡ matches_of (app_for Corpus) (command_word Corpus ∷ (spelled_options (options_of Corpus) g ++ codes "--" ∷ file ∷ inputs)) → FitsCorpus (found_value f)
 corpus_fits g file inputs f all are = record {
   run = record {
-    fill = hex_good 2048 _ (found_good option.Fill g (found_value f option.Fill) all (at f (codes "fill") _ are ∙ corpus_fill _ _ _ _ file inputs));
-    steps = number_good 0 1000000000 (2 ^ 64 - 1) _ (omega arith) (found_good option.Steps g (found_value f option.Steps) all (at f (codes "steps") _ are ∙ corpus_steps _ _ _ _ file inputs));
-    reports = number_good 1 1000 1000 _ (omega arith) (found_good option.Reports g (found_value f option.Reports) all (at f (codes "reports") _ are ∙ corpus_reports _ _ _ _ file inputs));
+    fill = hex_good 2048 _ (found_good option.Fill g (found_value f option.Fill) all (at f (codes "fill") _ are ∙ corpus_fill _ _ _ _ (value_of option.Where g) file inputs));
+    steps = number_good 0 1000000000 (2 ^ 64 - 1) _ (omega arith) (found_good option.Steps g (found_value f option.Steps) all (at f (codes "steps") _ are ∙ corpus_steps _ _ _ _ (value_of option.Where g) file inputs));
+    reports = number_good 1 1000 1000 _ (omega arith) (found_good option.Reports g (found_value f option.Reports) all (at f (codes "reports") _ are ∙ corpus_reports _ _ _ _ (value_of option.Where g) file inputs));
   };
-  workers = number_good 1 8 8 _ (omega arith) (found_good option.Workers g (found_value f option.Workers) all (at f (codes "workers") _ are ∙ corpus_workers _ _ _ _ file inputs));
+  workers = number_good 1 8 8 _ (omega arith) (found_good option.Workers g (found_value f option.Workers) all (at f (codes "workers") _ are ∙ corpus_workers _ _ _ _ (value_of option.Where g) file inputs));
 }
 
 -- and these can be made fields

@@ -27,7 +27,7 @@ command_word Gen = codes "gen"
 
 -- the options, in the order of the usage
 abbrev pub options : List OptionName
-options = option.Input ∷ option.Fill ∷ option.Steps ∷ option.Reports ∷ option.Workers ∷ option.Seed ∷ option.Functions ∷ option.Run ∷ []
+options = option.Input ∷ option.Fill ∷ option.Steps ∷ option.Reports ∷ option.Workers ∷ option.Seed ∷ option.Functions ∷ option.Run ∷ option.Where ∷ []
 
 -- the word that names an option, after two dashes
 abbrev pub option_word : OptionName → Word
@@ -39,6 +39,7 @@ option_word option.Workers = codes "workers"
 option_word option.Seed = codes "seed"
 option_word option.Functions = codes "functions"
 option_word option.Run = codes "run"
+option_word option.Where = codes "where"
 
 -- what an option takes: no value, any word, so many bytes at most, or a number within these
 abbrev pub takes : OptionName → Takes
@@ -50,6 +51,7 @@ takes option.Workers = Number 1 8
 takes option.Seed = Number 0 (2 ^ 64 - 1)
 takes option.Functions = Number 1 1000
 takes option.Run = Nothing
+takes option.Where = Nothing
 
 -- the value of an option that isn't given
 abbrev pub default_of : OptionName → Option Word
@@ -62,9 +64,9 @@ default_of _ = None
 -- the options that a command may have
 abbrev pub options_of : CommandName → List OptionName
 options_of Instrument = []
-options_of Run = option.Input ∷ option.Fill ∷ option.Steps ∷ option.Reports ∷ []
-options_of Check = option.Input ∷ option.Fill ∷ option.Steps ∷ option.Reports ∷ []
-options_of Corpus = option.Workers ∷ option.Fill ∷ option.Steps ∷ option.Reports ∷ []
+options_of Run = option.Input ∷ option.Fill ∷ option.Steps ∷ option.Reports ∷ option.Where ∷ []
+options_of Check = option.Input ∷ option.Fill ∷ option.Steps ∷ option.Reports ∷ option.Where ∷ []
+options_of Corpus = option.Workers ∷ option.Fill ∷ option.Steps ∷ option.Reports ∷ option.Where ∷ []
 options_of Gen = option.Seed ∷ option.Functions ∷ option.Run ∷ []
 
 -- the options that it must have

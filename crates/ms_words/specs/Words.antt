@@ -36,13 +36,14 @@ options_by value = record {
   fill = option_map_or hex_bytes (value option.Fill) [];
   steps = number_by (value option.Steps);
   reports = number_by (value option.Reports);
+  locations = is_some (value option.Where);
 }
 
 -- the options of a corpus have no input, since each of its runs has its own
 abbrev pub corpus_options_by : (OptionName → Option Word) → Options
 corpus_options_by value = record (options_by value) { input = None }
 
--- what is given where no option is: no input, the fill a5, ten million steps, one report
+-- what is given where no option is: no input, the fill a5, ten million steps, one report, and no locations
 abbrev pub defaults : Options
 defaults = options_by (λ o. value_of o nothing)
 

@@ -17,6 +17,8 @@ pub struct Options {
     pub steps: u64,
     /// The number of reports at which the run ends, 1 to 1000.
     pub reports: u32,
+    /// Whether each line that names a site is followed by where it stands.
+    pub locations: bool,
 }
 
 /// What is asked for.

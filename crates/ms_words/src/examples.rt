@@ -50,6 +50,19 @@ pub fn words_of_a_corpus()
     ensures workers_of_run { command_of (codes "run" ∷ codes "--workers" ∷ codes "2" ∷ codes "f" ∷ []) ≡ Err (UnknownOption 1) }
 {}
 
+/// The option that asks where each site stands; it takes no value.
+pub fn words_with_locations()
+    ensures of_run { command_of (codes "run" ∷ codes "--where" ∷ codes "f" ∷ []) ≡ Ok (Run (codes "f") (record defaults { locations = true })) }
+    ensures of_check { command_of (codes "check" ∷ codes "--where" ∷ codes "--steps" ∷ codes "5" ∷ codes "f" ∷ []) ≡ Ok (Check (codes "f") (record defaults { steps = 5; locations = true })) }
+    ensures of_corpus { command_of (codes "corpus" ∷ codes "--workers=3" ∷ codes "--where" ∷ codes "f" ∷ codes "a" ∷ []) ≡ Ok (Corpus (codes "f") (codes "a" ∷ []) (record defaults { locations = true }) 3) }
+    ensures not_given { command_of (codes "run" ∷ codes "f" ∷ []) ≡ Ok (Run (codes "f") (record defaults { locations = false })) }
+    ensures a_file { command_of (codes "run" ∷ codes "--" ∷ codes "--where" ∷ []) ≡ Ok (Run (codes "--where") (record defaults { locations = false })) }
+    ensures with_a_value { command_of (codes "check" ∷ codes "--where=yes" ∷ codes "f" ∷ []) ≡ Err (UnknownOption 1) }
+    ensures twice { command_of (codes "check" ∷ codes "--where" ∷ codes "--where" ∷ codes "f" ∷ []) ≡ Err (Repeated 2) }
+    ensures of_instrument { command_of (codes "instrument" ∷ codes "--where" ∷ codes "f" ∷ []) ≡ Err (UnknownOption 1) }
+    ensures of_gen { command_of (codes "gen" ∷ codes "--where" ∷ []) ≡ Err (UnknownOption 1) }
+{}
+
 /// Where the options end.
 pub fn end_of_options()
     ensures one_dash_is_a_file { command_of (codes "run" ∷ codes "-" ∷ []) ≡ Ok (Run (codes "-") defaults) }
@@ -114,9 +127,9 @@ pub fn questions()
 /// The lines of commands in the usage.
 pub fn lines_of_commands()
     ensures instrument { synopsis name.Instrument ≡ codes "  msan instrument FILE\n" }
-    ensures run { synopsis name.Run ≡ codes "  msan run [--input FILE] [--fill HEX] [--steps N] [--reports N] FILE\n" }
-    ensures check { synopsis name.Check ≡ codes "  msan check [--input FILE] [--fill HEX] [--steps N] [--reports N] FILE\n" }
-    ensures corpus { synopsis name.Corpus ≡ codes "  msan corpus [--workers N] [--fill HEX] [--steps N] [--reports N] FILE INPUT...\n" }
+    ensures run { synopsis name.Run ≡ codes "  msan run [--input FILE] [--fill HEX] [--steps N] [--reports N] [--where] FILE\n" }
+    ensures check { synopsis name.Check ≡ codes "  msan check [--input FILE] [--fill HEX] [--steps N] [--reports N] [--where] FILE\n" }
+    ensures corpus { synopsis name.Corpus ≡ codes "  msan corpus [--workers N] [--fill HEX] [--steps N] [--reports N] [--where] FILE INPUT...\n" }
     ensures inputs { command_about name.Corpus ≡ codes "      check the module in FILE with each INPUT as its standard input: " ++ decimal 1 ++ codes " to " ++ decimal 256 ++ codes " inputs\n" }
     ensures generates { synopsis name.Gen ≡ codes "  msan gen --seed N --functions N [--run]\n" }
     ensures help { topic_line topic.Help ≡ codes "  msan help, --help, -h: print this text\n" }
@@ -133,4 +146,5 @@ pub fn lines_of_options()
     ensures seed { option_line option.Seed ≡ codes "  --seed N       number that the module is made from: " ++ decimal 0 ++ codes " to " ++ decimal 18446744073709551615 ++ codes "\n" }
     ensures functions { option_line option.Functions ≡ codes "  --functions N  number of functions beside main: " ++ decimal 1 ++ codes " to " ++ decimal 1000 ++ codes "\n" }
     ensures runs { option_line option.Run ≡ codes "  --run          check the module instead of writing it\n" }
+    ensures locations { option_line option.Where ≡ codes "  --where        below each line that names a site, print where it stands in FILE and in the source\n" }
 {}

@@ -114,6 +114,7 @@ fn options_with(alloc: Global, found: &ArgMatches, input: Option<Text>) -> Resul
         fill,
         steps: number_in(found, OptionName::Steps),
         reports: small_number_in(found, OptionName::Reports),
+        locations: is_set(found, OptionName::Where),
     })
 }
 

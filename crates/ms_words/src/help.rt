@@ -63,6 +63,9 @@ impl OptionName {
             OptionName::Seed => "number that the module is made from",
             OptionName::Functions => "number of functions beside main",
             OptionName::Run => "check the module instead of writing it",
+            OptionName::Where => {
+                "below each line that names a site, print where it stands in FILE and in the source"
+            }
         }
     }
 }

@@ -25,6 +25,7 @@ pub enum OptionName {
     Seed,
     Functions,
     Run,
+    Where,
 }
 
 /// What an option takes.
@@ -49,7 +50,7 @@ pub static COMMANDS: [CommandName; 5] = [
 ];
 
 /// The options, in the order of the usage.
-pub static OPTIONS: [OptionName; 8] = [
+pub static OPTIONS: [OptionName; 9] = [
     OptionName::Input,
     OptionName::Fill,
     OptionName::Steps,
@@ -58,22 +59,25 @@ pub static OPTIONS: [OptionName; 8] = [
     OptionName::Seed,
     OptionName::Functions,
     OptionName::Run,
+    OptionName::Where,
 ];
 
 static NO_OPTIONS: [OptionName; 0] = [];
 
-static RUN_OPTIONS: [OptionName; 4] = [
+static RUN_OPTIONS: [OptionName; 5] = [
     OptionName::Input,
     OptionName::Fill,
     OptionName::Steps,
     OptionName::Reports,
+    OptionName::Where,
 ];
 
-static CORPUS_OPTIONS: [OptionName; 4] = [
+static CORPUS_OPTIONS: [OptionName; 5] = [
     OptionName::Workers,
     OptionName::Fill,
     OptionName::Steps,
     OptionName::Reports,
+    OptionName::Where,
 ];
 
 static GEN_OPTIONS: [OptionName; 3] = [OptionName::Seed, OptionName::Functions, OptionName::Run];
@@ -193,6 +197,7 @@ impl OptionName {
             OptionName::Seed => "seed",
             OptionName::Functions => "functions",
             OptionName::Run => "run",
+            OptionName::Where => "where",
         }
     }
 
@@ -221,6 +226,7 @@ impl OptionName {
                 most: 1000,
             },
             OptionName::Run => Takes::Nothing,
+            OptionName::Where => Takes::Nothing,
         }
     }
 

@@ -1,12 +1,13 @@
 use Rattle.std.proofs.Common.{◌≡◌, ◌+◌, ◌-◌, ◌≤◌, ◌++◌, drop, length}
-use Rattle.ms_report.specs.ReportTexts.{reports_text}
+use Rattle.ms_report.specs.WithLines.{reports_with}
 use Rattle.ms_report.proofs.reports.push_reports.Given as goal
 
 abbrev pub invariant-loop-index : goal.invariant-loop-index
-invariant-loop-index l = record {
-  text : l.text.items ++ reports_text l.m (l.index + 1) (drop l.index l.reports) ≡ l.fn.text.items ++ reports_text l.m 1 l.reports;
+invariant-loop-index g l = record {
+  text : l.text.items ++ reports_with (g.L.SiteLines.lines l.under) l.m (l.index + 1) (drop l.index l.reports)
+      ≡ l.fn.text.items ++ reports_with (g.L.SiteLines.lines l.under) l.m 1 l.reports;
   within : l.index ≤ length l.reports;
 }
 
 abbrev pub decreases-loop-index : goal.decreases-loop-index
-decreases-loop-index l = length l.reports - l.index
+decreases-loop-index g l = length l.reports - l.index

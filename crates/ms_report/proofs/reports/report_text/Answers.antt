@@ -1,5 +1,7 @@
-use Rattle.ms_valid.proofs.SmallNumbers.{small_numbers}
+use Rattle.std.proofs.Common.{◌≡◌, ℕ, List, IfOk, subst}
+use Rattle.ms_report.proofs.WithoutLines.{reports_alone}
 use Rattle.ms_report.proofs.reports.report_text.Goals as goal
 
-pub push_all-requires : goal.push_all-requires
-push_all-requires c = small_numbers c.args.m.now c.requires
+pub returns : goal.returns
+returns c =
+    subst (λ (t : List ℕ). IfOk c.report_text_with.result (λ text. text.items ≡ t)) (reports_alone c.args.m.now 1 c.args.r.now.reports) c.report_text_with.ensures

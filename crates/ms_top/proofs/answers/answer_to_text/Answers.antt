@@ -1,5 +1,5 @@
 use Rattle.std.proofs.Common.{subst, sym, ◌≤◌, length, arith}
-use Rattle.ms_grammar.specs.Texts.{max_bytes}
+use Rattle.ms_grammar.specs.Texts.{Reads, max_bytes}
 use Rattle.ms_top.proofs.Answering.{file_limit, ready, formed, has_line, module_answer, refusal_answer}
 use Rattle.ms_top.proofs.Ok.{on_ok, on_both}
 use Rattle.ms_top.proofs.answers.answer_to_text.Goals as goal
@@ -7,12 +7,15 @@ use Rattle.ms_top.proofs.answers.answer_to_text.Goals as goal
 pub read-requires : goal.read-requires
 read-requires g c = subst (λ f. length c.args.text.now ≤ max_bytes f) (sym c.form_of.ensures) (file_limit c.args.command.now _ c.requires.fits)
 
-pub answer_to_module-requires-clause-ready : goal.answer_to_module-requires-clause-ready
-answer_to_module-requires-clause-ready g c κs within = ready c.args.command.now c.form_of.result c.args.text.now c.read.result c.in-Ok.module c.form_of.ensures
+pub answer_to_read-requires-clause-reads : goal.answer_to_read-requires-clause-reads
+answer_to_read-requires-clause-reads g c κs within = subst (λ f. Reads f c.args.text.now c.in-Ok.module) c.form_of.ensures ((c.read.ensures.«module» c.in-Ok.module).0 c.in-Ok.is)
+
+pub answer_to_read-requires-clause-ready : goal.answer_to_read-requires-clause-ready
+answer_to_read-requires-clause-ready g c κs within = ready c.args.command.now c.form_of.result c.args.text.now c.read.result c.in-Ok.module c.form_of.ensures
     (record { «module» = c.read.ensures.«module»; lex = c.read.ensures.lex; refused = c.read.ensures.refused; wanting = c.read.ensures.wanting }) c.in-Ok.is
 
-pub answer_to_module-requires-clause-formed : goal.answer_to_module-requires-clause-formed
-answer_to_module-requires-clause-formed g c κs within = formed c.form_of.result c.args.text.now c.read.result c.in-Ok.module (λ i. omega (arith, c.type_inv.text i))
+pub answer_to_read-requires-clause-formed : goal.answer_to_read-requires-clause-formed
+answer_to_read-requires-clause-formed g c κs within = formed c.form_of.result c.args.text.now c.read.result c.in-Ok.module (λ i. omega (arith, c.type_inv.text i))
     (record { «module» = c.read.ensures.«module»; lex = c.read.ensures.lex; refused = c.read.ensures.refused; wanting = c.read.ensures.wanting }) c.in-Ok.is
 
 pub refused-requires : goal.refused-requires
@@ -20,8 +23,8 @@ refused-requires g c = has_line c.form_of.result c.args.text.now c.read.result c
     (record { «module» = c.read.ensures.«module»; lex = c.read.ensures.lex; refused = c.read.ensures.refused; wanting = c.read.ensures.wanting }) c.in-Err.is
 
 pub returns-in-Ok : goal.returns-in-Ok
-returns-in-Ok g c = on_ok c.answer_to_module.result (λ a is. module_answer g.P.Pass.gives c.args.command.now c.args.inputs.now c.form_of.result c.args.text.now c.read.result c.in-Ok.module a c.form_of.ensures
-    (record { «module» = c.read.ensures.«module»; lex = c.read.ensures.lex; refused = c.read.ensures.refused; wanting = c.read.ensures.wanting }) c.in-Ok.is is) c.answer_to_module.ensures
+returns-in-Ok g c = on_ok c.answer_to_read.result (λ a is. module_answer g.P.Pass.gives c.args.command.now c.args.inputs.now c.form_of.result c.args.text.now c.read.result c.in-Ok.module a c.form_of.ensures
+    (record { «module» = c.read.ensures.«module»; lex = c.read.ensures.lex; refused = c.read.ensures.refused; wanting = c.read.ensures.wanting }) c.in-Ok.is is) c.answer_to_read.ensures
 
 pub returns-in-Err : goal.returns-in-Err
 returns-in-Err g c = on_both c.refused.result (λ a h is. refusal_answer g.P.Pass.gives c.args.command.now c.args.inputs.now c.form_of.result c.args.text.now c.read.result c.in-Err.cause a c.form_of.ensures

@@ -8,6 +8,6 @@ use Rattle.ms_top.proofs.answers.answer_to_valid.Goals as goal
 pub returns-in-Check : goal.returns-in-Check
 returns-in-Check g c =
     on_ok c.answer_of_check.result
-    (λ a is. check_valid g.P.Pass.gives c.args.command.now _ _ c.args.inputs.now c.args.m.now a c.in-Check.is
-    (subst (λ input. IsAnswerOfCheck g.P.Pass.gives (setup_of c.in-Check.options input) c.args.m.now a) c.only_input-in-Check.ensures is))
+    (λ a is. check_valid g.P.Pass.gives (g.L.SiteLines.lines c.args.under.now) c.args.command.now _ _ c.args.inputs.now c.args.m.now a c.in-Check.is
+    (subst (λ input. IsAnswerOfCheck g.P.Pass.gives (g.L.SiteLines.lines c.args.under.now) (setup_of c.in-Check.options input) c.args.m.now a) c.only_input-in-Check.ensures is))
     c.answer_of_check.ensures

@@ -3,4 +3,5 @@ use Rattle.ms_top.specs.Said.{sections_of}
 use Rattle.ms_top.proofs.corpus.sections.Given as goal
 
 abbrev pub invariant-loop-index : goal.invariant-loop-index
-invariant-loop-index l = l.text.items ++ sections_of l.m (l.index + 1) (drop l.index l.names) (drop l.index l.results) ≡ sections_of l.m 1 l.names l.results
+invariant-loop-index g l =
+    let under = g.L.SiteLines.lines l.under in l.text.items ++ sections_of under l.m (l.index + 1) (drop l.index l.names) (drop l.index l.results) ≡ sections_of under l.m 1 l.names l.results

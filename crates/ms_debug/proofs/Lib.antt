@@ -1,0 +1,5 @@
+pub mod Places
+pub mod Tables
+pub mod Fields
+pub mod Scopes
+pub mod Calls

@@ -1,0 +1,306 @@
+//! The nodes of metadata of a text, by their numbers, and their fields.
+
+ghost use Rattle.std.specs.Prelude.{◌≡◌, ℕ, ◌<◌, ◌≤◌, length, drop, replicate, slice_index, slice_get, if◌then◌else◌, IfOk, option_copied};
+ghost use Rattle.std.specs.Str.{bytes_eq};
+ghost use Rattle.ms_lex.specs.Tokens.{InOrder};
+ghost use Rattle.ms_lex.specs.Names.{spelling_of};
+ghost use Rattle.ms_grammar.specs.Lexemes.{lexemes_of};
+ghost use Rattle.ms_read_cursor.specs.Reading.{front};
+ghost use Rattle.ms_read_cursor.specs.Places.{LieIn};
+ghost use Rattle.ms_places.specs.Told.{spelling_at};
+ghost use Rattle.ms_debug.specs.Tables.{IsTable};
+ghost use Rattle.ms_debug.specs.Nodes as spec;
+
+use ms_bits::{Bytes, List, NoMemory};
+use ms_lex::{Kind, Token, name_of};
+use ms_places::{Kind as What, Mark};
+use ms_read_cursor::{decimal, is_digits};
+use std::alloc::Global;
+use std::marker::Model;
+
+/// A text with its tokens, what stands in it, and where the nodes of its metadata are. Contracts see the text, the tokens and
+/// the marks.
+#[derive(Drop)]
+pub struct Debug<'a> {
+    text: &'a [u8],
+    tokens: &'a [Token],
+    marks: &'a [Mark],
+    /// Of each number below that of the marks, the place of the first node that has it, or the number of the marks.
+    nodes: Vec<usize>,
+}
+
+impl<'a> Model for Debug<'a> {
+    ghost use Rattle.ms_places.specs.Told.{Told};
+
+    ghost Value = { Told };
+
+    ghost use Rattle.ms_debug.specs.Tables.{told_in, IsReady};
+
+    ghost view = { told_in };
+
+    ghost invariant = { IsReady };
+}
+
+/// The bytes of the token with a number, or none where there is no such token.
+#[tactic(auto, using(crate::proofs::Places::spelling_read, crate::proofs::Places::lies_read))]
+fn spelled<'a>(text: &'a [u8], tokens: &[Token], number: u32) -> &'a [u8]
+    requires { LieIn text.now tokens.now }
+    ensures { result.now ≡ (front (drop number (lexemes_of text.now tokens.now))).spelling }
+{
+    match tokens.get(number as usize) {
+        None => &[],
+        Some(token) => &text[token.start as usize..token.end as usize],
+    }
+}
+
+/// The number that digits spell, where 64 bits have it.
+#[tactic(auto, unfolding(crate::specs::Nodes::small_number))]
+fn small_number(digits: &[u8]) -> Option<u64>
+    ensures { result ≡ spec.small_number digits.now }
+{
+    if is_digits(digits) {
+        decimal(digits)
+    } else {
+        None
+    }
+}
+
+/// The number in the name of a node.
+#[tactic(auto, unfolding(crate::specs::Nodes::node_number))]
+fn node_number(name: &[u8]) -> Option<u64>
+    ensures { result ≡ spec.node_number name.now }
+{
+    match name {
+        [b'!', digits @ ..] => small_number(digits),
+        _ => None,
+    }
+}
+
+/// The number of what is of this kind and has this name, if it is a node.
+fn number_if(kind: What, name: &[u8]) -> Option<u64>
+    ensures { result ≡ spec.number_if kind (spec.node_number name.now) }
+{
+    match kind {
+        What::Node => node_number(name),
+        _ => None,
+    }
+}
+
+/// Keeps a place under a number, if the table has it.
+fn keep(nodes: &mut [usize], number: Option<u64>, place: usize)
+    ensures { (n : ℕ) → n < length nodes.old → slice_index nodes.new n ≡ (if spec.is_number n number then place else slice_index nodes.old n) }
+{
+    if let Some(number) = number {
+        if number < nodes.len() as u64 {
+            nodes[number as usize] = place;
+        }
+    }
+}
+
+/// A table of so many numbers that no node has.
+fn no_nodes(alloc: Global, count: usize) -> Result<Vec<usize>, NoMemory>
+    ensures { IfOk result (λ nodes. nodes.items ≡ replicate count count) }
+{
+    vec![in alloc; count; count]
+}
+
+/// Of each number below that of the marks, the place of the first node that has it. From the last mark to the first, so that
+/// what is kept last is the first.
+#[tactic(auto, using(crate::proofs::Tables::started, crate::proofs::Tables::kept, crate::proofs::Tables::ended))]
+fn table_of(
+    alloc: Global,
+    text: &[u8],
+    tokens: &[Token],
+    marks: &[Mark],
+) -> Result<Vec<usize>, NoMemory>
+    requires { LieIn text.now tokens.now }
+    ensures { IfOk result (λ nodes. IsTable (record { text = text.now; tokens = tokens.now; marks = marks.now }) nodes.items) }
+{
+    let mut nodes = no_nodes(alloc, marks.len())?;
+    for place in (0..marks.len()).rev() {
+        let mark = &marks[place];
+        let name = spelled(text, tokens, mark.first);
+        keep(&mut nodes, number_if(mark.kind, name), place);
+    }
+    Ok(nodes)
+}
+
+/// The mark at a place.
+#[tactic(auto, using(crate::proofs::Places::get_of_item))]
+fn mark_at(marks: &[Mark], place: usize) -> Option<&Mark>
+    ensures { option_copied result ≡ slice_get marks.now place }
+{
+    marks.get(place)
+}
+
+/// The string that a token is, with its escapes undone.
+#[tactic(auto, unfolding(ms_lex::specs::Names::name_of))]
+fn string_of(alloc: Global, text: &[u8], token: &Token) -> Result<Option<Bytes>, NoMemory>
+    requires ordered { token.now.start ≤ token.now.end }
+    requires inside { token.now.end ≤ length text.now }
+    ensures { IfOk result (λ found. found ≡ spec.string_by token.now.kind (spelling_of text.now token.now)) }
+{
+    match token.kind {
+        Kind::Str => Ok(Some(List::from_vec(name_of(alloc, text, token)?))),
+        _ => Ok(None),
+    }
+}
+
+impl<'a> Debug<'a> {
+    /// A text with its tokens and what stands in it. Takes a time linear in the number of marks.
+    ///
+    /// # Errors
+    ///
+    /// Only where it runs out of memory.
+    #[tactic(auto, using(crate::proofs::Places::lie))]
+    pub fn new(
+        alloc: Global,
+        text: &'a [u8],
+        tokens: &'a [Token],
+        marks: &'a [Mark],
+    ) -> Result<Debug<'a>, NoMemory>
+        requires in_order { InOrder tokens.now (length text.now) }
+        ensures { IfOk result (λ d. d ≡ record { text = text.now; tokens = tokens.now; marks = marks.now }) }
+    {
+        let nodes = table_of(alloc, text, tokens, marks)?;
+        Ok(Debug {
+            text,
+            tokens,
+            marks,
+            nodes,
+        })
+    }
+
+    /// The bytes of the text.
+    pub fn text(&self) -> &'a [u8]
+        ensures { result.now ≡ self.now.text }
+    {
+        self.text
+    }
+
+    /// The tokens of the text.
+    pub fn tokens(&self) -> &'a [Token]
+        ensures { result.now ≡ self.now.tokens }
+    {
+        self.tokens
+    }
+
+    /// What stands in the text.
+    pub fn marks(&self) -> &'a [Mark]
+        ensures { result.now ≡ self.now.marks }
+    {
+        self.marks
+    }
+
+    /// The bytes of the token with this number, or none where there is no such token.
+    pub fn spelling(&self, token: u32) -> &'a [u8]
+        ensures { result.now ≡ spelling_at self.now token }
+    {
+        spelled(self.text, self.tokens, token)
+    }
+
+    /// Whether a token is spelled so.
+    fn is_spelled(&self, token: u32, word: &[u8]) -> bool
+        ensures { result ≡ bytes_eq (spelling_at self.now token) word.now }
+    {
+        self.spelling(token) == word
+    }
+
+    /// The number of the token after the first one of a mark's tokens that is spelled so: the value of a field, as of `scope:`.
+    #[tactic(auto, using(crate::proofs::Fields::passed, crate::proofs::Fields::met, crate::proofs::Fields::ended), unfolding(crate::specs::Nodes::field))]
+    pub fn field(&self, word: &[u8], within: &Mark) -> Option<u32>
+        ensures { result ≡ spec.field self.now word.now within.now }
+    {
+        for token in within.first..within.behind {
+            if self.is_spelled(token, word) {
+                return Some(token + 1);
+            }
+        }
+        None
+    }
+
+    /// The first node with this number.
+    #[tactic(auto, using(crate::proofs::Tables::first_at), unfolding(crate::specs::Nodes::node))]
+    fn node(&self, number: u64) -> Option<&'a Mark>
+        ensures { option_copied result ≡ spec.node self.now number }
+    {
+        if number < self.nodes.len() as u64 {
+            mark_at(self.marks, self.nodes[number as usize])
+        } else {
+            None
+        }
+    }
+
+    /// The node that a token names.
+    #[tactic(auto, unfolding(crate::specs::Nodes::node_of))]
+    pub(crate) fn node_of(&self, token: u32) -> Option<&'a Mark>
+        ensures { option_copied result ≡ spec.node_of self.now token }
+    {
+        self.node(node_number(self.spelling(token))?)
+    }
+
+    /// The node that a field names.
+    #[tactic(auto, unfolding(crate::specs::Nodes::node_in))]
+    pub(crate) fn node_in(&self, word: &[u8], within: &Mark) -> Option<&'a Mark>
+        ensures { option_copied result ≡ spec.node_in self.now word.now within.now }
+    {
+        self.node_of(self.field(word, within)?)
+    }
+
+    /// The number in a field, or else 0.
+    #[tactic(auto, unfolding(crate::specs::Nodes::number_in))]
+    pub(crate) fn number_in(&self, word: &[u8], within: &Mark) -> u64
+        ensures { result ≡ spec.number_in self.now word.now within.now }
+    {
+        match self.field(word, within) {
+            None => 0,
+            Some(token) => small_number(self.spelling(token)).unwrap_or(0),
+        }
+    }
+
+    /// The string that a token is, with its escapes undone.
+    #[tactic(auto, using(crate::proofs::Places::lexeme_read, crate::proofs::Places::lexeme_past, crate::proofs::Places::lies_read), unfolding(crate::specs::Nodes::string_at))]
+    fn string_at(&self, alloc: Global, token: u32) -> Result<Option<Bytes>, NoMemory>
+        ensures { IfOk result (λ found. found ≡ spec.string_at self.now token) }
+    {
+        match self.tokens.get(token as usize) {
+            None => Ok(None),
+            Some(token) => string_of(alloc, self.text, token),
+        }
+    }
+
+    /// The string in a field, with its escapes undone.
+    ///
+    /// # Errors
+    ///
+    /// Only where it runs out of memory.
+    #[tactic(auto, unfolding(crate::specs::Nodes::string_in))]
+    pub(crate) fn string_in(
+        &self,
+        alloc: Global,
+        word: &[u8],
+        within: &Mark,
+    ) -> Result<Option<Bytes>, NoMemory>
+        ensures { IfOk result (λ found. found ≡ spec.string_in self.now word.now within.now) }
+    {
+        match self.field(word, within) {
+            None => Ok(None),
+            Some(token) => self.string_at(alloc, token),
+        }
+    }
+
+    /// The name of what a node describes, which this token names, as a variable's.
+    ///
+    /// # Errors
+    ///
+    /// Only where it runs out of memory.
+    #[tactic(auto, unfolding(crate::specs::Nodes::name_in))]
+    pub fn name_of_node(&self, alloc: Global, token: u32) -> Result<Option<Bytes>, NoMemory>
+        ensures { IfOk result (λ name. name ≡ spec.name_in self.now token) }
+    {
+        match self.node_of(token) {
+            None => Ok(None),
+            Some(node) => self.string_in(alloc, b"name:", node),
+        }
+    }
+}

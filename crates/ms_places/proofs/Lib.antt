@@ -1,0 +1,5 @@
+pub mod Growing
+pub mod Headings
+pub mod Each
+pub mod One
+pub mod Memory

@@ -1,0 +1,17 @@
+use Rattle.std.proofs.Common.{subst}
+use Rattle.ms_lex.specs.Grammar.{tail}
+use Rattle.ms_grammar.specs.Modules.{entity}
+use Rattle.ms_read_cursor.specs.Reading.{front}
+use Rattle.ms_places.specs.Failures.{OnlyMemory}
+use Rattle.ms_places.proofs.Memory.{gave, returned}
+use Rattle.ms_places.proofs.entities.one_entity.Goals as goal
+
+pub returns-in_err-entity-clause-only_memory : goal.returns-in_err-entity-clause-only_memory
+returns-in_err-entity-clause-only_memory c =
+    let form = c.args.form in
+    let parts = c.args.parts.now in
+    let cause = c.in_err-entity.field-0.0 in
+    let only = gave (entity form parts c.lexeme-first.result) c.advance.new.self c.entity.new.tokens cause c.in_err-entity.ensures.exact in
+    let first = subst (λ t. OnlyMemory (entity form parts t) c.advance.new.self cause) c.lexeme-first.ensures only in
+    let whole = subst (λ ts. OnlyMemory (entity form parts (front c.args.tokens.now)) ts cause) c.advance.ensures first in
+    returned c.from_residual-in_err-entity.result cause (OnlyMemory (entity form parts (front c.args.tokens.now)) (tail c.args.tokens.now)) c.from_residual-in_err-entity.ensures.1 whole

@@ -1,0 +1,6 @@
+pub mod Turns
+pub mod Marks
+pub mod Instructions
+pub mod Failures
+pub mod Told
+pub mod Indented

@@ -1,0 +1,11 @@
+//! Where the functions, the instructions, the debug records and the nodes of metadata of a text stand.
+#![tactic(auto)]
+
+mod entities;
+mod inside;
+mod laws;
+mod marks;
+
+pub use entities::marks_in;
+pub use laws::{instructions_are_told, marks_are_one};
+pub use marks::{Kind, Mark};

@@ -1,0 +1,22 @@
+//! What lines under sites do to a text.
+ghost use Rattle.std.specs.Prelude.{◌≡◌, Bool, ℕ, List};
+ghost use Rattle.ms_ir.specs.declared.syntax.Module.{Module};
+ghost use Rattle.ms_runs.specs.declared.runs.RunResult.{RunResult};
+ghost use Rattle.ms_places.specs.Indented.{IsIndented, unindented};
+ghost use Rattle.ms_report.specs.declared.refusals.Refusal.{Refusal};
+ghost use Rattle.ms_report.specs.RunTexts.{closing_of};
+ghost use Rattle.ms_report.specs.ReportTexts.{report_text_of};
+ghost use Rattle.ms_report.specs.RefusalTexts.{refusal_text};
+ghost use Rattle.ms_report.specs.WithLines.{no_lines, reports_with, closing_text_with, refusal_text_with};
+
+/// Laws: where there are no lines under any site, each text with lines is the text without. Where the lines under each site
+/// begin with four blanks, the text without is what is left once the lines that begin so are taken out: nothing else is added,
+/// and nothing is lost.
+pub fn lines_are_added()
+    ensures none_in_reports { (m : Module) (r : RunResult) → reports_with no_lines m 1 r.reports ≡ report_text_of m r }
+    ensures none_in_closings { (m : Module) (r : RunResult) (verdict : Bool) → closing_text_with no_lines m r verdict ≡ closing_of m r verdict }
+    ensures none_in_refusals { (cause : Refusal) → refusal_text_with no_lines cause ≡ refusal_text cause }
+    ensures taken_out_of_reports { (under : ℕ → List ℕ) (m : Module) (r : RunResult) → ((site : ℕ) → IsIndented (under site)) → unindented (reports_with under m 1 r.reports) ≡ report_text_of m r }
+    ensures taken_out_of_closings { (under : ℕ → List ℕ) (m : Module) (r : RunResult) (verdict : Bool) → ((site : ℕ) → IsIndented (under site)) → unindented (closing_text_with under m r verdict) ≡ closing_of m r verdict }
+    ensures taken_out_of_refusals { (under : ℕ → List ℕ) (cause : Refusal) → ((site : ℕ) → IsIndented (under site)) → unindented (refusal_text_with under cause) ≡ refusal_text cause }
+{}

@@ -1,0 +1,4 @@
+pub mod Newlines
+pub mod Ranges
+pub mod Chosen
+pub mod Indents

@@ -1,0 +1,4 @@
+pub mod Sites
+pub mod Shown
+pub mod Lines
+pub mod Views

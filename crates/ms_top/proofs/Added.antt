@@ -1,0 +1,135 @@
+-- What is said with the lines under each site is what is said without them, once these lines are taken out.
+use Rattle.std.proofs.Common.{◌≡◌, inl, inr, ℕ, Bool, true, false, List, [], ◌++◌, map, Option, Some, None, Result, Ok, Err, refl, sym, ap, ◌∙◌, append-nil, subst}
+use Rattle.std.proofs.Math.Path.{ap₂}
+use Rattle.ms_ir.specs.declared.syntax.Module.{Module}
+use Rattle.ms_ir.specs.declared.forms.Form.{Form}
+use Rattle.ms_ir.specs.declared.forms.Form.TheVariants.{Plain}
+use Rattle.ms_runs.specs.declared.runs.RunResult.{RunResult}
+use Rattle.ms_runs.specs.Plain.{plain}
+use Rattle.ms_read_body.specs.declared.errors.ReadError.{ReadError}
+use Rattle.ms_read_body.specs.declared.errors.ReadError.TheVariants as e
+use Rattle.ms_read_top.specs.Reading.{IsReading}
+use Rattle.ms_valid.specs.Refusals.{Fault}
+use Rattle.ms_places.specs.Indented.{IsIndented, unindented}
+use Rattle.ms_source_map.proofs.Indents.{of_site}
+use Rattle.ms_report.specs.declared.refusals.Refusal.TheVariants.{Read}
+use Rattle.ms_report.specs.FaultTexts.{fault_text}
+use Rattle.ms_report.specs.RefusalTexts.{refusal_text}
+use Rattle.ms_report.specs.ReportTexts.{report_text_of}
+use Rattle.ms_report.specs.RunTexts.{closing_of}
+use Rattle.ms_report.specs.WithLines.{Lines, no_lines, fault_site, closing_text_with}
+use Rattle.ms_report.proofs.WithoutLines.{none_under, reports_alone, closing_alone}
+use Rattle.ms_report.proofs.Unindented.{reports_before, closing_left, fault_left, refusal_left}
+use Rattle.ms_words.specs.declared.commands.Command.{Command}
+use Rattle.ms_words.specs.declared.commands.Command.TheVariants.{Run, Check, Corpus}
+use Rattle.ms_words.specs.declared.commands.Options.{Options}
+use Rattle.ms_top.specs.declared.answers.Answer.{Answer}
+use Rattle.ms_top.specs.Added.{with_locations, without_lines, CorpusAdds}
+use Rattle.ms_top.specs.Command.{form_of, located_file, only_input, setup_of}
+use Rattle.ms_top.specs.Lines.{AreLinesIn, AreLines, fault_text_with}
+use Rattle.ms_top.specs.Said.{answer_of, run_text, says, status_of, IsAnswerToModule, IsAnswerToReading, IsAnswerToText}
+
+-- ---- lines
+
+none_indented : IsIndented []
+none_indented = record { lines = []; single = refl; whole = refl }
+
+-- no line under any site is indented
+none_are_indented : (under : Lines) → under ≡ no_lines → (site : ℕ) → IsIndented (under site)
+none_are_indented under none site = subst (λ (lines : Lines). IsIndented (lines site)) (sym none) none_indented
+
+all_indented : (file : Option (List ℕ)) (form : Form) (text : List ℕ) (m : Module) (under : Lines) → AreLinesIn file form text m under → (site : ℕ) → IsIndented (under site)
+all_indented None form text m under are site = none_are_indented under are site
+all_indented (Some file) form text m under (tokens, has, marks, stand, is) site =
+    subst (λ (lines : Lines). IsIndented (lines site)) (sym is) (of_site file (record { text = text; tokens = tokens; marks = marks }) m site)
+
+-- ---- pieces
+
+pub run_alone : (verdict : Bool) (m : Module) (r : RunResult) → run_text no_lines verdict m r ≡ report_text_of m r ++ closing_of m r verdict
+run_alone verdict m r = ap₂ (λ (reports closing : List ℕ). reports ++ closing) (reports_alone m 1 r.reports) (closing_alone m r verdict)
+
+pub fault_alone : (f : Fault) → fault_text_with no_lines f ≡ fault_text f
+fault_alone f = ap (λ (lines : List ℕ). fault_text f ++ lines) (none_under (fault_site (Some f))) ∙ append-nil (fault_text f)
+
+run_left : (under : Lines) → ((site : ℕ) → IsIndented (under site)) → (verdict : Bool) (m : Module) (r : RunResult) → unindented (run_text under verdict m r) ≡ report_text_of m r ++ closing_of m r verdict
+run_left under all verdict m r =
+    reports_before under all m 1 r.reports (closing_text_with under m r verdict) ∙ ap (λ (t : List ℕ). report_text_of m r ++ t) (closing_left under all m r verdict)
+
+pub run_taken_out : (command : Command) (text : List ℕ) (m : Module) (under : Lines) (verdict : Bool) (r : RunResult) → AreLines command text m under
+    → unindented (run_text under verdict m r) ≡ report_text_of m r ++ closing_of m r verdict
+run_taken_out command text m under verdict r are = run_left under (all_indented (located_file command) (form_of command) text m under are) verdict m r
+
+pub fault_taken_out : (command : Command) (text : List ℕ) (m : Module) (under : Lines) (f : Fault) → AreLines command text m under → unindented (fault_text_with under f) ≡ fault_text f
+fault_taken_out command text m under f are = fault_left under (all_indented (located_file command) (form_of command) text m under are) f (fault_site (Some f))
+
+reading_left : (cause : ReadError) → unindented (refusal_text (Read cause)) ≡ refusal_text (Read cause)
+reading_left cause = ap unindented (sym (append-nil (refusal_text (Read cause)))) ∙ refusal_left no_lines (λ site. none_indented) (Read cause)
+
+-- ---- answers
+
+module _ (Gives : Module → Module → Type 0) where
+  fault_said : (command : Command) (text : List ℕ) (m : Module) (under : Lines) (f : Fault) (a : Answer) → AreLines command text m under → a ≡ says 5 (fault_text_with under f)
+      → without_lines a ≡ says 5 (fault_text_with no_lines f)
+  fault_said command text m under f a are is = ap without_lines is ∙ ap (says 5) (fault_taken_out command text m under f are ∙ sym (fault_alone f))
+
+  run_said : (command : Command) (text : List ℕ) (m : Module) (under : Lines) (verdict : Bool) (r : RunResult) (a : Answer) → AreLines command text m under
+      → a ≡ answer_of (status_of r) r.output (run_text under verdict m r) → without_lines a ≡ answer_of (status_of r) r.output (run_text no_lines verdict m r)
+  run_said command text m under verdict r a are is =
+      ap without_lines is ∙ ap (answer_of (status_of r) r.output) (run_taken_out command text m under verdict r are ∙ sym (run_alone verdict m r))
+
+  reading_said : (cause : ReadError) (a : Answer) → a ≡ says 5 (refusal_text (Read cause)) → without_lines a ≡ says 5 (refusal_text (Read cause))
+  reading_said cause a is = ap without_lines is ∙ ap (says 5) (reading_left cause)
+
+  module _ (file : List ℕ) (o : Options) (inputs : List (List ℕ)) (text : List ℕ) where
+    run_module : (m : Module) (under : Lines) (a : Answer) → AreLines (Run file (with_locations true o)) text m under → IsAnswerToModule Gives under (Run file (with_locations true o)) inputs m a
+        → IsAnswerToModule Gives no_lines (Run file (with_locations false o)) inputs m (without_lines a)
+    run_module m under a are (inl (f, refused, is)) = inl (f, refused, fault_said (Run file (with_locations true o)) text m under f a are is)
+    run_module m under a are (inr (valid, is)) = inr (valid, run_said (Run file (with_locations true o)) text m under false (plain m (setup_of o (only_input inputs))) a are is)
+
+    run_reading : (r : Result Module ReadError) (a : Answer) → IsAnswerToReading Gives (Run file (with_locations true o)) inputs text r a
+        → IsAnswerToReading Gives (Run file (with_locations false o)) inputs text r (without_lines a)
+    run_reading (Ok m) a (under, are, is) = (no_lines, refl, run_module m under a are is)
+    run_reading (Err (e.Lex cause)) a is = reading_said (e.Lex cause) a is
+    run_reading (Err (e.Refused number w token place)) a is = reading_said (e.Refused number w token place) a is
+    run_reading (Err e.NoMemory) a is = is
+
+    check_module : (m : Module) (under : Lines) (a : Answer) → AreLines (Check file (with_locations true o)) text m under → IsAnswerToModule Gives under (Check file (with_locations true o)) inputs m a
+        → IsAnswerToModule Gives no_lines (Check file (with_locations false o)) inputs m (without_lines a)
+    check_module m under a are (inl (f, refused, is)) = inl (f, refused, fault_said (Check file (with_locations true o)) text m under f a are is)
+    check_module m under a are (inr (valid, (j, gives, is))) =
+        inr (valid, (j, gives, run_said (Check file (with_locations true o)) text m under true (plain j (setup_of o (only_input inputs))) a are is))
+
+    check_reading : (r : Result Module ReadError) (a : Answer) → IsAnswerToReading Gives (Check file (with_locations true o)) inputs text r a
+        → IsAnswerToReading Gives (Check file (with_locations false o)) inputs text r (without_lines a)
+    check_reading (Ok m) a (under, are, is) = (no_lines, refl, check_module m under a are is)
+    check_reading (Err (e.Lex cause)) a is = reading_said (e.Lex cause) a is
+    check_reading (Err (e.Refused number w token place)) a is = reading_said (e.Refused number w token place) a is
+    check_reading (Err e.NoMemory) a is = is
+
+  module _ (file : List ℕ) (names : List (List ℕ)) (o : Options) (workers : ℕ) (inputs : List (List ℕ)) (text : List ℕ) where
+    corpus_module : (m : Module) (under : Lines) (a : Answer) → IsReading Plain text (Ok m) → AreLines (Corpus file names (with_locations true o) workers) text m under
+        → IsAnswerToModule Gives under (Corpus file names (with_locations true o) workers) inputs m a → CorpusAdds Gives file names o workers inputs text a
+    corpus_module m under a reads are (inl (f, refused, is)) =
+        inl (ap (λ x. x.out) is, (Ok m, reads, (no_lines, refl, inl (f, refused, fault_said (Corpus file names (with_locations true o) workers) text m under f a are is))))
+    corpus_module m under a reads are (inr (valid, (j, gives, is))) =
+        inr (m, under, are, map (λ input. plain j (setup_of o input)) inputs, is, (Ok m, reads, (no_lines, refl, inr (valid, (j, gives, refl)))))
+
+    corpus_reading : (r : Result Module ReadError) (a : Answer) → IsReading Plain text r → IsAnswerToReading Gives (Corpus file names (with_locations true o) workers) inputs text r a
+        → CorpusAdds Gives file names o workers inputs text a
+    corpus_reading (Ok m) a reads (under, are, is) = corpus_module m under a reads are is
+    corpus_reading (Err (e.Lex cause)) a reads is = inl (ap (λ x. x.out) is, (Err (e.Lex cause), reads, reading_said (e.Lex cause) a is))
+    corpus_reading (Err (e.Refused number w token place)) a reads is =
+        inl (ap (λ x. x.out) is, (Err (e.Refused number w token place), reads, reading_said (e.Refused number w token place) a is))
+    corpus_reading (Err e.NoMemory) a reads is = absurd is
+
+pub run_added : (Gives : Module → Module → Type 0) (file : List ℕ) (o : Options) (inputs : List (List ℕ)) (text : List ℕ) (a : Answer)
+    → IsAnswerToText Gives (Run file (with_locations true o)) inputs text a → IsAnswerToText Gives (Run file (with_locations false o)) inputs text (without_lines a)
+run_added Gives file o inputs text a (r, reading, answers) = (r, reading, run_reading Gives file o inputs text r a answers)
+
+pub check_added : (Gives : Module → Module → Type 0) (file : List ℕ) (o : Options) (inputs : List (List ℕ)) (text : List ℕ) (a : Answer)
+    → IsAnswerToText Gives (Check file (with_locations true o)) inputs text a → IsAnswerToText Gives (Check file (with_locations false o)) inputs text (without_lines a)
+check_added Gives file o inputs text a (r, reading, answers) = (r, reading, check_reading Gives file o inputs text r a answers)
+
+pub corpus_added : (Gives : Module → Module → Type 0) (file : List ℕ) (names inputs : List (List ℕ)) (o : Options) (workers : ℕ) (text : List ℕ) (a : Answer)
+    → IsAnswerToText Gives (Corpus file names (with_locations true o) workers) inputs text a → CorpusAdds Gives file names o workers inputs text a
+corpus_added Gives file names inputs o workers text a (r, reading, answers) = corpus_reading Gives file names o workers inputs text r a reading answers

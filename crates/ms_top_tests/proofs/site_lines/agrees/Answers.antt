@@ -1,0 +1,8 @@
+use Rattle.std.proofs.Common.{arith}
+use Rattle.ms_ir.specs.declared.forms.Form.TheVariants.{Plain}
+use Rattle.ms_top.proofs.Answering.{formed}
+use Rattle.ms_top_tests.proofs.site_lines.agrees.Goals as goal
+
+pub are_printed-requires : goal.are_printed-requires
+are_printed-requires c = formed Plain c.args.text.now c.read.result c.in-Ok.m (λ i. omega (arith, c.type_inv.text i))
+    (record { «module» = c.read.ensures.«module»; lex = c.read.ensures.lex; refused = c.read.ensures.refused; wanting = c.read.ensures.wanting }) c.in-Ok.is

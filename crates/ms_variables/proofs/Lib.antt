@@ -1,0 +1,5 @@
+pub mod Spelled
+pub mod LastSpelled
+pub mod Functions
+pub mod Noting
+pub mod Tables

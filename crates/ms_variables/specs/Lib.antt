@@ -1,0 +1,5 @@
+pub mod Choices
+pub mod MarkedTexts
+pub mod Variables
+pub mod Noted
+pub mod Views
