@@ -7,7 +7,7 @@
 # - runs a small program for each row of MANUAL's two tables of refusals, and for some flags of its command; and commands that
 #   are wrong
 # - looks for each path, file, crate, function and clause that the documents name
-# - counts words: README.md, CONTRIBUTING.md and docs together have at most 12000
+# - counts words: all documents together have at most 12000
 #
 # Usage: documents.sh [PROGRAM], by default crates/msan/out/msan as `rt ci` builds it. The status is 1 if anything is wrong.
 # Needs python3, awk, and clang and llvm-link of release 19, or of $RELEASE. Outside the gate.
@@ -28,7 +28,9 @@ import glob, os, re, subprocess, sys
 
 top, work = sys.argv[1:3]
 TRANSCRIPTS = ["README.md", "docs/MANUAL.md"]
-NAMING = ["README.md", "CONTRIBUTING.md", "docs/MANUAL.md", "docs/PROVED.md", "docs/MAP.md", "docs/DEFINITIONS.md"]
+DOCUMENTS = ["*.md", "docs/*.md", "examples/*.md"]
+NAMING = ["README.md", "CONTRIBUTING.md", "docs/MANUAL.md", "docs/PROVED.md", "docs/MAP.md", "docs/DEFINITIONS.md", "docs/MEASUREMENTS.md",
+          "examples/README.md"]
 MOST_WORDS = 12000
 FENCE = re.compile(r"^```\n(.*?)^```$", re.M | re.S)
 faults = []
@@ -97,7 +99,8 @@ def check_command(document, command, folder):
 def check_commands(document):
     folder = f"{work}/{os.path.basename(document)}.folder"
     os.mkdir(folder)
-    os.symlink(f"{top}/examples", f"{folder}/examples")
+    for name in "examples", "library":
+        os.symlink(f"{top}/{name}", f"{folder}/{name}")
     count = 0
     for block in FENCE.findall(read(document)):
         if block.startswith("$ "):
@@ -178,6 +181,8 @@ TEXTS = {
     "": "13: no main",
     "declare void @f()\n" + MAIN % "call void @f()\n  ret i32 0": "14: external @f",
     MAIN % "br i1 0, label %1, label %2\n1:\n  %x = add i32 1, 2\n  br label %2\n2:\n  ret i32 %x": "15: undefined at site 4, path 0 2",
+    MAIN % "%1 = add <2 x i32> zeroinitializer, zeroinitializer": "4: syntax",
+    MAIN % "%1 = freeze <2 x i32> zeroinitializer": "5: outside aggregate value",
     "@g = global [67108865 x i8] zeroinitializer\n" + MAIN % "ret i32 0": "17: size of @g",
 }
 OTHERS = [(MAIN % "ret i32 undef", "end: exit 2779096485\n")]
@@ -321,7 +326,7 @@ def exists(path, files, shown):
 def check_names(document, files, shown):
     prose = FENCE.sub("", read(document))
     words = {word.rstrip("./") for word in re.findall(r"(?<![\w/.@%$-])[\w*][\w*./-]*", prose)}
-    paths = {word for word in words if re.search(r"\.(?:md|sh|rt|antt|ll|txt|edit)$", word) or re.match(r"(?:crates|docs|bench|examples|ms_\w+)/", word)}
+    paths = {word for word in words if re.search(r"\.(?:md|sh|py|c|rt|antt|ll|txt|edit)$", word) or re.match(r"(?:crates|docs|bench|examples|library|ms_\w+)/", word)}
     crates = set(re.findall(r"(?<![\w/%@:.])ms_\w+\*?", prose))
     for path in sorted(paths):
         if not exists(path, files, shown):
@@ -337,11 +342,10 @@ def check_names(document, files, shown):
 
 def count_words():
     total = 0
-    for document in ["README.md", "CONTRIBUTING.md"] + sorted(glob.glob("docs/*.md", root_dir=top)):
-        if os.path.exists(os.path.join(top, document)):
-            words = len(read(document).split())
-            total += words
-            print(f"{words:6} {document}")
+    for document in sorted(name for names in DOCUMENTS for name in glob.glob(names, root_dir=top)):
+        words = len(read(document).split())
+        total += words
+        print(f"{words:6} {document}")
     print(f"{total:6} words, of at most {MOST_WORDS}")
     if total > MOST_WORDS:
         fault("documents", f"{total} words")
