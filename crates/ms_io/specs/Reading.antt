@@ -1,5 +1,5 @@
 -- What reading a whole file answers. The held files are `None` where an implementation doesn't tell them.
-use Rattle.std.specs.Prelude.{◌≡◌, ℕ, ◌+◌, ◌<◌, ◌≤◌, List, length, Option, Some, None, Result, Ok, Err}
+use Rattle.std.specs.Prelude.{◌≡◌, ℕ, ◌+◌, ◌<◌, ◌≤◌, ◌^◌, List, All, length, Option, Some, None, Result, Ok, Err}
 use Rattle.ms_io.specs.declared.traits.FileError.{FileError}
 use Rattle.ms_io.specs.declared.traits.FileError.TheVariants.{Failed, Absent, TooLong, NoMemory}
 use Rattle.ms_io.specs.Counts.{Rose, RoseBy}
@@ -8,10 +8,10 @@ use Rattle.ms_io.specs.Counts.{Rose, RoseBy}
 abbrev pub Holdings : Type 0
 Holdings = List ℕ → Option (List ℕ)
 
--- these bytes are the whole file of this name, where files are told; they are never more than the limit
+-- these are bytes, no more than the limit, and the whole file of this name where files are told
 abbrev pub IsWholeFile : Option Holdings → List ℕ → ℕ → List ℕ → Type 0
-IsWholeFile None name limit bytes = length bytes ≤ limit
-IsWholeFile (Some files) name limit bytes = (files name ≡ Some bytes) × (length bytes ≤ limit)
+IsWholeFile None name limit bytes = (length bytes ≤ limit) × All (λ b. b < 2 ^ 8) bytes
+IsWholeFile (Some files) name limit bytes = (files name ≡ Some bytes) × (length bytes ≤ limit) × All (λ b. b < 2 ^ 8) bytes
 
 -- no file of this name is held; where files aren't told, a fault was counted
 abbrev pub IsAbsent : Option Holdings → List ℕ → ℕ → ℕ → Type 0

@@ -1,5 +1,5 @@
 //! Files in memory: those that fail where a test wants it, and those that never fail.
-ghost use Rattle.std.specs.Prelude.{◌≡◌, ◌+◌, ◌^◌, ◌<◌, ◌≤◌, ◌↔◌, min, length, Contains, Option, Some, None, IfOk};
+ghost use Rattle.std.specs.Prelude.{◌≡◌, ◌+◌, ◌^◌, ◌<◌, ◌≤◌, ◌↔◌, All, min, length, Contains, Option, Some, None, IfOk};
 ghost use Rattle.ms_io.specs.Counts.{last_count, Rose, RoseBy};
 ghost use Rattle.ms_io.specs.Named.{files_of};
 ghost use Rattle.ms_io.specs.Reading.{IsWholeFile, IsAbsent, IsTooLong, IsFaultless, IfFailed, UnlessFailed, IfAbsent, IfTooLong};
@@ -12,6 +12,7 @@ use std::collections::BTreeMap;
 fn copy_within(alloc: Global, bytes: &[u8], limit: u64) -> Result<Vec<u8>, FileError>
     requires { limit < 2 ^ 32 }
     ensures whole { IfOk result (λ copy. (copy.items ≡ bytes.now) × (length bytes.now ≤ limit)) }
+    ensures bytes { All (λ b. b < 2 ^ 8) bytes.now }
     ensures not_failed { IfFailed result ⊥ }
     ensures not_absent { IfAbsent result ⊥ }
     ensures too_long { IfTooLong result (λ n. (n ≡ limit + 1) × (limit < length bytes.now)) }

@@ -1,8 +1,8 @@
 //! Files of the file system, and sinks over a writer of std: the trusted edge.
-ghost use Rattle.std.specs.Prelude.{◌≡◌, ◌+◌, ◌^◌, ◌<◌, ◌≤◌, length, Option, None, IsTrue, IfOk, OnOk, OnErr};
+ghost use Rattle.std.specs.Prelude.{◌≡◌, ◌+◌, ◌^◌, ◌<◌, ◌≤◌, All, length, Option, None, IsTrue, IfOk, OnOk, OnErr};
 ghost use Rattle.std.specs.Io.KnownBytes.{Appends};
 ghost use Rattle.ms_io.specs.Counts.{last_count, Rose, RoseBy};
-ghost use Rattle.ms_io.specs.Reading.{IsAbsent, IsFaultless, IfFailed, UnlessFailed, IfAbsent, IfTooLong};
+ghost use Rattle.ms_io.specs.Reading.{IsWholeFile, IsAbsent, IsFaultless, IfFailed, UnlessFailed, IfAbsent, IfTooLong};
 
 use crate::{FileError, Files, Sink, SinkFailed};
 use std::alloc::Global;
@@ -58,6 +58,13 @@ fn append_chunk<F: Read>(
     }
 }
 
+/// A law: what is read is bytes.
+fn in_range(bytes: &[u8])
+    ensures { All (λ b. b < 2 ^ 8) bytes.now }
+{
+    let _count = bytes.len();
+}
+
 /// Reads to the end of the file, or until more than `limit` bytes were taken.
 fn read_to_end<F: Read>(
     alloc: Global,
@@ -67,6 +74,7 @@ fn read_to_end<F: Read>(
 ) -> Result<Vec<u8>, FileError>
     requires { limit < 2 ^ 32 }
     ensures whole { IfOk result (λ bytes. length bytes.items ≤ limit) }
+    ensures bytes { IfOk result (λ bytes. All (λ b. b < 2 ^ 8) bytes.items) }
     ensures whole_taken { IfOk result (λ bytes. RoseBy (length bytes.items) counters.old.taken counters.new.taken) }
     ensures failed { IfFailed result (Rose counters.old.faults counters.new.faults) }
     ensures faultless { UnlessFailed result (counters.new.faults ≡ counters.old.faults) }
@@ -85,7 +93,10 @@ fn read_to_end<F: Read>(
     while bytes.len() as u64 <= limit {
         let most = limit + 1 - bytes.len() as u64;
         match append_chunk(file, &mut chunk, most, &mut bytes, counters) {
-            Ok(0) => return Ok(bytes),
+            Ok(0) => {
+                in_range(&bytes);
+                return Ok(bytes);
+            }
             Ok(_) => {}
             Err(error) => return Err(error),
         }
@@ -133,7 +144,7 @@ impl<R: rt::Files> Files for RealFiles<'_, R> {
     fn read_whole(&mut self, alloc: Global, name: &str, limit: u64) -> Result<Vec<u8>, FileError>
         requires { limit < 2 ^ 32 }
 
-        ensures whole { IfOk result (λ bytes. length bytes.items ≤ limit) }
+        ensures whole { IfOk result (λ bytes. IsWholeFile None name.now limit bytes.items) }
         ensures whole_taken { IfOk result (λ bytes. RoseBy (length bytes.items) (taken_by self.old) (taken_by self.new)) }
         ensures failed { IfFailed result (Rose (faults_of self.old) (faults_of self.new)) }
         ensures absent { IfAbsent result (IsAbsent None name.now (faults_of self.old) (faults_of self.new)) }

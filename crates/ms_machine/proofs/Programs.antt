@@ -9,10 +9,12 @@ use Rattle.ms_valid.specs.Valid.{Valid}
 use Rattle.ms_code_data.specs.declared.code.Program.{Program}
 use Rattle.ms_code_data.specs.declared.code.Routine.{Routine}
 use Rattle.ms_code_data.specs.Compiled.{Compiled}
+use Rattle.ms_host.specs.declared.calls.Asked.{Asked}
 use Rattle.ms_host.specs.State.{WorldState, Beside}
 use Rattle.ms_machine_steps.specs.declared.frames.Frame.{Frame as Kept}
 use Rattle.ms_machine_steps.specs.declared.fibers.Fiber.{Fiber}
 use Rattle.ms_machine_steps.specs.Standing.{Stands, FramesStand, frames_of, IsState, Standing}
+use Rattle.ms_machine_steps.specs.Advances.{HasResumed}
 use Rattle.ms_machine_steps.specs.Waiting.{IsWaiting}
 use Rattle.ms_machine.specs.Running.{StandsFor, AllStandFor, IsRunning, Runs, WaitsFor}
 
@@ -73,6 +75,11 @@ module _ (m : Module) (p : Program) (compiled : Compiled m p) where
     fill = s.fill;
     sound = s.sound;
   }
+
+  -- a run that goes on after an answer does so whatever program it is
+  pub resumed_from : (u : Setup) (beside : Beside) (call : Asked) (within : PlainState) (fiber : Fiber) (w : WorldState) → HasResumed (IsState m p u beside) m u call within fiber w
+      → HasResumed (IsRunning m u beside) m u call within fiber w
+  resumed_from u beside call within fiber w h = record { next = h.next; goes = h.goes; stands = state_from u beside fiber w h.next h.stands }
 
   -- a fiber and a world that run stand for some state of the program
   pub standing_to : Formed m → Valid m → (fiber : Fiber) (w : WorldState) → Runs m fiber w → Standing p fiber w

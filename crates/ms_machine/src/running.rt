@@ -2,12 +2,14 @@
 ghost use Rattle.std.specs.Prelude.{◌≡◌, ◌≤◌, ◌<◌, ◌+◌, ◌*◌, ◌^◌, ◌∷◌, ℕ, List, IfOk};
 ghost use Rattle.ms_runs.specs.declared.runs.Setup.{Setup};
 ghost use Rattle.ms_runs.specs.Control.{Frame as FrameOf};
-ghost use Rattle.ms_runs.specs.Plain.{PlainState};
+ghost use Rattle.ms_runs.specs.Plain.{PlainState, setting_of};
 ghost use Rattle.ms_host.specs.declared.calls.HostCall.{HostCall as CallOf};
-ghost use Rattle.ms_host.specs.State.{Beside, KeepsGiven};
+ghost use Rattle.ms_host.specs.declared.calls.Answer.TheVariants.{Resumed};
+ghost use Rattle.ms_host.specs.Answers.{Answered, asked_effect};
+ghost use Rattle.ms_host.specs.State.{Beside, KeepsGiven, WorldState};
 ghost use Rattle.ms_machine_steps.specs.Standing.{frames_of};
-ghost use Rattle.ms_machine_steps.specs.Waiting.{Waits, answered};
-ghost use Rattle.ms_machine_steps.specs.Advances.{Advanced};
+ghost use Rattle.ms_machine_steps.specs.Waiting.{FirstWaits, Waits, answered, types_due};
+ghost use Rattle.ms_machine_steps.specs.Advances.{Advanced, HasResumed};
 ghost use Rattle.ms_machine.specs.Running.{AllStandFor, IsRunning, Runs, WaitsFor};
 
 use ms_bits::NoMemory;
@@ -39,11 +41,18 @@ pub fn advance(
     steps::advance(alloc, m.program(), fiber, world, budget)
 }
 
-/// Goes on behind the call at which a fiber waits, with its answer where it has one. Takes no memory.
+/// Goes on after the call at which a fiber waits, with the answer's value where it has one. Takes no memory.
+///
+/// The run continues the step in which the call was asked for: where the world afterwards holds what the call does, the fiber
+/// stands for the state after it. An external has then ended the step, and a function of the runtime stays within it.
 pub fn resume(m: &CheckedModule, fiber: &mut Fiber, value: Option<u64>)
     requires { WaitsFor m.now fiber.old }
     ensures at { fiber.new.frame.at ≡ fiber.old.frame.at + 1 }
     ensures stands { (u : Setup) (frame : FrameOf ℕ) (below : List (FrameOf ℕ)) (call : CallOf) → AllStandFor m.now (frames_of fiber.old) (frame ∷ below) → Waits m.now u frame call → AllStandFor m.now (frames_of fiber.new) (answered m.now value frame ∷ below) }
+    ensures continues { (u : Setup) (beside later : Beside) (before after : WorldState) (state : PlainState) (call : CallOf) → IsRunning m.now u beside fiber.old before state → FirstWaits m.now u state.frames call
+        → Answered later (asked_effect (setting_of m.now u) (types_due m.now state.frames) call state.world) (Resumed value) after → after.fill ≡ before.fill → after.slots ≡ before.slots
+        → HasResumed (IsRunning m.now u later) m.now u call.asked state fiber.new after }
 {
+    m.is_valid();
     steps::resume(m.program(), fiber, value);
 }

@@ -2,13 +2,14 @@
 ghost use Rattle.std.specs.Prelude.{◌≡◌, IfOk};
 ghost use Rattle.ms_ir.specs.Code.{strip};
 ghost use Rattle.ms_runs.specs.declared.runs.Setup.{Setup as SetupOf};
-ghost use Rattle.ms_runs.specs.Faithful.{Fair, Faithful};
+ghost use Rattle.ms_runs.specs.Faithful.{Fair, Faithful, Undisturbed};
 ghost use Rattle.ms_runs.specs.Plain.{plain};
 ghost use Rattle.ms_valid.specs.Formed.{Formed};
 ghost use Rattle.ms_valid.specs.Uninstrumented.{CanInstrument};
 ghost use Rattle.ms_valid.specs.Valid.{Valid};
 ghost use Rattle.ms_runs_good.specs.Fills.{InsertedUnderFills};
 ghost use Rattle.ms_two_fills.specs.Checked.{HoldsUnderFills};
+ghost use Rattle.ms_two_fills.specs.Chosen.{HoldsUnderChoices};
 ghost use Rattle.ms_elision_laws.specs.Elided.{IsElided, ChecksUnclean};
 ghost use Rattle.ms_pass.specs.Passed.{IsMadeOf};
 
@@ -25,7 +26,8 @@ use std::thread::Threads;
 /// the answer is the shadow run of the module with every fair setup, and without what is inserted it is the module itself.
 /// Nothing is computed of values that are clean in every run, and they aren't checked.
 /// Where its run up to the first report counts no blind use, it is the same under every fill, and what a run says with a
-/// clean verdict the module itself prints under every fill. The answer is formed and valid, and isn't compiled: it is for
+/// clean verdict the module itself prints under every fill, also where each step has a fill of its own. The output of a run is
+/// a beginning of the module's own. The answer is formed and valid, and isn't compiled: it is for
 /// being written.
 ///
 /// The functions are made in pieces of at most eight, by several threads where there are more. Each piece enters the gate with
@@ -47,6 +49,8 @@ pub fn instrumented<R: Threads + Sync, G: Gate + Sync>(
     ensures valid { IfOk result (λ j. Valid j) }
     ensures under_fills { IfOk result (λ j. (setup : SetupOf) → Fair setup → InsertedUnderFills j setup) }
     ensures holds { IfOk result (λ j. (setup : SetupOf) → Fair setup → HoldsUnderFills m.now setup (plain j setup)) }
+    ensures choices { IfOk result (λ j. (setup : SetupOf) → Fair setup → HoldsUnderChoices m.now setup (plain j setup)) }
+    ensures undisturbed { IfOk result (λ j. (setup : SetupOf) → Fair setup → Undisturbed (plain j setup) (plain m.now setup)) }
     ensures pieces { IfOk result (λ j. IsMadeOf m.now j) }
 {
     m.is_valid();
@@ -69,6 +73,8 @@ pub fn instrument<R: Threads + Sync, G: Gate + Sync>(
     ensures stripped { IfOk result (λ j. strip j ≡ m.now) }
     ensures under_fills { IfOk result (λ j. (setup : SetupOf) → Fair setup → InsertedUnderFills j setup) }
     ensures holds { IfOk result (λ j. (setup : SetupOf) → Fair setup → HoldsUnderFills m.now setup (plain j setup)) }
+    ensures choices { IfOk result (λ j. (setup : SetupOf) → Fair setup → HoldsUnderChoices m.now setup (plain j setup)) }
+    ensures undisturbed { IfOk result (λ j. (setup : SetupOf) → Fair setup → Undisturbed (plain j setup) (plain m.now setup)) }
     ensures pieces { IfOk result (λ j. IsMadeOf m.now j) }
 {
     let module = instrumented(rt, alloc, m, gate)?;

@@ -1,9 +1,11 @@
 pub mod Added
+pub mod Answered
 pub mod Appending
 pub mod Answering
 pub mod Faithful
 pub mod Ok
 pub mod Placing
+pub mod Promised
 pub mod OneAnswer
 pub mod Questions
 pub mod Reading

@@ -117,7 +117,7 @@ one_answer command inputs text a b p q = of_text command inputs text a b p q
 
 module _ (c : Counted) (files : Holdings) (told : c.told ≡ Some files) (steady : Rose c.faults c.faults_after → ⊥) where
   is_whole : (name : List ℕ) (limit : ℕ) (text : List ℕ) → IsWholeFile c.told name limit text → (files name ≡ Some text) × (length text ≤ limit)
-  is_whole name limit text h = subst (λ t. IsWholeFile t name limit text) told h
+  is_whole name limit text h = let whole = subst (λ t. IsWholeFile t name limit text) told h in (whole.0, whole.1)
 
   is_absent : (name : List ℕ) → IsAtFault c name → files name ≡ None
   is_absent name (inl h) = subst (λ t. IsAbsent t name c.faults c.faults_after) told h
@@ -133,7 +133,7 @@ module _ (c : Counted) (files : Holdings) (told : c.told ≡ Some files) (steady
       let e : length text ≡ length l.0 = ap length (same_Some text l.0 (sym w.0 ∙ l.1)) in
       omega (arith, e, w.1, l.2)
 
-  one_read : (fs : List (List ℕ × ℕ)) (r s : FilesRead) → CanRead c fs r → CanRead c fs s → r ≡ s
+  pub one_read : (fs : List (List ℕ × ℕ)) (r s : FilesRead) → CanRead c fs r → CanRead c fs s → r ≡ s
   one_read [] r s p q = p ∙ sym q
   one_read ((name, limit) ∷ rest) r s (inl (f, p)) (inl (g, q)) = p ∙ sym q
   one_read ((name, limit) ∷ rest) r s (inl (f, p)) (inr (inl (long, q))) = let l = is_long name limit long in absurd (none-some l.0 (sym (is_absent name f) ∙ l.1))

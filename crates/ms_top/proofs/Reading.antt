@@ -183,7 +183,7 @@ one_behind held faults taken faults_now taken_now faults_next taken_next texts n
     (before faults_after taken_after (behind text r) (inr (inr (text, whole, r, can_read_earlier now next earlier (input_files left) r can, refl))))
 
 whole_is_short : (held : Option Holdings) (name text : List ℕ) → IsWholeFile held name input_limit text → length text ≤ input_limit
-whole_is_short None name text whole = whole
+whole_is_short None name text whole = whole.0
 whole_is_short (Some files) name text whole = whole.1
 
 pub short_next : (held : Option Holdings) (name text bytes : List ℕ) (texts more : List (List ℕ)) → IsWholeFile held name input_limit bytes → text ≡ bytes → more ≡ texts ++ text ∷ [] → AreShort texts → AreShort more

@@ -1,8 +1,10 @@
 pub mod Added
+pub mod Answered
 pub mod Command
 pub mod Files
 pub mod Lines
 pub mod Instrumented
 pub mod Said
 pub mod Parts
+pub mod Promised
 pub mod Unread

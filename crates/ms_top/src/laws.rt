@@ -14,9 +14,9 @@ ghost use Rattle.ms_text_laws.specs.Fits.{FitsText};
 ghost use Rattle.ms_elision_laws.specs.Elided.{IsElided};
 ghost use Rattle.ms_top.specs.declared.answers.Answer.{Answer};
 ghost use Rattle.ms_words.specs.declared.commands.Command.{Command};
-ghost use Rattle.ms_words.specs.declared.commands.Command.TheVariants.{Instrument, Run, Check, Corpus, Help, Version};
+ghost use Rattle.ms_words.specs.declared.commands.Command.TheVariants.{Instrument, Run, Check, Corpus, Gen, Help, Version};
 ghost use Rattle.ms_words.specs.declared.commands.Options.{Options};
-ghost use Rattle.ms_words.specs.Limits.{RunsWithinLimits};
+ghost use Rattle.ms_words.specs.Limits.{RunsWithinLimits, IsWithinLimits};
 ghost use Rattle.ms_words.specs.Reading.{same};
 ghost use Rattle.ms_words.specs.Table.{commands, command_word, topics};
 ghost use Rattle.ms_words.specs.Usage.{usage, version_line};
@@ -28,9 +28,15 @@ ghost use Rattle.ms_report.specs.RunTexts.{closing_of};
 ghost use Rattle.ms_report.specs.WithLines.{Lines, no_lines};
 ghost use Rattle.ms_report.specs.WordsTexts.{words_text};
 ghost use Rattle.ms_valid.specs.Refusals.{Fault};
+ghost use Rattle.ms_gen.specs.Generator.{generated};
+ghost use Rattle.ms_grammar.specs.Texts.{Reads};
+ghost use Rattle.ms_ir.specs.declared.forms.Form.TheVariants.{Plain};
+ghost use Rattle.ms_valid.specs.Valid.{Valid};
+ghost use Rattle.ms_top.specs.Answered.{AreHeld, IsDoneStatus, Begins};
 ghost use Rattle.ms_top.specs.Added.{with_locations, without_lines, CorpusAdds};
-ghost use Rattle.ms_top.specs.Command.{input_limit, only_input, setup_of};
-ghost use Rattle.ms_top.specs.Files.{Counted};
+ghost use Rattle.ms_top.specs.Command.{files_of, form_of, input_limit, only_input, setup_of};
+ghost use Rattle.ms_top.specs.Files.{Counted, CanRead, Whole};
+ghost use Rattle.ms_top.specs.Promised.{NothingRan, ShadowShown};
 ghost use Rattle.ms_top.specs.Instrumented.{IsInstrumented};
 ghost use Rattle.ms_top.specs.Lines.{AreLines, fault_text_with};
 ghost use Rattle.ms_top.specs.Said.{IsAnswer, IsAnswerToCommand, IsAnswerOfGen, IsAnswerToText, IsAnswerToValid, DifferInPath, answer_of, answer_of_result, answer_of_results, run_text, says, status_of, summary_of};
@@ -103,4 +109,47 @@ pub fn lines_are_added()
     ensures faults { (command : Command) (text : List ℕ) (m : Module) (under : Lines) (fault : Fault) → AreLines command text m under → unindented (fault_text_with under fault) ≡ fault_text fault }
     ensures none_in_runs { (verdict : Bool) (m : Module) (r : RunResult) → run_text no_lines verdict m r ≡ report_text_of m r ++ closing_of m r verdict }
     ensures none_in_faults { (fault : Fault) → fault_text_with no_lines fault ≡ fault_text fault }
+{}
+
+/// A valid module is never refused: where a text reads as a valid module, what is to be said of it is an answer for that module.
+/// So it is for words that are a command, where the files are told and hold the texts within their limits, and no fault of
+/// theirs was counted. The status of such an answer is one of four; only `msan` itself may say instead that memory ran out. What is
+/// generated has no file.
+pub fn valid_modules_are_answered()
+    ensures text { (command : Command) (inputs : List (List ℕ)) (text : List ℕ) (m : Module) (a : Answer) → Reads (form_of command) text m → Valid m
+        → IsAnswerToText IsInstrumented command inputs text a
+        → (under : Lines) × AreLines command text m under × IsAnswerToValid IsInstrumented under command inputs m a }
+    ensures words { (c : Counted) (files : Holdings) (words : List (List ℕ)) (command : Command) (text : List ℕ) (inputs : List (List ℕ)) (m : Module) (a : Answer)
+        → c.told ≡ Some files → (Rose c.faults c.faults_after → ⊥) → command_of words ≡ Ok command → AreHeld files (files_of command) (text ∷ inputs)
+        → Reads (form_of command) text m → Valid m → IsAnswer IsInstrumented c words a
+        → (under : Lines) × AreLines command text m under × IsAnswerToValid IsInstrumented under command inputs m a }
+    ensures generated { (c : Counted) (words : List (List ℕ)) (seed functions : ℕ) (run : Bool) (a : Answer) → command_of words ≡ Ok (Gen seed functions run)
+        → IsAnswer IsInstrumented c words a → IsAnswerOfGen IsInstrumented run (generated seed functions) a }
+    ensures status { (under : Lines) (command : Command) (inputs : List (List ℕ)) (m : Module) (a : Answer) → IsAnswerToValid IsInstrumented under command inputs m a → IsDoneStatus a.status }
+{}
+
+/// The output of `check` on a module is a beginning of the output of `run` on it, with the same options and input, where the setup
+/// is fair; unless the checked run ends as reported, both print the same and end in the same way. The same holds of one text that
+/// both read.
+pub fn checks_begin_runs()
+    ensures valid { (under below : Lines) (file name : List ℕ) (inputs : List (List ℕ)) (o : Options) (m : Module) (a b : Answer) → Fair (setup_of o (only_input inputs))
+        → IsAnswerToValid IsInstrumented under (Check file o) inputs m a → IsAnswerToValid IsInstrumented below (Run name o) inputs m b → Begins m a b }
+    ensures text { (file name : List ℕ) (inputs : List (List ℕ)) (o : Options) (text : List ℕ) (m : Module) (a b : Answer) → Fair (setup_of o (only_input inputs))
+        → Reads Plain text m → Valid m → IsAnswerToText IsInstrumented (Check file o) inputs text a → IsAnswerToText IsInstrumented (Run name o) inputs text b → Begins m a b }
+{}
+
+/// What is read is bytes, whether the files tell what they hold or not, and the fields of a command that words ask for are within
+/// their limits. So of any words that ask for a check what is to be said is this, with no premise on files: nothing was run, since a
+/// file couldn't be read or was too long, or since the text that was read isn't a valid module's; or a text was read as a valid
+/// module, and the answer is its shadow run with a fair setup. Then a clean verdict and a first report hold under every fill, and a
+/// clean verdict where each step has a fill of its own.
+pub fn checks_hold()
+    ensures words { (c : Counted) (words : List (List ℕ)) (file : List ℕ) (o : Options) (a : Answer) → command_of words ≡ Ok (Check file o)
+        → IsAnswer IsInstrumented c words a → NothingRan c (files_of (Check file o)) a ⊎ ShadowShown c file o a }
+    ensures commands { (c : Counted) (file : List ℕ) (o : Options) (a : Answer) → RunsWithinLimits o
+        → IsAnswerToCommand IsInstrumented c (Check file o) a → NothingRan c (files_of (Check file o)) a ⊎ ShadowShown c file o a }
+    ensures fair { (c : Counted) (file : List ℕ) (o : Options) (text : List ℕ) (inputs : List (List ℕ)) → RunsWithinLimits o
+        → CanRead c (files_of (Check file o)) (Whole (text ∷ inputs)) → Fair (setup_of o (only_input inputs)) }
+    ensures bytes { (c : Counted) (files : List (List ℕ × ℕ)) (texts : List (List ℕ)) → CanRead c files (Whole texts) → All (λ text. All (λ b. b < 2 ^ 8) text) texts }
+    ensures limits { (words : List (List ℕ)) (command : Command) → command_of words ≡ Ok command → IsWithinLimits command }
 {}

@@ -34,7 +34,7 @@ use Rattle.ms_two_fills.proofs.LimitFree.{act_free}
 use Rattle.ms_two_fills.proofs.Runs.{KeptOutcome, GrownOutcome, act_moves_kept, after_grown, frames_grown, run_blind}
 
 -- the world of an effect
-abbrev effect_world : Effect → World
+abbrev pub effect_world : Effect → World
 effect_world (Gives v w) = w
 effect_world (Does w) = w
 effect_world (Goes to w) = w
@@ -213,12 +213,12 @@ module _ (s : Setting) where
         ∙ moves_free h.site i.result ps (poisoned_result by_formulas i.op ps) (planes s h.site (h.root + count_undefs (operands i.op) + 1) i.op ps w) fr below (act s h i.op (map (λ p. p.value) ps) w)
 
     -- the world of an outcome
-    abbrev outcome_world : Outcome Poisoned → World
+    abbrev pub outcome_world : Outcome Poisoned → World
     outcome_world (On fs w) = w
     outcome_world (Over e w) = w
 
     -- two after_effect are one and have no report, or the first run ends
-    abbrev MovedFirst : World → Outcome Poisoned → Outcome Poisoned → Type 0
+    abbrev pub MovedFirst : World → Outcome Poisoned → Outcome Poisoned → Type 0
     MovedFirst w x y = ((x ≡ y) × ((outcome_world y).reports ≡ [])) ⊎ ((u : World) × (x ≡ Over «end».Reported u) × Found w u (outcome_world y))
 
     kept_reports : (w : World) (x : Outcome Poisoned) → KeptOutcome w x → (outcome_world x).reports ≡ w.reports
@@ -277,7 +277,7 @@ module _ (s : Setting) where
         (after_first i (here s m fr) (read_all (read_poisoned s fr.values) (operands i.op) (here s m fr).root) fr below w none _ _
         (uses_first w none (here s m fr).site (operands i.op) (read_all (read_poisoned s fr.values) (operands i.op) (here s m fr).root) (uses s.func (here s m fr).main i.op)))
 
-    frames_first : (fs : List (Frame Poisoned)) (w : World) → w.reports ≡ [] → MovedFirst w (shadow_frames by_formulas first_only m fs w) (shadow_frames by_formulas s m fs w)
+    pub frames_first : (fs : List (Frame Poisoned)) (w : World) → w.reports ≡ [] → MovedFirst w (shadow_frames by_formulas first_only m fs w) (shadow_frames by_formulas s m fs w)
     frames_first [] w none = inl (refl, none)
     frames_first (fr ∷ below) w none = rest_first (rest_of m fr) fr below w none
 

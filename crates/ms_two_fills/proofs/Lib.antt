@@ -2,7 +2,9 @@ pub mod Addresses
 pub mod Answers
 pub mod Blocks
 pub mod Calls
+pub mod Certain
 pub mod Checks
+pub mod Chosen
 pub mod Externals
 pub mod FirstReport
 pub mod Formats

@@ -42,7 +42,7 @@ GrownOutcome w (On fs u) = Grows w u
 GrownOutcome w (Over e u) = Grows w u
 
 -- the number of blind uses of an outcome
-abbrev outcome_blind : Outcome Poisoned → ℕ
+abbrev pub outcome_blind : Outcome Poisoned → ℕ
 outcome_blind (On fs u) = u.blind
 outcome_blind (Over e u) = u.blind
 
@@ -147,7 +147,7 @@ module _ (s : Setting) (m : Module) where
   frames_quiet (fr ∷ below) w z = first_quiet (rest_of m fr) fr below w z
 
   -- the number of blind uses after a step
-  abbrev stepped_blind : Stepped ShadowState → ℕ
+  abbrev pub stepped_blind : Stepped ShadowState → ℕ
   stepped_blind (More c) = c.world.blind
   stepped_blind (Stop e w) = w.blind
 
@@ -159,7 +159,7 @@ module _ (s : Setting) (m : Module) where
   grown_blind w (On fs u) g = g.blind
   grown_blind w (Over e u) g = g.blind
 
-  step_blind : (c : ShadowState) → c.world.blind ≤ stepped_blind (shadow_step by_formulas s m c)
+  pub step_blind : (c : ShadowState) → c.world.blind ≤ stepped_blind (shadow_step by_formulas s m c)
   step_blind c = omega (arith, moved_same (shadow_frames by_formulas s m c.frames c.world), grown_blind c.world (shadow_frames by_formulas s m c.frames c.world) (frames_grown c.frames c.world))
 
   pub step_quiet : (c : ShadowState) → CountsNone c (shadow_step by_formulas s m c) → TopQuiet s m c.frames c.world
@@ -188,7 +188,7 @@ module _ (s : Setting) (m : Module) where
 
 -- ---- the runs
 
-result_same : (e : End) (w v : World) → LowWorld w v → result e w ≡ result e v
+pub result_same : (e : End) (w v : World) → LowWorld w v → result e w ≡ result e v
 result_same e w v h = λ i. record { output = h.output i; «end» = e; reports = h.reports i; blind = h.blind i }
 
 -- what every state of a run has: it is kept by steps under both fills

@@ -36,7 +36,7 @@ use Rattle.ms_two_fills.specs.Checked.{HoldsUnderFills}
 use Rattle.std.specs.Prelude.{take}
 
 -- the masks that are said by completions are computed by formulas
-computed : (m : Module) (setup : Setup) → shadow m setup ≡ shadow_by by_formulas m setup
+pub computed : (m : Module) (setup : Setup) → shadow m setup ≡ shadow_by by_formulas m setup
 computed m setup = same_shadow formulas_exact m setup
 
 pub start_alike : (m : Module) (setup : Setup) (fill : List ℕ) → LowEqual (shadow_start m setup) (shadow_start m (refilled setup fill))
@@ -123,7 +123,7 @@ first_of m setup =
     (subst (λ r. FirstOf (shadow_by by_formulas m (to_first_report setup)) r) (sym (computed m setup))
     (runs_first (setting_of m setup) m setup.steps (shadow_start m setup) (globals_kept m.types (address_of m) m.globals _).reports))
 
-quiet_first : (r q : RunResult) → FirstOf r q → q.blind ≡ 0 → r.blind ≡ 0
+pub quiet_first : (r q : RunResult) → FirstOf r q → q.blind ≡ 0 → r.blind ≡ 0
 quiet_first r q (inl h) z = ap (λ k. k.blind) h.0 ∙ z
 quiet_first r q (inr h) z = omega (arith, h.blind, z)
 
@@ -144,18 +144,22 @@ module _ (m : Module) (formed : Formed m) (valid : Valid m) (bare : NoMarks m) (
       by_first (inl h) = ap (λ r. r.reports) h.0 ∙ none
       by_first (inr h) = absurd (omega (arith, ap length (sym none ∙ h.more)))
 
-  -- the first report of a run without blind use is the report under every fill
-  pub first_reported : (report : Report) (rest : List Report) → (shadow m setup).reports ≡ report ∷ rest → (fill : List ℕ) → IsFill fill → (shadow m (refilled (to_first_report setup) fill)).reports ≡ report ∷ []
-  first_reported report rest some fill is = ap (λ r. r.reports) ((same_fills m formed valid bare setup bytes quiet_one).reported fill is) ∙ by_first (first_of m setup)
+  -- it is the report of the run that ends there
+  first_alone : (report : Report) (rest : List Report) → (shadow m setup).reports ≡ report ∷ rest → (shadow m (to_first_report setup)).reports ≡ report ∷ []
+  first_alone report rest some = by_first (first_of m setup)
     where
       by_first : FirstOf (shadow m (to_first_report setup)) (shadow m setup) → (shadow m (to_first_report setup)).reports ≡ report ∷ []
       by_first (inl h) = absurd (omega (arith, ap length (sym h.1 ∙ some)))
       by_first (inr h) = h.one ∙ ap (λ l. take 1 l) (sym h.more ∙ some)
 
+  -- the first report of a run without blind use is the report under every fill
+  pub first_reported : (report : Report) (rest : List Report) → (shadow m setup).reports ≡ report ∷ rest → (fill : List ℕ) → IsFill fill → (shadow m (refilled (to_first_report setup) fill)).reports ≡ report ∷ []
+  first_reported report rest some fill is = ap (λ r. r.reports) ((same_fills m formed valid bare setup bytes quiet_one).reported fill is) ∙ first_alone report rest some
+
 -- ---- what a checked run says
 
 -- a clean verdict has neither a report nor a blind use
-nothing_told : (reports : List Report) (blind : ℕ) → verdict_by reports blind ≡ Clean → (reports ≡ []) × (blind ≡ 0)
+pub nothing_told : (reports : List Report) (blind : ℕ) → verdict_by reports blind ≡ Clean → (reports ≡ []) × (blind ≡ 0)
 nothing_told [] zero h = (refl, refl)
 nothing_told [] (suc n) h = absurd cc
 nothing_told (r ∷ rest) blind h = absurd cc
@@ -164,7 +168,8 @@ module _ (m : Module) (formed : Formed m) (valid : Valid m) (bare : NoMarks m) w
   shadow_holds : (setup : Setup) → GivesBytes setup → HoldsUnderFills m setup (shadow m setup)
   shadow_holds setup bytes = record {
     clean = λ is fill h. let none = nothing_told (shadow m setup).reports (shadow m setup).blind is in clean_shown m formed valid bare setup bytes none.1 none.0 fill h;
-    first = λ quiet report rest some fill h. first_reported m formed valid bare setup bytes quiet report rest some fill h;
+    first = λ quiet report rest some. first_alone m formed valid bare setup bytes quiet report rest some;
+    same = λ quiet fill h. (same_fills m formed valid bare setup bytes (quiet_one m formed valid bare setup bytes quiet)).reported fill h;
   }
 
   -- the same of the plain run of a faithful form

@@ -1,5 +1,7 @@
 pub mod Alike
+pub mod Certain
 pub mod Checked
+pub mod Chosen
 pub mod Effects
 pub mod ExampleWorlds
 pub mod First

@@ -1,5 +1,5 @@
 -- The fields of accepted words are within their limits.
-use Rattle.std.proofs.Common.{◌≡◌, ◌≤◌, ◌<◌, ◌+◌, ◌*◌, ◌-◌, ◌^◌, ◌&&◌, ◌||◌, inl, inr, ℕ, Bool, true, false, List, [], ◌∷◌, Option, Some, None, option_map, refl, sym, arith, true≢false, length, find, cond, drop}
+use Rattle.std.proofs.Common.{◌≡◌, ◌≤◌, ◌<◌, ◌+◌, ◌*◌, ◌-◌, ◌^◌, ◌&&◌, ◌||◌, inl, inr, ℕ, Bool, true, false, List, [], ◌∷◌, Option, Some, None, option_map, Result, Ok, Err, refl, subst, sym, arith, true≢false, length, find, cond, drop}
 use Rattle.std.specs.Prelude.{All, IfSome, is_some, nat_lt, nat_le, ◌/◌, ◌%◌, ◌==◌}
 use Rattle.std.specs.Char.{digit_value, is_ascii_hexdigit}
 use Rattle.std.specs.Int.{is_in_range}
@@ -9,16 +9,23 @@ use Rattle.std.proofs.lemmas.Bool.{and_parts, or_cases, eqb-true, leb-true, ltb-
 use Rattle.std.proofs.lemmas.List.Elements.{All-cons, All-nil}
 use Rattle.ms_words.specs.declared.names.CommandName.{CommandName}
 use Rattle.ms_words.specs.declared.names.CommandName.TheVariants.{Instrument, Run, Check, Corpus, Gen}
+use Rattle.ms_words.specs.declared.commands.Command.{Command}
+use Rattle.ms_words.specs.declared.commands.Command.TheVariants as command
+use Rattle.ms_words.specs.declared.commands.WordsError.{WordsError}
 use Rattle.ms_words.specs.declared.names.OptionName.{OptionName}
 use Rattle.ms_words.specs.declared.names.OptionName.TheVariants as option
 use Rattle.ms_words.specs.declared.names.Takes.TheVariants.{Hex, Number}
-use Rattle.ms_words.specs.Table.{Word, takes}
+use Rattle.ms_words.specs.Table.{Word, takes, commands, command_word, topics}
 use Rattle.ms_words.specs.Values.{value_fault, is_hex, is_number, number, hex_bytes}
-use Rattle.ms_words.specs.Reading.{Given, is_given, option_eq}
-use Rattle.ms_words.specs.Words.{value_of, number_by, options_by, corpus_options_by, command_given}
+use Rattle.ms_words.specs.Reading.{Given, nothing, same, is_given, option_eq, read_words_from}
+use Rattle.ms_words.specs.Words.{value_of, number_by, options_by, corpus_options_by, command_given, command_in, command_named, asks, asked_or, command_of}
+use Rattle.ms_words.specs.declared.reading.Next.TheVariants.{AnOption}
+use Rattle.ms_words.specs.declared.topics.Topic.{Topic}
+use Rattle.ms_words.specs.declared.topics.Topic.TheVariants as topic
 use Rattle.ms_words.specs.Accepted.{Whole}
 use Rattle.ms_words.specs.Limits.{RunsWithinLimits, CorpusWithinLimits, MadeWithinLimits, IsWithinLimits}
 use Rattle.ms_words.proofs.GoodValues.{good_value, hex_tests, number_tests}
+use Rattle.ms_words.proofs.Keeping.{whole_given}
 
 -- ---- fills
 
@@ -137,3 +144,23 @@ within_limits Run g whole = run_within g whole.values
 within_limits Check g whole = run_within g whole.values
 within_limits Corpus g whole = corpus_within g whole
 within_limits Gen g whole = made_within g whole
+
+-- ---- what words ask for
+
+read_within : (n : CommandName) (rest : List Word) (r : Result Given WordsError) (c : Command) → read_words_from n AnOption 1 nothing rest ≡ r → command_in n r ≡ Ok c → IsWithinLimits c
+read_within n rest (Ok g) c reads is = let same : command_given n g ≡ c = cc in subst IsWithinLimits same (within_limits n g (whole_given n rest g reads))
+read_within n rest (Err fault) c reads is = absurd cc
+
+named_within : (n : Option CommandName) (rest : List Word) (c : Command) → command_named n rest ≡ Ok c → IsWithinLimits c
+named_within None rest c is = absurd cc
+named_within (Some n) rest c is = read_within n rest (read_words_from n AnOption 1 nothing rest) c refl is
+
+asked_within : (t : Option Topic) (word : Word) (rest : List Word) (c : Command) → asked_or t word rest ≡ Ok c → IsWithinLimits c
+asked_within (Some topic.Help) word rest c is = let same : command.Help ≡ c = cc in subst IsWithinLimits same tt
+asked_within (Some topic.Version) word rest c is = let same : command.Version ≡ c = cc in subst IsWithinLimits same tt
+asked_within None word rest c is = named_within (find (λ n. same word (command_word n)) commands) rest c is
+
+-- the fields of the command that words ask for are within their limits
+pub command_within : (words : List Word) (c : Command) → command_of words ≡ Ok c → IsWithinLimits c
+command_within [] c is = absurd cc
+command_within (word ∷ rest) c is = asked_within (find (asks word) topics) word rest c is

@@ -1,4 +1,4 @@
-use Rattle.std.proofs.Common.{ℕ, Err}
+use Rattle.std.proofs.Common.{ℕ, List, All, ◌<◌, ◌^◌, Err, subst}
 use Rattle.ms_io.specs.declared.traits.FileError.{FileError}
 use Rattle.ms_io.specs.declared.traits.FileError.TheVariants.{Failed, Absent, TooLong, NoMemory}
 use Rattle.ms_io.specs.Reading.{IfTooLong}
@@ -12,3 +12,6 @@ never_long NoMemory P never = tt
 
 pub returns-in-Err-clause-too_long : goal.returns-in-Err-clause-too_long
 returns-in-Err-clause-too_long g c = never_long c.in-Err.error _ c.in-Err.ensures.never_too_long
+
+pub returns-in-Ok-eq0-clause-bytes : goal.returns-in-Ok-eq0-clause-bytes
+returns-in-Ok-eq0-clause-bytes g c = subst (λ (bs : List ℕ). All (λ b. b < 2 ^ 8) bs) c.deref.ensures.value c.in_range.ensures

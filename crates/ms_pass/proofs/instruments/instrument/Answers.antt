@@ -2,10 +2,11 @@ use Rattle.std.proofs.Common.{◌≡◌, sym, ap, subst, ◌∙◌}
 use Rattle.ms_ir.specs.declared.syntax.Module.{Module}
 use Rattle.ms_ir.specs.Code.{strip}
 use Rattle.ms_runs.specs.declared.runs.Setup.{Setup}
-use Rattle.ms_runs.specs.Faithful.{Fair, Faithful}
+use Rattle.ms_runs.specs.Faithful.{Fair, Faithful, Undisturbed}
 use Rattle.ms_runs.specs.Plain.{plain}
 use Rattle.ms_runs_good.specs.Fills.{InsertedUnderFills}
 use Rattle.ms_two_fills.specs.Checked.{HoldsUnderFills}
+use Rattle.ms_two_fills.specs.Chosen.{HoldsUnderChoices}
 use Rattle.ms_tables.proofs.Items.{under_ok}
 use Rattle.ms_elision_laws.specs.Elided.{IsElided, ChecksUnclean}
 use Rattle.ms_pass.specs.Passed.{IsMadeOf}
@@ -26,5 +27,9 @@ returns g c =
           (λ j same. subst (λ (x : Module). (setup : Setup) → Fair setup → InsertedUnderFills x setup) (sym same) given.under_fills) c.of_valid.ensures;
       holds = under_ok c.of_valid.result made (λ j. (setup : Setup) → Fair setup → HoldsUnderFills m setup (plain j setup))
           (λ j same. subst (λ (x : Module). (setup : Setup) → Fair setup → HoldsUnderFills m setup (plain x setup)) (sym same) given.holds) c.of_valid.ensures;
+      choices = under_ok c.of_valid.result made (λ j. (setup : Setup) → Fair setup → HoldsUnderChoices m setup (plain j setup))
+          (λ j same. subst (λ (x : Module). (setup : Setup) → Fair setup → HoldsUnderChoices m setup (plain x setup)) (sym same) given.choices) c.of_valid.ensures;
+      undisturbed = under_ok c.of_valid.result made (λ j. (setup : Setup) → Fair setup → Undisturbed (plain j setup) (plain m setup))
+          (λ j same. subst (λ (x : Module). (setup : Setup) → Fair setup → Undisturbed (plain x setup) (plain m setup)) (sym same) given.undisturbed) c.of_valid.ensures;
       pieces = under_ok c.of_valid.result made (λ j. IsMadeOf m j) (λ j same. subst (λ (x : Module). IsMadeOf m x) (sym same) given.pieces) c.of_valid.ensures;
     }

@@ -6,6 +6,8 @@ use Rattle.ms_ir.specs.Locals.{function_names}
 use Rattle.ms_runs.specs.Faithful.{Faithful}
 use Rattle.ms_valid.specs.Formed.{Formed}
 use Rattle.ms_valid.specs.Valid.{Valid}
+use Rattle.ms_runs_laws.proofs.SameOutput.{faithful_undisturbed}
+use Rattle.ms_two_fills.proofs.Chosen.{checked_holds_chosen}
 use Rattle.ms_two_fills.proofs.Whole.{inserted_fills, checked_holds}
 use Rattle.ms_tables.specs.FirstPlace.{first_place}
 use Rattle.ms_elide.specs.CleanSets.{is_in, IsExact}
@@ -57,5 +59,7 @@ returns g c =
       valid = subst Valid (sym is) both.1;
       under_fills = λ setup fair. inserted_fills m formed valid j runs setup fair;
       holds = λ setup fair. checked_holds m formed valid c.requires.plain.unmarked j runs setup fair;
+      choices = λ setup fair. checked_holds_chosen m formed valid c.requires.plain.unmarked j runs setup fair;
+      undisturbed = λ setup fair. faithful_undisturbed m j runs setup fair;
       pieces = record { clean = set; exact = c.in_ok-values.ensures.exact; made = c.in_ok-module.ensures ∙ ap (passed_module set) c.module.ensures };
     }

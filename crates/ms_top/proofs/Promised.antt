@@ -1,0 +1,199 @@
+-- What is read is bytes, so what `check` says holds without a premise on its files.
+use Rattle.std.proofs.Common.{◌≡◌, ℕ, ◌^◌, ◌<◌, ◌≤◌, true, List, [], ◌∷◌, length, Option, Some, None, Result, Ok, Err, refl, sym, ap, ◌∙◌, subst, arith, ◌⊎◌, inl, inr}
+use Rattle.std.specs.Prelude.{All, nat_lt}
+use Rattle.std.proofs.lemmas.Bool.{and_from, lt-ltb}
+use Rattle.std.proofs.lemmas.List.Elements.{All-cons, All-nil, All-head, All-tail}
+use Rattle.ms_io.specs.Reading.{Holdings, IsWholeFile}
+use Rattle.ms_ir.specs.declared.syntax.Module.{Module}
+use Rattle.ms_runs.specs.Faithful.{Fair}
+use Rattle.ms_read_body.specs.declared.errors.ReadError.{ReadError}
+use Rattle.ms_read_body.specs.declared.errors.ReadError.TheVariants as e
+use Rattle.ms_read_top.specs.Reading.{IsReading}
+use Rattle.ms_two_fills.specs.Checked.{HoldsUnderFills}
+use Rattle.ms_words.specs.Limits.{RunsWithinLimits}
+use Rattle.ms_words.specs.declared.commands.Command.TheVariants.{Check}
+use Rattle.ms_words.specs.declared.commands.Options.{Options}
+use Rattle.ms_top.specs.declared.answers.Answer.{Answer}
+use Rattle.ms_top.specs.Command.{files_of, input_files, input_limit, only_input, setup_of}
+use Rattle.ms_top.specs.Files.{Counted, FilesRead, Whole, Fault, Long, behind, IsAtFault, IsLong, CanRead}
+use Rattle.ms_top.specs.Instrumented.{IsInstrumented}
+use Rattle.ms_top.specs.Promised.{NothingRan, ShadowShown}
+use Rattle.ms_top.specs.Lines.{AreLines}
+use Rattle.ms_top.specs.Said.{answer_of_result, says, IsAnswerToModule, IsAnswerToReading, IsAnswerToFiles, IsAnswerToCommand, IsAnswerFor, IsAnswer}
+use Rattle.ms_report.specs.WithLines.{Lines}
+use Rattle.ms_valid.specs.Valid.{Valid}
+use Rattle.ms_valid.proofs.Refused.{invalid}
+use Rattle.ms_words.specs.Words.{command_of}
+use Rattle.ms_words.proofs.WithinLimits.{command_within}
+use Rattle.ms_grammar.specs.Texts.{Reads}
+use Rattle.ms_ir.specs.declared.forms.Form.TheVariants.{Plain}
+use Rattle.ms_text_laws.proofs.FormedModules.{read_formed}
+use Rattle.ms_two_fills.specs.Chosen.{HoldsUnderChoices}
+use Rattle.ms_valid.specs.FormedNames.{are_bytes}
+use Rattle.ms_top.proofs.Answered.{text_read}
+use Rattle.ms_top.proofs.Faithful.{fair_options}
+use Rattle.ms_grammar.proofs.Readings.{one_reading}
+
+abbrev IsByte : ℕ → Type 0
+IsByte b = b < 2 ^ 8
+
+-- ---- files
+
+whole_bytes : (held : Option Holdings) (name : List ℕ) (limit : ℕ) (text : List ℕ) → IsWholeFile held name limit text → All IsByte text
+whole_bytes None name limit text h = h.1
+whole_bytes (Some files) name limit text h = h.2
+
+whole_short : (held : Option Holdings) (name : List ℕ) (limit : ℕ) (text : List ℕ) → IsWholeFile held name limit text → length text ≤ limit
+whole_short None name limit text h = h.0
+whole_short (Some files) name limit text h = h.1
+
+texts_in : FilesRead → List (List ℕ)
+texts_in (Whole texts) = texts
+texts_in (Fault name) = []
+texts_in (Long name) = []
+
+-- the first of files that are read whole, and the others
+pub record FirstRead (c : Counted) (name : List ℕ) (limit : ℕ) (rest : List (List ℕ × ℕ)) (texts : List (List ℕ)) : Type 0 where
+  pub text : List ℕ
+  pub more : List (List ℕ)
+  pub is : texts ≡ text ∷ more
+  pub whole : IsWholeFile c.told name limit text
+  pub others : CanRead c rest (Whole more)
+
+first_read : (c : Counted) (name : List ℕ) (limit : ℕ) (rest : List (List ℕ × ℕ)) (texts : List (List ℕ)) → CanRead c ((name, limit) ∷ rest) (Whole texts) → FirstRead c name limit rest texts
+unfolding texts_in
+first_read c name limit rest texts (inl (fault, is)) = absurd cc
+first_read c name limit rest texts (inr (inl (long, is))) = absurd cc
+first_read c name limit rest texts (inr (inr (text, whole, Whole more, read, is))) = record { text = text; more = more; is = ap texts_in is; whole = whole; others = read }
+first_read c name limit rest texts (inr (inr (text, whole, Fault other, read, is))) = absurd cc
+first_read c name limit rest texts (inr (inr (text, whole, Long other, read, is))) = absurd cc
+
+none_read : (c : Counted) (texts : List (List ℕ)) → CanRead c [] (Whole texts) → texts ≡ []
+unfolding texts_in
+none_read c texts is = ap texts_in is
+
+pub texts_are_bytes : (c : Counted) (fs : List (List ℕ × ℕ)) (texts : List (List ℕ)) → CanRead c fs (Whole texts) → All (λ text. All IsByte text) texts
+texts_are_bytes c [] texts can = subst (λ ts. All (λ text. All IsByte text) ts) (sym (none_read c texts can)) (All-nil (λ text. All IsByte text))
+texts_are_bytes c ((name, limit) ∷ rest) texts can =
+    let f = first_read c name limit rest texts can in
+    subst (λ ts. All (λ text. All IsByte text) ts) (sym f.is)
+    (All-cons (λ text. All IsByte text) f.text f.more (whole_bytes c.told name limit f.text f.whole) (texts_are_bytes c rest f.more f.others))
+
+-- they pass the test of bytes
+tested : (text : List ℕ) → All IsByte text → are_bytes text ≡ true
+tested [] h = refl
+tested (b ∷ text) h = and_from (nat_lt b 256) (are_bytes text) (lt-ltb b 256 (All-head IsByte b text h)) (tested text (All-tail IsByte b text h))
+
+-- ---- setups
+
+inputs_fair : (c : Counted) (o : Options) → RunsWithinLimits o → (names : List (List ℕ)) (inputs : List (List ℕ)) → CanRead c (input_files names) (Whole inputs) → Fair (setup_of o (only_input inputs))
+inputs_fair c o fit [] inputs can =
+    subst (λ ts. Fair (setup_of o (only_input ts))) (sym (none_read c inputs can)) (fair_options o [] fit (omega arith) (All-nil IsByte))
+inputs_fair c o fit (name ∷ names) inputs can =
+    let f = first_read c name input_limit (input_files names) inputs can in
+    subst (λ ts. Fair (setup_of o (only_input ts))) (sym f.is)
+    (fair_options o f.text fit (whole_short c.told name input_limit f.text f.whole) (whole_bytes c.told name input_limit f.text f.whole))
+
+tail_same : (text other : List ℕ) (inputs more : List (List ℕ)) → text ∷ inputs ≡ other ∷ more → inputs ≡ more
+tail_same text other inputs more h = ap tail h
+  where
+    tail : List (List ℕ) → List (List ℕ)
+    tail [] = []
+    tail (x ∷ xs) = xs
+
+pub check_is_fair : (c : Counted) (file : List ℕ) (o : Options) (text : List ℕ) (inputs : List (List ℕ)) → RunsWithinLimits o → CanRead c (files_of (Check file o)) (Whole (text ∷ inputs))
+    → Fair (setup_of o (only_input inputs))
+check_is_fair c file o text inputs fit can =
+    let f = first_read c file (2 ^ 22) (input_files (names o.input)) (text ∷ inputs) (by_input o.input can) in
+    subst (λ ts. Fair (setup_of o (only_input ts))) (sym (tail_same text f.text inputs f.more f.is)) (inputs_fair c o fit (names o.input) f.more f.others)
+  where
+    names : Option (List ℕ) → List (List ℕ)
+    names None = []
+    names (Some name) = name ∷ []
+
+    by_input : (input : Option (List ℕ)) → CanRead c (files_of (Check file (record o { input = input }))) (Whole (text ∷ inputs)) → CanRead c ((file, 2 ^ 22) ∷ input_files (names input)) (Whole (text ∷ inputs))
+    by_input None h = h
+    by_input (Some name) h = h
+
+-- ---- files that aren't read whole
+
+behind_fault : (text : List ℕ) (name : List ℕ) (later : FilesRead) → Fault name ≡ behind text later → later ≡ Fault name
+behind_fault text name (Whole texts) h = absurd cc
+behind_fault text name (Fault other) h = let same : name ≡ other = cc in ap Fault (sym same)
+behind_fault text name (Long other) h = absurd cc
+
+behind_long : (text : List ℕ) (name : List ℕ) (later : FilesRead) → Long name ≡ behind text later → later ≡ Long name
+behind_long text name (Whole texts) h = absurd cc
+behind_long text name (Fault other) h = absurd cc
+behind_long text name (Long other) h = let same : name ≡ other = cc in ap Long (sym same)
+
+one_at_fault : (c : Counted) (fs : List (List ℕ × ℕ)) (name : List ℕ) → CanRead c fs (Fault name) → (n : List ℕ) × IsAtFault c n
+one_at_fault c [] name can = absurd cc
+one_at_fault c ((first, limit) ∷ rest) name (inl (fault, is)) = (first, fault)
+one_at_fault c ((first, limit) ∷ rest) name (inr (inl (long, is))) = absurd cc
+one_at_fault c ((first, limit) ∷ rest) name (inr (inr (text, whole, later, can, is))) = one_at_fault c rest name (subst (CanRead c rest) (behind_fault text name later is) can)
+
+one_too_long : (c : Counted) (fs : List (List ℕ × ℕ)) (name : List ℕ) → CanRead c fs (Long name) → (n : List ℕ) × (limit : ℕ) × IsLong c n limit
+one_too_long c [] name can = absurd cc
+one_too_long c ((first, limit) ∷ rest) name (inl (fault, is)) = absurd cc
+one_too_long c ((first, limit) ∷ rest) name (inr (inl (long, is))) = (first, limit, long)
+one_too_long c ((first, limit) ∷ rest) name (inr (inr (text, whole, later, can, is))) = one_too_long c rest name (subst (CanRead c rest) (behind_long text name later is) can)
+
+-- ---- what is said
+
+says_status : (a : Answer) (s : ℕ) (err : List ℕ) → a ≡ says s err → a.status ≡ s
+says_status a s err is = ap (λ x. x.status) is
+
+says_nothing : (a : Answer) (s : ℕ) (err : List ℕ) → a ≡ says s err → a.out ≡ []
+says_nothing a s err is = ap (λ x. x.out) is
+
+module _ (c : Counted) (file : List ℕ) (o : Options) (a : Answer) (fit : RunsWithinLimits o) where
+  abbrev Promise : Type 0
+  Promise = NothingRan c (files_of (Check file o)) a ⊎ ShadowShown c file o a
+
+  module _ (text : List ℕ) (inputs : List (List ℕ)) (can : CanRead c (files_of (Check file o)) (Whole (text ∷ inputs))) where
+    text_refused : (err : List ℕ) → a ≡ says 5 err → ((m : Module) → Reads Plain text m → Valid m → ⊥) → Promise
+    text_refused err is none = inl (record { out = says_nothing a 5 err is; why = inr (inr (says_status a 5 err is, (text, inputs, can, none))) })
+
+    by_module : (m : Module) (under : Lines) → Reads Plain text m → AreLines (Check file o) text m under → IsAnswerToModule IsInstrumented under (Check file o) inputs m a → Promise
+    by_module m under reads lines (inl (fault, refused, is)) = text_refused _ is (λ n other valid. invalid m fault refused (subst Valid (one_reading Plain text n m other reads) valid))
+    by_module m under reads lines (inr (valid, (j, made, is))) =
+        let s = setup_of o (only_input inputs) in
+        let fair = check_is_fair c file o text inputs fit can in
+        let bytes = texts_are_bytes c (files_of (Check file o)) (text ∷ inputs) can in
+        let formed = read_formed Plain text m (tested text (All-head (λ text. All IsByte text) text inputs bytes)) reads in
+        inr (record {
+          text = text;
+          inputs = inputs;
+          read = can;
+          module_read = m;
+          reads = reads;
+          formed = formed;
+          valid = valid;
+          under = under;
+          lines = lines;
+          fair = fair;
+          shown = is ∙ ap (answer_of_result under true m) (made.faithful.runs s fair);
+          fills = subst (HoldsUnderFills m s) (made.faithful.runs s fair) (made.holds s fair);
+          choices = subst (HoldsUnderChoices m s) (made.faithful.runs s fair) (made.choices s fair);
+        })
+
+    by_reading : (r : Result Module ReadError) → IsReading Plain text r → IsAnswerToReading IsInstrumented (Check file o) inputs text r a → Promise
+    by_reading (Ok m) reads (under, lines, is) = by_module m under reads lines is
+    by_reading (Err (e.Lex cause)) reading is = text_refused _ is (λ m reads valid. let same : Err (e.Lex cause) ≡ Ok m = text_read (Check file o) inputs text m (Err (e.Lex cause)) a reads reading is in absurd cc)
+    by_reading (Err (e.Refused number w token place)) reading is =
+        text_refused _ is (λ m reads valid. let same : Err (e.Refused number w token place) ≡ Ok m = text_read (Check file o) inputs text m (Err (e.Refused number w token place)) a reads reading is in absurd cc)
+    by_reading (Err e.NoMemory) reading is = absurd is
+
+  by_files : (r : FilesRead) → CanRead c (files_of (Check file o)) r → IsAnswerToFiles IsInstrumented (Check file o) r a → Promise
+  by_files (Whole []) can is = absurd is
+  by_files (Whole (text ∷ inputs)) can (r, reading, is) = by_reading text inputs can r reading is
+  by_files (Fault name) can is = inl (record { out = says_nothing a 6 _ is; why = inl (says_status a 6 _ is, one_at_fault c (files_of (Check file o)) name can) })
+  by_files (Long name) can is = inl (record { out = says_nothing a 9 _ is; why = inr (inl (says_status a 9 _ is, one_too_long c (files_of (Check file o)) name can)) })
+
+  pub check_promises : IsAnswerToCommand IsInstrumented c (Check file o) a → Promise
+  check_promises (r, can, answers) = by_files r can answers
+
+pub words_promise : (c : Counted) (words : List (List ℕ)) (file : List ℕ) (o : Options) (a : Answer) → command_of words ≡ Ok (Check file o) → IsAnswer IsInstrumented c words a
+    → NothingRan c (files_of (Check file o)) a ⊎ ShadowShown c file o a
+words_promise c words file o a is answer = check_promises c file o a (command_within words (Check file o) is) (subst (λ r. IsAnswerFor IsInstrumented c r a) is answer)

@@ -1,0 +1,31 @@
+-- What a command says of a valid module, and of the same module by two commands.
+use Rattle.std.specs.Prelude.{◌≡◌, ◌⊎◌, ℕ, true, false, List, [], ◌∷◌, Some}
+use Rattle.ms_io.specs.Reading.{Holdings, IsWholeFile}
+use Rattle.ms_ir.specs.declared.syntax.Module.{Module}
+use Rattle.ms_runs.specs.declared.runs.RunResult.{RunResult}
+use Rattle.ms_runs.specs.Faithful.{Prefix, Undisturbed}
+use Rattle.ms_report.specs.WithLines.{Lines}
+use Rattle.ms_top.specs.declared.answers.Answer.{Answer}
+use Rattle.ms_top.specs.Said.{answer_of_result}
+
+-- files with these names are held, and these are their bytes, no more than their limits
+abbrev pub AreHeld : Holdings → List (List ℕ × ℕ) → List (List ℕ) → Type 0
+AreHeld files [] [] = Unit {0}
+AreHeld files ((name, limit) ∷ rest) (text ∷ texts) = IsWholeFile (Some files) name limit text × AreHeld files rest texts
+AreHeld files _ _ = ⊥
+
+-- the status of an answer for a valid module: done, a trap, no step left, a report
+abbrev pub IsDoneStatus : ℕ → Type 0
+IsDoneStatus n = (n ≡ 0) ⊎ ((n ≡ 3) ⊎ ((n ≡ 4) ⊎ (n ≡ 77)))
+
+-- a is what `check` says of a module and b is what `run` says of it, each with some lines under its sites: the output of a is a
+-- beginning of that of b, and unless the checked run ends as reported, output and end are the same
+pub record Begins (m : Module) (a b : Answer) : Type 0 where
+  pub checked : RunResult
+  pub plainly : RunResult
+  pub under : Lines
+  pub below : Lines
+  pub check : a ≡ answer_of_result under true m checked
+  pub run : b ≡ answer_of_result below false m plainly
+  pub undisturbed : Undisturbed checked plainly
+  pub output : Prefix a.out b.out

@@ -1,0 +1,55 @@
+-- What `check` promises of the program, from what it is to say alone.
+use Rattle.std.specs.Prelude.{◌≡◌, ◌⊎◌, ℕ, true, List, [], ◌∷◌}
+use Rattle.ms_ir.specs.declared.forms.Form.TheVariants.{Plain}
+use Rattle.ms_ir.specs.declared.syntax.Module.{Module}
+use Rattle.ms_runs.specs.Faithful.{Fair}
+use Rattle.ms_runs.specs.Shadow.{shadow}
+use Rattle.ms_grammar.specs.Texts.{Reads}
+use Rattle.ms_valid.specs.Formed.{Formed}
+use Rattle.ms_valid.specs.Valid.{Valid}
+use Rattle.ms_two_fills.specs.Checked.{HoldsUnderFills}
+use Rattle.ms_two_fills.specs.Chosen.{HoldsUnderChoices}
+use Rattle.ms_report.specs.WithLines.{Lines}
+use Rattle.ms_words.specs.declared.commands.Command.TheVariants.{Check}
+use Rattle.ms_words.specs.declared.commands.Options.{Options}
+use Rattle.ms_top.specs.declared.answers.Answer.{Answer}
+use Rattle.ms_top.specs.Command.{files_of, only_input, setup_of}
+use Rattle.ms_top.specs.Files.{Counted, CanRead, IsAtFault, IsLong, Whole}
+use Rattle.ms_top.specs.Lines.{AreLines}
+use Rattle.ms_top.specs.Said.{answer_of_result}
+
+-- the answer that a file can't be read: one is at fault
+abbrev pub IsFileFault : Counted → Answer → Type 0
+IsFileFault c a = (a.status ≡ 6) × ((name : List ℕ) × IsAtFault c name)
+
+-- the answer that a file is too long: one has more bytes than its limit
+abbrev pub IsFileTooLong : Counted → Answer → Type 0
+IsFileTooLong c a = (a.status ≡ 9) × ((name : List ℕ) × (limit : ℕ) × IsLong c name limit)
+
+-- the answer that a text is refused: the files were read, and the first text isn't that of a valid module
+abbrev pub IsTextRefused : Counted → List (List ℕ × ℕ) → Answer → Type 0
+IsTextRefused c files a =
+    (a.status ≡ 5) × ((text : List ℕ) × (inputs : List (List ℕ)) × CanRead c files (Whole (text ∷ inputs)) × ((m : Module) → Reads Plain text m → Valid m → ⊥))
+
+-- nothing was run and nothing printed on the standard output, for one of these three reasons
+pub record NothingRan (c : Counted) (files : List (List ℕ × ℕ)) (a : Answer) : Type 0 where
+  pub out : a.out ≡ []
+  pub why : IsFileFault c a ⊎ (IsFileTooLong c a ⊎ IsTextRefused c files a)
+
+-- A text was read as a valid module, and the answer a says what the module's shadow run with a fair setup is, with the lines that
+-- are asked for. A clean verdict and a first report hold under every fill, a clean verdict also where each step has a fill of its
+-- own
+pub record ShadowShown (c : Counted) (file : List ℕ) (o : Options) (a : Answer) : Type 0 where
+  pub text : List ℕ
+  pub inputs : List (List ℕ)
+  pub read : CanRead c (files_of (Check file o)) (Whole (text ∷ inputs))
+  pub module_read : Module
+  pub reads : Reads Plain text module_read
+  pub formed : Formed module_read
+  pub valid : Valid module_read
+  pub under : Lines
+  pub lines : AreLines (Check file o) text module_read under
+  pub fair : Fair (setup_of o (only_input inputs))
+  pub shown : a ≡ answer_of_result under true module_read (shadow module_read (setup_of o (only_input inputs)))
+  pub fills : HoldsUnderFills module_read (setup_of o (only_input inputs)) (shadow module_read (setup_of o (only_input inputs)))
+  pub choices : HoldsUnderChoices module_read (setup_of o (only_input inputs)) (shadow module_read (setup_of o (only_input inputs)))

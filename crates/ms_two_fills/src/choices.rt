@@ -1,0 +1,32 @@
+//! Runs that are the same, whatever uninitialised memory holds at each step.
+ghost use Rattle.std.specs.Prelude.{ℕ, List};
+ghost use Rattle.ms_ir.specs.declared.syntax.Module.{Module};
+ghost use Rattle.ms_ir.specs.Code.{NoMarks};
+ghost use Rattle.ms_runs.specs.declared.runs.Setup.{Setup};
+ghost use Rattle.ms_runs.specs.Plain.{setting_of, steps, plain, plain_start};
+ghost use Rattle.ms_runs.specs.Masks.{by_completions};
+ghost use Rattle.ms_runs.specs.Shadow.{shadow_step, shadow_start, shadow};
+ghost use Rattle.ms_runs.specs.Faithful.{Fair, Faithful};
+ghost use Rattle.ms_valid.specs.Formed.{Formed};
+ghost use Rattle.ms_valid.specs.Valid.{Valid};
+ghost use Rattle.ms_runs_good.specs.Fills.{IsFill};
+ghost use Rattle.ms_runs_good.specs.GoodWorlds.{GivesBytes};
+ghost use Rattle.ms_two_fills.specs.Certain.{CertainSteps, UntoldSteps};
+ghost use Rattle.ms_two_fills.specs.Chosen.{steps_by, chosen_step, HoldsUnderChoices};
+
+/// Bits outside a mask are certain: after any number of steps of a shadow run, with neither a report nor a blind use so
+/// far, the program itself stands at the same place, whatever fill was chosen for each step, and its words and bytes are
+/// those of the shadow run outside their masks; or both ended alike.
+pub fn masks_are_certain()
+    ensures { (m : Module) → Formed m → Valid m → NoMarks m → (setup : Setup) → GivesBytes setup → (n : ℕ)
+        → UntoldSteps (steps (shadow_step by_completions (setting_of m setup) m) n (shadow_start m setup))
+        → (fills : ℕ → List ℕ) → ((k : ℕ) → IsFill (fills k))
+        → CertainSteps (steps (shadow_step by_completions (setting_of m setup) m) n (shadow_start m setup)) (steps_by (chosen_step m setup fills) n 0 (plain_start m setup)) }
+{}
+
+/// A clean verdict holds under every choice: the program itself prints the same and ends in the same way, also where each
+/// step has a fill of its own.
+pub fn clean_under_choices()
+    ensures shadow_runs { (m : Module) → Formed m → Valid m → NoMarks m → (setup : Setup) → GivesBytes setup → HoldsUnderChoices m setup (shadow m setup) }
+    ensures instrumented { (m : Module) → Formed m → Valid m → NoMarks m → (j : Module) → Faithful m j → (setup : Setup) → Fair setup → HoldsUnderChoices m setup (plain j setup) }
+{}
