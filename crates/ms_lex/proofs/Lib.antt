@@ -8,3 +8,4 @@ pub mod Causes
 pub mod Decimals
 pub mod Escapes
 pub mod Lists
+pub mod NameBytes
