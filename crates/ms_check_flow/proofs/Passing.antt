@@ -7,15 +7,26 @@ use Rattle.std.proofs.lemmas.Option.{slice_get_read}
 use Rattle.ms_ir.specs.declared.syntax.Func.{Func}
 use Rattle.ms_ir.specs.declared.syntax.Module.{Module}
 use Rattle.ms_ir.specs.Code.{one_unmarked, over_blocks, over_funcs}
+use Rattle.ms_ir.specs.Spots.{over_func_spots}
 use Rattle.ms_valid.specs.Formed.{Formed, count_written}
 use Rattle.ms_valid.specs.Refusals.{UpToPhis, IsFirstUndefined}
-use Rattle.ms_valid.specs.UsesDefined.{IsUseDefined, UsesDefined, uses}
+use Rattle.ms_valid.specs.UsesDefined.{IsUseDefined, UsesDefined, uses, SiteUse, inst_uses}
 use Rattle.ms_valid.proofs.AtInstructions.{all_parts}
 use Rattle.ms_valid.proofs.SmallNumbers.{blocks_written}
-use Rattle.ms_check_flow.specs.Asked.{func_uses, uses_from, IsWithin, CanBeAsked, IsFirstOf, IsPassed}
+use Rattle.ms_check_flow.specs.Asked.{func_uses, IsWithin, CanBeAsked, IsFirstOf}
 use Rattle.ms_check_flow.proofs.Branches.{stays_in}
 use Rattle.ms_check_flow.proofs.PathCounts.{func_names}
 use Rattle.ms_check_flow.proofs.Within.{uses_within}
+
+-- the uses of values in functions, the first of which begins at a site
+abbrev pub uses_from : ℕ → List Func → List SiteUse
+uses_from site funcs = over_func_spots (λ f. []) (λ at inst. inst_uses at inst.op) site funcs
+
+-- the uses of a module before some that are left are defined
+pub record IsPassed (m : Module) (left : List SiteUse) : Type 0 where
+  pub earlier : List SiteUse
+  pub splits : uses m ≡ earlier ++ left
+  pub defined : All IsUseDefined earlier
 
 -- ---- lists
 

@@ -1,15 +1,14 @@
 -- What is asked of a function (own). What the crate promises does not name this file.
-use Rattle.std.specs.Prelude.{◌≡◌, ◌≢◌, ℕ, ◌+◌, ◌^◌, ◌<◌, List, [], ◌∷◌, ◌++◌, length, All, AllPairs, IsTrue}
+use Rattle.std.specs.Prelude.{◌≡◌, ◌≢◌, ℕ, ◌+◌, ◌^◌, ◌<◌, List, ◌∷◌, ◌++◌, length, All, AllPairs, IsTrue}
 use Rattle.ms_flow.specs.Search.{StaysIn}
 use Rattle.ms_ir.specs.declared.syntax.Func.{Func}
-use Rattle.ms_ir.specs.declared.syntax.Module.{Module}
 use Rattle.ms_ir.specs.Code.{over_blocks}
 use Rattle.ms_ir.specs.Equal.{has_name}
 use Rattle.ms_valid.specs.Formed.{count_written}
 use Rattle.ms_ir.specs.Locals.{locals}
 use Rattle.ms_valid.specs.Paths.{Misses}
-use Rattle.ms_ir.specs.Spots.{over_block_spots, over_func_spots}
-use Rattle.ms_valid.specs.UsesDefined.{SiteUse, IsUseDefined, inst_uses, uses}
+use Rattle.ms_ir.specs.Spots.{over_block_spots}
+use Rattle.ms_valid.specs.UsesDefined.{SiteUse, IsUseDefined, inst_uses}
 use Rattle.ms_valid.specs.FlowGraph.{value_names, graph_of}
 
 -- the uses of values in a function that begins at a site, in text order
@@ -39,13 +38,3 @@ pub record IsFirstOf (all : List SiteUse) (site : ℕ) (path : List ℕ) : Type 
   pub misses : Misses «use».func «use».value path
   pub once : AllPairs (λ a b. a ≢ b) path
   pub stands : «use».site ≡ site
-
--- the uses of values in functions, the first of which begins at a site
-abbrev pub uses_from : ℕ → List Func → List SiteUse
-uses_from site funcs = over_func_spots (λ f. []) (λ at inst. inst_uses at inst.op) site funcs
-
--- the uses of a module before some that are left are defined
-pub record IsPassed (m : Module) (left : List SiteUse) : Type 0 where
-  pub earlier : List SiteUse
-  pub splits : uses m ≡ earlier ++ left
-  pub defined : All IsUseDefined earlier

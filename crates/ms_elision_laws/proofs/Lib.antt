@@ -5,3 +5,4 @@ pub mod RoundChecks
 pub mod FuncChecks
 pub mod CheckCount
 pub mod Once
+pub mod Bounded

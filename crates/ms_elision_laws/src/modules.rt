@@ -1,15 +1,15 @@
 //! Laws about whole modules that are instrumented with clean values left out.
-ghost use Rattle.std.specs.Prelude.{◌≡◌, ℕ, Bool, true, Some};
+ghost use Rattle.std.specs.Prelude.{◌≡◌, ◌≤◌, ◌+◌, ◌*◌, ℕ, Bool, true, Some, length};
 ghost use Rattle.ms_ir.specs.declared.syntax.Name.{Name};
 ghost use Rattle.ms_ir.specs.declared.syntax.Operand.{Operand};
 ghost use Rattle.ms_ir.specs.declared.syntax.Func.{Func};
 ghost use Rattle.ms_ir.specs.declared.syntax.Module.{Module};
-ghost use Rattle.ms_ir.specs.Code.{func_at};
+ghost use Rattle.ms_ir.specs.Code.{func_at, operands, over_funcs};
 ghost use Rattle.ms_runs.specs.declared.runs.Setup.{Setup};
 ghost use Rattle.ms_runs.specs.Faithful.{Faithful};
 ghost use Rattle.ms_runs.specs.Plain.{setting_of};
 ghost use Rattle.ms_valid.specs.CleanValues.{is_clean_operand, IsCleanOperand};
-ghost use Rattle.ms_valid.specs.Formed.{Formed};
+ghost use Rattle.ms_valid.specs.Formed.{Formed, count_written};
 ghost use Rattle.ms_valid.specs.Uninstrumented.{CanInstrument};
 ghost use Rattle.ms_valid.specs.Valid.{Valid};
 ghost use Rattle.ms_pass_laws.specs.Pass.{pass};
@@ -50,4 +50,11 @@ pub fn clean_operands_are_known()
 /// There is one instrumented form in which nothing is computed of clean values.
 pub fn elided_once()
     ensures { (m j k : Module) → IsElided m j → IsElided m k → j ≡ k }
+{}
+
+/// The instrumented form has no more instructions and operands together than 200 for each instruction of the module, 55 for each of
+/// its operands and 1000 for each of its functions.
+pub fn elided_is_bounded()
+    ensures { (m j : Module) → CanInstrument m → IsElided m j
+        → over_funcs count_written j.funcs ≤ 200 * over_funcs (λ inst. 1) m.funcs + 55 * over_funcs (λ inst. length (operands inst.op)) m.funcs + 1000 * length m.funcs }
 {}

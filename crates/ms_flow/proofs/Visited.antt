@@ -12,9 +12,13 @@ use Rattle.ms_flow.specs.declared.visits.Visit.{Visit}
 use Rattle.ms_flow.specs.Paths.{HasEdge, Defines, Follows, IsPath, Misses}
 use Rattle.ms_flow.specs.Search.{StaysIn, Arrives, IsUndefined}
 use Rattle.ms_flow.specs.Search.Arrives.{Entry, Along}
-use Rattle.ms_flow.specs.Walks.{visit_at, block_at, from_at, Visits, IsWalk, Marks, unseen, IsClosed, Trail}
+use Rattle.ms_flow.specs.Walks.{visit_at, block_at, from_at, Visits, IsWalk, Marks, unseen, Trail}
 use Rattle.ms_flow.specs.Walks.Trail.{Last, Back}
 use Rattle.ms_flow.proofs.States.{get_set_same}
+
+-- all that the first visits lead to is visited
+abbrev pub IsClosed : Graph → ℕ → List Visit → ℕ → Type 0
+IsClosed g v visits n = (k : ℕ) → k < n → ¬ Defines g (block_at visits k) v → (c : ℕ) → HasEdge g (block_at visits k) c → Visits visits c
 
 -- ---- one more visit
 

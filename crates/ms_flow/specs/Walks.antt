@@ -38,10 +38,6 @@ pub record Marks (seen : List Bool) (visits : List Visit) : Type 0 where
 abbrev pub unseen : List Bool → ℕ
 unseen seen = count_by not seen
 
--- all that the first visits lead to is visited
-abbrev pub IsClosed : Graph → ℕ → List Visit → ℕ → Type 0
-IsClosed g v visits n = (k : ℕ) → k < n → ¬ Defines g (block_at visits k) v → (c : ℕ) → HasEdge g (block_at visits k) c → Visits visits c
-
 -- the blocks that lie between the visit at a place and the last one, and the last one's
 pub data Trail (visits : List Visit) (last : ℕ) : ℕ → List ℕ → Type 0 where
   Last : Trail visits last last []

@@ -38,9 +38,6 @@ name_congr (Text x) (Number n) z h = never h
 name_congr (Text x) (Text y) (Number k) h = refl
 name_congr (Text x) (Text y) (Text z) h = nat_list_eq_equiv.congr x y z h
 
-pub name_eq_equiv : IsEquivalence name_eq
-name_eq_equiv = record { refl = name_itself; symm = name_symm; congr = name_congr }
-
 -- ---- packed or not
 
 beq_itself : (p : Bool) → beq p p ≡ true

@@ -1,20 +1,22 @@
 -- Modules and a setup whose runs are computed.
-use Rattle.std.specs.Prelude.{ℕ, List, [], ◌∷◌, map, codes, Some, None}
+use Rattle.std.specs.Prelude.{ℕ, false, List, [], ◌∷◌, map, codes, Option, Some, None}
 use Rattle.ms_bits.specs.declared.operations.BinOp.TheVariants as binary
 use Rattle.ms_bits.specs.declared.operations.CastOp.TheVariants as cast
 use Rattle.ms_bits.specs.declared.operations.Pred.TheVariants as pred
 use Rattle.ms_bits.specs.NoFlags.{no_flags}
+use Rattle.ms_ir.specs.declared.syntax.Name.{Name}
 use Rattle.ms_ir.specs.declared.syntax.Name.TheVariants.{Number, Text}
 use Rattle.ms_ir.specs.declared.syntax.Ty.{Int, Ptr}
 use Rattle.ms_ir.specs.declared.syntax.Operand.{Operand}
 use Rattle.ms_ir.specs.declared.syntax.Operand.TheVariants as operand
+use Rattle.ms_ir.specs.declared.syntax.Op.{Op}
 use Rattle.ms_ir.specs.declared.syntax.Op.TheVariants as op
+use Rattle.ms_ir.specs.declared.syntax.Inst.{Inst}
 use Rattle.ms_ir.specs.declared.syntax.Module.{Module}
 use Rattle.ms_runs.specs.declared.runs.Setup.{Setup}
 use Rattle.ms_runs.specs.declared.runs.RunResult.{RunResult}
 use Rattle.ms_runs.specs.declared.runs.Origin.{Origin}
 use Rattle.ms_runs.specs.declared.runs.Origin.TheVariants.{Root, Chain}
-use Rattle.ms_runs.specs.First.{unmarked}
 
 -- a fill of one byte, and a limit of five reports
 abbrev pub five_reports : Setup
@@ -29,6 +31,10 @@ roots_on (Chain old site ∷ rest) = roots_on rest
 -- of each report its site, kind, width and mask, and the root of its origin
 abbrev pub told : RunResult → List (List ℕ)
 told r = map (λ q. q.site ∷ q.kind ∷ q.width ∷ q.mask ∷ roots_on q.chain) r.reports
+
+-- an instruction without a mark, and its result, if it has one
+abbrev pub unmarked : Op → Option Name → Inst
+unmarked o x = record { op = o; result = x; marked = false }
 
 -- the value with a printed number
 abbrev pub value : ℕ → Operand

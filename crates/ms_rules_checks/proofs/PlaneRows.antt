@@ -13,13 +13,18 @@ use Rattle.ms_ir.specs.declared.calls.External.TheVariants as external
 use Rattle.ms_ir.specs.Code.{operands, count_undefs, external_named}
 use Rattle.ms_ir.specs.Layout.{width_of, size_in}
 use Rattle.ms_runs.specs.World.{Here}
-use Rattle.ms_tasks.specs.Tasks.{Leaf, Task, msan_name, Calls}
-use Rattle.ms_tasks.specs.Environments.{Env, Given, Tracked, tracked_at, word_of, number}
+use Rattle.ms_tasks.specs.Tasks.{Leaf, Task, msan_name, Calls, Expr, Mul, Two}
+use Rattle.ms_tasks.specs.Environments.{Env, Given, Tracked, tracked_at, word_of, number, widened}
 use Rattle.ms_tasks.specs.PlaneTasks.{copy_task, saved_tasks, save_tasks, external_tasks, callee_tasks, plane_tasks}
 use Rattle.ms_rules_code.specs.Called.{calls_own, called_external}
 use Rattle.ms_rules_code.specs.Steps.{result_word}
 use Rattle.ms_rules_checks.specs.Sizes.{element_size}
-use Rattle.ms_rules_checks.specs.Pieces.{named_call, alloca_args, store_pieces}
+use Rattle.ms_rules_checks.specs.Pieces.{named_call, store_pieces}
+
+-- the arguments by which the bytes of an `alloca` become poisoned
+abbrev pub alloca_args : (root size width : ℕ) → Option Name → List Tracked → List (Ty × Expr)
+alloca_args root size width r ts =
+    (Ptr, result_word r) ∷ (Int 64, number 0) ∷ (Int 64, Two Mul (Int 64) (number size) (widened width (word_of (tracked_at 0 ts)))) ∷ (Int 32, number root) ∷ []
 
 -- ---- externals
 

@@ -4,19 +4,13 @@ use Rattle.ms_ir.specs.declared.syntax.Name.{Name}
 use Rattle.ms_ir.specs.declared.syntax.Ty.{Ty, Int, Ptr}
 use Rattle.ms_ir.specs.declared.calls.RuntimeFn.{RuntimeFn}
 use Rattle.ms_ir.specs.declared.calls.RuntimeFn.TheVariants as function
-use Rattle.ms_tasks.specs.Tasks.{Expr, Task, Mul, Two, Puts, Calls}
+use Rattle.ms_tasks.specs.Tasks.{Expr, Task, Puts, Calls}
 use Rattle.ms_tasks.specs.Environments.{Tracked, tracked_at, mask_of, origin_of, word_of, widened, number}
 use Rattle.ms_tasks.specs.ResultTasks.{shadow_address}
-use Rattle.ms_rules_code.specs.Steps.{result_word}
 
 -- a call of a runtime function, where the instruction has a result
 abbrev pub named_call : RuntimeFn → Option Name → List (Ty × Expr) → List Task
 named_call f r args = if is_some r then Calls None f args ∷ [] else []
-
--- the arguments by which the bytes of an `alloca` become poisoned
-abbrev pub alloca_args : (root size width : ℕ) → Option Name → List Tracked → List (Ty × Expr)
-alloca_args root size width r ts =
-    (Ptr, result_word r) ∷ (Int 64, number 0) ∷ (Int 64, Two Mul (Int 64) (number size) (widened width (word_of (tracked_at 0 ts)))) ∷ (Int 32, number root) ∷ []
 
 -- the store of a mask
 abbrev pub mask_store : (width : ℕ) → List Tracked → Task

@@ -29,10 +29,6 @@ is_rule (s ∷ t ∷ l) = ends_in_operation (t ∷ l)
 abbrev pub on_width : ℕ → List Tracked → Inputs
 on_width w ts = record { operands = ts; width = w; ones = 2 ^ w - 1; sign = 2 ^ (w - 1); result = None }
 
--- the same for a rule that uses neither
-abbrev pub plainly_on : ℕ → List Tracked → Inputs
-plainly_on w ts = record { operands = ts; width = w; ones = 0; sign = 0; result = None }
-
 -- the tests and the origins of the operands with places from a last one down to 1
 abbrev pub tests : List Tracked → ℕ → List Step
 tests ts zero = []

@@ -16,5 +16,4 @@ pub mod Shadow
 pub mod LowEqual
 pub mod Faithful
 pub mod Verdict
-pub mod First
 pub mod ExampleRuns

@@ -43,9 +43,9 @@ use Rattle.ms_runs_good.proofs.RuntimeEffects.{runtime_answers}
 use Rattle.ms_runs_good.proofs.CallTypes.{calls_answer, runtime_call, known_external}
 use Rattle.ms_runs_good.proofs.OpEffects.{IsOrdinary, act_answers, load_marked_answers, store_marked_answers}
 use Rattle.ms_runs_good.proofs.InstructionEffects.{answers_after, answers_fit, cast_fits, act_fits}
-use Rattle.ms_runs_good.specs.Sited.{IsSite, IsSited, StopsAtSite}
+use Rattle.ms_runs_good.specs.Sited.{IsSite, StopsAtSite}
 use Rattle.ms_runs_good.proofs.Sites.{site_here}
-use Rattle.ms_runs_good.proofs.SitedEffects.{IsKnown, IsRuntime, act_sited, marked_sited}
+use Rattle.ms_runs_good.proofs.SitedEffects.{IsKnown, IsRuntime, act_sited, marked_sited, IsSited}
 use Rattle.ms_runs_good.proofs.SitedMoves.{behind_phis, MovedSited, moves_sited}
 use Rattle.ms_runs_good.proofs.Frames.{same_insts, top_good, nothing_left, read_all_have, due_first, rest_next, MovedTo, moves_to}
 

@@ -27,8 +27,14 @@ use Rattle.ms_runs.specs.Runtime.{runtime}
 use Rattle.ms_ir.specs.Code.{external_named, is_phi}
 use Rattle.ms_runs.specs.Act.{truth, gives, act}
 use Rattle.ms_runs.specs.Plain.{shadow_bits, in_slots, act_marked}
-use Rattle.ms_runs_good.specs.Sited.{IsSite, IsSited}
+use Rattle.ms_runs_good.specs.Sited.{IsSite, HasSite}
 use Rattle.ms_runs_good.proofs.WorldChanges.{chosen, either}
+
+-- an effect that ends the run has a site, and a return is one from another function than `main`
+abbrev pub IsSited : Module → (main : Bool) → Effect → Type 0
+IsSited m main (Ends e world) = HasSite m e
+IsSited m main (Leaves world) = main ≡ false
+IsSited m main effect = Unit {0}
 
 -- ---- externals
 

@@ -16,7 +16,8 @@ use Rattle.ms_runs.specs.Control.{Frame, Reading, Outcome, On, Over, count_phis,
 use Rattle.ms_valid.specs.FormedCode.{is_terminator, ends_well, is_body}
 use Rattle.ms_runs_good.specs.GoodStates.{GoodFrames}
 use Rattle.ms_valid.proofs.NameTests.{name_same}
-use Rattle.ms_runs_good.specs.Sited.{IsSite, HasSite, IsSited}
+use Rattle.ms_runs_good.specs.Sited.{IsSite, HasSite}
+use Rattle.ms_runs_good.proofs.SitedEffects.{IsSited}
 use Rattle.ms_runs_good.proofs.WorldChanges.{either}
 use Rattle.ms_runs_good.proofs.CallTypes.{func_found}
 

@@ -1,5 +1,5 @@
--- What a shadow run has reached, and that uninitialised bits come from there: each origin leads back, over stores that
--- ran, to a root that the run has reached (own; for modules without marks).
+-- What a shadow run has reached, and that origins lead back there: each origin leads back, over stores that ran, to a root
+-- that the run has reached (own; for modules without marks).
 use Rattle.std.specs.Prelude.{◌≡◌, ◌≤◌, ◌<◌, ◌⊎◌, ℕ, zero, suc, ◌+◌, ◌/◌, nat_eq, true, List, [], ◌∷◌, Any, Contains, if◌then◌else◌, Option, Some, None, option_and_then, slice_get}
 use Rattle.ms_ir.specs.declared.syntax.Name.{Name}
 use Rattle.ms_ir.specs.declared.syntax.Ty.{Ty}

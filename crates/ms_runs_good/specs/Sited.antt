@@ -1,10 +1,9 @@
 -- Ends that name an instruction: a trap has the site of the instruction that caused it, and sites are numbered from 1 on.
 -- Site 0 stands where no instruction is due or a name stands for nothing (own).
-use Rattle.std.specs.Prelude.{◌≡◌, ◌≤◌, ℕ, Bool, false}
+use Rattle.std.specs.Prelude.{◌≤◌, ℕ}
 use Rattle.ms_ir.specs.declared.syntax.Module.{Module}
 use Rattle.ms_runs.specs.declared.runs.End.{End}
 use Rattle.ms_runs.specs.declared.runs.End.TheVariants as «end»
-use Rattle.ms_runs.specs.World.{Effect, Leaves, Ends}
 use Rattle.ms_ir.specs.Code.{one_unmarked, over_funcs}
 use Rattle.ms_runs.specs.Plain.{Stepped, Stop}
 
@@ -16,12 +15,6 @@ IsSite m site = (1 ≤ site) × (site ≤ over_funcs one_unmarked m.funcs)
 abbrev pub HasSite : Module → End → Type 0
 HasSite m («end».Trap kind site) = IsSite m site
 HasSite m e = Unit {0}
-
--- an effect that ends the run has a site, and a return is one from another function than `main`
-abbrev pub IsSited : Module → (main : Bool) → Effect → Type 0
-IsSited m main (Ends e world) = HasSite m e
-IsSited m main (Leaves world) = main ≡ false
-IsSited m main effect = Unit {0}
 
 -- a step that ends the run has a site
 abbrev pub StopsAtSite : {S : Type 0} → Module → Stepped S → Type 0

@@ -1,5 +1,7 @@
 pub mod SameRuns
 pub mod ExactRules
+pub mod Inside
+pub mod ReadsInside
 pub mod Stripped
 pub mod Numbering
 pub mod RootLists

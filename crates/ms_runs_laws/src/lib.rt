@@ -5,4 +5,5 @@
 pub mod numbered;
 pub mod outputs;
 pub mod rules;
+pub mod safety;
 pub mod stripping;

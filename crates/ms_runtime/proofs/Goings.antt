@@ -22,8 +22,8 @@ use Rattle.ms_host.specs.declared.calls.HostCall.{HostCall}
 use Rattle.ms_printf.specs.CallSites.{AreCallSites}
 use Rattle.ms_machine_steps.specs.Standing.{FramesStand, frames_of, IsState}
 use Rattle.ms_machine_steps.specs.Waiting.{Waits, FirstWaits, answered}
-use Rattle.ms_machine_steps.specs.Advances.{step_of, Counts, IsSpent, HasEnded, HasAsked, Resumes, HasResumed, HasStopped}
-use Rattle.ms_machine_steps.proofs.Answered.{waiter, below_it, waits, waiter_stands, answered_on, answered_ends}
+use Rattle.ms_machine_steps.specs.Advances.{step_of, Counts, IsSpent, HasEnded, HasAsked, Resumes, HasResumed}
+use Rattle.ms_machine_steps.proofs.Answered.{waiter, below_it, waits, waiter_stands, answered_on, answered_ends, HasStopped}
 use Rattle.ms_machine_steps.proofs.RunSteps.{run_spent, run_ends, run_due, number_below}
 use Rattle.ms_machine.specs.Running.{AllStandFor, IsRunning}
 use Rattle.ms_machine.proofs.Programs.{frames_to, frames_from, state_to, state_from}

@@ -18,6 +18,10 @@ pub mod Modules
 pub mod Fits
 pub mod StandardLimits
 pub mod ReadBack
+pub mod Agreeing
+pub mod LargerLimits
+pub mod LargerBodies
+pub mod WrittenTexts
 pub mod Sound
 pub mod Names
 pub mod FormedTypes

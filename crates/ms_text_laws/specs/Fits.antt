@@ -1,10 +1,13 @@
 -- Which modules an instrumented text can hold (own: the limits of texts).
-use Rattle.std.specs.Prelude.{◌≤◌, Bool, true, not, ◌||◌, nat_le, length, IsTrue}
+use Rattle.std.specs.Prelude.{◌≡◌, ◌⊎◌, ◌≤◌, Bool, true, not, ◌||◌, nat_le, length, IsTrue}
 use Rattle.std.specs.List.{list_all}
 use Rattle.ms_ir.specs.declared.syntax.Op.{Op}
 use Rattle.ms_ir.specs.declared.syntax.Op.TheVariants as op
 use Rattle.ms_ir.specs.declared.syntax.Module.{Module}
 use Rattle.ms_ir.specs.declared.forms.Form.TheVariants.{Instrumented}
+use Rattle.ms_grammar.specs.declared.refusals.Limit.{Limit}
+use Rattle.ms_grammar.specs.declared.refusals.Refusal.{Refusal}
+use Rattle.ms_grammar.specs.declared.refusals.Refusal.TheVariants as r
 use Rattle.ms_grammar.specs.Insts.{names_printf}
 use Rattle.ms_grammar.specs.Bodies.{max_instructions}
 use Rattle.ms_grammar.specs.Texts.{max_bytes, max_tokens}
@@ -27,3 +30,7 @@ pub record FitsText (m : Module) : Type 0 where
   pub form : FitsForm m
   pub short : length (written m) ≤ max_bytes Instrumented
   pub few_tokens : length (module_pieces m) ≤ max_tokens Instrumented
+
+-- a refusal names a limit on a text's parts, or the numbering of a function, whose numbers can run out
+abbrev pub NamesLimit : Refusal → Type 0
+NamesLimit e = ((l : Limit) × (e ≡ r.Limit l)) ⊎ (e ≡ r.Numbering)

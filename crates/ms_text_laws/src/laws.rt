@@ -1,19 +1,23 @@
 //! What holds of everything that is written.
 
-ghost use Rattle.std.specs.Prelude.{◌≡◌, ◌<◌, ◌≤◌, ◌^◌, ℕ, [], decimal};
+ghost use Rattle.std.specs.Prelude.{◌≡◌, ◌<◌, ◌≤◌, ◌^◌, ℕ, [], Err, decimal};
 ghost use Rattle.ms_bits.specs.Signed.{signed, wrap};
+ghost use Rattle.ms_lex.specs.declared.errors.LexError.{LexError};
+ghost use Rattle.ms_lex.specs.declared.errors.LexError.TheVariants.{TooManyTokens};
 ghost use Rattle.ms_lex.specs.Grammar.{done, run};
 ghost use Rattle.ms_lex.specs.Numbers as read;
+ghost use Rattle.ms_lex.specs.Tokens.{tokens_of};
 ghost use Rattle.ms_ir.specs.declared.syntax.Module.{Module};
 ghost use Rattle.ms_ir.specs.declared.forms.Form.TheVariants.{Instrumented};
+ghost use Rattle.ms_grammar.specs.declared.refusals.Refusal.{Refusal};
 ghost use Rattle.ms_grammar.specs.Lexemes.{end_of_text};
 ghost use Rattle.ms_grammar.specs.Modules.{module_rule};
-ghost use Rattle.ms_grammar.specs.Texts.{Reads};
+ghost use Rattle.ms_grammar.specs.Texts.{Reads, Stops, max_tokens};
 ghost use Rattle.ms_valid.specs.Formed.{Formed};
 ghost use Rattle.ms_written.specs.Modules.{module_pieces, written};
 ghost use Rattle.ms_written.specs.Names.{signed_text};
 ghost use Rattle.ms_written.specs.Pieces.{tokens_in};
-ghost use Rattle.ms_text_laws.specs.Fits.{FitsForm, FitsText};
+ghost use Rattle.ms_text_laws.specs.Fits.{FitsForm, FitsText, NamesLimit};
 
 /// Digits of a number below 2^64 are read as that number. So is the signed text of a word of an integer type, modulo 2 to
 /// the power of the type's width.
@@ -33,4 +37,12 @@ pub fn layouts_are_read_back()
 pub fn layouts_are_injective()
     ensures tokens { (m n : Module) → Formed m → Formed n → tokens_in (module_pieces m) ≡ tokens_in (module_pieces n) → m ≡ n }
     ensures texts { (m n : Module) → Formed m → Formed n → written m ≡ written n → m ≡ n }
+{}
+
+/// What is written of a formed module is never misread, whatever its size: an instrumented text reads as that module or as none, and
+/// it is refused for a limit or for numbering alone. So it has too many tokens, or it stops at one for such a cause.
+pub fn layouts_are_never_misread()
+    ensures reads { (m : Module) → Formed m → (k : Module) → Reads Instrumented (written m) k → k ≡ m }
+    ensures stops { (m : Module) → Formed m → (token : ℕ) (cause : Refusal) → Stops Instrumented (written m) token cause → NamesLimit cause }
+    ensures tokens { (m : Module) (error : LexError) → tokens_of (written m) (max_tokens Instrumented) ≡ Err error → error ≡ TooManyTokens }
 {}

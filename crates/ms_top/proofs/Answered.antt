@@ -8,7 +8,6 @@ use Rattle.ms_runs.specs.declared.runs.End.{End}
 use Rattle.ms_runs.specs.declared.runs.End.TheVariants.{Exit, Trap, Reported, Spent}
 use Rattle.ms_runs.specs.Faithful.{Fair, Prefix}
 use Rattle.ms_runs.specs.Plain.{plain}
-use Rattle.ms_runs_laws.proofs.SameOutput.{faithful_undisturbed}
 use Rattle.ms_read_body.specs.declared.errors.ReadError.{ReadError}
 use Rattle.ms_read_body.specs.declared.errors.ReadError.TheVariants as e
 use Rattle.ms_read_top.specs.Reading.{IsReading}
@@ -121,7 +120,7 @@ pub valid_begins : (under below : Lines) (file name : List ℕ) (inputs : List (
     → IsAnswerToValid IsInstrumented under (Check file o) inputs m a → IsAnswerToValid IsInstrumented below (Run name o) inputs m b → Begins m a b
 valid_begins under below file name inputs o m a b fair (j, made, is) same =
     let s = setup_of o (only_input inputs) in
-    let undisturbed = faithful_undisturbed m j made.faithful s fair in
+    let undisturbed = made.undisturbed s fair in
     record {
       checked = plain j s;
       plainly = plain m s;

@@ -6,6 +6,7 @@ use Rattle.std.proofs.lemmas.List.Elements.{All-cons, All-nil, All-head, All-tai
 use Rattle.ms_io.specs.Reading.{Holdings, IsWholeFile}
 use Rattle.ms_ir.specs.declared.syntax.Module.{Module}
 use Rattle.ms_runs.specs.Faithful.{Fair}
+use Rattle.ms_runs_laws.proofs.Numbering.{no_marks}
 use Rattle.ms_read_body.specs.declared.errors.ReadError.{ReadError}
 use Rattle.ms_read_body.specs.declared.errors.ReadError.TheVariants as e
 use Rattle.ms_read_top.specs.Reading.{IsReading}
@@ -170,6 +171,7 @@ module _ (c : Counted) (file : List ℕ) (o : Options) (a : Answer) (fit : RunsW
           reads = reads;
           formed = formed;
           valid = valid;
+          unmarked = no_marks j m made.faithful.strips;
           under = under;
           lines = lines;
           fair = fair;

@@ -8,3 +8,4 @@ pub mod Said
 pub mod Parts
 pub mod Promised
 pub mod Unread
+pub mod Written

@@ -2,6 +2,7 @@
 use Rattle.std.specs.Prelude.{◌≡◌, ◌⊎◌, ℕ, true, List, [], ◌∷◌}
 use Rattle.ms_ir.specs.declared.forms.Form.TheVariants.{Plain}
 use Rattle.ms_ir.specs.declared.syntax.Module.{Module}
+use Rattle.ms_ir.specs.Code.{NoMarks}
 use Rattle.ms_runs.specs.Faithful.{Fair}
 use Rattle.ms_runs.specs.Shadow.{shadow}
 use Rattle.ms_grammar.specs.Texts.{Reads}
@@ -47,6 +48,7 @@ pub record ShadowShown (c : Counted) (file : List ℕ) (o : Options) (a : Answer
   pub reads : Reads Plain text module_read
   pub formed : Formed module_read
   pub valid : Valid module_read
+  pub unmarked : NoMarks module_read
   pub under : Lines
   pub lines : AreLines (Check file o) text module_read under
   pub fair : Fair (setup_of o (only_input inputs))

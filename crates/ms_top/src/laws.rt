@@ -40,6 +40,7 @@ ghost use Rattle.ms_top.specs.Promised.{NothingRan, ShadowShown};
 ghost use Rattle.ms_top.specs.Instrumented.{IsInstrumented};
 ghost use Rattle.ms_top.specs.Lines.{AreLines, fault_text_with};
 ghost use Rattle.ms_top.specs.Said.{IsAnswer, IsAnswerToCommand, IsAnswerOfGen, IsAnswerToText, IsAnswerToValid, DifferInPath, answer_of, answer_of_result, answer_of_results, run_text, says, status_of, summary_of};
+ghost use Rattle.ms_top.specs.Written.{IsLimitRefusal, RunsAlike};
 
 /// What is to be said is one answer, but where memory runs out, and for the path that shows that a use of a value isn't
 /// defined: of a module's text, and of commands and of words where the files are told and no fault of theirs was counted.
@@ -81,17 +82,19 @@ pub fn checks_show_the_shadow_run()
     ensures spelled { defaults ≡ record { input = None; fill = 0xa5 ∷ []; steps = 10000000; reports = 1; locations = false } }
 {}
 
-/// What `instrument` writes is the text of a faithful module, and of no other formed module. Where that text is within the
-/// limits of its form, `run` says of it what `check` says of the module that was read, with the same options and input, but
-/// for the verdict; where lines under each site are asked for, `run` shows where the sites stand in the text that was written.
+/// What `instrument` writes is the text of a faithful module, and of no other formed module. `run` says of that text what `check`
+/// says of the module that was read, with the same options and input, but for the verdict, or it refuses the text for a limit or
+/// for numbering. It doesn't refuse one that is within the limits of its form. Where lines under each site are asked for, `run` shows
+/// where the sites stand in the text that was written.
 pub fn written_modules_run_alike()
     ensures named { (under : Lines) (file : List ℕ) (inputs : List (List ℕ)) (m j : Module) (a : Answer) → IsAnswerToValid IsInstrumented under (Instrument file) inputs m a
         → Formed j → a.out ≡ written j → IsInstrumented m j }
-    ensures alike { (under : Lines) (file name : List ℕ) (inputs : List (List ℕ)) (o : Options) (m i : Module) (a b c : Answer) → IsAnswerToValid IsInstrumented under (Instrument file) [] m a
-        → IsElided m i → FitsText i → IsAnswerToText IsInstrumented (Run name o) inputs a.out b
-        → IsAnswerToValid IsInstrumented under (Check name o) inputs m c
-        → (j : Module) × IsInstrumented m j × (below : Lines) × AreLines (Run name o) a.out j below
-        × (r : RunResult) × (b ≡ answer_of_result below false m r) × (c ≡ answer_of_result under true m r) }
+    ensures alike { (under : Lines) (file name : List ℕ) (inputs : List (List ℕ)) (o : Options) (m : Module) (a b c : Answer) → IsAnswerToValid IsInstrumented under (Instrument file) [] m a
+        → IsAnswerToText IsInstrumented (Run name o) inputs a.out b → IsAnswerToValid IsInstrumented under (Check name o) inputs m c
+        → IsLimitRefusal b ⊎ RunsAlike m name o a.out under b c }
+    ensures fitting { (under : Lines) (file name : List ℕ) (inputs : List (List ℕ)) (o : Options) (m i : Module) (a b c : Answer) → IsAnswerToValid IsInstrumented under (Instrument file) [] m a
+        → IsElided m i → FitsText i → IsAnswerToText IsInstrumented (Run name o) inputs a.out b → IsAnswerToValid IsInstrumented under (Check name o) inputs m c
+        → RunsAlike m name o a.out under b c }
 {}
 
 /// What the option `--where` adds is lines that begin with four blanks, under those that name a site: once these are taken out,

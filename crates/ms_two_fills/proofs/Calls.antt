@@ -24,13 +24,11 @@ use Rattle.ms_runs.specs.Poisoned.{Poisoned}
 use Rattle.ms_runs.specs.Masks.{union, word_at}
 use Rattle.ms_runs.specs.Uses.{external_uses, callee_uses, uses, blinded, Use, Asked, value_uses, string_uses}
 use Rattle.ms_runs.specs.Shadow.{external_planes, callee_planes}
-use Rattle.ms_two_fills.specs.Alike.{refill}
-use Rattle.ms_two_fills.specs.Passed.{AllPassed, Passed}
-use Rattle.ms_two_fills.specs.Effects.{EffectsAlike}
-use Rattle.ms_two_fills.specs.Placed.{FitWorld}
+use Rattle.ms_two_fills.proofs.Passed.{AllPassed, Passed}
+use Rattle.ms_two_fills.proofs.Effects.{EffectsAlike}
 use Rattle.ms_two_fills.proofs.Words.{LowAt}
-use Rattle.ms_two_fills.proofs.Reading.{AlikeWords, word_alike, word_number, read_all_alike, number_same}
-use Rattle.ms_two_fills.proofs.Worlds.{other, BytesAlike, low_other}
+use Rattle.ms_two_fills.proofs.Reading.{AlikeWords, word_alike, word_number, read_all_alike, number_same, refill}
+use Rattle.ms_two_fills.proofs.Worlds.{other, BytesAlike, low_other, FitWorld}
 use Rattle.ms_two_fills.proofs.Addresses.{AddressStands}
 use Rattle.ms_two_fills.proofs.Ops.{CastStands, OpAlike, ReadAlike, op_alike}
 use Rattle.ms_two_fills.proofs.Externals.{answered, ExtAlike, three_alike, prints_alike, checked_string}

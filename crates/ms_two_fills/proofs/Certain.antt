@@ -20,10 +20,12 @@ use Rattle.ms_runs_laws.proofs.PlainPart.{bare}
 use Rattle.ms_runs_laws.proofs.SameRuns.{same_step}
 use Rattle.ms_runs_laws.proofs.ShownSteps.{bare_frame}
 use Rattle.ms_runs_laws.proofs.SameOutput.{Mirrors, Steps, step_mirrors}
-use Rattle.ms_two_fills.specs.Alike.{StepsAlike, CountsNone, refill}
+use Rattle.ms_two_fills.specs.Alike.{StepsAlike, CountsNone}
 use Rattle.ms_two_fills.specs.Certain.{CertainFrames, CertainWorld, CertainSteps, Untold, UntoldSteps}
 use Rattle.ms_two_fills.specs.Chosen.{steps_by, chosen_step}
-use Rattle.ms_two_fills.specs.Placed.{SoundPlaced, FirstIs}
+use Rattle.ms_two_fills.specs.Placed.{SoundPlaced}
+use Rattle.ms_two_fills.proofs.Kept.{FirstIs}
+use Rattle.ms_two_fills.proofs.Reading.{refill}
 use Rattle.ms_two_fills.proofs.FirstReport.{first_only, MovedFirst, frames_first}
 use Rattle.ms_bits.specs.Completion.{Agrees}
 use Rattle.ms_two_fills.proofs.LimitFree.{step_free}
@@ -50,7 +52,7 @@ module _ (s : Setting) (m : Module) where
   before_step : (c : ShadowState) → UntoldSteps (shadow_step by_formulas s m c) → Untold c.world
   before_step c h = grown_before c.world (shadow_frames by_formulas s m c.frames c.world) (frames_grown s m c.frames c.world) h
 
-  before_steps : (n : ℕ) (c : ShadowState) → UntoldSteps (steps (shadow_step by_formulas s m) n c) → Untold c.world
+  pub before_steps : (n : ℕ) (c : ShadowState) → UntoldSteps (steps (shadow_step by_formulas s m) n c) → Untold c.world
   before_steps zero c h = h
   before_steps (suc n) c h = before_step c (after (shadow_step by_formulas s m c) (λ d k. before_steps n d k) h)
     where
@@ -92,12 +94,21 @@ counts_none : (c : ShadowState) → c.world.blind ≡ 0 → (x : Stepped ShadowS
 counts_none c z (More d) h = h.blind ∙ sym z
 counts_none c z (Stop e w) h = h.blind ∙ sym z
 
+-- all three begin alike
+pub start_aligned : (m : Module) → Formed m → Valid m → (setup : Setup) → GivesBytes setup → Aligned m (shadow_start m setup) (shadow_start m setup) (plain_start m setup)
+start_aligned m formed valid setup bytes = record {
+  low = start_alike m setup setup.fill;
+  mirrors = record { frames = refl; world = refl };
+  good = good_start m formed valid setup bytes;
+  good_too = good_start m formed valid setup bytes;
+}
+
 module _ (m : Module) (formed : Formed m) (valid : Valid m) (unmarked : NoMarks m) (setup : Setup) (bytes : GivesBytes setup) (fills : ℕ → List ℕ) (are : (k : ℕ) → IsFill (fills k)) where
   -- the setting of the run up to its first report
   abbrev one : Setting
   one = first_only (setting_of m setup)
 
-  one_step : (k : ℕ) (c d : ShadowState) (p : PlainState) → Aligned m c d p → UntoldSteps (shadow_step by_formulas (setting_of m setup) m c)
+  pub one_step : (k : ℕ) (c d : ShadowState) (p : PlainState) → Aligned m c d p → UntoldSteps (shadow_step by_formulas (setting_of m setup) m c)
       → AlignedSteps m (shadow_step by_formulas (setting_of m setup) m c) (chosen_step m setup fills k p)
   one_step k c d p a told =
       let same = untold_first (setting_of m setup) m c told in
@@ -157,15 +168,7 @@ module _ (m : Module) (formed : Formed m) (valid : Valid m) (unmarked : NoMarks 
 
   pub aligned_steps : (n : ℕ) → UntoldSteps (steps (shadow_step by_formulas (setting_of m setup) m) n (shadow_start m setup))
       → AlignedSteps m (steps (shadow_step by_formulas (setting_of m setup) m) n (shadow_start m setup)) (steps_by (chosen_step m setup fills) n 0 (plain_start m setup))
-  aligned_steps n told = walk n 0 (shadow_start m setup) (shadow_start m setup) (plain_start m setup) start told
-    where
-      start : Aligned m (shadow_start m setup) (shadow_start m setup) (plain_start m setup)
-      start = record {
-        low = start_alike m setup setup.fill;
-        mirrors = record { frames = refl; world = refl };
-        good = good_start m formed valid setup bytes;
-        good_too = good_start m formed valid setup bytes;
-      }
+  aligned_steps n told = walk n 0 (shadow_start m setup) (shadow_start m setup) (plain_start m setup) (start_aligned m formed valid setup bytes) told
 
 -- ---- what is certain
 
@@ -185,7 +188,7 @@ certain_world w u v h e = record {
   bytes = λ a. subst (λ b. Agrees 8 (w.shadow a) (w.bytes a) (b a)) (sym (ap (λ k. k.bytes) e)) (h.bytes a);
 }
 
-certain_steps : (m : Module) (x : Stepped ShadowState) (z : Stepped PlainState) → AlignedSteps m x z → CertainSteps x z
+pub certain_steps : (m : Module) (x : Stepped ShadowState) (z : Stepped PlainState) → AlignedSteps m x z → CertainSteps x z
 certain_steps m (More c) (More p) h =
     (subst (λ fs. CertainFrames c.frames fs) (sym h.1.mirrors.frames) (certain_frames c.frames h.0.frames h.1.low.frames), certain_world c.world h.0.world p.world h.1.low.world h.1.mirrors.world)
 certain_steps m (Stop e w) (Stop x v) h = (h.0, certain_world w h.1.between v h.1.low h.1.mirrors)

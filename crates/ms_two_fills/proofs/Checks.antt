@@ -18,11 +18,10 @@ use Rattle.ms_runs.specs.Externals.{string_at}
 use Rattle.ms_runs.specs.Poisoned.{Poisoned}
 use Rattle.ms_runs.specs.Masks.{word_at}
 use Rattle.ms_runs.specs.Uses.{Use, Word, Bytes, Line, type_at, check_use, check_uses, Asked}
-use Rattle.ms_two_fills.specs.Alike.{refill}
-use Rattle.ms_two_fills.specs.Passed.{Passed, AllPassed}
-use Rattle.ms_two_fills.specs.Effects.{CheckedAlike, Ready}
+use Rattle.ms_two_fills.proofs.Passed.{Passed, AllPassed}
+use Rattle.ms_two_fills.proofs.Effects.{CheckedAlike, Ready}
 use Rattle.ms_two_fills.proofs.Worlds.{other, BytesAlike}
-use Rattle.ms_two_fills.proofs.Reading.{AlikeWords, word_alike, number_same}
+use Rattle.ms_two_fills.proofs.Reading.{AlikeWords, word_alike, number_same, refill}
 
 -- a byte without a poisoned bit is the same
 pub byte_same : (w : World) (b : ℕ → ℕ) → BytesAlike w b → ((a : ℕ) → w.bytes a < 256) → ((a : ℕ) → b a < 256) → (a : ℕ) → w.shadow a ≡ 0 → w.bytes a ≡ b a

@@ -20,8 +20,9 @@ use Rattle.ms_two_fills.specs.Chosen.{run_by, steps_by, shadow_chosen, chosen_st
 use Rattle.ms_runs.specs.LowEqual.{LowEqual}
 use Rattle.ms_runs_laws.proofs.ExactRules.{formulas_exact}
 use Rattle.ms_runs_laws.proofs.SameRuns.{same_step}
-use Rattle.ms_two_fills.specs.Alike.{StepsAlike, CountsNone, refill}
+use Rattle.ms_two_fills.specs.Alike.{StepsAlike, CountsNone}
 use Rattle.ms_two_fills.specs.Placed.{SoundPlaced}
+use Rattle.ms_two_fills.proofs.Reading.{refill}
 use Rattle.ms_two_fills.proofs.Runs.{result_same, step_blind, stepped_blind, run_blind, step_quiet, Kept, Sure}
 use Rattle.ms_two_fills.proofs.Steps.{step_alike}
 use Rattle.ms_two_fills.proofs.Sure.{good_sure, good_kept, good_start}
@@ -29,10 +30,10 @@ use Rattle.ms_two_fills.proofs.Certain.{certain}
 use Rattle.ms_two_fills.proofs.Whole.{computed, start_alike, first_of, quiet_first, nothing_told}
 
 -- what a run answers that has no step left
-abbrev spent : {S : Type 0} → (S → World) → Stepped S → RunResult
+abbrev pub spent : {S : Type 0} → (S → World) → Stepped S → RunResult
 spent world x = go_on (λ s. result «end».Spent (world s)) x
 
-run_steps : {S : Type 0} (world : S → World) (step : S → Stepped S) (n : ℕ) (s : S) → run world step n s ≡ spent world (steps step n s)
+pub run_steps : {S : Type 0} (world : S → World) (step : S → Stepped S) (n : ℕ) (s : S) → run world step n s ≡ spent world (steps step n s)
 run_steps world step zero s = refl
 run_steps {S} world step (suc n) s = after (step s) (λ k. run_steps world step n k)
   where
@@ -48,11 +49,11 @@ run_steps_by {S} world step (suc n) k s = after (step k s) (λ c. run_steps_by w
     after (More c) rest = rest c
     after (Stop e w) rest = refl
 
-untold : (x : Stepped ShadowState) → (spent (λ c. c.world) x).reports ≡ [] → (spent (λ c. c.world) x).blind ≡ 0 → UntoldSteps x
+pub untold : (x : Stepped ShadowState) → (spent (λ c. c.world) x).reports ≡ [] → (spent (λ c. c.world) x).blind ≡ 0 → UntoldSteps x
 untold (More c) r b = record { reports = r; blind = b }
 untold (Stop e w) r b = record { reports = r; blind = b }
 
-same_shown : (x : Stepped ShadowState) (z : Stepped PlainState) → CertainSteps x z → SameShown (spent (λ p. p.world) z) (spent (λ c. c.world) x)
+pub same_shown : (x : Stepped ShadowState) (z : Stepped PlainState) → CertainSteps x z → SameShown (spent (λ p. p.world) z) (spent (λ c. c.world) x)
 same_shown (More c) (More p) h = record { output = sym h.1.output; ends = refl }
 same_shown (Stop e w) (Stop x v) h = record { output = sym h.1.output; ends = sym h.0 }
 same_shown (More c) (Stop x v) h = absurd h

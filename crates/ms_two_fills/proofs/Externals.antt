@@ -20,11 +20,10 @@ use Rattle.ms_runs.specs.Poisoned.{Poisoned}
 use Rattle.ms_runs.specs.Uses.{external_uses}
 use Rattle.ms_runs.specs.Shadow.{external_planes}
 use Rattle.ms_runs.specs.LowEqual.{LowWord, LowWorld, SameBits}
-use Rattle.ms_two_fills.specs.Alike.{refill}
-use Rattle.ms_two_fills.specs.Passed.{AllPassed}
-use Rattle.ms_two_fills.specs.Effects.{EffectsAlike}
-use Rattle.ms_two_fills.specs.Placed.{FitWorld}
-use Rattle.ms_two_fills.proofs.Worlds.{other, BytesAlike, low_other, poison_low, made_low, zeros_low, remade_low, copied_low, same_bytes_low, clean_bytes_low, filled_low, empty_low, low_byte_alike}
+use Rattle.ms_two_fills.proofs.Reading.{refill}
+use Rattle.ms_two_fills.proofs.Passed.{AllPassed}
+use Rattle.ms_two_fills.proofs.Effects.{EffectsAlike}
+use Rattle.ms_two_fills.proofs.Worlds.{other, BytesAlike, low_other, poison_low, made_low, zeros_low, remade_low, copied_low, same_bytes_low, clean_bytes_low, filled_low, empty_low, low_byte_alike, FitWorld}
 use Rattle.ms_two_fills.proofs.Ops.{same_word, other_word, exact_word}
 use Rattle.ms_two_fills.proofs.Blocks.{heap_found, none_at_zero, size_found, too_many, reallocated_low, bytes_checked, string_checked}
 

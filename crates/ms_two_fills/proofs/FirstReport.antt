@@ -28,8 +28,7 @@ use Rattle.ms_runs.specs.Masks.{by_formulas, union, word_at}
 use Rattle.ms_runs.specs.Uses.{Use, Word, Bytes, Line, type_at, uses, check_use, check_uses, blinded, Asked}
 use Rattle.ms_runs.specs.Shadow.{read_poisoned, shadow_reading, operand_mask, operand_origin, external_planes, callee_planes, planes, ShadowState, shadow_moved, poisoned_result, shadow_act, after_checks, shadow_inst, shadow_first, shadow_frames, shadow_step}
 use Rattle.ms_two_fills.specs.First.{FirstOf}
-use Rattle.ms_two_fills.specs.Placed.{FirstIs, Checks, ChecksAfter}
-use Rattle.ms_two_fills.proofs.Kept.{uses_kept}
+use Rattle.ms_two_fills.proofs.Kept.{uses_kept, ChecksAfter, FirstIs, Checks}
 use Rattle.ms_two_fills.proofs.LimitFree.{act_free}
 use Rattle.ms_two_fills.proofs.Runs.{KeptOutcome, GrownOutcome, act_moves_kept, after_grown, frames_grown, run_blind}
 

@@ -32,7 +32,41 @@ use Rattle.ms_runs.specs.Poisoned.{Poisoned}
 use Rattle.ms_runs.specs.Masks.{word_at}
 use Rattle.ms_runs.specs.Uses.{Use, Word, Bytes, Line, type_at, check_use, check_uses, Asked}
 use Rattle.ms_runs.specs.Shadow.{external_planes, callee_planes, planes}
-use Rattle.ms_two_fills.specs.Placed.{IsPlaced, Keeps, KeepsAfter, Checks, ChecksAfter}
+use Rattle.ms_two_fills.specs.Placed.{IsPlaced, HeapPlaced}
+
+-- what an instruction leaves of a world: the number of blind uses, the reports, and heap blocks in their places
+pub record Keeps (w u : World) : Type 0 where
+  pub blind : u.blind ≡ w.blind
+  pub reports : u.reports ≡ w.reports
+  pub placed : HeapPlaced w → HeapPlaced u
+
+-- the first report of a world
+abbrev pub FirstIs : Report → World → Type 0
+FirstIs r w = (rest : List Report) × (w.reports ≡ r ∷ rest)
+
+-- what checks leave of a world: the number of blind uses, the first report, and heap blocks in their places
+pub record Checks (w u : World) : Type 0 where
+  pub blind : u.blind ≡ w.blind
+  pub leads : (r : Report) → FirstIs r w → FirstIs r u
+  pub placed : HeapPlaced w → HeapPlaced u
+
+-- what an instruction leaves of the world of its effect
+abbrev pub KeepsAfter : World → Effect → Type 0
+KeepsAfter w (Gives v u) = Keeps w u
+KeepsAfter w (Does u) = Keeps w u
+KeepsAfter w (Goes to u) = Keeps w u
+KeepsAfter w (Enters f u) = Keeps w u
+KeepsAfter w (Leaves u) = Keeps w u
+KeepsAfter w (Ends e u) = Keeps w u
+
+-- what checks leave of the world of an effect
+abbrev pub ChecksAfter : World → Effect → Type 0
+ChecksAfter w (Gives v u) = Checks w u
+ChecksAfter w (Does u) = Checks w u
+ChecksAfter w (Goes to u) = Checks w u
+ChecksAfter w (Enters f u) = Checks w u
+ChecksAfter w (Leaves u) = Checks w u
+ChecksAfter w (Ends e u) = Checks w u
 
 -- ---- worlds with the same allocations
 

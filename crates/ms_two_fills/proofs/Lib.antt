@@ -5,6 +5,8 @@ pub mod Calls
 pub mod Certain
 pub mod Checks
 pub mod Chosen
+pub mod ChangingMemory
+pub mod Effects
 pub mod Externals
 pub mod FirstReport
 pub mod Formats
@@ -12,6 +14,7 @@ pub mod Kept
 pub mod LimitFree
 pub mod Moves
 pub mod Ops
+pub mod Passed
 pub mod Reading
 pub mod Reported
 pub mod Runs

@@ -19,10 +19,9 @@ use Rattle.ms_runs.specs.Control.{Frame, On, Over, read_edge, phis, block_name, 
 use Rattle.ms_runs.specs.Poisoned.{Poisoned, clean}
 use Rattle.ms_runs.specs.Shadow.{read_poisoned, shadow_reading}
 use Rattle.ms_runs.specs.LowEqual.{LowFrame, LowFrames, LowWord, LowWorld}
-use Rattle.ms_two_fills.specs.Alike.{refill}
-use Rattle.ms_two_fills.specs.Effects.{EffectsAlike, MovesAlike}
+use Rattle.ms_two_fills.proofs.Effects.{EffectsAlike, MovesAlike}
 use Rattle.ms_two_fills.proofs.Words.{alike_word}
-use Rattle.ms_two_fills.proofs.Reading.{AlikeWords, read_low}
+use Rattle.ms_two_fills.proofs.Reading.{AlikeWords, read_low, refill}
 
 clean_alike : LowWord clean clean
 clean_alike = record { mask = refl; origin = refl; value = λ i z. refl }

@@ -24,18 +24,16 @@ use Rattle.ms_runs.specs.Masks.{by_formulas, union}
 use Rattle.ms_runs.specs.Uses.{uses, blinded}
 use Rattle.ms_runs.specs.Shadow.{planes, poisoned_result}
 use Rattle.ms_runs.specs.LowEqual.{LowWord, LowWorld, SameBits}
-use Rattle.ms_two_fills.specs.Alike.{refill}
 use Rattle.ms_bits_laws.proofs.ByteAgreement.{loaded_agree}
 use Rattle.ms_bits_laws.proofs.OperationAgreement.{cut}
 use Rattle.ms_bits.specs.Formulas as formulas
-use Rattle.ms_two_fills.specs.Passed.{AllPassed}
-use Rattle.ms_two_fills.specs.Effects.{EffectsAlike}
-use Rattle.ms_two_fills.specs.Placed.{FitWorld}
+use Rattle.ms_two_fills.proofs.Passed.{AllPassed}
+use Rattle.ms_two_fills.proofs.Effects.{EffectsAlike}
 use Rattle.ms_two_fills.proofs.Words.{LowAt, from_width, alike_word, union_clean, AnswersAlike, binary_masks, binary_alike}
 use Rattle.ms_two_fills.proofs.Addresses.{AddressStands, read_all_at, addresses_agree, address_fits}
 use Rattle.ms_two_fills.proofs.Answers.{CastsTo, compare_masks, compare_alike, cast_masks, cast_alike, select_masks, select_origins, select_alike}
-use Rattle.ms_two_fills.proofs.Reading.{AlikeWords, read_all_alike, number_same, masks_same, origins_same}
-use Rattle.ms_two_fills.proofs.Worlds.{other, BytesAlike, low_other, made_low, stored_low, store_origin_low}
+use Rattle.ms_two_fills.proofs.Reading.{AlikeWords, read_all_alike, number_same, masks_same, origins_same, refill}
+use Rattle.ms_two_fills.proofs.Worlds.{other, BytesAlike, low_other, made_low, stored_low, store_origin_low, FitWorld}
 
 -- words alike without a poisoned bit are one
 pub same_word : (p q : Poisoned) → LowWord p q → p.mask ≡ 0 → p ≡ q

@@ -19,8 +19,11 @@ use Rattle.ms_runs.specs.Shadow.{read_poisoned}
 use Rattle.ms_bits_laws.proofs.BitLemmas.{bit_at_mod}
 use Rattle.ms_bits_laws.proofs.OperationAgreement.{nothing_outside_ones}
 use Rattle.ms_runs.specs.LowEqual.{LowWord}
-use Rattle.ms_two_fills.specs.Alike.{refill}
 use Rattle.ms_two_fills.proofs.Words.{LowAt, alike_word}
+
+-- a setting with another fill
+abbrev pub refill : Setting → List ℕ → Setting
+refill s fill = record s { fill = fill }
 
 -- ---- words that are read are in range
 

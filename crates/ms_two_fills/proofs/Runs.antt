@@ -17,10 +17,12 @@ use Rattle.ms_runs.specs.Masks.{by_formulas, union}
 use Rattle.ms_runs.specs.Uses.{uses, blinded}
 use Rattle.ms_runs.specs.Shadow.{read_poisoned, shadow_reading, planes, ShadowState, shadow_moved, poisoned_result, shadow_act, after_checks, shadow_inst, shadow_first, shadow_frames, shadow_step}
 use Rattle.ms_runs.specs.LowEqual.{LowEqual, LowWorld}
-use Rattle.ms_two_fills.specs.Alike.{StepsAlike, CountsNone, refill}
+use Rattle.ms_two_fills.specs.Alike.{StepsAlike, CountsNone}
 use Rattle.ms_runs.specs.declared.runs.Report.{Report}
-use Rattle.ms_two_fills.specs.Placed.{HeapPlaced, FitWorld, Keeps, KeepsAfter, FirstIs, Checks, ChecksAfter}
-use Rattle.ms_two_fills.proofs.Kept.{then_kept, release_kept, act_kept, planes_kept, uses_kept}
+use Rattle.ms_two_fills.specs.Placed.{HeapPlaced}
+use Rattle.ms_two_fills.proofs.Reading.{refill}
+use Rattle.ms_two_fills.proofs.Worlds.{FitWorld}
+use Rattle.ms_two_fills.proofs.Kept.{then_kept, release_kept, act_kept, planes_kept, uses_kept, KeepsAfter, ChecksAfter, Keeps, FirstIs, Checks}
 use Rattle.ms_two_fills.proofs.Steps.{QuietAt, DueQuiet, TopQuiet, TopStands, step_alike}
 
 -- ---- what a step leaves

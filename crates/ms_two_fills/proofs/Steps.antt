@@ -21,13 +21,12 @@ use Rattle.ms_runs.specs.Masks.{by_formulas, union, word_at}
 use Rattle.ms_runs.specs.Uses.{uses, binary_uses, callee_uses, external_uses, check_uses, has_flag, blind_binary, blinded, Use, Line, Asked, value_uses, string_uses}
 use Rattle.ms_runs.specs.Shadow.{read_poisoned, ShadowState, shadow_moved, shadow_act, after_checks, shadow_inst, shadow_first, shadow_frames, shadow_step}
 use Rattle.ms_runs.specs.LowEqual.{LowEqual, LowFrames}
-use Rattle.ms_two_fills.specs.Alike.{StepsAlike, refill}
-use Rattle.ms_two_fills.specs.Passed.{Passed, AllPassed}
-use Rattle.ms_two_fills.specs.Effects.{CheckedAlike, Ready, MovesAlike}
-use Rattle.ms_two_fills.specs.Placed.{FitWorld}
+use Rattle.ms_two_fills.specs.Alike.{StepsAlike}
+use Rattle.ms_two_fills.proofs.Passed.{Passed, AllPassed}
+use Rattle.ms_two_fills.proofs.Effects.{CheckedAlike, Ready, MovesAlike}
 use Rattle.std.specs.Prelude.{take, drop}
-use Rattle.ms_two_fills.proofs.Reading.{AlikeWords, masks_same, read_low, read_all_alike}
-use Rattle.ms_two_fills.proofs.Worlds.{other, BytesAlike, low_other, other_is}
+use Rattle.ms_two_fills.proofs.Reading.{AlikeWords, masks_same, read_low, read_all_alike, refill}
+use Rattle.ms_two_fills.proofs.Worlds.{other, BytesAlike, low_other, other_is, FitWorld}
 use Rattle.ms_two_fills.proofs.Checks.{uses_alike}
 use Rattle.ms_two_fills.proofs.Addresses.{AddressStands}
 use Rattle.ms_two_fills.proofs.Ops.{CastStands}

@@ -24,7 +24,7 @@ use Rattle.ms_bits_laws.proofs.BitwiseMasks.{and_exact, or_exact, xor_exact}
 use Rattle.ms_bits_laws.proofs.FormulaMasks.{and_same, or_same}
 use Rattle.ms_bits_laws.proofs.OperationAgreement.{left_shifts_agree, right_shifts_agree, signed_shifts_agree, left_shift-lt, right_shift-lt, signed_shift-lt}
 use Rattle.ms_runs.specs.LowEqual.{LowWord, SameBits}
-use Rattle.ms_two_fills.specs.Passed.{AllPassed}
+use Rattle.ms_two_fills.proofs.Passed.{AllPassed}
 
 -- two words of so many bits that agree outside their mask
 pub record LowAt (w : ℕ) (p q : Poisoned) : Type 0 where

@@ -1,5 +1,5 @@
 -- Worlds that differ in poisoned bytes alone, and the changes that keep them so.
-use Rattle.std.proofs.Common.{◌≡◌, ℕ, zero, suc, ◌+◌, ◌-◌, ◌*◌, ◌/◌, ◌%◌, ◌^◌, ◌<◌, List, [], ◌∷◌, ◌++◌, length, Bool, true, false, not, ◌&&◌, ◌||◌, eqb, leb, ltb, Option, Some, None, is_some, refl, sym, ap, ap₂, ◌∙◌, subst, arith, if◌then◌else◌, true≢false}
+use Rattle.std.proofs.Common.{◌≡◌, ℕ, zero, suc, ◌+◌, ◌-◌, ◌*◌, ◌/◌, ◌%◌, ◌^◌, ◌<◌, List, [], ◌∷◌, ◌++◌, length, Bool, true, false, not, ◌&&◌, ◌||◌, eqb, leb, ltb, Option, Some, None, is_some, refl, sym, ap, ap₂, ◌∙◌, subst, arith, if◌then◌else◌, true≢false, ◌≤◌, All}
 use Rattle.std.proofs.lemmas.Bool.{le-leb, leb-true}
 use Rattle.ms_bits.specs.Completion.{Agrees}
 use Rattle.ms_bits.specs.Maps.{within, with_range, byte_of, with_cells, with_cell}
@@ -10,6 +10,14 @@ use Rattle.ms_runs.specs.Origins.{Chained, keeps_old, pair_index, chain, poison,
 use Rattle.ms_runs.specs.LowEqual.{LowWorld, SameBits}
 use Rattle.ms_bits_laws.proofs.ByteAgreement.{byte_bit, ranges_agree, copies_agree}
 use Rattle.ms_bits_laws.proofs.OperationAgreement.{nothing_outside_ones}
+use Rattle.ms_two_fills.specs.Placed.{HeapPlaced}
+
+-- a world whose bytes and shadow bytes are bytes, with allocations of a size that may be, and heap blocks in their places
+pub record FitWorld (w : World) : Type 0 where
+  pub bytes : (a : ℕ) → w.bytes a < 256
+  pub shadow : (a : ℕ) → w.shadow a < 256
+  pub sizes : All (λ a. a.size ≤ 2 ^ 26) w.allocs
+  pub placed : HeapPlaced w
 
 -- ---- one world with other bytes
 

@@ -1,6 +1,5 @@
 -- Steps that come to the same, whatever stands in poisoned bits (own).
-use Rattle.std.specs.Prelude.{◌≡◌, ℕ, List}
-use Rattle.ms_runs.specs.World.{Setting}
+use Rattle.std.specs.Prelude.{◌≡◌}
 use Rattle.ms_runs.specs.Plain.{Stepped, More, Stop}
 use Rattle.ms_runs.specs.Shadow.{ShadowState}
 use Rattle.ms_runs.specs.LowEqual.{LowWorld, LowEqual}
@@ -10,10 +9,6 @@ abbrev pub StepsAlike : Stepped ShadowState → Stepped ShadowState → Type 0
 StepsAlike (More c) (More d) = LowEqual c d
 StepsAlike (Stop e w) (Stop x v) = (e ≡ x) × LowWorld w v
 StepsAlike _ _ = ⊥
-
--- a setting with another fill
-abbrev pub refill : Setting → List ℕ → Setting
-refill s fill = record s { fill = fill }
 
 -- a step counts no blind use
 abbrev pub CountsNone : ShadowState → Stepped ShadowState → Type 0

@@ -1,9 +1,8 @@
 pub mod Alike
 pub mod Certain
+pub mod Changing
 pub mod Checked
 pub mod Chosen
-pub mod Effects
 pub mod ExampleWorlds
 pub mod First
-pub mod Passed
 pub mod Placed

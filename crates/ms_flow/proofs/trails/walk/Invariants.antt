@@ -1,5 +1,6 @@
 use Rattle.std.proofs.Common.{◌≡◌, ◌+◌, ◌-◌, ◌≤◌, length}
-use Rattle.ms_flow.specs.Walks.{IsWalk, Marks, IsClosed, unseen}
+use Rattle.ms_flow.specs.Walks.{IsWalk, Marks, unseen}
+use Rattle.ms_flow.proofs.Visited.{IsClosed}
 use Rattle.ms_flow.proofs.trails.walk.Given as goal
 
 abbrev pub invariant-loop-at : goal.invariant-loop-at

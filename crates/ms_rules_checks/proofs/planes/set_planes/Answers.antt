@@ -4,8 +4,8 @@ use Rattle.ms_ir.specs.declared.calls.RuntimeFn.TheVariants as function
 use Rattle.ms_tasks.specs.Tasks.{Task}
 use Rattle.ms_rules_code.specs.Made.{with_tasks}
 use Rattle.ms_rules_code.specs.Steps.{tracked_of}
-use Rattle.ms_rules_checks.specs.Pieces.{named_call, alloca_args, store_pieces}
-use Rattle.ms_rules_checks.proofs.PlaneRows.{alloca_planes, store_planes, call_planes}
+use Rattle.ms_rules_checks.specs.Pieces.{named_call, store_pieces}
+use Rattle.ms_rules_checks.proofs.PlaneRows.{alloca_planes, store_planes, call_planes, alloca_args}
 use Rattle.ms_rules_checks.proofs.planes.set_planes.Goals as goal
 
 pub returns-in-Alloca : goal.returns-in-Alloca

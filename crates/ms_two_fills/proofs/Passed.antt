@@ -1,4 +1,4 @@
--- Checks that found nothing (own).
+-- Checks that found nothing.
 use Rattle.std.specs.Prelude.{◌≡◌, List, [], ◌∷◌, None, true}
 use Rattle.ms_bits.specs.Maps.{first_nonzero}
 use Rattle.ms_runs.specs.World.{World}

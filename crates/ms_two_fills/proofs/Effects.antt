@@ -1,11 +1,11 @@
--- Two instructions that come to the same, whatever stands in poisoned bits (own).
+-- Two instructions that come to the same, whatever stands in poisoned bits.
 use Rattle.std.specs.Prelude.{◌≡◌, ℕ, List, [], ◌∷◌}
 use Rattle.ms_runs.specs.World.{World, Effect, Gives, Does, Goes, Enters, Leaves, Ends}
 use Rattle.ms_runs.specs.Control.{Outcome, On, Over}
 use Rattle.ms_runs.specs.Poisoned.{Poisoned}
 use Rattle.ms_runs.specs.Masks.{word_at}
 use Rattle.ms_runs.specs.Uses.{Use, Word, Bytes, Line, Asked}
-use Rattle.ms_two_fills.specs.Passed.{Passed}
+use Rattle.ms_two_fills.proofs.Passed.{Passed}
 use Rattle.ms_runs.specs.LowEqual.{LowFrames, LowWord, LowWorld}
 
 -- checks that find nothing in both worlds, which they leave, or that end both runs alike
