@@ -3,6 +3,7 @@
 use crate::boxes::Boxed;
 use crate::lists::{Bytes, List};
 use crate::operations::{BinOp, CastOp, Flags, Pred};
+use crate::small_bytes::SmallBytes;
 use crate::texts::Text;
 use crate::traps::Trap;
 use crate::words::Word;
@@ -23,6 +24,7 @@ pub fn boxed_is_shared<T: Send + Sync>() {
 /// Each other type of this crate may cross threads.
 pub fn all_shared() {
     is_shared::<Bytes>();
+    is_shared::<SmallBytes>();
     is_shared::<Text>();
     is_shared::<BinOp>();
     is_shared::<Pred>();

@@ -52,7 +52,7 @@ pub fn constant_fits(symbols: &Symbols<'_>, ty: ValueType<'_>, constant: &Operan
         Operand::Local(_) => false,
         Operand::Global(name) => global_fits(symbols, ty, name),
         Operand::Offset(stepped, name, indices) => {
-            offset_fits(symbols, ty, stepped, name, indices.as_slice())
+            offset_fits(symbols, ty, stepped.get(), name.get(), indices.as_slice())
         }
     }
 }

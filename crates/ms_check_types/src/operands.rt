@@ -39,7 +39,13 @@ pub fn operand_fits(body: &Body<'_, '_>, ty: ValueType<'_>, operand: &Operand) -
         },
         Operand::Global(name) => global_fits(body.symbols, ty, name),
         Operand::Offset(stepped, name, indices) => {
-            offset_fits(body.symbols, ty, stepped, name, indices.as_slice())
+            offset_fits(
+                body.symbols,
+                ty,
+                stepped.get(),
+                name.get(),
+                indices.as_slice(),
+            )
         }
     }
 }

@@ -15,7 +15,7 @@ pub fn is_operand_sized(extents: &Extents, operand: &Operand) -> bool
 {
     match operand {
         Operand::Offset(ty, _, indices) => {
-            has_sizes(extents, ty) && are_indices_sized(extents, indices.as_slice())
+            has_sizes(extents, ty.get()) && are_indices_sized(extents, indices.as_slice())
         }
         _ => true,
     }

@@ -26,8 +26,8 @@ fn constant(tables: &Tables<'_>, operand: &Operand) -> u64
         Operand::Int(word) => *word,
         Operand::Global(name) => address(tables, name),
         Operand::Offset(ty, name, indices) => {
-            let base = address(tables, name);
-            indexed(tables, ty, base, indices.as_slice())
+            let base = address(tables, name.get());
+            indexed(tables, ty.get(), base, indices.as_slice())
         }
         Operand::Null | Operand::Undef | Operand::Poison | Operand::Local(_) => 0,
     }

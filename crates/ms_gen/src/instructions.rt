@@ -6,7 +6,7 @@ ghost use Rattle.ms_gen.specs.Generator.{state_after, name_of, operation_on};
 
 use crate::draws::{Draws, operation};
 use itoa::Buffer;
-use ms_bits::{Bytes, Flags, List, NoMemory};
+use ms_bits::{Flags, List, NoMemory, SmallBytes};
 use ms_ir::{Inst, Name, Op, Operand, Ty};
 use std::alloc::Global;
 
@@ -24,9 +24,8 @@ pub fn function_name(alloc: Global, number: u32) -> Result<Name, NoMemory>
     ensures { IfOk result (λ x. x ≡ name_of number) }
 {
     let mut buffer = Buffer::new();
-    let mut text = Vec::from_slice(alloc, b"f")?;
-    text.extend_from_slice(buffer.format(number).as_bytes())?;
-    Ok(Name::Text(Bytes::from_vec(text)))
+    let digits = buffer.format(number).as_bytes();
+    Ok(Name::Text(SmallBytes::joined(alloc, b"f", digits)?))
 }
 
 /// Adds an item at the end of a list.

@@ -10,7 +10,7 @@ ghost use Rattle.ms_gen.specs.Generator.{call_of, functions_of, main_of, main_bo
 use crate::draws::Draws;
 use crate::functions::{one_block, push_function};
 use crate::instructions::{function_name, push, push_call, push_return};
-use ms_bits::{Bytes, List, NoMemory};
+use ms_bits::{List, NoMemory, SmallBytes};
 use ms_ir::{Decl, Func, Inst, Module, Name, Operand, Ty};
 use std::alloc::Global;
 
@@ -18,7 +18,7 @@ use std::alloc::Global;
 fn text_name(alloc: Global, text: &[u8]) -> Result<Name, NoMemory>
     ensures { IfOk result (λ x. x ≡ Name.Text text.now) }
 {
-    Ok(Name::Text(Bytes::from_vec(Vec::from_slice(alloc, text)?)))
+    Ok(Name::Text(SmallBytes::from_slice(alloc, text)?))
 }
 
 /// Adds the call of the last function, with the number 1.

@@ -102,7 +102,7 @@ pub Func-send : IsSend func.the_row
 Func-send = declared_send func.the_type (names.the_send, (search (Ty-send, Crossing.crosses, sendable) depth 60 fits 20000, (search (List-send, Ty-send, names.the_send, Crossing.crosses, sendable) depth 60 fits 20000, (List-send _ Block-send, tt))))
 
 pub Init-send : IsSend init.the_row
-Init-send = search (Crossing.crosses, inits.crosses, tys.crosses, sendable) depth 60 fits 20000
+Init-send = search (Ty-send, List-send, Crossing.crosses, inits.crosses, sendable) depth 60 fits 20000
 
 pub GlobalVar-send : IsSend global.the_row
 GlobalVar-send = declared_send global.the_type (names.the_send, (search sendable, (Ty-send, (Init-send, tt))))
@@ -175,7 +175,7 @@ pub Func-sync : IsSync func.the_row
 Func-sync = declared_sync func.the_type (names.the_sync, (search (Ty-sync, Crossing.crosses, sendable) depth 60 fits 20000, (search (List-sync, Ty-sync, names.the_sync, Crossing.crosses, sendable) depth 60 fits 20000, (List-sync _ Block-sync, tt))))
 
 pub Init-sync : IsSync init.the_row
-Init-sync = search (Crossing.crosses, inits.crosses, tys.crosses, sendable) depth 60 fits 20000
+Init-sync = search (Ty-sync, List-sync, Crossing.crosses, inits.crosses, sendable) depth 60 fits 20000
 
 pub GlobalVar-sync : IsSync global.the_row
 GlobalVar-sync = declared_sync global.the_type (names.the_sync, (search sendable, (Ty-sync, (Init-sync, tt))))

@@ -55,8 +55,8 @@ impl Duplicate for Ty {
 
 fn copy_offset(
     alloc: Global,
-    ty: &Ty,
-    name: &Name,
+    ty: &Boxed<Ty>,
+    name: &Boxed<Name>,
     indices: &List<(Ty, u64)>,
 ) -> Result<Operand, NoMemory>
     ensures { IfOk result (λ c. c ≡ operand.Offset ty.now name.now indices.now) }

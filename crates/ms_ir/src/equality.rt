@@ -120,7 +120,7 @@ fn is_offset(other: &Operand, ty: &Ty, name: &Name, indices: &List<(Ty, u64)>) -
 {
     match other {
         Operand::Offset(own, global, others) => {
-            ty == own && name == global && same_indices(indices, others)
+            ty == own.get() && name == global.get() && same_indices(indices, others)
         }
         _ => false,
     }
@@ -135,7 +135,7 @@ pub fn same_operand(a: &Operand, b: &Operand) -> bool
         Operand::Null => is_null(b),
         Operand::Local(name) => is_local(b, name),
         Operand::Global(name) => is_global(b, name),
-        Operand::Offset(ty, name, indices) => is_offset(b, ty, name, indices),
+        Operand::Offset(ty, name, indices) => is_offset(b, ty.get(), name.get(), indices),
         _ => b.is_undefined(),
     }
 }

@@ -8,7 +8,7 @@ ghost use Rattle.ms_ir.specs.Signatures.{decl_signature, signature_eq};
 ghost use Rattle.ms_ir.specs.Rows.{by_name, by_kind, kind_type, row_signature, row_declaration};
 
 use crate::syntax::{Decl, Name, Ty};
-use ms_bits::{Bytes, List, NoMemory};
+use ms_bits::{List, NoMemory, SmallBytes};
 use std::alloc::Global;
 
 /// A type that a function of a table takes or answers.
@@ -93,8 +93,7 @@ fn types_of(alloc: Global, kinds: &[Kind]) -> Result<List<Ty>, NoMemory>
 pub fn name_of(alloc: Global, text: &[u8]) -> Result<Name, NoMemory>
     ensures { IfOk result (λ x. x ≡ spelling.Text text.now) }
 {
-    let bytes = Vec::from_slice(alloc, text)?;
-    Ok(Name::Text(Bytes::from_vec(bytes)))
+    Ok(Name::Text(SmallBytes::from_slice(alloc, text)?))
 }
 
 impl<F> Row<F> {

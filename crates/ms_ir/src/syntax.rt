@@ -1,7 +1,7 @@
 //! A module of LLVM assembly as data (LLVM Language Reference, "High Level Structure", "Type System" and
 //! "Instruction Reference"), for the integer and pointer part that this repository reads.
 
-use ms_bits::{BinOp, Boxed, Bytes, CastOp, Flags, List, Pred};
+use ms_bits::{BinOp, Boxed, Bytes, CastOp, Flags, List, Pred, SmallBytes};
 
 /// The name of a value, a basic block, a type, a function or a global ("Identifiers"), without its `@` or `%`.
 #[derive(Debug, PartialEq, Eq, PartialOrd, Ord, Drop)]
@@ -9,7 +9,7 @@ pub enum Name {
     /// An unnamed value or block of a function: `%7`.
     Number(u32),
     /// The decoded bytes of a name: `%x`, `@main`, `%"a b"`.
-    Text(Bytes),
+    Text(SmallBytes),
 }
 
 /// A type ("Type System"). `void` is none: a function without a result has no type there.
@@ -45,7 +45,7 @@ pub enum Operand {
     Global(Name),
     /// A constant `getelementptr` ("Constant Expressions"): the type that is stepped through, the global
     /// that it begins at, and the indices as integers with their types.
-    Offset(Ty, Name, List<(Ty, u64)>),
+    Offset(Boxed<Ty>, Boxed<Name>, List<(Ty, u64)>),
 }
 
 /// The initialiser of a global ("Global Variables", "Complex Constants").

@@ -18,5 +18,5 @@ pub use errors::{LexError, NoMemory};
 pub use kinds::{Kind, Token};
 pub use laws::{HasGrammar, reads_or_stops};
 pub use lexer::{tokens, tokens_stand_in_order};
-pub use names::name_of;
+pub use names::{name_of, plain_name};
 pub use numbers::number_of;

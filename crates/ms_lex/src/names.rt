@@ -109,6 +109,20 @@ fn decode(alloc: Global, part: &[u8]) -> Result<Vec<u8>, NoMemory>
     }
 }
 
+/// The name that a token is, where its bytes stand in the text as they are: where the token is no string.
+#[tactic(auto, unfolding(crate::specs::Names::name_of))]
+pub fn plain_name<'a>(text: &'a [u8], token: &Token) -> Option<&'a [u8]>
+    requires ordered { token.now.start ≤ token.now.end }
+    requires inside { token.now.end ≤ length text.now }
+    ensures { IfSome result (λ name. name.now ≡ spec.name_of text.now token.now) }
+{
+    let part = name_part(token.kind, spelling(text, token));
+    match part {
+        [b'"', ..] => None,
+        _ => Some(part),
+    }
+}
+
 /// The name that a token is: without the sigil of a global, a local, a metadata node or an attribute
 /// group, without the `c` of a text and without the colon of a label.
 ///

@@ -105,7 +105,7 @@ pub fn begins_instruction(symbol: Symbol) -> bool
 fn label_begins(alloc: Global, form: Form, token: &Lexeme<'_>) -> Result<bool, Refusal>
     ensures { Judges (spec.unreserved form (name_in token.now) (spec.short (name_in token.now))) result }
 {
-    let name = token.name(alloc)?;
+    let name = token.small_name(alloc)?;
     let text = name.as_slice();
     unreserved(form, text, short(text))
 }
@@ -114,7 +114,7 @@ fn label_begins(alloc: Global, form: Form, token: &Lexeme<'_>) -> Result<bool, R
 fn name_begins(alloc: Global, form: Form, body: &Body, token: &Lexeme<'_>) -> Result<bool, Refusal>
     ensures { Judges (spec.unreserved form (name_in token.now) (spec.counted form body.now (spec.short (name_in token.now)))) result }
 {
-    let name = token.name(alloc)?;
+    let name = token.small_name(alloc)?;
     let text = name.as_slice();
     unreserved(form, text, counted(form, body, short(text)))
 }

@@ -49,7 +49,7 @@ fn label_line(alloc: Global, body: &mut Body, label: &Lexeme<'_>) -> Result<(), 
 {
     match label.symbol() {
         Symbol::Label => {
-            let name = label.name(alloc)?;
+            let name = label.small_name(alloc)?;
             open_as(alloc, body, Name::Text(name), 0);
         }
         _ => {
@@ -82,7 +82,7 @@ fn result_name(alloc: Global, number: u32, token: &Lexeme<'_>) -> Result<Name, N
     ensures { IfOk result (λ n. n ≡ beginnings.result_name number token.now.symbol token.now) }
 {
     match token.symbol() {
-        Symbol::Local => Ok(Name::Text(token.name(alloc)?)),
+        Symbol::Local => Ok(Name::Text(token.small_name(alloc)?)),
         _ => Ok(Name::Number(number)),
     }
 }

@@ -10,9 +10,9 @@ ghost use Rattle.ms_grammar.specs.Steps as steps;
 use crate::decimals::decimal;
 use crate::outside::outside_of;
 use crate::symbols::same_symbol;
-use ms_bits::{Bytes, List};
+use ms_bits::{Bytes, List, SmallBytes};
 use ms_grammar::{Outside, Refusal, Symbol};
-use ms_lex::{Kind, NoMemory, Token, name_of, number_of};
+use ms_lex::{Kind, NoMemory, Token, name_of, number_of, plain_name};
 use std::alloc::Global;
 use std::marker::Model;
 
@@ -93,6 +93,18 @@ impl<'a> Lexeme<'a> {
         ensures { IfOk result (λ name. name ≡ spec.name_in self.now) }
     {
         Ok(List::from_vec(name_of(alloc, self.text, &self.token)?))
+    }
+
+    /// The name that it spells, as the module keeps it: in no block of the heap where it is short. The one error is want
+    /// of memory.
+    #[tactic(auto, unfolding(ms_lex::specs::Names::name_of))]
+    pub fn small_name(&self, alloc: Global) -> Result<SmallBytes, NoMemory>
+        ensures { IfOk result (λ name. name ≡ spec.name_in self.now) }
+    {
+        match plain_name(self.text, &self.token) {
+            Some(name) => SmallBytes::from_slice(alloc, name),
+            None => SmallBytes::from_slice(alloc, &name_of(alloc, self.text, &self.token)?),
+        }
     }
 
     /// The number that it spells, where it lies from -2^63 to 2^64 - 1.

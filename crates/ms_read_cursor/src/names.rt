@@ -8,7 +8,7 @@ ghost use Rattle.ms_read_cursor.specs.Reading.{Gives, Judges, run};
 
 use crate::cursor::Tokens;
 use crate::lexemes::Lexeme;
-use ms_bits::Bytes;
+use ms_bits::SmallBytes;
 use ms_grammar::{Limit, Refusal, Symbol};
 use ms_ir::spelling::{is_inserted, is_reserved};
 use ms_ir::{Form, Name, RuntimeFn, is_slot};
@@ -47,7 +47,7 @@ pub fn name_fits(text: &[u8]) -> bool
 }
 
 /// A name of text, unless it is reserved or too long.
-fn text_name(reserved: bool, text: Bytes) -> Result<Name, Refusal>
+fn text_name(reserved: bool, text: SmallBytes) -> Result<Name, Refusal>
     ensures { Judges (spec.text_name reserved text) result }
 {
     if reserved {
@@ -68,7 +68,7 @@ fn text_name(reserved: bool, text: Bytes) -> Result<Name, Refusal>
 pub fn global_name(alloc: Global, form: Form, token: &Lexeme<'_>) -> Result<Name, Refusal>
     ensures { Judges (spec.global_name form (name_in token.now)) result }
 {
-    let text = token.name(alloc)?;
+    let text = token.small_name(alloc)?;
     let reserved = reserved_global(form, text.as_slice());
     Ok(text_name(reserved, text)?)
 }
@@ -77,7 +77,7 @@ pub fn global_name(alloc: Global, form: Form, token: &Lexeme<'_>) -> Result<Name
 pub fn local_name(alloc: Global, form: Form, token: &Lexeme<'_>) -> Result<Name, Refusal>
     ensures { Judges (spec.local_name form (name_in token.now)) result }
 {
-    let text = token.name(alloc)?;
+    let text = token.small_name(alloc)?;
     let reserved = reserved_local(form, text.as_slice());
     Ok(text_name(reserved, text)?)
 }

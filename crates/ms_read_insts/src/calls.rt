@@ -89,7 +89,7 @@ fn is_main(text: &[u8]) -> bool
 fn callee_name(alloc: Global, form: Form, dotted: bool, token: &Lexeme<'_>) -> Result<Name, Refusal>
     ensures { Judges (spec.callee_name form dotted (name_in token.now)) result }
 {
-    let text = token.name(alloc)?;
+    let text = token.small_name(alloc)?;
     if is_main(text.as_slice()) {
         return Err(Refusal::Outside(Outside::CallOfMain));
     }

@@ -36,7 +36,7 @@ fn global_begins(
 ) -> Result<bool, Refusal>
     ensures { Judges (spec.global_begins form before.now token.now) result }
 {
-    let name = token.name(alloc)?;
+    let name = token.small_name(alloc)?;
     let text = name.as_slice();
     if reserved_global(form, text) {
         Err(Refusal::Reserved)

@@ -142,7 +142,7 @@ fn global_of(
 ) -> Result<Boxed<GlobalVar>, NoMemory>
     ensures { IfOk result (λ g. g ≡ record { name = Name.Text (name_in name.now); constant = constant; ty = ty; init = init }) }
 {
-    let text = name.name(alloc)?;
+    let text = name.small_name(alloc)?;
     let found = GlobalVar {
         name: Name::Text(text),
         constant,

@@ -141,13 +141,13 @@ fn offset_end(
     alloc: Global,
     tokens: &mut Tokens<'_>,
     ty: Boxed<Ty>,
-    base: Name,
+    base: Boxed<Name>,
 ) -> Result<Operand, Refusal>
     ensures { Gives (run (rest.offset_end ty base) tokens.old) result tokens.new }
 {
     let indices = constant_indices(alloc, tokens)?;
     tokens.word(Symbol::CloseParen)?;
-    Ok(Operand::Offset(ty.into_inner(), base, indices))
+    Ok(Operand::Offset(ty, base, indices))
 }
 
 /// Reads `, ptr @base`, the indices and `)` behind the type.
@@ -161,7 +161,7 @@ fn offset_rest(
 {
     tokens.word(Symbol::Comma)?;
     tokens.word(Symbol::PtrType)?;
-    let base = global(alloc, tokens, form)?;
+    let base = Boxed::new(alloc, global(alloc, tokens, form)?)?;
     offset_end(alloc, tokens, ty, base)
 }
 

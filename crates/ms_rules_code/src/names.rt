@@ -4,7 +4,7 @@ ghost use Rattle.ms_ir.specs.Names.{runtime_name as runtime_name_of};
 ghost use Rattle.ms_tasks.specs.Tasks.{msan_name as msan_name_of, mask_name as mask_name_of, origin_name as origin_name_of};
 
 use itoa::Buffer;
-use ms_bits::{Bytes, NoMemory};
+use ms_bits::{NoMemory, SmallBytes};
 use ms_ir::{Name, RuntimeFn};
 use std::alloc::Global;
 
@@ -13,9 +13,8 @@ pub fn msan_name(alloc: Global, number: u64) -> Result<Name, NoMemory>
     ensures { IfOk result (λ x. x ≡ msan_name_of number) }
 {
     let mut buffer = Buffer::new();
-    let mut text = Vec::from_slice(alloc, b"__msan.")?;
-    text.extend_from_slice(buffer.format(number).as_bytes())?;
-    Ok(Name::Text(Bytes::from_vec(text)))
+    let digits = buffer.format(number).as_bytes();
+    Ok(Name::Text(SmallBytes::joined(alloc, b"__msan.", digits)?))
 }
 
 /// The name of the mask of the function's value with a number. The one error is want of memory.
@@ -38,6 +37,5 @@ pub fn origin_name(alloc: Global, value: u64) -> Result<Name, NoMemory>
 pub fn runtime_name(alloc: Global, function: RuntimeFn) -> Result<Name, NoMemory>
     ensures { IfOk result (λ x. x ≡ runtime_name_of function) }
 {
-    let text = Vec::from_slice(alloc, function.name())?;
-    Ok(Name::Text(Bytes::from_vec(text)))
+    Ok(Name::Text(SmallBytes::from_slice(alloc, function.name())?))
 }

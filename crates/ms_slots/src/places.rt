@@ -5,7 +5,7 @@ ghost use Rattle.ms_ir.specs.declared.syntax.Operand.TheVariants as operand;
 ghost use Rattle.ms_ir.specs.Names.{slot_name as name_of};
 ghost use Rattle.ms_slots.specs.Places.{mask_slot, origin_slot};
 
-use ms_bits::{Bytes, List, NoMemory};
+use ms_bits::{Boxed, List, NoMemory, SmallBytes};
 use ms_ir::{Name, Operand, Slot, Ty};
 use std::alloc::Global;
 
@@ -21,8 +21,7 @@ pub enum Place {
 fn slot_name(alloc: Global, slot: Slot) -> Result<Name, NoMemory>
     ensures { IfOk result (λ x. x ≡ name_of slot) }
 {
-    let text = Vec::from_slice(alloc, slot.name())?;
-    Ok(Name::Text(Bytes::from_vec(text)))
+    Ok(Name::Text(SmallBytes::from_slice(alloc, slot.name())?))
 }
 
 fn whole_slot(alloc: Global, slot: Slot) -> Result<Operand, NoMemory>
@@ -43,9 +42,10 @@ fn index(alloc: Global, place: u64) -> Result<List<(Ty, u64)>, NoMemory>
 fn item_of_slot(alloc: Global, slot: Slot, width: u8, place: u64) -> Result<Operand, NoMemory>
     ensures { IfOk result (λ o. o ≡ operand.Offset (type.Int width) (name_of slot) ((type.Int 64, place) ∷ [])) }
 {
-    let name = slot_name(alloc, slot)?;
+    let name = Boxed::new(alloc, slot_name(alloc, slot)?)?;
+    let ty = Boxed::new(alloc, Ty::Int(width))?;
     let indices = index(alloc, place)?;
-    Ok(Operand::Offset(Ty::Int(width), name, indices))
+    Ok(Operand::Offset(ty, name, indices))
 }
 
 impl Place {

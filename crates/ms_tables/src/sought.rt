@@ -95,7 +95,10 @@ pub fn in_operand<'n, S: Search>(search: &S, operand: &'n Operand) -> Option<Spe
     match operand {
         Operand::Local(name) => local_sought(search, name),
         Operand::Global(name) => global_sought(search, name),
-        Operand::Offset(ty, name, _) => in_type(search, ty).or(global_sought(search, name)),
+        Operand::Offset(ty, name, _) => in_type(search, ty.get()).or(global_sought(
+            search,
+            name.get(),
+        )),
         _ => None,
     }
 }

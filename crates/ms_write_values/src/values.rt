@@ -69,7 +69,11 @@ impl Writer {
             Operand::Poison => self.token(b"poison"),
             Operand::Local(name) => self.local(name),
             Operand::Global(name) => self.global(name),
-            Operand::Offset(ty, base, indices) => self.offset(ty, base, indices.as_slice()),
+            Operand::Offset(ty, base, indices) => self.offset(
+                ty.get(),
+                base.get(),
+                indices.as_slice(),
+            ),
         }
     }
 

@@ -9,6 +9,6 @@ use Rattle.ms_check_types.proofs.written.is_operand_sized.Goals as goal
 pub returns-then-has_sizes : goal.returns-then-has_sizes
 returns-then-has_sizes c =
     let types = c.args.extents.now in
-    and_then c.has_sizes.result (has_sizes types c.in-Offset.ty) c.are_indices_sized.result (list_all (has_sizes types) (map (λ i. i.0) c.in-Offset.indices)) c.if-has_sizes.true c.has_sizes.ensures
+    and_then c.has_sizes.result (has_sizes types c.in-Offset.ty) c.are_indices_sized.result (list_all (has_sizes types) (map (λ i. i.0) c.in-Offset.indices)) c.if-has_sizes.true (c.has_sizes.ensures ∙ ap (has_sizes types) c.get.ensures)
     (c.are_indices_sized.ensures ∙ ap (list_all (λ i. has_sizes types i.0)) c.as_slice.ensures ∙ sym (list_all-map (has_sizes types) (λ i. i.0) c.in-Offset.indices))
     ∙ ap (λ o. list_all (has_sizes types) (operand_types o)) (sym c.in-Offset.is)

@@ -16,7 +16,8 @@ returns-in-Offset c =
     let ty = c.in-Offset.ty in
     let is = c.in-Offset.indices in
     let low = c.requires.low c.in-Offset.name in
-    c.indexed.ensures ∙ ap (λ ks. indexed m.types ty c.address-base.result (extended_indices ks) % 2 ^ 64) c.as_slice.ensures
-    ∙ ap (λ a. indexed m.types ty a (extended_indices is) % 2 ^ 64) (c.address-base.ensures ∙ mod-eq_of_lt low)
+    c.indexed.ensures ∙ ap (λ t. indexed m.types t c.address-base.result (extended_indices c.as_slice.result.now) % 2 ^ 64) c.get-in-Offset.ensures
+    ∙ ap (λ ks. indexed m.types ty c.address-base.result (extended_indices ks) % 2 ^ 64) c.as_slice.ensures
+    ∙ ap (λ a. indexed m.types ty a (extended_indices is) % 2 ^ 64) (c.address-base.ensures ∙ ap (λ n. address_of m n % 2 ^ 64) c.get.ensures ∙ mod-eq_of_lt low)
     ∙ whole_address m.types ty (address_of m c.in-Offset.name) (extended_indices is) low
     ∙ sym (ap (constant m.types (address_of m)) c.in-Offset.is)

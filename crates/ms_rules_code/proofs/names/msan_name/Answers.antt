@@ -6,5 +6,5 @@ use Rattle.ms_rules_code.proofs.names.msan_name.Goals as goal
 
 pub returns : goal.returns
 returns c =
-    let e : c.from_vec.result ≡ codes "__msan." ++ decimal c.args.number = search rules in
+    let e : c.in_ok-joined.field-0 ≡ codes "__msan." ++ decimal c.args.number = search rules in
     ap (λ t. Text t) e ∙ sym (msan_decimal c.args.number (omega (arith, c.ranges.number.fits)))

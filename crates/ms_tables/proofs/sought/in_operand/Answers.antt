@@ -9,5 +9,8 @@ use Rattle.ms_tables.proofs.sought.in_operand.Goals as goal
 pub returns-in-Offset : goal.returns-in-Offset
 returns-in-Offset g c =
     let sought = g.S.Search.sought c.args.search.now in
-    c.or.ensures ∙ ap₂ option_or c.in_type.ensures c.global_sought-in-Offset.ensures ∙ sym (sought-append sought (type_mentions c.in-Offset.ty) (OfGlobal c.in-Offset.name ∷ []))
+    c.or.ensures
+    ∙ ap₂ option_or (c.in_type.ensures ∙ ap (λ t. first_sought sought (type_mentions t)) c.get.ensures)
+    (c.global_sought-in-Offset.ensures ∙ ap (λ n. first_sought sought (OfGlobal n ∷ [])) c.get-in-Offset.ensures)
+    ∙ sym (sought-append sought (type_mentions c.in-Offset.ty) (OfGlobal c.in-Offset.name ∷ []))
     ∙ ap (λ o. first_sought sought (operand_mentions o)) (sym c.in-Offset.is)

@@ -1,0 +1,16 @@
+use Rattle.std.proofs.Common.{[], ◌∷◌, Some, ◌∙◌, ◌≡◌}
+use Rattle.std.proofs.Math.Path.{ap₂}
+use Rattle.std.proofs.lemmas.Result.{on_ok_weaker}
+use Rattle.ms_ir.specs.declared.syntax.Ty.{Int}
+use Rattle.ms_ir.specs.declared.syntax.Op.TheVariants as op
+use Rattle.ms_tasks.specs.Tasks.{inserted}
+use Rattle.ms_rules.specs.Placed.{with_insts}
+use Rattle.ms_rules.proofs.phis.put_origin.Goals as goal
+
+pub returns : goal.returns
+returns c =
+    let code = c.args.code.now in
+    on_ok_weaker c.put_phi.result
+    (λ (is : c.put_phi.new.code ≡ with_insts code (inserted (Some c.in_ok-name.name) (op.Phi (Int 32) c.in_ok-edges.edges) ∷ [])).
+    is ∙ ap₂ (λ n es. with_insts code (inserted (Some n) (op.Phi (Int 32) es) ∷ [])) c.in_ok-name.ensures c.in_ok-edges.ensures)
+    c.put_phi.ensures
