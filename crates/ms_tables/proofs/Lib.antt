@@ -6,3 +6,4 @@ pub mod Walks
 pub mod Items
 pub mod Given
 pub mod Mentioned
+pub mod Near

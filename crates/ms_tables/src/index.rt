@@ -1,36 +1,78 @@
 //! The places of names, by number and by text.
-ghost use Rattle.std.specs.Prelude.{◌≡◌, None, Some, if◌then◌else◌, IfOk, OnErr, OnOk};
+ghost use Rattle.std.specs.Prelude.{◌≡◌, ◌≤◌, ◌+◌, ℕ, None, Some, IsTrue, if◌then◌else◌, length, OnErr, OnOk};
 ghost use Rattle.ms_ir.specs.declared.syntax.Name.{Name};
+ghost use Rattle.ms_ir.specs.declared.syntax.Name.TheVariants.{Number};
 ghost use Rattle.ms_ir.specs.Names.{name_eq};
+ghost use Rattle.ms_tables.specs.Index.{place_from, taken_at};
 
+use crate::room::make_room;
 use ms_bits::NoMemory;
 use ms_ir::Name;
 use std::alloc::Global;
 use std::collections::BTreeMap;
 
+/// The most numbers that may be missing before one that is put in, for it to stand with those before it.
+const MOST_MISSING: usize = 16;
+
 /// A place for each name that was put in.
 #[derive(Drop)]
 pub struct Index<'m> {
-    /// The places of the numbers from 0 on, as far as they were put in by turns. A function's numbers are, where
-    /// they stand as they are printed.
-    successive: Vec<usize>,
+    /// The first number of those that stand near one another.
+    first: u32,
+    /// The places of the numbers from the first on, as far as they ascend and few are missing between two of them. A
+    /// function's numbers do, where they stand as they are printed.
+    near: Vec<Option<usize>>,
     /// The places of the other numbers.
     numbers: BTreeMap<u32, usize>,
     /// The places of the texts.
     texts: BTreeMap<&'m [u8], usize>,
 }
 
+/// Lengthens a list of places by numbers that are missing.
+#[tactic(auto, using(crate::proofs::Near::none_added))]
+fn push_missing(places: &mut Vec<Option<usize>>, count: usize) -> Result<(), NoMemory>
+    ensures { (first n : ℕ) → place_from first places.new.items n ≡ place_from first places.old.items n }
+{
+    for _ in 0..count {
+        places.push(None)?;
+    }
+    Ok(())
+}
+
+/// What stands at a place of a list, where it is taken.
+fn taken(places: &[Option<usize>], place: usize) -> Option<usize>
+    ensures { result ≡ taken_at places.now place }
+{
+    match places.get(place) {
+        Some(taken) => *taken,
+        None => None,
+    }
+}
+
 impl<'m> Index<'m> {
-    ghost use Rattle.ms_tables.specs.Index.{place_in};
+    ghost use Rattle.ms_tables.specs.Index.{place_from, place_in};
 
     /// An index of no name.
     pub fn new(alloc: Global) -> Index<'m>
         ensures { (x : Name) → place_in result x ≡ None }
     {
         Index {
-            successive: Vec::new(alloc),
+            first: 0,
+            near: Vec::new(alloc),
             numbers: BTreeMap::new(alloc),
             texts: BTreeMap::new(alloc),
+        }
+    }
+
+    /// The place of a number, if it stands with those near the first.
+    #[tactic(auto, using(crate::proofs::Near::before_first, crate::proofs::Near::after_first))]
+    fn near_place(&self, number: u32) -> Option<usize>
+        ensures { result ≡ place_from self.now.first self.now.near.items number }
+    {
+        if number < self.first {
+            None
+        } else {
+            taken(self.near.as_slice(), (number - self.first) as usize)
         }
     }
 
@@ -39,11 +81,84 @@ impl<'m> Index<'m> {
         ensures { result ≡ place_in self.now name.now }
     {
         match name {
-            Name::Number(number) => match self.successive.get(*number as usize) {
-                Some(place) => Some(*place),
+            Name::Number(number) => match self.near_place(*number) {
+                Some(place) => Some(place),
                 None => self.numbers.get(number).copied(),
             },
             Name::Text(bytes) => self.texts.get(bytes.as_slice()).copied(),
+        }
+    }
+
+    /// How many numbers are missing before this one, where they are few, and else 0.
+    fn missing(&self, number: u32) -> usize
+        ensures { result ≤ 16 }
+    {
+        if number < self.first {
+            return 0;
+        }
+        let count = ((number - self.first) as usize).saturating_sub(self.near.len());
+        if count <= MOST_MISSING { count } else { 0 }
+    }
+
+    /// Whether a number is the next of those near the first.
+    fn is_next(&self, number: u32) -> bool
+        ensures { IsTrue result → number ≡ self.now.first + length self.now.near.items }
+    {
+        number >= self.first && (number - self.first) as usize == self.near.len()
+    }
+
+    /// Lets a number be the first of those that stand near one another where there are none.
+    fn begin_at(&mut self, number: u32)
+        ensures { (x : Name) → place_in self.new x ≡ place_in self.old x }
+    {
+        if self.near.is_empty() {
+            self.first = number;
+        }
+    }
+
+    /// Lengthens the places near the first up to a number that isn't far after them.
+    fn reach(&mut self, number: u32) -> Result<(), NoMemory>
+        ensures { (x : Name) → place_in self.new x ≡ place_in self.old x }
+    {
+        self.begin_at(number);
+        make_room(&mut self.near)?;
+        let count = self.missing(number);
+        push_missing(&mut self.near, count)
+    }
+
+    /// Puts in a number that is the next of those near the first.
+    fn insert_next(&mut self, number: u32, place: usize) -> Result<(), NoMemory>
+        requires { number ≡ self.old.first + length self.old.near.items }
+        ensures placed { OnOk result ((x : Name) → place_in self.new x ≡ (if name_eq (Number number) x then Some place else place_in self.old x)) }
+        ensures err { OnErr result ((x : Name) → place_in self.new x ≡ place_in self.old x) }
+    {
+        self.near.push(Some(place))?;
+        Ok(())
+    }
+
+    /// Puts in a number that isn't.
+    fn insert_other(&mut self, number: u32, place: usize) -> Result<(), NoMemory>
+        requires { place_in self.old (Number number) ≡ None }
+        ensures placed { OnOk result ((x : Name) → place_in self.new x ≡ (if name_eq (Number number) x then Some place else place_in self.old x)) }
+        ensures err { OnErr result ((x : Name) → place_in self.new x ≡ place_in self.old x) }
+    {
+        self.numbers.insert(number, place)?;
+        Ok(())
+    }
+
+    /// Puts in a number that has no place yet.
+    fn insert_number(&mut self, number: u32, place: usize) -> Result<(), NoMemory>
+        requires { place_in self.old (Number number) ≡ None }
+        ensures placed { OnOk result ((x : Name) → place_in self.new x ≡ (if name_eq (Number number) x then Some place else place_in self.old x)) }
+        ensures err { OnErr result ((x : Name) → place_in self.new x ≡ place_in self.old x) }
+    {
+        self.reach(number)?;
+        if self.is_next(number) {
+            self.insert_next(number, place)?;
+            Ok(())
+        } else {
+            self.insert_other(number, place)?;
+            Ok(())
         }
     }
 
@@ -54,13 +169,7 @@ impl<'m> Index<'m> {
         ensures err { OnErr result ((x : Name) → place_in self.new x ≡ place_in self.old x) }
     {
         match name {
-            Name::Number(number) => {
-                if *number as usize == self.successive.len() {
-                    self.successive.push(place)?;
-                } else {
-                    self.numbers.insert(*number, place)?;
-                }
-            }
+            Name::Number(number) => self.insert_number(*number, place)?,
             Name::Text(bytes) => {
                 self.texts.insert(bytes.as_slice(), place)?;
             }

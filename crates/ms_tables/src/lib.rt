@@ -2,6 +2,7 @@
 //! named types are laid out once.
 #![tactic(auto)]
 
+mod counted;
 mod defined;
 mod extents;
 pub mod here;
@@ -11,6 +12,7 @@ mod named;
 mod names;
 mod numbers;
 mod picked;
+mod room;
 mod sought;
 mod spelled;
 mod table;
@@ -18,6 +20,7 @@ mod targets;
 mod uses;
 pub mod walk;
 
+pub use counted::count_locals;
 pub use defined::{
     blocks_of, declarations_of, functions_of, globals_of, locals_of, parameters_of, symbols_of,
     types_of,

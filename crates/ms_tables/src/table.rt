@@ -4,14 +4,15 @@ ghost use Rattle.ms_ir.specs.Equal.{has_name};
 ghost use Rattle.ms_tables.specs.FirstPlace.{first_place};
 
 use crate::index::Index;
+use crate::room::make_room;
 use ms_bits::NoMemory;
 use ms_ir::Name;
 use std::alloc::Global;
 use std::marker::Model;
 
-/// Names in order, equal ones among them, where the first place of each is found by its spelling: a number of
-/// those that come in turn in constant time, and every other name in logarithmic time. Contracts see it as the
-/// list of the names. The names are borrowed, and not copied.
+/// Names in order, equal ones among them, where the first place of each is found by its spelling: a number in constant
+/// time where the numbers ascend and few are missing between two of them, and every other name in logarithmic time.
+/// Contracts see it as the list of the names. The names are borrowed, and not copied.
 #[derive(Drop)]
 pub struct NameTable<'m> {
     names: Vec<&'m Name>,
@@ -71,6 +72,7 @@ impl<'m> NameTable<'m> {
         ensures err { OnErr result (self.new ≡ self.old) }
     {
         let place = self.names.len();
+        make_room(&mut self.names)?;
         self.names.push(name)?;
         match self.index.get(name) {
             Some(first) => Ok(Some(first)),

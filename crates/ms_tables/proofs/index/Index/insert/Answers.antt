@@ -18,4 +18,4 @@ text_placed index after bytes place updates (Text other) = btree_map_updates_str
 pub returns-in_ok-insert-in-Text-clause-placed : goal.returns-in_ok-insert-in-Text-clause-placed
 returns-in_ok-insert-in-Text-clause-placed c = λ x.
     let updates = rw c.as_slice.ensures at c.in_ok-insert-in-Text.ensures.updates in
-    rw c.in-Text.is (text_placed c.args.self.now c.insert-in-Text.new.self c.in-Text.bytes c.args.place updates x)
+    rw c.in-Text.is (text_placed c.args.self.now c.insert.new.self c.in-Text.bytes c.args.place updates x)

@@ -34,8 +34,8 @@ new_kept index more items after y n is appended absent count placed x =
 
 pub invariant_of-self-in-Some : goal.invariant_of-self-in-Some
 unfolding shown
-invariant_of-self-in-Some c = known_kept c.self.inside.index c.self.inside.names.items c.push.new.self.items c.args.name c.in-Some.first c.self.invariant c.in_ok-push.ensures.items c.in-Some.ensures
+invariant_of-self-in-Some c = known_kept c.self.inside.index c.self.inside.names.items c.push.new.self.items c.args.name c.in-Some.first c.self.invariant (c.in_ok-push.ensures.items ∙ ap (λ items. items ++ c.args.name ∷ []) c.make_room.ensures) c.in-Some.ensures
 
 pub invariant_of-self-in_default : goal.invariant_of-self-in_default
 unfolding shown
-invariant_of-self-in_default c = new_kept c.self.inside.index c.insert.new.self c.self.inside.names.items c.push.new.self.items c.args.name c.len-place.result c.self.invariant c.in_ok-push.ensures.items c.in-None.ensures (c.len-place.ensures ∙ c.self.inside.names.ok.0) c.in_default.ensures.placed
+invariant_of-self-in_default c = new_kept c.self.inside.index c.insert.new.self c.self.inside.names.items c.push.new.self.items c.args.name c.len-place.result c.self.invariant (c.in_ok-push.ensures.items ∙ ap (λ items. items ++ c.args.name ∷ []) c.make_room.ensures) c.in-None.ensures (c.len-place.ensures ∙ c.self.inside.names.ok.0) c.in_default.ensures.placed
