@@ -230,7 +230,7 @@ c:
         b"define i32 @main() !dbg !1 {
   %x = add i32 1, 2, !dbg !4
   %y = add i32 1, 2, !dbg !6
-  ret i32 %x, !dbg !7
+  ret i32 %x, !dbg !8
 }
 !1 = distinct !DISubprogram(name: \"main\", scope: !2, file: !2, line: 1, unit: !3)
 !2 = !DIFile(filename: \"\\C3\\BC.c\", directory: \"/src\")
@@ -238,7 +238,8 @@ c:
 !4 = !DILocation(line: 7, column: 3, scope: !5, inlinedAt: !6)
 !5 = distinct !DISubprogram(name: \"f\", scope: !2, file: !2, line: 6, unit: !3)
 !6 = distinct !DILocation(line: 2, column: 9, scope: !1)
-!7 = !DILocation(line: 3, scope: !1)
+!7 = distinct !DISubprogram(name: \"g\", scope: !2, file: !2, line: 11, unit: !3)
+!8 = !DILocation(line: 12, scope: !7, inlinedAt: !4)
 ",
         3,
         b"0
@@ -251,7 +252,9 @@ c:
     \xC3\xBC.c:2:9
 3
     text.ll:4: ret i32 %x
-    \xC3\xBC.c:3
+    \xC3\xBC.c:12
+    \xC3\xBC.c:7:3: inlined here
+    \xC3\xBC.c:2:9: inlined here
 4
 ",
     ),
