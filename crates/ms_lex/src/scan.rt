@@ -39,7 +39,8 @@ static NAME_BYTES: [bool; 256] = [
     false, false, false, false, false, false, false, false, false, false,
 ];
 
-fn is_name_byte(b: u8) -> bool
+/// Whether a byte may stand in a name without quotes (LLVM Language Reference, "Identifiers").
+pub fn is_name_byte(b: u8) -> bool
     ensures { result ≡ spec.is_name_byte b }
 {
     NAME_BYTES[b as usize]

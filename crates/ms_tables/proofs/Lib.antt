@@ -7,3 +7,4 @@ pub mod Items
 pub mod Given
 pub mod Mentioned
 pub mod Near
+pub mod Marked

@@ -1,9 +1,11 @@
 //! The places of names, by number and by text.
 ghost use Rattle.std.specs.Prelude.{◌≡◌, ◌≤◌, ◌+◌, ℕ, None, Some, IsTrue, if◌then◌else◌, length, OnErr, OnOk};
+ghost use Rattle.std.specs.BTreeMap.{get};
+ghost use Rattle.std.specs.Ordering.{nat_cmp};
 ghost use Rattle.ms_ir.specs.declared.syntax.Name.{Name};
-ghost use Rattle.ms_ir.specs.declared.syntax.Name.TheVariants.{Number};
+ghost use Rattle.ms_ir.specs.declared.syntax.Name.TheVariants.{Number, Text};
 ghost use Rattle.ms_ir.specs.Names.{name_eq};
-ghost use Rattle.ms_tables.specs.Index.{place_from, taken_at};
+ghost use Rattle.ms_tables.specs.Index.{mark_from, place_from, taken_at};
 
 use crate::room::make_room;
 use ms_bits::NoMemory;
@@ -24,7 +26,10 @@ pub struct Index<'m> {
     near: Vec<Option<usize>>,
     /// The places of the other numbers.
     numbers: BTreeMap<u32, usize>,
-    /// The places of the texts.
+    /// For each mark of a text the first text with that mark, and its place. Marks are compared at once, and few
+    /// texts share one.
+    marked: BTreeMap<u64, (&'m [u8], usize)>,
+    /// The places of the other texts.
     texts: BTreeMap<&'m [u8], usize>,
 }
 
@@ -39,6 +44,18 @@ fn push_missing(places: &mut Vec<Option<usize>>, count: usize) -> Result<(), NoM
     Ok(())
 }
 
+/// A number by which most texts are told apart.
+#[tactic(auto, using(crate::proofs::Marked::mark_next, crate::proofs::Marked::mark_end))]
+fn mark_of(text: &[u8]) -> u64
+    ensures { result ≡ mark_from 0 text.now }
+{
+    let mut mark = 0u64;
+    for byte in text {
+        mark = mark.wrapping_mul(31).wrapping_add(u64::from(*byte));
+    }
+    mark
+}
+
 /// What stands at a place of a list, where it is taken.
 fn taken(places: &[Option<usize>], place: usize) -> Option<usize>
     ensures { result ≡ taken_at places.now place }
@@ -50,7 +67,7 @@ fn taken(places: &[Option<usize>], place: usize) -> Option<usize>
 }
 
 impl<'m> Index<'m> {
-    ghost use Rattle.ms_tables.specs.Index.{place_from, place_in};
+    ghost use Rattle.ms_tables.specs.Index.{mark_from, place_from, place_marked, place_in};
 
     /// An index of no name.
     pub fn new(alloc: Global) -> Index<'m>
@@ -60,6 +77,7 @@ impl<'m> Index<'m> {
             first: 0,
             near: Vec::new(alloc),
             numbers: BTreeMap::new(alloc),
+            marked: BTreeMap::new(alloc),
             texts: BTreeMap::new(alloc),
         }
     }
@@ -76,6 +94,26 @@ impl<'m> Index<'m> {
         }
     }
 
+    /// The place of a text with a mark, if it is the first with that mark.
+    fn marked_place(&self, mark: u64, text: &[u8]) -> Option<usize>
+        ensures { result ≡ place_marked self.now.marked mark text.now }
+    {
+        match self.marked.get(&mark) {
+            Some(first) => { if first.0 == text { Some(first.1) } else { None } }
+            None => None,
+        }
+    }
+
+    /// The place of a text.
+    fn text_place(&self, text: &[u8]) -> Option<usize>
+        ensures { result ≡ place_in self.now (Text text.now) }
+    {
+        match self.marked_place(mark_of(text), text) {
+            Some(place) => Some(place),
+            None => self.texts.get(text).copied(),
+        }
+    }
+
     /// The place of a name, if it was put in.
     pub fn get(&self, name: &Name) -> Option<usize>
         ensures { result ≡ place_in self.now name.now }
@@ -85,7 +123,7 @@ impl<'m> Index<'m> {
                 Some(place) => Some(place),
                 None => self.numbers.get(number).copied(),
             },
-            Name::Text(bytes) => self.texts.get(bytes.as_slice()).copied(),
+            Name::Text(bytes) => self.text_place(bytes.as_slice()),
         }
     }
 
@@ -162,6 +200,40 @@ impl<'m> Index<'m> {
         }
     }
 
+    /// Puts in a text that is the first with its mark.
+    fn insert_marked(&mut self, mark: u64, text: &'m [u8], place: usize) -> Result<(), NoMemory>
+        requires mark { mark ≡ mark_from 0 text.now }
+        requires first { get nat_cmp self.old.marked mark ≡ None }
+        ensures placed { OnOk result ((x : Name) → place_in self.new x ≡ (if name_eq (Text text.now) x then Some place else place_in self.old x)) }
+        ensures err { OnErr result ((x : Name) → place_in self.new x ≡ place_in self.old x) }
+    {
+        self.marked.insert(mark, (text, place))?;
+        Ok(())
+    }
+
+    /// Puts in a text that has no place yet, behind another with its mark.
+    fn insert_unmarked(&mut self, text: &'m [u8], place: usize) -> Result<(), NoMemory>
+        requires { place_in self.old (Text text.now) ≡ None }
+        ensures placed { OnOk result ((x : Name) → place_in self.new x ≡ (if name_eq (Text text.now) x then Some place else place_in self.old x)) }
+        ensures err { OnErr result ((x : Name) → place_in self.new x ≡ place_in self.old x) }
+    {
+        self.texts.insert(text, place)?;
+        Ok(())
+    }
+
+    /// Puts in a text that has no place yet.
+    fn insert_text(&mut self, text: &'m [u8], place: usize) -> Result<(), NoMemory>
+        requires { place_in self.old (Text text.now) ≡ None }
+        ensures placed { OnOk result ((x : Name) → place_in self.new x ≡ (if name_eq (Text text.now) x then Some place else place_in self.old x)) }
+        ensures err { OnErr result ((x : Name) → place_in self.new x ≡ place_in self.old x) }
+    {
+        let mark = mark_of(text);
+        match self.marked.get(&mark) {
+            Some(_) => self.insert_unmarked(text, place),
+            None => self.insert_marked(mark, text, place),
+        }
+    }
+
     /// Puts in a name that has no place yet.
     pub fn insert(&mut self, name: &'m Name, place: usize) -> Result<(), NoMemory>
         requires { place_in self.old name.now ≡ None }
@@ -169,11 +241,8 @@ impl<'m> Index<'m> {
         ensures err { OnErr result ((x : Name) → place_in self.new x ≡ place_in self.old x) }
     {
         match name {
-            Name::Number(number) => self.insert_number(*number, place)?,
-            Name::Text(bytes) => {
-                self.texts.insert(bytes.as_slice(), place)?;
-            }
+            Name::Number(number) => self.insert_number(*number, place),
+            Name::Text(bytes) => self.insert_text(bytes.as_slice(), place),
         }
-        Ok(())
     }
 }

@@ -24,9 +24,7 @@ fn write_mark(writer: &mut Writer, marked: bool) -> Result<(), NoMemory>
     ensures { IfOk result (λ _. writer.new ≡ put writer.old (mark_tokens marked)) }
 {
     if marked {
-        writer.token(b",")?;
-        writer.token(b"!nosanitize")?;
-        writer.token(b"!0")?;
+        writer.mark()?;
     }
     Ok(())
 }

@@ -7,6 +7,7 @@ ghost use Rattle.ms_written.specs.Names.{is_printed as is_printed_of, hexadecima
 use itoa::Buffer;
 use ms_bits::NoMemory;
 use ms_ir::Name;
+use ms_lex::is_name_byte;
 
 /// Whether a byte stands for itself in a string: a printed one, but neither the quote nor the backslash.
 fn is_printed(byte: u8) -> bool
@@ -21,12 +22,6 @@ fn hexadecimal_digit(digit: u8) -> u8
     ensures { result ≡ hexadecimal_digit_of digit }
 {
     if digit < 10 { 48 + digit } else { 55 + digit }
-}
-
-fn is_name_byte(byte: u8) -> bool
-    ensures { result ≡ is_name_byte_of byte }
-{
-    byte.is_ascii_alphanumeric() || byte == b'-' || byte == b'$' || byte == b'.' || byte == b'_'
 }
 
 fn are_name_bytes(bytes: &[u8]) -> bool

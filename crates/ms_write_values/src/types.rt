@@ -22,12 +22,26 @@ pub fn width_of(ty: &Ty) -> u8
 }
 
 impl Writer {
-    /// Writes an integer type.
-    fn int_type(&mut self, width: u8) -> Result<(), NoMemory>
+    /// Writes an integer type by its digits.
+    fn any_int_type(&mut self, width: u8) -> Result<(), NoMemory>
         ensures { IfOk result (λ _. self.new ≡ put self.old (word (105 ∷ decimal width) ∷ [])) }
     {
         self.begin(b'i')?;
         self.digits(width as u64)
+    }
+
+    /// Writes an integer type, those that most texts have at once.
+    fn int_type(&mut self, width: u8) -> Result<(), NoMemory>
+        ensures { IfOk result (λ _. self.new ≡ put self.old (word (105 ∷ decimal width) ∷ [])) }
+    {
+        match width {
+            1 => self.token(b"i1"),
+            8 => self.token(b"i8"),
+            16 => self.token(b"i16"),
+            32 => self.token(b"i32"),
+            64 => self.token(b"i64"),
+            _ => self.any_int_type(width),
+        }
     }
 
     /// Writes what opens a struct, which may be packed.

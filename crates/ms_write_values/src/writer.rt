@@ -1,7 +1,8 @@
 //! A text that is written token by token, in one buffer that grows.
-ghost use Rattle.std.specs.Prelude.{◌≡◌, ◌++◌, [], ◌∷◌, IfOk, Some, decimal};
+ghost use Rattle.std.specs.Prelude.{◌≡◌, ◌++◌, [], ◌∷◌, true, IfOk, Some, decimal};
 ghost use Rattle.ms_written.specs.Names.{name_text, quoted as quoted_of};
-ghost use Rattle.ms_write_values.specs.Sheets.{empty, first_byte as first_byte_of, are_near as are_near_of, gap, grown, put_text, opened, ended};
+ghost use Rattle.ms_written.specs.Insts.{mark_tokens};
+ghost use Rattle.ms_write_values.specs.Sheets.{empty, first_byte as first_byte_of, are_near as are_near_of, gap, grown, put_text, put, opened, ended};
 
 use crate::spelling::{push_name, push_number, push_quoted};
 use itoa::Buffer;
@@ -64,6 +65,7 @@ impl Writer {
     }
 
     /// Writes the space in front of a token that begins with this byte, if one stands there.
+    #[inline(always)]
     fn space(&mut self, first: u8) -> Result<(), NoMemory>
         ensures { IfOk result (λ _. self.new ≡ record { bytes = self.old.bytes ++ gap self.old.last first; last = Some first }) }
     {
@@ -82,6 +84,16 @@ impl Writer {
     {
         self.space(first_byte(text))?;
         self.bytes.extend_from_slice(text)?;
+        Ok(())
+    }
+
+    /// Writes the mark of an inserted instruction at once, since most tokens of such a line are its.
+    #[tactic(auto, using(crate::proofs::Puts::put_mark))]
+    pub fn mark(&mut self) -> Result<(), NoMemory>
+        ensures { IfOk result (λ _. self.new ≡ put self.old (mark_tokens true)) }
+    {
+        self.bytes.extend_from_slice(b", !nosanitize !0")?;
+        self.last = Some(b'!');
         Ok(())
     }
 
