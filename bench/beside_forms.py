@@ -36,7 +36,6 @@ FLAGS = {
 OPTIMISED = {"O1", "O2", "O3", "Os", "scalars", "loops", "jumps", "memory", "calls"}
 # What the manual says of a text that is refused: the message, what the place must hold, and the manual's words.
 SENTENCES = [
-    (r"4: syntax", r"getelementptr.*getelementptr", "nested `getelementptr`"),
     (r"4: syntax", r"= \w+( \w+)* <\d+ x ", "in a sum `4: syntax`"),
     (r"5: outside [a-z ]*(?= at)", "", None),  # its name is the manual's
     (r"14: external @llvm\.", "", "`14: external @llvm."),

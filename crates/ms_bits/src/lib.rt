@@ -17,6 +17,8 @@ pub mod texts;
 pub mod traps;
 mod twos_complement;
 mod undefined;
+mod word_answers;
+pub mod word_functions;
 pub mod words;
 
 pub use arithmetic::binary;
@@ -30,4 +32,6 @@ pub use small_bytes::SmallBytes;
 pub use texts::Text;
 pub use traps::Trap;
 pub use undefined::undef_word;
+pub use word_answers::answer_word;
+pub use word_functions::{WordFn, WordWidth};
 pub use words::Word;

@@ -7,6 +7,8 @@ pub enum Trap {
     Shift,
     /// A divisor is 0.
     ZeroDivisor,
+    /// A count of zeros of 0, where its flag says that this is poison.
+    ZeroPoison,
     /// `sdiv` or `srem` of the least number by -1.
     Overflow,
     /// A violated `nuw`.

@@ -18,3 +18,10 @@ pub mod OperationAgreement
 pub mod MapLemmas
 pub mod CellLemmas
 pub mod ByteAgreement
+pub mod WordMaskRanges
+pub mod MovedBits
+pub mod GreaterAndSmaller
+pub mod Counts
+pub mod AbsoluteValues
+pub mod WordAgreement
+pub mod CleanWords

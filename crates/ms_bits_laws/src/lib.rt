@@ -11,3 +11,4 @@ pub mod orders;
 pub mod selections;
 pub mod shifts;
 pub mod sums;
+pub mod words;

@@ -40,7 +40,7 @@ pub enum CheckError {
     /// No function is `i32 @main()`, with which a run begins.
     NoMain,
     /// A global, declaration or function whose name is kept for the runtime and that isn't the runtime's; a declaration
-    /// that is called and is no external with its types; or an intrinsic that is called as volatile.
+    /// that is called and is no external with its types; or an intrinsic that is called with a flag that doesn't fit.
     BadExternal {
         name: Name,
     },

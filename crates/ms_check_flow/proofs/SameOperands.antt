@@ -6,7 +6,7 @@ use Rattle.ms_ir.specs.declared.syntax.Ty.{Ty}
 use Rattle.ms_ir.specs.declared.syntax.Operand.{Operand}
 use Rattle.ms_ir.specs.declared.syntax.Operand.TheVariants as operand
 use Rattle.ms_ir.specs.Names.{name_eq}
-use Rattle.ms_ir.specs.Equal.{type_eq, indices_eq, operand_eq}
+use Rattle.ms_ir.specs.Equal.{Step, type_eq, indices_eq, steps_eq, operand_eq}
 use Rattle.ms_ir.specs.TypeLaws.{type_eq_equiv}
 use Rattle.ms_valid.proofs.NameTests.{name_sound}
 
@@ -34,6 +34,18 @@ indices_trans (i ∷ is) (j ∷ js) (k ∷ ks) e f =
     both (both (type_trans i.0 j.0 k.0 one.0 other.0) (subst (λ z. nat_eq z k.1 ≡ true) (sym (eqb-true i.1 j.1 one.1)) other.1))
     (indices_trans is js ks first.1 second.1)
 
+steps_trans : (ss ts us : List Step) → steps_eq ss ts ≡ true → steps_eq ts us ≡ true → steps_eq ss us ≡ true
+steps_trans [] [] us e f = f
+steps_trans [] (t ∷ ts) us e f = never e
+steps_trans (s ∷ ss) [] us e f = never e
+steps_trans (s ∷ ss) (t ∷ ts) [] e f = never f
+steps_trans (s ∷ ss) (t ∷ ts) (u ∷ us) e f =
+    let first = and_parts (type_eq s.0 t.0 && indices_eq s.1 t.1) (steps_eq ss ts) e in
+    let second = and_parts (type_eq t.0 u.0 && indices_eq t.1 u.1) (steps_eq ts us) f in
+    let one = and_parts (type_eq s.0 t.0) (indices_eq s.1 t.1) first.0 in
+    let other = and_parts (type_eq t.0 u.0) (indices_eq t.1 u.1) second.0 in
+    both (both (type_trans s.0 t.0 u.0 one.0 other.0) (indices_trans s.1 t.1 u.1 one.1 other.1)) (steps_trans ss ts us first.1 second.1)
+
 pub operand_trans : (a b c : Operand) → operand_eq a b ≡ true → operand_eq b c ≡ true → operand_eq a c ≡ true
 operand_trans (operand.Int m) (operand.Int n) c e f = subst (λ k. operand_eq (operand.Int k) c ≡ true) (sym (eqb-true m n e)) f
 operand_trans (operand.Int m) b c e f = never e
@@ -49,11 +61,9 @@ operand_trans (operand.Local x) (operand.Local y) c e f = subst (λ z. operand_e
 operand_trans (operand.Local x) b c e f = never e
 operand_trans (operand.Global x) (operand.Global y) c e f = subst (λ z. operand_eq (operand.Global z) c ≡ true) (sym (name_sound x y e)) f
 operand_trans (operand.Global x) b c e f = never e
-operand_trans (operand.Offset t x is) (operand.Offset u y js) (operand.Offset v z ks) e f =
-    let one = and_parts (type_eq t u && name_eq x y) (indices_eq is js) e in
-    let other = and_parts (type_eq u v && name_eq y z) (indices_eq js ks) f in
-    let first = and_parts (type_eq t u) (name_eq x y) one.0 in
-    let second = and_parts (type_eq u v) (name_eq y z) other.0 in
-    both (both (type_trans t u v first.0 second.0) (subst (λ w. name_eq w z ≡ true) (sym (name_sound x y first.1)) second.1)) (indices_trans is js ks one.1 other.1)
-operand_trans (operand.Offset t x is) (operand.Offset u y js) c e f = never f
-operand_trans (operand.Offset t x is) b c e f = never e
+operand_trans (operand.Offset x ss) (operand.Offset y ts) (operand.Offset z us) e f =
+    let one = and_parts (name_eq x y) (steps_eq ss ts) e in
+    let other = and_parts (name_eq y z) (steps_eq ts us) f in
+    both (subst (λ w. name_eq w z ≡ true) (sym (name_sound x y one.0)) other.0) (steps_trans ss ts us one.1 other.1)
+operand_trans (operand.Offset x ss) (operand.Offset y ts) c e f = never f
+operand_trans (operand.Offset x ss) b c e f = never e

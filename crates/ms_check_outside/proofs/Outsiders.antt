@@ -5,21 +5,23 @@ use Rattle.std.specs.Option.{option_or}
 use Rattle.std.specs.List.{list_all}
 use Rattle.std.proofs.Math.Path.{ap₂}
 use Rattle.ms_ir.specs.declared.syntax.Name.{Name}
+use Rattle.ms_ir.specs.declared.syntax.Ty.{Ty}
+use Rattle.ms_ir.specs.declared.syntax.Operand.{Operand}
 use Rattle.ms_ir.specs.declared.syntax.Op.{Op}
 use Rattle.ms_ir.specs.declared.syntax.Op.TheVariants as op
 use Rattle.ms_ir.specs.declared.syntax.Inst.{Inst}
 use Rattle.ms_ir.specs.declared.syntax.Block.{Block}
 use Rattle.ms_ir.specs.declared.syntax.Func.{Func}
 use Rattle.ms_ir.specs.declared.syntax.Module.{Module}
-use Rattle.ms_ir.specs.Code.{one_unmarked, over_insts, over_blocks, func_index, external_named}
+use Rattle.ms_ir.specs.Code.{one_unmarked, over_insts, over_blocks}
 use Rattle.ms_ir.specs.Names.{lookup, externals, is_reserved}
 use Rattle.ms_ir.specs.Equal.{has_name}
 use Rattle.ms_ir.specs.Locals.{function_names}
 use Rattle.ms_ir.specs.Spots.{Spot, spot, next_spot, over_spots, over_block_spots, over_func_spots}
-use Rattle.ms_valid.specs.ExternalsFit.{name_unless, global_fits, decl_fits, called_names, says_volatile, is_no_flag, volatile_callees, bad_externals}
+use Rattle.ms_valid.specs.ExternalsFit.{name_unless, global_fits, decl_fits, called_names, flag_fits, flagged_callees, bad_externals}
 use Rattle.ms_tables.proofs.Places.{place_tells}
 use Rattle.ms_tables.proofs.Tied.{func_index_is}
-use Rattle.ms_check_outside.specs.Outside.{volatile_in, volatile_among, volatile_within, func_faults}
+use Rattle.ms_check_outside.specs.Outside.{flagged_in, flagged_among, flagged_within, func_faults}
 use Rattle.ms_tables.proofs.Items.{first-append}
 
 -- the first name at fault among the globals, the declarations and the functions
@@ -32,46 +34,44 @@ of_decls m = slice_get (flat_map (λ d. name_unless (decl_fits (called_names m) 
 abbrev pub of_funcs : Module → Option Name
 of_funcs m = slice_get (flat_map (func_faults (function_names m)) m.funcs) 0
 
--- ---- volatile accesses
+-- ---- flags
 
 module _ (m : Module) where
-  says_is : (x : Name) → says_volatile (external_named (func_index m.funcs) x) ≡ (not (has_name (function_names m) x) && says_volatile (lookup externals x))
-  says_is x =
-      ap (λ b. says_volatile (if b then None else lookup externals x)) (ap is_some (func_index_is m.funcs x) ∙ place_tells (function_names m) x)
-      ∙ split (has_name (function_names m) x)
+  all_fit : (args : List (Ty × Operand)) → list_all (flag_fits None) args ≡ true
+  all_fit [] = refl
+  all_fit (a ∷ rest) = all_fit rest
+
+  flagged_is : (o : Op) → flagged_callees m o ≡ flagged_in (function_names m) o
+  flagged_is (op.Call ret callee args) =
+      ap (λ b. name_unless (list_all (flag_fits (if b then None else lookup externals callee)) args) callee) (ap is_some (func_index_is m.funcs callee) ∙ place_tells (function_names m) callee)
+      ∙ ap (λ b. name_unless b callee) (split (has_name (function_names m) callee))
     where
-      split : (defined : Bool) → says_volatile (if defined then None else lookup externals x) ≡ (not defined && says_volatile (lookup externals x))
-      split true = refl
-      split false = refl
+      kept : (b : Bool) → b ≡ not (not b && true)
+      kept true = refl
+      kept false = refl
 
-  turned : (flag defined plain : Bool) → (not (not defined && flag) || plain) ≡ not (flag && (not defined && not plain))
-  turned true true true = refl
-  turned true true false = refl
-  turned true false true = refl
-  turned true false false = refl
-  turned false true true = refl
-  turned false true false = refl
-  turned false false true = refl
-  turned false false false = refl
+      never : (b : Bool) → true ≡ not (not b && false)
+      never true = refl
+      never false = refl
 
-  volatile_is : (o : Op) → volatile_callees m o ≡ volatile_in (function_names m) o
-  volatile_is (op.Call ret callee args) =
-      ap (λ b. name_unless b callee) (ap (λ b. not b || list_all is_no_flag args) (says_is callee) ∙ turned (says_volatile (lookup externals callee)) (has_name (function_names m) callee) (list_all is_no_flag args))
-  volatile_is (op.Binary o flags t a b) = refl
-  volatile_is (op.Icmp p flags t a b) = refl
-  volatile_is (op.Cast o flags from a to) = refl
-  volatile_is (op.Select c t a b) = refl
-  volatile_is (op.Freeze t a) = refl
-  volatile_is (op.Phi t edges) = refl
-  volatile_is (op.Alloca t u count) = refl
-  volatile_is (op.Load t addr) = refl
-  volatile_is (op.Store t v addr) = refl
-  volatile_is (op.Gep t base indices) = refl
-  volatile_is (op.Br to) = refl
-  volatile_is (op.CondBr c to other) = refl
-  volatile_is (op.Switch t v other cases) = refl
-  volatile_is (op.Ret v) = refl
-  volatile_is op.Unreachable = refl
+      split : (defined : Bool) → list_all (flag_fits (if defined then None else lookup externals callee)) args ≡ not (not (list_all (flag_fits (lookup externals callee)) args) && not defined)
+      split true = all_fit args ∙ never (list_all (flag_fits (lookup externals callee)) args)
+      split false = kept (list_all (flag_fits (lookup externals callee)) args)
+  flagged_is (op.Binary o flags t a b) = refl
+  flagged_is (op.Icmp p flags t a b) = refl
+  flagged_is (op.Cast o flags from a to) = refl
+  flagged_is (op.Select c t a b) = refl
+  flagged_is (op.Freeze t a) = refl
+  flagged_is (op.Phi t edges) = refl
+  flagged_is (op.Alloca t u count) = refl
+  flagged_is (op.Load t addr) = refl
+  flagged_is (op.Store t v addr) = refl
+  flagged_is (op.Gep t base indices) = refl
+  flagged_is (op.Br to) = refl
+  flagged_is (op.CondBr c to other) = refl
+  flagged_is (op.Switch t v other cases) = refl
+  flagged_is (op.Ret v) = refl
+  flagged_is op.Unreachable = refl
 
   -- ---- functions
 
@@ -79,13 +79,13 @@ module _ (m : Module) where
   head f = name_unless (not (is_reserved f.name)) f.name
 
   abbrev look : Spot → Inst → List Name
-  look at inst = volatile_callees m inst.op
+  look at inst = flagged_callees m inst.op
 
-  in_insts : (at : Spot) (insts : List Inst) → over_spots look at insts ≡ volatile_among (function_names m) insts
+  in_insts : (at : Spot) (insts : List Inst) → over_spots look at insts ≡ flagged_among (function_names m) insts
   in_insts at [] = refl
-  in_insts at (inst ∷ rest) = ap₂ (λ a b. a ++ b) (volatile_is inst.op) (in_insts (next_spot at inst) rest)
+  in_insts at (inst ∷ rest) = ap₂ (λ a b. a ++ b) (flagged_is inst.op) (in_insts (next_spot at inst) rest)
 
-  in_blocks : (f : Func) (b site : ℕ) (blocks : List Block) → over_block_spots look f b site blocks ≡ volatile_within (function_names m) blocks
+  in_blocks : (f : Func) (b site : ℕ) (blocks : List Block) → over_block_spots look f b site blocks ≡ flagged_within (function_names m) blocks
   in_blocks f b site [] = refl
   in_blocks f b site (k ∷ rest) = ap₂ (λ a c. a ++ c) (in_insts (spot f b 0 site) k.insts) (in_blocks f (b + 1) (site + over_insts one_unmarked k.insts) rest)
 
@@ -93,7 +93,7 @@ module _ (m : Module) where
   in_funcs site [] = refl
   in_funcs site (f ∷ rest) =
       ap₂ (λ a c. head f ++ (a ++ c)) (in_blocks f 0 site f.blocks) (in_funcs (site + over_blocks one_unmarked f.blocks) rest)
-      ∙ sym (append_assoc (head f) (volatile_within (function_names m) f.blocks) (flat_map (func_faults (function_names m)) rest))
+      ∙ sym (append_assoc (head f) (flagged_within (function_names m) f.blocks) (flat_map (func_faults (function_names m)) rest))
 
   -- ---- the definition
 

@@ -12,25 +12,25 @@ use Rattle.ms_ir.specs.declared.syntax.Block.{Block}
 use Rattle.ms_ir.specs.declared.syntax.Func.{Func}
 use Rattle.ms_ir.specs.Names.{lookup, externals, is_reserved}
 use Rattle.ms_ir.specs.Equal.{has_name}
-use Rattle.ms_valid.specs.ExternalsFit.{name_unless, says_volatile, is_no_flag}
+use Rattle.ms_valid.specs.ExternalsFit.{name_unless, flag_fits}
 
--- the access of a call would be volatile, in a module that defines functions with these names
-abbrev pub is_volatile : List Name → Name → List (Ty × Operand) → Bool
-is_volatile functions callee args = says_volatile (lookup externals callee) && (not (has_name functions callee) && not (list_all is_no_flag args))
+-- a call has a flag that doesn't fit, in a module that defines functions with these names
+abbrev pub is_misflagged : List Name → Name → List (Ty × Operand) → Bool
+is_misflagged functions callee args = not (list_all (flag_fits (lookup externals callee)) args) && not (has_name functions callee)
 
 -- the callee of such a call
-abbrev pub volatile_in : List Name → Op → List Name
-volatile_in functions (op.Call ret callee args) = name_unless (not (is_volatile functions callee args)) callee
-volatile_in functions o = []
+abbrev pub flagged_in : List Name → Op → List Name
+flagged_in functions (op.Call ret callee args) = name_unless (not (is_misflagged functions callee args)) callee
+flagged_in functions o = []
 
 -- in instructions
-abbrev pub volatile_among : List Name → List Inst → List Name
-volatile_among functions insts = flat_map (λ inst. volatile_in functions inst.op) insts
+abbrev pub flagged_among : List Name → List Inst → List Name
+flagged_among functions insts = flat_map (λ inst. flagged_in functions inst.op) insts
 
 -- in blocks
-abbrev pub volatile_within : List Name → List Block → List Name
-volatile_within functions blocks = flat_map (λ b. volatile_among functions b.insts) blocks
+abbrev pub flagged_within : List Name → List Block → List Name
+flagged_within functions blocks = flat_map (λ b. flagged_among functions b.insts) blocks
 
 -- a function's name where it is reserved, and those callees
 abbrev pub func_faults : List Name → Func → List Name
-func_faults functions f = name_unless (not (is_reserved f.name)) f.name ++ volatile_within functions f.blocks
+func_faults functions f = name_unless (not (is_reserved f.name)) f.name ++ flagged_within functions f.blocks

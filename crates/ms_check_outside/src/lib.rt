@@ -3,10 +3,10 @@
 #![tactic(auto)]
 
 mod called;
+mod flags;
 mod marks;
 mod outside;
 mod slots;
-mod volatile;
 
 pub use marks::first_bad_mark;
 pub use outside::first_bad_external;

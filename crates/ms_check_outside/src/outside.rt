@@ -6,8 +6,8 @@ ghost use Rattle.ms_valid.specs.ExternalsFit.{name_unless, global_fits, is_runti
 ghost use Rattle.ms_check_outside.specs.Outside.{func_faults};
 
 use crate::called::called_names;
+use crate::flags::first_in_blocks;
 use crate::slots::global_fits;
-use crate::volatile::first_in_blocks;
 use ms_bits::NoMemory;
 use ms_ir::{Decl, External, Func, GlobalVar, Module, Name, RuntimeFn};
 use ms_tables::{NameTable, functions_of};
@@ -68,7 +68,7 @@ fn first_decl<'m>(called: &NameTable<'_>, decls: &'m [Decl]) -> Option<&'m Name>
     None
 }
 
-/// A function's name where it is reserved, or else the first callee in it whose access would be volatile.
+/// A function's name where it is reserved, or else the first callee in it whose flag doesn't fit.
 fn first_in_func<'m>(functions: &NameTable<'_>, func: &'m Func) -> Option<&'m Name>
     ensures { option_copied result ≡ slice_get (func_faults functions.now func.now) 0 }
 {
@@ -79,7 +79,7 @@ fn first_in_func<'m>(functions: &NameTable<'_>, func: &'m Func) -> Option<&'m Na
     }
 }
 
-/// The first function whose name is reserved, or the first callee whose access would be volatile, in text order.
+/// The first function whose name is reserved, or the first callee whose flag doesn't fit, in text order.
 fn first_in_funcs<'m>(functions: &NameTable<'_>, funcs: &'m [Func]) -> Option<&'m Name>
     ensures { option_copied result ≡ slice_get (flat_map (func_faults functions.now) funcs.now) 0 }
 {
@@ -99,8 +99,8 @@ fn first_bad_decl(alloc: Global, m: &Module) -> Result<Option<&Name>, NoMemory>
     Ok(first_decl(&called, m.decls.as_slice()))
 }
 
-/// The first function of a module whose name is reserved, or the first callee whose access would be volatile, in text
-/// order. The one error is want of memory.
+/// The first function of a module whose name is reserved, or the first callee whose flag doesn't fit, in text order. The one
+/// error is want of memory.
 fn first_bad_func(alloc: Global, m: &Module) -> Result<Option<&Name>, NoMemory>
     ensures { IfOk result (λ name. option_copied name ≡ slice_get (flat_map (func_faults (function_names m.now)) m.now.funcs) 0) }
 {
@@ -109,7 +109,7 @@ fn first_bad_func(alloc: Global, m: &Module) -> Result<Option<&Name>, NoMemory>
 }
 
 /// The first declaration of a module that doesn't fit, or else the first function whose name is reserved or callee whose
-/// access would be volatile. The one error is want of memory.
+/// flag doesn't fit. The one error is want of memory.
 fn first_bad_callee(alloc: Global, m: &Module) -> Result<Option<&Name>, NoMemory>
     ensures { IfOk result (λ name. option_copied name ≡ slice_get (flat_map (λ d. name_unless (decl_fits (called_names m.now) d) d.name) m.now.decls ++ flat_map (func_faults (function_names m.now)) m.now.funcs) 0) }
 {

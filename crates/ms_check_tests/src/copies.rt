@@ -17,6 +17,7 @@ const PARTS: &str = r#"%pair = type { i32, [ 2 x i8 ] }
 @g = constant < { [ 3 x ptr ], %pair, i8 } > < { [ 3 x ptr ] [ ptr null, ptr @h, ptr undef ], %pair zeroinitializer, i8 poison } >
 @h = global [ 2 x i8 ] c"a\00"
 @o = global ptr getelementptr (%pair, ptr @g, i64 -1, i32 1)
+@w = global ptr getelementptr ([ 2 x i8 ], ptr getelementptr (%pair, ptr @g, i32 0, i32 1), i64 0, i64 1)
 declare void @free(ptr)
 define i32 @f(i8 %x, ptr %p) {
   %1 = xor i8 %x, 5
@@ -42,7 +43,7 @@ d:
 "#;
 
 /// Copies are equal and changes are seen.
-static PAIRS: [Differing; 10] = [
+static PAIRS: [Differing; 11] = [
     Differing(PARTS, PARTS, true),
     Differing("", PARTS, false),
     Differing("@g = global i8 1\n", "@g = global i8 1\n", true),
@@ -55,6 +56,11 @@ static PAIRS: [Differing; 10] = [
         false,
     ),
     Differing("%t = type { i8 }\n", "%t = type < { i8 } >\n", false),
+    Differing(
+        "@g = global ptr getelementptr (i8, ptr getelementptr (i8, ptr @g, i64 1), i64 2)\n",
+        "@g = global ptr getelementptr (i8, ptr getelementptr (i8, ptr @g, i64 2), i64 1)\n",
+        false,
+    ),
     Differing(
         "define void @f() {\n  %x = xor i8 1, 5\n  ret void\n}\n",
         "define void @f() {\n  %x = xor i8 1, 6\n  ret void\n}\n",

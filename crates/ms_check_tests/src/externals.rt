@@ -2,7 +2,7 @@
 
 use crate::answers::{Case, Want};
 
-pub static EXTERNALS: [Case; 21] = [
+pub static EXTERNALS: [Case; 28] = [
     Case(
         r#"declare i32 @putchar(i32)
 define i32 @main() {
@@ -124,6 +124,25 @@ define i32 @main() {
 "#,
         Want::BadExternal("@__msan_check_format"),
     ),
+    // Flags that are numbers, and one that isn't.
+    Case(
+        r#"declare i64 @llvm.objectsize.i64.p0(ptr, i1, i1, i1)
+define i32 @main() {
+  %1 = call i64 @llvm.objectsize.i64.p0(ptr null, i1 true, i1 false, i1 true)
+  ret i32 0
+}
+"#,
+        Want::Valid,
+    ),
+    Case(
+        r#"declare i64 @llvm.objectsize.i64.p0(ptr, i1, i1, i1)
+define i32 @main() {
+  %1 = call i64 @llvm.objectsize.i64.p0(ptr null, i1 true, i1 false, i1 undef)
+  ret i32 0
+}
+"#,
+        Want::BadExternal("@llvm.objectsize.i64.p0"),
+    ),
     // A copy that isn't volatile, one that is, and a function of the module with that name.
     Case(
         r#"declare void @llvm.memcpy.p0.p0.i64(ptr, ptr, i64, i1)
@@ -153,6 +172,53 @@ define i32 @main() {
 }
 "#,
         Want::Valid,
+    ),
+    // A function of whole words at a width that it has and at one that it hasn't, and its flag, which is written.
+    Case(
+        r#"declare i16 @llvm.bswap.i16(i16)
+define i32 @main() {
+  %1 = call i16 @llvm.bswap.i16(i16 1)
+  ret i32 0
+}
+"#,
+        Want::Valid,
+    ),
+    Case(
+        r#"declare i8 @llvm.bswap.i8(i8)
+define i32 @main() {
+  %1 = call i8 @llvm.bswap.i8(i8 1)
+  ret i32 0
+}
+"#,
+        Want::BadExternal("@llvm.bswap.i8"),
+    ),
+    Case(
+        r#"declare i32 @llvm.ctlz.i32(i32, i1)
+define i32 @main() {
+  %1 = call i32 @llvm.ctlz.i32(i32 1, i1 true)
+  ret i32 0
+}
+"#,
+        Want::Valid,
+    ),
+    Case(
+        r#"declare i32 @llvm.ctlz.i32(i32, i1)
+define i32 @main() {
+  %1 = icmp eq i32 1, 1
+  %2 = call i32 @llvm.ctlz.i32(i32 1, i1 %1)
+  ret i32 0
+}
+"#,
+        Want::BadExternal("@llvm.ctlz.i32"),
+    ),
+    Case(
+        r#"declare i64 @llvm.ctlz.i32(i32, i1)
+define i32 @main() {
+  %1 = call i64 @llvm.ctlz.i32(i32 1, i1 true)
+  ret i32 0
+}
+"#,
+        Want::BadExternal("@llvm.ctlz.i32"),
     ),
     // The runtime's functions have their types, called or not.
     Case(

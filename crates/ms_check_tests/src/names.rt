@@ -157,7 +157,24 @@ define i32 @main() {
 ];
 
 /// Names are known.
-pub static UNKNOWNS: [Case; 9] = [
+pub static UNKNOWNS: [Case; 11] = [
+    // In each `getelementptr` within one another, the outermost first.
+    Case(
+        r#"@g = global ptr getelementptr (i8, ptr getelementptr (%t, ptr @h, i64 0), i64 0)
+define i32 @main() {
+  ret i32 0
+}
+"#,
+        Want::Unknown(0, "%t"),
+    ),
+    Case(
+        r#"define i32 @main() {
+  %1 = load i8, ptr getelementptr (%s, ptr getelementptr (%t, ptr @h, i64 0), i64 0)
+  ret i32 0
+}
+"#,
+        Want::Unknown(1, "%s"),
+    ),
     Case(
         r#"define i32 @main() {
   ret i32 %9

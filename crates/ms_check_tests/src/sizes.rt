@@ -7,7 +7,7 @@ use std::test::Fail;
 /// What stands before `main`, an instruction of it, and the answer.
 struct Sized(&'static str, &'static str, Want);
 
-static SIZES: [Sized; 27] = [
+static SIZES: [Sized; 28] = [
     // One type may have 2^26 bytes, and all globals together have 2^24.
     Sized("", "", Want::Valid),
     Sized(
@@ -67,6 +67,11 @@ static SIZES: [Sized; 27] = [
         "@a = global ptr getelementptr ([ 67108864 x i8 ], ptr @a, i64 0)\n",
         "",
         Want::Valid,
+    ),
+    Sized(
+        "@a = global ptr getelementptr (i8, ptr getelementptr ([ 67108865 x i8 ], ptr @a, i64 0), i64 0)\n",
+        "",
+        Want::BadSize("@a"),
     ),
     // A type that holds itself.
     Sized(

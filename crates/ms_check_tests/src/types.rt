@@ -45,7 +45,7 @@ static CASTS: [Line; 7] = [
     Line("  %4 = bitcast ptr %2 to i64\n", Want::TypeMismatch(3, 0)),
 ];
 
-static INDICES: [Line; 6] = [
+static INDICES: [Line; 9] = [
     Line(
         "  %4 = getelementptr %pair, ptr %2, i64 0, i32 1\n",
         Want::Valid,
@@ -68,6 +68,19 @@ static INDICES: [Line; 6] = [
     ),
     Line(
         "  %4 = getelementptr %pair, ptr %0, i64 0\n",
+        Want::TypeMismatch(3, 0),
+    ),
+    // Each of those within one another by itself.
+    Line(
+        "  %4 = load i8, ptr getelementptr (i8, ptr getelementptr (%pair, ptr @g, i64 0, i32 1), i64 -4)\n",
+        Want::Valid,
+    ),
+    Line(
+        "  %4 = load i8, ptr getelementptr (i8, ptr getelementptr (%pair, ptr @g, i64 0, i32 2), i64 0)\n",
+        Want::TypeMismatch(3, 0),
+    ),
+    Line(
+        "  %4 = load i8, ptr getelementptr (%pair, ptr getelementptr (i8, ptr @g, i64 0), i64 0, i32 2)\n",
         Want::TypeMismatch(3, 0),
     ),
 ];

@@ -69,7 +69,7 @@ field_told ts true operand.Undef = refl
 field_told ts true operand.Poison = refl
 field_told ts true (operand.Local x) = refl
 field_told ts true (operand.Global x) = refl
-field_told ts true (operand.Offset t x is) = refl
+field_told ts true (operand.Offset x steps) = refl
 
 pub leads : (t u : Ty) (o : Operand) → part_by t u (constant_of o) ≡ (if leads_into t (u, o) then Some (part_type t (number_or_zero o)) else None)
 leads (Int n) u o = refl

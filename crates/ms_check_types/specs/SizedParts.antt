@@ -1,5 +1,5 @@
 -- What the parts of the code come to that look for types without sizes. What `first_unsized` promises does not name this.
-use Rattle.std.specs.Prelude.{ℕ, Bool, true, false, ◌&&◌, not, List, [], ◌∷◌, if◌then◌else◌, Option, Some, None, is_some}
+use Rattle.std.specs.Prelude.{ℕ, Bool, true, false, ◌&&◌, not, List, [], ◌∷◌, map, if◌then◌else◌, Option, Some, None, is_some}
 use Rattle.std.specs.List.{list_all}
 use Rattle.ms_ir.specs.declared.syntax.Name.{Name}
 use Rattle.ms_ir.specs.declared.syntax.Ty.{Ty, Named}
@@ -10,6 +10,7 @@ use Rattle.ms_ir.specs.declared.syntax.Block.{Block}
 use Rattle.ms_ir.specs.declared.syntax.Func.{Func}
 use Rattle.ms_ir.specs.declared.syntax.GlobalVar.{GlobalVar}
 use Rattle.ms_ir.specs.Code.{operands}
+use Rattle.ms_ir.specs.Equal.{Step}
 use Rattle.ms_ir.specs.Layout.{Types, size_of}
 use Rattle.ms_ir.specs.Locals.{Spelled}
 use Rattle.ms_ir.specs.Written.{type_parts, operand_types, own_types, init_types}
@@ -18,6 +19,10 @@ use Rattle.ms_valid.specs.SizesFit.{sized, spelled_unless, taken_with, passes_li
 -- a type and all types within it have sizes
 abbrev pub has_sizes : Types → Ty → Bool
 has_sizes types t = list_all (λ u. is_some (size_of types u)) (type_parts t)
+
+-- the types in a step of a constant address have sizes
+abbrev pub is_step_sized : Types → Step → Bool
+is_step_sized types s = list_all (has_sizes types) (s.0 ∷ map (λ i. i.0) s.1)
 
 -- the types in an operand with its type have sizes
 abbrev pub is_typed_sized : Types → Ty × Operand → Bool

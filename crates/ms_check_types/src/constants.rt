@@ -1,12 +1,14 @@
 //! Constants with their types (LLVM Language Reference, "Constants", "Constant Expressions").
-ghost use Rattle.std.specs.Prelude.{◌≡◌, None, drop, is_none, true, ◌&&◌};
+ghost use Rattle.std.specs.Prelude.{◌≡◌, None, ◌&&◌};
+ghost use Rattle.std.specs.List.{list_all};
 ghost use Rattle.ms_ir.specs.declared.syntax.Ty as type;
 ghost use Rattle.ms_ir.specs.Equal.{type_eq};
 ghost use Rattle.ms_ir.specs.ValueTypes.{type_of};
-ghost use Rattle.ms_valid.specs.TypesAgree.{operand_fits, is_variable, first_misstep, constant_indices};
+ghost use Rattle.ms_valid.specs.TypesAgree.{operand_fits, is_variable, step_fits};
 
 use crate::steps::leads_on;
 use crate::symbols::Symbols;
+use ms_bits::List;
 use ms_ir::{Name, Operand, Ty, ValueType};
 
 /// Whether the address of a global fits a type: a pointer, to a global variable.
@@ -18,7 +20,7 @@ pub fn global_fits(symbols: &Symbols<'_>, ty: ValueType<'_>, name: &Name) -> boo
 
 /// Whether each index behind the first leads into a part of a type.
 fn inner_indices_fit(symbols: &Symbols<'_>, ty: &Ty, indices: &[(Ty, u64)]) -> bool
-    ensures { result ≡ is_none (first_misstep (λ i. true) symbols.now.source.now.types ty.now 0 (drop 1 (constant_indices indices.now))) }
+    ensures { result ≡ step_fits symbols.now.source.now.types (ty.now, indices.now) }
 {
     if indices.is_empty() {
         return true;
@@ -26,18 +28,31 @@ fn inner_indices_fit(symbols: &Symbols<'_>, ty: &Ty, indices: &[(Ty, u64)]) -> b
     leads_on(symbols, ty, &indices[1..])
 }
 
-/// Whether a constant `getelementptr` from a global fits a type.
+/// Whether the indices of a step lead into parts of its type.
+fn step_fits(symbols: &Symbols<'_>, step: &(Ty, List<(Ty, u64)>)) -> bool
+    ensures { result ≡ step_fits symbols.now.source.now.types step.now }
+{
+    inner_indices_fit(symbols, &step.0, step.1.as_slice())
+}
+
+/// Whether the indices of each step lead into parts of its type.
+fn steps_fit(symbols: &Symbols<'_>, steps: &[(Ty, List<(Ty, u64)>)]) -> bool
+    ensures { result ≡ list_all (step_fits symbols.now.source.now.types) steps.now }
+{
+    steps.iter().all(|step| step_fits(symbols, step))
+}
+
+/// Whether the address to which steps lead from a global fits a type.
 pub fn offset_fits(
     symbols: &Symbols<'_>,
     ty: ValueType<'_>,
-    stepped: &Ty,
     name: &Name,
-    indices: &[(Ty, u64)],
+    steps: &[(Ty, List<(Ty, u64)>)],
 ) -> bool
     ensures { result ≡ (type_eq (type_of ty.entry) type.Ptr && is_variable symbols.now.source.now name.now
-        && is_none (first_misstep (λ i. true) symbols.now.source.now.types stepped.now 0 (drop 1 (constant_indices indices.now)))) }
+        && list_all (step_fits symbols.now.source.now.types) steps.now) }
 {
-    global_fits(symbols, ty, name) && inner_indices_fit(symbols, stepped, indices)
+    global_fits(symbols, ty, name) && steps_fit(symbols, steps)
 }
 
 /// Whether a constant fits a type; a value of a function fits none.
@@ -51,8 +66,6 @@ pub fn constant_fits(symbols: &Symbols<'_>, ty: ValueType<'_>, constant: &Operan
         Operand::Poison => true,
         Operand::Local(_) => false,
         Operand::Global(name) => global_fits(symbols, ty, name),
-        Operand::Offset(stepped, name, indices) => {
-            offset_fits(symbols, ty, stepped.get(), name.get(), indices.as_slice())
-        }
+        Operand::Offset(name, steps) => offset_fits(symbols, ty, name.get(), steps.as_slice()),
     }
 }

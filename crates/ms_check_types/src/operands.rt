@@ -38,14 +38,8 @@ pub fn operand_fits(body: &Body<'_, '_>, ty: ValueType<'_>, operand: &Operand) -
             None => false,
         },
         Operand::Global(name) => global_fits(body.symbols, ty, name),
-        Operand::Offset(stepped, name, indices) => {
-            offset_fits(
-                body.symbols,
-                ty,
-                stepped.get(),
-                name.get(),
-                indices.as_slice(),
-            )
+        Operand::Offset(name, steps) => {
+            offset_fits(body.symbols, ty, name.get(), steps.as_slice())
         }
     }
 }

@@ -3,9 +3,10 @@ ghost use Rattle.std.specs.Prelude.{◌≡◌, map};
 ghost use Rattle.std.specs.List.{list_all};
 ghost use Rattle.ms_ir.specs.ValueTypes.{type_of};
 ghost use Rattle.ms_ir.specs.Written.{operand_types, init_types};
-ghost use Rattle.ms_check_types.specs.SizedParts.{has_sizes, is_typed_sized, is_item_sized};
+ghost use Rattle.ms_check_types.specs.SizedParts.{has_sizes, is_step_sized, is_typed_sized, is_item_sized};
 
 use crate::parts::has_sizes;
+use ms_bits::List;
 use ms_ir::{Init, Operand, Ty, ValueType};
 use ms_tables::Extents;
 
@@ -14,11 +15,22 @@ pub fn is_operand_sized(extents: &Extents, operand: &Operand) -> bool
     ensures { result ≡ list_all (has_sizes extents.now) (operand_types operand.now) }
 {
     match operand {
-        Operand::Offset(ty, _, indices) => {
-            has_sizes(extents, ty.get()) && are_indices_sized(extents, indices.as_slice())
-        }
+        Operand::Offset(_, steps) => are_steps_sized(extents, steps.as_slice()),
         _ => true,
     }
+}
+
+/// Whether the types in steps have sizes.
+fn are_steps_sized(extents: &Extents, steps: &[(Ty, List<(Ty, u64)>)]) -> bool
+    ensures { result ≡ list_all (is_step_sized extents.now) steps.now }
+{
+    steps.iter().all(|step| is_step_sized(extents, step))
+}
+
+fn is_step_sized(extents: &Extents, step: &(Ty, List<(Ty, u64)>)) -> bool
+    ensures { result ≡ is_step_sized extents.now step.now }
+{
+    has_sizes(extents, &step.0) && are_indices_sized(extents, step.1.as_slice())
 }
 
 fn are_indices_sized(extents: &Extents, indices: &[(Ty, u64)]) -> bool

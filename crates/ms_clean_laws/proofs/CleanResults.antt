@@ -1,5 +1,5 @@
 -- Results of words without a poisoned bit have none.
-use Rattle.std.proofs.Common.{◌≡◌, ℕ, zero, suc, ◌+◌, ◌-◌, ◌*◌, ◌/◌, ◌%◌, ◌^◌, List, [], ◌∷◌, map, Bool, true, false, cond, ◌&&◌, eqb, leb, bit_or, Ok, Err, refl, sym, ap, ap₂, ◌∙◌, arith, true≢false, zero-mul, if◌then◌else◌, pos, negsuc}
+use Rattle.std.proofs.Common.{◌≡◌, ℕ, zero, suc, ◌+◌, ◌-◌, ◌*◌, ◌/◌, ◌%◌, ◌^◌, List, [], ◌∷◌, map, Bool, true, false, cond, ◌&&◌, eqb, leb, bit_or, Option, Some, None, is_some, Ok, Err, refl, sym, ap, ap₂, ◌∙◌, arith, true≢false, zero-mul, if◌then◌else◌, pos, negsuc}
 use Rattle.std.specs.List.{list_all}
 use Rattle.std.proofs.lemmas.Bool.{and_parts, lt-ltb}
 use Rattle.std.proofs.lemmas.Nat.{pow_pos}
@@ -12,6 +12,8 @@ use Rattle.ms_bits.specs.declared.traps.Trap.TheVariants.{Shift}
 use Rattle.ms_bits.specs.Arithmetic.{binary_of, shl_of, lshr_of, ashr_of}
 use Rattle.ms_bits.specs.Conversions.{cast_of, select_of}
 use Rattle.ms_bits.specs.Signed.{signed, wrap}
+use Rattle.ms_bits.specs.WordFunctions.{bits_of, word_mask}
+use Rattle.ms_bits_laws.proofs.CleanWords.{word_clean}
 use Rattle.ms_ir.specs.declared.syntax.Name.{Name}
 use Rattle.ms_ir.specs.declared.syntax.Ty.{Ty}
 use Rattle.ms_ir.specs.declared.syntax.Ty as ty
@@ -23,13 +25,16 @@ use Rattle.ms_ir.specs.declared.syntax.Module.{Module}
 use Rattle.ms_bits.specs.NoFlags.{no_flags}
 use Rattle.ms_ir.specs.Layout.{width_of, extended}
 use Rattle.ms_runs.specs.World.{World, Setting}
-use Rattle.ms_ir.specs.Code.{operands, one_undef}
+use Rattle.ms_ir.specs.declared.calls.External.{External}
+use Rattle.ms_ir.specs.declared.calls.External.TheVariants.{Word}
+use Rattle.ms_ir.specs.Names.{lookup, externals}
+use Rattle.ms_ir.specs.Code.{operands, one_undef, func_index}
 use Rattle.ms_runs.specs.Control.{read_all}
 use Rattle.ms_runs.specs.Act.{extended_all}
 use Rattle.ms_runs.specs.Poisoned.{Poisoned, InRange}
-use Rattle.ms_runs.specs.Masks.{Rules, value_or_zero, shift_mask, binary_mask, union, result_mask}
+use Rattle.ms_runs.specs.Masks.{Rules, value_or_zero, shift_mask, binary_mask, union, word_at, answer_mask, as_result, result_mask}
 use Rattle.ms_runs.specs.Shadow.{read_poisoned}
-use Rattle.ms_valid.specs.CleanValues.{is_clean_operand, is_division, makes_clean}
+use Rattle.ms_valid.specs.CleanValues.{is_clean_operand, is_division, answers_clean, makes_clean}
 use Rattle.ms_runs_good.proofs.Readings.{shadow_read}
 use Rattle.ms_clean_laws.specs.KeepClean.{KeepClean}
 
@@ -97,6 +102,25 @@ indices_zero [] ps h = refl
 indices_zero (i ∷ is) [] h = refl
 indices_zero (i ∷ is) (p ∷ ps) h = ap₂ (λ m k. bit_or m k) (ap (λ m. extended (width_of i.0) m) h.0 ∙ zero_wrapped 64 (width_of i.0)) (indices_zero is ps h.1)
 
+mask_at : (k : ℕ) (ps : List Poisoned) → NonePoisoned ps → (word_at k ps).mask ≡ 0
+mask_at k [] h = refl
+mask_at zero (p ∷ ps) h = h.0
+mask_at (suc k) (p ∷ ps) h = mask_at k ps h.1
+
+-- what an external answers of words without a poisoned bit
+pub answer_zero : (e : Option External) (ps : List Poisoned) → NonePoisoned ps → answer_mask e ps ≡ 0
+answer_zero None ps h = refl
+answer_zero (Some (Word f n)) ps h =
+    ap (λ m. word_mask f (bits_of n) (word_at 0 ps).value m (word_at 1 ps).value (word_at 1 ps).mask (word_at 2 ps).value (word_at 2 ps).mask) (mask_at 0 ps h)
+    ∙ ap (λ m. word_mask f (bits_of n) (word_at 0 ps).value 0 (word_at 1 ps).value m (word_at 2 ps).value (word_at 2 ps).mask) (mask_at 1 ps h)
+    ∙ ap (λ m. word_mask f (bits_of n) (word_at 0 ps).value 0 (word_at 1 ps).value 0 (word_at 2 ps).value m) (mask_at 2 ps h)
+    ∙ word_clean f (bits_of n) (word_at 0 ps).value (word_at 1 ps).value (word_at 2 ps).value
+answer_zero (Some e) ps h = refl
+
+pub result_zero : (ret : Option Ty) (m : ℕ) → m ≡ 0 → as_result ret m ≡ 0
+result_zero None m e = refl
+result_zero (Some t) m e = ap (λ k. k % 2 ^ width_of t) e ∙ zero_mod (2 ^ width_of t)
+
 module _ (d : Rules) (keep : KeepClean d) where
   sum_zero : (w : ℕ) (p q : Poisoned) → p.mask ≡ 0 → q.mask ≡ 0 → d.sum w (bit_or p.mask q.mask) ≡ 0
   sum_zero w p q e h = ap₂ (λ m k. d.sum w (bit_or m k)) e h ∙ keep.sum w
@@ -136,7 +160,7 @@ module _ (s : Setting) (clean : Name → Bool) (values : Name → Poisoned) (hol
   read_clean n t (operand.Int v) e = refl
   read_clean n t operand.Null e = refl
   read_clean n t (operand.Global x) e = refl
-  read_clean n t (operand.Offset u x is) e = refl
+  read_clean n t (operand.Offset x steps) e = refl
 
   all_clean : (os : List (Ty × Operand)) (n : ℕ) → list_all (λ a. is_clean_operand clean a.1) os ≡ true → NonePoisoned (read_all (read_poisoned s values) os n)
   all_clean [] n e = tt
@@ -174,7 +198,19 @@ module _ (s : Setting) (clean : Name → Bool) (values : Name → Poisoned) (hol
     made_clean (op.Gep t base is) n w e =
         let all = all_clean (operands (op.Gep t base is)) n e in
         address_zero d keep is (read_poisoned s values n ty.Ptr base) (read_all (read_poisoned s values) is (n + one_undef base)) all.0 all.1
-    made_clean (op.Call ret x args) n w e = refl
+    made_clean (op.Call ret x args) n w e = by_place (is_some (func_index m.funcs x)) e
+      where
+        ps : List Poisoned
+        ps = read_all (read_poisoned s values) args n
+
+        by_external : (q : Option External) → answers_clean clean q args ≡ true → answer_mask q ps ≡ 0
+        by_external None h = refl
+        by_external (Some (Word f k)) h = answer_zero (Some (Word f k)) ps (all_clean args n h)
+        by_external (Some q) h = refl
+
+        by_place : (b : Bool) → answers_clean clean (if b then None else lookup externals x) args ≡ true → as_result ret (answer_mask (lookup externals x) ps) ≡ 0
+        by_place true h = absurd (true≢false (sym h))
+        by_place false h = result_zero ret (answer_mask (lookup externals x) ps) (by_external (lookup externals x) h)
     made_clean (op.Store t v a) n w e = refl
     made_clean (op.Br to) n w e = refl
     made_clean (op.CondBr c to other) n w e = refl

@@ -42,4 +42,4 @@ module _ (d : Rules) (keep : KeepClean d) (widths : KeepWidths d) (m : Module) (
       by_operand (operand.Int v) h = refl
       by_operand operand.Null h = refl
       by_operand (operand.Global x) h = refl
-      by_operand (operand.Offset t x indices) h = refl
+      by_operand (operand.Offset x steps) h = refl

@@ -31,7 +31,7 @@ use Rattle.ms_ir.specs.Written.{result_type}
 use Rattle.ms_valid.specs.FormedCode.{name_formed}
 use Rattle.ms_valid.specs.Formed.{Formed}
 use Rattle.ms_runs_good.specs.GoodStates.{PoisonedBelow, GoodFrames, StandsAtCall}
-use Rattle.ms_valid.specs.CleanValues.{is_clean_operand, makes_clean, Supported}
+use Rattle.ms_valid.specs.CleanValues.{is_clean_operand, answers_clean, makes_clean, Supported}
 use Rattle.ms_valid.specs.Valid.{Valid}
 use Rattle.ms_valid.proofs.NameTests.{name_same, name_sound}
 use Rattle.ms_runs_good.proofs.NextFrames.{stands_formed}
@@ -135,7 +135,7 @@ module _ (m : Module) (valid : Valid m) where
 
   -- a call of a function of the module makes no clean value
   no_clean_call : (set : Name → Bool) (callee : Name) (ret : Option Ty) (args : List (Ty × Operand)) (n : ℕ) → func_index m.funcs callee ≡ Some n → makes_clean m set (op.Call ret callee args) ≡ true → ⊥
-  no_clean_call set callee ret args n found e = true≢false (sym e ∙ ap (λ o. is_some (if is_some o then None else lookup externals callee)) found)
+  no_clean_call set callee ret args n found e = true≢false (sym e ∙ ap (λ o. answers_clean set (if is_some o then None else lookup externals callee) args) found)
 
   returned_clean : (caller : Frame Poisoned) (called : ℕ) → StandsAtCall m caller called → HasCleanValues m caller → (v : Poisoned) → HasCleanValues m (put caller (result_at m caller) v)
   returned_clean caller called stands h v =
@@ -195,7 +195,7 @@ module _ (m : Module) (valid : Valid m) where
         checked_clean : (e : Effect) → CleanMoved m (after_checks d s m i (here s m frame) words frame below e)
         checked_clean (Does w) =
             moves_clean (here s m frame).site i.result words (poisoned_result d i.op words)
-            (planes s (here s m frame).site ((here s m frame).root + count_undefs (operands i.op) + 1) i.op words (count_blind (union (map (λ p. p.mask) (blinded i.op words))) w))
+            (planes s (here s m frame).site ((here s m frame).root + count_undefs (operands i.op) + 1) i.op words (count_blind (union (map (λ p. p.mask) (blinded s.func i.op words))) w))
             frame below good h k lifted _
         checked_clean (Ends x w) = tt
         checked_clean (Gives v w) = tt

@@ -9,7 +9,7 @@ ghost use Rattle.ms_code_operands.specs.Tabled.{AreTables};
 ghost use Rattle.ms_code_operands.specs.InitialWords.{AreReadable, AreLow, words_of};
 
 use crate::addresses::address;
-use crate::steps::indexed;
+use crate::steps::stepped;
 use crate::tables::Tables;
 use ms_bits::{List, NoMemory};
 use ms_ir::{GlobalVar, Init, Operand, Ty};
@@ -25,9 +25,9 @@ fn constant(tables: &Tables<'_>, operand: &Operand) -> u64
     match operand {
         Operand::Int(word) => *word,
         Operand::Global(name) => address(tables, name),
-        Operand::Offset(ty, name, indices) => {
+        Operand::Offset(name, steps) => {
             let base = address(tables, name.get());
-            indexed(tables, ty.get(), base, indices.as_slice())
+            stepped(tables, base, steps.as_slice())
         }
         Operand::Null | Operand::Undef | Operand::Poison | Operand::Local(_) => 0,
     }

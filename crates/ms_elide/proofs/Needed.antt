@@ -13,10 +13,12 @@ use Rattle.ms_ir.specs.declared.syntax.Operand.TheVariants as operand
 use Rattle.ms_ir.specs.declared.syntax.Op.{Op}
 use Rattle.ms_ir.specs.declared.syntax.Op.TheVariants as op
 use Rattle.ms_ir.specs.declared.syntax.Module.{Module}
+use Rattle.ms_ir.specs.declared.calls.External.{External}
+use Rattle.ms_ir.specs.declared.calls.External.TheVariants.{Word}
 use Rattle.ms_ir.specs.Names.{externals, lookup}
 use Rattle.ms_ir.specs.Code.{operands, func_index, external_named}
-use Rattle.ms_valid.specs.CleanValues.{is_clean_operand, is_division, makes_clean}
-use Rattle.ms_elide.specs.Needed.{Needs, operand_needs, both_needs, all_needs, premises, op_needs}
+use Rattle.ms_valid.specs.CleanValues.{is_clean_operand, is_division, answers_clean, makes_clean}
+use Rattle.ms_elide.specs.Needed.{Needs, operand_needs, both_needs, all_needs, premises, answer_premises, op_needs}
 
 -- the operands that are looked at are clean
 abbrev looked : (Name → Bool) → Op → Option ℕ → Bool
@@ -49,11 +51,12 @@ looked_is m func same clean (op.Phi t edges) =
 looked_is m func same clean (op.Alloca t u count) = refl
 looked_is m func same clean (op.Gep t base indices) = all_looked clean (suc (length indices)) (operands (op.Gep t base indices)) (omega arith)
 looked_is m func same clean (op.Call ret callee args) =
-    ap (λ (k : Option ℕ). is_some (if is_some k then None else lookup externals callee)) (same callee) ∙ by_test (is_some (external_named func callee))
+    ap (λ (k : Option ℕ). answers_clean clean (if is_some k then None else lookup externals callee) args) (same callee) ∙ by_external (external_named func callee)
   where
-    by_test : (b : Bool) → b ≡ looked clean (op.Call ret callee args) (if b then Some 0 else None)
-    by_test true = refl
-    by_test false = refl
+    by_external : (e : Option External) → answers_clean clean e args ≡ looked clean (op.Call ret callee args) (answer_premises e args)
+    by_external None = refl
+    by_external (Some (Word f n)) = all_looked clean (length args) args (omega arith)
+    by_external (Some e) = refl
 looked_is m func same clean o = refl
 
 -- ---- from clean operands to needs

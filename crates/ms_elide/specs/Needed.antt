@@ -1,9 +1,12 @@
 -- What has to be clean so that values are, where the names of a function stand for their places (own). What the crate
 -- promises does not name this file.
-use Rattle.std.specs.Prelude.{ℕ, suc, Bool, false, List, [], ◌∷◌, ◌++◌, map, flat_map, filter_map, length, take, Option, Some, None, option_map, is_some, if◌then◌else◌, slice_index_or}
+use Rattle.std.specs.Prelude.{ℕ, suc, Bool, false, List, [], ◌∷◌, ◌++◌, map, flat_map, filter_map, length, take, Option, Some, None, option_map, if◌then◌else◌, slice_index_or}
 use Rattle.ms_ir.specs.declared.syntax.Name.{Name}
 use Rattle.ms_ir.specs.declared.syntax.Operand.{Operand}
 use Rattle.ms_ir.specs.declared.syntax.Operand.TheVariants as operand
+use Rattle.ms_ir.specs.declared.syntax.Ty.{Ty}
+use Rattle.ms_ir.specs.declared.calls.External.{External}
+use Rattle.ms_ir.specs.declared.calls.External.TheVariants as external
 use Rattle.ms_ir.specs.declared.syntax.Op.{Op}
 use Rattle.ms_ir.specs.declared.syntax.Op.TheVariants as op
 use Rattle.ms_ir.specs.declared.syntax.Inst.{Inst}
@@ -45,6 +48,12 @@ abbrev pub all_needs : (Name → Option ℕ) → List Operand → Needs
 all_needs place [] = Some []
 all_needs place (o ∷ rest) = both_needs (operand_needs place o) (all_needs place rest)
 
+-- how many arguments of an external have to be clean
+abbrev pub answer_premises : Option External → List (Ty × Operand) → Option ℕ
+answer_premises None args = None
+answer_premises (Some (external.Word f n)) args = Some (length args)
+answer_premises (Some e) args = Some 0
+
 -- how many of the operands have to be clean
 abbrev pub premises : (Name → Option ℕ) → Op → Option ℕ
 premises func (op.Binary o flags t a b) = Some (if is_division o then 1 else 2)
@@ -55,7 +64,7 @@ premises func (op.Freeze t a) = Some 0
 premises func (op.Phi t edges) = Some (length edges)
 premises func (op.Alloca t u count) = Some 0
 premises func (op.Gep t base indices) = Some (suc (length indices))
-premises func (op.Call ret callee args) = if is_some (external_named func callee) then Some 0 else None
+premises func (op.Call ret callee args) = answer_premises (external_named func callee) args
 premises func o = None
 
 -- what the result of an operation needs

@@ -1,12 +1,12 @@
 //! Which operands decide whether a result is clean.
-ghost use Rattle.std.specs.Prelude.{◌≡◌, is_some, if◌then◌else◌};
+ghost use Rattle.std.specs.Prelude.{◌≡◌, if◌then◌else◌};
 ghost use Rattle.ms_ir.specs.Code.{external_named};
 ghost use Rattle.ms_tables.specs.FirstPlace.{first_place};
 ghost use Rattle.ms_valid.specs.CleanValues.{is_division};
-ghost use Rattle.ms_elide.specs.Needed.{premises};
+ghost use Rattle.ms_elide.specs.Needed.{premises, answer_premises};
 
 use ms_bits::BinOp;
-use ms_ir::{External, Name, Op};
+use ms_ir::{External, Name, Op, Operand, Ty};
 use ms_tables::NameTable;
 
 /// How many operands of an arithmetic or bitwise operation decide: of a division or a remainder the dividend alone, since
@@ -20,13 +20,24 @@ fn binary_premises(op: BinOp) -> usize
     }
 }
 
-/// Whether a name is that of an external, and not that of a function of the module.
-fn is_external(functions: &NameTable<'_>, name: &Name) -> bool
-    ensures { result ≡ is_some (external_named (first_place functions.now) name.now) }
+/// The external with a name, where the module defines no function of this name.
+fn external_of(functions: &NameTable<'_>, name: &Name) -> Option<External>
+    ensures { result ≡ external_named (first_place functions.now) name.now }
 {
     match functions.place(name) {
-        Some(_) => false,
-        None => External::named(name).is_some(),
+        Some(_) => None,
+        None => External::named(name),
+    }
+}
+
+/// How many arguments of an external decide: all of a function of whole words, and none of another.
+fn answer_premises(external: Option<External>, args: &[(Ty, Operand)]) -> Option<usize>
+    ensures { result ≡ answer_premises external args.now }
+{
+    match external {
+        None => None,
+        Some(External::Word(_, _)) => Some(args.len()),
+        Some(_) => Some(0),
     }
 }
 
@@ -44,12 +55,8 @@ pub fn premises(functions: &NameTable<'_>, op: &Op) -> Option<usize>
         Op::Phi { edges, .. } => Some(edges.as_slice().len()),
         Op::Alloca { .. } => Some(0),
         Op::Gep { indices, .. } => Some(indices.as_slice().len() + 1),
-        Op::Call { callee, .. } => {
-            if is_external(functions, callee) {
-                Some(0)
-            } else {
-                None
-            }
+        Op::Call { callee, args, .. } => {
+            answer_premises(external_of(functions, callee), args.as_slice())
         }
         _ => None,
     }

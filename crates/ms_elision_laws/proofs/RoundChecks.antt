@@ -175,7 +175,7 @@ mask_known env size w some (operand.Local x) h = ap (λ n. is_zero (elim n as (�
 mask_known env size w some (operand.Int v) h = refl
 mask_known env size w some operand.Null h = refl
 mask_known env size w some (operand.Global x) h = refl
-mask_known env size w some (operand.Offset t x indices) h = refl
+mask_known env size w some (operand.Offset x steps) h = refl
 
 pub masks_known : (env : Env) (size root : ℕ) (os : List (Ty × Operand)) → KnownOperands env size os → list_all (λ o. is_value_type o.0) os ≡ true
     → (k : ℕ) → is_zero (tracked_at k (tracked env root os)).mask ≡ is_clean_at env.clean os k
@@ -218,12 +218,12 @@ module _ (given : Given) (env : Env) (size : ℕ) where
       let us = uses given.func h.main i.op in
       let hs = hand_tasks given.func h.main i.op ts in
       let cs = check_tasks h.site ts us in
-      let bs = blind_tasks (blinded_of i.op ts) in
+      let bs = blind_tasks (blinded_of given.func i.op ts) in
       let rs = result_tasks given.func env i.result i.op ts in
       let ss = save_tasks given.func n i.op ts in
       sums _ _ _ _ _ _ _ _ _ _ (tasks_joined hs (cs ++ (bs ++ (rs ++ ss)))) (tasks_joined cs (bs ++ (rs ++ ss))) (tasks_joined bs (rs ++ ss)) (tasks_joined rs ss)
       (hand_none given.func h.main i.op ts) (uses_counted env.clean (operands i.op) h.site ts (masks_known env size h.root (operands i.op) known wide) us)
-      (blind_none (blinded_of i.op ts)) (result_none given.func env i.result i.op ts) (save_none given.func n i.op ts)
+      (blind_none (blinded_of given.func i.op ts)) (result_none given.func env i.result i.op ts) (save_none given.func n i.op ts)
     where
       sums : (all x1 x2 x3 h c b r s k : ℕ) → all ≡ h + x1 → x1 ≡ c + x2 → x2 ≡ b + x3 → x3 ≡ r + s → h ≡ 0 → c ≡ k → b ≡ 0 → r ≡ 0 → s ≡ 0 → all ≡ k
       sums all x1 x2 x3 h c b r s k e1 e2 e3 e4 p1 p2 p3 p4 p5 = omega (arith, e1, e2, e3, e4, p1, p2, p3, p4, p5)

@@ -42,7 +42,7 @@ pub fn names_unknown()
     ensures value_before_label { unknowns (joins ((local 8, Number 9) ∷ (int 0, Number 2) ∷ [])) ≡ (4, percent (Number 8)) ∷ (4, percent (Number 9)) ∷ [] }
     ensures label { unknowns (main_of (does (op.Br (Number 7)) ∷ []) []) ≡ (1, percent (Number 7)) ∷ [] }
     ensures switch { unknowns (main_of (does (op.Switch i8 (local 5) (Number 6) ((0, Number 7) ∷ [])) ∷ []) []) ≡ (1, percent (Number 5)) ∷ (1, percent (Number 6)) ∷ (1, percent (Number 7)) ∷ [] }
-    ensures constant_step { unknowns (body (does (op.Store i8 (int 0) (operand.Offset (ty.Named (name (codes "t"))) (name (codes "g")) [])) ∷ [])) ≡ (1, percent (name (codes "t"))) ∷ (1, symbol (codes "g")) ∷ [] }
+    ensures constant_step { unknowns (body (does (op.Store i8 (int 0) (operand.Offset (name (codes "g")) ((ty.Named (name (codes "t")), []) ∷ []))) ∷ [])) ≡ (1, percent (name (codes "t"))) ∷ (1, symbol (codes "g")) ∷ [] }
     ensures initialiser { unknowns (with_globals (global_of (codes "g") ty.Ptr (initial.Value (at_global (codes "h"))) ∷ []) ends) ≡ (0, symbol (codes "h")) ∷ [] }
     ensures definition { unknowns (with_types ((name (codes "t"), array 2 (ty.Named (name (codes "u")))) ∷ []) (body [])) ≡ (0, percent (name (codes "u"))) ∷ [] }
     ensures local_of_another_function { unknowns (with_empty_func (codes "f") ((i8, name (codes "x")) ∷ []) (body (sets 1 (op.Freeze i8 (at_local (codes "x"))) ∷ []))) ≡ (1, percent (name (codes "x"))) ∷ [] }
@@ -89,7 +89,7 @@ pub fn steps_differ()
     ensures item_by_value { mismatches (with_func (codes "f") None ((i8, Number 0) ∷ []) (sets 1 (op.Gep (array 2 i8) operand.Null ((i64, int 0) ∷ (i8, local 0) ∷ [])) ∷ does (op.Ret None) ∷ []) (body [])) ≡ [] }
     ensures index_of_another_type { mismatches (with_func (codes "f") None ((i8, Number 0) ∷ []) (sets 1 (op.Gep i8 operand.Null ((i64, local 0) ∷ [])) ∷ does (op.Ret None) ∷ []) (body [])) ≡ (2, 1) ∷ [] }
     ensures field_of_a_named_type { mismatches (with_types ((name (codes "t"), word_and_byte) ∷ []) (body (sets 1 (op.Gep (ty.Named (name (codes "t"))) operand.Null ((i64, int 0) ∷ (i32, int 2) ∷ [])) ∷ []))) ≡ (1, 2) ∷ [] }
-    ensures constant_step { mismatches (with_globals (global_of (codes "g") word_and_byte initial.Zero ∷ []) (does (op.Store i8 (int 0) (operand.Offset word_and_byte (name (codes "g")) ((i64, 0) ∷ (i32, 2) ∷ []))) ∷ ends)) ≡ (1, 1) ∷ [] }
+    ensures constant_step { mismatches (with_globals (global_of (codes "g") word_and_byte initial.Zero ∷ []) (does (op.Store i8 (int 0) (operand.Offset (name (codes "g")) ((word_and_byte, (i64, 0) ∷ (i32, 2) ∷ []) ∷ []))) ∷ ends)) ≡ (1, 1) ∷ [] }
 {}
 
 /// Calls: an argument of another type, one too many or one that is missing, another type of the result, and what is no
@@ -172,7 +172,7 @@ pub fn marks_differ()
     ensures marked_runtime_call { bad_marks (body_with (msan_check ∷ []) (does_marked (call msan_check (int 0 ∷ int 1 ∷ int 0 ∷ int 1 ∷ int 0 ∷ int 1 ∷ [])) ∷ [])) ≡ [] }
     ensures unmarked_runtime_call { bad_marks (body_with (msan_check ∷ []) (does (call msan_check (int 0 ∷ int 1 ∷ int 0 ∷ int 1 ∷ int 0 ∷ int 1 ∷ [])) ∷ [])) ≡ 1 ∷ [] }
     ensures unmarked_slot { bad_marks (body (does (op.Store i64 (int 0) (at_global (codes "__msan_retval_tls"))) ∷ [])) ≡ 1 ∷ [] }
-    ensures unmarked_step_from_a_slot { bad_marks (body (does (op.Store i64 (int 0) (operand.Offset i8 (name (codes "__msan_retval_tls")) [])) ∷ [])) ≡ 1 ∷ [] }
+    ensures unmarked_step_from_a_slot { bad_marks (body (does (op.Store i64 (int 0) (operand.Offset (name (codes "__msan_retval_tls")) ((i8, []) ∷ []))) ∷ [])) ≡ 1 ∷ [] }
     ensures marked_slot { bad_marks (body (does_marked (op.Store i64 (int 0) (at_global (codes "__msan_retval_tls"))) ∷ [])) ≡ [] }
 {}
 

@@ -1,9 +1,12 @@
 //! Which modules are formed, which values are clean, and what is declared how: laws about the definitions, computed by the
 //! check. The values are worked out by hand from what docs/DEFINITIONS.md says.
-ghost use Rattle.std.specs.Prelude.{◌≡◌, ◌^◌, ◌++◌, [], ◌∷◌, codes, map, true, false, Some, None};
+ghost use Rattle.std.specs.Prelude.{◌≡◌, ◌^◌, ◌++◌, [], ◌∷◌, codes, length, map, take, true, false, Some, None};
 ghost use Rattle.ms_bits.specs.declared.operations.BinOp.TheVariants as binary;
 ghost use Rattle.ms_bits.specs.declared.operations.CastOp.TheVariants as cast;
 ghost use Rattle.ms_bits.specs.declared.operations.Pred.TheVariants as predicate;
+ghost use Rattle.ms_bits.specs.declared.word_functions.WordFn.TheVariants as word;
+ghost use Rattle.ms_bits.specs.declared.word_functions.WordWidth.TheVariants as width;
+ghost use Rattle.ms_ir.specs.declared.calls.External.TheVariants as external;
 ghost use Rattle.ms_ir.specs.declared.syntax.Init as initial;
 ghost use Rattle.ms_ir.specs.declared.syntax.Name.TheVariants.{Number, Text};
 ghost use Rattle.ms_ir.specs.declared.syntax.Op.TheVariants as op;
@@ -16,14 +19,14 @@ ghost use Rattle.ms_ir.specs.ExampleParts.{i1, i8, i32, i64, array, int, local, 
 ghost use Rattle.ms_runs.specs.ExampleRuns.{counted, exits, report, reported};
 ghost use Rattle.ms_bits.specs.NoFlags.{no_flags};
 ghost use Rattle.ms_ir.specs.Layout.{size_of};
-ghost use Rattle.ms_ir.specs.Names.{slots};
+ghost use Rattle.ms_ir.specs.Names.{externals, lookup, slots};
 ghost use Rattle.ms_valid.specs.CleanValues.{makes_clean, IsClean};
 ghost use Rattle.ms_valid.specs.ExampleFaults.{ends, at_global, calls_void, global_of, joins, first_func, word_and_byte};
 ghost use Rattle.ms_valid.specs.Formed.{named_type_formed, global_formed, decl_formed, func_formed};
 ghost use Rattle.ms_valid.specs.FormedCode.{type_formed, operand_formed, inst_formed, is_body};
 ghost use Rattle.ms_valid.specs.FormedNames.{is_local_name, is_global_name, are_numbered};
 ghost use Rattle.ms_valid.specs.ReadLimits.{ReadLimits, type_depth};
-ghost use Rattle.ms_ir.specs.Signatures.{external_declarations, runtime_declarations, slot_globals};
+ghost use Rattle.ms_ir.specs.Signatures.{external_declarations, external_signature, runtime_declarations, slot_globals};
 ghost use Rattle.ms_valid.specs.Uninstrumented.{names_are_free};
 ghost use Rattle.ms_runs.specs.Verdict.{verdict_of, Poisoned, Unsure, Clean};
 
@@ -54,7 +57,7 @@ pub fn types_are_formed()
     ensures null_behind_a_word { operand_formed i64 operand.Null ≡ false }
     ensures undefined { operand_formed i64 operand.Poison ≡ true }
     ensures global_behind_a_word { operand_formed i64 (at_global (codes "g")) ≡ true }
-    ensures large_index { operand_formed ty.Ptr (operand.Offset i8 (name (codes "g")) ((i8, 256) ∷ [])) ≡ false }
+    ensures large_index { operand_formed ty.Ptr (operand.Offset (name (codes "g")) ((i8, (i8, 256) ∷ []) ∷ [])) ≡ false }
     ensures named_type { named_type_formed (name (codes "t"), word_and_byte) ≡ true }
     ensures named_word { named_type_formed (name (codes "t"), i8) ≡ false }
     ensures local_in_an_initialiser { global_formed (global_of (codes "g") i8 (initial.Value (local 0))) ≡ false }
@@ -95,7 +98,11 @@ pub fn bodies_are_formed()
 
 /// The externals, the runtime functions and the slots as example modules declare them.
 pub fn declarations_fit()
-    ensures externals { external_declarations ≡ calls.malloc ∷ calls.calloc ∷ calls.realloc ∷ calls.free ∷ calls.memcpy ∷ calls.memmove ∷ calls.memset ∷ calls.memcmp ∷ calls.strlen ∷ calls.putchar ∷ calls.puts ∷ calls.getchar ∷ calls.read ∷ calls.write ∷ calls.exit ∷ calls.abort ∷ calls.llvm_memcpy ∷ calls.llvm_memmove ∷ calls.llvm_memset ∷ calls.lifetime_start ∷ calls.lifetime_end ∷ calls.printf ∷ [] }
+    ensures externals { take 22 external_declarations ≡ calls.malloc ∷ calls.calloc ∷ calls.realloc ∷ calls.free ∷ calls.memcpy ∷ calls.memmove ∷ calls.memset ∷ calls.memcmp ∷ calls.strlen ∷ calls.putchar ∷ calls.puts ∷ calls.getchar ∷ calls.read ∷ calls.write ∷ calls.exit ∷ calls.abort ∷ calls.llvm_memcpy ∷ calls.llvm_memmove ∷ calls.llvm_memset ∷ calls.lifetime_start ∷ calls.lifetime_end ∷ calls.printf ∷ [] }
+    ensures functions_of_words { length external_declarations ≡ 92 }
+    ensures ones_of_a_word { lookup externals (name (codes "llvm.ctpop.i32")) ≡ Some (external.Word word.Ctpop width.I32) }
+    ensures zeros_of_a_word { external_signature (external.Word word.Ctlz width.I64) ≡ record { ret = Some i64; params = i64 ∷ i1 ∷ [] } }
+    ensures bytes_of_one_byte { lookup externals (name (codes "llvm.bswap.i8")) ≡ None }
     ensures runtime_functions { runtime_declarations ≡ calls.msan_check ∷ calls.msan_check_memory ∷ calls.msan_check_string ∷ calls.msan_blind ∷ calls.msan_poison ∷ calls.msan_unpoison ∷ calls.msan_copy ∷ calls.msan_fill ∷ calls.msan_store_origin ∷ calls.msan_load_origin ∷ calls.msan_size ∷ calls.msan_check_format ∷ [] }
     ensures slots { slot_globals ≡ marks.slot_globals }
     ensures names_of_slots { map (λ g. g.name) slot_globals ≡ map (λ s. s.0) slots }

@@ -158,7 +158,7 @@ pub fn control_and_memory()
     ensures two_allocations { plain reads_across defaults ≡ trapped trap.BadAddress 4 }
     ensures part_of_a_global { plain (with_globals inner_word) defaults ≡ exits 0x01020304 }
     ensures undef_in_a_global { plain (with_globals (operand.Global (name (codes "u")))) defaults ≡ exits 0 }
-    ensures next_global { plain (with_globals (operand.Offset i8 (name (codes "a")) ((i64, 36) ∷ []))) defaults ≡ trapped trap.BadAddress 1 }
+    ensures next_global { plain (with_globals (operand.Offset (name (codes "a")) ((i8, (i64, 36) ∷ []) ∷ []))) defaults ≡ trapped trap.BadAddress 1 }
 {}
 
 /// The runtime functions, each in marked calls.

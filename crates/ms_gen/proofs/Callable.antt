@@ -16,7 +16,8 @@ use Rattle.ms_ir.specs.Locals.{symbols}
 use Rattle.ms_ir.specs.Signatures.{Signature, func_signature, defined_signature, declared_signature, signature_of}
 use Rattle.ms_ir.specs.ExampleParts.{i32}
 use Rattle.ms_ir.specs.ExampleCalls.{putchar}
-use Rattle.ms_valid.specs.ExternalsFit.{says_volatile}
+use Rattle.ms_ir.specs.declared.syntax.Operand.{Operand}
+use Rattle.ms_valid.specs.ExternalsFit.{flag_fits}
 use Rattle.ms_valid.proofs.NameTests.{name_same}
 use Rattle.ms_gen.specs.Generator.{name_of, function_of, state_after, main_of, generated}
 
@@ -24,11 +25,11 @@ use Rattle.ms_gen.specs.Generator.{name_of, function_of, state_after, main_of, g
 abbrev pub word_to_word : Signature
 word_to_word = record { ret = Some i32; params = i32 ∷ [] }
 
--- a name may be called: the module has it, with these types, and no access of it is volatile
+-- a name may be called: the module has it, with these types, and its argument is no flag
 pub record IsCallable (m : Module) (x : Name) : Type 0 where
   pub known : has_name (symbols m) x ≡ true
   pub typed : signature_of m x ≡ Some word_to_word
-  pub quiet : says_volatile (external_named (func_index m.funcs) x) ≡ false
+  pub quiet : (o : Operand) → flag_fits (external_named (func_index m.funcs) x) (i32, o) ≡ true
 
 -- a name is that of one of some functions, and the first with this name takes a word and answers one
 record IsAmong (funcs : List Func) (x : Name) : Type 0 where
@@ -78,9 +79,9 @@ function_defined : (seed n k : ℕ) → k < n → IsAmong (generated seed n).fun
 function_defined seed n k low = defined_among (λ j. state_after (16 * j) seed) (main_of n ∷ []) k 0 n (omega arith) (omega (arith, low))
 
 -- a name that a function has isn't an external's
-defined_quiet : (t : Bool) (o : Option External) → t ≡ true → says_volatile (if t then None else o) ≡ false
-defined_quiet true o e = refl
-defined_quiet false o e = absurd cc
+defined_quiet : (t : Bool) (e : Option External) → t ≡ true → (o : Operand) → flag_fits (if t then None else e) (i32, o) ≡ true
+defined_quiet true e h o = refl
+defined_quiet false e h o = absurd cc
 
 -- each function may be called
 pub function_callable : (seed n k : ℕ) → k < n → IsCallable (generated seed n) (name_of k)
@@ -97,9 +98,9 @@ not_defined : (state : ℕ → ℕ) (count a n : ℕ) → defined_signature (map
 not_defined state count a zero = refl
 not_defined state count a (suc n) = not_defined state count (a + 1) n
 
-external_quiet : (t : Bool) → says_volatile (if t then None else Some Putchar) ≡ false
-external_quiet true = refl
-external_quiet false = refl
+external_quiet : (t : Bool) (o : Operand) → flag_fits (if t then None else Some Putchar) (i32, o) ≡ true
+external_quiet true o = refl
+external_quiet false o = refl
 
 -- `putchar` may be called
 pub putchar_callable : (seed n : ℕ) → IsCallable (generated seed n) putchar.name

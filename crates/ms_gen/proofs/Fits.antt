@@ -9,11 +9,12 @@ use Rattle.ms_ir.specs.Locals.{Spelled, locals, value_type}
 use Rattle.ms_ir.specs.Spots.{Spot, over_block_spots}
 use Rattle.ms_ir.specs.Written.{mentions}
 use Rattle.ms_ir.specs.ExampleCalls.{putchar}
+use Rattle.ms_ir.specs.ExampleParts.{int, local}
 use Rattle.ms_valid.specs.NamesOnce.{percent_sign, repeats}
 use Rattle.ms_valid.specs.NamesKnown.{unknown_of}
 use Rattle.ms_valid.specs.TypesAgree.{operand_fits, op_fault, at_site}
 use Rattle.ms_valid.specs.PhisFit.{edges_fit}
-use Rattle.ms_valid.specs.ExternalsFit.{volatile_callees}
+use Rattle.ms_valid.specs.ExternalsFit.{flagged_callees}
 use Rattle.ms_valid.specs.UsesDefined.{SiteUse, IsUseDefined, inst_uses}
 use Rattle.ms_valid.specs.MarksFit.{mark_fits}
 use Rattle.ms_valid.specs.SizesFit.{sized, func_types}
@@ -44,7 +45,7 @@ pub record Fits (m : Module) (f : Func) : Type 0 where
   pub names_known : (site : ℕ) → over_block_spots (unknown_at m) f 0 site f.blocks ≡ []
   pub types_agree : (site : ℕ) → over_block_spots (mismatch_at m) f 0 site f.blocks ≡ []
   pub phis_fit : (site : ℕ) → over_block_spots bad_edge_at f 0 site f.blocks ≡ []
-  pub externals_fit : (site : ℕ) → over_block_spots (λ at inst. volatile_callees m inst.op) f 0 site f.blocks ≡ []
+  pub externals_fit : (site : ℕ) → over_block_spots (λ at inst. flagged_callees m inst.op) f 0 site f.blocks ≡ []
   pub uses_defined : (site : ℕ) → All IsUseDefined (over_block_spots uses_at f 0 site f.blocks)
   pub marks_fit : (site : ℕ) → over_block_spots bad_mark_at f 0 site f.blocks ≡ []
   pub sizes_fit : sized [] (func_types f) ≡ true
@@ -71,7 +72,7 @@ later_fits m before state callee = record {
   names_known = λ site. rw callee.known refl;
   types_agree = λ site. rw callee.typed refl;
   phis_fit = λ site. refl;
-  externals_fit = λ site. rw callee.quiet refl;
+  externals_fit = λ site. rw (callee.quiet (local 11)) refl;
   uses_defined = λ site. all_passed (over_block_spots uses_at (function_of (suc before) state) 0 site (function_of (suc before) state).blocks) refl;
   marks_fit = λ site. refl;
   sizes_fit = refl;
@@ -84,7 +85,7 @@ main_fits m count callee printer = record {
   names_known = λ site. rw (callee.known, printer.known) refl;
   types_agree = λ site. rw (callee.typed, printer.typed) refl;
   phis_fit = λ site. refl;
-  externals_fit = λ site. rw (callee.quiet, printer.quiet) refl;
+  externals_fit = λ site. rw (callee.quiet (int 1), printer.quiet (local 1)) refl;
   uses_defined = λ site. all_passed (over_block_spots uses_at (main_of count) 0 site (main_of count).blocks) refl;
   marks_fit = λ site. refl;
   sizes_fit = refl;

@@ -16,7 +16,7 @@ use Rattle.ms_ir.specs.Spots.{found}
 use Rattle.ms_ir.specs.ExampleCalls.{putchar}
 use Rattle.ms_valid.specs.Formed.{Formed, func_formed, count_written}
 use Rattle.ms_valid.specs.HasMain.{is_main}
-use Rattle.ms_valid.specs.ExternalsFit.{name_unless, decl_fits, called_names, volatile_callees}
+use Rattle.ms_valid.specs.ExternalsFit.{name_unless, decl_fits, called_names, flagged_callees}
 use Rattle.ms_valid.specs.ReadLimits.{func_names}
 use Rattle.ms_valid.specs.SizesFit.{sized, func_types, spelled_unless}
 use Rattle.ms_valid.specs.Uninstrumented.{CanInstrument}
@@ -64,8 +64,8 @@ module _ (seed n : ℕ) (some : 0 < n) (few : n ≤ 1000) where
 
   -- ---- valid
 
-  externals : found (λ f. name_unless (not (is_reserved f.name)) f.name) (λ at inst. volatile_callees m inst.op) m ≡ []
-  externals = none_found (λ f. name_unless (not (is_reserved f.name)) f.name) (λ at inst. volatile_callees m inst.op) 1 m.funcs
+  externals : found (λ f. name_unless (not (is_reserved f.name)) f.name) (λ at inst. flagged_callees m inst.op) m ≡ []
+  externals = none_found (λ f. name_unless (not (is_reserved f.name)) f.name) (λ at inst. flagged_callees m inst.op) 1 m.funcs
       (λ k f l. free_head m _ (all_fit k f l)) (λ k f l. (all_fit k f l).externals_fit)
 
   pub valid : Valid m
@@ -75,7 +75,7 @@ module _ (seed n : ℕ) (some : 0 < n) (few : n ≤ 1000) where
     types_agree = none_found (λ f. []) (mismatch_at m) 1 m.funcs (λ k f l. refl) (λ k f l. (all_fit k f l).types_agree);
     phis_fit = none_found (λ f. []) bad_edge_at 1 m.funcs (λ k f l. refl) (λ k f l. (all_fit k f l).phis_fit);
     has_main = list_any-append is_main (functions_of seed n) (main_of n ∷ []) ∙ or_true (list_any is_main (functions_of seed n));
-    externals_fit = ap (λ t. (name_unless t putchar.name ++ []) ++ found (λ f. name_unless (not (is_reserved f.name)) f.name) (λ at inst. volatile_callees m inst.op) m)
+    externals_fit = ap (λ t. (name_unless t putchar.name ++ []) ++ found (λ f. name_unless (not (is_reserved f.name)) f.name) (λ at inst. flagged_callees m inst.op) m)
         (putchar_fits (called_names m)) ∙ externals;
     uses_defined = over_all uses_at (All IsUseDefined) (All-nil IsUseDefined) (λ xs ys h k. All-append IsUseDefined xs ys h k) (λ f. []) 1 m.funcs (λ k f l. All-nil IsUseDefined)
         (λ k f l. (all_fit k f l).uses_defined);

@@ -14,7 +14,7 @@ use Rattle.ms_grammar.specs.Lexemes.{Lexeme, end_of_text, name_in}
 use Rattle.ms_grammar.specs.Steps.{Rule, Verdict, judge_map, listed, items}
 use Rattle.ms_grammar.specs.Names.{reserved_global, reserved_local, begins_msan, local_name, global_name, local_by, global_by, local, global}
 use Rattle.ms_grammar.specs.Types.{flat, nested, type_to, struct_by, struct_type, array_rest, struct_rest, packed_rest, opens}
-use Rattle.ms_grammar.specs.Values.{offset, simple_by, simple_value, value_by, value_within, flat_init, array_init, struct_init, packed_init, nested_init, init_to}
+use Rattle.ms_grammar.specs.Values.{Address, step_from, base_by, base_to, max_within, offset, simple_by, simple_value, value_by, value_within, flat_init, array_init, struct_init, packed_init, nested_init, init_to}
 use Rattle.ms_grammar.specs.Texts.{ReadsUpTo}
 
 -- the second piece reads what the first reads, as the same
@@ -145,9 +145,22 @@ struct_type_under = next same (λ x. struct_by_under x)
 
 -- ---- values
 
+step_from_under : (depth : ℕ) {g h : Rule Address} → Under g h → Under (step_from Plain depth g) (step_from Instrumented depth h)
+unfolding step_from
+step_from_under depth p = next same (λ u. next same (λ v. next (type_under depth) (λ t. next same (λ w. next same (λ x. next p (λ from. same))))))
+
+base_by_under : {g h : Rule Address} → Under g h → (x : Symbol) → Under (base_by Plain g x) (base_by Instrumented h x)
+base_by_under p s.GetElementPtr = p
+base_by_under p x = next global_under (λ n. same)
+
+base_under : (depth within : ℕ) → Under (base_to Plain depth within) (base_to Instrumented depth within)
+unfolding base_to
+base_under depth zero = next same (λ x. base_by_under same x)
+base_under depth (suc within) = next same (λ x. base_by_under (next same (λ u. step_from_under depth (base_under depth within))) x)
+
 offset_under : (depth : ℕ) → Under (offset Plain depth) (offset Instrumented depth)
 unfolding offset
-offset_under depth = next same (λ u. next same (λ v. next (type_under depth) (λ t. next same (λ w. next same (λ x. next global_under (λ base. same))))))
+offset_under depth = next (step_from_under depth (base_under depth max_within)) (λ a. same)
 
 simple_by_under : (locals : Bool) (type : Ty) (x : Symbol) (t : Lexeme) (a : Operand) → simple_by Plain locals type x t ≡ Ok a → simple_by Instrumented locals type x t ≡ Ok a
 simple_by_under true type s.Local t a h = mapped_under _ (local_by Plain t.symbol t) _ a (local_by_under t.symbol t) h

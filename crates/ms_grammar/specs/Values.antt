@@ -2,6 +2,7 @@
 use Rattle.std.specs.Prelude.{ℕ, zero, suc, Bool, true, false, cond, ◌-◌, ◌&&◌, nat_le, nat_lt, if◌then◌else◌, List, [], ◌∷◌, ◌++◌, length, Option, Some, None, Ok, Err, ℤ, pos, negsuc, ◌^◌}
 use Rattle.ms_bits.specs.Signed.{wrap}
 use Rattle.ms_lex.specs.Grammar.{give, one, loop, ◌>>=◌, ◌>>◌}
+use Rattle.ms_ir.specs.declared.syntax.Name.{Name}
 use Rattle.ms_ir.specs.declared.syntax.Ty.{Ty}
 use Rattle.ms_ir.specs.declared.syntax.Ty.TheVariants as ty
 use Rattle.ms_ir.specs.declared.syntax.Operand.{Operand}
@@ -9,6 +10,7 @@ use Rattle.ms_ir.specs.declared.syntax.Operand.TheVariants as operand
 use Rattle.ms_ir.specs.declared.syntax.Init.{Init}
 use Rattle.ms_ir.specs.declared.syntax.Init.TheVariants as init
 use Rattle.ms_ir.specs.declared.forms.Form.{Form}
+use Rattle.ms_ir.specs.Equal.{Step}
 use Rattle.ms_grammar.specs.declared.symbols.Symbol.{Symbol}
 use Rattle.ms_grammar.specs.declared.symbols.Symbol.TheVariants as s
 use Rattle.ms_grammar.specs.declared.refusals.Refusal.{Refusal}
@@ -75,18 +77,40 @@ constant_index found = do
 unfoldable pub constant_indices : Rule (List (Ty × ℕ))
 constant_indices = loop (comma_begins (λ found. true)) (λ found comma. constant_index found) []
 
--- behind `getelementptr`
-unfoldable pub offset : Form → ℕ → Rule Operand
-offset form depth = do
+-- a global, and the steps that lead on from it, the outermost first
+abbrev pub Address : Type 0
+Address = Name × List Step
+
+-- behind `getelementptr`, with what may stand as the base
+unfoldable pub step_from : Form → ℕ → Rule Address → Rule Address
+step_from form depth base = do
   step_words
   word s.OpenParen
   t ← type_to form depth
   word s.Comma
   word s.PtrType
-  base ← global form
+  from ← base
   indices ← constant_indices
   word s.CloseParen
-  give (operand.Offset t base indices)
+  give (from.0, (t, indices) ∷ from.1)
+
+-- another `getelementptr`, or a global
+abbrev pub base_by : Form → Rule Address → Symbol → Rule Address
+base_by form inner s.GetElementPtr = inner
+base_by form inner symbol = global form >>= λ x. give (x, [])
+
+-- the base of a `getelementptr`, in which so many more may stand within one another
+unfoldable pub base_to : Form → ℕ → ℕ → Rule Address
+base_to form depth zero = next_symbol >>= base_by form (stop (r.Limit limit.Indices))
+base_to form depth (suc within) = next_symbol >>= base_by form (skip >> step_from form depth (base_to form depth within))
+
+-- at most so many stand within one
+abbrev pub max_within : ℕ
+max_within = 63
+
+-- behind `getelementptr`
+unfoldable pub offset : Form → ℕ → Rule Operand
+offset form depth = step_from form depth (base_to form depth max_within) >>= λ a. give (operand.Offset a.0 a.1)
 
 -- ---- values
 

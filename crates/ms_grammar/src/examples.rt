@@ -118,7 +118,7 @@ pub fn entities_are_read()
     ensures packed_struct { answer_of Plain (codes "%04 = type <{ i8, ptr }>") ≡ reads (record { types = (Number 4, ty.Struct true (i8 ∷ ty.Ptr ∷ [])) ∷ []; globals = []; decls = []; funcs = [] }) }
     ensures constant { answer_of Plain (codes "@g = private unnamed_addr constant i64 -1, align 8, section \"x\", !dbg !7") ≡ reads (global_of (codes "g") true i64 (init.Value (int 18446744073709551615))) }
     ensures address { answer_of Plain (codes "@0 = global ptr @\"a b\"") ≡ reads (global_of (codes "0") false ty.Ptr (init.Value (operand.Global (Text (codes "a b"))))) }
-    ensures step { answer_of Plain (codes "@g = global ptr getelementptr inbounds (i8, ptr @h, i64 3)") ≡ reads (global_of (codes "g") false ty.Ptr (init.Value (operand.Offset i8 (Text (codes "h")) ((i64, 3) ∷ [])))) }
+    ensures step { answer_of Plain (codes "@g = global ptr getelementptr inbounds (i8, ptr @h, i64 3)") ≡ reads (global_of (codes "g") false ty.Ptr (init.Value (operand.Offset (Text (codes "h")) ((i8, (i64, 3) ∷ []) ∷ [])))) }
     ensures printf { answer_of Plain (codes "declare !dbg !6 extern_weak noalias i32 @printf(ptr noundef %0, ...) #1") ≡ reads (module_of [] (declares (codes "printf") (Some i32) (ty.Ptr ∷ []) ∷ [])) }
     ensures nothing_else { answer_of Plain (codes "source_filename = \"a\" target triple = \"x\" attributes #0 = { \"k\"=\"v\" } !0 = distinct !{!0} !1 = !DILocation(line: 3)") ≡ reads (module_of [] []) }
 {}
@@ -302,6 +302,8 @@ pub fn initialisers_are_read()
     ensures zero_of_a_name { answer_of Plain (codes "@g = global %t zeroinitializer") ≡ reads (global_of (codes "g") false (ty.Named (Text (codes "t"))) init.Zero) }
     ensures vector { answer_of Plain (codes "@g = global i8 <4 x i8>") ≡ stops 5 (r.Outside outside.Vector) }
     ensures base_of_a_step { answer_of Plain (codes "@g = global ptr getelementptr (i8, ptr %h, i64 1)") ≡ stops 9 r.Syntax }
+    ensures step_within { answer_of Plain (codes "@g = global ptr getelementptr inbounds ([4 x i32], ptr getelementptr inbounds (%t, ptr @h, i32 0, i32 1), i64 0, i64 3)") ≡ reads (global_of (codes "g") false ty.Ptr (init.Value (operand.Offset (Text (codes "h")) ((ty.Array 4 i32, (i64, 0) ∷ (i64, 3) ∷ []) ∷ (ty.Named (Text (codes "t")), (i32, 0) ∷ (i32, 1) ∷ []) ∷ [])))) }
+    ensures null_within { answer_of Plain (codes "@g = global ptr getelementptr (i8, ptr getelementptr (i8, ptr null, i64 1), i64 1)") ≡ stops 14 r.Syntax }
     ensures index_of_a_step { answer_of Plain (codes "@g = global ptr getelementptr (i8, ptr @h, i1 true)") ≡ stops 12 r.Syntax }
     ensures sum_as_a_base { answer_of Plain (codes "@g = global ptr getelementptr (i8, ptr add, i64 1)") ≡ stops 9 r.Syntax }
 {}
@@ -313,13 +315,14 @@ pub fn instructions_are_read()
     ensures disjoint { answer_of Plain (in_function (codes "%1 = or disjoint i8 1, 2")) ≡ reads (line_module (Number 1) (op.Binary binary.Or (record no_flags { disjoint = true }) i8 (int 1) (int 2))) }
     ensures exact { answer_of Plain (in_function (codes "%1 = ashr exact i8 4, 1")) ≡ reads (line_module (Number 1) (op.Binary binary.Ashr (record no_flags { exact = true }) i8 (int 4) (int 1))) }
     ensures truncation { answer_of Plain (in_function (codes "%1 = trunc nsw nuw i16 7 to i8")) ≡ reads (line_module (Number 1) (op.Cast cast.Trunc (record no_flags { nuw = true; nsw = true }) i16 (int 7) i8)) }
-    ensures choice { answer_of Plain (in_function (codes "%1 = select i1 false, ptr @g, ptr getelementptr (i8, ptr @g, i64 -1)")) ≡ reads (line_module (Number 1) (op.Select (int 0) ty.Ptr (operand.Global (Text (codes "g"))) (operand.Offset i8 (Text (codes "g")) ((i64, 18446744073709551615) ∷ [])))) }
+    ensures choice { answer_of Plain (in_function (codes "%1 = select i1 false, ptr @g, ptr getelementptr (i8, ptr @g, i64 -1)")) ≡ reads (line_module (Number 1) (op.Select (int 0) ty.Ptr (operand.Global (Text (codes "g"))) (operand.Offset (Text (codes "g")) ((i8, (i64, 18446744073709551615) ∷ []) ∷ [])))) }
 {}
 
 /// Which limit a token passes where it could pass two, and where a limit ends.
 pub fn limits_stand_in_order()
     ensures nested_initialiser { answer_of Plain (codes "@g = global i8 " ++ times 31 (codes "[ i8 ") ++ codes "[ [") ≡ stops 67 (r.Limit limit.Types) }
     ensures constant_indices { answer_of Plain (codes "@g = global ptr getelementptr (i8, ptr @h" ++ times 65 (codes ", i64 0")) ≡ stops 203 (r.Limit limit.Indices) }
+    ensures steps_within { answer_of Plain (codes "@g = global ptr " ++ times 64 (codes "getelementptr (i8, ptr ") ++ codes "getelementptr") ≡ stops 324 (r.Limit limit.Indices) }
     ensures nothing_after_100 { answer_of Plain (codes "define void @f(i32" ++ times 99 (codes ", i32") ++ codes ", ) {") ≡ stops 204 r.Syntax }
     ensures array_after_100 { answer_of Plain (codes "define void @f(i32" ++ times 99 (codes ", i32") ++ codes ", [ {") ≡ stops 204 (r.Outside outside.AggregateValue) }
     ensures last_instruction { function_stop Plain 131071 (codes "void @f() { ret void }") ≡ None }

@@ -2,6 +2,7 @@
 use Rattle.std.specs.Prelude.{◌≡◌, ◌<◌, ◌^◌, ℕ, List, Option, Some, None, [], ◌∷◌, ◌++◌, length, get_or, eqb, if◌then◌else◌}
 use Rattle.ms_bits.specs.declared.traps.Trap.TheVariants as trap
 use Rattle.ms_bits.specs.Maps.{bytes_at}
+use Rattle.ms_bits.specs.WordFunctions.{bits_of}
 use Rattle.ms_ir.specs.declared.syntax.Ty.{Ty}
 use Rattle.ms_ir.specs.declared.calls.External.{External}
 use Rattle.ms_ir.specs.declared.calls.External.TheVariants as external
@@ -38,10 +39,11 @@ IsStream external.Read = Unit {0}
 IsStream external.Write = Unit {0}
 IsStream e = ⊥
 
--- the argument of `exit` is a word of 32 bits
-abbrev pub FitsExit : Asked → List ℕ → Type 0
-FitsExit (asked.External external.Exit) args = get_or args 0 0 < 2 ^ 32
-FitsExit _ args = Unit {0}
+-- the argument of `exit` is a word of 32 bits, and the first one of a function of whole words a word of its width
+abbrev pub FitsFirst : Asked → List ℕ → Type 0
+FitsFirst (asked.External external.Exit) args = get_or args 0 0 < 2 ^ 32
+FitsFirst (asked.External (external.Word f n)) args = get_or args 0 0 < 2 ^ bits_of n
+FitsFirst _ args = Unit {0}
 
 -- what a call that a run asks for comes to, where the types of its arguments are given
 abbrev pub effect_asked : Setting → ℕ → Asked → List Ty → List ℕ → World → Effect

@@ -1,16 +1,19 @@
 //! The answers to calls of externals.
 ghost use Rattle.std.specs.Prelude.{false, List, ◌≡◌, ◌≤◌, ◌<◌, ◌+◌, ◌%◌, ◌^◌, get_or, IfOk};
+ghost use Rattle.ms_bits.specs.declared.word_functions.WordFn.{WordFn as WordFnOf};
+ghost use Rattle.ms_bits.specs.declared.word_functions.WordWidth.{WordWidth as WordWidthOf};
+ghost use Rattle.ms_bits.specs.WordFunctions.{bits_of, word_answer};
 ghost use Rattle.ms_ir.specs.declared.syntax.Ty.{Ty};
 ghost use Rattle.ms_ir.specs.Signatures.{is_variadic};
-ghost use Rattle.ms_runs.specs.World.{World as Meant, Setting};
-ghost use Rattle.ms_runs.specs.Externals.{external as external_of};
-ghost use Rattle.ms_host.specs.State.{Beside, Keeps};
+ghost use Rattle.ms_runs.specs.World.{World as Meant, Setting, gives};
+ghost use Rattle.ms_runs.specs.Externals.{external as external_of, assumed, unknown_size};
+ghost use Rattle.ms_host.specs.State.{Beside, Keeps, WorldState};
 ghost use Rattle.ms_host.specs.Shows.{Shows};
-ghost use Rattle.ms_host.specs.Answers.{Answered, IsExternal, IsStream, FitsExit, asked_effect};
+ghost use Rattle.ms_host.specs.Answers.{Answered, IsExternal, IsStream, FitsFirst, asked_effect};
 
 use crate::calls::{Answer, Asked, HostCall, trap};
 use crate::worlds::World;
-use ms_bits::{NoMemory, Trap};
+use ms_bits::{NoMemory, Trap, WordFn, WordWidth, answer_word};
 use ms_ir::External;
 use ms_runs::End;
 
@@ -28,6 +31,34 @@ fn low_byte(word: u64) -> u8
     (word % 256) as u8
 }
 
+/// What a call at a site comes to of a function of whole words.
+fn worded(function: WordFn, width: WordWidth, a: u64, b: u64, c: u64, site: u32) -> Answer
+    requires { a < 2 ^ bits_of width }
+    ensures { (beside : Beside) (meant : Meant) (world : WorldState) → Shows world beside meant → Answered beside (gives site (word_answer function (bits_of width) a b c) meant) result world }
+{
+    match answer_word(function, width, a, b, c) {
+        Ok(value) => Answer::Resumed(Some(value)),
+        Err(kind) => trap(kind, site),
+    }
+}
+
+/// What `llvm.assume` at a site comes to.
+fn assumed(condition: u64, site: u32) -> Answer
+    ensures { (beside : Beside) (meant : Meant) (world : WorldState) → Shows world beside meant → Answered beside (assumed site condition meant) result world }
+{
+    if condition == 0 {
+        return trap(Trap::Unreachable, site);
+    }
+    Answer::Resumed(None)
+}
+
+/// What `llvm.objectsize` answers where no size is known.
+fn unknown_size(least: u64) -> u64
+    ensures { result ≡ unknown_size least }
+{
+    if least == 0 { u64::MAX } else { 0 }
+}
+
 /// Answers a call of an external other than `printf`: what it does to the world, and whether the run goes on.
 ///
 /// An argument that is missing counts as 0. The one error is want of memory, and the run is over then.
@@ -35,7 +66,7 @@ fn low_byte(word: u64) -> u8
 pub fn answer(call: &HostCall, world: &mut World) -> Result<Answer, NoMemory>
     requires few { world.old.made + 2 ^ 26 < 2 ^ 64 }
     requires external { IsExternal call.now.asked }
-    requires exit { FitsExit call.now.asked call.now.args }
+    requires first { FitsFirst call.now.asked call.now.args }
     ensures answered { (given : Setting) (types : List Ty) (beside : Beside) (meant : Meant) → world.old.fill ≡ given.fill → Shows world.old beside meant → IfOk result (λ a. Answered beside (asked_effect given types call.now meant) a world.new) }
     ensures keeps { Keeps world.old world.new }
     ensures made { world.new.made ≤ world.old.made + 2 ^ 26 }
@@ -83,6 +114,7 @@ impl World {
     ) -> Result<Answer, NoMemory>
         requires few { self.old.made + 2 ^ 26 < 2 ^ 64 }
         requires exit { external ≡ External.Exit → get_or args.now 0 0 < 2 ^ 32 }
+        requires word { (function : WordFnOf) (width : WordWidthOf) → external ≡ External.Word function width → get_or args.now 0 0 < 2 ^ bits_of width }
         requires fixed { is_variadic external ≡ false }
         ensures answered { (given : Setting) (types : List Ty) (beside : Beside) (world : Meant) → self.old.fill ≡ given.fill → Shows self.old beside world → IfOk result (λ a. Answered beside (external_of given site external types args.now world) a self.new) }
         ensures keeps { Keeps self.old self.new }
@@ -106,11 +138,14 @@ impl World {
             | External::Read
             | External::Write => self.answer_stream(external, args, site),
             External::Exit => Ok(Answer::Ended(End::Exit(a as u32))),
-            External::Abort => Ok(trap(Trap::Abort, site)),
+            External::Abort | External::LlvmTrap => Ok(trap(Trap::Abort, site)),
+            External::LlvmAssume => Ok(assumed(a, site)),
+            External::LlvmObjectSize => Ok(Answer::Resumed(Some(unknown_size(b)))),
             External::LlvmMemcpy | External::LlvmMemmove => self.copied(site, a, b, c, None),
             External::LlvmMemset => Ok(self.filled(site, a, low_byte(b), c, None)),
             External::LifetimeStart => Ok(self.begun(site, a, b)),
             External::LifetimeEnd => Ok(Answer::Resumed(None)),
+            External::Word(function, width) => Ok(worded(function, width, a, b, c, site)),
             External::Printf => unreachable!(),
         }
     }

@@ -34,11 +34,55 @@ Ty-send = search (Crossing.crosses, tys.crosses, sendable) depth 60 fits 20000
 pub Ty-sync : IsSync ty.the_row
 Ty-sync = search (Crossing.crosses, tys.crosses, sendable) depth 60 fits 20000
 
+-- a tuple for each variant, in their order
 pub Operand-send : IsSend operand.the_row
-Operand-send = search (Crossing.crosses, tys.crosses, sendable) depth 60 fits 20000
+Operand-send = variants_send operand.enum (
+  (search sendable, tt),
+  (
+    tt,
+    (
+      tt,
+      (
+        tt,
+        (
+          (names.the_send, tt),
+          (
+            (names.the_send, tt),
+            (
+              (search (names.the_send, Crossing.crosses, sendable) depth 60 fits 20000, (search (List-send, Ty-send, Crossing.crosses, sendable) depth 60 fits 20000, tt)),
+              tt,
+            ),
+          ),
+        ),
+      ),
+    ),
+  ),
+)
 
+-- a tuple for each variant, in their order
 pub Operand-sync : IsSync operand.the_row
-Operand-sync = search (Crossing.crosses, tys.crosses, sendable) depth 60 fits 20000
+Operand-sync = variants_sync operand.enum (
+  (search sendable, tt),
+  (
+    tt,
+    (
+      tt,
+      (
+        tt,
+        (
+          (names.the_sync, tt),
+          (
+            (names.the_sync, tt),
+            (
+              (search (names.the_sync, Crossing.crosses, sendable) depth 60 fits 20000, (search (List-sync, Ty-sync, Crossing.crosses, sendable) depth 60 fits 20000, tt)),
+              tt,
+            ),
+          ),
+        ),
+      ),
+    ),
+  ),
+)
 
 -- a tuple for each variant, in their order
 pub Op-send : IsSend op.the_row

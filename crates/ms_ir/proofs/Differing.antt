@@ -10,7 +10,7 @@ use Rattle.ms_ir.specs.declared.syntax.Ty.{Ty, Array, Struct, Row_of-Ty, end_of-
 use Rattle.ms_ir.specs.declared.syntax.Ty.TheBlock.{hidden-the_row-Ty-0, hidden-the_row-Ty-1, shape-the_row-Ty-0}
 use Rattle.ms_ir.specs.declared.rows.Kind.{Kind}
 use Rattle.ms_ir.specs.Rows.{kind_type}
-use Rattle.ms_ir.specs.Equal.{type_eq, row_eq, types_eq, indices_eq}
+use Rattle.ms_ir.specs.Equal.{Step, type_eq, row_eq, types_eq, indices_eq, steps_eq}
 
 and_true : (b : Bool) → (b && true) ≡ b
 and_true true = refl
@@ -50,12 +50,19 @@ types_differ (t ∷ ts) (u ∷ us) h = by_test (type_eq t u) (types_differ ts us
     by_test true e = e
     by_test false e = refl
 
--- lists of indices are compared item by item
-pub pointwise_indices : (is js : List (Ty × ℕ)) → pointwise (λ i j. type_eq i.0 j.0 && nat_eq i.1 j.1) is js ≡ indices_eq is js
+-- indices are compared one by one
+pointwise_indices : (is js : List (Ty × ℕ)) → pointwise (λ i j. type_eq i.0 j.0 && nat_eq i.1 j.1) is js ≡ indices_eq is js
 pointwise_indices [] [] = refl
 pointwise_indices [] (j ∷ js) = refl
 pointwise_indices (i ∷ is) [] = refl
 pointwise_indices (i ∷ is) (j ∷ js) = ap (λ b. (type_eq i.0 j.0 && nat_eq i.1 j.1) && b) (pointwise_indices is js)
+
+-- steps are compared one by one
+pub pointwise_steps : (ss ts : List Step) → pointwise (λ s t. type_eq s.0 t.0 && pointwise (λ i j. type_eq i.0 j.0 && nat_eq i.1 j.1) s.1 t.1) ss ts ≡ steps_eq ss ts
+pointwise_steps [] [] = refl
+pointwise_steps [] (t ∷ ts) = refl
+pointwise_steps (s ∷ ss) [] = refl
+pointwise_steps (s ∷ ss) (t ∷ ts) = ap₂ (λ a b. (type_eq s.0 t.0 && a) && b) (pointwise_indices s.1 t.1) (pointwise_steps ss ts)
 
 -- lists of another length differ, also by kinds
 pub kinds_differ : (ts : List Ty) (kinds : List Kind) → length ts ≢ length kinds → false ≡ types_eq ts (map kind_type kinds)

@@ -15,9 +15,10 @@ use Rattle.ms_ir.specs.declared.syntax.Op.{Op}
 use Rattle.ms_ir.specs.declared.syntax.Op.TheVariants as op
 use Rattle.ms_ir.specs.declared.syntax.Func.{Func}
 use Rattle.ms_ir.specs.declared.calls.External.{External}
-use Rattle.ms_ir.specs.declared.calls.External.TheVariants.{Malloc, Calloc, Realloc, Free, Memcpy, Memmove, Memset, Memcmp, Strlen, Putchar, Puts, Getchar, Read, Write, Exit, Abort, LlvmMemcpy, LlvmMemmove, LlvmMemset, LifetimeStart, LifetimeEnd, Printf}
+use Rattle.ms_ir.specs.declared.calls.External.TheVariants.{Malloc, Calloc, Realloc, Free, Memcpy, Memmove, Memset, Memcmp, Strlen, Putchar, Puts, Getchar, Read, Write, Exit, Abort, LlvmMemcpy, LlvmMemmove, LlvmMemset, LifetimeStart, LifetimeEnd, Printf, LlvmTrap, LlvmAssume, LlvmObjectSize, Word}
 use Rattle.ms_ir.specs.declared.places.RootKind.{RootKind}
-use Rattle.ms_ir.specs.Names.{name_eq, lookup, externals, external_name}
+use Rattle.ms_ir.specs.Names.{name_eq, lookup, externals, word_externals, widths_of, external_name}
+use Rattle.ms_bits.specs.declared.word_functions.WordFn.TheVariants.{Ctpop, Ctlz, Cttz, Bswap, Bitreverse, Abs, Smax, Smin, Umax, Umin, Fshl, Fshr, UaddSat, UsubSat, SaddSat, SsubSat, Expect}
 use Rattle.ms_ir.specs.Code.{func_index, external_named}
 use Rattle.ms_ir.specs.Roots.{undef_roots, call_roots, own_roots}
 use Rattle.ms_ir.specs.Rooted.{operand_roots, roots_of_kind, kind_of, called_kind}
@@ -31,7 +32,7 @@ undef_roots-cons site t (operand.Int n) rest = refl
 undef_roots-cons site t operand.Null rest = refl
 undef_roots-cons site t (operand.Local x) rest = refl
 undef_roots-cons site t (operand.Global x) rest = refl
-undef_roots-cons site t (operand.Offset u x is) rest = refl
+undef_roots-cons site t (operand.Offset x steps) rest = refl
 
 -- the roots of operands are those of each in turn
 pub roots_of_all : (site : ℕ) (os : List (Ty × Operand)) → flat_map (operand_roots site) (map (λ o. o.1) os) ≡ undef_roots site os
@@ -83,7 +84,11 @@ kind_roots site (Some LlvmMemmove) = refl
 kind_roots site (Some LlvmMemset) = refl
 kind_roots site (Some LifetimeStart) = refl
 kind_roots site (Some LifetimeEnd) = refl
+kind_roots site (Some LlvmTrap) = refl
+kind_roots site (Some LlvmAssume) = refl
+kind_roots site (Some LlvmObjectSize) = refl
 kind_roots site (Some Printf) = refl
+kind_roots site (Some (Word f n)) = refl
 
 of_call : (func : Name → Option ℕ) (site : ℕ) (x : Name) → call_roots site (external_named func x) ≡ roots_of_kind site (called_kind func x)
 of_call func site x = kind_roots site (external_named func x)
@@ -98,10 +103,25 @@ named_in (d ∷ es) x e h = elim (cases_Bool (name_eq (external_name d) x)) [
   | inr other ↦ named_in es x e (sym (ap (λ b. if b then Some d else lookup (map (λ e. (external_name e, e)) es) x) other) ∙ h)
 ]
 
+-- the same where another table stands behind
+named_before : (es : List External) (rest : List (Name × External)) (x : Name) (e : External) → (lookup rest x ≡ Some e → external_name e ≡ x)
+    → lookup (map (λ e. (external_name e, e)) es ++ rest) x ≡ Some e → external_name e ≡ x
+named_before [] rest x e later h = later h
+named_before (d ∷ es) rest x e later h = elim (cases_Bool (name_eq (external_name d) x)) [
+  | inl same ↦
+      let is : Some d ≡ Some e = sym (ap (λ b. if b then Some d else lookup (map (λ e. (external_name e, e)) es ++ rest) x) same) ∙ h in
+      ap external_name (sym (same_Some d e is)) ∙ name_same (external_name d) x same
+  | inr other ↦ named_before es rest x e later (sym (ap (λ b. if b then Some d else lookup (map (λ e. (external_name e, e)) es ++ rest) x) other) ∙ h)
+]
+
+word_named : (x : Name) (e : External) → lookup word_externals x ≡ Some e → external_name e ≡ x
+unfolding word_externals
+word_named x e h = named_in (flat_map (λ f. map (Word f) (widths_of f)) (Ctpop ∷ Ctlz ∷ Cttz ∷ Bswap ∷ Bitreverse ∷ Abs ∷ Smax ∷ Smin ∷ Umax ∷ Umin ∷ Fshl ∷ Fshr ∷ UaddSat ∷ UsubSat ∷ SaddSat ∷ SsubSat ∷ Expect ∷ [])) x e h
+
 -- the kind of root that a call of an external is, by whether the module defines a function of its name
 pub called_as : (func : Name → Option ℕ) (x : Name) (e : External) → Some e ≡ lookup externals x → (if is_some (func (external_name e)) then None else kind_of (Some e)) ≡ called_kind func x
 called_as func x e found =
-    ap (λ y. if is_some (func y) then None else kind_of (Some e)) (named_in (Malloc ∷ Calloc ∷ Realloc ∷ Free ∷ Memcpy ∷ Memmove ∷ Memset ∷ Memcmp ∷ Strlen ∷ Putchar ∷ Puts ∷ Getchar ∷ Read ∷ Write ∷ Exit ∷ Abort ∷ LlvmMemcpy ∷ LlvmMemmove ∷ LlvmMemset ∷ LifetimeStart ∷ LifetimeEnd ∷ Printf ∷ []) x e (sym found)) ∙ by_choice (is_some (func x))
+    ap (λ y. if is_some (func y) then None else kind_of (Some e)) (named_before (Malloc ∷ Calloc ∷ Realloc ∷ Free ∷ Memcpy ∷ Memmove ∷ Memset ∷ Memcmp ∷ Strlen ∷ Putchar ∷ Puts ∷ Getchar ∷ Read ∷ Write ∷ Exit ∷ Abort ∷ LlvmMemcpy ∷ LlvmMemmove ∷ LlvmMemset ∷ LifetimeStart ∷ LifetimeEnd ∷ Printf ∷ LlvmTrap ∷ LlvmAssume ∷ LlvmObjectSize ∷ []) word_externals x e (word_named x e) (sym found)) ∙ by_choice (is_some (func x))
   where
     by_choice : (b : Bool) → (if b then None else kind_of (Some e)) ≡ kind_of (if b then None else lookup externals x)
     by_choice true = refl

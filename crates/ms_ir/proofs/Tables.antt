@@ -1,9 +1,11 @@
 -- Looking up in a table with a function of what its rows have.
-use Rattle.std.proofs.Common.{◌≡◌, List, [], ◌∷◌, Bool, true, false, Option, Some, None, map, option_map, is_some, refl, if◌then◌else◌}
+use Rattle.std.proofs.Common.{◌≡◌, ℕ, List, [], ◌∷◌, ◌++◌, Bool, true, false, Option, Some, None, map, option_map, is_some, refl, if◌then◌else◌}
 use Rattle.ms_ir.specs.declared.syntax.Name.{Name}
-use Rattle.ms_ir.specs.declared.syntax.Name.TheVariants.{Text}
+use Rattle.ms_ir.specs.declared.syntax.Name.TheVariants.{Number, Text}
 use Rattle.ms_ir.specs.declared.rows.Row.{Row}
-use Rattle.ms_ir.specs.Names.{name_eq, lookup}
+use Rattle.ms_ir.specs.declared.calls.External.{External}
+use Rattle.ms_ir.specs.declared.calls.External.TheVariants.{Malloc, Calloc, Realloc, Free, Memcpy, Memmove, Memset, Memcmp, Strlen, Putchar, Puts, Getchar, Read, Write, Exit, Abort, LlvmMemcpy, LlvmMemmove, LlvmMemset, LifetimeStart, LifetimeEnd, Printf, LlvmTrap, LlvmAssume, LlvmObjectSize}
+use Rattle.ms_ir.specs.Names.{name_eq, lookup, external_name, word_externals}
 use Rattle.ms_ir.specs.Rows.{by_name}
 
 one_row : {A B : Type 0} (f : A → B) (here : Bool) (a : A) (late : Option B) (later : Option A) → late ≡ option_map f later → (if here then Some (f a) else late) ≡ option_map f (if here then Some a else later)
@@ -23,3 +25,34 @@ lookup_of k (row ∷ rest) x = one_row k (name_eq (Text row.name.now) x) row _ _
 pub some_mapped : {A B : Type 0} (f : A → B) (a : Option A) → is_some a ≡ is_some (option_map f a)
 some_mapped f None = refl
 some_mapped f (Some a) = refl
+
+-- looking up in two tables, one behind the other
+pub lookup_front : {A : Type 0} (rows rest : List (Name × A)) (x : Name) (a : A) → lookup rows x ≡ Some a → lookup (rows ++ rest) x ≡ Some a
+lookup_front [] rest x a h = absurd cc
+lookup_front (row ∷ rows) rest x a h = by_name (name_eq row.0 x) h (lookup_front rows rest x a)
+  where
+    by_name : (here : Bool) → (if here then Some row.1 else lookup rows x) ≡ Some a → (lookup rows x ≡ Some a → lookup (rows ++ rest) x ≡ Some a)
+        → (if here then Some row.1 else lookup (rows ++ rest) x) ≡ Some a
+    by_name true h later = h
+    by_name false h later = later h
+
+pub lookup_back : {A : Type 0} (rows rest : List (Name × A)) (x : Name) → lookup rows x ≡ None → lookup (rows ++ rest) x ≡ lookup rest x
+lookup_back [] rest x h = refl
+lookup_back (row ∷ rows) rest x h = by_name (name_eq row.0 x) h (lookup_back rows rest x)
+  where
+    by_name : (here : Bool) → (if here then Some row.1 else lookup rows x) ≡ None → (lookup rows x ≡ None → lookup (rows ++ rest) x ≡ lookup rest x)
+        → (if here then Some row.1 else lookup (rows ++ rest) x) ≡ lookup rest x
+    by_name true h later = absurd cc
+    by_name false h later = later h
+
+-- the externals that aren't functions of whole words
+abbrev pub other_externals : List (Name × External)
+other_externals =
+    map (λ e. (external_name e, e))
+    (Malloc ∷ Calloc ∷ Realloc ∷ Free ∷ Memcpy ∷ Memmove ∷ Memset ∷ Memcmp ∷ Strlen ∷ Putchar ∷ Puts ∷ Getchar ∷ Read ∷ Write ∷ Exit ∷ Abort ∷ LlvmMemcpy ∷ LlvmMemmove
+    ∷ LlvmMemset ∷ LifetimeStart ∷ LifetimeEnd ∷ Printf ∷ LlvmTrap ∷ LlvmAssume ∷ LlvmObjectSize ∷ [])
+
+-- no function of whole words has a number as its name
+pub no_word_number : (n : ℕ) → lookup word_externals (Number n) ≡ None
+unfolding word_externals
+no_word_number n = refl

@@ -46,6 +46,16 @@ indices_eq [] [] = true
 indices_eq (i ∷ is) (j ∷ js) = type_eq i.0 j.0 && nat_eq i.1 j.1 && indices_eq is js
 indices_eq _ _ = false
 
+-- a step of a constant address: the type that is stepped through, and the indices
+abbrev pub Step : Type 0
+Step = Ty × List (Ty × ℕ)
+
+-- the steps of two constant addresses are the same
+abbrev pub steps_eq : List Step → List Step → Bool
+steps_eq [] [] = true
+steps_eq (s ∷ ss) (t ∷ ts) = type_eq s.0 t.0 && indices_eq s.1 t.1 && steps_eq ss ts
+steps_eq _ _ = false
+
 -- an undefined operand: `poison` is `undef` here (own)
 abbrev pub is_undefined : Operand → Bool
 is_undefined operand.Undef = true
@@ -58,5 +68,5 @@ operand_eq (operand.Int m) (operand.Int n) = nat_eq m n
 operand_eq operand.Null operand.Null = true
 operand_eq (operand.Local x) (operand.Local y) = name_eq x y
 operand_eq (operand.Global x) (operand.Global y) = name_eq x y
-operand_eq (operand.Offset t x is) (operand.Offset u y js) = type_eq t u && name_eq x y && indices_eq is js
+operand_eq (operand.Offset x ss) (operand.Offset y ts) = name_eq x y && steps_eq ss ts
 operand_eq a b = is_undefined a && is_undefined b

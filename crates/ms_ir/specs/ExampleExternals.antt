@@ -180,4 +180,4 @@ with_globals address = record {
 
 -- the word of the second pair of the global of the named type
 abbrev pub inner_word : Operand
-inner_word = operand.Offset (ty.Named (name (codes "T"))) (name (codes "g")) ((i64, 0) ∷ (i32, 1) ∷ (i64, 1) ∷ (i32, 1) ∷ [])
+inner_word = operand.Offset (name (codes "g")) ((ty.Named (name (codes "T")), (i64, 0) ∷ (i32, 1) ∷ (i64, 1) ∷ (i32, 1) ∷ []) ∷ [])

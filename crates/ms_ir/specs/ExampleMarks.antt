@@ -140,11 +140,11 @@ slot_globals =
 
 -- the slot of a parameter's mask
 abbrev pub mask_slot : ℕ → Operand
-mask_slot n = operand.Offset i64 (name (codes "__msan_param_tls")) ((i64, n) ∷ [])
+mask_slot n = operand.Offset (name (codes "__msan_param_tls")) ((i64, (i64, n) ∷ []) ∷ [])
 
 -- the slot of a parameter's origin
 abbrev pub origin_slot : ℕ → Operand
-origin_slot n = operand.Offset i32 (name (codes "__msan_param_origin_tls")) ((i64, n) ∷ [])
+origin_slot n = operand.Offset (name (codes "__msan_param_origin_tls")) ((i32, (i64, n) ∷ []) ∷ [])
 
 -- the slot of a result's mask
 abbrev pub result_mask : Operand

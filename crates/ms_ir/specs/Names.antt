@@ -1,14 +1,19 @@
 -- Names (LLVM Language Reference, "Identifiers"), and the tables of what has a meaning of its own: the externals
--- (C library, and LLVM Language Reference, "Standard C/C++ Library Intrinsics" and "Memory Use Markers"), the runtime
--- functions and the slots (both own).
-use Rattle.std.specs.Prelude.{ℕ, Bool, false, ◌&&◌, List, [], ◌∷◌, map, length, nat_eq, nat_lt, Option, Some, None, codes, take, drop, if◌then◌else◌}
+-- (C library, and LLVM Language Reference, "Standard C/C++ Library Intrinsics", "Memory Use Markers", "Bit Manipulation
+-- Intrinsics", "Saturation Arithmetic Intrinsics" and "'llvm.expect' Intrinsic"), the runtime functions and the slots
+-- (both own).
+use Rattle.std.specs.Prelude.{ℕ, Bool, false, ◌&&◌, List, [], ◌∷◌, ◌++◌, map, flat_map, length, nat_eq, nat_lt, Option, Some, None, codes, take, drop, if◌then◌else◌}
 use Rattle.std.specs.Char.{is_ascii_digit}
 use Rattle.std.specs.List.{list_all}
 use Rattle.std.specs.Cmp.Lexicographic.{pointwise}
 use Rattle.ms_ir.specs.declared.syntax.Name.{Name}
 use Rattle.ms_ir.specs.declared.syntax.Name.TheVariants.{Number, Text}
 use Rattle.ms_ir.specs.declared.calls.External.{External}
-use Rattle.ms_ir.specs.declared.calls.External.TheVariants.{Malloc, Calloc, Realloc, Free, Memcpy, Memmove, Memset, Memcmp, Strlen, Putchar, Puts, Getchar, Read, Write, Exit, Abort, LlvmMemcpy, LlvmMemmove, LlvmMemset, LifetimeStart, LifetimeEnd, Printf}
+use Rattle.ms_ir.specs.declared.calls.External.TheVariants.{Malloc, Calloc, Realloc, Free, Memcpy, Memmove, Memset, Memcmp, Strlen, Putchar, Puts, Getchar, Read, Write, Exit, Abort, LlvmMemcpy, LlvmMemmove, LlvmMemset, LifetimeStart, LifetimeEnd, Printf, LlvmTrap, LlvmAssume, LlvmObjectSize, Word}
+use Rattle.ms_bits.specs.declared.word_functions.WordFn.{WordFn}
+use Rattle.ms_bits.specs.declared.word_functions.WordFn.TheVariants.{Ctpop, Ctlz, Cttz, Bswap, Bitreverse, Abs, Smax, Smin, Umax, Umin, Fshl, Fshr, UaddSat, UsubSat, SaddSat, SsubSat, Expect}
+use Rattle.ms_bits.specs.declared.word_functions.WordWidth.{WordWidth}
+use Rattle.ms_bits.specs.declared.word_functions.WordWidth.TheVariants.{I8, I16, I32, I64}
 use Rattle.ms_ir.specs.declared.calls.RuntimeFn.{RuntimeFn}
 use Rattle.ms_ir.specs.declared.calls.RuntimeFn.TheVariants.{Check, CheckMemory, CheckString, Blind, Poison, Unpoison, Copy, Fill, StoreOrigin, LoadOrigin, Size, CheckFormat}
 use Rattle.ms_ir.specs.declared.calls.Slot.{Slot}
@@ -25,6 +30,38 @@ name_eq (Text x) (Text y) = pointwise nat_eq x y
 abbrev pub lookup : {A : Type 0} → List (Name × A) → Name → Option A
 lookup [] x = None
 lookup (row ∷ rest) x = if name_eq row.0 x then Some row.1 else lookup rest x
+
+-- what stands for each function of whole words in the name of its intrinsic
+abbrev pub word_name : WordFn → List ℕ
+word_name Ctpop = codes "ctpop"
+word_name Ctlz = codes "ctlz"
+word_name Cttz = codes "cttz"
+word_name Bswap = codes "bswap"
+word_name Bitreverse = codes "bitreverse"
+word_name Abs = codes "abs"
+word_name Smax = codes "smax"
+word_name Smin = codes "smin"
+word_name Umax = codes "umax"
+word_name Umin = codes "umin"
+word_name Fshl = codes "fshl"
+word_name Fshr = codes "fshr"
+word_name UaddSat = codes "uadd.sat"
+word_name UsubSat = codes "usub.sat"
+word_name SaddSat = codes "sadd.sat"
+word_name SsubSat = codes "ssub.sat"
+word_name Expect = codes "expect"
+
+-- and for each width
+abbrev pub width_name : WordWidth → List ℕ
+width_name I8 = codes "i8"
+width_name I16 = codes "i16"
+width_name I32 = codes "i32"
+width_name I64 = codes "i64"
+
+-- the widths at which a function of whole words is named: 'bswap' takes two bytes at least
+abbrev pub widths_of : WordFn → List WordWidth
+widths_of Bswap = I16 ∷ I32 ∷ I64 ∷ []
+widths_of f = I8 ∷ I16 ∷ I32 ∷ I64 ∷ []
 
 -- the name of each external
 abbrev pub external_name : External → Name
@@ -49,14 +86,26 @@ external_name LlvmMemmove = Text (codes "llvm.memmove.p0.p0.i64")
 external_name LlvmMemset = Text (codes "llvm.memset.p0.i64")
 external_name LifetimeStart = Text (codes "llvm.lifetime.start.p0")
 external_name LifetimeEnd = Text (codes "llvm.lifetime.end.p0")
+external_name LlvmTrap = Text (codes "llvm.trap")
+external_name LlvmAssume = Text (codes "llvm.assume")
+external_name LlvmObjectSize = Text (codes "llvm.objectsize.i64.p0")
 external_name Printf = Text (codes "printf")
+external_name (Word f n) = Text (codes "llvm." ++ word_name f ++ codes "." ++ width_name n)
+
+-- the functions of whole words by name
+unfoldable pub word_externals : List (Name × External)
+word_externals =
+    map (λ e. (external_name e, e))
+    (flat_map (λ f. map (Word f) (widths_of f))
+    (Ctpop ∷ Ctlz ∷ Cttz ∷ Bswap ∷ Bitreverse ∷ Abs ∷ Smax ∷ Smin ∷ Umax ∷ Umin ∷ Fshl ∷ Fshr ∷ UaddSat ∷ UsubSat ∷ SaddSat ∷ SsubSat ∷ Expect ∷ []))
 
 -- the externals by name: what a module may call without defining it
 abbrev pub externals : List (Name × External)
 externals =
     map (λ e. (external_name e, e))
     (Malloc ∷ Calloc ∷ Realloc ∷ Free ∷ Memcpy ∷ Memmove ∷ Memset ∷ Memcmp ∷ Strlen ∷ Putchar ∷ Puts ∷ Getchar ∷ Read ∷ Write ∷ Exit ∷ Abort ∷ LlvmMemcpy ∷ LlvmMemmove
-    ∷ LlvmMemset ∷ LifetimeStart ∷ LifetimeEnd ∷ Printf ∷ [])
+    ∷ LlvmMemset ∷ LifetimeStart ∷ LifetimeEnd ∷ Printf ∷ LlvmTrap ∷ LlvmAssume ∷ LlvmObjectSize ∷ [])
+    ++ word_externals
 
 -- the name of each runtime function
 abbrev pub runtime_name : RuntimeFn → Name

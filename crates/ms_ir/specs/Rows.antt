@@ -8,6 +8,9 @@ use Rattle.ms_ir.specs.declared.syntax.Decl.{Decl}
 use Rattle.ms_ir.specs.declared.rows.Kind.{Kind}
 use Rattle.ms_ir.specs.declared.rows.Kind.TheVariants as kind
 use Rattle.ms_ir.specs.declared.rows.Row.{Row}
+use Rattle.ms_ir.specs.declared.calls.External.{External}
+use Rattle.ms_ir.specs.declared.calls.External.TheVariants.{Word}
+use Rattle.ms_ir.specs.declared.word_externals.WordRow.{WordRow}
 use Rattle.ms_ir.specs.Signatures.{Signature, declared_as}
 
 -- each row with its name
@@ -30,3 +33,7 @@ row_signature r = record { ret = option_map kind_type r.ret; params = map kind_t
 -- the function of a row as it is declared
 abbrev pub row_declaration : {F : Type 0} → Row F → Decl
 row_declaration r = declared_as (Text r.name.now) (row_signature r)
+
+-- the functions of whole words by the names of their rows
+abbrev pub word_rows : List WordRow → List (Name × External)
+word_rows rows = map (λ r. (Text r.0.now, Word r.1 r.2)) rows

@@ -1,6 +1,6 @@
 -- The types of functions, and those of the externals, the runtime functions and the slots (C library; LLVM Language
 -- Reference, "Standard C/C++ Library Intrinsics" and "Memory Use Markers"; own: the runtime functions and the slots).
-use Rattle.std.specs.Prelude.{Bool, true, false, drop, ◌&&◌, List, [], ◌∷◌, map, Option, Some, None}
+use Rattle.std.specs.Prelude.{ℕ, Bool, true, false, drop, ◌&&◌, List, [], ◌∷◌, map, Option, Some, None}
 use Rattle.std.specs.Option.{option_or}
 use Rattle.ms_ir.specs.declared.syntax.Name.{Name}
 use Rattle.ms_ir.specs.declared.syntax.Ty.{Ty, Int, Ptr}
@@ -11,6 +11,9 @@ use Rattle.ms_ir.specs.declared.syntax.Func.{Func}
 use Rattle.ms_ir.specs.declared.syntax.Decl.{Decl}
 use Rattle.ms_ir.specs.declared.syntax.GlobalVar.{GlobalVar}
 use Rattle.ms_ir.specs.declared.syntax.Module.{Module}
+use Rattle.ms_bits.specs.declared.word_functions.WordFn.{WordFn}
+use Rattle.ms_bits.specs.declared.word_functions.WordFn.TheVariants as word
+use Rattle.ms_bits.specs.WordFunctions.{bits_of}
 use Rattle.ms_ir.specs.declared.calls.External.{External}
 use Rattle.ms_ir.specs.declared.calls.External.TheVariants as external
 use Rattle.ms_ir.specs.declared.calls.RuntimeFn.{RuntimeFn}
@@ -61,6 +64,18 @@ signature_of m x = option_or (defined_signature m.funcs x) (declared_signature m
 
 -- ---- the externals
 
+-- what each function of words of so many bits takes; the flag of `ctlz`, `cttz` and `abs` says that a case is poison
+abbrev pub word_params : WordFn → ℕ → List Ty
+word_params word.Ctpop w = Int w ∷ []
+word_params word.Ctlz w = Int w ∷ Int 1 ∷ []
+word_params word.Cttz w = Int w ∷ Int 1 ∷ []
+word_params word.Bswap w = Int w ∷ []
+word_params word.Bitreverse w = Int w ∷ []
+word_params word.Abs w = Int w ∷ Int 1 ∷ []
+word_params word.Fshl w = Int w ∷ Int w ∷ Int w ∷ []
+word_params word.Fshr w = Int w ∷ Int w ∷ Int w ∷ []
+word_params f w = Int w ∷ Int w ∷ []
+
 -- the types that each external has where it is declared; the last parameter of `llvm.memcpy` and its kin says whether
 -- the access is volatile, and `printf` takes more arguments than it has parameters
 abbrev pub external_signature : External → Signature
@@ -85,7 +100,11 @@ external_signature external.LlvmMemmove = answers_nothing (Ptr ∷ Ptr ∷ Int 6
 external_signature external.LlvmMemset = answers_nothing (Ptr ∷ Int 8 ∷ Int 64 ∷ Int 1 ∷ [])
 external_signature external.LifetimeStart = answers_nothing (Int 64 ∷ Ptr ∷ [])
 external_signature external.LifetimeEnd = answers_nothing (Int 64 ∷ Ptr ∷ [])
+external_signature external.LlvmTrap = answers_nothing []
+external_signature external.LlvmAssume = answers_nothing (Int 1 ∷ [])
+external_signature external.LlvmObjectSize = answers (Int 64) (Ptr ∷ Int 1 ∷ Int 1 ∷ Int 1 ∷ [])
 external_signature external.Printf = answers (Int 32) (Ptr ∷ [])
+external_signature (external.Word f n) = answers (Int (bits_of n)) (word_params f (bits_of n))
 
 -- whether an external takes more arguments than it has parameters
 abbrev pub is_variadic : External → Bool

@@ -36,7 +36,7 @@ abbrev mutual
 abbrev pub operand_mentions : Operand → List Mention
 operand_mentions (operand.Local x) = OfLocal x ∷ []
 operand_mentions (operand.Global x) = OfGlobal x ∷ []
-operand_mentions (operand.Offset t x indices) = type_mentions t ++ OfGlobal x ∷ []
+operand_mentions (operand.Offset x steps) = flat_map (λ s. type_mentions s.0) steps ++ OfGlobal x ∷ []
 operand_mentions o = []
 
 -- the names in operands
@@ -92,7 +92,7 @@ abbrev mutual
 
 -- the types that an operand names by itself
 abbrev pub operand_types : Operand → List Ty
-operand_types (operand.Offset t x indices) = t ∷ map (λ i. i.0) indices
+operand_types (operand.Offset x steps) = flat_map (λ s. s.0 ∷ map (λ i. i.0) s.1) steps
 operand_types o = []
 
 -- the types in an instruction that stand before no operand: those that an operation works on, casts to or answers

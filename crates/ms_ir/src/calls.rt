@@ -1,5 +1,7 @@
 //! What a module reaches without defining it: externals, functions of the runtime and slots.
 
+use ms_bits::{WordFn, WordWidth};
+
 /// The externals, functions of the C library and intrinsics of LLVM that the interpreter knows.
 #[derive(Clone, Copy, Debug, PartialEq, Eq)]
 pub enum External {
@@ -47,6 +49,14 @@ pub enum External {
     LifetimeEnd,
     /// `printf`.
     Printf,
+    /// `llvm.trap`: a trap, as `abort` ("General Intrinsics").
+    LlvmTrap,
+    /// `llvm.assume`: what it is given must be true.
+    LlvmAssume,
+    /// `llvm.objectsize.i64.p0`, to which no size is known.
+    LlvmObjectSize,
+    /// `llvm.NAME.iN`, a function of whole words ("Bit Manipulation Intrinsics", "Saturation Arithmetic Intrinsics").
+    Word(WordFn, WordWidth),
 }
 
 /// The runtime functions, which inserted instructions alone call.

@@ -5,7 +5,7 @@ ghost use Rattle.ms_ir.specs.declared.syntax.Operand.TheVariants as operand;
 mod operations;
 mod places;
 
-use crate::parts::{four, three};
+use crate::parts::{four, three, two};
 use crate::syntax::{Block, Decl, Func, GlobalVar, Init, Inst, Module, Name, Operand, Ty};
 use ms_bits::{Boxed, Duplicate, List, NoMemory};
 use std::alloc::Global;
@@ -55,14 +55,13 @@ impl Duplicate for Ty {
 
 fn copy_offset(
     alloc: Global,
-    ty: &Boxed<Ty>,
     name: &Boxed<Name>,
-    indices: &List<(Ty, u64)>,
+    steps: &List<(Ty, List<(Ty, u64)>)>,
 ) -> Result<Operand, NoMemory>
-    ensures { IfOk result (λ c. c ≡ operand.Offset ty.now name.now indices.now) }
+    ensures { IfOk result (λ c. c ≡ operand.Offset name.now steps.now) }
 {
-    let (ty, name, indices) = three(alloc, ty, name, indices)?;
-    Ok(Operand::Offset(ty, name, indices))
+    let (name, steps) = two(alloc, name, steps)?;
+    Ok(Operand::Offset(name, steps))
 }
 
 impl Duplicate for Operand {
@@ -74,7 +73,7 @@ impl Duplicate for Operand {
             Operand::Poison => Ok(Operand::Poison),
             Operand::Local(name) => Ok(Operand::Local(name.copy(alloc)?)),
             Operand::Global(name) => Ok(Operand::Global(name.copy(alloc)?)),
-            Operand::Offset(ty, name, indices) => copy_offset(alloc, ty, name, indices),
+            Operand::Offset(name, steps) => copy_offset(alloc, name, steps),
         }
     }
 }

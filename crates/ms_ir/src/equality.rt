@@ -2,7 +2,7 @@
 ghost use Rattle.std.specs.Prelude.{◌≡◌};
 ghost use Rattle.std.specs.Cmp.{partial_equiv_from_equiv};
 ghost use Rattle.ms_ir.specs.declared.syntax.Operand.TheVariants as operand;
-ghost use Rattle.ms_ir.specs.Equal.{type_eq, types_eq, indices_eq, is_undefined, operand_eq};
+ghost use Rattle.ms_ir.specs.Equal.{type_eq, types_eq, steps_eq, is_undefined, operand_eq};
 ghost use Rattle.ms_ir.specs.TypeLaws.{type_eq_equiv};
 
 use crate::syntax::{Name, Operand, Ty};
@@ -67,11 +67,11 @@ impl Operand {
     }
 }
 
-/// Whether two lists of constant indices are the same.
-fn same_indices(indices: &List<(Ty, u64)>, others: &List<(Ty, u64)>) -> bool
-    ensures { result ≡ indices_eq indices.now others.now }
+/// Whether the steps of two constant addresses are the same.
+fn same_steps(steps: &List<(Ty, List<(Ty, u64)>)>, others: &List<(Ty, List<(Ty, u64)>)>) -> bool
+    ensures { result ≡ steps_eq steps.now others.now }
 {
-    indices == others
+    steps == others
 }
 
 /// Whether it is the integer.
@@ -114,14 +114,12 @@ fn is_global(other: &Operand, name: &Name) -> bool
     }
 }
 
-/// Whether it is the address that the indices lead to from the global.
-fn is_offset(other: &Operand, ty: &Ty, name: &Name, indices: &List<(Ty, u64)>) -> bool
-    ensures { result ≡ operand_eq (operand.Offset ty.now name.now indices.now) other.now }
+/// Whether it is the address that the steps lead to from the global.
+fn is_offset(other: &Operand, name: &Name, steps: &List<(Ty, List<(Ty, u64)>)>) -> bool
+    ensures { result ≡ operand_eq (operand.Offset name.now steps.now) other.now }
 {
     match other {
-        Operand::Offset(own, global, others) => {
-            ty == own.get() && name == global.get() && same_indices(indices, others)
-        }
+        Operand::Offset(global, others) => name == global.get() && same_steps(steps, others),
         _ => false,
     }
 }
@@ -135,7 +133,7 @@ pub fn same_operand(a: &Operand, b: &Operand) -> bool
         Operand::Null => is_null(b),
         Operand::Local(name) => is_local(b, name),
         Operand::Global(name) => is_global(b, name),
-        Operand::Offset(ty, name, indices) => is_offset(b, ty.get(), name.get(), indices),
+        Operand::Offset(name, steps) => is_offset(b, name.get(), steps),
         _ => b.is_undefined(),
     }
 }

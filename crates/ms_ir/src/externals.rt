@@ -1,17 +1,17 @@
 //! The externals: what a module may call without defining it, with names and types (C library; LLVM Language Reference,
-//! "Standard C/C++ Library Intrinsics" and "Memory Use Markers").
+//! "Standard C/C++ Library Intrinsics", "Memory Use Markers" and "General Intrinsics").
 ghost use Rattle.std.specs.Prelude.{◌≡◌};
 ghost use Rattle.ms_ir.specs.declared.syntax.Name.TheVariants as spelling;
-ghost use Rattle.ms_ir.specs.Names.{lookup, externals, external_name};
+ghost use Rattle.ms_ir.specs.Names.{lookup, externals};
 ghost use Rattle.ms_ir.specs.Signatures.{decl_signature, signature_eq, external_signature};
-ghost use Rattle.ms_ir.specs.Rows.{row_signature};
 
 use crate::calls::External;
 use crate::rows::{Kind, Row, named};
 use crate::syntax::{Decl, Name};
+use crate::word_externals;
 
-/// Each external at the place of its variant.
-static EXTERNALS: [Row<External>; 22] = [
+/// Each external that is no function of whole words.
+static EXTERNALS: [Row<External>; 25] = [
     Row {
         name: b"malloc",
         is: External::Malloc,
@@ -144,22 +144,35 @@ static EXTERNALS: [Row<External>; 22] = [
         ret: Some(Kind::Int(32)),
         params: &[Kind::Ptr],
     },
+    Row {
+        name: b"llvm.trap",
+        is: External::LlvmTrap,
+        ret: None,
+        params: &[],
+    },
+    Row {
+        name: b"llvm.assume",
+        is: External::LlvmAssume,
+        ret: None,
+        params: &[Kind::Int(1)],
+    },
+    Row {
+        name: b"llvm.objectsize.i64.p0",
+        is: External::LlvmObjectSize,
+        ret: Some(Kind::Int(64)),
+        params: &[Kind::Ptr, Kind::Int(1), Kind::Int(1), Kind::Int(1)],
+    },
 ];
-
-/// The row of an external.
-fn row_of(external: External) -> &'static Row<External>
-    ensures name { spelling.Text result.now.name.now ≡ external_name external }
-    ensures types { row_signature result.now ≡ external_signature external }
-{
-    &EXTERNALS[external as usize]
-}
 
 impl External {
     /// The external with a text as its name, if there is one.
     pub fn spelled(text: &[u8]) -> Option<External>
         ensures { result ≡ lookup externals (spelling.Text text.now) }
     {
-        named(&EXTERNALS, text)
+        match named(&EXTERNALS, text) {
+            Some(external) => Some(external),
+            None => word_externals::spelled(text),
+        }
     }
 
     /// The external with a name, if there is one.
@@ -172,17 +185,37 @@ impl External {
         }
     }
 
-    /// Its name.
-    pub fn name(self) -> &'static [u8]
-        ensures { spelling.Text result.now ≡ external_name self }
-    {
-        row_of(self).name
-    }
-
     /// Whether a declaration has its types.
     pub fn has_types_of(self, decl: &Decl) -> bool
         ensures { result ≡ signature_eq (decl_signature decl.now) (external_signature self) }
     {
-        row_of(self).has_types_of(decl)
+        match self {
+            External::Malloc => EXTERNALS[0].has_types_of(decl),
+            External::Calloc => EXTERNALS[1].has_types_of(decl),
+            External::Realloc => EXTERNALS[2].has_types_of(decl),
+            External::Free => EXTERNALS[3].has_types_of(decl),
+            External::Memcpy => EXTERNALS[4].has_types_of(decl),
+            External::Memmove => EXTERNALS[5].has_types_of(decl),
+            External::Memset => EXTERNALS[6].has_types_of(decl),
+            External::Memcmp => EXTERNALS[7].has_types_of(decl),
+            External::Strlen => EXTERNALS[8].has_types_of(decl),
+            External::Putchar => EXTERNALS[9].has_types_of(decl),
+            External::Puts => EXTERNALS[10].has_types_of(decl),
+            External::Getchar => EXTERNALS[11].has_types_of(decl),
+            External::Read => EXTERNALS[12].has_types_of(decl),
+            External::Write => EXTERNALS[13].has_types_of(decl),
+            External::Exit => EXTERNALS[14].has_types_of(decl),
+            External::Abort => EXTERNALS[15].has_types_of(decl),
+            External::LlvmMemcpy => EXTERNALS[16].has_types_of(decl),
+            External::LlvmMemmove => EXTERNALS[17].has_types_of(decl),
+            External::LlvmMemset => EXTERNALS[18].has_types_of(decl),
+            External::LifetimeStart => EXTERNALS[19].has_types_of(decl),
+            External::LifetimeEnd => EXTERNALS[20].has_types_of(decl),
+            External::Printf => EXTERNALS[21].has_types_of(decl),
+            External::LlvmTrap => EXTERNALS[22].has_types_of(decl),
+            External::LlvmAssume => EXTERNALS[23].has_types_of(decl),
+            External::LlvmObjectSize => EXTERNALS[24].has_types_of(decl),
+            External::Word(function, width) => word_externals::has_types_of(function, width, decl),
+        }
     }
 }

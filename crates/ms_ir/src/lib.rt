@@ -25,6 +25,7 @@ pub mod spelling;
 mod stripping;
 pub mod syntax;
 pub mod value_types;
+pub mod word_externals;
 
 pub use calls::{External, RuntimeFn, Slot};
 pub use equality::same_operand;

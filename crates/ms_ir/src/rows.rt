@@ -4,7 +4,7 @@ ghost use Rattle.std.specs.Option.{option_copied};
 ghost use Rattle.ms_ir.specs.declared.syntax.Name.TheVariants as spelling;
 ghost use Rattle.ms_ir.specs.Names.{lookup};
 ghost use Rattle.ms_ir.specs.Equal.{type_eq, types_eq, result_type_eq};
-ghost use Rattle.ms_ir.specs.Signatures.{decl_signature, signature_eq};
+ghost use Rattle.ms_ir.specs.Signatures.{decl_signature, signature_eq, answers};
 ghost use Rattle.ms_ir.specs.Rows.{by_name, by_kind, kind_type, row_signature, row_declaration};
 
 use crate::syntax::{Decl, Name, Ty};
@@ -94,6 +94,13 @@ pub fn name_of(alloc: Global, text: &[u8]) -> Result<Name, NoMemory>
     ensures { IfOk result (λ x. x ≡ spelling.Text text.now) }
 {
     Ok(Name::Text(SmallBytes::from_slice(alloc, text)?))
+}
+
+/// Whether a declaration has the types of a function that answers and takes these.
+pub fn are_types(ret: Kind, params: &[Kind], decl: &Decl) -> bool
+    ensures { result ≡ signature_eq (decl_signature decl.now) (answers (kind_type ret) (map kind_type params.now)) }
+{
+    is_result(Some(ret), &decl.ret) && are_params(params, decl.params.as_slice())
 }
 
 impl<F> Row<F> {

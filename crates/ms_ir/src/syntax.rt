@@ -43,9 +43,10 @@ pub enum Operand {
     Local(Name),
     /// The address of a global.
     Global(Name),
-    /// A constant `getelementptr` ("Constant Expressions"): the type that is stepped through, the global
-    /// that it begins at, and the indices as integers with their types.
-    Offset(Boxed<Ty>, Boxed<Name>, List<(Ty, u64)>),
+    /// A constant `getelementptr`, within which others may stand ("Constant Expressions"): the global that the
+    /// innermost begins at, and for each, the outermost first, the type that is stepped through and the indices
+    /// as integers with their types.
+    Offset(Boxed<Name>, List<(Ty, List<(Ty, u64)>)>),
 }
 
 /// The initialiser of a global ("Global Variables", "Complex Constants").

@@ -4,21 +4,22 @@ use Rattle.std.specs.Prelude.{if◌then◌else◌, ◌+◌, ◌*◌, ◌%◌, �
 use Rattle.ms_bits.specs.declared.traps.Trap.{Trap}
 use Rattle.ms_bits.specs.declared.traps.Trap.TheVariants as trap
 use Rattle.ms_bits.specs.Maps.{bytes_at}
+use Rattle.ms_bits.specs.WordFunctions.{bits_of, word_answer}
 use Rattle.ms_ir.specs.declared.syntax.Name.{Name}
 use Rattle.ms_ir.specs.declared.syntax.Ty.{Ty}
 use Rattle.ms_ir.specs.declared.syntax.Operand.{Operand}
 use Rattle.ms_ir.specs.declared.syntax.Op.{Op}
 use Rattle.ms_ir.specs.declared.syntax.Op.TheVariants as op
 use Rattle.ms_ir.specs.declared.calls.External.{External}
-use Rattle.ms_ir.specs.declared.calls.External.TheVariants.{Malloc, Calloc, Realloc, Free, Memcpy, Memmove, Memset, Memcmp, Strlen, Putchar, Puts, Getchar, Read, Write, Exit, Abort, LlvmMemcpy, LlvmMemmove, LlvmMemset, LifetimeStart, LifetimeEnd, Printf}
+use Rattle.ms_ir.specs.declared.calls.External.TheVariants.{Malloc, Calloc, Realloc, Free, Memcpy, Memmove, Memset, Memcmp, Strlen, Putchar, Puts, Getchar, Read, Write, Exit, Abort, LlvmMemcpy, LlvmMemmove, LlvmMemset, LifetimeStart, LifetimeEnd, Printf, LlvmTrap, LlvmAssume, LlvmObjectSize, Word}
 use Rattle.ms_runs.specs.declared.runs.End.TheVariants as «end»
 use Rattle.ms_ir.specs.Areas.{Heap, Stack}
-use Rattle.ms_runs.specs.World.{World, Setting, Here, Effect, Gives, Does, Goes, Enters, Leaves, Ends, traps, stuck, word}
+use Rattle.ms_runs.specs.World.{World, Setting, Here, Effect, Gives, Does, Goes, Enters, Leaves, Ends, traps, stuck, word, gives}
 use Rattle.ms_ir.specs.Layout.{stored_size, size_in}
 use Rattle.ms_runs.specs.Memory.{is_good, fits, heap_size}
 use Rattle.ms_ir.specs.Code.{external_named}
 use Rattle.ms_runs.specs.Externals.{malloc, reallocated, where_good, string_at, printed, taken, next_byte, external, output_limit, formatted, prints}
-use Rattle.ms_runs.specs.Act.{act, gives}
+use Rattle.ms_runs.specs.Act.{act}
 use Rattle.ms_pass_laws.specs.Known.{GoesTo}
 
 -- an effect of an instruction that goes on behind itself, or ends the run
@@ -54,6 +55,10 @@ plain_prints : (site : ℕ) (r : Result (List ℕ) Trap) (w : World) → IsPlain
 plain_prints site (Ok bs) w = plain_printed site bs (Gives (length bs)) w (λ u. tt)
 plain_prints site (Err t) w = tt
 
+plain_gives : (site : ℕ) (r : Result ℕ Trap) (w : World) → IsPlain (gives site r w)
+plain_gives site (Ok v) w = tt
+plain_gives site (Err t) w = tt
+
 pub external_plain : (s : Setting) (site : ℕ) (e : External) (types : List Ty) (words : List ℕ) (w : World) → IsPlain (external s site e types words w)
 external_plain s site Malloc types words w = plain_if (fits Heap (word 0 words) w) (Gives _ _) (Gives 0 w) tt tt
 external_plain s site Calloc types words w = plain_if (ltb (word 0 words * word 1 words) (2 ^ 64) && fits Heap (word 0 words * word 1 words) w) (Gives _ _) (Gives 0 w) tt tt
@@ -81,7 +86,11 @@ external_plain s site LlvmMemmove types words w = plain_good site (word 0 words)
 external_plain s site LlvmMemset types words w = plain_good site (word 0 words) (word 2 words) w (Does _) tt
 external_plain s site LifetimeStart types words w = plain_good site (word 1 words) (word 0 words) w (Does _) tt
 external_plain s site LifetimeEnd types words w = tt
+external_plain s site LlvmTrap types words w = tt
+external_plain s site LlvmAssume types words w = plain_if (eqb (word 0 words) 0) (traps trap.Unreachable site w) (Does w) tt tt
+external_plain s site LlvmObjectSize types words w = tt
 external_plain s site Printf types words w = plain_prints site (formatted w types words) w
+external_plain s site (Word f n) types words w = plain_gives site (word_answer f (bits_of n) (word 0 words) (word 1 words) (word 2 words)) w
 
 -- ---- what an effect tells of its instruction
 
@@ -113,10 +122,6 @@ tells_plain s h o (Ends e w) p = tt
 tells_plain s h o (Goes to w) p = absurd p
 tells_plain s h o (Enters n w) p = absurd p
 tells_plain s h o (Leaves w) p = absurd p
-
-plain_gives : (site : ℕ) (r : Result ℕ Trap) (w : World) → IsPlain (gives site r w)
-plain_gives site (Ok v) w = tt
-plain_gives site (Err t) w = tt
 
 tells_call : (s : Setting) (h : Here) (ret : Option Ty) (callee : Name) (args : List (Ty × Operand)) (words : List ℕ) (w : World) (o : Option ℕ) → s.func callee ≡ o → (e : Option External)
     → Tells s h (op.Call ret callee args) (elim o [ Some f ↦ Enters f w | None ↦ elim e [ Some x ↦ external s h.site x (map (λ a. a.0) args) words w | None ↦ Ends stuck w ] ])

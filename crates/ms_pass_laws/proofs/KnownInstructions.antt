@@ -15,6 +15,10 @@ use Rattle.ms_ir.specs.declared.syntax.Block.{Block}
 use Rattle.ms_ir.specs.declared.syntax.Func.{Func}
 use Rattle.ms_ir.specs.declared.syntax.Module.{Module}
 use Rattle.ms_ir.specs.declared.calls.External.{External}
+use Rattle.ms_ir.specs.declared.calls.External.TheVariants.{Word}
+use Rattle.ms_bits.specs.declared.word_functions.WordFn.{WordFn}
+use Rattle.ms_bits.specs.declared.word_functions.WordWidth.{WordWidth}
+use Rattle.ms_bits.specs.WordFunctions.{bits_of}
 use Rattle.ms_ir.specs.Names.{externals, lookup, name_eq, main_name}
 use Rattle.ms_ir.specs.Layout.{Types, resolved, part_type}
 use Rattle.ms_ir.specs.Code.{operands, func_index, func_at, insts_at, is_phi, over_insts, over_blocks, over_funcs}
@@ -35,9 +39,10 @@ use Rattle.ms_runs_good.proofs.NextFrames.{block_there}
 use Rattle.ms_runs_good.proofs.Starts.{all_get}
 use Rattle.ms_valid.proofs.TypedValues.{result_typed}
 use Rattle.ms_runs_good.proofs.CallTypes.{same_width, both_none, holds_unless, func_found, external_call, defined_call, defined_answer, known_external, fitted_call}
+use Rattle.ms_runs_good.proofs.WordCallTypes.{IsWord, word_call}
 use Rattle.ms_runs_good.proofs.InstructionEffects.{formed_at}
 use Rattle.ms_runs_good.proofs.OpEffects.{value_width, cast_allowed}
-use Rattle.ms_tasks.specs.Known.{KnownName, KnownOperand, KnownOperands, KnownResult, KnownInst, IsBuilt, FitsCallee, HasResult, is_void, ArgsFit}
+use Rattle.ms_tasks.specs.Known.{KnownName, KnownOperand, KnownOperands, KnownResult, KnownInst, IsBuilt, AnswersWord, FitsCallee, HasResult, is_void, ArgsFit}
 use Rattle.ms_pass_laws.specs.Known.{FitsCalled, AnswerFits, ReturnsAs, ret_at}
 use Rattle.ms_pass_laws.specs.Numbers.{numbering}
 use Rattle.ms_pass_laws.proofs.NumberedValues.{known_value}
@@ -319,6 +324,20 @@ module _ (m : Module) (formed : Formed m) (valid : Valid m) (can : CanInstrument
       subst (λ o. FitsCallee o i.result args) (sym x.1)
       (c.widths, has_result x.0 i.result ret c.declared_ret (ap (λ o. name_formed (result_type o) i.result) (sym e) ∙ name) c.first c.second, few_operands ret callee args e)
 
+  words_answer : (ret : Option Ty) (callee : Name) (args : List (Ty × Operand)) → i.op ≡ op.Call ret callee args → (q : Option ℕ) → func_index m.funcs callee ≡ q
+      → AnswersWord (if is_some q then None else lookup externals callee) ret
+  words_answer ret callee args e (Some k) found = tt
+  words_answer ret callee args e None found = by_external (lookup externals callee) refl
+    where
+      of_word : (ret : Option Ty) (g : WordFn) (w : WordWidth) → IsWord ret (bits_of w) → AnswersWord (Some (Word g w)) ret
+      of_word None g w h = absurd h
+      of_word (Some t) g w h = h
+
+      by_external : (x : Option External) → lookup externals callee ≡ x → AnswersWord x ret
+      by_external None is = tt
+      by_external (Some (Word g w)) is = of_word ret g w (word_call m valid n b p f i at due ret callee args e g w found is).answer
+      by_external (Some x) is = tt
+
   pub built : (o : Op) → i.op ≡ o → is_phi o ≡ false → IsBuilt (func_index m.funcs) i.result o
   built (op.Binary o flags t a c) e np = (value_width t (int_value t (and_parts (is_int_type t) (are_among flags (binary_flags o)) (ap shape_formed (sym e) ∙ shape)).0)).0
   built (op.Icmp o flags t a c) e np = (value_width t (and_parts (is_value_type t) _ (ap shape_formed (sym e) ∙ shape)).0).0
@@ -332,7 +351,11 @@ module _ (m : Module) (formed : Formed m) (valid : Valid m) (can : CanInstrument
       named : (x : Option Name) → name_formed (Some Ptr) x ≡ true → IsBuilt (func_index m.funcs) x (op.Alloca t u c)
       named None h = absurd (true≢false (sym h))
       named (Some y) h = tt
-  built (op.Call ret callee args) e np = (outside_fits ret callee args e (func_index m.funcs callee) refl, few_args ret callee args e (func_index m.funcs callee) refl)
+  built (op.Call ret callee args) e np = (
+    outside_fits ret callee args e (func_index m.funcs callee) refl,
+    few_args ret callee args e (func_index m.funcs callee) refl,
+    words_answer ret callee args e (func_index m.funcs callee) refl,
+  )
   built (op.Phi t es) e np = absurd (true≢false np)
   built (op.Select c t a d) e np = tt
   built (op.Freeze t a) e np = tt

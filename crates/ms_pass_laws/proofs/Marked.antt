@@ -17,11 +17,11 @@ use Rattle.ms_runs.specs.declared.runs.End.TheVariants as «end»
 use Rattle.ms_bits.specs.Maps.{first_nonzero}
 use Rattle.ms_ir.specs.Names.{lookup, runtime_functions, slots}
 use Rattle.ms_ir.specs.Layout.{width_of, stored_size}
-use Rattle.ms_runs.specs.World.{World, Setting, Here, Effect, Gives, Does, Goes, Enters, Leaves, Ends, stuck, word}
+use Rattle.ms_runs.specs.World.{World, Setting, Here, Effect, Gives, Does, Goes, Enters, Leaves, Ends, stuck, word, gives}
 use Rattle.ms_runs.specs.Origins.{trail, add_report, check, check_byte, check_memory, check_string, asks_string_at, check_format}
 use Rattle.ms_runs.specs.Memory.{is_good}
 use Rattle.ms_ir.specs.Code.{operands, is_phi}
-use Rattle.ms_runs.specs.Act.{gives, act, operand_word, plain_reading}
+use Rattle.ms_runs.specs.Act.{act, operand_word, plain_reading}
 use Rattle.ms_runs.specs.Runtime.{runtime}
 use Rattle.ms_runs.specs.Control.{Frame, here, rest_of, read_all, after_effect}
 use Rattle.ms_runs.specs.Plain.{PlainState, Stepped, More, Stop, and_then, plain_state, shadow_bits, in_slots, slots_after, act_marked, through}

@@ -4,11 +4,11 @@ use Rattle.std.specs.Prelude.{map, if◌then◌else◌, leb, ltb, max, ◌/◌, 
 use Rattle.std.proofs.lemmas.Bool.{leb-true}
 use Rattle.ms_bits.specs.declared.traps.Trap.{Trap}
 use Rattle.ms_bits.specs.Maps.{touches, byte_of, number_at, with_cell, with_cells, first_nonzero, bytes_at, copied_cells}
+use Rattle.ms_bits.specs.WordFunctions.{bits_of, word_answer}
 use Rattle.ms_ir.specs.declared.syntax.Name.{Name}
 use Rattle.ms_ir.specs.declared.syntax.Name.TheVariants.{Number}
 use Rattle.ms_ir.specs.declared.syntax.Ty.{Ty}
 use Rattle.ms_ir.specs.declared.syntax.Operand.{Operand}
-use Rattle.ms_ir.specs.declared.syntax.Operand.TheVariants as operand
 use Rattle.ms_ir.specs.declared.syntax.Op.{Op}
 use Rattle.ms_ir.specs.declared.syntax.Op.TheVariants as op
 use Rattle.ms_ir.specs.declared.syntax.Inst.{Inst}
@@ -17,7 +17,7 @@ use Rattle.ms_runs.specs.declared.runs.End.{End}
 use Rattle.ms_runs.specs.declared.runs.End.TheVariants as «end»
 use Rattle.ms_runs.specs.declared.runs.Report.{Report}
 use Rattle.ms_ir.specs.Names.{name_eq}
-use Rattle.ms_runs.specs.World.{Allocation, word, World, Setting, Here, Effect, Gives, Does, Goes, Enters, Leaves, Ends, then_does, stuck}
+use Rattle.ms_runs.specs.World.{Allocation, word, World, Setting, Here, Effect, Gives, Does, Goes, Enters, Leaves, Ends, then_does, stuck, gives}
 use Rattle.ms_ir.specs.Areas.{Heap, Stack, room}
 use Rattle.ms_bits.specs.declared.traps.Trap.TheVariants as trap
 use Rattle.ms_ir.specs.Layout.{stored_size, width_of, size_in}
@@ -25,13 +25,14 @@ use Rattle.ms_runs.specs.Memory.{make, heap_size, is_heap_block, end_block, copy
 use Rattle.ms_runs.specs.Origins.{keeps_old, pair_index, copy_planes, fill_planes, unpoison, Chained, chain, add_report, check, check_byte, check_memory, count_blind, poison, mark_cells, store_origin, origin_within, trail, first_in_string, pair_limit, check_string, asks_string_at, check_format}
 use Rattle.ms_ir.specs.Code.{makes_unset, external_named, operands, one_undef, count_undefs, is_root, roots_in, blocks_at, insts_at, block_index, root_at, is_phi}
 use Rattle.ms_runs.specs.Control.{Frame, here, rest_of, read_all, with_value, put, after_effect, read_edge, phis, block_name, result_at, left, Over, On, bind, entered, params_at, frame_limit}
-use Rattle.ms_runs.specs.Act.{act, alloca, gives, load, store}
+use Rattle.ms_runs.specs.Act.{act, alloca, load, store}
 use Rattle.ms_runs.specs.Plain.{Stepped, More, Stop}
 use Rattle.ms_runs.specs.Poisoned.{Poisoned, clean}
 use Rattle.ms_bits.specs.Conversions.{select_of}
-use Rattle.ms_runs.specs.Masks.{by_formulas, word_at, last_origin, result_origin, union}
+use Rattle.ms_tasks.proofs.OriginRanges.{AreRanged, operand_ranged, words_ranged, at_ranged, last_ranged}
+use Rattle.ms_runs.specs.Masks.{by_formulas, word_at, answer_origin, result_origin, union}
 use Rattle.ms_runs.specs.Uses.{Use, Word, Bytes, Line, blinded, uses, check_use, check_uses, Asked}
-use Rattle.ms_runs.specs.Shadow.{ShadowState, read_poisoned, operand_origin, external_planes, callee_planes, planes, poisoned_result, shadow_moved, after_checks, shadow_inst, shadow_first, shadow_frames, shadow_step, shadow_reading}
+use Rattle.ms_runs.specs.Shadow.{ShadowState, read_poisoned, external_planes, callee_planes, planes, poisoned_result, shadow_moved, after_checks, shadow_inst, shadow_first, shadow_frames, shadow_step, shadow_reading}
 use Rattle.ms_tasks.specs.Environments.{Env}
 use Rattle.ms_tasks.specs.Known.{IsBuilt, KnownInst, edge_roots, PhiRoot, PhiRoots}
 use Rattle.ms_tasks.specs.Match.{IsPlaced, ArePlaced, RangedWorld, RangedValues, RangedHere}
@@ -39,7 +40,9 @@ use Rattle.ms_pass_laws.specs.Pass.{Numbering}
 use Rattle.ms_pass_laws.specs.Law.{RangedFrames, Ranged}
 use Rattle.ms_pass_laws.specs.Known.{KnownModule}
 use Rattle.ms_ir.specs.declared.calls.External.{External}
-use Rattle.ms_ir.specs.declared.calls.External.TheVariants.{Malloc, Calloc, Realloc, Free, Memcpy, Memmove, Memset, Memcmp, Strlen, Putchar, Puts, Getchar, Read, Write, Exit, Abort, LlvmMemcpy, LlvmMemmove, LlvmMemset, LifetimeStart, LifetimeEnd, Printf}
+use Rattle.ms_ir.specs.declared.calls.External.TheVariants.{Malloc, Calloc, Realloc, Free, Memcpy, Memmove, Memset, Memcmp, Strlen, Putchar, Puts, Getchar, Read, Write, Exit, Abort, LlvmMemcpy, LlvmMemmove, LlvmMemset, LifetimeStart, LifetimeEnd, Printf, LlvmTrap, LlvmAssume, LlvmObjectSize}
+use Rattle.ms_ir.specs.declared.calls.External.TheVariants as called
+use Rattle.ms_ir.specs.Names.{lookup, externals}
 use Rattle.ms_runs.specs.Externals.{malloc, calloc, reallocated, where_good, string_at, printed, taken, next_byte, external, output_limit, formatted, prints}
 
 -- ---- checks leave allocations and cells
@@ -237,38 +240,6 @@ found_ranged (suc n) a mask w r = go (found_ranged n (a + 1) (mask / 256) w r) (
     go h true = h
     go h false = r.origins (a / 4)
 
--- the origins of words
-abbrev AreRanged : List Poisoned → Type 0
-AreRanged [] = Unit {0}
-AreRanged (p ∷ ps) = (p.origin < 2 ^ 32) × AreRanged ps
-
-operand_ranged : (values : Name → Poisoned) (root : ℕ) (o : Operand) → RangedValues values → root + one_undef o < 2 ^ 32 → operand_origin values root o < 2 ^ 32
-operand_ranged values root operand.Undef r lt = lt
-operand_ranged values root operand.Poison r lt = lt
-operand_ranged values root (operand.Local x) r lt = r x
-operand_ranged values root (operand.Int n) r lt = omega arith
-operand_ranged values root operand.Null r lt = omega arith
-operand_ranged values root (operand.Global x) r lt = omega arith
-operand_ranged values root (operand.Offset t x is) r lt = omega arith
-
-words_ranged : (s : Setting) (values : Name → Poisoned) (os : List (Ty × Operand)) (root : ℕ) → RangedValues values → root + count_undefs os < 2 ^ 32 → AreRanged (read_all (read_poisoned s values) os root)
-words_ranged s values [] root r lt = tt
-words_ranged s values (o ∷ os) root r lt =
-    (operand_ranged values root o.1 r (omega (arith, lt)), words_ranged s values os (root + one_undef o.1) r (omega (arith, lt)))
-
-at_ranged : (k : ℕ) (ps : List Poisoned) → AreRanged ps → (word_at k ps).origin < 2 ^ 32
-at_ranged k [] r = omega arith
-at_ranged zero (p ∷ ps) r = r.0
-at_ranged (suc k) (p ∷ ps) r = at_ranged k ps r.1
-
-last_ranged : (ps : List Poisoned) (best : ℕ) → AreRanged ps → best < 2 ^ 32 → last_origin ps best < 2 ^ 32
-last_ranged [] best r lt = lt
-last_ranged (p ∷ ps) best r lt = last_ranged ps _ r.1 (go (eqb p.mask 0))
-  where
-    go : (b : Bool) → (if b then best else p.origin) < 2 ^ 32
-    go true = lt
-    go false = r.0
-
 -- ---- allocations
 
 placed_more : (as' : List Allocation) (a : Allocation) → ArePlaced as' → IsPlaced a → ArePlaced (as' ++ a ∷ [])
@@ -311,10 +282,6 @@ RangedEffect (Goes x w) = RangedWorld w
 RangedEffect (Enters f w) = RangedWorld w
 RangedEffect (Leaves w) = RangedWorld w
 RangedEffect (Ends e w) = Unit {0}
-
-given_ranged : (site : ℕ) (r : Result ℕ Trap) (w : World) → RangedWorld w → RangedEffect (gives site r w)
-given_ranged site (Ok v) w r = r
-given_ranged site (Err t) w r = tt
 
 alloca_ranged : (s : Setting) (site n : ℕ) (w : World) → RangedWorld w → RangedEffect (alloca s site n w)
 alloca_ranged s site n w r = go (fits Stack n w) refl
@@ -417,6 +384,10 @@ prints_ranged : (site : ℕ) (t : Result (List ℕ) Trap) (w : World) → Ranged
 prints_ranged site (Ok bs) w r = printed_ranged site bs (length bs) w r
 prints_ranged site (Err t) w r = tt
 
+given_ranged : (site : ℕ) (r : Result ℕ Trap) (w : World) → RangedWorld w → RangedEffect (gives site r w)
+given_ranged site (Ok v) w r = r
+given_ranged site (Err t) w r = tt
+
 external_ranged : (s : Setting) (site : ℕ) (e : External) (types : List Ty) (words : List ℕ) (w : World) → RangedWorld w → RangedEffect (external s site e types words w)
 external_ranged s site Malloc types words w r = malloc_ranged s.fill (word 0 words) w r
 external_ranged s site Calloc types words w r = calloc_ranged (word 0 words * word 1 words) w r
@@ -443,7 +414,11 @@ external_ranged s site LlvmMemmove types words w r = good_ranged site (word 0 wo
 external_ranged s site LlvmMemset types words w r = good_ranged site (word 0 words) (word 2 words) w (Does _) (record { placed = r.placed; origins = r.origins; pairs = r.pairs })
 external_ranged s site LifetimeStart types words w r = good_ranged site (word 1 words) (word 0 words) w (Does _) (record { placed = r.placed; origins = r.origins; pairs = r.pairs })
 external_ranged s site LifetimeEnd types words w r = r
+external_ranged s site LlvmTrap types words w r = tt
+external_ranged s site LlvmAssume types words w r = ranged_if (eqb (word 0 words) 0) (Ends _ w) (Does w) tt r
+external_ranged s site LlvmObjectSize types words w r = r
 external_ranged s site Printf types words w r = prints_ranged site (formatted w types words) w r
+external_ranged s site (called.Word f n) types words w r = given_ranged site (word_answer f (bits_of n) (word 0 words) (word 1 words) (word 2 words)) w r
 
 call_ranged : (s : Setting) (site : ℕ) (types : List Ty) (words : List ℕ) (w : World) → RangedWorld w → (o : Option ℕ) (e : Option External)
     → RangedEffect (elim o [ Some f ↦ Enters f w | None ↦ elim e [ Some x ↦ external s site x types words w | None ↦ Ends stuck w ] ])
@@ -527,6 +502,12 @@ result_ranged s x (op.Select c t a b) ps mask w k q r =
     select_ranged (word_at 0 ps).mask (word_at 0 ps).origin _ (at_ranged 0 ps q) (select_ranged (word_at 0 ps).value (word_at 1 ps).origin (word_at 2 ps).origin (at_ranged 1 ps q) (at_ranged 2 ps q))
 result_ranged s x (op.Gep t a is) ps mask w k q r = last_ranged ps (word_at 0 ps).origin q (at_ranged 0 ps q)
 result_ranged s x (op.Load t a) ps mask w k q r = found_ranged 8 (word_at 0 ps).value mask w r
+result_ranged s x (op.Call ret callee args) ps mask w k q r = by_external (lookup externals callee)
+  where
+    by_external : (e : Option External) → answer_origin e ps < 2 ^ 32
+    by_external None = omega arith
+    by_external (Some (called.Word f n)) = last_ranged ps (word_at 0 ps).origin q (at_ranged 0 ps q)
+    by_external (Some e) = omega arith
 result_ranged s x _ ps mask w k q r = omega arith
 
 planes_ranged : (s : Setting) (site root : ℕ) (x : Option Name) (o : Op) (ps : List Poisoned) (before : World) (v : ℕ) (w : World) → s.roots + pair_limit + 1 < 2 ^ 32 → IsBuilt s.func x o → AreRanged ps → (is_root s.func o ≡ true → root < 2 ^ 32) → RangedWorld w → RangedWorld (planes s site root o ps before v w)
@@ -665,7 +646,7 @@ inst_ranged s m env size i f below w many k rh pr rv rf r c e = by_checks (check
     by_checks : (x : Effect) → Quiet w x → shadow_moved (after_checks by_formulas s m i (here s m f) (read_all (read_poisoned s f.values) (operands i.op) (here s m f).root) f below x) ≡ More c → Ranged c
     by_checks (Does z) q e =
         let ps = read_all (read_poisoned s f.values) (operands i.op) (here s m f).root in
-        let u = count_blind (union (map (λ p. p.mask) (blinded i.op ps))) z in
+        let u = count_blind (union (map (λ p. p.mask) (blinded s.func i.op ps))) z in
         let rz : RangedWorld u = ranged_left z u (counted _ z) (ranged_left w z q r) in
         outcome_ranged s m (here s m f) i ps f below u (act s (here s m f) i.op (map (λ p. p.value) ps) u) many k.built
         (words_ranged s f.values (operands i.op) (here s m f).root rv (undefs_fit s.func i (here s m f).root k.unmarked rh.root))

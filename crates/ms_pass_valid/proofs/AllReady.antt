@@ -88,11 +88,11 @@ slot_good m j a x e g = record {
 
 -- an item of the slots of parameters
 item_good : (m j : Module) → ModuleReady m j → (w : ℕ) → is_int_type (Int w) ≡ true → (x : Name) → has_name (map (λ g. g.name) slot_globals) x ≡ true → is_global_name x ≡ true
-    → ((types : Types) → sized types (Ptr ∷ Int w ∷ Int 64 ∷ []) ≡ true) → (k : ℕ) → k < 100 → ConstGood j Ptr (operand.Offset (Int w) x ((Int 64, k) ∷ []))
+    → ((types : Types) → sized types (Ptr ∷ Int w ∷ Int 64 ∷ []) ≡ true) → (k : ℕ) → k < 100 → ConstGood j Ptr (operand.Offset x ((Int w, (Int 64, k) ∷ []) ∷ []))
 item_good m j a w i x e g z k l = record {
   fits = λ typed. ap (λ b. true && b && true) (a.slot x e).0;
   known = λ names site. unknown_one j names site (OfGlobal x) (a.slot x e).1;
-  formed = ap₂ (λ c d. c && d && (number_formed (Int 64) k && true)) i g ∙ ap (λ b. true && true && (b && true)) (number_fits 64 k refl (small k l));
+  formed = ap₂ (λ c d. c && (d && (number_formed (Int 64) k && true) && true)) g i ∙ ap (λ b. true && (true && (b && true) && true)) (number_fits 64 k refl (small k l));
   sized_in = z j.types;
 }
   where

@@ -12,7 +12,8 @@ use Rattle.ms_ir.specs.declared.syntax.Inst.{Inst}
 use Rattle.ms_ir.specs.declared.syntax.Func.{Func}
 use Rattle.ms_ir.specs.declared.syntax.Module.{Module}
 use Rattle.ms_ir.specs.declared.calls.External.{External}
-use Rattle.ms_ir.specs.declared.calls.External.TheVariants.{Malloc, Printf}
+use Rattle.ms_ir.specs.declared.calls.External.TheVariants.{Malloc, Printf, Word}
+use Rattle.ms_pass_valid.proofs.WordTypes.{width_value, word_values}
 use Rattle.ms_ir.specs.Names.{name_eq, main_name, lookup, externals}
 use Rattle.ms_ir.specs.Code.{func_index, func_at, insts_at, is_phi}
 use Rattle.ms_ir.specs.Equal.{type_eq, types_eq, result_type_eq}
@@ -74,10 +75,12 @@ external_values : (e : External) (args : List (Ty × Operand)) → list_all (λ 
 external_values Printf [] h = refl
 external_values Printf (a ∷ rest) h = rest_values rest (and_parts (is_value_type a.0) (list_all (λ b. is_value_type b.0) rest) h).1
 external_values Malloc args h = refl
+external_values (Word f n) args h = word_values f n
 external_values _ args h = refl
 
 external_answers : (e : External) → AnswersValue (external_signature e).ret
 external_answers Malloc = refl
+external_answers (Word f n) = width_value n
 external_answers _ = grind arith
 
 -- ---- calls

@@ -14,13 +14,18 @@ use Rattle.ms_runs.specs.World.{Here}
 use Rattle.ms_ir.specs.Layout.{width_of}
 use Rattle.ms_ir.specs.Code.{count_undefs, external_named}
 use Rattle.ms_ir.specs.declared.calls.External.{External}
+use Rattle.ms_ir.specs.declared.calls.External.TheVariants as called
 use Rattle.ms_ir.specs.declared.calls.External.TheVariants.{Malloc, Realloc, Memset, LlvmMemset}
 use Rattle.ms_runs.specs.Uses.{Use, Word, Bytes, Line, Asked}
-use Rattle.ms_tasks.specs.Tasks.{mask_name, Expr, Leaf, Turn, Task}
+use Rattle.ms_tasks.specs.Tasks.{mask_name, origin_name, Expr, Leaf, Turn, Task, Sets}
 use Rattle.ms_tasks.specs.Environments.{Env, Given, Tracked, is_zero, tracked_at, mask_of, word_of, bits_of}
 use Rattle.ms_tasks.specs.CheckTasks.{check_task, use_tasks, check_tasks, all_zero, blind_tasks}
-use Rattle.ms_tasks.specs.ResultMasks.{cast_expr}
-use Rattle.ms_tasks.specs.ResultTasks.{define_tasks, called_tasks}
+use Rattle.ms_tasks.specs.ResultMasks.{cast_expr, word_expr, answer_expr, answer_origin_expr}
+use Rattle.ms_bits.specs.declared.word_functions.WordFn.{WordFn}
+use Rattle.ms_bits.specs.declared.word_functions.WordFn.TheVariants as word
+use Rattle.ms_bits.specs.WordFunctions.{bits_of as width_bits}
+use Rattle.ms_ir.specs.Names.{lookup, externals}
+use Rattle.ms_tasks.specs.ResultTasks.{result_width, define_tasks, called_tasks}
 use Rattle.ms_tasks.specs.PlaneTasks.{plane_tasks, save_tasks, saved_tasks, external_tasks, callee_tasks, fill_task}
 use Rattle.ms_tasks.specs.SlotTasks.{hand_tasks, give_result, give_arguments, take_result, take_tasks, result_mask_slot, result_origin_slot}
 use Rattle.ms_pass_valid.proofs.Costs.{cost, task_cost, tasks_cost}
@@ -41,6 +46,26 @@ cast_cost cast.PtrToInt w to m = by_test (eqb to 64)
     by_test false = omega arith
 cast_cost cast.IntToPtr w to m = widened_cost w m
 cast_cost cast.Bitcast w to m = omega arith
+
+-- what a function of whole words answers
+word_cost : (f : WordFn) (w : ℕ) (a b c : Tracked) → cost (word_expr f w a b c) ≤ 90
+word_cost word.Ctpop w a b c = omega arith
+word_cost word.Ctlz w a b c = omega arith
+word_cost word.Cttz w a b c = omega arith
+word_cost word.Bswap w a b c = omega arith
+word_cost word.Bitreverse w a b c = omega arith
+word_cost word.Abs w a b c = omega arith
+word_cost word.Smax w a b c = omega arith
+word_cost word.Smin w a b c = omega arith
+word_cost word.Umax w a b c = omega arith
+word_cost word.Umin w a b c = omega arith
+word_cost word.Fshl w a b c = omega arith
+word_cost word.Fshr w a b c = omega arith
+word_cost word.UaddSat w a b c = omega arith
+word_cost word.UsubSat w a b c = omega arith
+word_cost word.SaddSat w a b c = omega arith
+word_cost word.SsubSat w a b c = omega arith
+word_cost word.Expect w a b c = omega arith
 
 pub define_cost : (func : Name → Option ℕ) (v : ℕ) (o : Op) (ts : List Tracked) → tasks_cost (define_tasks func v o ts) ≤ 110 + 17 * length ts
 define_cost func v (op.Binary o f t a b) ts = by_op o
@@ -65,7 +90,13 @@ define_cost func v (op.Call r x as') ts = by_own (is_some (func x))
   where
     by_own : (b : Bool) → tasks_cost (called_tasks b v (op.Call r x as') ts) ≤ 110 + 17 * length ts
     by_own true = omega arith
-    by_own false = omega arith
+    by_own false = by_external (lookup externals x)
+      where
+        by_external : (e : Option External)
+            → tasks_cost (Sets (origin_name v) (Int 32) (answer_origin_expr e ts) ∷ Sets (mask_name v) (Int (result_width (op.Call r x as'))) (answer_expr e ts) ∷ []) ≤ 110 + 17 * length ts
+        by_external None = omega arith
+        by_external (Some (called.Word f n)) = omega (arith, first_last_cost ts, word_cost f (width_bits n) (tracked_at 0 ts) (tracked_at 1 ts) (tracked_at 2 ts))
+        by_external (Some e) = omega arith
 define_cost func v _ ts = omega arith
 
 unless_cost : (b : Bool) (t : Task) (k : ℕ) → task_cost t ≤ k → tasks_cost (if b then [] else t ∷ []) ≤ k

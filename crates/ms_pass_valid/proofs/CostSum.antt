@@ -15,7 +15,7 @@ use Rattle.ms_ir.specs.Names.{name_eq, main_name}
 use Rattle.ms_runs.specs.World.{Here}
 use Rattle.ms_ir.specs.Equal.{type_eq}
 use Rattle.ms_ir.specs.Code.{operands, one_undef, over_insts, over_blocks, over_funcs, one_unmarked, roots_in, external_named}
-use Rattle.ms_runs.specs.Uses.{Use, Asked, uses, has_flag, value_uses, string_uses, external_uses, callee_uses}
+use Rattle.ms_runs.specs.Uses.{Use, Asked, uses, has_flag, has_true_flag, flagged_words, value_uses, string_uses, external_uses, callee_uses}
 use Rattle.ms_ir.specs.Layout.{width_of}
 use Rattle.ms_valid.specs.Formed.{count_written, block_formed, func_formed}
 use Rattle.ms_valid.specs.FormedCode.{is_body}
@@ -32,7 +32,8 @@ use Rattle.ms_tasks.specs.Emit.{before_tasks, after_tasks, start}
 use Rattle.ms_tasks.specs.PassLists.{mask_edges, origins_by, origin_edges, phi_pair, phi_code, next_here, pass_insts, emit_op}
 use Rattle.ms_pass_laws.specs.Pass.{Numbering, here_after, pass_blocks, pass_funcs, entry_code, enter_block}
 use Rattle.ms_ir.specs.declared.calls.External.{External}
-use Rattle.ms_ir.specs.declared.calls.External.TheVariants.{Malloc, Printf}
+use Rattle.ms_ir.specs.declared.calls.External.TheVariants.{Malloc, Printf, Word}
+use Rattle.ms_bits.specs.WordFunctions.{is_flagged}
 use Rattle.ms_pass_valid.proofs.Costs.{written_append, tasks_cost, tasks_written}
 use Rattle.ms_pass_valid.proofs.CostRounds.{tasks_cost_append, define_cost, checks_cost, blind_cost, plane_cost, hand_cost, save_cost}
 use Rattle.std.proofs.lemmas.List.{length-map}
@@ -65,11 +66,17 @@ blind_few binary.Lshr ts = dropped 1 ts
 blind_few binary.Ashr ts = dropped 1 ts
 blind_few _ ts = omega arith
 
-blinded_few : (o : Op) (ts : List Tracked) → length (blinded_of o ts) ≤ length ts
-blinded_few (op.Binary o f t a b) ts = either (has_flag f) ts (blind_binary_of o ts) (length ts) (omega arith) (blind_few o ts)
-blinded_few (op.Icmp q f t a b) ts = either (has_flag f) ts [] (length ts) (omega arith) (omega arith)
-blinded_few (op.Cast o f t a u) ts = either (has_flag f) ts [] (length ts) (omega arith) (omega arith)
-blinded_few _ ts = omega arith
+blinded_few : (func : Name → Option ℕ) (o : Op) (ts : List Tracked) → length (blinded_of func o ts) ≤ length ts
+blinded_few func (op.Binary o f t a b) ts = either (has_flag f) ts (blind_binary_of o ts) (length ts) (omega arith) (blind_few o ts)
+blinded_few func (op.Icmp q f t a b) ts = either (has_flag f) ts [] (length ts) (omega arith) (omega arith)
+blinded_few func (op.Cast o f t a u) ts = either (has_flag f) ts [] (length ts) (omega arith) (omega arith)
+blinded_few func (op.Call r x as') ts = either (has_true_flag as') (flagged_words (external_named func x) ts) [] (length ts) (by_external (external_named func x)) (omega arith)
+  where
+    by_external : (e : Option External) → length (flagged_words e ts) ≤ length ts
+    by_external None = omega arith
+    by_external (Some (Word f n)) = either (is_flagged f) (take 1 ts) [] (length ts) (taken 1 ts) (omega arith)
+    by_external (Some e) = omega arith
+blinded_few func _ ts = omega arith
 
 uses_few : (func : Name → Option ℕ) (main : Bool) (o : Op) → length (uses func main o) ≤ 5 + 2 * length (operands o)
 uses_few func main (op.Binary o f t a b) = by_op o
@@ -100,6 +107,7 @@ uses_few func main (op.Call r x as') = by_name (external_named func x)
 
     by_external : (e : External) → length (external_uses e as') ≤ 5 + 2 * length as'
     by_external Malloc = omega arith
+    by_external (Word f n) = omega arith
     by_external Printf = omega (arith, values_many 1 (drop 1 as') (string_uses 1 (drop 1 as')), strings_many 1 (drop 1 as'), fewer as')
     by_external _ = omega arith
 
@@ -136,7 +144,7 @@ module _ (given : Given) (env : Env) where
       let us = uses given.func h.main i.op in
       let hs = hand_tasks given.func h.main i.op ts in
       let cs = check_tasks h.site ts us in
-      let bs = blind_tasks (blinded_of i.op ts) in
+      let bs = blind_tasks (blinded_of given.func i.op ts) in
       let rs = result_tasks given.func env i.result i.op ts in
       let ss = save_tasks given.func n i.op ts in
       omega (
@@ -149,8 +157,8 @@ module _ (given : Given) (env : Env) where
         save_cost given.func n i.op ts,
         checks_cost h.site ts us,
         uses_few given.func h.main i.op,
-        blind_cost (blinded_of i.op ts),
-        blinded_few i.op ts,
+        blind_cost (blinded_of given.func i.op ts),
+        blinded_few given.func i.op ts,
         result_cost given.func env i.result i.op ts,
         tracked_many env h.root (operands i.op),
       )

@@ -33,7 +33,7 @@ module _ (j : Module) (K : Name → Ty → Type 0) (named : (x : Name) (t : Ty) 
   operand_is t operand.Undef k = refl
   operand_is t operand.Poison k = refl
   operand_is t (operand.Global x) k = k.formed
-  operand_is t (operand.Offset u x is) k = k.formed
+  operand_is t (operand.Offset x steps) k = k.formed
 
   operands_are : (os : List (Ty × Operand)) → OperandsFit K (ConstGood j) os → list_all (λ a. operand_formed a.0 a.1) os ≡ true
   operands_are [] k = refl

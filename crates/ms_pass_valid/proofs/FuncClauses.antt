@@ -30,7 +30,7 @@ use Rattle.ms_valid.specs.TypesAgree.{operand_fits, is_variable, is_printf}
 use Rattle.ms_valid.specs.PhisFit.{edges_agree, edges_fit, count_name, edges_between}
 use Rattle.ms_ir.specs.Layout.{width_of}
 use Rattle.ms_ir.specs.Signatures.{runtime_signature, signature_of, slot_globals}
-use Rattle.ms_valid.specs.ExternalsFit.{volatile_callees, name_unless, says_volatile, is_no_flag}
+use Rattle.ms_valid.specs.ExternalsFit.{flagged_callees, name_unless, flag_fits}
 use Rattle.ms_valid.specs.UsesDefined.{IsUseDefined, operand_use, edge_use, inst_uses}
 use Rattle.ms_valid.specs.MarksFit.{may_be_marked, all_results, marked_results, is_inserted, mark_fits}
 use Rattle.ms_valid.specs.ValidAt.{FitsAt}
@@ -214,7 +214,7 @@ module _ (m j : Module) (given : Given) (env : Env) (size : ℕ) (f : Func) (h :
   own_use b p front s t operand.Undef e = All-nil IsUseDefined
   own_use b p front s t operand.Poison e = All-nil IsUseDefined
   own_use b p front s t (operand.Global x) e = All-nil IsUseDefined
-  own_use b p front s t (operand.Offset u x is) e = All-nil IsUseDefined
+  own_use b p front s t (operand.Offset x steps) e = All-nil IsUseDefined
 
   own_uses : (b p front s : ℕ) (os : List (Ty × Operand)) → OperandsGood f (ConstGood j) b p os
       → All IsUseDefined (flat_map (λ o. operand_use (spot g b (begins given env f h n b p + front) s) b (begins given env f h n b p + front) o.1) os)
@@ -234,7 +234,7 @@ module _ (m j : Module) (given : Given) (env : Env) (size : ℕ) (f : Func) (h :
   own_edge b q s t operand.Undef from e = All-nil IsUseDefined
   own_edge b q s t operand.Poison from e = All-nil IsUseDefined
   own_edge b q s t (operand.Global x) from e = All-nil IsUseDefined
-  own_edge b q s t (operand.Offset u x is) from e = All-nil IsUseDefined
+  own_edge b q s t (operand.Offset x steps) from e = All-nil IsUseDefined
 
   own_edges : (b q s : ℕ) (t : Ty) (es : List (Operand × Name)) → EdgesGood f (ConstGood j) t es → All IsUseDefined (flat_map (edge_use (spot g b q s)) es)
   own_edges b q s t [] k = All-nil IsUseDefined
@@ -250,9 +250,9 @@ module _ (m j : Module) (given : Given) (env : Env) (size : ℕ) (f : Func) (h :
 
   -- ---- own instructions
 
-  no_volatile : (o : Op) → volatile_callees m o ≡ [] → volatile_callees j o ≡ []
-  no_volatile (op.Call t x as') e = ap (λ k. name_unless (not (says_volatile k) || list_all is_no_flag as') x) (a.own_external x) ∙ e
-  no_volatile _ e = refl
+  flags_kept : (o : Op) → flagged_callees m o ≡ [] → flagged_callees j o ≡ []
+  flags_kept (op.Call t x as') e = ap (λ k. name_unless (list_all (flag_fits k) as') x) (a.own_external x) ∙ e
+  flags_kept _ e = refl
 
   own_stands : (b q site : ℕ) (i : Inst) → OwnAt given env size r.one r.few f h n (ConstGood j) r.entry r.room r.once r.free r.good r.masked r.phi_good b q i → FitsAt j (spot g b q site) i
   own_stands b q site i k =
@@ -265,7 +265,7 @@ module _ (m j : Module) (given : Given) (env : Env) (size : ℕ) (f : Func) (h :
             (λ q x as' is. a.own_call x (unknown_split m (locals f) o.0 (OfGlobal x) (operands_mentions as') (subst (λ z. unknown_of m (locals f) o.0 (mentions z) ≡ []) is o.1.names_known)).0)
             o.1.types_agree;
         phis_fit = edges_same given env f h n b k.place q o.0 site i.op ∙ o.1.phis_fit;
-        externals_fit = no_volatile i.op o.1.externals_fit;
+        externals_fit = flags_kept i.op o.1.externals_fit;
         uses_defined = own_defined_uses b k.place q k.front site i i.op refl k.at k.stands;
         marks_fit = mark_kept i (r.unmarked b k.place i k.at) o.1.marks_fit;
       }

@@ -258,7 +258,7 @@ module _ (given : Given) (env : Env) (size : ℕ) (one : OneName env) (few : Few
   any_operand b p t operand.Undef k = k
   any_operand b p t operand.Poison k = k
   any_operand b p t (operand.Global x) k = k
-  any_operand b p t (operand.Offset u x is) k = k
+  any_operand b p t (operand.Offset x steps) k = k
 
   any_operands : (b p : ℕ) (os : List (Ty × Operand)) → OperandsGood f C b p os → OperandsKnown env AnyName C os
   any_operands b p [] k = tt
@@ -273,7 +273,7 @@ module _ (given : Given) (env : Env) (size : ℕ) (one : OneName env) (few : Few
   before_typed b p k i m good_i plain w x v t named number unclean gives =
       let ts = tracked env k.root (operands i.op) in
       let cs = check_tasks k.site ts (uses given.func k.main i.op) in
-      let bs = blind_tasks (blinded_of i.op ts) in
+      let bs = blind_tasks (blinded_of given.func i.op ts) in
       let rs = result_tasks given.func env i.result i.op ts in
       let hs = hand_tasks given.func k.main i.op ts in
       let ss = save_tasks given.func m i.op ts in
@@ -368,7 +368,7 @@ module _ (given : Given) (env : Env) (size : ℕ) (one : OneName env) (few : Few
   operand_known b p r t operand.Undef k = k
   operand_known b p r t operand.Poison k = k
   operand_known b p r t (operand.Global x) k = k
-  operand_known b p r t (operand.Offset u x is) k = k
+  operand_known b p r t (operand.Offset x steps) k = k
 
   operands_known : (b p r : ℕ) (os : List (Ty × Operand)) → OperandsGood f C b p os → OperandsKnown env (KnownAt g b (begins given env f h n b p + r)) C os
   operands_known b p r [] k = tt
@@ -416,7 +416,7 @@ module _ (given : Given) (env : Env) (size : ℕ) (one : OneName env) (few : Few
         let ts = tracked env place_here.root (operands i.op) in
         let hs = hand_tasks given.func place_here.main i.op ts in
         let cs = check_tasks place_here.site ts (uses given.func place_here.main i.op) in
-        let bs = blind_tasks (blinded_of i.op ts) in
+        let bs = blind_tasks (blinded_of given.func i.op ts) in
         let rs = result_tasks given.func env i.result i.op ts in
         let ss = save_tasks given.func number_here i.op ts in
         let y = msan_name number_here in

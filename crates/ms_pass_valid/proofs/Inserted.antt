@@ -18,7 +18,7 @@ use Rattle.ms_ir.specs.declared.syntax.Func.{Func}
 use Rattle.ms_ir.specs.declared.syntax.Module.{Module}
 use Rattle.ms_ir.specs.declared.calls.RuntimeFn.{RuntimeFn}
 use Rattle.ms_ir.specs.declared.calls.RuntimeFn.TheVariants as function
-use Rattle.ms_ir.specs.Names.{lookup, externals, is_inserted_name, runtime_name}
+use Rattle.ms_ir.specs.Names.{lookup, externals, word_externals, is_inserted_name, runtime_name}
 use Rattle.ms_ir.specs.Code.{operands, func_index, external_named}
 use Rattle.ms_ir.specs.Equal.{has_name, type_eq, row_eq, result_type_eq}
 use Rattle.ms_ir.specs.Written.{Mention, OfLocal, OfGlobal, operand_mentions, operands_mentions, mentions, result_type, operand_types}
@@ -28,7 +28,7 @@ use Rattle.ms_ir.specs.Spots.{Spot, spot}
 use Rattle.ms_valid.specs.TypesAgree.{operand_fits, is_type, first_misfit, fault_unless, argument_fault, printf_fault, is_printf, call_fault, op_fault}
 use Rattle.ms_valid.specs.PhisFit.{edges_fit}
 use Rattle.ms_ir.specs.Signatures.{runtime_signature, signature_of}
-use Rattle.ms_valid.specs.ExternalsFit.{name_unless, says_volatile, is_no_flag, volatile_callees}
+use Rattle.ms_valid.specs.ExternalsFit.{name_unless, flag_fits, flagged_callees}
 use Rattle.ms_valid.specs.UsesDefined.{IsUseDefined, operand_use, inst_uses}
 use Rattle.ms_valid.specs.MarksFit.{may_be_marked, all_results, marked_results, is_inserted, mark_fits}
 use Rattle.ms_valid.specs.FormedCode.{operand_formed}
@@ -100,7 +100,7 @@ module _ (j : Module) (g : Func) (b q site : ℕ)
   operand_agrees t operand.Undef k = k.fits (value_type g)
   operand_agrees t operand.Poison k = k.fits (value_type g)
   operand_agrees t (operand.Global x) k = k.fits (value_type g)
-  operand_agrees t (operand.Offset u x is) k = k.fits (value_type g)
+  operand_agrees t (operand.Offset x steps) k = k.fits (value_type g)
 
   operand_known : (t : Ty) (o : Operand) → Fitting t o → unknown_of j (locals g) site (operand_mentions o) ≡ []
   operand_known t (operand.Local x) k = unknown_one j (locals g) site (OfLocal x) (local x t k.0)
@@ -109,7 +109,7 @@ module _ (j : Module) (g : Func) (b q site : ℕ)
   operand_known t operand.Undef k = refl
   operand_known t operand.Poison k = refl
   operand_known t (operand.Global x) k = k.known (locals g) site
-  operand_known t (operand.Offset u x is) k = k.known (locals g) site
+  operand_known t (operand.Offset x steps) k = k.known (locals g) site
 
   operand_defined : (t : Ty) (o : Operand) → Fitting t o → All IsUseDefined (operand_use here b q o)
   operand_defined t (operand.Local x) k =
@@ -119,7 +119,7 @@ module _ (j : Module) (g : Func) (b q site : ℕ)
   operand_defined t operand.Undef k = All-nil IsUseDefined
   operand_defined t operand.Poison k = All-nil IsUseDefined
   operand_defined t (operand.Global x) k = All-nil IsUseDefined
-  operand_defined t (operand.Offset u x is) k = All-nil IsUseDefined
+  operand_defined t (operand.Offset x steps) k = All-nil IsUseDefined
 
   abbrev fits : Ty × Operand → Bool
   fits o = operand_fits j (value_type g) o.0 o.1
@@ -244,6 +244,7 @@ module _ (j : Module) (g : Func) (b q site : ℕ)
 
   -- no runtime function is an external
   no_external : (fn : RuntimeFn) → lookup externals (runtime_name fn) ≡ None
+  unfolding word_externals
   no_external function.Check = refl
   no_external function.CheckMemory = refl
   no_external function.CheckString = refl
@@ -271,33 +272,37 @@ module _ (j : Module) (g : Func) (b q site : ℕ)
   is_runtime function.Size = refl
   is_runtime function.CheckFormat = refl
 
-  not_volatile : (c : Bool) (fn : RuntimeFn) → says_volatile (if c then None else lookup externals (runtime_name fn)) ≡ false
-  not_volatile true fn = refl
-  not_volatile false fn = ap says_volatile (no_external fn)
+  all_fit : (args : List (Ty × Operand)) → list_all (flag_fits None) args ≡ true
+  all_fit [] = refl
+  all_fit (a ∷ rest) = all_fit rest
 
-  call_plain : (callee : Name) (args : List (Ty × Operand)) (fn : RuntimeFn) → callee ≡ runtime_name fn
-      → name_unless (not (says_volatile (external_named (func_index j.funcs) callee)) || list_all is_no_flag args) callee ≡ []
+  call_plain : (callee : Name) (args : List (Ty × Operand)) (fn : RuntimeFn) → callee ≡ runtime_name fn → name_unless (list_all (flag_fits (external_named (func_index j.funcs) callee)) args) callee ≡ []
   call_plain callee args fn e =
-      ap (λ x. name_unless (not (says_volatile (external_named (func_index j.funcs) x)) || list_all is_no_flag args) callee) e
-      ∙ ap (λ c. name_unless (not c || list_all is_no_flag args) callee) (not_volatile (is_some (func_index j.funcs (runtime_name fn))) fn)
+      ap (λ x. name_unless (list_all (flag_fits (external_named (func_index j.funcs) x)) args) callee) e
+      ∙ ap (λ o. name_unless (list_all (flag_fits o) args) callee) (outside (is_some (func_index j.funcs (runtime_name fn))))
+      ∙ ap (λ b. name_unless b callee) (all_fit args)
+    where
+      outside : (own : Bool) → (if own then None else lookup externals (runtime_name fn)) ≡ None
+      outside true = refl
+      outside false = no_external fn
 
-  not_volatile_op : (o : Op) → OpFits o → volatile_callees j o ≡ []
-  not_volatile_op (op.Call ret callee args) s = call_plain callee args s.function s.named
-  not_volatile_op (op.Binary o f t x y) s = refl
-  not_volatile_op (op.Icmp o f t x y) s = refl
-  not_volatile_op (op.Cast o f t x u) s = refl
-  not_volatile_op (op.Select c t x y) s = refl
-  not_volatile_op (op.Load t x) s = refl
-  not_volatile_op (op.Store t x y) s = refl
-  not_volatile_op (op.Phi t es) s = absurd s
-  not_volatile_op (op.Freeze t x) s = absurd s
-  not_volatile_op (op.Alloca t u c) s = absurd s
-  not_volatile_op (op.Gep t x is) s = absurd s
-  not_volatile_op (op.Br to) s = absurd s
-  not_volatile_op (op.CondBr c to other) s = absurd s
-  not_volatile_op (op.Switch t x other cases) s = absurd s
-  not_volatile_op (op.Ret x) s = absurd s
-  not_volatile_op op.Unreachable s = absurd s
+  flags_fit : (o : Op) → OpFits o → flagged_callees j o ≡ []
+  flags_fit (op.Call ret callee args) s = call_plain callee args s.function s.named
+  flags_fit (op.Binary o f t x y) s = refl
+  flags_fit (op.Icmp o f t x y) s = refl
+  flags_fit (op.Cast o f t x u) s = refl
+  flags_fit (op.Select c t x y) s = refl
+  flags_fit (op.Load t x) s = refl
+  flags_fit (op.Store t x y) s = refl
+  flags_fit (op.Phi t es) s = absurd s
+  flags_fit (op.Freeze t x) s = absurd s
+  flags_fit (op.Alloca t u c) s = absurd s
+  flags_fit (op.Gep t x is) s = absurd s
+  flags_fit (op.Br to) s = absurd s
+  flags_fit (op.CondBr c to other) s = absurd s
+  flags_fit (op.Switch t x other cases) s = absurd s
+  flags_fit (op.Ret x) s = absurd s
+  flags_fit op.Unreachable s = absurd s
 
   op_defined : (o : Op) → OpFits o → AllFitting (operands o) → All IsUseDefined (inst_uses here o)
   op_defined (op.Binary o f t x y) s p = all_defined ((t, x) ∷ (t, y) ∷ []) p
@@ -352,7 +357,7 @@ module _ (j : Module) (g : Func) (b q site : ℕ)
     names_known = op_known i.op k.shaped k.reads;
     types_agree = op_agrees i.op k.shaped k.reads;
     phis_fit = no_edges i.op k.shaped;
-    externals_fit = not_volatile_op i.op k.shaped;
+    externals_fit = flags_fit i.op k.shaped;
     uses_defined = op_defined i.op k.shaped k.reads;
     marks_fit = marked_fits i k.marked (may_stand i.op k.shaped) (result_named i.result (result_type i.op) k.gives);
   }

@@ -2,6 +2,7 @@ pub mod Checked
 pub mod Emitted
 pub mod Lists
 pub mod Words
+pub mod WordTypes
 pub mod Rounds
 pub mod Paths
 pub mod OnceTyped

@@ -86,7 +86,7 @@ module _ (C : Ty → Operand → Type 0) where
   operand_more K L h t operand.Undef p = p
   operand_more K L h t operand.Poison p = p
   operand_more K L h t (operand.Global x) p = p
-  operand_more K L h t (operand.Offset u x is) p = p
+  operand_more K L h t (operand.Offset x steps) p = p
 
   pub operands_more : (K L : Name → Ty → Type 0) → ((x : Name) (t : Ty) → K x t → L x t) → (os : List (Ty × Operand)) → OperandsFit K C os → OperandsFit L C os
   operands_more K L h [] p = tt

@@ -277,14 +277,14 @@ module _ (given : Given) (env : Env) (size : ℕ) (one : OneName env) (few : Few
       let ts = tracked env h.root (operands i.op) in
       let hs = hand_tasks given.func h.main i.op ts in
       let cs = check_tasks h.site ts (uses given.func h.main i.op) in
-      let bs = blind_tasks (blinded_of i.op ts) in
+      let bs = blind_tasks (blinded_of given.func i.op ts) in
       let rs = result_tasks given.func env i.result i.op ts in
       let ss = save_tasks given.func n i.op ts in
       let marks = result_sets i.result i.op ts in
       subst (λ l. Distinct l × ((y : Name) → In l y → MarkOrSaved i n y))
       (sym (filter_map-append target hs (cs ++ (bs ++ (rs ++ ss))) ∙ ap₂ (λ a b. a ++ b) (hand_sets h.main i.op ts)
       (filter_map-append target cs (bs ++ (rs ++ ss)) ∙ ap₂ (λ a b. a ++ b) (checks_set h.site ts (uses given.func h.main i.op))
-      (filter_map-append target bs (rs ++ ss) ∙ ap₂ (λ a b. a ++ b) (blind_sets (blinded_of i.op ts)) (filter_map-append target rs ss)))))
+      (filter_map-append target bs (rs ++ ss) ∙ ap₂ (λ a b. a ++ b) (blind_sets (blinded_of given.func i.op ts)) (filter_map-append target rs ss)))))
       (both (set_by rs) (set_by ss) marks.0 marks.1 (save_sets n i.op ts))
     where
       both : (a b : List Name) → Distinct a → ((y : Name) → In a y → (x : Name) × (i.result ≡ Some x) × MarkOf x y) → (b ≡ []) ⊎ ((b ≡ msan_name n ∷ []) × (saves given.func i.op ≡ 1))
@@ -374,12 +374,12 @@ module _ (given : Given) (env : Env) (size : ℕ) (one : OneName env) (few : Few
       let ts = tracked env h.root (operands i.op) in
       let hs = hand_tasks given.func h.main i.op ts in
       let cs = check_tasks h.site ts (uses given.func h.main i.op) in
-      let bs = blind_tasks (blinded_of i.op ts) in
+      let bs = blind_tasks (blinded_of given.func i.op ts) in
       let rs = result_tasks given.func env i.result i.op ts in
       let ss = save_tasks given.func n i.op ts in
       filter_map-append target hs (cs ++ (bs ++ (rs ++ ss))) ∙ ap₂ (λ a b. a ++ b) (hand_sets h.main i.op ts)
       (filter_map-append target cs (bs ++ (rs ++ ss)) ∙ ap₂ (λ a b. a ++ b) (checks_set h.site ts (uses given.func h.main i.op))
-      (filter_map-append target bs (rs ++ ss) ∙ ap₂ (λ a b. a ++ b) (blind_sets (blinded_of i.op ts))
+      (filter_map-append target bs (rs ++ ss) ∙ ap₂ (λ a b. a ++ b) (blind_sets (blinded_of given.func i.op ts))
       (filter_map-append target rs ss ∙ ap₂ (λ a b. a ++ b) (own_result_sets i.result i.op ts w) (own_save_sets n i.op ts w))))
 
   pub phi_sets : (root : ℕ) (r : Option Name) (t : Ty) (es : List (Operand × Name)) → MarksOnly r (results (phi_code env root r t es))

@@ -1,6 +1,6 @@
 -- The program's own instructions break no clause in the instrumented form, if they break none in the program.
 use Rattle.std.proofs.Common.{◌≡◌, ℕ, zero, suc, ◌+◌, List, [], ◌∷◌, ◌++◌, Bool, true, false, Option, Some, None, refl, sym, ap, subst, ◌∙◌, arith, inl, inr, ⊎_elim, true≢false}
-use Rattle.std.specs.Prelude.{◌&&◌, not, nat_eq, map, flat_map, filter, take, drop, slice_get, unwrap_or, option_map, if◌then◌else◌, cond, is_none}
+use Rattle.std.specs.Prelude.{◌&&◌, not, nat_eq, map, flat_map, filter, take, drop, slice_get, unwrap_or, option_map, if◌then◌else◌, cond}
 use Rattle.std.specs.List.{list_all}
 use Rattle.std.specs.Option.{option_or}
 use Rattle.std.proofs.Math.Path.{ap₂}
@@ -23,7 +23,7 @@ use Rattle.ms_ir.specs.Written.{Mention, targets}
 use Rattle.ms_ir.specs.Locals.{Spelled, locals, block_locals, results, value_type, block_names, block_name_at}
 use Rattle.ms_valid.specs.NamesKnown.{knows, spelled, unknown_of}
 use Rattle.ms_ir.specs.Spots.{spot}
-use Rattle.ms_valid.specs.TypesAgree.{operand_fits, is_type, is_variable, first_misfit, first_misstep, leads_into, number_or_zero, constant_indices, fault_unless, cast_allows, differ, returns_fit, op_fault, argument_fault, printf_fault, is_printable, is_printf, call_fault}
+use Rattle.ms_valid.specs.TypesAgree.{operand_fits, is_type, is_variable, first_misfit, first_misstep, leads_into, number_or_zero, step_fits, fault_unless, cast_allows, differ, returns_fit, op_fault, argument_fault, printf_fault, is_printable, is_printf, call_fault}
 use Rattle.ms_valid.specs.PhisFit.{count_name, edges_between, edges_agree, edges_fit}
 use Rattle.ms_tasks.specs.Environments.{Env, Given}
 use Rattle.ms_ir.specs.declared.syntax.Inst.{Inst}
@@ -279,13 +279,11 @@ fits_kept_by m j typed more types variables values t (operand.Global x) e = by_t
     by_tests true true s l h = ap₂ (λ a b. a && b) s (variables x l)
     by_tests true false s l h = grind arith
     by_tests false d s l h = grind arith
-fits_kept_by m j typed more types variables values t (operand.Offset u x is) e = by_tests (type_eq t Ptr) (is_variable m x) refl refl e
+fits_kept_by m j typed more types variables values t (operand.Offset x steps) e = by_tests (type_eq t Ptr) (is_variable m x) refl refl e
   where
-    by_tests : (c d : Bool) → type_eq t Ptr ≡ c → is_variable m x ≡ d → (c && d && is_none (first_misstep (λ i. true) m.types u 0 (drop 1 (constant_indices is)))) ≡ true
-        → (type_eq t Ptr && is_variable j x && is_none (first_misstep (λ i. true) j.types u 0 (drop 1 (constant_indices is)))) ≡ true
-    by_tests true true s l h =
-        ap₂ (λ a b. a && b && is_none (first_misstep (λ i. true) j.types u 0 (drop 1 (constant_indices is)))) s (variables x l)
-        ∙ ap (λ ts. is_none (first_misstep (λ i. true) ts u 0 (drop 1 (constant_indices is)))) types ∙ h
+    by_tests : (c d : Bool) → type_eq t Ptr ≡ c → is_variable m x ≡ d → (c && d && list_all (step_fits m.types) steps) ≡ true
+        → (type_eq t Ptr && is_variable j x && list_all (step_fits j.types) steps) ≡ true
+    by_tests true true s l h = ap₂ (λ a b. a && b && list_all (step_fits j.types) steps) s (variables x l) ∙ ap (λ ts. list_all (step_fits ts) steps) types ∙ h
     by_tests true false s l h = grind arith
     by_tests false d s l h = grind arith
 fits_kept_by m j typed more types variables values t _ e = refl

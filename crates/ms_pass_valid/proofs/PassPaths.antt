@@ -341,7 +341,7 @@ module _ (given : Given) (env : Env) where
   before_sets i x v e k c h n q w m =
       let ts = tracked env h.root (operands i.op) in
       let cs = check_tasks h.site ts (uses given.func h.main i.op) in
-      let bs = blind_tasks (blinded_of i.op ts) in
+      let bs = blind_tasks (blinded_of given.func i.op ts) in
       let rs = result_tasks given.func env i.result i.op ts in
       let hs = hand_tasks given.func h.main i.op ts in
       let ss = save_tasks given.func n i.op ts in

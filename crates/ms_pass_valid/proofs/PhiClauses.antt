@@ -14,7 +14,7 @@ use Rattle.ms_ir.specs.declared.syntax.Func.{Func}
 use Rattle.ms_ir.specs.declared.syntax.Module.{Module}
 use Rattle.ms_ir.specs.Names.{name_eq}
 use Rattle.ms_ir.specs.Code.{block_index}
-use Rattle.ms_ir.specs.Equal.{has_name, indices_eq, operand_eq}
+use Rattle.ms_ir.specs.Equal.{Step, has_name, indices_eq, steps_eq, operand_eq}
 use Rattle.ms_ir.specs.Written.{OfLocal, operand_mentions, mentions}
 use Rattle.ms_ir.specs.Locals.{locals, value_type, block_names}
 use Rattle.ms_valid.specs.NamesKnown.{unknown_of}
@@ -45,6 +45,10 @@ indices_same : (is : List (Ty × ℕ)) → indices_eq is is ≡ true
 indices_same [] = refl
 indices_same (i ∷ is) = ap₂ (λ a b. a && b) (ap₂ (λ a b. a && b) (type_same i.0) (eq-eqb i.1 i.1 refl)) (indices_same is)
 
+steps_same : (ss : List Step) → steps_eq ss ss ≡ true
+steps_same [] = refl
+steps_same (s ∷ ss) = ap₂ (λ a b. a && b) (ap₂ (λ a b. a && b) (type_same s.0) (indices_same s.1)) (steps_same ss)
+
 pub operand_same : (o : Operand) → operand_eq o o ≡ true
 operand_same (operand.Int n) = eq-eqb n n refl
 operand_same operand.Null = refl
@@ -52,7 +56,7 @@ operand_same operand.Undef = refl
 operand_same operand.Poison = refl
 operand_same (operand.Local x) = name_same x
 operand_same (operand.Global x) = name_same x
-operand_same (operand.Offset t x is) = ap₂ (λ a b. a && b) (ap₂ (λ a b. a && b) (type_same t) (name_same x)) (indices_same is)
+operand_same (operand.Offset x steps) = ap₂ (λ a b. a && b) (name_same x) (steps_same steps)
 
 pub mask_same : (env : Env) (w : ℕ) (a b : Operand) → operand_eq a b ≡ true → mask_operand env w a ≡ mask_operand env w b
 mask_same env w (operand.Local x) (operand.Local y) e = ap (local_mask env) (name_sound x y e)
@@ -63,7 +67,7 @@ mask_same env w operand.Poison operand.Poison e = refl
 mask_same env w (operand.Int m) (operand.Int k) e = refl
 mask_same env w operand.Null operand.Null e = refl
 mask_same env w (operand.Global x) (operand.Global y) e = refl
-mask_same env w (operand.Offset t x is) (operand.Offset u y js) e = refl
+mask_same env w (operand.Offset x ss) (operand.Offset y ts) e = refl
 mask_same env w a b e = absurd (true≢false (sym e))
 
 masks_agree_with : (env : Env) (w : ℕ) (e : Operand × Name) (es : List (Operand × Name)) → list_all (λ d. not (name_eq d.1 e.1) || operand_eq d.0 e.0) es ≡ true

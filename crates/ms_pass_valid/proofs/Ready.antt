@@ -1,6 +1,7 @@
 -- What validity and form of a module give at each of its instructions, so that code can be inserted round it.
-use Rattle.std.proofs.Common.{◌≡◌, ℕ, ◌+◌, List, [], ◌∷◌, ◌++◌, Bool, true, false, Option, Some, None, refl, sym, ap, ◌∙◌, arith, true≢false, zero, suc, ◌^◌, ◌<◌}
-use Rattle.std.specs.Prelude.{◌&&◌, All, map, flat_map, drop, length, is_none, slice_get, if◌then◌else◌}
+use Rattle.std.proofs.Common.{◌≡◌, ℕ, ◌+◌, List, [], ◌∷◌, ◌++◌, Bool, true, false, Option, Some, None, refl, sym, ap, ◌∙◌, arith, true≢false, suc, ◌^◌, ◌<◌}
+use Rattle.std.specs.Prelude.{◌&&◌, All, map, flat_map, drop, length, slice_get, if◌then◌else◌}
+use Rattle.std.specs.List.{list_all}
 use Rattle.std.proofs.Math.Path.{ap₂}
 use Rattle.std.proofs.lemmas.Bool.{eqb-true, and_parts}
 use Rattle.ms_bits.specs.declared.operations.BinOp.{BinOp}
@@ -14,18 +15,18 @@ use Rattle.ms_ir.specs.declared.syntax.Op.TheVariants as op
 use Rattle.ms_ir.specs.declared.syntax.Func.{Func}
 use Rattle.ms_ir.specs.declared.syntax.Module.{Module}
 use Rattle.ms_ir.specs.declared.calls.External.{External}
-use Rattle.ms_ir.specs.declared.calls.External.TheVariants.{Malloc, Calloc, Realloc, Free, Memcpy, Memmove, Memset, Memcmp, Strlen, Putchar, Puts, Getchar, Read, Write, Exit, Abort, LlvmMemcpy, LlvmMemmove, LlvmMemset, LifetimeStart, LifetimeEnd, Printf}
-use Rattle.ms_ir.specs.Signatures.{external_signature, called_params}
+use Rattle.ms_ir.specs.declared.calls.External.TheVariants.{Malloc, Calloc, Realloc, Free, Memcpy, Memmove, Memset, Memcmp, Strlen, Putchar, Puts, Getchar, Read, Write, Exit, Abort, LlvmMemcpy, LlvmMemmove, LlvmMemset, LifetimeStart, LifetimeEnd, Printf, LlvmTrap, LlvmAssume, LlvmObjectSize, Word}
+use Rattle.ms_ir.specs.Signatures.{called_params}
 use Rattle.ms_ir.specs.Code.{operands, block_index, count_undefs, one_undef, external_named}
 use Rattle.ms_runs.specs.Uses.{uses, external_uses, callee_uses, Use, Asked, value_uses, string_uses}
-use Rattle.ms_ir.specs.Equal.{type_eq}
+use Rattle.ms_ir.specs.Equal.{Step, type_eq}
 use Rattle.ms_ir.specs.Written.{Mention, OfType, OfLocal, OfGlobal, type_mentions, row_mentions, operand_mentions, operand_types, result_type}
 use Rattle.ms_ir.specs.Locals.{locals, value_type}
 use Rattle.ms_valid.specs.NamesKnown.{unknown_of}
 use Rattle.ms_ir.specs.Spots.{spot}
 use Rattle.ms_valid.specs.Paths.{insts_of}
 use Rattle.ms_valid.specs.UsesDefined.{IsUseDefined, operand_use, edge_use}
-use Rattle.ms_valid.specs.TypesAgree.{operand_fits, is_type, is_variable, first_misstep, constant_indices}
+use Rattle.ms_valid.specs.TypesAgree.{operand_fits, is_type, is_variable, step_fits}
 use Rattle.ms_valid.specs.FormedCode.{is_value_type, operand_formed}
 use Rattle.ms_valid.specs.SizesFit.{sized}
 use Rattle.ms_valid.proofs.AtInstructions.{all_parts}
@@ -71,6 +72,10 @@ mutual
   row_outer end_of-Ty = tt
   row_outer (more_of-Ty t ts) = outer_append (type_mentions t) (row_mentions ts) (type_outer t) (row_outer ts)
 
+steps_outer : (steps : List Step) → Outer (flat_map (λ s. type_mentions s.0) steps)
+steps_outer [] = tt
+steps_outer (s ∷ inner) = outer_append (type_mentions s.0) (flat_map (λ i. type_mentions i.0) inner) (type_outer s.0) (steps_outer inner)
+
 module _ (m j : Module) (a : ModuleReady m j) where
   outer_kept : (names more : List Name) (s k : ℕ) (xs : List Mention) → Outer xs → unknown_of m names s xs ≡ [] → unknown_of j more k xs ≡ []
   outer_kept names more s k [] o e = refl
@@ -111,20 +116,18 @@ module _ (m j : Module) (a : ModuleReady m j) where
       sized_in = ap (λ ts. sized ts (t ∷ [])) a.types ∙ k.sizes;
     }
 
-    const_offset : (t u : Ty) (x : Name) (is : List (Ty × ℕ)) → Found t (operand.Offset u x is) → ConstGood j t (operand.Offset u x is)
-    const_offset t u x is k = record {
+    const_offset : (t : Ty) (x : Name) (steps : List Step) → Found t (operand.Offset x steps) → ConstGood j t (operand.Offset x steps)
+    const_offset t x steps k = record {
       fits = λ typed. three k.fits;
-      known = λ names site. outer_kept (locals f) names s site (operand_mentions (operand.Offset u x is)) (outer_append (type_mentions u) (OfGlobal x ∷ []) (type_outer u) tt) k.known;
+      known = λ names site. outer_kept (locals f) names s site (operand_mentions (operand.Offset x steps)) (outer_append (flat_map (λ s. type_mentions s.0) steps) (OfGlobal x ∷ []) (steps_outer steps) tt) k.known;
       formed = k.formed;
-      sized_in = ap (λ ts. sized ts (t ∷ operand_types (operand.Offset u x is))) a.types ∙ k.sizes;
+      sized_in = ap (λ ts. sized ts (t ∷ operand_types (operand.Offset x steps))) a.types ∙ k.sizes;
     }
       where
-        three : (type_eq t Ptr && is_variable m x && is_none (first_misstep (λ i. true) m.types u 0 (drop 1 (constant_indices is)))) ≡ true
-            → (type_eq t Ptr && is_variable j x && is_none (first_misstep (λ i. true) j.types u 0 (drop 1 (constant_indices is)))) ≡ true
+        three : (type_eq t Ptr && is_variable m x && list_all (step_fits m.types) steps) ≡ true → (type_eq t Ptr && is_variable j x && list_all (step_fits j.types) steps) ≡ true
         three e =
-            let q = and_parts (type_eq t Ptr && is_variable m x) (is_none (first_misstep (λ i. true) m.types u 0 (drop 1 (constant_indices is)))) e in
-            ap₂ (λ x y. x && y) (both_kept t (is_variable m x) (is_variable j x) q.0 (a.variable x))
-            (ap (λ ts. is_none (first_misstep (λ i. true) ts u 0 (drop 1 (constant_indices is)))) a.types ∙ q.1)
+            let q = and_parts (type_eq t Ptr && is_variable m x) (list_all (step_fits m.types) steps) e in
+            ap₂ (λ x y. x && y) (both_kept t (is_variable m x) (is_variable j x) q.0 (a.variable x)) (ap (λ ts. list_all (step_fits ts) steps) a.types ∙ q.1)
 
     const_plain : (t : Ty) (o : Operand) → ((typed : Name → Option Ty) → operand_fits j typed t o ≡ true) → operand_mentions o ≡ [] → Found t o → ConstGood j t o
     const_plain t o fits none k = record {
@@ -141,7 +144,7 @@ module _ (m j : Module) (a : ModuleReady m j) where
     operand_good t operand.Undef k u = const_plain t operand.Undef (λ typed. refl) refl k
     operand_good t operand.Poison k u = const_plain t operand.Poison (λ typed. refl) refl k
     operand_good t (operand.Global x) k u = const_global t x k
-    operand_good t (operand.Offset v x is) k u = const_offset t v x is k
+    operand_good t (operand.Offset x steps) k u = const_offset t x steps k
 
     abbrev pub AllFound : List (Ty × Operand) → Type 0
     AllFound [] = Unit {0}
@@ -162,7 +165,7 @@ module _ (m j : Module) (a : ModuleReady m j) where
     edge_good t operand.Undef from k u = const_plain t operand.Undef (λ typed. refl) refl k
     edge_good t operand.Poison from k u = const_plain t operand.Poison (λ typed. refl) refl k
     edge_good t (operand.Global x) from k u = const_global t x k
-    edge_good t (operand.Offset v x is) from k u = const_offset t v x is k
+    edge_good t (operand.Offset x steps) from k u = const_offset t x steps k
 
     pub edges_good : (t : Ty) (es : List (Operand × Name)) → AllFound (map (λ e. (t, e.0)) es) → All IsUseDefined (flat_map (edge_use (spot f b p s)) es) → EdgesGood f (ConstGood j) t es
     edges_good t [] k u = tt
@@ -239,6 +242,10 @@ small_uses given main (op.Call r x as') g = by_name (external_named given.func x
     by_external LlvmMemset t l = ((omega arith, omega arith), ((omega arith, omega arith), tt))
     by_external LifetimeStart t l = ((omega arith, omega arith), ((omega arith, omega arith), tt))
     by_external LifetimeEnd t l = ((omega arith, omega arith), ((omega arith, omega arith), tt))
+    by_external LlvmTrap t l = tt
+    by_external LlvmAssume t l = ((omega arith, omega arith), tt)
+    by_external LlvmObjectSize t l = ((omega arith, omega arith), tt)
+    by_external (Word f n) t l = tt
     by_external Printf t l =
         let f : TypeAt as' 0 Ptr = ap (λ l. slice_get l 0) t in
         ((omega arith, omega arith), (f, small_values as' 1 (drop 1 as') (string_uses 1 (drop 1 as')) (fewer as' l) (small_strings as' 1 (drop 1 as') (fewer as' l) f (next_type as'))))

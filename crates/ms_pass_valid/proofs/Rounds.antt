@@ -21,11 +21,17 @@ use Rattle.ms_ir.specs.Written.{result_type}
 use Rattle.ms_ir.specs.Signatures.{external_signature, called_params}
 use Rattle.ms_ir.specs.declared.calls.External.{External}
 use Rattle.ms_ir.specs.declared.calls.External.TheVariants.{Malloc, Realloc, Memcpy, Memmove, Memset, Read, LlvmMemcpy, LlvmMemmove, LlvmMemset, LifetimeStart}
-use Rattle.ms_runs.specs.Uses.{Use, Word, Bytes, Line, uses, has_flag, Asked}
+use Rattle.ms_runs.specs.Uses.{Use, Word, Bytes, Line, uses, has_flag, has_true_flag, flagged_words, Asked}
 use Rattle.ms_valid.specs.FormedCode.{is_int_type, is_value_type}
 use Rattle.ms_tasks.specs.Tasks.{msan_name, mask_name, origin_name, Expr, Leaf, Task, Sets, Fetches, Puts, Calls}
 use Rattle.ms_tasks.specs.Environments.{Env, Given, Tracked, mask_type, tracked, tracked_at, mask_of, origin_of, word_of, bits_of, widened, number, is_zero}
-use Rattle.ms_tasks.specs.ResultMasks.{mask_expr, origin_expr, first_last}
+use Rattle.ms_tasks.specs.ResultMasks.{word_expr, answer_expr, mask_expr, answer_origin_expr, origin_expr, first_last}
+use Rattle.ms_bits.specs.WordFunctions.{is_flagged}
+use Rattle.ms_bits.specs.WordFunctions.{bits_of as width_bits}
+use Rattle.ms_bits_laws.proofs.WordAgreement.{width_some}
+use Rattle.ms_ir.specs.declared.calls.External.TheVariants as called
+use Rattle.ms_ir.specs.Names.{lookup, externals}
+use Rattle.ms_pass_valid.proofs.WordTypes.{width_int, typed_at, word_typed}
 use Rattle.ms_tasks.specs.ResultTasks.{result_width, called_tasks, shift_task, word_tasks, binary_tasks, shadow_address, define_tasks, result_tasks}
 use Rattle.ms_tasks.specs.CheckTasks.{memory_task, string_task, check_task, use_tasks, check_tasks, blind_binary_of, blinded_of, all_zero, union_masks, blind_tasks, format_task}
 use Rattle.ms_tasks.specs.PlaneTasks.{saves, saved_by, saved_tasks, poison_task, copy_task, fill_task, external_tasks, callee_tasks, plane_tasks, save_tasks}
@@ -185,12 +191,18 @@ module _ (C : Ty → Operand → Type 0) where
   blind_binary_tracked K binary.Or ts p = tt
   blind_binary_tracked K binary.Xor ts p = tt
 
-  blinded_tracked : (K : Name → Ty → Type 0) (o : Op) (ts : List Tracked) → AllTracked K C ts → AllTracked K C (blinded_of o ts)
-  blinded_tracked K (op.Binary o f t a b) ts p = if_tracked K (has_flag f) ts (blind_binary_of o ts) p (blind_binary_tracked K o ts p)
-  blinded_tracked K (op.Icmp q f t a b) ts p = if_tracked K (has_flag f) ts [] p tt
-  blinded_tracked K (op.Cast o f t a u) ts p = if_tracked K (has_flag f) ts [] p tt
-  blinded_tracked K (op.Freeze t a) ts p = p
-  blinded_tracked K _ ts p = tt
+  blinded_tracked : (K : Name → Ty → Type 0) (func : Name → Option ℕ) (o : Op) (ts : List Tracked) → AllTracked K C ts → AllTracked K C (blinded_of func o ts)
+  blinded_tracked K func (op.Binary o f t a b) ts p = if_tracked K (has_flag f) ts (blind_binary_of o ts) p (blind_binary_tracked K o ts p)
+  blinded_tracked K func (op.Icmp q f t a b) ts p = if_tracked K (has_flag f) ts [] p tt
+  blinded_tracked K func (op.Cast o f t a u) ts p = if_tracked K (has_flag f) ts [] p tt
+  blinded_tracked K func (op.Freeze t a) ts p = p
+  blinded_tracked K func (op.Call r x as') ts p = if_tracked K (has_true_flag as') (flagged_words (external_named func x) ts) [] (by_external (external_named func x)) tt
+    where
+      by_external : (e : Option External) → AllTracked K C (flagged_words e ts)
+      by_external None = tt
+      by_external (Some (called.Word f n)) = if_tracked K (is_flagged f) (take 1 ts) [] (take_tracked K 1 ts p) tt
+      by_external (Some e) = tt
+  blinded_tracked K func _ ts p = tt
 
   blind_fits : (K : Name → Ty → Type 0) (ts : List Tracked) → AllTracked K C ts → TasksFit K C (blind_tasks ts)
   blind_fits K ts p = unless_zero K (all_zero ts) (Calls None function.Blind ((Int 64, union_masks ts) ∷ []))
@@ -318,17 +330,38 @@ module _ (C : Ty → Operand → Type 0) where
             tt,
           ),
         )
-    define_fits v (op.Call r x as') g p = by_own (is_some (given.func x))
+    define_fits v (op.Call r x as') g p = by_own (is_some (given.func x)) refl
       where
         answer : (q : Option Ty) → ((t : Ty) → q ≡ Some t → is_value_type t ≡ true) → IsInt (Int (result_width (op.Call q x as')))
         answer None h = refl
         answer (Some t) h = wide t (h t refl)
 
-        by_own : (b : Bool) → TasksFit K C (called_tasks b v (op.Call r x as') (tracked env root as'))
-        by_own true = tt
-        by_own false =
+        ts : List Tracked
+        ts = tracked env root as'
+
+        Fits : Option External → Option Ty → Type 0
+        Fits e q = TasksFit K C (Sets (origin_name v) (Int 32) (answer_origin_expr e (tracked env root as')) ∷ Sets (mask_name v) (Int (result_width (op.Call q x as'))) (answer_expr e (tracked env root as')) ∷ [])
+
+        types : (root : ℕ) (os : List (Ty × Operand)) → map (λ a. a.ty) (tracked env root os) ≡ map (λ a. a.0) os
+        types root [] = refl
+        types root (o ∷ os) = ap (λ l. o.0 ∷ l) (types (root + one_undef o.1) os)
+
+        by_external : (e : Option External) → external_named given.func x ≡ e → Fits e r
+        by_external None named =
             let w = result_width (op.Call r x as') in let i = answer r g.value in
             two_sets v (Int w) (number 0) (number 0) i refl (no_bits w i)
+        by_external (Some (called.Word f n)) named =
+            let its = g.outside (called.Word f n) named in
+            subst (Fits (Some (called.Word f n))) (sym its.1)
+            (two_sets v (Int (width_bits n)) (first_last ts) (word_expr f (width_bits n) (tracked_at 0 ts) (tracked_at 1 ts) (tracked_at 2 ts)) (width_int n) (first_last_typed C K ts p)
+            (word_typed C K (width_bits n) (width_int n) (omega (arith, width_some n)) ts f (λ k t e. typed_at C K k ts t p (ap (λ l. slice_get l k) (types root as' ∙ its.0) ∙ e))))
+        by_external (Some e) named =
+            let w = result_width (op.Call r x as') in let i = answer r g.value in
+            two_sets v (Int w) (number 0) (number 0) i refl (no_bits w i)
+
+        by_own : (b : Bool) → is_some (given.func x) ≡ b → TasksFit K C (called_tasks b v (op.Call r x as') (tracked env root as'))
+        by_own true own = tt
+        by_own false own = by_external (lookup externals x) (ap (λ b. if b then None else lookup externals x) own)
     define_fits v _ g p = tt
 
     result_fits : (x : Option Name) (o : Op) → OpGood given o → AllTracked K C (tracked env root (operands o)) → TasksFit K C (result_tasks given.func env x o (tracked env root (operands o)))
@@ -562,7 +595,7 @@ module _ (C : Ty → Operand → Type 0) where
         let ts = tracked env h.root (operands i.op) in
         let hs = hand_tasks given.func h.main i.op ts in
         let cs = check_tasks h.site ts (uses given.func h.main i.op) in
-        let bs = blind_tasks (blinded_of i.op ts) in
+        let bs = blind_tasks (blinded_of given.func i.op ts) in
         let rs = result_tasks given.func env i.result i.op ts in
         let ss = save_tasks given.func saved i.op ts in
         apart K hs (cs ++ (bs ++ (rs ++ ss)))
@@ -570,7 +603,7 @@ module _ (C : Ty → Operand → Type 0) where
         (λ L0 more0. apart L0 cs (bs ++ (rs ++ ss))
         (checks_fit (uses given.func h.main i.op) L0 h.site env h.root (operands i.op) (all_tracked_more K L0 more0 ts q) s u)
         (λ L more. apart L bs (rs ++ ss)
-        (blind_fits L (blinded_of i.op ts) (blinded_tracked L i.op ts (all_tracked_more K L (λ x t k. more x t (more0 x t k)) ts q)))
+        (blind_fits L (blinded_of given.func i.op ts) (blinded_tracked L given.func i.op ts (all_tracked_more K L (λ x t k. more x t (more0 x t k)) ts q)))
         (λ M further. apart M rs ss
         (tasks_more C K M (λ x t k. further x t (more x t (more0 x t k))) rs
         (subst (λ r. TasksFit K C (result_tasks given.func env i.result i.op (tracked env r (operands i.op)))) (sym same) (result_fits i.result i.op g p)))

@@ -67,7 +67,7 @@ module _ (types : Types) where
     operand_sized t operand.Undef s k = s
     operand_sized t operand.Poison s k = s
     operand_sized t (operand.Global x) s k = s
-    operand_sized t (operand.Offset u x is) s k = ap (λ ts. sized ts (t ∷ operand_types (operand.Offset u x is))) (sym same) ∙ k.sized_in
+    operand_sized t (operand.Offset x steps) s k = ap (λ ts. sized ts (t ∷ operand_types (operand.Offset x steps))) (sym same) ∙ k.sized_in
 
     operands_sized : (os : List (Ty × Operand)) → TypesSized (map (λ o. o.0) os) → OperandsFit K (ConstGood j) os → sized types (flat_map (λ o. o.0 ∷ operand_types o.1) os) ≡ true
     operands_sized [] s k = refl

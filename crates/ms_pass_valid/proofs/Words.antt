@@ -108,7 +108,7 @@ module _ (C : Ty → Operand → Type 0) (K : Name → Ty → Type 0) where
   own_fits env t operand.Undef k = k
   own_fits env t operand.Poison k = k
   own_fits env t (operand.Global x) k = k
-  own_fits env t (operand.Offset u x is) k = k
+  own_fits env t (operand.Offset x steps) k = k
 
   pub tracked_fits : (env : Env) (root : ℕ) (os : List (Ty × Operand)) → root + count_undefs os < 2 ^ 32 → OperandsKnown env K C os → AllTracked K C (tracked env root os)
   tracked_fits env root [] h k = tt
@@ -177,7 +177,7 @@ module _ (C : Ty → Operand → Type 0) (K : Name → Ty → Type 0) where
     eq_typed v m u k p q r s =
         (refl, refl, (refl, i, (refl, i, (refl, i, p, r), (refl, i, q, s)), (refl, i, q, s)), set_typed w (Two Or (Int w) m k) i (refl, i, q, s))
 
-    turned_typed : (v : Expr) → Typed K C (Int w) v → Typed K C (Int w) (turned_expr w v)
+    pub turned_typed : (v : Expr) → Typed K C (Int w) v → Typed K C (Int w) (turned_expr w v)
     turned_typed v p = (refl, i, p, number_fits w (2 ^ (w - 1)) i (half_less w (some w i)))
       where
         some : (n : ℕ) → is_int_type (Int n) ≡ true → 0 < n

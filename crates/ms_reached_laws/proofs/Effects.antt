@@ -3,21 +3,22 @@ use Rattle.std.proofs.Common.{◌≡◌, ℕ, ◌+◌, ◌-◌, ◌*◌, ◌%◌
 use Rattle.std.proofs.lemmas.Bool.{and_parts, ne_eqb, le-leb}
 use Rattle.ms_bits.specs.declared.traps.Trap.{Trap}
 use Rattle.ms_bits.specs.declared.traps.Trap.TheVariants as trap
+use Rattle.ms_bits.specs.WordFunctions.{bits_of, word_answer}
 use Rattle.ms_bits.specs.Maps.{byte_of, bytes_at}
 use Rattle.ms_ir.specs.declared.syntax.Name.{Name}
 use Rattle.ms_ir.specs.declared.syntax.Ty.{Ty}
 use Rattle.ms_ir.specs.declared.syntax.Op.{Op}
 use Rattle.ms_ir.specs.declared.syntax.Op.TheVariants as op
 use Rattle.ms_ir.specs.declared.calls.External.{External}
-use Rattle.ms_ir.specs.declared.calls.External.TheVariants.{Malloc, Calloc, Realloc, Free, Memcpy, Memmove, Memset, Memcmp, Strlen, Putchar, Puts, Getchar, Read, Write, Exit, Abort, LlvmMemcpy, LlvmMemmove, LlvmMemset, LifetimeStart, LifetimeEnd, Printf}
+use Rattle.ms_ir.specs.declared.calls.External.TheVariants.{Malloc, Calloc, Realloc, Free, Memcpy, Memmove, Memset, Memcmp, Strlen, Putchar, Puts, Getchar, Read, Write, Exit, Abort, LlvmMemcpy, LlvmMemmove, LlvmMemset, LifetimeStart, LifetimeEnd, Printf, LlvmTrap, LlvmAssume, LlvmObjectSize, Word}
 use Rattle.ms_runs.specs.declared.runs.Origin.TheVariants.{Root, Chain}
 use Rattle.ms_ir.specs.Layout.{stored_size, size_in}
 use Rattle.ms_ir.specs.Areas.{Heap, Stack, area_base, room}
-use Rattle.ms_runs.specs.World.{World, Setting, Here, Effect, Gives, Does, Goes, Enters, Leaves, Ends, traps, stuck, word}
+use Rattle.ms_runs.specs.World.{World, Setting, Here, Effect, Gives, Does, Goes, Enters, Leaves, Ends, traps, stuck, word, gives}
 use Rattle.ms_runs.specs.Memory.{used, fits, next_base, is_good, heap_size, store_number, set_shadow, set_cells, copy_bytes, copy_shadow, make_unset}
 use Rattle.ms_ir.specs.Code.{external_named, is_root, makes_unset}
 use Rattle.ms_runs.specs.Externals.{malloc, reallocated, realloc, where_good, string_at, output_limit, printed, next_byte, external, formatted, prints}
-use Rattle.ms_runs.specs.Act.{act, gives, alloca, store}
+use Rattle.ms_runs.specs.Act.{act, alloca, store}
 use Rattle.ms_runs.specs.Origins.{trail_within, poison, unpoison, copy_planes, store_origin}
 use Rattle.ms_runs.specs.Poisoned.{Poisoned}
 use Rattle.ms_runs.specs.Masks.{word_at}
@@ -152,6 +153,10 @@ module _ (site root told : ℕ → Type 0) (s : Setting) where
   prints_kept at (Ok bs) w = printed_kept at bs (length bs) w
   prints_kept at (Err t) w = refl
 
+  answers_kept : (at : ℕ) (r : Result ℕ Trap) (w : World) → KeptAfter w (gives at r w)
+  answers_kept at (Ok v) w = itself w
+  answers_kept at (Err t) w = refl
+
   external_kept : (at : ℕ) (e : External) (ts : List Ty) (vs : List ℕ) (w : World) → KeptAfter w (external s at e ts vs w)
   external_kept at Malloc ts vs w = malloc_kept s.fill (word 0 vs) w
   external_kept at Calloc ts vs w = either_after (ltb (word 0 vs * word 1 vs) (2 ^ 64) && fits Heap (word 0 vs * word 1 vs) w) w _ _
@@ -175,7 +180,11 @@ module _ (site root told : ℕ → Type 0) (s : Setting) where
   external_kept at LlvmMemset ts vs w = good_kept at (word 0 vs) (word 2 vs) w _ (refl, λ b. b)
   external_kept at LifetimeStart ts vs w = good_kept at (word 1 vs) (word 0 vs) w _ (refl, λ b. b)
   external_kept at LifetimeEnd ts vs w = itself w
+  external_kept at LlvmTrap ts vs w = refl
+  external_kept at LlvmAssume ts vs w = either_after (eqb (word 0 vs) 0) w _ _ (λ e. refl) (itself w)
+  external_kept at LlvmObjectSize ts vs w = itself w
   external_kept at Printf ts vs w = prints_kept at (formatted w ts vs) w
+  external_kept at (Word f n) ts vs w = answers_kept at (word_answer f (bits_of n) (word 0 vs) (word 1 vs) (word 2 vs)) w
 
   -- ---- shadow and origins after it
 

@@ -46,7 +46,7 @@ module _ (s : Setting) (values : Name → Poisoned) (back : ℕ → Type 0) (hol
   read_holds n t (operand.Int v) h ne = absurd (ne refl)
   read_holds n t operand.Null h ne = absurd (ne refl)
   read_holds n t (operand.Global x) h ne = absurd (ne refl)
-  read_holds n t (operand.Offset u x ix) h ne = absurd (ne refl)
+  read_holds n t (operand.Offset x steps) h ne = absurd (ne refl)
 
   -- the words of an instruction's operands, whose undefined ones are roots of this kind
   pub all_hold : (os : List (Ty × Operand)) (n : ℕ) → ((id : ℕ) → n < id → id ≤ n + count_undefs os → back id) → (k : ℕ) → Holds back (word_at k (read_all (read_poisoned s values) os n))
@@ -69,7 +69,7 @@ module _ (s : Setting) (values : Name → Poisoned) (back : ℕ → Type 0) (hol
       root_is (operand.Int v) e = grind arith
       root_is operand.Null e = grind arith
       root_is (operand.Global x) e = grind arith
-      root_is (operand.Offset u x ix) e = grind arith
+      root_is (operand.Offset x steps) e = grind arith
 
       by_test : (b : Bool)
           → ((id : ℕ) → 0 < id → id ≡ (if b then edge_root n e.0 else read_edge (λ j u o. edge_root j o) 0 t from es (n + one_undef e.0)) → n < id → id ≤ n + (one_undef e.0 + count_undefs (map (λ d. (t, d.0)) es)) → back id)

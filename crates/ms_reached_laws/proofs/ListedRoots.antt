@@ -39,7 +39,7 @@ undefs_have site ((t, operand.Int v) ∷ rest) = undefs_have site rest
 undefs_have site ((t, operand.Null) ∷ rest) = undefs_have site rest
 undefs_have site ((t, operand.Local x) ∷ rest) = undefs_have site rest
 undefs_have site ((t, operand.Global x) ∷ rest) = undefs_have site rest
-undefs_have site ((t, operand.Offset u x ix) ∷ rest) = undefs_have site rest
+undefs_have site ((t, operand.Offset x steps) ∷ rest) = undefs_have site rest
 
 call_has : (site : ℕ) (o : Option External) → HaveSite site (call_roots site o)
 call_has site None = tt

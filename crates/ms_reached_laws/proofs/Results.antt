@@ -1,5 +1,5 @@
 -- Results with a poisoned bit have an origin that leads back.
-use Rattle.std.proofs.Common.{◌≡◌, ◌⊎◌, inl, inr, ℕ, zero, suc, ◌+◌, ◌*◌, ◌/◌, ◌%◌, ◌^◌, ◌<◌, ◌≤◌, ⊎_elim, List, [], ◌∷◌, map, Bool, true, false, not, ◌||◌, eqb, refl, sym, ap, ◌∙◌, subst, arith, pow-suc, if◌then◌else◌, true≢false, pow_mono, pow_pos}
+use Rattle.std.proofs.Common.{◌≡◌, ◌⊎◌, inl, inr, ℕ, zero, suc, ◌+◌, ◌*◌, ◌/◌, ◌%◌, ◌^◌, ◌<◌, ◌≤◌, ⊎_elim, List, [], ◌∷◌, map, Bool, true, false, not, ◌||◌, eqb, Option, Some, None, refl, sym, ap, ◌∙◌, subst, arith, pow-suc, if◌then◌else◌, true≢false, pow_mono, pow_pos}
 use Rattle.std.specs.Int.{bit_at}
 use Rattle.std.proofs.lemmas.Bool.{eqb-true, eqb-false, cases_lt}
 use Rattle.std.proofs.lemmas.Nat.{mod_below}
@@ -19,15 +19,18 @@ use Rattle.ms_bits.specs.NoFlags.{no_flags}
 use Rattle.ms_ir.specs.Layout.{width_of, stored_size}
 use Rattle.ms_runs.specs.World.{World, Setting, Here, Effect, Gives, Does, Goes, Enters, Leaves, Ends, traps}
 use Rattle.ms_runs.specs.Memory.{is_good}
+use Rattle.ms_ir.specs.declared.calls.External.{External}
+use Rattle.ms_ir.specs.declared.calls.External.TheVariants.{Word}
+use Rattle.ms_ir.specs.Names.{lookup, externals}
 use Rattle.ms_ir.specs.Code.{operands, one_undef}
 use Rattle.ms_runs.specs.Control.{read_all}
 use Rattle.ms_runs.specs.Act.{act}
 use Rattle.ms_runs.specs.Origins.{origin_within, load_origin}
 use Rattle.ms_runs.specs.Poisoned.{Poisoned}
-use Rattle.ms_runs.specs.Masks.{Rules, value_or_zero, last_origin, select_origin}
+use Rattle.ms_runs.specs.Masks.{Rules, value_or_zero, last_origin, select_origin, word_at, answer_mask, as_result, answer_origin}
 use Rattle.ms_runs.specs.Shadow.{read_poisoned, poisoned_result}
 use Rattle.ms_clean_laws.specs.KeepClean.{KeepClean}
-use Rattle.ms_clean_laws.proofs.CleanResults.{NonePoisoned, binary_zero, cast_zero, address_zero, read_range}
+use Rattle.ms_clean_laws.proofs.CleanResults.{NonePoisoned, answer_zero, result_zero, binary_zero, cast_zero, address_zero, read_range}
 use Rattle.ms_reached_laws.proofs.Trails.{good_byte}
 use Rattle.ms_reached_laws.proofs.Worlds.{Back, Backed, NoneFree}
 use Rattle.ms_reached_laws.proofs.Effects.{WordBack, WordsBack}
@@ -189,7 +192,16 @@ module _ (site root told : ℕ → Type 0) (s : Setting) (d : Rules) (keep : Kee
   op_result h (op.Phi t edges) small w g bytes words = tt
   op_result h (op.Alloca t u c) small w g bytes words = any_result (op.Alloca t u c) w _ (λ v x ne. absurd (ne refl))
   op_result h (op.Store t v a) small w g bytes words = any_result (op.Store t v a) w _ (λ x u ne. absurd (ne refl))
-  op_result h (op.Call r x args) small w g bytes words = any_result (op.Call r x args) w _ (λ v u ne. absurd (ne refl))
+  op_result h (op.Call r x args) small w g bytes words = any_result (op.Call r x args) w _ (λ v u. by_external (lookup externals x))
+    where
+      ps : List Poisoned
+      ps = read_all (read_poisoned s values) args n
+
+      by_external : (e : Option External) → ¬ (as_result r (answer_mask e ps) ≡ 0) → Back site root s.roots w.pairs (answer_origin e ps)
+      by_external None ne = absurd (ne (result_zero r 0 refl))
+      by_external (Some (Word f k)) ne =
+          last_back site root s.roots w.pairs ps words (word_at 0 ps).origin (inr (λ none. ne (result_zero r (answer_mask (Some (Word f k)) ps) (answer_zero (Some (Word f k)) ps none))))
+      by_external (Some e) ne = absurd (ne (result_zero r 0 refl))
   op_result h (op.Br to) small w g bytes words = tt
   op_result h (op.CondBr c to other) small w g bytes words = tt
   op_result h (op.Switch t v other cases) small w g bytes words = tt

@@ -322,8 +322,8 @@ module _ (m : Module) (formed : Formed m) (valid : Valid m) (bare : NoMarks m) (
 
       checks_lead : (e : Effect) → Checked (HasRun m walk) (IsReached m walk) (IsTold m walk) given (λ k h. inl h) walk.state.world e → MovedLeads m walk (after_checks d given m i at words frame below e)
       checks_lead (Does u) h =
-          let more = counted (HasRun m walk) (IsReached m walk) (IsTold m walk) given (λ k h. inl h) (union (map (λ p. p.mask) (blinded i.op words))) u h.2 in
-          after_lead (count_blind (union (map (λ p. p.mask) (blinded i.op words))) u) (more.0 ∙ h.0, more.1 ∙ h.1, more.2)
+          let more = counted (HasRun m walk) (IsReached m walk) (IsTold m walk) given (λ k h. inl h) (union (map (λ p. p.mask) (blinded given.func i.op words))) u h.2 in
+          after_lead (count_blind (union (map (λ p. p.mask) (blinded given.func i.op words))) u) (more.0 ∙ h.0, more.1 ∙ h.1, more.2)
       checks_lead (Ends x u) h = (h.0, h.2)
       checks_lead (Gives v u) h = absurd h
       checks_lead (Goes to u) h = absurd h

@@ -1,16 +1,15 @@
 -- The rests of types, values and suffixes, behind the parts that were read.
-use Rattle.std.specs.Prelude.{ℕ, Bool, ◌||◌, List, [], ◌∷◌, ◌++◌}
+use Rattle.std.specs.Prelude.{ℕ, zero, suc, Bool, ◌||◌, List, [], ◌∷◌, ◌++◌}
 use Rattle.ms_lex.specs.Grammar.{give, ◌>>=◌, ◌>>◌}
-use Rattle.ms_ir.specs.declared.syntax.Name.{Name}
 use Rattle.ms_ir.specs.declared.syntax.Ty.{Ty}
 use Rattle.ms_ir.specs.declared.syntax.Ty.TheVariants as ty
-use Rattle.ms_ir.specs.declared.syntax.Operand.{Operand}
-use Rattle.ms_ir.specs.declared.syntax.Operand.TheVariants as operand
 use Rattle.ms_ir.specs.declared.forms.Form.{Form}
 use Rattle.ms_grammar.specs.declared.symbols.Symbol.TheVariants as s
-use Rattle.ms_grammar.specs.Steps.{Rule, word}
+use Rattle.ms_grammar.specs.declared.refusals.Refusal.TheVariants as r
+use Rattle.ms_grammar.specs.declared.refusals.Limit.TheVariants as limit
+use Rattle.ms_grammar.specs.Steps.{Rule, word, skip, stop}
 use Rattle.ms_grammar.specs.Names.{global}
-use Rattle.ms_grammar.specs.Values.{number, constant_indices}
+use Rattle.ms_grammar.specs.Values.{Address, number, constant_indices, step_from, base_to}
 use Rattle.ms_grammar.specs.Skipped.{balanced, in_parens, meta}
 
 -- type ']'
@@ -26,22 +25,31 @@ index_rest width found = do
   n ← number width
   give (found ++ (ty.Int width, n) ∷ [])
 
--- ',' 'ptr' global, indices ')'
-abbrev pub offset_rest : Form → Ty → Rule Operand
-offset_rest form t = do
+-- ',' 'ptr' base, indices ')'
+abbrev pub step_rest : Rule Address → Ty → Rule Address
+step_rest base t = do
   word s.Comma
   word s.PtrType
-  base ← global form
+  from ← base
   indices ← constant_indices
   word s.CloseParen
-  give (operand.Offset t base indices)
+  give (from.0, (t, indices) ∷ from.1)
 
 -- indices ')'
-abbrev pub offset_end : Ty → Name → Rule Operand
-offset_end t base = do
+abbrev pub step_end : Ty → Address → Rule Address
+step_end t from = do
   indices ← constant_indices
   word s.CloseParen
-  give (operand.Offset t base indices)
+  give (from.0, (t, indices) ∷ from.1)
+
+-- 'getelementptr' and what stands behind it, where so many may stand
+abbrev pub inner_step : Form → ℕ → ℕ → Rule Address
+inner_step form depth zero = stop (r.Limit limit.Indices)
+inner_step form depth (suc within) = skip >> step_from form depth (base_to form depth within)
+
+-- a global
+abbrev pub global_base : Form → Rule Address
+global_base form = global form >>= λ x. give (x, [])
 
 -- '{' balanced '}'
 abbrev pub in_place : Form → Bool → Rule Bool

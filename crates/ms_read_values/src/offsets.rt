@@ -1,6 +1,6 @@
 //! Constant `getelementptr` (LLVM Language Reference, "Constant Expressions").
 
-ghost use Rattle.std.specs.Prelude.{◌≡◌, IfOk, length, true};
+ghost use Rattle.std.specs.Prelude.{◌≡◌, ◌∷◌, IfOk, length, true};
 ghost use Rattle.ms_lex.specs.Grammar.{give};
 ghost use Rattle.ms_grammar.specs.Steps.{comma_begins};
 ghost use Rattle.ms_grammar.specs.Values as spec;
@@ -9,8 +9,8 @@ ghost use Rattle.ms_read_values.specs.Narrow.{IsWidth};
 ghost use Rattle.ms_read_values.specs.Rests as rest;
 
 use crate::numbers::number;
-use crate::types::{boxed_type, int_type_of};
-use ms_bits::{Boxed, List};
+use crate::types::{int_type_of, type_to};
+use ms_bits::{Boxed, List, NoMemory};
 use ms_grammar::{Limit, Refusal, Symbol};
 use ms_ir::{Form, Name, Operand, Ty};
 use ms_read_cursor::{Lexeme, Tokens, Turn, global, repeat, with_last};
@@ -136,33 +136,116 @@ fn constant_indices(alloc: Global, tokens: &mut Tokens<'_>) -> Result<List<(Ty, 
     repeat(alloc, tokens, &ConstantIndices, none)
 }
 
+/// A global, and the steps that lead on from it, the outermost first.
+type Stepped = (Boxed<Name>, List<(Ty, List<(Ty, u64)>)>);
+
+/// An address with one step more around the others. The one error is want of memory.
+fn around(address: Stepped, ty: Ty, indices: List<(Ty, u64)>) -> Result<Stepped, NoMemory>
+    ensures { IfOk result (λ a. a ≡ (address.0, (ty, indices) ∷ address.1)) }
+{
+    let (base, inner) = address;
+    let mut steps = inner.into_vec();
+    steps.insert(0, (ty, indices))?;
+    Ok((base, List::from_vec(steps)))
+}
+
 /// Reads the indices behind the base, and `)`.
-fn offset_end(
+fn step_end(
     alloc: Global,
     tokens: &mut Tokens<'_>,
-    ty: Boxed<Ty>,
-    base: Boxed<Name>,
-) -> Result<Operand, Refusal>
-    ensures { Gives (run (rest.offset_end ty base) tokens.old) result tokens.new }
+    ty: Ty,
+    from: Stepped,
+) -> Result<Stepped, Refusal>
+    ensures { Gives (run (rest.step_end ty from) tokens.old) result tokens.new }
 {
     let indices = constant_indices(alloc, tokens)?;
     tokens.word(Symbol::CloseParen)?;
-    Ok(Operand::Offset(ty, base, indices))
+    Ok(around(from, ty, indices)?)
 }
 
-/// Reads `, ptr @base`, the indices and `)` behind the type.
-fn offset_rest(
+/// Reads `, ptr`, the base, the indices and `)` behind the type.
+#[cycle(bases)]
+fn step_rest(
     alloc: Global,
     tokens: &mut Tokens<'_>,
     form: Form,
-    ty: Boxed<Ty>,
-) -> Result<Operand, Refusal>
-    ensures { Gives (run (rest.offset_rest form ty) tokens.old) result tokens.new }
+    depth: u8,
+    within: u8,
+    ty: Ty,
+) -> Result<Stepped, Refusal>
+    ensures { Gives (run (rest.step_rest (spec.base_to form depth within) ty) tokens.old) result tokens.new }
 {
     tokens.word(Symbol::Comma)?;
     tokens.word(Symbol::PtrType)?;
+    let from = base_to(alloc, tokens, form, depth, within)?;
+    step_end(alloc, tokens, ty, from)
+}
+
+/// What stands behind `getelementptr` in a constant, in whose base so many more may stand.
+#[cycle(bases)]
+#[tactic(auto, unfolding(ms_grammar::specs::Values::step_from))]
+fn step_from(
+    alloc: Global,
+    tokens: &mut Tokens<'_>,
+    form: Form,
+    depth: u8,
+    within: u8,
+) -> Result<Stepped, Refusal>
+    ensures { Gives (run (spec.step_from form depth (spec.base_to form depth within)) tokens.old) result tokens.new }
+{
+    step_words(alloc, tokens)?;
+    tokens.word(Symbol::OpenParen)?;
+    let ty = type_to(alloc, tokens, form, depth)?;
+    step_rest(alloc, tokens, form, depth, within, ty)
+}
+
+/// Another `getelementptr` as a base, where so many may stand.
+#[cycle(bases)]
+#[tactic(auto, using(crate::proofs::Bases::inner_ends, crate::proofs::Bases::inner_goes))]
+fn inner_step(
+    alloc: Global,
+    tokens: &mut Tokens<'_>,
+    form: Form,
+    depth: u8,
+    within: u8,
+) -> Result<Stepped, Refusal>
+    ensures { Gives (run (rest.inner_step form depth within) tokens.old) result tokens.new }
+{
+    if within == 0 {
+        return Err(Refusal::Limit(Limit::Indices));
+    }
+    tokens.advance();
+    step_from(alloc, tokens, form, depth, within - 1)
+}
+
+/// A global as a base.
+fn global_base(alloc: Global, tokens: &mut Tokens<'_>, form: Form) -> Result<Stepped, Refusal>
+    ensures { Gives (run (rest.global_base form) tokens.old) result tokens.new }
+{
     let base = Boxed::new(alloc, global(alloc, tokens, form)?)?;
-    offset_end(alloc, tokens, ty, base)
+    Ok((base, List::from_vec(Vec::new(alloc))))
+}
+
+/// The base of a `getelementptr`, in which so many more may stand within one another.
+///
+/// # Errors
+///
+/// `Limit(Indices)` at the one that is too many.
+#[cycle(bases)]
+#[tactic(auto, using(crate::proofs::Bases::base_is))]
+fn base_to(
+    alloc: Global,
+    tokens: &mut Tokens<'_>,
+    form: Form,
+    depth: u8,
+    within: u8,
+) -> Result<Stepped, Refusal>
+    ensures { Gives (run (spec.base_to form depth within) tokens.old) result tokens.new }
+{
+    match tokens.peek() {
+        Symbol::GetElementPtr => inner_step(alloc, tokens, form, depth, within),
+        _ => global_base(alloc, tokens, form),
+    }
 }
 
 /// What stands behind `getelementptr` in a constant.
@@ -175,8 +258,6 @@ pub fn offset(
 ) -> Result<Operand, Refusal>
     ensures { Gives (run (spec.offset form depth) tokens.old) result tokens.new }
 {
-    step_words(alloc, tokens)?;
-    tokens.word(Symbol::OpenParen)?;
-    let ty = boxed_type(alloc, tokens, form, depth)?;
-    offset_rest(alloc, tokens, form, ty)
+    let (base, steps) = step_from(alloc, tokens, form, depth, 63)?;
+    Ok(Operand::Offset(base, steps))
 }

@@ -146,6 +146,7 @@ of_site m site = joined (joined (joined (literal (codes " at site ") refl) (of_n
 of_trap : (t : Trap) → Single (trap_name t)
 of_trap trap.Shift = literal _ refl
 of_trap trap.ZeroDivisor = literal _ refl
+of_trap trap.ZeroPoison = literal _ refl
 of_trap trap.Overflow = literal _ refl
 of_trap trap.Nuw = literal _ refl
 of_trap trap.Nsw = literal _ refl

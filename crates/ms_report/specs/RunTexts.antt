@@ -15,6 +15,7 @@ use Rattle.ms_written.specs.Names.{name_text}
 abbrev pub trap_name : Trap → List ℕ
 trap_name trap.Shift = codes "shift"
 trap_name trap.ZeroDivisor = codes "zero-divisor"
+trap_name trap.ZeroPoison = codes "zero-poison"
 trap_name trap.Overflow = codes "overflow"
 trap_name trap.Nuw = codes "nuw"
 trap_name trap.Nsw = codes "nsw"

@@ -21,6 +21,7 @@ fn name_of_trap(trap: Trap) -> &'static [u8]
     match trap {
         Trap::Shift => b"shift",
         Trap::ZeroDivisor => b"zero-divisor",
+        Trap::ZeroPoison => b"zero-poison",
         Trap::Overflow => b"overflow",
         Trap::Nuw => b"nuw",
         Trap::Nsw => b"nsw",

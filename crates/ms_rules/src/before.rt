@@ -98,7 +98,7 @@ pub fn push_before(
     let operands = tracking.operands.as_slice();
     hand_over(alloc, code, scope, &inst.op, callee, operands)?;
     check(code, site, scope.main, callee.external, &inst.op, operands)?;
-    count_blind(alloc, code, &inst.op, operands)?;
+    count_blind(alloc, code, callee.external, &inst.op, operands)?;
     define_result(alloc, code, scope, inst, callee, operands)?;
     save(alloc, code, saved, callee.external, &inst.op, operands)
 }

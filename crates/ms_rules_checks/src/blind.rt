@@ -1,15 +1,16 @@
 //! The code that counts blind uses.
-ghost use Rattle.std.specs.Prelude.{◌≡◌, [], ◌∷◌, map, take, drop, IfOk, OnOk, Option};
+ghost use Rattle.std.specs.Prelude.{◌≡◌, ℕ, [], ◌∷◌, map, take, drop, IfOk, OnOk, Option};
 ghost use Rattle.ms_ir.specs.declared.syntax.Name.{Name as NameOf};
-ghost use Rattle.ms_runs.specs.Uses.{has_flag as has_flag_of};
+ghost use Rattle.ms_runs.specs.Uses.{has_flag as has_flag_of, is_odd as is_odd_of, has_true_flag as has_true_flag_of, flagged_words, blind_words as blind_words_of};
 ghost use Rattle.ms_tasks.specs.CheckTasks.{all_zero, blind_tasks, blinded_of, blind_binary_of, union_masks};
+ghost use Rattle.ms_rules_code.specs.Called.{called_external};
 ghost use Rattle.ms_rules_code.specs.Made.{with_tasks};
 ghost use Rattle.ms_rules_code.specs.Steps.{tracked_of, words};
 ghost use Rattle.ms_rules_checks.specs.Plain.{plain};
 
 use crate::calls::call;
 use ms_bits::{BinOp, Flags, NoMemory};
-use ms_ir::{Op, RuntimeFn};
+use ms_ir::{External, Op, Operand, RuntimeFn, Ty};
 use ms_rules_code::{Code, Step, TrackedOperand, Widening, push_union};
 use std::alloc::Global;
 
@@ -53,9 +54,67 @@ fn blind_binary<'a, 'm>(op: BinOp, operands: &'a [TrackedOperand<'m>]) -> &'a [T
     }
 }
 
-/// The operands whose poisoned bits are a blind use of an operation.
-fn blinded<'a, 'm>(op: &Op, operands: &'a [TrackedOperand<'m>]) -> &'a [TrackedOperand<'m>]
-    ensures { result.now ≡ blinded_of op.now operands.now }
+/// Whether an operand is written as an odd number, which is `true` where it is a flag.
+fn is_odd(operand: &Operand) -> bool
+    ensures { result ≡ is_odd_of operand.now }
+{
+    match operand {
+        Operand::Int(number) => *number % 2 == 1,
+        _ => false,
+    }
+}
+
+/// Whether the second argument of a call is such a flag.
+fn has_true_flag(args: &[(Ty, Operand)]) -> bool
+    ensures { result ≡ has_true_flag_of args.now }
+{
+    match args {
+        [_, (_, operand), ..] => is_odd(operand),
+        _ => false,
+    }
+}
+
+/// Of a function of whole words the word that a flag judges.
+fn flagged<'a, 'm>(
+    external: Option<External>,
+    operands: &'a [TrackedOperand<'m>],
+) -> &'a [TrackedOperand<'m>]
+    ensures { result.now ≡ flagged_words external operands.now }
+{
+    match external {
+        Some(External::Word(function, _)) => {
+            if function.is_flagged() {
+                first(operands)
+            } else {
+                &[]
+            }
+        }
+        _ => &[],
+    }
+}
+
+/// The operands whose poisoned bits are a blind use of a call of an external.
+fn blind_words<'a, 'm>(
+    external: Option<External>,
+    args: &[(Ty, Operand)],
+    operands: &'a [TrackedOperand<'m>],
+) -> &'a [TrackedOperand<'m>]
+    ensures { result.now ≡ blind_words_of external args.now operands.now }
+{
+    if has_true_flag(args) {
+        flagged(external, operands)
+    } else {
+        &[]
+    }
+}
+
+/// The operands whose poisoned bits are a blind use of an operation; `external` says which external it calls.
+fn blinded<'a, 'm>(
+    external: Option<External>,
+    op: &Op,
+    operands: &'a [TrackedOperand<'m>],
+) -> &'a [TrackedOperand<'m>]
+    ensures { (func : NameOf → Option ℕ) → called_external func op.now ≡ external → result.now ≡ blinded_of func op.now operands.now }
 {
     match op {
         Op::Binary { flags, .. } if has_flag(flags) => operands,
@@ -63,6 +122,7 @@ fn blinded<'a, 'm>(op: &Op, operands: &'a [TrackedOperand<'m>]) -> &'a [TrackedO
         Op::Icmp { flags, .. } if has_flag(flags) => operands,
         Op::Cast { flags, .. } if has_flag(flags) => operands,
         Op::Freeze { .. } => operands,
+        Op::Call { args, .. } => blind_words(external, args.as_slice(), operands),
         _ => &[],
     }
 }
@@ -88,16 +148,18 @@ fn union_steps(alloc: Global, operands: &[TrackedOperand<'_>]) -> Result<Vec<Ste
     Ok(steps)
 }
 
-/// Counts the blind use of an operation, if it may have one. The one error is want of memory.
+/// Counts the blind use of an operation, if it may have one; `external` says which external it calls. The one error is want
+/// of memory.
 pub fn count_blind(
     alloc: Global,
     code: &mut Code,
+    external: Option<External>,
     op: &Op,
     operands: &[TrackedOperand<'_>],
 ) -> Result<(), NoMemory>
-    ensures { OnOk result (code.new ≡ with_tasks code.old (blind_tasks (blinded_of op.now (map tracked_of operands.now)))) }
+    ensures { (func : NameOf → Option ℕ) → called_external func op.now ≡ external → OnOk result (code.new ≡ with_tasks code.old (blind_tasks (blinded_of func op.now (map tracked_of operands.now)))) }
 {
-    let blind = blinded(op, operands);
+    let blind = blinded(external, op, operands);
     if are_clean(blind) {
         return Ok(());
     }

@@ -2,13 +2,14 @@
 //! words that it works on.
 ghost use Rattle.std.specs.Prelude.{◌≡◌, ◌≢◌, ℕ, true, List, [], ◌∷◌, MatchOption};
 ghost use Rattle.ms_bits.specs.declared.operations.BinOp.TheVariants as binary;
+ghost use Rattle.ms_bits.specs.WordFunctions.{bits_of as width_bits};
 ghost use Rattle.ms_tasks.specs.Tasks.{Expr};
-ghost use Rattle.ms_tasks.specs.Environments.{Tracked, tracked_at, bits_of, mask_of};
-ghost use Rattle.ms_tasks.specs.ResultMasks.{binary_expr, cast_expr, compare_expr};
+ghost use Rattle.ms_tasks.specs.Environments.{Tracked, tracked_at, bits_of, mask_of, word_of};
+ghost use Rattle.ms_tasks.specs.ResultMasks.{binary_expr, cast_expr, compare_expr, ctpop_expr, ctlz_expr, cttz_expr, word_expr};
 ghost use Rattle.ms_rules_code.specs.Steps.{Inputs as InputsOf, is_operation, stepped, words};
 ghost use Rattle.ms_rules_results.specs.Rules.{is_rule, on_width};
 
-use ms_bits::{BinOp, CastOp, Pred};
+use ms_bits::{BinOp, CastOp, Pred, WordFn, WordWidth};
 use ms_rules_code::Step::{Bits, Constant, Mask, Ones, Sign, Word};
 use ms_rules_code::{Operation, Step, Width};
 
@@ -18,9 +19,15 @@ const OR: Step = Step::Two(Operation::Or, Width::Own);
 
 const XOR: Step = Step::Two(Operation::Xor, Width::Own);
 
+const SUB: Step = Step::Two(Operation::Sub, Width::Own);
+
 const IS_EQUAL: Step = Step::Test(Pred::Eq, Width::Own);
 
 const IS_OTHER: Step = Step::Test(Pred::Ne, Width::Own);
+
+const IS_NOT_GREATER: Step = Step::Test(Pred::Ule, Width::Own);
+
+const IS_NOT_LESS: Step = Step::Test(Pred::Uge, Width::Own);
 
 const PICK: Step = Step::Pick(Width::Own);
 
@@ -161,6 +168,128 @@ pub const SHIFT: [Step; 12] = [
     PICK,
 ];
 
+// Every bit, where some bit of a mask is set: of a mask, of two and of three.
+macro_rules! whole {
+    ($($union:expr),*) => {
+        [$($union,)* Constant(0), IS_EQUAL, Constant(0), Ones, PICK]
+    };
+}
+
+const WHOLE: [Step; 6] = whole!(Mask(0));
+
+const WHOLE_OF_TWO: [Step; 8] = whole!(Mask(0), Mask(1), OR);
+
+const WHOLE_OF_THREE: [Step; 10] = whole!(Mask(0), Mask(1), OR, Mask(2), OR);
+
+// Of `ctpop`: known where no bit is poisoned, else all places of a count, which a number has as bits.
+macro_rules! ones {
+    ($places:expr) => {
+        [Mask(0), Constant(0), IS_EQUAL, Constant(0), Constant($places), PICK]
+    };
+}
+
+const ONES_OF_8: [Step; 6] = ones!(15);
+
+const ONES_OF_16: [Step; 6] = ones!(31);
+
+const ONES_OF_32: [Step; 6] = ones!(63);
+
+const ONES_OF_64: [Step; 6] = ones!(127);
+
+// Of `ctlz`: known where the highest bit that may be 1 is defined.
+macro_rules! leading {
+    ($places:expr) => {
+        [
+            Mask(0), Word(0), Mask(0), OR, Mask(0), XOR, IS_NOT_GREATER,
+            Constant(0), Constant($places), PICK,
+        ]
+    };
+}
+
+const LEADING_OF_8: [Step; 10] = leading!(15);
+
+const LEADING_OF_16: [Step; 10] = leading!(31);
+
+const LEADING_OF_32: [Step; 10] = leading!(63);
+
+const LEADING_OF_64: [Step; 10] = leading!(127);
+
+// Of `cttz`: known where the lowest bit that may be 1 is defined.
+macro_rules! trailing {
+    ($places:expr) => {
+        [
+            Word(0), Mask(0), OR, Constant(0), Word(0), Mask(0), OR, SUB, AND, Mask(0), AND,
+            Constant(0), IS_EQUAL, Constant(0), Constant($places), PICK,
+        ]
+    };
+}
+
+const TRAILING_OF_8: [Step; 16] = trailing!(15);
+
+const TRAILING_OF_16: [Step; 16] = trailing!(31);
+
+const TRAILING_OF_32: [Step; 16] = trailing!(63);
+
+const TRAILING_OF_64: [Step; 16] = trailing!(127);
+
+// Of `abs`: with a poisoned sign bit from the lowest bit on that may be 1, of a negative word that of the difference, else
+// the mask itself.
+const ABSOLUTE: [Step; 23] = [
+    Mask(0),
+    Sign,
+    IS_NOT_LESS,
+    Word(0),
+    Mask(0),
+    OR,
+    Constant(0),
+    Word(0),
+    Mask(0),
+    OR,
+    SUB,
+    OR,
+    Word(0),
+    Sign,
+    IS_NOT_LESS,
+    Mask(0),
+    Constant(0),
+    Mask(0),
+    SUB,
+    OR,
+    Mask(0),
+    PICK,
+    PICK,
+];
+
+// Of the greater or the smaller of two words: the mask of the one that is chosen in all completions, by which of them is the
+// greater one, else each bit in which they may differ.
+macro_rules! extreme {
+    ([$($a:expr),*], [$($b:expr),*], $first:expr, $second:expr) => {
+        [
+            $($b,)* Mask(1), OR, $($a,)* Mask(0), OR, Mask(0), XOR, IS_NOT_GREATER, $first,
+            $($a,)* Mask(0), OR, $($b,)* Mask(1), OR, Mask(1), XOR, IS_NOT_GREATER, $second,
+            $($a,)* $($b,)* XOR, Mask(0), OR, Mask(1), OR, PICK, PICK,
+        ]
+    };
+}
+
+const UNSIGNED_MAXIMUM: [Step; 29] = extreme!([Word(0)], [Word(1)], Mask(0), Mask(1));
+
+const UNSIGNED_MINIMUM: [Step; 29] = extreme!([Word(0)], [Word(1)], Mask(1), Mask(0));
+
+const SIGNED_MAXIMUM: [Step; 41] = extreme!(
+    [Word(0), Sign, XOR],
+    [Word(1), Sign, XOR],
+    Mask(0),
+    Mask(1)
+);
+
+const SIGNED_MINIMUM: [Step; 41] = extreme!(
+    [Word(0), Sign, XOR],
+    [Word(1), Sign, XOR],
+    Mask(1),
+    Mask(0)
+);
+
 /// The rule of the mask of an operation on two words, but a shift, a sum, a difference or a product.
 pub fn binary_rule(op: BinOp) -> &'static [Step]
     requires add { op ≢ binary.Add }
@@ -211,5 +340,68 @@ pub fn cast_step(op: CastOp, from: u8, to: u8) -> Option<Step>
             Some(Step::Turn(CastOp::Zext, Width::Bits(from), Width::Bits(64)))
         }
         _ => None,
+    }
+}
+
+/// The rule of the mask of a number of bits that are 1.
+#[tactic(auto, unfolding(ms_bits::specs::WordFunctions::places))]
+fn ones_rule(width: WordWidth) -> &'static [Step]
+    ensures rule { is_rule result.now ≡ true }
+    ensures mask { (ts : List Tracked) → words (on_width (width_bits width) ts) result.now [] ≡ ctpop_expr (width_bits width) (mask_of (tracked_at 0 ts)) ∷ [] }
+{
+    match width {
+        WordWidth::I8 => &ONES_OF_8,
+        WordWidth::I16 => &ONES_OF_16,
+        WordWidth::I32 => &ONES_OF_32,
+        WordWidth::I64 => &ONES_OF_64,
+    }
+}
+
+/// The rule of the mask of a number of leading zeros.
+#[tactic(auto, unfolding(ms_bits::specs::WordFunctions::places))]
+fn leading_rule(width: WordWidth) -> &'static [Step]
+    ensures rule { is_rule result.now ≡ true }
+    ensures mask { (ts : List Tracked) → words (on_width (width_bits width) ts) result.now [] ≡ ctlz_expr (width_bits width) (word_of (tracked_at 0 ts)) (mask_of (tracked_at 0 ts)) ∷ [] }
+{
+    match width {
+        WordWidth::I8 => &LEADING_OF_8,
+        WordWidth::I16 => &LEADING_OF_16,
+        WordWidth::I32 => &LEADING_OF_32,
+        WordWidth::I64 => &LEADING_OF_64,
+    }
+}
+
+/// The rule of the mask of a number of trailing zeros.
+#[tactic(auto, unfolding(ms_bits::specs::WordFunctions::places))]
+fn trailing_rule(width: WordWidth) -> &'static [Step]
+    ensures rule { is_rule result.now ≡ true }
+    ensures mask { (ts : List Tracked) → words (on_width (width_bits width) ts) result.now [] ≡ cttz_expr (width_bits width) (word_of (tracked_at 0 ts)) (mask_of (tracked_at 0 ts)) ∷ [] }
+{
+    match width {
+        WordWidth::I8 => &TRAILING_OF_8,
+        WordWidth::I16 => &TRAILING_OF_16,
+        WordWidth::I32 => &TRAILING_OF_32,
+        WordWidth::I64 => &TRAILING_OF_64,
+    }
+}
+
+/// The rule of the mask of what a function of whole words answers, at a width.
+pub fn word_rule(function: WordFn, width: WordWidth) -> &'static [Step]
+    ensures rule { is_rule result.now ≡ true }
+    ensures mask { (ts : List Tracked) → words (on_width (width_bits width) ts) result.now [] ≡ word_expr function (width_bits width) (tracked_at 0 ts) (tracked_at 1 ts) (tracked_at 2 ts) ∷ [] }
+{
+    match function {
+        WordFn::Ctpop => ones_rule(width),
+        WordFn::Ctlz => leading_rule(width),
+        WordFn::Cttz => trailing_rule(width),
+        WordFn::Bswap | WordFn::Bitreverse => &WHOLE,
+        WordFn::Abs => &ABSOLUTE,
+        WordFn::Smax => &SIGNED_MAXIMUM,
+        WordFn::Smin => &SIGNED_MINIMUM,
+        WordFn::Umax => &UNSIGNED_MAXIMUM,
+        WordFn::Umin => &UNSIGNED_MINIMUM,
+        WordFn::Fshl | WordFn::Fshr => &WHOLE_OF_THREE,
+        WordFn::UaddSat | WordFn::UsubSat | WordFn::SaddSat | WordFn::SsubSat => &WHOLE_OF_TWO,
+        WordFn::Expect => &FIRST,
     }
 }

@@ -1,6 +1,7 @@
 //! The code that defines the mask and the origin of a result.
 ghost use Rattle.std.specs.Prelude.{◌≡◌, ℕ, ◌≤◌, true, List, [], ◌∷◌, map, take, OnOk, Option};
 ghost use Rattle.ms_bits.specs.declared.operations.Flags.{Flags as FlagsOf};
+ghost use Rattle.ms_bits.specs.WordFunctions.{bits_of as width_bits};
 ghost use Rattle.ms_ir.specs.declared.syntax.Name.{Name as NameOf};
 ghost use Rattle.ms_ir.specs.declared.syntax.Ty.{Ty as TyOf, Int};
 ghost use Rattle.ms_ir.specs.declared.syntax.Operand.{Operand as OperandOf};
@@ -8,7 +9,7 @@ ghost use Rattle.ms_ir.specs.declared.syntax.Op.TheVariants as operation;
 ghost use Rattle.ms_ir.specs.Layout.{width_of as width_of_type};
 ghost use Rattle.ms_tasks.specs.Tasks.{Expr, Sets, mask_name as mask_name_of, origin_name as origin_name_of};
 ghost use Rattle.ms_tasks.specs.Environments.{number, tracked_at, bits_of, mask_of};
-ghost use Rattle.ms_tasks.specs.ResultMasks.{address_expr, cast_expr, compare_expr, sum_expr, first_last};
+ghost use Rattle.ms_tasks.specs.ResultMasks.{address_expr, answer_expr, answer_origin_expr, cast_expr, compare_expr, sum_expr, word_expr, first_last};
 ghost use Rattle.ms_tasks.specs.ResultTasks.{binary_tasks, called_tasks, shift_task, word_tasks, define_tasks, result_width as result_width_of};
 ghost use Rattle.ms_rules_code.specs.Called.{calls_own};
 ghost use Rattle.ms_rules_code.specs.Made.{with_tasks};
@@ -18,11 +19,11 @@ ghost use Rattle.ms_rules_results.specs.Rules.{is_rule, defined};
 
 use crate::carries::carry_rule;
 use crate::loads::define_load;
-use crate::masks::{CHOICE, CLEAN, FIRST, SHIFT, binary_rule, cast_step, compare_rule};
+use crate::masks::{CHOICE, CLEAN, FIRST, SHIFT, binary_rule, cast_step, compare_rule, word_rule};
 use crate::origins::{CHOICE_ORIGIN, set_last_origin};
 use crate::rules::{attempt_mask, set_mask, set_origin};
-use ms_bits::{BinOp, CastOp, NoMemory, Pred};
-use ms_ir::{Op, Ty};
+use ms_bits::{BinOp, CastOp, NoMemory, Pred, WordFn, WordWidth};
+use ms_ir::{External, Name, Op, Ty};
 use ms_rules_code::Step::Mask;
 use ms_rules_code::{Code, Inputs, Step, TrackedOperand, Widening, width_of};
 use std::alloc::Global;
@@ -210,20 +211,70 @@ fn result_width(ret: &Option<Ty>) -> u8
     }
 }
 
+// What a function of whole words answers, as a value of a width.
+fn define_word_answer(
+    alloc: Global,
+    code: &mut Code,
+    value: u32,
+    width: u8,
+    function: WordFn,
+    word_width: WordWidth,
+    operands: &[TrackedOperand<'_>],
+) -> Result<(), NoMemory>
+    ensures { let ts = map tracked_of operands.now in OnOk result (code.new ≡ with_tasks code.old (defined value width (first_last ts) (word_expr function (width_bits word_width) (tracked_at 0 ts) (tracked_at 1 ts) (tracked_at 2 ts)))) }
+{
+    let inputs = Inputs::new(operands, word_width.bits(), &None);
+    define_joined(
+        alloc,
+        code,
+        value,
+        width,
+        &inputs,
+        word_rule(function, word_width),
+    )
+}
+
+// What an external answers, as a value of a width.
+fn define_answer(
+    alloc: Global,
+    code: &mut Code,
+    value: u32,
+    width: u8,
+    external: Option<External>,
+    operands: &[TrackedOperand<'_>],
+) -> Result<(), NoMemory>
+    ensures { let ts = map tracked_of operands.now in OnOk result (code.new ≡ with_tasks code.old (defined value width (answer_origin_expr external ts) (answer_expr external ts))) }
+{
+    match external {
+        Some(External::Word(function, word_width)) => {
+            define_word_answer(alloc, code, value, width, function, word_width, operands)
+        }
+        _ => define_clean(alloc, code, value, width, operands),
+    }
+}
+
 fn define_call(
     alloc: Global,
     code: &mut Code,
     value: u32,
     own: bool,
     ret: &Option<Ty>,
+    callee: &Name,
     operands: &[TrackedOperand<'_>],
 ) -> Result<(), NoMemory>
-    ensures { (callee : NameOf) (args : List (TyOf × OperandOf)) → OnOk result (code.new ≡ with_tasks code.old (called_tasks own value (operation.Call ret.now callee args) (map tracked_of operands.now))) }
+    ensures { (args : List (TyOf × OperandOf)) → OnOk result (code.new ≡ with_tasks code.old (called_tasks own value (operation.Call ret.now callee.now args) (map tracked_of operands.now))) }
 {
     if own {
         return Ok(());
     }
-    define_clean(alloc, code, value, result_width(ret), operands)
+    define_answer(
+        alloc,
+        code,
+        value,
+        result_width(ret),
+        External::named(callee),
+        operands,
+    )
 }
 
 /// Defines the mask and the origin of the function's value with a number, which an operation sets; `own` says that it calls
@@ -262,7 +313,9 @@ pub fn define(
         Op::Alloca { .. } => define_clean(alloc, code, value, 64, operands),
         Op::Load { ty, .. } => define_load(alloc, code, value, width_of(ty), operands),
         Op::Gep { .. } => define_gep(alloc, code, value, operands),
-        Op::Call { ret, .. } => define_call(alloc, code, value, own, ret, operands),
+        Op::Call { ret, callee, .. } => {
+            define_call(alloc, code, value, own, ret, callee, operands)
+        }
         _ => Ok(()),
     }
 }

@@ -15,7 +15,7 @@ use Rattle.ms_bits.specs.Arithmetic.{binary_of}
 use Rattle.ms_bits.specs.Conversions.{compare_of, cast_of, select_of}
 use Rattle.ms_bits.specs.Fill.{undef_word_of}
 use Rattle.ms_ir.specs.Layout.{width_of, stored_size, size_in, extended, indexed}
-use Rattle.ms_runs.specs.World.{World, Setting, Here, Effect, Gives, Does, Goes, Enters, Leaves, Ends, traps, stuck, word}
+use Rattle.ms_runs.specs.World.{World, Setting, Here, Effect, Gives, Does, Goes, Enters, Leaves, Ends, traps, stuck, word, gives}
 use Rattle.ms_ir.specs.Areas.{Stack}
 use Rattle.ms_bits.specs.Maps.{number_at}
 use Rattle.ms_runs.specs.Memory.{fits, next_base, is_good, make_unset, store_number}
@@ -39,11 +39,6 @@ plain_reading = record { read = λ setting values root t o. operand_word setting
 abbrev pub truth : Result Bool Trap → Result ℕ Trap
 truth (Ok b) = Ok (from_bool b)
 truth (Err t) = Err t
-
--- an operation's answer is the result, or the run traps
-abbrev pub gives : ℕ → Result ℕ Trap → World → Effect
-gives site (Ok v) world = Gives v world
-gives site (Err t) world = traps t site world
 
 -- 'alloca' of n bytes in all, which are uninitialised
 abbrev pub alloca : Setting → (site n : ℕ) → World → Effect

@@ -1,14 +1,16 @@
 -- What the externals do to memory, input and output (C library; LLVM Language Reference, "'llvm.memcpy' Intrinsic" and
--- its neighbours, "'llvm.lifetime.start' Intrinsic"; own: the heap's limit, traps, and what is answered at a limit).
+-- its neighbours, "'llvm.lifetime.start' Intrinsic", "'llvm.trap' Intrinsic", "'llvm.assume' Intrinsic", "'llvm.objectsize' Intrinsic", and
+-- those of WordFunctions; own: the heap's limit, traps, what is answered at a limit, and that no object's size is known).
 use Rattle.std.specs.Prelude.{ℕ, ◌+◌, ◌-◌, ◌*◌, ◌%◌, ◌^◌, min, ◌&&◌, List, [], ◌∷◌, ◌++◌, length, map, zip, take, drop, get_or, eqb, leb, ltb, if◌then◌else◌, Option, Some, None, is_some, Result, Ok, Err}
 use Rattle.ms_bits.specs.declared.traps.Trap.{Trap}
 use Rattle.ms_bits.specs.declared.traps.Trap.TheVariants as trap
 use Rattle.ms_runs.specs.declared.runs.End.TheVariants as «end»
 use Rattle.ms_ir.specs.declared.calls.External.{External}
-use Rattle.ms_ir.specs.declared.calls.External.TheVariants.{Malloc, Calloc, Realloc, Free, Memcpy, Memmove, Memset, Memcmp, Strlen, Putchar, Puts, Getchar, Read, Write, Exit, Abort, LlvmMemcpy, LlvmMemmove, LlvmMemset, LifetimeStart, LifetimeEnd, Printf}
+use Rattle.ms_ir.specs.declared.calls.External.TheVariants.{Malloc, Calloc, Realloc, Free, Memcpy, Memmove, Memset, Memcmp, Strlen, Putchar, Puts, Getchar, Read, Write, Exit, Abort, LlvmMemcpy, LlvmMemmove, LlvmMemset, LifetimeStart, LifetimeEnd, Printf, LlvmTrap, LlvmAssume, LlvmObjectSize, Word}
+use Rattle.ms_bits.specs.WordFunctions.{bits_of, word_answer}
 use Rattle.ms_ir.specs.declared.syntax.Ty.{Ty}
 use Rattle.ms_ir.specs.Areas.{Heap}
-use Rattle.ms_runs.specs.World.{World, Setting, Effect, Gives, Does, Ends, traps, word}
+use Rattle.ms_runs.specs.World.{World, Setting, Effect, Gives, Does, Ends, traps, word, gives}
 use Rattle.ms_bits.specs.Maps.{bytes_at, string_within}
 use Rattle.ms_runs.specs.Memory.{fits, next_base, is_good, heap_size, end_block, make, make_unset, make_bytes, set_bytes, copy_bytes, copy_shadow, bytes_left}
 use Rattle.ms_runs.specs.Formats.{cut_of, with_arguments, shown, all_shown}
@@ -16,6 +18,14 @@ use Rattle.ms_runs.specs.Formats.{cut_of, with_arguments, shown, all_shown}
 -- -1 as a word of so many bits
 abbrev pub minus_one : ℕ → ℕ
 minus_one width = 2 ^ width - 1
+
+-- 'llvm.objectsize' of an object whose size isn't known: by its second argument the least or the greatest number
+abbrev pub unknown_size : ℕ → ℕ
+unknown_size least = if eqb least 0 then minus_one 64 else 0
+
+-- 'llvm.assume': goes on where the condition is true
+abbrev pub assumed : (site condition : ℕ) → World → Effect
+assumed site condition world = if eqb condition 0 then traps trap.Unreachable site world else Does world
 
 -- 'malloc': a heap block of n uninitialised bytes, or null where the heap's limit would be passed
 abbrev pub malloc : List ℕ → ℕ → World → Effect
@@ -144,4 +154,8 @@ external setting site LlvmMemset types words world =
 external setting site LifetimeStart types words world =
     where_good site (word 1 words) (word 0 words) world (Does (make_bytes setting.fill (word 1 words) (word 0 words) world))
 external setting site LifetimeEnd types words world = Does world
+external setting site LlvmTrap types words world = traps trap.Abort site world
+external setting site LlvmAssume types words world = assumed site (word 0 words) world
+external setting site LlvmObjectSize types words world = Gives (unknown_size (word 1 words)) world
 external setting site Printf types words world = prints site (formatted world types words) world
+external setting site (Word f n) types words world = gives site (word_answer f (bits_of n) (word 0 words) (word 1 words) (word 2 words)) world

@@ -8,6 +8,7 @@ use Rattle.ms_ir.specs.declared.syntax.Operand.TheVariants as operand
 use Rattle.ms_ir.specs.declared.syntax.Init.{Init, Value, Zero, Array', Struct', Text, Row_of-Init-Array-0-2, end_of-Init-Array-0-2, more_of-Init-Array-0-2}
 use Rattle.ms_ir.specs.declared.syntax.GlobalVar.{GlobalVar}
 use Rattle.ms_ir.specs.declared.syntax.Module.{Module}
+use Rattle.ms_ir.specs.Equal.{Step}
 use Rattle.ms_ir.specs.Names.{name_eq, lookup, slots, is_reserved}
 use Rattle.ms_ir.specs.Layout.{Types, Extent, extent, width_of, stored_size, size_in, align_in, round_up, place_field, extended, indexed}
 use Rattle.ms_ir.specs.Areas.{Fixed, area_base, room}
@@ -30,6 +31,11 @@ address_of m x = elim (lookup slots x) [ Some slot ↦ slot.0 | None ↦ address
 abbrev pub extended_indices : List (Ty × ℕ) → List ℕ
 extended_indices indices = map (λ i. extended (width_of i.0) i.1) indices
 
+-- the address to which constant steps lead from an address, the outermost first
+abbrev pub stepped : Types → ℕ → List Step → ℕ
+stepped types base [] = base
+stepped types base (s ∷ inner) = indexed types s.0 (stepped types base inner) (extended_indices s.1)
+
 -- the number of an operand that names no result; undefined words are zero, which an initialiser alone asks for
 abbrev pub constant : Types → (Name → ℕ) → Operand → ℕ
 constant types address (operand.Int n) = n
@@ -38,7 +44,7 @@ constant types address operand.Undef = 0
 constant types address operand.Poison = 0
 constant types address (operand.Local x) = 0
 constant types address (operand.Global x) = address x
-constant types address (operand.Offset t x indices) = indexed types t (address x) (extended_indices indices)
+constant types address (operand.Offset x steps) = stepped types (address x) steps
 
 -- an initialiser of a type, an array's items and a struct's fields, written from an address on into zero bytes
 abbrev mutual

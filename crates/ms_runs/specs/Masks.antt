@@ -1,5 +1,5 @@
 -- Which bits of a result are poisoned, and where they come from (after Stepanov and Serebryany, CGO 2015; own in this form).
-use Rattle.std.specs.Prelude.{◌≡◌, ◌<◌, ℕ, zero, suc, ◌-◌, ◌%◌, ◌^◌, not, List, [], ◌∷◌, map, drop, eqb, if◌then◌else◌, bit_or, Result, Ok, Err}
+use Rattle.std.specs.Prelude.{◌≡◌, ◌<◌, ℕ, zero, suc, ◌-◌, ◌%◌, ◌^◌, not, List, [], ◌∷◌, map, drop, eqb, if◌then◌else◌, bit_or, Option, Some, None, Result, Ok, Err}
 use Rattle.std.specs.Int.{from_bool}
 use Rattle.ms_bits.specs.declared.traps.Trap.{Trap}
 use Rattle.ms_bits.specs.declared.operations.BinOp.{BinOp}
@@ -11,6 +11,11 @@ use Rattle.ms_bits.specs.Maps.{number_at}
 use Rattle.ms_bits.specs.Fill.{number_of_bits}
 use Rattle.ms_bits.specs.Completion.{mask_of, select_mask_of}
 use Rattle.ms_bits.specs.Formulas as formulas
+use Rattle.ms_bits.specs.WordFunctions.{bits_of, word_mask}
+use Rattle.ms_ir.specs.declared.calls.External.{External}
+use Rattle.ms_ir.specs.declared.calls.External.TheVariants.{Word}
+use Rattle.ms_ir.specs.Names.{lookup, externals}
+use Rattle.ms_ir.specs.declared.syntax.Ty.{Ty}
 use Rattle.ms_ir.specs.declared.syntax.Op.{Op}
 use Rattle.ms_ir.specs.declared.syntax.Op.TheVariants as op
 use Rattle.ms_bits.specs.NoFlags.{no_flags}
@@ -96,6 +101,18 @@ word_at k [] = clean
 word_at zero (p ∷ ps) = p
 word_at (suc k) (p ∷ ps) = word_at k ps
 
+-- the mask of what an external answers: that of a function of whole words, else 0
+abbrev pub answer_mask : Option External → List Poisoned → ℕ
+answer_mask (Some (Word f n)) ps =
+    word_mask f (bits_of n) (word_at 0 ps).value (word_at 0 ps).mask (word_at 1 ps).value (word_at 1 ps).mask (word_at 2 ps).value (word_at 2 ps).mask
+answer_mask _ ps = 0
+
+-- cut to the width of a result, where there is one
+abbrev pub as_result : Option Ty → ℕ → ℕ
+as_result None m = 0
+as_result (Some t) m = m % 2 ^ width_of t
+
+-- of a call it is read where an external answers, which has no place among the functions
 abbrev pub result_mask : Rules → Op → List Poisoned → World → ℕ
 result_mask d (op.Binary o f t a b) ps w = binary_mask d o (width_of t) (word_at 0 ps) (word_at 1 ps)
 result_mask d (op.Icmp o f t a b) ps w = d.compare o (width_of t) (word_at 0 ps) (word_at 1 ps)
@@ -103,6 +120,7 @@ result_mask d (op.Cast o f t a u) ps w = value_or_zero (cast_of o no_flags (widt
 result_mask d (op.Select c t a b) ps w = d.select (width_of t) (word_at 0 ps) (word_at 1 ps) (word_at 2 ps)
 result_mask d (op.Load t a) ps w = number_at w.shadow (word_at 0 ps).value (stored_size t) % 2 ^ width_of t
 result_mask d (op.Gep t a is) ps w = d.sum 64 (bit_or (word_at 0 ps).mask (union (extended_all is (map (λ p. p.mask) (drop 1 ps)))))
+result_mask d (op.Call ret callee args) ps w = as_result ret (answer_mask (lookup externals callee) ps)
 result_mask d _ ps w = 0
 
 -- the last word's whose mask isn't 0, else the one given
@@ -113,6 +131,10 @@ last_origin (p ∷ ps) best = last_origin ps (if eqb p.mask 0 then best else p.o
 abbrev pub select_origin : Poisoned → Poisoned → Poisoned → ℕ
 select_origin k p q = select_of k.mask k.origin (select_of k.value p.origin q.origin)
 
+abbrev pub answer_origin : Option External → List Poisoned → ℕ
+answer_origin (Some (Word f n)) ps = last_origin ps (word_at 0 ps).origin
+answer_origin _ ps = 0
+
 abbrev pub result_origin : Op → List Poisoned → (mask : ℕ) → World → ℕ
 result_origin (op.Binary o f t a b) ps m w = last_origin ps (word_at 0 ps).origin
 result_origin (op.Icmp o f t a b) ps m w = last_origin ps (word_at 0 ps).origin
@@ -120,6 +142,7 @@ result_origin (op.Cast o f t a u) ps m w = (word_at 0 ps).origin
 result_origin (op.Select c t a b) ps m w = select_origin (word_at 0 ps) (word_at 1 ps) (word_at 2 ps)
 result_origin (op.Load t a) ps m w = load_origin (word_at 0 ps).value m w
 result_origin (op.Gep t a is) ps m w = last_origin ps (word_at 0 ps).origin
+result_origin (op.Call ret callee args) ps m w = answer_origin (lookup externals callee) ps
 result_origin _ ps m w = 0
 
 -- two sets of rules that give the same masks of words in range

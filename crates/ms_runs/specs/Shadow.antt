@@ -102,7 +102,7 @@ shadow_act d s m i h ps fr below w =
 
 abbrev pub after_checks : Rules → Setting → Module → Inst → Here → List Poisoned → Frame Poisoned → List (Frame Poisoned) → Effect → Outcome Poisoned
 after_checks d s m i h ps fr below (Does w) =
-    shadow_act d s m i h ps fr below (count_blind (union (map (λ p. p.mask) (blinded i.op ps))) w)
+    shadow_act d s m i h ps fr below (count_blind (union (map (λ p. p.mask) (blinded s.func i.op ps))) w)
 after_checks d s m i h ps fr below (Ends e w) = Over e w
 after_checks d s m i h ps fr below (Gives v w) = Over stuck w
 after_checks d s m i h ps fr below (Goes x w) = Over stuck w

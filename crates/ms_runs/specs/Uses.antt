@@ -1,5 +1,5 @@
 -- The uses that are checked, and the blind ones.
-use Rattle.std.specs.Prelude.{ℕ, zero, suc, Bool, ◌||◌, List, [], ◌∷◌, ◌++◌, take, drop, if◌then◌else◌, Option, Some, None}
+use Rattle.std.specs.Prelude.{ℕ, zero, suc, Bool, false, ◌||◌, ◌%◌, eqb, List, [], ◌∷◌, ◌++◌, take, drop, if◌then◌else◌, Option, Some, None}
 use Rattle.ms_bits.specs.declared.operations.Flags.{Flags}
 use Rattle.ms_bits.specs.declared.operations.BinOp.{BinOp}
 use Rattle.ms_bits.specs.declared.operations.BinOp.TheVariants.{Udiv, Sdiv, Urem, Srem, Shl, Lshr, Ashr}
@@ -10,7 +10,10 @@ use Rattle.ms_ir.specs.declared.syntax.Op.{Op}
 use Rattle.ms_ir.specs.declared.syntax.Op.TheVariants as op
 use Rattle.ms_ir.specs.declared.syntax.Name.{Name}
 use Rattle.ms_ir.specs.declared.calls.External.{External}
-use Rattle.ms_ir.specs.declared.calls.External.TheVariants.{Malloc, Calloc, Realloc, Free, Memcpy, Memmove, Memset, Memcmp, Strlen, Putchar, Puts, Getchar, Read, Write, Exit, Abort, LlvmMemcpy, LlvmMemmove, LlvmMemset, LifetimeStart, LifetimeEnd, Printf}
+use Rattle.ms_ir.specs.declared.calls.External.TheVariants.{Malloc, Calloc, Realloc, Free, Memcpy, Memmove, Memset, Memcmp, Strlen, Putchar, Puts, Getchar, Read, Write, Exit, Abort, LlvmMemcpy, LlvmMemmove, LlvmMemset, LifetimeStart, LifetimeEnd, Printf, LlvmTrap, LlvmAssume, LlvmObjectSize}
+use Rattle.ms_ir.specs.declared.calls.External.TheVariants as external
+use Rattle.ms_bits.specs.WordFunctions.{is_flagged}
+use Rattle.ms_ir.specs.declared.syntax.Operand.TheVariants as operand
 use Rattle.ms_ir.specs.Equal.{type_eq}
 use Rattle.ms_ir.specs.Layout.{width_of}
 use Rattle.ms_runs.specs.World.{World, Setting, Effect, Does, then_does}
@@ -59,6 +62,10 @@ external_uses LlvmMemmove args = Word 6 0 ∷ Word 6 1 ∷ Word 5 2 ∷ []
 external_uses LlvmMemset args = Word 6 0 ∷ Word 5 2 ∷ []
 external_uses LifetimeStart args = Word 5 0 ∷ Word 6 1 ∷ []
 external_uses LifetimeEnd args = Word 5 0 ∷ Word 6 1 ∷ []
+external_uses LlvmTrap args = []
+external_uses LlvmAssume args = Word 1 0 ∷ []
+external_uses LlvmObjectSize args = Word 7 1 ∷ []
+external_uses (external.Word f n) args = []
 external_uses Printf args = Word 6 0 ∷ Line 0 ∷ (value_uses 1 (drop 1 args) ++ string_uses 1 (drop 1 args))
 
 abbrev pub binary_uses : BinOp → List Use
@@ -114,10 +121,30 @@ blind_binary Lshr ps = drop 1 ps
 blind_binary Ashr ps = drop 1 ps
 blind_binary _ ps = []
 
+-- an odd number, which is `true` where it is a flag
+abbrev pub is_odd : Operand → Bool
+is_odd (operand.Int n) = eqb (n % 2) 1
+is_odd o = false
+
+-- the second argument is one
+abbrev pub has_true_flag : List (Ty × Operand) → Bool
+has_true_flag (x ∷ a ∷ rest) = is_odd a.1
+has_true_flag args = false
+
+-- of a function of whole words the word that a flag judges
+abbrev pub flagged_words : {A : Type 0} → Option External → List A → List A
+flagged_words (Some (external.Word f n)) ps = if is_flagged f then take 1 ps else []
+flagged_words e ps = []
+
+-- the same where the flag is there
+abbrev pub blind_words : {A : Type 0} → Option External → List (Ty × Operand) → List A → List A
+blind_words e args ps = if has_true_flag args then flagged_words e ps else []
+
 -- the words whose poison an instruction loses; one with a flag may trap by it, whatever its mask says
-abbrev pub blinded : Op → List Poisoned → List Poisoned
-blinded (op.Binary o f t a b) ps = if has_flag f then ps else blind_binary o ps
-blinded (op.Icmp p f t a b) ps = if has_flag f then ps else []
-blinded (op.Cast o f t a u) ps = if has_flag f then ps else []
-blinded (op.Freeze t a) ps = ps
-blinded _ ps = []
+abbrev pub blinded : (Name → Option ℕ) → Op → List Poisoned → List Poisoned
+blinded func (op.Binary o f t a b) ps = if has_flag f then ps else blind_binary o ps
+blinded func (op.Icmp p f t a b) ps = if has_flag f then ps else []
+blinded func (op.Cast o f t a u) ps = if has_flag f then ps else []
+blinded func (op.Freeze t a) ps = ps
+blinded func (op.Call ret callee args) ps = blind_words (external_named func callee) args ps
+blinded func _ ps = []

@@ -1,5 +1,5 @@
 -- The world outside the frames, what stays the same in a run, and what one instruction comes to (own).
-use Rattle.std.specs.Prelude.{ℕ, Bool, List, get_or, Option}
+use Rattle.std.specs.Prelude.{ℕ, Bool, List, get_or, Option, Result, Ok, Err}
 use Rattle.ms_ir.specs.declared.syntax.Name.{Name}
 use Rattle.ms_runs.specs.declared.runs.End.{End}
 use Rattle.ms_runs.specs.declared.runs.End.TheVariants as «end»
@@ -60,6 +60,11 @@ pub data Effect : Type 0 where
 -- the run ends by a trap at a site
 abbrev pub traps : Trap → ℕ → World → Effect
 traps trap site world = Ends («end».Trap trap site) world
+
+-- an operation's answer is the result, or the run traps
+abbrev pub gives : ℕ → Result ℕ Trap → World → Effect
+gives site (Ok v) world = Gives v world
+gives site (Err t) world = traps t site world
 
 -- the end where no instruction is due or a name stands for nothing, which no valid module reaches: 0 is no site
 abbrev pub stuck : End

@@ -19,7 +19,7 @@ use Rattle.ms_ir.specs.declared.syntax.Module.{Module}
 use Rattle.ms_ir.specs.declared.calls.External.{External}
 use Rattle.ms_ir.specs.declared.calls.External.TheVariants as external
 use Rattle.ms_ir.specs.declared.calls.RuntimeFn.{RuntimeFn}
-use Rattle.ms_ir.specs.Names.{name_eq, lookup, externals, runtime_functions, is_reserved, is_inserted_name}
+use Rattle.ms_ir.specs.Names.{name_eq, lookup, externals, word_externals, runtime_functions, is_reserved, is_inserted_name}
 use Rattle.ms_ir.specs.Layout.{width_of}
 use Rattle.ms_runs.specs.World.{World, Effect, Gives, Does, Goes, Enters, Leaves, Ends}
 use Rattle.ms_ir.specs.Code.{func_index, func_at, insts_at}
@@ -135,7 +135,7 @@ printf_name = Text (codes "printf")
 -- names of externals are not reserved, and `printf` names the variadic one alone; those of runtime functions are reserved,
 -- and none is `printf`
 external_apart : (x : Name) (e : External) → lookup externals x ≡ Some e → (not (is_reserved x) && (if is_variadic e then name_eq x printf_name else not (name_eq x printf_name))) ≡ true
-unfolding printf_name
+unfolding printf_name word_externals
 external_apart x e h = table_passes (λ y d. not (is_reserved y) && (if is_variadic d then name_eq y printf_name else not (name_eq y printf_name))) externals x e refl h
 
 runtime_apart : (x : Name) (f : RuntimeFn) → lookup runtime_functions x ≡ Some f → (is_reserved x && not (name_eq x printf_name)) ≡ true

@@ -3,19 +3,24 @@ use Rattle.std.proofs.Common.{◌≡◌, ◌<◌, ◌≤◌, ℕ, zero, suc, ◌
 use Rattle.std.proofs.lemmas.Nat.{mod_below}
 use Rattle.std.proofs.lemmas.Bool.{and_parts}
 use Rattle.std.proofs.lemmas.List.Elements.{All-nil, All-cons, All-head, All-tail, All-append, All-take, All-drop}
-use Rattle.std.specs.Prelude.{zip}
+use Rattle.std.specs.Prelude.{zip, slice_get}
 use Rattle.ms_bits.specs.declared.traps.Trap.{Trap}
 use Rattle.ms_bits.specs.declared.traps.Trap.TheVariants as trap
+use Rattle.ms_bits.specs.declared.word_functions.WordFn.{WordFn}
+use Rattle.ms_bits.specs.declared.word_functions.WordFn.TheVariants.{Ctpop, Smax, Smin, Umax, Umin}
+use Rattle.ms_bits.specs.declared.word_functions.WordWidth.{WordWidth}
+use Rattle.ms_bits.specs.WordFunctions.{bits_of, word_answer}
+use Rattle.ms_bits_laws.proofs.WordAgreement.{SecondFits, answer_lt, width_some, width_few}
 use Rattle.ms_bits.specs.Maps.{bytes_at, string_within}
 use Rattle.ms_ir.specs.declared.syntax.Ty.{Ty, Int, Ptr}
 use Rattle.ms_ir.specs.declared.calls.External.{External}
-use Rattle.ms_ir.specs.declared.calls.External.TheVariants.{Malloc, Calloc, Realloc, Free, Memcpy, Memmove, Memset, Memcmp, Strlen, Putchar, Puts, Getchar, Read, Write, Exit, Abort, LlvmMemcpy, LlvmMemmove, LlvmMemset, LifetimeStart, LifetimeEnd, Printf}
+use Rattle.ms_ir.specs.declared.calls.External.TheVariants.{Malloc, Calloc, Realloc, Free, Memcpy, Memmove, Memset, Memcmp, Strlen, Putchar, Puts, Getchar, Read, Write, Exit, Abort, LlvmMemcpy, LlvmMemmove, LlvmMemset, LifetimeStart, LifetimeEnd, Printf, LlvmTrap, LlvmAssume, LlvmObjectSize, Word}
 use Rattle.ms_ir.specs.Layout.{width_of}
 use Rattle.ms_ir.specs.Areas.{Area, Fixed, Heap, Stack, room}
-use Rattle.ms_runs.specs.World.{Allocation, World, Setting, Effect, Gives, Does, traps, word}
+use Rattle.ms_runs.specs.World.{Allocation, World, Setting, Effect, Gives, Does, traps, word, gives}
 use Rattle.ms_runs.specs.Memory.{used, fits, next_base, first_that, covers, is_good, block_of, is_heap_block, heap_size, end_block, set_bytes, copy_bytes, make_bytes, copy_shadow, make, make_unset, bytes_left}
-use Rattle.ms_runs.specs.Externals.{minus_one, malloc, calloc, reallocated, realloc, free, where_good, compared, string_at, printed, taken, next_byte, cut_shown, formatted, prints, external}
-use Rattle.ms_ir.specs.Signatures.{external_signature, called_params}
+use Rattle.ms_runs.specs.Externals.{minus_one, unknown_size, malloc, calloc, reallocated, realloc, free, where_good, compared, string_at, printed, taken, next_byte, cut_shown, formatted, prints, external}
+use Rattle.ms_ir.specs.Signatures.{external_signature, called_params, word_params}
 use Rattle.ms_runs_good.specs.GoodWorlds.{GoodWorld}
 use Rattle.ms_runs_good.specs.GoodStates.{IsBelow}
 use Rattle.ms_runs_good.specs.Straight.{Answers, HaveTypes}
@@ -87,6 +92,29 @@ compared_below (a ∷ rest) [] = omega arith
 compared_below (a ∷ rest) (b ∷ bs) =
     either (λ v. v < 2 ^ 32) (ltb a b) (minus_one 32) (if ltb b a then 1 else compared rest bs) (omega arith)
     (either (λ v. v < 2 ^ 32) (ltb b a) 1 (compared rest bs) (omega arith) (compared_below rest bs))
+
+-- ---- functions of whole words
+
+first_param : (f : WordFn) (w : ℕ) → slice_get (word_params f w) 0 ≡ Some (Int w)
+first_param Ctpop w = refl
+first_param f w = refl
+
+-- a size that isn't known is a word
+unknown_below : (least : ℕ) → unknown_size least < 2 ^ 64
+unknown_below least = either (λ n. n < 2 ^ 64) (eqb least 0) (minus_one 64) 0 (omega arith) (omega arith)
+
+-- what a function of words in range answers is in range
+word_below : (f : WordFn) (n : WordWidth) (words : List ℕ) → HaveTypes IsBelow 0 words (word_params f (bits_of n)) → (x : ℕ)
+    → word_answer f (bits_of n) (word 0 words) (word 1 words) (word 2 words) ≡ Ok x → x < 2 ^ bits_of n
+word_below f n words h x e =
+    answer_lt f (bits_of n) (word 0 words) (word 1 words) (word 2 words) x (omega (arith, width_some n)) (width_few n) (h 0 (Int (bits_of n)) (first_param f (bits_of n))) (second f h) e
+  where
+    second : (f : WordFn) → HaveTypes IsBelow 0 words (word_params f (bits_of n)) → SecondFits f (bits_of n) (word 1 words)
+    second Smax h = h 1 (Int (bits_of n)) refl
+    second Smin h = h 1 (Int (bits_of n)) refl
+    second Umax h = h 1 (Int (bits_of n)) refl
+    second Umin h = h 1 (Int (bits_of n)) refl
+    second f h = tt
 
 -- ---- the externals
 
@@ -203,6 +231,10 @@ module _ (P : ℕ → Type 0) (setting : Setting) (given : GoodSetting P setting
       by_string (Some format) h = format_bytes (string_at w) string_bytes format (zip (drop 1 types) (drop 1 words)) h
       by_string None h = tt
 
+  word_answers : (n : WordWidth) (r : Result ℕ Trap) → ((x : ℕ) → r ≡ Ok x → x < 2 ^ bits_of n) → Answers (GoodWorld P) (Some (Int (bits_of n))) (gives site r w)
+  word_answers n (Ok v) h = (in_type (Int (bits_of n)) v (h v refl), g)
+  word_answers n (Err t) h = g
+
   pub external_answers : (e : External) (types : List Ty) (words : List ℕ) → HaveTypes IsBelow 0 words (called_params e types)
       → Answers (GoodWorld P) (external_signature e).ret (external setting site e types words w)
   external_answers Malloc types words h = malloc_answers (word 0 words)
@@ -254,4 +286,8 @@ module _ (P : ℕ → Type 0) (setting : Setting) (given : GoodSetting P setting
       where_good_answers None (word 1 words) (word 0 words) (Does (make_bytes setting.fill (word 1 words) (word 0 words) w))
       (refl, make_bytes_good P setting.fill (word 1 words) (word 0 words) w given.fill g)
   external_answers LifetimeEnd types words h = (refl, g)
+  external_answers LlvmTrap types words h = g
+  external_answers LlvmAssume types words h = either (Answers (GoodWorld P) None) (eqb (word 0 words) 0) (traps trap.Unreachable site w) (Does w) g (refl, g)
+  external_answers LlvmObjectSize types words h = (in_type (Int 64) (unknown_size (word 1 words)) (unknown_below (word 1 words)), g)
+  external_answers (Word f n) types words h = word_answers n (word_answer f (bits_of n) (word 0 words) (word 1 words) (word 2 words)) (word_below f n words h)
   external_answers Printf types words h = prints_answers (formatted w types words) (formatted_bytes types words)

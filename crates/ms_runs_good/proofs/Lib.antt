@@ -27,3 +27,4 @@ pub mod Sites
 pub mod SitedEffects
 pub mod SitedMoves
 pub mod SitedShadow
+pub mod WordCallTypes

@@ -1,5 +1,5 @@
 -- The masks of results are in the range of the results.
-use Rattle.std.proofs.Common.{◌≡◌, ◌<◌, ℕ, zero, suc, ◌+◌, ◌*◌, ◌-◌, ◌%◌, ◌^◌, List, [], ◌∷◌, map, drop, get_or, Bool, Some, Result, Ok, Err, IfOk, refl, subst, arith, eqb, not, bit_and, bit_or, bit_xor}
+use Rattle.std.proofs.Common.{◌≡◌, ◌<◌, ℕ, zero, suc, ◌+◌, ◌*◌, ◌-◌, ◌%◌, ◌^◌, List, [], ◌∷◌, map, drop, get_or, Bool, Some, None, Result, Ok, Err, IfOk, refl, subst, arith, eqb, not, bit_and, bit_or, bit_xor}
 use Rattle.std.specs.Prelude.{slice_get}
 use Rattle.std.specs.Int.{from_bool}
 use Rattle.std.proofs.Math.Nat.{pow-suc}
@@ -24,10 +24,11 @@ use Rattle.ms_ir.specs.declared.syntax.Op.{Op}
 use Rattle.ms_ir.specs.declared.syntax.Op.TheVariants as op
 use Rattle.ms_ir.specs.Layout.{width_of, stored_size, extended}
 use Rattle.ms_runs.specs.World.{World}
+use Rattle.ms_ir.specs.Names.{lookup, externals}
 use Rattle.ms_ir.specs.Code.{operands}
 use Rattle.ms_runs.specs.Act.{extended_all}
 use Rattle.ms_runs.specs.Poisoned.{Poisoned, clean, InRange}
-use Rattle.ms_runs.specs.Masks.{Rules, value_or_zero, by_completions, by_formulas, shift_mask, binary_mask, union, word_at, result_mask}
+use Rattle.ms_runs.specs.Masks.{Rules, value_or_zero, by_completions, by_formulas, shift_mask, binary_mask, union, word_at, answer_mask, result_mask}
 use Rattle.ms_ir.specs.Written.{result_type}
 use Rattle.ms_runs_good.specs.GoodStates.{PoisonedBelow}
 use Rattle.ms_runs_good.specs.Straight.{HaveTypes}
@@ -189,7 +190,8 @@ result_mask_below d keep o c ps have w = by_op o c have
     by_op (op.Phi t edges) c h = λ u e. nothing u
     by_op (op.Alloca t u n) c h = λ z e. nothing z
     by_op (op.Store t v addr) c h = λ u e. nothing u
-    by_op (op.Call ret callee args) c h = λ u e. nothing u
+    by_op (op.Call None callee args) c h = λ u e. nothing u
+    by_op (op.Call (Some t) callee args) c h = in_type t (result_mask d (op.Call (Some t) callee args) ps w) (mod_below (answer_mask (lookup externals callee) ps) (2 ^ width_of t) (pow_pos (width_of t)))
     by_op (op.Br to) c h = λ u e. nothing u
     by_op (op.CondBr k to other) c h = λ u e. nothing u
     by_op (op.Switch t v other cases) c h = λ u e. nothing u

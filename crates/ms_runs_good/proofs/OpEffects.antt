@@ -14,11 +14,11 @@ use Rattle.ms_ir.specs.declared.syntax.Op.{Op}
 use Rattle.ms_ir.specs.declared.syntax.Op.TheVariants as op
 use Rattle.ms_ir.specs.Layout.{Types, width_of, stored_size, size_in, parts_offset, indexed}
 use Rattle.ms_ir.specs.Names.{slots}
-use Rattle.ms_runs.specs.World.{World, Setting, Here, Gives, Does, traps, word}
+use Rattle.ms_runs.specs.World.{World, Setting, Here, Gives, Does, traps, word, gives}
 use Rattle.ms_ir.specs.Areas.{Stack}
 use Rattle.ms_runs.specs.Memory.{fits, next_base, is_good, set_shadow, make_unset, store_number}
 use Rattle.ms_ir.specs.Code.{operands}
-use Rattle.ms_runs.specs.Act.{truth, gives, alloca, load, store, extended_all, act}
+use Rattle.ms_runs.specs.Act.{truth, alloca, load, store, extended_all, act}
 use Rattle.ms_runs.specs.Plain.{shadow_bits, in_slots, load_marked, store_marked}
 use Rattle.ms_ir.specs.Written.{result_type}
 use Rattle.ms_valid.specs.TypesAgree.{cast_allows}

@@ -135,7 +135,7 @@ module _ (m : Module) (formed : Formed m) (valid : Valid m) (setup : Setup) (giv
 
     checked_good : (e : Effect) → Answers (GoodWorld AnyOrigin) None e → BothGood m (after_checks d (setting_of m setup) m i h ps frame below e)
     checked_good (Does w) a =
-        let mask = union (map (λ p. p.mask) (blinded i.op ps)) in
+        let mask = union (map (λ p. p.mask) (blinded (setting_of m setup).func i.op ps)) in
         act_good (count_blind mask w) (blind_good AnyOrigin (setting_of m setup) w a.1 mask)
     checked_good (Ends x w) a = (tt, a)
     checked_good (Gives v w) a = (tt, a.1)

@@ -4,6 +4,7 @@ use Rattle.ms_bits.specs.declared.traps.Trap.{Trap}
 use Rattle.ms_bits.specs.declared.traps.Trap.TheVariants as trap
 use Rattle.ms_bits.specs.Maps.{byte_of, bytes_at, number_at, first_nonzero}
 use Rattle.ms_bits.specs.Arithmetic.{binary_of}
+use Rattle.ms_bits.specs.WordFunctions.{bits_of, word_answer}
 use Rattle.ms_bits.specs.Conversions.{compare_of, cast_of}
 use Rattle.ms_runs.specs.declared.runs.End.TheVariants as «end»
 use Rattle.ms_runs.specs.declared.runs.Report.{Report}
@@ -13,19 +14,19 @@ use Rattle.ms_ir.specs.declared.syntax.Module.{Module}
 use Rattle.ms_ir.specs.declared.syntax.Op.{Op}
 use Rattle.ms_ir.specs.declared.syntax.Op.TheVariants as op
 use Rattle.ms_ir.specs.declared.calls.External.{External}
-use Rattle.ms_ir.specs.declared.calls.External.TheVariants.{Malloc, Calloc, Realloc, Free, Memcpy, Memmove, Memset, Memcmp, Strlen, Putchar, Puts, Getchar, Read, Write, Exit, Abort, LlvmMemcpy, LlvmMemmove, LlvmMemset, LifetimeStart, LifetimeEnd, Printf}
+use Rattle.ms_ir.specs.declared.calls.External.TheVariants.{Malloc, Calloc, Realloc, Free, Memcpy, Memmove, Memset, Memcmp, Strlen, Putchar, Puts, Getchar, Read, Write, Exit, Abort, LlvmMemcpy, LlvmMemmove, LlvmMemset, LifetimeStart, LifetimeEnd, Printf, LlvmTrap, LlvmAssume, LlvmObjectSize, Word}
 use Rattle.ms_ir.specs.declared.calls.RuntimeFn.{RuntimeFn}
 use Rattle.ms_ir.specs.declared.calls.RuntimeFn.TheVariants.{Check, CheckMemory, CheckString, CheckFormat}
 use Rattle.ms_ir.specs.Names.{lookup, externals, runtime_functions, slots}
 use Rattle.ms_ir.specs.Layout.{width_of, stored_size, size_in}
 use Rattle.ms_ir.specs.Areas.{Heap, Stack}
-use Rattle.ms_runs.specs.World.{World, Setting, Here, Effect, Gives, Does, Goes, Enters, Leaves, Ends, traps, stuck, word}
+use Rattle.ms_runs.specs.World.{World, Setting, Here, Effect, Gives, Does, Goes, Enters, Leaves, Ends, traps, stuck, word, gives}
 use Rattle.ms_runs.specs.Memory.{fits, next_base, is_good, heap_size, end_block, make, make_unset, copy_bytes, copy_shadow, set_shadow, store_number, bytes_left}
 use Rattle.ms_runs.specs.Origins.{trail, add_report, check, check_byte, check_memory, check_string, asks_string_at, check_format, first_in_string}
 use Rattle.ms_runs.specs.Externals.{minus_one, malloc, reallocated, realloc, free, where_good, string_at, printed, taken, next_byte, formatted, prints, external}
 use Rattle.ms_runs.specs.Runtime.{runtime}
 use Rattle.ms_ir.specs.Code.{external_named, is_phi}
-use Rattle.ms_runs.specs.Act.{truth, gives, act}
+use Rattle.ms_runs.specs.Act.{truth, act}
 use Rattle.ms_runs.specs.Plain.{shadow_bits, in_slots, act_marked}
 use Rattle.ms_runs_good.specs.Sited.{IsSite, HasSite}
 use Rattle.ms_runs_good.proofs.WorldChanges.{chosen, either}
@@ -85,6 +86,10 @@ module _ (m : Module) (main : Bool) (setting : Setting) (site : ℕ) (sited : Is
   prints_sited (Ok bs) = printed_sited (length bs) bs
   prints_sited (Err t) = sited
 
+  answer_sited : (r : Result ℕ Trap) → IsSited m main (gives site r w)
+  answer_sited (Ok v) = tt
+  answer_sited (Err t) = sited
+
   pub external_sited : (e : External) (types : List Ty) (words : List ℕ) → IsSited m main (external setting site e types words w)
   external_sited Malloc types words = malloc_sited (word 0 words)
   external_sited Calloc types words =
@@ -114,7 +119,11 @@ module _ (m : Module) (main : Bool) (setting : Setting) (site : ℕ) (sited : Is
   external_sited LlvmMemset types words = where_good_sited (word 0 words) (word 2 words) _ tt
   external_sited LifetimeStart types words = where_good_sited (word 1 words) (word 0 words) _ tt
   external_sited LifetimeEnd types words = tt
+  external_sited LlvmTrap types words = sited
+  external_sited LlvmAssume types words = either (IsSited m main) (eqb (word 0 words) 0) (traps trap.Unreachable site w) (Does w) sited tt
+  external_sited LlvmObjectSize types words = tt
   external_sited Printf types words = prints_sited (formatted w types words)
+  external_sited (Word f n) types words = answer_sited (word_answer f (bits_of n) (word 0 words) (word 1 words) (word 2 words))
 
 -- ---- checks
 
@@ -193,8 +202,7 @@ IsRuntime o = Unit {0}
 
 module _ (m : Module) (setting : Setting) (here : Here) (sited : IsSite m here.site) (w : World) where
   gives_sited : (r : Result ℕ Trap) → IsSited m here.main (gives here.site r w)
-  gives_sited (Ok v) = tt
-  gives_sited (Err t) = sited
+  gives_sited r = answer_sited m here.main setting here.site sited w r
 
   call_sited : (callee : Name) (types : List Ty) (words : List ℕ) → (setting.func callee ≡ None → (e : External) × (lookup externals callee ≡ Some e))
       → IsSited m here.main (elim (setting.func callee) [

@@ -73,7 +73,7 @@ module _ (d : Rules) (m : Module) (formed : Formed m) (valid : Valid m) (bare : 
         (calls_known m valid frame.func frame.block frame.place good.func i good.stands due unmarked i.op refl))
 
     checked_stops : (e : Effect) → Checks e → MovedSited m (after_checks d (setting_of m setup) m i at_inst ps frame below e)
-    checked_stops (Does w) h = act_stops (count_blind (union (map (λ p. p.mask) (blinded i.op ps))) w)
+    checked_stops (Does w) h = act_stops (count_blind (union (map (λ p. p.mask) (blinded (setting_of m setup).func i.op ps))) w)
     checked_stops (Ends e w) h = subst (HasSite m) (sym h) tt
     checked_stops (Gives v w) h = absurd h
     checked_stops (Goes to w) h = absurd h

@@ -3,6 +3,7 @@ use Rattle.std.proofs.Common.{◌≡◌, ℕ, zero, suc, ◌+◌, ◌-◌, ◌*�
 use Rattle.std.proofs.lemmas.Bool.{le-leb, leb-true, ltb-true, lt-ltb, eqb-true, and_parts, and_from}
 use Rattle.ms_bits.specs.declared.traps.Trap.{Trap}
 use Rattle.ms_bits.specs.declared.traps.Trap.TheVariants as trap
+use Rattle.ms_bits.specs.WordFunctions.{bits_of, word_answer}
 use Rattle.ms_bits.specs.Fill.{made_byte}
 use Rattle.ms_bits.specs.Maps.{within, with_range, byte_of, bytes_at}
 use Rattle.ms_ir.specs.Areas.{Area, Heap, Stack}
@@ -12,11 +13,11 @@ use Rattle.ms_ir.specs.declared.syntax.Op.{Op}
 use Rattle.ms_ir.specs.declared.syntax.Op.TheVariants as op
 use Rattle.ms_ir.specs.declared.syntax.Ty.{Ty}
 use Rattle.ms_ir.specs.declared.calls.External.{External}
-use Rattle.ms_ir.specs.declared.calls.External.TheVariants.{Malloc, Calloc, Realloc, Free, Memcpy, Memmove, Memset, Memcmp, Strlen, Putchar, Puts, Getchar, Read, Write, Exit, Abort, LlvmMemcpy, LlvmMemmove, LlvmMemset, LifetimeStart, LifetimeEnd, Printf}
-use Rattle.ms_runs.specs.World.{Allocation, World, Setting, Here, Effect, Gives, Enters, Ends, traps, stuck, word}
+use Rattle.ms_ir.specs.declared.calls.External.TheVariants.{Malloc, Calloc, Realloc, Free, Memcpy, Memmove, Memset, Memcmp, Strlen, Putchar, Puts, Getchar, Read, Write, Exit, Abort, LlvmMemcpy, LlvmMemmove, LlvmMemset, LifetimeStart, LifetimeEnd, Printf, LlvmTrap, LlvmAssume, LlvmObjectSize, Word}
+use Rattle.ms_runs.specs.World.{Allocation, World, Setting, Here, Effect, Gives, Enters, Ends, traps, stuck, word, gives}
 use Rattle.ms_runs.specs.Memory.{fits, next_base, first_that, covers, is_good, block_of, is_heap_block, heap_size, end_block, make, make_unset, make_bytes, set_bytes, store_number, copy_bytes, copy_shadow}
 use Rattle.ms_runs.specs.Externals.{malloc, reallocated, realloc, where_good, printed, next_byte, formatted, prints, external, string_at, output_limit}
-use Rattle.ms_runs.specs.Act.{act, gives}
+use Rattle.ms_runs.specs.Act.{act}
 use Rattle.ms_runs_laws.specs.Inside.{has_byte, StaysInside, InsideAfter}
 
 -- ---- ranges of maps
@@ -182,6 +183,10 @@ prints_stays : (site : ℕ) (r : Result (List ℕ) Trap) (w : World) → InsideA
 prints_stays site (Ok bs) w = printed_stays site bs (length bs) w
 prints_stays site (Err t) w = itself w
 
+gives_stays : (site : ℕ) (r : Result ℕ Trap) (w : World) → InsideAfter w (gives site r w)
+gives_stays site (Ok v) w = itself w
+gives_stays site (Err t) w = itself w
+
 external_stays : (s : Setting) (site : ℕ) (e : External) (ts : List Ty) (vs : List ℕ) (w : World) → InsideAfter w (external s site e ts vs w)
 external_stays s site Malloc ts vs w = malloc_stays s.fill (word 0 vs) w
 external_stays s site Calloc ts vs w = either (ltb (word 0 vs * word 1 vs) (2 ^ 64) && fits Heap (word 0 vs * word 1 vs) w) w _ _ (λ t. make_stays Heap (word 0 vs * word 1 vs) w) (itself w)
@@ -206,13 +211,13 @@ external_stays s site LlvmMemmove ts vs w = where_stays site (word 0 vs) (word 2
 external_stays s site LlvmMemset ts vs w = where_stays site (word 0 vs) (word 2 vs) w _ (λ good. stored w (set_bytes (word 0 vs) (word 2 vs) (λ k. word 1 vs % 256) w) (word 0 vs) (word 2 vs) (λ k. word 1 vs % 256) good (λ x. refl))
 external_stays s site LifetimeStart ts vs w = where_stays site (word 1 vs) (word 0 vs) w _ (λ good. stored w (make_bytes s.fill (word 1 vs) (word 0 vs) w) (word 1 vs) (word 0 vs) (λ k. made_byte s.fill (w.made + k)) good (λ x. refl))
 external_stays s site LifetimeEnd ts vs w = itself w
+external_stays s site LlvmTrap ts vs w = itself w
+external_stays s site LlvmAssume ts vs w = either (eqb (word 0 vs) 0) w _ _ (λ t. itself w) (itself w)
+external_stays s site LlvmObjectSize ts vs w = itself w
 external_stays s site Printf ts vs w = prints_stays site (formatted w ts vs) w
+external_stays s site (Word f n) ts vs w = gives_stays site (word_answer f (bits_of n) (word 0 vs) (word 1 vs) (word 2 vs)) w
 
 -- ---- instructions
-
-gives_stays : (site : ℕ) (r : Result ℕ Trap) (w : World) → InsideAfter w (gives site r w)
-gives_stays site (Ok v) w = itself w
-gives_stays site (Err t) w = itself w
 
 call_stays : (s : Setting) (site : ℕ) (ts : List Ty) (vs : List ℕ) (w : World) (o : Option ℕ) (e : Option External)
     → InsideAfter w (elim o [ Some f ↦ Enters f w | None ↦ elim e [ Some x ↦ external s site x ts vs w | None ↦ Ends stuck w ] ])

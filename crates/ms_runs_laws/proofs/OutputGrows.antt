@@ -11,10 +11,11 @@ use Rattle.ms_ir.specs.declared.syntax.Inst.{Inst}
 use Rattle.ms_ir.specs.declared.syntax.Module.{Module}
 use Rattle.ms_runs.specs.declared.runs.End.TheVariants as «end»
 use Rattle.ms_ir.specs.declared.calls.External.{External}
-use Rattle.ms_ir.specs.declared.calls.External.TheVariants.{Malloc, Calloc, Realloc, Free, Memcpy, Memmove, Memset, Memcmp, Strlen, Putchar, Puts, Getchar, Read, Write, Exit, Abort, LlvmMemcpy, LlvmMemmove, LlvmMemset, LifetimeStart, LifetimeEnd, Printf}
+use Rattle.ms_ir.specs.declared.calls.External.TheVariants.{Malloc, Calloc, Realloc, Free, Memcpy, Memmove, Memset, Memcmp, Strlen, Putchar, Puts, Getchar, Read, Write, Exit, Abort, LlvmMemcpy, LlvmMemmove, LlvmMemset, LifetimeStart, LifetimeEnd, Printf, LlvmTrap, LlvmAssume, LlvmObjectSize, Word}
 use Rattle.ms_ir.specs.Areas.{Heap, Stack}
-use Rattle.ms_runs.specs.World.{World, Setting, Here, Effect, Gives, Does, Goes, Enters, Leaves, Ends, word}
+use Rattle.ms_runs.specs.World.{World, Setting, Here, Effect, Gives, Does, Goes, Enters, Leaves, Ends, word, gives}
 use Rattle.ms_ir.specs.Layout.{width_of, stored_size, size_in}
+use Rattle.ms_bits.specs.WordFunctions.{bits_of, word_answer}
 use Rattle.ms_bits.specs.Arithmetic.{binary_of}
 use Rattle.ms_bits.specs.Conversions.{compare_of, cast_of}
 use Rattle.ms_runs.specs.Memory.{fits, is_good, heap_size}
@@ -22,7 +23,7 @@ use Rattle.ms_bits.specs.Maps.{bytes_at}
 use Rattle.ms_ir.specs.Code.{operands, external_named, HeadUnmarked, NoMarks}
 use Rattle.ms_runs.specs.Control.{Frame, Outcome, On, Over, here, rest_of, read_all, entered, left, after_effect}
 use Rattle.ms_runs.specs.Externals.{external, malloc, reallocated, where_good, string_at, printed, next_byte, formatted, prints}
-use Rattle.ms_runs.specs.Act.{plain_reading, act, gives, truth}
+use Rattle.ms_runs.specs.Act.{plain_reading, act, truth}
 use Rattle.ms_runs.specs.Plain.{act_marked, slots_after, PlainState, Stepped, More, Stop, and_then, plain_state, through, plain_step, go_on, run}
 use Rattle.ms_runs.specs.Faithful.{Prefix}
 
@@ -104,7 +105,11 @@ adds_external s site LlvmMemmove ts vs w = adds_good site (word 0 vs) (word 2 vs
 adds_external s site LlvmMemset ts vs w = adds_good site (word 0 vs) (word 2 vs) w (record { more = whole _ })
 adds_external s site LifetimeStart ts vs w = adds_good site (word 1 vs) (word 0 vs) w (record { more = whole _ })
 adds_external s site LifetimeEnd ts vs w = record { more = whole _ }
+adds_external s site LlvmTrap ts vs w = record { more = whole _ }
+adds_external s site LlvmAssume ts vs w = adds_if (eqb (word 0 vs) 0) (record { more = whole _ }) (record { more = whole _ })
+adds_external s site LlvmObjectSize ts vs w = record { more = whole _ }
 adds_external s site Printf ts vs w = adds_prints site (formatted w ts vs) w
+adds_external s site (Word f n) ts vs w = adds_gives site (word_answer f (bits_of n) (word 0 vs) (word 1 vs) (word 2 vs)) w
 
 adds_act : (s : Setting) (h : Here) (o : Op) (vs : List ℕ) (w : World) → Adds w.output (act s h o vs w)
 adds_act s h (op.Binary o f t a b) vs w = adds_gives h.site (binary_of o f (width_of t) (word 0 vs) (word 1 vs)) w

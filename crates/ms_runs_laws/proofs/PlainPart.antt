@@ -6,17 +6,18 @@ use Rattle.ms_ir.specs.declared.syntax.Ty.{Ty}
 use Rattle.ms_ir.specs.declared.syntax.Op.{Op}
 use Rattle.ms_ir.specs.declared.syntax.Op.TheVariants as op
 use Rattle.ms_ir.specs.declared.calls.External.{External}
-use Rattle.ms_ir.specs.declared.calls.External.TheVariants.{Malloc, Calloc, Realloc, Free, Memcpy, Memmove, Memset, Memcmp, Strlen, Putchar, Puts, Getchar, Read, Write, Exit, Abort, LlvmMemcpy, LlvmMemmove, LlvmMemset, LifetimeStart, LifetimeEnd, Printf}
+use Rattle.ms_ir.specs.declared.calls.External.TheVariants.{Malloc, Calloc, Realloc, Free, Memcpy, Memmove, Memset, Memcmp, Strlen, Putchar, Puts, Getchar, Read, Write, Exit, Abort, LlvmMemcpy, LlvmMemmove, LlvmMemset, LifetimeStart, LifetimeEnd, Printf, LlvmTrap, LlvmAssume, LlvmObjectSize, Word}
 use Rattle.ms_ir.specs.Areas.{Heap, Stack}
-use Rattle.ms_runs.specs.World.{World, Setting, Here, Effect, Gives, Does, Goes, Enters, Leaves, Ends, word}
+use Rattle.ms_runs.specs.World.{World, Setting, Here, Effect, Gives, Does, Goes, Enters, Leaves, Ends, word, gives}
 use Rattle.ms_ir.specs.Layout.{width_of, stored_size, size_in}
+use Rattle.ms_bits.specs.WordFunctions.{bits_of, word_answer}
 use Rattle.ms_bits.specs.Arithmetic.{binary_of}
 use Rattle.ms_bits.specs.Conversions.{compare_of, cast_of}
 use Rattle.ms_runs.specs.Memory.{fits, is_good, heap_size}
 use Rattle.ms_bits.specs.Maps.{bytes_at}
 use Rattle.ms_ir.specs.Code.{external_named}
 use Rattle.ms_runs.specs.Externals.{external, malloc, reallocated, where_good, string_at, printed, next_byte, formatted, prints}
-use Rattle.ms_runs.specs.Act.{act, gives, truth}
+use Rattle.ms_runs.specs.Act.{act, truth}
 
 abbrev pub bare : World → World
 bare w = record w { shadow = λ a. 0; origins = λ c. 0; pairs = []; reports = []; blind = 0 }
@@ -89,7 +90,11 @@ bare_external s site LlvmMemmove ts vs w = bare_good site (word 0 vs) (word 2 vs
 bare_external s site LlvmMemset ts vs w = bare_good site (word 0 vs) (word 2 vs) w (record { same = refl })
 bare_external s site LifetimeStart ts vs w = bare_good site (word 1 vs) (word 0 vs) w (record { same = refl })
 bare_external s site LifetimeEnd ts vs w = (record { same = refl })
+bare_external s site LlvmTrap ts vs w = (record { same = refl })
+bare_external s site LlvmAssume ts vs w = at_if (eqb (word 0 vs) 0) (record { same = refl }) (record { same = refl })
+bare_external s site LlvmObjectSize ts vs w = (record { same = refl })
 bare_external s site Printf ts vs w = bare_prints site (formatted w ts vs) w
+bare_external s site (Word f n) ts vs w = bare_gives site (word_answer f (bits_of n) (word 0 vs) (word 1 vs) (word 2 vs)) w
 
 pub bare_act : (s : Setting) (h : Here) (o : Op) (vs : List ℕ) (w : World) → Alike (act s h o vs w) (act s h o vs (bare w))
 bare_act s h (op.Binary o f t a b) vs w = bare_gives h.site (binary_of o f (width_of t) (word 0 vs) (word 1 vs)) w

@@ -7,7 +7,8 @@ use Rattle.ms_ir.specs.declared.syntax.Op.{Op}
 use Rattle.ms_ir.specs.declared.syntax.Op.TheVariants as op
 use Rattle.ms_runs.specs.declared.runs.End.TheVariants as «end»
 use Rattle.ms_ir.specs.declared.calls.External.{External}
-use Rattle.ms_ir.specs.declared.calls.External.TheVariants.{Malloc, Calloc, Realloc, Free, Memcpy, Memmove, Memset, Memcmp, Strlen, Putchar, Puts, Getchar, Read, Write, Exit, Abort, LlvmMemcpy, LlvmMemmove, LlvmMemset, LifetimeStart, LifetimeEnd, Printf}
+use Rattle.ms_ir.specs.declared.calls.External.TheVariants.{Malloc, Calloc, Realloc, Free, Memcpy, Memmove, Memset, Memcmp, Strlen, Putchar, Puts, Getchar, Read, Write, Exit, Abort, LlvmMemcpy, LlvmMemmove, LlvmMemset, LifetimeStart, LifetimeEnd, Printf, LlvmTrap, LlvmAssume, LlvmObjectSize}
+use Rattle.ms_ir.specs.declared.calls.External.TheVariants as called
 use Rattle.ms_runs.specs.World.{World, Setting, Effect, Gives, Does, Goes, Enters, Leaves, Ends, then_does}
 use Rattle.ms_ir.specs.Layout.{stored_size, size_in}
 use Rattle.ms_runs.specs.Memory.{is_good, heap_size, set_shadow}
@@ -86,7 +87,11 @@ external_shows s site root LlvmMemmove ps before x w = copy_shows ((word_at 0 ps
 external_shows s site root LlvmMemset ps before x w = fill_shows s ((word_at 0 ps).value) ((word_at 2 ps).value) ((word_at 1 ps).mask) ((word_at 1 ps).origin) site w
 external_shows s site root LifetimeStart ps before x w = poison_shows ((word_at 1 ps).value) 0 ((word_at 0 ps).value) root w
 external_shows s site root LifetimeEnd ps before x w = here w
+external_shows s site root LlvmTrap ps before x w = here w
+external_shows s site root LlvmAssume ps before x w = here w
+external_shows s site root LlvmObjectSize ps before x w = here w
 external_shows s site root Printf ps before x w = here w
+external_shows s site root (called.Word f n) ps before x w = here w
 
 callee_shows : (s : Setting) (site root : ℕ) (e : Option External) (ps : List Poisoned) (before : World) (x : ℕ) (w : World) → Shows w (callee_planes s site root e ps before x w)
 callee_shows s site root None ps before x w = here w

@@ -4,6 +4,7 @@ use Rattle.std.proofs.lemmas.Bool.{le-leb, leb-true, lt-ltb, eqb-true, and_parts
 use Rattle.std.proofs.lemmas.Option.{same_Some}
 use Rattle.ms_bits.specs.declared.traps.Trap.{Trap}
 use Rattle.ms_bits.specs.declared.traps.Trap.TheVariants as trap
+use Rattle.ms_bits.specs.WordFunctions.{bits_of, word_answer}
 use Rattle.ms_bits.specs.Fill.{made_byte}
 use Rattle.ms_bits.specs.Maps.{within, with_range, byte_of, bytes_at, string_within}
 use Rattle.ms_bits_laws.proofs.MapLemmas.{same_number}
@@ -14,13 +15,13 @@ use Rattle.ms_ir.specs.declared.syntax.Op.{Op}
 use Rattle.ms_ir.specs.declared.syntax.Op.TheVariants as op
 use Rattle.ms_ir.specs.declared.syntax.Ty.{Ty}
 use Rattle.ms_ir.specs.declared.calls.External.{External}
-use Rattle.ms_ir.specs.declared.calls.External.TheVariants.{Malloc, Calloc, Realloc, Free, Memcpy, Memmove, Memset, Memcmp, Strlen, Putchar, Puts, Getchar, Read, Write, Exit, Abort, LlvmMemcpy, LlvmMemmove, LlvmMemset, LifetimeStart, LifetimeEnd, Printf}
-use Rattle.ms_runs.specs.World.{Allocation, World, Setting, Here, Effect, Gives, Enters, Ends, traps, stuck, word}
+use Rattle.ms_ir.specs.declared.calls.External.TheVariants.{Malloc, Calloc, Realloc, Free, Memcpy, Memmove, Memset, Memcmp, Strlen, Putchar, Puts, Getchar, Read, Write, Exit, Abort, LlvmMemcpy, LlvmMemmove, LlvmMemset, LifetimeStart, LifetimeEnd, Printf, LlvmTrap, LlvmAssume, LlvmObjectSize, Word}
+use Rattle.ms_runs.specs.World.{Allocation, World, Setting, Here, Effect, Gives, Enters, Ends, traps, stuck, word, gives}
 use Rattle.ms_runs.specs.Memory.{fits, next_base, first_that, covers, is_good, block_of, is_heap_block, heap_size, end_block, make, make_unset, make_bytes, set_bytes, copy_bytes, copy_shadow, bytes_left}
 use Rattle.std.specs.Prelude.{zip}
 use Rattle.ms_runs.specs.Formats.{cut_of, with_arguments, shown, all_shown}
 use Rattle.ms_runs.specs.Externals.{malloc, reallocated, realloc, where_good, printed, next_byte, formatted, prints, external, string_at, output_limit, compared, taken}
-use Rattle.ms_runs.specs.Act.{act, gives}
+use Rattle.ms_runs.specs.Act.{act}
 use Rattle.ms_runs_laws.specs.Inside.{has_byte, AgreesLive, SameReached, SameAnswer}
 use Rattle.ms_runs_laws.proofs.Inside.{within_parts, good_is_live, drop_front, drop_mapped, fresh}
 
@@ -257,6 +258,10 @@ module _ (w : World) (b : ℕ → ℕ) (alike : AgreesLive w b) where
   unfolding format_by
   same_format ts vs = λ i. format_by (λ a. strings a i) ts vs
 
+  gives_same : (site : ℕ) (r : Result ℕ Trap) → SameAnswer w (gives site r w) (gives site r (record w { bytes = b }))
+  gives_same site (Ok x) = (refl, itself)
+  gives_same site (Err t) = (refl, itself)
+
   external_same : (s : Setting) (site : ℕ) (e : External) (ts : List Ty) (vs : List ℕ) → SameAnswer w (external s site e ts vs w) (external s site e ts vs (record w { bytes = b }))
   external_same s site Malloc ts vs = malloc_same s.fill (word 0 vs)
   external_same s site Calloc ts vs = either (ltb (word 0 vs * word 1 vs) (2 ^ 64) && fits Heap (word 0 vs * word 1 vs) w) _ _ _ _ (λ t. (refl, make_same Heap (word 0 vs * word 1 vs))) (refl, itself)
@@ -286,14 +291,14 @@ module _ (w : World) (b : ℕ → ℕ) (alike : AgreesLive w b) where
       where_same site (word 1 vs) (word 0 vs) _ _ (λ t. unmade (make_bytes s.fill (word 1 vs) (word 0 vs) w) (make_bytes s.fill (word 1 vs) (word 0 vs) (record w { bytes = b })) refl refl
       (wrote (word 1 vs) (word 0 vs) (λ k. made_byte s.fill (w.made + k)) (λ k. made_byte s.fill (w.made + k)) (λ k l. refl)))
   external_same s site LifetimeEnd ts vs = itself
+  external_same s site LlvmTrap ts vs = (refl, itself)
+  external_same s site LlvmAssume ts vs = either (eqb (word 0 vs) 0) _ _ _ _ (λ t. (refl, itself)) itself
+  external_same s site LlvmObjectSize ts vs = (refl, itself)
+  external_same s site (Word f n) ts vs = gives_same site (word_answer f (bits_of n) (word 0 vs) (word 1 vs) (word 2 vs))
   external_same s site Printf ts vs =
       subst (λ (r : Result (List ℕ) Trap). SameAnswer w (prints site (formatted w ts vs) w) (prints site r (record w { bytes = b }))) (same_format ts vs) (prints_same site (formatted w ts vs))
 
   -- ---- instructions
-
-  gives_same : (site : ℕ) (r : Result ℕ Trap) → SameAnswer w (gives site r w) (gives site r (record w { bytes = b }))
-  gives_same site (Ok x) = (refl, itself)
-  gives_same site (Err t) = (refl, itself)
 
   call_same : (s : Setting) (site : ℕ) (ts : List Ty) (vs : List ℕ) (o : Option ℕ) (e : Option External)
       → SameAnswer w (elim o [ Some f ↦ Enters f w | None ↦ elim e [ Some x ↦ external s site x ts vs w | None ↦ Ends stuck w ] ])

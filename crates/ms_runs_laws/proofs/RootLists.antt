@@ -14,7 +14,7 @@ use Rattle.ms_ir.specs.declared.syntax.Block.{Block}
 use Rattle.ms_ir.specs.declared.syntax.Func.{Func}
 use Rattle.ms_ir.specs.declared.syntax.Module.{Module}
 use Rattle.ms_ir.specs.declared.calls.External.{External}
-use Rattle.ms_ir.specs.declared.calls.External.TheVariants.{Malloc, Calloc, Realloc, Free, Memcpy, Memmove, Memset, Memcmp, Strlen, Putchar, Puts, Getchar, Read, Write, Exit, Abort, LlvmMemcpy, LlvmMemmove, LlvmMemset, LifetimeStart, LifetimeEnd, Printf}
+use Rattle.ms_ir.specs.declared.calls.External.TheVariants.{Malloc, Calloc, Realloc, Free, Memcpy, Memmove, Memset, Memcmp, Strlen, Putchar, Puts, Getchar, Read, Write, Exit, Abort, LlvmMemcpy, LlvmMemmove, LlvmMemset, LifetimeStart, LifetimeEnd, Printf, LlvmTrap, LlvmAssume, LlvmObjectSize, Word}
 use Rattle.ms_ir.specs.declared.places.Root.{Root}
 use Rattle.ms_ir.specs.Code.{operands, func_index, func_at, blocks_at, insts_at, one_unmarked, over_insts, over_blocks, over_funcs, site_at, count_undefs, makes_unset, external_named, is_root, roots_in, root_at, count_roots, is_unmarked, strip_block, strip_func, strip}
 use Rattle.ms_ir.specs.Roots.{undef_roots, call_roots, own_roots, inst_roots, insts_roots, blocks_roots, funcs_roots, roots_of, root_numbered}
@@ -30,7 +30,7 @@ undefs_counted site ((t, operand.Undef) ∷ os) = omega (arith, undefs_counted s
 undefs_counted site ((t, operand.Poison) ∷ os) = omega (arith, undefs_counted site os)
 undefs_counted site ((t, operand.Local x) ∷ os) = omega (arith, undefs_counted site os)
 undefs_counted site ((t, operand.Global x) ∷ os) = omega (arith, undefs_counted site os)
-undefs_counted site ((t, operand.Offset u x is) ∷ os) = omega (arith, undefs_counted site os)
+undefs_counted site ((t, operand.Offset x steps) ∷ os) = omega (arith, undefs_counted site os)
 
 -- 1 where a test holds
 abbrev one_if : Bool → ℕ
@@ -59,7 +59,11 @@ call_counted site (Some LlvmMemmove) = refl
 call_counted site (Some LlvmMemset) = refl
 call_counted site (Some LifetimeStart) = refl
 call_counted site (Some LifetimeEnd) = refl
+call_counted site (Some LlvmTrap) = refl
+call_counted site (Some LlvmAssume) = refl
+call_counted site (Some LlvmObjectSize) = refl
 call_counted site (Some Printf) = refl
+call_counted site (Some (Word f n)) = refl
 
 own_counted : (func : Name → Option ℕ) (site : ℕ) (o : Op) → length (own_roots func site o) ≡ one_if (is_root func o)
 own_counted func site (op.Alloca t u c) = refl

@@ -131,7 +131,7 @@ checked_steps d s m i fr below cells w v (Does x) q p =
     act_steps d s m i fr below cells w v (count_blind mask x) ((blind_shows mask x).same ∙ p.same) q
   where
     mask : ℕ
-    mask = union (map (λ k. k.mask) (blinded i.op (read_all (read_poisoned s fr.values) (operands i.op) (here s m fr).root)))
+    mask = union (map (λ k. k.mask) (blinded s.func i.op (read_all (read_poisoned s fr.values) (operands i.op) (here s m fr).root)))
 checked_steps d s m i fr below cells w v (Ends e x) q p = inl (p.0, ap (λ u. u.output) (q ∙ sym p.1.same))
 checked_steps d s m i fr below cells w v (Gives n x) q p = absurd p
 checked_steps d s m i fr below cells w v (Goes n x) q p = absurd p

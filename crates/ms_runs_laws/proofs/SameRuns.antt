@@ -53,7 +53,7 @@ word_fits s v w operand.Undef = undef_fits s.fill w
 word_fits s v w operand.Poison = undef_fits s.fill w
 word_fits s v w (operand.Local x) = mod_below _ _ (pow_pos w)
 word_fits s v w (operand.Global x) = mod_below _ _ (pow_pos w)
-word_fits s v w (operand.Offset t x is) = mod_below _ _ (pow_pos w)
+word_fits s v w (operand.Offset x steps) = mod_below _ _ (pow_pos w)
 
 mask_fits : (v : Name → Poisoned) (w : ℕ) (o : Operand) → operand_mask v w o < 2 ^ w
 mask_fits v w (operand.Int n) = pow_pos w
@@ -62,7 +62,7 @@ mask_fits v w operand.Undef = ones_fit w
 mask_fits v w operand.Poison = ones_fit w
 mask_fits v w (operand.Local x) = mod_below _ _ (pow_pos w)
 mask_fits v w (operand.Global x) = pow_pos w
-mask_fits v w (operand.Offset t x is) = pow_pos w
+mask_fits v w (operand.Offset x steps) = pow_pos w
 
 read_fits : (s : Setting) (v : Name → Poisoned) (root : ℕ) (t : Ty) (o : Operand) → InRange (width_of t) (read_poisoned s v root t o)
 read_fits s v root t o = record { value = word_fits s _ (width_of t) o; mask = mask_fits v (width_of t) o }

@@ -1,6 +1,9 @@
 -- The arguments of calls that are asked for fit.
 use Rattle.std.proofs.Common.{◌≡◌, ◌<◌, ◌≤◌, ℕ, zero, suc, false, List, [], ◌∷◌, map, length, get_or, refl, sym, ap, subst, arith, Result, Ok, Err, Option, Some, None, option_map, unwrap_or}
 use Rattle.std.specs.Prelude.{slice_get, IfOk}
+use Rattle.ms_bits.specs.declared.word_functions.WordFn.{WordFn}
+use Rattle.ms_bits.specs.declared.word_functions.WordFn.TheVariants as word
+use Rattle.ms_bits.specs.WordFunctions.{bits_of}
 use Rattle.ms_ir.specs.declared.syntax.Ty.{Ty, Int, Ptr}
 use Rattle.ms_ir.specs.declared.syntax.Inst.{Inst}
 use Rattle.ms_ir.specs.declared.places.Place.{Place}
@@ -9,7 +12,7 @@ use Rattle.ms_ir.specs.declared.calls.External.TheVariants as external
 use Rattle.ms_ir.specs.declared.calls.RuntimeFn.{RuntimeFn}
 use Rattle.ms_ir.specs.Code.{operands}
 use Rattle.ms_ir.specs.Places.{IsPlaceOf, inst_at}
-use Rattle.ms_ir.specs.Signatures.{runtime_signature}
+use Rattle.ms_ir.specs.Signatures.{runtime_signature, word_params}
 use Rattle.ms_ir.specs.declared.syntax.Module.{Module}
 use Rattle.ms_runs.specs.declared.runs.End.{End}
 use Rattle.ms_runs.specs.declared.runs.Setup.{Setup}
@@ -17,7 +20,7 @@ use Rattle.ms_runs.specs.Control.{Frame}
 use Rattle.ms_valid.specs.Valid.{Valid}
 use Rattle.ms_runs_good.specs.GoodStates.{IsBelow}
 use Rattle.ms_runs_good.specs.Straight.{HaveTypes}
-use Rattle.ms_host.specs.Answers.{FitsExit}
+use Rattle.ms_host.specs.Answers.{FitsFirst}
 use Rattle.ms_host.specs.declared.calls.Asked.{Asked}
 use Rattle.ms_host.specs.declared.calls.Asked.TheVariants as asked
 use Rattle.ms_host.specs.declared.calls.Answer.{Answer}
@@ -81,10 +84,22 @@ pub fits_asked : (a : Asked) (types : List Ty) (args : List ℕ) (f : RuntimeFn)
 fits_asked (asked.Runtime f) types args g e count have = fits f args count have
 fits_asked (asked.External x) types args g e count have = absurd (cc)
 
-pub fits_exit : (a : Asked) (types : List Ty) (args : List ℕ) → HaveTypes IsBelow 0 args (asked_types a types) → FitsExit a args
-fits_exit (asked.External external.Exit) types args have = have 0 (Int 32) refl
-fits_exit (asked.External e) types args have = tt
-fits_exit (asked.Runtime f) types args have = tt
+first_word : (f : WordFn) (w : ℕ) → slice_get (word_params f w) 0 ≡ Some (Int w)
+first_word word.Ctpop w = refl
+first_word word.Ctlz w = refl
+first_word word.Cttz w = refl
+first_word word.Bswap w = refl
+first_word word.Bitreverse w = refl
+first_word word.Abs w = refl
+first_word word.Fshl w = refl
+first_word word.Fshr w = refl
+first_word _ w = refl
+
+pub fits_first : (a : Asked) (types : List Ty) (args : List ℕ) → HaveTypes IsBelow 0 args (asked_types a types) → FitsFirst a args
+fits_first (asked.External external.Exit) types args have = have 0 (Int 32) refl
+fits_first (asked.External (external.Word f n)) types args have = have 0 (Int (bits_of n)) (first_word f (bits_of n))
+fits_first (asked.External e) types args have = tt
+fits_first (asked.Runtime f) types args have = tt
 
 pub slack_of : (a : Asked) (e : External) (made left : ℕ) → a ≡ asked.External e → HasSlack a made left → HasSlack (asked.External e) made left
 slack_of a e made left same h = subst (λ (x : Asked). HasSlack x made left) same h

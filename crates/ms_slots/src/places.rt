@@ -38,14 +38,23 @@ fn index(alloc: Global, place: u64) -> Result<List<(Ty, u64)>, NoMemory>
     Ok(List::from_vec(indices))
 }
 
+/// The step to an item of a width.
+fn step(alloc: Global, width: u8, place: u64) -> Result<List<(Ty, List<(Ty, u64)>)>, NoMemory>
+    ensures { IfOk result (λ l. l ≡ (type.Int width, (type.Int 64, place) ∷ []) ∷ []) }
+{
+    let indices = index(alloc, place)?;
+    let mut steps = Vec::with_capacity(alloc, 1)?;
+    steps.push((Ty::Int(width), indices))?;
+    Ok(List::from_vec(steps))
+}
+
 /// An item of a width in a slot that is an array.
 fn item_of_slot(alloc: Global, slot: Slot, width: u8, place: u64) -> Result<Operand, NoMemory>
-    ensures { IfOk result (λ o. o ≡ operand.Offset (type.Int width) (name_of slot) ((type.Int 64, place) ∷ [])) }
+    ensures { IfOk result (λ o. o ≡ operand.Offset (name_of slot) ((type.Int width, (type.Int 64, place) ∷ []) ∷ [])) }
 {
     let name = Boxed::new(alloc, slot_name(alloc, slot)?)?;
-    let ty = Boxed::new(alloc, Ty::Int(width))?;
-    let indices = index(alloc, place)?;
-    Ok(Operand::Offset(ty, name, indices))
+    let steps = step(alloc, width, place)?;
+    Ok(Operand::Offset(name, steps))
 }
 
 impl Place {

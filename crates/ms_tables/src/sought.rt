@@ -4,6 +4,7 @@ ghost use Rattle.ms_ir.specs.Written.{Mention, OfType, OfLocal, OfGlobal, type_m
 ghost use Rattle.ms_tables.specs.Sought.{first_sought};
 
 use crate::spelled::Spelled;
+use ms_bits::List;
 use ms_ir::{Init, Name, Operand, Ty};
 
 /// Which names are sought, where they are used.
@@ -88,6 +89,18 @@ fn in_types<'n, S: Search>(search: &S, types: &'n [Ty]) -> Option<Spelled<'n>>
     None
 }
 
+/// The first that is sought in the types of steps.
+fn in_steps<'n, S: Search>(search: &S, steps: &'n [(Ty, List<(Ty, u64)>)]) -> Option<Spelled<'n>>
+    ensures { result ≡ first_sought (S.sought search.now) (flat_map (λ s. type_mentions s.0) steps.now) }
+{
+    for (ty, _) in steps {
+        if let Some(spelled) = in_type(search, ty) {
+            return Some(spelled);
+        }
+    }
+    None
+}
+
 /// The first that is sought in an operand, in written order.
 pub fn in_operand<'n, S: Search>(search: &S, operand: &'n Operand) -> Option<Spelled<'n>>
     ensures { result ≡ first_sought (S.sought search.now) (operand_mentions operand.now) }
@@ -95,7 +108,7 @@ pub fn in_operand<'n, S: Search>(search: &S, operand: &'n Operand) -> Option<Spe
     match operand {
         Operand::Local(name) => local_sought(search, name),
         Operand::Global(name) => global_sought(search, name),
-        Operand::Offset(ty, name, _) => in_type(search, ty.get()).or(global_sought(
+        Operand::Offset(name, steps) => in_steps(search, steps.as_slice()).or(global_sought(
             search,
             name.get(),
         )),

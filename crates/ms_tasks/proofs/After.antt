@@ -17,7 +17,7 @@ use Rattle.ms_runs.specs.World.{World, Setting, Here, Effect, Gives, Does, Enter
 use Rattle.ms_runs.specs.Memory.{is_good, set_shadow, fits, next_base, make_unset, store_number}
 use Rattle.ms_ir.specs.Code.{operands, count_undefs, is_root, makes_unset, external_named}
 use Rattle.ms_runs.specs.Act.{operand_word, alloca, store}
-use Rattle.ms_ir.specs.Names.{is_reserved, name_eq}
+use Rattle.ms_ir.specs.Names.{is_reserved, name_eq, lookup, externals}
 use Rattle.ms_runs.specs.Origins.{poison}
 use Rattle.std.proofs.Math.Nat.{mod-eq_of_lt, mul-suc}
 use Rattle.ms_runs.specs.Poisoned.{Poisoned}
@@ -41,6 +41,7 @@ use Rattle.ms_tasks.specs.InstructionLaw.{Stands, given_of, words_at, acted_at, 
 use Rattle.ms_tasks.proofs.InsertedNames.{own_not_msan, mask_below, origin_below, with_here, with_other}
 use Rattle.ms_tasks.proofs.Flatten.{same_refl, went_inv, tasks_run}
 use Rattle.ms_tasks.proofs.TaskNames.{after_low}
+use Rattle.ms_tasks.proofs.OriginRanges.{words_ranged, answer_ranged}
 use Rattle.ms_tasks.proofs.OperandWords.{ap₃, word_less, mod_once, Holds, tracked_holds}
 use Rattle.ms_tasks.proofs.CheckTasks.{widened_word, whole}
 use Rattle.ms_tasks.proofs.MatchedNames.{Numbers, matches_same}
@@ -238,7 +239,9 @@ module _ (s : Setting) (env : Env) (size saved next : ℕ) (h : Here) (values : 
       ranged_result (Some z) rv y = by_name (name_eq y z)
         where
           by_name : (c : Bool) → (if c then poisoned_result by_formulas (op.Call ret callee args) (read_all (read_poisoned s values) args h.root) x w else values y).origin < 2 ^ 32
-          by_name true = omega arith
+          by_name true =
+              answer_ranged (lookup externals callee) (read_all (read_poisoned s values) args h.root)
+              (words_ranged s values args h.root rv (few_undefs s env size saved h (record { op = op.Call ret callee args; result = r; marked = b }) st))
           by_name false = rv y
 
       saved_kept : (r : Option Name) → KnownResult env size r → (e : External) → SavedSize (Some e) saved (read_all (read_poisoned s values) args h.root) before names

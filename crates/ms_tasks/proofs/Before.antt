@@ -43,7 +43,8 @@ use Rattle.ms_tasks.proofs.CheckTasks.{AreFit, check_on, checks_done}
 use Rattle.ms_tasks.proofs.Externals.{width_at}
 use Rattle.ms_tasks.proofs.Slots.{HandDone, hand_done, given_all}
 use Rattle.ms_ir.specs.declared.calls.External.{External}
-use Rattle.ms_ir.specs.declared.calls.External.TheVariants.{Malloc, Calloc, Realloc, Free, Memcpy, Memmove, Memset, Memcmp, Strlen, Putchar, Puts, Getchar, Read, Write, Exit, Abort, LlvmMemcpy, LlvmMemmove, LlvmMemset, LifetimeStart, LifetimeEnd, Printf}
+use Rattle.ms_ir.specs.declared.calls.External.TheVariants.{Malloc, Calloc, Realloc, Free, Memcpy, Memmove, Memset, Memcmp, Strlen, Putchar, Puts, Getchar, Read, Write, Exit, Abort, LlvmMemcpy, LlvmMemmove, LlvmMemset, LifetimeStart, LifetimeEnd, Printf, LlvmTrap, LlvmAssume, LlvmObjectSize}
+use Rattle.ms_ir.specs.declared.calls.External.TheVariants as called
 use Rattle.ms_bits.specs.Maps.{first_nonzero}
 use Rattle.ms_tasks.proofs.BlindTasks.{blinded_same, masks_hold, masks_blinded, blind_done}
 use Rattle.ms_tasks.proofs.Defined.{Defined, Fine, Fails}
@@ -113,6 +114,10 @@ external_fit ts LlvmMemmove args l w = (omega arith, omega arith, (omega arith, 
 external_fit ts LlvmMemset args l w = (omega arith, omega arith, (omega arith, omega arith, tt))
 external_fit ts LifetimeStart args l w = (omega arith, omega arith, (omega arith, omega arith, tt))
 external_fit ts LifetimeEnd args l w = (omega arith, omega arith, (omega arith, omega arith, tt))
+external_fit ts LlvmTrap args l w = tt
+external_fit ts LlvmAssume args l w = (omega arith, omega arith, tt)
+external_fit ts LlvmObjectSize args l w = (omega arith, omega arith, tt)
+external_fit ts (called.Word f n) args l w = tt
 external_fit ts Printf args l w = (omega arith, omega arith, (w 0, values_fit ts 1 (drop 1 args) (string_uses 1 (drop 1 args)) (fewer args l) (strings_fit ts 1 (drop 1 args) (fewer args l) (w 0) (λ j. subst (λ n. width_of (tracked_at n ts).ty ≡ get_or (map (λ a. width_of a.0) (drop 1 args)) j 64) (next j) (w (suc j) ∙ ap (λ ws. get_or ws j 64) (widths args))))))
   where
     next : (j : ℕ) → suc j ≡ 1 + j
@@ -371,22 +376,22 @@ before_law s env size saved h i values v w st m rn rv sound = by_checks (checked
     hand = hand_done s st.slots h v.names h.main i.op (args_few i.op st.known.built) (tracked env h.root (operands i.op)) (words_at s values h i)
         (given_all s st.slots h v.names env size values m rv (operands i.op) h.root st.known.reads few) v.slots
 
-    first : do_tasks s h (before_tasks (given_of s) env h i saved) v w ≡ check_on (checked_at s values h i w) (do_tasks s h (blind_tasks (blinded_of i.op (tracked env h.root (operands i.op))) ++ (result_tasks s.func env i.result i.op (tracked env h.root (operands i.op)) ++ save_tasks s.func saved i.op (tracked env h.root (operands i.op)))) (let q : Values = record { names = v.names; slots = hand.after } in q))
+    first : do_tasks s h (before_tasks (given_of s) env h i saved) v w ≡ check_on (checked_at s values h i w) (do_tasks s h (blind_tasks (blinded_of s.func i.op (tracked env h.root (operands i.op))) ++ (result_tasks s.func env i.result i.op (tracked env h.root (operands i.op)) ++ save_tasks s.func saved i.op (tracked env h.root (operands i.op)))) (let q : Values = record { names = v.names; slots = hand.after } in q))
     first =
-        hand.runs (check_tasks h.site (tracked env h.root (operands i.op)) (uses s.func h.main i.op) ++ (blind_tasks (blinded_of i.op (tracked env h.root (operands i.op))) ++ (result_tasks s.func env i.result i.op (tracked env h.root (operands i.op)) ++ save_tasks s.func saved i.op (tracked env h.root (operands i.op))))) w
+        hand.runs (check_tasks h.site (tracked env h.root (operands i.op)) (uses s.func h.main i.op) ++ (blind_tasks (blinded_of s.func i.op (tracked env h.root (operands i.op))) ++ (result_tasks s.func env i.result i.op (tracked env h.root (operands i.op)) ++ save_tasks s.func saved i.op (tracked env h.root (operands i.op))))) w
         ∙ checks_done s h (let q : Values = record { names = v.names; slots = hand.after } in q) (tracked env h.root (operands i.op)) (operands i.op) (words_at s values h i) st.ranged.site
         (tracked_holds s env size values v.names m rv (operands i.op) h.root st.known.reads few)
         (tracked_ty env h.root (operands i.op)) (tracked_narrow env size h.root (operands i.op) st.known.reads)
-        (uses s.func h.main i.op) (uses_fit env h.root s.func h.main i.result i.op st.known.built) (blind_tasks (blinded_of i.op (tracked env h.root (operands i.op))) ++ (result_tasks s.func env i.result i.op (tracked env h.root (operands i.op)) ++ save_tasks s.func saved i.op (tracked env h.root (operands i.op)))) w
+        (uses s.func h.main i.op) (uses_fit env h.root s.func h.main i.result i.op st.known.built) (blind_tasks (blinded_of s.func i.op (tracked env h.root (operands i.op))) ++ (result_tasks s.func env i.result i.op (tracked env h.root (operands i.op)) ++ save_tasks s.func saved i.op (tracked env h.root (operands i.op)))) w
 
-    counted : (w1 : World) → do_tasks s h (blind_tasks (blinded_of i.op (tracked env h.root (operands i.op))) ++ (result_tasks s.func env i.result i.op (tracked env h.root (operands i.op)) ++ save_tasks s.func saved i.op (tracked env h.root (operands i.op)))) (let q : Values = record { names = v.names; slots = hand.after } in q) w1 ≡ do_tasks s h (result_tasks s.func env i.result i.op (tracked env h.root (operands i.op)) ++ save_tasks s.func saved i.op (tracked env h.root (operands i.op))) (let q : Values = record { names = v.names; slots = hand.after } in q) (counted_at s values h i w1)
+    counted : (w1 : World) → do_tasks s h (blind_tasks (blinded_of s.func i.op (tracked env h.root (operands i.op))) ++ (result_tasks s.func env i.result i.op (tracked env h.root (operands i.op)) ++ save_tasks s.func saved i.op (tracked env h.root (operands i.op)))) (let q : Values = record { names = v.names; slots = hand.after } in q) w1 ≡ do_tasks s h (result_tasks s.func env i.result i.op (tracked env h.root (operands i.op)) ++ save_tasks s.func saved i.op (tracked env h.root (operands i.op))) (let q : Values = record { names = v.names; slots = hand.after } in q) (counted_at s values h i w1)
     counted w1 =
-        blind_done s h (let q : Values = record { names = v.names; slots = hand.after } in q) (blinded_of i.op (tracked env h.root (operands i.op))) (blinded_of i.op (words_at s values h i))
-        (masks_blinded s v.names i.op (tracked env h.root (operands i.op)) (words_at s values h i) (masks_hold s env size values v.names m (operands i.op) h.root st.known.reads)) (result_tasks s.func env i.result i.op (tracked env h.root (operands i.op)) ++ save_tasks s.func saved i.op (tracked env h.root (operands i.op))) w1
-        ∙ ap (λ l. do_tasks s h (result_tasks s.func env i.result i.op (tracked env h.root (operands i.op)) ++ save_tasks s.func saved i.op (tracked env h.root (operands i.op))) (let q : Values = record { names = v.names; slots = hand.after } in q) (count_blind (union (map (λ p. p.mask) l)) w1)) (sym (blinded_same i.op (words_at s values h i)))
+        blind_done s h (let q : Values = record { names = v.names; slots = hand.after } in q) (blinded_of s.func i.op (tracked env h.root (operands i.op))) (blinded_of s.func i.op (words_at s values h i))
+        (masks_blinded s v.names s.func i.op (tracked env h.root (operands i.op)) (words_at s values h i) (masks_hold s env size values v.names m (operands i.op) h.root st.known.reads)) (result_tasks s.func env i.result i.op (tracked env h.root (operands i.op)) ++ save_tasks s.func saved i.op (tracked env h.root (operands i.op))) w1
+        ∙ ap (λ l. do_tasks s h (result_tasks s.func env i.result i.op (tracked env h.root (operands i.op)) ++ save_tasks s.func saved i.op (tracked env h.root (operands i.op))) (let q : Values = record { names = v.names; slots = hand.after } in q) (count_blind (union (map (λ p. p.mask) l)) w1)) (sym (blinded_same s.func i.op (words_at s values h i)))
 
-    over : (e : Effect) → checked_at s values h i w ≡ e → do_tasks s h (before_tasks (given_of s) env h i saved) v w ≡ check_on e (do_tasks s h (blind_tasks (blinded_of i.op (tracked env h.root (operands i.op))) ++ (result_tasks s.func env i.result i.op (tracked env h.root (operands i.op)) ++ save_tasks s.func saved i.op (tracked env h.root (operands i.op)))) (let q : Values = record { names = v.names; slots = hand.after } in q))
-    over e f = first ∙ ap (λ z. check_on z (do_tasks s h (blind_tasks (blinded_of i.op (tracked env h.root (operands i.op))) ++ (result_tasks s.func env i.result i.op (tracked env h.root (operands i.op)) ++ save_tasks s.func saved i.op (tracked env h.root (operands i.op)))) (let q : Values = record { names = v.names; slots = hand.after } in q))) f
+    over : (e : Effect) → checked_at s values h i w ≡ e → do_tasks s h (before_tasks (given_of s) env h i saved) v w ≡ check_on e (do_tasks s h (blind_tasks (blinded_of s.func i.op (tracked env h.root (operands i.op))) ++ (result_tasks s.func env i.result i.op (tracked env h.root (operands i.op)) ++ save_tasks s.func saved i.op (tracked env h.root (operands i.op)))) (let q : Values = record { names = v.names; slots = hand.after } in q))
+    over e f = first ∙ ap (λ z. check_on z (do_tasks s h (blind_tasks (blinded_of s.func i.op (tracked env h.root (operands i.op))) ++ (result_tasks s.func env i.result i.op (tracked env h.root (operands i.op)) ++ save_tasks s.func saved i.op (tracked env h.root (operands i.op)))) (let q : Values = record { names = v.names; slots = hand.after } in q))) f
 
     by_checks : (e : Effect) → checked_at s values h i w ≡ e → IsLeft (checked_at s values h i w) → BeforeLaw s env saved h i values v w
     by_checks (Ends e z) f l = Checked e z (ended s env size saved h i values v w st m e z (over (Ends e z) f)) f

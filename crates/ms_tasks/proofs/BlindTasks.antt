@@ -1,5 +1,5 @@
 -- The blind count: what its task comes to, also where it is left out.
-use Rattle.std.proofs.Common.{◌≡◌, ℕ, ◌+◌, ◌^◌, ◌<◌, ◌≤◌, List, [], ◌∷◌, ◌++◌, refl, sym, ap, ◌∙◌, subst, arith, Bool, true, false, None}
+use Rattle.std.proofs.Common.{◌≡◌, ℕ, ◌+◌, ◌^◌, ◌<◌, ◌≤◌, List, [], ◌∷◌, ◌++◌, refl, sym, ap, ◌∙◌, subst, arith, Bool, true, false, Option, Some, None}
 use Rattle.std.specs.Prelude.{if◌then◌else◌, eqb, map, take, drop, bit_or, ◌&&◌}
 use Rattle.std.proofs.Math.Path.{ap₂}
 use Rattle.std.proofs.Math.Pow.{pow_mono}
@@ -17,12 +17,15 @@ use Rattle.ms_ir.specs.declared.calls.RuntimeFn.TheVariants as function
 use Rattle.ms_ir.specs.Layout.{width_of}
 use Rattle.ms_runs.specs.World.{World, Setting, Here}
 use Rattle.ms_runs.specs.Origins.{count_blind}
-use Rattle.ms_ir.specs.Code.{one_undef}
+use Rattle.ms_ir.specs.Code.{one_undef, external_named}
 use Rattle.ms_runs.specs.Control.{read_all}
 use Rattle.ms_runs.specs.Act.{operand_word}
 use Rattle.ms_runs.specs.Poisoned.{Poisoned}
 use Rattle.ms_runs.specs.Masks.{union}
-use Rattle.ms_runs.specs.Uses.{blinded, blind_binary, has_flag}
+use Rattle.ms_runs.specs.Uses.{blinded, blind_binary, flagged_words, has_flag, has_true_flag}
+use Rattle.ms_bits.specs.WordFunctions.{is_flagged}
+use Rattle.ms_ir.specs.declared.calls.External.{External}
+use Rattle.ms_ir.specs.declared.calls.External.TheVariants.{Word}
 use Rattle.ms_runs.specs.Shadow.{read_poisoned}
 use Rattle.ms_tasks.specs.Tasks.{Leaf, Turn, Task, Calls}
 use Rattle.ms_tasks.specs.Meaning.{Values, do_tasks}
@@ -35,12 +38,12 @@ use Rattle.ms_tasks.proofs.CheckTasks.{zero_word}
 use Rattle.ms_tasks.proofs.JoinedWords.{AllMake, joined_is}
 use Rattle.ms_tasks.proofs.Words.{Is, is_eval, is_leaf}
 
-pub blinded_same : (o : Op) (ps : List Poisoned) → blinded o ps ≡ blinded_of o ps
-blinded_same (op.Binary o f t a b) ps = by_op o
+pub blinded_same : (func : Name → Option ℕ) (o : Op) (ps : List Poisoned) → blinded func o ps ≡ blinded_of func o ps
+blinded_same func (op.Binary o f t a b) ps = by_op o
   where
     by_op : (o : BinOp) → (if has_flag f then ps else blind_binary o ps) ≡ (if has_flag f then ps else blind_binary_of o ps)
     by_op _ = refl
-blinded_same _ ps = refl
+blinded_same func _ ps = refl
 
 -- masks of words of at most 64 bits
 pub record HoldsMask (s : Setting) (names : Name → ℕ) (t : Tracked) (p : Poisoned) : Type 0 where
@@ -89,12 +92,19 @@ module _ (s : Setting) (names : Name → ℕ) where
   binary_blinded binary.Ashr ts ps h = later_ones ts ps h
   binary_blinded _ ts ps h = tt
 
-  pub masks_blinded : (o : Op) (ts : List Tracked) (ps : List Poisoned) → AllMasks s names ts ps → AllMasks s names (blinded_of o ts) (blinded_of o ps)
-  masks_blinded (op.Binary o f t a b) ts ps h = either (has_flag f) ts (blind_binary_of o ts) ps (blind_binary_of o ps) h (binary_blinded o ts ps h)
-  masks_blinded (op.Icmp p f t a b) ts ps h = either (has_flag f) ts [] ps [] h tt
-  masks_blinded (op.Cast o f t a u) ts ps h = either (has_flag f) ts [] ps [] h tt
-  masks_blinded (op.Freeze t a) ts ps h = h
-  masks_blinded _ ts ps h = tt
+  pub masks_blinded : (func : Name → Option ℕ) (o : Op) (ts : List Tracked) (ps : List Poisoned) → AllMasks s names ts ps → AllMasks s names (blinded_of func o ts) (blinded_of func o ps)
+  masks_blinded func (op.Binary o f t a b) ts ps h = either (has_flag f) ts (blind_binary_of o ts) ps (blind_binary_of o ps) h (binary_blinded o ts ps h)
+  masks_blinded func (op.Icmp p f t a b) ts ps h = either (has_flag f) ts [] ps [] h tt
+  masks_blinded func (op.Cast o f t a u) ts ps h = either (has_flag f) ts [] ps [] h tt
+  masks_blinded func (op.Freeze t a) ts ps h = h
+  masks_blinded func (op.Call ret callee args) ts ps h =
+      either (has_true_flag args) (flagged_words (external_named func callee) ts) [] (flagged_words (external_named func callee) ps) [] (by_external (external_named func callee)) tt
+    where
+      by_external : (e : Option External) → AllMasks s names (flagged_words e ts) (flagged_words e ps)
+      by_external None = tt
+      by_external (Some (Word f n)) = either (is_flagged f) (take 1 ts) [] (take 1 ps) [] (first_one ts ps h) tt
+      by_external (Some e) = tt
+  masks_blinded func _ ts ps h = tt
 
   widened_is : (w : ℕ) (m : Operand) (x : ℕ) → w ≤ 64 → operand_word s names w m ≡ x → Is s names 64 (widened w (Leaf m)) x
   unfolding cast_of

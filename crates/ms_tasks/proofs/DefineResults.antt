@@ -1,6 +1,7 @@
 -- The mask and the origin of each kind of result.
 use Rattle.std.proofs.Common.{◌≡◌, ℕ, ◌+◌, ◌^◌, ◌<◌, List, [], refl, sym, subst, arith, Bool, true, false, Option, Some, None}
 use Rattle.std.specs.Prelude.{if◌then◌else◌, map, is_some}
+use Rattle.std.proofs.lemmas.Bool.{false≢true}
 use Rattle.ms_bits.specs.declared.operations.BinOp.TheVariants as binary
 use Rattle.ms_bits.specs.declared.traps.Trap.TheVariants as trap
 use Rattle.ms_ir.specs.declared.syntax.Name.{Name}
@@ -21,7 +22,10 @@ use Rattle.ms_runs.specs.Shadow.{poisoned_result}
 use Rattle.ms_tasks.specs.Meaning.{Values}
 use Rattle.ms_tasks.specs.Environments.{Env, tracked}
 use Rattle.ms_tasks.specs.ResultTasks.{define_tasks, called_tasks, result_tasks}
-use Rattle.ms_tasks.specs.Known.{FitsCallee, IsBuilt, KnownName, KnownOperands, KnownResult, OneName}
+use Rattle.ms_ir.specs.declared.calls.External.TheVariants.{Word}
+use Rattle.ms_ir.specs.Names.{lookup, externals}
+use Rattle.ms_tasks.proofs.WordMasks.{WordFits}
+use Rattle.ms_tasks.specs.Known.{AnswersWord, FitsCallee, IsBuilt, KnownName, KnownOperands, KnownResult, OneName}
 use Rattle.ms_tasks.specs.Match.{RangedWorld, RangedValues, Matches}
 use Rattle.ms_tasks.specs.InstructionLaw.{GoesOn}
 use Rattle.ms_tasks.proofs.MatchedNames.{matches_set}
@@ -56,7 +60,7 @@ module _ (s : Setting) (env : Env) (size : ℕ) (h : Here) (values : Name → Po
   none_done : (x : Option Name) (o : Op) (w : World) → ((k : ℕ) (u : World) → acts_for s values h o w ≡ Gives k u → ⊥) → Defined s env h values v x o [] w
   none_done x o w never = Fine v refl refl (λ y own. refl) (λ k u e. absurd (never k u e)) (λ g. m)
 
-  -- a call: what an external answers is clean, and a function of the module comes to no answer yet
+  -- a call: an external answers, and a function of the module comes to no answer yet
   own_gives : (site : ℕ) (o : Option ℕ) (e : Option External) (types : List Ty) (words : List ℕ) (w : World) → is_some o ≡ true → (k : ℕ) (u : World)
       → elim o [ Some f ↦ Enters f w | None ↦ elim e [ Some x ↦ external s site x types words w | None ↦ Ends stuck w ] ] ≡ Gives k u → ⊥
   own_gives site None e types words w t k u g = absurd (grind arith)
@@ -69,16 +73,22 @@ module _ (s : Setting) (env : Env) (size : ℕ) (h : Here) (values : Name → Po
   outside_goes site None (Some e) x args b types words w t g = external_goes s site e types words w b.1 g
 
   called_done : (x : Name) (k : KnownName env size x) → env.clean x ≡ false → (ret : Option Ty) (callee : Name) (args : List (Ty × Operand))
-      → FitsCallee (external_named s.func callee) (Some x) args → KnownOperands env size args → h.root + count_undefs args < 2 ^ 32 → (w : World)
+      → FitsCallee (external_named s.func callee) (Some x) args → AnswersWord (external_named s.func callee) ret → KnownOperands env size args → h.root + count_undefs args < 2 ^ 32 → (w : World)
       → Defined s env h values v (Some x) (op.Call ret callee args)
       (called_tasks (is_some (s.func callee)) k.place (op.Call ret callee args) (tracked env h.root args)) w
-  called_done x k c ret callee args built known few w = by_own (is_some (s.func callee)) refl
+  called_done x k c ret callee args built answers known few w = by_own (is_some (s.func callee)) refl
     where
+      words_fit : (b : Bool) (e : Option External) → b ≡ false → FitsCallee (if b then None else e) (Some x) args → AnswersWord (if b then None else e) ret → WordFits e ret args
+      words_fit true e f built answers = absurd (false≢true (sym f))
+      words_fit false None f built answers = tt
+      words_fit false (Some (Word g n)) f built answers = (built.0, answers)
+      words_fit false (Some e) f built answers = tt
+
       by_own : (b : Bool) → is_some (s.func callee) ≡ b
           → Defined s env h values v (Some x) (op.Call ret callee args) (called_tasks b k.place (op.Call ret callee args) (tracked env h.root args)) w
       by_own true e = none_done (Some x) (op.Call ret callee args) w (λ i u g. own_gives h.site (s.func callee) (external_named s.func callee) (map (λ a. a.0) args) (map (λ p. p.value) (words_for s values h (op.Call ret callee args))) w e i u g)
       by_own false e =
-          answer_done s env size h values v m r one x k c (op.Call ret callee args) tt known few w
+          answer_done s env size h values v m r one x k c (op.Call ret callee args) (words_fit (is_some (s.func callee)) (lookup externals callee) e built answers) known few w
           (λ g. outside_goes h.site (s.func callee) (external_named s.func callee) x args built (map (λ a. a.0) args) (map (λ p. p.value) (words_for s values h (op.Call ret callee args))) w e g)
 
   define_done : (x : Name) (k : KnownName env size x) → env.clean x ≡ false → (o : Op) → IsBuilt s.func (Some x) o → KnownOperands env size (operands o)
@@ -102,7 +112,7 @@ module _ (s : Setting) (env : Env) (size : ℕ) (h : Here) (values : Name → Po
   define_done x k c (op.CondBr i to other) built known few w ranged = none_done (Some x) (op.CondBr i to other) w (λ j u e. goes_gives _ _ j w u e)
   define_done x k c (op.Switch t i other cases) built known few w ranged = none_done (Some x) (op.Switch t i other cases) w (λ j u e. goes_gives _ _ j w u e)
   define_done x k c op.Unreachable built known few w ranged = none_done (Some x) op.Unreachable w (λ j u e. ends_gives _ _ j w u e)
-  define_done x k c (op.Call ret callee args) built known few w ranged = called_done x k c ret callee args built.0 known few w
+  define_done x k c (op.Call ret callee args) built known few w ranged = called_done x k c ret callee args built.0 built.2 known few w
   define_done x k c (op.Phi t es) built known few w ranged = absurd built
 
   -- where the result is known to be clean, its mask must be 0 already

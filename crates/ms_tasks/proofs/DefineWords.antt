@@ -1,5 +1,5 @@
 -- The tasks of results that are one word, and of shifts, give the mask and the origin of the shadow run.
-use Rattle.std.proofs.Common.{◌≡◌, ◌≢◌, ℕ, zero, suc, ◌+◌, ◌-◌, ◌/◌, ◌%◌, ◌^◌, ◌<◌, ◌≤◌, List, [], ◌∷◌, refl, sym, ap, ◌∙◌, subst, arith, Bool, true, false, Some, Result, Ok, Err}
+use Rattle.std.proofs.Common.{◌≡◌, ◌≢◌, ℕ, zero, suc, ◌+◌, ◌-◌, ◌/◌, ◌%◌, ◌^◌, ◌<◌, ◌≤◌, List, [], ◌∷◌, refl, sym, ap, ◌∙◌, subst, arith, Bool, true, false, Option, Some, None, Result, Ok, Err}
 use Rattle.std.specs.Prelude.{if◌then◌else◌, ◌*◌, cond, eqb, leb, not, map, ℤ, pos, negsuc}
 use Rattle.std.specs.Int.{from_bool}
 use Rattle.std.proofs.Math.Path.{ap₂}
@@ -24,19 +24,22 @@ use Rattle.ms_ir.specs.declared.syntax.Op.TheVariants as op
 use Rattle.ms_runs.specs.declared.runs.End.TheVariants as «end»
 use Rattle.ms_bits.specs.NoFlags.{no_flags}
 use Rattle.ms_ir.specs.Layout.{width_of, size_in}
-use Rattle.ms_runs.specs.World.{World, Setting, Here, Effect, Gives, Does, Ends, traps, word}
+use Rattle.ms_runs.specs.World.{World, Setting, Here, Effect, Gives, Does, Ends, traps, word, gives}
 use Rattle.ms_ir.specs.Areas.{Stack}
 use Rattle.ms_runs.specs.Memory.{fits, next_base, make_unset}
 use Rattle.ms_ir.specs.Code.{operands, one_undef, count_undefs}
 use Rattle.ms_runs.specs.Control.{read_all, with_value}
-use Rattle.ms_runs.specs.Act.{operand_word, gives, act}
+use Rattle.ms_runs.specs.Act.{operand_word, act}
 use Rattle.ms_runs.specs.Poisoned.{Poisoned}
-use Rattle.ms_runs.specs.Masks.{by_formulas, result_mask, result_origin, value_or_zero, shift_mask, select_origin, word_at, last_origin}
+use Rattle.ms_runs.specs.Masks.{by_formulas, result_mask, result_origin, value_or_zero, shift_mask, select_origin, word_at, last_origin, answer_mask, as_result, answer_origin}
 use Rattle.ms_runs.specs.Shadow.{read_poisoned, poisoned_result}
 use Rattle.ms_tasks.specs.Tasks.{mask_name, origin_name, Expr, Pick, Sets}
 use Rattle.ms_tasks.specs.Meaning.{Values, Went, do_tasks, marked_next, evaluate, whole}
 use Rattle.ms_tasks.specs.Environments.{Env, Tracked, tracked, tracked_at, mask_of, word_of, origin_of, number, is_set}
-use Rattle.ms_tasks.specs.ResultMasks.{mask_expr, origin_expr, first_last}
+use Rattle.ms_tasks.specs.ResultMasks.{mask_expr, origin_expr, answer_origin_expr, first_last}
+use Rattle.ms_ir.specs.declared.calls.External.{External}
+use Rattle.ms_ir.specs.declared.calls.External.TheVariants.{Word}
+use Rattle.ms_ir.specs.Names.{lookup, externals}
 use Rattle.ms_tasks.specs.ResultTasks.{result_width, shift_task, word_tasks}
 use Rattle.ms_tasks.specs.Known.{KnownName, KnownOperands, OneName}
 use Rattle.ms_tasks.specs.Match.{Matches, RangedValues}
@@ -46,7 +49,7 @@ use Rattle.ms_tasks.proofs.MatchedNames.{Defines, defines_own, matches_set}
 use Rattle.ms_tasks.proofs.Defined.{words_for, acts_for, Defined, Fine, Fails, origin_first}
 use Rattle.ms_tasks.proofs.Words.{Is, is_eval, is_leaf, is_number}
 use Rattle.ms_tasks.proofs.LastOrigins.{AllWords, HoldsOrigin, AllOrigins, AllClean, words_hold, origins_hold, set_word, first_whole}
-use Rattle.ms_tasks.proofs.WordMasks.{IsWordOp, mask_value, mask_clean, wrap_signed, signed_zero}
+use Rattle.ms_tasks.proofs.WordMasks.{IsWordOp, mask_value, mask_clean, answer_clean, wrap_signed, signed_zero}
 
 zero-div : (n : ℕ) → 0 / n ≡ 0
 zero-div n = grind arith
@@ -115,7 +118,15 @@ module _ (s : Setting) (names : Name → ℕ) where
       h.0 h.1.0 h.1.1.0 refl ne
   origin_value env values root (op.Freeze t a) k w h ne = absurd (ne refl)
   origin_value env values root (op.Alloca t u c) k w h ne = absurd (ne refl)
-  origin_value env values root (op.Call ret callee args) k w h ne = absurd (ne refl)
+  origin_value env values root (op.Call ret callee args) k w h ne = by_external (lookup externals callee) ne
+    where
+      ps : List Poisoned
+      ps = read_all (read_poisoned s values) args root
+
+      by_external : (e : Option External) → as_result ret (answer_mask e ps) ≢ 0 → whole s names (answer_origin_expr e (tracked env root args)) (Int 32) ≡ answer_origin e ps
+      by_external None ne = refl
+      by_external (Some (Word f n)) ne = first_whole s names (tracked env root args) ps h (λ c. ne (answer_clean ret (Some (Word f n)) ps c))
+      by_external (Some e) ne = refl
   origin_value env values root (op.Gep t a is) k w h ne =
       first_whole s names (tracked env root ((Ptr, a) ∷ is)) (read_all (read_poisoned s values) ((Ptr, a) ∷ is) root) h (λ c. ne (mask_clean s values root (op.Gep t a is) k w c))
   origin_value env values root (op.Binary binary.Shl f t a b) k w h ne = absurd k

@@ -9,13 +9,14 @@ use Rattle.ms_ir.specs.declared.syntax.Ty.{Ty, Int}
 use Rattle.ms_ir.specs.declared.syntax.Operand.{Operand}
 use Rattle.ms_ir.specs.declared.syntax.Operand.TheVariants as operand
 use Rattle.ms_ir.specs.declared.calls.External.{External}
-use Rattle.ms_ir.specs.declared.calls.External.TheVariants.{Malloc, Calloc, Realloc, Memcpy, Memmove, Memset, Memcmp, Strlen, Putchar, Puts, Getchar, Read, Write, LlvmMemcpy, LlvmMemmove, LlvmMemset, LifetimeStart, Printf}
+use Rattle.ms_ir.specs.declared.calls.External.TheVariants.{Malloc, Calloc, Realloc, Memcpy, Memmove, Memset, Memcmp, Strlen, Putchar, Puts, Getchar, Read, Write, LlvmMemcpy, LlvmMemmove, LlvmMemset, LifetimeStart, Printf, LlvmObjectSize, Word}
+use Rattle.ms_bits.specs.WordFunctions.{bits_of, word_answer}
 use Rattle.ms_bits.specs.declared.traps.Trap.{Trap}
 use Rattle.ms_bits.specs.declared.traps.Trap.TheVariants as trap
 use Rattle.ms_bits.specs.Maps.{bytes_at}
 use Rattle.ms_runs.specs.Externals.{minus_one, malloc, reallocated, where_good, string_at, printed, taken, next_byte, external, output_limit, formatted, prints}
 use Rattle.ms_ir.specs.Layout.{width_of}
-use Rattle.ms_runs.specs.World.{Allocation, World, Setting, Here, Effect, Gives, traps, word, result}
+use Rattle.ms_runs.specs.World.{Allocation, World, Setting, Here, Effect, Gives, traps, word, result, gives}
 use Rattle.ms_ir.specs.Areas.{Heap}
 use Rattle.ms_runs.specs.Memory.{heap_size, fits, used, next_base, is_good, first_that, is_heap_block, set_shadow, set_cells, copy_shadow}
 use Rattle.ms_runs.specs.Origins.{chain, poison, unpoison, copy_planes, fill_planes}
@@ -84,6 +85,10 @@ absurd_prints : (site : ℕ) (r : Result (List ℕ) Trap) (w : World) → GoesOn
 absurd_prints site (Ok bs) w g = absurd_printed site bs (length bs) w g
 absurd_prints site (Err t) w g = g
 
+absurd_gives : (site : ℕ) (r : Result ℕ Trap) (w : World) → GoesOn (gives site r w) → ⊥
+absurd_gives site (Ok v) w g = g
+absurd_gives site (Err t) w g = g
+
 -- an external that answers something goes on with nothing else
 pub external_goes : (s : Setting) (site : ℕ) (e : External) (types : List Ty) (words : List ℕ) (w : World) → is_void e ≡ false → GoesOn (external s site e types words w) → ⊥
 external_goes s site Malloc types words w v g = absurd_malloc s.fill (word 0 words) w g
@@ -105,6 +110,8 @@ external_goes s site Write types words w v g =
     absurd_good site (word 1 words) (word 2 words) w _
     (absurd_if (eqb (word 0 words) 1) (printed site (bytes_at w.bytes (word 1 words) (word 2 words)) (Gives (word 2 words)) w) (Gives _ w) (absurd_printed site _ _ w) (λ g. g)) g
 external_goes s site Printf types words w v g = absurd_prints site (formatted w types words) w g
+external_goes s site (Word f n) types words w v g = absurd_gives site (word_answer f (bits_of n) (word 0 words) (word 1 words) (word 2 words)) w g
+external_goes s site LlvmObjectSize types words w v g = g
 external_goes s site _ types words w v g = absurd (grind arith)
 
 -- what makes an answer fit 64 bits, where it is looked at afterwards

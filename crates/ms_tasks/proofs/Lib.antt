@@ -15,10 +15,13 @@ pub mod LastOrigins
 pub mod Marked
 pub mod MatchedNames
 pub mod OperandWords
+pub mod OriginRanges
 pub mod Phis
 pub mod PlaneTasks
 pub mod SlotLists
 pub mod Slots
 pub mod TaskNames
+pub mod WordReads
+pub mod WordExprs
 pub mod WordMasks
 pub mod Words

@@ -19,12 +19,16 @@ use Rattle.ms_runs.specs.World.{Setting, Here}
 use Rattle.ms_ir.specs.Code.{operands, one_undef, count_undefs, external_named}
 use Rattle.ms_ir.specs.declared.calls.External.{External}
 use Rattle.ms_ir.specs.declared.calls.External.TheVariants.{Malloc, Realloc, Memcpy, Memmove, Memset, Read, LlvmMemcpy, LlvmMemmove, LlvmMemset, LifetimeStart}
-use Rattle.ms_runs.specs.Uses.{Use, Word, Bytes, Line, Asked, uses, has_flag}
+use Rattle.ms_runs.specs.Uses.{Use, Word, Bytes, Line, Asked, uses, has_flag, has_true_flag, flagged_words}
 use Rattle.ms_tasks.specs.Tasks.{mask_name, origin_name, Expr, Leaf, Turn, Task, Sets}
 use Rattle.ms_tasks.specs.Meaning.{BelowOperand, BelowExpr, BelowTasks}
 use Rattle.ms_tasks.specs.Environments.{Env, Given, Tracked, mask_operand, origin_operand, local_mask, local_origin, tracked, tracked_at, is_zero, mask_of, widened, widened_mask, extended_expr, extended_mask, joined, unknown, bits_at}
+use Rattle.ms_bits.specs.WordFunctions.{bits_of, is_flagged}
+use Rattle.ms_ir.specs.Names.{lookup, externals}
+use Rattle.ms_ir.specs.declared.calls.External.TheVariants as called
+use Rattle.ms_tasks.proofs.WordReads.{ReadsWord, word_reads}
 use Rattle.ms_tasks.specs.CheckTasks.{use_tasks, check_tasks, blind_binary_of, blinded_of, all_zero, union_masks, blind_tasks}
-use Rattle.ms_tasks.specs.ResultMasks.{carry_expr, order_expr, compare_expr, turned_expr, cast_expr, sum_expr, address_expr, binary_expr, mask_expr, last_expr, first_last, origin_expr}
+use Rattle.ms_tasks.specs.ResultMasks.{carry_expr, order_expr, compare_expr, turned_expr, cast_expr, sum_expr, address_expr, binary_expr, answer_expr, mask_expr, last_expr, first_last, answer_origin_expr, origin_expr}
 use Rattle.ms_tasks.specs.ResultTasks.{word_tasks, shift_task, define_tasks, called_tasks, result_tasks}
 use Rattle.ms_tasks.specs.PlaneTasks.{plane_tasks, saves, saved_by, saved_tasks, save_tasks, copy_task, fill_task, external_tasks, callee_tasks}
 use Rattle.ms_tasks.specs.Emit.{before_tasks, after_tasks, start}
@@ -215,6 +219,15 @@ module _ (env : Env) (size base : ℕ) (room : 2 * size + 1 ≤ base) where
       let u = bits_low (tracked_at 2 ts).ty (Leaf (tracked_at 2 ts).operand) y.own in
       (k.mask, (((v, u), x.mask), y.mask), (k.own, x.mask, y.mask))
   mask_expr_low (op.Gep t a is) ts p = address_low ts p
+  mask_expr_low (op.Call ret callee args) ts p = by_external (lookup externals callee)
+    where
+      words : (k : ℕ) → ReadsWord (BelowOperand base) (λ n. tt) (tracked_at k ts)
+      words k = let x = at_low k ts p in record { own = x.own; mask = x.mask }
+
+      by_external : (e : Option External) → BelowExpr base (answer_expr e ts)
+      by_external None = tt
+      by_external (Some (called.Word f n)) = word_reads (BelowOperand base) (λ n. tt) f (bits_of n) (tracked_at 0 ts) (tracked_at 1 ts) (tracked_at 2 ts) (words 0) (words 1) (words 2)
+      by_external (Some e) = tt
   mask_expr_low _ ts p = tt
 
   last_low : (ts : List Tracked) → AllLow ts → (best : Expr) → BelowExpr base best → BelowExpr base (last_expr ts best)
@@ -233,6 +246,12 @@ module _ (env : Env) (size base : ℕ) (room : 2 * size + 1 ≤ base) where
   origin_expr_low (op.Cast o f t a u) ts p = first_low ts p
   origin_expr_low (op.Select c t a b) ts p = let k = at_low 0 ts p in (k.mask, k.origin, (k.own, (at_low 1 ts p).origin, (at_low 2 ts p).origin))
   origin_expr_low (op.Gep t a is) ts p = first_low ts p
+  origin_expr_low (op.Call ret callee args) ts p = by_external (lookup externals callee)
+    where
+      by_external : (e : Option External) → BelowExpr base (answer_origin_expr e ts)
+      by_external None = tt
+      by_external (Some (called.Word f n)) = first_low ts p
+      by_external (Some e) = tt
   origin_expr_low _ ts p = tt
 
   word_low : (v : ℕ) (o : Op) (ts : List Tracked) → v < size → AllLow ts → BelowTasks base (word_tasks (mask_name v) (origin_name v) o ts)
@@ -274,9 +293,9 @@ module _ (env : Env) (size base : ℕ) (room : 2 * size + 1 ≤ base) where
   masks_low : (ts : List Tracked) → AllLow ts → BelowExpr base (union_masks ts)
   masks_low ts p = joined_low (Int 64) widened_mask (λ t l. widened_low (width_of t.ty) (Leaf t.mask) l.mask) (unknown ts) (unknown_low ts p)
 
-  blinded_low : (o : Op) (ts : List Tracked) → AllLow ts → AllLow (blinded_of o ts)
+  blinded_low : (func : Name → Option ℕ) (o : Op) (ts : List Tracked) → AllLow ts → AllLow (blinded_of func o ts)
   unfolding AllLow
-  blinded_low (op.Binary o f t a b) ts p = low_if (has_flag f) ts (blind_binary_of o ts) p (by_op o)
+  blinded_low func (op.Binary o f t a b) ts p = low_if (has_flag f) ts (blind_binary_of o ts) p (by_op o)
     where
       by_op : (o : BinOp) → AllLow (blind_binary_of o ts)
       by_op binary.Udiv = take_low ts p
@@ -287,10 +306,16 @@ module _ (env : Env) (size base : ℕ) (room : 2 * size + 1 ≤ base) where
       by_op binary.Lshr = later_low ts p
       by_op binary.Ashr = later_low ts p
       by_op _ = tt
-  blinded_low (op.Icmp q f t a b) ts p = low_if (has_flag f) ts [] p tt
-  blinded_low (op.Cast o f t a u) ts p = low_if (has_flag f) ts [] p tt
-  blinded_low (op.Freeze t a) ts p = p
-  blinded_low _ ts p = tt
+  blinded_low func (op.Icmp q f t a b) ts p = low_if (has_flag f) ts [] p tt
+  blinded_low func (op.Cast o f t a u) ts p = low_if (has_flag f) ts [] p tt
+  blinded_low func (op.Freeze t a) ts p = p
+  blinded_low func (op.Call ret callee args) ts p = low_if (has_true_flag args) (flagged_words (external_named func callee) ts) [] (by_external (external_named func callee)) tt
+    where
+      by_external : (e : Option External) → AllLow (flagged_words e ts)
+      by_external None = tt
+      by_external (Some (called.Word f n)) = low_if (is_flagged f) (take 1 ts) [] (take_low ts p) tt
+      by_external (Some e) = tt
+  blinded_low func _ ts p = tt
 
   blind_low : (ts : List Tracked) → AllLow ts → BelowTasks base (blind_tasks ts)
   blind_low ts p = below_if base (all_zero ts) _ _ tt (tt, (masks_low ts p, tt), tt)
@@ -393,8 +418,8 @@ before_low s env size saved h i st =
     below_append base (hand_tasks s.func h.main i.op ts) _ (hand_low env size base room s.func h.main i.op ts low)
     (below_append base (check_tasks h.site ts (uses s.func h.main i.op)) _
     (checks_low env size base room h.site ts low (uses s.func h.main i.op))
-    (below_append base (blind_tasks (blinded_of i.op ts)) _
-    (blind_low env size base room (blinded_of i.op ts) (blinded_low env size base room i.op ts low))
+    (below_append base (blind_tasks (blinded_of s.func i.op ts)) _
+    (blind_low env size base room (blinded_of s.func i.op ts) (blinded_low env size base room s.func i.op ts low))
     (below_append base (result_tasks s.func env i.result i.op ts) (save_tasks s.func saved i.op ts)
     (result_low env size base room s.func i.result i.op ts st.known.named low)
     (save_low env size base room s.func saved i.op ts (omega arith) low))))

@@ -1,6 +1,6 @@
 -- The mask of each kind of result that is one word, and that it is 0 where the operands' are.
-use Rattle.std.proofs.Common.{◌≡◌, ℕ, ◌+◌, ◌-◌, ◌*◌, ◌%◌, ◌^◌, ◌<◌, ◌≤◌, List, [], ◌∷◌, refl, sym, ap, ◌∙◌, subst, arith, Bool, true, false, Some, None}
-use Rattle.std.specs.Prelude.{if◌then◌else◌, eqb, bit_and, bit_or, bit_xor, ltb, leb, map, pos, negsuc, ℤ}
+use Rattle.std.proofs.Common.{◌≡◌, ℕ, zero, suc, ◌+◌, ◌-◌, ◌*◌, ◌%◌, ◌^◌, ◌<◌, ◌≤◌, List, [], ◌∷◌, refl, sym, ap, ◌∙◌, subst, arith, Bool, true, false, Option, Some, None}
+use Rattle.std.specs.Prelude.{if◌then◌else◌, eqb, bit_and, bit_or, bit_xor, ltb, leb, map, get_or, pos, negsuc, ℤ}
 use Rattle.std.specs.Int.{from_bool}
 use Rattle.std.proofs.Math.Path.{ap₂}
 use Rattle.std.proofs.Math.Nat.{mod-eq_of_lt, zero-mod}
@@ -14,6 +14,16 @@ use Rattle.ms_bits.specs.declared.operations.Pred.TheVariants as pred
 use Rattle.ms_bits.specs.Signed.{signed, wrap}
 use Rattle.ms_bits.specs.Conversions.{cast_of, Allows}
 use Rattle.ms_bits.specs.Formulas.{and_mask, or_mask, union_mask, carry_mask, least, greatest, order_mask, eq_mask, turned_sign, compare_mask}
+use Rattle.ms_bits.specs.declared.word_functions.WordFn.{WordFn}
+use Rattle.ms_bits.specs.declared.word_functions.WordFn.TheVariants as word
+use Rattle.ms_bits.specs.declared.word_functions.WordWidth.{WordWidth}
+use Rattle.ms_bits.specs.WordFunctions.{bits_of, word_mask}
+use Rattle.ms_bits_laws.proofs.WordAgreement.{width_some}
+use Rattle.ms_bits_laws.proofs.CleanWords.{word_clean}
+use Rattle.ms_ir.specs.declared.calls.External.{External}
+use Rattle.ms_ir.specs.declared.calls.External.TheVariants.{Word}
+use Rattle.ms_ir.specs.Names.{lookup, externals}
+use Rattle.ms_ir.specs.Signatures.{word_params}
 use Rattle.ms_ir.specs.declared.syntax.Name.{Name}
 use Rattle.ms_ir.specs.declared.syntax.Ty.{Ty, Int, Ptr}
 use Rattle.ms_ir.specs.declared.syntax.Operand.{Operand}
@@ -26,12 +36,15 @@ use Rattle.ms_ir.specs.Code.{operands, one_undef}
 use Rattle.ms_runs.specs.Control.{read_all}
 use Rattle.ms_runs.specs.Act.{operand_word, extended_all}
 use Rattle.ms_runs.specs.Poisoned.{Poisoned}
-use Rattle.ms_runs.specs.Masks.{by_formulas, result_mask, value_or_zero, union}
+use Rattle.ms_runs.specs.Masks.{by_formulas, word_at, answer_mask, as_result, result_mask, value_or_zero, union}
 use Rattle.ms_runs.specs.Shadow.{read_poisoned}
 use Rattle.ms_tasks.specs.Tasks.{Leaf, Turn}
 use Rattle.ms_tasks.specs.Meaning.{whole}
-use Rattle.ms_tasks.specs.Environments.{Env, Tracked, tracked, mask_of, extended_expr, extended_mask, joined, unknown}
-use Rattle.ms_tasks.specs.ResultMasks.{cast_expr, sum_expr, address_expr, mask_expr}
+use Rattle.ms_tasks.specs.Environments.{Env, Tracked, tracked, tracked_at, mask_of, extended_expr, extended_mask, joined, unknown}
+use Rattle.ms_tasks.specs.ResultMasks.{cast_expr, sum_expr, address_expr, answer_expr, mask_expr}
+use Rattle.ms_tasks.specs.Known.{AnswersWord}
+use Rattle.ms_tasks.proofs.Externals.{width_at}
+use Rattle.ms_tasks.proofs.WordExprs.{Stands, Second, Third, word_value}
 use Rattle.ms_tasks.specs.ResultTasks.{result_width}
 use Rattle.ms_tasks.proofs.OperandWords.{word_less}
 use Rattle.ms_tasks.proofs.CheckTasks.{zero_word}
@@ -61,6 +74,11 @@ wrap_zero : (w to : ℕ) → wrap to (signed w 0) ≡ 0
 unfolding wrap
 wrap_zero w to = ap (wrap to) (signed_zero w) ∙ zero-mod (2 ^ to)
 
+-- a call of a function of whole words has words of their width, and answers one
+abbrev pub WordFits : Option External → Option Ty → List (Ty × Operand) → Type 0
+WordFits (Some (Word f n)) ret args = (map (λ a. width_of a.0) args ≡ map width_of (word_params f (bits_of n))) × AnswersWord (Some (Word f n)) ret
+WordFits e ret args = Unit {0}
+
 -- what an operation asks of its types
 abbrev pub IsWordOp : Op → Type 0
 IsWordOp (op.Binary binary.Shl f t a b) = ⊥
@@ -73,7 +91,7 @@ IsWordOp (op.Select c t a b) = Unit {0}
 IsWordOp (op.Freeze t a) = Unit {0}
 IsWordOp (op.Gep t a is) = Unit {0}
 IsWordOp (op.Alloca t u c) = Unit {0}
-IsWordOp (op.Call ret callee args) = Unit {0}
+IsWordOp (op.Call ret callee args) = WordFits (lookup externals callee) ret args
 IsWordOp _ = ⊥
 
 module _ (s : Setting) (names : Name → ℕ) where
@@ -143,6 +161,57 @@ module _ (s : Setting) (names : Name → ℕ) where
       mask_carry s names
       (subst (Is s names w (joined (Int w) mask_of (unknown (a ∷ b ∷ [])))) (ap (bit_or x) (or_zero_r y)) (joined_is s names w mask_of (a ∷ b ∷ []) (x ∷ y ∷ []) made))
 
+  -- what stands for an operand of a call, also where it has none
+  word_stands : (ts : List Tracked) (ps : List Poisoned) → AllWords s names ts ps → (k : ℕ) → Stands s names (width_of (tracked_at k ts).ty) (tracked_at k ts) (word_at k ps)
+  word_stands [] [] h k = record { value = zero-mod (2 ^ 64); mask = zero-mod (2 ^ 64) }
+  word_stands [] (p ∷ ps) h k = absurd h
+  word_stands (t ∷ ts) [] h k = absurd h
+  word_stands (t ∷ ts) (p ∷ ps) h zero = record { value = h.0.value; mask = h.0.mask }
+  word_stands (t ∷ ts) (p ∷ ps) h (suc k) = word_stands ts ps h.1 k
+
+  -- a call of a function of whole words
+  call_value : (env : Env) (values : Name → Poisoned) (root : ℕ) (args : List (Ty × Operand)) (f : WordFn) (n : WordWidth) → map (λ a. width_of a.0) args ≡ map width_of (word_params f (bits_of n))
+      → AllWords s names (tracked env root args) (read_all (read_poisoned s values) args root)
+      → Is s names (bits_of n) (answer_expr (Some (Word f n)) (tracked env root args)) (answer_mask (Some (Word f n)) (read_all (read_poisoned s values) args root))
+  call_value env values root args f n widths h =
+      word_value s names (bits_of n) (omega (arith, width_some n)) (tracked_at 0 ts) (tracked_at 1 ts) (tracked_at 2 ts) (word_at 0 ps) (word_at 1 ps) (word_at 2 ps)
+      (at 0 (first_wide f)) f (second f (λ e. at 1 e)) (third f (λ e. at 2 e))
+    where
+      ts : List Tracked
+      ts = tracked env root args
+
+      ps : List Poisoned
+      ps = read_all (read_poisoned s values) args root
+
+      -- the width of a parameter
+      Wide : WordFn → ℕ → Type 0
+      Wide f k = get_or (map width_of (word_params f (bits_of n))) k 64 ≡ bits_of n
+
+      at : (k : ℕ) → Wide f k → Stands s names (bits_of n) (tracked_at k ts) (word_at k ps)
+      at k e = subst (λ j. Stands s names j (tracked_at k ts) (word_at k ps)) (width_at env root args k ∙ ap (λ l. get_or l k 64) widths ∙ e) (word_stands ts ps h k)
+
+      first_wide : (f : WordFn) → Wide f 0
+      first_wide word.Ctpop = refl
+      first_wide word.Fshl = refl
+      first_wide word.Fshr = refl
+      first_wide word.Ctlz = refl
+      first_wide f = refl
+
+      second : (f : WordFn) → {X : Type 0} → (Wide f 1 → X) → Second s names f X
+      second word.Ctpop h = tt
+      second word.Ctlz h = tt
+      second word.Cttz h = tt
+      second word.Bswap h = tt
+      second word.Bitreverse h = tt
+      second word.Abs h = tt
+      second word.Expect h = tt
+      second f h = h refl
+
+      third : (f : WordFn) → {X : Type 0} → (Wide f 2 → X) → Third s names f X
+      third word.Fshl h = h refl
+      third word.Fshr h = h refl
+      third f h = tt
+
   -- the mask of a result
   pub mask_value : (env : Env) (values : Name → Poisoned) (root : ℕ) (o : Op) → IsWordOp o → (w : World)
       → AllWords s names (tracked env root (operands o)) (read_all (read_poisoned s values) (operands o) root)
@@ -168,8 +237,22 @@ module _ (s : Setting) (names : Name → ℕ) where
       (is_bits s names t b _ h.1.1.0.value) (is_leaf s names (width_of t) _ _ h.1.1.0.mask)).raw
   mask_value env values root (op.Freeze t a) k w h = zero-mod (2 ^ width_of t)
   mask_value env values root (op.Alloca t u c) k w h = zero-mod (2 ^ 64)
-  mask_value env values root (op.Call (Some t) callee args) k w h = zero-mod (2 ^ width_of t)
-  mask_value env values root (op.Call None callee args) k w h = zero-mod (2 ^ 64)
+  mask_value env values root (op.Call (Some t) callee args) k w h = by_external (lookup externals callee) k
+    where
+      by_external : (e : Option External) → WordFits e (Some t) args
+          → whole s names (answer_expr e (tracked env root args)) (Int (width_of t)) ≡ answer_mask e (read_all (read_poisoned s values) args root) % 2 ^ width_of t
+      by_external None k = refl
+      by_external (Some (Word f n)) k =
+          let is = call_value env values root args f n k.0 h in
+          ap (λ j. whole s names (answer_expr (Some (Word f n)) (tracked env root args)) (Int j)) k.1 ∙ is.raw
+          ∙ sym (ap (λ j. answer_mask (Some (Word f n)) (read_all (read_poisoned s values) args root) % 2 ^ j) k.1 ∙ mod-eq_of_lt is.less)
+      by_external (Some e) k = refl
+  mask_value env values root (op.Call None callee args) k w h = by_external (lookup externals callee) k
+    where
+      by_external : (e : Option External) → WordFits e None args → whole s names (answer_expr e (tracked env root args)) (Int 64) ≡ 0
+      by_external None k = zero-mod (2 ^ 64)
+      by_external (Some (Word f n)) k = absurd k.1
+      by_external (Some e) k = zero-mod (2 ^ 64)
   mask_value env values root (op.Gep t a is) k w h = (address_value env values a is root h).raw
   mask_value env values root (op.Binary binary.Shl f t a b) k w h = absurd k
   mask_value env values root (op.Binary binary.Lshr f t a b) k w h = absurd k
@@ -254,3 +337,25 @@ mask_clean s values root (op.Binary binary.Shl f t a b) k w c = absurd k
 mask_clean s values root (op.Binary binary.Lshr f t a b) k w c = absurd k
 mask_clean s values root (op.Binary binary.Ashr f t a b) k w c = absurd k
 mask_clean s values root _ k w c = absurd k
+
+mask_at : (k : ℕ) (ps : List Poisoned) → AllClean ps → (word_at k ps).mask ≡ 0
+mask_at k [] h = refl
+mask_at zero (p ∷ ps) h = h.0
+mask_at (suc k) (p ∷ ps) h = mask_at k ps h.1
+
+-- what an external answers of words without a poisoned bit
+pub answer_clean : (ret : Option Ty) (e : Option External) (ps : List Poisoned) → AllClean ps → as_result ret (answer_mask e ps) ≡ 0
+answer_clean ret e ps c = cut ret (by_external e)
+  where
+    cut : (ret : Option Ty) → answer_mask e ps ≡ 0 → as_result ret (answer_mask e ps) ≡ 0
+    cut None z = refl
+    cut (Some t) z = ap (λ m. m % 2 ^ width_of t) z ∙ zero-mod (2 ^ width_of t)
+
+    by_external : (e : Option External) → answer_mask e ps ≡ 0
+    by_external None = refl
+    by_external (Some (Word f n)) =
+        ap (λ m. word_mask f (bits_of n) (word_at 0 ps).value m (word_at 1 ps).value (word_at 1 ps).mask (word_at 2 ps).value (word_at 2 ps).mask) (mask_at 0 ps c)
+        ∙ ap (λ m. word_mask f (bits_of n) (word_at 0 ps).value 0 (word_at 1 ps).value m (word_at 2 ps).value (word_at 2 ps).mask) (mask_at 1 ps c)
+        ∙ ap (λ m. word_mask f (bits_of n) (word_at 0 ps).value 0 (word_at 1 ps).value 0 (word_at 2 ps).value m) (mask_at 2 ps c)
+        ∙ word_clean f (bits_of n) (word_at 0 ps).value (word_at 1 ps).value (word_at 2 ps).value
+    by_external (Some e) = refl

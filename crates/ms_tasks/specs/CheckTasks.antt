@@ -1,5 +1,5 @@
 -- What checks the operands of an instruction, and counts a blind use.
-use Rattle.std.specs.Prelude.{ℕ, true, List, [], ◌∷◌, ◌++◌, if◌then◌else◌, None, Bool, ◌&&◌, drop, take}
+use Rattle.std.specs.Prelude.{ℕ, true, List, [], ◌∷◌, ◌++◌, if◌then◌else◌, Option, None, Bool, ◌&&◌, drop, take}
 use Rattle.ms_bits.specs.declared.operations.BinOp.{BinOp}
 use Rattle.ms_ir.specs.declared.syntax.Ty.{Int, Ptr}
 use Rattle.ms_ir.specs.declared.syntax.Op.{Op}
@@ -7,7 +7,9 @@ use Rattle.ms_ir.specs.declared.syntax.Op.TheVariants as op
 use Rattle.ms_ir.specs.Layout.{width_of}
 use Rattle.ms_bits.specs.declared.operations.BinOp.TheVariants as binary
 use Rattle.ms_ir.specs.declared.calls.RuntimeFn.TheVariants as function
-use Rattle.ms_runs.specs.Uses.{Use, Word, Bytes, Line, Asked, has_flag}
+use Rattle.ms_runs.specs.Uses.{Use, Word, Bytes, Line, Asked, has_flag, blind_words}
+use Rattle.ms_ir.specs.declared.syntax.Name.{Name}
+use Rattle.ms_ir.specs.Code.{external_named}
 use Rattle.ms_tasks.specs.Tasks.{Expr, Task, Calls}
 use Rattle.ms_tasks.specs.Environments.{Tracked, tracked_at, is_zero, mask_of, origin_of, word_of, widened, widened_mask, joined, unknown, number}
 
@@ -60,12 +62,13 @@ blind_binary_of binary.Ashr ps = drop 1 ps
 blind_binary_of _ ps = []
 
 -- what `blinded` takes of words, for what stands for them
-abbrev pub blinded_of : {A : Type 0} → Op → List A → List A
-blinded_of (op.Binary o f t a b) ps = if has_flag f then ps else blind_binary_of o ps
-blinded_of (op.Icmp p f t a b) ps = if has_flag f then ps else []
-blinded_of (op.Cast o f t a u) ps = if has_flag f then ps else []
-blinded_of (op.Freeze t a) ps = ps
-blinded_of _ ps = []
+abbrev pub blinded_of : {A : Type 0} → (Name → Option ℕ) → Op → List A → List A
+blinded_of func (op.Binary o f t a b) ps = if has_flag f then ps else blind_binary_of o ps
+blinded_of func (op.Icmp p f t a b) ps = if has_flag f then ps else []
+blinded_of func (op.Cast o f t a u) ps = if has_flag f then ps else []
+blinded_of func (op.Freeze t a) ps = ps
+blinded_of func (op.Call ret callee args) ps = blind_words (external_named func callee) args ps
+blinded_of func _ ps = []
 
 -- the masks of all operands are known to be 0
 abbrev pub all_zero : List Tracked → Bool

@@ -17,7 +17,7 @@ use Rattle.ms_tasks.specs.PlaneTasks.{saves, save_tasks, plane_tasks}
 -- the result, and the size that is saved, which stands under the number `saved`
 abbrev pub own_tasks : Given → Env → Here → Option Name → Op → (saved : ℕ) → List Tracked → List Task
 own_tasks given env h x o saved ts =
-    check_tasks h.site ts (uses given.func h.main o) ++ (blind_tasks (blinded_of o ts) ++ (result_tasks given.func env x o ts ++ save_tasks given.func saved o ts))
+    check_tasks h.site ts (uses given.func h.main o) ++ (blind_tasks (blinded_of given.func o ts) ++ (result_tasks given.func env x o ts ++ save_tasks given.func saved o ts))
 
 -- what stands before an instruction that is no phi: first what is handed over to a callee or a caller
 abbrev pub before_tasks : Given → Env → Here → Inst → (saved : ℕ) → List Task

@@ -44,7 +44,7 @@ checked_at s values h i w = check_uses s h.site (operands i.op) (words_at s valu
 
 -- the world in which it runs, where the checks left one
 abbrev pub counted_at : Setting → (Name → Poisoned) → Here → Inst → World → World
-counted_at s values h i w = count_blind (union (map (λ p. p.mask) (blinded i.op (words_at s values h i)))) w
+counted_at s values h i w = count_blind (union (map (λ p. p.mask) (blinded s.func i.op (words_at s values h i)))) w
 
 -- what it comes to there
 abbrev pub acted_at : Setting → (Name → Poisoned) → Here → Inst → World → Effect

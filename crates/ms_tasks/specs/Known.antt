@@ -13,6 +13,8 @@ use Rattle.ms_ir.specs.Signatures.{external_signature, called_params}
 use Rattle.ms_ir.specs.Layout.{width_of}
 use Rattle.ms_ir.specs.Code.{operands, one_undef, external_named, roots_in}
 use Rattle.ms_ir.specs.declared.calls.External.{External}
+use Rattle.ms_ir.specs.declared.calls.External.TheVariants.{Word}
+use Rattle.ms_bits.specs.WordFunctions.{bits_of}
 use Rattle.ms_tasks.specs.Environments.{Env}
 
 -- ---- names
@@ -78,13 +80,19 @@ abbrev pub FitsCallee : Option External → Option Name → List (Ty × Operand)
 FitsCallee None x args = Unit {0}
 FitsCallee (Some e) x args = (map (λ a. width_of a.0) args ≡ external_widths e (map (λ a. a.0) args)) × HasResult e x × (length args < 2 ^ 32)
 
+-- a call of a function of whole words has a result of their width
+abbrev pub AnswersWord : Option External → Option Ty → Type 0
+AnswersWord (Some (Word f n)) (Some t) = width_of t ≡ bits_of n
+AnswersWord (Some (Word f n)) None = ⊥
+AnswersWord e ret = Unit {0}
+
 -- an operation of the form for which the lists compute what is wanted: words have a bit at least, casts fit, a call of an
 -- external fits it, a call of a function of the module has at most 100 arguments, and an `alloca` has a name
 abbrev pub IsBuilt : (Name → Option ℕ) → Option Name → Op → Type 0
 IsBuilt func x (op.Binary o f t a b) = 1 ≤ width_of t
 IsBuilt func x (op.Icmp p f t a b) = 1 ≤ width_of t
 IsBuilt func x (op.Cast o f t a u) = Allows o (width_of t) (width_of u)
-IsBuilt func x (op.Call ret callee args) = FitsCallee (external_named func callee) x args × (is_some (func callee) ≡ true → length args ≤ 100)
+IsBuilt func x (op.Call ret callee args) = FitsCallee (external_named func callee) x args × (is_some (func callee) ≡ true → length args ≤ 100) × AnswersWord (external_named func callee) ret
 IsBuilt func x (op.Phi t es) = ⊥
 IsBuilt func (Some x) (op.Alloca t u c) = Unit {0}
 IsBuilt func None (op.Alloca t u c) = ⊥

@@ -11,10 +11,10 @@ use Rattle.ms_ir.specs.declared.syntax.Inst.{Inst}
 use Rattle.ms_runs.specs.declared.runs.End.{End}
 use Rattle.ms_bits.specs.NoFlags.{no_flags}
 use Rattle.ms_ir.specs.Layout.{width_of}
-use Rattle.ms_runs.specs.World.{World, Setting, Here, Effect, Gives, Does, Goes, Enters, Leaves, Ends, stuck, word}
+use Rattle.ms_runs.specs.World.{World, Setting, Here, Effect, Gives, Does, Goes, Enters, Leaves, Ends, stuck, word, gives}
 use Rattle.ms_ir.specs.Code.{operands, is_phi}
 use Rattle.ms_runs.specs.Control.{with_value}
-use Rattle.ms_runs.specs.Act.{operand_word, gives}
+use Rattle.ms_runs.specs.Act.{operand_word}
 use Rattle.ms_runs.specs.Masks.{value_or_zero}
 use Rattle.ms_runs.specs.Plain.{load_marked, store_marked, slots_after, act_marked}
 use Rattle.ms_runs.specs.Runtime.{runtime}

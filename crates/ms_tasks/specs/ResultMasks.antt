@@ -1,9 +1,16 @@
 -- The mask and the origin of a result that is one word, as words that inserted code computes (after Stepanov and
 -- Serebryany, CGO 2015; own in this exact form).
-use Rattle.std.specs.Prelude.{ℕ, ◌-◌, ◌^◌, eqb, List, [], ◌∷◌, if◌then◌else◌}
+use Rattle.std.specs.Prelude.{ℕ, ◌-◌, ◌^◌, eqb, List, [], ◌∷◌, if◌then◌else◌, Option, Some}
 use Rattle.ms_bits.specs.declared.operations.BinOp.{BinOp}
 use Rattle.ms_bits.specs.declared.operations.CastOp.{CastOp}
 use Rattle.ms_bits.specs.declared.operations.Pred.{Pred}
+use Rattle.ms_bits.specs.declared.word_functions.WordFn.{WordFn}
+use Rattle.ms_bits.specs.declared.word_functions.WordFn.TheVariants as word
+use Rattle.ms_bits.specs.WordFunctions.{places}
+use Rattle.ms_bits.specs.WordFunctions.{bits_of as width_bits}
+use Rattle.ms_ir.specs.declared.calls.External.{External}
+use Rattle.ms_ir.specs.declared.calls.External.TheVariants as external
+use Rattle.ms_ir.specs.Names.{lookup, externals}
 use Rattle.ms_ir.specs.declared.syntax.Ty.{Ty, Int}
 use Rattle.ms_ir.specs.declared.syntax.Op.{Op}
 use Rattle.ms_ir.specs.declared.syntax.Op.TheVariants as op
@@ -104,6 +111,71 @@ binary_expr binary.Sub w a b = sum_expr w (a ∷ b ∷ [])
 binary_expr binary.Mul w a b = sum_expr w (a ∷ b ∷ [])
 binary_expr _ w a b = mask_of a
 
+-- ---- masks of functions of whole words
+
+-- every bit, where some bit of a mask is set
+abbrev pub whole_expr : ℕ → (u : Expr) → Expr
+whole_expr w u = Pick (Test pred.Eq (Int w) u (number 0)) (Int w) (number 0) (number (2 ^ w - 1))
+
+-- all places of a count, where it isn't known
+abbrev pub count_expr : ℕ → (known : Expr) → Expr
+count_expr w known = Pick known (Int w) (number 0) (number (2 ^ places w - 1))
+
+abbrev pub ctpop_expr : ℕ → (m : Expr) → Expr
+ctpop_expr w m = count_expr w (Test pred.Eq (Int w) m (number 0))
+
+abbrev pub ctlz_expr : ℕ → (v m : Expr) → Expr
+ctlz_expr w v m = count_expr w (Test pred.Ule (Int w) m (least_expr w v m))
+
+abbrev pub cttz_expr : ℕ → (v m : Expr) → Expr
+cttz_expr w v m =
+    count_expr w
+    (Test pred.Eq (Int w) (Two And (Int w) (Two And (Int w) (greatest_expr w v m) (Two Sub (Int w) (number 0) (greatest_expr w v m))) m) (number 0))
+
+-- each bit in which two words may differ
+abbrev pub either_expr : ℕ → (v m u k : Expr) → Expr
+either_expr w v m u k = Two Or (Int w) (Two Or (Int w) (Two Xor (Int w) v u) m) k
+
+abbrev pub greater_expr : ℕ → (v m u k : Expr) → Expr
+greater_expr w v m u k =
+    Pick (Test pred.Ule (Int w) (greatest_expr w u k) (least_expr w v m)) (Int w) m
+    (Pick (Test pred.Ule (Int w) (greatest_expr w v m) (least_expr w u k)) (Int w) k (either_expr w v m u k))
+
+abbrev pub smaller_expr : ℕ → (v m u k : Expr) → Expr
+smaller_expr w v m u k =
+    Pick (Test pred.Ule (Int w) (greatest_expr w u k) (least_expr w v m)) (Int w) k
+    (Pick (Test pred.Ule (Int w) (greatest_expr w v m) (least_expr w u k)) (Int w) m (either_expr w v m u k))
+
+abbrev pub abs_expr : ℕ → (v m : Expr) → Expr
+abs_expr w v m =
+    Pick (Test pred.Uge (Int w) m (number (2 ^ (w - 1)))) (Int w) (carry_expr (Int w) (greatest_expr w v m))
+    (Pick (Test pred.Uge (Int w) v (number (2 ^ (w - 1)))) (Int w) (carry_expr (Int w) m) m)
+
+-- the mask of what a function of whole words answers, of operands a, b and c
+abbrev pub word_expr : WordFn → ℕ → (a b c : Tracked) → Expr
+word_expr word.Ctpop w a b c = ctpop_expr w (mask_of a)
+word_expr word.Ctlz w a b c = ctlz_expr w (word_of a) (mask_of a)
+word_expr word.Cttz w a b c = cttz_expr w (word_of a) (mask_of a)
+word_expr word.Bswap w a b c = whole_expr w (mask_of a)
+word_expr word.Bitreverse w a b c = whole_expr w (mask_of a)
+word_expr word.Abs w a b c = abs_expr w (word_of a) (mask_of a)
+word_expr word.Smax w a b c = greater_expr w (turned_expr w (word_of a)) (mask_of a) (turned_expr w (word_of b)) (mask_of b)
+word_expr word.Smin w a b c = smaller_expr w (turned_expr w (word_of a)) (mask_of a) (turned_expr w (word_of b)) (mask_of b)
+word_expr word.Umax w a b c = greater_expr w (word_of a) (mask_of a) (word_of b) (mask_of b)
+word_expr word.Umin w a b c = smaller_expr w (word_of a) (mask_of a) (word_of b) (mask_of b)
+word_expr word.Fshl w a b c = whole_expr w (union_expr (Int w) (union_expr (Int w) (mask_of a) (mask_of b)) (mask_of c))
+word_expr word.Fshr w a b c = whole_expr w (union_expr (Int w) (union_expr (Int w) (mask_of a) (mask_of b)) (mask_of c))
+word_expr word.UaddSat w a b c = whole_expr w (union_expr (Int w) (mask_of a) (mask_of b))
+word_expr word.UsubSat w a b c = whole_expr w (union_expr (Int w) (mask_of a) (mask_of b))
+word_expr word.SaddSat w a b c = whole_expr w (union_expr (Int w) (mask_of a) (mask_of b))
+word_expr word.SsubSat w a b c = whole_expr w (union_expr (Int w) (mask_of a) (mask_of b))
+word_expr word.Expect w a b c = mask_of a
+
+-- the mask of what an external answers
+abbrev pub answer_expr : Option External → List Tracked → Expr
+answer_expr (Some (external.Word f n)) ts = word_expr f (width_bits n) (tracked_at 0 ts) (tracked_at 1 ts) (tracked_at 2 ts)
+answer_expr _ ts = number 0
+
 -- the mask of a result that is one word
 abbrev pub mask_expr : Op → List Tracked → Expr
 mask_expr (op.Binary o f t a b) ts = binary_expr o (width_of t) (tracked_at 0 ts) (tracked_at 1 ts)
@@ -114,6 +186,7 @@ mask_expr (op.Select c t a b) ts =
     select_expr (width_of t) (word_of (tracked_at 0 ts)) (mask_of (tracked_at 0 ts))
     (bits_of (tracked_at 1 ts)) (mask_of (tracked_at 1 ts)) (bits_of (tracked_at 2 ts)) (mask_of (tracked_at 2 ts))
 mask_expr (op.Gep t a is) ts = address_expr ts
+mask_expr (op.Call ret callee args) ts = answer_expr (lookup externals callee) ts
 mask_expr _ ts = number 0
 
 -- ---- origins
@@ -128,6 +201,11 @@ abbrev pub first_last : List Tracked → Expr
 first_last [] = number 0
 first_last (t ∷ ts) = last_expr ts (origin_of t)
 
+-- the origin of what an external answers
+abbrev pub answer_origin_expr : Option External → List Tracked → Expr
+answer_origin_expr (Some (external.Word f n)) ts = first_last ts
+answer_origin_expr _ ts = number 0
+
 -- the origin of a result that is one word: of `select` the condition's where this is poisoned, else that of what is
 -- chosen
 abbrev pub origin_expr : Op → List Tracked → Expr
@@ -138,4 +216,5 @@ origin_expr (op.Select c t a b) ts =
     Pick (mask_of (tracked_at 0 ts)) (Int 32) (origin_of (tracked_at 0 ts))
     (Pick (word_of (tracked_at 0 ts)) (Int 32) (origin_of (tracked_at 1 ts)) (origin_of (tracked_at 2 ts)))
 origin_expr (op.Gep t a is) ts = first_last ts
+origin_expr (op.Call ret callee args) ts = answer_origin_expr (lookup externals callee) ts
 origin_expr _ ts = number 0

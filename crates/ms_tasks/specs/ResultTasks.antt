@@ -47,8 +47,8 @@ binary_tasks mask origin _ o w ts = word_tasks mask origin o ts
 abbrev pub shadow_address : Expr → Expr
 shadow_address a = Turn cast.IntToPtr (Int 64) (Two Xor (Int 64) (Turn cast.PtrToInt Ptr a (Int 64)) (number shadow_bits)) Ptr
 
--- a call of an external has a clean result; a function of the module hands the mask and the origin of its result over
--- itself
+-- what an external answers has a mask and an origin by its operands; a function of the module hands those of its result
+-- over itself
 abbrev pub called_tasks : Bool → ℕ → Op → List Tracked → List Task
 called_tasks own v o ts = if own then [] else word_tasks (mask_name v) (origin_name v) o ts
 

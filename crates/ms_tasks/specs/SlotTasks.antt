@@ -13,11 +13,11 @@ use Rattle.ms_tasks.specs.Environments.{Env, mask_type, Tracked, mask_of, origin
 
 -- the slot of the mask of parameter k, counted from 0
 abbrev pub param_mask : ℕ → Operand
-param_mask k = operand.Offset (Int 64) (slot_name slot.ParamMasks) ((Int 64, k) ∷ [])
+param_mask k = operand.Offset (slot_name slot.ParamMasks) ((Int 64, (Int 64, k) ∷ []) ∷ [])
 
 -- the slot of its origin
 abbrev pub param_origin : ℕ → Operand
-param_origin k = operand.Offset (Int 32) (slot_name slot.ParamOrigins) ((Int 64, k) ∷ [])
+param_origin k = operand.Offset (slot_name slot.ParamOrigins) ((Int 32, (Int 64, k) ∷ []) ∷ [])
 
 -- the slot of a result's mask
 abbrev pub result_mask_slot : Operand

@@ -18,7 +18,7 @@ use Rattle.ms_grammar.specs.Lexemes.{Lexeme, is, name_in, number_in, width_in}
 use Rattle.ms_grammar.specs.Steps.{Rule, refusal, begins_expression}
 use Rattle.ms_grammar.specs.Names.{reserved_global, reserved_local, name_fits, text_name, local_name, global_name, number_name, local_by, local, global_by, global}
 use Rattle.ms_grammar.specs.Types.{int_width, is_ptr, is_width, int_type_of, int_type, value_type_by, value_type_of, value_type, result_type_by, result_type, count_by, count, flat, packed_brace, array_rest, struct_rest, packed_rest, nested, opens, type_to, struct_by, struct_type}
-use Rattle.ms_grammar.specs.Values.{fits, number_by, number, step_words, max_indices, index_type_of, constant_index, constant_indices, offset, is_int_width, int_value, local_value, simple_by, simple_value, value_by, value_within, flat_init, typed, array_init, struct_init, packed_init, nested_init, init_to}
+use Rattle.ms_grammar.specs.Values.{fits, number_by, number, step_words, max_indices, index_type_of, constant_index, constant_indices, Address, step_from, base_by, base_to, max_within, offset, is_int_width, int_value, local_value, simple_by, simple_value, value_by, value_within, flat_init, typed, array_init, struct_init, packed_init, nested_init, init_to}
 use Rattle.ms_grammar.specs.Skipped.{is_closer, is_awaited, may_skip, all_closed, balanced, in_parens, string_value, attribute_rest, attributes, mark_allowed, attached_by, meta, attachments, kind_by, kind_of, attached_rest, attached, suffix_by, suffix, suffixes, suffixes_from}
 use Rattle.ms_text_laws.proofs.Blames.{IsCause, IsNamed, cause, refusal_is, if_named, or_refused, within_named, mapped_named, Blames, given, judged, chained, either, looped, refused, stopped, sight, word_taken, by_symbol, behind_token, behind_word, items_blame}
 
@@ -168,11 +168,24 @@ constant_indices_blame : Blames constant_indices
 unfolding constant_indices
 constant_indices_blame = looped (λ found t. tt) (λ found t. constant_index_blames found)
 
+step_from_blames : (form : Form) (depth : ℕ) {base : Rule Address} → Blames base → Blames (step_from form depth base)
+unfolding step_from
+step_from_blames form depth p =
+    chained step_words_blame (λ u. behind_word _ (λ v. chained (type_blames form depth) (λ t. behind_word _ (λ w. behind_word _ (λ x. chained p (λ from.
+    chained constant_indices_blame (λ indices. behind_word _ (λ y. given))))))))
+
+base_by_blames : (form : Form) {inner : Rule Address} → Blames inner → (x : Symbol) → Blames (base_by form inner x)
+base_by_blames form p s.GetElementPtr = p
+base_by_blames form p x = chained (global_blames form) (λ n. given)
+
+base_blames : (form : Form) (depth within : ℕ) → Blames (base_to form depth within)
+unfolding base_to
+base_blames form depth zero = by_symbol (λ x. base_by_blames form (stopped (r.Limit limit.Indices) refl) x)
+base_blames form depth (suc within) = by_symbol (λ x. base_by_blames form (behind_token (λ u. step_from_blames form depth (base_blames form depth within))) x)
+
 offset_blames : (form : Form) (depth : ℕ) → Blames (offset form depth)
 unfolding offset
-offset_blames form depth =
-    chained step_words_blame (λ u. behind_word _ (λ v. chained (type_blames form depth) (λ t. behind_word _ (λ w. behind_word _ (λ x. chained (global_blames form) (λ base.
-    chained constant_indices_blame (λ indices. behind_word _ (λ y. given))))))))
+offset_blames form depth = chained (step_from_blames form depth (base_blames form depth max_within)) (λ a. given)
 
 int_value_named : (width : Option ℕ) (t : Lexeme) → IsNamed (int_value width t)
 int_value_named None t = refusal_is t

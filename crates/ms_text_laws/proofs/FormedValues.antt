@@ -1,12 +1,12 @@
 -- Values and initialisers that are read are ones as they may stand behind their type.
-use Rattle.std.proofs.Common.{◌≡◌, ◌<◌, ℕ, zero, suc, ◌^◌, Bool, true, false, ◌&&◌, cond, List, [], length, Option, Some, None, Ok, Err, ℤ, pos, negsuc, refl, sym, ◌∙◌, subst, arith}
+use Rattle.std.proofs.Common.{◌≡◌, ◌<◌, ℕ, zero, suc, ◌^◌, Bool, true, false, true≢false, ◌&&◌, cond, List, [], ◌∷◌, length, Option, Some, None, Ok, Err, ℤ, pos, negsuc, refl, sym, ◌∙◌, subst, arith}
 use Rattle.std.specs.Prelude.{nat_lt, ◌==◌}
 use Rattle.std.specs.List.{list_all}
 use Rattle.std.proofs.Math.Nat.{mod-lt}
 use Rattle.std.proofs.lemmas.Nat.{pow_pos}
-use Rattle.std.proofs.lemmas.Bool.{and_from, lt-ltb, eqb-true}
+use Rattle.std.proofs.lemmas.Bool.{and_parts, and_from, lt-ltb, eqb-true}
 use Rattle.ms_bits.specs.Signed.{wrap}
-use Rattle.ms_lex.specs.Grammar.{head, one}
+use Rattle.ms_lex.specs.Grammar.{head, one, ◌>>◌}
 use Rattle.ms_ir.specs.declared.syntax.Ty.{Ty, Int, Ptr}
 use Rattle.ms_ir.specs.declared.syntax.Operand.{Operand}
 use Rattle.ms_ir.specs.declared.syntax.Operand.TheVariants as operand
@@ -20,12 +20,12 @@ use Rattle.ms_grammar.specs.declared.symbols.Symbol.{Symbol}
 use Rattle.ms_grammar.specs.declared.symbols.Symbol.TheVariants as s
 use Rattle.ms_grammar.specs.Lexemes.{Lexeme, end_of_text, is, name_in, number_in}
 use Rattle.ms_grammar.specs.Steps.{Rule, judge_map, next_symbol, skip, stop, word, comma_begins}
-use Rattle.ms_grammar.specs.Names.{local_by, global_by, global}
+use Rattle.ms_grammar.specs.Names.{local_by, global_by}
 use Rattle.ms_grammar.specs.Types.{int_width, is_ptr, int_type_of, packed_brace, opens, type_to}
-use Rattle.ms_grammar.specs.Values.{fits, number_by, number, step_words, max_indices, index_type_of, constant_index, constant_indices, offset, int_value, truth_value, null_value, local_value, simple_by, simple_value, value_by, value_within, flat_init, typed, array_init, struct_init, packed_init, nested_init, init_to}
+use Rattle.ms_grammar.specs.Values.{fits, number_by, number, step_words, max_indices, index_type_of, constant_index, constant_indices, Address, step_from, base_by, base_to, max_within, offset, int_value, truth_value, null_value, local_value, simple_by, simple_value, value_by, value_within, flat_init, typed, array_init, struct_init, packed_init, nested_init, init_to}
 use Rattle.ms_grammar.specs.Texts.{ReadsUpTo}
 use Rattle.ms_valid.specs.FormedNames.{is_global_name}
-use Rattle.ms_valid.specs.FormedCode.{is_width, type_formed, number_formed, operand_formed, is_constant, init_formed}
+use Rattle.ms_valid.specs.FormedCode.{is_width, type_formed, number_formed, step_formed, steps_formed, operand_formed, is_constant, init_formed}
 use Rattle.ms_valid.proofs.TypeShapes.{init_formed-array, init_formed-struct}
 use Rattle.ms_text_laws.proofs.Sound.{IsSound, AllSound, sound_head, sound_rest, loop_keeps, all_pushed, items_pass, no_value, same_value, if_good, if_mapped, if_within}
 use Rattle.ms_text_laws.proofs.Names.{local_by_formed, global_by_formed, global_formed}
@@ -72,9 +72,21 @@ indices_formed ts v rest all h =
     loop_keeps (comma_begins (λ found. true)) (λ found comma. constant_index found) (λ found. all_numbers found ≡ true)
     (λ found t us w others begun sound good r p. index_formed found us w others good r p) [] ts v rest all h refl
 
-offset_formed : (form : Form) (depth : ℕ) (type : Ty) (ts : List Lexeme) (v : Operand) (rest : List Lexeme) → AllSound ts → ReadsUpTo (offset form depth) ts v rest → operand_formed type v ≡ true
-unfolding offset
-offset_formed form depth type ts v rest all h =
+-- the name of a global, and steps as they may stand
+abbrev address_formed : Address → Bool
+address_formed a = is_global_name a.0 && list_all step_formed a.1
+
+-- of which there is one or more
+abbrev stepped_formed : Address → Bool
+stepped_formed a = is_global_name a.0 && steps_formed a.1
+
+abbrev ReadsAddress : Rule Address → Type 0
+ReadsAddress rule = (ts : List Lexeme) (v : Address) (rest : List Lexeme) → AllSound ts → ReadsUpTo rule ts v rest → address_formed v ≡ true
+
+step_from_formed : (form : Form) (depth : ℕ) (base : Rule Address) → ReadsAddress base
+    → (ts : List Lexeme) (v : Address) (rest : List Lexeme) → AllSound ts → ReadsUpTo (step_from form depth base) ts v rest → stepped_formed v ≡ true
+unfolding step_from
+step_from_formed form depth base each ts v rest all h =
     let words = sound_rest step_words ts h.0 h.1 all h.2 in
     let bracket = h.3 in
     let behind_open = sound_rest (word s.OpenParen) h.1 bracket.0 bracket.1 words bracket.2 in
@@ -84,13 +96,44 @@ offset_formed form depth type ts v rest all h =
     let behind_comma = sound_rest (word s.Comma) target.1 comma.0 comma.1 behind_target comma.2 in
     let pointer = comma.3 in
     let behind_pointer = sound_rest (word s.PtrType) comma.1 pointer.0 pointer.1 behind_comma pointer.2 in
-    let base = pointer.3 in
-    let behind_base = sound_rest (global form) pointer.1 base.0 base.1 behind_pointer base.2 in
-    let indices = base.3 in
-    subst (λ a. operand_formed type a ≡ true) (sym indices.3.3.0)
-    (and_from (type_formed target.0 && is_global_name base.0) (all_numbers indices.0)
-    (and_from (type_formed target.0) (is_global_name base.0) (type_formed_to form depth bracket.1 target.0 target.1 behind_open target.2) (global_formed form pointer.1 base.0 base.1 behind_pointer base.2))
-    (indices_formed base.1 indices.0 indices.1 behind_base indices.2))
+    let from = pointer.3 in
+    let behind_base = sound_rest base pointer.1 from.0 from.1 behind_pointer from.2 in
+    let indices = from.3 in
+    let inner = and_parts (is_global_name from.0.0) (list_all step_formed from.0.1) (each pointer.1 from.0 from.1 behind_pointer from.2) in
+    let own = and_from (type_formed target.0) (all_numbers indices.0) (type_formed_to form depth bracket.1 target.0 target.1 behind_open target.2)
+    (indices_formed from.1 indices.0 indices.1 behind_base indices.2) in
+    subst (λ a. stepped_formed a ≡ true) (sym indices.3.3.0)
+    (and_from (is_global_name from.0.0) (step_formed (target.0, indices.0) && list_all step_formed from.0.1) inner.0
+    (and_from (step_formed (target.0, indices.0)) (list_all step_formed from.0.1) own inner.1))
+
+-- with a step or without one
+stepped_address : (a : Address) → stepped_formed a ≡ true → address_formed a ≡ true
+stepped_address (x, []) h = absurd (true≢false (sym (and_parts (is_global_name x) false h).1))
+stepped_address (x, step ∷ inner) h = h
+
+base_by_formed : (form : Form) (inner : Rule Address) → ReadsAddress inner → (x : Symbol) → ReadsAddress (base_by form inner x)
+base_by_formed form inner each s.GetElementPtr ts v rest all h = each ts v rest all h
+base_by_formed form inner each x ts v rest all h =
+    subst (λ a. address_formed a ≡ true) (sym h.3.0) (and_from (is_global_name h.0) true (global_formed form ts h.0 h.1 all h.2) refl)
+
+-- another `getelementptr` as a base
+inner_formed : (form : Form) (depth : ℕ) (base : Rule Address) → ReadsAddress base → ReadsAddress (skip >> step_from form depth base)
+inner_formed form depth base each ts v rest all h =
+    stepped_address v (step_from_formed form depth base each h.1 v rest (sound_rest skip ts h.0 h.1 all h.2) h.3)
+
+base_formed : (form : Form) (depth within : ℕ) → ReadsAddress (base_to form depth within)
+unfolding base_to
+base_formed form depth zero ts v rest all h =
+    base_by_formed form (stop (r.Limit limit.Indices)) (λ us w others sound k. no_value _ w k.0) h.0 h.1 v rest (sound_rest next_symbol ts h.0 h.1 all h.2) h.3
+base_formed form depth (suc within) ts v rest all h =
+    base_by_formed form (skip >> step_from form depth (base_to form depth within)) (inner_formed form depth (base_to form depth within) (base_formed form depth within))
+    h.0 h.1 v rest (sound_rest next_symbol ts h.0 h.1 all h.2) h.3
+
+offset_formed : (form : Form) (depth : ℕ) (type : Ty) (ts : List Lexeme) (v : Operand) (rest : List Lexeme) → AllSound ts → ReadsUpTo (offset form depth) ts v rest → operand_formed type v ≡ true
+unfolding offset
+offset_formed form depth type ts v rest all h =
+    subst (λ a. operand_formed type a ≡ true) (sym h.3.0)
+    (step_from_formed form depth (base_to form depth max_within) (base_formed form depth max_within) ts h.0 h.1 all h.2)
 
 -- ---- values of one token
 
@@ -179,7 +222,7 @@ simple_constant form type ts v rest h = simple_by_constant form type (head end_o
 
 offset_constant : (form : Form) (depth : ℕ) (ts : List Lexeme) (v : Operand) (rest : List Lexeme) → ReadsUpTo (offset form depth) ts v rest → is_constant v ≡ true
 unfolding offset
-offset_constant form depth ts v rest h = subst (λ a. is_constant a ≡ true) (sym h.3.3.3.3.3.3.3.3.0) refl
+offset_constant form depth ts v rest h = subst (λ a. is_constant a ≡ true) (sym h.3.0) refl
 
 value_by_constant : (form : Form) (depth : ℕ) (type : Ty) (x : Symbol) (ts : List Lexeme) (v : Operand) (rest : List Lexeme) → ReadsUpTo (value_by form depth false type x) ts v rest → is_constant v ≡ true
 value_by_constant form depth type s.GetElementPtr ts v rest h = offset_constant form depth h.1 v rest h.3

@@ -1,5 +1,5 @@
 -- Instructions behind their first word are read as what they were written of.
-use Rattle.std.proofs.Common.{◌≡◌, ℕ, suc, ◌≤◌, ◌^◌, Bool, true, false, ◌&&◌, cond, List, [], ◌∷◌, ◌++◌, flat_map, Some, None, Ok, refl, sym, ap, ◌∙◌, append_assoc, append-nil, arith, zero-le, leb-true, eq-eqb}
+use Rattle.std.proofs.Common.{◌≡◌, ℕ, suc, ◌≤◌, ◌^◌, Bool, true, false, ◌&&◌, cond, List, [], ◌∷◌, ◌++◌, map, flat_map, Some, None, Ok, refl, sym, ap, ◌∙◌, append_assoc, append-nil, arith, zero-le, leb-true, eq-eqb}
 use Rattle.std.specs.Prelude.{codes, nat_lt, nat_le, ◌==◌}
 use Rattle.std.specs.List.{list_all}
 use Rattle.std.proofs.lemmas.List.Folds.{list_all-append}
@@ -21,7 +21,8 @@ use Rattle.ms_grammar.specs.Types.{int_type, int_type_of, value_type_of}
 use Rattle.ms_grammar.specs.Insts.{binary_carries, cast_carries, compare_carries, bit_type, spells, other_type, same_type, case_begins}
 use Rattle.ms_valid.specs.FormedNames.{is_local_name}
 use Rattle.ms_valid.specs.FormedCode.{is_width, is_int_type, is_value_type, operand_formed, are_among, binary_flags, cast_flags}
-use Rattle.ms_valid.specs.ReadLimits.{type_depth}
+use Rattle.ms_valid.specs.ReadLimits.{type_depth, steps_depth}
+use Rattle.ms_ir.specs.Equal.{Step}
 use Rattle.ms_ir.specs.Written.{operand_mentions, operands_mentions, operand_types}
 use Rattle.ms_written.specs.Pieces.{word as word_token, sign, comma, behind_commas, with_commas}
 use Rattle.ms_written.specs.Names.{local_token, number_token}
@@ -51,8 +52,16 @@ pub record OperandsFit (limits : Limits) (xs : List (Ty × Operand)) : Type 0 wh
   pub named : few_names limits.names (operands_mentions xs) ≡ true
   pub indices : list_all (λ a. few_offsets limits.indices a.1) xs ≡ true
 
+steps_within : (depth : ℕ) (steps : List Step) → are_within depth (flat_map (λ s. s.0 ∷ map (λ i. i.0) s.1) steps) ≡ true → steps_depth steps ≤ depth
+steps_within depth [] h = zero-le
+steps_within depth (s ∷ inner) h =
+    let parts = within_parts depth (s.0 ∷ map (λ i. i.0) s.1) (flat_map (λ i. i.0 ∷ map (λ j. j.0) i.1) inner) h in
+    let first = leb-true (type_depth s.0) depth (both (nat_le (type_depth s.0) depth) _ parts.0).0 in
+    let rest = steps_within depth inner parts.1 in
+    omega (arith, first, rest)
+
 types_depth : (depth : ℕ) (a : Operand) → are_within depth (operand_types a) ≡ true → offset_depth a ≤ depth
-types_depth depth (operand.Offset t x indices) h = leb-true (type_depth t) depth (both (nat_le (type_depth t) depth) _ h).0
+types_depth depth (operand.Offset x steps) h = steps_within depth steps h
 types_depth depth (operand.Int n) h = zero-le
 types_depth depth operand.Null h = zero-le
 types_depth depth operand.Undef h = zero-le

@@ -1,6 +1,6 @@
 -- The grammar with larger limits makes of all lexemes what that with smaller ones makes of them, unless this names a limit: names, types,
 -- values and instructions.
-use Rattle.std.proofs.Common.{◌≤◌, ℕ, zero, suc, ◌&&◌, ◌||◌, Bool, true, false, not, List, length, Option, Some, None, Ok, Err, refl, inl, arith}
+use Rattle.std.proofs.Common.{◌≤◌, ◌-◌, ℕ, zero, suc, ◌&&◌, ◌||◌, Bool, true, false, not, List, length, Option, Some, None, Ok, Err, refl, inl, arith}
 use Rattle.std.specs.Prelude.{codes, nat_lt}
 use Rattle.std.specs.Str.{bytes_eq}
 use Rattle.ms_bits.specs.declared.operations.BinOp.{BinOp}
@@ -22,9 +22,9 @@ use Rattle.ms_grammar.specs.Lexemes.{Lexeme, name_in}
 use Rattle.ms_grammar.specs.Steps.{Rule}
 use Rattle.ms_grammar.specs.Names.{reserved_local, reserved_global}
 use Rattle.ms_grammar.specs.Types.{int_type_of, value_type_of, opens, array_rest, struct_rest, packed_rest}
-use Rattle.ms_grammar.specs.Values.{typed, array_init, struct_init, packed_init, nested_init}
+use Rattle.ms_grammar.specs.Values.{Address, typed, array_init, struct_init, packed_init, nested_init}
 use Rattle.ms_grammar.specs.Insts.{is_printf}
-use Rattle.ms_text_laws.proofs.Limited.{Limits, text_name, local_name, global_name, local_by, global_by, local, global, flat, nested, too_deep, type_to, struct_by, struct_type, index_type_of, constant_index, constant_indices, offset, local_value, simple_by, simple_value, value_by, value_within, value, flat_init, deep_init, init_to, binary_rule, compare_rule, cast_rule, select_rule, freeze_rule, address, load_rule, store_rule, index_by, index_turn, step_rule, alloca_rule, callee_by, callee, argument_type_of, argument, arguments, call_rule, edge, edge_by, edge_turn, phi_rule, target, branch_on, branch_rule, case_rest, switch_rule, ret_value, ret_rule}
+use Rattle.ms_text_laws.proofs.Limited.{Limits, text_name, local_name, global_name, local_by, global_by, local, global, flat, nested, too_deep, type_to, struct_by, struct_type, index_type_of, constant_index, constant_indices, step_from, base_by, base_to, offset, local_value, simple_by, simple_value, value_by, value_within, value, flat_init, deep_init, init_to, binary_rule, compare_rule, cast_rule, select_rule, freeze_rule, address, load_rule, store_rule, index_by, index_turn, step_rule, alloca_rule, callee_by, callee, argument_type_of, argument, arguments, call_rule, edge, edge_by, edge_turn, phi_rule, target, branch_on, branch_rule, case_rest, switch_rule, ret_value, ret_rule}
 use Rattle.ms_text_laws.proofs.Agreeing.{Near, Looser, same, taken, stopped, next, turning, either, listed_looser, items_looser, names_limit, less_still, or_still, else_near, room_near, within_near, mapped_near}
 
 -- no limit of the one is above that of the other
@@ -158,10 +158,25 @@ module _ (a b : Limits) (up : NoMore a b) where
   unfolding constant_indices
   constant_indices_looser = turning (λ found comma. constant_index_looser found)
 
+  from_looser : (d e : ℕ) → d ≤ e → {f g : Rule Address} → Looser f g → Looser (step_from a d f) (step_from b e g)
+  unfolding step_from
+  from_looser d e le p =
+      next same (λ u. next same (λ v. next (type_looser d e le) (λ t. next same (λ w. next same (λ x. next p (λ from. next constant_indices_looser (λ is. same)))))))
+
+  base_by_looser : {f g : Rule Address} → Looser f g → (x : Symbol) → Looser (base_by a f x) (base_by b g x)
+  base_by_looser p s.GetElementPtr = p
+  base_by_looser p x = next global_looser (λ n. same)
+
+  base_looser : (d e : ℕ) → d ≤ e → (m n : ℕ) → m ≤ n → Looser (base_to a d m) (base_to b e n)
+  unfolding base_to
+  base_looser d e le zero zero k = next same (λ x. base_by_looser same x)
+  base_looser d e le zero (suc n) k = next same (λ x. base_by_looser (stopped (names_limit limit.Indices)) x)
+  base_looser d e le (suc m) zero k = absurd (omega (arith, k))
+  base_looser d e le (suc m) (suc n) k = next same (λ x. base_by_looser (next same (λ u. from_looser d e le (base_looser d e le m n (omega (arith, k))))) x)
+
   offset_looser : (d e : ℕ) → d ≤ e → Looser (offset a d) (offset b e)
   unfolding offset
-  offset_looser d e le =
-      next same (λ u. next same (λ v. next (type_looser d e le) (λ t. next same (λ w. next same (λ x. next global_looser (λ base. next constant_indices_looser (λ is. same)))))))
+  offset_looser d e le = next (from_looser d e le (base_looser d e le (a.indices - 1) (b.indices - 1) (omega (arith, up.indices)))) (λ from. same)
 
   local_value_near : (locals : Bool) (t : Lexeme) → Near (local_value a locals t) (local_value b locals t)
   local_value_near true t = mapped_near operand.Local (local_by a t.symbol t) (local_by b t.symbol t) (local_by_near t.symbol t)

@@ -19,7 +19,7 @@ use Rattle.ms_bits.specs.declared.operations.CastOp.{CastOp}
 use Rattle.ms_ir.specs.declared.syntax.Op.{Op}
 use Rattle.ms_grammar.specs.declared.states.Edges.{Edges}
 use Rattle.ms_grammar.specs.declared.states.Indices.{Indices}
-use Rattle.ms_grammar.specs.Values.{number, step_words, int_value, truth_value, null_value, no_value, bytes_init, typed, nested_init}
+use Rattle.ms_grammar.specs.Values.{Address, number, step_words, int_value, truth_value, null_value, no_value, bytes_init, typed, nested_init}
 use Rattle.ms_grammar.specs.Skipped.{attributes, suffixes_from, attachments}
 use Rattle.ms_grammar.specs.declared.states.Body.{Body}
 use Rattle.ms_grammar.specs.Insts.{Marked, names_printf, binary_carries, cast_carries, compare_carries, flags_of, predicate_word, bit_type, same_type, no_indices, index_begins, count_begins, alloca_of, call_type, callee_type, is_printf, call_end, call_word, edge_begins, case_begins}
@@ -132,17 +132,28 @@ constant_index limits found = do
 unfoldable pub constant_indices : Limits → Rule (List (Ty × ℕ))
 constant_indices limits = loop (comma_begins (λ found. true)) (λ found comma. constant_index limits found) []
 
-unfoldable pub offset : Limits → ℕ → Rule Operand
-offset limits depth = do
+unfoldable pub step_from : Limits → ℕ → Rule Address → Rule Address
+step_from limits depth base = do
   step_words
   word s.OpenParen
   t ← type_to limits depth
   word s.Comma
   word s.PtrType
-  base ← global limits
+  from ← base
   indices ← constant_indices limits
   word s.CloseParen
-  give (operand.Offset t base indices)
+  give (from.0, (t, indices) ∷ from.1)
+
+abbrev pub base_by : Limits → Rule Address → Symbol → Rule Address
+base_by limits inner s.GetElementPtr = inner
+base_by limits inner symbol = global limits >>= λ x. give (x, [])
+
+unfoldable pub base_to : Limits → ℕ → ℕ → Rule Address
+base_to limits depth zero = next_symbol >>= base_by limits (stop (r.Limit limit.Indices))
+base_to limits depth (suc within) = next_symbol >>= base_by limits (skip >> step_from limits depth (base_to limits depth within))
+
+unfoldable pub offset : Limits → ℕ → Rule Operand
+offset limits depth = step_from limits depth (base_to limits depth (limits.indices - 1)) >>= λ a. give (operand.Offset a.0 a.1)
 
 abbrev pub local_value : Limits → Bool → Lexeme → Verdict Operand
 local_value limits true t = judge_map operand.Local (local_by limits t.symbol t)

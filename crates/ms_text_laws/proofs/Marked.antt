@@ -161,7 +161,7 @@ module _ (limits : Limits) where
   one_of_32 (Int w) operand.Poison h = absurd (no_one (w == 32) h)
   one_of_32 (Int w) (operand.Local x) h = absurd (no_one (w == 32) h)
   one_of_32 (Int w) (operand.Global x) h = absurd (no_one (w == 32) h)
-  one_of_32 (Int w) (operand.Offset t x indices) h = absurd (no_one (w == 32) h)
+  one_of_32 (Int w) (operand.Offset x steps) h = absurd (no_one (w == 32) h)
   one_of_32 Ptr count h = absurd cc
   one_of_32 (Array' n shape item) count h = absurd cc
   one_of_32 (Struct' packed shape fields) count h = absurd cc

@@ -1,8 +1,10 @@
 -- Values and initialisers that are read are no deeper than they may be, and have few indices and small names.
-use Rattle.std.proofs.Common.{◌≡◌, ℕ, zero, suc, ◌≤◌, max, Bool, true, false, ◌&&◌, cond, List, [], ◌∷◌, ◌++◌, map, length, flat_map, Option, Some, None, Ok, Err, refl, subst, ap, ◌∙◌, arith}
+use Rattle.std.proofs.Common.{◌≡◌, ℕ, zero, suc, ◌≤◌, max, Bool, true, false, ◌&&◌, cond, List, [], ◌∷◌, ◌++◌, map, length, flat_map, Option, Some, None, Ok, Err, refl, sym, subst, ap, ◌∙◌, arith}
 use Rattle.std.specs.Prelude.{nat_le, nat_lt}
 use Rattle.std.specs.List.{list_all}
 use Rattle.std.proofs.lemmas.Bool.{ltb-true, leb-true, le-leb, and_parts, and_from}
+use Rattle.std.proofs.lemmas.List.Folds.{list_all-append}
+use Rattle.ms_lex.specs.Grammar.{◌>>◌}
 use Rattle.ms_ir.specs.declared.syntax.Name.{Name}
 use Rattle.ms_ir.specs.declared.syntax.Ty.{Ty, Int}
 use Rattle.ms_ir.specs.declared.syntax.Operand.{Operand}
@@ -10,7 +12,8 @@ use Rattle.ms_ir.specs.declared.syntax.Operand.TheVariants as operand
 use Rattle.ms_ir.specs.declared.syntax.Init.{Init, Row_of-Init-Array-0-2, end_of-Init-Array-0-2, more_of-Init-Array-0-2, items-the_row-Init-Array-0-2, items_hidden-the_row-Init-Array-0-2-0}
 use Rattle.ms_ir.specs.declared.syntax.Init as initial
 use Rattle.ms_ir.specs.declared.syntax.Init.TheBlock.{hidden-the_row-Init-Array-0-2-0}
-use Rattle.ms_ir.specs.Written.{type_mentions, operand_mentions, operand_types, init_mentions}
+use Rattle.ms_ir.specs.Equal.{Step}
+use Rattle.ms_ir.specs.Written.{OfGlobal, type_mentions, operand_mentions, operand_types, init_mentions}
 use Rattle.ms_ir.specs.declared.forms.Form.{Form}
 use Rattle.ms_grammar.specs.declared.refusals.Limit.TheVariants as limit
 use Rattle.ms_grammar.specs.declared.refusals.Refusal.{Refusal}
@@ -18,11 +21,11 @@ use Rattle.ms_grammar.specs.declared.refusals.Refusal.TheVariants as r
 use Rattle.ms_grammar.specs.declared.symbols.Symbol.{Symbol}
 use Rattle.ms_grammar.specs.declared.symbols.Symbol.TheVariants as s
 use Rattle.ms_grammar.specs.Lexemes.{Lexeme, name_in}
-use Rattle.ms_grammar.specs.Steps.{Rule}
+use Rattle.ms_grammar.specs.Steps.{Rule, skip, stop}
 use Rattle.ms_grammar.specs.Names.{local_by, global_by}
 use Rattle.ms_grammar.specs.Types.{int_width, is_ptr, int_type_of, type_to, opens}
-use Rattle.ms_grammar.specs.Values.{number_by, max_indices, constant_index, constant_indices, offset, is_int_width, int_value, local_value, simple_by, simple_value, value_by, value_within, flat_init, typed, array_init, struct_init, packed_init, nested_init, init_to}
-use Rattle.ms_valid.specs.ReadLimits.{mentioned, type_depth, init_depth, items_depth, few_constant_indices, few_init_indices, few_items_indices}
+use Rattle.ms_grammar.specs.Values.{number_by, max_indices, constant_index, constant_indices, Address, step_from, base_by, base_to, max_within, offset, is_int_width, int_value, local_value, simple_by, simple_value, value_by, value_within, flat_init, typed, array_init, struct_init, packed_init, nested_init, init_to}
+use Rattle.ms_valid.specs.ReadLimits.{mentioned, type_depth, steps_depth, init_depth, items_depth, few_constant_indices, few_init_indices, few_items_indices}
 use Rattle.ms_valid.proofs.TypeShapes.{init_mentions-array, init_mentions-struct}
 use Rattle.ms_text_laws.proofs.CountedTurns.{length_more}
 use Rattle.ms_text_laws.proofs.Sound.{all_pushed, no_value, same_value, if_good, if_mapped, if_within}
@@ -64,22 +67,74 @@ indices_read : (depth : ℕ) → Brings constant_indices (FewIndices depth)
 unfolding constant_indices
 indices_read depth = looped (refl, refl) (λ found comma h e. index_read depth found h)
 
-offset_small : (form : Form) (depth : ℕ) (t : Ty) (base : Name) (indices : List (Ty × ℕ)) → is_small_type form depth t ≡ true → is_small_name form base ≡ true → FewIndices depth indices
-    → is_small_operand form depth (operand.Offset t base indices) ≡ true
-offset_small form depth t base indices w g h =
-    let o : Operand = operand.Offset t base indices in
-    let type = small_parts form depth t w in
-    let named = all_joined (λ x. is_small_name form (mentioned x)) (type_mentions t) _ type.1 (and_from (is_small_name form base) true g refl) in
-    let types = and_from (nat_le (type_depth t) depth) (are_shallow_types depth (map (λ i. i.0) indices)) type.0
-    (all_mapped (λ (i : Ty × ℕ). nat_le (type_depth i.0) depth) (λ u. nat_le (type_depth u) depth) (λ i. i.0) (λ i k. k) indices h.1) in
-    and_from (small_mentions form (operand_mentions o) && few_constant_indices o) (are_shallow_types depth (operand_types o))
-    (and_from (small_mentions form (operand_mentions o)) (few_constant_indices o) named h.0) types
+-- ---- steps
 
-offset_read : (form : Form) (depth : ℕ) → Brings (offset form depth) (λ o. is_small_operand form depth o ≡ true)
-unfolding offset
-offset_read form depth =
-    behind (λ words. behind (λ paren. chained (type_read form depth) (λ t w. behind (λ comma. behind (λ pointer. chained (global_read form) (λ base g.
-    chained (indices_read depth) (λ indices h. behind (λ close. given (offset_small form depth t base indices w g h)))))))))
+-- a step of a small type, and few indices
+abbrev is_small_step : Form → ℕ → Step → Bool
+is_small_step form depth s = is_small_type form depth s.0 && nat_le (length s.1) 64 && list_all (λ i. nat_le (type_depth i.0) depth) s.1
+
+-- a small name, and so many small steps at most
+abbrev IsSmallAddress : Form → ℕ → ℕ → Address → Type 0
+IsSmallAddress form depth most a = (is_small_name form a.0 ≡ true) × (length a.1 ≤ most) × (list_all (is_small_step form depth) a.1 ≡ true)
+
+module _ (form : Form) (depth : ℕ) where
+  step_parts : (s : Step) → is_small_step form depth s ≡ true
+      → (is_small_type form depth s.0 ≡ true) × (nat_le (length s.1) 64 ≡ true) × (list_all (λ i. nat_le (type_depth i.0) depth) s.1 ≡ true)
+  step_parts s h =
+      let all = and_parts (is_small_type form depth s.0 && nat_le (length s.1) 64) (list_all (λ i. nat_le (type_depth i.0) depth) s.1) h in
+      let first = and_parts (is_small_type form depth s.0) (nat_le (length s.1) 64) all.0 in
+      (first.0, first.1, all.1)
+
+  step_small : (t : Ty) (indices : List (Ty × ℕ)) → is_small_type form depth t ≡ true → FewIndices depth indices → is_small_step form depth (t, indices) ≡ true
+  step_small t indices w h =
+      and_from (is_small_type form depth t && nat_le (length indices) 64) (list_all (λ i. nat_le (type_depth i.0) depth) indices)
+      (and_from (is_small_type form depth t) (nat_le (length indices) 64) w h.0) h.1
+
+  step_shallow : (s : Step) → is_small_step form depth s ≡ true → are_shallow_types depth (s.0 ∷ map (λ i. i.0) s.1) ≡ true
+  step_shallow s h =
+      let parts = step_parts s h in
+      and_from (nat_le (type_depth s.0) depth) (are_shallow_types depth (map (λ i. i.0) s.1)) (small_parts form depth s.0 parts.0).0
+      (all_mapped (λ (i : Ty × ℕ). nat_le (type_depth i.0) depth) (λ u. nat_le (type_depth u) depth) (λ i. i.0) (λ i k. k) s.1 parts.2)
+
+  steps_small : (a : Address) → IsSmallAddress form depth 64 a → is_small_operand form depth (operand.Offset a.0 a.1) ≡ true
+  steps_small a h =
+      let steps = a.1 in
+      let types = flat_map (λ s. type_mentions s.0) steps in
+      let few = nat_le (length steps) 64 in
+      let fewer = list_all (λ s. nat_le (length s.1) 64) steps in
+      let names = all_joined (λ x. is_small_name form (mentioned x)) types (OfGlobal a.0 ∷ [])
+      (all_among (is_small_step form depth) (λ x. is_small_name form (mentioned x)) (λ s. type_mentions s.0) (λ s k. (small_parts form depth s.0 (step_parts s k).0).1) steps h.2)
+      (and_from (is_small_name form a.0) true h.0 refl) in
+      let counts = and_from few fewer (le-leb (length steps) 64 h.1) (all_so (is_small_step form depth) (λ s. nat_le (length s.1) 64) (λ s k. (step_parts s k).1) steps h.2) in
+      and_from (small_mentions form (types ++ OfGlobal a.0 ∷ []) && (few && fewer)) (are_shallow_types depth (flat_map (λ s. s.0 ∷ map (λ i. i.0) s.1) steps))
+      (and_from (small_mentions form (types ++ OfGlobal a.0 ∷ [])) (few && fewer) names counts)
+      (all_among (is_small_step form depth) (λ t. nat_le (type_depth t) depth) (λ s. s.0 ∷ map (λ i. i.0) s.1) step_shallow steps h.2)
+
+  step_read : (most : ℕ) (base : Rule Address) → Brings base (IsSmallAddress form depth most) → Brings (step_from form depth base) (IsSmallAddress form depth (suc most))
+  unfolding step_from
+  step_read most base p =
+      behind (λ words. behind (λ paren. chained (type_read form depth) (λ t w. behind (λ comma. behind (λ pointer. chained p (λ a g.
+      chained (indices_read depth) (λ indices h. behind (λ close. given (around a t indices g w h)))))))))
+    where
+      around : (a : Address) (t : Ty) (indices : List (Ty × ℕ)) → IsSmallAddress form depth most a → is_small_type form depth t ≡ true → FewIndices depth indices
+          → IsSmallAddress form depth (suc most) (a.0, (t, indices) ∷ a.1)
+      around a t indices g w h =
+          let few = g.1 in
+          (g.0, omega (arith, few), and_from (is_small_step form depth (t, indices)) (list_all (is_small_step form depth) a.1) (step_small t indices w h) g.2)
+
+  base_by_read : (most : ℕ) (inner : Rule Address) → Brings inner (IsSmallAddress form depth most) → (x : Symbol) → Brings (base_by form inner x) (IsSmallAddress form depth most)
+  base_by_read most inner p s.GetElementPtr = p
+  base_by_read most inner p x = chained (global_read form) (λ n g. given (g, omega arith, refl))
+
+  base_read : (within : ℕ) → Brings (base_to form depth within) (IsSmallAddress form depth within)
+  unfolding base_to
+  base_read zero = behind (λ x. base_by_read zero (stop (r.Limit limit.Indices)) (stopped (r.Limit limit.Indices)) x)
+  base_read (suc within) =
+      behind (λ x. base_by_read (suc within) (skip >> step_from form depth (base_to form depth within)) (behind (λ taken. step_read within (base_to form depth within) (base_read within))) x)
+
+  offset_read : Brings (offset form depth) (λ o. is_small_operand form depth o ≡ true)
+  unfolding offset
+  offset_read = chained (step_read max_within (base_to form depth max_within) (base_read max_within)) (λ a h. given (steps_small a h))
 
 -- ---- values of one token
 
@@ -212,8 +267,18 @@ module _ (form : Form) (depth : ℕ) where
       let same : init_depth (initial.Struct packed xs) ≡ suc (deepest_item xs) = ap suc (listed_depth xs) in
       init_from (suc depth) (initial.Struct packed xs) (omega (arith, deep, same)) (listed_few xs ∙ items_few xs h) (ap (small_mentions form) (init_mentions-struct packed xs) ∙ items_named xs h)
 
+  steps_within : (steps : List Step) → are_shallow_types depth (flat_map (λ s. s.0 ∷ map (λ i. i.0) s.1) steps) ≡ true → steps_depth steps ≤ depth
+  steps_within [] h = omega arith
+  steps_within (s ∷ inner) h =
+      let others = flat_map (λ i. i.0 ∷ map (λ j. j.0) i.1) inner in
+      let parts = and_parts (are_shallow_types depth (s.0 ∷ map (λ i. i.0) s.1)) (are_shallow_types depth others)
+      (sym (list_all-append (λ t. nat_le (type_depth t) depth) (s.0 ∷ map (λ i. i.0) s.1) others) ∙ h) in
+      let first = leb-true (type_depth s.0) depth (and_parts (nat_le (type_depth s.0) depth) _ parts.0).0 in
+      let rest = steps_within inner parts.1 in
+      omega (arith, first, rest)
+
   value_depth : (o : Operand) → are_shallow_types depth (operand_types o) ≡ true → init_depth (initial.Value o) ≤ depth
-  value_depth (operand.Offset t base indices) h = leb-true (type_depth t) depth (and_parts (nat_le (type_depth t) depth) _ h).0
+  value_depth (operand.Offset x steps) h = steps_within steps h
   value_depth o h = omega arith
 
   value_small : (o : Operand) → is_small_operand form depth o ≡ true → is_small_init form depth (initial.Value o) ≡ true

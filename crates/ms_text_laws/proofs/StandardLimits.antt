@@ -158,7 +158,9 @@ name_bounded (Number n) = always (λ k. refl)
 name_bounded (Called x) = less (length x)
 
 offsets_bounded : (a : Operand) → Bounded (λ k. few_offsets k a)
-offsets_bounded (operand.Offset t x indices) = at_most (length indices)
+offsets_bounded (operand.Offset x steps) =
+    both_bounded (λ k. nat_le (length steps) k) (λ k. list_all (λ s. nat_le (length s.1) k) steps) (at_most (length steps))
+    (all_bounded (λ k s. nat_le (length s.1) k) (λ s. at_most (length s.1)) steps)
 offsets_bounded (operand.Int n) = always (λ k. refl)
 offsets_bounded operand.Null = always (λ k. refl)
 offsets_bounded operand.Undef = always (λ k. refl)

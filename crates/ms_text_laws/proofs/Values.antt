@@ -1,5 +1,5 @@
 -- Values and initialisers are read as what they were written of.
-use Rattle.std.proofs.Common.{◌≡◌, ℕ, zero, suc, ◌+◌, ◌-◌, ◌*◌, ◌≤◌, ◌<◌, ◌^◌, max, Bool, true, false, ◌&&◌, ◌||◌, cond, ltb, List, [], ◌∷◌, ◌++◌, map, length, Ok, Err, pos, negsuc, refl, sym, ap, ◌∙◌, subst, append_assoc, append-nil, arith, le_trans, length-append, pow_mono}
+use Rattle.std.proofs.Common.{◌≡◌, ℕ, zero, suc, ◌+◌, ◌-◌, ◌*◌, ◌≤◌, ◌<◌, ◌^◌, max, Bool, true, false, true≢false, ◌&&◌, ◌||◌, cond, ltb, List, [], ◌∷◌, ◌++◌, map, flat_map, length, Ok, Err, pos, negsuc, refl, sym, ap, ◌∙◌, subst, append_assoc, append-nil, arith, le_trans, length-append, pow_mono}
 use native.Mathlib.Nat.{le-max_left, le-max_right}
 use Rattle.std.specs.Prelude.{codes, nat_lt, nat_le, ◌==◌}
 use Rattle.std.specs.List.{list_all}
@@ -14,6 +14,7 @@ use Rattle.ms_ir.specs.declared.syntax.Operand.{Operand}
 use Rattle.ms_ir.specs.declared.syntax.Operand.TheVariants as operand
 use Rattle.ms_ir.specs.declared.syntax.Init.{Init, Row_of-Init-Array-0-2, end_of-Init-Array-0-2, more_of-Init-Array-0-2, items-the_row-Init-Array-0-2}
 use Rattle.ms_ir.specs.declared.syntax.Init as initial
+use Rattle.ms_ir.specs.Equal.{Step}
 use Rattle.ms_ir.specs.Layout.{width_of}
 use Rattle.ms_grammar.specs.declared.refusals.Limit.TheVariants as limit
 use Rattle.ms_grammar.specs.declared.symbols.Symbol.{Symbol}
@@ -21,18 +22,18 @@ use Rattle.ms_grammar.specs.declared.symbols.Symbol.TheVariants as s
 use Rattle.ms_grammar.specs.Lexemes.{Lexeme, end_of_text, is, same_symbol, symbol_of, word_symbol}
 use Rattle.ms_grammar.specs.Steps.{Rule, word, items, with_item, refusal, within, judge_map}
 use Rattle.ms_grammar.specs.Types.{int_type_of, opens}
-use Rattle.ms_grammar.specs.Values.{number_by, number, step_words, typed, array_init, struct_init, packed_init, nested_init}
+use Rattle.ms_grammar.specs.Values.{Address, number_by, number, step_words, typed, array_init, struct_init, packed_init, nested_init}
 use Rattle.ms_valid.specs.FormedNames.{are_bytes, is_local_name, is_global_name}
-use Rattle.ms_valid.specs.FormedCode.{is_width, type_formed, number_formed, operand_formed, is_constant, init_formed, items_formed}
-use Rattle.ms_valid.specs.ReadLimits.{type_depth, init_depth, items_depth}
+use Rattle.ms_valid.specs.FormedCode.{is_width, type_formed, number_formed, step_formed, operand_formed, is_constant, init_formed, items_formed}
+use Rattle.ms_valid.specs.ReadLimits.{type_depth, steps_depth, init_depth, items_depth}
 use Rattle.ms_ir.specs.Written.{type_mentions, operand_mentions, init_mentions, items_mentions, OfGlobal}
 use Rattle.ms_written.specs.Pieces.{word as word_token, sign, comma, behind_commas, with_commas, enclosed}
 use Rattle.ms_written.specs.Names.{local_token, global_token, number_token, bytes_token, signed_text}
 use Rattle.ms_written.specs.Types.{type_tokens}
-use Rattle.ms_written.specs.Values.{integer_token, constant_index_tokens, offset_tokens, value_tokens, init_tokens, items_tokens}
+use Rattle.ms_written.specs.Values.{integer_token, constant_index_tokens, offset_tokens, base_tokens, value_tokens, init_tokens, items_tokens}
 use Rattle.ms_written.proofs.SpelledBack.{string_back}
 use Rattle.ms_grammar.specs.Skipped.{is_closer}
-use Rattle.ms_text_laws.proofs.Limited.{Limits, global, type_to, constant_index, constant_indices, offset, simple_by, simple_value, value_within, local_value, flat_init, init_to}
+use Rattle.ms_text_laws.proofs.Limited.{Limits, global, type_to, constant_index, constant_indices, step_from, base_to, offset, simple_by, simple_value, value_within, local_value, flat_init, init_to}
 use Rattle.ms_text_laws.proofs.Takes.{Takes, given, taken, chain, ended, by_symbol, other, word_taken, along}
 use Rattle.ms_text_laws.proofs.Numbers.{IsShort, signed_back, wrapped}
 use Rattle.ms_text_laws.proofs.Rows.{init_array_is, init_struct_is}
@@ -120,12 +121,12 @@ open_paren_taken = word_taken s.OpenParen refl refl
 
 -- the arrays and structs of a constant 'getelementptr'
 abbrev pub offset_depth : Operand → ℕ
-offset_depth (operand.Offset t x indices) = type_depth t
+offset_depth (operand.Offset x steps) = steps_depth steps
 offset_depth a = 0
 
--- so many indices at most
+-- so many indices at most, and so many within one another
 abbrev pub few_offsets : ℕ → Operand → Bool
-few_offsets most (operand.Offset t x indices) = nat_le (length indices) most
+few_offsets most (operand.Offset x steps) = nat_le (length steps) most && list_all (λ s. nat_le (length s.1) most) steps
 few_offsets most a = true
 
 -- a symbol with which a value begins
@@ -148,6 +149,13 @@ pub record ValueFits (limits : Limits) (depth : ℕ) (t : Ty) (a : Operand) : Ty
   pub shallow : offset_depth a ≤ depth
   pub named : few_names limits.names (operand_mentions a) ≡ true
   pub indices : few_offsets limits.indices a ≡ true
+
+-- steps as they may stand, within the limits
+record StepsFit (limits : Limits) (depth : ℕ) (steps : List Step) : Type 0 where
+  formed : list_all step_formed steps ≡ true
+  shallow : steps_depth steps ≤ depth
+  named : few_names limits.names (flat_map (λ s. type_mentions s.0) steps) ≡ true
+  indices : list_all (λ s. nat_le (length s.1) limits.indices) steps ≡ true
 
 module _ (limits : Limits) where
   pub global_taken : (x : Name) (ts : List Lexeme) → is_global_name x ≡ true → is_below limits.names x ≡ true → Takes (global limits) (global_token x ∷ ts) x ts
@@ -180,21 +188,52 @@ module _ (limits : Limits) where
             (indices_taken indices (found ++ i ∷ []) parts.1 (omega (arith, few, length-append found (i ∷ [])))),
       )
 
-  offset_tokens_are : (t : Ty) (x : Name) (indices : List (Ty × ℕ)) (rest : List Lexeme) → offset_tokens t (global_token x) indices ++ rest
-      ≡ word_token (codes "getelementptr") ∷ sign (codes "(") ∷ (type_tokens t ++ comma ∷ word_token (codes "ptr") ∷ global_token x ∷ (behind_commas (map constant_index_tokens indices) ++ sign (codes ")") ∷ rest))
+  offset_tokens_are : (t : Ty) (base : List Lexeme) (indices : List (Ty × ℕ)) (rest : List Lexeme) → offset_tokens t base indices ++ rest
+      ≡ word_token (codes "getelementptr") ∷ sign (codes "(") ∷ (type_tokens t ++ comma ∷ word_token (codes "ptr") ∷ (base ++ (behind_commas (map constant_index_tokens indices) ++ sign (codes ")") ∷ rest)))
   unfolding offset_tokens
-  offset_tokens_are t x indices rest = ap (λ ys. word_token (codes "getelementptr") ∷ sign (codes "(") ∷ ys)
-      (regrouped (with_commas (type_tokens t ∷ (word_token (codes "ptr") ∷ global_token x ∷ []) ∷ map constant_index_tokens indices)) (sign (codes ")")) rest
-      ∙ append_assoc (type_tokens t) (comma ∷ word_token (codes "ptr") ∷ global_token x ∷ behind_commas (map constant_index_tokens indices)) (sign (codes ")") ∷ rest))
+  offset_tokens_are t base indices rest = ap (λ ys. word_token (codes "getelementptr") ∷ sign (codes "(") ∷ ys)
+      (regrouped (with_commas (type_tokens t ∷ (word_token (codes "ptr") ∷ base) ∷ map constant_index_tokens indices)) (sign (codes ")")) rest
+      ∙ append_assoc (type_tokens t) (comma ∷ word_token (codes "ptr") ∷ (base ++ behind_commas (map constant_index_tokens indices))) (sign (codes ")") ∷ rest)
+      ∙ ap (λ ys. type_tokens t ++ comma ∷ word_token (codes "ptr") ∷ ys) (append_assoc base (behind_commas (map constant_index_tokens indices)) (sign (codes ")") ∷ rest)))
 
-  offset_taken : (t : Ty) (x : Name) (indices : List (Ty × ℕ)) (depth : ℕ) (rest : List Lexeme) → TypeFits limits depth t → is_global_name x ≡ true → is_below limits.names x ≡ true
-      → list_all (λ i. number_formed i.0 i.1) indices ≡ true → length indices ≤ limits.indices
-      → Takes (offset limits depth) (sign (codes "(") ∷ (type_tokens t ++ comma ∷ word_token (codes "ptr") ∷ global_token x ∷ (behind_commas (map constant_index_tokens indices) ++ sign (codes ")") ∷ rest))) (operand.Offset t x indices) rest
-  unfolding offset step_words constant_indices symbol_of
-  offset_taken t x indices depth rest h name few all most =
-      chain (ended refl) (chain open_paren_taken (chain (type_taken limits t depth _ h) (chain comma_taken (chain ptr_taken (chain (global_taken x _ name few)
-      (chain (loop_back (λ t. true) (λ found. true) (constant_index limits) s.CloseParen (sign (codes ")")) close_paren (map constant_index_tokens indices) [] indices rest (indices_taken indices [] all (omega (arith, most))))
+  -- a step, whose base is written so
+  step_taken : (step : Step) (base : Rule Address) (inner : List Lexeme) (a : Address) (depth : ℕ) (rest : List Lexeme) → ((more : List Lexeme) → Takes base (inner ++ more) a more) → TypeFits limits depth step.0
+      → list_all (λ i. number_formed i.0 i.1) step.1 ≡ true → length step.1 ≤ limits.indices
+      → Takes (step_from limits depth base) (sign (codes "(") ∷ (type_tokens step.0 ++ comma ∷ word_token (codes "ptr") ∷ (inner ++ (behind_commas (map constant_index_tokens step.1) ++ sign (codes ")") ∷ rest)))) (a.0, step ∷ a.1) rest
+  unfolding step_from step_words constant_indices symbol_of
+  step_taken step base inner a depth rest from h all most =
+      chain (ended refl) (chain open_paren_taken (chain (type_taken limits step.0 depth _ h) (chain comma_taken (chain ptr_taken (chain (from _)
+      (chain (loop_back (λ t. true) (λ found. true) (constant_index limits) s.CloseParen (sign (codes ")")) close_paren (map constant_index_tokens step.1) [] step.1 rest (indices_taken step.1 [] all (omega (arith, most))))
       (chain (close_taken {S = List (Ty × ℕ)} (λ t. true) (λ found. true) (constant_index limits) s.CloseParen (sign (codes ")")) close_paren rest) given)))))))
+
+  first_step : (step : Step) (inner : List Step) (depth : ℕ) → StepsFit limits depth (step ∷ inner) → TypeFits limits depth step.0 × (list_all (λ i. number_formed i.0 i.1) step.1 ≡ true) × (length step.1 ≤ limits.indices)
+  first_step step inner depth h =
+      let formed = both (type_formed step.0) (list_all (λ i. number_formed i.0 i.1) step.1) (both (step_formed step) (list_all step_formed inner) h.formed).0 in
+      let names = few_parts limits.names (type_mentions step.0) (flat_map (λ i. type_mentions i.0) inner) h.named in
+      let few = (both (nat_le (length step.1) limits.indices) _ h.indices).0 in
+      (record { formed = formed.0; shallow = le_trans (le-max_left (type_depth step.0) (steps_depth inner)) h.shallow; named = names.0 }, formed.1, leb-true (length step.1) limits.indices few)
+
+  rest_steps : (step : Step) (inner : List Step) (depth : ℕ) → StepsFit limits depth (step ∷ inner) → StepsFit limits depth inner
+  rest_steps step inner depth h = record {
+    formed = (both (step_formed step) (list_all step_formed inner) h.formed).1;
+    shallow = le_trans (le-max_right (type_depth step.0) (steps_depth inner)) h.shallow;
+    named = (few_parts limits.names (type_mentions step.0) (flat_map (λ i. type_mentions i.0) inner) h.named).1;
+    indices = (both (nat_le (length step.1) limits.indices) (list_all (λ i. nat_le (length i.1) limits.indices) inner) h.indices).1;
+  }
+
+  -- a global, or steps from it
+  base_taken : (x : Name) (steps : List Step) (within depth : ℕ) (rest : List Lexeme) → is_global_name x ≡ true → is_below limits.names x ≡ true → length steps ≤ within → StepsFit limits depth steps
+      → Takes (base_to limits depth within) (base_tokens (global_token x) steps ++ rest) (x, steps) rest
+  unfolding base_to
+  base_taken x [] zero depth rest name few room h = by_symbol s.Global (global_symbol x) (chain (global_taken x rest name few) given)
+  base_taken x [] (suc within) depth rest name few room h = by_symbol s.Global (global_symbol x) (chain (global_taken x rest name few) given)
+  base_taken x (step ∷ inner) zero depth rest name few room h = absurd (omega (arith, room))
+  base_taken x (step ∷ inner) (suc within) depth rest name few room h =
+      let first = first_step step inner depth h in
+      along (offset_tokens_are step.0 (base_tokens (global_token x) inner) step.1 rest)
+      (by_symbol s.GetElementPtr step_symbol (chain (taken refl)
+      (step_taken step (base_to limits depth within) (base_tokens (global_token x) inner) (x, inner) depth rest
+      (λ more. base_taken x inner within depth more name few (omega (arith, room)) (rest_steps step inner depth h)) first.0 first.1 first.2)))
 
   module _ (depth : ℕ) (locals : Bool) where
     abbrev Simple : Ty → Lexeme → Operand → List Lexeme → Type 0
@@ -266,16 +305,22 @@ module _ (limits : Limits) where
     integer_taken (Struct' packed shape fields) n rest h = absurd cc
     integer_taken (Named x) n rest h = absurd cc
 
-    offset_value_taken : (t u : Ty) (x : Name) (indices : List (Ty × ℕ)) (rest : List Lexeme) → ValueFits limits depth t (operand.Offset u x indices)
-        → Takes (value_within limits depth locals t) (offset_tokens u (global_token x) indices ++ rest) (operand.Offset u x indices) rest
-    unfolding value_within
-    offset_value_taken t u x indices rest h =
-        let first = both (type_formed u && is_global_name x) (list_all (λ i. number_formed i.0 i.1) indices) h.formed in
-        let second = both (type_formed u) (is_global_name x) first.0 in
-        let names = few_parts limits.names (type_mentions u) (OfGlobal x ∷ []) h.named in
-        along (offset_tokens_are u x indices rest)
+    offset_value_taken : (t : Ty) (x : Name) (steps : List Step) (rest : List Lexeme) → ValueFits limits depth t (operand.Offset x steps)
+        → Takes (value_within limits depth locals t) (base_tokens (global_token x) steps ++ rest) (operand.Offset x steps) rest
+    unfolding value_within offset
+    offset_value_taken t x [] rest h = absurd (true≢false (sym (both (is_global_name x) false h.formed).1))
+    offset_value_taken t x (step ∷ inner) rest h =
+        let forms = both (is_global_name x) (list_all step_formed (step ∷ inner)) h.formed in
+        let names = few_parts limits.names (flat_map (λ s. type_mentions s.0) (step ∷ inner)) (OfGlobal x ∷ []) h.named in
+        let below = (both (is_below limits.names x) true names.1).0 in
+        let counts = both (nat_le (length (step ∷ inner)) limits.indices) (list_all (λ s. nat_le (length s.1) limits.indices) (step ∷ inner)) h.indices in
+        let few = leb-true (length (step ∷ inner)) limits.indices counts.0 in
+        let fits : StepsFit limits depth (step ∷ inner) = record { formed = forms.1; shallow = h.shallow; named = names.0; indices = counts.1 } in
+        let first = first_step step inner depth fits in
+        along (offset_tokens_are step.0 (base_tokens (global_token x) inner) step.1 rest)
         (by_symbol s.GetElementPtr step_symbol (chain (taken refl)
-        (offset_taken u x indices depth rest (record { formed = second.0; shallow = h.shallow; named = names.0 }) second.1 (both (is_below limits.names x) true names.1).0 first.1 (leb-true (length indices) limits.indices h.indices))))
+        (chain (step_taken step (base_to limits depth (limits.indices - 1)) (base_tokens (global_token x) inner) (x, inner) depth rest
+        (λ more. base_taken x inner (limits.indices - 1) depth more forms.0 below (omega (arith, few)) (rest_steps step inner depth fits)) first.0 first.1 first.2) given)))
 
     -- a value of a type
     pub value_taken : (t : Ty) (a : Operand) (rest : List Lexeme) → (locals || is_constant a) ≡ true → ValueFits limits depth t a → Takes (value_within limits depth locals t) (value_tokens t a ++ rest) a rest
@@ -286,7 +331,7 @@ module _ (limits : Limits) where
     value_taken t operand.Poison rest free h = poison_taken t rest
     value_taken t (operand.Local x) rest free h = local_value_taken x t rest free h.formed (both (is_below limits.names x) true h.named).0
     value_taken t (operand.Global x) rest free h = global_value_taken x t rest h.formed (both (is_below limits.names x) true h.named).0
-    value_taken t (operand.Offset u x indices) rest free h = offset_value_taken t u x indices rest h
+    value_taken t (operand.Offset x steps) rest free h = offset_value_taken t x steps rest h
 
 -- ---- the first symbol of a value
 
@@ -309,7 +354,8 @@ value_starts t operand.Undef rest = ap starts_value undef_symbol
 value_starts t operand.Poison rest = ap starts_value poison_symbol
 value_starts t (operand.Local x) rest = local_starts x
 value_starts t (operand.Global x) rest = ap starts_value (global_symbol x)
-value_starts t (operand.Offset u x indices) rest = ap starts_value step_symbol
+value_starts t (operand.Offset x []) rest = ap starts_value (global_symbol x)
+value_starts t (operand.Offset x (step ∷ inner)) rest = ap starts_value step_symbol
 
 -- ---- initialisers
 
@@ -339,7 +385,7 @@ pub record ItemsFit (limits : Limits) (depth : ℕ) {n : _} (row : Row_of-Init-A
   pub indices : few_among limits.indices row ≡ true
 
 value_depth : (a : Operand) → offset_depth a ≤ init_depth (initial.Value a)
-value_depth (operand.Offset t x indices) = omega arith
+value_depth (operand.Offset x steps) = omega arith
 value_depth (operand.Int n) = omega arith
 value_depth operand.Null = omega arith
 value_depth operand.Undef = omega arith

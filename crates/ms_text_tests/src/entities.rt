@@ -179,7 +179,7 @@ pub static GLOBALS: [Case; 23] = [
 ];
 
 /// Values that globals begin with.
-pub static VALUES: [Case; 37] = [
+pub static VALUES: [Case; 41] = [
     Case(Plain, "@g = global i8 -128", Kept),
     Case(Plain, "@g = global i8 127", Kept),
     Case(Plain, "@g = global i8 255", Written("@g = global i8 -1")),
@@ -276,6 +276,28 @@ pub static VALUES: [Case; 37] = [
         Plain,
         "@g = global ptr getelementptr (i8, ptr @h, i64 true)",
         Syntax(12, 47),
+    ),
+    Case(
+        Plain,
+        "@g = global ptr getelementptr ([ 2 x i8 ], ptr getelementptr (%t, ptr @h, i64 0, i32 1), i64 0, i64 1)",
+        Kept,
+    ),
+    Case(
+        Plain,
+        "@g = global ptr getelementptr inbounds (i8, ptr getelementptr nuw (i8, ptr getelementptr (i8, ptr @h), i64 -1), i8 1)",
+        Written(
+            "@g = global ptr getelementptr (i8, ptr getelementptr (i8, ptr getelementptr (i8, ptr @h), i64 -1), i8 1)",
+        ),
+    ),
+    Case(
+        Plain,
+        "@g = global ptr getelementptr (i8, ptr getelementptr (i8, ptr null, i64 1), i64 1)",
+        Syntax(14, 62),
+    ),
+    Case(
+        Plain,
+        "@g = global ptr getelementptr (i8, ptr getelementptr (i8, ptr @h, i64 1)",
+        Syntax(19, 72),
     ),
 ];
 

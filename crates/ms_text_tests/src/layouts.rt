@@ -27,6 +27,7 @@ pub const MANY_PARTS: &str = r#"%pair = type { i32, [ 2 x i8 ] }
 @no_fields = global { } { }
 @bit = global i1 true
 @step = global ptr getelementptr (%pair, ptr @g, i64 -1, i32 1, i1 -1)
+@within = global ptr getelementptr ([ 2 x i8 ], ptr getelementptr (%pair, ptr @g, i32 0, i32 1), i64 0, i64 1)
 declare i32 @printf(ptr, ...)
 declare void @free(ptr)
 declare ptr @malloc(i64)

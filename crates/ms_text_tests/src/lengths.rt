@@ -24,7 +24,7 @@ struct Long(
 
 /// Limits are kept.
 /// At the limit and one past it.
-static LIMITS: [Long; 24] = [
+static LIMITS: [Long; 26] = [
     Long(Plain, "@", "a", 1024, " = global i8 0\n", "", "", Kept),
     Long(
         Plain,
@@ -136,6 +136,26 @@ static LIMITS: [Long; 24] = [
         "",
         "",
         Limited(Limit::Indices, 203, 491),
+    ),
+    Long(
+        Plain,
+        "@g = global ptr ",
+        "getelementptr (i8, ptr ",
+        64,
+        "@h",
+        ")",
+        "\n",
+        Kept,
+    ),
+    Long(
+        Plain,
+        "@g = global ptr ",
+        "getelementptr (i8, ptr ",
+        65,
+        "@h",
+        ")",
+        "\n",
+        Limited(Limit::Indices, 324, 1488),
     ),
     Long(Plain, "declare void @f(i8", ", i8", 99, ")\n", "", "", Kept),
     Long(

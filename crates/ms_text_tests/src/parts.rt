@@ -96,7 +96,7 @@ static TYPES: [Part; 19] = [
 
 /// Values are read.
 /// Values behind their types.
-static VALUES: [Part; 24] = [
+static VALUES: [Part; 25] = [
     Part(Byte, Plain, "-128", 0, Next(1)),
     Part(Byte, Plain, "255", 0, Next(1)),
     Part(Byte, Plain, "256", 0, Not(Syntax(0, 0))),
@@ -144,6 +144,13 @@ static VALUES: [Part; 24] = [
         "getelementptr (i8, ptr %g)",
         0,
         Not(Syntax(5, 23)),
+    ),
+    Part(
+        Pointer,
+        Plain,
+        "getelementptr (i8, ptr getelementptr (i8, ptr @g), i64 1) x",
+        0,
+        Next(16),
     ),
 ];
 

@@ -4,6 +4,8 @@
 #[cfg(test)]
 mod alike;
 #[cfg(test)]
+mod aside_calls;
+#[cfg(test)]
 mod bounds;
 #[cfg(test)]
 mod bytes;
@@ -73,5 +75,9 @@ mod texts;
 mod traps;
 #[cfg(test)]
 mod validity;
+#[cfg(test)]
+mod word_calls;
+#[cfg(test)]
+mod word_values;
 #[cfg(test)]
 mod words;

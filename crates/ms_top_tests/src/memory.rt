@@ -230,7 +230,7 @@ static LOADS: [Run; 18] = [
 
 /// Addresses are computed.
 /// The distance from a global.
-static ADDRESSES: [Run; 35] = [
+static ADDRESSES: [Run; 41] = [
     Run(
         "@g = global i64 0 define i32 @main() { %q = getelementptr i32, ptr @g, i64 3 %a = ptrtoint ptr %q to i64 %b = ptrtoint ptr @g to i64 %c = sub i64 %a, %b %d = trunc i64 %c to i32 ret i32 %d }",
         b"",
@@ -444,6 +444,43 @@ static ADDRESSES: [Run; 35] = [
         b"",
         "exit 3",
         0,
+    ),
+    // One within another: in order, with a step to a first item left out, by bytes, and as what a global holds.
+    Run(
+        "@m = global [2 x [3 x [4 x i32]]] zeroinitializer define i32 @main() { store i32 7, ptr getelementptr inbounds ([4 x i32], ptr getelementptr inbounds ([3 x [4 x i32]], ptr getelementptr inbounds ([2 x [3 x [4 x i32]]], ptr @m, i64 0, i64 1), i64 0, i64 2), i64 0, i64 3) %v = load i32, ptr getelementptr (i8, ptr @m, i64 92) ret i32 %v }",
+        b"",
+        "exit 7",
+        0,
+    ),
+    Run(
+        "%p = type { i32, i32 } %q = type { i64, [3 x %p] } @q = global %q zeroinitializer define i32 @main() { store i32 5, ptr getelementptr inbounds (%p, ptr getelementptr inbounds (%q, ptr @q, i32 0, i32 1), i32 0, i32 1) %v = load i32, ptr getelementptr (i8, ptr @q, i64 12) ret i32 %v }",
+        b"",
+        "exit 5",
+        0,
+    ),
+    Run(
+        "@g = global [4 x i16] zeroinitializer define i32 @main() { store i8 9, ptr getelementptr (i8, ptr getelementptr inbounds ([2 x i16], ptr getelementptr (i8, ptr @g, i64 2), i64 0, i64 1), i64 -1) %v = load i8, ptr getelementptr (i8, ptr @g, i64 3) %w = zext i8 %v to i32 ret i32 %w }",
+        b"",
+        "exit 9",
+        0,
+    ),
+    Run(
+        "@m = global [2 x [2 x i8]] [[2 x i8] c\"ab\", [2 x i8] c\"cd\"] @h = global ptr getelementptr ([2 x i8], ptr getelementptr ([2 x [2 x i8]], ptr @m, i64 0, i64 1), i64 0, i64 1) define i32 @main() { %p = load ptr, ptr @h %v = load i8, ptr %p %w = zext i8 %v to i32 ret i32 %w }",
+        b"",
+        "exit 100",
+        0,
+    ),
+    Run(
+        "@g = global i8 6 define i32 @main() { %v = load i8, ptr getelementptr (i8, ptr getelementptr (i8, ptr @g, i64 -1), i8 1) %w = zext i8 %v to i32 ret i32 %w }",
+        b"",
+        "exit 6",
+        0,
+    ),
+    Run(
+        "@g = global [2 x i32] zeroinitializer define i32 @main() { %v = load i32, ptr getelementptr (i32, ptr getelementptr ([2 x i32], ptr @g, i64 0, i64 1), i64 1) ret i32 %v }",
+        b"",
+        "trap bad-address at site 1 in @main",
+        3,
     ),
 ];
 

@@ -133,9 +133,10 @@ static ENDS: [Ended; 6] = [
 ];
 
 /// The name of each trap.
-static TRAPS: [(Trap, &str); 16] = [
+static TRAPS: [(Trap, &str); 17] = [
     (Trap::Shift, "shift"),
     (Trap::ZeroDivisor, "zero-divisor"),
+    (Trap::ZeroPoison, "zero-poison"),
     (Trap::Overflow, "overflow"),
     (Trap::Nuw, "nuw"),
     (Trap::Nsw, "nsw"),

@@ -1,6 +1,6 @@
 -- Calls on words and worlds that are alike.
 use Rattle.std.proofs.Common.{◌≡◌, ℕ, ◌^◌, ◌<◌, List, [], ◌∷◌, map, Option, Some, None, refl, sym, ap, ◌∙◌, subst, zero, suc, ◌+◌, ◌++◌, length, drop, get_or, Bool, false, Result, Err, arith, true≢false, true, if◌then◌else◌}
-use Rattle.std.specs.Prelude.{zip, slice_get, unwrap_or}
+use Rattle.std.specs.Prelude.{zip, slice_get, unwrap_or, is_some}
 use Rattle.ms_bits.specs.declared.traps.Trap.{Trap}
 use Rattle.ms_bits.specs.declared.traps.Trap.TheVariants as trap
 use Rattle.ms_ir.specs.declared.syntax.Name.{Name}
@@ -9,9 +9,13 @@ use Rattle.ms_ir.specs.declared.syntax.Operand.{Operand}
 use Rattle.ms_ir.specs.declared.syntax.Op.{Op}
 use Rattle.ms_ir.specs.declared.syntax.Op.TheVariants as op
 use Rattle.ms_ir.specs.declared.calls.External.{External}
-use Rattle.ms_ir.specs.declared.calls.External.TheVariants.{Malloc, Calloc, Realloc, Free, Memcpy, Memmove, Memset, Memcmp, Strlen, Putchar, Puts, Getchar, Read, Write, Exit, Abort, LlvmMemcpy, LlvmMemmove, LlvmMemset, LifetimeStart, LifetimeEnd, Printf}
+use Rattle.ms_ir.specs.declared.calls.External.TheVariants.{Malloc, Calloc, Realloc, Free, Memcpy, Memmove, Memset, Memcmp, Strlen, Putchar, Puts, Getchar, Read, Write, Exit, Abort, LlvmMemcpy, LlvmMemmove, LlvmMemset, LifetimeStart, LifetimeEnd, Printf, LlvmTrap, LlvmAssume, LlvmObjectSize}
+use Rattle.ms_ir.specs.declared.calls.External.TheVariants as called
+use Rattle.ms_bits.specs.declared.word_functions.WordWidth.{WordWidth}
+use Rattle.ms_bits.specs.WordFunctions.{bits_of}
+use Rattle.std.proofs.Math.Nat.{zero-mod}
+use Rattle.ms_ir.specs.Names.{lookup, externals}
 use Rattle.ms_ir.specs.Equal.{type_eq}
-use Rattle.ms_ir.specs.Signatures.{is_variadic}
 use Rattle.ms_ir.specs.Layout.{width_of}
 use Rattle.ms_runs.specs.World.{World, Setting, Here, Enters, Ends, stuck, word}
 use Rattle.ms_ir.specs.Code.{operands, external_named}
@@ -21,8 +25,8 @@ use Rattle.ms_runs.specs.Formats.{cut_of, asks_string, with_arguments, shown, al
 use Rattle.ms_runs.specs.Origins.{first_in_string, asks_string_at}
 use Rattle.ms_runs.specs.Memory.{bytes_left}
 use Rattle.ms_runs.specs.Poisoned.{Poisoned}
-use Rattle.ms_runs.specs.Masks.{union, word_at}
-use Rattle.ms_runs.specs.Uses.{external_uses, callee_uses, uses, blinded, Use, Asked, value_uses, string_uses}
+use Rattle.ms_runs.specs.Masks.{union, word_at, as_result}
+use Rattle.ms_runs.specs.Uses.{external_uses, callee_uses, uses, blinded, blind_words, Use, Asked, value_uses, string_uses}
 use Rattle.ms_runs.specs.Shadow.{external_planes, callee_planes}
 use Rattle.ms_two_fills.proofs.Passed.{AllPassed, Passed}
 use Rattle.ms_two_fills.proofs.Effects.{EffectsAlike}
@@ -31,7 +35,8 @@ use Rattle.ms_two_fills.proofs.Reading.{AlikeWords, word_alike, word_number, rea
 use Rattle.ms_two_fills.proofs.Worlds.{other, BytesAlike, low_other, FitWorld}
 use Rattle.ms_two_fills.proofs.Addresses.{AddressStands}
 use Rattle.ms_two_fills.proofs.Ops.{CastStands, OpAlike, ReadAlike, op_alike}
-use Rattle.ms_two_fills.proofs.Externals.{answered, ExtAlike, three_alike, prints_alike, checked_string}
+use Rattle.ms_two_fills.proofs.WordCalls.{NoneWider, WordStands, WordsStand, called_result, word_call, words_low}
+use Rattle.ms_two_fills.proofs.Externals.{answered, is_plain, ExtAlike, three_alike, prints_alike, checked_string}
 use Rattle.ms_two_fills.proofs.Formats.{StringsSame, all_same, zip_same, zip_at}
 
 -- the second word of a call has 64 bits at most
@@ -47,7 +52,7 @@ three_words ps = word_at 0 ps ∷ word_at 1 ps ∷ word_at 2 ps ∷ []
 abbrev three_numbers : List ℕ → List ℕ
 three_numbers vs = word 0 vs ∷ word 1 vs ∷ word 2 vs ∷ []
 
-by_three : (s : Setting) (site : ℕ) (e : External) → is_variadic e ≡ false → (ts : List Ty) (vs : List ℕ) (w : World) → external s site e ts vs w ≡ external s site e ts (three_numbers vs) w
+by_three : (s : Setting) (site : ℕ) (e : External) → is_plain e ≡ true → (ts : List Ty) (vs : List ℕ) (w : World) → external s site e ts vs w ≡ external s site e ts (three_numbers vs) w
 by_three s site Malloc f ts vs w = refl
 by_three s site Calloc f ts vs w = refl
 by_three s site Realloc f ts vs w = refl
@@ -69,12 +74,16 @@ by_three s site LlvmMemmove f ts vs w = refl
 by_three s site LlvmMemset f ts vs w = refl
 by_three s site LifetimeStart f ts vs w = refl
 by_three s site LifetimeEnd f ts vs w = refl
-by_three s site Printf f ts vs w = absurd (true≢false f)
+by_three s site LlvmTrap f ts vs w = refl
+by_three s site LlvmAssume f ts vs w = refl
+by_three s site LlvmObjectSize f ts vs w = refl
+by_three s site Printf f ts vs w = absurd (true≢false (sym f))
+by_three s site (called.Word g n) f ts vs w = absurd (true≢false (sym f))
 
 numbers_three : (ps : List Poisoned) → three_numbers (map (λ p. p.value) ps) ≡ map (λ p. p.value) (three_words ps)
 numbers_three ps = λ i. word_number 0 ps i ∷ word_number 1 ps i ∷ word_number 2 ps i ∷ []
 
-external_three : (s : Setting) (site : ℕ) (e : External) → is_variadic e ≡ false → (ts : List Ty) (ps : List Poisoned) (w : World)
+external_three : (s : Setting) (site : ℕ) (e : External) → is_plain e ≡ true → (ts : List Ty) (ps : List Poisoned) (w : World)
     → external s site e ts (map (λ p. p.value) ps) w ≡ external s site e ts (map (λ p. p.value) (three_words ps)) w
 external_three s site e f ts ps w = by_three s site e f ts (map (λ p. p.value) ps) w ∙ ap (λ vs. external s site e ts vs w) (numbers_three ps)
 
@@ -100,9 +109,13 @@ planes_three s site root LlvmMemmove ps w = refl
 planes_three s site root LlvmMemset ps w = refl
 planes_three s site root LifetimeStart ps w = refl
 planes_three s site root LifetimeEnd ps w = refl
+planes_three s site root LlvmTrap ps w = refl
+planes_three s site root LlvmAssume ps w = refl
+planes_three s site root LlvmObjectSize ps w = refl
 planes_three s site root Printf ps w = refl
+planes_three s site root (called.Word f n) ps w = refl
 
-passed_three : (w : World) (ps : List Poisoned) (args : List (Ty × Operand)) (e : External) → is_variadic e ≡ false → AllPassed w ps (external_uses e args) → AllPassed w (three_words ps) (external_uses e args)
+passed_three : (w : World) (ps : List Poisoned) (args : List (Ty × Operand)) (e : External) → is_plain e ≡ true → AllPassed w ps (external_uses e args) → AllPassed w (three_words ps) (external_uses e args)
 passed_three w ps args Malloc f p = p
 passed_three w ps args Calloc f p = p
 passed_three w ps args Realloc f p = p
@@ -124,7 +137,11 @@ passed_three w ps args LlvmMemmove f p = p
 passed_three w ps args LlvmMemset f p = p
 passed_three w ps args LifetimeStart f p = p
 passed_three w ps args LifetimeEnd f p = p
-passed_three w ps args Printf f p = absurd (true≢false f)
+passed_three w ps args LlvmTrap f p = p
+passed_three w ps args LlvmAssume f p = p
+passed_three w ps args LlvmObjectSize f p = p
+passed_three w ps args Printf f p = absurd (true≢false (sym f))
+passed_three w ps args (called.Word g n) f p = absurd (true≢false (sym f))
 
 -- ---- the words and the strings of `printf`
 
@@ -168,7 +185,7 @@ passed_strings w ps k (a ∷ args) p (suc j) t e s = subst (λ n. Passed w ps (A
 
 module _ (s : Setting) (fill : List ℕ) (h : Here) (root : ℕ) (w : World) (b : ℕ → ℕ) (alike : BytesAlike w b) (fit : FitWorld w) (others : (x : ℕ) → b x < 256) where
   module _ (ps qs : List Poisoned) (words : AlikeWords ps qs) (small : (word_at 1 ps).value < 2 ^ 64) where
-    fixed_alike : (args : List (Ty × Operand)) (e : External) → is_variadic e ≡ false → AllPassed w ps (external_uses e args) → ExtAlike s fill h.site root w b alike fit others e (map (λ a. a.0) args) ps qs
+    fixed_alike : (args : List (Ty × Operand)) (e : External) → is_plain e ≡ true → AllPassed w ps (external_uses e args) → ExtAlike s fill h.site root w b alike fit others e (map (λ a. a.0) args) ps qs
     fixed_alike args e f p =
         subst (λ g. EffectsAlike answered answered g (external_planes (refill s fill) h.site root e qs (other w b)) (external s h.site e (map (λ a. a.0) args) (map (λ p. p.value) ps) w) (external (refill s fill) h.site e (map (λ a. a.0) args) (map (λ p. p.value) qs) (other w b)))
         (sym (planes_three s h.site root e ps w))
@@ -256,25 +273,67 @@ module _ (s : Setting) (fill : List ℕ) (h : Here) (root : ℕ) (w : World) (b 
             ∙ ap (λ o. elim o as (λ z. Result (List ℕ) Trap) [ Some bs ↦ cut_shown (other w b) bs (drop 1 types) (drop 1 (map (λ q. q.value) qs)) | None ↦ Err trap.BadAddress ])
             (strings (word_at 0 ps).value p.1.0 ∙ ap (string_at (other w b)) (format ∙ sym (word_number 0 qs)))
 
-    ext_alike : (args : List (Ty × Operand)) (e : External) → AllPassed w ps (external_uses e args) → ExtAlike s fill h.site root w b alike fit others e (map (λ a. a.0) args) ps qs
-    ext_alike args Printf p = printf_alike args p
-    ext_alike args e p = fixed_alike args e refl p
+    -- what a call comes to under its name, where it is no function of whole words
+    plain_result : (r : Option Ty) → (λ (v : ℕ) (u : World). record { value = v; mask = as_result r 0; origin = 0 }) ≡ answered
+    plain_result r = λ i v u. record { value = v; mask = result_zero r i; origin = 0 }
+      where
+        result_zero : (r : Option Ty) → as_result r 0 ≡ 0
+        result_zero None = refl
+        result_zero (Some t) = zero-mod (2 ^ width_of t)
 
-    called : (args : List (Ty × Operand)) (o : Option ℕ) (e : Option External) → AllPassed w ps (callee_uses e args)
-        → EffectsAlike answered answered (callee_planes s h.site root e ps w) (callee_planes (refill s fill) h.site root e qs (other w b))
-        (elim o [ Some f ↦ Enters f w | None ↦ elim e [ Some x ↦ external s h.site x (map (λ a. a.0) args) (map (λ p. p.value) ps) w | None ↦ Ends stuck w ] ])
-        (elim o [ Some f ↦ Enters f (other w b) | None ↦ elim e [ Some x ↦ external (refill s fill) h.site x (map (λ a. a.0) args) (map (λ p. p.value) qs) (other w b) | None ↦ Ends stuck (other w b) ] ])
-    called args (Some f) e p = (refl, low_other w b alike)
-    called args None (Some x) p = ext_alike args x p
-    called args None None p = (refl, low_other w b alike)
+    -- the same externals, under the name of a call
+    abbrev CallAlike : Option Ty → External → List (Ty × Operand) → Type 0
+    CallAlike r e args =
+        EffectsAlike (called_result r (Some e) ps) (called_result r (Some e) qs) (external_planes s h.site root e ps w) (external_planes (refill s fill) h.site root e qs (other w b))
+        (external s h.site e (map (λ a. a.0) args) (map (λ p. p.value) ps) w) (external (refill s fill) h.site e (map (λ a. a.0) args) (map (λ p. p.value) qs) (other w b))
 
-    call_alike : (r : Option Ty) (x : Name) (args : List (Ty × Operand)) → AllPassed w ps (uses s.func h.main (op.Call r x args)) → OpAlike s fill h root w b alike fit others (op.Call r x args) ps qs
-    call_alike r x args p = called args (s.func x) (external_named s.func x) p
+    as_called : (r : Option Ty) (e : External) (args : List (Ty × Operand)) → (called_result r (Some e) ps ≡ answered) → (called_result r (Some e) qs ≡ answered)
+        → ExtAlike s fill h.site root w b alike fit others e (map (λ a. a.0) args) ps qs → CallAlike r e args
+    as_called r e args p q same =
+        subst (λ l. EffectsAlike l (called_result r (Some e) qs) (external_planes s h.site root e ps w) (external_planes (refill s fill) h.site root e qs (other w b))
+        (external s h.site e (map (λ a. a.0) args) (map (λ p. p.value) ps) w) (external (refill s fill) h.site e (map (λ a. a.0) args) (map (λ p. p.value) qs) (other w b))) (sym p)
+        (subst (λ l. EffectsAlike answered l (external_planes s h.site root e ps w) (external_planes (refill s fill) h.site root e qs (other w b))
+        (external s h.site e (map (λ a. a.0) args) (map (λ p. p.value) ps) w) (external (refill s fill) h.site e (map (λ a. a.0) args) (map (λ p. p.value) qs) (other w b))) (sym q) same)
+
+    ext_alike : (r : Option Ty) (args : List (Ty × Operand)) (e : External) → AllPassed w ps (external_uses e args) → WordStands (Some e) r args ps
+        → ((k : ℕ) (n : WordWidth) → NoneWider (bits_of n) args → LowAt (bits_of n) (word_at k ps) (word_at k qs))
+        → union (map (λ p. p.mask) (blind_words (Some e) args ps)) ≡ 0 → CallAlike r e args
+    ext_alike r args Printf p stands low quiet = as_called r Printf args (plain_result r) (plain_result r) (printf_alike args p)
+    ext_alike r args (called.Word f n) p stands low quiet =
+        word_call h.site r f n args ps qs words (λ k. low k n stands.1) stands quiet w (other w b) (low_other w b alike)
+    ext_alike r args e p stands low quiet = as_called r e args (plain_result r) (plain_result r) (fixed_alike args e refl p)
+
+    call_alike : (r : Option Ty) (x : Name) (args : List (Ty × Operand)) → AllPassed w ps (uses s.func h.main (op.Call r x args)) → WordsStand s.func (op.Call r x args) ps
+        → ((k : ℕ) (n : WordWidth) → NoneWider (bits_of n) args → LowAt (bits_of n) (word_at k ps) (word_at k qs))
+        → union (map (λ p. p.mask) (blinded s.func (op.Call r x args) ps)) ≡ 0 → OpAlike s fill h root w b alike fit others (op.Call r x args) ps qs
+    call_alike r x args p stands low quiet = by_place (s.func x) (lookup externals x) (external_named s.func x) refl p stands quiet
+      where
+        none_alike : (e : Option External) → AllPassed w ps (callee_uses e args) → WordStands e r args ps → union (map (λ p. p.mask) (blind_words e args ps)) ≡ 0
+            → EffectsAlike (called_result r e ps) (called_result r e qs) (callee_planes s h.site root e ps w) (callee_planes (refill s fill) h.site root e qs (other w b))
+            (elim e [ Some x ↦ external s h.site x (map (λ a. a.0) args) (map (λ p. p.value) ps) w | None ↦ Ends stuck w ])
+            (elim e [ Some x ↦ external (refill s fill) h.site x (map (λ a. a.0) args) (map (λ p. p.value) qs) (other w b) | None ↦ Ends stuck (other w b) ])
+        none_alike (Some e) p stands quiet = ext_alike r args e p stands low quiet
+        none_alike None p stands quiet = (refl, low_other w b alike)
+
+        by_place : (o : Option ℕ) (e q : Option External) → q ≡ (if is_some o then None else e) → AllPassed w ps (callee_uses q args) → WordStands q r args ps
+            → union (map (λ p. p.mask) (blind_words q args ps)) ≡ 0
+            → EffectsAlike (called_result r e ps) (called_result r e qs) (callee_planes s h.site root q ps w) (callee_planes (refill s fill) h.site root q qs (other w b))
+            (elim o [ Some f ↦ Enters f w | None ↦ elim q [ Some x ↦ external s h.site x (map (λ a. a.0) args) (map (λ p. p.value) ps) w | None ↦ Ends stuck w ] ])
+            (elim o [ Some f ↦ Enters f (other w b) | None ↦ elim q [ Some x ↦ external (refill s fill) h.site x (map (λ a. a.0) args) (map (λ p. p.value) qs) (other w b) | None ↦ Ends stuck (other w b) ] ])
+        by_place (Some f) e q is p stands quiet = (refl, low_other w b alike)
+        by_place None e q is p stands quiet =
+            subst
+            (λ (z : Option External). AllPassed w ps (callee_uses z args) → WordStands z r args ps → union (map (λ p. p.mask) (blind_words z args ps)) ≡ 0
+            → EffectsAlike (called_result r e ps) (called_result r e qs) (callee_planes s h.site root z ps w) (callee_planes (refill s fill) h.site root z qs (other w b))
+            (elim z [ Some x ↦ external s h.site x (map (λ a. a.0) args) (map (λ p. p.value) ps) w | None ↦ Ends stuck w ])
+            (elim z [ Some x ↦ external (refill s fill) h.site x (map (λ a. a.0) args) (map (λ p. p.value) qs) (other w b) | None ↦ Ends stuck (other w b) ]))
+            (sym is) (λ given held silent. none_alike e given held silent) p stands quiet
 
   module _ (read others_read : ℕ → Ty → Operand → Poisoned) (reads : (n : ℕ) (t : Ty) (o : Operand) → LowAt (width_of t) (read n t o) (others_read n t o)) (n : ℕ) where
     -- what an instruction comes to, where its checks found nothing and it loses no poisoned bit
-    pub inst_alike : (o : Op) → CastStands o → CallStands o (read_all read (operands o) n) → AddressStands s.types o (read_all read (operands o) n) → union (map (λ p. p.mask) (blinded o (read_all read (operands o) n))) ≡ 0
+    pub inst_alike : (o : Op) → CastStands o → CallStands o (read_all read (operands o) n) → WordsStand s.func o (read_all read (operands o) n) → AddressStands s.types o (read_all read (operands o) n) → union (map (λ p. p.mask) (blinded s.func o (read_all read (operands o) n))) ≡ 0
         → AllPassed w (read_all read (operands o) n) (uses s.func h.main o) → ReadAlike s fill h root w b alike fit others read others_read reads n o
-    inst_alike (op.Call r x args) fits small stands quiet passed =
-        call_alike (read_all read args n) (read_all others_read args n) (read_all_alike read others_read reads args n) small r x args passed
-    inst_alike o fits small stands quiet passed = op_alike s fill h root w b alike fit others read others_read reads n o tt fits stands quiet passed
+    inst_alike (op.Call r x args) fits small words stands quiet passed =
+        call_alike (read_all read args n) (read_all others_read args n) (read_all_alike read others_read reads args n) small r x args passed words
+        (λ k width narrow. words_low (bits_of width) read others_read reads args n narrow k) quiet
+    inst_alike o fits small words stands quiet passed = op_alike s fill h root w b alike fit others read others_read reads n o tt fits stands quiet passed

@@ -113,7 +113,7 @@ module _ (m : Module) (formed : Formed m) (valid : Valid m) (unmarked : NoMarks 
   one_step k c d p a told =
       let same = untold_first (setting_of m setup) m c told in
       let told_one = subst UntoldSteps (sym same) told in
-      let sure = good_sure m formed valid (first_only (setting_of m setup)) refl in
+      let sure = good_sure m formed valid (first_only (setting_of m setup)) refl refl in
       let before = before_step (setting_of m setup) m c told in
       let alike = step_alike (first_only (setting_of m setup)) (fills k) refl m c d a.low (sure.stands c a.good) (sure.fit c a.good) (sure.fit d a.good_too).bytes
       (step_quiet (first_only (setting_of m setup)) m c (counts_none c before.blind (shadow_step by_formulas (first_only (setting_of m setup)) m c) told_one)) in

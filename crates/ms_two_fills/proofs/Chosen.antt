@@ -90,7 +90,7 @@ module _ (m : Module) (formed : Formed m) (valid : Valid m) where
   same_chosen : (setup : Setup) (fills : ℕ → List ℕ) → setup.reports ≡ 1 → GivesBytes setup → ((k : ℕ) → IsFill (fills k)) → (shadow m setup).blind ≡ 0 → shadow_chosen m setup fills ≡ shadow m setup
   same_chosen setup fills one bytes are quiet =
       ap (λ step. run_by (λ c. c.world) step setup.steps 0 (shadow_start m setup)) (λ i k c. same_step formulas_exact (setting_of m (refilled setup (fills k))) m c i)
-      ∙ sym (runs_alike_by (SoundPlaced m) (setting_of m setup) fills one m (good_sure m formed valid (setting_of m setup) refl) (good_kept m formed valid setup bytes)
+      ∙ sym (runs_alike_by (SoundPlaced m) (setting_of m setup) fills one m (good_sure m formed valid (setting_of m setup) refl refl) (good_kept m formed valid setup bytes)
       (λ k. good_kept m formed valid (refilled setup (fills k)) (record { input = bytes.input; fill = (are k).bytes }))
       setup.steps 0 (shadow_start m setup) (shadow_start m setup) (good_start m formed valid setup bytes) (good_start m formed valid setup bytes)
       (start_alike m setup setup.fill) (ap (λ r. r.blind) (sym (computed m setup)) ∙ quiet))

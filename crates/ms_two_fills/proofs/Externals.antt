@@ -6,16 +6,15 @@ use Rattle.ms_bits.specs.declared.traps.Trap.{Trap}
 use Rattle.ms_bits.specs.declared.traps.Trap.TheVariants as trap
 use Rattle.ms_bits.specs.Maps.{bytes_at, first_nonzero}
 use Rattle.ms_ir.specs.declared.calls.External.{External}
-use Rattle.ms_ir.specs.declared.calls.External.TheVariants.{Malloc, Calloc, Realloc, Free, Memcpy, Memmove, Memset, Memcmp, Strlen, Putchar, Puts, Getchar, Read, Write, Exit, Abort, LlvmMemcpy, LlvmMemmove, LlvmMemset, LifetimeStart, LifetimeEnd, Printf}
+use Rattle.ms_ir.specs.declared.calls.External.TheVariants.{Malloc, Calloc, Realloc, Free, Memcpy, Memmove, Memset, Memcmp, Strlen, Putchar, Puts, Getchar, Read, Write, Exit, Abort, LlvmMemcpy, LlvmMemmove, LlvmMemset, LifetimeStart, LifetimeEnd, Printf, LlvmTrap, LlvmAssume, LlvmObjectSize, Word}
 use Rattle.ms_ir.specs.declared.syntax.Ty.{Ty}
 use Rattle.ms_ir.specs.declared.syntax.Operand.{Operand}
-use Rattle.ms_ir.specs.Signatures.{is_variadic}
 use Rattle.ms_ir.specs.Areas.{Heap}
 use Rattle.ms_runs.specs.World.{World, Setting, Effect, Gives, Does, traps}
 use Rattle.ms_runs.specs.Memory.{is_good, fits, next_base, heap_size, end_block, set_bytes, set_shadow, set_cells, copy_bytes, copy_shadow, make, make_unset}
 use Rattle.ms_runs.specs.Origins.{Chained, keeps_old, pair_index, chain, poison, unpoison, copy_planes, fill_planes, first_in_string}
 use Rattle.ms_runs.specs.Memory.{bytes_left}
-use Rattle.ms_runs.specs.Externals.{minus_one, malloc, calloc, reallocated, realloc, free, where_good, compared, string_at, printed, taken, next_byte, external, output_limit, prints}
+use Rattle.ms_runs.specs.Externals.{minus_one, unknown_size, malloc, calloc, reallocated, realloc, free, where_good, compared, string_at, printed, taken, next_byte, external, output_limit, prints}
 use Rattle.ms_runs.specs.Poisoned.{Poisoned}
 use Rattle.ms_runs.specs.Uses.{external_uses}
 use Rattle.ms_runs.specs.Shadow.{external_planes}
@@ -27,7 +26,13 @@ use Rattle.ms_two_fills.proofs.Worlds.{other, BytesAlike, low_other, poison_low,
 use Rattle.ms_two_fills.proofs.Ops.{same_word, other_word, exact_word}
 use Rattle.ms_two_fills.proofs.Blocks.{heap_found, none_at_zero, size_found, too_many, reallocated_low, bytes_checked, string_checked}
 
--- what an external answers has no poisoned bit
+-- an external that looks at three words at most, and answers a word without a poisoned bit
+abbrev pub is_plain : External → Bool
+is_plain Printf = false
+is_plain (Word f n) = false
+is_plain e = true
+
+-- what such an external answers
 abbrev pub answered : ℕ → World → Poisoned
 answered v w = record { value = v; mask = 0; origin = 0 }
 
@@ -105,6 +110,12 @@ module _ (s : Setting) (fill : List ℕ) (site root : ℕ) (w : World) (b : ℕ 
       by_test true u = low
       by_test false true = record { allocs = refl; shadow = refl; origins = refl; pairs = refl; made = refl; input = refl; output = refl; reports = refl; blind = refl; bytes = alike }
       by_test false false = (refl, low)
+
+  -- a condition that must hold
+  assumed_alike : (t : Bool) → EffectsAlike answered answered (λ v u. u) (λ v u. u)
+      (if t then traps trap.Unreachable site w else Does w) (if t then traps trap.Unreachable site (other w b) else Does (other w b))
+  assumed_alike true = (refl, low)
+  assumed_alike false = low
 
   -- ---- memory
 
@@ -266,6 +277,9 @@ module _ (s : Setting) (fill : List ℕ) (site root : ℕ) (w : World) (b : ℕ 
     by_a : (e : External) → a.mask ≡ 0 → Both e (a ∷ c' ∷ d' ∷ []) → Both e (a' ∷ c' ∷ d' ∷ [])
     by_a e x h = subst (λ k. Both e (k ∷ c' ∷ d' ∷ [])) (same_word a a' at_a x) h
 
+    by_c : (e : External) → c.mask ≡ 0 → Both e (a' ∷ c ∷ d' ∷ []) → Both e (a' ∷ c' ∷ d' ∷ [])
+    by_c e y h = subst (λ k. Both e (a' ∷ k ∷ d' ∷ [])) (same_word c c' at_c y) h
+
     by_ac : (e : External) → a.mask ≡ 0 → c.mask ≡ 0 → Both e (a ∷ c ∷ d' ∷ []) → Both e (a' ∷ c' ∷ d' ∷ [])
     by_ac e x y h = by_a e x (subst (λ k. Both e (a ∷ k ∷ d' ∷ [])) (same_word c c' at_c y) h)
 
@@ -286,7 +300,7 @@ module _ (s : Setting) (fill : List ℕ) (site root : ℕ) (w : World) (b : ℕ 
     written bs cs e n true = print_alike n bs cs e
     written bs cs e n false = (answers_same (minus_one 64), low)
 
-    pub three_alike : c.value < 2 ^ 64 → (e : External) → is_variadic e ≡ false → AllPassed w (a ∷ c ∷ d ∷ []) (external_uses e args) → ExtAlike e types (a ∷ c ∷ d ∷ []) (a' ∷ c' ∷ d' ∷ [])
+    pub three_alike : c.value < 2 ^ 64 → (e : External) → is_plain e ≡ true → AllPassed w (a ∷ c ∷ d ∷ []) (external_uses e args) → ExtAlike e types (a ∷ c ∷ d ∷ []) (a' ∷ c' ∷ d' ∷ [])
     three_alike small Malloc f p = by_a Malloc p.0 (made a.value)
     three_alike small Calloc f p = by_ac Calloc p.0 p.1.0 (zeros (a.value * c.value))
     three_alike small Realloc f p = by_ac Realloc p.0 p.1.0 (again a.value c.value)
@@ -314,4 +328,8 @@ module _ (s : Setting) (fill : List ℕ) (site root : ℕ) (w : World) (b : ℕ 
     three_alike small LlvmMemset f p = by_ad LlvmMemset p.0 p.1.0 (guarded _ _ _ _ a.value d.value _ _ (λ g. filled_planes a.value d.value c.mask c.value c'.value c.origin at_c.value g))
     three_alike small LifetimeStart f p = by_ac LifetimeStart p.0 p.1.0 (guarded _ _ _ _ c.value a.value _ _ (λ g. remade_low s.fill fill c.value a.value root w b alike small g))
     three_alike small LifetimeEnd f p = low
-    three_alike small Printf f p = absurd (true≢false f)
+    three_alike small LlvmTrap f p = (refl, low)
+    three_alike small LlvmAssume f p = by_a LlvmAssume p.0 (assumed_alike (eqb a.value 0))
+    three_alike small LlvmObjectSize f p = by_c LlvmObjectSize p.0 (answers_same (unknown_size c.value), low)
+    three_alike small Printf f p = absurd (true≢false (sym f))
+    three_alike small (Word f n) g p = absurd (true≢false (sym g))

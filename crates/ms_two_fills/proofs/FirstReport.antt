@@ -13,7 +13,8 @@ use Rattle.ms_ir.specs.declared.syntax.Module.{Module}
 use Rattle.ms_runs.specs.declared.runs.End.TheVariants as «end»
 use Rattle.ms_runs.specs.declared.runs.Report.{Report}
 use Rattle.ms_ir.specs.declared.calls.External.{External}
-use Rattle.ms_ir.specs.declared.calls.External.TheVariants.{Malloc, Calloc, Realloc, Free, Memcpy, Memmove, Memset, Memcmp, Strlen, Putchar, Puts, Getchar, Read, Write, Exit, Abort, LlvmMemcpy, LlvmMemmove, LlvmMemset, LifetimeStart, LifetimeEnd, Printf}
+use Rattle.ms_ir.specs.declared.calls.External.TheVariants.{Malloc, Calloc, Realloc, Free, Memcpy, Memmove, Memset, Memcmp, Strlen, Putchar, Puts, Getchar, Read, Write, Exit, Abort, LlvmMemcpy, LlvmMemmove, LlvmMemset, LifetimeStart, LifetimeEnd, Printf, LlvmTrap, LlvmAssume, LlvmObjectSize}
+use Rattle.ms_ir.specs.declared.calls.External.TheVariants as called
 use Rattle.ms_ir.specs.Layout.{width_of}
 use Rattle.ms_runs.specs.World.{World, Setting, Here, Effect, Gives, Does, Goes, Enters, Leaves, Ends, then_does, result}
 use Rattle.ms_runs.specs.Memory.{is_good}
@@ -162,7 +163,11 @@ module _ (s : Setting) where
   external_planes_free site root LlvmMemset ps before v w = refl
   external_planes_free site root LifetimeStart ps before v w = refl
   external_planes_free site root LifetimeEnd ps before v w = refl
+  external_planes_free site root LlvmTrap ps before v w = refl
+  external_planes_free site root LlvmAssume ps before v w = refl
+  external_planes_free site root LlvmObjectSize ps before v w = refl
   external_planes_free site root Printf ps before v w = refl
+  external_planes_free site root (called.Word f n) ps before v w = refl
 
   callee_planes_free : (site root : ℕ) (o : Option External) (ps : List Poisoned) (before : World) (v : ℕ) (w : World) → callee_planes first_only site root o ps before v w ≡ callee_planes s site root o ps before v w
   callee_planes_free site root None ps before v w = refl
@@ -181,7 +186,7 @@ module _ (s : Setting) where
   word_free values w operand.Poison = refl
   word_free values w (operand.Local x) = refl
   word_free values w (operand.Global x) = refl
-  word_free values w (operand.Offset t x is) = refl
+  word_free values w (operand.Offset x steps) = refl
 
   read_free : (values : Name → Poisoned) → read_poisoned first_only values ≡ read_poisoned s values
   read_free values = λ i root t o. record { value = word_free (λ x. (values x).value) (width_of t) o i; mask = operand_mask values (width_of t) o; origin = operand_origin values root o }
@@ -249,7 +254,7 @@ module _ (s : Setting) where
     after_first : (i : Inst) (h : Here) (ps : List Poisoned) (fr : Frame Poisoned) (below : List (Frame Poisoned)) (w : World) → w.reports ≡ [] → (e x : Effect) → CheckedFirst w e x
         → MovedFirst w (after_checks by_formulas first_only m i h ps fr below e) (after_checks by_formulas s m i h ps fr below x)
     after_first i h ps fr below w none (Does u) (Does z) c =
-        let k = union (map (λ p. p.mask) (blinded i.op ps)) in
+        let k = union (map (λ p. p.mask) (blinded s.func i.op ps)) in
         inl (
           ap (λ v. shadow_act by_formulas first_only m i h ps fr below (count_blind k v)) (c.0 ∙ sym c.1) ∙ act_same i h ps fr below (count_blind k z),
           kept_reports (count_blind k z) (shadow_act by_formulas s m i h ps fr below (count_blind k z)) (act_moves_kept s m i h ps fr below (count_blind k z)) ∙ count_reports k z ∙ ap (λ v. v.reports) c.1 ∙ none,

@@ -11,7 +11,8 @@ use Rattle.ms_ir.specs.declared.syntax.Op.{Op}
 use Rattle.ms_ir.specs.declared.syntax.Op.TheVariants as op
 use Rattle.ms_runs.specs.declared.runs.Report.{Report}
 use Rattle.ms_ir.specs.declared.calls.External.{External}
-use Rattle.ms_ir.specs.declared.calls.External.TheVariants.{Malloc, Calloc, Realloc, Free, Memcpy, Memmove, Memset, Memcmp, Strlen, Putchar, Puts, Getchar, Read, Write, Exit, Abort, LlvmMemcpy, LlvmMemmove, LlvmMemset, LifetimeStart, LifetimeEnd, Printf}
+use Rattle.ms_ir.specs.declared.calls.External.TheVariants.{Malloc, Calloc, Realloc, Free, Memcpy, Memmove, Memset, Memcmp, Strlen, Putchar, Puts, Getchar, Read, Write, Exit, Abort, LlvmMemcpy, LlvmMemmove, LlvmMemset, LifetimeStart, LifetimeEnd, Printf, LlvmTrap, LlvmAssume, LlvmObjectSize}
+use Rattle.ms_ir.specs.declared.calls.External.TheVariants as called
 use Rattle.ms_ir.specs.declared.syntax.Init.{Init, Row_of-Init-Array-0-2, end_of-Init-Array-0-2, more_of-Init-Array-0-2}
 use Rattle.ms_ir.specs.declared.syntax.Init as initial
 use Rattle.ms_ir.specs.declared.syntax.GlobalVar.{GlobalVar}
@@ -19,14 +20,15 @@ use Rattle.ms_ir.specs.Names.{is_reserved}
 use Rattle.ms_runs.specs.Globals.{write_init, write_items, write_fields, make_globals}
 use Rattle.ms_ir.specs.Layout.{Types, Extent, extent, stored_size, size_in, align_in, round_up, place_field, width_of}
 use Rattle.ms_ir.specs.Areas.{Area, Fixed, Heap, Stack}
-use Rattle.ms_runs.specs.World.{Allocation, World, Setting, Here, Effect, Gives, Does, Goes, Enters, Leaves, Ends, traps, stuck, word, then_does}
+use Rattle.ms_runs.specs.World.{Allocation, World, Setting, Here, Effect, Gives, Does, Goes, Enters, Leaves, Ends, traps, stuck, word, then_does, gives}
 use Rattle.ms_ir.specs.Areas.{area_eq, area_base, room}
 use Rattle.ms_runs.specs.Memory.{used, fits, next_base, is_good, is_heap_block, heap_size, end_block, set_shadow, copy_bytes, copy_shadow, make, make_unset, keeps}
+use Rattle.ms_bits.specs.WordFunctions.{bits_of, word_answer}
 use Rattle.ms_ir.specs.Code.{external_named}
 use Rattle.ms_runs.specs.Origins.{Chained, keeps_old, pair_index, chain, add_report, check, check_byte, first_in_string, poison, unpoison, copy_planes, fill_planes, mark_cells, store_origin, asks_string_at}
 use Rattle.ms_runs.specs.Memory.{bytes_left}
 use Rattle.ms_runs.specs.Externals.{malloc, reallocated, realloc, where_good, string_at, printed, next_byte, external, output_limit, formatted, prints}
-use Rattle.ms_runs.specs.Act.{act, gives}
+use Rattle.ms_runs.specs.Act.{act}
 use Rattle.ms_runs.specs.Control.{release}
 use Rattle.ms_runs.specs.Poisoned.{Poisoned}
 use Rattle.ms_runs.specs.Masks.{word_at}
@@ -302,7 +304,11 @@ external_kept s site LlvmMemmove ts vs w = good_kept site (word 0 vs) (word 2 vs
 external_kept s site LlvmMemset ts vs w = good_kept site (word 0 vs) (word 2 vs) w _ (same_kept _ _ refl refl refl)
 external_kept s site LifetimeStart ts vs w = good_kept site (word 1 vs) (word 0 vs) w _ (same_kept _ _ refl refl refl)
 external_kept s site LifetimeEnd ts vs w = itself w
+external_kept s site LlvmTrap ts vs w = itself w
+external_kept s site LlvmAssume ts vs w = either_after (eqb (word 0 vs) 0) w _ _ (itself w) (itself w)
+external_kept s site LlvmObjectSize ts vs w = itself w
 external_kept s site Printf ts vs w = prints_kept site (formatted w ts vs) w
+external_kept s site (called.Word f n) ts vs w = gives_kept site (word_answer f (bits_of n) (word 0 vs) (word 1 vs) (word 2 vs)) w
 
 call_kept : (s : Setting) (site : ℕ) (ts : List Ty) (vs : List ℕ) (w : World) (o : Option ℕ) (e : Option External)
     → KeepsAfter w (elim o [ Some f ↦ Enters f w | None ↦ elim e [ Some x ↦ external s site x ts vs w | None ↦ Ends stuck w ] ])

@@ -1,6 +1,7 @@
 pub mod Addresses
 pub mod Answers
 pub mod Blocks
+pub mod WordCalls
 pub mod Calls
 pub mod Certain
 pub mod Checks

@@ -1,6 +1,5 @@
 -- The plain run of a module without marked instructions doesn't depend on the limit of reports.
-use Rattle.std.proofs.Common.{◌≡◌, ℕ, List, [], ◌∷◌, Bool, false, Option, Some, None, refl, sym, ap, ◌∙◌, if◌then◌else◌, Result, Ok, Err, map}
-use Rattle.ms_bits.specs.declared.traps.Trap.{Trap}
+use Rattle.std.proofs.Common.{◌≡◌, ℕ, List, [], ◌∷◌, Bool, false, Option, Some, None, refl, sym, ap, ◌∙◌, if◌then◌else◌, map}
 use Rattle.ms_ir.specs.declared.syntax.Ty.{Ty}
 use Rattle.ms_ir.specs.declared.syntax.Name.{Name}
 use Rattle.ms_ir.specs.declared.syntax.Operand.{Operand}
@@ -11,7 +10,7 @@ use Rattle.ms_ir.specs.declared.syntax.Inst.{Inst}
 use Rattle.ms_ir.specs.declared.syntax.Module.{Module}
 use Rattle.ms_runs.specs.declared.runs.Setup.{Setup}
 use Rattle.ms_ir.specs.declared.calls.External.{External}
-use Rattle.ms_ir.specs.declared.calls.External.TheVariants.{Malloc, Calloc, Realloc, Free, Memcpy, Memmove, Memset, Memcmp, Strlen, Putchar, Puts, Getchar, Read, Write, Exit, Abort, LlvmMemcpy, LlvmMemmove, LlvmMemset, LifetimeStart, LifetimeEnd, Printf}
+use Rattle.ms_ir.specs.declared.calls.External.TheVariants.{Malloc, Calloc, Realloc, Free, Memcpy, Memmove, Memset, Memcmp, Strlen, Putchar, Puts, Getchar, Read, Write, Exit, Abort, LlvmMemcpy, LlvmMemmove, LlvmMemset, LifetimeStart, LifetimeEnd, Printf, LlvmTrap, LlvmAssume, LlvmObjectSize, Word}
 use Rattle.ms_ir.specs.Layout.{width_of}
 use Rattle.ms_runs.specs.World.{World, Setting, Here, Effect, Gives, Does, Goes, Enters, Leaves, Ends, stuck}
 use Rattle.ms_ir.specs.Code.{operands, external_named, root_at, block_index, blocks_at, insts_at}
@@ -48,7 +47,11 @@ module _ (s : Setting) (k : ℕ) where
   external_free site LlvmMemset ts vs w = refl
   external_free site LifetimeStart ts vs w = refl
   external_free site LifetimeEnd ts vs w = refl
+  external_free site LlvmTrap ts vs w = refl
+  external_free site LlvmAssume ts vs w = refl
+  external_free site LlvmObjectSize ts vs w = refl
   external_free site Printf ts vs w = refl
+  external_free site (Word f n) ts vs w = refl
 
   -- what a call comes to
   -- what a call comes to
@@ -85,7 +88,7 @@ module _ (s : Setting) (k : ℕ) where
   word_free values w operand.Poison = refl
   word_free values w (operand.Local x) = refl
   word_free values w (operand.Global x) = refl
-  word_free values w (operand.Offset t x is) = refl
+  word_free values w (operand.Offset x steps) = refl
 
   read_free : (values : Name → ℕ) → plain_reading.read relimited values ≡ plain_reading.read s values
   read_free values = λ i root t o. word_free values (width_of t) o i

@@ -13,11 +13,11 @@ use Rattle.ms_ir.specs.declared.syntax.Op.TheVariants as op
 use Rattle.ms_runs.specs.declared.runs.End.TheVariants as «end»
 use Rattle.ms_ir.specs.Layout.{width_of, stored_size, size_in}
 use Rattle.ms_ir.specs.Areas.{Stack}
-use Rattle.ms_runs.specs.World.{World, Setting, Here, Gives, Does, Leaves, Ends, traps}
+use Rattle.ms_runs.specs.World.{World, Setting, Here, Gives, Does, Leaves, Ends, traps, gives}
 use Rattle.ms_runs.specs.Memory.{is_good, fits, next_base, make_unset, store_number}
 use Rattle.ms_ir.specs.Code.{operands, one_undef}
 use Rattle.ms_runs.specs.Control.{read_all}
-use Rattle.ms_runs.specs.Act.{act, gives, extended_all}
+use Rattle.ms_runs.specs.Act.{act, extended_all}
 use Rattle.ms_runs.specs.Origins.{origin_within}
 use Rattle.ms_runs.specs.Poisoned.{Poisoned}
 use Rattle.ms_runs.specs.Masks.{by_formulas, union}
@@ -51,7 +51,7 @@ origin_same zero a mask w b = refl
 origin_same (suc n) a mask w b = ap (λ o. if eqb (mask % 256) 0 || not (is_good w a 1) then o else w.origins (a / 4)) (origin_same n (a + 1) (mask / 256) w b)
 
 -- an answer
-answer_alike : (lift lift' : ℕ → World → Poisoned) (after after' : ℕ → World → World) (site m : ℕ) (r q : Result ℕ Trap) (w v : World) → LowWorld w v → AnswersAlike m r q
+pub answer_alike : (lift lift' : ℕ → World → Poisoned) (after after' : ℕ → World → World) (site m : ℕ) (r q : Result ℕ Trap) (w v : World) → LowWorld w v → AnswersAlike m r q
     → ((x y : ℕ) → SameBits m x y → LowWord (lift x w) (lift' y v) × LowWorld (after x w) (after' y v))
     → EffectsAlike lift lift' after after' (gives site r w) (gives site q v)
 answer_alike lift lift' after after' site m (Ok x) (Ok y) w v g h f = f x y h
@@ -189,7 +189,7 @@ module _ (s : Setting) (fill : List ℕ) (h : Here) (root : ℕ) (w : World) (b 
     IsNoCall (op.Call r x args) = ⊥
     IsNoCall o = Unit {0}
 
-    pub op_alike : (o : Op) → IsNoCall o → CastStands o → AddressStands s.types o (read_all read (operands o) n) → union (map (λ p. p.mask) (blinded o (read_all read (operands o) n))) ≡ 0
+    pub op_alike : (o : Op) → IsNoCall o → CastStands o → AddressStands s.types o (read_all read (operands o) n) → union (map (λ p. p.mask) (blinded s.func o (read_all read (operands o) n))) ≡ 0
         → AllPassed w (read_all read (operands o) n) (uses s.func h.main o) → ReadAlike o
     op_alike (op.Binary o f t a c) k fits stands quiet passed =
         let p = reads n t a in let q = reads (n + one_undef a) t c in

@@ -81,7 +81,7 @@ module _ (s : Setting) (fill : List ℕ) (values others : Name → Poisoned) (al
   read_low root t operand.Poison = undef_word (width_of t) s.fill fill (root + 1)
   read_low root t (operand.Local x) = cut_word (width_of t) (values x) (others x) (alike x)
   read_low root t (operand.Global x) = low_itself (width_of t) _ (constant_in_range (width_of t) _)
-  read_low root t (operand.Offset u x is) = low_itself (width_of t) _ (constant_in_range (width_of t) _)
+  read_low root t (operand.Offset x steps) = low_itself (width_of t) _ (constant_in_range (width_of t) _)
 
 -- ---- words in a list
 

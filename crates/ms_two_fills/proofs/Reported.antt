@@ -14,16 +14,18 @@ use Rattle.ms_runs.specs.declared.runs.End.{End}
 use Rattle.ms_runs.specs.declared.runs.End.TheVariants as «end»
 use Rattle.ms_runs.specs.declared.runs.Report.{Report}
 use Rattle.ms_ir.specs.declared.calls.External.{External}
-use Rattle.ms_ir.specs.declared.calls.External.TheVariants.{Malloc, Calloc, Realloc, Free, Memcpy, Memmove, Memset, Memcmp, Strlen, Putchar, Puts, Getchar, Read, Write, Exit, Abort, LlvmMemcpy, LlvmMemmove, LlvmMemset, LifetimeStart, LifetimeEnd, Printf}
+use Rattle.ms_ir.specs.declared.calls.External.TheVariants.{Malloc, Calloc, Realloc, Free, Memcpy, Memmove, Memset, Memcmp, Strlen, Putchar, Puts, Getchar, Read, Write, Exit, Abort, LlvmMemcpy, LlvmMemmove, LlvmMemset, LifetimeStart, LifetimeEnd, Printf, LlvmTrap, LlvmAssume, LlvmObjectSize}
+use Rattle.ms_ir.specs.declared.calls.External.TheVariants as called
+use Rattle.ms_bits.specs.WordFunctions.{bits_of, word_answer}
 use Rattle.ms_ir.specs.Layout.{stored_size, size_in, width_of}
 use Rattle.ms_ir.specs.Areas.{Heap, Stack}
-use Rattle.ms_runs.specs.World.{World, Setting, Here, Effect, Gives, Does, Goes, Enters, Leaves, Ends, traps, stuck, word, then_does}
+use Rattle.ms_runs.specs.World.{World, Setting, Here, Effect, Gives, Does, Goes, Enters, Leaves, Ends, traps, stuck, word, then_does, gives}
 use Rattle.ms_runs.specs.Memory.{fits, is_good, heap_size}
 use Rattle.ms_ir.specs.Code.{operands, count_undefs, external_named}
 use Rattle.ms_runs.specs.Origins.{add_report, check, check_byte, first_in_string, count_blind, asks_string_at}
 use Rattle.ms_runs.specs.Memory.{bytes_left}
 use Rattle.ms_runs.specs.Externals.{malloc, reallocated, realloc, where_good, string_at, printed, taken, next_byte, external, output_limit, formatted, prints}
-use Rattle.ms_runs.specs.Act.{act, gives}
+use Rattle.ms_runs.specs.Act.{act}
 use Rattle.ms_runs.specs.Control.{Frame, Outcome, On, Over, here, rest_of, read_all, entered, left, after_effect, frame_limit}
 use Rattle.ms_runs.specs.Plain.{Stepped, More, Stop, go_on, run}
 use Rattle.ms_runs.specs.Poisoned.{Poisoned}
@@ -112,7 +114,11 @@ external_told s site LlvmMemmove ts vs w = good_told site (word 0 vs) (word 2 vs
 external_told s site LlvmMemset ts vs w = good_told site (word 0 vs) (word 2 vs) w _ tt
 external_told s site LifetimeStart ts vs w = good_told site (word 1 vs) (word 0 vs) w _ tt
 external_told s site LifetimeEnd ts vs w = tt
+external_told s site LlvmTrap ts vs w = trapped trap.Abort site w
+external_told s site LlvmAssume ts vs w = either_told (eqb (word 0 vs) 0) _ _ (trapped trap.Unreachable site w) tt
+external_told s site LlvmObjectSize ts vs w = tt
 external_told s site Printf ts vs w = prints_told site (formatted w ts vs) w
+external_told s site (called.Word f n) ts vs w = gives_told site (word_answer f (bits_of n) (word 0 vs) (word 1 vs) (word 2 vs)) w
 
 call_told : (s : Setting) (site : ℕ) (ts : List Ty) (vs : List ℕ) (w : World) (o : Option ℕ) (e : Option External)
     → ToldAfter (elim o [ Some f ↦ Enters f w | None ↦ elim e [ Some x ↦ external s site x ts vs w | None ↦ Ends stuck w ] ])
@@ -196,7 +202,7 @@ moves_told s m site x ps lift after fr below (Ends e u) h = h
 module _ (d : Rules) (s : Setting) (m : Module) where
   after_told : (i : Inst) (h : Here) (ps : List Poisoned) (fr : Frame Poisoned) (below : List (Frame Poisoned)) (e : Effect) → ToldAfter e → ToldOutcome (after_checks d s m i h ps fr below e)
   after_told i h ps fr below (Does u) k =
-      let w = count_blind (union (map (λ p. p.mask) (blinded i.op ps))) u in
+      let w = count_blind (union (map (λ p. p.mask) (blinded s.func i.op ps))) u in
       moves_told s m h.site i.result ps (poisoned_result d i.op ps) (planes s h.site (h.root + count_undefs (operands i.op) + 1) i.op ps w) fr below _ (act_told s h i.op (map (λ p. p.value) ps) w)
   after_told i h ps fr below (Ends e u) k = k
   after_told i h ps fr below (Gives v u) k = trapped trap.Unreachable 0 u

@@ -91,7 +91,7 @@ module _ (s : Setting) (m : Module) where
 
   pub after_grown : (i : Inst) (h : Here) (ps : List Poisoned) (fr : Frame Poisoned) (below : List (Frame Poisoned)) (w : World) (e : Effect) → ChecksAfter w e → GrownOutcome w (after_checks by_formulas s m i h ps fr below e)
   after_grown i h ps fr below w (Does u) k =
-      grown w (count_blind (union (map (λ p. p.mask) (blinded i.op ps))) u) _ (counted (union (map (λ p. p.mask) (blinded i.op ps))) w u k) (act_moves_kept i h ps fr below _)
+      grown w (count_blind (union (map (λ p. p.mask) (blinded s.func i.op ps))) u) _ (counted (union (map (λ p. p.mask) (blinded s.func i.op ps))) w u k) (act_moves_kept i h ps fr below _)
   after_grown i h ps fr below w (Ends e u) k = record { blind = omega (arith, k.blind); leads = k.leads; placed = k.placed }
   after_grown i h ps fr below w (Gives v u) k = record { blind = omega (arith, k.blind); leads = k.leads; placed = k.placed }
   after_grown i h ps fr below w (Goes v u) k = record { blind = omega (arith, k.blind); leads = k.leads; placed = k.placed }
@@ -120,20 +120,20 @@ module _ (s : Setting) (m : Module) where
       ps = read_all (read_poisoned s fr.values) (operands i.op) (here s m fr).root
 
       mask : ℕ
-      mask = union (map (λ p. p.mask) (blinded i.op (read_all (read_poisoned s fr.values) (operands i.op) (here s m fr).root)))
+      mask = union (map (λ p. p.mask) (blinded s.func i.op (read_all (read_poisoned s fr.values) (operands i.op) (here s m fr).root)))
 
       comes : outcome_blind (shadow_act by_formulas s m i (here s m fr) (read_all (read_poisoned s fr.values) (operands i.op) (here s m fr).root) fr below
-          (count_blind (union (map (λ p. p.mask) (blinded i.op (read_all (read_poisoned s fr.values) (operands i.op) (here s m fr).root)))) u)) ≡ w.blind
+          (count_blind (union (map (λ p. p.mask) (blinded s.func i.op (read_all (read_poisoned s fr.values) (operands i.op) (here s m fr).root)))) u)) ≡ w.blind
       comes = sym (ap (λ k. outcome_blind (after_checks by_formulas s m i (here s m fr) (read_all (read_poisoned s fr.values) (operands i.op) (here s m fr).root) fr below k)) e) ∙ z
 
-      none : (count_blind (union (map (λ p. p.mask) (blinded i.op (read_all (read_poisoned s fr.values) (operands i.op) (here s m fr).root)))) u).blind ≡ w.blind
+      none : (count_blind (union (map (λ p. p.mask) (blinded s.func i.op (read_all (read_poisoned s fr.values) (operands i.op) (here s m fr).root)))) u).blind ≡ w.blind
       none = sym (kept_blind _ _ (act_moves_kept i (here s m fr) (read_all (read_poisoned s fr.values) (operands i.op) (here s m fr).root) fr below _)) ∙ comes
 
       before : u.blind ≡ w.blind
       before = (subst (ChecksAfter w) e (uses_kept s (here s m fr).site (operands i.op) (read_all (read_poisoned s fr.values) (operands i.op) (here s m fr).root) (uses s.func (here s m fr).main i.op) w)).blind
 
-      by_test : (t : Bool) → eqb (union (map (λ p. p.mask) (blinded i.op (read_all (read_poisoned s fr.values) (operands i.op) (here s m fr).root)))) 0 ≡ t
-          → union (map (λ p. p.mask) (blinded i.op (read_all (read_poisoned s fr.values) (operands i.op) (here s m fr).root))) ≡ 0
+      by_test : (t : Bool) → eqb (union (map (λ p. p.mask) (blinded s.func i.op (read_all (read_poisoned s fr.values) (operands i.op) (here s m fr).root)))) 0 ≡ t
+          → union (map (λ p. p.mask) (blinded s.func i.op (read_all (read_poisoned s fr.values) (operands i.op) (here s m fr).root))) ≡ 0
       by_test true f = eqb-true _ 0 f
       by_test false f = absurd (one_more u w before (sym (ap (λ t. (if t then u else record u { blind = u.blind + 1 }).blind) f) ∙ none))
         where

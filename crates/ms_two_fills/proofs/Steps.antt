@@ -10,7 +10,8 @@ use Rattle.ms_ir.specs.declared.syntax.Op.TheVariants as op
 use Rattle.ms_ir.specs.declared.syntax.Inst.{Inst}
 use Rattle.ms_ir.specs.declared.syntax.Module.{Module}
 use Rattle.ms_ir.specs.declared.calls.External.{External}
-use Rattle.ms_ir.specs.declared.calls.External.TheVariants.{Malloc, Calloc, Realloc, Free, Memcpy, Memmove, Memset, Memcmp, Strlen, Putchar, Puts, Getchar, Read, Write, Exit, Abort, LlvmMemcpy, LlvmMemmove, LlvmMemset, LifetimeStart, LifetimeEnd, Printf}
+use Rattle.ms_ir.specs.declared.calls.External.TheVariants.{Malloc, Calloc, Realloc, Free, Memcpy, Memmove, Memset, Memcmp, Strlen, Putchar, Puts, Getchar, Read, Write, Exit, Abort, LlvmMemcpy, LlvmMemmove, LlvmMemset, LifetimeStart, LifetimeEnd, Printf, LlvmTrap, LlvmAssume, LlvmObjectSize}
+use Rattle.ms_ir.specs.declared.calls.External.TheVariants as called
 use Rattle.ms_runs.specs.World.{World, Setting, Here, Effect, Gives, Does, Goes, Enters, Leaves, Ends}
 use Rattle.ms_ir.specs.Equal.{type_eq}
 use Rattle.ms_ir.specs.Code.{operands, count_undefs, external_named}
@@ -18,7 +19,7 @@ use Rattle.ms_runs.specs.Control.{Frame, Outcome, On, Over, here, rest_of, read_
 use Rattle.ms_runs.specs.Origins.{count_blind}
 use Rattle.ms_runs.specs.Poisoned.{Poisoned}
 use Rattle.ms_runs.specs.Masks.{by_formulas, union, word_at}
-use Rattle.ms_runs.specs.Uses.{uses, binary_uses, callee_uses, external_uses, check_uses, has_flag, blind_binary, blinded, Use, Line, Asked, value_uses, string_uses}
+use Rattle.ms_runs.specs.Uses.{uses, binary_uses, callee_uses, external_uses, check_uses, has_flag, has_true_flag, flagged_words, blind_binary, blinded, Use, Line, Asked, value_uses, string_uses}
 use Rattle.ms_runs.specs.Shadow.{read_poisoned, ShadowState, shadow_moved, shadow_act, after_checks, shadow_inst, shadow_first, shadow_frames, shadow_step}
 use Rattle.ms_runs.specs.LowEqual.{LowEqual, LowFrames}
 use Rattle.ms_two_fills.specs.Alike.{StepsAlike}
@@ -30,6 +31,8 @@ use Rattle.ms_two_fills.proofs.Worlds.{other, BytesAlike, low_other, other_is, F
 use Rattle.ms_two_fills.proofs.Checks.{uses_alike}
 use Rattle.ms_two_fills.proofs.Addresses.{AddressStands}
 use Rattle.ms_two_fills.proofs.Ops.{CastStands}
+use Rattle.ms_bits.specs.WordFunctions.{is_flagged}
+use Rattle.ms_two_fills.proofs.WordCalls.{WordsStand}
 use Rattle.ms_two_fills.proofs.Calls.{CallStands, inst_alike}
 use Rattle.ms_two_fills.proofs.Moves.{AlikeValues, revalued, by_values, frame_alike, moves_alike}
 
@@ -74,6 +77,10 @@ external_ready LlvmMemmove args w ps = λ a c d. tt
 external_ready LlvmMemset args w ps = λ a d. tt
 external_ready LifetimeStart args w ps = λ a c. tt
 external_ready LifetimeEnd args w ps = λ a c. tt
+external_ready LlvmTrap args w ps = tt
+external_ready LlvmAssume args w ps = λ a. tt
+external_ready LlvmObjectSize args w ps = λ a. tt
+external_ready (called.Word f n) args w ps = tt
 external_ready Printf args w ps = λ a. (a, λ p. values_ready w ps 1 (drop 1 args) (string_uses 1 (drop 1 args)) (λ zs. strings_ready w ps a p 1 (drop 1 args) zs))
 
 callee_ready : (o : Option External) (args : List (Ty × Operand)) (w : World) (ps : List Poisoned) → Ready w ps (callee_uses o args)
@@ -135,23 +142,31 @@ binary_blinded And ps qs h = tt
 binary_blinded Or ps qs h = tt
 binary_blinded Xor ps qs h = tt
 
-blinded_alike : (o : Op) (ps qs : List Poisoned) → AlikeWords ps qs → AlikeWords (blinded o ps) (blinded o qs)
-blinded_alike (op.Binary o f t a b) ps qs h = if_alike (has_flag f) ps qs _ _ h (binary_blinded o ps qs h)
-blinded_alike (op.Icmp p f t a b) ps qs h = if_alike (has_flag f) ps qs [] [] h tt
-blinded_alike (op.Cast o f t a u) ps qs h = if_alike (has_flag f) ps qs [] [] h tt
-blinded_alike (op.Freeze t a) ps qs h = h
-blinded_alike _ ps qs h = tt
+blinded_alike : (func : Name → Option ℕ) (o : Op) (ps qs : List Poisoned) → AlikeWords ps qs → AlikeWords (blinded func o ps) (blinded func o qs)
+blinded_alike func (op.Binary o f t a b) ps qs h = if_alike (has_flag f) ps qs _ _ h (binary_blinded o ps qs h)
+blinded_alike func (op.Icmp p f t a b) ps qs h = if_alike (has_flag f) ps qs [] [] h tt
+blinded_alike func (op.Cast o f t a u) ps qs h = if_alike (has_flag f) ps qs [] [] h tt
+blinded_alike func (op.Freeze t a) ps qs h = h
+blinded_alike func (op.Call r x args) ps qs h =
+    if_alike (has_true_flag args) (flagged_words (external_named func x) ps) (flagged_words (external_named func x) qs) [] [] (by_external (external_named func x)) tt
+  where
+    by_external : (e : Option External) → AlikeWords (flagged_words e ps) (flagged_words e qs)
+    by_external None = tt
+    by_external (Some (called.Word f n)) = if_alike (is_flagged f) (take 1 ps) (take 1 qs) [] [] (first_of_words ps qs h) tt
+    by_external (Some e) = tt
+blinded_alike func _ ps qs h = tt
 
 -- no poisoned bit is lost at an instruction, where its checks let it run
 abbrev pub QuietAt : Setting → Module → Inst → Frame Poisoned → World → Type 0
 QuietAt s m i fr w =
     (u : World) → check_uses s (here s m fr).site (operands i.op) (read_all (read_poisoned s fr.values) (operands i.op) (here s m fr).root) (uses s.func (here s m fr).main i.op) w ≡ Does u
-    → union (map (λ p. p.mask) (blinded i.op (read_all (read_poisoned s fr.values) (operands i.op) (here s m fr).root))) ≡ 0
+    → union (map (λ p. p.mask) (blinded s.func i.op (read_all (read_poisoned s fr.values) (operands i.op) (here s m fr).root))) ≡ 0
 
 -- what an instruction of a valid module has: a cast that stands, words of 64 bits at most, and indices that lead into parts
 pub record InstStands (s : Setting) (m : Module) (fr : Frame Poisoned) (i : Inst) : Type 0 where
   pub cast : CastStands i.op
   pub small : CallStands i.op (read_all (read_poisoned s fr.values) (operands i.op) (here s m fr).root)
+  pub words : WordsStand s.func i.op (read_all (read_poisoned s fr.values) (operands i.op) (here s m fr).root)
   pub parts : AddressStands s.types i.op (read_all (read_poisoned s fr.values) (operands i.op) (here s m fr).root)
 
 -- the instruction that is due stands, and loses no poisoned bit
@@ -191,24 +206,24 @@ module _ (s : Setting) (fill : List ℕ) (one : s.limit ≡ 1) (m : Module) wher
     words : AlikeWords (read_all (read_poisoned s fr.values) (operands i.op) (here s m fr).root) (read_all (read_poisoned (refill s fill) values) (operands i.op) (here s m fr).root)
     words = read_all_alike (read_poisoned s fr.values) (read_poisoned (refill s fill) values) (read_low s fill fr.values values alike_values) (operands i.op) (here s m fr).root
 
-    blind_masks : union (map (λ p. p.mask) (blinded i.op ps)) ≡ 0 → union (map (λ p. p.mask) (blinded i.op qs)) ≡ 0
-    blind_masks z = ap union (sym (masks_same (blinded i.op ps) (blinded i.op qs) (blinded_alike i.op ps qs words))) ∙ z
+    blind_masks : union (map (λ p. p.mask) (blinded s.func i.op ps)) ≡ 0 → union (map (λ p. p.mask) (blinded s.func i.op qs)) ≡ 0
+    blind_masks z = ap union (sym (masks_same (blinded s.func i.op ps) (blinded s.func i.op qs) (blinded_alike s.func i.op ps qs words))) ∙ z
 
-    act_alike : (w : World) (b : ℕ → ℕ) → BytesAlike w b → FitWorld w → ((x : ℕ) → b x < 256) → AllPassed w ps (uses s.func (here s m fr).main i.op) → union (map (λ p. p.mask) (blinded i.op ps)) ≡ 0
+    act_alike : (w : World) (b : ℕ → ℕ) → BytesAlike w b → FitWorld w → ((x : ℕ) → b x < 256) → AllPassed w ps (uses s.func (here s m fr).main i.op) → union (map (λ p. p.mask) (blinded s.func i.op ps)) ≡ 0
         → MovesAlike (shadow_act by_formulas s m i (here s m fr) ps fr below w) (shadow_act by_formulas (refill s fill) m i (here s m fr) qs (revalued fr values) others_below (other w b))
     act_alike w b alike fit others passed quiet =
         moves_alike s fill m (here s m fr).site i.result ps qs words _ _ _ _ fr (revalued fr values) (frame_alike fr values alike_values) below others_below same_below _ _
         (inst_alike s fill (here s m fr) ((here s m fr).root + count_undefs (operands i.op) + 1) w b alike fit others (read_poisoned s fr.values) (read_poisoned (refill s fill) values)
-        (read_low s fill fr.values values alike_values) (here s m fr).root i.op stands.cast stands.small stands.parts quiet passed)
+        (read_low s fill fr.values values alike_values) (here s m fr).root i.op stands.cast stands.small stands.words stands.parts quiet passed)
 
     checked_alike : (w : World) (b : ℕ → ℕ) → BytesAlike w b → FitWorld w → ((x : ℕ) → b x < 256) → (e d : Effect)
-        → (((u : World) → e ≡ Does u → union (map (λ p. p.mask) (blinded i.op ps)) ≡ 0))
+        → (((u : World) → e ≡ Does u → union (map (λ p. p.mask) (blinded s.func i.op ps)) ≡ 0))
         → CheckedAlike (AllPassed w ps (uses s.func (here s m fr).main i.op)) w (other w b) e d
         → MovesAlike (after_checks by_formulas s m i (here s m fr) ps fr below e) (after_checks by_formulas (refill s fill) m i (here s m fr) qs (revalued fr values) others_below d)
     checked_alike w b alike fit others (Does u) (Does z) quiet c =
         let none = quiet u refl in
         subst (λ k. MovesAlike (shadow_act by_formulas s m i (here s m fr) ps fr below (count_blind k u))
-        (shadow_act by_formulas (refill s fill) m i (here s m fr) qs (revalued fr values) others_below (count_blind (union (map (λ p. p.mask) (blinded i.op qs))) z))) (sym none)
+        (shadow_act by_formulas (refill s fill) m i (here s m fr) qs (revalued fr values) others_below (count_blind (union (map (λ p. p.mask) (blinded s.func i.op qs))) z))) (sym none)
         (subst (λ k. MovesAlike (shadow_act by_formulas s m i (here s m fr) ps fr below u)
         (shadow_act by_formulas (refill s fill) m i (here s m fr) qs (revalued fr values) others_below (count_blind k z))) (sym (blind_masks none))
         (subst (λ k. MovesAlike (shadow_act by_formulas s m i (here s m fr) ps fr below k) (shadow_act by_formulas (refill s fill) m i (here s m fr) qs (revalued fr values) others_below z)) (sym c.1)

@@ -1,8 +1,8 @@
 -- Good states of formed and valid modules have what the proof on two fills asks for.
-use Rattle.std.proofs.Common.{◌≡◌, ℕ, suc, ◌+◌, ◌%◌, ◌^◌, ◌<◌, ◌≤◌, min, List, [], ◌∷◌, length, drop, take, Bool, true, false, ◌&&◌, not, Option, Some, None, option_map, unwrap_or, slice_get, refl, sym, ap, ◌∙◌, subst, arith, pow_mono, if◌then◌else◌, ◌⊎◌, inl, inr}
+use Rattle.std.proofs.Common.{◌≡◌, ℕ, suc, ◌+◌, ◌%◌, ◌^◌, ◌<◌, ◌≤◌, min, List, [], ◌∷◌, length, drop, take, map, get_or, is_some, eqb, true≢false, Bool, true, false, ◌&&◌, ◌||◌, not, Option, Some, None, option_map, unwrap_or, slice_get, refl, sym, ap, ◌∙◌, subst, arith, pow_mono, if◌then◌else◌, ◌⊎◌, inl, inr}
 use Rattle.std.proofs.Math.Nat.{mod-eq_of_lt}
 use Rattle.std.specs.List.{list_all}
-use Rattle.std.proofs.lemmas.Bool.{and_parts, eqb-true, ltb-true}
+use Rattle.std.proofs.lemmas.Bool.{and_parts, eq-eqb, eqb-true, ltb-true}
 use Rattle.ms_ir.specs.declared.syntax.Name.{Name}
 use Rattle.ms_ir.specs.declared.syntax.Ty.{Ty, Int, Ptr, Array', Struct', Named}
 use Rattle.ms_ir.specs.declared.syntax.Operand.{Operand}
@@ -13,14 +13,22 @@ use Rattle.ms_ir.specs.declared.syntax.Inst.{Inst}
 use Rattle.ms_ir.specs.declared.syntax.Func.{Func}
 use Rattle.ms_ir.specs.declared.syntax.Module.{Module}
 use Rattle.ms_runs.specs.declared.runs.Setup.{Setup}
-use Rattle.ms_ir.specs.Names.{name_eq}
+use Rattle.ms_bits.specs.declared.word_functions.WordFn.{WordFn}
+use Rattle.ms_bits.specs.declared.word_functions.WordFn.TheVariants as word
+use Rattle.ms_bits.specs.declared.word_functions.WordWidth.{WordWidth}
+use Rattle.ms_bits.specs.WordFunctions.{bits_of, is_flagged}
+use Rattle.ms_bits_laws.proofs.WordAgreement.{width_some}
+use Rattle.ms_ir.specs.declared.calls.External.{External}
+use Rattle.ms_ir.specs.declared.calls.External.TheVariants.{Word}
+use Rattle.ms_ir.specs.Signatures.{word_params}
+use Rattle.ms_ir.specs.Names.{name_eq, lookup, externals}
 use Rattle.ms_bits.specs.Signed.{wrap}
 use Rattle.ms_bits_laws.proofs.SignedMasks.{signed_low}
 use Rattle.ms_ir.specs.Equal.{type_eq}
 use Rattle.ms_ir.specs.Layout.{Types, width_of, extended, resolved, row_types, type_at, part_type}
 use Rattle.ms_ir.specs.Locals.{value_type}
 use Rattle.ms_runs.specs.World.{Setting}
-use Rattle.ms_ir.specs.Code.{operands, one_undef, func_at, insts_at}
+use Rattle.ms_ir.specs.Code.{operands, one_undef, func_index, func_at, insts_at, external_named}
 use Rattle.ms_runs.specs.Globals.{address_of}
 use Rattle.ms_runs.specs.Control.{Frame, here, rest_of, read_all}
 use Rattle.ms_ir.specs.Names.{main_name}
@@ -40,7 +48,9 @@ use Rattle.ms_valid.specs.Valid.{Valid}
 use Rattle.ms_runs_good.specs.GoodWorlds.{GoodWorld, GivesBytes, AnyOrigin}
 use Rattle.ms_runs_good.specs.GoodRuns.{SoundShadow, LeadsTo}
 use Rattle.ms_runs.specs.Shadow.{shadow_start}
+use Rattle.ms_valid.specs.ExternalsFit.{is_number, flag_fits}
 use Rattle.ms_runs_good.proofs.CallTypes.{both_none}
+use Rattle.ms_runs_good.proofs.WordCallTypes.{word_call}
 use Rattle.ms_runs_good.proofs.Frames.{top_good, due_first}
 use Rattle.ms_runs_good.proofs.InstructionEffects.{formed_at, cast_fits}
 use Rattle.ms_runs_good.proofs.MaskRanges.{formulas_keep}
@@ -50,6 +60,7 @@ use Rattle.ms_two_fills.specs.Placed.{SoundPlaced}
 use Rattle.ms_two_fills.proofs.Reading.{read_low}
 use Rattle.ms_two_fills.proofs.Addresses.{IsEven, PartsStand, IndicesStand, AddressStands}
 use Rattle.ms_two_fills.proofs.Ops.{CastStands}
+use Rattle.ms_two_fills.proofs.WordCalls.{NoneWider, FlagStands, WordStands, WordsStand}
 use Rattle.ms_two_fills.proofs.Calls.{CallStands}
 use Rattle.ms_two_fills.proofs.Kept.{globals_kept}
 use Rattle.ms_two_fills.proofs.Steps.{DueStands, TopStands}
@@ -118,6 +129,66 @@ module _ (s : Setting) (values : Name → Poisoned) where
   call_stands (op.Ret v) n h = tt
   call_stands op.Unreachable n h = tt
 
+-- ---- functions of whole words
+
+width_one : (t : Ty) → width_of t ≡ 1 → type_eq t (Int 1) ≡ true
+width_one (Int n) e = eq-eqb n 1 e
+width_one Ptr e = absurd (omega (arith, e))
+width_one (Array' n shape item) e = absurd (omega (arith, e))
+width_one (Struct' packed shape fields) e = absurd (omega (arith, e))
+width_one (Named x) e = absurd (omega (arith, e))
+
+-- no width is greater
+abbrev AtMost : ℕ → List ℕ → Type 0
+AtMost w [] = Unit {0}
+AtMost w (v ∷ vs) = (v ≤ w) × AtMost w vs
+
+params_narrow : (f : WordFn) (w : ℕ) → 1 ≤ w → AtMost w (map width_of (word_params f w))
+params_narrow word.Ctpop w l = (omega arith, tt)
+params_narrow word.Bswap w l = (omega arith, tt)
+params_narrow word.Bitreverse w l = (omega arith, tt)
+params_narrow word.Ctlz w l = (omega arith, (l, tt))
+params_narrow word.Cttz w l = (omega arith, (l, tt))
+params_narrow word.Abs w l = (omega arith, (l, tt))
+params_narrow word.Fshl w l = (omega arith, (omega arith, (omega arith, tt)))
+params_narrow word.Fshr w l = (omega arith, (omega arith, (omega arith, tt)))
+params_narrow f w l = (omega arith, (omega arith, tt))
+
+none_wider : (w : ℕ) (args : List (Ty × Operand)) (vs : List ℕ) → map (λ a. width_of a.0) args ≡ vs → AtMost w vs → NoneWider w args
+none_wider w [] vs e h = tt
+none_wider w (a ∷ rest) [] e h = absurd cc
+none_wider w (a ∷ rest) (v ∷ vs) e h = (subst (λ k. k ≤ w) (sym (ap (λ l. get_or l 0 0) e)) h.0, none_wider w rest vs (ap (drop 1) e) h.1)
+
+flagged_params : (f : WordFn) (w : ℕ) → is_flagged f ≡ true → map width_of (word_params f w) ≡ w ∷ 1 ∷ []
+flagged_params word.Ctlz w h = refl
+flagged_params word.Cttz w h = refl
+flagged_params word.Abs w h = refl
+flagged_params f w h = absurd (true≢false (sym h))
+
+passed_flag : (t u : Bool) → t ≡ true → (not t || u) ≡ true → u ≡ true
+passed_flag true u e h = h
+passed_flag false u e h = absurd (true≢false (sym e))
+
+module _ (s : Setting) (values : Name → Poisoned) where
+  number_stands : (a : Ty × Operand) (t : Ty) (o : Operand) (rest : List (Ty × Operand)) (n : ℕ) → width_of t ≡ 1 → is_number o ≡ true → FlagStands (a ∷ (t, o) ∷ rest) (read_poisoned s values n t o)
+  number_stands a t (operand.Int k) rest n e h = record { clean = refl; known = ap (λ j. eqb (k % 2 ^ j) 1) e }
+  number_stands a t operand.Null rest n e h = absurd (true≢false (sym h))
+  number_stands a t operand.Undef rest n e h = absurd (true≢false (sym h))
+  number_stands a t operand.Poison rest n e h = absurd (true≢false (sym h))
+  number_stands a t (operand.Local x) rest n e h = absurd (true≢false (sym h))
+  number_stands a t (operand.Global x) rest n e h = absurd (true≢false (sym h))
+  number_stands a t (operand.Offset x steps) rest n e h = absurd (true≢false (sym h))
+
+  flag_stands : (f : WordFn) (n : WordWidth) (w : ℕ) (args : List (Ty × Operand)) (root : ℕ) → map (λ a. width_of a.0) args ≡ w ∷ 1 ∷ [] → list_all (flag_fits (Some (Word f n))) args ≡ true
+      → FlagStands args (word_at 1 (read_all (read_poisoned s values) args root))
+  flag_stands f n w [] root e h = absurd cc
+  flag_stands f n w (a ∷ []) root e h = absurd cc
+  flag_stands f n w (a ∷ c ∷ rest) root e h =
+      let width : width_of c.0 ≡ 1 = ap (λ l. get_or l 1 0) e in
+      let later = (and_parts (flag_fits (Some (Word f n)) a) (list_all (flag_fits (Some (Word f n))) (c ∷ rest)) h).1 in
+      number_stands a c.0 c.1 rest (root + one_undef a.1) width
+      (passed_flag (type_eq c.0 (Int 1)) (is_number c.1) (width_one c.0 width) (and_parts (flag_fits (Some (Word f n)) c) (list_all (flag_fits (Some (Word f n))) rest) later).0)
+
 -- ---- indices of addresses
 
 int_width : (t : Ty) → is_int_type t ≡ true → (1 ≤ width_of t) × (width_of t ≤ 64)
@@ -169,7 +240,7 @@ module _ (s : Setting) (values : Name → Poisoned) where
   field_leads n t operand.Poison ts same below = absurd (cc)
   field_leads n t (operand.Local x) ts same below = absurd (cc)
   field_leads n t (operand.Global x) ts same below = absurd (cc)
-  field_leads n t (operand.Offset u x is) ts same below = absurd (cc)
+  field_leads n t (operand.Offset x steps) ts same below = absurd (cc)
 
   part_leads : (n : ℕ) (t : Ty) (o : Operand) (r : Ty) → leads_into r (t, o) ≡ true → Leads n t o r
   part_leads n t o (Array' m shape item) h = (inl tt, refl)
@@ -235,26 +306,54 @@ module _ (m : Module) (formed : Formed m) (valid : Valid m) where
       ap (λ o. slice_get (unwrap_or (option_map (λ k. k.insts) (slice_get (unwrap_or (option_map (λ g. g.blocks) o) []) fr.block)) []) fr.place) at ∙ due in
       (fits_at m valid fr.func fr.block fr.place f i at there).types_agree
 
-  due_stands : (s : Setting) → m.types ≡ s.types → (fr : Frame Poisoned) (below : List (Frame Poisoned)) → GoodFrames PoisonedBelow m (fr ∷ below) → (is : List Inst) → rest_of m fr ≡ is → DueStands s m is fr
-  due_stands s same fr below frames [] e = tt
-  due_stands s same fr below frames (i ∷ is) e =
+  module _ (s : Setting) (fr : Frame Poisoned) (f : Func) (i : Inst) (at : func_at m fr.func ≡ Some f) (due : slice_get (insts_of f fr.block) fr.place ≡ Some i) (root : ℕ)
+      (ret : Option Ty) (callee : Name) (args : List (Ty × Operand)) (calls : i.op ≡ op.Call ret callee args) where
+    outside_stands : (e : Option External) → lookup externals callee ≡ e → func_index m.funcs callee ≡ None → WordStands e ret args (read_all (read_poisoned s fr.values) args root)
+    outside_stands None found none = tt
+    outside_stands (Some (Word g n)) found none =
+        let call = word_call m valid fr.func fr.block fr.place f i at due ret callee args calls g n none found in (
+          call.answer,
+          none_wider (bits_of n) args (map width_of (word_params g (bits_of n))) call.widths (params_narrow g (bits_of n) (omega (arith, width_some n))),
+          λ flagged. flag_stands s fr.values g n (bits_of n) args root (call.widths ∙ flagged_params g (bits_of n) flagged) call.flags,
+        )
+    outside_stands (Some e) found none = tt
+
+    by_index : (o : Option ℕ) → func_index m.funcs callee ≡ o → WordStands (if is_some o then None else lookup externals callee) ret args (read_all (read_poisoned s fr.values) args root)
+    by_index (Some k) found = tt
+    by_index None found = outside_stands (lookup externals callee) refl found
+
+    word_stands : func_index m.funcs ≡ s.func → WordStands (external_named s.func callee) ret args (read_all (read_poisoned s fr.values) args root)
+    word_stands same = subst (λ func. WordStands (external_named func callee) ret args (read_all (read_poisoned s fr.values) args root)) same (by_index (func_index m.funcs callee) refl)
+
+  words_stand : (s : Setting) → func_index m.funcs ≡ s.func → (fr : Frame Poisoned) (f : Func) (i : Inst) → func_at m fr.func ≡ Some f → slice_get (insts_of f fr.block) fr.place ≡ Some i → (root : ℕ)
+      → WordsStand s.func i.op (read_all (read_poisoned s fr.values) (operands i.op) root)
+  words_stand s same fr f i at due root = by_op i.op refl
+    where
+      by_op : (o : Op) → i.op ≡ o → WordsStand s.func o (read_all (read_poisoned s fr.values) (operands o) root)
+      by_op (op.Call ret callee args) e = word_stands s fr f i at due root ret callee args e same
+      by_op o e = tt
+
+  due_stands : (s : Setting) → m.types ≡ s.types → func_index m.funcs ≡ s.func → (fr : Frame Poisoned) (below : List (Frame Poisoned)) → GoodFrames PoisonedBelow m (fr ∷ below) → (is : List Inst) → rest_of m fr ≡ is → DueStands s m is fr
+  due_stands s same funcs fr below frames [] e = tt
+  due_stands s same funcs fr below frames (i ∷ is) e =
       let good = top_good PoisonedBelow m fr below frames in
       let due = due_first PoisonedBelow m fr good i is e in
       let shape = shaped i.op (formed_at m formed fr.func good.func good.stands fr.block fr.place i due).0 in
       record {
         cast = cast_stands i.op (cast_fits IsBelow 0 m formed valid AnyOrigin fr.func fr.block fr.place good.func i good.stands due [] (λ x u. x) (λ x u z k c. c) i.op refl);
         small = call_stands s fr.values i.op (here s m fr).root shape;
+        words = words_stand s funcs fr good.func i good.stands due (here s m fr).root;
         parts = subst (λ types. AddressStands types i.op (read_all (read_poisoned s fr.values) (operands i.op) (here s m fr).root)) same
             (address_stands s fr.values m good.func (λ o. operand_fits m (value_type good.func) o.0 o.1) i.op (here s m fr).root shape (no_fault fr good.func i good.stands due));
       }
 
-  top_stands : (s : Setting) → m.types ≡ s.types → (fs : List (Frame Poisoned)) → GoodFrames PoisonedBelow m fs → TopStands s m fs
-  top_stands s same [] frames = tt
-  top_stands s same (fr ∷ below) frames = due_stands s same fr below frames (rest_of m fr) refl
+  top_stands : (s : Setting) → m.types ≡ s.types → func_index m.funcs ≡ s.func → (fs : List (Frame Poisoned)) → GoodFrames PoisonedBelow m fs → TopStands s m fs
+  top_stands s same funcs [] frames = tt
+  top_stands s same funcs (fr ∷ below) frames = due_stands s same funcs fr below frames (rest_of m fr) refl
 
-  pub good_sure : (s : Setting) → m.types ≡ s.types → Sure (SoundPlaced m) s m
-  good_sure s same = record {
-    stands = λ c g. top_stands s same c.frames g.sound.frames;
+  pub good_sure : (s : Setting) → m.types ≡ s.types → func_index m.funcs ≡ s.func → Sure (SoundPlaced m) s m
+  good_sure s same funcs = record {
+    stands = λ c g. top_stands s same funcs c.frames g.sound.frames;
     fit = λ c g. record { bytes = g.sound.world.bytes; shadow = g.sound.world.shadow; sizes = g.sound.world.sizes; placed = g.placed };
   }
 

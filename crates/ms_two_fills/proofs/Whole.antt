@@ -51,7 +51,7 @@ module _ (m : Module) (formed : Formed m) (valid : Valid m) where
       → StepsAlike (shadow_step by_completions (setting_of m setup) m c) (shadow_step by_completions (setting_of m (refilled setup fill)) m d)
   steps_alike setup fill one c d g k h quiet =
       let s = setting_of m setup in
-      let sure = good_sure m formed valid s refl in
+      let sure = good_sure m formed valid s refl refl in
       let left = same_step formulas_exact s m c in
       let right = same_step formulas_exact (setting_of m (refilled setup fill)) m d in
       subst (λ x. StepsAlike x (shadow_step by_completions (setting_of m (refilled setup fill)) m d)) (sym left)
@@ -73,7 +73,7 @@ module _ (m : Module) (formed : Formed m) (valid : Valid m) where
   same_shadows setup fill one bytes others quiet =
       let bytes_too : GivesBytes (refilled setup fill) = record { input = bytes.input; fill = others } in
       computed m (refilled setup fill)
-      ∙ sym (runs_alike (SoundPlaced m) (setting_of m setup) fill one m (good_sure m formed valid (setting_of m setup) refl) (good_kept m formed valid setup bytes) (good_kept m formed valid (refilled setup fill) bytes_too)
+      ∙ sym (runs_alike (SoundPlaced m) (setting_of m setup) fill one m (good_sure m formed valid (setting_of m setup) refl refl) (good_kept m formed valid setup bytes) (good_kept m formed valid (refilled setup fill) bytes_too)
       setup.steps (shadow_start m setup) (shadow_start m (refilled setup fill)) (good_start m formed valid setup bytes) (good_start m formed valid (refilled setup fill) bytes_too)
       (start_alike m setup fill) (ap (λ r. r.blind) (sym (computed m setup)) ∙ quiet))
       ∙ sym (computed m setup)

@@ -13,7 +13,7 @@ use Rattle.ms_ir.specs.Locals.{Spelled, locals, value_type}
 use Rattle.ms_valid.specs.NamesKnown.{unknown_of, global_mentions}
 use Rattle.ms_valid.specs.TypesAgree.{operand_fits, op_fault, at_site, init_faults}
 use Rattle.ms_valid.specs.PhisFit.{edges_fit}
-use Rattle.ms_valid.specs.ExternalsFit.{name_unless, global_fits, called_names, decl_fits, volatile_callees}
+use Rattle.ms_valid.specs.ExternalsFit.{name_unless, global_fits, called_names, decl_fits, flagged_callees}
 use Rattle.ms_valid.specs.UsesDefined.{IsUseDefined, inst_uses}
 use Rattle.ms_valid.specs.MarksFit.{mark_fits}
 use Rattle.ms_valid.specs.Valid.{Valid}
@@ -68,9 +68,9 @@ fits_at m v n b p f inst at due = record {
     in_phis : (if edges_fit (spot f b p (site_at m n b p)) inst.op then [] else site_at m n b p ∷ []) ≡ []
     in_phis = at_insts (λ s i. if edges_fit s i.op then [] else s.site ∷ []) (λ l. l ≡ []) both_empty (λ g. []) m v.phis_fit n b p f inst at due
 
-    in_externals : volatile_callees m inst.op ≡ []
+    in_externals : flagged_callees m inst.op ≡ []
     in_externals =
-        let look = λ (s : Spot) (i : Inst). volatile_callees m i.op in
+        let look = λ (s : Spot) (i : Inst). flagged_callees m i.op in
         let head = λ (g : Func). name_unless (not (is_reserved g.name)) g.name in
         let globals = flat_map (λ g. name_unless (global_fits g) g.name) m.globals in
         let decls = flat_map (λ d. name_unless (decl_fits (called_names m) d) d.name) m.decls in

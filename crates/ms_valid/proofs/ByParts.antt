@@ -15,7 +15,7 @@ use Rattle.ms_ir.specs.Locals.{Spelled, locals, value_type}
 use Rattle.ms_valid.specs.NamesKnown.{unknown_of, global_mentions}
 use Rattle.ms_valid.specs.TypesAgree.{operand_fits, op_fault, at_site, init_faults}
 use Rattle.ms_valid.specs.PhisFit.{edges_fit}
-use Rattle.ms_valid.specs.ExternalsFit.{name_unless, global_fits, called_names, decl_fits, volatile_callees}
+use Rattle.ms_valid.specs.ExternalsFit.{name_unless, global_fits, called_names, decl_fits, flagged_callees}
 use Rattle.ms_valid.specs.UsesDefined.{IsUseDefined, inst_uses}
 use Rattle.ms_valid.specs.MarksFit.{mark_fits}
 use Rattle.ms_valid.specs.Valid.{Valid}
@@ -57,7 +57,7 @@ valid_by_parts m out within = record {
   phis_fit = nothing (λ f. []) (λ at inst. if edges_fit at inst.op then [] else at.site ∷ []) m (λ n f at. refl) (λ at inst h. not_named _ at.site h.phis_fit) within;
   has_main = out.has_main;
   externals_fit = empty_both _ _ out.globals_fit (empty_both _ _ out.declarations_fit
-      (nothing (λ f. name_unless (not (is_reserved f.name)) f.name) (λ at inst. volatile_callees m inst.op) m
+      (nothing (λ f. name_unless (not (is_reserved f.name)) f.name) (λ at inst. flagged_callees m inst.op) m
       (λ n f at. reserves_nothing _ f.name (out.functions_fit n f at)) (λ at inst h. h.externals_fit) within));
   uses_defined = from_module (λ at inst. inst_uses at inst.op) (All IsUseDefined) (All-nil IsUseDefined) (λ xs ys h k. All-append IsUseDefined xs ys h k) (λ f. []) m
       (λ n f at. All-nil IsUseDefined) (λ n b p f inst at due. (within n b p f inst at due).uses_defined);
@@ -74,7 +74,7 @@ fits_outside m v = record {
   has_main = v.has_main;
   globals_fit = externals.0;
   declarations_fit = later.0;
-  functions_fit = λ n f at. is_not_reserved _ f.name (none_at_heads head (λ s i. volatile_callees m i.op) 1 m.funcs n f later.1 at);
+  functions_fit = λ n f at. is_not_reserved _ f.name (none_at_heads head (λ s i. flagged_callees m i.op) 1 m.funcs n f later.1 at);
   sizes_fit = v.sizes_fit;
 }
   where
@@ -98,8 +98,8 @@ fits_outside m v = record {
     of_decls : List Name
     of_decls = flat_map (λ d. name_unless (decl_fits (called_names m) d) d.name) m.decls
 
-    externals : (of_globals ≡ []) × ((of_decls ++ found head (λ s i. volatile_callees m i.op) m) ≡ [])
-    externals = both_empty of_globals (of_decls ++ found head (λ s i. volatile_callees m i.op) m) v.externals_fit
+    externals : (of_globals ≡ []) × ((of_decls ++ found head (λ s i. flagged_callees m i.op) m) ≡ [])
+    externals = both_empty of_globals (of_decls ++ found head (λ s i. flagged_callees m i.op) m) v.externals_fit
 
-    later : (of_decls ≡ []) × (found head (λ s i. volatile_callees m i.op) m ≡ [])
-    later = both_empty of_decls (found head (λ s i. volatile_callees m i.op) m) externals.1
+    later : (of_decls ≡ []) × (found head (λ s i. flagged_callees m i.op) m ≡ [])
+    later = both_empty of_decls (found head (λ s i. flagged_callees m i.op) m) externals.1

@@ -1,5 +1,5 @@
 -- Values without a poisoned bit in any run, as far as the text of their function shows (own).
-use Rattle.std.specs.Prelude.{Bool, true, false, ◌&&◌, IsTrue, if◌then◌else◌, Some, None, is_some}
+use Rattle.std.specs.Prelude.{Bool, true, false, ◌&&◌, List, IsTrue, if◌then◌else◌, Option, Some, None}
 use Rattle.std.specs.List.{list_any, list_all}
 use Rattle.ms_bits.specs.declared.operations.BinOp.{BinOp}
 use Rattle.ms_bits.specs.declared.operations.BinOp.TheVariants as binary
@@ -11,6 +11,9 @@ use Rattle.ms_ir.specs.declared.syntax.Op.TheVariants as op
 use Rattle.ms_ir.specs.declared.syntax.Inst.{Inst}
 use Rattle.ms_ir.specs.declared.syntax.Func.{Func}
 use Rattle.ms_ir.specs.declared.syntax.Module.{Module}
+use Rattle.ms_ir.specs.declared.calls.External.{External}
+use Rattle.ms_ir.specs.declared.calls.External.TheVariants as external
+use Rattle.ms_ir.specs.declared.syntax.Ty.{Ty}
 use Rattle.ms_ir.specs.Names.{name_eq}
 use Rattle.ms_ir.specs.Code.{operands, func_index, external_named}
 use Rattle.ms_ir.specs.Locals.{func_insts}
@@ -34,6 +37,12 @@ is_division binary.Urem = true
 is_division binary.Srem = true
 is_division o = false
 
+-- an external's answer is clean: that of a function of whole words where all arguments are
+abbrev pub answers_clean : (Name → Bool) → Option External → List (Ty × Operand) → Bool
+answers_clean clean None args = false
+answers_clean clean (Some (external.Word f n)) args = list_all (λ a. is_clean_operand clean a.1) args
+answers_clean clean (Some e) args = true
+
 -- an instruction makes a clean value: of a division the dividend is looked at alone, and a load or a call of a function
 -- that the module defines makes none
 abbrev pub makes_clean : Module → (Name → Bool) → Op → Bool
@@ -45,7 +54,7 @@ makes_clean m clean (op.Freeze t a) = true
 makes_clean m clean (op.Phi t edges) = are_clean clean (op.Phi t edges)
 makes_clean m clean (op.Alloca t u count) = true
 makes_clean m clean (op.Gep t base indices) = are_clean clean (op.Gep t base indices)
-makes_clean m clean (op.Call ret callee args) = is_some (external_named (func_index m.funcs) callee)
+makes_clean m clean (op.Call ret callee args) = answers_clean clean (external_named (func_index m.funcs) callee) args
 makes_clean m clean o = false
 
 -- an instruction gives a result its name

@@ -1,6 +1,6 @@
 -- Each declaration that is called is an external or a runtime function with its types, and each reserved name stands for
--- what it is kept for (LLVM Language Reference, "'llvm.memcpy' Intrinsic" and its neighbours; own: the list of externals,
--- and that their accesses aren't volatile).
+-- what it is kept for (LLVM Language Reference, "'llvm.memcpy' Intrinsic" and its neighbours, "'llvm.abs.*' Intrinsic",
+-- "'llvm.ctlz.*' Intrinsic"; own: the list of externals, and that their accesses aren't volatile).
 use Rattle.std.specs.Prelude.{Bool, true, false, not, ◌&&◌, ◌||◌, nat_eq, List, [], ◌∷◌, ◌++◌, flat_map, if◌then◌else◌, Option, Some, None}
 use Rattle.std.specs.List.{list_any, list_all}
 use Rattle.ms_ir.specs.declared.syntax.Name.{Name}
@@ -68,13 +68,6 @@ decl_fits called d = if is_reserved d.name then is_runtime d else (not (has_name
 
 -- ---- functions
 
--- an external that says by its last argument whether its access is volatile
-abbrev pub says_volatile : Option External → Bool
-says_volatile (Some external.LlvmMemcpy) = true
-says_volatile (Some external.LlvmMemmove) = true
-says_volatile (Some external.LlvmMemset) = true
-says_volatile e = false
-
 -- `false`
 abbrev pub is_false : Operand → Bool
 is_false (operand.Int n) = nat_eq n 0
@@ -84,15 +77,29 @@ is_false o = false
 abbrev pub is_no_flag : Ty × Operand → Bool
 is_no_flag a = not (type_eq a.0 (Int 1)) || is_false a.1
 
--- the callee of a call whose access would be volatile
-abbrev pub volatile_callees : Module → Op → List Name
-volatile_callees m (op.Call ret callee args) =
-    name_unless (not (says_volatile (external_named (func_index m.funcs) callee)) || list_all is_no_flag args) callee
-volatile_callees m o = []
+-- a number
+abbrev pub is_number : Operand → Bool
+is_number (operand.Int n) = true
+is_number o = false
+
+-- what an external asks of an argument that is an `i1`: `llvm.memcpy` and its kin that it is `false`, since their accesses
+-- aren't volatile, and a function of whole words or `llvm.objectsize` that it is a number
+abbrev pub flag_fits : Option External → Ty × Operand → Bool
+flag_fits (Some external.LlvmMemcpy) a = is_no_flag a
+flag_fits (Some external.LlvmMemmove) a = is_no_flag a
+flag_fits (Some external.LlvmMemset) a = is_no_flag a
+flag_fits (Some (external.Word f n)) a = not (type_eq a.0 (Int 1)) || is_number a.1
+flag_fits (Some external.LlvmObjectSize) a = not (type_eq a.0 (Int 1)) || is_number a.1
+flag_fits e a = true
+
+-- the callee of a call with a flag that doesn't fit
+abbrev pub flagged_callees : Module → Op → List Name
+flagged_callees m (op.Call ret callee args) = name_unless (list_all (flag_fits (external_named (func_index m.funcs) callee)) args) callee
+flagged_callees m o = []
 
 -- the globals, declarations, functions and calls that don't fit, by name and in text order
 abbrev pub bad_externals : Module → List Name
 bad_externals m =
     flat_map (λ g. name_unless (global_fits g) g.name) m.globals
     ++ (flat_map (λ d. name_unless (decl_fits (called_names m) d) d.name) m.decls
-    ++ found (λ f. name_unless (not (is_reserved f.name)) f.name) (λ at inst. volatile_callees m inst.op) m)
+    ++ found (λ f. name_unless (not (is_reserved f.name)) f.name) (λ at inst. flagged_callees m inst.op) m)

@@ -16,6 +16,7 @@ use Rattle.ms_ir.specs.declared.syntax.Init as initial
 use Rattle.ms_ir.specs.declared.syntax.Op.{Op}
 use Rattle.ms_ir.specs.declared.syntax.Op.TheVariants as op
 use Rattle.ms_ir.specs.declared.syntax.Inst.{Inst}
+use Rattle.ms_ir.specs.Equal.{Step}
 use Rattle.ms_ir.specs.Names.{name_eq, main_name}
 use Rattle.ms_ir.specs.Code.{operands, is_phi}
 use Rattle.ms_bits.specs.NoFlags.{no_flags}
@@ -63,6 +64,15 @@ abbrev pub number_formed : Ty → ℕ → Bool
 number_formed (Int n) k = is_width n && nat_lt k (2 ^ n)
 number_formed t k = false
 
+-- a step of a constant address as it may stand
+abbrev pub step_formed : Step → Bool
+step_formed s = type_formed s.0 && list_all (λ i. number_formed i.0 i.1) s.1
+
+-- the steps of a constant address as they may stand, of which there is one or more
+abbrev pub steps_formed : List Step → Bool
+steps_formed [] = false
+steps_formed (s ∷ inner) = step_formed s && list_all step_formed inner
+
 -- an operand as it may stand behind a type: a number behind an integer type, and `null` behind `ptr`
 abbrev pub operand_formed : Ty → Operand → Bool
 operand_formed t (operand.Int k) = number_formed t k
@@ -72,7 +82,7 @@ operand_formed t operand.Undef = true
 operand_formed t operand.Poison = true
 operand_formed t (operand.Local x) = is_local_name x
 operand_formed t (operand.Global x) = is_global_name x
-operand_formed t (operand.Offset u x indices) = type_formed u && is_global_name x && list_all (λ i. number_formed i.0 i.1) indices
+operand_formed t (operand.Offset x steps) = is_global_name x && steps_formed steps
 
 -- an operand that names no local
 abbrev pub is_constant : Operand → Bool

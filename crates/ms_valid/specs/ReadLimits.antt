@@ -1,5 +1,5 @@
 -- The limits that a module keeps that is read from a text (own). Inserted code may go past them.
-use Rattle.std.specs.Prelude.{ℕ, suc, ◌+◌, ◌≤◌, max, Bool, true, ◌&&◌, nat_le, List, ◌++◌, length, map, flat_map, IsTrue}
+use Rattle.std.specs.Prelude.{ℕ, suc, ◌+◌, ◌≤◌, max, Bool, true, ◌&&◌, nat_le, List, [], ◌∷◌, ◌++◌, length, map, flat_map, IsTrue}
 use Rattle.std.specs.List.{list_all}
 use Rattle.ms_ir.specs.declared.syntax.Name.{Name}
 use Rattle.ms_ir.specs.declared.syntax.Name.TheVariants.{Number, Text}
@@ -13,6 +13,7 @@ use Rattle.ms_ir.specs.declared.syntax.Op.TheVariants as op
 use Rattle.ms_ir.specs.declared.syntax.Func.{Func}
 use Rattle.ms_ir.specs.declared.syntax.GlobalVar.{GlobalVar}
 use Rattle.ms_ir.specs.declared.syntax.Module.{Module}
+use Rattle.ms_ir.specs.Equal.{Step}
 use Rattle.ms_ir.specs.Code.{operands, over_funcs}
 use Rattle.ms_ir.specs.Written.{Mention, OfType, OfLocal, OfGlobal, type_mentions, mentions, op_types}
 use Rattle.ms_valid.specs.NamesKnown.{global_mentions}
@@ -31,12 +32,17 @@ abbrev mutual
   row_depth end_of-Ty = 0
   row_depth (more_of-Ty t ts) = max (type_depth t) (row_depth ts)
 
+-- the same of the types of a constant address, the greatest
+abbrev pub steps_depth : List Step → ℕ
+steps_depth [] = 0
+steps_depth (s ∷ inner) = max (type_depth s.0) (steps_depth inner)
+
 -- the same of an initialiser, whose brackets are arrays and structs too, and of its items with their types
 abbrev mutual
   pub init_depth : Init → ℕ
   init_depth (initial.Array' shape items) = suc (items_depth items)
   init_depth (initial.Struct' packed shape fields) = suc (items_depth fields)
-  init_depth (initial.Value (operand.Offset t x indices)) = type_depth t
+  init_depth (initial.Value (operand.Offset x steps)) = steps_depth steps
   init_depth i = 0
 
   pub items_depth : {n : _} → Row_of-Init-Array-0-2 n → ℕ
@@ -53,9 +59,9 @@ is_shallow_global g = nat_le (type_depth g.ty) 32 && nat_le (init_depth g.init) 
 
 -- ---- counts
 
--- at most 64 indices of a constant 'getelementptr'
+-- at most 64 indices of a constant 'getelementptr', and at most 64 of these within one another
 abbrev pub few_constant_indices : Operand → Bool
-few_constant_indices (operand.Offset t x indices) = nat_le (length indices) 64
+few_constant_indices (operand.Offset x steps) = nat_le (length steps) 64 && list_all (λ s. nat_le (length s.1) 64) steps
 few_constant_indices o = true
 
 -- at most 64 indices of a 'getelementptr'

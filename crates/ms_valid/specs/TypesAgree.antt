@@ -18,7 +18,7 @@ use Rattle.ms_ir.specs.declared.syntax.Module.{Module}
 use Rattle.ms_ir.specs.Names.{name_eq}
 use Rattle.ms_ir.specs.Code.{operands}
 use Rattle.ms_ir.specs.Layout.{Types, resolved, part_type, row_types}
-use Rattle.ms_ir.specs.Equal.{has_name, type_eq, result_type_eq}
+use Rattle.ms_ir.specs.Equal.{Step, has_name, type_eq, result_type_eq}
 use Rattle.ms_ir.specs.Written.{targets}
 use Rattle.ms_ir.specs.Spots.{found_at_insts}
 use Rattle.ms_ir.specs.Locals.{value_type, block_names, global_names}
@@ -65,6 +65,10 @@ first_misstep fits types t k (index ∷ rest) =
 abbrev pub constant_indices : List (Ty × ℕ) → List (Ty × Operand)
 constant_indices indices = map (λ i. (i.0, operand.Int i.1)) indices
 
+-- the indices of a constant step lead into parts of its type
+abbrev pub step_fits : Types → Step → Bool
+step_fits types s = is_none (first_misstep (λ i. true) types s.0 0 (drop 1 (constant_indices s.1)))
+
 -- ---- operands
 
 -- a global variable has this name
@@ -81,8 +85,7 @@ is_type (Some u) t = type_eq u t
 abbrev pub operand_fits : Module → (Name → Option Ty) → Ty → Operand → Bool
 operand_fits m typed t (operand.Local x) = is_type (typed x) t
 operand_fits m typed t (operand.Global x) = type_eq t Ptr && is_variable m x
-operand_fits m typed t (operand.Offset u x indices) =
-    type_eq t Ptr && is_variable m x && is_none (first_misstep (λ i. true) m.types u 0 (drop 1 (constant_indices indices)))
+operand_fits m typed t (operand.Offset x steps) = type_eq t Ptr && is_variable m x && list_all (step_fits m.types) steps
 operand_fits m typed t o = true
 
 -- ---- instructions

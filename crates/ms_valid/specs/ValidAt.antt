@@ -13,7 +13,7 @@ use Rattle.ms_valid.specs.NamesKnown.{unknown_of, global_mentions}
 use Rattle.ms_valid.specs.TypesAgree.{operand_fits, op_fault, init_faults}
 use Rattle.ms_valid.specs.PhisFit.{edges_fit}
 use Rattle.ms_valid.specs.HasMain.{defines_main}
-use Rattle.ms_valid.specs.ExternalsFit.{name_unless, global_fits, called_names, decl_fits, volatile_callees}
+use Rattle.ms_valid.specs.ExternalsFit.{name_unless, global_fits, called_names, decl_fits, flagged_callees}
 use Rattle.ms_valid.specs.UsesDefined.{IsUseDefined, inst_uses}
 use Rattle.ms_valid.specs.MarksFit.{mark_fits}
 use Rattle.ms_valid.specs.SizesFit.{unsized}
@@ -23,7 +23,7 @@ pub record FitsAt (m : Module) (at : Spot) (inst : Inst) : Type 0 where
   pub names_known : unknown_of m (locals at.func) at.site (mentions inst.op) ≡ []
   pub types_agree : op_fault m at.func (λ o. operand_fits m (value_type at.func) o.0 o.1) inst.op ≡ None
   pub phis_fit : IsTrue (edges_fit at inst.op)
-  pub externals_fit : volatile_callees m inst.op ≡ []
+  pub externals_fit : flagged_callees m inst.op ≡ []
   pub uses_defined : All IsUseDefined (inst_uses at inst.op)
   pub marks_fit : IsTrue (mark_fits at.func inst)
 

@@ -1,15 +1,15 @@
 //! Values behind their types (LLVM Language Reference, "Constants").
-ghost use Rattle.std.specs.Prelude.{◌≡◌, [], ◌∷◌, IfOk, codes, map};
+ghost use Rattle.std.specs.Prelude.{◌≡◌, ◌∷◌, IfOk, codes, map};
 ghost use Rattle.ms_written.specs.Names.{global_token};
 ghost use Rattle.ms_written.specs.Pieces.{behind_commas, with_commas, word};
 ghost use Rattle.ms_written.specs.Types.{type_tokens};
-ghost use Rattle.ms_written.specs.Values.{constant_index_tokens, offset_tokens, value_tokens, typed_tokens, pair_tokens};
+ghost use Rattle.ms_written.specs.Values.{constant_index_tokens, offset_tokens, base_tokens, value_tokens, typed_tokens, pair_tokens};
 ghost use Rattle.ms_write_values.specs.Parts.{two_tokens};
 ghost use Rattle.ms_write_values.specs.Sheets.{put};
 
 use crate::types::width_of;
 use crate::writer::Writer;
-use ms_bits::NoMemory;
+use ms_bits::{List, NoMemory};
 use ms_ir::{Name, Operand, Ty};
 
 impl Writer {
@@ -35,26 +35,49 @@ impl Writer {
     }
 
     /// Writes what stands between the parentheses of a constant `getelementptr`.
+    #[cycle(addresses)]
     #[tactic(auto, using(crate::proofs::Puts::put_append))]
-    fn offset_parts(&mut self, ty: &Ty, base: &Name, indices: &[(Ty, u64)]) -> Result<(), NoMemory>
-        ensures { IfOk result (λ _. self.new ≡ put self.old (with_commas (type_tokens ty.now ∷ (word (codes "ptr") ∷ global_token base.now ∷ []) ∷ map constant_index_tokens indices.now))) }
+    fn step_parts(
+        &mut self,
+        step: &(Ty, List<(Ty, u64)>),
+        base: &Name,
+        inner: &[(Ty, List<(Ty, u64)>)],
+    ) -> Result<(), NoMemory>
+        ensures { IfOk result (λ _. self.new ≡ put self.old (with_commas (type_tokens step.now.0 ∷ (word (codes "ptr") ∷ base_tokens (global_token base.now) inner.now) ∷ map constant_index_tokens step.now.1))) }
     {
-        self.ty(ty)?;
+        self.ty(&step.0)?;
         self.token(b",")?;
         self.token(b"ptr")?;
-        self.global(base)?;
-        self.constant_indices(indices)
+        self.base(base, inner)?;
+        self.constant_indices(step.1.as_slice())
     }
 
-    /// Writes a constant `getelementptr`.
+    /// Writes a constant `getelementptr`, within which others may stand.
+    #[cycle(addresses)]
     #[tactic(auto, using(crate::proofs::Puts::put_append), unfolding(ms_written::specs::Values::offset_tokens))]
-    fn offset(&mut self, ty: &Ty, base: &Name, indices: &[(Ty, u64)]) -> Result<(), NoMemory>
-        ensures { IfOk result (λ _. self.new ≡ put self.old (offset_tokens ty.now (global_token base.now) indices.now)) }
+    fn step(
+        &mut self,
+        step: &(Ty, List<(Ty, u64)>),
+        base: &Name,
+        inner: &[(Ty, List<(Ty, u64)>)],
+    ) -> Result<(), NoMemory>
+        ensures { IfOk result (λ _. self.new ≡ put self.old (offset_tokens step.now.0 (base_tokens (global_token base.now) inner.now) step.now.1)) }
     {
         self.token(b"getelementptr")?;
         self.token(b"(")?;
-        self.offset_parts(ty, base, indices)?;
+        self.step_parts(step, base, inner)?;
         self.token(b")")
+    }
+
+    /// Writes the address to which steps lead from a global, the outermost first.
+    #[cycle(addresses)]
+    fn base(&mut self, base: &Name, steps: &[(Ty, List<(Ty, u64)>)]) -> Result<(), NoMemory>
+        ensures { IfOk result (λ _. self.new ≡ put self.old (base_tokens (global_token base.now) steps.now)) }
+    {
+        match steps.split_first() {
+            None => self.global(base),
+            Some((step, inner)) => self.step(step, base, inner),
+        }
     }
 
     /// Writes a value of a type, which isn't written.
@@ -69,11 +92,7 @@ impl Writer {
             Operand::Poison => self.token(b"poison"),
             Operand::Local(name) => self.local(name),
             Operand::Global(name) => self.global(name),
-            Operand::Offset(ty, base, indices) => self.offset(
-                ty.get(),
-                base.get(),
-                indices.as_slice(),
-            ),
+            Operand::Offset(base, steps) => self.base(base.get(), steps.as_slice()),
         }
     }
 

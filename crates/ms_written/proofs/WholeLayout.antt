@@ -7,12 +7,13 @@ use Rattle.ms_ir.specs.declared.syntax.Operand.{Operand}
 use Rattle.ms_ir.specs.declared.syntax.Operand.TheVariants as operand
 use Rattle.ms_ir.specs.declared.syntax.Init.{Init, Row_of-Init-Array-0-2, end_of-Init-Array-0-2, more_of-Init-Array-0-2}
 use Rattle.ms_ir.specs.declared.syntax.Init as initial
+use Rattle.ms_ir.specs.Equal.{Step}
 use Rattle.ms_ir.specs.Layout.{width_of}
 use Rattle.ms_grammar.specs.Lexemes.{Lexeme}
 use Rattle.ms_written.specs.Pieces.{word, sign, behind_commas, with_commas, enclosed}
 use Rattle.ms_written.specs.Names.{global_token, number_token}
 use Rattle.ms_written.specs.Types.{struct_tokens, type_tokens, row_tokens, result_tokens}
-use Rattle.ms_written.specs.Values.{constant_index_tokens, offset_tokens, value_tokens, typed_tokens, pair_tokens, init_tokens, items_tokens}
+use Rattle.ms_written.specs.Values.{constant_index_tokens, offset_tokens, base_tokens, value_tokens, typed_tokens, pair_tokens, init_tokens, items_tokens}
 use Rattle.ms_written.specs.Apart.{IsWhole, AreWhole}
 use Rattle.ms_written.proofs.WholeNames.{local_whole, global_whole}
 use Rattle.ms_written.proofs.WholeKinds.{open_paren, close_paren, open_bracket, close_bracket, open_brace, close_brace, less, greater, comma_sign, word_whole, bytes_whole, count_whole, number_whole, width_whole}
@@ -79,13 +80,17 @@ integer_by false width n = number_whole width n
 index_whole : (i : Ty × ℕ) → AreWhole (constant_index_tokens i)
 index_whole i = append_whole (type_tokens i.0) (number_token (width_of i.0) i.1 ∷ []) (type_whole i.0) (number_whole (width_of i.0) i.1, tt)
 
-offset_whole : (t : Ty) (base : Lexeme) → IsWhole base → (indices : List (Ty × ℕ)) → AreWhole (offset_tokens t base indices)
+offset_whole : (t : Ty) (base : List Lexeme) → AreWhole base → (indices : List (Ty × ℕ)) → AreWhole (offset_tokens t base indices)
 unfolding offset_tokens
 offset_whole t base h indices = (
   word_whole (codes "getelementptr") refl,
-  enclosed_whole (codes "(") (codes ")") open_paren close_paren (type_tokens t ∷ (word (codes "ptr") ∷ base ∷ []) ∷ map constant_index_tokens indices)
-      (type_whole t, ((word_whole (codes "ptr") refl, (h, tt)), mapped_whole constant_index_tokens index_whole indices)),
+  enclosed_whole (codes "(") (codes ")") open_paren close_paren (type_tokens t ∷ (word (codes "ptr") ∷ base) ∷ map constant_index_tokens indices)
+      (type_whole t, ((word_whole (codes "ptr") refl, h), mapped_whole constant_index_tokens index_whole indices)),
 )
+
+base_whole : (base : Lexeme) → IsWhole base → (steps : List Step) → AreWhole (base_tokens base steps)
+base_whole base h [] = (h, tt)
+base_whole base h (s ∷ inner) = offset_whole s.0 (base_tokens base inner) (base_whole base h inner) s.1
 
 pub value_whole : (t : Ty) (a : Operand) → AreWhole (value_tokens t a)
 unfolding value_tokens
@@ -95,7 +100,7 @@ value_whole t operand.Undef = (word_whole (codes "undef") refl, tt)
 value_whole t operand.Poison = (word_whole (codes "poison") refl, tt)
 value_whole t (operand.Local x) = (local_whole x, tt)
 value_whole t (operand.Global x) = (global_whole x, tt)
-value_whole t (operand.Offset u x indices) = offset_whole u (global_token x) (global_whole x) indices
+value_whole t (operand.Offset x steps) = base_whole (global_token x) (global_whole x) steps
 
 pub typed_whole : (t : Ty) (a : Operand) → AreWhole (typed_tokens t a)
 typed_whole t a = append_whole (type_tokens t) (value_tokens t a) (type_whole t) (value_whole t a)

@@ -66,7 +66,9 @@ many_parts = record {
       ∷ variable (codes "no_fields") false (ty.Struct false []) (initial.Struct false [])
       ∷ variable (codes "bit") false i1 (initial.Value (int 1))
       ∷ variable (codes "step") false ty.Ptr (initial.Value (
-      operand.Offset (ty.Named (Called (codes "pair"))) (Called (codes "g")) ((i64, 18446744073709551615) ∷ (i32, 1) ∷ (i1, 1) ∷ []))) ∷ [];
+      operand.Offset (Called (codes "g")) ((ty.Named (Called (codes "pair")), (i64, 18446744073709551615) ∷ (i32, 1) ∷ (i1, 1) ∷ []) ∷ [])))
+      ∷ variable (codes "within") false ty.Ptr (initial.Value (
+      operand.Offset (Called (codes "g")) ((ty.Array 2 i8, (i64, 0) ∷ (i64, 1) ∷ []) ∷ (ty.Named (Called (codes "pair")), (i32, 0) ∷ (i32, 1) ∷ []) ∷ []))) ∷ [];
   decls = declares printf_name (Some i32) (ty.Ptr ∷ []) ∷ free ∷ malloc ∷ [];
   funcs = main_func (
       block 0 (does (op.Switch i8 undef (Number 1) ((255, Number 2) ∷ (2, Called (codes "x")) ∷ [])) ∷ [])

@@ -5,6 +5,7 @@ use Rattle.ms_ir.specs.declared.syntax.Operand.{Operand}
 use Rattle.ms_ir.specs.declared.syntax.Operand.TheVariants as operand
 use Rattle.ms_ir.specs.declared.syntax.Init.{Init, Row_of-Init-Array-0-2, end_of-Init-Array-0-2, more_of-Init-Array-0-2}
 use Rattle.ms_ir.specs.declared.syntax.Init as initial
+use Rattle.ms_ir.specs.Equal.{Step}
 use Rattle.ms_ir.specs.Layout.{width_of}
 use Rattle.ms_grammar.specs.Lexemes.{Lexeme}
 use Rattle.ms_written.specs.Pieces.{word, enclosed}
@@ -21,10 +22,15 @@ integer_token width n = if width == 1 then word (if n == 0 then codes "false" el
 abbrev pub constant_index_tokens : Ty × ℕ → List Lexeme
 constant_index_tokens i = type_tokens i.0 ++ number_token (width_of i.0) i.1 ∷ []
 
--- a constant `getelementptr`, behind which a space stands
-unfoldable pub offset_tokens : Ty → Lexeme → List (Ty × ℕ) → List Lexeme
+-- a constant `getelementptr`, behind which a space stands, with its base
+unfoldable pub offset_tokens : Ty → List Lexeme → List (Ty × ℕ) → List Lexeme
 offset_tokens t base indices =
-    word (codes "getelementptr") ∷ enclosed (codes "(") (codes ")") (type_tokens t ∷ (word (codes "ptr") ∷ base ∷ []) ∷ map constant_index_tokens indices)
+    word (codes "getelementptr") ∷ enclosed (codes "(") (codes ")") (type_tokens t ∷ (word (codes "ptr") ∷ base) ∷ map constant_index_tokens indices)
+
+-- the base of a constant `getelementptr`: a global, or the steps that lead on from it, the outermost first
+abbrev pub base_tokens : Lexeme → List Step → List Lexeme
+base_tokens base [] = base ∷ []
+base_tokens base (s ∷ inner) = offset_tokens s.0 (base_tokens base inner) s.1
 
 -- a value of a type
 unfoldable pub value_tokens : Ty → Operand → List Lexeme
@@ -34,7 +40,7 @@ value_tokens t operand.Undef = word (codes "undef") ∷ []
 value_tokens t operand.Poison = word (codes "poison") ∷ []
 value_tokens t (operand.Local x) = local_token x ∷ []
 value_tokens t (operand.Global x) = global_token x ∷ []
-value_tokens t (operand.Offset u x indices) = offset_tokens u (global_token x) indices
+value_tokens t (operand.Offset x steps) = base_tokens (global_token x) steps
 
 -- a value behind its type
 abbrev pub typed_tokens : Ty → Operand → List Lexeme

@@ -40,6 +40,7 @@ pub fn modules_are_written()
         ∷ codes "@no_fields = global { } { }"
         ∷ codes "@bit = global i1 true"
         ∷ codes "@step = global ptr getelementptr (%pair, ptr @g, i64 -1, i32 1, i1 -1)"
+        ∷ codes "@within = global ptr getelementptr ([ 2 x i8 ], ptr getelementptr (%pair, ptr @g, i32 0, i32 1), i64 0, i64 1)"
         ∷ codes "declare i32 @printf(ptr, ...)"
         ∷ codes "declare void @free(ptr)"
         ∷ codes "declare ptr @malloc(i64)"

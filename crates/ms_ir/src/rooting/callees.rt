@@ -45,9 +45,9 @@ impl<'a> Callees<'a> {
     {
         Callees {
             funcs,
-            malloc: defines(funcs, External::Malloc.name()),
-            realloc: defines(funcs, External::Realloc.name()),
-            lifetime_start: defines(funcs, External::LifetimeStart.name()),
+            malloc: defines(funcs, b"malloc"),
+            realloc: defines(funcs, b"realloc"),
+            lifetime_start: defines(funcs, b"llvm.lifetime.start.p0"),
         }
     }
 

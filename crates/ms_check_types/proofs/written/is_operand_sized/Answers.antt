@@ -1,14 +1,12 @@
-use Rattle.std.proofs.Common.{ap, sym, ◌∙◌, map}
+use Rattle.std.proofs.Common.{◌∷◌, ap, sym, ◌∙◌, map}
 use Rattle.std.specs.List.{list_all}
-use Rattle.std.proofs.lemmas.List.Folds.{list_all-map}
 use Rattle.ms_ir.specs.Written.{operand_types}
-use Rattle.ms_check_types.specs.SizedParts.{has_sizes}
-use Rattle.ms_check_types.proofs.AllSized.{and_then}
+use Rattle.ms_check_types.specs.SizedParts.{has_sizes, is_step_sized}
+use Rattle.ms_check_types.proofs.AllSized.{all_flat}
 use Rattle.ms_check_types.proofs.written.is_operand_sized.Goals as goal
 
-pub returns-then-has_sizes : goal.returns-then-has_sizes
-returns-then-has_sizes c =
+pub returns-in-Offset : goal.returns-in-Offset
+returns-in-Offset c =
     let types = c.args.extents.now in
-    and_then c.has_sizes.result (has_sizes types c.in-Offset.ty) c.are_indices_sized.result (list_all (has_sizes types) (map (λ i. i.0) c.in-Offset.indices)) c.if-has_sizes.true (c.has_sizes.ensures ∙ ap (has_sizes types) c.get.ensures)
-    (c.are_indices_sized.ensures ∙ ap (list_all (λ i. has_sizes types i.0)) c.as_slice.ensures ∙ sym (list_all-map (has_sizes types) (λ i. i.0) c.in-Offset.indices))
+    c.are_steps_sized.ensures ∙ ap (list_all (is_step_sized types)) c.as_slice.ensures ∙ sym (all_flat (has_sizes types) (λ s. s.0 ∷ map (λ i. i.0) s.1) c.in-Offset.steps)
     ∙ ap (λ o. list_all (has_sizes types) (operand_types o)) (sym c.in-Offset.is)

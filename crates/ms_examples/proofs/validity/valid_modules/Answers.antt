@@ -2,6 +2,7 @@ use Rattle.std.proofs.Common.{refl}
 use Rattle.ms_ir.specs.declared.syntax.Ty.TheBlock.{hidden-the_row-Ty-0, shape-the_row-Ty-0}
 use Rattle.ms_ir.specs.ExampleModules.{returns_zero, branch_on_unset, masked_to_zero, ordered_compare, set_bit_is_not_zero, select_undef, two_unset, shared_cell, lost_in_addition, recursion, nested_call, write_with_gap, store_to_shadow, clang_unoptimised, sum_wraps, undef_divisor, frozen, three_branches, undef_sum, undef_stored, carry_of_undef}
 use Rattle.ms_ir.specs.ExampleMarks.{branch_on_unset_checked, nested_call_checked}
+use Rattle.ms_ir.specs.Names.{word_externals}
 use Rattle.ms_valid.proofs.TestedPaths.{tested_uses}
 use Rattle.ms_examples.proofs.validity.valid_modules.Goals as goal
 
@@ -69,8 +70,9 @@ pub returns-clause-carry_of_undef : goal.returns-clause-carry_of_undef
 returns-clause-carry_of_undef c = record { names_once = refl; names_known = refl; types_agree = refl; phis_fit = refl; has_main = refl; externals_fit = refl; uses_defined = tested_uses carry_of_undef refl; marks_fit = refl; sizes_fit = refl }
 
 pub returns-clause-branch_on_unset_checked : goal.returns-clause-branch_on_unset_checked
+unfolding word_externals
 returns-clause-branch_on_unset_checked c = record { names_once = refl; names_known = refl; types_agree = refl; phis_fit = refl; has_main = refl; externals_fit = refl; uses_defined = tested_uses branch_on_unset_checked refl; marks_fit = refl; sizes_fit = refl }
 
 pub returns-clause-nested_call_checked : goal.returns-clause-nested_call_checked
-unfolding hidden-the_row-Ty-0 shape-the_row-Ty-0 denote.Hole.Carrier.hidden
+unfolding hidden-the_row-Ty-0 shape-the_row-Ty-0 denote.Hole.Carrier.hidden word_externals
 returns-clause-nested_call_checked c = record { names_once = refl; names_known = refl; types_agree = refl; phis_fit = refl; has_main = refl; externals_fit = refl; uses_defined = tested_uses nested_call_checked refl; marks_fit = refl; sizes_fit = refl }

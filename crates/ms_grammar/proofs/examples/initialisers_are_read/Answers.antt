@@ -45,3 +45,11 @@ returns-clause-index_of_a_step c = refl
 pub returns-clause-sum_as_a_base : goal.returns-clause-sum_as_a_base
 unfolding pieces
 returns-clause-sum_as_a_base c = refl
+
+pub returns-clause-step_within : goal.returns-clause-step_within
+unfolding pieces
+returns-clause-step_within c = refl
+
+pub returns-clause-null_within : goal.returns-clause-null_within
+unfolding pieces
+returns-clause-null_within c = refl

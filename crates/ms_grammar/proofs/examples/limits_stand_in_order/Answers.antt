@@ -45,3 +45,7 @@ returns-clause-reserved_before_instruction c = refl
 pub returns-clause-phi_before_instruction : goal.returns-clause-phi_before_instruction
 unfolding pieces
 returns-clause-phi_before_instruction c = refl
+
+pub returns-clause-steps_within : goal.returns-clause-steps_within
+unfolding pieces
+returns-clause-steps_within c = refl

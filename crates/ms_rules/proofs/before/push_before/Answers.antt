@@ -25,6 +25,6 @@ returns c =
     subst (λ ts. OnOk c.save.result (c.save.new.code ≡ with_tasks c.args.code.now (hand_tasks given.func s.main i.op ts ++ own_tasks given (env_of s) (here_of s c.args.site c.args.tracking.now) i.result i.op c.args.saved ts)))
     are
     (five_with c.save.result c.args.code.now c.hand_over.new.code c.check.new.code c.count_blind.new.code c.define_result.new.code c.save.new.code
-    (hand_tasks given.func s.main i.op ts) (check_tasks c.args.site ts (uses given.func s.main i.op)) (blind_tasks (blinded_of i.op ts)) (result_tasks given.func (env_of s) i.result i.op ts)
+    (hand_tasks given.func s.main i.op ts) (check_tasks c.args.site ts (uses given.func s.main i.op)) (blind_tasks (blinded_of given.func i.op ts)) (result_tasks given.func (env_of s) i.result i.op ts)
     (save_tasks given.func c.args.saved i.op ts)
-    c.in_ok-hand_over.ensures (c.in_ok-check.ensures given.func c.requires.callee.external) c.in_ok-count_blind.ensures c.in_ok-define_result.ensures (c.save.ensures given.func c.requires.callee.external))
+    c.in_ok-hand_over.ensures (c.in_ok-check.ensures given.func c.requires.callee.external) (c.in_ok-count_blind.ensures given.func c.requires.callee.external) c.in_ok-define_result.ensures (c.save.ensures given.func c.requires.callee.external))

@@ -58,7 +58,7 @@ returns-in-Call c = λ func q.
     let ts = map tracked_of c.args.operands.now in
     subst (λ (l : List Task). OnOk r.result (r.new.code ≡ with_tasks c.args.code.now l))
     (ap (λ own. called_tasks own v (operation.Call x.ret x.callee x.args) ts) (sym (ap (calls_own func) (sym x.is) ∙ q)) ∙ ap (λ o. define_tasks func v o ts) (sym x.is))
-    (r.ensures x.callee x.args)
+    (r.ensures x.args)
 
 pub define_binary-requires : goal.define_binary-requires
 define_binary-requires c =

@@ -1,7 +1,9 @@
-use Rattle.std.proofs.Common.{◌∙◌, ◌%◌, ℕ, List, ap, refl, sym, subst, Some, None, get_or, IfOk}
+use Rattle.std.proofs.Common.{◌∙◌, ◌%◌, ◌^◌, ◌<◌, ℕ, List, ap, refl, sym, subst, Some, None, get_or, IfOk}
+use Rattle.ms_bits.specs.WordFunctions.{bits_of, word_answer}
 use Rattle.ms_ir.specs.declared.calls.External.{External}
-use Rattle.ms_runs.specs.Externals.{external as external_of, malloc, realloc}
-use Rattle.ms_runs.specs.World.{Effect}
+use Rattle.ms_runs.specs.Externals.{external as external_of, malloc, realloc, assumed, unknown_size}
+use Rattle.ms_runs.specs.World.{Effect, gives}
+use Rattle.ms_host.specs.declared.calls.Answer.TheVariants as answer
 use Rattle.ms_host.specs.Answers.{Answered, strlen_of}
 use Rattle.ms_host.proofs.Effects.{filled-by}
 use Rattle.ms_host.proofs.worlds.World.answer_external.Goals as goal
@@ -39,3 +41,26 @@ pub returns-in-Strlen-clause-answered : goal.returns-in-Strlen-clause-answered
 returns-in-Strlen-clause-answered c = λ given types beside world fill shows.
     subst (λ (e : External). Answered beside (external_of given c.args.site e types c.args.args.now world) c.strlen.result c.args.self.now) (sym c.in-Strlen.is)
     (subst (λ (x : ℕ). Answered beside (strlen_of c.args.site x world) c.strlen.result c.args.self.now) c.word-a.ensures (c.strlen.ensures beside world shows))
+
+pub returns-in-LlvmAssume-clause-answered : goal.returns-in-LlvmAssume-clause-answered
+returns-in-LlvmAssume-clause-answered c = λ given types beside world fill shows.
+    subst (λ (e : External). Answered beside (external_of given c.args.site e types c.args.args.now world) c.assumed.result c.args.self.now) (sym c.in-LlvmAssume.is)
+    (subst (λ (x : ℕ). Answered beside (assumed c.args.site x world) c.assumed.result c.args.self.now) c.word-a.ensures (c.assumed.ensures beside world c.args.self.now shows))
+
+pub returns-in-LlvmObjectSize-clause-answered : goal.returns-in-LlvmObjectSize-clause-answered
+returns-in-LlvmObjectSize-clause-answered c = λ given types beside world fill shows.
+    subst (λ (e : External). Answered beside (external_of given c.args.site e types c.args.args.now world) (answer.Resumed (Some c.unknown_size.result)) c.args.self.now) (sym c.in-LlvmObjectSize.is)
+    (c.unknown_size.ensures ∙ ap unknown_size c.word-b.ensures, shows)
+
+pub worded-requires : goal.worded-requires
+worded-requires c = subst (λ (x : ℕ). x < 2 ^ bits_of c.in-Word.width) (sym c.word-a.ensures) (c.requires.word c.in-Word.function c.in-Word.width c.in-Word.is)
+
+pub returns-in-Word-clause-answered : goal.returns-in-Word-clause-answered
+returns-in-Word-clause-answered c = λ given types beside world fill shows.
+    let args = c.args.args.now in
+    let P : ℕ → ℕ → ℕ → Type 0 = λ x y z. Answered beside (gives c.args.site (word_answer c.in-Word.function (bits_of c.in-Word.width) x y z) world) c.worded.result c.args.self.now in
+    subst (λ (e : External). Answered beside (external_of given c.args.site e types args world) c.worded.result c.args.self.now) (sym c.in-Word.is)
+    (subst (λ (x : ℕ). P x (get_or args 1 0) (get_or args 2 0)) c.word-a.ensures
+    (subst (λ (y : ℕ). P c.word-a.result y (get_or args 2 0)) c.word-b.ensures
+    (subst (λ (z : ℕ). P c.word-a.result c.word-b.result z) c.word-c.ensures
+    (c.worded.ensures beside world c.args.self.now shows))))

@@ -10,7 +10,7 @@ use Rattle.ms_host.specs.declared.calls.Asked.{Asked}
 use Rattle.ms_host.specs.declared.calls.Asked.TheVariants as asked
 use Rattle.ms_printf.specs.CallSites.{AreCallSites}
 use Rattle.ms_machine_steps.specs.Waiting.{types_due}
-use Rattle.ms_runtime.proofs.Fitting.{if_ok, if_ok_both, arguments_of, fits_asked, fits_exit, slack_of, has_room, within_room, at_call}
+use Rattle.ms_runtime.proofs.Fitting.{if_ok, if_ok_both, arguments_of, fits_asked, fits_first, slack_of, has_room, within_room, at_call}
 use Rattle.ms_runtime.proofs.runs.Running.answer_of.Goals as goal
 
 pub answer_printf-requires : goal.answer_printf-requires
@@ -19,11 +19,11 @@ answer_printf-requires c = record {
   sites = subst (λ (m : Module). AreCallSites m c.args.self.now.printf.calls) (sym c.«module».ensures) c.requires.asking.1.1.keeping.printf;
 }
 
-pub answer-requires-clause-exit : goal.answer-requires-clause-exit
-answer-requires-clause-exit c =
+pub answer-requires-clause-first : goal.answer-requires-clause-first
+answer-requires-clause-first c =
     let q = c.requires.asking in
     let a = arguments_of c.args.m.now c.is_valid.ensures.valid q.0 c.args.call.now c.args.self.now q.1.1 in
-    fits_exit c.args.call.now.asked a.0 c.args.call.now.args a.1.words
+    fits_first c.args.call.now.asked a.0 c.args.call.now.args a.1.words
 
 pub serve-requires-clause-fits : goal.serve-requires-clause-fits
 serve-requires-clause-fits c =
