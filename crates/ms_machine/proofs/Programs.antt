@@ -1,5 +1,5 @@
 -- Frames that stand for those of the definitions have the room that the module's code asks for, whatever program it is.
-use Rattle.std.proofs.Common.{◌≡◌, ℕ, List, [], ◌∷◌, sym, ap, ◌∙◌, Some}
+use Rattle.std.proofs.Common.{ℕ, List, [], ◌∷◌}
 use Rattle.ms_ir.specs.declared.syntax.Module.{Module}
 use Rattle.ms_runs.specs.declared.runs.Setup.{Setup}
 use Rattle.ms_runs.specs.Control.{Frame}
@@ -7,7 +7,6 @@ use Rattle.ms_runs.specs.Plain.{PlainState}
 use Rattle.ms_valid.specs.Formed.{Formed}
 use Rattle.ms_valid.specs.Valid.{Valid}
 use Rattle.ms_code_data.specs.declared.code.Program.{Program}
-use Rattle.ms_code_data.specs.declared.code.Routine.{Routine}
 use Rattle.ms_code_data.specs.Compiled.{Compiled}
 use Rattle.ms_host.specs.declared.calls.Asked.{Asked}
 use Rattle.ms_host.specs.State.{WorldState, Beside}
@@ -27,22 +26,17 @@ module _ (m : Module) (p : Program) (compiled : Compiled m p) where
     routed = r.1.0;
     at = s.at;
     holds = s.holds;
-    buffer = s.buffer ∙ sym r.1.1.phis;
     mark = s.mark;
   }
 
   frame_of : (k : Kept) (f : Frame ℕ) → Stands m p k f → StandsFor m k f
-  frame_of k f s = let r = compiled.routines f.func s.func s.is in record {
+  frame_of k f s = record {
     func = s.func;
     is = s.is;
     at = s.at;
     holds = s.holds;
-    buffer = s.buffer ∙ ap (λ (x : Routine). x.phis) (same s.routine r.0 (sym s.routed ∙ r.1.0)) ∙ r.1.1.phis;
     mark = s.mark;
   }
-    where
-      same : (a b : Routine) → Some a ≡ Some b → a ≡ b
-      same a b e = cc
 
   pub frames_to : (ks : List Kept) (fs : List (Frame ℕ)) → AllStandFor m ks fs → FramesStand m p ks fs
   frames_to [] [] s = tt

@@ -1,5 +1,5 @@
 -- Fibers and worlds that stand for a state of the plain run of a module (own).
-use Rattle.std.specs.Prelude.{◌≡◌, ℕ, List, [], ◌∷◌, length, Some}
+use Rattle.std.specs.Prelude.{◌≡◌, ℕ, List, [], ◌∷◌, Some}
 use Rattle.ms_ir.specs.declared.syntax.Func.{Func}
 use Rattle.ms_ir.specs.declared.syntax.Module.{Module}
 use Rattle.ms_ir.specs.Code.{func_at}
@@ -11,7 +11,6 @@ use Rattle.ms_runs_good.specs.GoodWorlds.{GivesBytes}
 use Rattle.ms_runs_good.specs.GoodRuns.{SoundPlain}
 use Rattle.ms_code_data.specs.Reads.{Holds}
 use Rattle.ms_code_data.specs.Encodes.{number_of}
-use Rattle.ms_code_data.specs.Compiled.{most_phis}
 use Rattle.ms_host.specs.State.{WorldState, Beside}
 use Rattle.ms_host.specs.Shows.{Shows}
 use Rattle.ms_host.specs.SlotBytes.{ShowsSlots}
@@ -27,7 +26,6 @@ pub record StandsFor (m : Module) (kept : Kept) (frame : Frame ℕ) : Type 0 whe
   pub is : func_at m frame.func ≡ Some func
   pub at : kept.at ≡ number_of m frame.func frame.block frame.place
   pub holds : Holds (locals func) kept.values.items frame.values
-  pub buffer : length kept.buffer.items ≡ most_phis func.blocks
   pub mark : kept.mark ≡ frame.mark
 
 -- kept frames stand for frames of the definitions, innermost first
