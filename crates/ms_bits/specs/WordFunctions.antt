@@ -1,7 +1,7 @@
 -- Functions of whole words, and the masks of what they give (LLVM Language Reference, "Bit Manipulation Intrinsics",
 -- "Standard C/C++ Library Intrinsics", "Saturation Arithmetic Intrinsics", "'llvm.expect' Intrinsic"; own: a broken flag
 -- traps, and the masks in this form). v, u and t are the numbers of words of w bits, and m, k and n their masks.
-use Rattle.std.specs.Prelude.{◌≡◌, ℕ, ◌+◌, ◌-◌, ◌*◌, ◌/◌, ◌%◌, ◌^◌, max, min, Bool, true, false, ◌&&◌, cond, eqb, leb, ltb, bit_and, bit_or, bit_xor, if◌then◌else◌, Result, Ok, Err, count_ones, ℤ, pos, negsuc, ◌+ℤ◌, ◌-ℤ◌}
+use Rattle.std.specs.Prelude.{◌≡◌, ℕ, ◌+◌, ◌-◌, ◌*◌, ◌/◌, ◌%◌, ◌^◌, max, min, Bool, true, false, ◌&&◌, cond, eqb, leb, ltb, bit_and, bit_or, bit_xor, if◌then◌else◌, Option, Some, None, Result, Ok, Err, count_ones, ℤ, pos, negsuc, ◌+ℤ◌, ◌-ℤ◌}
 use lib.Count.{count_leading_zeros, count_trailing_zeros}
 use Rattle.std.specs.Int.{bit_at}
 use Rattle.ms_bits.specs.declared.traps.Trap.{Trap}
@@ -10,6 +10,8 @@ use Rattle.ms_bits.specs.declared.word_functions.WordFn.{WordFn}
 use Rattle.ms_bits.specs.declared.word_functions.WordFn.TheVariants.{Ctpop, Ctlz, Cttz, Bswap, Bitreverse, Abs, Smax, Smin, Umax, Umin, Fshl, Fshr, UaddSat, UsubSat, SaddSat, SsubSat, Expect}
 use Rattle.ms_bits.specs.declared.word_functions.WordWidth.{WordWidth}
 use Rattle.ms_bits.specs.declared.word_functions.WordWidth.TheVariants.{I8, I16, I32, I64}
+use Rattle.ms_bits.specs.declared.word_functions.BitMove.{BitMove}
+use Rattle.ms_bits.specs.declared.word_functions.BitMove.TheVariants.{Bswap16, Bswap32, Bswap64, Bitreverse8, Bitreverse16, Bitreverse32, Bitreverse64, Fshl8, Fshl16, Fshl32, Fshl64, Fshr8, Fshr16, Fshr32, Fshr64}
 use Rattle.ms_bits.specs.Signed.{signed}
 use Rattle.ms_bits.specs.Fill.{number_of_bits}
 use Rattle.ms_bits.specs.Formulas.{greatest, least, turned_sign, carry_mask}
@@ -133,20 +135,20 @@ word_answer SaddSat w a b c = Ok (saturated w (signed w a +ℤ signed w b))
 word_answer SsubSat w a b c = Ok (saturated w (signed w a -ℤ signed w b))
 word_answer Expect w a b c = Ok a
 
--- the mask of the answer
+-- the mask of the answer: where bits change their places alone, the same function of the masks, so far as the amount is known
 abbrev pub word_mask : WordFn → (w v m u k t n : ℕ) → ℕ
 word_mask Ctpop w v m u k t n = ctpop_mask w m
 word_mask Ctlz w v m u k t n = ctlz_mask w v m
 word_mask Cttz w v m u k t n = cttz_mask w v m
-word_mask Bswap w v m u k t n = whole_mask w m
-word_mask Bitreverse w v m u k t n = whole_mask w m
+word_mask Bswap w v m u k t n = bswap_of w m
+word_mask Bitreverse w v m u k t n = bitreverse_of w m
 word_mask Abs w v m u k t n = abs_mask w v m
 word_mask Smax w v m u k t n = greater_mask (turned_sign w v) m (turned_sign w u) k
 word_mask Smin w v m u k t n = smaller_mask (turned_sign w v) m (turned_sign w u) k
 word_mask Umax w v m u k t n = greater_mask v m u k
 word_mask Umin w v m u k t n = smaller_mask v m u k
-word_mask Fshl w v m u k t n = whole_mask w (bit_or (bit_or m k) n)
-word_mask Fshr w v m u k t n = whole_mask w (bit_or (bit_or m k) n)
+word_mask Fshl w v m u k t n = if eqb n 0 then fshl_of w m k t else (2 ^ w - 1)
+word_mask Fshr w v m u k t n = if eqb n 0 then fshr_of w m k t else (2 ^ w - 1)
 word_mask UaddSat w v m u k t n = whole_mask w (bit_or m k)
 word_mask UsubSat w v m u k t n = whole_mask w (bit_or m k)
 word_mask SaddSat w v m u k t n = whole_mask w (bit_or m k)
@@ -164,3 +166,72 @@ is_flagged f = false
 abbrev pub HasForm : WordFn → ℕ → Type 0
 HasForm Bswap w = w % 8 ≡ 0
 HasForm f w = Unit {0}
+
+-- ---- functions that move bits alone
+
+-- which function of whole words each of them is
+abbrev pub move_fn : BitMove → WordFn
+move_fn Bswap16 = Bswap
+move_fn Bswap32 = Bswap
+move_fn Bswap64 = Bswap
+move_fn Bitreverse8 = Bitreverse
+move_fn Bitreverse16 = Bitreverse
+move_fn Bitreverse32 = Bitreverse
+move_fn Bitreverse64 = Bitreverse
+move_fn Fshl8 = Fshl
+move_fn Fshl16 = Fshl
+move_fn Fshl32 = Fshl
+move_fn Fshl64 = Fshl
+move_fn Fshr8 = Fshr
+move_fn Fshr16 = Fshr
+move_fn Fshr32 = Fshr
+move_fn Fshr64 = Fshr
+
+-- and at which width
+abbrev pub move_width : BitMove → WordWidth
+move_width Bswap16 = I16
+move_width Bswap32 = I32
+move_width Bswap64 = I64
+move_width Bitreverse8 = I8
+move_width Bitreverse16 = I16
+move_width Bitreverse32 = I32
+move_width Bitreverse64 = I64
+move_width Fshl8 = I8
+move_width Fshl16 = I16
+move_width Fshl32 = I32
+move_width Fshl64 = I64
+move_width Fshr8 = I8
+move_width Fshr16 = I16
+move_width Fshr32 = I32
+move_width Fshr64 = I64
+
+-- which of them a function is at a width, if it is one
+abbrev pub move_of : WordFn → WordWidth → Option BitMove
+move_of Bswap I16 = Some Bswap16
+move_of Bswap I32 = Some Bswap32
+move_of Bswap I64 = Some Bswap64
+move_of Bitreverse I8 = Some Bitreverse8
+move_of Bitreverse I16 = Some Bitreverse16
+move_of Bitreverse I32 = Some Bitreverse32
+move_of Bitreverse I64 = Some Bitreverse64
+move_of Fshl I8 = Some Fshl8
+move_of Fshl I16 = Some Fshl16
+move_of Fshl I32 = Some Fshl32
+move_of Fshl I64 = Some Fshl64
+move_of Fshr I8 = Some Fshr8
+move_of Fshr I16 = Some Fshr16
+move_of Fshr I32 = Some Fshr32
+move_of Fshr I64 = Some Fshr64
+move_of f n = None
+
+-- what a function that moves bits alone gives; the others have no part in this
+abbrev pub moved_by : WordFn → (w a b c : ℕ) → ℕ
+moved_by Bswap w a b c = bswap_of w a
+moved_by Bitreverse w a b c = bitreverse_of w a
+moved_by Fshl w a b c = fshl_of w a b c
+moved_by Fshr w a b c = fshr_of w a b c
+moved_by f w a b c = 0
+
+-- what each of them gives, which is never a trap
+abbrev pub moved : BitMove → (a b c : ℕ) → ℕ
+moved k a b c = moved_by (move_fn k) (bits_of (move_width k)) a b c

@@ -32,6 +32,6 @@ pub use small_bytes::SmallBytes;
 pub use texts::Text;
 pub use traps::Trap;
 pub use undefined::undef_word;
-pub use word_answers::answer_word;
-pub use word_functions::{WordFn, WordWidth};
+pub use word_answers::{answer_word, move_bits};
+pub use word_functions::{BitMove, WordFn, WordWidth};
 pub use words::Word;

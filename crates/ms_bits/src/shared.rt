@@ -6,7 +6,7 @@ use crate::operations::{BinOp, CastOp, Flags, Pred};
 use crate::small_bytes::SmallBytes;
 use crate::texts::Text;
 use crate::traps::Trap;
-use crate::word_functions::{WordFn, WordWidth};
+use crate::word_functions::{BitMove, WordFn, WordWidth};
 use crate::words::Word;
 
 /// A call of it stands only where `T` may cross threads.
@@ -34,5 +34,6 @@ pub fn all_shared() {
     is_shared::<Trap>();
     is_shared::<WordFn>();
     is_shared::<WordWidth>();
+    is_shared::<BitMove>();
     is_shared::<Word>();
 }

@@ -4,10 +4,10 @@ ghost use Rattle.std.specs.Prelude.{◌≡◌, ◌≤◌, ◌<◌, ◌+◌, ◌-
 ghost use lib.Count.{count_leading_zeros, count_trailing_zeros};
 ghost use Rattle.ms_bits.specs.Formulas.{turned_sign};
 ghost use Rattle.ms_bits.specs.Signed.{signed};
-ghost use Rattle.ms_bits.specs.WordFunctions.{bits_of, bswap_of, bitreverse_of, window as window_of, fshl_of, fshr_of, smax_of, smin_of, abs_of, saturated as saturated_of, word_answer};
+ghost use Rattle.ms_bits.specs.WordFunctions.{bits_of, bswap_of, bitreverse_of, window as window_of, fshl_of, fshr_of, smax_of, smin_of, abs_of, saturated as saturated_of, word_answer, moved, moved_by as moved_by_of};
 
 use crate::traps::Trap;
-use crate::word_functions::{WordFn, WordWidth};
+use crate::word_functions::{BitMove, WordFn, WordWidth};
 use crate::words::limit;
 
 /// The zeros above the highest bit that is 1.
@@ -259,4 +259,26 @@ pub fn answer_word(function: WordFn, width: WordWidth, a: u64, b: u64, c: u64) -
         WordFn::SsubSat => Ok(saturated(bits, signed_number(bits, a) - signed_number(bits, b))),
         WordFn::Expect => Ok(a),
     }
+}
+
+/// What a function that moves bits gives of words of so many bits.
+fn moved_by(function: WordFn, width: u8, a: u64, b: u64, c: u64) -> u64
+    requires some { 8 ≤ width }
+    requires few { width ≤ 64 }
+    ensures { result ≡ moved_by_of function width a b c }
+{
+    match function {
+        WordFn::Bswap => bswap(width, a),
+        WordFn::Bitreverse => bitreverse(width, a),
+        WordFn::Fshl => fshl(width, a, b, c),
+        WordFn::Fshr => fshr(width, a, b, c),
+        _ => 0,
+    }
+}
+
+/// What a function that moves bits gives of three operands, of which it takes as many as it needs. Takes no memory.
+pub fn move_bits(kind: BitMove, a: u64, b: u64, c: u64) -> u64
+    ensures { result ≡ moved kind a b c }
+{
+    moved_by(kind.function(), kind.width().bits(), a, b, c)
 }

@@ -2,8 +2,9 @@
 use Rattle.std.proofs.Common.{◌↔◌, ◌≡◌, ℕ, ◌+◌, ◌-◌, ◌*◌, ◌/◌, ◌%◌, ◌^◌, ◌<◌, ◌≤◌, ◌≢◌, max, sym, ◌∙◌, arith, ⊎_elim}
 use Rattle.std.specs.Int.{bit_at}
 use Rattle.std.proofs.lemmas.Bool.{cases_eq, cases_lt}
-use Rattle.std.proofs.lemmas.Nat.{mod_below}
-use Rattle.std.proofs.lemmas.Nat.Bits.{bit_at-lt, bit_at_cat_low, bit_at_cat_high}
+use Rattle.std.proofs.Math.Pow.{ones_lt}
+use Rattle.std.proofs.lemmas.Nat.{mod_below, pow_pos}
+use Rattle.std.proofs.lemmas.Nat.Bits.{bit_at-lt, bit_at_cat_low, bit_at_cat_high, bit_at_ones, same_from_bits_below}
 use Rattle.ms_bits.specs.Fill.{number_of_bits}
 use Rattle.ms_bits.specs.Completion.{Completes, Differs, IsMaskOf}
 use Rattle.ms_bits.specs.Formulas.{least, greatest}
@@ -83,6 +84,10 @@ bitreverse_exact w v m u k pv pm pu = moved_exact w (λ i. w - 1 - i) (λ i l. o
 
 -- ---- windows
 
+pub window_lt : (w k a b : ℕ) → window w k a b < 2 ^ w
+unfolding window
+window_lt w k a b = mod_below _ (2 ^ w) (pow_pos w)
+
 window_bit : (w k a b i : ℕ) → i < w → bit_at (window w k a b) i ≡ bit_at (a * 2 ^ w + b) (k + i)
 unfolding window
 window_bit w k a b i l = bit_at_mod ((a * 2 ^ w + b) / 2 ^ k) w i l ∙ lshr_bit (a * 2 ^ w + b) k i
@@ -131,3 +136,23 @@ pub fshr_exact : (w v m u k amount : ℕ) → 1 ≤ w → v < 2 ^ w → m < 2 ^ 
     → IsMaskOf (λ a b. fshr_of w a b amount) w v m u k w (fshr_of w m k amount)
 unfolding fshr_of
 fshr_exact w v m u k amount some pv pm pu pk = window_exact w (amount % w) v m u k (omega (arith, mod_below amount w some)) pv pm pu pk
+
+-- ---- words with all bits set
+
+ones_window : (w k : ℕ) → k ≤ w → window w k (2 ^ w - 1) (2 ^ w - 1) ≡ 2 ^ w - 1
+ones_window w k le = same_from_bits_below w _ _ (window_lt w k (2 ^ w - 1) (2 ^ w - 1)) (ones_lt w) (λ i l. ⊎_elim (low i l) (high i l) (cases_lt (k + i) w))
+  where
+    low : (i : ℕ) → i < w → k + i < w → bit_at (window w k (2 ^ w - 1) (2 ^ w - 1)) i ≡ bit_at (2 ^ w - 1) i
+    low i l lt = window_bit w k (2 ^ w - 1) (2 ^ w - 1) i l ∙ bit_at_cat_low (2 ^ w - 1) w (2 ^ w - 1) (k + i) lt ∙ bit_at_ones w (k + i) lt ∙ sym (bit_at_ones w i l)
+
+    high : (i : ℕ) → i < w → w ≤ k + i → bit_at (window w k (2 ^ w - 1) (2 ^ w - 1)) i ≡ bit_at (2 ^ w - 1) i
+    high i l ge =
+        window_bit w k (2 ^ w - 1) (2 ^ w - 1) i l ∙ bit_at_cat_high (2 ^ w - 1) w (2 ^ w - 1) (k + i) (ones_lt w) ge ∙ bit_at_ones w (k + i - w) (omega arith) ∙ sym (bit_at_ones w i l)
+
+pub fshl_ones : (w amount : ℕ) → fshl_of w (2 ^ w - 1) (2 ^ w - 1) amount ≡ 2 ^ w - 1
+unfolding fshl_of
+fshl_ones w amount = ones_window w (w - amount % w) (omega arith)
+
+pub fshr_ones : (w amount : ℕ) → 1 ≤ w → fshr_of w (2 ^ w - 1) (2 ^ w - 1) amount ≡ 2 ^ w - 1
+unfolding fshr_of
+fshr_ones w amount some = ones_window w (amount % w) (omega (arith, mod_below amount w some))

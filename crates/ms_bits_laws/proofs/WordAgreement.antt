@@ -4,14 +4,18 @@ use Rattle.std.proofs.Math.Pow.{pow_mono}
 use lib.Count.{count_leading_zeros, count_trailing_zeros}
 use Rattle.std.specs.Int.{bit_at}
 use Rattle.std.proofs.lemmas.Bool.{cases_Bool, eqb-true, leb-true}
-use Rattle.std.proofs.lemmas.Nat.{pow_pos, mod_below, xor_lt, pow_below, le_or_l, le_or_r, ones-le, leading_le, trailing_le}
+use Rattle.std.proofs.lemmas.Nat.{pow_pos, xor_lt, pow_below, le_or_l, le_or_r, ones-le, leading_le, trailing_le}
 use Rattle.std.proofs.lemmas.Nat.Bits.{bit_at-lt, bit_at_xor, bit_at_ones}
 use Rattle.ms_bits.specs.declared.traps.Trap.{Trap}
 use Rattle.ms_bits.specs.declared.word_functions.WordWidth.{WordWidth}
 use Rattle.ms_bits.specs.declared.word_functions.WordWidth.TheVariants.{I8, I16, I32, I64}
+use Rattle.ms_bits.specs.declared.word_functions.BitMove.{BitMove}
+use Rattle.ms_bits.specs.declared.word_functions.BitMove.TheVariants.{Bswap16, Bswap32, Bswap64, Bitreverse8, Bitreverse16, Bitreverse32, Bitreverse64, Fshl8, Fshl16, Fshl32, Fshl64, Fshr8, Fshr16, Fshr32, Fshr64}
 use Rattle.ms_bits.specs.Signed.{signed}
 use Rattle.ms_bits.specs.Completion.{InRange, Agrees, Completes}
 use Rattle.ms_bits.specs.Formulas.{turned_sign}
+use Rattle.ms_bits_laws.proofs.Agreement.{agrees_from_exact}
+use Rattle.ms_bits_laws.proofs.MovedBits.{bswap_exact, bitreverse_exact, window_lt, fshl_exact, fshr_exact}
 use Rattle.ms_bits_laws.proofs.GreaterAndSmaller.{greater_agrees, smaller_agrees}
 use Rattle.ms_bits_laws.proofs.Counts.{within_places, defined_same, ctpop_agrees, ctlz_agrees, cttz_agrees}
 use Rattle.ms_bits_laws.proofs.AbsoluteValues.{abs_agrees_at, abs_same}
@@ -19,7 +23,7 @@ use Rattle.ms_bits_laws.proofs.MaskFunctions.{number_fits}
 use Rattle.ms_bits_laws.proofs.WordMaskRanges.{places_le, counts_lt, abs_lt, greater_lt, smaller_lt, greater_same, smaller_same, ctlz_same, cttz_same}
 use Rattle.ms_bits.specs.declared.word_functions.WordFn.{WordFn}
 use Rattle.ms_bits.specs.declared.word_functions.WordFn.TheVariants.{Ctpop, Ctlz, Cttz, Bswap, Bitreverse, Abs, Smax, Smin, Umax, Umin, Fshl, Fshr, UaddSat, UsubSat, SaddSat, SsubSat, Expect}
-use Rattle.ms_bits.specs.WordFunctions.{window, bswap_of, bitreverse_of, fshl_of, fshr_of, smax_of, smin_of, abs_of, HasForm, places, saturated, bits_of, word_answer, word_mask, whole_mask}
+use Rattle.ms_bits.specs.WordFunctions.{bswap_of, bitreverse_of, fshl_of, fshr_of, smax_of, smin_of, abs_of, HasForm, places, saturated, bits_of, word_answer, word_mask, whole_mask, move_fn, move_width, moved_by, moved}
 
 -- the word of an answer
 abbrev value_of : Result ℕ Trap → ℕ
@@ -87,6 +91,10 @@ turned_agrees : (w m r s : ℕ) → Agrees w m r s → Agrees w m (turned_sign w
 unfolding turned_sign
 turned_agrees w m r s h i l z = bit_at_xor r (2 ^ (w - 1)) i ∙ ap (λ x. (x + bit_at (2 ^ (w - 1)) i) % 2) (h i l z) ∙ sym (bit_at_xor s (2 ^ (w - 1)) i)
 
+-- where no bit of an amount is poisoned, its completion is its number
+known_amount : (w t n c : ℕ) → n ≡ 0 → t < 2 ^ w → Completes w t n c → c ≡ t
+known_amount w t n c z fits h = defined_same w t n c t z h (record { fits = fits; agrees = λ i l y. refl })
+
 module _ (w : ℕ) (v m u k t n : ℕ) (some : 1 ≤ w) (le : w ≤ 64)
     (ip : InRange w v m) (iq : InRange w u k) (ir : InRange w t n)
     (a b c d e g : ℕ) (ha : Completes w v m a) (hb : Completes w u k b) (hc : Completes w t n c)
@@ -98,26 +106,28 @@ module _ (w : ℕ) (v m u k t n : ℕ) (some : 1 ≤ w) (le : w ≤ 64)
       (λ (no : eqb mask 0 ≡ false). rw no (all_ones w _ _))
       (cases_Bool (eqb mask 0))
 
-  one_agrees : (f : ℕ → ℕ) → Agrees w (whole_mask w m) (f a) (f d)
-  one_agrees f = all_agree m (f a) (f d) (λ z. ap f (defined_same w v m a d z ha hd))
-
   two_agree : (f : ℕ → ℕ → ℕ) → Agrees w (whole_mask w (bit_or m k)) (f a b) (f d e)
   two_agree f = all_agree (bit_or m k) (f a b) (f d e) (λ z.
       ap₂ f (defined_same w v m a d (omega (arith, z, le_or_l m k)) ha hd) (defined_same w u k b e (omega (arith, z, le_or_r m k)) hb he))
 
-  three_agree : (f : ℕ → ℕ → ℕ → ℕ) → Agrees w (whole_mask w (bit_or (bit_or m k) n)) (f a b c) (f d e g)
-  three_agree f = all_agree (bit_or (bit_or m k) n) (f a b c) (f d e g) (λ z.
-      let both : bit_or m k ≡ 0 = omega (arith, z, le_or_l (bit_or m k) n) in
-      ap₂ (λ x y. f x y c) (defined_same w v m a d (omega (arith, both, le_or_l m k)) ha hd) (defined_same w u k b e (omega (arith, both, le_or_r m k)) hb he)
-      ∙ ap (f d e) (defined_same w t n c g (omega (arith, z, le_or_r (bit_or m k) n)) hc hg))
+  -- an amount that is known, or every bit
+  by_amount : (f : ℕ → ℕ → ℕ → ℕ) → ((j : ℕ) → Agrees w (f m k j) (f a b j) (f d e j)) → Agrees w (if eqb n 0 then f m k t else (2 ^ w - 1)) (f a b c) (f d e g)
+  by_amount f h = ⊎_elim
+      (λ (yes : eqb n 0 ≡ true).
+      let z : n ≡ 0 = eqb-true n 0 yes in
+      let ec : c ≡ t = known_amount w t n c z ir.value hc in
+      let eg : g ≡ t = known_amount w t n g z ir.value hg in
+      rw (yes, ec, eg) (h t))
+      (λ (no : eqb n 0 ≡ false). rw no (all_ones w _ _))
+      (cases_Bool (eqb n 0))
 
   plain_agrees : (f : WordFn) → HasForm f w → Agrees w (word_mask f w v m u k t n) (plain_word f w a b c) (plain_word f w d e g)
   unfolding smax_of smin_of
   plain_agrees Ctpop h = ctpop_agrees w v m a d le ha hd
   plain_agrees Ctlz h = ctlz_agrees w v m a d le ip.value ip.mask ha hd
   plain_agrees Cttz h = cttz_agrees w v m a d le ip.value ip.mask ha hd
-  plain_agrees Bswap h = one_agrees (bswap_of w)
-  plain_agrees Bitreverse h = one_agrees (bitreverse_of w)
+  plain_agrees Bswap h = agrees_from_exact (λ a b. bswap_of w a) w v m u k w _ (bswap_exact w v m u k h ip.value ip.mask iq.value) a b d e ha hb hd he
+  plain_agrees Bitreverse h = agrees_from_exact (λ a b. bitreverse_of w a) w v m u k w _ (bitreverse_exact w v m u k ip.value ip.mask iq.value) a b d e ha hb hd he
   plain_agrees Abs h = abs_agrees_at w v m a d some ip.value ip.mask ha hd
   plain_agrees Smax h = turned_agrees w _ _ _ (greater_agrees w (turned_sign w v) m (turned_sign w u) k
       (turned_lt w v some ip.value) ip.mask (turned_lt w u some iq.value) iq.mask (turned_sign w a) (turned_sign w b) (turned_sign w d) (turned_sign w e)
@@ -127,8 +137,8 @@ module _ (w : ℕ) (v m u k t n : ℕ) (some : 1 ≤ w) (le : w ≤ 64)
       (turned_completes w _ _ a some ha) (turned_completes w _ _ b some hb) (turned_completes w _ _ d some hd) (turned_completes w _ _ e some he))
   plain_agrees Umax h = greater_agrees w v m u k ip.value ip.mask iq.value iq.mask a b d e ha hb hd he
   plain_agrees Umin h = smaller_agrees w v m u k ip.value ip.mask iq.value iq.mask a b d e ha hb hd he
-  plain_agrees Fshl h = three_agree (fshl_of w)
-  plain_agrees Fshr h = three_agree (fshr_of w)
+  plain_agrees Fshl h = by_amount (fshl_of w) (λ j. agrees_from_exact (λ a b. fshl_of w a b j) w v m u k w _ (fshl_exact w v m u k j ip.value ip.mask iq.value iq.mask) a b d e ha hb hd he)
+  plain_agrees Fshr h = by_amount (fshr_of w) (λ j. agrees_from_exact (λ a b. fshr_of w a b j) w v m u k w _ (fshr_exact w v m u k j some ip.value ip.mask iq.value iq.mask) a b d e ha hb hd he)
   plain_agrees UaddSat h = two_agree (λ a b. min (a + b) (2 ^ w - 1))
   plain_agrees UsubSat h = two_agree (λ a b. a - b)
   plain_agrees SaddSat h = two_agree (λ a b. saturated w (signed w a +ℤ signed w b))
@@ -144,6 +154,12 @@ pub word_same : (w : ℕ) (v m u k t n : ℕ) → 1 ≤ w → InRange w v m → 
     → (f : WordFn) → word_mask f w a m b k c n ≡ word_mask f w v m u k t n
 word_same w v m u k t n some ip iq ir a b c ha hb hc f = at f
   where
+    by_known : (g : ℕ → ℕ) → (if eqb n 0 then g c else (2 ^ w - 1)) ≡ (if eqb n 0 then g t else (2 ^ w - 1))
+    by_known g = ⊎_elim
+        (λ (yes : eqb n 0 ≡ true). let ec : c ≡ t = known_amount w t n c (eqb-true n 0 yes) ir.value hc in rw ec refl)
+        (λ (no : eqb n 0 ≡ false). rw no refl)
+        (cases_Bool (eqb n 0))
+
     at : (f : WordFn) → word_mask f w a m b k c n ≡ word_mask f w v m u k t n
     at Ctpop = refl
     at Ctlz = ctlz_same w v m a ip.value ip.mask ha
@@ -157,41 +173,53 @@ word_same w v m u k t n some ip iq ir a b c ha hb hc f = at f
         (turned_sign w a) (turned_sign w b) (turned_completes w _ _ a some ha) (turned_completes w _ _ b some hb)
     at Umax = greater_same w v m u k ip.value ip.mask iq.value iq.mask a b ha hb
     at Umin = smaller_same w v m u k ip.value ip.mask iq.value iq.mask a b ha hb
-    at Fshl = refl
-    at Fshr = refl
+    at Fshl = by_known (fshl_of w m k)
+    at Fshr = by_known (fshr_of w m k)
     at UaddSat = refl
     at UsubSat = refl
     at SaddSat = refl
     at SsubSat = refl
     at Expect = refl
 
-window_lt : (w k a b : ℕ) → window w k a b < 2 ^ w
-unfolding window
-window_lt w k a b = mod_below _ (2 ^ w) (pow_pos w)
-
 ones_less : (w : ℕ) → 2 ^ w - 1 < 2 ^ w
 ones_less w = omega (arith, pow_pos w)
 
+chosen_lt : (t : Bool) (n x y : ℕ) → x < n → y < n → (if t then x else y) < n
+chosen_lt true n x y p q = p
+chosen_lt false n x y p q = q
+
+bswap_lt : (w a : ℕ) → bswap_of w a < 2 ^ w
+unfolding bswap_of
+bswap_lt w a = number_fits (λ i. bit_at a (w - 8 - i / 8 * 8 + i % 8)) (λ i. bit_at-lt a (w - 8 - i / 8 * 8 + i % 8)) w
+
+bitreverse_lt : (w a : ℕ) → bitreverse_of w a < 2 ^ w
+unfolding bitreverse_of
+bitreverse_lt w a = number_fits (λ i. bit_at a (w - 1 - i)) (λ i. bit_at-lt a (w - 1 - i)) w
+
+fshl_lt : (w a b c : ℕ) → fshl_of w a b c < 2 ^ w
+unfolding fshl_of
+fshl_lt w a b c = window_lt w (w - c % w) a b
+
+fshr_lt : (w a b c : ℕ) → fshr_of w a b c < 2 ^ w
+unfolding fshr_of
+fshr_lt w a b c = window_lt w (c % w) a b
+
 whole_lt : (w m : ℕ) → whole_mask w m < 2 ^ w
-whole_lt w m = by_test (eqb m 0)
-  where
-    by_test : (t : Bool) → (if t then 0 else (2 ^ w - 1)) < 2 ^ w
-    by_test true = pow_pos w
-    by_test false = ones_less w
+whole_lt w m = chosen_lt (eqb m 0) (2 ^ w) 0 (2 ^ w - 1) (pow_pos w) (ones_less w)
 
 pub word_fits : (f : WordFn) (w : ℕ) (v m u k t n : ℕ) → 1 ≤ w → InRange w v m → InRange w u k → word_mask f w v m u k t n < 2 ^ w
 word_fits Ctpop w v m u k t n some ip iq = (counts_lt w v m some).0
 word_fits Ctlz w v m u k t n some ip iq = (counts_lt w v m some).1
 word_fits Cttz w v m u k t n some ip iq = (counts_lt w v m some).2
-word_fits Bswap w v m u k t n some ip iq = whole_lt w m
-word_fits Bitreverse w v m u k t n some ip iq = whole_lt w m
+word_fits Bswap w v m u k t n some ip iq = bswap_lt w m
+word_fits Bitreverse w v m u k t n some ip iq = bitreverse_lt w m
 word_fits Abs w v m u k t n some ip iq = abs_lt w v m ip.value ip.mask
 word_fits Smax w v m u k t n some ip iq = greater_lt w (turned_sign w v) m (turned_sign w u) k (turned_lt w v some ip.value) ip.mask (turned_lt w u some iq.value) iq.mask
 word_fits Smin w v m u k t n some ip iq = smaller_lt w (turned_sign w v) m (turned_sign w u) k (turned_lt w v some ip.value) ip.mask (turned_lt w u some iq.value) iq.mask
 word_fits Umax w v m u k t n some ip iq = greater_lt w v m u k ip.value ip.mask iq.value iq.mask
 word_fits Umin w v m u k t n some ip iq = smaller_lt w v m u k ip.value ip.mask iq.value iq.mask
-word_fits Fshl w v m u k t n some ip iq = whole_lt w (bit_or (bit_or m k) n)
-word_fits Fshr w v m u k t n some ip iq = whole_lt w (bit_or (bit_or m k) n)
+word_fits Fshl w v m u k t n some ip iq = chosen_lt (eqb n 0) (2 ^ w) (fshl_of w m k t) (2 ^ w - 1) (fshl_lt w m k t) (ones_less w)
+word_fits Fshr w v m u k t n some ip iq = chosen_lt (eqb n 0) (2 ^ w) (fshr_of w m k t) (2 ^ w - 1) (fshr_lt w m k t) (ones_less w)
 word_fits UaddSat w v m u k t n some ip iq = whole_lt w (bit_or m k)
 word_fits UsubSat w v m u k t n some ip iq = whole_lt w (bit_or m k)
 word_fits SaddSat w v m u k t n some ip iq = whole_lt w (bit_or m k)
@@ -230,19 +258,19 @@ second_fits Umin w b l = l
 second_fits f w b l = tt
 
 plain_lt : (f : WordFn) (w a b c : ℕ) → 1 ≤ w → w ≤ 64 → a < 2 ^ w → SecondFits f w b → plain_word f w a b c < 2 ^ w
-unfolding bswap_of bitreverse_of fshl_of fshr_of smax_of smin_of
+unfolding smax_of smin_of
 plain_lt Ctpop w a b c some few p q = counted w _ some few (ones-le w a p)
 plain_lt Ctlz w a b c some few p q = counted w _ some few (leading_le w a)
 plain_lt Cttz w a b c some few p q = counted w _ some few (trailing_le w a)
-plain_lt Bswap w a b c some few p q = number_fits (λ i. bit_at a (w - 8 - i / 8 * 8 + i % 8)) (λ i. bit_at-lt a (w - 8 - i / 8 * 8 + i % 8)) w
-plain_lt Bitreverse w a b c some few p q = number_fits (λ i. bit_at a (w - 1 - i)) (λ i. bit_at-lt a (w - 1 - i)) w
+plain_lt Bswap w a b c some few p q = bswap_lt w a
+plain_lt Bitreverse w a b c some few p q = bitreverse_lt w a
 plain_lt Abs w a b c some few p q = abs_of-lt w a p
 plain_lt Smax w a b c some few p q = turned_lt w _ some (omega (arith, turned_lt w a some p, turned_lt w b some q))
 plain_lt Smin w a b c some few p q = turned_lt w _ some (omega (arith, turned_lt w a some p, turned_lt w b some q))
 plain_lt Umax w a b c some few p q = omega arith
 plain_lt Umin w a b c some few p q = omega arith
-plain_lt Fshl w a b c some few p q = window_lt w (w - c % w) a b
-plain_lt Fshr w a b c some few p q = window_lt w (c % w) a b
+plain_lt Fshl w a b c some few p q = fshl_lt w a b c
+plain_lt Fshr w a b c some few p q = fshr_lt w a b c
 plain_lt UaddSat w a b c some few p q = omega (arith, pow_pos w)
 plain_lt UsubSat w a b c some few p q = omega arith
 plain_lt SaddSat w a b c some few p q = saturated_lt w (signed w a +ℤ signed w b)
@@ -273,3 +301,34 @@ width_form Bswap I16 = refl
 width_form Bswap I32 = refl
 width_form Bswap I64 = refl
 width_form f n = tt
+
+-- ---- functions that move bits alone
+
+-- none traps
+pub move_answers : (k : BitMove) (a b c : ℕ) → word_answer (move_fn k) (bits_of (move_width k)) a b c ≡ Ok (moved k a b c)
+move_answers Bswap16 a b c = refl
+move_answers Bswap32 a b c = refl
+move_answers Bswap64 a b c = refl
+move_answers Bitreverse8 a b c = refl
+move_answers Bitreverse16 a b c = refl
+move_answers Bitreverse32 a b c = refl
+move_answers Bitreverse64 a b c = refl
+move_answers Fshl8 a b c = refl
+move_answers Fshl16 a b c = refl
+move_answers Fshl32 a b c = refl
+move_answers Fshl64 a b c = refl
+move_answers Fshr8 a b c = refl
+move_answers Fshr16 a b c = refl
+move_answers Fshr32 a b c = refl
+move_answers Fshr64 a b c = refl
+
+-- and what each gives fits its width
+moved_by-lt : (f : WordFn) (w a b c : ℕ) → moved_by f w a b c < 2 ^ w
+moved_by-lt Bswap w a b c = bswap_lt w a
+moved_by-lt Bitreverse w a b c = bitreverse_lt w a
+moved_by-lt Fshl w a b c = fshl_lt w a b c
+moved_by-lt Fshr w a b c = fshr_lt w a b c
+moved_by-lt f w a b c = pow_pos w
+
+pub moved_lt : (k : BitMove) (a b c : ℕ) → moved k a b c < 2 ^ bits_of (move_width k)
+moved_lt k a b c = moved_by-lt (move_fn k) (bits_of (move_width k)) a b c

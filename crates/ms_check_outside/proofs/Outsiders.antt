@@ -14,7 +14,7 @@ use Rattle.ms_ir.specs.declared.syntax.Block.{Block}
 use Rattle.ms_ir.specs.declared.syntax.Func.{Func}
 use Rattle.ms_ir.specs.declared.syntax.Module.{Module}
 use Rattle.ms_ir.specs.Code.{one_unmarked, over_insts, over_blocks}
-use Rattle.ms_ir.specs.Names.{lookup, externals, is_reserved}
+use Rattle.ms_ir.specs.Names.{lookup, externals, is_kept}
 use Rattle.ms_ir.specs.Equal.{has_name}
 use Rattle.ms_ir.specs.Locals.{function_names}
 use Rattle.ms_ir.specs.Spots.{Spot, spot, next_spot, over_spots, over_block_spots, over_func_spots}
@@ -76,7 +76,7 @@ module _ (m : Module) where
   -- ---- functions
 
   abbrev head : Func → List Name
-  head f = name_unless (not (is_reserved f.name)) f.name
+  head f = name_unless (not (is_kept f.name)) f.name
 
   abbrev look : Spot → Inst → List Name
   look at inst = flagged_callees m inst.op

@@ -10,7 +10,7 @@ use Rattle.ms_ir.specs.declared.syntax.Op.TheVariants as op
 use Rattle.ms_ir.specs.declared.syntax.Inst.{Inst}
 use Rattle.ms_ir.specs.declared.syntax.Block.{Block}
 use Rattle.ms_ir.specs.declared.syntax.Func.{Func}
-use Rattle.ms_ir.specs.Names.{lookup, externals, is_reserved}
+use Rattle.ms_ir.specs.Names.{lookup, externals, is_kept}
 use Rattle.ms_ir.specs.Equal.{has_name}
 use Rattle.ms_valid.specs.ExternalsFit.{name_unless, flag_fits}
 
@@ -31,6 +31,6 @@ flagged_among functions insts = flat_map (λ inst. flagged_in functions inst.op)
 abbrev pub flagged_within : List Name → List Block → List Name
 flagged_within functions blocks = flat_map (λ b. flagged_among functions b.insts) blocks
 
--- a function's name where it is reserved, and those callees
+-- a function's name where it is kept, and those callees
 abbrev pub func_faults : List Name → Func → List Name
-func_faults functions f = name_unless (not (is_reserved f.name)) f.name ++ flagged_within functions f.blocks
+func_faults functions f = name_unless (not (is_kept f.name)) f.name ++ flagged_within functions f.blocks

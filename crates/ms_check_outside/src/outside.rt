@@ -1,6 +1,7 @@
 //! The first name that doesn't fit what stands outside of a module.
 ghost use Rattle.std.specs.Prelude.{◌≡◌, ◌++◌, flat_map, IfOk, slice_get};
 ghost use Rattle.std.specs.Option.{option_copied};
+ghost use Rattle.ms_ir.specs.Names.{is_kept};
 ghost use Rattle.ms_ir.specs.Locals.{function_names};
 ghost use Rattle.ms_valid.specs.ExternalsFit.{name_unless, global_fits, is_runtime, is_external, decl_fits, called_names, bad_externals};
 ghost use Rattle.ms_check_outside.specs.Outside.{func_faults};
@@ -68,18 +69,26 @@ fn first_decl<'m>(called: &NameTable<'_>, decls: &'m [Decl]) -> Option<&'m Name>
     None
 }
 
-/// A function's name where it is reserved, or else the first callee in it whose flag doesn't fit.
+/// Whether no function of a module may have a name: a reserved one, or that of what marked calls reach.
+#[tactic(auto, unfolding(ms_ir::specs::Names::is_kept))]
+fn is_kept(name: &Name) -> bool
+    ensures { result ≡ is_kept name.now }
+{
+    name.is_reserved() || RuntimeFn::named(name).is_some()
+}
+
+/// A function's name where no function may have it, or else the first callee in it whose flag doesn't fit.
 fn first_in_func<'m>(functions: &NameTable<'_>, func: &'m Func) -> Option<&'m Name>
     ensures { option_copied result ≡ slice_get (func_faults functions.now func.now) 0 }
 {
-    if func.name.is_reserved() {
+    if is_kept(&func.name) {
         Some(&func.name)
     } else {
         first_in_blocks(functions, func.blocks.as_slice())
     }
 }
 
-/// The first function whose name is reserved, or the first callee whose flag doesn't fit, in text order.
+/// The first function whose name none may have, or the first callee whose flag doesn't fit, in text order.
 fn first_in_funcs<'m>(functions: &NameTable<'_>, funcs: &'m [Func]) -> Option<&'m Name>
     ensures { option_copied result ≡ slice_get (flat_map (func_faults functions.now) funcs.now) 0 }
 {
@@ -99,7 +108,7 @@ fn first_bad_decl(alloc: Global, m: &Module) -> Result<Option<&Name>, NoMemory>
     Ok(first_decl(&called, m.decls.as_slice()))
 }
 
-/// The first function of a module whose name is reserved, or the first callee whose flag doesn't fit, in text order. The one
+/// The first function of a module whose name none may have, or the first callee whose flag doesn't fit, in text order. The one
 /// error is want of memory.
 fn first_bad_func(alloc: Global, m: &Module) -> Result<Option<&Name>, NoMemory>
     ensures { IfOk result (λ name. option_copied name ≡ slice_get (flat_map (func_faults (function_names m.now)) m.now.funcs) 0) }
@@ -108,7 +117,7 @@ fn first_bad_func(alloc: Global, m: &Module) -> Result<Option<&Name>, NoMemory>
     Ok(first_in_funcs(&functions, m.funcs.as_slice()))
 }
 
-/// The first declaration of a module that doesn't fit, or else the first function whose name is reserved or callee whose
+/// The first declaration of a module that doesn't fit, or else the first function whose name none may have or callee whose
 /// flag doesn't fit. The one error is want of memory.
 fn first_bad_callee(alloc: Global, m: &Module) -> Result<Option<&Name>, NoMemory>
     ensures { IfOk result (λ name. option_copied name ≡ slice_get (flat_map (λ d. name_unless (decl_fits (called_names m.now) d) d.name) m.now.decls ++ flat_map (func_faults (function_names m.now)) m.now.funcs) 0) }
@@ -121,7 +130,7 @@ fn first_bad_callee(alloc: Global, m: &Module) -> Result<Option<&Name>, NoMemory
 
 /// The first name that doesn't fit the outside of a module, in text order: of a global that is reserved and no slot;
 /// then of a declaration that is reserved and no runtime function with its types, or that is called and no external with
-/// its types; then of a function that is reserved, or of an intrinsic that is called there with an `i1` other than
+/// its types; then of a function that is reserved or an intrinsic that moves bits, or of an intrinsic that is called there with an `i1` other than
 /// `false` (LLVM Language Reference, "'llvm.memcpy' Intrinsic" and its neighbours). None exactly where all fit. The one
 /// error is want of memory.
 ///

@@ -2,7 +2,7 @@
 
 use crate::answers::{Case, Want};
 
-pub static EXTERNALS: [Case; 28] = [
+pub static EXTERNALS: [Case; 29] = [
     Case(
         r#"declare i32 @putchar(i32)
 define i32 @main() {
@@ -191,6 +191,16 @@ define i32 @main() {
 }
 "#,
         Want::BadExternal("@llvm.bswap.i8"),
+    ),
+    Case(
+        r#"define i16 @llvm.bswap.i16(i16 %0) {
+  ret i16 %0
+}
+define i32 @main() {
+  ret i32 0
+}
+"#,
+        Want::BadExternal("@llvm.bswap.i16"),
     ),
     Case(
         r#"declare i32 @llvm.ctlz.i32(i32, i1)

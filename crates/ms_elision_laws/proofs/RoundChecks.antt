@@ -14,6 +14,8 @@ use Rattle.ms_ir.specs.declared.syntax.Operand.TheVariants as operand
 use Rattle.ms_ir.specs.declared.syntax.Op.{Op}
 use Rattle.ms_ir.specs.declared.syntax.Op.TheVariants as op
 use Rattle.ms_ir.specs.declared.syntax.Inst.{Inst}
+use Rattle.ms_bits.specs.declared.word_functions.BitMove.{BitMove}
+use Rattle.ms_ir.specs.Names.{lookup, externals}
 use Rattle.ms_ir.specs.declared.calls.External.{External}
 use Rattle.ms_ir.specs.declared.calls.External.TheVariants.{Realloc, Memset}
 use Rattle.ms_ir.specs.Code.{operands, one_undef, count_undefs, external_named, over_insts}
@@ -23,11 +25,11 @@ use Rattle.ms_runs.specs.World.{Here}
 use Rattle.ms_runs_good.proofs.OpEffects.{value_width}
 use Rattle.ms_valid.specs.CleanValues.{is_clean_operand}
 use Rattle.ms_valid.specs.FormedCode.{is_value_type}
-use Rattle.ms_tasks.specs.Tasks.{mask_name, Task, tasks_code}
+use Rattle.ms_tasks.specs.Tasks.{mask_name, origin_name, Task, tasks_code}
 use Rattle.ms_tasks.specs.Environments.{Env, Given, Tracked, tracked, tracked_at, is_zero, mask_operand}
 use Rattle.ms_tasks.specs.Known.{KnownOperand, KnownOperands}
 use Rattle.ms_tasks.specs.CheckTasks.{check_task, check_tasks, all_zero, blind_tasks, blinded_of}
-use Rattle.ms_tasks.specs.ResultTasks.{define_tasks, called_tasks, result_tasks}
+use Rattle.ms_tasks.specs.ResultTasks.{external_move, answer_tasks, define_tasks, called_tasks, result_tasks}
 use Rattle.ms_tasks.specs.SlotTasks.{hand_tasks, give_result, give_arguments, take_result, take_tasks, take_value, take_parameters, result_mask_slot, result_origin_slot, param_mask, param_origin}
 use Rattle.ms_tasks.specs.PlaneTasks.{plane_tasks, save_tasks, saved_tasks, external_tasks, callee_tasks}
 use Rattle.ms_tasks.specs.Emit.{before_tasks, after_tasks, start}
@@ -51,7 +53,11 @@ define_none func v (op.Call r x as') ts = by_own (is_some (func x))
   where
     by_own : (b : Bool) → tasks_checks (called_tasks b v (op.Call r x as') ts) ≡ 0
     by_own true = refl
-    by_own false = refl
+    by_own false = by_move (external_move (lookup externals x))
+      where
+        by_move : (k : Option BitMove) → tasks_checks (answer_tasks (mask_name v) (origin_name v) k (op.Call r x as') ts) ≡ 0
+        by_move None = refl
+        by_move (Some k) = refl
 define_none func v _ ts = refl
 
 result_none : (func : Name → Option ℕ) (env : Env) (r : Option Name) (o : Op) (ts : List Tracked) → tasks_checks (result_tasks func env r o ts) ≡ 0

@@ -138,7 +138,8 @@ pub fn edges_differ()
     ensures case_to_the_entry { bad_edges (main_of (does (op.Switch i8 (int 0) (Number 0) []) ∷ []) []) ≡ 1 ∷ [] }
 {}
 
-/// `main`, externals and reserved names.
+/// `main`, externals, reserved names and intrinsics that move bits.
+#[tactic(auto, unfolding(ms_ir::specs::Names::is_kept, ms_ir::specs::Names::bit_moves))]
 pub fn externals_differ()
     ensures main_with_a_parameter { defines_main (with_func (codes "main") (Some i32) ((i32, Number 0) ∷ []) ends (module_of [] [])) ≡ false }
     ensures main_of_another_type { defines_main (with_empty_func (codes "main") [] (module_of [] [])) ≡ false }
@@ -153,6 +154,7 @@ pub fn externals_differ()
     ensures runtime_function { bad_externals (body_with (msan_check ∷ []) []) ≡ [] }
     ensures runtime_function_of_another_type { bad_externals (body_with (declares (codes "__msan_check") None [] ∷ []) []) ≡ name (codes "__msan_check") ∷ [] }
     ensures own_runtime_function { bad_externals (with_empty_func (codes "__msan_check") [] (body [])) ≡ name (codes "__msan_check") ∷ [] }
+    ensures own_intrinsic { bad_externals (with_empty_func (codes "llvm.bswap.i16") [] (body [])) ≡ name (codes "llvm.bswap.i16") ∷ [] }
     ensures slot { bad_externals (with_globals (global_of (codes "__msan_retval_tls") i64 (initial.Value (int 0)) ∷ []) ends) ≡ [] }
     ensures slot_of_zeros { bad_externals (with_globals (global_of (codes "__msan_retval_tls") i64 initial.Zero ∷ []) ends) ≡ name (codes "__msan_retval_tls") ∷ [] }
     ensures constant_slot { bad_externals (with_globals (record (global_of (codes "__msan_retval_tls") i64 (initial.Value (int 0))) { constant = true } ∷ []) ends) ≡ name (codes "__msan_retval_tls") ∷ [] }
@@ -161,6 +163,7 @@ pub fn externals_differ()
 {}
 
 /// Marks: a marked instruction has the site of the next unmarked one.
+#[tactic(auto, unfolding(ms_ir::specs::Names::bit_moves))]
 pub fn marks_differ()
     ensures result { bad_marks (body (binds_marked (codes "__msan.1") (op.Freeze i8 (int 0)) ∷ [])) ≡ [] }
     ensures unmarked_result { bad_marks (body (binds (codes "__msan.1") (op.Freeze i8 (int 0)) ∷ [])) ≡ 1 ∷ [] }
@@ -169,6 +172,8 @@ pub fn marks_differ()
     ensures used_before_it_stands { bad_marks (body (sets 1 (op.Freeze i8 (at_local (codes "x"))) ∷ binds_marked (codes "x") (op.Freeze i8 (int 0)) ∷ [])) ≡ 1 ∷ 2 ∷ [] }
     ensures marked_branch { bad_marks (main_of (does (op.Store i8 (int 0) operand.Null) ∷ does_marked (op.Ret (Some (i32, int 0))) ∷ []) []) ≡ 2 ∷ [] }
     ensures marked_external { bad_marks (body_with (putchar ∷ []) (does_marked (call putchar (int 0 ∷ [])) ∷ [])) ≡ 1 ∷ [] }
+    ensures marked_intrinsic { bad_marks (body (binds_marked (codes "__msan.1") (op.Call (Some i8) (name (codes "llvm.bitreverse.i8")) ((i8, int 0) ∷ [])) ∷ [])) ≡ [] }
+    ensures marked_count { bad_marks (body (binds_marked (codes "__msan.1") (op.Call (Some i8) (name (codes "llvm.ctpop.i8")) ((i8, int 0) ∷ [])) ∷ [])) ≡ 1 ∷ [] }
     ensures marked_runtime_call { bad_marks (body_with (msan_check ∷ []) (does_marked (call msan_check (int 0 ∷ int 1 ∷ int 0 ∷ int 1 ∷ int 0 ∷ int 1 ∷ [])) ∷ [])) ≡ [] }
     ensures unmarked_runtime_call { bad_marks (body_with (msan_check ∷ []) (does (call msan_check (int 0 ∷ int 1 ∷ int 0 ∷ int 1 ∷ int 0 ∷ int 1 ∷ [])) ∷ [])) ≡ 1 ∷ [] }
     ensures unmarked_slot { bad_marks (body (does (op.Store i64 (int 0) (at_global (codes "__msan_retval_tls"))) ∷ [])) ≡ 1 ∷ [] }

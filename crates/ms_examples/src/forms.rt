@@ -31,6 +31,7 @@ ghost use Rattle.ms_valid.specs.Uninstrumented.{names_are_free};
 ghost use Rattle.ms_runs.specs.Verdict.{verdict_of, Poisoned, Unsure, Clean};
 
 /// Names, and the numbers among them.
+#[tactic(auto, unfolding(ms_ir::specs::Names::bit_moves))]
 pub fn names_are_formed()
     ensures number { is_local_name (Number 4294967295) ≡ true }
     ensures large_number { is_local_name (Number 4294967296) ≡ false }

@@ -64,6 +64,7 @@ pub fn formed_modules()
 {}
 
 /// Each of these modules is refused for the clause that it breaks. The undefined use is shown by a path.
+#[tactic(auto, unfolding(ms_ir::specs::Names::is_kept, ms_ir::specs::Names::bit_moves))]
 pub fn refused_modules()
     ensures no_main { IsRefused empty_module NoMain }
     ensures main_twice { IsRefused main_twice (Duplicate (symbol (codes "main"))) }

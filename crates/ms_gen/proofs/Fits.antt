@@ -4,7 +4,7 @@ use Rattle.std.specs.Prelude.{All, if◌then◌else◌}
 use Rattle.ms_ir.specs.declared.syntax.Func.{Func}
 use Rattle.ms_ir.specs.declared.syntax.Inst.{Inst}
 use Rattle.ms_ir.specs.declared.syntax.Module.{Module}
-use Rattle.ms_ir.specs.Names.{is_reserved}
+use Rattle.ms_ir.specs.Names.{bit_moves, is_kept}
 use Rattle.ms_ir.specs.Locals.{Spelled, locals, value_type}
 use Rattle.ms_ir.specs.Spots.{Spot, over_block_spots}
 use Rattle.ms_ir.specs.Written.{mentions}
@@ -40,7 +40,7 @@ uses_at at inst = inst_uses at inst.op
 
 -- a function of a module breaks no clause, at whichever site it begins
 pub record Fits (m : Module) (f : Func) : Type 0 where
-  pub free : is_reserved f.name ≡ false
+  pub free : is_kept f.name ≡ false
   pub names_once : percent_sign (repeats [] (locals f)) ≡ []
   pub names_known : (site : ℕ) → over_block_spots (unknown_at m) f 0 site f.blocks ≡ []
   pub types_agree : (site : ℕ) → over_block_spots (mismatch_at m) f 0 site f.blocks ≡ []
@@ -51,7 +51,7 @@ pub record Fits (m : Module) (f : Func) : Type 0 where
   pub sizes_fit : sized [] (func_types f) ≡ true
 
 pub first_fits : (m : Module) (state : ℕ) → Fits m (function_of 0 state)
-unfolding operations
+unfolding operations is_kept bit_moves
 first_fits m state = record {
   free = refl;
   names_once = refl;
@@ -65,7 +65,7 @@ first_fits m state = record {
 }
 
 pub later_fits : (m : Module) (before state : ℕ) → IsCallable m (name_of before) → Fits m (function_of (suc before) state)
-unfolding operations
+unfolding operations is_kept bit_moves
 later_fits m before state callee = record {
   free = refl;
   names_once = refl;
@@ -79,6 +79,7 @@ later_fits m before state callee = record {
 }
 
 pub main_fits : (m : Module) (count : ℕ) → IsCallable m (name_of (count - 1)) → IsCallable m putchar.name → Fits m (main_of count)
+unfolding is_kept bit_moves
 main_fits m count callee printer = record {
   free = refl;
   names_once = refl;

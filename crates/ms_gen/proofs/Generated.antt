@@ -9,7 +9,8 @@ use Rattle.std.proofs.lemmas.List.Sums.{list_all-from_AllPass}
 use Rattle.ms_ir.specs.declared.syntax.Func.{Func}
 use Rattle.ms_ir.specs.declared.syntax.Name.{Name}
 use Rattle.ms_ir.specs.declared.syntax.Module.{Module}
-use Rattle.ms_ir.specs.Names.{is_reserved}
+use Rattle.ms_ir.specs.Names.{is_reserved, is_kept}
+use Rattle.ms_ir.proofs.Tables.{not_kept}
 use Rattle.ms_ir.specs.Code.{operands}
 use Rattle.ms_ir.specs.Equal.{has_name}
 use Rattle.ms_ir.specs.Spots.{found}
@@ -38,7 +39,7 @@ or_true false = refl
 putchar_fits : (called : List Name) → decl_fits called putchar ≡ true
 putchar_fits called = or_true (not (has_name called putchar.name))
 
-free_head : (m : Module) (f : Func) → Fits m f → name_unless (not (is_reserved f.name)) f.name ≡ []
+free_head : (m : Module) (f : Func) → Fits m f → name_unless (not (is_kept f.name)) f.name ≡ []
 free_head m f fits = ap (λ t. name_unless (not t) f.name) fits.free
 
 sized_func : (m : Module) (f : Func) → Fits m f → spelled_unless (sized [] (func_types f)) true f.name ≡ []
@@ -64,8 +65,8 @@ module _ (seed n : ℕ) (some : 0 < n) (few : n ≤ 1000) where
 
   -- ---- valid
 
-  externals : found (λ f. name_unless (not (is_reserved f.name)) f.name) (λ at inst. flagged_callees m inst.op) m ≡ []
-  externals = none_found (λ f. name_unless (not (is_reserved f.name)) f.name) (λ at inst. flagged_callees m inst.op) 1 m.funcs
+  externals : found (λ f. name_unless (not (is_kept f.name)) f.name) (λ at inst. flagged_callees m inst.op) m ≡ []
+  externals = none_found (λ f. name_unless (not (is_kept f.name)) f.name) (λ at inst. flagged_callees m inst.op) 1 m.funcs
       (λ k f l. free_head m _ (all_fit k f l)) (λ k f l. (all_fit k f l).externals_fit)
 
   pub valid : Valid m
@@ -75,7 +76,7 @@ module _ (seed n : ℕ) (some : 0 < n) (few : n ≤ 1000) where
     types_agree = none_found (λ f. []) (mismatch_at m) 1 m.funcs (λ k f l. refl) (λ k f l. (all_fit k f l).types_agree);
     phis_fit = none_found (λ f. []) bad_edge_at 1 m.funcs (λ k f l. refl) (λ k f l. (all_fit k f l).phis_fit);
     has_main = list_any-append is_main (functions_of seed n) (main_of n ∷ []) ∙ or_true (list_any is_main (functions_of seed n));
-    externals_fit = ap (λ t. (name_unless t putchar.name ++ []) ++ found (λ f. name_unless (not (is_reserved f.name)) f.name) (λ at inst. flagged_callees m inst.op) m)
+    externals_fit = ap (λ t. (name_unless t putchar.name ++ []) ++ found (λ f. name_unless (not (is_kept f.name)) f.name) (λ at inst. flagged_callees m inst.op) m)
         (putchar_fits (called_names m)) ∙ externals;
     uses_defined = over_all uses_at (All IsUseDefined) (All-nil IsUseDefined) (λ xs ys h k. All-append IsUseDefined xs ys h k) (λ f. []) 1 m.funcs (λ k f l. All-nil IsUseDefined)
         (λ k f l. (all_fit k f l).uses_defined);
@@ -102,7 +103,7 @@ module _ (seed n : ℕ) (some : 0 < n) (few : n ≤ 1000) where
   free = list_all-append (λ x. not (is_reserved x)) (map (λ f. f.name) m.funcs) (flat_map func_names m.funcs)
       ∙ both _ _
       (list_all-map (λ x. not (is_reserved x)) (λ f. f.name) m.funcs
-      ∙ list_all-from_AllPass (λ f. not (is_reserved f.name)) m.funcs (λ k f l. ap not (all_fit k f l).free))
+      ∙ list_all-from_AllPass (λ f. not (is_reserved f.name)) m.funcs (λ k f l. ap not (not_kept _ (all_fit k f l).free).0))
       (all_in (λ x. not (is_reserved x)) func_names m.funcs (λ k f l. (all_small k f l).free))
 
   pub plain : CanInstrument m

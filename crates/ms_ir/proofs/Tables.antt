@@ -1,11 +1,12 @@
 -- Looking up in a table with a function of what its rows have.
-use Rattle.std.proofs.Common.{◌≡◌, ℕ, List, [], ◌∷◌, ◌++◌, Bool, true, false, Option, Some, None, map, option_map, is_some, refl, if◌then◌else◌}
+use Rattle.std.proofs.Common.{◌≡◌, ℕ, List, [], ◌∷◌, ◌++◌, Bool, true, false, ◌||◌, Option, Some, None, map, option_map, is_some, refl, arith, if◌then◌else◌}
 use Rattle.ms_ir.specs.declared.syntax.Name.{Name}
 use Rattle.ms_ir.specs.declared.syntax.Name.TheVariants.{Number, Text}
 use Rattle.ms_ir.specs.declared.rows.Row.{Row}
 use Rattle.ms_ir.specs.declared.calls.External.{External}
 use Rattle.ms_ir.specs.declared.calls.External.TheVariants.{Malloc, Calloc, Realloc, Free, Memcpy, Memmove, Memset, Memcmp, Strlen, Putchar, Puts, Getchar, Read, Write, Exit, Abort, LlvmMemcpy, LlvmMemmove, LlvmMemset, LifetimeStart, LifetimeEnd, Printf, LlvmTrap, LlvmAssume, LlvmObjectSize}
-use Rattle.ms_ir.specs.Names.{name_eq, lookup, external_name, word_externals}
+use Rattle.ms_ir.specs.declared.calls.RuntimeFn.{RuntimeFn}
+use Rattle.ms_ir.specs.Names.{name_eq, lookup, external_name, word_externals, bit_moves, runtime_functions, is_reserved, is_kept}
 use Rattle.ms_ir.specs.Rows.{by_name}
 
 one_row : {A B : Type 0} (f : A → B) (here : Bool) (a : A) (late : Option B) (later : Option A) → late ≡ option_map f later → (if here then Some (f a) else late) ≡ option_map f (if here then Some a else later)
@@ -56,3 +57,24 @@ other_externals =
 pub no_word_number : (n : ℕ) → lookup word_externals (Number n) ≡ None
 unfolding word_externals
 no_word_number n = refl
+
+-- nor has one that moves bits
+pub no_move_number : (n : ℕ) → lookup bit_moves (Number n) ≡ None
+unfolding bit_moves
+no_move_number n = refl
+
+-- ---- names that no function of a module has
+
+either_false : (a b : Bool) → (a || b) ≡ false → (a ≡ false) × (b ≡ false)
+either_false true b e = grind arith
+either_false false true e = grind arith
+either_false false false e = (refl, refl)
+
+no_row : (o : Option RuntimeFn) → is_some o ≡ false → o ≡ None
+no_row None e = refl
+no_row (Some f) e = grind arith
+
+-- a name that isn't kept is neither reserved nor that of what marked calls reach
+pub not_kept : (x : Name) → is_kept x ≡ false → (is_reserved x ≡ false) × (lookup runtime_functions x ≡ None)
+unfolding is_kept
+not_kept x e = let both = either_false (is_reserved x) (is_some (lookup runtime_functions x)) e in (both.0, no_row (lookup runtime_functions x) both.1)

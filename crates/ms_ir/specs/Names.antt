@@ -2,7 +2,7 @@
 -- (C library, and LLVM Language Reference, "Standard C/C++ Library Intrinsics", "Memory Use Markers", "Bit Manipulation
 -- Intrinsics", "Saturation Arithmetic Intrinsics" and "'llvm.expect' Intrinsic"), the runtime functions and the slots
 -- (both own).
-use Rattle.std.specs.Prelude.{ℕ, Bool, false, ◌&&◌, List, [], ◌∷◌, ◌++◌, map, flat_map, length, nat_eq, nat_lt, Option, Some, None, codes, take, drop, if◌then◌else◌}
+use Rattle.std.specs.Prelude.{ℕ, Bool, false, ◌&&◌, ◌||◌, List, [], ◌∷◌, ◌++◌, map, flat_map, length, nat_eq, nat_lt, Option, Some, None, is_some, codes, take, drop, if◌then◌else◌}
 use Rattle.std.specs.Char.{is_ascii_digit}
 use Rattle.std.specs.List.{list_all}
 use Rattle.std.specs.Cmp.Lexicographic.{pointwise}
@@ -14,8 +14,11 @@ use Rattle.ms_bits.specs.declared.word_functions.WordFn.{WordFn}
 use Rattle.ms_bits.specs.declared.word_functions.WordFn.TheVariants.{Ctpop, Ctlz, Cttz, Bswap, Bitreverse, Abs, Smax, Smin, Umax, Umin, Fshl, Fshr, UaddSat, UsubSat, SaddSat, SsubSat, Expect}
 use Rattle.ms_bits.specs.declared.word_functions.WordWidth.{WordWidth}
 use Rattle.ms_bits.specs.declared.word_functions.WordWidth.TheVariants.{I8, I16, I32, I64}
+use Rattle.ms_bits.specs.declared.word_functions.BitMove.{BitMove}
+use Rattle.ms_bits.specs.declared.word_functions.BitMove.TheVariants.{Bswap16, Bswap32, Bswap64, Bitreverse8, Bitreverse16, Bitreverse32, Bitreverse64, Fshl8, Fshl16, Fshl32, Fshl64, Fshr8, Fshr16, Fshr32, Fshr64}
+use Rattle.ms_bits.specs.WordFunctions.{move_fn, move_width}
 use Rattle.ms_ir.specs.declared.calls.RuntimeFn.{RuntimeFn}
-use Rattle.ms_ir.specs.declared.calls.RuntimeFn.TheVariants.{Check, CheckMemory, CheckString, Blind, Poison, Unpoison, Copy, Fill, StoreOrigin, LoadOrigin, Size, CheckFormat}
+use Rattle.ms_ir.specs.declared.calls.RuntimeFn.TheVariants.{Check, CheckMemory, CheckString, Blind, Poison, Unpoison, Copy, Fill, StoreOrigin, LoadOrigin, Size, CheckFormat, Move}
 use Rattle.ms_ir.specs.declared.calls.Slot.{Slot}
 use Rattle.ms_ir.specs.declared.calls.Slot.TheVariants.{ParamMasks, ParamOrigins, RetvalMask, RetvalOrigin}
 
@@ -107,7 +110,11 @@ externals =
     ∷ LlvmMemset ∷ LifetimeStart ∷ LifetimeEnd ∷ Printf ∷ LlvmTrap ∷ LlvmAssume ∷ LlvmObjectSize ∷ [])
     ++ word_externals
 
--- the name of each runtime function
+-- a function that moves bits alone, as an external
+abbrev pub move_external : BitMove → External
+move_external k = Word (move_fn k) (move_width k)
+
+-- the name of each runtime function; the functions that move bits are externals too
 abbrev pub runtime_name : RuntimeFn → Name
 runtime_name Check = Text (codes "__msan_check")
 runtime_name CheckMemory = Text (codes "__msan_check_memory")
@@ -121,12 +128,23 @@ runtime_name StoreOrigin = Text (codes "__msan_store_origin")
 runtime_name LoadOrigin = Text (codes "__msan_load_origin")
 runtime_name Size = Text (codes "__msan_size")
 runtime_name CheckFormat = Text (codes "__msan_check_format")
+runtime_name (Move k) = external_name (move_external k)
 
--- the runtime functions by name, which marked calls alone reach
-abbrev pub runtime_functions : List (Name × RuntimeFn)
-runtime_functions =
+-- the runtime functions that marked calls alone reach, by name
+abbrev pub msan_functions : List (Name × RuntimeFn)
+msan_functions =
     map (λ f. (runtime_name f, f))
     (Check ∷ CheckMemory ∷ CheckString ∷ Blind ∷ Poison ∷ Unpoison ∷ Copy ∷ Fill ∷ StoreOrigin ∷ LoadOrigin ∷ Size ∷ CheckFormat ∷ [])
+
+-- the functions that move bits by name
+unfoldable pub bit_moves : List (Name × RuntimeFn)
+bit_moves =
+    map (λ k. (runtime_name (Move k), Move k))
+    (Bswap16 ∷ Bswap32 ∷ Bswap64 ∷ Bitreverse8 ∷ Bitreverse16 ∷ Bitreverse32 ∷ Bitreverse64 ∷ Fshl8 ∷ Fshl16 ∷ Fshl32 ∷ Fshl64 ∷ Fshr8 ∷ Fshr16 ∷ Fshr32 ∷ Fshr64 ∷ [])
+
+-- what marked calls reach, by name
+abbrev pub runtime_functions : List (Name × RuntimeFn)
+runtime_functions = msan_functions ++ bit_moves
 
 -- the name of each slot
 abbrev pub slot_name : Slot → Name
@@ -154,6 +172,11 @@ slots = map (λ row. (row.0, slot_room row.1)) slot_names
 abbrev pub is_reserved : Name → Bool
 is_reserved (Number n) = false
 is_reserved (Text x) = pointwise nat_eq (take 6 x) (codes "__msan")
+
+-- a name that no function of a module has: a reserved one, or that of what marked calls reach (LLVM Language Reference,
+-- "Intrinsic Functions": one has no body)
+unfoldable pub is_kept : Name → Bool
+is_kept x = is_reserved x || is_some (lookup runtime_functions x)
 
 -- digits, at least one
 abbrev pub is_digits : List ℕ → Bool

@@ -20,7 +20,7 @@ use Rattle.ms_ir.specs.declared.calls.RuntimeFn.{RuntimeFn}
 use Rattle.ms_ir.specs.declared.calls.RuntimeFn.TheVariants as runtime
 use Rattle.ms_ir.specs.declared.calls.Slot.{Slot}
 use Rattle.ms_ir.specs.declared.calls.Slot.TheVariants as slot
-use Rattle.ms_ir.specs.Names.{lookup, externals, runtime_functions, slot_name, slot_names}
+use Rattle.ms_ir.specs.Names.{lookup, externals, move_external, msan_functions, slot_name, slot_names}
 use Rattle.ms_ir.specs.Equal.{result_type_eq, types_eq}
 
 -- the types of a function: of its result, where none is `void`, and of its parameters
@@ -145,10 +145,11 @@ runtime_signature runtime.StoreOrigin = answers_nothing (Ptr ∷ Int 64 ∷ Int 
 runtime_signature runtime.LoadOrigin = answers (Int 32) (Ptr ∷ Int 64 ∷ [])
 runtime_signature runtime.Size = answers (Int 64) (Ptr ∷ [])
 runtime_signature runtime.CheckFormat = answers_nothing (Ptr ∷ Int 32 ∷ Ptr ∷ Int 32 ∷ [])
+runtime_signature (runtime.Move k) = external_signature (move_external k)
 
--- the declarations of the runtime functions, in the order of their table
+-- the declarations of those that marked calls alone reach, in the order of their table
 abbrev pub runtime_declarations : List Decl
-runtime_declarations = map (λ row. declared_as row.0 (runtime_signature row.1)) runtime_functions
+runtime_declarations = map (λ row. declared_as row.0 (runtime_signature row.1)) msan_functions
 
 -- a global that may be written
 abbrev pub variable : Name → Ty → initial.Init → GlobalVar

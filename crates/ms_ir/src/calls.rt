@@ -1,6 +1,6 @@
 //! What a module reaches without defining it: externals, functions of the runtime and slots.
 
-use ms_bits::{WordFn, WordWidth};
+use ms_bits::{BitMove, WordFn, WordWidth};
 
 /// The externals, functions of the C library and intrinsics of LLVM that the interpreter knows.
 #[derive(Clone, Copy, Debug, PartialEq, Eq)]
@@ -59,7 +59,7 @@ pub enum External {
     Word(WordFn, WordWidth),
 }
 
-/// The runtime functions, which inserted instructions alone call.
+/// What inserted instructions call: the runtime functions, which they alone call, and externals that move bits.
 #[derive(Clone, Copy, Debug, PartialEq, Eq)]
 pub enum RuntimeFn {
     /// `__msan_check`: a report where a mask is not 0.
@@ -86,6 +86,8 @@ pub enum RuntimeFn {
     Size,
     /// `__msan_check_format`: checks the string at an argument of `printf`, where its format asks for one.
     CheckFormat,
+    /// `llvm.NAME.iN`, which gives the mask of what it gives ("Bit Manipulation Intrinsics").
+    Move(BitMove),
 }
 
 /// The slots, globals that hand masks and origins over at calls.

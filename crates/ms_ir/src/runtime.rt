@@ -1,17 +1,19 @@
-//! The functions of the runtime, which marked calls alone reach, with names and types.
+//! What marked calls reach: the functions of the runtime, which they alone reach, and externals that move bits, with names
+//! and types (LLVM Language Reference, "Bit Manipulation Intrinsics").
 ghost use Rattle.std.specs.Prelude.{◌≡◌, IfOk};
 ghost use Rattle.ms_ir.specs.declared.syntax.Name.TheVariants as spelling;
-ghost use Rattle.ms_ir.specs.Names.{lookup, runtime_functions, runtime_name};
+ghost use Rattle.ms_ir.specs.declared.calls.RuntimeFn.TheVariants as called;
+ghost use Rattle.ms_ir.specs.Names.{lookup, bit_moves, runtime_functions, runtime_name};
 ghost use Rattle.ms_ir.specs.Signatures.{decl_signature, signature_eq, runtime_signature, runtime_declarations};
 ghost use Rattle.ms_ir.specs.Rows.{row_signature};
 
 use crate::calls::RuntimeFn;
 use crate::rows::{Kind, Row, declarations_of, named};
 use crate::syntax::{Decl, Name, Ty};
-use ms_bits::{List, NoMemory};
+use ms_bits::{BitMove, List, NoMemory};
 use std::alloc::Global;
 
-/// Each runtime function at the place of its variant.
+/// Each function that marked calls alone reach.
 static RUNTIME_FUNCTIONS: [Row<RuntimeFn>; 12] = [
     Row {
         name: b"__msan_check",
@@ -100,23 +102,150 @@ static RUNTIME_FUNCTIONS: [Row<RuntimeFn>; 12] = [
     },
 ];
 
+/// Each function that moves bits, at the place of its variant.
+static BIT_MOVES: [Row<RuntimeFn>; 15] = [
+    Row {
+        name: b"llvm.bswap.i16",
+        is: RuntimeFn::Move(BitMove::Bswap16),
+        ret: Some(Kind::Int(16)),
+        params: &[Kind::Int(16)],
+    },
+    Row {
+        name: b"llvm.bswap.i32",
+        is: RuntimeFn::Move(BitMove::Bswap32),
+        ret: Some(Kind::Int(32)),
+        params: &[Kind::Int(32)],
+    },
+    Row {
+        name: b"llvm.bswap.i64",
+        is: RuntimeFn::Move(BitMove::Bswap64),
+        ret: Some(Kind::Int(64)),
+        params: &[Kind::Int(64)],
+    },
+    Row {
+        name: b"llvm.bitreverse.i8",
+        is: RuntimeFn::Move(BitMove::Bitreverse8),
+        ret: Some(Kind::Int(8)),
+        params: &[Kind::Int(8)],
+    },
+    Row {
+        name: b"llvm.bitreverse.i16",
+        is: RuntimeFn::Move(BitMove::Bitreverse16),
+        ret: Some(Kind::Int(16)),
+        params: &[Kind::Int(16)],
+    },
+    Row {
+        name: b"llvm.bitreverse.i32",
+        is: RuntimeFn::Move(BitMove::Bitreverse32),
+        ret: Some(Kind::Int(32)),
+        params: &[Kind::Int(32)],
+    },
+    Row {
+        name: b"llvm.bitreverse.i64",
+        is: RuntimeFn::Move(BitMove::Bitreverse64),
+        ret: Some(Kind::Int(64)),
+        params: &[Kind::Int(64)],
+    },
+    Row {
+        name: b"llvm.fshl.i8",
+        is: RuntimeFn::Move(BitMove::Fshl8),
+        ret: Some(Kind::Int(8)),
+        params: &[Kind::Int(8), Kind::Int(8), Kind::Int(8)],
+    },
+    Row {
+        name: b"llvm.fshl.i16",
+        is: RuntimeFn::Move(BitMove::Fshl16),
+        ret: Some(Kind::Int(16)),
+        params: &[Kind::Int(16), Kind::Int(16), Kind::Int(16)],
+    },
+    Row {
+        name: b"llvm.fshl.i32",
+        is: RuntimeFn::Move(BitMove::Fshl32),
+        ret: Some(Kind::Int(32)),
+        params: &[Kind::Int(32), Kind::Int(32), Kind::Int(32)],
+    },
+    Row {
+        name: b"llvm.fshl.i64",
+        is: RuntimeFn::Move(BitMove::Fshl64),
+        ret: Some(Kind::Int(64)),
+        params: &[Kind::Int(64), Kind::Int(64), Kind::Int(64)],
+    },
+    Row {
+        name: b"llvm.fshr.i8",
+        is: RuntimeFn::Move(BitMove::Fshr8),
+        ret: Some(Kind::Int(8)),
+        params: &[Kind::Int(8), Kind::Int(8), Kind::Int(8)],
+    },
+    Row {
+        name: b"llvm.fshr.i16",
+        is: RuntimeFn::Move(BitMove::Fshr16),
+        ret: Some(Kind::Int(16)),
+        params: &[Kind::Int(16), Kind::Int(16), Kind::Int(16)],
+    },
+    Row {
+        name: b"llvm.fshr.i32",
+        is: RuntimeFn::Move(BitMove::Fshr32),
+        ret: Some(Kind::Int(32)),
+        params: &[Kind::Int(32), Kind::Int(32), Kind::Int(32)],
+    },
+    Row {
+        name: b"llvm.fshr.i64",
+        is: RuntimeFn::Move(BitMove::Fshr64),
+        ret: Some(Kind::Int(64)),
+        params: &[Kind::Int(64), Kind::Int(64), Kind::Int(64)],
+    },
+];
+
+/// The function that moves bits with a text as its name, if there is one.
+#[tactic(auto, unfolding(crate::specs::Names::bit_moves))]
+fn move_spelled(text: &[u8]) -> Option<RuntimeFn>
+    ensures { result ≡ lookup bit_moves (spelling.Text text.now) }
+{
+    named(&BIT_MOVES, text)
+}
+
+/// The row of a function that moves bits.
+fn move_row(kind: BitMove) -> &'static Row<RuntimeFn>
+    ensures name { spelling.Text result.now.name.now ≡ runtime_name (called.Move kind) }
+    ensures types { row_signature result.now ≡ runtime_signature (called.Move kind) }
+{
+    &BIT_MOVES[kind as usize]
+}
+
 /// The row of a runtime function.
 fn row_of(function: RuntimeFn) -> &'static Row<RuntimeFn>
     ensures name { spelling.Text result.now.name.now ≡ runtime_name function }
     ensures types { row_signature result.now ≡ runtime_signature function }
 {
-    &RUNTIME_FUNCTIONS[function as usize]
+    match function {
+        RuntimeFn::Check => &RUNTIME_FUNCTIONS[0],
+        RuntimeFn::CheckMemory => &RUNTIME_FUNCTIONS[1],
+        RuntimeFn::CheckString => &RUNTIME_FUNCTIONS[2],
+        RuntimeFn::Blind => &RUNTIME_FUNCTIONS[3],
+        RuntimeFn::Poison => &RUNTIME_FUNCTIONS[4],
+        RuntimeFn::Unpoison => &RUNTIME_FUNCTIONS[5],
+        RuntimeFn::Copy => &RUNTIME_FUNCTIONS[6],
+        RuntimeFn::Fill => &RUNTIME_FUNCTIONS[7],
+        RuntimeFn::StoreOrigin => &RUNTIME_FUNCTIONS[8],
+        RuntimeFn::LoadOrigin => &RUNTIME_FUNCTIONS[9],
+        RuntimeFn::Size => &RUNTIME_FUNCTIONS[10],
+        RuntimeFn::CheckFormat => &RUNTIME_FUNCTIONS[11],
+        RuntimeFn::Move(kind) => move_row(kind),
+    }
 }
 
 impl RuntimeFn {
-    /// The runtime function with a text as its name, if there is one.
+    /// What marked calls reach with a text as its name, if there is such a function.
     pub fn spelled(text: &[u8]) -> Option<RuntimeFn>
         ensures { result ≡ lookup runtime_functions (spelling.Text text.now) }
     {
-        named(&RUNTIME_FUNCTIONS, text)
+        match named(&RUNTIME_FUNCTIONS, text) {
+            Some(function) => Some(function),
+            None => move_spelled(text),
+        }
     }
 
-    /// The runtime function with a name, if there is one.
+    /// What marked calls reach with a name, if there is such a function.
     pub fn named(name: &Name) -> Option<RuntimeFn>
         ensures { result ≡ lookup runtime_functions name.now }
     {
@@ -148,7 +277,7 @@ impl RuntimeFn {
     }
 }
 
-/// The runtime functions as an instrumented module declares them. The one error is want of memory.
+/// The functions that marked calls alone reach, as an instrumented module declares them. The one error is want of memory.
 pub fn runtime_declarations(alloc: Global) -> Result<List<Decl>, NoMemory>
     ensures { IfOk result (λ ds. ds ≡ runtime_declarations) }
 {

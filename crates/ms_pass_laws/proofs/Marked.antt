@@ -180,6 +180,7 @@ runtime_quiet s function.Fill words w = tt
 runtime_quiet s function.StoreOrigin words w = tt
 runtime_quiet s function.LoadOrigin words w = tt
 runtime_quiet s function.Size words w = tt
+runtime_quiet s (function.Move k) words w = tt
 
 called_quiet : (s : Setting) (f : Option RuntimeFn) (words : List ℕ) (w : World) → IsQuiet (elim f [ Some f ↦ runtime s f words w | None ↦ Ends stuck w ])
 called_quiet s None words w = tt

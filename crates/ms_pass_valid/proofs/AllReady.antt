@@ -9,7 +9,7 @@ use Rattle.ms_ir.specs.declared.syntax.Op.TheVariants as op
 use Rattle.ms_ir.specs.declared.syntax.Inst.{Inst}
 use Rattle.ms_ir.specs.declared.syntax.Func.{Func}
 use Rattle.ms_ir.specs.declared.syntax.Module.{Module}
-use Rattle.ms_ir.specs.Names.{name_eq, is_reserved, main_name}
+use Rattle.ms_ir.specs.Names.{bit_moves, name_eq, is_reserved, main_name}
 use Rattle.ms_runs.specs.World.{Here}
 use Rattle.ms_ir.specs.Code.{operands, count_undefs, roots_in, is_root, func_at, insts_at, site_at, over_funcs, one_unmarked, is_phi}
 use Rattle.ms_ir.specs.Written.{op_types, result_type, OfGlobal}
@@ -36,12 +36,13 @@ use Rattle.ms_ir.specs.declared.syntax.Operand.TheVariants as operand
 use Rattle.ms_ir.specs.declared.syntax.Name.TheVariants.{Text}
 use Rattle.ms_ir.specs.Equal.{has_name}
 use Rattle.ms_valid.specs.FormedNames.{is_global_name}
+use Rattle.ms_pass_valid.proofs.Moves.{moves_good}
 use Rattle.ms_pass_valid.proofs.Rounds.{SlotsGood}
 use Rattle.ms_pass_valid.proofs.Paths.{In}
 use Rattle.ms_pass_valid.proofs.PassPaths.{Filled, Masks, HasMask, code_at}
 use Rattle.ms_pass_valid.proofs.Words.{number_fits}
 use Rattle.ms_pass_valid.proofs.Placed.{here_at}
-use Rattle.ms_pass_valid.proofs.Inserted.{ConstGood, unknown_one}
+use Rattle.ms_pass_valid.proofs.Inserted.{ConstFits, ConstGood, unknown_one}
 use Rattle.ms_pass_valid.proofs.FuncFits.{PlainGood, PhiGood}
 use Rattle.ms_pass_valid.proofs.FuncClauses.{FuncReady, ModuleReady}
 use Rattle.ms_pass_valid.proofs.Within.{FromFunc, from_func, given_by, AllReady}
@@ -78,7 +79,7 @@ unmarked_roots func i e = subst (λ k. count_undefs (operands i.op) ≤ k) (sym 
     by_root false = omega arith
 
 -- the result's slots are variables of the instrumented module
-slot_good : (m j : Module) → ModuleReady m j → (x : Name) → has_name (map (λ g. g.name) slot_globals) x ≡ true → is_global_name x ≡ true → ConstGood j Ptr (operand.Global x)
+slot_good : (m j : Module) → ModuleReady m j → (x : Name) → has_name (map (λ g. g.name) slot_globals) x ≡ true → is_global_name x ≡ true → ConstFits j Ptr (operand.Global x)
 slot_good m j a x e g = record {
   fits = λ typed. (a.slot x e).0;
   known = λ names site. unknown_one j names site (OfGlobal x) (a.slot x e).1;
@@ -88,7 +89,7 @@ slot_good m j a x e g = record {
 
 -- an item of the slots of parameters
 item_good : (m j : Module) → ModuleReady m j → (w : ℕ) → is_int_type (Int w) ≡ true → (x : Name) → has_name (map (λ g. g.name) slot_globals) x ≡ true → is_global_name x ≡ true
-    → ((types : Types) → sized types (Ptr ∷ Int w ∷ Int 64 ∷ []) ≡ true) → (k : ℕ) → k < 100 → ConstGood j Ptr (operand.Offset x ((Int w, (Int 64, k) ∷ []) ∷ []))
+    → ((types : Types) → sized types (Ptr ∷ Int w ∷ Int 64 ∷ []) ≡ true) → (k : ℕ) → k < 100 → ConstFits j Ptr (operand.Offset x ((Int w, (Int 64, k) ∷ []) ∷ []))
 item_good m j a w i x e g z k l = record {
   fits = λ typed. ap (λ b. true && b && true) (a.slot x e).0;
   known = λ names site. unknown_one j names site (OfGlobal x) (a.slot x e).1;
@@ -99,7 +100,8 @@ item_good m j a w i x e g z k l = record {
     small : (n : ℕ) → n < 100 → n < 2 ^ 64
     small n h = omega (arith, h)
 
-slots_good : (m j : Module) → ModuleReady m j → SlotsGood (ConstGood j)
+slots_good : (m j : Module) → ModuleReady m j → SlotsGood (ConstGood m j)
+unfolding bit_moves
 slots_good m j a = record {
   mask = slot_good m j a (Text (codes "__msan_retval_tls")) refl refl;
   origin = slot_good m j a (Text (codes "__msan_retval_origin_tls")) refl refl;
@@ -157,7 +159,7 @@ module _ (numbers : ℕ → Numbering) (m : Module) (v : Valid m) (w : Plain m) 
         limit_0 x y c d l k q = omega (arith, l, k, q)
 
     plain_good : (b p : ℕ) (i : Inst) → slice_get (insts_of r.func b) p ≡ Some i → is_phi i.op ≡ false
-        → PlainGood (given_by m) r.func (ConstGood j) b p (here_at (given_by m) r.numbering.env (insts_of r.func b) p (code_at (given_by m) r.numbering.env r.func start first b).here) i
+        → PlainGood (given_by m) r.func (ConstGood m j) b p (here_at (given_by m) r.numbering.env (insts_of r.func b) p (code_at (given_by m) r.numbering.env r.func start first b).here) i
     plain_good b p i at plain =
         let s = site_at m n b p in
         let x = fits b p i at in
@@ -167,6 +169,7 @@ module _ (numbers : ℕ → Numbering) (m : Module) (v : Valid m) (w : Plain m) 
         let good_op = op_good m j a r.func b p s (given_by m) refl i.op (w.calls n b p r.func i r.at at) plain (and_parts (shape_formed i.op) _ (and_parts _ _ formed).0).0 x.types_agree sizes in
         record {
           good = good_op;
+          moves = moves_good m j v a n b p r.func i r.at at;
           slots = slots_good m j a;
           reads = operands_good m j a r.func b p s (operands i.op) (op_found m j a r.func b p s i.op formed x.types_agree x.names_known sizes)
               (subst (All IsUseDefined) (plain_uses r.func b p s i.op plain) x.uses_defined);
@@ -183,7 +186,7 @@ module _ (numbers : ℕ → Numbering) (m : Module) (v : Valid m) (w : Plain m) 
         roots k c d l q = omega (arith, l, q)
 
     phis_good : (b p : ℕ) (i : Inst) (t : Ty) (es : List (Operand × Name)) → slice_get (insts_of r.func b) p ≡ Some i → i.op ≡ op.Phi t es
-        → PhiGood r.func (ConstGood j) (here_at (given_by m) r.numbering.env (insts_of r.func b) p (code_at (given_by m) r.numbering.env r.func start first b).here) t es
+        → PhiGood r.func (ConstGood m j) (here_at (given_by m) r.numbering.env (insts_of r.func b) p (code_at (given_by m) r.numbering.env r.func start first b).here) t es
     phis_good b p i t es at is =
         let s = site_at m n b p in
         let x = fits b p i at in
@@ -200,7 +203,7 @@ module _ (numbers : ℕ → Numbering) (m : Module) (v : Valid m) (w : Plain m) 
         roots : (k c d : ℕ) → k + d ≤ 2 ^ 30 → c ≤ d → k + c < 2 ^ 32
         roots k c d l q = omega (arith, l, q)
 
-    func_ready : FuncReady (given_by m) r.numbering.env r.numbering.size r.func start first (ConstGood j)
+    func_ready : FuncReady (given_by m) r.numbering.env r.numbering.size r.func start first (ConstGood m j)
     func_ready = record {
       one = subst (λ x. OneName x.env) (sym r.numbered) (good.one n);
       few = subst (λ x. FewNumbers x.env x.size) (sym r.numbered) (good.few n);

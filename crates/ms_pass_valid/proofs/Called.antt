@@ -17,12 +17,12 @@ use Rattle.ms_runs.specs.World.{Here}
 use Rattle.ms_ir.specs.Equal.{has_name}
 use Rattle.ms_ir.specs.Locals.{func_insts}
 use Rattle.ms_valid.specs.Paths.{insts_of}
-use Rattle.ms_valid.specs.ExternalsFit.{name_unless, callees, is_external, is_runtime, decl_fits}
+use Rattle.ms_valid.specs.ExternalsFit.{name_unless, callees, called_names, is_external, is_runtime, decl_fits}
 use Rattle.ms_valid.proofs.Finding.{both_empty}
 use Rattle.ms_valid.proofs.NameTests.{name_within, within_name}
 use Rattle.ms_tasks.specs.Environments.{Env, Given}
 use Rattle.ms_ir.specs.Signatures.{runtime_declarations}
-use Rattle.ms_pass_valid.proofs.Checked.{OpFits}
+use Rattle.ms_pass_valid.proofs.Checked.{OpFits, MayCall, MayAsk}
 use Rattle.ms_pass_valid.proofs.Paths.{In, to_in, from_in, in_left, in_right, in_either}
 use Rattle.ms_pass_valid.proofs.PassPaths.{passed}
 use Rattle.ms_pass_valid.proofs.FuncFits.{StandsAt, all_stand}
@@ -52,24 +52,14 @@ called_in : (is : List Inst) (x : Name) → In (flat_map (λ i. callees i.op) is
 called_in [] x p = p
 called_in (i ∷ is) x p = ⊎_elim (λ l. inl l) (λ r. inr (called_in is x r)) (in_either (callees i.op) (flat_map (λ i. callees i.op) is) x p)
 
-call_reserved : (fn : RuntimeFn) → is_reserved (runtime_name fn) ≡ true
-call_reserved function.Check = refl
-call_reserved function.CheckMemory = refl
-call_reserved function.CheckString = refl
-call_reserved function.Blind = refl
-call_reserved function.Poison = refl
-call_reserved function.Unpoison = refl
-call_reserved function.Copy = refl
-call_reserved function.Fill = refl
-call_reserved function.StoreOrigin = refl
-call_reserved function.LoadOrigin = refl
-call_reserved function.Size = refl
-call_reserved function.CheckFormat = refl
+call_known : (m j : Module) (fn : RuntimeFn) → MayCall (ConstGood m j) fn → (is_reserved (runtime_name fn) ≡ true) ⊎ In (called_names m) (runtime_name fn)
+call_known m j (function.Move k) c = inr (to_in (called_names m) (runtime_name (function.Move k)) (name_within (called_names m) (runtime_name (function.Move k)) c.called))
+call_known m j fn c = inl refl
 
-fits_reserved : (o : Op) (x : Name) → OpFits o → In (callees o) x → is_reserved x ≡ true
-fits_reserved (op.Call r y as') x s (inl e) = ap is_reserved (sym e ∙ s.named) ∙ call_reserved s.function
-fits_reserved (op.Call r y as') x s (inr e) = absurd e
-fits_reserved _ x s e = absurd e
+fits_known : (m j : Module) (o : Op) (x : Name) (s : OpFits o) → MayAsk (ConstGood m j) o s → In (callees o) x → (is_reserved x ≡ true) ⊎ In (called_names m) x
+fits_known m j (op.Call r y as') x s c (inl e) = subst (λ z. (is_reserved z ≡ true) ⊎ In (called_names m) z) (sym s.named ∙ e) (call_known m j s.function c)
+fits_known m j (op.Call r y as') x s c (inr e) = absurd e
+fits_known m j _ x s c e = absurd e
 
 abbrev Called : List Inst → Name → Type 0
 Called is x = In (flat_map (λ i. callees i.op) is) x
@@ -104,17 +94,17 @@ called_func (k ∷ fs) zero f x e p =
 called_func (k ∷ fs) (suc n) f x e p =
     in_right (flat_map (λ i. callees i.op) (func_insts k)) (flat_map (λ f. flat_map (λ i. callees i.op) (func_insts f)) fs) x (called_func fs n f x e p)
 
--- an instrumented function calls reserved names, and what the function calls
-pub func_calls : (j : Module) (given : Given) (env : Env) (size : ℕ) (f : Func) (h : Here) (n : ℕ) → FuncReady given env size f h n (ConstGood j)
-    → (x : Name) → In (flat_map (λ i. callees i.op) (func_insts (passed given env f h n))) x → (is_reserved x ≡ true) ⊎ In (flat_map (λ i. callees i.op) (func_insts f)) x
-func_calls j given env size f h n r x p =
+-- an instrumented function calls reserved names, what its module calls and what the function calls
+pub func_calls : (m j : Module) (given : Given) (env : Env) (size : ℕ) (f : Func) (h : Here) (n : ℕ) → FuncReady given env size f h n (ConstGood m j)
+    → (x : Name) → In (flat_map (λ i. callees i.op) (func_insts (passed given env f h n))) x → ((is_reserved x ≡ true) ⊎ In (called_names m) x) ⊎ In (flat_map (λ i. callees i.op) (func_insts f)) x
+func_calls m j given env size f h n r x p =
     let g = passed given env f h n in
     let w = some_block (λ i. In (callees i.op) x) g.blocks (called_in (func_insts g) x p) in
     let s = some_place (λ i. In (callees i.op) x) (insts_of g w.0) w.1 in
-    by_stand w.0 s.0 s.1 s.3 (all_stand given env size r.one r.few f h n (ConstGood j) r.entry r.room r.once r.free r.good r.masked r.phi_good w.0 s.0 s.1 s.2)
+    by_stand w.0 s.0 s.1 s.3 (all_stand given env size r.one r.few f h n (ConstGood m j) r.entry r.room r.once r.free r.good r.masked r.phi_good w.0 s.0 s.1 s.2)
   where
-    by_stand : (b q : ℕ) (i : Inst) → In (callees i.op) x → StandsAt given env size r.one r.few f h n (ConstGood j) r.entry r.room r.once r.free r.good r.masked r.phi_good b q i → (is_reserved x ≡ true) ⊎ In (flat_map (λ i. callees i.op) (func_insts f)) x
-    by_stand b q i c (inl k) = inl (fits_reserved i.op x k.shaped c)
+    by_stand : (b q : ℕ) (i : Inst) → In (callees i.op) x → StandsAt given env size r.one r.few f h n (ConstGood m j) r.entry r.room r.once r.free r.good r.masked r.phi_good b q i → ((is_reserved x ≡ true) ⊎ In (called_names m) x) ⊎ In (flat_map (λ i. callees i.op) (func_insts f)) x
+    by_stand b q i c (inl k) = inl (fits_known m j i.op x k.shaped k.calls c)
     by_stand b q i c (inr (inl k)) = absurd (subst (λ y. In (callees y.op) x) k.is c)
     by_stand b q i c (inr (inr k)) = inr (called_block f.blocks b k.place i x k.at c)
 

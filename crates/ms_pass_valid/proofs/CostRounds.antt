@@ -1,5 +1,5 @@
 -- How much is written before and behind an instruction.
-use Rattle.std.proofs.Common.{◌≡◌, ℕ, suc, ◌+◌, ◌*◌, ◌≤◌, List, [], ◌∷◌, ◌++◌, Bool, true, false, Option, Some, None, arith}
+use Rattle.std.proofs.Common.{◌≡◌, ℕ, suc, ◌+◌, ◌-◌, ◌*◌, ◌^◌, ◌≤◌, List, [], ◌∷◌, ◌++◌, Bool, true, false, Option, Some, None, arith}
 use Rattle.std.specs.Prelude.{length, eqb, if◌then◌else◌, is_some}
 use Rattle.ms_bits.specs.declared.operations.BinOp.{BinOp}
 use Rattle.ms_bits.specs.declared.operations.BinOp.TheVariants as binary
@@ -17,18 +17,20 @@ use Rattle.ms_ir.specs.declared.calls.External.{External}
 use Rattle.ms_ir.specs.declared.calls.External.TheVariants as called
 use Rattle.ms_ir.specs.declared.calls.External.TheVariants.{Malloc, Realloc, Memset, LlvmMemset}
 use Rattle.ms_runs.specs.Uses.{Use, Word, Bytes, Line, Asked}
-use Rattle.ms_tasks.specs.Tasks.{mask_name, origin_name, Expr, Leaf, Turn, Task, Sets}
-use Rattle.ms_tasks.specs.Environments.{Env, Given, Tracked, is_zero, tracked_at, mask_of, word_of, bits_of}
+use Rattle.ms_tasks.specs.Tasks.{mask_name, origin_name, Expr, Leaf, Turn, Pick, Task, Sets}
+use Rattle.ms_tasks.specs.Environments.{Env, Given, Tracked, is_set, number, is_zero, tracked_at, mask_of, word_of, bits_of}
 use Rattle.ms_tasks.specs.CheckTasks.{check_task, use_tasks, check_tasks, all_zero, blind_tasks}
-use Rattle.ms_tasks.specs.ResultMasks.{cast_expr, word_expr, answer_expr, answer_origin_expr}
+use Rattle.ms_tasks.specs.ResultMasks.{known_expr, moved_args, cast_expr, word_expr, answer_expr, answer_origin_expr}
 use Rattle.ms_bits.specs.declared.word_functions.WordFn.{WordFn}
 use Rattle.ms_bits.specs.declared.word_functions.WordFn.TheVariants as word
+use Rattle.ms_bits.specs.declared.word_functions.BitMove.{BitMove}
+use Rattle.ms_bits.specs.WordFunctions.{move_fn, move_width}
 use Rattle.ms_bits.specs.WordFunctions.{bits_of as width_bits}
 use Rattle.ms_ir.specs.Names.{lookup, externals}
-use Rattle.ms_tasks.specs.ResultTasks.{result_width, define_tasks, called_tasks}
+use Rattle.ms_tasks.specs.ResultTasks.{result_width, external_move, answer_tasks, define_tasks, called_tasks}
 use Rattle.ms_tasks.specs.PlaneTasks.{plane_tasks, save_tasks, saved_tasks, external_tasks, callee_tasks, fill_task}
 use Rattle.ms_tasks.specs.SlotTasks.{hand_tasks, give_result, give_arguments, take_result, take_tasks, result_mask_slot, result_origin_slot}
-use Rattle.ms_pass_valid.proofs.Costs.{cost, task_cost, tasks_cost}
+use Rattle.ms_pass_valid.proofs.Costs.{cost, costs, task_cost, tasks_cost}
 use Rattle.ms_pass_valid.proofs.CostRules.{widened_cost, bits_cost, compare_cost, select_cost, binary_cost, address_cost, union_masks_cost, first_last_cost}
 
 pub tasks_cost_append : (a b : List Task) → tasks_cost (a ++ b) ≡ tasks_cost a + tasks_cost b
@@ -52,20 +54,29 @@ word_cost : (f : WordFn) (w : ℕ) (a b c : Tracked) → cost (word_expr f w a b
 word_cost word.Ctpop w a b c = omega arith
 word_cost word.Ctlz w a b c = omega arith
 word_cost word.Cttz w a b c = omega arith
-word_cost word.Bswap w a b c = omega arith
-word_cost word.Bitreverse w a b c = omega arith
 word_cost word.Abs w a b c = omega arith
 word_cost word.Smax w a b c = omega arith
 word_cost word.Smin w a b c = omega arith
 word_cost word.Umax w a b c = omega arith
 word_cost word.Umin w a b c = omega arith
-word_cost word.Fshl w a b c = omega arith
-word_cost word.Fshr w a b c = omega arith
 word_cost word.UaddSat w a b c = omega arith
 word_cost word.UsubSat w a b c = omega arith
 word_cost word.SaddSat w a b c = omega arith
 word_cost word.SsubSat w a b c = omega arith
-word_cost word.Expect w a b c = omega arith
+word_cost f w a b c = omega arith
+
+known_cost : (w : ℕ) (c : Tracked) (m : Expr) → cost (known_expr w c m) ≤ cost m + 8
+known_cost w c m = by_zero (is_zero c.mask)
+  where
+    by_zero : (b : Bool) → cost (if b then m else Pick (is_set (Int w) (mask_of c)) (Int w) (number (2 ^ w - 1)) m) ≤ cost m + 8
+    by_zero true = omega arith
+    by_zero false = omega arith
+
+-- a call of what moves bits
+moved_cost : (f : WordFn) (w : ℕ) (a b c : Tracked) → costs (moved_args f w a b c) + length (moved_args f w a b c) ≤ 50
+moved_cost word.Fshl w a b c = omega (arith, known_cost w c (mask_of a), known_cost w c (mask_of b))
+moved_cost word.Fshr w a b c = omega (arith, known_cost w c (mask_of a), known_cost w c (mask_of b))
+moved_cost f w a b c = omega arith
 
 pub define_cost : (func : Name → Option ℕ) (v : ℕ) (o : Op) (ts : List Tracked) → tasks_cost (define_tasks func v o ts) ≤ 110 + 17 * length ts
 define_cost func v (op.Binary o f t a b) ts = by_op o
@@ -90,13 +101,23 @@ define_cost func v (op.Call r x as') ts = by_own (is_some (func x))
   where
     by_own : (b : Bool) → tasks_cost (called_tasks b v (op.Call r x as') ts) ≤ 110 + 17 * length ts
     by_own true = omega arith
-    by_own false = by_external (lookup externals x)
+    by_own false = by_move (external_move (lookup externals x))
       where
+        origin_cost : (e : Option External) → cost (answer_origin_expr e ts) ≤ 7 * length ts
+        origin_cost None = omega arith
+        origin_cost (Some (called.Word f n)) = omega (arith, first_last_cost ts)
+        origin_cost (Some e) = omega arith
+
         by_external : (e : Option External)
             → tasks_cost (Sets (origin_name v) (Int 32) (answer_origin_expr e ts) ∷ Sets (mask_name v) (Int (result_width (op.Call r x as'))) (answer_expr e ts) ∷ []) ≤ 110 + 17 * length ts
         by_external None = omega arith
         by_external (Some (called.Word f n)) = omega (arith, first_last_cost ts, word_cost f (width_bits n) (tracked_at 0 ts) (tracked_at 1 ts) (tracked_at 2 ts))
         by_external (Some e) = omega arith
+
+        by_move : (k : Option BitMove) → tasks_cost (answer_tasks (mask_name v) (origin_name v) k (op.Call r x as') ts) ≤ 110 + 17 * length ts
+        by_move None = by_external (lookup externals x)
+        by_move (Some k) =
+            omega (arith, origin_cost (lookup externals x), moved_cost (move_fn k) (width_bits (move_width k)) (tracked_at 0 ts) (tracked_at 1 ts) (tracked_at 2 ts))
 define_cost func v _ ts = omega arith
 
 unless_cost : (b : Bool) (t : Task) (k : ℕ) → task_cost t ≤ k → tasks_cost (if b then [] else t ∷ []) ≤ k

@@ -83,7 +83,7 @@ all_from : (p : Inst → Bool) (is : List Inst) → ((q : ℕ) (i : Inst) → sl
 all_from p [] h = refl
 all_from p (i ∷ is) h = ap₂ (λ a b. a && b) (h 0 i refl) (all_from p is (λ q k e. h (suc q) k e))
 
-module _ (j : Module) (given : Given) (env : Env) (size : ℕ) (f : Func) (h : Here) (n : ℕ) (r : FuncReady given env size f h n (ConstGood j)) (w : func_formed f ≡ true)
+module _ (m j : Module) (given : Given) (env : Env) (size : ℕ) (f : Func) (h : Here) (n : ℕ) (r : FuncReady given env size f h n (ConstGood m j)) (w : func_formed f ≡ true)
     (ends : (k : Block) → slice_get f.blocks 0 ≡ Some k → ends_well k.insts ≡ true)
     (own : (b p : ℕ) (i : Inst) → slice_get (insts_of f b) p ≡ Some i → inst_formed i ≡ true) where
   abbrev g : Func
@@ -129,10 +129,10 @@ module _ (j : Module) (given : Given) (env : Env) (size : ℕ) (f : Func) (h : H
       ∙ phi_formed g value_named k.ty k.edges k.number k.typed (ap (λ l. nat_lt 0 l) lengths ∙ some) (ap (list_all is_local_name) (labels_same b i k) ∙ two.1) k.fits
 
   each_formed : (b q : ℕ) (i : Inst) → slice_get (insts_of g b) q ≡ Some i → inst_formed i ≡ true
-  each_formed b q i e = by_stand (all_stand given env size r.one r.few f h n (ConstGood j) r.entry r.room r.once r.free r.good r.masked r.phi_good b q i e)
+  each_formed b q i e = by_stand (all_stand given env size r.one r.few f h n (ConstGood m j) r.entry r.room r.once r.free r.good r.masked r.phi_good b q i e)
     where
-      by_stand : StandsAt given env size r.one r.few f h n (ConstGood j) r.entry r.room r.once r.free r.good r.masked r.phi_good b q i → inst_formed i ≡ true
-      by_stand (inl k) = inserted_formed j (KnownAt (passed given env f h n) b q) (λ x t d. value_named x t d.0) i k
+      by_stand : StandsAt given env size r.one r.few f h n (ConstGood m j) r.entry r.room r.once r.free r.good r.masked r.phi_good b q i → inst_formed i ≡ true
+      by_stand (inl k) = inserted_formed m j (KnownAt (passed given env f h n) b q) (λ x t d. value_named x t d.0) i k
       by_stand (inr (inl k)) = phi_is_formed b i k
       by_stand (inr (inr k)) = own b k.place i k.at
 

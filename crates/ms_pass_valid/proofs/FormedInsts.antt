@@ -11,9 +11,12 @@ use Rattle.ms_ir.specs.declared.syntax.Op.{Op}
 use Rattle.ms_ir.specs.declared.syntax.Op.TheVariants as op
 use Rattle.ms_ir.specs.declared.syntax.Inst.{Inst}
 use Rattle.ms_ir.specs.declared.syntax.Module.{Module}
+use Rattle.ms_bits.specs.declared.word_functions.BitMove.{BitMove}
+use Rattle.ms_bits.specs.declared.word_functions.BitMove.TheVariants.{Bswap16, Bswap32, Bswap64, Bitreverse8, Bitreverse16, Bitreverse32, Bitreverse64, Fshl8, Fshl16, Fshl32, Fshl64, Fshr8, Fshr16, Fshr32, Fshr64}
+use Rattle.ms_bits.specs.WordFunctions.{move_fn, move_width}
 use Rattle.ms_ir.specs.declared.calls.RuntimeFn.{RuntimeFn}
 use Rattle.ms_ir.specs.declared.calls.RuntimeFn.TheVariants as function
-use Rattle.ms_ir.specs.Names.{name_eq, main_name, runtime_name}
+use Rattle.ms_ir.specs.Names.{bit_moves, name_eq, main_name, runtime_name}
 use Rattle.ms_ir.specs.Code.{operands}
 use Rattle.ms_bits.specs.NoFlags.{no_flags}
 use Rattle.ms_ir.specs.Written.{labels, result_type}
@@ -22,11 +25,12 @@ use Rattle.ms_valid.specs.FormedNames.{is_local_name, is_global_name}
 use Rattle.ms_valid.specs.FormedCode.{is_int_type, is_value_type, result_formed, operand_formed, are_among, binary_flags, cast_flags, shape_formed, name_formed, inst_formed}
 use Rattle.ms_pass_valid.proofs.Checked.{OperandFits, OperandsFit, OpFits, ResultFits, InstFits}
 use Rattle.ms_pass_valid.proofs.Words.{int_value}
+use Rattle.ms_pass_valid.proofs.WordTypes.{word_values}
 use Rattle.ms_pass_valid.proofs.Numerals.{msan_formed}
 use Rattle.ms_pass_valid.proofs.Inserted.{ConstGood}
 
-module _ (j : Module) (K : Name → Ty → Type 0) (named : (x : Name) (t : Ty) → K x t → is_local_name x ≡ true) where
-  operand_is : (t : Ty) (o : Operand) → OperandFits K (ConstGood j) t o → operand_formed t o ≡ true
+module _ (m j : Module) (K : Name → Ty → Type 0) (named : (x : Name) (t : Ty) → K x t → is_local_name x ≡ true) where
+  operand_is : (t : Ty) (o : Operand) → OperandFits K (ConstGood m j) t o → operand_formed t o ≡ true
   operand_is t (operand.Local x) k = named x t k
   operand_is t (operand.Int n) k = k
   operand_is t operand.Null k = k.formed
@@ -35,7 +39,7 @@ module _ (j : Module) (K : Name → Ty → Type 0) (named : (x : Name) (t : Ty) 
   operand_is t (operand.Global x) k = k.formed
   operand_is t (operand.Offset x steps) k = k.formed
 
-  operands_are : (os : List (Ty × Operand)) → OperandsFit K (ConstGood j) os → list_all (λ a. operand_formed a.0 a.1) os ≡ true
+  operands_are : (os : List (Ty × Operand)) → OperandsFit K (ConstGood m j) os → list_all (λ a. operand_formed a.0 a.1) os ≡ true
   operands_are [] k = refl
   operands_are (o ∷ os) k = ap₂ (λ a b. a && b) (operand_is o.0 o.1 k.0) (operands_are os k.1)
 
@@ -59,6 +63,25 @@ module _ (j : Module) (K : Name → Ty → Type 0) (named : (x : Name) (t : Ty) 
   params_values function.LoadOrigin = refl
   params_values function.Size = refl
   params_values function.CheckFormat = refl
+  params_values (function.Move k) = word_values (move_fn k) (move_width k)
+
+  move_formed : (k : BitMove) → (result_formed (runtime_signature (function.Move k)).ret && is_global_name (runtime_name (function.Move k)) && not (name_eq (runtime_name (function.Move k)) main_name)) ≡ true
+  unfolding bit_moves
+  move_formed Bswap16 = refl
+  move_formed Bswap32 = refl
+  move_formed Bswap64 = refl
+  move_formed Bitreverse8 = refl
+  move_formed Bitreverse16 = refl
+  move_formed Bitreverse32 = refl
+  move_formed Bitreverse64 = refl
+  move_formed Fshl8 = refl
+  move_formed Fshl16 = refl
+  move_formed Fshl32 = refl
+  move_formed Fshl64 = refl
+  move_formed Fshr8 = refl
+  move_formed Fshr16 = refl
+  move_formed Fshr32 = refl
+  move_formed Fshr64 = refl
 
   callee_formed : (fn : RuntimeFn) → (result_formed (runtime_signature fn).ret && is_global_name (runtime_name fn) && not (name_eq (runtime_name fn) main_name)) ≡ true
   callee_formed function.Check = refl
@@ -73,6 +96,7 @@ module _ (j : Module) (K : Name → Ty → Type 0) (named : (x : Name) (t : Ty) 
   callee_formed function.LoadOrigin = refl
   callee_formed function.Size = refl
   callee_formed function.CheckFormat = refl
+  callee_formed (function.Move k) = move_formed k
 
   shape_is : (o : Op) → OpFits o → shape_formed o ≡ true
   shape_is (op.Binary o f t x y) s = ap (λ g. is_int_type t && are_among g (binary_flags o)) s.0 ∙ ap (λ c. c && true) s.1
@@ -108,7 +132,7 @@ module _ (j : Module) (K : Name → Ty → Type 0) (named : (x : Name) (t : Ty) 
   result_is (Some x) None k = absurd k
 
   -- an inserted instruction that fits is formed
-  pub inserted_formed : (i : Inst) → InstFits K (ConstGood j) i → inst_formed i ≡ true
+  pub inserted_formed : (i : Inst) → InstFits K (ConstGood m j) i → inst_formed i ≡ true
   inserted_formed i k =
       ap₂ (λ a b. a && b)
       (ap₂ (λ a b. a && b) (ap₂ (λ a b. a && b) (shape_is i.op k.shaped) (operands_are (operands i.op) k.reads)) (ap (list_all is_local_name) (no_labels i.op k.shaped)))

@@ -6,7 +6,7 @@ use Rattle.std.proofs.Math.Path.{ap₂}
 use Rattle.ms_ir.specs.declared.syntax.Ty.{Int}
 use Rattle.ms_ir.specs.declared.syntax.Func.{Func}
 use Rattle.ms_ir.specs.declared.syntax.Module.{Module}
-use Rattle.ms_ir.specs.Names.{name_eq, main_name}
+use Rattle.ms_ir.specs.Names.{bit_moves, name_eq, main_name}
 use Rattle.ms_runs.specs.World.{Here}
 use Rattle.ms_ir.specs.Code.{over_funcs, func_at, is_phi}
 use Rattle.ms_valid.specs.FormedCode.{is_body, ends_well}
@@ -34,6 +34,7 @@ all_funcs p [] h = refl
 all_funcs p (f ∷ fs) h = ap₂ (λ a b. a && b) (h 0 f refl) (all_funcs p fs (λ n g e. h (suc n) g e))
 
 slots_formed : list_all global_formed slot_globals ≡ true
+unfolding bit_moves
 slots_formed = ap₂ (λ a b. ((true && a) && true) && (((true && b) && true) && true)) (type_formed-array 100 (Int 64)) (type_formed-array 100 (Int 32))
 
 -- a body that begins with no phi has none
@@ -70,7 +71,7 @@ module _ (numbers : ℕ → Numbering) (m : Module) (w : Formed m) (v : Valid m)
           let r = from_func (given_by m) numbers m.funcs 1 0 n g e in
           let h : Here = record { site = r.site_here; root = r.root_here; main = name_eq r.func.name main_name } in
           subst (λ x. func_formed x ≡ true) (sym r.is)
-          (func_stays_formed (pass numbers m) (given_by m) r.numbering.env r.numbering.size r.func h (2 * r.numbering.size + 1) (ready numbers m w v can good n g e)
+          (func_stays_formed m (pass numbers m) (given_by m) r.numbering.env r.numbering.size r.func h (2 * r.numbering.size + 1) (ready numbers m w v can good n g e)
           (all_get func_formed m.funcs n r.func w.functions r.at) (first_ends n r.func r.at)
           (λ b p i at. formed_at m w n b p i (ap (λ o. slice_get (unwrap_or (option_map (λ k. k.insts) (slice_get (unwrap_or (option_map (λ x. x.blocks) o) []) b)) []) p) r.at ∙ at)))
 

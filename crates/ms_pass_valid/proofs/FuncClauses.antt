@@ -39,7 +39,7 @@ use Rattle.ms_tasks.specs.Tasks.{msan_name, inserted}
 use Rattle.ms_tasks.specs.Environments.{Env, Given}
 use Rattle.ms_tasks.specs.Known.{OneName, FewNumbers}
 use Rattle.ms_tasks.proofs.InsertedNames.{msan_reserved}
-use Rattle.ms_pass_valid.proofs.Checked.{ResultFits}
+use Rattle.ms_pass_valid.proofs.Checked.{MayCall, Allowed, ResultFits}
 use Rattle.ms_pass_valid.proofs.Paths.{In, to_in, from_in, in_left, in_right, result_in, defined_later}
 use Rattle.ms_pass_valid.proofs.PassPaths.{passed, code_at, Masks, begins, own_defined, own_defined_end, index_same}
 use Rattle.ms_pass_valid.proofs.Placed.{here_at}
@@ -101,7 +101,7 @@ marked_place (i ∷ is) x (inr p) = let s = marked_place is x p in (suc s.0, s.1
 
 -- ---- all that is asked of a function
 
-pub record FuncReady (given : Given) (env : Env) (size : ℕ) (f : Func) (h : Here) (n : ℕ) (C : Ty → Operand → Type 0) : Type 0 where
+pub record FuncReady (given : Given) (env : Env) (size : ℕ) (f : Func) (h : Here) (n : ℕ) (C : Allowed) : Type 0 where
   pub one : OneName env
   pub few : FewNumbers env size
   pub room : 2 * size + 1 ≤ n
@@ -121,23 +121,23 @@ pub record ModuleReady (m j : Module) : Type 0 where
   pub type_known : (x : Name) → has_name (type_names m) x ≡ true → has_name (type_names j) x ≡ true
   pub variable : (x : Name) → is_variable m x ≡ true → is_variable j x ≡ true
   pub symbol : (x : Name) → has_name (symbols m) x ≡ true → has_name (symbols j) x ≡ true
-  pub declared : (fn : RuntimeFn) → signature_of j (runtime_name fn) ≡ Some (runtime_signature fn)
-  pub runtime_symbol : (fn : RuntimeFn) → has_name (symbols j) (runtime_name fn) ≡ true
+  pub declared : (fn : RuntimeFn) → MayCall (ConstGood m j) fn → signature_of j (runtime_name fn) ≡ Some (runtime_signature fn)
+  pub runtime_symbol : (fn : RuntimeFn) → MayCall (ConstGood m j) fn → has_name (symbols j) (runtime_name fn) ≡ true
   pub own_call : (x : Name) → has_name (symbols m) x ≡ true → (signature_of j x ≡ signature_of m x) × (is_printf j x ≡ is_printf m x)
   pub own_external : (x : Name) → external_named (func_index j.funcs) x ≡ external_named (func_index m.funcs) x
   pub slot : (x : Name) → has_name (map (λ g. g.name) slot_globals) x ≡ true → (is_variable j x ≡ true) × (has_name (symbols j) x ≡ true)
 
-module _ (m j : Module) (given : Given) (env : Env) (size : ℕ) (f : Func) (h : Here) (n : ℕ) (r : FuncReady given env size f h n (ConstGood j)) (a : ModuleReady m j)
+module _ (m j : Module) (given : Given) (env : Env) (size : ℕ) (f : Func) (h : Here) (n : ℕ) (r : FuncReady given env size f h n (ConstGood m j)) (a : ModuleReady m j)
     (own_fits : (b p : ℕ) (i : Inst) → slice_get (insts_of f b) p ≡ Some i → (s : ℕ) × FitsAt m (spot f b p s) i) where
   abbrev g : Func
   g = passed given env f h n
 
   stands : (b q : ℕ) (i : Inst) → slice_get (insts_of g b) q ≡ Some i
-      → StandsAt given env size r.one r.few f h n (ConstGood j) r.entry r.room r.once r.free r.good r.masked r.phi_good b q i
-  stands b q i e = all_stand given env size r.one r.few f h n (ConstGood j) r.entry r.room r.once r.free r.good r.masked r.phi_good b q i e
+      → StandsAt given env size r.one r.few f h n (ConstGood m j) r.entry r.room r.once r.free r.good r.masked r.phi_good b q i
+  stands b q i e = all_stand given env size r.one r.few f h n (ConstGood m j) r.entry r.room r.once r.free r.good r.masked r.phi_good b q i e
 
   values : (x : Name) (t : Ty) → value_type f x ≡ Some t → value_type g x ≡ Some t
-  values x t e = value_kept given env size r.one r.few f h n (ConstGood j) r.entry r.room r.once r.free r.good r.masked r.phi_good x t e
+  values x t e = value_kept given env size r.one r.few f h n (ConstGood m j) r.entry r.room r.once r.free r.good r.masked r.phi_good x t e
 
   local : (x : Name) → has_name (locals f) x ≡ true → has_name (locals g) x ≡ true
   local x e = within_name (locals g) x (from_in (locals g) x (locals_kept given env f h n x (to_in (locals f) x (name_within (locals f) x e))))
@@ -160,7 +160,7 @@ module _ (m j : Module) (given : Given) (env : Env) (size : ℕ) (f : Func) (h :
       by_stand w.0 p.0 p.1 p.3 p.4 (stands w.0 p.0 p.1 p.2)
     where
       by_stand : (b q : ℕ) (i : Inst) → i.marked ≡ true → i.result ≡ Some x
-          → StandsAt given env size r.one r.few f h n (ConstGood j) r.entry r.room r.once r.free r.good r.masked r.phi_good b q i → is_reserved x ≡ true
+          → StandsAt given env size r.one r.few f h n (ConstGood m j) r.entry r.room r.once r.free r.good r.masked r.phi_good b q i → is_reserved x ≡ true
       by_stand b q i mk named (inl k) = fits_reserved x (result_type i.op) (subst (λ o. ResultFits o (result_type i.op)) named k.gives)
       by_stand b q i mk named (inr (inl k)) =
           let same : msan_name k.number ≡ x = ap (λ o. unwrap_or o x) (sym (ap (λ y. y.result) k.is) ∙ named) in ap is_reserved (sym same) ∙ msan_reserved k.number
@@ -203,7 +203,7 @@ module _ (m j : Module) (given : Given) (env : Env) (size : ℕ) (f : Func) (h :
 
   -- ---- uses
 
-  own_use : (b p front s : ℕ) (t : Ty) (o : Operand) → OperandGood f (ConstGood j) b p t o
+  own_use : (b p front s : ℕ) (t : Ty) (o : Operand) → OperandGood f (ConstGood m j) b p t o
       → All IsUseDefined (operand_use (spot g b (begins given env f h n b p + front) s) b (begins given env f h n b p + front) o)
   own_use b p front s t (operand.Local x) k =
       let q = begins given env f h n b p + front in
@@ -216,14 +216,14 @@ module _ (m j : Module) (given : Given) (env : Env) (size : ℕ) (f : Func) (h :
   own_use b p front s t (operand.Global x) e = All-nil IsUseDefined
   own_use b p front s t (operand.Offset x steps) e = All-nil IsUseDefined
 
-  own_uses : (b p front s : ℕ) (os : List (Ty × Operand)) → OperandsGood f (ConstGood j) b p os
+  own_uses : (b p front s : ℕ) (os : List (Ty × Operand)) → OperandsGood f (ConstGood m j) b p os
       → All IsUseDefined (flat_map (λ o. operand_use (spot g b (begins given env f h n b p + front) s) b (begins given env f h n b p + front) o.1) os)
   own_uses b p front s [] k = All-nil IsUseDefined
   own_uses b p front s (o ∷ os) k =
       let q = begins given env f h n b p + front in
       All-append IsUseDefined (operand_use (spot g b q s) b q o.1) (flat_map (λ o. operand_use (spot g b q s) b q o.1) os) (own_use b p front s o.0 o.1 k.1) (own_uses b p front s os k.2)
 
-  own_edge : (b q s : ℕ) (t : Ty) (o : Operand) (from : Name) → EdgeGood f (ConstGood j) t o from → All IsUseDefined (edge_use (spot g b q s) (o, from))
+  own_edge : (b q s : ℕ) (t : Ty) (o : Operand) (from : Name) → EdgeGood f (ConstGood m j) t o from → All IsUseDefined (edge_use (spot g b q s) (o, from))
   own_edge b q s t (operand.Local x) from k =
       let c = block_index g.blocks from in
       All-cons IsUseDefined (record { func = g; site = s; value = record { block = c; place = length (insts_of g c); name = x } }) []
@@ -236,7 +236,7 @@ module _ (m j : Module) (given : Given) (env : Env) (size : ℕ) (f : Func) (h :
   own_edge b q s t (operand.Global x) from e = All-nil IsUseDefined
   own_edge b q s t (operand.Offset x steps) from e = All-nil IsUseDefined
 
-  own_edges : (b q s : ℕ) (t : Ty) (es : List (Operand × Name)) → EdgesGood f (ConstGood j) t es → All IsUseDefined (flat_map (edge_use (spot g b q s)) es)
+  own_edges : (b q s : ℕ) (t : Ty) (es : List (Operand × Name)) → EdgesGood f (ConstGood m j) t es → All IsUseDefined (flat_map (edge_use (spot g b q s)) es)
   own_edges b q s t [] k = All-nil IsUseDefined
   own_edges b q s t (e ∷ es) k = All-append IsUseDefined (edge_use (spot g b q s) e) (flat_map (edge_use (spot g b q s)) es) (own_edge b q s t e.0 e.1 k.0) (own_edges b q s t es k.1)
 
@@ -246,7 +246,7 @@ module _ (m j : Module) (given : Given) (env : Env) (size : ℕ) (f : Func) (h :
   own_defined_uses b p q front s i (op.Phi t es) is at e = own_edges b q s t es (r.phi_good b p i t es at is).edges
   own_defined_uses b p q front s i o is at e =
       subst (λ k. All IsUseDefined (inst_uses (spot g b k s) o)) (sym e)
-      (own_uses b p front s (operands o) (subst (λ x. OperandsGood f (ConstGood j) b p (operands x)) is (r.good b p i at (ap is_phi is)).reads))
+      (own_uses b p front s (operands o) (subst (λ x. OperandsGood f (ConstGood m j) b p (operands x)) is (r.good b p i at (ap is_phi is)).reads))
 
   -- ---- own instructions
 
@@ -254,7 +254,7 @@ module _ (m j : Module) (given : Given) (env : Env) (size : ℕ) (f : Func) (h :
   flags_kept (op.Call t x as') e = ap (λ k. name_unless (list_all (flag_fits k) as') x) (a.own_external x) ∙ e
   flags_kept _ e = refl
 
-  own_stands : (b q site : ℕ) (i : Inst) → OwnAt given env size r.one r.few f h n (ConstGood j) r.entry r.room r.once r.free r.good r.masked r.phi_good b q i → FitsAt j (spot g b q site) i
+  own_stands : (b q site : ℕ) (i : Inst) → OwnAt given env size r.one r.few f h n (ConstGood m j) r.entry r.room r.once r.free r.good r.masked r.phi_good b q i → FitsAt j (spot g b q site) i
   own_stands b q site i k =
       let o = own_fits b k.place i k.at in
       let fits = λ (x : Ty × Operand). operand_fits m (value_type f) x.0 x.1 in
@@ -303,7 +303,7 @@ module _ (m j : Module) (given : Given) (env : Env) (size : ℕ) (f : Func) (h :
         phis_fit = phi_same g (block_name_at g b) k.own_edges k.edges (same_labels b i k) agree own_edges_fit;
         externals_fit = refl;
         uses_defined = edges_defined j g b q site (λ x u e. value_local g x u e) k.ty k.edges k.fits;
-        marks_fit = marked_fits j g b q site a.declared a.runtime_symbol (λ x u e. value_local g x u e) (inserted (Some (msan_name k.number)) (op.Phi k.ty k.edges)) refl refl (msan_inserted k.number);
+        marks_fit = marked_fits m j g b q site a.declared a.runtime_symbol (λ x u e. value_local g x u e) (inserted (Some (msan_name k.number)) (op.Phi k.ty k.edges)) refl refl (msan_inserted k.number);
       } in
       subst (FitsAt j (spot g b q site)) (sym k.is) done
 
@@ -311,6 +311,6 @@ module _ (m j : Module) (given : Given) (env : Env) (size : ℕ) (f : Func) (h :
   pub func_fits : (b q site : ℕ) (i : Inst) → slice_get (insts_of g b) q ≡ Some i → FitsAt j (spot g b q site) i
   func_fits b q site i e =
       ⊎_elim
-      (λ k. inserted_fits j g b q site a.declared a.runtime_symbol (λ x u e. value_local g x u e) i k)
+      (λ k. inserted_fits m j g b q site a.declared a.runtime_symbol (λ x u e. value_local g x u e) i k)
       (λ k. ⊎_elim (λ p. phi_breaks_none b q site i p) (λ o. own_stands b q site i o) k)
       (stands b q i e)

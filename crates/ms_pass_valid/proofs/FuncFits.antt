@@ -12,9 +12,12 @@ use Rattle.ms_ir.specs.declared.syntax.Op.{Op}
 use Rattle.ms_ir.specs.declared.syntax.Op.TheVariants as op
 use Rattle.ms_ir.specs.declared.syntax.Inst.{Inst}
 use Rattle.ms_ir.specs.declared.syntax.Func.{Func}
-use Rattle.ms_ir.specs.Names.{is_reserved, name_eq}
+use Rattle.ms_ir.specs.Names.{is_reserved, name_eq, lookup, externals}
 use Rattle.ms_runs.specs.World.{Here}
+use Rattle.ms_bits.specs.declared.word_functions.BitMove.{BitMove}
+use Rattle.ms_bits.specs.WordFunctions.{bits_of, move_width}
 use Rattle.ms_ir.specs.declared.calls.External.{External}
+use Rattle.ms_ir.specs.declared.calls.External.TheVariants as external
 use Rattle.ms_ir.specs.declared.calls.External.TheVariants.{Realloc}
 use Rattle.ms_ir.specs.Code.{operands, count_undefs, one_undef, block_index, external_named, is_phi}
 use Rattle.ms_runs_good.proofs.Starts.{place_within}
@@ -30,14 +33,15 @@ use Rattle.ms_tasks.specs.Tasks.{msan_name, mask_name, origin_name, inserted, Ta
 use Rattle.ms_tasks.specs.Environments.{Env, Given, Tracked, mask_type, mask_operand, origin_operand, local_mask, local_origin, tracked}
 use Rattle.ms_tasks.specs.Emit.{Emitted, before_tasks, after_tasks, emit_tasks, start}
 use Rattle.ms_tasks.specs.CheckTasks.{check_tasks, blinded_of, blind_tasks}
-use Rattle.ms_tasks.specs.ResultTasks.{called_tasks, define_tasks, result_tasks}
+use Rattle.ms_tasks.specs.ResultTasks.{external_move, answer_tasks, called_tasks, define_tasks, result_tasks}
+use Rattle.ms_tasks.proofs.WordMasks.{move_is, no_move}
 use Rattle.ms_tasks.specs.Known.{OneName, FewNumbers}
 use Rattle.ms_tasks.specs.SlotTasks.{hand_tasks, take_tasks, take_value, take_parameters, param_mask, param_origin, result_mask_slot, result_origin_slot}
 use Rattle.ms_tasks.specs.PlaneTasks.{saves, saved_by, saved_tasks, plane_tasks, save_tasks}
 use Rattle.ms_tasks.specs.PassLists.{phi_pair, phi_code, mask_edges, origin_from, origins_by, origin_edges, emit_op}
-use Rattle.ms_pass_valid.proofs.Checked.{IsInt, OperandFits, InstFits}
+use Rattle.ms_pass_valid.proofs.Checked.{Allowed, IsInt, OperandFits, InstFits}
 use Rattle.ms_pass_valid.proofs.Emitted.{is_own_call}
-use Rattle.ms_pass_valid.proofs.Emitted.{OperandKnown, OperandsKnown, AllTracked, OpGood}
+use Rattle.ms_pass_valid.proofs.Emitted.{OperandKnown, OperandsKnown, AllTracked, OpGood, MovesGood}
 use Rattle.ms_pass_valid.proofs.Lists.{TypedIn, typed_left, typed_right, typed_at, Targets, targets_right, targets_left, tasks_fit, tasks_typed}
 use Rattle.ms_pass_valid.proofs.Words.{tracked_fits, wide, no_bits, all_bits, number_fits}
 use Rattle.ms_pass_valid.proofs.Rounds.{SmallUses, SlotsGood, params_fit, before_fits, plane_fits}
@@ -55,32 +59,71 @@ BothTyped v t ts = Targets ts (mask_name v) (mask_type t) × Targets ts (origin_
 origin_first : (v : ℕ) (u t : Ty) (ts : List Task) → Some u ≡ Some t → Targets ts (origin_name v) (Int 32) → Targets ts (mask_name v) (mask_type u) → BothTyped v t ts
 origin_first v u t ts e o m = (subst (λ k. Targets ts (mask_name v) (mask_type k)) (same_some u t e) m, o)
 
-define_typed : (func : Name → Option ℕ) (v : ℕ) (o : Op) (ts : List Tracked) (t : Ty) → HasMask o → is_phi o ≡ false → is_own_call func o ≡ false → result_type o ≡ Some t → BothTyped v t (define_tasks func v o ts)
-define_typed func v (op.Binary o f u a b) ts t h e w r = by_op o
+-- what moves bits answers a word of the type of a mask
+abbrev AnswersMove : (Name → Option ℕ) → Op → Type 0
+AnswersMove func (op.Call (Some u) c as') = (k : BitMove) → external_move (external_named func c) ≡ Some k → Int (bits_of (move_width k)) ≡ mask_type u
+AnswersMove func _ = Unit {0}
+
+good_answers : (given : Given) (o : Op) → OpGood given o → AnswersMove given.func o
+good_answers given (op.Call (Some u) c as') g = λ k moves. by_external k (external_named given.func c) refl moves
+  where
+    by_external : (k : BitMove) (e : Option External) → external_named given.func c ≡ e → external_move e ≡ Some k → Int (bits_of (move_width k)) ≡ mask_type u
+    by_external k (Some (external.Word f n)) named e =
+        let is = move_is f n k e in
+        ap (λ w. Int (bits_of w)) is.1 ∙ ap mask_type (same_some (Int (bits_of n)) u (sym (g.outside (external.Word f n) named).1))
+    by_external k None named e = absurd (no_move k e)
+    by_external k (Some x) named e = absurd (no_move k e)
+good_answers given (op.Call None c as') g = tt
+good_answers given (op.Binary o f t a b) g = tt
+good_answers given (op.Icmp p f t a b) g = tt
+good_answers given (op.Cast o f t a u) g = tt
+good_answers given (op.Select c t a b) g = tt
+good_answers given (op.Freeze t a) g = tt
+good_answers given (op.Phi t es) g = tt
+good_answers given (op.Alloca t u c) g = tt
+good_answers given (op.Load t a) g = tt
+good_answers given (op.Store t v a) g = tt
+good_answers given (op.Gep t a is) g = tt
+good_answers given (op.Br to) g = tt
+good_answers given (op.CondBr c to other) g = tt
+good_answers given (op.Switch t v other cases) g = tt
+good_answers given (op.Ret v) g = tt
+good_answers given op.Unreachable g = tt
+
+answer_typed : (v : ℕ) (u t : Ty) (k : Option BitMove) (q : Option Ty) (c : Name) (as' : List (Ty × Operand)) (ts : List Tracked) → q ≡ Some u → Some u ≡ Some t
+    → ((i : BitMove) → k ≡ Some i → Int (bits_of (move_width i)) ≡ mask_type u) → BothTyped v t (answer_tasks (mask_name v) (origin_name v) k (op.Call q c as') ts)
+answer_typed v u t None (Some w) c as' ts same r types =
+    origin_first v w t (answer_tasks (mask_name v) (origin_name v) None (op.Call (Some w) c as') ts) (same ∙ r) (inl (refl, refl)) (inr (inl (refl, refl)))
+answer_typed v u t None None c as' ts same r types = grind arith
+answer_typed v u t (Some i) q c as' ts same r types =
+    origin_first v u t (answer_tasks (mask_name v) (origin_name v) (Some i) (op.Call q c as') ts) r (inl (refl, refl)) (inr (inl (refl, ap Some (types i refl))))
+
+define_typed : (func : Name → Option ℕ) (v : ℕ) (o : Op) (ts : List Tracked) (t : Ty) → AnswersMove func o → HasMask o → is_phi o ≡ false → is_own_call func o ≡ false → result_type o ≡ Some t → BothTyped v t (define_tasks func v o ts)
+define_typed func v (op.Binary o f u a b) ts t am h e w r = by_op o
   where
     by_op : (c : BinOp) → BothTyped v t (define_tasks func v (op.Binary c f u a b) ts)
     by_op binary.Shl = origin_first v u t (define_tasks func v (op.Binary binary.Shl f u a b) ts) r (inl (refl, refl)) (inr (inl (refl, refl)))
     by_op binary.Lshr = origin_first v u t (define_tasks func v (op.Binary binary.Lshr f u a b) ts) r (inl (refl, refl)) (inr (inl (refl, refl)))
     by_op binary.Ashr = origin_first v u t (define_tasks func v (op.Binary binary.Ashr f u a b) ts) r (inl (refl, refl)) (inr (inl (refl, refl)))
     by_op c = origin_first v u t (define_tasks func v (op.Binary c f u a b) ts) r (inl (refl, refl)) (inr (inl (refl, refl)))
-define_typed func v (op.Icmp q f u a b) ts t h e w r = origin_first v (Int 1) t (define_tasks func v (op.Icmp q f u a b) ts) r (inl (refl, refl)) (inr (inl (refl, refl)))
-define_typed func v (op.Cast o f z a u) ts t h e w r = origin_first v u t (define_tasks func v (op.Cast o f z a u) ts) r (inl (refl, refl)) (inr (inl (refl, refl)))
-define_typed func v (op.Select c u a b) ts t h e w r = origin_first v u t (define_tasks func v (op.Select c u a b) ts) r (inl (refl, refl)) (inr (inl (refl, refl)))
-define_typed func v (op.Freeze u a) ts t h e w r = origin_first v u t (define_tasks func v (op.Freeze u a) ts) r (inl (refl, refl)) (inr (inl (refl, refl)))
-define_typed func v (op.Alloca z u c) ts t h e w r = origin_first v Ptr t (define_tasks func v (op.Alloca z u c) ts) r (inl (refl, refl)) (inr (inl (refl, refl)))
-define_typed func v (op.Load u a) ts t h e w r = origin_first v u t (define_tasks func v (op.Load u a) ts) r (inr (inl (refl, refl))) (inl (refl, refl))
-define_typed func v (op.Gep z a is) ts t h e w r = origin_first v Ptr t (define_tasks func v (op.Gep z a is) ts) r (inl (refl, refl)) (inr (inl (refl, refl)))
-define_typed func v (op.Phi u es) ts t h e w r = grind arith
-define_typed func v (op.Store u a b) ts t h e w r = absurd h
-define_typed func v (op.Call (Some u) c as') ts t h e w r =
+define_typed func v (op.Icmp q f u a b) ts t am h e w r = origin_first v (Int 1) t (define_tasks func v (op.Icmp q f u a b) ts) r (inl (refl, refl)) (inr (inl (refl, refl)))
+define_typed func v (op.Cast o f z a u) ts t am h e w r = origin_first v u t (define_tasks func v (op.Cast o f z a u) ts) r (inl (refl, refl)) (inr (inl (refl, refl)))
+define_typed func v (op.Select c u a b) ts t am h e w r = origin_first v u t (define_tasks func v (op.Select c u a b) ts) r (inl (refl, refl)) (inr (inl (refl, refl)))
+define_typed func v (op.Freeze u a) ts t am h e w r = origin_first v u t (define_tasks func v (op.Freeze u a) ts) r (inl (refl, refl)) (inr (inl (refl, refl)))
+define_typed func v (op.Alloca z u c) ts t am h e w r = origin_first v Ptr t (define_tasks func v (op.Alloca z u c) ts) r (inl (refl, refl)) (inr (inl (refl, refl)))
+define_typed func v (op.Load u a) ts t am h e w r = origin_first v u t (define_tasks func v (op.Load u a) ts) r (inr (inl (refl, refl))) (inl (refl, refl))
+define_typed func v (op.Gep z a is) ts t am h e w r = origin_first v Ptr t (define_tasks func v (op.Gep z a is) ts) r (inl (refl, refl)) (inr (inl (refl, refl)))
+define_typed func v (op.Phi u es) ts t am h e w r = grind arith
+define_typed func v (op.Store u a b) ts t am h e w r = absurd h
+define_typed func v (op.Call (Some u) c as') ts t am h e w r =
     subst (λ b. BothTyped v t (called_tasks b v (op.Call (Some u) c as') ts)) (sym w)
-    (origin_first v u t (called_tasks false v (op.Call (Some u) c as') ts) r (inl (refl, refl)) (inr (inl (refl, refl))))
-define_typed func v (op.Call None c as') ts t h e w r = absurd h
-define_typed func v (op.Br to) ts t h e w r = absurd h
-define_typed func v (op.CondBr c to other) ts t h e w r = absurd h
-define_typed func v (op.Switch u a other cases) ts t h e w r = absurd h
-define_typed func v (op.Ret a) ts t h e w r = absurd h
-define_typed func v op.Unreachable ts t h e w r = absurd h
+    (answer_typed v u t (external_move (lookup externals c)) (Some u) c as' ts refl r (λ k moves. am k (ap (λ b. external_move (if b then None else lookup externals c)) w ∙ moves)))
+define_typed func v (op.Call None c as') ts t am h e w r = absurd h
+define_typed func v (op.Br to) ts t am h e w r = absurd h
+define_typed func v (op.CondBr c to other) ts t am h e w r = absurd h
+define_typed func v (op.Switch u a other cases) ts t am h e w r = absurd h
+define_typed func v (op.Ret a) ts t am h e w r = absurd h
+define_typed func v op.Unreachable ts t am h e w r = absurd h
 
 -- and so does what is taken behind a call of a function of the module
 called_typed : (given : Given) (env : Env) (h : Here) (saved : ℕ) (x : Name) (v : ℕ) (o : Op) (ts : List Tracked) (t : Ty) → env.number x ≡ Some v → env.clean x ≡ false
@@ -121,17 +164,18 @@ save_typed func saved (op.Call q y as') ts e = by_name (external_named func y) e
 save_typed func saved _ ts e = grind arith
 
 -- an operand of an instruction that stands at a place of a function
-abbrev pub OperandGood : Func → (Ty → Operand → Type 0) → ℕ → ℕ → Ty → Operand → Type 0
+abbrev pub OperandGood : Func → Allowed → ℕ → ℕ → Ty → Operand → Type 0
 OperandGood f C b p t (operand.Local x) = (value_type f x ≡ Some t) × IsDefined f (record { block = b; place = p; name = x })
 OperandGood f C b p t o = OperandFits (λ x u. Unit {0}) C t o
 
-abbrev pub OperandsGood : Func → (Ty → Operand → Type 0) → ℕ → ℕ → List (Ty × Operand) → Type 0
+abbrev pub OperandsGood : Func → Allowed → ℕ → ℕ → List (Ty × Operand) → Type 0
 OperandsGood f C b p [] = Unit {0}
 OperandsGood f C b p (o ∷ os) = (is_value_type o.0 ≡ true) × OperandGood f C b p o.0 o.1 × OperandsGood f C b p os
 
 -- an instruction that is no phi, where what stands at it is given
-pub record PlainGood (given : Given) (f : Func) (C : Ty → Operand → Type 0) (b p : ℕ) (h : Here) (i : Inst) : Type 0 where
+pub record PlainGood (given : Given) (f : Func) (C : Allowed) (b p : ℕ) (h : Here) (i : Inst) : Type 0 where
   pub good : OpGood given i.op
+  pub moves : MovesGood given C i.op
   pub slots : SlotsGood C
   pub reads : OperandsGood f C b p (operands i.op)
   pub small : SmallUses (operands i.op) (uses given.func h.main i.op)
@@ -140,19 +184,19 @@ pub record PlainGood (given : Given) (f : Func) (C : Ty → Operand → Type 0) 
   pub masked : (x : Name) → i.result ≡ Some x → HasMask i.op
 
 -- what the entry of a function needs: a block, slots, and few parameters that are values
-pub record EntryGood (f : Func) (C : Ty → Operand → Type 0) : Type 0 where
+pub record EntryGood (f : Func) (C : Allowed) : Type 0 where
   pub filled : Filled f.blocks
   pub slots : SlotsGood C
   pub values : list_all (λ p. is_value_type p.0) f.params ≡ true
   pub few : length f.params ≤ 100
 
 -- an edge of a phi of a function: its operand is used at the end of the block that it names
-abbrev pub EdgeGood : Func → (Ty → Operand → Type 0) → Ty → Operand → Name → Type 0
+abbrev pub EdgeGood : Func → Allowed → Ty → Operand → Name → Type 0
 EdgeGood f C t (operand.Local x) from =
     (value_type f x ≡ Some t) × IsDefined f (record { block = block_index f.blocks from; place = length (insts_of f (block_index f.blocks from)); name = x })
 EdgeGood f C t o from = OperandFits (λ x u. Unit {0}) C t o
 
-abbrev pub EdgesGood : Func → (Ty → Operand → Type 0) → Ty → List (Operand × Name) → Type 0
+abbrev pub EdgesGood : Func → Allowed → Ty → List (Operand × Name) → Type 0
 EdgesGood f C t [] = Unit {0}
 EdgesGood f C t (e ∷ es) = EdgeGood f C t e.0 e.1 × EdgesGood f C t es
 
@@ -162,7 +206,7 @@ edge_undefs [] = 0
 edge_undefs (e ∷ es) = one_undef e.0 + edge_undefs es
 
 -- a phi, where what stands at it is given
-pub record PhiGood (f : Func) (C : Ty → Operand → Type 0) (h : Here) (t : Ty) (es : List (Operand × Name)) : Type 0 where
+pub record PhiGood (f : Func) (C : Allowed) (h : Here) (t : Ty) (es : List (Operand × Name)) : Type 0 where
   pub value : is_value_type t ≡ true
   pub edges : EdgesGood f C t es
   pub root : h.root + edge_undefs es < 2 ^ 32
@@ -195,7 +239,7 @@ pub record PhiFits (env : Env) (f g : Func) (b : ℕ) (j : Inst) : Type 0 where
   pub root : ℕ
   pub made : (edges ≡ mask_edges env (width_of own_ty) own_edges) ⊎ (edges ≡ origin_edges env root own_edges)
 
-module _ (given : Given) (env : Env) (size : ℕ) (one : OneName env) (few : FewNumbers env size) (f : Func) (h : Here) (n : ℕ) (C : Ty → Operand → Type 0)
+module _ (given : Given) (env : Env) (size : ℕ) (one : OneName env) (few : FewNumbers env size) (f : Func) (h : Here) (n : ℕ) (C : Allowed)
     (entry : EntryGood f C) (room : 2 * size + 1 ≤ n) (once_f : repeats [] (locals f) ≡ []) (free : (x : Name) → In (locals f) x → is_reserved x ≡ false)
     (good : (b p : ℕ) (i : Inst) → slice_get (insts_of f b) p ≡ Some i → is_phi i.op ≡ false
     → PlainGood given f C b p (here_at given env (insts_of f b) p (code_at given env f h n b).here) i)
@@ -277,10 +321,10 @@ module _ (given : Given) (env : Env) (size : ℕ) (one : OneName env) (few : Few
       let rs = result_tasks given.func env i.result i.op ts in
       let hs = hand_tasks given.func k.main i.op ts in
       let ss = save_tasks given.func m i.op ts in
-      let d = define_typed given.func v i.op ts t (good_i.masked x named) plain w gives in
+      let d = define_typed given.func v i.op ts t (good_answers given i.op good_i.good) (good_i.masked x named) plain w gives in
       let same = result_is given env i.result x v i.op ts named number unclean in
       let all = tracked_fits C AnyName env k.root (operands i.op) (few_roots k.root (count_undefs (operands i.op)) good_i.root) (any_operands b p (operands i.op) good_i.reads) in
-      let fits = before_fits C AnyName given env k.root k i refl good_i.good good_i.slots good_i.site good_i.small all m in
+      let fits = before_fits C AnyName given env k.root k i refl good_i.good good_i.moves good_i.slots good_i.site good_i.small all m in
       let there = λ (y : Name) (u : Ty) (q : Targets (define_tasks given.func v i.op ts) y u).
       tasks_typed C (before_tasks given env k i m) AnyName (start given i m) fits y u (targets_right hs (cs ++ (bs ++ (rs ++ ss))) y u (targets_right cs (bs ++ (rs ++ ss)) y u (targets_right bs (rs ++ ss) y u
       (targets_left rs ss y u (subst (λ l. Targets l y u) (sym same) q))))) in
@@ -403,7 +447,7 @@ module _ (given : Given) (env : Env) (size : ℕ) (one : OneName env) (few : Few
         let code = (tasks_code ts (start given i number_here)).code in
         let same : (emitted b p i).before ≡ code = ap (λ x. x.before) same_lists in
         let K = KnownAt g b (begin + 0) in
-        let fits = tasks_fit C ts K (start given i number_here) (before_fits C K given env place_here.root place_here i refl its.good its.slots its.site its.small (tracked_at_place 0) number_here) in
+        let fits = tasks_fit C ts K (start given i number_here) (before_fits C K given env place_here.root place_here i refl its.good its.moves its.slots its.site its.small (tracked_at_place 0) number_here) in
         subst (λ q. InstFits (KnownAt g b q) C j) {x = begin + 0 + r} {y = begin + r} (omega arith)
         (placed g once b C code (begin + 0) fits
         (λ l k d. ap (slice_get (insts_of g b)) {x = begin + 0 + l} {y = begin + l} (omega arith)
@@ -424,7 +468,7 @@ module _ (given : Given) (env : Env) (size : ℕ) (one : OneName env) (few : Few
         let code = (tasks_code all (start given i number_here)).code in
         let same : (emitted b p i).before ≡ code = ap (λ x. x.before) same_lists in
         let K = KnownAt g b (begin + 0) in
-        let fits = before_fits C K given env place_here.root place_here i refl its.good its.slots its.site its.small (tracked_at_place 0) number_here in
+        let fits = before_fits C K given env place_here.root place_here i refl its.good its.moves its.slots its.site its.small (tracked_at_place 0) number_here in
         let found = targets_right hs (cs ++ (bs ++ (rs ++ ss))) y (Int 64) (targets_right cs (bs ++ (rs ++ ss)) y (Int 64) (targets_right bs (rs ++ ss) y (Int 64)
         (targets_right rs ss y (Int 64) (save_typed given.func number_here i.op ts e)))) in
         let t = typed_at code y (Int 64) (tasks_typed C all K (start given i number_here) fits y (Int 64) found) in

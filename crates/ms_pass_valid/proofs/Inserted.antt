@@ -5,7 +5,7 @@ use Rattle.std.specs.List.{list_any, list_all}
 use Rattle.std.specs.Bool.{beq}
 use Rattle.std.specs.Option.{option_or}
 use Rattle.std.proofs.Math.Path.{ap₂}
-use Rattle.std.proofs.lemmas.Bool.{eq-eqb}
+use Rattle.std.proofs.lemmas.Bool.{eq-eqb, and_parts}
 use Rattle.std.proofs.lemmas.List.Elements.{All-nil, All-cons, All-append}
 use Rattle.ms_ir.specs.declared.syntax.Name.{Name}
 use Rattle.ms_ir.specs.declared.syntax.Ty.{Ty, Int, Ptr, Array', Struct', Named, Row_of-Ty, end_of-Ty, more_of-Ty}
@@ -16,6 +16,12 @@ use Rattle.ms_ir.specs.declared.syntax.Op.TheVariants as op
 use Rattle.ms_ir.specs.declared.syntax.Inst.{Inst}
 use Rattle.ms_ir.specs.declared.syntax.Func.{Func}
 use Rattle.ms_ir.specs.declared.syntax.Module.{Module}
+use Rattle.ms_bits.specs.declared.word_functions.BitMove.{BitMove}
+use Rattle.ms_bits.specs.declared.word_functions.BitMove.TheVariants.{Bswap16, Bswap32, Bswap64, Bitreverse8, Bitreverse16, Bitreverse32, Bitreverse64, Fshl8, Fshl16, Fshl32, Fshl64, Fshr8, Fshr16, Fshr32, Fshr64}
+use Rattle.ms_bits.specs.declared.word_functions.WordFn.{WordFn}
+use Rattle.ms_bits.specs.declared.word_functions.WordWidth.{WordWidth}
+use Rattle.ms_bits.specs.WordFunctions.{bits_of, move_fn, move_width}
+use Rattle.ms_ir.specs.declared.calls.External.TheVariants as external
 use Rattle.ms_ir.specs.declared.calls.RuntimeFn.{RuntimeFn}
 use Rattle.ms_ir.specs.declared.calls.RuntimeFn.TheVariants as function
 use Rattle.ms_ir.specs.Names.{lookup, externals, word_externals, is_inserted_name, runtime_name}
@@ -28,23 +34,34 @@ use Rattle.ms_ir.specs.Spots.{Spot, spot}
 use Rattle.ms_valid.specs.TypesAgree.{operand_fits, is_type, first_misfit, fault_unless, argument_fault, printf_fault, is_printf, call_fault, op_fault}
 use Rattle.ms_valid.specs.PhisFit.{edges_fit}
 use Rattle.ms_ir.specs.Signatures.{runtime_signature, signature_of}
-use Rattle.ms_valid.specs.ExternalsFit.{name_unless, flag_fits, flagged_callees}
+use Rattle.ms_valid.specs.ExternalsFit.{name_unless, is_number, called_names, flag_fits, flagged_callees}
 use Rattle.ms_valid.specs.UsesDefined.{IsUseDefined, operand_use, inst_uses}
 use Rattle.ms_valid.specs.MarksFit.{may_be_marked, all_results, marked_results, is_inserted, mark_fits}
 use Rattle.ms_valid.specs.FormedCode.{operand_formed}
 use Rattle.ms_valid.specs.SizesFit.{sized}
 use Rattle.ms_valid.specs.ValidAt.{FitsAt}
 use Rattle.ms_valid.proofs.NameTests.{name_same}
-use Rattle.ms_pass_valid.proofs.Checked.{OperandFits, OperandsFit, OpFits, CallFits, ResultFits, InstFits}
+use Rattle.ms_pass_valid.proofs.Checked.{Allowed, OperandFits, OperandsFit, OpFits, CallFits, MayCall, MayAsk, ResultFits, InstFits}
+use Rattle.ms_tasks.proofs.Effects.{runtime_known}
+use Rattle.ms_runs_good.proofs.CallTypes.{move_known}
 use Rattle.ms_pass_valid.proofs.Placed.{KnownAt}
 use Rattle.ms_pass_valid.proofs.Numerals.{msan_inserted}
 
 -- an operand of the program that names no value, and is no number
-pub record ConstGood (j : Module) (t : Ty) (o : Operand) : Type 0 where
+pub record ConstFits (j : Module) (t : Ty) (o : Operand) : Type 0 where
   pub fits : (typed : Name → Option Ty) → operand_fits j typed t o ≡ true
   pub known : (names : List Name) (site : ℕ) → unknown_of j names site (operand_mentions o) ≡ []
   pub formed : operand_formed t o ≡ true
   pub sized_in : sized j.types (t ∷ operand_types o) ≡ true
+
+-- a function that moves bits, which a module declares and calls, as its instrumented form does
+pub record MoveStands (m j : Module) (k : BitMove) : Type 0 where
+  pub declared : signature_of j (runtime_name (function.Move k)) ≡ Some (runtime_signature (function.Move k))
+  pub symbol : has_name (symbols j) (runtime_name (function.Move k)) ≡ true
+  pub called : has_name (called_names m) (runtime_name (function.Move k)) ≡ true
+
+abbrev pub ConstGood : (m j : Module) → Allowed
+ConstGood m j = record { const = ConstFits j; call = MoveStands m j }
 
 -- ---- types are themselves
 
@@ -81,17 +98,18 @@ unknown_one j names site x e = ap (λ c. map {B = ℕ × Spelled} (λ y. (site, 
 
 -- ---- the numerals of inserted names
 
-module _ (j : Module) (g : Func) (b q site : ℕ)
-    (declared : (fn : RuntimeFn) → signature_of j (runtime_name fn) ≡ Some (runtime_signature fn)) (symbol : (fn : RuntimeFn) → has_name (symbols j) (runtime_name fn) ≡ true)
+module _ (m j : Module) (g : Func) (b q site : ℕ)
+    (declared : (fn : RuntimeFn) → MayCall (ConstGood m j) fn → signature_of j (runtime_name fn) ≡ Some (runtime_signature fn))
+    (symbol : (fn : RuntimeFn) → MayCall (ConstGood m j) fn → has_name (symbols j) (runtime_name fn) ≡ true)
     (local : (x : Name) (t : Ty) → value_type g x ≡ Some t → has_name (locals g) x ≡ true) where
   abbrev here : Spot
   here = spot g b q site
 
   abbrev Fitting : Ty → Operand → Type 0
-  Fitting t o = OperandFits (KnownAt g b q) (ConstGood j) t o
+  Fitting t o = OperandFits (KnownAt g b q) (ConstGood m j) t o
 
   abbrev AllFitting : List (Ty × Operand) → Type 0
-  AllFitting os = OperandsFit (KnownAt g b q) (ConstGood j) os
+  AllFitting os = OperandsFit (KnownAt g b q) (ConstGood m j) os
 
   pub operand_agrees : (t : Ty) (o : Operand) → Fitting t o → operand_fits j (value_type g) t o ≡ true
   operand_agrees t (operand.Local x) k = ap (λ u. is_type u t) k.0 ∙ type_same t
@@ -150,25 +168,25 @@ module _ (j : Module) (g : Func) (b q site : ℕ)
 
   -- ---- operations
 
-  op_known : (o : Op) → OpFits o → AllFitting (operands o) → unknown_of j (locals g) site (mentions o) ≡ []
-  op_known (op.Binary o f t x y) s p = unknown_append j (locals g) site (operands_mentions ((t, x) ∷ (t, y) ∷ [])) [] (all_known ((t, x) ∷ (t, y) ∷ []) p) refl
-  op_known (op.Icmp o f t x y) s p = unknown_append j (locals g) site (operands_mentions ((t, x) ∷ (t, y) ∷ [])) [] (all_known ((t, x) ∷ (t, y) ∷ []) p) refl
-  op_known (op.Cast o f t x u) s p = unknown_append j (locals g) site (operands_mentions ((t, x) ∷ [])) [] (all_known ((t, x) ∷ []) p) refl
-  op_known (op.Select c t x y) s p = unknown_append j (locals g) site (operands_mentions ((Int 1, c) ∷ (t, x) ∷ (t, y) ∷ [])) [] (all_known ((Int 1, c) ∷ (t, x) ∷ (t, y) ∷ []) p) refl
-  op_known (op.Load t x) s p = unknown_append j (locals g) site (operands_mentions ((Ptr, x) ∷ [])) [] (all_known ((Ptr, x) ∷ []) p) refl
-  op_known (op.Store t x y) s p = unknown_append j (locals g) site (operands_mentions ((t, x) ∷ (Ptr, y) ∷ [])) [] (all_known ((t, x) ∷ (Ptr, y) ∷ []) p) refl
-  op_known (op.Call ret callee args) s p =
+  op_known : (o : Op) (s : OpFits o) → MayAsk (ConstGood m j) o s → AllFitting (operands o) → unknown_of j (locals g) site (mentions o) ≡ []
+  op_known (op.Binary o f t x y) s may p = unknown_append j (locals g) site (operands_mentions ((t, x) ∷ (t, y) ∷ [])) [] (all_known ((t, x) ∷ (t, y) ∷ []) p) refl
+  op_known (op.Icmp o f t x y) s may p = unknown_append j (locals g) site (operands_mentions ((t, x) ∷ (t, y) ∷ [])) [] (all_known ((t, x) ∷ (t, y) ∷ []) p) refl
+  op_known (op.Cast o f t x u) s may p = unknown_append j (locals g) site (operands_mentions ((t, x) ∷ [])) [] (all_known ((t, x) ∷ []) p) refl
+  op_known (op.Select c t x y) s may p = unknown_append j (locals g) site (operands_mentions ((Int 1, c) ∷ (t, x) ∷ (t, y) ∷ [])) [] (all_known ((Int 1, c) ∷ (t, x) ∷ (t, y) ∷ []) p) refl
+  op_known (op.Load t x) s may p = unknown_append j (locals g) site (operands_mentions ((Ptr, x) ∷ [])) [] (all_known ((Ptr, x) ∷ []) p) refl
+  op_known (op.Store t x y) s may p = unknown_append j (locals g) site (operands_mentions ((t, x) ∷ (Ptr, y) ∷ [])) [] (all_known ((t, x) ∷ (Ptr, y) ∷ []) p) refl
+  op_known (op.Call ret callee args) s may p =
       unknown_append j (locals g) site (OfGlobal callee ∷ []) (operands_mentions args)
-      (unknown_one j (locals g) site (OfGlobal callee) (ap (has_name (symbols j)) s.named ∙ symbol s.function)) (all_known args p)
-  op_known (op.Freeze t x) s p = absurd s
-  op_known (op.Phi t es) s p = absurd s
-  op_known (op.Alloca t u c) s p = absurd s
-  op_known (op.Gep t x is) s p = absurd s
-  op_known (op.Br to) s p = absurd s
-  op_known (op.CondBr c to other) s p = absurd s
-  op_known (op.Switch t x other cases) s p = absurd s
-  op_known (op.Ret x) s p = absurd s
-  op_known op.Unreachable s p = absurd s
+      (unknown_one j (locals g) site (OfGlobal callee) (ap (has_name (symbols j)) s.named ∙ symbol s.function may)) (all_known args p)
+  op_known (op.Freeze t x) s may p = absurd s
+  op_known (op.Phi t es) s may p = absurd s
+  op_known (op.Alloca t u c) s may p = absurd s
+  op_known (op.Gep t x is) s may p = absurd s
+  op_known (op.Br to) s may p = absurd s
+  op_known (op.CondBr c to other) s may p = absurd s
+  op_known (op.Switch t x other cases) s may p = absurd s
+  op_known (op.Ret x) s may p = absurd s
+  op_known op.Unreachable s may p = absurd s
 
   not_printf : (fn : RuntimeFn) → is_printf j (runtime_name fn) ≡ false
   not_printf function.Check = refl
@@ -183,6 +201,7 @@ module _ (j : Module) (g : Func) (b q site : ℕ)
   not_printf function.LoadOrigin = refl
   not_printf function.Size = refl
   not_printf function.CheckFormat = refl
+  not_printf (function.Move k) = refl
 
   ret_same : (fn : RuntimeFn) → result_type_eq (runtime_signature fn).ret (runtime_signature fn).ret ≡ true
   ret_same function.Check = refl
@@ -197,32 +216,33 @@ module _ (j : Module) (g : Func) (b q site : ℕ)
   ret_same function.LoadOrigin = refl
   ret_same function.Size = refl
   ret_same function.CheckFormat = refl
+  ret_same (function.Move k) = type_same (Int (bits_of (move_width k)))
 
-  call_agrees : (ret : Option Ty) (callee : Name) (args : List (Ty × Operand)) → CallFits ret callee args → AllFitting args → call_fault j fits (signature_of j callee) ret callee args ≡ None
-  call_agrees ret callee args s p =
+  call_agrees : (ret : Option Ty) (callee : Name) (args : List (Ty × Operand)) → (s : CallFits ret callee args) → MayCall (ConstGood m j) s.function → AllFitting args → call_fault j fits (signature_of j callee) ret callee args ≡ None
+  call_agrees ret callee args s may p =
       let fn = s.function in
       ap₂ (λ x r. call_fault j fits (signature_of j x) r x args) s.named s.gives
-      ∙ ap (λ d. call_fault j fits d (runtime_signature fn).ret (runtime_name fn) args) (declared fn)
+      ∙ ap (λ d. call_fault j fits d (runtime_signature fn).ret (runtime_name fn) args) (declared fn may)
       ∙ ap (λ c. option_or (if c then printf_fault fits args else argument_fault fits 0 (runtime_signature fn).params args) (fault_unless (result_type_eq (runtime_signature fn).ret (runtime_signature fn).ret))) (not_printf fn)
       ∙ ap₂ (λ x c. option_or x (fault_unless c)) (no_argument_fault 0 (runtime_signature fn).params args s.takes p) (ret_same fn)
 
-  op_agrees : (o : Op) → OpFits o → AllFitting (operands o) → op_fault j g fits o ≡ None
-  op_agrees (op.Binary o f t x y) s p = ap (λ r. option_or r None) (no_misfit 0 ((t, x) ∷ (t, y) ∷ []) p)
-  op_agrees (op.Icmp o f t x y) s p = ap (λ r. option_or r None) (no_misfit 0 ((t, x) ∷ (t, y) ∷ []) p)
-  op_agrees (op.Cast o f t x u) s p = ap₂ (λ r c. option_or r (fault_unless c)) (no_misfit 0 ((t, x) ∷ []) p) s.1.0
-  op_agrees (op.Select c t x y) s p = ap (λ r. option_or r None) (no_misfit 0 ((Int 1, c) ∷ (t, x) ∷ (t, y) ∷ []) p)
-  op_agrees (op.Load t x) s p = ap (λ r. option_or r None) (no_misfit 0 ((Ptr, x) ∷ []) p)
-  op_agrees (op.Store t x y) s p = ap (λ r. option_or r None) (no_misfit 0 ((t, x) ∷ (Ptr, y) ∷ []) p)
-  op_agrees (op.Call ret callee args) s p = call_agrees ret callee args s p
-  op_agrees (op.Freeze t x) s p = absurd s
-  op_agrees (op.Phi t es) s p = absurd s
-  op_agrees (op.Alloca t u c) s p = absurd s
-  op_agrees (op.Gep t x is) s p = absurd s
-  op_agrees (op.Br to) s p = absurd s
-  op_agrees (op.CondBr c to other) s p = absurd s
-  op_agrees (op.Switch t x other cases) s p = absurd s
-  op_agrees (op.Ret x) s p = absurd s
-  op_agrees op.Unreachable s p = absurd s
+  op_agrees : (o : Op) (s : OpFits o) → MayAsk (ConstGood m j) o s → AllFitting (operands o) → op_fault j g fits o ≡ None
+  op_agrees (op.Binary o f t x y) s may p = ap (λ r. option_or r None) (no_misfit 0 ((t, x) ∷ (t, y) ∷ []) p)
+  op_agrees (op.Icmp o f t x y) s may p = ap (λ r. option_or r None) (no_misfit 0 ((t, x) ∷ (t, y) ∷ []) p)
+  op_agrees (op.Cast o f t x u) s may p = ap₂ (λ r c. option_or r (fault_unless c)) (no_misfit 0 ((t, x) ∷ []) p) s.1.0
+  op_agrees (op.Select c t x y) s may p = ap (λ r. option_or r None) (no_misfit 0 ((Int 1, c) ∷ (t, x) ∷ (t, y) ∷ []) p)
+  op_agrees (op.Load t x) s may p = ap (λ r. option_or r None) (no_misfit 0 ((Ptr, x) ∷ []) p)
+  op_agrees (op.Store t x y) s may p = ap (λ r. option_or r None) (no_misfit 0 ((t, x) ∷ (Ptr, y) ∷ []) p)
+  op_agrees (op.Call ret callee args) s may p = call_agrees ret callee args s may p
+  op_agrees (op.Freeze t x) s may p = absurd s
+  op_agrees (op.Phi t es) s may p = absurd s
+  op_agrees (op.Alloca t u c) s may p = absurd s
+  op_agrees (op.Gep t x is) s may p = absurd s
+  op_agrees (op.Br to) s may p = absurd s
+  op_agrees (op.CondBr c to other) s may p = absurd s
+  op_agrees (op.Switch t x other cases) s may p = absurd s
+  op_agrees (op.Ret x) s may p = absurd s
+  op_agrees op.Unreachable s may p = absurd s
 
   no_edges : (o : Op) → OpFits o → edges_fit here o ≡ true
   no_edges (op.Binary o f t x y) s = refl
@@ -242,52 +262,55 @@ module _ (j : Module) (g : Func) (b q site : ℕ)
   no_edges (op.Ret x) s = absurd s
   no_edges op.Unreachable s = absurd s
 
-  -- no runtime function is an external
-  no_external : (fn : RuntimeFn) → lookup externals (runtime_name fn) ≡ None
-  unfolding word_externals
-  no_external function.Check = refl
-  no_external function.CheckMemory = refl
-  no_external function.CheckString = refl
-  no_external function.Blind = refl
-  no_external function.Poison = refl
-  no_external function.Unpoison = refl
-  no_external function.Copy = refl
-  no_external function.Fill = refl
-  no_external function.StoreOrigin = refl
-  no_external function.LoadOrigin = refl
-  no_external function.Size = refl
-  no_external function.CheckFormat = refl
-
-  is_runtime : (fn : RuntimeFn) → may_be_marked (op.Call None (runtime_name fn) []) ≡ true
-  is_runtime function.Check = refl
-  is_runtime function.CheckMemory = refl
-  is_runtime function.CheckString = refl
-  is_runtime function.Blind = refl
-  is_runtime function.Poison = refl
-  is_runtime function.Unpoison = refl
-  is_runtime function.Copy = refl
-  is_runtime function.Fill = refl
-  is_runtime function.StoreOrigin = refl
-  is_runtime function.LoadOrigin = refl
-  is_runtime function.Size = refl
-  is_runtime function.CheckFormat = refl
-
   all_fit : (args : List (Ty × Operand)) → list_all (flag_fits None) args ≡ true
   all_fit [] = refl
   all_fit (a ∷ rest) = all_fit rest
 
-  call_plain : (callee : Name) (args : List (Ty × Operand)) (fn : RuntimeFn) → callee ≡ runtime_name fn → name_unless (list_all (flag_fits (external_named (func_index j.funcs) callee)) args) callee ≡ []
-  call_plain callee args fn e =
+  -- no parameter of what moves bits is a flag
+  move_flags : (k : BitMove) → list_all (λ t. not (type_eq t (Int 1))) (runtime_signature (function.Move k)).params ≡ true
+  move_flags Bswap16 = refl
+  move_flags Bswap32 = refl
+  move_flags Bswap64 = refl
+  move_flags Bitreverse8 = refl
+  move_flags Bitreverse16 = refl
+  move_flags Bitreverse32 = refl
+  move_flags Bitreverse64 = refl
+  move_flags Fshl8 = refl
+  move_flags Fshl16 = refl
+  move_flags Fshl32 = refl
+  move_flags Fshl64 = refl
+  move_flags Fshr8 = refl
+  move_flags Fshr16 = refl
+  move_flags Fshr32 = refl
+  move_flags Fshr64 = refl
+
+  word_flags : (f : WordFn) (n : WordWidth) (args : List (Ty × Operand)) → list_all (λ t. not (type_eq t (Int 1))) (map (λ a. a.0) args) ≡ true → list_all (flag_fits (Some (external.Word f n))) args ≡ true
+  word_flags f n [] e = refl
+  word_flags f n (a ∷ rest) e =
+      let parts = and_parts (not (type_eq a.0 (Int 1))) (list_all (λ t. not (type_eq t (Int 1))) (map (λ a. a.0) rest)) e in
+      ap₂ (λ x y. (x || is_number a.1) && y) parts.0 (word_flags f n rest parts.1)
+
+  -- a call of what a marked call reaches has no flag
+  no_flags_of : (fn : RuntimeFn) (own : Bool) (args : List (Ty × Operand)) → map (λ a. a.0) args ≡ (runtime_signature fn).params
+      → list_all (flag_fits (if own then None else lookup externals (runtime_name fn))) args ≡ true
+  unfolding word_externals
+  no_flags_of fn true args t = all_fit args
+  no_flags_of (function.Move k) false args t =
+      ap (λ o. list_all (flag_fits o) args) (move_known k)
+      ∙ word_flags (move_fn k) (move_width k) args (ap (list_all (λ t. not (type_eq t (Int 1)))) t ∙ move_flags k)
+  no_flags_of fn false args t = all_fit args
+
+  is_runtime : (fn : RuntimeFn) → may_be_marked (op.Call None (runtime_name fn) []) ≡ true
+  is_runtime fn = ap is_some (runtime_known fn)
+
+  call_plain : (callee : Name) (args : List (Ty × Operand)) (fn : RuntimeFn) → callee ≡ runtime_name fn → map (λ a. a.0) args ≡ (runtime_signature fn).params
+      → name_unless (list_all (flag_fits (external_named (func_index j.funcs) callee)) args) callee ≡ []
+  call_plain callee args fn e t =
       ap (λ x. name_unless (list_all (flag_fits (external_named (func_index j.funcs) x)) args) callee) e
-      ∙ ap (λ o. name_unless (list_all (flag_fits o) args) callee) (outside (is_some (func_index j.funcs (runtime_name fn))))
-      ∙ ap (λ b. name_unless b callee) (all_fit args)
-    where
-      outside : (own : Bool) → (if own then None else lookup externals (runtime_name fn)) ≡ None
-      outside true = refl
-      outside false = no_external fn
+      ∙ ap (λ b. name_unless b callee) (no_flags_of fn (is_some (func_index j.funcs (runtime_name fn))) args t)
 
   flags_fit : (o : Op) → OpFits o → flagged_callees j o ≡ []
-  flags_fit (op.Call ret callee args) s = call_plain callee args s.function s.named
+  flags_fit (op.Call ret callee args) s = call_plain callee args s.function s.named s.takes
   flags_fit (op.Binary o f t x y) s = refl
   flags_fit (op.Icmp o f t x y) s = refl
   flags_fit (op.Cast o f t x u) s = refl
@@ -352,10 +375,10 @@ module _ (j : Module) (g : Func) (b q site : ℕ)
       ∙ ap₂ (λ x y. x && y) m r
 
   -- an inserted instruction that fits breaks no clause
-  pub inserted_fits : (i : Inst) → InstFits (KnownAt g b q) (ConstGood j) i → FitsAt j here i
+  pub inserted_fits : (i : Inst) → InstFits (KnownAt g b q) (ConstGood m j) i → FitsAt j here i
   inserted_fits i k = record {
-    names_known = op_known i.op k.shaped k.reads;
-    types_agree = op_agrees i.op k.shaped k.reads;
+    names_known = op_known i.op k.shaped k.calls k.reads;
+    types_agree = op_agrees i.op k.shaped k.calls k.reads;
     phis_fit = no_edges i.op k.shaped;
     externals_fit = flags_fit i.op k.shaped;
     uses_defined = op_defined i.op k.shaped k.reads;

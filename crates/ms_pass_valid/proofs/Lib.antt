@@ -21,6 +21,7 @@ pub mod Within
 pub mod Bounds
 pub mod Ready
 pub mod ReadyInsts
+pub mod Moves
 pub mod CallArguments
 pub mod AllReady
 pub mod PlainModules

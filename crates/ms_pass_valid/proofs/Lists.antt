@@ -13,7 +13,7 @@ use Rattle.ms_ir.specs.Code.{operands}
 use Rattle.ms_ir.specs.Written.{result_type}
 use Rattle.ms_valid.specs.FormedCode.{number_formed}
 use Rattle.ms_tasks.specs.Tasks.{msan_name, Expr, Leaf, Two, Turn, Test, Pick, Task, Sets, Tries, Fetches, Puts, Calls, Last, Is, By, inserted, close, half, set_op, flatten, flatten_all, parts, target, last_op, task_code, tasks_code}
-use Rattle.ms_pass_valid.proofs.Checked.{IsInt, OperandFits, OperandsFit, OpFits, ResultFits, InstFits, grow, grows, Fits, Typed, AllTyped, target_type, TaskFits, sets, TasksFit}
+use Rattle.ms_pass_valid.proofs.Checked.{Allowed, IsInt, OperandFits, OperandsFit, OpFits, MayAsk, ResultFits, InstFits, grow, grows, Fits, Typed, AllTyped, target_type, TaskFits, sets, TasksFit}
 use Rattle.std.proofs.lemmas.List.Folds.{list_all-append}
 use Rattle.std.specs.List.{list_all}
 use Rattle.std.proofs.Math.Path.{ap₂}
@@ -78,7 +78,7 @@ targets_left [] b x u p = absurd p
 targets_left (t ∷ a) b x u (inl p) = inl p
 targets_left (t ∷ a) b x u (inr p) = inr (targets_left a b x u p)
 
-module _ (C : Ty → Operand → Type 0) where
+module _ (C : Allowed) where
   pub operand_more : (K L : Name → Ty → Type 0) → ((x : Name) (t : Ty) → K x t → L x t) → (t : Ty) (o : Operand) → OperandFits K C t o → OperandFits L C t o
   operand_more K L h t (operand.Local x) p = h x t p
   operand_more K L h t (operand.Int k) p = p
@@ -93,7 +93,7 @@ module _ (C : Ty → Operand → Type 0) where
   operands_more K L h (o ∷ os) p = (operand_more K L h o.0 o.1 p.0, operands_more K L h os p.1)
 
   pub inst_more : (K L : Name → Ty → Type 0) → ((x : Name) (t : Ty) → K x t → L x t) → (i : Inst) → InstFits K C i → InstFits L C i
-  inst_more K L h i p = record { marked = p.marked; shaped = p.shaped; reads = operands_more K L h (operands i.op) p.reads; gives = p.gives }
+  inst_more K L h i p = record { marked = p.marked; shaped = p.shaped; calls = p.calls; reads = operands_more K L h (operands i.op) p.reads; gives = p.gives }
 
   pub fits_more : (K L : Name → Ty → Type 0) → ((x : Name) (t : Ty) → K x t → L x t) → (is : List Inst) → Fits K C is → Fits L C is
   fits_more K L h [] p = tt
@@ -118,18 +118,18 @@ module _ (C : Ty → Operand → Type 0) where
 
   abbrev LastFits : (Name → Ty → Type 0) → Ty → Last → Type 0
   LastFits L t (Is o) = OperandFits L C t o
-  LastFits L t (By o) = OpFits o × OperandsFit L C (operands o) × (result_type o ≡ Some t)
+  LastFits L t (By o) = (s : OpFits o) × OperandsFit L C (operands o) × (result_type o ≡ Some t) × MayAsk C o s
 
   -- an inserted instruction behind others
-  behind : (K : Name → Ty → Type 0) (code : List Inst) (r : Option Name) (o : Op) → Fits K C code → OpFits o → OperandsFit (grows K code) C (operands o)
+  behind : (K : Name → Ty → Type 0) (code : List Inst) (r : Option Name) (o : Op) → Fits K C code → (s : OpFits o) → MayAsk C o s → OperandsFit (grows K code) C (operands o)
       → ResultFits r (result_type o) → Fits K C (code ++ inserted r o ∷ [])
-  behind K code r o f s reads g = fits_append K code (inserted r o ∷ []) f (record { marked = refl; shaped = s; reads = reads; gives = g }, tt)
+  behind K code r o f s c reads g = fits_append K code (inserted r o ∷ []) f (record { marked = refl; shaped = s; calls = c; reads = reads; gives = g }, tt)
 
   close_fits : (K : Name → Ty → Type 0) (t : Ty) (code : List Inst) (l : Last) (n : ℕ) → Fits K C code → LastFits (grows K code) t l
       → Fits K C (close code l n).code × OperandFits (grows K (close code l n).code) C t (close code l n).operand
   close_fits K t code (Is o) n f l = (f, l)
   close_fits K t code (By o) n f l = (
-    behind K code (Some (msan_name n)) o f l.0 l.1 (subst (ResultFits (Some (msan_name n))) (sym l.2) (n, refl)),
+    behind K code (Some (msan_name n)) o f l.0 l.3 l.1 (subst (ResultFits (Some (msan_name n))) (sym l.2) (n, refl)),
     grows_append K code (inserted (Some (msan_name n)) o ∷ []) (msan_name n) t (inr (refl, l.2)),
   )
 
@@ -150,12 +150,12 @@ module _ (C : Ty → Operand → Type 0) where
       let hb = half_fits b (grows K x.code) u x.next (typed_more K (grows K x.code) (grows_keep K x.code) u b p.3) in
       let fb = close_fits (grows K x.code) u (half b x.next).code (half b x.next).last (half b x.next).next hb.0 hb.1 in (
         fits_append K x.code y.code fa.0 fb.0,
-        ((refl, p.1), (first_still K x.code y.code u x.operand fa.1, (second_still K x.code y.code u y.operand fb.1, tt)), ap Some p.0),
+        ((refl, p.1), (first_still K x.code y.code u x.operand fa.1, (second_still K x.code y.code u y.operand fb.1, tt)), ap Some p.0, tt),
       )
   half_fits (Turn o u a v) K t n p =
       let ha = half_fits a K u n p.2 in
       let fa = close_fits K u (half a n).code (half a n).last (half a n).next ha.0 ha.1 in
-      (fa.0, ((refl, p.1), (fa.1, tt), ap Some p.0))
+      (fa.0, ((refl, p.1), (fa.1, tt), ap Some p.0, tt))
   half_fits (Test q u a b) K t n p =
       let x = flatten a n in let y = flatten b x.next in
       let ha = half_fits a K u n p.2 in
@@ -163,7 +163,7 @@ module _ (C : Ty → Operand → Type 0) where
       let hb = half_fits b (grows K x.code) u x.next (typed_more K (grows K x.code) (grows_keep K x.code) u b p.3) in
       let fb = close_fits (grows K x.code) u (half b x.next).code (half b x.next).last (half b x.next).next hb.0 hb.1 in (
         fits_append K x.code y.code fa.0 fb.0,
-        ((refl, p.1), (first_still K x.code y.code u x.operand fa.1, (second_still K x.code y.code u y.operand fb.1, tt)), ap Some p.0),
+        ((refl, p.1), (first_still K x.code y.code u x.operand fa.1, (second_still K x.code y.code u y.operand fb.1, tt)), ap Some p.0, tt),
       )
   half_fits (Pick c u a b) K t n p =
       let z = flatten c n in let x = flatten a z.next in let y = flatten b x.next in
@@ -186,6 +186,7 @@ module _ (C : Ty → Operand → Type 0) where
             ),
           ),
           ap Some p.0,
+          tt,
         ),
       )
 
@@ -218,8 +219,8 @@ module _ (C : Ty → Operand → Type 0) where
   zero_fits (Named x) p = grind arith
 
   set_fits : (L : Name → Ty → Type 0) (t : Ty) (l : Last) → IsInt t → LastFits L t l
-      → OpFits (set_op t l) × OperandsFit L C (operands (set_op t l)) × (result_type (set_op t l) ≡ Some t)
-  set_fits L t (Is o) i p = ((refl, i), (p, (zero_fits t i, tt)), refl)
+      → (s : OpFits (set_op t l)) × OperandsFit L C (operands (set_op t l)) × (result_type (set_op t l) ≡ Some t) × MayAsk C (set_op t l) s
+  set_fits L t (Is o) i p = ((refl, i), (p, (zero_fits t i, tt)), refl, tt)
   set_fits L t (By o) i p = p
 
   -- what a task is to become
@@ -232,35 +233,35 @@ module _ (C : Ty → Operand → Type 0) where
   last_sets K t code o e x u (inl k) = grows_keep K (code ++ inserted (target t) o ∷ []) x u k
   last_sets K t code o e x u (inr k) = grows_append K code (inserted (target t) o ∷ []) x u (inr (k.0, e ∙ k.1))
 
-  ends_fit : (K : Name → Ty → Type 0) (t : Task) (code : List Inst) (o : Op) → Fits K C code → OpFits o → OperandsFit (grows K code) C (operands o)
+  ends_fit : (K : Name → Ty → Type 0) (t : Task) (code : List Inst) (o : Op) → Fits K C code → (s : OpFits o) → MayAsk C o s → OperandsFit (grows K code) C (operands o)
       → ResultFits (target t) (target_type t) → result_type o ≡ target_type t → CodeFits K t (code ++ inserted (target t) o ∷ [])
-  ends_fit K t code o f s reads g e = (behind K code (target t) o f s reads (subst (ResultFits (target t)) (sym e) g), last_sets K t code o e)
+  ends_fit K t code o f s c reads g e = (behind K code (target t) o f s c reads (subst (ResultFits (target t)) (sym e) g), last_sets K t code o e)
 
   task_fits : (t : Task) (K : Name → Ty → Type 0) (n : ℕ) → TaskFits K C t → CodeFits K t (task_code t n).code
   task_fits (Sets x t e) K n p =
       let h = half_fits e K t n p.words in
       let s = set_fits (grows K (half e n).code) t (half e n).last p.shape h.1 in
-      ends_fit K (Sets x t e) (half e n).code (set_op t (half e n).last) h.0 s.0 s.1 p.gives s.2
+      ends_fit K (Sets x t e) (half e n).code (set_op t (half e n).last) h.0 s.0 s.3 s.1 p.gives s.2
   task_fits (Tries x o t a b) K n p =
       let f = words_fit (parts (Tries x o t a b)) K n p.words in
-      ends_fit K (Tries x o t a b) (flatten_all (parts (Tries x o t a b)) n).code _ f.0 (refl, p.shape) f.1 p.gives refl
+      ends_fit K (Tries x o t a b) (flatten_all (parts (Tries x o t a b)) n).code _ f.0 (refl, p.shape) tt f.1 p.gives refl
   task_fits (Fetches x t a) K n p =
       let f = words_fit (parts (Fetches x t a)) K n p.words in
-      ends_fit K (Fetches x t a) (flatten_all (parts (Fetches x t a)) n).code _ f.0 p.shape f.1 p.gives refl
+      ends_fit K (Fetches x t a) (flatten_all (parts (Fetches x t a)) n).code _ f.0 p.shape tt f.1 p.gives refl
   task_fits (Puts t a b) K n p =
       let f = words_fit (parts (Puts t a b)) K n p.words in
-      ends_fit K (Puts t a b) (flatten_all (parts (Puts t a b)) n).code _ f.0 p.shape f.1 p.gives refl
+      ends_fit K (Puts t a b) (flatten_all (parts (Puts t a b)) n).code _ f.0 p.shape tt f.1 p.gives refl
   task_fits (Calls x f args) K n p =
       let w = words_fit args K n p.words in
       ends_fit K (Calls x f args) (flatten_all args n).code (last_op (Calls x f args) (flatten_all args n).operands) w.0
-      (record { function = f; named = refl; gives = refl; takes = words_types args n ∙ p.shape }) w.1 p.gives refl
+      (record { function = f; named = refl; gives = refl; takes = words_types args n ∙ p.shape }) p.calls w.1 p.gives refl
 
   pub task_more : (K L : Name → Ty → Type 0) → ((x : Name) (t : Ty) → K x t → L x t) → (t : Task) → TaskFits K C t → TaskFits L C t
-  task_more K L h (Sets x t e) p = record { shape = p.shape; words = typed_more K L h t e p.words; gives = p.gives }
-  task_more K L h (Tries x o t a b) p = record { shape = p.shape; words = all_more K L h (parts (Tries x o t a b)) p.words; gives = p.gives }
-  task_more K L h (Fetches x t a) p = record { shape = p.shape; words = all_more K L h (parts (Fetches x t a)) p.words; gives = p.gives }
-  task_more K L h (Puts t a b) p = record { shape = p.shape; words = all_more K L h (parts (Puts t a b)) p.words; gives = p.gives }
-  task_more K L h (Calls x f args) p = record { shape = p.shape; words = all_more K L h args p.words; gives = p.gives }
+  task_more K L h (Sets x t e) p = record { shape = p.shape; calls = p.calls; words = typed_more K L h t e p.words; gives = p.gives }
+  task_more K L h (Tries x o t a b) p = record { shape = p.shape; calls = p.calls; words = all_more K L h (parts (Tries x o t a b)) p.words; gives = p.gives }
+  task_more K L h (Fetches x t a) p = record { shape = p.shape; calls = p.calls; words = all_more K L h (parts (Fetches x t a)) p.words; gives = p.gives }
+  task_more K L h (Puts t a b) p = record { shape = p.shape; calls = p.calls; words = all_more K L h (parts (Puts t a b)) p.words; gives = p.gives }
+  task_more K L h (Calls x f args) p = record { shape = p.shape; calls = p.calls; words = all_more K L h args p.words; gives = p.gives }
 
   pub sets_more : (K L : Name → Ty → Type 0) (t : Task) → ((x : Name) (u : Ty) → K x u → L x u) → (x : Name) (u : Ty) → sets K t x u → sets L t x u
   sets_more K L t h x u (inl k) = inl (h x u k)

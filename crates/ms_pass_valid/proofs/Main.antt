@@ -1,5 +1,5 @@
 -- The instrumented form of a formed and valid module that can be instrumented is valid.
-use Rattle.std.proofs.Common.{◌≡◌, ℕ, ◌+◌, ◌*◌, [], ◌++◌, true, Some, refl, sym, ap, ◌∙◌, subst, inl, inr, ⊎_elim}
+use Rattle.std.proofs.Common.{◌≡◌, ℕ, ◌+◌, ◌*◌, [], ◌++◌, true, Some, refl, sym, ap, ◌∙◌, subst, inr, ⊎_elim}
 use Rattle.std.specs.Prelude.{flat_map, slice_get, unwrap_or, option_map, ◌⊎◌}
 use Rattle.std.proofs.Math.Path.{ap₂}
 use Rattle.ms_ir.specs.declared.syntax.Name.{Name}
@@ -66,8 +66,8 @@ module _ (numbers : ℕ → Numbering) (m : Module) (w : Formed m) (v : Valid m)
       calls_at n g e x p =
           let r = from_func (given_by m) numbers m.funcs 1 0 n g e in
           let h : Here = record { site = r.site_here; root = r.root_here; main = name_eq r.func.name main_name } in
-          ⊎_elim (λ k. inl k) (λ k. inr (called_func m.funcs n r.func x r.at k))
-          (func_calls j (given_by m) r.numbering.env r.numbering.size r.func h (2 * r.numbering.size + 1) (ready n g e) x
+          ⊎_elim (λ k. k) (λ k. inr (called_func m.funcs n r.func x r.at k))
+          (func_calls m j (given_by m) r.numbering.env r.numbering.size r.func h (2 * r.numbering.size + 1) (ready n g e) x
           (subst (λ y. In (flat_map (λ i. callees i.op) (func_insts y)) x) r.is p))
 
   declarations_fit : flat_map (λ d. name_unless (decl_fits (called_names j) d) d.name) j.decls ≡ []
@@ -90,7 +90,7 @@ module _ (numbers : ℕ → Numbering) (m : Module) (w : Formed m) (v : Valid m)
           let r = from_func (given_by m) numbers m.funcs 1 0 n g e in
           let h : Here = record { site = r.site_here; root = r.root_here; main = name_eq r.func.name main_name } in
           subst (λ x. sized m.types (func_types x) ≡ true) (sym r.is)
-          (func_sized m.types j refl (given_by m) r.numbering.env r.numbering.size r.func h (2 * r.numbering.size + 1) (ready n g e)
+          (func_sized m.types m j refl (given_by m) r.numbering.env r.numbering.size r.func h (2 * r.numbering.size + 1) (ready n g e)
           (λ b p i at. (plain_module m w v can).sizes n b p i
           (ap (λ o. slice_get (unwrap_or (option_map (λ k. k.insts) (slice_get (unwrap_or (option_map (λ x. x.blocks) o) []) b)) []) p) r.at ∙ at)))
 
@@ -103,7 +103,7 @@ module _ (numbers : ℕ → Numbering) (m : Module) (w : Formed m) (v : Valid m)
     has_main = main_kept numbers m v.has_main;
     globals_fit = globals_fit numbers m u v;
     declarations_fit = declarations_fit;
-    functions_fit = functions_fit numbers m u;
+    functions_fit = functions_fit numbers m u v;
     sizes_fit = sizes_fit;
   }
 

@@ -17,6 +17,7 @@ use Rattle.ms_ir.specs.declared.syntax.Func.{Func}
 use Rattle.ms_ir.specs.Names.{is_reserved, lookup, externals}
 use Rattle.ms_runs.specs.World.{Here}
 use Rattle.ms_ir.specs.Code.{operands, count_undefs, external_named}
+use Rattle.ms_bits.specs.declared.word_functions.BitMove.{BitMove}
 use Rattle.ms_ir.specs.declared.calls.External.{External}
 use Rattle.ms_ir.specs.declared.calls.External.TheVariants.{Malloc, Realloc}
 use Rattle.ms_runs.specs.Uses.{Use, Word, Bytes, Line, uses, Asked}
@@ -26,7 +27,7 @@ use Rattle.ms_tasks.specs.Tasks.{msan_name, mask_name, origin_name, Task, target
 use Rattle.ms_tasks.specs.Meaning.{Below}
 use Rattle.ms_tasks.specs.Environments.{Env, Given, Tracked, is_zero, tracked, tracked_at}
 use Rattle.ms_tasks.specs.CheckTasks.{check_task, use_tasks, check_tasks, all_zero, blinded_of, blind_tasks}
-use Rattle.ms_tasks.specs.ResultTasks.{define_tasks, result_tasks, called_tasks}
+use Rattle.ms_tasks.specs.ResultTasks.{define_tasks, result_tasks, external_move, answer_tasks, called_tasks}
 use Rattle.ms_tasks.specs.PlaneTasks.{plane_tasks, save_tasks, saves, saved_by, saved_tasks, external_tasks, callee_tasks}
 use Rattle.ms_tasks.specs.Emit.{before_tasks, after_tasks, start}
 use Rattle.ms_tasks.specs.SlotTasks.{hand_tasks, give_result, give_arguments, take_result, take_tasks, take_parameters, param_mask, param_origin, result_mask_slot, result_origin_slot}
@@ -188,9 +189,13 @@ module _ (given : Given) (env : Env) (size : ℕ) (one : OneName env) (few : Few
   define_sets v (op.Gep t a is) ts = inr (inl refl)
   define_sets v (op.Call r x as') ts = by_own (is_some (given.func x))
     where
+      by_move : (k : Option BitMove) → MarksIn v (set_by (answer_tasks (mask_name v) (origin_name v) k (op.Call r x as') ts))
+      by_move None = inr (inl refl)
+      by_move (Some k) = inr (inl refl)
+
       by_own : (b : Bool) → MarksIn v (set_by (called_tasks b v (op.Call r x as') ts))
       by_own true = inl refl
-      by_own false = inr (inl refl)
+      by_own false = by_move (external_move (lookup externals x))
   define_sets v _ ts = inl refl
 
   -- names that mark a result

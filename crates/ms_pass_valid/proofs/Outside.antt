@@ -8,13 +8,15 @@ use Rattle.ms_ir.specs.declared.syntax.Name.{Name}
 use Rattle.ms_ir.specs.declared.syntax.Ty.{Int}
 use Rattle.ms_ir.specs.declared.syntax.Name.TheVariants.{Text}
 use Rattle.ms_valid.proofs.TypeShapes.{type_mentions-array}
-use Rattle.ms_pass_valid.proofs.Inserted.{type_same}
+use Rattle.ms_valid.proofs.ByParts.{fits_outside}
+use Rattle.ms_pass_valid.proofs.Checked.{MayCall}
+use Rattle.ms_pass_valid.proofs.Inserted.{type_same, ConstGood}
 use Rattle.ms_ir.specs.declared.syntax.Func.{Func}
 use Rattle.ms_ir.specs.declared.syntax.Decl.{Decl}
 use Rattle.ms_ir.specs.declared.syntax.Module.{Module}
 use Rattle.ms_ir.specs.declared.calls.RuntimeFn.{RuntimeFn}
 use Rattle.ms_ir.specs.declared.calls.RuntimeFn.TheVariants as function
-use Rattle.ms_ir.specs.Names.{name_eq, lookup, is_reserved, externals, runtime_name}
+use Rattle.ms_ir.specs.Names.{name_eq, lookup, is_reserved, is_kept, externals, runtime_name}
 use Rattle.ms_ir.specs.Code.{func_at, over_blocks, one_unmarked, roots_in, func_index}
 use Rattle.ms_valid.specs.TypesAgree.{is_variable, is_printf}
 use Rattle.ms_ir.specs.Equal.{has_name}
@@ -99,25 +101,15 @@ module _ (numbers : ℕ → Numbering) (m : Module) (u : IsUninstrumented m) whe
   symbol_kept : (x : Name) → has_name (symbols m) x ≡ true → has_name (symbols j) x ≡ true
   symbol_kept x e = within_name (symbols j) x (from_in (symbols j) x (symbol_in x (to_in (symbols m) x (name_within (symbols m) x e))))
 
-  in_runtime : (fn : RuntimeFn) → has_name (map (λ d. d.name) runtime_declarations) (runtime_name fn) ≡ true
-  in_runtime function.Check = refl
-  in_runtime function.CheckMemory = refl
-  in_runtime function.CheckString = refl
-  in_runtime function.Blind = refl
-  in_runtime function.Poison = refl
-  in_runtime function.Unpoison = refl
-  in_runtime function.Copy = refl
-  in_runtime function.Fill = refl
-  in_runtime function.StoreOrigin = refl
-  in_runtime function.LoadOrigin = refl
-  in_runtime function.Size = refl
-  in_runtime function.CheckFormat = refl
-
-  runtime_known : (fn : RuntimeFn) → has_name (symbols j) (runtime_name fn) ≡ true
-  runtime_known fn =
+  in_symbols : (x : Name) → has_name (map (λ d. d.name) runtime_declarations) x ≡ true → has_name (symbols j) x ≡ true
+  in_symbols x e =
       let g = global_names m ++ map (λ g. g.name) slot_globals in let d = declared_names m in let f = function_names m in let r = map (λ d. d.name) runtime_declarations in
-      within_name (symbols j) (runtime_name fn) (from_in (symbols j) (runtime_name fn) (subst (λ l. In l (runtime_name fn)) (sym symbols_named)
-      (in_right g ((d ++ r) ++ f) (runtime_name fn) (in_left (d ++ r) f (runtime_name fn) (in_right d r (runtime_name fn) (to_in r (runtime_name fn) (name_within r (runtime_name fn) (in_runtime fn))))))))
+      within_name (symbols j) x (from_in (symbols j) x (subst (λ l. In l x) (sym symbols_named)
+      (in_right g ((d ++ r) ++ f) x (in_left (d ++ r) f x (in_right d r x (to_in r x (name_within r x e)))))))
+
+  runtime_known : (fn : RuntimeFn) → MayCall (ConstGood m j) fn → has_name (symbols j) (runtime_name fn) ≡ true
+  runtime_known (function.Move k) c = c.symbol
+  runtime_known fn c = in_symbols (runtime_name fn) refl
 
   slot_known : (x : Name) → has_name (map (λ g. g.name) slot_globals) x ≡ true → (is_variable j x ≡ true) × (has_name (symbols j) x ≡ true)
   slot_known x e =
@@ -167,20 +159,6 @@ module _ (numbers : ℕ → Numbering) (m : Module) (u : IsUninstrumented m) whe
       let ds = own_decls m.decls x (symbol_free x e) in
       (ap₂ option_or (own_funcs (given_by m) numbers m.funcs 1 0 x) ds, ap (λ o. name_eq x (Text (codes "printf")) && is_some o) ds)
 
-  is_kept : (fn : RuntimeFn) → is_reserved (runtime_name fn) ≡ true
-  is_kept function.Check = refl
-  is_kept function.CheckMemory = refl
-  is_kept function.CheckString = refl
-  is_kept function.Blind = refl
-  is_kept function.Poison = refl
-  is_kept function.Unpoison = refl
-  is_kept function.Copy = refl
-  is_kept function.Fill = refl
-  is_kept function.StoreOrigin = refl
-  is_kept function.LoadOrigin = refl
-  is_kept function.Size = refl
-  is_kept function.CheckFormat = refl
-
   other_name : (y x : Name) → is_reserved y ≡ false → is_reserved x ≡ true → name_eq y x ≡ false
   other_name y x free kept = by_test (name_eq y x) refl
     where
@@ -198,20 +176,6 @@ module _ (numbers : ℕ → Numbering) (m : Module) (u : IsUninstrumented m) whe
   past_decls (d ∷ ds) more x kept free =
       ap (λ c. if c then Some (decl_signature d) else declared_signature (ds ++ more) x) (other_name d.name x (free d.name (inl refl)) kept) ∙ past_decls ds more x kept (λ y i. free y (inr i))
 
-  runtime_declared : (fn : RuntimeFn) → declared_signature runtime_declarations (runtime_name fn) ≡ Some (runtime_signature fn)
-  runtime_declared function.Check = refl
-  runtime_declared function.CheckMemory = refl
-  runtime_declared function.CheckString = refl
-  runtime_declared function.Blind = refl
-  runtime_declared function.Poison = refl
-  runtime_declared function.Unpoison = refl
-  runtime_declared function.Copy = refl
-  runtime_declared function.Fill = refl
-  runtime_declared function.StoreOrigin = refl
-  runtime_declared function.LoadOrigin = refl
-  runtime_declared function.Size = refl
-  runtime_declared function.CheckFormat = refl
-
   funcs_free : (y : Name) → In (function_names j) y → is_reserved y ≡ false
   funcs_free y i =
       symbols_free m u y (in_right (global_names m) (declared_names m ++ function_names m) y (in_right (declared_names m) (function_names m) y (subst (λ l. In l y) names_of_funcs i)))
@@ -222,10 +186,9 @@ module _ (numbers : ℕ → Numbering) (m : Module) (u : IsUninstrumented m) whe
   globals_free : (y : Name) → In (global_names m) y → is_reserved y ≡ false
   globals_free y i = symbols_free m u y (in_left (global_names m) (declared_names m ++ function_names m) y i)
 
-  signature_there : (fn : RuntimeFn) → signature_of j (runtime_name fn) ≡ Some (runtime_signature fn)
-  signature_there fn =
-      ap₂ option_or (no_function j.funcs (runtime_name fn) (is_kept fn) funcs_free)
-      (past_decls m.decls runtime_declarations (runtime_name fn) (is_kept fn) decls_free ∙ runtime_declared fn)
+  signature_there : (fn : RuntimeFn) → MayCall (ConstGood m j) fn → signature_of j (runtime_name fn) ≡ Some (runtime_signature fn)
+  signature_there (function.Move k) c = c.declared
+  signature_there fn c = ap₂ option_or (no_function j.funcs (runtime_name fn) refl funcs_free) (past_decls m.decls runtime_declarations (runtime_name fn) refl decls_free)
 
   pub module_ready : ModuleReady m j
   module_ready = record {
@@ -366,5 +329,11 @@ module _ (numbers : ℕ → Numbering) (m : Module) (u : IsUninstrumented m) whe
   func_named (k ∷ fs) zero f e = inl (ap (λ o. (unwrap_or o k).name) e)
   func_named (k ∷ fs) (suc n) f e = inr (func_named fs n f e)
 
-  pub functions_fit : (n : ℕ) (f : Func) → func_at j n ≡ Some f → IsFalse (is_reserved f.name)
-  functions_fit n f e = funcs_free f.name (func_named j.funcs n f e)
+  not_kept_in : (fs : List Func) → ((n : ℕ) (f : Func) → slice_get fs n ≡ Some f → is_kept f.name ≡ false) → (x : Name) → In (map (λ f. f.name) fs) x → is_kept x ≡ false
+  not_kept_in [] h x i = absurd i
+  not_kept_in (f ∷ fs) h x (inl e) = subst (λ y. is_kept y ≡ false) e (h 0 f refl)
+  not_kept_in (f ∷ fs) h x (inr i) = not_kept_in fs (λ n g e. h (suc n) g e) x i
+
+  pub functions_fit : Valid m → (n : ℕ) (f : Func) → func_at j n ≡ Some f → IsFalse (is_kept f.name)
+  functions_fit v n f e =
+      not_kept_in m.funcs (λ k g h. (fits_outside m v).functions_fit k g h) f.name (subst (λ l. In l f.name) names_of_funcs (func_named j.funcs n f e))

@@ -14,7 +14,8 @@ use Rattle.ms_ir.specs.declared.syntax.Op.TheVariants as op
 use Rattle.ms_ir.specs.declared.syntax.Inst.{Inst}
 use Rattle.ms_ir.specs.declared.syntax.Block.{Block}
 use Rattle.ms_ir.specs.declared.syntax.Func.{Func}
-use Rattle.ms_ir.specs.Names.{name_eq}
+use Rattle.ms_bits.specs.declared.word_functions.BitMove.{BitMove}
+use Rattle.ms_ir.specs.Names.{name_eq, lookup, externals}
 use Rattle.ms_ir.specs.Equal.{has_name}
 use Rattle.ms_runs.specs.World.{Here}
 use Rattle.ms_ir.specs.Code.{operands, block_index, count_undefs, external_named, is_phi}
@@ -24,7 +25,7 @@ use Rattle.ms_valid.specs.Paths.{insts_of, block_successors, block_results, IsDe
 use Rattle.ms_tasks.specs.Tasks.{mask_name, origin_name, inserted, Task, Sets, Tries, Fetches, Puts, Calls, half, flatten_all, parts, target, last_op, set_op, task_code, tasks_code}
 use Rattle.ms_tasks.specs.Environments.{Env, Given, tracked, Tracked}
 use Rattle.ms_tasks.specs.CheckTasks.{check_tasks, blinded_of, blind_tasks}
-use Rattle.ms_tasks.specs.ResultTasks.{called_tasks, define_tasks, result_tasks}
+use Rattle.ms_tasks.specs.ResultTasks.{external_move, answer_tasks, called_tasks, define_tasks, result_tasks}
 use Rattle.ms_tasks.specs.SlotTasks.{hand_tasks, take_tasks, take_value, take_parameters, param_mask, param_origin, result_mask_slot, result_origin_slot}
 use Rattle.ms_tasks.specs.PlaneTasks.{save_tasks, callee_tasks, plane_tasks}
 use Rattle.ms_tasks.specs.Emit.{before_tasks, after_tasks, start, emit_tasks}
@@ -288,7 +289,11 @@ module _ (given : Given) (env : Env) where
   define_targets v (op.Phi t es) ts h e w = grind arith
   define_targets v (op.Store t a b) ts h e w = absurd h
   define_targets v (op.Call r c as') ts h e w =
-      subst (λ b. Both v (set_by (called_tasks b v (op.Call r c as') ts))) (sym w) (inr (inl refl), inl refl)
+      subst (λ b. Both v (set_by (called_tasks b v (op.Call r c as') ts))) (sym w) (by_move (external_move (lookup externals c)))
+    where
+      by_move : (k : Option BitMove) → Both v (set_by (answer_tasks (mask_name v) (origin_name v) k (op.Call r c as') ts))
+      by_move None = (inr (inl refl), inl refl)
+      by_move (Some k) = (inr (inl refl), inl refl)
   define_targets v (op.Br to) ts h e w = absurd h
   define_targets v (op.CondBr c to other) ts h e w = absurd h
   define_targets v (op.Switch t a other cases) ts h e w = absurd h

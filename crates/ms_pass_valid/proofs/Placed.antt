@@ -4,7 +4,6 @@ use Rattle.std.specs.Prelude.{◌⊎◌, length, take, slice_get, unwrap_or, opt
 use Rattle.std.proofs.lemmas.List.{append_assoc}
 use Rattle.ms_ir.specs.declared.syntax.Name.{Name}
 use Rattle.ms_ir.specs.declared.syntax.Ty.{Ty}
-use Rattle.ms_ir.specs.declared.syntax.Operand.{Operand}
 use Rattle.ms_ir.specs.declared.syntax.Inst.{Inst}
 use Rattle.ms_ir.specs.declared.syntax.Block.{Block}
 use Rattle.ms_ir.specs.declared.syntax.Func.{Func}
@@ -16,7 +15,7 @@ use Rattle.ms_valid.specs.Paths.{insts_of, IsDefined}
 use Rattle.ms_tasks.specs.Environments.{Env, Given}
 use Rattle.ms_tasks.specs.Emit.{Emitted}
 use Rattle.ms_tasks.specs.PassLists.{next_here, pass_insts, emit_op}
-use Rattle.ms_pass_valid.proofs.Checked.{InstFits, grow, Fits}
+use Rattle.ms_pass_valid.proofs.Checked.{Allowed, InstFits, grow, Fits}
 use Rattle.ms_pass_valid.proofs.Lists.{fits_more}
 use Rattle.ms_pass_valid.proofs.Paths.{In, result_in, defined_before, defined_later}
 use Rattle.ms_pass_valid.proofs.OnceTyped.{result_typed}
@@ -73,7 +72,7 @@ module _ (g : Func) (once : repeats [] (locals g) ≡ []) (b : ℕ) where
   pub known_later : (q r : ℕ) (x : Name) (t : Ty) → KnownAt g b q x t → KnownAt g b (q + r) x t
   known_later q r x t k = (k.0, defined_later g b q r x k.1)
 
-  module _ (C : Ty → Operand → Type 0) where
+  module _ (C : Allowed) where
     -- each instruction of a list that fits at its place fits at its own
     pub placed : (code : List Inst) (q : ℕ) → Fits (KnownAt g b q) C code → ((k : ℕ) (j : Inst) → slice_get code k ≡ Some j → slice_get (insts_of g b) (q + k) ≡ Some j)
         → (k : ℕ) (j : Inst) → slice_get code k ≡ Some j → InstFits (KnownAt g b (q + k)) C j

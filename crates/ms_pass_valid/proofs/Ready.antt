@@ -32,7 +32,7 @@ use Rattle.ms_valid.specs.SizesFit.{sized}
 use Rattle.ms_valid.proofs.AtInstructions.{all_parts}
 use Rattle.ms_pass_valid.proofs.Rounds.{TypeAt, SmallUses}
 use Rattle.ms_pass_valid.proofs.PassPaths.{HasMask}
-use Rattle.ms_pass_valid.proofs.Inserted.{ConstGood, unknown_append, unknown_one}
+use Rattle.ms_pass_valid.proofs.Inserted.{ConstFits, ConstGood, unknown_append, unknown_one}
 use Rattle.ms_pass_valid.proofs.Emitted.{OpGood}
 use Rattle.ms_tasks.specs.Environments.{Given}
 use Rattle.ms_pass_valid.proofs.FuncFits.{OperandGood, OperandsGood, EdgeGood, EdgesGood, edge_undefs}
@@ -108,7 +108,7 @@ module _ (m j : Module) (a : ModuleReady m j) where
     both_kept : (t : Ty) (c d : Bool) → (type_eq t Ptr && c) ≡ true → (c ≡ true → d ≡ true) → (type_eq t Ptr && d) ≡ true
     both_kept t c d e h = let p = and_parts (type_eq t Ptr) c e in ap₂ (λ x y. x && y) p.0 (h p.1)
 
-    const_global : (t : Ty) (x : Name) → Found t (operand.Global x) → ConstGood j t (operand.Global x)
+    const_global : (t : Ty) (x : Name) → Found t (operand.Global x) → ConstFits j t (operand.Global x)
     const_global t x k = record {
       fits = λ typed. both_kept t (is_variable m x) (is_variable j x) k.fits (a.variable x);
       known = λ names site. outer_kept (locals f) names s site (operand_mentions (operand.Global x)) tt k.known;
@@ -116,7 +116,7 @@ module _ (m j : Module) (a : ModuleReady m j) where
       sized_in = ap (λ ts. sized ts (t ∷ [])) a.types ∙ k.sizes;
     }
 
-    const_offset : (t : Ty) (x : Name) (steps : List Step) → Found t (operand.Offset x steps) → ConstGood j t (operand.Offset x steps)
+    const_offset : (t : Ty) (x : Name) (steps : List Step) → Found t (operand.Offset x steps) → ConstFits j t (operand.Offset x steps)
     const_offset t x steps k = record {
       fits = λ typed. three k.fits;
       known = λ names site. outer_kept (locals f) names s site (operand_mentions (operand.Offset x steps)) (outer_append (flat_map (λ s. type_mentions s.0) steps) (OfGlobal x ∷ []) (steps_outer steps) tt) k.known;
@@ -129,7 +129,7 @@ module _ (m j : Module) (a : ModuleReady m j) where
             let q = and_parts (type_eq t Ptr && is_variable m x) (list_all (step_fits m.types) steps) e in
             ap₂ (λ x y. x && y) (both_kept t (is_variable m x) (is_variable j x) q.0 (a.variable x)) (ap (λ ts. list_all (step_fits ts) steps) a.types ∙ q.1)
 
-    const_plain : (t : Ty) (o : Operand) → ((typed : Name → Option Ty) → operand_fits j typed t o ≡ true) → operand_mentions o ≡ [] → Found t o → ConstGood j t o
+    const_plain : (t : Ty) (o : Operand) → ((typed : Name → Option Ty) → operand_fits j typed t o ≡ true) → operand_mentions o ≡ [] → Found t o → ConstFits j t o
     const_plain t o fits none k = record {
       fits = fits;
       known = λ names site. ap (unknown_of j names site) none;
@@ -137,7 +137,7 @@ module _ (m j : Module) (a : ModuleReady m j) where
       sized_in = ap (λ ts. sized ts (t ∷ operand_types o)) a.types ∙ k.sizes;
     }
 
-    pub operand_good : (t : Ty) (o : Operand) → Found t o → All IsUseDefined (operand_use (spot f b p s) b p o) → OperandGood f (ConstGood j) b p t o
+    pub operand_good : (t : Ty) (o : Operand) → Found t o → All IsUseDefined (operand_use (spot f b p s) b p o) → OperandGood f (ConstGood m j) b p t o
     operand_good t (operand.Local x) k u = (typed_local x t k.value k.fits, u 0 (record { func = f; site = s; value = record { block = b; place = p; name = x } }) (omega arith))
     operand_good t (operand.Int n) k u = k.formed
     operand_good t operand.Null k u = const_plain t operand.Null (λ typed. refl) refl k
@@ -150,13 +150,13 @@ module _ (m j : Module) (a : ModuleReady m j) where
     AllFound [] = Unit {0}
     AllFound (o ∷ os) = Found o.0 o.1 × AllFound os
 
-    pub operands_good : (os : List (Ty × Operand)) → AllFound os → All IsUseDefined (flat_map (λ o. operand_use (spot f b p s) b p o.1) os) → OperandsGood f (ConstGood j) b p os
+    pub operands_good : (os : List (Ty × Operand)) → AllFound os → All IsUseDefined (flat_map (λ o. operand_use (spot f b p s) b p o.1) os) → OperandsGood f (ConstGood m j) b p os
     operands_good [] k u = tt
     operands_good (o ∷ os) k u =
         let q = all_parts IsUseDefined (operand_use (spot f b p s) b p o.1) (flat_map (λ o. operand_use (spot f b p s) b p o.1) os) u in
         (k.0.value, operand_good o.0 o.1 k.0 q.0, operands_good os k.1 q.1)
 
-    edge_good : (t : Ty) (o : Operand) (from : Name) → Found t o → All IsUseDefined (edge_use (spot f b p s) (o, from)) → EdgeGood f (ConstGood j) t o from
+    edge_good : (t : Ty) (o : Operand) (from : Name) → Found t o → All IsUseDefined (edge_use (spot f b p s) (o, from)) → EdgeGood f (ConstGood m j) t o from
     edge_good t (operand.Local x) from k u =
         let c = block_index f.blocks from in
         (typed_local x t k.value k.fits, u 0 (record { func = f; site = s; value = record { block = c; place = length (insts_of f c); name = x } }) (omega arith))
@@ -167,7 +167,7 @@ module _ (m j : Module) (a : ModuleReady m j) where
     edge_good t (operand.Global x) from k u = const_global t x k
     edge_good t (operand.Offset x steps) from k u = const_offset t x steps k
 
-    pub edges_good : (t : Ty) (es : List (Operand × Name)) → AllFound (map (λ e. (t, e.0)) es) → All IsUseDefined (flat_map (edge_use (spot f b p s)) es) → EdgesGood f (ConstGood j) t es
+    pub edges_good : (t : Ty) (es : List (Operand × Name)) → AllFound (map (λ e. (t, e.0)) es) → All IsUseDefined (flat_map (edge_use (spot f b p s)) es) → EdgesGood f (ConstGood m j) t es
     edges_good t [] k u = tt
     edges_good t (e ∷ es) k u =
         let q = all_parts IsUseDefined (edge_use (spot f b p s) e) (flat_map (edge_use (spot f b p s)) es) u in

@@ -2,6 +2,7 @@
 use Rattle.std.proofs.Common.{◌≡◌, ◌<◌, ◌≤◌, ℕ, zero, suc, ◌+◌, ◌*◌, ◌^◌, List, [], ◌∷◌, ◌++◌, Bool, true, false, Option, Some, None, refl, sym, ap, subst, ◌∙◌, arith, inl, inr}
 use Rattle.std.specs.Prelude.{if◌then◌else◌, map, take, drop, length, slice_get, unwrap_or, is_some}
 use Rattle.std.specs.List.{list_all}
+use Rattle.std.proofs.Math.Path.{ap₂}
 use Rattle.std.proofs.lemmas.Bool.{and_parts}
 use Rattle.ms_bits.specs.declared.operations.Flags.{Flags}
 use Rattle.ms_bits.specs.declared.operations.BinOp.{BinOp}
@@ -18,28 +19,31 @@ use Rattle.ms_ir.specs.Layout.{width_of, size_in}
 use Rattle.ms_runs.specs.World.{Here}
 use Rattle.ms_ir.specs.Code.{operands, count_undefs, one_undef, external_named}
 use Rattle.ms_ir.specs.Written.{result_type}
-use Rattle.ms_ir.specs.Signatures.{external_signature, called_params}
+use Rattle.ms_ir.specs.Signatures.{external_signature, word_params, called_params}
 use Rattle.ms_ir.specs.declared.calls.External.{External}
 use Rattle.ms_ir.specs.declared.calls.External.TheVariants.{Malloc, Realloc, Memcpy, Memmove, Memset, Read, LlvmMemcpy, LlvmMemmove, LlvmMemset, LifetimeStart}
 use Rattle.ms_runs.specs.Uses.{Use, Word, Bytes, Line, uses, has_flag, has_true_flag, flagged_words, Asked}
 use Rattle.ms_valid.specs.FormedCode.{is_int_type, is_value_type}
 use Rattle.ms_tasks.specs.Tasks.{msan_name, mask_name, origin_name, Expr, Leaf, Task, Sets, Fetches, Puts, Calls}
 use Rattle.ms_tasks.specs.Environments.{Env, Given, Tracked, mask_type, tracked, tracked_at, mask_of, origin_of, word_of, bits_of, widened, number, is_zero}
-use Rattle.ms_tasks.specs.ResultMasks.{word_expr, answer_expr, mask_expr, answer_origin_expr, origin_expr, first_last}
-use Rattle.ms_bits.specs.WordFunctions.{is_flagged}
+use Rattle.ms_tasks.specs.ResultMasks.{word_expr, answer_expr, mask_expr, move_args, answer_origin_expr, origin_expr, first_last}
+use Rattle.ms_bits.specs.declared.word_functions.BitMove.{BitMove}
+use Rattle.ms_bits.specs.WordFunctions.{is_flagged, move_fn, move_width}
 use Rattle.ms_bits.specs.WordFunctions.{bits_of as width_bits}
 use Rattle.ms_bits_laws.proofs.WordAgreement.{width_some}
 use Rattle.ms_ir.specs.declared.calls.External.TheVariants as called
 use Rattle.ms_ir.specs.Names.{lookup, externals}
-use Rattle.ms_pass_valid.proofs.WordTypes.{width_int, typed_at, word_typed}
-use Rattle.ms_tasks.specs.ResultTasks.{result_width, called_tasks, shift_task, word_tasks, binary_tasks, shadow_address, define_tasks, result_tasks}
+use Rattle.ms_pass_valid.proofs.WordTypes.{width_int, typed_at, word_typed, moved_shape, moved_typed}
+use Rattle.ms_tasks.proofs.WordExprs.{Moving}
+use Rattle.ms_tasks.proofs.WordMasks.{move_is, no_move}
+use Rattle.ms_tasks.specs.ResultTasks.{result_width, external_move, answer_tasks, called_tasks, shift_task, word_tasks, binary_tasks, shadow_address, define_tasks, result_tasks}
 use Rattle.ms_tasks.specs.CheckTasks.{memory_task, string_task, check_task, use_tasks, check_tasks, blind_binary_of, blinded_of, all_zero, union_masks, blind_tasks, format_task}
 use Rattle.ms_tasks.specs.PlaneTasks.{saves, saved_by, saved_tasks, poison_task, copy_task, fill_task, external_tasks, callee_tasks, plane_tasks, save_tasks}
 use Rattle.ms_tasks.specs.Emit.{before_tasks}
 use Rattle.ms_tasks.specs.SlotTasks.{hand_tasks, give_result, give_tasks, give_arguments, take_tasks, take_value, take_result, take_parameters, param_mask, param_origin, result_mask_slot, result_origin_slot}
-use Rattle.ms_pass_valid.proofs.Checked.{IsInt, OperandFits, Typed, TaskFits, sets, TasksFit}
-use Rattle.ms_pass_valid.proofs.Emitted.{TrackedFits, AllTracked, CallGood, OpGood}
-use Rattle.ms_pass_valid.proofs.Lists.{typed_more, operand_more, tasks_more}
+use Rattle.ms_pass_valid.proofs.Checked.{Allowed, IsInt, OperandFits, Typed, TaskFits, sets, TasksFit}
+use Rattle.ms_pass_valid.proofs.Emitted.{TrackedFits, AllTracked, CallGood, OpGood, MovesGood}
+use Rattle.ms_pass_valid.proofs.Lists.{typed_more, all_more, operand_more, tasks_more}
 use Rattle.ms_pass_valid.proofs.Words.{number_fits, no_bits, all_bits, wide, widened_typed, set_typed, bits_typed, address_typed, address_mask_typed, binary_typed, compare_typed, select_typed, cast_typed, union_masks_typed, first_last_typed}
 
 -- an operand has a type
@@ -58,13 +62,13 @@ SmallUses os [] = Unit {0}
 SmallUses os (u ∷ us) = SmallUse os u × SmallUses os us
 
 -- the slots may stand
-pub record SlotsGood (C : Ty → Operand → Type 0) : Type 0 where
-  pub mask : C Ptr result_mask_slot
-  pub origin : C Ptr result_origin_slot
-  pub masks : (k : ℕ) → k < 100 → C Ptr (param_mask k)
-  pub origins : (k : ℕ) → k < 100 → C Ptr (param_origin k)
+pub record SlotsGood (C : Allowed) : Type 0 where
+  pub mask : C.const Ptr result_mask_slot
+  pub origin : C.const Ptr result_origin_slot
+  pub masks : (k : ℕ) → k < 100 → C.const Ptr (param_mask k)
+  pub origins : (k : ℕ) → k < 100 → C.const Ptr (param_origin k)
 
-module _ (C : Ty → Operand → Type 0) where
+module _ (C : Allowed) where
   -- tasks in two parts, of which the second needs nothing of the first
   pub apart : (K : Name → Ty → Type 0) (a b : List Task) → TasksFit K C a → ((L : Name → Ty → Type 0) → ((x : Name) (t : Ty) → K x t → L x t) → TasksFit L C b) → TasksFit K C (a ++ b)
   apart K [] b p q = q K (λ x t k. k)
@@ -97,6 +101,7 @@ module _ (C : Ty → Operand → Type 0) where
   check_fits : (K : Name → Ty → Type 0) (site kind part : ℕ) (t : Tracked) → TrackedFits K C t → site < 2 ^ 32 → kind < 2 ^ 32 → part < 2 ^ 32 → TaskFits K C (check_task site kind part t)
   check_fits K site kind part t p s k n = record {
     shape = refl;
+    calls = tt;
     words = (
       widened_typed C K (width_of t.ty) (mask_of t) (wide t.ty p.value) p.mask,
       (
@@ -135,13 +140,13 @@ module _ (C : Ty → Operand → Type 0) where
 
   memory_fits : (K : Name → Ty → Type 0) (site kind : ℕ) (a n : Tracked) → Typed K C Ptr (word_of a) → Typed K C (Int 64) (word_of n) → site < 2 ^ 32 → kind < 2 ^ 32
       → TaskFits K C (memory_task site kind a n)
-  memory_fits K site kind a n p q s k = record { shape = refl; words = (p, (q, (number_fits 32 kind refl k, (number_fits 32 site refl s, tt)))); gives = tt }
+  memory_fits K site kind a n p q s k = record { shape = refl; calls = tt; words = (p, (q, (number_fits 32 kind refl k, (number_fits 32 site refl s, tt)))); gives = tt }
 
   string_fits : (K : Name → Ty → Type 0) (site : ℕ) (a : Tracked) → Typed K C Ptr (word_of a) → site < 2 ^ 32 → TaskFits K C (string_task site a)
-  string_fits K site a p s = record { shape = refl; words = (p, (number_fits 32 site refl s, tt)); gives = tt }
+  string_fits K site a p s = record { shape = refl; calls = tt; words = (p, (number_fits 32 site refl s, tt)); gives = tt }
 
   format_fits : (K : Name → Ty → Type 0) (site k : ℕ) (f a : Tracked) → Typed K C Ptr (word_of f) → Typed K C Ptr (word_of a) → site < 2 ^ 32 → k < 2 ^ 32 → TaskFits K C (format_task site k f a)
-  format_fits K site k f a p q s l = record { shape = refl; words = (p, (number_fits 32 k refl l, (q, (number_fits 32 site refl s, tt)))); gives = tt }
+  format_fits K site k f a p q s l = record { shape = refl; calls = tt; words = (p, (number_fits 32 k refl l, (q, (number_fits 32 site refl s, tt)))); gives = tt }
 
   use_fits : (K : Name → Ty → Type 0) (site : ℕ) (env : Env) (root : ℕ) (os : List (Ty × Operand)) (u : Use) → AllTracked K C (tracked env root os) → site < 2 ^ 32 → SmallUse os u
       → TasksFit K C (use_tasks site (tracked env root os) u)
@@ -206,7 +211,7 @@ module _ (C : Ty → Operand → Type 0) where
 
   blind_fits : (K : Name → Ty → Type 0) (ts : List Tracked) → AllTracked K C ts → TasksFit K C (blind_tasks ts)
   blind_fits K ts p = unless_zero K (all_zero ts) (Calls None function.Blind ((Int 64, union_masks ts) ∷ []))
-      (record { shape = refl; words = (union_masks_typed C K ts p, tt); gives = tt })
+      (record { shape = refl; calls = tt; words = (union_masks_typed C K ts p, tt); gives = tt })
 
   -- ---- results
 
@@ -228,10 +233,11 @@ module _ (C : Ty → Operand → Type 0) where
     -- what two tasks give a value: its origin first, and then its mask
     two_sets : (v : ℕ) (t : Ty) (e m : Expr) → IsInt t → Typed K C (Int 32) e → Typed K C t m → TasksFit K C (Sets (origin_name v) (Int 32) e ∷ Sets (mask_name v) t m ∷ [])
     two_sets v t e m i p q = (
-      record { shape = refl; words = p; gives = (2 * v + 2, refl) },
+      record { shape = refl; calls = tt; words = p; gives = (2 * v + 2, refl) },
       (
         record {
           shape = i;
+          calls = tt;
           words = typed_more C K (sets K (Sets (origin_name v) (Int 32) e)) (λ x u k. inl k) t m q;
           gives = (2 * v + 1, refl);
         },
@@ -244,10 +250,11 @@ module _ (C : Ty → Operand → Type 0) where
     set_then_try v w o e a b i p q r s =
         let L = sets K (Sets (origin_name v) (Int 32) e) in
         let more = λ (m : Expr) (h : Typed K C (Int w) m). typed_more C K L (λ x u k. inl k) (Int w) m h in (
-          record { shape = refl; words = p; gives = (2 * v + 2, refl) },
+          record { shape = refl; calls = tt; words = p; gives = (2 * v + 2, refl) },
           (
             record {
               shape = i;
+              calls = tt;
               words = (
                 (refl, i, set_typed C L w (mask_of b) i (more (mask_of b) s), all_bits w i, more (mask_of a) q),
                 ((refl, i, set_typed C L w (mask_of b) i (more (mask_of b) s), no_bits w i, more (word_of b) r), tt),
@@ -292,45 +299,46 @@ module _ (C : Ty → Operand → Type 0) where
     int_result v o f (Named n) x y a b i ea eb p q = grind arith
 
     -- what defines a value, by kinds
-    pub define_fits : (v : ℕ) (o : Op) → OpGood given o → AllTracked K C (tracked env root (operands o)) → TasksFit K C (define_tasks given.func v o (tracked env root (operands o)))
-    define_fits v (op.Binary o f t a b) g p =
+    pub define_fits : (v : ℕ) (o : Op) → OpGood given o → MovesGood given C o → AllTracked K C (tracked env root (operands o)) → TasksFit K C (define_tasks given.func v o (tracked env root (operands o)))
+    define_fits v (op.Binary o f t a b) g mg p =
         let ts = tracked env root (operands (op.Binary o f t a b)) in
         int_result v o f t a b (tracked_at 0 ts) (tracked_at 1 ts) g refl refl p.0 p.1.0
-    define_fits v (op.Icmp q f t a b) g p =
+    define_fits v (op.Icmp q f t a b) g mg p =
         let ts = tracked env root (operands (op.Icmp q f t a b)) in
         two_sets v (Int 1) (first_last ts) (mask_expr (op.Icmp q f t a b) ts) refl (first_last_typed C K ts p)
         (compare_typed C K (width_of t) (wide t g) q (bits_of (tracked_at 0 ts)) (mask_of (tracked_at 0 ts)) (bits_of (tracked_at 1 ts)) (mask_of (tracked_at 1 ts))
         (bits_typed C K t (Leaf a) g p.0.own) p.0.mask (bits_typed C K t (Leaf b) g p.1.0.own) p.1.0.mask)
-    define_fits v (op.Cast o f t a u) g p =
+    define_fits v (op.Cast o f t a u) g mg p =
         let ts = tracked env root (operands (op.Cast o f t a u)) in
         two_sets v (mask_type u) (first_last ts) (mask_expr (op.Cast o f t a u) ts) (wide u g.2) (first_last_typed C K ts p)
         (cast_typed C K o t u (mask_of (tracked_at 0 ts)) g p.0.mask)
-    define_fits v (op.Select c t a b) g p =
+    define_fits v (op.Select c t a b) g mg p =
         let ts = tracked env root (operands (op.Select c t a b)) in
         two_sets v (mask_type t) (origin_expr (op.Select c t a b) ts) (mask_expr (op.Select c t a b) ts) (wide t g)
         (refl, refl, p.0.mask, p.0.origin, (refl, refl, p.0.own, p.1.0.origin, p.1.1.0.origin))
         (select_typed C K (width_of t) (wide t g) (word_of (tracked_at 0 ts)) (mask_of (tracked_at 0 ts)) (bits_of (tracked_at 1 ts)) (mask_of (tracked_at 1 ts))
         (bits_of (tracked_at 2 ts)) (mask_of (tracked_at 2 ts))
         p.0.own p.0.mask (bits_typed C K t (Leaf a) g p.1.0.own) p.1.0.mask (bits_typed C K t (Leaf b) g p.1.1.0.own) p.1.1.0.mask)
-    define_fits v (op.Freeze t a) g p = two_sets v (mask_type t) (number 0) (number 0) (wide t g) refl (no_bits (width_of t) (wide t g))
-    define_fits v (op.Gep t a is) g p =
+    define_fits v (op.Freeze t a) g mg p = two_sets v (mask_type t) (number 0) (number 0) (wide t g) refl (no_bits (width_of t) (wide t g))
+    define_fits v (op.Gep t a is) g mg p =
         let ts = tracked env root (operands (op.Gep t a is)) in
         two_sets v (Int 64) (first_last ts) (mask_expr (op.Gep t a is) ts) refl (first_last_typed C K ts p)
         (address_mask_typed C K ts p)
-    define_fits v (op.Alloca t u c) g p = two_sets v (Int 64) (number 0) (number 0) refl refl refl
-    define_fits v (op.Load t a) g p =
+    define_fits v (op.Alloca t u c) g mg p = two_sets v (Int 64) (number 0) (number 0) refl refl refl
+    define_fits v (op.Load t a) g mg p =
         let L = sets K (Fetches (mask_name v) (mask_type t) (shadow_address (Leaf a))) in (
-          record { shape = wide t g; words = (address_typed C K (Leaf a) p.0.own, tt); gives = (2 * v + 1, refl) },
+          record { shape = wide t g; calls = tt; words = (address_typed C K (Leaf a) p.0.own, tt); gives = (2 * v + 1, refl) },
           (
             record {
               shape = refl;
+              calls = tt;
               words = (operand_more C K L (λ x u k. inl k) Ptr a p.0.own, (widened_typed C L (width_of t) (Leaf (operand.Local (mask_name v))) (wide t g) (inr (refl, refl)), tt));
               gives = (2 * v + 2, refl);
             },
             tt,
           ),
         )
-    define_fits v (op.Call r x as') g p = by_own (is_some (given.func x)) refl
+    define_fits v (op.Call r x as') g mg p = by_own (is_some (given.func x)) refl
       where
         answer : (q : Option Ty) → ((t : Ty) → q ≡ Some t → is_value_type t ≡ true) → IsInt (Int (result_width (op.Call q x as')))
         answer None h = refl
@@ -361,16 +369,53 @@ module _ (C : Ty → Operand → Type 0) where
 
         by_own : (b : Bool) → is_some (given.func x) ≡ b → TasksFit K C (called_tasks b v (op.Call r x as') (tracked env root as'))
         by_own true own = tt
-        by_own false own = by_external (lookup externals x) (ap (λ b. if b then None else lookup externals x) own)
-    define_fits v _ g p = tt
+        by_own false own = by_move (external_move (lookup externals x)) refl
+          where
+            named : external_named given.func x ≡ lookup externals x
+            named = ap (λ b. if b then None else lookup externals x) own
 
-    result_fits : (x : Option Name) (o : Op) → OpGood given o → AllTracked K C (tracked env root (operands o)) → TasksFit K C (result_tasks given.func env x o (tracked env root (operands o)))
-    result_fits None o g p = tt
-    result_fits (Some x) o g p = by_clean (env.clean x)
+            -- what moves bits is a function of whole words
+            from_external : (k : BitMove) (e : Option External) → lookup externals x ≡ e → external_move e ≡ Some k
+                → TasksFit K C (answer_tasks (mask_name v) (origin_name v) (Some k) (op.Call r x as') (tracked env root as'))
+            from_external k (Some (called.Word f n)) found moves =
+                let is = move_is f n k moves in
+                let moving = subst Moving (sym is.0) is.2 in
+                let its = g.outside (called.Word f n) (named ∙ found) in
+                let all : (i : ℕ) (t : Ty) → slice_get (word_params (move_fn k) (width_bits (move_width k))) i ≡ Some t
+                → Typed K C t (word_of (tracked_at i ts)) × Typed K C (mask_type t) (mask_of (tracked_at i ts)) =
+                λ i t e. typed_at C K i ts t p (ap (λ l. slice_get l i) (types root as' ∙ its.0 ∙ sym (ap₂ (λ h w. word_params h (width_bits w)) is.0 is.1)) ∙ e) in
+                let L = sets K (Sets (origin_name v) (Int 32) (origin_expr (op.Call r x as') ts)) in (
+                  record {
+                    shape = refl;
+                    calls = tt;
+                    words = subst (λ e. Typed K C (Int 32) (answer_origin_expr e ts)) (sym found) (first_last_typed C K ts p);
+                    gives = (2 * v + 2, refl);
+                  },
+                  (
+                    record {
+                      shape = moved_shape (move_fn k) (width_bits (move_width k)) (tracked_at 0 ts) (tracked_at 1 ts) (tracked_at 2 ts) moving;
+                      calls = mg k (ap external_move (named ∙ found) ∙ moves);
+                      words = all_more C K L (λ y u h. inl h) (move_args k ts) (moved_typed C K (width_bits (move_width k)) (width_int (move_width k)) (omega (arith, width_some (move_width k))) ts (move_fn k) moving all);
+                      gives = (2 * v + 1, refl);
+                    },
+                    tt,
+                  ),
+                )
+            from_external k None found moves = absurd (no_move k moves)
+            from_external k (Some e) found moves = absurd (no_move k moves)
+
+            by_move : (k : Option BitMove) → external_move (lookup externals x) ≡ k → TasksFit K C (answer_tasks (mask_name v) (origin_name v) k (op.Call r x as') (tracked env root as'))
+            by_move None moves = by_external (lookup externals x) named
+            by_move (Some k) moves = from_external k (lookup externals x) refl moves
+    define_fits v _ g mg p = tt
+
+    result_fits : (x : Option Name) (o : Op) → OpGood given o → MovesGood given C o → AllTracked K C (tracked env root (operands o)) → TasksFit K C (result_tasks given.func env x o (tracked env root (operands o)))
+    result_fits None o g mg p = tt
+    result_fits (Some x) o g mg p = by_clean (env.clean x)
       where
         by_number : (n : Option ℕ) → TasksFit K C (elim n [ Some v ↦ define_tasks given.func v o (tracked env root (operands o)) | None ↦ [] ])
         by_number None = tt
-        by_number (Some v) = define_fits v o g p
+        by_number (Some v) = define_fits v o g mg p
 
         by_clean : (b : Bool) → TasksFit K C (if b then [] else elim (env.number x) [ Some v ↦ define_tasks given.func v o (tracked env root (operands o)) | None ↦ [] ])
         by_clean true = tt
@@ -396,7 +441,7 @@ module _ (C : Ty → Operand → Type 0) where
     -- ---- externals
 
     poison_fits : (a from to : Expr) (n : ℕ) → Typed K C Ptr a → Typed K C (Int 64) from → Typed K C (Int 64) to → n < 2 ^ 32 → TasksFit K C (poison_task a from to n)
-    poison_fits a from to n p q r l = (record { shape = refl; words = (p, (q, (r, (number_fits 32 n refl l, tt)))); gives = tt }, tt)
+    poison_fits a from to n p q r l = (record { shape = refl; calls = tt; words = (p, (q, (r, (number_fits 32 n refl l, tt)))); gives = tt }, tt)
 
     -- arguments of the types of an external
     module _ (args : List (Ty × Operand)) (p : AllTracked K C (tracked env root args)) (types : List Ty) (typed : map (λ a. a.0) args ≡ types) where
@@ -410,7 +455,7 @@ module _ (C : Ty → Operand → Type 0) where
       word_there k t e = nth_word K env k root args t p (type_there k t e)
 
       copy_fits : slice_get types 0 ≡ Some Ptr → slice_get types 1 ≡ Some Ptr → slice_get types 2 ≡ Some (Int 64) → TasksFit K C (copy_task (tracked_at 0 those) (tracked_at 1 those) (tracked_at 2 those))
-      copy_fits a b n = (record { shape = refl; words = (word_there 0 Ptr a, (word_there 1 Ptr b, (word_there 2 (Int 64) n, tt))); gives = tt }, tt)
+      copy_fits a b n = (record { shape = refl; calls = tt; words = (word_there 0 Ptr a, (word_there 1 Ptr b, (word_there 2 (Int 64) n, tt))); gives = tt }, tt)
 
       fill_fits : (site : ℕ) (u : Ty) → site < 2 ^ 32 → slice_get types 0 ≡ Some Ptr → slice_get types 1 ≡ Some u → slice_get types 2 ≡ Some (Int 64)
           → TasksFit K C (fill_task site (tracked_at 0 those) (tracked_at 1 those) (tracked_at 2 those))
@@ -419,6 +464,7 @@ module _ (C : Ty → Operand → Type 0) where
           let k = nth_fits K env 1 root args u p (type_there 1 u b) in (
             record {
               shape = refl;
+              calls = tt;
               words = (word_there 0 Ptr a, (word_there 2 (Int 64) n, (widened_typed C K (width_of c.ty) (mask_of c) (wide c.ty k.all.value) k.all.mask, (k.all.origin, (number_fits 32 site refl s, tt)))));
               gives = tt;
             },
@@ -434,7 +480,7 @@ module _ (C : Ty → Operand → Type 0) where
     external_fits site n saved (Some x) u Realloc args p t q k d s l =
         poison_fits (Leaf (operand.Local x)) (Leaf (operand.Local (msan_name saved))) (word_of (tracked_at 1 (tracked env root args))) n (k x Ptr refl q) (d refl) (word_there args p _ t 1 (Int 64) refl) l
     external_fits site n saved (Some x) u Read args p t q k d s l =
-        (record { shape = refl; words = (word_there args p _ t 1 Ptr refl, (k x (Int 64) refl q, tt)); gives = tt }, tt)
+        (record { shape = refl; calls = tt; words = (word_there args p _ t 1 Ptr refl, (k x (Int 64) refl q, tt)); gives = tt }, tt)
     external_fits site n saved (Some x) u LifetimeStart args p t q k d s l =
         poison_fits (word_of (tracked_at 1 (tracked env root args))) (number 0) (word_of (tracked_at 0 (tracked env root args))) n (word_there args p _ t 1 Ptr refl) refl (word_there args p _ t 0 (Int 64) refl) l
     external_fits site n saved (Some x) u Memcpy args p t q k d s l = copy_fits args p _ t refl refl refl
@@ -464,8 +510,8 @@ module _ (C : Ty → Operand → Type 0) where
         by_number None = tt
         by_number (Some v) =
             let L = sets K (Fetches (mask_name v) (mask_type t) (Leaf mask)) in (
-              record { shape = wide t i; words = (m, tt); gives = (2 * v + 1, refl) },
-              (record { shape = refl; words = (operand_more C K L (λ y u k. inl k) Ptr origin o, tt); gives = (2 * v + 2, refl) }, tt),
+              record { shape = wide t i; calls = tt; words = (m, tt); gives = (2 * v + 1, refl) },
+              (record { shape = refl; calls = tt; words = (operand_more C K L (λ y u k. inl k) Ptr origin o, tt); gives = (2 * v + 2, refl) }, tt),
             )
 
         by_clean : (b : Bool) → TasksFit K C (if b then [] else elim (env.number x) as (λ w. List Task) [ Some v ↦ take_tasks mask origin v t | None ↦ [] ])
@@ -486,8 +532,8 @@ module _ (C : Ty → Operand → Type 0) where
     give_pair : (mask origin : Operand) (t : Tracked) → OperandFits K C Ptr mask → OperandFits K C Ptr origin → TrackedFits K C t → TasksFit K C (give_tasks mask origin t)
     give_pair mask origin t m o q =
         let L = sets K (Puts (mask_type t.ty) (mask_of t) (Leaf mask)) in (
-          record { shape = wide t.ty q.value; words = (q.mask, (m, tt)); gives = tt },
-          (record { shape = refl; words = (typed_more C K L (λ x w k. inl k) (Int 32) (origin_of t) q.origin, (operand_more C K L (λ x w k. inl k) Ptr origin o, tt)); gives = tt }, tt),
+          record { shape = wide t.ty q.value; calls = tt; words = (q.mask, (m, tt)); gives = tt },
+          (record { shape = refl; calls = tt; words = (typed_more C K L (λ x w k. inl k) (Int 32) (origin_of t) q.origin, (operand_more C K L (λ x w k. inl k) Ptr origin o, tt)); gives = tt }, tt),
         )
 
     give_fits : (k r : ℕ) (os : List (Ty × Operand)) → k + length os ≤ 100 → SlotsGood C → AllTracked K C (tracked env r os) → TasksFit K C (give_arguments k (tracked env r os))
@@ -523,6 +569,7 @@ module _ (C : Ty → Operand → Type 0) where
     plane_fits h (Some x) (op.Alloca t u c) g slots r saved d s n p = (
       record {
         shape = refl;
+        calls = tt;
         words = (
           r x Ptr refl refl,
           (
@@ -542,10 +589,11 @@ module _ (C : Ty → Operand → Type 0) where
         let o = tracked_at 0 (tracked env root ((t, v) ∷ (Ptr, a) ∷ [])) in
         let L = sets K (Puts (mask_type t) (mask_of o) (shadow_address (Leaf a))) in
         let later = λ (u : Ty) (e : Expr) (q : Typed K C u e). typed_more C K L (λ x w k. inl k) u e q in (
-          record { shape = wide t g; words = (p.0.mask, (address_typed C K (Leaf a) p.1.0.own, tt)); gives = tt },
+          record { shape = wide t g; calls = tt; words = (p.0.mask, (address_typed C K (Leaf a) p.1.0.own, tt)); gives = tt },
           (
             record {
               shape = refl;
+              calls = tt;
               words = (later Ptr (Leaf a) p.1.0.own, (widened_typed C L (width_of t) (mask_of o) (wide t g) (later (mask_type t) (mask_of o) p.0.mask), (later (Int 32) (origin_of o) p.0.origin, (number_fits 32 h.site refl s, tt))));
               gives = tt;
             },
@@ -578,7 +626,7 @@ module _ (C : Ty → Operand → Type 0) where
       where
         by_external : (e : External) → external_named given.func y ≡ Some e → TasksFit K C (saved_tasks saved e (tracked env root as'))
         by_external Realloc w =
-            (record { shape = refl; words = (word_there as' p _ (g.outside Realloc w).0 0 Ptr refl, tt); gives = (saved, refl) }, tt)
+            (record { shape = refl; calls = tt; words = (word_there as' p _ (g.outside Realloc w).0 0 Ptr refl, tt); gives = (saved, refl) }, tt)
         by_external _ w = tt
 
         by_name : (e : Option External) → external_named given.func y ≡ e → TasksFit K C (elim e as (λ v. List Task) [ Some c ↦ saved_tasks saved c (tracked env root as') | None ↦ [] ])
@@ -588,9 +636,9 @@ module _ (C : Ty → Operand → Type 0) where
 
     -- ---- all before an instruction, and all behind it
 
-    pub before_fits : (h : Here) (i : Inst) → h.root ≡ root → OpGood given i.op → SlotsGood C → h.site < 2 ^ 32 → SmallUses (operands i.op) (uses given.func h.main i.op)
+    pub before_fits : (h : Here) (i : Inst) → h.root ≡ root → OpGood given i.op → MovesGood given C i.op → SlotsGood C → h.site < 2 ^ 32 → SmallUses (operands i.op) (uses given.func h.main i.op)
         → AllTracked K C (tracked env root (operands i.op)) → (saved : ℕ) → TasksFit K C (before_tasks given env h i saved)
-    before_fits h i same g slots s u p saved =
+    before_fits h i same g mg slots s u p saved =
         let q = subst (λ r. AllTracked K C (tracked env r (operands i.op))) (sym same) p in
         let ts = tracked env h.root (operands i.op) in
         let hs = hand_tasks given.func h.main i.op ts in
@@ -606,6 +654,6 @@ module _ (C : Ty → Operand → Type 0) where
         (blind_fits L (blinded_of given.func i.op ts) (blinded_tracked L given.func i.op ts (all_tracked_more K L (λ x t k. more x t (more0 x t k)) ts q)))
         (λ M further. apart M rs ss
         (tasks_more C K M (λ x t k. further x t (more x t (more0 x t k))) rs
-        (subst (λ r. TasksFit K C (result_tasks given.func env i.result i.op (tracked env r (operands i.op)))) (sym same) (result_fits i.result i.op g p)))
+        (subst (λ r. TasksFit K C (result_tasks given.func env i.result i.op (tracked env r (operands i.op)))) (sym same) (result_fits i.result i.op g mg p)))
         (λ N last. tasks_more C K N (λ x t k. last x t (further x t (more x t (more0 x t k)))) ss
         (subst (λ r. TasksFit K C (save_tasks given.func saved i.op (tracked env r (operands i.op)))) (sym same) (save_fits saved i.op g p))))))

@@ -12,6 +12,10 @@ use Rattle.ms_ir.specs.declared.syntax.Inst.{Inst}
 use Rattle.ms_ir.specs.declared.syntax.Block.{Block}
 use Rattle.ms_ir.specs.declared.syntax.Func.{Func}
 use Rattle.ms_ir.specs.declared.syntax.Module.{Module}
+use Rattle.ms_bits.specs.declared.word_functions.BitMove.{BitMove}
+use Rattle.ms_bits.specs.declared.word_functions.BitMove.TheVariants.{Bswap16, Bswap32, Bswap64, Bitreverse8, Bitreverse16, Bitreverse32, Bitreverse64, Fshl8, Fshl16, Fshl32, Fshl64, Fshr8, Fshr16, Fshr32, Fshr64}
+use Rattle.ms_bits.specs.WordFunctions.{bits_of, move_width}
+use Rattle.ms_pass_valid.proofs.WordTypes.{width_int}
 use Rattle.ms_ir.specs.declared.calls.RuntimeFn.{RuntimeFn}
 use Rattle.ms_ir.specs.declared.calls.RuntimeFn.TheVariants as function
 use Rattle.ms_runs.specs.World.{Here}
@@ -59,8 +63,8 @@ module _ (types : Types) where
   TypesSized [] = Unit {0}
   TypesSized (t ∷ ts) = (sized types (t ∷ []) ≡ true) × TypesSized ts
 
-  module _ (j : Module) (same : j.types ≡ types) (K : Name → Ty → Type 0) where
-    operand_sized : (t : Ty) (o : Operand) → sized types (t ∷ []) ≡ true → OperandFits K (ConstGood j) t o → sized types (t ∷ operand_types o) ≡ true
+  module _ (m j : Module) (same : j.types ≡ types) (K : Name → Ty → Type 0) where
+    operand_sized : (t : Ty) (o : Operand) → sized types (t ∷ []) ≡ true → OperandFits K (ConstGood m j) t o → sized types (t ∷ operand_types o) ≡ true
     operand_sized t (operand.Local x) s k = s
     operand_sized t (operand.Int m) s k = s
     operand_sized t operand.Null s k = s
@@ -69,9 +73,26 @@ module _ (types : Types) where
     operand_sized t (operand.Global x) s k = s
     operand_sized t (operand.Offset x steps) s k = ap (λ ts. sized ts (t ∷ operand_types (operand.Offset x steps))) (sym same) ∙ k.sized_in
 
-    operands_sized : (os : List (Ty × Operand)) → TypesSized (map (λ o. o.0) os) → OperandsFit K (ConstGood j) os → sized types (flat_map (λ o. o.0 ∷ operand_types o.1) os) ≡ true
+    operands_sized : (os : List (Ty × Operand)) → TypesSized (map (λ o. o.0) os) → OperandsFit K (ConstGood m j) os → sized types (flat_map (λ o. o.0 ∷ operand_types o.1) os) ≡ true
     operands_sized [] s k = refl
     operands_sized (o ∷ os) s k = sized_join (o.0 ∷ operand_types o.1) (flat_map (λ o. o.0 ∷ operand_types o.1) os) (operand_sized o.0 o.1 s.0 k.0) (operands_sized os s.1 k.1)
+
+    move_sized : (k : BitMove) → TypesSized (runtime_signature (function.Move k)).params
+    move_sized Bswap16 = (refl, tt)
+    move_sized Bswap32 = (refl, tt)
+    move_sized Bswap64 = (refl, tt)
+    move_sized Bitreverse8 = (refl, tt)
+    move_sized Bitreverse16 = (refl, tt)
+    move_sized Bitreverse32 = (refl, tt)
+    move_sized Bitreverse64 = (refl, tt)
+    move_sized Fshl8 = (refl, (refl, (refl, tt)))
+    move_sized Fshl16 = (refl, (refl, (refl, tt)))
+    move_sized Fshl32 = (refl, (refl, (refl, tt)))
+    move_sized Fshl64 = (refl, (refl, (refl, tt)))
+    move_sized Fshr8 = (refl, (refl, (refl, tt)))
+    move_sized Fshr16 = (refl, (refl, (refl, tt)))
+    move_sized Fshr32 = (refl, (refl, (refl, tt)))
+    move_sized Fshr64 = (refl, (refl, (refl, tt)))
 
     params_sized : (fn : RuntimeFn) → TypesSized (runtime_signature fn).params
     params_sized function.Check = (refl, (refl, (refl, (refl, (refl, (refl, tt))))))
@@ -86,6 +107,7 @@ module _ (types : Types) where
     params_sized function.LoadOrigin = (refl, (refl, tt))
     params_sized function.Size = (refl, tt)
     params_sized function.CheckFormat = (refl, (refl, (refl, (refl, tt))))
+    params_sized (function.Move k) = move_sized k
 
     ret_sized : (fn : RuntimeFn) (x : Name) (args : List (Ty × Operand)) → sized types (own_types (op.Call (runtime_signature fn).ret x args)) ≡ true
     ret_sized function.Check x args = refl
@@ -100,8 +122,9 @@ module _ (types : Types) where
     ret_sized function.LoadOrigin x args = refl
     ret_sized function.Size x args = refl
     ret_sized function.CheckFormat x args = refl
+    ret_sized (function.Move k) x args = int_sized (Int (bits_of (move_width k))) (width_int (move_width k))
 
-    whole_op : (o : Op) → sized types (own_types o) ≡ true → TypesSized (map (λ x. x.0) (operands o)) → OperandsFit K (ConstGood j) (operands o) → sized types (op_types o) ≡ true
+    whole_op : (o : Op) → sized types (own_types o) ≡ true → TypesSized (map (λ x. x.0) (operands o)) → OperandsFit K (ConstGood m j) (operands o) → sized types (op_types o) ≡ true
     whole_op o own ts k = sized_join (own_types o) (flat_map (λ a. a.0 ∷ operand_types a.1) (operands o)) own (operands_sized (operands o) ts k)
 
     value_sized : (t : Ty) → is_value_type t ≡ true → sized types (t ∷ []) ≡ true
@@ -111,7 +134,7 @@ module _ (types : Types) where
     value_sized (Struct' r s t) e = grind arith
     value_sized (Named x) e = grind arith
 
-    op_sized : (o : Op) → OpFits o → OperandsFit K (ConstGood j) (operands o) → sized types (op_types o) ≡ true
+    op_sized : (o : Op) → OpFits o → OperandsFit K (ConstGood m j) (operands o) → sized types (op_types o) ≡ true
     op_sized (op.Binary o f t x y) s k = let i = int_sized t s.1 in whole_op (op.Binary o f t x y) refl (i, (i, tt)) k
     op_sized (op.Icmp o f t x y) s k = let i = int_sized t s.1 in whole_op (op.Icmp o f t x y) refl (i, (i, tt)) k
     op_sized (op.Cast o f t x u) s k = whole_op (op.Cast o f t x u) (value_sized u s.1.2) (value_sized t s.1.1, tt) k
@@ -154,15 +177,15 @@ module _ (types : Types) where
       subst (λ l. sized types l ≡ true) (sym (flat_map-append (λ i. op_types i.op) k.insts (flat_map (λ k. k.insts) bs)))
       (sized_join (flat_map (λ i. op_types i.op) k.insts) (flat_map (λ i. op_types i.op) (flat_map (λ k. k.insts) bs)) (insts_sized k.insts (h 0)) (blocks_sized bs (λ b q i e. h (suc b) q i e)))
 
-  pub func_sized : (j : Module) → j.types ≡ types → (given : Given) (env : Env) (size : ℕ) (f : Func) (h : Here) (n : ℕ) → FuncReady given env size f h n (ConstGood j)
+  pub func_sized : (m j : Module) → j.types ≡ types → (given : Given) (env : Env) (size : ℕ) (f : Func) (h : Here) (n : ℕ) → FuncReady given env size f h n (ConstGood m j)
       → ((b p : ℕ) (i : Inst) → slice_get (insts_of f b) p ≡ Some i → sized types (op_types i.op) ≡ true) → sized types (func_types (passed given env f h n)) ≡ true
-  func_sized j same given env size f h n r own =
+  func_sized m j same given env size f h n r own =
       blocks_sized (passed given env f h n).blocks
-      (λ b q i e. by_stand b q i (all_stand given env size r.one r.few f h n (ConstGood j) r.entry r.room r.once r.free r.good r.masked r.phi_good b q i e))
+      (λ b q i e. by_stand b q i (all_stand given env size r.one r.few f h n (ConstGood m j) r.entry r.room r.once r.free r.good r.masked r.phi_good b q i e))
     where
-      by_stand : (b q : ℕ) (i : Inst) → StandsAt given env size r.one r.few f h n (ConstGood j) r.entry r.room r.once r.free r.good r.masked r.phi_good b q i
+      by_stand : (b q : ℕ) (i : Inst) → StandsAt given env size r.one r.few f h n (ConstGood m j) r.entry r.room r.once r.free r.good r.masked r.phi_good b q i
           → sized types (op_types i.op) ≡ true
-      by_stand b q i (inl k) = op_sized j same (KnownAt (passed given env f h n) b q) i.op k.shaped k.reads
+      by_stand b q i (inl k) = op_sized m j same (KnownAt (passed given env f h n) b q) i.op k.shaped k.reads
       by_stand b q i (inr (inl k)) =
           let u = int_sized k.ty k.typed in
           subst (λ x. sized types (op_types x.op) ≡ true) (sym k.is)

@@ -72,7 +72,7 @@ abbrev pub AllReady : (ℕ → Numbering) → Module → Type 0
 AllReady numbers m = (n : ℕ) (g : Func) (e : func_at (pass numbers m) n ≡ Some g) →
     let r = from_func (given_by m) numbers m.funcs 1 0 n g e in
     FuncReady (given_by m) r.numbering.env r.numbering.size r.func (record { site = r.site_here; root = r.root_here; main = name_eq r.func.name main_name }) (2 * r.numbering.size + 1)
-    (ConstGood (pass numbers m))
+    (ConstGood m (pass numbers m))
 
 pub fits_within : (numbers : ℕ → Numbering) (m : Module) → Valid m → ModuleReady m (pass numbers m) → AllReady numbers m → FitsWithin (pass numbers m)
 fits_within numbers m v a ready n b p g i e due =

@@ -1,23 +1,23 @@
 -- The masks of functions of whole words are words of their operands' type.
-use Rattle.std.proofs.Common.{◌≡◌, ℕ, zero, suc, ◌+◌, ◌-◌, ◌^◌, ◌<◌, ◌≤◌, List, [], ◌∷◌, map, true, Some, refl, ap, ◌∙◌, subst, arith, pow_pos, pow_mono}
-use Rattle.std.specs.Prelude.{◌&&◌, slice_get, unwrap_or}
+use Rattle.std.proofs.Common.{◌≡◌, ℕ, zero, suc, ◌+◌, ◌-◌, ◌^◌, ◌<◌, ◌≤◌, List, [], ◌∷◌, map, Bool, true, false, Some, refl, ap, ◌∙◌, subst, arith, pow_pos, pow_mono}
+use Rattle.std.specs.Prelude.{◌&&◌, slice_get, unwrap_or, if◌then◌else◌}
 use Rattle.std.specs.List.{list_all}
 use Rattle.ms_bits.specs.declared.word_functions.WordFn.{WordFn}
-use Rattle.ms_bits.specs.declared.word_functions.WordFn.TheVariants.{Ctpop, Ctlz, Cttz, Bswap, Bitreverse, Abs, Smax, Smin, Umax, Umin, Fshl, Fshr, UaddSat, UsubSat, SaddSat, SsubSat, Expect}
+use Rattle.ms_bits.specs.declared.word_functions.WordFn.TheVariants.{Ctpop, Ctlz, Cttz, Bswap, Bitreverse, Abs, Smax, Smin, Umax, Umin, Fshl, Fshr, UaddSat, UsubSat, SaddSat, SsubSat}
 use Rattle.ms_bits.specs.declared.word_functions.WordWidth.{WordWidth}
 use Rattle.ms_bits.specs.declared.word_functions.WordWidth.TheVariants.{I8, I16, I32, I64}
 use Rattle.ms_bits.specs.WordFunctions.{bits_of, places}
 use Rattle.ms_bits_laws.proofs.WordMaskRanges.{places_le}
 use Rattle.ms_ir.specs.declared.syntax.Name.{Name}
 use Rattle.ms_ir.specs.declared.syntax.Ty.{Ty, Int}
-use Rattle.ms_ir.specs.declared.syntax.Operand.{Operand}
 use Rattle.ms_ir.specs.Signatures.{word_params}
 use Rattle.ms_valid.specs.FormedCode.{is_value_type, number_formed}
-use Rattle.ms_tasks.specs.Tasks.{Expr}
-use Rattle.ms_tasks.specs.Environments.{Tracked, tracked_at, mask_type, mask_of, word_of}
-use Rattle.ms_tasks.specs.ResultMasks.{union_expr, greatest_expr, least_expr, either_expr, turned_expr, whole_expr, ctpop_expr, ctlz_expr, cttz_expr, greater_expr, smaller_expr, abs_expr, word_expr}
+use Rattle.ms_tasks.specs.Tasks.{Expr, Pick}
+use Rattle.ms_tasks.specs.Environments.{Tracked, tracked_at, mask_type, mask_of, word_of, number, is_set, is_zero}
+use Rattle.ms_tasks.proofs.WordExprs.{Moving}
+use Rattle.ms_tasks.specs.ResultMasks.{known_expr, moved_args, union_expr, greatest_expr, least_expr, either_expr, turned_expr, whole_expr, ctpop_expr, ctlz_expr, cttz_expr, greater_expr, smaller_expr, abs_expr, word_expr}
 use Rattle.ms_pass_valid.proofs.Emitted.{AllTracked}
-use Rattle.ms_pass_valid.proofs.Checked.{IsInt, Typed}
+use Rattle.ms_pass_valid.proofs.Checked.{Allowed, IsInt, Typed, AllTyped}
 use Rattle.ms_pass_valid.proofs.Words.{number_fits, no_bits, all_bits, carry_typed, turned_typed}
 
 -- words of these widths are values
@@ -45,7 +45,15 @@ word_values Fshl n = ap (λ b. b && (b && (b && true))) (width_value n)
 word_values Fshr n = ap (λ b. b && (b && (b && true))) (width_value n)
 word_values f n = ap (λ b. b && (b && true)) (width_value n)
 
-module _ (C : Ty → Operand → Type 0) (K : Name → Ty → Type 0) where
+-- what moves bits takes the types that the function takes
+pub moved_shape : (f : WordFn) (w : ℕ) (a b c : Tracked) → Moving f → map (λ e. e.0) (moved_args f w a b c) ≡ word_params f w
+moved_shape Bswap w a b c m = refl
+moved_shape Bitreverse w a b c m = refl
+moved_shape Fshl w a b c m = refl
+moved_shape Fshr w a b c m = refl
+moved_shape f w a b c m = absurd m
+
+module _ (C : Allowed) (K : Name → Ty → Type 0) where
   -- an operand with its mask, at its place
   pub typed_at : (k : ℕ) (ts : List Tracked) (t : Ty) → AllTracked K C ts → slice_get (map (λ a. a.ty) ts) k ≡ Some t → Typed K C t (word_of (tracked_at k ts)) × Typed K C (mask_type t) (mask_of (tracked_at k ts))
   typed_at k [] t p e = absurd cc
@@ -110,8 +118,6 @@ module _ (C : Ty → Operand → Type 0) (K : Name → Ty → Type 0) where
     word_typed ts Ctpop its = let a = its 0 (Int w) refl in ctpop_typed (mask_of (tracked_at 0 ts)) a.1
     word_typed ts Ctlz its = let a = its 0 (Int w) refl in ctlz_typed (word_of (tracked_at 0 ts)) (mask_of (tracked_at 0 ts)) a.0 a.1
     word_typed ts Cttz its = let a = its 0 (Int w) refl in cttz_typed (word_of (tracked_at 0 ts)) (mask_of (tracked_at 0 ts)) a.0 a.1
-    word_typed ts Bswap its = let a = its 0 (Int w) refl in whole_typed (mask_of (tracked_at 0 ts)) a.1
-    word_typed ts Bitreverse its = let a = its 0 (Int w) refl in whole_typed (mask_of (tracked_at 0 ts)) a.1
     word_typed ts Abs its = let a = its 0 (Int w) refl in abs_typed (word_of (tracked_at 0 ts)) (mask_of (tracked_at 0 ts)) a.0 a.1
     word_typed ts Smax its =
         let a = its 0 (Int w) refl in let b = its 1 (Int w) refl in
@@ -121,14 +127,29 @@ module _ (C : Ty → Operand → Type 0) (K : Name → Ty → Type 0) where
         smaller_typed (turned_expr w (word_of (tracked_at 0 ts))) (mask_of (tracked_at 0 ts)) (turned_expr w (word_of (tracked_at 1 ts))) (mask_of (tracked_at 1 ts)) (turned_typed C K w i (word_of (tracked_at 0 ts)) a.0) a.1 (turned_typed C K w i (word_of (tracked_at 1 ts)) b.0) b.1
     word_typed ts Umax its = let a = its 0 (Int w) refl in let b = its 1 (Int w) refl in greater_typed (word_of (tracked_at 0 ts)) (mask_of (tracked_at 0 ts)) (word_of (tracked_at 1 ts)) (mask_of (tracked_at 1 ts)) a.0 a.1 b.0 b.1
     word_typed ts Umin its = let a = its 0 (Int w) refl in let b = its 1 (Int w) refl in smaller_typed (word_of (tracked_at 0 ts)) (mask_of (tracked_at 0 ts)) (word_of (tracked_at 1 ts)) (mask_of (tracked_at 1 ts)) a.0 a.1 b.0 b.1
-    word_typed ts Fshl its =
-        let a = its 0 (Int w) refl in let b = its 1 (Int w) refl in let c = its 2 (Int w) refl in
-        whole_typed (union_expr (Int w) (union_expr (Int w) (mask_of (tracked_at 0 ts)) (mask_of (tracked_at 1 ts))) (mask_of (tracked_at 2 ts))) (union_typed (union_expr (Int w) (mask_of (tracked_at 0 ts)) (mask_of (tracked_at 1 ts))) (mask_of (tracked_at 2 ts)) (union_typed (mask_of (tracked_at 0 ts)) (mask_of (tracked_at 1 ts)) a.1 b.1) c.1)
-    word_typed ts Fshr its =
-        let a = its 0 (Int w) refl in let b = its 1 (Int w) refl in let c = its 2 (Int w) refl in
-        whole_typed (union_expr (Int w) (union_expr (Int w) (mask_of (tracked_at 0 ts)) (mask_of (tracked_at 1 ts))) (mask_of (tracked_at 2 ts))) (union_typed (union_expr (Int w) (mask_of (tracked_at 0 ts)) (mask_of (tracked_at 1 ts))) (mask_of (tracked_at 2 ts)) (union_typed (mask_of (tracked_at 0 ts)) (mask_of (tracked_at 1 ts)) a.1 b.1) c.1)
     word_typed ts UaddSat its = let a = its 0 (Int w) refl in let b = its 1 (Int w) refl in whole_typed (union_expr (Int w) (mask_of (tracked_at 0 ts)) (mask_of (tracked_at 1 ts))) (union_typed (mask_of (tracked_at 0 ts)) (mask_of (tracked_at 1 ts)) a.1 b.1)
     word_typed ts UsubSat its = let a = its 0 (Int w) refl in let b = its 1 (Int w) refl in whole_typed (union_expr (Int w) (mask_of (tracked_at 0 ts)) (mask_of (tracked_at 1 ts))) (union_typed (mask_of (tracked_at 0 ts)) (mask_of (tracked_at 1 ts)) a.1 b.1)
     word_typed ts SaddSat its = let a = its 0 (Int w) refl in let b = its 1 (Int w) refl in whole_typed (union_expr (Int w) (mask_of (tracked_at 0 ts)) (mask_of (tracked_at 1 ts))) (union_typed (mask_of (tracked_at 0 ts)) (mask_of (tracked_at 1 ts)) a.1 b.1)
     word_typed ts SsubSat its = let a = its 0 (Int w) refl in let b = its 1 (Int w) refl in whole_typed (union_expr (Int w) (mask_of (tracked_at 0 ts)) (mask_of (tracked_at 1 ts))) (union_typed (mask_of (tracked_at 0 ts)) (mask_of (tracked_at 1 ts)) a.1 b.1)
-    word_typed ts Expect its = (its 0 (Int w) refl).1
+    word_typed ts f its = (its 0 (Int w) refl).1
+
+    known_typed : (c : Tracked) (m : Expr) → Typed K C (Int w) (mask_of c) → Typed K C (Int w) m → Typed K C (Int w) (known_expr w c m)
+    known_typed c m p q = by_zero (is_zero c.mask)
+      where
+        by_zero : (t : Bool) → Typed K C (Int w) (if t then m else Pick (is_set (Int w) (mask_of c)) (Int w) (number (2 ^ w - 1)) m)
+        by_zero true = q
+        by_zero false = (refl, i, (refl, i, p, no_bits w i), all_bits w i, q)
+
+    -- what moves bits takes words of its operands' type
+    two_typed : (a b c : Tracked) → Typed K C (Int w) (mask_of a) → Typed K C (Int w) (mask_of b) → Typed K C (Int w) (word_of c) × Typed K C (Int w) (mask_of c)
+        → AllTyped K C ((Int w, known_expr w c (mask_of a)) ∷ (Int w, known_expr w c (mask_of b)) ∷ (Int w, word_of c) ∷ [])
+    two_typed a b c p q r = (known_typed c (mask_of a) r.1 p, (known_typed c (mask_of b) r.1 q, (r.0, tt)))
+
+    pub moved_typed : (ts : List Tracked) (f : WordFn) → Moving f
+        → ((k : ℕ) (t : Ty) → slice_get (word_params f w) k ≡ Some t → Typed K C t (word_of (tracked_at k ts)) × Typed K C (mask_type t) (mask_of (tracked_at k ts)))
+        → AllTyped K C (moved_args f w (tracked_at 0 ts) (tracked_at 1 ts) (tracked_at 2 ts))
+    moved_typed ts Bswap m its = ((its 0 (Int w) refl).1, tt)
+    moved_typed ts Bitreverse m its = ((its 0 (Int w) refl).1, tt)
+    moved_typed ts Fshl m its = two_typed (tracked_at 0 ts) (tracked_at 1 ts) (tracked_at 2 ts) (its 0 (Int w) refl).1 (its 1 (Int w) refl).1 (its 2 (Int w) refl)
+    moved_typed ts Fshr m its = two_typed (tracked_at 0 ts) (tracked_at 1 ts) (tracked_at 2 ts) (its 0 (Int w) refl).1 (its 1 (Int w) refl).1 (its 2 (Int w) refl)
+    moved_typed ts f m its = absurd m

@@ -21,7 +21,7 @@ use Rattle.ms_tasks.specs.Environments.{Env, Tracked, mask_type, mask_operand, o
 use Rattle.ms_tasks.specs.ResultMasks.{union_expr, carry_expr, and_expr, or_expr, least_expr, order_expr, eq_expr, turned_expr, compare_expr, select_expr, cast_expr, sum_expr, address_expr, binary_expr, last_expr, first_last}
 use Rattle.ms_tasks.specs.CheckTasks.{union_masks}
 use Rattle.ms_tasks.specs.ResultTasks.{shadow_address}
-use Rattle.ms_pass_valid.proofs.Checked.{IsInt, TurnFits, OperandFits, Typed}
+use Rattle.ms_pass_valid.proofs.Checked.{Allowed, IsInt, TurnFits, OperandFits, Typed}
 use Rattle.ms_pass_valid.proofs.Emitted.{MaskKnown, OperandKnown, OperandsKnown, AllTracked}
 
 -- ---- widths and numbers
@@ -62,7 +62,7 @@ below_64 w i e = lt-ltb w 64 (less (most w i) (eqb-false w 64 e))
     less : w ≤ 64 → ¬ (w ≡ 64) → w < 64
     less h g = omega (arith, h, g)
 
-module _ (C : Ty → Operand → Type 0) (K : Name → Ty → Type 0) where
+module _ (C : Allowed) (K : Name → Ty → Type 0) where
   -- ---- operands
 
   local_mask_fits : (env : Env) (x : Name) (t : Ty) → is_value_type t ≡ true → MaskKnown env K x t → OperandFits K C (mask_type t) (local_mask env x)

@@ -1,10 +1,11 @@
 //! The arguments of calls of runtime functions.
 ghost use Rattle.std.specs.Prelude.{◌≡◌, map, IfOk};
 ghost use Rattle.std.specs.List.{zip};
+ghost use Rattle.ms_ir.specs.declared.calls.RuntimeFn.TheVariants as called;
 ghost use Rattle.ms_ir.specs.Signatures.{runtime_signature};
 ghost use Rattle.ms_rules_code.specs.Arguments.{parameter_type};
 
-use ms_bits::{List, NoMemory};
+use ms_bits::{BitMove, List, NoMemory};
 use ms_ir::{Operand, RuntimeFn, Ty};
 use std::alloc::Global;
 
@@ -35,6 +36,26 @@ const LONG: Parameter = Parameter::Bits(64);
 
 const SHORT: Parameter = Parameter::Bits(32);
 
+const HALF: Parameter = Parameter::Bits(16);
+
+const BYTE: Parameter = Parameter::Bits(8);
+
+/// The parameters of a function that moves bits.
+fn move_parameters(kind: BitMove) -> &'static [Parameter]
+    ensures { map parameter_type result.now ≡ (runtime_signature (called.Move kind)).params }
+{
+    match kind {
+        BitMove::Bitreverse8 => &[BYTE],
+        BitMove::Bswap16 | BitMove::Bitreverse16 => &[HALF],
+        BitMove::Bswap32 | BitMove::Bitreverse32 => &[SHORT],
+        BitMove::Bswap64 | BitMove::Bitreverse64 => &[LONG],
+        BitMove::Fshl8 | BitMove::Fshr8 => &[BYTE, BYTE, BYTE],
+        BitMove::Fshl16 | BitMove::Fshr16 => &[HALF, HALF, HALF],
+        BitMove::Fshl32 | BitMove::Fshr32 => &[SHORT, SHORT, SHORT],
+        BitMove::Fshl64 | BitMove::Fshr64 => &[LONG, LONG, LONG],
+    }
+}
+
 /// The parameters of a runtime function.
 fn parameters(function: RuntimeFn) -> &'static [Parameter]
     ensures { map parameter_type result.now ≡ (runtime_signature function).params }
@@ -52,6 +73,7 @@ fn parameters(function: RuntimeFn) -> &'static [Parameter]
         RuntimeFn::LoadOrigin => &[POINTER, LONG],
         RuntimeFn::Size => &[POINTER],
         RuntimeFn::CheckFormat => &[POINTER, SHORT, POINTER, SHORT],
+        RuntimeFn::Move(kind) => move_parameters(kind),
     }
 }
 

@@ -4,3 +4,4 @@ pub mod Shifts
 pub mod Others
 pub mod LastOrigin
 pub mod Sums
+pub mod Moves

@@ -1,13 +1,14 @@
 //! The rules of masks that are the same for all operands: each is a table of steps, in which an operation stands behind the
 //! words that it works on.
-ghost use Rattle.std.specs.Prelude.{◌≡◌, ◌≢◌, ℕ, true, List, [], ◌∷◌, MatchOption};
+ghost use Rattle.std.specs.Prelude.{◌≡◌, ◌≢◌, ℕ, true, List, [], ◌∷◌, map, reverse, MatchOption};
 ghost use Rattle.ms_bits.specs.declared.operations.BinOp.TheVariants as binary;
+ghost use Rattle.ms_bits.specs.declared.word_functions.WordFn.TheVariants as word;
 ghost use Rattle.ms_bits.specs.WordFunctions.{bits_of as width_bits};
 ghost use Rattle.ms_tasks.specs.Tasks.{Expr};
 ghost use Rattle.ms_tasks.specs.Environments.{Tracked, tracked_at, bits_of, mask_of, word_of};
 ghost use Rattle.ms_tasks.specs.ResultMasks.{binary_expr, cast_expr, compare_expr, ctpop_expr, ctlz_expr, cttz_expr, word_expr};
 ghost use Rattle.ms_rules_code.specs.Steps.{Inputs as InputsOf, is_operation, stepped, words};
-ghost use Rattle.ms_rules_results.specs.Rules.{is_rule, on_width};
+ghost use Rattle.ms_rules_results.specs.Rules.{is_rule, on_width, args_with};
 
 use ms_bits::{BinOp, CastOp, Pred, WordFn, WordWidth};
 use ms_rules_code::Step::{Bits, Constant, Mask, Ones, Sign, Word};
@@ -168,18 +169,37 @@ pub const SHIFT: [Step; 12] = [
     PICK,
 ];
 
-// Every bit, where some bit of a mask is set: of a mask, of two and of three.
-macro_rules! whole {
-    ($($union:expr),*) => {
-        [$($union,)* Constant(0), IS_EQUAL, Constant(0), Ones, PICK]
-    };
-}
+// Every bit, where some bit of the masks of two words is set.
+const WHOLE_OF_TWO: [Step; 8] = [
+    Mask(0),
+    Mask(1),
+    OR,
+    Constant(0),
+    IS_EQUAL,
+    Constant(0),
+    Ones,
+    PICK,
+];
 
-const WHOLE: [Step; 6] = whole!(Mask(0));
+// What a funnel shift takes to give its mask: the masks of two words, and the amount.
+const KNOWN_AMOUNT: [Step; 3] = [Mask(0), Mask(1), Word(2)];
 
-const WHOLE_OF_TWO: [Step; 8] = whole!(Mask(0), Mask(1), OR);
-
-const WHOLE_OF_THREE: [Step; 10] = whole!(Mask(0), Mask(1), OR, Mask(2), OR);
+// The same where the amount may not be known: then all bits of both words.
+const ANY_AMOUNT: [Step; 13] = [
+    Mask(2),
+    Constant(0),
+    IS_OTHER,
+    Ones,
+    Mask(0),
+    PICK,
+    Mask(2),
+    Constant(0),
+    IS_OTHER,
+    Ones,
+    Mask(1),
+    PICK,
+    Word(2),
+];
 
 // Of `ctpop`: known where no bit is poisoned, else all places of a count, which a number has as bits.
 macro_rules! ones {
@@ -394,14 +414,29 @@ pub fn word_rule(function: WordFn, width: WordWidth) -> &'static [Step]
         WordFn::Ctpop => ones_rule(width),
         WordFn::Ctlz => leading_rule(width),
         WordFn::Cttz => trailing_rule(width),
-        WordFn::Bswap | WordFn::Bitreverse => &WHOLE,
         WordFn::Abs => &ABSOLUTE,
         WordFn::Smax => &SIGNED_MAXIMUM,
         WordFn::Smin => &SIGNED_MINIMUM,
         WordFn::Umax => &UNSIGNED_MAXIMUM,
         WordFn::Umin => &UNSIGNED_MINIMUM,
-        WordFn::Fshl | WordFn::Fshr => &WHOLE_OF_THREE,
         WordFn::UaddSat | WordFn::UsubSat | WordFn::SaddSat | WordFn::SsubSat => &WHOLE_OF_TWO,
-        WordFn::Expect => &FIRST,
+        WordFn::Bswap | WordFn::Bitreverse | WordFn::Fshl | WordFn::Fshr | WordFn::Expect => &FIRST,
+    }
+}
+
+/// The steps that leave what a funnel shift takes to give its mask, by whether its amount is known.
+fn amount_steps(known: bool) -> &'static [Step]
+    ensures { (w : ℕ) (ts : List Tracked) → map (λ a. a.1) (args_with known word.Fshl w (tracked_at 0 ts) (tracked_at 1 ts) (tracked_at 2 ts)) ≡ reverse (words (on_width w ts) result.now []) }
+{
+    if known { &KNOWN_AMOUNT } else { &ANY_AMOUNT }
+}
+
+/// The steps that leave what a function that moves bits takes to give its mask, by whether its amount is known.
+pub fn move_steps(function: WordFn, known: bool) -> &'static [Step]
+    ensures { (w : ℕ) (ts : List Tracked) → map (λ a. a.1) (args_with known function w (tracked_at 0 ts) (tracked_at 1 ts) (tracked_at 2 ts)) ≡ reverse (words (on_width w ts) result.now []) }
+{
+    match function {
+        WordFn::Fshl | WordFn::Fshr => amount_steps(known),
+        _ => &FIRST,
     }
 }

@@ -1,31 +1,35 @@
 //! The code that defines the mask and the origin of a result.
-ghost use Rattle.std.specs.Prelude.{◌≡◌, ℕ, ◌≤◌, true, List, [], ◌∷◌, map, take, OnOk, Option};
+ghost use Rattle.std.specs.Prelude.{◌≡◌, ℕ, ◌≤◌, true, List, [], ◌∷◌, map, take, reverse, OnOk, Option, Some};
 ghost use Rattle.ms_bits.specs.declared.operations.Flags.{Flags as FlagsOf};
-ghost use Rattle.ms_bits.specs.WordFunctions.{bits_of as width_bits};
+ghost use Rattle.ms_bits.specs.WordFunctions.{move_of, bits_of as width_bits};
 ghost use Rattle.ms_ir.specs.declared.syntax.Name.{Name as NameOf};
 ghost use Rattle.ms_ir.specs.declared.syntax.Ty.{Ty as TyOf, Int};
 ghost use Rattle.ms_ir.specs.declared.syntax.Operand.{Operand as OperandOf};
 ghost use Rattle.ms_ir.specs.declared.syntax.Op.TheVariants as operation;
+ghost use Rattle.ms_ir.specs.declared.calls.RuntimeFn.TheVariants as called;
+ghost use Rattle.ms_ir.specs.Signatures.{runtime_signature};
 ghost use Rattle.ms_ir.specs.Layout.{width_of as width_of_type};
-ghost use Rattle.ms_tasks.specs.Tasks.{Expr, Sets, mask_name as mask_name_of, origin_name as origin_name_of};
-ghost use Rattle.ms_tasks.specs.Environments.{number, tracked_at, bits_of, mask_of};
+ghost use Rattle.ms_tasks.specs.Tasks.{Expr, Sets, Calls, mask_name as mask_name_of, origin_name as origin_name_of};
+ghost use Rattle.ms_tasks.specs.Environments.{number, is_zero, tracked_at, bits_of, mask_of};
 ghost use Rattle.ms_tasks.specs.ResultMasks.{address_expr, answer_expr, answer_origin_expr, cast_expr, compare_expr, sum_expr, word_expr, first_last};
-ghost use Rattle.ms_tasks.specs.ResultTasks.{binary_tasks, called_tasks, shift_task, word_tasks, define_tasks, result_width as result_width_of};
+ghost use Rattle.ms_tasks.specs.ResultTasks.{binary_tasks, external_move, called_tasks, shift_task, word_tasks, define_tasks, result_width as result_width_of};
 ghost use Rattle.ms_rules_code.specs.Called.{calls_own};
 ghost use Rattle.ms_rules_code.specs.Made.{with_tasks};
 ghost use Rattle.ms_rules_code.specs.Steps.{inputs_of, tracked_of, words};
 ghost use Rattle.ms_rules_results.specs.Widths.{HasWidths};
-ghost use Rattle.ms_rules_results.specs.Rules.{is_rule, defined};
+ghost use Rattle.ms_rules_results.specs.Rules.{is_rule, defined, moves, answered};
 
 use crate::carries::carry_rule;
 use crate::loads::define_load;
-use crate::masks::{CHOICE, CLEAN, FIRST, SHIFT, binary_rule, cast_step, compare_rule, word_rule};
+use crate::masks::{
+    CHOICE, CLEAN, FIRST, SHIFT, binary_rule, cast_step, compare_rule, move_steps, word_rule,
+};
 use crate::origins::{CHOICE_ORIGIN, set_last_origin};
 use crate::rules::{attempt_mask, set_mask, set_origin};
-use ms_bits::{BinOp, CastOp, NoMemory, Pred, WordFn, WordWidth};
-use ms_ir::{External, Name, Op, Ty};
+use ms_bits::{BinOp, BitMove, CastOp, NoMemory, Pred, WordFn, WordWidth};
+use ms_ir::{External, Name, Op, RuntimeFn, Ty};
 use ms_rules_code::Step::Mask;
-use ms_rules_code::{Code, Inputs, Step, TrackedOperand, Widening, width_of};
+use ms_rules_code::{Code, Inputs, Step, TrackedOperand, Widening, mask_name, width_of};
 use std::alloc::Global;
 
 // The origin and the mask of a value, of a width, get the words of rules.
@@ -211,8 +215,50 @@ fn result_width(ret: &Option<Ty>) -> u8
     }
 }
 
-// What a function of whole words answers, as a value of a width.
-fn define_word_answer(
+// Whether the amount of a funnel shift is known: its mask is known to be 0.
+fn is_amount_known(operands: &[TrackedOperand<'_>]) -> bool
+    ensures { result ≡ is_zero (tracked_at 2 (map tracked_of operands.now)).mask }
+{
+    if operands.len() <= 2 {
+        true
+    } else {
+        operands[2].is_clean()
+    }
+}
+
+// A marked call of a function that moves bits, with what steps leave, gives the mask of a value.
+fn call_move(
+    alloc: Global,
+    code: &mut Code,
+    value: u32,
+    kind: BitMove,
+    inputs: &Inputs<'_>,
+    steps: &[Step],
+) -> Result<(), NoMemory>
+    ensures { (args : List (TyOf × Expr)) → map (λ a. a.0) args ≡ (runtime_signature (called.Move kind)).params → map (λ a. a.1) args ≡ reverse (words (inputs_of inputs.now) steps.now []) → OnOk result (code.new ≡ with_tasks code.old (Calls (Some (mask_name_of value)) (called.Move kind) args ∷ [])) }
+{
+    let name = mask_name(alloc, value as u64)?;
+    code.call(Some(name), RuntimeFn::Move(kind), inputs, steps)
+}
+
+// What a function that moves bits answers: it gives its mask too.
+fn define_move(
+    alloc: Global,
+    code: &mut Code,
+    value: u32,
+    kind: BitMove,
+    operands: &[TrackedOperand<'_>],
+) -> Result<(), NoMemory>
+    ensures { let ts = map tracked_of operands.now in OnOk result (code.new ≡ with_tasks code.old (Sets (origin_name_of value) (Int 32) (first_last ts) ∷ moves value kind ts)) }
+{
+    let inputs = Inputs::new(operands, kind.width().bits(), &None);
+    set_last_origin(alloc, code, value, &inputs)?;
+    let steps = move_steps(kind.function(), is_amount_known(operands));
+    call_move(alloc, code, value, kind, &inputs, steps)
+}
+
+// What another function of whole words answers, as a value of a width.
+fn define_ruled(
     alloc: Global,
     code: &mut Code,
     value: u32,
@@ -234,6 +280,43 @@ fn define_word_answer(
     )
 }
 
+// What a function of whole words answers, as a value of a width.
+fn define_word_answer(
+    alloc: Global,
+    code: &mut Code,
+    value: u32,
+    width: u8,
+    function: WordFn,
+    word_width: WordWidth,
+    operands: &[TrackedOperand<'_>],
+) -> Result<(), NoMemory>
+    ensures { let ts = map tracked_of operands.now in OnOk result (code.new ≡ with_tasks code.old (answered value width (move_of function word_width) (first_last ts) (word_expr function (width_bits word_width) (tracked_at 0 ts) (tracked_at 1 ts) (tracked_at 2 ts)) ts)) }
+{
+    match BitMove::of(function, word_width) {
+        Some(kind) => define_move(alloc, code, value, kind, operands),
+        None => define_ruled(alloc, code, value, width, function, word_width, operands),
+    }
+}
+
+// What an external that is known answers, as a value of a width.
+fn define_external(
+    alloc: Global,
+    code: &mut Code,
+    value: u32,
+    width: u8,
+    external: External,
+    operands: &[TrackedOperand<'_>],
+) -> Result<(), NoMemory>
+    ensures { let ts = map tracked_of operands.now in OnOk result (code.new ≡ with_tasks code.old (answered value width (external_move (Some external)) (answer_origin_expr (Some external) ts) (answer_expr (Some external) ts) ts)) }
+{
+    match external {
+        External::Word(function, word_width) => {
+            define_word_answer(alloc, code, value, width, function, word_width, operands)
+        }
+        _ => define_clean(alloc, code, value, width, operands),
+    }
+}
+
 // What an external answers, as a value of a width.
 fn define_answer(
     alloc: Global,
@@ -243,13 +326,11 @@ fn define_answer(
     external: Option<External>,
     operands: &[TrackedOperand<'_>],
 ) -> Result<(), NoMemory>
-    ensures { let ts = map tracked_of operands.now in OnOk result (code.new ≡ with_tasks code.old (defined value width (answer_origin_expr external ts) (answer_expr external ts))) }
+    ensures { let ts = map tracked_of operands.now in OnOk result (code.new ≡ with_tasks code.old (answered value width (external_move external) (answer_origin_expr external ts) (answer_expr external ts) ts)) }
 {
     match external {
-        Some(External::Word(function, word_width)) => {
-            define_word_answer(alloc, code, value, width, function, word_width, operands)
-        }
-        _ => define_clean(alloc, code, value, width, operands),
+        Some(external) => define_external(alloc, code, value, width, external, operands),
+        None => define_clean(alloc, code, value, width, operands),
     }
 }
 

@@ -54,8 +54,8 @@ slots_after (op.Store t v addr) words cells =
     if in_slots (word 1 words) (stored_size t) slots then with_range cells (word 1 words) (stored_size t) (byte_of (word 0 words)) else cells
 slots_after _ words cells = cells
 
--- a marked instruction: its accesses reach shadow and slots alone, it calls runtime functions alone, and else it does
--- what an unmarked one does
+-- a marked instruction: its accesses reach shadow and slots alone, it calls runtime functions and what moves bits alone, and
+-- else it does what an unmarked one does
 abbrev pub act_marked : Setting → Here → Op → List ℕ → (ℕ → ℕ) → World → Effect
 act_marked setting here (op.Load t addr) words cells world = load_marked here.site (word 0 words) t cells world
 act_marked setting here (op.Store t v addr) words cells world = store_marked here.site (word 1 words) t (word 0 words) world

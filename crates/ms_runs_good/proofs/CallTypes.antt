@@ -19,7 +19,10 @@ use Rattle.ms_ir.specs.declared.syntax.Module.{Module}
 use Rattle.ms_ir.specs.declared.calls.External.{External}
 use Rattle.ms_ir.specs.declared.calls.External.TheVariants as external
 use Rattle.ms_ir.specs.declared.calls.RuntimeFn.{RuntimeFn}
-use Rattle.ms_ir.specs.Names.{name_eq, lookup, externals, word_externals, runtime_functions, is_reserved, is_inserted_name}
+use Rattle.ms_bits.specs.declared.word_functions.BitMove.{BitMove}
+use Rattle.ms_bits.specs.declared.word_functions.BitMove.TheVariants.{Bswap16, Bswap32, Bswap64, Bitreverse8, Bitreverse16, Bitreverse32, Bitreverse64, Fshl8, Fshl16, Fshl32, Fshl64, Fshr8, Fshr16, Fshr32, Fshr64}
+use Rattle.ms_ir.specs.declared.calls.RuntimeFn.TheVariants as runtime
+use Rattle.ms_ir.specs.Names.{name_eq, lookup, externals, word_externals, runtime_functions, external_name, runtime_name, move_external, bit_moves, is_kept, is_reserved, is_inserted_name}
 use Rattle.ms_ir.specs.Layout.{width_of}
 use Rattle.ms_runs.specs.World.{World, Effect, Gives, Does, Goes, Enters, Leaves, Ends}
 use Rattle.ms_ir.specs.Code.{func_index, func_at, insts_at}
@@ -132,15 +135,51 @@ table_passes p (row ∷ rest) x v all e = by_test (name_eq row.0 x) refl e (λ h
 printf_name : Name
 printf_name = Text (codes "printf")
 
--- names of externals are not reserved, and `printf` names the variadic one alone; those of runtime functions are reserved,
--- and none is `printf`
+-- names of externals are not reserved, and `printf` names the variadic one alone
 external_apart : (x : Name) (e : External) → lookup externals x ≡ Some e → (not (is_reserved x) && (if is_variadic e then name_eq x printf_name else not (name_eq x printf_name))) ≡ true
 unfolding printf_name word_externals
 external_apart x e h = table_passes (λ y d. not (is_reserved y) && (if is_variadic d then name_eq y printf_name else not (name_eq y printf_name))) externals x e refl h
 
-runtime_apart : (x : Name) (f : RuntimeFn) → lookup runtime_functions x ≡ Some f → (is_reserved x && not (name_eq x printf_name)) ≡ true
-unfolding printf_name
-runtime_apart x f h = table_passes (λ y g. is_reserved y && not (name_eq y printf_name)) runtime_functions x f refl h
+-- an external is found by its own name
+pub external_named_so : (x : Name) (e : External) → lookup externals x ≡ Some e → x ≡ external_name e
+unfolding word_externals
+external_named_so x e h = name_sound x (external_name e) (table_passes (λ y d. name_eq y (external_name d)) externals x e refl h)
+
+-- what a marked call reaches is found by its own name, which isn't `printf`
+runtime_named : (x : Name) (f : RuntimeFn) → lookup runtime_functions x ≡ Some f → x ≡ runtime_name f
+unfolding bit_moves
+runtime_named x f h = name_sound x (runtime_name f) (table_passes (λ y g. name_eq y (runtime_name g)) runtime_functions x f refl h)
+
+runtime_apart : (x : Name) (f : RuntimeFn) → lookup runtime_functions x ≡ Some f → not (name_eq x printf_name) ≡ true
+unfolding printf_name bit_moves
+runtime_apart x f h = table_passes (λ y g. not (name_eq y printf_name)) runtime_functions x f refl h
+
+-- and no function of a module has it
+runtime_kept : (x : Name) (f : RuntimeFn) → lookup runtime_functions x ≡ Some f → is_kept x ≡ true
+unfolding is_kept
+runtime_kept x f h = or_right (is_reserved x) (is_some (lookup runtime_functions x)) (ap is_some h)
+
+-- what moves bits is an external
+move_free : (k : BitMove) → is_reserved (runtime_name (runtime.Move k)) ≡ false
+move_free k = refl
+
+pub move_known : (k : BitMove) → lookup externals (runtime_name (runtime.Move k)) ≡ Some (move_external k)
+unfolding word_externals
+move_known Bswap16 = refl
+move_known Bswap32 = refl
+move_known Bswap64 = refl
+move_known Bitreverse8 = refl
+move_known Bitreverse16 = refl
+move_known Bitreverse32 = refl
+move_known Bitreverse64 = refl
+move_known Fshl8 = refl
+move_known Fshl16 = refl
+move_known Fshl32 = refl
+move_known Fshl64 = refl
+move_known Fshr8 = refl
+move_known Fshr16 = refl
+move_known Fshr32 = refl
+move_known Fshr64 = refl
 
 -- ---- what `printf` takes
 
@@ -206,13 +245,13 @@ undefined (f ∷ rest) x e = by_test (name_eq f.name x) e (λ h. undefined rest 
     by_test true h later = grind arith
     by_test false h later = later (no_index (func_index rest x) h)
 
--- a reserved name is no function's
-unreserved : (funcs : List Func) (x : Name) → is_reserved x ≡ true → ((n : ℕ) (f : Func) → slice_get funcs n ≡ Some f → is_reserved f.name ≡ false) → defined_signature funcs x ≡ None
-unreserved [] x r h = refl
-unreserved (f ∷ rest) x r h = by_test (name_eq f.name x) refl (unreserved rest x r (λ n g e. h (suc n) g e))
+-- a kept name is no function's
+unkept : (funcs : List Func) (x : Name) → is_kept x ≡ true → ((n : ℕ) (f : Func) → slice_get funcs n ≡ Some f → is_kept f.name ≡ false) → defined_signature funcs x ≡ None
+unkept [] x r h = refl
+unkept (f ∷ rest) x r h = by_test (name_eq f.name x) refl (unkept rest x r (λ n g e. h (suc n) g e))
   where
     by_test : (t : Bool) → name_eq f.name x ≡ t → defined_signature rest x ≡ None → (if t then Some (func_signature f) else defined_signature rest x) ≡ None
-    by_test true same later = absurd (true≢false (sym r ∙ ap is_reserved (sym (name_sound f.name x same)) ∙ h 0 f refl))
+    by_test true same later = absurd (true≢false (sym r ∙ ap is_kept (sym (name_sound f.name x same)) ∙ h 0 f refl))
     by_test false same later = later
 
 -- a declaration is found by its name
@@ -392,6 +431,23 @@ module _ (m : Module) (valid : Valid m) (n b p : ℕ) (f : Func) (inst : Inst) (
       passed : (t : Bool) → (not true || t) ≡ true → t ≡ true
       passed t h = h
 
+  -- an external that is called and isn't defined is declared so, and called
+  pub external_declared : (e : External) → func_index m.funcs callee ≡ None → lookup externals callee ≡ Some e
+      → (s : Signature) × (signature_of m callee ≡ Some s) × (signature_eq s (external_signature e) ≡ true) × (has_name (called_names m) callee ≡ true)
+  external_declared e none found =
+      by_signature (declared_signature m.decls callee) refl
+      (ap (λ o. call_fault m fitted_call (option_or o (declared_signature m.decls callee)) ret callee args) (sym (undefined m.funcs callee none)) ∙ no_call_fault)
+    where
+      free : is_reserved callee ≡ false
+      free = not_true (is_reserved callee) (and_parts (not (is_reserved callee)) (if is_variadic e then name_eq callee printf_name else not (name_eq callee printf_name)) (external_apart callee e found)).0
+
+      by_signature : (o : Option Signature) → declared_signature m.decls callee ≡ o → call_fault m fitted_call o ret callee args ≡ None
+          → (s : Signature) × (signature_of m callee ≡ Some s) × (signature_eq s (external_signature e) ≡ true) × (has_name (called_names m) callee ≡ true)
+      by_signature None f h = absurd (some_second (first_misfit fitted_call 0 args) 0 h)
+      by_signature (Some s) f h =
+          let decl = declared m.decls callee s f in
+          (s, ap₂ option_or (undefined m.funcs callee none) f, ap (λ z. signature_eq z (external_signature e)) (sym decl.4) ∙ declared_external e free found decl.0 decl.1 decl.2 decl.3, called)
+
   -- `printf`
   printf_call : name_eq callee printf_name ≡ true → defined_signature m.funcs callee ≡ None
       → ((k : ℕ) (d : Decl) → slice_get m.decls k ≡ Some d → d.name ≡ callee → signature_eq (decl_signature d) (external_signature external.Printf) ≡ true)
@@ -440,14 +496,22 @@ module _ (m : Module) (valid : Valid m) (n b p : ℕ) (f : Func) (inst : Inst) (
           subst (CallsAs ret args) (fixed_signature e (map (λ a. a.0) args) k)
           (outside (external_signature e) (undefined m.funcs callee none) (not_true (name_eq callee printf_name) other) (declared_external e free found))
 
+  -- what a marked call reaches is declared with its types
+  runtime_declared : (r : RuntimeFn) → lookup runtime_functions callee ≡ Some r
+      → (k : ℕ) (d : Decl) → slice_get m.decls k ≡ Some d → d.name ≡ callee → signature_eq (decl_signature d) (runtime_signature r) ≡ true
+  runtime_declared (runtime.Move i) found k d l same =
+      let named = runtime_named callee (runtime.Move i) found in
+      declared_external (move_external i) (ap is_reserved named ∙ move_free i) (ap (lookup externals) named ∙ move_known i) k d l same
+  runtime_declared r found k d l same =
+      let kept : is_reserved callee ≡ true = ap is_reserved (runtime_named callee r found) in
+      sym (ap (λ o. elim o [ Some q ↦ signature_eq (decl_signature d) (runtime_signature q) | None ↦ false ]) (ap (lookup runtime_functions) same ∙ found))
+      ∙ (sym (ap (λ t. if t then is_runtime d else (not (has_name (called_names m) d.name) || is_external d)) (ap is_reserved same ∙ kept)) ∙ decl_there k d l)
+
   -- a runtime function
   pub runtime_call : (r : RuntimeFn) → lookup runtime_functions callee ≡ Some r → CallsAs ret args (runtime_signature r)
   runtime_call r found =
-      let apart = and_parts (is_reserved callee) (not (name_eq callee printf_name)) (runtime_apart callee r found) in
-      outside (runtime_signature r) (unreserved m.funcs callee apart.0 (λ k g e. is_false (is_reserved g.name) ((fits_outside m valid).functions_fit k g e)))
-      (not_true (name_eq callee printf_name) apart.1) (λ k d l same.
-      sym (ap (λ o. elim o [ Some q ↦ signature_eq (decl_signature d) (runtime_signature q) | None ↦ false ]) (ap (lookup runtime_functions) same ∙ found))
-      ∙ (sym (ap (λ t. if t then is_runtime d else (not (has_name (called_names m) d.name) || is_external d)) (ap is_reserved same ∙ apart.0)) ∙ decl_there k d l))
+      outside (runtime_signature r) (unkept m.funcs callee (runtime_kept callee r found) (λ k g e. is_false (is_kept g.name) ((fits_outside m valid).functions_fit k g e)))
+      (not_true (name_eq callee printf_name) (runtime_apart callee r found)) (runtime_declared r found)
     where
       is_false : (t : Bool) → IsFalse t → t ≡ false
       is_false t h = h

@@ -1,11 +1,13 @@
 -- Checks keep a world good, and what a runtime function answers is in the range of its type.
 use Rattle.std.proofs.Common.{ℕ, zero, suc, ◌+◌, ◌-◌, ◌/◌, ◌%◌, List, [], ◌∷◌, ◌++◌, length, not, ◌||◌, leb, eqb, Option, Some, None, unwrap_or, refl, arith}
 use Rattle.ms_bits.specs.Maps.{first_nonzero}
+use Rattle.ms_bits.specs.WordFunctions.{bits_of, move_width, moved}
+use Rattle.ms_bits_laws.proofs.WordAgreement.{moved_lt}
 use Rattle.ms_ir.specs.declared.syntax.Ty.{Int}
 use Rattle.ms_runs.specs.declared.runs.End.TheVariants as «end»
 use Rattle.ms_runs.specs.declared.runs.Report.{Report}
 use Rattle.ms_ir.specs.declared.calls.RuntimeFn.{RuntimeFn}
-use Rattle.ms_ir.specs.declared.calls.RuntimeFn.TheVariants.{Check, CheckMemory, CheckString, Blind, Poison, Unpoison, Copy, Fill, StoreOrigin, LoadOrigin, Size, CheckFormat}
+use Rattle.ms_ir.specs.declared.calls.RuntimeFn.TheVariants.{Check, CheckMemory, CheckString, Blind, Poison, Unpoison, Copy, Fill, StoreOrigin, LoadOrigin, Size, CheckFormat, Move}
 use Rattle.ms_runs.specs.World.{World, Setting, Effect, Gives, Does, Goes, Enters, Leaves, Ends, then_does, word}
 use Rattle.ms_runs.specs.Memory.{is_good, heap_size, bytes_left}
 use Rattle.ms_runs.specs.Origins.{add_report, check, check_byte, check_memory, check_string, asks_string_at, check_format, count_blind, trail, first_in_string, origin_within, load_origin}
@@ -94,3 +96,5 @@ runtime_answers setting given LoadOrigin words w g h =
 runtime_answers setting given Size words w g h =
     (in_type (Int 64) (unwrap_or (heap_size w (word 0 words)) 0) (omega (arith, heap_small FitsCell w (word 0 words) g)), g)
 runtime_answers setting given CheckFormat words w g h = format_answers FitsCell setting w g (word 0 words) (word 1 words) (word 2 words) (word 3 words)
+runtime_answers setting given (Move k) words w g h =
+    (in_type (Int (bits_of (move_width k))) (moved k (word 0 words) (word 1 words) (word 2 words)) (moved_lt k (word 0 words) (word 1 words) (word 2 words)), g)

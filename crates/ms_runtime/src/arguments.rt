@@ -1,9 +1,11 @@
 //! The words of a call's arguments.
 ghost use Rattle.std.specs.Prelude.{◌≡◌, ◌<◌, ◌%◌, ◌^◌, get_or};
+ghost use Rattle.ms_bits.specs.WordFunctions.{moved as moved_of};
 ghost use Rattle.ms_ir.specs.declared.calls.RuntimeFn.TheVariants.{Check};
 ghost use Rattle.ms_runtime.specs.Served.{Fits, use_in};
 
 use crate::reports::Use;
+use ms_bits::{BitMove, move_bits};
 
 /// The argument at a place; 0 where it is missing.
 pub(crate) fn word(args: &[u64], k: usize) -> u64
@@ -40,4 +42,11 @@ pub(crate) fn use_of(args: &[u64]) -> Use
         part: small(args, 4),
         site: small(args, 5),
     }
+}
+
+/// What a function that moves bits gives of the arguments.
+pub(crate) fn moved(kind: BitMove, args: &[u64]) -> u64
+    ensures { result ≡ moved_of kind (get_or args.now 0 0) (get_or args.now 1 0) (get_or args.now 2 0) }
+{
+    move_bits(kind, word(args, 0), word(args, 1), word(args, 2))
 }

@@ -8,7 +8,7 @@ ghost use Rattle.ms_host.specs.Shows.{Shows};
 ghost use Rattle.ms_host.specs.Answers.{asked_effect};
 ghost use Rattle.ms_runtime.specs.Served.{IsFor, IsBeside, Served, IsWithin, TellsMore, Fits, FitsAsked, IsCheck};
 
-use crate::arguments::{use_of, word};
+use crate::arguments::{moved, use_of, word};
 use crate::memory::{
     check_format, check_memory, check_string, copy, fill, load_origin, poison, size, store_origin,
     unpoison,
@@ -129,6 +129,7 @@ fn change(
         }
         RuntimeFn::LoadOrigin => Ok(Some(load_origin(args, world))),
         RuntimeFn::Size => Ok(Some(size(args, world))),
+        RuntimeFn::Move(kind) => Ok(Some(moved(kind, args))),
         _ => unreachable!(),
     }
 }

@@ -3,6 +3,7 @@ use Rattle.std.proofs.Common.{◌≡◌, ℕ, ◌+◌, ◌^◌, ◌<◌, List, [
 use Rattle.std.specs.Prelude.{if◌then◌else◌, map, is_some}
 use Rattle.std.proofs.lemmas.Bool.{false≢true}
 use Rattle.ms_bits.specs.declared.operations.BinOp.TheVariants as binary
+use Rattle.ms_bits.specs.declared.word_functions.BitMove.{BitMove}
 use Rattle.ms_bits.specs.declared.traps.Trap.TheVariants as trap
 use Rattle.ms_ir.specs.declared.syntax.Name.{Name}
 use Rattle.ms_ir.specs.declared.syntax.Ty.{Ty}
@@ -19,18 +20,19 @@ use Rattle.ms_runs.specs.Act.{store}
 use Rattle.ms_runs.specs.Poisoned.{Poisoned}
 use Rattle.ms_runs.specs.Masks.{by_formulas}
 use Rattle.ms_runs.specs.Shadow.{poisoned_result}
+use Rattle.ms_tasks.specs.Tasks.{mask_name, origin_name}
 use Rattle.ms_tasks.specs.Meaning.{Values}
 use Rattle.ms_tasks.specs.Environments.{Env, tracked}
-use Rattle.ms_tasks.specs.ResultTasks.{define_tasks, called_tasks, result_tasks}
+use Rattle.ms_tasks.specs.ResultTasks.{define_tasks, called_tasks, answer_tasks, external_move, result_tasks}
 use Rattle.ms_ir.specs.declared.calls.External.TheVariants.{Word}
 use Rattle.ms_ir.specs.Names.{lookup, externals}
-use Rattle.ms_tasks.proofs.WordMasks.{WordFits}
+use Rattle.ms_tasks.proofs.WordMasks.{WordFits, no_move}
 use Rattle.ms_tasks.specs.Known.{AnswersWord, FitsCallee, IsBuilt, KnownName, KnownOperands, KnownResult, OneName}
 use Rattle.ms_tasks.specs.Match.{RangedWorld, RangedValues, Matches}
 use Rattle.ms_tasks.specs.InstructionLaw.{GoesOn}
 use Rattle.ms_tasks.proofs.MatchedNames.{matches_set}
 use Rattle.ms_tasks.proofs.Defined.{words_for, acts_for, Defined, Fine, clean_kept}
-use Rattle.ms_tasks.proofs.DefineWords.{word_done, answer_done, shift_done}
+use Rattle.ms_tasks.proofs.DefineWords.{word_done, answer_done, move_done, shift_done}
 use Rattle.ms_tasks.proofs.Externals.{external_goes}
 use Rattle.ms_ir.specs.declared.calls.External.{External}
 use Rattle.ms_runs.specs.Externals.{external}
@@ -87,9 +89,28 @@ module _ (s : Setting) (env : Env) (size : ℕ) (h : Here) (values : Name → Po
       by_own : (b : Bool) → is_some (s.func callee) ≡ b
           → Defined s env h values v (Some x) (op.Call ret callee args) (called_tasks b k.place (op.Call ret callee args) (tracked env h.root args)) w
       by_own true e = none_done (Some x) (op.Call ret callee args) w (λ i u g. own_gives h.site (s.func callee) (external_named s.func callee) (map (λ a. a.0) args) (map (λ p. p.value) (words_for s values h (op.Call ret callee args))) w e i u g)
-      by_own false e =
-          answer_done s env size h values v m r one x k c (op.Call ret callee args) (words_fit (is_some (s.func callee)) (lookup externals callee) e built answers) known few w
-          (λ g. outside_goes h.site (s.func callee) (external_named s.func callee) x args built (map (λ a. a.0) args) (map (λ p. p.value) (words_for s values h (op.Call ret callee args))) w e g)
+      by_own false e = by_move (external_move (lookup externals callee)) refl
+        where
+          never : GoesOn (acts_for s values h (op.Call ret callee args) w) → ⊥
+          never g = outside_goes h.site (s.func callee) (external_named s.func callee) x args built (map (λ a. a.0) args) (map (λ p. p.value) (words_for s values h (op.Call ret callee args))) w e g
+
+          fits : WordFits (lookup externals callee) ret args
+          fits = words_fit (is_some (s.func callee)) (lookup externals callee) e built answers
+
+          -- an external that moves bits is a function of whole words
+          from_external : (j : BitMove) (q : Option External) → lookup externals callee ≡ q → external_move q ≡ Some j
+              → Defined s env h values v (Some x) (op.Call ret callee args)
+              (answer_tasks (mask_name k.place) (origin_name k.place) (Some j) (op.Call ret callee args) (tracked env h.root args)) w
+          from_external j (Some (Word g n)) found moves =
+              move_done s env size h values v m r one x k c ret callee args g n j found moves (subst (λ q. WordFits q ret args) found fits) known few w never
+          from_external j None found moves = absurd (no_move j moves)
+          from_external j (Some q) found moves = absurd (no_move j moves)
+
+          by_move : (j : Option BitMove) → external_move (lookup externals callee) ≡ j
+              → Defined s env h values v (Some x) (op.Call ret callee args)
+              (answer_tasks (mask_name k.place) (origin_name k.place) j (op.Call ret callee args) (tracked env h.root args)) w
+          by_move None moves = answer_done s env size h values v m r one x k c (op.Call ret callee args) fits moves known few w never
+          by_move (Some j) moves = from_external j (lookup externals callee) refl moves
 
   define_done : (x : Name) (k : KnownName env size x) → env.clean x ≡ false → (o : Op) → IsBuilt s.func (Some x) o → KnownOperands env size (operands o)
       → h.root + count_undefs (operands o) < 2 ^ 32 → (w : World) → RangedWorld w
@@ -97,13 +118,13 @@ module _ (s : Setting) (env : Env) (size : ℕ) (h : Here) (values : Name → Po
   define_done x k c (op.Binary binary.Shl f t a b) built known few w ranged = shift_done s env size h values v m r one x k c binary.Shl tt f t a b built known few w
   define_done x k c (op.Binary binary.Lshr f t a b) built known few w ranged = shift_done s env size h values v m r one x k c binary.Lshr tt f t a b built known few w
   define_done x k c (op.Binary binary.Ashr f t a b) built known few w ranged = shift_done s env size h values v m r one x k c binary.Ashr tt f t a b built known few w
-  define_done x k c (op.Binary o f t a b) built known few w ranged = word_done s env size h values v m r one x k c (op.Binary o f t a b) tt tt known few w
-  define_done x k c (op.Icmp p f t a b) built known few w ranged = word_done s env size h values v m r one x k c (op.Icmp p f t a b) built tt known few w
-  define_done x k c (op.Cast o f t a u) built known few w ranged = word_done s env size h values v m r one x k c (op.Cast o f t a u) built tt known few w
-  define_done x k c (op.Select i t a b) built known few w ranged = word_done s env size h values v m r one x k c (op.Select i t a b) tt tt known few w
-  define_done x k c (op.Freeze t a) built known few w ranged = word_done s env size h values v m r one x k c (op.Freeze t a) tt tt known few w
-  define_done x k c (op.Gep t a is) built known few w ranged = word_done s env size h values v m r one x k c (op.Gep t a is) tt tt known few w
-  define_done x k c (op.Alloca t u i) built known few w ranged = word_done s env size h values v m r one x k c (op.Alloca t u i) tt tt known few w
+  define_done x k c (op.Binary o f t a b) built known few w ranged = word_done s env size h values v m r one x k c (op.Binary o f t a b) tt tt refl known few w
+  define_done x k c (op.Icmp p f t a b) built known few w ranged = word_done s env size h values v m r one x k c (op.Icmp p f t a b) built tt refl known few w
+  define_done x k c (op.Cast o f t a u) built known few w ranged = word_done s env size h values v m r one x k c (op.Cast o f t a u) built tt refl known few w
+  define_done x k c (op.Select i t a b) built known few w ranged = word_done s env size h values v m r one x k c (op.Select i t a b) tt tt refl known few w
+  define_done x k c (op.Freeze t a) built known few w ranged = word_done s env size h values v m r one x k c (op.Freeze t a) tt tt refl known few w
+  define_done x k c (op.Gep t a is) built known few w ranged = word_done s env size h values v m r one x k c (op.Gep t a is) tt tt refl known few w
+  define_done x k c (op.Alloca t u i) built known few w ranged = word_done s env size h values v m r one x k c (op.Alloca t u i) tt tt refl known few w
   define_done x k c (op.Load t a) built known few w ranged = load_done s env size h values v m r one x k c t a known w ranged
   define_done x k c (op.Store t n a) built known few w ranged = none_done (Some x) (op.Store t n a) w (λ i u e.
       let words = map (λ p. p.value) (words_for s values h (op.Store t n a)) in store_gives h.site (word 1 words) t (word 0 words) i w u e)

@@ -12,6 +12,10 @@ use Rattle.ms_bits.specs.declared.operations.BinOp.TheVariants as binary
 use Rattle.ms_bits.specs.declared.operations.Flags.{Flags}
 use Rattle.ms_bits.specs.declared.traps.Trap.{Trap}
 use Rattle.ms_bits.specs.declared.traps.Trap.TheVariants as trap
+use Rattle.ms_bits.specs.declared.word_functions.WordFn.{WordFn}
+use Rattle.ms_bits.specs.declared.word_functions.WordWidth.{WordWidth}
+use Rattle.ms_bits.specs.declared.word_functions.BitMove.{BitMove}
+use Rattle.ms_bits.specs.WordFunctions.{bits_of, move_of, moved}
 use Rattle.ms_bits.specs.Signed.{signed, wrap}
 use Rattle.ms_bits.specs.Arithmetic.{binary_of, shl_of, lshr_of, ashr_of}
 use Rattle.ms_bits.specs.Conversions.{select_of}
@@ -33,15 +37,16 @@ use Rattle.ms_runs.specs.Act.{operand_word, act}
 use Rattle.ms_runs.specs.Poisoned.{Poisoned}
 use Rattle.ms_runs.specs.Masks.{by_formulas, result_mask, result_origin, value_or_zero, shift_mask, select_origin, word_at, last_origin, answer_mask, as_result, answer_origin}
 use Rattle.ms_runs.specs.Shadow.{read_poisoned, poisoned_result}
-use Rattle.ms_tasks.specs.Tasks.{mask_name, origin_name, Expr, Pick, Sets}
-use Rattle.ms_tasks.specs.Meaning.{Values, Went, do_tasks, marked_next, evaluate, whole}
+use Rattle.ms_tasks.specs.Tasks.{mask_name, origin_name, Expr, Pick, Task, Sets, Calls}
+use Rattle.ms_tasks.specs.Meaning.{Values, Went, do_tasks, marked_next, evaluate, evaluate_all, whole}
 use Rattle.ms_tasks.specs.Environments.{Env, Tracked, tracked, tracked_at, mask_of, word_of, origin_of, number, is_set}
-use Rattle.ms_tasks.specs.ResultMasks.{mask_expr, origin_expr, answer_origin_expr, first_last}
+use Rattle.ms_tasks.specs.ResultMasks.{mask_expr, move_args, origin_expr, answer_origin_expr, first_last}
 use Rattle.ms_ir.specs.declared.calls.External.{External}
 use Rattle.ms_ir.specs.declared.calls.External.TheVariants.{Word}
+use Rattle.ms_ir.specs.declared.calls.RuntimeFn.TheVariants as called
 use Rattle.ms_ir.specs.Names.{lookup, externals}
-use Rattle.ms_tasks.specs.ResultTasks.{result_width, shift_task, word_tasks}
-use Rattle.ms_tasks.specs.Known.{KnownName, KnownOperands, OneName}
+use Rattle.ms_tasks.specs.ResultTasks.{result_width, shift_task, word_tasks, move_called, answer_tasks}
+use Rattle.ms_tasks.specs.Known.{AnswersWord, KnownName, KnownOperands, OneName}
 use Rattle.ms_tasks.specs.Match.{Matches, RangedValues}
 use Rattle.ms_tasks.specs.InstructionLaw.{GoesOn}
 use Rattle.ms_tasks.proofs.OperandWords.{ap₃, word_less}
@@ -49,7 +54,7 @@ use Rattle.ms_tasks.proofs.MatchedNames.{Defines, defines_own, matches_set}
 use Rattle.ms_tasks.proofs.Defined.{words_for, acts_for, Defined, Fine, Fails, origin_first}
 use Rattle.ms_tasks.proofs.Words.{Is, is_eval, is_leaf, is_number}
 use Rattle.ms_tasks.proofs.LastOrigins.{AllWords, HoldsOrigin, AllOrigins, AllClean, words_hold, origins_hold, set_word, first_whole}
-use Rattle.ms_tasks.proofs.WordMasks.{IsWordOp, mask_value, mask_clean, answer_clean, wrap_signed, signed_zero}
+use Rattle.ms_tasks.proofs.WordMasks.{WordFits, IsWordOp, NoCallOp, call_moved, mask_value, mask_clean, answer_clean, wrap_signed, signed_zero}
 
 zero-div : (n : ℕ) → 0 / n ≡ 0
 zero-div n = grind arith
@@ -63,10 +68,6 @@ gives_goes site (Ok n) w g = g
 gives_goes site (Err t) w g = g
 
 -- an operation whose result is a word gives it, or the run ends
-abbrev NoCallOp : Op → Type 0
-NoCallOp (op.Call ret callee args) = ⊥
-NoCallOp _ = Unit {0}
-
 word_goes : (s : Setting) (h : Here) (o : Op) → IsWordOp o → NoCallOp o → (words : List ℕ) (w : World) → GoesOn (act s h o words w) → ⊥
 word_goes s h (op.Binary o f t a b) k nc words w g = gives_goes h.site _ w g
 word_goes s h (op.Icmp p f t a b) k nc words w g = gives_goes h.site _ w g
@@ -224,31 +225,71 @@ chosen w false i j p q = mod-eq_of_lt p
 
 module _ (s : Setting) (env : Env) (size : ℕ) (h : Here) (values : Name → Poisoned) (v : Values) (m : Matches env values v.names) (r : RangedValues values)
     (one : OneName env) (x : Name) (k : KnownName env size x) (c : env.clean x ≡ false) where
-  pub answer_done : (o : Op) → IsWordOp o → KnownOperands env size (operands o) → h.root + count_undefs (operands o) < 2 ^ 32 → (w : World) → (GoesOn (acts_for s values h o w) → ⊥)
-      → Defined s env h values v (Some x) o (word_tasks (mask_name k.place) (origin_name k.place) o (tracked env h.root (operands o))) w
-  answer_done o is known few w never =
+  -- the origin is set first, and then the mask by some task
+  mask_done : (o : Op) → IsWordOp o → KnownOperands env size (operands o) → h.root + count_undefs (operands o) < 2 ^ 32 → (w : World) → (GoesOn (acts_for s values h o w) → ⊥)
+      → (t : Task) (mask : ℕ)
+      → ((names1 : Name → ℕ) → names1 ≡ with_value v.names (origin_name k.place) (whole s v.names (origin_expr o (tracked env h.root (operands o))) (Int 32))
+      → do_tasks s h (t ∷ []) (record { names = names1; slots = v.slots }) w ≡ Went (record { names = with_value names1 (mask_name k.place) mask; slots = v.slots }) w)
+      → ((u : World) → mask ≡ result_mask by_formulas o (words_for s values h o) u)
+      → Defined s env h values v (Some x) o (Sets (origin_name k.place) (Int 32) (origin_expr o (tracked env h.root (operands o))) ∷ t ∷ []) w
+  mask_done o is known few w never t mask runs mask_is =
       let n = k.place in
       let ts = tracked env h.root (operands o) in
       let ps = words_for s values h o in
       let stored = whole s v.names (origin_expr o ts) (Int 32) in
       let names1 = with_value v.names (origin_name n) stored in
-      let mask = whole s names1 (mask_expr o ts) (Int (result_width o)) in
       let names2 = with_value names1 (mask_name n) mask in
-      let hw = words_hold s env size values v.names m n stored (operands o) h.root known in
       let ho = origins_hold s env size values v.names m r (operands o) h.root known few in
-      let mask_is = λ (u : World). mask_value s names1 env values h.root o is u hw in
       let origin_is = λ (u : World). origin_value s v.names env values h.root o is u ho in
       let d : (u : World) → Defines env x n v.names names2 (result_mask by_formulas o ps u) (result_origin o ps (result_mask by_formulas o ps u) u) =
       λ u. subst (λ i. Defines env x n v.names names2 i (result_origin o ps (result_mask by_formulas o ps u) u)) (mask_is u)
       (origin_first env x n k.numbered c v.names mask (result_origin o ps (result_mask by_formulas o ps u) u) stored (λ ne. origin_is u (λ z. ne (mask_is u ∙ z)))) in
-      Fine (record { names = names2; slots = v.slots }) refl refl
+      Fine (record { names = names2; slots = v.slots }) (runs names1 refl) refl
       (defines_own env x n v.names names2 _ _ (d w))
       (λ i u e. matches_set env size x k one values v.names names2 (poisoned_result by_formulas o ps i u) m (d u))
       (λ g. absurd (never g))
 
-  pub word_done : (o : Op) → IsWordOp o → NoCallOp o → KnownOperands env size (operands o) → h.root + count_undefs (operands o) < 2 ^ 32 → (w : World)
+  -- what the operands' names hold then
+  held_then : (o : Op) → KnownOperands env size (operands o)
+      → AllWords s (with_value v.names (origin_name k.place) (whole s v.names (origin_expr o (tracked env h.root (operands o))) (Int 32))) (tracked env h.root (operands o)) (words_for s values h o)
+  held_then o known = words_hold s env size values v.names m k.place (whole s v.names (origin_expr o (tracked env h.root (operands o))) (Int 32)) (operands o) h.root known
+
+  pub answer_done : (o : Op) → IsWordOp o → move_called o ≡ None → KnownOperands env size (operands o) → h.root + count_undefs (operands o) < 2 ^ 32 → (w : World)
+      → (GoesOn (acts_for s values h o w) → ⊥)
       → Defined s env h values v (Some x) o (word_tasks (mask_name k.place) (origin_name k.place) o (tracked env h.root (operands o))) w
-  word_done o is nc known few w = answer_done o is known few w (word_goes s h o is nc (map (λ p. p.value) (words_for s values h o)) w)
+  answer_done o is unmoved known few w never =
+      let ts = tracked env h.root (operands o) in
+      let names1 = with_value v.names (origin_name k.place) (whole s v.names (origin_expr o ts) (Int 32)) in
+      mask_done o is known few w never (Sets (mask_name k.place) (Int (result_width o)) (mask_expr o ts)) (whole s names1 (mask_expr o ts) (Int (result_width o)))
+      (λ names e. ap (λ l. Went (record { names = with_value names (mask_name k.place) (whole s l (mask_expr o ts) (Int (result_width o))); slots = v.slots }) w) e)
+      (λ u. mask_value s names1 env values h.root o is unmoved u (held_then o known))
+
+  -- what moves bits gives its mask
+  pub move_done : (ret : Option Ty) (callee : Name) (args : List (Ty × Operand)) (f : WordFn) (n : WordWidth) (j : BitMove) → lookup externals callee ≡ Some (Word f n) → move_of f n ≡ Some j
+      → WordFits (Some (Word f n)) ret args → KnownOperands env size args → h.root + count_undefs args < 2 ^ 32 → (w : World) → (GoesOn (acts_for s values h (op.Call ret callee args) w) → ⊥)
+      → Defined s env h values v (Some x) (op.Call ret callee args)
+      (answer_tasks (mask_name k.place) (origin_name k.place) (Some j) (op.Call ret callee args) (tracked env h.root args)) w
+  move_done ret callee args f n j found moves fits known few w never =
+      let o = op.Call ret callee args in
+      let ts = tracked env h.root args in
+      let names1 = with_value v.names (origin_name k.place) (whole s v.names (origin_expr o ts) (Int 32)) in
+      let is = call_moved s names1 env values h.root args f n fits.0 (held_then o known) j moves in
+      mask_done o (subst (λ e. WordFits e ret args) (sym found) fits) known few w never (Calls (Some (mask_name k.place)) (called.Move j) (move_args j ts)) (given names1)
+      (λ names e. ap (λ l. Went (record { names = with_value names (mask_name k.place) (given l); slots = v.slots }) w) e)
+      (λ u. is.0 ∙ sym (ap (λ e. as_result ret (answer_mask e (words_for s values h o))) found ∙ by_result ret fits.1 is.1))
+    where
+      given : (Name → ℕ) → ℕ
+      given names = moved j (word 0 (evaluate_all s names (move_args j (tracked env h.root args)))) (word 1 (evaluate_all s names (move_args j (tracked env h.root args))))
+          (word 2 (evaluate_all s names (move_args j (tracked env h.root args))))
+
+      by_result : (q : Option Ty) → AnswersWord (Some (Word f n)) q → answer_mask (Some (Word f n)) (words_for s values h (op.Call ret callee args)) < 2 ^ bits_of n
+          → as_result q (answer_mask (Some (Word f n)) (words_for s values h (op.Call ret callee args))) ≡ answer_mask (Some (Word f n)) (words_for s values h (op.Call ret callee args))
+      by_result None a l = absurd a
+      by_result (Some t) a l = ap (λ i. answer_mask (Some (Word f n)) (words_for s values h (op.Call ret callee args)) % 2 ^ i) a ∙ mod-eq_of_lt l
+
+  pub word_done : (o : Op) → IsWordOp o → NoCallOp o → move_called o ≡ None → KnownOperands env size (operands o) → h.root + count_undefs (operands o) < 2 ^ 32 → (w : World)
+      → Defined s env h values v (Some x) o (word_tasks (mask_name k.place) (origin_name k.place) o (tracked env h.root (operands o))) w
+  word_done o is nc unmoved known few w = answer_done o is unmoved known few w (word_goes s h o is nc (map (λ p. p.value) (words_for s values h o)) w)
 
   -- a shift's mask is shifted by the same amount where that is set
   pub shift_done : (o : BinOp) → IsShift o → (f : Flags) (t : Ty) (a b : Operand) → 1 ≤ width_of t → KnownOperands env size ((t, a) ∷ (t, b) ∷ [])

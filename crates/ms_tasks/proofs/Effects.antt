@@ -5,6 +5,8 @@ use Rattle.std.specs.Int.{from_bool}
 use Rattle.ms_bits.specs.declared.operations.CastOp.{CastOp}
 use Rattle.ms_bits.specs.declared.operations.CastOp.TheVariants.{Trunc, Zext, Sext, PtrToInt, IntToPtr, Bitcast}
 use Rattle.ms_bits.specs.declared.operations.Pred.{Pred}
+use Rattle.ms_bits.specs.declared.word_functions.BitMove.{BitMove}
+use Rattle.ms_bits.specs.declared.word_functions.BitMove.TheVariants.{Bswap16, Bswap32, Bswap64, Bitreverse8, Bitreverse16, Bitreverse32, Bitreverse64, Fshl8, Fshl16, Fshl32, Fshl64, Fshr8, Fshr16, Fshr32, Fshr64}
 use Rattle.ms_bits.specs.Arithmetic.{binary_of, or_of, add_of, sub_of, mul_of}
 use Rattle.ms_bits.specs.Conversions.{cast_of, compare_of, holds}
 use Rattle.ms_ir.specs.declared.calls.RuntimeFn.{RuntimeFn}
@@ -13,7 +15,7 @@ use Rattle.ms_ir.specs.declared.syntax.Name.{Name}
 use Rattle.ms_ir.specs.declared.syntax.Ty.{Ty}
 use Rattle.ms_ir.specs.declared.syntax.Operand.{Operand}
 use Rattle.ms_bits.specs.NoFlags.{no_flags}
-use Rattle.ms_ir.specs.Names.{lookup, runtime_functions, runtime_name}
+use Rattle.ms_ir.specs.Names.{lookup, bit_moves, runtime_functions, runtime_name}
 use Rattle.ms_runs.specs.World.{World, Setting, Here, Gives, Ends, stuck, gives}
 use Rattle.ms_ir.specs.Code.{operands}
 use Rattle.ms_runs.specs.Act.{truth}
@@ -45,7 +47,25 @@ pub test_gives : (site : ℕ) (p : Pred) (width a b : ℕ) (w : World) → gives
 unfolding compare_of
 test_gives site p width a b w = refl
 
-runtime_known : (f : RuntimeFn) → lookup runtime_functions (runtime_name f) ≡ Some f
+move_known : (k : BitMove) → lookup runtime_functions (runtime_name (function.Move k)) ≡ Some (function.Move k)
+unfolding bit_moves
+move_known Bswap16 = refl
+move_known Bswap32 = refl
+move_known Bswap64 = refl
+move_known Bitreverse8 = refl
+move_known Bitreverse16 = refl
+move_known Bitreverse32 = refl
+move_known Bitreverse64 = refl
+move_known Fshl8 = refl
+move_known Fshl16 = refl
+move_known Fshl32 = refl
+move_known Fshl64 = refl
+move_known Fshr8 = refl
+move_known Fshr16 = refl
+move_known Fshr32 = refl
+move_known Fshr64 = refl
+
+pub runtime_known : (f : RuntimeFn) → lookup runtime_functions (runtime_name f) ≡ Some f
 runtime_known function.Check = refl
 runtime_known function.CheckMemory = refl
 runtime_known function.CheckString = refl
@@ -58,6 +78,7 @@ runtime_known function.StoreOrigin = refl
 runtime_known function.LoadOrigin = refl
 runtime_known function.Size = refl
 runtime_known function.CheckFormat = refl
+runtime_known (function.Move k) = move_known k
 
 -- a task whose last instruction takes words
 abbrev pub TakesWords : Task → Type 0

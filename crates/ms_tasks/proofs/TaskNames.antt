@@ -21,15 +21,16 @@ use Rattle.ms_ir.specs.declared.calls.External.{External}
 use Rattle.ms_ir.specs.declared.calls.External.TheVariants.{Malloc, Realloc, Memcpy, Memmove, Memset, Read, LlvmMemcpy, LlvmMemmove, LlvmMemset, LifetimeStart}
 use Rattle.ms_runs.specs.Uses.{Use, Word, Bytes, Line, Asked, uses, has_flag, has_true_flag, flagged_words}
 use Rattle.ms_tasks.specs.Tasks.{mask_name, origin_name, Expr, Leaf, Turn, Task, Sets}
-use Rattle.ms_tasks.specs.Meaning.{BelowOperand, BelowExpr, BelowTasks}
+use Rattle.ms_tasks.specs.Meaning.{BelowOperand, BelowExpr, BelowExprs, BelowTasks}
 use Rattle.ms_tasks.specs.Environments.{Env, Given, Tracked, mask_operand, origin_operand, local_mask, local_origin, tracked, tracked_at, is_zero, mask_of, widened, widened_mask, extended_expr, extended_mask, joined, unknown, bits_at}
-use Rattle.ms_bits.specs.WordFunctions.{bits_of, is_flagged}
+use Rattle.ms_bits.specs.declared.word_functions.BitMove.{BitMove}
+use Rattle.ms_bits.specs.WordFunctions.{bits_of, is_flagged, move_fn, move_width}
 use Rattle.ms_ir.specs.Names.{lookup, externals}
 use Rattle.ms_ir.specs.declared.calls.External.TheVariants as called
-use Rattle.ms_tasks.proofs.WordReads.{ReadsWord, word_reads}
+use Rattle.ms_tasks.proofs.WordReads.{ReadsWord, word_reads, AllRead, args_read}
 use Rattle.ms_tasks.specs.CheckTasks.{use_tasks, check_tasks, blind_binary_of, blinded_of, all_zero, union_masks, blind_tasks}
-use Rattle.ms_tasks.specs.ResultMasks.{carry_expr, order_expr, compare_expr, turned_expr, cast_expr, sum_expr, address_expr, binary_expr, answer_expr, mask_expr, last_expr, first_last, answer_origin_expr, origin_expr}
-use Rattle.ms_tasks.specs.ResultTasks.{word_tasks, shift_task, define_tasks, called_tasks, result_tasks}
+use Rattle.ms_tasks.specs.ResultMasks.{carry_expr, order_expr, compare_expr, turned_expr, cast_expr, sum_expr, address_expr, binary_expr, answer_expr, mask_expr, move_args, last_expr, first_last, answer_origin_expr, origin_expr}
+use Rattle.ms_tasks.specs.ResultTasks.{word_tasks, shift_task, define_tasks, move_called, answer_tasks, called_tasks, result_tasks}
 use Rattle.ms_tasks.specs.PlaneTasks.{plane_tasks, saves, saved_by, saved_tasks, save_tasks, copy_task, fill_task, external_tasks, callee_tasks}
 use Rattle.ms_tasks.specs.Emit.{before_tasks, after_tasks, start}
 use Rattle.ms_tasks.specs.SlotTasks.{param_mask, param_origin, result_mask_slot, result_origin_slot, give_tasks, take_tasks, give_arguments, give_result, hand_tasks, take_value, take_result}
@@ -266,9 +267,24 @@ module _ (env : Env) (size base : ℕ) (room : 2 * size + 1 ≤ base) where
         (mask_below size base v room less, (((y.mask, tt), tt, x.mask), (((y.mask, tt), tt, y.own), tt)), tt),
       )
 
+  exprs_low : (es : List (Ty × Expr)) → AllRead (BelowOperand base) (λ n. tt) es → BelowExprs base es
+  exprs_low [] p = tt
+  exprs_low (e ∷ es) p = (p.0, exprs_low es p.1)
+
+  moved_low : (k : Option BitMove) (v : ℕ) (o : Op) (ts : List Tracked) → v < size → AllLow ts → BelowTasks base (answer_tasks (mask_name v) (origin_name v) k o ts)
+  moved_low None v o ts less p = word_low v o ts less p
+  moved_low (Some k) v o ts less p = (
+    origin_below size base v room less,
+    origin_expr_low o ts p,
+    (mask_below size base v room less, exprs_low (move_args k ts) (args_read (BelowOperand base) (λ n. tt) (move_fn k) (bits_of (move_width k)) (tracked_at 0 ts) (tracked_at 1 ts) (tracked_at 2 ts) (words 0) (words 1) (words 2)), tt),
+  )
+    where
+      words : (k : ℕ) → ReadsWord (BelowOperand base) (λ n. tt) (tracked_at k ts)
+      words k = let x = at_low k ts p in record { own = x.own; mask = x.mask }
+
   called_low : (b : Bool) (v : ℕ) (o : Op) (ts : List Tracked) → v < size → AllLow ts → BelowTasks base (called_tasks b v o ts)
   called_low true v o ts less p = tt
-  called_low false v o ts less p = word_low v o ts less p
+  called_low false v o ts less p = moved_low (move_called o) v o ts less p
 
   define_low : (func : Name → Option ℕ) (v : ℕ) (o : Op) (ts : List Tracked) → v < size → AllLow ts → BelowTasks base (define_tasks func v o ts)
   define_low func v (op.Call ret callee args) ts less p = called_low (is_some (func callee)) v (op.Call ret callee args) ts less p

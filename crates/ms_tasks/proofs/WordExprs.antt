@@ -1,10 +1,11 @@
 -- The words that inserted code computes of functions of whole words are their masks.
-use Rattle.std.proofs.Common.{◌≡◌, ℕ, zero, suc, ◌+◌, ◌-◌, ◌*◌, ◌%◌, ◌^◌, ◌≤◌, Bool, true, false, cond, leb, eqb, bit_or, refl, sym, ap, ap₂, ◌∙◌, subst, arith, ⊎_elim}
-use Rattle.std.specs.Int.{from_bool}
+use Rattle.std.proofs.Common.{◌≡◌, ℕ, zero, suc, ◌+◌, ◌-◌, ◌*◌, ◌%◌, ◌^◌, ◌<◌, ◌≤◌, ◌/◌, Bool, true, false, cond, leb, eqb, bit_or, if◌then◌else◌, not, refl, sym, ap, ap₂, ◌∙◌, subst, arith, ⊎_elim}
+use Rattle.std.specs.Int.{from_bool, bit_at}
 use Rattle.std.proofs.Math.Nat.{pow-suc}
 use Rattle.std.proofs.Math.Pow.{ones_lt, pow_mono}
 use Rattle.std.proofs.lemmas.Bool.{cases_lt, le-leb, lt-leb}
 use Rattle.std.proofs.lemmas.Nat.{pow_pos, pow_below, mod_below}
+use Rattle.std.proofs.lemmas.Nat.Bits.{bit_at-lt, same_from_bits_below}
 use Rattle.ms_bits.specs.declared.word_functions.WordFn.{WordFn}
 use Rattle.ms_bits.specs.declared.word_functions.WordFn.TheVariants.{Ctpop, Ctlz, Cttz, Bswap, Bitreverse, Abs, Smax, Smin, Umax, Umin, Fshl, Fshr, UaddSat, UsubSat, SaddSat, SsubSat, Expect}
 use Rattle.ms_bits.specs.declared.operations.Pred.TheVariants as pred
@@ -12,15 +13,20 @@ use Rattle.ms_bits.specs.Conversions.{select_of, holds}
 use Rattle.ms_bits.specs.Formulas.{least, greatest}
 use Rattle.ms_ir.specs.declared.syntax.Name.{Name}
 use Rattle.ms_ir.specs.declared.syntax.Ty.{Int}
-use Rattle.ms_runs.specs.World.{Setting}
+use Rattle.ms_runs.specs.World.{Setting, word}
 use Rattle.ms_tasks.specs.Tasks.{Expr, Or, Xor, Sub, Two, Test, Pick}
 use Rattle.ms_runs.specs.Act.{operand_word}
 use Rattle.ms_runs.specs.Poisoned.{Poisoned}
-use Rattle.ms_tasks.specs.Environments.{Tracked, mask_of, word_of, number}
+use Rattle.ms_tasks.specs.Meaning.{evaluate, evaluate_all}
+use Rattle.ms_tasks.specs.Environments.{Tracked, mask_of, word_of, number, is_set}
+use Rattle.ms_tasks.specs.Environments.{is_zero as is_known_zero}
+use Rattle.ms_tasks.proofs.CheckTasks.{zero_word}
 use Rattle.ms_tasks.proofs.Words.{Is, is_eval, is_leaf, is_turned, mask_carry, is_number, is_and, is_or, is_xor, is_test, is_pick}
-use Rattle.ms_bits.specs.WordFunctions.{greater_mask, smaller_mask, places, count_mask, whole_mask, ctpop_mask, ctlz_mask, cttz_mask, abs_mask, word_mask}
+use Rattle.ms_bits.specs.WordFunctions.{bswap_of, bitreverse_of, fshl_of, fshr_of, moved_by, greater_mask, smaller_mask, places, count_mask, whole_mask, ctpop_mask, ctlz_mask, cttz_mask, abs_mask, word_mask}
 use Rattle.ms_bits_laws.proofs.WordMaskRanges.{places_le}
-use Rattle.ms_tasks.specs.ResultMasks.{union_expr, whole_expr, word_expr, count_expr, ctpop_expr, ctlz_expr, cttz_expr, greater_expr, smaller_expr, abs_expr}
+use Rattle.ms_bits_laws.proofs.MaskFunctions.{number_bit, number_fits}
+use Rattle.ms_bits_laws.proofs.MovedBits.{fshl_ones, fshr_ones}
+use Rattle.ms_tasks.specs.ResultMasks.{union_expr, whole_expr, word_expr, known_expr, moved_args, count_expr, ctpop_expr, ctlz_expr, cttz_expr, greater_expr, smaller_expr, abs_expr}
 
 choice : (t : Bool) (x y : ℕ) → select_of (from_bool t) x y ≡ cond t x y
 unfolding select_of
@@ -36,6 +42,30 @@ half_leb (suc h) n some =
     (λ l. lt-leb (2 ^ h) n l ∙ sym (lt-leb (2 ^ suc h) (2 * n) (omega (arith, pow-suc 2 h))))
     (λ g. le-leb (2 ^ h) n g ∙ sym (le-leb (2 ^ suc h) (2 * n) (omega (arith, pow-suc 2 h))))
     (cases_lt n (2 ^ h))
+
+-- a function moves no bit to another place, or does more
+abbrev pub Still : WordFn → ℕ → Type 0
+Still Bswap w = w ≡ 8
+Still Bitreverse w = ⊥
+Still Fshl w = ⊥
+Still Fshr w = ⊥
+Still f w = Unit {0}
+
+-- it moves bits alone
+abbrev pub Moving : WordFn → Type 0
+Moving Bswap = Unit {0}
+Moving Bitreverse = Unit {0}
+Moving Fshl = Unit {0}
+Moving Fshr = Unit {0}
+Moving f = ⊥
+
+-- the bytes of a byte in the other order
+bswap_byte : (w m : ℕ) → w ≡ 8 → m < 2 ^ w → bswap_of w m ≡ m
+unfolding bswap_of
+bswap_byte w m e l =
+    same_from_bits_below w _ _ (number_fits (λ i. bit_at m (w - 8 - i / 8 * 8 + i % 8)) (λ i. bit_at-lt m (w - 8 - i / 8 * 8 + i % 8)) w) l
+    (λ i lt. number_bit (λ i. bit_at m (w - 8 - i / 8 * 8 + i % 8)) (λ i. bit_at-lt m (w - 8 - i / 8 * 8 + i % 8)) w i lt
+    ∙ (let same : w - 8 - i / 8 * 8 + i % 8 ≡ i = omega (arith, e, lt) in ap (bit_at m) same))
 
 module _ (s : Setting) (names : Name → ℕ) where
   -- an expression that computes one word computes an equal one
@@ -71,6 +101,10 @@ module _ (s : Setting) (names : Name → ℕ) where
   is_zero : {w : ℕ} {a : Expr} {x : ℕ} → Is s names w a x → Is s names 1 (Test pred.Eq (Int w) a (number 0)) (from_bool (eqb x 0))
   unfolding holds
   is_zero {w} i = is_test s names pred.Eq i (none w)
+
+  not_zero : {w : ℕ} {a : Expr} {x : ℕ} → Is s names w a x → Is s names 1 (is_set (Int w) a) (from_bool (not (eqb x 0)))
+  unfolding holds
+  not_zero {w} i = is_test s names pred.Ne i (none w)
 
   pub mask_whole : {w : ℕ} {e : Expr} {x : ℕ} → Is s names w e x → Is s names w (whole_expr w e) (whole_mask w x)
   mask_whole {w} {e} {x} i = by_test (eqb x 0) (is_zero i) (none w) (is_number s names w (2 ^ w - 1) (ones_lt w))
@@ -137,25 +171,65 @@ module _ (s : Setting) (names : Name → ℕ) where
     both : Stands w b q → Is s names w (union_expr (Int w) (mask_of a) (mask_of b)) (bit_or p.mask q.mask)
     both k = is_or s names (is_mask a p h) (is_mask b q k)
 
-    all_three : Stands w b q → Stands w c r → Is s names w (union_expr (Int w) (union_expr (Int w) (mask_of a) (mask_of b)) (mask_of c)) (bit_or (bit_or p.mask q.mask) r.mask)
-    all_three k l = is_or s names (both k) (is_mask c r l)
+    -- a byte in its own order
+    byte_value : (n : ℕ) → n ≡ 8 → Is s names n (mask_of a) p.mask → Is s names n (mask_of a) (bswap_of n p.mask)
+    byte_value n e i = same_word (sym (bswap_byte n p.mask e i.less)) i
 
-    pub word_value : (f : WordFn) → Second f (Stands w b q) → Third f (Stands w c r)
+    pub word_value : (f : WordFn) → Still f w → Second f (Stands w b q)
         → Is s names w (word_expr f w a b c) (word_mask f w p.value p.mask q.value q.mask r.value r.mask)
-    word_value Ctpop k l = mask_ctpop some (is_mask a p h)
-    word_value Ctlz k l = mask_ctlz some (is_word a p h) (is_mask a p h)
-    word_value Cttz k l = mask_cttz some (is_word a p h) (is_mask a p h)
-    word_value Bswap k l = mask_whole (is_mask a p h)
-    word_value Bitreverse k l = mask_whole (is_mask a p h)
-    word_value Abs k l = mask_abs some (is_word a p h) (is_mask a p h)
-    word_value Smax k l = mask_greater (is_turned s names some (is_word a p h)) (is_mask a p h) (is_turned s names some (is_word b q k)) (is_mask b q k)
-    word_value Smin k l = mask_smaller (is_turned s names some (is_word a p h)) (is_mask a p h) (is_turned s names some (is_word b q k)) (is_mask b q k)
-    word_value Umax k l = mask_greater (is_word a p h) (is_mask a p h) (is_word b q k) (is_mask b q k)
-    word_value Umin k l = mask_smaller (is_word a p h) (is_mask a p h) (is_word b q k) (is_mask b q k)
-    word_value Fshl k l = mask_whole (all_three k l)
-    word_value Fshr k l = mask_whole (all_three k l)
-    word_value UaddSat k l = mask_whole (both k)
-    word_value UsubSat k l = mask_whole (both k)
-    word_value SaddSat k l = mask_whole (both k)
-    word_value SsubSat k l = mask_whole (both k)
-    word_value Expect k l = is_mask a p h
+    word_value Ctpop e k = mask_ctpop some (is_mask a p h)
+    word_value Ctlz e k = mask_ctlz some (is_word a p h) (is_mask a p h)
+    word_value Cttz e k = mask_cttz some (is_word a p h) (is_mask a p h)
+    word_value Bswap e k = byte_value w e (is_mask a p h)
+    word_value Bitreverse e k = absurd e
+    word_value Abs e k = mask_abs some (is_word a p h) (is_mask a p h)
+    word_value Smax e k = mask_greater (is_turned s names some (is_word a p h)) (is_mask a p h) (is_turned s names some (is_word b q k)) (is_mask b q k)
+    word_value Smin e k = mask_smaller (is_turned s names some (is_word a p h)) (is_mask a p h) (is_turned s names some (is_word b q k)) (is_mask b q k)
+    word_value Umax e k = mask_greater (is_word a p h) (is_mask a p h) (is_word b q k) (is_mask b q k)
+    word_value Umin e k = mask_smaller (is_word a p h) (is_mask a p h) (is_word b q k) (is_mask b q k)
+    word_value Fshl e k = absurd e
+    word_value Fshr e k = absurd e
+    word_value UaddSat e k = mask_whole (both k)
+    word_value UsubSat e k = mask_whole (both k)
+    word_value SaddSat e k = mask_whole (both k)
+    word_value SsubSat e k = mask_whole (both k)
+    word_value Expect e k = is_mask a p h
+
+    -- a mask, or all bits where the amount isn't known
+    known_value : (m : Expr) (x : ℕ) → Is s names w m x → Stands w c r → evaluate s names (known_expr w c m) (Int w) ≡ (if eqb r.mask 0 then x else (2 ^ w - 1))
+    known_value m x i k = by_zero (is_known_zero c.mask) refl
+      where
+        picked : Is s names w (Pick (is_set (Int w) (mask_of c)) (Int w) (number (2 ^ w - 1)) m) (cond (not (eqb r.mask 0)) (2 ^ w - 1) x)
+        picked = by_test (not (eqb r.mask 0)) (not_zero (is_mask c r k)) (is_number s names w (2 ^ w - 1) (ones_lt w)) i
+
+        turned : (t : Bool) → cond (not t) (2 ^ w - 1) x ≡ (if t then x else (2 ^ w - 1))
+        turned true = refl
+        turned false = refl
+
+        by_zero : (t : Bool) → is_known_zero c.mask ≡ t
+            → evaluate s names (if t then m else Pick (is_set (Int w) (mask_of c)) (Int w) (number (2 ^ w - 1)) m) (Int w) ≡ (if eqb r.mask 0 then x else (2 ^ w - 1))
+        by_zero true z = is_eval s names i ∙ sym (ap (λ n. if eqb n 0 then x else (2 ^ w - 1)) (sym k.mask ∙ zero_word s names w c.mask z))
+        by_zero false z = is_eval s names picked ∙ turned (eqb r.mask 0)
+
+    -- two words that are shifted as one, or words of all bits
+    shifted : (g : ℕ → ℕ → ℕ → ℕ) → ((n : ℕ) → g (2 ^ w - 1) (2 ^ w - 1) n ≡ 2 ^ w - 1) → Stands w b q → Stands w c r
+        → g (evaluate s names (known_expr w c (mask_of a)) (Int w)) (evaluate s names (known_expr w c (mask_of b)) (Int w)) (evaluate s names (word_of c) (Int w))
+        ≡ (if eqb r.mask 0 then g p.mask q.mask r.value else (2 ^ w - 1))
+    shifted g ones k l =
+        ap₂ (λ x y. g x y (evaluate s names (word_of c) (Int w))) (known_value (mask_of a) p.mask (is_mask a p h) l) (known_value (mask_of b) q.mask (is_mask b q k) l)
+        ∙ ap (g (if eqb r.mask 0 then p.mask else (2 ^ w - 1)) (if eqb r.mask 0 then q.mask else (2 ^ w - 1))) (is_eval s names (is_word c r l))
+        ∙ by_mask (eqb r.mask 0)
+      where
+        by_mask : (t : Bool) → g (if t then p.mask else (2 ^ w - 1)) (if t then q.mask else (2 ^ w - 1)) r.value ≡ (if t then g p.mask q.mask r.value else (2 ^ w - 1))
+        by_mask true = refl
+        by_mask false = ones r.value
+
+    -- what moves bits gives its mask of these
+    pub moved_value : (f : WordFn) → Moving f → Second f (Stands w b q) → Third f (Stands w c r)
+        → moved_by f w (word 0 (evaluate_all s names (moved_args f w a b c))) (word 1 (evaluate_all s names (moved_args f w a b c))) (word 2 (evaluate_all s names (moved_args f w a b c)))
+        ≡ word_mask f w p.value p.mask q.value q.mask r.value r.mask
+    moved_value Bswap e k l = ap (bswap_of w) (is_eval s names (is_mask a p h))
+    moved_value Bitreverse e k l = ap (bitreverse_of w) (is_eval s names (is_mask a p h))
+    moved_value Fshl e k l = shifted (fshl_of w) (fshl_ones w) k l
+    moved_value Fshr e k l = shifted (fshr_of w) (λ n. fshr_ones w n some) k l
+    moved_value f e k l = absurd e

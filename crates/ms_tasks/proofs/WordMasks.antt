@@ -2,6 +2,7 @@
 use Rattle.std.proofs.Common.{◌≡◌, ℕ, zero, suc, ◌+◌, ◌-◌, ◌*◌, ◌%◌, ◌^◌, ◌<◌, ◌≤◌, List, [], ◌∷◌, refl, sym, ap, ◌∙◌, subst, arith, Bool, true, false, Option, Some, None}
 use Rattle.std.specs.Prelude.{if◌then◌else◌, eqb, bit_and, bit_or, bit_xor, ltb, leb, map, get_or, pos, negsuc, ℤ}
 use Rattle.std.specs.Int.{from_bool}
+use Rattle.std.proofs.lemmas.Option.{same_Some}
 use Rattle.std.proofs.Math.Path.{ap₂}
 use Rattle.std.proofs.Math.Nat.{mod-eq_of_lt, zero-mod}
 use Rattle.std.proofs.lemmas.Nat.{mod_below, pow_pos}
@@ -17,8 +18,11 @@ use Rattle.ms_bits.specs.Formulas.{and_mask, or_mask, union_mask, carry_mask, le
 use Rattle.ms_bits.specs.declared.word_functions.WordFn.{WordFn}
 use Rattle.ms_bits.specs.declared.word_functions.WordFn.TheVariants as word
 use Rattle.ms_bits.specs.declared.word_functions.WordWidth.{WordWidth}
-use Rattle.ms_bits.specs.WordFunctions.{bits_of, word_mask}
-use Rattle.ms_bits_laws.proofs.WordAgreement.{width_some}
+use Rattle.ms_bits.specs.declared.word_functions.WordWidth.TheVariants as width
+use Rattle.ms_bits.specs.declared.word_functions.BitMove.{BitMove}
+use Rattle.ms_bits.specs.declared.word_functions.BitMove.TheVariants as move
+use Rattle.ms_bits.specs.WordFunctions.{bits_of, word_mask, move_fn, move_width, move_of, moved_by, moved}
+use Rattle.ms_bits_laws.proofs.WordAgreement.{width_some, moved_lt}
 use Rattle.ms_bits_laws.proofs.CleanWords.{word_clean}
 use Rattle.ms_ir.specs.declared.calls.External.{External}
 use Rattle.ms_ir.specs.declared.calls.External.TheVariants.{Word}
@@ -32,6 +36,7 @@ use Rattle.ms_ir.specs.declared.syntax.Op.TheVariants as op
 use Rattle.ms_bits.specs.NoFlags.{no_flags}
 use Rattle.ms_ir.specs.Layout.{width_of, extended}
 use Rattle.ms_runs.specs.World.{World, Setting}
+use Rattle.ms_runs.specs.World.{word as value}
 use Rattle.ms_ir.specs.Code.{operands, one_undef}
 use Rattle.ms_runs.specs.Control.{read_all}
 use Rattle.ms_runs.specs.Act.{operand_word, extended_all}
@@ -39,13 +44,13 @@ use Rattle.ms_runs.specs.Poisoned.{Poisoned}
 use Rattle.ms_runs.specs.Masks.{by_formulas, word_at, answer_mask, as_result, result_mask, value_or_zero, union}
 use Rattle.ms_runs.specs.Shadow.{read_poisoned}
 use Rattle.ms_tasks.specs.Tasks.{Leaf, Turn}
-use Rattle.ms_tasks.specs.Meaning.{whole}
+use Rattle.ms_tasks.specs.Meaning.{whole, evaluate_all}
 use Rattle.ms_tasks.specs.Environments.{Env, Tracked, tracked, tracked_at, mask_of, extended_expr, extended_mask, joined, unknown}
-use Rattle.ms_tasks.specs.ResultMasks.{cast_expr, sum_expr, address_expr, answer_expr, mask_expr}
+use Rattle.ms_tasks.specs.ResultMasks.{cast_expr, sum_expr, address_expr, answer_expr, mask_expr, moved_args, move_args}
 use Rattle.ms_tasks.specs.Known.{AnswersWord}
 use Rattle.ms_tasks.proofs.Externals.{width_at}
-use Rattle.ms_tasks.proofs.WordExprs.{Stands, Second, Third, word_value}
-use Rattle.ms_tasks.specs.ResultTasks.{result_width}
+use Rattle.ms_tasks.proofs.WordExprs.{Still, Moving, Stands, Second, Third, word_value, moved_value}
+use Rattle.ms_tasks.specs.ResultTasks.{result_width, external_move, move_called}
 use Rattle.ms_tasks.proofs.OperandWords.{word_less}
 use Rattle.ms_tasks.proofs.CheckTasks.{zero_word}
 use Rattle.ms_tasks.proofs.JoinedWords.{Makes, AllMake, own_mask, joined_is}
@@ -93,6 +98,54 @@ IsWordOp (op.Gep t a is) = Unit {0}
 IsWordOp (op.Alloca t u c) = Unit {0}
 IsWordOp (op.Call ret callee args) = WordFits (lookup externals callee) ret args
 IsWordOp _ = ⊥
+
+-- an operation that calls nothing
+abbrev pub NoCallOp : Op → Type 0
+NoCallOp (op.Call ret callee args) = ⊥
+NoCallOp _ = Unit {0}
+
+-- ---- functions that move bits
+
+pub no_move : (k : BitMove) → None ≡ Some k → ⊥
+no_move k e = grind arith
+
+-- which function of whole words one is
+pub move_is : (f : WordFn) (n : WordWidth) (k : BitMove) → move_of f n ≡ Some k → (move_fn k ≡ f) × (move_width k ≡ n) × Moving f
+move_is word.Bswap width.I16 k e = subst (λ j. (move_fn j ≡ word.Bswap) × (move_width j ≡ width.I16) × Moving word.Bswap) (same_Some move.Bswap16 k e) (refl, refl, tt)
+move_is word.Bswap width.I32 k e = subst (λ j. (move_fn j ≡ word.Bswap) × (move_width j ≡ width.I32) × Moving word.Bswap) (same_Some move.Bswap32 k e) (refl, refl, tt)
+move_is word.Bswap width.I64 k e = subst (λ j. (move_fn j ≡ word.Bswap) × (move_width j ≡ width.I64) × Moving word.Bswap) (same_Some move.Bswap64 k e) (refl, refl, tt)
+move_is word.Bitreverse width.I8 k e = subst (λ j. (move_fn j ≡ word.Bitreverse) × (move_width j ≡ width.I8) × Moving word.Bitreverse) (same_Some move.Bitreverse8 k e) (refl, refl, tt)
+move_is word.Bitreverse width.I16 k e = subst (λ j. (move_fn j ≡ word.Bitreverse) × (move_width j ≡ width.I16) × Moving word.Bitreverse) (same_Some move.Bitreverse16 k e) (refl, refl, tt)
+move_is word.Bitreverse width.I32 k e = subst (λ j. (move_fn j ≡ word.Bitreverse) × (move_width j ≡ width.I32) × Moving word.Bitreverse) (same_Some move.Bitreverse32 k e) (refl, refl, tt)
+move_is word.Bitreverse width.I64 k e = subst (λ j. (move_fn j ≡ word.Bitreverse) × (move_width j ≡ width.I64) × Moving word.Bitreverse) (same_Some move.Bitreverse64 k e) (refl, refl, tt)
+move_is word.Fshl width.I8 k e = subst (λ j. (move_fn j ≡ word.Fshl) × (move_width j ≡ width.I8) × Moving word.Fshl) (same_Some move.Fshl8 k e) (refl, refl, tt)
+move_is word.Fshl width.I16 k e = subst (λ j. (move_fn j ≡ word.Fshl) × (move_width j ≡ width.I16) × Moving word.Fshl) (same_Some move.Fshl16 k e) (refl, refl, tt)
+move_is word.Fshl width.I32 k e = subst (λ j. (move_fn j ≡ word.Fshl) × (move_width j ≡ width.I32) × Moving word.Fshl) (same_Some move.Fshl32 k e) (refl, refl, tt)
+move_is word.Fshl width.I64 k e = subst (λ j. (move_fn j ≡ word.Fshl) × (move_width j ≡ width.I64) × Moving word.Fshl) (same_Some move.Fshl64 k e) (refl, refl, tt)
+move_is word.Fshr width.I8 k e = subst (λ j. (move_fn j ≡ word.Fshr) × (move_width j ≡ width.I8) × Moving word.Fshr) (same_Some move.Fshr8 k e) (refl, refl, tt)
+move_is word.Fshr width.I16 k e = subst (λ j. (move_fn j ≡ word.Fshr) × (move_width j ≡ width.I16) × Moving word.Fshr) (same_Some move.Fshr16 k e) (refl, refl, tt)
+move_is word.Fshr width.I32 k e = subst (λ j. (move_fn j ≡ word.Fshr) × (move_width j ≡ width.I32) × Moving word.Fshr) (same_Some move.Fshr32 k e) (refl, refl, tt)
+move_is word.Fshr width.I64 k e = subst (λ j. (move_fn j ≡ word.Fshr) × (move_width j ≡ width.I64) × Moving word.Fshr) (same_Some move.Fshr64 k e) (refl, refl, tt)
+move_is f n k e = absurd (no_move k e)
+
+still : (f : WordFn) (n : WordWidth) → move_of f n ≡ None → Still f (bits_of n)
+still word.Bswap width.I8 e = refl
+still word.Bswap width.I16 e = grind arith
+still word.Bswap width.I32 e = grind arith
+still word.Bswap width.I64 e = grind arith
+still word.Bitreverse width.I8 e = grind arith
+still word.Bitreverse width.I16 e = grind arith
+still word.Bitreverse width.I32 e = grind arith
+still word.Bitreverse width.I64 e = grind arith
+still word.Fshl width.I8 e = grind arith
+still word.Fshl width.I16 e = grind arith
+still word.Fshl width.I32 e = grind arith
+still word.Fshl width.I64 e = grind arith
+still word.Fshr width.I8 e = grind arith
+still word.Fshr width.I16 e = grind arith
+still word.Fshr width.I32 e = grind arith
+still word.Fshr width.I64 e = grind arith
+still f n e = tt
 
 module _ (s : Setting) (names : Name → ℕ) where
   cast_value : (o : CastOp) (w to : ℕ) (m : Operand) (x : ℕ) → Allows o w to → operand_word s names w m ≡ x
@@ -170,94 +223,117 @@ module _ (s : Setting) (names : Name → ℕ) where
   word_stands (t ∷ ts) (p ∷ ps) h (suc k) = word_stands ts ps h.1 k
 
   -- a call of a function of whole words
-  call_value : (env : Env) (values : Name → Poisoned) (root : ℕ) (args : List (Ty × Operand)) (f : WordFn) (n : WordWidth) → map (λ a. width_of a.0) args ≡ map width_of (word_params f (bits_of n))
-      → AllWords s names (tracked env root args) (read_all (read_poisoned s values) args root)
-      → Is s names (bits_of n) (answer_expr (Some (Word f n)) (tracked env root args)) (answer_mask (Some (Word f n)) (read_all (read_poisoned s values) args root))
-  call_value env values root args f n widths h =
-      word_value s names (bits_of n) (omega (arith, width_some n)) (tracked_at 0 ts) (tracked_at 1 ts) (tracked_at 2 ts) (word_at 0 ps) (word_at 1 ps) (word_at 2 ps)
-      (at 0 (first_wide f)) f (second f (λ e. at 1 e)) (third f (λ e. at 2 e))
-    where
-      ts : List Tracked
-      ts = tracked env root args
+  module _ (env : Env) (values : Name → Poisoned) (root : ℕ) (args : List (Ty × Operand)) (f : WordFn) (n : WordWidth)
+      (widths : map (λ a. width_of a.0) args ≡ map width_of (word_params f (bits_of n))) (h : AllWords s names (tracked env root args) (read_all (read_poisoned s values) args root)) where
+    abbrev called : List Tracked
+    called = tracked env root args
 
-      ps : List Poisoned
-      ps = read_all (read_poisoned s values) args root
+    abbrev given : List Poisoned
+    given = read_all (read_poisoned s values) args root
 
-      -- the width of a parameter
-      Wide : WordFn → ℕ → Type 0
-      Wide f k = get_or (map width_of (word_params f (bits_of n))) k 64 ≡ bits_of n
+    -- the width of a parameter
+    Wide : WordFn → ℕ → Type 0
+    Wide f k = get_or (map width_of (word_params f (bits_of n))) k 64 ≡ bits_of n
 
-      at : (k : ℕ) → Wide f k → Stands s names (bits_of n) (tracked_at k ts) (word_at k ps)
-      at k e = subst (λ j. Stands s names j (tracked_at k ts) (word_at k ps)) (width_at env root args k ∙ ap (λ l. get_or l k 64) widths ∙ e) (word_stands ts ps h k)
+    at : (k : ℕ) → Wide f k → Stands s names (bits_of n) (tracked_at k called) (word_at k given)
+    unfolding Wide
+    at k e = subst (λ j. Stands s names j (tracked_at k called) (word_at k given)) (width_at env root args k ∙ ap (λ l. get_or l k 64) widths ∙ e) (word_stands called given h k)
 
-      first_wide : (f : WordFn) → Wide f 0
-      first_wide word.Ctpop = refl
-      first_wide word.Fshl = refl
-      first_wide word.Fshr = refl
-      first_wide word.Ctlz = refl
-      first_wide f = refl
+    first_wide : (f : WordFn) → Wide f 0
+    unfolding Wide
+    first_wide word.Ctpop = refl
+    first_wide word.Fshl = refl
+    first_wide word.Fshr = refl
+    first_wide word.Ctlz = refl
+    first_wide f = refl
 
-      second : (f : WordFn) → {X : Type 0} → (Wide f 1 → X) → Second s names f X
-      second word.Ctpop h = tt
-      second word.Ctlz h = tt
-      second word.Cttz h = tt
-      second word.Bswap h = tt
-      second word.Bitreverse h = tt
-      second word.Abs h = tt
-      second word.Expect h = tt
-      second f h = h refl
+    second : (f : WordFn) → {X : Type 0} → (Wide f 1 → X) → Second s names f X
+    unfolding Wide
+    second word.Ctpop h = tt
+    second word.Ctlz h = tt
+    second word.Cttz h = tt
+    second word.Bswap h = tt
+    second word.Bitreverse h = tt
+    second word.Abs h = tt
+    second word.Expect h = tt
+    second f h = h refl
 
-      third : (f : WordFn) → {X : Type 0} → (Wide f 2 → X) → Third s names f X
-      third word.Fshl h = h refl
-      third word.Fshr h = h refl
-      third f h = tt
+    third : (f : WordFn) → {X : Type 0} → (Wide f 2 → X) → Third s names f X
+    unfolding Wide
+    third word.Fshl h = h refl
+    third word.Fshr h = h refl
+    third f h = tt
+
+    call_value : move_of f n ≡ None → Is s names (bits_of n) (answer_expr (Some (Word f n)) called) (answer_mask (Some (Word f n)) given)
+    call_value e =
+        word_value s names (bits_of n) (omega (arith, width_some n)) (tracked_at 0 called) (tracked_at 1 called) (tracked_at 2 called) (word_at 0 given) (word_at 1 given) (word_at 2 given)
+        (at 0 (first_wide f)) f (still f n e) (second f (λ e. at 1 e))
+
+    -- what moves bits gives its mask
+    abbrev gives : WordFn → ℕ → ℕ
+    gives g w =
+        let xs = evaluate_all s names (moved_args g w (tracked_at 0 called) (tracked_at 1 called) (tracked_at 2 called)) in moved_by g w (value 0 xs) (value 1 xs) (value 2 xs)
+
+    pub call_moved : (k : BitMove) → move_of f n ≡ Some k
+        → (moved k (value 0 (evaluate_all s names (move_args k called))) (value 1 (evaluate_all s names (move_args k called))) (value 2 (evaluate_all s names (move_args k called))) ≡ answer_mask (Some (Word f n)) given)
+        × (answer_mask (Some (Word f n)) given < 2 ^ bits_of n)
+    call_moved k e =
+        let is = move_is f n k e in
+        let same : gives (move_fn k) (bits_of (move_width k)) ≡ answer_mask (Some (Word f n)) given =
+        ap₂ (λ g w. gives g (bits_of w)) is.0 is.1
+        ∙ moved_value s names (bits_of n) (omega (arith, width_some n)) (tracked_at 0 called) (tracked_at 1 called) (tracked_at 2 called) (word_at 0 given) (word_at 1 given) (word_at 2 given)
+        (at 0 (first_wide f)) f is.2 (second f (λ e. at 1 e)) (third f (λ e. at 2 e)) in (
+          same,
+          subst (λ w. answer_mask (Some (Word f n)) given < 2 ^ bits_of w) is.1
+              (subst (λ x. x < 2 ^ bits_of (move_width k)) same (moved_lt k _ _ _)),
+        )
 
   -- the mask of a result
-  pub mask_value : (env : Env) (values : Name → Poisoned) (root : ℕ) (o : Op) → IsWordOp o → (w : World)
+  pub mask_value : (env : Env) (values : Name → Poisoned) (root : ℕ) (o : Op) → IsWordOp o → move_called o ≡ None → (w : World)
       → AllWords s names (tracked env root (operands o)) (read_all (read_poisoned s values) (operands o) root)
       → whole s names (mask_expr o (tracked env root (operands o))) (Int (result_width o)) ≡ result_mask by_formulas o (read_all (read_poisoned s values) (operands o) root) w
   unfolding union_mask
-  mask_value env values root (op.Binary binary.And f t a b) k w h =
+  mask_value env values root (op.Binary binary.And f t a b) k n w h =
       (mask_and s names (is_leaf s names (width_of t) a _ h.0.value) (is_leaf s names (width_of t) _ _ h.0.mask) (is_leaf s names (width_of t) b _ h.1.0.value) (is_leaf s names (width_of t) _ _ h.1.0.mask)).raw
-  mask_value env values root (op.Binary binary.Or f t a b) k w h =
+  mask_value env values root (op.Binary binary.Or f t a b) k n w h =
       (mask_or s names (is_leaf s names (width_of t) a _ h.0.value) (is_leaf s names (width_of t) _ _ h.0.mask) (is_leaf s names (width_of t) b _ h.1.0.value) (is_leaf s names (width_of t) _ _ h.1.0.mask)).raw
-  mask_value env values root (op.Binary binary.Xor f t a b) k w h = (is_or s names (is_leaf s names (width_of t) _ _ h.0.mask) (is_leaf s names (width_of t) _ _ h.1.0.mask)).raw
-  mask_value env values root (op.Binary binary.Add f t a b) k w h = (sum_value (width_of t) _ _ _ _ h.0.mask h.1.0.mask).raw
-  mask_value env values root (op.Binary binary.Sub f t a b) k w h = (sum_value (width_of t) _ _ _ _ h.0.mask h.1.0.mask).raw
-  mask_value env values root (op.Binary binary.Mul f t a b) k w h = (sum_value (width_of t) _ _ _ _ h.0.mask h.1.0.mask).raw
-  mask_value env values root (op.Binary binary.Udiv f t a b) k w h = h.0.mask
-  mask_value env values root (op.Binary binary.Sdiv f t a b) k w h = h.0.mask
-  mask_value env values root (op.Binary binary.Urem f t a b) k w h = h.0.mask
-  mask_value env values root (op.Binary binary.Srem f t a b) k w h = h.0.mask
-  mask_value env values root (op.Icmp p f t a b) k w h =
+  mask_value env values root (op.Binary binary.Xor f t a b) k n w h = (is_or s names (is_leaf s names (width_of t) _ _ h.0.mask) (is_leaf s names (width_of t) _ _ h.1.0.mask)).raw
+  mask_value env values root (op.Binary binary.Add f t a b) k n w h = (sum_value (width_of t) _ _ _ _ h.0.mask h.1.0.mask).raw
+  mask_value env values root (op.Binary binary.Sub f t a b) k n w h = (sum_value (width_of t) _ _ _ _ h.0.mask h.1.0.mask).raw
+  mask_value env values root (op.Binary binary.Mul f t a b) k n w h = (sum_value (width_of t) _ _ _ _ h.0.mask h.1.0.mask).raw
+  mask_value env values root (op.Binary binary.Udiv f t a b) k n w h = h.0.mask
+  mask_value env values root (op.Binary binary.Sdiv f t a b) k n w h = h.0.mask
+  mask_value env values root (op.Binary binary.Urem f t a b) k n w h = h.0.mask
+  mask_value env values root (op.Binary binary.Srem f t a b) k n w h = h.0.mask
+  mask_value env values root (op.Icmp p f t a b) k n w h =
       (mask_compare s names p k (is_bits s names t a _ h.0.value) (is_leaf s names (width_of t) _ _ h.0.mask) (is_bits s names t b _ h.1.0.value) (is_leaf s names (width_of t) _ _ h.1.0.mask)).raw
-  mask_value env values root (op.Cast o f t a u) k w h = cast_value o (width_of t) (width_of u) _ _ k h.0.mask
-  mask_value env values root (op.Select c t a b) k w h =
+  mask_value env values root (op.Cast o f t a u) k n w h = cast_value o (width_of t) (width_of u) _ _ k h.0.mask
+  mask_value env values root (op.Select c t a b) k n w h =
       (mask_select s names (is_leaf s names 1 c _ h.0.value) (is_leaf s names 1 _ _ h.0.mask) (is_bits s names t a _ h.1.0.value) (is_leaf s names (width_of t) _ _ h.1.0.mask)
       (is_bits s names t b _ h.1.1.0.value) (is_leaf s names (width_of t) _ _ h.1.1.0.mask)).raw
-  mask_value env values root (op.Freeze t a) k w h = zero-mod (2 ^ width_of t)
-  mask_value env values root (op.Alloca t u c) k w h = zero-mod (2 ^ 64)
-  mask_value env values root (op.Call (Some t) callee args) k w h = by_external (lookup externals callee) k
+  mask_value env values root (op.Freeze t a) k n w h = zero-mod (2 ^ width_of t)
+  mask_value env values root (op.Alloca t u c) k n w h = zero-mod (2 ^ 64)
+  mask_value env values root (op.Call (Some t) callee args) k n w h = by_external (lookup externals callee) k n
     where
-      by_external : (e : Option External) → WordFits e (Some t) args
+      by_external : (e : Option External) → WordFits e (Some t) args → external_move e ≡ None
           → whole s names (answer_expr e (tracked env root args)) (Int (width_of t)) ≡ answer_mask e (read_all (read_poisoned s values) args root) % 2 ^ width_of t
-      by_external None k = refl
-      by_external (Some (Word f n)) k =
-          let is = call_value env values root args f n k.0 h in
+      by_external None k e = refl
+      by_external (Some (Word f n)) k e =
+          let is = call_value env values root args f n k.0 h e in
           ap (λ j. whole s names (answer_expr (Some (Word f n)) (tracked env root args)) (Int j)) k.1 ∙ is.raw
           ∙ sym (ap (λ j. answer_mask (Some (Word f n)) (read_all (read_poisoned s values) args root) % 2 ^ j) k.1 ∙ mod-eq_of_lt is.less)
-      by_external (Some e) k = refl
-  mask_value env values root (op.Call None callee args) k w h = by_external (lookup externals callee) k
+      by_external (Some e) k z = refl
+  mask_value env values root (op.Call None callee args) k n w h = by_external (lookup externals callee) k n
     where
-      by_external : (e : Option External) → WordFits e None args → whole s names (answer_expr e (tracked env root args)) (Int 64) ≡ 0
-      by_external None k = zero-mod (2 ^ 64)
-      by_external (Some (Word f n)) k = absurd k.1
-      by_external (Some e) k = zero-mod (2 ^ 64)
-  mask_value env values root (op.Gep t a is) k w h = (address_value env values a is root h).raw
-  mask_value env values root (op.Binary binary.Shl f t a b) k w h = absurd k
-  mask_value env values root (op.Binary binary.Lshr f t a b) k w h = absurd k
-  mask_value env values root (op.Binary binary.Ashr f t a b) k w h = absurd k
-  mask_value env values root _ k w h = absurd k
+      by_external : (e : Option External) → WordFits e None args → external_move e ≡ None → whole s names (answer_expr e (tracked env root args)) (Int 64) ≡ 0
+      by_external None k e = zero-mod (2 ^ 64)
+      by_external (Some (Word f n)) k e = absurd k.1
+      by_external (Some e) k z = zero-mod (2 ^ 64)
+  mask_value env values root (op.Gep t a is) k n w h = (address_value env values a is root h).raw
+  mask_value env values root (op.Binary binary.Shl f t a b) k n w h = absurd k
+  mask_value env values root (op.Binary binary.Lshr f t a b) k n w h = absurd k
+  mask_value env values root (op.Binary binary.Ashr f t a b) k n w h = absurd k
+  mask_value env values root _ k n w h = absurd k
 
 -- ---- masks that are 0
 

@@ -6,7 +6,8 @@ use Rattle.ms_bits.specs.declared.operations.CastOp.{CastOp}
 use Rattle.ms_bits.specs.declared.operations.Pred.{Pred}
 use Rattle.ms_bits.specs.declared.word_functions.WordFn.{WordFn}
 use Rattle.ms_bits.specs.declared.word_functions.WordFn.TheVariants as word
-use Rattle.ms_bits.specs.WordFunctions.{places}
+use Rattle.ms_bits.specs.declared.word_functions.BitMove.{BitMove}
+use Rattle.ms_bits.specs.WordFunctions.{places, move_fn, move_width}
 use Rattle.ms_bits.specs.WordFunctions.{bits_of as width_bits}
 use Rattle.ms_ir.specs.declared.calls.External.{External}
 use Rattle.ms_ir.specs.declared.calls.External.TheVariants as external
@@ -19,7 +20,7 @@ use Rattle.ms_bits.specs.declared.operations.BinOp.TheVariants as binary
 use Rattle.ms_bits.specs.declared.operations.CastOp.TheVariants as cast
 use Rattle.ms_bits.specs.declared.operations.Pred.TheVariants as pred
 use Rattle.ms_tasks.specs.Tasks.{Expr, And, Or, Xor, Sub, Two, Turn, Test, Pick}
-use Rattle.ms_tasks.specs.Environments.{mask_type, Tracked, tracked_at, mask_of, origin_of, word_of, widened, extended_mask, joined, unknown, number, is_set, bits_of}
+use Rattle.ms_tasks.specs.Environments.{mask_type, Tracked, tracked_at, mask_of, origin_of, word_of, widened, is_zero, extended_mask, joined, unknown, number, is_set, bits_of}
 
 -- ---- masks: v and u are the words of two operands and m and k their masks
 
@@ -151,25 +152,35 @@ abs_expr w v m =
     Pick (Test pred.Uge (Int w) m (number (2 ^ (w - 1)))) (Int w) (carry_expr (Int w) (greatest_expr w v m))
     (Pick (Test pred.Uge (Int w) v (number (2 ^ (w - 1)))) (Int w) (carry_expr (Int w) m) m)
 
--- the mask of what a function of whole words answers, of operands a, b and c
+-- the mask of what a function of whole words answers, of operands a, b and c; where it moves bits alone, it gives the mask
+-- itself
 abbrev pub word_expr : WordFn → ℕ → (a b c : Tracked) → Expr
 word_expr word.Ctpop w a b c = ctpop_expr w (mask_of a)
 word_expr word.Ctlz w a b c = ctlz_expr w (word_of a) (mask_of a)
 word_expr word.Cttz w a b c = cttz_expr w (word_of a) (mask_of a)
-word_expr word.Bswap w a b c = whole_expr w (mask_of a)
-word_expr word.Bitreverse w a b c = whole_expr w (mask_of a)
 word_expr word.Abs w a b c = abs_expr w (word_of a) (mask_of a)
 word_expr word.Smax w a b c = greater_expr w (turned_expr w (word_of a)) (mask_of a) (turned_expr w (word_of b)) (mask_of b)
 word_expr word.Smin w a b c = smaller_expr w (turned_expr w (word_of a)) (mask_of a) (turned_expr w (word_of b)) (mask_of b)
 word_expr word.Umax w a b c = greater_expr w (word_of a) (mask_of a) (word_of b) (mask_of b)
 word_expr word.Umin w a b c = smaller_expr w (word_of a) (mask_of a) (word_of b) (mask_of b)
-word_expr word.Fshl w a b c = whole_expr w (union_expr (Int w) (union_expr (Int w) (mask_of a) (mask_of b)) (mask_of c))
-word_expr word.Fshr w a b c = whole_expr w (union_expr (Int w) (union_expr (Int w) (mask_of a) (mask_of b)) (mask_of c))
 word_expr word.UaddSat w a b c = whole_expr w (union_expr (Int w) (mask_of a) (mask_of b))
 word_expr word.UsubSat w a b c = whole_expr w (union_expr (Int w) (mask_of a) (mask_of b))
 word_expr word.SaddSat w a b c = whole_expr w (union_expr (Int w) (mask_of a) (mask_of b))
 word_expr word.SsubSat w a b c = whole_expr w (union_expr (Int w) (mask_of a) (mask_of b))
-word_expr word.Expect w a b c = mask_of a
+word_expr f w a b c = mask_of a
+
+-- a mask, or every bit where an amount isn't known
+abbrev pub known_expr : ℕ → (amount : Tracked) → (m : Expr) → Expr
+known_expr w amount m = if is_zero amount.mask then m else Pick (is_set (Int w) (mask_of amount)) (Int w) (number (2 ^ w - 1)) m
+
+-- what a function that moves bits takes to give its mask: masks in place of words, with the amount as it is
+abbrev pub moved_args : WordFn → ℕ → (a b c : Tracked) → List (Ty × Expr)
+moved_args word.Fshl w a b c = (Int w, known_expr w c (mask_of a)) ∷ (Int w, known_expr w c (mask_of b)) ∷ (Int w, word_of c) ∷ []
+moved_args word.Fshr w a b c = (Int w, known_expr w c (mask_of a)) ∷ (Int w, known_expr w c (mask_of b)) ∷ (Int w, word_of c) ∷ []
+moved_args f w a b c = (Int w, mask_of a) ∷ []
+
+abbrev pub move_args : BitMove → List Tracked → List (Ty × Expr)
+move_args k ts = moved_args (move_fn k) (width_bits (move_width k)) (tracked_at 0 ts) (tracked_at 1 ts) (tracked_at 2 ts)
 
 -- the mask of what an external answers
 abbrev pub answer_expr : Option External → List Tracked → Expr

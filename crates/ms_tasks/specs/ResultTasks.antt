@@ -1,6 +1,11 @@
 -- What defines the mask and the origin of a result.
 use Rattle.std.specs.Prelude.{ℕ, ◌-◌, ◌^◌, List, [], ◌∷◌, if◌then◌else◌, Option, Some, None, Bool, is_some}
 use Rattle.ms_bits.specs.declared.operations.BinOp.{BinOp}
+use Rattle.ms_bits.specs.declared.word_functions.BitMove.{BitMove}
+use Rattle.ms_bits.specs.WordFunctions.{move_of}
+use Rattle.ms_ir.specs.declared.calls.External.{External}
+use Rattle.ms_ir.specs.declared.calls.External.TheVariants as external
+use Rattle.ms_ir.specs.Names.{lookup, externals}
 use Rattle.ms_ir.specs.declared.syntax.Name.{Name}
 use Rattle.ms_ir.specs.declared.syntax.Ty.{Int, Ptr}
 use Rattle.ms_ir.specs.declared.syntax.Operand.TheVariants as operand
@@ -13,7 +18,7 @@ use Rattle.ms_bits.specs.declared.operations.CastOp.TheVariants as cast
 use Rattle.ms_ir.specs.declared.calls.RuntimeFn.TheVariants as function
 use Rattle.ms_tasks.specs.Tasks.{mask_name, origin_name, Expr, Task, Xor, Leaf, Two, Turn, Pick, Sets, Tries, Fetches, Calls}
 use Rattle.ms_tasks.specs.Environments.{Env, mask_type, Tracked, tracked_at, mask_of, word_of, widened, number, is_set}
-use Rattle.ms_tasks.specs.ResultMasks.{mask_expr, origin_expr}
+use Rattle.ms_tasks.specs.ResultMasks.{mask_expr, origin_expr, move_args}
 
 -- the width of a result
 abbrev pub result_width : Op → ℕ
@@ -47,10 +52,25 @@ binary_tasks mask origin _ o w ts = word_tasks mask origin o ts
 abbrev pub shadow_address : Expr → Expr
 shadow_address a = Turn cast.IntToPtr (Int 64) (Two Xor (Int 64) (Turn cast.PtrToInt Ptr a (Int 64)) (number shadow_bits)) Ptr
 
+-- which function that moves bits alone an external is, if it is one
+abbrev pub external_move : Option External → Option BitMove
+external_move (Some (external.Word f n)) = move_of f n
+external_move e = None
+
+-- which of them an operation calls, if it does
+abbrev pub move_called : Op → Option BitMove
+move_called (op.Call ret callee args) = external_move (lookup externals callee)
+move_called o = None
+
+-- the origin and the mask of what an external answers; what moves bits alone gives the mask of what it gives
+abbrev pub answer_tasks : (mask origin : Name) → Option BitMove → Op → List Tracked → List Task
+answer_tasks mask origin (Some k) o ts = Sets origin (Int 32) (origin_expr o ts) ∷ Calls (Some mask) (function.Move k) (move_args k ts) ∷ []
+answer_tasks mask origin None o ts = word_tasks mask origin o ts
+
 -- what an external answers has a mask and an origin by its operands; a function of the module hands those of its result
 -- over itself
 abbrev pub called_tasks : Bool → ℕ → Op → List Tracked → List Task
-called_tasks own v o ts = if own then [] else word_tasks (mask_name v) (origin_name v) o ts
+called_tasks own v o ts = if own then [] else answer_tasks (mask_name v) (origin_name v) (move_called o) o ts
 
 -- the mask and the origin of the value with a number, which an instruction sets
 abbrev pub define_tasks : (Name → Option ℕ) → ℕ → Op → List Tracked → List Task

@@ -181,7 +181,7 @@ static BROKEN: [Case; 3] = [
 ];
 
 /// Of poisoned words, and of words of which enough is defined.
-static MASKS: [Case; 14] = [
+static MASKS: [Case; 17] = [
     Case(
         "check f",
         "define i32 @main() {\n  %1 = call i32 @llvm.ctpop.i32(i32 undef)\n  ret i32 %1\n}\ndeclare i32 @llvm.ctpop.i32(i32)\n",
@@ -221,8 +221,29 @@ static MASKS: [Case; 14] = [
         "check f",
         "define i32 @main() {\n  %1 = and i32 undef, 1\n  %2 = call i32 @llvm.bswap.i32(i32 %1)\n  ret i32 %2\n}\ndeclare i32 @llvm.bswap.i32(i32)\n",
         "",
-        "report 1: exit at site 3 in @main, part 0, bits 0xffffffff of i32\n  origin 1: undef at site 1 in @main\nend: reported\nreports: 1\nblind: 0\nverdict: poisoned\n",
+        "report 1: exit at site 3 in @main, part 0, bits 0x1000000 of i32\n  origin 1: undef at site 1 in @main\nend: reported\nreports: 1\nblind: 0\nverdict: poisoned\n",
         77,
+    ),
+    Case(
+        "check f",
+        "define i32 @main() {\n  %1 = and i8 undef, 1\n  %2 = call i8 @llvm.bitreverse.i8(i8 %1)\n  %3 = and i8 %2, 1\n  %4 = zext i8 %3 to i32\n  ret i32 %4\n}\ndeclare i8 @llvm.bitreverse.i8(i8)\n",
+        "",
+        "end: exit 0\nreports: 0\nblind: 0\nverdict: clean\n",
+        0,
+    ),
+    Case(
+        "check f",
+        "define i32 @main() {\n  %1 = and i8 undef, 1\n  %2 = call i8 @llvm.fshl.i8(i8 %1, i8 %1, i8 3)\n  %3 = zext i8 %2 to i32\n  ret i32 %3\n}\ndeclare i8 @llvm.fshl.i8(i8, i8, i8)\n",
+        "",
+        "report 1: exit at site 4 in @main, part 0, bits 0x8 of i32\n  origin 1: undef at site 1 in @main\nend: reported\nreports: 1\nblind: 0\nverdict: poisoned\n",
+        77,
+    ),
+    Case(
+        "check f",
+        "define i32 @main() {\n  %1 = and i8 undef, 1\n  %2 = call i8 @llvm.fshr.i8(i8 5, i8 %1, i8 1)\n  %3 = and i8 %2, 127\n  %4 = zext i8 %3 to i32\n  ret i32 %4\n}\ndeclare i8 @llvm.fshr.i8(i8, i8, i8)\n",
+        "",
+        "end: exit 0\nreports: 0\nblind: 0\nverdict: clean\n",
+        0,
     ),
     Case(
         "check f",
@@ -334,14 +355,14 @@ static THREE_MASKS: [Case; 17] = [
         "check --reports 4 f",
         "@f = constant [10 x i8] c\"%u %u %lu\\00\" define i32 @main() { %1 = and i16 undef, 1 %2 = call i16 @llvm.bswap.i16(i16 %1) %3 = zext i16 %2 to i32 %4 = and i32 undef, 0 %5 = call i32 @llvm.bswap.i32(i32 %4) %6 = and i64 undef, 4 %7 = call i64 @llvm.bswap.i64(i64 %6) %8 = call i32 (ptr, ...) @printf(ptr @f, i32 %3, i32 %5, i64 %7) ret i32 0 } declare i32 @printf(ptr, ...) declare i16 @llvm.bswap.i16(i16) declare i32 @llvm.bswap.i32(i32) declare i64 @llvm.bswap.i64(i64)",
         "256 0 288230376151711744",
-        "report 1: value at site 8 in @main, part 1, bits 0xffff of i32\n  origin 1: undef at site 1 in @main\nreport 2: value at site 8 in @main, part 3, bits 0xffffffffffffffff of i64\n  origin 3: undef at site 6 in @main\nend: exit 0\nreports: 2\nblind: 0\nverdict: poisoned\n",
+        "report 1: value at site 8 in @main, part 1, bits 0x100 of i32\n  origin 1: undef at site 1 in @main\nreport 2: value at site 8 in @main, part 3, bits 0x400000000000000 of i64\n  origin 3: undef at site 6 in @main\nend: exit 0\nreports: 2\nblind: 0\nverdict: poisoned\n",
         77,
     ),
     Case(
         "check --reports 4 f",
         "@f = constant [10 x i8] c\"%u %u %lu\\00\" define i32 @main() { %1 = and i8 undef, 1 %2 = call i8 @llvm.bitreverse.i8(i8 %1) %3 = zext i8 %2 to i32 %4 = and i16 undef, 0 %5 = call i16 @llvm.bitreverse.i16(i16 %4) %6 = zext i16 %5 to i32 %7 = and i64 undef, 4 %8 = call i64 @llvm.bitreverse.i64(i64 %7) %9 = call i32 (ptr, ...) @printf(ptr @f, i32 %3, i32 %6, i64 %8) ret i32 0 } declare i32 @printf(ptr, ...) declare i8 @llvm.bitreverse.i8(i8) declare i16 @llvm.bitreverse.i16(i16) declare i64 @llvm.bitreverse.i64(i64)",
         "128 0 2305843009213693952",
-        "report 1: value at site 9 in @main, part 1, bits 0xff of i32\n  origin 1: undef at site 1 in @main\nreport 2: value at site 9 in @main, part 3, bits 0xffffffffffffffff of i64\n  origin 3: undef at site 7 in @main\nend: exit 0\nreports: 2\nblind: 0\nverdict: poisoned\n",
+        "report 1: value at site 9 in @main, part 1, bits 0x80 of i32\n  origin 1: undef at site 1 in @main\nreport 2: value at site 9 in @main, part 3, bits 0x2000000000000000 of i64\n  origin 3: undef at site 7 in @main\nend: exit 0\nreports: 2\nblind: 0\nverdict: poisoned\n",
         77,
     ),
     Case(
@@ -383,14 +404,14 @@ static THREE_MASKS: [Case; 17] = [
         "check --reports 4 f",
         "@f = constant [10 x i8] c\"%u %u %lu\\00\" define i32 @main() { %1 = and i8 undef, 1 %2 = call i8 @llvm.fshl.i8(i8 %1, i8 0, i8 0) %3 = zext i8 %2 to i32 %4 = and i32 undef, 4 %5 = call i32 @llvm.fshl.i32(i32 0, i32 %4, i32 8) %6 = and i64 undef, 1 %7 = call i64 @llvm.fshl.i64(i64 3, i64 3, i64 %6) %8 = call i32 (ptr, ...) @printf(ptr @f, i32 %3, i32 %5, i64 %7) ret i32 0 } declare i32 @printf(ptr, ...) declare i8 @llvm.fshl.i8(i8, i8, i8) declare i32 @llvm.fshl.i32(i32, i32, i32) declare i64 @llvm.fshl.i64(i64, i64, i64)",
         "1 0 6",
-        "report 1: value at site 8 in @main, part 1, bits 0xff of i32\n  origin 1: undef at site 1 in @main\nreport 2: value at site 8 in @main, part 2, bits 0xffffffff of i32\n  origin 2: undef at site 4 in @main\nreport 3: value at site 8 in @main, part 3, bits 0xffffffffffffffff of i64\n  origin 3: undef at site 6 in @main\nend: exit 0\nreports: 3\nblind: 0\nverdict: poisoned\n",
+        "report 1: value at site 8 in @main, part 1, bits 0x1 of i32\n  origin 1: undef at site 1 in @main\nreport 2: value at site 8 in @main, part 3, bits 0xffffffffffffffff of i64\n  origin 3: undef at site 6 in @main\nend: exit 0\nreports: 2\nblind: 0\nverdict: poisoned\n",
         77,
     ),
     Case(
         "check --reports 4 f",
         "@f = constant [10 x i8] c\"%u %u %lu\\00\" define i32 @main() { %1 = and i16 undef, 1 %2 = call i16 @llvm.fshr.i16(i16 %1, i16 0, i16 0) %3 = zext i16 %2 to i32 %4 = and i32 undef, 4 %5 = call i32 @llvm.fshr.i32(i32 0, i32 %4, i32 1) %6 = and i64 undef, 1 %7 = call i64 @llvm.fshr.i64(i64 0, i64 0, i64 %6) %8 = call i32 (ptr, ...) @printf(ptr @f, i32 %3, i32 %5, i64 %7) ret i32 0 } declare i32 @printf(ptr, ...) declare i16 @llvm.fshr.i16(i16, i16, i16) declare i32 @llvm.fshr.i32(i32, i32, i32) declare i64 @llvm.fshr.i64(i64, i64, i64)",
         "0 2 0",
-        "report 1: value at site 8 in @main, part 1, bits 0xffff of i32\n  origin 1: undef at site 1 in @main\nreport 2: value at site 8 in @main, part 2, bits 0xffffffff of i32\n  origin 2: undef at site 4 in @main\nreport 3: value at site 8 in @main, part 3, bits 0xffffffffffffffff of i64\n  origin 3: undef at site 6 in @main\nend: exit 0\nreports: 3\nblind: 0\nverdict: poisoned\n",
+        "report 1: value at site 8 in @main, part 2, bits 0x2 of i32\n  origin 2: undef at site 4 in @main\nreport 2: value at site 8 in @main, part 3, bits 0xffffffffffffffff of i64\n  origin 3: undef at site 6 in @main\nend: exit 0\nreports: 2\nblind: 0\nverdict: poisoned\n",
         77,
     ),
     Case(

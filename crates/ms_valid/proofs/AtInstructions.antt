@@ -5,7 +5,7 @@ use Rattle.std.proofs.lemmas.List.Elements.{All-nil, All-cons}
 use Rattle.ms_ir.specs.declared.syntax.Inst.{Inst}
 use Rattle.ms_ir.specs.declared.syntax.Func.{Func}
 use Rattle.ms_ir.specs.declared.syntax.Module.{Module}
-use Rattle.ms_ir.specs.Names.{is_reserved}
+use Rattle.ms_ir.specs.Names.{is_kept}
 use Rattle.ms_ir.specs.Code.{func_at, insts_at, site_at}
 use Rattle.ms_ir.specs.Written.{type_mentions, mentions}
 use Rattle.ms_ir.specs.Spots.{Spot, spot, found, found_at_insts}
@@ -71,7 +71,7 @@ fits_at m v n b p f inst at due = record {
     in_externals : flagged_callees m inst.op ≡ []
     in_externals =
         let look = λ (s : Spot) (i : Inst). flagged_callees m i.op in
-        let head = λ (g : Func). name_unless (not (is_reserved g.name)) g.name in
+        let head = λ (g : Func). name_unless (not (is_kept g.name)) g.name in
         let globals = flat_map (λ g. name_unless (global_fits g) g.name) m.globals in
         let decls = flat_map (λ d. name_unless (decl_fits (called_names m) d) d.name) m.decls in
         let later = (both_empty globals (decls ++ found head look m) v.externals_fit).1 in

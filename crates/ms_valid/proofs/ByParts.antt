@@ -7,7 +7,7 @@ use Rattle.ms_ir.specs.declared.syntax.Name.{Name}
 use Rattle.ms_ir.specs.declared.syntax.Inst.{Inst}
 use Rattle.ms_ir.specs.declared.syntax.Func.{Func}
 use Rattle.ms_ir.specs.declared.syntax.Module.{Module}
-use Rattle.ms_ir.specs.Names.{is_reserved}
+use Rattle.ms_ir.specs.Names.{is_kept}
 use Rattle.ms_ir.specs.Code.{func_at}
 use Rattle.ms_ir.specs.Written.{type_mentions, mentions}
 use Rattle.ms_ir.specs.Spots.{Spot, found, found_at_insts}
@@ -57,7 +57,7 @@ valid_by_parts m out within = record {
   phis_fit = nothing (λ f. []) (λ at inst. if edges_fit at inst.op then [] else at.site ∷ []) m (λ n f at. refl) (λ at inst h. not_named _ at.site h.phis_fit) within;
   has_main = out.has_main;
   externals_fit = empty_both _ _ out.globals_fit (empty_both _ _ out.declarations_fit
-      (nothing (λ f. name_unless (not (is_reserved f.name)) f.name) (λ at inst. flagged_callees m inst.op) m
+      (nothing (λ f. name_unless (not (is_kept f.name)) f.name) (λ at inst. flagged_callees m inst.op) m
       (λ n f at. reserves_nothing _ f.name (out.functions_fit n f at)) (λ at inst h. h.externals_fit) within));
   uses_defined = from_module (λ at inst. inst_uses at inst.op) (All IsUseDefined) (All-nil IsUseDefined) (λ xs ys h k. All-append IsUseDefined xs ys h k) (λ f. []) m
       (λ n f at. All-nil IsUseDefined) (λ n b p f inst at due. (within n b p f inst at due).uses_defined);
@@ -85,7 +85,7 @@ fits_outside m v = record {
     looks_at_types = λ at inst. at_site at.site (op_fault m at.func (λ o. operand_fits m (value_type at.func) o.0 o.1) inst.op)
 
     head : Func → List Name
-    head = λ f. name_unless (not (is_reserved f.name)) f.name
+    head = λ f. name_unless (not (is_kept f.name)) f.name
 
     names : (unknown_of m [] 0 (flat_map (λ t. type_mentions t.1) m.types) ≡ [])
         × ((unknown_of m [] 0 (flat_map global_mentions m.globals) ++ found_at_insts looks_at_names m) ≡ [])

@@ -16,7 +16,7 @@ use Rattle.ms_ir.specs.declared.syntax.GlobalVar.{GlobalVar}
 use Rattle.ms_ir.specs.declared.syntax.Module.{Module}
 use Rattle.ms_ir.specs.declared.calls.External.{External}
 use Rattle.ms_ir.specs.declared.calls.External.TheVariants as external
-use Rattle.ms_ir.specs.Names.{name_eq, lookup, externals, runtime_functions, is_reserved}
+use Rattle.ms_ir.specs.Names.{name_eq, lookup, externals, runtime_functions, is_reserved, is_kept}
 use Rattle.ms_ir.specs.Code.{func_index, external_named}
 use Rattle.ms_ir.specs.Equal.{has_name, type_eq}
 use Rattle.ms_ir.specs.Locals.{func_insts}
@@ -102,4 +102,4 @@ abbrev pub bad_externals : Module → List Name
 bad_externals m =
     flat_map (λ g. name_unless (global_fits g) g.name) m.globals
     ++ (flat_map (λ d. name_unless (decl_fits (called_names m) d) d.name) m.decls
-    ++ found (λ f. name_unless (not (is_reserved f.name)) f.name) (λ at inst. flagged_callees m inst.op) m)
+    ++ found (λ f. name_unless (not (is_kept f.name)) f.name) (λ at inst. flagged_callees m inst.op) m)

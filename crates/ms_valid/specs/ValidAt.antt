@@ -3,7 +3,7 @@ use Rattle.std.specs.Prelude.{◌≡◌, ℕ, [], flat_map, All, IsTrue, IsFalse
 use Rattle.ms_ir.specs.declared.syntax.Inst.{Inst}
 use Rattle.ms_ir.specs.declared.syntax.Func.{Func}
 use Rattle.ms_ir.specs.declared.syntax.Module.{Module}
-use Rattle.ms_ir.specs.Names.{is_reserved}
+use Rattle.ms_ir.specs.Names.{is_kept}
 use Rattle.ms_ir.specs.Code.{func_at, insts_at, site_at}
 use Rattle.ms_ir.specs.Written.{type_mentions, mentions}
 use Rattle.ms_ir.specs.Spots.{Spot, spot}
@@ -36,7 +36,7 @@ pub record FitsOutside (m : Module) : Type 0 where
   pub has_main : IsTrue (defines_main m)
   pub globals_fit : flat_map (λ g. name_unless (global_fits g) g.name) m.globals ≡ []
   pub declarations_fit : flat_map (λ d. name_unless (decl_fits (called_names m) d) d.name) m.decls ≡ []
-  pub functions_fit : (n : ℕ) (f : Func) → func_at m n ≡ Some f → IsFalse (is_reserved f.name)
+  pub functions_fit : (n : ℕ) (f : Func) → func_at m n ≡ Some f → IsFalse (is_kept f.name)
   pub sizes_fit : unsized m ≡ []
 
 -- each instruction breaks none

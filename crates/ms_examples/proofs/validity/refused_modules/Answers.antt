@@ -2,6 +2,7 @@ use Rattle.std.proofs.Common.{refl, [], ◌∷◌, rules, arith, take}
 use Rattle.std.specs.Prelude.{slice_index_or}
 use Rattle.ms_ir.specs.declared.syntax.Name.TheVariants.{Number}
 use Rattle.ms_ir.specs.declared.syntax.Func.{Func}
+use Rattle.ms_ir.specs.Names.{is_kept, bit_moves}
 use Rattle.ms_ir.specs.ExampleParts.{main_func}
 use Rattle.ms_valid.specs.Paths.{ValueUse}
 use Rattle.ms_valid.specs.UsesDefined.{uses}
@@ -11,6 +12,7 @@ use Rattle.ms_valid.proofs.TestedPaths.{tested_uses, all_passed, not_passed}
 use Rattle.ms_examples.proofs.validity.refused_modules.Goals as goal
 
 pub returns-clause-undefined_on_a_path : goal.returns-clause-undefined_on_a_path
+unfolding is_kept bit_moves
 returns-clause-undefined_on_a_path c = (
   (((((refl, refl), refl), refl), refl), refl),
   record {
@@ -38,5 +40,5 @@ returns-clause-undefined_on_a_path c = (
     last = record { block = 2; place = 0; name = Number 4 }
 
 pub returns-clause-large_global : goal.returns-clause-large_global
-unfolding hidden-the_row-Ty-0 shape-the_row-Ty-0 denote.Hole.Carrier.hidden
+unfolding is_kept bit_moves hidden-the_row-Ty-0 shape-the_row-Ty-0 denote.Hole.Carrier.hidden
 returns-clause-large_global c = ((((((((refl, refl), refl), refl), refl), refl), tested_uses large_global refl), refl), refl)

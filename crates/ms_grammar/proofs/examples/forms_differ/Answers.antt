@@ -1,4 +1,5 @@
 use Rattle.std.proofs.Common.{refl}
+use Rattle.ms_ir.specs.Names.{bit_moves}
 use Rattle.ms_grammar.specs.Pieces.{pieces}
 use Rattle.ms_grammar.proofs.examples.forms_differ.Goals as goal
 
@@ -27,7 +28,7 @@ unfolding pieces
 returns-clause-runtime_function_in_plain c = refl
 
 pub returns-clause-global_that_is_none : goal.returns-clause-global_that_is_none
-unfolding pieces
+unfolding pieces bit_moves
 returns-clause-global_that_is_none c = refl
 
 pub returns-clause-local_that_is_none : goal.returns-clause-local_that_is_none

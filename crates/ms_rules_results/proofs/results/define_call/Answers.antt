@@ -5,10 +5,11 @@ use Rattle.ms_ir.specs.Names.{externals, lookup}
 use Rattle.ms_ir.specs.declared.syntax.Op.TheVariants as operation
 use Rattle.ms_tasks.specs.Tasks.{Task}
 use Rattle.ms_tasks.specs.ResultMasks.{answer_expr, answer_origin_expr}
-use Rattle.ms_tasks.specs.ResultTasks.{called_tasks}
+use Rattle.ms_tasks.specs.ResultTasks.{external_move, called_tasks}
 use Rattle.ms_rules_code.specs.Made.{with_tasks}
 use Rattle.ms_rules_code.specs.Steps.{tracked_of}
-use Rattle.ms_rules_results.specs.Rules.{defined}
+use Rattle.ms_rules_results.specs.Rules.{answered}
+use Rattle.ms_rules_results.proofs.Moves.{answer_is}
 use Rattle.ms_rules_results.proofs.Tasks.{no_tasks}
 use Rattle.ms_rules_results.proofs.results.define_call.Goals as goal
 
@@ -20,9 +21,10 @@ pub returns : goal.returns
 returns c = λ args.
     let r = c.define_answer in let v = c.args.value in let callee = c.args.callee.now in
     let ts = map tracked_of c.args.operands.now in
-    let width = c.result_width.result in
+    let o = operation.Call c.args.ret.now callee args in
     subst (λ (l : List Task). OnOk r.result (r.new.code ≡ with_tasks c.args.code.now l))
-    (ap (λ (e : Option External). defined v width (answer_origin_expr e ts) (answer_expr e ts)) c.named.ensures
-    ∙ ap (λ (w : ℕ). defined v w (answer_origin_expr (lookup externals callee) ts) (answer_expr (lookup externals callee) ts)) (c.result_width.ensures callee args)
-    ∙ ap (λ own. called_tasks own v (operation.Call c.args.ret.now callee args) ts) (sym c.if-own.false))
+    (ap (λ (e : Option External). answered v c.result_width.result (external_move e) (answer_origin_expr e ts) (answer_expr e ts) ts) c.named.ensures
+    ∙ ap (λ (w : ℕ). answered v w (external_move (lookup externals callee)) (answer_origin_expr (lookup externals callee) ts) (answer_expr (lookup externals callee) ts) ts) (c.result_width.ensures callee args)
+    ∙ answer_is v (external_move (lookup externals callee)) o ts
+    ∙ ap (λ own. called_tasks own v o ts) (sym c.if-own.false))
     r.ensures

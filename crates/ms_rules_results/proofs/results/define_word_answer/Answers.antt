@@ -1,17 +1,15 @@
-use Rattle.std.proofs.Common.{◌≡◌, ℕ, [], ◌∷◌, map, ap, ◌∙◌, subst, OnOk}
-use Rattle.ms_bits.specs.WordFunctions.{bits_of}
+use Rattle.std.proofs.Common.{◌≡◌, ◌∙◌, map, sym, subst, OnOk, Option}
+use Rattle.ms_bits.specs.declared.word_functions.BitMove.{BitMove}
+use Rattle.ms_bits.specs.WordFunctions.{bits_of as width_bits, move_of}
 use Rattle.ms_tasks.specs.Environments.{tracked_at}
 use Rattle.ms_tasks.specs.ResultMasks.{word_expr, first_last}
 use Rattle.ms_rules_code.specs.Made.{with_tasks}
-use Rattle.ms_rules_code.specs.Steps.{Inputs, tracked_of, words}
-use Rattle.ms_rules_results.specs.Rules.{defined, on_width}
+use Rattle.ms_rules_code.specs.Steps.{tracked_of}
+use Rattle.ms_rules_results.specs.Rules.{answered}
 use Rattle.ms_rules_results.proofs.results.define_word_answer.Goals as goal
 
-pub returns : goal.returns
-returns c =
-    let r = c.define_joined in let n = c.args.word_width in
-    let ts = map tracked_of c.args.operands.now in
-    let e = word_expr c.args.function (bits_of n) (tracked_at 0 ts) (tracked_at 1 ts) (tracked_at 2 ts) in
-    let i = c.new-inputs.ensures ∙ ap (λ (w : ℕ). on_width w ts) c.bits.ensures.value in
-    subst (λ (y : Inputs). OnOk r.result (r.new.code ≡ with_tasks c.args.code.now (defined c.args.value c.args.width (first_last y.operands) e))) i
-    (r.ensures e (ap (λ y. words y c.word_rule.result.now []) i ∙ c.word_rule.ensures.mask ts))
+pub returns-in-Some : goal.returns-in-Some
+returns-in-Some c =
+    let ts = map tracked_of c.args.operands.now in let f = c.args.function in let n = c.args.word_width in
+    subst (λ (k : Option BitMove). OnOk c.define_move.result (c.define_move.new.code ≡ with_tasks c.args.code.now (answered c.args.value c.args.width k (first_last ts) (word_expr f (width_bits n) (tracked_at 0 ts) (tracked_at 1 ts) (tracked_at 2 ts)) ts)))
+    (sym c.in-Some.is ∙ c.of.ensures) c.define_move.ensures

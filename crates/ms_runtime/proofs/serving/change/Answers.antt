@@ -1,6 +1,6 @@
-use Rattle.std.proofs.Common.{ℕ, Some, None, subst}
-use Rattle.ms_ir.specs.declared.calls.RuntimeFn.TheVariants.{LoadOrigin, Size}
-use Rattle.ms_runs.specs.World.{Does}
+use Rattle.std.proofs.Common.{ℕ, Some, None, sym, ap, subst}
+use Rattle.ms_ir.specs.declared.calls.RuntimeFn.TheVariants.{LoadOrigin, Size, Move}
+use Rattle.ms_runs.specs.World.{Gives, Does}
 use Rattle.ms_runs.specs.Origins.{count_blind}
 use Rattle.ms_runs.specs.Runtime.{runtime}
 use Rattle.ms_host.specs.declared.calls.Answer.TheVariants.{Resumed}
@@ -47,3 +47,8 @@ pub returns-in-Size-clause-served : goal.returns-in-Size-clause-served
 returns-in-Size-clause-served c = λ setting beside meant roots kept shows.
     from-kind (λ f. Served (runtime setting f c.args.args.now meant) (Resumed (Some c.size.result)) c.args.world.now c.args.depot.now c.args.told.now) c.in-Size.is
     ((beside, (kept, gives c.args.world.now beside meant (runtime setting Size c.args.args.now meant) c.size.result (c.size.ensures setting beside meant shows) shows)))
+
+pub returns-in-Move-clause-served : goal.returns-in-Move-clause-served
+returns-in-Move-clause-served c = λ setting beside meant roots kept shows.
+    from-kind (λ f. Served (runtime setting f c.args.args.now meant) (Resumed (Some c.moved.result)) c.args.world.now c.args.depot.now c.args.told.now) c.in-Move.is
+    ((beside, (kept, gives c.args.world.now beside meant (runtime setting (Move c.in-Move.kind) c.args.args.now meant) c.moved.result (ap (λ (v : ℕ). Gives v meant) (sym c.moved.ensures)) shows)))

@@ -1,5 +1,6 @@
 use Rattle.std.proofs.Common.{refl, arith, leb-true, length}
 use Rattle.ms_ir.specs.declared.forms.Form.TheVariants.{Instrumented}
+use Rattle.ms_ir.specs.Names.{bit_moves}
 use Rattle.ms_grammar.specs.Pieces.{pieces}
 use Rattle.ms_grammar.specs.Texts.{max_bytes, max_tokens}
 use Rattle.ms_written.specs.Layout.{layout}
@@ -18,7 +19,7 @@ unfolding hidden-the_row-Ty-0 shape-the_row-Ty-0 hidden-the_row-Ty-1 shape-the_r
 returns-clause-many_parts c = record { types = refl; globals = refl; declarations = refl; functions = refl; few_globals = omega arith; few_operands = omega arith }
 
 pub returns-clause-marked_parts : goal.returns-clause-marked_parts
-unfolding hidden-the_row-Ty-0 shape-the_row-Ty-0 hidden-the_row-Ty-1 shape-the_row-Ty-1 hidden-the_row-Init-Array-0-2-0 shape-the_row-Init-Array-0-2-0 denote.Hole.Carrier.hidden
+unfolding bit_moves hidden-the_row-Ty-0 shape-the_row-Ty-0 hidden-the_row-Ty-1 shape-the_row-Ty-1 hidden-the_row-Init-Array-0-2-0 shape-the_row-Init-Array-0-2-0 denote.Hole.Carrier.hidden
 returns-clause-marked_parts c = record { types = refl; globals = refl; declarations = refl; functions = refl; few_globals = omega arith; few_operands = omega arith }
 
 pub returns-clause-odd_names_fit : goal.returns-clause-odd_names_fit

@@ -1,6 +1,7 @@
 use Rattle.std.proofs.Common.{refl}
 use Rattle.ms_ir.specs.declared.syntax.Init.TheBlock.{hidden-the_row-Init-Array-0-2-0, shape-the_row-Init-Array-0-2-0}
 use Rattle.ms_ir.specs.declared.syntax.Ty.TheBlock.{hidden-the_row-Ty-0, hidden-the_row-Ty-1, shape-the_row-Ty-0}
+use Rattle.ms_ir.specs.Names.{bit_moves}
 use Rattle.ms_grammar.specs.Pieces.{pieces}
 use Rattle.ms_written.specs.Layout.{layout}
 use Rattle.ms_written.proofs.examples.examples_are_read_back.Goals as goal
@@ -114,5 +115,5 @@ unfolding pieces layout hidden-the_row-Ty-0 hidden-the_row-Ty-1 shape-the_row-Ty
 returns-clause-branch_on_unset_checked c = refl
 
 pub returns-clause-nested_call_checked : goal.returns-clause-nested_call_checked
-unfolding pieces layout hidden-the_row-Ty-0 hidden-the_row-Ty-1 shape-the_row-Ty-0 hidden-the_row-Init-Array-0-2-0 shape-the_row-Init-Array-0-2-0 denote.Hole.Carrier.hidden
+unfolding pieces layout hidden-the_row-Ty-0 hidden-the_row-Ty-1 shape-the_row-Ty-0 hidden-the_row-Init-Array-0-2-0 shape-the_row-Init-Array-0-2-0 denote.Hole.Carrier.hidden bit_moves
 returns-clause-nested_call_checked c = refl

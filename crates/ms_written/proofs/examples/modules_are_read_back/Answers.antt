@@ -1,6 +1,7 @@
 use Rattle.std.proofs.Common.{refl}
 use Rattle.ms_ir.specs.declared.syntax.Init.TheBlock.{hidden-the_row-Init-Array-0-2-0, shape-the_row-Init-Array-0-2-0}
 use Rattle.ms_ir.specs.declared.syntax.Ty.TheBlock.{hidden-the_row-Ty-0, hidden-the_row-Ty-1, shape-the_row-Ty-0}
+use Rattle.ms_ir.specs.Names.{bit_moves}
 use Rattle.ms_grammar.specs.Pieces.{pieces}
 use Rattle.ms_written.specs.Layout.{layout}
 use Rattle.ms_written.proofs.examples.modules_are_read_back.Goals as goal
@@ -14,5 +15,5 @@ unfolding pieces layout hidden-the_row-Ty-0 hidden-the_row-Ty-1 shape-the_row-Ty
 returns-clause-many_parts c = refl
 
 pub returns-clause-marked_parts : goal.returns-clause-marked_parts
-unfolding pieces layout hidden-the_row-Ty-0 hidden-the_row-Ty-1 shape-the_row-Ty-0 hidden-the_row-Init-Array-0-2-0 shape-the_row-Init-Array-0-2-0 denote.Hole.Carrier.hidden
+unfolding pieces layout hidden-the_row-Ty-0 hidden-the_row-Ty-1 shape-the_row-Ty-0 hidden-the_row-Init-Array-0-2-0 shape-the_row-Init-Array-0-2-0 denote.Hole.Carrier.hidden bit_moves
 returns-clause-marked_parts c = refl
