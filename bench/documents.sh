@@ -239,6 +239,8 @@ WORDS = {
     "check --steps": ("words: MissingValue at 2", 2),
     "check": ("words: MissingFile at 1", 2),
     "corpus f": ("words: MissingFile at 2", 2),
+    "explain --reports 2 f": ("words: UnknownOption at 1", 2),
+    "explain nowhere.ll": ("file fault: nowhere.ll", 6),
     "gen --seed 1": ("words: MissingOption at 3", 2),
     "check --steps 01 f": ("words: BadNumber at 2", 2),
     "check --fill a f": ("words: BadHex at 2", 2),

@@ -13,6 +13,7 @@ use crate::words::Word;
 /// # Errors
 ///
 /// `Samesign` where the flag is there and the sign bits differ.
+#[inline(always)]
 #[tactic(auto, unfolding(crate::specs::Conversions::compare_of))]
 pub fn compare(pred: Pred, flags: Flags, a: Word, b: Word) -> Result<bool, Trap>
     requires same_width { a.width ≡ b.width }
@@ -24,6 +25,7 @@ pub fn compare(pred: Pred, flags: Flags, a: Word, b: Word) -> Result<bool, Trap>
     Ok(is_true_of(pred, a, b))
 }
 
+#[inline(always)]
 #[tactic(auto, unfolding(crate::specs::Conversions::holds))]
 fn is_true_of(pred: Pred, a: Word, b: Word) -> bool
     requires same_width { a.width ≡ b.width }

@@ -18,6 +18,7 @@ use crate::words::{Word, limit};
 /// - `Nuw`: `trunc` with the flag drops a 1 bit;
 /// - `Nsw`: `trunc` with the flag, and its sign-extended result isn't the operand;
 /// - `Nneg`: `zext` with the flag of a word whose sign bit is 1.
+#[inline(always)]
 #[tactic(auto, unfolding(crate::specs::Conversions::cast_of))]
 pub fn cast(op: CastOp, flags: Flags, a: Word, to: u8) -> Result<Word, Trap>
     requires allowed { Allows op a.width to }

@@ -9,6 +9,8 @@ use Rattle.ms_bits.proofs.operations.Flags.TheSendSync as flags
 use Rattle.ms_ir.proofs.calls.External.TheSendSync as externals
 use Rattle.ms_ir.proofs.calls.RuntimeFn.TheSendSync as functions
 use Rattle.ms_ir.proofs.Crosses.{List-send, List-sync, Module-send, Module-sync}
+use Rattle.ms_code_data.specs.contracts.short.Form as form
+use Rattle.ms_code_data.specs.contracts.short.Short as short
 use Rattle.ms_code_data.specs.contracts.code.Source as source
 use Rattle.ms_code_data.specs.contracts.code.Move as move
 use Rattle.ms_code_data.specs.contracts.code.Edge as edge
@@ -104,8 +106,14 @@ Site-send = declared_send site.the_type (search sendable, (search sendable, tt))
 pub Routine-send : IsSend routine.the_row
 Routine-send = declared_send routine.the_type (search sendable, (search sendable, (search sendable, tt)))
 
+pub Form-send : IsSend form.the_row
+Form-send = search (Crossing.crosses, sendable) depth 60 fits 20000
+
+pub Short-send : IsSend short.the_row
+Short-send = declared_send short.the_type (search sendable, (Form-send, tt))
+
 pub Program-send : IsSend program.the_row
-Program-send = declared_send program.the_type (List-send _ Code-send, (List-send _ Site-send, (List-send _ Routine-send, (search sendable, (search (List-send, sendable), tt)))))
+Program-send = declared_send program.the_type (List-send _ Code-send, (List-send _ Site-send, (List-send _ Routine-send, (search sendable, (search (List-send, sendable), (List-send _ Short-send, tt))))))
 
 pub Source-sync : IsSync source.the_row
 Source-sync = search (Crossing.crosses, sendable) depth 60 fits 20000
@@ -192,8 +200,14 @@ Site-sync = declared_sync site.the_type (search sendable, (search sendable, tt))
 pub Routine-sync : IsSync routine.the_row
 Routine-sync = declared_sync routine.the_type (search sendable, (search sendable, (search sendable, tt)))
 
+pub Form-sync : IsSync form.the_row
+Form-sync = search (Crossing.crosses, sendable) depth 60 fits 20000
+
+pub Short-sync : IsSync short.the_row
+Short-sync = declared_sync short.the_type (search sendable, (Form-sync, tt))
+
 pub Program-sync : IsSync program.the_row
-Program-sync = declared_sync program.the_type (List-sync _ Code-sync, (List-sync _ Site-sync, (List-sync _ Routine-sync, (search sendable, (search (List-sync, sendable), tt)))))
+Program-sync = declared_sync program.the_type (List-sync _ Code-sync, (List-sync _ Site-sync, (List-sync _ Routine-sync, (search sendable, (search (List-sync, sendable), (List-sync _ Short-sync, tt))))))
 
 pub CheckedModule-send : IsSend checked.the_row
 CheckedModule-send = view_send checked.TheInside.the_row _ _ _ _ (declared_send checked.TheInside.the_type (Module-send, (Program-send, tt)))

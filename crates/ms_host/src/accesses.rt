@@ -21,6 +21,7 @@ impl World {
     }
 
     /// The number that `n` bytes are, the least first; `None` where they aren't good.
+    #[inline(always)]
     pub fn load(&self, addr: u64, n: u8) -> Option<u64>
         requires { n ≤ 8 }
         ensures { (beside : Beside) (world : Meant) → Shows self.now beside world → MatchOption result (is_good world addr n ≡ false) (λ v. (is_good world addr n ≡ true) × (v ≡ number_at world.bytes addr n)) }
@@ -29,6 +30,7 @@ impl World {
     }
 
     /// Writes the `n` low bytes of `v`, the least first, and answers whether they are good; else nothing changes.
+    #[inline(always)]
     pub fn store(&mut self, addr: u64, n: u8, v: u64) -> bool
         requires { n ≤ 8 }
         ensures stored { (beside : Beside) (world : Meant) → Shows self.old beside world → MatchBool result ((is_good world addr n ≡ true) × Shows self.new beside (store_number addr n v world)) ((is_good world addr n ≡ false) × Shows self.new beside world) }

@@ -1,6 +1,6 @@
 //! The world of a run, and its allocations.
 ghost use Rattle.std.specs.Prelude.{◌≡◌, ◌≤◌, ◌<◌, ◌+◌, ◌^◌, [], ℕ, length, IfOk};
-ghost use Rattle.ms_alloc.specs.Allocations.{heap_size as block_size};
+ghost use Rattle.ms_alloc.specs.Allocations.{heap_size as block_size, IsLaidOut};
 ghost use Rattle.ms_runs.specs.World.{World as Meant};
 ghost use Rattle.ms_runs.specs.Memory.{heap_size, end_block, next_base};
 ghost use Rattle.ms_runs.specs.Control.{release};
@@ -67,6 +67,13 @@ impl World {
             fill,
             made: 0,
         })
+    }
+
+    /// A law: the allocations of each area stand one behind the other, within its limit.
+    pub fn is_laid_out(&self)
+        ensures { IsLaidOut self.now.planes.table }
+    {
+        self.planes.is_laid_out();
     }
 
     /// Makes an allocation of `size` uninitialised bytes, and answers its base. Linear in the size.

@@ -26,6 +26,7 @@ module _ (Is Is' : Fiber → WorldState → PlainState → Type 0) (same : (fibe
     waits = h.waits;
     counted = h.counted;
     further = h.further;
+    unmarked = h.unmarked;
   }
 
   pub if_advanced : {E : Type 0} (m : Module) (u : Setup) (beside : Beside) (state : PlainState) (left from : ℕ) (r : Result Pause E) (fiber : Fiber) (w : WorldState) (left' : ℕ)

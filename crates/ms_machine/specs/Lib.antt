@@ -1,1 +1,4 @@
 pub mod Running
+pub mod Searches
+pub mod Standing
+pub mod WordsNamed

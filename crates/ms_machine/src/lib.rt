@@ -1,11 +1,17 @@
-//! Runs of checked modules: the fiber and the world that a run starts with, and how they go on from pause to pause.
+//! Runs of checked modules: the fiber and the world that a run starts with, how they go on from pause to pause, and what a
+//! fiber shows at a pause.
 //!
 //! Each call says: where fiber and world before stand for a state of the plain run's definitions, fiber and world
 //! afterwards stand for what the definitions make of it.
 #![tactic(auto)]
 
+mod names;
+mod places;
 mod running;
+mod standing;
 mod starting;
+mod words;
 
 pub use running::{advance, resume};
+pub use standing::{frames, place, word};
 pub use starting::start;

@@ -195,6 +195,7 @@ impl Planes {
     }
 
     /// The number that `n` bytes are, the least first; `None` where they aren't good.
+    #[inline(always)]
     pub fn read(&self, addr: u64, n: u8) -> Option<u64>
         requires { n ≤ 8 }
         ensures { MatchOption result (is_good addr n self.now.table ≡ false) (λ v. (is_good addr n self.now.table ≡ true) × (v ≡ number_at (bytes_of self.now) addr n)) }
@@ -212,6 +213,7 @@ impl Planes {
     }
 
     /// Writes the `n` low bytes of `v`, the least first, and answers whether they are good; else nothing changes.
+    #[inline(always)]
     pub fn write(&mut self, addr: u64, n: u8, v: u64) -> bool
         requires { n ≤ 8 }
         ensures good { result ≡ is_good addr n self.old.table }

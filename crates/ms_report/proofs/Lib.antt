@@ -3,3 +3,4 @@ pub mod WithoutLines
 mod Singles
 mod Indents
 pub mod Unindented
+pub mod TrailLines

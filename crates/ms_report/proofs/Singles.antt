@@ -86,7 +86,7 @@ pub of_number : (n : ℕ) → Single (decimal n)
 unfolding digits
 of_number n = digits_single 10 64 n [] (literal _ refl)
 
-of_hexadecimal : (n : ℕ) → Single (hexadecimal n)
+pub of_hexadecimal : (n : ℕ) → Single (hexadecimal n)
 unfolding digits
 of_hexadecimal n = digits_single 16 64 n [] (literal _ refl)
 
@@ -126,7 +126,7 @@ of_quoted : (w : Text) → Single (quoted w)
 unfolding quoted
 of_quoted w = single_byte 34 _ refl (joined (of_string_bytes w) (literal (34 ∷ []) refl))
 
-of_name : (x : Name) → Single (name_text x)
+pub of_name : (x : Name) → Single (name_text x)
 unfolding name_text
 of_name (Number n) = of_number n
 of_name (Called w) = elim (is_plain w) as (λ t. is_plain w ≡ t → Single (if t then w else quoted w)) [
@@ -136,7 +136,7 @@ of_name (Called w) = elim (is_plain w) as (λ t. is_plain w ≡ t → Single (if
 
 -- ---- runs
 
-of_function : (f : Option Name) → Single (function_text f)
+pub of_function : (f : Option Name) → Single (function_text f)
 of_function None = literal _ refl
 of_function (Some x) = joined (literal (codes "@") refl) (of_name x)
 

@@ -4,3 +4,4 @@ pub mod FaultTexts
 pub mod RefusalTexts
 pub mod WordsTexts
 pub mod WithLines
+pub mod TrailTexts

@@ -6,7 +6,11 @@ ghost use Rattle.ms_places.specs.Indented.{IsIndented, unindented};
 ghost use Rattle.ms_report.specs.declared.refusals.Refusal.{Refusal};
 ghost use Rattle.ms_report.specs.RunTexts.{closing_of};
 ghost use Rattle.ms_report.specs.ReportTexts.{report_text_of};
+ghost use Rattle.ms_moves.specs.declared.moves.Source.{Source};
+ghost use Rattle.ms_moves.specs.declared.moves.Move.{Move};
+ghost use Rattle.ms_moves.specs.declared.moves.Hop.{Hop};
 ghost use Rattle.ms_report.specs.RefusalTexts.{refusal_text};
+ghost use Rattle.ms_report.specs.TrailTexts.{trail_with};
 ghost use Rattle.ms_report.specs.WithLines.{no_lines, reports_with, closing_text_with, refusal_text_with};
 
 /// Laws: where there are no lines under any site, each text with lines is the text without. Where the lines under each site
@@ -18,5 +22,6 @@ pub fn lines_are_added()
     ensures none_in_refusals { (cause : Refusal) → refusal_text_with no_lines cause ≡ refusal_text cause }
     ensures taken_out_of_reports { (under : ℕ → List ℕ) (m : Module) (r : RunResult) → ((site : ℕ) → IsIndented (under site)) → unindented (reports_with under m 1 r.reports) ≡ report_text_of m r }
     ensures taken_out_of_closings { (under : ℕ → List ℕ) (m : Module) (r : RunResult) (verdict : Bool) → ((site : ℕ) → IsIndented (under site)) → unindented (closing_text_with under m r verdict) ≡ closing_of m r verdict }
+    ensures taken_out_of_trails { (under : ℕ → List ℕ) (m : Module) (moves : List Move) (at : Source) (hops : List Hop) → ((site : ℕ) → IsIndented (under site)) → unindented (trail_with under m moves at hops) ≡ trail_with no_lines m moves at hops }
     ensures taken_out_of_refusals { (under : ℕ → List ℕ) (cause : Refusal) → ((site : ℕ) → IsIndented (under site)) → unindented (refusal_text_with under cause) ≡ refusal_text cause }
 {}

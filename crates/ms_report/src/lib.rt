@@ -1,4 +1,4 @@
-//! What is printed: the reports of a run and how it ended, and why a module or a command is refused. Every line ends with
+//! What is printed: the reports of a run, the way to one of them and how the run ended, and why a module or a command is refused. Every line ends with
 //! a newline.
 #![tactic(auto)]
 
@@ -10,6 +10,7 @@ mod refusals;
 mod reports;
 mod site_lines;
 mod sites;
+mod trails;
 mod words;
 
 pub use endings::{closing, closing_with};
@@ -17,4 +18,5 @@ pub use laws::lines_are_added;
 pub use refusals::{Refusal, refusal_line, refusal_line_with};
 pub use reports::{report_text, report_text_with};
 pub use site_lines::{NoLines, SiteLines};
+pub use trails::trail_text_with;
 pub use words::{WordsFault, words_line};

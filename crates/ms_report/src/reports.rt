@@ -15,7 +15,7 @@ use ms_write_values::push_number;
 use std::alloc::Global;
 
 /// Adds a number in lower-case hexadecimal digits.
-fn push_hexadecimal(alloc: Global, text: &mut Vec<u8>, number: u64) -> Result<(), NoMemory>
+pub fn push_hexadecimal(alloc: Global, text: &mut Vec<u8>, number: u64) -> Result<(), NoMemory>
     ensures { IfOk result (λ _. text.new.items ≡ text.old.items ++ hexadecimal number) }
 {
     let digits = format!(in alloc; "{number:x}")?;

@@ -38,6 +38,14 @@ fn push_function(text: &mut Vec<u8>, name: Option<&Name>) -> Result<(), NoMemory
     }
 }
 
+/// Adds the function that has a site.
+pub fn push_function_of(text: &mut Vec<u8>, m: &Module, site: u32) -> Result<(), NoMemory>
+    requires { HasSmallNumbers m.now }
+    ensures { IfOk result (λ _. text.new.items ≡ text.old.items ++ function_text (function_of m.now site)) }
+{
+    push_function(text, function_at(m, site))
+}
+
 /// Adds where a site is: its number, and the function that has it.
 pub fn push_site(text: &mut Vec<u8>, m: &Module, site: u32) -> Result<(), NoMemory>
     requires { HasSmallNumbers m.now }
@@ -46,5 +54,5 @@ pub fn push_site(text: &mut Vec<u8>, m: &Module, site: u32) -> Result<(), NoMemo
     text.extend_from_slice(b" at site ")?;
     push_number(text, site as u64)?;
     text.extend_from_slice(b" in ")?;
-    push_function(text, function_at(m, site))
+    push_function_of(text, m, site)
 }

@@ -1,11 +1,19 @@
 -- What is said with the lines under each site is what is said without them, once these lines are taken out.
-use Rattle.std.proofs.Common.{◌≡◌, inl, inr, ℕ, Bool, true, false, List, [], ◌++◌, map, Option, Some, None, Result, Ok, Err, refl, sym, ap, ◌∙◌, append-nil, subst}
+use Rattle.std.proofs.Common.{◌≡◌, inl, inr, ℕ, Bool, true, false, List, [], ◌++◌, length, map, eqb, if◌then◌else◌, Option, Some, None, Result, Ok, Err, refl, sym, ap, ◌∙◌, append-nil, subst}
 use Rattle.std.proofs.Math.Path.{ap₂}
 use Rattle.ms_ir.specs.declared.syntax.Module.{Module}
 use Rattle.ms_ir.specs.declared.forms.Form.{Form}
 use Rattle.ms_ir.specs.declared.forms.Form.TheVariants.{Plain}
 use Rattle.ms_runs.specs.declared.runs.RunResult.{RunResult}
+use Rattle.ms_runs.specs.declared.runs.Report.{Report}
+use Rattle.ms_runs.specs.declared.runs.Setup.{Setup}
 use Rattle.ms_runs.specs.Plain.{plain}
+use Rattle.ms_moves.specs.declared.moves.Source.{Source}
+use Rattle.ms_moves.specs.declared.moves.Move.{Move}
+use Rattle.ms_moves.specs.declared.moves.Hop.{Hop}
+use Rattle.ms_moves.specs.Scanned.{trail_of}
+use Rattle.ms_trail.specs.declared.found.Trace.{Trace}
+use Rattle.ms_trail.specs.declared.found.Trace.TheVariants.{NoReport, TooLong, Found}
 use Rattle.ms_read_body.specs.declared.errors.ReadError.{ReadError}
 use Rattle.ms_read_body.specs.declared.errors.ReadError.TheVariants as e
 use Rattle.ms_read_top.specs.Reading.{IsReading}
@@ -17,15 +25,17 @@ use Rattle.ms_report.specs.FaultTexts.{fault_text}
 use Rattle.ms_report.specs.RefusalTexts.{refusal_text}
 use Rattle.ms_report.specs.ReportTexts.{report_text_of}
 use Rattle.ms_report.specs.RunTexts.{closing_of}
-use Rattle.ms_report.specs.WithLines.{Lines, no_lines, fault_site, closing_text_with}
+use Rattle.ms_report.specs.WithLines.{Lines, no_lines, fault_site, reports_with, closing_text_with}
 use Rattle.ms_report.proofs.WithoutLines.{none_under, reports_alone, closing_alone}
 use Rattle.ms_report.proofs.Unindented.{reports_before, closing_left, fault_left, refusal_left}
+use Rattle.ms_report.proofs.TrailLines.{trail_left}
 use Rattle.ms_words.specs.declared.commands.Command.{Command}
-use Rattle.ms_words.specs.declared.commands.Command.TheVariants.{Run, Check, Corpus}
+use Rattle.ms_words.specs.declared.commands.Command.TheVariants.{Run, Check, Explain, Corpus}
 use Rattle.ms_words.specs.declared.commands.Options.{Options}
 use Rattle.ms_top.specs.declared.answers.Answer.{Answer}
-use Rattle.ms_top.specs.Added.{with_locations, without_lines, CorpusAdds}
+use Rattle.ms_top.specs.Added.{with_locations, without_lines, without_any_lines, CorpusAdds}
 use Rattle.ms_top.specs.Command.{form_of, located_file, only_input, setup_of}
+use Rattle.ms_top.specs.Explained.{way_with, trace_with, followed, no_report, explained_with}
 use Rattle.ms_top.specs.Lines.{AreLinesIn, AreLines, fault_text_with}
 use Rattle.ms_top.specs.Said.{answer_of, run_text, says, status_of, IsAnswerToModule, IsAnswerToReading, IsAnswerToText}
 
@@ -54,6 +64,25 @@ fault_alone f = ap (λ (lines : List ℕ). fault_text f ++ lines) (none_under (f
 run_left : (under : Lines) → ((site : ℕ) → IsIndented (under site)) → (verdict : Bool) (m : Module) (r : RunResult) → unindented (run_text under verdict m r) ≡ report_text_of m r ++ closing_of m r verdict
 run_left under all verdict m r =
     reports_before under all m 1 r.reports (closing_text_with under m r verdict) ∙ ap (λ (t : List ℕ). report_text_of m r ++ t) (closing_left under all m r verdict)
+
+module _ (under : Lines) (all : (site : ℕ) → IsIndented (under site)) (m : Module) where
+  way_left : (moves : List Move) (at : Source) (hops : Option (List Hop)) → unindented (way_with under m moves at hops) ≡ way_with no_lines m moves at hops
+  way_left moves at None = refl
+  way_left moves at (Some hops) = trail_left under all m moves at hops
+
+  trace_left : (t : Trace) → unindented (trace_with under m t) ≡ trace_with no_lines m t
+  trace_left NoReport = refl
+  trace_left (TooLong n) = refl
+  trace_left (Found moves at) = way_left moves at (trail_of moves at)
+
+  report_left : (rs : List Report) (t : Trace) (none : Bool) → unindented (if none then no_report else reports_with under m 1 rs ++ trace_with under m t)
+      ≡ (if none then no_report else reports_with no_lines m 1 rs ++ trace_with no_lines m t)
+  report_left rs t true = refl
+  report_left rs t false =
+      reports_before under all m 1 rs (trace_with under m t) ∙ ap₂ (λ (reports way : List ℕ). reports ++ way) (sym (reports_alone m 1 rs)) (trace_left t)
+
+  explained_left : (s : Setup) (r : RunResult) → unindented (explained_with under m s r) ≡ explained_with no_lines m s r
+  explained_left s r = report_left r.reports (followed m s) (eqb (length r.reports) 0)
 
 pub run_taken_out : (command : Command) (text : List ℕ) (m : Module) (under : Lines) (verdict : Bool) (r : RunResult) → AreLines command text m under
     → unindented (run_text under verdict m r) ≡ report_text_of m r ++ closing_of m r verdict
@@ -106,6 +135,31 @@ module _ (Gives : Module → Module → Type 0) where
     check_reading (Err (e.Refused number w token place)) a is = reading_said (e.Refused number w token place) a is
     check_reading (Err e.NoMemory) a is = is
 
+    explain_module : (m : Module) (under : Lines) (a : Answer) → AreLines (Explain file (with_locations true o)) text m under → IsAnswerToModule Gives under (Explain file (with_locations true o)) inputs m a
+        → IsAnswerToModule Gives no_lines (Explain file (with_locations false o)) inputs m (without_any_lines a)
+    explain_module m under a are (inl (f, refused, is)) =
+        inl (f, refused, ap (λ (x : Answer). record x { out = unindented x.out }) (fault_said (Explain file (with_locations true o)) text m under f a are is))
+    explain_module m under a are (inr (valid, (j, gives, is))) =
+        let s = setup_of o (only_input inputs) in
+        let r = plain j s in
+        let all = all_indented (located_file (Explain file (with_locations true o))) Plain text m under are in
+        inr (
+          valid,
+          (
+            j,
+            gives,
+            ap without_any_lines is
+                ∙ ap₂ (λ (out err : List ℕ). answer_of (status_of r) out err) (explained_left under all m s r) (closing_left under all m r true ∙ sym (closing_alone m r true)),
+          ),
+        )
+
+    explain_reading : (r : Result Module ReadError) (a : Answer) → IsAnswerToReading Gives (Explain file (with_locations true o)) inputs text r a
+        → IsAnswerToReading Gives (Explain file (with_locations false o)) inputs text r (without_any_lines a)
+    explain_reading (Ok m) a (under, are, is) = (no_lines, refl, explain_module m under a are is)
+    explain_reading (Err (e.Lex cause)) a is = ap (λ (x : Answer). record x { out = unindented x.out }) (reading_said (e.Lex cause) a is)
+    explain_reading (Err (e.Refused number w token place)) a is = ap (λ (x : Answer). record x { out = unindented x.out }) (reading_said (e.Refused number w token place) a is)
+    explain_reading (Err e.NoMemory) a is = is
+
   module _ (file : List ℕ) (names : List (List ℕ)) (o : Options) (workers : ℕ) (inputs : List (List ℕ)) (text : List ℕ) where
     corpus_module : (m : Module) (under : Lines) (a : Answer) → IsReading Plain text (Ok m) → AreLines (Corpus file names (with_locations true o) workers) text m under
         → IsAnswerToModule Gives under (Corpus file names (with_locations true o) workers) inputs m a → CorpusAdds Gives file names o workers inputs text a
@@ -129,6 +183,10 @@ run_added Gives file o inputs text a (r, reading, answers) = (r, reading, run_re
 pub check_added : (Gives : Module → Module → Type 0) (file : List ℕ) (o : Options) (inputs : List (List ℕ)) (text : List ℕ) (a : Answer)
     → IsAnswerToText Gives (Check file (with_locations true o)) inputs text a → IsAnswerToText Gives (Check file (with_locations false o)) inputs text (without_lines a)
 check_added Gives file o inputs text a (r, reading, answers) = (r, reading, check_reading Gives file o inputs text r a answers)
+
+pub explain_added : (Gives : Module → Module → Type 0) (file : List ℕ) (o : Options) (inputs : List (List ℕ)) (text : List ℕ) (a : Answer)
+    → IsAnswerToText Gives (Explain file (with_locations true o)) inputs text a → IsAnswerToText Gives (Explain file (with_locations false o)) inputs text (without_any_lines a)
+explain_added Gives file o inputs text a (r, reading, answers) = (r, reading, explain_reading Gives file o inputs text r a answers)
 
 pub corpus_added : (Gives : Module → Module → Type 0) (file : List ℕ) (names inputs : List (List ℕ)) (o : Options) (workers : ℕ) (text : List ℕ) (a : Answer)
     → IsAnswerToText Gives (Corpus file names (with_locations true o) workers) inputs text a → CorpusAdds Gives file names o workers inputs text a

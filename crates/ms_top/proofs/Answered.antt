@@ -18,7 +18,7 @@ use Rattle.ms_gen.specs.Generator.{generated}
 use Rattle.ms_valid.specs.Valid.{Valid}
 use Rattle.ms_valid.proofs.Refused.{invalid}
 use Rattle.ms_words.specs.declared.commands.Command.{Command}
-use Rattle.ms_words.specs.declared.commands.Command.TheVariants.{Instrument, Run, Check, Corpus, Gen, Help, Version}
+use Rattle.ms_words.specs.declared.commands.Command.TheVariants.{Instrument, Run, Check, Explain, Corpus, Gen, Help, Version}
 use Rattle.ms_words.specs.declared.commands.Options.{Options}
 use Rattle.ms_words.specs.Words.{command_of}
 use Rattle.ms_top.specs.declared.answers.Answer.{Answer}
@@ -109,6 +109,7 @@ pub valid_done : (under : Lines) (command : Command) (inputs : List (List ℕ)) 
 valid_done under (Instrument file) inputs m a (j, gives, is) = done a 0 _ _ is (inl refl)
 valid_done under (Run file o) inputs m a is = done a _ _ _ is (run_done _ _)
 valid_done under (Check file o) inputs m a (j, gives, is) = done a _ _ _ is (run_done _ _)
+valid_done under (Explain file o) inputs m a (j, gives, is) = done a _ _ _ is (run_done _ _)
 valid_done under (Corpus file names o workers) inputs m a (j, gives, is) = done a _ _ _ is (all_done _ _ _)
 valid_done under (Gen seed functions run) inputs m a is = gen_done run m a is
 valid_done under Help inputs m a is = done a 0 _ _ is (inl refl)

@@ -32,7 +32,7 @@ use Rattle.ms_text_laws.proofs.FormedModules.{read_formed}
 use Rattle.ms_text_laws.proofs.SmallLimits.{can_instrument}
 use Rattle.ms_top.specs.declared.answers.Answer.{Answer}
 use Rattle.ms_words.specs.declared.commands.Command.{Command}
-use Rattle.ms_words.specs.declared.commands.Command.TheVariants.{Instrument, Run, Check, Corpus, Gen, Help, Version}
+use Rattle.ms_words.specs.declared.commands.Command.TheVariants.{Instrument, Run, Check, Explain, Corpus, Gen, Help, Version}
 use Rattle.ms_words.specs.declared.commands.Options.{Options}
 use Rattle.ms_report.specs.declared.refusals.Refusal.TheVariants.{Read as Of, Check as OfCheck}
 use Rattle.ms_words.specs.Limits.{RunsWithinLimits}
@@ -139,6 +139,7 @@ pub ready : (command : Command) (form : Form) (text : List ℕ) (r : Result Modu
 ready (Instrument file) form text r m same read is = read_plain form text r m same read is
 ready (Run file o) form text r m same read is = tt
 ready (Check file o) form text r m same read is = read_plain form text r m same read is
+ready (Explain file o) form text r m same read is = read_plain form text r m same read is
 ready (Corpus file inputs o workers) form text r m same read is = read_plain form text r m same read is
 ready (Gen seed functions run) form text r m same read is = read_plain form text r m same read is
 ready Help form text r m same read is = read_plain form text r m same read is
@@ -215,6 +216,7 @@ unfolding max_bytes
 file_limit (Instrument file) n h = h
 file_limit (Run file o) n h = h
 file_limit (Check file o) n h = h
+file_limit (Explain file o) n h = h
 file_limit (Corpus file inputs o workers) n h = h
 file_limit (Gen seed functions run) n h = h
 file_limit Help n h = h

@@ -2,6 +2,7 @@ pub mod Added
 pub mod Answered
 pub mod Appending
 pub mod Answering
+pub mod Explaining
 pub mod Faithful
 pub mod Ok
 pub mod Placing

@@ -23,7 +23,7 @@ use Rattle.ms_source_map.specs.Lines.{lines_of_site}
 use Rattle.ms_report.specs.WithLines.{Lines}
 use Rattle.ms_top.specs.declared.answers.Answer.{Answer}
 use Rattle.ms_words.specs.declared.commands.Command.{Command}
-use Rattle.ms_words.specs.declared.commands.Command.TheVariants.{Instrument, Run, Check, Corpus, Gen, Help, Version}
+use Rattle.ms_words.specs.declared.commands.Command.TheVariants.{Instrument, Run, Check, Explain, Corpus, Gen, Help, Version}
 use Rattle.ms_words.specs.declared.commands.WordsError.{WordsError}
 use Rattle.ms_words.specs.Words.{command_of, defaults}
 use Rattle.ms_gen.specs.Generator.{generated}
@@ -31,7 +31,7 @@ use Rattle.ms_top.specs.Command.{form_of, files_of, located_file, only_input, se
 use Rattle.ms_top.specs.Files.{Counted, FilesRead, Whole, Fault, Long, behind, IsAtFault, IsLong, CanRead}
 use Rattle.ms_top.specs.Instrumented.{IsInstrumented}
 use Rattle.ms_top.specs.Lines.{AreLinesIn, AreLines, fault_text_with}
-use Rattle.ms_top.specs.Said.{answer_of, answer_of_result, answer_of_results, status_of, summary_of, says, DifferInPath, IsAnswerOfGen, IsAnswerWithoutFile, IsAnswerToValid, IsAnswerToModule, IsAnswerToReading, IsAnswerToText, IsAnswerToTexts, IsAnswerToFiles, IsAnswerToCommand, IsAnswerFor, IsAnswer}
+use Rattle.ms_top.specs.Said.{answer_of, answer_of_result, answer_of_explained, answer_of_results, status_of, summary_of, says, DifferInPath, IsAnswerOfGen, IsAnswerWithoutFile, IsAnswerToValid, IsAnswerToModule, IsAnswerToReading, IsAnswerToText, IsAnswerToTexts, IsAnswerToFiles, IsAnswerToCommand, IsAnswerFor, IsAnswer}
 
 -- ---- texts
 
@@ -79,6 +79,8 @@ of_valid under (Instrument file) inputs m a b (j, p, is) (k, q, same) = is ∙ a
 of_valid under (Run file o) inputs m a b p q = p ∙ sym q
 of_valid under (Corpus file names o workers) inputs m a b (j, p, is) (k, q, same) =
     is ∙ ap (λ n. answer_of_results under m names (map (λ input. plain n (setup_of o input)) inputs)) (made_once m j k p q) ∙ sym same
+of_valid under (Explain file o) inputs m a b (j, p, is) (k, q, same) =
+    let s = setup_of o (only_input inputs) in is ∙ ap (λ n. answer_of_explained under m s (plain n s)) (made_once m j k p q) ∙ sym same
 of_valid under (Gen seed functions run) inputs m a b p q = of_gen run m a b p q
 of_valid under Help inputs m a b p q = p ∙ sym q
 of_valid under Version inputs m a b p q = p ∙ sym q
@@ -154,6 +156,7 @@ module _ (c : Counted) (files : Holdings) (told : c.told ≡ Some files) (steady
   without_file (Instrument file) a b p q = absurd p
   without_file (Run file o) a b p q = absurd p
   without_file (Check file o) a b p q = absurd p
+  without_file (Explain file o) a b p q = absurd p
   without_file (Corpus file names o workers) a b p q = absurd p
   without_file (Gen seed functions run) a b p q = of_gen run (generated seed functions) a b p q
   without_file Help a b p q = p ∙ sym q

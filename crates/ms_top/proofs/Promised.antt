@@ -1,4 +1,4 @@
--- What is read is bytes, so what `check` says holds without a premise on its files.
+-- What is read is bytes, so what `check` and `explain` say holds without a premise on their files.
 use Rattle.std.proofs.Common.{◌≡◌, ℕ, ◌^◌, ◌<◌, ◌≤◌, true, List, [], ◌∷◌, length, Option, Some, None, Result, Ok, Err, refl, sym, ap, ◌∙◌, subst, arith, ◌⊎◌, inl, inr}
 use Rattle.std.specs.Prelude.{All, nat_lt}
 use Rattle.std.proofs.lemmas.Bool.{and_from, lt-ltb}
@@ -6,21 +6,23 @@ use Rattle.std.proofs.lemmas.List.Elements.{All-cons, All-nil, All-head, All-tai
 use Rattle.ms_io.specs.Reading.{Holdings, IsWholeFile}
 use Rattle.ms_ir.specs.declared.syntax.Module.{Module}
 use Rattle.ms_runs.specs.Faithful.{Fair}
+use Rattle.ms_runs.specs.Plain.{plain}
 use Rattle.ms_runs_laws.proofs.Numbering.{no_marks}
 use Rattle.ms_read_body.specs.declared.errors.ReadError.{ReadError}
 use Rattle.ms_read_body.specs.declared.errors.ReadError.TheVariants as e
 use Rattle.ms_read_top.specs.Reading.{IsReading}
 use Rattle.ms_two_fills.specs.Checked.{HoldsUnderFills}
 use Rattle.ms_words.specs.Limits.{RunsWithinLimits}
-use Rattle.ms_words.specs.declared.commands.Command.TheVariants.{Check}
+use Rattle.ms_words.specs.declared.commands.Command.TheVariants.{Check, Explain}
+use Rattle.ms_words.specs.declared.commands.Command.{Command}
 use Rattle.ms_words.specs.declared.commands.Options.{Options}
 use Rattle.ms_top.specs.declared.answers.Answer.{Answer}
-use Rattle.ms_top.specs.Command.{files_of, input_files, input_limit, only_input, setup_of}
+use Rattle.ms_top.specs.Command.{files_of, form_of, input_files, input_limit, only_input, setup_of}
 use Rattle.ms_top.specs.Files.{Counted, FilesRead, Whole, Fault, Long, behind, IsAtFault, IsLong, CanRead}
 use Rattle.ms_top.specs.Instrumented.{IsInstrumented}
-use Rattle.ms_top.specs.Promised.{NothingRan, ShadowShown}
+use Rattle.ms_top.specs.Promised.{NothingRan, ShadowShown, WayShown}
 use Rattle.ms_top.specs.Lines.{AreLines}
-use Rattle.ms_top.specs.Said.{answer_of_result, says, IsAnswerToModule, IsAnswerToReading, IsAnswerToFiles, IsAnswerToCommand, IsAnswerFor, IsAnswer}
+use Rattle.ms_top.specs.Said.{answer_of_result, says, IsAnswerToValid, IsAnswerWithoutFile, IsAnswerToModule, IsAnswerToReading, IsAnswerToFiles, IsAnswerToCommand, IsAnswerFor, IsAnswer}
 use Rattle.ms_report.specs.WithLines.{Lines}
 use Rattle.ms_valid.specs.Valid.{Valid}
 use Rattle.ms_valid.proofs.Refused.{invalid}
@@ -32,6 +34,7 @@ use Rattle.ms_text_laws.proofs.FormedModules.{read_formed}
 use Rattle.ms_two_fills.specs.Chosen.{HoldsUnderChoices}
 use Rattle.ms_valid.specs.FormedNames.{are_bytes}
 use Rattle.ms_top.proofs.Answered.{text_read}
+use Rattle.ms_top.proofs.Explaining.{explained_shadow, explained_way, explained_none}
 use Rattle.ms_top.proofs.Faithful.{fair_options}
 use Rattle.ms_grammar.proofs.Readings.{one_reading}
 
@@ -148,54 +151,120 @@ says_status a s err is = ap (λ x. x.status) is
 says_nothing : (a : Answer) (s : ℕ) (err : List ℕ) → a ≡ says s err → a.out ≡ []
 says_nothing a s err is = ap (λ x. x.out) is
 
-module _ (c : Counted) (file : List ℕ) (o : Options) (a : Answer) (fit : RunsWithinLimits o) where
+-- a text was read as a valid module, and this is the answer to the command for it
+pub record Answered (c : Counted) (command : Command) (a : Answer) : Type 0 where
+  pub text : List ℕ
+  pub inputs : List (List ℕ)
+  pub read : CanRead c (files_of command) (Whole (text ∷ inputs))
+  pub module_read : Module
+  pub reads : Reads (form_of command) text module_read
+  pub valid : Valid module_read
+  pub under : Lines
+  pub lines : AreLines command text module_read under
+  pub answer : IsAnswerToValid IsInstrumented under command inputs module_read a
+
+-- of a command that reads the plain form from a file
+module _ (c : Counted) (command : Command) (a : Answer) (is_plain : form_of command ≡ Plain) (has_file : IsAnswerWithoutFile IsInstrumented command a → ⊥) where
   abbrev Promise : Type 0
-  Promise = NothingRan c (files_of (Check file o)) a ⊎ ShadowShown c file o a
+  Promise = NothingRan c (files_of command) a ⊎ Answered c command a
 
-  module _ (text : List ℕ) (inputs : List (List ℕ)) (can : CanRead c (files_of (Check file o)) (Whole (text ∷ inputs))) where
-    text_refused : (err : List ℕ) → a ≡ says 5 err → ((m : Module) → Reads Plain text m → Valid m → ⊥) → Promise
-    text_refused err is none = inl (record { out = says_nothing a 5 err is; why = inr (inr (says_status a 5 err is, (text, inputs, can, none))) })
+  module _ (text : List ℕ) (inputs : List (List ℕ)) (can : CanRead c (files_of command) (Whole (text ∷ inputs))) where
+    text_refused : (err : List ℕ) → a ≡ says 5 err → ((m : Module) → Reads (form_of command) text m → Valid m → ⊥) → Promise
+    text_refused err is none =
+        let none_plain = λ (m : Module) (reads : Reads Plain text m) (valid : Valid m). none m (subst (λ f. Reads f text m) (sym is_plain) reads) valid in
+        inl (record { out = says_nothing a 5 err is; why = inr (inr (says_status a 5 err is, (text, inputs, can, none_plain))) })
 
-    by_module : (m : Module) (under : Lines) → Reads Plain text m → AreLines (Check file o) text m under → IsAnswerToModule IsInstrumented under (Check file o) inputs m a → Promise
-    by_module m under reads lines (inl (fault, refused, is)) = text_refused _ is (λ n other valid. invalid m fault refused (subst Valid (one_reading Plain text n m other reads) valid))
-    by_module m under reads lines (inr (valid, (j, made, is))) =
-        let s = setup_of o (only_input inputs) in
-        let fair = check_is_fair c file o text inputs fit can in
-        let bytes = texts_are_bytes c (files_of (Check file o)) (text ∷ inputs) can in
-        let formed = read_formed Plain text m (tested text (All-head (λ text. All IsByte text) text inputs bytes)) reads in
-        inr (record {
-          text = text;
-          inputs = inputs;
-          read = can;
-          module_read = m;
-          reads = reads;
-          formed = formed;
-          valid = valid;
-          unmarked = no_marks j m made.faithful.strips;
-          under = under;
-          lines = lines;
-          fair = fair;
-          shown = is ∙ ap (answer_of_result under true m) (made.faithful.runs s fair);
-          fills = subst (HoldsUnderFills m s) (made.faithful.runs s fair) (made.holds s fair);
-          choices = subst (HoldsUnderChoices m s) (made.faithful.runs s fair) (made.choices s fair);
-        })
+    by_module : (m : Module) (under : Lines) → Reads (form_of command) text m → AreLines command text m under → IsAnswerToModule IsInstrumented under command inputs m a → Promise
+    by_module m under reads lines (inl (fault, refused, is)) =
+        text_refused _ is (λ n other valid. invalid m fault refused (subst Valid (one_reading (form_of command) text n m other reads) valid))
+    by_module m under reads lines (inr (valid, is)) =
+        inr (record { text = text; inputs = inputs; read = can; module_read = m; reads = reads; valid = valid; under = under; lines = lines; answer = is })
 
-    by_reading : (r : Result Module ReadError) → IsReading Plain text r → IsAnswerToReading IsInstrumented (Check file o) inputs text r a → Promise
+    by_reading : (r : Result Module ReadError) → IsReading (form_of command) text r → IsAnswerToReading IsInstrumented command inputs text r a → Promise
     by_reading (Ok m) reads (under, lines, is) = by_module m under reads lines is
-    by_reading (Err (e.Lex cause)) reading is = text_refused _ is (λ m reads valid. let same : Err (e.Lex cause) ≡ Ok m = text_read (Check file o) inputs text m (Err (e.Lex cause)) a reads reading is in absurd cc)
+    by_reading (Err (e.Lex cause)) reading is = text_refused _ is (λ m reads valid. let same : Err (e.Lex cause) ≡ Ok m = text_read command inputs text m (Err (e.Lex cause)) a reads reading is in absurd cc)
     by_reading (Err (e.Refused number w token place)) reading is =
-        text_refused _ is (λ m reads valid. let same : Err (e.Refused number w token place) ≡ Ok m = text_read (Check file o) inputs text m (Err (e.Refused number w token place)) a reads reading is in absurd cc)
+        text_refused _ is (λ m reads valid. let same : Err (e.Refused number w token place) ≡ Ok m = text_read command inputs text m (Err (e.Refused number w token place)) a reads reading is in absurd cc)
     by_reading (Err e.NoMemory) reading is = absurd is
 
-  by_files : (r : FilesRead) → CanRead c (files_of (Check file o)) r → IsAnswerToFiles IsInstrumented (Check file o) r a → Promise
-  by_files (Whole []) can is = absurd is
+  by_files : (r : FilesRead) → CanRead c (files_of command) r → IsAnswerToFiles IsInstrumented command r a → Promise
+  by_files (Whole []) can is = absurd (has_file is)
   by_files (Whole (text ∷ inputs)) can (r, reading, is) = by_reading text inputs can r reading is
-  by_files (Fault name) can is = inl (record { out = says_nothing a 6 _ is; why = inl (says_status a 6 _ is, one_at_fault c (files_of (Check file o)) name can) })
-  by_files (Long name) can is = inl (record { out = says_nothing a 9 _ is; why = inr (inl (says_status a 9 _ is, one_too_long c (files_of (Check file o)) name can)) })
+  by_files (Fault name) can is = inl (record { out = says_nothing a 6 _ is; why = inl (says_status a 6 _ is, one_at_fault c (files_of command) name can) })
+  by_files (Long name) can is = inl (record { out = says_nothing a 9 _ is; why = inr (inl (says_status a 9 _ is, one_too_long c (files_of command) name can)) })
 
-  pub check_promises : IsAnswerToCommand IsInstrumented c (Check file o) a → Promise
-  check_promises (r, can, answers) = by_files r can answers
+  pub promises : IsAnswerToCommand IsInstrumented c command a → Promise
+  promises (r, can, answers) = by_files r can answers
+
+-- ---- checks and explanations
+
+-- what `check` says of a text that is read as a valid module
+shadow_is_shown : (c : Counted) (file : List ℕ) (o : Options) (a : Answer) → RunsWithinLimits o → Answered c (Check file o) a → ShadowShown c file o a
+shadow_is_shown c file o a fit h =
+    let s = setup_of o (only_input h.inputs) in
+    let j = h.answer.0 in
+    let made = h.answer.1 in
+    let fair = check_is_fair c file o h.text h.inputs fit h.read in
+    let bytes = texts_are_bytes c (files_of (Check file o)) (h.text ∷ h.inputs) h.read in
+    record {
+      text = h.text;
+      inputs = h.inputs;
+      read = h.read;
+      module_read = h.module_read;
+      reads = h.reads;
+      formed = read_formed Plain h.text h.module_read (tested h.text (All-head (λ text. All IsByte text) h.text h.inputs bytes)) h.reads;
+      valid = h.valid;
+      unmarked = no_marks j h.module_read made.faithful.strips;
+      under = h.under;
+      lines = h.lines;
+      fair = fair;
+      shown = h.answer.2 ∙ ap (answer_of_result h.under true h.module_read) (made.faithful.runs s fair);
+      fills = subst (HoldsUnderFills h.module_read s) (made.faithful.runs s fair) (made.holds s fair);
+      choices = subst (HoldsUnderChoices h.module_read s) (made.faithful.runs s fair) (made.choices s fair);
+    }
+
+pub check_promises : (c : Counted) (file : List ℕ) (o : Options) (a : Answer) → RunsWithinLimits o → IsAnswerToCommand IsInstrumented c (Check file o) a
+    → NothingRan c (files_of (Check file o)) a ⊎ ShadowShown c file o a
+check_promises c file o a fit answer = elim (promises c (Check file o) a refl (λ h. h) answer) [ inl nothing ↦ inl nothing | inr answered ↦ inr (shadow_is_shown c file o a fit answered) ]
 
 pub words_promise : (c : Counted) (words : List (List ℕ)) (file : List ℕ) (o : Options) (a : Answer) → command_of words ≡ Ok (Check file o) → IsAnswer IsInstrumented c words a
     → NothingRan c (files_of (Check file o)) a ⊎ ShadowShown c file o a
 words_promise c words file o a is answer = check_promises c file o a (command_within words (Check file o) is) (subst (λ r. IsAnswerFor IsInstrumented c r a) is answer)
+
+-- what `check` says of the text of which this is what `explain` says
+abbrev check_of : (o : Options) (m j : Module) (under : Lines) (inputs : List (List ℕ)) → Answer
+check_of o m j under inputs = answer_of_result under true m (plain j (setup_of o (only_input inputs)))
+
+abbrev checked_too : (c : Counted) (file : List ℕ) (o : Options) (a : Answer) → (h : Answered c (Explain file o) a) → Answered c (Check file o) (check_of o h.module_read h.answer.0 h.under h.inputs)
+checked_too c file o a h = record {
+  text = h.text;
+  inputs = h.inputs;
+  read = h.read;
+  module_read = h.module_read;
+  reads = h.reads;
+  valid = h.valid;
+  under = h.under;
+  lines = h.lines;
+  answer = (h.answer.0, h.answer.1, refl);
+}
+
+way_shown : (c : Counted) (file : List ℕ) (o : Options) (a : Answer) → RunsWithinLimits o → Answered c (Explain file o) a → WayShown c file o a
+unfolding shadow_is_shown
+way_shown c file o a fit h =
+    let fair = check_is_fair c file o h.text h.inputs fit h.read in
+    record {
+      checked = check_of o h.module_read h.answer.0 h.under h.inputs;
+      shadow_shown = shadow_is_shown c file o (check_of o h.module_read h.answer.0 h.under h.inputs) fit (checked_too c file o a h);
+      explained = explained_shadow h.under file h.inputs o h.module_read a fair h.answer;
+      way = explained_way h.under file h.inputs o h.module_read a fair h.answer;
+      none = explained_none h.under file h.inputs o h.module_read a fair h.answer;
+    }
+
+pub explain_promises : (c : Counted) (file : List ℕ) (o : Options) (a : Answer) → RunsWithinLimits o → IsAnswerToCommand IsInstrumented c (Explain file o) a
+    → NothingRan c (files_of (Explain file o)) a ⊎ WayShown c file o a
+explain_promises c file o a fit answer = elim (promises c (Explain file o) a refl (λ h. h) answer) [ inl nothing ↦ inl nothing | inr answered ↦ inr (way_shown c file o a fit answered) ]
+
+pub explaining_words_promise : (c : Counted) (words : List (List ℕ)) (file : List ℕ) (o : Options) (a : Answer) → command_of words ≡ Ok (Explain file o) → IsAnswer IsInstrumented c words a
+    → NothingRan c (files_of (Explain file o)) a ⊎ WayShown c file o a
+explaining_words_promise c words file o a is answer =
+    explain_promises c file o a (command_within words (Explain file o) is).runs (subst (λ r. IsAnswerFor IsInstrumented c r a) is answer)

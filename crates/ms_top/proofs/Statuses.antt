@@ -7,7 +7,7 @@ use Rattle.ms_read_body.specs.declared.errors.ReadError.{ReadError}
 use Rattle.ms_read_body.specs.declared.errors.ReadError.TheVariants as e
 use Rattle.ms_top.specs.declared.answers.Answer.{Answer}
 use Rattle.ms_words.specs.declared.commands.Command.{Command}
-use Rattle.ms_words.specs.declared.commands.Command.TheVariants.{Instrument, Run, Check, Corpus, Gen, Help, Version}
+use Rattle.ms_words.specs.declared.commands.Command.TheVariants.{Instrument, Run, Check, Explain, Corpus, Gen, Help, Version}
 use Rattle.ms_words.specs.declared.commands.WordsError.{WordsError}
 use Rattle.ms_words.specs.Words.{command_of}
 use Rattle.ms_report.specs.WithLines.{Lines}
@@ -43,6 +43,7 @@ module _ (Gives : Module → Module → Type 0) where
   to_valid-not_seven under (Instrument file) inputs m a (j, gives, is) = with-status a 0 _ _ is (λ h. omega arith)
   to_valid-not_seven under (Run file o) inputs m a is = with-status a _ _ _ is (chosen-not_seven _ _)
   to_valid-not_seven under (Check file o) inputs m a (j, gives, is) = with-status a _ _ _ is (chosen-not_seven _ _)
+  to_valid-not_seven under (Explain file o) inputs m a (j, gives, is) = with-status a _ _ _ is (chosen-not_seven _ _)
   to_valid-not_seven under (Corpus file names o workers) inputs m a (j, gives, is) = with-status a _ _ _ is (all-not_seven _ _ _)
   to_valid-not_seven under (Gen seed functions run) inputs m a is = of_gen-not_seven run m a is
   to_valid-not_seven under Help inputs m a is = with-status a 0 _ _ is (λ h. omega arith)
@@ -65,6 +66,7 @@ module _ (Gives : Module → Module → Type 0) where
   without_file-not_seven (Instrument file) a is = absurd is
   without_file-not_seven (Run file o) a is = absurd is
   without_file-not_seven (Check file o) a is = absurd is
+  without_file-not_seven (Explain file o) a is = absurd is
   without_file-not_seven (Corpus file names o workers) a is = absurd is
   without_file-not_seven (Gen seed functions run) a is = of_gen-not_seven run (generated seed functions) a is
   without_file-not_seven Help a is = with-status a 0 _ _ is (λ h. omega arith)

@@ -18,6 +18,10 @@ with_locations asked o = record o { locations = asked }
 abbrev pub without_lines : Answer → Answer
 without_lines a = record a { err = unindented a.err }
 
+-- the same without these on the standard output too
+abbrev pub without_any_lines : Answer → Answer
+without_any_lines a = record (without_lines a) { out = unindented a.out }
+
 -- An answer of `corpus` with the option: where nothing is run it is the one without the option but for the added lines, and
 -- else it has the sections of the same results, with the lines under each site.
 abbrev pub CorpusAdds : (Module → Module → Type 0) → (file : List ℕ) → (names : List (List ℕ)) → Options → (workers : ℕ) → (inputs : List (List ℕ)) → (text : List ℕ) → Answer → Type 0

@@ -4,7 +4,7 @@ use Rattle.ms_runs.specs.declared.runs.Setup.{Setup}
 use Rattle.ms_ir.specs.declared.forms.Form.{Form}
 use Rattle.ms_ir.specs.declared.forms.Form.TheVariants.{Plain, Instrumented}
 use Rattle.ms_words.specs.declared.commands.Command.{Command}
-use Rattle.ms_words.specs.declared.commands.Command.TheVariants.{Instrument, Run, Check, Corpus, Gen, Help, Version}
+use Rattle.ms_words.specs.declared.commands.Command.TheVariants.{Instrument, Run, Check, Explain, Corpus, Gen, Help, Version}
 use Rattle.ms_words.specs.declared.commands.Options.{Options}
 
 -- ---- parts of a command
@@ -14,6 +14,7 @@ abbrev pub module_file : Command → Option (List ℕ)
 module_file (Instrument file) = Some file
 module_file (Run file options) = Some file
 module_file (Check file options) = Some file
+module_file (Explain file options) = Some file
 module_file (Corpus file inputs options workers) = Some file
 module_file (Gen seed functions run) = None
 module_file Help = None
@@ -24,6 +25,7 @@ abbrev pub form_of : Command → Form
 form_of (Instrument file) = Plain
 form_of (Run file options) = Instrumented
 form_of (Check file options) = Plain
+form_of (Explain file options) = Plain
 form_of (Corpus file inputs options workers) = Plain
 form_of (Gen seed functions run) = Plain
 form_of Help = Plain
@@ -34,6 +36,7 @@ abbrev pub module_limit : Command → ℕ
 module_limit (Instrument file) = 2 ^ 22
 module_limit (Run file options) = 2 ^ 27
 module_limit (Check file options) = 2 ^ 22
+module_limit (Explain file options) = 2 ^ 22
 module_limit (Corpus file inputs options workers) = 2 ^ 22
 module_limit (Gen seed functions run) = 2 ^ 22
 module_limit Help = 2 ^ 22
@@ -44,6 +47,7 @@ abbrev pub input_names : Command → List (List ℕ)
 input_names (Instrument file) = []
 input_names (Run file options) = option_to_list options.input
 input_names (Check file options) = option_to_list options.input
+input_names (Explain file options) = option_to_list options.input
 input_names (Corpus file inputs options workers) = inputs
 input_names (Gen seed functions run) = []
 input_names Help = []
@@ -53,6 +57,7 @@ input_names Version = []
 abbrev pub located_file : Command → Option (List ℕ)
 located_file (Run file options) = if options.locations then Some file else None
 located_file (Check file options) = if options.locations then Some file else None
+located_file (Explain file options) = if options.locations then Some file else None
 located_file (Corpus file inputs options workers) = if options.locations then Some file else None
 located_file command = None
 

@@ -3,6 +3,7 @@ pub mod Answered
 pub mod Command
 pub mod Files
 pub mod Lines
+pub mod Explained
 pub mod Instrumented
 pub mod Said
 pub mod Parts

@@ -12,7 +12,7 @@ use Rattle.ms_valid.specs.Uninstrumented.{CanInstrument}
 use Rattle.ms_report.specs.RunTexts.{line}
 use Rattle.ms_top.specs.declared.answers.Answer.{Answer}
 use Rattle.ms_words.specs.declared.commands.Command.{Command}
-use Rattle.ms_words.specs.declared.commands.Command.TheVariants.{Instrument, Run, Check, Corpus, Gen, Help, Version}
+use Rattle.ms_words.specs.declared.commands.Command.TheVariants.{Instrument, Run, Check, Explain, Corpus, Gen, Help, Version}
 use Rattle.ms_words.specs.declared.commands.WordsError.{WordsError}
 use Rattle.ms_words.specs.declared.commands.WordsError.TheVariants.{NoMemory as WantsMemory}
 use Rattle.ms_runs.specs.Limits.{WithinLimits}
@@ -42,6 +42,7 @@ abbrev pub IsReady : Command → Module → Type 0
 IsReady (Instrument file) m = CanInstrument m
 IsReady (Run file options) m = Unit {0}
 IsReady (Check file options) m = CanInstrument m
+IsReady (Explain file options) m = CanInstrument m
 IsReady (Corpus file inputs options workers) m = CanInstrument m
 IsReady (Gen seed functions run) m = CanInstrument m
 IsReady Help m = CanInstrument m

@@ -1,23 +1,31 @@
--- What `check` promises of the program, from what it is to say alone.
-use Rattle.std.specs.Prelude.{◌≡◌, ◌⊎◌, ℕ, true, List, [], ◌∷◌}
+-- What `check` and `explain` promise of the program, from what they are to say alone.
+use Rattle.std.specs.Prelude.{◌≡◌, ◌≢◌, ◌<◌, ◌≤◌, ◌⊎◌, ℕ, true, List, [], ◌∷◌, ◌++◌, length}
 use Rattle.ms_ir.specs.declared.forms.Form.TheVariants.{Plain}
 use Rattle.ms_ir.specs.declared.syntax.Module.{Module}
 use Rattle.ms_ir.specs.Code.{NoMarks}
 use Rattle.ms_runs.specs.Faithful.{Fair}
 use Rattle.ms_runs.specs.Shadow.{shadow}
+use Rattle.ms_runs.specs.declared.runs.Setup.{Setup}
 use Rattle.ms_grammar.specs.Texts.{Reads}
 use Rattle.ms_valid.specs.Formed.{Formed}
 use Rattle.ms_valid.specs.Valid.{Valid}
 use Rattle.ms_two_fills.specs.Checked.{HoldsUnderFills}
 use Rattle.ms_two_fills.specs.Chosen.{HoldsUnderChoices}
-use Rattle.ms_report.specs.WithLines.{Lines}
+use Rattle.ms_runs_good.specs.Fills.{to_first_report}
+use Rattle.ms_moves.specs.declared.moves.Source.{Source}
+use Rattle.ms_moves.specs.declared.moves.Move.{Move}
+use Rattle.ms_moves.specs.Traces.{trace, Found}
+use Rattle.ms_moves_laws.specs.FromReached.{FromReached}
+use Rattle.ms_report.specs.TrailTexts.{trail_with}
+use Rattle.ms_report.specs.WithLines.{Lines, reports_with}
 use Rattle.ms_words.specs.declared.commands.Command.TheVariants.{Check}
 use Rattle.ms_words.specs.declared.commands.Options.{Options}
 use Rattle.ms_top.specs.declared.answers.Answer.{Answer}
 use Rattle.ms_top.specs.Command.{files_of, only_input, setup_of}
 use Rattle.ms_top.specs.Files.{Counted, CanRead, IsAtFault, IsLong, Whole}
 use Rattle.ms_top.specs.Lines.{AreLines}
-use Rattle.ms_top.specs.Said.{answer_of_result}
+use Rattle.ms_top.specs.Explained.{too_long, no_report}
+use Rattle.ms_top.specs.Said.{answer_of_result, answer_of_explained}
 
 -- the answer that a file can't be read: one is at fault
 abbrev pub IsFileFault : Counted → Answer → Type 0
@@ -55,3 +63,21 @@ pub record ShadowShown (c : Counted) (file : List ℕ) (o : Options) (a : Answer
   pub shown : a ≡ answer_of_result under true module_read (shadow module_read (setup_of o (only_input inputs)))
   pub fills : HoldsUnderFills module_read (setup_of o (only_input inputs)) (shadow module_read (setup_of o (only_input inputs)))
   pub choices : HoldsUnderChoices module_read (setup_of o (only_input inputs)) (shadow module_read (setup_of o (only_input inputs)))
+
+-- The text that explains a run with a report: the moves before it are too many, or it shows a way over them. That begins at a root
+-- which the run had reached, each hop's target is what the next hop reads, and the last is what the report's use reads
+pub record ShowsWay (under : Lines) (m : Module) (setup : Setup) (text : List ℕ) : Type 0 where
+  pub moves : List Move
+  pub at : Source
+  pub traced : trace m setup ≡ Found moves at
+  pub shown : ((4194304 < length moves) × (text ≡ reports_with under m 1 (shadow m setup).reports ++ too_long))
+      ⊎ ((length moves ≤ 4194304) × (way : FromReached m (to_first_report setup) moves at) × (text ≡ reports_with under m 1 (shadow m setup).reports ++ trail_with under m moves at way.hops))
+
+-- The answer a explains what `check` says of the same files with the same options, and shows the way of a report's bits where there
+-- is one
+pub record WayShown (c : Counted) (file : List ℕ) (o : Options) (a : Answer) : Type 0 where
+  pub checked : Answer
+  pub shadow_shown : ShadowShown c file o checked
+  pub explained : a ≡ answer_of_explained shadow_shown.under shadow_shown.module_read (setup_of o (only_input shadow_shown.inputs)) (shadow shadow_shown.module_read (setup_of o (only_input shadow_shown.inputs)))
+  pub way : (shadow shadow_shown.module_read (setup_of o (only_input shadow_shown.inputs))).reports ≢ [] → ShowsWay shadow_shown.under shadow_shown.module_read (setup_of o (only_input shadow_shown.inputs)) a.out
+  pub none : (shadow shadow_shown.module_read (setup_of o (only_input shadow_shown.inputs))).reports ≡ [] → a.out ≡ no_report

@@ -25,12 +25,13 @@ use Rattle.ms_report.specs.WordsTexts.{words_text}
 use Rattle.ms_top.specs.declared.answers.Answer.{Answer}
 use Rattle.ms_gen.specs.Generator.{generated}
 use Rattle.ms_words.specs.declared.commands.Command.{Command}
-use Rattle.ms_words.specs.declared.commands.Command.TheVariants.{Instrument, Run, Check, Corpus, Gen, Help, Version}
+use Rattle.ms_words.specs.declared.commands.Command.TheVariants.{Instrument, Run, Check, Explain, Corpus, Gen, Help, Version}
 use Rattle.ms_words.specs.declared.commands.WordsError.{WordsError}
 use Rattle.ms_words.specs.Usage.{usage, version_line}
 use Rattle.ms_words.specs.Words.{command_of, defaults, name_of, place_of}
 use Rattle.ms_words.specs.declared.commands.Options.{Options}
 use Rattle.ms_top.specs.Command.{form_of, files_of, only_input, setup_of}
+use Rattle.ms_top.specs.Explained.{explained_with}
 use Rattle.ms_top.specs.Files.{Counted, CanRead, FilesRead, Whole, Fault, Long}
 use Rattle.ms_top.specs.Lines.{AreLines, fault_text_with}
 
@@ -78,6 +79,11 @@ run_text under verdict m r = reports_with under m 1 r.reports ++ closing_text_wi
 abbrev pub answer_of_result : Lines → (verdict : Bool) → Module → RunResult → Answer
 answer_of_result under verdict m r = answer_of (status_of r) r.output (run_text under verdict m r)
 
+-- the answer that explains the result of a module's run with a setup: its report with the way of the bits that this is about, and
+-- the closing lines with the verdict
+abbrev pub answer_of_explained : Lines → Module → Setup → RunResult → Answer
+answer_of_explained under m s r = answer_of (status_of r) (explained_with under m s r) (closing_text_with under m r true)
+
 -- the summary of a module's run: how many functions and sites the module has and how many bytes were output, and then the
 -- reports with the closing lines
 abbrev pub summary_of : Module → RunResult → List ℕ
@@ -124,6 +130,10 @@ module _ (Gives : Module → Module → Type 0) where
   abbrev pub IsAnswerOfCheck : Lines → Setup → Module → Answer → Type 0
   IsAnswerOfCheck under s m a = (j : Module) × Gives m j × (a ≡ answer_of_result under true m (plain j s))
 
+  -- the answer of `explain`: of the run of a module that the pass gives, and of the moves of the shadow run of the module itself
+  abbrev pub IsAnswerOfExplain : Lines → Setup → Module → Answer → Type 0
+  IsAnswerOfExplain under s m a = (j : Module) × Gives m j × (a ≡ answer_of_explained under m s (plain j s))
+
   -- the answer of `corpus`: of the runs on the inputs of a module that the pass gives
   abbrev pub IsAnswerOfCorpus : Lines → (names : List (List ℕ)) → Options → (inputs : List (List ℕ)) → Module → Answer → Type 0
   IsAnswerOfCorpus under names options inputs m a =
@@ -140,6 +150,7 @@ module _ (Gives : Module → Module → Type 0) where
   IsAnswerToValid under (Instrument file) inputs m a = IsAnswerOfInstrument m a
   IsAnswerToValid under (Run file options) inputs m a = a ≡ answer_of_result under false m (plain m (setup_of options (only_input inputs)))
   IsAnswerToValid under (Check file options) inputs m a = IsAnswerOfCheck under (setup_of options (only_input inputs)) m a
+  IsAnswerToValid under (Explain file options) inputs m a = IsAnswerOfExplain under (setup_of options (only_input inputs)) m a
   IsAnswerToValid under (Corpus file names options workers) inputs m a = IsAnswerOfCorpus under names options inputs m a
   IsAnswerToValid under (Gen seed functions run) inputs m a = IsAnswerOfGen run m a
   IsAnswerToValid under Help inputs m a = a ≡ answer_of_help

@@ -17,6 +17,7 @@ ghost use Rattle.ms_top.specs.Said.{answer_of, answer_of_result, run_text, says,
 
 use crate::commands::{form_of, located_file};
 use crate::corpus::{Jobs, answer_of_corpus};
+use crate::explained::answer_of_explain;
 use crate::generated::{summarised, written};
 use crate::itself::{answer_of_help, answer_of_version};
 use crate::located::Places;
@@ -182,6 +183,15 @@ fn answer_to_valid<R: Threads + Sync, P: Pass, G: Gate + Sync, L: SiteLines>(
             answer_of_run(alloc, m, options, only_input(inputs), under)
         }
         Command::Check { options, .. } => answer_of_check(
+            rt,
+            alloc,
+            m,
+            options,
+            only_input(inputs),
+            pass,
+            under,
+        ),
+        Command::Explain { options, .. } => answer_of_explain(
             rt,
             alloc,
             m,

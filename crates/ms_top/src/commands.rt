@@ -26,6 +26,7 @@ pub fn inputs_of(command: &Command) -> &[Text]
     match command {
         Command::Run { options, .. } => options.input.as_slice(),
         Command::Check { options, .. } => options.input.as_slice(),
+        Command::Explain { options, .. } => options.input.as_slice(),
         Command::Corpus { inputs, .. } => inputs.as_slice(),
         Command::Instrument { .. } => &[],
         Command::Gen { .. } => &[],
@@ -42,6 +43,7 @@ pub fn form_of(command: &Command) -> Form
         Command::Run { .. } => Form::Instrumented,
         Command::Instrument { .. } => Form::Plain,
         Command::Check { .. } => Form::Plain,
+        Command::Explain { .. } => Form::Plain,
         Command::Corpus { .. } => Form::Plain,
         Command::Gen { .. } => Form::Plain,
         Command::Help => Form::Plain,
@@ -57,6 +59,7 @@ pub fn located_file(command: &Command) -> Option<&[u8]>
     match command {
         Command::Run { file, options }
         | Command::Check { file, options }
+        | Command::Explain { file, options }
         | Command::Corpus { file, options, .. } => {
             options.locations.then_some(file.as_str().as_bytes())
         }
@@ -72,6 +75,7 @@ pub fn module_limit(command: &Command) -> u64
         Command::Run { .. } => 1 << 27,
         Command::Instrument { .. } => 1 << 22,
         Command::Check { .. } => 1 << 22,
+        Command::Explain { .. } => 1 << 22,
         Command::Corpus { .. } => 1 << 22,
         Command::Gen { .. } => 1 << 22,
         Command::Help => 1 << 22,

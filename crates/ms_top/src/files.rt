@@ -73,6 +73,9 @@ pub fn answer_to_command<R: Threads + Sync, F: Files, P: Pass, G: Gate + Sync>(
         Command::Instrument { file } => answer_to_file(rt, alloc, command, file, files, pass, gate),
         Command::Run { file, .. } => answer_to_file(rt, alloc, command, file, files, pass, gate),
         Command::Check { file, .. } => answer_to_file(rt, alloc, command, file, files, pass, gate),
+        Command::Explain { file, .. } => answer_to_file(
+            rt, alloc, command, file, files, pass, gate,
+        ),
         Command::Corpus { file, .. } => answer_to_file(rt, alloc, command, file, files, pass, gate),
         Command::Gen {
             seed,

@@ -1,11 +1,11 @@
 //! What holds of answers.
 
-ghost use Rattle.std.specs.Prelude.{◌≡◌, ◌⊎◌, ℕ, true, false, ◌^◌, ◌<◌, ◌≤◌, Bool, List, [], ◌∷◌, ◌++◌, All, length, map, Some, None, Ok, codes, find};
+ghost use Rattle.std.specs.Prelude.{◌≡◌, ◌≢◌, ◌⊎◌, ℕ, true, false, ◌^◌, ◌<◌, ◌≤◌, Bool, List, [], ◌∷◌, ◌++◌, All, length, map, Some, None, Ok, codes, find};
 ghost use Rattle.ms_io.specs.Counts.{Rose};
 ghost use Rattle.ms_io.specs.Reading.{Holdings};
 ghost use Rattle.ms_ir.specs.declared.syntax.Module.{Module};
 ghost use Rattle.ms_runs.specs.declared.runs.RunResult.{RunResult};
-ghost use Rattle.ms_runs.specs.Faithful.{Fair};
+ghost use Rattle.ms_runs.specs.Faithful.{Fair, Faithful};
 ghost use Rattle.ms_runs.specs.Shadow.{shadow};
 ghost use Rattle.ms_two_fills.specs.Checked.{HoldsUnderFills};
 ghost use Rattle.ms_valid.specs.Formed.{Formed};
@@ -14,7 +14,7 @@ ghost use Rattle.ms_text_laws.specs.Fits.{FitsText};
 ghost use Rattle.ms_elision_laws.specs.Elided.{IsElided};
 ghost use Rattle.ms_top.specs.declared.answers.Answer.{Answer};
 ghost use Rattle.ms_words.specs.declared.commands.Command.{Command};
-ghost use Rattle.ms_words.specs.declared.commands.Command.TheVariants.{Instrument, Run, Check, Corpus, Gen, Help, Version};
+ghost use Rattle.ms_words.specs.declared.commands.Command.TheVariants.{Instrument, Run, Check, Explain, Corpus, Gen, Help, Version};
 ghost use Rattle.ms_words.specs.declared.commands.Options.{Options};
 ghost use Rattle.ms_words.specs.Limits.{RunsWithinLimits, IsWithinLimits};
 ghost use Rattle.ms_words.specs.Reading.{same};
@@ -33,14 +33,17 @@ ghost use Rattle.ms_grammar.specs.Texts.{Reads};
 ghost use Rattle.ms_ir.specs.declared.forms.Form.TheVariants.{Plain};
 ghost use Rattle.ms_valid.specs.Valid.{Valid};
 ghost use Rattle.ms_top.specs.Answered.{AreHeld, IsDoneStatus, Begins};
-ghost use Rattle.ms_top.specs.Added.{with_locations, without_lines, CorpusAdds};
+ghost use Rattle.ms_top.specs.Added.{with_locations, without_lines, without_any_lines, CorpusAdds};
 ghost use Rattle.ms_top.specs.Command.{files_of, form_of, input_limit, only_input, setup_of};
+ghost use Rattle.ms_top.specs.Explained.{no_report};
 ghost use Rattle.ms_top.specs.Files.{Counted, CanRead, Whole};
-ghost use Rattle.ms_top.specs.Promised.{NothingRan, ShadowShown};
+ghost use Rattle.ms_top.specs.Promised.{NothingRan, ShadowShown, ShowsWay, WayShown};
 ghost use Rattle.ms_top.specs.Instrumented.{IsInstrumented};
 ghost use Rattle.ms_top.specs.Lines.{AreLines, fault_text_with};
-ghost use Rattle.ms_top.specs.Said.{IsAnswer, IsAnswerToCommand, IsAnswerOfGen, IsAnswerToText, IsAnswerToValid, DifferInPath, answer_of, answer_of_result, answer_of_results, run_text, says, status_of, summary_of};
+ghost use Rattle.ms_top.specs.Said.{IsAnswer, IsAnswerToCommand, IsAnswerOfGen, IsAnswerToText, IsAnswerToValid, DifferInPath, answer_of, answer_of_result, answer_of_explained, answer_of_results, run_text, says, status_of, summary_of};
 ghost use Rattle.ms_top.specs.Written.{IsLimitRefusal, RunsAlike};
+
+use crate::passes::Pass;
 
 /// What is to be said is one answer, but where memory runs out, and for the path that shows that a use of a value isn't
 /// defined: of a module's text, and of commands and of words where the files are told and no fault of theirs was counted.
@@ -82,6 +85,24 @@ pub fn checks_show_the_shadow_run()
     ensures spelled { defaults ≡ record { input = None; fill = 0xa5 ∷ []; steps = 10000000; reports = 1; locations = false } }
 {}
 
+/// What `explain` says of a checked module is the first report of its shadow run, where the setup is fair, with the way of that
+/// report's bits over the moves of that run, or that there is none; the closing lines are those of `check`. The way begins at a root
+/// that the run had reached, each place on it is what the next move reads, and the last is what the report's use reads.
+pub fn explanations_show_the_way()
+    ensures shadow { (under : Lines) (file : List ℕ) (inputs : List (List ℕ)) (o : Options) (m : Module) (a : Answer) → let s = setup_of o (only_input inputs) in Fair s
+        → IsAnswerToValid IsInstrumented under (Explain file o) inputs m a → a ≡ answer_of_explained under m s (shadow m s) }
+    ensures way { (under : Lines) (file : List ℕ) (inputs : List (List ℕ)) (o : Options) (m : Module) (a : Answer) → let s = setup_of o (only_input inputs) in Fair s
+        → IsAnswerToValid IsInstrumented under (Explain file o) inputs m a → (shadow m s).reports ≢ [] → ShowsWay under m s a.out }
+    ensures none { (under : Lines) (file : List ℕ) (inputs : List (List ℕ)) (o : Options) (m : Module) (a : Answer) → let s = setup_of o (only_input inputs) in Fair s
+        → IsAnswerToValid IsInstrumented under (Explain file o) inputs m a → (shadow m s).reports ≡ [] → a.out ≡ no_report }
+{}
+
+/// The same of every pass, where the modules that it gives are faithful.
+pub fn faithful_passes_explain<P: Pass>()
+    ensures { (under : Lines) (file : List ℕ) (inputs : List (List ℕ)) (o : Options) (m : Module) (a : Answer) → ((j : Module) → P.gives m j → Faithful m j)
+        → let s = setup_of o (only_input inputs) in Fair s → IsAnswerToValid P.gives under (Explain file o) inputs m a → a ≡ answer_of_explained under m s (shadow m s) }
+{}
+
 /// What `instrument` writes is the text of a faithful module, and of no other formed module. `run` says of that text what `check`
 /// says of the module that was read, with the same options and input, but for the verdict, or it refuses the text for a limit or
 /// for numbering. It doesn't refuse one that is within the limits of its form. Where lines under each site are asked for, `run` shows
@@ -98,13 +119,15 @@ pub fn written_modules_run_alike()
 {}
 
 /// What the option `--where` adds is lines that begin with four blanks, under those that name a site: once these are taken out,
-/// what `run` and `check` say with the option is what they say without it. So is each text of which the sections of `corpus` are
+/// what `run`, `check` and `explain` say with the option is what they say without it. So is each text of which the sections of `corpus` are
 /// made beside the output, which may have such lines of its own. Without the option each text is as it always was.
 pub fn lines_are_added()
     ensures run { (file : List ℕ) (inputs : List (List ℕ)) (o : Options) (text : List ℕ) (a : Answer) → IsAnswerToText IsInstrumented (Run file (with_locations true o)) inputs text a
         → IsAnswerToText IsInstrumented (Run file (with_locations false o)) inputs text (without_lines a) }
     ensures check { (file : List ℕ) (inputs : List (List ℕ)) (o : Options) (text : List ℕ) (a : Answer) → IsAnswerToText IsInstrumented (Check file (with_locations true o)) inputs text a
         → IsAnswerToText IsInstrumented (Check file (with_locations false o)) inputs text (without_lines a) }
+    ensures explain { (file : List ℕ) (inputs : List (List ℕ)) (o : Options) (text : List ℕ) (a : Answer) → IsAnswerToText IsInstrumented (Explain file (with_locations true o)) inputs text a
+        → IsAnswerToText IsInstrumented (Explain file (with_locations false o)) inputs text (without_any_lines a) }
     ensures corpus { (file : List ℕ) (names inputs : List (List ℕ)) (o : Options) (workers : ℕ) (text : List ℕ) (a : Answer)
         → IsAnswerToText IsInstrumented (Corpus file names (with_locations true o) workers) inputs text a → CorpusAdds IsInstrumented file names o workers inputs text a }
     ensures runs { (command : Command) (text : List ℕ) (m : Module) (under : Lines) (verdict : Bool) (r : RunResult) → AreLines command text m under
@@ -155,4 +178,13 @@ pub fn checks_hold()
         → CanRead c (files_of (Check file o)) (Whole (text ∷ inputs)) → Fair (setup_of o (only_input inputs)) }
     ensures bytes { (c : Counted) (files : List (List ℕ × ℕ)) (texts : List (List ℕ)) → CanRead c files (Whole texts) → All (λ text. All (λ b. b < 2 ^ 8) text) texts }
     ensures limits { (words : List (List ℕ)) (command : Command) → command_of words ≡ Ok command → IsWithinLimits command }
+{}
+
+/// Of any words that ask for an explanation what is to be said is this, with no premise on files: nothing was run, as of a check; or it
+/// explains what `check` says of the same files with the same options, and shows the way of the bits of a report.
+pub fn explanations_hold()
+    ensures words { (c : Counted) (words : List (List ℕ)) (file : List ℕ) (o : Options) (a : Answer) → command_of words ≡ Ok (Explain file o)
+        → IsAnswer IsInstrumented c words a → NothingRan c (files_of (Explain file o)) a ⊎ WayShown c file o a }
+    ensures commands { (c : Counted) (file : List ℕ) (o : Options) (a : Answer) → RunsWithinLimits o
+        → IsAnswerToCommand IsInstrumented c (Explain file o) a → NothingRan c (files_of (Explain file o)) a ⊎ WayShown c file o a }
 {}

@@ -4,6 +4,7 @@
 pub mod answers;
 mod commands;
 mod corpus;
+mod explained;
 mod files;
 mod generated;
 mod itself;

@@ -25,7 +25,8 @@ const NO_MEMORY_STATUS: u8 = 8;
 
 /// Does what the words after the program's name ask for. `run` runs the module in a file, and `check` runs it with the
 /// shadow of each word: the output is written to `out`; each use of uninitialised bits that was found, and how the run
-/// ended, to `err`. `corpus` does what `check` does for each of many inputs, and writes a section for each to `out`.
+/// ended, to `err`. `explain` does what `check` does up to the first report, and writes that report to `out`, with the way on which
+/// its bits came. `corpus` does what `check` does for each of many inputs, and writes a section for each to `out`.
 /// `instrument` writes to `out` the text of the module that `check` runs, which `run` takes. `gen` writes
 /// a generated module to `out`, or the summary of its check. `help` writes the usage to `out`, and `version` one line with
 /// the version. Threads are those of the runtime.

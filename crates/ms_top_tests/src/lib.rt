@@ -22,6 +22,8 @@ mod corpus;
 #[cfg(test)]
 mod elided;
 #[cfg(test)]
+mod explained;
+#[cfg(test)]
 mod external_bytes;
 #[cfg(test)]
 mod externals;
@@ -71,6 +73,8 @@ mod runtime;
 mod site_lines;
 #[cfg(test)]
 mod texts;
+#[cfg(test)]
+mod trails;
 #[cfg(test)]
 mod traps;
 #[cfg(test)]

@@ -29,7 +29,7 @@ const FROM_SEVEN: &str =
     "declare i32 @putchar(i32)\ndefine i32 @f0(i32 %0) {\n  %2 = alloca i32\n  store i32 %0, ptr %2\n  %3 = load i32, ptr %2\n  %4 = xor i32 %3, 3391\n  %5 = or i32 %4, 23441\n  %6 = or i32 %5, 51459\n  %7 = and i32 %6, 14356\n  %8 = add i32 %7, 42614\n  %9 = add i32 %8, 2483\n  %10 = and i32 %9, 21616\n  %11 = or i32 %10, 63906\n  ret i32 %11\n}\ndefine i32 @f1(i32 %0) {\n  %2 = alloca i32\n  store i32 %0, ptr %2\n  %3 = load i32, ptr %2\n  %4 = or i32 %3, 36467\n  %5 = and i32 %4, 39071\n  %6 = and i32 %5, 31649\n  %7 = xor i32 %6, 18226\n  %8 = or i32 %7, 49264\n  %9 = and i32 %8, 7641\n  %10 = or i32 %9, 52080\n  %11 = and i32 %10, 61853\n  %12 = call i32 @f0(i32 %11)\n  ret i32 %12\n}\ndefine i32 @main() {\n  %1 = call i32 @f1(i32 1)\n  %2 = call i32 @putchar(i32 %1)\n  ret i32 0\n}\n";
 
 /// The first fault is said.
-static FAULTS: [Case; 44] = [
+static FAULTS: [Case; 47] = [
     Case("", "", "", "words: UnknownCommand at 0\n", 2),
     Case("corpora f a", "", "", "words: UnknownCommand at 0\n", 2),
     Case("corpus f", "", "", "words: MissingFile at 2\n", 2),
@@ -49,6 +49,15 @@ static FAULTS: [Case; 44] = [
     ),
     Case(
         "check --workers=2 f",
+        "",
+        "",
+        "words: UnknownOption at 1\n",
+        2,
+    ),
+    Case("explain", "", "", "words: MissingFile at 1\n", 2),
+    Case("explain f g", "", "", "words: Extra at 2\n", 2),
+    Case(
+        "explain --reports 2 f",
         "",
         "",
         "words: UnknownOption at 1\n",

@@ -1,6 +1,6 @@
 //! What is checked is the module that the pass makes: with a pass that inserts nothing no use is reported.
 
-use crate::calls::{DEFAULTS, Row, all_agree, said_by, says};
+use crate::calls::{Case, DEFAULTS, Row, all_agree, said_by, says};
 use crate::modules::Checked;
 use ms_top::{OpenGate, PlainPass};
 use std::alloc::Global;
@@ -27,8 +27,16 @@ static PLAIN: [Checked; 1] = [Checked(
     0,
 )];
 
+static UNEXPLAINED: [Case; 1] = [Case(
+    "explain f",
+    BRANCH_ON_UNSET,
+    "no report\n",
+    "end: exit 1\nreports: 0\nblind: 0\nverdict: clean\n",
+    0,
+)];
+
 /// Whether a row's module is checked so where the pass inserts nothing.
-fn agrees_plainly<R: Threads + Sync>(rt: &R, alloc: Global, row: &Checked) -> bool {
+fn agrees_plainly<R: Threads + Sync, T: Row>(rt: &R, alloc: Global, row: &T) -> bool {
     let call = row.call();
     match said_by(rt, alloc, &call, &PlainPass, &OpenGate) {
         Ok(desk) => says(&desk, &call.wanted),
@@ -39,7 +47,9 @@ fn agrees_plainly<R: Threads + Sync>(rt: &R, alloc: Global, row: &Checked) -> bo
 #[test]
 fn the_module_of_the_pass_is_run(rt: HostRuntime) -> Result<(), Fail> {
     assert!(rt;
-        all_agree(&rt, rt.alloc(), &[&INSTRUMENTED]) && agrees_plainly(&rt, rt.alloc(), &PLAIN[0])
+        all_agree(&rt, rt.alloc(), &[&INSTRUMENTED])
+            && agrees_plainly(&rt, rt.alloc(), &PLAIN[0])
+            && agrees_plainly(&rt, rt.alloc(), &UNEXPLAINED[0])
     );
     Ok(())
 }

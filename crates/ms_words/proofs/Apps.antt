@@ -3,7 +3,7 @@ use Rattle.std.proofs.Common.{◌≡◌, ◌∙◌, ◌<◌, ◌≤◌, ◌+◌,
 use Rattle.clap.specs.Words.{rows_of, found_of, matches_of, HasMatchesOf, App, Rule, Text, is_simple, new_app, with_rule}
 use Rattle.clap.specs.declared.parser.matches.ArgMatches.{ArgMatches}
 use Rattle.ms_words.specs.declared.names.CommandName.{CommandName}
-use Rattle.ms_words.specs.declared.names.CommandName.TheVariants.{Instrument, Run, Check, Corpus, Gen}
+use Rattle.ms_words.specs.declared.names.CommandName.TheVariants.{Instrument, Run, Check, Explain, Corpus, Gen}
 use Rattle.ms_words.specs.declared.names.OptionName.{OptionName}
 use Rattle.ms_words.specs.Table.{command_word, options_of}
 use Rattle.ms_words.specs.ClapForm.{option_rule, files_rule, with_options, app_for}
@@ -23,6 +23,7 @@ simple : (c : CommandName) → is_simple (app_for c) ≡ true
 simple Instrument = refl
 simple Run = refl
 simple Check = refl
+simple Explain = refl
 simple Corpus = refl
 simple Gen = refl
 

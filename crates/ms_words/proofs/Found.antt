@@ -8,16 +8,16 @@ use Rattle.clap.proofs.WalkLemmas.{first_value-rows, raw_values-rows}
 use Rattle.ms_words.specs.declared.commands.Command.TheVariants as made
 use Rattle.ms_words.specs.declared.commands.Options.{Options}
 use Rattle.ms_words.specs.declared.names.CommandName.{CommandName}
-use Rattle.ms_words.specs.declared.names.CommandName.TheVariants.{Instrument, Run, Check, Corpus, Gen}
+use Rattle.ms_words.specs.declared.names.CommandName.TheVariants.{Instrument, Run, Check, Explain, Corpus, Gen}
 use Rattle.ms_words.specs.declared.names.OptionName.{OptionName}
 use Rattle.ms_words.specs.declared.names.OptionName.TheVariants as option
 use Rattle.ms_words.specs.declared.names.Takes.TheVariants.{Nothing}
 use Rattle.ms_words.specs.Table.{Word, takes, command_word, options_of}
 use Rattle.ms_words.specs.Values.{number, hex_bytes, value_fault}
 use Rattle.ms_words.specs.Reading.{Given}
-use Rattle.ms_words.specs.Words.{value_of, number_by, options_by, corpus_options_by, command_by, command_given}
+use Rattle.ms_words.specs.Words.{value_of, number_by, options_by, explain_options_by, corpus_options_by, command_by, command_given}
 use Rattle.ms_words.specs.ClapForm.{app_for, files_rule, with_options, spelled, spelled_option, spelled_options}
-use Rattle.ms_words.specs.Fields.{Fits, FitsRun, FitsCorpus, found_value, found_file, found_inputs, found_by}
+use Rattle.ms_words.specs.Fields.{Fits, FitsRun, FitsReports, FitsCorpus, found_value, found_file, found_inputs, found_by}
 use Rattle.ms_words.specs.Accepted.{Whole}
 use Rattle.ms_words.proofs.Files.{corpus_form, corpus_takes, corpus_workers, corpus_fill, corpus_steps, corpus_reports, corpus_locations, corpus_file, corpus_files}
 use Rattle.ms_words.proofs.GoodValues.{IsGood, good_value, hex_good, number_good}
@@ -96,6 +96,48 @@ run_fields word a b c d e file f are =
     let locations = ap (λ (v : Option Word). is_some (found_by Nothing v)) (at f (codes "where") _ are) ∙ run_locations word a b c d e file in
     let files = at f (codes "files") _ are ∙ run_file word a b c d e file in (
       rw (input, fill, steps, reports, locations) refl,
+      rw files refl,
+    )
+
+-- ---- the command that explains a report, by its words' form
+
+abbrev explain_form : Option Word → (fill steps : Word) → Option Word → (file : Word) → List Word
+explain_form input fill steps locations file =
+    codes "explain" ∷ ((spelled_option option.Input input ++ (spelled_option option.Fill (Some fill) ++ (spelled_option option.Steps (Some steps)
+    ++ (spelled_option option.Where locations ++ [])))) ++ codes "--" ∷ file ∷ [])
+
+explain_takes : (a : Option Word) (b c : Word) (e : Option Word) (file : Word) → takes_words (app_for Explain) (explain_form a b c e file) ≡ true
+unfolding clap_on_literals
+explain_takes None b c None file = refl
+explain_takes None b c (Some e) file = refl
+explain_takes (Some a) b c None file = refl
+explain_takes (Some a) b c (Some e) file = refl
+
+pub record ExplainFound (a : Option Word) (b c : Word) (e : Option Word) (file : Word) (rows : List Row) : Type 0 where
+  pub input : first_of (codes "input") rows ≡ a
+  pub fill : first_of (codes "fill") rows ≡ Some b
+  pub steps : first_of (codes "steps") rows ≡ Some c
+  pub locations : is_some (found_by Nothing (first_of (codes "where") rows)) ≡ is_some e
+  pub files : first_of (codes "files") rows ≡ Some file
+
+explain_found : (a : Option Word) (b c : Word) (e : Option Word) (file : Word) → ExplainFound a b c e file (matches_of (app_for Explain) (explain_form a b c e file))
+unfolding clap_on_literals
+explain_found None b c None file = record { input = refl; fill = refl; steps = refl; locations = refl; files = refl }
+explain_found None b c (Some e) file = record { input = refl; fill = refl; steps = refl; locations = refl; files = refl }
+explain_found (Some a) b c None file = record { input = refl; fill = refl; steps = refl; locations = refl; files = refl }
+explain_found (Some a) b c (Some e) file = record { input = refl; fill = refl; steps = refl; locations = refl; files = refl }
+
+explain_fields : (a : Option Word) (b c : Word) (e : Option Word) (file : Word) (f : Found) → rows_of f ≡ matches_of (app_for Explain) (explain_form a b c e file)
+    → (explain_options_by (found_value f) ≡ record { input = a; fill = hex_bytes b; steps = number c; reports = 1; locations = is_some e })
+    × (found_file f ≡ file)
+explain_fields a b c e file f are =
+    let found = explain_found a b c e file in
+    let input = at f (codes "input") _ are ∙ found.input in
+    let fill = at f (codes "fill") _ are ∙ found.fill in
+    let steps = at f (codes "steps") _ are ∙ found.steps in
+    let locations = ap (λ (v : Option Word). is_some (found_by Nothing v)) (at f (codes "where") _ are) ∙ found.locations in
+    let files = at f (codes "files") _ are ∙ found.files in (
+      rw (input, fill, steps, locations) refl,
       rw files refl,
     )
 
@@ -186,6 +228,7 @@ pub takes_spelled : (c : CommandName) (g : Given) → Whole c g → takes_words 
 takes_spelled Instrument g whole = let one = one_file g.files whole.enough whole.few in rw one.1 (instrument_takes one.0)
 takes_spelled Run g whole = let one = one_file g.files whole.enough whole.few in rw one.1 (run_takes (codes "run") (value_of option.Input g) _ _ _ (value_of option.Where g) one.0)
 takes_spelled Check g whole = let one = one_file g.files whole.enough whole.few in rw one.1 (run_takes (codes "check") (value_of option.Input g) _ _ _ (value_of option.Where g) one.0)
+takes_spelled Explain g whole = let one = one_file g.files whole.enough whole.few in rw one.1 (explain_takes (value_of option.Input g) _ _ (value_of option.Where g) one.0)
 takes_spelled Corpus g whole = let some = some_files g.files whole.enough whole.few in rw some.2 (corpus_takes _ _ _ _ (value_of option.Where g) some.0 some.1 some.3)
 takes_spelled Gen g whole = rw (no_files g.files whole.few) (gen_takes (value_of option.Seed g) (value_of option.Functions g) (value_of option.Run g))
 
@@ -212,6 +255,10 @@ fields_found Check g f whole are =
     let one = one_file g.files whole.enough whole.few in
     let fields = run_fields (codes "check") (value_of option.Input g) _ _ _ (value_of option.Where g) one.0 f (with_file Check g one.0 (rows_of f) one.1 are) in
     ap₂ (λ (file : Word) (o : Options). made.Check file o) (fields.1 ∙ sym (first_of_files g one.0 one.1)) fields.0
+fields_found Explain g f whole are =
+    let one = one_file g.files whole.enough whole.few in
+    let fields = explain_fields (value_of option.Input g) _ _ (value_of option.Where g) one.0 f (with_file Explain g one.0 (rows_of f) one.1 are) in
+    ap₂ (λ (file : Word) (o : Options). made.Explain file o) (fields.1 ∙ sym (first_of_files g one.0 one.1)) fields.0
 fields_found Corpus g f whole are =
     let some = some_files g.files whole.enough whole.few in
     corpus_fields _ _ _ _ (value_of option.Where g) some.0 some.1 f (with_files g (some.0 ∷ some.1) (rows_of f) some.2 are)
@@ -224,19 +271,32 @@ found_good : (o : OptionName) (g : Given) (v : Option Word) → All (λ p. value
 found_good o g v all is = subst (IsGood o) (sym is) (good_value o g all)
 
 run_fits : (word : Word) (g : Given) (file : Word) (f : Found) → All (λ p. value_fault (takes p.0) 0 p.1 ≡ None) g.options
-    → rows_of f ≡ matches_of (run_app word) (word ∷ (spelled_options (options_of Run) g ++ codes "--" ∷ file ∷ [])) → FitsRun (found_value f)
+    → rows_of f ≡ matches_of (run_app word) (word ∷ (spelled_options (options_of Run) g ++ codes "--" ∷ file ∷ [])) → FitsReports (found_value f)
 run_fits word g file f all are = record {
-  fill = hex_good 2048 _ (found_good option.Fill g (found_value f option.Fill) all (at f (codes "fill") _ are ∙ run_fill word (value_of option.Input g) _ _ _ (value_of option.Where g) file));
-  steps = number_good 0 1000000000 (2 ^ 64 - 1) _ (omega arith) (found_good option.Steps g (found_value f option.Steps) all (at f (codes "steps") _ are ∙ run_steps word (value_of option.Input g) _ _ _ (value_of option.Where g) file));
+  run = record {
+    fill = hex_good 2048 _ (found_good option.Fill g (found_value f option.Fill) all (at f (codes "fill") _ are ∙ run_fill word (value_of option.Input g) _ _ _ (value_of option.Where g) file));
+    steps = number_good 0 1000000000 (2 ^ 64 - 1) _ (omega arith) (found_good option.Steps g (found_value f option.Steps) all (at f (codes "steps") _ are ∙ run_steps word (value_of option.Input g) _ _ _ (value_of option.Where g) file));
+  };
   reports = number_good 1 1000 1000 _ (omega arith) (found_good option.Reports g (found_value f option.Reports) all (at f (codes "reports") _ are ∙ run_reports word (value_of option.Input g) _ _ _ (value_of option.Where g) file));
 }
+
+explain_fits : (g : Given) (file : Word) (f : Found) → All (λ p. value_fault (takes p.0) 0 p.1 ≡ None) g.options
+    → rows_of f ≡ matches_of (app_for Explain) (command_word Explain ∷ (spelled_options (options_of Explain) g ++ codes "--" ∷ file ∷ [])) → FitsRun (found_value f)
+explain_fits g file f all are =
+    let found = explain_found (value_of option.Input g) _ _ (value_of option.Where g) file in
+    record {
+      fill = hex_good 2048 _ (found_good option.Fill g (found_value f option.Fill) all (at f (codes "fill") _ are ∙ found.fill));
+      steps = number_good 0 1000000000 (2 ^ 64 - 1) _ (omega arith) (found_good option.Steps g (found_value f option.Steps) all (at f (codes "steps") _ are ∙ found.steps));
+    }
 
 corpus_fits : (g : Given) (file : Word) (inputs : List Word) (f : Found) → All (λ p. value_fault (takes p.0) 0 p.1 ≡ None) g.options
     → rows_of f ≡ matches_of (app_for Corpus) (command_word Corpus ∷ (spelled_options (options_of Corpus) g ++ codes "--" ∷ file ∷ inputs)) → FitsCorpus (found_value f)
 corpus_fits g file inputs f all are = record {
   run = record {
-    fill = hex_good 2048 _ (found_good option.Fill g (found_value f option.Fill) all (at f (codes "fill") _ are ∙ corpus_fill _ _ _ _ (value_of option.Where g) file inputs));
-    steps = number_good 0 1000000000 (2 ^ 64 - 1) _ (omega arith) (found_good option.Steps g (found_value f option.Steps) all (at f (codes "steps") _ are ∙ corpus_steps _ _ _ _ (value_of option.Where g) file inputs));
+    run = record {
+      fill = hex_good 2048 _ (found_good option.Fill g (found_value f option.Fill) all (at f (codes "fill") _ are ∙ corpus_fill _ _ _ _ (value_of option.Where g) file inputs));
+      steps = number_good 0 1000000000 (2 ^ 64 - 1) _ (omega arith) (found_good option.Steps g (found_value f option.Steps) all (at f (codes "steps") _ are ∙ corpus_steps _ _ _ _ (value_of option.Where g) file inputs));
+    };
     reports = number_good 1 1000 1000 _ (omega arith) (found_good option.Reports g (found_value f option.Reports) all (at f (codes "reports") _ are ∙ corpus_reports _ _ _ _ (value_of option.Where g) file inputs));
   };
   workers = number_good 1 8 8 _ (omega arith) (found_good option.Workers g (found_value f option.Workers) all (at f (codes "workers") _ are ∙ corpus_workers _ _ _ _ (value_of option.Where g) file inputs));
@@ -247,6 +307,7 @@ pub fits_found : (c : CommandName) (g : Given) (f : Found) → Whole c g → row
 fits_found Instrument g f whole are = tt
 fits_found Run g f whole are = let one = one_file g.files whole.enough whole.few in run_fits (codes "run") g one.0 f whole.values (with_file Run g one.0 (rows_of f) one.1 are)
 fits_found Check g f whole are = let one = one_file g.files whole.enough whole.few in run_fits (codes "check") g one.0 f whole.values (with_file Check g one.0 (rows_of f) one.1 are)
+fits_found Explain g f whole are = let one = one_file g.files whole.enough whole.few in explain_fits g one.0 f whole.values (with_file Explain g one.0 (rows_of f) one.1 are)
 fits_found Corpus g f whole are =
     let some = some_files g.files whole.enough whole.few in
     corpus_fits g some.0 some.1 f whole.values (with_files g (some.0 ∷ some.1) (rows_of f) some.2 are)

@@ -8,7 +8,7 @@ use Rattle.std.proofs.lemmas.Bool.{ltb-true}
 use Rattle.ms_words.specs.declared.names.CommandName.{CommandName}
 use Rattle.ms_words.specs.declared.names.OptionName.{OptionName}
 use Rattle.ms_words.specs.declared.names.OptionName.TheVariants.{Input, Fill, Steps, Reports, Workers, Seed, Functions, Run, Where}
-use Rattle.ms_words.specs.declared.names.CommandName.TheVariants.{Instrument, Check, Corpus, Gen}
+use Rattle.ms_words.specs.declared.names.CommandName.TheVariants.{Instrument, Check, Explain, Corpus, Gen}
 use Rattle.ms_words.specs.declared.names.CommandName.TheVariants as name
 use Rattle.ms_words.specs.declared.reading.Next.{Next}
 use Rattle.ms_words.specs.declared.reading.Next.TheVariants.{AnOption, AValue, AFile}
@@ -198,6 +198,7 @@ pub first_place : (c : CommandName) → 1 + weight c AnOption nothing ≤ 2 ^ 17
 first_place Instrument = let w : weight Instrument AnOption nothing ≡ 2 = refl in omega (arith, w)
 first_place name.Run = let w : weight name.Run AnOption nothing ≡ 12 = refl in omega (arith, w)
 first_place Check = let w : weight Check AnOption nothing ≡ 12 = refl in omega (arith, w)
+first_place Explain = let w : weight Explain AnOption nothing ≡ 10 = refl in omega (arith, w)
 first_place Corpus = let w : weight Corpus AnOption nothing ≡ 268 = refl in omega (arith, w)
 first_place Gen = let w : weight Gen AnOption nothing ≡ 7 = refl in omega (arith, w)
 

@@ -8,7 +8,7 @@ use Rattle.std.specs.Option.{option_map_or}
 use Rattle.std.proofs.lemmas.Bool.{and_parts, or_cases, eqb-true, leb-true, ltb-true, ltb-false}
 use Rattle.std.proofs.lemmas.List.Elements.{All-cons, All-nil}
 use Rattle.ms_words.specs.declared.names.CommandName.{CommandName}
-use Rattle.ms_words.specs.declared.names.CommandName.TheVariants.{Instrument, Run, Check, Corpus, Gen}
+use Rattle.ms_words.specs.declared.names.CommandName.TheVariants.{Instrument, Run, Check, Explain, Corpus, Gen}
 use Rattle.ms_words.specs.declared.commands.Command.{Command}
 use Rattle.ms_words.specs.declared.commands.Command.TheVariants as command
 use Rattle.ms_words.specs.declared.commands.WordsError.{WordsError}
@@ -18,12 +18,12 @@ use Rattle.ms_words.specs.declared.names.Takes.TheVariants.{Hex, Number}
 use Rattle.ms_words.specs.Table.{Word, takes, commands, command_word, topics}
 use Rattle.ms_words.specs.Values.{value_fault, is_hex, is_number, number, hex_bytes}
 use Rattle.ms_words.specs.Reading.{Given, nothing, same, is_given, option_eq, read_words_from}
-use Rattle.ms_words.specs.Words.{value_of, number_by, options_by, corpus_options_by, command_given, command_in, command_named, asks, asked_or, command_of}
+use Rattle.ms_words.specs.Words.{value_of, number_by, options_by, explain_options_by, corpus_options_by, command_given, command_in, command_named, asks, asked_or, command_of}
 use Rattle.ms_words.specs.declared.reading.Next.TheVariants.{AnOption}
 use Rattle.ms_words.specs.declared.topics.Topic.{Topic}
 use Rattle.ms_words.specs.declared.topics.Topic.TheVariants as topic
 use Rattle.ms_words.specs.Accepted.{Whole}
-use Rattle.ms_words.specs.Limits.{RunsWithinLimits, CorpusWithinLimits, MadeWithinLimits, IsWithinLimits}
+use Rattle.ms_words.specs.Limits.{RunsWithinLimits, ExplainsWithinLimits, CorpusWithinLimits, MadeWithinLimits, IsWithinLimits}
 use Rattle.ms_words.proofs.GoodValues.{good_value, hex_tests, number_tests}
 use Rattle.ms_words.proofs.Keeping.{whole_given}
 
@@ -112,6 +112,11 @@ run_within g all =
     let reports = number_fits 1 1000 (value_of option.Reports g) refl (good_value option.Reports g all) in
     record { filled = fits.some; fill = fits.few; bytes = fits.bytes; steps = steps.1; some_reports = reports.0; reports = reports.1 }
 
+explain_within : (g : Given) → All (λ p. value_fault (takes p.0) 0 p.1 ≡ None) g.options → ExplainsWithinLimits (explain_options_by (λ o. value_of o g))
+explain_within g all =
+    let runs = run_within g all in
+    record { runs = record { filled = runs.filled; fill = runs.fill; bytes = runs.bytes; steps = runs.steps; some_reports = omega arith; reports = omega arith }; one_report = refl }
+
 inputs_within : (files : List Word) → 2 ≤ length files → length files ≤ 257 → (1 ≤ length (drop 1 files)) × (length (drop 1 files) ≤ 256)
 inputs_within [] least most = absurd (omega (arith, least))
 inputs_within (file ∷ inputs) least most = (omega (arith, least), omega (arith, most))
@@ -142,6 +147,7 @@ pub within_limits : (c : CommandName) (g : Given) → Whole c g → IsWithinLimi
 within_limits Instrument g whole = tt
 within_limits Run g whole = run_within g whole.values
 within_limits Check g whole = run_within g whole.values
+within_limits Explain g whole = explain_within g whole.values
 within_limits Corpus g whole = corpus_within g whole
 within_limits Gen g whole = made_within g whole
 

@@ -5,7 +5,7 @@ use Rattle.std.specs.List.{list_all}
 use Rattle.clap.specs.Words.{first_value, matched_of, raw_values}
 use Rattle.clap.specs.declared.parser.matches.Found.{Found}
 use Rattle.ms_words.specs.declared.names.CommandName.{CommandName}
-use Rattle.ms_words.specs.declared.names.CommandName.TheVariants.{Instrument, Run, Check, Corpus, Gen}
+use Rattle.ms_words.specs.declared.names.CommandName.TheVariants.{Instrument, Run, Check, Explain, Corpus, Gen}
 use Rattle.ms_words.specs.declared.names.OptionName.{OptionName}
 use Rattle.ms_words.specs.declared.names.OptionName.TheVariants as option
 use Rattle.ms_words.specs.declared.names.Takes.{Takes}
@@ -44,10 +44,13 @@ IsHex value = IfSome value (λ word. list_all is_ascii_hexdigit word ≡ true)
 pub record FitsRun (value : OptionName → Option Word) : Type 0 where
   pub fill : IsHex (value option.Fill)
   pub steps : IsNumber (2 ^ 64 - 1) (value option.Steps)
+
+pub record FitsReports (value : OptionName → Option Word) : Type 0 where
+  pub run : FitsRun value
   pub reports : IsNumber 1000 (value option.Reports)
 
 pub record FitsCorpus (value : OptionName → Option Word) : Type 0 where
-  pub run : FitsRun value
+  pub run : FitsReports value
   pub workers : IsNumber 8 (value option.Workers)
 
 pub record FitsGen (value : OptionName → Option Word) : Type 0 where
@@ -56,7 +59,8 @@ pub record FitsGen (value : OptionName → Option Word) : Type 0 where
 
 abbrev pub Fits : CommandName → (OptionName → Option Word) → Type 0
 Fits Instrument value = ⊤
-Fits Run value = FitsRun value
-Fits Check value = FitsRun value
+Fits Run value = FitsReports value
+Fits Check value = FitsReports value
+Fits Explain value = FitsRun value
 Fits Corpus value = FitsCorpus value
 Fits Gen value = FitsGen value

@@ -1,7 +1,7 @@
 -- What the fields of a command may be (own).
-use Rattle.std.specs.Prelude.{◌≤◌, ◌<◌, ◌^◌, ℕ, List, All, length, ⊤}
+use Rattle.std.specs.Prelude.{◌≡◌, ◌≤◌, ◌<◌, ◌^◌, ℕ, List, All, length, ⊤}
 use Rattle.ms_words.specs.declared.commands.Command.{Command}
-use Rattle.ms_words.specs.declared.commands.Command.TheVariants.{Instrument, Run, Check, Corpus, Gen, Help, Version}
+use Rattle.ms_words.specs.declared.commands.Command.TheVariants.{Instrument, Run, Check, Explain, Corpus, Gen, Help, Version}
 use Rattle.ms_words.specs.declared.commands.Options.{Options}
 use Rattle.ms_words.specs.Table.{Word}
 
@@ -13,6 +13,11 @@ pub record RunsWithinLimits (o : Options) : Type 0 where
   pub steps : o.steps ≤ 1000000000
   pub some_reports : 1 ≤ o.reports
   pub reports : o.reports ≤ 1000
+
+-- the same with a limit of one report
+pub record ExplainsWithinLimits (o : Options) : Type 0 where
+  pub runs : RunsWithinLimits o
+  pub one_report : o.reports ≡ 1
 
 -- 1 to 256 inputs, and 1 to 8 workers
 pub record CorpusWithinLimits (inputs : List Word) (o : Options) (workers : ℕ) : Type 0 where
@@ -33,6 +38,7 @@ abbrev pub IsWithinLimits : Command → Type 0
 IsWithinLimits (Instrument file) = ⊤
 IsWithinLimits (Run file options) = RunsWithinLimits options
 IsWithinLimits (Check file options) = RunsWithinLimits options
+IsWithinLimits (Explain file options) = ExplainsWithinLimits options
 IsWithinLimits (Corpus file inputs options workers) = CorpusWithinLimits inputs options workers
 IsWithinLimits (Gen seed functions run) = MadeWithinLimits seed functions
 IsWithinLimits Help = ⊤

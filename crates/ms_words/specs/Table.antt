@@ -3,7 +3,7 @@ use Rattle.std.specs.Prelude.{ℕ, ◌^◌, ◌-◌, List, [], ◌∷◌, Option
 use Rattle.ms_words.specs.declared.topics.Topic.{Topic}
 use Rattle.ms_words.specs.declared.topics.Topic.TheVariants.{Help, Version}
 use Rattle.ms_words.specs.declared.names.CommandName.{CommandName}
-use Rattle.ms_words.specs.declared.names.CommandName.TheVariants.{Instrument, Run, Check, Corpus, Gen}
+use Rattle.ms_words.specs.declared.names.CommandName.TheVariants.{Instrument, Run, Check, Explain, Corpus, Gen}
 use Rattle.ms_words.specs.declared.names.OptionName.{OptionName}
 use Rattle.ms_words.specs.declared.names.OptionName.TheVariants as option
 use Rattle.ms_words.specs.declared.names.Takes.{Takes}
@@ -15,13 +15,14 @@ Word = List ℕ
 
 -- the commands
 abbrev pub commands : List CommandName
-commands = Instrument ∷ Run ∷ Check ∷ Corpus ∷ Gen ∷ []
+commands = Instrument ∷ Run ∷ Check ∷ Explain ∷ Corpus ∷ Gen ∷ []
 
 -- the word that names a command
 abbrev pub command_word : CommandName → Word
 command_word Instrument = codes "instrument"
 command_word Run = codes "run"
 command_word Check = codes "check"
+command_word Explain = codes "explain"
 command_word Corpus = codes "corpus"
 command_word Gen = codes "gen"
 
@@ -66,6 +67,7 @@ abbrev pub options_of : CommandName → List OptionName
 options_of Instrument = []
 options_of Run = option.Input ∷ option.Fill ∷ option.Steps ∷ option.Reports ∷ option.Where ∷ []
 options_of Check = option.Input ∷ option.Fill ∷ option.Steps ∷ option.Reports ∷ option.Where ∷ []
+options_of Explain = option.Input ∷ option.Fill ∷ option.Steps ∷ option.Where ∷ []
 options_of Corpus = option.Workers ∷ option.Fill ∷ option.Steps ∷ option.Reports ∷ option.Where ∷ []
 options_of Gen = option.Seed ∷ option.Functions ∷ option.Run ∷ []
 

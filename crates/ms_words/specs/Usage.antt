@@ -2,7 +2,7 @@
 use Rattle.std.specs.Prelude.{ℕ, ◌-◌, ◌++◌, Bool, List, [], ◌∷◌, Option, Some, None, length, drop, nat_lt, nat_eq, if◌then◌else◌, codes, decimal}
 use Rattle.std.specs.List.{list_any}
 use Rattle.ms_words.specs.declared.names.CommandName.{CommandName}
-use Rattle.ms_words.specs.declared.names.CommandName.TheVariants.{Instrument, Run, Check, Corpus, Gen}
+use Rattle.ms_words.specs.declared.names.CommandName.TheVariants.{Instrument, Run, Check, Explain, Corpus, Gen}
 use Rattle.ms_words.specs.declared.names.OptionName.{OptionName}
 use Rattle.ms_words.specs.declared.names.OptionName.TheVariants as option
 use Rattle.ms_words.specs.declared.names.Takes.{Takes}
@@ -18,6 +18,7 @@ abbrev pub about_command : CommandName → Word
 about_command Instrument = codes "write the module in FILE with inserted code, which run takes"
 about_command Run = codes "run the module in FILE as it is"
 about_command Check = codes "run the module in FILE with inserted code and report uses of uninitialised memory"
+about_command Explain = codes "check the module in FILE and print the way that the bits of the first report took"
 about_command Corpus = codes "check the module in FILE with each INPUT as its standard input"
 about_command Gen = codes "write a generated module"
 

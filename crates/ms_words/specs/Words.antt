@@ -6,7 +6,7 @@ use Rattle.ms_words.specs.declared.names.CommandName.TheVariants as name
 use Rattle.ms_words.specs.declared.names.OptionName.{OptionName}
 use Rattle.ms_words.specs.declared.names.OptionName.TheVariants as option
 use Rattle.ms_words.specs.declared.commands.Command.{Command}
-use Rattle.ms_words.specs.declared.commands.Command.TheVariants.{Instrument, Run, Check, Corpus, Gen, Help, Version}
+use Rattle.ms_words.specs.declared.commands.Command.TheVariants.{Instrument, Run, Check, Explain, Corpus, Gen, Help, Version}
 use Rattle.ms_words.specs.declared.commands.Options.{Options}
 use Rattle.ms_words.specs.declared.commands.WordsError.{WordsError}
 use Rattle.ms_words.specs.declared.commands.WordsError.TheVariants.{NoMemory, UnknownCommand, UnknownOption, MissingValue, MissingFile, MissingOption, Extra, BadNumber, BadHex, Repeated, OutOfRange}
@@ -39,6 +39,10 @@ options_by value = record {
   locations = is_some (value option.Where);
 }
 
+-- what is explained is the first report
+abbrev pub explain_options_by : (OptionName → Option Word) → Options
+explain_options_by value = record (options_by value) { reports = 1 }
+
 -- the options of a corpus have no input, since each of its runs has its own
 abbrev pub corpus_options_by : (OptionName → Option Word) → Options
 corpus_options_by value = record (options_by value) { input = None }
@@ -52,6 +56,7 @@ abbrev pub command_by : CommandName → (OptionName → Option Word) → Word �
 command_by name.Instrument value file inputs = Instrument file
 command_by name.Run value file inputs = Run file (options_by value)
 command_by name.Check value file inputs = Check file (options_by value)
+command_by name.Explain value file inputs = Explain file (explain_options_by value)
 command_by name.Corpus value file inputs = Corpus file inputs (corpus_options_by value) (number_by (value option.Workers))
 command_by name.Gen value file inputs = Gen (number_by (value option.Seed)) (number_by (value option.Functions)) (is_some (value option.Run))
 

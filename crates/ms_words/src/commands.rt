@@ -38,6 +38,12 @@ pub enum Command {
         file: Text,
         options: Options,
     },
+    /// Does what `Check` does up to the first report, and shows the way on which the bits that it is about came. `options` has a
+    /// limit of one report.
+    Explain {
+        file: Text,
+        options: Options,
+    },
     /// Does what `Check` does for each of the inputs, the names of 1 to 256 files, in up to `workers` threads, 1 to 8.
     /// `options` has no input of its own.
     Corpus {

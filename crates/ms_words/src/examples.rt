@@ -1,6 +1,6 @@
 //! What lists of words ask for: laws about the definitions, computed by the check. The results are worked out by hand.
 ghost use Rattle.std.specs.Prelude.{◌≡◌, ◌++◌, [], ◌∷◌, Ok, Err, Some, true, false, codes, decimal, replicate};
-ghost use Rattle.ms_words.specs.declared.commands.Command.TheVariants.{Instrument, Run, Check, Corpus, Gen, Help, Version};
+ghost use Rattle.ms_words.specs.declared.commands.Command.TheVariants.{Instrument, Run, Check, Explain, Corpus, Gen, Help, Version};
 ghost use Rattle.ms_words.specs.declared.commands.WordsError.TheVariants.{UnknownCommand, UnknownOption, MissingValue, MissingFile, MissingOption, Extra, BadNumber, BadHex, Repeated, OutOfRange};
 ghost use Rattle.ms_words.specs.declared.names.CommandName.TheVariants as name;
 ghost use Rattle.ms_words.specs.declared.names.OptionName.TheVariants as option;
@@ -48,6 +48,17 @@ pub fn words_of_a_corpus()
     ensures nine_workers { command_of (codes "corpus" ∷ codes "--workers" ∷ codes "9" ∷ codes "f" ∷ codes "a" ∷ []) ≡ Err (OutOfRange 2) }
     ensures input_as_an_option { command_of (codes "corpus" ∷ codes "--input" ∷ codes "a" ∷ codes "f" ∷ codes "b" ∷ []) ≡ Err (UnknownOption 1) }
     ensures workers_of_run { command_of (codes "run" ∷ codes "--workers" ∷ codes "2" ∷ codes "f" ∷ []) ≡ Err (UnknownOption 1) }
+{}
+
+/// A report to explain, the first one.
+pub fn words_of_an_explanation()
+    ensures file { command_of (codes "explain" ∷ codes "f" ∷ []) ≡ Ok (Explain (codes "f") defaults) }
+    ensures all_options { command_of (codes "explain" ∷ codes "--where" ∷ codes "--input" ∷ codes "in" ∷ codes "--steps=0" ∷ codes "--fill" ∷ codes "00fF" ∷ codes "m" ∷ []) ≡ Ok (Explain (codes "m") (record defaults { input = Some (codes "in"); fill = 0 ∷ 255 ∷ []; steps = 0; locations = true })) }
+    ensures more_reports { command_of (codes "explain" ∷ codes "--reports" ∷ codes "2" ∷ codes "f" ∷ []) ≡ Err (UnknownOption 1) }
+    ensures workers { command_of (codes "explain" ∷ codes "--workers=2" ∷ codes "f" ∷ []) ≡ Err (UnknownOption 1) }
+    ensures no_file { command_of (codes "explain" ∷ []) ≡ Err (MissingFile 1) }
+    ensures second_file { command_of (codes "explain" ∷ codes "f" ∷ codes "a" ∷ []) ≡ Err (Extra 2) }
+    ensures shorter { command_of (codes "explai" ∷ codes "f" ∷ []) ≡ Err (UnknownCommand 0) }
 {}
 
 /// The option that asks where each site stands; it takes no value.
@@ -129,6 +140,7 @@ pub fn lines_of_commands()
     ensures instrument { synopsis name.Instrument ≡ codes "  msan instrument FILE\n" }
     ensures run { synopsis name.Run ≡ codes "  msan run [--input FILE] [--fill HEX] [--steps N] [--reports N] [--where] FILE\n" }
     ensures check { synopsis name.Check ≡ codes "  msan check [--input FILE] [--fill HEX] [--steps N] [--reports N] [--where] FILE\n" }
+    ensures explain { synopsis name.Explain ≡ codes "  msan explain [--input FILE] [--fill HEX] [--steps N] [--where] FILE\n" }
     ensures corpus { synopsis name.Corpus ≡ codes "  msan corpus [--workers N] [--fill HEX] [--steps N] [--reports N] [--where] FILE INPUT...\n" }
     ensures inputs { command_about name.Corpus ≡ codes "      check the module in FILE with each INPUT as its standard input: " ++ decimal 1 ++ codes " to " ++ decimal 256 ++ codes " inputs\n" }
     ensures generates { synopsis name.Gen ≡ codes "  msan gen --seed N --functions N [--run]\n" }

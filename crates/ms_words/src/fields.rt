@@ -5,7 +5,7 @@ ghost use Rattle.clap.specs.Words.{found_of, first_value};
 ghost use Rattle.ms_words.specs.Table.{option_word};
 ghost use Rattle.ms_words.specs.Values.{hex_bytes as hex_bytes_of};
 ghost use Rattle.ms_words.specs.Words.{number_by, options_by, command_by};
-ghost use Rattle.ms_words.specs.Fields.{IsNumber, IsHex, FitsRun, FitsCorpus, FitsGen, Fits, found_value, found_file, found_inputs, is_set as is_set_of};
+ghost use Rattle.ms_words.specs.Fields.{IsNumber, IsHex, FitsRun, FitsReports, FitsCorpus, FitsGen, Fits, found_value, found_file, found_inputs, is_set as is_set_of};
 
 use crate::commands::{Command, Options};
 use crate::names::{CommandName, OptionName};
@@ -103,37 +103,54 @@ fn inputs_in(alloc: Global, found: &ArgMatches) -> Result<List<Text>, NoMemory>
     }
 }
 
-/// The options of a run with this input, by what was found.
-fn options_with(alloc: Global, found: &ArgMatches, input: Option<Text>) -> Result<Options, NoMemory>
+/// The options of a run with this input and this limit of reports, by what was found.
+fn options_with(
+    alloc: Global,
+    found: &ArgMatches,
+    input: Option<Text>,
+    reports: u32,
+) -> Result<Options, NoMemory>
     requires { FitsRun (found_value (found_of found.now)) }
-    ensures { IfOk result (λ o. o ≡ record (options_by (found_value (found_of found.now))) { input = input }) }
+    ensures { IfOk result (λ o. o ≡ record (options_by (found_value (found_of found.now))) { input = input; reports = reports }) }
 {
     let fill = bytes_in(alloc, found, OptionName::Fill)?;
     Ok(Options {
         input,
         fill,
         steps: number_in(found, OptionName::Steps),
-        reports: small_number_in(found, OptionName::Reports),
+        reports,
         locations: is_set(found, OptionName::Where),
     })
 }
 
-/// The options of a run, by what was found.
-fn options_in(alloc: Global, found: &ArgMatches) -> Result<Options, NoMemory>
+/// The options of a run with this limit of reports, by what was found.
+fn options_in(alloc: Global, found: &ArgMatches, reports: u32) -> Result<Options, NoMemory>
     requires { FitsRun (found_value (found_of found.now)) }
-    ensures { IfOk result (λ o. o ≡ options_by (found_value (found_of found.now))) }
+    ensures { IfOk result (λ o. o ≡ record (options_by (found_value (found_of found.now))) { reports = reports }) }
 {
     let input = text_in(alloc, found, OptionName::Input)?;
-    options_with(alloc, found, input)
+    options_with(alloc, found, input, reports)
 }
 
-/// The file and the options of a run, by what was found.
-fn file_and_options(alloc: Global, found: &ArgMatches) -> Result<(Text, Options), NoMemory>
+/// The limit of reports that was found.
+fn reports_in(found: &ArgMatches) -> u32
+    requires { FitsReports (found_value (found_of found.now)) }
+    ensures { result ≡ number_by (found_value (found_of found.now) OptionName.Reports) }
+{
+    small_number_in(found, OptionName::Reports)
+}
+
+/// The file and the options of a run with this limit of reports, by what was found.
+fn file_and_options(
+    alloc: Global,
+    found: &ArgMatches,
+    reports: u32,
+) -> Result<(Text, Options), NoMemory>
     requires { FitsRun (found_value (found_of found.now)) }
-    ensures { IfOk result (λ r. r ≡ (found_file (found_of found.now), options_by (found_value (found_of found.now)))) }
+    ensures { IfOk result (λ r. r ≡ (found_file (found_of found.now), record (options_by (found_value (found_of found.now))) { reports = reports })) }
 {
     let file = file_in(alloc, found)?;
-    let options = options_in(alloc, found)?;
+    let options = options_in(alloc, found, reports)?;
     Ok((file, options))
 }
 
@@ -144,7 +161,7 @@ fn corpus_in(alloc: Global, found: &ArgMatches) -> Result<Command, NoMemory>
 {
     let file = file_in(alloc, found)?;
     let inputs = inputs_in(alloc, found)?;
-    let options = options_with(alloc, found, None)?;
+    let options = options_with(alloc, found, None, reports_in(found))?;
     Ok(Command::Corpus {
         file,
         inputs,
@@ -180,12 +197,16 @@ pub fn command_in(
             Ok(Command::Instrument { file })
         }
         CommandName::Run => {
-            let (file, options) = file_and_options(alloc, found)?;
+            let (file, options) = file_and_options(alloc, found, reports_in(found))?;
             Ok(Command::Run { file, options })
         }
         CommandName::Check => {
-            let (file, options) = file_and_options(alloc, found)?;
+            let (file, options) = file_and_options(alloc, found, reports_in(found))?;
             Ok(Command::Check { file, options })
+        }
+        CommandName::Explain => {
+            let (file, options) = file_and_options(alloc, found, 1)?;
+            Ok(Command::Explain { file, options })
         }
         CommandName::Corpus => corpus_in(alloc, found),
         CommandName::Gen => Ok(generating(found)),

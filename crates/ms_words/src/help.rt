@@ -43,6 +43,9 @@ impl CommandName {
             CommandName::Check => {
                 "run the module in FILE with inserted code and report uses of uninitialised memory"
             }
+            CommandName::Explain => {
+                "check the module in FILE and print the way that the bits of the first report took"
+            }
             CommandName::Corpus => "check the module in FILE with each INPUT as its standard input",
             CommandName::Gen => "write a generated module",
         }

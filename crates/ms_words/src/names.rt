@@ -10,6 +10,7 @@ pub enum CommandName {
     Instrument,
     Run,
     Check,
+    Explain,
     Corpus,
     Gen,
 }
@@ -41,10 +42,11 @@ pub enum Takes {
     Number { least: u64, most: u64 },
 }
 
-pub static COMMANDS: [CommandName; 5] = [
+pub static COMMANDS: [CommandName; 6] = [
     CommandName::Instrument,
     CommandName::Run,
     CommandName::Check,
+    CommandName::Explain,
     CommandName::Corpus,
     CommandName::Gen,
 ];
@@ -69,6 +71,13 @@ static RUN_OPTIONS: [OptionName; 5] = [
     OptionName::Fill,
     OptionName::Steps,
     OptionName::Reports,
+    OptionName::Where,
+];
+
+static EXPLAIN_OPTIONS: [OptionName; 4] = [
+    OptionName::Input,
+    OptionName::Fill,
+    OptionName::Steps,
     OptionName::Where,
 ];
 
@@ -106,6 +115,7 @@ impl CommandName {
             CommandName::Instrument => "instrument",
             CommandName::Run => "run",
             CommandName::Check => "check",
+            CommandName::Explain => "explain",
             CommandName::Corpus => "corpus",
             CommandName::Gen => "gen",
         }
@@ -119,6 +129,7 @@ impl CommandName {
             CommandName::Instrument => NO_OPTIONS.as_slice(),
             CommandName::Run => RUN_OPTIONS.as_slice(),
             CommandName::Check => RUN_OPTIONS.as_slice(),
+            CommandName::Explain => EXPLAIN_OPTIONS.as_slice(),
             CommandName::Corpus => CORPUS_OPTIONS.as_slice(),
             CommandName::Gen => GEN_OPTIONS.as_slice(),
         }

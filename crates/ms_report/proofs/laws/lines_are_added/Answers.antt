@@ -1,5 +1,6 @@
 use Rattle.ms_report.proofs.WithoutLines.{reports_alone, closing_alone, refusal_alone}
 use Rattle.ms_report.proofs.Unindented.{reports_left, closing_left, refusal_left}
+use Rattle.ms_report.proofs.TrailLines.{trail_left}
 use Rattle.ms_report.proofs.laws.lines_are_added.Goals as goal
 
 pub returns-clause-none_in_reports : goal.returns-clause-none_in_reports
@@ -19,3 +20,6 @@ returns-clause-taken_out_of_closings c = λ under m r verdict all. closing_left 
 
 pub returns-clause-taken_out_of_refusals : goal.returns-clause-taken_out_of_refusals
 returns-clause-taken_out_of_refusals c = λ under cause all. refusal_left under all cause
+
+pub returns-clause-taken_out_of_trails : goal.returns-clause-taken_out_of_trails
+returns-clause-taken_out_of_trails c = λ under m moves at hops all. trail_left under all m moves at hops

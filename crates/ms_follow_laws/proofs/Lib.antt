@@ -1,0 +1,4 @@
+pub mod Light
+pub mod Frames
+pub mod Planes
+pub mod Steps

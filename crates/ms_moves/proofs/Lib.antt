@@ -1,0 +1,7 @@
+mod Names
+pub mod Chains
+pub mod Scans
+mod Backwards
+mod Checking
+mod Operands
+mod EdgeWalks

@@ -1,0 +1,10 @@
+pub mod Sources
+pub mod Edges
+pub mod Written
+pub mod Events
+pub mod Traces
+pub mod Leads
+pub mod Moving
+pub mod Scanned
+pub mod Readings
+pub mod Checked

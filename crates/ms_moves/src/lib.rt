@@ -1,0 +1,10 @@
+//! Moves of poisoned bits in a run, and the way over them on which the bits of a use came: what they are, and how the way is
+//! found and checked in one pass.
+#![tactic(auto)]
+
+pub mod back;
+pub mod checks;
+pub mod edges;
+pub mod moves;
+pub mod sources;
+pub mod ways;

@@ -1,0 +1,3 @@
+pub mod FromReached
+pub mod ExampleTraces
+pub mod Complete

@@ -1,0 +1,38 @@
+//! The ways on which poisoned bits came.
+ghost use Rattle.std.specs.Prelude.{◌≡◌, ℕ, List, length};
+ghost use Rattle.ms_ir.specs.declared.syntax.Module.{Module};
+ghost use Rattle.ms_runs.specs.declared.runs.Setup.{Setup};
+ghost use Rattle.ms_moves.specs.declared.moves.Move.{Move as AMove};
+ghost use Rattle.ms_moves.specs.declared.moves.Source.{Source as ASource};
+ghost use Rattle.ms_runs.specs.declared.runs.End.TheVariants as end_of;
+ghost use Rattle.ms_runs.specs.World.{Setting};
+ghost use Rattle.ms_runs.specs.Plain.{More};
+ghost use Rattle.ms_runs.specs.Masks.{by_completions};
+ghost use Rattle.ms_runs.specs.Shadow.{ShadowState, shadow, shadow_step};
+ghost use Rattle.ms_moves.specs.Events.{Numbers};
+ghost use Rattle.ms_moves.specs.Traces.{trace, Found};
+ghost use Rattle.ms_moves.specs.Scanned.{Ascending};
+ghost use Rattle.ms_moves_laws.specs.Complete.{IsComplete};
+ghost use Rattle.ms_moves_laws.specs.FromReached.{FromReached};
+ghost use Rattle.ms_runs_good.specs.Fills.{to_first_report};
+
+/// Where a run has a report, a way over its moves leads from a root that the run has reached to what the report's use reads.
+pub fn some_way()
+    ensures { (m : Module) (setup : Setup) (moves : List AMove) (at : ASource) → trace m setup ≡ Found moves at → FromReached m (to_first_report setup) moves at }
+{}
+
+/// There is such a list exactly where the run ends at a report.
+pub fn found_at_reports()
+    ensures reported { (m : Module) (setup : Setup) → (shadow m (to_first_report setup)).«end» ≡ end_of.Reported → (moves : List AMove) × (at : ASource) × (trace m setup ≡ Found moves at) }
+    ensures found { (m : Module) (setup : Setup) (moves : List AMove) (at : ASource) → trace m setup ≡ Found moves at → (shadow m (to_first_report setup)).«end» ≡ end_of.Reported }
+{}
+
+/// The moves are in the order of their steps.
+pub fn moves_are_in_order()
+    ensures { (m : Module) (setup : Setup) (moves : List AMove) (at : ASource) → trace m setup ≡ Found moves at → Ascending moves }
+{}
+
+/// The list is complete: where no move of a step writes to a place, it is as it was before the step, or clean.
+pub fn moves_are_complete()
+    ensures { (s : Setting) (m : Module) (event : ℕ) (numbers : Numbers) (c d : ShadowState) → length numbers.standing ≡ length c.frames → shadow_step by_completions s m c ≡ More d → IsComplete s m event numbers c d }
+{}

@@ -1,0 +1,4 @@
+mod Fills
+pub mod Reading
+pub mod Indices
+pub mod Computing

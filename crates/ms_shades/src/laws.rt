@@ -1,0 +1,34 @@
+//! What code reads decides its masks: laws, each a public function with an empty body, whose promise is the law.
+ghost use Rattle.std.specs.Prelude.{◌≡◌, ℕ, List, map};
+ghost use Rattle.ms_ir.specs.declared.syntax.Name.{Name};
+ghost use Rattle.ms_ir.specs.declared.syntax.Ty.{Ty};
+ghost use Rattle.ms_ir.specs.declared.syntax.Operand.{Operand};
+ghost use Rattle.ms_ir.specs.declared.syntax.Module.{Module};
+ghost use Rattle.ms_runs.specs.declared.runs.Setup.{Setup};
+ghost use Rattle.ms_runs.specs.Control.{read_all};
+ghost use Rattle.ms_runs.specs.Plain.{setting_of};
+ghost use Rattle.ms_runs.specs.Poisoned.{Poisoned};
+ghost use Rattle.ms_runs.specs.Shadow.{operand_mask, read_poisoned};
+ghost use Rattle.ms_code_data.specs.declared.code.Source.{Source as SourceOf};
+ghost use Rattle.ms_code_data.specs.declared.code.Edge.{Edge as EdgeOf};
+ghost use Rattle.ms_code_data.specs.Reads.{Holds, Reads, ReadsAll};
+ghost use Rattle.ms_code_data.specs.Encodes.{Where, Leads};
+ghost use Rattle.ms_shades.specs.Shades.{mask_of as mask_read, masks_of, masks_moved, shades_at};
+
+/// A source that reads the word of an operand reads its mask too, where the masks of values stand by number.
+pub fn operands_have_masks()
+    ensures { (m : Module) (names : List Name) (w : ℕ) (s : SourceOf) (o : Operand) → Reads m names w s o → (ms : List ℕ) (values : Name → Poisoned) → Holds names ms (λ x. (values x).mask)
+        → mask_read ms s ≡ operand_mask values w o }
+{}
+
+/// So do those of the arguments of a call.
+pub fn arguments_have_masks()
+    ensures { (m : Module) (names : List Name) (ss : List SourceOf) (os : List (Ty × Operand)) → ReadsAll m names ss os → (u : Setup) (ms : List ℕ) (values : Name → Poisoned) → Holds names ms (λ x. (values x).mask)
+        → (n : ℕ) → masks_of ms ss ≡ map (λ p. p.mask) (read_all (read_poisoned (setting_of m u) values) os n) }
+{}
+
+/// An edge that does the phis of a block does their masks too.
+pub fn phis_have_masks()
+    ensures { (at : Where) (e : EdgeOf) (to : Name) → Leads at e to → (u : Setup) (ms : List ℕ) (values : Name → Poisoned) → Holds at.names ms (λ x. (values x).mask)
+        → Holds at.names (masks_moved ms e.moves) (λ x. (shades_at at u to values x).mask) }
+{}

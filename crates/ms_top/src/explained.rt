@@ -1,0 +1,142 @@
+//! What `explain` says: the first report of a run, and the way on which the bits of that report came.
+ghost use Rattle.std.specs.Prelude.{◌≡◌, ◌≤◌, ◌<◌, ◌^◌, true, length, IfOk};
+ghost use Rattle.ms_moves.specs.Scanned.{Ascending, trail_of};
+ghost use Rattle.ms_runs.specs.Limits.{WithinLimits};
+ghost use Rattle.ms_valid.specs.Formed.{Formed};
+ghost use Rattle.ms_valid.specs.Uninstrumented.{CanInstrument};
+ghost use Rattle.ms_words.specs.Limits.{RunsWithinLimits};
+ghost use Rattle.ms_top.specs.Command.{input_limit, setup_of as setup_with};
+ghost use Rattle.ms_top.specs.Explained.{CanLead, explained_with, followed, trace_with, way_with};
+ghost use Rattle.ms_top.specs.Said.{answer_of_explained, IsAnswerOfExplain};
+
+use crate::answers::{Answer, run_given, setup_of, status_of};
+use crate::passes::Pass;
+use ms_bits::{Bytes, NoMemory};
+use ms_check::CheckedModule;
+use ms_ir::Module;
+use ms_moves::back::trail;
+use ms_moves::moves::{Move, Source};
+use ms_report::{SiteLines, closing_with, report_text_with, trail_text_with};
+use ms_runs::{RunResult, Setup};
+use ms_trail::found::Trace;
+use ms_trail::traces::trace;
+use ms_words::Options;
+use std::alloc::Global;
+use std::thread::Threads;
+
+/// The answer of `explain`: for the run of the module that the pass gives, and for the way of the bits that it reports.
+pub fn answer_of_explain<R: Threads + Sync, P: Pass, L: SiteLines>(
+    rt: &R,
+    alloc: Global,
+    m: &CheckedModule,
+    options: &Options,
+    input: &[u8],
+    pass: &P,
+    under: &L,
+) -> Result<Answer, NoMemory>
+    requires plain { CanInstrument m.now }
+    requires limits { RunsWithinLimits options.now }
+    requires input { length input.now ≤ input_limit }
+    ensures { IfOk result (λ a. IsAnswerOfExplain P.gives (L.lines under.now) (setup_with options.now input.now) m.now a) }
+{
+    let setup = setup_of(alloc, options, input)?;
+    let result = run_given(rt, alloc, m, &setup, pass)?;
+    explanation(alloc, m, &setup, &result, under)
+}
+
+/// The answer for the result of a run with a setup.
+fn explanation<L: SiteLines>(
+    alloc: Global,
+    m: &CheckedModule,
+    setup: &Setup,
+    r: &RunResult,
+    under: &L,
+) -> Result<Answer, NoMemory>
+    requires plain { CanInstrument m.now }
+    requires limits { WithinLimits setup.now }
+    ensures { IfOk result (λ a. a ≡ answer_of_explained (L.lines under.now) m.now setup.now r.now) }
+{
+    m.is_valid();
+    let out = explained(alloc, m, setup, r, under)?;
+    let err = closing_with(alloc, m.module(), r, true, under)?;
+    Ok(Answer {
+        status: status_of(r),
+        out: Bytes::from_vec(out),
+        err: Bytes::from_vec(err),
+    })
+}
+
+/// The lines of the report of a run with a setup, and of the way of its bits.
+fn explained<L: SiteLines>(
+    alloc: Global,
+    m: &CheckedModule,
+    setup: &Setup,
+    r: &RunResult,
+    under: &L,
+) -> Result<Vec<u8>, NoMemory>
+    requires plain { CanInstrument m.now }
+    requires limits { WithinLimits setup.now }
+    ensures { IfOk result (λ text. text.items ≡ explained_with (L.lines under.now) m.now setup.now r.now) }
+{
+    m.is_valid();
+    if r.reports.as_slice().is_empty() {
+        return Vec::from_slice(alloc, b"no report\n");
+    }
+    let mut text = report_text_with(alloc, m.module(), r, under)?;
+    let lines = lines_of_run(alloc, m, setup, under)?;
+    text.extend_from_slice(&lines)?;
+    Ok(text)
+}
+
+/// The lines of the way of the bits that the first report of a run with a setup is about.
+fn lines_of_run<L: SiteLines>(
+    alloc: Global,
+    m: &CheckedModule,
+    setup: &Setup,
+    under: &L,
+) -> Result<Vec<u8>, NoMemory>
+    requires plain { CanInstrument m.now }
+    requires limits { WithinLimits setup.now }
+    ensures { IfOk result (λ text. text.items ≡ trace_with (L.lines under.now) m.now (followed m.now setup.now)) }
+{
+    m.is_valid();
+    let found = trace(alloc, m, setup)?;
+    lines_of_trace(alloc, m.module(), &found, under)
+}
+
+/// The lines of what following a run comes to.
+fn lines_of_trace<L: SiteLines>(
+    alloc: Global,
+    m: &Module,
+    found: &Trace,
+    under: &L,
+) -> Result<Vec<u8>, NoMemory>
+    requires formed { Formed m.now }
+    requires leads { CanLead found.now }
+    ensures { IfOk result (λ text. text.items ≡ trace_with (L.lines under.now) m.now found.now) }
+{
+    match found {
+        Trace::NoReport => Ok(Vec::new(alloc)),
+        Trace::TooLong { .. } => Vec::from_slice(alloc, b"  trail: too long\n"),
+        Trace::Found { moves, at } => lines_of_way(alloc, m, moves.as_slice(), at, under),
+    }
+}
+
+/// The lines of the way over moves to what a use reads.
+fn lines_of_way<L: SiteLines>(
+    alloc: Global,
+    m: &Module,
+    moves: &[Move],
+    at: &Source,
+    under: &L,
+) -> Result<Vec<u8>, NoMemory>
+    requires formed { Formed m.now }
+    requires ascending { Ascending moves.now }
+    requires few { length moves.now < 2 ^ 32 }
+    ensures { IfOk result (λ text. text.items ≡ way_with (L.lines under.now) m.now moves.now at.now (trail_of moves.now at.now)) }
+{
+    match trail(alloc, moves, at)? {
+        Some(hops) => trail_text_with(alloc, m, moves, at, &hops, under),
+        None => Ok(Vec::new(alloc)),
+    }
+}

@@ -1,0 +1,200 @@
+//! Ways over the moves of a run: the one that is found and taken, and lists of hops that are none.
+ghost use Rattle.std.specs.Prelude.{◌<◌, ◌^◌, length, IfOk};
+ghost use Rattle.ms_runs.specs.Limits.{WithinLimits};
+ghost use Rattle.ms_valid.specs.Formed.{Formed};
+ghost use Rattle.ms_valid.specs.Uninstrumented.{CanInstrument};
+ghost use Rattle.ms_moves.specs.Scanned.{Ascending};
+ghost use Rattle.ms_top.specs.Explained.{CanLead};
+
+use ms_bits::Bytes;
+use ms_check::{CheckedModule, check};
+use ms_ir::{Form, Module};
+use ms_moves::back::trail;
+use ms_moves::checks::check_trail;
+use ms_moves::moves::{Hop, Move, Source};
+use ms_read_top::read;
+use ms_runs::Setup;
+use ms_trail::found::Trace;
+use ms_trail::traces::trace;
+use std::alloc::{AllocError, Global};
+use std::test::Fail;
+
+/// A text, the way over the moves of its run, and lists of hops that are none.
+struct Way(&'static str, &'static [Hop], &'static [&'static [Hop]]);
+
+static WAYS: [Way; 3] = [
+    // Move 1 stores to a neighbour, with which the byte shares an origin.
+    Way(
+        "define i32 @main() {\n  %1 = alloca [4 x i8]\n  store i8 undef, ptr %1\n  %2 = getelementptr i8, ptr %1, i64 1\n  %3 = load i8, ptr %2\n  %4 = zext i8 %3 to i32\n  ret i32 %4\n}\n",
+        &[
+            Hop { index: 0, byte: 1 },
+            Hop { index: 2, byte: 0 },
+            Hop { index: 3, byte: 0 },
+        ],
+        &[
+            &[
+                Hop { index: 1, byte: 1 },
+                Hop { index: 2, byte: 0 },
+                Hop { index: 3, byte: 0 },
+            ],
+            &[
+                Hop { index: 1, byte: 0 },
+                Hop { index: 2, byte: 0 },
+                Hop { index: 3, byte: 0 },
+            ],
+            &[
+                Hop { index: 0, byte: 0 },
+                Hop { index: 2, byte: 0 },
+                Hop { index: 3, byte: 0 },
+            ],
+            &[Hop { index: 2, byte: 0 }, Hop { index: 3, byte: 0 }],
+            &[Hop { index: 0, byte: 1 }, Hop { index: 2, byte: 0 }],
+            &[
+                Hop { index: 0, byte: 1 },
+                Hop { index: 2, byte: 0 },
+                Hop { index: 3, byte: 0 },
+                Hop { index: 4, byte: 0 },
+            ],
+            &[],
+        ],
+    ),
+    // Move 2 is of the step that move 3 is of, so move 3 doesn't read what it wrote.
+    Way(
+        "define i32 @main() {\n  br label %1\n1:\n  %2 = phi i32 [ undef, %0 ], [ %3, %1 ]\n  %3 = phi i32 [ undef, %0 ], [ %2, %1 ]\n  %4 = phi i1 [ true, %0 ], [ false, %1 ]\n  br i1 %4, label %1, label %5\n5:\n  ret i32 %3\n}\n",
+        &[Hop { index: 0, byte: 0 }, Hop { index: 3, byte: 0 }],
+        &[
+            &[
+                Hop { index: 1, byte: 0 },
+                Hop { index: 2, byte: 0 },
+                Hop { index: 3, byte: 0 },
+            ],
+            &[Hop { index: 2, byte: 0 }, Hop { index: 3, byte: 0 }],
+            &[Hop { index: 1, byte: 0 }],
+        ],
+    ),
+    // What is used is a root itself.
+    Way(
+        "define i32 @main() {\n  ret i32 undef\n}\n",
+        &[],
+        &[&[Hop { index: 0, byte: 0 }]],
+    ),
+];
+
+fn is_found(alloc: Global, moves: &[Move], at: &Source, hops: &[Hop]) -> bool
+    requires ascending { Ascending moves.now }
+    requires few { length moves.now < 2 ^ 32 }
+{
+    match trail(alloc, moves, at) {
+        Ok(Some(found)) => found.as_slice() == hops,
+        _ => false,
+    }
+}
+
+/// Whether there is no way to the byte at address 0, which no run comes to.
+fn has_no_way(alloc: Global, moves: &[Move]) -> bool
+    requires ascending { Ascending moves.now }
+    requires few { length moves.now < 2 ^ 32 }
+{
+    match trail(alloc, moves, &Source::Byte { addr: 0 }) {
+        Ok(None) => true,
+        _ => false,
+    }
+}
+
+fn are_refused(moves: &[Move], at: &Source, others: &[&[Hop]]) -> bool
+    requires { Ascending moves.now }
+{
+    for hops in others {
+        if check_trail(moves, at, hops) {
+            return false;
+        }
+    }
+    true
+}
+
+/// Whether over these moves a row's way is the one to what a use reads.
+fn is_the_way(alloc: Global, moves: &[Move], at: &Source, way: &Way) -> bool
+    requires ascending { Ascending moves.now }
+    requires few { length moves.now < 2 ^ 32 }
+{
+    is_found(alloc, moves, at, way.1)
+        && has_no_way(alloc, moves)
+        && check_trail(moves, at, way.1)
+        && are_refused(moves, at, way.2)
+}
+
+fn leads(alloc: Global, found: &Trace, way: &Way) -> bool
+    requires { CanLead found.now }
+{
+    match found {
+        Trace::Found { moves, at } => is_the_way(alloc, moves.as_slice(), at, way),
+        _ => false,
+    }
+}
+
+fn is_followed(alloc: Global, m: &CheckedModule, setup: &Setup, way: &Way) -> bool
+    requires plain { CanInstrument m.now }
+    requires limits { WithinLimits setup.now }
+{
+    match trace(alloc, m, setup) {
+        Ok(found) => leads(alloc, &found, way),
+        Err(_) => false,
+    }
+}
+
+fn default_setup(alloc: Global) -> Result<Setup, AllocError>
+    ensures { IfOk result (λ s. WithinLimits s) }
+{
+    let fill = vec![in alloc; 0xa5]?;
+    Ok(Setup {
+        input: Bytes::from_vec(Vec::new(alloc)),
+        fill: Bytes::from_vec(fill),
+        steps: 1000,
+        reports: 1,
+    })
+}
+
+fn is_run(alloc: Global, m: &CheckedModule, way: &Way) -> bool
+    requires { CanInstrument m.now }
+{
+    match default_setup(alloc) {
+        Ok(setup) => is_followed(alloc, m, &setup, way),
+        Err(_) => false,
+    }
+}
+
+fn is_checked(alloc: Global, m: Module, way: &Way) -> bool
+    requires formed { Formed m }
+    requires plain { CanInstrument m }
+{
+    match check(alloc, m) {
+        Ok(module) => is_run(alloc, &module, way),
+        Err(_) => false,
+    }
+}
+
+#[tactic(auto, unfolding(ms_grammar::specs::Texts::max_bytes))]
+fn agrees(alloc: Global, text: &[u8], way: &Way) -> bool {
+    if text.len() > 1 << 20 {
+        return false;
+    }
+    match read(alloc, text, Form::Plain) {
+        Ok(m) => is_checked(alloc, m, way),
+        Err(_) => false,
+    }
+}
+
+fn all_agree(alloc: Global, ways: &[Way]) -> bool {
+    for way in ways {
+        if !agrees(alloc, way.0.as_bytes(), way) {
+            return false;
+        }
+    }
+    true
+}
+
+#[test]
+fn ways_are_found_and_others_refused(rt: HostRuntime) -> Result<(), Fail> {
+    assert!(rt; all_agree(rt.alloc(), &WAYS));
+    Ok(())
+}

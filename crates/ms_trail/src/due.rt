@@ -1,0 +1,53 @@
+//! The code of the instruction that is due, and its site.
+ghost use Rattle.std.specs.Prelude.{◌≡◌, ◌∷◌, ◌<◌, ℕ, List, length, get_or};
+ghost use Rattle.ms_ir.specs.Code.{site_at};
+ghost use Rattle.ms_runs.specs.declared.runs.Setup.{Setup};
+ghost use Rattle.ms_runs.specs.Control.{Frame as FrameOf};
+ghost use Rattle.ms_runs.specs.Plain.{PlainState};
+ghost use Rattle.ms_host.specs.State.{Beside};
+ghost use Rattle.ms_machine.specs.Running.{IsRunning, Runs};
+ghost use Rattle.ms_trail.specs.Due.{IsDue};
+ghost use Rattle.ms_trail.specs.Ready.{FitsHere};
+
+use ms_check::CheckedModule;
+use ms_code_data::{Code, Site};
+use ms_host::World;
+use ms_machine_steps::Fiber;
+
+/// The code with a number.
+pub(crate) fn code_at(code: &[Code], at: usize) -> &Code
+    requires { at < length code.now }
+    ensures { result.now ≡ get_or code.now at result.now }
+{
+    &code[at]
+}
+
+/// The site with a number.
+fn site_at_number(sites: &[Site], at: usize) -> Site
+    requires { at < length sites.now }
+    ensures { result ≡ get_or sites.now at result }
+{
+    sites[at]
+}
+
+/// The code of the instruction at which a fiber stands.
+pub fn due_code<'a>(m: &'a CheckedModule, fiber: &Fiber, world: &World) -> &'a Code
+    requires { Runs m.now fiber.now world.now }
+    ensures due { IsDue m.now fiber.now world.now result.now }
+    ensures fits { FitsHere fiber.now result.now }
+{
+    m.is_valid();
+    let program = m.program();
+    code_at(program.code.as_slice(), fiber.frame.at)
+}
+
+/// The site of the instruction at which a fiber stands.
+pub fn due_site(m: &CheckedModule, fiber: &Fiber, world: &World) -> u32
+    requires { Runs m.now fiber.now world.now }
+    ensures { (u : Setup) (beside : Beside) (state : PlainState) (frame : FrameOf ℕ) (below : List (FrameOf ℕ)) → IsRunning m.now u beside fiber.now world.now state → state.frames ≡ frame ∷ below → result ≡ site_at m.now frame.func frame.block frame.place }
+{
+    m.is_valid();
+    let program = m.program();
+    let site = site_at_number(program.sites.as_slice(), fiber.frame.at);
+    site.number
+}

@@ -1,0 +1,122 @@
+//! Jumps.
+ghost use Rattle.std.specs.Prelude.{◌≡◌, ◌≤◌, ◌<◌, ◌+◌, ◌^◌, ◌++◌, ℕ, List, length, All, IfOk, OnOk};
+ghost use Rattle.ms_ir.specs.declared.syntax.Module.{Module};
+ghost use Rattle.ms_ir.specs.Code.{func_index, insts_at, root_at, site_at, count_roots, NoMarks};
+ghost use Rattle.ms_runs.specs.declared.runs.Setup.{Setup};
+ghost use Rattle.ms_runs.specs.Control.{count_phis};
+ghost use Rattle.ms_code_data.specs.Fits.{IsMove};
+ghost use Rattle.ms_code_data.specs.Words.{put_all};
+ghost use Rattle.ms_code_data.specs.Encodes.{number_of};
+ghost use Rattle.ms_machine_steps.specs.Meaning.{IsJump};
+ghost use Rattle.ms_moves.specs.Traces.{Traced};
+ghost use Rattle.ms_moves.specs.declared.moves.Move.{Move as MoveOf};
+ghost use Rattle.ms_trail.specs.Following.{IsFollowed, Passes, Went};
+ghost use Rattle.ms_trail.specs.Logs.{IsLog};
+ghost use Rattle.ms_trail.specs.Phis.{TellsPhis, phis_told};
+ghost use Rattle.ms_trail.specs.Ready.{Grew, IsReady};
+ghost use Rattle.ms_trail.specs.Tabled.{AreTables};
+ghost use Rattle.ms_trail.specs.Taken.{IsTaken};
+
+use crate::due::due_site;
+use crate::follower::Follower;
+use crate::logs::Log;
+use crate::spans::Stamp;
+use crate::steps::step;
+use crate::tables::Tables;
+use crate::words::tell_phi;
+use ms_bits::NoMemory;
+use ms_code_data::{Code, Edge, Move};
+use ms_ir::Name;
+use ms_shades::read_masks;
+use std::alloc::Global;
+
+/// Puts masks at the places of phis, one after the other.
+fn put_masks(masks: &mut Vec<u64>, moves: &[Move], read: &[u64])
+    requires moves { All (IsMove (length masks.old.items)) moves.now }
+    requires room { length moves.now ≤ length read.now }
+    ensures masks { masks.new.items ≡ put_all masks.old.items moves.now read.now }
+    ensures len { length masks.new.items ≡ length masks.old.items }
+{
+    for i in 0..moves.len() {
+        masks[moves[i].to] = read[i];
+    }
+}
+
+/// The moves of phis with these masks, the first of which has a number, in a jump from the block with a name; the instruction
+/// behind them has a site. The one error is want of memory.
+fn tell_phis(
+    alloc: Global,
+    log: &mut Log,
+    behind: Stamp,
+    frame: u64,
+    tables: &Tables<'_>,
+    first: usize,
+    from: &Name,
+    read: &[u64],
+) -> Result<(), NoMemory>
+    requires phis { TellsPhis tables.now.rows.items first read.now behind.site }
+    requires few { log.old.count + length read.now < 2 ^ 64 }
+    ensures told { (m : Module) (f b : ℕ) (moves : List MoveOf) → AreTables m tables.now.rows.items → NoMarks m → first ≡ number_of m f b 0 → length read.now ≡ count_phis (insts_at m f b) → behind.site ≡ site_at m f b (length read.now)
+        → IsLog log.old moves → OnOk result (IsLog log.new (moves ++ phis_told behind.event frame (func_index m.funcs) from.now (insts_at m f b) (root_at (func_index m.funcs) m f b 0) (site_at m f b 0) read.now)) }
+    ensures count { log.new.count ≤ log.old.count + length read.now }
+{
+    for k in 0..read.len() {
+        let stamp = Stamp {
+            event: behind.event,
+            site: behind.site - (read.len() - k) as u32,
+        };
+        tell_phi(
+            alloc,
+            log,
+            stamp,
+            frame,
+            tables.row(first + k),
+            from,
+            read[k],
+        )?;
+    }
+    Ok(())
+}
+
+impl Follower<'_> {
+    /// A jump: its phis all read the masks before it. Answers whether the run goes on. The one error is want of memory.
+    pub(crate) fn jump(&mut self, alloc: Global, code: &Code, edge: &Edge) -> Result<bool, NoMemory>
+        requires ready { IsReady self.old code.now }
+        requires jumps { IsJump code.now }
+        requires taken { IsTaken self.old.fill.now self.old.fiber.frame.values.items code.now edge.now }
+        requires moves { All (IsMove (length self.old.fiber.frame.values.items)) edge.now.moves }
+        ensures went { (u : Setup) (t : Traced) → IsFollowed self.old.m.now u t self.old → Passes self.old.m.now u t → IfOk result (λ on. Went self.old.m.now u t on self.new) }
+        ensures grew { IfOk result (λ on. Grew self.old self.new) }
+    {
+        let moves = edge.moves.as_slice();
+        let row = self.tables.row(self.fiber.frame.at);
+        let view = self.view();
+        let mut read = Vec::new(alloc);
+        read_masks(&view, moves, &mut read)?;
+        let on = step(alloc, self.m, &mut self.fiber, &mut self.world)?;
+        if on {
+            let masks = read.as_slice();
+            put_masks(&mut self.shade.masks, moves, masks);
+            let site = due_site(self.m, &self.fiber, &self.world);
+            let behind = Stamp {
+                event: self.event,
+                site,
+            };
+            let first = edge.to - moves.len();
+            tell_phis(
+                alloc,
+                &mut self.log,
+                behind,
+                self.shade.number,
+                &self.tables,
+                first,
+                row.block,
+                masks,
+            )?;
+            self.event += 1;
+            Ok(true)
+        } else {
+            Ok(false)
+        }
+    }
+}

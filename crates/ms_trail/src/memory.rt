@@ -1,0 +1,113 @@
+//! Instructions that write memory.
+ghost use Rattle.std.specs.Prelude.{◌≡◌, ◌<◌, length, get_or, IfOk};
+ghost use Rattle.ms_runs.specs.declared.runs.Setup.{Setup};
+ghost use Rattle.ms_moves.specs.Traces.{Traced};
+ghost use Rattle.ms_trail.specs.Following.{IsFollowed, Passes, Went};
+ghost use Rattle.ms_trail.specs.Ready.{Grew, IsReady};
+
+use crate::due::due_site;
+use crate::fills::{shade_stored, unset};
+use crate::follower::Follower;
+use crate::results::put_mask;
+use crate::sources::{own_root, stored_source};
+use crate::spans::Stamp;
+use crate::steps::step;
+use ms_bits::NoMemory;
+use ms_code_data::{Code, Source as Operand};
+use std::alloc::Global;
+
+/// The value with a place.
+fn value_at(values: &Vec<u64>, place: usize) -> u64
+    requires { place < length values.now.items }
+    ensures { result ≡ get_or values.now.items place 0 }
+{
+    values[place]
+}
+
+impl Follower<'_> {
+    /// An `alloca` of `count` elements of `size` bytes. Answers whether the run goes on. The one error is want of memory.
+    pub(crate) fn alloca(
+        &mut self,
+        alloc: Global,
+        code: &Code,
+        size: u64,
+        count: Operand,
+        to: usize,
+    ) -> Result<bool, NoMemory>
+        requires ready { IsReady self.old code.now }
+        requires is { code.now ≡ Code.Alloca size count to }
+        ensures went { (u : Setup) (t : Traced) → IsFollowed self.old.m.now u t self.old → Passes self.old.m.now u t → IfOk result (λ on. Went self.old.m.now u t on self.new) }
+        ensures grew { IfOk result (λ on. Grew self.old self.new) }
+    {
+        let row = self.tables.row(self.fiber.frame.at);
+        let site = due_site(self.m, &self.fiber, &self.world);
+        let root = own_root(row.roots, &row.inst.op);
+        let many = self.value(count);
+        let on = step(alloc, self.m, &mut self.fiber, &mut self.world)?;
+        if on {
+            put_mask(&mut self.shade.masks, to, 0);
+            let n = size * many;
+            let base = value_at(&self.fiber.frame.values, to);
+            let stamp = Stamp {
+                event: self.event,
+                site,
+            };
+            unset(
+                alloc,
+                &mut self.world,
+                &mut self.log,
+                stamp,
+                root,
+                base,
+                0,
+                n,
+            )?;
+            self.event += 1;
+            Ok(true)
+        } else {
+            Ok(false)
+        }
+    }
+
+    /// A store of `size` bytes. Answers whether the run goes on. The one error is want of memory.
+    pub(crate) fn store(
+        &mut self,
+        alloc: Global,
+        code: &Code,
+        size: u8,
+        value: Operand,
+        addr: Operand,
+    ) -> Result<bool, NoMemory>
+        requires ready { IsReady self.old code.now }
+        requires is { code.now ≡ Code.Store size value addr }
+        ensures went { (u : Setup) (t : Traced) → IsFollowed self.old.m.now u t self.old → Passes self.old.m.now u t → IfOk result (λ on. Went self.old.m.now u t on self.new) }
+        ensures grew { IfOk result (λ on. Grew self.old self.new) }
+    {
+        let row = self.tables.row(self.fiber.frame.at);
+        let site = due_site(self.m, &self.fiber, &self.world);
+        let first = self.value(addr);
+        let mask = self.mask(value);
+        let from = stored_source(alloc, self.shade.number, row.roots, &row.inst.op, mask)?;
+        let on = step(alloc, self.m, &mut self.fiber, &mut self.world)?;
+        if on {
+            let stamp = Stamp {
+                event: self.event,
+                site,
+            };
+            shade_stored(
+                alloc,
+                &mut self.world,
+                &mut self.log,
+                stamp,
+                &from,
+                first,
+                size,
+                mask,
+            )?;
+            self.event += 1;
+            Ok(true)
+        } else {
+            Ok(false)
+        }
+    }
+}

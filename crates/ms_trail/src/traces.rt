@@ -1,0 +1,57 @@
+//! The moves of a run up to its first report.
+ghost use Rattle.std.specs.Prelude.{◌≡◌, List, IfOk};
+ghost use Rattle.ms_runs.specs.Limits.{WithinLimits};
+ghost use Rattle.ms_valid.specs.Uninstrumented.{CanInstrument};
+ghost use Rattle.ms_moves.specs.declared.moves.Move.{Move as MoveOf};
+ghost use Rattle.ms_moves.specs.Traces.{trace as moves_of, Found};
+ghost use Rattle.ms_trail.specs.Logs.{IsLog};
+ghost use Rattle.ms_trail.specs.Tracing.{limited};
+
+use crate::follower::{Follower, Turn};
+use crate::found::Trace;
+use crate::logs::{Log, MOVE_LIMIT};
+use ms_bits::{List, NoMemory};
+use ms_check::CheckedModule;
+use ms_moves::moves::Source;
+use ms_runs::Setup;
+use std::alloc::Global;
+
+/// What following a run comes to that is reported, with the moves before that and what the report's use reads.
+#[tactic(auto, unfolding(crate::specs::Logs::move_limit))]
+fn reported(log: Log, at: Source) -> Trace
+    ensures { (moves : List MoveOf) → IsLog log moves → result ≡ limited (Found moves at) }
+{
+    let Log { moves, count } = log;
+    if count > MOVE_LIMIT {
+        Trace::TooLong { moves: count }
+    } else {
+        let moves = List::from_vec(moves);
+        Trace::Found { moves, at }
+    }
+}
+
+/// Follows a run of a checked module up to its first report, whatever limit of reports the setup has. Ok is the moves of poisoned
+/// bits that come before it, with what the report's use reads, or why there is no such list; the one error is want of memory.
+///
+/// The run is that of the machine, one step at a time, and the masks of its values are computed beside it. A step takes as long
+/// in a large module as in a small one, but for a phi, which takes the time of a walk over its edges.
+pub fn trace(alloc: Global, m: &CheckedModule, setup: &Setup) -> Result<Trace, NoMemory>
+    requires plain { CanInstrument m.now }
+    requires limits { WithinLimits setup.now }
+    ensures { IfOk result (λ found. found ≡ limited (moves_of m.now setup.now)) }
+{
+    let mut run = Follower::new(alloc, m, setup)?;
+    let mut left = setup.steps;
+    while 0 < left {
+        left -= 1;
+        match run.turn(alloc)? {
+            Turn::On => {}
+            Turn::Over => return Ok(Trace::NoReport),
+            Turn::Reported(at) => {
+                let log = run.log;
+                return Ok(reported(log, at));
+            }
+        }
+    }
+    Ok(Trace::NoReport)
+}

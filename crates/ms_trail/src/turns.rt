@@ -1,0 +1,163 @@
+//! One step of a run that is followed.
+ghost use Rattle.std.specs.Prelude.{◌≡◌, None, IfOk};
+ghost use Rattle.ms_runs.specs.declared.runs.Setup.{Setup as SetupOf};
+ghost use Rattle.ms_moves.specs.Traces.{Traced};
+ghost use Rattle.ms_trail.specs.Following.{IsFollowed, Passes, Turned, Went};
+ghost use Rattle.ms_machine_steps.specs.Meaning.{IsJump};
+ghost use Rattle.ms_trail.specs.Due.{IsDue, sets_at};
+ghost use Rattle.ms_trail.specs.Ready.{FitsHere, Grew, IsGoing, IsReady};
+ghost use Rattle.ms_trail.specs.Turning.{ReadsAt, FoundAt};
+
+use crate::checked::first_used;
+use crate::due::due_code;
+use crate::edges::taken;
+use crate::follower::{Follower, Turn};
+use crate::used::Used;
+use ms_bits::NoMemory;
+use ms_code_data::Code;
+use ms_moves::moves::Source;
+use ms_moves::sources::source_at;
+use std::alloc::Global;
+
+/// The place of the value that an instruction sets by its operands alone, if it does.
+fn place_set(code: &Code) -> Option<usize>
+    ensures { result ≡ sets_at code.now }
+{
+    match code {
+        Code::Binary { to, .. }
+        | Code::Icmp { to, .. }
+        | Code::Cast { to, .. }
+        | Code::Select { to, .. }
+        | Code::Freeze { to, .. }
+        | Code::Gep { to, .. } => Some(*to),
+        _ => None,
+    }
+}
+
+impl Follower<'_> {
+    /// What a use that is reported reads. The one error is want of memory.
+    fn read_by(&self, alloc: Global, code: &Code, used: Used) -> Result<Source, NoMemory>
+        requires going { IsGoing self.now }
+        requires due { IsDue self.now.m.now self.now.fiber self.now.world code.now }
+        ensures { (u : SetupOf) (t : Traced) → IsFollowed self.now.m.now u t self.now → IfOk result (λ s. ReadsAt self.now.m.now u t used s) }
+    {
+        match used {
+            Used::Operand(k) => {
+                let row = self.tables.row(self.fiber.frame.at);
+                source_at(alloc, self.shade.number, row.roots, &row.inst.op, k)
+            }
+            Used::Byte(addr) => Ok(Source::Byte { addr }),
+        }
+    }
+
+    /// What the instruction that is due does, where it neither sets a value by its operands alone nor jumps. Answers whether the run
+    /// goes on; the one error is want of memory.
+    fn do_other(&mut self, alloc: Global, code: &Code) -> Result<bool, NoMemory>
+        requires ready { IsReady self.old code.now }
+        requires sets { sets_at code.now ≡ None }
+        requires stays { ¬ IsJump code.now }
+        ensures went { (u : SetupOf) (t : Traced) → IsFollowed self.old.m.now u t self.old → Passes self.old.m.now u t → IfOk result (λ on. Went self.old.m.now u t on self.new) }
+        ensures grew { IfOk result (λ on. Grew self.old self.new) }
+    {
+        match code {
+            Code::Load {
+                size,
+                mask,
+                addr,
+                to,
+            } => self.load(alloc, code, *size, *mask, *addr, *to),
+            Code::Store { size, value, addr } => self.store(alloc, code, *size, *value, *addr),
+            Code::Alloca { size, count, to } => self.alloca(alloc, code, *size, *count, *to),
+            Code::Call { func, args, to } => self.call(alloc, code, *func, args.as_slice(), *to),
+            Code::External { external, args, to } => self.call_outside(
+                alloc,
+                code,
+                *external,
+                args.as_slice(),
+                *to,
+            ),
+            Code::Return { value } => self.leave(alloc, code, *value),
+            Code::LoadMarked { .. } => Ok(false),
+            Code::StoreMarked { .. } => Ok(false),
+            Code::Runtime { .. } => Ok(false),
+            Code::Exit { .. } => Ok(false),
+            Code::Unreachable => Ok(false),
+            Code::Phi => Ok(false),
+            Code::Binary { .. } => Ok(false),
+            Code::Icmp { .. } => Ok(false),
+            Code::Cast { .. } => Ok(false),
+            Code::Select { .. } => Ok(false),
+            Code::Freeze { .. } => Ok(false),
+            Code::Gep { .. } => Ok(false),
+            Code::Jump { .. } => Ok(false),
+            Code::Branch { .. } => Ok(false),
+            Code::Switch { .. } => Ok(false),
+        }
+    }
+
+    /// What the instruction that is due does, where it sets no value by its operands alone. Answers whether the run goes on; the one
+    /// error is want of memory.
+    fn do_rest(&mut self, alloc: Global, code: &Code) -> Result<bool, NoMemory>
+        requires ready { IsReady self.old code.now }
+        requires sets { sets_at code.now ≡ None }
+        ensures went { (u : SetupOf) (t : Traced) → IsFollowed self.old.m.now u t self.old → Passes self.old.m.now u t → IfOk result (λ on. Went self.old.m.now u t on self.new) }
+        ensures grew { IfOk result (λ on. Grew self.old self.new) }
+    {
+        let view = self.view();
+        match taken(&view, code) {
+            Some(edge) => self.jump(alloc, code, edge),
+            None => self.do_other(alloc, code),
+        }
+    }
+
+    /// What the instruction that is due does. Answers whether the run goes on; the one error is want of memory.
+    fn do_inst(&mut self, alloc: Global, code: &Code) -> Result<bool, NoMemory>
+        requires ready { IsReady self.old code.now }
+        ensures went { (u : SetupOf) (t : Traced) → IsFollowed self.old.m.now u t self.old → Passes self.old.m.now u t → IfOk result (λ on. Went self.old.m.now u t on self.new) }
+        ensures grew { IfOk result (λ on. Grew self.old self.new) }
+    {
+        match place_set(code) {
+            Some(to) => self.compute(alloc, code, to),
+            None => self.do_rest(alloc, code),
+        }
+    }
+
+    /// What the instruction that is due reads of poisoned bits, where that is reported. The one error is want of memory.
+    fn found(&self, alloc: Global, code: &Code) -> Result<Option<Source>, NoMemory>
+        requires going { IsGoing self.now }
+        requires due { IsDue self.now.m.now self.now.fiber self.now.world code.now }
+        requires fits { FitsHere self.now.fiber code.now }
+        ensures { (u : SetupOf) (t : Traced) → u.reports ≡ 1 → IsFollowed self.now.m.now u t self.now → IfOk result (λ found. FoundAt self.now.m.now u t found) }
+    {
+        let op = &self.tables.row(self.fiber.frame.at).inst.op;
+        let view = self.view();
+        match first_used(&view, &self.world, code, op) {
+            Some(used) => Ok(Some(self.read_by(alloc, code, used)?)),
+            None => Ok(None),
+        }
+    }
+
+    /// The step, behind checks that pass. The one error is want of memory.
+    fn go_on(&mut self, alloc: Global, code: &Code) -> Result<Turn, NoMemory>
+        requires ready { IsReady self.old code.now }
+        ensures turned { (u : SetupOf) (t : Traced) → IsFollowed self.old.m.now u t self.old → Passes self.old.m.now u t → IfOk result (λ turn. Turned self.old.m.now u t turn self.new) }
+        ensures grew { IfOk result (λ turn. Grew self.old self.new) }
+    {
+        let on = self.do_inst(alloc, code)?;
+        if on { Ok(Turn::On) } else { Ok(Turn::Over) }
+    }
+
+    /// One step. The one error is want of memory, and the run is over then.
+    pub fn turn(&mut self, alloc: Global) -> Result<Turn, NoMemory>
+        requires going { IsGoing self.old }
+        ensures turned { (u : SetupOf) (t : Traced) → u.reports ≡ 1 → IsFollowed self.old.m.now u t self.old → IfOk result (λ turn. Turned self.old.m.now u t turn self.new) }
+        ensures grew { IfOk result (λ turn. Grew self.old self.new) }
+    {
+        let code = due_code(self.m, &self.fiber, &self.world);
+        let found = self.found(alloc, code)?;
+        match found {
+            Some(at) => Ok(Turn::Reported(at)),
+            None => self.go_on(alloc, code),
+        }
+    }
+}

@@ -1,0 +1,155 @@
+//! Moves of words, as they are told: one where the word is poisoned.
+ghost use Rattle.std.specs.Prelude.{◌≡◌, ◌≤◌, ◌<◌, ◌+◌, ◌^◌, ◌++◌, [], ◌∷◌, List, OnOk, unwrap_or};
+ghost use Rattle.ms_ir.specs.declared.syntax.Name.{Name as NameOf};
+ghost use Rattle.ms_ir.specs.declared.syntax.Ty.{Ty as TyOf};
+ghost use Rattle.ms_ir.specs.declared.syntax.Operand.{Operand as OperandOf};
+ghost use Rattle.ms_ir.specs.declared.syntax.Op.TheVariants as op;
+ghost use Rattle.ms_ir.specs.Code.{operands, count_undefs};
+ghost use Rattle.ms_moves.specs.declared.moves.Move.{Move as MoveOf};
+ghost use Rattle.ms_moves.specs.declared.moves.Target.TheVariants as place;
+ghost use Rattle.ms_moves.specs.Sources.{sources, source_at as source_in};
+ghost use Rattle.ms_moves.specs.Edges.{edge_source};
+ghost use Rattle.ms_trail.specs.Logs.{IsLog};
+ghost use Rattle.ms_trail.specs.Telling.{masked_move};
+
+use crate::logs::Log;
+use crate::sources::{phi_source, result_target};
+use crate::spans::Stamp;
+use crate::tables::Row;
+use ms_bits::{Duplicate, NoMemory};
+use ms_ir::{Inst, Name};
+use ms_moves::moves::{Move, Source, Target};
+use ms_moves::sources::source_at;
+use std::alloc::Global;
+
+/// A word moves from a source to a place.
+fn tell(log: &mut Log, stamp: Stamp, from: Source, to: Target) -> Result<(), NoMemory>
+    requires { log.old.count + 1 < 2 ^ 64 }
+    ensures told { (moves : List MoveOf) → IsLog log.old moves → OnOk result (IsLog log.new (moves ++ record { event = stamp.event; site = stamp.site; from = from; to = to } ∷ [])) }
+    ensures count { log.new.count ≤ log.old.count + 1 }
+{
+    log.add(Move {
+        event: stamp.event,
+        site: stamp.site,
+        from,
+        to,
+    })
+}
+
+/// A word with a mask moves from the operand with a place, in the call with a number, to the result of its instruction.
+pub fn tell_result(
+    alloc: Global,
+    log: &mut Log,
+    stamp: Stamp,
+    frame: u64,
+    row: Row<'_>,
+    mask: u64,
+    from: usize,
+) -> Result<(), NoMemory>
+    requires roots { row.roots + count_undefs (operands row.inst.now.op) < 2 ^ 32 }
+    requires few { log.old.count + 1 < 2 ^ 64 }
+    ensures told { (moves : List MoveOf) → IsLog log.old moves → OnOk result (IsLog log.new (moves ++ masked_move stamp.event stamp.site mask (source_in from (sources frame (operands row.entry.inst.now.op) row.entry.roots)) (place.Value frame (unwrap_or row.entry.inst.now.result (Name.Number 0))))) }
+    ensures count { log.new.count ≤ log.old.count + 1 }
+{
+    if mask == 0 {
+        return Ok(());
+    }
+    let moved = source_at(alloc, frame, row.roots, &row.inst.op, from)?;
+    let to = result_target(alloc, frame, row.inst)?;
+    tell(log, stamp, moved, to)
+}
+
+/// A word with a mask moves from a byte, if one is given, to the result of an instruction in the call with a number.
+pub fn tell_loaded(
+    alloc: Global,
+    log: &mut Log,
+    stamp: Stamp,
+    frame: u64,
+    inst: &Inst,
+    mask: u64,
+    from: Source,
+) -> Result<(), NoMemory>
+    requires few { log.old.count + 1 < 2 ^ 64 }
+    ensures told { (moves : List MoveOf) → IsLog log.old moves → OnOk result (IsLog log.new (moves ++ masked_move stamp.event stamp.site mask from (place.Value frame (unwrap_or inst.now.result (Name.Number 0))))) }
+    ensures count { log.new.count ≤ log.old.count + 1 }
+{
+    if mask == 0 {
+        return Ok(());
+    }
+    let to = result_target(alloc, frame, inst)?;
+    tell(log, stamp, from, to)
+}
+
+/// A word with a mask moves to a phi, in a jump from the block with a name.
+pub fn tell_phi(
+    alloc: Global,
+    log: &mut Log,
+    stamp: Stamp,
+    frame: u64,
+    row: Row<'_>,
+    block: &Name,
+    mask: u64,
+) -> Result<(), NoMemory>
+    requires roots { row.roots + count_undefs (operands row.inst.now.op) < 2 ^ 32 }
+    requires few { log.old.count + 1 < 2 ^ 64 }
+    ensures told { (t : TyOf) (edges : List (OperandOf × NameOf)) (moves : List MoveOf) → row.entry.inst.now.op ≡ op.Phi t edges → IsLog log.old moves → OnOk result (IsLog log.new (moves ++ masked_move stamp.event stamp.site mask (edge_source frame t block.now edges row.entry.roots) (place.Value frame (unwrap_or row.entry.inst.now.result (Name.Number 0))))) }
+    ensures count { log.new.count ≤ log.old.count + 1 }
+{
+    if mask == 0 {
+        return Ok(());
+    }
+    let moved = phi_source(alloc, frame, row.roots, &row.inst.op, block)?;
+    let to = result_target(alloc, frame, row.inst)?;
+    tell(log, stamp, moved, to)
+}
+
+/// An argument with a mask, the operand with a place of a call in the call with a number, moves to a parameter of the call that
+/// was entered.
+pub fn tell_param(
+    alloc: Global,
+    log: &mut Log,
+    stamp: Stamp,
+    caller: u64,
+    row: Row<'_>,
+    k: usize,
+    frame: u64,
+    param: &Name,
+    mask: u64,
+) -> Result<(), NoMemory>
+    requires roots { row.roots + count_undefs (operands row.inst.now.op) < 2 ^ 32 }
+    requires few { log.old.count + 1 < 2 ^ 64 }
+    ensures told { (moves : List MoveOf) → IsLog log.old moves → OnOk result (IsLog log.new (moves ++ masked_move stamp.event stamp.site mask (source_in k (sources caller (operands row.entry.inst.now.op) row.entry.roots)) (place.Value frame param.now))) }
+    ensures count { log.new.count ≤ log.old.count + 1 }
+{
+    if mask == 0 {
+        return Ok(());
+    }
+    let moved = source_at(alloc, caller, row.roots, &row.inst.op, k)?;
+    let name = param.copy(alloc)?;
+    let to = Target::Value { frame, name };
+    tell(log, stamp, moved, to)
+}
+
+/// A word with a mask moves from a return, in the call that was left, to the result of the call that it goes back to.
+pub fn tell_return(
+    alloc: Global,
+    log: &mut Log,
+    stamp: Stamp,
+    inner: u64,
+    row: Row<'_>,
+    frame: u64,
+    call: &Inst,
+    mask: u64,
+) -> Result<(), NoMemory>
+    requires roots { row.roots + count_undefs (operands row.inst.now.op) < 2 ^ 32 }
+    requires few { log.old.count + 1 < 2 ^ 64 }
+    ensures told { (moves : List MoveOf) → IsLog log.old moves → OnOk result (IsLog log.new (moves ++ masked_move stamp.event stamp.site mask (source_in 0 (sources inner (operands row.entry.inst.now.op) row.entry.roots)) (place.Value frame (unwrap_or call.now.result (Name.Number 0))))) }
+    ensures count { log.new.count ≤ log.old.count + 1 }
+{
+    if mask == 0 {
+        return Ok(());
+    }
+    let moved = source_at(alloc, inner, row.roots, &row.inst.op, 0)?;
+    let to = result_target(alloc, frame, call)?;
+    tell(log, stamp, moved, to)
+}
