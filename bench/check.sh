@@ -4,7 +4,7 @@
 # sizes. Where they are near to linear, the numbers at the two sizes are close.
 #
 # `msan run` reads a valid module, checks it, compiles it and runs its one step. The same text with one type twice is refused as
-# soon as it is read, and with a global of a type that is too large at the end of the check; the differences are given.
+# soon as it is read, and with a type that is too large in its last function at the end of the check; the differences are given.
 # Wants `valgrind`, and `crates/msan/out/msan`, which `rt run` makes in `crates/msan`. Outside the gate.
 source "$(dirname "$0")/frame.sh"
 
@@ -36,7 +36,7 @@ text() { # kind, count
         } else {
             for (k = 0; k < count; k++) printf "@g%d = global [4 x i8] zeroinitializer\n", k
         }
-        printf "define i32 @main() {\n  ret i32 0\n}\ndefine void @last() {\n  ret void\n}\n"
+        printf "define i32 @main() {\n  ret i32 0\n}\ndefine void @last() {\n  %%1 = alloca i8\n  ret void\n}\n"
     }'
 }
 
@@ -50,10 +50,10 @@ spent() { # file, the line that is said of it
 measure() { # kind, count
     local whole checked read
     text "$1" "$2" >"$work/valid.ll"
-    { echo '@z = global [67108865 x i8] zeroinitializer'; cat "$work/valid.ll"; } >"$work/large.ll"
+    sed 's/^  %1 = alloca i8$/  %1 = alloca [67108865 x i8]/' "$work/valid.ll" >"$work/large.ll"
     { echo '%t = type { i8 }'; echo '%t = type { i8 }'; cat "$work/valid.ll"; } >"$work/twice.ll"
     whole=$(spent "$work/valid.ll" $'end: exit 0\nreports: 0\nblind: 0')
-    checked=$(spent "$work/large.ll" 'refused 17: size of @z')
+    checked=$(spent "$work/large.ll" 'refused 17: size of @last')
     read=$(spent "$work/twice.ll" 'refused 9: duplicate %t')
     awk -v kind="$1" -v count="$2" -v whole="$whole" -v checked="$checked" -v read="$read" \
         'BEGIN { printf "%-10s %7d items: read %9.1f each, check %9.1f, compile %9.1f\n", kind, count, read / count, (checked - read) / count, (whole - checked) / count }'

@@ -6,7 +6,7 @@ use std::test::Fail;
 /// The closing lines of a run with a report.
 const POISONED: &str = "end: reported\nreports: 1\nblind: 0\nverdict: poisoned\n";
 
-static CASES: [Case; 27] = [
+static CASES: [Case; 28] = [
     Case(
         "explain f",
         "define i32 @main() {\n  %1 = alloca i32\n  %2 = load i32, ptr %1\n  %3 = icmp eq i32 %2, 0\n  br i1 %3, label %4, label %5\n4:\n  ret i32 0\n5:\n  ret i32 1\n}\n",
@@ -27,6 +27,14 @@ static CASES: [Case; 27] = [
         "explain f",
         "define i32 @main() {\n  br label %1\n1:\n  %2 = phi i32 [ undef, %0 ], [ %3, %1 ]\n  %3 = phi i32 [ undef, %0 ], [ %2, %1 ]\n  %4 = phi i1 [ true, %0 ], [ false, %1 ]\n  br i1 %4, label %1, label %5\n5:\n  ret i32 %3\n}\n",
         "report 1: exit at site 6 in @main, part 0, bits 0xffffffff of i32\n  origin 1: undef at site 2 in @main\n  move 0: site 2 in @main, root 1 to %2 of frame 0\n  move 3: site 3 in @main, %2 of frame 0 to %3 of frame 0\n  use: %3 of frame 0\n",
+        POISONED,
+        77,
+    ),
+    // Two phis change places, of which one is set: the second one reads the mask that the first one had before.
+    Case(
+        "explain f",
+        "define i32 @main() {\n  br label %1\n1:\n  %2 = phi i32 [ undef, %0 ], [ %3, %1 ]\n  %3 = phi i32 [ 0, %0 ], [ %2, %1 ]\n  %4 = phi i1 [ true, %0 ], [ false, %1 ]\n  br i1 %4, label %1, label %5\n5:\n  ret i32 %3\n}\n",
+        "report 1: exit at site 6 in @main, part 0, bits 0xffffffff of i32\n  origin 1: undef at site 2 in @main\n  move 0: site 2 in @main, root 1 to %2 of frame 0\n  move 1: site 3 in @main, %2 of frame 0 to %3 of frame 0\n  use: %3 of frame 0\n",
         POISONED,
         77,
     ),
