@@ -185,6 +185,8 @@ TEXTS = {
 OTHERS = [(MAIN % "ret i32 undef", "end: exit 2779096485\n")]
 MARKED = MAIN % "%1 = alloca i32, !nosanitize !0\n  ret i32 0" + "!0 = !{}\n"
 
+YIELDS = MAIN % "%1 = call i32 @sched_yield()\n  ret i32 %1" + "declare i32 @sched_yield()\n"
+
 
 def message(text, command="check"):
     with open(f"{work}/text.ll", "w") as file:
@@ -208,6 +210,7 @@ def check_refusals():
     said = [(source, message(compiled(source, command)), told) for source, told in C.items()]
     said += [(text[:60], message(text), told) for text, told in TEXTS.items()]
     said.append((MARKED, message(MARKED, "run"), "16: mark"))
+    said.append((YIELDS, message(YIELDS, "explain"), "18: threads"))
     for source, printed, told in said:
         if not printed.startswith("refused " + told):
             fault("docs/MANUAL.md", f"{source}\n  printed: {printed}  not: {told}")
@@ -244,6 +247,8 @@ WORDS = {
     "gen --seed 1": ("words: MissingOption at 3", 2),
     "check --steps 01 f": ("words: BadNumber at 2", 2),
     "check --fill a f": ("words: BadHex at 2", 2),
+    "run --schedule 0 f": ("words: BadHex at 2", 2),
+    "corpus --schedule 00 f f": ("words: UnknownOption at 1", 2),
     "check --steps=1000000001 f": ("words: OutOfRange at 1", 2),
     "run --reports 1001 f": ("words: OutOfRange at 2", 2),
     "check f g": ("words: Extra at 2", 2),

@@ -2,7 +2,7 @@
 
 use crate::answers::{Case, Want};
 
-pub static EXTERNALS: [Case; 29] = [
+pub static EXTERNALS: [Case; 32] = [
     Case(
         r#"declare i32 @putchar(i32)
 define i32 @main() {
@@ -123,6 +123,33 @@ define i32 @main() {
 }
 "#,
         Want::BadExternal("@__msan_check_format"),
+    ),
+    // What a join's result becomes has its types, called or not.
+    Case(
+        r#"declare void @__msan_thread_result(ptr, i64, i32, i32)
+define i32 @main() {
+  ret i32 0
+}
+"#,
+        Want::Valid,
+    ),
+    Case(
+        r#"declare void @__msan_thread_result(ptr, i64, i32)
+define i32 @main() {
+  ret i32 0
+}
+"#,
+        Want::BadExternal("@__msan_thread_result"),
+    ),
+    // A thread call has its types where it is called.
+    Case(
+        r#"declare i32 @sched_yield(i32)
+define i32 @main() {
+  %1 = call i32 @sched_yield(i32 0)
+  ret i32 %1
+}
+"#,
+        Want::BadExternal("@sched_yield"),
     ),
     // Flags that are numbers, and one that isn't.
     Case(

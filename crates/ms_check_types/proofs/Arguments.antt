@@ -34,31 +34,31 @@ below_get (y ∷ xs) (suc k) x e = let b = below_get xs k x e in omega arith
 
 -- ---- the first argument at fault
 
-module _ (fits : Ty × Operand → Bool) where
-  arg_on : (k : ℕ) (ps : List Ty) (a : Ty × Operand) (rest : List (Ty × Operand)) → fits_parameter fits (slice_get ps 0) a ≡ true
+module _ (fits : ℕ → Ty × Operand → Bool) where
+  arg_on : (k : ℕ) (ps : List Ty) (a : Ty × Operand) (rest : List (Ty × Operand)) → fits_parameter (fits k) (slice_get ps 0) a ≡ true
       → argument_fault fits k ps (a ∷ rest) ≡ argument_fault fits (suc k) (drop 1 ps) rest
   arg_on k [] a rest ok = grind arith
   arg_on k (t ∷ ts) a rest ok = ap (λ b. if b then argument_fault fits (suc k) ts rest else Some k) ok
 
-  arg_stop : (k : ℕ) (ps : List Ty) (a : Ty × Operand) (rest : List (Ty × Operand)) → fits_parameter fits (slice_get ps 0) a ≡ false → argument_fault fits k ps (a ∷ rest) ≡ Some k
+  arg_stop : (k : ℕ) (ps : List Ty) (a : Ty × Operand) (rest : List (Ty × Operand)) → fits_parameter (fits k) (slice_get ps 0) a ≡ false → argument_fault fits k ps (a ∷ rest) ≡ Some k
   arg_stop k [] a rest bad = refl
   arg_stop k (t ∷ ts) a rest bad = ap (λ b. if b then argument_fault fits (suc k) ts rest else Some k) bad
 
   module _ (params : List Ty) (args : List (Ty × Operand)) where
-    pub argument_passed : (k : ℕ) (a : Ty × Operand) (whole : Option ℕ) → k < length args → a ≡ get_or args k a → fits_parameter fits (slice_get params k) a ≡ true
+    pub argument_passed : (k : ℕ) (a : Ty × Operand) (whole : Option ℕ) → k < length args → a ≡ get_or args k a → fits_parameter (fits k) (slice_get params k) a ≡ true
         → argument_fault fits k (drop k params) (drop k args) ≡ whole → argument_fault fits (k + 1) (drop (k + 1) params) (drop (k + 1) args) ≡ whole
     argument_passed k a whole l is ok inv =
         let e = drop_item args k a l is in
-        let p : fits_parameter fits (slice_get (drop k params) 0) a ≡ true = ap (λ o. fits_parameter fits o a) (get_drop params k) ∙ ok in
+        let p : fits_parameter (fits k) (slice_get (drop k params) 0) a ≡ true = ap (λ o. fits_parameter (fits k) o a) (get_drop params k) ∙ ok in
         ap (λ n. argument_fault fits n (drop n params) (drop (k + 1) args)) (add-one k)
         ∙ ap (λ ps. argument_fault fits (suc k) ps (drop (k + 1) args)) (sym (drop_one params k))
         ∙ sym (arg_on k (drop k params) a (drop (k + 1) args) p) ∙ ap (argument_fault fits k (drop k params)) (sym e) ∙ inv
 
-    pub argument_found : (k : ℕ) (a : Ty × Operand) (whole : Option ℕ) → k < length args → a ≡ get_or args k a → fits_parameter fits (slice_get params k) a ≡ false
+    pub argument_found : (k : ℕ) (a : Ty × Operand) (whole : Option ℕ) → k < length args → a ≡ get_or args k a → fits_parameter (fits k) (slice_get params k) a ≡ false
         → argument_fault fits k (drop k params) (drop k args) ≡ whole → Some k ≡ whole
     argument_found k a whole l is bad inv =
         let e = drop_item args k a l is in
-        let p : fits_parameter fits (slice_get (drop k params) 0) a ≡ false = ap (λ o. fits_parameter fits o a) (get_drop params k) ∙ bad in
+        let p : fits_parameter (fits k) (slice_get (drop k params) 0) a ≡ false = ap (λ o. fits_parameter (fits k) o a) (get_drop params k) ∙ bad in
         sym (arg_stop k (drop k params) a (drop (k + 1) args) p) ∙ ap (argument_fault fits k (drop k params)) (sym e) ∙ inv
 
     missing_at : (k : ℕ) (ps : List Ty) → 0 < length ps → argument_fault fits k ps [] ≡ Some k
@@ -78,9 +78,9 @@ module _ (fits : Ty × Operand → Bool) where
     arguments_done k whole done few inv =
         sym (ap (λ ts. argument_fault fits k ts (drop k args)) (drop_end params k few) ∙ ap (argument_fault fits k []) (drop_end args k done)) ∙ inv
 
-    pub known_parameter : (k : ℕ) (a : Ty × Operand) → fits_parameter fits (slice_get params k) a ≡ true → k + 1 ≤ length params
+    pub known_parameter : (k : ℕ) (a : Ty × Operand) → fits_parameter (fits k) (slice_get params k) a ≡ true → k + 1 ≤ length params
     known_parameter k a ok = by_option (slice_get params k) refl ok
       where
-        by_option : (o : Option Ty) → slice_get params k ≡ o → fits_parameter fits o a ≡ true → k + 1 ≤ length params
+        by_option : (o : Option Ty) → slice_get params k ≡ o → fits_parameter (fits k) o a ≡ true → k + 1 ≤ length params
         by_option None e h = grind arith
         by_option (Some t) e h = let b = below_get params k t e in omega arith

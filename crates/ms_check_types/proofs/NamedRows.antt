@@ -1,5 +1,5 @@
 -- What stands beside a name in a table, by the first place of the name.
-use Rattle.std.proofs.Common.{◌≡◌, ℕ, suc, List, [], ◌∷◌, map, Bool, true, false, Option, Some, None, is_some, refl, sym, ap, ◌∙◌}
+use Rattle.std.proofs.Common.{◌≡◌, ℕ, suc, List, [], ◌∷◌, map, Bool, true, false, Option, Some, None, is_some, Bor, option_copied, refl, sym, ap, ◌∙◌}
 use Rattle.std.specs.Prelude.{option_map, if◌then◌else◌, ◌||◌, ◌&&◌, codes}
 use Rattle.ms_ir.specs.declared.syntax.Name.{Name}
 use Rattle.ms_ir.specs.declared.syntax.Name.TheVariants.{Text}
@@ -11,7 +11,7 @@ use Rattle.ms_ir.specs.Names.{name_eq, lookup}
 use Rattle.ms_tables.specs.FirstPlace.{first_place, at_place}
 use Rattle.ms_ir.specs.Equal.{has_name}
 use Rattle.ms_ir.specs.Locals.{declared_names}
-use Rattle.ms_valid.specs.TypesAgree.{is_printf}
+use Rattle.ms_valid.specs.TypesAgree.{is_printf, is_create}
 use Rattle.ms_ir.specs.Signatures.{func_signature, decl_signature, defined_signature, declared_signature}
 
 -- a table of two functions of the same things
@@ -50,6 +50,11 @@ pub declared : (decls : List Decl) (names : List Name) (x : Name) (o : Option De
     → option_map decl_signature o ≡ declared_signature decls x
 declared decls names x o named is = by_rows (λ d. d.name) decl_signature decls names x o named is
 
+-- a function that is found
+pub signature_copied : (r : Option (Bor Func)) → option_map (λ f. func_signature f.now) r ≡ option_map func_signature (option_copied r)
+signature_copied None = refl
+signature_copied (Some f) = refl
+
 -- a name is declared where it has a signature
 pub declared_known : (decls : List Decl) (x : Name) → has_name (map (λ d. d.name) decls) x ≡ is_some (declared_signature decls x)
 declared_known [] x = refl
@@ -68,4 +73,9 @@ named_row rows names x o named is = ap (option_map (λ r. r.1)) (is ∙ ap (λ n
 -- the `printf` that is declared
 pub printf_known : (m : Module) (names : List Name) (x : Name) → names ≡ declared_names m → name_eq x (Text (codes "printf")) ≡ true → has_name names x ≡ is_printf m x
 printf_known m names x named same =
+    ap (λ ns. has_name ns x) named ∙ declared_known m.decls x ∙ sym (ap (λ b. b && is_some (declared_signature m.decls x)) same)
+
+-- the `pthread_create` that is declared
+pub create_known : (m : Module) (names : List Name) (x : Name) → names ≡ declared_names m → name_eq x (Text (codes "pthread_create")) ≡ true → has_name names x ≡ is_create m x
+create_known m names x named same =
     ap (λ ns. has_name ns x) named ∙ declared_known m.decls x ∙ sym (ap (λ b. b && is_some (declared_signature m.decls x)) same)

@@ -21,7 +21,7 @@ use Rattle.ms_ir.specs.Signatures.{Signature, signature_of}
 use Rattle.ms_ir.specs.Spots.{Spot, spot, next_spot, over_spots, over_block_spots, over_func_spots}
 use Rattle.ms_ir.specs.Written.{targets}
 use Rattle.ms_valid.specs.Formed.{count_written}
-use Rattle.ms_valid.specs.TypesAgree.{first_misfit, fault_unless, leads_into, number_or_zero, first_misstep, cast_allows, differ, returns_fit, argument_fault, is_printable, printf_fault, is_printf, call_fault, op_fault, at_site}
+use Rattle.ms_valid.specs.TypesAgree.{first_misfit, fault_unless, leads_into, number_or_zero, first_misstep, cast_allows, differ, returns_fit, argument_fault, fits_call, is_printable, printf_fault, is_printf, call_fault, op_fault, at_site}
 use Rattle.ms_check_types.specs.Bodies.{fits_within, fault_within}
 use Rattle.ms_check_types.specs.Faults.{inst_faults, code_faults}
 
@@ -63,16 +63,6 @@ module _ (fits : Ty × Operand → Bool) where
       or_most (suc (length (x ∷ xs))) (first_misfit fits 0 ((Ptr, base) ∷ x ∷ [])) (first_misstep fits types t 2 xs)
       (misfit_most (suc (length (x ∷ xs))) 0 ((Ptr, base) ∷ x ∷ []) (omega arith)) (misstep_most (suc (length (x ∷ xs))) types t 2 xs (omega arith))
 
-  argument_most : (n k : ℕ) (ts : List Ty) (xs : List (Ty × Operand)) → k + length xs ≤ n → most n (argument_fault fits k ts xs)
-  argument_most n k [] [] l = record {}
-  argument_most n k [] (x ∷ xs) l = omega arith
-  argument_most n k (t ∷ ts) [] l = omega arith
-  argument_most n k (t ∷ ts) (x ∷ xs) l = by_test (type_eq x.0 t && fits x) (argument_most n (suc k) ts xs (omega arith))
-    where
-      by_test : (b : Bool) → most n (argument_fault fits (suc k) ts xs) → most n (if b then argument_fault fits (suc k) ts xs else Some k)
-      by_test true rest = rest
-      by_test false rest = omega arith
-
 misfit_of : (fits : Ty × Operand → Bool) (xs : List (Ty × Operand)) → most (length xs) (first_misfit fits 0 xs)
 misfit_of fits xs = misfit_most fits (length xs) 0 xs (omega arith)
 
@@ -84,15 +74,25 @@ printf_most fits (x ∷ xs) = by_test (type_eq x.0 Ptr && fits x)
     by_test true = misfit_most (λ y. is_printable y.0 && fits y) (suc (length xs)) 1 xs (omega arith)
     by_test false = omega arith
 
+argument_most : (fits : ℕ → Ty × Operand → Bool) (n k : ℕ) (ts : List Ty) (xs : List (Ty × Operand)) → k + length xs ≤ n → most n (argument_fault fits k ts xs)
+argument_most fits n k [] [] l = record {}
+argument_most fits n k [] (x ∷ xs) l = omega arith
+argument_most fits n k (t ∷ ts) [] l = omega arith
+argument_most fits n k (t ∷ ts) (x ∷ xs) l = by_test (type_eq x.0 t && fits k x) (argument_most fits n (suc k) ts xs (omega arith))
+  where
+    by_test : (b : Bool) → most n (argument_fault fits (suc k) ts xs) → most n (if b then argument_fault fits (suc k) ts xs else Some k)
+    by_test true rest = rest
+    by_test false rest = omega arith
+
 call_most : (m : Module) (fits : Ty × Operand → Bool) (s : Option Signature) (ret : Option Ty) (callee : Name) (xs : List (Ty × Operand)) → most (length xs) (call_fault m fits s ret callee xs)
 call_most m fits None ret callee xs = or_most (length xs) (first_misfit fits 0 xs) (Some 0) (misfit_of fits xs) (omega arith)
 call_most m fits (Some s) ret callee xs =
-    or_most (length xs) (if is_printf m callee then printf_fault fits xs else argument_fault fits 0 s.params xs) (fault_unless (result_type_eq ret s.ret)) (by_test (is_printf m callee))
+    or_most (length xs) (if is_printf m callee then printf_fault fits xs else argument_fault (fits_call m fits callee) 0 s.params xs) (fault_unless (result_type_eq ret s.ret)) (by_test (is_printf m callee))
     (unless_most (length xs) (result_type_eq ret s.ret))
   where
-    by_test : (b : Bool) → most (length xs) (if b then printf_fault fits xs else argument_fault fits 0 s.params xs)
+    by_test : (b : Bool) → most (length xs) (if b then printf_fault fits xs else argument_fault (fits_call m fits callee) 0 s.params xs)
     by_test true = printf_most fits xs
-    by_test false = argument_most fits (length xs) 0 s.params xs (omega arith)
+    by_test false = argument_most (fits_call m fits callee) (length xs) 0 s.params xs (omega arith)
 
 module _ (m : Module) (f : Func) (fits : Ty × Operand → Bool) where
   plain_most : (o : Op) → most (length (operands o)) (option_or (first_misfit fits 0 (operands o)) (fault_unless (list_all (has_name (block_names f)) (targets o))))

@@ -1,13 +1,15 @@
 //! Functions that are called, by the module's definition or declaration (LLVM Language Reference, "Functions"), each
 //! found by its name in logarithmic time.
-ghost use Rattle.std.specs.Prelude.{◌≡◌, IfOk, length, option_map, slice_get};
+ghost use Rattle.std.specs.Prelude.{◌≡◌, [], ◌∷◌, IfOk, length, map, option_map, slice_get};
 ghost use Rattle.std.specs.Option.{option_copied};
-ghost use Rattle.ms_ir.specs.Equal.{has_name};
+ghost use Rattle.ms_ir.specs.Equal.{has_name, types_eq};
 ghost use Rattle.ms_ir.specs.Locals.{declared_names, function_names};
-ghost use Rattle.ms_ir.specs.Signatures.{signature_of, declared_signature};
+ghost use Rattle.ms_ir.specs.declared.syntax.Ty.{Ptr};
+ghost use Rattle.ms_ir.specs.Signatures.{signature_eq, answers, func_signature, signature_of, defined_signature, declared_signature};
 ghost use Rattle.ms_check_types.specs.Callees.{callee_signature};
 
 use crate::rows::row_of;
+use crate::types::is_pointer;
 use ms_bits::NoMemory;
 use ms_ir::{Decl, Func, Module, Name, Ty};
 use ms_tables::{NameTable, declarations_of, functions_of};
@@ -55,6 +57,26 @@ impl<'m> Callee<'m> {
     }
 }
 
+/// Whether parameters are one pointer.
+fn is_one_pointer(params: &[(Ty, Name)]) -> bool
+    ensures { result ≡ types_eq (map (λ p. p.0) params.now) (Ptr ∷ []) }
+{
+    match params {
+        [(ty, _)] => is_pointer(ty),
+        _ => false,
+    }
+}
+
+/// Whether a function takes a pointer, and answers one.
+pub fn takes_pointer(func: &Func) -> bool
+    ensures { result ≡ signature_eq (func_signature func.now) (answers Ptr (Ptr ∷ [])) }
+{
+    match &func.ret {
+        Some(ret) => is_pointer(ret) && is_one_pointer(func.params.as_slice()),
+        None => false,
+    }
+}
+
 /// The functions of a module, with the places of their names.
 #[derive(Drop)]
 pub struct Callees<'m> {
@@ -94,6 +116,13 @@ impl<'m> Callees<'m> {
             Some(func) => Some(Callee::Defined(func)),
             None => self.declared(name),
         }
+    }
+
+    /// The defined function that a name stands for.
+    pub fn defined(&self, name: &Name) -> Option<&'m Func>
+        ensures { option_map (λ f. func_signature f.now) result ≡ defined_signature self.now.source.now.funcs name.now }
+    {
+        row_of(&self.funcs, self.source.funcs.as_slice(), name)
     }
 
     /// The declared function that a name stands for.

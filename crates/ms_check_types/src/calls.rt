@@ -1,8 +1,8 @@
 //! Calls (LLVM Language Reference, "'call' Instruction"; C library, `printf`).
-ghost use Rattle.std.specs.Prelude.{◌≡◌, ◌&&◌, slice_get, if◌then◌else◌};
+ghost use Rattle.std.specs.Prelude.{◌≡◌, ◌&&◌, nat_eq, slice_get, if◌then◌else◌};
 ghost use Rattle.ms_ir.specs.declared.syntax.Op.TheVariants as operation;
 ghost use Rattle.ms_ir.specs.Signatures.{signature_of};
-ghost use Rattle.ms_valid.specs.TypesAgree.{first_misfit, fault_unless, argument_fault, is_printable, printf_fault, is_printf, call_fault};
+ghost use Rattle.ms_valid.specs.TypesAgree.{first_misfit, fault_unless, argument_fault, is_start, is_create, fits_call, is_printable, printf_fault, is_printf, call_fault};
 ghost use Rattle.ms_check_types.specs.Arguments.{fits_parameter};
 ghost use Rattle.ms_check_types.specs.Bodies.{fits_in, module_of};
 ghost use Rattle.ms_check_types.specs.Callees.{callee_signature};
@@ -20,28 +20,62 @@ pub fn fault_unless(holds: bool) -> Option<usize>
     if holds { None } else { Some(0) }
 }
 
+/// Whether an operand names the function that a fiber may begin with: one that takes a pointer and answers one.
+fn is_start(body: &Body<'_, '_>, operand: &Operand) -> bool
+    ensures { result ≡ is_start (module_of body.now) operand.now }
+{
+    match operand {
+        Operand::Global(name) => body.symbols.is_start(name),
+        _ => false,
+    }
+}
+
+/// Whether an argument of a call is the third of `pthread_create`, which names the function that begins.
+fn is_start_place(body: &Body<'_, '_>, name: &Name, place: usize) -> bool
+    ensures { result ≡ (is_create (module_of body.now) name.now && nat_eq place 2) }
+{
+    body.symbols.is_create(name) && place == 2
+}
+
+/// Whether an argument of a call fits by its place.
+fn fits_call(body: &Body<'_, '_>, name: &Name, place: usize, ty: &Ty, operand: &Operand) -> bool
+    ensures { result ≡ fits_call (module_of body.now) (fits_in body.now) name.now place (ty.now, operand.now) }
+{
+    if is_start_place(body, name, place) {
+        is_start(body, operand)
+    } else {
+        operand_fits(body, ValueType::Written(ty), operand)
+    }
+}
+
 /// Whether an argument fits the parameter at a place, if there is one.
 fn argument_fits(
     body: &Body<'_, '_>,
+    name: &Name,
     callee: &Callee<'_>,
     place: usize,
     ty: &Ty,
     operand: &Operand,
 ) -> bool
-    ensures { result ≡ fits_parameter (fits_in body.now) (slice_get (callee_signature callee.now).params place) (ty.now, operand.now) }
+    ensures { result ≡ fits_parameter (fits_call (module_of body.now) (fits_in body.now) name.now place) (slice_get (callee_signature callee.now).params place) (ty.now, operand.now) }
 {
     match callee.parameter(place) {
-        Some(asked) => ty == asked && operand_fits(body, ValueType::Written(ty), operand),
+        Some(asked) => ty == asked && fits_call(body, name, place, ty, operand),
         None => false,
     }
 }
 
 /// The first argument that doesn't fit its parameter, is one too many, or is missing.
-fn argument_fault(body: &Body<'_, '_>, callee: &Callee<'_>, args: &[(Ty, Operand)]) -> Option<usize>
-    ensures { result ≡ argument_fault (fits_in body.now) 0 (callee_signature callee.now).params args.now }
+fn argument_fault(
+    body: &Body<'_, '_>,
+    name: &Name,
+    callee: &Callee<'_>,
+    args: &[(Ty, Operand)],
+) -> Option<usize>
+    ensures { result ≡ argument_fault (fits_call (module_of body.now) (fits_in body.now) name.now) 0 (callee_signature callee.now).params args.now }
 {
     for (place, (ty, operand)) in args.iter().enumerate() {
-        if !argument_fits(body, callee, place, ty, operand) {
+        if !argument_fits(body, name, callee, place, ty, operand) {
             return Some(place);
         }
     }
@@ -95,12 +129,12 @@ fn arguments_fault(
     args: &[(Ty, Operand)],
 ) -> Option<usize>
     ensures { result ≡ if is_printf (module_of body.now) name.now then printf_fault (fits_in body.now) args.now
-        else argument_fault (fits_in body.now) 0 (callee_signature callee.now).params args.now }
+        else argument_fault (fits_call (module_of body.now) (fits_in body.now) name.now) 0 (callee_signature callee.now).params args.now }
 {
     if body.symbols.is_printf(name) {
         printf_fault(body, args)
     } else {
-        argument_fault(body, callee, args)
+        argument_fault(body, name, callee, args)
     }
 }
 

@@ -6,10 +6,11 @@ ghost use Rattle.ms_ir.specs.Layout.{resolved};
 ghost use Rattle.ms_ir.specs.Locals.{type_names, global_names};
 ghost use Rattle.ms_ir.specs.Names.{lookup};
 ghost use Rattle.ms_ir.specs.Signatures.{signature_of};
-ghost use Rattle.ms_valid.specs.TypesAgree.{is_variable, is_printf};
+ghost use Rattle.ms_ir.specs.declared.syntax.Operand.TheVariants as operand;
+ghost use Rattle.ms_valid.specs.TypesAgree.{is_variable, is_printf, is_start, is_create};
 ghost use Rattle.ms_check_types.specs.Callees.{callee_signature};
 
-use crate::callees::{Callee, Callees};
+use crate::callees::{Callee, Callees, takes_pointer};
 use crate::rows::row_of;
 use ms_bits::NoMemory;
 use ms_ir::{Module, Name, Ty};
@@ -89,6 +90,23 @@ impl<'m> Symbols<'m> {
         ensures { result ≡ is_printf self.now.source.now name.now }
     {
         name.is(b"printf") && self.callees.declares(name)
+    }
+
+    /// Whether a name is that of the `pthread_create` that the module declares.
+    pub fn is_create(&self, name: &Name) -> bool
+        ensures { result ≡ is_create self.now.source.now name.now }
+    {
+        name.is(b"pthread_create") && self.callees.declares(name)
+    }
+
+    /// Whether a name is that of a function that the module defines, which takes a pointer and answers one.
+    pub fn is_start(&self, name: &Name) -> bool
+        ensures { result ≡ is_start self.now.source.now (operand.Global name.now) }
+    {
+        match self.callees.defined(name) {
+            Some(func) => takes_pointer(func),
+            None => false,
+        }
     }
 
     /// The function that a name stands for.

@@ -18,8 +18,9 @@ use Rattle.ms_runs.specs.declared.runs.End.TheVariants as «end»
 use Rattle.ms_ir.specs.Names.{name_eq, externals, lookup}
 use Rattle.ms_runs.specs.World.{World, Setting, Effect, Gives, Does, Goes, Enters, Leaves, Ends}
 use Rattle.ms_ir.specs.Code.{operands, one_undef, count_undefs, func_index, func_at, blocks_at, insts_at, block_index, root_at, roots_in}
-use Rattle.ms_runs.specs.Control.{Frame, Outcome, On, Over, here, rest_of, read_all, with_value, put, read_edge, phis, block_name, jumped, bind, entered, result_at, left, frame_limit, after_effect}
+use Rattle.ms_runs.specs.Control.{Frame, Outcome, On, Over, here, rest_of, read_all, with_value, put, read_edge, phis, block_name, jumped, bind, entered, result_at, left, frame_limit, keeping, after_effect}
 use Rattle.ms_runs.specs.Origins.{count_blind}
+use Rattle.ms_runs.specs.Act.{act}
 use Rattle.ms_runs.specs.Plain.{setting_of}
 use Rattle.ms_runs.specs.Poisoned.{Poisoned, clean}
 use Rattle.ms_runs.specs.Masks.{Rules, union}
@@ -36,7 +37,7 @@ use Rattle.ms_valid.specs.Valid.{Valid}
 use Rattle.ms_valid.proofs.NameTests.{name_same, name_sound}
 use Rattle.ms_runs_good.proofs.NextFrames.{stands_formed}
 use Rattle.ms_runs_good.specs.GoodRuns.{LeadsTo}
-use Rattle.ms_runs_good.proofs.Frames.{top_good, due_first, same_insts}
+use Rattle.ms_runs_good.proofs.Frames.{top_good, kept_frames, due_first, same_insts}
 use Rattle.ms_clean_laws.specs.KeepClean.{KeepClean}
 use Rattle.ms_clean_laws.specs.CleanStates.{HasCleanValues, AllCleanValues}
 use Rattle.ms_clean_laws.proofs.OneMaker.{one_maker, no_parameter}
@@ -194,9 +195,10 @@ module _ (m : Module) (valid : Valid m) where
 
         checked_clean : (e : Effect) → CleanMoved m (after_checks d s m i (here s m frame) words frame below e)
         checked_clean (Does w) =
+            let e = act s (here s m frame) i.op (map (λ p. p.value) words) (count_blind (union (map (λ p. p.mask) (blinded s.func i.op words))) w) in
             moves_clean (here s m frame).site i.result words (poisoned_result d i.op words)
             (planes s (here s m frame).site ((here s m frame).root + count_undefs (operands i.op) + 1) i.op words (count_blind (union (map (λ p. p.mask) (blinded s.func i.op words))) w))
-            frame below good h k lifted _
+            (keeping i.op e frame) below (kept_frames PoisonedBelow m i.op e frame below good) h k lifted e
         checked_clean (Ends x w) = tt
         checked_clean (Gives v w) = tt
         checked_clean (Goes to w) = tt

@@ -1,5 +1,6 @@
 //! The jobs of a list of inputs: each is a piece of its own, and as many threads make them as there are workers.
-ghost use Rattle.std.specs.Prelude.{◌≡◌, ℕ, ◌<◌, ◌≤◌, All, length, map, IfOk};
+ghost use Rattle.std.specs.Prelude.{◌≡◌, ℕ, ◌<◌, ◌≤◌, false, All, length, map, IfOk};
+ghost use Rattle.ms_ir.specs.ThreadCalls.{is_threaded};
 ghost use Rattle.ms_runs.specs.Limits.{WithinLimits};
 ghost use Rattle.ms_runs.specs.Plain.{plain};
 ghost use Rattle.ms_corpus.specs.Jobs.{with_input, input_of};
@@ -37,7 +38,7 @@ impl<'a> Jobs<'a> {
 impl<'a> Work for Jobs<'a> {
     type Item = RunResult;
 
-    ghost can = { λ work k. (k < length work.inputs.now) × WithinLimits (with_input work.setup.now (input_of work.inputs.now k)) };
+    ghost can = { λ work k. (k < length work.inputs.now) × (is_threaded work.module.now ≡ false) × WithinLimits (with_input work.setup.now (input_of work.inputs.now k)) };
 
     ghost answer = { λ work k. plain work.module.now (with_input work.setup.now (input_of work.inputs.now k)) };
 
@@ -47,7 +48,7 @@ impl<'a> Work for Jobs<'a> {
     }
 }
 
-/// Runs a module on each of the inputs, with the fill, the bound of steps and the limit of reports of `setup`: the list of
+/// Runs a module without thread calls on each of the inputs, with the fill, the bound of steps and the limit of reports of `setup`: the list of
 /// what each run alone gives, in the order of the inputs, for every number of workers and every gate.
 ///
 /// Each job enters the gate with its number, counted from 0, before it does anything else. The list is cut in halves, and at
@@ -64,6 +65,7 @@ pub fn run_all<R: Threads + Sync, G: Gate + Sync>(
 ) -> Result<List<RunResult>, NoMemory>
     requires workers { (1 ≤ workers) × (workers ≤ 8) }
     requires limits { All (λ input. WithinLimits (with_input setup.now input)) inputs.now }
+    requires alone { is_threaded j.now ≡ false }
     ensures { IfOk result (λ all. all ≡ map (λ input. plain j.now (with_input setup.now input)) inputs.now) }
 {
     let work = Jobs {

@@ -89,6 +89,7 @@ call_checks function.Fill x ret args = refl
 call_checks function.StoreOrigin x ret args = refl
 call_checks function.LoadOrigin x ret args = refl
 call_checks function.Size x ret args = refl
+call_checks function.ThreadResult x ret args = refl
 call_checks (function.Move k) x ret args = refl
 
 last_checks : (t : Task) (os : List (Ty × Operand)) → one_check (inserted (target t) (last_op t os)) ≡ task_checks t

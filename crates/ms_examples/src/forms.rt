@@ -100,11 +100,11 @@ pub fn bodies_are_formed()
 /// The externals, the runtime functions and the slots as example modules declare them.
 pub fn declarations_fit()
     ensures externals { take 22 external_declarations ≡ calls.malloc ∷ calls.calloc ∷ calls.realloc ∷ calls.free ∷ calls.memcpy ∷ calls.memmove ∷ calls.memset ∷ calls.memcmp ∷ calls.strlen ∷ calls.putchar ∷ calls.puts ∷ calls.getchar ∷ calls.read ∷ calls.write ∷ calls.exit ∷ calls.abort ∷ calls.llvm_memcpy ∷ calls.llvm_memmove ∷ calls.llvm_memset ∷ calls.lifetime_start ∷ calls.lifetime_end ∷ calls.printf ∷ [] }
-    ensures functions_of_words { length external_declarations ≡ 92 }
+    ensures functions_of_words { length external_declarations ≡ 95 }
     ensures ones_of_a_word { lookup externals (name (codes "llvm.ctpop.i32")) ≡ Some (external.Word word.Ctpop width.I32) }
     ensures zeros_of_a_word { external_signature (external.Word word.Ctlz width.I64) ≡ record { ret = Some i64; params = i64 ∷ i1 ∷ [] } }
     ensures bytes_of_one_byte { lookup externals (name (codes "llvm.bswap.i8")) ≡ None }
-    ensures runtime_functions { runtime_declarations ≡ calls.msan_check ∷ calls.msan_check_memory ∷ calls.msan_check_string ∷ calls.msan_blind ∷ calls.msan_poison ∷ calls.msan_unpoison ∷ calls.msan_copy ∷ calls.msan_fill ∷ calls.msan_store_origin ∷ calls.msan_load_origin ∷ calls.msan_size ∷ calls.msan_check_format ∷ [] }
+    ensures runtime_functions { runtime_declarations ≡ calls.msan_check ∷ calls.msan_check_memory ∷ calls.msan_check_string ∷ calls.msan_blind ∷ calls.msan_poison ∷ calls.msan_unpoison ∷ calls.msan_copy ∷ calls.msan_fill ∷ calls.msan_store_origin ∷ calls.msan_load_origin ∷ calls.msan_size ∷ calls.msan_check_format ∷ calls.msan_thread_result ∷ [] }
     ensures slots { slot_globals ≡ marks.slot_globals }
     ensures names_of_slots { map (λ g. g.name) slot_globals ≡ map (λ s. s.0) slots }
     ensures sizes_of_slots { map (λ g. size_of [] g.ty) slot_globals ≡ map (λ s. Some s.1.1) slots }

@@ -15,7 +15,7 @@ use Rattle.ms_ir.specs.Names.{name_eq}
 use Rattle.ms_ir.specs.Layout.{width_of}
 use Rattle.ms_runs.specs.World.{World, Setting, Effect, Gives, Does, Goes, Enters, Leaves, Ends}
 use Rattle.ms_ir.specs.Code.{one_undef, roots_in, root_at, block_index, blocks_at, insts_at}
-use Rattle.ms_runs.specs.Control.{Frame, Outcome, On, Over, read_all, read_edge, phis, count_phis, block_name, with_value, one_on, put, bind, params_at, jumped, left, entered, release, result_at, after_effect}
+use Rattle.ms_runs.specs.Control.{Frame, Outcome, On, Over, read_all, read_edge, phis, count_phis, block_name, with_value, one_on, put, bind, params_at, jumped, left, entered, given_back, result_at, after_effect}
 use Rattle.ms_runs.specs.Act.{operand_word, plain_reading}
 use Rattle.ms_runs.specs.Poisoned.{Poisoned, clean}
 use Rattle.ms_runs.specs.Shadow.{read_poisoned, shadow_reading}
@@ -97,7 +97,7 @@ phis_shown s old from (i ∷ is) n new =
 
 frame_put : (fr : Frame Poisoned) (x : Option Name) (p : Poisoned) → bare_frame (put fr x p) ≡ put (bare_frame fr) x p.value
 frame_put fr None p = refl
-frame_put fr (Some x) p = ap (λ f. record { func = fr.func; block = fr.block; place = fr.place + 1; values = f; mark = fr.mark }) (put_shown fr.values x p)
+frame_put fr (Some x) p = ap (λ f. record { func = fr.func; block = fr.block; place = fr.place + 1; values = f; mark = fr.mark; heap = fr.heap }) (put_shown fr.values x p)
 
 bind_shown : (ps : List (Ty × Name)) (vs : List Poisoned) → words (bind clean ps vs) ≡ bind 0 ps (map (λ p. p.value) vs)
 bind_shown [] vs = refl
@@ -120,6 +120,7 @@ jump_shown s m to fr =
       place = count_phis (insts_at m fr.func (block_index (blocks_at m fr.func) to));
       values = f;
       mark = fr.mark;
+      heap = fr.heap;
     })
     (phis_shown s fr.values (block_name m fr.func fr.block) (insts_at m fr.func (block_index (blocks_at m fr.func) to)) (root_at s.func m fr.func (block_index (blocks_at m fr.func) to) 0) fr.values)
 
@@ -127,7 +128,7 @@ left_shown : (m : Module) (vs : List Poisoned) (fr : Frame Poisoned) (below : Li
     → shown (left shadow_reading m vs fr below w) ≡ light_moved (left plain_reading m (map (λ p. p.value) vs) (bare_frame fr) (map bare_frame below) w)
 left_shown m vs fr [] w = refl
 left_shown m vs fr (caller ∷ below) w =
-    ap (λ f. On (f ∷ map bare_frame below) (light (release fr.mark w)))
+    ap (λ f. On (f ∷ map bare_frame below) (light (given_back fr w)))
     (frame_put caller (result_at m caller) _ ∙ ap (put (bare_frame caller) (result_at m caller)) (first_shown vs))
 
 -- ---- what an effect does
@@ -153,7 +154,7 @@ moves_shown s m site x vs lift after shade fr below (Goes to w) h k = ap (λ f. 
 moves_shown s m site x vs lift after shade fr below (Enters f w) h k = depth (leb 1024 (length below + 1)) refl
   where
     inner : bare_frame (entered shadow_reading m f vs w) ≡ entered plain_reading m f (map (λ p. p.value) vs) w
-    inner = ap (λ g. record { func = f; block = 0; place = 0; values = g; mark = (entered plain_reading m f [] w).mark }) (bind_shown (params_at m f) vs)
+    inner = ap (λ g. record { func = f; block = 0; place = 0; values = g; mark = (entered plain_reading m f [] w).mark; heap = [] }) (bind_shown (params_at m f) vs)
 
     depth : (b : Bool) → leb 1024 (length below + 1) ≡ b
         → shown (after_effect shadow_reading s m site x vs lift after fr below (Enters f w))

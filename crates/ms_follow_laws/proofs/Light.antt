@@ -6,14 +6,15 @@ use Rattle.ms_ir.specs.declared.syntax.Ty.{Ty}
 use Rattle.ms_ir.specs.declared.syntax.Op.{Op}
 use Rattle.ms_ir.specs.declared.syntax.Op.TheVariants as op
 use Rattle.ms_ir.specs.declared.calls.External.{External}
-use Rattle.ms_ir.specs.declared.calls.External.TheVariants.{Malloc, Calloc, Realloc, Free, Memcpy, Memmove, Memset, Memcmp, Strlen, Putchar, Puts, Getchar, Read, Write, Exit, Abort, LlvmMemcpy, LlvmMemmove, LlvmMemset, LifetimeStart, LifetimeEnd, Printf, LlvmTrap, LlvmAssume, LlvmObjectSize, Word}
+use Rattle.ms_ir.specs.declared.calls.External.TheVariants.{Malloc, Calloc, Realloc, Free, Memcpy, Memmove, Memset, Memcmp, Strlen, Putchar, Puts, Getchar, Read, Write, Exit, Abort, LlvmMemcpy, LlvmMemmove, LlvmMemset, LifetimeStart, LifetimeEnd, Printf, LlvmTrap, LlvmAssume, LlvmObjectSize, PthreadCreate, PthreadJoin, SchedYield, Word}
 use Rattle.ms_bits.specs.WordFunctions.{bits_of, word_answer}
-use Rattle.ms_ir.specs.Areas.{Heap, Stack}
+use Rattle.ms_ir.specs.Areas.{Heap}
 use Rattle.ms_runs.specs.World.{World, Setting, Here, Effect, Gives, Does, Goes, Enters, Leaves, Ends, word, gives}
 use Rattle.ms_ir.specs.Layout.{width_of, stored_size, size_in}
 use Rattle.ms_bits.specs.Arithmetic.{binary_of}
 use Rattle.ms_bits.specs.Conversions.{compare_of, cast_of}
-use Rattle.ms_runs.specs.Memory.{fits, is_good, heap_size}
+use Rattle.ms_runs.specs.Memory.{local_area, fits, is_good, heap_size}
+use Rattle.ms_runs.specs.Threads.{fiber_limit, thread_at, has_ended, join_answer}
 use Rattle.ms_bits.specs.Maps.{bytes_at}
 use Rattle.ms_ir.specs.Code.{external_named}
 use Rattle.ms_runs.specs.Externals.{external, malloc, reallocated, where_good, string_at, printed, next_byte, formatted, prints}
@@ -91,6 +92,12 @@ light_external s site LifetimeEnd ts vs w = (record { same = refl })
 light_external s site LlvmTrap ts vs w = (record { same = refl })
 light_external s site LlvmAssume ts vs w = at_if (eqb (word 0 vs) 0) (record { same = refl }) (record { same = refl })
 light_external s site LlvmObjectSize ts vs w = (record { same = refl })
+light_external s site PthreadCreate ts vs w = at_if (leb fiber_limit (length w.threads + 1)) (record { same = refl }) (light_good site (word 0 vs) 8 w (record { same = refl }))
+light_external s site PthreadJoin ts vs w =
+    at_if (eqb (join_answer w.turn (word 0 vs) w.threads) 0)
+    (at_if (has_ended (thread_at (word 0 vs) w.threads)) (at_if (eqb (word 1 vs) 0) (record { same = refl }) (light_good site (word 1 vs) 8 w (record { same = refl }))) (record { same = refl }))
+    (record { same = refl })
+light_external s site SchedYield ts vs w = (record { same = refl })
 light_external s site Printf ts vs w = light_prints site (formatted w ts vs) w
 light_external s site (Word f n) ts vs w = light_gives site (word_answer f (bits_of n) (word 0 vs) (word 1 vs) (word 2 vs)) w
 
@@ -101,7 +108,7 @@ light_act s h (op.Cast o f t a u) vs w = light_gives h.site (cast_of o f (width_
 light_act s h (op.Select c t a b) vs w = (record { same = refl })
 light_act s h (op.Freeze t a) vs w = (record { same = refl })
 light_act s h (op.Phi t es) vs w = (record { same = refl })
-light_act s h (op.Alloca t u c) vs w = at_if (fits Stack (size_in s.types t * word 0 vs) w) (record { same = refl }) (record { same = refl })
+light_act s h (op.Alloca t u c) vs w = at_if (fits (local_area w) (size_in s.types t * word 0 vs) w) (record { same = refl }) (record { same = refl })
 light_act s h (op.Load t a) vs w = at_if (is_good w (word 0 vs) (stored_size t)) (record { same = refl }) (record { same = refl })
 light_act s h (op.Store t v a) vs w = at_if (is_good w (word 1 vs) (stored_size t)) (record { same = refl }) (record { same = refl })
 light_act s h (op.Gep t a is) vs w = (record { same = refl })

@@ -7,19 +7,20 @@ use Rattle.ms_ir.specs.declared.syntax.Op.{Op}
 use Rattle.ms_ir.specs.declared.syntax.Op.TheVariants as op
 use Rattle.ms_runs.specs.declared.runs.End.TheVariants as «end»
 use Rattle.ms_ir.specs.declared.calls.External.{External}
-use Rattle.ms_ir.specs.declared.calls.External.TheVariants.{Malloc, Calloc, Realloc, Free, Memcpy, Memmove, Memset, Memcmp, Strlen, Putchar, Puts, Getchar, Read, Write, Exit, Abort, LlvmMemcpy, LlvmMemmove, LlvmMemset, LifetimeStart, LifetimeEnd, Printf, LlvmTrap, LlvmAssume, LlvmObjectSize}
+use Rattle.ms_ir.specs.declared.calls.External.TheVariants.{Malloc, Calloc, Realloc, Free, Memcpy, Memmove, Memset, Memcmp, Strlen, Putchar, Puts, Getchar, Read, Write, Exit, Abort, LlvmMemcpy, LlvmMemmove, LlvmMemset, LifetimeStart, LifetimeEnd, Printf, LlvmTrap, LlvmAssume, LlvmObjectSize, PthreadCreate, PthreadJoin, SchedYield}
 use Rattle.ms_ir.specs.declared.calls.External.TheVariants as external
 use Rattle.ms_runs.specs.World.{World, Setting, Effect, Gives, Does, Goes, Enters, Leaves, Ends, then_does}
 use Rattle.ms_ir.specs.Layout.{stored_size, size_in}
 use Rattle.ms_runs.specs.Memory.{is_good, heap_size, set_shadow}
 use Rattle.ms_bits.specs.Maps.{byte_of}
 use Rattle.ms_ir.specs.Code.{external_named}
-use Rattle.ms_runs.specs.Origins.{Chained, keeps_old, pair_index, chain, check, check_byte, asks_string_at, count_blind, poison, unpoison, copy_planes, fill_planes, mark_cells, store_origin}
+use Rattle.ms_runs.specs.Origins.{Chained, keeps_old, pair_index, chain, check, check_byte, asks_string_at, count_blind, poison, unpoison, copy_planes, fill_planes, mark_cells, store_origin, thread_result}
+use Rattle.ms_runs.specs.Threads.{thread_at, has_ended}
 use Rattle.ms_runs.specs.Poisoned.{Poisoned}
 use Rattle.ms_runs.specs.Masks.{word_at}
 use Rattle.ms_runs.specs.Uses.{Use, Word, Bytes, Line, Asked, check_use, check_uses}
 use Rattle.ms_runs.specs.Shadow.{external_planes, callee_planes, planes}
-use Rattle.ms_follow_laws.specs.Follows.{light, fill_shadow, external_shadow, callee_shadow, shadow_left}
+use Rattle.ms_follow_laws.specs.Follows.{light, fill_shadow, answer_shadow, external_shadow, callee_shadow, shadow_left}
 
 -- w shows what v shows
 pub record Shows (v w : World) : Type 0 where
@@ -70,6 +71,11 @@ fill_light s a n mask origin site w =
     (light_if (eqb (mask % 256) 0 || eqb n 0) _ _ _ _ refl
     (ap (λ (u : World). light (set_shadow a n (λ k. mask % 256) u)) (chain_shows s origin site w w (here w)).same))
 
+answer_light : (s : Setting) (a id answer site : ℕ) (w : World) → light (thread_result s a id answer site w) ≡ light (answer_shadow a id answer w)
+answer_light s a id answer site w =
+    light_if (eqb answer 0 && not (eqb a 0) && is_good w a 8 && has_ended (thread_at id w.threads)) _ _ _ _
+    (store_shows s a (w.answer_masks id) (w.answer_origins id) site (set_shadow a 8 (byte_of (w.answer_masks id)) w) (set_shadow a 8 (byte_of (w.answer_masks id)) w) (here (set_shadow a 8 (byte_of (w.answer_masks id)) w))).same refl
+
 external_light : (s : Setting) (site root : ℕ) (e : External) (ps : List Poisoned) (before : World) (x : ℕ) (w : World)
     → light (external_planes s site root e ps before x w) ≡ light (external_shadow e ps before x w)
 external_light s site root Malloc ps before x w = poison_light x 0 (word_at 0 ps).value root w
@@ -97,6 +103,9 @@ external_light s site root Printf ps before x w = refl
 external_light s site root LlvmTrap ps before x w = refl
 external_light s site root LlvmAssume ps before x w = refl
 external_light s site root LlvmObjectSize ps before x w = refl
+external_light s site root PthreadCreate ps before x w = refl
+external_light s site root PthreadJoin ps before x w = answer_light s (word_at 1 ps).value (word_at 0 ps).value x site w
+external_light s site root SchedYield ps before x w = refl
 external_light s site root (external.Word f n) ps before x w = refl
 
 callee_light : (s : Setting) (site root : ℕ) (e : Option External) (ps : List Poisoned) (before : World) (x : ℕ) (w : World)
@@ -165,6 +174,10 @@ external_blind Printf ps before x w = refl
 external_blind LlvmTrap ps before x w = refl
 external_blind LlvmAssume ps before x w = refl
 external_blind LlvmObjectSize ps before x w = refl
+external_blind PthreadCreate ps before x w = unpoison_blind (word_at 0 ps).value (if eqb x 0 then 8 else 0) w
+external_blind PthreadJoin ps before x w =
+    light_if (eqb x 0 && not (eqb (word_at 1 ps).value 0) && is_good w (word_at 1 ps).value 8 && has_ended (thread_at (word_at 0 ps).value w.threads)) _ _ _ _ refl refl
+external_blind SchedYield ps before x w = refl
 external_blind (external.Word f n) ps before x w = refl
 
 callee_blind : (e : Option External) (ps : List Poisoned) (before : World) (x : ℕ) (w : World) → light (callee_shadow e ps before x w) ≡ light (callee_shadow e ps (light before) x (light w))

@@ -1,6 +1,7 @@
 -- The plain run takes the steps of the shadow run, with memory's shadow beside it.
-use Rattle.std.proofs.Common.{◌≡◌, ℕ, ◌+◌, List, [], ◌∷◌, Bool, true, false, Option, refl, sym, ap, ◌∙◌, subst, arith}
-use Rattle.std.specs.Prelude.{if◌then◌else◌, map, leb, length}
+use Rattle.std.proofs.Common.{◌≡◌, ℕ, ◌+◌, List, [], ◌∷◌, ◌++◌, Bool, true, false, Option, refl, sym, ap, ◌∙◌, subst, arith}
+use Rattle.std.specs.Prelude.{if◌then◌else◌, map, eqb, leb, length, get_or}
+use Rattle.ms_runs.specs.Memory.{end_block, end_blocks}
 use Rattle.ms_bits.specs.declared.traps.Trap.TheVariants.{Depth}
 use Rattle.ms_ir.specs.declared.syntax.Op.{Op}
 use Rattle.ms_ir.specs.declared.syntax.Name.{Name}
@@ -11,7 +12,7 @@ use Rattle.ms_runs.specs.declared.runs.End.{End}
 use Rattle.ms_runs.specs.declared.runs.End.TheVariants as «end»
 use Rattle.ms_runs.specs.World.{World, Setting, Here, Effect, Gives, Does, Goes, Enters, Leaves, Ends}
 use Rattle.ms_ir.specs.Code.{operands, count_undefs, HeadUnmarked, NoMarks}
-use Rattle.ms_runs.specs.Control.{Frame, Outcome, On, Over, here, rest_of, read_all, entered, left, after_effect}
+use Rattle.ms_runs.specs.Control.{Frame, Outcome, On, Over, here, rest_of, read_all, put, result_at, release, given_back, blocks_made, keeping, entered, left, after_effect}
 use Rattle.ms_runs.specs.Act.{act, plain_reading}
 use Rattle.ms_runs.specs.Plain.{act_marked, slots_after, PlainState, More, Stop, and_then, plain_state, through, plain_step, plain_start}
 use Rattle.ms_runs.specs.Poisoned.{Poisoned}
@@ -26,9 +27,21 @@ use Rattle.ms_follow_laws.proofs.Planes.{Passes, planes_light, left_same, uses_p
 
 -- ---- one effect in two worlds
 
+ends_light : (l : List ℕ) (w : World) → light (end_blocks l w) ≡ end_blocks l (light w)
+ends_light [] w = refl
+ends_light (a ∷ l) w = ends_light l (end_block a w)
+
+given_light : (fr : Frame ℕ) (w : World) → light (given_back fr w) ≡ given_back fr (light w)
+given_light fr w = ends_light fr.heap (if eqb fr.mark 0 then w else release fr.mark w) ∙ ap (end_blocks fr.heap) (by_mark (eqb fr.mark 0))
+  where
+    by_mark : (b : Bool) → light (if b then w else release fr.mark w) ≡ (if b then light w else release fr.mark (light w))
+    by_mark true = refl
+    by_mark false = refl
+
 left_light : (m : Module) (vs : List ℕ) (fr : Frame ℕ) (below : List (Frame ℕ)) (w : World) → light_moved (left plain_reading m vs fr below w) ≡ light_moved (left plain_reading m vs fr below (light w))
 left_light m vs fr [] w = refl
-left_light m vs fr (caller ∷ below) w = refl
+left_light m vs fr (caller ∷ below) w =
+    ap (On (put caller (result_at m caller) (get_or vs 0 plain_reading.unset) ∷ below)) (given_light fr w ∙ sym (given_light fr (light w)))
 
 moves_light : (s : Setting) (m : Module) (site : ℕ) (x : Option Name) (vs : List ℕ) (fr : Frame ℕ) (below : List (Frame ℕ)) (e : Effect)
     → light_moved (after_effect plain_reading s m site x vs (λ v w. v) (λ v w. w) fr below e) ≡ light_moved (after_effect plain_reading s m site x vs (λ v w. v) (λ v w. w) fr below (light_effect e))
@@ -46,6 +59,17 @@ moves_light s m site x vs fr below (Ends e w) = refl
 
 same_effect : (s : Setting) (h : Here) (o : Op) (vs : List ℕ) (w v : World) → light w ≡ light v → light_effect (act s h o vs w) ≡ light_effect (act s h o vs v)
 same_effect s h o vs w v e = (light_act s h o vs w).same ∙ ap (λ u. light_effect (act s h o vs u)) e ∙ sym (light_act s h o vs v).same
+
+made_light : (o : Op) (e : Effect) → blocks_made o e ≡ blocks_made o (light_effect e)
+made_light o (Gives v w) = refl
+made_light o (Does w) = refl
+made_light o (Goes to w) = refl
+made_light o (Enters f w) = refl
+made_light o (Leaves w) = refl
+made_light o (Ends e w) = refl
+
+keeps_light : (o : Op) (e : Effect) (fr : Frame ℕ) → keeping o e fr ≡ keeping o (light_effect e) fr
+keeps_light o e fr = ap (λ l. record fr { heap = l ++ fr.heap }) (made_light o e)
 
 -- ---- outcomes
 
@@ -132,7 +156,7 @@ module _ (d : Rules) (s : Setting) (m : Module) (i : Inst) (is : List Inst) (fr 
   -- the plain run's outcome
   abbrev plainly : Outcome ℕ
   plainly = after_effect plain_reading s m (here s m fr).site i.result (read_all (plain_reading.read s (words fr.values)) (operands i.op) (here s m fr).root)
-      (λ x y. x) (λ x y. y) (bare_frame fr) (map bare_frame below) (act s (here s m fr) i.op (read_all (plain_reading.read s (words fr.values)) (operands i.op) (here s m fr).root) v)
+      (λ x y. x) (λ x y. y) (keeping i.op (act s (here s m fr) i.op (read_all (plain_reading.read s (words fr.values)) (operands i.op) (here s m fr).root) v) (bare_frame fr)) (map bare_frame below) (act s (here s m fr) i.op (read_all (plain_reading.read s (words fr.values)) (operands i.op) (here s m fr).root) v)
 
   -- the instruction, where the checks let it run
   act_follows : (u : World) → light u ≡ light w → Alike (first_shadow s m (i ∷ is) fr w) (shadow_act d s m i (here s m fr) (read_all (read_poisoned s fr.values) (operands i.op) (here s m fr).root) fr below u) plainly
@@ -140,14 +164,17 @@ module _ (d : Rules) (s : Setting) (m : Module) (i : Inst) (is : List Inst) (fr 
       re_shade (shadow_act d s m i (here s m fr) ps fr below u) plainly
       (alike_from (act s (here s m fr) i.op (map (λ k. k.value) ps) u) (shadow_left s i.op ps u)
       (shadow_act d s m i (here s m fr) ps fr below u)
-      (after_effect plain_reading s m (here s m fr).site i.result (map (λ k. k.value) ps) (λ x y. x) (λ x y. y) (bare_frame fr) (map bare_frame below) (act s (here s m fr) i.op (map (λ k. k.value) ps) u))
+      (after_effect plain_reading s m (here s m fr).site i.result (map (λ k. k.value) ps) (λ x y. x) (λ x y. y) (keeping i.op (act s (here s m fr) i.op (map (λ k. k.value) ps) u) (bare_frame fr)) (map bare_frame below) (act s (here s m fr) i.op (map (λ k. k.value) ps) u))
       plainly
-      (moves_shown s m (here s m fr).site i.result ps (poisoned_result d i.op ps) (planes s (here s m fr).site ((here s m fr).root + count_undefs (operands i.op) + 1) i.op ps u) (shadow_left s i.op ps u) fr below
+      (moves_shown s m (here s m fr).site i.result ps (poisoned_result d i.op ps) (planes s (here s m fr).site ((here s m fr).root + count_undefs (operands i.op) + 1) i.op ps u) (shadow_left s i.op ps u)
+      (keeping i.op (act s (here s m fr) i.op (map (λ k. k.value) ps) u) fr) below
       (act s (here s m fr) i.op (map (λ k. k.value) ps) u) (λ x y. refl) (λ x y. planes_light s (here s m fr).site ((here s m fr).root + count_undefs (operands i.op) + 1) i.op ps u x y))
-      (ap (λ k. light_moved (after_effect plain_reading s m (here s m fr).site i.result k (λ x y. x) (λ x y. y) (bare_frame fr) (map bare_frame below) (act s (here s m fr) i.op k u))) (words_shown s fr.values (operands i.op) (here s m fr).root)
-      ∙ moves_light s m (here s m fr).site i.result vs (bare_frame fr) (map bare_frame below) (act s (here s m fr) i.op vs u)
-      ∙ ap (λ k. light_moved (after_effect plain_reading s m (here s m fr).site i.result vs (λ x y. x) (λ x y. y) (bare_frame fr) (map bare_frame below) k)) (same_effect s (here s m fr) i.op vs u v (p ∙ sym alike))
-      ∙ sym (moves_light s m (here s m fr).site i.result vs (bare_frame fr) (map bare_frame below) (act s (here s m fr) i.op vs v)))
+      (ap (λ k. light_moved (after_effect plain_reading s m (here s m fr).site i.result k (λ x y. x) (λ x y. y) (keeping i.op (act s (here s m fr) i.op k u) (bare_frame fr)) (map bare_frame below) (act s (here s m fr) i.op k u))) (words_shown s fr.values (operands i.op) (here s m fr).root)
+      ∙ moves_light s m (here s m fr).site i.result vs (keeping i.op (act s (here s m fr) i.op vs u) (bare_frame fr)) (map bare_frame below) (act s (here s m fr) i.op vs u)
+      ∙ ap (λ g. light_moved (after_effect plain_reading s m (here s m fr).site i.result vs (λ x y. x) (λ x y. y) g (map bare_frame below) (light_effect (act s (here s m fr) i.op vs u)))) (keeps_light i.op (act s (here s m fr) i.op vs u) (bare_frame fr))
+      ∙ ap (λ k. light_moved (after_effect plain_reading s m (here s m fr).site i.result vs (λ x y. x) (λ x y. y) (keeping i.op k (bare_frame fr)) (map bare_frame below) k)) (same_effect s (here s m fr) i.op vs u v (p ∙ sym alike))
+      ∙ ap (λ g. light_moved (after_effect plain_reading s m (here s m fr).site i.result vs (λ x y. x) (λ x y. y) g (map bare_frame below) (light_effect (act s (here s m fr) i.op vs v)))) (sym (keeps_light i.op (act s (here s m fr) i.op vs v) (bare_frame fr)))
+      ∙ sym (moves_light s m (here s m fr).site i.result vs (keeping i.op (act s (here s m fr) i.op vs v) (bare_frame fr)) (map bare_frame below) (act s (here s m fr) i.op vs v)))
       (λ a b e. leaves_same s i.op ps (act s (here s m fr) i.op (map (λ k. k.value) ps) u) (act s (here s m fr) i.op (map (λ k. k.value) ps) u) u u a b refl refl e))
     where
       same_shade : (a : World) → light (leave_shadow (act s (here s m fr) i.op (map (λ k. k.value) ps) w) (shadow_left s i.op ps w) a) ≡ light (leave_shadow (act s (here s m fr) i.op (map (λ k. k.value) ps) u) (shadow_left s i.op ps u) a)
@@ -184,7 +211,7 @@ first_follows d s m (i ∷ is) fr below cells w v k q due =
     subst (λ b. StepFollows s m (record { frames = fr ∷ below; world = w })
     (shadow_moved (shadow_inst d s m i fr below w))
     (and_then (plain_state (if b then slots_after i.op vs cells else cells)
-    (after_effect plain_reading s m h.site i.result vs (λ x y. x) (λ x y. y) (bare_frame fr) (map bare_frame below) (if b then act_marked s h i.op vs cells v else act s h i.op vs v)))
+    (after_effect plain_reading s m h.site i.result vs (λ x y. x) (λ x y. y) (keeping i.op (if b then act_marked s h i.op vs cells v else act s h i.op vs v) (bare_frame fr)) (map bare_frame below) (if b then act_marked s h i.op vs cells v else act s h i.op vs v)))
     (if b then through s m is else More)))
     (sym k)
     (checked_follows d s m i is fr below cells w v q due _ (uses_pass s h.site (operands i.op) ps (uses s.func h.main i.op) w))

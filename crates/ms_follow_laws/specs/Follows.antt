@@ -1,6 +1,6 @@
 -- A run without inserted code that is followed, with the shadow of memory written beside it (own): the plain run of a module
 -- takes the steps of its shadow run, and behind each step memory gets the shadow that the step leaves there.
-use Rattle.std.specs.Prelude.{◌≡◌, ℕ, ◌*◌, ◌%◌, List, [], ◌∷◌, map, not, ◌||◌, eqb, if◌then◌else◌, Option, Some, None, unwrap_or}
+use Rattle.std.specs.Prelude.{◌≡◌, ℕ, ◌*◌, ◌%◌, List, [], ◌∷◌, map, not, ◌&&◌, ◌||◌, eqb, if◌then◌else◌, Option, Some, None, unwrap_or}
 use Rattle.ms_bits.specs.Maps.{byte_of}
 use Rattle.ms_ir.specs.declared.syntax.Name.{Name}
 use Rattle.ms_ir.specs.declared.syntax.Op.{Op}
@@ -8,12 +8,13 @@ use Rattle.ms_ir.specs.declared.syntax.Op.TheVariants as op
 use Rattle.ms_ir.specs.declared.syntax.Inst.{Inst}
 use Rattle.ms_ir.specs.declared.syntax.Module.{Module}
 use Rattle.ms_ir.specs.declared.calls.External.{External}
-use Rattle.ms_ir.specs.declared.calls.External.TheVariants.{Malloc, Realloc, Memcpy, Memmove, Memset, Read, LlvmMemcpy, LlvmMemmove, LlvmMemset, LifetimeStart}
+use Rattle.ms_ir.specs.declared.calls.External.TheVariants.{Malloc, Realloc, Memcpy, Memmove, Memset, Read, LlvmMemcpy, LlvmMemmove, LlvmMemset, LifetimeStart, PthreadCreate, PthreadJoin}
 use Rattle.ms_ir.specs.Layout.{stored_size, size_in}
 use Rattle.ms_ir.specs.Code.{operands, external_named}
 use Rattle.ms_runs.specs.declared.runs.End.TheVariants as «end»
 use Rattle.ms_runs.specs.World.{World, Setting, Effect, Gives, Does}
 use Rattle.ms_runs.specs.Memory.{is_good, heap_size, set_shadow}
+use Rattle.ms_runs.specs.Threads.{thread_at, has_ended}
 use Rattle.ms_runs.specs.Origins.{poison, unpoison, copy_planes}
 use Rattle.ms_runs.specs.Control.{Frame, here, rest_of, read_all}
 use Rattle.ms_runs.specs.Act.{act}
@@ -34,7 +35,7 @@ words values = λ x. (values x).value
 
 -- a frame with its words alone
 abbrev pub bare_frame : Frame Poisoned → Frame ℕ
-bare_frame fr = record { func = fr.func; block = fr.block; place = fr.place; values = words fr.values; mark = fr.mark }
+bare_frame fr = record { func = fr.func; block = fr.block; place = fr.place; values = words fr.values; mark = fr.mark; heap = fr.heap }
 
 -- ---- the shadow that an instruction leaves
 
@@ -43,6 +44,11 @@ abbrev pub fill_shadow : (a n mask : ℕ) → World → World
 fill_shadow a n mask w =
     if not (is_good w a n) then w else
     if eqb (mask % 256) 0 || eqb n 0 then set_shadow a n (λ k. 0) w else set_shadow a n (λ k. mask % 256) w
+
+-- behind a join that answered a word, the bytes at an address get the mask of the word that a thread answered
+abbrev pub answer_shadow : (a id answer : ℕ) → World → World
+answer_shadow a id answer w =
+    if eqb answer 0 && not (eqb a 0) && is_good w a 8 && has_ended (thread_at id w.threads) then set_shadow a 8 (byte_of (w.answer_masks id)) w else w
 
 -- of an external that answered v; before is the world before the call
 abbrev pub external_shadow : External → List Poisoned → (before : World) → ℕ → World → World
@@ -56,6 +62,8 @@ external_shadow LlvmMemcpy ps before v w = copy_planes (word_at 0 ps).value (wor
 external_shadow LlvmMemmove ps before v w = copy_planes (word_at 0 ps).value (word_at 1 ps).value (word_at 2 ps).value w
 external_shadow LlvmMemset ps before v w = fill_shadow (word_at 0 ps).value (word_at 2 ps).value (word_at 1 ps).mask w
 external_shadow LifetimeStart ps before v w = poison (word_at 1 ps).value 0 (word_at 0 ps).value 0 w
+external_shadow PthreadCreate ps before v w = unpoison (word_at 0 ps).value (if eqb v 0 then 8 else 0) w
+external_shadow PthreadJoin ps before v w = answer_shadow (word_at 1 ps).value (word_at 0 ps).value v w
 external_shadow _ ps before v w = w
 
 abbrev pub callee_shadow : Option External → List Poisoned → (before : World) → ℕ → World → World

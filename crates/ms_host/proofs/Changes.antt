@@ -47,6 +47,7 @@ changed w beside world m bytes shadow origins shows same b s o = record {
   pairs = shows.pairs;
   reports = shows.reports;
   blind = shows.blind;
+  fibers = shows.fibers;
 }
 
 pub kept : (t : Allocations) (f g g' : ℕ → ℕ) → g' ≡ g → Agrees t f g → Agrees t f g'
@@ -127,6 +128,7 @@ zeroed-at k w beside world n m shows zeroed = record {
   pairs = shows.pairs;
   reports = shows.reports;
   blind = shows.blind;
+  fibers = shows.fibers;
 }
   where
     b : ℕ
@@ -160,6 +162,7 @@ made-bytes w beside world m a n shows same b s o =
       pairs = r.pairs;
       reports = r.reports;
       blind = r.blind;
+      fibers = r.fibers;
     })
 
 pub ok-not-err : (r : Result ℕ AllocError) (x : ℕ) (e : AllocError) → r ≡ Ok x → r ≡ Err e → ⊥
@@ -227,6 +230,7 @@ slots-aside w beside world bytes shows = record {
   pairs = shows.pairs;
   reports = shows.reports;
   blind = shows.blind;
+  fibers = shows.fibers;
 }
 
 -- ---- fewer that are live
@@ -244,6 +248,7 @@ fewer w beside world m as' shows lists before keeps = record {
   pairs = shows.pairs;
   reports = shows.reports;
   blind = shows.blind;
+  fibers = shows.fibers;
 }
 
 pub ended : (w : WorldState) (beside : Beside) (world : World) (m : Memory) (base : ℕ) → Shows w beside world → IsLaidOut w.planes.table → m.table ≡ with_ended base w.planes.table → KeepsLive w.planes m →

@@ -1,7 +1,11 @@
 -- Numbers in slots.
-use Rattle.std.proofs.Common.{◌≡◌, ℕ, ◌+◌, ◌-◌, ◌<◌, ◌≤◌, List, sym, ap, ◌∙◌, arith, ⊎_elim}
+use Rattle.std.proofs.Common.{◌≡◌, ℕ, zero, suc, ◌+◌, ◌-◌, ◌<◌, ◌≤◌, Bool, true, false, List, MatchBool, refl, sym, ap, ◌∙◌, subst, arith, ⊎_elim, true≢false}
+use Rattle.std.proofs.Math.Path.{fun_ext}
 use Rattle.std.proofs.lemmas.Bool.{cases_lt}
-use Rattle.ms_bits.specs.Maps.{number_at, with_range}
+use Rattle.ms_bits.specs.Maps.{number_at, byte_of, with_range}
+use Rattle.ms_ir.specs.declared.calls.Slot.TheVariants as slot
+use Rattle.ms_ir.specs.Names.{slot_room, slots}
+use Rattle.ms_runs.specs.Plain.{in_slots}
 use Rattle.ms_planes.specs.Areas.{held}
 use Rattle.ms_planes.proofs.Shown.{number-same}
 use Rattle.ms_planes.proofs.Ranges.{range-in, range-low, range-high}
@@ -25,3 +29,51 @@ slots-written bytes new cells a n g shows low is k l = ⊎_elim
   where
     at : with_range (held bytes) (a - 0x680000000000) n g k ≡ held new k
     at = sym (ap (λ (f : ℕ → ℕ). f k) is)
+
+-- ---- numbers that lie in a slot
+
+-- one was written
+slot_put : (a n v : ℕ) (cells : ℕ → ℕ) (new : List ℕ) (b : Bool) → in_slots a n slots ≡ true →
+    MatchBool b ((in_slots a n slots ≡ true) × ShowsSlots new (with_range cells a n (byte_of v))) ((in_slots a n slots ≡ false) × ShowsSlots new cells) → ShowsSlots new (with_range cells a n (byte_of v))
+slot_put a n v cells new true e h = h.1
+slot_put a n v cells new false e h = absurd (true≢false (sym e ∙ h.0))
+
+no_byte : (k : ℕ) → byte_of 0 k ≡ 0
+no_byte zero = refl
+no_byte (suc k) = no_byte k
+
+-- zeros were
+zeros_put : (a n : ℕ) (cells : ℕ → ℕ) (new : List ℕ) (b : Bool) → in_slots a n slots ≡ true →
+    MatchBool b ((in_slots a n slots ≡ true) × ShowsSlots new (with_range cells a n (byte_of 0))) ((in_slots a n slots ≡ false) × ShowsSlots new cells) → ShowsSlots new (with_range cells a n (λ k. 0))
+zeros_put a n cells new b e h = subst (λ (g : ℕ → ℕ). ShowsSlots new (with_range cells a n g)) (fun_ext no_byte) (slot_put a n 0 cells new b e h)
+
+pub first_mask_put : (a : ℕ) → a ≡ (slot_room slot.ParamMasks).0 → (cells : ℕ → ℕ) (new : List ℕ) (b : Bool) →
+    MatchBool b ((in_slots a 8 slots ≡ true) × ShowsSlots new (with_range cells a 8 (byte_of 0))) ((in_slots a 8 slots ≡ false) × ShowsSlots new cells) →
+    ShowsSlots new (with_range cells (slot_room slot.ParamMasks).0 8 (λ k. 0))
+first_mask_put a is cells new b h =
+    subst (λ (k : ℕ). ShowsSlots new (with_range cells k 8 (λ i. 0))) is (zeros_put a 8 cells new b (ap (λ k. in_slots k 8 slots) is ∙ mask_in) h)
+  where
+    mask_in : in_slots 0x680000000000 8 slots ≡ true
+    mask_in = refl
+
+pub first_origin_put : (a : ℕ) → a ≡ (slot_room slot.ParamOrigins).0 → (cells : ℕ → ℕ) (new : List ℕ) (b : Bool) →
+    MatchBool b ((in_slots a 4 slots ≡ true) × ShowsSlots new (with_range cells a 4 (byte_of 0))) ((in_slots a 4 slots ≡ false) × ShowsSlots new cells) →
+    ShowsSlots new (with_range cells (slot_room slot.ParamOrigins).0 4 (λ k. 0))
+first_origin_put a is cells new b h =
+    subst (λ (k : ℕ). ShowsSlots new (with_range cells k 4 (λ i. 0))) is (zeros_put a 4 cells new b (ap (λ k. in_slots k 4 slots) is ∙ origin_in) h)
+  where
+    origin_in : in_slots 0x680000001000 4 slots ≡ true
+    origin_in = refl
+
+-- the slots of a result are never missed
+pub mask_lies : {P : Type 0} (a : ℕ) → a ≡ (slot_room slot.RetvalMask).0 → in_slots a 8 slots ≡ false → P
+mask_lies a is e = absurd (true≢false (sym mask_in ∙ sym (ap (λ k. in_slots k 8 slots) is) ∙ e))
+  where
+    mask_in : in_slots 0x680000002000 8 slots ≡ true
+    mask_in = refl
+
+pub origin_lies : {P : Type 0} (a : ℕ) → a ≡ (slot_room slot.RetvalOrigin).0 → in_slots a 4 slots ≡ false → P
+origin_lies a is e = absurd (true≢false (sym origin_in ∙ sym (ap (λ k. in_slots k 4 slots) is) ∙ e))
+  where
+    origin_in : in_slots 0x680000003000 4 slots ≡ true
+    origin_in = refl

@@ -294,5 +294,6 @@ taken-shown w beside world m addr n count to bs shows t same b s o =
         pairs = r.pairs;
         reports = r.reports;
         blind = r.blind;
+        fibers = r.fibers;
       }),
     )

@@ -24,9 +24,13 @@ Answered beside (Does world) (answer.Resumed None) w = Shows w beside world
 Answered beside (Ends e world) (answer.Ended x) w = (x ≡ e) × Shows w beside world
 Answered beside _ _ w = ⊥
 
--- an external is asked for, other than `printf`, whose answer needs the types of its arguments
+-- an external is asked for, other than `printf`, whose answer needs the types of its arguments, and the thread calls, which a run
+-- of fibers answers
 abbrev pub IsExternal : Asked → Type 0
 IsExternal (asked.External external.Printf) = ⊥
+IsExternal (asked.External external.PthreadCreate) = ⊥
+IsExternal (asked.External external.PthreadJoin) = ⊥
+IsExternal (asked.External external.SchedYield) = ⊥
 IsExternal (asked.External e) = Unit {0}
 IsExternal (asked.Runtime f) = ⊥
 

@@ -10,6 +10,7 @@ use Rattle.ms_planes.specs.Memory.{bytes_of, shadow_of, origins_of}
 use Rattle.ms_ir.specs.Areas.{Area, Fixed, Heap, Stack, area_eq}
 use Rattle.ms_runs.specs.World.{Allocation, World}
 use Rattle.ms_runs.specs.Memory.{fits, next_base, make, make_unset}
+use Rattle.ms_runs.specs.Threads.{fibers_of}
 use Rattle.ms_host.specs.State.{WorldState, Beside}
 
 -- the area of a kind of allocation
@@ -51,6 +52,7 @@ pub record Shows (w : WorldState) (beside : Beside) (world : World) : Type 0 whe
   pub pairs : world.pairs ≡ beside.pairs
   pub reports : world.reports ≡ beside.reports
   pub blind : world.blind ≡ beside.blind
+  pub fibers : fibers_of world ≡ beside.fibers
 
 -- an allocation of n uninitialised bytes was made at a base, or nothing changed: it doesn't fit, or memory is wanting
 abbrev pub Allocated : AllocKind → Beside → World → ℕ → Result ℕ AllocError → WorldState → Type 0
@@ -84,4 +86,9 @@ first_world input = record {
   output = [];
   reports = [];
   blind = 0;
+  turn = 0;
+  threads = [];
+  answers = λ k. 0;
+  answer_masks = λ k. 0;
+  answer_origins = λ k. 0;
 }

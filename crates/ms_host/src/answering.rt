@@ -4,7 +4,7 @@ ghost use Rattle.ms_bits.specs.declared.word_functions.WordFn.{WordFn as WordFnO
 ghost use Rattle.ms_bits.specs.declared.word_functions.WordWidth.{WordWidth as WordWidthOf};
 ghost use Rattle.ms_bits.specs.WordFunctions.{bits_of, word_answer};
 ghost use Rattle.ms_ir.specs.declared.syntax.Ty.{Ty};
-ghost use Rattle.ms_ir.specs.Signatures.{is_variadic};
+ghost use Rattle.ms_ir.specs.Signatures.{is_variadic, is_thread_call};
 ghost use Rattle.ms_runs.specs.World.{World as Meant, Setting, gives};
 ghost use Rattle.ms_runs.specs.Externals.{external as external_of, assumed, unknown_size};
 ghost use Rattle.ms_host.specs.State.{Beside, Keeps, WorldState};
@@ -59,10 +59,10 @@ fn unknown_size(least: u64) -> u64
     if least == 0 { u64::MAX } else { 0 }
 }
 
-/// Answers a call of an external other than `printf`: what it does to the world, and whether the run goes on.
+/// Answers a call of an external other than `printf` and the thread calls: what it does to the world, and whether the run goes on.
 ///
 /// An argument that is missing counts as 0. The one error is want of memory, and the run is over then.
-#[tactic(auto, using(crate::proofs::FixedNumbers::fixed_number))]
+#[tactic(auto, using(crate::proofs::FixedNumbers::fixed_number, crate::proofs::FixedNumbers::no_thread_call))]
 pub fn answer(call: &HostCall, world: &mut World) -> Result<Answer, NoMemory>
     requires few { world.old.made + 2 ^ 26 < 2 ^ 64 }
     requires external { IsExternal call.now.asked }
@@ -116,6 +116,7 @@ impl World {
         requires exit { external ≡ External.Exit → get_or args.now 0 0 < 2 ^ 32 }
         requires word { (function : WordFnOf) (width : WordWidthOf) → external ≡ External.Word function width → get_or args.now 0 0 < 2 ^ bits_of width }
         requires fixed { is_variadic external ≡ false }
+        requires alone { is_thread_call external ≡ false }
         ensures answered { (given : Setting) (types : List Ty) (beside : Beside) (world : Meant) → self.old.fill ≡ given.fill → Shows self.old beside world → IfOk result (λ a. Answered beside (external_of given site external types args.now world) a self.new) }
         ensures keeps { Keeps self.old self.new }
         ensures made { self.new.made ≤ self.old.made + 2 ^ 26 }
@@ -146,7 +147,10 @@ impl World {
             External::LifetimeStart => Ok(self.begun(site, a, b)),
             External::LifetimeEnd => Ok(Answer::Resumed(None)),
             External::Word(function, width) => Ok(worded(function, width, a, b, c, site)),
-            External::Printf => unreachable!(),
+            External::Printf
+            | External::PthreadCreate
+            | External::PthreadJoin
+            | External::SchedYield => unreachable!(),
         }
     }
 }

@@ -18,6 +18,7 @@ mod shadows;
 mod slots;
 mod streams;
 mod strings;
+mod threads;
 mod undefined;
 mod worlds;
 mod writes;

@@ -15,7 +15,7 @@ use Rattle.ms_ir.specs.declared.syntax.Op.{Op}
 use Rattle.ms_ir.specs.declared.syntax.Op.TheVariants as op
 use Rattle.ms_ir.specs.declared.syntax.Func.{Func}
 use Rattle.ms_ir.specs.declared.calls.External.{External}
-use Rattle.ms_ir.specs.declared.calls.External.TheVariants.{Malloc, Calloc, Realloc, Free, Memcpy, Memmove, Memset, Memcmp, Strlen, Putchar, Puts, Getchar, Read, Write, Exit, Abort, LlvmMemcpy, LlvmMemmove, LlvmMemset, LifetimeStart, LifetimeEnd, Printf, LlvmTrap, LlvmAssume, LlvmObjectSize, Word}
+use Rattle.ms_ir.specs.declared.calls.External.TheVariants.{Malloc, Calloc, Realloc, Free, Memcpy, Memmove, Memset, Memcmp, Strlen, Putchar, Puts, Getchar, Read, Write, Exit, Abort, LlvmMemcpy, LlvmMemmove, LlvmMemset, LifetimeStart, LifetimeEnd, Printf, LlvmTrap, LlvmAssume, LlvmObjectSize, PthreadCreate, PthreadJoin, SchedYield, Word}
 use Rattle.ms_ir.specs.declared.places.RootKind.{RootKind}
 use Rattle.ms_ir.specs.Names.{name_eq, lookup, externals, word_externals, widths_of, external_name}
 use Rattle.ms_bits.specs.declared.word_functions.WordFn.TheVariants.{Ctpop, Ctlz, Cttz, Bswap, Bitreverse, Abs, Smax, Smin, Umax, Umin, Fshl, Fshr, UaddSat, UsubSat, SaddSat, SsubSat, Expect}
@@ -87,6 +87,9 @@ kind_roots site (Some LifetimeEnd) = refl
 kind_roots site (Some LlvmTrap) = refl
 kind_roots site (Some LlvmAssume) = refl
 kind_roots site (Some LlvmObjectSize) = refl
+kind_roots site (Some PthreadCreate) = refl
+kind_roots site (Some PthreadJoin) = refl
+kind_roots site (Some SchedYield) = refl
 kind_roots site (Some Printf) = refl
 kind_roots site (Some (Word f n)) = refl
 
@@ -121,7 +124,7 @@ word_named x e h = named_in (flat_map (λ f. map (Word f) (widths_of f)) (Ctpop 
 -- the kind of root that a call of an external is, by whether the module defines a function of its name
 pub called_as : (func : Name → Option ℕ) (x : Name) (e : External) → Some e ≡ lookup externals x → (if is_some (func (external_name e)) then None else kind_of (Some e)) ≡ called_kind func x
 called_as func x e found =
-    ap (λ y. if is_some (func y) then None else kind_of (Some e)) (named_before (Malloc ∷ Calloc ∷ Realloc ∷ Free ∷ Memcpy ∷ Memmove ∷ Memset ∷ Memcmp ∷ Strlen ∷ Putchar ∷ Puts ∷ Getchar ∷ Read ∷ Write ∷ Exit ∷ Abort ∷ LlvmMemcpy ∷ LlvmMemmove ∷ LlvmMemset ∷ LifetimeStart ∷ LifetimeEnd ∷ Printf ∷ LlvmTrap ∷ LlvmAssume ∷ LlvmObjectSize ∷ []) word_externals x e (word_named x e) (sym found)) ∙ by_choice (is_some (func x))
+    ap (λ y. if is_some (func y) then None else kind_of (Some e)) (named_before (Malloc ∷ Calloc ∷ Realloc ∷ Free ∷ Memcpy ∷ Memmove ∷ Memset ∷ Memcmp ∷ Strlen ∷ Putchar ∷ Puts ∷ Getchar ∷ Read ∷ Write ∷ Exit ∷ Abort ∷ LlvmMemcpy ∷ LlvmMemmove ∷ LlvmMemset ∷ LifetimeStart ∷ LifetimeEnd ∷ Printf ∷ LlvmTrap ∷ LlvmAssume ∷ LlvmObjectSize ∷ PthreadCreate ∷ PthreadJoin ∷ SchedYield ∷ []) word_externals x e (word_named x e) (sym found)) ∙ by_choice (is_some (func x))
   where
     by_choice : (b : Bool) → (if b then None else kind_of (Some e)) ≡ kind_of (if b then None else lookup externals x)
     by_choice true = refl

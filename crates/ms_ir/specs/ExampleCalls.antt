@@ -140,3 +140,6 @@ msan_size = declares (codes "__msan_size") (Some i64) (ty.Ptr ∷ [])
 -- the site
 abbrev pub msan_check_format : Decl
 msan_check_format = declares (codes "__msan_check_format") None (ty.Ptr ∷ i32 ∷ ty.Ptr ∷ i32 ∷ [])
+
+abbrev pub msan_thread_result : Decl
+msan_thread_result = declares (codes "__msan_thread_result") None (ty.Ptr ∷ i64 ∷ i32 ∷ i32 ∷ [])

@@ -21,3 +21,4 @@ pub mod ExampleCalls
 pub mod ExampleModules
 pub mod ExampleExternals
 pub mod ExampleMarks
+pub mod ThreadCalls

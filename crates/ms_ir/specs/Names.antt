@@ -1,5 +1,5 @@
 -- Names (LLVM Language Reference, "Identifiers"), and the tables of what has a meaning of its own: the externals
--- (C library, and LLVM Language Reference, "Standard C/C++ Library Intrinsics", "Memory Use Markers", "Bit Manipulation
+-- (C library, POSIX's thread calls, and LLVM Language Reference, "Standard C/C++ Library Intrinsics", "Memory Use Markers", "Bit Manipulation
 -- Intrinsics", "Saturation Arithmetic Intrinsics" and "'llvm.expect' Intrinsic"), the runtime functions and the slots
 -- (both own).
 use Rattle.std.specs.Prelude.{ℕ, Bool, false, ◌&&◌, ◌||◌, List, [], ◌∷◌, ◌++◌, map, flat_map, length, nat_eq, nat_lt, Option, Some, None, is_some, codes, take, drop, if◌then◌else◌}
@@ -9,7 +9,7 @@ use Rattle.std.specs.Cmp.Lexicographic.{pointwise}
 use Rattle.ms_ir.specs.declared.syntax.Name.{Name}
 use Rattle.ms_ir.specs.declared.syntax.Name.TheVariants.{Number, Text}
 use Rattle.ms_ir.specs.declared.calls.External.{External}
-use Rattle.ms_ir.specs.declared.calls.External.TheVariants.{Malloc, Calloc, Realloc, Free, Memcpy, Memmove, Memset, Memcmp, Strlen, Putchar, Puts, Getchar, Read, Write, Exit, Abort, LlvmMemcpy, LlvmMemmove, LlvmMemset, LifetimeStart, LifetimeEnd, Printf, LlvmTrap, LlvmAssume, LlvmObjectSize, Word}
+use Rattle.ms_ir.specs.declared.calls.External.TheVariants.{Malloc, Calloc, Realloc, Free, Memcpy, Memmove, Memset, Memcmp, Strlen, Putchar, Puts, Getchar, Read, Write, Exit, Abort, LlvmMemcpy, LlvmMemmove, LlvmMemset, LifetimeStart, LifetimeEnd, Printf, LlvmTrap, LlvmAssume, LlvmObjectSize, PthreadCreate, PthreadJoin, SchedYield, Word}
 use Rattle.ms_bits.specs.declared.word_functions.WordFn.{WordFn}
 use Rattle.ms_bits.specs.declared.word_functions.WordFn.TheVariants.{Ctpop, Ctlz, Cttz, Bswap, Bitreverse, Abs, Smax, Smin, Umax, Umin, Fshl, Fshr, UaddSat, UsubSat, SaddSat, SsubSat, Expect}
 use Rattle.ms_bits.specs.declared.word_functions.WordWidth.{WordWidth}
@@ -18,7 +18,7 @@ use Rattle.ms_bits.specs.declared.word_functions.BitMove.{BitMove}
 use Rattle.ms_bits.specs.declared.word_functions.BitMove.TheVariants.{Bswap16, Bswap32, Bswap64, Bitreverse8, Bitreverse16, Bitreverse32, Bitreverse64, Fshl8, Fshl16, Fshl32, Fshl64, Fshr8, Fshr16, Fshr32, Fshr64}
 use Rattle.ms_bits.specs.WordFunctions.{move_fn, move_width}
 use Rattle.ms_ir.specs.declared.calls.RuntimeFn.{RuntimeFn}
-use Rattle.ms_ir.specs.declared.calls.RuntimeFn.TheVariants.{Check, CheckMemory, CheckString, Blind, Poison, Unpoison, Copy, Fill, StoreOrigin, LoadOrigin, Size, CheckFormat, Move}
+use Rattle.ms_ir.specs.declared.calls.RuntimeFn.TheVariants.{Check, CheckMemory, CheckString, Blind, Poison, Unpoison, Copy, Fill, StoreOrigin, LoadOrigin, Size, CheckFormat, ThreadResult, Move}
 use Rattle.ms_ir.specs.declared.calls.Slot.{Slot}
 use Rattle.ms_ir.specs.declared.calls.Slot.TheVariants.{ParamMasks, ParamOrigins, RetvalMask, RetvalOrigin}
 
@@ -92,6 +92,9 @@ external_name LifetimeEnd = Text (codes "llvm.lifetime.end.p0")
 external_name LlvmTrap = Text (codes "llvm.trap")
 external_name LlvmAssume = Text (codes "llvm.assume")
 external_name LlvmObjectSize = Text (codes "llvm.objectsize.i64.p0")
+external_name PthreadCreate = Text (codes "pthread_create")
+external_name PthreadJoin = Text (codes "pthread_join")
+external_name SchedYield = Text (codes "sched_yield")
 external_name Printf = Text (codes "printf")
 external_name (Word f n) = Text (codes "llvm." ++ word_name f ++ codes "." ++ width_name n)
 
@@ -107,7 +110,7 @@ abbrev pub externals : List (Name × External)
 externals =
     map (λ e. (external_name e, e))
     (Malloc ∷ Calloc ∷ Realloc ∷ Free ∷ Memcpy ∷ Memmove ∷ Memset ∷ Memcmp ∷ Strlen ∷ Putchar ∷ Puts ∷ Getchar ∷ Read ∷ Write ∷ Exit ∷ Abort ∷ LlvmMemcpy ∷ LlvmMemmove
-    ∷ LlvmMemset ∷ LifetimeStart ∷ LifetimeEnd ∷ Printf ∷ LlvmTrap ∷ LlvmAssume ∷ LlvmObjectSize ∷ [])
+    ∷ LlvmMemset ∷ LifetimeStart ∷ LifetimeEnd ∷ Printf ∷ LlvmTrap ∷ LlvmAssume ∷ LlvmObjectSize ∷ PthreadCreate ∷ PthreadJoin ∷ SchedYield ∷ [])
     ++ word_externals
 
 -- a function that moves bits alone, as an external
@@ -128,13 +131,14 @@ runtime_name StoreOrigin = Text (codes "__msan_store_origin")
 runtime_name LoadOrigin = Text (codes "__msan_load_origin")
 runtime_name Size = Text (codes "__msan_size")
 runtime_name CheckFormat = Text (codes "__msan_check_format")
+runtime_name ThreadResult = Text (codes "__msan_thread_result")
 runtime_name (Move k) = external_name (move_external k)
 
 -- the runtime functions that marked calls alone reach, by name
 abbrev pub msan_functions : List (Name × RuntimeFn)
 msan_functions =
     map (λ f. (runtime_name f, f))
-    (Check ∷ CheckMemory ∷ CheckString ∷ Blind ∷ Poison ∷ Unpoison ∷ Copy ∷ Fill ∷ StoreOrigin ∷ LoadOrigin ∷ Size ∷ CheckFormat ∷ [])
+    (Check ∷ CheckMemory ∷ CheckString ∷ Blind ∷ Poison ∷ Unpoison ∷ Copy ∷ Fill ∷ StoreOrigin ∷ LoadOrigin ∷ Size ∷ CheckFormat ∷ ThreadResult ∷ [])
 
 -- the functions that move bits by name
 unfoldable pub bit_moves : List (Name × RuntimeFn)

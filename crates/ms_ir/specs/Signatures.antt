@@ -103,6 +103,9 @@ external_signature external.LifetimeEnd = answers_nothing (Int 64 ∷ Ptr ∷ []
 external_signature external.LlvmTrap = answers_nothing []
 external_signature external.LlvmAssume = answers_nothing (Int 1 ∷ [])
 external_signature external.LlvmObjectSize = answers (Int 64) (Ptr ∷ Int 1 ∷ Int 1 ∷ Int 1 ∷ [])
+external_signature external.PthreadCreate = answers (Int 32) (Ptr ∷ Ptr ∷ Ptr ∷ Ptr ∷ [])
+external_signature external.PthreadJoin = answers (Int 32) (Int 64 ∷ Ptr ∷ [])
+external_signature external.SchedYield = answers (Int 32) []
 external_signature external.Printf = answers (Int 32) (Ptr ∷ [])
 external_signature (external.Word f n) = answers (Int (bits_of n)) (word_params f (bits_of n))
 
@@ -110,6 +113,13 @@ external_signature (external.Word f n) = answers (Int (bits_of n)) (word_params 
 abbrev pub is_variadic : External → Bool
 is_variadic external.Printf = true
 is_variadic e = false
+
+-- an external is a thread call (POSIX, "pthread_create", "pthread_join" and "sched_yield")
+abbrev pub is_thread_call : External → Bool
+is_thread_call external.PthreadCreate = true
+is_thread_call external.PthreadJoin = true
+is_thread_call external.SchedYield = true
+is_thread_call e = false
 
 -- the types that an external's arguments must have where it is called with arguments of these types: `printf` takes any
 -- after its format
@@ -145,6 +155,7 @@ runtime_signature runtime.StoreOrigin = answers_nothing (Ptr ∷ Int 64 ∷ Int 
 runtime_signature runtime.LoadOrigin = answers (Int 32) (Ptr ∷ Int 64 ∷ [])
 runtime_signature runtime.Size = answers (Int 64) (Ptr ∷ [])
 runtime_signature runtime.CheckFormat = answers_nothing (Ptr ∷ Int 32 ∷ Ptr ∷ Int 32 ∷ [])
+runtime_signature runtime.ThreadResult = answers_nothing (Ptr ∷ Int 64 ∷ Int 32 ∷ Int 32 ∷ [])
 runtime_signature (runtime.Move k) = external_signature (move_external k)
 
 -- the declarations of those that marked calls alone reach, in the order of their table

@@ -55,6 +55,12 @@ pub enum External {
     LlvmAssume,
     /// `llvm.objectsize.i64.p0`, to which no size is known.
     LlvmObjectSize,
+    /// `pthread_create`: makes a fiber.
+    PthreadCreate,
+    /// `pthread_join`: waits for a fiber's end.
+    PthreadJoin,
+    /// `sched_yield`: lets other fibers go on.
+    SchedYield,
     /// `llvm.NAME.iN`, a function of whole words ("Bit Manipulation Intrinsics", "Saturation Arithmetic Intrinsics").
     Word(WordFn, WordWidth),
 }
@@ -86,6 +92,8 @@ pub enum RuntimeFn {
     Size,
     /// `__msan_check_format`: checks the string at an argument of `printf`, where its format asks for one.
     CheckFormat,
+    /// `__msan_thread_result`: shadow and origin of the word that a fiber answered, where a join stored it.
+    ThreadResult,
     /// `llvm.NAME.iN`, which gives the mask of what it gives ("Bit Manipulation Intrinsics").
     Move(BitMove),
 }

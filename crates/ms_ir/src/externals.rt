@@ -3,7 +3,7 @@
 ghost use Rattle.std.specs.Prelude.{◌≡◌};
 ghost use Rattle.ms_ir.specs.declared.syntax.Name.TheVariants as spelling;
 ghost use Rattle.ms_ir.specs.Names.{lookup, externals};
-ghost use Rattle.ms_ir.specs.Signatures.{decl_signature, signature_eq, external_signature};
+ghost use Rattle.ms_ir.specs.Signatures.{decl_signature, signature_eq, external_signature, is_thread_call};
 
 use crate::calls::External;
 use crate::rows::{Kind, Row, named};
@@ -11,7 +11,7 @@ use crate::syntax::{Decl, Name};
 use crate::word_externals;
 
 /// Each external that is no function of whole words.
-static EXTERNALS: [Row<External>; 25] = [
+static EXTERNALS: [Row<External>; 28] = [
     Row {
         name: b"malloc",
         is: External::Malloc,
@@ -162,6 +162,24 @@ static EXTERNALS: [Row<External>; 25] = [
         ret: Some(Kind::Int(64)),
         params: &[Kind::Ptr, Kind::Int(1), Kind::Int(1), Kind::Int(1)],
     },
+    Row {
+        name: b"pthread_create",
+        is: External::PthreadCreate,
+        ret: Some(Kind::Int(32)),
+        params: &[Kind::Ptr, Kind::Ptr, Kind::Ptr, Kind::Ptr],
+    },
+    Row {
+        name: b"pthread_join",
+        is: External::PthreadJoin,
+        ret: Some(Kind::Int(32)),
+        params: &[Kind::Int(64), Kind::Ptr],
+    },
+    Row {
+        name: b"sched_yield",
+        is: External::SchedYield,
+        ret: Some(Kind::Int(32)),
+        params: &[],
+    },
 ];
 
 impl External {
@@ -183,6 +201,16 @@ impl External {
             Name::Number(_) => None,
             Name::Text(text) => External::spelled(text.as_slice()),
         }
+    }
+
+    /// Whether it is a thread call, which a run of one fiber doesn't know.
+    pub fn is_thread_call(self) -> bool
+        ensures { result ≡ is_thread_call self }
+    {
+        matches!(
+            self,
+            External::PthreadCreate | External::PthreadJoin | External::SchedYield
+        )
     }
 
     /// Whether a declaration has its types.
@@ -215,6 +243,9 @@ impl External {
             External::LlvmTrap => EXTERNALS[22].has_types_of(decl),
             External::LlvmAssume => EXTERNALS[23].has_types_of(decl),
             External::LlvmObjectSize => EXTERNALS[24].has_types_of(decl),
+            External::PthreadCreate => EXTERNALS[25].has_types_of(decl),
+            External::PthreadJoin => EXTERNALS[26].has_types_of(decl),
+            External::SchedYield => EXTERNALS[27].has_types_of(decl),
             External::Word(function, width) => word_externals::has_types_of(function, width, decl),
         }
     }

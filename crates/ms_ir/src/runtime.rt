@@ -14,7 +14,7 @@ use ms_bits::{BitMove, List, NoMemory};
 use std::alloc::Global;
 
 /// Each function that marked calls alone reach.
-static RUNTIME_FUNCTIONS: [Row<RuntimeFn>; 12] = [
+static RUNTIME_FUNCTIONS: [Row<RuntimeFn>; 13] = [
     Row {
         name: b"__msan_check",
         is: RuntimeFn::Check,
@@ -99,6 +99,12 @@ static RUNTIME_FUNCTIONS: [Row<RuntimeFn>; 12] = [
         is: RuntimeFn::CheckFormat,
         ret: None,
         params: &[Kind::Ptr, Kind::Int(32), Kind::Ptr, Kind::Int(32)],
+    },
+    Row {
+        name: b"__msan_thread_result",
+        is: RuntimeFn::ThreadResult,
+        ret: None,
+        params: &[Kind::Ptr, Kind::Int(64), Kind::Int(32), Kind::Int(32)],
     },
 ];
 
@@ -230,6 +236,7 @@ fn row_of(function: RuntimeFn) -> &'static Row<RuntimeFn>
         RuntimeFn::LoadOrigin => &RUNTIME_FUNCTIONS[9],
         RuntimeFn::Size => &RUNTIME_FUNCTIONS[10],
         RuntimeFn::CheckFormat => &RUNTIME_FUNCTIONS[11],
+        RuntimeFn::ThreadResult => &RUNTIME_FUNCTIONS[12],
         RuntimeFn::Move(kind) => move_row(kind),
     }
 }

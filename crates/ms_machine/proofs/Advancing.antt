@@ -13,13 +13,15 @@ use Rattle.ms_machine_steps.specs.Advances.{Advanced}
 module _ (Is Is' : Fiber → WorldState → PlainState → Type 0) (same : (fiber : Fiber) (w : WorldState) (state : PlainState) → Is fiber w state → Is' fiber w state) where
   pub advanced_as : (m : Module) (u : Setup) (beside : Beside) (state : PlainState) (left from : ℕ) (why : Pause) (fiber : Fiber) (w : WorldState) (left' : ℕ)
       → Advanced Is m u beside state left from why fiber w left' → Advanced Is' m u beside state left from why fiber w left'
-  advanced_as m u beside state left from pause.Spent fiber w left' h = record { last = h.last; came = h.came; stands = same fiber w h.last h.stands; none = h.none }
+  advanced_as m u beside state left from pause.Spent fiber w left' h = record { last = h.last; came = h.came; own = h.own; stands = same fiber w h.last h.stands; none = h.none }
   advanced_as m u beside state left from (pause.Ended e) fiber w left' h = h
+  advanced_as m u beside state left from (pause.Finished word) fiber w left' h = h
   advanced_as m u beside state left from (pause.Asked call) fiber w left' h = record {
     done = h.done;
     few = h.few;
     before = h.before;
     came = h.came;
+    own = h.own;
     within = h.within;
     same = h.same;
     stands = same fiber w h.within h.stands;

@@ -58,6 +58,7 @@ module _ (m : Module) (p : Program) (compiled : Compiled m p) where
     slots = r.slots;
     fill = r.fill;
     sound = r.sound;
+    owns = r.owns;
   }
 
   pub state_from : (u : Setup) (beside : Beside) (fiber : Fiber) (w : WorldState) (state : PlainState) → IsState m p u beside fiber w state → IsRunning m u beside fiber w state
@@ -68,6 +69,7 @@ module _ (m : Module) (p : Program) (compiled : Compiled m p) where
     slots = s.slots;
     fill = s.fill;
     sound = s.sound;
+    owns = s.owns;
   }
 
   -- a run that goes on after an answer does so whatever program it is

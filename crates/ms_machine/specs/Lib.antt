@@ -1,4 +1,5 @@
 pub mod Running
+pub mod Spawning
 pub mod Searches
 pub mod Standing
 pub mod WordsNamed

@@ -17,6 +17,7 @@ use Rattle.ms_host.specs.SlotBytes.{ShowsSlots}
 use Rattle.ms_host.specs.declared.calls.HostCall.{HostCall}
 use Rattle.ms_machine_steps.specs.declared.frames.Frame.{Frame as Kept}
 use Rattle.ms_machine_steps.specs.declared.fibers.Fiber.{Fiber}
+use Rattle.ms_machine_steps.specs.Owning.{Owns}
 use Rattle.ms_machine_steps.specs.Standing.{frames_of}
 use Rattle.ms_machine_steps.specs.Waiting.{FirstWaits}
 
@@ -42,6 +43,7 @@ pub record IsRunning (m : Module) (u : Setup) (beside : Beside) (fiber : Fiber) 
   pub slots : ShowsSlots w.slots state.slots
   pub fill : w.fill ≡ u.fill
   pub sound : SoundPlain m state
+  pub owns : Owns fiber state.world state.frames
 
 -- a fiber and a world stand for some state
 abbrev pub Runs : Module → Fiber → WorldState → Type 0

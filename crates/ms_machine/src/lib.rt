@@ -8,10 +8,12 @@
 mod names;
 mod places;
 mod running;
+mod spawning;
 mod standing;
 mod starting;
 mod words;
 
 pub use running::{advance, resume};
+pub use spawning::spawn;
 pub use standing::{frames, place, word};
 pub use starting::start;

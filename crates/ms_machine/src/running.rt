@@ -7,6 +7,7 @@ ghost use Rattle.ms_host.specs.declared.calls.HostCall.{HostCall as CallOf};
 ghost use Rattle.ms_host.specs.declared.calls.Answer.TheVariants.{Resumed};
 ghost use Rattle.ms_host.specs.Answers.{Answered, asked_effect};
 ghost use Rattle.ms_host.specs.State.{Beside, KeepsGiven, WorldState};
+ghost use Rattle.ms_machine_steps.specs.Owning.{KeepsOwn};
 ghost use Rattle.ms_machine_steps.specs.Standing.{frames_of};
 ghost use Rattle.ms_machine_steps.specs.Waiting.{FirstWaits, Waits, answered, types_due};
 ghost use Rattle.ms_machine_steps.specs.Advances.{Advanced, HasResumed};
@@ -48,6 +49,7 @@ pub fn advance(
 pub fn resume(m: &CheckedModule, fiber: &mut Fiber, value: Option<u64>)
     requires { WaitsFor m.now fiber.old }
     ensures at { fiber.new.frame.at ≡ fiber.old.frame.at + 1 }
+    ensures own { KeepsOwn fiber.old fiber.new }
     ensures stands { (u : Setup) (frame : FrameOf ℕ) (below : List (FrameOf ℕ)) (call : CallOf) → AllStandFor m.now (frames_of fiber.old) (frame ∷ below) → Waits m.now u frame call → AllStandFor m.now (frames_of fiber.new) (answered m.now value frame ∷ below) }
     ensures continues { (u : Setup) (beside later : Beside) (before after : WorldState) (state : PlainState) (call : CallOf) → IsRunning m.now u beside fiber.old before state → FirstWaits m.now u state.frames call
         → Answered later (asked_effect (setting_of m.now u) (types_due m.now state.frames) call state.world) (Resumed value) after → after.fill ≡ before.fill → after.slots ≡ before.slots

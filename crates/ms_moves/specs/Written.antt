@@ -5,9 +5,9 @@ use Rattle.ms_ir.specs.declared.syntax.Op.TheVariants as op
 use Rattle.ms_ir.specs.declared.calls.External.{External}
 use Rattle.ms_ir.specs.declared.calls.External.TheVariants.{Malloc, Realloc, Memcpy, Memmove, Memset, LlvmMemcpy, LlvmMemmove, LlvmMemset, LifetimeStart}
 use Rattle.ms_ir.specs.Layout.{stored_size, size_in}
-use Rattle.ms_ir.specs.Areas.{Heap, Stack}
+use Rattle.ms_ir.specs.Areas.{Heap}
 use Rattle.ms_runs.specs.World.{World, Setting}
-use Rattle.ms_runs.specs.Memory.{fits, next_base, is_good, heap_size}
+use Rattle.ms_runs.specs.Memory.{fits, local_area, next_base, is_good, heap_size}
 use Rattle.ms_ir.specs.Code.{external_named}
 use Rattle.ms_runs.specs.Poisoned.{Poisoned}
 use Rattle.ms_runs.specs.Masks.{word_at}
@@ -51,7 +51,7 @@ callee_written root (Some e) ps ss before after = external_written root e ps ss 
 
 -- what an instruction writes into memory that may be poisoned, in rising order; root is its own
 abbrev pub written : Setting → (root : ℕ) → Op → List Poisoned → List Source → (before after : World) → List Written
-written s root (op.Alloca t u c) ps ss before after = made after (next_base Stack before) 0 (size_in s.types t * (word_at 0 ps).value) root
+written s root (op.Alloca t u c) ps ss before after = made after (next_base (local_area before) before) 0 (size_in s.types t * (word_at 0 ps).value) root
 written s root (op.Store t x a) ps ss before after = Filled (word_at 1 ps).value (stored_size t) (source_at 0 ss) ∷ []
 written s root (op.Call r x as') ps ss before after = callee_written root (external_named s.func x) ps ss before after
 written s root _ ps ss before after = []

@@ -1,12 +1,14 @@
 -- A step poisons nothing but what its moves write.
-use Rattle.std.proofs.Common.{◌≡◌, ◌≢◌, ℕ, ◌+◌, List, [], ◌∷◌, length, sym, subst, ◌∙◌, arith, ◌⊎◌, inl, inr}
+use Rattle.std.proofs.Common.{◌≡◌, ◌≢◌, ℕ, ◌+◌, false, List, [], ◌∷◌, length, refl, sym, ap, subst, ◌∙◌, arith, ◌⊎◌, inl, inr}
 use Rattle.ms_ir.specs.declared.syntax.Name.{Name}
 use Rattle.ms_ir.specs.declared.syntax.Op.{Op}
 use Rattle.ms_ir.specs.declared.syntax.Op.TheVariants as op
 use Rattle.ms_ir.specs.declared.syntax.Inst.{Inst}
 use Rattle.ms_ir.specs.declared.syntax.Module.{Module}
 use Rattle.ms_runs.specs.World.{World, Setting}
-use Rattle.ms_ir.specs.Code.{roots_in, root_at, insts_at}
+use Rattle.ms_ir.specs.Code.{func_index, roots_in, root_at, insts_at}
+use Rattle.ms_ir.specs.ThreadCalls.{calls_thread, is_threaded}
+use Rattle.ms_runs_good.proofs.ThreadsApart.{none_due}
 use Rattle.ms_runs.specs.Control.{Frame, Outcome, On, Over, rest_of, read_edge, block_name}
 use Rattle.ms_runs.specs.Plain.{More}
 use Rattle.ms_runs.specs.Poisoned.{Poisoned}
@@ -22,7 +24,7 @@ use Rattle.ms_moves.specs.Moving.{Writes}
 use Rattle.ms_moves_laws.specs.Complete.{IsComplete}
 use Rattle.ms_moves_laws.proofs.ByteRuns.{WritesIn, found}
 use Rattle.ms_moves_laws.proofs.StepMoves.{AccountedMoved, EdgesOf, Edges, FirstRoots, first_moved}
-use Rattle.ms_moves_laws.proofs.Whole.{stop_more}
+use Rattle.ms_moves_laws.proofs.Whole.{drop_first, stop_more}
 
 -- any number counts as a root
 abbrev Any : ℕ → Type 0
@@ -48,9 +50,13 @@ module _ (s : Setting) (m : Module) (event k : ℕ) (ks : List ℕ) (made : ℕ)
   edges_at (i ∷ is) [] = tt
   edges_at (i ∷ is) (next ∷ rest) = λ branches. edges_of (block_name m fr.func fr.block) (insts_at m next.func next.block) (root_at s.func m next.func next.block 0)
 
-  roots_at : (is : List Inst) → FirstRoots Any s m event k ks made fr below same w is
-  roots_at [] = tt
-  roots_at (i ∷ is) = record { of_operands = λ n l g. tt; its_own = λ h. tt }
+  roots_at : s.func ≡ func_index m.funcs → is_threaded m ≡ false → (is : List Inst) → rest_of m fr ≡ is → FirstRoots Any s m event k ks made fr below same w is
+  roots_at named calm [] e = tt
+  roots_at named calm (i ∷ is) e = record {
+    of_operands = λ n l g. tt;
+    its_own = λ h. tt;
+    alone = ap (λ func. calls_thread func i.op) named ∙ none_due m calm fr.func fr.block fr.place i (drop_first (insts_at m fr.func fr.block) fr.place i is e);
+  }
 
   by_outcome : (x : Outcome Poisoned) → AccountedMoved Any s m event k ks made fr below same w (rest_of m fr) x → (d : ShadowState) → shadow_moved x ≡ More d
       → IsComplete s m event (record { standing = k ∷ ks; made = made }) (record { frames = fr ∷ below; world = w }) d
@@ -69,16 +75,16 @@ module _ (s : Setting) (m : Module) (event k : ℕ) (ks : List ℕ) (made : ℕ)
       on moves place (inl p) = inl p
       on moves place (inr x) = inr (found moves place x)
 
-steps_complete : (s : Setting) (m : Module) (event : ℕ) (standing : List ℕ) (made : ℕ) (frames : List (Frame Poisoned)) (w : World) (d : ShadowState) → length standing ≡ length frames
+steps_complete : (s : Setting) (m : Module) → s.func ≡ func_index m.funcs → is_threaded m ≡ false → (event : ℕ) (standing : List ℕ) (made : ℕ) (frames : List (Frame Poisoned)) (w : World) (d : ShadowState) → length standing ≡ length frames
     → shadow_step by_formulas s m (record { frames = frames; world = w }) ≡ More d → IsComplete s m event (record { standing = standing; made = made }) (record { frames = frames; world = w }) d
-steps_complete s m event standing made [] w d deep e = absurd (stop_more _ _ d e)
-steps_complete s m event [] made (fr ∷ below) w d deep e = absurd (omega (arith, deep))
-steps_complete s m event (k ∷ ks) made (fr ∷ below) w d deep e = next (omega (arith, deep))
+steps_complete s m named calm event standing made [] w d deep e = absurd (stop_more _ _ d e)
+steps_complete s m named calm event [] made (fr ∷ below) w d deep e = absurd (omega (arith, deep))
+steps_complete s m named calm event (k ∷ ks) made (fr ∷ below) w d deep e = next (omega (arith, deep))
   where
     next : length ks ≡ length below → IsComplete s m event (record { standing = k ∷ ks; made = made }) (record { frames = fr ∷ below; world = w }) d
     next same =
         by_outcome s m event k ks made fr below same w (shadow_frames by_formulas s m (fr ∷ below) w)
-        (first_moved Any s m event k ks made fr below same w (rest_of m fr) (roots_at s m event k ks made fr below same w (rest_of m fr))) d e
+        (first_moved Any s m event k ks made fr below same w (rest_of m fr) (roots_at s m event k ks made fr below same w named calm (rest_of m fr) refl)) d e
 
-pub complete : (s : Setting) (m : Module) (event : ℕ) (numbers : Numbers) (c d : ShadowState) → length numbers.standing ≡ length c.frames → shadow_step by_completions s m c ≡ More d → IsComplete s m event numbers c d
-complete s m event numbers c d deep e = steps_complete s m event numbers.standing numbers.made c.frames c.world d deep (sym (same_step formulas_exact s m c) ∙ e)
+pub complete : (s : Setting) (m : Module) → s.func ≡ func_index m.funcs → is_threaded m ≡ false → (event : ℕ) (numbers : Numbers) (c d : ShadowState) → length numbers.standing ≡ length c.frames → shadow_step by_completions s m c ≡ More d → IsComplete s m event numbers c d
+complete s m named calm event numbers c d deep e = steps_complete s m named calm event numbers.standing numbers.made c.frames c.world d deep (sym (same_step formulas_exact s m c) ∙ e)

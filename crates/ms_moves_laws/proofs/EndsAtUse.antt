@@ -16,18 +16,19 @@ use Rattle.ms_runs.specs.declared.runs.End.{End}
 use Rattle.ms_runs.specs.declared.runs.End.TheVariants as «end»
 use Rattle.ms_runs.specs.declared.runs.Report.{Report}
 use Rattle.ms_ir.specs.declared.calls.External.{External}
-use Rattle.ms_ir.specs.declared.calls.External.TheVariants.{Malloc, Calloc, Realloc, Free, Memcpy, Memmove, Memset, Memcmp, Strlen, Putchar, Puts, Getchar, Read, Write, Exit, Abort, LlvmMemcpy, LlvmMemmove, LlvmMemset, LifetimeStart, LifetimeEnd, Printf, LlvmTrap, LlvmAssume, LlvmObjectSize}
+use Rattle.ms_ir.specs.declared.calls.External.TheVariants.{Malloc, Calloc, Realloc, Free, Memcpy, Memmove, Memset, Memcmp, Strlen, Putchar, Puts, Getchar, Read, Write, Exit, Abort, LlvmMemcpy, LlvmMemmove, LlvmMemset, LifetimeStart, LifetimeEnd, Printf, LlvmTrap, LlvmAssume, LlvmObjectSize, PthreadCreate, PthreadJoin, SchedYield}
 use Rattle.ms_ir.specs.declared.calls.External.TheVariants as external_of
 use Rattle.ms_bits.specs.WordFunctions.{bits_of, word_answer}
 use Rattle.ms_ir.specs.Layout.{stored_size, size_in, width_of}
-use Rattle.ms_ir.specs.Areas.{Heap, Stack}
+use Rattle.ms_ir.specs.Areas.{Heap}
 use Rattle.ms_runs.specs.World.{World, Setting, Here, Effect, Gives, Does, Goes, Enters, Leaves, Ends, traps, stuck, word, then_does, gives}
-use Rattle.ms_runs.specs.Memory.{fits, is_good, heap_size, bytes_left}
+use Rattle.ms_runs.specs.Memory.{fits, local_area, is_good, heap_size, bytes_left}
 use Rattle.ms_ir.specs.Code.{operands, count_undefs, external_named}
 use Rattle.ms_runs.specs.Origins.{add_report, check, check_byte, trail, first_in_string, asks_string_at, count_blind}
-use Rattle.ms_runs.specs.Externals.{malloc, reallocated, realloc, where_good, string_at, printed, taken, next_byte, external, formatted, prints}
+use Rattle.ms_runs.specs.Threads.{fiber_limit, thread_at, has_ended, join_answer}
+use Rattle.ms_runs.specs.Externals.{joined, malloc, reallocated, realloc, where_good, string_at, printed, taken, next_byte, external, formatted, prints}
 use Rattle.ms_runs.specs.Act.{act}
-use Rattle.ms_runs.specs.Control.{Frame, Outcome, On, Over, entered, left, after_effect}
+use Rattle.ms_runs.specs.Control.{Frame, Outcome, On, Over, entered, left, keeping, after_effect}
 use Rattle.ms_runs.specs.Poisoned.{Poisoned}
 use Rattle.ms_runs.specs.Masks.{Rules, union, word_at}
 use Rattle.ms_runs.specs.Uses.{Use, Word, Bytes, Line, Asked, type_at, check_uses, blinded}
@@ -118,6 +119,11 @@ external_told s site LifetimeEnd ts vs w = tt
 external_told s site LlvmTrap ts vs w = trapped trap.Abort site w
 external_told s site LlvmAssume ts vs w = either_told (eqb (word 0 vs) 0) _ _ (trapped trap.Unreachable site w) tt
 external_told s site LlvmObjectSize ts vs w = tt
+external_told s site PthreadCreate ts vs w = either_told (leb fiber_limit (length w.threads + 1)) _ _ tt (good_told site (word 0 vs) 8 w _ tt)
+external_told s site PthreadJoin ts vs w =
+    either_told (eqb (join_answer w.turn (word 0 vs) w.threads) 0) (if has_ended (thread_at (word 0 vs) w.threads) then joined site (word 0 vs) (word 1 vs) w else traps trap.Deadlock site w) _
+    (either_told (has_ended (thread_at (word 0 vs) w.threads)) (joined site (word 0 vs) (word 1 vs) w) _ (either_told (eqb (word 1 vs) 0) _ _ tt (good_told site (word 1 vs) 8 w _ tt)) (trapped trap.Deadlock site w)) tt
+external_told s site SchedYield ts vs w = tt
 external_told s site Printf ts vs w = prints_told site (formatted w ts vs) w
 external_told s site (external_of.Word f n) ts vs w = gives_told site (word_answer f (bits_of n) (word 0 vs) (word 1 vs) (word 2 vs)) w
 
@@ -132,7 +138,7 @@ act_told s h (op.Binary o f t a b) vs w = gives_told h.site _ w
 act_told s h (op.Icmp p f t a b) vs w = gives_told h.site _ w
 act_told s h (op.Cast o f t a u) vs w = gives_told h.site _ w
 act_told s h (op.Phi t edges) vs w = trapped trap.Unreachable 0 w
-act_told s h (op.Alloca t u c) vs w = either_told (fits Stack (size_in s.types t * word 0 vs) w) _ _ tt (trapped trap.Stack h.site w)
+act_told s h (op.Alloca t u c) vs w = either_told (fits (local_area w) (size_in s.types t * word 0 vs) w) _ _ tt (trapped trap.Stack h.site w)
 act_told s h (op.Load t a) vs w = either_told (is_good w (word 0 vs) (stored_size t)) _ _ tt (trapped trap.BadAddress h.site w)
 act_told s h (op.Store t v a) vs w = either_told (is_good w (word 1 vs) (stored_size t)) _ _ tt (trapped trap.BadAddress h.site w)
 act_told s h (op.Call r x args) vs w = call_told s h.site (map (λ a. a.0) args) vs w (s.func x) (external_named s.func x)
@@ -270,7 +276,9 @@ pub after_read : (d : Rules) (s : Setting) (m : Module) (Q : Type 0) (w : World)
     → ReadAfter w Q e → ReadMoved Q (after_checks d s m i h ps fr below e)
 after_read d s m Q w i h ps fr below (Does u) k =
     let v = count_blind (union (map (λ p. p.mask) (blinded s.func i.op ps))) u in
-    never_read Q _ (moves_told s m h.site i.result ps (poisoned_result d i.op ps) (planes s h.site (h.root + count_undefs (operands i.op) + 1) i.op ps v) fr below _ (act_told s h i.op (map (λ p. p.value) ps) v))
+    let did = act s h i.op (map (λ p. p.value) ps) v in
+    never_read Q _
+    (moves_told s m h.site i.result ps (poisoned_result d i.op ps) (planes s h.site (h.root + count_undefs (operands i.op) + 1) i.op ps v) (keeping i.op did fr) below did (act_told s h i.op (map (λ p. p.value) ps) v))
 after_read d s m Q w i h ps fr below (Ends e u) k = λ f. k
 after_read d s m Q w i h ps fr below (Gives v u) k = absurd k
 after_read d s m Q w i h ps fr below (Goes v u) k = absurd k

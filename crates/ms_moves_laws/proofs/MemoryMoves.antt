@@ -1,5 +1,5 @@
 -- The bytes that an instruction poisons are those that it is said to write, and come from what was poisoned.
-use Rattle.std.proofs.Common.{◌≡◌, ◌≢◌, ℕ, zero, suc, ◌+◌, ◌-◌, ◌*◌, ◌/◌, ◌%◌, ◌^◌, ◌<◌, ◌≤◌, min, List, [], ◌∷◌, ◌++◌, map, length, take, drop, get_or, Bool, true, false, not, ◌&&◌, ◌||◌, eqb, leb, ltb, Option, Some, None, unwrap_or, is_some, Result, Ok, Err, refl, sym, ap, ap₂, ◌∙◌, subst, arith, if◌then◌else◌, ◌⊎◌, inl, inr}
+use Rattle.std.proofs.Common.{◌≡◌, ◌≢◌, ℕ, zero, suc, ◌+◌, ◌-◌, ◌*◌, ◌/◌, ◌%◌, ◌^◌, ◌<◌, ◌≤◌, min, List, [], ◌∷◌, ◌++◌, map, length, take, drop, get_or, Bool, true, false, true≢false, not, ◌&&◌, ◌||◌, eqb, leb, ltb, Option, Some, None, unwrap_or, is_some, Result, Ok, Err, refl, sym, ap, ap₂, ◌∙◌, subst, arith, if◌then◌else◌, ◌⊎◌, inl, inr}
 use Rattle.std.specs.Prelude.{option_map}
 use Rattle.std.proofs.Math.Nat.{zero-mod, mod-eq_of_lt}
 use Rattle.std.proofs.lemmas.Bool.{and_parts, leb-true, ltb-true}
@@ -15,14 +15,16 @@ use Rattle.ms_ir.specs.declared.syntax.Op.{Op}
 use Rattle.ms_ir.specs.declared.syntax.Op.TheVariants as op
 use Rattle.ms_runs.specs.declared.runs.Report.{Report}
 use Rattle.ms_ir.specs.declared.calls.External.{External}
-use Rattle.ms_ir.specs.declared.calls.External.TheVariants.{Malloc, Calloc, Realloc, Free, Memcpy, Memmove, Memset, Memcmp, Strlen, Putchar, Puts, Getchar, Read, Write, Exit, Abort, LlvmMemcpy, LlvmMemmove, LlvmMemset, LifetimeStart, LifetimeEnd, Printf, LlvmTrap, LlvmAssume, LlvmObjectSize, Word}
+use Rattle.ms_ir.specs.declared.calls.External.TheVariants.{Malloc, Calloc, Realloc, Free, Memcpy, Memmove, Memset, Memcmp, Strlen, Putchar, Puts, Getchar, Read, Write, Exit, Abort, LlvmMemcpy, LlvmMemmove, LlvmMemset, LifetimeStart, LifetimeEnd, Printf, LlvmTrap, LlvmAssume, LlvmObjectSize, PthreadCreate, PthreadJoin, SchedYield, Word}
 use Rattle.ms_bits.specs.declared.word_functions.WordFn.{WordFn}
 use Rattle.ms_bits.specs.declared.word_functions.WordWidth.{WordWidth}
 use Rattle.ms_bits.specs.WordFunctions.{bits_of, word_answer}
 use Rattle.ms_ir.specs.Layout.{stored_size, size_in}
-use Rattle.ms_ir.specs.Areas.{Heap, Stack, area_eq, room}
+use Rattle.ms_ir.specs.Signatures.{is_thread_call}
+use Rattle.ms_runs_good.proofs.ThreadsApart.{NoThread}
+use Rattle.ms_ir.specs.Areas.{Heap, area_eq, room}
 use Rattle.ms_runs.specs.World.{Allocation, World, Setting, Here, Effect, Gives, Does, Ends, traps, stuck, word, gives}
-use Rattle.ms_runs.specs.Memory.{used, fits, next_base, first_that, is_good, is_heap_block, heap_size, end_block, set_bytes, set_shadow, set_cells, store_number, copy_bytes, copy_shadow, make_unset, make_bytes}
+use Rattle.ms_runs.specs.Memory.{used, local_area, fits, next_base, first_that, is_good, is_heap_block, heap_size, end_block, set_bytes, set_shadow, set_cells, store_number, copy_bytes, copy_shadow, make_unset, make_bytes}
 use Rattle.ms_runs.specs.Origins.{Chained, keeps_old, pair_index, chain, poison, unpoison, copy_planes, fill_planes, mark_cells, store_origin}
 use Rattle.ms_ir.specs.Code.{makes_unset, external_named, is_root}
 use Rattle.ms_runs.specs.Externals.{malloc, reallocated, realloc, where_good, string_at, printed, next_byte, minus_one, external, formatted, prints}
@@ -393,57 +395,60 @@ module _ (P : Source → Type 0) where
     prints_memory (Ok bs) = either Printf (leb (length w.output + length bs) 1048576) _ _ (same w.shadow) tt
     prints_memory (Err t) = tt
 
-    pub external_memory : (e : External) (ts : List Ty) → (makes_unset (Some e) ≡ true → P (Root root)) → ExternalMemory e (external s site e ts vs u)
-    external_memory Malloc ts own = subst (λ n. ExternalMemory Malloc (malloc s.fill n u)) (sym (word_number 0 ps)) (malloc_memory (own refl))
-    external_memory Calloc ts own =
+    pub external_memory : (e : External) (ts : List Ty) → is_thread_call e ≡ false → (makes_unset (Some e) ≡ true → P (Root root)) → ExternalMemory e (external s site e ts vs u)
+    external_memory Malloc ts alone own = subst (λ n. ExternalMemory Malloc (malloc s.fill n u)) (sym (word_number 0 ps)) (malloc_memory (own refl))
+    external_memory Calloc ts alone own =
         either Calloc (ltb (word 0 vs * word 1 vs) (2 ^ 64) && fits Heap (word 0 vs * word 1 vs) u) _ _
         (nothing w.shadow _ (λ a h. zeroed_same w.shadow (next_base Heap w) (word 0 vs * word 1 vs) a h)) (same w.shadow)
-    external_memory Realloc ts own =
+    external_memory Realloc ts alone own =
         by_words (λ x y z. ExternalMemory Realloc (realloc s.fill site x y u)) (realloc_memory (own refl))
-    external_memory Free ts own = either Free (eqb (word 0 vs) 0) _ _ (same w.shadow) (either Free (is_some (heap_size u (word 0 vs))) _ _ (same w.shadow) tt)
-    external_memory Memcpy ts own =
+    external_memory Free ts alone own = either Free (eqb (word 0 vs) 0) _ _ (same w.shadow) (either Free (is_some (heap_size u (word 0 vs))) _ _ (same w.shadow) tt)
+    external_memory Memcpy ts alone own =
         by_words (λ x y z. ExternalMemory Memcpy (where_good site x z u (where_good site y z u (Gives x (copy_bytes x y z u)))))
         (where_it_is Memcpy (word_at 0 ps).value (word_at 2 ps).value _ (λ e. where_it_is Memcpy (word_at 1 ps).value (word_at 2 ps).value _ (λ f. copy_planes_memory (word_at 0 ps).value (word_at 1 ps).value (word_at 2 ps).value (copy_bytes (word_at 0 ps).value (word_at 1 ps).value (word_at 2 ps).value u) refl e f)))
-    external_memory Memmove ts own =
+    external_memory Memmove ts alone own =
         by_words (λ x y z. ExternalMemory Memmove (where_good site x z u (where_good site y z u (Gives x (copy_bytes x y z u)))))
         (where_it_is Memmove (word_at 0 ps).value (word_at 2 ps).value _ (λ e. where_it_is Memmove (word_at 1 ps).value (word_at 2 ps).value _ (λ f. copy_planes_memory (word_at 0 ps).value (word_at 1 ps).value (word_at 2 ps).value (copy_bytes (word_at 0 ps).value (word_at 1 ps).value (word_at 2 ps).value u) refl e f)))
-    external_memory Memset ts own =
+    external_memory Memset ts alone own =
         by_words (λ x y z. ExternalMemory Memset (where_good site x z u (Gives x (set_bytes x z (λ k. y % 256) u))))
         (where_it_is Memset (word_at 0 ps).value (word_at 2 ps).value _ (λ e. fill_memory (word_at 0 ps).value (word_at 2 ps).value (set_bytes (word_at 0 ps).value (word_at 2 ps).value (λ k. (word_at 1 ps).value % 256) u) refl e))
-    external_memory Memcmp ts own = where_it_is Memcmp (word 0 vs) (word 2 vs) _ (λ e. where_it_is Memcmp (word 1 vs) (word 2 vs) _ (λ f. same w.shadow))
-    external_memory Strlen ts own = string_memory Strlen (string_at u (word 0 vs)) (λ bs. Gives (length bs) u) (λ bs. same w.shadow)
-    external_memory Putchar ts own = either Putchar (leb (length w.output + length (word 0 vs % 256 ∷ [])) 1048576) _ _ (same w.shadow) tt
-    external_memory Puts ts own = string_memory Puts (string_at u (word 0 vs)) (λ bs. printed site (bs ++ 10 ∷ []) (Gives 1) u) (λ bs. either Puts (leb (length w.output + length (bs ++ 10 ∷ [])) 1048576) _ _ (same w.shadow) tt)
-    external_memory Getchar ts own = by_input w.input
+    external_memory Memcmp ts alone own = where_it_is Memcmp (word 0 vs) (word 2 vs) _ (λ e. where_it_is Memcmp (word 1 vs) (word 2 vs) _ (λ f. same w.shadow))
+    external_memory Strlen ts alone own = string_memory Strlen (string_at u (word 0 vs)) (λ bs. Gives (length bs) u) (λ bs. same w.shadow)
+    external_memory Putchar ts alone own = either Putchar (leb (length w.output + length (word 0 vs % 256 ∷ [])) 1048576) _ _ (same w.shadow) tt
+    external_memory Puts ts alone own = string_memory Puts (string_at u (word 0 vs)) (λ bs. printed site (bs ++ 10 ∷ []) (Gives 1) u) (λ bs. either Puts (leb (length w.output + length (bs ++ 10 ∷ [])) 1048576) _ _ (same w.shadow) tt)
+    external_memory Getchar ts alone own = by_input w.input
       where
         by_input : (bs : List ℕ) → ExternalMemory Getchar (next_byte bs u)
         by_input [] = same w.shadow
         by_input (b ∷ bs) = same w.shadow
-    external_memory Read ts own =
+    external_memory Read ts alone own =
         where_it_is Read (word 1 vs) (word 2 vs) _ (λ e. either Read (eqb (word 0 vs) 0) _ _ (unpoisoned (word_at 1 ps).value (length (take (word 2 vs) w.input)) (took (word 1 vs) (word 2 vs)) refl) (unpoisoned (word_at 1 ps).value (minus_one 64) u refl))
-    external_memory Write ts own =
+    external_memory Write ts alone own =
         where_it_is Write (word 1 vs) (word 2 vs) _ (λ e. either Write (eqb (word 0 vs) 1) _ _
         (either Write (leb (length w.output + length (bytes_at w.bytes (word 1 vs) (word 2 vs))) 1048576) _ _ (same w.shadow) tt) (same w.shadow))
-    external_memory Exit ts own = tt
-    external_memory Abort ts own = tt
-    external_memory LlvmMemcpy ts own =
+    external_memory Exit ts alone own = tt
+    external_memory Abort ts alone own = tt
+    external_memory LlvmMemcpy ts alone own =
         by_words (λ x y z. ExternalMemory LlvmMemcpy (where_good site x z u (where_good site y z u (Does (copy_bytes x y z u)))))
         (where_it_is LlvmMemcpy (word_at 0 ps).value (word_at 2 ps).value _ (λ e. where_it_is LlvmMemcpy (word_at 1 ps).value (word_at 2 ps).value _ (λ f. copy_planes_memory (word_at 0 ps).value (word_at 1 ps).value (word_at 2 ps).value (copy_bytes (word_at 0 ps).value (word_at 1 ps).value (word_at 2 ps).value u) refl e f)))
-    external_memory LlvmMemmove ts own =
+    external_memory LlvmMemmove ts alone own =
         by_words (λ x y z. ExternalMemory LlvmMemmove (where_good site x z u (where_good site y z u (Does (copy_bytes x y z u)))))
         (where_it_is LlvmMemmove (word_at 0 ps).value (word_at 2 ps).value _ (λ e. where_it_is LlvmMemmove (word_at 1 ps).value (word_at 2 ps).value _ (λ f. copy_planes_memory (word_at 0 ps).value (word_at 1 ps).value (word_at 2 ps).value (copy_bytes (word_at 0 ps).value (word_at 1 ps).value (word_at 2 ps).value u) refl e f)))
-    external_memory LlvmMemset ts own =
+    external_memory LlvmMemset ts alone own =
         by_words (λ x y z. ExternalMemory LlvmMemset (where_good site x z u (Does (set_bytes x z (λ k. y % 256) u))))
         (where_it_is LlvmMemset (word_at 0 ps).value (word_at 2 ps).value _ (λ e. fill_memory (word_at 0 ps).value (word_at 2 ps).value (set_bytes (word_at 0 ps).value (word_at 2 ps).value (λ k. (word_at 1 ps).value % 256) u) refl e))
-    external_memory LifetimeStart ts own =
+    external_memory LifetimeStart ts alone own =
         by_words (λ x y z. ExternalMemory LifetimeStart (where_good site y x u (Does (make_bytes s.fill y x u))))
         (where_it_is LifetimeStart (word_at 1 ps).value (word_at 0 ps).value _ (λ e. made_memory w.shadow (make_bytes s.fill (word_at 1 ps).value (word_at 0 ps).value u) (word_at 1 ps).value 0 (word_at 0 ps).value root (own refl) (λ a h. refl)))
-    external_memory LifetimeEnd ts own = same w.shadow
-    external_memory LlvmTrap ts own = tt
-    external_memory LlvmAssume ts own = either LlvmAssume (eqb (word 0 vs) 0) _ _ tt (same w.shadow)
-    external_memory LlvmObjectSize ts own = same w.shadow
-    external_memory Printf ts own = prints_memory (formatted u ts vs)
-    external_memory (Word f n) ts own = word_memory f n (word_answer f (bits_of n) (word 0 vs) (word 1 vs) (word 2 vs))
+    external_memory LifetimeEnd ts alone own = same w.shadow
+    external_memory LlvmTrap ts alone own = tt
+    external_memory LlvmAssume ts alone own = either LlvmAssume (eqb (word 0 vs) 0) _ _ tt (same w.shadow)
+    external_memory LlvmObjectSize ts alone own = same w.shadow
+    external_memory PthreadCreate ts alone own = absurd (true≢false alone)
+    external_memory PthreadJoin ts alone own = absurd (true≢false alone)
+    external_memory SchedYield ts alone own = same w.shadow
+    external_memory Printf ts alone own = prints_memory (formatted u ts vs)
+    external_memory (Word f n) ts alone own = word_memory f n (word_answer f (bits_of n) (word 0 vs) (word 1 vs) (word 2 vs))
 
     -- ---- instructions
 
@@ -459,14 +464,14 @@ module _ (P : Source → Type 0) where
 
     pub alloca_memory : P (Root root) → (here : Here) (t c : Ty) (a : Operand) → OpMemory (op.Alloca t c a) (act s here (op.Alloca t c a) vs u)
     alloca_memory its here t c a =
-        subst (λ k. OpMemory (op.Alloca t c a) (alloca s here.site (size_in s.types t * k) u)) (sym (word_number 0 ps)) (by_test (fits Stack (size_in s.types t * (word_at 0 ps).value) u))
+        subst (λ k. OpMemory (op.Alloca t c a) (alloca s here.site (size_in s.types t * k) u)) (sym (word_number 0 ps)) (by_test (fits (local_area u) (size_in s.types t * (word_at 0 ps).value) u))
       where
         by_test : (g : Bool)
             → OpMemory (op.Alloca t c a)
-            (if g then Gives (next_base Stack w) (make_unset s.fill Stack (size_in s.types t * (word_at 0 ps).value) u) else traps trap.Stack here.site u)
+            (if g then Gives (next_base (local_area w) w) (make_unset s.fill (local_area u) (size_in s.types t * (word_at 0 ps).value) u) else traps trap.Stack here.site u)
         by_test true =
-            made_memory w.shadow (make_unset s.fill Stack (size_in s.types t * (word_at 0 ps).value) u) (next_base Stack w) 0 (size_in s.types t * (word_at 0 ps).value) root its
-            (λ x h. zeroed_same w.shadow (next_base Stack w) (size_in s.types t * (word_at 0 ps).value) x h)
+            made_memory w.shadow (make_unset s.fill (local_area u) (size_in s.types t * (word_at 0 ps).value) u) (next_base (local_area w) w) 0 (size_in s.types t * (word_at 0 ps).value) root its
+            (λ x h. zeroed_same w.shadow (next_base (local_area w) w) (size_in s.types t * (word_at 0 ps).value) x h)
         by_test false = tt
 
     pub stored_memory : (here : Here) (t : Ty) (v a : Operand) → OpMemory (op.Store t v a) (act s here (op.Store t v a) vs u)
@@ -490,8 +495,8 @@ module _ (P : Source → Type 0) where
     CalleeMemory c _ = ⊥
 
     -- a call of an external, or of nothing
-    pub called_memory : (r : Option Ty) (x : Name) (args : List (Ty × Operand)) (o : Option External) → external_named s.func x ≡ o → (is_root s.func (op.Call r x args) ≡ true → P (Root root))
+    pub called_memory : (r : Option Ty) (x : Name) (args : List (Ty × Operand)) (o : Option External) → external_named s.func x ≡ o → NoThread o → (is_root s.func (op.Call r x args) ≡ true → P (Root root))
         → OpMemory (op.Call r x args) (elim o [ Some e ↦ external s site e (map (λ a. a.0) args) vs u | None ↦ Ends stuck u ])
-    called_memory r x args (Some e) f its =
-        subst (λ c. CalleeMemory c (external s site e (map (λ a. a.0) args) vs u)) (sym f) (external_memory e (map (λ a. a.0) args) (λ m. its (ap makes_unset f ∙ m)))
-    called_memory r x args None f its = tt
+    called_memory r x args (Some e) f alone its =
+        subst (λ c. CalleeMemory c (external s site e (map (λ a. a.0) args) vs u)) (sym f) (external_memory e (map (λ a. a.0) args) alone (λ m. its (ap makes_unset f ∙ m)))
+    called_memory r x args None f alone its = tt

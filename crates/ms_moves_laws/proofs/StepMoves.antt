@@ -23,12 +23,12 @@ use Rattle.ms_ir.specs.declared.calls.External.TheVariants as external_of
 use Rattle.ms_bits.specs.declared.word_functions.WordFn.{WordFn}
 use Rattle.ms_bits.specs.declared.word_functions.WordWidth.{WordWidth}
 use Rattle.ms_runs.specs.World.{World, Setting, Effect, Gives, Does, Goes, Enters, Leaves, Ends, traps, stuck, word, then_does, gives}
-use Rattle.ms_runs.specs.Memory.{is_good, bytes_left}
+use Rattle.ms_runs.specs.Memory.{is_good, bytes_left, end_block, end_blocks}
 use Rattle.ms_runs.specs.Origins.{count_blind, check, check_byte, first_in_string, asks_string_at, trail}
 use Rattle.ms_ir.specs.Layout.{width_of, stored_size}
 use Rattle.ms_runs.specs.Externals.{external}
 use Rattle.ms_ir.specs.Code.{operands, count_undefs, one_undef, one_unmarked, roots_in, root_at, site_at, insts_at, is_root, external_named}
-use Rattle.ms_runs.specs.Control.{Frame, Outcome, On, Over, here, read_all, read_edge, phis, block_name, with_value, one_on, put, jumped, bind, params_at, entered, result_at, release, after_effect}
+use Rattle.ms_runs.specs.Control.{Frame, Outcome, On, Over, here, read_all, read_edge, phis, block_name, with_value, one_on, put, jumped, bind, params_at, entered, result_at, release, given_back, blocks_made, keeping, after_effect}
 use Rattle.ms_runs.specs.Act.{act}
 use Rattle.ms_runs.specs.Poisoned.{Poisoned, clean}
 use Rattle.ms_runs.specs.Masks.{by_formulas, union, word_at, answer_mask, result_mask}
@@ -48,6 +48,8 @@ use Rattle.ms_moves.specs.Moving.{IsPoisonedIn, IsPoisoned}
 use Rattle.ms_moves_laws.specs.Complete.{HasMask, HasBits}
 use Rattle.ms_moves_laws.proofs.ByteRuns.{Sound, WritesIn, sound_append, writes_left, writes_right, word_sound, word_writes, NoByte, memory_sound, memory_writes, Covered}
 use Rattle.ms_moves_laws.proofs.ResultMoves.{words_from, result_zero, result_from}
+use Rattle.ms_ir.specs.ThreadCalls.{calls_thread}
+use Rattle.ms_runs_good.proofs.ThreadsApart.{asked_alone}
 use Rattle.ms_moves_laws.proofs.MemoryMoves.{OpMemory, alloca_memory, stored_memory, called_memory}
 
 -- ---- numbers of frames
@@ -229,6 +231,27 @@ module _ (R : ℕ → Type 0) (s : Setting) (m : Module) (event : ℕ) (k : ℕ)
   as_before : (is : List Inst) (f : Frame Poisoned) (v : World) → Accounted is numbers (f ∷ below) v → AccountedMoved is (On (f ∷ below) v)
   as_before is f v h edges = subst (λ ns. Accounted is ns (f ∷ below) v) (sym (renumbered_same (k ∷ ks) made (suc (length below)) (ap suc same))) h
 
+  -- the heap blocks of a frame are no part of it
+  reheaped : (i : Inst) (is : List Inst) (l : List ℕ) (f : Frame Poisoned) (v : World) → Accounted (i ∷ is) numbers (f ∷ below) v → Accounted (i ∷ is) numbers (record f { heap = l } ∷ below) v
+  reheaped i is l f v a = record { deep = a.deep; sound = a.sound; kept = by_source }
+    where
+      by_source : (b : ℕ) → b ≢ 0 → (y : Source) → HasBits b (k ∷ ks) (record { frames = record f { heap = l } ∷ below; world = v }) y
+          → HasBits b (k ∷ ks) (record { frames = fr ∷ below; world = w }) y ⊎ WritesIn (first_moves s m event (i ∷ is) k k fr below w (record f { heap = l } ∷ below) v) y
+      by_source b some (Root n) q = inl q
+      by_source b some (Value g y) q = a.kept b some (Value g y) q
+      by_source b some (Byte x) q = a.kept b some (Byte x) q
+
+  put_reheaped : (l : List ℕ) (r : Option Name) (p : Poisoned) → put (record fr { heap = l }) r p ≡ record (put fr r p) { heap = l }
+  put_reheaped l None p = refl
+  put_reheaped l (Some x) p = refl
+
+  -- a frame that an instruction gave its result, and maybe a heap block
+  as_put : (i : Inst) (is : List Inst) (e : Effect) (r : Option Name) (p : Poisoned) (v : World) → Accounted (i ∷ is) numbers (put fr r p ∷ below) v
+      → AccountedMoved (i ∷ is) (On (put (keeping i.op e fr) r p ∷ below) v)
+  as_put i is e r p v a =
+      let l = blocks_made i.op e ++ fr.heap in
+      as_before (i ∷ is) (put (record fr { heap = l }) r p) v (subst (λ f. Accounted (i ∷ is) numbers (f ∷ below) v) (sym (put_reheaped l r p)) (reheaped i is l (put fr r p) v a))
+
   -- ---- results
 
   put_sound : (site : ℕ) (r : Option Name) (v : Poisoned) (from : Source) → (v.mask ≢ 0 → P from) → Sound P event (result_move event site k r (put fr r v).values from)
@@ -392,6 +415,7 @@ module _ (R : ℕ → Type 0) (s : Setting) (m : Module) (event : ℕ) (k : ℕ)
   pub record DueRoots (o : Op) : Type 0 where
     pub of_operands : (n : ℕ) → (here s m fr).root < n → n ≤ (here s m fr).root + count_undefs (operands o) → R n
     pub its_own : is_root s.func o ≡ true → R ((here s m fr).root + count_undefs (operands o) + 1)
+    pub alone : calls_thread s.func o ≡ false
 
   module _ (o : Op) (r : Option Name) (mark : Bool) (is : List Inst) (rs : List Report) (blind : ℕ) (due : DueRoots o) where
     abbrev pub inst : Inst
@@ -425,7 +449,7 @@ module _ (R : ℕ → Type 0) (s : Setting) (m : Module) (event : ℕ) (k : ℕ)
     bytes b n = n
 
     abbrev pub OpMoved : Effect → Type 0
-    OpMoved e = AccountedMoved (inst ∷ is) (after_effect shadow_reading s m (here s m fr).site r ps lift after fr below e)
+    OpMoved e = AccountedMoved (inst ∷ is) (after_effect shadow_reading s m (here s m fr).site r ps lift after (keeping o e fr) below e)
 
     abbrev pub MovesAre : ℕ → (Frame Poisoned → World → List Move) → Type 0
     MovesAre to f = (next : Frame Poisoned) (rest : List (Frame Poisoned)) (v : World) → first_moves s m event (inst ∷ is) k to fr below w (next ∷ rest) v ≡ f next v
@@ -440,7 +464,7 @@ module _ (R : ℕ → Type 0) (s : Setting) (m : Module) (event : ℕ) (k : ℕ)
         → ((v : ℕ) → after v u ≡ u) → (e : Effect) → GivesResult e → OpMoved e
     result_moved are from kept (Gives v x) g =
         subst (λ y. OpMoved (Gives v y)) (sym g)
-        (as_before (inst ∷ is) (put fr r (lift v u)) (after v u) (record {
+        (as_put inst is (Gives v u) r (lift v u) (after v u) (record {
           deep = ap suc same;
           sound = subst (Sound P event) (sym (are (put fr r (lift v u)) below (after v u))) (put_sound (here s m fr).site r (lift v u) (result_source o ps ss w) from);
           kept = by_source;
@@ -465,7 +489,7 @@ module _ (R : ℕ → Type 0) (s : Setting) (m : Module) (event : ℕ) (k : ℕ)
     pub memory_moved : MovesAre k (λ next v. memory_moves event (here s m fr).site v.shadow (written s own o ps ss w v)) → ((x : World) → result_mask by_formulas o ps x ≡ 0)
         → (e : Effect) → MemoryOf e → OpMoved e
     memory_moved are clear (Gives v x) g =
-        as_before (inst ∷ is) (put fr r (lift v x)) (after v x) (record {
+        as_put inst is (Gives v x) r (lift v x) (after v x) (record {
           deep = ap suc same;
           sound = subst (Sound P event) (sym (are (put fr r (lift v x)) below (after v x))) (memory_sound P event (here s m fr).site (after v x).shadow (written s own o ps ss w (after v x)) g.sound);
           kept = by_source;
@@ -570,13 +594,25 @@ module _ (R : ℕ → Type 0) (s : Setting) (m : Module) (event : ℕ) (k : ℕ)
 
 -- ---- a return
 
+ended_shadow : (ps : List ℕ) (w : World) → (end_blocks ps w).shadow ≡ w.shadow
+ended_shadow [] w = refl
+ended_shadow (p ∷ ps) w = ended_shadow ps (end_block p w)
+
+-- what it takes back leaves shadow as it is
+given_back_shadow : (frame : Frame Poisoned) (w : World) → (given_back frame w).shadow ≡ w.shadow
+given_back_shadow frame w = ended_shadow frame.heap (if eqb frame.mark 0 then w else release frame.mark w) ∙ by_mark (eqb frame.mark 0)
+  where
+    by_mark : (t : Bool) → (if t then w else release frame.mark w).shadow ≡ w.shadow
+    by_mark true = refl
+    by_mark false = refl
+
 return_moved : (R : ℕ → Type 0) (s : Setting) (m : Module) (event k : ℕ) (ks : List ℕ) (made : ℕ) (fr : Frame Poisoned) (below : List (Frame Poisoned)) (same : length ks ≡ length below) (w : World)
     (v : Option (Ty × Operand)) (r : Option Name) (mark : Bool) (is : List Inst) (rs : List Report) (blind : ℕ) (due : DueRoots R s m event k ks made fr below same w (op.Ret v))
     → OpMoved R s m event k ks made fr below same w (op.Ret v) r mark is rs blind due (Leaves (record w { reports = rs; blind = blind }))
 return_moved R s m event k ks made fr [] same w v r mark is rs blind due = tt
 return_moved R s m event k [] made fr (caller ∷ rest) same w v r mark is rs blind due = absurd (omega (arith, same))
 return_moved R s m event k (j ∷ js) made fr (caller ∷ rest) same w v r mark is rs blind due =
-    λ edges. subst (λ ns. Accounted R s m event k (j ∷ js) made fr (caller ∷ rest) same w (record { op = op.Ret v; result = r; marked = mark } ∷ is) ns (put caller (result_at m caller) word ∷ rest) (release fr.mark x))
+    λ edges. subst (λ ns. Accounted R s m event k (j ∷ js) made fr (caller ∷ rest) same w (record { op = op.Ret v; result = r; marked = mark } ∷ is) ns (put caller (result_at m caller) word ∷ rest) (given_back fr x))
     (sym (renumbered_less k (j ∷ js) made (suc (length rest)) same))
     (record { deep = same; sound = sound (result_at m caller); kept = by_source })
   where
@@ -619,10 +655,10 @@ return_moved R s m event k (j ∷ js) made fr (caller ∷ rest) same w v r mark 
             (subst (λ c. WritesIn (result_move event site j (Some z) (λ a. word_at 0 words) from) (Value j c)) (sym q.0)
             (word_writes event site (word_at 0 words) from j z (λ e. some (sym q.1 ∙ ap (λ p. p.mask) (first_word words) ∙ e)))))
 
-    by_source : (b : ℕ) → b ≢ 0 → (y : Source) → HasBits b (j ∷ js) (record { frames = put caller (result_at m caller) word ∷ rest; world = release fr.mark x }) y
+    by_source : (b : ℕ) → b ≢ 0 → (y : Source) → HasBits b (j ∷ js) (record { frames = put caller (result_at m caller) word ∷ rest; world = given_back fr x }) y
         → HasBits b (k ∷ j ∷ js) (record { frames = fr ∷ caller ∷ rest; world = w }) y ⊎ WritesIn (return_move m event site j (word_at 0 words) from (caller ∷ rest)) y
     by_source b some (Root n) q = inl q
-    by_source b some (Byte a) q = inl q
+    by_source b some (Byte a) q = inl (sym (ap (λ (f : ℕ → ℕ). f a) (given_back_shadow fr x)) ∙ q)
     by_source b some (Value f y) (inr q) = inl (inr (inr q))
     by_source b some (Value f y) (inl q) = put_there b some (result_at m caller) f y q.1 q.0
 
@@ -716,7 +752,7 @@ module _ (R : ℕ → Type 0) (s : Setting) (m : Module) (event : ℕ) (k : ℕ)
             (λ y. result_zero ret _ (ap (λ o. answer_mask o (read_all (read_poisoned s fr.values) args (here s m fr).root)) (sym (ap (λ c. if is_some c then None else lookup externals x) e)) ∙ clean_answer (read_all (read_poisoned s fr.values) args (here s m fr).root))) _
             (called_memory (P R s m event k ks made fr below same w) s (here s m fr).site (own R s m event k ks made fr below same w (op.Call ret x args) r mark is rs blind due) w
             (bytes R s m event k ks made fr below same w (op.Call ret x args) r mark is rs blind due) rs blind (ps R s m event k ks made fr below same w (op.Call ret x args) r mark is rs blind due) (ss R s m event k ks made fr below same w (op.Call ret x args) r mark is rs blind due)
-            (comes R s m event k ks made fr below same w (op.Call ret x args) r mark is rs blind due) (plain R s m event k ks made fr below same w (op.Call ret x args) r mark is rs blind due) ret x args (external_named s.func x) refl due.its_own)
+            (comes R s m event k ks made fr below same w (op.Call ret x args) r mark is rs blind due) (plain R s m event k ks made fr below same w (op.Call ret x args) r mark is rs blind due) ret x args (external_named s.func x) refl (asked_alone (external_named s.func x) due.alone) due.its_own)
 
     acts : (o : Op) (due : DueRoots R s m event k ks made fr below same w o) → Acts o due
     acts (op.Binary o f t a b) due = result_moved R s m event k ks made fr below same w (op.Binary o f t a b) r mark is rs blind due (λ next rest v. refl) (λ n. from (op.Binary o f t a b) due w (λ b h. h) n) (λ v. refl) _ (given (here s m fr).site (op.Binary o f t a b) due _)

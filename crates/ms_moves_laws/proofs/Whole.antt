@@ -40,6 +40,8 @@ use Rattle.ms_moves.proofs.Chains.{HasWays, ways_on, more_roots}
 use Rattle.ms_moves_laws.proofs.ByteRuns.{account}
 use Rattle.ms_moves_laws.proofs.MemoryMoves.{zeroed}
 use Rattle.ms_moves_laws.proofs.ResultMoves.{words_from}
+use Rattle.ms_ir.specs.ThreadCalls.{is_threaded}
+use Rattle.ms_runs_good.proofs.ThreadsApart.{none_due}
 use Rattle.ms_moves_laws.proofs.StepMoves.{AccountedMoved, writes_of, EdgesOf, Edges, FirstRoots, first_moved}
 use Rattle.ms_moves_laws.proofs.EndsAtUse.{is_reported, ReadMoved, uses_read, after_read}
 use Rattle.std.specs.Prelude.{option_and_then}
@@ -90,7 +92,7 @@ module _ (types : Types) (address : Name → ℕ) where
 
 -- ---- lists
 
-drop_first : (xs : List Inst) (n : ℕ) (i : Inst) (is : List Inst) → drop n xs ≡ i ∷ is → slice_get xs n ≡ Some i
+pub drop_first : (xs : List Inst) (n : ℕ) (i : Inst) (is : List Inst) → drop n xs ≡ i ∷ is → slice_get xs n ≡ Some i
 drop_first [] zero i is e = absurd (none_first i is e)
   where
     none_first : (i : Inst) (is : List Inst) → [] ≡ i ∷ is → ⊥
@@ -128,7 +130,7 @@ kind_of m c passed = IsReached m (record { state = c; passed = passed })
 pub stop_more : {S : Type 0} (e : End) (w : World) (c : S) → Stop e w ≡ More c → ⊥
 stop_more e w c h = grind arith
 
-module _ (m : Module) (setup : Setup) where
+module _ (m : Module) (calm : is_threaded m ≡ false) (setup : Setup) where
   abbrev s : Setting
   s = setting_of m setup
 
@@ -168,6 +170,7 @@ module _ (m : Module) (setup : Setup) where
     first_roots (i ∷ is) e = record {
       of_operands = λ n l g. inl (AsOperand (record { due = due_at i is e; above = l; within = g }));
       its_own = λ makes. inl (AsItself (record { due = due_at i is e; makes = makes; is = refl }));
+      alone = none_due m calm fr.func fr.block fr.place i (drop_first (insts_at m fr.func fr.block) fr.place i is e);
     }
 
     module _ (i : Inst) (is : List Inst) (e : rest_of m fr ≡ i ∷ is) (branches : ¬ (targets i.op ≡ [])) (next : Frame Poisoned) (rest : List (Frame Poisoned)) (there : c.frames ≡ next ∷ rest) where
@@ -377,10 +380,10 @@ module _ (m : Module) (setup : Setup) where
         by_step (More c) f h go = go c (good_on t.state.frames t.state.world t.numbers.standing t.numbers.made t.events t.moves passed g c f) h
         by_step (Stop x w) f h go = by_end x h
 
-pub ordered : (m : Module) (setup : Setup) (ms : List Move) (at : Source) → trace m setup ≡ Found ms at → Ascending ms
-ordered m setup ms at e =
-    ordered_from m (to_first_report setup) refl setup.steps (traced_start m (to_first_report setup)) [] (good_start m (to_first_report setup)) ms at (sym (computed m setup) ∙ e)
+pub ordered : (m : Module) → is_threaded m ≡ false → (setup : Setup) (ms : List Move) (at : Source) → trace m setup ≡ Found ms at → Ascending ms
+ordered m calm setup ms at e =
+    ordered_from m calm (to_first_report setup) refl setup.steps (traced_start m (to_first_report setup)) [] (good_start m calm (to_first_report setup)) ms at (sym (computed m setup) ∙ e)
 
-pub some_way : (m : Module) (setup : Setup) (ms : List Move) (at : Source) → trace m setup ≡ Found ms at → FromReached m (to_first_report setup) ms at
-some_way m setup ms at e =
-    ways_from m (to_first_report setup) refl setup.steps (traced_start m (to_first_report setup)) [] (good_start m (to_first_report setup)) (omega arith) ms at (sym (computed m setup) ∙ e)
+pub some_way : (m : Module) → is_threaded m ≡ false → (setup : Setup) (ms : List Move) (at : Source) → trace m setup ≡ Found ms at → FromReached m (to_first_report setup) ms at
+some_way m calm setup ms at e =
+    ways_from m calm (to_first_report setup) refl setup.steps (traced_start m (to_first_report setup)) [] (good_start m calm (to_first_report setup)) (omega arith) ms at (sym (computed m setup) ∙ e)

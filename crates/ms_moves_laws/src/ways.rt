@@ -1,5 +1,7 @@
 //! The ways on which poisoned bits came.
-ghost use Rattle.std.specs.Prelude.{◌≡◌, ℕ, List, length};
+ghost use Rattle.std.specs.Prelude.{◌≡◌, ℕ, false, List, length};
+ghost use Rattle.ms_ir.specs.ThreadCalls.{is_threaded};
+ghost use Rattle.ms_ir.specs.Code.{func_index};
 ghost use Rattle.ms_ir.specs.declared.syntax.Module.{Module};
 ghost use Rattle.ms_runs.specs.declared.runs.Setup.{Setup};
 ghost use Rattle.ms_moves.specs.declared.moves.Move.{Move as AMove};
@@ -18,7 +20,7 @@ ghost use Rattle.ms_runs_good.specs.Fills.{to_first_report};
 
 /// Where a run has a report, a way over its moves leads from a root that the run has reached to what the report's use reads.
 pub fn some_way()
-    ensures { (m : Module) (setup : Setup) (moves : List AMove) (at : ASource) → trace m setup ≡ Found moves at → FromReached m (to_first_report setup) moves at }
+    ensures { (m : Module) → is_threaded m ≡ false → (setup : Setup) (moves : List AMove) (at : ASource) → trace m setup ≡ Found moves at → FromReached m (to_first_report setup) moves at }
 {}
 
 /// There is such a list exactly where the run ends at a report.
@@ -29,10 +31,10 @@ pub fn found_at_reports()
 
 /// The moves are in the order of their steps.
 pub fn moves_are_in_order()
-    ensures { (m : Module) (setup : Setup) (moves : List AMove) (at : ASource) → trace m setup ≡ Found moves at → Ascending moves }
+    ensures { (m : Module) → is_threaded m ≡ false → (setup : Setup) (moves : List AMove) (at : ASource) → trace m setup ≡ Found moves at → Ascending moves }
 {}
 
 /// The list is complete: where no move of a step writes to a place, it is as it was before the step, or clean.
 pub fn moves_are_complete()
-    ensures { (s : Setting) (m : Module) (event : ℕ) (numbers : Numbers) (c d : ShadowState) → length numbers.standing ≡ length c.frames → shadow_step by_completions s m c ≡ More d → IsComplete s m event numbers c d }
+    ensures { (s : Setting) (m : Module) → s.func ≡ func_index m.funcs → is_threaded m ≡ false → (event : ℕ) (numbers : Numbers) (c d : ShadowState) → length numbers.standing ≡ length c.frames → shadow_step by_completions s m c ≡ More d → IsComplete s m event numbers c d }
 {}

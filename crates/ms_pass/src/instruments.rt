@@ -1,5 +1,6 @@
 //! The instrumented form of a module.
-ghost use Rattle.std.specs.Prelude.{◌≡◌, IfOk};
+ghost use Rattle.std.specs.Prelude.{◌≡◌, false, IfOk};
+ghost use Rattle.ms_ir.specs.ThreadCalls.{is_threaded};
 ghost use Rattle.ms_ir.specs.Code.{strip};
 ghost use Rattle.ms_runs.specs.declared.runs.Setup.{Setup as SetupOf};
 ghost use Rattle.ms_runs.specs.Faithful.{Fair, Faithful, Undisturbed};
@@ -25,8 +26,9 @@ use std::thread::Threads;
 /// Inserts shadow code into a module that can be instrumented, after Stepanov and Serebryany (CGO 2015): the plain run of
 /// the answer is the shadow run of the module with every fair setup, and without what is inserted it is the module itself.
 /// Nothing is computed of values that are clean in every run, and they aren't checked.
-/// Where its run up to the first report counts no blind use, it is the same under every fill, and what a run says with a
-/// clean verdict the module itself prints under every fill, also where each step has a fill of its own. The output of a run is
+/// Where the run of a module without thread calls counts no blind use up to the first report, it is the same under every
+/// fill, and what a run says with a clean verdict such a module itself prints under every fill, also where each step has a fill
+/// of its own. The output of a run is
 /// a beginning of the module's own. The answer is formed and valid, and isn't compiled: it is for
 /// being written.
 ///
@@ -47,9 +49,9 @@ pub fn instrumented<R: Threads + Sync, G: Gate + Sync>(
     ensures stripped { IfOk result (λ j. strip j ≡ m.now) }
     ensures formed { IfOk result (λ j. Formed j) }
     ensures valid { IfOk result (λ j. Valid j) }
-    ensures under_fills { IfOk result (λ j. (setup : SetupOf) → Fair setup → InsertedUnderFills j setup) }
-    ensures holds { IfOk result (λ j. (setup : SetupOf) → Fair setup → HoldsUnderFills m.now setup (plain j setup)) }
-    ensures choices { IfOk result (λ j. (setup : SetupOf) → Fair setup → HoldsUnderChoices m.now setup (plain j setup)) }
+    ensures under_fills { IfOk result (λ j. is_threaded m.now ≡ false → (setup : SetupOf) → Fair setup → InsertedUnderFills j setup) }
+    ensures holds { IfOk result (λ j. is_threaded m.now ≡ false → (setup : SetupOf) → Fair setup → HoldsUnderFills m.now setup (plain j setup)) }
+    ensures choices { IfOk result (λ j. is_threaded m.now ≡ false → (setup : SetupOf) → Fair setup → HoldsUnderChoices m.now setup (plain j setup)) }
     ensures undisturbed { IfOk result (λ j. (setup : SetupOf) → Fair setup → Undisturbed (plain j setup) (plain m.now setup)) }
     ensures pieces { IfOk result (λ j. IsMadeOf m.now j) }
 {
@@ -71,9 +73,9 @@ pub fn instrument<R: Threads + Sync, G: Gate + Sync>(
     ensures checks { IfOk result (λ j. ChecksUnclean m.now j) }
     ensures faithful { IfOk result (λ j. Faithful m.now j) }
     ensures stripped { IfOk result (λ j. strip j ≡ m.now) }
-    ensures under_fills { IfOk result (λ j. (setup : SetupOf) → Fair setup → InsertedUnderFills j setup) }
-    ensures holds { IfOk result (λ j. (setup : SetupOf) → Fair setup → HoldsUnderFills m.now setup (plain j setup)) }
-    ensures choices { IfOk result (λ j. (setup : SetupOf) → Fair setup → HoldsUnderChoices m.now setup (plain j setup)) }
+    ensures under_fills { IfOk result (λ j. is_threaded m.now ≡ false → (setup : SetupOf) → Fair setup → InsertedUnderFills j setup) }
+    ensures holds { IfOk result (λ j. is_threaded m.now ≡ false → (setup : SetupOf) → Fair setup → HoldsUnderFills m.now setup (plain j setup)) }
+    ensures choices { IfOk result (λ j. is_threaded m.now ≡ false → (setup : SetupOf) → Fair setup → HoldsUnderChoices m.now setup (plain j setup)) }
     ensures undisturbed { IfOk result (λ j. (setup : SetupOf) → Fair setup → Undisturbed (plain j setup) (plain m.now setup)) }
     ensures pieces { IfOk result (λ j. IsMadeOf m.now j) }
 {

@@ -11,15 +11,16 @@ use Rattle.ms_ir.specs.declared.syntax.Operand.{Operand}
 use Rattle.ms_ir.specs.declared.syntax.Op.{Op}
 use Rattle.ms_ir.specs.declared.syntax.Op.TheVariants as op
 use Rattle.ms_ir.specs.declared.calls.External.{External}
-use Rattle.ms_ir.specs.declared.calls.External.TheVariants.{Malloc, Calloc, Realloc, Free, Memcpy, Memmove, Memset, Memcmp, Strlen, Putchar, Puts, Getchar, Read, Write, Exit, Abort, LlvmMemcpy, LlvmMemmove, LlvmMemset, LifetimeStart, LifetimeEnd, Printf, LlvmTrap, LlvmAssume, LlvmObjectSize, Word}
+use Rattle.ms_ir.specs.declared.calls.External.TheVariants.{Malloc, Calloc, Realloc, Free, Memcpy, Memmove, Memset, Memcmp, Strlen, Putchar, Puts, Getchar, Read, Write, Exit, Abort, LlvmMemcpy, LlvmMemmove, LlvmMemset, LifetimeStart, LifetimeEnd, Printf, LlvmTrap, LlvmAssume, LlvmObjectSize, PthreadCreate, PthreadJoin, SchedYield, Word}
 use Rattle.ms_runs.specs.declared.runs.End.TheVariants as «end»
-use Rattle.ms_ir.specs.Areas.{Heap, Stack}
+use Rattle.ms_ir.specs.Areas.{Heap}
 use Rattle.ms_runs.specs.World.{World, Setting, Here, Effect, Gives, Does, Goes, Enters, Leaves, Ends, traps, stuck, word, gives}
 use Rattle.ms_ir.specs.Layout.{stored_size, size_in}
-use Rattle.ms_runs.specs.Memory.{is_good, fits, heap_size}
+use Rattle.ms_runs.specs.Memory.{is_good, fits, local_area, heap_size}
 use Rattle.ms_ir.specs.Code.{external_named}
-use Rattle.ms_runs.specs.Externals.{malloc, reallocated, where_good, string_at, printed, taken, next_byte, external, output_limit, formatted, prints}
+use Rattle.ms_runs.specs.Externals.{malloc, reallocated, where_good, string_at, printed, taken, next_byte, external, output_limit, formatted, prints, joined}
 use Rattle.ms_runs.specs.Act.{act}
+use Rattle.ms_runs.specs.Threads.{fiber_limit, thread_at, has_ended, join_answer}
 use Rattle.ms_pass_laws.specs.Known.{GoesTo}
 
 -- an effect of an instruction that goes on behind itself, or ends the run
@@ -89,6 +90,13 @@ external_plain s site LifetimeEnd types words w = tt
 external_plain s site LlvmTrap types words w = tt
 external_plain s site LlvmAssume types words w = plain_if (eqb (word 0 words) 0) (traps trap.Unreachable site w) (Does w) tt tt
 external_plain s site LlvmObjectSize types words w = tt
+external_plain s site PthreadCreate types words w = plain_if (leb fiber_limit (length w.threads + 1)) (Gives 11 w) _ tt (plain_good site (word 0 words) 8 w (Gives _ _) tt)
+external_plain s site PthreadJoin types words w =
+    plain_if (eqb (join_answer w.turn (word 0 words) w.threads) 0) _ (Gives _ w)
+    (plain_if (has_ended (thread_at (word 0 words) w.threads)) (joined site (word 0 words) (word 1 words) w) (traps trap.Deadlock site w)
+    (plain_if (eqb (word 1 words) 0) (Gives 0 _) _ tt (plain_good site (word 1 words) 8 w (Gives 0 _) tt)) tt)
+    tt
+external_plain s site SchedYield types words w = tt
 external_plain s site Printf types words w = plain_prints site (formatted w types words) w
 external_plain s site (Word f n) types words w = plain_gives site (word_answer f (bits_of n) (word 0 words) (word 1 words) (word 2 words)) w
 
@@ -141,7 +149,7 @@ pub act_tells : (s : Setting) (h : Here) (o : Op) (words : List ℕ) (w : World)
 act_tells s h (op.Binary o flags t a b) words w = tells_plain s h (op.Binary o flags t a b) (gives h.site _ w) (plain_gives h.site _ w)
 act_tells s h (op.Icmp p flags t a b) words w = tells_plain s h (op.Icmp p flags t a b) (gives h.site _ w) (plain_gives h.site _ w)
 act_tells s h (op.Cast o flags t a u) words w = tells_plain s h (op.Cast o flags t a u) (gives h.site _ w) (plain_gives h.site _ w)
-act_tells s h (op.Alloca t u c) words w = tells_plain s h (op.Alloca t u c) (if fits Stack (size_in s.types t * word 0 words) w then Gives _ _ else Ends _ _) (plain_if (fits Stack (size_in s.types t * word 0 words) w) (Gives _ _) (Ends _ _) tt tt)
+act_tells s h (op.Alloca t u c) words w = tells_plain s h (op.Alloca t u c) (if fits (local_area w) (size_in s.types t * word 0 words) w then Gives _ _ else Ends _ _) (plain_if (fits (local_area w) (size_in s.types t * word 0 words) w) (Gives _ _) (Ends _ _) tt tt)
 act_tells s h (op.Load t a) words w = tells_plain s h (op.Load t a) (if is_good w (word 0 words) (stored_size t) then Gives _ _ else Ends _ _) (plain_if (is_good w (word 0 words) (stored_size t)) (Gives _ _) (Ends _ _) tt tt)
 act_tells s h (op.Store t v a) words w = tells_plain s h (op.Store t v a) (if is_good w (word 1 words) (stored_size t) then Does _ else Ends _ _) (plain_if (is_good w (word 1 words) (stored_size t)) (Does _) (Ends _ _) tt tt)
 act_tells s h (op.Ret v) words w = tells_ret s h v (word 0 words) w h.main refl

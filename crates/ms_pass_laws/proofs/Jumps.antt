@@ -196,7 +196,7 @@ module _ (s : Setting) (numbers : ℕ → Numbering) (m : Module) (strips : stri
     (same_given : given_of s ≡ (let g : Given = record { types = m.types; func = func_index m.funcs } in g)) where
   -- the first instruction of a block
   abbrev at_block : Frame Poisoned → ℕ → Frame Poisoned
-  at_block f b = record { func = f.func; block = b; place = 0; values = f.values; mark = f.mark }
+  at_block f b = record { func = f.func; block = b; place = 0; values = f.values; mark = f.mark; heap = f.heap }
 
   -- where a function begins
   abbrev start_of : ℕ → Here
@@ -282,14 +282,16 @@ module _ (s : Setting) (numbers : ℕ → Numbering) (m : Module) (strips : stri
       → block_index (blocks_at m f.func) to ≢ 0
       → ((x : Name) → (numbers f.func).env.clean x ≡ true → ((jumped shadow_reading s m to f).values x).mask ≡ 0)
       → TopFollows s numbers m (jumped shadow_reading s m to f) w
-      (jumped plain_reading s (pass numbers m) to (record { func = f.func; block = f.block; place = p; values = names; mark = f.mark })) cells w
+      (jumped plain_reading s (pass numbers m) to (record { func = f.func; block = f.block; place = p; values = names; mark = f.mark; heap = f.heap })) cells w
   jump_follows f names p cells w to matches ranged one known roots inner cleans = record {
     same_func = refl;
     same_block = same_block;
     same_mark = refl;
+    same_heap = refl;
     stands = here_agrees s (pass numbers m) m strips g' f' refl same_block left;
     waiting = [];
     marked = tt;
+    no_block = tt;
     next = start.0;
     room = start.1;
     rest = rest;
@@ -309,13 +311,13 @@ module _ (s : Setting) (numbers : ℕ → Numbering) (m : Module) (strips : stri
       is = insts_at m f.func (block_index (blocks_at m f.func) to)
 
       g : Frame ℕ
-      g = record { func = f.func; block = f.block; place = p; values = names; mark = f.mark }
+      g = record { func = f.func; block = f.block; place = p; values = names; mark = f.mark; heap = f.heap }
 
       f' : Frame Poisoned
       f' = jumped shadow_reading s m to f
 
       g' : Frame ℕ
-      g' = jumped plain_reading s (pass numbers m) to (record { func = f.func; block = f.block; place = p; values = names; mark = f.mark })
+      g' = jumped plain_reading s (pass numbers m) to (record { func = f.func; block = f.block; place = p; values = names; mark = f.mark; heap = f.heap })
 
       code : List Inst
       code = entry_code (numbers f.func).env (params_at m f.func) (2 * (numbers f.func).size + 1)

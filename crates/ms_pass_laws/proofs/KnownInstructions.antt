@@ -1,9 +1,9 @@
 -- What the pass asks of each instruction, of a formed and valid module.
 use Rattle.std.proofs.Common.{◌≡◌, ℕ, suc, ◌≤◌, List, [], ◌∷◌, length, Bool, true, false, Option, Some, None, refl, sym, ap, ◌∙◌, subst, arith, true≢false, zero, ◌+◌, ◌^◌, ◌<◌}
-use Rattle.std.specs.Prelude.{◌&&◌, not, map, take, drop, nat_le, if◌then◌else◌, option_map, unwrap_or, is_some, slice_get}
+use Rattle.std.specs.Prelude.{◌&&◌, ◌||◌, not, nat_eq, map, take, drop, nat_le, if◌then◌else◌, option_map, unwrap_or, is_some, slice_get}
 use Rattle.std.specs.List.{list_all}
 use Rattle.std.specs.Option.{option_or}
-use Rattle.std.proofs.lemmas.Bool.{and_parts, leb-true}
+use Rattle.std.proofs.lemmas.Bool.{and_parts, or_left, or_right, leb-true}
 use Rattle.ms_ir.specs.declared.syntax.Name.{Name}
 use Rattle.ms_ir.specs.declared.syntax.Ty.{Ty, Int, Ptr}
 use Rattle.ms_ir.specs.declared.syntax.Operand.{Operand}
@@ -31,7 +31,7 @@ use Rattle.ms_valid.specs.Formed.{Formed}
 use Rattle.ms_valid.specs.FormedNames.{is_global_name}
 use Rattle.ms_valid.specs.FormedCode.{is_int_type, is_value_type, result_formed, shape_formed, operand_formed, name_formed, binary_flags, cast_flags, are_among}
 use Rattle.ms_ir.specs.Signatures.{Signature, external_signature, signature_of}
-use Rattle.ms_valid.specs.TypesAgree.{first_misfit, fault_unless, first_misstep, leads_into, number_or_zero, is_type, operand_fits, cast_allows, returns_fit, argument_fault, is_printable, printf_fault, is_printf, call_fault, op_fault}
+use Rattle.ms_valid.specs.TypesAgree.{first_misfit, fault_unless, first_misstep, leads_into, number_or_zero, is_type, operand_fits, cast_allows, returns_fit, argument_fault, is_start, is_create, fits_call, is_printable, printf_fault, is_printf, call_fault, op_fault}
 use Rattle.ms_valid.specs.Uninstrumented.{CanInstrument}
 use Rattle.ms_valid.specs.Valid.{Valid}
 use Rattle.ms_valid.proofs.AtInstructions.{fits_at}
@@ -59,6 +59,26 @@ test_passes false a k e = absurd (no_some k e)
 both_true : (a b : Bool) → a ≡ true → b ≡ true → (a && b) ≡ true
 both_true a b p q = ap (λ k. k && b) p ∙ q
 
+-- an operation is no call
+abbrev pub IsNoCall : Op → Type 0
+IsNoCall (op.Call ret callee args) = ⊥
+IsNoCall o = Unit {0}
+
+-- arguments that fit by their places all have what such arguments have
+args_all : (fits : ℕ → Ty × Operand → Bool) (known : Ty × Operand → Bool) → ((k : ℕ) (o : Ty × Operand) → fits k o ≡ true → known o ≡ true) → (k : ℕ) (ps : List Ty) (args : List (Ty × Operand))
+    → argument_fault fits k ps args ≡ None → list_all known args ≡ true
+args_all fits known knows k [] [] e = refl
+args_all fits known knows k [] (a ∷ rest) e = absurd (no_some k e)
+args_all fits known knows k (p ∷ ps) [] e = refl
+args_all fits known knows k (p ∷ ps) (a ∷ rest) e =
+    let h = test_passes (type_eq a.0 p && fits k a) (argument_fault fits (suc k) ps rest) k e in
+    both_true (known a) (list_all known rest) (knows k a (and_parts (type_eq a.0 p) (fits k a) h.0).1) (args_all fits known knows (suc k) ps rest h.1)
+
+all_known : (fits known : Ty × Operand → Bool) → ((o : Ty × Operand) → fits o ≡ true → known o ≡ true) → (os : List (Ty × Operand)) → list_all fits os ≡ true → list_all known os ≡ true
+all_known fits known knows [] e = refl
+all_known fits known knows (o ∷ os) e =
+    let h = and_parts (fits o) (list_all fits os) e in both_true (known o) (list_all known os) (knows o h.0) (all_known fits known knows os h.1)
+
 module _ (fits : Ty × Operand → Bool) where
   misfit_all : (k : ℕ) (os : List (Ty × Operand)) → first_misfit fits k os ≡ None → list_all fits os ≡ true
   misfit_all k [] e = refl
@@ -70,38 +90,44 @@ module _ (fits : Ty × Operand → Bool) where
       let h = test_passes (fits o && leads_into (resolved types t) o) (first_misstep fits types (part_type (resolved types t) (number_or_zero o.1)) (suc k) rest) k e in
       both_true (fits o) (list_all fits rest) (and_parts (fits o) (leads_into (resolved types t) o) h.0).0 (misstep_all types (part_type (resolved types t) (number_or_zero o.1)) (suc k) rest h.1)
 
-  args_all : (k : ℕ) (ps : List Ty) (args : List (Ty × Operand)) → argument_fault fits k ps args ≡ None → list_all fits args ≡ true
-  args_all k [] [] e = refl
-  args_all k [] (a ∷ rest) e = absurd (no_some k e)
-  args_all k (p ∷ ps) [] e = refl
-  args_all k (p ∷ ps) (a ∷ rest) e =
-      let h = test_passes (type_eq a.0 p && fits a) (argument_fault fits (suc k) ps rest) k e in
-      both_true (fits a) (list_all fits rest) (and_parts (type_eq a.0 p) (fits a) h.0).1 (args_all (suc k) ps rest h.1)
-
   printed_all : (k : ℕ) (os : List (Ty × Operand)) → first_misfit (λ b. is_printable b.0 && fits b) k os ≡ None → list_all fits os ≡ true
   printed_all k [] e = refl
   printed_all k (o ∷ rest) e =
       let h = test_passes (is_printable o.0 && fits o) (first_misfit (λ b. is_printable b.0 && fits b) (suc k) rest) k e in
       both_true (fits o) (list_all fits rest) (and_parts (is_printable o.0) (fits o) h.0).1 (printed_all (suc k) rest h.1)
 
-  printf_all : (args : List (Ty × Operand)) → printf_fault fits args ≡ None → list_all fits args ≡ true
+  pub printf_all : (args : List (Ty × Operand)) → printf_fault fits args ≡ None → list_all fits args ≡ true
   printf_all [] e = refl
   printf_all (a ∷ rest) e =
       let h = test_passes (type_eq a.0 Ptr && fits a) (first_misfit (λ b. is_printable b.0 && fits b) 1 rest) 0 e in
       both_true (fits a) (list_all fits rest) (and_parts (type_eq a.0 Ptr) (fits a) h.0).1 (printed_all 1 rest h.1)
 
-  called_all : (m : Module) (s : Option Signature) (ret : Option Ty) (callee : Name) (args : List (Ty × Operand)) → call_fault m fits s ret callee args ≡ None → list_all fits args ≡ true
+  -- an operand that fits, or names a function that may begin
+  abbrev pub fits_somewhere : Module → Ty × Operand → Bool
+  fits_somewhere m o = fits o || is_start m o.1
+
+  somewhere : (m : Module) (o : Ty × Operand) → fits o ≡ true → fits_somewhere m o ≡ true
+  somewhere m o e = or_left (fits o) (is_start m o.1) e
+
+  called_all : (m : Module) (s : Option Signature) (ret : Option Ty) (callee : Name) (args : List (Ty × Operand)) → call_fault m fits s ret callee args ≡ None → list_all (fits_somewhere m) args ≡ true
   called_all m None ret callee args e = absurd (no_second (first_misfit fits 0 args) e)
     where
       no_second : (a : Option ℕ) → option_or a (Some 0) ≡ None → ⊥
       no_second None e = no_some 0 e
       no_second (Some k) e = no_some k e
   called_all m (Some s) ret callee args e =
-      by_printf (is_printf m callee) (both_none (if is_printf m callee then printf_fault fits args else argument_fault fits 0 s.params args) (fault_unless (result_type_eq ret s.ret)) e).0
+      by_printf (is_printf m callee) (both_none (if is_printf m callee then printf_fault fits args else argument_fault (fits_call m fits callee) 0 s.params args) (fault_unless (result_type_eq ret s.ret)) e).0
     where
-      by_printf : (b : Bool) → (if b then printf_fault fits args else argument_fault fits 0 s.params args) ≡ None → list_all fits args ≡ true
-      by_printf true e = printf_all args e
-      by_printf false e = args_all 0 s.params args e
+      by_place : (k : ℕ) (o : Ty × Operand) → fits_call m fits callee k o ≡ true → fits_somewhere m o ≡ true
+      by_place k o = by_test (is_create m callee && nat_eq k 2)
+        where
+          by_test : (t : Bool) → (if t then is_start m o.1 else fits o) ≡ true → fits_somewhere m o ≡ true
+          by_test true e = or_right (fits o) (is_start m o.1) e
+          by_test false e = somewhere m o e
+
+      by_printf : (b : Bool) → (if b then printf_fault fits args else argument_fault (fits_call m fits callee) 0 s.params args) ≡ None → list_all (fits_somewhere m) args ≡ true
+      by_printf true e = all_known fits (fits_somewhere m) (somewhere m) args (printf_all args e)
+      by_printf false e = args_all (fits_call m fits callee) (fits_somewhere m) by_place 0 s.params args e
 
   indices_all : (base : Operand) (indices : List (Ty × Operand)) → list_all fits ((Ptr, base) ∷ take 1 indices) ≡ true → list_all fits (drop 1 indices) ≡ true → list_all fits ((Ptr, base) ∷ indices) ≡ true
   indices_all base [] h g = h
@@ -109,29 +135,55 @@ module _ (fits : Ty × Operand → Bool) where
       let a = and_parts (fits (Ptr, base)) (fits i && true) h in
       both_true (fits (Ptr, base)) (fits i && list_all fits is) a.0 (both_true (fits i) (list_all fits is) (and_parts (fits i) true a.1).0 g)
 
-  pub op_all : (m : Module) (f : Func) (o : Op) → op_fault m f fits o ≡ None → list_all fits (operands o) ≡ true
-  op_all m f (op.Cast c flags from a to) e = misfit_all 0 ((from, a) ∷ []) (both_none (first_misfit fits 0 ((from, a) ∷ [])) (fault_unless (cast_allows c from to)) e).0
-  op_all m f (op.Gep t base indices) e =
+  -- operands that all fit
+  listed : (m : Module) (os : List (Ty × Operand)) → list_all fits os ≡ true → list_all (fits_somewhere m) os ≡ true
+  listed m os e = all_known fits (fits_somewhere m) (somewhere m) os e
+
+  checked : (o : Op) (other : Option ℕ) → option_or (first_misfit fits 0 (operands o)) other ≡ None → list_all fits (operands o) ≡ true
+  checked o other e = misfit_all 0 (operands o) (both_none (first_misfit fits 0 (operands o)) other e).0
+
+  -- an operation that is no call has operands that fit
+  pub plain_all : (m : Module) (f : Func) (o : Op) → IsNoCall o → op_fault m f fits o ≡ None → list_all fits (operands o) ≡ true
+  plain_all m f (op.Cast c flags from a to) n e = misfit_all 0 ((from, a) ∷ []) (both_none (first_misfit fits 0 ((from, a) ∷ [])) (fault_unless (cast_allows c from to)) e).0
+  plain_all m f (op.Gep t base indices) n e =
       let h = both_none (first_misfit fits 0 ((Ptr, base) ∷ take 1 indices)) (first_misstep fits m.types t 2 (drop 1 indices)) e in
       indices_all base indices (misfit_all 0 ((Ptr, base) ∷ take 1 indices) h.0) (misstep_all m.types t 2 (drop 1 indices) h.1)
-  op_all m f (op.Call ret callee args) e = called_all m (signature_of m callee) ret callee args e
-  op_all m f (op.Switch t v other cases) e = misfit_all 0 ((t, v) ∷ []) (both_none (first_misfit fits 0 ((t, v) ∷ [])) _ e).0
-  op_all m f (op.Ret None) e = refl
-  op_all m f (op.Ret (Some v)) e = by_ret f.ret (holds_unless (returns_fit fits f.ret (Some v)) e)
+  plain_all m f (op.Call ret callee args) n e = absurd n
+  plain_all m f (op.Switch t v other cases) n e = misfit_all 0 ((t, v) ∷ []) (both_none (first_misfit fits 0 ((t, v) ∷ [])) _ e).0
+  plain_all m f (op.Ret None) n e = refl
+  plain_all m f (op.Ret (Some v)) n e = by_ret f.ret (holds_unless (returns_fit fits f.ret (Some v)) e)
     where
       by_ret : (r : Option Ty) → returns_fit fits r (Some v) ≡ true → list_all fits (v ∷ []) ≡ true
       by_ret None e = absurd (true≢false (sym e))
       by_ret (Some t) e = both_true (fits v) true (and_parts (type_eq v.0 t) (fits v) e).1 refl
-  op_all m f (op.Binary o flags t a b) e = misfit_all 0 (operands (op.Binary o flags t a b)) (both_none (first_misfit fits 0 (operands (op.Binary o flags t a b))) _ e).0
-  op_all m f (op.Icmp o flags t a b) e = misfit_all 0 (operands (op.Icmp o flags t a b)) (both_none (first_misfit fits 0 (operands (op.Icmp o flags t a b))) _ e).0
-  op_all m f (op.Select c t a b) e = misfit_all 0 (operands (op.Select c t a b)) (both_none (first_misfit fits 0 (operands (op.Select c t a b))) _ e).0
-  op_all m f (op.Freeze t a) e = misfit_all 0 (operands (op.Freeze t a)) (both_none (first_misfit fits 0 (operands (op.Freeze t a))) _ e).0
-  op_all m f (op.Phi t es) e = misfit_all 0 (operands (op.Phi t es)) (both_none (first_misfit fits 0 (operands (op.Phi t es))) _ e).0
-  op_all m f (op.Alloca t u c) e = misfit_all 0 (operands (op.Alloca t u c)) (both_none (first_misfit fits 0 (operands (op.Alloca t u c))) _ e).0
-  op_all m f (op.Load t a) e = misfit_all 0 (operands (op.Load t a)) (both_none (first_misfit fits 0 (operands (op.Load t a))) _ e).0
-  op_all m f (op.Store t v a) e = misfit_all 0 (operands (op.Store t v a)) (both_none (first_misfit fits 0 (operands (op.Store t v a))) _ e).0
+  plain_all m f (op.Binary o flags t a b) n e = checked (op.Binary o flags t a b) _ e
+  plain_all m f (op.Icmp o flags t a b) n e = checked (op.Icmp o flags t a b) _ e
+  plain_all m f (op.Select c t a b) n e = checked (op.Select c t a b) _ e
+  plain_all m f (op.Freeze t a) n e = checked (op.Freeze t a) _ e
+  plain_all m f (op.Phi t es) n e = checked (op.Phi t es) _ e
+  plain_all m f (op.Alloca t u c) n e = checked (op.Alloca t u c) _ e
+  plain_all m f (op.Load t a) n e = checked (op.Load t a) _ e
+  plain_all m f (op.Store t v a) n e = checked (op.Store t v a) _ e
+  plain_all m f (op.Br to) n e = refl
+  plain_all m f (op.CondBr c to other) n e = checked (op.CondBr c to other) _ e
+  plain_all m f op.Unreachable n e = refl
+
+  pub op_all : (m : Module) (f : Func) (o : Op) → op_fault m f fits o ≡ None → list_all (fits_somewhere m) (operands o) ≡ true
+  op_all m f (op.Call ret callee args) e = called_all m (signature_of m callee) ret callee args e
+  op_all m f (op.Binary o flags t a b) e = listed m (operands (op.Binary o flags t a b)) (plain_all m f (op.Binary o flags t a b) tt e)
+  op_all m f (op.Icmp o flags t a b) e = listed m (operands (op.Icmp o flags t a b)) (plain_all m f (op.Icmp o flags t a b) tt e)
+  op_all m f (op.Cast c flags from a to) e = listed m (operands (op.Cast c flags from a to)) (plain_all m f (op.Cast c flags from a to) tt e)
+  op_all m f (op.Select c t a b) e = listed m (operands (op.Select c t a b)) (plain_all m f (op.Select c t a b) tt e)
+  op_all m f (op.Freeze t a) e = listed m (operands (op.Freeze t a)) (plain_all m f (op.Freeze t a) tt e)
+  op_all m f (op.Phi t es) e = listed m (operands (op.Phi t es)) (plain_all m f (op.Phi t es) tt e)
+  op_all m f (op.Alloca t u c) e = listed m (operands (op.Alloca t u c)) (plain_all m f (op.Alloca t u c) tt e)
+  op_all m f (op.Load t a) e = listed m (operands (op.Load t a)) (plain_all m f (op.Load t a) tt e)
+  op_all m f (op.Store t v a) e = listed m (operands (op.Store t v a)) (plain_all m f (op.Store t v a) tt e)
+  op_all m f (op.Gep t base indices) e = listed m (operands (op.Gep t base indices)) (plain_all m f (op.Gep t base indices) tt e)
   op_all m f (op.Br to) e = refl
-  op_all m f (op.CondBr c to other) e = misfit_all 0 (operands (op.CondBr c to other)) (both_none (first_misfit fits 0 (operands (op.CondBr c to other))) _ e).0
+  op_all m f (op.CondBr c to other) e = listed m (operands (op.CondBr c to other)) (plain_all m f (op.CondBr c to other) tt e)
+  op_all m f (op.Switch t v other cases) e = listed m (operands (op.Switch t v other cases)) (plain_all m f (op.Switch t v other cases) tt e)
+  op_all m f (op.Ret v) e = listed m (operands (op.Ret v)) (plain_all m f (op.Ret v) tt e)
   op_all m f op.Unreachable e = refl
 
 -- ---- operands have the types of values
@@ -197,13 +249,13 @@ has_result e x ret declared f p q = by_name x ret f (void (external_signature e)
 
 -- ---- calls of the module's own functions
 
-args_fit : (fits : Ty × Operand → Bool) (k : ℕ) (ps : List (Ty × Name)) (args : List (Ty × Operand)) → argument_fault fits k (map (λ q. q.0) ps) args ≡ None → ArgsFit ps args
+args_fit : (fits : ℕ → Ty × Operand → Bool) (k : ℕ) (ps : List (Ty × Name)) (args : List (Ty × Operand)) → argument_fault fits k (map (λ q. q.0) ps) args ≡ None → ArgsFit ps args
 args_fit fits k [] [] e = tt
 args_fit fits k [] (a ∷ rest) e = no_some k e
 args_fit fits k (p ∷ ps) [] e = no_some k e
 args_fit fits k (p ∷ ps) (a ∷ rest) e =
-    let h = test_passes (type_eq a.0 p.0 && fits a) (argument_fault fits (suc k) (map (λ q. q.0) ps) rest) k e in
-    (same_width a.0 p.0 (and_parts (type_eq a.0 p.0) (fits a) h.0).0, args_fit fits (suc k) ps rest h.1)
+    let h = test_passes (type_eq a.0 p.0 && fits k a) (argument_fault fits (suc k) (map (λ q. q.0) ps) rest) k e in
+    (same_width a.0 p.0 (and_parts (type_eq a.0 p.0) (fits k a) h.0).0, args_fit fits (suc k) ps rest h.1)
 
 as_many : (ps : List (Ty × Name)) (args : List (Ty × Operand)) → ArgsFit ps args → length args ≡ length ps
 as_many [] [] h = refl
@@ -254,19 +306,23 @@ module _ (m : Module) (formed : Formed m) (valid : Valid m) (can : CanInstrument
   no_fault : op_fault m f (λ o. operand_fits m (value_type f) o.0 o.1) i.op ≡ None
   no_fault = (fits_at m valid n b p f i at there).types_agree
 
-  known_operand : (t : Ty) (o : Operand) → operand_fits m (value_type f) t o ≡ true → KnownOperand (numbering m n).env (numbering m n).size o
-  known_operand t (operand.Local x) e = typed (value_type f x) refl e
+  known_operand : (t : Ty) (o : Operand) → (operand_fits m (value_type f) t o || is_start m o) ≡ true → KnownOperand (numbering m n).env (numbering m n).size o
+  known_operand t (operand.Local x) e = typed (value_type f x) refl (by_test (is_type (value_type f x) t) e)
     where
+      by_test : (t : Bool) → (t || false) ≡ true → t ≡ true
+      by_test true e = refl
+      by_test false e = e
+
       typed : (r : Option Ty) → value_type f x ≡ r → is_type r t ≡ true → KnownName (numbering m n).env (numbering m n).size x
       typed None q e = absurd (true≢false (sym e))
       typed (Some u) q e = known_value m can.plain.free n f at x u q
   known_operand t _ e = tt
 
-  known_operands : (os : List (Ty × Operand)) → list_all (λ o. operand_fits m (value_type f) o.0 o.1) os ≡ true → list_all (λ o. is_value_type o.0) os ≡ true
+  known_operands : (os : List (Ty × Operand)) → list_all (λ o. operand_fits m (value_type f) o.0 o.1 || is_start m o.1) os ≡ true → list_all (λ o. is_value_type o.0) os ≡ true
       → KnownOperands (numbering m n).env (numbering m n).size os
   known_operands [] e h = tt
   known_operands (o ∷ os) e h =
-      let a = and_parts (operand_fits m (value_type f) o.0 o.1) (list_all (λ o. operand_fits m (value_type f) o.0 o.1) os) e in
+      let a = and_parts (operand_fits m (value_type f) o.0 o.1 || is_start m o.1) (list_all (λ o. operand_fits m (value_type f) o.0 o.1 || is_start m o.1) os) e in
       let c = and_parts (is_value_type o.0) (list_all (λ o. is_value_type o.0) os) h in
       ((value_width o.0 c.0).1, known_operand o.0 o.1 a.0, known_operands os a.1 c.1)
 
@@ -321,8 +377,11 @@ module _ (m : Module) (formed : Formed m) (valid : Valid m) (can : CanInstrument
   outside_fits ret callee args e None found =
       let x = known_external m valid n b p f i at due ret callee args e unmarked found in
       let c = external_call m valid n b p f i at due ret callee args e x.0 found x.1 in
-      subst (λ o. FitsCallee o i.result args) (sym x.1)
-      (c.widths, has_result x.0 i.result ret c.declared_ret (ap (λ o. name_formed (result_type o) i.result) (sym e) ∙ name) c.first c.second, few_operands ret callee args e)
+      subst (λ o. FitsCallee o i.result args) (sym x.1) (
+        c.widths,
+        has_result x.0 i.result ret c.declared_ret (ap (λ o. name_formed (result_type o) i.result) (sym e) ∙ name) c.first c.second,
+        few_operands ret callee args e,
+      )
 
   words_answer : (ret : Option Ty) (callee : Name) (args : List (Ty × Operand)) → i.op ≡ op.Call ret callee args → (q : Option ℕ) → func_index m.funcs callee ≡ q
       → AnswersWord (if is_some q then None else lookup externals callee) ret

@@ -23,12 +23,14 @@ use Rattle.ms_runs.specs.Memory.{is_good}
 use Rattle.ms_ir.specs.Code.{operands, is_phi}
 use Rattle.ms_runs.specs.Act.{act, operand_word, plain_reading}
 use Rattle.ms_runs.specs.Runtime.{runtime}
-use Rattle.ms_runs.specs.Control.{Frame, here, rest_of, read_all, after_effect}
+use Rattle.ms_runs.specs.Control.{Frame, here, rest_of, read_all, local_block, keeping, after_effect}
 use Rattle.ms_runs.specs.Plain.{PlainState, Stepped, More, Stop, and_then, plain_state, shadow_bits, in_slots, slots_after, act_marked, through}
 use Rattle.ms_tasks.specs.Tasks.{Expr, Leaf, Two, Turn, Test, Pick, Task, Sets, Tries, Fetches, Puts, Calls, Last, Is, By, close, half, set_op, flatten, flatten_all, parts, task_code, tasks_code}
 use Rattle.ms_tasks.specs.Meaning.{Values, Reach, Went, Over, set_result, marked_next, words_of, run_marked, AllMarked}
 use Rattle.ms_tasks.specs.InstructionLaw.{given_of}
 use Rattle.ms_tasks.specs.PassLists.{next_here}
+use Rattle.ms_runs.proofs.HeapBlocks.{keeps_none}
+use Rattle.ms_pass_laws.specs.Law.{MakesNoBlock}
 use Rattle.ms_pass_laws.proofs.Places.{frame_at, drop_step, put_plain, here_step, marked_here}
 
 -- ---- what is inserted
@@ -56,6 +58,14 @@ no_phi _ e = refl
 pub inserted_marked : (is : List Inst) → AllInserted is → AllMarked is
 inserted_marked [] h = tt
 inserted_marked (i ∷ is) h = (h.0, no_phi i.op h.1, inserted_marked is h.2)
+
+no_room : (o : Op) → is_inserted o ≡ true → (v : ℕ) → local_block o v ≡ []
+no_room (op.Alloca t u c) e v = absurd (grind arith)
+no_room _ e v = refl
+
+pub inserted_no_block : (is : List Inst) → AllInserted is → MakesNoBlock is
+inserted_no_block [] h = tt
+inserted_no_block (i ∷ is) h = (no_room i.op h.1, inserted_no_block is h.2)
 
 pub inserted_append : (a b : List Inst) → AllInserted a → AllInserted b → AllInserted (a ++ b)
 inserted_append [] b h g = g
@@ -180,6 +190,7 @@ runtime_quiet s function.Fill words w = tt
 runtime_quiet s function.StoreOrigin words w = tt
 runtime_quiet s function.LoadOrigin words w = tt
 runtime_quiet s function.Size words w = tt
+runtime_quiet s function.ThreadResult words w = tt
 runtime_quiet s (function.Move k) words w = tt
 
 called_quiet : (s : Setting) (f : Option RuntimeFn) (words : List ℕ) (w : World) → IsQuiet (elim f [ Some f ↦ runtime s f words w | None ↦ Ends stuck w ])
@@ -230,7 +241,8 @@ read_words s names (o ∷ os) root = ap (λ l. operand_word s names (width_of o.
 abbrev inst_at : Setting → Module → Inst → List Inst → Here → List ℕ → Frame ℕ → List (Frame ℕ) → (ℕ → ℕ) → World → Bool → Stepped PlainState
 inst_at s j i is h words g gs cells w k =
     and_then (plain_state (if k then slots_after i.op words cells else cells)
-    (after_effect plain_reading s j h.site i.result words (λ v w. v) (λ v w. w) g gs (if k then act_marked s h i.op words cells w else act s h i.op words w)))
+    (after_effect plain_reading s j h.site i.result words (λ v w. v) (λ v w. w) (keeping i.op (if k then act_marked s h i.op words cells w else act s h i.op words w) g) gs
+    (if k then act_marked s h i.op words cells w else act s h i.op words w)))
     (if k then through s j is else More)
 
 pub through_inst : (s : Setting) (j : Module) (i : Inst) (is : List Inst) (h : Here) (g : Frame ℕ) (gs : List (Frame ℕ)) (cells : ℕ → ℕ) (w : World) (k : Bool)
@@ -264,18 +276,21 @@ marked_first s j site x words g gs cells (Leaves w) go k f rest (inl q) h = absu
 marked_first s j site x words g gs cells (Leaves w) go k f rest (inr q) h = absurd q
 marked_first s j site x words g gs cells (Ends e w) go k f rest q h = refl
 
-pub through_marked : (s : Setting) (j : Module) (h : Here) (a b : List Inst) → AllMarked a → (g : Frame ℕ) (gs : List (Frame ℕ)) (cells : ℕ → ℕ) (w : World)
+pub through_marked : (s : Setting) (j : Module) (h : Here) (a b : List Inst) → AllMarked a → MakesNoBlock a → (g : Frame ℕ) (gs : List (Frame ℕ)) (cells : ℕ → ℕ) (w : World)
     → here s j g ≡ h → rest_of j g ≡ a ++ b → AllInserted a ⊎ GetsThrough (run_marked s h a (record { names = g.values; slots = cells }) w)
     → through s j (a ++ b) (state_of g gs cells w)
     ≡ reach_step (run_marked s h a (record { names = g.values; slots = cells }) w) (λ u z. through s j b (state_of (frame_at g (g.place + length a) u.names) gs u.slots z))
-through_marked s j h [] b m g gs cells w f r q = let p : g.place ≡ g.place + 0 = omega arith in ap (λ n. through s j b (state_of (frame_at g n g.values) gs cells w)) p
-through_marked s j h (i ∷ a) b m g gs cells w f r q =
+through_marked s j h [] b m blocks g gs cells w f r q = let p : g.place ≡ g.place + 0 = omega arith in ap (λ n. through s j b (state_of (frame_at g n g.values) gs cells w)) p
+through_marked s j h (i ∷ a) b m blocks g gs cells w f r q =
     through_inst s j i (a ++ b) h g gs cells w true m.0 f
+    ∙ ap (λ k. and_then (plain_state (slots_after i.op (words_of s g.values (operands i.op)) cells)
+    (after_effect plain_reading s j h.site i.result (words_of s g.values (operands i.op)) (λ v w. v) (λ v w. w) k gs (act_marked s h i.op (words_of s g.values (operands i.op)) cells w))) (through s j (a ++ b)))
+    (keeps_none i.op blocks.0 (act_marked s h i.op (words_of s g.values (operands i.op)) cells w) g)
     ∙ marked_first s j h.site i.result (words_of s g.values (operands i.op)) g gs (slots_after i.op (words_of s g.values (operands i.op)) cells)
     (act_marked s h i.op (words_of s g.values (operands i.op)) cells w) (through s j (a ++ b)) (run_marked s h a)
     (λ u z. through s j b (state_of (frame_at g (g.place + length (i ∷ a)) u.names) gs u.slots z)) (AllInserted a) (first q)
     (λ names z more.
-    through_marked s j h a b m.2 (frame_at g (g.place + 1) names) gs (slots_after i.op (words_of s g.values (operands i.op)) cells) z
+    through_marked s j h a b m.2 blocks.1 (frame_at g (g.place + 1) names) gs (slots_after i.op (words_of s g.values (operands i.op)) cells) z
     (here_step s j g names i (a ++ b) r ∙ ap (λ x. next_here (given_of s) x i) f ∙ marked_here s h i m.0) (drop_step _ g.place i (a ++ b) r) more
     ∙ ap (λ n. reach_step (run_marked s h a (record { names = names; slots = slots_after i.op (words_of s g.values (operands i.op)) cells }) z) (λ u z. through s j b (state_of (frame_at g n u.names) gs u.slots z))) places)
   where

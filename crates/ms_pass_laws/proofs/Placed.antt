@@ -114,4 +114,5 @@ start_placed m formed valid setup bytes =
       placed = globals_placed m.types (address_of m) m.globals 0 _ sizes refl (omega arith) tt;
       origins = (start_world_good FitsCell (omega arith) m formed valid setup bytes).origins;
       pairs = (start_world_good FitsCell (omega arith) m formed valid setup bytes).pairs;
+      answers = (start_world_good FitsCell (omega arith) m formed valid setup bytes).answers;
     }

@@ -21,10 +21,10 @@ use Rattle.ms_runs.specs.World.{Allocation, word, World, Setting, Here, Effect, 
 use Rattle.ms_ir.specs.Areas.{Heap, Stack, room}
 use Rattle.ms_bits.specs.declared.traps.Trap.TheVariants as trap
 use Rattle.ms_ir.specs.Layout.{stored_size, width_of, size_in}
-use Rattle.ms_runs.specs.Memory.{make, heap_size, is_heap_block, end_block, copy_bytes, copy_shadow, keeps, store_number, set_shadow, used, fits, next_base, is_good, make_unset, set_cells, bytes_left}
-use Rattle.ms_runs.specs.Origins.{keeps_old, pair_index, copy_planes, fill_planes, unpoison, Chained, chain, add_report, check, check_byte, check_memory, count_blind, poison, mark_cells, store_origin, origin_within, trail, first_in_string, pair_limit, check_string, asks_string_at, check_format}
+use Rattle.ms_runs.specs.Memory.{make, heap_size, is_heap_block, local_area, end_block, end_blocks, copy_bytes, copy_shadow, keeps, store_number, set_shadow, used, fits, next_base, is_good, make_unset, set_cells, bytes_left}
+use Rattle.ms_runs.specs.Origins.{keeps_old, pair_index, copy_planes, fill_planes, unpoison, Chained, chain, add_report, check, check_byte, check_memory, count_blind, poison, mark_cells, store_origin, origin_within, trail, first_in_string, pair_limit, check_string, asks_string_at, check_format, thread_result}
 use Rattle.ms_ir.specs.Code.{makes_unset, external_named, operands, one_undef, count_undefs, is_root, roots_in, blocks_at, insts_at, block_index, root_at, is_phi}
-use Rattle.ms_runs.specs.Control.{Frame, here, rest_of, read_all, with_value, put, after_effect, read_edge, phis, block_name, result_at, left, Over, On, bind, entered, params_at, frame_limit}
+use Rattle.ms_runs.specs.Control.{Frame, here, rest_of, read_all, with_value, put, after_effect, read_edge, phis, block_name, result_at, left, release, given_back, keeping, Over, On, bind, entered, params_at, frame_limit}
 use Rattle.ms_runs.specs.Act.{act, alloca, load, store}
 use Rattle.ms_runs.specs.Plain.{Stepped, More, Stop}
 use Rattle.ms_runs.specs.Poisoned.{Poisoned, clean}
@@ -40,10 +40,11 @@ use Rattle.ms_pass_laws.specs.Pass.{Numbering}
 use Rattle.ms_pass_laws.specs.Law.{RangedFrames, Ranged}
 use Rattle.ms_pass_laws.specs.Known.{KnownModule}
 use Rattle.ms_ir.specs.declared.calls.External.{External}
-use Rattle.ms_ir.specs.declared.calls.External.TheVariants.{Malloc, Calloc, Realloc, Free, Memcpy, Memmove, Memset, Memcmp, Strlen, Putchar, Puts, Getchar, Read, Write, Exit, Abort, LlvmMemcpy, LlvmMemmove, LlvmMemset, LifetimeStart, LifetimeEnd, Printf, LlvmTrap, LlvmAssume, LlvmObjectSize}
+use Rattle.ms_ir.specs.declared.calls.External.TheVariants.{Malloc, Calloc, Realloc, Free, Memcpy, Memmove, Memset, Memcmp, Strlen, Putchar, Puts, Getchar, Read, Write, Exit, Abort, LlvmMemcpy, LlvmMemmove, LlvmMemset, LifetimeStart, LifetimeEnd, Printf, LlvmTrap, LlvmAssume, LlvmObjectSize, PthreadCreate, PthreadJoin, SchedYield}
 use Rattle.ms_ir.specs.declared.calls.External.TheVariants as called
 use Rattle.ms_ir.specs.Names.{lookup, externals}
-use Rattle.ms_runs.specs.Externals.{malloc, calloc, reallocated, where_good, string_at, printed, taken, next_byte, external, output_limit, formatted, prints}
+use Rattle.ms_runs.specs.Externals.{malloc, calloc, reallocated, where_good, string_at, printed, taken, next_byte, external, output_limit, formatted, prints, joined}
+use Rattle.ms_runs.specs.Threads.{fiber_limit, thread_at, has_ended, join_answer}
 
 -- ---- checks leave allocations and cells
 
@@ -52,6 +53,7 @@ pub record Leaving (w z : World) : Type 0 where
   pub allocs : z.allocs ≡ w.allocs
   pub origins : z.origins ≡ w.origins
   pub pairs : z.pairs ≡ w.pairs
+  pub answers : z.answer_origins ≡ w.answer_origins
 
 -- an effect that, where it only changes the world, leaves allocations and cells
 abbrev Quiet : World → Effect → Type 0
@@ -63,10 +65,10 @@ Quiet w (Leaves z) = Unit {0}
 Quiet w (Ends e z) = Unit {0}
 
 same : (w : World) → Leaving w w
-same w = record { allocs = refl; origins = refl; pairs = refl }
+same w = record { allocs = refl; origins = refl; pairs = refl; answers = refl }
 
 leaving_then : (w u z : World) → Leaving w u → Leaving u z → Leaving w z
-leaving_then w u z p q = record { allocs = q.allocs ∙ p.allocs; origins = q.origins ∙ p.origins; pairs = q.pairs ∙ p.pairs }
+leaving_then w u z p q = record { allocs = q.allocs ∙ p.allocs; origins = q.origins ∙ p.origins; pairs = q.pairs ∙ p.pairs; answers = q.answers ∙ p.answers }
 
 report_quiet : (s : Setting) (r : Report) (w : World) → Quiet w (add_report s r w)
 report_quiet s r w = go (leb s.limit (length (w.reports ++ r ∷ [])))
@@ -76,7 +78,7 @@ report_quiet s r w = go (leb s.limit (length (w.reports ++ r ∷ [])))
 
     go : (b : Bool) → Quiet w (if b then Ends «end».Reported reported else Does reported)
     go true = tt
-    go false = record { allocs = refl; origins = refl; pairs = refl }
+    go false = record { allocs = refl; origins = refl; pairs = refl; answers = refl }
 
 check_quiet : (s : Setting) (mask width origin kind part site : ℕ) (w : World) → Quiet w (check s mask width origin kind part site w)
 check_quiet s mask width origin kind part site w = go (eqb mask 0)
@@ -138,13 +140,14 @@ counted mask w = go (eqb mask 0)
   where
     go : (b : Bool) → Leaving w (if b then w else record w { blind = w.blind + 1 })
     go true = same w
-    go false = record { allocs = refl; origins = refl; pairs = refl }
+    go false = record { allocs = refl; origins = refl; pairs = refl; answers = refl }
 
 ranged_left : (w z : World) → Leaving w z → RangedWorld w → RangedWorld z
 ranged_left w z q r = record {
   placed = subst ArePlaced (sym q.allocs) r.placed;
   origins = λ c. subst (λ f. f c < 2 ^ 32) (sym q.origins) (r.origins c);
   pairs = subst (λ (l : List (ℕ × ℕ)). length l ≤ pair_limit) (sym q.pairs) r.pairs;
+  answers = λ c. subst (λ f. f c < 2 ^ 32) (sym q.answers) (r.answers c);
 }
 
 -- ---- origins
@@ -170,7 +173,7 @@ poison_ranged a from to o w r lt = go (ltb from to && is_good w ((a + from) % 2 
     set = set_cells ((a + from) % 2 ^ 64) (to - from) o (set_shadow ((a + from) % 2 ^ 64) (to - from) (λ k. 255) w)
 
     go : (b : Bool) → RangedWorld (if b then set_cells ((a + from) % 2 ^ 64) (to - from) o (set_shadow ((a + from) % 2 ^ 64) (to - from) (λ k. 255) w) else w)
-    go true = record { placed = r.placed; origins = cells_ranged w.origins ((a + from) % 2 ^ 64) (to - from) o r.origins lt; pairs = r.pairs }
+    go true = record { placed = r.placed; origins = cells_ranged w.origins ((a + from) % 2 ^ 64) (to - from) o r.origins lt; pairs = r.pairs; answers = r.answers }
     go false = r
 
 marked_ranged : (n a mask o : ℕ) (w : World) → RangedWorld w → o < 2 ^ 32 → RangedWorld (mark_cells n a mask o w)
@@ -180,7 +183,7 @@ marked_ranged (suc n) a mask o w r lt =
   where
     go : (b : Bool) → RangedWorld (if b then w else record w { origins = with_cell w.origins a o })
     go true = r
-    go false = record { placed = r.placed; origins = cell_ranged w.origins a o r.origins lt; pairs = r.pairs }
+    go false = record { placed = r.placed; origins = cell_ranged w.origins a o r.origins lt; pairs = r.pairs; answers = r.answers }
 
 -- a chained origin is a number of 32 bits, whatever the depth limit is
 last_false : (a b c : Bool) → (a || b || c) ≡ false → c ≡ false
@@ -223,7 +226,7 @@ chained_ranged s o site w many r lt = by_old (keeps_old s w o) refl (pair_index 
     by_old false e (Some k) q = let l = index_less w.pairs o site k q in let b = r.pairs in (omega (arith, l, b, many), r)
     by_old false e None q =
         let f = few e in let l = one_longer w.pairs (o, site) in
-        (omega (arith, f, many), record { placed = r.placed; origins = r.origins; pairs = omega (arith, f, l) })
+        (omega (arith, f, many), record { placed = r.placed; origins = r.origins; pairs = omega (arith, f, l); answers = r.answers })
 
 stored_ranged : (s : Setting) (a mask o site : ℕ) (w : World) → s.roots + pair_limit + 1 < 2 ^ 32 → RangedWorld w → o < 2 ^ 32 → RangedWorld (store_origin s a mask o site w)
 stored_ranged s a mask o site w many r lt = go (eqb mask 0)
@@ -263,6 +266,7 @@ heap_ranged n w r e = record {
   placed = placed_more w.allocs _ r.placed (record { from = omega arith; to = omega (arith, fitting_heap n w e, room_covers n) });
   origins = cells_ranged w.origins (next_base Heap w) n 0 r.origins (omega arith);
   pairs = r.pairs;
+  answers = r.answers;
 }
 
 made_ranged : (fill : List ℕ) (n : ℕ) (w : World) → RangedWorld w → fits Stack n w ≡ true → RangedWorld (make_unset fill Stack n w)
@@ -270,7 +274,12 @@ made_ranged fill n w r e = record {
   placed = placed_more w.allocs _ r.placed (record { from = omega arith; to = omega (arith, fitting n w e, room_covers n) });
   origins = cells_ranged w.origins (next_base Stack w) n 0 r.origins (omega arith);
   pairs = r.pairs;
+  answers = r.answers;
 }
+
+local_ranged : (fill : List ℕ) (n : ℕ) (w : World) → RangedWorld w → (t : Bool) → fits (if t then Stack else Heap) n w ≡ true → RangedWorld (make_unset fill (if t then Stack else Heap) n w)
+local_ranged fill n w r true e = made_ranged fill n w r e
+local_ranged fill n w r false e = let h = heap_ranged n w r e in record { placed = h.placed; origins = h.origins; pairs = h.pairs; answers = h.answers }
 
 -- ---- one instruction
 
@@ -284,10 +293,10 @@ RangedEffect (Leaves w) = RangedWorld w
 RangedEffect (Ends e w) = Unit {0}
 
 alloca_ranged : (s : Setting) (site n : ℕ) (w : World) → RangedWorld w → RangedEffect (alloca s site n w)
-alloca_ranged s site n w r = go (fits Stack n w) refl
+alloca_ranged s site n w r = go (fits (local_area w) n w) refl
   where
-    go : (b : Bool) → fits Stack n w ≡ b → RangedEffect (if b then Gives (next_base Stack w) (make_unset s.fill Stack n w) else Ends («end».Trap trap.Stack site) w)
-    go true e = made_ranged s.fill n w r e
+    go : (b : Bool) → fits (local_area w) n w ≡ b → RangedEffect (if b then Gives (next_base (local_area w) w) (make_unset s.fill (local_area w) n w) else Ends («end».Trap trap.Stack site) w)
+    go true e = local_ranged s.fill n w r (eqb w.turn 0) e
     go false e = tt
 
 load_ranged : (site a : ℕ) (t : Ty) (w : World) → RangedWorld w → RangedEffect (load site a t w)
@@ -301,7 +310,7 @@ store_ranged : (site a : ℕ) (t : Ty) (v : ℕ) (w : World) → RangedWorld w �
 store_ranged site a t v w r = go (is_good w a (stored_size t))
   where
     go : (b : Bool) → RangedEffect (if b then Does (store_number a (stored_size t) v w) else Ends («end».Trap trap.BadAddress site) w)
-    go true = record { placed = r.placed; origins = r.origins; pairs = r.pairs }
+    go true = record { placed = r.placed; origins = r.origins; pairs = r.pairs; answers = r.answers }
     go false = tt
 
 ret_ranged : (main : Bool) (v : ℕ) (w : World) → RangedWorld w → RangedEffect (if main then Ends («end».Exit v) w else Leaves w)
@@ -322,7 +331,7 @@ copied_ranged (suc n) to from shadow old cells h k c =
     go false c = cell_ranged cells to (old (from / 4)) k (h (from / 4)) c
 
 copy_ranged : (to from n : ℕ) (w : World) → RangedWorld w → RangedWorld (copy_shadow to from n w)
-copy_ranged to from n w r = record { placed = r.placed; origins = copied_ranged n to from w.shadow w.origins w.origins r.origins r.origins; pairs = r.pairs }
+copy_ranged to from n w r = record { placed = r.placed; origins = copied_ranged n to from w.shadow w.origins w.origins r.origins r.origins; pairs = r.pairs; answers = r.answers }
 
 ended_placed : (p : ℕ) (l : List Allocation) → ArePlaced l → ArePlaced (map (λ a. if is_heap_block p a then record a { live = false } else a) l)
 ended_placed p [] h = tt
@@ -333,13 +342,13 @@ ended_placed p (a ∷ l) h = (by_test (is_heap_block p a), ended_placed p l h.1)
     by_test false = h.0
 
 ended_ranged : (p : ℕ) (w : World) → RangedWorld w → RangedWorld (end_block p w)
-ended_ranged p w r = record { placed = ended_placed p w.allocs r.placed; origins = r.origins; pairs = r.pairs }
+ended_ranged p w r = record { placed = ended_placed p w.allocs r.placed; origins = r.origins; pairs = r.pairs; answers = r.answers }
 
 malloc_ranged : (fill : List ℕ) (n : ℕ) (w : World) → RangedWorld w → RangedEffect (malloc fill n w)
 malloc_ranged fill n w r = go (fits Heap n w) refl
   where
     go : (b : Bool) → fits Heap n w ≡ b → RangedEffect (if b then Gives (next_base Heap w) (make_unset fill Heap n w) else Gives 0 w)
-    go true e = let h = heap_ranged n w r e in record { placed = h.placed; origins = h.origins; pairs = h.pairs }
+    go true e = let h = heap_ranged n w r e in record { placed = h.placed; origins = h.origins; pairs = h.pairs; answers = h.answers }
     go false e = r
 
 calloc_ranged : (n : ℕ) (w : World) → RangedWorld w → RangedEffect (calloc n w)
@@ -361,7 +370,7 @@ reallocated_block fill site p n w r (Some old) = go (fits Heap n w) refl
         → RangedEffect (if b then Gives (next_base Heap w) (end_block p (copy_shadow (next_base Heap w) p (min old n) (copy_bytes (next_base Heap w) p (min old n) (make_unset fill Heap n w)))) else Gives 0 w)
     go true e =
         let h = heap_ranged n w r e in
-        let m : RangedWorld (copy_bytes (next_base Heap w) p (min old n) (make_unset fill Heap n w)) = record { placed = h.placed; origins = h.origins; pairs = h.pairs } in
+        let m : RangedWorld (copy_bytes (next_base Heap w) p (min old n) (make_unset fill Heap n w)) = record { placed = h.placed; origins = h.origins; pairs = h.pairs; answers = h.answers } in
         ended_ranged p (copy_shadow (next_base Heap w) p (min old n) (copy_bytes (next_base Heap w) p (min old n) (make_unset fill Heap n w)))
         (copy_ranged (next_base Heap w) p (min old n) (copy_bytes (next_base Heap w) p (min old n) (make_unset fill Heap n w)) m)
     go false e = r
@@ -372,13 +381,13 @@ text_ranged site (Some bs) f w h = h bs
 
 byte_ranged : (bs : List ℕ) (w : World) → RangedWorld w → RangedEffect (next_byte bs w)
 byte_ranged [] w r = r
-byte_ranged (b ∷ bs) w r = record { placed = r.placed; origins = r.origins; pairs = r.pairs }
+byte_ranged (b ∷ bs) w r = record { placed = r.placed; origins = r.origins; pairs = r.pairs; answers = r.answers }
 
 good_ranged : (site a n : ℕ) (w : World) (e : Effect) → RangedEffect e → RangedEffect (where_good site a n w e)
 good_ranged site a n w e p = ranged_if (is_good w a n) e (Ends («end».Trap trap.BadAddress site) w) p tt
 
 printed_ranged : (site : ℕ) (bs : List ℕ) (k : ℕ) (w : World) → RangedWorld w → RangedEffect (printed site bs (Gives k) w)
-printed_ranged site bs k w r = ranged_if (leb (length w.output + length bs) output_limit) (Gives k _) (Ends («end».Trap trap.Output site) w) (record { placed = r.placed; origins = r.origins; pairs = r.pairs }) tt
+printed_ranged site bs k w r = ranged_if (leb (length w.output + length bs) output_limit) (Gives k _) (Ends («end».Trap trap.Output site) w) (record { placed = r.placed; origins = r.origins; pairs = r.pairs; answers = r.answers }) tt
 
 prints_ranged : (site : ℕ) (t : Result (List ℕ) Trap) (w : World) → RangedWorld w → RangedEffect (prints site t w)
 prints_ranged site (Ok bs) w r = printed_ranged site bs (length bs) w r
@@ -394,29 +403,36 @@ external_ranged s site Calloc types words w r = calloc_ranged (word 0 words * wo
 external_ranged s site Realloc types words w r =
     ranged_if (eqb (word 0 words) 0) (malloc s.fill (word 1 words) w) _ (malloc_ranged s.fill (word 1 words) w r) (reallocated_block s.fill site (word 0 words) (word 1 words) w r (heap_size w (word 0 words)))
 external_ranged s site Free types words w r = ranged_if (eqb (word 0 words) 0) (Does w) _ r (ranged_if _ (Does _) (Ends _ w) (ended_ranged (word 0 words) w r) tt)
-external_ranged s site Memcpy types words w r = good_ranged site (word 0 words) (word 2 words) w _ (good_ranged site (word 1 words) (word 2 words) w (Gives _ _) (record { placed = r.placed; origins = r.origins; pairs = r.pairs }))
-external_ranged s site Memmove types words w r = good_ranged site (word 0 words) (word 2 words) w _ (good_ranged site (word 1 words) (word 2 words) w (Gives _ _) (record { placed = r.placed; origins = r.origins; pairs = r.pairs }))
-external_ranged s site Memset types words w r = good_ranged site (word 0 words) (word 2 words) w (Gives _ _) (record { placed = r.placed; origins = r.origins; pairs = r.pairs })
+external_ranged s site Memcpy types words w r = good_ranged site (word 0 words) (word 2 words) w _ (good_ranged site (word 1 words) (word 2 words) w (Gives _ _) (record { placed = r.placed; origins = r.origins; pairs = r.pairs; answers = r.answers }))
+external_ranged s site Memmove types words w r = good_ranged site (word 0 words) (word 2 words) w _ (good_ranged site (word 1 words) (word 2 words) w (Gives _ _) (record { placed = r.placed; origins = r.origins; pairs = r.pairs; answers = r.answers }))
+external_ranged s site Memset types words w r = good_ranged site (word 0 words) (word 2 words) w (Gives _ _) (record { placed = r.placed; origins = r.origins; pairs = r.pairs; answers = r.answers })
 external_ranged s site Memcmp types words w r = good_ranged site (word 0 words) (word 2 words) w _ (good_ranged site (word 1 words) (word 2 words) w (Gives _ _) r)
 external_ranged s site Strlen types words w r = text_ranged site (string_at w (word 0 words)) (λ bs. Gives (length bs) w) w (λ bs. r)
 external_ranged s site Putchar types words w r = printed_ranged site (word 0 words % 256 ∷ []) (word 0 words % 256) w r
 external_ranged s site Puts types words w r = text_ranged site (string_at w (word 0 words)) (λ bs. printed site (bs ++ 10 ∷ []) (Gives 1) w) w (λ bs. printed_ranged site (bs ++ 10 ∷ []) 1 w r)
 external_ranged s site Getchar types words w r = byte_ranged w.input w r
 external_ranged s site Read types words w r =
-    good_ranged site (word 1 words) (word 2 words) w _ (ranged_if (eqb (word 0 words) 0) (taken (word 1 words) (word 2 words) w) (Gives _ w) (record { placed = r.placed; origins = r.origins; pairs = r.pairs }) r)
+    good_ranged site (word 1 words) (word 2 words) w _ (ranged_if (eqb (word 0 words) 0) (taken (word 1 words) (word 2 words) w) (Gives _ w) (record { placed = r.placed; origins = r.origins; pairs = r.pairs; answers = r.answers }) r)
 external_ranged s site Write types words w r =
     good_ranged site (word 1 words) (word 2 words) w _
     (ranged_if (eqb (word 0 words) 1) (printed site (bytes_at w.bytes (word 1 words) (word 2 words)) (Gives (word 2 words)) w) (Gives _ w) (printed_ranged site (bytes_at w.bytes (word 1 words) (word 2 words)) (word 2 words) w r) r)
 external_ranged s site Exit types words w r = tt
 external_ranged s site Abort types words w r = tt
-external_ranged s site LlvmMemcpy types words w r = good_ranged site (word 0 words) (word 2 words) w _ (good_ranged site (word 1 words) (word 2 words) w (Does _) (record { placed = r.placed; origins = r.origins; pairs = r.pairs }))
-external_ranged s site LlvmMemmove types words w r = good_ranged site (word 0 words) (word 2 words) w _ (good_ranged site (word 1 words) (word 2 words) w (Does _) (record { placed = r.placed; origins = r.origins; pairs = r.pairs }))
-external_ranged s site LlvmMemset types words w r = good_ranged site (word 0 words) (word 2 words) w (Does _) (record { placed = r.placed; origins = r.origins; pairs = r.pairs })
-external_ranged s site LifetimeStart types words w r = good_ranged site (word 1 words) (word 0 words) w (Does _) (record { placed = r.placed; origins = r.origins; pairs = r.pairs })
+external_ranged s site LlvmMemcpy types words w r = good_ranged site (word 0 words) (word 2 words) w _ (good_ranged site (word 1 words) (word 2 words) w (Does _) (record { placed = r.placed; origins = r.origins; pairs = r.pairs; answers = r.answers }))
+external_ranged s site LlvmMemmove types words w r = good_ranged site (word 0 words) (word 2 words) w _ (good_ranged site (word 1 words) (word 2 words) w (Does _) (record { placed = r.placed; origins = r.origins; pairs = r.pairs; answers = r.answers }))
+external_ranged s site LlvmMemset types words w r = good_ranged site (word 0 words) (word 2 words) w (Does _) (record { placed = r.placed; origins = r.origins; pairs = r.pairs; answers = r.answers })
+external_ranged s site LifetimeStart types words w r = good_ranged site (word 1 words) (word 0 words) w (Does _) (record { placed = r.placed; origins = r.origins; pairs = r.pairs; answers = r.answers })
 external_ranged s site LifetimeEnd types words w r = r
 external_ranged s site LlvmTrap types words w r = tt
 external_ranged s site LlvmAssume types words w r = ranged_if (eqb (word 0 words) 0) (Ends _ w) (Does w) tt r
 external_ranged s site LlvmObjectSize types words w r = r
+external_ranged s site PthreadCreate types words w r = ranged_if (leb fiber_limit (length w.threads + 1)) (Gives 11 w) _ r (good_ranged site (word 0 words) 8 w (Gives _ _) (record { placed = r.placed; origins = r.origins; pairs = r.pairs; answers = r.answers }))
+external_ranged s site PthreadJoin types words w r =
+    ranged_if (eqb (join_answer w.turn (word 0 words) w.threads) 0) _ (Gives _ w)
+    (ranged_if (has_ended (thread_at (word 0 words) w.threads)) (joined site (word 0 words) (word 1 words) w) (Ends («end».Trap trap.Deadlock site) w)
+    (ranged_if (eqb (word 1 words) 0) (Gives 0 _) _ (record { placed = r.placed; origins = r.origins; pairs = r.pairs; answers = r.answers }) (good_ranged site (word 1 words) 8 w (Gives 0 _) (record { placed = r.placed; origins = r.origins; pairs = r.pairs; answers = r.answers }))) tt)
+    r
+external_ranged s site SchedYield types words w r = r
 external_ranged s site Printf types words w r = prints_ranged site (formatted w types words) w r
 external_ranged s site (called.Word f n) types words w r = given_ranged site (word_answer f (bits_of n) (word 0 words) (word 1 words) (word 2 words)) w r
 
@@ -430,10 +446,10 @@ filled_ranged : (s : Setting) (a n mask o site : ℕ) (w : World) → s.roots + 
 filled_ranged s a n mask o site w many r lt = go (is_good w a n) (eqb (mask % 256) 0 || eqb n 0)
   where
     set : (z : Chained) → RangedWorld z.world → z.id < 2 ^ 32 → RangedWorld (set_cells a n z.id (set_shadow a n (λ k. mask % 256) z.world))
-    set z q l = record { placed = q.placed; origins = cells_ranged z.world.origins a n z.id q.origins l; pairs = q.pairs }
+    set z q l = record { placed = q.placed; origins = cells_ranged z.world.origins a n z.id q.origins l; pairs = q.pairs; answers = q.answers }
 
     go : (b c : Bool) → RangedWorld (if not b then w else (if c then set_shadow a n (λ k. 0) w else (let z = chain s o site w in set_cells a n z.id (set_shadow a n (λ k. mask % 256) z.world))))
-    go true true = record { placed = r.placed; origins = r.origins; pairs = r.pairs }
+    go true true = record { placed = r.placed; origins = r.origins; pairs = r.pairs; answers = r.answers }
     go true false = let c = chained_ranged s o site w many r lt in set (chain s o site w) c.1 c.0
     go false c = r
 
@@ -448,7 +464,16 @@ cleaned_ranged : (a n : ℕ) (w : World) → RangedWorld w → RangedWorld (unpo
 cleaned_ranged a n w r = go (is_good w a n)
   where
     go : (b : Bool) → RangedWorld (if b then set_shadow a n (λ k. 0) w else w)
-    go true = record { placed = r.placed; origins = r.origins; pairs = r.pairs }
+    go true = record { placed = r.placed; origins = r.origins; pairs = r.pairs; answers = r.answers }
+    go false = r
+
+answered_ranged : (s : Setting) (a id v site : ℕ) (w : World) → s.roots + pair_limit + 1 < 2 ^ 32 → RangedWorld w → RangedWorld (thread_result s a id v site w)
+answered_ranged s a id v site w many r = go (eqb v 0 && not (eqb a 0) && is_good w a 8 && has_ended (thread_at id w.threads))
+  where
+    go : (b : Bool) → RangedWorld (if b then store_origin s a (w.answer_masks id) (w.answer_origins id) site (set_shadow a 8 (byte_of (w.answer_masks id)) w) else w)
+    go true =
+        stored_ranged s a (w.answer_masks id) (w.answer_origins id) site (set_shadow a 8 (byte_of (w.answer_masks id)) w) many
+        (record { placed = r.placed; origins = r.origins; pairs = r.pairs; answers = r.answers }) (r.answers id)
     go false = r
 
 outside_ranged : (s : Setting) (site root : ℕ) (e : External) (ps : List Poisoned) (before : World) (v : ℕ) (w : World) → s.roots + pair_limit + 1 < 2 ^ 32 → AreRanged ps → (makes_unset (Some e) ≡ true → root < 2 ^ 32) → RangedWorld w
@@ -463,6 +488,8 @@ outside_ranged s site root LlvmMemmove ps before v w many q lt r = copied_planes
 outside_ranged s site root Memset ps before v w many q lt r = filled_ranged s (word_at 0 ps).value (word_at 2 ps).value (word_at 1 ps).mask (word_at 1 ps).origin site w many r (at_ranged 1 ps q)
 outside_ranged s site root LlvmMemset ps before v w many q lt r = filled_ranged s (word_at 0 ps).value (word_at 2 ps).value (word_at 1 ps).mask (word_at 1 ps).origin site w many r (at_ranged 1 ps q)
 outside_ranged s site root Read ps before v w many q lt r = cleaned_ranged (word_at 1 ps).value v w r
+outside_ranged s site root PthreadCreate ps before v w many q lt r = cleaned_ranged (word_at 0 ps).value (if eqb v 0 then 8 else 0) w r
+outside_ranged s site root PthreadJoin ps before v w many q lt r = answered_ranged s (word_at 1 ps).value (word_at 0 ps).value v site w many r
 outside_ranged s site root _ ps before v w many q lt r = r
 
 callee_ranged : (s : Setting) (site root : ℕ) (e : Option External) (ps : List Poisoned) (before : World) (v : ℕ) (w : World) → s.roots + pair_limit + 1 < 2 ^ 32 → AreRanged ps → (makes_unset e ≡ true → root < 2 ^ 32) → RangedWorld w
@@ -514,7 +541,7 @@ planes_ranged : (s : Setting) (site root : ℕ) (x : Option Name) (o : Op) (ps :
 planes_ranged s site root x (op.Alloca t u c) ps before v w many k q lt r = poison_ranged v 0 (size_in s.types t * (word_at 0 ps).value) root w r (lt refl)
 planes_ranged s site root x (op.Store t y a) ps before v w many k q lt r =
     stored_ranged s (word_at 1 ps).value (word_at 0 ps).mask (word_at 0 ps).origin site
-    (set_shadow (word_at 1 ps).value (stored_size t) (byte_of (word_at 0 ps).mask) w) many (record { placed = r.placed; origins = r.origins; pairs = r.pairs }) (at_ranged 0 ps q)
+    (set_shadow (word_at 1 ps).value (stored_size t) (byte_of (word_at 0 ps).mask) w) many (record { placed = r.placed; origins = r.origins; pairs = r.pairs; answers = r.answers }) (at_ranged 0 ps q)
 planes_ranged s site root x (op.Call ret callee args) ps before v w many k q lt r = callee_ranged s site root (external_named s.func callee) ps before v w many q lt r
 planes_ranged s site root x _ ps before v w many k q lt r = r
 
@@ -570,6 +597,18 @@ kept_placed mark (a ∷ l) h = by_test (keeps mark a) (kept_placed mark l h.1)
     by_test true k = (h.0, k)
     by_test false k = k
 
+all_ended_ranged : (ps : List ℕ) (w : World) → RangedWorld w → RangedWorld (end_blocks ps w)
+all_ended_ranged [] w r = r
+all_ended_ranged (p ∷ ps) w r = all_ended_ranged ps (end_block p w) (ended_ranged p w r)
+
+-- what a return takes back
+pub given_back_ranged : (f : Frame Poisoned) (w : World) → RangedWorld w → RangedWorld (given_back f w)
+given_back_ranged f w r = all_ended_ranged f.heap (if eqb f.mark 0 then w else release f.mark w) (by_mark (eqb f.mark 0))
+  where
+    by_mark : (t : Bool) → RangedWorld (if t then w else release f.mark w)
+    by_mark true = r
+    by_mark false = record { placed = kept_placed f.mark w.allocs r.placed; origins = r.origins; pairs = r.pairs; answers = r.answers }
+
 -- what a built instruction comes to
 outcome_ranged : (s : Setting) (m : Module) (h : Here) (i : Inst) (ps : List Poisoned) (f : Frame Poisoned) (below : List (Frame Poisoned)) (w : World) (e : Effect) → s.roots + pair_limit + 1 < 2 ^ 32
     → IsBuilt s.func i.result i.op → AreRanged ps → (is_root s.func i.op ≡ true → h.root + count_undefs (operands i.op) + 1 < 2 ^ 32)
@@ -606,7 +645,7 @@ outcome_ranged s m h i ps f below w (Leaves z) many k q lt rv rf r pr c e = by_b
     by_below [] rf e = absurd (grind arith)
     by_below (caller ∷ below) rf e = subst Ranged (more_is e) (record {
       frames = (put_ranged caller (result_at m caller) (get_or ps 0 clean) rf.0 (get_ranged ps q), rf.1);
-      world = record { placed = kept_placed f.mark z.allocs r.placed; origins = r.origins; pairs = r.pairs };
+      world = given_back_ranged f z r;
     })
 outcome_ranged s m h i ps f below w (Ends x z) many k q lt rv rf r pr c e = grind arith
 
@@ -625,12 +664,27 @@ own_root func i root u lt e = by_mark i.marked u lt (one (is_root func i.op) e)
     by_mark true u lt o = grind arith
     by_mark false u lt o = omega (arith, lt, o)
 
-undefs_fit : (func : Name → Option ℕ) (i : Inst) (root : ℕ) → i.marked ≡ false → root + roots_in func i < 2 ^ 32 → root + count_undefs (operands i.op) < 2 ^ 32
+pub undefs_fit : (func : Name → Option ℕ) (i : Inst) (root : ℕ) → i.marked ≡ false → root + roots_in func i < 2 ^ 32 → root + count_undefs (operands i.op) < 2 ^ 32
 undefs_fit func i root u lt = by_mark i.marked u lt
   where
     by_mark : (b : Bool) → b ≡ false → root + (if b then 0 else count_undefs (operands i.op) + (if is_root func i.op then 1 else 0)) < 2 ^ 32 → root + count_undefs (operands i.op) < 2 ^ 32
     by_mark true u lt = grind arith
     by_mark false u lt = omega (arith, lt)
+
+-- an instruction whose checks are done
+pub performed_ranged : (s : Setting) (m : Module) (env : Env) (size : ℕ) (i : Inst) (f : Frame Poisoned) (below : List (Frame Poisoned)) (z : World) → s.roots + pair_limit + 1 < 2 ^ 32
+    → KnownInst s.func env size i → RangedHere s (here s m f) i → ((b : ℕ) → PhiRoots s.func (insts_at m f.func b) (root_at s.func m f.func b 0)) → RangedValues f.values → RangedFrames below → RangedWorld z
+    → (c : ShadowState)
+    → shadow_moved (after_checks by_formulas s m i (here s m f) (read_all (read_poisoned s f.values) (operands i.op) (here s m f).root) f below (Does z)) ≡ More c → Ranged c
+performed_ranged s m env size i f below z many k rh pr rv rf r c e =
+    let ps = read_all (read_poisoned s f.values) (operands i.op) (here s m f).root in
+    let u = count_blind (union (map (λ p. p.mask) (blinded s.func i.op ps))) z in
+    let rz : RangedWorld u = ranged_left z u (counted _ z) r in
+    let x = act s (here s m f) i.op (map (λ p. p.value) ps) u in
+    outcome_ranged s m (here s m f) i ps (keeping i.op x f) below u x many k.built
+    (words_ranged s f.values (operands i.op) (here s m f).root rv (undefs_fit s.func i (here s m f).root k.unmarked rh.root))
+    (own_root s.func i (here s m f).root k.unmarked rh.root) rv rf
+    (act_ranged s (here s m f) i.result i.op _ u k.built rz) pr c e
 
 inst_ranged : (s : Setting) (m : Module) (env : Env) (size : ℕ) (i : Inst) (f : Frame Poisoned) (below : List (Frame Poisoned)) (w : World) → s.roots + pair_limit + 1 < 2 ^ 32
     → KnownInst s.func env size i → RangedHere s (here s m f) i → ((b : ℕ) → PhiRoots s.func (insts_at m f.func b) (root_at s.func m f.func b 0)) → RangedValues f.values → RangedFrames below → RangedWorld w
@@ -644,14 +698,7 @@ inst_ranged s m env size i f below w many k rh pr rv rf r c e = by_checks (check
     ps = read_all (read_poisoned s f.values) (operands i.op) (here s m f).root
 
     by_checks : (x : Effect) → Quiet w x → shadow_moved (after_checks by_formulas s m i (here s m f) (read_all (read_poisoned s f.values) (operands i.op) (here s m f).root) f below x) ≡ More c → Ranged c
-    by_checks (Does z) q e =
-        let ps = read_all (read_poisoned s f.values) (operands i.op) (here s m f).root in
-        let u = count_blind (union (map (λ p. p.mask) (blinded s.func i.op ps))) z in
-        let rz : RangedWorld u = ranged_left z u (counted _ z) (ranged_left w z q r) in
-        outcome_ranged s m (here s m f) i ps f below u (act s (here s m f) i.op (map (λ p. p.value) ps) u) many k.built
-        (words_ranged s f.values (operands i.op) (here s m f).root rv (undefs_fit s.func i (here s m f).root k.unmarked rh.root))
-        (own_root s.func i (here s m f).root k.unmarked rh.root) rv rf
-        (act_ranged s (here s m f) i.result i.op _ u k.built rz) pr c e
+    by_checks (Does z) q e = performed_ranged s m env size i f below z many k rh pr rv rf (ranged_left w z q r) c e
     by_checks (Ends x z) q e = absurd (stops e)
     by_checks (Gives v z) q e = absurd (stops e)
     by_checks (Goes x z) q e = absurd (stops e)

@@ -6,13 +6,12 @@ use Rattle.ms_ir.specs.declared.syntax.Name.{Name}
 use Rattle.ms_ir.specs.declared.syntax.Inst.{Inst}
 use Rattle.ms_ir.specs.declared.syntax.Module.{Module}
 use Rattle.ms_runs.specs.declared.runs.End.TheVariants as «end»
-use Rattle.ms_ir.specs.Areas.{Stack}
 use Rattle.ms_runs.specs.World.{World, Setting, Here, Effect, Gives, Does, Goes, Enters, Leaves, Ends, stuck, result}
 use Rattle.ms_ir.specs.Code.{operands, one_undef, count_undefs, external_named, is_unmarked, one_unmarked, roots_in, over_blocks, insts_at, blocks_at, block_index, is_phi}
 use Rattle.ms_ir.specs.Names.{is_reserved}
 use Rattle.ms_ir.specs.declared.syntax.Op.{Op}
 use Rattle.ms_ir.specs.declared.syntax.Op.TheVariants as op
-use Rattle.ms_runs.specs.Control.{Frame, Over, On, here, rest_of, read_all, put, bind, params_at, entered, result_at, release, after_effect, jumped, left, frame_limit}
+use Rattle.ms_runs.specs.Control.{Frame, Over, On, here, rest_of, read_all, put, bind, params_at, entry_mark, entered, result_at, given_back, blocks_made, keeping, after_effect, jumped, left, frame_limit}
 use Rattle.ms_runs.specs.Act.{act, plain_reading}
 use Rattle.ms_runs.specs.Plain.{PlainState, Stepped, More, Stop, and_then, plain_state, through, plain_first, plain_step, run, go_on, steps}
 use Rattle.ms_runs.specs.Poisoned.{Poisoned, clean}
@@ -31,7 +30,6 @@ use Rattle.ms_ir.specs.declared.syntax.Operand.{Operand}
 use Rattle.ms_ir.specs.declared.syntax.Func.{Func}
 use Rattle.ms_runs.specs.declared.runs.End.{End}
 use Rattle.ms_bits.specs.declared.traps.Trap.TheVariants as trap
-use Rattle.ms_runs.specs.Memory.{next_base}
 use Rattle.ms_tasks.specs.SlotLaw.{SameLength, ReturnFits}
 use Rattle.ms_tasks.proofs.Slots.{result_taken, params_low, function_entered}
 use Rattle.ms_tasks.proofs.MatchedNames.{matches_same}
@@ -39,10 +37,11 @@ use Rattle.ms_tasks.proofs.Flatten.{same_refl, went_inv, tasks_run}
 use Rattle.ms_tasks.proofs.OperandWords.{ap₃}
 use Rattle.ms_tasks.proofs.TaskNames.{after_low}
 use Rattle.ms_runs_laws.proofs.Numbering.{here_agrees}
+use Rattle.ms_runs.proofs.HeapBlocks.{gives_same}
 use Rattle.ms_tasks.specs.PassLists.{emit_op, next_here, pass_insts}
 use Rattle.ms_tasks.specs.Match.{Handed, CallHeld, ArgsHeld, ResultHeld, SlotsHold, Saved, Matches, RangedWorld, RangedValues}
 use Rattle.ms_tasks.specs.InstructionLaw.{GoesOn, Stands, given_of, words_at, checked_at, counted_at, acted_at, after_result, before_code, BeforeLaw, Checked, Failed, Due, AfterLaw}
-use Rattle.ms_pass_laws.proofs.Marked.{AllInserted, inserted_marked, tasks_inserted, GetsThrough as RunsOn, reach_step, state_of, through_inst, through_marked}
+use Rattle.ms_pass_laws.proofs.Marked.{AllInserted, inserted_marked, inserted_no_block, tasks_inserted, GetsThrough as RunsOn, reach_step, state_of, through_inst, through_marked}
 use Rattle.ms_pass_laws.specs.Pass.{Numbering, entry_code, pass_funcs, pass}
 use Rattle.ms_pass_laws.specs.Law.{AtCall, FramesFollow, TopFollows, FollowsBy, Follows, Steps, CleanFrames, Sound, RangedFrames, Ranged}
 use Rattle.ms_pass_laws.specs.Known.{KnownModule, AnswerFits, ReturnsAs, ret_at, ApartFrames, CleanRun}
@@ -115,10 +114,11 @@ clean_kept s numbers m = record {
 
 module _ (s : Setting) (numbers : ℕ → Numbering) (m : Module) (known : KnownModule s numbers m) where
   -- both stand at an instruction, with the list before it done, and next is the first number that was free there
-  record AtInst (f : Frame Poisoned) (fs : List (Frame Poisoned)) (g : Frame ℕ) (gs : List (Frame ℕ)) (i : Inst) (is : List Inst) (next : ℕ) : Type 0 where
+  pub record AtInst (f : Frame Poisoned) (fs : List (Frame Poisoned)) (g : Frame ℕ) (gs : List (Frame ℕ)) (i : Inst) (is : List Inst) (next : ℕ) : Type 0 where
     pub same_func : g.func ≡ f.func
     pub same_block : g.block ≡ f.block
     pub same_mark : g.mark ≡ f.mark
+    pub same_heap : g.heap ≡ f.heap
     pub stands : here s (pass numbers m) g ≡ here s m f
     pub room : 2 * (numbers f.func).size + 1 ≤ next
     pub rest_m : rest_of m f ≡ i ∷ is
@@ -130,7 +130,7 @@ module _ (s : Setting) (numbers : ℕ → Numbering) (m : Module) (known : Known
     pub lower : FramesFollow s numbers m f.func fs gs
 
   -- the free number after the list before an instruction
-  abbrev middle : Frame Poisoned → Inst → ℕ → ℕ
+  abbrev pub middle : Frame Poisoned → Inst → ℕ → ℕ
   middle f i next = (tasks_code (before_tasks (given_of s) (numbers f.func).env (here s m f) i next) (start (given_of s) i next)).next
 
   stands_at : (f : Frame Poisoned) (i : Inst) (is : List Inst) (base : ℕ) → rest_of m f ≡ i ∷ is → is_phi i.op ≡ false → 2 * (numbers f.func).size + 1 ≤ base
@@ -163,9 +163,11 @@ module _ (s : Setting) (numbers : ℕ → Numbering) (m : Module) (known : Known
         same_func = z.same_func;
         same_block = z.same_block;
         same_mark = z.same_mark;
+        same_heap = z.same_heap;
         stands = here_g ∙ ap (λ y. next_here given y i) z.stands ∙ sym here_f;
         waiting = lists.after;
         marked = inserted_marked _ (tasks_inserted (after_tasks given env h i next) (middle f i next));
+        no_block = inserted_no_block _ (tasks_inserted (after_tasks given env h i next) (middle f i next));
         next = lists.next;
         room = omega arith;
         rest = drop_step _ g.place i _ z.rest_j
@@ -202,13 +204,13 @@ module _ (s : Setting) (numbers : ℕ → Numbering) (m : Module) (known : Known
           let other : y ≢ z = λ q. ne (ap Some (sym q)) in
           sym (with_other g.values z y x other) ∙ e ∙ ap (λ q. q.value) (with_other f.values z y p other)
 
-  same_frame : (f : Frame Poisoned) (g : Frame ℕ) → g.func ≡ f.func → g.block ≡ f.block → g.mark ≡ f.mark
-      → g ≡ (let k : Frame ℕ = record { func = f.func; block = f.block; place = g.place; values = g.values; mark = f.mark } in k)
-  same_frame f g a b c = λ i. record { func = a i; block = b i; place = g.place; values = g.values; mark = c i }
+  same_frame : (f : Frame Poisoned) (g : Frame ℕ) → g.func ≡ f.func → g.block ≡ f.block → g.mark ≡ f.mark → g.heap ≡ f.heap
+      → g ≡ (let k : Frame ℕ = record { func = f.func; block = f.block; place = g.place; values = g.values; mark = f.mark; heap = f.heap } in k)
+  same_frame f g a b c d = λ i. record { func = a i; block = b i; place = g.place; values = g.values; mark = c i; heap = d i }
 
   -- ---- a call
 
-  same_length : (n : ℕ) (fs : List (Frame Poisoned)) (gs : List (Frame ℕ)) → FramesFollow s numbers m n fs gs → length gs ≡ length fs
+  pub same_length : (n : ℕ) (fs : List (Frame Poisoned)) (gs : List (Frame ℕ)) → FramesFollow s numbers m n fs gs → length gs ≡ length fs
   same_length n [] [] l = refl
   same_length n [] (g ∷ gs) l = absurd l
   same_length n (f ∷ fs) [] l = absurd l
@@ -227,12 +229,12 @@ module _ (s : Setting) (numbers : ℕ → Numbering) (m : Module) (known : Known
   few_args x o n ret callee args e own b = (subst (IsBuilt s.func x) e b).1 (ap is_some own)
 
   -- the new frames at the entry of the function that is called
-  entered_follows : (n : ℕ) (words : List Poisoned) (os : List (Ty × Operand)) (cells : ℕ → ℕ) (w : World)
+  pub entered_follows : (n : ℕ) (words : List Poisoned) (os : List (Ty × Operand)) (cells : ℕ → ℕ) (w : World)
       → ArgsFit (params_at m n) os → length os ≤ 100 → ArgsHeld cells 0 os words → SameLength os words
       → ((x : Name) → (numbers n).env.clean x ≡ true → (bind clean (params_at m n) words x).mask ≡ 0)
       → TopFollows s numbers m (entered shadow_reading m n words w) w (entered plain_reading (pass numbers m) n (map (λ p. p.value) words) w) cells w
   entered_follows n words os cells w fit few holds len cleans =
-      subst (λ ps. TopFollows s numbers m (entered shadow_reading m n words w) w (let k : Frame ℕ = record { func = n; block = 0; place = 0; values = bind 0 ps (map (λ p. p.value) words); mark = next_base Stack w } in k) cells w)
+      subst (λ ps. TopFollows s numbers m (entered shadow_reading m n words w) w (let k : Frame ℕ = record { func = n; block = 0; place = 0; values = bind 0 ps (map (λ p. p.value) words); mark = entry_mark w; heap = [] } in k) cells w)
       (sym (params_kept numbers m n)) top
     where
       f' : Frame Poisoned
@@ -254,11 +256,11 @@ module _ (s : Setting) (numbers : ℕ → Numbering) (m : Module) (known : Known
           ∙ all_kept (numbers n).env (numbers n).size (insts_at m n 0) (known.phis n 0)
 
       g0 : Frame ℕ
-      g0 = record { func = n; block = 0; place = 0; values = bind 0 (params_at m n) (map (λ p. p.value) words); mark = next_base Stack w }
+      g0 = record { func = n; block = 0; place = 0; values = bind 0 (params_at m n) (map (λ p. p.value) words); mark = entry_mark w; heap = [] }
 
-      top : TopFollows s numbers m (entered shadow_reading m n words w) w (let k : Frame ℕ = record { func = n; block = 0; place = 0; values = bind 0 (params_at m n) (map (λ p. p.value) words); mark = next_base Stack w } in k) cells w
+      top : TopFollows s numbers m (entered shadow_reading m n words w) w (let k : Frame ℕ = record { func = n; block = 0; place = 0; values = bind 0 (params_at m n) (map (λ p. p.value) words); mark = entry_mark w; heap = [] } in k) cells w
       top =
-          let g0 : Frame ℕ = record { func = n; block = 0; place = 0; values = bind 0 (params_at m n) (map (λ p. p.value) words); mark = next_base Stack w } in
+          let g0 : Frame ℕ = record { func = n; block = 0; place = 0; values = bind 0 (params_at m n) (map (λ p. p.value) words); mark = entry_mark w; heap = [] } in
           let f' = entered shadow_reading m n words w in
           let base = 2 * (numbers n).size + 1 in
           let env = (numbers n).env in
@@ -272,9 +274,11 @@ module _ (s : Setting) (numbers : ℕ → Numbering) (m : Module) (known : Known
             same_func = refl;
             same_block = refl;
             same_mark = refl;
+            same_heap = refl;
             stands = here_agrees s (pass numbers m) m known.strips g0 f' refl refl left_of;
             waiting = entry_code env (params_at m n) base;
             marked = inserted_marked _ (tasks_inserted ts base);
+            no_block = inserted_no_block _ (tasks_inserted ts base);
             next = start_at.0;
             room = start_at.1;
             rest = start_at.2;
@@ -334,6 +338,7 @@ module _ (s : Setting) (numbers : ℕ → Numbering) (m : Module) (known : Known
         same_func = a.same_func;
         same_block = a.same_block;
         same_mark = a.same_mark;
+        same_heap = a.same_heap;
         stands = a.stands;
         room = a.room;
         rest_m = a.rest_m;
@@ -361,8 +366,24 @@ module _ (s : Setting) (numbers : ℕ → Numbering) (m : Module) (known : Known
       after_named : (values : Name → Poisoned) (x : Option Name) (p : Poisoned) (y : Name) → x ≡ Some y → p.mask ≡ (after_result values x p y).mask
       after_named values x p y e = sym (ap (λ q. q.mask) (ap (λ x. after_result values x p y) e ∙ with_here values y p))
 
+  -- both get the same heap blocks
+  pub keeping_both : (f : Frame Poisoned) (fs : List (Frame Poisoned)) (g : Frame ℕ) (gs : List (Frame ℕ)) (i : Inst) (is : List Inst) (next : ℕ) (o : Op) (e : Effect)
+      → AtInst f fs g gs i is next → AtInst (keeping o e f) fs (keeping o e g) gs i is next
+  keeping_both f fs g gs i is next o e z = record {
+    same_func = z.same_func;
+    same_block = z.same_block;
+    same_mark = z.same_mark;
+    same_heap = ap (λ l. blocks_made o e ++ l) z.same_heap;
+    stands = z.stands;
+    room = z.room;
+    rest_m = z.rest_m;
+    no_phi = z.no_phi;
+    rest_j = z.rest_j;
+    lower = z.lower;
+  }
+
   -- the instruction itself, which is due in both
-  effect_step : (f : Frame Poisoned) (fs : List (Frame Poisoned)) (g : Frame ℕ) (gs : List (Frame ℕ)) (i : Inst) (is : List Inst) (next : ℕ) → AtInst f fs g gs i is next
+  pub effect_step : (f : Frame Poisoned) (fs : List (Frame Poisoned)) (g : Frame ℕ) (gs : List (Frame ℕ)) (i : Inst) (is : List Inst) (next : ℕ) → AtInst f fs g gs i is next
       → (cells : ℕ → ℕ) (before : World) → RangedWorld before → RangedValues f.values → AllApart i.result (operands i.op)
       → Handed s.func (here s m f).main i.op (words_at s f.values (here s m f) i) cells → Saved s.func next i.op (words_at s f.values (here s m f) i) before g.values
       → ((x : ℕ) (w : World) → acted_at s f.values (here s m f) i before ≡ Gives x w
@@ -392,7 +413,7 @@ module _ (s : Setting) (numbers : ℕ → Numbering) (m : Module) (known : Known
       next_follows f fs g gs i is next z f.values before 0 g.values cells w law
   effect_step f fs g gs i is next z cells before in_world in_values apart handed size_saved gives does (Ends x w) e tells sound = (refl, refl)
   effect_step f fs g gs i is next z cells before in_world in_values apart handed size_saved gives does (Goes to w) e tells sound = (
-    subst (λ k. TopFollows s numbers m (jumped shadow_reading s m to f) w (jumped plain_reading s (pass numbers m) to k) cells w) (sym (same_frame f g z.same_func z.same_block z.same_mark))
+    subst (λ k. TopFollows s numbers m (jumped shadow_reading s m to f) w (jumped plain_reading s (pass numbers m) to k) cells w) (sym (same_frame f g z.same_func z.same_block z.same_mark z.same_heap))
         (jump_follows s numbers m known.strips known.given f g.values g.place cells w to (does (subst GoesOn (sym e) tt)) in_values (known.one_name f.func)
         (known.phis f.func (block_index (blocks_at m f.func) to)) (known.roots f.func (block_index (blocks_at m f.func) to)) (known.inner f i is z.rest_m to tells) (λ x c. sound.masks _ refl x c)),
     z.lower,
@@ -418,6 +439,7 @@ module _ (s : Setting) (numbers : ℕ → Numbering) (m : Module) (known : Known
             same_func = z.same_func;
             same_block = z.same_block;
             same_mark = z.same_mark;
+            same_heap = z.same_heap;
             stands = z.stands;
             call = i;
             left = is;
@@ -450,13 +472,13 @@ module _ (s : Setting) (numbers : ℕ → Numbering) (m : Module) (known : Known
           let a = l.0 in
           let words = words_at s f.values (here s m f) i in
           let p = get_or words 0 clean in
-          let u = release f.mark w in
+          let u = given_back f w in
           let shadow_is : More (let c : ShadowState = record { frames = put f2 (result_at m f2) p ∷ fs; world = u } in c)
           ≡ More (let c : ShadowState = record { frames = frame_at f2 (f2.place + 1) (after_result f2.values a.call.result p) ∷ fs; world = u } in c) =
           ap (λ y. More (let c : ShadowState = record { frames = y ∷ fs; world = u } in c)) (ap (λ x. put f2 x p) (result_found f2 a.call a.left a.rest_m) ∙ put_shadow f2 a.call.result p) in
-          let plain_is : More (state_of (put g2 (result_at (pass numbers m) g2) (get_or (map (λ p. p.value) words) 0 0)) gs cells (release g.mark w))
+          let plain_is : More (state_of (put g2 (result_at (pass numbers m) g2) (get_or (map (λ p. p.value) words) 0 0)) gs cells (given_back g w))
           ≡ More (state_of (frame_at g2 (g2.place + 1) (set_result g2.values a.call.result p.value)) gs cells u) =
-          ap₃ (λ x k y. More (state_of (put g2 x k) gs cells (release y w))) (plain_found g2 a.call _ a.rest_j) (first_value words) z.same_mark
+          ap₃ (λ x k y. More (state_of (put g2 x k) gs cells y)) (plain_found g2 a.call _ a.rest_j) (first_value words) (gives_same f g z.same_mark z.same_heap w)
           ∙ ap (λ y. More (state_of y gs cells u)) (put_plain g2 a.call.result p.value) in
           let clean_sound : Sound s numbers m (More (let c : ShadowState = record { frames = frame_at f2 (f2.place + 1) (after_result f2.values a.call.result p) ∷ fs; world = u } in c)) = subst (Sound s numbers m) shadow_is sound in
           let np : is_phi a.call.op ≡ false = subst (λ o. is_phi o ≡ false) (sym a.calls) refl in
@@ -484,12 +506,12 @@ module _ (s : Setting) (numbers : ℕ → Numbering) (m : Module) (known : Known
       → shadow_moved (shadow_inst by_formulas s m i f fs w)
       ≡ shadow_moved (after_effect shadow_reading s m (here s m f).site i.result (words_at s f.values (here s m f) i)
       (poisoned_result by_formulas i.op (words_at s f.values (here s m f) i))
-      (planes s (here s m f).site ((here s m f).root + count_undefs (operands i.op) + 1) i.op (words_at s f.values (here s m f) i) (counted_at s f.values (here s m f) i w1)) f fs e)
+      (planes s (here s m f).site ((here s m f).root + count_undefs (operands i.op) + 1) i.op (words_at s f.values (here s m f) i) (counted_at s f.values (here s m f) i w1)) (keeping i.op e f) fs e)
   shadow_does f fs i w w1 e h g =
       checks_by f fs i w (Does w1) h
       ∙ ap (λ x. shadow_moved (after_effect shadow_reading s m (here s m f).site i.result (words_at s f.values (here s m f) i)
       (poisoned_result by_formulas i.op (words_at s f.values (here s m f) i))
-      (planes s (here s m f).site ((here s m f).root + count_undefs (operands i.op) + 1) i.op (words_at s f.values (here s m f) i) (counted_at s f.values (here s m f) i w1)) f fs x)) g
+      (planes s (here s m f).site ((here s m f).root + count_undefs (operands i.op) + 1) i.op (words_at s f.values (here s m f) i) (counted_at s f.values (here s m f) i w1)) (keeping i.op x f) fs x)) g
 
   -- a clean result has the mask 0, where the shadow run goes on with it
   clean_result : (f : Frame Poisoned) (fs : List (Frame Poisoned)) (i : Inst) (w : World) → Sound s numbers m (shadow_moved (shadow_inst by_formulas s m i f fs w))
@@ -499,19 +521,19 @@ module _ (s : Setting) (numbers : ℕ → Numbering) (m : Module) (known : Known
   clean_result f fs i w sound r x w1 w2 named cl checks acts =
       let p = poisoned_result by_formulas i.op (words_at s f.values (here s m f) i) x w2 in
       let z = planes s (here s m f).site ((here s m f).root + count_undefs (operands i.op) + 1) i.op (words_at s f.values (here s m f) i) (counted_at s f.values (here s m f) i w1) x w2 in
-      let goes : shadow_moved (shadow_inst by_formulas s m i f fs w) ≡ More (record { frames = put f (Some r) p ∷ fs; world = z }) =
-      shadow_does f fs i w w1 (Gives x w2) checks acts ∙ ap (λ y. More (let c : ShadowState = record { frames = put f y p ∷ fs; world = z } in c)) named in
+      let goes : shadow_moved (shadow_inst by_formulas s m i f fs w) ≡ More (record { frames = put (keeping i.op (Gives x w2) f) (Some r) p ∷ fs; world = z }) =
+      shadow_does f fs i w w1 (Gives x w2) checks acts ∙ ap (λ y. More (let c : ShadowState = record { frames = put (keeping i.op (Gives x w2) f) y p ∷ fs; world = z } in c)) named in
       sym (ap (λ q. q.mask) (with_here f.values r p)) ∙ sound.masks _ goes r cl
 
   -- one instruction with its lists
   inst_step : (f : Frame Poisoned) (fs : List (Frame Poisoned)) (w : World) (g : Frame ℕ) (gs : List (Frame ℕ)) (cells : ℕ → ℕ) (i : Inst) (is : List Inst) (next : ℕ)
-      → g.func ≡ f.func → g.block ≡ f.block → g.mark ≡ f.mark → here s (pass numbers m) g ≡ here s m f → 2 * (numbers f.func).size + 1 ≤ next → rest_of m f ≡ i ∷ is → is_phi i.op ≡ false
+      → g.func ≡ f.func → g.block ≡ f.block → g.mark ≡ f.mark → g.heap ≡ f.heap → here s (pass numbers m) g ≡ here s m f → 2 * (numbers f.func).size + 1 ≤ next → rest_of m f ≡ i ∷ is → is_phi i.op ≡ false
       → rest_of (pass numbers m) g ≡ before_code s (numbers f.func).env (here s m f) i next ++ round f i is next
       → FramesFollow s numbers m f.func fs gs → Matches (numbers f.func).env f.values g.values → RangedWorld w → RangedValues f.values → ApartFrames m (f ∷ fs)
       → Sound s numbers m (shadow_moved (shadow_inst by_formulas s m i f fs w))
       → Steps s numbers m (shadow_moved (shadow_inst by_formulas s m i f fs w))
       (through s (pass numbers m) (before_code s (numbers f.func).env (here s m f) i next ++ round f i is next) (state_of g gs cells w))
-  inst_step f fs w g gs cells i is next same_func same_block same_mark stands room rest_m no_phi rest_j lower matches in_world in_values apart sound =
+  inst_step f fs w g gs cells i is next same_func same_block same_mark same_heap stands room rest_m no_phi rest_j lower matches in_world in_values apart sound =
       by_law (before_law s (numbers f.func).env (numbers f.func).size next (here s m f) i f.values (record { names = g.values; slots = cells }) w
       (stands_at f i is next rest_m no_phi room) matches in_world in_values (clean_result f fs i w sound))
     where
@@ -528,23 +550,25 @@ module _ (s : Setting) (numbers : ℕ → Numbering) (m : Module) (known : Known
           → through s (pass numbers m) (before_code s (numbers f.func).env (here s m f) i next ++ round f i is next) (state_of g gs cells w)
           ≡ reach_step r (λ u z. through s (pass numbers m) (round f i is next) (state_of (frame_at g (g.place + length (before_code s (numbers f.func).env (here s m f) i next)) u.names) gs u.slots z))
       ran r e =
-          through_marked s (pass numbers m) (here s m f) before rest (inserted_marked _ all) g gs cells w stands rest_j (inl all)
+          through_marked s (pass numbers m) (here s m f) before rest (inserted_marked _ all) (inserted_no_block _ all) g gs cells w stands rest_j (inl all)
           ∙ ap (λ y. reach_step y (λ u z. through s (pass numbers m) rest (state_of (frame_at g (g.place + length before) u.names) gs u.slots z))) e
 
       by_law : BeforeLaw s (numbers f.func).env next (here s m f) i f.values (record { names = g.values; slots = cells }) w
           → Steps s numbers m (shadow_moved (shadow_inst by_formulas s m i f fs w))
           (through s (pass numbers m) (before_code s (numbers f.func).env (here s m f) i next ++ round f i is next) (state_of g gs cells w))
       by_law (Checked e w1 r checks) = steps_by (checks_by f fs i w (Ends e w1) checks) (ran (Done e w1) r) (refl, refl)
-      by_law (Failed e w1 w2 r checks acts) = steps_by (shadow_does f fs i w w1 (Ends e w2) checks acts) (ran (Done e w2) r) (refl, refl)
-      by_law (Due u w1 r checks handed size_saved words gives does) =
+      by_law (Failed e w1 w2 inside r checks acts) = steps_by (shadow_does f fs i w w1 (Ends e w2) checks acts) (ran (Done e w2) r) (refl, refl)
+      by_law (Due u w1 r checks handed size_saved words gives answers does) =
           let h = here s m f in
           let ps = words_at s f.values h i in
           let z1 = counted_at s f.values h i w1 in
           let g1 = frame_at g (g.place + length before) u.names in
+          let x = acted_at s f.values h i z1 in
           let at : AtInst f fs g1 gs i is next = record {
             same_func = same_func;
             same_block = same_block;
             same_mark = same_mark;
+            same_heap = same_heap;
             stands = here_marked s (pass numbers m) before rest (inserted_marked _ all) g u.names rest_j ∙ stands;
             room = room;
             rest_m = rest_m;
@@ -557,24 +581,24 @@ module _ (s : Setting) (numbers : ℕ → Numbering) (m : Module) (known : Known
           steps_by (shadow_does f fs i w w1 (acted_at s f.values h i z1) checks refl)
           (ran (Went u z1) r
           ∙ through_inst s (pass numbers m) i _ h g1 gs u.slots z1 false k.unmarked at.stands
-          ∙ ap (λ l. and_then (plain_state u.slots (after_effect plain_reading s (pass numbers m) h.site i.result l (λ v w. v) (λ v w. w) g1 gs (act s h i.op l z1))) More) words)
-          (effect_step f fs g1 gs i is next at u.slots z1 in_world1 in_values (apart i is rest_m no_phi) handed size_saved gives does (acted_at s f.values h i z1) refl
+          ∙ ap (λ l. and_then (plain_state u.slots (after_effect plain_reading s (pass numbers m) h.site i.result l (λ v w. v) (λ v w. w) (keeping i.op (act s h i.op l z1) g1) gs (act s h i.op l z1))) More) words)
+          (effect_step (keeping i.op x f) fs (keeping i.op x g1) gs i is next (keeping_both f fs g1 gs i is next i.op x at) u.slots z1 in_world1 in_values (apart i is rest_m no_phi) handed size_saved gives does (acted_at s f.values h i z1) refl
           (act_tells s h i.op (map (λ p. p.value) ps) z1) (subst (Sound s numbers m) (shadow_does f fs i w w1 (acted_at s f.values h i z1) checks refl) sound))
 
   -- what stands in the module has no mark
-  unmarked_of : (f : Frame Poisoned) (i : Inst) (is : List Inst) → rest_of m f ≡ i ∷ is → i.marked ≡ false
+  pub unmarked_of : (f : Frame Poisoned) (i : Inst) (is : List Inst) → rest_of m f ≡ i ∷ is → i.marked ≡ false
   unmarked_of f i is e = (subst (KnownPhis (numbers f.func).env (numbers f.func).size) e (known_drop (numbers f.func).env (numbers f.func).size f.place (insts_at m f.func f.block) (known.phis f.func f.block))).0
 
   -- what is left of the program's block, and its instrumented list
   list_step : (f : Frame Poisoned) (fs : List (Frame Poisoned)) (w : World) (g : Frame ℕ) (gs : List (Frame ℕ)) (cells : ℕ → ℕ) (l : List Inst) (next : ℕ)
-      → g.func ≡ f.func → g.block ≡ f.block → g.mark ≡ f.mark → here s (pass numbers m) g ≡ here s m f → 2 * (numbers f.func).size + 1 ≤ next → rest_of m f ≡ l
+      → g.func ≡ f.func → g.block ≡ f.block → g.mark ≡ f.mark → g.heap ≡ f.heap → here s (pass numbers m) g ≡ here s m f → 2 * (numbers f.func).size + 1 ≤ next → rest_of m f ≡ l
       → rest_of (pass numbers m) g ≡ (pass_insts (given_of s) (numbers f.func).env l (here s m f) next).code
       → FramesFollow s numbers m f.func fs gs → Matches (numbers f.func).env f.values g.values → RangedWorld w → RangedValues f.values → ApartFrames m (f ∷ fs)
       → Sound s numbers m (shadow_moved (shadow_first by_formulas s m l f fs w))
       → Steps s numbers m (shadow_moved (shadow_first by_formulas s m l f fs w))
       (through s (pass numbers m) (pass_insts (given_of s) (numbers f.func).env l (here s m f) next).code (state_of g gs cells w))
-  list_step f fs w g gs cells [] next same_func same_block same_mark stands room rest_m rest_j lower matches in_world in_values apart sound = (refl, refl)
-  list_step f fs w g gs cells (i ∷ is) next same_func same_block same_mark stands room rest_m rest_j lower matches in_world in_values apart sound = by_phi (is_phi i.op) refl
+  list_step f fs w g gs cells [] next same_func same_block same_mark same_heap stands room rest_m rest_j lower matches in_world in_values apart sound = (refl, refl)
+  list_step f fs w g gs cells (i ∷ is) next same_func same_block same_mark same_heap stands room rest_m rest_j lower matches in_world in_values apart sound = by_phi (is_phi i.op) refl
     where
       given : Given
       given = given_of s
@@ -595,7 +619,7 @@ module _ (s : Setting) (numbers : ℕ → Numbering) (m : Module) (known : Known
           let lists_are = plain_lists (given_of s) (numbers f.func).env (here s m f) i next i.op e in
           let code_is = ap (λ x. x.before ++ (i ∷ (x.after ++ (pass_insts (given_of s) (numbers f.func).env is (next_here (given_of s) (here s m f) i) x.next).code))) lists_are in
           steps_by refl (ap (λ l. through s (pass numbers m) l (state_of g gs cells w)) code_is)
-          (inst_step f fs w g gs cells i is next same_func same_block same_mark stands room rest_m e (rest_j ∙ code_is) lower matches in_world in_values apart sound)
+          (inst_step f fs w g gs cells i is next same_func same_block same_mark same_heap stands room rest_m e (rest_j ∙ code_is) lower matches in_world in_values apart sound)
 
   top_step : (f : Frame Poisoned) (fs : List (Frame Poisoned)) (w : World) (g : Frame ℕ) (gs : List (Frame ℕ)) (cells : ℕ → ℕ) (z : World)
       → TopFollows s numbers m f w g cells z → FramesFollow s numbers m f.func fs gs → RangedWorld w → RangedValues f.values → ApartFrames m (f ∷ fs)
@@ -606,9 +630,9 @@ module _ (s : Setting) (numbers : ℕ → Numbering) (m : Module) (known : Known
       let g1 = frame_at g (g.place + length t.waiting) t.after.names in
       steps_by refl
       (ap (λ l. through s (pass numbers m) l (state_of g gs cells z)) t.rest
-      ∙ through_marked s (pass numbers m) (here s m f) t.waiting code t.marked g gs cells z t.stands t.rest (inr (subst RunsOn (sym t.runs) tt))
+      ∙ through_marked s (pass numbers m) (here s m f) t.waiting code t.marked t.no_block g gs cells z t.stands t.rest (inr (subst RunsOn (sym t.runs) tt))
       ∙ ap (λ y. reach_step y (λ u w. through s (pass numbers m) code (state_of (frame_at g (g.place + length t.waiting) u.names) gs u.slots w))) t.runs)
-      (list_step f fs w g1 gs t.after.slots (rest_of m f) t.next t.same_func t.same_block t.same_mark
+      (list_step f fs w g1 gs t.after.slots (rest_of m f) t.next t.same_func t.same_block t.same_mark t.same_heap
       (here_marked s (pass numbers m) t.waiting code t.marked g t.after.names t.rest ∙ t.stands) t.room refl
       (drop_many _ g.place t.waiting code t.rest) lower t.matches in_world in_values apart sound)
 

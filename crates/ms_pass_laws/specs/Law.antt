@@ -8,7 +8,7 @@ use Rattle.ms_ir.specs.declared.syntax.Inst.{Inst}
 use Rattle.ms_ir.specs.declared.syntax.Module.{Module}
 use Rattle.ms_runs.specs.declared.runs.End.{End}
 use Rattle.ms_runs.specs.World.{World, Setting, result}
-use Rattle.ms_runs.specs.Control.{Frame, here, rest_of}
+use Rattle.ms_runs.specs.Control.{Frame, here, rest_of, local_block}
 use Rattle.ms_runs.specs.Plain.{PlainState, Stepped, More, Stop}
 use Rattle.ms_runs.specs.Poisoned.{Poisoned}
 use Rattle.ms_runs.specs.Shadow.{ShadowState}
@@ -18,6 +18,11 @@ use Rattle.ms_tasks.specs.InstructionLaw.{given_of}
 use Rattle.ms_pass_laws.specs.Pass.{Numbering, pass}
 use Rattle.ms_tasks.specs.PassLists.{emit_lists, next_here, pass_insts}
 
+-- code that makes no heap block for its frame
+abbrev pub MakesNoBlock : List Inst → Type 0
+MakesNoBlock [] = Unit {0}
+MakesNoBlock (i ∷ is) = ((v : ℕ) → local_block i.op v ≡ []) × MakesNoBlock is
+
 module _ (s : Setting) (numbers : ℕ → Numbering) (m : Module) where
   -- a lower frame stands at its call of the function above it in both, with the list before the call done and the list
   -- after it to come; of the slots it knows nothing
@@ -25,6 +30,7 @@ module _ (s : Setting) (numbers : ℕ → Numbering) (m : Module) where
     pub same_func : g.func ≡ f.func
     pub same_block : g.block ≡ f.block
     pub same_mark : g.mark ≡ f.mark
+    pub same_heap : g.heap ≡ f.heap
     pub stands : here s (pass numbers m) g ≡ here s m f
     pub call : Inst
     pub left : List Inst
@@ -56,9 +62,11 @@ module _ (s : Setting) (numbers : ℕ → Numbering) (m : Module) where
     pub same_func : g.func ≡ f.func
     pub same_block : g.block ≡ f.block
     pub same_mark : g.mark ≡ f.mark
+    pub same_heap : g.heap ≡ f.heap
     pub stands : here s (pass numbers m) g ≡ here s m f
     pub waiting : List Inst
     pub marked : AllMarked waiting
+    pub no_block : MakesNoBlock waiting
     pub next : ℕ
     pub room : 2 * (numbers f.func).size + 1 ≤ next
     pub rest : rest_of (pass numbers m) g ≡ waiting ++ (pass_insts (given_of s) (numbers f.func).env (rest_of m f) (here s m f) next).code

@@ -49,6 +49,7 @@ use Rattle.ms_pass_valid.proofs.Within.{FromFunc, from_func, given_by, AllReady}
 use Rattle.ms_pass_valid.proofs.Bounds.{Small, small_at, code_small, sites_few, roots_few}
 use Rattle.ms_pass_valid.proofs.Ready.{AllFound, operands_good, edges_good, undefs_same, small_uses, has_mask}
 use Rattle.ms_pass_valid.proofs.ReadyInsts.{op_found, op_good}
+use Rattle.ms_pass_valid.proofs.Shown.{shown, shown_good, shown_moves, shown_uses, shown_undefs}
 use Rattle.std.proofs.lemmas.Bool.{and_parts}
 
 -- ---- what is taken of a module's form, sizes and names at an instruction (each is a fact of lists)
@@ -167,15 +168,18 @@ module _ (numbers : ℕ → Numbering) (m : Module) (v : Valid m) (w : Plain m) 
         let sizes = w.sizes n b p i (there b p i at) in
         let formed = op_is_formed b p i at in
         let good_op = op_good m j a r.func b p s (given_by m) refl i.op (w.calls n b p r.func i r.at at) plain (and_parts (shape_formed i.op) _ (and_parts _ _ formed).0).0 x.types_agree sizes in
+        let told = shown_good (given_by m) i.op good_op in
         record {
           good = good_op;
-          moves = moves_good m j v a n b p r.func i r.at at;
+          told = told;
+          moves = shown_moves (given_by m) (ConstGood m j) i.op (moves_good m j v a n b p r.func i r.at at);
           slots = slots_good m j a;
-          reads = operands_good m j a r.func b p s (operands i.op) (op_found m j a r.func b p s i.op formed x.types_agree x.names_known sizes)
-              (subst (All IsUseDefined) (plain_uses r.func b p s i.op plain) x.uses_defined);
-          small = small_uses (given_by m) _ i.op good_op;
+          reads = operands_good m j a r.func b p s (operands (shown i.op)) (op_found m j a r.func b p s i.op formed x.types_agree x.names_known sizes)
+              (subst (All IsUseDefined) (plain_uses r.func b p s i.op plain ∙ sym (shown_uses (spot r.func b p s) b p i.op)) x.uses_defined);
+          small = small_uses (given_by m) _ (shown i.op) told;
           site = few _ small.0;
-          root = roots _ _ _ small.1 (unmarked_roots (given_by m).func i (w.unmarked n b p i (there b p i at)));
+          root = roots _ _ _ small.1
+              (subst (λ k. k ≤ roots_in (given_by m).func i) (sym (shown_undefs i.op)) (unmarked_roots (given_by m).func i (w.unmarked n b p i (there b p i at))));
           masked = λ y named. has_masks b p i y at named;
         }
       where
@@ -195,7 +199,7 @@ module _ (numbers : ℕ → Numbering) (m : Module) (v : Valid m) (w : Plain m) 
         let found = op_found m j a r.func b p s i.op (op_is_formed b p i at) x.types_agree x.names_known (w.sizes n b p i (there b p i at)) in
         record {
           value = (and_parts (is_value_type t) _ (and_parts (shape_formed (op.Phi t es)) _ (and_parts _ _ formed).0).0).0;
-          edges = edges_good m j a r.func b p s t es (subst (λ o. AllFound m j a r.func b p s (operands o)) is found) (subst (λ o. All IsUseDefined (inst_uses (spot r.func b p s) o)) is x.uses_defined);
+          edges = edges_good m j a r.func b p s t es (subst (λ o. AllFound m j a r.func b p s (operands (shown o))) is found) (subst (λ o. All IsUseDefined (inst_uses (spot r.func b p s) o)) is x.uses_defined);
           root = roots _ _ _ small.1
               (subst (λ k. k ≤ roots_in (given_by m).func i) (ap (λ o. count_undefs (operands o)) is ∙ sym (undefs_same t es)) (unmarked_roots (given_by m).func i (w.unmarked n b p i (there b p i at))));
         }

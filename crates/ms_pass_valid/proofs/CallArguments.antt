@@ -38,7 +38,7 @@ no_fault true a n e = (refl, e)
 no_fault false a n e = grind arith
 
 -- arguments that fit parameters have their types
-argument_types : (fits : Ty × Operand → Bool) (n : ℕ) (ps qs : List Ty) (args : List (Ty × Operand)) → argument_fault fits n ps args ≡ None → types_eq ps qs ≡ true
+argument_types : (fits : ℕ → Ty × Operand → Bool) (n : ℕ) (ps qs : List Ty) (args : List (Ty × Operand)) → argument_fault fits n ps args ≡ None → types_eq ps qs ≡ true
     → list_all is_value_type qs ≡ true → map (λ a. a.0) args ≡ qs
 argument_types fits n [] [] [] e h v = refl
 argument_types fits n [] [] (a ∷ args) e h v = grind arith
@@ -46,11 +46,11 @@ argument_types fits n [] (q ∷ qs) args e h v = absurd (true≢false (sym h))
 argument_types fits n (p ∷ ps) [] args e h v = absurd (true≢false (sym h))
 argument_types fits n (p ∷ ps) (q ∷ qs) [] e h v = grind arith
 argument_types fits n (p ∷ ps) (q ∷ qs) (a ∷ args) e h v =
-    let parts = no_fault (type_eq a.0 p && fits a) (argument_fault fits (suc n) ps args) n e in
+    let parts = no_fault (type_eq a.0 p && fits n a) (argument_fault fits (suc n) ps args) n e in
     let same = and_parts (type_eq p q) (types_eq ps qs) h in
     let values = and_parts (is_value_type q) (list_all is_value_type qs) v in
     let first : p ≡ q = type_is p q values.0 same.0 in
-    ap₂ (λ t ts. t ∷ ts) (type_is a.0 q values.0 (subst (λ t. type_eq a.0 t ≡ true) first (and_parts (type_eq a.0 p) (fits a) parts.0).0))
+    ap₂ (λ t ts. t ∷ ts) (type_is a.0 q values.0 (subst (λ t. type_eq a.0 t ≡ true) first (and_parts (type_eq a.0 p) (fits n a) parts.0).0))
     (argument_types fits (suc n) ps qs args parts.1 same.1 values.1)
 
 -- an answer is a value, where there is one

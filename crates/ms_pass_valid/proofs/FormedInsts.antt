@@ -63,6 +63,7 @@ module _ (m j : Module) (K : Name → Ty → Type 0) (named : (x : Name) (t : Ty
   params_values function.LoadOrigin = refl
   params_values function.Size = refl
   params_values function.CheckFormat = refl
+  params_values function.ThreadResult = refl
   params_values (function.Move k) = word_values (move_fn k) (move_width k)
 
   move_formed : (k : BitMove) → (result_formed (runtime_signature (function.Move k)).ret && is_global_name (runtime_name (function.Move k)) && not (name_eq (runtime_name (function.Move k)) main_name)) ≡ true
@@ -96,6 +97,7 @@ module _ (m j : Module) (K : Name → Ty → Type 0) (named : (x : Name) (t : Ty
   callee_formed function.LoadOrigin = refl
   callee_formed function.Size = refl
   callee_formed function.CheckFormat = refl
+  callee_formed function.ThreadResult = refl
   callee_formed (function.Move k) = move_formed k
 
   shape_is : (o : Op) → OpFits o → shape_formed o ≡ true

@@ -26,7 +26,7 @@ use Rattle.ms_valid.specs.NamesKnown.{knows, unknown_of}
 use Rattle.ms_valid.specs.NamesOnce.{repeats}
 use Rattle.ms_ir.specs.Spots.{spot}
 use Rattle.ms_valid.specs.Paths.{insts_of, IsDefined}
-use Rattle.ms_valid.specs.TypesAgree.{operand_fits, is_variable, is_printf}
+use Rattle.ms_valid.specs.TypesAgree.{operand_fits, is_variable, is_printf, is_start, is_create}
 use Rattle.ms_valid.specs.PhisFit.{edges_agree, edges_fit, count_name, edges_between}
 use Rattle.ms_ir.specs.Layout.{width_of}
 use Rattle.ms_ir.specs.Signatures.{runtime_signature, signature_of, slot_globals}
@@ -48,6 +48,7 @@ use Rattle.ms_pass_valid.proofs.Numerals.{msan_inserted}
 use Rattle.ms_pass_valid.proofs.Inserted.{ConstGood, inserted_fits, marked_fits}
 use Rattle.ms_pass_valid.proofs.Own.{unknown_split, unknown_kept, edges_same, names_same, locals_kept, op_kept, fits_kept, unknown_parts}
 use Rattle.ms_pass_valid.proofs.PhiClauses.{mask_labels, origin_labels, masks_agree, origins_agree, phi_same, LabelsKnown, edges_agree_types, edges_known, edges_defined}
+use Rattle.ms_pass_valid.proofs.Shown.{shown, shown_uses}
 use Rattle.ms_pass_valid.proofs.FuncFits.{OperandGood, OperandsGood, PlainGood, EntryGood, EdgeGood, EdgesGood, PhiGood, PhiFits, OwnAt, StandsAt, all_stand, value_kept}
 use Rattle.std.proofs.lemmas.Bool.{and_parts}
 
@@ -123,7 +124,8 @@ pub record ModuleReady (m j : Module) : Type 0 where
   pub symbol : (x : Name) → has_name (symbols m) x ≡ true → has_name (symbols j) x ≡ true
   pub declared : (fn : RuntimeFn) → MayCall (ConstGood m j) fn → signature_of j (runtime_name fn) ≡ Some (runtime_signature fn)
   pub runtime_symbol : (fn : RuntimeFn) → MayCall (ConstGood m j) fn → has_name (symbols j) (runtime_name fn) ≡ true
-  pub own_call : (x : Name) → has_name (symbols m) x ≡ true → (signature_of j x ≡ signature_of m x) × (is_printf j x ≡ is_printf m x)
+  pub own_call : (x : Name) → has_name (symbols m) x ≡ true → (signature_of j x ≡ signature_of m x) × (is_printf j x ≡ is_printf m x) × (is_create j x ≡ is_create m x)
+  pub starts : (o : Operand) → is_start j o ≡ is_start m o
   pub own_external : (x : Name) → external_named (func_index j.funcs) x ≡ external_named (func_index m.funcs) x
   pub slot : (x : Name) → has_name (map (λ g. g.name) slot_globals) x ≡ true → (is_variable j x ≡ true) × (has_name (symbols j) x ≡ true)
 
@@ -246,7 +248,8 @@ module _ (m j : Module) (given : Given) (env : Env) (size : ℕ) (f : Func) (h :
   own_defined_uses b p q front s i (op.Phi t es) is at e = own_edges b q s t es (r.phi_good b p i t es at is).edges
   own_defined_uses b p q front s i o is at e =
       subst (λ k. All IsUseDefined (inst_uses (spot g b k s) o)) (sym e)
-      (own_uses b p front s (operands o) (subst (λ x. OperandsGood f (ConstGood m j) b p (operands x)) is (r.good b p i at (ap is_phi is)).reads))
+      (subst (All IsUseDefined) (shown_uses (spot g b (begins given env f h n b p + front) s) b (begins given env f h n b p + front) o)
+      (own_uses b p front s (operands (shown o)) (subst (λ x. OperandsGood f (ConstGood m j) b p (operands (shown x))) is (r.good b p i at (ap is_phi is)).reads)))
 
   -- ---- own instructions
 
@@ -261,7 +264,7 @@ module _ (m j : Module) (given : Given) (env : Env) (size : ℕ) (f : Func) (h :
       let more = λ (x : Ty × Operand). operand_fits j (value_type g) x.0 x.1 in
       record {
         names_known = unknown_kept m j (locals f) (locals g) o.0 site (mentions i.op) knows_too o.1.names_known;
-        types_agree = op_kept m j f g a.types (names_same given env f h n) refl fits more (λ x e. fits_kept m j f g a.types a.variable values x.0 x.1 e) i.op
+        types_agree = op_kept m j f g a.types (names_same given env f h n) refl fits more (λ x e. fits_kept m j f g a.types a.variable values x.0 x.1 e) a.starts i.op
             (λ q x as' is. a.own_call x (unknown_split m (locals f) o.0 (OfGlobal x) (operands_mentions as') (subst (λ z. unknown_of m (locals f) o.0 (mentions z) ≡ []) is o.1.names_known)).0)
             o.1.types_agree;
         phis_fit = edges_same given env f h n b k.place q o.0 site i.op ∙ o.1.phis_fit;

@@ -39,12 +39,13 @@ use Rattle.ms_tasks.specs.Known.{OneName, FewNumbers}
 use Rattle.ms_tasks.specs.SlotTasks.{hand_tasks, take_tasks, take_value, take_parameters, param_mask, param_origin, result_mask_slot, result_origin_slot}
 use Rattle.ms_tasks.specs.PlaneTasks.{saves, saved_by, saved_tasks, plane_tasks, save_tasks}
 use Rattle.ms_tasks.specs.PassLists.{phi_pair, phi_code, mask_edges, origin_from, origins_by, origin_edges, emit_op}
-use Rattle.ms_pass_valid.proofs.Checked.{Allowed, IsInt, OperandFits, InstFits}
+use Rattle.ms_pass_valid.proofs.Checked.{Allowed, IsInt, OperandFits, TasksFit, InstFits}
 use Rattle.ms_pass_valid.proofs.Emitted.{is_own_call}
 use Rattle.ms_pass_valid.proofs.Emitted.{OperandKnown, OperandsKnown, AllTracked, OpGood, MovesGood}
 use Rattle.ms_pass_valid.proofs.Lists.{TypedIn, typed_left, typed_right, typed_at, Targets, targets_right, targets_left, tasks_fit, tasks_typed}
 use Rattle.ms_pass_valid.proofs.Words.{tracked_fits, wide, no_bits, all_bits, number_fits}
 use Rattle.ms_pass_valid.proofs.Rounds.{SmallUses, SlotsGood, params_fit, before_fits, plane_fits}
+use Rattle.ms_pass_valid.proofs.Shown.{shown, shown_saves, shown_result, same_before, same_behind}
 use Rattle.ms_pass_valid.proofs.Paths.{In}
 use Rattle.ms_pass_valid.proofs.OnceTyped.{param_typed}
 use Rattle.ms_pass_valid.proofs.OncePass.{once_kept}
@@ -163,6 +164,10 @@ save_typed func saved (op.Call q y as') ts e = by_name (external_named func y) e
     by_name (Some c) h = by_external c h
 save_typed func saved _ ts e = grind arith
 
+-- an instruction as what is inserted round it sees it
+abbrev as_shown : Inst → Inst
+as_shown i = record i { op = shown i.op }
+
 -- an operand of an instruction that stands at a place of a function
 abbrev pub OperandGood : Func → Allowed → ℕ → ℕ → Ty → Operand → Type 0
 OperandGood f C b p t (operand.Local x) = (value_type f x ≡ Some t) × IsDefined f (record { block = b; place = p; name = x })
@@ -172,15 +177,16 @@ abbrev pub OperandsGood : Func → Allowed → ℕ → ℕ → List (Ty × Opera
 OperandsGood f C b p [] = Unit {0}
 OperandsGood f C b p (o ∷ os) = (is_value_type o.0 ≡ true) × OperandGood f C b p o.0 o.1 × OperandsGood f C b p os
 
--- an instruction that is no phi, where what stands at it is given
+-- an instruction that is no phi, where what stands at it is given: its operands as what is inserted sees them
 pub record PlainGood (given : Given) (f : Func) (C : Allowed) (b p : ℕ) (h : Here) (i : Inst) : Type 0 where
   pub good : OpGood given i.op
-  pub moves : MovesGood given C i.op
+  pub told : OpGood given (shown i.op)
+  pub moves : MovesGood given C (shown i.op)
   pub slots : SlotsGood C
-  pub reads : OperandsGood f C b p (operands i.op)
-  pub small : SmallUses (operands i.op) (uses given.func h.main i.op)
+  pub reads : OperandsGood f C b p (operands (shown i.op))
+  pub small : SmallUses (operands (shown i.op)) (uses given.func h.main (shown i.op))
   pub site : h.site < 2 ^ 32
-  pub root : h.root + count_undefs (operands i.op) + 1 < 2 ^ 32
+  pub root : h.root + count_undefs (operands (shown i.op)) + 1 < 2 ^ 32
   pub masked : (x : Name) → i.result ≡ Some x → HasMask i.op
 
 -- what the entry of a function needs: a block, slots, and few parameters that are values
@@ -323,8 +329,10 @@ module _ (given : Given) (env : Env) (size : ℕ) (one : OneName env) (few : Few
       let ss = save_tasks given.func m i.op ts in
       let d = define_typed given.func v i.op ts t (good_answers given i.op good_i.good) (good_i.masked x named) plain w gives in
       let same = result_is given env i.result x v i.op ts named number unclean in
-      let all = tracked_fits C AnyName env k.root (operands i.op) (few_roots k.root (count_undefs (operands i.op)) good_i.root) (any_operands b p (operands i.op) good_i.reads) in
-      let fits = before_fits C AnyName given env k.root k i refl good_i.good good_i.moves good_i.slots good_i.site good_i.small all m in
+      let seen = operands (shown i.op) in
+      let all = tracked_fits C AnyName env k.root seen (few_roots k.root (count_undefs seen) good_i.root) (any_operands b p seen good_i.reads) in
+      let fits = subst (TasksFit AnyName C) (same_before given env k m i.result i.op)
+      (before_fits C AnyName given env k.root k (as_shown i) refl good_i.told good_i.moves good_i.slots good_i.site good_i.small all m) in
       let there = λ (y : Name) (u : Ty) (q : Targets (define_tasks given.func v i.op ts) y u).
       tasks_typed C (before_tasks given env k i m) AnyName (start given i m) fits y u (targets_right hs (cs ++ (bs ++ (rs ++ ss))) y u (targets_right cs (bs ++ (rs ++ ss)) y u (targets_right bs (rs ++ ss) y u
       (targets_left rs ss y u (subst (λ l. Targets l y u) (sym same) q))))) in
@@ -335,8 +343,10 @@ module _ (given : Given) (env : Env) (size : ℕ) (one : OneName env) (few : Few
       → TypedIn (tasks_code (after_tasks given env k i m) m2).code (mask_name v) (mask_type t) × TypedIn (tasks_code (after_tasks given env k i m) m2).code (origin_name v) (Int 32)
   after_typed b p k i m m2 good_i own x v t named number unclean gives =
       let ts = tracked env k.root (operands i.op) in
-      let all = tracked_fits C AnyName env k.root (operands i.op) (few_roots k.root (count_undefs (operands i.op)) good_i.root) (any_operands b p (operands i.op) good_i.reads) in
-      let fits = plane_fits C AnyName given env k.root k i.result i.op good_i.good good_i.slots (λ y u e q. tt) m (λ e. tt) good_i.site good_i.root all in
+      let seen = operands (shown i.op) in
+      let all = tracked_fits C AnyName env k.root seen (few_roots k.root (count_undefs seen) good_i.root) (any_operands b p seen good_i.reads) in
+      let fits = subst (TasksFit AnyName C) (same_behind given env k m i.result i.op)
+      (plane_fits C AnyName given env k.root k i.result (shown i.op) good_i.told good_i.slots (λ y u e q. tt) m (λ e. tt) good_i.site good_i.root all) in
       let two = subst (λ r. BothTyped v t (plane_tasks given env k m r i.op ts)) (sym named)
       (called_typed given env k m x v i.op ts t number unclean own (good_i.masked x named) gives) in
       (tasks_typed C (after_tasks given env k i m) AnyName m2 fits (mask_name v) (mask_type t) two.0, tasks_typed C (after_tasks given env k i m) AnyName m2 fits (origin_name v) (Int 32) two.1)
@@ -436,10 +446,18 @@ module _ (given : Given) (env : Env) (size : ℕ) (one : OneName env) (few : Few
     same_lists : emitted b p i ≡ emit_tasks given env place_here i number_here
     same_lists = plain_emit given env place_here i number_here i.op plain
 
-    tracked_at_place : (r : ℕ) → AllTracked (KnownAt g b (begin + r)) C (tracked env place_here.root (operands i.op))
+    abbrev seen : List (Ty × Operand)
+    seen = operands (shown i.op)
+
+    tracked_at_place : (r : ℕ) → AllTracked (KnownAt g b (begin + r)) C (tracked env place_here.root seen)
     tracked_at_place r =
-        tracked_fits C (KnownAt g b (begin + r)) env place_here.root (operands i.op) (few_roots place_here.root (count_undefs (operands i.op)) its.root)
-        (operands_known b p r (operands i.op) its.reads)
+        tracked_fits C (KnownAt g b (begin + r)) env place_here.root seen (few_roots place_here.root (count_undefs seen) its.root) (operands_known b p r seen its.reads)
+
+    before_list : TasksFit (KnownAt g b (begin + 0)) C (before_tasks given env place_here i number_here)
+    before_list =
+        let K = KnownAt g b (begin + 0) in
+        subst (TasksFit K C) (same_before given env place_here number_here i.result i.op)
+        (before_fits C K given env place_here.root place_here (as_shown i) refl its.told its.moves its.slots its.site its.small (tracked_at_place 0) number_here)
 
     pub before_inserted : (r : ℕ) (j : Inst) → slice_get (emitted b p i).before r ≡ Some j → InstFits (KnownAt g b (begin + r)) C j
     before_inserted r j e =
@@ -447,7 +465,7 @@ module _ (given : Given) (env : Env) (size : ℕ) (one : OneName env) (few : Few
         let code = (tasks_code ts (start given i number_here)).code in
         let same : (emitted b p i).before ≡ code = ap (λ x. x.before) same_lists in
         let K = KnownAt g b (begin + 0) in
-        let fits = tasks_fit C ts K (start given i number_here) (before_fits C K given env place_here.root place_here i refl its.good its.moves its.slots its.site its.small (tracked_at_place 0) number_here) in
+        let fits = tasks_fit C ts K (start given i number_here) before_list in
         subst (λ q. InstFits (KnownAt g b q) C j) {x = begin + 0 + r} {y = begin + r} (omega arith)
         (placed g once b C code (begin + 0) fits
         (λ l k d. ap (slice_get (insts_of g b)) {x = begin + 0 + l} {y = begin + l} (omega arith)
@@ -468,10 +486,9 @@ module _ (given : Given) (env : Env) (size : ℕ) (one : OneName env) (few : Few
         let code = (tasks_code all (start given i number_here)).code in
         let same : (emitted b p i).before ≡ code = ap (λ x. x.before) same_lists in
         let K = KnownAt g b (begin + 0) in
-        let fits = before_fits C K given env place_here.root place_here i refl its.good its.moves its.slots its.site its.small (tracked_at_place 0) number_here in
         let found = targets_right hs (cs ++ (bs ++ (rs ++ ss))) y (Int 64) (targets_right cs (bs ++ (rs ++ ss)) y (Int 64) (targets_right bs (rs ++ ss) y (Int 64)
         (targets_right rs ss y (Int 64) (save_typed given.func number_here i.op ts e)))) in
-        let t = typed_at code y (Int 64) (tasks_typed C all K (start given i number_here) fits y (Int 64) found) in
+        let t = typed_at code y (Int 64) (tasks_typed C all K (start given i number_here) before_list y (Int 64) found) in
         let here : slice_get (emitted b p i).before t.0 ≡ Some t.1 = ap (λ z. slice_get z t.0) same ∙ t.2 in
         let within = place_within (emitted b p i).before t.0 t.1 here in
         let known = known_next g once b (begin + t.0) t.1 (round_code b p i at t.0 t.1 (slice_left (emitted b p i).before (i ∷ (emitted b p i).after) t.0 t.1 here)) y (Int 64) (inr (t.3, t.4)) in
@@ -488,10 +505,11 @@ module _ (given : Given) (env : Env) (size : ℕ) (one : OneName env) (few : Few
         let l = length (emitted b p i).before in
         let K = KnownAt g b (begin + (l + 1)) in
         let here_q : slice_get (insts_of g b) (begin + (l + 0)) ≡ Some i = inst_code b p i at in
-        let fits = tasks_fit C ts K m (plane_fits C K given env place_here.root place_here i.result i.op its.good its.slots
+        let fits = tasks_fit C ts K m (subst (TasksFit K C) (same_behind given env place_here number_here i.result i.op)
+        (plane_fits C K given env place_here.root place_here i.result (shown i.op) its.told its.slots
         (λ x t named gives. subst (λ q. KnownAt g b q x t) {x = begin + (l + 0) + 1} {y = begin + (l + 1)} (omega arith)
-        (known_next g once b (begin + (l + 0)) i here_q x t (inr (named, gives))))
-        number_here saved_known its.site its.root (tracked_at_place (l + 1))) in
+        (known_next g once b (begin + (l + 0)) i here_q x t (inr (named, sym (shown_result i.op) ∙ gives))))
+        number_here (λ e. saved_known (sym (shown_saves given.func i.op) ∙ e)) its.site its.root (tracked_at_place (l + 1)))) in
         subst (λ q. InstFits (KnownAt g b q) C j) {x = begin + (l + 1) + r} {y = begin + (l + suc r)} (omega arith)
         (placed g once b C code (begin + (l + 1)) fits
         (λ a k d. ap (slice_get (insts_of g b)) {x = begin + (l + 1) + a} {y = begin + (l + suc a)} (omega arith)

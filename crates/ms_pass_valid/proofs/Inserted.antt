@@ -1,6 +1,6 @@
 -- An inserted instruction that fits breaks no clause.
 use Rattle.std.proofs.Common.{◌≡◌, ℕ, suc, List, [], ◌∷◌, ◌++◌, Bool, true, false, Option, Some, None, refl, ap, ◌∙◌, arith}
-use Rattle.std.specs.Prelude.{◌&&◌, ◌||◌, not, All, map, flat_map, filter, drop, if◌then◌else◌, cond, is_some}
+use Rattle.std.specs.Prelude.{◌&&◌, ◌||◌, not, All, map, flat_map, filter, drop, if◌then◌else◌, cond, is_some, nat_eq}
 use Rattle.std.specs.List.{list_any, list_all}
 use Rattle.std.specs.Bool.{beq}
 use Rattle.std.specs.Option.{option_or}
@@ -31,7 +31,7 @@ use Rattle.ms_ir.specs.Written.{Mention, OfLocal, OfGlobal, operand_mentions, op
 use Rattle.ms_ir.specs.Locals.{Spelled, locals, symbols, value_type}
 use Rattle.ms_valid.specs.NamesKnown.{knows, spelled, unknown_of}
 use Rattle.ms_ir.specs.Spots.{Spot, spot}
-use Rattle.ms_valid.specs.TypesAgree.{operand_fits, is_type, first_misfit, fault_unless, argument_fault, printf_fault, is_printf, call_fault, op_fault}
+use Rattle.ms_valid.specs.TypesAgree.{operand_fits, is_type, first_misfit, fault_unless, argument_fault, printf_fault, is_printf, is_start, is_create, call_fault, op_fault}
 use Rattle.ms_valid.specs.PhisFit.{edges_fit}
 use Rattle.ms_ir.specs.Signatures.{runtime_signature, signature_of}
 use Rattle.ms_valid.specs.ExternalsFit.{name_unless, is_number, called_names, flag_fits, flagged_callees}
@@ -146,12 +146,12 @@ module _ (m j : Module) (g : Func) (b q site : ℕ)
   no_misfit k [] p = refl
   no_misfit k (o ∷ os) p = ap (λ c. if c then first_misfit fits (suc k) os else Some k) (operand_agrees o.0 o.1 p.0) ∙ no_misfit (suc k) os p.1
 
-  no_argument_fault : (k : ℕ) (ts : List Ty) (os : List (Ty × Operand)) → map (λ a. a.0) os ≡ ts → AllFitting os → argument_fault fits k ts os ≡ None
+  no_argument_fault : (k : ℕ) (ts : List Ty) (os : List (Ty × Operand)) → map (λ a. a.0) os ≡ ts → AllFitting os → argument_fault (λ n. fits) k ts os ≡ None
   no_argument_fault k [] [] e p = refl
   no_argument_fault k (t ∷ ts) [] e p = grind arith
   no_argument_fault k [] (o ∷ os) e p = grind arith
   no_argument_fault k (t ∷ ts) (o ∷ os) e p =
-      ap₂ (λ c d. if c && d then argument_fault fits (suc k) ts os else Some k)
+      ap₂ (λ c d. if c && d then argument_fault (λ n. fits) (suc k) ts os else Some k)
       (ap (λ u. type_eq u t) {x = o.0} {y = t} (first_same o.0 t (map (λ a. a.0) os) ts e) ∙ type_same t) (operand_agrees o.0 o.1 p.0)
       ∙ no_argument_fault (suc k) ts os (ap (drop 1) e) p.1
     where
@@ -201,7 +201,24 @@ module _ (m j : Module) (g : Func) (b q site : ℕ)
   not_printf function.LoadOrigin = refl
   not_printf function.Size = refl
   not_printf function.CheckFormat = refl
+  not_printf function.ThreadResult = refl
   not_printf (function.Move k) = refl
+
+  not_create : (fn : RuntimeFn) → is_create j (runtime_name fn) ≡ false
+  not_create function.Check = refl
+  not_create function.CheckMemory = refl
+  not_create function.CheckString = refl
+  not_create function.Blind = refl
+  not_create function.Poison = refl
+  not_create function.Unpoison = refl
+  not_create function.Copy = refl
+  not_create function.Fill = refl
+  not_create function.StoreOrigin = refl
+  not_create function.LoadOrigin = refl
+  not_create function.Size = refl
+  not_create function.CheckFormat = refl
+  not_create function.ThreadResult = refl
+  not_create (function.Move k) = refl
 
   ret_same : (fn : RuntimeFn) → result_type_eq (runtime_signature fn).ret (runtime_signature fn).ret ≡ true
   ret_same function.Check = refl
@@ -216,6 +233,7 @@ module _ (m j : Module) (g : Func) (b q site : ℕ)
   ret_same function.LoadOrigin = refl
   ret_same function.Size = refl
   ret_same function.CheckFormat = refl
+  ret_same function.ThreadResult = refl
   ret_same (function.Move k) = type_same (Int (bits_of (move_width k)))
 
   call_agrees : (ret : Option Ty) (callee : Name) (args : List (Ty × Operand)) → (s : CallFits ret callee args) → MayCall (ConstGood m j) s.function → AllFitting args → call_fault j fits (signature_of j callee) ret callee args ≡ None
@@ -223,7 +241,8 @@ module _ (m j : Module) (g : Func) (b q site : ℕ)
       let fn = s.function in
       ap₂ (λ x r. call_fault j fits (signature_of j x) r x args) s.named s.gives
       ∙ ap (λ d. call_fault j fits d (runtime_signature fn).ret (runtime_name fn) args) (declared fn may)
-      ∙ ap (λ c. option_or (if c then printf_fault fits args else argument_fault fits 0 (runtime_signature fn).params args) (fault_unless (result_type_eq (runtime_signature fn).ret (runtime_signature fn).ret))) (not_printf fn)
+      ∙ ap₂ (λ c d. option_or (if c then printf_fault fits args else argument_fault (λ k a. if d && nat_eq k 2 then is_start j a.1 else fits a) 0 (runtime_signature fn).params args) (fault_unless (result_type_eq (runtime_signature fn).ret (runtime_signature fn).ret)))
+      (not_printf fn) (not_create fn)
       ∙ ap₂ (λ x c. option_or x (fault_unless c)) (no_argument_fault 0 (runtime_signature fn).params args s.takes p) (ret_same fn)
 
   op_agrees : (o : Op) (s : OpFits o) → MayAsk (ConstGood m j) o s → AllFitting (operands o) → op_fault j g fits o ≡ None

@@ -15,6 +15,7 @@ pub mod FuncFits
 pub mod Numerals
 pub mod Inserted
 pub mod Own
+pub mod Shown
 pub mod PhiClauses
 pub mod FuncClauses
 pub mod Within

@@ -1,11 +1,13 @@
 -- What the instrumented module has outside its instructions.
-use Rattle.std.proofs.Common.{◌≡◌, ℕ, zero, suc, ◌+◌, List, [], ◌∷◌, ◌++◌, Bool, true, false, Some, None, refl, sym, ap, subst, ◌∙◌, arith, inl, inr, ⊎_elim, true≢false}
+use Rattle.std.proofs.Common.{◌≡◌, ℕ, zero, suc, ◌+◌, List, [], ◌∷◌, ◌++◌, Bool, true, false, Option, Some, None, refl, sym, ap, subst, ◌∙◌, arith, inl, inr, ⊎_elim, true≢false}
 use Rattle.std.specs.Prelude.{◌&&◌, ◌||◌, not, map, flat_map, slice_get, unwrap_or, if◌then◌else◌, IsTrue, IsFalse, codes, is_some, option_map}
 use Rattle.std.specs.List.{list_any, list_all}
 use Rattle.std.specs.Option.{option_or}
 use Rattle.std.proofs.Math.Path.{ap₂}
 use Rattle.ms_ir.specs.declared.syntax.Name.{Name}
-use Rattle.ms_ir.specs.declared.syntax.Ty.{Int}
+use Rattle.ms_ir.specs.declared.syntax.Ty.{Int, Ptr}
+use Rattle.ms_ir.specs.declared.syntax.Operand.{Operand}
+use Rattle.ms_ir.specs.declared.syntax.Operand.TheVariants as operand
 use Rattle.ms_ir.specs.declared.syntax.Name.TheVariants.{Text}
 use Rattle.ms_valid.proofs.TypeShapes.{type_mentions-array}
 use Rattle.ms_valid.proofs.ByParts.{fits_outside}
@@ -18,7 +20,7 @@ use Rattle.ms_ir.specs.declared.calls.RuntimeFn.{RuntimeFn}
 use Rattle.ms_ir.specs.declared.calls.RuntimeFn.TheVariants as function
 use Rattle.ms_ir.specs.Names.{name_eq, lookup, is_reserved, is_kept, externals, runtime_name}
 use Rattle.ms_ir.specs.Code.{func_at, over_blocks, one_unmarked, roots_in, func_index}
-use Rattle.ms_valid.specs.TypesAgree.{is_variable, is_printf}
+use Rattle.ms_valid.specs.TypesAgree.{is_variable, is_printf, is_start, is_create}
 use Rattle.ms_ir.specs.Equal.{has_name}
 use Rattle.ms_ir.specs.Written.{Mention, OfType, OfLocal, OfGlobal, type_mentions}
 use Rattle.ms_ir.specs.Locals.{symbols, global_names, declared_names, function_names, type_names, locals}
@@ -28,7 +30,7 @@ use Rattle.std.proofs.lemmas.List.{map-append}
 use Rattle.ms_pass_valid.proofs.Own.{unknown_kept}
 use Rattle.ms_valid.specs.NamesOnce.{repeats, at_sign, percent_sign, function_duplicates, duplicates}
 use Rattle.ms_valid.specs.HasMain.{is_main, defines_main}
-use Rattle.ms_ir.specs.Signatures.{decl_signature, func_signature, runtime_signature, defined_signature, declared_signature, signature_of, slot_globals, runtime_declarations}
+use Rattle.ms_ir.specs.Signatures.{Signature, signature_eq, answers, decl_signature, func_signature, runtime_signature, defined_signature, declared_signature, signature_of, slot_globals, runtime_declarations}
 use Rattle.ms_valid.specs.ReadLimits.{mentioned, func_names}
 use Rattle.ms_valid.specs.Uninstrumented.{IsUninstrumented}
 use Rattle.ms_valid.specs.Valid.{Valid}
@@ -154,10 +156,19 @@ module _ (numbers : ℕ → Numbering) (m : Module) (u : IsUninstrumented m) whe
       ap (λ o. if name_eq f.name x then Some 0 else option_map suc o)
       (own_index given (λ k. nums (k + 1)) fs (site + over_blocks one_unmarked f.blocks) (root + over_blocks (roots_in given.func) f.blocks) x)
 
-  own_called : (x : Name) → has_name (symbols m) x ≡ true → (signature_of j x ≡ signature_of m x) × (is_printf j x ≡ is_printf m x)
+  own_called : (x : Name) → has_name (symbols m) x ≡ true → (signature_of j x ≡ signature_of m x) × (is_printf j x ≡ is_printf m x) × (is_create j x ≡ is_create m x)
   own_called x e =
       let ds = own_decls m.decls x (symbol_free x e) in
-      (ap₂ option_or (own_funcs (given_by m) numbers m.funcs 1 0 x) ds, ap (λ o. name_eq x (Text (codes "printf")) && is_some o) ds)
+      (ap₂ option_or (own_funcs (given_by m) numbers m.funcs 1 0 x) ds, ap (λ o. name_eq x (Text (codes "printf")) && is_some o) ds, ap (λ o. name_eq x (Text (codes "pthread_create")) && is_some o) ds)
+
+  own_starts : (o : Operand) → is_start j o ≡ is_start m o
+  own_starts (operand.Global x) = ap (λ (o : Option Signature). elim o [ Some s ↦ signature_eq s (answers Ptr (Ptr ∷ [])) | None ↦ false ]) (own_funcs (given_by m) numbers m.funcs 1 0 x)
+  own_starts (operand.Local x) = refl
+  own_starts (operand.Int n) = refl
+  own_starts operand.Null = refl
+  own_starts operand.Undef = refl
+  own_starts operand.Poison = refl
+  own_starts (operand.Offset x steps) = refl
 
   other_name : (y x : Name) → is_reserved y ≡ false → is_reserved x ≡ true → name_eq y x ≡ false
   other_name y x free kept = by_test (name_eq y x) refl
@@ -199,6 +210,7 @@ module _ (numbers : ℕ → Numbering) (m : Module) (u : IsUninstrumented m) whe
     declared = signature_there;
     runtime_symbol = runtime_known;
     own_call = own_called;
+    starts = own_starts;
     own_external = λ x. ap (λ o. if is_some o then None else lookup externals x) (own_index (given_by m) numbers m.funcs 1 0 x);
     slot = slot_known;
   }

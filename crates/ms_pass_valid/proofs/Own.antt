@@ -23,7 +23,7 @@ use Rattle.ms_ir.specs.Written.{Mention, targets}
 use Rattle.ms_ir.specs.Locals.{Spelled, locals, block_locals, results, value_type, block_names, block_name_at}
 use Rattle.ms_valid.specs.NamesKnown.{knows, spelled, unknown_of}
 use Rattle.ms_ir.specs.Spots.{spot}
-use Rattle.ms_valid.specs.TypesAgree.{operand_fits, is_type, is_variable, first_misfit, first_misstep, leads_into, number_or_zero, step_fits, fault_unless, cast_allows, differ, returns_fit, op_fault, argument_fault, printf_fault, is_printable, is_printf, call_fault}
+use Rattle.ms_valid.specs.TypesAgree.{operand_fits, is_type, is_variable, first_misfit, first_misstep, leads_into, number_or_zero, step_fits, fault_unless, cast_allows, differ, returns_fit, op_fault, argument_fault, is_start, is_create, fits_call, printf_fault, is_printable, is_printf, call_fault}
 use Rattle.ms_valid.specs.PhisFit.{count_name, edges_between, edges_agree, edges_fit}
 use Rattle.ms_tasks.specs.Environments.{Env, Given}
 use Rattle.ms_ir.specs.declared.syntax.Inst.{Inst}
@@ -147,7 +147,7 @@ module _ (given : Given) (env : Env) where
 -- ---- types
 
 module _ (m j : Module) (f g : Func) (types : j.types ≡ m.types) (names : block_names g ≡ block_names f) (ret : g.ret ≡ f.ret)
-    (fits more : Ty × Operand → Bool) (keeps : (o : Ty × Operand) → fits o ≡ true → more o ≡ true) where
+    (fits more : Ty × Operand → Bool) (keeps : (o : Ty × Operand) → fits o ≡ true → more o ≡ true) (starts : (o : Operand) → is_start j o ≡ is_start m o) where
   misfit_kept : (k : ℕ) (os : List (Ty × Operand)) → first_misfit fits k os ≡ None → first_misfit more k os ≡ None
   misfit_kept k [] e = refl
   misfit_kept k (o ∷ os) e = by_test (fits o) refl e (misfit_kept (suc k) os)
@@ -192,15 +192,17 @@ module _ (m j : Module) (f g : Func) (types : j.types ≡ m.types) (names : bloc
       none_both (first_misfit more 0 os) (fault_unless (list_all (has_name (block_names g)) ts)) (misfit_kept 0 os b.0)
       (ap (λ l. fault_unless (list_all (has_name l) ts)) names ∙ b.1)
 
-  arguments_kept : (k : ℕ) (ts : List Ty) (os : List (Ty × Operand)) → argument_fault fits k ts os ≡ None → argument_fault more k ts os ≡ None
-  arguments_kept k [] [] e = refl
-  arguments_kept k (t ∷ ts) [] e = e
-  arguments_kept k [] (o ∷ os) e = e
-  arguments_kept k (t ∷ ts) (o ∷ os) e = by_test (type_eq o.0 t) (fits o) refl refl e (arguments_kept (suc k) ts os)
+  -- arguments that fit by their places fit in both modules
+  arguments_kept : (fit also : ℕ → Ty × Operand → Bool) → ((n : ℕ) (o : Ty × Operand) → fit n o ≡ true → also n o ≡ true) → (k : ℕ) (ts : List Ty) (os : List (Ty × Operand))
+      → argument_fault fit k ts os ≡ None → argument_fault also k ts os ≡ None
+  arguments_kept fit also keep k [] [] e = refl
+  arguments_kept fit also keep k (t ∷ ts) [] e = e
+  arguments_kept fit also keep k [] (o ∷ os) e = e
+  arguments_kept fit also keep k (t ∷ ts) (o ∷ os) e = by_test (type_eq o.0 t) (fit k o) refl refl e (arguments_kept fit also keep (suc k) ts os)
     where
-      by_test : (c d : Bool) → type_eq o.0 t ≡ c → fits o ≡ d → (if c && d then argument_fault fits (suc k) ts os else Some k) ≡ None
-          → (argument_fault fits (suc k) ts os ≡ None → argument_fault more (suc k) ts os ≡ None) → (if type_eq o.0 t && more o then argument_fault more (suc k) ts os else Some k) ≡ None
-      by_test true true s l h go = ap₂ (λ a b. if a && b then argument_fault more (suc k) ts os else Some k) s (keeps o l) ∙ go h
+      by_test : (c d : Bool) → type_eq o.0 t ≡ c → fit k o ≡ d → (if c && d then argument_fault fit (suc k) ts os else Some k) ≡ None
+          → (argument_fault fit (suc k) ts os ≡ None → argument_fault also (suc k) ts os ≡ None) → (if type_eq o.0 t && also k o then argument_fault also (suc k) ts os else Some k) ≡ None
+      by_test true true s l h go = ap₂ (λ a b. if a && b then argument_fault also (suc k) ts os else Some k) s (keep k o l) ∙ go h
       by_test true false s l h go = grind arith
       by_test false d s l h go = grind arith
 
@@ -225,7 +227,7 @@ module _ (m j : Module) (f g : Func) (types : j.types ≡ m.types) (names : bloc
       by_test true false s l h = grind arith
       by_test false d s l h = grind arith
 
-  pub op_kept : (o : Op) → ((r : Option Ty) (x : Name) (as' : List (Ty × Operand)) → o ≡ op.Call r x as' → (signature_of j x ≡ signature_of m x) × (is_printf j x ≡ is_printf m x)) → op_fault m f fits o ≡ None → op_fault j g more o ≡ None
+  pub op_kept : (o : Op) → ((r : Option Ty) (x : Name) (as' : List (Ty × Operand)) → o ≡ op.Call r x as' → (signature_of j x ≡ signature_of m x) × (is_printf j x ≡ is_printf m x) × (is_create j x ≡ is_create m x)) → op_fault m f fits o ≡ None → op_fault j g more o ≡ None
   op_kept (op.Cast o fl from a to) c e =
       let b = both_none (first_misfit fits 0 ((from, a) ∷ [])) (fault_unless (cast_allows o from to)) e in
       none_both (first_misfit more 0 ((from, a) ∷ [])) (fault_unless (cast_allows o from to)) (misfit_kept 0 ((from, a) ∷ []) b.0) b.1
@@ -240,13 +242,24 @@ module _ (m j : Module) (f g : Func) (types : j.types ≡ m.types) (names : bloc
       by_signature : (q : Option Signature) → call_fault m fits q r x as' ≡ None → call_fault j more q r x as' ≡ None
       by_signature None h = let b = both_none (first_misfit fits 0 as') (Some 0) h in none_both (first_misfit more 0 as') (Some 0) (misfit_kept 0 as' b.0) b.1
       by_signature (Some q) h =
-          let b = both_none (if is_printf m x then printf_fault fits as' else argument_fault fits 0 q.params as') (fault_unless (result_type_eq r q.ret)) h in
-          none_both (if is_printf j x then printf_fault more as' else argument_fault more 0 q.params as') (fault_unless (result_type_eq r q.ret))
-          (ap (λ c. if c then printf_fault more as' else argument_fault more 0 q.params as') (c r x as' refl).1 ∙ by_printf (is_printf m x) b.0) b.1
+          let b = both_none (if is_printf m x then printf_fault fits as' else argument_fault (fits_call m fits x) 0 q.params as') (fault_unless (result_type_eq r q.ret)) h in
+          none_both (if is_printf j x then printf_fault more as' else argument_fault (fits_call j more x) 0 q.params as') (fault_unless (result_type_eq r q.ret))
+          (ap (λ c. if c then printf_fault more as' else argument_fault (fits_call j more x) 0 q.params as') (c r x as' refl).1 ∙ by_printf (is_printf m x) b.0) b.1
         where
-          by_printf : (d : Bool) → (if d then printf_fault fits as' else argument_fault fits 0 q.params as') ≡ None → (if d then printf_fault more as' else argument_fault more 0 q.params as') ≡ None
+          by_start : (c : Bool) (n : ℕ) (o : Ty × Operand) → (if c && nat_eq n 2 then is_start m o.1 else fits o) ≡ true → (if c && nat_eq n 2 then is_start j o.1 else more o) ≡ true
+          by_start true n o k = by_second (nat_eq n 2) k
+            where
+              by_second : (t : Bool) → (if t then is_start m o.1 else fits o) ≡ true → (if t then is_start j o.1 else more o) ≡ true
+              by_second true k = starts o.1 ∙ k
+              by_second false k = keeps o k
+          by_start false n o k = keeps o k
+
+          by_place : (n : ℕ) (o : Ty × Operand) → fits_call m fits x n o ≡ true → fits_call j more x n o ≡ true
+          by_place n o k = ap (λ c. if c && nat_eq n 2 then is_start j o.1 else more o) (c r x as' refl).2 ∙ by_start (is_create m x) n o k
+
+          by_printf : (d : Bool) → (if d then printf_fault fits as' else argument_fault (fits_call m fits x) 0 q.params as') ≡ None → (if d then printf_fault more as' else argument_fault (fits_call j more x) 0 q.params as') ≡ None
           by_printf true k = printf_kept as' k
-          by_printf false k = arguments_kept 0 q.params as' k
+          by_printf false k = arguments_kept (fits_call m fits x) (fits_call j more x) by_place 0 q.params as' k
   op_kept (op.Switch t v other cases) c e =
       let b = both_none (first_misfit fits 0 ((t, v) ∷ [])) (fault_unless (differ cases && list_all (has_name (block_names f)) (targets (op.Switch t v other cases)))) e in
       none_both (first_misfit more 0 ((t, v) ∷ [])) (fault_unless (differ cases && list_all (has_name (block_names g)) (targets (op.Switch t v other cases)))) (misfit_kept 0 ((t, v) ∷ []) b.0)

@@ -15,7 +15,7 @@ use Rattle.ms_ir.specs.declared.syntax.Op.TheVariants as op
 use Rattle.ms_ir.specs.declared.syntax.Func.{Func}
 use Rattle.ms_ir.specs.declared.syntax.Module.{Module}
 use Rattle.ms_ir.specs.declared.calls.External.{External}
-use Rattle.ms_ir.specs.declared.calls.External.TheVariants.{Malloc, Calloc, Realloc, Free, Memcpy, Memmove, Memset, Memcmp, Strlen, Putchar, Puts, Getchar, Read, Write, Exit, Abort, LlvmMemcpy, LlvmMemmove, LlvmMemset, LifetimeStart, LifetimeEnd, Printf, LlvmTrap, LlvmAssume, LlvmObjectSize, Word}
+use Rattle.ms_ir.specs.declared.calls.External.TheVariants.{Malloc, Calloc, Realloc, Free, Memcpy, Memmove, Memset, Memcmp, Strlen, Putchar, Puts, Getchar, Read, Write, Exit, Abort, LlvmMemcpy, LlvmMemmove, LlvmMemset, LifetimeStart, LifetimeEnd, Printf, LlvmTrap, LlvmAssume, LlvmObjectSize, PthreadCreate, PthreadJoin, SchedYield, Word}
 use Rattle.ms_ir.specs.Signatures.{called_params}
 use Rattle.ms_ir.specs.Code.{operands, block_index, count_undefs, one_undef, external_named}
 use Rattle.ms_runs.specs.Uses.{uses, external_uses, callee_uses, Use, Asked, value_uses, string_uses}
@@ -245,6 +245,9 @@ small_uses given main (op.Call r x as') g = by_name (external_named given.func x
     by_external LlvmTrap t l = tt
     by_external LlvmAssume t l = ((omega arith, omega arith), tt)
     by_external LlvmObjectSize t l = ((omega arith, omega arith), tt)
+    by_external PthreadCreate t l = ((omega arith, omega arith), ((omega arith, omega arith), ((omega arith, omega arith), tt)))
+    by_external PthreadJoin t l = ((omega arith, omega arith), ((omega arith, omega arith), tt))
+    by_external SchedYield t l = tt
     by_external (Word f n) t l = tt
     by_external Printf t l =
         let f : TypeAt as' 0 Ptr = ap (λ l. slice_get l 0) t in

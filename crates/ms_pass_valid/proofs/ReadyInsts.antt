@@ -1,5 +1,5 @@
 -- Each instruction of a formed and valid module is ready for the code round it.
-use Rattle.std.proofs.Common.{◌≡◌, ℕ, ◌^◌, ◌<◌, ◌≤◌, List, [], ◌∷◌, ◌++◌, Bool, true, false, Option, Some, None, refl, sym, subst, arith, true≢false}
+use Rattle.std.proofs.Common.{◌≡◌, ℕ, ◌^◌, ◌<◌, ◌≤◌, List, [], ◌∷◌, ◌++◌, Bool, true, false, Option, Some, None, refl, sym, ap, subst, ◌∙◌, arith, true≢false}
 use Rattle.std.specs.Prelude.{◌&&◌, nat_le, map, flat_map, unwrap_or, option_map, option_and_then, is_some, if◌then◌else◌}
 use Rattle.std.specs.List.{list_all}
 use Rattle.std.proofs.lemmas.Bool.{leb-true, and_parts}
@@ -26,8 +26,10 @@ use Rattle.ms_pass_valid.proofs.Ready.{AllFound}
 use Rattle.ms_pass_valid.proofs.FuncClauses.{ModuleReady}
 use Rattle.ms_runs_good.proofs.CallTypes.{both_none, holds_unless}
 use Rattle.ms_pass_valid.proofs.Own.{unknown_parts}
-use Rattle.ms_pass_laws.proofs.KnownInstructions.{shape_types, op_all}
+use Rattle.ms_pass_laws.proofs.KnownInstructions.{shape_types, plain_all}
 use Rattle.ms_pass_valid.proofs.Lists.{both_all, all_split}
+use Rattle.ms_pass_valid.proofs.Shown.{shown, shown_fit, shown_values, shown_formed, shown_known, shown_types}
+use Rattle.ms_ir.specs.Signatures.{signature_of}
 
 -- ---- lists
 
@@ -94,13 +96,21 @@ module _ (m j : Module) (a : ModuleReady m j) (f : Func) (b p s : ℕ) where
   known_of (op.Ret v) e = front_known (operands (op.Ret v)) [] e
   known_of op.Unreachable e = refl
 
+  -- what fits of an instruction, as what is inserted sees it
+  shown_fits : (o : Op) → list_all (λ x. is_value_type x.0) (operands o) ≡ true → op_fault m f fits o ≡ None → list_all fits (operands (shown o)) ≡ true
+  shown_fits (op.Call r x as') v e = shown_fit m fits (λ t. refl) (λ t. refl) x (signature_of m x) r as' v e
+  shown_fits o v e = plain_all fits m f o tt e
+
   -- an instruction's operands as validity and form have them
   pub op_found : (o : Op) → op_formed o ≡ true → op_fault m f fits o ≡ None → unknown_of m (locals f) s (mentions o) ≡ [] → sized m.types (op_types o) ≡ true
-      → AllFound m j a f b p s (operands o)
+      → AllFound m j a f b p s (operands (shown o))
   op_found o w e k z =
       let parts = and_parts (shape_formed o && list_all (λ x. operand_formed x.0 x.1) (operands o)) (list_all is_local_name (labels o)) w in
       let two = and_parts (shape_formed o) (list_all (λ x. operand_formed x.0 x.1) (operands o)) parts.0 in
-      all_found (operands o) (shape_types o two.0) (op_all fits m f o e) two.1 (known_of o k) (sized_split m.types (own_types o) (flat_map (λ x. x.0 ∷ operand_types x.1) (operands o)) z).1
+      let values = shape_types o two.0 in
+      let sizes = (sized_split m.types (own_types o) (flat_map (λ x. x.0 ∷ operand_types x.1) (operands o)) z).1 in
+      all_found (operands (shown o)) (shown_values o ∙ values) (shown_fits o values e) (shown_formed o values two.1) (shown_known m (locals f) s o (known_of o k))
+      (ap (sized m.types) (shown_types o) ∙ sizes)
 
   -- ---- the operation itself
 

@@ -21,7 +21,7 @@ use Rattle.ms_ir.specs.Code.{operands, count_undefs, one_undef, external_named}
 use Rattle.ms_ir.specs.Written.{result_type}
 use Rattle.ms_ir.specs.Signatures.{external_signature, word_params, called_params}
 use Rattle.ms_ir.specs.declared.calls.External.{External}
-use Rattle.ms_ir.specs.declared.calls.External.TheVariants.{Malloc, Realloc, Memcpy, Memmove, Memset, Read, LlvmMemcpy, LlvmMemmove, LlvmMemset, LifetimeStart}
+use Rattle.ms_ir.specs.declared.calls.External.TheVariants.{Malloc, Realloc, Memcpy, Memmove, Memset, Read, LlvmMemcpy, LlvmMemmove, LlvmMemset, LifetimeStart, PthreadCreate, PthreadJoin}
 use Rattle.ms_runs.specs.Uses.{Use, Word, Bytes, Line, uses, has_flag, has_true_flag, flagged_words, Asked}
 use Rattle.ms_valid.specs.FormedCode.{is_int_type, is_value_type}
 use Rattle.ms_tasks.specs.Tasks.{msan_name, mask_name, origin_name, Expr, Leaf, Task, Sets, Fetches, Puts, Calls}
@@ -481,6 +481,27 @@ module _ (C : Allowed) where
         poison_fits (Leaf (operand.Local x)) (Leaf (operand.Local (msan_name saved))) (word_of (tracked_at 1 (tracked env root args))) n (k x Ptr refl q) (d refl) (word_there args p _ t 1 (Int 64) refl) l
     external_fits site n saved (Some x) u Read args p t q k d s l =
         (record { shape = refl; calls = tt; words = (word_there args p _ t 1 Ptr refl, (k x (Int 64) refl q, tt)); gives = tt }, tt)
+    external_fits site n saved (Some x) u PthreadCreate args p t q k d s l = (
+      record {
+        shape = refl;
+        calls = tt;
+        words = (
+          word_there args p _ t 0 Ptr refl,
+          ((refl, refl, (refl, refl, k x (Int 32) refl q, number_fits 32 0 refl (omega arith)), number_fits 64 8 refl (omega arith), number_fits 64 0 refl (omega arith)), tt),
+        );
+        gives = tt;
+      },
+      tt,
+    )
+    external_fits site n saved (Some x) u PthreadJoin args p t q k d s l = (
+      record {
+        shape = refl;
+        calls = tt;
+        words = (word_there args p _ t 1 Ptr refl, (word_there args p _ t 0 (Int 64) refl, (k x (Int 32) refl q, (number_fits 32 site refl s, tt))));
+        gives = tt;
+      },
+      tt,
+    )
     external_fits site n saved (Some x) u LifetimeStart args p t q k d s l =
         poison_fits (word_of (tracked_at 1 (tracked env root args))) (number 0) (word_of (tracked_at 0 (tracked env root args))) n (word_there args p _ t 1 Ptr refl) refl (word_there args p _ t 0 (Int 64) refl) l
     external_fits site n saved (Some x) u Memcpy args p t q k d s l = copy_fits args p _ t refl refl refl

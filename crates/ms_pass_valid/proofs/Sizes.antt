@@ -107,6 +107,7 @@ module _ (types : Types) where
     params_sized function.LoadOrigin = (refl, (refl, tt))
     params_sized function.Size = (refl, tt)
     params_sized function.CheckFormat = (refl, (refl, (refl, (refl, tt))))
+    params_sized function.ThreadResult = (refl, (refl, (refl, (refl, tt))))
     params_sized (function.Move k) = move_sized k
 
     ret_sized : (fn : RuntimeFn) (x : Name) (args : List (Ty × Operand)) → sized types (own_types (op.Call (runtime_signature fn).ret x args)) ≡ true
@@ -122,6 +123,7 @@ module _ (types : Types) where
     ret_sized function.LoadOrigin x args = refl
     ret_sized function.Size x args = refl
     ret_sized function.CheckFormat x args = refl
+    ret_sized function.ThreadResult x args = refl
     ret_sized (function.Move k) x args = int_sized (Int (bits_of (move_width k))) (width_int (move_width k))
 
     whole_op : (o : Op) → sized types (own_types o) ≡ true → TypesSized (map (λ x. x.0) (operands o)) → OperandsFit K (ConstGood m j) (operands o) → sized types (op_types o) ≡ true

@@ -10,12 +10,12 @@ use Rattle.ms_ir.specs.declared.syntax.Ty.{Ty}
 use Rattle.ms_ir.specs.declared.syntax.Op.{Op}
 use Rattle.ms_ir.specs.declared.syntax.Op.TheVariants as op
 use Rattle.ms_ir.specs.declared.calls.External.{External}
-use Rattle.ms_ir.specs.declared.calls.External.TheVariants.{Malloc, Calloc, Realloc, Free, Memcpy, Memmove, Memset, Memcmp, Strlen, Putchar, Puts, Getchar, Read, Write, Exit, Abort, LlvmMemcpy, LlvmMemmove, LlvmMemset, LifetimeStart, LifetimeEnd, Printf, LlvmTrap, LlvmAssume, LlvmObjectSize, Word}
+use Rattle.ms_ir.specs.declared.calls.External.TheVariants.{Malloc, Calloc, Realloc, Free, Memcpy, Memmove, Memset, Memcmp, Strlen, Putchar, Puts, Getchar, Read, Write, Exit, Abort, LlvmMemcpy, LlvmMemmove, LlvmMemset, LifetimeStart, LifetimeEnd, Printf, LlvmTrap, LlvmAssume, LlvmObjectSize, PthreadCreate, PthreadJoin, SchedYield, Word}
 use Rattle.ms_runs.specs.declared.runs.Origin.TheVariants.{Root, Chain}
 use Rattle.ms_ir.specs.Layout.{stored_size, size_in}
-use Rattle.ms_ir.specs.Areas.{Heap, Stack, area_base, room}
+use Rattle.ms_ir.specs.Areas.{Heap, area_base, room}
 use Rattle.ms_runs.specs.World.{World, Setting, Here, Effect, Gives, Does, Goes, Enters, Leaves, Ends, traps, stuck, word, gives}
-use Rattle.ms_runs.specs.Memory.{used, fits, next_base, is_good, heap_size, store_number, set_shadow, set_cells, copy_bytes, copy_shadow, make_unset}
+use Rattle.ms_runs.specs.Memory.{used, fits, next_base, local_area, is_good, heap_size, store_number, set_shadow, set_cells, copy_bytes, copy_shadow, make_unset}
 use Rattle.ms_ir.specs.Code.{external_named, is_root, makes_unset}
 use Rattle.ms_runs.specs.Externals.{malloc, reallocated, realloc, where_good, string_at, output_limit, printed, next_byte, external, formatted, prints}
 use Rattle.ms_runs.specs.Act.{act, alloca, store}
@@ -29,6 +29,8 @@ use Rattle.ms_runs_good.proofs.Readings.{word_number}
 use Rattle.ms_ir.specs.Written.{targets}
 use Rattle.ms_reached_laws.proofs.Trails.{inside, next_block}
 use Rattle.ms_reached_laws.proofs.Worlds.{Back, Backed, NoneFree, poisoned, unpoisoned, planes_copied, copied_back, made_heap, made_room, ended_back, stored, store_grows, filled, fill_grows}
+use Rattle.ms_runs.specs.Threads.{fiber_limit, thread_at, has_ended, join_answer}
+use Rattle.ms_runs_good.proofs.ThreadsApart.{NoThread, CallsNoThread}
 
 -- ---- words
 
@@ -183,6 +185,12 @@ module _ (site root told : ℕ → Type 0) (s : Setting) where
   external_kept at LlvmTrap ts vs w = refl
   external_kept at LlvmAssume ts vs w = either_after (eqb (word 0 vs) 0) w _ _ (λ e. refl) (itself w)
   external_kept at LlvmObjectSize ts vs w = itself w
+  external_kept at PthreadCreate ts vs w = either_after (leb fiber_limit (length w.threads + 1)) w _ _ (λ e. itself w) (good_kept at (word 0 vs) 8 w _ (refl, λ b. b))
+  external_kept at PthreadJoin ts vs w =
+      either_after (eqb (join_answer w.turn (word 0 vs) w.threads) 0) w _ _
+      (λ e. either_after (has_ended (thread_at (word 0 vs) w.threads)) w _ _ (λ f. either_after (eqb (word 1 vs) 0) w _ _ (λ g. (refl, λ b. b)) (good_kept at (word 1 vs) 8 w _ (refl, λ b. b))) refl)
+      (itself w)
+  external_kept at SchedYield ts vs w = itself w
   external_kept at Printf ts vs w = prints_kept at (formatted w ts vs) w
   external_kept at (Word f n) ts vs w = answers_kept at (word_answer f (bits_of n) (word 0 vs) (word 1 vs) (word 2 vs)) w
 
@@ -214,45 +222,47 @@ module _ (site root told : ℕ → Type 0) (s : Setting) where
 
   module _ (at own : ℕ) (here : site at) (ps : List Poisoned) where
     external_grown : (e : External) (before : World) (v : ℕ) (w : World) → (makes_unset (Some e) ≡ true → (pairs : List (ℕ × ℕ)) → Back site root s.roots pairs own)
-        → WordsBack site root s.roots w.pairs ps → Grown w (external_planes s at own e ps before v w)
-    external_grown Malloc before v w is words = poison_grown v 0 (word_at 0 ps).value own w (is refl)
-    external_grown Realloc before v w is words = poison_grown v (unwrap_or (heap_size before (word_at 0 ps).value) 0) (word_at 1 ps).value own w (is refl)
-    external_grown Memcpy before v w is words = copy_grown (word_at 0 ps).value (word_at 1 ps).value (word_at 2 ps).value w
-    external_grown Memmove before v w is words = copy_grown (word_at 0 ps).value (word_at 1 ps).value (word_at 2 ps).value w
-    external_grown Memset before v w is words = (
+        → WordsBack site root s.roots w.pairs ps → NoThread (Some e) → Grown w (external_planes s at own e ps before v w)
+    external_grown Malloc before v w is words plain = poison_grown v 0 (word_at 0 ps).value own w (is refl)
+    external_grown Realloc before v w is words plain = poison_grown v (unwrap_or (heap_size before (word_at 0 ps).value) 0) (word_at 1 ps).value own w (is refl)
+    external_grown Memcpy before v w is words plain = copy_grown (word_at 0 ps).value (word_at 1 ps).value (word_at 2 ps).value w
+    external_grown Memmove before v w is words plain = copy_grown (word_at 0 ps).value (word_at 1 ps).value (word_at 2 ps).value w
+    external_grown Memset before v w is words plain = (
       fill_grows site root told s (word_at 0 ps).value (word_at 2 ps).value (word_at 1 ps).mask (word_at 1 ps).origin at w,
       filled site root told s (word_at 0 ps).value (word_at 2 ps).value (word_at 1 ps).mask (word_at 1 ps).origin at w here (words 1),
     )
-    external_grown Read before v w is words = unpoison_grown (word_at 1 ps).value v w
-    external_grown LlvmMemcpy before v w is words = copy_grown (word_at 0 ps).value (word_at 1 ps).value (word_at 2 ps).value w
-    external_grown LlvmMemmove before v w is words = copy_grown (word_at 0 ps).value (word_at 1 ps).value (word_at 2 ps).value w
-    external_grown LlvmMemset before v w is words = (
+    external_grown Read before v w is words plain = unpoison_grown (word_at 1 ps).value v w
+    external_grown LlvmMemcpy before v w is words plain = copy_grown (word_at 0 ps).value (word_at 1 ps).value (word_at 2 ps).value w
+    external_grown LlvmMemmove before v w is words plain = copy_grown (word_at 0 ps).value (word_at 1 ps).value (word_at 2 ps).value w
+    external_grown LlvmMemset before v w is words plain = (
       fill_grows site root told s (word_at 0 ps).value (word_at 2 ps).value (word_at 1 ps).mask (word_at 1 ps).origin at w,
       filled site root told s (word_at 0 ps).value (word_at 2 ps).value (word_at 1 ps).mask (word_at 1 ps).origin at w here (words 1),
     )
-    external_grown LifetimeStart before v w is words = poison_grown (word_at 1 ps).value 0 (word_at 0 ps).value own w (is refl)
-    external_grown e before v w is words = grown_itself w
+    external_grown LifetimeStart before v w is words plain = poison_grown (word_at 1 ps).value 0 (word_at 0 ps).value own w (is refl)
+    external_grown PthreadCreate before v w is words plain = absurd (true≢false plain)
+    external_grown PthreadJoin before v w is words plain = absurd (true≢false plain)
+    external_grown e before v w is words plain = grown_itself w
 
     -- ---- instructions
 
     module _ (jumps : Type 0) where
-      call_grown : (h : Here) (types : List Ty) (f : Option ℕ) (e : Option External) (w : World) → (makes_unset e ≡ true → (pairs : List (ℕ × ℕ)) → Back site root s.roots pairs own) → WordsBack site root s.roots w.pairs ps
+      call_grown : (h : Here) (types : List Ty) (f : Option ℕ) (e : Option External) (w : World) → (makes_unset e ≡ true → (pairs : List (ℕ × ℕ)) → Back site root s.roots pairs own) → WordsBack site root s.roots w.pairs ps → NoThread e
           → GrownAfter jumps w (λ v u. callee_planes s at own e ps w v u) (elim f [ Some g ↦ Enters g w | None ↦ elim e [ Some x ↦ external s at x types (map (λ p. p.value) ps) w | None ↦ Ends stuck w ] ])
-      call_grown h types (Some g) e w is words = refl
-      call_grown h types None None w is words = refl
-      call_grown h types None (Some x) w is words =
+      call_grown h types (Some g) e w is words plain = refl
+      call_grown h types None None w is words plain = refl
+      call_grown h types None (Some x) w is words plain =
           then_grown jumps w (λ v u. external_planes s at own x ps w v u) (external s at x types (map (λ p. p.value) ps) w) (external_kept at x types (map (λ p. p.value) ps) w)
-          (λ v u e. external_grown x w v u is (subst (λ pairs. WordsBack site root s.roots pairs ps) (sym e) words))
+          (λ v u e. external_grown x w v u is (subst (λ pairs. WordsBack site root s.roots pairs ps) (sym e) words) plain)
 
       gives_grown : (r : Result ℕ Trap) (w : World) → GrownAfter jumps w (λ v u. u) (gives at r w)
       gives_grown (Ok v) w = grown_itself w
       gives_grown (Err t) w = refl
 
       alloca_grown : (n k : ℕ) → k ≡ n → (w : World) → ((pairs : List (ℕ × ℕ)) → Back site root s.roots pairs own) → GrownAfter jumps w (λ v u. poison v 0 n own u) (alloca s at k w)
-      alloca_grown n k e w is = subst (λ j. GrownAfter jumps w (λ v u. poison v 0 n own u) (alloca s at j w)) (sym e) (by_test (fits Stack n w) refl)
+      alloca_grown n k e w is = subst (λ j. GrownAfter jumps w (λ v u. poison v 0 n own u) (alloca s at j w)) (sym e) (by_test (fits (local_area w) n w) refl)
         where
-          by_test : (t : Bool) → fits Stack n w ≡ t → GrownAfter jumps w (λ v u. poison v 0 n own u) (if t then Gives (next_base Stack w) (make_unset s.fill Stack n w) else traps trap.Stack at w)
-          by_test true f = ((poison_grown (next_base Stack w) 0 n own (make_unset s.fill Stack n w) is).0, λ b. made_room site root told s.roots s.fill n own w f (is w.pairs) b)
+          by_test : (t : Bool) → fits (local_area w) n w ≡ t → GrownAfter jumps w (λ v u. poison v 0 n own u) (if t then Gives (next_base (local_area w) w) (make_unset s.fill (local_area w) n w) else traps trap.Stack at w)
+          by_test true f = ((poison_grown (next_base (local_area w) w) 0 n own (make_unset s.fill (local_area w) n w) is).0, λ b. made_room site root told s.roots s.fill n own w f (is w.pairs) b)
           by_test false f = refl
 
       load_grown : (t : Bool) (v : ℕ) (w : World) → GrownAfter jumps w (λ v u. u) (if t then Gives v w else traps trap.BadAddress at w)
@@ -280,21 +290,21 @@ module _ (site root told : ℕ → Type 0) (s : Setting) where
     some_name x xs e = grind arith
 
     -- an instruction, with its shadow
-    pub op_grown : (h : Here) → (o : Op) → SmallStore o → (is_root s.func o ≡ true → (pairs : List (ℕ × ℕ)) → Back site root s.roots pairs own) → (w : World) → WordsBack site root s.roots w.pairs ps
+    pub op_grown : (h : Here) → (o : Op) → SmallStore o → (is_root s.func o ≡ true → (pairs : List (ℕ × ℕ)) → Back site root s.roots pairs own) → (w : World) → WordsBack site root s.roots w.pairs ps → CallsNoThread s.func o
         → GrownAfter (¬ (targets o ≡ [])) w (λ v u. planes s at own o ps w v u) (act s (record h { site = at }) o (map (λ p. p.value) ps) w)
-    op_grown h (op.Binary o f t a b) small is w words = gives_grown (¬ (targets (op.Binary o f t a b) ≡ [])) _ w
-    op_grown h (op.Icmp p f t a b) small is w words = gives_grown (¬ (targets (op.Icmp p f t a b) ≡ [])) _ w
-    op_grown h (op.Cast o f t a u) small is w words = gives_grown (¬ (targets (op.Cast o f t a u) ≡ [])) _ w
-    op_grown h (op.Select c t a b) small is w words = grown_itself w
-    op_grown h (op.Freeze t a) small is w words = grown_itself w
-    op_grown h (op.Phi t edges) small is w words = refl
-    op_grown h (op.Alloca t u c) small is w words = alloca_grown (¬ (targets (op.Alloca t u c) ≡ [])) (size_in s.types t * (word_at 0 ps).value) (size_in s.types t * word 0 (map (λ p. p.value) ps)) (ap (λ k. size_in s.types t * k) (word_number 0 ps)) w (is refl)
-    op_grown h (op.Load t a) small is w words = load_grown (¬ (targets (op.Load t a) ≡ [])) (is_good w (word 0 (map (λ p. p.value) ps)) (stored_size t)) _ w
-    op_grown h (op.Store t v a) small is w words = store_grown (¬ (targets (op.Store t v a) ≡ [])) t (word_at 1 ps).value (word 1 (map (λ p. p.value) ps)) (word_number 1 ps) (word 0 (map (λ p. p.value) ps)) w small words
-    op_grown h (op.Gep t a ix) small is w words = grown_itself w
-    op_grown h (op.Call r x args) small is w words = call_grown (¬ (targets (op.Call r x args) ≡ [])) h (map (λ a. a.0) args) (s.func x) (external_named s.func x) w is words
-    op_grown h (op.Br to) small is w words = (refl, λ e. some_name to [] e)
-    op_grown h (op.CondBr c to other) small is w words = (refl, λ e. some_name to (other ∷ []) e)
-    op_grown h (op.Switch t v other cases) small is w words = (refl, λ e. some_name other (map (λ c. c.1) cases) e)
-    op_grown h (op.Ret v) small is w words = returns_grown (¬ (targets (op.Ret v) ≡ [])) h.main _ _ w (λ v u. u) refl refl
-    op_grown h op.Unreachable small is w words = refl
+    op_grown h (op.Binary o f t a b) small is w words plain = gives_grown (¬ (targets (op.Binary o f t a b) ≡ [])) _ w
+    op_grown h (op.Icmp p f t a b) small is w words plain = gives_grown (¬ (targets (op.Icmp p f t a b) ≡ [])) _ w
+    op_grown h (op.Cast o f t a u) small is w words plain = gives_grown (¬ (targets (op.Cast o f t a u) ≡ [])) _ w
+    op_grown h (op.Select c t a b) small is w words plain = grown_itself w
+    op_grown h (op.Freeze t a) small is w words plain = grown_itself w
+    op_grown h (op.Phi t edges) small is w words plain = refl
+    op_grown h (op.Alloca t u c) small is w words plain = alloca_grown (¬ (targets (op.Alloca t u c) ≡ [])) (size_in s.types t * (word_at 0 ps).value) (size_in s.types t * word 0 (map (λ p. p.value) ps)) (ap (λ k. size_in s.types t * k) (word_number 0 ps)) w (is refl)
+    op_grown h (op.Load t a) small is w words plain = load_grown (¬ (targets (op.Load t a) ≡ [])) (is_good w (word 0 (map (λ p. p.value) ps)) (stored_size t)) _ w
+    op_grown h (op.Store t v a) small is w words plain = store_grown (¬ (targets (op.Store t v a) ≡ [])) t (word_at 1 ps).value (word 1 (map (λ p. p.value) ps)) (word_number 1 ps) (word 0 (map (λ p. p.value) ps)) w small words
+    op_grown h (op.Gep t a ix) small is w words plain = grown_itself w
+    op_grown h (op.Call r x args) small is w words plain = call_grown (¬ (targets (op.Call r x args) ≡ [])) h (map (λ a. a.0) args) (s.func x) (external_named s.func x) w is words plain
+    op_grown h (op.Br to) small is w words plain = (refl, λ e. some_name to [] e)
+    op_grown h (op.CondBr c to other) small is w words plain = (refl, λ e. some_name to (other ∷ []) e)
+    op_grown h (op.Switch t v other cases) small is w words plain = (refl, λ e. some_name other (map (λ c. c.1) cases) e)
+    op_grown h (op.Ret v) small is w words plain = returns_grown (¬ (targets (op.Ret v) ≡ [])) h.main _ _ w (λ v u. u) refl refl
+    op_grown h op.Unreachable small is w words plain = refl

@@ -1,5 +1,6 @@
 -- In every state of a shadow run, and at its end, poisoned bits come from what the run has reached.
-use Rattle.std.proofs.Common.{◌≡◌, inl, inr, ⊎_elim, ℕ, suc, List, [], ◌∷◌, Some, refl, sym, subst, arith}
+use Rattle.std.proofs.Common.{◌≡◌, inl, inr, ⊎_elim, ℕ, suc, List, [], ◌∷◌, Some, refl, sym, subst, arith, false}
+use Rattle.ms_ir.specs.ThreadCalls.{is_threaded}
 use Rattle.ms_ir.specs.declared.syntax.Module.{Module}
 use Rattle.ms_runs.specs.declared.runs.Setup.{Setup}
 use Rattle.ms_runs.specs.World.{World}
@@ -127,9 +128,9 @@ telling m walk leads = record {
   world = backed_weaker (HasRun m walk) (IsReached m walk) (IsReached m walk) (HasRun m walk) (IsReached m walk) (IsTold m walk) (λ k e. e) (λ k e. e) (λ k e. inl e) (count_roots m) walk.state.world leads.world;
 }
 
-module _ (d : Rules) (keep : KeepClean d) (widths : KeepWidths d) (m : Module) (formed : Formed m) (valid : Valid m) (bare : NoMarks m) (setup : Setup) (bytes : GivesBytes setup) where
+module _ (d : Rules) (keep : KeepClean d) (widths : KeepWidths d) (m : Module) (formed : Formed m) (valid : Valid m) (calm : is_threaded m ≡ false) (bare : NoMarks m) (setup : Setup) (bytes : GivesBytes setup) where
   step_leads : (walk : Walk) → SoundShadow m walk.state → Leads m walk (IsReached m walk) → SteppedLeads m walk (shadow_step d (setting_of m setup) m walk.state)
-  step_leads walk sound leads = by_moved (shadow_frames d (setting_of m setup) m walk.state.frames walk.state.world) (frames_lead m formed valid bare setup d keep walk walk.state.frames refl sound.frames (telling m walk leads) sound.world.shadow leads.frames)
+  step_leads walk sound leads = by_moved (shadow_frames d (setting_of m setup) m walk.state.frames walk.state.world) (frames_lead m formed valid calm bare setup d keep walk walk.state.frames refl sound.frames (telling m walk leads) sound.world.shadow leads.frames)
     where
       by_moved : (moved : Outcome Poisoned) → MovedLeads m walk moved → SteppedLeads m walk (shadow_moved moved)
       by_moved (On fs u) h = leads_later m walk fs u h
@@ -153,5 +154,5 @@ module _ (d : Rules) (keep : KeepClean d) (widths : KeepWidths d) (m : Module) (
   }
 
 -- so also by completions
-pub from_completions : (m : Module) → Formed m → Valid m → NoMarks m → (setup : Setup) → GivesBytes setup → FromReached by_completions m setup
+pub from_completions : (m : Module) → Formed m → Valid m → is_threaded m ≡ false → NoMarks m → (setup : Setup) → GivesBytes setup → FromReached by_completions m setup
 from_completions = from_reached by_completions completions_clean completions_keep

@@ -120,6 +120,11 @@ start_backed site root told roots m valid setup = from_only (start_world m setup
       output = [];
       reports = [];
       blind = 0;
+      turn = 0;
+      threads = [];
+      answers = λ k. 0;
+      answer_masks = λ k. 0;
+      answer_origins = λ k. 0;
     }) (omega arith) (both_empty (unsized_globals m.types 0 m.globals) functions later).0 (record { shadow_zero = λ x. refl; no_pairs = refl; no_reports = refl; placed = All-nil (λ a. a.base + a.size ≤ area_base Fixed + 0); takes = refl }))
   where
     functions : List Spelled

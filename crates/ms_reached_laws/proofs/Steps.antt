@@ -1,6 +1,7 @@
 -- A step of a shadow run keeps origins leading back to what was reached.
 use Rattle.std.proofs.Common.{◌≡◌, ◌⊎◌, inl, inr, ⊎_elim, ℕ, ◌+◌, ◌/◌, ◌<◌, ◌≤◌, List, [], ◌∷◌, map, take, length, get_or, leb, Bool, true, false, Some, slice_get, refl, sym, ap, ◌∙◌, subst, arith, if◌then◌else◌}
 use Rattle.ms_bits.specs.declared.traps.Trap.TheVariants as trap
+use Rattle.ms_ir.specs.ThreadCalls.{is_threaded}
 use Rattle.ms_ir.specs.declared.syntax.Name.{Name}
 use Rattle.ms_ir.specs.declared.syntax.Ty.{Ty}
 use Rattle.ms_ir.specs.declared.syntax.Op.{Op}
@@ -13,7 +14,7 @@ use Rattle.ms_runs.specs.declared.runs.Setup.{Setup}
 use Rattle.ms_ir.specs.Layout.{width_of, stored_size}
 use Rattle.ms_runs.specs.World.{World, Setting, Here, Effect, Gives, Does, Goes, Enters, Leaves, Ends}
 use Rattle.ms_ir.specs.Code.{operands, count_undefs, is_root, roots_in, root_at, count_roots, func_at, blocks_at, insts_at, block_index, over_insts, NoMarks}
-use Rattle.ms_runs.specs.Control.{Frame, Outcome, On, Over, here, rest_of, read_all, put, one_on, read_edge, block_name, jumped, params_at, entered, result_at, release, left, frame_limit, after_effect}
+use Rattle.ms_runs.specs.Control.{Frame, Outcome, On, Over, here, rest_of, read_all, put, one_on, read_edge, block_name, jumped, params_at, entered, result_at, given_back, left, frame_limit, keeping, after_effect}
 use Rattle.ms_runs.specs.Act.{act}
 use Rattle.ms_runs.specs.Origins.{trail_within, count_blind}
 use Rattle.ms_runs.specs.Plain.{setting_of}
@@ -33,11 +34,12 @@ use Rattle.ms_runs_good.proofs.OpEffects.{value_width}
 use Rattle.ms_runs_good.proofs.Counted.{counted_within}
 use Rattle.ms_clean_laws.specs.KeepClean.{KeepClean}
 use Rattle.ms_reached_laws.proofs.Trails.{back_weaker}
-use Rattle.ms_reached_laws.proofs.Worlds.{Back, Backed, NoneFree, released_back}
+use Rattle.ms_reached_laws.proofs.Worlds.{Back, Backed, NoneFree, given_back_pairs, given_back_backed}
 use Rattle.ms_reached_laws.proofs.Effects.{WordBack, WordsBack, GrownAfter, SmallStore, op_grown, root_back}
 use Rattle.ms_reached_laws.proofs.Results.{ResultBack, SmallLoad, op_result}
 use Rattle.ms_reached_laws.proofs.Checks.{Same, Checked, uses_checked, counted}
 use Rattle.ms_reached_laws.proofs.Frames.{Holds, ValuesHold, FramesHold, all_hold, edge_holds, put_holds, bind_holds, first_holds, phis_hold, frames_weaker}
+use Rattle.ms_runs_good.proofs.ThreadsApart.{no_thread_called}
 
 -- ---- what is asked of the form
 
@@ -126,7 +128,7 @@ abbrev pub MovedLeads : Module → Walk → Outcome Poisoned → Type 0
 MovedLeads m walk (On fs u) = FramesHold (Back (RunsNow m walk) (ReachesNext m walk fs u) (count_roots m) u.pairs) fs × Backed (RunsNow m walk) (ReachesNow m walk) (IsTold m walk) (count_roots m) NoneFree u
 MovedLeads m walk (Over e u) = (u.pairs ≡ walk.state.world.pairs) × Backed (HasRun m walk) (IsReached m walk) (IsTold m walk) (count_roots m) NoneFree u
 
-module _ (m : Module) (formed : Formed m) (valid : Valid m) (bare : NoMarks m) (setup : Setup) (d : Rules) (keep : KeepClean d) (walk : Walk) where
+module _ (m : Module) (formed : Formed m) (valid : Valid m) (calm : is_threaded m ≡ false) (bare : NoMarks m) (setup : Setup) (d : Rules) (keep : KeepClean d) (walk : Walk) where
   -- what stays the same in the run
   abbrev given : Setting
   given = setting_of m setup
@@ -261,19 +263,21 @@ module _ (m : Module) (formed : Formed m) (valid : Valid m) (bare : NoMarks m) (
       -- a return
       left_leads : (fs : List (Frame Poisoned)) → FramesHold (Now z.pairs) fs → MovedLeads m walk (left shadow_reading m words frame fs z)
       left_leads [] h = (same, backed)
-      left_leads (caller ∷ fs) h = (
-        next_of (put caller (result_at m caller) (get_or words 0 clean) ∷ fs) (release frame.mark z) z.pairs (put caller (result_at m caller) (get_or words 0 clean) ∷ fs)
-            (put_holds (Now z.pairs) caller (result_at m caller) (get_or words 0 clean) h.0 (first_holds (Now z.pairs) words read), h.1),
-        released_back (RunsNow m walk) (ReachesNow m walk) (IsTold m walk) (count_roots m) frame.mark z backed_now,
-      )
+      left_leads (caller ∷ fs) h =
+          let gs = put caller (result_at m caller) (get_or words 0 clean) ∷ fs in (
+            next_of gs (given_back frame z) (given_back frame z).pairs gs
+                (subst (λ p. FramesHold (Now p) gs) (sym (given_back_pairs frame z)) (put_holds (Now z.pairs) caller (result_at m caller) (get_or words 0 clean) h.0 (first_holds (Now z.pairs) words read), h.1)),
+            given_back_backed (RunsNow m walk) (ReachesNow m walk) (IsTold m walk) (count_roots m) frame z backed_now,
+          )
 
       moved_leads : (lift : ℕ → World → Poisoned) (after : ℕ → World → World) (e : Effect) → GrownAfter (RunsNow m walk) (ReachesNow m walk) (IsTold m walk) given (¬ (targets i.op ≡ [])) z after e
-          → ((v : ℕ) (u : World) → e ≡ Gives v u → Holds (Now z.pairs) (lift v u)) → MovedLeads m walk (after_effect shadow_reading given m at.site i.result words lift after frame below e)
-      moved_leads lift after (Gives v u) g lifts = (
-        next_of (put frame i.result (lift v u) ∷ below) (after v u) (after v u).pairs (put frame i.result (lift v u) ∷ below)
-            (grown (after v u) g.0 (put frame i.result (lift v u) ∷ below) (put_holds (Now z.pairs) frame i.result (lift v u) values (lifts v u refl), others)),
-        g.1 backed_now,
-      )
+          → ((v : ℕ) (u : World) → e ≡ Gives v u → Holds (Now z.pairs) (lift v u)) → MovedLeads m walk (after_effect shadow_reading given m at.site i.result words lift after (keeping i.op e frame) below e)
+      moved_leads lift after (Gives v u) g lifts =
+          let fs = put (keeping i.op (Gives v u) frame) i.result (lift v u) ∷ below in (
+            next_of fs (after v u) (after v u).pairs fs
+                (grown (after v u) g.0 fs (put_holds (Now z.pairs) (keeping i.op (Gives v u) frame) i.result (lift v u) values (lifts v u refl), others)),
+            g.1 backed_now,
+          )
       moved_leads lift after (Does u) g lifts = (
         next_of (one_on frame ∷ below) (after 0 u) (after 0 u).pairs (one_on frame ∷ below) (grown (after 0 u) g.0 (one_on frame ∷ below) (values, others)),
         g.1 backed_now,
@@ -293,7 +297,7 @@ module _ (m : Module) (formed : Formed m) (valid : Valid m) (bare : NoMarks m) (
           moved_leads (poisoned_result d i.op words) (planes given at.site (at.root + count_undefs (operands i.op) + 1) i.op words z)
           (act given at i.op (map (λ p. p.value) words) z)
           (op_grown (RunsNow m walk) (ReachesNow m walk) (IsTold m walk) given at.site (at.root + count_undefs (operands i.op) + 1) (inl (record { due = due; is = refl })) words at i.op
-          (small_store i.op shape) own_reached z read)
+          (small_store i.op shape) own_reached z read (no_thread_called m calm frame.func frame.block frame.place top.func i top.stands (due_first PoisonedBelow m frame top i is rest)))
           (result_of i.op (act given at i.op (map (λ p. p.value) words) z)
           (op_result (RunsNow m walk) (ReachesNow m walk) (IsTold m walk) given d keep frame.values at.root at i.op (small_load i.op shape) z backed_now bytes read))
 

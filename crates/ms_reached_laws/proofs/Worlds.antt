@@ -6,10 +6,10 @@ use Rattle.std.proofs.lemmas.List.Elements.{All-push, All-map, All-filter, All-w
 use Rattle.ms_bits.specs.Maps.{within, touches, with_cell, copied_cells, byte_of}
 use Rattle.ms_runs.specs.declared.runs.Origin.TheVariants.{Root, Chain}
 use Rattle.ms_runs.specs.declared.runs.Report.{Report}
-use Rattle.ms_ir.specs.Areas.{Heap, Stack, area_base, area_limit, room}
+use Rattle.ms_ir.specs.Areas.{Area, Heap, Stack, area_base, area_limit, room}
 use Rattle.ms_runs.specs.World.{Allocation, World, Setting}
-use Rattle.ms_runs.specs.Memory.{used, fits, next_base, first_that, covers, is_good, is_heap_block, end_block, set_shadow, set_cells, copy_shadow, make, make_unset, keeps}
-use Rattle.ms_runs.specs.Control.{release}
+use Rattle.ms_runs.specs.Memory.{used, fits, next_base, first_that, covers, is_good, is_heap_block, local_area, end_block, end_blocks, set_shadow, set_cells, copy_shadow, make, make_unset, keeps}
+use Rattle.ms_runs.specs.Control.{Frame, release, given_back}
 use Rattle.ms_runs.specs.Origins.{trail_within, pair_index, Chained, keeps_old, chain, poison, unpoison, copy_planes, fill_planes, mark_cells, store_origin}
 use Rattle.ms_runs_good.specs.Reached.{LeadsBack}
 use Rattle.ms_runs_good.proofs.Rooms.{used_push, used_ended, used_kept, room_whole}
@@ -68,6 +68,18 @@ index_within (p ∷ rest) old at k e = by_test (eqb p.0 old && eqb p.1 at) e (λ
     by_test : (t : Bool) → (if t then Some 0 else option_map suc (pair_index rest old at)) ≡ Some k → ((j : ℕ) → pair_index rest old at ≡ Some j → j < length rest) → k < suc (length rest)
     by_test true h later = grind arith
     by_test false h later = by_rest (pair_index rest old at) h later
+
+ended_pairs : (ps : List ℕ) (w : World) → (end_blocks ps w).pairs ≡ w.pairs
+ended_pairs [] w = refl
+ended_pairs (p ∷ ps) w = ended_pairs ps (end_block p w)
+
+-- what a return takes back leaves the chained origins
+pub given_back_pairs : {V : Type 0} (frame : Frame V) (w : World) → (given_back frame w).pairs ≡ w.pairs
+given_back_pairs frame w = ended_pairs frame.heap (if eqb frame.mark 0 then w else release frame.mark w) ∙ by_mark (eqb frame.mark 0)
+  where
+    by_mark : (t : Bool) → (if t then w else release frame.mark w).pairs ≡ w.pairs
+    by_mark true = refl
+    by_mark false = refl
 
 module _ (site root told : ℕ → Type 0) (roots : ℕ) where
   -- more bytes are free
@@ -259,42 +271,65 @@ module _ (site root told : ℕ → Type 0) (roots : ℕ) where
       none x true l g = refl
       none x false l g = b.fresh x l g
 
-  -- 'alloca': its bytes get its own origin
-  pub made_room : (fill : List ℕ) (n origin : ℕ) (w : World) → fits Stack n w ≡ true → Back site root roots w.pairs origin → Backed site root told roots NoneFree w
-      → Backed site root told roots NoneFree (poison (next_base Stack w) 0 n origin (make_unset fill Stack n w))
-  made_room fill n origin w fit back b =
+  -- room of which no byte lies where blocks of the heap will begin, and all of whose cells are to be poisoned, gets an origin
+  room_backed : (area : Area) (fill : List ℕ) (n origin : ℕ) (w : World) → (next_base area w + 0) % 2 ^ 64 ≡ next_base area w
+      → ((x : ℕ) → next_base area w ≤ x → x < next_base area w + n → Clear (make_unset fill area n w) x) → Back site root roots w.pairs origin
+      → Backed site root told roots (λ x. touches (next_base area w) n (x / 4) ≡ true) (make area n w)
+      → Backed site root told roots NoneFree (poison (next_base area w) 0 n origin (make_unset fill area n w))
+  room_backed area fill n origin w start clear back b =
       subst (Backed site root told roots NoneFree) (sym (ap₂ (λ p k. if ltb 0 n && is_good made p k then set_cells p k origin (set_shadow p k (λ j. 255) made) else made) start whole))
       (by_tests (ltb 0 n) refl)
     where
       made : World
-      made = make_unset fill Stack n w
-
-      start : (next_base Stack w + 0) % 2 ^ 64 ≡ next_base Stack w
-      start = omega (arith, leb-true (used Stack w.allocs + room n) (area_limit Stack) fit)
+      made = make_unset fill area n w
 
       whole : n - 0 ≡ n
       whole = omega arith
 
-      good : is_good (make_unset fill Stack n w) (next_base Stack w) n ≡ true
+      good : is_good (make_unset fill area n w) (next_base area w) n ≡ true
       good = by_size (eqb n 0)
-          (found_new (covers (next_base Stack w) n) w.allocs (next_block Stack n w)
-          (ap₂ (λ t u. t && u) (le-leb (next_base Stack w) (next_base Stack w) (omega arith)) (le-leb (next_base Stack w + n) (next_base Stack w + n) (omega arith))))
+          (found_new (covers (next_base area w) n) w.allocs (next_block area n w)
+          (ap₂ (λ t u. t && u) (le-leb (next_base area w) (next_base area w) (omega arith)) (le-leb (next_base area w + n) (next_base area w + n) (omega arith))))
         where
-          by_size : (t : Bool) → is_some (first_that (covers (next_base Stack w) n) (w.allocs ++ next_block Stack n w ∷ [])) ≡ true
-              → (if t then true else is_some (first_that (covers (next_base Stack w) n) (w.allocs ++ next_block Stack n w ∷ []))) ≡ true
+          by_size : (t : Bool) → is_some (first_that (covers (next_base area w) n) (w.allocs ++ next_block area n w ∷ [])) ≡ true
+              → (if t then true else is_some (first_that (covers (next_base area w) n) (w.allocs ++ next_block area n w ∷ []))) ≡ true
           by_size true h = refl
           by_size false h = h
 
       by_tests : (t : Bool) → ltb 0 n ≡ t
-          → Backed site root told roots NoneFree (if t && is_good (make_unset fill Stack n w) (next_base Stack w) n then set_cells (next_base Stack w) n origin (set_shadow (next_base Stack w) n (λ j. 255) (make_unset fill Stack n w)) else make_unset fill Stack n w)
+          → Backed site root told roots NoneFree (if t && is_good (make_unset fill area n w) (next_base area w) n then set_cells (next_base area w) n origin (set_shadow (next_base area w) n (λ j. 255) (make_unset fill area n w)) else make_unset fill area n w)
       by_tests true e =
-          subst (λ g. Backed site root told roots NoneFree (if g then set_cells (next_base Stack w) n origin (set_shadow (next_base Stack w) n (λ j. 255) (make_unset fill Stack n w)) else make_unset fill Stack n w)) (sym good)
-          (ranged (λ x. touches (next_base Stack w) n (x / 4) ≡ true) (next_base Stack w) n (λ j. 255) origin (make_unset fill Stack n w) back
-          (λ x i l g. omega (arith, (inside (next_base Stack w) n x i).0, g)) (λ x h. h) (made_stack n w b))
+          subst (λ g. Backed site root told roots NoneFree (if g then set_cells (next_base area w) n origin (set_shadow (next_base area w) n (λ j. 255) (make_unset fill area n w)) else make_unset fill area n w)) (sym good)
+          (ranged (λ x. touches (next_base area w) n (x / 4) ≡ true) (next_base area w) n (λ j. 255) origin (make_unset fill area n w) back
+          (λ x i. let at = inside (next_base area w) n x i in clear x at.0 at.1) (λ x h. h) b)
       by_tests false e =
-          freer (λ x. touches (next_base Stack w) n (x / 4) ≡ true) NoneFree
-          (λ x h. true≢false (sym (and_parts (ltb 0 n) (leb (next_base Stack w / 4) (x / 4)) (and_parts (ltb 0 n && leb (next_base Stack w / 4) (x / 4)) (leb (x / 4) ((next_base Stack w + n - 1) / 4)) h).0).0 ∙ e))
-          (make_unset fill Stack n w) (made_stack n w b)
+          freer (λ x. touches (next_base area w) n (x / 4) ≡ true) NoneFree
+          (λ x h. true≢false (sym (and_parts (ltb 0 n) (leb (next_base area w / 4) (x / 4)) (and_parts (ltb 0 n && leb (next_base area w / 4) (x / 4)) (leb (x / 4) ((next_base area w + n - 1) / 4)) h).0).0 ∙ e))
+          (make_unset fill area n w) b
+
+  stack_room : (fill : List ℕ) (n origin : ℕ) (w : World) → fits Stack n w ≡ true → Back site root roots w.pairs origin → Backed site root told roots NoneFree w
+      → Backed site root told roots NoneFree (poison (next_base Stack w) 0 n origin (make_unset fill Stack n w))
+  stack_room fill n origin w fit back b =
+      room_backed Stack fill n origin w (omega (arith, leb-true (used Stack w.allocs + room n) (area_limit Stack) fit)) (λ x l k m g. omega (arith, l, g)) back (made_stack n w b)
+
+  heap_room : (fill : List ℕ) (n origin : ℕ) (w : World) → fits Heap n w ≡ true → Back site root roots w.pairs origin → Backed site root told roots NoneFree w
+      → Backed site root told roots NoneFree (poison (next_base Heap w) 0 n origin (make_unset fill Heap n w))
+  heap_room fill n origin w fit back b =
+      room_backed Heap fill n origin w (omega (arith, leb-true (used Heap w.allocs + room n) (area_limit Heap) fit)) (λ x l k m g. omega (arith, k, m, more, (room_whole n).1)) back
+      (freer NoneFree (λ x. touches (next_base Heap w) n (x / 4) ≡ true) (λ x h. absurd h) (make Heap n w) (made_heap n w fit b))
+    where
+      more : used Heap (w.allocs ++ next_block Heap n w ∷ []) ≡ used Heap w.allocs + room n
+      more = used_push Heap w.allocs (next_block Heap n w)
+
+  -- 'alloca': its bytes get its own origin
+  pub made_room : (fill : List ℕ) (n origin : ℕ) (w : World) → fits (local_area w) n w ≡ true → Back site root roots w.pairs origin → Backed site root told roots NoneFree w
+      → Backed site root told roots NoneFree (poison (next_base (local_area w) w) 0 n origin (make_unset fill (local_area w) n w))
+  made_room fill n origin w fit back b = by_turn (eqb w.turn 0) fit
+    where
+      by_turn : (t : Bool) → fits (if t then Stack else Heap) n w ≡ true
+          → Backed site root told roots NoneFree (poison (next_base (if t then Stack else Heap) w) 0 n origin (make_unset fill (if t then Stack else Heap) n w))
+      by_turn true f = stack_room fill n origin w f back b
+      by_turn false f = heap_room fill n origin w f back b
 
   -- a block that is ended
   pub ended_back : (p : ℕ) (w : World) → Backed site root told roots NoneFree w → Backed site root told roots NoneFree (end_block p w)
@@ -312,7 +347,7 @@ module _ (site root told : ℕ → Type 0) (roots : ℕ) where
       one false a h = h
 
   -- the stack taken back at a return
-  pub released_back : (mark : ℕ) (w : World) → Backed site root told roots NoneFree w → Backed site root told roots NoneFree (release mark w)
+  released_back : (mark : ℕ) (w : World) → Backed site root told roots NoneFree w → Backed site root told roots NoneFree (release mark w)
   released_back mark w b = record {
     cells = b.cells;
     pairs_back = b.pairs_back;
@@ -320,6 +355,18 @@ module _ (site root told : ℕ → Type 0) (roots : ℕ) where
     placed = subst (λ top. All (Apart (area_base Heap + top)) (filter (keeps mark) w.allocs)) (sym (used_kept mark w.allocs)) (All-filter (keeps mark) (Apart (next_base Heap w)) w.allocs b.placed);
     reports_back = b.reports_back;
   }
+
+  all_ended_back : (ps : List ℕ) (w : World) → Backed site root told roots NoneFree w → Backed site root told roots NoneFree (end_blocks ps w)
+  all_ended_back [] w b = b
+  all_ended_back (p ∷ ps) w b = all_ended_back ps (end_block p w) (ended_back p w b)
+
+  -- what a return takes back
+  pub given_back_backed : {V : Type 0} (frame : Frame V) (w : World) → Backed site root told roots NoneFree w → Backed site root told roots NoneFree (given_back frame w)
+  given_back_backed frame w b = all_ended_back frame.heap (if eqb frame.mark 0 then w else release frame.mark w) (by_mark (eqb frame.mark 0))
+    where
+      by_mark : (t : Bool) → Backed site root told roots NoneFree (if t then w else release frame.mark w)
+      by_mark true = b
+      by_mark false = released_back frame.mark w b
 
   -- ---- pairs
 

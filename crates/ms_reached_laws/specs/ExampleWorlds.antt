@@ -17,6 +17,11 @@ poisoned_room = record {
   output = [];
   reports = [];
   blind = 0;
+  turn = 0;
+  threads = [];
+  answers = λ k. 0;
+  answer_masks = λ k. 0;
+  answer_origins = λ k. 0;
 }
 
 -- a module with one root and nothing else

@@ -1,5 +1,6 @@
 //! Poisoned bits come from what a run has reached.
-ghost use Rattle.std.specs.Prelude.{◌≡◌, ℕ, Some, option_map};
+ghost use Rattle.std.specs.Prelude.{◌≡◌, ℕ, Some, option_map, false};
+ghost use Rattle.ms_ir.specs.ThreadCalls.{is_threaded};
 ghost use Rattle.ms_ir.specs.declared.syntax.Module.{Module};
 ghost use Rattle.ms_runs.specs.declared.runs.Setup.{Setup};
 ghost use Rattle.ms_ir.specs.Code.{site_at, NoMarks};
@@ -18,8 +19,8 @@ ghost use Rattle.ms_clean_laws.specs.KeepClean.{KeepClean};
 /// trail that each report shows. This is so for any depth of trails, and by any rules for masks that keep to widths and
 /// poison nothing of their own.
 pub fn origins_lead_back()
-    ensures by_completions { (m : Module) → Formed m → Valid m → NoMarks m → (setup : Setup) → GivesBytes setup → FromReached by_completions m setup }
-    ensures by_rules { (d : Rules) → KeepClean d → KeepWidths d → (m : Module) → Formed m → Valid m → NoMarks m → (setup : Setup) → GivesBytes setup → FromReached d m setup }
+    ensures by_completions { (m : Module) → Formed m → Valid m → is_threaded m ≡ false → NoMarks m → (setup : Setup) → GivesBytes setup → FromReached by_completions m setup }
+    ensures by_rules { (d : Rules) → KeepClean d → KeepWidths d → (m : Module) → Formed m → Valid m → is_threaded m ≡ false → NoMarks m → (setup : Setup) → GivesBytes setup → FromReached d m setup }
 {}
 
 /// A root that is reached is listed with the site of the instruction that makes it: the one that is due, whose operand it is or

@@ -4,3 +4,4 @@ mod Singles
 mod Indents
 pub mod Unindented
 pub mod TrailLines
+mod SiteCounts

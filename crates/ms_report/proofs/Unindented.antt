@@ -18,7 +18,7 @@ use Rattle.ms_report.specs.declared.refusals.Refusal.TheVariants.{Read, Check}
 use Rattle.ms_report.specs.RunTexts.{line, end_text, verdict_text, verdict_line, closing_of}
 use Rattle.ms_report.specs.ReportTexts.{origin_line, origin_text, earlier, chain_text, origins_text, report_line, reports_text}
 use Rattle.ms_report.specs.FaultTexts.{refused_line, fault_text, fault_line}
-use Rattle.ms_report.specs.RefusalTexts.{lexer_text, reader_text, refusal_text}
+use Rattle.ms_report.specs.RefusalTexts.{lexer_text, reader_text, refusal_text, threads_text}
 use Rattle.ms_report.specs.WithLines.{Lines, under_line, origin_site, end_site, refusal_site, chain_with, origins_with, reports_with, closing_text_with, refusal_text_with}
 use Rattle.ms_report.proofs.Singles.{Single, literal, joined, of_number, of_end, of_verdict, of_origin, of_use, of_bits, of_signed, of_place, of_path, of_cause, of_what, of_token}
 use Rattle.ms_report.proofs.Indents.{IsLine, newline, line_after, Leaves, nothing, whole, both, without, stays, goes, goes_under}
@@ -113,6 +113,9 @@ module _ (under : Lines) (all : (site : ℕ) → IsIndented (under site)) where
   pub refusal_left : (cause : Refusal) → unindented (refusal_text_with under cause) ≡ refusal_text cause
   refusal_left cause =
       whole (refusal_text_with under cause) (refusal_text cause) (without (refusal_stays cause) (goes_under under (refusal_site cause) all))
+
+  pub threads_left : unindented threads_text ≡ threads_text
+  threads_left = whole threads_text threads_text (refused_stays 18 (codes "threads") (literal _ refl))
 
   -- ---- for texts in front of others, and for faults alone
 

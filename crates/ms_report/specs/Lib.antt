@@ -5,3 +5,4 @@ pub mod RefusalTexts
 pub mod WordsTexts
 pub mod WithLines
 pub mod TrailTexts
+pub mod SummaryTexts

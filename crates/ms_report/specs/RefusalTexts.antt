@@ -94,6 +94,10 @@ abbrev pub refusal_text : Refusal → List ℕ
 refusal_text (Read cause) = reader_text cause
 refusal_text (Check cause) = fault_line (fault_of cause)
 
+-- why a command that takes no schedule refuses a module with threads
+abbrev pub threads_text : List ℕ
+threads_text = refused_line 18 (codes "threads")
+
 -- ---- what has a line
 
 -- the number is from 4 to 8; a construct is named exactly at 5, and a limit exactly at 6

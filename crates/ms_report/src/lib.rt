@@ -1,4 +1,4 @@
-//! What is printed: the reports of a run, the way to one of them and how the run ended, and why a module or a command is refused. Every line ends with
+//! What is printed: the reports of a run, the way to one of them, how the run ended and its summary, and why a module or a command is refused. Every line ends with
 //! a newline.
 #![tactic(auto)]
 
@@ -10,13 +10,15 @@ mod refusals;
 mod reports;
 mod site_lines;
 mod sites;
+mod summaries;
 mod trails;
 mod words;
 
 pub use endings::{closing, closing_with};
 pub use laws::lines_are_added;
-pub use refusals::{Refusal, refusal_line, refusal_line_with};
+pub use refusals::{Refusal, refusal_line, refusal_line_with, threads_line};
 pub use reports::{report_text, report_text_with};
 pub use site_lines::{NoLines, SiteLines};
+pub use summaries::summary_text;
 pub use trails::trail_text_with;
 pub use words::{WordsFault, words_line};

@@ -1,7 +1,7 @@
 //! The lines of refusals.
 ghost use Rattle.std.specs.Prelude.{◌≡◌, ◌++◌, IfOk, codes, decimal};
 ghost use Rattle.ms_report.specs.FaultTexts.{refused_line};
-ghost use Rattle.ms_report.specs.RefusalTexts.{HasLine, IsReadRefusal, IsNumbered, outside_name, limit_name, cause_name, what_text, token_text, lexer_text, reader_text, refusal_text};
+ghost use Rattle.ms_report.specs.RefusalTexts.{HasLine, IsReadRefusal, IsNumbered, outside_name, limit_name, cause_name, what_text, token_text, lexer_text, reader_text, refusal_text, threads_text};
 ghost use Rattle.ms_report.specs.WithLines.{refusal_site, refusal_text_with};
 
 use crate::faults::{push_check, site_of_fault};
@@ -230,5 +230,19 @@ pub fn refusal_line_with<L: SiteLines>(
     let mut text = Vec::new(alloc);
     push_refusal(&mut text, e)?;
     push_under(&mut text, site_of_refusal(e), under)?;
+    Ok(text)
+}
+
+/// The line that says why a command that takes no schedule refuses a module with threads.
+///
+/// # Errors
+///
+/// `NoMemory`, where it runs out of memory.
+pub fn threads_line(alloc: Global) -> Result<Vec<u8>, NoMemory>
+    ensures { IfOk result (λ text. text.items ≡ threads_text) }
+{
+    let mut text = Vec::new(alloc);
+    begin_line(&mut text, 18)?;
+    text.extend_from_slice(b"threads\n")?;
     Ok(text)
 }

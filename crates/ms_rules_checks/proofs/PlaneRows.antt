@@ -1,6 +1,7 @@
 -- What stands behind an operation and before it, from what is known of it.
 use Rattle.std.proofs.Common.{◌≡◌, ◌⊎◌, inl, inr, ℕ, ◌+◌, false, List, [], ◌∷◌, refl, sym, ap, ◌∙◌}
 use Rattle.std.specs.Prelude.{Option, Some, None, is_some}
+use Rattle.ms_bits.specs.declared.operations.Pred.TheVariants as pred
 use Rattle.ms_ir.specs.declared.syntax.Name.{Name}
 use Rattle.ms_ir.specs.declared.syntax.Ty.{Ty, Int, Ptr}
 use Rattle.ms_ir.specs.declared.syntax.Operand.{Operand}
@@ -13,7 +14,7 @@ use Rattle.ms_ir.specs.declared.calls.External.TheVariants as external
 use Rattle.ms_ir.specs.Code.{operands, count_undefs, external_named}
 use Rattle.ms_ir.specs.Layout.{width_of, size_in}
 use Rattle.ms_runs.specs.World.{Here}
-use Rattle.ms_tasks.specs.Tasks.{Leaf, Task, msan_name, Calls, Expr, Mul, Two}
+use Rattle.ms_tasks.specs.Tasks.{Leaf, Task, msan_name, Calls, Expr, Mul, Two, Test, Pick}
 use Rattle.ms_tasks.specs.Environments.{Env, Given, Tracked, tracked_at, word_of, number, widened}
 use Rattle.ms_tasks.specs.PlaneTasks.{copy_task, saved_tasks, save_tasks, external_tasks, callee_tasks, plane_tasks}
 use Rattle.ms_rules_code.specs.Called.{calls_own, called_external}
@@ -40,6 +41,14 @@ module _ (site root saved : ℕ) (ts : List Tracked) where
   pub read_row : (r : Option Name) → named_call function.Unpoison r ((Ptr, word_of (tracked_at 1 ts)) ∷ (Int 64, result_word r) ∷ []) ≡ external_tasks site root saved r external.Read ts
   read_row (Some x) = refl
   read_row None = refl
+
+  pub create_row : (r : Option Name) → named_call function.Unpoison r ((Ptr, word_of (tracked_at 0 ts)) ∷ (Int 64, Pick (Test pred.Eq (Int 32) (result_word r) (number 0)) (Int 64) (number 8) (number 0)) ∷ []) ≡ external_tasks site root saved r external.PthreadCreate ts
+  create_row (Some x) = refl
+  create_row None = refl
+
+  pub join_row : (r : Option Name) → named_call function.ThreadResult r ((Ptr, word_of (tracked_at 1 ts)) ∷ (Int 64, word_of (tracked_at 0 ts)) ∷ (Int 32, result_word r) ∷ (Int 32, number site) ∷ []) ≡ external_tasks site root saved r external.PthreadJoin ts
+  join_row (Some x) = refl
+  join_row None = refl
 
   pub start_row : (r : Option Name) → Calls None function.Poison ((Ptr, word_of (tracked_at 1 ts)) ∷ (Int 64, number 0) ∷ (Int 64, word_of (tracked_at 0 ts)) ∷ (Int 32, number root) ∷ []) ∷ [] ≡ external_tasks site root saved r external.LifetimeStart ts
   start_row (Some x) = refl

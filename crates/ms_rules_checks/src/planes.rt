@@ -16,7 +16,7 @@ ghost use Rattle.ms_rules_code.specs.Made.{with_tasks};
 ghost use Rattle.ms_rules_code.specs.Steps.{tracked_of, words};
 
 use crate::calls::{call, store, width_at};
-use ms_bits::NoMemory;
+use ms_bits::{NoMemory, Pred};
 use ms_ir::{External, Name, Op, RuntimeFn};
 use ms_rules_code::{Code, Inputs, Operation, Step, TrackedOperand, Width, msan_name, width_of};
 use std::alloc::Global;
@@ -148,6 +148,27 @@ fn set_external(
         External::Read => {
             let steps = [Step::Word(1), Step::Result];
             call_named(code, RuntimeFn::Unpoison, operands, name, &steps)
+        }
+        External::PthreadCreate => {
+            let steps = [
+                Step::Word(0),
+                Step::Result,
+                start,
+                Step::Test(Pred::Eq, Width::Bits(32)),
+                Step::Constant(8),
+                start,
+                Step::Pick(Width::Bits(64)),
+            ];
+            call_named(code, RuntimeFn::Unpoison, operands, name, &steps)
+        }
+        External::PthreadJoin => {
+            let steps = [
+                Step::Word(1),
+                Step::Word(0),
+                Step::Result,
+                Step::Constant(site as u64),
+            ];
+            call_named(code, RuntimeFn::ThreadResult, operands, name, &steps)
         }
         External::LifetimeStart => {
             let steps = [Step::Word(1), start, Step::Word(0), root];

@@ -81,10 +81,16 @@ fn external_uses(external: External) -> &'static [Use]
             Bytes(OUTPUT, 1, 2),
         ],
         External::Exit => &[Word(EXIT, 0)],
-        External::Getchar | External::Abort | External::Word(_, _) | External::LlvmTrap => &[],
+        External::Getchar
+        | External::Abort
+        | External::Word(_, _)
+        | External::LlvmTrap
+        | External::SchedYield => &[],
         External::LlvmAssume => &[Word(BRANCH, 0)],
         External::LlvmObjectSize => &[Word(VALUE, 1)],
         External::LifetimeStart | External::LifetimeEnd => &[Word(SIZE, 0), Word(POINTER, 1)],
+        External::PthreadCreate => &[Word(POINTER, 0), Word(POINTER, 1), Word(POINTER, 3)],
+        External::PthreadJoin => &[Word(VALUE, 0), Word(POINTER, 1)],
         External::Printf => unreachable!(),
     }
 }

@@ -73,6 +73,7 @@ fn parameters(function: RuntimeFn) -> &'static [Parameter]
         RuntimeFn::LoadOrigin => &[POINTER, LONG],
         RuntimeFn::Size => &[POINTER],
         RuntimeFn::CheckFormat => &[POINTER, SHORT, POINTER, SHORT],
+        RuntimeFn::ThreadResult => &[POINTER, LONG, SHORT, SHORT],
         RuntimeFn::Move(kind) => move_parameters(kind),
     }
 }

@@ -16,9 +16,8 @@ use Rattle.ms_bits.specs.Conversions.{compare_of, cast_of, select_of}
 use Rattle.ms_bits.specs.Fill.{undef_word_of}
 use Rattle.ms_ir.specs.Layout.{width_of, stored_size, size_in, extended, indexed}
 use Rattle.ms_runs.specs.World.{World, Setting, Here, Effect, Gives, Does, Goes, Enters, Leaves, Ends, traps, stuck, word, gives}
-use Rattle.ms_ir.specs.Areas.{Stack}
 use Rattle.ms_bits.specs.Maps.{number_at}
-use Rattle.ms_runs.specs.Memory.{fits, next_base, is_good, make_unset, store_number}
+use Rattle.ms_runs.specs.Memory.{fits, next_base, local_area, is_good, make_unset, store_number}
 use Rattle.ms_ir.specs.Code.{external_named}
 use Rattle.ms_runs.specs.Globals.{constant}
 use Rattle.ms_runs.specs.Control.{Reading}
@@ -40,10 +39,11 @@ abbrev pub truth : Result Bool Trap → Result ℕ Trap
 truth (Ok b) = Ok (from_bool b)
 truth (Err t) = Err t
 
--- 'alloca' of n bytes in all, which are uninitialised
+-- 'alloca' of n bytes in all, which are uninitialised; a fiber beside `main`'s has them on the heap
 abbrev pub alloca : Setting → (site n : ℕ) → World → Effect
 alloca setting site n world =
-    if fits Stack n world then Gives (next_base Stack world) (make_unset setting.fill Stack n world) else traps trap.Stack site world
+    let area = local_area world in
+    if fits area n world then Gives (next_base area world) (make_unset setting.fill area n world) else traps trap.Stack site world
 
 -- 'load': the bytes as a number, without the bits past the type's width
 abbrev pub load : (site a : ℕ) → Ty → World → Effect

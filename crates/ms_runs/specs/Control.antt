@@ -1,12 +1,13 @@
 -- Frames, jumps, calls and returns, for words of any kind V: a plain run's words are numbers (LLVM Language Reference,
 -- "'phi' Instruction", "'br' Instruction", "'switch' Instruction", "'call' Instruction" and "'ret' Instruction"; own:
 -- the limit of frames).
-use Rattle.std.specs.Prelude.{ℕ, suc, ◌+◌, List, [], ◌∷◌, length, drop, get_or, filter, leb, if◌then◌else◌, Option, Some, None, unwrap_or, option_map, option_and_then, slice_get}
+use Rattle.std.specs.Prelude.{ℕ, suc, ◌+◌, List, [], ◌∷◌, ◌++◌, length, drop, get_or, filter, eqb, leb, if◌then◌else◌, Option, Some, None, unwrap_or, option_map, option_and_then, slice_get}
 use Rattle.ms_bits.specs.declared.traps.Trap.TheVariants as trap
 use Rattle.ms_ir.specs.declared.syntax.Name.{Name}
 use Rattle.ms_ir.specs.declared.syntax.Name.TheVariants.{Number}
 use Rattle.ms_ir.specs.declared.syntax.Ty.{Ty}
 use Rattle.ms_ir.specs.declared.syntax.Operand.{Operand}
+use Rattle.ms_ir.specs.declared.syntax.Op.{Op}
 use Rattle.ms_ir.specs.declared.syntax.Op.TheVariants as op
 use Rattle.ms_ir.specs.declared.syntax.Inst.{Inst}
 use Rattle.ms_ir.specs.declared.syntax.Module.{Module}
@@ -15,17 +16,18 @@ use Rattle.ms_runs.specs.declared.runs.End.TheVariants as «end»
 use Rattle.ms_ir.specs.Names.{main_name, name_eq}
 use Rattle.ms_ir.specs.Areas.{Stack}
 use Rattle.ms_runs.specs.World.{World, Setting, Here, Effect, Gives, Does, Goes, Enters, Leaves, Ends, stuck}
-use Rattle.ms_runs.specs.Memory.{keeps, next_base}
+use Rattle.ms_runs.specs.Memory.{keeps, next_base, end_blocks}
 use Rattle.ms_ir.specs.Code.{one_undef, func_at, blocks_at, insts_at, block_index, site_at, root_at, roots_in}
 
 -- a call that stands: the function, block and instruction that is due, each counted from 0, what its results are so
--- far, and where its part of the stack begins
+-- far, where its part of the stack begins, which is 0 in a fiber beside `main`'s, and the heap blocks of its own there
 pub record Frame (V : Type 0) : Type 0 where
   pub func : ℕ
   pub block : ℕ
   pub place : ℕ
   pub values : Name → V
   pub mark : ℕ
+  pub heap : List ℕ
 
 -- how words are read: an operand, given the number of roots before it, and what an unset result reads as
 pub record Reading (V : Type 0) : Type 0 where
@@ -119,14 +121,19 @@ bind unset (p ∷ ps) (v ∷ words) = with_value (bind unset ps words) p.1 v
 abbrev pub params_at : Module → ℕ → List (Ty × Name)
 params_at m f = unwrap_or (option_map (λ g. g.params) (func_at m f)) []
 
--- a call's new frame, at the beginning of its function; its part of the stack begins where the next allocation would
+-- where a new frame's part of the stack begins: where the next allocation would; 0 in a fiber beside `main`'s
+abbrev pub entry_mark : World → ℕ
+entry_mark world = if eqb world.turn 0 then next_base Stack world else 0
+
+-- a call's new frame, at the beginning of its function
 abbrev pub entered : {V : Type 0} → Reading V → Module → ℕ → List V → World → Frame V
 entered reading m f words world = record {
   func = f;
   block = 0;
   place = 0;
   values = bind reading.unset (params_at m f) words;
-  mark = next_base Stack world;
+  mark = entry_mark world;
+  heap = [];
 }
 
 -- the name of the result of the instruction at which a frame stands, if it has one
@@ -137,11 +144,32 @@ result_at m frame = option_and_then (λ inst. inst.result) (slice_get (insts_at 
 abbrev pub release : ℕ → World → World
 release mark world = record world { allocs = filter (keeps mark) world.allocs }
 
+-- what a frame has of the stack and of the heap is taken back
+abbrev pub given_back : {V : Type 0} → Frame V → World → World
+given_back frame world = end_blocks frame.heap (if eqb frame.mark 0 then world else release frame.mark world)
+
+-- the heap block that an 'alloca' makes in a fiber beside `main`'s
+abbrev pub local_block : Op → ℕ → List ℕ
+local_block (op.Alloca t u count) v = v ∷ []
+local_block o v = []
+
+abbrev pub blocks_made : Op → Effect → List ℕ
+blocks_made o (Gives v world) = if eqb world.turn 0 then [] else local_block o v
+blocks_made o (Does world) = []
+blocks_made o (Goes to world) = []
+blocks_made o (Enters f world) = []
+blocks_made o (Leaves world) = []
+blocks_made o (Ends e world) = []
+
+-- a frame has the heap blocks that an instruction made for it
+abbrev pub keeping : {V : Type 0} → Op → Effect → Frame V → Frame V
+keeping o effect frame = record frame { heap = blocks_made o effect ++ frame.heap }
+
 -- a return: the caller goes on behind its call, whose result is the word returned
 abbrev pub left : {V : Type 0} → Reading V → Module → List V → Frame V → List (Frame V) → World → Outcome V
 left reading m words frame [] world = Over stuck world
 left reading m words frame (caller ∷ below) world =
-    On (put caller (result_at m caller) (get_or words 0 reading.unset) ∷ below) (release frame.mark world)
+    On (put caller (result_at m caller) (get_or words 0 reading.unset) ∷ below) (given_back frame world)
 
 -- how many frames may stand at once
 abbrev pub frame_limit : ℕ

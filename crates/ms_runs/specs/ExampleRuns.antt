@@ -69,7 +69,7 @@ counted n = record { output = []; «end» = «end».Exit 0; reports = []; blind 
 
 -- a frame of the function of `recursion` that stands at its call
 abbrev pub frame_at_call : Frame ℕ
-frame_at_call = record { func = 0; block = 2; place = 1; values = λ x. 0; mark = 0x720000000000 }
+frame_at_call = record { func = 0; block = 2; place = 1; values = λ x. 0; mark = 0x720000000000; heap = [] }
 
 -- so many of these frames
 abbrev pub frames_at_call : ℕ → List (Frame ℕ)

@@ -1,19 +1,20 @@
--- What the externals do to memory, input and output (C library; LLVM Language Reference, "'llvm.memcpy' Intrinsic" and
+-- What the externals do to memory, input, output and fibers (C library; POSIX, "pthread_create", "pthread_join" and "sched_yield"; LLVM Language Reference, "'llvm.memcpy' Intrinsic" and
 -- its neighbours, "'llvm.lifetime.start' Intrinsic", "'llvm.trap' Intrinsic", "'llvm.assume' Intrinsic", "'llvm.objectsize' Intrinsic", and
--- those of WordFunctions; own: the heap's limit, traps, what is answered at a limit, and that no object's size is known).
+-- those of WordFunctions; own: the heap's limit, traps, what is answered at a limit, that no object's size is known, and the numbers of fibers and their limit).
 use Rattle.std.specs.Prelude.{ℕ, ◌+◌, ◌-◌, ◌*◌, ◌%◌, ◌^◌, min, ◌&&◌, List, [], ◌∷◌, ◌++◌, length, map, zip, take, drop, get_or, eqb, leb, ltb, if◌then◌else◌, Option, Some, None, is_some, Result, Ok, Err}
 use Rattle.ms_bits.specs.declared.traps.Trap.{Trap}
 use Rattle.ms_bits.specs.declared.traps.Trap.TheVariants as trap
 use Rattle.ms_runs.specs.declared.runs.End.TheVariants as «end»
 use Rattle.ms_ir.specs.declared.calls.External.{External}
-use Rattle.ms_ir.specs.declared.calls.External.TheVariants.{Malloc, Calloc, Realloc, Free, Memcpy, Memmove, Memset, Memcmp, Strlen, Putchar, Puts, Getchar, Read, Write, Exit, Abort, LlvmMemcpy, LlvmMemmove, LlvmMemset, LifetimeStart, LifetimeEnd, Printf, LlvmTrap, LlvmAssume, LlvmObjectSize, Word}
+use Rattle.ms_ir.specs.declared.calls.External.TheVariants.{Malloc, Calloc, Realloc, Free, Memcpy, Memmove, Memset, Memcmp, Strlen, Putchar, Puts, Getchar, Read, Write, Exit, Abort, LlvmMemcpy, LlvmMemmove, LlvmMemset, LifetimeStart, LifetimeEnd, Printf, LlvmTrap, LlvmAssume, LlvmObjectSize, PthreadCreate, PthreadJoin, SchedYield, Word}
 use Rattle.ms_bits.specs.WordFunctions.{bits_of, word_answer}
 use Rattle.ms_ir.specs.declared.syntax.Ty.{Ty}
 use Rattle.ms_ir.specs.Areas.{Heap}
 use Rattle.ms_runs.specs.World.{World, Setting, Effect, Gives, Does, Ends, traps, word, gives}
 use Rattle.ms_bits.specs.Maps.{bytes_at, string_within}
-use Rattle.ms_runs.specs.Memory.{fits, next_base, is_good, heap_size, end_block, make, make_unset, make_bytes, set_bytes, copy_bytes, copy_shadow, bytes_left}
+use Rattle.ms_runs.specs.Memory.{fits, next_base, is_good, heap_size, end_block, make, make_unset, make_bytes, set_bytes, store_number, copy_bytes, copy_shadow, bytes_left}
 use Rattle.ms_runs.specs.Formats.{cut_of, with_arguments, shown, all_shown}
+use Rattle.ms_runs.specs.Threads.{fiber_limit, thread_at, has_ended, with_fiber, with_joined, join_answer}
 
 -- -1 as a word of so many bits
 abbrev pub minus_one : ℕ → ℕ
@@ -108,6 +109,27 @@ abbrev pub prints : (site : ℕ) → Result (List ℕ) Trap → World → Effect
 prints site (Ok bs) world = printed site bs (Gives (length bs)) world
 prints site (Err t) world = traps t site world
 
+-- 'pthread_create': one fiber more, which runs a function with an argument, and its number at an address; 11 where as many
+-- were made as may be
+abbrev pub create : (site id func argument : ℕ) → World → Effect
+create site id func argument world =
+    if leb fiber_limit (length world.threads + 1) then Gives 11 world else
+    where_good site id 8 world
+    (Gives 0 (store_number id 8 (length world.threads + 1) (with_fiber func argument world)))
+
+-- the fiber with a number was joined, and the word that it answered is stored at an address unless that is null
+abbrev pub joined : (site id r : ℕ) → World → Effect
+joined site id r world =
+    if eqb r 0 then Gives 0 (with_joined id world) else
+    where_good site r 8 world (Gives 0 (store_number r 8 (world.answers id) (with_joined id world)))
+
+-- 'pthread_join': where it would have to wait it traps, which a run of fibers doesn't come to
+abbrev pub join : (site id r : ℕ) → World → Effect
+join site id r world =
+    if eqb (join_answer world.turn id world.threads) 0
+    then (if has_ended (thread_at id world.threads) then joined site id r world else traps trap.Deadlock site world)
+    else Gives (join_answer world.turn id world.threads) world
+
 -- an external with its arguments' types and words; 'read' and 'write' ask for a good range whatever the descriptor is
 abbrev pub external : Setting → ℕ → External → List Ty → List ℕ → World → Effect
 external setting site Malloc types words world = malloc setting.fill (word 0 words) world
@@ -157,5 +179,8 @@ external setting site LifetimeEnd types words world = Does world
 external setting site LlvmTrap types words world = traps trap.Abort site world
 external setting site LlvmAssume types words world = assumed site (word 0 words) world
 external setting site LlvmObjectSize types words world = Gives (unknown_size (word 1 words)) world
+external setting site PthreadCreate types words world = create site (word 0 words) (word 2 words) (word 3 words) world
+external setting site PthreadJoin types words world = join site (word 0 words) (word 1 words) world
+external setting site SchedYield types words world = Gives 0 world
 external setting site Printf types words world = prints site (formatted world types words) world
 external setting site (Word f n) types words world = gives site (word_answer f (bits_of n) (word 0 words) (word 1 words) (word 2 words)) world

@@ -1,6 +1,6 @@
 -- Where globals stand, and what they hold first (LLVM Language Reference, "Global Variables" and "Constants"; own: the
 -- order and places, and that undefined words of an initialiser are zero).
-use Rattle.std.specs.Prelude.{ℕ, ◌+◌, Bool, List, [], ◌∷◌, length, map, get_or, if◌then◌else◌, Some, None}
+use Rattle.std.specs.Prelude.{ℕ, ◌+◌, ◌%◌, ◌^◌, Bool, List, [], ◌∷◌, length, map, get_or, if◌then◌else◌, Some, None}
 use Rattle.ms_ir.specs.declared.syntax.Name.{Name}
 use Rattle.ms_ir.specs.declared.syntax.Ty.{Ty}
 use Rattle.ms_ir.specs.declared.syntax.Operand.{Operand}
@@ -10,6 +10,7 @@ use Rattle.ms_ir.specs.declared.syntax.GlobalVar.{GlobalVar}
 use Rattle.ms_ir.specs.declared.syntax.Module.{Module}
 use Rattle.ms_ir.specs.Equal.{Step}
 use Rattle.ms_ir.specs.Names.{name_eq, lookup, slots, is_reserved}
+use Rattle.ms_ir.specs.Code.{func_index}
 use Rattle.ms_ir.specs.Layout.{Types, Extent, extent, width_of, stored_size, size_in, align_in, round_up, place_field, extended, indexed}
 use Rattle.ms_ir.specs.Areas.{Fixed, area_base, room}
 use Rattle.ms_runs.specs.World.{World}
@@ -23,9 +24,13 @@ address_from types (g ∷ rest) at x =
     if is_reserved g.name then address_from types rest at x else
     if name_eq g.name x then at else address_from types rest (at + room (size_in types g.ty)) x
 
--- the address of a global of a module; a slot has one of its own
+-- what a name of a module that is no slot's stands for: a function's for its place, and another for the address of the global
+abbrev pub own_address : Module → Name → ℕ
+own_address m x = elim (func_index m.funcs x) [ Some f ↦ f % 2 ^ 64 | None ↦ address_from m.types m.globals (area_base Fixed) x ]
+
+-- what a name stands for: a slot has an address of its own
 abbrev pub address_of : Module → Name → ℕ
-address_of m x = elim (lookup slots x) [ Some slot ↦ slot.0 | None ↦ address_from m.types m.globals (area_base Fixed) x ]
+address_of m x = elim (lookup slots x) [ Some slot ↦ slot.0 | None ↦ own_address m x ]
 
 -- constant indices, sign-extended to 64 bits
 abbrev pub extended_indices : List (Ty × ℕ) → List ℕ

@@ -2,6 +2,7 @@ pub mod World
 pub mod Memory
 pub mod Origins
 pub mod Formats
+pub mod Threads
 pub mod Externals
 pub mod Runtime
 pub mod Globals

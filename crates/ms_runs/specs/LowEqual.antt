@@ -22,6 +22,7 @@ pub record LowFrame (f g : Frame Poisoned) : Type 0 where
   pub block : f.block ≡ g.block
   pub place : f.place ≡ g.place
   pub mark : f.mark ≡ g.mark
+  pub heap : f.heap ≡ g.heap
   pub values : (x : Name) → LowWord (f.values x) (g.values x)
 
 abbrev pub LowFrames : List (Frame Poisoned) → List (Frame Poisoned) → Type 0
@@ -39,7 +40,12 @@ pub record LowWorld (w v : World) : Type 0 where
   pub output : w.output ≡ v.output
   pub reports : w.reports ≡ v.reports
   pub blind : w.blind ≡ v.blind
+  pub turn : w.turn ≡ v.turn
+  pub threads : w.threads ≡ v.threads
+  pub answer_masks : w.answer_masks ≡ v.answer_masks
+  pub answer_origins : w.answer_origins ≡ v.answer_origins
   pub bytes : (a : ℕ) → Agrees 8 (w.shadow a) (w.bytes a) (v.bytes a)
+  pub answers : (k : ℕ) → SameBits (w.answer_masks k) (w.answers k) (v.answers k)
 
 pub record LowEqual (c d : ShadowState) : Type 0 where
   pub frames : LowFrames c.frames d.frames

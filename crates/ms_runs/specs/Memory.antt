@@ -53,6 +53,15 @@ heap_size world addr = option_map (λ a. a.size) (first_that (is_heap_block addr
 abbrev pub end_block : ℕ → World → World
 end_block addr world = record world { allocs = map (λ a. if is_heap_block addr a then record a { live = false } else a) world.allocs }
 
+-- the heap blocks with these bases aren't live any more
+abbrev pub end_blocks : List ℕ → World → World
+end_blocks [] world = world
+end_blocks (a ∷ rest) world = end_blocks rest (end_block a world)
+
+-- where an 'alloca' stands: on the stack, or on the heap where a fiber beside `main`'s goes on
+abbrev pub local_area : World → Area
+local_area world = if eqb world.turn 0 then Stack else Heap
+
 -- n bytes from an address on become what a function gives for 0, 1 and so on
 abbrev pub set_bytes : ℕ → ℕ → (ℕ → ℕ) → World → World
 set_bytes addr n new world = record world { bytes = with_range world.bytes addr n new }

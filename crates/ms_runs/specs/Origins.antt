@@ -7,10 +7,11 @@ use Rattle.ms_runs.specs.declared.runs.Origin.TheVariants.{Root, Chain}
 use Rattle.ms_runs.specs.declared.runs.End.TheVariants as «end»
 use Rattle.ms_runs.specs.declared.runs.Report.{Report}
 use Rattle.ms_runs.specs.World.{World, Setting, Effect, Does, Ends}
-use Rattle.ms_bits.specs.Maps.{first_nonzero, with_cell}
+use Rattle.ms_bits.specs.Maps.{first_nonzero, with_cell, byte_of}
 use Rattle.ms_runs.specs.Memory.{is_good, set_shadow, set_cells, copy_shadow, bytes_left}
 use Rattle.ms_runs.specs.Formats.{asks_string}
 use Rattle.ms_runs.specs.Externals.{string_at}
+use Rattle.ms_runs.specs.Threads.{thread_at, has_ended}
 
 -- the origins from one to its root, in at most n moves
 abbrev pub trail_within : ℕ → ℕ → List (ℕ × ℕ) → ℕ → List Origin
@@ -138,6 +139,14 @@ mark_cells (suc n) a mask origin world =
 abbrev pub store_origin : Setting → (a mask origin site : ℕ) → World → World
 store_origin setting a mask origin site world =
     if eqb mask 0 then world else let chained = chain setting origin site world in mark_cells 8 a mask chained.id chained.world
+
+-- after a join that answered a word: where that is 0 the 8 bytes at an address that isn't null get the shadow of the word that
+-- the fiber with a number answered, and its origin chained at the site
+abbrev pub thread_result : Setting → (a id answer site : ℕ) → World → World
+thread_result setting a id answer site world =
+    if eqb answer 0 && not (eqb a 0) && is_good world a 8 && has_ended (thread_at id world.threads)
+    then store_origin setting a (world.answer_masks id) (world.answer_origins id) site (set_shadow a 8 (byte_of (world.answer_masks id)) world)
+    else world
 
 -- the cell of the first live byte of n whose byte of the mask isn't 0, else 0
 abbrev pub origin_within : ℕ → (a mask : ℕ) → World → ℕ

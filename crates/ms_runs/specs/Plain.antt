@@ -21,7 +21,7 @@ use Rattle.ms_bits.specs.Maps.{number_at, byte_of, with_range}
 use Rattle.ms_runs.specs.Memory.{is_good, set_shadow}
 use Rattle.ms_ir.specs.Code.{operands, func_index, count_roots}
 use Rattle.ms_runs.specs.Globals.{address_of, make_globals}
-use Rattle.ms_runs.specs.Control.{Frame, Reading, Outcome, On, Over, here, rest_of, read_all, after_effect}
+use Rattle.ms_runs.specs.Control.{Frame, Reading, Outcome, On, Over, here, rest_of, read_all, after_effect, keeping}
 use Rattle.ms_runs.specs.Act.{plain_reading, act}
 use Rattle.ms_runs.specs.Runtime.{runtime}
 
@@ -92,7 +92,7 @@ plain_inst given m inst state (frame ∷ below) =
     let words = read_all (plain_reading.read given frame.values) (operands inst.op) at.root in
     let effect = if inst.marked then act_marked given at inst.op words state.slots state.world else act given at inst.op words state.world in
     plain_state (if inst.marked then slots_after inst.op words state.slots else state.slots)
-    (after_effect plain_reading given m at.site inst.result words (λ v world. v) (λ v world. world) frame below effect)
+    (after_effect plain_reading given m at.site inst.result words (λ v world. v) (λ v world. world) (keeping inst.op effect frame) below effect)
 
 -- from here on: the marked instructions, which are no steps, and one unmarked one, which is
 abbrev pub through : Setting → Module → List Inst → PlainState → Stepped PlainState
@@ -147,6 +147,11 @@ start_world m setup = make_globals m.types (address_of m) m.globals (record {
   output = [];
   reports = [];
   blind = 0;
+  turn = 0;
+  threads = [];
+  answers = λ k. 0;
+  answer_masks = λ k. 0;
+  answer_origins = λ k. 0;
 })
 
 -- the frame at the start: the first instruction of `main`
@@ -157,6 +162,7 @@ start_frame reading m = record {
   place = 0;
   values = λ x. reading.unset;
   mark = area_base Stack;
+  heap = [];
 }
 
 -- the state at the start: the slots are zero

@@ -1,5 +1,5 @@
 -- The shadow meaning: each word with its mask and its origin.
-use Rattle.std.specs.Prelude.{ℕ, ◌+◌, ◌-◌, ◌*◌, ◌%◌, ◌^◌, List, [], ◌∷◌, map, Option, Some, None, unwrap_or}
+use Rattle.std.specs.Prelude.{ℕ, ◌+◌, ◌-◌, ◌*◌, ◌%◌, ◌^◌, List, [], ◌∷◌, map, eqb, if◌then◌else◌, Option, Some, None, unwrap_or}
 use Rattle.ms_ir.specs.declared.syntax.Name.{Name}
 use Rattle.ms_ir.specs.declared.syntax.Ty.{Ty}
 use Rattle.ms_ir.specs.declared.syntax.Operand.{Operand}
@@ -11,14 +11,14 @@ use Rattle.ms_ir.specs.declared.syntax.Module.{Module}
 use Rattle.ms_runs.specs.declared.runs.Setup.{Setup}
 use Rattle.ms_runs.specs.declared.runs.RunResult.{RunResult}
 use Rattle.ms_ir.specs.declared.calls.External.{External}
-use Rattle.ms_ir.specs.declared.calls.External.TheVariants.{Malloc, Realloc, Memcpy, Memmove, Memset, Read, LlvmMemcpy, LlvmMemmove, LlvmMemset, LifetimeStart}
+use Rattle.ms_ir.specs.declared.calls.External.TheVariants.{Malloc, Realloc, Memcpy, Memmove, Memset, Read, LlvmMemcpy, LlvmMemmove, LlvmMemset, LifetimeStart, PthreadCreate, PthreadJoin}
 use Rattle.ms_ir.specs.Layout.{width_of, stored_size, size_in}
 use Rattle.ms_runs.specs.World.{World, Setting, Here, Effect, Gives, Does, Goes, Enters, Leaves, Ends, stuck}
 use Rattle.ms_bits.specs.Maps.{byte_of}
 use Rattle.ms_runs.specs.Memory.{heap_size, set_shadow}
-use Rattle.ms_runs.specs.Origins.{count_blind, poison, unpoison, copy_planes, fill_planes, store_origin}
+use Rattle.ms_runs.specs.Origins.{count_blind, poison, unpoison, copy_planes, fill_planes, store_origin, thread_result}
 use Rattle.ms_ir.specs.Code.{operands, count_undefs, external_named}
-use Rattle.ms_runs.specs.Control.{Frame, Reading, Outcome, On, Over, here, rest_of, read_all, after_effect}
+use Rattle.ms_runs.specs.Control.{Frame, Reading, Outcome, On, Over, here, rest_of, read_all, after_effect, keeping}
 use Rattle.ms_runs.specs.Act.{operand_word, act}
 use Rattle.ms_runs.specs.Plain.{Stepped, More, Stop, run, setting_of, start_world, start_frame}
 use Rattle.ms_runs.specs.Poisoned.{Poisoned, clean}
@@ -64,6 +64,8 @@ external_planes s site root LlvmMemcpy ps before v w = copy_planes (word_at 0 ps
 external_planes s site root LlvmMemmove ps before v w = copy_planes (word_at 0 ps).value (word_at 1 ps).value (word_at 2 ps).value w
 external_planes s site root LlvmMemset ps before v w = fill_planes s (word_at 0 ps).value (word_at 2 ps).value (word_at 1 ps).mask (word_at 1 ps).origin site w
 external_planes s site root LifetimeStart ps before v w = poison (word_at 1 ps).value 0 (word_at 0 ps).value root w
+external_planes s site root PthreadCreate ps before v w = unpoison (word_at 0 ps).value (if eqb v 0 then 8 else 0) w
+external_planes s site root PthreadJoin ps before v w = thread_result s (word_at 1 ps).value (word_at 0 ps).value v site w
 external_planes s site root _ ps before v w = w
 
 abbrev pub callee_planes : Setting → (site root : ℕ) → Option External → List Poisoned → (before : World) → ℕ → World → World
@@ -98,7 +100,7 @@ shadow_act d s m i h ps fr below w =
     after_effect shadow_reading s m h.site i.result ps
     (poisoned_result d i.op ps)
     (planes s h.site (h.root + count_undefs (operands i.op) + 1) i.op ps w)
-    fr below (act s h i.op (map (λ p. p.value) ps) w)
+    (keeping i.op (act s h i.op (map (λ p. p.value) ps) w) fr) below (act s h i.op (map (λ p. p.value) ps) w)
 
 abbrev pub after_checks : Rules → Setting → Module → Inst → Here → List Poisoned → Frame Poisoned → List (Frame Poisoned) → Effect → Outcome Poisoned
 after_checks d s m i h ps fr below (Does w) =

@@ -10,7 +10,7 @@ use Rattle.ms_ir.specs.declared.syntax.Op.{Op}
 use Rattle.ms_ir.specs.declared.syntax.Op.TheVariants as op
 use Rattle.ms_ir.specs.declared.syntax.Name.{Name}
 use Rattle.ms_ir.specs.declared.calls.External.{External}
-use Rattle.ms_ir.specs.declared.calls.External.TheVariants.{Malloc, Calloc, Realloc, Free, Memcpy, Memmove, Memset, Memcmp, Strlen, Putchar, Puts, Getchar, Read, Write, Exit, Abort, LlvmMemcpy, LlvmMemmove, LlvmMemset, LifetimeStart, LifetimeEnd, Printf, LlvmTrap, LlvmAssume, LlvmObjectSize}
+use Rattle.ms_ir.specs.declared.calls.External.TheVariants.{Malloc, Calloc, Realloc, Free, Memcpy, Memmove, Memset, Memcmp, Strlen, Putchar, Puts, Getchar, Read, Write, Exit, Abort, LlvmMemcpy, LlvmMemmove, LlvmMemset, LifetimeStart, LifetimeEnd, Printf, LlvmTrap, LlvmAssume, LlvmObjectSize, PthreadCreate, PthreadJoin, SchedYield}
 use Rattle.ms_ir.specs.declared.calls.External.TheVariants as external
 use Rattle.ms_bits.specs.WordFunctions.{is_flagged}
 use Rattle.ms_ir.specs.declared.syntax.Operand.TheVariants as operand
@@ -65,6 +65,9 @@ external_uses LifetimeEnd args = Word 5 0 ∷ Word 6 1 ∷ []
 external_uses LlvmTrap args = []
 external_uses LlvmAssume args = Word 1 0 ∷ []
 external_uses LlvmObjectSize args = Word 7 1 ∷ []
+external_uses PthreadCreate args = Word 6 0 ∷ Word 6 1 ∷ Word 6 3 ∷ []
+external_uses PthreadJoin args = Word 7 0 ∷ Word 6 1 ∷ []
+external_uses SchedYield args = []
 external_uses (external.Word f n) args = []
 external_uses Printf args = Word 6 0 ∷ Line 0 ∷ (value_uses 1 (drop 1 args) ++ string_uses 1 (drop 1 args))
 

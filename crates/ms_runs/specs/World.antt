@@ -17,9 +17,17 @@ pub record Allocation : Type 0 where
   pub area : Area
   pub live : Bool
 
+-- a fiber that a thread call made: its function and argument, whether it has ended, and whether it was joined
+pub record Thread : Type 0 where
+  pub func : ℕ
+  pub argument : ℕ
+  pub ended : Bool
+  pub joined : Bool
+
 -- what a run changes beside its frames and slots: memory, chained origins, the count of uninitialised bytes made, the
--- input that is left, output, reports and the number of blind uses; bytes and shadow stand by address, origins by
--- address div 4
+-- input that is left, output, reports, the number of blind uses, the number of the fiber whose turn it is, the fibers beside
+-- `main`'s, which have numbers from 1 on, and the words that they answered, with masks and origins, by number; bytes and
+-- shadow stand by address, origins by address div 4
 pub record World : Type 0 where
   pub allocs : List Allocation
   pub bytes : ℕ → ℕ
@@ -31,6 +39,11 @@ pub record World : Type 0 where
   pub output : List ℕ
   pub reports : List Report
   pub blind : ℕ
+  pub turn : ℕ
+  pub threads : List Thread
+  pub answers : ℕ → ℕ
+  pub answer_masks : ℕ → ℕ
+  pub answer_origins : ℕ → ℕ
 
 -- what stays the same in a run, and is the same for a module and its instrumented form: the named types, where each
 -- global stands, the place of each function, the fill, the limit of reports and the number of roots

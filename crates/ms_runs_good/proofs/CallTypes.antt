@@ -30,7 +30,7 @@ use Rattle.ms_ir.specs.Equal.{has_name, type_eq, result_type_eq, types_eq}
 use Rattle.ms_ir.specs.Locals.{locals, global_names, declared_names, type_names, func_insts, value_type}
 use Rattle.ms_valid.specs.NamesOnce.{repeats, at_sign, percent_sign, function_duplicates}
 use Rattle.ms_ir.specs.Signatures.{Signature, signature_eq, func_signature, decl_signature, defined_signature, declared_signature, signature_of, external_signature, is_variadic, called_signature, runtime_signature}
-use Rattle.ms_valid.specs.TypesAgree.{operand_fits, argument_fault, call_fault, first_misfit, is_printable, is_printf, printf_fault, fault_unless, op_fault}
+use Rattle.ms_valid.specs.TypesAgree.{operand_fits, argument_fault, fits_call, call_fault, first_misfit, is_printable, is_printf, printf_fault, fault_unless, op_fault}
 use Rattle.ms_valid.specs.ExternalsFit.{name_unless, callees, called_names, is_runtime, is_external, decl_fits}
 use Rattle.ms_valid.specs.MarksFit.{may_be_marked, all_results, is_inserted, marked_results}
 use Rattle.ms_ir.specs.Written.{mentions, operands_mentions}
@@ -70,24 +70,24 @@ no_fault_at : (t : Bool) (a : Option ℕ) (n : ℕ) → (if t then a else Some n
 no_fault_at true a n e = (refl, e)
 no_fault_at false a n e = grind arith
 
-pub args_match : (fits : Ty × Operand → Bool) (n : ℕ) (ps : List Ty) (args : List (Ty × Operand)) (k : ℕ) (t : Ty) → argument_fault fits n ps args ≡ None → slice_get ps k ≡ Some t
+pub args_match : (fits : ℕ → Ty × Operand → Bool) (n : ℕ) (ps : List Ty) (args : List (Ty × Operand)) (k : ℕ) (t : Ty) → argument_fault fits n ps args ≡ None → slice_get ps k ≡ Some t
     → Matched (map (λ a. a.0) args) k t
 args_match fits n [] args k t e h = grind arith
 args_match fits n (p ∷ ps) [] k t e h = grind arith
 args_match fits n (p ∷ ps) (a ∷ rest) zero t e h =
-    let parts = no_fault_at (type_eq a.0 p && fits a) (argument_fault fits (suc n) ps rest) n e in
-    (a.0, refl, same_width a.0 p (and_parts (type_eq a.0 p) (fits a) parts.0).0 ∙ ap width_of (ap (λ o. unwrap_or o p) h))
+    let parts = no_fault_at (type_eq a.0 p && fits n a) (argument_fault fits (suc n) ps rest) n e in
+    (a.0, refl, same_width a.0 p (and_parts (type_eq a.0 p) (fits n a) parts.0).0 ∙ ap width_of (ap (λ o. unwrap_or o p) h))
 args_match fits n (p ∷ ps) (a ∷ rest) (suc k) t e h =
-    args_match fits (suc n) ps rest k t (no_fault_at (type_eq a.0 p && fits a) (argument_fault fits (suc n) ps rest) n e).1 h
+    args_match fits (suc n) ps rest k t (no_fault_at (type_eq a.0 p && fits n a) (argument_fault fits (suc n) ps rest) n e).1 h
 
 -- arguments have the widths of the parameters, and are as many
-pub args_widths : (fits : Ty × Operand → Bool) (n : ℕ) (ps : List Ty) (args : List (Ty × Operand)) → argument_fault fits n ps args ≡ None → map (λ a. width_of a.0) args ≡ map width_of ps
+pub args_widths : (fits : ℕ → Ty × Operand → Bool) (n : ℕ) (ps : List Ty) (args : List (Ty × Operand)) → argument_fault fits n ps args ≡ None → map (λ a. width_of a.0) args ≡ map width_of ps
 args_widths fits n [] [] e = refl
 args_widths fits n [] (a ∷ rest) e = grind arith
 args_widths fits n (p ∷ ps) [] e = grind arith
 args_widths fits n (p ∷ ps) (a ∷ rest) e =
-    let parts = no_fault_at (type_eq a.0 p && fits a) (argument_fault fits (suc n) ps rest) n e in
-    ap₂ (λ w l. w ∷ l) (same_width a.0 p (and_parts (type_eq a.0 p) (fits a) parts.0).0) (args_widths fits (suc n) ps rest parts.1)
+    let parts = no_fault_at (type_eq a.0 p && fits n a) (argument_fault fits (suc n) ps rest) n e in
+    ap₂ (λ w l. w ∷ l) (same_width a.0 p (and_parts (type_eq a.0 p) (fits n a) parts.0).0) (args_widths fits (suc n) ps rest parts.1)
 
 pub types_widths : (ps qs : List Ty) → types_eq ps qs ≡ true → map width_of ps ≡ map width_of qs
 types_widths [] [] e = refl
@@ -189,24 +189,24 @@ printable_same Ptr e = refl
 printable_same t e = absurd (true≢false (sym e))
 
 rest_arguments : (fits : Ty × Operand → Bool) (k : ℕ) (rest : List (Ty × Operand)) → first_misfit (λ b. is_printable b.0 && fits b) k rest ≡ None
-    → (argument_fault fits k (map (λ a. a.0) rest) rest ≡ None) × (types_eq (map (λ a. a.0) rest) (map (λ a. a.0) rest) ≡ true)
+    → (argument_fault (λ n. fits) k (map (λ a. a.0) rest) rest ≡ None) × (types_eq (map (λ a. a.0) rest) (map (λ a. a.0) rest) ≡ true)
 rest_arguments fits k [] e = (refl, refl)
 rest_arguments fits k (b ∷ rest) e =
     let parts = no_fault_at (is_printable b.0 && fits b) (first_misfit (λ c. is_printable c.0 && fits c) (suc k) rest) k e in
     let both = and_parts (is_printable b.0) (fits b) parts.0 in
     let later = rest_arguments fits (suc k) rest parts.1 in
     let same = printable_same b.0 both.0 in (
-      ap (λ t. if t then argument_fault fits (suc k) (map (λ a. a.0) rest) rest else Some k) (ap₂ (λ s t. s && t) same both.1) ∙ later.0,
+      ap (λ t. if t then argument_fault (λ n. fits) (suc k) (map (λ a. a.0) rest) rest else Some k) (ap₂ (λ s t. s && t) same both.1) ∙ later.0,
       ap₂ (λ s t. s && t) same later.1,
     )
 
 printf_arguments : (fits : Ty × Operand → Bool) (args : List (Ty × Operand)) → printf_fault fits args ≡ None
-    → (argument_fault fits 0 (Ptr ∷ drop 1 (map (λ a. a.0) args)) args ≡ None) × (types_eq (drop 1 (map (λ a. a.0) args)) (drop 1 (map (λ a. a.0) args)) ≡ true)
+    → (argument_fault (λ n. fits) 0 (Ptr ∷ drop 1 (map (λ a. a.0) args)) args ≡ None) × (types_eq (drop 1 (map (λ a. a.0) args)) (drop 1 (map (λ a. a.0) args)) ≡ true)
 printf_arguments fits [] e = grind arith
 printf_arguments fits (a ∷ rest) e =
     let parts = no_fault_at (type_eq a.0 Ptr && fits a) (first_misfit (λ b. is_printable b.0 && fits b) 1 rest) 0 e in
     let later = rest_arguments fits 1 rest parts.1 in
-    (ap (λ t. if t then argument_fault fits 1 (map (λ b. b.0) rest) rest else Some 0) parts.0 ∙ later.0, later.1)
+    (ap (λ t. if t then argument_fault (λ n. fits) 1 (map (λ b. b.0) rest) rest else Some 0) parts.0 ∙ later.0, later.1)
 
 -- an external that isn't variadic is called with the types that it is declared with
 fixed_signature : (e : External) (types : List Ty) → is_variadic e ≡ false → external_signature e ≡ called_signature e types
@@ -283,7 +283,7 @@ decl_passes called (g ∷ rest) (suc n) d none e =
 pub record CallsAs (ret : Option Ty) (args : List (Ty × Operand)) (s : Signature) : Type 0 where
   pub words : (words : List ℕ) → HaveTypes IsBelow 0 words (map (λ a. a.0) args) → HaveTypes IsBelow 0 words s.params
   pub widths : map (λ a. width_of a.0) args ≡ map width_of s.params
-  pub fits : Ty × Operand → Bool
+  pub fits : ℕ → Ty × Operand → Bool
   pub declared_params : List Ty
   pub arguments : argument_fault fits 0 declared_params args ≡ None
   pub params : types_eq declared_params s.params ≡ true
@@ -361,11 +361,15 @@ undeclared (d ∷ rest) x h =
 
 module _ (m : Module) (valid : Valid m) (n b p : ℕ) (f : Func) (inst : Inst) (at : func_at m n ≡ Some f) (due : slice_get (insts_of f b) p ≡ Some inst)
     (ret : Option Ty) (callee : Name) (args : List (Ty × Operand)) (calls : inst.op ≡ op.Call ret callee args) where
-  pub fitted_call : Ty × Operand → Bool
-  fitted_call = λ o. operand_fits m (value_type f) o.0 o.1
+  -- an operand fits, and an argument by its place
+  abbrev fitted : Ty × Operand → Bool
+  fitted o = operand_fits m (value_type f) o.0 o.1
+
+  pub fitted_call : ℕ → Ty × Operand → Bool
+  fitted_call = fits_call m (λ o. operand_fits m (value_type f) o.0 o.1) callee
 
   -- its names and types fit
-  no_call_fault : call_fault m fitted_call (signature_of m callee) ret callee args ≡ None
+  no_call_fault : call_fault m fitted (signature_of m callee) ret callee args ≡ None
   unfolding fitted_call
   no_call_fault =
       let there : slice_get (insts_at m n b) p ≡ Some inst = ap (λ o. slice_get (unwrap_or (option_map (λ k. k.insts) (slice_get (unwrap_or (option_map (λ g. g.blocks) o) []) b)) []) p) at ∙ due in
@@ -379,11 +383,12 @@ module _ (m : Module) (valid : Valid m) (n b p : ℕ) (f : Func) (inst : Inst) (
       (flat_of_flat (λ i. callees i.op) (λ k. k.insts) f.blocks b p block.0 inst callee block.1 block.2 here)
 
   -- a callee that is declared, and isn't `printf`
-  declared_call : (s : Signature) → is_printf m callee ≡ false → call_fault m fitted_call (Some s) ret callee args ≡ None
+  declared_call : (s : Signature) → is_printf m callee ≡ false → call_fault m fitted (Some s) ret callee args ≡ None
       → (argument_fault fitted_call 0 s.params args ≡ None) × (result_type_eq ret s.ret ≡ true)
+  unfolding fitted_call
   declared_call s apart e =
-      let parts = both_none (if is_printf m callee then printf_fault fitted_call args else argument_fault fitted_call 0 s.params args) (fault_unless (result_type_eq ret s.ret)) e in
-      (sym (ap (λ t. if t then printf_fault fitted_call args else argument_fault fitted_call 0 s.params args) apart) ∙ parts.0, holds_unless (result_type_eq ret s.ret) parts.1)
+      let parts = both_none (if is_printf m callee then printf_fault fitted args else argument_fault fitted_call 0 s.params args) (fault_unless (result_type_eq ret s.ret)) e in
+      (sym (ap (λ t. if t then printf_fault fitted args else argument_fault fitted_call 0 s.params args) apart) ∙ parts.0, holds_unless (result_type_eq ret s.ret) parts.1)
 
   not_printf : name_eq callee printf_name ≡ false → is_printf m callee ≡ false
   unfolding printf_name
@@ -394,10 +399,10 @@ module _ (m : Module) (valid : Valid m) (n b p : ℕ) (f : Func) (inst : Inst) (
       → ((k : ℕ) (d : Decl) → slice_get m.decls k ≡ Some d → d.name ≡ callee → signature_eq (decl_signature d) table ≡ true) → CallsAs ret args table
   outside table none apart fits =
       by_signature (declared_signature m.decls callee) refl
-      (ap (λ o. call_fault m fitted_call (option_or o (declared_signature m.decls callee)) ret callee args) (sym none) ∙ no_call_fault)
+      (ap (λ o. call_fault m fitted (option_or o (declared_signature m.decls callee)) ret callee args) (sym none) ∙ no_call_fault)
     where
-      by_signature : (o : Option Signature) → declared_signature m.decls callee ≡ o → call_fault m fitted_call o ret callee args ≡ None → CallsAs ret args table
-      by_signature None e h = absurd (some_second (first_misfit fitted_call 0 args) 0 h)
+      by_signature : (o : Option Signature) → declared_signature m.decls callee ≡ o → call_fault m fitted o ret callee args ≡ None → CallsAs ret args table
+      by_signature None e h = absurd (some_second (first_misfit fitted 0 args) 0 h)
       by_signature (Some s) e h =
           let decl = declared m.decls callee s e in
           let same = and_parts (result_type_eq (decl_signature decl.1).ret table.ret) (types_eq (decl_signature decl.1).params table.params) (fits decl.0 decl.1 decl.2 decl.3) in
@@ -436,14 +441,14 @@ module _ (m : Module) (valid : Valid m) (n b p : ℕ) (f : Func) (inst : Inst) (
       → (s : Signature) × (signature_of m callee ≡ Some s) × (signature_eq s (external_signature e) ≡ true) × (has_name (called_names m) callee ≡ true)
   external_declared e none found =
       by_signature (declared_signature m.decls callee) refl
-      (ap (λ o. call_fault m fitted_call (option_or o (declared_signature m.decls callee)) ret callee args) (sym (undefined m.funcs callee none)) ∙ no_call_fault)
+      (ap (λ o. call_fault m fitted (option_or o (declared_signature m.decls callee)) ret callee args) (sym (undefined m.funcs callee none)) ∙ no_call_fault)
     where
       free : is_reserved callee ≡ false
       free = not_true (is_reserved callee) (and_parts (not (is_reserved callee)) (if is_variadic e then name_eq callee printf_name else not (name_eq callee printf_name)) (external_apart callee e found)).0
 
-      by_signature : (o : Option Signature) → declared_signature m.decls callee ≡ o → call_fault m fitted_call o ret callee args ≡ None
+      by_signature : (o : Option Signature) → declared_signature m.decls callee ≡ o → call_fault m fitted o ret callee args ≡ None
           → (s : Signature) × (signature_of m callee ≡ Some s) × (signature_eq s (external_signature e) ≡ true) × (has_name (called_names m) callee ≡ true)
-      by_signature None f h = absurd (some_second (first_misfit fitted_call 0 args) 0 h)
+      by_signature None f h = absurd (some_second (first_misfit fitted 0 args) 0 h)
       by_signature (Some s) f h =
           let decl = declared m.decls callee s f in
           (s, ap₂ option_or (undefined m.funcs callee none) f, ap (λ z. signature_eq z (external_signature e)) (sym decl.4) ∙ declared_external e free found decl.0 decl.1 decl.2 decl.3, called)
@@ -452,25 +457,25 @@ module _ (m : Module) (valid : Valid m) (n b p : ℕ) (f : Func) (inst : Inst) (
   printf_call : name_eq callee printf_name ≡ true → defined_signature m.funcs callee ≡ None
       → ((k : ℕ) (d : Decl) → slice_get m.decls k ≡ Some d → d.name ≡ callee → signature_eq (decl_signature d) (external_signature external.Printf) ≡ true)
       → CallsAs ret args (called_signature external.Printf (map (λ a. a.0) args))
-  unfolding printf_name
+  unfolding printf_name fitted_call
   printf_call named none fits =
       by_signature (declared_signature m.decls callee) refl
-      (ap (λ o. call_fault m fitted_call (option_or o (declared_signature m.decls callee)) ret callee args) (sym none) ∙ no_call_fault)
+      (ap (λ o. call_fault m fitted (option_or o (declared_signature m.decls callee)) ret callee args) (sym none) ∙ no_call_fault)
     where
-      by_signature : (o : Option Signature) → declared_signature m.decls callee ≡ o → call_fault m fitted_call o ret callee args ≡ None
+      by_signature : (o : Option Signature) → declared_signature m.decls callee ≡ o → call_fault m fitted o ret callee args ≡ None
           → CallsAs ret args (called_signature external.Printf (map (λ a. a.0) args))
-      by_signature None e h = absurd (some_second (first_misfit fitted_call 0 args) 0 h)
+      by_signature None e h = absurd (some_second (first_misfit fitted 0 args) 0 h)
       by_signature (Some s) e h =
           let decl = declared m.decls callee s e in
           let table = external_signature external.Printf in
           let same = and_parts (result_type_eq (decl_signature decl.1).ret table.ret) (types_eq (decl_signature decl.1).params table.params) (fits decl.0 decl.1 decl.2 decl.3) in
-          let both = both_none (if is_printf m callee then printf_fault fitted_call args else argument_fault fitted_call 0 s.params args) (fault_unless (result_type_eq ret s.ret)) h in
+          let both = both_none (if is_printf m callee then printf_fault fitted args else argument_fault fitted_call 0 s.params args) (fault_unless (result_type_eq ret s.ret)) h in
           let is_it : is_printf m callee ≡ true = ap₂ (λ t o. t && is_some o) named e in
           let wanted : List Ty = Ptr ∷ drop 1 (map (λ a. a.0) args) in
-          let found = printf_arguments fitted_call args (sym (ap (λ t. if t then printf_fault fitted_call args else argument_fault fitted_call 0 s.params args) is_it) ∙ both.0) in record {
-            words = λ words have. matched_have IsBelow 0 words (map (λ a. a.0) args) wanted (λ k t l. args_match fitted_call 0 wanted args k t found.0 l) have;
-            widths = args_widths fitted_call 0 wanted args found.0;
-            fits = fitted_call;
+          let found = printf_arguments fitted args (sym (ap (λ t. if t then printf_fault fitted args else argument_fault fitted_call 0 s.params args) is_it) ∙ both.0) in record {
+            words = λ words have. matched_have IsBelow 0 words (map (λ a. a.0) args) wanted (λ k t l. args_match (λ n. fitted) 0 wanted args k t found.0 l) have;
+            widths = args_widths (λ n. fitted) 0 wanted args found.0;
+            fits = λ n. fitted;
             declared_params = wanted;
             arguments = found.0;
             params = found.1;
@@ -528,7 +533,7 @@ module _ (m : Module) (valid : Valid m) (n b p : ℕ) (f : Func) (inst : Inst) (
       let apart : is_printf m callee ≡ false = ap (λ o. name_eq callee (Text (codes "printf")) && is_some o) (undeclared m.decls callee not_declared) ∙ and_false (name_eq callee (Text (codes "printf"))) in
       let same : func.0 ≡ g = ap (λ o. unwrap_or o g) (sym func.1 ∙ there) in
       ap (λ h. argument_fault fitted_call 0 (map (λ q. q.0) h.params) args) (sym same)
-      ∙ (declared_call (func_signature func.0) apart (ap (λ o. call_fault m fitted_call (option_or o (declared_signature m.decls callee)) ret callee args) (sym func.3) ∙ no_call_fault)).0
+      ∙ (declared_call (func_signature func.0) apart (ap (λ o. call_fault m fitted (option_or o (declared_signature m.decls callee)) ret callee args) (sym func.3) ∙ no_call_fault)).0
     where
       and_false : (t : Bool) → (t && false) ≡ false
       and_false true = refl
@@ -545,7 +550,7 @@ module _ (m : Module) (valid : Valid m) (n b p : ℕ) (f : Func) (inst : Inst) (
       let apart : is_printf m callee ≡ false = ap (λ o. name_eq callee (Text (codes "printf")) && is_some o) (undeclared m.decls callee not_declared) ∙ and_false (name_eq callee (Text (codes "printf"))) in
       let same : func.0 ≡ g = ap (λ o. unwrap_or o g) (sym func.1 ∙ there) in
       ap (λ (h : Func). result_type_eq ret h.ret) (sym same)
-      ∙ (declared_call (func_signature func.0) apart (ap (λ o. call_fault m fitted_call (option_or o (declared_signature m.decls callee)) ret callee args) (sym func.3) ∙ no_call_fault)).1
+      ∙ (declared_call (func_signature func.0) apart (ap (λ o. call_fault m fitted (option_or o (declared_signature m.decls callee)) ret callee args) (sym func.3) ∙ no_call_fault)).1
     where
       and_false : (t : Bool) → (t && false) ≡ false
       and_false true = refl
@@ -555,7 +560,7 @@ module _ (m : Module) (valid : Valid m) (n b p : ℕ) (f : Func) (inst : Inst) (
   pub known_external : inst.marked ≡ false → func_index m.funcs callee ≡ None → (e : External) × (lookup externals callee ≡ Some e)
   known_external unmarked none =
       by_signature (declared_signature m.decls callee) refl
-      (ap (λ o. call_fault m fitted_call (option_or o (declared_signature m.decls callee)) ret callee args) (sym (undefined m.funcs callee none)) ∙ no_call_fault)
+      (ap (λ o. call_fault m fitted (option_or o (declared_signature m.decls callee)) ret callee args) (sym (undefined m.funcs callee none)) ∙ no_call_fault)
     where
       there : slice_get (insts_at m n b) p ≡ Some inst
       there = ap (λ o. slice_get (unwrap_or (option_map (λ k. k.insts) (slice_get (unwrap_or (option_map (λ g. g.blocks) o) []) b)) []) p) at ∙ due
@@ -577,8 +582,8 @@ module _ (m : Module) (valid : Valid m) (n b p : ℕ) (f : Func) (inst : Inst) (
       in_table d (Some e) found h = (e, found)
       in_table d None found h = absurd (true≢false (sym h))
 
-      by_signature : (o : Option Signature) → declared_signature m.decls callee ≡ o → call_fault m fitted_call o ret callee args ≡ None → (e : External) × (lookup externals callee ≡ Some e)
-      by_signature None e h = absurd (some_second (first_misfit fitted_call 0 args) 0 h)
+      by_signature : (o : Option Signature) → declared_signature m.decls callee ≡ o → call_fault m fitted o ret callee args ≡ None → (e : External) × (lookup externals callee ≡ Some e)
+      by_signature None e h = absurd (some_second (first_misfit fitted 0 args) 0 h)
       by_signature (Some s) e h =
           let decl = declared m.decls callee s e in
           let d = decl.1 in

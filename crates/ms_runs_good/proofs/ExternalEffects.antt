@@ -1,5 +1,5 @@
 -- What an external answers is in the range of its type, and leaves a good world.
-use Rattle.std.proofs.Common.{◌≡◌, ◌<◌, ◌≤◌, ℕ, zero, suc, ◌+◌, ◌-◌, ◌*◌, ◌%◌, ◌^◌, min, List, [], ◌∷◌, ◌++◌, length, take, drop, get_or, Bool, true, ◌&&◌, leb, ltb, eqb, Option, Some, None, option_map, unwrap_or, is_some, IfSome, IfOk, All, Result, Ok, Err, refl, ap, subst, arith, if◌then◌else◌, leb-true}
+use Rattle.std.proofs.Common.{◌≡◌, ◌<◌, ◌≤◌, ℕ, zero, suc, ◌+◌, ◌-◌, ◌*◌, ◌%◌, ◌^◌, min, List, [], ◌∷◌, ◌++◌, length, take, drop, get_or, Bool, true, false, ◌&&◌, leb, ltb, eqb, Option, Some, None, option_map, unwrap_or, is_some, IfSome, IfOk, All, Result, Ok, Err, refl, ap, subst, arith, if◌then◌else◌, leb-true}
 use Rattle.std.proofs.lemmas.Nat.{mod_below}
 use Rattle.std.proofs.lemmas.Bool.{and_parts}
 use Rattle.std.proofs.lemmas.List.Elements.{All-nil, All-cons, All-head, All-tail, All-append, All-take, All-drop}
@@ -11,21 +11,22 @@ use Rattle.ms_bits.specs.declared.word_functions.WordFn.TheVariants.{Ctpop, Smax
 use Rattle.ms_bits.specs.declared.word_functions.WordWidth.{WordWidth}
 use Rattle.ms_bits.specs.WordFunctions.{bits_of, word_answer}
 use Rattle.ms_bits_laws.proofs.WordAgreement.{SecondFits, answer_lt, width_some, width_few}
-use Rattle.ms_bits.specs.Maps.{bytes_at, string_within}
+use Rattle.ms_bits.specs.Maps.{bytes_at, string_within, byte_of}
 use Rattle.ms_ir.specs.declared.syntax.Ty.{Ty, Int, Ptr}
 use Rattle.ms_ir.specs.declared.calls.External.{External}
-use Rattle.ms_ir.specs.declared.calls.External.TheVariants.{Malloc, Calloc, Realloc, Free, Memcpy, Memmove, Memset, Memcmp, Strlen, Putchar, Puts, Getchar, Read, Write, Exit, Abort, LlvmMemcpy, LlvmMemmove, LlvmMemset, LifetimeStart, LifetimeEnd, Printf, LlvmTrap, LlvmAssume, LlvmObjectSize, Word}
+use Rattle.ms_ir.specs.declared.calls.External.TheVariants.{Malloc, Calloc, Realloc, Free, Memcpy, Memmove, Memset, Memcmp, Strlen, Putchar, Puts, Getchar, Read, Write, Exit, Abort, LlvmMemcpy, LlvmMemmove, LlvmMemset, LifetimeStart, LifetimeEnd, Printf, LlvmTrap, LlvmAssume, LlvmObjectSize, PthreadCreate, PthreadJoin, SchedYield, Word}
 use Rattle.ms_ir.specs.Layout.{width_of}
 use Rattle.ms_ir.specs.Areas.{Area, Fixed, Heap, Stack, room}
-use Rattle.ms_runs.specs.World.{Allocation, World, Setting, Effect, Gives, Does, traps, word, gives}
-use Rattle.ms_runs.specs.Memory.{used, fits, next_base, first_that, covers, is_good, block_of, is_heap_block, heap_size, end_block, set_bytes, copy_bytes, make_bytes, copy_shadow, make, make_unset, bytes_left}
-use Rattle.ms_runs.specs.Externals.{minus_one, unknown_size, malloc, calloc, reallocated, realloc, free, where_good, compared, string_at, printed, taken, next_byte, cut_shown, formatted, prints, external}
+use Rattle.ms_runs.specs.Threads.{fiber_limit, thread_at, has_ended, with_fiber, with_joined, join_of, join_answer}
+use Rattle.ms_runs.specs.World.{Allocation, World, Setting, Effect, Gives, Does, traps, word, gives, Thread}
+use Rattle.ms_runs.specs.Memory.{used, fits, next_base, first_that, covers, is_good, block_of, is_heap_block, heap_size, end_block, set_bytes, copy_bytes, make_bytes, copy_shadow, make, make_unset, bytes_left, store_number}
+use Rattle.ms_runs.specs.Externals.{minus_one, unknown_size, malloc, calloc, reallocated, realloc, free, where_good, compared, string_at, printed, taken, next_byte, cut_shown, formatted, prints, external, joined, join}
 use Rattle.ms_ir.specs.Signatures.{external_signature, called_params, word_params}
 use Rattle.ms_runs_good.specs.GoodWorlds.{GoodWorld}
 use Rattle.ms_runs_good.specs.GoodStates.{IsBelow}
 use Rattle.ms_runs_good.specs.Straight.{Answers, HaveTypes}
 use Rattle.ms_runs_good.proofs.FormatBytes.{AreBytes, format_bytes}
-use Rattle.ms_runs_good.proofs.WorldChanges.{chosen, either, item_below, with_input, with_output, set_bytes_good, copy_bytes_good, make_bytes_good, copy_shadow_good, make_good, make_unset_good, end_block_good, GoodSetting}
+use Rattle.ms_runs_good.proofs.WorldChanges.{chosen, either, item_below, with_input, with_output, set_bytes_good, copy_bytes_good, make_bytes_good, copy_shadow_good, make_good, make_unset_good, end_block_good, GoodSetting, with_threads, byte_below}
 
 -- a word of a type is one of each type that is the same
 pub in_type : (u : Ty) (v : ℕ) → v < 2 ^ width_of u → (t : Ty) → Some u ≡ Some t → v < 2 ^ width_of t
@@ -209,6 +210,28 @@ module _ (P : ℕ → Type 0) (setting : Setting) (given : GoodSetting P setting
             (All-drop (λ b. b < 256) n w.input g.input),
       )
 
+  join_small : (own id : ℕ) → join_answer own id w.threads < 2 ^ 32
+  join_small own id = by_test (eqb id own) (thread_at id w.threads)
+    where
+      by_joined : (t : Bool) → (if t then 3 else 0) < 2 ^ 32
+      by_joined true = omega arith
+      by_joined false = omega arith
+
+      by_test : (t : Bool) (o : Option Thread) → (if t then 35 else join_of o) < 2 ^ 32
+      by_test true o = omega arith
+      by_test false None = omega arith
+      by_test false (Some t) = by_joined t.joined
+
+  join_answers : (id r : ℕ) → Answers (GoodWorld P) (Some (Int 32)) (join site id r w)
+  join_answers id r =
+      let stored = where_good site r 8 w (Gives 0 (store_number r 8 (w.answers id) (with_joined id w))) in
+      either (Answers (GoodWorld P) (Some (Int 32))) (eqb (join_answer w.turn id w.threads) 0) (if has_ended (thread_at id w.threads) then joined site id r w else traps trap.Deadlock site w) (Gives (join_answer w.turn id w.threads) w)
+      (either (Answers (GoodWorld P) (Some (Int 32))) (has_ended (thread_at id w.threads)) (joined site id r w) (traps trap.Deadlock site w)
+      (either (Answers (GoodWorld P) (Some (Int 32))) (eqb r 0) (Gives 0 (with_joined id w)) stored (in_type (Int 32) 0 (omega arith), with_threads P w g _)
+      (where_good_answers (Some (Int 32)) r 8 (Gives 0 (store_number r 8 (w.answers id) (with_joined id w)))
+      (in_type (Int 32) 0 (omega arith), set_bytes_good P r 8 (byte_of (w.answers id)) (with_joined id w) (with_threads P w g _) (byte_below (w.answers id))))) g)
+      (in_type (Int 32) (join_answer w.turn id w.threads) (join_small w.turn id), g)
+
   prints_answers : (r : Result (List ℕ) Trap) → IfOk r AreBytes → Answers (GoodWorld P) (Some (Int 32)) (prints site r w)
   prints_answers (Ok bs) h =
       chosen (Answers (GoodWorld P) (Some (Int 32))) (leb (length w.output + length bs) 1048576) (Gives (length bs) (record w { output = w.output ++ bs })) (traps trap.Output site w)
@@ -289,5 +312,12 @@ module _ (P : ℕ → Type 0) (setting : Setting) (given : GoodSetting P setting
   external_answers LlvmTrap types words h = g
   external_answers LlvmAssume types words h = either (Answers (GoodWorld P) None) (eqb (word 0 words) 0) (traps trap.Unreachable site w) (Does w) g (refl, g)
   external_answers LlvmObjectSize types words h = (in_type (Int 64) (unknown_size (word 1 words)) (unknown_below (word 1 words)), g)
+  external_answers PthreadCreate types words h =
+      let made = store_number (word 0 words) 8 (length w.threads + 1) (with_fiber (word 2 words) (word 3 words) w) in
+      either (Answers (GoodWorld P) (Some (Int 32))) (leb fiber_limit (length w.threads + 1)) (Gives 11 w) (where_good site (word 0 words) 8 w (Gives 0 made)) (in_type (Int 32) 11 (omega arith), g)
+      (where_good_answers (Some (Int 32)) (word 0 words) 8 (Gives 0 made)
+      (in_type (Int 32) 0 (omega arith), set_bytes_good P (word 0 words) 8 (byte_of (length w.threads + 1)) (with_fiber (word 2 words) (word 3 words) w) (with_threads P w g _) (byte_below (length w.threads + 1))))
+  external_answers PthreadJoin types words h = join_answers (word 0 words) (word 1 words)
+  external_answers SchedYield types words h = (in_type (Int 32) 0 (omega arith), g)
   external_answers (Word f n) types words h = word_answers n (word_answer f (bits_of n) (word 0 words) (word 1 words) (word 2 words)) (word_below f n words h)
   external_answers Printf types words h = prints_answers (formatted w types words) (formatted_bytes types words)

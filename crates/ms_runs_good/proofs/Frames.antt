@@ -4,6 +4,7 @@ use Rattle.ms_bits.specs.declared.traps.Trap.TheVariants as trap
 use Rattle.ms_ir.specs.declared.syntax.Name.{Name}
 use Rattle.ms_ir.specs.declared.syntax.Ty.{Ty}
 use Rattle.ms_ir.specs.declared.syntax.Operand.{Operand}
+use Rattle.ms_ir.specs.declared.syntax.Op.{Op}
 use Rattle.ms_ir.specs.declared.syntax.Inst.{Inst}
 use Rattle.ms_ir.specs.declared.syntax.Func.{Func}
 use Rattle.ms_ir.specs.declared.syntax.Module.{Module}
@@ -11,9 +12,9 @@ use Rattle.ms_runs.specs.declared.runs.End.TheVariants as «end»
 use Rattle.ms_ir.specs.Layout.{width_of}
 use Rattle.ms_runs.specs.World.{World, Setting, Effect, Gives, Does, Goes, Enters, Leaves, Ends}
 use Rattle.ms_ir.specs.Code.{one_undef, func_at, insts_at, HeadUnmarked, NoMarks}
-use Rattle.ms_runs.specs.Control.{Frame, Reading, Outcome, On, Over, rest_of, read_all, release, entered, left, after_effect}
+use Rattle.ms_runs.specs.Control.{Frame, Reading, Outcome, On, Over, rest_of, read_all, given_back, keeping, entered, left, after_effect}
 use Rattle.ms_valid.specs.Paths.{insts_of}
-use Rattle.ms_runs_good.specs.GoodStates.{GoodFrame, GoodFrames}
+use Rattle.ms_runs_good.specs.GoodStates.{GoodFrame, GoodFrames, Bottom}
 use Rattle.ms_runs_good.specs.GoodWorlds.{GoodAfter}
 use Rattle.ms_runs_good.specs.Straight.{HaveTypes}
 use Rattle.ms_runs_good.proofs.WorldChanges.{either}
@@ -22,6 +23,28 @@ use Rattle.ms_runs_good.proofs.WorldChanges.{either}
 pub top_good : {V : Type 0} (holds : V → ℕ → Type 0) (m : Module) (frame : Frame V) (below : List (Frame V)) → GoodFrames holds m (frame ∷ below) → GoodFrame holds m frame
 top_good holds m frame [] frames = frames.0
 top_good holds m frame (caller ∷ below) frames = frames.0
+
+-- the heap blocks of a frame are free
+abbrev pub kept_good : {V : Type 0} (holds : V → ℕ → Type 0) (m : Module) (o : Op) (e : Effect) (frame : Frame V) → GoodFrame holds m frame → GoodFrame holds m (keeping o e frame)
+kept_good holds m o e frame good = record {
+  func = good.func;
+  stands = good.stands;
+  before = good.before;
+  path = good.path;
+  place = good.place;
+  behind_phis = good.behind_phis;
+  words = good.words;
+}
+
+pub kept_frames : {V : Type 0} (holds : V → ℕ → Type 0) (m : Module) (o : Op) (e : Effect) (frame : Frame V) (below : List (Frame V)) → GoodFrames holds m (frame ∷ below)
+    → GoodFrames holds m (keeping o e frame ∷ below)
+kept_frames holds m o e frame [] frames = (kept_good holds m o e frame frames.0, frames.1)
+kept_frames holds m o e frame (caller ∷ below) frames = (kept_good holds m o e frame frames.0, frames.1, frames.2)
+
+-- nor does it change the function of the last frame
+pub kept_bottom : {V : Type 0} (so : ℕ → Type 0) (o : Op) (e : Effect) (frame : Frame V) (below : List (Frame V)) → Bottom so (frame ∷ below) → Bottom so (keeping o e frame ∷ below)
+kept_bottom so o e frame [] h = h
+kept_bottom so o e frame (caller ∷ below) h = h
 
 -- the words that are read of operands have their types
 pub read_all_have : {V : Type 0} (holds : V → ℕ → Type 0) (unset : V) (read : ℕ → Ty → Operand → V) → ((n : ℕ) (t : Ty) (o : Operand) → holds (read n t o) (2 ^ width_of t))
@@ -90,10 +113,10 @@ abbrev pub MovedTo : {V : Type 0} → (World → Type 0) → Outcome V → Type 
 MovedTo good (On frames w) = good w
 MovedTo good (Over e w) = good w
 
-module _ {V : Type 0} (reading : Reading V) (setting : Setting) (m : Module) (good : World → Type 0) (released : (mark : ℕ) (w : World) → good w → good (release mark w)) where
+module _ {V : Type 0} (reading : Reading V) (setting : Setting) (m : Module) (good : World → Type 0) (returned : (frame : Frame V) (w : World) → good w → good (given_back frame w)) where
   left_to : (words : List V) (frame : Frame V) (below : List (Frame V)) (w : World) → good w → MovedTo good (left reading m words frame below w)
   left_to words frame [] w g = g
-  left_to words frame (caller ∷ below) w g = released frame.mark w g
+  left_to words frame (caller ∷ below) w g = returned frame w g
 
   pub moves_to : (site : ℕ) (x : Option Name) (words : List V) (lift : ℕ → World → V) (after : ℕ → World → World) → ((v : ℕ) (w : World) → good w → good (after v w))
       → (frame : Frame V) (below : List (Frame V)) (e : Effect) → GoodAfter good e → MovedTo good (after_effect reading setting m site x words lift after frame below e)

@@ -25,6 +25,9 @@ pub mod RunsReached
 pub mod Sound
 pub mod Sites
 pub mod SitedEffects
+pub mod Bottoms
 pub mod SitedMoves
 pub mod SitedShadow
 pub mod WordCallTypes
+pub mod FibersKept
+pub mod ThreadsApart

@@ -1,5 +1,5 @@
 -- The frames of a formed and valid module stay good by every effect that its instructions may have.
-use Rattle.std.proofs.Common.{◌≡◌, ℕ, zero, suc, ◌+◌, List, [], ◌∷◌, Bool, true, false, refl, sym, ap, subst, ◌∙◌, arith, true≢false, eqb-true}
+use Rattle.std.proofs.Common.{◌≡◌, ◌⊎◌, ℕ, zero, suc, ◌+◌, List, [], ◌∷◌, Bool, true, false, refl, sym, ap, subst, ◌∙◌, arith, true≢false, eqb-true}
 use Rattle.std.specs.Prelude.{◌≤◌, ◌^◌, length, map, get_or, Option, Some, None, option_map, option_and_then, unwrap_or, slice_get, leb, if◌then◌else◌}
 use Rattle.std.specs.Option.{option_or}
 use Rattle.ms_ir.specs.declared.syntax.Name.{Name}
@@ -19,11 +19,11 @@ use Rattle.ms_ir.specs.Equal.{type_eq, result_type_eq}
 use Rattle.ms_ir.specs.Written.{result_type}
 use Rattle.ms_ir.specs.Locals.{value_type}
 use Rattle.ms_ir.specs.Signatures.{Signature, func_signature, defined_signature}
-use Rattle.ms_valid.specs.TypesAgree.{operand_fits, op_fault, call_fault, argument_fault, printf_fault, is_printf, fault_unless}
+use Rattle.ms_valid.specs.TypesAgree.{operand_fits, op_fault, call_fault, argument_fault, fits_call, printf_fault, is_printf, fault_unless}
 use Rattle.ms_valid.specs.Paths.{insts_of}
 use Rattle.ms_valid.specs.FormedCode.{is_terminator}
 use Rattle.ms_valid.specs.Formed.{Formed}
-use Rattle.ms_runs_good.specs.GoodStates.{GoodFrame, StandsAtCall, GoodFrames}
+use Rattle.ms_runs_good.specs.GoodStates.{GoodFrame, StandsAtCall, GoodFrames, IsMain, IsStart}
 use Rattle.ms_runs_good.specs.GoodEffects.{FitsEffect, GoodMoved}
 use Rattle.ms_valid.specs.Valid.{Valid}
 use Rattle.ms_valid.proofs.NameTests.{name_sound}
@@ -81,7 +81,7 @@ no_fault false e = grind arith
 call_answers : (m : Module) (fits : Ty × Operand → Bool) (s : Signature) (ret : Option Ty) (callee : Name) (args : List (Ty × Operand))
     → call_fault m fits (Some s) ret callee args ≡ None → result_type_eq ret s.ret ≡ true
 call_answers m fits s ret callee args e =
-    no_fault (result_type_eq ret s.ret) (no_second (if is_printf m callee then printf_fault fits args else argument_fault fits 0 s.params args) _ e)
+    no_fault (result_type_eq ret s.ret) (no_second (if is_printf m callee then printf_fault fits args else argument_fault (fits_call m fits callee) 0 s.params args) _ e)
 
 defined_first : (o p : Option Signature) (s : Signature) → o ≡ Some s → option_or o p ≡ Some s
 defined_first o p s e = ap (λ q. option_or q p) e
@@ -91,7 +91,7 @@ defined_first o p s e = ap (λ q. option_or q p) e
 -- another frame of the same function may stand innermost
 with_top : {V : Type 0} (holds : V → ℕ → Type 0) (m : Module) (frame other : Frame V) (below : List (Frame V)) → GoodFrames holds m (frame ∷ below) → GoodFrame holds m other
     → frame.func ≡ other.func → GoodFrames holds m (other ∷ below)
-with_top holds m frame other [] frames good same = (good, frames.1 ∙ ap Some same)
+with_top holds m frame other [] frames good same = (good, subst (λ f. IsMain m f ⊎ IsStart m f) same frames.1)
 with_top holds m frame other (caller ∷ below) frames good same = (good, subst (StandsAtCall m caller) same frames.1, frames.2)
 
 -- the innermost frame is good
@@ -99,7 +99,7 @@ top_good : {V : Type 0} (holds : V → ℕ → Type 0) (m : Module) (frame : Fra
 top_good holds m frame [] frames = frames.0
 top_good holds m frame (caller ∷ below) frames = frames.0
 
-put_func : {V : Type 0} (frame : Frame V) (r : Option Name) (v : V) → frame.func ≡ (put frame r v).func
+pub put_func : {V : Type 0} (frame : Frame V) (r : Option Name) (v : V) → frame.func ≡ (put frame r v).func
 put_func frame None v = refl
 put_func frame (Some x) v = refl
 

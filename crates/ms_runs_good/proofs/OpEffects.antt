@@ -15,8 +15,8 @@ use Rattle.ms_ir.specs.declared.syntax.Op.TheVariants as op
 use Rattle.ms_ir.specs.Layout.{Types, width_of, stored_size, size_in, parts_offset, indexed}
 use Rattle.ms_ir.specs.Names.{slots}
 use Rattle.ms_runs.specs.World.{World, Setting, Here, Gives, Does, traps, word, gives}
-use Rattle.ms_ir.specs.Areas.{Stack}
-use Rattle.ms_runs.specs.Memory.{fits, next_base, is_good, set_shadow, make_unset, store_number}
+use Rattle.ms_ir.specs.Areas.{Area}
+use Rattle.ms_runs.specs.Memory.{fits, next_base, local_area, is_good, set_shadow, make_unset, store_number}
 use Rattle.ms_ir.specs.Code.{operands}
 use Rattle.ms_runs.specs.Act.{truth, alloca, load, store, extended_all, act}
 use Rattle.ms_runs.specs.Plain.{shadow_bits, in_slots, load_marked, store_marked}
@@ -96,10 +96,13 @@ IsOrdinary o = Unit {0}
 
 module _ (P : ℕ → Type 0) (setting : Setting) (given : GoodSetting P setting) (w : World) (g : GoodWorld P w) where
   alloca_answers : (site n : ℕ) → Answers (GoodWorld P) (Some Ptr) (alloca setting site n w)
-  alloca_answers site n =
-      chosen (Answers (GoodWorld P) (Some Ptr)) (fits Stack n w) (Gives (next_base Stack w) (make_unset setting.fill Stack n w)) (traps trap.Stack site w)
-      (λ e. (in_type Ptr (next_base Stack w) (fits_small Stack n w e).1, make_unset_good P setting.fill Stack n w given.fill g given.none (fits_small Stack n w e).0))
-      (λ e. g)
+  alloca_answers site n = at (local_area w)
+    where
+      at : (area : Area) → Answers (GoodWorld P) (Some Ptr) (if fits area n w then Gives (next_base area w) (make_unset setting.fill area n w) else traps trap.Stack site w)
+      at area =
+          chosen (Answers (GoodWorld P) (Some Ptr)) (fits area n w) (Gives (next_base area w) (make_unset setting.fill area n w)) (traps trap.Stack site w)
+          (λ e. (in_type Ptr (next_base area w) (fits_small area n w e).1, make_unset_good P setting.fill area n w given.fill g given.none (fits_small area n w e).0))
+          (λ e. g)
 
   load_answers : (site a : ℕ) (t : Ty) → Answers (GoodWorld P) (Some t) (load site a t w)
   load_answers site a t =

@@ -1,5 +1,5 @@
 -- A step of a plain run of a formed and valid module keeps its state good.
-use Rattle.std.proofs.Common.{◌≡◌, ◌<◌, ◌+◌, ℕ, List, [], ◌∷◌, map, drop, Bool, true, false, ◌&&◌, not, Option, Some, None, refl, sym, ap, subst, ◌∙◌, if◌then◌else◌, true≢false, is_some}
+use Rattle.std.proofs.Common.{◌≡◌, ◌<◌, ◌+◌, ℕ, List, [], ◌∷◌, length, map, drop, Bool, true, false, ◌&&◌, not, Option, Some, None, refl, sym, ap, subst, ◌∙◌, if◌then◌else◌, true≢false, is_some}
 use Rattle.std.proofs.lemmas.Bool.{and_parts}
 use Rattle.std.specs.Prelude.{slice_get}
 use Rattle.std.specs.List.{list_any}
@@ -18,7 +18,7 @@ use Rattle.ms_ir.specs.Names.{lookup, runtime_functions, slots, is_inserted_name
 use Rattle.ms_ir.specs.Layout.{stored_size}
 use Rattle.ms_runs.specs.World.{World, Setting, Here, Effect, Gives, Does, Goes, Enters, Leaves, Ends, stuck, word}
 use Rattle.ms_ir.specs.Code.{operands, func_index, func_at, insts_at, is_phi}
-use Rattle.ms_runs.specs.Control.{Frame, Outcome, On, Over, here, rest_of, read_all, put, after_effect}
+use Rattle.ms_runs.specs.Control.{Frame, Outcome, On, Over, here, rest_of, read_all, put, keeping, after_effect}
 use Rattle.ms_runs.specs.Act.{plain_reading, act}
 use Rattle.ms_runs.specs.Runtime.{runtime}
 use Rattle.ms_runs.specs.Plain.{in_slots, act_marked, slots_after, PlainState, Stepped, More, Stop, and_then, plain_state, plain_inst, through, plain_first, plain_step, setting_of}
@@ -28,17 +28,17 @@ use Rattle.ms_valid.specs.MarksFit.{may_be_marked, all_results, is_inserted, mar
 use Rattle.ms_valid.specs.Paths.{insts_of}
 use Rattle.ms_valid.specs.FormedCode.{is_terminator}
 use Rattle.ms_valid.specs.Formed.{Formed}
-use Rattle.ms_runs_good.specs.GoodStates.{IsBelow, GoodFrame, GoodFrames}
+use Rattle.ms_runs_good.specs.GoodStates.{IsBelow, GoodFrame, GoodFrames, IsMain, Bottom}
 use Rattle.ms_runs_good.specs.GoodEffects.{FitsEffect, GoodMoved}
 use Rattle.ms_valid.specs.Valid.{Valid}
 use Rattle.ms_valid.proofs.AtInstructions.{fits_at}
 use Rattle.ms_runs_good.proofs.NextFrames.{stands_formed}
-use Rattle.ms_runs_good.proofs.Moves.{moves_good}
+use Rattle.ms_runs_good.proofs.Moves.{put_func, moves_good}
 use Rattle.ms_runs_good.proofs.Readings.{plain_unset, plain_read}
 use Rattle.ms_runs_good.specs.GoodWorlds.{GoodWorld, FitsCell, GoodAfter}
 use Rattle.ms_runs_good.specs.Straight.{Answers, HaveTypes}
 use Rattle.ms_runs_good.specs.GoodRuns.{SoundPlain, LeadsTo}
-use Rattle.ms_runs_good.proofs.WorldChanges.{chosen, either, range_keeps, byte_below, release_good, GoodSetting}
+use Rattle.ms_runs_good.proofs.WorldChanges.{chosen, either, range_keeps, byte_below, given_back_good, GoodSetting}
 use Rattle.ms_runs_good.proofs.RuntimeEffects.{runtime_answers}
 use Rattle.ms_runs_good.proofs.CallTypes.{calls_answer, runtime_call, known_external}
 use Rattle.ms_runs_good.proofs.OpEffects.{IsOrdinary, act_answers, load_marked_answers, store_marked_answers}
@@ -47,7 +47,7 @@ use Rattle.ms_runs_good.specs.Sited.{IsSite, StopsAtSite}
 use Rattle.ms_runs_good.proofs.Sites.{site_here}
 use Rattle.ms_runs_good.proofs.SitedEffects.{IsKnown, IsRuntime, act_sited, marked_sited, IsSited}
 use Rattle.ms_runs_good.proofs.SitedMoves.{behind_phis, MovedSited, moves_sited}
-use Rattle.ms_runs_good.proofs.Frames.{same_insts, top_good, nothing_left, read_all_have, due_first, rest_next, MovedTo, moves_to}
+use Rattle.ms_runs_good.proofs.Frames.{same_insts, top_good, kept_good, kept_frames, kept_bottom, nothing_left, read_all_have, due_first, rest_next, MovedTo, moves_to}
 
 -- ---- slots
 
@@ -63,19 +63,28 @@ abbrev pub AtRest : Module → List (Frame ℕ) → List Inst → Type 0
 AtRest m [] insts = ⊥
 AtRest m (frame ∷ below) insts = rest_of m frame ≡ insts
 
+-- the innermost frame is one of the same function above as many
+abbrev pub SameTop : (before after : List (Frame ℕ)) → Type 0
+SameTop (frame ∷ below) (next ∷ lower) = (next.func ≡ frame.func) × (length lower ≡ length below)
+SameTop before after = ⊥
+
+-- and stands before these instructions
+abbrev pub RestsOn : Module → List Inst → (before after : List (Frame ℕ)) → Type 0
+RestsOn m insts before after = AtRest m after insts × SameTop before after
+
 -- a marked instruction goes on behind itself
-abbrev MovedOn : Module → List Inst → Outcome ℕ → Type 0
-MovedOn m insts (On frames w) = AtRest m frames insts
-MovedOn m insts (Over e w) = Unit {0}
+abbrev MovedOn : Module → List Inst → List (Frame ℕ) → Outcome ℕ → Type 0
+MovedOn m insts before (On frames w) = RestsOn m insts before frames
+MovedOn m insts before (Over e w) = Unit {0}
 
 put_rest : (m : Module) (frame : Frame ℕ) (x : Option Name) (v : ℕ) (insts : List Inst) → drop (frame.place + 1) (insts_at m frame.func frame.block) ≡ insts → rest_of m (put frame x v) ≡ insts
 put_rest m frame None v insts e = e
 put_rest m frame (Some x) v insts e = e
 
 moved_on : (given : Setting) (m : Module) (site : ℕ) (x : Option Name) (words : List ℕ) (frame : Frame ℕ) (below : List (Frame ℕ)) (insts : List Inst) (good : World → Type 0) (r : Option Ty) (e : Effect)
-    → drop (frame.place + 1) (insts_at m frame.func frame.block) ≡ insts → Answers good r e → MovedOn m insts (after_effect plain_reading given m site x words (λ v w. v) (λ v w. w) frame below e)
-moved_on given m site x words frame below insts good r (Gives v w) next h = put_rest m frame x v insts next
-moved_on given m site x words frame below insts good r (Does w) next h = next
+    → drop (frame.place + 1) (insts_at m frame.func frame.block) ≡ insts → Answers good r e → MovedOn m insts (frame ∷ below) (after_effect plain_reading given m site x words (λ v w. v) (λ v w. w) frame below e)
+moved_on given m site x words frame below insts good r (Gives v w) next h = (put_rest m frame x v insts next, (sym (put_func frame x v), refl))
+moved_on given m site x words frame below insts good r (Does w) next h = (next, (refl, refl))
 moved_on given m site x words frame below insts good r (Goes to w) next h = absurd h
 moved_on given m site x words frame below insts good r (Enters n w) next h = absurd h
 moved_on given m site x words frame below insts good r (Leaves w) next h = absurd h
@@ -177,26 +186,33 @@ pub calls_known : (m : Module) → Valid m → (n b p : ℕ) (f : Func) (inst : 
 calls_known m valid n b p f inst at due unmarked (op.Call ret callee args) same = known_external m valid n b p f inst at due ret callee args same unmarked
 calls_known m valid n b p f inst at due unmarked o same = tt
 
-module _ (m : Module) (formed : Formed m) (valid : Valid m) (setup : Setup) (given : GoodSetting FitsCell (setting_of m setup)) where
-  -- what goes on is of a kind, and what ends the run leaves a good world and has a site
+module _ (m : Module) (formed : Formed m) (valid : Valid m) (setup : Setup) (given : GoodSetting FitsCell (setting_of m setup)) (Main : Type 0) where
+  -- what goes on is of a kind, and what ends the run leaves a good world; where `main` stands at the bottom, it has a site
   abbrev EndsIn : (PlainState → Type 0) → Stepped PlainState → Type 0
-  EndsIn P s = LeadsTo P (GoodWorld FitsCell) s × StopsAtSite m s
+  EndsIn P s = LeadsTo P (GoodWorld FitsCell) s × (Main → StopsAtSite m s)
+
+  -- the last frame is `main`'s
+  abbrev pub BelowMain : List (Frame ℕ) → Type 0
+  BelowMain fs = Main → Bottom (IsMain m) fs
+
+  abbrev pub SoundBelow : PlainState → Type 0
+  SoundBelow s = SoundPlain m s × BelowMain s.frames
 
   abbrev EndsWell : Stepped PlainState → Type 0
-  EndsWell s = EndsIn (SoundPlain m) s
+  EndsWell s = EndsIn SoundBelow s
 
   -- where a move is good, what follows decides
-  goes_from : (P : PlainState → Type 0) (insts : List Inst) (marked : Bool) (cells : ℕ → ℕ) → ((a : ℕ) → cells a < 256) → (moved : Outcome ℕ) → GoodMoved IsBelow m moved → MovedTo (GoodWorld FitsCell) moved → MovedSited m moved
-      → (marked ≡ true → MovedOn m insts moved) → (go : PlainState → Stepped PlainState)
-      → ((s : PlainState) → SoundPlain m s → (marked ≡ true → AtRest m s.frames insts) → EndsIn P (go s)) → EndsIn P (and_then (plain_state cells moved) go)
-  goes_from P insts marked cells c (On frames w) good world sited rest go later = later (record { frames = frames; slots = cells; world = w }) (record { frames = good; slots = c; world = world }) rest
-  goes_from P insts marked cells c (Over e w) good world sited rest go later = (world, sited)
+  goes_from : (P : PlainState → Type 0) (insts : List Inst) (before : List (Frame ℕ)) (marked : Bool) (cells : ℕ → ℕ) → ((a : ℕ) → cells a < 256) → (moved : Outcome ℕ) → GoodMoved IsBelow m moved → MovedTo (GoodWorld FitsCell) moved → (Main → MovedSited m moved)
+      → (marked ≡ true → MovedOn m insts before moved) → (go : PlainState → Stepped PlainState)
+      → ((s : PlainState) → SoundPlain m s → BelowMain s.frames → (marked ≡ true → RestsOn m insts before s.frames) → EndsIn P (go s)) → EndsIn P (and_then (plain_state cells moved) go)
+  goes_from P insts before marked cells c (On frames w) good world sited rest go later = later (record { frames = frames; slots = cells; world = w }) (record { frames = good; slots = c; world = world }) sited rest
+  goes_from P insts before marked cells c (Over e w) good world sited rest go later = (world, sited)
 
-  inst_good : (P : PlainState → Type 0) (inst : Inst) (insts : List Inst) (state : PlainState) → SoundPlain m state → (fs : List (Frame ℕ)) → GoodFrames IsBelow m fs → AtRest m fs (inst ∷ insts)
-      → (go : PlainState → Stepped PlainState) → ((s : PlainState) → SoundPlain m s → (inst.marked ≡ true → AtRest m s.frames insts) → EndsIn P (go s))
+  inst_good : (P : PlainState → Type 0) (inst : Inst) (insts : List Inst) (state : PlainState) → SoundPlain m state → (fs : List (Frame ℕ)) → GoodFrames IsBelow m fs → BelowMain fs → AtRest m fs (inst ∷ insts)
+      → (go : PlainState → Stepped PlainState) → ((s : PlainState) → SoundPlain m s → BelowMain s.frames → (inst.marked ≡ true → RestsOn m insts fs s.frames) → EndsIn P (go s))
       → EndsIn P (and_then (plain_inst (setting_of m setup) m inst state fs) go)
-  inst_good P inst insts state sound [] frames rest go later = absurd rest
-  inst_good P inst insts state sound (frame ∷ below) frames rest go later = by_mark inst.marked refl
+  inst_good P inst insts state sound [] frames last rest go later = absurd rest
+  inst_good P inst insts state sound (frame ∷ below) frames last rest go later = by_mark inst.marked refl
     where
       good : GoodFrame IsBelow m frame
       good = top_good IsBelow m frame below frames
@@ -214,24 +230,25 @@ module _ (m : Module) (formed : Formed m) (valid : Valid m) (setup : Setup) (giv
       have = read_all_have IsBelow 0 (plain_reading.read (setting_of m setup) frame.values) (plain_read (setting_of m setup) frame.values) (operands inst.op) at_inst.root
 
       moved : Effect → Outcome ℕ
-      moved = λ e. after_effect plain_reading (setting_of m setup) m at_inst.site inst.result words (λ v w. v) (λ v w. w) frame below e
+      moved = λ e. after_effect plain_reading (setting_of m setup) m at_inst.site inst.result words (λ v w. v) (λ v w. w) (keeping inst.op e frame) below e
 
       site : IsSite m at_inst.site
       site = site_here m formed valid frame.func frame.block frame.place good.func inst good.stands due
 
-      moved_at : (e : Effect) → IsSited m at_inst.main e → MovedSited m (moved e)
-      moved_at e sited =
-          moves_sited IsBelow plain_reading (setting_of m setup) m at_inst.site site inst.result words (λ v w. v) (λ v w. w) frame below frames e sited
+      moved_at : (e : Effect) → IsSited m at_inst.main e → Main → MovedSited m (moved e)
+      moved_at e sited main =
+          moves_sited IsBelow plain_reading (setting_of m setup) m at_inst.site site inst.result words (λ v w. v) (λ v w. w) (keeping inst.op e frame) below (kept_frames IsBelow m inst.op e frame below frames)
+          (kept_bottom (IsMain m) inst.op e frame below (last main)) e sited
 
       not_phi : is_phi inst.op ≡ false
       not_phi = behind_phis (insts_of good.func frame.block) frame.place inst (stands_formed m formed frame.func good.func good.stands frame.block frame.place inst due).body good.behind_phis due
 
       moved_good : (e : Effect) → FitsEffect IsBelow 0 m good.func inst words (λ v w. v) e → GoodMoved IsBelow m (moved e)
-      moved_good e fits = moves_good IsBelow plain_reading (setting_of m setup) m formed valid frame below frames good plain_unset (plain_read (setting_of m setup) frame.values) inst due at_inst.site words (λ v w. v) (λ v w. w) e fits
+      moved_good e fits = moves_good IsBelow plain_reading (setting_of m setup) m formed valid (keeping inst.op e frame) below (kept_frames IsBelow m inst.op e frame below frames) (kept_good IsBelow m inst.op e frame good) plain_unset (plain_read (setting_of m setup) frame.values) inst due at_inst.site words (λ v w. v) (λ v w. w) e fits
 
       moved_to : (e : Effect) → GoodAfter (GoodWorld FitsCell) e → MovedTo (GoodWorld FitsCell) (moved e)
       moved_to e world =
-          moves_to plain_reading (setting_of m setup) m (GoodWorld FitsCell) (release_good FitsCell) at_inst.site inst.result words (λ v w. v) (λ v w. w) (λ v w h. h) frame below e world
+          moves_to plain_reading (setting_of m setup) m (GoodWorld FitsCell) (given_back_good FitsCell) at_inst.site inst.result words (λ v w. v) (λ v w. w) (λ v w h. h) (keeping inst.op e frame) below e world
 
       by_mark : (t : Bool) → inst.marked ≡ t
           → EndsIn P (and_then (plain_state (if t then slots_after inst.op words state.slots else state.slots)
@@ -240,33 +257,33 @@ module _ (m : Module) (formed : Formed m) (valid : Valid m) (setup : Setup) (giv
           let e = act_marked (setting_of m setup) at_inst inst.op words state.slots state.world in
           let answers = marked_answers m formed valid setup given frame.func frame.block frame.place good.func inst good.stands due marked words have state.world sound.world at_inst state.slots in
           let ends = marked_goes_on m formed valid setup given frame.func frame.block frame.place good.func inst good.stands due marked words have state.world sound.world at_inst state.slots in
-          goes_from P insts true (slots_after inst.op words state.slots) (slots_good inst.op words state.slots sound.slots) (moved e)
+          goes_from P insts (frame ∷ below) true (slots_after inst.op words state.slots) (slots_good inst.op words state.slots sound.slots) (moved e)
           (moved_good e (answers_fit IsBelow 0 m formed valid FitsCell frame.func frame.block frame.place good.func inst good.stands due words (λ v w. v) (λ v w t h l. l) e ends answers))
           (moved_to e (answers_after (GoodWorld FitsCell) (result_type inst.op) e answers))
           (moved_at e (marked_sited m (setting_of m setup) at_inst site state.world inst.op words state.slots not_phi
           (calls_runtime m formed valid setup given frame.func frame.block frame.place good.func inst good.stands due marked words have state.world sound.world at_inst state.slots)))
-          (λ h. moved_on (setting_of m setup) m at_inst.site inst.result words frame below insts (GoodWorld FitsCell) (result_type inst.op) e (rest_next m frame inst insts rest) answers)
-          go (λ s h r. later s h (λ k. r refl))
+          (λ h. moved_on (setting_of m setup) m at_inst.site inst.result words (keeping inst.op e frame) below insts (GoodWorld FitsCell) (result_type inst.op) e (rest_next m frame inst insts rest) answers)
+          go (λ s h b r. later s h b (λ k. r refl))
       by_mark false unmarked =
           let e = act (setting_of m setup) at_inst inst.op words state.world in
           let fits = act_fits IsBelow 0 m formed valid FitsCell frame.func frame.block frame.place good.func inst good.stands due words (λ v w. v) (λ v w t h l. l) have
           words have setup given state.world sound.world at_inst in
-          goes_from P insts false state.slots sound.slots (moved e) (moved_good e fits.0) (moved_to e fits.1)
+          goes_from P insts (frame ∷ below) false state.slots sound.slots (moved e) (moved_good e fits.0) (moved_to e fits.1)
           (moved_at e (act_sited m (setting_of m setup) at_inst site state.world inst.op words not_phi
           (calls_known m valid frame.func frame.block frame.place good.func inst good.stands due unmarked inst.op refl)))
           (λ h. absurd (true≢false (sym h)))
-          go (λ s h r. later s h (λ k. absurd (true≢false (sym k ∙ unmarked))))
+          go (λ s h b r. later s h b (λ k. absurd (true≢false (sym k ∙ unmarked))))
 
   -- the innermost frame stands before these instructions
   abbrev pub StandsBefore : PlainState → List Inst → Type 0
   StandsBefore s insts = AtRest m s.frames insts
 
   -- one instruction keeps a good state, and a marked one goes on behind itself
-  pub inst_keeps : (inst : Inst) (insts : List Inst) (state : PlainState) → SoundPlain m state → StandsBefore state (inst ∷ insts)
-      → EndsIn (λ s. SoundPlain m s × (inst.marked ≡ true → StandsBefore s insts)) (plain_inst (setting_of m setup) m inst state state.frames)
-  inst_keeps inst insts state sound rest =
-      ended (λ s. SoundPlain m s × (inst.marked ≡ true → StandsBefore s insts)) (plain_inst (setting_of m setup) m inst state state.frames)
-      (inst_good (λ s. SoundPlain m s × (inst.marked ≡ true → StandsBefore s insts)) inst insts state sound state.frames sound.frames rest More (λ s h r. ((h, r), tt)))
+  pub inst_keeps : (inst : Inst) (insts : List Inst) (state : PlainState) → SoundPlain m state → StandsBefore state (inst ∷ insts) → BelowMain state.frames
+      → EndsIn (λ s. SoundPlain m s × (inst.marked ≡ true → RestsOn m insts state.frames s.frames)) (plain_inst (setting_of m setup) m inst state state.frames)
+  inst_keeps inst insts state sound rest last =
+      ended (λ s. SoundPlain m s × (inst.marked ≡ true → RestsOn m insts state.frames s.frames)) (plain_inst (setting_of m setup) m inst state state.frames)
+      (inst_good (λ s. SoundPlain m s × (inst.marked ≡ true → RestsOn m insts state.frames s.frames)) inst insts state sound state.frames sound.frames last rest More (λ s h b r. ((h, r), λ main. tt)))
     where
       ended : (P : PlainState → Type 0) (s : Stepped PlainState) → EndsIn P (and_then s More) → EndsIn P s
       ended P (More t) h = h
@@ -278,15 +295,15 @@ module _ (m : Module) (formed : Formed m) (valid : Valid m) (setup : Setup) (giv
   none_left [] frames rest = frames
   none_left (frame ∷ below) frames rest = nothing_left IsBelow m frame (top_good IsBelow m frame below frames) rest
 
-  through_good : (insts : List Inst) (state : PlainState) → SoundPlain m state → AtRest m state.frames insts → EndsWell (through (setting_of m setup) m insts state)
-  through_good [] state sound rest = absurd (none_left state.frames sound.frames rest)
-  through_good (inst ∷ insts) state sound rest =
-      inst_good (SoundPlain m) inst insts state sound state.frames sound.frames rest (if inst.marked then through (setting_of m setup) m insts else More)
-      (λ s h r. chosen (λ go. EndsWell (go s)) inst.marked (through (setting_of m setup) m insts) More (λ e. through_good insts s h (r e)) (λ e. (h, tt)))
+  through_good : (insts : List Inst) (state : PlainState) → SoundPlain m state → BelowMain state.frames → AtRest m state.frames insts → EndsWell (through (setting_of m setup) m insts state)
+  through_good [] state sound last rest = absurd (none_left state.frames sound.frames rest)
+  through_good (inst ∷ insts) state sound last rest =
+      inst_good SoundBelow inst insts state sound state.frames sound.frames last rest (if inst.marked then through (setting_of m setup) m insts else More)
+      (λ s h b r. chosen (λ go. EndsWell (go s)) inst.marked (through (setting_of m setup) m insts) More (λ e. through_good insts s h b (r e).0) (λ e. ((h, b), λ main. tt)))
 
-  first_good : (fs : List (Frame ℕ)) (state : PlainState) → fs ≡ state.frames → SoundPlain m state → EndsWell (plain_first (setting_of m setup) m fs state)
-  first_good [] state e sound = absurd (subst (GoodFrames IsBelow m) (sym e) sound.frames)
-  first_good (frame ∷ below) state e sound = through_good (rest_of m frame) state sound (subst (λ fs. AtRest m fs (rest_of m frame)) e refl)
+  first_good : (fs : List (Frame ℕ)) (state : PlainState) → fs ≡ state.frames → SoundPlain m state → BelowMain state.frames → EndsWell (plain_first (setting_of m setup) m fs state)
+  first_good [] state e sound last = absurd (subst (GoodFrames IsBelow m) (sym e) sound.frames)
+  first_good (frame ∷ below) state e sound last = through_good (rest_of m frame) state sound last (subst (λ fs. AtRest m fs (rest_of m frame)) e refl)
 
-  pub step_good : (state : PlainState) → SoundPlain m state → EndsWell (plain_step (setting_of m setup) m state)
-  step_good state sound = first_good state.frames state refl sound
+  pub step_good : (state : PlainState) → SoundPlain m state → BelowMain state.frames → EndsWell (plain_step (setting_of m setup) m state)
+  step_good state sound last = first_good state.frames state refl sound last

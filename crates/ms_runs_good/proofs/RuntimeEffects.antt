@@ -7,7 +7,7 @@ use Rattle.ms_ir.specs.declared.syntax.Ty.{Int}
 use Rattle.ms_runs.specs.declared.runs.End.TheVariants as «end»
 use Rattle.ms_runs.specs.declared.runs.Report.{Report}
 use Rattle.ms_ir.specs.declared.calls.RuntimeFn.{RuntimeFn}
-use Rattle.ms_ir.specs.declared.calls.RuntimeFn.TheVariants.{Check, CheckMemory, CheckString, Blind, Poison, Unpoison, Copy, Fill, StoreOrigin, LoadOrigin, Size, CheckFormat, Move}
+use Rattle.ms_ir.specs.declared.calls.RuntimeFn.TheVariants.{Check, CheckMemory, CheckString, Blind, Poison, Unpoison, Copy, Fill, StoreOrigin, LoadOrigin, Size, CheckFormat, ThreadResult, Move}
 use Rattle.ms_runs.specs.World.{World, Setting, Effect, Gives, Does, Goes, Enters, Leaves, Ends, then_does, word}
 use Rattle.ms_runs.specs.Memory.{is_good, heap_size, bytes_left}
 use Rattle.ms_runs.specs.Origins.{add_report, check, check_byte, check_memory, check_string, asks_string_at, check_format, count_blind, trail, first_in_string, origin_within, load_origin}
@@ -16,7 +16,7 @@ use Rattle.ms_ir.specs.Signatures.{runtime_signature}
 use Rattle.ms_runs_good.specs.GoodWorlds.{GoodWorld, FitsCell}
 use Rattle.ms_runs_good.specs.GoodStates.{IsBelow}
 use Rattle.ms_runs_good.specs.Straight.{Answers, HaveTypes}
-use Rattle.ms_runs_good.proofs.WorldChanges.{either, with_reports, with_blind, GoodSetting, poison_good, unpoison_good, copy_planes_good, fill_planes_good, store_origin_good}
+use Rattle.ms_runs_good.proofs.WorldChanges.{either, with_reports, with_blind, GoodSetting, poison_good, unpoison_good, copy_planes_good, fill_planes_good, store_origin_good, thread_result_good}
 use Rattle.ms_runs_good.proofs.ExternalEffects.{in_type, heap_small}
 
 -- ---- checks
@@ -96,5 +96,6 @@ runtime_answers setting given LoadOrigin words w g h =
 runtime_answers setting given Size words w g h =
     (in_type (Int 64) (unwrap_or (heap_size w (word 0 words)) 0) (omega (arith, heap_small FitsCell w (word 0 words) g)), g)
 runtime_answers setting given CheckFormat words w g h = format_answers FitsCell setting w g (word 0 words) (word 1 words) (word 2 words) (word 3 words)
+runtime_answers setting given ThreadResult words w g h = (refl, thread_result_good FitsCell setting given (word 0 words) (word 1 words) (word 2 words) (word 3 words) w g)
 runtime_answers setting given (Move k) words w g h =
     (in_type (Int (bits_of (move_width k))) (moved k (word 0 words) (word 1 words) (word 2 words)) (moved_lt k (word 0 words) (word 1 words) (word 2 words)), g)

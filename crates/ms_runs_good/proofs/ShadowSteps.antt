@@ -1,5 +1,5 @@
 -- A step of a shadow run of a formed and valid module keeps its state good.
-use Rattle.std.proofs.Common.{◌≡◌, ◌<◌, ◌+◌, ◌*◌, ◌^◌, ℕ, zero, suc, List, [], ◌∷◌, map, get_or, Option, Some, None, unwrap_or, refl, subst}
+use Rattle.std.proofs.Common.{◌≡◌, ◌<◌, ◌+◌, ◌*◌, ◌^◌, ℕ, zero, suc, List, [], ◌∷◌, map, get_or, eqb, ◌&&◌, if◌then◌else◌, Option, Some, None, unwrap_or, refl, subst}
 use Rattle.std.specs.Prelude.{slice_get}
 use Rattle.ms_bits.specs.Maps.{byte_of}
 use Rattle.ms_ir.specs.declared.syntax.Ty.{Ty}
@@ -11,13 +11,13 @@ use Rattle.ms_ir.specs.declared.syntax.Func.{Func}
 use Rattle.ms_ir.specs.declared.syntax.Module.{Module}
 use Rattle.ms_runs.specs.declared.runs.Setup.{Setup}
 use Rattle.ms_ir.specs.declared.calls.External.{External}
-use Rattle.ms_ir.specs.declared.calls.External.TheVariants.{Malloc, Realloc, Memcpy, Memmove, Memset, Read, LlvmMemcpy, LlvmMemmove, LlvmMemset, LifetimeStart}
+use Rattle.ms_ir.specs.declared.calls.External.TheVariants.{Malloc, Realloc, Memcpy, Memmove, Memset, Read, LlvmMemcpy, LlvmMemmove, LlvmMemset, LifetimeStart, PthreadCreate, PthreadJoin}
 use Rattle.ms_ir.specs.Layout.{width_of, stored_size, size_in}
 use Rattle.ms_runs.specs.World.{World, Setting, Here, Effect, Gives, Does, Goes, Enters, Leaves, Ends}
 use Rattle.ms_runs.specs.Memory.{heap_size, set_shadow}
 use Rattle.ms_runs.specs.Origins.{count_blind}
 use Rattle.ms_ir.specs.Code.{operands, count_undefs, external_named, func_at}
-use Rattle.ms_runs.specs.Control.{Frame, Outcome, On, Over, here, rest_of, read_all}
+use Rattle.ms_runs.specs.Control.{Frame, Outcome, On, Over, here, rest_of, read_all, keeping}
 use Rattle.ms_runs.specs.Act.{act}
 use Rattle.ms_runs.specs.Plain.{setting_of}
 use Rattle.ms_runs.specs.Poisoned.{Poisoned, clean}
@@ -36,11 +36,11 @@ use Rattle.ms_runs_good.specs.GoodWorlds.{GoodWorld, AnyOrigin}
 use Rattle.ms_runs_good.specs.Straight.{Answers, HaveTypes}
 use Rattle.ms_runs_good.specs.GoodRules.{KeepWidths}
 use Rattle.ms_runs_good.specs.GoodRuns.{SoundShadow, LeadsTo}
-use Rattle.ms_runs_good.proofs.WorldChanges.{byte_below, set_shadow_good, release_good, GoodSetting, poison_good, unpoison_good, copy_planes_good, fill_planes_good, store_origin_good}
+use Rattle.ms_runs_good.proofs.WorldChanges.{byte_below, set_shadow_good, given_back_good, GoodSetting, poison_good, unpoison_good, copy_planes_good, fill_planes_good, store_origin_good, thread_result_good}
 use Rattle.ms_runs_good.proofs.RuntimeEffects.{then_answers, check_answers, memory_answers, string_answers, format_answers, blind_good}
 use Rattle.ms_runs_good.proofs.InstructionEffects.{cast_fits, act_fits}
 use Rattle.ms_runs_good.proofs.MaskRanges.{result_mask_below}
-use Rattle.ms_runs_good.proofs.Frames.{top_good, read_all_have, due_first, MovedTo, moves_to}
+use Rattle.ms_runs_good.proofs.Frames.{top_good, kept_good, kept_frames, read_all_have, due_first, MovedTo, moves_to}
 
 -- the numbers of poisoned words have their types
 pub numbers_have : (ps : List Poisoned) (types : List Ty) → HaveTypes PoisonedBelow clean ps types → HaveTypes IsBelow 0 (map (λ p. p.value) ps) types
@@ -67,6 +67,8 @@ module _ (s : Setting) (given : GoodSetting AnyOrigin s) where
   external_planes_good site root LlvmMemset ps before v w g =
       fill_planes_good AnyOrigin s given (word_at 0 ps).value (word_at 2 ps).value (word_at 1 ps).mask (word_at 1 ps).origin site w g tt
   external_planes_good site root LifetimeStart ps before v w g = poison_good AnyOrigin s given (word_at 1 ps).value 0 (word_at 0 ps).value root w g tt
+  external_planes_good site root PthreadCreate ps before v w g = unpoison_good AnyOrigin s given (word_at 0 ps).value (if eqb v 0 then 8 else 0) w g
+  external_planes_good site root PthreadJoin ps before v w g = thread_result_good AnyOrigin s given (word_at 1 ps).value (word_at 0 ps).value v site w g
   external_planes_good site root e ps before v w g = g
 
   callee_planes_good : (site root : ℕ) (o : Option External) (ps : List Poisoned) (before : World) (v : ℕ) (w : World) → GoodWorld AnyOrigin w → GoodWorld AnyOrigin (callee_planes s site root o ps before v w)
@@ -127,10 +129,10 @@ module _ (m : Module) (formed : Formed m) (valid : Valid m) (setup : Setup) (giv
         let fits = act_fits PoisonedBelow clean m formed valid AnyOrigin frame.func frame.block frame.place good.func i good.stands due ps (poisoned_result d i.op ps) lifted have
         (map (λ p. p.value) ps) (numbers_have ps (map (λ a. a.0) (operands i.op)) have) setup given w g h in
         let root = h.root + count_undefs (operands i.op) + 1 in (
-          moves_good PoisonedBelow shadow_reading (setting_of m setup) m formed valid frame below frames good shadow_unset (shadow_read (setting_of m setup) frame.values) i due h.site ps (poisoned_result d i.op ps)
+          moves_good PoisonedBelow shadow_reading (setting_of m setup) m formed valid (keeping i.op e frame) below (kept_frames PoisonedBelow m i.op e frame below frames) (kept_good PoisonedBelow m i.op e frame good) shadow_unset (shadow_read (setting_of m setup) frame.values) i due h.site ps (poisoned_result d i.op ps)
               (planes (setting_of m setup) h.site root i.op ps w) e fits.0,
-          moves_to shadow_reading (setting_of m setup) m (GoodWorld AnyOrigin) (release_good AnyOrigin) h.site i.result ps (poisoned_result d i.op ps) (planes (setting_of m setup) h.site root i.op ps w)
-              (λ v u k. planes_good (setting_of m setup) given h.site root i.op ps w v u k) frame below e fits.1,
+          moves_to shadow_reading (setting_of m setup) m (GoodWorld AnyOrigin) (given_back_good AnyOrigin) h.site i.result ps (poisoned_result d i.op ps) (planes (setting_of m setup) h.site root i.op ps w)
+              (λ v u k. planes_good (setting_of m setup) given h.site root i.op ps w v u k) (keeping i.op e frame) below e fits.1,
         )
 
     checked_good : (e : Effect) → Answers (GoodWorld AnyOrigin) None e → BothGood m (after_checks d (setting_of m setup) m i h ps frame below e)

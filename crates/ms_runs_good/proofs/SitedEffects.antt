@@ -6,6 +6,7 @@ use Rattle.ms_bits.specs.Maps.{byte_of, bytes_at, number_at, first_nonzero}
 use Rattle.ms_bits.specs.Arithmetic.{binary_of}
 use Rattle.ms_bits.specs.WordFunctions.{bits_of, word_answer}
 use Rattle.ms_bits.specs.Conversions.{compare_of, cast_of}
+use Rattle.ms_runs.specs.Threads.{fiber_limit, thread_at, has_ended, with_joined, join_answer}
 use Rattle.ms_runs.specs.declared.runs.End.TheVariants as «end»
 use Rattle.ms_runs.specs.declared.runs.Report.{Report}
 use Rattle.ms_ir.specs.declared.syntax.Name.{Name}
@@ -14,16 +15,16 @@ use Rattle.ms_ir.specs.declared.syntax.Module.{Module}
 use Rattle.ms_ir.specs.declared.syntax.Op.{Op}
 use Rattle.ms_ir.specs.declared.syntax.Op.TheVariants as op
 use Rattle.ms_ir.specs.declared.calls.External.{External}
-use Rattle.ms_ir.specs.declared.calls.External.TheVariants.{Malloc, Calloc, Realloc, Free, Memcpy, Memmove, Memset, Memcmp, Strlen, Putchar, Puts, Getchar, Read, Write, Exit, Abort, LlvmMemcpy, LlvmMemmove, LlvmMemset, LifetimeStart, LifetimeEnd, Printf, LlvmTrap, LlvmAssume, LlvmObjectSize, Word}
+use Rattle.ms_ir.specs.declared.calls.External.TheVariants.{Malloc, Calloc, Realloc, Free, Memcpy, Memmove, Memset, Memcmp, Strlen, Putchar, Puts, Getchar, Read, Write, Exit, Abort, LlvmMemcpy, LlvmMemmove, LlvmMemset, LifetimeStart, LifetimeEnd, Printf, LlvmTrap, LlvmAssume, LlvmObjectSize, PthreadCreate, PthreadJoin, SchedYield, Word}
 use Rattle.ms_ir.specs.declared.calls.RuntimeFn.{RuntimeFn}
 use Rattle.ms_ir.specs.declared.calls.RuntimeFn.TheVariants.{Check, CheckMemory, CheckString, CheckFormat}
 use Rattle.ms_ir.specs.Names.{lookup, externals, runtime_functions, slots}
 use Rattle.ms_ir.specs.Layout.{width_of, stored_size, size_in}
-use Rattle.ms_ir.specs.Areas.{Heap, Stack}
+use Rattle.ms_ir.specs.Areas.{Heap}
 use Rattle.ms_runs.specs.World.{World, Setting, Here, Effect, Gives, Does, Goes, Enters, Leaves, Ends, traps, stuck, word, gives}
-use Rattle.ms_runs.specs.Memory.{fits, next_base, is_good, heap_size, end_block, make, make_unset, copy_bytes, copy_shadow, set_shadow, store_number, bytes_left}
+use Rattle.ms_runs.specs.Memory.{fits, next_base, local_area, is_good, heap_size, end_block, make, make_unset, copy_bytes, copy_shadow, set_shadow, store_number, bytes_left}
 use Rattle.ms_runs.specs.Origins.{trail, add_report, check, check_byte, check_memory, check_string, asks_string_at, check_format, first_in_string}
-use Rattle.ms_runs.specs.Externals.{minus_one, malloc, reallocated, realloc, free, where_good, string_at, printed, taken, next_byte, formatted, prints, external}
+use Rattle.ms_runs.specs.Externals.{minus_one, malloc, reallocated, realloc, free, where_good, string_at, printed, taken, next_byte, formatted, prints, external, joined}
 use Rattle.ms_runs.specs.Runtime.{runtime}
 use Rattle.ms_ir.specs.Code.{external_named, is_phi}
 use Rattle.ms_runs.specs.Act.{truth, act}
@@ -122,6 +123,13 @@ module _ (m : Module) (main : Bool) (setting : Setting) (site : ℕ) (sited : Is
   external_sited LlvmTrap types words = sited
   external_sited LlvmAssume types words = either (IsSited m main) (eqb (word 0 words) 0) (traps trap.Unreachable site w) (Does w) sited tt
   external_sited LlvmObjectSize types words = tt
+  external_sited PthreadCreate types words = either (IsSited m main) (leb fiber_limit (length w.threads + 1)) (Gives 11 w) _ tt (where_good_sited (word 0 words) 8 _ tt)
+  external_sited PthreadJoin types words =
+      let id = word 0 words in let r = word 1 words in
+      either (IsSited m main) (eqb (join_answer w.turn id w.threads) 0) (if has_ended (thread_at id w.threads) then joined site id r w else traps trap.Deadlock site w) (Gives (join_answer w.turn id w.threads) w)
+      (either (IsSited m main) (has_ended (thread_at id w.threads)) (joined site id r w) (traps trap.Deadlock site w)
+      (either (IsSited m main) (eqb r 0) (Gives 0 (with_joined id w)) _ tt (where_good_sited r 8 _ tt)) sited) tt
+  external_sited SchedYield types words = tt
   external_sited Printf types words = prints_sited (formatted w types words)
   external_sited (Word f n) types words = answer_sited (word_answer f (bits_of n) (word 0 words) (word 1 words) (word 2 words))
 
@@ -236,7 +244,8 @@ module _ (m : Module) (setting : Setting) (here : Here) (sited : IsSite m here.s
   act_sited (op.Phi t edges) words p k = absurd (true≢false p)
   act_sited (op.Alloca t u count) words p k =
       let n = size_in setting.types t * word 0 words in
-      either (IsSited m here.main) (fits Stack n w) (Gives (next_base Stack w) (make_unset setting.fill Stack n w)) (traps trap.Stack here.site w) tt sited
+      let area = local_area w in
+      either (IsSited m here.main) (fits area n w) (Gives (next_base area w) (make_unset setting.fill area n w)) (traps trap.Stack here.site w) tt sited
   act_sited (op.Load t addr) words p k =
       either (IsSited m here.main) (is_good w (word 0 words) (stored_size t)) (Gives (number_at w.bytes (word 0 words) (stored_size t) % 2 ^ width_of t) w) (traps trap.BadAddress here.site w) tt sited
   act_sited (op.Store t v addr) words p k =

@@ -1,5 +1,5 @@
 -- Where a step of a formed and valid module ends the run, it has a site: no phi is due, and a return has a caller.
-use Rattle.std.proofs.Common.{◌≡◌, ◌≤◌, ◌+◌, ℕ, zero, suc, List, [], ◌∷◌, length, leb, Bool, true, false, not, ◌&&◌, Option, Some, option_map, unwrap_or, slice_get, refl, sym, ap, ◌∙◌, arith, if◌then◌else◌, true≢false}
+use Rattle.std.proofs.Common.{◌≡◌, ◌≤◌, ◌+◌, ℕ, zero, suc, List, [], ◌∷◌, length, get_or, leb, Bool, true, false, not, ◌&&◌, Option, Some, option_map, unwrap_or, slice_get, refl, sym, ap, ◌∙◌, arith, if◌then◌else◌, true≢false}
 use Rattle.std.proofs.lemmas.Bool.{and_parts}
 use Rattle.ms_ir.specs.Code.{is_phi}
 use Rattle.ms_bits.specs.declared.traps.Trap.TheVariants as trap
@@ -12,14 +12,16 @@ use Rattle.ms_ir.specs.declared.syntax.Module.{Module}
 use Rattle.ms_runs.specs.declared.runs.End.TheVariants as «end»
 use Rattle.ms_ir.specs.Names.{name_eq, main_name}
 use Rattle.ms_runs.specs.World.{World, Setting, Effect, Gives, Does, Goes, Enters, Leaves, Ends}
-use Rattle.ms_runs.specs.Control.{Frame, Reading, Outcome, On, Over, count_phis, here, entered, after_effect}
+use Rattle.ms_runs.specs.Control.{Frame, Reading, Outcome, On, Over, count_phis, here, one_on, put, jumped, result_at, entered, after_effect}
 use Rattle.ms_valid.specs.FormedCode.{is_terminator, ends_well, is_body}
-use Rattle.ms_runs_good.specs.GoodStates.{GoodFrames}
+use Rattle.ms_runs_good.specs.GoodStates.{GoodFrames, IsMain, Bottom}
 use Rattle.ms_valid.proofs.NameTests.{name_same}
 use Rattle.ms_runs_good.specs.Sited.{IsSite, HasSite}
 use Rattle.ms_runs_good.proofs.SitedEffects.{IsSited}
 use Rattle.ms_runs_good.proofs.WorldChanges.{either}
 use Rattle.ms_runs_good.proofs.CallTypes.{func_found}
+use Rattle.ms_runs_good.proofs.Moves.{put_func}
+use Rattle.ms_runs_good.proofs.Bottoms.{same_bottom}
 
 -- ---- phis
 
@@ -56,24 +58,25 @@ behind_phis (j ∷ rest) p i b l e = by_op j.op p b l e (λ q c k d. behind_phis
 
 -- ---- returns
 
--- the last frame is `main`'s
-pub last_is_main : {V : Type 0} (holds : V → ℕ → Type 0) (setting : Setting) (m : Module) (frame : Frame V) → GoodFrames holds m (frame ∷ []) → (here setting m frame).main ≡ true
-last_is_main holds setting m frame frames =
-    let found = func_found m.funcs main_name frame.func frames.1 in
+-- a frame of `main`
+pub last_is_main : {V : Type 0} (setting : Setting) (m : Module) (frame : Frame V) → IsMain m frame.func → (here setting m frame).main ≡ true
+last_is_main setting m frame is =
+    let found = func_found m.funcs main_name frame.func is in
     ap (λ o. name_eq (unwrap_or (option_map (λ g. g.name) o) (Number 0)) main_name) found.1 ∙ ap (λ x. name_eq x main_name) found.2 ∙ name_same main_name
 
--- where a move ends the run, it has a site
+-- a move leaves frames of which the last is `main`'s, and where it ends the run, it has a site
 abbrev pub MovedSited : {V : Type 0} → Module → Outcome V → Type 0
-MovedSited m (On frames w) = Unit {0}
+MovedSited m (On frames w) = Bottom (IsMain m) frames
 MovedSited m (Over e w) = HasSite m e
 
 pub moves_sited : {V : Type 0} (holds : V → ℕ → Type 0) (reading : Reading V) (setting : Setting) (m : Module) (site : ℕ) → IsSite m site → (x : Option Name) (words : List V) (lift : ℕ → World → V) (after : ℕ → World → World)
-    → (frame : Frame V) (below : List (Frame V)) → GoodFrames holds m (frame ∷ below) → (e : Effect) → IsSited m (here setting m frame).main e → MovedSited m (after_effect reading setting m site x words lift after frame below e)
-moves_sited holds reading setting m site sited x words lift after frame below frames (Gives v w) h = tt
-moves_sited holds reading setting m site sited x words lift after frame below frames (Does w) h = tt
-moves_sited holds reading setting m site sited x words lift after frame below frames (Goes to w) h = tt
-moves_sited holds reading setting m site sited x words lift after frame below frames (Enters n w) h =
-    either (MovedSited m) (leb 1024 (length below + 1)) (Over («end».Trap trap.Depth site) w) (On (entered reading m n words w ∷ frame ∷ below) w) sited tt
-moves_sited holds reading setting m site sited x words lift after frame [] frames (Leaves w) h = absurd (true≢false (sym (last_is_main holds setting m frame frames) ∙ h))
-moves_sited holds reading setting m site sited x words lift after frame (caller ∷ below) frames (Leaves w) h = tt
-moves_sited holds reading setting m site sited x words lift after frame below frames (Ends e w) h = h
+    → (frame : Frame V) (below : List (Frame V)) → GoodFrames holds m (frame ∷ below) → Bottom (IsMain m) (frame ∷ below) → (e : Effect) → IsSited m (here setting m frame).main e → MovedSited m (after_effect reading setting m site x words lift after frame below e)
+moves_sited holds reading setting m site sited x words lift after frame below frames last (Gives v w) h = same_bottom (IsMain m) frame (put frame x (lift v w)) below (put_func frame x (lift v w)) last
+moves_sited holds reading setting m site sited x words lift after frame below frames last (Does w) h = same_bottom (IsMain m) frame (one_on frame) below refl last
+moves_sited holds reading setting m site sited x words lift after frame below frames last (Goes to w) h = same_bottom (IsMain m) frame (jumped reading setting m to frame) below refl last
+moves_sited holds reading setting m site sited x words lift after frame below frames last (Enters n w) h =
+    either (MovedSited m) (leb 1024 (length below + 1)) (Over («end».Trap trap.Depth site) w) (On (entered reading m n words w ∷ frame ∷ below) w) sited last
+moves_sited holds reading setting m site sited x words lift after frame [] frames last (Leaves w) h = absurd (true≢false (sym (last_is_main setting m frame last) ∙ h))
+moves_sited holds reading setting m site sited x words lift after frame (caller ∷ below) frames last (Leaves w) h =
+    same_bottom (IsMain m) caller (put caller (result_at m caller) (get_or words 0 reading.unset)) below (put_func caller (result_at m caller) (get_or words 0 reading.unset)) last
+moves_sited holds reading setting m site sited x words lift after frame below frames last (Ends e w) h = h

@@ -4,23 +4,23 @@ use Rattle.ms_ir.specs.declared.syntax.Inst.{Inst}
 use Rattle.ms_ir.specs.declared.syntax.Module.{Module}
 use Rattle.ms_runs.specs.declared.runs.Setup.{Setup}
 use Rattle.ms_runs.specs.Act.{plain_reading}
-use Rattle.ms_runs.specs.Plain.{steps, PlainState, plain_inst, plain_step, setting_of, plain, plain_start}
+use Rattle.ms_runs.specs.Plain.{Stepped, More, Stop, steps, PlainState, plain_inst, plain_step, setting_of, plain, plain_start}
 use Rattle.ms_runs.specs.Masks.{Rules}
 use Rattle.ms_runs.specs.Shadow.{ShadowState, shadow_reading, shadow_step, shadow_by, shadow_start}
 use Rattle.ms_ir.specs.Code.{NoMarks}
 use Rattle.ms_valid.specs.Formed.{Formed}
-use Rattle.ms_runs_good.specs.GoodStates.{IsBelow, PoisonedBelow, GoodShadow}
+use Rattle.ms_runs_good.specs.GoodStates.{IsBelow, PoisonedBelow, GoodShadow, IsMain, Bottom}
 use Rattle.ms_valid.specs.Valid.{Valid}
-use Rattle.ms_runs_good.proofs.Starts.{start_good}
+use Rattle.ms_runs_good.proofs.Starts.{start_good, start_is_main}
 use Rattle.ms_runs_good.specs.GoodWorlds.{GoodWorld, GivesBytes, FitsCell, AnyOrigin}
 use Rattle.ms_runs_good.specs.GoodRules.{KeepWidths}
 use Rattle.ms_runs_good.specs.GoodRuns.{SoundPlain, SoundShadow, LeadsTo}
 use Rattle.ms_runs_good.proofs.Starting.{plain_setting, shadow_setting, start_world_good}
-use Rattle.ms_runs_good.proofs.PlainSteps.{AtRest}
+use Rattle.ms_runs_good.proofs.PlainSteps.{AtRest, RestsOn}
 use Rattle.ms_runs_good.proofs.PlainSteps as plain_steps
 use Rattle.ms_runs_good.proofs.ShadowSteps as shadow_steps
 use Rattle.ms_runs_good.specs.Sited.{HasSite, StopsAtSite}
-use Rattle.ms_runs_good.proofs.SitedShadow.{step_stops}
+use Rattle.ms_runs_good.proofs.SitedShadow.{StopsBelowMain, step_stops}
 use Rattle.ms_runs_good.proofs.RunsReached.{steps_keep, run_is, answer_bytes, steps_stop, answer_sited}
 
 pub plain_sound : (m : Module) → Formed m → Valid m → (setup : Setup) → GivesBytes setup → SoundPlain m (plain_start m setup)
@@ -38,12 +38,17 @@ shadow_sound m formed valid setup bytes = record {
 
 pub plain_keeps : (m : Module) → Formed m → Valid m → (setup : Setup) → GivesBytes setup → (state : PlainState) → SoundPlain m state
     → LeadsTo (SoundPlain m) (GoodWorld FitsCell) (plain_step (setting_of m setup) m state)
-plain_keeps m formed valid setup bytes state sound = (plain_steps.step_good m formed valid setup (plain_setting m formed setup bytes) state sound).0
+plain_keeps m formed valid setup bytes state sound =
+    without_bottom (plain_step (setting_of m setup) m state) (plain_steps.step_good m formed valid setup (plain_setting m formed setup bytes) ⊥ state sound (λ no. absurd no)).0
+  where
+    without_bottom : (r : Stepped PlainState) → LeadsTo (plain_steps.SoundBelow m formed valid setup (plain_setting m formed setup bytes) ⊥) (GoodWorld FitsCell) r → LeadsTo (SoundPlain m) (GoodWorld FitsCell) r
+    without_bottom (More s) h = h.0
+    without_bottom (Stop e w) h = h
 
 -- one instruction keeps a good state, and a marked one goes on behind itself
 pub plain_inst_keeps : (m : Module) → Formed m → Valid m → (setup : Setup) → GivesBytes setup → (inst : Inst) (insts : List Inst) (state : PlainState) → SoundPlain m state → AtRest m state.frames (inst ∷ insts)
-    → LeadsTo (λ s. SoundPlain m s × (inst.marked ≡ true → AtRest m s.frames insts)) (GoodWorld FitsCell) (plain_inst (setting_of m setup) m inst state state.frames)
-plain_inst_keeps m formed valid setup bytes inst insts state sound rest = (plain_steps.inst_keeps m formed valid setup (plain_setting m formed setup bytes) inst insts state sound rest).0
+    → LeadsTo (λ s. SoundPlain m s × (inst.marked ≡ true → RestsOn m insts state.frames s.frames)) (GoodWorld FitsCell) (plain_inst (setting_of m setup) m inst state state.frames)
+plain_inst_keeps m formed valid setup bytes inst insts state sound rest = (plain_steps.inst_keeps m formed valid setup (plain_setting m formed setup bytes) ⊥ inst insts state sound rest (λ no. absurd no)).0
 
 pub shadow_keeps : (d : Rules) → KeepWidths d → (m : Module) → Formed m → Valid m → (setup : Setup) → GivesBytes setup → (state : ShadowState) → SoundShadow m state
     → LeadsTo (SoundShadow m) (GoodWorld AnyOrigin) (shadow_step d (setting_of m setup) m state)
@@ -68,22 +73,58 @@ plain_bytes m formed valid setup bytes =
 
 -- ---- sites
 
-pub plain_stops : (m : Module) → Formed m → Valid m → (setup : Setup) → GivesBytes setup → (state : PlainState) → SoundPlain m state → StopsAtSite m (plain_step (setting_of m setup) m state)
-plain_stops m formed valid setup bytes state sound = (plain_steps.step_good m formed valid setup (plain_setting m formed setup bytes) state sound).1
+-- a state of which the last frame is `main`'s
+abbrev PlainBelow : Module → PlainState → Type 0
+PlainBelow m s = SoundPlain m s × Bottom (IsMain m) s.frames
+
+abbrev ShadowBelow : Module → ShadowState → Type 0
+ShadowBelow m s = SoundShadow m s × Bottom (IsMain m) s.frames
+
+pub plain_stops : (m : Module) → Formed m → Valid m → (setup : Setup) → GivesBytes setup → (state : PlainState) → SoundPlain m state → Bottom (IsMain m) state.frames
+    → StopsAtSite m (plain_step (setting_of m setup) m state)
+plain_stops m formed valid setup bytes state sound last =
+    (plain_steps.step_good m formed valid setup (plain_setting m formed setup bytes) (Bottom (IsMain m) state.frames) state sound (λ h. h)).1 last
+
+-- a step of a run below whose frames stands `main` keeps that
+plain_below : (m : Module) → Formed m → Valid m → (setup : Setup) → GivesBytes setup → (state : PlainState) → PlainBelow m state
+    → LeadsTo (PlainBelow m) (GoodWorld FitsCell) (plain_step (setting_of m setup) m state)
+plain_below m formed valid setup bytes state sound =
+    with_bottom (plain_step (setting_of m setup) m state)
+    (plain_steps.step_good m formed valid setup (plain_setting m formed setup bytes) (Bottom (IsMain m) state.frames) state sound.0 (λ h. h)).0
+  where
+    with_bottom : (r : Stepped PlainState) → LeadsTo (plain_steps.SoundBelow m formed valid setup (plain_setting m formed setup bytes) (Bottom (IsMain m) state.frames)) (GoodWorld FitsCell) r
+        → LeadsTo (PlainBelow m) (GoodWorld FitsCell) r
+    with_bottom (More s) h = (h.0, h.1 sound.1)
+    with_bottom (Stop e w) h = h
 
 pub plain_sited : (m : Module) → Formed m → Valid m → (setup : Setup) → GivesBytes setup → HasSite m (plain m setup).«end»
 plain_sited m formed valid setup bytes =
     subst (λ r. HasSite m r.«end») (sym (run_is (λ s. s.world) (plain_step (setting_of m setup) m) setup.steps (plain_start m setup)))
     (answer_sited m (λ s. s.world) (steps (plain_step (setting_of m setup) m) setup.steps (plain_start m setup))
-    (steps_stop m (SoundPlain m) (GoodWorld FitsCell) (plain_step (setting_of m setup) m) (plain_keeps m formed valid setup bytes) (plain_stops m formed valid setup bytes) setup.steps
-    (plain_start m setup) (plain_sound m formed valid setup bytes)))
+    (steps_stop m (PlainBelow m) (GoodWorld FitsCell) (plain_step (setting_of m setup) m) (plain_below m formed valid setup bytes)
+    (λ state sound. plain_stops m formed valid setup bytes state sound.0 sound.1) setup.steps
+    (plain_start m setup) (plain_sound m formed valid setup bytes, start_is_main m valid)))
 
-pub shadow_stops : (d : Rules) (m : Module) → Formed m → Valid m → NoMarks m → (setup : Setup) → (state : ShadowState) → GoodShadow m state → StopsAtSite m (shadow_step d (setting_of m setup) m state)
-shadow_stops d m formed valid bare setup state good = step_stops d m formed valid bare setup state good
+pub shadow_stops : (d : Rules) (m : Module) → Formed m → Valid m → NoMarks m → (setup : Setup) → (state : ShadowState) → GoodShadow m state → Bottom (IsMain m) state.frames
+    → StopsAtSite m (shadow_step d (setting_of m setup) m state)
+shadow_stops d m formed valid bare setup state good last = by_step (shadow_step d (setting_of m setup) m state) (step_stops d m formed valid bare setup state good last)
+  where
+    by_step : (r : Stepped ShadowState) → StopsBelowMain m r → StopsAtSite m r
+    by_step (More s) h = tt
+    by_step (Stop e w) h = h
+
+shadow_below : (d : Rules) → KeepWidths d → (m : Module) → Formed m → Valid m → NoMarks m → (setup : Setup) → GivesBytes setup → (state : ShadowState) → ShadowBelow m state
+    → LeadsTo (ShadowBelow m) (GoodWorld AnyOrigin) (shadow_step d (setting_of m setup) m state)
+shadow_below d keep m formed valid bare setup bytes state sound =
+    by_step (shadow_step d (setting_of m setup) m state) (shadow_keeps d keep m formed valid setup bytes state sound.0) (step_stops d m formed valid bare setup state sound.0.frames sound.1)
+  where
+    by_step : (r : Stepped ShadowState) → LeadsTo (SoundShadow m) (GoodWorld AnyOrigin) r → StopsBelowMain m r → LeadsTo (ShadowBelow m) (GoodWorld AnyOrigin) r
+    by_step (More s) h b = (h, b)
+    by_step (Stop e w) h b = h
 
 pub shadow_sited : (d : Rules) → KeepWidths d → (m : Module) → Formed m → Valid m → NoMarks m → (setup : Setup) → GivesBytes setup → HasSite m (shadow_by d m setup).«end»
 shadow_sited d keep m formed valid bare setup bytes =
     subst (λ r. HasSite m r.«end») (sym (run_is (λ s. s.world) (shadow_step d (setting_of m setup) m) setup.steps (shadow_start m setup)))
     (answer_sited m (λ s. s.world) (steps (shadow_step d (setting_of m setup) m) setup.steps (shadow_start m setup))
-    (steps_stop m (SoundShadow m) (GoodWorld AnyOrigin) (shadow_step d (setting_of m setup) m) (shadow_keeps d keep m formed valid setup bytes)
-    (λ state sound. shadow_stops d m formed valid bare setup state sound.frames) setup.steps (shadow_start m setup) (shadow_sound m formed valid setup bytes)))
+    (steps_stop m (ShadowBelow m) (GoodWorld AnyOrigin) (shadow_step d (setting_of m setup) m) (shadow_below d keep m formed valid bare setup bytes)
+    (λ state sound. shadow_stops d m formed valid bare setup state sound.0.frames sound.1) setup.steps (shadow_start m setup) (shadow_sound m formed valid setup bytes, start_is_main m valid)))

@@ -161,6 +161,11 @@ start_world_good P none m formed valid setup bytes =
       output = [];
       reports = [];
       blind = 0;
+      turn = 0;
+      threads = [];
+      answers = λ k. 0;
+      answer_masks = λ k. 0;
+      answer_origins = λ k. 0;
     }) formed.globals (both_empty (unsized_globals m.types 0 m.globals) functions later).0 (record {
       bytes = λ a. omega arith;
       shadow = λ a. omega arith;
@@ -169,4 +174,5 @@ start_world_good P none m formed valid setup bytes =
       input = bytes.input;
       output = All-nil (λ b. b < 256);
       sizes = All-nil (λ a. a.size ≤ 2 ^ 26);
+      answers = λ fiber. none;
     })

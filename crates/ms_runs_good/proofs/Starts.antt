@@ -1,5 +1,5 @@
 -- The state in which a run of a valid module starts is good.
-use Rattle.std.proofs.Common.{◌≡◌, ℕ, zero, suc, ◌+◌, List, [], ◌∷◌, ◌++◌, Bool, true, false, refl, sym, ap, subst, ◌∙◌, arith, ⊎_elim, true≢false, eqb-true}
+use Rattle.std.proofs.Common.{◌≡◌, ℕ, zero, suc, ◌+◌, List, [], ◌∷◌, ◌++◌, Bool, true, false, refl, sym, ap, subst, ◌∙◌, arith, inl, ⊎_elim, true≢false, eqb-true}
 use Rattle.std.specs.Prelude.{◌<◌, ◌≤◌, ◌||◌, not, nat_eq, nat_lt, Contains, length, map, flat_map, cond, Some, option_map, unwrap_or, slice_get, if◌then◌else◌}
 use Rattle.std.specs.List.{list_any, list_all}
 use Rattle.std.proofs.lemmas.Bool.{and_parts, or_cases}
@@ -28,7 +28,7 @@ use Rattle.ms_valid.specs.HasMain.{is_main}
 use Rattle.ms_valid.specs.Paths.{insts_of, IsSet}
 use Rattle.ms_valid.specs.FormedCode.{shape_formed, inst_formed, is_body}
 use Rattle.ms_valid.specs.Formed.{block_formed, func_formed, Formed}
-use Rattle.ms_runs_good.specs.GoodStates.{GoodFrame, GoodFrames}
+use Rattle.ms_runs_good.specs.GoodStates.{GoodFrame, GoodFrames, IsMain}
 use Rattle.ms_valid.specs.Valid.{Valid}
 use Rattle.ms_valid.proofs.NameTests.{name_same, name_sound}
 use Rattle.ms_valid.proofs.Finding.{both_empty}
@@ -270,7 +270,16 @@ entry_good holds m frame f at b p none e = record {
     due : slice_get (insts_of f 0) 0 ≡ Some e.inst
     due = ap (λ o. slice_get (unwrap_or (option_map (λ k. k.insts) o) []) 0) e.at ∙ e.due
 
--- the frame in which a run starts is good, and is `main`'s
+-- the frame in which a run starts is `main`'s
+pub start_is_main : (m : Module) → Valid m → IsMain m (unwrap_or (func_index m.funcs main_name) 0)
+start_is_main m v =
+    let symbols = global_names m ++ declared_names m in
+    let start = main_found symbols m.funcs
+    (both_empty (at_sign (repeats [] symbols)) (function_duplicates symbols m.funcs)
+    (both_empty (percent_sign (repeats [] (type_names m))) (at_sign (repeats [] symbols) ++ function_duplicates symbols m.funcs) v.names_once).1).1 v.has_main in
+    start.found ∙ ap (λ o. Some (unwrap_or o 0)) (sym start.found)
+
+-- that frame is good, and is `main`'s
 pub start_good : {V : Type 0} (holds : V → ℕ → Type 0) (reading : Reading V) (m : Module) → Formed m → Valid m → GoodFrames holds m (start_frame reading m ∷ [])
 start_good holds reading m formed v =
     let symbols = global_names m ++ declared_names m in
@@ -279,5 +288,5 @@ start_good holds reading m formed v =
     (both_empty (percent_sign (repeats [] (type_names m))) (at_sign (repeats [] symbols) ++ function_duplicates symbols m.funcs) v.names_once).1).1 v.has_main in (
       entry_good holds m (start_frame reading m) start.func (ap (λ o. func_at m (unwrap_or o 0)) start.found ∙ start.at) refl refl
           (no_parameters start.func start.main) (entry_of m formed v start.place start.func start.at),
-      start.found ∙ ap (λ o. Some (unwrap_or o 0)) (sym start.found),
+      inl (start_is_main m v),
     )

@@ -8,10 +8,11 @@ use Rattle.ms_bits.specs.Fill.{made_byte}
 use Rattle.ms_bits.specs.Maps.{within, with_range, byte_of, touches, with_cells, with_cell, copied_cells}
 use Rattle.ms_runs.specs.declared.runs.Report.{Report}
 use Rattle.ms_ir.specs.Areas.{Area}
-use Rattle.ms_runs.specs.World.{Allocation, World, Setting}
-use Rattle.ms_runs.specs.Memory.{next_base, is_heap_block, is_good, set_bytes, copy_bytes, make_bytes, set_shadow, set_cells, copy_shadow, make, make_unset, end_block, keeps}
-use Rattle.ms_runs.specs.Control.{release}
-use Rattle.ms_runs.specs.Origins.{pair_index, Chained, keeps_old, trail, depth_limit, chain, poison, unpoison, copy_planes, fill_planes, mark_cells, store_origin}
+use Rattle.ms_runs.specs.World.{Thread, Allocation, World, Setting}
+use Rattle.ms_runs.specs.Memory.{next_base, is_heap_block, is_good, set_bytes, copy_bytes, make_bytes, set_shadow, set_cells, copy_shadow, make, make_unset, end_block, end_blocks, keeps}
+use Rattle.ms_runs.specs.Control.{Frame, release, given_back}
+use Rattle.ms_runs.specs.Origins.{pair_index, Chained, keeps_old, trail, depth_limit, chain, poison, unpoison, copy_planes, fill_planes, mark_cells, store_origin, thread_result}
+use Rattle.ms_runs.specs.Threads.{thread_at, has_ended}
 use Rattle.ms_runs_good.specs.GoodWorlds.{GoodWorld}
 
 -- what holds of both choices holds of the one that is taken
@@ -64,6 +65,7 @@ module _ (P : ℕ → Type 0) (w : World) (g : GoodWorld P w) where
     input = g.input;
     output = g.output;
     sizes = g.sizes;
+    answers = g.answers;
   }
 
   pub with_shadow : (new : ℕ → ℕ) → ((a : ℕ) → new a < 256) → GoodWorld P (record w { shadow = new })
@@ -75,6 +77,7 @@ module _ (P : ℕ → Type 0) (w : World) (g : GoodWorld P w) where
     input = g.input;
     output = g.output;
     sizes = g.sizes;
+    answers = g.answers;
   }
 
   pub with_origins : (new : ℕ → ℕ) → ((c : ℕ) → P (new c)) → GoodWorld P (record w { origins = new })
@@ -86,6 +89,7 @@ module _ (P : ℕ → Type 0) (w : World) (g : GoodWorld P w) where
     input = g.input;
     output = g.output;
     sizes = g.sizes;
+    answers = g.answers;
   }
 
   pub with_pairs : (new : List (ℕ × ℕ)) → length new ≤ 1048576 → GoodWorld P (record w { pairs = new })
@@ -97,6 +101,7 @@ module _ (P : ℕ → Type 0) (w : World) (g : GoodWorld P w) where
     input = g.input;
     output = g.output;
     sizes = g.sizes;
+    answers = g.answers;
   }
 
   pub with_input : (new : List ℕ) → All (λ b. b < 256) new → GoodWorld P (record w { input = new })
@@ -108,6 +113,20 @@ module _ (P : ℕ → Type 0) (w : World) (g : GoodWorld P w) where
     input = h;
     output = g.output;
     sizes = g.sizes;
+    answers = g.answers;
+  }
+
+  -- fibers are no part of it
+  pub with_threads : (new : List Thread) → GoodWorld P (record w { threads = new })
+  with_threads new = record {
+    bytes = g.bytes;
+    shadow = g.shadow;
+    origins = g.origins;
+    pairs = g.pairs;
+    input = g.input;
+    output = g.output;
+    sizes = g.sizes;
+    answers = g.answers;
   }
 
   pub with_output : (new : List ℕ) → All (λ b. b < 256) new → GoodWorld P (record w { output = new })
@@ -119,6 +138,7 @@ module _ (P : ℕ → Type 0) (w : World) (g : GoodWorld P w) where
     input = g.input;
     output = h;
     sizes = g.sizes;
+    answers = g.answers;
   }
 
   pub with_allocs : (new : List Allocation) → All (λ a. a.size ≤ 2 ^ 26) new → GoodWorld P (record w { allocs = new })
@@ -130,6 +150,7 @@ module _ (P : ℕ → Type 0) (w : World) (g : GoodWorld P w) where
     input = g.input;
     output = g.output;
     sizes = h;
+    answers = g.answers;
   }
 
   -- the count of bytes made, reports and the count of blind uses are free
@@ -142,6 +163,7 @@ module _ (P : ℕ → Type 0) (w : World) (g : GoodWorld P w) where
     input = g.input;
     output = g.output;
     sizes = g.sizes;
+    answers = g.answers;
   }
 
   pub with_reports : (new : List Report) → GoodWorld P (record w { reports = new })
@@ -153,6 +175,7 @@ module _ (P : ℕ → Type 0) (w : World) (g : GoodWorld P w) where
     input = g.input;
     output = g.output;
     sizes = g.sizes;
+    answers = g.answers;
   }
 
   pub with_blind : (n : ℕ) → GoodWorld P (record w { blind = n })
@@ -164,6 +187,7 @@ module _ (P : ℕ → Type 0) (w : World) (g : GoodWorld P w) where
     input = g.input;
     output = g.output;
     sizes = g.sizes;
+    answers = g.answers;
   }
 
 -- ---- memory
@@ -213,6 +237,16 @@ module _ (P : ℕ → Type 0) where
 
   pub release_good : (mark : ℕ) (w : World) → GoodWorld P w → GoodWorld P (release mark w)
   release_good mark w g = with_allocs P w g (filter (keeps mark) w.allocs) (All-filter (keeps mark) (λ a. a.size ≤ 2 ^ 26) w.allocs g.sizes)
+
+  end_blocks_good : (ps : List ℕ) (w : World) → GoodWorld P w → GoodWorld P (end_blocks ps w)
+  end_blocks_good [] w g = g
+  end_blocks_good (p ∷ rest) w g = end_blocks_good rest (end_block p w) (end_block_good p w g)
+
+  -- what a return takes back
+  pub given_back_good : {V : Type 0} (frame : Frame V) (w : World) → GoodWorld P w → GoodWorld P (given_back frame w)
+  given_back_good frame w g =
+      end_blocks_good frame.heap (if eqb frame.mark 0 then w else release frame.mark w)
+      (either (GoodWorld P) (eqb frame.mark 0) w (release frame.mark w) g (release_good frame.mark w g))
 
 -- ---- origins and shadow
 
@@ -297,3 +331,10 @@ module _ (P : ℕ → Type 0) (setting : Setting) (given : GoodSetting P setting
       let chained = chain setting origin site w in
       let good = chain_good origin site w g o in
       either (GoodWorld P) (eqb mask 0) w (mark_cells 8 a mask chained.id chained.world) g (mark_cells_good 8 a mask chained.id chained.world good.world good.id)
+
+  pub thread_result_good : (a id answer site : ℕ) (w : World) → GoodWorld P w → GoodWorld P (thread_result setting a id answer site w)
+  thread_result_good a id answer site w g =
+      let mask = w.answer_masks id in
+      either (GoodWorld P) (eqb answer 0 && not (eqb a 0) && is_good w a 8 && has_ended (thread_at id w.threads))
+      (store_origin setting a mask (w.answer_origins id) site (set_shadow a 8 (byte_of mask) w)) w
+      (store_origin_good a mask (w.answer_origins id) site (set_shadow a 8 (byte_of mask) w) (set_shadow_good P a 8 (byte_of mask) w g (byte_below mask)) (g.answers id)) g

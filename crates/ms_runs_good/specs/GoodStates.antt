@@ -1,8 +1,8 @@
 -- States of a run in which nothing is missing: each frame stands at an instruction, came there on a path, and has the
 -- values that this path defines (own).
-use Rattle.std.specs.Prelude.{◌≡◌, ◌≤◌, ◌<◌, ◌^◌, ℕ, List, [], ◌∷◌, ◌++◌, length, Option, Some, slice_get}
+use Rattle.std.specs.Prelude.{◌≡◌, ◌⊎◌, ◌≤◌, ◌<◌, ◌^◌, ℕ, Bool, true, false, List, [], ◌∷◌, ◌++◌, length, Option, Some, slice_get}
 use Rattle.ms_ir.specs.declared.syntax.Name.{Name}
-use Rattle.ms_ir.specs.declared.syntax.Ty.{Ty}
+use Rattle.ms_ir.specs.declared.syntax.Ty.{Ty, Ptr}
 use Rattle.ms_ir.specs.declared.syntax.Operand.{Operand}
 use Rattle.ms_ir.specs.declared.syntax.Op.TheVariants as op
 use Rattle.ms_ir.specs.declared.syntax.Inst.{Inst}
@@ -12,6 +12,7 @@ use Rattle.ms_ir.specs.Layout.{width_of}
 use Rattle.ms_ir.specs.Code.{func_index, func_at}
 use Rattle.ms_runs.specs.Control.{Frame, count_phis}
 use Rattle.ms_ir.specs.Names.{main_name}
+use Rattle.ms_ir.specs.Signatures.{answers, signature_eq, func_signature}
 use Rattle.ms_runs.specs.Plain.{PlainState}
 use Rattle.ms_runs.specs.Poisoned.{Poisoned}
 use Rattle.ms_runs.specs.Shadow.{ShadowState}
@@ -42,11 +43,31 @@ pub record StandsAtCall {V : Type 0} (m : Module) (frame : Frame V) (called : �
   pub calls : inst.op ≡ op.Call ret callee args
   pub found : func_index m.funcs callee ≡ Some called
 
--- frames, innermost first: each is good, each below another stands at the call of its function, and the last is `main`'s
+-- the function with a number is `main`
+abbrev pub IsMain : Module → ℕ → Type 0
+IsMain m f = func_index m.funcs main_name ≡ Some f
+
+-- a fiber may begin with the function with a number: it has the type `ptr (ptr)`
+abbrev pub IsStart : Module → ℕ → Type 0
+IsStart m f = (func : Func) × ((func_at m f ≡ Some func) × (signature_eq (func_signature func) (answers Ptr (Ptr ∷ [])) ≡ true))
+
+-- frames, innermost first: each is good, each below another stands at the call of its function, and the last is `main`'s, or
+-- that with which a fiber began
 abbrev pub GoodFrames : {V : Type 0} → (V → ℕ → Type 0) → Module → List (Frame V) → Type 0
 GoodFrames holds m [] = ⊥
-GoodFrames holds m (frame ∷ []) = GoodFrame holds m frame × (func_index m.funcs main_name ≡ Some frame.func)
+GoodFrames holds m (frame ∷ []) = GoodFrame holds m frame × (IsMain m frame.func ⊎ IsStart m frame.func)
 GoodFrames holds m (frame ∷ caller ∷ below) = GoodFrame holds m frame × StandsAtCall m caller frame.func × GoodFrames holds m (caller ∷ below)
+
+-- the function of the last frame is so
+abbrev pub Bottom : {V : Type 0} → (ℕ → Type 0) → List (Frame V) → Type 0
+Bottom so [] = Unit {0}
+Bottom so (frame ∷ []) = so frame.func
+Bottom so (frame ∷ caller ∷ below) = Bottom so (caller ∷ below)
+
+-- what a fiber begins with that was spawned, or wasn't
+abbrev pub begins : Module → (spawned : Bool) → ℕ → Type 0
+begins m true f = IsStart m f
+begins m false f = IsMain m f
 
 -- a word in range
 abbrev pub IsBelow : ℕ → ℕ → Type 0

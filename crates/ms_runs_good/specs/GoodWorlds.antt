@@ -4,8 +4,8 @@ use Rattle.ms_runs.specs.declared.runs.Setup.{Setup}
 use Rattle.ms_runs.specs.Origins.{pair_limit}
 use Rattle.ms_runs.specs.World.{World, Effect, Gives, Does, Goes, Enters, Leaves, Ends}
 
--- the bytes of memory, shadow, input and output are bytes, origins are as is asked of them, no more pairs stand than may
--- be made, and no allocation is greater than the greatest area
+-- the bytes of memory, shadow, input and output are bytes, origins of cells and of what fibers answered are as is asked of
+-- them, no more pairs stand than may be made, and no allocation is greater than the greatest area
 pub record GoodWorld (IsOrigin : ℕ → Type 0) (world : World) : Type 0 where
   pub bytes : (a : ℕ) → world.bytes a < 256
   pub shadow : (a : ℕ) → world.shadow a < 256
@@ -14,6 +14,7 @@ pub record GoodWorld (IsOrigin : ℕ → Type 0) (world : World) : Type 0 where
   pub input : All (λ b. b < 256) world.input
   pub output : All (λ b. b < 256) world.output
   pub sizes : All (λ a. a.size ≤ 2 ^ 26) world.allocs
+  pub answers : (fiber : ℕ) → IsOrigin (world.answer_origins fiber)
 
 -- a setup whose input and fill are bytes
 pub record GivesBytes (setup : Setup) : Type 0 where

@@ -9,7 +9,7 @@ ghost use Rattle.ms_runs.specs.Masks.{Rules};
 ghost use Rattle.ms_runs.specs.Shadow.{ShadowState, shadow_step, shadow_by, shadow_start};
 ghost use Rattle.ms_ir.specs.Code.{NoMarks};
 ghost use Rattle.ms_valid.specs.Formed.{Formed};
-ghost use Rattle.ms_runs_good.specs.GoodStates.{GoodShadow};
+ghost use Rattle.ms_runs_good.specs.GoodStates.{GoodShadow, IsMain, Bottom};
 ghost use Rattle.ms_runs_good.specs.Sited.{HasSite, StopsAtSite};
 ghost use Rattle.ms_valid.specs.Valid.{Valid};
 ghost use Rattle.ms_runs_good.specs.GoodWorlds.{GoodWorld, GivesBytes, FitsCell, AnyOrigin};
@@ -45,12 +45,13 @@ pub fn runs_stay_good()
 {}
 
 /// No run of a formed and valid module comes to a place where no instruction is due, a phi is due, a name stands for
-/// nothing or a return has no caller: where it ends by a trap, that has a site of the module. Shadow runs are asked for of
+/// nothing or a return has no caller, where `main` stands below all frames: where it ends by a trap, that has a site of the
+/// module. Shadow runs are asked for of
 /// modules without marks alone, since they know no runtime function.
 pub fn runs_reach_sites()
-    ensures plain_steps { (m : Module) → Formed m → Valid m → (setup : Setup) → GivesBytes setup → (state : PlainState) → SoundPlain m state
+    ensures plain_steps { (m : Module) → Formed m → Valid m → (setup : Setup) → GivesBytes setup → (state : PlainState) → SoundPlain m state → Bottom (IsMain m) state.frames
         → StopsAtSite m (plain_step (setting_of m setup) m state) }
-    ensures shadow_steps { (d : Rules) (m : Module) → Formed m → Valid m → NoMarks m → (setup : Setup) → (state : ShadowState) → GoodShadow m state
+    ensures shadow_steps { (d : Rules) (m : Module) → Formed m → Valid m → NoMarks m → (setup : Setup) → (state : ShadowState) → GoodShadow m state → Bottom (IsMain m) state.frames
         → StopsAtSite m (shadow_step d (setting_of m setup) m state) }
     ensures plain_ends { (m : Module) → Formed m → Valid m → (setup : Setup) → GivesBytes setup → HasSite m (plain m setup).«end» }
     ensures shadow_ends { (d : Rules) → KeepWidths d → (m : Module) → Formed m → Valid m → NoMarks m → (setup : Setup) → GivesBytes setup → HasSite m (shadow_by d m setup).«end» }

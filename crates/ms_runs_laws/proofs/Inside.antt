@@ -6,16 +6,17 @@ use Rattle.ms_bits.specs.declared.traps.Trap.TheVariants as trap
 use Rattle.ms_bits.specs.WordFunctions.{bits_of, word_answer}
 use Rattle.ms_bits.specs.Fill.{made_byte}
 use Rattle.ms_bits.specs.Maps.{within, with_range, byte_of, bytes_at}
-use Rattle.ms_ir.specs.Areas.{Area, Heap, Stack}
+use Rattle.ms_ir.specs.Areas.{Area, Heap}
 use Rattle.ms_ir.specs.Layout.{stored_size, size_in}
 use Rattle.ms_ir.specs.Code.{external_named}
 use Rattle.ms_ir.specs.declared.syntax.Op.{Op}
 use Rattle.ms_ir.specs.declared.syntax.Op.TheVariants as op
 use Rattle.ms_ir.specs.declared.syntax.Ty.{Ty}
 use Rattle.ms_ir.specs.declared.calls.External.{External}
-use Rattle.ms_ir.specs.declared.calls.External.TheVariants.{Malloc, Calloc, Realloc, Free, Memcpy, Memmove, Memset, Memcmp, Strlen, Putchar, Puts, Getchar, Read, Write, Exit, Abort, LlvmMemcpy, LlvmMemmove, LlvmMemset, LifetimeStart, LifetimeEnd, Printf, LlvmTrap, LlvmAssume, LlvmObjectSize, Word}
+use Rattle.ms_ir.specs.declared.calls.External.TheVariants.{Malloc, Calloc, Realloc, Free, Memcpy, Memmove, Memset, Memcmp, Strlen, Putchar, Puts, Getchar, Read, Write, Exit, Abort, LlvmMemcpy, LlvmMemmove, LlvmMemset, LifetimeStart, LifetimeEnd, Printf, LlvmTrap, LlvmAssume, LlvmObjectSize, PthreadCreate, PthreadJoin, SchedYield, Word}
+use Rattle.ms_runs.specs.Threads.{fiber_limit, thread_at, has_ended, with_fiber, with_joined, join_answer}
 use Rattle.ms_runs.specs.World.{Allocation, World, Setting, Here, Effect, Gives, Enters, Ends, traps, stuck, word, gives}
-use Rattle.ms_runs.specs.Memory.{fits, next_base, first_that, covers, is_good, block_of, is_heap_block, heap_size, end_block, make, make_unset, make_bytes, set_bytes, store_number, copy_bytes, copy_shadow}
+use Rattle.ms_runs.specs.Memory.{fits, next_base, local_area, first_that, covers, is_good, block_of, is_heap_block, heap_size, end_block, make, make_unset, make_bytes, set_bytes, store_number, copy_bytes, copy_shadow}
 use Rattle.ms_runs.specs.Externals.{malloc, reallocated, realloc, where_good, printed, next_byte, formatted, prints, external, string_at, output_limit}
 use Rattle.ms_runs.specs.Act.{act}
 use Rattle.ms_runs_laws.specs.Inside.{has_byte, StaysInside, InsideAfter}
@@ -214,6 +215,18 @@ external_stays s site LifetimeEnd ts vs w = itself w
 external_stays s site LlvmTrap ts vs w = itself w
 external_stays s site LlvmAssume ts vs w = either (eqb (word 0 vs) 0) w _ _ (λ t. itself w) (itself w)
 external_stays s site LlvmObjectSize ts vs w = itself w
+external_stays s site PthreadCreate ts vs w =
+    either (leb fiber_limit (length w.threads + 1)) w _ _ (λ t. itself w)
+    (where_stays site (word 0 vs) 8 w _
+    (λ good. stored w (store_number (word 0 vs) 8 (length w.threads + 1) (with_fiber (word 2 vs) (word 3 vs) w)) (word 0 vs) 8 (byte_of (length w.threads + 1)) good (λ x. refl)))
+external_stays s site PthreadJoin ts vs w =
+    either (eqb (join_answer w.turn (word 0 vs) w.threads) 0) w _ _
+    (λ t. either (has_ended (thread_at (word 0 vs) w.threads)) w _ _
+    (λ ended. either (eqb (word 1 vs) 0) w _ _ (λ null x live made. refl)
+    (where_stays site (word 1 vs) 8 w _ (λ good. stored w (store_number (word 1 vs) 8 (w.answers (word 0 vs)) (with_joined (word 0 vs) w)) (word 1 vs) 8 (byte_of (w.answers (word 0 vs))) good (λ x. refl))))
+    (itself w))
+    (itself w)
+external_stays s site SchedYield ts vs w = itself w
 external_stays s site Printf ts vs w = prints_stays site (formatted w ts vs) w
 external_stays s site (Word f n) ts vs w = gives_stays site (word_answer f (bits_of n) (word 0 vs) (word 1 vs) (word 2 vs)) w
 
@@ -229,7 +242,7 @@ pub act_stays : (s : Setting) (h : Here) (o : Op) (vs : List ℕ) (w : World) �
 act_stays s h (op.Binary o f t a b) vs w = gives_stays h.site _ w
 act_stays s h (op.Icmp p f t a b) vs w = gives_stays h.site _ w
 act_stays s h (op.Cast o f t a u) vs w = gives_stays h.site _ w
-act_stays s h (op.Alloca t u c) vs w = either (fits Stack (size_in s.types t * word 0 vs) w) w _ _ (λ k. make_unset_stays s.fill Stack (size_in s.types t * word 0 vs) w) (itself w)
+act_stays s h (op.Alloca t u c) vs w = either (fits (local_area w) (size_in s.types t * word 0 vs) w) w _ _ (λ k. make_unset_stays s.fill (local_area w) (size_in s.types t * word 0 vs) w) (itself w)
 act_stays s h (op.Load t a) vs w = either (is_good w (word 0 vs) (stored_size t)) w _ _ (λ k. itself w) (itself w)
 act_stays s h (op.Store t v a) vs w = either (is_good w (word 1 vs) (stored_size t)) w _ _ (λ good. stored w (store_number (word 1 vs) (stored_size t) (word 0 vs) w) (word 1 vs) (stored_size t) (byte_of (word 0 vs)) good (λ x. refl)) (itself w)
 act_stays s h (op.Call r x args) vs w = call_stays s h.site (map (λ a. a.0) args) vs w (s.func x) (external_named s.func x)

@@ -9,19 +9,20 @@ use Rattle.ms_ir.specs.declared.syntax.Op.{Op}
 use Rattle.ms_ir.specs.declared.syntax.Op.TheVariants as op
 use Rattle.ms_ir.specs.declared.syntax.Inst.{Inst}
 use Rattle.ms_ir.specs.declared.syntax.Module.{Module}
+use Rattle.ms_runs.specs.Threads.{fiber_limit, thread_at, has_ended, join_answer}
 use Rattle.ms_runs.specs.declared.runs.End.TheVariants as «end»
 use Rattle.ms_ir.specs.declared.calls.External.{External}
-use Rattle.ms_ir.specs.declared.calls.External.TheVariants.{Malloc, Calloc, Realloc, Free, Memcpy, Memmove, Memset, Memcmp, Strlen, Putchar, Puts, Getchar, Read, Write, Exit, Abort, LlvmMemcpy, LlvmMemmove, LlvmMemset, LifetimeStart, LifetimeEnd, Printf, LlvmTrap, LlvmAssume, LlvmObjectSize, Word}
-use Rattle.ms_ir.specs.Areas.{Heap, Stack}
+use Rattle.ms_ir.specs.declared.calls.External.TheVariants.{Malloc, Calloc, Realloc, Free, Memcpy, Memmove, Memset, Memcmp, Strlen, Putchar, Puts, Getchar, Read, Write, Exit, Abort, LlvmMemcpy, LlvmMemmove, LlvmMemset, LifetimeStart, LifetimeEnd, Printf, LlvmTrap, LlvmAssume, LlvmObjectSize, PthreadCreate, PthreadJoin, SchedYield, Word}
+use Rattle.ms_ir.specs.Areas.{Heap}
 use Rattle.ms_runs.specs.World.{World, Setting, Here, Effect, Gives, Does, Goes, Enters, Leaves, Ends, word, gives}
 use Rattle.ms_ir.specs.Layout.{width_of, stored_size, size_in}
 use Rattle.ms_bits.specs.WordFunctions.{bits_of, word_answer}
 use Rattle.ms_bits.specs.Arithmetic.{binary_of}
 use Rattle.ms_bits.specs.Conversions.{compare_of, cast_of}
-use Rattle.ms_runs.specs.Memory.{fits, is_good, heap_size}
+use Rattle.ms_runs.specs.Memory.{end_block, end_blocks, local_area, fits, is_good, heap_size}
 use Rattle.ms_bits.specs.Maps.{bytes_at}
 use Rattle.ms_ir.specs.Code.{operands, external_named, HeadUnmarked, NoMarks}
-use Rattle.ms_runs.specs.Control.{Frame, Outcome, On, Over, here, rest_of, read_all, entered, left, after_effect}
+use Rattle.ms_runs.specs.Control.{Frame, Outcome, On, Over, here, rest_of, read_all, entered, left, release, given_back, keeping, after_effect}
 use Rattle.ms_runs.specs.Externals.{external, malloc, reallocated, where_good, string_at, printed, next_byte, formatted, prints}
 use Rattle.ms_runs.specs.Act.{plain_reading, act, truth}
 use Rattle.ms_runs.specs.Plain.{act_marked, slots_after, PlainState, Stepped, More, Stop, and_then, plain_state, through, plain_step, go_on, run}
@@ -108,6 +109,12 @@ adds_external s site LifetimeEnd ts vs w = record { more = whole _ }
 adds_external s site LlvmTrap ts vs w = record { more = whole _ }
 adds_external s site LlvmAssume ts vs w = adds_if (eqb (word 0 vs) 0) (record { more = whole _ }) (record { more = whole _ })
 adds_external s site LlvmObjectSize ts vs w = record { more = whole _ }
+adds_external s site PthreadCreate ts vs w = adds_if (leb fiber_limit (length w.threads + 1)) (record { more = whole _ }) (adds_good site (word 0 vs) 8 w (record { more = whole _ }))
+adds_external s site PthreadJoin ts vs w =
+    adds_if (eqb (join_answer w.turn (word 0 vs) w.threads) 0)
+    (adds_if (has_ended (thread_at (word 0 vs) w.threads)) (adds_if (eqb (word 1 vs) 0) (record { more = whole _ }) (adds_good site (word 1 vs) 8 w (record { more = whole _ }))) (record { more = whole _ }))
+    (record { more = whole _ })
+adds_external s site SchedYield ts vs w = record { more = whole _ }
 adds_external s site Printf ts vs w = adds_prints site (formatted w ts vs) w
 adds_external s site (Word f n) ts vs w = adds_gives site (word_answer f (bits_of n) (word 0 vs) (word 1 vs) (word 2 vs)) w
 
@@ -118,7 +125,7 @@ adds_act s h (op.Cast o f t a u) vs w = adds_gives h.site (cast_of o f (width_of
 adds_act s h (op.Select c t a b) vs w = record { more = whole _ }
 adds_act s h (op.Freeze t a) vs w = record { more = whole _ }
 adds_act s h (op.Phi t es) vs w = record { more = whole _ }
-adds_act s h (op.Alloca t u c) vs w = adds_if (fits Stack (size_in s.types t * word 0 vs) w) (record { more = whole _ }) (record { more = whole _ })
+adds_act s h (op.Alloca t u c) vs w = adds_if (fits (local_area w) (size_in s.types t * word 0 vs) w) (record { more = whole _ }) (record { more = whole _ })
 adds_act s h (op.Load t a) vs w = adds_if (is_good w (word 0 vs) (stored_size t)) (record { more = whole _ }) (record { more = whole _ })
 adds_act s h (op.Store t v a) vs w = adds_if (is_good w (word 1 vs) (stored_size t)) (record { more = whole _ }) (record { more = whole _ })
 adds_act s h (op.Gep t a is) vs w = record { more = whole _ }
@@ -136,9 +143,20 @@ abbrev moved_world : Outcome ℕ → World
 moved_world (On fs w) = w
 moved_world (Over e w) = w
 
+ends_output : (l : List ℕ) (w : World) → (end_blocks l w).output ≡ w.output
+ends_output [] w = refl
+ends_output (a ∷ l) w = ends_output l (end_block a w)
+
+pub given_output : {V : Type 0} (fr : Frame V) (w : World) → (given_back fr w).output ≡ w.output
+given_output fr w = ends_output fr.heap (if eqb fr.mark 0 then w else release fr.mark w) ∙ by_mark (eqb fr.mark 0)
+  where
+    by_mark : (b : Bool) → (if b then w else release fr.mark w).output ≡ w.output
+    by_mark true = refl
+    by_mark false = refl
+
 left_same : (m : Module) (vs : List ℕ) (fr : Frame ℕ) (below : List (Frame ℕ)) (w : World) → (moved_world (left plain_reading m vs fr below w)).output ≡ w.output
 left_same m vs fr [] w = refl
-left_same m vs fr (caller ∷ below) w = refl
+left_same m vs fr (caller ∷ below) w = given_output fr w
 
 over_or_on : (t : Bool) (f : ℕ) (site : ℕ) (fs : List (Frame ℕ)) (w : World) → (moved_world (if t then Over («end».Trap Depth site) w else On fs w)).output ≡ w.output
 over_or_on true f site fs w = refl
@@ -153,7 +171,7 @@ moves_same s m site x vs fr below (Enters f w) = over_or_on (leb 1024 (length be
 moves_same s m site x vs fr below (Leaves w) = left_same m vs fr below w
 moves_same s m site x vs fr below (Ends e w) = refl
 
-abbrev step_world : Stepped PlainState → World
+abbrev pub step_world : Stepped PlainState → World
 step_world (More c) = c.world
 step_world (Stop e w) = w
 
@@ -166,11 +184,11 @@ through_adds : (s : Setting) (m : Module) (is : List Inst) (fr : Frame ℕ) (bel
 through_adds s m [] fr below cells w k = whole _
 through_adds s m (i ∷ is) fr below cells w k =
     subst (λ b. Prefix w.output (step_world (and_then (plain_state (if b then slots_after i.op vs cells else cells)
-    (after_effect plain_reading s m h.site i.result vs (λ x y. x) (λ x y. y) fr below (if b then act_marked s h i.op vs cells w else act s h i.op vs w)))
+    (after_effect plain_reading s m h.site i.result vs (λ x y. x) (λ x y. y) (keeping i.op (if b then act_marked s h i.op vs cells w else act s h i.op vs w) fr) below (if b then act_marked s h i.op vs cells w else act s h i.op vs w)))
     (if b then through s m is else More))).output)
     (sym k)
-    (subst (Prefix w.output) (sym (ap (λ u. u.output) (moved_step cells (after_effect plain_reading s m h.site i.result vs (λ x y. x) (λ x y. y) fr below (act s h i.op vs w)))
-    ∙ moves_same s m h.site i.result vs fr below (act s h i.op vs w))) (adds_act s h i.op vs w).more)
+    (subst (Prefix w.output) (sym (ap (λ u. u.output) (moved_step cells (after_effect plain_reading s m h.site i.result vs (λ x y. x) (λ x y. y) (keeping i.op (act s h i.op vs w) fr) below (act s h i.op vs w)))
+    ∙ moves_same s m h.site i.result vs (keeping i.op (act s h i.op vs w) fr) below (act s h i.op vs w))) (adds_act s h i.op vs w).more)
   where
     h : Here
     h = here s m fr
@@ -178,7 +196,7 @@ through_adds s m (i ∷ is) fr below cells w k =
     vs : List ℕ
     vs = read_all (plain_reading.read s fr.values) (operands i.op) (here s m fr).root
 
-step_adds : (s : Setting) (m : Module) → NoMarks m → (fs : List (Frame ℕ)) (cells : ℕ → ℕ) (w : World) → Prefix w.output (step_world (plain_step s m (record { frames = fs; slots = cells; world = w }))).output
+pub step_adds : (s : Setting) (m : Module) → NoMarks m → (fs : List (Frame ℕ)) (cells : ℕ → ℕ) (w : World) → Prefix w.output (step_world (plain_step s m (record { frames = fs; slots = cells; world = w }))).output
 step_adds s m k [] cells w = whole _
 step_adds s m k (fr ∷ below) cells w = through_adds s m (rest_of m fr) fr below cells w (k fr.func fr.block fr.place)
 

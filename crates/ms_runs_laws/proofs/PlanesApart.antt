@@ -5,9 +5,10 @@ use Rattle.ms_ir.specs.declared.syntax.Ty.{Ty}
 use Rattle.ms_ir.specs.declared.syntax.Operand.{Operand}
 use Rattle.ms_ir.specs.declared.syntax.Op.{Op}
 use Rattle.ms_ir.specs.declared.syntax.Op.TheVariants as op
+use Rattle.ms_runs.specs.Threads.{thread_at, has_ended}
 use Rattle.ms_runs.specs.declared.runs.End.TheVariants as «end»
 use Rattle.ms_ir.specs.declared.calls.External.{External}
-use Rattle.ms_ir.specs.declared.calls.External.TheVariants.{Malloc, Calloc, Realloc, Free, Memcpy, Memmove, Memset, Memcmp, Strlen, Putchar, Puts, Getchar, Read, Write, Exit, Abort, LlvmMemcpy, LlvmMemmove, LlvmMemset, LifetimeStart, LifetimeEnd, Printf, LlvmTrap, LlvmAssume, LlvmObjectSize}
+use Rattle.ms_ir.specs.declared.calls.External.TheVariants.{Malloc, Calloc, Realloc, Free, Memcpy, Memmove, Memset, Memcmp, Strlen, Putchar, Puts, Getchar, Read, Write, Exit, Abort, LlvmMemcpy, LlvmMemmove, LlvmMemset, LifetimeStart, LifetimeEnd, Printf, LlvmTrap, LlvmAssume, LlvmObjectSize, PthreadCreate, PthreadJoin, SchedYield}
 use Rattle.ms_ir.specs.declared.calls.External.TheVariants as called
 use Rattle.ms_runs.specs.World.{World, Setting, Effect, Gives, Does, Goes, Enters, Leaves, Ends, then_does}
 use Rattle.ms_ir.specs.Layout.{stored_size, size_in}
@@ -25,7 +26,7 @@ use Rattle.ms_runs_laws.proofs.PlainPart.{bare}
 pub record Shows (v w : World) : Type 0 where
   pub same : bare w ≡ bare v
 
-here : (w : World) → Shows w w
+pub here : (w : World) → Shows w w
 here w = record { same = refl }
 
 world_if : {v : World} (t : Bool) {x y : World} → Shows v x → Shows v y → Shows v (if t then x else y)
@@ -90,6 +91,12 @@ external_shows s site root LifetimeEnd ps before x w = here w
 external_shows s site root LlvmTrap ps before x w = here w
 external_shows s site root LlvmAssume ps before x w = here w
 external_shows s site root LlvmObjectSize ps before x w = here w
+external_shows s site root PthreadCreate ps before x w = world_if (is_good w (word_at 0 ps).value (if eqb x 0 then 8 else 0)) (record { same = refl }) (here w)
+external_shows s site root PthreadJoin ps before x w =
+    let a = (word_at 1 ps).value in let id = (word_at 0 ps).value in
+    world_if (eqb x 0 && not (eqb a 0) && is_good w a 8 && has_ended (thread_at id w.threads))
+    (store_shows s a (w.answer_masks id) (w.answer_origins id) site w (set_shadow a 8 (byte_of (w.answer_masks id)) w) (record { same = refl })) (here w)
+external_shows s site root SchedYield ps before x w = here w
 external_shows s site root Printf ps before x w = here w
 external_shows s site root (called.Word f n) ps before x w = here w
 

@@ -8,16 +8,17 @@ use Rattle.ms_bits.specs.WordFunctions.{bits_of, word_answer}
 use Rattle.ms_bits.specs.Fill.{made_byte}
 use Rattle.ms_bits.specs.Maps.{within, with_range, byte_of, bytes_at, string_within}
 use Rattle.ms_bits_laws.proofs.MapLemmas.{same_number}
-use Rattle.ms_ir.specs.Areas.{Area, Heap, Stack, area_eq}
+use Rattle.ms_ir.specs.Areas.{Area, Heap, area_eq}
 use Rattle.ms_ir.specs.Layout.{width_of, stored_size, size_in}
 use Rattle.ms_ir.specs.Code.{external_named}
 use Rattle.ms_ir.specs.declared.syntax.Op.{Op}
 use Rattle.ms_ir.specs.declared.syntax.Op.TheVariants as op
 use Rattle.ms_ir.specs.declared.syntax.Ty.{Ty}
 use Rattle.ms_ir.specs.declared.calls.External.{External}
-use Rattle.ms_ir.specs.declared.calls.External.TheVariants.{Malloc, Calloc, Realloc, Free, Memcpy, Memmove, Memset, Memcmp, Strlen, Putchar, Puts, Getchar, Read, Write, Exit, Abort, LlvmMemcpy, LlvmMemmove, LlvmMemset, LifetimeStart, LifetimeEnd, Printf, LlvmTrap, LlvmAssume, LlvmObjectSize, Word}
+use Rattle.ms_ir.specs.declared.calls.External.TheVariants.{Malloc, Calloc, Realloc, Free, Memcpy, Memmove, Memset, Memcmp, Strlen, Putchar, Puts, Getchar, Read, Write, Exit, Abort, LlvmMemcpy, LlvmMemmove, LlvmMemset, LifetimeStart, LifetimeEnd, Printf, LlvmTrap, LlvmAssume, LlvmObjectSize, PthreadCreate, PthreadJoin, SchedYield, Word}
+use Rattle.ms_runs.specs.Threads.{fiber_limit, thread_at, has_ended, join_answer}
 use Rattle.ms_runs.specs.World.{Allocation, World, Setting, Here, Effect, Gives, Enters, Ends, traps, stuck, word, gives}
-use Rattle.ms_runs.specs.Memory.{fits, next_base, first_that, covers, is_good, block_of, is_heap_block, heap_size, end_block, make, make_unset, make_bytes, set_bytes, copy_bytes, copy_shadow, bytes_left}
+use Rattle.ms_runs.specs.Memory.{fits, next_base, local_area, first_that, covers, is_good, block_of, is_heap_block, heap_size, end_block, make, make_unset, make_bytes, set_bytes, copy_bytes, copy_shadow, bytes_left}
 use Rattle.std.specs.Prelude.{zip}
 use Rattle.ms_runs.specs.Formats.{cut_of, with_arguments, shown, all_shown}
 use Rattle.ms_runs.specs.Externals.{malloc, reallocated, realloc, where_good, printed, next_byte, formatted, prints, external, string_at, output_limit, compared, taken}
@@ -294,6 +295,17 @@ module _ (w : World) (b : ℕ → ℕ) (alike : AgreesLive w b) where
   external_same s site LlvmTrap ts vs = (refl, itself)
   external_same s site LlvmAssume ts vs = either (eqb (word 0 vs) 0) _ _ _ _ (λ t. (refl, itself)) itself
   external_same s site LlvmObjectSize ts vs = (refl, itself)
+  external_same s site PthreadCreate ts vs =
+      either (leb fiber_limit (length w.threads + 1)) _ _ _ _ (λ t. (refl, itself))
+      (where_same site (word 0 vs) 8 _ _ (λ good. (refl, unmade _ _ refl refl (wrote (word 0 vs) 8 (byte_of (length w.threads + 1)) (byte_of (length w.threads + 1)) (λ k l. refl)))))
+  external_same s site PthreadJoin ts vs =
+      either (eqb (join_answer w.turn (word 0 vs) w.threads) 0) _ _ _ _
+      (λ t. either (has_ended (thread_at (word 0 vs) w.threads)) _ _ _ _
+      (λ ended. either (eqb (word 1 vs) 0) _ _ _ _ (λ null. (refl, unmade _ _ refl refl alike))
+      (where_same site (word 1 vs) 8 _ _ (λ good. (refl, unmade _ _ refl refl (wrote (word 1 vs) 8 (byte_of (w.answers (word 0 vs))) (byte_of (w.answers (word 0 vs))) (λ k l. refl))))))
+      (refl, itself))
+      (refl, itself)
+  external_same s site SchedYield ts vs = (refl, itself)
   external_same s site (Word f n) ts vs = gives_same site (word_answer f (bits_of n) (word 0 vs) (word 1 vs) (word 2 vs))
   external_same s site Printf ts vs =
       subst (λ (r : Result (List ℕ) Trap). SameAnswer w (prints site (formatted w ts vs) w) (prints site r (record w { bytes = b }))) (same_format ts vs) (prints_same site (formatted w ts vs))
@@ -314,7 +326,7 @@ module _ (w : World) (b : ℕ → ℕ) (alike : AgreesLive w b) where
   act_same s h (op.Select c t x y) vs = (refl, itself)
   act_same s h (op.Freeze t x) vs = (refl, itself)
   act_same s h (op.Phi t edges) vs = (refl, itself)
-  act_same s h (op.Alloca t u c) vs = either (fits Stack (size_in s.types t * word 0 vs) w) _ _ _ _ (λ k. (refl, unset_same s.fill Stack (size_in s.types t * word 0 vs))) (refl, itself)
+  act_same s h (op.Alloca t u c) vs = either (fits (local_area w) (size_in s.types t * word 0 vs) w) _ _ _ _ (λ k. (refl, unset_same s.fill (local_area w) (size_in s.types t * word 0 vs))) (refl, itself)
   act_same s h (op.Load t x) vs =
       either (is_good w (word 0 vs) (stored_size t)) _ _ _ _
       (λ good. (ap (λ n. n % 2 ^ width_of t) (same_number (stored_size t) (word 0 vs) (word 0 vs) w.bytes b (good_same (word 0 vs) (stored_size t) good)), itself)) (refl, itself)

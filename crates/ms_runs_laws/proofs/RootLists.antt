@@ -14,7 +14,7 @@ use Rattle.ms_ir.specs.declared.syntax.Block.{Block}
 use Rattle.ms_ir.specs.declared.syntax.Func.{Func}
 use Rattle.ms_ir.specs.declared.syntax.Module.{Module}
 use Rattle.ms_ir.specs.declared.calls.External.{External}
-use Rattle.ms_ir.specs.declared.calls.External.TheVariants.{Malloc, Calloc, Realloc, Free, Memcpy, Memmove, Memset, Memcmp, Strlen, Putchar, Puts, Getchar, Read, Write, Exit, Abort, LlvmMemcpy, LlvmMemmove, LlvmMemset, LifetimeStart, LifetimeEnd, Printf, LlvmTrap, LlvmAssume, LlvmObjectSize, Word}
+use Rattle.ms_ir.specs.declared.calls.External.TheVariants.{Malloc, Calloc, Realloc, Free, Memcpy, Memmove, Memset, Memcmp, Strlen, Putchar, Puts, Getchar, Read, Write, Exit, Abort, LlvmMemcpy, LlvmMemmove, LlvmMemset, LifetimeStart, LifetimeEnd, Printf, LlvmTrap, LlvmAssume, LlvmObjectSize, PthreadCreate, PthreadJoin, SchedYield, Word}
 use Rattle.ms_ir.specs.declared.places.Root.{Root}
 use Rattle.ms_ir.specs.Code.{operands, func_index, func_at, blocks_at, insts_at, one_unmarked, over_insts, over_blocks, over_funcs, site_at, count_undefs, makes_unset, external_named, is_root, roots_in, root_at, count_roots, is_unmarked, strip_block, strip_func, strip}
 use Rattle.ms_ir.specs.Roots.{undef_roots, call_roots, own_roots, inst_roots, insts_roots, blocks_roots, funcs_roots, roots_of, root_numbered}
@@ -62,6 +62,9 @@ call_counted site (Some LifetimeEnd) = refl
 call_counted site (Some LlvmTrap) = refl
 call_counted site (Some LlvmAssume) = refl
 call_counted site (Some LlvmObjectSize) = refl
+call_counted site (Some PthreadCreate) = refl
+call_counted site (Some PthreadJoin) = refl
+call_counted site (Some SchedYield) = refl
 call_counted site (Some Printf) = refl
 call_counted site (Some (Word f n)) = refl
 

@@ -1,6 +1,6 @@
 -- A shadow run that does not end as reported has the output and the end of the plain run of the same module.
 use Rattle.std.proofs.Common.{◌≡◌, ℕ, zero, suc, ◌+◌, List, [], ◌∷◌, Bool, true, false, Option, refl, sym, ap, ◌∙◌, subst, arith, ◌⊎◌, inl, inr}
-use Rattle.std.specs.Prelude.{if◌then◌else◌, map, leb, length}
+use Rattle.std.specs.Prelude.{if◌then◌else◌, map, leb, length, get_or, ◌++◌}
 use Rattle.ms_bits.specs.declared.traps.Trap.TheVariants.{Depth}
 use Rattle.ms_ir.specs.declared.syntax.Op.{Op}
 use Rattle.ms_ir.specs.declared.syntax.Name.{Name}
@@ -12,7 +12,7 @@ use Rattle.ms_runs.specs.declared.runs.End.{End}
 use Rattle.ms_runs.specs.declared.runs.End.TheVariants as «end»
 use Rattle.ms_runs.specs.World.{World, Setting, Here, Effect, Gives, Does, Goes, Enters, Leaves, Ends}
 use Rattle.ms_ir.specs.Code.{operands, count_undefs, HeadUnmarked, NoMarks}
-use Rattle.ms_runs.specs.Control.{Frame, Outcome, On, Over, here, rest_of, read_all, entered, left, after_effect}
+use Rattle.ms_runs.specs.Control.{Frame, Outcome, On, Over, here, rest_of, read_all, put, result_at, entered, left, blocks_made, keeping, after_effect}
 use Rattle.ms_runs.specs.Act.{act, plain_reading}
 use Rattle.ms_runs.specs.Plain.{act_marked, slots_after, PlainState, Stepped, More, Stop, and_then, plain_state, through, plain_step, go_on, run, plain, setting_of, start_world, start_frame}
 use Rattle.ms_runs.specs.Poisoned.{Poisoned}
@@ -23,7 +23,7 @@ use Rattle.ms_runs.specs.Shadow.{read_poisoned, shadow_reading, planes, ShadowSt
 use Rattle.ms_runs.specs.Faithful.{Fair, Faithful, Prefix, Undisturbed}
 use Rattle.ms_runs_laws.proofs.Numbering.{no_marks}
 use Rattle.ms_runs_laws.proofs.PlainPart.{bare, bare_effect, bare_act}
-use Rattle.ms_runs_laws.proofs.ShownSteps.{values_only, bare_frame, bare_moved, shown, words_shown, moves_shown}
+use Rattle.ms_runs_laws.proofs.ShownSteps.{values_only, bare_frame, bare_moved, shown, words_shown, given_bare, moves_shown}
 use Rattle.ms_runs_laws.proofs.OutputGrows.{nothing_more, run_adds}
 use Rattle.ms_runs_laws.proofs.PlanesApart.{Passes, planes_show, uses_pass, blind_shows}
 
@@ -31,7 +31,8 @@ use Rattle.ms_runs_laws.proofs.PlanesApart.{Passes, planes_show, uses_pass, blin
 
 left_bare : (m : Module) (vs : List ℕ) (fr : Frame ℕ) (below : List (Frame ℕ)) (w : World) → bare_moved (left plain_reading m vs fr below w) ≡ bare_moved (left plain_reading m vs fr below (bare w))
 left_bare m vs fr [] w = refl
-left_bare m vs fr (caller ∷ below) w = refl
+left_bare m vs fr (caller ∷ below) w =
+    ap (λ u. On (put caller (result_at m caller) (get_or vs 0 plain_reading.unset) ∷ below) u) (given_bare fr w ∙ sym (given_bare fr (bare w)))
 
 moves_bare : (s : Setting) (m : Module) (site : ℕ) (x : Option Name) (vs : List ℕ) (fr : Frame ℕ) (below : List (Frame ℕ)) (e : Effect)
     → bare_moved (after_effect plain_reading s m site x vs (λ v w. v) (λ v w. w) fr below e) ≡ bare_moved (after_effect plain_reading s m site x vs (λ v w. v) (λ v w. w) fr below (bare_effect e))
@@ -46,6 +47,17 @@ moves_bare s m site x vs fr below (Enters f w) = deep (leb 1024 (length below + 
     deep false = refl
 moves_bare s m site x vs fr below (Leaves w) = left_bare m vs fr below w
 moves_bare s m site x vs fr below (Ends e w) = refl
+
+made_bare : (o : Op) (e : Effect) → blocks_made o e ≡ blocks_made o (bare_effect e)
+made_bare o (Gives v w) = refl
+made_bare o (Does w) = refl
+made_bare o (Goes to w) = refl
+made_bare o (Enters f w) = refl
+made_bare o (Leaves w) = refl
+made_bare o (Ends e w) = refl
+
+keeps_bare : (o : Op) (e : Effect) (fr : Frame ℕ) → keeping o e fr ≡ keeping o (bare_effect e) fr
+keeps_bare o e fr = ap (λ l. record fr { heap = l ++ fr.heap }) (made_bare o e)
 
 same_effect : (s : Setting) (h : Here) (o : Op) (vs : List ℕ) (w v : World) → bare w ≡ bare v → bare_effect (act s h o vs w) ≡ bare_effect (act s h o vs v)
 same_effect s h o vs w v e = (bare_act s h o vs w).same ∙ ap (λ u. bare_effect (act s h o vs u)) e ∙ sym (bare_act s h o vs v).same
@@ -98,17 +110,19 @@ act_steps : (d : Rules) (s : Setting) (m : Module) (i : Inst) (fr : Frame Poison
     → Steps v.output
     (shadow_moved (shadow_act d s m i (here s m fr) (read_all (read_poisoned s fr.values) (operands i.op) (here s m fr).root) fr below u))
     (and_then (plain_state cells (after_effect plain_reading s m (here s m fr).site i.result (read_all (plain_reading.read s (values_only fr.values)) (operands i.op) (here s m fr).root)
-    (λ x y. x) (λ x y. y) (bare_frame fr) (map bare_frame below)
+    (λ x y. x) (λ x y. y) (keeping i.op (act s (here s m fr) i.op (read_all (plain_reading.read s (values_only fr.values)) (operands i.op) (here s m fr).root) v) (bare_frame fr)) (map bare_frame below)
     (act s (here s m fr) i.op (read_all (plain_reading.read s (values_only fr.values)) (operands i.op) (here s m fr).root) v))) More)
 act_steps d s m i fr below cells w v u p q =
     steps_from cells
     (shadow_act d s m i h ps fr below u)
-    (after_effect plain_reading s m h.site i.result vs (λ x y. x) (λ x y. y) (bare_frame fr) (map bare_frame below) (act s h i.op vs v))
-    (moves_shown s m h.site i.result ps (poisoned_result d i.op ps) (planes s h.site (h.root + count_undefs (operands i.op) + 1) i.op ps u) fr below
+    (after_effect plain_reading s m h.site i.result vs (λ x y. x) (λ x y. y) (keeping i.op (act s h i.op vs v) (bare_frame fr)) (map bare_frame below) (act s h i.op vs v))
+    (moves_shown s m h.site i.result ps (poisoned_result d i.op ps) (planes s h.site (h.root + count_undefs (operands i.op) + 1) i.op ps u) (keeping i.op (act s h i.op (map (λ k. k.value) ps) u) fr) below
     (act s h i.op (map (λ k. k.value) ps) u) (λ x y. refl) (λ x y. (planes_show s h.site (h.root + count_undefs (operands i.op) + 1) i.op ps u x y).same)
-    ∙ ap (λ k. bare_moved (after_effect plain_reading s m h.site i.result k (λ x y. x) (λ x y. y) (bare_frame fr) (map bare_frame below) (bare_effect (act s h i.op k u)))) (words_shown s fr.values (operands i.op) h.root)
-    ∙ ap (λ k. bare_moved (after_effect plain_reading s m h.site i.result vs (λ x y. x) (λ x y. y) (bare_frame fr) (map bare_frame below) k)) (same_effect s h i.op vs u v (p ∙ sym q))
-    ∙ sym (moves_bare s m h.site i.result vs (bare_frame fr) (map bare_frame below) (act s h i.op vs v)))
+    ∙ ap (λ g. bare_moved (after_effect plain_reading s m h.site i.result (map (λ k. k.value) ps) (λ x y. x) (λ x y. y) g (map bare_frame below) (bare_effect (act s h i.op (map (λ k. k.value) ps) u)))) (keeps_bare i.op (act s h i.op (map (λ k. k.value) ps) u) (bare_frame fr))
+    ∙ ap (λ k. bare_moved (after_effect plain_reading s m h.site i.result k (λ x y. x) (λ x y. y) (keeping i.op (bare_effect (act s h i.op k u)) (bare_frame fr)) (map bare_frame below) (bare_effect (act s h i.op k u)))) (words_shown s fr.values (operands i.op) h.root)
+    ∙ ap (λ k. bare_moved (after_effect plain_reading s m h.site i.result vs (λ x y. x) (λ x y. y) (keeping i.op k (bare_frame fr)) (map bare_frame below) k)) (same_effect s h i.op vs u v (p ∙ sym q))
+    ∙ ap (λ g. bare_moved (after_effect plain_reading s m h.site i.result vs (λ x y. x) (λ x y. y) g (map bare_frame below) (bare_effect (act s h i.op vs v)))) (sym (keeps_bare i.op (act s h i.op vs v) (bare_frame fr)))
+    ∙ sym (moves_bare s m h.site i.result vs (keeping i.op (act s h i.op vs v) (bare_frame fr)) (map bare_frame below) (act s h i.op vs v)))
     v.output
   where
     h : Here
@@ -120,12 +134,12 @@ act_steps d s m i fr below cells w v u p q =
     vs : List ℕ
     vs = read_all (plain_reading.read s (values_only fr.values)) (operands i.op) (here s m fr).root
 
-checked_steps : (d : Rules) (s : Setting) (m : Module) (i : Inst) (fr : Frame Poisoned) (below : List (Frame Poisoned)) (cells : ℕ → ℕ) (w v : World) (e : Effect)
+pub checked_steps : (d : Rules) (s : Setting) (m : Module) (i : Inst) (fr : Frame Poisoned) (below : List (Frame Poisoned)) (cells : ℕ → ℕ) (w v : World) (e : Effect)
     → bare v ≡ bare w → Passes w e
     → Steps v.output
     (shadow_moved (after_checks d s m i (here s m fr) (read_all (read_poisoned s fr.values) (operands i.op) (here s m fr).root) fr below e))
     (and_then (plain_state cells (after_effect plain_reading s m (here s m fr).site i.result (read_all (plain_reading.read s (values_only fr.values)) (operands i.op) (here s m fr).root)
-    (λ x y. x) (λ x y. y) (bare_frame fr) (map bare_frame below)
+    (λ x y. x) (λ x y. y) (keeping i.op (act s (here s m fr) i.op (read_all (plain_reading.read s (values_only fr.values)) (operands i.op) (here s m fr).root) v) (bare_frame fr)) (map bare_frame below)
     (act s (here s m fr) i.op (read_all (plain_reading.read s (values_only fr.values)) (operands i.op) (here s m fr).root) v))) More)
 checked_steps d s m i fr below cells w v (Does x) q p =
     act_steps d s m i fr below cells w v (count_blind mask x) ((blind_shows mask x).same ∙ p.same) q
@@ -146,7 +160,7 @@ first_steps d s m (i ∷ is) fr below cells w v k q =
     subst (λ b. Steps v.output
     (shadow_moved (shadow_inst d s m i fr below w))
     (and_then (plain_state (if b then slots_after i.op vs cells else cells)
-    (after_effect plain_reading s m h.site i.result vs (λ x y. x) (λ x y. y) (bare_frame fr) (map bare_frame below) (if b then act_marked s h i.op vs cells v else act s h i.op vs v)))
+    (after_effect plain_reading s m h.site i.result vs (λ x y. x) (λ x y. y) (keeping i.op (if b then act_marked s h i.op vs cells v else act s h i.op vs v) (bare_frame fr)) (map bare_frame below) (if b then act_marked s h i.op vs cells v else act s h i.op vs v)))
     (if b then through s m is else More)))
     (sym k)
     (checked_steps d s m i fr below cells w v _ q (uses_pass s h.site (operands i.op) ps (uses s.func h.main i.op) w))

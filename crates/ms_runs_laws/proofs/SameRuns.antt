@@ -22,7 +22,7 @@ use Rattle.ms_bits_laws.proofs.OperationAgreement.{wrap-lt}
 use Rattle.ms_ir.specs.Layout.{width_of, extended}
 use Rattle.ms_runs.specs.World.{World, Setting, Here, Effect, Gives, Does, Goes, Enters, Leaves, Ends}
 use Rattle.ms_ir.specs.Code.{operands, count_undefs, one_undef}
-use Rattle.ms_runs.specs.Control.{Frame, here, rest_of, read_all, after_effect}
+use Rattle.ms_runs.specs.Control.{Frame, here, rest_of, read_all, keeping, after_effect}
 use Rattle.ms_runs.specs.Act.{operand_word, act, extended_all}
 use Rattle.ms_runs.specs.Plain.{run, setting_of, start_world, start_frame}
 use Rattle.ms_runs.specs.Poisoned.{Poisoned, InRange}
@@ -121,10 +121,10 @@ same_act : {d e : Rules} → SameRules d e → (s : Setting) (m : Module) (i : I
 same_act same s m i h fr below w =
     ap (λ lift. after_effect shadow_reading s m h.site i.result (words_of s fr.values h.root i.op) lift
     (planes s h.site (h.root + count_undefs (operands i.op) + 1) i.op (words_of s fr.values h.root i.op) w)
-    fr below (act s h i.op (map (λ p. p.value) (words_of s fr.values h.root i.op)) w))
+    (keeping i.op (act s h i.op (map (λ p. p.value) (words_of s fr.values h.root i.op)) w) fr) below (act s h i.op (map (λ p. p.value) (words_of s fr.values h.root i.op)) w))
     (same_result same s fr.values h.root i.op)
 
-same_after : {d e : Rules} → SameRules d e → (s : Setting) (m : Module) (i : Inst) (h : Here) (fr : Frame Poisoned) (below : List (Frame Poisoned)) (x : Effect)
+pub same_after : {d e : Rules} → SameRules d e → (s : Setting) (m : Module) (i : Inst) (h : Here) (fr : Frame Poisoned) (below : List (Frame Poisoned)) (x : Effect)
     → after_checks d s m i h (words_of s fr.values h.root i.op) fr below x ≡ after_checks e s m i h (words_of s fr.values h.root i.op) fr below x
 same_after same s m i h fr below (Does w) = same_act same s m i h fr below _
 same_after same s m i h fr below (Gives v w) = refl

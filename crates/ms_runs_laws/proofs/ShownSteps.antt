@@ -1,6 +1,6 @@
 -- The values of a shadow step are those of the plain step.
 use Rattle.std.proofs.Common.{◌≡◌, ℕ, suc, ◌+◌, List, [], ◌∷◌, Bool, true, false, Option, Some, None, refl, sym, ap, ◌∙◌}
-use Rattle.std.specs.Prelude.{if◌then◌else◌, leb, length, get_or, map, unwrap_or}
+use Rattle.std.specs.Prelude.{if◌then◌else◌, eqb, leb, length, get_or, map, unwrap_or}
 use Rattle.std.proofs.Math.Path.{fun_ext, ap₂}
 use Rattle.ms_ir.specs.declared.syntax.Name.{Name}
 use Rattle.ms_ir.specs.declared.syntax.Name.TheVariants.{Number}
@@ -15,7 +15,8 @@ use Rattle.ms_ir.specs.Names.{name_eq}
 use Rattle.ms_ir.specs.Layout.{width_of}
 use Rattle.ms_runs.specs.World.{World, Setting, Effect, Gives, Does, Goes, Enters, Leaves, Ends}
 use Rattle.ms_ir.specs.Code.{one_undef, roots_in, root_at, block_index, blocks_at, insts_at}
-use Rattle.ms_runs.specs.Control.{Frame, Outcome, On, Over, read_all, read_edge, phis, count_phis, block_name, with_value, one_on, put, bind, params_at, jumped, left, entered, release, result_at, after_effect}
+use Rattle.ms_runs.specs.Memory.{end_block, end_blocks}
+use Rattle.ms_runs.specs.Control.{Frame, Outcome, On, Over, read_all, read_edge, phis, count_phis, block_name, with_value, one_on, put, bind, params_at, jumped, left, entered, release, given_back, result_at, after_effect}
 use Rattle.ms_runs.specs.Act.{operand_word, plain_reading}
 use Rattle.ms_runs.specs.Poisoned.{Poisoned, clean}
 use Rattle.ms_runs.specs.Shadow.{read_poisoned, shadow_reading}
@@ -26,7 +27,7 @@ abbrev pub values_only : (Name → Poisoned) → (Name → ℕ)
 values_only f = λ x. (f x).value
 
 abbrev pub bare_frame : Frame Poisoned → Frame ℕ
-bare_frame fr = record { func = fr.func; block = fr.block; place = fr.place; values = values_only fr.values; mark = fr.mark }
+bare_frame fr = record { func = fr.func; block = fr.block; place = fr.place; values = values_only fr.values; mark = fr.mark; heap = fr.heap }
 
 abbrev pub bare_moved : Outcome ℕ → Outcome ℕ
 bare_moved (On fs w) = On fs (bare w)
@@ -103,18 +104,18 @@ phis_shown s old from (i ∷ is) n new =
 
 frame_put : (fr : Frame Poisoned) (x : Option Name) (p : Poisoned) → bare_frame (put fr x p) ≡ put (bare_frame fr) x p.value
 frame_put fr None p = refl
-frame_put fr (Some x) p = ap (λ f. record { func = fr.func; block = fr.block; place = fr.place + 1; values = f; mark = fr.mark }) (put_shown fr.values x p)
+frame_put fr (Some x) p = ap (λ f. record { func = fr.func; block = fr.block; place = fr.place + 1; values = f; mark = fr.mark; heap = fr.heap }) (put_shown fr.values x p)
 
-bind_shown : (ps : List (Ty × Name)) (vs : List Poisoned) → values_only (bind clean ps vs) ≡ bind 0 ps (map (λ p. p.value) vs)
+pub bind_shown : (ps : List (Ty × Name)) (vs : List Poisoned) → values_only (bind clean ps vs) ≡ bind 0 ps (map (λ p. p.value) vs)
 bind_shown [] vs = refl
 bind_shown (p ∷ ps) [] = refl
 bind_shown (p ∷ ps) (v ∷ vs) = put_shown (bind clean ps vs) p.1 v ∙ ap (λ f. with_value f p.1 v.value) (bind_shown ps vs)
 
-first_shown : (vs : List Poisoned) → (get_or vs 0 clean).value ≡ get_or (map (λ p. p.value) vs) 0 0
+pub first_shown : (vs : List Poisoned) → (get_or vs 0 clean).value ≡ get_or (map (λ p. p.value) vs) 0 0
 first_shown [] = refl
 first_shown (v ∷ vs) = refl
 
-frames_length : (fs : List (Frame Poisoned)) → length (map bare_frame fs) ≡ length fs
+pub frames_length : (fs : List (Frame Poisoned)) → length (map bare_frame fs) ≡ length fs
 frames_length [] = refl
 frames_length (f ∷ fs) = ap (λ n. suc n) (frames_length fs)
 
@@ -126,15 +127,29 @@ jump_shown s m to fr =
       place = count_phis (insts_at m fr.func (block_index (blocks_at m fr.func) to));
       values = f;
       mark = fr.mark;
+      heap = fr.heap;
     })
     (phis_shown s fr.values (block_name m fr.func fr.block) (insts_at m fr.func (block_index (blocks_at m fr.func) to)) (root_at s.func m fr.func (block_index (blocks_at m fr.func) to) 0) fr.values)
+
+-- what is taken back at a return, seen barely
+ends_bare : (l : List ℕ) (w : World) → bare (end_blocks l w) ≡ end_blocks l (bare w)
+ends_bare [] w = refl
+ends_bare (a ∷ l) w = ends_bare l (end_block a w)
+
+pub given_bare : {V : Type 0} (fr : Frame V) (w : World) → bare (given_back fr w) ≡ given_back fr (bare w)
+given_bare fr w = ends_bare fr.heap (if eqb fr.mark 0 then w else release fr.mark w) ∙ ap (end_blocks fr.heap) (by_mark (eqb fr.mark 0))
+  where
+    by_mark : (b : Bool) → bare (if b then w else release fr.mark w) ≡ (if b then bare w else release fr.mark (bare w))
+    by_mark true = refl
+    by_mark false = refl
 
 left_shown : (m : Module) (vs : List Poisoned) (fr : Frame Poisoned) (below : List (Frame Poisoned)) (w : World)
     → shown (left shadow_reading m vs fr below w) ≡ bare_moved (left plain_reading m (map (λ p. p.value) vs) (bare_frame fr) (map bare_frame below) (bare w))
 left_shown m vs fr [] w = refl
 left_shown m vs fr (caller ∷ below) w =
-    ap (λ f. On (f ∷ map bare_frame below) (bare (release fr.mark w)))
+    ap₂ (λ f u. On (f ∷ map bare_frame below) u)
     (frame_put caller (result_at m caller) _ ∙ ap (put (bare_frame caller) (result_at m caller)) (first_shown vs))
+    (given_bare fr w ∙ sym (given_bare (bare_frame fr) (bare w)))
 
 -- ---- what an effect does
 
@@ -149,7 +164,7 @@ moves_shown s m site x vs lift after fr below (Goes to w) h k = ap (λ f. On (f 
 moves_shown s m site x vs lift after fr below (Enters f w) h k = depth (leb 1024 (length below + 1)) refl
   where
     inner : bare_frame (entered shadow_reading m f vs w) ≡ entered plain_reading m f (map (λ p. p.value) vs) (bare w)
-    inner = ap (λ g. record { func = f; block = 0; place = 0; values = g; mark = (entered plain_reading m f [] w).mark }) (bind_shown (params_at m f) vs)
+    inner = ap (λ g. record { func = f; block = 0; place = 0; values = g; mark = (entered plain_reading m f [] w).mark; heap = [] }) (bind_shown (params_at m f) vs)
 
     depth : (b : Bool) → leb 1024 (length below + 1) ≡ b
         → shown (after_effect shadow_reading s m site x vs lift after fr below (Enters f w))

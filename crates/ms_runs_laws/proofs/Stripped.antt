@@ -1,5 +1,5 @@
 -- A module and what is left when its marked instructions are gone have the same setting, names, parts and start.
-use Rattle.std.proofs.Common.{◌≡◌, ℕ, suc, ◌+◌, List, [], ◌∷◌, Bool, true, false, Option, Some, None, refl, sym, ap, ◌∙◌, arith}
+use Rattle.std.proofs.Common.{◌≡◌, ℕ, suc, ◌+◌, ◌%◌, ◌^◌, List, [], ◌∷◌, Bool, true, false, Option, Some, None, refl, sym, ap, ◌∙◌, arith}
 use Rattle.std.specs.Prelude.{map, filter, cond, not, if◌then◌else◌, option_map, unwrap_or, slice_get}
 use Rattle.std.proofs.Math.Path.{ap₂}
 use Rattle.std.proofs.lemmas.Option.{slice_get-map}
@@ -125,7 +125,9 @@ address_kept types (g ∷ gs) at x = by_name (is_reserved g.name) refl (address_
         ∙ ap (λ k. if name_eq g.name x then at else k) beyond
 
 pub addresses_kept : (m : Module) (x : Name) → address_of (strip m) x ≡ address_of m x
-addresses_kept m x = ap (λ k. elim (lookup slots x) [ Some p ↦ p.0 | None ↦ k ]) (address_kept m.types m.globals (area_base Fixed) x)
+addresses_kept m x =
+    ap₂ (λ f k. elim (lookup slots x) [ Some p ↦ p.0 | None ↦ elim f [ Some n ↦ n % 2 ^ 64 | None ↦ k ] ]) (func_kept m.funcs x)
+    (address_kept m.types m.globals (area_base Fixed) x)
 
 -- the world when a global has its place and its bytes
 abbrev placed : Types → (Name → ℕ) → GlobalVar → World → World
@@ -175,6 +177,11 @@ empty_world s = record {
   output = [];
   reports = [];
   blind = 0;
+  turn = 0;
+  threads = [];
+  answers = λ k. 0;
+  answer_masks = λ k. 0;
+  answer_origins = λ k. 0;
 }
 
 pub start_kept : (m : Module) (s : Setup) → start_world (strip m) s ≡ start_world m s
@@ -189,6 +196,7 @@ frame_kept reading m = λ i. record {
   place = 0;
   values = λ x. reading.unset;
   mark = 0x720000000000;
+  heap = [];
 }
 
 -- ---- a module j with inserted code that strips to m

@@ -1,5 +1,5 @@
 -- The arguments of calls that are asked for fit.
-use Rattle.std.proofs.Common.{◌≡◌, ◌<◌, ◌≤◌, ℕ, zero, suc, false, List, [], ◌∷◌, map, length, get_or, refl, sym, ap, subst, arith, Result, Ok, Err, Option, Some, None, option_map, unwrap_or}
+use Rattle.std.proofs.Common.{◌≡◌, ◌<◌, ◌≤◌, ℕ, zero, suc, false, true≢false, ◌∙◌, List, [], ◌∷◌, map, length, get_or, refl, sym, ap, subst, arith, Result, Ok, Err, Option, Some, None, option_map, unwrap_or}
 use Rattle.std.specs.Prelude.{slice_get, IfOk}
 use Rattle.ms_bits.specs.declared.word_functions.WordFn.{WordFn}
 use Rattle.ms_bits.specs.declared.word_functions.WordFn.TheVariants as word
@@ -12,26 +12,32 @@ use Rattle.ms_ir.specs.declared.calls.External.TheVariants as external
 use Rattle.ms_ir.specs.declared.calls.RuntimeFn.{RuntimeFn}
 use Rattle.ms_ir.specs.Code.{operands}
 use Rattle.ms_ir.specs.Places.{IsPlaceOf, inst_at}
-use Rattle.ms_ir.specs.Signatures.{runtime_signature, word_params}
+use Rattle.ms_ir.specs.Signatures.{runtime_signature, word_params, is_thread_call}
 use Rattle.ms_ir.specs.declared.syntax.Module.{Module}
 use Rattle.ms_runs.specs.declared.runs.End.{End}
 use Rattle.ms_runs.specs.declared.runs.Setup.{Setup}
+use Rattle.ms_runs.specs.World.{World, Setting, Effect, Gives, Does, Ends}
+use Rattle.ms_runs.specs.Threads.{fibers_of}
+use Rattle.ms_runs.specs.Runtime.{runtime}
 use Rattle.ms_runs.specs.Control.{Frame}
 use Rattle.ms_valid.specs.Valid.{Valid}
 use Rattle.ms_runs_good.specs.GoodStates.{IsBelow}
 use Rattle.ms_runs_good.specs.Straight.{HaveTypes}
-use Rattle.ms_host.specs.Answers.{FitsFirst}
+use Rattle.ms_runs_good.proofs.FibersKept.{Kept, runtime_keeps}
+use Rattle.ms_host.specs.State.{WorldState, Beside}
+use Rattle.ms_host.specs.Answers.{FitsFirst, Answered, IsExternal, effect_asked, asked_effect}
 use Rattle.ms_host.specs.declared.calls.Asked.{Asked}
 use Rattle.ms_host.specs.declared.calls.Asked.TheVariants as asked
 use Rattle.ms_host.specs.declared.calls.Answer.{Answer}
 use Rattle.ms_host.specs.declared.calls.Answer.TheVariants as answer
 use Rattle.ms_host.specs.declared.calls.HostCall.{HostCall}
+use Rattle.ms_machine_steps.specs.declared.fibers.Fiber.{Fiber}
 use Rattle.ms_machine_steps.specs.Standing.{frames_of}
 use Rattle.ms_machine_steps.specs.Waiting.{IsAsked, FirstWaits, types_due}
 use Rattle.ms_machine_steps.proofs.Asking.{asked_types, AreArguments, are_arguments}
 use Rattle.ms_machine.specs.Running.{AllStandFor}
 use Rattle.ms_runtime.specs.declared.runs.Running.{Running}
-use Rattle.ms_runtime.specs.Served.{Fits, FitsAsked, IsWithin}
+use Rattle.ms_runtime.specs.Served.{Fits, FitsAsked, IsWithin, CanAnswer}
 use Rattle.ms_runtime.specs.Answering.{HasRoom}
 use Rattle.ms_runtime.specs.Going.{Asking, HasSlack, Turned}
 
@@ -47,13 +53,14 @@ pub turned_from : (m : Module) (u : Setup) (far far' : ℕ) (e : Option End) (r 
 turned_from m u far far' None r le t = (t.0, omega (arith, le, t.1))
 turned_from m u far far' (Some e) r le t = t
 
--- the words of a call that a run waits for
+-- the words of a call for which a fiber waits
+pub arguments_within : (m : Module) → Valid m → (u : Setup) (call : HostCall) (fiber : Fiber) (frames : List (Frame ℕ)) → AllStandFor m (frames_of fiber) frames → FirstWaits m u frames call → (types : List Ty) × AreArguments call types
+arguments_within m valid u call fiber [] stands waits = absurd waits
+arguments_within m valid u call fiber (f ∷ fs) stands waits = (map (λ x. x.0) waits.args, are_arguments m valid u f stands.0.func stands.0.is call waits)
+
+-- those of a call that a run waits for
 pub arguments_of : (m : Module) → Valid m → (u : Setup) (call : HostCall) (r : Running) → Asking m u call r → (types : List Ty) × AreArguments call types
-arguments_of m valid u call r a = by_frames a.within.frames a.stands.frames a.waits
-  where
-    by_frames : (fs : List (Frame ℕ)) → AllStandFor m (frames_of r.fiber) fs → FirstWaits m u fs call → (types : List Ty) × AreArguments call types
-    by_frames [] stands waits = absurd waits
-    by_frames (f ∷ fs) stands waits = (map (λ x. x.0) waits.args, are_arguments m valid u f stands.0.func stands.0.is call waits)
+arguments_of m valid u call r a = arguments_within m valid u call r.fiber a.within.frames a.stands.frames a.waits
 
 -- what is known of the unmarked instruction with a site is known of the call of an external that a run waits for
 pub at_call : (P : List Ty → Type 0) (m m' : Module) → m' ≡ m → (u : Setup) (call : HostCall) (fs : List (Frame ℕ)) (e : External) → call.asked ≡ asked.External e → FirstWaits m u fs call
@@ -111,3 +118,27 @@ has_room u (answer.Ended e) r lt = tt
 pub within_room : (u : Setup) (limit : ℕ) (a : Answer) (r : Running) → u.reports ≡ limit → IsWithin limit r.told a → HasRoom u a r
 within_room u limit (answer.Resumed v) r e h = subst (λ (k : ℕ). length r.told.reports < k) (sym e) h
 within_room u limit (answer.Ended x) r e h = tt
+
+-- behind the answer of a runtime function the fibers are those of before
+answered_fibers : (w : World) (e : Effect) → Kept w e → (beside : Beside) (a : Answer) (after : WorldState) → Answered beside e a after → beside.fibers ≡ fibers_of w
+answered_fibers w (Gives v world) k beside (answer.Resumed (Some n)) after h = sym h.1.fibers ∙ k.kept
+answered_fibers w (Does world) k beside (answer.Resumed None) after h = sym h.fibers ∙ k.kept
+answered_fibers w (Ends e world) k beside (answer.Ended x) after h = sym h.1.fibers ∙ k.kept
+answered_fibers w e k beside a after h = absurd h
+
+pub served_fibers : (setting : Setting) (call : HostCall) (types : List Ty) (f : RuntimeFn) → call.asked ≡ asked.Runtime f → (w : World) (beside : Beside) (a : Answer) (after : WorldState)
+    → Answered beside (asked_effect setting types call w) a after → beside.fibers ≡ fibers_of w
+served_fibers setting call types f is w beside a after h =
+    answered_fibers w (runtime setting f call.args w) (runtime_keeps setting f call.args w) beside a after
+    (subst (λ (of : Asked). Answered beside (effect_asked setting call.site of types call.args w) a after) is h)
+
+-- an external that can be answered is no thread call
+pub alone : (of : Asked) (beside : Beside) (e : External) → of ≡ asked.External e → CanAnswer of beside → (e ≡ external.Printf → ⊥) → IsExternal of
+alone of beside e is can other = subst IsExternal (sym is) (by_case e (subst (λ (x : Asked). CanAnswer x beside) is can) other)
+  where
+    by_case : (e : External) → is_thread_call e ≡ false → (e ≡ external.Printf → ⊥) → IsExternal (asked.External e)
+    by_case external.Printf none other = other refl
+    by_case external.PthreadCreate none other = true≢false none
+    by_case external.PthreadJoin none other = true≢false none
+    by_case external.SchedYield none other = true≢false none
+    by_case e none other = tt

@@ -78,6 +78,7 @@ pairs-changed w beside world pairs shows = record {
   pairs = refl;
   reports = shows.reports;
   blind = shows.blind;
+  fibers = shows.fibers;
 }
 
 pub beside-changed : (d d' : DepotState) (told : RunResult) (beside : Beside) → IsBeside d told beside → IsBeside d' told (record beside { pairs = d'.pairs })

@@ -40,6 +40,7 @@ shows-report w beside world report rs shows more = record {
   pairs = shows.pairs;
   reports = more;
   blind = shows.blind;
+  fibers = shows.fibers;
 }
 
 -- the test of the limit
@@ -101,6 +102,7 @@ counted d told n beside w world mask some is kept shows = (
           pairs = shows.pairs;
           reports = shows.reports;
           blind = ap (λ (k : ℕ). k + 1) shows.blind;
+          fibers = shows.fibers;
         }),
   ),
 )

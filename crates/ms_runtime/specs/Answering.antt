@@ -3,6 +3,7 @@ use Rattle.std.specs.Prelude.{◌≡◌, ◌<◌, ◌≤◌, ◌+◌, ◌*◌, �
 use Rattle.ms_ir.specs.declared.syntax.Module.{Module}
 use Rattle.ms_runs.specs.declared.runs.Setup.{Setup}
 use Rattle.ms_runs.specs.Plain.{PlainState, setting_of}
+use Rattle.ms_runs.specs.Threads.{fibers_of}
 use Rattle.ms_host.specs.State.{Beside, Keeps}
 use Rattle.ms_host.specs.Answers.{Answered, asked_effect}
 use Rattle.ms_host.specs.declared.calls.Answer.{Answer}
@@ -21,6 +22,7 @@ HasRoom u (answer.Ended e) r = Unit {0}
 pub record AnsweredFor (m : Module) (u : Setup) (call : HostCall) (within : PlainState) (a : Answer) (before after : Running) : Type 0 where
   pub beside : Beside
   pub told : IsBeside after.depot after.told beside
+  pub fibers : beside.fibers ≡ fibers_of within.world
   pub answered : Answered beside (asked_effect (setting_of m u) (types_due m within.frames) call within.world) a after.world
   pub few : HasRoom u a after
   pub blind : after.told.blind ≤ before.told.blind + 1

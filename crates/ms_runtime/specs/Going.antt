@@ -1,12 +1,15 @@
 -- What a run keeps from pause to pause (own).
-use Rattle.std.specs.Prelude.{◌≡◌, ◌<◌, ◌≤◌, ◌+◌, ◌-◌, ◌*◌, ◌^◌, ℕ, suc, length, Option, Some, None}
+use Rattle.std.specs.Prelude.{◌≡◌, ◌<◌, ◌≤◌, ◌+◌, ◌-◌, ◌*◌, ◌^◌, ℕ, suc, false, length, Option, Some, None}
 use Rattle.ms_ir.specs.declared.syntax.Module.{Module}
+use Rattle.ms_ir.specs.ThreadCalls.{is_threaded}
 use Rattle.ms_ir.specs.Code.{over_funcs, count_roots}
 use Rattle.ms_runs.specs.declared.runs.End.{End}
 use Rattle.ms_runs.specs.declared.runs.Setup.{Setup}
+use Rattle.ms_runs.specs.declared.runs.RunResult.{RunResult}
 use Rattle.ms_runs.specs.World.{World}
-use Rattle.ms_runs.specs.Plain.{PlainState, go_on, run, plain}
-use Rattle.ms_host.specs.State.{Beside}
+use Rattle.ms_runs.specs.Threads.{no_fibers}
+use Rattle.ms_runs.specs.Plain.{PlainState, go_on, run, plain, plain_start}
+use Rattle.ms_host.specs.State.{Beside, nothing_beside}
 use Rattle.ms_host.specs.Shows.{Shows}
 use Rattle.ms_host.specs.declared.calls.Asked.{Asked}
 use Rattle.ms_host.specs.declared.calls.Asked.TheVariants as asked
@@ -16,7 +19,7 @@ use Rattle.ms_machine_steps.specs.Waiting.{FirstWaits}
 use Rattle.ms_machine_steps.specs.Advances.{step_of}
 use Rattle.ms_machine.specs.Running.{IsRunning}
 use Rattle.ms_runtime.specs.declared.runs.Running.{Running}
-use Rattle.ms_runtime.specs.Served.{IsBeside}
+use Rattle.ms_runtime.specs.Served.{IsBeside, CanAnswer}
 
 -- how far it is at most to the end of a run, in instructions: each step may be as long as the code
 abbrev pub ahead : Module → Running → ℕ
@@ -30,12 +33,21 @@ pub record Keeping (m : Module) (u : Setup) (r : Running) : Type 0 where
   pub blind : r.told.blind + ahead m r ≤ 2 ^ 62
   pub printf : AreCallSites m r.printf.calls
 
--- a run has come to a state from which it answers what the whole run does
+-- a run stands at its start
+pub record Begins (m : Module) (u : Setup) (r : Running) : Type 0 where
+  pub stands : IsRunning m u nothing_beside r.fiber r.world (plain_start m u)
+  pub told : IsBeside r.depot r.told nothing_beside
+  pub keeping : Keeping m u r
+  pub budget : r.budget.left ≡ u.steps
+
+-- a run of a module without thread calls has come to a state from which it answers what the whole run does
 pub record Going (m : Module) (u : Setup) (r : Running) : Type 0 where
+  pub calm : is_threaded m ≡ false
   pub beside : Beside
   pub state : PlainState
   pub stands : IsRunning m u beside r.fiber r.world state
   pub told : IsBeside r.depot r.told beside
+  pub lone : beside.fibers ≡ no_fibers
   pub keeping : Keeping m u r
   pub same : run (λ (s : PlainState). s.world) (step_of m u) r.budget.left state ≡ plain m u
 
@@ -58,19 +70,29 @@ pub record Asking (m : Module) (u : Setup) (call : HostCall) (r : Running) : Typ
   pub told : IsBeside r.depot r.told beside
   pub keeping : Keeping m u r
   pub slack : HasSlack call.asked r.world.made r.budget.left
+  pub can : CanAnswer call.asked beside
+
+-- a run of a module without thread calls waits, and answers from there on what the whole run does
+pub record Paused (m : Module) (u : Setup) (call : HostCall) (r : Running) : Type 0 where
+  pub calm : is_threaded m ≡ false
+  pub asking : Asking m u call r
+  pub lone : asking.beside.fibers ≡ no_fibers
   pub rest : ℕ
   pub counted : LeftBehind call.asked rest r.budget.left
-  pub same : go_on (run (λ (s : PlainState). s.world) (step_of m u) rest) (step_of m u within) ≡ plain m u
+  pub same : go_on (run (λ (s : PlainState). s.world) (step_of m u) rest) (step_of m u asking.within) ≡ plain m u
 
--- a run has ended, and this is its answer
-pub record Over (m : Module) (u : Setup) (e : End) (r : Running) : Type 0 where
+-- a run has ended so, and this is what it answers
+pub record Answers (answer : RunResult) (e : End) (r : Running) : Type 0 where
   pub beside : Beside
   pub world : World
   pub shows : Shows r.world beside world
-  pub output : (plain m u).output ≡ world.output
-  pub last : (plain m u).«end» ≡ e
-  pub reports : (plain m u).reports ≡ r.told.reports
-  pub blind : (plain m u).blind ≡ r.told.blind
+  pub output : answer.output ≡ world.output
+  pub last : answer.«end» ≡ e
+  pub reports : answer.reports ≡ r.told.reports
+  pub blind : answer.blind ≡ r.told.blind
+
+abbrev pub Over : Module → Setup → End → Running → Type 0
+Over m u e r = Answers (plain m u) e r
 
 -- a run goes on, and is nearer to its end, or it has ended
 abbrev pub Turned : Module → Setup → ℕ → Option End → Running → Type 0
@@ -84,3 +106,6 @@ IsGoing m limit r = (u : Setup) × ((u.reports ≡ limit) × Going m u r)
 -- a run that waits
 abbrev pub IsAsking : Module → ℕ → HostCall → Running → Type 0
 IsAsking m limit call r = (u : Setup) × ((u.reports ≡ limit) × Asking m u call r)
+
+abbrev pub IsPaused : Module → ℕ → HostCall → Running → Type 0
+IsPaused m limit call r = (u : Setup) × ((u.reports ≡ limit) × Paused m u call r)

@@ -1,13 +1,14 @@
 -- What a call of a runtime function comes to, where chained origins, reports and blind uses are kept beside the world.
-use Rattle.std.specs.Prelude.{◌≡◌, ◌<◌, ◌^◌, ◌-◌, ℕ, List, length, min, get_or, None, ◌≤◌, ◌+◌}
+use Rattle.std.specs.Prelude.{◌≡◌, ◌<◌, ◌^◌, ◌-◌, ℕ, List, false, length, min, get_or, None, ◌≤◌, ◌+◌}
 use Rattle.ms_ir.specs.declared.syntax.Ty.{Ptr}
 use Rattle.ms_ir.specs.declared.calls.RuntimeFn.{RuntimeFn}
 use Rattle.ms_ir.specs.declared.calls.RuntimeFn.TheVariants as function
 use Rattle.ms_ir.specs.Layout.{width_of}
-use Rattle.ms_ir.specs.Signatures.{runtime_signature}
+use Rattle.ms_ir.specs.Signatures.{runtime_signature, is_thread_call}
 use Rattle.ms_runs.specs.declared.runs.RunResult.{RunResult}
 use Rattle.ms_runs.specs.declared.runs.End.TheVariants.{Reported}
 use Rattle.ms_runs.specs.World.{Setting, Effect}
+use Rattle.ms_runs.specs.Threads.{no_fibers}
 use Rattle.ms_depot.specs.Depots.{DepotState}
 use Rattle.ms_host.specs.declared.calls.Asked.{Asked}
 use Rattle.ms_host.specs.declared.calls.Asked.TheVariants as asked
@@ -31,6 +32,16 @@ pub record IsBeside (d : DepotState) (told : RunResult) (beside : Beside) : Type
 -- an effect was followed, in the world and beside it
 abbrev pub Served : Effect → Answer → WorldState → DepotState → RunResult → Type 0
 Served effect answer w d told = (beside : Beside) × (IsBeside d told beside × Answered beside effect answer w)
+
+-- what a fiber answered is asked for where none was made
+abbrev pub CanServe : RuntimeFn → Beside → Type 0
+CanServe function.ThreadResult beside = beside.fibers ≡ no_fibers
+CanServe f beside = Unit {0}
+
+-- a call can be answered where no other fiber goes on: it is no thread call
+abbrev pub CanAnswer : Asked → Beside → Type 0
+CanAnswer (asked.External e) beside = is_thread_call e ≡ false
+CanAnswer (asked.Runtime f) beside = CanServe f beside
 
 -- a run goes on with fewer reports than its limit, and ends where they come to it
 abbrev pub IsWithin : ℕ → RunResult → Answer → Type 0

@@ -7,6 +7,8 @@ mod memory;
 mod reports;
 mod runs;
 mod serving;
+mod thread_results;
 
-pub use runs::run;
+pub use runs::{Running, begun, run};
 pub use serving::serve;
+pub use thread_results::thread_result;

@@ -179,7 +179,7 @@ pub(crate) fn fill(args: &[u64], world: &mut World, depot: &mut Depot) -> Result
 }
 
 /// Chains an origin at a site, and marks the live bytes of a stored value with it.
-fn mark_chained(
+pub(crate) fn mark_chained(
     addr: u64,
     mask: u64,
     old: u32,

@@ -1,15 +1,17 @@
 //! Whole runs: from pause to pause, each of which is answered.
-ghost use Rattle.std.specs.Prelude.{◌≡◌, ◌<◌, ◌≤◌, ℕ, IfOk};
-ghost use Rattle.ms_ir.specs.declared.syntax.Module.{Module as ModuleOf};
+ghost use Rattle.std.specs.Prelude.{◌≡◌, ◌<◌, ◌≤◌, ℕ, false, IfOk};
+ghost use Rattle.ms_ir.specs.ThreadCalls.{is_threaded};
+ghost use Rattle.ms_runs.specs.declared.runs.RunResult.{RunResult as ResultOf};
 ghost use Rattle.ms_runs.specs.declared.runs.Setup.{Setup as SetupOf};
 ghost use Rattle.ms_runs.specs.Limits.{WithinLimits};
+ghost use Rattle.ms_runs.specs.World.{stuck};
 ghost use Rattle.ms_runs.specs.Plain.{plain};
 ghost use Rattle.ms_host.specs.Answers.{Answered};
-ghost use Rattle.ms_runtime.specs.Going.{Going, Asking, Over, Turned, IsGoing, IsAsking, ahead};
+ghost use Rattle.ms_runtime.specs.Going.{Begins, Going, Asking, Paused, Answers, Turned, IsGoing, IsAsking, IsPaused, ahead};
 ghost use Rattle.ms_runtime.specs.Answering.{AnsweredFor};
 
 use crate::serving::serve;
-use ms_bits::{Bytes, List, NoMemory};
+use ms_bits::{Bytes, List, NoMemory, Trap};
 use ms_check::CheckedModule;
 use ms_depot::Depot;
 use ms_host::{Answer, Asked, HostCall, World, answer};
@@ -33,9 +35,19 @@ pub struct Running {
     pub printf: CallSites,
 }
 
+/// The end of a run without threads in which a function other than `main` returns, and nothing stands below it.
+fn no_caller() -> End
+    ensures { result ≡ stuck }
+{
+    End::Trap {
+        kind: Trap::Unreachable,
+        site: 0,
+    }
+}
+
 impl Running {
     /// What the call that is asked for comes to.
-    fn answer_of(
+    pub fn answer_of(
         &mut self,
         alloc: Global,
         m: &CheckedModule,
@@ -71,8 +83,8 @@ impl Running {
         call: HostCall,
         reports: u32,
     ) -> Result<Option<End>, NoMemory>
-        requires asking { IsAsking m.now reports call self.old }
-        ensures turned { (u : SetupOf) → u.reports ≡ reports → Asking m.now u call self.old → IfOk result (λ end. Turned m.now u (ahead m.now self.old) end self.new) }
+        requires paused { IsPaused m.now reports call self.old }
+        ensures turned { (u : SetupOf) → u.reports ≡ reports → Paused m.now u call self.old → IfOk result (λ end. Turned m.now u (ahead m.now self.old) end self.new) }
     {
         m.is_valid();
         let _code = m.program();
@@ -100,12 +112,13 @@ impl Running {
             Pause::Spent => Ok(Some(End::Spent)),
             Pause::Ended(end) => Ok(Some(end)),
             Pause::Asked(call) => self.go_behind(alloc, m, call, reports),
+            Pause::Finished { .. } => Ok(Some(no_caller())),
         }
     }
 
     /// What the run answers.
-    fn into_result(self, end: End) -> RunResult
-        ensures { (m : ModuleOf) (u : SetupOf) → Over m u end self → result ≡ plain m u }
+    pub fn into_result(self, end: End) -> RunResult
+        ensures { (answer : ResultOf) → Answers answer end self → result ≡ answer }
     {
         let Running { world, told, .. } = self;
         RunResult {
@@ -118,9 +131,10 @@ impl Running {
 }
 
 /// A run at its start.
-fn begun(alloc: Global, m: &CheckedModule, setup: &Setup) -> Result<Running, NoMemory>
+pub fn begun(alloc: Global, m: &CheckedModule, setup: &Setup) -> Result<Running, NoMemory>
     requires limits { WithinLimits setup.now }
-    ensures { IfOk result (Going m.now setup.now) }
+    ensures begins { IfOk result (Begins m.now setup.now) }
+    ensures going { is_threaded m.now ≡ false → IfOk result (Going m.now setup.now) }
 {
     m.is_valid();
     let code = m.module();
@@ -142,12 +156,13 @@ fn begun(alloc: Global, m: &CheckedModule, setup: &Setup) -> Result<Running, NoM
     })
 }
 
-/// Runs a checked module. Ok is what its plain run answers; the one error is want of memory.
+/// Runs a checked module without thread calls. Ok is what its plain run answers; the one error is want of memory.
 ///
 /// A step takes as long in a large module as in a small one; a call of `printf` adds a binary search among the calls of
 /// `printf` in the module, which are listed once, at the start.
 pub fn run(alloc: Global, m: &CheckedModule, setup: &Setup) -> Result<RunResult, NoMemory>
     requires limits { WithinLimits setup.now }
+    requires alone { is_threaded m.now ≡ false }
     ensures { IfOk result (λ r. r ≡ plain m.now setup.now) }
 {
     let mut running = begun(alloc, m, setup)?;

@@ -6,7 +6,7 @@ ghost use Rattle.ms_runs.specs.Runtime.{runtime};
 ghost use Rattle.ms_host.specs.State.{Beside, Keeps};
 ghost use Rattle.ms_host.specs.Shows.{Shows};
 ghost use Rattle.ms_host.specs.Answers.{asked_effect};
-ghost use Rattle.ms_runtime.specs.Served.{IsFor, IsBeside, Served, IsWithin, TellsMore, Fits, FitsAsked, IsCheck};
+ghost use Rattle.ms_runtime.specs.Served.{CanServe, CanAnswer, IsFor, IsBeside, Served, IsWithin, TellsMore, Fits, FitsAsked, IsCheck};
 
 use crate::arguments::{moved, use_of, word};
 use crate::memory::{
@@ -22,7 +22,8 @@ use ms_runs::RunResult;
 use std::alloc::Global;
 
 /// Answers a call of a runtime function: what it does to the world, to the chained origins and to what was told, and
-/// whether the run goes on. It ends exactly where the number of reports comes to `limit`.
+/// whether the run goes on. It ends exactly where the number of reports comes to `limit`. `__msan_thread_result` changes nothing,
+/// which is its meaning where no thread was made.
 ///
 /// The one error is want of memory, and the run is over then.
 pub fn serve(
@@ -35,7 +36,7 @@ pub fn serve(
 ) -> Result<Answer, NoMemory>
     requires fits { FitsAsked call.now.asked call.now.args }
     requires few { length told.old.reports < limit }
-    ensures served { (setting : Setting) (types : List Ty) (beside : Beside) (meant : Meant) → IsFor setting depot.old.roots limit → IsBeside depot.old told.old beside → Shows world.old beside meant → IfOk result (λ a. Served (asked_effect setting types call.now meant) a world.new depot.new told.new) }
+    ensures served { (setting : Setting) (types : List Ty) (beside : Beside) (meant : Meant) → IsFor setting depot.old.roots limit → IsBeside depot.old told.old beside → CanAnswer call.now.asked beside → Shows world.old beside meant → IfOk result (λ a. Served (asked_effect setting types call.now meant) a world.new depot.new told.new) }
     ensures within { IfOk result (λ a. IsWithin limit told.new a) }
     ensures told { TellsMore told.old told.new }
     ensures roots { depot.new.roots ≡ depot.old.roots }
@@ -95,7 +96,7 @@ fn change(
 ) -> Result<Option<u64>, NoMemory>
     requires fits { Fits function args.now }
     requires change { ¬ IsCheck function }
-    ensures served { (setting : Setting) (beside : Beside) (meant : Meant) → setting.roots ≡ depot.old.roots → IsBeside depot.old told.old beside → Shows world.old beside meant → IfOk result (λ v. Served (runtime setting function args.now meant) (Answer.Resumed v) world.new depot.new told.new) }
+    ensures served { (setting : Setting) (beside : Beside) (meant : Meant) → setting.roots ≡ depot.old.roots → IsBeside depot.old told.old beside → CanServe function beside → Shows world.old beside meant → IfOk result (λ v. Served (runtime setting function args.now meant) (Answer.Resumed v) world.new depot.new told.new) }
     ensures reports { told.new.reports ≡ told.old.reports }
     ensures told { TellsMore told.old told.new }
     ensures roots { depot.new.roots ≡ depot.old.roots }
@@ -130,6 +131,7 @@ fn change(
         RuntimeFn::LoadOrigin => Ok(Some(load_origin(args, world))),
         RuntimeFn::Size => Ok(Some(size(args, world))),
         RuntimeFn::Move(kind) => Ok(Some(moved(kind, args))),
+        RuntimeFn::ThreadResult => Ok(None),
         _ => unreachable!(),
     }
 }

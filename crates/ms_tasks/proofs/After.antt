@@ -12,9 +12,9 @@ use Rattle.ms_ir.specs.declared.syntax.Op.TheVariants as op
 use Rattle.ms_ir.specs.declared.syntax.Inst.{Inst}
 use Rattle.ms_runs.specs.declared.runs.End.{End}
 use Rattle.ms_ir.specs.Layout.{width_of, stored_size, size_in}
-use Rattle.ms_ir.specs.Areas.{Stack}
+use Rattle.ms_ir.specs.Areas.{Area}
 use Rattle.ms_runs.specs.World.{World, Setting, Here, Effect, Gives, Does, Enters, Ends, traps, stuck, result}
-use Rattle.ms_runs.specs.Memory.{is_good, set_shadow, fits, next_base, make_unset, store_number}
+use Rattle.ms_runs.specs.Memory.{is_good, set_shadow, fits, next_base, local_area, make_unset, store_number}
 use Rattle.ms_ir.specs.Code.{operands, count_undefs, is_root, makes_unset, external_named}
 use Rattle.ms_runs.specs.Act.{operand_word, alloca, store}
 use Rattle.ms_ir.specs.Names.{is_reserved, name_eq, lookup, externals}
@@ -24,7 +24,7 @@ use Rattle.ms_runs.specs.Poisoned.{Poisoned}
 use Rattle.ms_runs.specs.Masks.{by_formulas, word_at}
 use Rattle.ms_runs.specs.Shadow.{read_poisoned, external_planes, callee_planes, planes, poisoned_result}
 use Rattle.ms_ir.specs.declared.calls.External.{External}
-use Rattle.ms_ir.specs.declared.calls.External.TheVariants.{Malloc, Realloc, Read}
+use Rattle.ms_ir.specs.declared.calls.External.TheVariants.{Malloc, Realloc, Read, PthreadCreate, PthreadJoin}
 use Rattle.ms_runs.specs.declared.runs.RunResult.{RunResult}
 use Rattle.ms_runs.specs.Control.{read_all, with_value}
 use Rattle.ms_runs.specs.Externals.{external}
@@ -65,17 +65,17 @@ pub few_undefs : (s : Setting) (env : Env) (size base : ℕ) (h : Here) (i : Ins
 few_undefs s env size base h i st = omega (arith, roots_small s env size base h i st)
 
 -- what an 'alloca' that gives an address, and a 'store' that is done, tell
-alloca_made : (s : Setting) (site n x : ℕ) (w u : World) → alloca s site n w ≡ Gives x u → (fits Stack n w ≡ true) × (next_base Stack w ≡ x)
-alloca_made s site n x w u e = by_fits (fits Stack n w) refl e
+alloca_made : (s : Setting) (site n x : ℕ) (w u : World) → alloca s site n w ≡ Gives x u → (fits (local_area w) n w ≡ true) × (next_base (local_area w) w ≡ x)
+alloca_made s site n x w u e = by_fits (local_area w) (fits (local_area w) n w) refl e
   where
     value_of : Effect → ℕ
     value_of (Gives k z) = k
     value_of _ = 0
 
-    by_fits : (b : Bool) → fits Stack n w ≡ b → (if b then Gives (next_base Stack w) (make_unset s.fill Stack n w) else traps trap.Stack site w) ≡ Gives x u
-        → (fits Stack n w ≡ true) × (next_base Stack w ≡ x)
-    by_fits true f g = (f, grind arith)
-    by_fits false f g = absurd (grind arith)
+    by_fits : (area : Area) (b : Bool) → fits area n w ≡ b → (if b then Gives (next_base area w) (make_unset s.fill area n w) else traps trap.Stack site w) ≡ Gives x u
+        → (fits area n w ≡ true) × (next_base area w ≡ x)
+    by_fits area true f g = (f, grind arith)
+    by_fits area false f g = absurd (grind arith)
 
 store_made : (site a : ℕ) (t : Ty) (n : ℕ) (w u : World) → store site a t n w ≡ Does u → (is_good w a (stored_size t) ≡ true) × (store_number a (stored_size t) n w ≡ u)
 store_made site a t n w u e = by_good (is_good w a (stored_size t)) refl e
@@ -86,11 +86,11 @@ store_made site a t n w u e = by_good (is_good w a (stored_size t)) refl e
     by_good false f g = absurd (grind arith)
 
 alloca_does : (s : Setting) (site n : ℕ) (w u : World) → alloca s site n w ≡ Does u → ⊥
-alloca_does s site n w u e = by_fits (fits Stack n w) e
+alloca_does s site n w u e = by_fits (local_area w) (fits (local_area w) n w) e
   where
-    by_fits : (b : Bool) → (if b then Gives (next_base Stack w) (make_unset s.fill Stack n w) else traps trap.Stack site w) ≡ Does u → ⊥
-    by_fits true e = grind arith
-    by_fits false e = grind arith
+    by_fits : (area : Area) (b : Bool) → (if b then Gives (next_base area w) (make_unset s.fill area n w) else traps trap.Stack site w) ≡ Does u → ⊥
+    by_fits area true e = grind arith
+    by_fits area false e = grind arith
 
 module _ (s : Setting) (env : Env) (size saved next : ℕ) (h : Here) (values : Name → Poisoned) where
   -- a product of numbers that is small
@@ -140,7 +140,7 @@ module _ (s : Setting) (env : Env) (size saved next : ℕ) (h : Here) (values : 
       let names1 = set_result names (Some y) x in
       let root = h.root + count_undefs ((u, c) ∷ []) + 1 in
       let made = alloca_made s h.site (size_in s.types t * count) x before w e in
-      let small = fits_small (size_in s.types t * count) before made.0 in
+      let small = fits_small (local_area before) (size_in s.types t * count) before made.0 in
       let address : x < 2 ^ 64 = subst (λ z. z < 2 ^ 64) made.1 small.1 in
       let roots : root < 2 ^ 32 = omega (arith, roots_small s env size saved h i st) in
       let word : operand_word s names1 (width_of u) c ≡ count = count_kept c apart st.known.reads.1 in
@@ -288,7 +288,7 @@ module _ (s : Setting) (env : Env) (size saved next : ℕ) (h : Here) (values : 
       let hx = tracked_holds s env size values names m rv os h.root st.known.reads few 0 in
       let hy = tracked_holds s env size values names m rv os h.root st.known.reads few 1 in
       let made = store_made h.site q.value t p.value before w e in
-      let placed : RangedWorld w = subst RangedWorld made.1 (record { placed = rn.placed; origins = rn.origins; pairs = rn.pairs }) in
+      let placed : RangedWorld w = subst RangedWorld made.1 (record { placed = rn.placed; origins = rn.origins; pairs = rn.pairs; answers = rn.answers }) in
       let good : is_good w q.value (stored_size t) ≡ true = subst (λ z. is_good z q.value (stored_size t) ≡ true) made.1 made.0 in
       let writes = set_shadow q.value (stored_size t) (byte_of p.mask) w in
       record {
@@ -330,6 +330,8 @@ module _ (s : Setting) (env : Env) (size saved next : ℕ) (h : Here) (values : 
       zero_small Malloc = omega arith
       zero_small Realloc = omega arith
       zero_small Read = omega arith
+      zero_small PthreadCreate = omega arith
+      zero_small PthreadJoin = omega arith
       zero_small _ = tt
 
   does_at : (b : Bool) (r : Option Name) (o : Op) (before w : World) (names : Name → ℕ)

@@ -43,7 +43,7 @@ use Rattle.ms_tasks.proofs.CheckTasks.{AreFit, check_on, checks_done}
 use Rattle.ms_tasks.proofs.Externals.{width_at}
 use Rattle.ms_tasks.proofs.Slots.{HandDone, hand_done, given_all}
 use Rattle.ms_ir.specs.declared.calls.External.{External}
-use Rattle.ms_ir.specs.declared.calls.External.TheVariants.{Malloc, Calloc, Realloc, Free, Memcpy, Memmove, Memset, Memcmp, Strlen, Putchar, Puts, Getchar, Read, Write, Exit, Abort, LlvmMemcpy, LlvmMemmove, LlvmMemset, LifetimeStart, LifetimeEnd, Printf, LlvmTrap, LlvmAssume, LlvmObjectSize}
+use Rattle.ms_ir.specs.declared.calls.External.TheVariants.{Malloc, Calloc, Realloc, Free, Memcpy, Memmove, Memset, Memcmp, Strlen, Putchar, Puts, Getchar, Read, Write, Exit, Abort, LlvmMemcpy, LlvmMemmove, LlvmMemset, LifetimeStart, LifetimeEnd, Printf, LlvmTrap, LlvmAssume, LlvmObjectSize, PthreadCreate, PthreadJoin, SchedYield}
 use Rattle.ms_ir.specs.declared.calls.External.TheVariants as called
 use Rattle.ms_bits.specs.Maps.{first_nonzero}
 use Rattle.ms_tasks.proofs.BlindTasks.{blinded_same, masks_hold, masks_blinded, blind_done}
@@ -117,6 +117,9 @@ external_fit ts LifetimeEnd args l w = (omega arith, omega arith, (omega arith, 
 external_fit ts LlvmTrap args l w = tt
 external_fit ts LlvmAssume args l w = (omega arith, omega arith, tt)
 external_fit ts LlvmObjectSize args l w = (omega arith, omega arith, tt)
+external_fit ts PthreadCreate args l w = (omega arith, omega arith, (omega arith, omega arith, (omega arith, omega arith, tt)))
+external_fit ts PthreadJoin args l w = (omega arith, omega arith, (omega arith, omega arith, tt))
+external_fit ts SchedYield args l w = tt
 external_fit ts (called.Word f n) args l w = tt
 external_fit ts Printf args l w = (omega arith, omega arith, (w 0, values_fit ts 1 (drop 1 args) (string_uses 1 (drop 1 args)) (fewer args l) (strings_fit ts 1 (drop 1 args) (fewer args l) (w 0) (λ j. subst (λ n. width_of (tracked_at n ts).ty ≡ get_or (map (λ a. width_of a.0) (drop 1 args)) j 64) (next j) (w (suc j) ∙ ap (λ ws. get_or ws j 64) (widths args))))))
   where
@@ -160,7 +163,7 @@ count_ranged n w r = by_mask (eqb n 0)
   where
     by_mask : (b : Bool) → RangedWorld (if b then w else record w { blind = w.blind + 1 })
     by_mask true = r
-    by_mask false = record { placed = r.placed; origins = r.origins; pairs = r.pairs }
+    by_mask false = record { placed = r.placed; origins = r.origins; pairs = r.pairs; answers = r.answers }
 
 -- checks go on in a world whose allocations and origins are as they were, or end the run
 abbrev IsLeft : Effect → Type 0
@@ -176,7 +179,7 @@ check_left s mask width o kind part site w r = by_mask (eqb mask 0)
       where
         by_limit : (b : Bool) → IsLeft (if b then Ends «end».Reported (record w { reports = w.reports ++ report ∷ [] }) else Does (record w { reports = w.reports ++ report ∷ [] }))
         by_limit true = tt
-        by_limit false = record { placed = r.placed; origins = r.origins; pairs = r.pairs }
+        by_limit false = record { placed = r.placed; origins = r.origins; pairs = r.pairs; answers = r.answers }
 
     by_mask : (b : Bool) → IsLeft (if b then Does w else add_report s (record { site = site; kind = kind; part = part; width = width; mask = mask; origin = o; chain = trail s w o }) w)
     by_mask true = r
@@ -339,8 +342,8 @@ module _ (s : Setting) (env : Env) (size saved : ℕ) (h : Here) (i : Inst) (val
       ≡ do_tasks s h (result_tasks s.func env i.result i.op (tracked env h.root (operands i.op)) ++ save_tasks s.func saved i.op (tracked env h.root (operands i.op))) v1 (counted_at s values h i w1)
       → Defined s env h values v1 i.result i.op (result_tasks s.func env i.result i.op (tracked env h.root (operands i.op))) (counted_at s values h i w1)
       → BeforeLaw s env saved h i values v w
-  passed v1 names_same handed w1 c f (Fails e run fails) = Failed e w1 (counted_at s values h i w1) (ended e (counted_at s values h i w1) (f ∙ do_over s h (result_tasks s.func env i.result i.op (tracked env h.root (operands i.op))) (save_tasks s.func saved i.op (tracked env h.root (operands i.op))) v1 (counted_at s values h i w1) (counted_at s values h i w1) e run)) c fails
-  passed v1 names_same handed w1 c f (Fine after run slots kept gives does) =
+  passed v1 names_same handed w1 c f (Fails e inside run fails) = Failed e w1 (counted_at s values h i w1) inside (ended e (counted_at s values h i w1) (f ∙ do_over s h (result_tasks s.func env i.result i.op (tracked env h.root (operands i.op))) (save_tasks s.func saved i.op (tracked env h.root (operands i.op))) v1 (counted_at s values h i w1) (counted_at s values h i w1) e run)) c fails
+  passed v1 names_same handed w1 c f (Fine after run slots kept gives answers does) =
       let z = counted_at s values h i w1 in
       let own1 : Own values after.names = λ y o. kept y o ∙ ap (λ n. n y) names_same ∙ m.value y o in
       let sv = op_saved s h env size saved values i.result i.op st.known.built st.known.reads after z own1 in
@@ -355,6 +358,10 @@ module _ (s : Setting) (env : Env) (size saved : ℕ) (h : Here) (i : Inst) (val
       matches_same env saved low (after_result values i.result (poisoned_result by_formulas i.op (words_at s values h i) x z))
       (record { names = set_result after.names i.result x; slots = after.slots }) (record { names = set_result r.0.names i.result x; slots = r.0.slots })
       (gives x z e) (same_result saved i.result x after r.0 all))
+      (λ outside x z.
+      matches_same env saved low (after_result values i.result (poisoned_result by_formulas i.op (words_at s values h i) x z))
+      (record { names = set_result after.names i.result x; slots = after.slots }) (record { names = set_result r.0.names i.result x; slots = r.0.slots })
+      (answers outside x z) (same_result saved i.result x after r.0 all))
       (λ g. matches_same env saved low values after r.0 (does g) all)
 
 -- the list before an instruction

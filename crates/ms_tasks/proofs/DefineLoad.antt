@@ -232,6 +232,7 @@ module _ (s : Setting) (env : Env) (size : ℕ) (h : Here) (values : Name → Po
           subst (λ z. Matches env (after_result values (Some x) (poisoned_result by_formulas (op.Load t a) (words_for s values h (op.Load t a)) n z)) (set_result (with_both mask origin).names (Some x) n))
           (ap (λ z. effect_world z w) (sym (load_gives t a w g) ∙ e))
           (matches_set env size x k one values v.names (with_both mask origin).names (record { value = n; mask = mask; origin = origin }) m d))
+          (λ outside. absurd outside)
           (λ e. absurd (subst GoesOn (load_gives t a w g) e))
       -- a slot is read, and then the load itself is a trap
       by_good false g true i =
@@ -246,9 +247,10 @@ module _ (s : Setting) (env : Env) (size : ℕ) (h : Here) (values : Name → Po
           refl
           (defines_own env x k.place v.names (with_both mask origin).names mask origin d)
           (λ n u e. absurd (ends_gives _ n w u (sym (load_fails t a w g) ∙ e)))
+          (λ outside. absurd outside)
           (λ e. absurd (subst GoesOn (load_fails t a w g) e))
       by_good false g false i =
           let read : shadow_read t a w ≡ traps trap.BadAddress h.site w =
           ap₂ (λ y z. if y then Gives (number_at v.slots (bit_xor (address_of a) shadow_bits) (stored_size t) % 2 ^ width_of t) w else
           if z then Gives (number_at w.shadow (address_of a) (stored_size t) % 2 ^ width_of t) w else traps trap.BadAddress h.site w) i g in
-          Fails («end».Trap trap.BadAddress h.site) (moved t a known.1 w ∙ ap (after_read t a) read) (load_fails t a w g)
+          Fails («end».Trap trap.BadAddress h.site) (λ outside. outside) (moved t a known.1 w ∙ ap (after_read t a) read) (load_fails t a w g)

@@ -2,6 +2,7 @@
 use Rattle.std.proofs.Common.{◌≡◌, ℕ, ◌+◌, ◌^◌, ◌<◌, List, [], refl, sym, subst, arith, Bool, true, false, Option, Some, None}
 use Rattle.std.specs.Prelude.{if◌then◌else◌, map, is_some}
 use Rattle.std.proofs.lemmas.Bool.{false≢true}
+use Rattle.std.proofs.Math.Nat.{zero-mod}
 use Rattle.ms_bits.specs.declared.operations.BinOp.TheVariants as binary
 use Rattle.ms_bits.specs.declared.word_functions.BitMove.{BitMove}
 use Rattle.ms_bits.specs.declared.traps.Trap.TheVariants as trap
@@ -12,13 +13,13 @@ use Rattle.ms_ir.specs.declared.syntax.Op.{Op}
 use Rattle.ms_ir.specs.declared.syntax.Op.TheVariants as op
 use Rattle.ms_runs.specs.declared.runs.End.{End}
 use Rattle.ms_runs.specs.declared.runs.End.TheVariants as «end»
-use Rattle.ms_ir.specs.Layout.{stored_size}
+use Rattle.ms_ir.specs.Layout.{stored_size, width_of}
 use Rattle.ms_runs.specs.World.{World, Setting, Here, Gives, Does, Goes, Enters, Ends, Leaves, traps, stuck, word}
 use Rattle.ms_runs.specs.Memory.{is_good, store_number}
 use Rattle.ms_ir.specs.Code.{operands, count_undefs, external_named}
 use Rattle.ms_runs.specs.Act.{store}
 use Rattle.ms_runs.specs.Poisoned.{Poisoned}
-use Rattle.ms_runs.specs.Masks.{by_formulas}
+use Rattle.ms_runs.specs.Masks.{by_formulas, result_mask, answer_mask, as_result}
 use Rattle.ms_runs.specs.Shadow.{poisoned_result}
 use Rattle.ms_tasks.specs.Tasks.{mask_name, origin_name}
 use Rattle.ms_tasks.specs.Meaning.{Values}
@@ -29,7 +30,7 @@ use Rattle.ms_ir.specs.Names.{lookup, externals}
 use Rattle.ms_tasks.proofs.WordMasks.{WordFits, no_move}
 use Rattle.ms_tasks.specs.Known.{AnswersWord, FitsCallee, IsBuilt, KnownName, KnownOperands, KnownResult, OneName}
 use Rattle.ms_tasks.specs.Match.{RangedWorld, RangedValues, Matches}
-use Rattle.ms_tasks.specs.InstructionLaw.{GoesOn}
+use Rattle.ms_tasks.specs.InstructionLaw.{GoesOn, CallsOutside, IsOutside}
 use Rattle.ms_tasks.proofs.MatchedNames.{matches_set}
 use Rattle.ms_tasks.proofs.Defined.{words_for, acts_for, Defined, Fine, clean_kept}
 use Rattle.ms_tasks.proofs.DefineWords.{word_done, answer_done, move_done, shift_done}
@@ -56,11 +57,26 @@ pub ret_gives : (b : Bool) (e : End) (k : ℕ) (w u : World) → (if b then Ends
 ret_gives true e k w u f = grind arith
 ret_gives false e k w u f = grind arith
 
+-- what a call outside answers has the mask 0
+pub outside_clean : (func : Name → Option ℕ) (o : Op) → CallsOutside func o → (ps : List Poisoned) (w : World) → result_mask by_formulas o ps w ≡ 0
+outside_clean func (op.Call ret callee args) c ps w = by_external (is_some (func callee)) (lookup externals callee) c
+  where
+    by_answer : (ret : Option Ty) → as_result ret 0 ≡ 0
+    by_answer None = refl
+    by_answer (Some t) = zero-mod (2 ^ width_of t)
+
+    by_external : (b : Bool) (e : Option External) → IsOutside (if b then None else e) → as_result ret (answer_mask e ps) ≡ 0
+    by_external true e c = absurd c
+    by_external false None c = absurd c
+    by_external false (Some (Word f n)) c = absurd c
+    by_external false (Some e) c = by_answer ret
+outside_clean func _ c ps w = absurd c
+
 module _ (s : Setting) (env : Env) (size : ℕ) (h : Here) (values : Name → Poisoned) (v : Values) (m : Matches env values v.names) (r : RangedValues values)
     (one : OneName env) where
   -- nothing is defined, since there is no result
-  none_done : (x : Option Name) (o : Op) (w : World) → ((k : ℕ) (u : World) → acts_for s values h o w ≡ Gives k u → ⊥) → Defined s env h values v x o [] w
-  none_done x o w never = Fine v refl refl (λ y own. refl) (λ k u e. absurd (never k u e)) (λ g. m)
+  none_done : (x : Option Name) (o : Op) → (CallsOutside s.func o → ⊥) → (w : World) → ((k : ℕ) (u : World) → acts_for s values h o w ≡ Gives k u → ⊥) → Defined s env h values v x o [] w
+  none_done x o out w never = Fine v refl refl (λ y own. refl) (λ k u e. absurd (never k u e)) (λ c. absurd (out c)) (λ g. m)
 
   -- a call: an external answers, and a function of the module comes to no answer yet
   own_gives : (site : ℕ) (o : Option ℕ) (e : Option External) (types : List Ty) (words : List ℕ) (w : World) → is_some o ≡ true → (k : ℕ) (u : World)
@@ -88,7 +104,7 @@ module _ (s : Setting) (env : Env) (size : ℕ) (h : Here) (values : Name → Po
 
       by_own : (b : Bool) → is_some (s.func callee) ≡ b
           → Defined s env h values v (Some x) (op.Call ret callee args) (called_tasks b k.place (op.Call ret callee args) (tracked env h.root args)) w
-      by_own true e = none_done (Some x) (op.Call ret callee args) w (λ i u g. own_gives h.site (s.func callee) (external_named s.func callee) (map (λ a. a.0) args) (map (λ p. p.value) (words_for s values h (op.Call ret callee args))) w e i u g)
+      by_own true e = none_done (Some x) (op.Call ret callee args) (λ o. subst (λ b. IsOutside (if b then None else lookup externals callee)) e o) w (λ i u g. own_gives h.site (s.func callee) (external_named s.func callee) (map (λ a. a.0) args) (map (λ p. p.value) (words_for s values h (op.Call ret callee args))) w e i u g)
       by_own false e = by_move (external_move (lookup externals callee)) refl
         where
           never : GoesOn (acts_for s values h (op.Call ret callee args) w) → ⊥
@@ -126,13 +142,13 @@ module _ (s : Setting) (env : Env) (size : ℕ) (h : Here) (values : Name → Po
   define_done x k c (op.Gep t a is) built known few w ranged = word_done s env size h values v m r one x k c (op.Gep t a is) tt tt refl known few w
   define_done x k c (op.Alloca t u i) built known few w ranged = word_done s env size h values v m r one x k c (op.Alloca t u i) tt tt refl known few w
   define_done x k c (op.Load t a) built known few w ranged = load_done s env size h values v m r one x k c t a known w ranged
-  define_done x k c (op.Store t n a) built known few w ranged = none_done (Some x) (op.Store t n a) w (λ i u e.
+  define_done x k c (op.Store t n a) built known few w ranged = none_done (Some x) (op.Store t n a) (λ o. o) w (λ i u e.
       let words = map (λ p. p.value) (words_for s values h (op.Store t n a)) in store_gives h.site (word 1 words) t (word 0 words) i w u e)
-  define_done x k c (op.Ret n) built known few w ranged = none_done (Some x) (op.Ret n) w (λ i u e. ret_gives h.main («end».Exit (word 0 (map (λ p. p.value) (words_for s values h (op.Ret n))))) i w u e)
-  define_done x k c (op.Br to) built known few w ranged = none_done (Some x) (op.Br to) w (λ i u e. goes_gives _ _ i w u e)
-  define_done x k c (op.CondBr i to other) built known few w ranged = none_done (Some x) (op.CondBr i to other) w (λ j u e. goes_gives _ _ j w u e)
-  define_done x k c (op.Switch t i other cases) built known few w ranged = none_done (Some x) (op.Switch t i other cases) w (λ j u e. goes_gives _ _ j w u e)
-  define_done x k c op.Unreachable built known few w ranged = none_done (Some x) op.Unreachable w (λ j u e. ends_gives _ _ j w u e)
+  define_done x k c (op.Ret n) built known few w ranged = none_done (Some x) (op.Ret n) (λ o. o) w (λ i u e. ret_gives h.main («end».Exit (word 0 (map (λ p. p.value) (words_for s values h (op.Ret n))))) i w u e)
+  define_done x k c (op.Br to) built known few w ranged = none_done (Some x) (op.Br to) (λ o. o) w (λ i u e. goes_gives _ _ i w u e)
+  define_done x k c (op.CondBr i to other) built known few w ranged = none_done (Some x) (op.CondBr i to other) (λ o. o) w (λ j u e. goes_gives _ _ j w u e)
+  define_done x k c (op.Switch t i other cases) built known few w ranged = none_done (Some x) (op.Switch t i other cases) (λ o. o) w (λ j u e. goes_gives _ _ j w u e)
+  define_done x k c op.Unreachable built known few w ranged = none_done (Some x) op.Unreachable (λ o. o) w (λ j u e. ends_gives _ _ j w u e)
   define_done x k c (op.Call ret callee args) built known few w ranged = called_done x k c ret callee args built.0 built.2 known few w
   define_done x k c (op.Phi t es) built known few w ranged = absurd built
 
@@ -142,7 +158,7 @@ module _ (s : Setting) (env : Env) (size : ℕ) (h : Here) (values : Name → Po
       → ((y : Name) (k : ℕ) (u : World) → x ≡ Some y → env.clean y ≡ true → acts_for s values h o w ≡ Gives k u
       → (poisoned_result by_formulas o (words_for s values h o) k u).mask ≡ 0)
       → Defined s env h values v x o (result_tasks s.func env x o (tracked env h.root (operands o))) w
-  result_done None o built named known few w ranged sound = Fine v refl refl (λ y own. refl) (λ k u e. m) (λ g. m)
+  result_done None o built named known few w ranged sound = Fine v refl refl (λ y own. refl) (λ k u e. m) (λ c k u. m) (λ g. m)
   result_done (Some x) o built named known few w ranged sound = by_clean (env.clean x) refl
     where
       by_clean : (b : Bool) → env.clean x ≡ b
@@ -151,6 +167,8 @@ module _ (s : Setting) (env : Env) (size : ℕ) (h : Here) (values : Name → Po
           Fine v refl refl (λ y own. refl)
           (λ k u e. matches_set env size x named one values v.names v.names (poisoned_result by_formulas o (words_for s values h o) k u) m
           (clean_kept env x named.place named.numbered c v.names _ _ (sound x k u refl c e)))
+          (λ outside k u. matches_set env size x named one values v.names v.names (poisoned_result by_formulas o (words_for s values h o) k u) m
+          (clean_kept env x named.place named.numbered c v.names _ _ (outside_clean s.func o outside (words_for s values h o) u)))
           (λ g. m)
       by_clean false c =
           subst (λ z. Defined s env h values v (Some x) o (elim z [ Some n ↦ define_tasks s.func n o (tracked env h.root (operands o)) | None ↦ [] ]) w)

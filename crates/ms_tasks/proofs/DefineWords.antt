@@ -29,8 +29,7 @@ use Rattle.ms_runs.specs.declared.runs.End.TheVariants as «end»
 use Rattle.ms_bits.specs.NoFlags.{no_flags}
 use Rattle.ms_ir.specs.Layout.{width_of, size_in}
 use Rattle.ms_runs.specs.World.{World, Setting, Here, Effect, Gives, Does, Ends, traps, word, gives}
-use Rattle.ms_ir.specs.Areas.{Stack}
-use Rattle.ms_runs.specs.Memory.{fits, next_base, make_unset}
+use Rattle.ms_runs.specs.Memory.{fits, next_base, local_area, make_unset}
 use Rattle.ms_ir.specs.Code.{operands, one_undef, count_undefs}
 use Rattle.ms_runs.specs.Control.{read_all, with_value}
 use Rattle.ms_runs.specs.Act.{operand_word, act}
@@ -75,9 +74,9 @@ word_goes s h (op.Cast o f t a v) k nc words w g = gives_goes h.site _ w g
 word_goes s h (op.Select c t a b) k nc words w g = g
 word_goes s h (op.Freeze t a) k nc words w g = g
 word_goes s h (op.Gep t a is) k nc words w g = g
-word_goes s h (op.Alloca t u c) k nc words w g = by_fits (fits Stack (size_in s.types t * word 0 words) w) g
+word_goes s h (op.Alloca t u c) k nc words w g = by_fits (fits (local_area w) (size_in s.types t * word 0 words) w) g
   where
-    by_fits : (b : Bool) → GoesOn (if b then Gives (next_base Stack w) (make_unset s.fill Stack (size_in s.types t * word 0 words) w) else traps trap.Stack h.site w) → ⊥
+    by_fits : (b : Bool) → GoesOn (if b then Gives (next_base (local_area w) w) (make_unset s.fill (local_area w) (size_in s.types t * word 0 words) w) else traps trap.Stack h.site w) → ⊥
     by_fits true g = g
     by_fits false g = g
 word_goes s h (op.Call ret callee args) k nc words w g = absurd nc
@@ -247,6 +246,7 @@ module _ (s : Setting) (env : Env) (size : ℕ) (h : Here) (values : Name → Po
       Fine (record { names = names2; slots = v.slots }) (runs names1 refl) refl
       (defines_own env x n v.names names2 _ _ (d w))
       (λ i u e. matches_set env size x k one values v.names names2 (poisoned_result by_formulas o ps i u) m (d u))
+      (λ outside i u. matches_set env size x k one values v.names names2 (poisoned_result by_formulas o ps i u) m (d u))
       (λ g. absurd (never g))
 
   -- what the operands' names hold then
@@ -369,6 +369,7 @@ module _ (s : Setting) (env : Env) (size : ℕ) (h : Here) (values : Name → Po
           Fine (record { names = names2; slots = v.slots }) (run (Gives i w) g) refl
           (defines_own env x k.place v.names names2 _ _ (d w))
           (λ j u g. matches_set env size x k one values v.names names2 (poisoned_result by_formulas (op.Binary o f t a b) ps j u) m (d u))
+          (λ outside. absurd outside)
           (λ g. absurd (gives_goes h.site _ w g))
 
       by_result : (rr : Result ℕ Trap) → binary_of o no_flags (width_of t) p.mask q.value ≡ rr → eqb q.mask 0 ≡ true
@@ -379,7 +380,7 @@ module _ (s : Setting) (env : Env) (size : ℕ) (h : Here) (values : Name → Po
           fine i (ap (λ y. gives h.site (binary_of o no_flags (width_of t) (if y then p.mask else (2 ^ width_of t - 1)) (if y then q.value else 0)) w) z ∙ ap (λ y. gives h.site y w) e)
           (sym (ap (λ y. if y then value_or_zero (binary_of o no_flags (width_of t) p.mask q.value) else (2 ^ width_of t - 1)) z ∙ ap value_or_zero e))
       by_result (Err tr) e z =
-          Fails («end».Trap tr h.site)
+          Fails («end».Trap tr h.site) (λ outside. outside)
           (run (Ends («end».Trap tr h.site) w) (ap (λ y. gives h.site (binary_of o no_flags (width_of t) (if y then p.mask else (2 ^ width_of t - 1)) (if y then q.value else 0)) w) z ∙ ap (λ y. gives h.site y w) e))
           (ap (λ y. gives h.site y w) (shift_fails o is f (width_of t) p.value p.mask q.value tr e))
 

@@ -17,7 +17,7 @@ use Rattle.ms_tasks.specs.Tasks.{mask_name, origin_name, Task}
 use Rattle.ms_tasks.specs.Meaning.{Values, Went, Over, do_tasks, set_result}
 use Rattle.ms_tasks.specs.Environments.{Env}
 use Rattle.ms_tasks.specs.Match.{held, Matches}
-use Rattle.ms_tasks.specs.InstructionLaw.{after_result, GoesOn}
+use Rattle.ms_tasks.specs.InstructionLaw.{after_result, GoesOn, CallsOutside}
 use Rattle.ms_tasks.proofs.InsertedNames.{mask_not_origin, with_here, with_other}
 use Rattle.ms_tasks.proofs.OperandWords.{mask_at, origin_at}
 use Rattle.ms_tasks.proofs.MatchedNames.{Defines}
@@ -36,9 +36,10 @@ pub data Defined (s : Setting) (env : Env) (h : Here) (values : Name → Poisone
       → ((y : Name) → is_reserved y ≡ false → after.names y ≡ v.names y)
       → ((k : ℕ) (u : World) → acts_for s values h o w ≡ Gives k u
       → Matches env (after_result values x (poisoned_result by_formulas o (words_for s values h o) k u)) (set_result after.names x k))
+      → (CallsOutside s.func o → (k : ℕ) (u : World) → Matches env (after_result values x (poisoned_result by_formulas o (words_for s values h o) k u)) (set_result after.names x k))
       → (GoesOn (acts_for s values h o w) → Matches env values after.names)
       → Defined s env h values v x o ts w
-  Fails : (e : End) → do_tasks s h ts v w ≡ Over e w → acts_for s values h o w ≡ Ends e w → Defined s env h values v x o ts w
+  Fails : (e : End) → (CallsOutside s.func o → ⊥) → do_tasks s h ts v w ≡ Over e w → acts_for s values h o w ≡ Ends e w → Defined s env h values v x o ts w
 
 -- the two names of a result, the origin's first
 pub origin_first : (env : Env) (x : Name) (n : ℕ) → env.number x ≡ Some n → env.clean x ≡ false → (names : Name → ℕ) (mask origin stored : ℕ) → (mask ≢ 0 → stored ≡ origin)

@@ -78,6 +78,7 @@ runtime_known function.StoreOrigin = refl
 runtime_known function.LoadOrigin = refl
 runtime_known function.Size = refl
 runtime_known function.CheckFormat = refl
+runtime_known function.ThreadResult = refl
 runtime_known (function.Move k) = move_known k
 
 -- a task whose last instruction takes words

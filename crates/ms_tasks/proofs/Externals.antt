@@ -9,23 +9,24 @@ use Rattle.ms_ir.specs.declared.syntax.Ty.{Ty, Int}
 use Rattle.ms_ir.specs.declared.syntax.Operand.{Operand}
 use Rattle.ms_ir.specs.declared.syntax.Operand.TheVariants as operand
 use Rattle.ms_ir.specs.declared.calls.External.{External}
-use Rattle.ms_ir.specs.declared.calls.External.TheVariants.{Malloc, Calloc, Realloc, Memcpy, Memmove, Memset, Memcmp, Strlen, Putchar, Puts, Getchar, Read, Write, LlvmMemcpy, LlvmMemmove, LlvmMemset, LifetimeStart, Printf, LlvmObjectSize, Word}
+use Rattle.ms_ir.specs.declared.calls.External.TheVariants.{Malloc, Calloc, Realloc, Memcpy, Memmove, Memset, Memcmp, Strlen, Putchar, Puts, Getchar, Read, Write, LlvmMemcpy, LlvmMemmove, LlvmMemset, LifetimeStart, Printf, LlvmObjectSize, PthreadCreate, PthreadJoin, SchedYield, Word}
 use Rattle.ms_bits.specs.WordFunctions.{bits_of, word_answer}
 use Rattle.ms_bits.specs.declared.traps.Trap.{Trap}
 use Rattle.ms_bits.specs.declared.traps.Trap.TheVariants as trap
-use Rattle.ms_bits.specs.Maps.{bytes_at}
-use Rattle.ms_runs.specs.Externals.{minus_one, malloc, reallocated, where_good, string_at, printed, taken, next_byte, external, output_limit, formatted, prints}
+use Rattle.ms_bits.specs.Maps.{bytes_at, byte_of}
+use Rattle.ms_runs.specs.Externals.{minus_one, malloc, reallocated, where_good, string_at, printed, taken, next_byte, external, output_limit, formatted, prints, joined}
 use Rattle.ms_ir.specs.Layout.{width_of}
-use Rattle.ms_runs.specs.World.{Allocation, World, Setting, Here, Effect, Gives, traps, word, result, gives}
+use Rattle.ms_runs.specs.World.{Allocation, Thread, World, Setting, Here, Effect, Gives, traps, word, result, gives}
 use Rattle.ms_ir.specs.Areas.{Heap}
 use Rattle.ms_runs.specs.Memory.{heap_size, fits, used, next_base, is_good, first_that, is_heap_block, set_shadow, set_cells, copy_shadow}
-use Rattle.ms_runs.specs.Origins.{chain, poison, unpoison, copy_planes, fill_planes}
+use Rattle.ms_runs.specs.Origins.{chain, poison, unpoison, copy_planes, fill_planes, store_origin, thread_result}
 use Rattle.ms_ir.specs.Code.{one_undef, count_undefs, makes_unset}
 use Rattle.ms_runs.specs.Control.{read_all, with_value}
 use Rattle.ms_runs.specs.Act.{operand_word}
 use Rattle.ms_runs.specs.Poisoned.{Poisoned}
 use Rattle.ms_runs.specs.Masks.{word_at}
 use Rattle.ms_runs.specs.Shadow.{read_poisoned, external_planes}
+use Rattle.ms_runs.specs.Threads.{fiber_limit, thread_at, has_ended, join_of, join_answer}
 use Rattle.ms_tasks.specs.Tasks.{msan_name, Task}
 use Rattle.ms_tasks.specs.Meaning.{Went, do_tasks, evaluate}
 use Rattle.ms_tasks.specs.Environments.{Env, Tracked, tracked, tracked_at, mask_of, widened}
@@ -36,7 +37,8 @@ use Rattle.ms_tasks.specs.InstructionLaw.{after_result, GoesOn}
 use Rattle.ms_tasks.proofs.InsertedNames.{with_other}
 use Rattle.ms_tasks.proofs.OperandWords.{ap₃, word_less, Holds, tracked_holds}
 use Rattle.ms_tasks.proofs.CheckTasks.{widened_word, whole}
-use Rattle.ms_tasks.proofs.PlaneTasks.{Alike, poison_alike, chain_alike}
+use Rattle.ms_tasks.proofs.PlaneTasks.{Alike, poison_alike, chain_alike, origin_alike}
+use Rattle.ms_tasks.proofs.WordExprs.{made_bytes}
 
 word_apart : (s : Setting) (values : Name → Poisoned) (x : Name) (p : Poisoned) (root : ℕ) (t : Ty) (o : Operand) → Apart x o
     → read_poisoned s (with_value values x p) root t o ≡ read_poisoned s values root t o
@@ -112,13 +114,23 @@ external_goes s site Write types words w v g =
 external_goes s site Printf types words w v g = absurd_prints site (formatted w types words) w g
 external_goes s site (Word f n) types words w v g = absurd_gives site (word_answer f (bits_of n) (word 0 words) (word 1 words) (word 2 words)) w g
 external_goes s site LlvmObjectSize types words w v g = g
+external_goes s site PthreadCreate types words w v g =
+    absurd_if (leb fiber_limit (length w.threads + 1)) (Gives 11 w) _ (λ h. h) (absurd_good site (word 0 words) 8 w (Gives _ _) (λ h. h)) g
+external_goes s site PthreadJoin types words w v g =
+    absurd_if (eqb (join_answer w.turn (word 0 words) w.threads) 0) _ (Gives _ w)
+    (absurd_if (has_ended (thread_at (word 0 words) w.threads)) (joined site (word 0 words) (word 1 words) w) (traps trap.Deadlock site w)
+    (absurd_if (eqb (word 1 words) 0) (Gives 0 _) _ (λ h. h) (absurd_good site (word 1 words) 8 w (Gives 0 _) (λ h. h))) (λ h. h))
+    (λ h. h) g
+external_goes s site SchedYield types words w v g = g
 external_goes s site _ types words w v g = absurd (grind arith)
 
--- what makes an answer fit 64 bits, where it is looked at afterwards
+-- what makes an answer fit its bits, where it is looked at afterwards
 abbrev pub IsSmall : External → ℕ → Type 0
 IsSmall Malloc v = v < 2 ^ 64
 IsSmall Realloc v = v < 2 ^ 64
 IsSmall Read v = v < 2 ^ 64
+IsSmall PthreadCreate v = v < 2 ^ 32
+IsSmall PthreadJoin v = v < 2 ^ 32
 IsSmall _ v = Unit {0}
 
 -- what is given is a number of 64 bits
@@ -143,6 +155,30 @@ take_less zero l = omega arith
 take_less (suc n) [] = omega arith
 take_less (suc n) (x ∷ l) = let r = take_less n l in omega (arith, r)
 
+-- what is given is a number of 32 bits
+abbrev GivesShort : Effect → Type 0
+GivesShort (Gives v w) = v < 2 ^ 32
+GivesShort _ = Unit {0}
+
+short_if : (b : Bool) (e f : Effect) → GivesShort e → GivesShort f → GivesShort (if b then e else f)
+short_if true e f p q = p
+short_if false e f p q = q
+
+short_good : (site a n v : ℕ) (w u : World) → v < 2 ^ 32 → GivesShort (where_good site a n w (Gives v u))
+short_good site a n v w u l = short_if (is_good w a n) (Gives v u) (traps trap.BadAddress site w) l tt
+
+join_short : (own id : ℕ) (threads : List Thread) → join_answer own id threads < 2 ^ 32
+join_short own id threads = by_test (eqb id own) (thread_at id threads)
+  where
+    by_joined : (t : Bool) → (if t then 3 else 0) < 2 ^ 32
+    by_joined true = omega arith
+    by_joined false = omega arith
+
+    by_test : (t : Bool) (o : Option Thread) → (if t then 35 else join_of o) < 2 ^ 32
+    by_test true o = omega arith
+    by_test false None = omega arith
+    by_test false (Some t) = by_joined t.joined
+
 pub answers_less : (s : Setting) (site : ℕ) (e : External) (types : List Ty) (words : List ℕ) (w : World) → word 2 words < 2 ^ 64 → (v : ℕ) (u : World) → external s site e types words w ≡ Gives v u → IsSmall e v
 answers_less s site Malloc types words w l v u h = subst GivesLess h (heap_less (word 0 words) w (fits Heap (word 0 words) w) refl _ _)
 answers_less s site Realloc types words w l v u h =
@@ -152,6 +188,13 @@ answers_less s site Read types words w l v u h =
     subst GivesLess h (less_if (is_good w (word 1 words) (word 2 words)) _ (traps trap.BadAddress site w)
     (less_if (eqb (word 0 words) 0) (taken (word 1 words) (word 2 words) w) (Gives (minus_one 64) w)
     (let r = take_less (word 2 words) w.input in omega (arith, r, l)) (omega arith)) tt)
+answers_less s site PthreadCreate types words w l v u h =
+    subst GivesShort h (short_if (leb fiber_limit (length w.threads + 1)) (Gives 11 w) _ (omega arith) (short_good site (word 0 words) 8 0 w _ (omega arith)))
+answers_less s site PthreadJoin types words w l v u h =
+    subst GivesShort h (short_if (eqb (join_answer w.turn (word 0 words) w.threads) 0) _ (Gives _ w)
+    (short_if (has_ended (thread_at (word 0 words) w.threads)) (joined site (word 0 words) (word 1 words) w) (traps trap.Deadlock site w)
+    (short_if (eqb (word 1 words) 0) (Gives 0 _) _ (omega arith) (short_good site (word 1 words) 8 0 w _ (omega arith))) tt)
+    (join_short w.turn (word 0 words) w.threads))
 answers_less s site _ types words w l v u h = tt
 
 -- the size of a block of a ranged world
@@ -188,6 +231,13 @@ fill_alike s a n mask o site w e = by_good (is_good w a n) (eqb (mask % 256) 0 |
     by_good true false = chain_alike s o site w e
     by_good false c = refl
 
+thread_alike : (s : Setting) (a id v site : ℕ) (w : World) → Alike w (thread_result s a id v site w)
+thread_alike s a id v site w e = by_answer (eqb v 0 && not (eqb a 0) && is_good w a 8 && has_ended (thread_at id w.threads))
+  where
+    by_answer : (b : Bool) → result e w ≡ result e (if b then store_origin s a (w.answer_masks id) (w.answer_origins id) site (set_shadow a 8 (byte_of (w.answer_masks id)) w) else w)
+    by_answer true = origin_alike s a (w.answer_masks id) (w.answer_origins id) site (set_shadow a 8 (byte_of (w.answer_masks id)) w) e
+    by_answer false = refl
+
 pub planes_alike : (s : Setting) (site root : ℕ) (x : External) (ps : List Poisoned) (before : World) (v : ℕ) (w : World) → Alike w (external_planes s site root x ps before v w)
 planes_alike s site root Malloc ps before v w e = poison_alike v 0 (word_at 0 ps).value root w e
 planes_alike s site root Realloc ps before v w e = poison_alike v (unwrap_or (heap_size before (word_at 0 ps).value) 0) (word_at 1 ps).value root w e
@@ -199,6 +249,8 @@ planes_alike s site root Memset ps before v w e = fill_alike s (word_at 0 ps).va
 planes_alike s site root LlvmMemset ps before v w e = fill_alike s (word_at 0 ps).value (word_at 2 ps).value (word_at 1 ps).mask (word_at 1 ps).origin site w e
 planes_alike s site root Read ps before v w e = unpoison_alike (word_at 1 ps).value v w e
 planes_alike s site root LifetimeStart ps before v w e = poison_alike (word_at 1 ps).value 0 (word_at 0 ps).value root w e
+planes_alike s site root PthreadCreate ps before v w e = unpoison_alike (word_at 0 ps).value (if eqb v 0 then 8 else 0) w e
+planes_alike s site root PthreadJoin ps before v w e = thread_alike s (word_at 1 ps).value (word_at 0 ps).value v site w e
 planes_alike s site root _ ps before v w e = refl
 
 -- ---- the tasks
@@ -244,9 +296,17 @@ module _ (s : Setting) (at : Here) (site root saved : ℕ) (ls : site < 2 ^ 32) 
       ∙ ap (λ i. poison v i (word_at 1 ps).value root w) (ap (λ n. n % 2 ^ 64) old ∙ mod-eq_of_lt less))
   external_done (Some x) Read lr types k hr rs small before w old less =
       ap (λ z. Went (record { names = names; slots = cells }) z) (ap₂ (λ i j. unpoison i j w) (address 1 (k 1)) (ap (λ n. n % 2 ^ 64) (rs x refl) ∙ mod-eq_of_lt small))
+  external_done (Some x) PthreadCreate lr types k hr rs small before w old less =
+      ap (λ z. Went (record { names = names; slots = cells }) z) (ap₂ (λ i j. unpoison i j w) (address 0 (k 0)) (made_bytes s names x v (rs x refl) small))
+  external_done (Some x) PthreadJoin lr types k hr rs small before w old less =
+      ap (λ z. Went (record { names = names; slots = cells }) z)
+      (ap₃ (λ i j l. thread_result s i j l (site % 2 ^ 32) w) (address 1 (k 1)) (address 0 (k 0)) (ap (λ n. n % 2 ^ 32) (rs x refl) ∙ mod-eq_of_lt small)
+      ∙ ap (λ i. thread_result s (word_at 1 ps).value (word_at 0 ps).value v i w) (mod-eq_of_lt ls))
   external_done None Malloc lr types k hr rs small before w old less = absurd (grind arith)
   external_done None Realloc lr types k hr rs small before w old less = absurd (grind arith)
   external_done None Read lr types k hr rs small before w old less = absurd (grind arith)
+  external_done None PthreadCreate lr types k hr rs small before w old less = absurd (grind arith)
+  external_done None PthreadJoin lr types k hr rs small before w old less = absurd (grind arith)
   external_done r LifetimeStart lr types k hr rs small before w old less =
       ap (λ z. Went (record { names = names; slots = cells }) z) (ap₃ (λ i j l. poison i 0 j l w) (address 1 (k 1)) (address 0 (k 0)) (mod-eq_of_lt (lr refl)))
   external_done r Memcpy lr types k hr rs small before w old less = copied_done (k 0) (k 1) (k 2) w

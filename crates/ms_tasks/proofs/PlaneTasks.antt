@@ -13,7 +13,7 @@ use Rattle.ms_runs.specs.declared.runs.End.{End}
 use Rattle.ms_ir.specs.declared.calls.RuntimeFn.TheVariants as function
 use Rattle.ms_ir.specs.Names.{slots}
 use Rattle.ms_ir.specs.Layout.{width_of, stored_size}
-use Rattle.ms_ir.specs.Areas.{Stack}
+use Rattle.ms_ir.specs.Areas.{Area, Fixed, Heap, Stack}
 use Rattle.ms_runs.specs.World.{World, Setting, Here, Does, traps, result}
 use Rattle.ms_runs.specs.Memory.{is_good, set_shadow, set_cells, fits, next_base, used}
 use Rattle.ms_runs.specs.Origins.{Chained, store_origin, mark_cells, chain, keeps_old, pair_index, poison}
@@ -144,8 +144,14 @@ module _ (s : Setting) (names : Name → ℕ) (t : Ty) (x a : Tracked) (p q : Po
 
 -- ---- an 'alloca'
 
-pub fits_small : (n : ℕ) (w : World) → fits Stack n w ≡ true → (n ≤ 2 ^ 20) × (next_base Stack w < 2 ^ 64)
-fits_small n w e =
+pub fits_small : (area : Area) (n : ℕ) (w : World) → fits area n w ≡ true → (n ≤ 2 ^ 26) × (next_base area w < 2 ^ 64)
+fits_small Fixed n w e =
+    let all : used Fixed w.allocs + (max n 1 + 15) / 16 * 16 ≤ 2 ^ 24 = grind arith in
+    (omega arith, omega arith)
+fits_small Heap n w e =
+    let all : used Heap w.allocs + (max n 1 + 15) / 16 * 16 ≤ 2 ^ 26 = grind arith in
+    (omega arith, omega arith)
+fits_small Stack n w e =
     let all : used Stack w.allocs + (max n 1 + 15) / 16 * 16 ≤ 2 ^ 20 = grind arith in
     (omega arith, omega arith)
 

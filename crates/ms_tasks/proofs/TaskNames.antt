@@ -18,7 +18,7 @@ use Rattle.ms_ir.specs.Layout.{width_of}
 use Rattle.ms_runs.specs.World.{Setting, Here}
 use Rattle.ms_ir.specs.Code.{operands, one_undef, count_undefs, external_named}
 use Rattle.ms_ir.specs.declared.calls.External.{External}
-use Rattle.ms_ir.specs.declared.calls.External.TheVariants.{Malloc, Realloc, Memcpy, Memmove, Memset, Read, LlvmMemcpy, LlvmMemmove, LlvmMemset, LifetimeStart}
+use Rattle.ms_ir.specs.declared.calls.External.TheVariants.{Malloc, Realloc, Memcpy, Memmove, Memset, Read, LlvmMemcpy, LlvmMemmove, LlvmMemset, LifetimeStart, PthreadCreate, PthreadJoin}
 use Rattle.ms_runs.specs.Uses.{Use, Word, Bytes, Line, Asked, uses, has_flag, has_true_flag, flagged_words}
 use Rattle.ms_tasks.specs.Tasks.{mask_name, origin_name, Expr, Leaf, Turn, Task, Sets}
 use Rattle.ms_tasks.specs.Meaning.{BelowOperand, BelowExpr, BelowExprs, BelowTasks}
@@ -396,9 +396,13 @@ module _ (env : Env) (size base : ℕ) (room : 2 * size + 1 ≤ base) where
   outside_low site root saved (Some x) Malloc ts le k p = (tt, (own_below base x k.own, (tt, ((at_low 0 ts p).own, (tt, tt)))), tt)
   outside_low site root saved (Some x) Realloc ts le k p = (tt, (own_below base x k.own, (msan_below base saved (omega arith), ((at_low 1 ts p).own, (tt, tt)))), tt)
   outside_low site root saved (Some x) Read ts le k p = (tt, ((at_low 1 ts p).own, (own_below base x k.own, tt)), tt)
+  outside_low site root saved (Some x) PthreadCreate ts le k p = (tt, ((at_low 0 ts p).own, (((own_below base x k.own, tt), tt, tt), tt)), tt)
+  outside_low site root saved (Some x) PthreadJoin ts le k p = (tt, ((at_low 1 ts p).own, ((at_low 0 ts p).own, (own_below base x k.own, (tt, tt)))), tt)
   outside_low site root saved None Malloc ts le k p = tt
   outside_low site root saved None Realloc ts le k p = tt
   outside_low site root saved None Read ts le k p = tt
+  outside_low site root saved None PthreadCreate ts le k p = tt
+  outside_low site root saved None PthreadJoin ts le k p = tt
   outside_low site root saved r LifetimeStart ts le k p = (tt, ((at_low 1 ts p).own, (tt, ((at_low 0 ts p).own, (tt, tt)))), tt)
   outside_low site root saved r Memcpy ts le k p = copy_low (tracked_at 0 ts) (tracked_at 1 ts) (tracked_at 2 ts) (at_low 0 ts p) (at_low 1 ts p) (at_low 2 ts p)
   outside_low site root saved r Memmove ts le k p = copy_low (tracked_at 0 ts) (tracked_at 1 ts) (tracked_at 2 ts) (at_low 0 ts p) (at_low 1 ts p) (at_low 2 ts p)

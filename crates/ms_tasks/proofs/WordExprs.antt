@@ -1,7 +1,7 @@
 -- The words that inserted code computes of functions of whole words are their masks.
 use Rattle.std.proofs.Common.{◌≡◌, ℕ, zero, suc, ◌+◌, ◌-◌, ◌*◌, ◌%◌, ◌^◌, ◌<◌, ◌≤◌, ◌/◌, Bool, true, false, cond, leb, eqb, bit_or, if◌then◌else◌, not, refl, sym, ap, ap₂, ◌∙◌, subst, arith, ⊎_elim}
 use Rattle.std.specs.Int.{from_bool, bit_at}
-use Rattle.std.proofs.Math.Nat.{pow-suc}
+use Rattle.std.proofs.Math.Nat.{mod-eq_of_lt, pow-suc}
 use Rattle.std.proofs.Math.Pow.{ones_lt, pow_mono}
 use Rattle.std.proofs.lemmas.Bool.{cases_lt, le-leb, lt-leb}
 use Rattle.std.proofs.lemmas.Nat.{pow_pos, pow_below, mod_below}
@@ -13,6 +13,7 @@ use Rattle.ms_bits.specs.Conversions.{select_of, holds}
 use Rattle.ms_bits.specs.Formulas.{least, greatest}
 use Rattle.ms_ir.specs.declared.syntax.Name.{Name}
 use Rattle.ms_ir.specs.declared.syntax.Ty.{Int}
+use Rattle.ms_ir.specs.declared.syntax.Operand.TheVariants as operand
 use Rattle.ms_runs.specs.World.{Setting, word}
 use Rattle.ms_tasks.specs.Tasks.{Expr, Or, Xor, Sub, Two, Test, Pick}
 use Rattle.ms_runs.specs.Act.{operand_word}
@@ -27,6 +28,7 @@ use Rattle.ms_bits_laws.proofs.WordMaskRanges.{places_le}
 use Rattle.ms_bits_laws.proofs.MaskFunctions.{number_bit, number_fits}
 use Rattle.ms_bits_laws.proofs.MovedBits.{fshl_ones, fshr_ones}
 use Rattle.ms_tasks.specs.ResultMasks.{union_expr, whole_expr, word_expr, known_expr, moved_args, count_expr, ctpop_expr, ctlz_expr, cttz_expr, greater_expr, smaller_expr, abs_expr}
+use Rattle.ms_tasks.specs.PlaneTasks.{made_size}
 
 choice : (t : Bool) (x y : ℕ) → select_of (from_bool t) x y ≡ cond t x y
 unfolding select_of
@@ -105,6 +107,11 @@ module _ (s : Setting) (names : Name → ℕ) where
   not_zero : {w : ℕ} {a : Expr} {x : ℕ} → Is s names w a x → Is s names 1 (is_set (Int w) a) (from_bool (not (eqb x 0)))
   unfolding holds
   not_zero {w} i = is_test s names pred.Ne i (none w)
+
+  -- how many bytes become clean where a fiber was made
+  pub made_bytes : (x : Name) (v : ℕ) → names x ≡ v → v < 2 ^ 32 → evaluate s names (made_size x) (Int 64) ≡ (if eqb v 0 then 8 else 0)
+  made_bytes x v is small =
+      is_eval s names (by_test (eqb v 0) (is_zero (is_leaf s names 32 (operand.Local x) v (ap (λ n. n % 2 ^ 32) is ∙ mod-eq_of_lt small))) (is_number s names 64 8 (omega arith)) (none 64))
 
   pub mask_whole : {w : ℕ} {e : Expr} {x : ℕ} → Is s names w e x → Is s names w (whole_expr w e) (whole_mask w x)
   mask_whole {w} {e} {x} i = by_test (eqb x 0) (is_zero i) (none w) (is_number s names w (2 ^ w - 1) (ones_lt w))

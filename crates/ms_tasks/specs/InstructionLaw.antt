@@ -1,10 +1,14 @@
 -- What the lists round one instruction are to come to: what the shadow run's step does.
 use Rattle.std.specs.Prelude.{◌≡◌, ℕ, ◌+◌, ◌*◌, List, map, Option, Some, None, ◌≤◌}
+use Rattle.ms_ir.specs.declared.syntax.Op.{Op}
+use Rattle.ms_ir.specs.declared.syntax.Op.TheVariants as op
+use Rattle.ms_ir.specs.declared.calls.External.{External}
+use Rattle.ms_ir.specs.declared.calls.External.TheVariants.{Word}
 use Rattle.ms_ir.specs.declared.syntax.Name.{Name}
 use Rattle.ms_ir.specs.declared.syntax.Inst.{Inst}
 use Rattle.ms_runs.specs.declared.runs.End.{End}
 use Rattle.ms_runs.specs.World.{World, Setting, Here, Effect, Gives, Does, Ends, result}
-use Rattle.ms_ir.specs.Code.{operands, count_undefs}
+use Rattle.ms_ir.specs.Code.{operands, count_undefs, external_named}
 use Rattle.ms_runs.specs.Control.{with_value, read_all}
 use Rattle.ms_runs.specs.Act.{act}
 use Rattle.ms_runs.specs.Masks.{by_formulas, union}
@@ -61,6 +65,17 @@ GoesOn (Gives x w) = ⊥
 GoesOn (Ends e w) = ⊥
 GoesOn _ = Unit {0}
 
+-- an external whose answer is clean
+abbrev pub IsOutside : Option External → Type 0
+IsOutside None = ⊥
+IsOutside (Some (Word f n)) = ⊥
+IsOutside (Some e) = Unit {0}
+
+-- a call of such an external
+abbrev pub CallsOutside : (Name → Option ℕ) → Op → Type 0
+CallsOutside func (op.Call ret callee args) = IsOutside (external_named func callee)
+CallsOutside func _ = ⊥
+
 -- ---- the two laws
 
 -- the list before an instruction, where the inserted names before a number are taken
@@ -68,13 +83,13 @@ abbrev pub before_code : Setting → Env → Here → Inst → ℕ → List Inst
 before_code s env h i base = (tasks_code (before_tasks (given_of s) env h i base) (start (given_of s) i base)).code
 
 -- what the list before an instruction comes to: the run is over as in the shadow run, by a check or by the instruction
--- itself, or the instruction is due in both
+-- itself, or the instruction is due in both; what a call outside answers is clean in whatever world it is done
 pub data BeforeLaw (s : Setting) (env : Env) (base : ℕ) (h : Here) (i : Inst) (values : Name → Poisoned) (v : Values) (w : World) : Type 0 where
   Checked : (e : End) (w1 : World)
       → run_marked s h (before_code s env h i base) v w ≡ Over e w1
       → checked_at s values h i w ≡ Ends e w1
       → BeforeLaw s env base h i values v w
-  Failed : (e : End) (w1 w2 : World)
+  Failed : (e : End) (w1 w2 : World) → (CallsOutside s.func i.op → ⊥)
       → run_marked s h (before_code s env h i base) v w ≡ Over e w2
       → checked_at s values h i w ≡ Does w1
       → acted_at s values h i (counted_at s values h i w1) ≡ Ends e w2
@@ -86,6 +101,8 @@ pub data BeforeLaw (s : Setting) (env : Env) (base : ℕ) (h : Here) (i : Inst) 
       → Saved s.func base i.op (words_at s values h i) (counted_at s values h i w1) u.names
       → words_of s u.names (operands i.op) ≡ map (λ p. p.value) (words_at s values h i)
       → ((x : ℕ) (w2 : World) → acted_at s values h i (counted_at s values h i w1) ≡ Gives x w2
+      → Matches env (after_result values i.result (poisoned_result by_formulas i.op (words_at s values h i) x w2)) (set_result u.names i.result x))
+      → (CallsOutside s.func i.op → (x : ℕ) (w2 : World)
       → Matches env (after_result values i.result (poisoned_result by_formulas i.op (words_at s values h i) x w2)) (set_result u.names i.result x))
       → (GoesOn (acted_at s values h i (counted_at s values h i w1)) → Matches env values u.names)
       → BeforeLaw s env base h i values v w

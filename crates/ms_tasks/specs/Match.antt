@@ -56,6 +56,7 @@ pub record RangedWorld (w : World) : Type 0 where
   pub placed : ArePlaced w.allocs
   pub origins : (c : ℕ) → w.origins c < 2 ^ 32
   pub pairs : length w.pairs ≤ pair_limit
+  pub answers : (k : ℕ) → w.answer_origins k < 2 ^ 32
 
 -- origins of words are numbers of 32 bits
 abbrev pub RangedValues : (Name → Poisoned) → Type 0

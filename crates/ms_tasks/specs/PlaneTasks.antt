@@ -1,5 +1,6 @@
 -- What sets shadow and origins of memory behind an instruction.
 use Rattle.std.specs.Prelude.{ℕ, ◌+◌, true, false, List, [], ◌∷◌, Option, Some, None, Bool, is_some}
+use Rattle.ms_bits.specs.declared.operations.Pred.TheVariants as pred
 use Rattle.ms_ir.specs.declared.syntax.Name.{Name}
 use Rattle.ms_ir.specs.declared.syntax.Ty.{Ty, Int, Ptr}
 use Rattle.ms_ir.specs.declared.syntax.Operand.TheVariants as operand
@@ -10,8 +11,8 @@ use Rattle.ms_runs.specs.World.{Here}
 use Rattle.ms_ir.specs.Code.{count_undefs, external_named}
 use Rattle.ms_ir.specs.declared.calls.RuntimeFn.TheVariants as function
 use Rattle.ms_ir.specs.declared.calls.External.{External}
-use Rattle.ms_ir.specs.declared.calls.External.TheVariants.{Malloc, Realloc, Memcpy, Memmove, Memset, Read, LlvmMemcpy, LlvmMemmove, LlvmMemset, LifetimeStart}
-use Rattle.ms_tasks.specs.Tasks.{msan_name, Expr, Task, Mul, Leaf, Two, Puts, Calls}
+use Rattle.ms_ir.specs.declared.calls.External.TheVariants.{Malloc, Realloc, Memcpy, Memmove, Memset, Read, LlvmMemcpy, LlvmMemmove, LlvmMemset, LifetimeStart, PthreadCreate, PthreadJoin}
+use Rattle.ms_tasks.specs.Tasks.{msan_name, Expr, Task, Mul, Leaf, Two, Puts, Calls, Test, Pick}
 use Rattle.ms_tasks.specs.Environments.{Env, Given, mask_type, Tracked, tracked_at, mask_of, origin_of, word_of, widened, number}
 use Rattle.ms_tasks.specs.ResultTasks.{shadow_address}
 use Rattle.ms_tasks.specs.SlotTasks.{take_result}
@@ -53,11 +54,20 @@ fill_task site a c n =
     ((Ptr, word_of a) ∷ (Int 64, word_of n) ∷ (Int 64, widened (width_of c.ty) (mask_of c)) ∷ (Int 32, origin_of c) ∷ (Int 32, number site) ∷ [])
     ∷ []
 
+-- how many bytes become clean where a fiber was made: 8 where 0 was answered, and else none
+abbrev pub made_size : Name → Expr
+made_size x = Pick (Test pred.Eq (Int 32) (Leaf (operand.Local x)) (number 0)) (Int 64) (number 8) (number 0)
+
 -- what becomes of shadow and origins behind an external
 abbrev pub external_tasks : (site root saved : ℕ) → Option Name → External → List Tracked → List Task
 external_tasks site root saved (Some x) Malloc ts = poison_task (Leaf (operand.Local x)) (number 0) (word_of (tracked_at 0 ts)) root
 external_tasks site root saved (Some x) Realloc ts = poison_task (Leaf (operand.Local x)) (Leaf (operand.Local (msan_name saved))) (word_of (tracked_at 1 ts)) root
 external_tasks site root saved (Some x) Read ts = Calls None function.Unpoison ((Ptr, word_of (tracked_at 1 ts)) ∷ (Int 64, Leaf (operand.Local x)) ∷ []) ∷ []
+external_tasks site root saved (Some x) PthreadCreate ts = Calls None function.Unpoison ((Ptr, word_of (tracked_at 0 ts)) ∷ (Int 64, made_size x) ∷ []) ∷ []
+external_tasks site root saved (Some x) PthreadJoin ts =
+    Calls None function.ThreadResult
+    ((Ptr, word_of (tracked_at 1 ts)) ∷ (Int 64, word_of (tracked_at 0 ts)) ∷ (Int 32, Leaf (operand.Local x)) ∷ (Int 32, number site) ∷ [])
+    ∷ []
 external_tasks site root saved r LifetimeStart ts = poison_task (word_of (tracked_at 1 ts)) (number 0) (word_of (tracked_at 0 ts)) root
 external_tasks site root saved r Memcpy ts = copy_task (tracked_at 0 ts) (tracked_at 1 ts) (tracked_at 2 ts)
 external_tasks site root saved r Memmove ts = copy_task (tracked_at 0 ts) (tracked_at 1 ts) (tracked_at 2 ts)

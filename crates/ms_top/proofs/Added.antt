@@ -2,6 +2,7 @@
 use Rattle.std.proofs.Common.{◌≡◌, inl, inr, ℕ, Bool, true, false, List, [], ◌++◌, length, map, eqb, if◌then◌else◌, Option, Some, None, Result, Ok, Err, refl, sym, ap, ◌∙◌, append-nil, subst}
 use Rattle.std.proofs.Math.Path.{ap₂}
 use Rattle.ms_ir.specs.declared.syntax.Module.{Module}
+use Rattle.ms_ir.specs.ThreadCalls.{is_threaded}
 use Rattle.ms_ir.specs.declared.forms.Form.{Form}
 use Rattle.ms_ir.specs.declared.forms.Form.TheVariants.{Plain}
 use Rattle.ms_runs.specs.declared.runs.RunResult.{RunResult}
@@ -27,7 +28,7 @@ use Rattle.ms_report.specs.ReportTexts.{report_text_of}
 use Rattle.ms_report.specs.RunTexts.{closing_of}
 use Rattle.ms_report.specs.WithLines.{Lines, no_lines, fault_site, reports_with, closing_text_with}
 use Rattle.ms_report.proofs.WithoutLines.{none_under, reports_alone, closing_alone}
-use Rattle.ms_report.proofs.Unindented.{reports_before, closing_left, fault_left, refusal_left}
+use Rattle.ms_report.proofs.Unindented.{reports_before, closing_left, fault_left, refusal_left, threads_left}
 use Rattle.ms_report.proofs.TrailLines.{trail_left}
 use Rattle.ms_words.specs.declared.commands.Command.{Command}
 use Rattle.ms_words.specs.declared.commands.Command.TheVariants.{Run, Check, Explain, Corpus}
@@ -37,7 +38,8 @@ use Rattle.ms_top.specs.Added.{with_locations, without_lines, without_any_lines,
 use Rattle.ms_top.specs.Command.{form_of, located_file, only_input, setup_of}
 use Rattle.ms_top.specs.Explained.{way_with, trace_with, followed, no_report, explained_with}
 use Rattle.ms_top.specs.Lines.{AreLinesIn, AreLines, fault_text_with}
-use Rattle.ms_top.specs.Said.{answer_of, run_text, says, status_of, IsAnswerToModule, IsAnswerToReading, IsAnswerToText}
+use Rattle.ms_top.specs.Runs.{plain_under}
+use Rattle.ms_top.specs.Said.{answer_of, answer_of_results, run_text, says, status_of, UnlessThreaded, IsExplanation, AreSections, IsAnswerToModule, IsAnswerToReading, IsAnswerToText}
 
 -- ---- lines
 
@@ -96,6 +98,11 @@ reading_left cause = ap unindented (sym (append-nil (refusal_text (Read cause)))
 
 -- ---- answers
 
+-- of a command that takes no schedule
+by_threads : (t : Bool) (P Q : Type 0) (a : Answer) → (P → Q) → UnlessThreaded t a P → UnlessThreaded t (without_any_lines a) Q
+by_threads true P Q a h is = ap without_any_lines is ∙ ap (says 5) (threads_left no_lines (λ site. none_indented))
+by_threads false P Q a h is = h is
+
 module _ (Gives : Module → Module → Type 0) where
   fault_said : (command : Command) (text : List ℕ) (m : Module) (under : Lines) (f : Fault) (a : Answer) → AreLines command text m under → a ≡ says 5 (fault_text_with under f)
       → without_lines a ≡ says 5 (fault_text_with no_lines f)
@@ -113,7 +120,7 @@ module _ (Gives : Module → Module → Type 0) where
     run_module : (m : Module) (under : Lines) (a : Answer) → AreLines (Run file (with_locations true o)) text m under → IsAnswerToModule Gives under (Run file (with_locations true o)) inputs m a
         → IsAnswerToModule Gives no_lines (Run file (with_locations false o)) inputs m (without_lines a)
     run_module m under a are (inl (f, refused, is)) = inl (f, refused, fault_said (Run file (with_locations true o)) text m under f a are is)
-    run_module m under a are (inr (valid, is)) = inr (valid, run_said (Run file (with_locations true o)) text m under false (plain m (setup_of o (only_input inputs))) a are is)
+    run_module m under a are (inr (valid, is)) = inr (valid, run_said (Run file (with_locations true o)) text m under false (plain_under (is_threaded m) m (setup_of o (only_input inputs)) o.schedule) a are is)
 
     run_reading : (r : Result Module ReadError) (a : Answer) → IsAnswerToReading Gives (Run file (with_locations true o)) inputs text r a
         → IsAnswerToReading Gives (Run file (with_locations false o)) inputs text r (without_lines a)
@@ -126,7 +133,7 @@ module _ (Gives : Module → Module → Type 0) where
         → IsAnswerToModule Gives no_lines (Check file (with_locations false o)) inputs m (without_lines a)
     check_module m under a are (inl (f, refused, is)) = inl (f, refused, fault_said (Check file (with_locations true o)) text m under f a are is)
     check_module m under a are (inr (valid, (j, gives, is))) =
-        inr (valid, (j, gives, run_said (Check file (with_locations true o)) text m under true (plain j (setup_of o (only_input inputs))) a are is))
+        inr (valid, (j, gives, run_said (Check file (with_locations true o)) text m under true (plain_under (is_threaded m) j (setup_of o (only_input inputs)) o.schedule) a are is))
 
     check_reading : (r : Result Module ReadError) (a : Answer) → IsAnswerToReading Gives (Check file (with_locations true o)) inputs text r a
         → IsAnswerToReading Gives (Check file (with_locations false o)) inputs text r (without_lines a)
@@ -135,23 +142,25 @@ module _ (Gives : Module → Module → Type 0) where
     check_reading (Err (e.Refused number w token place)) a is = reading_said (e.Refused number w token place) a is
     check_reading (Err e.NoMemory) a is = is
 
+    explain_alone : (m : Module) (under : Lines) (a : Answer) → AreLines (Explain file (with_locations true o)) text m under → IsExplanation Gives under (setup_of o (only_input inputs)) m a
+        → IsExplanation Gives no_lines (setup_of o (only_input inputs)) m (without_any_lines a)
+    explain_alone m under a are (j, gives, is) =
+        let s = setup_of o (only_input inputs) in
+        let r = plain j s in
+        let all = all_indented (located_file (Explain file (with_locations true o))) Plain text m under are in (
+          j,
+          gives,
+          ap without_any_lines is
+              ∙ ap₂ (λ (out err : List ℕ). answer_of (status_of r) out err) (explained_left under all m s r) (closing_left under all m r true ∙ sym (closing_alone m r true)),
+        )
+
     explain_module : (m : Module) (under : Lines) (a : Answer) → AreLines (Explain file (with_locations true o)) text m under → IsAnswerToModule Gives under (Explain file (with_locations true o)) inputs m a
         → IsAnswerToModule Gives no_lines (Explain file (with_locations false o)) inputs m (without_any_lines a)
     explain_module m under a are (inl (f, refused, is)) =
         inl (f, refused, ap (λ (x : Answer). record x { out = unindented x.out }) (fault_said (Explain file (with_locations true o)) text m under f a are is))
-    explain_module m under a are (inr (valid, (j, gives, is))) =
+    explain_module m under a are (inr (valid, is)) =
         let s = setup_of o (only_input inputs) in
-        let r = plain j s in
-        let all = all_indented (located_file (Explain file (with_locations true o))) Plain text m under are in
-        inr (
-          valid,
-          (
-            j,
-            gives,
-            ap without_any_lines is
-                ∙ ap₂ (λ (out err : List ℕ). answer_of (status_of r) out err) (explained_left under all m s r) (closing_left under all m r true ∙ sym (closing_alone m r true)),
-          ),
-        )
+        inr (valid, by_threads (is_threaded m) (IsExplanation Gives under s m a) (IsExplanation Gives no_lines s m (without_any_lines a)) a (explain_alone m under a are) is)
 
     explain_reading : (r : Result Module ReadError) (a : Answer) → IsAnswerToReading Gives (Explain file (with_locations true o)) inputs text r a
         → IsAnswerToReading Gives (Explain file (with_locations false o)) inputs text r (without_any_lines a)
@@ -165,8 +174,37 @@ module _ (Gives : Module → Module → Type 0) where
         → IsAnswerToModule Gives under (Corpus file names (with_locations true o) workers) inputs m a → CorpusAdds Gives file names o workers inputs text a
     corpus_module m under a reads are (inl (f, refused, is)) =
         inl (ap (λ x. x.out) is, (Ok m, reads, (no_lines, refl, inl (f, refused, fault_said (Corpus file names (with_locations true o) workers) text m under f a are is))))
-    corpus_module m under a reads are (inr (valid, (j, gives, is))) =
-        inr (m, under, are, map (λ input. plain j (setup_of o input)) inputs, is, (Ok m, reads, (no_lines, refl, inr (valid, (j, gives, refl)))))
+    corpus_module m under a reads are (inr (valid, is)) = by_each (is_threaded m) refl is
+      where
+        by_each : (t : Bool) → is_threaded m ≡ t → UnlessThreaded t a (AreSections Gives under names o inputs m a) → CorpusAdds Gives file names o workers inputs text a
+        by_each true threads is =
+            inl (
+              ap (λ x. x.out) is,
+              (
+                Ok m,
+                reads,
+                (
+                  no_lines,
+                  refl,
+                  inr (
+                    valid,
+                    subst (λ t. UnlessThreaded t (without_lines a) (AreSections Gives no_lines names o inputs m (without_lines a))) (sym threads)
+                        (ap without_lines is ∙ ap (says 5) (threads_left no_lines (λ site. none_indented))),
+                  ),
+                ),
+              ),
+            )
+        by_each false alone (j, gives, is) =
+            let rs = map (λ input. plain j (setup_of o input)) inputs in
+            let same = answer_of_results no_lines m names rs in
+            inr (
+              m,
+              under,
+              are,
+              rs,
+              is,
+              (Ok m, reads, (no_lines, refl, inr (valid, subst (λ t. UnlessThreaded t same (AreSections Gives no_lines names o inputs m same)) (sym alone) (j, gives, refl)))),
+            )
 
     corpus_reading : (r : Result Module ReadError) (a : Answer) → IsReading Plain text r → IsAnswerToReading Gives (Corpus file names (with_locations true o) workers) inputs text r a
         → CorpusAdds Gives file names o workers inputs text a

@@ -1,5 +1,5 @@
 -- Valid modules are never refused, and the output of `check` is a beginning of that of `run`.
-use Rattle.std.proofs.Common.{◌≡◌, ◌≢◌, ℕ, Bool, true, false, List, [], ◌∷◌, if◌then◌else◌, Some, Result, Ok, Err, refl, sym, subst, inl, inr}
+use Rattle.std.proofs.Common.{◌≡◌, ◌≢◌, ℕ, Bool, true, false, List, [], ◌∷◌, if◌then◌else◌, Some, Result, Ok, Err, refl, sym, subst, inl, inr, true≢false}
 use Rattle.ms_io.specs.Counts.{Rose}
 use Rattle.ms_io.specs.Reading.{Holdings, IsWholeFile}
 use Rattle.ms_ir.specs.declared.syntax.Module.{Module}
@@ -7,7 +7,7 @@ use Rattle.ms_ir.specs.declared.forms.Form.TheVariants.{Plain}
 use Rattle.ms_runs.specs.declared.runs.End.{End}
 use Rattle.ms_runs.specs.declared.runs.End.TheVariants.{Exit, Trap, Reported, Spent}
 use Rattle.ms_runs.specs.Faithful.{Fair, Prefix}
-use Rattle.ms_runs.specs.Plain.{plain}
+use Rattle.ms_ir.specs.ThreadCalls.{is_threaded}
 use Rattle.ms_read_body.specs.declared.errors.ReadError.{ReadError}
 use Rattle.ms_read_body.specs.declared.errors.ReadError.TheVariants as e
 use Rattle.ms_read_top.specs.Reading.{IsReading}
@@ -22,12 +22,15 @@ use Rattle.ms_words.specs.declared.commands.Command.TheVariants.{Instrument, Run
 use Rattle.ms_words.specs.declared.commands.Options.{Options}
 use Rattle.ms_words.specs.Words.{command_of}
 use Rattle.ms_top.specs.declared.answers.Answer.{Answer}
-use Rattle.ms_top.specs.Answered.{AreHeld, IsDoneStatus, Begins}
+use Rattle.ms_top.specs.Answered.{AreHeld, IsTaken, IsDoneStatus, Begins}
 use Rattle.ms_top.specs.Command.{form_of, files_of, only_input, setup_of}
 use Rattle.ms_top.specs.Files.{Counted, Whole, CanRead}
 use Rattle.ms_top.specs.Instrumented.{IsInstrumented}
 use Rattle.ms_top.specs.Lines.{AreLines}
-use Rattle.ms_top.specs.Said.{answer_of, end_status, IsAnswerOfGen, IsAnswerToValid, IsAnswerToModule, IsAnswerToReading, IsAnswerToText, IsAnswerToFiles, IsAnswerToCommand, IsAnswerFor, IsAnswer}
+use Rattle.ms_report.specs.RefusalTexts.{threads_text}
+use Rattle.ms_threads.specs.Faithful.{IsSchedule}
+use Rattle.ms_top.specs.Runs.{plain_under}
+use Rattle.ms_top.specs.Said.{answer_of, says, end_status, UnlessThreaded, IsExplanation, AreSections, IsAnswerOfGen, IsAnswerToValid, IsAnswerToModule, IsAnswerToReading, IsAnswerToText, IsAnswerToFiles, IsAnswerToCommand, IsAnswerFor, IsAnswer}
 use Rattle.ms_top.proofs.OneAnswer.{one_reading, one_read, memory_is_there}
 
 -- ---- a valid module is answered
@@ -101,41 +104,57 @@ all_done false true spent = inr (inl refl)
 all_done false false true = inr (inr (inl refl))
 all_done false false false = inl refl
 
+-- the answer of a command that takes no schedule, for a module without threads
+taken_done : (t : Bool) (a : Answer) (Is : Type 0) → t ≡ false → (Is → IsDoneStatus a.status) → UnlessThreaded t a Is → IsDoneStatus a.status
+taken_done false a Is alone h is = h is
+taken_done true a Is alone h is = absurd (true≢false alone)
+
 gen_done : (run : Bool) (m : Module) (a : Answer) → IsAnswerOfGen IsInstrumented run m a → IsDoneStatus a.status
 gen_done true m a (j, gives, is) = done a _ _ _ is (run_done _ _)
 gen_done false m a is = done a 0 _ _ is (inl refl)
 
-pub valid_done : (under : Lines) (command : Command) (inputs : List (List ℕ)) (m : Module) (a : Answer) → IsAnswerToValid IsInstrumented under command inputs m a → IsDoneStatus a.status
-valid_done under (Instrument file) inputs m a (j, gives, is) = done a 0 _ _ is (inl refl)
-valid_done under (Run file o) inputs m a is = done a _ _ _ is (run_done _ _)
-valid_done under (Check file o) inputs m a (j, gives, is) = done a _ _ _ is (run_done _ _)
-valid_done under (Explain file o) inputs m a (j, gives, is) = done a _ _ _ is (run_done _ _)
-valid_done under (Corpus file names o workers) inputs m a (j, gives, is) = done a _ _ _ is (all_done _ _ _)
-valid_done under (Gen seed functions run) inputs m a is = gen_done run m a is
-valid_done under Help inputs m a is = done a 0 _ _ is (inl refl)
-valid_done under Version inputs m a is = done a 0 _ _ is (inl refl)
+pub valid_done : (under : Lines) (command : Command) (inputs : List (List ℕ)) (m : Module) (a : Answer) → IsTaken command m → IsAnswerToValid IsInstrumented under command inputs m a → IsDoneStatus a.status
+valid_done under (Instrument file) inputs m a taken (j, gives, is) = done a 0 _ _ is (inl refl)
+valid_done under (Run file o) inputs m a taken is = done a _ _ _ is (run_done _ _)
+valid_done under (Check file o) inputs m a taken (j, gives, is) = done a _ _ _ is (run_done _ _)
+valid_done under (Explain file o) inputs m a alone is =
+    taken_done (is_threaded m) a (IsExplanation IsInstrumented under (setup_of o (only_input inputs)) m a) alone (λ h. done a _ _ _ h.2 (run_done _ _)) is
+valid_done under (Corpus file names o workers) inputs m a alone is =
+    taken_done (is_threaded m) a (AreSections IsInstrumented under names o inputs m a) alone (λ h. done a _ _ _ h.2 (all_done _ _ _)) is
+valid_done under (Gen seed functions run) inputs m a taken is = gen_done run m a is
+valid_done under Help inputs m a taken is = done a 0 _ _ is (inl refl)
+valid_done under Version inputs m a taken is = done a 0 _ _ is (inl refl)
+
+-- a module with threads is refused by the others
+pub explain_refused : (under : Lines) (file : List ℕ) (o : Options) (inputs : List (List ℕ)) (m : Module) (a : Answer) → is_threaded m ≡ true
+    → IsAnswerToValid IsInstrumented under (Explain file o) inputs m a → a ≡ says 5 threads_text
+explain_refused under file o inputs m a threads is = subst (λ t. UnlessThreaded t a (IsExplanation IsInstrumented under (setup_of o (only_input inputs)) m a)) threads is
+
+pub corpus_refused : (under : Lines) (file : List ℕ) (names : List (List ℕ)) (o : Options) (workers : ℕ) (inputs : List (List ℕ)) (m : Module) (a : Answer) → is_threaded m ≡ true
+    → IsAnswerToValid IsInstrumented under (Corpus file names o workers) inputs m a → a ≡ says 5 threads_text
+corpus_refused under file names o workers inputs m a threads is = subst (λ t. UnlessThreaded t a (AreSections IsInstrumented under names o inputs m a)) threads is
 
 -- ---- `check` and `run`
 
-pub valid_begins : (under below : Lines) (file name : List ℕ) (inputs : List (List ℕ)) (o : Options) (m : Module) (a b : Answer) → Fair (setup_of o (only_input inputs))
+pub valid_begins : (under below : Lines) (file name : List ℕ) (inputs : List (List ℕ)) (o : Options) (m : Module) (a b : Answer) → Fair (setup_of o (only_input inputs)) → IsSchedule o.schedule
     → IsAnswerToValid IsInstrumented under (Check file o) inputs m a → IsAnswerToValid IsInstrumented below (Run name o) inputs m b → Begins m a b
-valid_begins under below file name inputs o m a b fair (j, made, is) same =
+valid_begins under below file name inputs o m a b fair some (j, made, is) same =
     let s = setup_of o (only_input inputs) in
-    let undisturbed = made.undisturbed s fair in
+    let undisturbed = made.undisturbed s fair o.schedule some in
     record {
-      checked = plain j s;
-      plainly = plain m s;
+      checked = plain_under (is_threaded m) j s o.schedule;
+      plainly = plain_under (is_threaded m) m s o.schedule;
       under = under;
       below = below;
       check = is;
       run = same;
       undisturbed = undisturbed;
-      output = subst (λ x. Prefix x.out b.out) (sym is) (subst (λ x. Prefix (plain j s).output x.out) (sym same) undisturbed.output);
+      output = subst (λ x. Prefix x.out b.out) (sym is) (subst (λ x. Prefix (plain_under (is_threaded m) j s o.schedule).output x.out) (sym same) undisturbed.output);
     }
 
-pub text_begins : (file name : List ℕ) (inputs : List (List ℕ)) (o : Options) (text : List ℕ) (m : Module) (a b : Answer) → Fair (setup_of o (only_input inputs))
+pub text_begins : (file name : List ℕ) (inputs : List (List ℕ)) (o : Options) (text : List ℕ) (m : Module) (a b : Answer) → Fair (setup_of o (only_input inputs)) → IsSchedule o.schedule
     → Reads Plain text m → Valid m → IsAnswerToText IsInstrumented (Check file o) inputs text a → IsAnswerToText IsInstrumented (Run name o) inputs text b → Begins m a b
-text_begins file name inputs o text m a b fair reads valid p q =
+text_begins file name inputs o text m a b fair some reads valid p q =
     let checked = text_answered (Check file o) inputs text m a reads valid p in
     let ran = text_answered (Run name o) inputs text m b (plain_is_instrumented text m reads) valid q in
-    valid_begins checked.0 ran.0 file name inputs o m a b fair checked.2 ran.2
+    valid_begins checked.0 ran.0 file name inputs o m a b fair some checked.2 ran.2

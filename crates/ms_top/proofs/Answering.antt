@@ -1,5 +1,5 @@
 -- From what the parts of an answer are to what the answer is.
-use Rattle.std.proofs.Common.{◌≡◌, ◌≢◌, ℕ, suc, ◌^◌, ◌<◌, ◌≤◌, true, false, List, [], ◌∷◌, ◌++◌, length, append-nil, Option, Some, None, Result, Ok, Err, refl, ap, sym, ◌∙◌, subst, inl, inr, arith}
+use Rattle.std.proofs.Common.{◌≡◌, ◌≢◌, ℕ, Bool, suc, ◌^◌, ◌<◌, ◌≤◌, true, false, List, [], ◌∷◌, ◌++◌, length, append-nil, Option, Some, None, Result, Ok, Err, refl, ap, ap₂, sym, ◌∙◌, subst, inl, inr, arith}
 use Rattle.std.specs.Prelude.{get_or, map, slice_index_or, nat_lt, is_some, is_none, IfSome, IsTrue}
 use Rattle.std.proofs.lemmas.Bool.{true≢false, and_from, lt-ltb}
 use Rattle.ms_lex.specs.declared.errors.LexError.{LexError}
@@ -7,6 +7,7 @@ use Rattle.ms_lex.specs.declared.errors.LexError.TheVariants as lexing
 use Rattle.ms_lex.specs.declared.kinds.Token.{Token}
 use Rattle.ms_lex.specs.Tokens.{tokens_of}
 use Rattle.ms_ir.specs.declared.syntax.Module.{Module}
+use Rattle.ms_ir.specs.ThreadCalls.{is_threaded}
 use Rattle.ms_runs.specs.declared.runs.RunResult.{RunResult}
 use Rattle.ms_runs.specs.declared.runs.Setup.{Setup}
 use Rattle.ms_runs.specs.Plain.{plain}
@@ -45,9 +46,12 @@ use Rattle.ms_corpus.specs.Jobs.{with_input}
 use Rattle.ms_top.specs.Parts.{AreShort, AreWithinLimits, IsReady, IsRunOfGiven, AreRunsOfGiven}
 use Rattle.ms_report.specs.FaultTexts.{fault_line}
 use Rattle.ms_report.specs.WithLines.{Lines, no_lines, under_line, fault_site, refusal_text_with}
-use Rattle.ms_report.specs.RefusalTexts.{IsNumbered, IsReadRefusal, HasLine, refusal_text, wants_memory}
+use Rattle.ms_report.specs.RefusalTexts.{IsNumbered, IsReadRefusal, HasLine, refusal_text, threads_text, wants_memory}
 use Rattle.ms_words.specs.Words.{defaults}
-use Rattle.ms_top.specs.Said.{says, answer_of, answer_of_result, answer_of_results, status_of, summary_of, IsAnswerOfCheck, IsAnswerOfCorpus, IsAnswerOfGen, IsAnswerToValid, IsAnswerToModule, IsAnswerToReading, IsAnswerToText}
+use Rattle.ms_threads.specs.Faithful.{IsSchedule}
+use Rattle.ms_top.specs.Runs.{plain_under}
+use Rattle.ms_report.specs.SummaryTexts.{summary_of}
+use Rattle.ms_top.specs.Said.{says, answer_of, answer_of_result, answer_of_results, status_of, UnlessThreaded, IsAnswerOfCheck, AreSections, IsAnswerOfGen, IsAnswerToValid, IsAnswerToModule, IsAnswerToReading, IsAnswerToText}
 
 -- ---- runs
 
@@ -62,20 +66,40 @@ within o input s fit short is = subst RunFits (sym is) (record {
   reports = fit.reports;
 })
 
+-- its schedule isn't empty
+pub scheduled : (o : Options) (schedule : List ℕ) → RunsWithinLimits o → schedule ≡ o.schedule → IsSchedule schedule
+scheduled o schedule fit is = let some : 1 ≤ length schedule = subst (λ bytes. 1 ≤ length bytes) (sym is) fit.scheduled in omega (arith, some)
+
+-- ---- threads
+
+-- a module with threads is refused, and one without is answered
+pub threads_refused : (m : Module) (a : Answer) (Is : Type 0) → is_threaded m ≡ true → a ≡ says 5 threads_text → UnlessThreaded (is_threaded m) a Is
+threads_refused m a Is threads is = subst (λ t. UnlessThreaded t a Is) (sym threads) is
+
+pub alone_answered : (m : Module) (a : Answer) (Is : Type 0) → is_threaded m ≡ false → Is → UnlessThreaded (is_threaded m) a Is
+alone_answered m a Is alone is = subst (λ t. UnlessThreaded t a Is) (sym alone) is
+
 -- ---- valid modules
 
+-- the run of the module as it is
+pub run_answer : (under : Lines) (m n : Module) (threads : Bool) (s t : Setup) (schedule picks : List ℕ) (r : RunResult) (a : Answer) → n ≡ m → threads ≡ is_threaded m → s ≡ t → schedule ≡ picks
+    → r ≡ plain_under threads m s schedule → a ≡ answer_of_result under false n r → a ≡ answer_of_result under false m (plain_under (is_threaded m) m t picks)
+run_answer under m n threads s t schedule picks r a same known given alike runs is =
+    let run : r ≡ plain_under (is_threaded m) m t picks = runs ∙ ap (λ b. plain_under b m s schedule) known ∙ ap₂ (plain_under (is_threaded m) m) given alike in
+    is ∙ ap (λ k. answer_of_result under false k r) same ∙ ap (answer_of_result under false m) run
+
 pub check_valid : (Gives : Module → Module → Type 0) (under : Lines) (command : Command) (file : List ℕ) (o : Options) (inputs : List (List ℕ)) (m : Module) (a : Answer) → command ≡ Check file o
-    → IsAnswerOfCheck Gives under (setup_of o (only_input inputs)) m a → IsAnswerToValid Gives under command inputs m a
+    → IsAnswerOfCheck Gives under (setup_of o (only_input inputs)) o.schedule m a → IsAnswerToValid Gives under command inputs m a
 check_valid Gives under command file o inputs m a is answers = subst (λ c. IsAnswerToValid Gives under c inputs m a) (sym is) answers
 
-pub check_answer : (Gives : Module → Module → Type 0) (under : Lines) (m n : Module) (s t : Setup) (r : RunResult) (a : Answer) → n ≡ m → s ≡ t → IsRunOfGiven Gives m s r → a ≡ answer_of_result under true n r
-    → IsAnswerOfCheck Gives under t m a
-check_answer Gives under m n s t r a same given q is =
-    (q.0, q.1, is ∙ ap (λ k. answer_of_result under true k r) same ∙ ap (answer_of_result under true m) (q.2 ∙ ap (plain q.0) given))
+pub check_answer : (Gives : Module → Module → Type 0) (under : Lines) (m n : Module) (s t : Setup) (schedule picks : List ℕ) (r : RunResult) (a : Answer) → n ≡ m → s ≡ t → schedule ≡ picks
+    → IsRunOfGiven Gives m s schedule r → a ≡ answer_of_result under true n r → IsAnswerOfCheck Gives under t picks m a
+check_answer Gives under m n s t schedule picks r a same given alike q is =
+    (q.0, q.1, is ∙ ap (λ k. answer_of_result under true k r) same ∙ ap (answer_of_result under true m) (q.2 ∙ ap₂ (plain_under (is_threaded m) q.0) given alike))
 
 -- the runs on many inputs
 pub corpus_answer : (Gives : Module → Module → Type 0) (under : Lines) (m n : Module) (names : List (List ℕ)) (o : Options) (s : Setup) (inputs : List (List ℕ)) (rs : List RunResult) (a : Answer) → n ≡ m → s ≡ setup_of o []
-    → AreRunsOfGiven Gives m s inputs rs → a ≡ answer_of_results under n names rs → IsAnswerOfCorpus Gives under names o inputs m a
+    → AreRunsOfGiven Gives m s inputs rs → a ≡ answer_of_results under n names rs → AreSections Gives under names o inputs m a
 corpus_answer Gives under m n names o s inputs rs a same given q is =
     let runs : rs ≡ map (λ input. plain q.0 (setup_of o input)) inputs = q.2 ∙ ap (λ t. map (λ input. plain q.0 (with_input t input)) inputs) given in
     (q.0, q.1, is ∙ ap (λ k. answer_of_results under k names rs) same ∙ ap (answer_of_results under m names) runs)
@@ -90,10 +114,10 @@ only_short [] short = omega arith
 only_short (input ∷ rest) short = short 0 [] (omega arith)
 
 -- the summary of that run
-pub summary_answer : (Gives : Module → Module → Type 0) (m n : Module) (s : Setup) (r : RunResult) (a : Answer) → n ≡ m → s ≡ setup_of defaults [] → IsRunOfGiven Gives m s r → a ≡ answer_of (status_of r) (summary_of n r) []
-    → IsAnswerOfGen Gives true m a
-summary_answer Gives m n s r a same given q is =
-    let run : r ≡ plain q.0 (setup_of defaults []) = q.2 ∙ ap (plain q.0) given in
+pub summary_answer : (Gives : Module → Module → Type 0) (m n : Module) (s : Setup) (schedule : List ℕ) (r : RunResult) (a : Answer) → n ≡ m → s ≡ setup_of defaults [] → schedule ≡ defaults.schedule
+    → IsRunOfGiven Gives m s schedule r → a ≡ answer_of (status_of r) (summary_of n r) [] → IsAnswerOfGen Gives true m a
+summary_answer Gives m n s schedule r a same given picks q is =
+    let run : r ≡ plain_under (is_threaded m) q.0 (setup_of defaults []) defaults.schedule = q.2 ∙ ap₂ (plain_under (is_threaded m) q.0) given picks in
     (q.0, q.1, is ∙ ap (λ k. answer_of (status_of r) (summary_of k r) []) same ∙ ap (λ x. answer_of (status_of x) (summary_of m x) []) run)
 
 -- ---- validity

@@ -3,6 +3,7 @@ use Rattle.std.proofs.Common.{◌≡◌, ◌≢◌, ◌∙◌, ◌<◌, ◌≤�
 use Rattle.std.specs.Prelude.{reverse}
 use Rattle.std.proofs.lemmas.Bool.{leb-true, leb-false, ne_eqb}
 use Rattle.ms_ir.specs.declared.syntax.Module.{Module}
+use Rattle.ms_ir.specs.ThreadCalls.{is_threaded}
 use Rattle.ms_runs.specs.declared.runs.End.TheVariants.{Reported}
 use Rattle.ms_runs.specs.declared.runs.Report.{Report}
 use Rattle.ms_runs.specs.declared.runs.RunResult.{RunResult}
@@ -37,7 +38,9 @@ use Rattle.ms_top.specs.Explained.{CanLead, explained_with, followed, no_report,
 use Rattle.ms_top.specs.Instrumented.{IsInstrumented}
 use Rattle.ms_top.specs.Parts.{IsRunOfGiven}
 use Rattle.ms_top.specs.Promised.{ShowsWay}
-use Rattle.ms_top.specs.Said.{answer_of_explained, IsAnswerOfExplain, IsAnswerToValid}
+use Rattle.ms_top.specs.Runs.{plain_under}
+use Rattle.ms_top.specs.Said.{answer_of_explained, IsExplanation, IsAnswerOfExplain, IsAnswerToValid}
+use Rattle.ms_top.proofs.Faithful.{alone_says, runs_alone}
 
 -- ---- answers
 
@@ -45,10 +48,11 @@ pub explain_valid : (Gives : Module → Module → Type 0) (under : Lines) (comm
     → IsAnswerOfExplain Gives under (setup_of o (only_input inputs)) m a → IsAnswerToValid Gives under command inputs m a
 explain_valid Gives under command file o inputs m a is answers = subst (λ c. IsAnswerToValid Gives under c inputs m a) (sym is) answers
 
-pub explain_answer : (Gives : Module → Module → Type 0) (under : Lines) (m : Module) (s t : Setup) (r : RunResult) (a : Answer) → s ≡ t → IsRunOfGiven Gives m s r → a ≡ answer_of_explained under m s r
-    → IsAnswerOfExplain Gives under t m a
-explain_answer Gives under m s t r a given q is =
-    (q.0, q.1, is ∙ ap (λ u. answer_of_explained under m u r) given ∙ ap (answer_of_explained under m t) (q.2 ∙ ap (plain q.0) given))
+pub explain_answer : (Gives : Module → Module → Type 0) (under : Lines) (m : Module) (s t : Setup) (schedule : List ℕ) (r : RunResult) (a : Answer) → is_threaded m ≡ false → s ≡ t → IsRunOfGiven Gives m s schedule r
+    → a ≡ answer_of_explained under m s r → IsExplanation Gives under t m a
+explain_answer Gives under m s t schedule r a alone given q is =
+    let run : r ≡ plain q.0 s = subst (λ b. r ≡ plain_under b q.0 s schedule) alone q.2 in
+    (q.0, q.1, is ∙ ap (λ u. answer_of_explained under m u r) given ∙ ap (answer_of_explained under m t) (run ∙ ap (plain q.0) given))
 
 -- ---- ways
 
@@ -60,14 +64,14 @@ many_moves : (moves : List Move) → leb (length moves) move_limit ≡ false →
 unfolding move_limit
 many_moves moves many = leb-false (length moves) 4194304 many
 
-found_leads : (m : Module) (s : Setup) (moves : List Move) (at : Source) → moves_of.trace m s ≡ moves_of.Found moves at → (few : Bool) → leb (length moves) move_limit ≡ few
+found_leads : (m : Module) → is_threaded m ≡ false → (s : Setup) (moves : List Move) (at : Source) → moves_of.trace m s ≡ moves_of.Found moves at → (few : Bool) → leb (length moves) move_limit ≡ few
     → CanLead (if few then Found moves at else TooLong (length moves))
-found_leads m s moves at traced true few = let kept = few_kept moves few in (ordered m s moves at traced, omega (arith, kept))
-found_leads m s moves at traced false many = tt
+found_leads m alone s moves at traced true few = let kept = few_kept moves few in (ordered m alone s moves at traced, omega (arith, kept))
+found_leads m alone s moves at traced false many = tt
 
-trace_leads : (m : Module) (s : Setup) (t : moves_of.Trace) → moves_of.trace m s ≡ t → CanLead (limited t)
-trace_leads m s moves_of.NoReport traced = tt
-trace_leads m s (moves_of.Found moves at) traced = found_leads m s moves at traced (leb (length moves) move_limit) refl
+trace_leads : (m : Module) → is_threaded m ≡ false → (s : Setup) (t : moves_of.Trace) → moves_of.trace m s ≡ t → CanLead (limited t)
+trace_leads m alone s moves_of.NoReport traced = tt
+trace_leads m alone s (moves_of.Found moves at) traced = found_leads m alone s moves at traced (leb (length moves) move_limit) refl
 
 followed_is : (m : Module) (s : Setup) (moves : List Move) (at : Source) → moves_of.trace m s ≡ moves_of.Found moves at
     → followed m s ≡ (if leb (length moves) move_limit then Found moves at else TooLong (length moves))
@@ -75,8 +79,8 @@ unfolding followed
 followed_is m s moves at traced = ap limited traced
 
 -- over the moves that are found a way can be looked for
-pub can_lead : (m : Module) (s : Setup) (found : Trace) → found ≡ limited (moves_of.trace m s) → CanLead found
-can_lead m s found is = subst CanLead (sym is) (trace_leads m s (moves_of.trace m s) refl)
+pub can_lead : (m : Module) → is_threaded m ≡ false → (s : Setup) (found : Trace) → found ≡ limited (moves_of.trace m s) → CanLead found
+can_lead m alone s found is = subst CanLead (sym is) (trace_leads m alone s (moves_of.trace m s) refl)
 
 -- the lines of what following a run comes to
 pub run_lines : (under : Lines) (m n : Module) (s : Setup) (found : Trace) (text : List ℕ) → n ≡ m → found ≡ limited (moves_of.trace m s) → text ≡ trace_with under n found → text ≡ trace_with under m (followed m s)
@@ -94,9 +98,9 @@ none_counted [] some = absurd (some refl)
 none_counted (r ∷ rs) some = ne_eqb (length (r ∷ rs)) 0 (λ z. omega (arith, z))
 
 -- the way from a root that was reached is the one that is found
-way_found : (m : Module) (s : Setup) (moves : List Move) (at : Source) → moves_of.trace m s ≡ moves_of.Found moves at → (way : FromReached m (to_first_report s) moves at) → trail_of moves at ≡ Some way.hops
-way_found m s moves at traced way =
-    leads_trail moves (ordered m s moves at traced) at way.hops
+way_found : (m : Module) → is_threaded m ≡ false → (s : Setup) (moves : List Move) (at : Source) → moves_of.trace m s ≡ moves_of.Found moves at → (way : FromReached m (to_first_report s) moves at) → trail_of moves at ≡ Some way.hops
+way_found m alone s moves at traced way =
+    leads_trail moves (ordered m alone s moves at traced) at way.hops
     (more_roots (λ id. IsReached m way.walk id ⊎ IsOperand m way.walk.state id) (λ n. Unit {0}) (λ n root. tt) moves at (reverse way.hops) way.leads)
 
 module _ (under : Lines) (m : Module) (s : Setup) where
@@ -104,18 +108,18 @@ module _ (under : Lines) (m : Module) (s : Setup) where
   reports = reports_with under m 1 (shadow m s).reports
 
   -- the text where some moves are found
-  text_shown : (moves : List Move) (at : Source) → moves_of.trace m s ≡ moves_of.Found moves at → (few : Bool) → leb (length moves) move_limit ≡ few
+  text_shown : is_threaded m ≡ false → (moves : List Move) (at : Source) → moves_of.trace m s ≡ moves_of.Found moves at → (few : Bool) → leb (length moves) move_limit ≡ few
       → (text : List ℕ) → text ≡ reports ++ trace_with under m (if few then Found moves at else TooLong (length moves)) → ShowsWay under m s text
-  text_shown moves at traced true few text is =
-      let way = some_way m s moves at traced in
-      record { moves = moves; at = at; traced = traced; shown = inr (few_kept moves few, way, is ∙ ap (λ (found : Option (List Hop)). reports ++ way_with under m moves at found) (way_found m s moves at traced way)) }
-  text_shown moves at traced false many text is = record { moves = moves; at = at; traced = traced; shown = inl (many_moves moves many, is) }
+  text_shown alone moves at traced true few text is =
+      let way = some_way m alone s moves at traced in
+      record { moves = moves; at = at; traced = traced; shown = inr (few_kept moves few, way, is ∙ ap (λ (found : Option (List Hop)). reports ++ way_with under m moves at found) (way_found m alone s moves at traced way)) }
+  text_shown alone moves at traced false many text is = record { moves = moves; at = at; traced = traced; shown = inl (many_moves moves many, is) }
 
   -- what is said of a run with a report shows the way of its bits
-  pub shows_way : (text : List ℕ) → text ≡ explained_with under m s (shadow m s) → (shadow m s).reports ≢ [] → ShowsWay under m s text
-  shows_way text is some =
+  pub shows_way : is_threaded m ≡ false → (text : List ℕ) → text ≡ explained_with under m s (shadow m s) → (shadow m s).reports ≢ [] → ShowsWay under m s text
+  shows_way alone text is some =
       let found = where_reported m s (reported m s some) in
-      text_shown found.0 found.1 found.2 (leb (length found.0) move_limit) refl text
+      text_shown alone found.0 found.1 found.2 (leb (length found.0) move_limit) refl text
       (is ∙ ap (λ (none : Bool). if none then no_report else reports ++ trace_with under m (followed m s)) (none_counted (shadow m s).reports some)
       ∙ ap (λ (t : Trace). reports ++ trace_with under m t) (followed_is m s found.0 found.1 found.2))
 
@@ -127,20 +131,25 @@ module _ (under : Lines) (m : Module) (s : Setup) where
 -- ---- where the pass gives faithful modules
 
 pub explains_shadow : (Gives : Module → Module → Type 0) (under : Lines) (file : List ℕ) (inputs : List (List ℕ)) (o : Options) (m : Module) (a : Answer) → ((j : Module) → Gives m j → Faithful m j)
-    → let s = setup_of o (only_input inputs) in Fair s → IsAnswerToValid Gives under (Explain file o) inputs m a → a ≡ answer_of_explained under m s (shadow m s)
-explains_shadow Gives under file inputs o m a faithful fair (j, gives, is) =
-    let s = setup_of o (only_input inputs) in is ∙ ap (answer_of_explained under m s) ((faithful j gives).runs s fair)
+    → is_threaded m ≡ false → let s = setup_of o (only_input inputs) in Fair s → IsAnswerToValid Gives under (Explain file o) inputs m a → a ≡ answer_of_explained under m s (shadow m s)
+explains_shadow Gives under file inputs o m a faithful alone fair is =
+    let s = setup_of o (only_input inputs) in
+    let h = alone_says m a (IsExplanation Gives under s m a) alone is in
+    h.2 ∙ ap (answer_of_explained under m s) ((faithful h.0 h.1).runs s fair)
 
-pub explained_shadow : (under : Lines) (file : List ℕ) (inputs : List (List ℕ)) (o : Options) (m : Module) (a : Answer) → let s = setup_of o (only_input inputs) in Fair s
+pub explained_shadow : (under : Lines) (file : List ℕ) (inputs : List (List ℕ)) (o : Options) (m : Module) (a : Answer) → is_threaded m ≡ false → let s = setup_of o (only_input inputs) in Fair s
     → IsAnswerToValid IsInstrumented under (Explain file o) inputs m a → a ≡ answer_of_explained under m s (shadow m s)
-explained_shadow under file inputs o m a fair answers = explains_shadow IsInstrumented under file inputs o m a (λ j made. made.faithful) fair answers
+explained_shadow under file inputs o m a alone fair is =
+    let s = setup_of o (only_input inputs) in
+    let h = alone_says m a (IsExplanation IsInstrumented under s m a) alone is in
+    h.2 ∙ ap (answer_of_explained under m s) (runs_alone m h.0 h.1 alone s fair)
 
-pub explained_way : (under : Lines) (file : List ℕ) (inputs : List (List ℕ)) (o : Options) (m : Module) (a : Answer) → let s = setup_of o (only_input inputs) in Fair s
+pub explained_way : (under : Lines) (file : List ℕ) (inputs : List (List ℕ)) (o : Options) (m : Module) (a : Answer) → is_threaded m ≡ false → let s = setup_of o (only_input inputs) in Fair s
     → IsAnswerToValid IsInstrumented under (Explain file o) inputs m a → (shadow m s).reports ≢ [] → ShowsWay under m s a.out
-explained_way under file inputs o m a fair answers some =
-    shows_way under m (setup_of o (only_input inputs)) a.out (ap (λ x. x.out) (explained_shadow under file inputs o m a fair answers)) some
+explained_way under file inputs o m a alone fair answers some =
+    shows_way under m (setup_of o (only_input inputs)) alone a.out (ap (λ x. x.out) (explained_shadow under file inputs o m a alone fair answers)) some
 
-pub explained_none : (under : Lines) (file : List ℕ) (inputs : List (List ℕ)) (o : Options) (m : Module) (a : Answer) → let s = setup_of o (only_input inputs) in Fair s
+pub explained_none : (under : Lines) (file : List ℕ) (inputs : List (List ℕ)) (o : Options) (m : Module) (a : Answer) → is_threaded m ≡ false → let s = setup_of o (only_input inputs) in Fair s
     → IsAnswerToValid IsInstrumented under (Explain file o) inputs m a → (shadow m s).reports ≡ [] → a.out ≡ no_report
-explained_none under file inputs o m a fair answers none =
-    shows_none under m (setup_of o (only_input inputs)) a.out (ap (λ x. x.out) (explained_shadow under file inputs o m a fair answers)) none
+explained_none under file inputs o m a alone fair answers none =
+    shows_none under m (setup_of o (only_input inputs)) a.out (ap (λ x. x.out) (explained_shadow under file inputs o m a alone fair answers)) none

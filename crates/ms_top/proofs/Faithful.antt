@@ -1,9 +1,11 @@
 -- Where the pass gives faithful modules, what `check` runs is the shadow run of the module.
-use Rattle.std.proofs.Common.{◌≡◌, ℕ, true, ◌^◌, ◌<◌, ◌≤◌, List, [], length, refl, ap, ◌∙◌, subst, arith}
+use Rattle.std.proofs.Common.{◌≡◌, ℕ, true, false, ◌^◌, ◌<◌, ◌≤◌, List, [], length, refl, ap, ◌∙◌, subst, arith}
 use Rattle.std.specs.Prelude.{All, map, suc, ◌∷◌}
 use Rattle.std.proofs.Math.Path.{ap₂}
 use Rattle.std.proofs.lemmas.List.Elements.{All-cons, All-nil}
 use Rattle.ms_ir.specs.declared.syntax.Module.{Module}
+use Rattle.ms_ir.specs.ThreadCalls.{is_threaded}
+use Rattle.ms_runs.specs.declared.runs.Setup.{Setup}
 use Rattle.ms_runs.specs.Plain.{plain}
 use Rattle.ms_runs.specs.Shadow.{shadow}
 use Rattle.ms_runs.specs.Faithful.{Fair}
@@ -16,7 +18,10 @@ use Rattle.ms_words.specs.Words.{defaults}
 use Rattle.ms_report.specs.WithLines.{Lines}
 use Rattle.ms_top.specs.Command.{input_limit, only_input, setup_of}
 use Rattle.ms_top.specs.Instrumented.{IsInstrumented}
-use Rattle.ms_top.specs.Said.{answer_of, answer_of_result, answer_of_results, status_of, summary_of, IsAnswerOfGen, IsAnswerToValid}
+use Rattle.ms_threads.specs.Faithful.{IsSchedule}
+use Rattle.ms_top.specs.Runs.{plain_under, shadow_under, HoldsUnder}
+use Rattle.ms_report.specs.SummaryTexts.{summary_of}
+use Rattle.ms_top.specs.Said.{answer_of, answer_of_result, answer_of_results, status_of, UnlessThreaded, AreSections, IsAnswerOfGen, IsAnswerToValid}
 
 abbrev IsByte : ℕ → Type 0
 IsByte b = b < 2 ^ 8
@@ -43,30 +48,47 @@ fair_options o input fit short bytes = record {
   reports = fit.reports;
 }
 
-pub shadow_answer : (under : Lines) (file : List ℕ) (inputs : List (List ℕ)) (o : Options) (m : Module) (a : Answer) → let s = setup_of o (only_input inputs) in Fair s → IsAnswerToValid IsInstrumented under (Check file o) inputs m a
-    → a ≡ answer_of_result under true m (shadow m s)
-shadow_answer under file inputs o m a fair (j, made, is) = is ∙ ap (answer_of_result under true m) (made.faithful.runs (setup_of o (only_input inputs)) fair)
+-- ---- modules without threads
 
-pub under_fills : (under : Lines) (file : List ℕ) (inputs : List (List ℕ)) (o : Options) (m : Module) (a : Answer) → let s = setup_of o (only_input inputs) in Fair s → IsAnswerToValid IsInstrumented under (Check file o) inputs m a
-    → HoldsUnderFills m s (shadow m s)
-under_fills under file inputs o m a fair (j, made, is) =
-    let s = setup_of o (only_input inputs) in subst (HoldsUnderFills m s) (made.faithful.runs s fair) (made.holds s fair)
+-- the answer of a command that takes no schedule
+pub alone_says : (m : Module) (a : Answer) (Is : Type 0) → is_threaded m ≡ false → UnlessThreaded (is_threaded m) a Is → Is
+alone_says m a Is alone is = subst (λ t. UnlessThreaded t a Is) alone is
+
+pub runs_alone : (m j : Module) → IsInstrumented m j → is_threaded m ≡ false → (s : Setup) → Fair s → plain j s ≡ shadow m s
+runs_alone m j made alone s fair = subst (λ t. plain_under t j s (0 ∷ []) ≡ shadow_under t m s (0 ∷ [])) alone (made.runs s fair (0 ∷ []) (omega arith))
+
+pub holds_alone : (m j : Module) → IsInstrumented m j → is_threaded m ≡ false → (s : Setup) → Fair s → HoldsUnderFills m s (shadow m s)
+holds_alone m j made alone s fair =
+    subst (HoldsUnderFills m s) (runs_alone m j made alone s fair) (subst (λ t. HoldsUnder t m s (0 ∷ []) (plain_under t j s (0 ∷ []))) alone (made.holds s fair (0 ∷ []) (omega arith)))
+
+-- ---- checks
+
+pub shadow_answer : (under : Lines) (file : List ℕ) (inputs : List (List ℕ)) (o : Options) (m : Module) (a : Answer) → let s = setup_of o (only_input inputs) in Fair s → IsSchedule o.schedule
+    → IsAnswerToValid IsInstrumented under (Check file o) inputs m a → a ≡ answer_of_result under true m (shadow_under (is_threaded m) m s o.schedule)
+shadow_answer under file inputs o m a fair some (j, made, is) = is ∙ ap (answer_of_result under true m) (made.runs (setup_of o (only_input inputs)) fair o.schedule some)
+
+pub under_fills : (under : Lines) (file : List ℕ) (inputs : List (List ℕ)) (o : Options) (m : Module) (a : Answer) → let s = setup_of o (only_input inputs) in Fair s → IsSchedule o.schedule
+    → IsAnswerToValid IsInstrumented under (Check file o) inputs m a → HoldsUnder (is_threaded m) m s o.schedule (shadow_under (is_threaded m) m s o.schedule)
+under_fills under file inputs o m a fair some (j, made, is) =
+    let s = setup_of o (only_input inputs) in subst (HoldsUnder (is_threaded m) m s o.schedule) (made.runs s fair o.schedule some) (made.holds s fair o.schedule some)
 
 -- each section of a corpus is that of the shadow run on its input, and holds under every fill as that of a check does
-all_shadow : (m j : Module) (o : Options) (inputs : List (List ℕ)) → IsInstrumented m j → All (λ input. Fair (setup_of o input)) inputs
+all_shadow : (m j : Module) (o : Options) (inputs : List (List ℕ)) → IsInstrumented m j → is_threaded m ≡ false → All (λ input. Fair (setup_of o input)) inputs
     → map (λ input. plain j (setup_of o input)) inputs ≡ map (λ input. shadow m (setup_of o input)) inputs
-all_shadow m j o [] made fair = refl
-all_shadow m j o (input ∷ rest) made fair =
-    ap₂ (λ r rs. r ∷ rs) (made.faithful.runs (setup_of o input) (fair 0 [] (omega arith))) (all_shadow m j o rest made (λ n d below. fair (suc n) d (omega (arith, below))))
+all_shadow m j o [] made alone fair = refl
+all_shadow m j o (input ∷ rest) made alone fair =
+    ap₂ (λ r rs. r ∷ rs) (runs_alone m j made alone (setup_of o input) (fair 0 [] (omega arith))) (all_shadow m j o rest made alone (λ n d below. fair (suc n) d (omega (arith, below))))
 
-pub corpus_shown : (under : Lines) (file : List ℕ) (names inputs : List (List ℕ)) (o : Options) (workers : ℕ) (m : Module) (a : Answer) → All (λ input. Fair (setup_of o input)) inputs
+pub corpus_shown : (under : Lines) (file : List ℕ) (names inputs : List (List ℕ)) (o : Options) (workers : ℕ) (m : Module) (a : Answer) → is_threaded m ≡ false → All (λ input. Fair (setup_of o input)) inputs
     → IsAnswerToValid IsInstrumented under (Corpus file names o workers) inputs m a → a ≡ answer_of_results under m names (map (λ input. shadow m (setup_of o input)) inputs)
-corpus_shown under file names inputs o workers m a fair (j, made, is) = is ∙ ap (answer_of_results under m names) (all_shadow m j o inputs made fair)
+corpus_shown under file names inputs o workers m a alone fair is =
+    let h = alone_says m a (AreSections IsInstrumented under names o inputs m a) alone is in h.2 ∙ ap (answer_of_results under m names) (all_shadow m h.0 o inputs h.1 alone fair)
 
-pub corpus_holds : (under : Lines) (file : List ℕ) (names inputs : List (List ℕ)) (o : Options) (workers : ℕ) (m : Module) (a : Answer)
+pub corpus_holds : (under : Lines) (file : List ℕ) (names inputs : List (List ℕ)) (o : Options) (workers : ℕ) (m : Module) (a : Answer) → is_threaded m ≡ false
     → IsAnswerToValid IsInstrumented under (Corpus file names o workers) inputs m a → (input : List ℕ) → Fair (setup_of o input) → HoldsUnderFills m (setup_of o input) (shadow m (setup_of o input))
-corpus_holds under file names inputs o workers m a (j, made, is) input fair = let s = setup_of o input in subst (HoldsUnderFills m s) (made.faithful.runs s fair) (made.holds s fair)
+corpus_holds under file names inputs o workers m a alone is input fair =
+    let h = alone_says m a (AreSections IsInstrumented under names o inputs m a) alone is in holds_alone m h.0 h.1 alone (setup_of o input) fair
 
 pub summary_shown : (m : Module) (a : Answer) → IsAnswerOfGen IsInstrumented true m a
-    → let r = shadow m (setup_of defaults []) in a ≡ answer_of (status_of r) (summary_of m r) []
-summary_shown m a (j, made, is) = is ∙ ap (λ r. answer_of (status_of r) (summary_of m r) []) (made.faithful.runs (setup_of defaults []) fair_default)
+    → let r = shadow_under (is_threaded m) m (setup_of defaults []) defaults.schedule in a ≡ answer_of (status_of r) (summary_of m r) []
+summary_shown m a (j, made, is) = is ∙ ap (λ r. answer_of (status_of r) (summary_of m r) []) (made.runs (setup_of defaults []) fair_default defaults.schedule (omega arith))

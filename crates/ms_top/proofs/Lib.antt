@@ -4,7 +4,9 @@ pub mod Appending
 pub mod Answering
 pub mod Explaining
 pub mod Faithful
+pub mod GeneratedRuns
 pub mod Ok
+pub mod Making
 pub mod Placing
 pub mod Promised
 pub mod OneAnswer
@@ -13,7 +15,6 @@ pub mod Reading
 pub mod SameLines
 pub mod Saying
 pub mod Statuses
-pub mod Summaries
 pub mod WrittenRuns
 pub mod Plainly
 pub mod Sections

@@ -4,6 +4,8 @@ use Rattle.std.proofs.lemmas.Option.{same_Some, none-some}
 use Rattle.ms_io.specs.Counts.{Rose}
 use Rattle.ms_io.specs.Reading.{Holdings, IsWholeFile, IsAbsent, IsTooLong}
 use Rattle.ms_ir.specs.declared.syntax.Module.{Module}
+use Rattle.ms_ir.specs.ThreadCalls.{is_threaded}
+use Rattle.ms_runs.specs.declared.runs.Setup.{Setup}
 use Rattle.ms_runs.specs.Plain.{plain}
 use Rattle.ms_ir.specs.declared.forms.Form.{Form}
 use Rattle.ms_read_body.specs.declared.errors.ReadError.{ReadError}
@@ -25,13 +27,16 @@ use Rattle.ms_top.specs.declared.answers.Answer.{Answer}
 use Rattle.ms_words.specs.declared.commands.Command.{Command}
 use Rattle.ms_words.specs.declared.commands.Command.TheVariants.{Instrument, Run, Check, Explain, Corpus, Gen, Help, Version}
 use Rattle.ms_words.specs.declared.commands.WordsError.{WordsError}
+use Rattle.ms_words.specs.declared.commands.Options.{Options}
 use Rattle.ms_words.specs.Words.{command_of, defaults}
 use Rattle.ms_gen.specs.Generator.{generated}
 use Rattle.ms_top.specs.Command.{form_of, files_of, located_file, only_input, setup_of}
 use Rattle.ms_top.specs.Files.{Counted, FilesRead, Whole, Fault, Long, behind, IsAtFault, IsLong, CanRead}
 use Rattle.ms_top.specs.Instrumented.{IsInstrumented}
 use Rattle.ms_top.specs.Lines.{AreLinesIn, AreLines, fault_text_with}
-use Rattle.ms_top.specs.Said.{answer_of, answer_of_result, answer_of_explained, answer_of_results, status_of, summary_of, says, DifferInPath, IsAnswerOfGen, IsAnswerWithoutFile, IsAnswerToValid, IsAnswerToModule, IsAnswerToReading, IsAnswerToText, IsAnswerToTexts, IsAnswerToFiles, IsAnswerToCommand, IsAnswerFor, IsAnswer}
+use Rattle.ms_top.specs.Runs.{plain_under}
+use Rattle.ms_report.specs.SummaryTexts.{summary_of}
+use Rattle.ms_top.specs.Said.{answer_of, answer_of_result, answer_of_explained, answer_of_results, status_of, says, DifferInPath, UnlessThreaded, IsExplanation, AreSections, IsAnswerOfGen, IsAnswerWithoutFile, IsAnswerToValid, IsAnswerToModule, IsAnswerToReading, IsAnswerToText, IsAnswerToTexts, IsAnswerToFiles, IsAnswerToCommand, IsAnswerFor, IsAnswer}
 
 -- ---- texts
 
@@ -70,22 +75,33 @@ made_once m j k p q = elided_once m j k p.elided q.elided
 
 of_gen : (run : Bool) (m : Module) (a b : Answer) → IsAnswerOfGen IsInstrumented run m a → IsAnswerOfGen IsInstrumented run m b → a ≡ b
 of_gen true m a b (j, p, is) (k, q, same) =
-    is ∙ ap (λ n. answer_of (status_of (plain n (setup_of defaults []))) (summary_of m (plain n (setup_of defaults []))) []) (made_once m j k p q) ∙ sym same
+    is ∙ ap (λ n. let r = plain_under (is_threaded m) n (setup_of defaults []) defaults.schedule in answer_of (status_of r) (summary_of m r) []) (made_once m j k p q) ∙ sym same
 of_gen false m a b p q = p ∙ sym q
+
+-- two answers of a command that takes no schedule
+by_threads : (t : Bool) (a b : Answer) (P Q : Type 0) → (P → Q → a ≡ b) → UnlessThreaded t a P → UnlessThreaded t b Q → a ≡ b
+by_threads true a b P Q h p q = p ∙ sym q
+by_threads false a b P Q h p q = h p q
+
+of_sections : (under : Lines) (names : List (List ℕ)) (o : Options) (inputs : List (List ℕ)) (m : Module) (a b : Answer) → AreSections IsInstrumented under names o inputs m a
+    → AreSections IsInstrumented under names o inputs m b → a ≡ b
+of_sections under names o inputs m a b (j, p, is) (k, q, same) =
+    is ∙ ap (λ n. answer_of_results under m names (map (λ input. plain n (setup_of o input)) inputs)) (made_once m j k p q) ∙ sym same
+
+of_explanation : (under : Lines) (s : Setup) (m : Module) (a b : Answer) → IsExplanation IsInstrumented under s m a → IsExplanation IsInstrumented under s m b → a ≡ b
+of_explanation under s m a b (j, p, is) (k, q, same) = is ∙ ap (λ n. answer_of_explained under m s (plain n s)) (made_once m j k p q) ∙ sym same
 
 of_valid : (under : Lines) (command : Command) (inputs : List (List ℕ)) (m : Module) (a b : Answer) → IsAnswerToValid IsInstrumented under command inputs m a
     → IsAnswerToValid IsInstrumented under command inputs m b → a ≡ b
 of_valid under (Instrument file) inputs m a b (j, p, is) (k, q, same) = is ∙ ap (λ n. answer_of 0 (written n) []) (made_once m j k p q) ∙ sym same
 of_valid under (Run file o) inputs m a b p q = p ∙ sym q
-of_valid under (Corpus file names o workers) inputs m a b (j, p, is) (k, q, same) =
-    is ∙ ap (λ n. answer_of_results under m names (map (λ input. plain n (setup_of o input)) inputs)) (made_once m j k p q) ∙ sym same
-of_valid under (Explain file o) inputs m a b (j, p, is) (k, q, same) =
-    let s = setup_of o (only_input inputs) in is ∙ ap (λ n. answer_of_explained under m s (plain n s)) (made_once m j k p q) ∙ sym same
+of_valid under (Corpus file names o workers) inputs m a b p q = by_threads (is_threaded m) a b _ _ (of_sections under names o inputs m a b) p q
+of_valid under (Explain file o) inputs m a b p q = by_threads (is_threaded m) a b _ _ (of_explanation under (setup_of o (only_input inputs)) m a b) p q
 of_valid under (Gen seed functions run) inputs m a b p q = of_gen run m a b p q
 of_valid under Help inputs m a b p q = p ∙ sym q
 of_valid under Version inputs m a b p q = p ∙ sym q
 of_valid under (Check file o) inputs m a b (j, p, is) (k, q, same) =
-    is ∙ ap (λ n. answer_of_result under true m (plain n (setup_of o (only_input inputs)))) (made_once m j k p q) ∙ sym same
+    is ∙ ap (λ n. answer_of_result under true m (plain_under (is_threaded m) n (setup_of o (only_input inputs)) o.schedule)) (made_once m j k p q) ∙ sym same
 
 module _ (command : Command) (inputs : List (List ℕ)) where
   of_module : (under : Lines) (m : Module) (a b : Answer) → IsAnswerToModule IsInstrumented under command inputs m a → IsAnswerToModule IsInstrumented under command inputs m b → (a ≡ b) ⊎ DifferInPath a b

@@ -1,17 +1,16 @@
 -- What is read is bytes, so what `check` and `explain` say holds without a premise on their files.
-use Rattle.std.proofs.Common.{◌≡◌, ℕ, ◌^◌, ◌<◌, ◌≤◌, true, List, [], ◌∷◌, length, Option, Some, None, Result, Ok, Err, refl, sym, ap, ◌∙◌, subst, arith, ◌⊎◌, inl, inr}
+use Rattle.std.proofs.Common.{◌≡◌, ℕ, ◌^◌, ◌<◌, ◌≤◌, Bool, true, false, List, [], ◌∷◌, length, Option, Some, None, Result, Ok, Err, refl, sym, ap, ◌∙◌, subst, arith, ◌⊎◌, inl, inr}
 use Rattle.std.specs.Prelude.{All, nat_lt}
 use Rattle.std.proofs.lemmas.Bool.{and_from, lt-ltb}
 use Rattle.std.proofs.lemmas.List.Elements.{All-cons, All-nil, All-head, All-tail}
 use Rattle.ms_io.specs.Reading.{Holdings, IsWholeFile}
 use Rattle.ms_ir.specs.declared.syntax.Module.{Module}
 use Rattle.ms_runs.specs.Faithful.{Fair}
-use Rattle.ms_runs.specs.Plain.{plain}
+use Rattle.ms_ir.specs.ThreadCalls.{is_threaded}
 use Rattle.ms_runs_laws.proofs.Numbering.{no_marks}
 use Rattle.ms_read_body.specs.declared.errors.ReadError.{ReadError}
 use Rattle.ms_read_body.specs.declared.errors.ReadError.TheVariants as e
 use Rattle.ms_read_top.specs.Reading.{IsReading}
-use Rattle.ms_two_fills.specs.Checked.{HoldsUnderFills}
 use Rattle.ms_words.specs.Limits.{RunsWithinLimits}
 use Rattle.ms_words.specs.declared.commands.Command.TheVariants.{Check, Explain}
 use Rattle.ms_words.specs.declared.commands.Command.{Command}
@@ -20,9 +19,10 @@ use Rattle.ms_top.specs.declared.answers.Answer.{Answer}
 use Rattle.ms_top.specs.Command.{files_of, form_of, input_files, input_limit, only_input, setup_of}
 use Rattle.ms_top.specs.Files.{Counted, FilesRead, Whole, Fault, Long, behind, IsAtFault, IsLong, CanRead}
 use Rattle.ms_top.specs.Instrumented.{IsInstrumented}
-use Rattle.ms_top.specs.Promised.{NothingRan, ShadowShown, WayShown}
+use Rattle.ms_top.specs.Promised.{NothingRan, ShadowShown, ThreadsRefused, WayShown}
 use Rattle.ms_top.specs.Lines.{AreLines}
-use Rattle.ms_top.specs.Said.{answer_of_result, says, IsAnswerToValid, IsAnswerWithoutFile, IsAnswerToModule, IsAnswerToReading, IsAnswerToFiles, IsAnswerToCommand, IsAnswerFor, IsAnswer}
+use Rattle.ms_top.specs.Runs.{plain_under, HoldsUnder}
+use Rattle.ms_top.specs.Said.{answer_of_result, says, IsExplanation, IsAnswerToValid, IsAnswerWithoutFile, IsAnswerToModule, IsAnswerToReading, IsAnswerToFiles, IsAnswerToCommand, IsAnswerFor, IsAnswer}
 use Rattle.ms_report.specs.WithLines.{Lines}
 use Rattle.ms_valid.specs.Valid.{Valid}
 use Rattle.ms_valid.proofs.Refused.{invalid}
@@ -33,9 +33,10 @@ use Rattle.ms_ir.specs.declared.forms.Form.TheVariants.{Plain}
 use Rattle.ms_text_laws.proofs.FormedModules.{read_formed}
 use Rattle.ms_two_fills.specs.Chosen.{HoldsUnderChoices}
 use Rattle.ms_valid.specs.FormedNames.{are_bytes}
-use Rattle.ms_top.proofs.Answered.{text_read}
+use Rattle.ms_top.proofs.Answered.{text_read, explain_refused}
+use Rattle.ms_top.proofs.Answering.{scheduled}
 use Rattle.ms_top.proofs.Explaining.{explained_shadow, explained_way, explained_none}
-use Rattle.ms_top.proofs.Faithful.{fair_options}
+use Rattle.ms_top.proofs.Faithful.{fair_options, alone_says, runs_alone}
 use Rattle.ms_grammar.proofs.Readings.{one_reading}
 
 abbrev IsByte : ℕ → Type 0
@@ -205,6 +206,7 @@ shadow_is_shown c file o a fit h =
     let j = h.answer.0 in
     let made = h.answer.1 in
     let fair = check_is_fair c file o h.text h.inputs fit h.read in
+    let some = scheduled o o.schedule fit refl in
     let bytes = texts_are_bytes c (files_of (Check file o)) (h.text ∷ h.inputs) h.read in
     record {
       text = h.text;
@@ -214,13 +216,13 @@ shadow_is_shown c file o a fit h =
       reads = h.reads;
       formed = read_formed Plain h.text h.module_read (tested h.text (All-head (λ text. All IsByte text) h.text h.inputs bytes)) h.reads;
       valid = h.valid;
-      unmarked = no_marks j h.module_read made.faithful.strips;
+      unmarked = no_marks j h.module_read made.strips;
       under = h.under;
       lines = h.lines;
       fair = fair;
-      shown = h.answer.2 ∙ ap (answer_of_result h.under true h.module_read) (made.faithful.runs s fair);
-      fills = subst (HoldsUnderFills h.module_read s) (made.faithful.runs s fair) (made.holds s fair);
-      choices = subst (HoldsUnderChoices h.module_read s) (made.faithful.runs s fair) (made.choices s fair);
+      shown = h.answer.2 ∙ ap (answer_of_result h.under true h.module_read) (made.runs s fair o.schedule some);
+      fills = subst (HoldsUnder (is_threaded h.module_read) h.module_read s o.schedule) (made.runs s fair o.schedule some) (made.holds s fair o.schedule some);
+      choices = λ alone. subst (HoldsUnderChoices h.module_read s) (runs_alone h.module_read j made alone s fair) (made.choices alone s fair);
     }
 
 pub check_promises : (c : Counted) (file : List ℕ) (o : Options) (a : Answer) → RunsWithinLimits o → IsAnswerToCommand IsInstrumented c (Check file o) a
@@ -233,10 +235,14 @@ words_promise c words file o a is answer = check_promises c file o a (command_wi
 
 -- what `check` says of the text of which this is what `explain` says
 abbrev check_of : (o : Options) (m j : Module) (under : Lines) (inputs : List (List ℕ)) → Answer
-check_of o m j under inputs = answer_of_result under true m (plain j (setup_of o (only_input inputs)))
+check_of o m j under inputs = answer_of_result under true m (plain_under (is_threaded m) j (setup_of o (only_input inputs)) o.schedule)
 
-abbrev checked_too : (c : Counted) (file : List ℕ) (o : Options) (a : Answer) → (h : Answered c (Explain file o) a) → Answered c (Check file o) (check_of o h.module_read h.answer.0 h.under h.inputs)
-checked_too c file o a h = record {
+abbrev explanation_of : (c : Counted) (file : List ℕ) (o : Options) (a : Answer) → Answered c (Explain file o) a → Type 0
+explanation_of c file o a h = IsExplanation IsInstrumented h.under (setup_of o (only_input h.inputs)) h.module_read a
+
+abbrev checked_too : (c : Counted) (file : List ℕ) (o : Options) (a : Answer) → (h : Answered c (Explain file o) a) (x : explanation_of c file o a h)
+    → Answered c (Check file o) (check_of o h.module_read x.0 h.under h.inputs)
+checked_too c file o a h x = record {
   text = h.text;
   inputs = h.inputs;
   read = h.read;
@@ -245,26 +251,47 @@ checked_too c file o a h = record {
   valid = h.valid;
   under = h.under;
   lines = h.lines;
-  answer = (h.answer.0, h.answer.1, refl);
+  answer = (x.0, x.1, refl);
 }
 
-way_shown : (c : Counted) (file : List ℕ) (o : Options) (a : Answer) → RunsWithinLimits o → Answered c (Explain file o) a → WayShown c file o a
+way_shown : (c : Counted) (file : List ℕ) (o : Options) (a : Answer) → RunsWithinLimits o → (h : Answered c (Explain file o) a) → is_threaded h.module_read ≡ false → WayShown c file o a
 unfolding shadow_is_shown
-way_shown c file o a fit h =
+way_shown c file o a fit h alone =
     let fair = check_is_fair c file o h.text h.inputs fit h.read in
+    let x = alone_says h.module_read a (explanation_of c file o a h) alone h.answer in
     record {
-      checked = check_of o h.module_read h.answer.0 h.under h.inputs;
-      shadow_shown = shadow_is_shown c file o (check_of o h.module_read h.answer.0 h.under h.inputs) fit (checked_too c file o a h);
-      explained = explained_shadow h.under file h.inputs o h.module_read a fair h.answer;
-      way = explained_way h.under file h.inputs o h.module_read a fair h.answer;
-      none = explained_none h.under file h.inputs o h.module_read a fair h.answer;
+      checked = check_of o h.module_read x.0 h.under h.inputs;
+      shadow_shown = shadow_is_shown c file o (check_of o h.module_read x.0 h.under h.inputs) fit (checked_too c file o a h x);
+      alone = alone;
+      explained = explained_shadow h.under file h.inputs o h.module_read a alone fair h.answer;
+      way = explained_way h.under file h.inputs o h.module_read a alone fair h.answer;
+      none = explained_none h.under file h.inputs o h.module_read a alone fair h.answer;
     }
 
+-- a module with threads is refused
+refused_or_shown : (c : Counted) (file : List ℕ) (o : Options) (a : Answer) → RunsWithinLimits o → (h : Answered c (Explain file o) a) (t : Bool) → is_threaded h.module_read ≡ t
+    → ThreadsRefused c file o a ⊎ WayShown c file o a
+refused_or_shown c file o a fit h true threads = inl (record {
+  text = h.text;
+  inputs = h.inputs;
+  read = h.read;
+  module_read = h.module_read;
+  reads = h.reads;
+  valid = h.valid;
+  threads = threads;
+  refused = explain_refused h.under file o h.inputs h.module_read a threads h.answer;
+})
+refused_or_shown c file o a fit h false alone = inr (way_shown c file o a fit h alone)
+
 pub explain_promises : (c : Counted) (file : List ℕ) (o : Options) (a : Answer) → RunsWithinLimits o → IsAnswerToCommand IsInstrumented c (Explain file o) a
-    → NothingRan c (files_of (Explain file o)) a ⊎ WayShown c file o a
-explain_promises c file o a fit answer = elim (promises c (Explain file o) a refl (λ h. h) answer) [ inl nothing ↦ inl nothing | inr answered ↦ inr (way_shown c file o a fit answered) ]
+    → NothingRan c (files_of (Explain file o)) a ⊎ (ThreadsRefused c file o a ⊎ WayShown c file o a)
+explain_promises c file o a fit answer =
+    elim (promises c (Explain file o) a refl (λ h. h) answer) [
+      | inl nothing ↦ inl nothing
+      | inr answered ↦ inr (refused_or_shown c file o a fit answered (is_threaded answered.module_read) refl)
+    ]
 
 pub explaining_words_promise : (c : Counted) (words : List (List ℕ)) (file : List ℕ) (o : Options) (a : Answer) → command_of words ≡ Ok (Explain file o) → IsAnswer IsInstrumented c words a
-    → NothingRan c (files_of (Explain file o)) a ⊎ WayShown c file o a
+    → NothingRan c (files_of (Explain file o)) a ⊎ (ThreadsRefused c file o a ⊎ WayShown c file o a)
 explaining_words_promise c words file o a is answer =
     explain_promises c file o a (command_within words (Explain file o) is).runs (subst (λ r. IsAnswerFor IsInstrumented c r a) is answer)

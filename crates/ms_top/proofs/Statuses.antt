@@ -3,6 +3,7 @@ use Rattle.std.proofs.Common.{◌≡◌, ◌≢◌, ℕ, Bool, true, false, List
 use Rattle.ms_runs.specs.declared.runs.End.{End}
 use Rattle.ms_runs.specs.declared.runs.End.TheVariants.{Exit, Trap, Reported, Spent}
 use Rattle.ms_ir.specs.declared.syntax.Module.{Module}
+use Rattle.ms_ir.specs.ThreadCalls.{is_threaded}
 use Rattle.ms_read_body.specs.declared.errors.ReadError.{ReadError}
 use Rattle.ms_read_body.specs.declared.errors.ReadError.TheVariants as e
 use Rattle.ms_top.specs.declared.answers.Answer.{Answer}
@@ -12,8 +13,9 @@ use Rattle.ms_words.specs.declared.commands.WordsError.{WordsError}
 use Rattle.ms_words.specs.Words.{command_of}
 use Rattle.ms_report.specs.WithLines.{Lines}
 use Rattle.ms_gen.specs.Generator.{generated}
+use Rattle.ms_top.specs.Command.{only_input, setup_of}
 use Rattle.ms_top.specs.Files.{Counted, FilesRead, Whole, Fault, Long}
-use Rattle.ms_top.specs.Said.{answer_of, end_status, IsAnswerOfGen, IsAnswerWithoutFile, IsAnswerToValid, IsAnswerToModule, IsAnswerToReading, IsAnswerToText, IsAnswerToTexts, IsAnswerToFiles, IsAnswerToCommand, IsAnswerFor, IsAnswer}
+use Rattle.ms_top.specs.Said.{answer_of, end_status, UnlessThreaded, IsExplanation, AreSections, IsAnswerOfGen, IsAnswerWithoutFile, IsAnswerToValid, IsAnswerToModule, IsAnswerToReading, IsAnswerToText, IsAnswerToTexts, IsAnswerToFiles, IsAnswerToCommand, IsAnswerFor, IsAnswer}
 
 with-status : (a : Answer) (s : ℕ) (out err : List ℕ) → a ≡ answer_of s out err → s ≢ 7 → a.status ≢ 7
 with-status a s out err is other seven = other (sym (ap (λ x. x.status) is) ∙ seven)
@@ -34,6 +36,10 @@ all-not_seven false true spent = λ h. omega arith
 all-not_seven false false true = λ h. omega arith
 all-not_seven false false false = λ h. omega arith
 
+by_threads-not_seven : (t : Bool) (a : Answer) (Is : Type 0) → (Is → a.status ≢ 7) → UnlessThreaded t a Is → a.status ≢ 7
+by_threads-not_seven true a Is h is = with-status a 5 _ _ is (λ e. omega arith)
+by_threads-not_seven false a Is h is = h is
+
 module _ (Gives : Module → Module → Type 0) where
   of_gen-not_seven : (run : Bool) (m : Module) (a : Answer) → IsAnswerOfGen Gives run m a → a.status ≢ 7
   of_gen-not_seven true m a (j, gives, is) = with-status a _ _ _ is (chosen-not_seven _ _)
@@ -43,8 +49,10 @@ module _ (Gives : Module → Module → Type 0) where
   to_valid-not_seven under (Instrument file) inputs m a (j, gives, is) = with-status a 0 _ _ is (λ h. omega arith)
   to_valid-not_seven under (Run file o) inputs m a is = with-status a _ _ _ is (chosen-not_seven _ _)
   to_valid-not_seven under (Check file o) inputs m a (j, gives, is) = with-status a _ _ _ is (chosen-not_seven _ _)
-  to_valid-not_seven under (Explain file o) inputs m a (j, gives, is) = with-status a _ _ _ is (chosen-not_seven _ _)
-  to_valid-not_seven under (Corpus file names o workers) inputs m a (j, gives, is) = with-status a _ _ _ is (all-not_seven _ _ _)
+  to_valid-not_seven under (Explain file o) inputs m a is =
+      by_threads-not_seven (is_threaded m) a (IsExplanation Gives under (setup_of o (only_input inputs)) m a) (λ h. with-status a _ _ _ h.2 (chosen-not_seven _ _)) is
+  to_valid-not_seven under (Corpus file names o workers) inputs m a is =
+      by_threads-not_seven (is_threaded m) a (AreSections Gives under names o inputs m a) (λ h. with-status a _ _ _ h.2 (all-not_seven _ _ _)) is
   to_valid-not_seven under (Gen seed functions run) inputs m a is = of_gen-not_seven run m a is
   to_valid-not_seven under Help inputs m a is = with-status a 0 _ _ is (λ h. omega arith)
   to_valid-not_seven under Version inputs m a is = with-status a 0 _ _ is (λ h. omega arith)

@@ -4,7 +4,7 @@ use Rattle.std.proofs.lemmas.Option.{same_Some}
 use Rattle.ms_lex.specs.Tokens.{tokens_of}
 use Rattle.ms_ir.specs.declared.syntax.Module.{Module}
 use Rattle.ms_ir.specs.declared.forms.Form.TheVariants.{Instrumented}
-use Rattle.ms_runs.specs.Plain.{plain}
+use Rattle.ms_ir.specs.ThreadCalls.{is_threaded}
 use Rattle.ms_grammar.specs.declared.refusals.Refusal.{Refusal}
 use Rattle.ms_grammar.specs.Causes.{printed_number}
 use Rattle.ms_grammar.specs.Texts.{Reads, Stops, max_tokens}
@@ -25,10 +25,12 @@ use Rattle.ms_top.specs.Command.{only_input, setup_of}
 use Rattle.ms_report.specs.WithLines.{Lines}
 use Rattle.ms_top.specs.Instrumented.{IsInstrumented}
 use Rattle.ms_top.specs.Said.{answer_of_result, IsAnswerOfInstrument, IsAnswerOfCheck, IsAnswerToValid, IsAnswerToReading, IsAnswerToText}
+use Rattle.ms_top.specs.Runs.{plain_under}
 use Rattle.ms_top.specs.Written.{IsLimitRefusal, RunsAlike}
 use Rattle.ms_top.proofs.Answered.{text_answered}
 use Rattle.ms_top.proofs.OneAnswer.{made_once}
 use Rattle.ms_top.proofs.SameLines.{same_answer}
+use Rattle.ms_threads.proofs.Stripped.{same_threads}
 
 -- the text is that of no other formed module
 pub named : (under : Lines) (file : List ℕ) (inputs : List (List ℕ)) (m j : Module) (a : Answer) → IsAnswerToValid IsInstrumented under (Instrument file) inputs m a → Formed j → a.out ≡ written j
@@ -36,7 +38,7 @@ pub named : (under : Lines) (file : List ℕ) (inputs : List (List ℕ)) (m j : 
 named under file inputs m j a (k, made, is) formed text = subst (IsInstrumented m) (same_text k j made.formed formed (sym (ap (λ x. x.out) is) ∙ text)) made
 
 module _ (under : Lines) (name : List ℕ) (inputs : List (List ℕ)) (o : Options) (m : Module) (a b c : Answer)
-    (answered : IsAnswerOfInstrument IsInstrumented m a) (read : IsAnswerToText IsInstrumented (Run name o) inputs a.out b) (checked : IsAnswerOfCheck IsInstrumented under (setup_of o (only_input inputs)) m c) where
+    (answered : IsAnswerOfInstrument IsInstrumented m a) (read : IsAnswerToText IsInstrumented (Run name o) inputs a.out b) (checked : IsAnswerOfCheck IsInstrumented under (setup_of o (only_input inputs)) o.schedule m c) where
   j : Module
   j = answered.0
 
@@ -51,7 +53,8 @@ module _ (under : Lines) (name : List ℕ) (inputs : List (List ℕ)) (o : Optio
   -- where the text reads as the module that was written
   read_alike : Reads Instrumented a.out j → RunsAlike m name o a.out under b c
   read_alike reads =
-      let r = plain j (setup_of o (only_input inputs)) in
+      let s = setup_of o (only_input inputs) in
+      let r = plain_under (is_threaded m) j s o.schedule in
       let run = text_answered (Run name o) inputs a.out j b reads made.valid read in
       record {
         made = j;
@@ -59,8 +62,10 @@ module _ (under : Lines) (name : List ℕ) (inputs : List (List ℕ)) (o : Optio
         below = run.0;
         lines = run.1;
         result = r;
-        run = run.2 ∙ same_answer run.0 m j made.faithful.strips false r;
-        check = checked.2 ∙ ap (λ n. answer_of_result under true m (plain n (setup_of o (only_input inputs)))) (made_once m checked.0 j checked.1 made);
+        run =
+            run.2 ∙ ap (λ t. answer_of_result run.0 false j (plain_under t j s o.schedule)) (same_threads m j made.valid made.strips)
+            ∙ same_answer run.0 m j made.strips false r;
+        check = checked.2 ∙ ap (λ n. answer_of_result under true m (plain_under (is_threaded m) n s o.schedule)) (made_once m checked.0 j checked.1 made);
       }
 
   -- a text within the limits does

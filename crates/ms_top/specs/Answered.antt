@@ -4,7 +4,10 @@ use Rattle.ms_io.specs.Reading.{Holdings, IsWholeFile}
 use Rattle.ms_ir.specs.declared.syntax.Module.{Module}
 use Rattle.ms_runs.specs.declared.runs.RunResult.{RunResult}
 use Rattle.ms_runs.specs.Faithful.{Prefix, Undisturbed}
+use Rattle.ms_ir.specs.ThreadCalls.{is_threaded}
 use Rattle.ms_report.specs.WithLines.{Lines}
+use Rattle.ms_words.specs.declared.commands.Command.{Command}
+use Rattle.ms_words.specs.declared.commands.Command.TheVariants.{Explain, Corpus}
 use Rattle.ms_top.specs.declared.answers.Answer.{Answer}
 use Rattle.ms_top.specs.Said.{answer_of_result}
 
@@ -14,7 +17,13 @@ AreHeld files [] [] = Unit {0}
 AreHeld files ((name, limit) ∷ rest) (text ∷ texts) = IsWholeFile (Some files) name limit text × AreHeld files rest texts
 AreHeld files _ _ = ⊥
 
--- the status of an answer for a valid module: done, a trap, no step left, a report
+-- a command takes a module: without a schedule none with threads
+abbrev pub IsTaken : Command → Module → Type 0
+IsTaken (Explain file options) m = is_threaded m ≡ false
+IsTaken (Corpus file inputs options workers) m = is_threaded m ≡ false
+IsTaken command m = Unit {0}
+
+-- the status of an answer for a valid module that is taken: done, a trap, no step left, a report
 abbrev pub IsDoneStatus : ℕ → Type 0
 IsDoneStatus n = (n ≡ 0) ⊎ ((n ≡ 3) ⊎ ((n ≡ 4) ⊎ (n ≡ 77)))
 

@@ -1,6 +1,7 @@
 pub mod Added
 pub mod Answered
 pub mod Command
+pub mod Runs
 pub mod Files
 pub mod Lines
 pub mod Explained

@@ -8,6 +8,7 @@ use Rattle.ms_grammar.specs.Texts.{Reads}
 use Rattle.ms_runs.specs.declared.runs.RunResult.{RunResult}
 use Rattle.ms_runs.specs.declared.runs.Setup.{Setup}
 use Rattle.ms_runs.specs.Plain.{plain}
+use Rattle.ms_ir.specs.ThreadCalls.{is_threaded}
 use Rattle.ms_valid.specs.Uninstrumented.{CanInstrument}
 use Rattle.ms_report.specs.RunTexts.{line}
 use Rattle.ms_top.specs.declared.answers.Answer.{Answer}
@@ -19,6 +20,7 @@ use Rattle.ms_runs.specs.Limits.{WithinLimits}
 use Rattle.ms_corpus.specs.Jobs.{with_input}
 use Rattle.ms_top.specs.Command.{input_names, input_files, input_limit}
 use Rattle.ms_top.specs.Files.{Counted, CanRead, FilesRead, behind}
+use Rattle.ms_top.specs.Runs.{plain_under}
 use Rattle.ms_top.specs.Said.{says, IsAnswerToFiles}
 
 -- the answer for why a file isn't read whole; want of memory has an answer of its own
@@ -53,9 +55,9 @@ abbrev pub is_want_of_memory : WordsError → Bool
 is_want_of_memory WantsMemory = true
 is_want_of_memory fault = false
 
--- the plain run of a module that a pass gives
-abbrev pub IsRunOfGiven : (Module → Module → Type 0) → Module → Setup → RunResult → Type 0
-IsRunOfGiven Gives m s r = (j : Module) × Gives m j × (r ≡ plain j s)
+-- the plain run of a module that a pass gives; where the module has threads, under a schedule
+abbrev pub IsRunOfGiven : (Module → Module → Type 0) → Module → Setup → (schedule : List ℕ) → RunResult → Type 0
+IsRunOfGiven Gives m s schedule r = (j : Module) × Gives m j × (r ≡ plain_under (is_threaded m) j s schedule)
 
 -- the runs of such a module on inputs
 abbrev pub AreRunsOfGiven : (Module → Module → Type 0) → Module → Setup → List (List ℕ) → List RunResult → Type 0

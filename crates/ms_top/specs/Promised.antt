@@ -1,15 +1,15 @@
 -- What `check` and `explain` promise of the program, from what they are to say alone.
-use Rattle.std.specs.Prelude.{◌≡◌, ◌≢◌, ◌<◌, ◌≤◌, ◌⊎◌, ℕ, true, List, [], ◌∷◌, ◌++◌, length}
+use Rattle.std.specs.Prelude.{◌≡◌, ◌≢◌, ◌<◌, ◌≤◌, ◌⊎◌, ℕ, true, false, List, [], ◌∷◌, ◌++◌, length}
 use Rattle.ms_ir.specs.declared.forms.Form.TheVariants.{Plain}
 use Rattle.ms_ir.specs.declared.syntax.Module.{Module}
 use Rattle.ms_ir.specs.Code.{NoMarks}
+use Rattle.ms_ir.specs.ThreadCalls.{is_threaded}
 use Rattle.ms_runs.specs.Faithful.{Fair}
 use Rattle.ms_runs.specs.Shadow.{shadow}
 use Rattle.ms_runs.specs.declared.runs.Setup.{Setup}
 use Rattle.ms_grammar.specs.Texts.{Reads}
 use Rattle.ms_valid.specs.Formed.{Formed}
 use Rattle.ms_valid.specs.Valid.{Valid}
-use Rattle.ms_two_fills.specs.Checked.{HoldsUnderFills}
 use Rattle.ms_two_fills.specs.Chosen.{HoldsUnderChoices}
 use Rattle.ms_runs_good.specs.Fills.{to_first_report}
 use Rattle.ms_moves.specs.declared.moves.Source.{Source}
@@ -18,14 +18,16 @@ use Rattle.ms_moves.specs.Traces.{trace, Found}
 use Rattle.ms_moves_laws.specs.FromReached.{FromReached}
 use Rattle.ms_report.specs.TrailTexts.{trail_with}
 use Rattle.ms_report.specs.WithLines.{Lines, reports_with}
-use Rattle.ms_words.specs.declared.commands.Command.TheVariants.{Check}
+use Rattle.ms_report.specs.RefusalTexts.{threads_text}
+use Rattle.ms_words.specs.declared.commands.Command.TheVariants.{Check, Explain}
 use Rattle.ms_words.specs.declared.commands.Options.{Options}
 use Rattle.ms_top.specs.declared.answers.Answer.{Answer}
 use Rattle.ms_top.specs.Command.{files_of, only_input, setup_of}
 use Rattle.ms_top.specs.Files.{Counted, CanRead, IsAtFault, IsLong, Whole}
 use Rattle.ms_top.specs.Lines.{AreLines}
 use Rattle.ms_top.specs.Explained.{too_long, no_report}
-use Rattle.ms_top.specs.Said.{answer_of_result, answer_of_explained}
+use Rattle.ms_top.specs.Runs.{shadow_under, HoldsUnder}
+use Rattle.ms_top.specs.Said.{answer_of_result, answer_of_explained, says}
 
 -- the answer that a file can't be read: one is at fault
 abbrev pub IsFileFault : Counted → Answer → Type 0
@@ -46,8 +48,8 @@ pub record NothingRan (c : Counted) (files : List (List ℕ × ℕ)) (a : Answer
   pub why : IsFileFault c a ⊎ (IsFileTooLong c a ⊎ IsTextRefused c files a)
 
 -- A text was read as a valid module, and the answer a says what the module's shadow run with a fair setup is, with the lines that
--- are asked for. A clean verdict and a first report hold under every fill, a clean verdict also where each step has a fill of its
--- own
+-- are asked for; where it has threads, under the schedule that is asked for. A clean verdict and a first report hold under every
+-- fill, a clean verdict without threads also where each step has a fill of its own
 pub record ShadowShown (c : Counted) (file : List ℕ) (o : Options) (a : Answer) : Type 0 where
   pub text : List ℕ
   pub inputs : List (List ℕ)
@@ -60,9 +62,21 @@ pub record ShadowShown (c : Counted) (file : List ℕ) (o : Options) (a : Answer
   pub under : Lines
   pub lines : AreLines (Check file o) text module_read under
   pub fair : Fair (setup_of o (only_input inputs))
-  pub shown : a ≡ answer_of_result under true module_read (shadow module_read (setup_of o (only_input inputs)))
-  pub fills : HoldsUnderFills module_read (setup_of o (only_input inputs)) (shadow module_read (setup_of o (only_input inputs)))
-  pub choices : HoldsUnderChoices module_read (setup_of o (only_input inputs)) (shadow module_read (setup_of o (only_input inputs)))
+  pub shown : a ≡ answer_of_result under true module_read (shadow_under (is_threaded module_read) module_read (setup_of o (only_input inputs)) o.schedule)
+  pub fills : HoldsUnder (is_threaded module_read) module_read (setup_of o (only_input inputs)) o.schedule
+      (shadow_under (is_threaded module_read) module_read (setup_of o (only_input inputs)) o.schedule)
+  pub choices : is_threaded module_read ≡ false → HoldsUnderChoices module_read (setup_of o (only_input inputs)) (shadow module_read (setup_of o (only_input inputs)))
+
+-- A text was read as a valid module with threads, which a command refuses
+pub record ThreadsRefused (c : Counted) (file : List ℕ) (o : Options) (a : Answer) : Type 0 where
+  pub text : List ℕ
+  pub inputs : List (List ℕ)
+  pub read : CanRead c (files_of (Explain file o)) (Whole (text ∷ inputs))
+  pub module_read : Module
+  pub reads : Reads Plain text module_read
+  pub valid : Valid module_read
+  pub threads : is_threaded module_read ≡ true
+  pub refused : a ≡ says 5 threads_text
 
 -- The text that explains a run with a report: the moves before it are too many, or it shows a way over them. That begins at a root
 -- which the run had reached, each hop's target is what the next hop reads, and the last is what the report's use reads
@@ -78,6 +92,7 @@ pub record ShowsWay (under : Lines) (m : Module) (setup : Setup) (text : List �
 pub record WayShown (c : Counted) (file : List ℕ) (o : Options) (a : Answer) : Type 0 where
   pub checked : Answer
   pub shadow_shown : ShadowShown c file o checked
+  pub alone : is_threaded shadow_shown.module_read ≡ false
   pub explained : a ≡ answer_of_explained shadow_shown.under shadow_shown.module_read (setup_of o (only_input shadow_shown.inputs)) (shadow shadow_shown.module_read (setup_of o (only_input shadow_shown.inputs)))
   pub way : (shadow shadow_shown.module_read (setup_of o (only_input shadow_shown.inputs))).reports ≢ [] → ShowsWay shadow_shown.under shadow_shown.module_read (setup_of o (only_input shadow_shown.inputs)) a.out
   pub none : (shadow shadow_shown.module_read (setup_of o (only_input shadow_shown.inputs))).reports ≡ [] → a.out ≡ no_report

@@ -4,7 +4,7 @@ use Rattle.std.specs.Prelude.{◌≡◌, ℕ, suc, Bool, true, false, List, [], 
 use Rattle.std.specs.List.{list_any}
 use Rattle.ms_io.specs.Writing.{with_appended, AppendsPrefix}
 use Rattle.ms_ir.specs.declared.syntax.Module.{Module}
-use Rattle.ms_ir.specs.Places.{count_sites}
+use Rattle.ms_ir.specs.ThreadCalls.{is_threaded}
 use Rattle.ms_runs.specs.declared.runs.End.{End}
 use Rattle.ms_runs.specs.declared.runs.End.TheVariants as ends
 use Rattle.ms_runs.specs.declared.runs.RunResult.{RunResult}
@@ -17,10 +17,10 @@ use Rattle.ms_valid.specs.Valid.{Valid}
 use Rattle.ms_valid.specs.Refusals.{Fault as ModuleFault, Undefined, IsRefused}
 use Rattle.ms_written.specs.Modules.{written}
 use Rattle.ms_report.specs.declared.refusals.Refusal.TheVariants.{Read}
-use Rattle.ms_report.specs.RunTexts.{line, closing_of}
-use Rattle.ms_report.specs.ReportTexts.{report_text_of}
+use Rattle.ms_report.specs.RunTexts.{line}
+use Rattle.ms_report.specs.SummaryTexts.{summary_of}
 use Rattle.ms_report.specs.WithLines.{Lines, reports_with, closing_text_with}
-use Rattle.ms_report.specs.RefusalTexts.{refusal_text}
+use Rattle.ms_report.specs.RefusalTexts.{refusal_text, threads_text}
 use Rattle.ms_report.specs.WordsTexts.{words_text}
 use Rattle.ms_top.specs.declared.answers.Answer.{Answer}
 use Rattle.ms_gen.specs.Generator.{generated}
@@ -34,6 +34,7 @@ use Rattle.ms_top.specs.Command.{form_of, files_of, only_input, setup_of}
 use Rattle.ms_top.specs.Explained.{explained_with}
 use Rattle.ms_top.specs.Files.{Counted, CanRead, FilesRead, Whole, Fault, Long}
 use Rattle.ms_top.specs.Lines.{AreLines, fault_text_with}
+use Rattle.ms_top.specs.Runs.{plain_under}
 
 abbrev pub answer_of : ℕ → List ℕ → List ℕ → Answer
 answer_of status out err = record { status = status; out = out; err = err }
@@ -84,13 +85,6 @@ answer_of_result under verdict m r = answer_of (status_of r) r.output (run_text 
 abbrev pub answer_of_explained : Lines → Module → Setup → RunResult → Answer
 answer_of_explained under m s r = answer_of (status_of r) (explained_with under m s r) (closing_text_with under m r true)
 
--- the summary of a module's run: how many functions and sites the module has and how many bytes were output, and then the
--- reports with the closing lines
-abbrev pub summary_of : Module → RunResult → List ℕ
-summary_of m r =
-    line (codes "functions") (decimal (length m.funcs)) ++ line (codes "sites") (decimal (count_sites m)) ++ line (codes "output") (decimal (length r.output) ++ codes " bytes")
-    ++ report_text_of m r ++ closing_of m r true
-
 -- ---- many runs
 
 -- the first line of the section of a run: its number, how many bytes were output, and the name of its input
@@ -119,6 +113,13 @@ status_of_all rs = if has_status 77 rs then 77 else if has_status 3 rs then 3 el
 abbrev pub answer_of_results : Lines → Module → (names : List (List ℕ)) → List RunResult → Answer
 answer_of_results under m names rs = answer_of (status_of_all rs) (sections_of under m 1 names rs) []
 
+-- ---- threads
+
+-- the answer of a command that takes no schedule: it refuses a module with threads
+abbrev pub UnlessThreaded : (threads : Bool) → Answer → Type 0 → Type 0
+UnlessThreaded true a Is = a ≡ says 5 threads_text
+UnlessThreaded false a Is = Is
+
 -- ---- from the words to the answer, for a pass that gives modules so
 
 module _ (Gives : Module → Module → Type 0) where
@@ -126,30 +127,40 @@ module _ (Gives : Module → Module → Type 0) where
   abbrev pub IsAnswerOfInstrument : Module → Answer → Type 0
   IsAnswerOfInstrument m a = (j : Module) × Gives m j × (a ≡ answer_of 0 (written j) [])
 
-  -- the answer of `check`: of the run of a module that the pass gives, with the verdict
-  abbrev pub IsAnswerOfCheck : Lines → Setup → Module → Answer → Type 0
-  IsAnswerOfCheck under s m a = (j : Module) × Gives m j × (a ≡ answer_of_result under true m (plain j s))
+  -- the answer of `check`: of the run of a module that the pass gives, with the verdict; where the module has threads, under a schedule
+  abbrev pub IsAnswerOfCheck : Lines → Setup → (schedule : List ℕ) → Module → Answer → Type 0
+  IsAnswerOfCheck under s schedule m a = (j : Module) × Gives m j × (a ≡ answer_of_result under true m (plain_under (is_threaded m) j s schedule))
 
-  -- the answer of `explain`: of the run of a module that the pass gives, and of the moves of the shadow run of the module itself
+  -- what explains a run of a module that the pass gives, and the moves of the shadow run of the module itself
+  abbrev pub IsExplanation : Lines → Setup → Module → Answer → Type 0
+  IsExplanation under s m a = (j : Module) × Gives m j × (a ≡ answer_of_explained under m s (plain j s))
+
+  -- the answer of `explain`
   abbrev pub IsAnswerOfExplain : Lines → Setup → Module → Answer → Type 0
-  IsAnswerOfExplain under s m a = (j : Module) × Gives m j × (a ≡ answer_of_explained under m s (plain j s))
+  IsAnswerOfExplain under s m a = UnlessThreaded (is_threaded m) a (IsExplanation under s m a)
 
-  -- the answer of `corpus`: of the runs on the inputs of a module that the pass gives
-  abbrev pub IsAnswerOfCorpus : Lines → (names : List (List ℕ)) → Options → (inputs : List (List ℕ)) → Module → Answer → Type 0
-  IsAnswerOfCorpus under names options inputs m a =
+  -- the sections of the runs on the inputs of a module that the pass gives
+  abbrev pub AreSections : Lines → (names : List (List ℕ)) → Options → (inputs : List (List ℕ)) → Module → Answer → Type 0
+  AreSections under names options inputs m a =
       (j : Module) × Gives m j × (a ≡ answer_of_results under m names (map (λ input. plain j (setup_of options input)) inputs))
+
+  -- the answer of `corpus`
+  abbrev pub IsAnswerOfCorpus : Lines → (names : List (List ℕ)) → Options → (inputs : List (List ℕ)) → Module → Answer → Type 0
+  IsAnswerOfCorpus under names options inputs m a = UnlessThreaded (is_threaded m) a (AreSections under names options inputs m a)
 
   -- the answer of `gen` for the module that it makes: the module's text, or the summary of the run of a module that the
   -- pass gives, with no option given
   abbrev pub IsAnswerOfGen : (run : Bool) → Module → Answer → Type 0
   IsAnswerOfGen false m a = a ≡ answer_of 0 (written m) []
-  IsAnswerOfGen true m a = (j : Module) × Gives m j × (let r = plain j (setup_of defaults []) in a ≡ answer_of (status_of r) (summary_of m r) [])
+  IsAnswerOfGen true m a =
+      (j : Module) × Gives m j × (let r = plain_under (is_threaded m) j (setup_of defaults []) defaults.schedule in a ≡ answer_of (status_of r) (summary_of m r) [])
 
   -- the answer for a valid module, with these lines under each site; `run` runs it as it stands
   abbrev pub IsAnswerToValid : Lines → Command → List (List ℕ) → Module → Answer → Type 0
   IsAnswerToValid under (Instrument file) inputs m a = IsAnswerOfInstrument m a
-  IsAnswerToValid under (Run file options) inputs m a = a ≡ answer_of_result under false m (plain m (setup_of options (only_input inputs)))
-  IsAnswerToValid under (Check file options) inputs m a = IsAnswerOfCheck under (setup_of options (only_input inputs)) m a
+  IsAnswerToValid under (Run file options) inputs m a =
+      a ≡ answer_of_result under false m (plain_under (is_threaded m) m (setup_of options (only_input inputs)) options.schedule)
+  IsAnswerToValid under (Check file options) inputs m a = IsAnswerOfCheck under (setup_of options (only_input inputs)) options.schedule m a
   IsAnswerToValid under (Explain file options) inputs m a = IsAnswerOfExplain under (setup_of options (only_input inputs)) m a
   IsAnswerToValid under (Corpus file names options workers) inputs m a = IsAnswerOfCorpus under names options inputs m a
   IsAnswerToValid under (Gen seed functions run) inputs m a = IsAnswerOfGen run m a

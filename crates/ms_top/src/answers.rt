@@ -1,18 +1,20 @@
 //! What is said of a module's text.
 ghost use Rattle.std.specs.Prelude.{◌≡◌, ◌≤◌, [], false, length, IfErr, IfOk, IfSome, OnOk, Ok};
 ghost use Rattle.ms_runs.specs.Limits.{WithinLimits};
-ghost use Rattle.ms_runs.specs.Plain.{plain};
+ghost use Rattle.ms_ir.specs.ThreadCalls.{is_threaded};
 ghost use Rattle.ms_valid.specs.Formed.{Formed};
 ghost use Rattle.ms_valid.specs.Refusals.{IsRefused};
 ghost use Rattle.ms_valid.specs.Uninstrumented.{CanInstrument};
 ghost use Rattle.ms_valid.specs.Valid.{Valid};
 ghost use Rattle.ms_check.specs.Faults.{fault_of};
 ghost use Rattle.ms_grammar.specs.Texts.{Reads};
-ghost use Rattle.ms_report.specs.RefusalTexts.{HasLine, wants_memory as is_want_of_memory};
+ghost use Rattle.ms_report.specs.RefusalTexts.{HasLine, threads_text, wants_memory as is_want_of_memory};
 ghost use Rattle.ms_report.specs.WithLines.{refusal_text_with};
 ghost use Rattle.ms_words.specs.Limits.{RunsWithinLimits, IsWithinLimits};
 ghost use Rattle.ms_top.specs.Command.{form_of, setup_of as setup_with, module_limit, input_limit, only_input as only_input_of};
 ghost use Rattle.ms_top.specs.Parts.{AreShort, IsReady, IsRunOfGiven};
+ghost use Rattle.ms_threads.specs.Faithful.{IsSchedule};
+ghost use Rattle.ms_top.specs.Runs.{plain_under};
 ghost use Rattle.ms_top.specs.Said.{answer_of, answer_of_result, run_text, says, status_of as status_of_run, IsAnswerOfInstrument, IsAnswerOfCheck, IsAnswerToValid, IsAnswerToModule, IsAnswerToReading, IsAnswerToText};
 
 use crate::commands::{form_of, located_file};
@@ -21,16 +23,19 @@ use crate::explained::answer_of_explain;
 use crate::generated::{summarised, written};
 use crate::itself::{answer_of_help, answer_of_version};
 use crate::located::Places;
-use crate::passes::{Pass, instrumented_by};
+use crate::passes::{Pass, has_threads, instrumented_by};
 use ms_bits::{Boxed, Bytes, NoMemory};
 use ms_check::{CheckError, CheckedModule, check};
 use ms_fork::Gate;
 use ms_ir::Module;
 use ms_read_body::ReadError;
 use ms_read_top::read;
-use ms_report::{NoLines, Refusal, SiteLines, closing_with, refusal_line_with, report_text_with};
+use ms_report::{
+    NoLines, Refusal, SiteLines, closing_with, refusal_line_with, report_text_with, threads_line,
+};
 use ms_runs::{End, RunResult, Setup};
 use ms_runtime::run;
+use ms_threads::run_threads;
 use ms_words::{Command, Options};
 use std::alloc::{AllocError, Global};
 use std::thread::Threads;
@@ -244,7 +249,7 @@ fn answer_of_instrument<R: Threads + Sync, P: Pass>(
     written(alloc, &instrumented)
 }
 
-/// The answer of `run`: for the run of the module as it is.
+/// The answer of `run`: for the run of the module as it is, where it has threads under the schedule of the options.
 fn answer_of_run<L: SiteLines>(
     alloc: Global,
     m: &CheckedModule,
@@ -254,11 +259,17 @@ fn answer_of_run<L: SiteLines>(
 ) -> Result<Answer, NoMemory>
     requires limits { RunsWithinLimits options.now }
     requires input { length input.now ≤ input_limit }
-    ensures { IfOk result (λ a. a ≡ answer_of_result (L.lines under.now) false m.now (plain m.now (setup_with options.now input.now))) }
+    ensures { IfOk result (λ a. a ≡ answer_of_result (L.lines under.now) false m.now (plain_under (is_threaded m.now) m.now (setup_with options.now input.now) options.now.schedule)) }
 {
     m.is_valid();
     let setup = setup_of(alloc, options, input)?;
-    let result = run(alloc, m, &setup)?;
+    let result = run_under(
+        alloc,
+        m,
+        has_threads(m),
+        &setup,
+        options.schedule.as_slice(),
+    )?;
     answer_of(alloc, m.module(), result, false, under)
 }
 
@@ -275,28 +286,58 @@ fn answer_of_check<R: Threads + Sync, P: Pass, L: SiteLines>(
     requires plain { CanInstrument m.now }
     requires limits { RunsWithinLimits options.now }
     requires input { length input.now ≤ input_limit }
-    ensures { IfOk result (λ a. IsAnswerOfCheck P.gives (L.lines under.now) (setup_with options.now input.now) m.now a) }
+    ensures { IfOk result (λ a. IsAnswerOfCheck P.gives (L.lines under.now) (setup_with options.now input.now) options.now.schedule m.now a) }
 {
     m.is_valid();
     let setup = setup_of(alloc, options, input)?;
-    let result = run_given(rt, alloc, m, &setup, pass)?;
+    let result = run_given(rt, alloc, m, &setup, options.schedule.as_slice(), pass)?;
     answer_of(alloc, m.module(), result, true, under)
 }
 
-/// The run of the module that the pass gives.
+/// The run of the module that the pass gives, where it has threads under a schedule.
 pub fn run_given<R: Threads + Sync, P: Pass>(
     rt: &R,
     alloc: Global,
     m: &CheckedModule,
     setup: &Setup,
+    schedule: &[u8],
     pass: &P,
 ) -> Result<RunResult, NoMemory>
     requires plain { CanInstrument m.now }
     requires limits { WithinLimits setup.now }
-    ensures { IfOk result (λ r. IsRunOfGiven P.gives m.now setup.now r) }
+    requires scheduled { IsSchedule schedule.now }
+    ensures { IfOk result (λ r. IsRunOfGiven P.gives m.now setup.now schedule.now r) }
 {
     let instrumented = instrumented_by(rt, alloc, m, pass)?;
-    run(alloc, instrumented.get(), setup)
+    run_under(alloc, instrumented.get(), has_threads(m), setup, schedule)
+}
+
+/// The run of a module, with threads under a schedule.
+fn run_under(
+    alloc: Global,
+    m: &CheckedModule,
+    threads: bool,
+    setup: &Setup,
+    schedule: &[u8],
+) -> Result<RunResult, NoMemory>
+    requires threads { threads ≡ is_threaded m.now }
+    requires limits { WithinLimits setup.now }
+    requires scheduled { IsSchedule schedule.now }
+    ensures { IfOk result (λ r. r ≡ plain_under threads m.now setup.now schedule.now) }
+{
+    if threads {
+        run_threads(alloc, m, setup, schedule)
+    } else {
+        run(alloc, m, setup)
+    }
+}
+
+/// The answer of a command that takes no schedule, for a module with threads.
+pub fn refused_threads(alloc: Global) -> Result<Answer, NoMemory>
+    ensures { IfOk result (λ a. a ≡ says 5 threads_text) }
+{
+    let line = threads_line(alloc)?;
+    Ok(Answer::on_err(alloc, 5, line))
 }
 
 /// What a run with these options and this input is given.

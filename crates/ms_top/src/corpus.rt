@@ -1,14 +1,15 @@
 //! What `corpus` says: a section for each input.
-ghost use Rattle.std.specs.Prelude.{◌≡◌, ◌≤◌, ◌++◌, [], codes, decimal, IfOk};
+ghost use Rattle.std.specs.Prelude.{◌≡◌, ◌≤◌, ◌++◌, [], false, codes, decimal, IfOk};
+ghost use Rattle.ms_ir.specs.ThreadCalls.{is_threaded};
 ghost use Rattle.ms_valid.specs.Formed.{Formed};
 ghost use Rattle.ms_valid.specs.Uninstrumented.{CanInstrument};
 ghost use Rattle.ms_words.specs.Limits.{RunsWithinLimits};
 ghost use Rattle.ms_top.specs.Command.{setup_of as setup_with};
 ghost use Rattle.ms_top.specs.Parts.{AreShort, AreRunsOfGiven, AreWithinLimits};
-ghost use Rattle.ms_top.specs.Said.{answer_of_results, has_status, heading_of, section_of, sections_of, status_of_all as status_of_runs, IsAnswerOfCorpus};
+ghost use Rattle.ms_top.specs.Said.{answer_of_results, has_status, heading_of, section_of, sections_of, status_of_all as status_of_runs, AreSections, IsAnswerOfCorpus};
 
-use crate::answers::{Answer, setup_of, status_of, text_of_run};
-use crate::passes::{Pass, instrumented_by};
+use crate::answers::{Answer, refused_threads, setup_of, status_of, text_of_run};
+use crate::passes::{Pass, has_threads, instrumented_by};
 use ms_bits::{Bytes, List, NoMemory, Text};
 use ms_check::CheckedModule;
 use ms_corpus::run_all;
@@ -29,7 +30,7 @@ pub struct Jobs<'a> {
     pub workers: u8,
 }
 
-/// The answer of `corpus`: the runs of the module that the pass gives, one section each.
+/// The answer of `corpus`: the runs of the module that the pass gives, one section each. A module with threads is refused.
 pub fn answer_of_corpus<R: Threads + Sync, P: Pass, G: Gate + Sync, L: SiteLines>(
     rt: &R,
     alloc: Global,
@@ -45,6 +46,31 @@ pub fn answer_of_corpus<R: Threads + Sync, P: Pass, G: Gate + Sync, L: SiteLines
     requires workers { (1 ≤ jobs.now.workers) × (jobs.now.workers ≤ 8) }
     requires inputs { AreShort jobs.now.inputs.now }
     ensures { IfOk result (λ a. IsAnswerOfCorpus P.gives (L.lines under.now) jobs.now.names.now options.now jobs.now.inputs.now m.now a) }
+{
+    if has_threads(m) {
+        refused_threads(alloc)
+    } else {
+        answer_of_jobs(rt, alloc, m, options, jobs, pass, gate, under)
+    }
+}
+
+/// The runs of the module that the pass gives, one section each.
+fn answer_of_jobs<R: Threads + Sync, P: Pass, G: Gate + Sync, L: SiteLines>(
+    rt: &R,
+    alloc: Global,
+    m: &CheckedModule,
+    options: &Options,
+    jobs: &Jobs<'_>,
+    pass: &P,
+    gate: &G,
+    under: &L,
+) -> Result<Answer, NoMemory>
+    requires plain { CanInstrument m.now }
+    requires limits { RunsWithinLimits options.now }
+    requires workers { (1 ≤ jobs.now.workers) × (jobs.now.workers ≤ 8) }
+    requires inputs { AreShort jobs.now.inputs.now }
+    requires alone { is_threaded m.now ≡ false }
+    ensures { IfOk result (λ a. AreSections P.gives (L.lines under.now) jobs.now.names.now options.now jobs.now.inputs.now m.now a) }
 {
     m.is_valid();
     let results = run_with(rt, alloc, m, options, jobs, pass, gate)?;
@@ -65,6 +91,7 @@ fn run_with<R: Threads + Sync, P: Pass, G: Gate + Sync>(
     requires limits { RunsWithinLimits options.now }
     requires workers { (1 ≤ jobs.now.workers) × (jobs.now.workers ≤ 8) }
     requires inputs { AreShort jobs.now.inputs.now }
+    requires alone { is_threaded m.now ≡ false }
     ensures { IfOk result (λ rs. AreRunsOfGiven P.gives m.now (setup_with options.now []) jobs.now.inputs.now rs) }
 {
     let setup = setup_of(alloc, options, b"")?;
@@ -84,6 +111,7 @@ fn run_jobs<R: Threads + Sync, P: Pass, G: Gate + Sync>(
     requires plain { CanInstrument m.now }
     requires limits { AreWithinLimits setup.now jobs.now.inputs.now }
     requires workers { (1 ≤ jobs.now.workers) × (jobs.now.workers ≤ 8) }
+    requires alone { is_threaded m.now ≡ false }
     ensures { IfOk result (λ rs. AreRunsOfGiven P.gives m.now setup.now jobs.now.inputs.now rs) }
 {
     let instrumented = instrumented_by(rt, alloc, m, pass)?;

@@ -1,5 +1,6 @@
 //! What `explain` says: the first report of a run, and the way on which the bits of that report came.
-ghost use Rattle.std.specs.Prelude.{◌≡◌, ◌≤◌, ◌<◌, ◌^◌, true, length, IfOk};
+ghost use Rattle.std.specs.Prelude.{◌≡◌, ◌≤◌, ◌<◌, ◌^◌, true, false, length, IfOk};
+ghost use Rattle.ms_ir.specs.ThreadCalls.{is_threaded};
 ghost use Rattle.ms_moves.specs.Scanned.{Ascending, trail_of};
 ghost use Rattle.ms_runs.specs.Limits.{WithinLimits};
 ghost use Rattle.ms_valid.specs.Formed.{Formed};
@@ -7,10 +8,10 @@ ghost use Rattle.ms_valid.specs.Uninstrumented.{CanInstrument};
 ghost use Rattle.ms_words.specs.Limits.{RunsWithinLimits};
 ghost use Rattle.ms_top.specs.Command.{input_limit, setup_of as setup_with};
 ghost use Rattle.ms_top.specs.Explained.{CanLead, explained_with, followed, trace_with, way_with};
-ghost use Rattle.ms_top.specs.Said.{answer_of_explained, IsAnswerOfExplain};
+ghost use Rattle.ms_top.specs.Said.{answer_of_explained, IsExplanation, IsAnswerOfExplain};
 
-use crate::answers::{Answer, run_given, setup_of, status_of};
-use crate::passes::Pass;
+use crate::answers::{Answer, refused_threads, run_given, setup_of, status_of};
+use crate::passes::{Pass, has_threads};
 use ms_bits::{Bytes, NoMemory};
 use ms_check::CheckedModule;
 use ms_ir::Module;
@@ -24,7 +25,8 @@ use ms_words::Options;
 use std::alloc::Global;
 use std::thread::Threads;
 
-/// The answer of `explain`: for the run of the module that the pass gives, and for the way of the bits that it reports.
+/// The answer of `explain`: for the run of the module that the pass gives, and for the way of the bits that it reports. A module with
+/// threads is refused.
 pub fn answer_of_explain<R: Threads + Sync, P: Pass, L: SiteLines>(
     rt: &R,
     alloc: Global,
@@ -39,8 +41,31 @@ pub fn answer_of_explain<R: Threads + Sync, P: Pass, L: SiteLines>(
     requires input { length input.now ≤ input_limit }
     ensures { IfOk result (λ a. IsAnswerOfExplain P.gives (L.lines under.now) (setup_with options.now input.now) m.now a) }
 {
+    if has_threads(m) {
+        refused_threads(alloc)
+    } else {
+        explanation_of_run(rt, alloc, m, options, input, pass, under)
+    }
+}
+
+/// What explains the run of the module that the pass gives: that run, and the way of the bits that it reports.
+fn explanation_of_run<R: Threads + Sync, P: Pass, L: SiteLines>(
+    rt: &R,
+    alloc: Global,
+    m: &CheckedModule,
+    options: &Options,
+    input: &[u8],
+    pass: &P,
+    under: &L,
+) -> Result<Answer, NoMemory>
+    requires plain { CanInstrument m.now }
+    requires limits { RunsWithinLimits options.now }
+    requires input { length input.now ≤ input_limit }
+    requires alone { is_threaded m.now ≡ false }
+    ensures { IfOk result (λ a. IsExplanation P.gives (L.lines under.now) (setup_with options.now input.now) m.now a) }
+{
     let setup = setup_of(alloc, options, input)?;
-    let result = run_given(rt, alloc, m, &setup, pass)?;
+    let result = run_given(rt, alloc, m, &setup, options.schedule.as_slice(), pass)?;
     explanation(alloc, m, &setup, &result, under)
 }
 
@@ -54,6 +79,7 @@ fn explanation<L: SiteLines>(
 ) -> Result<Answer, NoMemory>
     requires plain { CanInstrument m.now }
     requires limits { WithinLimits setup.now }
+    requires alone { is_threaded m.now ≡ false }
     ensures { IfOk result (λ a. a ≡ answer_of_explained (L.lines under.now) m.now setup.now r.now) }
 {
     m.is_valid();
@@ -76,6 +102,7 @@ fn explained<L: SiteLines>(
 ) -> Result<Vec<u8>, NoMemory>
     requires plain { CanInstrument m.now }
     requires limits { WithinLimits setup.now }
+    requires alone { is_threaded m.now ≡ false }
     ensures { IfOk result (λ text. text.items ≡ explained_with (L.lines under.now) m.now setup.now r.now) }
 {
     m.is_valid();
@@ -97,6 +124,7 @@ fn lines_of_run<L: SiteLines>(
 ) -> Result<Vec<u8>, NoMemory>
     requires plain { CanInstrument m.now }
     requires limits { WithinLimits setup.now }
+    requires alone { is_threaded m.now ≡ false }
     ensures { IfOk result (λ text. text.items ≡ trace_with (L.lines under.now) m.now (followed m.now setup.now)) }
 {
     m.is_valid();

@@ -1,28 +1,25 @@
 //! What `gen` says: the text of the module that it makes, or the summary of its run.
-ghost use Rattle.std.specs.Prelude.{◌≡◌, ◌++◌, [], true, decimal, codes, length, IfOk};
-ghost use Rattle.ms_ir.specs.Places.{count_sites};
+ghost use Rattle.std.specs.Prelude.{◌≡◌, ◌∷◌, [], true, IfOk};
 ghost use Rattle.ms_valid.specs.Formed.{Formed};
 ghost use Rattle.ms_valid.specs.Uninstrumented.{CanInstrument};
 ghost use Rattle.ms_valid.specs.Valid.{Valid};
 ghost use Rattle.ms_written.specs.Modules.{written as text_of};
-ghost use Rattle.ms_report.specs.ReportTexts.{report_text_of};
-ghost use Rattle.ms_report.specs.RunTexts.{line, closing_of};
+ghost use Rattle.ms_report.specs.SummaryTexts.{summary_of};
 ghost use Rattle.ms_words.specs.Limits.{MadeWithinLimits};
 ghost use Rattle.ms_words.specs.Words.{defaults};
 ghost use Rattle.ms_gen.specs.Generator.{generated};
 ghost use Rattle.ms_top.specs.Command.{setup_of};
-ghost use Rattle.ms_top.specs.Said.{answer_of, status_of as status_of_run, summary_of, IsAnswerOfGen};
+ghost use Rattle.ms_top.specs.Said.{answer_of, status_of as status_of_run, IsAnswerOfGen};
 
 use crate::answers::{Answer, run_given, status_of};
 use crate::passes::Pass;
 use ms_bits::{Boxed, Bytes, NoMemory};
 use ms_check::CheckedModule;
 use ms_gen::generate;
-use ms_ir::{Module, sites_of_funcs};
-use ms_report::{closing, report_text};
+use ms_ir::Module;
+use ms_report::summary_text;
 use ms_runs::{RunResult, Setup};
 use ms_write::write;
-use ms_write_values::push_number;
 use std::alloc::Global;
 use std::thread::Threads;
 
@@ -94,8 +91,15 @@ pub fn summarised<R: Threads + Sync, P: Pass>(
 {
     m.is_valid();
     let setup = default_setup(alloc)?;
-    let result = run_given(rt, alloc, m, &setup, pass)?;
+    let result = run_given(rt, alloc, m, &setup, default_schedule(), pass)?;
     summary_answer(alloc, m.module(), &result)
+}
+
+/// The schedule of a run where no option is.
+fn default_schedule() -> &'static [u8]
+    ensures { result.now ≡ 0 ∷ [] }
+{
+    b"\0"
 }
 
 /// What a run is given where no option is: no input, the fill a5, ten million steps, one report.
@@ -116,75 +120,10 @@ fn summary_answer(alloc: Global, m: &Module, r: &RunResult) -> Result<Answer, No
     requires { Formed m.now }
     ensures { IfOk result (λ a. a ≡ answer_of (status_of_run r.now) (summary_of m.now r.now) []) }
 {
-    let out = summary(alloc, m, r)?;
+    let out = summary_text(alloc, m, r)?;
     Ok(Answer {
         status: status_of(r),
         out: Bytes::from_vec(out),
         err: Bytes::from_vec(Vec::new(alloc)),
     })
-}
-
-/// The lines of a summary.
-fn summary(alloc: Global, m: &Module, r: &RunResult) -> Result<Vec<u8>, NoMemory>
-    requires { Formed m.now }
-    ensures { IfOk result (λ text. text.items ≡ summary_of m.now r.now) }
-{
-    let mut text = lines_of_size(alloc, m, r)?;
-    let lines = lines_of(alloc, m, r)?;
-    text.extend_from_slice(&lines)?;
-    Ok(text)
-}
-
-/// The lines of a run's reports, and then the closing lines, with the verdict.
-fn lines_of(alloc: Global, m: &Module, r: &RunResult) -> Result<Vec<u8>, NoMemory>
-    requires { Formed m.now }
-    ensures { IfOk result (λ text. text.items ≡ report_text_of m.now r.now ++ closing_of m.now r.now true) }
-{
-    let mut text = report_text(alloc, m, r)?;
-    let lines = closing(alloc, m, r, true)?;
-    text.extend_from_slice(&lines)?;
-    Ok(text)
-}
-
-/// The lines on the size of a module and of its output.
-fn lines_of_size(alloc: Global, m: &Module, r: &RunResult) -> Result<Vec<u8>, NoMemory>
-    requires { Formed m.now }
-    ensures { IfOk result (λ text. text.items ≡
-        line (codes "functions") (decimal (length m.now.funcs)) ++ line (codes "sites") (decimal (count_sites m.now)) ++ line (codes "output") (decimal (length r.now.output) ++ codes " bytes")) }
-{
-    let mut text = Vec::new(alloc);
-    push_count(&mut text, b"functions", m.funcs.as_slice().len() as u64)?;
-    push_sites(&mut text, m)?;
-    push_output(&mut text, r)?;
-    Ok(text)
-}
-
-/// Adds the line of a number with a name.
-fn push_count(text: &mut Vec<u8>, name: &[u8], count: u64) -> Result<(), NoMemory>
-    ensures { IfOk result (λ _. text.new.items ≡ text.old.items ++ line name.now (decimal count)) }
-{
-    text.extend_from_slice(name)?;
-    text.extend_from_slice(b": ")?;
-    push_number(text, count)?;
-    text.push(b'\n')?;
-    Ok(())
-}
-
-/// Adds the line of a module's number of sites.
-fn push_sites(text: &mut Vec<u8>, m: &Module) -> Result<(), NoMemory>
-    requires { Formed m.now }
-    ensures { IfOk result (λ _. text.new.items ≡ text.old.items ++ line (codes "sites") (decimal (count_sites m.now))) }
-{
-    let sites = sites_of_funcs(m.funcs.as_slice());
-    push_count(text, b"sites", sites as u64)
-}
-
-/// Adds the line of how many bytes a run put out.
-fn push_output(text: &mut Vec<u8>, r: &RunResult) -> Result<(), NoMemory>
-    ensures { IfOk result (λ _. text.new.items ≡ text.old.items ++ line (codes "output") (decimal (length r.now.output) ++ codes " bytes")) }
-{
-    text.extend_from_slice(b"output: ")?;
-    push_number(text, r.output.as_slice().len() as u64)?;
-    text.extend_from_slice(b" bytes\n")?;
-    Ok(())
 }

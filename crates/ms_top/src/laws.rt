@@ -4,6 +4,7 @@ ghost use Rattle.std.specs.Prelude.{◌≡◌, ◌≢◌, ◌⊎◌, ℕ, true, 
 ghost use Rattle.ms_io.specs.Counts.{Rose};
 ghost use Rattle.ms_io.specs.Reading.{Holdings};
 ghost use Rattle.ms_ir.specs.declared.syntax.Module.{Module};
+ghost use Rattle.ms_ir.specs.ThreadCalls.{is_threaded};
 ghost use Rattle.ms_runs.specs.declared.runs.RunResult.{RunResult};
 ghost use Rattle.ms_runs.specs.Faithful.{Fair, Faithful};
 ghost use Rattle.ms_runs.specs.Shadow.{shadow};
@@ -23,8 +24,10 @@ ghost use Rattle.ms_words.specs.Usage.{usage, version_line};
 ghost use Rattle.ms_words.specs.Words.{asks, command_of, defaults};
 ghost use Rattle.ms_places.specs.Indented.{unindented};
 ghost use Rattle.ms_report.specs.FaultTexts.{fault_text};
+ghost use Rattle.ms_report.specs.RefusalTexts.{threads_text};
 ghost use Rattle.ms_report.specs.ReportTexts.{report_text_of};
 ghost use Rattle.ms_report.specs.RunTexts.{closing_of};
+ghost use Rattle.ms_report.specs.SummaryTexts.{summary_of};
 ghost use Rattle.ms_report.specs.WithLines.{Lines, no_lines};
 ghost use Rattle.ms_report.specs.WordsTexts.{words_text};
 ghost use Rattle.ms_valid.specs.Refusals.{Fault};
@@ -32,15 +35,17 @@ ghost use Rattle.ms_gen.specs.Generator.{generated};
 ghost use Rattle.ms_grammar.specs.Texts.{Reads};
 ghost use Rattle.ms_ir.specs.declared.forms.Form.TheVariants.{Plain};
 ghost use Rattle.ms_valid.specs.Valid.{Valid};
-ghost use Rattle.ms_top.specs.Answered.{AreHeld, IsDoneStatus, Begins};
+ghost use Rattle.ms_top.specs.Answered.{AreHeld, IsTaken, IsDoneStatus, Begins};
 ghost use Rattle.ms_top.specs.Added.{with_locations, without_lines, without_any_lines, CorpusAdds};
 ghost use Rattle.ms_top.specs.Command.{files_of, form_of, input_limit, only_input, setup_of};
 ghost use Rattle.ms_top.specs.Explained.{no_report};
 ghost use Rattle.ms_top.specs.Files.{Counted, CanRead, Whole};
-ghost use Rattle.ms_top.specs.Promised.{NothingRan, ShadowShown, ShowsWay, WayShown};
+ghost use Rattle.ms_top.specs.Promised.{NothingRan, ShadowShown, ThreadsRefused, ShowsWay, WayShown};
+ghost use Rattle.ms_threads.specs.Faithful.{IsSchedule};
+ghost use Rattle.ms_top.specs.Runs.{shadow_under, HoldsUnder};
 ghost use Rattle.ms_top.specs.Instrumented.{IsInstrumented};
 ghost use Rattle.ms_top.specs.Lines.{AreLines, fault_text_with};
-ghost use Rattle.ms_top.specs.Said.{IsAnswer, IsAnswerToCommand, IsAnswerOfGen, IsAnswerToText, IsAnswerToValid, DifferInPath, answer_of, answer_of_result, answer_of_explained, answer_of_results, run_text, says, status_of, summary_of};
+ghost use Rattle.ms_top.specs.Said.{IsAnswer, IsAnswerToCommand, IsAnswerOfGen, IsAnswerToText, IsAnswerToValid, DifferInPath, answer_of, answer_of_result, answer_of_explained, answer_of_results, run_text, says, status_of};
 ghost use Rattle.ms_top.specs.Written.{IsLimitRefusal, RunsAlike};
 
 use crate::passes::Pass;
@@ -66,41 +71,47 @@ pub fn questions_are_answered()
 {}
 
 /// What is said of a checked module is its shadow run with the verdict, where the setup is fair, as those of options within the
-/// limits are with an input of bytes that is within its limit; of a generated one that is run,
-/// the summary of its shadow run with the default options, whose setup is fair: no input, the fill a5, ten million steps, one
-/// report. A clean verdict, and a first report where no blind use was counted, hold under every fill.
+/// limits are with an input of bytes that is within its limit; of one with threads that under the schedule of the options. Of a
+/// generated one that is run, which has no threads, it is the summary of its shadow run with the default options, whose setup is
+/// fair: no input, the fill a5, ten million steps, one report, the schedule 00. A clean verdict, and a first report where no blind use was counted, hold under
+/// every fill, with threads under the same schedule; of two schedules nothing is said.
 pub fn checks_show_the_shadow_run()
-    ensures shadow { (under : Lines) (file : List ℕ) (inputs : List (List ℕ)) (o : Options) (m : Module) (a : Answer) → let s = setup_of o (only_input inputs) in Fair s
-        → IsAnswerToValid IsInstrumented under (Check file o) inputs m a → a ≡ answer_of_result under true m (shadow m s) }
-    ensures under_fills { (under : Lines) (file : List ℕ) (inputs : List (List ℕ)) (o : Options) (m : Module) (a : Answer) → let s = setup_of o (only_input inputs) in Fair s
-        → IsAnswerToValid IsInstrumented under (Check file o) inputs m a → HoldsUnderFills m s (shadow m s) }
-    ensures sections { (under : Lines) (file : List ℕ) (names inputs : List (List ℕ)) (o : Options) (workers : ℕ) (m : Module) (a : Answer) → All (λ input. Fair (setup_of o input)) inputs
+    ensures shadow { (under : Lines) (file : List ℕ) (inputs : List (List ℕ)) (o : Options) (m : Module) (a : Answer) → let s = setup_of o (only_input inputs) in Fair s → IsSchedule o.schedule
+        → IsAnswerToValid IsInstrumented under (Check file o) inputs m a → a ≡ answer_of_result under true m (shadow_under (is_threaded m) m s o.schedule) }
+    ensures under_fills { (under : Lines) (file : List ℕ) (inputs : List (List ℕ)) (o : Options) (m : Module) (a : Answer) → let s = setup_of o (only_input inputs) in Fair s → IsSchedule o.schedule
+        → IsAnswerToValid IsInstrumented under (Check file o) inputs m a → HoldsUnder (is_threaded m) m s o.schedule (shadow_under (is_threaded m) m s o.schedule) }
+    ensures sections { (under : Lines) (file : List ℕ) (names inputs : List (List ℕ)) (o : Options) (workers : ℕ) (m : Module) (a : Answer) → is_threaded m ≡ false → All (λ input. Fair (setup_of o input)) inputs
         → IsAnswerToValid IsInstrumented under (Corpus file names o workers) inputs m a → a ≡ answer_of_results under m names (map (λ input. shadow m (setup_of o input)) inputs) }
-    ensures sections_under_fills { (under : Lines) (file : List ℕ) (names inputs : List (List ℕ)) (o : Options) (workers : ℕ) (m : Module) (a : Answer)
+    ensures sections_under_fills { (under : Lines) (file : List ℕ) (names inputs : List (List ℕ)) (o : Options) (workers : ℕ) (m : Module) (a : Answer) → is_threaded m ≡ false
         → IsAnswerToValid IsInstrumented under (Corpus file names o workers) inputs m a → (input : List ℕ) → Fair (setup_of o input) → HoldsUnderFills m (setup_of o input) (shadow m (setup_of o input)) }
     ensures summary { (m : Module) (a : Answer) → IsAnswerOfGen IsInstrumented true m a
-        → let r = shadow m (setup_of defaults []) in a ≡ answer_of (status_of r) (summary_of m r) [] }
+        → let r = shadow_under (is_threaded m) m (setup_of defaults []) defaults.schedule in a ≡ answer_of (status_of r) (summary_of m r) [] }
+    ensures generated { (seed functions : ℕ) (a : Answer) → IsAnswerOfGen IsInstrumented true (generated seed functions) a
+        → let r = shadow (generated seed functions) (setup_of defaults []) in a ≡ answer_of (status_of r) (summary_of (generated seed functions) r) [] }
     ensures fair { (o : Options) (input : List ℕ) → RunsWithinLimits o → length input ≤ input_limit → All (λ b. b < 2 ^ 8) input → Fair (setup_of o input) }
     ensures defaults { Fair (setup_of defaults []) }
-    ensures spelled { defaults ≡ record { input = None; fill = 0xa5 ∷ []; steps = 10000000; reports = 1; locations = false } }
+    ensures spelled { defaults ≡ record { input = None; fill = 0xa5 ∷ []; steps = 10000000; reports = 1; schedule = 0 ∷ []; locations = false } }
 {}
 
 /// What `explain` says of a checked module is the first report of its shadow run, where the setup is fair, with the way of that
 /// report's bits over the moves of that run, or that there is none; the closing lines are those of `check`. The way begins at a root
-/// that the run had reached, each place on it is what the next move reads, and the last is what the report's use reads.
+/// that the run had reached, each place on it is what the next move reads, and the last is what the report's use reads. A module with
+/// threads is refused.
 pub fn explanations_show_the_way()
-    ensures shadow { (under : Lines) (file : List ℕ) (inputs : List (List ℕ)) (o : Options) (m : Module) (a : Answer) → let s = setup_of o (only_input inputs) in Fair s
+    ensures shadow { (under : Lines) (file : List ℕ) (inputs : List (List ℕ)) (o : Options) (m : Module) (a : Answer) → is_threaded m ≡ false → let s = setup_of o (only_input inputs) in Fair s
         → IsAnswerToValid IsInstrumented under (Explain file o) inputs m a → a ≡ answer_of_explained under m s (shadow m s) }
-    ensures way { (under : Lines) (file : List ℕ) (inputs : List (List ℕ)) (o : Options) (m : Module) (a : Answer) → let s = setup_of o (only_input inputs) in Fair s
+    ensures way { (under : Lines) (file : List ℕ) (inputs : List (List ℕ)) (o : Options) (m : Module) (a : Answer) → is_threaded m ≡ false → let s = setup_of o (only_input inputs) in Fair s
         → IsAnswerToValid IsInstrumented under (Explain file o) inputs m a → (shadow m s).reports ≢ [] → ShowsWay under m s a.out }
-    ensures none { (under : Lines) (file : List ℕ) (inputs : List (List ℕ)) (o : Options) (m : Module) (a : Answer) → let s = setup_of o (only_input inputs) in Fair s
+    ensures none { (under : Lines) (file : List ℕ) (inputs : List (List ℕ)) (o : Options) (m : Module) (a : Answer) → is_threaded m ≡ false → let s = setup_of o (only_input inputs) in Fair s
         → IsAnswerToValid IsInstrumented under (Explain file o) inputs m a → (shadow m s).reports ≡ [] → a.out ≡ no_report }
+    ensures threads { (under : Lines) (file : List ℕ) (o : Options) (inputs : List (List ℕ)) (m : Module) (a : Answer) → is_threaded m ≡ true
+        → IsAnswerToValid IsInstrumented under (Explain file o) inputs m a → a ≡ says 5 threads_text }
 {}
 
 /// The same of every pass, where the modules that it gives are faithful.
 pub fn faithful_passes_explain<P: Pass>()
     ensures { (under : Lines) (file : List ℕ) (inputs : List (List ℕ)) (o : Options) (m : Module) (a : Answer) → ((j : Module) → P.gives m j → Faithful m j)
-        → let s = setup_of o (only_input inputs) in Fair s → IsAnswerToValid P.gives under (Explain file o) inputs m a → a ≡ answer_of_explained under m s (shadow m s) }
+        → is_threaded m ≡ false → let s = setup_of o (only_input inputs) in Fair s → IsAnswerToValid P.gives under (Explain file o) inputs m a → a ≡ answer_of_explained under m s (shadow m s) }
 {}
 
 /// What `instrument` writes is the text of a faithful module, and of no other formed module. `run` says of that text what `check`
@@ -140,7 +151,7 @@ pub fn lines_are_added()
 /// A valid module is never refused: where a text reads as a valid module, what is to be said of it is an answer for that module.
 /// So it is for words that are a command, where the files are told and hold the texts within their limits, and no fault of
 /// theirs was counted. The status of such an answer is one of four; only `msan` itself may say instead that memory ran out. What is
-/// generated has no file.
+/// generated has no file. Only commands that take no schedule, `corpus` and `explain`, refuse a module with threads.
 pub fn valid_modules_are_answered()
     ensures text { (command : Command) (inputs : List (List ℕ)) (text : List ℕ) (m : Module) (a : Answer) → Reads (form_of command) text m → Valid m
         → IsAnswerToText IsInstrumented command inputs text a
@@ -151,24 +162,26 @@ pub fn valid_modules_are_answered()
         → (under : Lines) × AreLines command text m under × IsAnswerToValid IsInstrumented under command inputs m a }
     ensures generated { (c : Counted) (words : List (List ℕ)) (seed functions : ℕ) (run : Bool) (a : Answer) → command_of words ≡ Ok (Gen seed functions run)
         → IsAnswer IsInstrumented c words a → IsAnswerOfGen IsInstrumented run (generated seed functions) a }
-    ensures status { (under : Lines) (command : Command) (inputs : List (List ℕ)) (m : Module) (a : Answer) → IsAnswerToValid IsInstrumented under command inputs m a → IsDoneStatus a.status }
+    ensures status { (under : Lines) (command : Command) (inputs : List (List ℕ)) (m : Module) (a : Answer) → IsTaken command m → IsAnswerToValid IsInstrumented under command inputs m a → IsDoneStatus a.status }
+    ensures threads { (under : Lines) (file : List ℕ) (names : List (List ℕ)) (o : Options) (workers : ℕ) (inputs : List (List ℕ)) (m : Module) (a : Answer) → is_threaded m ≡ true
+        → IsAnswerToValid IsInstrumented under (Corpus file names o workers) inputs m a → a ≡ says 5 threads_text }
 {}
 
 /// The output of `check` on a module is a beginning of the output of `run` on it, with the same options and input, where the setup
-/// is fair; unless the checked run ends as reported, both print the same and end in the same way. The same holds of one text that
-/// both read.
+/// is fair; unless the checked run ends as reported, both print the same and end in the same way. With threads both have one schedule.
+/// The same holds of one text that both read.
 pub fn checks_begin_runs()
-    ensures valid { (under below : Lines) (file name : List ℕ) (inputs : List (List ℕ)) (o : Options) (m : Module) (a b : Answer) → Fair (setup_of o (only_input inputs))
+    ensures valid { (under below : Lines) (file name : List ℕ) (inputs : List (List ℕ)) (o : Options) (m : Module) (a b : Answer) → Fair (setup_of o (only_input inputs)) → IsSchedule o.schedule
         → IsAnswerToValid IsInstrumented under (Check file o) inputs m a → IsAnswerToValid IsInstrumented below (Run name o) inputs m b → Begins m a b }
-    ensures text { (file name : List ℕ) (inputs : List (List ℕ)) (o : Options) (text : List ℕ) (m : Module) (a b : Answer) → Fair (setup_of o (only_input inputs))
+    ensures text { (file name : List ℕ) (inputs : List (List ℕ)) (o : Options) (text : List ℕ) (m : Module) (a b : Answer) → Fair (setup_of o (only_input inputs)) → IsSchedule o.schedule
         → Reads Plain text m → Valid m → IsAnswerToText IsInstrumented (Check file o) inputs text a → IsAnswerToText IsInstrumented (Run name o) inputs text b → Begins m a b }
 {}
 
 /// What is read is bytes, whether the files tell what they hold or not, and the fields of a command that words ask for are within
 /// their limits. So of any words that ask for a check what is to be said is this, with no premise on files: nothing was run, since a
 /// file couldn't be read or was too long, or since the text that was read isn't a valid module's; or a text was read as a valid
-/// module, and the answer is its shadow run with a fair setup. Then a clean verdict and a first report hold under every fill, and a
-/// clean verdict where each step has a fill of its own.
+/// module, and the answer is its shadow run with a fair setup. Then a clean verdict and a first report hold under every fill, with
+/// threads under the same schedule, and without threads a clean verdict also where each step has a fill of its own.
 pub fn checks_hold()
     ensures words { (c : Counted) (words : List (List ℕ)) (file : List ℕ) (o : Options) (a : Answer) → command_of words ≡ Ok (Check file o)
         → IsAnswer IsInstrumented c words a → NothingRan c (files_of (Check file o)) a ⊎ ShadowShown c file o a }
@@ -180,11 +193,12 @@ pub fn checks_hold()
     ensures limits { (words : List (List ℕ)) (command : Command) → command_of words ≡ Ok command → IsWithinLimits command }
 {}
 
-/// Of any words that ask for an explanation what is to be said is this, with no premise on files: nothing was run, as of a check; or it
-/// explains what `check` says of the same files with the same options, and shows the way of the bits of a report.
+/// Of any words that ask for an explanation what is to be said is this, with no premise on files: nothing was run, as of a check, or
+/// since a valid module with threads was read; or it explains what `check` says of the same files with the same options, and shows
+/// the way of the bits of a report.
 pub fn explanations_hold()
     ensures words { (c : Counted) (words : List (List ℕ)) (file : List ℕ) (o : Options) (a : Answer) → command_of words ≡ Ok (Explain file o)
-        → IsAnswer IsInstrumented c words a → NothingRan c (files_of (Explain file o)) a ⊎ WayShown c file o a }
+        → IsAnswer IsInstrumented c words a → NothingRan c (files_of (Explain file o)) a ⊎ (ThreadsRefused c file o a ⊎ WayShown c file o a) }
     ensures commands { (c : Counted) (file : List ℕ) (o : Options) (a : Answer) → RunsWithinLimits o
-        → IsAnswerToCommand IsInstrumented c (Explain file o) a → NothingRan c (files_of (Explain file o)) a ⊎ WayShown c file o a }
+        → IsAnswerToCommand IsInstrumented c (Explain file o) a → NothingRan c (files_of (Explain file o)) a ⊎ (ThreadsRefused c file o a ⊎ WayShown c file o a) }
 {}

@@ -1,8 +1,9 @@
 //! The pass as a parameter of the top call.
-ghost use Rattle.std.specs.Prelude.{◌≡◌, IfOk};
+ghost use Rattle.std.specs.Prelude.{◌≡◌, true, false, IfOk};
 ghost use Rattle.std.specs.Thread.{IsSync};
 ghost use Rattle.ms_ir.specs.declared.syntax.Module.{Module as ModuleOf};
 ghost use Rattle.ms_ir.specs.Code.{strip};
+ghost use Rattle.ms_ir.specs.ThreadCalls.{is_threaded};
 ghost use Rattle.ms_valid.specs.Formed.{Formed};
 ghost use Rattle.ms_valid.specs.Uninstrumented.{CanInstrument};
 ghost use Rattle.ms_top.specs.Instrumented.{IsInstrumented};
@@ -12,6 +13,7 @@ use ms_check::CheckedModule;
 use ms_fork::OpenGate;
 use ms_ir::Module;
 use ms_pass::{instrument, instrumented};
+use ms_threads::{instrument_threads, instrumented_threads, threaded};
 use std::alloc::Global;
 use std::thread::Threads;
 
@@ -52,7 +54,15 @@ pub trait Pass {
     }
 }
 
-/// The module that a pass makes, on the heap. The one error is that it runs out of memory.
+/// Whether a checked module has threads. Takes no memory; linear in the module.
+pub(crate) fn has_threads(m: &CheckedModule) -> bool
+    ensures { result ≡ is_threaded m.now }
+{
+    threaded(m.module())
+}
+
+/// The module that a pass makes, on the heap: it has threads exactly where the one that is read has. The one error is that it runs
+/// out of memory.
 pub(crate) fn instrumented_by<R: Threads + Sync, P: Pass>(
     rt: &R,
     alloc: Global,
@@ -60,9 +70,11 @@ pub(crate) fn instrumented_by<R: Threads + Sync, P: Pass>(
     pass: &P,
 ) -> Result<Boxed<CheckedModule>, NoMemory>
     requires { CanInstrument m.now }
-    ensures { IfOk result (λ j. P.gives m.now j) }
+    ensures gives { IfOk result (λ j. P.gives m.now j) }
+    ensures threads { IfOk result (λ j. is_threaded j ≡ is_threaded m.now) }
 {
     let instrumented = pass.instrument(rt, alloc, m)?;
+    instrumented.is_valid();
     Boxed::new(alloc, instrumented)
 }
 
@@ -79,6 +91,72 @@ impl<G> RealPass<G> {
     }
 }
 
+/// The module that the pass makes of one without threads.
+fn made_alone<R: Threads + Sync>(
+    rt: &R,
+    alloc: Global,
+    m: &CheckedModule,
+    gate: &OpenGate,
+) -> Result<CheckedModule, NoMemory>
+    requires plain { CanInstrument m.now }
+    requires alone { is_threaded m.now ≡ false }
+    ensures gives { IfOk result (λ j. IsInstrumented m.now j) }
+    ensures stripped { IfOk result (λ j. strip j ≡ m.now) }
+{
+    let module = instrument(rt, alloc, m, gate)?;
+    module.is_valid();
+    Ok(module)
+}
+
+/// The same of one with threads.
+fn made_with_threads<R: Threads + Sync>(
+    rt: &R,
+    alloc: Global,
+    m: &CheckedModule,
+    gate: &OpenGate,
+) -> Result<CheckedModule, NoMemory>
+    requires plain { CanInstrument m.now }
+    requires threads { is_threaded m.now ≡ true }
+    ensures gives { IfOk result (λ j. IsInstrumented m.now j) }
+    ensures stripped { IfOk result (λ j. strip j ≡ m.now) }
+{
+    let module = instrument_threads(rt, alloc, m, gate)?;
+    module.is_valid();
+    Ok(module)
+}
+
+/// The module that the pass makes of one without threads, for being written.
+fn written_alone<R: Threads + Sync>(
+    rt: &R,
+    alloc: Global,
+    m: &CheckedModule,
+    gate: &OpenGate,
+) -> Result<Module, NoMemory>
+    requires plain { CanInstrument m.now }
+    requires alone { is_threaded m.now ≡ false }
+    ensures gives { IfOk result (λ j. IsInstrumented m.now j) }
+    ensures formed { IfOk result (λ j. Formed j) }
+{
+    let module = instrumented(rt, alloc, m, gate)?;
+    Ok(module)
+}
+
+/// The same of one with threads.
+fn written_with_threads<R: Threads + Sync>(
+    rt: &R,
+    alloc: Global,
+    m: &CheckedModule,
+    gate: &OpenGate,
+) -> Result<Module, NoMemory>
+    requires plain { CanInstrument m.now }
+    requires threads { is_threaded m.now ≡ true }
+    ensures gives { IfOk result (λ j. IsInstrumented m.now j) }
+    ensures formed { IfOk result (λ j. Formed j) }
+{
+    let module = instrumented_threads(rt, alloc, m, gate)?;
+    Ok(module)
+}
+
 impl Pass for RealPass<OpenGate> {
     ghost gives = { IsInstrumented };
 
@@ -88,9 +166,11 @@ impl Pass for RealPass<OpenGate> {
         alloc: Global,
         m: &CheckedModule,
     ) -> Result<CheckedModule, NoMemory> {
-        let module = instrument(rt, alloc, m, &self.gate)?;
-        module.is_valid();
-        Ok(module)
+        if has_threads(m) {
+            made_with_threads(rt, alloc, m, &self.gate)
+        } else {
+            made_alone(rt, alloc, m, &self.gate)
+        }
     }
 
     fn instrumented<R: Threads + Sync>(
@@ -99,7 +179,11 @@ impl Pass for RealPass<OpenGate> {
         alloc: Global,
         m: &CheckedModule,
     ) -> Result<Module, NoMemory> {
-        instrumented(rt, alloc, m, &self.gate)
+        if has_threads(m) {
+            written_with_threads(rt, alloc, m, &self.gate)
+        } else {
+            written_alone(rt, alloc, m, &self.gate)
+        }
     }
 }
 

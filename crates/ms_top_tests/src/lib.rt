@@ -70,9 +70,13 @@ mod runs;
 #[cfg(test)]
 mod runtime;
 #[cfg(test)]
+mod schedules;
+#[cfg(test)]
 mod site_lines;
 #[cfg(test)]
 mod texts;
+#[cfg(test)]
+mod threads;
 #[cfg(test)]
 mod trails;
 #[cfg(test)]

@@ -1,5 +1,6 @@
 //! Ways over the moves of a run: the one that is found and taken, and lists of hops that are none.
-ghost use Rattle.std.specs.Prelude.{◌<◌, ◌^◌, length, IfOk};
+ghost use Rattle.std.specs.Prelude.{◌≡◌, ◌<◌, ◌^◌, length, IfOk, false};
+ghost use Rattle.ms_ir.specs.ThreadCalls.{is_threaded};
 ghost use Rattle.ms_runs.specs.Limits.{WithinLimits};
 ghost use Rattle.ms_valid.specs.Formed.{Formed};
 ghost use Rattle.ms_valid.specs.Uninstrumented.{CanInstrument};
@@ -14,6 +15,7 @@ use ms_moves::checks::check_trail;
 use ms_moves::moves::{Hop, Move, Source};
 use ms_read_top::read;
 use ms_runs::Setup;
+use ms_threads::threaded;
 use ms_trail::found::Trace;
 use ms_trail::traces::trace;
 use std::alloc::{AllocError, Global};
@@ -135,6 +137,7 @@ fn leads(alloc: Global, found: &Trace, way: &Way) -> bool
 fn is_followed(alloc: Global, m: &CheckedModule, setup: &Setup, way: &Way) -> bool
     requires plain { CanInstrument m.now }
     requires limits { WithinLimits setup.now }
+    requires alone { is_threaded m.now ≡ false }
 {
     match trace(alloc, m, setup) {
         Ok(found) => leads(alloc, &found, way),
@@ -157,6 +160,9 @@ fn default_setup(alloc: Global) -> Result<Setup, AllocError>
 fn is_run(alloc: Global, m: &CheckedModule, way: &Way) -> bool
     requires { CanInstrument m.now }
 {
+    if threaded(m.module()) {
+        return false;
+    }
     match default_setup(alloc) {
         Ok(setup) => is_followed(alloc, m, &setup, way),
         Err(_) => false,

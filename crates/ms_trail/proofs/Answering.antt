@@ -2,6 +2,7 @@
 use Rattle.std.proofs.Common.{◌≡◌, ◌<◌, ◌+◌, ◌%◌, ℕ, Bool, true, false, not, ◌&&◌, ◌||◌, eqb, List, [], ◌∷◌, ◌++◌, map, length, reverse, if◌then◌else◌, Option, Some, None, is_some, unwrap_or, Result, Ok, Err, refl, sym, ap, ◌∙◌, subst, append_assoc, append-nil}
 use Rattle.std.specs.Prelude.{slice_get}
 use Rattle.std.proofs.lemmas.Option.{same_Some}
+use Rattle.ms_bits.specs.Maps.{byte_of}
 use Rattle.ms_bits.specs.WordFunctions.{bits_of, word_answer}
 use Rattle.ms_bits.specs.declared.traps.Trap.{Trap}
 use Rattle.ms_bits.specs.declared.word_functions.WordFn.{WordFn}
@@ -16,19 +17,22 @@ use Rattle.ms_ir.specs.declared.syntax.Op.TheVariants as op
 use Rattle.ms_ir.specs.declared.syntax.Inst.{Inst}
 use Rattle.ms_ir.specs.declared.syntax.Module.{Module}
 use Rattle.ms_ir.specs.declared.calls.External.{External}
-use Rattle.ms_ir.specs.declared.calls.External.TheVariants.{Malloc, Realloc, Memcpy, Memmove, Memset, Read, LlvmMemcpy, LlvmMemmove, LlvmMemset, LifetimeStart, Word}
+use Rattle.ms_ir.specs.declared.calls.External.TheVariants.{Malloc, Realloc, Memcpy, Memmove, Memset, Read, LlvmMemcpy, LlvmMemmove, LlvmMemset, LifetimeStart, PthreadCreate, PthreadJoin, Word}
 use Rattle.ms_ir.specs.Names.{lookup, externals}
 use Rattle.ms_ir.specs.Locals.{locals}
-use Rattle.ms_ir.specs.Signatures.{called_signature}
+use Rattle.ms_ir.specs.Signatures.{called_signature, is_thread_call}
+use Rattle.ms_ir.specs.ThreadCalls.{is_asked, calls_thread}
 use Rattle.ms_ir.specs.Code.{func_at, operands, count_undefs, insts_at, root_at, site_at, external_named}
 use Rattle.ms_runs.specs.declared.runs.End.{End}
 use Rattle.ms_runs.specs.declared.runs.Setup.{Setup}
 use Rattle.ms_runs.specs.World.{World, Setting, Here, Effect, Gives, Does, Goes, Enters, Leaves, Ends, gives, word}
 use Rattle.ms_runs.specs.Memory.{heap_size, is_good, next_base, copy_shadow, set_shadow}
 use Rattle.ms_runs.specs.Externals.{external}
+use Rattle.ms_runs.specs.Threads.{thread_at, has_ended}
 use Rattle.ms_runs.specs.Origins.{copy_planes, count_blind, unpoison}
-use Rattle.ms_runs.specs.Control.{Frame, here, read_all, block_name, params_at, one_on, put, after_effect}
+use Rattle.ms_runs.specs.Control.{Frame, here, read_all, block_name, params_at, one_on, put, local_block, keeping, after_effect}
 use Rattle.ms_runs.specs.Act.{act}
+use Rattle.ms_runs.proofs.HeapBlocks.{keeps_none}
 use Rattle.ms_runs.specs.Plain.{PlainState, More, Stop, setting_of}
 use Rattle.ms_runs.specs.Poisoned.{Poisoned, clean}
 use Rattle.ms_runs.specs.Masks.{by_formulas, union, word_at, answer_mask, answer_origin, as_result, result_mask}
@@ -37,6 +41,7 @@ use Rattle.ms_runs.specs.Shadow.{ShadowState, read_poisoned, planes, poisoned_re
 use Rattle.ms_runs_good.specs.GoodStates.{PoisonedBelow}
 use Rattle.ms_runs_good.specs.Straight.{HaveTypes}
 use Rattle.ms_runs_good.proofs.CallTypes.{CallsAs, external_call}
+use Rattle.ms_runs_good.proofs.ThreadsApart.{none_due}
 use Rattle.ms_runs_good.proofs.Frames.{same_insts, read_all_have}
 use Rattle.ms_runs_good.proofs.Readings.{shadow_read}
 use Rattle.ms_runs_good.proofs.ShadowSteps.{numbers_have}
@@ -57,7 +62,7 @@ use Rattle.ms_machine_steps.specs.Waiting.{types_due}
 use Rattle.ms_machine_steps.specs.Advances.{step_of}
 use Rattle.ms_machine.specs.Running.{IsRunning}
 use Rattle.ms_runtime.proofs.Fitting.{fits_first}
-use Rattle.ms_follow_laws.specs.Follows.{light, fill_shadow, external_shadow, callee_shadow, shadow_left, leave_shadow, step_shadow}
+use Rattle.ms_follow_laws.specs.Follows.{light, fill_shadow, answer_shadow, external_shadow, callee_shadow, shadow_left, leave_shadow, step_shadow}
 use Rattle.ms_follow_laws.proofs.Light.{light_effect}
 use Rattle.ms_follow_laws.proofs.Planes.{planes_light, blind_shows}
 use Rattle.ms_moves.specs.declared.moves.Source.{Source}
@@ -153,6 +158,13 @@ cleaned_good b m w a n = by_test (is_good w b m)
     by_test true = refl
     by_test false = refl
 
+joined_good : (b id v : ℕ) (w : World) (a n : ℕ) → is_good (answer_shadow b id v w) a n ≡ is_good w a n
+joined_good b id v w a n = by_test (eqb v 0 && not (eqb b 0) && is_good w b 8 && has_ended (thread_at id w.threads))
+  where
+    by_test : (t : Bool) → is_good (if t then set_shadow b 8 (byte_of (w.answer_masks id)) w else w) a n ≡ is_good w a n
+    by_test true = refl
+    by_test false = refl
+
 shadow_good : (e : External) (ps : List Poisoned) (before : World) (v : ℕ) (w : World) (a n : ℕ) → is_good (external_shadow e ps before v w) a n ≡ is_good w a n
 shadow_good Malloc ps before v w a n = poison_same v 0 (word_at 0 ps).value w a n
 shadow_good Realloc ps before v w a n = poison_same v (unwrap_or (heap_size before (word_at 0 ps).value) 0) (word_at 1 ps).value w a n
@@ -164,6 +176,8 @@ shadow_good Memset ps before v w a n = filled_good (word_at 0 ps).value (word_at
 shadow_good LlvmMemset ps before v w a n = filled_good (word_at 0 ps).value (word_at 2 ps).value (word_at 1 ps).mask w a n
 shadow_good Read ps before v w a n = cleaned_good (word_at 1 ps).value v w a n
 shadow_good LifetimeStart ps before v w a n = poison_same (word_at 1 ps).value 0 (word_at 0 ps).value w a n
+shadow_good PthreadCreate ps before v w a n = cleaned_good (word_at 0 ps).value (if eqb v 0 then 8 else 0) w a n
+shadow_good PthreadJoin ps before v w a n = joined_good (word_at 1 ps).value (word_at 0 ps).value v w a n
 shadow_good e ps before v w a n = refl
 
 -- ---- the frame behind a call
@@ -283,6 +297,11 @@ module _ (m : Module) (u : Setup) (t : Traced) (old : Follower) (o : IsFollowed 
   found : lookup externals callee ≡ Some e
   found = sym (ap (λ (x : Option ℕ). if is_some x then None else lookup externals callee) none) ∙ named
 
+  -- it is no thread call
+  pub alone : is_thread_call e ≡ false
+  alone =
+      sym (ap (λ (q : Option External). is_asked q) named) ∙ sym (ap (λ (x : Op). calls_thread s.func x) calls) ∙ none_due m o.calm fr.func fr.block fr.place i d.coded.item
+
   declared : CallsAs ret typed (called_signature e (map (λ a. a.0) typed))
   declared =
       external_call m valid fr.func fr.block fr.place d.coded.func i d.coded.is (subst (λ (l : List Inst). slice_get l fr.place ≡ Some i) (same_insts m fr.func d.coded.func fr.block d.coded.is) d.coded.item) ret callee typed calls e none found
@@ -327,7 +346,7 @@ module _ (m : Module) (u : Setup) (t : Traced) (old : Follower) (o : IsFollowed 
         let gone_so = ended_alike (act s h i.op vs counted) x last (effect_like m u t old o k passes due e args to is_call given site given_is sited counted light_counted ∙ ap light_effect came) in
         let stops : shadow_step by_formulas s m t.state ≡ Stop x gone_so.0 =
         acts s m o.bare t.state o.state o.follows fr d.below d.first i d.coded.rest d.coded.due d.passes
-        ∙ ap (λ (y : Effect). shadow_moved (after_effect shadow_reading s m h.site i.result ps lift (planes s h.site own i.op ps counted) fr d.below y)) gone_so.1
+        ∙ ap (λ (y : Effect). shadow_moved (after_effect shadow_reading s m h.site i.result ps lift (planes s h.site own i.op ps counted) (keeping i.op y fr) d.below y)) gone_so.1
         in
         (x, gone_so.0, (stops, not_reported s m o.bare t.state o.state o.follows fr d.below d.first i d.coded.rest d.coded.due d.passes x gone_so.0 stops))
 
@@ -359,8 +378,9 @@ module _ (m : Module) (u : Setup) (t : Traced) (old : Follower) (o : IsFollowed 
       state = by_value value second.world second.is
         where
           by_value : (q : Option ℕ) (w : World) → act s h i.op vs counted ≡ resumed q w → record { frames = behind i fr lift q w ∷ d.below; world = planes s h.site own i.op ps counted (unwrap_or q 0) w } ≡ c
-          by_value (Some n) w is = gives_state s m h.site i.result ps lift (planes s h.site own i.op ps counted) fr d.below c (act s h i.op vs counted) on n w is
-          by_value None w is = does_state s m h.site i.result ps lift (planes s h.site own i.op ps counted) fr d.below c (act s h i.op vs counted) on w is
+          by_value (Some n) w is = gives_state s m h.site i.result ps lift (planes s h.site own i.op ps counted) fr d.below c i.op (act s h i.op vs counted) on n w
+              (keeps_none i.op (λ k. ap (λ (y : Op). local_block y k) calls) (Gives n w) fr) is
+          by_value None w is = does_state s m h.site i.result ps lift (planes s h.site own i.op ps counted) fr d.below c i.op (act s h i.op vs counted) on w is
 
       frames : c.frames ≡ behind i fr lift value second.world ∷ d.below
       frames = sym (ap (λ (x : ShadowState). x.frames) state)

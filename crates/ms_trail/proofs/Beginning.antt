@@ -26,6 +26,7 @@ one_running m u fiber w r = record {
   slots = r.slots;
   fill = r.fill;
   sound = r.sound;
+  owns = r.owns;
 }
 
 no_masks : (names : List Name) (xs ms : List ℕ) (values : Name → ℕ) → Holds names xs values → ms ≡ replicate (length xs) 0 → Holds names ms (λ x. 0)

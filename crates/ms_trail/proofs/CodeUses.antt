@@ -5,7 +5,7 @@ use Rattle.ms_ir.specs.Names.{lookup, externals}
 use Rattle.ms_bits.specs.declared.operations.BinOp.{BinOp}
 use Rattle.ms_bits.specs.declared.operations.BinOp.TheVariants.{Udiv, Sdiv, Urem, Srem}
 use Rattle.ms_ir.specs.declared.calls.External.{External}
-use Rattle.ms_ir.specs.declared.calls.External.TheVariants.{Malloc, Calloc, Realloc, Free, Memcpy, Memmove, Memset, Memcmp, Strlen, Putchar, Puts, Getchar, Read, Write, Exit, Abort, LlvmMemcpy, LlvmMemmove, LlvmMemset, LifetimeStart, LifetimeEnd, Printf, LlvmTrap, LlvmAssume, LlvmObjectSize}
+use Rattle.ms_ir.specs.declared.calls.External.TheVariants.{Malloc, Calloc, Realloc, Free, Memcpy, Memmove, Memset, Memcmp, Strlen, Putchar, Puts, Getchar, Read, Write, Exit, Abort, LlvmMemcpy, LlvmMemmove, LlvmMemset, LifetimeStart, LifetimeEnd, Printf, LlvmTrap, LlvmAssume, LlvmObjectSize, PthreadCreate, PthreadJoin, SchedYield}
 use Rattle.ms_ir.specs.declared.calls.External.TheVariants as external
 use Rattle.ms_ir.specs.declared.syntax.Name.{Name}
 use Rattle.ms_ir.specs.declared.syntax.Ty.{Ty}
@@ -135,6 +135,9 @@ arguments_first w ps LifetimeEnd ret callee os n count = ap (λ x. or_used x Non
 arguments_first w ps LlvmTrap ret callee os n count = refl
 arguments_first w ps LlvmAssume ret callee os n count = ap (λ x. or_used x None) (or_none (word_read ps 0))
 arguments_first w ps LlvmObjectSize ret callee os n count = ap (λ x. or_used x None) (or_none (word_read ps 1))
+arguments_first w ps PthreadCreate ret callee os n count = or_none (or_used (or_used (or_used (word_read ps 0) (word_read ps 1)) (word_read ps 3)) None) ∙ three (word_read ps 0) (word_read ps 1) (word_read ps 3)
+arguments_first w ps PthreadJoin ret callee os n count = ap (λ x. or_used x None) (or_none (or_used (word_read ps 0) (word_read ps 1))) ∙ two (word_read ps 0) (word_read ps 1)
+arguments_first w ps SchedYield ret callee os n count = refl
 arguments_first w ps (external.Word f k) ret callee os n count = refl
 arguments_first w ps Printf ret callee os n count =
     let line = use_read w ps (use_of.Line 0) in

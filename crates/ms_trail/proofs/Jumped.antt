@@ -274,7 +274,7 @@ module _ (m : Module) (u : Setup) (t : Traced) (old : Follower) (o : IsFollowed 
 
   state : record { frames = head ∷ d.below; world = t.state.world } ≡ c
   state =
-      goes_state s m h.site i.result ps (poisoned_result by_formulas i.op ps) (planes s h.site (h.root + count_undefs (operands i.op) + 1) i.op ps t.state.world) fr d.below c (act s h i.op (map (λ p. p.value) ps) t.state.world)
+      goes_state s m h.site i.result ps (poisoned_result by_formulas i.op ps) (planes s h.site (h.root + count_undefs (operands i.op) + 1) i.op ps t.state.world) fr d.below c i.op (act s h i.op (map (λ p. p.value) ps) t.state.world)
       (on m u t old o k passes due next took sees) to t.state.world goes
 
   frames : c.frames ≡ head ∷ d.below

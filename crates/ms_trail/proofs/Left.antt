@@ -18,14 +18,14 @@ use Rattle.ms_ir.specs.Code.{func_at, operands, count_undefs, insts_at, root_at,
 use Rattle.ms_runs.specs.declared.runs.End.TheVariants as «end»
 use Rattle.ms_runs.specs.declared.runs.Setup.{Setup}
 use Rattle.ms_runs.specs.World.{World, Setting, Here, Leaves, Ends, word}
-use Rattle.ms_runs.specs.Control.{Frame, here, read_all, block_name, params_at, put, release, result_at}
+use Rattle.ms_runs.specs.Control.{Frame, here, read_all, block_name, params_at, put, given_back, result_at}
 use Rattle.ms_runs.specs.Act.{act}
 use Rattle.ms_runs.specs.Plain.{PlainState, More, setting_of}
 use Rattle.ms_runs.specs.Poisoned.{Poisoned, clean}
 use Rattle.ms_runs.specs.Masks.{by_formulas, word_at}
 use Rattle.ms_runs.specs.Uses.{blinded}
 use Rattle.ms_runs.specs.Shadow.{ShadowState, read_poisoned, planes, poisoned_result}
-use Rattle.ms_runs_good.specs.GoodStates.{IsBelow, GoodFrames, StandsAtCall}
+use Rattle.ms_runs_good.specs.GoodStates.{IsBelow, GoodFrames, StandsAtCall, IsMain, Bottom}
 use Rattle.ms_runs_good.proofs.Frames.{same_insts, top_good}
 use Rattle.ms_runs_good.proofs.SitedMoves.{last_is_main}
 use Rattle.ms_valid.specs.Formed.{Formed}
@@ -159,9 +159,9 @@ pub record CallerNow (m : Module) (p : Program) (fiber : Fiber) (below : List (F
   pub puts : PutsResult (locals func) (put_of made) inst.result
 
 caller_now : (m : Module) (p : Program) (s : Setting) → Compiled m p → (fiber : Fiber) (fr : Frame Poisoned) (below : List (Frame Poisoned)) → FramesStand m p (frames_of fiber) (bare_frame fr ∷ map bare_frame below)
-    → GoodFrames IsBelow m (bare_frame fr ∷ map bare_frame below) → (here s m fr).main ≡ false → CallerNow m p fiber below
-caller_now m p s compiled fiber fr [] stand good inside = absurd (true≢false (sym (last_is_main IsBelow s m (bare_frame fr) good) ∙ inside))
-caller_now m p s compiled fiber fr (caller ∷ rest) stand good inside = by_kept (reverse fiber.below.items) refl stand.1
+    → GoodFrames IsBelow m (bare_frame fr ∷ map bare_frame below) → Bottom (IsMain m) (fr ∷ below) → (here s m fr).main ≡ false → CallerNow m p fiber below
+caller_now m p s compiled fiber fr [] stand good last inside = absurd (true≢false (sym (last_is_main s m fr last) ∙ inside))
+caller_now m p s compiled fiber fr (caller ∷ rest) stand good last inside = by_kept (reverse fiber.below.items) refl stand.1
   where
     by_kept : (ks : List Kept) → reverse fiber.below.items ≡ ks → FramesStand m p ks (bare_frame caller ∷ map bare_frame rest) → CallerNow m p fiber (caller ∷ rest)
     by_kept [] e h = absurd h
@@ -228,7 +228,7 @@ module _ (m : Module) (p : Program) (formed : Formed m) (valid : Valid m) (compi
   its_caller =
       let plain : o.state.frames ≡ bare_frame fr ∷ map bare_frame d.below = o.follows.frames ∙ ap (map bare_frame) d.first in
       let state : IsState m p u nothing_beside old.fiber old.world o.state = state_to m p compiled formed valid u nothing_beside old.fiber old.world o.state o.running in
-      caller_now m p s compiled old.fiber fr d.below (subst (FramesStand m p (frames_of old.fiber)) plain state.frames) (subst (GoodFrames IsBelow m) plain state.sound.frames) inside
+      caller_now m p s compiled old.fiber fr d.below (subst (FramesStand m p (frames_of old.fiber)) plain state.frames) (subst (GoodFrames IsBelow m) plain state.sound.frames) (subst (Bottom (IsMain m)) d.first o.bottom) inside
 
   pub below_there : 0 < length old.fiber.below.items
   below_there = some_below old.fiber.below.items its_caller.kept its_caller.lower its_caller.kept_is
@@ -316,9 +316,9 @@ module _ (m : Module) (p : Program) (formed : Formed m) (valid : Valid m) (compi
       abbrev given : Poisoned
       given = get_or ps 0 clean
 
-      state : record { frames = put its_caller.caller (result_at m its_caller.caller) given ∷ its_caller.rest; world = release fr.mark t.state.world } ≡ c
+      state : record { frames = put its_caller.caller (result_at m its_caller.caller) given ∷ its_caller.rest; world = given_back fr t.state.world } ≡ c
       state =
-          leaves_state s m h.site i.result ps (poisoned_result by_formulas i.op ps) (planes s h.site (h.root + count_undefs (operands i.op) + 1) i.op ps t.state.world) fr d.below c (act s h i.op (map (λ q. q.value) ps) t.state.world)
+          leaves_state s m h.site i.result ps (poisoned_result by_formulas i.op ps) (planes s h.site (h.root + count_undefs (operands i.op) + 1) i.op ps t.state.world) fr d.below c i.op (act s h i.op (map (λ q. q.value) ps) t.state.world)
           (on m u t old o k passes due next took sees) t.state.world its_caller.caller its_caller.rest leaves its_caller.is
 
       frames : c.frames ≡ put its_caller.caller (result_at m its_caller.caller) given ∷ its_caller.rest

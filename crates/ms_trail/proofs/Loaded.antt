@@ -21,7 +21,7 @@ use Rattle.ms_bits.specs.declared.traps.Trap.TheVariants as trap
 use Rattle.ms_runs.specs.World.{World, Setting, Here, Effect, Gives, Does, Goes, Enters, Leaves, Ends, traps, word}
 use Rattle.ms_runs.specs.Memory.{is_good}
 use Rattle.ms_runs.specs.Origins.{count_blind}
-use Rattle.ms_runs.specs.Control.{Frame, here, read_all, after_effect}
+use Rattle.ms_runs.specs.Control.{Frame, here, read_all, keeping, after_effect}
 use Rattle.ms_runs.specs.Act.{act}
 use Rattle.ms_runs.specs.Plain.{PlainState, More, setting_of}
 use Rattle.ms_runs.specs.Poisoned.{Poisoned}
@@ -141,7 +141,8 @@ module _ (m : Module) (u : Setup) (t : Traced) (old : Follower) (o : IsFollowed 
       by_test : (b : Bool) → is_good (count_blind blind t.state.world) (word 0 (map (λ p. p.value) ps)) (stored_size ty) ≡ b → is_good t.state.world (word_at 0 ps).value (stored_size ty) ≡ true
       by_test true e = ap (λ n. is_good t.state.world n (stored_size ty)) (sym (word_number 0 ps)) ∙ sym (blind_good blind t.state.world (word 0 (map (λ p. p.value) ps)) (stored_size ty)) ∙ e
       by_test false e =
-          absurd (not_ended s m h.site i.result ps (poisoned_result by_formulas i.op ps) (planes s h.site (h.root + count_undefs (operands i.op) + 1) i.op ps (count_blind blind t.state.world)) now.frame now.below gone.0
+          absurd (not_ended s m h.site i.result ps (poisoned_result by_formulas i.op ps) (planes s h.site (h.root + count_undefs (operands i.op) + 1) i.op ps (count_blind blind t.state.world))
+          (keeping i.op (act s h i.op (map (λ p. p.value) ps) (count_blind blind t.state.world)) now.frame) now.below gone.0
           (act s h i.op (map (λ p. p.value) ps) (count_blind blind t.state.world)) on
           (subst (λ (x : Op). IsEnd (act s h x (map (λ p. p.value) ps) (count_blind blind t.state.world))) (sym is) (load_ends s h ty encoded.1 (map (λ p. p.value) ps) (count_blind blind t.state.world) e)))
 

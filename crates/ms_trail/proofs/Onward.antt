@@ -15,7 +15,7 @@ use Rattle.ms_runs.specs.declared.runs.Setup.{Setup}
 use Rattle.ms_runs.specs.World.{World, Setting, Here, Effect, Gives, Does, Goes, Enters, Leaves}
 use Rattle.ms_runs.specs.Memory.{is_good}
 use Rattle.ms_runs.specs.Origins.{poison}
-use Rattle.ms_runs.specs.Control.{Frame, here, rest_of, read_all, block_name, params_at, one_on, put, jumped, entered, left, release, result_at, On, Over, after_effect}
+use Rattle.ms_runs.specs.Control.{Frame, here, rest_of, read_all, block_name, params_at, one_on, put, jumped, entered, left, given_back, result_at, On, Over, keeping, after_effect}
 use Rattle.ms_runs.specs.Plain.{PlainState, More, setting_of}
 use Rattle.ms_runs.specs.Poisoned.{Poisoned, clean}
 use Rattle.ms_runs.specs.Masks.{by_formulas, word_at}
@@ -27,6 +27,9 @@ use Rattle.ms_host.specs.Shows.{Shows}
 use Rattle.ms_host.specs.SlotBytes.{ShowsSlots}
 use Rattle.ms_printf.specs.CallSites.{AreCallSites}
 use Rattle.ms_machine_steps.specs.declared.fibers.Fiber.{Fiber}
+use Rattle.ms_runs_good.specs.GoodStates.{IsMain}
+use Rattle.ms_runs_good.proofs.Bottoms.{StateBottom, shadow_bottom}
+use Rattle.ms_machine_steps.proofs.HeapBlocks.{same_turn}
 use Rattle.ms_machine.specs.Running.{IsRunning}
 use Rattle.ms_follow_laws.specs.Follows.{light, bare_frame}
 use Rattle.ms_moves.specs.declared.moves.Source.{Source}
@@ -58,10 +61,12 @@ onward m u t old o new c p went keeps running frames world ns numbers shades mad
     record {
       whole = keeps.whole ∙ o.whole;
       bare = o.bare;
+      calm = o.calm;
       few = o.few;
       state = p;
       running = running;
       follows = record { frames = frames; world = world };
+      bottom = subst (StateBottom (IsMain m)) went (shadow_bottom (IsMain m) by_formulas (setting_of m u) m t.state o.bottom);
       shades = subst (λ (n : Numbers). HaveShades m n.standing c.frames (new.shade ∷ reverse new.below.items)) (sym numbers) shades;
       made = made ∙ sym (ap (λ (n : Numbers). n.made) numbers);
       event = event ∙ ap (λ n. n + 1) o.event;
@@ -85,6 +90,7 @@ shaded_running m u fiber w w' next v r shows keeps good = record {
   slots = subst (λ (ss : List ℕ). ShowsSlots ss next.slots) (sym keeps.slots) r.slots;
   fill = keeps.fill ∙ r.fill;
   sound = record { frames = r.sound.frames; slots = r.sound.slots; world = good };
+  owns = record { spawned = r.owns.spawned ∙ same_turn w w' nothing_beside next.world v r.shows shows; blocks = r.owns.blocks };
 }
 
 pub good_poison : (a from to : ℕ) (w : World) → GoodWorld FitsCell w → GoodWorld FitsCell (poison a from to 0 w)
@@ -122,19 +128,22 @@ memory_same s root o ps ss before v w event site e =
 same_state : (a b : ShadowState) → More a ≡ More b → a ≡ b
 same_state a b e = cc
 
-module _ (s : Setting) (m : Module) (site : ℕ) (r : Option Name) (ps : List Poisoned) (lift : ℕ → World → Poisoned) (after : ℕ → World → World) (fr : Frame Poisoned) (below : List (Frame Poisoned)) (c : ShadowState) (x : Effect)
-    (on : shadow_moved (after_effect shadow_reading s m site r ps lift after fr below x) ≡ More c) where
-  pub gives_state : (v : ℕ) (w : World) → x ≡ Gives v w → record { frames = put fr r (lift v w) ∷ below; world = after v w } ≡ c
-  gives_state v w e = same_state _ c (ap (λ (y : Effect). shadow_moved (after_effect shadow_reading s m site r ps lift after fr below y)) (sym e) ∙ on)
+module _ (s : Setting) (m : Module) (site : ℕ) (r : Option Name) (ps : List Poisoned) (lift : ℕ → World → Poisoned) (after : ℕ → World → World) (fr : Frame Poisoned) (below : List (Frame Poisoned)) (c : ShadowState) (o : Op) (x : Effect)
+    (on : shadow_moved (after_effect shadow_reading s m site r ps lift after (keeping o x fr) below x) ≡ More c) where
+  pub gives_state : (v : ℕ) (w : World) → keeping o (Gives v w) fr ≡ fr → x ≡ Gives v w → record { frames = put fr r (lift v w) ∷ below; world = after v w } ≡ c
+  gives_state v w none e =
+      same_state _ c
+      (ap (λ (f : Frame Poisoned). shadow_moved (after_effect shadow_reading s m site r ps lift after f below (Gives v w))) (sym none)
+      ∙ ap (λ (y : Effect). shadow_moved (after_effect shadow_reading s m site r ps lift after (keeping o y fr) below y)) (sym e) ∙ on)
 
   pub does_state : (w : World) → x ≡ Does w → record { frames = one_on fr ∷ below; world = after 0 w } ≡ c
-  does_state w e = same_state _ c (ap (λ (y : Effect). shadow_moved (after_effect shadow_reading s m site r ps lift after fr below y)) (sym e) ∙ on)
+  does_state w e = same_state _ c (ap (λ (y : Effect). shadow_moved (after_effect shadow_reading s m site r ps lift after (keeping o y fr) below y)) (sym e) ∙ on)
 
   pub goes_state : (to : Name) (w : World) → x ≡ Goes to w → record { frames = jumped shadow_reading s m to fr ∷ below; world = w } ≡ c
-  goes_state to w e = same_state _ c (ap (λ (y : Effect). shadow_moved (after_effect shadow_reading s m site r ps lift after fr below y)) (sym e) ∙ on)
+  goes_state to w e = same_state _ c (ap (λ (y : Effect). shadow_moved (after_effect shadow_reading s m site r ps lift after (keeping o y fr) below y)) (sym e) ∙ on)
 
   pub enters_state : (f : ℕ) (w : World) → x ≡ Enters f w → record { frames = entered shadow_reading m f ps w ∷ fr ∷ below; world = w } ≡ c
-  enters_state f w e = by_test (leb 1024 (length below + 1)) (ap (λ (y : Effect). shadow_moved (after_effect shadow_reading s m site r ps lift after fr below y)) (sym e) ∙ on)
+  enters_state f w e = by_test (leb 1024 (length below + 1)) (ap (λ (y : Effect). shadow_moved (after_effect shadow_reading s m site r ps lift after (keeping o y fr) below y)) (sym e) ∙ on)
     where
       by_test : (b : Bool) → shadow_moved (if b then Over («end».Trap trap.Depth site) w else On (entered shadow_reading m f ps w ∷ fr ∷ below) w) ≡ More c
           → record { frames = entered shadow_reading m f ps w ∷ fr ∷ below; world = w } ≡ c
@@ -142,10 +151,10 @@ module _ (s : Setting) (m : Module) (site : ℕ) (r : Option Name) (ps : List Po
       by_test false h = same_state _ c h
 
   pub leaves_state : (w : World) (caller : Frame Poisoned) (rest : List (Frame Poisoned)) → x ≡ Leaves w → below ≡ caller ∷ rest
-      → record { frames = put caller (result_at m caller) (get_or ps 0 clean) ∷ rest; world = release fr.mark w } ≡ c
+      → record { frames = put caller (result_at m caller) (get_or ps 0 clean) ∷ rest; world = given_back fr w } ≡ c
   leaves_state w caller rest e is =
       same_state _ c
-      (ap (λ (fs : List (Frame Poisoned)). shadow_moved (left shadow_reading m ps fr fs w)) (sym is) ∙ ap (λ (y : Effect). shadow_moved (after_effect shadow_reading s m site r ps lift after fr below y)) (sym e) ∙ on)
+      (ap (λ (fs : List (Frame Poisoned)). shadow_moved (left shadow_reading m ps fr fs w)) (sym is) ∙ ap (λ (y : Effect). shadow_moved (after_effect shadow_reading s m site r ps lift after (keeping o y fr) below y)) (sym e) ∙ on)
 
 -- ---- the moves of a step, by its instruction
 

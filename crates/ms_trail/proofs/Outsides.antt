@@ -1,8 +1,9 @@
 -- What externals leave of the shadow of memory, by their kinds.
-use Rattle.std.proofs.Common.{◌≡◌, ℕ, zero, suc, List, [], ◌∷◌, ◌++◌, map, get_or, if◌then◌else◌, min, unwrap_or, refl, sym, ap, ◌∙◌, subst, append-nil, arith}
+use Rattle.std.proofs.Common.{◌≡◌, ℕ, zero, suc, List, [], ◌∷◌, ◌++◌, map, get_or, if◌then◌else◌, min, unwrap_or, refl, sym, ap, ◌∙◌, subst, append-nil, arith, false, true≢false}
 use Rattle.ms_ir.specs.declared.calls.External.{External}
-use Rattle.ms_ir.specs.declared.calls.External.TheVariants.{Malloc, Realloc, Memcpy, Memmove, Memset, LlvmMemcpy, LlvmMemmove, LlvmMemset, Read, LifetimeStart}
+use Rattle.ms_ir.specs.declared.calls.External.TheVariants.{Malloc, Realloc, Memcpy, Memmove, Memset, LlvmMemcpy, LlvmMemmove, LlvmMemset, Read, LifetimeStart, PthreadCreate, PthreadJoin}
 use Rattle.ms_ir.specs.Areas.{Heap}
+use Rattle.ms_ir.specs.Signatures.{is_thread_call}
 use Rattle.ms_runs.specs.World.{World}
 use Rattle.ms_runs.specs.Memory.{fits, heap_size, is_good, next_base}
 use Rattle.ms_runs.specs.Origins.{copy_planes, poison, unpoison}
@@ -137,18 +138,20 @@ module _ (beside : Beside) (event site root : ℕ) (ps : List Poisoned) (ss : Li
   none_told is = subst (λ (ms : List Move). IsLog log ms) (sym (append-nil moves)) is
 
   pub default_done : (e : External) → (e ≡ Malloc → ⊥) → (e ≡ Realloc → ⊥) → (e ≡ Memcpy → ⊥) → (e ≡ Memmove → ⊥) → (e ≡ LlvmMemcpy → ⊥) → (e ≡ LlvmMemmove → ⊥) → (e ≡ Memset → ⊥) → (e ≡ LlvmMemset → ⊥) → (e ≡ Read → ⊥) → (e ≡ LifetimeStart → ⊥)
-      → Shows w beside after → IsLog log moves → Done beside event site root ps ss before given after moves w log e
-  default_done Malloc a b c d f g h i j k shows is = absurd (a refl)
-  default_done Realloc a b c d f g h i j k shows is = absurd (b refl)
-  default_done Memcpy a b c d f g h i j k shows is = absurd (c refl)
-  default_done Memmove a b c d f g h i j k shows is = absurd (d refl)
-  default_done LlvmMemcpy a b c d f g h i j k shows is = absurd (f refl)
-  default_done LlvmMemmove a b c d f g h i j k shows is = absurd (g refl)
-  default_done Memset a b c d f g h i j k shows is = absurd (h refl)
-  default_done LlvmMemset a b c d f g h i j k shows is = absurd (i refl)
-  default_done Read a b c d f g h i j k shows is = absurd (j refl)
-  default_done LifetimeStart a b c d f g h i j k shows is = absurd (k refl)
-  default_done e a b c d f g h i j k shows is = (kept_done shows, none_told is)
+      → is_thread_call e ≡ false → Shows w beside after → IsLog log moves → Done beside event site root ps ss before given after moves w log e
+  default_done Malloc a b c d f g h i j k alone shows is = absurd (a refl)
+  default_done Realloc a b c d f g h i j k alone shows is = absurd (b refl)
+  default_done Memcpy a b c d f g h i j k alone shows is = absurd (c refl)
+  default_done Memmove a b c d f g h i j k alone shows is = absurd (d refl)
+  default_done LlvmMemcpy a b c d f g h i j k alone shows is = absurd (f refl)
+  default_done LlvmMemmove a b c d f g h i j k alone shows is = absurd (g refl)
+  default_done Memset a b c d f g h i j k alone shows is = absurd (h refl)
+  default_done LlvmMemset a b c d f g h i j k alone shows is = absurd (i refl)
+  default_done Read a b c d f g h i j k alone shows is = absurd (j refl)
+  default_done LifetimeStart a b c d f g h i j k alone shows is = absurd (k refl)
+  default_done PthreadCreate a b c d f g h i j k alone shows is = absurd (true≢false alone)
+  default_done PthreadJoin a b c d f g h i j k alone shows is = absurd (true≢false alone)
+  default_done e a b c d f g h i j k alone shows is = (kept_done shows, none_told is)
 
 -- by what the kind and the root are
 pub finish : (beside : Beside) (event site root root' : ℕ) (ps : List Poisoned) (ss : List Source) (before : World) (given : ℕ) (after : World) (moves : List Move) (w : WorldState) (log : Log) (e k : External) → root ≡ root' → e ≡ k

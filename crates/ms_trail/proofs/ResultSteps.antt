@@ -20,6 +20,8 @@ use Rattle.ms_code_data.specs.Reads.{Holds, IsPlace}
 use Rattle.ms_host.specs.State.{nothing_beside}
 use Rattle.ms_printf.specs.CallSites.{AreCallSites}
 use Rattle.ms_machine_steps.specs.Advances.{step_of}
+use Rattle.ms_runs_good.specs.GoodStates.{IsMain}
+use Rattle.ms_runs_good.proofs.Bottoms.{StateBottom, shadow_bottom}
 use Rattle.ms_machine.specs.Running.{IsRunning}
 use Rattle.ms_follow_laws.specs.Follows.{light}
 use Rattle.ms_moves.specs.declared.moves.Source.{Source}
@@ -147,10 +149,12 @@ module _ (m : Module) (u : Setup) (t : Traced) (old : Follower) (o : IsFollowed 
             record {
               whole = keeps.whole ∙ o.whole;
               bare = o.bare;
+              calm = o.calm;
               few = o.few;
               state = next;
               running = running;
               follows = record { frames = gone.1.1; world = sym (ap light (shadow_same s m t.state fr below first i is due valued next.world)) ∙ gone.1.2 };
+              bottom = subst (StateBottom (IsMain m)) gone.1.0 (shadow_bottom (IsMain m) by_formulas s m t.state o.bottom);
               shades = subst (λ (ns : List ℕ). HaveShades m ns c.frames (new.shade ∷ reverse new.below.items)) (sym (ap (λ (n : Numbers). n.standing) numbers ∙ top.is)) all;
               made = keeps.made ∙ o.made ∙ sym (ap (λ (n : Numbers). n.made) numbers);
               event = event ∙ ap (λ n. n + 1) o.event;

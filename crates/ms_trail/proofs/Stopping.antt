@@ -11,7 +11,7 @@ use Rattle.ms_runs.specs.declared.runs.End.TheVariants as «end»
 use Rattle.ms_runs.specs.declared.runs.Setup.{Setup}
 use Rattle.ms_runs.specs.World.{World, Setting, Here, Effect, Leaves, Ends, word}
 use Rattle.ms_runs.specs.Origins.{count_blind}
-use Rattle.ms_runs.specs.Control.{here, read_all, after_effect}
+use Rattle.ms_runs.specs.Control.{here, read_all, keeping, after_effect}
 use Rattle.ms_runs.specs.Act.{act}
 use Rattle.ms_runs.specs.Plain.{Stop, setting_of}
 use Rattle.ms_runs.specs.Poisoned.{Poisoned}
@@ -63,7 +63,7 @@ module _ (m : Module) (u : Setup) (t : Traced) (f : Follower) (o : IsFollowed m 
   over e v ends =
       let stop : shadow_step by_formulas s m t.state ≡ Stop e v =
       acts s m o.bare t.state o.state o.follows now.frame now.below now.first i now.coded.rest now.coded.due now.passes
-      ∙ ap (λ (x : Effect). shadow_moved (after_effect shadow_reading s m h.site i.result ps (poisoned_result by_formulas i.op ps) (planes s h.site (h.root + count_undefs (operands i.op) + 1) i.op ps w) now.frame now.below x)) ends
+      ∙ ap (λ (x : Effect). shadow_moved (after_effect shadow_reading s m h.site i.result ps (poisoned_result by_formulas i.op ps) (planes s h.site (h.root + count_undefs (operands i.op) + 1) i.op ps w) (keeping i.op x now.frame) now.below x)) ends
       in
       (e, v, (stop, not_reported s m o.bare t.state o.state o.follows now.frame now.below now.first i now.coded.rest now.coded.due now.passes e v stop))
 

@@ -13,7 +13,8 @@ use Rattle.ms_ir.specs.Layout.{stored_size}
 use Rattle.ms_ir.specs.Code.{operands, count_undefs, insts_at, site_at, root_at, external_named}
 use Rattle.ms_runs.specs.World.{World, Setting, Here, Effect, Gives, Does, Goes, Enters, Leaves, Ends, word, gives}
 use Rattle.ms_runs.specs.Memory.{is_good}
-use Rattle.ms_runs.specs.Control.{Frame, here, rest_of, read_all, block_name, params_at, with_value, put, after_effect}
+use Rattle.ms_runs.proofs.HeapBlocks.{keeps_none}
+use Rattle.ms_runs.specs.Control.{Frame, here, rest_of, read_all, block_name, params_at, with_value, put, local_block, keeping, after_effect}
 use Rattle.ms_runs.specs.Act.{act}
 use Rattle.ms_runs.specs.Plain.{More}
 use Rattle.ms_runs.specs.Poisoned.{Poisoned}
@@ -159,6 +160,11 @@ valued_moves s m event i from to fr below w next after valued =
       | None ↦ callee_moves (external_named s.func x) (result_move event h.site to i.result next.values (result_source i.op ps ss w)) memory
     ])
 
+-- such an instruction makes no heap block
+no_block : (o : Op) → IsValued o → (v : ℕ) → local_block o v ≡ []
+no_block (op.Alloca t u c) valued v = absurd valued
+no_block _ valued v = refl
+
 -- ---- the step
 
 module _ (s : Setting) (m : Module) (c : ShadowState) (fr : Frame Poisoned) (below : List (Frame Poisoned)) (first : c.frames ≡ fr ∷ below) (i : Inst) (is : List Inst) (due : rest_of m fr ≡ i ∷ is) (valued : IsValued i.op) where
@@ -189,12 +195,13 @@ module _ (s : Setting) (m : Module) (c : ShadowState) (fr : Frame Poisoned) (bel
   sets w c' e = by_effect (act s at i.op (map (λ p. p.value) ps) w) (act_settled s at i.op (map (λ p. p.value) ps) w valued) e
     where
       by_effect : (x : Effect) → IsSettled w x
-          → shadow_moved (after_effect shadow_reading s m at.site i.result ps (poisoned_result by_formulas i.op ps) (planes s at.site (at.root + count_undefs (operands i.op) + 1) i.op ps w) fr below x) ≡ More c' → Sets w c'
+          → shadow_moved (after_effect shadow_reading s m at.site i.result ps (poisoned_result by_formulas i.op ps) (planes s at.site (at.root + count_undefs (operands i.op) + 1) i.op ps w) (keeping i.op x fr) below x) ≡ More c' → Sets w c'
       by_effect (Gives v u) h e = record {
         value = v;
         world = u;
         same = h;
-        frames = sym (ap (λ (d : ShadowState). d.frames) (same_state _ c' e));
+        frames = sym (ap (λ (d : ShadowState). d.frames) (same_state _ c' e))
+            ∙ ap (λ (f : Frame Poisoned). put f i.result (poisoned_result by_formulas i.op ps v u) ∷ below) (keeps_none i.op (no_block i.op valued) (Gives v u) fr);
       }
       by_effect (Ends x u) h e = absurd (cc)
       by_effect (Does u) h e = absurd h

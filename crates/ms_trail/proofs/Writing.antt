@@ -1,10 +1,9 @@
 -- A follower behind an 'alloca' or a store.
-use Rattle.std.proofs.Common.{◌≡◌, ◌≤◌, ◌<◌, ◌+◌, ◌*◌, ◌^◌, ℕ, Bool, true, false, List, [], ◌∷◌, ◌++◌, map, length, reverse, get_or, if◌then◌else◌, Some, refl, sym, ap, ◌∙◌, subst, arith, append-nil}
+use Rattle.std.proofs.Common.{eqb, ◌≡◌, ◌≤◌, ◌<◌, ◌+◌, ◌*◌, ◌^◌, ℕ, Bool, true, false, List, [], ◌∷◌, ◌++◌, map, length, reverse, get_or, if◌then◌else◌, Some, refl, sym, ap, ◌∙◌, subst, arith, append-nil}
 use Rattle.std.specs.Prelude.{set, slice_get}
 use Rattle.std.proofs.lemmas.Option.{same_Some}
 use Rattle.ms_bits.specs.declared.traps.Trap.TheVariants as trap
 use Rattle.ms_bits.specs.Maps.{byte_of}
-use Rattle.ms_ir.specs.Areas.{Stack}
 use Rattle.ms_ir.specs.declared.syntax.Func.{Func}
 use Rattle.ms_ir.specs.declared.syntax.Ty.{Ty}
 use Rattle.ms_ir.specs.declared.syntax.Op.{Op}
@@ -16,9 +15,10 @@ use Rattle.ms_ir.specs.Locals.{locals}
 use Rattle.ms_ir.specs.Code.{operands, count_undefs, site_at}
 use Rattle.ms_runs.specs.declared.runs.Setup.{Setup}
 use Rattle.ms_runs.specs.World.{World, Setting, Here, Effect, Gives, Does, traps}
-use Rattle.ms_runs.specs.Memory.{fits, next_base, is_good, make_unset, store_number, set_shadow}
+use Rattle.ms_runs.specs.Memory.{fits, local_area, next_base, is_good, make_unset, store_number, set_shadow}
 use Rattle.ms_runs.specs.Origins.{count_blind, poison}
-use Rattle.ms_runs.specs.Control.{Frame, here, read_all, one_on, put, with_value}
+use Rattle.ms_runs.specs.Control.{Frame, here, read_all, one_on, put, with_value, local_block, keeping}
+use Rattle.ms_runs.specs.Threads.{Fibers}
 use Rattle.ms_runs.specs.Act.{act}
 use Rattle.ms_runs.specs.Plain.{PlainState, More, setting_of}
 use Rattle.ms_runs.specs.Poisoned.{Poisoned}
@@ -130,7 +130,7 @@ module _ (m : Module) (u : Setup) (t : Traced) (old : Follower) (o : IsFollowed 
 
     goes_on : (x : Effect) → act s h i.op (map (λ p. p.value) ps) t.state.world ≡ x → IsEnd x → ⊥
     goes_on x e ends =
-        not_ended s m h.site i.result ps (poisoned_result by_formulas i.op ps) (planes s h.site own i.op ps t.state.world) now.frame now.below gone.0
+        not_ended s m h.site i.result ps (poisoned_result by_formulas i.op ps) (planes s h.site own i.op ps t.state.world) (keeping i.op (act s h i.op (map (λ p. p.value) ps) t.state.world) now.frame) now.below gone.0
         (act s h i.op (map (λ p. p.value) ps) t.state.world) on (subst IsEnd (sym e) ends)
 
   -- a follower behind a step that wrote memory, and nothing but its result's mask
@@ -182,44 +182,51 @@ module _ (m : Module) (u : Setup) (t : Traced) (old : Follower) (o : IsFollowed 
         in
         (λ j. sym a_code.3.1 j * read j)
 
-    a_act : act s h i.op (map (λ p. p.value) ps) t.state.world ≡ (if fits Stack n t.state.world then Gives (next_base Stack t.state.world) (make_unset s.fill Stack n t.state.world) else traps trap.Stack h.site t.state.world)
+    a_act : act s h i.op (map (λ p. p.value) ps) t.state.world ≡ (if fits (local_area t.state.world) n t.state.world then Gives (next_base (local_area t.state.world) t.state.world) (make_unset s.fill (local_area t.state.world) n t.state.world) else traps trap.Stack h.site t.state.world)
     a_act =
         ap (λ (x : Op). act s h x (map (λ p. p.value) ps) t.state.world) a_is
-        ∙ ap (λ b. if fits Stack (size_in s.types a_code.0 * b) t.state.world then Gives (next_base Stack t.state.world) (make_unset s.fill Stack (size_in s.types a_code.0 * b) t.state.world) else traps trap.Stack h.site t.state.world) (word_number 0 ps)
+        ∙ ap (λ b. if fits (local_area t.state.world) (size_in s.types a_code.0 * b) t.state.world then Gives (next_base (local_area t.state.world) t.state.world) (make_unset s.fill (local_area t.state.world) (size_in s.types a_code.0 * b) t.state.world) else traps trap.Stack h.site t.state.world) (word_number 0 ps)
 
-    pub a_fits : fits Stack n t.state.world ≡ true
-    a_fits = by_test (fits Stack n t.state.world) refl
+    pub a_fits : fits (local_area t.state.world) n t.state.world ≡ true
+    a_fits = by_test (fits (local_area t.state.world) n t.state.world) refl
       where
-        by_test : (b : Bool) → fits Stack n t.state.world ≡ b → fits Stack n t.state.world ≡ true
+        by_test : (b : Bool) → fits (local_area t.state.world) n t.state.world ≡ b → fits (local_area t.state.world) n t.state.world ≡ true
         by_test true e = e
         by_test false e =
             absurd (goes_on a_sees (traps trap.Stack h.site t.state.world)
-            (a_act ∙ ap (λ (b : Bool). if b then Gives (next_base Stack t.state.world) (make_unset s.fill Stack n t.state.world) else traps trap.Stack h.site t.state.world) e) tt)
+            (a_act ∙ ap (λ (b : Bool). if b then Gives (next_base (local_area t.state.world) t.state.world) (make_unset s.fill (local_area t.state.world) n t.state.world) else traps trap.Stack h.site t.state.world) e) tt)
 
     pub few_bytes : n ≤ 2 ^ 26
-    few_bytes = (fits_small Stack n t.state.world a_fits).0
+    few_bytes = (fits_small (local_area t.state.world) n t.state.world a_fits).0
 
-    a_gives : act s h i.op (map (λ p. p.value) ps) t.state.world ≡ Gives (next_base Stack t.state.world) (make_unset s.fill Stack n t.state.world)
-    a_gives = a_act ∙ ap (λ (b : Bool). if b then Gives (next_base Stack t.state.world) (make_unset s.fill Stack n t.state.world) else traps trap.Stack h.site t.state.world) a_fits
+    a_gives : act s h i.op (map (λ p. p.value) ps) t.state.world ≡ Gives (next_base (local_area t.state.world) t.state.world) (make_unset s.fill (local_area t.state.world) n t.state.world)
+    a_gives = a_act ∙ ap (λ (b : Bool). if b then Gives (next_base (local_area t.state.world) t.state.world) (make_unset s.fill (local_area t.state.world) n t.state.world) else traps trap.Stack h.site t.state.world) a_fits
 
     abbrev result : Poisoned
-    result = poisoned_result by_formulas i.op ps (next_base Stack t.state.world) (make_unset s.fill Stack n t.state.world)
+    result = poisoned_result by_formulas i.op ps (next_base (local_area t.state.world) t.state.world) (make_unset s.fill (local_area t.state.world) n t.state.world)
 
     a_named : IsResult (locals now.coded.func) to i.result
     a_named = a_code.3.3
 
+    -- `main` alone goes on, whose room is on the stack
+    a_turn : t.state.world.turn ≡ 0
+    a_turn = sym (ap (λ (w : World). w.turn) o.follows.world) ∙ ap (λ (f : Fibers). f.turn) o.running.shows.fibers
+
+    a_none : keeping i.op (Gives (next_base (local_area t.state.world) t.state.world) (make_unset s.fill (local_area t.state.world) n t.state.world)) now.frame ≡ now.frame
+    a_none = ap (λ (k : ℕ). record now.frame { heap = (if eqb k 0 then [] else local_block i.op (next_base (local_area t.state.world) t.state.world)) ++ now.frame.heap }) a_turn
+
     a_frames : gone.0.frames ≡ put now.frame (Some a_named.0) result ∷ now.below
     a_frames =
         sym (ap (λ (c : ShadowState). c.frames)
-        (gives_state s m h.site i.result ps (poisoned_result by_formulas i.op ps) (planes s h.site own i.op ps t.state.world) now.frame now.below gone.0 (act s h i.op (map (λ p. p.value) ps) t.state.world) (on a_sees)
-        (next_base Stack t.state.world) (make_unset s.fill Stack n t.state.world) a_gives))
+        (gives_state s m h.site i.result ps (poisoned_result by_formulas i.op ps) (planes s h.site own i.op ps t.state.world) now.frame now.below gone.0 i.op (act s h i.op (map (λ p. p.value) ps) t.state.world) (on a_sees)
+        (next_base (local_area t.state.world) t.state.world) (make_unset s.fill (local_area t.state.world) n t.state.world) a_none a_gives))
         ∙ ap (λ r. put now.frame r result ∷ now.below) a_named.1.0
 
-    a_shade : (w : World) → step_shadow s m t.state w ≡ poison (next_base Stack t.state.world) 0 n 0 w
-    a_shade w = shade_is (Gives (next_base Stack t.state.world) (make_unset s.fill Stack n t.state.world)) a_gives w ∙ ap (λ (x : Op). shadow_left s x ps t.state.world (next_base Stack t.state.world) w) a_is
+    a_shade : (w : World) → step_shadow s m t.state w ≡ poison (next_base (local_area t.state.world) t.state.world) 0 n 0 w
+    a_shade w = shade_is (Gives (next_base (local_area t.state.world) t.state.world) (make_unset s.fill (local_area t.state.world) n t.state.world)) a_gives w ∙ ap (λ (x : Op). shadow_left s x ps t.state.world (next_base (local_area t.state.world) t.state.world) w) a_is
 
     -- its result is the base of the bytes
-    pub base_is : (fiber : Fiber) (w : WorldState) → IsRunning m u nothing_beside fiber w next → get_or fiber.frame.values.items to 0 ≡ next_base Stack t.state.world
+    pub base_is : (fiber : Fiber) (w : WorldState) → IsRunning m u nothing_beside fiber w next → get_or fiber.frame.values.items to 0 ≡ next_base (local_area t.state.world) t.state.world
     base_is fiber w r =
         let stands : StandsFor m fiber.frame (bare_frame (put now.frame (Some a_named.0) result)) =
         (subst (AllStandFor m (frames_of fiber)) (gone.1.1 ∙ ap (map bare_frame) a_frames) r.frames).0
@@ -247,12 +254,12 @@ module _ (m : Module) (u : Setup) (t : Traced) (old : Follower) (o : IsFollowed 
         × IsLog new.log (t.moves ++ memory_moves old.event site (poison base 0 (size * many) 0 next.world).shadow (made (poison base 0 (size * many) 0 next.world) base 0 (size * many) root))) where
       pub alloca_on : Went m u t true new
       alloca_on =
-          let same_base : base ≡ next_base Stack t.state.world = based ∙ base_is new.fiber w running in
+          let same_base : base ≡ next_base (local_area t.state.world) t.state.world = based ∙ base_is new.fiber w running in
           let same_count : size * many ≡ n = many_bytes many counted in
           let same_root : root ≡ own = rooted ∙ (λ j. roots_are row stands j + count_undefs (operands (inst_is row stands j).op) + 1) in
-          let v : World = poison (next_base Stack t.state.world) 0 n 0 next.world in
+          let v : World = poison (next_base (local_area t.state.world) t.state.world) 0 n 0 next.world in
           let shown : Shows new.world nothing_beside v = subst (λ (x : World). Shows new.world nothing_beside x) (λ j. poison (same_base j) 0 (same_count j) 0 next.world) unset.0 in
-          let none : result.mask ≡ 0 = ap (λ (x : Op). result_mask by_formulas x ps (make_unset s.fill Stack n t.state.world)) a_is in
+          let none : result.mask ≡ 0 = ap (λ (x : Op). result_mask by_formulas x ps (make_unset s.fill (local_area t.state.world) n t.state.world)) a_is in
           let placed : IsPlace (locals its.shade_is.func) to a_named.0 = subst (λ (g : Func). IsPlace (locals g) to a_named.0) (same_Some now.coded.func its.shade_is.func (sym now.coded.is ∙ its.shade_is.is)) a_named.1.1 in
           let shade : HasShade m its.number (put now.frame (Some a_named.0) result) new.shade = record {
             func = its.shade_is.func;
@@ -261,7 +268,7 @@ module _ (m : Module) (u : Setup) (t : Traced) (old : Follower) (o : IsFollowed 
             masks = subst (λ (ms : List ℕ). Holds (locals its.shade_is.func) ms (λ y. (with_value now.frame.values a_named.0 result y).mask)) (ap (set old.shade.masks.items to) none ∙ sym masks)
                 (masks_set (locals its.shade_is.func) old.shade.masks.items now.frame.values to a_named.0 result placed its.shade_is.masks);
           } in
-          wrote (subst IsWriting (sym a_is) tt) (put now.frame (Some a_named.0) result) a_frames v (sym (a_shade next.world)) new (shaded_running m u new.fiber w new.world next v running shown slots (good_poison (next_base Stack t.state.world) 0 n next.world running.sound.world)) keeps event shade site
+          wrote (subst IsWriting (sym a_is) tt) (put now.frame (Some a_named.0) result) a_frames v (sym (a_shade next.world)) new (shaded_running m u new.fiber w new.world next v running shown slots (good_poison (next_base (local_area t.state.world) t.state.world) 0 n next.world running.sound.world)) keeps event shade site
           (site_same site site_is)
           (subst (λ (ms : List Move). IsLog new.log (t.moves ++ ms))
           ((λ j. memory_moves old.event site (poison (same_base j) 0 (same_count j) 0 next.world).shadow (made (poison (same_base j) 0 (same_count j) 0 next.world) (same_base j) 0 (same_count j) (same_root j)))
@@ -312,7 +319,7 @@ module _ (m : Module) (u : Setup) (t : Traced) (old : Follower) (o : IsFollowed 
 
     s_state : record { frames = one_on now.frame ∷ now.below; world = planes s h.site own i.op ps t.state.world 0 after } ≡ gone.0
     s_state =
-        does_state s m h.site i.result ps (poisoned_result by_formulas i.op ps) (planes s h.site own i.op ps t.state.world) now.frame now.below gone.0 (act s h i.op (map (λ p. p.value) ps) t.state.world) (on s_sees) after s_does
+        does_state s m h.site i.result ps (poisoned_result by_formulas i.op ps) (planes s h.site own i.op ps t.state.world) now.frame now.below gone.0 i.op (act s h i.op (map (λ p. p.value) ps) t.state.world) (on s_sees) after s_does
 
     s_shade : (w : World) → step_shadow s m t.state w ≡ set_shadow (word_at 1 ps).value (stored_size ty) (byte_of (word_at 0 ps).mask) w
     s_shade w = shade_is (Does after) s_does w ∙ ap (λ (x : Op). shadow_left s x ps t.state.world 0 w) s_is

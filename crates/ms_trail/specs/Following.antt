@@ -1,6 +1,7 @@
 -- A run that is followed: the machine's fiber and world stand for the plain run, whose world has the shadow of the shadow run,
 -- and beside them stand the masks of the frames' values, the frames' numbers, and the moves so far (own).
 use Rattle.std.specs.Prelude.{◌≡◌, ◌≢◌, ℕ, ◌<◌, ◌^◌, Bool, true, false, List, [], ◌∷◌, length, Some, reverse}
+use Rattle.ms_ir.specs.ThreadCalls.{is_threaded}
 use Rattle.ms_ir.specs.declared.syntax.Func.{Func}
 use Rattle.ms_ir.specs.declared.syntax.Module.{Module}
 use Rattle.ms_ir.specs.declared.syntax.Inst.{Inst}
@@ -19,6 +20,7 @@ use Rattle.ms_runs.specs.Shadow.{ShadowState, read_poisoned, shadow_step}
 use Rattle.ms_code_data.specs.Reads.{Holds}
 use Rattle.ms_host.specs.State.{nothing_beside}
 use Rattle.ms_printf.specs.CallSites.{AreCallSites}
+use Rattle.ms_runs_good.specs.GoodStates.{IsMain, Bottom}
 use Rattle.ms_machine.specs.Running.{IsRunning}
 use Rattle.ms_follow_laws.specs.Follows.{Follows}
 use Rattle.ms_moves.specs.Traces.{Traced, traced_on, use_of}
@@ -45,10 +47,12 @@ HaveShades m _ _ _ = ⊥
 pub record IsFollowed (m : Module) (u : Setup) (t : Traced) (f : Follower) : Type 0 where
   pub whole : f.m.now ≡ m
   pub bare : NoMarks m
+  pub calm : is_threaded m ≡ false
   pub few : count_roots m < 2 ^ 31
   pub state : PlainState
   pub running : IsRunning m u nothing_beside f.fiber f.world state
   pub follows : Follows t.state state
+  pub bottom : Bottom (IsMain m) t.state.frames
   pub shades : HaveShades m t.numbers.standing t.state.frames (f.shade ∷ reverse f.below.items)
   pub made : f.made ≡ t.numbers.made
   pub event : f.event ≡ t.events

@@ -4,7 +4,7 @@ use Rattle.ms_bits.specs.declared.operations.BinOp.{BinOp}
 use Rattle.ms_bits.specs.declared.operations.BinOp.TheVariants.{Udiv, Sdiv, Urem, Srem}
 use Rattle.ms_bits.specs.Maps.{first_nonzero}
 use Rattle.ms_ir.specs.declared.calls.External.{External}
-use Rattle.ms_ir.specs.declared.calls.External.TheVariants.{Malloc, Calloc, Realloc, Free, Memcpy, Memmove, Memset, Memcmp, Strlen, Putchar, Puts, Getchar, Read, Write, Exit, Abort, LlvmMemcpy, LlvmMemmove, LlvmMemset, LifetimeStart, LifetimeEnd, Printf, LlvmTrap, LlvmAssume, LlvmObjectSize}
+use Rattle.ms_ir.specs.declared.calls.External.TheVariants.{Malloc, Calloc, Realloc, Free, Memcpy, Memmove, Memset, Memcmp, Strlen, Putchar, Puts, Getchar, Read, Write, Exit, Abort, LlvmMemcpy, LlvmMemmove, LlvmMemset, LifetimeStart, LifetimeEnd, Printf, LlvmTrap, LlvmAssume, LlvmObjectSize, PthreadCreate, PthreadJoin, SchedYield}
 use Rattle.ms_ir.specs.declared.calls.External.TheVariants as external
 use Rattle.ms_ir.specs.declared.syntax.Ty.{Ty}
 use Rattle.ms_ir.specs.declared.syntax.Ty as ty
@@ -119,6 +119,9 @@ shape_of LifetimeEnd = shape.Two
 shape_of LlvmTrap = shape.Nothing
 shape_of LlvmAssume = shape.One
 shape_of LlvmObjectSize = shape.Second
+shape_of PthreadCreate = shape.Begun
+shape_of PthreadJoin = shape.Two
+shape_of SchedYield = shape.Nothing
 shape_of Printf = shape.Text
 shape_of (external.Word f n) = shape.Nothing
 
@@ -134,6 +137,7 @@ plain_read ps shape.Nothing = None
 plain_read ps shape.One = word_read ps 0
 plain_read ps shape.Two = two_read ps
 plain_read ps shape.Second = word_read ps 1
+plain_read ps shape.Begun = or_used (two_read ps) (word_read ps 3)
 plain_read ps shape.Three = three_read ps
 plain_read ps shape.Fill = or_used (word_read ps 0) (word_read ps 2)
 plain_read ps shape.Compared = three_read ps

@@ -1,5 +1,6 @@
 //! A run that is followed, one step at a time, with its masks beside it.
-ghost use Rattle.std.specs.Prelude.{◌≡◌, ◌<◌, length, IfOk};
+ghost use Rattle.std.specs.Prelude.{◌≡◌, ◌<◌, length, IfOk, false};
+ghost use Rattle.ms_ir.specs.ThreadCalls.{is_threaded};
 ghost use Rattle.ms_runs.specs.Limits.{WithinLimits};
 ghost use Rattle.ms_valid.specs.Uninstrumented.{CanInstrument};
 ghost use Rattle.ms_code_data.specs.Fits.{IsSource};
@@ -58,6 +59,7 @@ impl<'m> Follower<'m> {
     pub fn new(alloc: Global, m: &'m CheckedModule, setup: &'m Setup) -> Result<Self, NoMemory>
         requires plain { CanInstrument m.now }
         requires limits { WithinLimits setup.now }
+        requires alone { is_threaded m.now ≡ false }
         ensures is { IfOk result (λ f. IsFollowed m.now (one_report setup.now) (traced_start m.now setup.now) f) }
         ensures made { IfOk result (λ f. f.world.made ≡ 0) }
     {

@@ -1,6 +1,7 @@
 //! Calls of externals.
-ghost use Rattle.std.specs.Prelude.{◌≡◌, ◌≤◌, ◌<◌, ◌+◌, ◌^◌, ◌++◌, ℕ, List, All, IfOk, OnOk, get_or, length, map, Some, true, unwrap_or};
+ghost use Rattle.std.specs.Prelude.{◌≡◌, ◌≤◌, ◌<◌, ◌+◌, ◌^◌, ◌++◌, ℕ, List, All, IfOk, OnOk, get_or, length, map, Some, true, false, unwrap_or};
 ghost use Rattle.ms_ir.specs.Code.{operands, count_undefs};
+ghost use Rattle.ms_ir.specs.Signatures.{is_thread_call};
 ghost use Rattle.ms_runs.specs.declared.runs.Setup.{Setup};
 ghost use Rattle.ms_runs.specs.World.{World as Meant};
 ghost use Rattle.ms_runs.specs.Memory.{heap_size, is_good};
@@ -179,6 +180,7 @@ fn answered(
 ) -> Result<Answer, NoMemory>
     requires few { world.old.made + 2 ^ 26 < 2 ^ 64 }
     requires asked { call.now.asked ≡ Asked.External external }
+    requires alone { is_thread_call external ≡ false }
     requires waits { WaitsSome m.now call.now }
     requires sites { AreCallSites m.now printf.now.calls }
     ensures answered { (u : Setup) (frames : List (Frame ℕ)) (beside : Beside) (meant : Meant) → FirstWaits m.now u frames call.now → world.old.fill ≡ u.fill → Shows world.old beside meant → IfOk result (λ a. Answered beside (asked_effect (setting_of m.now u) (types_due m.now frames) call.now meant) a world.new) }
@@ -231,6 +233,7 @@ fn shade_memory(
     requires roots { row.roots + count_undefs (operands row.inst.now.op) + 1 < 2 ^ 32 }
     requires low { 0 < call.now.old → get_or call.now.words.items 0 0 + call.now.old < 2 ^ 64 }
     requires small { call.now.old ≤ 2 ^ 26 }
+    requires alone { is_thread_call call.now.external ≡ false }
     requires few { log.old.count + 2 ^ 28 < 2 ^ 64 }
     ensures shaded { (beside : Beside) (meant before : Meant) (ps : List Poisoned) (moves : List MoveOf) → call.now.words.items ≡ map (λ p. p.value) ps → call.now.masks.items ≡ map (λ p. p.mask) ps → call.now.old ≡ unwrap_or (heap_size before (word_in 0 ps).value) 0
         → Facts call.now.external ps before call.now.given meant → Shows world.old beside meant → GoodWorld FitsCell meant → IsLog log.old moves

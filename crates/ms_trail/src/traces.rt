@@ -1,5 +1,6 @@
 //! The moves of a run up to its first report.
-ghost use Rattle.std.specs.Prelude.{◌≡◌, List, IfOk};
+ghost use Rattle.std.specs.Prelude.{◌≡◌, List, IfOk, false};
+ghost use Rattle.ms_ir.specs.ThreadCalls.{is_threaded};
 ghost use Rattle.ms_runs.specs.Limits.{WithinLimits};
 ghost use Rattle.ms_valid.specs.Uninstrumented.{CanInstrument};
 ghost use Rattle.ms_moves.specs.declared.moves.Move.{Move as MoveOf};
@@ -38,6 +39,7 @@ fn reported(log: Log, at: Source) -> Trace
 pub fn trace(alloc: Global, m: &CheckedModule, setup: &Setup) -> Result<Trace, NoMemory>
     requires plain { CanInstrument m.now }
     requires limits { WithinLimits setup.now }
+    requires alone { is_threaded m.now ≡ false }
     ensures { IfOk result (λ found. found ≡ limited (moves_of m.now setup.now)) }
 {
     let mut run = Follower::new(alloc, m, setup)?;

@@ -31,6 +31,8 @@ pub enum Shape {
     Three,
     /// The second argument.
     Second,
+    /// The first two arguments and the fourth.
+    Begun,
     /// The first argument and the third.
     Fill,
     /// Two ranges of bytes, as long as the third argument says.
@@ -52,8 +54,12 @@ pub fn shape_of(external: External) -> Shape
         | External::Exit
         | External::LlvmAssume => Shape::One,
         External::LlvmObjectSize => Shape::Second,
-        External::Calloc | External::Realloc | External::LifetimeStart | External::LifetimeEnd =>
-            Shape::Two,
+        External::Calloc
+        | External::Realloc
+        | External::LifetimeStart
+        | External::LifetimeEnd
+        | External::PthreadJoin => Shape::Two,
+        External::PthreadCreate => Shape::Begun,
         External::Memset | External::LlvmMemset => Shape::Fill,
         External::Memcpy
         | External::Memmove
@@ -63,8 +69,11 @@ pub fn shape_of(external: External) -> Shape
         External::Memcmp => Shape::Compared,
         External::Write => Shape::Written,
         External::Strlen | External::Puts | External::Printf => Shape::Text,
-        External::Getchar | External::Abort | External::LlvmTrap | External::Word(_, _) =>
-            Shape::Nothing,
+        External::Getchar
+        | External::Abort
+        | External::LlvmTrap
+        | External::SchedYield
+        | External::Word(_, _) => Shape::Nothing,
     }
 }
 
@@ -207,6 +216,11 @@ fn words(view: &View<'_>, args: &[Source], shape: Shape) -> Option<Used>
             let first = word(view, args, 0);
             let third = word(view, args, 2);
             or_else(first, third)
+        }
+        Shape::Begun => {
+            let first = two(view, args);
+            let fourth = word(view, args, 3);
+            or_else(first, fourth)
         }
         Shape::Three | Shape::Compared | Shape::Written => three(view, args),
     }

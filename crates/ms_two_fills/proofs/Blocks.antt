@@ -11,7 +11,7 @@ use Rattle.ms_runs.specs.Memory.{fits, next_base, first_that, covers, is_good, i
 use Rattle.ms_runs.specs.Origins.{poison, first_in_string}
 use Rattle.ms_runs.specs.LowEqual.{LowWorld}
 use Rattle.ms_two_fills.specs.Placed.{IsPlaced, HeapPlaced}
-use Rattle.ms_two_fills.proofs.Worlds.{other, BytesAlike, poisoned_low}
+use Rattle.ms_two_fills.proofs.Worlds.{Unseen, unseen_of, other, BytesAlike, poisoned_low}
 use Rattle.ms_two_fills.proofs.Checks.{byte_same, string_unchanged}
 
 pub head_of : (P : Allocation → Type 0) (a : Allocation) (xs : List Allocation) → All P (a ∷ xs) → P a
@@ -94,7 +94,7 @@ found_mapped f g (x ∷ xs) a e = by_test (f (g x)) (found_mapped f g xs a e)
     by_test true r = refl
     by_test false r = r
 
-module _ (fill others : List ℕ) (p old n root : ℕ) (w : World) (b : ℕ → ℕ) (h : BytesAlike w b) (fit : fits Heap n w ≡ true) (before : p + room old ≤ next_base Heap w) (few : old ≤ 2 ^ 26) where
+module _ (fill others : List ℕ) (p old n root : ℕ) (w : World) (b : Unseen) (h : BytesAlike w b) (fit : fits Heap n w ≡ true) (before : p + room old ≤ next_base Heap w) (few : old ≤ 2 ^ 26) where
   q : ℕ
   q = next_base Heap w
 
@@ -117,13 +117,13 @@ module _ (fill others : List ℕ) (p old n root : ℕ) (w : World) (b : ℕ → 
       → within (next_base Heap w) n (p + (x - next_base Heap w)) ≡ v → (m m' k k' : ℕ)
       → Agrees 8 (if t then (if v then 0 else w.shadow (p + (x - next_base Heap w))) else (if u then 0 else w.shadow x))
       (if t then (if v then m else (if v then 0 else w.bytes (p + (x - next_base Heap w)))) else (if u then k else (if u then 0 else w.bytes x)))
-      (if t then (if v then m' else (if v then 0 else b (p + (x - next_base Heap w)))) else (if u then k' else (if u then 0 else b x)))
+      (if t then (if v then m' else (if v then 0 else b.bytes (p + (x - next_base Heap w)))) else (if u then k' else (if u then 0 else b.bytes x)))
   one_byte x out true u true e f g m m' k k' =
       let both = within_true (next_base Heap w) (min old n) x e in
       let source = within_true (next_base Heap w) n (p + (x - next_base Heap w)) g in
       absurd (omega (arith, both.0, both.1, source.0, before, room_holds old))
-  one_byte x out true u false e f g m m' k k' = h (p + (x - next_base Heap w))
-  one_byte x out false false v e f g m m' k k' = h x
+  one_byte x out true u false e f g m m' k k' = h.0 (p + (x - next_base Heap w))
+  one_byte x out false false v e f g m m' k k' = h.0 x
   one_byte x out false true v e f g m m' k k' =
       let made = within_true (next_base Heap w) n x f in
       absurd (by_place (next_base Heap w) made.0 made.1 (λ l. within_false (next_base Heap w) (min old n) x e made.0 l) (within_false (next_base Heap w + old) (n - old) x out))
@@ -150,24 +150,24 @@ module _ (fill others : List ℕ) (p old n root : ℕ) (w : World) (b : ℕ → 
 
   pub reallocated_low : LowWorld (poison (next_base Heap w) old n root reallocated_world) (poison (next_base Heap w) old n root reallocated_other)
   reallocated_low =
-      poisoned_low (next_base Heap w) old n root reallocated_world reallocated_other.bytes
-      (λ x e. one_byte x (sym (ap (λ k. within k (n - old) x) start) ∙ e) (within (next_base Heap w) (min old n) x) (within (next_base Heap w) n x) (within (next_base Heap w) n (p + (x - next_base Heap w))) refl refl refl _ _ _ _)
+      poisoned_low (next_base Heap w) old n root reallocated_world (unseen_of reallocated_other)
+      (λ x e. one_byte x (sym (ap (λ k. within k (n - old) x) start) ∙ e) (within (next_base Heap w) (min old n) x) (within (next_base Heap w) n x) (within (next_base Heap w) n (p + (x - next_base Heap w))) refl refl refl _ _ _ _) h.1
       (λ l. ap (λ k. is_good reallocated_world k (n - old)) start ∙ tail_good l)
 
 -- ---- bytes that were checked
 
-module _ (w : World) (b : ℕ → ℕ) (h : BytesAlike w b) (l : (a : ℕ) → w.bytes a < 256) (g : (a : ℕ) → b a < 256) where
+module _ (w : World) (b : Unseen) (h : BytesAlike w b) (l : (a : ℕ) → w.bytes a < 256) (g : (a : ℕ) → b.bytes a < 256) where
   none_some : (u : ℕ) → Some u ≡ None → ⊥
   none_some u e = grind arith
 
-  pub bytes_checked : (n a : ℕ) → first_nonzero w.shadow a n ≡ None → bytes_at w.bytes a n ≡ bytes_at b a n
+  pub bytes_checked : (n a : ℕ) → first_nonzero w.shadow a n ≡ None → bytes_at w.bytes a n ≡ bytes_at b.bytes a n
   bytes_checked zero a e = refl
   bytes_checked (suc n) a e = by_test (eqb (w.shadow a) 0) refl e (bytes_checked n (a + 1))
     where
       by_test : (t : Bool) → eqb (w.shadow a) 0 ≡ t → (if t then first_nonzero w.shadow (a + 1) n else Some a) ≡ None
-          → (first_nonzero w.shadow (a + 1) n ≡ None → bytes_at w.bytes (a + 1) n ≡ bytes_at b (a + 1) n) → (w.bytes a ∷ bytes_at w.bytes (a + 1) n) ≡ (b a ∷ bytes_at b (a + 1) n)
+          → (first_nonzero w.shadow (a + 1) n ≡ None → bytes_at w.bytes (a + 1) n ≡ bytes_at b.bytes (a + 1) n) → (w.bytes a ∷ bytes_at w.bytes (a + 1) n) ≡ (b.bytes a ∷ bytes_at b.bytes (a + 1) n)
       by_test true f z rest = ap₂ (λ x xs. x ∷ xs) (byte_same w b h l g a (eqb-true (w.shadow a) 0 f)) (rest z)
       by_test false f z rest = absurd (none_some a z)
 
-  pub string_checked : (n a : ℕ) → first_in_string w a n ≡ None → string_within w.bytes a n ≡ string_within b a n
+  pub string_checked : (n a : ℕ) → first_in_string w a n ≡ None → string_within w.bytes a n ≡ string_within b.bytes a n
   string_checked n a e = string_unchanged w b h l g n a e

@@ -9,7 +9,7 @@ use Rattle.ms_ir.specs.declared.syntax.Operand.{Operand}
 use Rattle.ms_ir.specs.declared.syntax.Op.{Op}
 use Rattle.ms_ir.specs.declared.syntax.Op.TheVariants as op
 use Rattle.ms_ir.specs.declared.calls.External.{External}
-use Rattle.ms_ir.specs.declared.calls.External.TheVariants.{Malloc, Calloc, Realloc, Free, Memcpy, Memmove, Memset, Memcmp, Strlen, Putchar, Puts, Getchar, Read, Write, Exit, Abort, LlvmMemcpy, LlvmMemmove, LlvmMemset, LifetimeStart, LifetimeEnd, Printf, LlvmTrap, LlvmAssume, LlvmObjectSize}
+use Rattle.ms_ir.specs.declared.calls.External.TheVariants.{Malloc, Calloc, Realloc, Free, Memcpy, Memmove, Memset, Memcmp, Strlen, Putchar, Puts, Getchar, Read, Write, Exit, Abort, LlvmMemcpy, LlvmMemmove, LlvmMemset, LifetimeStart, LifetimeEnd, Printf, LlvmTrap, LlvmAssume, LlvmObjectSize, PthreadCreate, PthreadJoin, SchedYield}
 use Rattle.ms_ir.specs.declared.calls.External.TheVariants as called
 use Rattle.ms_bits.specs.declared.word_functions.WordWidth.{WordWidth}
 use Rattle.ms_bits.specs.WordFunctions.{bits_of}
@@ -32,7 +32,7 @@ use Rattle.ms_two_fills.proofs.Passed.{AllPassed, Passed}
 use Rattle.ms_two_fills.proofs.Effects.{EffectsAlike}
 use Rattle.ms_two_fills.proofs.Words.{LowAt}
 use Rattle.ms_two_fills.proofs.Reading.{AlikeWords, word_alike, word_number, read_all_alike, number_same, refill}
-use Rattle.ms_two_fills.proofs.Worlds.{other, BytesAlike, low_other, FitWorld}
+use Rattle.ms_two_fills.proofs.Worlds.{Unseen, other, BytesAlike, low_other, FitWorld}
 use Rattle.ms_two_fills.proofs.Addresses.{AddressStands}
 use Rattle.ms_two_fills.proofs.Ops.{CastStands, OpAlike, ReadAlike, op_alike}
 use Rattle.ms_two_fills.proofs.WordCalls.{NoneWider, WordStands, WordsStand, called_result, word_call, words_low}
@@ -77,6 +77,9 @@ by_three s site LifetimeEnd f ts vs w = refl
 by_three s site LlvmTrap f ts vs w = refl
 by_three s site LlvmAssume f ts vs w = refl
 by_three s site LlvmObjectSize f ts vs w = refl
+by_three s site PthreadCreate f ts vs w = absurd (true≢false (sym f))
+by_three s site PthreadJoin f ts vs w = absurd (true≢false (sym f))
+by_three s site SchedYield f ts vs w = absurd (true≢false (sym f))
 by_three s site Printf f ts vs w = absurd (true≢false (sym f))
 by_three s site (called.Word g n) f ts vs w = absurd (true≢false (sym f))
 
@@ -112,6 +115,9 @@ planes_three s site root LifetimeEnd ps w = refl
 planes_three s site root LlvmTrap ps w = refl
 planes_three s site root LlvmAssume ps w = refl
 planes_three s site root LlvmObjectSize ps w = refl
+planes_three s site root PthreadCreate ps w = refl
+planes_three s site root PthreadJoin ps w = refl
+planes_three s site root SchedYield ps w = refl
 planes_three s site root Printf ps w = refl
 planes_three s site root (called.Word f n) ps w = refl
 
@@ -140,6 +146,9 @@ passed_three w ps args LifetimeEnd f p = p
 passed_three w ps args LlvmTrap f p = p
 passed_three w ps args LlvmAssume f p = p
 passed_three w ps args LlvmObjectSize f p = p
+passed_three w ps args PthreadCreate f p = absurd (true≢false (sym f))
+passed_three w ps args PthreadJoin f p = absurd (true≢false (sym f))
+passed_three w ps args SchedYield f p = absurd (true≢false (sym f))
 passed_three w ps args Printf f p = absurd (true≢false (sym f))
 passed_three w ps args (called.Word g n) f p = absurd (true≢false (sym f))
 
@@ -183,7 +192,7 @@ passed_strings w ps k (a ∷ args) p (suc j) t e s = subst (λ n. Passed w ps (A
     by_test true q = q.1
     by_test false q = q
 
-module _ (s : Setting) (fill : List ℕ) (h : Here) (root : ℕ) (w : World) (b : ℕ → ℕ) (alike : BytesAlike w b) (fit : FitWorld w) (others : (x : ℕ) → b x < 256) where
+module _ (s : Setting) (fill : List ℕ) (h : Here) (root : ℕ) (w : World) (b : Unseen) (alike : BytesAlike w b) (fit : FitWorld w) (others : (x : ℕ) → b.bytes x < 256) where
   module _ (ps qs : List Poisoned) (words : AlikeWords ps qs) (small : (word_at 1 ps).value < 2 ^ 64) where
     fixed_alike : (args : List (Ty × Operand)) (e : External) → is_plain e ≡ true → AllPassed w ps (external_uses e args) → ExtAlike s fill h.site root w b alike fit others e (map (λ a. a.0) args) ps qs
     fixed_alike args e f p =
@@ -301,6 +310,9 @@ module _ (s : Setting) (fill : List ℕ) (h : Here) (root : ℕ) (w : World) (b 
     ext_alike r args Printf p stands low quiet = as_called r Printf args (plain_result r) (plain_result r) (printf_alike args p)
     ext_alike r args (called.Word f n) p stands low quiet =
         word_call h.site r f n args ps qs words (λ k. low k n stands.1) stands quiet w (other w b) (low_other w b alike)
+    ext_alike r args PthreadCreate p stands low quiet = absurd stands
+    ext_alike r args PthreadJoin p stands low quiet = absurd stands
+    ext_alike r args SchedYield p stands low quiet = absurd stands
     ext_alike r args e p stands low quiet = as_called r e args (plain_result r) (plain_result r) (fixed_alike args e refl p)
 
     call_alike : (r : Option Ty) (x : Name) (args : List (Ty × Operand)) → AllPassed w ps (uses s.func h.main (op.Call r x args)) → WordsStand s.func (op.Call r x args) ps

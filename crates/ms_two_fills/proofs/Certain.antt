@@ -1,5 +1,6 @@
 -- A shadow run and the program itself with a fill for each step, as long as nothing is reported and no use is blind.
-use Rattle.std.proofs.Common.{◌≡◌, ℕ, zero, suc, ◌≤◌, List, [], ◌∷◌, map, length, refl, sym, ap, ◌∙◌, subst, arith, inl, inr}
+use Rattle.std.proofs.Common.{◌≡◌, ℕ, zero, suc, ◌≤◌, List, [], ◌∷◌, map, length, refl, sym, ap, ◌∙◌, subst, arith, inl, inr, false}
+use Rattle.ms_ir.specs.ThreadCalls.{is_threaded}
 use Rattle.ms_ir.specs.declared.syntax.Module.{Module}
 use Rattle.ms_ir.specs.Code.{NoMarks}
 use Rattle.ms_runs.specs.declared.runs.Report.{Report}
@@ -95,15 +96,15 @@ counts_none c z (More d) h = h.blind ∙ sym z
 counts_none c z (Stop e w) h = h.blind ∙ sym z
 
 -- all three begin alike
-pub start_aligned : (m : Module) → Formed m → Valid m → (setup : Setup) → GivesBytes setup → Aligned m (shadow_start m setup) (shadow_start m setup) (plain_start m setup)
-start_aligned m formed valid setup bytes = record {
+pub start_aligned : (m : Module) → Formed m → Valid m → is_threaded m ≡ false → (setup : Setup) → GivesBytes setup → Aligned m (shadow_start m setup) (shadow_start m setup) (plain_start m setup)
+start_aligned m formed valid calm setup bytes = record {
   low = start_alike m setup setup.fill;
   mirrors = record { frames = refl; world = refl };
-  good = good_start m formed valid setup bytes;
-  good_too = good_start m formed valid setup bytes;
+  good = good_start m formed valid calm setup bytes;
+  good_too = good_start m formed valid calm setup bytes;
 }
 
-module _ (m : Module) (formed : Formed m) (valid : Valid m) (unmarked : NoMarks m) (setup : Setup) (bytes : GivesBytes setup) (fills : ℕ → List ℕ) (are : (k : ℕ) → IsFill (fills k)) where
+module _ (m : Module) (formed : Formed m) (valid : Valid m) (calm : is_threaded m ≡ false) (unmarked : NoMarks m) (setup : Setup) (bytes : GivesBytes setup) (fills : ℕ → List ℕ) (are : (k : ℕ) → IsFill (fills k)) where
   -- the setting of the run up to its first report
   abbrev one : Setting
   one = first_only (setting_of m setup)
@@ -113,7 +114,7 @@ module _ (m : Module) (formed : Formed m) (valid : Valid m) (unmarked : NoMarks 
   one_step k c d p a told =
       let same = untold_first (setting_of m setup) m c told in
       let told_one = subst UntoldSteps (sym same) told in
-      let sure = good_sure m formed valid (first_only (setting_of m setup)) refl refl in
+      let sure = good_sure m formed valid calm (first_only (setting_of m setup)) refl refl in
       let before = before_step (setting_of m setup) m c told in
       let alike = step_alike (first_only (setting_of m setup)) (fills k) refl m c d a.low (sure.stands c a.good) (sure.fit c a.good) (sure.fit d a.good_too).bytes
       (step_quiet (first_only (setting_of m setup)) m c (counts_none c before.blind (shadow_step by_formulas (first_only (setting_of m setup)) m c) told_one)) in
@@ -136,8 +137,8 @@ module _ (m : Module) (formed : Formed m) (valid : Valid m) (unmarked : NoMarks 
         record {
           low = h;
           mirrors = r;
-          good = (good_kept m formed valid (to_first_report setup) bytes_one).more c c' a.good e;
-          good_too = (good_kept m formed valid (refilled (to_first_report setup) (fills k)) bytes_too).more d d' a.good_too f;
+          good = (good_kept m formed valid calm (to_first_report setup) bytes_one).more c c' a.good e;
+          good_too = (good_kept m formed valid calm (refilled (to_first_report setup) (fills k)) bytes_too).more d d' a.good_too f;
         },
       )
       combine (Stop x w) (Stop y v) (Stop z u) e f t h o (inr r) = (h.0 ∙ sym r.0, record { between = v; low = h.1; mirrors = r.1 })
@@ -168,7 +169,7 @@ module _ (m : Module) (formed : Formed m) (valid : Valid m) (unmarked : NoMarks 
 
   pub aligned_steps : (n : ℕ) → UntoldSteps (steps (shadow_step by_formulas (setting_of m setup) m) n (shadow_start m setup))
       → AlignedSteps m (steps (shadow_step by_formulas (setting_of m setup) m) n (shadow_start m setup)) (steps_by (chosen_step m setup fills) n 0 (plain_start m setup))
-  aligned_steps n told = walk n 0 (shadow_start m setup) (shadow_start m setup) (plain_start m setup) (start_aligned m formed valid setup bytes) told
+  aligned_steps n told = walk n 0 (shadow_start m setup) (shadow_start m setup) (plain_start m setup) (start_aligned m formed valid calm setup bytes) told
 
 -- ---- what is certain
 
@@ -195,13 +196,13 @@ certain_steps m (Stop e w) (Stop x v) h = (h.0, certain_world w h.1.between v h.
 certain_steps m (More c) (Stop x v) h = absurd h
 certain_steps m (Stop e w) (More p) h = absurd h
 
-pub certain : (m : Module) → Formed m → Valid m → NoMarks m → (setup : Setup) → GivesBytes setup → (n : ℕ)
+pub certain : (m : Module) → Formed m → Valid m → is_threaded m ≡ false → NoMarks m → (setup : Setup) → GivesBytes setup → (n : ℕ)
     → UntoldSteps (steps (shadow_step by_completions (setting_of m setup) m) n (shadow_start m setup))
     → (fills : ℕ → List ℕ) → ((k : ℕ) → IsFill (fills k))
     → CertainSteps (steps (shadow_step by_completions (setting_of m setup) m) n (shadow_start m setup)) (steps_by (chosen_step m setup fills) n 0 (plain_start m setup))
-certain m formed valid unmarked setup bytes n told fills are =
+certain m formed valid calm unmarked setup bytes n told fills are =
     subst (λ x. CertainSteps x (steps_by (chosen_step m setup fills) n 0 (plain_start m setup))) (sym computed)
-    (certain_steps m _ _ (aligned_steps m formed valid unmarked setup bytes fills are n (subst UntoldSteps computed told)))
+    (certain_steps m _ _ (aligned_steps m formed valid calm unmarked setup bytes fills are n (subst UntoldSteps computed told)))
   where
     computed : steps (shadow_step by_completions (setting_of m setup) m) n (shadow_start m setup) ≡ steps (shadow_step by_formulas (setting_of m setup) m) n (shadow_start m setup)
     computed = ap (λ step. steps step n (shadow_start m setup)) (λ i c. same_step formulas_exact (setting_of m setup) m c i)

@@ -1,5 +1,6 @@
 -- A shadow run and the program itself where uninitialised memory changes before every step.
-use Rattle.std.proofs.Common.{◌≡◌, ℕ, zero, suc, sym, ap, ◌∙◌, subst}
+use Rattle.std.proofs.Common.{◌≡◌, ℕ, zero, suc, sym, ap, ◌∙◌, subst, false}
+use Rattle.ms_ir.specs.ThreadCalls.{is_threaded}
 use Rattle.ms_ir.specs.declared.syntax.Module.{Module}
 use Rattle.ms_ir.specs.Code.{NoMarks}
 use Rattle.ms_runs.specs.declared.runs.Setup.{Setup}
@@ -39,6 +40,11 @@ changed m c d p bytes may a =
           output = low.output;
           reports = low.reports;
           blind = low.blind;
+          turn = low.turn;
+          threads = low.threads;
+          answer_masks = low.answer_masks;
+          answer_origins = low.answer_origins;
+          answers = low.answers;
           bytes = may.certain;
         };
       };
@@ -47,13 +53,13 @@ changed m c d p bytes may a =
       good_too = record {
         sound = record {
           frames = a.good_too.sound.frames;
-          world = record { bytes = may.small; shadow = good.shadow; origins = good.origins; pairs = good.pairs; input = good.input; output = good.output; sizes = good.sizes };
+          world = record { bytes = may.small; shadow = good.shadow; origins = good.origins; pairs = good.pairs; input = good.input; output = good.output; sizes = good.sizes; answers = good.answers };
         };
         placed = a.good_too.placed;
       };
     }
 
-module _ (m : Module) (formed : Formed m) (valid : Valid m) (unmarked : NoMarks m) (setup : Setup) (bytes : GivesBytes setup) where
+module _ (m : Module) (formed : Formed m) (valid : Valid m) (calm : is_threaded m ≡ false) (unmarked : NoMarks m) (setup : Setup) (bytes : GivesBytes setup) where
   abbrev step : ShadowState → Stepped ShadowState
   step = shadow_step by_formulas (setting_of m setup) m
 
@@ -61,7 +67,7 @@ module _ (m : Module) (formed : Formed m) (valid : Valid m) (unmarked : NoMarks 
   walk zero c d p z a told h = subst (AlignedSteps m (More c)) (sym h) (d, a)
   walk (suc n) c d p z a told (others, may, fill, is, goes) =
       after (step c) (plain_step (setting_of m (refilled setup fill)) m (holding others p))
-      (λ t. one_step m formed valid unmarked setup bytes (λ k. fill) (λ k. is) 0 c (record d { world = record d.world { bytes = others } }) (holding others p) (changed m c d p others may a) t)
+      (λ t. one_step m formed valid calm unmarked setup bytes (λ k. fill) (λ k. is) 0 c (record d { world = record d.world { bytes = others } }) (holding others p) (changed m c d p others may a) t)
       (λ c' d' p' a' t h. walk n c' d' p' z a' t h) told goes
     where
       after : (x : Stepped ShadowState) (y : Stepped PlainState) → (UntoldSteps x → AlignedSteps m x y)
@@ -79,7 +85,7 @@ module _ (m : Module) (formed : Formed m) (valid : Valid m) (unmarked : NoMarks 
   certain_changing n z told comes =
       subst (λ (f : ShadowState → Stepped ShadowState). CertainSteps (steps f n (shadow_start m setup)) z) (sym same)
       (certain_steps m _ _
-      (walk n (shadow_start m setup) (shadow_start m setup) (plain_start m setup) z (start_aligned m formed valid setup bytes)
+      (walk n (shadow_start m setup) (shadow_start m setup) (plain_start m setup) z (start_aligned m formed valid calm setup bytes)
       (subst (λ (f : ShadowState → Stepped ShadowState). UntoldSteps (steps f n (shadow_start m setup))) same told)
       (subst (λ (f : ShadowState → Stepped ShadowState). ComesTo f m setup n (shadow_start m setup) (plain_start m setup) z) same comes)))
     where

@@ -20,12 +20,12 @@ use Rattle.ms_runs.specs.Masks.{word_at}
 use Rattle.ms_runs.specs.Uses.{Use, Word, Bytes, Line, type_at, check_use, check_uses, Asked}
 use Rattle.ms_two_fills.proofs.Passed.{Passed, AllPassed}
 use Rattle.ms_two_fills.proofs.Effects.{CheckedAlike, Ready}
-use Rattle.ms_two_fills.proofs.Worlds.{other, BytesAlike}
+use Rattle.ms_two_fills.proofs.Worlds.{Unseen, other, BytesAlike}
 use Rattle.ms_two_fills.proofs.Reading.{AlikeWords, word_alike, number_same, refill}
 
 -- a byte without a poisoned bit is the same
-pub byte_same : (w : World) (b : ℕ → ℕ) → BytesAlike w b → ((a : ℕ) → w.bytes a < 256) → ((a : ℕ) → b a < 256) → (a : ℕ) → w.shadow a ≡ 0 → w.bytes a ≡ b a
-byte_same w b h l g a z = same_from_bits_below 8 (w.bytes a) (b a) (l a) (g a) (λ i k. h a i k (ap (λ m. bit_at m i) z ∙ bit_at-zero i))
+pub byte_same : (w : World) (b : Unseen) → BytesAlike w b → ((a : ℕ) → w.bytes a < 256) → ((a : ℕ) → b.bytes a < 256) → (a : ℕ) → w.shadow a ≡ 0 → w.bytes a ≡ b.bytes a
+byte_same w b h l g a z = same_from_bits_below 8 (w.bytes a) (b.bytes a) (l a) (g a) (λ i k. h.0 a i k (ap (λ m. bit_at m i) z ∙ bit_at-zero i))
 
 weaken : (P Q : Type 0) → (P → Q) → (w v : World) (e x : Effect) → CheckedAlike P w v e x → CheckedAlike Q w v e x
 weaken P Q f w v (Does u) (Does z) h = (f h.0, h.1, h.2)
@@ -93,18 +93,18 @@ found_in_string w (suc n) a x e z = by_test (eqb (w.shadow a) 0) (eqb (w.bytes a
     by_test true false f g rest = rest g z
     by_test false u f g rest = eqb-false (w.shadow a) 0 f (ap w.shadow (some_eq a x g) ∙ z)
 
-pub string_same : (w : World) (b : ℕ → ℕ) → BytesAlike w b → ((a : ℕ) → w.bytes a < 256) → ((a : ℕ) → b a < 256) → (n a : ℕ) → first_in_string w a n ≡ first_in_string (other w b) a n
+pub string_same : (w : World) (b : Unseen) → BytesAlike w b → ((a : ℕ) → w.bytes a < 256) → ((a : ℕ) → b.bytes a < 256) → (n a : ℕ) → first_in_string w a n ≡ first_in_string (other w b) a n
 string_same w b h l g zero a = refl
 string_same w b h l g (suc n) a = by_test (eqb (w.shadow a) 0) refl (string_same w b h l g n (a + 1))
   where
     by_test : (t : Bool) → eqb (w.shadow a) 0 ≡ t → first_in_string w (a + 1) n ≡ first_in_string (other w b) (a + 1) n
-        → (if t then (if eqb (w.bytes a) 0 then None else first_in_string w (a + 1) n) else Some a) ≡ (if t then (if eqb (b a) 0 then None else first_in_string (other w b) (a + 1) n) else Some a)
+        → (if t then (if eqb (w.bytes a) 0 then None else first_in_string w (a + 1) n) else Some a) ≡ (if t then (if eqb (b.bytes a) 0 then None else first_in_string (other w b) (a + 1) n) else Some a)
     by_test true e rest = ap₂ (λ k o. if eqb k 0 then None else o) (byte_same w b h l g a (eqb-true (w.shadow a) 0 e)) rest
     by_test false e rest = refl
 
 -- a string that was checked is the same in both
-pub string_unchanged : (w : World) (b : ℕ → ℕ) → BytesAlike w b → ((x : ℕ) → w.bytes x < 256) → ((x : ℕ) → b x < 256)
-    → (n a : ℕ) → first_in_string w a n ≡ None → string_within w.bytes a n ≡ string_within b a n
+pub string_unchanged : (w : World) (b : Unseen) → BytesAlike w b → ((x : ℕ) → w.bytes x < 256) → ((x : ℕ) → b.bytes x < 256)
+    → (n a : ℕ) → first_in_string w a n ≡ None → string_within w.bytes a n ≡ string_within b.bytes a n
 string_unchanged w b h l g zero a e = refl
 string_unchanged w b h l g (suc n) a e = by_test (eqb (w.shadow a) 0) (eqb (w.bytes a) 0) refl refl e (string_unchanged w b h l g n (a + 1))
   where
@@ -112,30 +112,30 @@ string_unchanged w b h l g (suc n) a e = by_test (eqb (w.shadow a) 0) (eqb (w.by
     none_some u e = grind arith
 
     by_test : (t u : Bool) → eqb (w.shadow a) 0 ≡ t → eqb (w.bytes a) 0 ≡ u → (if t then (if u then None else first_in_string w (a + 1) n) else Some a) ≡ None
-        → (first_in_string w (a + 1) n ≡ None → string_within w.bytes (a + 1) n ≡ string_within b (a + 1) n)
-        → (if u then Some [] else option_map (λ rest. w.bytes a ∷ rest) (string_within w.bytes (a + 1) n)) ≡ (if eqb (b a) 0 then Some [] else option_map (λ rest. b a ∷ rest) (string_within b (a + 1) n))
+        → (first_in_string w (a + 1) n ≡ None → string_within w.bytes (a + 1) n ≡ string_within b.bytes (a + 1) n)
+        → (if u then Some [] else option_map (λ rest. w.bytes a ∷ rest) (string_within w.bytes (a + 1) n)) ≡ (if eqb (b.bytes a) 0 then Some [] else option_map (λ rest. b.bytes a ∷ rest) (string_within b.bytes (a + 1) n))
     by_test true true f k z rest =
-        ap (λ t. if t then Some [] else option_map (λ rest. b a ∷ rest) (string_within b (a + 1) n)) (sym (sym (ap (λ x. eqb x 0) (byte_same w b h l g a (eqb-true (w.shadow a) 0 f))) ∙ k))
+        ap (λ t. if t then Some [] else option_map (λ rest. b.bytes a ∷ rest) (string_within b.bytes (a + 1) n)) (sym (sym (ap (λ x. eqb x 0) (byte_same w b h l g a (eqb-true (w.shadow a) 0 f))) ∙ k))
     by_test true false f k z rest =
         let same = byte_same w b h l g a (eqb-true (w.shadow a) 0 f) in
         ap₂ (λ x o. option_map (λ rest. x ∷ rest) o) same (rest z)
-        ∙ ap (λ t. if t then Some [] else option_map (λ rest. b a ∷ rest) (string_within b (a + 1) n)) (sym (sym (ap (λ x. eqb x 0) same) ∙ k))
+        ∙ ap (λ t. if t then Some [] else option_map (λ rest. b.bytes a ∷ rest) (string_within b.bytes (a + 1) n)) (sym (sym (ap (λ x. eqb x 0) same) ∙ k))
     by_test false u f k z rest = absurd (none_some a z)
 
 -- ---- one check
 
 module _ (s : Setting) (fill : List ℕ) (one : s.limit ≡ 1) where
-  reported_alike : (P : Type 0) (r : Report) (w : World) (b : ℕ → ℕ) → BytesAlike w b → CheckedAlike P w (other w b) (add_report s r w) (add_report s r (other w b))
+  reported_alike : (P : Type 0) (r : Report) (w : World) (b : Unseen) → BytesAlike w b → CheckedAlike P w (other w b) (add_report s r w) (add_report s r (other w b))
   reported_alike P r w b h = by_test (leb s.limit (length (w.reports ++ r ∷ []))) refl
     where
       by_test : (t : Bool) → leb s.limit (length (w.reports ++ r ∷ [])) ≡ t
           → CheckedAlike P w (other w b)
           (if t then Ends «end».Reported (record w { reports = w.reports ++ r ∷ [] }) else Does (record w { reports = w.reports ++ r ∷ [] }))
           (if t then Ends «end».Reported (record (other w b) { reports = w.reports ++ r ∷ [] }) else Does (record (other w b) { reports = w.reports ++ r ∷ [] }))
-      by_test true e = (refl, record { allocs = refl; shadow = refl; origins = refl; pairs = refl; made = refl; input = refl; output = refl; reports = refl; blind = refl; bytes = h })
+      by_test true e = (refl, record { allocs = refl; shadow = refl; origins = refl; pairs = refl; made = refl; input = refl; output = refl; reports = refl; blind = refl; turn = refl; threads = refl; answer_masks = refl; answer_origins = refl; bytes = h.0; answers = h.1 })
       by_test false e = absurd (omega (arith, leb-false s.limit (length (w.reports ++ r ∷ [])) e, one, length-append w.reports (r ∷ [])))
 
-  check_alike : (mask width origin kind part site : ℕ) (w : World) (b : ℕ → ℕ) → BytesAlike w b
+  check_alike : (mask width origin kind part site : ℕ) (w : World) (b : Unseen) → BytesAlike w b
       → CheckedAlike (mask ≡ 0) w (other w b) (check s mask width origin kind part site w) (check (refill s fill) mask width origin kind part site (other w b))
   check_alike mask width origin kind part site w b h = by_test (eqb mask 0) refl
     where
@@ -149,13 +149,13 @@ module _ (s : Setting) (fill : List ℕ) (one : s.limit ≡ 1) where
       by_test true e = (eqb-true mask 0 e, refl, refl)
       by_test false e = reported_alike (mask ≡ 0) _ w b h
 
-  byte_alike : (kind site start : ℕ) (w : World) (b : ℕ → ℕ) → BytesAlike w b → (o : Option ℕ) → ((x : ℕ) → o ≡ Some x → w.shadow x ≡ 0 → ⊥)
+  byte_alike : (kind site start : ℕ) (w : World) (b : Unseen) → BytesAlike w b → (o : Option ℕ) → ((x : ℕ) → o ≡ Some x → w.shadow x ≡ 0 → ⊥)
       → CheckedAlike (o ≡ None) w (other w b) (check_byte s kind site start o w) (check_byte (refill s fill) kind site start o (other w b))
   byte_alike kind site start w b h None found = (refl, refl, refl)
   byte_alike kind site start w b h (Some x) found =
       weaken (w.shadow x ≡ 0) (Some x ≡ None) (λ z. absurd (found x refl z)) w (other w b) _ _ (check_alike (w.shadow x) 8 (w.origins (x / 4)) kind (x - start) site w b h)
 
-  memory_alike : (a n kind site : ℕ) (w : World) (b : ℕ → ℕ) → BytesAlike w b
+  memory_alike : (a n kind site : ℕ) (w : World) (b : Unseen) → BytesAlike w b
       → CheckedAlike (is_good w a n ≡ true → first_nonzero w.shadow a n ≡ None) w (other w b) (check_memory s a n kind site w) (check_memory (refill s fill) a n kind site (other w b))
   memory_alike a n kind site w b h = by_test (is_good w a n) refl
     where
@@ -171,14 +171,14 @@ module _ (s : Setting) (fill : List ℕ) (one : s.limit ≡ 1) where
           (byte_alike kind site a w b h (first_nonzero w.shadow a n) (λ x f z. found_nonzero w.shadow n a x f z))
       by_test false e = ((λ g. absurd (false_true (sym e ∙ g))), refl, refl)
 
-  line_alike : (a site : ℕ) (w : World) (b : ℕ → ℕ) → BytesAlike w b → ((x : ℕ) → w.bytes x < 256) → ((x : ℕ) → b x < 256)
+  line_alike : (a site : ℕ) (w : World) (b : Unseen) → BytesAlike w b → ((x : ℕ) → w.bytes x < 256) → ((x : ℕ) → b.bytes x < 256)
       → CheckedAlike (first_in_string w a (bytes_left w a) ≡ None) w (other w b) (check_string s a site w) (check_string (refill s fill) a site (other w b))
   line_alike a site w b h l g =
       subst (λ o. CheckedAlike (first_in_string w a (bytes_left w a) ≡ None) w (other w b) (check_byte s 10 site a (first_in_string w a (bytes_left w a)) w) (check_byte (refill s fill) 10 site a o (other w b)))
       (string_same w b h l g (bytes_left w a) a)
       (byte_alike 10 site a w b h (first_in_string w a (bytes_left w a)) (λ x f z. found_in_string w (bytes_left w a) a x f z))
 
-  asked_alike : (f k a site : ℕ) (w : World) (b : ℕ → ℕ) → BytesAlike w b → ((x : ℕ) → w.bytes x < 256) → ((x : ℕ) → b x < 256) → string_at w f ≡ string_at (other w b) f
+  asked_alike : (f k a site : ℕ) (w : World) (b : Unseen) → BytesAlike w b → ((x : ℕ) → w.bytes x < 256) → ((x : ℕ) → b.bytes x < 256) → string_at w f ≡ string_at (other w b) f
       → CheckedAlike (asks_string_at w f k ≡ true → first_in_string w a (bytes_left w a) ≡ None) w (other w b) (check_format s f k a site w) (check_format (refill s fill) f k a site (other w b))
   asked_alike f k a site w b h l g same =
       subst (λ o. CheckedAlike (asks_string_at w f k ≡ true → first_in_string w a (bytes_left w a) ≡ None) w (other w b) (check_format s f k a site w)
@@ -196,7 +196,7 @@ module _ (s : Setting) (fill : List ℕ) (one : s.limit ≡ 1) where
 
   -- ---- all checks of an instruction
 
-  module _ (site : ℕ) (os : List (Ty × Operand)) (ps qs : List Poisoned) (words : AlikeWords ps qs) (w : World) (b : ℕ → ℕ) (h : BytesAlike w b) (l : (x : ℕ) → w.bytes x < 256) (g : (x : ℕ) → b x < 256) where
+  module _ (site : ℕ) (os : List (Ty × Operand)) (ps qs : List Poisoned) (words : AlikeWords ps qs) (w : World) (b : Unseen) (h : BytesAlike w b) (l : (x : ℕ) → w.bytes x < 256) (g : (x : ℕ) → b.bytes x < 256) where
     word_checked : (kind k : ℕ) → CheckedAlike ((word_at k ps).mask ≡ 0) w (other w b) (check_use s site os ps (Word kind k) w) (check_use (refill s fill) site os qs (Word kind k) (other w b))
     word_checked kind k =
         let same = word_alike k ps qs words in

@@ -1,5 +1,6 @@
 -- A clean verdict holds whatever fill each step has.
-use Rattle.std.proofs.Common.{◌≡◌, ◌≤◌, arith, ℕ, zero, suc, List, [], refl, sym, ap, ◌∙◌, subst}
+use Rattle.std.proofs.Common.{◌≡◌, ◌≤◌, arith, ℕ, zero, suc, List, [], refl, sym, ap, ◌∙◌, subst, false}
+use Rattle.ms_ir.specs.ThreadCalls.{is_threaded}
 use Rattle.ms_ir.specs.declared.syntax.Module.{Module}
 use Rattle.ms_ir.specs.Code.{NoMarks}
 use Rattle.ms_runs.specs.declared.runs.End.TheVariants as «end»
@@ -86,22 +87,22 @@ module _ (Good : ShadowState → Type 0) (s : Setting) (fills : ℕ → List ℕ
       after (More c') (Stop y v) e f a rest q = absurd a
       after (Stop x w) (More d') e f a rest q = absurd a
 
-module _ (m : Module) (formed : Formed m) (valid : Valid m) where
+module _ (m : Module) (formed : Formed m) (valid : Valid m) (calm : is_threaded m ≡ false) where
   same_chosen : (setup : Setup) (fills : ℕ → List ℕ) → setup.reports ≡ 1 → GivesBytes setup → ((k : ℕ) → IsFill (fills k)) → (shadow m setup).blind ≡ 0 → shadow_chosen m setup fills ≡ shadow m setup
   same_chosen setup fills one bytes are quiet =
       ap (λ step. run_by (λ c. c.world) step setup.steps 0 (shadow_start m setup)) (λ i k c. same_step formulas_exact (setting_of m (refilled setup (fills k))) m c i)
-      ∙ sym (runs_alike_by (SoundPlaced m) (setting_of m setup) fills one m (good_sure m formed valid (setting_of m setup) refl refl) (good_kept m formed valid setup bytes)
-      (λ k. good_kept m formed valid (refilled setup (fills k)) (record { input = bytes.input; fill = (are k).bytes }))
-      setup.steps 0 (shadow_start m setup) (shadow_start m setup) (good_start m formed valid setup bytes) (good_start m formed valid setup bytes)
+      ∙ sym (runs_alike_by (SoundPlaced m) (setting_of m setup) fills one m (good_sure m formed valid calm (setting_of m setup) refl refl) (good_kept m formed valid calm setup bytes)
+      (λ k. good_kept m formed valid calm (refilled setup (fills k)) (record { input = bytes.input; fill = (are k).bytes }))
+      setup.steps 0 (shadow_start m setup) (shadow_start m setup) (good_start m formed valid calm setup bytes) (good_start m formed valid calm setup bytes)
       (start_alike m setup setup.fill) (ap (λ r. r.blind) (sym (computed m setup)) ∙ quiet))
       ∙ sym (computed m setup)
 
-module _ (m : Module) (formed : Formed m) (valid : Valid m) (unmarked : NoMarks m) where
+module _ (m : Module) (formed : Formed m) (valid : Valid m) (calm : is_threaded m ≡ false) (unmarked : NoMarks m) where
   pub shadow_holds_chosen : (setup : Setup) → GivesBytes setup → HoldsUnderChoices m setup (shadow m setup)
   shadow_holds_chosen setup bytes = record {
     clean = λ is fills are. holds is fills are;
     same = λ quiet fills are.
-        same_chosen m formed valid (to_first_report setup) fills refl (record { input = bytes.input; fill = bytes.fill }) are
+        same_chosen m formed valid calm (to_first_report setup) fills refl (record { input = bytes.input; fill = bytes.fill }) are
         (quiet_first (shadow m (to_first_report setup)) (shadow m setup) (first_of m setup) quiet);
   }
     where
@@ -113,7 +114,7 @@ module _ (m : Module) (formed : Formed m) (valid : Valid m) (unmarked : NoMarks 
           (ap (λ r. r.reports) (sym shown) ∙ none.0) (ap (λ r. r.blind) (sym shown) ∙ none.1) in
           subst (λ r. SameShown r (shadow m setup)) (sym (run_steps_by (λ p. p.world) (chosen_step m setup fills) setup.steps 0 (plain_start m setup)))
           (subst (λ r. SameShown (spent (λ p. p.world) (steps_by (chosen_step m setup fills) setup.steps 0 (plain_start m setup))) r) (sym shown)
-          (same_shown _ _ (certain m formed valid unmarked setup bytes setup.steps told fills are)))
+          (same_shown _ _ (certain m formed valid calm unmarked setup bytes setup.steps told fills are)))
 
   pub checked_holds_chosen : (j : Module) → Faithful m j → (setup : Setup) → Fair setup → HoldsUnderChoices m setup (plain j setup)
   checked_holds_chosen j faithful setup fair =

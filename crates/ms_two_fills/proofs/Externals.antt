@@ -6,7 +6,7 @@ use Rattle.ms_bits.specs.declared.traps.Trap.{Trap}
 use Rattle.ms_bits.specs.declared.traps.Trap.TheVariants as trap
 use Rattle.ms_bits.specs.Maps.{bytes_at, first_nonzero}
 use Rattle.ms_ir.specs.declared.calls.External.{External}
-use Rattle.ms_ir.specs.declared.calls.External.TheVariants.{Malloc, Calloc, Realloc, Free, Memcpy, Memmove, Memset, Memcmp, Strlen, Putchar, Puts, Getchar, Read, Write, Exit, Abort, LlvmMemcpy, LlvmMemmove, LlvmMemset, LifetimeStart, LifetimeEnd, Printf, LlvmTrap, LlvmAssume, LlvmObjectSize, Word}
+use Rattle.ms_ir.specs.declared.calls.External.TheVariants.{Malloc, Calloc, Realloc, Free, Memcpy, Memmove, Memset, Memcmp, Strlen, Putchar, Puts, Getchar, Read, Write, Exit, Abort, LlvmMemcpy, LlvmMemmove, LlvmMemset, LifetimeStart, LifetimeEnd, Printf, LlvmTrap, LlvmAssume, LlvmObjectSize, PthreadCreate, PthreadJoin, SchedYield, Word}
 use Rattle.ms_ir.specs.declared.syntax.Ty.{Ty}
 use Rattle.ms_ir.specs.declared.syntax.Operand.{Operand}
 use Rattle.ms_ir.specs.Areas.{Heap}
@@ -22,7 +22,7 @@ use Rattle.ms_runs.specs.LowEqual.{LowWord, LowWorld, SameBits}
 use Rattle.ms_two_fills.proofs.Reading.{refill}
 use Rattle.ms_two_fills.proofs.Passed.{AllPassed}
 use Rattle.ms_two_fills.proofs.Effects.{EffectsAlike}
-use Rattle.ms_two_fills.proofs.Worlds.{other, BytesAlike, low_other, poison_low, made_low, zeros_low, remade_low, copied_low, same_bytes_low, clean_bytes_low, filled_low, empty_low, low_byte_alike, FitWorld}
+use Rattle.ms_two_fills.proofs.Worlds.{Unseen, other, BytesAlike, low_other, poison_low, made_low, zeros_low, remade_low, copied_low, same_bytes_low, clean_bytes_low, filled_low, empty_low, low_byte_alike, FitWorld}
 use Rattle.ms_two_fills.proofs.Ops.{same_word, other_word, exact_word}
 use Rattle.ms_two_fills.proofs.Blocks.{heap_found, none_at_zero, size_found, too_many, reallocated_low, bytes_checked, string_checked}
 
@@ -30,6 +30,9 @@ use Rattle.ms_two_fills.proofs.Blocks.{heap_found, none_at_zero, size_found, too
 abbrev pub is_plain : External → Bool
 is_plain Printf = false
 is_plain (Word f n) = false
+is_plain PthreadCreate = false
+is_plain PthreadJoin = false
+is_plain SchedYield = false
 is_plain e = true
 
 -- what such an external answers
@@ -39,7 +42,7 @@ answered v w = record { value = v; mask = 0; origin = 0 }
 answers_same : (v : ℕ) → LowWord (record { value = v; mask = 0; origin = 0 }) (record { value = v; mask = 0; origin = 0 })
 answers_same v = exact_word v v 0 0 0 0 refl refl refl
 
-module _ (s : Setting) (fill : List ℕ) (site root : ℕ) (w : World) (b : ℕ → ℕ) (alike : BytesAlike w b) (fit : FitWorld w) (others : (x : ℕ) → b x < 256) where
+module _ (s : Setting) (fill : List ℕ) (site root : ℕ) (w : World) (b : Unseen) (alike : BytesAlike w b) (fit : FitWorld w) (others : (x : ℕ) → b.bytes x < 256) where
   -- an external does the same in both worlds
   abbrev pub ExtAlike : External → List Ty → List Poisoned → List Poisoned → Type 0
   ExtAlike e types ps qs =
@@ -108,7 +111,7 @@ module _ (s : Setting) (fill : List ℕ) (site root : ℕ) (w : World) (b : ℕ 
           (if t then Does w else if u then Does (end_block p w) else traps trap.BadFree site w)
           (if t then Does (other w b) else if u then Does (end_block p (other w b)) else traps trap.BadFree site (other w b))
       by_test true u = low
-      by_test false true = record { allocs = refl; shadow = refl; origins = refl; pairs = refl; made = refl; input = refl; output = refl; reports = refl; blind = refl; bytes = alike }
+      by_test false true = record { allocs = refl; shadow = refl; origins = refl; pairs = refl; made = refl; input = refl; output = refl; reports = refl; blind = refl; turn = refl; threads = refl; answer_masks = refl; answer_origins = refl; bytes = alike.0; answers = alike.1 }
       by_test false false = (refl, low)
 
   -- a condition that must hold
@@ -159,7 +162,7 @@ module _ (s : Setting) (fill : List ℕ) (site root : ℕ) (w : World) (b : ℕ 
               (set_cells a n id (set_shadow a n (λ k. m % 256) (record (set_bytes a n (λ k. y % 256) (other w b)) { pairs = pairs })))
           low_chained pairs id =
               let filled = filled_low a n (m % 256) (x % 256) (y % 256) w b alike (low_byte_alike m x y same) in
-              record { allocs = refl; shadow = refl; origins = refl; pairs = refl; made = refl; input = refl; output = refl; reports = refl; blind = refl; bytes = filled.bytes }
+              record { allocs = refl; shadow = refl; origins = refl; pairs = refl; made = refl; input = refl; output = refl; reports = refl; blind = refl; turn = refl; threads = refl; answer_masks = refl; answer_origins = refl; bytes = filled.bytes; answers = filled.answers }
 
           by_chain : (t : Bool) (o : Option ℕ)
               → LowWorld
@@ -184,7 +187,7 @@ module _ (s : Setting) (fill : List ℕ) (site root : ℕ) (w : World) (b : ℕ 
           → EffectsAlike answered answered (λ x u. u) (λ x u. u)
           (if t then Gives v (record w { output = w.output ++ bs }) else traps trap.Output site w)
           (if t then Gives v (record (other w b) { output = w.output ++ bs }) else traps trap.Output site (other w b))
-      by_test true = (answers_same v, record { allocs = refl; shadow = refl; origins = refl; pairs = refl; made = refl; input = refl; output = refl; reports = refl; blind = refl; bytes = alike })
+      by_test true = (answers_same v, record { allocs = refl; shadow = refl; origins = refl; pairs = refl; made = refl; input = refl; output = refl; reports = refl; blind = refl; turn = refl; threads = refl; answer_masks = refl; answer_origins = refl; bytes = alike.0; answers = alike.1 })
       by_test false = (refl, low)
 
   pub prints_alike : (r t : Result (List ℕ) Trap) → r ≡ t → EffectsAlike answered answered (λ x u. u) (λ x u. u) (prints site r w) (prints site t (other w b))
@@ -205,7 +208,7 @@ module _ (s : Setting) (fill : List ℕ) (site root : ℕ) (w : World) (b : ℕ 
           record (set_bytes a (length (take n w.input)) (λ k. get_or (take n w.input) k 0) (other w b)) { input = drop n w.input })
       by_test true =
           let cleaned = clean_bytes_low a (length (take n w.input)) (λ k. get_or (take n w.input) k 0) w b alike in
-          record { allocs = refl; shadow = refl; origins = refl; pairs = refl; made = refl; input = refl; output = refl; reports = refl; blind = refl; bytes = cleaned.bytes }
+          record { allocs = refl; shadow = refl; origins = refl; pairs = refl; made = refl; input = refl; output = refl; reports = refl; blind = refl; turn = refl; threads = refl; answer_masks = refl; answer_origins = refl; bytes = cleaned.bytes; answers = cleaned.answers }
       by_test false = record {
         allocs = refl;
         shadow = refl;
@@ -216,7 +219,12 @@ module _ (s : Setting) (fill : List ℕ) (site root : ℕ) (w : World) (b : ℕ 
         output = refl;
         reports = refl;
         blind = refl;
-        bytes = same_bytes_low a (length (take n w.input)) (λ k. get_or (take n w.input) k 0) w b alike;
+        turn = refl;
+        threads = refl;
+        answer_masks = refl;
+        answer_origins = refl;
+        answers = alike.1;
+        bytes = (same_bytes_low a (length (take n w.input)) (λ k. get_or (take n w.input) k 0) w b alike).0;
       }
 
   -- with no descriptor of the input -1 is answered, of which no bytes are good
@@ -236,10 +244,10 @@ module _ (s : Setting) (fill : List ℕ) (site root : ℕ) (w : World) (b : ℕ 
 
   next_alike : (bs : List ℕ) → EffectsAlike answered answered (λ v u. u) (λ v u. u) (next_byte bs w) (next_byte bs (other w b))
   next_alike [] = (answers_same (minus_one 32), low)
-  next_alike (x ∷ bs) = (answers_same x, record { allocs = refl; shadow = refl; origins = refl; pairs = refl; made = refl; input = refl; output = refl; reports = refl; blind = refl; bytes = alike })
+  next_alike (x ∷ bs) = (answers_same x, record { allocs = refl; shadow = refl; origins = refl; pairs = refl; made = refl; input = refl; output = refl; reports = refl; blind = refl; turn = refl; threads = refl; answer_masks = refl; answer_origins = refl; bytes = alike.0; answers = alike.1 })
 
   -- bytes that were checked
-  checked_bytes : (a n : ℕ) → (is_good w a n ≡ true → first_nonzero w.shadow a n ≡ None) → is_good w a n ≡ true → bytes_at w.bytes a n ≡ bytes_at b a n
+  checked_bytes : (a n : ℕ) → (is_good w a n ≡ true → first_nonzero w.shadow a n ≡ None) → is_good w a n ≡ true → bytes_at w.bytes a n ≡ bytes_at b.bytes a n
   checked_bytes a n h g = bytes_checked w b alike fit.bytes others n a (h g)
 
   pub checked_string : (a : ℕ) → first_in_string w a (bytes_left w a) ≡ None → string_at w a ≡ string_at (other w b) a
@@ -320,7 +328,7 @@ module _ (s : Setting) (fill : List ℕ) (site root : ℕ) (w : World) (b : ℕ 
     three_alike small Read f p = by_acd Read p.0 p.1.0 p.1.1.0 (guarded _ _ _ _ c.value d.value _ _ (λ g. read_alike a.value c.value d.value))
     three_alike small Write f p =
         by_acd Write p.0 p.1.0 p.1.1.0
-        (guarded _ _ _ _ c.value d.value _ _ (λ g. written (bytes_at w.bytes c.value d.value) (bytes_at b c.value d.value) (checked_bytes c.value d.value p.1.1.1.0 g) d.value (eqb a.value 1)))
+        (guarded _ _ _ _ c.value d.value _ _ (λ g. written (bytes_at w.bytes c.value d.value) (bytes_at b.bytes c.value d.value) (checked_bytes c.value d.value p.1.1.1.0 g) d.value (eqb a.value 1)))
     three_alike small Exit f p = by_a Exit p.0 (refl, low)
     three_alike small Abort f p = (refl, low)
     three_alike small LlvmMemcpy f p = by_acd LlvmMemcpy p.0 p.1.0 p.1.1.0 (guarded _ _ _ _ a.value d.value _ _ (λ g. guarded _ _ _ _ c.value d.value _ _ (λ k. copied_planes a.value c.value d.value g k)))
@@ -331,5 +339,8 @@ module _ (s : Setting) (fill : List ℕ) (site root : ℕ) (w : World) (b : ℕ 
     three_alike small LlvmTrap f p = (refl, low)
     three_alike small LlvmAssume f p = by_a LlvmAssume p.0 (assumed_alike (eqb a.value 0))
     three_alike small LlvmObjectSize f p = by_c LlvmObjectSize p.0 (answers_same (unknown_size c.value), low)
+    three_alike small PthreadCreate f p = absurd (true≢false (sym f))
+    three_alike small PthreadJoin f p = absurd (true≢false (sym f))
+    three_alike small SchedYield f p = absurd (true≢false (sym f))
     three_alike small Printf f p = absurd (true≢false (sym f))
     three_alike small (Word f n) g p = absurd (true≢false (sym g))

@@ -13,13 +13,13 @@ use Rattle.ms_ir.specs.declared.syntax.Module.{Module}
 use Rattle.ms_runs.specs.declared.runs.End.TheVariants as «end»
 use Rattle.ms_runs.specs.declared.runs.Report.{Report}
 use Rattle.ms_ir.specs.declared.calls.External.{External}
-use Rattle.ms_ir.specs.declared.calls.External.TheVariants.{Malloc, Calloc, Realloc, Free, Memcpy, Memmove, Memset, Memcmp, Strlen, Putchar, Puts, Getchar, Read, Write, Exit, Abort, LlvmMemcpy, LlvmMemmove, LlvmMemset, LifetimeStart, LifetimeEnd, Printf, LlvmTrap, LlvmAssume, LlvmObjectSize}
+use Rattle.ms_ir.specs.declared.calls.External.TheVariants.{Malloc, Calloc, Realloc, Free, Memcpy, Memmove, Memset, Memcmp, Strlen, Putchar, Puts, Getchar, Read, Write, Exit, Abort, LlvmMemcpy, LlvmMemmove, LlvmMemset, LifetimeStart, LifetimeEnd, Printf, LlvmTrap, LlvmAssume, LlvmObjectSize, PthreadCreate, PthreadJoin, SchedYield}
 use Rattle.ms_ir.specs.declared.calls.External.TheVariants as called
 use Rattle.ms_ir.specs.Layout.{width_of}
 use Rattle.ms_runs.specs.World.{World, Setting, Here, Effect, Gives, Does, Goes, Enters, Leaves, Ends, then_does, result}
 use Rattle.ms_runs.specs.Memory.{is_good}
 use Rattle.ms_ir.specs.Code.{operands, count_undefs, external_named, root_at, block_index, blocks_at, insts_at}
-use Rattle.ms_runs.specs.Control.{Frame, Outcome, On, Over, here, rest_of, read_all, phis, count_phis, block_name, after_effect}
+use Rattle.ms_runs.specs.Control.{Frame, Outcome, On, Over, here, rest_of, read_all, phis, count_phis, block_name, keeping, after_effect}
 use Rattle.ms_runs.specs.Act.{operand_word, act}
 use Rattle.ms_runs.specs.Origins.{trail, add_report, check, check_byte, first_in_string, count_blind, asks_string_at}
 use Rattle.ms_runs.specs.Memory.{bytes_left}
@@ -51,7 +51,7 @@ pub record Found (w u z : World) : Type 0 where
   pub more : w.blind ≤ z.blind
 
 -- two checks of the same: nothing is found, or the first run ends
-abbrev CheckedFirst : World → Effect → Effect → Type 0
+abbrev pub CheckedFirst : World → Effect → Effect → Type 0
 CheckedFirst w (Does u) (Does z) = (u ≡ w) × (z ≡ w)
 CheckedFirst w (Ends e u) x = (e ≡ «end».Reported) × Found w u (effect_world x)
 CheckedFirst w _ _ = ⊥
@@ -133,7 +133,7 @@ module _ (s : Setting) where
     use_first site os ps (Asked a) =
         if_first (asks_string_at w (word_at 0 ps).value a) _ _ _ _ (byte_first 10 site (word_at a ps).value (first_in_string w (word_at a ps).value (bytes_left w (word_at a ps).value))) (refl, refl)
 
-    uses_first : (site : ℕ) (os : List (Ty × Operand)) (ps : List Poisoned) (us : List Use) → CheckedFirst w (check_uses first_only site os ps us w) (check_uses s site os ps us w)
+    pub uses_first : (site : ℕ) (os : List (Ty × Operand)) (ps : List Poisoned) (us : List Use) → CheckedFirst w (check_uses first_only site os ps us w) (check_uses s site os ps us w)
     uses_first site os ps [] = (refl, refl)
     uses_first site os ps (u ∷ us) =
         then_first w (check_use first_only site os ps u w) (check_use s site os ps u w) (check_uses s site os ps us) (check_uses first_only site os ps us) (use_first site os ps u) (uses_first site os ps us)
@@ -166,6 +166,9 @@ module _ (s : Setting) where
   external_planes_free site root LlvmTrap ps before v w = refl
   external_planes_free site root LlvmAssume ps before v w = refl
   external_planes_free site root LlvmObjectSize ps before v w = refl
+  external_planes_free site root PthreadCreate ps before v w = refl
+  external_planes_free site root PthreadJoin ps before v w = refl
+  external_planes_free site root SchedYield ps before v w = refl
   external_planes_free site root Printf ps before v w = refl
   external_planes_free site root (called.Word f n) ps before v w = refl
 
@@ -188,7 +191,7 @@ module _ (s : Setting) where
   word_free values w (operand.Global x) = refl
   word_free values w (operand.Offset x steps) = refl
 
-  read_free : (values : Name → Poisoned) → read_poisoned first_only values ≡ read_poisoned s values
+  pub read_free : (values : Name → Poisoned) → read_poisoned first_only values ≡ read_poisoned s values
   read_free values = λ i root t o. record { value = word_free (λ x. (values x).value) (width_of t) o i; mask = operand_mask values (width_of t) o; origin = operand_origin values root o }
 
   module _ (m : Module) where
@@ -208,13 +211,13 @@ module _ (s : Setting) where
     moves_free site x ps lift after fr below (Leaves w) = refl
     moves_free site x ps lift after fr below (Ends e w) = refl
 
-    act_same : (i : Inst) (h : Here) (ps : List Poisoned) (fr : Frame Poisoned) (below : List (Frame Poisoned)) (w : World) → shadow_act by_formulas first_only m i h ps fr below w ≡ shadow_act by_formulas s m i h ps fr below w
+    pub act_same : (i : Inst) (h : Here) (ps : List Poisoned) (fr : Frame Poisoned) (below : List (Frame Poisoned)) (w : World) → shadow_act by_formulas first_only m i h ps fr below w ≡ shadow_act by_formulas s m i h ps fr below w
     act_same i h ps fr below w =
-        ap (λ after. after_effect shadow_reading first_only m h.site i.result ps (poisoned_result by_formulas i.op ps) after fr below (act first_only h i.op (map (λ p. p.value) ps) w))
+        ap (λ after. after_effect shadow_reading first_only m h.site i.result ps (poisoned_result by_formulas i.op ps) after (keeping i.op (act first_only h i.op (map (λ p. p.value) ps) w) fr) below (act first_only h i.op (map (λ p. p.value) ps) w))
         (λ j v u. planes_free h.site (h.root + count_undefs (operands i.op) + 1) i.op ps w v u j)
-        ∙ ap (λ e. after_effect shadow_reading first_only m h.site i.result ps (poisoned_result by_formulas i.op ps) (planes s h.site (h.root + count_undefs (operands i.op) + 1) i.op ps w) fr below e)
+        ∙ ap (λ e. after_effect shadow_reading first_only m h.site i.result ps (poisoned_result by_formulas i.op ps) (planes s h.site (h.root + count_undefs (operands i.op) + 1) i.op ps w) (keeping i.op e fr) below e)
         (act_free s 1 h i.op (map (λ p. p.value) ps) w)
-        ∙ moves_free h.site i.result ps (poisoned_result by_formulas i.op ps) (planes s h.site (h.root + count_undefs (operands i.op) + 1) i.op ps w) fr below (act s h i.op (map (λ p. p.value) ps) w)
+        ∙ moves_free h.site i.result ps (poisoned_result by_formulas i.op ps) (planes s h.site (h.root + count_undefs (operands i.op) + 1) i.op ps w) (keeping i.op (act s h i.op (map (λ p. p.value) ps) w) fr) below (act s h i.op (map (λ p. p.value) ps) w)
 
     -- the world of an outcome
     abbrev pub outcome_world : Outcome Poisoned → World

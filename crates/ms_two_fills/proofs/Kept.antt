@@ -11,7 +11,7 @@ use Rattle.ms_ir.specs.declared.syntax.Op.{Op}
 use Rattle.ms_ir.specs.declared.syntax.Op.TheVariants as op
 use Rattle.ms_runs.specs.declared.runs.Report.{Report}
 use Rattle.ms_ir.specs.declared.calls.External.{External}
-use Rattle.ms_ir.specs.declared.calls.External.TheVariants.{Malloc, Calloc, Realloc, Free, Memcpy, Memmove, Memset, Memcmp, Strlen, Putchar, Puts, Getchar, Read, Write, Exit, Abort, LlvmMemcpy, LlvmMemmove, LlvmMemset, LifetimeStart, LifetimeEnd, Printf, LlvmTrap, LlvmAssume, LlvmObjectSize}
+use Rattle.ms_ir.specs.declared.calls.External.TheVariants.{Malloc, Calloc, Realloc, Free, Memcpy, Memmove, Memset, Memcmp, Strlen, Putchar, Puts, Getchar, Read, Write, Exit, Abort, LlvmMemcpy, LlvmMemmove, LlvmMemset, LifetimeStart, LifetimeEnd, Printf, LlvmTrap, LlvmAssume, LlvmObjectSize, PthreadCreate, PthreadJoin, SchedYield}
 use Rattle.ms_ir.specs.declared.calls.External.TheVariants as called
 use Rattle.ms_ir.specs.declared.syntax.Init.{Init, Row_of-Init-Array-0-2, end_of-Init-Array-0-2, more_of-Init-Array-0-2}
 use Rattle.ms_ir.specs.declared.syntax.Init as initial
@@ -22,18 +22,19 @@ use Rattle.ms_ir.specs.Layout.{Types, Extent, extent, stored_size, size_in, alig
 use Rattle.ms_ir.specs.Areas.{Area, Fixed, Heap, Stack}
 use Rattle.ms_runs.specs.World.{Allocation, World, Setting, Here, Effect, Gives, Does, Goes, Enters, Leaves, Ends, traps, stuck, word, then_does, gives}
 use Rattle.ms_ir.specs.Areas.{area_eq, area_base, room}
-use Rattle.ms_runs.specs.Memory.{used, fits, next_base, is_good, is_heap_block, heap_size, end_block, set_shadow, copy_bytes, copy_shadow, make, make_unset, keeps}
+use Rattle.ms_runs.specs.Memory.{used, fits, next_base, is_good, is_heap_block, heap_size, local_area, end_block, end_blocks, set_shadow, copy_bytes, copy_shadow, make, make_unset, keeps}
 use Rattle.ms_bits.specs.WordFunctions.{bits_of, word_answer}
 use Rattle.ms_ir.specs.Code.{external_named}
 use Rattle.ms_runs.specs.Origins.{Chained, keeps_old, pair_index, chain, add_report, check, check_byte, first_in_string, poison, unpoison, copy_planes, fill_planes, mark_cells, store_origin, asks_string_at}
 use Rattle.ms_runs.specs.Memory.{bytes_left}
 use Rattle.ms_runs.specs.Externals.{malloc, reallocated, realloc, where_good, string_at, printed, next_byte, external, output_limit, formatted, prints}
 use Rattle.ms_runs.specs.Act.{act}
-use Rattle.ms_runs.specs.Control.{release}
+use Rattle.ms_runs.specs.Control.{Frame, release, given_back}
 use Rattle.ms_runs.specs.Poisoned.{Poisoned}
 use Rattle.ms_runs.specs.Masks.{word_at}
 use Rattle.ms_runs.specs.Uses.{Use, Word, Bytes, Line, type_at, check_use, check_uses, Asked}
 use Rattle.ms_runs.specs.Shadow.{external_planes, callee_planes, planes}
+use Rattle.ms_runs.specs.Threads.{fiber_limit, thread_at, has_ended, join_answer}
 use Rattle.ms_two_fills.specs.Placed.{IsPlaced, HeapPlaced}
 
 -- what an instruction leaves of a world: the number of blind uses, the reports, and heap blocks in their places
@@ -178,6 +179,16 @@ release_kept mark w = record {
   placed = λ h. subst (λ top. All (IsPlaced (area_base Heap + top)) (filter (keeps mark) w.allocs)) (sym (used_kept mark w.allocs)) (All-filter (keeps mark) (IsPlaced (next_base Heap w)) w.allocs h);
 }
 
+ends_kept : (ps : List ℕ) (w : World) → Keeps w (end_blocks ps w)
+ends_kept [] w = itself w
+ends_kept (p ∷ ps) w = then_kept w (end_block p w) _ (end_kept p w) (ends_kept ps (end_block p w))
+
+-- what a return takes back
+pub given_back_kept : {V : Type 0} (frame : Frame V) (w : World) → Keeps w (given_back frame w)
+given_back_kept frame w =
+    then_kept w (if eqb frame.mark 0 then w else release frame.mark w) _ (either_kept (eqb frame.mark 0) w _ _ (itself w) (release_kept frame.mark w))
+    (ends_kept frame.heap (if eqb frame.mark 0 then w else release frame.mark w))
+
 -- ---- shadow and origins
 
 poison_kept : (a from to origin : ℕ) (w : World) → Keeps w (poison a from to origin w)
@@ -230,6 +241,11 @@ external_planes_kept s site root LlvmMemcpy ps before v w = copy_kept (word_at 0
 external_planes_kept s site root LlvmMemmove ps before v w = copy_kept (word_at 0 ps).value (word_at 1 ps).value (word_at 2 ps).value w
 external_planes_kept s site root LlvmMemset ps before v w = fill_kept s (word_at 0 ps).value (word_at 2 ps).value (word_at 1 ps).mask (word_at 1 ps).origin site w
 external_planes_kept s site root LifetimeStart ps before v w = poison_kept (word_at 1 ps).value 0 (word_at 0 ps).value root w
+external_planes_kept s site root PthreadCreate ps before v w = unpoison_kept (word_at 0 ps).value (if eqb v 0 then 8 else 0) w
+external_planes_kept s site root PthreadJoin ps before v w =
+    let a = (word_at 1 ps).value in let id = (word_at 0 ps).value in let mask = w.answer_masks id in
+    either_kept (eqb v 0 && not (eqb a 0) && is_good w a 8 && has_ended (thread_at id w.threads)) w _ _
+    (then_kept w (set_shadow a 8 (byte_of mask) w) _ (same_kept _ _ refl refl refl) (store_kept s a mask (w.answer_origins id) site _)) (itself w)
 external_planes_kept s site root e ps before v w = itself w
 
 callee_planes_kept : (s : Setting) (site root : ℕ) (o : Option External) (ps : List Poisoned) (before : World) (v : ℕ) (w : World) → Keeps w (callee_planes s site root o ps before v w)
@@ -307,6 +323,11 @@ external_kept s site LifetimeEnd ts vs w = itself w
 external_kept s site LlvmTrap ts vs w = itself w
 external_kept s site LlvmAssume ts vs w = either_after (eqb (word 0 vs) 0) w _ _ (itself w) (itself w)
 external_kept s site LlvmObjectSize ts vs w = itself w
+external_kept s site PthreadCreate ts vs w = either_after (leb fiber_limit (length w.threads + 1)) w _ _ (itself w) (good_kept site (word 0 vs) 8 w _ (same_kept _ _ refl refl refl))
+external_kept s site PthreadJoin ts vs w =
+    either_after (eqb (join_answer w.turn (word 0 vs) w.threads) 0) w _ _
+    (either_after (has_ended (thread_at (word 0 vs) w.threads)) w _ _ (either_after (eqb (word 1 vs) 0) w _ _ (same_kept _ _ refl refl refl) (good_kept site (word 1 vs) 8 w _ (same_kept _ _ refl refl refl))) (itself w)) (itself w)
+external_kept s site SchedYield ts vs w = itself w
 external_kept s site Printf ts vs w = prints_kept site (formatted w ts vs) w
 external_kept s site (called.Word f n) ts vs w = gives_kept site (word_answer f (bits_of n) (word 0 vs) (word 1 vs) (word 2 vs)) w
 
@@ -320,7 +341,7 @@ pub act_kept : (s : Setting) (h : Here) (o : Op) (vs : List ℕ) (w : World) →
 act_kept s h (op.Binary o f t a b) vs w = gives_kept h.site _ w
 act_kept s h (op.Icmp p f t a b) vs w = gives_kept h.site _ w
 act_kept s h (op.Cast o f t a u) vs w = gives_kept h.site _ w
-act_kept s h (op.Alloca t u c) vs w = either_after (fits Stack (size_in s.types t * word 0 vs) w) w _ _ (make_unset_kept s.fill Stack (size_in s.types t * word 0 vs) w) (itself w)
+act_kept s h (op.Alloca t u c) vs w = either_after (fits (local_area w) (size_in s.types t * word 0 vs) w) w _ _ (make_unset_kept s.fill (local_area w) (size_in s.types t * word 0 vs) w) (itself w)
 act_kept s h (op.Load t a) vs w = either_after (is_good w (word 0 vs) (stored_size t)) w _ _ (itself w) (itself w)
 act_kept s h (op.Store t v a) vs w = either_after (is_good w (word 1 vs) (stored_size t)) w _ _ (same_kept _ _ refl refl refl) (itself w)
 act_kept s h (op.Call r x args) vs w = call_kept s h.site (map (λ a. a.0) args) vs w (s.func x) (external_named s.func x)

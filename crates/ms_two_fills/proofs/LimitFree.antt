@@ -10,13 +10,13 @@ use Rattle.ms_ir.specs.declared.syntax.Inst.{Inst}
 use Rattle.ms_ir.specs.declared.syntax.Module.{Module}
 use Rattle.ms_runs.specs.declared.runs.Setup.{Setup}
 use Rattle.ms_ir.specs.declared.calls.External.{External}
-use Rattle.ms_ir.specs.declared.calls.External.TheVariants.{Malloc, Calloc, Realloc, Free, Memcpy, Memmove, Memset, Memcmp, Strlen, Putchar, Puts, Getchar, Read, Write, Exit, Abort, LlvmMemcpy, LlvmMemmove, LlvmMemset, LifetimeStart, LifetimeEnd, Printf, LlvmTrap, LlvmAssume, LlvmObjectSize, Word}
+use Rattle.ms_ir.specs.declared.calls.External.TheVariants.{Malloc, Calloc, Realloc, Free, Memcpy, Memmove, Memset, Memcmp, Strlen, Putchar, Puts, Getchar, Read, Write, Exit, Abort, LlvmMemcpy, LlvmMemmove, LlvmMemset, LifetimeStart, LifetimeEnd, Printf, LlvmTrap, LlvmAssume, LlvmObjectSize, PthreadCreate, PthreadJoin, SchedYield, Word}
 use Rattle.ms_ir.specs.Layout.{width_of}
 use Rattle.ms_runs.specs.World.{World, Setting, Here, Effect, Gives, Does, Goes, Enters, Leaves, Ends, stuck}
 use Rattle.ms_ir.specs.Code.{operands, external_named, root_at, block_index, blocks_at, insts_at}
 use Rattle.ms_runs.specs.Externals.{external}
 use Rattle.ms_runs.specs.Act.{operand_word, plain_reading, act}
-use Rattle.ms_runs.specs.Control.{Frame, On, here, rest_of, read_all, phis, count_phis, block_name, after_effect}
+use Rattle.ms_runs.specs.Control.{Frame, On, here, rest_of, read_all, phis, count_phis, block_name, keeping, after_effect}
 use Rattle.ms_runs.specs.Plain.{act_marked, slots_after, PlainState, Stepped, More, and_then, plain_state, plain_inst, through, plain_first, plain_step, run, setting_of, start_world, start_frame, plain}
 use Rattle.ms_ir.specs.Code.{HeadUnmarked, NoMarks}
 
@@ -50,6 +50,9 @@ module _ (s : Setting) (k : ℕ) where
   external_free site LlvmTrap ts vs w = refl
   external_free site LlvmAssume ts vs w = refl
   external_free site LlvmObjectSize ts vs w = refl
+  external_free site PthreadCreate ts vs w = refl
+  external_free site PthreadJoin ts vs w = refl
+  external_free site SchedYield ts vs w = refl
   external_free site Printf ts vs w = refl
   external_free site (Word f n) ts vs w = refl
 
@@ -116,19 +119,21 @@ module _ (s : Setting) (k : ℕ) where
         let h = here g m fr in
         let vs = read_all (plain_reading.read g fr.values) (operands i.op) h.root in
         and_then (plain_state (if marked then slots_after i.op vs state.slots else state.slots)
-        (after_effect plain_reading g m h.site i.result vs (λ v w. v) (λ v w. w) fr below (if marked then act_marked g h i.op vs state.slots state.world else act g h i.op vs state.world)))
+        (after_effect plain_reading g m h.site i.result vs (λ v w. v) (λ v w. w) (keeping i.op (if marked then act_marked g h i.op vs state.slots state.world else act g h i.op vs state.world) fr) below
+        (if marked then act_marked g h i.op vs state.slots state.world else act g h i.op vs state.world)))
         (if marked then through g m is else More)
 
     inst_free : (i : Inst) (is : List Inst) (state : PlainState) (fr : Frame ℕ) (below : List (Frame ℕ)) → one_inst relimited i is state fr below false ≡ one_inst s i is state fr below false
     inst_free i is state fr below =
         ap (λ vs. and_then (plain_state state.slots
-        (after_effect plain_reading relimited m (here s m fr).site i.result vs (λ v w. v) (λ v w. w) fr below (act relimited (here s m fr) i.op vs state.world))) More)
+        (after_effect plain_reading relimited m (here s m fr).site i.result vs (λ v w. v) (λ v w. w) (keeping i.op (act relimited (here s m fr) i.op vs state.world) fr) below (act relimited (here s m fr) i.op vs state.world))) More)
         (λ j. read_all (read_free fr.values j) (operands i.op) (here s m fr).root)
         ∙ ap (λ e. and_then (plain_state state.slots
-        (after_effect plain_reading relimited m (here s m fr).site i.result (read_all (plain_reading.read s fr.values) (operands i.op) (here s m fr).root) (λ v w. v) (λ v w. w) fr below e)) More)
+        (after_effect plain_reading relimited m (here s m fr).site i.result (read_all (plain_reading.read s fr.values) (operands i.op) (here s m fr).root) (λ v w. v) (λ v w. w) (keeping i.op e fr) below e)) More)
         (act_free (here s m fr) i.op (read_all (plain_reading.read s fr.values) (operands i.op) (here s m fr).root) state.world)
         ∙ ap (λ x. and_then (plain_state state.slots x) More)
-        (moves_free (here s m fr).site i.result (read_all (plain_reading.read s fr.values) (operands i.op) (here s m fr).root) (λ v w. v) (λ v w. w) fr below
+        (moves_free (here s m fr).site i.result (read_all (plain_reading.read s fr.values) (operands i.op) (here s m fr).root) (λ v w. v) (λ v w. w)
+        (keeping i.op (act s (here s m fr) i.op (read_all (plain_reading.read s fr.values) (operands i.op) (here s m fr).root) state.world) fr) below
         (act s (here s m fr) i.op (read_all (plain_reading.read s fr.values) (operands i.op) (here s m fr).root) state.world))
 
     through_free : (is : List Inst) → HeadUnmarked is → (state : PlainState) → through relimited m is state ≡ through s m is state

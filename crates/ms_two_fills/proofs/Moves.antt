@@ -1,5 +1,5 @@
 -- Moves of frames that are alike.
-use Rattle.std.proofs.Common.{◌≡◌, ℕ, suc, ◌+◌, List, [], ◌∷◌, filter, length, get_or, leb, Bool, true, false, Option, Some, None, unwrap_or, refl, ap, ap₂, subst, if◌then◌else◌}
+use Rattle.std.proofs.Common.{◌≡◌, ℕ, suc, ◌+◌, List, [], ◌∷◌, ◌++◌, map, filter, length, get_or, eqb, leb, Bool, true, false, Option, Some, None, unwrap_or, refl, ap, ap₂, subst, if◌then◌else◌}
 use Rattle.ms_bits.specs.declared.traps.Trap.TheVariants as trap
 use Rattle.ms_ir.specs.declared.syntax.Name.{Name}
 use Rattle.ms_ir.specs.declared.syntax.Name.TheVariants.{Number}
@@ -11,11 +11,10 @@ use Rattle.ms_ir.specs.declared.syntax.Inst.{Inst}
 use Rattle.ms_ir.specs.declared.syntax.Module.{Module}
 use Rattle.ms_runs.specs.declared.runs.End.TheVariants as «end»
 use Rattle.ms_ir.specs.Names.{name_eq}
-use Rattle.ms_ir.specs.Areas.{Stack}
 use Rattle.ms_runs.specs.World.{World, Setting, Effect, Gives, Does, Goes, Enters, Leaves, Ends}
-use Rattle.ms_runs.specs.Memory.{keeps, next_base}
+use Rattle.ms_runs.specs.Memory.{keeps, end_block, end_blocks, is_heap_block}
 use Rattle.ms_ir.specs.Code.{one_undef, roots_in, root_at, block_index, blocks_at, insts_at}
-use Rattle.ms_runs.specs.Control.{Frame, On, Over, read_edge, phis, block_name, with_value, one_on, put, jumped, bind, params_at, entered, result_at, release, left, after_effect, frame_limit}
+use Rattle.ms_runs.specs.Control.{Frame, On, Over, read_edge, phis, block_name, with_value, one_on, put, jumped, bind, params_at, entry_mark, entered, result_at, release, given_back, left, keeping, blocks_made, after_effect, frame_limit}
 use Rattle.ms_runs.specs.Poisoned.{Poisoned, clean}
 use Rattle.ms_runs.specs.Shadow.{read_poisoned, shadow_reading}
 use Rattle.ms_runs.specs.LowEqual.{LowFrame, LowFrames, LowWord, LowWorld}
@@ -69,7 +68,7 @@ bind_alike (t ∷ ts) (p ∷ ps) (q ∷ qs) h = set_alike _ _ t.1 p q (bind_alik
 bind_alike (t ∷ ts) [] (q ∷ qs) h = absurd h
 bind_alike (t ∷ ts) (p ∷ ps) [] h = absurd h
 
-first_alike : (ps qs : List Poisoned) → AlikeWords ps qs → LowWord (get_or ps 0 clean) (get_or qs 0 clean)
+pub first_alike : (ps qs : List Poisoned) → AlikeWords ps qs → LowWord (get_or ps 0 clean) (get_or qs 0 clean)
 first_alike [] [] h = clean_alike
 first_alike (p ∷ ps) (q ∷ qs) h = h.0
 first_alike [] (q ∷ qs) h = absurd h
@@ -82,22 +81,25 @@ abbrev pub revalued : Frame Poisoned → (Name → Poisoned) → Frame Poisoned
 revalued f u = record f { values = u }
 
 frame_is : (f g : Frame Poisoned) → LowFrame f g → revalued f g.values ≡ g
-frame_is f g h = λ i. record { func = h.func i; block = h.block i; place = h.place i; values = g.values; mark = h.mark i }
+frame_is f g h = λ i. record { func = h.func i; block = h.block i; place = h.place i; values = g.values; mark = h.mark i; heap = h.heap i }
 
 pub frame_alike : (f : Frame Poisoned) (u : Name → Poisoned) → AlikeValues f.values u → LowFrame f (revalued f u)
-frame_alike f u h = record { func = refl; block = refl; place = refl; mark = refl; values = h }
+frame_alike f u h = record { func = refl; block = refl; place = refl; mark = refl; heap = refl; values = h }
 
 pub by_values : (f : Frame Poisoned) (P : Frame Poisoned → Type 0) → ((u : Name → Poisoned) → AlikeValues f.values u → P (revalued f u)) → (g : Frame Poisoned) → LowFrame f g → P g
 by_values f P k g h = subst P (frame_is f g h) (k g.values h.values)
 
 put_alike : (x : Option Name) (p q : Poisoned) → LowWord p q → (f g : Frame Poisoned) → LowFrame f g → LowFrame (put f x p) (put g x q)
-put_alike None p q h f g k = record { func = k.func; block = k.block; place = ap (λ n. n + 1) k.place; mark = k.mark; values = k.values }
-put_alike (Some x) p q h f g k = record { func = k.func; block = k.block; place = ap (λ n. n + 1) k.place; mark = k.mark; values = set_alike f.values g.values x p q k.values h }
+put_alike None p q h f g k = record { func = k.func; block = k.block; place = ap (λ n. n + 1) k.place; mark = k.mark; heap = k.heap; values = k.values }
+put_alike (Some x) p q h f g k = record { func = k.func; block = k.block; place = ap (λ n. n + 1) k.place; mark = k.mark; heap = k.heap; values = set_alike f.values g.values x p q k.values h }
+
+pub keeping_alike : (o : Op) (e d : Effect) → blocks_made o e ≡ blocks_made o d → (f g : Frame Poisoned) → LowFrame f g → LowFrame (keeping o e f) (keeping o d g)
+keeping_alike o e d same f g k = record { func = k.func; block = k.block; place = k.place; mark = k.mark; heap = ap₂ (λ x y. x ++ y) same k.heap; values = k.values }
 
 one_on_alike : (f g : Frame Poisoned) → LowFrame f g → LowFrame (one_on f) (one_on g)
-one_on_alike f g k = record { func = k.func; block = k.block; place = ap (λ n. n + 1) k.place; mark = k.mark; values = k.values }
+one_on_alike f g k = record { func = k.func; block = k.block; place = ap (λ n. n + 1) k.place; mark = k.mark; heap = k.heap; values = k.values }
 
-depths_same : (fs gs : List (Frame Poisoned)) → LowFrames fs gs → length fs ≡ length gs
+pub depths_same : (fs gs : List (Frame Poisoned)) → LowFrames fs gs → length fs ≡ length gs
 depths_same [] [] h = refl
 depths_same (f ∷ fs) (g ∷ gs) h = ap suc (depths_same fs gs h.1)
 depths_same [] (g ∷ gs) h = absurd h
@@ -114,8 +116,45 @@ release_low k n e w v h = record {
   output = h.output;
   reports = h.reports;
   blind = h.blind;
+  turn = h.turn;
+  threads = h.threads;
+  answer_masks = h.answer_masks;
+  answer_origins = h.answer_origins;
   bytes = h.bytes;
+  answers = h.answers;
 }
+
+end_low : (p : ℕ) (w v : World) → LowWorld w v → LowWorld (end_block p w) (end_block p v)
+end_low p w v h = record {
+  allocs = ap (λ l. map (λ a. if is_heap_block p a then record a { live = false } else a) l) h.allocs;
+  shadow = h.shadow;
+  origins = h.origins;
+  pairs = h.pairs;
+  made = h.made;
+  input = h.input;
+  output = h.output;
+  reports = h.reports;
+  blind = h.blind;
+  turn = h.turn;
+  threads = h.threads;
+  answer_masks = h.answer_masks;
+  answer_origins = h.answer_origins;
+  bytes = h.bytes;
+  answers = h.answers;
+}
+
+ends_low : (ps : List ℕ) (w v : World) → LowWorld w v → LowWorld (end_blocks ps w) (end_blocks ps v)
+ends_low [] w v h = h
+ends_low (p ∷ ps) w v h = ends_low ps (end_block p w) (end_block p v) (end_low p w v h)
+
+-- what a return takes back
+pub given_back_low : (f g : Frame Poisoned) → LowFrame f g → (w v : World) → LowWorld w v → LowWorld (given_back f w) (given_back g v)
+given_back_low f g k w v h =
+    by_values f (λ e. LowWorld (given_back f w) (given_back e v)) (λ u n. ends_low f.heap _ _ (by_mark (eqb f.mark 0))) g k
+  where
+    by_mark : (t : Bool) → LowWorld (if t then w else release f.mark w) (if t then v else release f.mark v)
+    by_mark true = h
+    by_mark false = release_low f.mark f.mark refl w v h
 
 module _ (s : Setting) (fill : List ℕ) (m : Module) where
   jumped_alike : (to : Name) (f g : Frame Poisoned) → LowFrame f g → LowFrame (jumped shadow_reading s m to f) (jumped shadow_reading (refill s fill) m to g)
@@ -127,18 +166,19 @@ module _ (s : Setting) (fill : List ℕ) (m : Module) where
         block = refl;
         place = refl;
         mark = refl;
+        heap = refl;
         values =
             phis_alike (read_poisoned s f.values) (read_poisoned (refill s fill) u) (λ n t o. alike_word _ _ _ (read_low s fill f.values u k n t o))
             s.func (block_name m f.func f.block) (insts_at m f.func (block_index (blocks_at m f.func) to)) (root_at s.func m f.func (block_index (blocks_at m f.func) to) 0) f.values u k;
       }
 
-  entered_alike : (f g : ℕ) → f ≡ g → (ps qs : List Poisoned) → AlikeWords ps qs → (w v : World) → LowWorld w v → LowFrame (entered shadow_reading m f ps w) (entered shadow_reading m g qs v)
+  pub entered_alike : (f g : ℕ) → f ≡ g → (ps qs : List Poisoned) → AlikeWords ps qs → (w v : World) → LowWorld w v → LowFrame (entered shadow_reading m f ps w) (entered shadow_reading m g qs v)
   entered_alike f g e ps qs words w v h =
       subst (λ k. LowFrame (entered shadow_reading m f ps w) (entered shadow_reading m k qs v)) e
-      (record { func = refl; block = refl; place = refl; mark = next_same w v h; values = bind_alike (params_at m f) ps qs words })
+      (record { func = refl; block = refl; place = refl; mark = mark_same w v h; heap = refl; values = bind_alike (params_at m f) ps qs words })
     where
-      next_same : (w v : World) → LowWorld w v → next_base Stack w ≡ next_base Stack v
-      next_same w v h = ap (λ l. next_base Stack (record v { allocs = l })) h.allocs
+      mark_same : (w v : World) → LowWorld w v → entry_mark w ≡ entry_mark v
+      mark_same w v h = ap₂ (λ l n. entry_mark (record v { allocs = l; turn = n })) h.allocs h.turn
 
   left_alike : (ps qs : List Poisoned) → AlikeWords ps qs → (f g : Frame Poisoned) → LowFrame f g → (fs gs : List (Frame Poisoned)) → LowFrames fs gs → (w v : World) → LowWorld w v
       → MovesAlike (left shadow_reading m ps f fs w) (left shadow_reading m qs g gs v)
@@ -149,7 +189,7 @@ module _ (s : Setting) (fill : List ℕ) (m : Module) where
           (λ u n. put_alike (result_at m c) _ _ (first_alike ps qs words) c (revalued c u) (frame_alike c u n)) d k.0,
       k.1,
     ),
-    release_low f.mark g.mark h.mark w v l,
+    given_back_low f g h w v l,
   )
   left_alike ps qs words f g h [] (d ∷ gs) k w v l = absurd k
   left_alike ps qs words f g h (c ∷ fs) [] k w v l = absurd k

@@ -1,5 +1,5 @@
 -- Instructions but calls, on words and worlds that are alike.
-use Rattle.std.proofs.Common.{◌≡◌, ℕ, zero, suc, ◌+◌, ◌*◌, ◌/◌, ◌%◌, ◌^◌, ◌<◌, ◌≤◌, List, [], ◌∷◌, map, Bool, true, false, not, ◌||◌, eqb, Option, Some, None, Result, Ok, Err, refl, ap, ap₂, subst, arith, bit_or, if◌then◌else◌}
+use Rattle.std.proofs.Common.{◌≡◌, ℕ, zero, suc, ◌+◌, ◌*◌, ◌/◌, ◌%◌, ◌^◌, ◌<◌, ◌≤◌, List, [], ◌∷◌, map, Bool, true, false, not, ◌||◌, eqb, Option, Some, None, Result, Ok, Err, refl, sym, ap, ap₂, ◌∙◌, subst, arith, bit_or, if◌then◌else◌}
 use Rattle.std.specs.Int.{bit_at}
 use Rattle.std.proofs.lemmas.Nat.{mod_below, pow_pos}
 use Rattle.ms_bits.specs.declared.traps.Trap.{Trap}
@@ -12,11 +12,10 @@ use Rattle.ms_ir.specs.declared.syntax.Op.{Op}
 use Rattle.ms_ir.specs.declared.syntax.Op.TheVariants as op
 use Rattle.ms_runs.specs.declared.runs.End.TheVariants as «end»
 use Rattle.ms_ir.specs.Layout.{width_of, stored_size, size_in}
-use Rattle.ms_ir.specs.Areas.{Stack}
 use Rattle.ms_runs.specs.World.{World, Setting, Here, Gives, Does, Leaves, Ends, traps, gives}
-use Rattle.ms_runs.specs.Memory.{is_good, fits, next_base, make_unset, store_number}
+use Rattle.ms_runs.specs.Memory.{is_good, fits, next_base, local_area, make_unset, store_number}
 use Rattle.ms_ir.specs.Code.{operands, one_undef}
-use Rattle.ms_runs.specs.Control.{read_all}
+use Rattle.ms_runs.specs.Control.{read_all, local_block, blocks_made}
 use Rattle.ms_runs.specs.Act.{act, extended_all}
 use Rattle.ms_runs.specs.Origins.{origin_within}
 use Rattle.ms_runs.specs.Poisoned.{Poisoned}
@@ -27,13 +26,14 @@ use Rattle.ms_runs.specs.LowEqual.{LowWord, LowWorld, SameBits}
 use Rattle.ms_bits_laws.proofs.ByteAgreement.{loaded_agree}
 use Rattle.ms_bits_laws.proofs.OperationAgreement.{cut}
 use Rattle.ms_bits.specs.Formulas as formulas
+use Rattle.ms_runs.proofs.HeapBlocks.{no_blocks}
 use Rattle.ms_two_fills.proofs.Passed.{AllPassed}
 use Rattle.ms_two_fills.proofs.Effects.{EffectsAlike}
 use Rattle.ms_two_fills.proofs.Words.{LowAt, from_width, alike_word, union_clean, AnswersAlike, binary_masks, binary_alike}
 use Rattle.ms_two_fills.proofs.Addresses.{AddressStands, read_all_at, addresses_agree, address_fits}
 use Rattle.ms_two_fills.proofs.Answers.{CastsTo, compare_masks, compare_alike, cast_masks, cast_alike, select_masks, select_origins, select_alike}
 use Rattle.ms_two_fills.proofs.Reading.{AlikeWords, read_all_alike, number_same, masks_same, origins_same, refill}
-use Rattle.ms_two_fills.proofs.Worlds.{other, BytesAlike, low_other, made_low, stored_low, store_origin_low, FitWorld}
+use Rattle.ms_two_fills.proofs.Worlds.{Unseen, other, BytesAlike, low_other, made_low, stored_low, store_origin_low, FitWorld}
 
 -- words alike without a poisoned bit are one
 pub same_word : (p q : Poisoned) → LowWord p q → p.mask ≡ 0 → p ≡ q
@@ -46,7 +46,7 @@ other_word p q h = λ i. record { value = q.value; mask = h.mask i; origin = h.o
 pub exact_word : (x y m k a c : ℕ) → m ≡ k → a ≡ c → x ≡ y → LowWord (record { value = x; mask = m; origin = a }) (record { value = y; mask = k; origin = c })
 exact_word x y m k a c e f g = record { mask = e; origin = f; value = λ i z. ap (λ v. bit_at v i) g }
 
-origin_same : (n a mask : ℕ) (w : World) (b : ℕ → ℕ) → origin_within n a mask w ≡ origin_within n a mask (other w b)
+origin_same : (n a mask : ℕ) (w : World) (b : Unseen) → origin_within n a mask w ≡ origin_within n a mask (other w b)
 origin_same zero a mask w b = refl
 origin_same (suc n) a mask w b = ap (λ o. if eqb (mask % 256) 0 || not (is_good w a 1) then o else w.origins (a / 4)) (origin_same n (a + 1) (mask / 256) w b)
 
@@ -64,7 +64,7 @@ abbrev pub CastStands : Op → Type 0
 CastStands (op.Cast o f t a u) = CastsTo o (width_of t) (width_of u)
 CastStands o = Unit {0}
 
-module _ (s : Setting) (fill : List ℕ) (h : Here) (root : ℕ) (w : World) (b : ℕ → ℕ) (alike : BytesAlike w b) (bytes : FitWorld w) (others : (x : ℕ) → b x < 256) where
+module _ (s : Setting) (fill : List ℕ) (h : Here) (root : ℕ) (w : World) (b : Unseen) (alike : BytesAlike w b) (bytes : FitWorld w) (others : (x : ℕ) → b.bytes x < 256) where
   -- an operation comes to the same on two lists of words
   abbrev pub OpAlike : Op → List Poisoned → List Poisoned → Type 0
   OpAlike o ps qs =
@@ -88,7 +88,7 @@ module _ (s : Setting) (fill : List ℕ) (h : Here) (root : ℕ) (w : World) (b 
       by_test : (g : Bool)
           → EffectsAlike (poisoned_result by_formulas (op.Load t x) (p ∷ [])) (poisoned_result by_formulas (op.Load t x) (p ∷ [])) (λ v u. u) (λ v u. u)
           (if g then Gives (number_at w.bytes p.value (stored_size t) % 2 ^ width_of t) w else traps trap.BadAddress h.site w)
-          (if g then Gives (number_at b p.value (stored_size t) % 2 ^ width_of t) (other w b) else traps trap.BadAddress h.site (other w b))
+          (if g then Gives (number_at b.bytes p.value (stored_size t) % 2 ^ width_of t) (other w b) else traps trap.BadAddress h.site (other w b))
       by_test true = (
         record {
           mask = refl;
@@ -96,7 +96,7 @@ module _ (s : Setting) (fill : List ℕ) (h : Here) (root : ℕ) (w : World) (b 
           value =
               from_width (width_of t) _ _ _ (mod_below _ _ (pow_pos (width_of t))) (mod_below _ _ (pow_pos (width_of t)))
               (cut (8 * stored_size t) (width_of t) _ _ _ fits_bytes
-              (loaded_agree (stored_size t) p.value w.shadow w.bytes b (λ k l. bytes.shadow (p.value + k)) (λ k l. bytes.bytes (p.value + k)) (λ k l. others (p.value + k)) (λ k l. alike (p.value + k))));
+              (loaded_agree (stored_size t) p.value w.shadow w.bytes b.bytes (λ k l. bytes.shadow (p.value + k)) (λ k l. bytes.bytes (p.value + k)) (λ k l. others (p.value + k)) (λ k l. alike.0 (p.value + k))));
         },
         low,
       )
@@ -114,15 +114,30 @@ module _ (s : Setting) (fill : List ℕ) (h : Here) (root : ℕ) (w : World) (b 
       by_test false = (refl, low)
 
   made : (t u : Ty) (c : Operand) (p : Poisoned) → OpAlike (op.Alloca t u c) (p ∷ []) (p ∷ [])
-  made t u c p = by_test (fits Stack (size_in s.types t * p.value) w) refl
+  made t u c p = by_test (fits (local_area w) (size_in s.types t * p.value) w) refl
     where
-      by_test : (g : Bool) → fits Stack (size_in s.types t * p.value) w ≡ g
+      by_test : (g : Bool) → fits (local_area w) (size_in s.types t * p.value) w ≡ g
           → EffectsAlike (poisoned_result by_formulas (op.Alloca t u c) (p ∷ [])) (poisoned_result by_formulas (op.Alloca t u c) (p ∷ []))
           (planes s h.site root (op.Alloca t u c) (p ∷ []) w) (planes (refill s fill) h.site root (op.Alloca t u c) (p ∷ []) (other w b))
-          (if g then Gives (next_base Stack w) (make_unset s.fill Stack (size_in s.types t * p.value) w) else traps trap.Stack h.site w)
-          (if g then Gives (next_base Stack w) (make_unset fill Stack (size_in s.types t * p.value) (other w b)) else traps trap.Stack h.site (other w b))
-      by_test true e = (exact_word _ _ _ _ _ _ refl refl refl, made_low s.fill fill Stack (size_in s.types t * p.value) root w b alike e)
+          (if g then Gives (next_base (local_area w) w) (make_unset s.fill (local_area w) (size_in s.types t * p.value) w) else traps trap.Stack h.site w)
+          (if g then Gives (next_base (local_area w) w) (make_unset fill (local_area w) (size_in s.types t * p.value) (other w b)) else traps trap.Stack h.site (other w b))
+      by_test true e = (exact_word _ _ _ _ _ _ refl refl refl, made_low s.fill fill (local_area w) (size_in s.types t * p.value) root w b alike e)
       by_test false e = (refl, low)
+
+  -- ---- the heap blocks that an instruction makes for its frame
+
+  -- they are the same on two lists of words
+  abbrev pub BlocksAlike : Op → List Poisoned → List Poisoned → Type 0
+  BlocksAlike o ps qs = blocks_made o (act s h o (map (λ p. p.value) ps) w) ≡ blocks_made o (act (refill s fill) h o (map (λ p. p.value) qs) (other w b))
+
+  made_blocks : (t u : Ty) (c : Operand) (p : Poisoned) → BlocksAlike (op.Alloca t u c) (p ∷ []) (p ∷ [])
+  made_blocks t u c p = by_test (fits (local_area w) (size_in s.types t * p.value) w)
+    where
+      by_test : (g : Bool)
+          → blocks_made (op.Alloca t u c) (if g then Gives (next_base (local_area w) w) (make_unset s.fill (local_area w) (size_in s.types t * p.value) w) else traps trap.Stack h.site w)
+          ≡ blocks_made (op.Alloca t u c) (if g then Gives (next_base (local_area w) w) (make_unset fill (local_area w) (size_in s.types t * p.value) (other w b)) else traps trap.Stack h.site (other w b))
+      by_test true = refl
+      by_test false = refl
 
   -- ---- all of them, where operands are read
 
@@ -137,6 +152,29 @@ module _ (s : Setting) (fill : List ℕ) (h : Here) (root : ℕ) (w : World) (b 
     -- an instruction of one operand that has no poisoned bit
     by_one : (t : Ty) (a : Operand) (P : Poisoned → Type 0) → (read n t a).mask ≡ 0 → P (read n t a) → P (others_read n t a)
     by_one t a P z p = subst P (same_word (read n t a) (others_read n t a) (alike_at n t a) z) p
+
+    no_others : (o : Op) → ((v : ℕ) → local_block o v ≡ []) → BlocksAlike o (read_all read (operands o) n) (read_all others_read (operands o) n)
+    no_others o none =
+        no_blocks o none (act s h o (map (λ p. p.value) (read_all read (operands o) n)) w)
+        ∙ sym (no_blocks o none (act (refill s fill) h o (map (λ p. p.value) (read_all others_read (operands o) n)) (other w b)))
+
+    pub blocks_alike : (o : Op) → AllPassed w (read_all read (operands o) n) (uses s.func h.main o) → BlocksAlike o (read_all read (operands o) n) (read_all others_read (operands o) n)
+    blocks_alike (op.Alloca t u c) passed = by_one u c (λ q. BlocksAlike (op.Alloca t u c) (read n u c ∷ []) (q ∷ [])) passed.0 (made_blocks t u c (read n u c))
+    blocks_alike (op.Binary o f t a c) passed = no_others (op.Binary o f t a c) (λ j. refl)
+    blocks_alike (op.Icmp o f t a c) passed = no_others (op.Icmp o f t a c) (λ j. refl)
+    blocks_alike (op.Cast o f t a u) passed = no_others (op.Cast o f t a u) (λ j. refl)
+    blocks_alike (op.Select c t a e) passed = no_others (op.Select c t a e) (λ j. refl)
+    blocks_alike (op.Freeze t a) passed = no_others (op.Freeze t a) (λ j. refl)
+    blocks_alike (op.Phi t edges) passed = no_others (op.Phi t edges) (λ j. refl)
+    blocks_alike (op.Load t x) passed = no_others (op.Load t x) (λ j. refl)
+    blocks_alike (op.Store t v x) passed = no_others (op.Store t v x) (λ j. refl)
+    blocks_alike (op.Gep t base is) passed = no_others (op.Gep t base is) (λ j. refl)
+    blocks_alike (op.Call r x args) passed = no_others (op.Call r x args) (λ j. refl)
+    blocks_alike (op.Br to) passed = no_others (op.Br to) (λ j. refl)
+    blocks_alike (op.CondBr c to otherwise) passed = no_others (op.CondBr c to otherwise) (λ j. refl)
+    blocks_alike (op.Switch t v otherwise cases) passed = no_others (op.Switch t v otherwise cases) (λ j. refl)
+    blocks_alike (op.Ret v) passed = no_others (op.Ret v) (λ j. refl)
+    blocks_alike op.Unreachable passed = no_others op.Unreachable (λ j. refl)
 
     located : (t : Ty) (base : Operand) (is : List (Ty × Operand)) → AddressStands s.types (op.Gep t base is) (read_all read ((ty.Ptr, base) ∷ is) n) → ReadAlike (op.Gep t base is)
     located t base is stands = (

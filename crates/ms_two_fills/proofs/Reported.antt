@@ -14,43 +14,44 @@ use Rattle.ms_runs.specs.declared.runs.End.{End}
 use Rattle.ms_runs.specs.declared.runs.End.TheVariants as «end»
 use Rattle.ms_runs.specs.declared.runs.Report.{Report}
 use Rattle.ms_ir.specs.declared.calls.External.{External}
-use Rattle.ms_ir.specs.declared.calls.External.TheVariants.{Malloc, Calloc, Realloc, Free, Memcpy, Memmove, Memset, Memcmp, Strlen, Putchar, Puts, Getchar, Read, Write, Exit, Abort, LlvmMemcpy, LlvmMemmove, LlvmMemset, LifetimeStart, LifetimeEnd, Printf, LlvmTrap, LlvmAssume, LlvmObjectSize}
+use Rattle.ms_ir.specs.declared.calls.External.TheVariants.{Malloc, Calloc, Realloc, Free, Memcpy, Memmove, Memset, Memcmp, Strlen, Putchar, Puts, Getchar, Read, Write, Exit, Abort, LlvmMemcpy, LlvmMemmove, LlvmMemset, LifetimeStart, LifetimeEnd, Printf, LlvmTrap, LlvmAssume, LlvmObjectSize, PthreadCreate, PthreadJoin, SchedYield}
 use Rattle.ms_ir.specs.declared.calls.External.TheVariants as called
 use Rattle.ms_bits.specs.WordFunctions.{bits_of, word_answer}
 use Rattle.ms_ir.specs.Layout.{stored_size, size_in, width_of}
-use Rattle.ms_ir.specs.Areas.{Heap, Stack}
+use Rattle.ms_ir.specs.Areas.{Heap}
 use Rattle.ms_runs.specs.World.{World, Setting, Here, Effect, Gives, Does, Goes, Enters, Leaves, Ends, traps, stuck, word, then_does, gives}
-use Rattle.ms_runs.specs.Memory.{fits, is_good, heap_size}
+use Rattle.ms_runs.specs.Memory.{fits, local_area, is_good, heap_size}
 use Rattle.ms_ir.specs.Code.{operands, count_undefs, external_named}
 use Rattle.ms_runs.specs.Origins.{add_report, check, check_byte, first_in_string, count_blind, asks_string_at}
 use Rattle.ms_runs.specs.Memory.{bytes_left}
-use Rattle.ms_runs.specs.Externals.{malloc, reallocated, realloc, where_good, string_at, printed, taken, next_byte, external, output_limit, formatted, prints}
+use Rattle.ms_runs.specs.Externals.{malloc, reallocated, realloc, where_good, string_at, printed, taken, next_byte, external, output_limit, formatted, prints, joined}
 use Rattle.ms_runs.specs.Act.{act}
-use Rattle.ms_runs.specs.Control.{Frame, Outcome, On, Over, here, rest_of, read_all, entered, left, after_effect, frame_limit}
+use Rattle.ms_runs.specs.Control.{Frame, Outcome, On, Over, here, rest_of, read_all, entered, left, keeping, after_effect, frame_limit}
 use Rattle.ms_runs.specs.Plain.{Stepped, More, Stop, go_on, run}
 use Rattle.ms_runs.specs.Poisoned.{Poisoned}
 use Rattle.ms_runs.specs.Masks.{Rules, union, word_at}
 use Rattle.ms_runs.specs.Uses.{Use, Word, Bytes, Line, type_at, uses, check_use, check_uses, blinded, Asked}
 use Rattle.ms_runs.specs.Shadow.{read_poisoned, shadow_reading, planes, ShadowState, shadow_moved, poisoned_result, after_checks, shadow_first, shadow_frames, shadow_step}
+use Rattle.ms_runs.specs.Threads.{fiber_limit, thread_at, has_ended, join_answer}
 
 is_reported : End → Bool
 is_reported «end».Reported = true
 is_reported e = false
 
 -- an end as reported has a report
-abbrev Told : End → World → Type 0
+abbrev pub Told : End → World → Type 0
 Told e w = e ≡ «end».Reported → w.reports ≡ [] → ⊥
 
 -- an effect that ends the run as reported has a report
-abbrev ToldAfter : Effect → Type 0
+abbrev pub ToldAfter : Effect → Type 0
 ToldAfter (Ends e w) = Told e w
 ToldAfter _ = Unit {0}
 
-exited : (n : ℕ) (w : World) → Told («end».Exit n) w
+pub exited : (n : ℕ) (w : World) → Told («end».Exit n) w
 unfolding is_reported
 exited n w e z = grind (arith, ap is_reported e)
 
-trapped : (t : Trap) (site : ℕ) (w : World) → Told («end».Trap t site) w
+pub trapped : (t : Trap) (site : ℕ) (w : World) → Told («end».Trap t site) w
 unfolding is_reported
 trapped t site w e z = grind (arith, ap is_reported e)
 
@@ -117,6 +118,11 @@ external_told s site LifetimeEnd ts vs w = tt
 external_told s site LlvmTrap ts vs w = trapped trap.Abort site w
 external_told s site LlvmAssume ts vs w = either_told (eqb (word 0 vs) 0) _ _ (trapped trap.Unreachable site w) tt
 external_told s site LlvmObjectSize ts vs w = tt
+external_told s site PthreadCreate ts vs w = either_told (leb fiber_limit (length w.threads + 1)) _ _ tt (good_told site (word 0 vs) 8 w _ tt)
+external_told s site PthreadJoin ts vs w =
+    either_told (eqb (join_answer w.turn (word 0 vs) w.threads) 0) (if has_ended (thread_at (word 0 vs) w.threads) then joined site (word 0 vs) (word 1 vs) w else traps trap.Deadlock site w) _
+    (either_told (has_ended (thread_at (word 0 vs) w.threads)) (joined site (word 0 vs) (word 1 vs) w) _ (either_told (eqb (word 1 vs) 0) _ _ tt (good_told site (word 1 vs) 8 w _ tt)) (trapped trap.Deadlock site w)) tt
+external_told s site SchedYield ts vs w = tt
 external_told s site Printf ts vs w = prints_told site (formatted w ts vs) w
 external_told s site (called.Word f n) ts vs w = gives_told site (word_answer f (bits_of n) (word 0 vs) (word 1 vs) (word 2 vs)) w
 
@@ -131,7 +137,7 @@ act_told s h (op.Binary o f t a b) vs w = gives_told h.site _ w
 act_told s h (op.Icmp p f t a b) vs w = gives_told h.site _ w
 act_told s h (op.Cast o f t a u) vs w = gives_told h.site _ w
 act_told s h (op.Phi t edges) vs w = trapped trap.Unreachable 0 w
-act_told s h (op.Alloca t u c) vs w = either_told (fits Stack (size_in s.types t * word 0 vs) w) _ _ tt (trapped trap.Stack h.site w)
+act_told s h (op.Alloca t u c) vs w = either_told (fits (local_area w) (size_in s.types t * word 0 vs) w) _ _ tt (trapped trap.Stack h.site w)
 act_told s h (op.Load t a) vs w = either_told (is_good w (word 0 vs) (stored_size t)) _ _ tt (trapped trap.BadAddress h.site w)
 act_told s h (op.Store t v a) vs w = either_told (is_good w (word 1 vs) (stored_size t)) _ _ tt (trapped trap.BadAddress h.site w)
 act_told s h (op.Call r x args) vs w = call_told s h.site (map (λ a. a.0) args) vs w (s.func x) (external_named s.func x)
@@ -171,14 +177,14 @@ then_told (Enters v u) go h f = trapped trap.Unreachable 0 u
 then_told (Leaves u) go h f = trapped trap.Unreachable 0 u
 then_told (Ends v u) go h f = h
 
-uses_told : (s : Setting) (site : ℕ) (os : List (Ty × Operand)) (ps : List Poisoned) (us : List Use) (w : World) → ToldAfter (check_uses s site os ps us w)
+pub uses_told : (s : Setting) (site : ℕ) (os : List (Ty × Operand)) (ps : List Poisoned) (us : List Use) (w : World) → ToldAfter (check_uses s site os ps us w)
 uses_told s site os ps [] w = tt
 uses_told s site os ps (u ∷ us) w = then_told (check_use s site os ps u w) (check_uses s site os ps us) (use_told s site os ps u w) (λ v. uses_told s site os ps us v)
 
 -- ---- after_effect
 
 -- the same of an outcome
-abbrev ToldOutcome : Outcome Poisoned → Type 0
+abbrev pub ToldOutcome : Outcome Poisoned → Type 0
 ToldOutcome (On fs w) = Unit {0}
 ToldOutcome (Over e w) = Told e w
 
@@ -200,10 +206,11 @@ moves_told s m site x ps lift after fr below (Leaves u) h = left_told m ps fr be
 moves_told s m site x ps lift after fr below (Ends e u) h = h
 
 module _ (d : Rules) (s : Setting) (m : Module) where
-  after_told : (i : Inst) (h : Here) (ps : List Poisoned) (fr : Frame Poisoned) (below : List (Frame Poisoned)) (e : Effect) → ToldAfter e → ToldOutcome (after_checks d s m i h ps fr below e)
+  pub after_told : (i : Inst) (h : Here) (ps : List Poisoned) (fr : Frame Poisoned) (below : List (Frame Poisoned)) (e : Effect) → ToldAfter e → ToldOutcome (after_checks d s m i h ps fr below e)
   after_told i h ps fr below (Does u) k =
       let w = count_blind (union (map (λ p. p.mask) (blinded s.func i.op ps))) u in
-      moves_told s m h.site i.result ps (poisoned_result d i.op ps) (planes s h.site (h.root + count_undefs (operands i.op) + 1) i.op ps w) fr below _ (act_told s h i.op (map (λ p. p.value) ps) w)
+      let e = act s h i.op (map (λ p. p.value) ps) w in
+      moves_told s m h.site i.result ps (poisoned_result d i.op ps) (planes s h.site (h.root + count_undefs (operands i.op) + 1) i.op ps w) (keeping i.op e fr) below e (act_told s h i.op (map (λ p. p.value) ps) w)
   after_told i h ps fr below (Ends e u) k = k
   after_told i h ps fr below (Gives v u) k = trapped trap.Unreachable 0 u
   after_told i h ps fr below (Goes v u) k = trapped trap.Unreachable 0 u
@@ -216,7 +223,7 @@ module _ (d : Rules) (s : Setting) (m : Module) where
       after_told i (here s m fr) (read_all (read_poisoned s fr.values) (operands i.op) (here s m fr).root) fr below _
       (uses_told s (here s m fr).site (operands i.op) (read_all (read_poisoned s fr.values) (operands i.op) (here s m fr).root) (uses s.func (here s m fr).main i.op) w)
 
-  frames_told : (fs : List (Frame Poisoned)) (w : World) → ToldOutcome (shadow_frames d s m fs w)
+  pub frames_told : (fs : List (Frame Poisoned)) (w : World) → ToldOutcome (shadow_frames d s m fs w)
   frames_told [] w = trapped trap.Unreachable 0 w
   frames_told (fr ∷ below) w = first_told (rest_of m fr) fr below w
 

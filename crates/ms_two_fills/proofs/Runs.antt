@@ -9,8 +9,9 @@ use Rattle.ms_runs.specs.declared.runs.End.{End}
 use Rattle.ms_runs.specs.declared.runs.End.TheVariants as «end»
 use Rattle.ms_runs.specs.World.{World, Setting, Here, Effect, Gives, Does, Goes, Enters, Leaves, Ends, result}
 use Rattle.ms_ir.specs.Code.{operands, count_undefs}
-use Rattle.ms_runs.specs.Control.{Frame, Outcome, On, Over, here, rest_of, read_all, entered, left, after_effect, frame_limit}
+use Rattle.ms_runs.specs.Control.{Frame, Outcome, On, Over, here, rest_of, read_all, entered, left, keeping, after_effect, frame_limit}
 use Rattle.ms_runs.specs.Origins.{count_blind}
+use Rattle.ms_runs.specs.Act.{act}
 use Rattle.ms_runs.specs.Plain.{Stepped, More, Stop, go_on, run}
 use Rattle.ms_runs.specs.Poisoned.{Poisoned}
 use Rattle.ms_runs.specs.Masks.{by_formulas, union}
@@ -22,7 +23,7 @@ use Rattle.ms_runs.specs.declared.runs.Report.{Report}
 use Rattle.ms_two_fills.specs.Placed.{HeapPlaced}
 use Rattle.ms_two_fills.proofs.Reading.{refill}
 use Rattle.ms_two_fills.proofs.Worlds.{FitWorld}
-use Rattle.ms_two_fills.proofs.Kept.{then_kept, release_kept, act_kept, planes_kept, uses_kept, KeepsAfter, ChecksAfter, Keeps, FirstIs, Checks}
+use Rattle.ms_two_fills.proofs.Kept.{then_kept, given_back_kept, act_kept, planes_kept, uses_kept, KeepsAfter, ChecksAfter, Keeps, FirstIs, Checks}
 use Rattle.ms_two_fills.proofs.Steps.{QuietAt, DueQuiet, TopQuiet, TopStands, step_alike}
 
 -- ---- what a step leaves
@@ -61,7 +62,7 @@ kept_blind w (Over e z) g = g.blind
 
 left_kept : (m : Module) (ps : List Poisoned) (w u : World) → Keeps w u → (fr : Frame Poisoned) (below : List (Frame Poisoned)) → KeptOutcome w (left shadow_reading m ps fr below u)
 left_kept m ps w u h fr [] = h
-left_kept m ps w u h fr (c ∷ below) = then_kept w u _ h (release_kept fr.mark u)
+left_kept m ps w u h fr (c ∷ below) = then_kept w u _ h (given_back_kept fr u)
 
 moves_kept : (s : Setting) (m : Module) (site : ℕ) (x : Option Name) (ps : List Poisoned) (lift : ℕ → World → Poisoned) (after : ℕ → World → World) → ((v : ℕ) (u : World) → Keeps u (after v u))
     → (fr : Frame Poisoned) (below : List (Frame Poisoned)) (w : World) (e : Effect) → KeepsAfter w e → KeptOutcome w (after_effect shadow_reading s m site x ps lift after fr below e)
@@ -79,8 +80,9 @@ moves_kept s m site x ps lift after keep fr below w (Ends e u) h = h
 module _ (s : Setting) (m : Module) where
   pub act_moves_kept : (i : Inst) (h : Here) (ps : List Poisoned) (fr : Frame Poisoned) (below : List (Frame Poisoned)) (w : World) → KeptOutcome w (shadow_act by_formulas s m i h ps fr below w)
   act_moves_kept i h ps fr below w =
+      let e = act s h i.op (map (λ p. p.value) ps) w in
       moves_kept s m h.site i.result ps (poisoned_result by_formulas i.op ps) (planes s h.site (h.root + count_undefs (operands i.op) + 1) i.op ps w)
-      (λ v u. planes_kept s h.site (h.root + count_undefs (operands i.op) + 1) i.op ps w v u) fr below w _ (act_kept s h i.op (map (λ p. p.value) ps) w)
+      (λ v u. planes_kept s h.site (h.root + count_undefs (operands i.op) + 1) i.op ps w v u) (keeping i.op e fr) below w e (act_kept s h i.op (map (λ p. p.value) ps) w)
 
   counted : (mask : ℕ) (w u : World) → Checks w u → Grows w (count_blind mask u)
   counted mask w u h = by_test (eqb mask 0)

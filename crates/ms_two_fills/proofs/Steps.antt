@@ -10,13 +10,14 @@ use Rattle.ms_ir.specs.declared.syntax.Op.TheVariants as op
 use Rattle.ms_ir.specs.declared.syntax.Inst.{Inst}
 use Rattle.ms_ir.specs.declared.syntax.Module.{Module}
 use Rattle.ms_ir.specs.declared.calls.External.{External}
-use Rattle.ms_ir.specs.declared.calls.External.TheVariants.{Malloc, Calloc, Realloc, Free, Memcpy, Memmove, Memset, Memcmp, Strlen, Putchar, Puts, Getchar, Read, Write, Exit, Abort, LlvmMemcpy, LlvmMemmove, LlvmMemset, LifetimeStart, LifetimeEnd, Printf, LlvmTrap, LlvmAssume, LlvmObjectSize}
+use Rattle.ms_ir.specs.declared.calls.External.TheVariants.{Malloc, Calloc, Realloc, Free, Memcpy, Memmove, Memset, Memcmp, Strlen, Putchar, Puts, Getchar, Read, Write, Exit, Abort, LlvmMemcpy, LlvmMemmove, LlvmMemset, LifetimeStart, LifetimeEnd, Printf, LlvmTrap, LlvmAssume, LlvmObjectSize, PthreadCreate, PthreadJoin, SchedYield}
 use Rattle.ms_ir.specs.declared.calls.External.TheVariants as called
 use Rattle.ms_runs.specs.World.{World, Setting, Here, Effect, Gives, Does, Goes, Enters, Leaves, Ends}
 use Rattle.ms_ir.specs.Equal.{type_eq}
 use Rattle.ms_ir.specs.Code.{operands, count_undefs, external_named}
-use Rattle.ms_runs.specs.Control.{Frame, Outcome, On, Over, here, rest_of, read_all}
+use Rattle.ms_runs.specs.Control.{Frame, Outcome, On, Over, here, rest_of, read_all, keeping}
 use Rattle.ms_runs.specs.Origins.{count_blind}
+use Rattle.ms_runs.specs.Act.{act}
 use Rattle.ms_runs.specs.Poisoned.{Poisoned}
 use Rattle.ms_runs.specs.Masks.{by_formulas, union, word_at}
 use Rattle.ms_runs.specs.Uses.{uses, binary_uses, callee_uses, external_uses, check_uses, has_flag, has_true_flag, flagged_words, blind_binary, blinded, Use, Line, Asked, value_uses, string_uses}
@@ -27,14 +28,14 @@ use Rattle.ms_two_fills.proofs.Passed.{Passed, AllPassed}
 use Rattle.ms_two_fills.proofs.Effects.{CheckedAlike, Ready, MovesAlike}
 use Rattle.std.specs.Prelude.{take, drop}
 use Rattle.ms_two_fills.proofs.Reading.{AlikeWords, masks_same, read_low, read_all_alike, refill}
-use Rattle.ms_two_fills.proofs.Worlds.{other, BytesAlike, low_other, other_is, FitWorld}
+use Rattle.ms_two_fills.proofs.Worlds.{Unseen, unseen_of, other, BytesAlike, low_other, other_is, FitWorld}
 use Rattle.ms_two_fills.proofs.Checks.{uses_alike}
 use Rattle.ms_two_fills.proofs.Addresses.{AddressStands}
-use Rattle.ms_two_fills.proofs.Ops.{CastStands}
+use Rattle.ms_two_fills.proofs.Ops.{CastStands, blocks_alike}
 use Rattle.ms_bits.specs.WordFunctions.{is_flagged}
 use Rattle.ms_two_fills.proofs.WordCalls.{WordsStand}
 use Rattle.ms_two_fills.proofs.Calls.{CallStands, inst_alike}
-use Rattle.ms_two_fills.proofs.Moves.{AlikeValues, revalued, by_values, frame_alike, moves_alike}
+use Rattle.ms_two_fills.proofs.Moves.{AlikeValues, revalued, by_values, frame_alike, keeping_alike, moves_alike}
 
 -- ---- checks of memory stand behind those of words
 
@@ -80,6 +81,9 @@ external_ready LifetimeEnd args w ps = λ a c. tt
 external_ready LlvmTrap args w ps = tt
 external_ready LlvmAssume args w ps = λ a. tt
 external_ready LlvmObjectSize args w ps = λ a. tt
+external_ready PthreadCreate args w ps = λ a c d. tt
+external_ready PthreadJoin args w ps = λ a c. tt
+external_ready SchedYield args w ps = tt
 external_ready (called.Word f n) args w ps = tt
 external_ready Printf args w ps = λ a. (a, λ p. values_ready w ps 1 (drop 1 args) (string_uses 1 (drop 1 args)) (λ zs. strings_ready w ps a p 1 (drop 1 args) zs))
 
@@ -98,7 +102,7 @@ returned_ready : (func : Name → Option ℕ) (main : Bool) (v : Option (Ty × O
 returned_ready func true v w ps = λ z. tt
 returned_ready func false v w ps = tt
 
-ready : (func : Name → Option ℕ) (main : Bool) (o : Op) (w : World) (ps : List Poisoned) → Ready w ps (uses func main o)
+pub ready : (func : Name → Option ℕ) (main : Bool) (o : Op) (w : World) (ps : List Poisoned) → Ready w ps (uses func main o)
 ready func main (op.Binary o f t a b) w ps = binary_ready o w ps
 ready func main (op.Alloca t u c) w ps = λ z. tt
 ready func main (op.Load t a) w ps = λ z. tt
@@ -209,14 +213,19 @@ module _ (s : Setting) (fill : List ℕ) (one : s.limit ≡ 1) (m : Module) wher
     blind_masks : union (map (λ p. p.mask) (blinded s.func i.op ps)) ≡ 0 → union (map (λ p. p.mask) (blinded s.func i.op qs)) ≡ 0
     blind_masks z = ap union (sym (masks_same (blinded s.func i.op ps) (blinded s.func i.op qs) (blinded_alike s.func i.op ps qs words))) ∙ z
 
-    act_alike : (w : World) (b : ℕ → ℕ) → BytesAlike w b → FitWorld w → ((x : ℕ) → b x < 256) → AllPassed w ps (uses s.func (here s m fr).main i.op) → union (map (λ p. p.mask) (blinded s.func i.op ps)) ≡ 0
+    act_alike : (w : World) (b : Unseen) → BytesAlike w b → FitWorld w → ((x : ℕ) → b.bytes x < 256) → AllPassed w ps (uses s.func (here s m fr).main i.op) → union (map (λ p. p.mask) (blinded s.func i.op ps)) ≡ 0
         → MovesAlike (shadow_act by_formulas s m i (here s m fr) ps fr below w) (shadow_act by_formulas (refill s fill) m i (here s m fr) qs (revalued fr values) others_below (other w b))
     act_alike w b alike fit others passed quiet =
-        moves_alike s fill m (here s m fr).site i.result ps qs words _ _ _ _ fr (revalued fr values) (frame_alike fr values alike_values) below others_below same_below _ _
+        let e = act s (here s m fr) i.op (map (λ p. p.value) ps) w in
+        let d = act (refill s fill) (here s m fr) i.op (map (λ p. p.value) qs) (other w b) in
+        let blocks = blocks_alike s fill (here s m fr) ((here s m fr).root + count_undefs (operands i.op) + 1) w b alike fit others (read_poisoned s fr.values) (read_poisoned (refill s fill) values)
+        (read_low s fill fr.values values alike_values) (here s m fr).root i.op passed in
+        moves_alike s fill m (here s m fr).site i.result ps qs words _ _ _ _ (keeping i.op e fr) (keeping i.op d (revalued fr values))
+        (keeping_alike i.op e d blocks fr (revalued fr values) (frame_alike fr values alike_values)) below others_below same_below e d
         (inst_alike s fill (here s m fr) ((here s m fr).root + count_undefs (operands i.op) + 1) w b alike fit others (read_poisoned s fr.values) (read_poisoned (refill s fill) values)
         (read_low s fill fr.values values alike_values) (here s m fr).root i.op stands.cast stands.small stands.words stands.parts quiet passed)
 
-    checked_alike : (w : World) (b : ℕ → ℕ) → BytesAlike w b → FitWorld w → ((x : ℕ) → b x < 256) → (e d : Effect)
+    checked_alike : (w : World) (b : Unseen) → BytesAlike w b → FitWorld w → ((x : ℕ) → b.bytes x < 256) → (e d : Effect)
         → (((u : World) → e ≡ Does u → union (map (λ p. p.mask) (blinded s.func i.op ps)) ≡ 0))
         → CheckedAlike (AllPassed w ps (uses s.func (here s m fr).main i.op)) w (other w b) e d
         → MovesAlike (after_checks by_formulas s m i (here s m fr) ps fr below e) (after_checks by_formulas (refill s fill) m i (here s m fr) qs (revalued fr values) others_below d)
@@ -245,7 +254,7 @@ module _ (s : Setting) (fill : List ℕ) (one : s.limit ≡ 1) (m : Module) wher
     checked_alike w b alike fit others (Enters e u) x quiet c = absurd c
     checked_alike w b alike fit others (Leaves u) x quiet c = absurd c
 
-    inst_moves : (w : World) (b : ℕ → ℕ) → BytesAlike w b → FitWorld w → ((x : ℕ) → b x < 256) → QuietAt s m i fr w
+    inst_moves : (w : World) (b : Unseen) → BytesAlike w b → FitWorld w → ((x : ℕ) → b.bytes x < 256) → QuietAt s m i fr w
         → MovesAlike (shadow_inst by_formulas s m i fr below w) (shadow_inst by_formulas (refill s fill) m i (revalued fr values) others_below (other w b))
     inst_moves w b alike fit others quiet =
         checked_alike w b alike fit others _ _ quiet
@@ -254,12 +263,12 @@ module _ (s : Setting) (fill : List ℕ) (one : s.limit ≡ 1) (m : Module) wher
   -- ---- the instruction that is due
 
   first_moves : (fr : Frame Poisoned) (below others_below : List (Frame Poisoned)) → LowFrames below others_below → (is : List Inst) → DueStands s m is fr
-      → (values : Name → Poisoned) → AlikeValues fr.values values → (w : World) (b : ℕ → ℕ) → BytesAlike w b → FitWorld w → ((x : ℕ) → b x < 256) → DueQuiet s m is fr w
+      → (values : Name → Poisoned) → AlikeValues fr.values values → (w : World) (b : Unseen) → BytesAlike w b → FitWorld w → ((x : ℕ) → b.bytes x < 256) → DueQuiet s m is fr w
       → MovesAlike (shadow_first by_formulas s m is fr below w) (shadow_first by_formulas (refill s fill) m is (revalued fr values) others_below (other w b))
   first_moves fr below others_below k [] stands values h w b alike fit others quiet = (refl, low_other w b alike)
   first_moves fr below others_below k (i ∷ is) stands values h w b alike fit others quiet = inst_moves fr below others_below k i stands values h w b alike fit others quiet
 
-  frames_move : (fs gs : List (Frame Poisoned)) → LowFrames fs gs → TopStands s m fs → (w : World) (b : ℕ → ℕ) → BytesAlike w b → FitWorld w → ((x : ℕ) → b x < 256) → TopQuiet s m fs w
+  frames_move : (fs gs : List (Frame Poisoned)) → LowFrames fs gs → TopStands s m fs → (w : World) (b : Unseen) → BytesAlike w b → FitWorld w → ((x : ℕ) → b.bytes x < 256) → TopQuiet s m fs w
       → MovesAlike (shadow_frames by_formulas s m fs w) (shadow_frames by_formulas (refill s fill) m gs (other w b))
   frames_move [] [] k stands w b alike fit others quiet = (refl, low_other w b alike)
   frames_move (f ∷ fs) (g ∷ gs) k stands w b alike fit others quiet =
@@ -268,7 +277,7 @@ module _ (s : Setting) (fill : List ℕ) (one : s.limit ≡ 1) (m : Module) wher
   frames_move [] (g ∷ gs) k stands w b alike fit others quiet = absurd k
   frames_move (f ∷ fs) [] k stands w b alike fit others quiet = absurd k
 
-  moved_steps : (x y : Outcome Poisoned) → MovesAlike x y → StepsAlike (shadow_moved x) (shadow_moved y)
+  pub moved_steps : (x y : Outcome Poisoned) → MovesAlike x y → StepsAlike (shadow_moved x) (shadow_moved y)
   moved_steps (On fs w) (On gs v) h = record { frames = h.0; world = h.1 }
   moved_steps (Over e w) (Over x v) h = h
   moved_steps (On fs w) (Over x v) h = absurd h
@@ -280,4 +289,4 @@ module _ (s : Setting) (fill : List ℕ) (one : s.limit ≡ 1) (m : Module) wher
   step_alike c d h stands fit others quiet =
       moved_steps (shadow_frames by_formulas s m c.frames c.world) (shadow_frames by_formulas (refill s fill) m d.frames d.world)
       (subst (λ v. MovesAlike (shadow_frames by_formulas s m c.frames c.world) (shadow_frames by_formulas (refill s fill) m d.frames v)) (other_is c.world d.world h.world)
-      (frames_move c.frames d.frames h.frames stands c.world d.world.bytes h.world.bytes fit others quiet))
+      (frames_move c.frames d.frames h.frames stands c.world (unseen_of d.world) (h.world.bytes, h.world.answers) fit others quiet))

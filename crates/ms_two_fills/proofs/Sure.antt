@@ -3,6 +3,7 @@ use Rattle.std.proofs.Common.{◌≡◌, ℕ, suc, ◌+◌, ◌%◌, ◌^◌, �
 use Rattle.std.proofs.Math.Nat.{mod-eq_of_lt}
 use Rattle.std.specs.List.{list_all}
 use Rattle.std.proofs.lemmas.Bool.{and_parts, eq-eqb, eqb-true, ltb-true}
+use Rattle.ms_ir.specs.ThreadCalls.{is_threaded}
 use Rattle.ms_ir.specs.declared.syntax.Name.{Name}
 use Rattle.ms_ir.specs.declared.syntax.Ty.{Ty, Int, Ptr, Array', Struct', Named}
 use Rattle.ms_ir.specs.declared.syntax.Operand.{Operand}
@@ -19,8 +20,8 @@ use Rattle.ms_bits.specs.declared.word_functions.WordWidth.{WordWidth}
 use Rattle.ms_bits.specs.WordFunctions.{bits_of, is_flagged}
 use Rattle.ms_bits_laws.proofs.WordAgreement.{width_some}
 use Rattle.ms_ir.specs.declared.calls.External.{External}
-use Rattle.ms_ir.specs.declared.calls.External.TheVariants.{Word}
-use Rattle.ms_ir.specs.Signatures.{word_params}
+use Rattle.ms_ir.specs.declared.calls.External.TheVariants.{Word, PthreadCreate, PthreadJoin, SchedYield}
+use Rattle.ms_ir.specs.Signatures.{word_params, is_thread_call}
 use Rattle.ms_ir.specs.Names.{name_eq, lookup, externals}
 use Rattle.ms_bits.specs.Signed.{wrap}
 use Rattle.ms_bits_laws.proofs.SignedMasks.{signed_low}
@@ -50,6 +51,7 @@ use Rattle.ms_runs_good.specs.GoodRuns.{SoundShadow, LeadsTo}
 use Rattle.ms_runs.specs.Shadow.{shadow_start}
 use Rattle.ms_valid.specs.ExternalsFit.{is_number, flag_fits}
 use Rattle.ms_runs_good.proofs.CallTypes.{both_none}
+use Rattle.ms_runs_good.proofs.ThreadsApart.{NoThread, CallsNoThread, no_thread_called}
 use Rattle.ms_runs_good.proofs.WordCallTypes.{word_call}
 use Rattle.ms_runs_good.proofs.Frames.{top_good, due_first}
 use Rattle.ms_runs_good.proofs.InstructionEffects.{formed_at, cast_fits}
@@ -63,7 +65,7 @@ use Rattle.ms_two_fills.proofs.Ops.{CastStands}
 use Rattle.ms_two_fills.proofs.WordCalls.{NoneWider, FlagStands, WordStands, WordsStand}
 use Rattle.ms_two_fills.proofs.Calls.{CallStands}
 use Rattle.ms_two_fills.proofs.Kept.{globals_kept}
-use Rattle.ms_two_fills.proofs.Steps.{DueStands, TopStands}
+use Rattle.ms_two_fills.proofs.Steps.{InstStands, DueStands, TopStands}
 use Rattle.ms_two_fills.proofs.Runs.{PlacedStep, step_placed, Kept, Sure}
 
 -- ---- casts
@@ -307,7 +309,12 @@ module _ (m : Module) (formed : Formed m) (valid : Valid m) where
       (fits_at m valid fr.func fr.block fr.place f i at there).types_agree
 
   module _ (s : Setting) (fr : Frame Poisoned) (f : Func) (i : Inst) (at : func_at m fr.func ≡ Some f) (due : slice_get (insts_of f fr.block) fr.place ≡ Some i) (root : ℕ)
-      (ret : Option Ty) (callee : Name) (args : List (Ty × Operand)) (calls : i.op ≡ op.Call ret callee args) where
+      (ret : Option Ty) (callee : Name) (args : List (Ty × Operand)) (calls : i.op ≡ op.Call ret callee args) (alone : CallsNoThread (func_index m.funcs) i.op) where
+    -- it is no thread call
+    external_alone : (e : External) → lookup externals callee ≡ Some e → func_index m.funcs callee ≡ None → is_thread_call e ≡ false
+    external_alone e found none =
+        subst NoThread (ap (λ o. if is_some o then None else lookup externals callee) none ∙ found) (subst (CallsNoThread (func_index m.funcs)) calls alone)
+
     outside_stands : (e : Option External) → lookup externals callee ≡ e → func_index m.funcs callee ≡ None → WordStands e ret args (read_all (read_poisoned s fr.values) args root)
     outside_stands None found none = tt
     outside_stands (Some (Word g n)) found none =
@@ -316,6 +323,9 @@ module _ (m : Module) (formed : Formed m) (valid : Valid m) where
           none_wider (bits_of n) args (map width_of (word_params g (bits_of n))) call.widths (params_narrow g (bits_of n) (omega (arith, width_some n))),
           λ flagged. flag_stands s fr.values g n (bits_of n) args root (call.widths ∙ flagged_params g (bits_of n) flagged) call.flags,
         )
+    outside_stands (Some PthreadCreate) found none = absurd (true≢false (external_alone PthreadCreate found none))
+    outside_stands (Some PthreadJoin) found none = absurd (true≢false (external_alone PthreadJoin found none))
+    outside_stands (Some SchedYield) found none = absurd (true≢false (external_alone SchedYield found none))
     outside_stands (Some e) found none = tt
 
     by_index : (o : Option ℕ) → func_index m.funcs callee ≡ o → WordStands (if is_some o then None else lookup externals callee) ret args (read_all (read_poisoned s fr.values) args root)
@@ -325,31 +335,40 @@ module _ (m : Module) (formed : Formed m) (valid : Valid m) where
     word_stands : func_index m.funcs ≡ s.func → WordStands (external_named s.func callee) ret args (read_all (read_poisoned s fr.values) args root)
     word_stands same = subst (λ func. WordStands (external_named func callee) ret args (read_all (read_poisoned s fr.values) args root)) same (by_index (func_index m.funcs callee) refl)
 
-  words_stand : (s : Setting) → func_index m.funcs ≡ s.func → (fr : Frame Poisoned) (f : Func) (i : Inst) → func_at m fr.func ≡ Some f → slice_get (insts_of f fr.block) fr.place ≡ Some i → (root : ℕ)
+  words_stand : (s : Setting) → func_index m.funcs ≡ s.func → (fr : Frame Poisoned) (f : Func) (i : Inst) → func_at m fr.func ≡ Some f → slice_get (insts_of f fr.block) fr.place ≡ Some i → CallsNoThread (func_index m.funcs) i.op → (root : ℕ)
       → WordsStand s.func i.op (read_all (read_poisoned s fr.values) (operands i.op) root)
-  words_stand s same fr f i at due root = by_op i.op refl
+  words_stand s same fr f i at due alone root = by_op i.op refl
     where
       by_op : (o : Op) → i.op ≡ o → WordsStand s.func o (read_all (read_poisoned s fr.values) (operands o) root)
-      by_op (op.Call ret callee args) e = word_stands s fr f i at due root ret callee args e same
+      by_op (op.Call ret callee args) e = word_stands s fr f i at due root ret callee args e alone same
       by_op o e = tt
 
-  due_stands : (s : Setting) → m.types ≡ s.types → func_index m.funcs ≡ s.func → (fr : Frame Poisoned) (below : List (Frame Poisoned)) → GoodFrames PoisonedBelow m (fr ∷ below) → (is : List Inst) → rest_of m fr ≡ is → DueStands s m is fr
-  due_stands s same funcs fr below frames [] e = tt
-  due_stands s same funcs fr below frames (i ∷ is) e =
+  -- an instruction that is due and is no thread call stands
+  pub due_stands : (s : Setting) → m.types ≡ s.types → func_index m.funcs ≡ s.func → (fr : Frame Poisoned) (below : List (Frame Poisoned)) → GoodFrames PoisonedBelow m (fr ∷ below)
+      → (i : Inst) (is : List Inst) → rest_of m fr ≡ i ∷ is → CallsNoThread (func_index m.funcs) i.op → InstStands s m fr i
+  due_stands s same funcs fr below frames i is e alone =
       let good = top_good PoisonedBelow m fr below frames in
       let due = due_first PoisonedBelow m fr good i is e in
       let shape = shaped i.op (formed_at m formed fr.func good.func good.stands fr.block fr.place i due).0 in
       record {
         cast = cast_stands i.op (cast_fits IsBelow 0 m formed valid AnyOrigin fr.func fr.block fr.place good.func i good.stands due [] (λ x u. x) (λ x u z k c. c) i.op refl);
         small = call_stands s fr.values i.op (here s m fr).root shape;
-        words = words_stand s funcs fr good.func i good.stands due (here s m fr).root;
+        words = words_stand s funcs fr good.func i good.stands due alone (here s m fr).root;
         parts = subst (λ types. AddressStands types i.op (read_all (read_poisoned s fr.values) (operands i.op) (here s m fr).root)) same
             (address_stands s fr.values m good.func (λ o. operand_fits m (value_type good.func) o.0 o.1) i.op (here s m fr).root shape (no_fault fr good.func i good.stands due));
       }
 
+module _ (m : Module) (formed : Formed m) (valid : Valid m) (calm : is_threaded m ≡ false) where
+  first_stands : (s : Setting) → m.types ≡ s.types → func_index m.funcs ≡ s.func → (fr : Frame Poisoned) (below : List (Frame Poisoned)) → GoodFrames PoisonedBelow m (fr ∷ below) → (is : List Inst) → rest_of m fr ≡ is → DueStands s m is fr
+  first_stands s same funcs fr below frames [] e = tt
+  first_stands s same funcs fr below frames (i ∷ is) e =
+      let good = top_good PoisonedBelow m fr below frames in
+      due_stands m formed valid s same funcs fr below frames i is e
+      (no_thread_called m calm fr.func fr.block fr.place good.func i good.stands (due_first PoisonedBelow m fr good i is e))
+
   top_stands : (s : Setting) → m.types ≡ s.types → func_index m.funcs ≡ s.func → (fs : List (Frame Poisoned)) → GoodFrames PoisonedBelow m fs → TopStands s m fs
   top_stands s same funcs [] frames = tt
-  top_stands s same funcs (fr ∷ below) frames = due_stands s same funcs fr below frames (rest_of m fr) refl
+  top_stands s same funcs (fr ∷ below) frames = first_stands s same funcs fr below frames (rest_of m fr) refl
 
   pub good_sure : (s : Setting) → m.types ≡ s.types → func_index m.funcs ≡ s.func → Sure (SoundPlaced m) s m
   good_sure s same funcs = record {

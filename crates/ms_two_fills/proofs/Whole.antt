@@ -1,5 +1,6 @@
 -- Runs of formed and valid modules under two fills.
-use Rattle.std.proofs.Common.{◌≡◌, ◌<◌, ◌≤◌, ◌^◌, ℕ, zero, suc, List, [], length, All, refl, sym, ap, ◌∙◌, subst, arith, ◌⊎◌, inl, inr, ◌∷◌}
+use Rattle.std.proofs.Common.{◌≡◌, ◌<◌, ◌≤◌, ◌^◌, ℕ, zero, suc, List, [], length, All, refl, sym, ap, ◌∙◌, subst, arith, ◌⊎◌, inl, inr, ◌∷◌, false}
+use Rattle.ms_ir.specs.ThreadCalls.{is_threaded}
 use Rattle.ms_ir.specs.declared.syntax.Module.{Module}
 use Rattle.ms_runs.specs.declared.runs.Setup.{Setup}
 use Rattle.ms_runs.specs.declared.runs.End.TheVariants as «end»
@@ -41,17 +42,17 @@ computed m setup = same_shadow formulas_exact m setup
 
 pub start_alike : (m : Module) (setup : Setup) (fill : List ℕ) → LowEqual (shadow_start m setup) (shadow_start m (refilled setup fill))
 start_alike m setup fill = record {
-  frames = (record { func = refl; block = refl; place = refl; mark = refl; values = λ x. record { mask = refl; origin = refl; value = λ i z. refl } }, tt);
-  world = record { allocs = refl; shadow = refl; origins = refl; pairs = refl; made = refl; input = refl; output = refl; reports = refl; blind = refl; bytes = λ a i l z. refl };
+  frames = (record { func = refl; block = refl; place = refl; mark = refl; heap = refl; values = λ x. record { mask = refl; origin = refl; value = λ i z. refl } }, tt);
+  world = record { allocs = refl; shadow = refl; origins = refl; pairs = refl; made = refl; input = refl; output = refl; reports = refl; blind = refl; turn = refl; threads = refl; answer_masks = refl; answer_origins = refl; bytes = λ a i l z. refl; answers = λ k i z. refl };
 }
 
-module _ (m : Module) (formed : Formed m) (valid : Valid m) where
+module _ (m : Module) (formed : Formed m) (valid : Valid m) (calm : is_threaded m ≡ false) where
   -- a step from low equal states that counts no blind use
   pub steps_alike : (setup : Setup) (fill : List ℕ) → setup.reports ≡ 1 → (c d : ShadowState) → SoundPlaced m c → SoundPlaced m d → LowEqual c d → CountsNone c (shadow_step by_completions (setting_of m setup) m c)
       → StepsAlike (shadow_step by_completions (setting_of m setup) m c) (shadow_step by_completions (setting_of m (refilled setup fill)) m d)
   steps_alike setup fill one c d g k h quiet =
       let s = setting_of m setup in
-      let sure = good_sure m formed valid s refl refl in
+      let sure = good_sure m formed valid calm s refl refl in
       let left = same_step formulas_exact s m c in
       let right = same_step formulas_exact (setting_of m (refilled setup fill)) m d in
       subst (λ x. StepsAlike x (shadow_step by_completions (setting_of m (refilled setup fill)) m d)) (sym left)
@@ -65,7 +66,7 @@ module _ (m : Module) (formed : Formed m) (valid : Valid m) where
       (by_step (shadow_step by_formulas (setting_of m setup) m c) refl)
     where
       by_step : (x : Stepped ShadowState) → shadow_step by_formulas (setting_of m setup) m c ≡ x → LeadsTo (SoundPlaced m) (λ w. Unit {0}) x
-      by_step (More d) e = (good_kept m formed valid setup bytes).more c d g e
+      by_step (More d) e = (good_kept m formed valid calm setup bytes).more c d g e
       by_step (Stop x w) e = tt
 
   -- where one report ends the run and no blind use occurs, every other fill gives the same run
@@ -73,8 +74,8 @@ module _ (m : Module) (formed : Formed m) (valid : Valid m) where
   same_shadows setup fill one bytes others quiet =
       let bytes_too : GivesBytes (refilled setup fill) = record { input = bytes.input; fill = others } in
       computed m (refilled setup fill)
-      ∙ sym (runs_alike (SoundPlaced m) (setting_of m setup) fill one m (good_sure m formed valid (setting_of m setup) refl refl) (good_kept m formed valid setup bytes) (good_kept m formed valid (refilled setup fill) bytes_too)
-      setup.steps (shadow_start m setup) (shadow_start m (refilled setup fill)) (good_start m formed valid setup bytes) (good_start m formed valid (refilled setup fill) bytes_too)
+      ∙ sym (runs_alike (SoundPlaced m) (setting_of m setup) fill one m (good_sure m formed valid calm (setting_of m setup) refl refl) (good_kept m formed valid calm setup bytes) (good_kept m formed valid calm (refilled setup fill) bytes_too)
+      setup.steps (shadow_start m setup) (shadow_start m (refilled setup fill)) (good_start m formed valid calm setup bytes) (good_start m formed valid calm (refilled setup fill) bytes_too)
       (start_alike m setup fill) (ap (λ r. r.blind) (sym (computed m setup)) ∙ quiet))
       ∙ sym (computed m setup)
 
@@ -127,17 +128,17 @@ pub quiet_first : (r q : RunResult) → FirstOf r q → q.blind ≡ 0 → r.blin
 quiet_first r q (inl h) z = ap (λ k. k.blind) h.0 ∙ z
 quiet_first r q (inr h) z = omega (arith, h.blind, z)
 
-module _ (m : Module) (formed : Formed m) (valid : Valid m) (bare : NoMarks m) (setup : Setup) (bytes : GivesBytes setup) (quiet : (shadow m setup).blind ≡ 0) where
+module _ (m : Module) (formed : Formed m) (valid : Valid m) (calm : is_threaded m ≡ false) (bare : NoMarks m) (setup : Setup) (bytes : GivesBytes setup) (quiet : (shadow m setup).blind ≡ 0) where
   quiet_one : NoBlindUse m setup
   quiet_one = quiet_first (shadow m (to_first_report setup)) (shadow m setup) (first_of m setup) quiet
 
   -- a run without report and without blind use shows what the program shows under every fill
   pub clean_shown : (shadow m setup).reports ≡ [] → (fill : List ℕ) → IsFill fill → SameShown (plain m (refilled setup fill)) (shadow m setup)
   clean_shown none fill is =
-      let one = same_fills m formed valid bare setup bytes quiet_one in
+      let one = same_fills m formed valid calm bare setup bytes quiet_one in
       let first : (shadow m (to_first_report setup)).reports ≡ [] = by_first (first_of m setup) in
       let shown = one.shown first fill is in
-      let here = shown_as m formed valid setup bare none in
+      let here = shown_as m formed valid calm setup bare none in
       record { output = shown.output ∙ here.output; ends = shown.ends ∙ here.ends }
     where
       by_first : FirstOf (shadow m (to_first_report setup)) (shadow m setup) → (shadow m (to_first_report setup)).reports ≡ []
@@ -154,7 +155,7 @@ module _ (m : Module) (formed : Formed m) (valid : Valid m) (bare : NoMarks m) (
 
   -- the first report of a run without blind use is the report under every fill
   pub first_reported : (report : Report) (rest : List Report) → (shadow m setup).reports ≡ report ∷ rest → (fill : List ℕ) → IsFill fill → (shadow m (refilled (to_first_report setup) fill)).reports ≡ report ∷ []
-  first_reported report rest some fill is = ap (λ r. r.reports) ((same_fills m formed valid bare setup bytes quiet_one).reported fill is) ∙ first_alone report rest some
+  first_reported report rest some fill is = ap (λ r. r.reports) ((same_fills m formed valid calm bare setup bytes quiet_one).reported fill is) ∙ first_alone report rest some
 
 -- ---- what a checked run says
 
@@ -164,12 +165,12 @@ nothing_told [] zero h = (refl, refl)
 nothing_told [] (suc n) h = absurd cc
 nothing_told (r ∷ rest) blind h = absurd cc
 
-module _ (m : Module) (formed : Formed m) (valid : Valid m) (bare : NoMarks m) where
+module _ (m : Module) (formed : Formed m) (valid : Valid m) (calm : is_threaded m ≡ false) (bare : NoMarks m) where
   shadow_holds : (setup : Setup) → GivesBytes setup → HoldsUnderFills m setup (shadow m setup)
   shadow_holds setup bytes = record {
-    clean = λ is fill h. let none = nothing_told (shadow m setup).reports (shadow m setup).blind is in clean_shown m formed valid bare setup bytes none.1 none.0 fill h;
-    first = λ quiet report rest some. first_alone m formed valid bare setup bytes quiet report rest some;
-    same = λ quiet fill h. (same_fills m formed valid bare setup bytes (quiet_one m formed valid bare setup bytes quiet)).reported fill h;
+    clean = λ is fill h. let none = nothing_told (shadow m setup).reports (shadow m setup).blind is in clean_shown m formed valid calm bare setup bytes none.1 none.0 fill h;
+    first = λ quiet report rest some. first_alone m formed valid calm bare setup bytes quiet report rest some;
+    same = λ quiet fill h. (same_fills m formed valid calm bare setup bytes (quiet_one m formed valid calm bare setup bytes quiet)).reported fill h;
   }
 
   -- the same of the plain run of a faithful form

@@ -17,7 +17,7 @@ use Rattle.ms_ir.specs.declared.syntax.Name.{Name}
 use Rattle.ms_ir.specs.declared.syntax.Op.{Op}
 use Rattle.ms_ir.specs.declared.syntax.Op.TheVariants as op
 use Rattle.ms_ir.specs.declared.calls.External.{External}
-use Rattle.ms_ir.specs.declared.calls.External.TheVariants.{Word}
+use Rattle.ms_ir.specs.declared.calls.External.TheVariants.{PthreadCreate, PthreadJoin, SchedYield, Word}
 use Rattle.ms_ir.specs.Code.{one_undef, external_named}
 use Rattle.ms_ir.specs.Layout.{width_of}
 use Rattle.ms_runs.specs.World.{World, word, gives}
@@ -44,9 +44,12 @@ pub record FlagStands (args : List (Ty × Operand)) (p : Poisoned) : Type 0 wher
   pub clean : p.mask ≡ 0
   pub known : eqb p.value 1 ≡ has_true_flag args
 
--- so a call of an external stands
+-- so a call of an external stands, which is no thread call
 abbrev pub WordStands : Option External → Option Ty → List (Ty × Operand) → List Poisoned → Type 0
 WordStands (Some (Word f n)) ret args ps = IsWord ret (bits_of n) × NoneWider (bits_of n) args × (is_flagged f ≡ true → FlagStands args (word_at 1 ps))
+WordStands (Some PthreadCreate) ret args ps = ⊥
+WordStands (Some PthreadJoin) ret args ps = ⊥
+WordStands (Some SchedYield) ret args ps = ⊥
 WordStands e ret args ps = Unit {0}
 
 abbrev pub WordsStand : (Name → Option ℕ) → Op → List Poisoned → Type 0

@@ -21,18 +21,31 @@ pub record FitWorld (w : World) : Type 0 where
 
 -- ---- one world with other bytes
 
--- a world with other bytes
-abbrev pub other : World → (ℕ → ℕ) → World
-other w b = record w { bytes = b }
+-- what may differ: the bytes of memory, and the words that fibers answered
+pub record Unseen : Type 0 where
+  pub bytes : ℕ → ℕ
+  pub answers : ℕ → ℕ
 
--- bytes agree outside their shadow
-abbrev pub BytesAlike : World → (ℕ → ℕ) → Type 0
-BytesAlike w b = (a : ℕ) → Agrees 8 (w.shadow a) (w.bytes a) (b a)
+-- those of a world
+abbrev pub unseen_of : World → Unseen
+unseen_of v = record { bytes = v.bytes; answers = v.answers }
 
-pub low_other : (w : World) (b : ℕ → ℕ) → BytesAlike w b → LowWorld w (other w b)
-low_other w b h = record { allocs = refl; shadow = refl; origins = refl; pairs = refl; made = refl; input = refl; output = refl; reports = refl; blind = refl; bytes = h }
+-- a world with others
+abbrev pub other : World → Unseen → World
+other w b = record w { bytes = b.bytes; answers = b.answers }
 
-pub other_is : (w v : World) → LowWorld w v → other w v.bytes ≡ v
+-- the words that fibers answered agree outside their masks
+abbrev pub AnswersAgree : World → Unseen → Type 0
+AnswersAgree w b = (k : ℕ) → SameBits (w.answer_masks k) (w.answers k) (b.answers k)
+
+-- so do these, and bytes outside their shadow
+abbrev pub BytesAlike : World → Unseen → Type 0
+BytesAlike w b = ((a : ℕ) → Agrees 8 (w.shadow a) (w.bytes a) (b.bytes a)) × AnswersAgree w b
+
+pub low_other : (w : World) (b : Unseen) → BytesAlike w b → LowWorld w (other w b)
+low_other w b h = record { allocs = refl; shadow = refl; origins = refl; pairs = refl; made = refl; input = refl; output = refl; reports = refl; blind = refl; turn = refl; threads = refl; answer_masks = refl; answer_origins = refl; bytes = h.0; answers = h.1 }
+
+pub other_is : (w v : World) → LowWorld w v → other w (unseen_of v) ≡ v
 other_is w v h = λ i. record {
   allocs = h.allocs i;
   bytes = v.bytes;
@@ -44,11 +57,16 @@ other_is w v h = λ i. record {
   output = h.output i;
   reports = h.reports i;
   blind = h.blind i;
+  turn = h.turn i;
+  threads = h.threads i;
+  answers = v.answers;
+  answer_masks = h.answer_masks i;
+  answer_origins = h.answer_origins i;
 }
 
 -- what holds of a world with other bytes holds of each low equal one
-pub by_bytes : (w : World) (P : World → Type 0) → ((b : ℕ → ℕ) → BytesAlike w b → P (other w b)) → (v : World) → LowWorld w v → P v
-by_bytes w P f v h = subst P (other_is w v h) (f v.bytes h.bytes)
+pub by_bytes : (w : World) (P : World → Type 0) → ((b : Unseen) → BytesAlike w b → P (other w b)) → (v : World) → LowWorld w v → P v
+by_bytes w P f v h = subst P (other_is w v h) (f (unseen_of v) (h.bytes, h.answers))
 
 -- ---- ranges
 
@@ -69,11 +87,11 @@ fresh_alike shadow f g v n h x = by_test (within v n x) refl
     by_test false e = h x e
 
 -- a poisoning that is done where the bytes may differ
-pub poisoned_low : (a from to origin : ℕ) (w : World) (b : ℕ → ℕ)
-    → ((x : ℕ) → within ((a + from) % 2 ^ 64) (to - from) x ≡ false → Agrees 8 (w.shadow x) (w.bytes x) (b x))
+pub poisoned_low : (a from to origin : ℕ) (w : World) (b : Unseen)
+    → ((x : ℕ) → within ((a + from) % 2 ^ 64) (to - from) x ≡ false → Agrees 8 (w.shadow x) (w.bytes x) (b.bytes x)) → AnswersAgree w b
     → (from < to → is_good w ((a + from) % 2 ^ 64) (to - from) ≡ true)
     → LowWorld (poison a from to origin w) (poison a from to origin (other w b))
-poisoned_low a from to origin w b outside good = by_test (ltb from to) (is_good w p n) refl refl
+poisoned_low a from to origin w b outside answers good = by_test (ltb from to) (is_good w p n) refl refl
   where
     p : ℕ
     p = (a + from) % 2 ^ 64
@@ -94,11 +112,16 @@ poisoned_low a from to origin w b outside good = by_test (ltb from to) (is_good 
       output = refl;
       reports = refl;
       blind = refl;
-      bytes = fresh_alike w.shadow w.bytes b ((a + from) % 2 ^ 64) (to - from) outside;
+      turn = refl;
+      threads = refl;
+      answer_masks = refl;
+      answer_origins = refl;
+      answers = answers;
+      bytes = fresh_alike w.shadow w.bytes b.bytes ((a + from) % 2 ^ 64) (to - from) outside;
     }
     by_test true false e g = absurd (true≢false (sym (good (leb-true (suc from) to e)) ∙ g))
     by_test false u e g =
-        low_other w b (λ x. outside x (ap (λ k. within ((a + from) % 2 ^ 64) k x) (none from to e) ∙ within_none ((a + from) % 2 ^ 64) x))
+        low_other w b (λ x. outside x (ap (λ k. within ((a + from) % 2 ^ 64) k x) (none from to e) ∙ within_none ((a + from) % 2 ^ 64) x), answers)
       where
         none : (from to : ℕ) → ltb from to ≡ false → to - from ≡ 0
         none from to e = grind arith
@@ -107,7 +130,7 @@ poisoned_low a from to origin w b outside good = by_test (ltb from to) (is_good 
 pub poison_low : (a from to origin : ℕ) (w v : World) → LowWorld w v → LowWorld (poison a from to origin w) (poison a from to origin v)
 poison_low a from to origin w v h = by_bytes w (λ u. LowWorld (poison a from to origin w) (poison a from to origin u)) (λ b k. go b k (ltb from to && is_good w ((a + from) % 2 ^ 64) (to - from))) v h
   where
-    go : (b : ℕ → ℕ) → BytesAlike w b → (t : Bool)
+    go : (b : Unseen) → BytesAlike w b → (t : Bool)
         → LowWorld (if t then set_cells ((a + from) % 2 ^ 64) (to - from) origin (set_shadow ((a + from) % 2 ^ 64) (to - from) (λ k. 255) w) else w)
         (if t then set_cells ((a + from) % 2 ^ 64) (to - from) origin (set_shadow ((a + from) % 2 ^ 64) (to - from) (λ k. 255) (other w b)) else (other w b))
     go b k true = record {
@@ -120,7 +143,12 @@ poison_low a from to origin w v h = by_bytes w (λ u. LowWorld (poison a from to
       output = refl;
       reports = refl;
       blind = refl;
-      bytes = fresh_alike w.shadow w.bytes b ((a + from) % 2 ^ 64) (to - from) (λ x e. k x);
+      turn = refl;
+      threads = refl;
+      answer_masks = refl;
+      answer_origins = refl;
+      answers = k.1;
+      bytes = fresh_alike w.shadow w.bytes b.bytes ((a + from) % 2 ^ 64) (to - from) (λ x e. k.0 x);
     }
     go b k false = low_other w b k
 
@@ -156,11 +184,11 @@ outside_made true z m x y a c e f h = absurd (true≢false z)
 outside_made false z m x y a c e f h = h
 
 -- uninitialised bytes are poisoned
-pub made_low : (fill others : List ℕ) (area : Area) (n root : ℕ) (w : World) (b : ℕ → ℕ) → BytesAlike w b → fits area n w ≡ true
+pub made_low : (fill others : List ℕ) (area : Area) (n root : ℕ) (w : World) (b : Unseen) → BytesAlike w b → fits area n w ≡ true
     → LowWorld (poison (next_base area w) 0 n root (make_unset fill area n w)) (poison (next_base area w) 0 n root (make_unset others area n (other w b)))
 made_low fill others area n root w b h fit =
-    poisoned_low (next_base area w) 0 n root (make_unset fill area n w) (make_unset others area n (other w b)).bytes
-    (λ x e. outside_made (within (next_base area w) n x) (sym (ap₂ (λ p k. within p k x) start (whole n)) ∙ e) (w.shadow x) (w.bytes x) (b x) _ _ _ _ (h x))
+    poisoned_low (next_base area w) 0 n root (make_unset fill area n w) (unseen_of (make_unset others area n (other w b)))
+    (λ x e. outside_made (within (next_base area w) n x) (sym (ap₂ (λ p k. within p k x) start (whole n)) ∙ e) (w.shadow x) (w.bytes x) (b.bytes x) _ _ _ _ (h.0 x)) h.1
     (λ l. ap₂ (λ p k. is_good (make_unset fill area n w) p k) start (whole n) ∙ made_good (make_unset fill area n w) w.allocs (next_base area w) n area refl)
   where
     small : (x : ℕ) → x < 2 ^ 64 → (x + 0) % 2 ^ 64 ≡ x
@@ -173,7 +201,7 @@ made_low fill others area n root w b h fit =
     whole n = omega arith
 
 -- zero bytes are clean
-pub zeros_low : (area : Area) (n : ℕ) (w : World) (b : ℕ → ℕ) → BytesAlike w b → LowWorld (make area n w) (make area n (other w b))
+pub zeros_low : (area : Area) (n : ℕ) (w : World) (b : Unseen) → BytesAlike w b → LowWorld (make area n w) (make area n (other w b))
 zeros_low area n w b h = record {
   allocs = refl;
   shadow = refl;
@@ -184,15 +212,20 @@ zeros_low area n w b h = record {
   output = refl;
   reports = refl;
   blind = refl;
-  bytes = ranges_agree w.shadow w.bytes b (next_base area w) n (λ k. 0) (λ k. 0) (λ k. 0) h (λ k i l z. refl);
+  turn = refl;
+  threads = refl;
+  answer_masks = refl;
+  answer_origins = refl;
+  answers = h.1;
+  bytes = ranges_agree w.shadow w.bytes b.bytes (next_base area w) n (λ k. 0) (λ k. 0) (λ k. 0) h.0 (λ k i l z. refl);
 }
 
 -- uninitialised bytes made anew in good bytes, as `lifetime.start` makes them
-pub remade_low : (fill others : List ℕ) (a n root : ℕ) (w : World) (b : ℕ → ℕ) → BytesAlike w b → a < 2 ^ 64 → is_good w a n ≡ true
+pub remade_low : (fill others : List ℕ) (a n root : ℕ) (w : World) (b : Unseen) → BytesAlike w b → a < 2 ^ 64 → is_good w a n ≡ true
     → LowWorld (poison a 0 n root (make_bytes fill a n w)) (poison a 0 n root (make_bytes others a n (other w b)))
 remade_low fill others a n root w b h small good =
-    poisoned_low a 0 n root (make_bytes fill a n w) (make_bytes others a n (other w b)).bytes
-    (λ x e. outside (within a n x) (sym (ap₂ (λ p k. within p k x) start (whole n)) ∙ e) _ _ _ _ _ (h x))
+    poisoned_low a 0 n root (make_bytes fill a n w) (unseen_of (make_bytes others a n (other w b)))
+    (λ x e. outside (within a n x) (sym (ap₂ (λ p k. within p k x) start (whole n)) ∙ e) _ _ _ _ _ (h.0 x)) h.1
     (λ l. ap₂ (λ p k. is_good w p k) start (whole n) ∙ good)
   where
     outside : (t : Bool) → t ≡ false → (m x y a c : ℕ) → Agrees 8 m x y → Agrees 8 m (if t then a else x) (if t then c else y)
@@ -213,7 +246,7 @@ byte_alike m a c k h i l z = byte_bit k a i l ∙ h (8 * k + i) (sym (byte_bit k
 pub low_byte_alike : (m a c : ℕ) → SameBits m a c → Agrees 8 (m % 256) (a % 256) (c % 256)
 low_byte_alike m a c h = byte_alike m a c 0 h
 
-pub stored_low : (a n m x y : ℕ) (w : World) (b : ℕ → ℕ) → BytesAlike w b → SameBits m x y
+pub stored_low : (a n m x y : ℕ) (w : World) (b : Unseen) → BytesAlike w b → SameBits m x y
     → LowWorld (set_shadow a n (byte_of m) (store_number a n x w)) (set_shadow a n (byte_of m) (store_number a n y (other w b)))
 stored_low a n m x y w b h k = record {
   allocs = refl;
@@ -225,10 +258,15 @@ stored_low a n m x y w b h k = record {
   output = refl;
   reports = refl;
   blind = refl;
-  bytes = ranges_agree w.shadow w.bytes b a n (byte_of m) (byte_of x) (byte_of y) h (λ j. byte_alike m x y j k);
+  turn = refl;
+  threads = refl;
+  answer_masks = refl;
+  answer_origins = refl;
+  answers = h.1;
+  bytes = ranges_agree w.shadow w.bytes b.bytes a n (byte_of m) (byte_of x) (byte_of y) h.0 (λ j. byte_alike m x y j k);
 }
 
-pub copied_low : (to from n : ℕ) (w : World) (b : ℕ → ℕ) → BytesAlike w b
+pub copied_low : (to from n : ℕ) (w : World) (b : Unseen) → BytesAlike w b
     → LowWorld (copy_shadow to from n (copy_bytes to from n w)) (copy_shadow to from n (copy_bytes to from n (other w b)))
 copied_low to from n w b h = record {
   allocs = refl;
@@ -240,19 +278,24 @@ copied_low to from n w b h = record {
   output = refl;
   reports = refl;
   blind = refl;
-  bytes = copies_agree w.shadow w.bytes b to from n h;
+  turn = refl;
+  threads = refl;
+  answer_masks = refl;
+  answer_origins = refl;
+  answers = h.1;
+  bytes = copies_agree w.shadow w.bytes b.bytes to from n h.0;
 }
 
 -- equal bytes are written
-pub same_bytes_low : (a n : ℕ) (new : ℕ → ℕ) (w : World) (b : ℕ → ℕ) → BytesAlike w b → BytesAlike (set_bytes a n new w) (set_bytes a n new (other w b)).bytes
-same_bytes_low a n new w b h x = by_test (within a n x)
+pub same_bytes_low : (a n : ℕ) (new : ℕ → ℕ) (w : World) (b : Unseen) → BytesAlike w b → BytesAlike (set_bytes a n new w) (unseen_of (set_bytes a n new (other w b)))
+same_bytes_low a n new w b h = (λ x. by_test x (within a n x), h.1)
   where
-    by_test : (t : Bool) → Agrees 8 (w.shadow x) (if t then new (x - a) else w.bytes x) (if t then new (x - a) else b x)
-    by_test true = λ i l z. refl
-    by_test false = h x
+    by_test : (x : ℕ) (t : Bool) → Agrees 8 (w.shadow x) (if t then new (x - a) else w.bytes x) (if t then new (x - a) else b.bytes x)
+    by_test x true = λ i l z. refl
+    by_test x false = h.0 x
 
 -- equal bytes, made clean
-pub clean_bytes_low : (a n : ℕ) (new : ℕ → ℕ) (w : World) (b : ℕ → ℕ) → BytesAlike w b
+pub clean_bytes_low : (a n : ℕ) (new : ℕ → ℕ) (w : World) (b : Unseen) → BytesAlike w b
     → LowWorld (set_shadow a n (λ k. 0) (set_bytes a n new w)) (set_shadow a n (λ k. 0) (set_bytes a n new (other w b)))
 clean_bytes_low a n new w b h = record {
   allocs = refl;
@@ -264,11 +307,16 @@ clean_bytes_low a n new w b h = record {
   output = refl;
   reports = refl;
   blind = refl;
-  bytes = ranges_agree w.shadow w.bytes b a n (λ k. 0) new new h (λ k i l z. refl);
+  turn = refl;
+  threads = refl;
+  answer_masks = refl;
+  answer_origins = refl;
+  answers = h.1;
+  bytes = ranges_agree w.shadow w.bytes b.bytes a n (λ k. 0) new new h.0 (λ k i l z. refl);
 }
 
 -- one byte is written into a range
-pub filled_low : (a n m x y : ℕ) (w : World) (b : ℕ → ℕ) → BytesAlike w b → Agrees 8 m x y
+pub filled_low : (a n m x y : ℕ) (w : World) (b : Unseen) → BytesAlike w b → Agrees 8 m x y
     → LowWorld (set_shadow a n (λ k. m) (set_bytes a n (λ k. x) w)) (set_shadow a n (λ k. m) (set_bytes a n (λ k. y) (other w b)))
 filled_low a n m x y w b h k = record {
   allocs = refl;
@@ -280,11 +328,16 @@ filled_low a n m x y w b h k = record {
   output = refl;
   reports = refl;
   blind = refl;
-  bytes = ranges_agree w.shadow w.bytes b a n (λ k. m) (λ k. x) (λ k. y) h (λ j. k);
+  turn = refl;
+  threads = refl;
+  answer_masks = refl;
+  answer_origins = refl;
+  answers = h.1;
+  bytes = ranges_agree w.shadow w.bytes b.bytes a n (λ k. m) (λ k. x) (λ k. y) h.0 (λ j. k);
 }
 
 -- nothing is written
-pub empty_low : (a : ℕ) (mask new others : ℕ → ℕ) (w : World) (b : ℕ → ℕ) → BytesAlike w b
+pub empty_low : (a : ℕ) (mask new others : ℕ → ℕ) (w : World) (b : Unseen) → BytesAlike w b
     → LowWorld (set_shadow a 0 mask (set_bytes a 0 new w)) (set_shadow a 0 mask (set_bytes a 0 others (other w b)))
 empty_low a mask new others w b h = record {
   allocs = refl;
@@ -296,12 +349,17 @@ empty_low a mask new others w b h = record {
   output = refl;
   reports = refl;
   blind = refl;
+  turn = refl;
+  threads = refl;
+  answer_masks = refl;
+  answer_origins = refl;
+  answers = h.1;
   bytes = λ x. by_test (within a 0 x) (within_none a x) x;
 }
   where
-    by_test : (t : Bool) → t ≡ false → (x : ℕ) → Agrees 8 (if t then mask (x - a) else w.shadow x) (if t then new (x - a) else w.bytes x) (if t then others (x - a) else b x)
+    by_test : (t : Bool) → t ≡ false → (x : ℕ) → Agrees 8 (if t then mask (x - a) else w.shadow x) (if t then new (x - a) else w.bytes x) (if t then others (x - a) else b.bytes x)
     by_test true e x = absurd (true≢false e)
-    by_test false e x = h x
+    by_test false e x = h.0 x
 
 -- ---- origins
 
@@ -314,7 +372,7 @@ pub chain_low : (s : Setting) (old site : ℕ) (w v : World) → LowWorld w v �
 chain_low s old site w v h =
     by_bytes w (λ u. ChainedLow (chain s old site w) (chain s old site u)) (λ b k. go b k (keeps_old s w old) (pair_index w.pairs old site)) v h
   where
-    go : (b : ℕ → ℕ) → BytesAlike w b → (t : Bool) (o : Option ℕ)
+    go : (b : Unseen) → BytesAlike w b → (t : Bool) (o : Option ℕ)
         → ChainedLow
         (if t then record { id = old; world = w } else
         elim o [
@@ -330,7 +388,7 @@ chain_low s old site w v h =
     go b k false (Some n) = record { id = refl; world = low_other w b k }
     go b k false None = record {
       id = refl;
-      world = record { allocs = refl; shadow = refl; origins = refl; pairs = refl; made = refl; input = refl; output = refl; reports = refl; blind = refl; bytes = k };
+      world = record { allocs = refl; shadow = refl; origins = refl; pairs = refl; made = refl; input = refl; output = refl; reports = refl; blind = refl; turn = refl; threads = refl; answer_masks = refl; answer_origins = refl; bytes = k.0; answers = k.1 };
     }
 
 pub marked_low : (n a mask origin : ℕ) (w v : World) → LowWorld w v → LowWorld (mark_cells n a mask origin w) (mark_cells n a mask origin v)
@@ -341,10 +399,10 @@ marked_low (suc n) a mask origin w v h =
     (if eqb (mask % 256) 0 || not (is_good u a 1) then u else record u { origins = with_cell u.origins a origin }))
     (λ b k. go b k (eqb (mask % 256) 0 || not (is_good w a 1))) v h)
   where
-    go : (b : ℕ → ℕ) → BytesAlike w b → (t : Bool)
+    go : (b : Unseen) → BytesAlike w b → (t : Bool)
         → LowWorld (if t then w else record w { origins = with_cell w.origins a origin }) (if t then other w b else record (other w b) { origins = with_cell w.origins a origin })
     go b k true = low_other w b k
-    go b k false = record { allocs = refl; shadow = refl; origins = refl; pairs = refl; made = refl; input = refl; output = refl; reports = refl; blind = refl; bytes = k }
+    go b k false = record { allocs = refl; shadow = refl; origins = refl; pairs = refl; made = refl; input = refl; output = refl; reports = refl; blind = refl; turn = refl; threads = refl; answer_masks = refl; answer_origins = refl; bytes = k.0; answers = k.1 }
 
 pub store_origin_low : (s : Setting) (a mask origin site : ℕ) (w v : World) → LowWorld w v → LowWorld (store_origin s a mask origin site w) (store_origin s a mask origin site v)
 store_origin_low s a mask origin site w v h = go (eqb mask 0)
@@ -369,7 +427,12 @@ cells_low a n origin w v h = record {
   output = h.output;
   reports = h.reports;
   blind = h.blind;
+  turn = h.turn;
+  threads = h.threads;
+  answer_masks = h.answer_masks;
+  answer_origins = h.answer_origins;
   bytes = h.bytes;
+  answers = h.answers;
 }
 
 pub blind_low : (mask : ℕ) (w v : World) → LowWorld w v → LowWorld (count_blind mask w) (count_blind mask v)
@@ -387,5 +450,10 @@ blind_low mask w v h = go (eqb mask 0)
       output = h.output;
       reports = h.reports;
       blind = ap (λ n. n + 1) h.blind;
+      turn = h.turn;
+      threads = h.threads;
+      answer_masks = h.answer_masks;
+      answer_origins = h.answer_origins;
       bytes = h.bytes;
+      answers = h.answers;
     }

@@ -20,6 +20,11 @@ block_at_zero = record {
   output = [];
   reports = [];
   blind = 0;
+  turn = 0;
+  threads = [];
+  answers = λ k. 0;
+  answer_masks = λ k. 0;
+  answer_origins = λ k. 0;
 }
 
 -- a setting without a module

@@ -1,5 +1,6 @@
 //! Runs that are the same, whatever uninitialised memory holds at each step.
-ghost use Rattle.std.specs.Prelude.{◌≡◌, ℕ, List};
+ghost use Rattle.std.specs.Prelude.{◌≡◌, ℕ, List, false};
+ghost use Rattle.ms_ir.specs.ThreadCalls.{is_threaded};
 ghost use Rattle.ms_ir.specs.declared.syntax.Module.{Module};
 ghost use Rattle.ms_ir.specs.Code.{NoMarks};
 ghost use Rattle.ms_runs.specs.declared.runs.Setup.{Setup};
@@ -20,7 +21,7 @@ ghost use Rattle.ms_two_fills.specs.Chosen.{steps_by, chosen_step, HoldsUnderCho
 /// far, the program itself stands at the same place, whatever fill was chosen for each step, and its words and bytes are
 /// those of the shadow run outside their masks; or both ended alike.
 pub fn masks_are_certain()
-    ensures { (m : Module) → Formed m → Valid m → NoMarks m → (setup : Setup) → GivesBytes setup → (n : ℕ)
+    ensures { (m : Module) → Formed m → Valid m → is_threaded m ≡ false → NoMarks m → (setup : Setup) → GivesBytes setup → (n : ℕ)
         → UntoldSteps (steps (shadow_step by_completions (setting_of m setup) m) n (shadow_start m setup))
         → (fills : ℕ → List ℕ) → ((k : ℕ) → IsFill (fills k))
         → CertainSteps (steps (shadow_step by_completions (setting_of m setup) m) n (shadow_start m setup)) (steps_by (chosen_step m setup fills) n 0 (plain_start m setup)) }
@@ -29,17 +30,17 @@ pub fn masks_are_certain()
 /// A clean verdict holds under every choice: the program itself prints the same and ends in the same way, also where each
 /// step has a fill of its own.
 pub fn clean_under_choices()
-    ensures shadow_runs { (m : Module) → Formed m → Valid m → NoMarks m → (setup : Setup) → GivesBytes setup → HoldsUnderChoices m setup (shadow m setup) }
-    ensures instrumented { (m : Module) → Formed m → Valid m → NoMarks m → (j : Module) → Faithful m j → (setup : Setup) → Fair setup → HoldsUnderChoices m setup (plain j setup) }
+    ensures shadow_runs { (m : Module) → Formed m → Valid m → is_threaded m ≡ false → NoMarks m → (setup : Setup) → GivesBytes setup → HoldsUnderChoices m setup (shadow m setup) }
+    ensures instrumented { (m : Module) → Formed m → Valid m → is_threaded m ≡ false → NoMarks m → (j : Module) → Faithful m j → (setup : Setup) → Fair setup → HoldsUnderChoices m setup (plain j setup) }
 {}
 
 /// Both hold too where uninitialised memory changes: before each step memory may hold any bytes that are those of the shadow run
 /// outside its shadow, so that each load of an uninitialised byte may give another value, and each step has a fill of its own.
 pub fn memory_may_change()
-    ensures certain { (m : Module) → Formed m → Valid m → NoMarks m → (setup : Setup) → GivesBytes setup → (n : ℕ) (z : Stepped PlainState)
+    ensures certain { (m : Module) → Formed m → Valid m → is_threaded m ≡ false → NoMarks m → (setup : Setup) → GivesBytes setup → (n : ℕ) (z : Stepped PlainState)
         → UntoldSteps (steps (shadow_step by_completions (setting_of m setup) m) n (shadow_start m setup))
         → ComesTo (shadow_step by_completions (setting_of m setup) m) m setup n (shadow_start m setup) (plain_start m setup) z
         → CertainSteps (steps (shadow_step by_completions (setting_of m setup) m) n (shadow_start m setup)) z }
-    ensures clean { (m : Module) → Formed m → Valid m → NoMarks m → (setup : Setup) → GivesBytes setup → verdict_of (shadow m setup) ≡ Clean → (z : Stepped PlainState)
+    ensures clean { (m : Module) → Formed m → Valid m → is_threaded m ≡ false → NoMarks m → (setup : Setup) → GivesBytes setup → verdict_of (shadow m setup) ≡ Clean → (z : Stepped PlainState)
         → ComesTo (shadow_step by_completions (setting_of m setup) m) m setup setup.steps (shadow_start m setup) (plain_start m setup) z → SameShown (shown_by z) (shadow m setup) }
 {}

@@ -22,7 +22,7 @@ use Rattle.ms_ir.specs.Equal.{Step, has_name, type_eq, result_type_eq}
 use Rattle.ms_ir.specs.Written.{targets}
 use Rattle.ms_ir.specs.Spots.{found_at_insts}
 use Rattle.ms_ir.specs.Locals.{value_type, block_names, global_names}
-use Rattle.ms_ir.specs.Signatures.{Signature, signature_of, declared_signature}
+use Rattle.ms_ir.specs.Signatures.{Signature, answers, signature_eq, signature_of, defined_signature, declared_signature}
 use Rattle.ms_valid.specs.Initialisers.{init_fits}
 
 -- the first operand, counted from k on, that doesn't fit
@@ -81,7 +81,7 @@ is_type None t = false
 is_type (Some u) t = type_eq u t
 
 -- an operand has the type before it, where those of the values of its function are given; numbers and `null` stand behind
--- no other type by their form, and a function is no value
+-- no other type by their form, and a function is no value but where `fits_call` says so
 abbrev pub operand_fits : Module → (Name → Option Ty) → Ty → Operand → Bool
 operand_fits m typed t (operand.Local x) = is_type (typed x) t
 operand_fits m typed t (operand.Global x) = type_eq t Ptr && is_variable m x
@@ -112,10 +112,24 @@ returns_fit fits (Some t) (Some v) = type_eq v.0 t && fits v
 returns_fit fits t v = false
 
 -- the first argument, counted from k on, that doesn't fit its parameter, is one too many, or is missing
-abbrev pub argument_fault : (Ty × Operand → Bool) → ℕ → List Ty → List (Ty × Operand) → Option ℕ
+abbrev pub argument_fault : (ℕ → Ty × Operand → Bool) → ℕ → List Ty → List (Ty × Operand) → Option ℕ
 argument_fault fits k [] [] = None
-argument_fault fits k (t ∷ ts) (a ∷ rest) = if type_eq a.0 t && fits a then argument_fault fits (suc k) ts rest else Some k
+argument_fault fits k (t ∷ ts) (a ∷ rest) = if type_eq a.0 t && fits k a then argument_fault fits (suc k) ts rest else Some k
 argument_fault fits k params args = Some k
+
+-- the name of a function that the module defines, with the type `ptr (ptr)`
+abbrev pub is_start : Module → Operand → Bool
+is_start m (operand.Global x) = elim (defined_signature m.funcs x) [ Some s ↦ signature_eq s (answers Ptr (Ptr ∷ [])) | None ↦ false ]
+is_start m o = false
+
+-- `pthread_create`, which a module declares
+abbrev pub is_create : Module → Name → Bool
+is_create m x = name_eq x (Text (codes "pthread_create")) && is_some (declared_signature m.decls x)
+
+-- an argument of a call fits by its place: the third of `pthread_create` names the function that begins, and nowhere else is a
+-- function a value
+abbrev pub fits_call : Module → (Ty × Operand → Bool) → Name → ℕ → Ty × Operand → Bool
+fits_call m fits callee k a = if is_create m callee && nat_eq k 2 then is_start m a.1 else fits a
 
 -- what `printf` prints
 abbrev pub is_printable : Ty → Bool
@@ -134,7 +148,7 @@ is_printf m x = name_eq x (Text (codes "printf")) && is_some (declared_signature
 abbrev pub call_fault : Module → (Ty × Operand → Bool) → Option Signature → Option Ty → Name → List (Ty × Operand) → Option ℕ
 call_fault m fits None ret callee args = option_or (first_misfit fits 0 args) (Some 0)
 call_fault m fits (Some s) ret callee args =
-    option_or (if is_printf m callee then printf_fault fits args else argument_fault fits 0 s.params args) (fault_unless (result_type_eq ret s.ret))
+    option_or (if is_printf m callee then printf_fault fits args else argument_fault (fits_call m fits callee) 0 s.params args) (fault_unless (result_type_eq ret s.ret))
 
 -- the operand of an instruction at fault: an operand that doesn't fit, else the first that is missing, else 0
 abbrev pub op_fault : Module → Func → (Ty × Operand → Bool) → Op → Option ℕ

@@ -15,9 +15,9 @@ use Rattle.ms_words.specs.declared.names.Takes.TheVariants.{Nothing}
 use Rattle.ms_words.specs.Table.{Word, takes, command_word, options_of}
 use Rattle.ms_words.specs.Values.{number, hex_bytes, value_fault}
 use Rattle.ms_words.specs.Reading.{Given}
-use Rattle.ms_words.specs.Words.{value_of, number_by, options_by, explain_options_by, corpus_options_by, command_by, command_given}
+use Rattle.ms_words.specs.Words.{value_of, number_by, options_by, explain_options_by, corpus_options_by, no_schedule, command_by, command_given}
 use Rattle.ms_words.specs.ClapForm.{app_for, files_rule, with_options, spelled, spelled_option, spelled_options}
-use Rattle.ms_words.specs.Fields.{Fits, FitsRun, FitsReports, FitsCorpus, found_value, found_file, found_inputs, found_by}
+use Rattle.ms_words.specs.Fields.{Fits, FitsRun, FitsScheduled, FitsCorpus, found_value, found_file, found_inputs, found_by}
 use Rattle.ms_words.specs.Accepted.{Whole}
 use Rattle.ms_words.proofs.Files.{corpus_form, corpus_takes, corpus_workers, corpus_fill, corpus_steps, corpus_reports, corpus_locations, corpus_file, corpus_files}
 use Rattle.ms_words.proofs.GoodValues.{IsGood, good_value, hex_good, number_good}
@@ -27,75 +27,83 @@ use Rattle.ms_words.proofs.GoodValues.{IsGood, good_value, hex_good, number_good
 abbrev run_app : Word → App
 run_app word = with_rule (with_options (new_app word) (options_of Run)) files_rule
 
-abbrev run_form : Word → Option Word → (fill steps reports : Word) → Option Word → (file : Word) → List Word
-run_form word input fill steps reports locations file =
+abbrev run_form : Word → Option Word → (fill steps reports schedule : Word) → Option Word → (file : Word) → List Word
+run_form word input fill steps reports schedule locations file =
     word ∷ ((spelled_option option.Input input ++ (spelled_option option.Fill (Some fill) ++ (spelled_option option.Steps (Some steps)
-    ++ (spelled_option option.Reports (Some reports) ++ (spelled_option option.Where locations ++ []))))) ++ codes "--" ∷ file ∷ [])
+    ++ (spelled_option option.Reports (Some reports) ++ (spelled_option option.Schedule (Some schedule) ++ (spelled_option option.Where locations ++ [])))))) ++ codes "--" ∷ file ∷ [])
 
-run_takes : (word : Word) (a : Option Word) (b c d : Word) (e : Option Word) (f : Word) → takes_words (run_app word) (run_form word a b c d e f) ≡ true
+run_takes : (word : Word) (a : Option Word) (b c d s : Word) (e : Option Word) (f : Word) → takes_words (run_app word) (run_form word a b c d s e f) ≡ true
 unfolding clap_on_literals
-run_takes word None b c d None f = refl
-run_takes word None b c d (Some e) f = refl
-run_takes word (Some a) b c d None f = refl
-run_takes word (Some a) b c d (Some e) f = refl
+run_takes word None b c d s None f = refl
+run_takes word None b c d s (Some e) f = refl
+run_takes word (Some a) b c d s None f = refl
+run_takes word (Some a) b c d s (Some e) f = refl
 
-run_input : (word : Word) (a : Option Word) (b c d : Word) (e : Option Word) (f : Word) → first_of (codes "input") (matches_of (run_app word) (run_form word a b c d e f)) ≡ a
+run_input : (word : Word) (a : Option Word) (b c d s : Word) (e : Option Word) (f : Word) → first_of (codes "input") (matches_of (run_app word) (run_form word a b c d s e f)) ≡ a
 unfolding clap_on_literals
-run_input word None b c d None f = refl
-run_input word None b c d (Some e) f = refl
-run_input word (Some a) b c d None f = refl
-run_input word (Some a) b c d (Some e) f = refl
+run_input word None b c d s None f = refl
+run_input word None b c d s (Some e) f = refl
+run_input word (Some a) b c d s None f = refl
+run_input word (Some a) b c d s (Some e) f = refl
 
-run_fill : (word : Word) (a : Option Word) (b c d : Word) (e : Option Word) (f : Word) → first_of (codes "fill") (matches_of (run_app word) (run_form word a b c d e f)) ≡ Some b
+run_fill : (word : Word) (a : Option Word) (b c d s : Word) (e : Option Word) (f : Word) → first_of (codes "fill") (matches_of (run_app word) (run_form word a b c d s e f)) ≡ Some b
 unfolding clap_on_literals
-run_fill word None b c d None f = refl
-run_fill word None b c d (Some e) f = refl
-run_fill word (Some a) b c d None f = refl
-run_fill word (Some a) b c d (Some e) f = refl
+run_fill word None b c d s None f = refl
+run_fill word None b c d s (Some e) f = refl
+run_fill word (Some a) b c d s None f = refl
+run_fill word (Some a) b c d s (Some e) f = refl
 
-run_steps : (word : Word) (a : Option Word) (b c d : Word) (e : Option Word) (f : Word) → first_of (codes "steps") (matches_of (run_app word) (run_form word a b c d e f)) ≡ Some c
+run_steps : (word : Word) (a : Option Word) (b c d s : Word) (e : Option Word) (f : Word) → first_of (codes "steps") (matches_of (run_app word) (run_form word a b c d s e f)) ≡ Some c
 unfolding clap_on_literals
-run_steps word None b c d None f = refl
-run_steps word None b c d (Some e) f = refl
-run_steps word (Some a) b c d None f = refl
-run_steps word (Some a) b c d (Some e) f = refl
+run_steps word None b c d s None f = refl
+run_steps word None b c d s (Some e) f = refl
+run_steps word (Some a) b c d s None f = refl
+run_steps word (Some a) b c d s (Some e) f = refl
 
-run_reports : (word : Word) (a : Option Word) (b c d : Word) (e : Option Word) (f : Word) → first_of (codes "reports") (matches_of (run_app word) (run_form word a b c d e f)) ≡ Some d
+run_reports : (word : Word) (a : Option Word) (b c d s : Word) (e : Option Word) (f : Word) → first_of (codes "reports") (matches_of (run_app word) (run_form word a b c d s e f)) ≡ Some d
 unfolding clap_on_literals
-run_reports word None b c d None f = refl
-run_reports word None b c d (Some e) f = refl
-run_reports word (Some a) b c d None f = refl
-run_reports word (Some a) b c d (Some e) f = refl
+run_reports word None b c d s None f = refl
+run_reports word None b c d s (Some e) f = refl
+run_reports word (Some a) b c d s None f = refl
+run_reports word (Some a) b c d s (Some e) f = refl
 
-run_file : (word : Word) (a : Option Word) (b c d : Word) (e : Option Word) (f : Word) → first_of (codes "files") (matches_of (run_app word) (run_form word a b c d e f)) ≡ Some f
+run_schedule : (word : Word) (a : Option Word) (b c d s : Word) (e : Option Word) (f : Word) → first_of (codes "schedule") (matches_of (run_app word) (run_form word a b c d s e f)) ≡ Some s
 unfolding clap_on_literals
-run_file word None b c d None f = refl
-run_file word None b c d (Some e) f = refl
-run_file word (Some a) b c d None f = refl
-run_file word (Some a) b c d (Some e) f = refl
+run_schedule word None b c d s None f = refl
+run_schedule word None b c d s (Some e) f = refl
+run_schedule word (Some a) b c d s None f = refl
+run_schedule word (Some a) b c d s (Some e) f = refl
 
-run_locations : (word : Word) (a : Option Word) (b c d : Word) (e : Option Word) (f : Word)
-    → is_some (found_by Nothing (first_of (codes "where") (matches_of (run_app word) (run_form word a b c d e f)))) ≡ is_some e
+run_file : (word : Word) (a : Option Word) (b c d s : Word) (e : Option Word) (f : Word) → first_of (codes "files") (matches_of (run_app word) (run_form word a b c d s e f)) ≡ Some f
 unfolding clap_on_literals
-run_locations word None b c d None f = refl
-run_locations word None b c d (Some e) f = refl
-run_locations word (Some a) b c d None f = refl
-run_locations word (Some a) b c d (Some e) f = refl
+run_file word None b c d s None f = refl
+run_file word None b c d s (Some e) f = refl
+run_file word (Some a) b c d s None f = refl
+run_file word (Some a) b c d s (Some e) f = refl
+
+run_locations : (word : Word) (a : Option Word) (b c d s : Word) (e : Option Word) (f : Word)
+    → is_some (found_by Nothing (first_of (codes "where") (matches_of (run_app word) (run_form word a b c d s e f)))) ≡ is_some e
+unfolding clap_on_literals
+run_locations word None b c d s None f = refl
+run_locations word None b c d s (Some e) f = refl
+run_locations word (Some a) b c d s None f = refl
+run_locations word (Some a) b c d s (Some e) f = refl
 
 at : (f : Found) (id : Word) (rows : List Row) → rows_of f ≡ rows → first_value f id ≡ first_of id rows
 at f id rows are = first_value-rows f id ∙ ap (first_of id) are
 
-run_fields : (word : Word) (a : Option Word) (b c d : Word) (e : Option Word) (file : Word) (f : Found) → rows_of f ≡ matches_of (run_app word) (run_form word a b c d e file)
-    → (options_by (found_value f) ≡ record { input = a; fill = hex_bytes b; steps = number c; reports = number d; locations = is_some e })
+run_fields : (word : Word) (a : Option Word) (b c d s : Word) (e : Option Word) (file : Word) (f : Found) → rows_of f ≡ matches_of (run_app word) (run_form word a b c d s e file)
+    → (options_by (found_value f) ≡ record { input = a; fill = hex_bytes b; steps = number c; reports = number d; schedule = hex_bytes s; locations = is_some e })
     × (found_file f ≡ file)
-run_fields word a b c d e file f are =
-    let input = at f (codes "input") _ are ∙ run_input word a b c d e file in
-    let fill = at f (codes "fill") _ are ∙ run_fill word a b c d e file in
-    let steps = at f (codes "steps") _ are ∙ run_steps word a b c d e file in
-    let reports = at f (codes "reports") _ are ∙ run_reports word a b c d e file in
-    let locations = ap (λ (v : Option Word). is_some (found_by Nothing v)) (at f (codes "where") _ are) ∙ run_locations word a b c d e file in
-    let files = at f (codes "files") _ are ∙ run_file word a b c d e file in (
-      rw (input, fill, steps, reports, locations) refl,
+run_fields word a b c d s e file f are =
+    let input = at f (codes "input") _ are ∙ run_input word a b c d s e file in
+    let fill = at f (codes "fill") _ are ∙ run_fill word a b c d s e file in
+    let steps = at f (codes "steps") _ are ∙ run_steps word a b c d s e file in
+    let reports = at f (codes "reports") _ are ∙ run_reports word a b c d s e file in
+    let schedule = at f (codes "schedule") _ are ∙ run_schedule word a b c d s e file in
+    let locations = ap (λ (v : Option Word). is_some (found_by Nothing v)) (at f (codes "where") _ are) ∙ run_locations word a b c d s e file in
+    let files = at f (codes "files") _ are ∙ run_file word a b c d s e file in (
+      rw (input, fill, steps, reports, schedule, locations) refl,
       rw files refl,
     )
 
@@ -128,7 +136,7 @@ explain_found (Some a) b c None file = record { input = refl; fill = refl; steps
 explain_found (Some a) b c (Some e) file = record { input = refl; fill = refl; steps = refl; locations = refl; files = refl }
 
 explain_fields : (a : Option Word) (b c : Word) (e : Option Word) (file : Word) (f : Found) → rows_of f ≡ matches_of (app_for Explain) (explain_form a b c e file)
-    → (explain_options_by (found_value f) ≡ record { input = a; fill = hex_bytes b; steps = number c; reports = 1; locations = is_some e })
+    → (explain_options_by (found_value f) ≡ record { input = a; fill = hex_bytes b; steps = number c; reports = 1; schedule = no_schedule; locations = is_some e })
     × (found_file f ≡ file)
 explain_fields a b c e file f are =
     let found = explain_found a b c e file in
@@ -206,7 +214,7 @@ all_at f id rows are = raw_values-rows f id ∙ ap (all_of id) are
 
 corpus_fields : (b c d e : Word) (w : Option Word) (file : Word) (inputs : List Word) (f : Found) → rows_of f ≡ matches_of (app_for Corpus) (corpus_form b c d e w (file ∷ inputs))
     → made.Corpus (found_file f) (found_inputs f) (corpus_options_by (found_value f)) (number_by (found_value f option.Workers))
-    ≡ made.Corpus file inputs (record { input = None; fill = hex_bytes c; steps = number d; reports = number e; locations = is_some w }) (number b)
+    ≡ made.Corpus file inputs (record { input = None; fill = hex_bytes c; steps = number d; reports = number e; schedule = no_schedule; locations = is_some w }) (number b)
 corpus_fields b c d e w file inputs f are =
     let workers = at f (codes "workers") _ are ∙ corpus_workers b c d e w file inputs in
     let fill = at f (codes "fill") _ are ∙ corpus_fill b c d e w file inputs in
@@ -226,8 +234,8 @@ with_files g files rows is are =
 -- the command of `clap` takes accepted words
 pub takes_spelled : (c : CommandName) (g : Given) → Whole c g → takes_words (app_for c) (spelled c g) ≡ true
 takes_spelled Instrument g whole = let one = one_file g.files whole.enough whole.few in rw one.1 (instrument_takes one.0)
-takes_spelled Run g whole = let one = one_file g.files whole.enough whole.few in rw one.1 (run_takes (codes "run") (value_of option.Input g) _ _ _ (value_of option.Where g) one.0)
-takes_spelled Check g whole = let one = one_file g.files whole.enough whole.few in rw one.1 (run_takes (codes "check") (value_of option.Input g) _ _ _ (value_of option.Where g) one.0)
+takes_spelled Run g whole = let one = one_file g.files whole.enough whole.few in rw one.1 (run_takes (codes "run") (value_of option.Input g) _ _ _ _ (value_of option.Where g) one.0)
+takes_spelled Check g whole = let one = one_file g.files whole.enough whole.few in rw one.1 (run_takes (codes "check") (value_of option.Input g) _ _ _ _ (value_of option.Where g) one.0)
 takes_spelled Explain g whole = let one = one_file g.files whole.enough whole.few in rw one.1 (explain_takes (value_of option.Input g) _ _ (value_of option.Where g) one.0)
 takes_spelled Corpus g whole = let some = some_files g.files whole.enough whole.few in rw some.2 (corpus_takes _ _ _ _ (value_of option.Where g) some.0 some.1 some.3)
 takes_spelled Gen g whole = rw (no_files g.files whole.few) (gen_takes (value_of option.Seed g) (value_of option.Functions g) (value_of option.Run g))
@@ -249,11 +257,11 @@ fields_found Instrument g f whole are =
     ap (λ (file : Word). made.Instrument file) (ap (λ (o : Option Word). unwrap_or o []) found ∙ sym (first_of_files g one.0 one.1))
 fields_found Run g f whole are =
     let one = one_file g.files whole.enough whole.few in
-    let fields = run_fields (codes "run") (value_of option.Input g) _ _ _ (value_of option.Where g) one.0 f (with_file Run g one.0 (rows_of f) one.1 are) in
+    let fields = run_fields (codes "run") (value_of option.Input g) _ _ _ _ (value_of option.Where g) one.0 f (with_file Run g one.0 (rows_of f) one.1 are) in
     ap₂ (λ (file : Word) (o : Options). made.Run file o) (fields.1 ∙ sym (first_of_files g one.0 one.1)) fields.0
 fields_found Check g f whole are =
     let one = one_file g.files whole.enough whole.few in
-    let fields = run_fields (codes "check") (value_of option.Input g) _ _ _ (value_of option.Where g) one.0 f (with_file Check g one.0 (rows_of f) one.1 are) in
+    let fields = run_fields (codes "check") (value_of option.Input g) _ _ _ _ (value_of option.Where g) one.0 f (with_file Check g one.0 (rows_of f) one.1 are) in
     ap₂ (λ (file : Word) (o : Options). made.Check file o) (fields.1 ∙ sym (first_of_files g one.0 one.1)) fields.0
 fields_found Explain g f whole are =
     let one = one_file g.files whole.enough whole.few in
@@ -271,13 +279,16 @@ found_good : (o : OptionName) (g : Given) (v : Option Word) → All (λ p. value
 found_good o g v all is = subst (IsGood o) (sym is) (good_value o g all)
 
 run_fits : (word : Word) (g : Given) (file : Word) (f : Found) → All (λ p. value_fault (takes p.0) 0 p.1 ≡ None) g.options
-    → rows_of f ≡ matches_of (run_app word) (word ∷ (spelled_options (options_of Run) g ++ codes "--" ∷ file ∷ [])) → FitsReports (found_value f)
+    → rows_of f ≡ matches_of (run_app word) (word ∷ (spelled_options (options_of Run) g ++ codes "--" ∷ file ∷ [])) → FitsScheduled (found_value f)
 run_fits word g file f all are = record {
   run = record {
-    fill = hex_good 2048 _ (found_good option.Fill g (found_value f option.Fill) all (at f (codes "fill") _ are ∙ run_fill word (value_of option.Input g) _ _ _ (value_of option.Where g) file));
-    steps = number_good 0 1000000000 (2 ^ 64 - 1) _ (omega arith) (found_good option.Steps g (found_value f option.Steps) all (at f (codes "steps") _ are ∙ run_steps word (value_of option.Input g) _ _ _ (value_of option.Where g) file));
+    run = record {
+      fill = hex_good 2048 _ (found_good option.Fill g (found_value f option.Fill) all (at f (codes "fill") _ are ∙ run_fill word (value_of option.Input g) _ _ _ _ (value_of option.Where g) file));
+      steps = number_good 0 1000000000 (2 ^ 64 - 1) _ (omega arith) (found_good option.Steps g (found_value f option.Steps) all (at f (codes "steps") _ are ∙ run_steps word (value_of option.Input g) _ _ _ _ (value_of option.Where g) file));
+    };
+    reports = number_good 1 1000 1000 _ (omega arith) (found_good option.Reports g (found_value f option.Reports) all (at f (codes "reports") _ are ∙ run_reports word (value_of option.Input g) _ _ _ _ (value_of option.Where g) file));
   };
-  reports = number_good 1 1000 1000 _ (omega arith) (found_good option.Reports g (found_value f option.Reports) all (at f (codes "reports") _ are ∙ run_reports word (value_of option.Input g) _ _ _ (value_of option.Where g) file));
+  schedule = hex_good 2048 _ (found_good option.Schedule g (found_value f option.Schedule) all (at f (codes "schedule") _ are ∙ run_schedule word (value_of option.Input g) _ _ _ _ (value_of option.Where g) file));
 }
 
 explain_fits : (g : Given) (file : Word) (f : Found) → All (λ p. value_fault (takes p.0) 0 p.1 ≡ None) g.options

@@ -7,7 +7,7 @@ use Rattle.std.proofs.lemmas.List.Folds.{list_any-append}
 use Rattle.std.proofs.lemmas.Bool.{ltb-true}
 use Rattle.ms_words.specs.declared.names.CommandName.{CommandName}
 use Rattle.ms_words.specs.declared.names.OptionName.{OptionName}
-use Rattle.ms_words.specs.declared.names.OptionName.TheVariants.{Input, Fill, Steps, Reports, Workers, Seed, Functions, Run, Where}
+use Rattle.ms_words.specs.declared.names.OptionName.TheVariants.{Input, Fill, Steps, Reports, Schedule, Workers, Seed, Functions, Run, Where}
 use Rattle.ms_words.specs.declared.names.CommandName.TheVariants.{Instrument, Check, Explain, Corpus, Gen}
 use Rattle.ms_words.specs.declared.names.CommandName.TheVariants as name
 use Rattle.ms_words.specs.declared.reading.Next.{Next}
@@ -73,6 +73,7 @@ option_self Input = refl
 option_self Fill = refl
 option_self Steps = refl
 option_self Reports = refl
+option_self Schedule = refl
 option_self Workers = refl
 option_self Seed = refl
 option_self Functions = refl
@@ -196,8 +197,8 @@ module _ (c : CommandName) where
 -- a command has little at first
 pub first_place : (c : CommandName) → 1 + weight c AnOption nothing ≤ 2 ^ 17
 first_place Instrument = let w : weight Instrument AnOption nothing ≡ 2 = refl in omega (arith, w)
-first_place name.Run = let w : weight name.Run AnOption nothing ≡ 12 = refl in omega (arith, w)
-first_place Check = let w : weight Check AnOption nothing ≡ 12 = refl in omega (arith, w)
+first_place name.Run = let w : weight name.Run AnOption nothing ≡ 14 = refl in omega (arith, w)
+first_place Check = let w : weight Check AnOption nothing ≡ 14 = refl in omega (arith, w)
 first_place Explain = let w : weight Explain AnOption nothing ≡ 10 = refl in omega (arith, w)
 first_place Corpus = let w : weight Corpus AnOption nothing ≡ 268 = refl in omega (arith, w)
 first_place Gen = let w : weight Gen AnOption nothing ≡ 7 = refl in omega (arith, w)

@@ -18,7 +18,7 @@ use Rattle.ms_words.specs.declared.names.Takes.TheVariants.{Hex, Number}
 use Rattle.ms_words.specs.Table.{Word, takes, commands, command_word, topics}
 use Rattle.ms_words.specs.Values.{value_fault, is_hex, is_number, number, hex_bytes}
 use Rattle.ms_words.specs.Reading.{Given, nothing, same, is_given, option_eq, read_words_from}
-use Rattle.ms_words.specs.Words.{value_of, number_by, options_by, explain_options_by, corpus_options_by, command_given, command_in, command_named, asks, asked_or, command_of}
+use Rattle.ms_words.specs.Words.{value_of, number_by, options_by, explain_options_by, corpus_options_by, no_schedule, command_given, command_in, command_named, asks, asked_or, command_of}
 use Rattle.ms_words.specs.declared.reading.Next.TheVariants.{AnOption}
 use Rattle.ms_words.specs.declared.topics.Topic.{Topic}
 use Rattle.ms_words.specs.declared.topics.Topic.TheVariants as topic
@@ -27,7 +27,7 @@ use Rattle.ms_words.specs.Limits.{RunsWithinLimits, ExplainsWithinLimits, Corpus
 use Rattle.ms_words.proofs.GoodValues.{good_value, hex_tests, number_tests}
 use Rattle.ms_words.proofs.Keeping.{whole_given}
 
--- ---- fills
+-- ---- bytes
 
 decimal_small : (b : ℕ) → is_in_range 48 57 b ≡ true → digit_value b < 16
 decimal_small b is = grind (arith, is)
@@ -62,14 +62,14 @@ count_of [] = refl
 count_of (high ∷ []) = refl
 count_of (high ∷ low ∷ rest) = omega (arith, count_of rest)
 
-pub record FillFits (fill : List ℕ) : Type 0 where
-  pub some : 1 ≤ length fill
-  pub few : length fill ≤ 2048
-  pub bytes : All (λ b. b < 2 ^ 8) fill
+pub record BytesFit (bytes : List ℕ) : Type 0 where
+  pub some : 1 ≤ length bytes
+  pub few : length bytes ≤ 2048
+  pub all : All (λ b. b < 2 ^ 8) bytes
 
-fill_fits : (v : Option Word) → is_some v ≡ true → IfSome v (λ w. value_fault (Hex 2048) 0 w ≡ None) → FillFits (option_map_or hex_bytes v [])
-fill_fits None is good = absurd (true≢false (sym is))
-fill_fits (Some w) is good =
+bytes_fit : (v : Option Word) → is_some v ≡ true → IfSome v (λ w. value_fault (Hex 2048) 0 w ≡ None) → BytesFit (option_map_or hex_bytes v [])
+bytes_fit None is good = absurd (true≢false (sym is))
+bytes_fit (Some w) is good =
     let tests = hex_tests (is_hex w) (nat_lt 2048 (length w / 2)) 0 good in
     let parts = and_parts (nat_lt 0 (length w) && length w % 2 == 0) (list_all is_ascii_hexdigit w) tests.0 in
     let lengths = and_parts (nat_lt 0 (length w)) (length w % 2 == 0) parts.0 in
@@ -79,7 +79,7 @@ fill_fits (Some w) is good =
     record {
       some = omega (arith, some, even, count_of w);
       few = omega (arith, few, count_of w);
-      bytes = bytes_small w parts.1;
+      all = bytes_small w parts.1;
     }
 
 -- ---- numbers
@@ -107,15 +107,43 @@ found_some o (p ∷ ps) any =
 
 run_within : (g : Given) → All (λ p. value_fault (takes p.0) 0 p.1 ≡ None) g.options → RunsWithinLimits (options_by (λ o. value_of o g))
 run_within g all =
-    let fits = fill_fits (value_of option.Fill g) refl (good_value option.Fill g all) in
+    let fits = bytes_fit (value_of option.Fill g) refl (good_value option.Fill g all) in
+    let picks = bytes_fit (value_of option.Schedule g) refl (good_value option.Schedule g all) in
     let steps = number_fits 0 1000000000 (value_of option.Steps g) refl (good_value option.Steps g all) in
     let reports = number_fits 1 1000 (value_of option.Reports g) refl (good_value option.Reports g all) in
-    record { filled = fits.some; fill = fits.few; bytes = fits.bytes; steps = steps.1; some_reports = reports.0; reports = reports.1 }
+    record {
+      filled = fits.some;
+      fill = fits.few;
+      bytes = fits.all;
+      steps = steps.1;
+      some_reports = reports.0;
+      reports = reports.1;
+      scheduled = picks.some;
+      schedule = picks.few;
+      schedule_bytes = picks.all;
+    }
+
+-- the schedule of a command that takes none
+none_fits : BytesFit no_schedule
+none_fits = record { some = omega arith; few = omega arith; all = All-cons (λ b. b < 2 ^ 8) 0 [] (omega arith) (All-nil (λ b. b < 2 ^ 8)) }
 
 explain_within : (g : Given) → All (λ p. value_fault (takes p.0) 0 p.1 ≡ None) g.options → ExplainsWithinLimits (explain_options_by (λ o. value_of o g))
 explain_within g all =
     let runs = run_within g all in
-    record { runs = record { filled = runs.filled; fill = runs.fill; bytes = runs.bytes; steps = runs.steps; some_reports = omega arith; reports = omega arith }; one_report = refl }
+    record {
+      runs = record {
+        filled = runs.filled;
+        fill = runs.fill;
+        bytes = runs.bytes;
+        steps = runs.steps;
+        some_reports = omega arith;
+        reports = omega arith;
+        scheduled = none_fits.some;
+        schedule = none_fits.few;
+        schedule_bytes = none_fits.all;
+      };
+      one_report = refl;
+    }
 
 inputs_within : (files : List Word) → 2 ≤ length files → length files ≤ 257 → (1 ≤ length (drop 1 files)) × (length (drop 1 files) ≤ 256)
 inputs_within [] least most = absurd (omega (arith, least))
@@ -127,7 +155,17 @@ corpus_within g whole =
     let inputs = inputs_within g.files whole.enough whole.few in
     let workers = number_fits 1 8 (value_of option.Workers g) refl (good_value option.Workers g whole.values) in
     record {
-      runs = record { filled = runs.filled; fill = runs.fill; bytes = runs.bytes; steps = runs.steps; some_reports = runs.some_reports; reports = runs.reports };
+      runs = record {
+        filled = runs.filled;
+        fill = runs.fill;
+        bytes = runs.bytes;
+        steps = runs.steps;
+        some_reports = runs.some_reports;
+        reports = runs.reports;
+        scheduled = none_fits.some;
+        schedule = none_fits.few;
+        schedule_bytes = none_fits.all;
+      };
       some_inputs = inputs.0;
       few_inputs = inputs.1;
       some_workers = workers.0;

@@ -49,6 +49,10 @@ pub record FitsReports (value : OptionName → Option Word) : Type 0 where
   pub run : FitsRun value
   pub reports : IsNumber 1000 (value option.Reports)
 
+pub record FitsScheduled (value : OptionName → Option Word) : Type 0 where
+  pub run : FitsReports value
+  pub schedule : IsHex (value option.Schedule)
+
 pub record FitsCorpus (value : OptionName → Option Word) : Type 0 where
   pub run : FitsReports value
   pub workers : IsNumber 8 (value option.Workers)
@@ -59,8 +63,8 @@ pub record FitsGen (value : OptionName → Option Word) : Type 0 where
 
 abbrev pub Fits : CommandName → (OptionName → Option Word) → Type 0
 Fits Instrument value = ⊤
-Fits Run value = FitsReports value
-Fits Check value = FitsReports value
+Fits Run value = FitsScheduled value
+Fits Check value = FitsScheduled value
 Fits Explain value = FitsRun value
 Fits Corpus value = FitsCorpus value
 Fits Gen value = FitsGen value

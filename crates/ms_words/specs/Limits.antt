@@ -5,7 +5,7 @@ use Rattle.ms_words.specs.declared.commands.Command.TheVariants.{Instrument, Run
 use Rattle.ms_words.specs.declared.commands.Options.{Options}
 use Rattle.ms_words.specs.Table.{Word}
 
--- a fill of 1 to 2048 bytes, at most a thousand million steps, and a limit of 1 to 1000 reports
+-- a fill of 1 to 2048 bytes, at most a thousand million steps, a limit of 1 to 1000 reports, and a schedule of 1 to 2048 bytes
 pub record RunsWithinLimits (o : Options) : Type 0 where
   pub filled : 1 ≤ length o.fill
   pub fill : length o.fill ≤ 2048
@@ -13,6 +13,9 @@ pub record RunsWithinLimits (o : Options) : Type 0 where
   pub steps : o.steps ≤ 1000000000
   pub some_reports : 1 ≤ o.reports
   pub reports : o.reports ≤ 1000
+  pub scheduled : 1 ≤ length o.schedule
+  pub schedule : length o.schedule ≤ 2048
+  pub schedule_bytes : All (λ b. b < 2 ^ 8) o.schedule
 
 -- the same with a limit of one report
 pub record ExplainsWithinLimits (o : Options) : Type 0 where

@@ -28,7 +28,7 @@ command_word Gen = codes "gen"
 
 -- the options, in the order of the usage
 abbrev pub options : List OptionName
-options = option.Input ∷ option.Fill ∷ option.Steps ∷ option.Reports ∷ option.Workers ∷ option.Seed ∷ option.Functions ∷ option.Run ∷ option.Where ∷ []
+options = option.Input ∷ option.Fill ∷ option.Steps ∷ option.Reports ∷ option.Schedule ∷ option.Workers ∷ option.Seed ∷ option.Functions ∷ option.Run ∷ option.Where ∷ []
 
 -- the word that names an option, after two dashes
 abbrev pub option_word : OptionName → Word
@@ -36,6 +36,7 @@ option_word option.Input = codes "input"
 option_word option.Fill = codes "fill"
 option_word option.Steps = codes "steps"
 option_word option.Reports = codes "reports"
+option_word option.Schedule = codes "schedule"
 option_word option.Workers = codes "workers"
 option_word option.Seed = codes "seed"
 option_word option.Functions = codes "functions"
@@ -48,6 +49,7 @@ takes option.Input = Anything
 takes option.Fill = Hex 2048
 takes option.Steps = Number 0 1000000000
 takes option.Reports = Number 1 1000
+takes option.Schedule = Hex 2048
 takes option.Workers = Number 1 8
 takes option.Seed = Number 0 (2 ^ 64 - 1)
 takes option.Functions = Number 1 1000
@@ -59,14 +61,15 @@ abbrev pub default_of : OptionName → Option Word
 default_of option.Fill = Some (codes "a5")
 default_of option.Steps = Some (codes "10000000")
 default_of option.Reports = Some (codes "1")
+default_of option.Schedule = Some (codes "00")
 default_of option.Workers = Some (codes "2")
 default_of _ = None
 
 -- the options that a command may have
 abbrev pub options_of : CommandName → List OptionName
 options_of Instrument = []
-options_of Run = option.Input ∷ option.Fill ∷ option.Steps ∷ option.Reports ∷ option.Where ∷ []
-options_of Check = option.Input ∷ option.Fill ∷ option.Steps ∷ option.Reports ∷ option.Where ∷ []
+options_of Run = option.Input ∷ option.Fill ∷ option.Steps ∷ option.Reports ∷ option.Schedule ∷ option.Where ∷ []
+options_of Check = option.Input ∷ option.Fill ∷ option.Steps ∷ option.Reports ∷ option.Schedule ∷ option.Where ∷ []
 options_of Explain = option.Input ∷ option.Fill ∷ option.Steps ∷ option.Where ∷ []
 options_of Corpus = option.Workers ∷ option.Fill ∷ option.Steps ∷ option.Reports ∷ option.Where ∷ []
 options_of Gen = option.Seed ∷ option.Functions ∷ option.Run ∷ []

@@ -27,6 +27,7 @@ about_option option.Input = codes "file with the bytes of standard input, which 
 about_option option.Fill = codes "bytes of uninitialised memory, two digits each"
 about_option option.Steps = codes "greatest number of steps of a run"
 about_option option.Reports = codes "number of reports at which a run ends"
+about_option option.Schedule = codes "bytes that pick the threads that go on, two digits each"
 about_option option.Workers = codes "inputs that are run at once"
 about_option option.Seed = codes "number that the module is made from"
 about_option option.Functions = codes "number of functions beside main"
@@ -66,9 +67,9 @@ default_text (Some value) = codes ", default " ++ value
 abbrev pub option_form : OptionName → Word
 option_form o = codes "--" ++ option_word o ++ value_name (takes o)
 
--- the second column begins after spaces up to the 17th byte
+-- the second column begins after spaces up to the 18th byte
 abbrev pub up_to_column : ℕ → Word
-up_to_column n = drop n (codes "               ")
+up_to_column n = drop n (codes "                ")
 
 abbrev pub first_column : OptionName → Word
 first_column o = option_form o ++ up_to_column (length (option_form o))

@@ -36,18 +36,23 @@ options_by value = record {
   fill = option_map_or hex_bytes (value option.Fill) [];
   steps = number_by (value option.Steps);
   reports = number_by (value option.Reports);
+  schedule = option_map_or hex_bytes (value option.Schedule) [];
   locations = is_some (value option.Where);
 }
 
+-- the schedule of a command that takes none: it runs no module with threads
+abbrev pub no_schedule : List ℕ
+no_schedule = 0 ∷ []
+
 -- what is explained is the first report
 abbrev pub explain_options_by : (OptionName → Option Word) → Options
-explain_options_by value = record (options_by value) { reports = 1 }
+explain_options_by value = record (options_by value) { reports = 1; schedule = no_schedule }
 
 -- the options of a corpus have no input, since each of its runs has its own
 abbrev pub corpus_options_by : (OptionName → Option Word) → Options
-corpus_options_by value = record (options_by value) { input = None }
+corpus_options_by value = record (options_by value) { input = None; schedule = no_schedule }
 
--- what is given where no option is: no input, the fill a5, ten million steps, one report, and no locations
+-- what is given where no option is: no input, the fill a5, ten million steps, one report, the schedule 00, and no locations
 abbrev pub defaults : Options
 defaults = options_by (λ o. value_of o nothing)
 

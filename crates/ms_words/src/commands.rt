@@ -17,6 +17,8 @@ pub struct Options {
     pub steps: u64,
     /// The number of reports at which the run ends, 1 to 1000.
     pub reports: u32,
+    /// The bytes that pick the thread that goes on where more than one could, 1 to 2048 of them: pick k takes byte k, over and over.
+    pub schedule: Bytes,
     /// Whether each line that names a site is followed by where it stands.
     pub locations: bool,
 }

@@ -74,6 +74,24 @@ pub fn words_with_locations()
     ensures of_gen { command_of (codes "gen" ∷ codes "--where" ∷ []) ≡ Err (UnknownOption 1) }
 {}
 
+/// The option with the bytes that pick threads.
+pub fn words_with_a_schedule()
+    ensures of_run { command_of (codes "run" ∷ codes "--schedule" ∷ codes "0001fF" ∷ codes "f" ∷ []) ≡ Ok (Run (codes "f") (record defaults { schedule = 0 ∷ 1 ∷ 255 ∷ [] })) }
+    ensures of_check { command_of (codes "check" ∷ codes "--schedule=01" ∷ codes "--fill" ∷ codes "00" ∷ codes "f" ∷ []) ≡ Ok (Check (codes "f") (record defaults { fill = 0 ∷ []; schedule = 1 ∷ [] })) }
+    ensures not_given { command_of (codes "check" ∷ codes "f" ∷ []) ≡ Ok (Check (codes "f") (record defaults { schedule = 0 ∷ [] })) }
+    ensures most_bytes { command_of (codes "run" ∷ codes "--schedule" ∷ replicate 4096 48 ∷ codes "f" ∷ []) ≡ Ok (Run (codes "f") (record defaults { schedule = replicate 2048 0 })) }
+    ensures too_many_bytes { command_of (codes "run" ∷ codes "--schedule" ∷ replicate 4098 48 ∷ codes "f" ∷ []) ≡ Err (OutOfRange 2) }
+    ensures empty { command_of (codes "run" ∷ codes "--schedule=" ∷ codes "f" ∷ []) ≡ Err (BadHex 1) }
+    ensures odd_digits { command_of (codes "check" ∷ codes "--schedule" ∷ codes "012" ∷ codes "f" ∷ []) ≡ Err (BadHex 2) }
+    ensures no_digits { command_of (codes "check" ∷ codes "--schedule" ∷ codes "0x" ∷ codes "f" ∷ []) ≡ Err (BadHex 2) }
+    ensures twice { command_of (codes "check" ∷ codes "--schedule=00" ∷ codes "--schedule=01" ∷ codes "f" ∷ []) ≡ Err (Repeated 2) }
+    ensures no_value { command_of (codes "run" ∷ codes "--schedule" ∷ []) ≡ Err (MissingValue 2) }
+    ensures of_explain { command_of (codes "explain" ∷ codes "--schedule" ∷ codes "00" ∷ codes "f" ∷ []) ≡ Err (UnknownOption 1) }
+    ensures of_corpus { command_of (codes "corpus" ∷ codes "--schedule=00" ∷ codes "f" ∷ codes "a" ∷ []) ≡ Err (UnknownOption 1) }
+    ensures of_instrument { command_of (codes "instrument" ∷ codes "--schedule=00" ∷ codes "f" ∷ []) ≡ Err (UnknownOption 1) }
+    ensures of_gen { command_of (codes "gen" ∷ codes "--schedule=00" ∷ []) ≡ Err (UnknownOption 1) }
+{}
+
 /// Where the options end.
 pub fn end_of_options()
     ensures one_dash_is_a_file { command_of (codes "run" ∷ codes "-" ∷ []) ≡ Ok (Run (codes "-") defaults) }
@@ -138,8 +156,8 @@ pub fn questions()
 /// The lines of commands in the usage.
 pub fn lines_of_commands()
     ensures instrument { synopsis name.Instrument ≡ codes "  msan instrument FILE\n" }
-    ensures run { synopsis name.Run ≡ codes "  msan run [--input FILE] [--fill HEX] [--steps N] [--reports N] [--where] FILE\n" }
-    ensures check { synopsis name.Check ≡ codes "  msan check [--input FILE] [--fill HEX] [--steps N] [--reports N] [--where] FILE\n" }
+    ensures run { synopsis name.Run ≡ codes "  msan run [--input FILE] [--fill HEX] [--steps N] [--reports N] [--schedule HEX] [--where] FILE\n" }
+    ensures check { synopsis name.Check ≡ codes "  msan check [--input FILE] [--fill HEX] [--steps N] [--reports N] [--schedule HEX] [--where] FILE\n" }
     ensures explain { synopsis name.Explain ≡ codes "  msan explain [--input FILE] [--fill HEX] [--steps N] [--where] FILE\n" }
     ensures corpus { synopsis name.Corpus ≡ codes "  msan corpus [--workers N] [--fill HEX] [--steps N] [--reports N] [--where] FILE INPUT...\n" }
     ensures inputs { command_about name.Corpus ≡ codes "      check the module in FILE with each INPUT as its standard input: " ++ decimal 1 ++ codes " to " ++ decimal 256 ++ codes " inputs\n" }
@@ -150,13 +168,14 @@ pub fn lines_of_commands()
 
 /// The lines of options in the usage.
 pub fn lines_of_options()
-    ensures input { option_line option.Input ≡ codes "  --input FILE   file with the bytes of standard input, which is empty without it\n" }
-    ensures fill { option_line option.Fill ≡ codes "  --fill HEX     bytes of uninitialised memory, two digits each: 1 to " ++ decimal 2048 ++ codes " bytes, default a5\n" }
-    ensures steps { option_line option.Steps ≡ codes "  --steps N      greatest number of steps of a run: " ++ decimal 0 ++ codes " to " ++ decimal 1000000000 ++ codes ", default 10000000\n" }
-    ensures reports { option_line option.Reports ≡ codes "  --reports N    number of reports at which a run ends: " ++ decimal 1 ++ codes " to " ++ decimal 1000 ++ codes ", default 1\n" }
-    ensures workers { option_line option.Workers ≡ codes "  --workers N    inputs that are run at once: " ++ decimal 1 ++ codes " to " ++ decimal 8 ++ codes ", default 2\n" }
-    ensures seed { option_line option.Seed ≡ codes "  --seed N       number that the module is made from: " ++ decimal 0 ++ codes " to " ++ decimal 18446744073709551615 ++ codes "\n" }
-    ensures functions { option_line option.Functions ≡ codes "  --functions N  number of functions beside main: " ++ decimal 1 ++ codes " to " ++ decimal 1000 ++ codes "\n" }
-    ensures runs { option_line option.Run ≡ codes "  --run          check the module instead of writing it\n" }
-    ensures locations { option_line option.Where ≡ codes "  --where        below each line that names a site, print where it stands in FILE and in the source\n" }
+    ensures input { option_line option.Input ≡ codes "  --input FILE    file with the bytes of standard input, which is empty without it\n" }
+    ensures fill { option_line option.Fill ≡ codes "  --fill HEX      bytes of uninitialised memory, two digits each: 1 to " ++ decimal 2048 ++ codes " bytes, default a5\n" }
+    ensures steps { option_line option.Steps ≡ codes "  --steps N       greatest number of steps of a run: " ++ decimal 0 ++ codes " to " ++ decimal 1000000000 ++ codes ", default 10000000\n" }
+    ensures reports { option_line option.Reports ≡ codes "  --reports N     number of reports at which a run ends: " ++ decimal 1 ++ codes " to " ++ decimal 1000 ++ codes ", default 1\n" }
+    ensures schedule { option_line option.Schedule ≡ codes "  --schedule HEX  bytes that pick the threads that go on, two digits each: 1 to " ++ decimal 2048 ++ codes " bytes, default 00\n" }
+    ensures workers { option_line option.Workers ≡ codes "  --workers N     inputs that are run at once: " ++ decimal 1 ++ codes " to " ++ decimal 8 ++ codes ", default 2\n" }
+    ensures seed { option_line option.Seed ≡ codes "  --seed N        number that the module is made from: " ++ decimal 0 ++ codes " to " ++ decimal 18446744073709551615 ++ codes "\n" }
+    ensures functions { option_line option.Functions ≡ codes "  --functions N   number of functions beside main: " ++ decimal 1 ++ codes " to " ++ decimal 1000 ++ codes "\n" }
+    ensures runs { option_line option.Run ≡ codes "  --run           check the module instead of writing it\n" }
+    ensures locations { option_line option.Where ≡ codes "  --where         below each line that names a site, print where it stands in FILE and in the source\n" }
 {}

@@ -4,8 +4,8 @@ ghost use Rattle.std.specs.Option.{option_map_or};
 ghost use Rattle.clap.specs.Words.{found_of, first_value};
 ghost use Rattle.ms_words.specs.Table.{option_word};
 ghost use Rattle.ms_words.specs.Values.{hex_bytes as hex_bytes_of};
-ghost use Rattle.ms_words.specs.Words.{number_by, options_by, command_by};
-ghost use Rattle.ms_words.specs.Fields.{IsNumber, IsHex, FitsRun, FitsReports, FitsCorpus, FitsGen, Fits, found_value, found_file, found_inputs, is_set as is_set_of};
+ghost use Rattle.ms_words.specs.Words.{number_by, options_by, explain_options_by, corpus_options_by, command_by, no_schedule as no_schedule_of};
+ghost use Rattle.ms_words.specs.Fields.{IsNumber, IsHex, FitsRun, FitsReports, FitsScheduled, FitsCorpus, FitsGen, Fits, found_value, found_file, found_inputs, is_set as is_set_of};
 
 use crate::commands::{Command, Options};
 use crate::names::{CommandName, OptionName};
@@ -103,15 +103,23 @@ fn inputs_in(alloc: Global, found: &ArgMatches) -> Result<List<Text>, NoMemory>
     }
 }
 
-/// The options of a run with this input and this limit of reports, by what was found.
+/// The schedule of a command that takes none.
+fn no_schedule(alloc: Global) -> Result<Bytes, NoMemory>
+    ensures { IfOk result (λ b. b ≡ no_schedule_of) }
+{
+    Ok(Bytes::from_vec(vec![in alloc; 0u8]?))
+}
+
+/// The options of a run with this input, this limit of reports and this schedule, by what was found.
 fn options_with(
     alloc: Global,
     found: &ArgMatches,
     input: Option<Text>,
     reports: u32,
+    schedule: Bytes,
 ) -> Result<Options, NoMemory>
     requires { FitsRun (found_value (found_of found.now)) }
-    ensures { IfOk result (λ o. o ≡ record (options_by (found_value (found_of found.now))) { input = input; reports = reports }) }
+    ensures { IfOk result (λ o. o ≡ record (options_by (found_value (found_of found.now))) { input = input; reports = reports; schedule = schedule }) }
 {
     let fill = bytes_in(alloc, found, OptionName::Fill)?;
     Ok(Options {
@@ -119,17 +127,23 @@ fn options_with(
         fill,
         steps: number_in(found, OptionName::Steps),
         reports,
+        schedule,
         locations: is_set(found, OptionName::Where),
     })
 }
 
-/// The options of a run with this limit of reports, by what was found.
-fn options_in(alloc: Global, found: &ArgMatches, reports: u32) -> Result<Options, NoMemory>
+/// The options of a run with this limit of reports and this schedule, by what was found.
+fn options_in(
+    alloc: Global,
+    found: &ArgMatches,
+    reports: u32,
+    schedule: Bytes,
+) -> Result<Options, NoMemory>
     requires { FitsRun (found_value (found_of found.now)) }
-    ensures { IfOk result (λ o. o ≡ record (options_by (found_value (found_of found.now))) { reports = reports }) }
+    ensures { IfOk result (λ o. o ≡ record (options_by (found_value (found_of found.now))) { reports = reports; schedule = schedule }) }
 {
     let input = text_in(alloc, found, OptionName::Input)?;
-    options_with(alloc, found, input, reports)
+    options_with(alloc, found, input, reports, schedule)
 }
 
 /// The limit of reports that was found.
@@ -140,18 +154,46 @@ fn reports_in(found: &ArgMatches) -> u32
     small_number_in(found, OptionName::Reports)
 }
 
-/// The file and the options of a run with this limit of reports, by what was found.
+/// The file with the options of a run with this limit of reports and this schedule, by what was found.
 fn file_and_options(
     alloc: Global,
     found: &ArgMatches,
     reports: u32,
+    schedule: Bytes,
 ) -> Result<(Text, Options), NoMemory>
     requires { FitsRun (found_value (found_of found.now)) }
-    ensures { IfOk result (λ r. r ≡ (found_file (found_of found.now), record (options_by (found_value (found_of found.now))) { reports = reports })) }
+    ensures { IfOk result (λ r. r ≡ (found_file (found_of found.now), record (options_by (found_value (found_of found.now))) { reports = reports; schedule = schedule })) }
 {
+    let options = options_in(alloc, found, reports, schedule)?;
     let file = file_in(alloc, found)?;
-    let options = options_in(alloc, found, reports)?;
     Ok((file, options))
+}
+
+/// The file and the options of a run, by what was found.
+fn run_in(alloc: Global, found: &ArgMatches) -> Result<(Text, Options), NoMemory>
+    requires { FitsScheduled (found_value (found_of found.now)) }
+    ensures { IfOk result (λ r. r ≡ (found_file (found_of found.now), options_by (found_value (found_of found.now)))) }
+{
+    let schedule = bytes_in(alloc, found, OptionName::Schedule)?;
+    file_and_options(alloc, found, reports_in(found), schedule)
+}
+
+/// The file and the options of a run to be explained, by what was found.
+fn explained_in(alloc: Global, found: &ArgMatches) -> Result<(Text, Options), NoMemory>
+    requires { FitsRun (found_value (found_of found.now)) }
+    ensures { IfOk result (λ r. r ≡ (found_file (found_of found.now), explain_options_by (found_value (found_of found.now)))) }
+{
+    let schedule = no_schedule(alloc)?;
+    file_and_options(alloc, found, 1, schedule)
+}
+
+/// The options of the runs of a corpus, by what was found.
+fn corpus_options(alloc: Global, found: &ArgMatches) -> Result<Options, NoMemory>
+    requires { FitsReports (found_value (found_of found.now)) }
+    ensures { IfOk result (λ o. o ≡ corpus_options_by (found_value (found_of found.now))) }
+{
+    let schedule = no_schedule(alloc)?;
+    options_with(alloc, found, None, reports_in(found), schedule)
 }
 
 /// What runs a module on many inputs, by what was found.
@@ -161,7 +203,7 @@ fn corpus_in(alloc: Global, found: &ArgMatches) -> Result<Command, NoMemory>
 {
     let file = file_in(alloc, found)?;
     let inputs = inputs_in(alloc, found)?;
-    let options = options_with(alloc, found, None, reports_in(found))?;
+    let options = corpus_options(alloc, found)?;
     Ok(Command::Corpus {
         file,
         inputs,
@@ -197,15 +239,15 @@ pub fn command_in(
             Ok(Command::Instrument { file })
         }
         CommandName::Run => {
-            let (file, options) = file_and_options(alloc, found, reports_in(found))?;
+            let (file, options) = run_in(alloc, found)?;
             Ok(Command::Run { file, options })
         }
         CommandName::Check => {
-            let (file, options) = file_and_options(alloc, found, reports_in(found))?;
+            let (file, options) = run_in(alloc, found)?;
             Ok(Command::Check { file, options })
         }
         CommandName::Explain => {
-            let (file, options) = file_and_options(alloc, found, 1)?;
+            let (file, options) = explained_in(alloc, found)?;
             Ok(Command::Explain { file, options })
         }
         CommandName::Corpus => corpus_in(alloc, found),

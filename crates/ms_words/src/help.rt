@@ -13,7 +13,7 @@ use std::alloc::Global;
 const VERSION_LINE: &[u8] = b"msan 0.2.0\n";
 
 /// Spaces up to the second column.
-const COLUMN: &[u8] = b"               ";
+const COLUMN: &[u8] = b"                ";
 
 /// What each status of the program says.
 static STATUSES: [&str; 11] = [
@@ -62,6 +62,7 @@ impl OptionName {
             OptionName::Fill => "bytes of uninitialised memory, two digits each",
             OptionName::Steps => "greatest number of steps of a run",
             OptionName::Reports => "number of reports at which a run ends",
+            OptionName::Schedule => "bytes that pick the threads that go on, two digits each",
             OptionName::Workers => "inputs that are run at once",
             OptionName::Seed => "number that the module is made from",
             OptionName::Functions => "number of functions beside main",

@@ -22,6 +22,7 @@ pub enum OptionName {
     Fill,
     Steps,
     Reports,
+    Schedule,
     Workers,
     Seed,
     Functions,
@@ -52,11 +53,12 @@ pub static COMMANDS: [CommandName; 6] = [
 ];
 
 /// The options, in the order of the usage.
-pub static OPTIONS: [OptionName; 9] = [
+pub static OPTIONS: [OptionName; 10] = [
     OptionName::Input,
     OptionName::Fill,
     OptionName::Steps,
     OptionName::Reports,
+    OptionName::Schedule,
     OptionName::Workers,
     OptionName::Seed,
     OptionName::Functions,
@@ -66,11 +68,12 @@ pub static OPTIONS: [OptionName; 9] = [
 
 static NO_OPTIONS: [OptionName; 0] = [];
 
-static RUN_OPTIONS: [OptionName; 5] = [
+static RUN_OPTIONS: [OptionName; 6] = [
     OptionName::Input,
     OptionName::Fill,
     OptionName::Steps,
     OptionName::Reports,
+    OptionName::Schedule,
     OptionName::Where,
 ];
 
@@ -204,6 +207,7 @@ impl OptionName {
             OptionName::Fill => "fill",
             OptionName::Steps => "steps",
             OptionName::Reports => "reports",
+            OptionName::Schedule => "schedule",
             OptionName::Workers => "workers",
             OptionName::Seed => "seed",
             OptionName::Functions => "functions",
@@ -227,6 +231,7 @@ impl OptionName {
                 least: 1,
                 most: 1000,
             },
+            OptionName::Schedule => Takes::Hex { most: 2048 },
             OptionName::Workers => Takes::Number { least: 1, most: 8 },
             OptionName::Seed => Takes::Number {
                 least: 0,
@@ -249,6 +254,7 @@ impl OptionName {
             OptionName::Fill => Some("a5"),
             OptionName::Steps => Some("10000000"),
             OptionName::Reports => Some("1"),
+            OptionName::Schedule => Some("00"),
             OptionName::Workers => Some("2"),
             _ => None,
         }

@@ -22,6 +22,6 @@ returns-clause-continues c = λ u beside later before after state call runs wait
     let old = c.args.fiber.now in
     let is = state_to m p c.program.ensures c.is_valid.ensures.formed c.is_valid.ensures.valid u beside old before state runs in
     resumed_from m p c.program.ensures u later call.asked state c.resume.new.fiber after
-    (answered_on m p u beside old before state is call waiting later after fill slots c.resume.new.fiber c.args.value answer
+    (answered_on m p u beside old before state is call waiting later after fill slots c.resume.new.fiber c.resume.ensures.own c.args.value answer
     (c.resume.ensures.stands m u (waiter m p u beside old before state is call waiting) (below_it m p u beside old before state is call waiting) call c.program.ensures
     (waiter_stands m p u beside old before state is call waiting) (waits m p u beside old before state is call waiting)))

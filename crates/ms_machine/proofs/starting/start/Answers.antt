@@ -1,3 +1,4 @@
+use Rattle.std.proofs.Common.{not, eqb, reverse, sym, ap, ◌∙◌}
 use Rattle.ms_runs.specs.Plain.{plain_start}
 use Rattle.ms_runs_good.specs.GoodWorlds.{GivesBytes}
 use Rattle.ms_runs_good.proofs.Sound.{plain_sound}
@@ -16,9 +17,13 @@ returns-clause-running c =
     let bytes : GivesBytes u = record { input = c.bytes_in_range.ensures; fill = c.bytes_in_range-2.ensures } in
     record {
       bytes = bytes;
-      frames = frames_from m p c.program.ensures (frames_of c.in_ok-fiber.fiber) (plain_start m u).frames (c.in_ok-fiber.ensures m u c.program.ensures);
+      frames = frames_from m p c.program.ensures (frames_of c.in_ok-fiber.fiber) (plain_start m u).frames (c.in_ok-fiber.ensures.stands m u c.program.ensures);
       shows = c.in_ok-world.ensures.shows;
       slots = c.in_ok-world.ensures.slots;
       fill = c.in_ok-world.ensures.fill;
       sound = plain_sound m c.is_valid.ensures.formed c.is_valid.ensures.valid u bytes;
+      owns = record {
+        spawned = c.in_ok-fiber.ensures.spawned ∙ sym (ap (λ f. not (eqb f.turn 0)) c.in_ok-world.ensures.shows.fibers);
+        blocks = ap reverse c.in_ok-fiber.ensures.heap;
+      };
     }

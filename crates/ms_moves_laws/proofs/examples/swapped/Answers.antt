@@ -30,11 +30,11 @@ pub returns-clause-way : goal.returns-clause-way
 returns-clause-way c = way_is
 
 pub returns-clause-leads : goal.returns-clause-leads
-returns-clause-leads c = trail_leads swapped_moves (ordered phis_swapped defaults swapped_moves (value 3 0) moves_are) (value 3 0) (hop 0 0 ∷ hop 3 0 ∷ []) way_is
+returns-clause-leads c = trail_leads swapped_moves (ordered phis_swapped refl defaults swapped_moves (value 3 0) moves_are) (value 3 0) (hop 0 0 ∷ hop 3 0 ∷ []) way_is
 
 pub returns-clause-refused : goal.returns-clause-refused
 returns-clause-refused c h =
-    let other = leads_trail swapped_moves (ordered phis_swapped defaults swapped_moves (value 3 0) moves_are) (value 3 0) (hop 1 0 ∷ hop 2 0 ∷ hop 3 0 ∷ []) h in
+    let other = leads_trail swapped_moves (ordered phis_swapped refl defaults swapped_moves (value 3 0) moves_are) (value 3 0) (hop 1 0 ∷ hop 2 0 ∷ hop 3 0 ∷ []) h in
     let same : hop 0 0 ∷ hop 3 0 ∷ [] ≡ hop 1 0 ∷ hop 2 0 ∷ hop 3 0 ∷ [] = same_Some (hop 0 0 ∷ hop 3 0 ∷ []) (hop 1 0 ∷ hop 2 0 ∷ hop 3 0 ∷ []) (sym way_is ∙ other) in
     let apart : 0 ≡ 1 = ap first_index same in
     omega (arith, apart)

@@ -25,4 +25,4 @@ pub returns-clause-way : goal.returns-clause-way
 returns-clause-way c = way_is
 
 pub returns-clause-leads : goal.returns-clause-leads
-returns-clause-leads c = trail_leads unset_moves (ordered branch_on_unset defaults unset_moves (value 3 0) moves_are) (value 3 0) (hop 0 0 ∷ hop 1 0 ∷ hop 2 0 ∷ []) way_is
+returns-clause-leads c = trail_leads unset_moves (ordered branch_on_unset refl defaults unset_moves (value 3 0) moves_are) (value 3 0) (hop 0 0 ∷ hop 1 0 ∷ hop 2 0 ∷ []) way_is

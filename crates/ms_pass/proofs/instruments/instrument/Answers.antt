@@ -1,5 +1,6 @@
-use Rattle.std.proofs.Common.{◌≡◌, sym, ap, subst, ◌∙◌}
+use Rattle.std.proofs.Common.{◌≡◌, false, sym, ap, subst, ◌∙◌}
 use Rattle.ms_ir.specs.declared.syntax.Module.{Module}
+use Rattle.ms_ir.specs.ThreadCalls.{is_threaded}
 use Rattle.ms_ir.specs.Code.{strip}
 use Rattle.ms_runs.specs.declared.runs.Setup.{Setup}
 use Rattle.ms_runs.specs.Faithful.{Fair, Faithful, Undisturbed}
@@ -23,12 +24,12 @@ returns g c =
       checks = under_ok c.of_valid.result made (λ j. ChecksUnclean m j) (λ j same. subst (λ (x : Module). ChecksUnclean m x) (sym same) given.checks) c.of_valid.ensures;
       faithful = under_ok c.of_valid.result made (λ j. Faithful m j) (λ j same. subst (λ (x : Module). Faithful m x) (sym same) given.faithful) c.of_valid.ensures;
       stripped = under_ok c.of_valid.result made (λ j. strip j ≡ m) (λ j same. ap strip same ∙ given.stripped) c.of_valid.ensures;
-      under_fills = under_ok c.of_valid.result made (λ j. (setup : Setup) → Fair setup → InsertedUnderFills j setup)
-          (λ j same. subst (λ (x : Module). (setup : Setup) → Fair setup → InsertedUnderFills x setup) (sym same) given.under_fills) c.of_valid.ensures;
-      holds = under_ok c.of_valid.result made (λ j. (setup : Setup) → Fair setup → HoldsUnderFills m setup (plain j setup))
-          (λ j same. subst (λ (x : Module). (setup : Setup) → Fair setup → HoldsUnderFills m setup (plain x setup)) (sym same) given.holds) c.of_valid.ensures;
-      choices = under_ok c.of_valid.result made (λ j. (setup : Setup) → Fair setup → HoldsUnderChoices m setup (plain j setup))
-          (λ j same. subst (λ (x : Module). (setup : Setup) → Fair setup → HoldsUnderChoices m setup (plain x setup)) (sym same) given.choices) c.of_valid.ensures;
+      under_fills = under_ok c.of_valid.result made (λ j. is_threaded m ≡ false → (setup : Setup) → Fair setup → InsertedUnderFills j setup)
+          (λ j same. subst (λ (x : Module). is_threaded m ≡ false → (setup : Setup) → Fair setup → InsertedUnderFills x setup) (sym same) given.under_fills) c.of_valid.ensures;
+      holds = under_ok c.of_valid.result made (λ j. is_threaded m ≡ false → (setup : Setup) → Fair setup → HoldsUnderFills m setup (plain j setup))
+          (λ j same. subst (λ (x : Module). is_threaded m ≡ false → (setup : Setup) → Fair setup → HoldsUnderFills m setup (plain x setup)) (sym same) given.holds) c.of_valid.ensures;
+      choices = under_ok c.of_valid.result made (λ j. is_threaded m ≡ false → (setup : Setup) → Fair setup → HoldsUnderChoices m setup (plain j setup))
+          (λ j same. subst (λ (x : Module). is_threaded m ≡ false → (setup : Setup) → Fair setup → HoldsUnderChoices m setup (plain x setup)) (sym same) given.choices) c.of_valid.ensures;
       undisturbed = under_ok c.of_valid.result made (λ j. (setup : Setup) → Fair setup → Undisturbed (plain j setup) (plain m setup))
           (λ j same. subst (λ (x : Module). (setup : Setup) → Fair setup → Undisturbed (plain x setup) (plain m setup)) (sym same) given.undisturbed) c.of_valid.ensures;
       pieces = under_ok c.of_valid.result made (λ j. IsMadeOf m j) (λ j same. subst (λ (x : Module). IsMadeOf m x) (sym same) given.pieces) c.of_valid.ensures;

@@ -57,9 +57,9 @@ returns g c =
       stripped = ap strip is ∙ strip_pass (eliding (is_in set) m) m (module_strips m c.requires);
       formed = subst Formed (sym is) both.0;
       valid = subst Valid (sym is) both.1;
-      under_fills = λ setup fair. inserted_fills m formed valid j runs setup fair;
-      holds = λ setup fair. checked_holds m formed valid c.requires.plain.unmarked j runs setup fair;
-      choices = λ setup fair. checked_holds_chosen m formed valid c.requires.plain.unmarked j runs setup fair;
+      under_fills = λ calm setup fair. inserted_fills m formed valid calm j runs setup fair;
+      holds = λ calm setup fair. checked_holds m formed valid calm c.requires.plain.unmarked j runs setup fair;
+      choices = λ calm setup fair. checked_holds_chosen m formed valid calm c.requires.plain.unmarked j runs setup fair;
       undisturbed = λ setup fair. faithful_undisturbed m j runs setup fair;
       pieces = record { clean = set; exact = c.in_ok-values.ensures.exact; made = c.in_ok-module.ensures ∙ ap (passed_module set) c.module.ensures };
     }

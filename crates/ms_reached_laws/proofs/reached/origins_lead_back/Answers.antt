@@ -5,4 +5,4 @@ pub returns-clause-by_completions : goal.returns-clause-by_completions
 returns-clause-by_completions c = from_completions
 
 pub returns-clause-by_rules : goal.returns-clause-by_rules
-returns-clause-by_rules c = λ d keep widths m formed valid bare setup bytes. from_reached d keep widths m formed valid bare setup bytes
+returns-clause-by_rules c = λ d keep widths m formed valid calm bare setup bytes. from_reached d keep widths m formed valid calm bare setup bytes

@@ -1,13 +1,14 @@
 use Rattle.std.proofs.Common.{◌≡◌, ◌∙◌, List, [], ◌∷◌, map, ap, sym, subst, refl}
 use Rattle.std.specs.Prelude.{OnOk}
+use Rattle.ms_bits.specs.declared.operations.Pred.TheVariants as pred
 use Rattle.ms_ir.specs.declared.syntax.Ty.{Int, Ptr}
 use Rattle.ms_ir.specs.declared.syntax.Operand.TheVariants as operand
-use Rattle.ms_tasks.specs.Tasks.{Leaf, Task, msan_name}
+use Rattle.ms_tasks.specs.Tasks.{Leaf, Test, Pick, Task, msan_name}
 use Rattle.ms_tasks.specs.Environments.{tracked_at, word_of, number}
 use Rattle.ms_tasks.specs.PlaneTasks.{external_tasks}
 use Rattle.ms_rules_code.specs.Made.{with_tasks}
 use Rattle.ms_rules_code.specs.Steps.{tracked_of, result_word}
-use Rattle.ms_rules_checks.proofs.PlaneRows.{malloc_row, realloc_row, read_row, start_row, copy_rows}
+use Rattle.ms_rules_checks.proofs.PlaneRows.{malloc_row, realloc_row, read_row, create_row, join_row, start_row, copy_rows}
 use Rattle.ms_rules_checks.proofs.planes.set_external.Goals as goal
 
 pub returns-in-Malloc : goal.returns-in-Malloc
@@ -34,6 +35,24 @@ returns-in-Read c =
     let Made : List Task → Type 0 = λ l. OnOk c.call_named-in-Read.result (c.call_named-in-Read.new.code ≡ with_tasks c.args.code.now l) in
     subst Made (read_row c.args.site c.args.root c.args.saved ts r ∙ ap (λ e. external_tasks c.args.site c.args.root c.args.saved r e ts) (sym c.in-Read.is))
     (c.call_named-in-Read.ensures ((Ptr, word_of (tracked_at 1 ts)) ∷ (Int 64, result_word r) ∷ []) refl refl)
+
+pub returns-in-PthreadCreate : goal.returns-in-PthreadCreate
+returns-in-PthreadCreate c =
+    let ts = map tracked_of c.args.operands.now in
+    let r = c.args.name.now in
+    let Made : List Task → Type 0 = λ l. OnOk c.call_named-in-PthreadCreate.result (c.call_named-in-PthreadCreate.new.code ≡ with_tasks c.args.code.now l) in
+    subst Made (create_row c.args.site c.args.root c.args.saved ts r ∙ ap (λ e. external_tasks c.args.site c.args.root c.args.saved r e ts) (sym c.in-PthreadCreate.is))
+    (c.call_named-in-PthreadCreate.ensures
+    ((Ptr, word_of (tracked_at 0 ts)) ∷ (Int 64, Pick (Test pred.Eq (Int 32) (result_word r) (number 0)) (Int 64) (number 8) (number 0)) ∷ []) refl refl)
+
+pub returns-in-PthreadJoin : goal.returns-in-PthreadJoin
+returns-in-PthreadJoin c =
+    let ts = map tracked_of c.args.operands.now in
+    let r = c.args.name.now in
+    let Made : List Task → Type 0 = λ l. OnOk c.call_named-in-PthreadJoin.result (c.call_named-in-PthreadJoin.new.code ≡ with_tasks c.args.code.now l) in
+    subst Made (join_row c.args.site c.args.root c.args.saved ts r ∙ ap (λ e. external_tasks c.args.site c.args.root c.args.saved r e ts) (sym c.in-PthreadJoin.is))
+    (c.call_named-in-PthreadJoin.ensures
+    ((Ptr, word_of (tracked_at 1 ts)) ∷ (Int 64, word_of (tracked_at 0 ts)) ∷ (Int 32, result_word r) ∷ (Int 32, number c.args.site) ∷ []) refl refl)
 
 pub returns-in-LifetimeStart : goal.returns-in-LifetimeStart
 returns-in-LifetimeStart c =

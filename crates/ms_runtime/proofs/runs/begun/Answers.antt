@@ -6,10 +6,9 @@ use Rattle.ms_ir.specs.Code.{over_funcs}
 use Rattle.ms_ir.specs.Roots.{roots_of}
 use Rattle.ms_valid.specs.Formed.{Formed}
 use Rattle.ms_valid.proofs.SmallNumbers.{small_numbers}
-use Rattle.ms_runs.specs.Plain.{plain_start}
-use Rattle.ms_host.specs.State.{nothing_beside}
 use Rattle.ms_printf.specs.CallSites.{AreCallSites}
 use Rattle.ms_runtime.proofs.RootCounts.{roots_counted, few_roots, few_insts}
+use Rattle.ms_runtime.proofs.Goings.{going_begun}
 use Rattle.ms_runtime.proofs.runs.begun.Goals as goal
 
 pub roots-requires : goal.roots-requires
@@ -31,15 +30,13 @@ near steps all few little = omega (arith, mul-le-mul_right (all + 1) few, little
 pub of-requires : goal.of-requires
 of-requires c = record { small = small_numbers c.module-code.result.now (subst Formed (sym c.module-code.ensures) c.is_valid.ensures.formed) }
 
-pub returns : goal.returns
-returns c =
+pub returns-clause-begins : goal.returns-clause-begins
+returns-clause-begins c =
     let m = c.args.m.now in
     let u = c.args.setup.now in
     let formed = c.is_valid.ensures.formed in
     let limits = c.requires.limits in
     record {
-      beside = nothing_beside;
-      state = plain_start m u;
       stands = c.in_ok-fiber.ensures.running;
       told = record { pairs = sym c.new.ensures.pairs; reports = sym (c.from_vec-2.ensures ∙ c.new-3.ensures.items); blind = refl };
       keeping = record {
@@ -50,5 +47,8 @@ returns c =
             omega (arith, near u.steps (over_funcs (λ inst. 1) m.funcs) limits.steps (few_insts m formed), at);
         printf = subst (λ (x : Module). AreCallSites x c.in_ok-printf.printf.calls) c.module-code.ensures c.in_ok-printf.ensures;
       };
-      same = refl;
+      budget = refl;
     }
+
+pub returns-clause-going : goal.returns-clause-going
+returns-clause-going c = λ calm. going_begun c.args.m.now c.args.setup.now calm _ (returns-clause-begins c)

@@ -1,5 +1,6 @@
 use Rattle.std.proofs.Common.{Option, refl, subst}
 use Rattle.ms_runs.specs.declared.runs.End.{End}
+use Rattle.ms_runs.specs.Plain.{plain}
 use Rattle.ms_runtime.specs.Going.{Turned, ahead}
 use Rattle.ms_runtime.proofs.runs.run.Goals as goal
 
@@ -8,7 +9,7 @@ returns-in-Some c =
     let m = c.args.m.now in
     let u = c.args.setup.now in
     let running = c.loop-running.running in
-    c.into_result.ensures m u
+    c.into_result.ensures (plain m u)
     (subst (λ (o : Option End). Turned m u (ahead m running) o c.turn.new.self) c.in-Some.is (c.in_ok-end.ensures.turned u refl c.loop-running.invariant))
 
 pub loop-running-smaller : goal.loop-running-smaller

@@ -10,7 +10,7 @@ pub returns-in-Check : goal.returns-in-Check
 returns-in-Check g c =
     on_ok c.answer_of_check.result
     (λ a is. check_valid g.P.Pass.gives (g.L.SiteLines.lines c.args.under.now) c.args.command.now _ _ c.args.inputs.now c.args.m.now a c.in-Check.is
-    (subst (λ input. IsAnswerOfCheck g.P.Pass.gives (g.L.SiteLines.lines c.args.under.now) (setup_of c.in-Check.options input) c.args.m.now a) c.only_input-in-Check.ensures is))
+    (subst (λ input. IsAnswerOfCheck g.P.Pass.gives (g.L.SiteLines.lines c.args.under.now) (setup_of c.in-Check.options input) c.in-Check.options.schedule c.args.m.now a) c.only_input-in-Check.ensures is))
     c.answer_of_check.ensures
 
 pub returns-in-Explain : goal.returns-in-Explain

@@ -1,19 +1,18 @@
-use Rattle.std.proofs.Common.{◌≡◌, ℕ, List, [], refl, ap, ◌∙◌}
-use Rattle.ms_top.specs.Command.{setup_of}
-use Rattle.ms_top.specs.Said.{answer_of_results}
-use Rattle.ms_top.proofs.Answering.{corpus_answer}
+use Rattle.std.proofs.Common.{sym}
+use Rattle.ms_top.specs.declared.answers.Answer.{Answer}
+use Rattle.ms_top.specs.Said.{AreSections}
+use Rattle.ms_top.proofs.Answering.{threads_refused, alone_answered}
 use Rattle.ms_top.proofs.Ok.{on_ok}
 use Rattle.ms_top.proofs.corpus.answer_of_corpus.Goals as goal
 
-pub returns : goal.returns
-returns g c =
-    let under : ℕ → List ℕ = g.L.SiteLines.lines c.args.under.now in
-    let m = c.module.result.now in
+pub returns-then-has_threads : goal.returns-then-has_threads
+returns-then-has_threads g c =
     let jobs = c.args.jobs.now in
-    let options = c.args.options.now in
-    let results = c.in_ok-results.results in
-    on_ok c.answer_of_runs.result
-    (λ a (is : a ≡ answer_of_results under m jobs.names.now c.as_slice.result.now).
-    corpus_answer g.P.Pass.gives under c.args.m.now m jobs.names.now options (setup_of options []) jobs.inputs.now results a c.module.ensures refl c.in_ok-results.ensures
-    (is ∙ ap (answer_of_results under m jobs.names.now) c.as_slice.ensures))
-    c.answer_of_runs.ensures
+    let Is : Answer → Type 0 = λ a. AreSections g.P.Pass.gives (g.L.SiteLines.lines c.args.under.now) jobs.names.now c.args.options.now jobs.inputs.now c.args.m.now a in
+    on_ok c.refused_threads.result (λ a is. threads_refused c.args.m.now a (Is a) (sym c.if-has_threads.ensures) is) c.refused_threads.ensures
+
+pub returns-else-has_threads : goal.returns-else-has_threads
+returns-else-has_threads g c =
+    let jobs = c.args.jobs.now in
+    let Is : Answer → Type 0 = λ a. AreSections g.P.Pass.gives (g.L.SiteLines.lines c.args.under.now) jobs.names.now c.args.options.now jobs.inputs.now c.args.m.now a in
+    on_ok c.answer_of_jobs.result (λ a is. alone_answered c.args.m.now a (Is a) (sym c.if-has_threads.ensures) is) c.answer_of_jobs.ensures

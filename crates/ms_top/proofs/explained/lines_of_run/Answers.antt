@@ -3,7 +3,7 @@ use Rattle.ms_top.proofs.Ok.{on_ok}
 use Rattle.ms_top.proofs.explained.lines_of_run.Goals as goal
 
 pub lines_of_trace-requires-clause-leads : goal.lines_of_trace-requires-clause-leads
-lines_of_trace-requires-clause-leads g c = can_lead c.args.m.now c.args.setup.now c.in_ok-found.found c.in_ok-found.ensures
+lines_of_trace-requires-clause-leads g c = can_lead c.args.m.now c.requires.alone c.args.setup.now c.in_ok-found.found c.in_ok-found.ensures
 
 pub returns : goal.returns
 returns g c =

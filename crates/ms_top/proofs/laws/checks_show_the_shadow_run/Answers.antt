@@ -1,4 +1,5 @@
 use Rattle.ms_top.proofs.Faithful.{shadow_answer, corpus_shown, corpus_holds, summary_shown, under_fills, fair_default, fair_options}
+use Rattle.ms_top.proofs.GeneratedRuns.{generated_shown}
 use Rattle.ms_top.proofs.laws.checks_show_the_shadow_run.Goals as goal
 
 pub returns-clause-shadow : goal.returns-clause-shadow
@@ -15,6 +16,9 @@ returns-clause-sections_under_fills c = corpus_holds
 
 pub returns-clause-summary : goal.returns-clause-summary
 returns-clause-summary c = summary_shown
+
+pub returns-clause-generated : goal.returns-clause-generated
+returns-clause-generated c = generated_shown
 
 pub returns-clause-fair : goal.returns-clause-fair
 returns-clause-fair c = fair_options

@@ -1,4 +1,4 @@
-use Rattle.ms_top.proofs.Answered.{text_answered, words_answered, generated_answered, valid_done}
+use Rattle.ms_top.proofs.Answered.{text_answered, words_answered, generated_answered, valid_done, corpus_refused}
 use Rattle.ms_top.proofs.laws.valid_modules_are_answered.Goals as goal
 
 pub returns-clause-text : goal.returns-clause-text
@@ -12,3 +12,6 @@ returns-clause-generated c = generated_answered
 
 pub returns-clause-status : goal.returns-clause-status
 returns-clause-status c = valid_done
+
+pub returns-clause-threads : goal.returns-clause-threads
+returns-clause-threads c = corpus_refused

@@ -8,12 +8,14 @@ use Rattle.ms_valid.proofs.SmallNumbers.{small_numbers}
 use Rattle.ms_runs.specs.Externals.{formatted, prints}
 use Rattle.ms_runs.specs.Plain.{setting_of}
 use Rattle.ms_host.specs.Answers.{Answered, effect_asked}
+use Rattle.ms_host.specs.State.{nothing_beside}
 use Rattle.ms_host.specs.declared.calls.Asked.{Asked}
 use Rattle.ms_host.specs.declared.calls.Asked.TheVariants as asked
 use Rattle.ms_printf.specs.CallSites.{AreCallSites}
 use Rattle.ms_machine_steps.specs.Waiting.{types_due}
 use Rattle.ms_machine_steps.proofs.Asking.{are_arguments}
-use Rattle.ms_runtime.proofs.Fitting.{if_ok, fits_first, at_call}
+use Rattle.ms_runtime.specs.Served.{CanAnswer}
+use Rattle.ms_runtime.proofs.Fitting.{if_ok, alone, fits_first, at_call}
 use Rattle.ms_trail.proofs.outside.answered.Goals as goal
 
 pub answer_printf-requires : goal.answer_printf-requires
@@ -21,6 +23,10 @@ answer_printf-requires c = record {
   small = small_numbers c.«module».result.now (subst Formed (sym c.«module».ensures) c.is_valid.ensures.formed);
   sites = subst (λ (m : Module). AreCallSites m c.args.printf.now.calls) (sym c.«module».ensures) c.requires.sites;
 }
+
+pub answer-requires-clause-external : goal.answer-requires-clause-external
+answer-requires-clause-external c =
+    alone c.args.call.now.asked nothing_beside c.args.external c.requires.asked (subst (λ (x : Asked). CanAnswer x nothing_beside) (sym c.requires.asked) c.requires.alone) (λ e. c.in_default.not-Printf e)
 
 pub answer-requires-clause-first : goal.answer-requires-clause-first
 answer-requires-clause-first c =

@@ -212,4 +212,4 @@ returns-in_default-clause-shaded c = λ beside meant before ps moves words masks
     let call = c.args.call.now in
     let row = c.args.row in
     default_done beside c.args.stamp.event c.args.stamp.site _ ps (sources c.args.number (operands row.inst.now.op) row.roots) before call.given meant moves c.args.world.now c.args.log.now call.external c.in_default.not-Malloc c.in_default.not-Realloc
-    c.in_default.not-Memcpy c.in_default.not-Memmove c.in_default.not-LlvmMemcpy c.in_default.not-LlvmMemmove c.in_default.not-Memset c.in_default.not-LlvmMemset c.in_default.not-Read c.in_default.not-LifetimeStart shows is
+    c.in_default.not-Memcpy c.in_default.not-Memmove c.in_default.not-LlvmMemcpy c.in_default.not-LlvmMemmove c.in_default.not-Memset c.in_default.not-LlvmMemset c.in_default.not-Read c.in_default.not-LifetimeStart c.requires.alone shows is

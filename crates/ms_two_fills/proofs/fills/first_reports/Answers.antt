@@ -5,7 +5,7 @@ pub returns-clause-first : goal.returns-clause-first
 returns-clause-first c = first_of
 
 pub returns-clause-clean : goal.returns-clause-clean
-returns-clause-clean c = λ m formed valid bare setup bytes quiet. clean_shown m formed valid bare setup bytes quiet
+returns-clause-clean c = λ m formed valid calm bare setup bytes quiet. clean_shown m formed valid calm bare setup bytes quiet
 
 pub returns-clause-reported : goal.returns-clause-reported
-returns-clause-reported c = λ m formed valid bare setup bytes quiet. first_reported m formed valid bare setup bytes quiet
+returns-clause-reported c = λ m formed valid calm bare setup bytes quiet. first_reported m formed valid calm bare setup bytes quiet

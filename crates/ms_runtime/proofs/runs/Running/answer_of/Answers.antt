@@ -1,4 +1,6 @@
 use Rattle.std.proofs.Common.{◌≡◌, IfOk, arith, refl, sym, ap, subst, ◌∙◌}
+use denote.Enum.Declared.{tag_of}
+use Rattle.ms_ir.specs.contracts.calls.External.{the_type}
 use Rattle.ms_ir.specs.declared.calls.External.TheVariants as external
 use Rattle.ms_ir.specs.declared.syntax.Module.{Module}
 use Rattle.ms_valid.specs.Formed.{Formed}
@@ -10,7 +12,7 @@ use Rattle.ms_host.specs.declared.calls.Asked.{Asked}
 use Rattle.ms_host.specs.declared.calls.Asked.TheVariants as asked
 use Rattle.ms_printf.specs.CallSites.{AreCallSites}
 use Rattle.ms_machine_steps.specs.Waiting.{types_due}
-use Rattle.ms_runtime.proofs.Fitting.{if_ok, if_ok_both, arguments_of, fits_asked, fits_first, slack_of, has_room, within_room, at_call}
+use Rattle.ms_runtime.proofs.Fitting.{if_ok, if_ok_both, arguments_of, fits_asked, fits_first, slack_of, alone, served_fibers, has_room, within_room, at_call}
 use Rattle.ms_runtime.proofs.runs.Running.answer_of.Goals as goal
 
 pub answer_printf-requires : goal.answer_printf-requires
@@ -18,6 +20,11 @@ answer_printf-requires c = record {
   small = small_numbers c.«module».result.now (subst Formed (sym c.«module».ensures) c.is_valid.ensures.formed);
   sites = subst (λ (m : Module). AreCallSites m c.args.self.now.printf.calls) (sym c.«module».ensures) c.requires.asking.1.1.keeping.printf;
 }
+
+pub answer-requires-clause-external : goal.answer-requires-clause-external
+answer-requires-clause-external c =
+    let other : tag_of the_type c.in-External.field-0 ≡ 21 → ⊥ = λ e. grind (arith, e, c.in-External) in
+    alone c.args.call.now.asked c.requires.asking.1.1.beside c.in-External.field-0 c.in-External.is c.requires.asking.1.1.can (λ e. other (ap (tag_of the_type) e))
 
 pub answer-requires-clause-first : goal.answer-requires-clause-first
 answer-requires-clause-first c =
@@ -41,6 +48,7 @@ returns-in-External-Printf c = record {
       (λ a answered. record {
         beside = q.beside;
         told = q.told;
+        fibers = sym q.stands.shows.fibers;
         answered = subst (λ (x : Asked). Answered q.beside (effect_asked (setting_of c.args.m.now u) c.args.call.now.site x types c.args.call.now.args q.within.world) a c.answer_printf.new.world) (sym is_printf) answered;
         few = has_room u a _ q.keeping.few;
         blind = omega arith;
@@ -64,6 +72,7 @@ returns-in-External c = record {
       (λ a answered. record {
         beside = q.beside;
         told = q.told;
+        fibers = sym q.stands.shows.fibers;
         answered = answered;
         few = has_room u a _ q.keeping.few;
         blind = omega arith;
@@ -84,6 +93,7 @@ returns-in-Runtime c = record {
       (λ a served within. record {
         beside = served.0;
         told = served.1.0;
+        fibers = served_fibers (setting_of c.args.m.now u) c.args.call.now (types_due c.args.m.now q.within.frames) c.in-Runtime.field-0 c.in-Runtime.is q.within.world served.0 a c.serve.new.world served.1.1;
         answered = served.1.1;
         few = within_room u c.args.reports a _ same within;
         blind = c.serve.ensures.told.blind;
@@ -94,6 +104,6 @@ returns-in-Runtime c = record {
         budget = refl;
         printf = refl;
       })
-      (c.serve.ensures.served (setting_of c.args.m.now u) (types_due c.args.m.now q.within.frames) q.beside q.within.world (record { same_roots = sym q.keeping.roots; same_limit = same }) q.told q.stands.shows)
+      (c.serve.ensures.served (setting_of c.args.m.now u) (types_due c.args.m.now q.within.frames) q.beside q.within.world (record { same_roots = sym q.keeping.roots; same_limit = same }) q.told q.can q.stands.shows)
       c.serve.ensures.within;
 }

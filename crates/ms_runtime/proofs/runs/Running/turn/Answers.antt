@@ -1,10 +1,12 @@
-use Rattle.std.proofs.Common.{refl, subst}
+use Rattle.std.proofs.Common.{refl, sym, subst}
+use Rattle.ms_runs.specs.declared.runs.End.{End}
 use Rattle.ms_machine_steps.specs.declared.pauses.Pause.{Pause}
 use Rattle.ms_machine_steps.specs.Advances.{Advanced}
 use Rattle.ms_machine.specs.Running.{IsRunning}
-use Rattle.ms_runtime.specs.Going.{ahead}
+use Rattle.ms_runtime.specs.declared.runs.Running.{Running}
+use Rattle.ms_runtime.specs.Going.{Over, ahead}
 use Rattle.ms_runtime.proofs.Fitting.{if_ok, turned_from}
-use Rattle.ms_runtime.proofs.Goings.{going_spent, going_ended, going_asks, not_further}
+use Rattle.ms_runtime.proofs.Goings.{going_spent, going_ended, going_finished, going_asks, not_further}
 use Rattle.ms_runtime.proofs.runs.Running.turn.Goals as goal
 
 pub advance-requires-clause-runs : goal.advance-requires-clause-runs
@@ -18,7 +20,7 @@ go_behind-requires c =
     let g = q.1.1 in
     let old = c.args.self.now in
     record {
-      asking = (
+      paused = (
         u,
         (
           q.1.0,
@@ -49,14 +51,27 @@ returns-in-Ended c = record {
       (c.in_ok-advance.ensures.advanced u g.beside g.state g.stands));
 }
 
+pub returns-in-Finished : goal.returns-in-Finished
+returns-in-Finished c = record {
+  turned = λ u same g.
+      let m = c.args.m.now in
+      let old = c.args.self.now in
+      let later : Running = record { fiber = c.advance.new.fiber; world = c.advance.new.world; depot = old.depot; told = old.told; budget = c.advance.new.budget; printf = old.printf } in
+      subst (λ (e : End). Over m u e later) (sym c.no_caller.ensures)
+      (going_finished m u old g later refl refl refl c.in-Finished.value
+      (subst (λ (x : Pause). Advanced (IsRunning m u g.beside) m u g.beside g.state old.budget.left old.fiber.frame.at x c.advance.new.fiber c.advance.new.world c.advance.new.budget.left) c.in-Finished.is
+      (c.in_ok-advance.ensures.advanced u g.beside g.state g.stands)));
+}
+
 pub returns-in-Asked : goal.returns-in-Asked
 returns-in-Asked c = record {
   turned = λ u same g.
       let m = c.args.m.now in
       let old = c.args.self.now in
+      let later : Running = record { fiber = c.advance.new.fiber; world = c.advance.new.world; depot = old.depot; told = old.told; budget = c.advance.new.budget; printf = old.printf } in
       let h = subst (λ (x : Pause). Advanced (IsRunning m u g.beside) m u g.beside g.state old.budget.left old.fiber.frame.at x c.advance.new.fiber c.advance.new.world c.advance.new.budget.left) c.in-Asked.is
       (c.in_ok-advance.ensures.advanced u g.beside g.state g.stands) in
       if_ok c.go_behind.result
-      (λ e. turned_from m u (ahead m old) _ e c.go_behind.new.self (not_further m u old g _ refl refl refl c.in-Asked.call h c.advance.ensures.made))
-      (c.go_behind.ensures.turned u same (going_asks m u old g _ refl refl refl c.in-Asked.call h c.advance.ensures.made));
+      (λ e. turned_from m u (ahead m old) (ahead m later) e c.go_behind.new.self (not_further m u g.beside g.state old later g.keeping.room c.in-Asked.call h c.advance.ensures.made))
+      (c.go_behind.ensures.turned u same (going_asks m u old g later refl refl refl c.in-Asked.call h c.advance.ensures.made));
 }

@@ -27,7 +27,7 @@ use Rattle.ms_trail.proofs.Masked.{view_is}
 use Rattle.ms_trail.proofs.Asked.{resumed_is}
 use Rattle.ms_trail.proofs.Outsides.{word_read}
 use Rattle.ms_trail.proofs.Abroad.{words_are, call, first_waits, waits_some, waits_for, site_is_here}
-use Rattle.ms_trail.proofs.Answering.{masks_are, values_fit, masks_fit, ended_is, outside_over, known, had, outside_on}
+use Rattle.ms_trail.proofs.Answering.{alone, masks_are, values_fit, masks_fit, ended_is, outside_over, known, had, outside_on}
 use Rattle.ms_trail.proofs.Readying.{runs_of, row_within, few_roots, few_operands, same_count, filled, few_made, external_sources, external_put}
 use Rattle.ms_trail.proofs.follower.Follower.call_outside.Goals as goal
 
@@ -72,6 +72,12 @@ answered-requires-clause-few c = few_made c.args.self.now c.args.code.now c.requ
 
 pub answered-requires-clause-asked : goal.answered-requires-clause-asked
 answered-requires-clause-asked c = refl
+
+pub answered-requires-clause-alone : goal.answered-requires-clause-alone
+answered-requires-clause-alone c =
+    let r : IsReady c.args.self.now c.args.code.now = c.requires.ready in
+    let old : Follower = c.args.self.now in
+    alone old.m.now r.setup r.run old r.is c.args.code.now r.passes r.due c.is_valid.ensures.valid c.args.external c.args.args.now c.args.to c.requires.is
 
 pub answered-requires-clause-waits : goal.answered-requires-clause-waits
 answered-requires-clause-waits c =
@@ -134,6 +140,12 @@ shade_memory-requires-clause-low c = λ some.
 pub shade_memory-requires-clause-small : goal.shade_memory-requires-clause-small
 shade_memory-requires-clause-small c = c.size_of-old.ensures.small
 
+pub shade_memory-requires-clause-alone : goal.shade_memory-requires-clause-alone
+shade_memory-requires-clause-alone c =
+    let r : IsReady c.args.self.now c.args.code.now = c.requires.ready in
+    let old : Follower = c.args.self.now in
+    alone old.m.now r.setup r.run old r.is c.args.code.now r.passes r.due c.is_valid.ensures.valid c.args.external c.args.args.now c.args.to c.requires.is
+
 pub shade_memory-requires-clause-few : goal.shade_memory-requires-clause-few
 shade_memory-requires-clause-few c = omega (arith, c.requires.ready.room.few, c.note_answer.ensures.count)
 
@@ -186,9 +198,9 @@ returns-in_ok-shade_memory-in-Resumed-clause-went c = λ u t o passes.
     let d = due_now m u t old o k passes due in
     let ps : List Poisoned = read_all (read_poisoned (setting_of m u) d.frame.values) (operands d.coded.inst.op) (here (setting_of m u) m d.frame).root in
     let base_is = word_read ps c.in_ok-words.words.items 0 c.word-base.result words (c.word-base.ensures ∙ ap (λ (xs : List ℕ). get_or xs 0 0) c.as_slice-values.ensures.value) in
-    let facts = known m u t old o k passes due valid e as' to is_call given site given_is sited value effect.0 effect.1.0 on.next on.goes c.word-base.result base_is
+    let facts = known m u t old o k passes due valid e as' to is_call given site given_is sited value effect.0 effect.1.0 on.next on.goes.0 c.word-base.result base_is
     (λ size is. c.size_of-old.ensures.below nothing_beside o.state.world size o.running.shows is) in
-    let size = had m u t old o k passes due valid e as' to is_call given site given_is sited value effect.0 effect.1.0 on.next on.goes c.word-base.result c.size_of-old.result base_is (c.size_of-old.ensures.size nothing_beside o.state.world o.running.shows) in
+    let size = had m u t old o k passes due valid e as' to is_call given site given_is sited value effect.0 effect.1.0 on.next on.goes.0 c.word-base.result c.size_of-old.result base_is (c.size_of-old.ensures.size nothing_beside o.state.world o.running.shows) in
     let given_value : c.or_zero-given.result ≡ unwrap_or value 0 = c.or_zero-given.ensures in
     let moves = t.moves ++ answer_told old.event site old.shade.number value c.row-row.result.inst.now.result c.answer_mask-mask.result (source_at c.last_of-from.result (sources old.shade.number (operands c.row-row.result.inst.now.op) c.row-row.result.roots)) in
     let new : Follower =
@@ -202,7 +214,7 @@ returns-in_ok-shade_memory-in-Resumed-clause-went c = λ u t o passes.
     in
     let done = subst (λ (g : ℕ). Done nothing_beside old.event site (c.row-row.result.roots + count_undefs (operands c.row-row.result.inst.now.op) + 1) ps (sources old.shade.number (operands c.row-row.result.inst.now.op) c.row-row.result.roots) t.state.world g on.next.world moves c.shade_memory.new.world c.shade_memory.new.log e) given_value
     (c.in_ok-shade_memory-in-Resumed.ensures.shaded nothing_beside on.next.world t.state.world ps moves words masks size (subst (λ (g : ℕ). Facts e ps t.state.world g on.next.world) (sym given_value) facts) on.stands.shows on.stands.sound.world (c.in_ok-note_answer-in-Resumed.ensures.told t.moves o.log)) in
-    outside_on m u t old o k passes due valid e as' to is_call given site given_is sited value effect.0 effect.1.0 on.next on.goes new world on.stands c.shade_memory.ensures.keeps c.answer_mask-mask.result c.last_of-from.result c.row-row.result c.row-row.ensures
+    outside_on m u t old o k passes due valid e as' to is_call given site given_is sited value effect.0 effect.1.0 on.next on.goes.0 new world on.stands c.shade_memory.ensures.keeps c.answer_mask-mask.result c.last_of-from.result c.row-row.result c.row-row.ensures
     c.due_site-site.ensures (record { whole = refl; below = refl; made = refl; tables = refl; printf = refl; fill = refl }) refl refl
     (c.in_ok-note_answer-in-Resumed.ensures.masks ∙ ap (λ x. noted_masks (put_of x) value c.answer_mask-mask.result old.shade.masks.items) is_call)
     (c.answer_mask-mask.ensures ps (c.as_slice-values.ensures.value ∙ words) (c.as_slice-shades.ensures.value ∙ masks))

@@ -4,6 +4,7 @@ use Rattle.ms_valid.specs.Formed.{Formed}
 use Rattle.ms_valid.proofs.SmallNumbers.{small_numbers}
 use Rattle.ms_runs.specs.Plain.{plain_start}
 use Rattle.ms_printf.specs.CallSites.{AreCallSites}
+use Rattle.ms_runs_good.proofs.Starts.{start_is_main}
 use Rattle.ms_runtime.proofs.RootCounts.{few_roots}
 use Rattle.ms_follow_laws.proofs.Steps.{start_follows}
 use Rattle.ms_trail.specs.Tabled.{AreTables}
@@ -25,10 +26,12 @@ returns-clause-is c =
     record {
       whole = refl;
       bare = c.requires.plain.plain.unmarked;
+      calm = c.requires.alone;
       few = omega (arith, few_roots m c.is_valid.ensures.formed);
       state = plain_start m u;
       running = one_running m u c.in_ok-fiber.fiber c.in_ok-fiber.world running;
       follows = start_follows m u;
+      bottom = start_is_main m c.is_valid.ensures.valid;
       shades = start_shades m u c.in_ok-fiber.fiber c.in_ok-fiber.world c.in_ok-shade.shade _ running c.in_ok-shade.ensures.number (c.in_ok-shade.ensures.masks ∙ ap (λ (n : ℕ). replicate n 0) many) c.new-2.ensures.items;
       made = refl;
       event = refl;

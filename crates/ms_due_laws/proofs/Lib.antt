@@ -1,0 +1,4 @@
+pub mod Reaching
+pub mod Returning
+pub mod Beginning
+pub mod Performing

@@ -1,0 +1,207 @@
+-- A thread that begins goes on as its fiber does, and so does `main`'s at the start of a run.
+use Rattle.std.proofs.Common.{◌≡◌, ◌≢◌, ◌<◌, ◌≤◌, ◌+◌, ◌-◌, ◌*◌, ◌%◌, ◌^◌, ℕ, zero, suc, Bool, true, false, true≢false, not, eqb, if◌then◌else◌, List, [], ◌∷◌, length, get_or, map, slice_get, refl, sym, ap, subst, ◌∙◌, arith, Option, Some, None, option_map, unwrap_or, inr}
+use Rattle.std.proofs.lemmas.Bool.{and_parts, ne_eqb}
+use Rattle.std.proofs.lemmas.Option.{slice_get-map}
+use Rattle.std.proofs.Math.Nat.{mod-eq_of_lt}
+use Rattle.ms_bits.specs.Maps.{with_range}
+use Rattle.ms_ir.specs.declared.syntax.Name.{Name}
+use Rattle.ms_ir.specs.declared.syntax.Ty.{Ty, Ptr}
+use Rattle.ms_ir.specs.declared.syntax.Func.{Func}
+use Rattle.ms_ir.specs.declared.syntax.Module.{Module}
+use Rattle.ms_ir.specs.declared.calls.Slot.TheVariants as slot
+use Rattle.ms_ir.specs.Names.{name_eq, slot_room}
+use Rattle.ms_ir.specs.Layout.{width_of}
+use Rattle.ms_ir.specs.Equal.{result_type_eq, types_eq, type_eq}
+use Rattle.ms_ir.specs.Signatures.{answers, signature_eq, func_signature}
+use Rattle.ms_ir.specs.Locals.{value_type}
+use Rattle.ms_ir.specs.Code.{over_funcs, func_at}
+use Rattle.ms_valid.specs.Formed.{Formed}
+use Rattle.ms_valid.specs.Valid.{Valid}
+use Rattle.ms_valid.specs.Paths.{insts_of}
+use Rattle.ms_valid.proofs.NameTests.{name_sound}
+use Rattle.ms_valid.proofs.TypedValues.{param_typed}
+use Rattle.ms_runs.specs.declared.runs.Setup.{Setup}
+use Rattle.ms_runs.specs.World.{World}
+use Rattle.ms_runs.specs.Control.{bind, entered, params_at}
+use Rattle.ms_runs.specs.Act.{plain_reading}
+use Rattle.ms_runs.specs.Plain.{PlainState, plain_start}
+use Rattle.ms_runs.specs.Threads.{first_clean}
+use Rattle.ms_runs_good.specs.GoodStates.{GoodFrame, IsBelow, IsStart}
+use Rattle.ms_runs_good.proofs.Starts.{Entry, entry_of, place_within, no_leading}
+use Rattle.ms_runs_good.proofs.NextFrames.{one_type}
+use Rattle.ms_runs_good.proofs.Readings.{plain_unset}
+use Rattle.ms_runs_good.proofs.WorldChanges.{range_keeps}
+use Rattle.ms_threads_runs.specs.PlainFibers.{no_others}
+use Rattle.ms_host.specs.State.{Beside, KeepsGiven, nothing_beside}
+use Rattle.ms_host.specs.Shows.{Shows}
+use Rattle.ms_host.specs.SlotBytes.{ShowsSlots}
+use Rattle.ms_machine_steps.specs.declared.fibers.Fiber.{Fiber}
+use Rattle.ms_machine_steps.specs.Owning.{is_spawned, Owns}
+use Rattle.ms_machine_steps.specs.Standing.{frames_of}
+use Rattle.ms_machine.specs.Running.{AllStandFor}
+use Rattle.ms_machine.specs.Spawning.{SpawnedFor}
+use Rattle.ms_printf.specs.CallSites.{AreCallSites}
+use Rattle.ms_runtime.specs.Served.{IsBeside}
+use Rattle.ms_runtime.specs.Going.{ahead, Begins}
+use Rattle.ms_threads.specs.declared.guests.Thread.{Thread as Guest}
+use Rattle.ms_threads.specs.declared.guests.Standing.{Standing}
+use Rattle.ms_threads.specs.declared.runs.Threads.{Threads}
+use Rattle.ms_threads.specs.Guests.{thread_of, guest_at, part_at, IsNew, Shares}
+use Rattle.ms_threads.specs.Going.{StandsAt, Standings, goes_at, ends_from, Beginning, Going, most_ahead}
+
+-- ---- the function of a thread
+
+-- it has one parameter, a pointer
+only_parameter : (f : Func) → signature_eq (func_signature f) (answers Ptr (Ptr ∷ [])) ≡ true → (y : Name) × (f.params ≡ (Ptr, y) ∷ [])
+only_parameter f same = by_params f.params (and_parts (result_type_eq (func_signature f).ret (answers Ptr (Ptr ∷ [])).ret) (types_eq (func_signature f).params (Ptr ∷ [])) same).1
+  where
+    ptr_is : (t : Ty) → type_eq t Ptr ≡ true → t ≡ Ptr
+    ptr_is Ptr e = refl
+    ptr_is t e = absurd (true≢false (sym e))
+
+    by_params : (ps : List (Ty × Name)) → types_eq (map (λ (q : Ty × Name). q.0) ps) (Ptr ∷ []) ≡ true → (y : Name) × (ps ≡ (Ptr, y) ∷ [])
+    by_params [] e = absurd (true≢false (sym e))
+    by_params (p ∷ []) e = let q = ptr_is p.0 (and_parts (type_eq p.0 Ptr) true e).0 in (p.1, λ j. (q j, p.1) ∷ [])
+    by_params (p ∷ r ∷ rest) e = absurd (true≢false (sym (and_parts (type_eq p.0 Ptr) false e).1))
+
+-- its first frame is good
+begun_good : (m : Module) → Formed m → Valid m → (func argument : ℕ) (world : World) → IsStart m func → argument < 2 ^ 64 → GoodFrame IsBelow m (entered plain_reading m func (argument ∷ []) world)
+begun_good m formed valid func argument world start few = record {
+  func = start.0;
+  stands = stands;
+  before = [];
+  path = (refl, tt);
+  place = place_within (insts_of (start.0) 0) 0 entry.inst due;
+  behind_phis = subst (λ c. c ≤ 0) (sym (no_leading (insts_of (start.0) 0) entry.inst due entry.plain)) (omega arith);
+  words = λ x t set typed. subst (λ ps. IsBelow (bind plain_reading.unset ps (argument ∷ []) x) (2 ^ width_of t)) (sym params) (by_name x t typed (name_eq x only.0) refl);
+}
+  where
+    stands : func_at m func ≡ Some (start.0)
+    stands = start.1.0
+
+    only : (y : Name) × ((start.0).params ≡ (Ptr, y) ∷ [])
+    only = only_parameter (start.0) start.1.1
+
+    params : params_at m func ≡ (Ptr, only.0) ∷ []
+    params = ap (λ (o : Option Func). unwrap_or (option_map (λ g. g.params) o) []) stands ∙ only.1
+
+    entry : Entry (start.0)
+    entry = entry_of m formed valid func (start.0) stands
+
+    due : slice_get (insts_of (start.0) 0) 0 ≡ Some entry.inst
+    due = ap (λ o. slice_get (unwrap_or (option_map (λ k. k.insts) o) []) 0) entry.at ∙ entry.due
+
+    by_name : (x : Name) (t : Ty) → value_type (start.0) x ≡ Some t → (b : Bool) → name_eq x only.0 ≡ b → IsBelow (if b then argument else plain_reading.unset) (2 ^ width_of t)
+    by_name x t typed true e =
+        let own : value_type (start.0) only.0 ≡ Some Ptr = param_typed m valid func (start.0) stands 0 Ptr only.0 (ap (λ ps. slice_get ps 0) only.1) in
+        let same : Ptr ≡ t = one_type Ptr t (value_type (start.0) only.0) own (ap (value_type (start.0)) (sym (name_sound x only.0 e)) ∙ typed) in
+        subst (λ z. argument < 2 ^ width_of z) same few
+    by_name x t typed false e = plain_unset t
+
+-- ---- it begins
+
+module _ (m : Module) (u : Setup) (schedule : List ℕ) where
+  -- a thread that has the turn isn't `main`'s
+  turn_there : (n : ℕ) (ts : List Guest) (g : Guest) → guest_at n ts ≡ Some g → (0 < n) × (slice_get ts (n - 1) ≡ Some g)
+  turn_there zero ts g e = absurd (cc)
+  turn_there (suc k) ts g e = (omega arith, ap (slice_get ts) (let z : suc k - 1 ≡ k = omega arith in z) ∙ e)
+
+  pub begin_there : (t : Threads) (b : Beginning m u schedule t) → (0 < t.guests.turn) × (slice_get t.guests.threads.items (t.guests.turn - 1) ≡ Some b.guest)
+  begin_there t b = turn_there t.guests.turn t.guests.threads.items b.guest b.there
+
+  pub begin_start : (t : Threads) (b : Beginning m u schedule t) → IsStart m b.guest.func
+  begin_start t b =
+      b.between.stands.starts (t.guests.turn - 1) b.guest.func
+      (slice_get-map (λ (x : Guest). x.func) t.guests.threads.items (t.guests.turn - 1) ∙ ap (option_map (λ (x : Guest). x.func)) (begin_there t b).1)
+
+  module _ (formed : Formed m) (valid : Valid m) (t t' : Threads) (b : Beginning m u schedule t) (few : b.guest.argument < 2 ^ 64) (fiber : Fiber) (spawned : SpawnedFor m b.guest.func b.guest.argument fiber) (fiber_is : t'.running.fiber ≡ fiber)
+      (guests : t'.guests ≡ t.guests) (depot : t'.running.depot ≡ t.running.depot) (told : t'.running.told ≡ t.running.told) (budget : t'.running.budget ≡ t.running.budget) (printf : t'.running.printf ≡ t.running.printf)
+      (slots : (cells : ℕ → ℕ) → ShowsSlots t.running.world.slots cells → ShowsSlots t'.running.world.slots (first_clean cells)) (shows : (beside : Beside) (world : World) → Shows t.running.world beside world → Shows t'.running.world beside world)
+      (given : KeepsGiven t.running.world t'.running.world) (made : t'.running.world.made ≡ t.running.world.made) where
+    abbrev state : PlainState
+    state = record { frames = entered plain_reading m b.guest.func (b.guest.argument ∷ []) b.shared.world ∷ []; slots = first_clean b.shared.slots; world = b.shared.world }
+
+    turn_is : b.shared.world.turn ≡ t.guests.turn
+    turn_is = ap (λ f. f.turn) b.between.shows.fibers ∙ b.between.shares.turn
+
+    beside_main : is_spawned b.shared.world ≡ true
+    beside_main = ap (λ (n : ℕ). not (eqb n 0)) turn_is ∙ by_number t.guests.turn (begin_there t b).0
+      where
+        by_number : (n : ℕ) → 0 < n → not (eqb n 0) ≡ true
+        by_number n some = ap not (ne_eqb n 0 (λ e. omega (arith, some, e)))
+
+    clean : (a : ℕ) → first_clean b.shared.slots a < 256
+    clean = range_keeps (λ v. v < 256) (with_range b.shared.slots (slot_room slot.ParamMasks).0 8 (λ k. 0)) (slot_room slot.ParamOrigins).0 4 (λ k. 0)
+        (range_keeps (λ v. v < 256) b.shared.slots (slot_room slot.ParamMasks).0 8 (λ k. 0) b.between.held (λ k. omega arith)) (λ k. omega arith)
+
+    left_is : t'.running.budget.left ≡ t.running.budget.left
+    left_is = ap (λ x. x.left) budget
+
+    -- it is no further to the end than it can be
+    pub begun_far : ahead m t'.running < suc (most_ahead m t.running)
+    begun_far =
+        let most : t'.running.budget.left * (over_funcs (λ inst. 1) m.funcs + 1) ≡ t.running.budget.left * (over_funcs (λ inst. 1) m.funcs + 1) = ap (λ n. n * (over_funcs (λ inst. 1) m.funcs + 1)) left_is in
+        omega (arith, most)
+
+    pub begun_goes : Going m u schedule t'
+    begun_goes =
+        let first = spawned b.shared.world beside_main in
+        record {
+          beside = b.beside;
+          state = state;
+          others = b.others;
+          stands = record {
+            bytes = b.between.bytes;
+            frames = subst (λ f. AllStandFor m (frames_of f) state.frames) (sym fiber_is) first.0;
+            shows = shows b.beside b.shared.world b.between.shows;
+            slots = slots b.shared.slots b.between.slots;
+            fill = given.fill ∙ b.between.fill;
+            sound = record { frames = (begun_good m formed valid b.guest.func b.guest.argument b.shared.world (begin_start t b) few, inr (begin_start t b)); slots = clean; world = b.between.good };
+            owns = subst (λ f. Owns f b.shared.world state.frames) (sym fiber_is) first.1;
+          };
+          told = subst (λ d. IsBeside d t'.running.told b.beside) (sym depot) (subst (λ r. IsBeside t.running.depot r b.beside) (sym told) b.between.told);
+          keeping = record {
+            roots = ap (λ d. d.roots) depot ∙ b.between.roots;
+            few = subst (λ r. length r.reports < u.reports) (sym told) b.between.few;
+            room = let left = left_is in omega (arith, made, left, b.between.room);
+            blind = let same : t'.running.told.blind ≡ t.running.told.blind = ap (λ r. r.blind) told in let far = begun_far in omega (arith, same, far, b.blind);
+            printf = subst (λ q. AreCallSites m q.calls) (sym printf) b.between.printf;
+          };
+          shares = subst (λ g. Shares g b.beside.fibers) (sym guests) b.between.shares;
+          standings = subst (λ g. Standings m u schedule g b.others) (sym guests) b.between.stands;
+          same = ap (λ n. ends_from m u schedule n (goes_at state b.others)) (left_is ∙ b.some) ∙ b.same;
+        }
+
+  -- ---- the start
+
+  pub going_begun : 0 < length schedule → (t : Threads) → Begins m u t.running → IsNew t.guests → Going m u schedule t
+  going_begun some t b new = record {
+    beside = nothing_beside;
+    state = plain_start m u;
+    others = no_others;
+    stands = b.stands;
+    told = b.told;
+    keeping = b.keeping;
+    shares = record {
+      turn = sym new.turn;
+      threads = sym (ap (map thread_of) new.threads);
+      answers = λ k. sym (ap (λ ts. part_at (λ x. x.answer) ts k) new.threads);
+      masks = λ k. sym (ap (λ ts. part_at (λ x. x.mask) ts k) new.threads);
+      origins = λ k. sym (ap (λ ts. part_at (λ x. x.origin) ts k) new.threads);
+    };
+    standings = record {
+      counted = ap length new.stands ∙ sym (ap (λ ts. length ts + 1) new.threads);
+      turn = let one : length t.guests.stands.items ≡ 1 = ap length new.stands in let turn = new.turn in omega (arith, one, turn);
+      stands = λ k. subst (λ o. StandsAt m u k o None) (sym (ap (λ xs. get_or xs k None) new.stands ∙ nowhere k)) tt;
+      place = new.place ∙ sym (mod-eq_of_lt some);
+      starts = λ k f e. absurd (none k f (subst (λ xs. slice_get (map (λ (x : Guest). x.func) xs) k ≡ Some f) new.threads e));
+    };
+    same = ap (λ n. ends_from m u schedule n (goes_at (plain_start m u) no_others)) b.budget;
+  }
+    where
+      nowhere : (k : ℕ) → get_or {A = Option Standing} (None ∷ []) k None ≡ None
+      nowhere zero = refl
+      nowhere (suc k) = refl
+
+      none : (k f : ℕ) → slice_get [] k ≡ Some f → ⊥
+      none k f e = cc

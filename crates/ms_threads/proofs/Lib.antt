@@ -1,0 +1,14 @@
+pub mod Called
+pub mod Apart
+pub mod Stripped
+pub mod FaithfulRuns
+pub mod Numbered
+pub mod Threading
+pub mod Kept
+pub mod FiberSteps
+pub mod Turns
+pub mod Starting
+pub mod Picks
+pub mod Behind
+pub mod Begun
+pub mod Results

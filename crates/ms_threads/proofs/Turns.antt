@@ -1,0 +1,233 @@
+-- From one pause to the next a run of threads keeps what it answers.
+use Rattle.std.proofs.Common.{◌≡◌, ◌<◌, ◌≤◌, ◌+◌, ◌-◌, ◌*◌, ◌%◌, ◌^◌, ℕ, suc, Bool, true, false, eqb, if◌then◌else◌, List, [], ◌∷◌, length, slice_get, refl, sym, ap, subst, ◌∙◌, arith, Some}
+use Rattle.std.proofs.lemmas.Nat.{mod_below}
+use Rattle.ms_bits.specs.Maps.{number_at}
+use Rattle.ms_ir.specs.declared.syntax.Module.{Module}
+use Rattle.ms_ir.specs.declared.calls.Slot.TheVariants as slot
+use Rattle.ms_ir.specs.Names.{slot_room}
+use Rattle.ms_ir.specs.Code.{over_funcs}
+use Rattle.ms_runs.specs.declared.runs.End.{End}
+use Rattle.ms_runs.specs.declared.runs.End.TheVariants as «end»
+use Rattle.ms_runs.specs.declared.runs.Setup.{Setup}
+use Rattle.ms_runs.specs.World.{World, result}
+use Rattle.ms_runs.specs.Control.{given_back}
+use Rattle.ms_runs.specs.Poisoned.{Poisoned}
+use Rattle.ms_runs.specs.Threads.{Fibers, fibers_of, with_answer, result_mask, result_origin}
+use Rattle.ms_runs_good.specs.GoodWorlds.{GoodWorld, FitsCell}
+use Rattle.ms_runs_good.proofs.WorldChanges.{given_back_good}
+use Rattle.ms_threads_runs.specs.PlainFibers.{Shared, plain_threads}
+use Rattle.ms_host.specs.State.{Beside}
+use Rattle.ms_host.specs.Shows.{Shows}
+use Rattle.ms_host.specs.SlotBytes.{ShowsSlots}
+use Rattle.ms_host.specs.declared.calls.Asked.{Asked}
+use Rattle.ms_host.specs.declared.calls.Asked.TheVariants as asked
+use Rattle.ms_host.specs.declared.calls.HostCall.{HostCall}
+use Rattle.ms_printf.specs.CallSites.{AreCallSites}
+use Rattle.ms_machine_steps.specs.Advances.{Counts, IsSpent, HasEnded as HasStopped, HasAsked, HasFinished}
+use Rattle.ms_machine.specs.Running.{IsRunning}
+use Rattle.ms_runtime.specs.Served.{IsBeside}
+use Rattle.ms_runtime.specs.Going.{ahead, Answers, LeftBehind}
+use Rattle.ms_runtime.proofs.Goings.{answers_so, fewer, not_further, slack_is, behind}
+use Rattle.ms_threads.specs.declared.runs.Threads.{Threads}
+use Rattle.ms_threads.specs.Guests.{Shares, Changed, KeepsStands, ended_guest}
+use Rattle.ms_threads.specs.Going.{Standings, ends_after, last_of, most_ahead, far_of, Going, Asking, Picking, HasEnded}
+use Rattle.ms_threads.proofs.Threading.{shows_fibers, ended_fiber, shares_ended, keeps_changed}
+use Rattle.ms_threads.proofs.Kept.{standings_kept}
+use Rattle.ms_threads.proofs.FiberSteps.{same_step, step_ends, step_returns, run_spent, run_due, answered_word, behind_return}
+
+-- ---- numbers
+
+-- behind a step that was counted it is nearer to the end, wherever the next thread stands
+counted_far : (left left' at all : ℕ) → left' < left → suc (left' * (all + 1) + all) ≤ left * (all + 1) + (all - at)
+counted_far left left' at all lt =
+    let d : ℕ = left - left' - 1 in
+    let e : left ≡ left' + 1 + d = omega (arith, lt) in
+    let more : left * (all + 1) ≡ left' * (all + 1) + (all + 1) + d * (all + 1) = ap (λ n. n * (all + 1)) e ∙ times left' d (all + 1) in
+    omega (arith, more)
+  where
+    times : (a d b : ℕ) → (a + 1 + d) * b ≡ a * b + b + d * b
+    times a d b = omega arith
+
+-- what an ended thread answered keeps the world good
+ended_good : (mask value origin : ℕ) (w : World) → GoodWorld FitsCell w → GoodWorld FitsCell (with_answer (record { value = value; mask = mask; origin = origin % 2 ^ 32 }) w)
+ended_good mask value origin w g = record {
+  bytes = g.bytes;
+  shadow = g.shadow;
+  origins = g.origins;
+  pairs = g.pairs;
+  input = g.input;
+  output = g.output;
+  sizes = g.sizes;
+  answers = λ k. by_tests (eqb k w.turn) (eqb mask 0) k (g.answers k);
+}
+  where
+    by_tests : (b c : Bool) (k : ℕ) → w.answer_origins k < 2 ^ 32 → (if b then (if c then 0 else origin % 2 ^ 32) else w.answer_origins k) < 2 ^ 32
+    by_tests true true k few = omega arith
+    by_tests true false k few = mod_below origin (2 ^ 32) (omega arith)
+    by_tests false c k few = few
+
+-- ---- ends
+
+module _ (m : Module) (u : Setup) (schedule : List ℕ) where
+  -- a run that ends so answers what the whole run does
+  pub ends_so : (e : End) (last : World) (beside : Beside) (t : Threads) → (e, last) ≡ last_of m u schedule → Shows t.running.world beside last → IsBeside t.running.depot t.running.told beside → t.running.told.blind ≤ 2 ^ 62
+      → Answers (plain_threads m u schedule) e t.running
+  ends_so e last beside t is shows told few = answers_so (plain_threads m u schedule) e last beside t.running (ap (λ (at : End × World). result at.0 at.1) (sym is)) shows told few
+
+  module _ (t : Threads) (g : Going m u schedule t) (t' : Threads) (depot : t'.running.depot ≡ t.running.depot) (told : t'.running.told ≡ t.running.told) (printf : t'.running.printf ≡ t.running.printf) where
+    still_beside : IsBeside t'.running.depot t'.running.told g.beside
+    still_beside = subst (λ d. IsBeside d t'.running.told g.beside) (sym depot) (subst (λ r. IsBeside t.running.depot r g.beside) (sym told) g.told)
+
+    same_blind : t'.running.told.blind ≡ t.running.told.blind
+    same_blind = ap (λ r. r.blind) told
+
+    still_few : t'.running.told.blind ≤ 2 ^ 62
+    still_few = let e = same_blind in omega (arith, e, g.keeping.blind)
+
+    few_reports : length t'.running.told.reports < u.reports
+    few_reports = subst (λ r. length r.reports < u.reports) (sym told) g.keeping.few
+
+    still_printf : AreCallSites m t'.running.printf.calls
+    still_printf = subst (λ p. AreCallSites m p.calls) (sym printf) g.keeping.printf
+
+    -- no step is left
+    pub turn_spent : IsSpent (IsRunning m u g.beside) m u g.state t.running.budget.left t'.running.fiber t'.running.world t'.running.budget.left → Answers (plain_threads m u schedule) «end».Spent t'.running
+    turn_spent h =
+        ends_so «end».Spent h.last.world g.beside t' (sym (run_spent m u schedule t.running.budget.left g.state h.last g.others h.own h.came) ∙ g.same) h.stands.shows still_beside still_few
+
+    -- a step ended it
+    pub turn_ended : (e : End) → HasStopped m u g.beside g.state t.running.budget.left e t'.running.world → Answers (plain_threads m u schedule) e t'.running
+    turn_ended e h =
+        let rest : ℕ = t.running.budget.left - h.done - 1 in
+        let sum : rest + h.done + 1 ≡ t.running.budget.left = omega (arith, h.few) in
+        ends_so e h.last g.beside t'
+        (sym (run_due m u schedule t.running.budget.left rest h.done g.state h.before g.others sum h.own h.came ∙ ap (ends_after m u schedule rest) (step_ends m u schedule h.before g.others e h.last h.ends)) ∙ g.same)
+        h.shows still_beside still_few
+
+    -- ---- a call is asked for
+
+    module _ (guests : t'.guests ≡ t.guests) (call : HostCall) (h : HasAsked (IsRunning m u g.beside) m u g.state t.running.budget.left t.running.fiber.frame.at call t'.running.fiber t'.running.world t'.running.budget.left)
+        (made : t'.running.world.made + 2 ^ 26 * t'.running.budget.left ≤ t.running.world.made + 2 ^ 26 * t.running.budget.left) where
+      fewer_left : t'.running.budget.left ≤ t.running.budget.left
+      fewer_left = fewer m u g.beside g.state t.running t'.running g.keeping.room call h made
+
+      nearer : ahead m t'.running ≤ ahead m t.running
+      nearer = not_further m u g.beside g.state t.running t'.running g.keeping.room call h made
+
+      far_by : (a : Asked) → Counts a t.running.budget.left (t'.running.budget.left + h.done) → far_of m a t'.running ≤ ahead m t.running
+      far_by (asked.External e) c = counted_far t.running.budget.left t'.running.budget.left t.running.fiber.frame.at (over_funcs (λ inst. 1) m.funcs) (omega (arith, c))
+      far_by (asked.Runtime f) c = nearer
+
+      -- it is no further to the end than it was
+      pub asked_far : far_of m call.asked t'.running ≤ ahead m t.running
+      asked_far = far_by call.asked h.counted
+
+      pub turn_asks : Asking m u schedule call t'
+      turn_asks =
+          let b : (rest : ℕ) × (LeftBehind call.asked rest t'.running.budget.left × (rest + h.done + 1 ≡ t.running.budget.left)) = behind m u g.beside g.state t.running t'.running g.keeping.room call h made in
+          record {
+            beside = g.beside;
+            within = h.within;
+            others = g.others;
+            stands = h.stands;
+            waits = h.waits;
+            told = still_beside;
+            keeping = record {
+              roots = ap (λ d. d.roots) depot ∙ g.keeping.roots;
+              few = few_reports;
+              room = let le = fewer_left in omega (arith, le, made, g.keeping.room);
+              blind = let e = same_blind in let le = nearer in omega (arith, e, le, g.keeping.blind);
+              printf = still_printf;
+            };
+            slack = slack_is m u g.beside g.state t.running t'.running g.keeping.room call h made;
+            blind = let e = same_blind in let le = asked_far in omega (arith, e, le, g.keeping.blind);
+            shares = subst (λ x. Shares x g.beside.fibers) (sym guests) g.shares;
+            standings = subst (λ x. Standings m u schedule x g.others) (sym guests) g.standings;
+            rest = b.0;
+            counted = b.1.0;
+            same =
+                ap (ends_after m u schedule b.0) (sym (same_step m u schedule h.before h.within g.others h.same))
+                ∙ sym (run_due m u schedule t.running.budget.left b.0 h.done g.state h.before g.others b.1.1 h.own h.came) ∙ g.same;
+          }
+
+    -- ---- the thread has ended
+
+    module _ (guests : t'.guests ≡ t.guests) (value : ℕ) (h : HasFinished m u g.beside g.state t.running.budget.left value t'.running.world t'.running.budget.left)
+        (made : t'.running.world.made + 2 ^ 26 * t'.running.budget.left ≤ t.running.world.made + 2 ^ 26 * t.running.budget.left)
+        (t'' : Threads) (running : t''.running ≡ t'.running) (has : HasEnded value t' t'') where
+      abbrev word : Poisoned
+      word = answered_word m u schedule g.beside h.within value t'.running.world h.finishes
+
+      abbrev back : World
+      back = given_back h.finishes.frame h.within.world
+
+      abbrev beside' : Beside
+      beside' = record g.beside { fibers = ended_fiber word g.beside.fibers }
+
+      abbrev shared' : Shared
+      shared' = behind_return m u schedule g.beside h.within value t'.running.world h.finishes
+
+      changed : Changed t'.guests.turn (ended_guest value (result_mask h.within.slots) (result_origin h.within.slots)) t'.guests t''.guests
+      changed = has h.within.slots h.finishes.slots
+
+      shares : Shares t'.guests g.beside.fibers
+      shares = subst (λ x. Shares x g.beside.fibers) (sym guests) g.shares
+
+      standings : Standings m u schedule t'.guests g.others
+      standings = subst (λ x. Standings m u schedule x g.others) (sym guests) g.standings
+
+      kept : KeepsStands [] t'.guests t''.guests
+      kept = keeps_changed t'.guests.turn (ended_guest value (result_mask h.within.slots) (result_origin h.within.slots)) (λ t. refl) [] t'.guests t''.guests changed
+
+      turn_few : t'.guests.turn ≤ length t'.guests.threads.items
+      turn_few = omega (arith, standings.turn, standings.counted)
+
+      shown : Shows t'.running.world beside' shared'.world
+      shown =
+          subst (λ (f : Fibers). Shows t'.running.world (record g.beside { fibers = ended_fiber word f }) shared'.world) h.finishes.shows.fibers
+          (shows_fibers t'.running.world g.beside back (ended_fiber word (fibers_of back)) h.finishes.shows)
+
+      good_world : GoodWorld FitsCell shared'.world
+      good_world = ended_good (result_mask h.within.slots) value (number_at h.within.slots (slot_room slot.RetvalOrigin).0 4) back (given_back_good FitsCell h.finishes.frame h.within.world h.finishes.sound.world)
+
+      left_is : t'.running.budget.left + h.done + 1 ≡ t.running.budget.left
+      left_is = h.counted
+
+      far' : suc (most_ahead m t'.running) ≤ ahead m t.running
+      far' = let e = left_is in counted_far t.running.budget.left t'.running.budget.left t.running.fiber.frame.at (over_funcs (λ inst. 1) m.funcs) (omega (arith, e))
+
+      -- it is nearer to the end than it was
+      pub finished_far : suc (most_ahead m t''.running) ≤ ahead m t.running
+      finished_far = subst (λ r. suc (most_ahead m r) ≤ ahead m t.running) (sym running) far'
+
+      -- and a pick is due
+      pub turn_picks : Picking m u schedule t''
+      turn_picks = record {
+        beside = beside';
+        shared = shared';
+        others = g.others;
+        between = record {
+          bytes = g.stands.bytes;
+          shows = subst (λ r. Shows r.world beside' shared'.world) (sym running) shown;
+          slots = subst (λ r. ShowsSlots r.world.slots h.within.slots) (sym running) h.finishes.slots;
+          fill = ap (λ r. r.world.fill) running ∙ h.finishes.fill;
+          held = h.finishes.sound.slots;
+          good = good_world;
+          told = subst (λ r. IsBeside r.depot r.told beside') (sym running) (record { pairs = still_beside.pairs; reports = still_beside.reports; blind = still_beside.blind });
+          shares = shares_ended value (result_mask h.within.slots) (result_origin h.within.slots) t'.guests t''.guests g.beside.fibers shares turn_few changed;
+          stands = standings_kept m u schedule [] t'.guests t''.guests g.others standings kept (λ k f e. absurd (none_there k f e));
+          roots = ap (λ r. r.depot.roots) running ∙ ap (λ d. d.roots) depot ∙ g.keeping.roots;
+          few = subst (λ r. length r.told.reports < u.reports) (sym running) few_reports;
+          room = subst (λ r. r.world.made + 2 ^ 27 * r.budget.left ≤ 2 ^ 58) (sym running) (let e = left_is in omega (arith, e, made, g.keeping.room));
+          printf = subst (λ r. AreCallSites m r.printf.calls) (sym running) still_printf;
+        };
+        blind = subst (λ r. r.told.blind + most_ahead m r ≤ 2 ^ 62) (sym running) (let e = same_blind in let le = far' in omega (arith, e, le, g.keeping.blind));
+        same =
+            let sum : t''.running.budget.left + h.done + 1 ≡ t.running.budget.left = ap (λ r. r.budget.left + h.done + 1) running ∙ h.counted in
+            sym (ap (ends_after m u schedule t''.running.budget.left)
+            (same_step m u schedule h.before h.within g.others h.same ∙ step_returns m u schedule g.beside h.within value t'.running.world h.finishes g.others))
+            ∙ sym (run_due m u schedule t.running.budget.left t''.running.budget.left h.done g.state h.before g.others sum h.own h.came) ∙ g.same;
+      }
+        where
+          none_there : (k f : ℕ) → slice_get [] k ≡ Some f → ⊥
+          none_there k f e = cc

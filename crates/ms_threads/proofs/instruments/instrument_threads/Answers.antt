@@ -1,0 +1,29 @@
+use Rattle.std.proofs.Common.{ℕ, List}
+use Rattle.ms_runs.specs.declared.runs.Setup.{Setup}
+use Rattle.ms_runs.specs.Faithful.{Fair}
+use Rattle.ms_tables.proofs.Items.{under_ok}
+use Rattle.ms_elision_laws.specs.Elided.{IsElided}
+use Rattle.ms_threads_runs.specs.PlainFibers.{plain_threads}
+use Rattle.ms_threads.specs.Faithful.{FaithfulThreads, IsSchedule}
+use Rattle.ms_threads.specs.Fills.{ThreadsHoldUnderFills}
+use Rattle.ms_threads.proofs.FaithfulRuns.{faithful_threads, threads_hold}
+use Rattle.ms_threads.proofs.instruments.instrument_threads.Goals as goal
+
+pub returns : goal.returns
+returns g c =
+    let m = c.args.m.now in
+    let formed = c.is_valid.ensures.formed in
+    let valid = c.is_valid.ensures.valid in
+    let made = c.instrument.ensures in
+    record {
+      threads = under_ok c.instrument.result (λ j. IsElided m j) (λ j. FaithfulThreads m j) (λ j elided. faithful_threads m formed valid c.requires j elided) made.pass;
+      pass = made.pass;
+      checks = made.checks;
+      faithful = made.faithful;
+      stripped = made.stripped;
+      undisturbed = made.undisturbed;
+      pieces = made.pieces;
+      holds = under_ok c.instrument.result (λ j. IsElided m j)
+          (λ j. (setup : Setup) → Fair setup → (schedule : List ℕ) → IsSchedule schedule → ThreadsHoldUnderFills m setup schedule (plain_threads j setup schedule))
+          (λ j elided setup fair schedule some. threads_hold m formed valid c.requires j elided setup fair schedule) made.pass;
+    }

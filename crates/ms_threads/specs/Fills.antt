@@ -1,0 +1,20 @@
+-- What the result of a checked run with threads promises of runs under other fills (own).
+use Rattle.std.specs.Prelude.{◌≡◌, ℕ, List, [], ◌∷◌}
+use Rattle.ms_ir.specs.declared.syntax.Module.{Module}
+use Rattle.ms_runs.specs.declared.runs.Setup.{Setup}
+use Rattle.ms_runs.specs.declared.runs.Report.{Report}
+use Rattle.ms_runs.specs.declared.runs.RunResult.{RunResult}
+use Rattle.ms_runs.specs.Verdict.{Clean, verdict_of}
+use Rattle.ms_runs_good.specs.Fills.{IsFill, refilled, to_first_report, SameShown}
+use Rattle.ms_threads_runs.specs.PlainFibers.{plain_threads}
+use Rattle.ms_threads_runs.specs.ShadowFibers.{shadow_threads}
+
+-- where the verdict is clean, the program itself prints the same and ends in the same way under every fill; where no blind use was
+-- counted, the run up to the first report is the same under every fill: its output, its end and that report. All runs have one
+-- schedule
+pub record ThreadsHoldUnderFills (m : Module) (setup : Setup) (schedule : List ℕ) (r : RunResult) : Type 0 where
+  pub clean : verdict_of r ≡ Clean → (fill : List ℕ) → IsFill fill → SameShown (plain_threads m (refilled setup fill) schedule) r
+  pub first : r.blind ≡ 0 → (report : Report) (rest : List Report) → r.reports ≡ report ∷ rest
+      → (shadow_threads m (to_first_report setup) schedule).reports ≡ report ∷ []
+  pub same : r.blind ≡ 0 → (fill : List ℕ) → IsFill fill
+      → shadow_threads m (refilled (to_first_report setup) fill) schedule ≡ shadow_threads m (to_first_report setup) schedule

@@ -1,0 +1,230 @@
+-- What a run of threads keeps from pause to pause (own).
+use Rattle.std.specs.Prelude.{◌≡◌, ◌<◌, ◌≤◌, ◌+◌, ◌*◌, ◌%◌, ◌^◌, ℕ, suc, false, not, List, length, reverse, eqb, Option, Some, None, slice_get}
+use Rattle.ms_ir.specs.declared.syntax.Module.{Module}
+use Rattle.ms_ir.specs.Code.{over_funcs, count_roots}
+use Rattle.ms_runs.specs.declared.runs.End.{End}
+use Rattle.ms_runs.specs.declared.runs.Setup.{Setup}
+use Rattle.ms_runs.specs.World.{World}
+use Rattle.ms_runs.specs.Control.{Frame}
+use Rattle.ms_runs.specs.Threads.{result_mask, result_origin}
+use Rattle.ms_runs.specs.Plain.{PlainState, Stepped, setting_of}
+use Rattle.ms_runs_good.specs.GoodStates.{GoodFrames, IsBelow, IsStart}
+use Rattle.ms_runs_good.specs.GoodWorlds.{GoodWorld, GivesBytes, FitsCell}
+use Rattle.ms_threads_runs.specs.Fibers.{Meaning, Others, Fibers, Goes, Waits, waits as must_wait, goes_on, moves, finish, fibers_step, ends_in}
+use Rattle.ms_threads_runs.specs.PlainFibers.{Shared, plain_fiber, plain_threads, plain_threads_start}
+use Rattle.ms_host.specs.State.{WorldState, Beside}
+use Rattle.ms_host.specs.Shows.{Shows}
+use Rattle.ms_host.specs.SlotBytes.{ShowsSlots}
+use Rattle.ms_host.specs.Answers.{Answered, asked_effect}
+use Rattle.ms_host.specs.declared.calls.Asked.{Asked}
+use Rattle.ms_host.specs.declared.calls.Asked.TheVariants as asked
+use Rattle.ms_host.specs.declared.calls.Answer.{Answer}
+use Rattle.ms_host.specs.declared.calls.Answer.TheVariants as answer
+use Rattle.ms_host.specs.declared.calls.HostCall.{HostCall}
+use Rattle.ms_printf.specs.CallSites.{AreCallSites}
+use Rattle.ms_machine_steps.specs.Owning.{blocks_of}
+use Rattle.ms_machine_steps.specs.Standing.{frames_of}
+use Rattle.ms_machine_steps.specs.Waiting.{FirstWaits, types_due}
+use Rattle.ms_machine_steps.specs.Advances.{Resumes, Stops}
+use Rattle.ms_machine.specs.Running.{AllStandFor, IsRunning}
+use Rattle.ms_runtime.specs.declared.runs.Running.{Running}
+use Rattle.ms_runtime.specs.Served.{IsBeside}
+use Rattle.ms_runtime.specs.Answering.{HasRoom}
+use Rattle.ms_runtime.specs.Going.{ahead, Keeping, Answers, LeftBehind, HasSlack}
+use Rattle.ms_threads.specs.declared.guests.Thread.{Thread as Guest}
+use Rattle.ms_threads.specs.declared.guests.Standing.{Standing}
+use Rattle.ms_threads.specs.declared.guests.Guests.{Guests}
+use Rattle.ms_threads.specs.declared.runs.Threads.{Threads}
+use Rattle.ms_threads.specs.Guests.{threads_of, funcs_of, stands_of, guest_at, call_joins, IsThreadCall, Counted, Shares, Changed, ended_guest}
+
+-- ---- where fibers stand
+
+-- a thread that stands at a thread call stands for a fiber, whatever the world is
+pub record StandsFor (m : Module) (u : Setup) (number : ℕ) (s : Standing) (fs : List (Frame ℕ)) : Type 0 where
+  pub frames : AllStandFor m (frames_of s.fiber) fs
+  pub waits : FirstWaits m u fs s.call
+  pub call : IsThreadCall s.call.asked
+  pub good : GoodFrames IsBelow m fs
+  pub spawned : s.fiber.spawned ≡ not (eqb number 0)
+  pub blocks : reverse s.fiber.heap.items ≡ blocks_of fs
+
+-- a thread stands where a fiber stands, or both stand nowhere
+abbrev pub StandsAt : Module → Setup → ℕ → Option Standing → Option (List (Frame ℕ)) → Type 0
+StandsAt m u number None None = Unit {0}
+StandsAt m u number (Some s) (Some frames) = StandsFor m u number s frames
+StandsAt m u number s frames = ⊥
+
+-- the threads that don't go on stand where fibers stand, and as many picks were made; each can begin with its function
+pub record Standings (m : Module) (u : Setup) (schedule : List ℕ) (g : Guests) (others : Others (List (Frame ℕ))) : Type 0 where
+  pub counted : Counted g
+  pub turn : g.turn < length g.stands.items
+  pub stands : (k : ℕ) → StandsAt m u k (stands_of g k) (others.stands k)
+  pub place : g.place ≡ others.picks % length schedule
+  pub starts : (k f : ℕ) → slice_get (funcs_of g) k ≡ Some f → IsStart m f
+
+-- ---- how a run ends
+
+abbrev pub fiber_of : Module → Setup → Meaning (List (Frame ℕ)) Shared
+fiber_of m u = plain_fiber (setting_of m u) m
+
+abbrev pub shared_in : PlainState → Shared
+shared_in state = record { slots = state.slots; world = state.world }
+
+-- the state of fibers in which one goes on
+abbrev pub goes_at : PlainState → Others (List (Frame ℕ)) → Fibers (List (Frame ℕ)) Shared
+goes_at state others = Goes state.frames (shared_in state) others
+
+-- from a state of fibers on, with so many steps, and from a step on
+abbrev pub ends_from : Module → Setup → List ℕ → ℕ → Fibers (List (Frame ℕ)) Shared → End × World
+ends_from m u schedule left c = ends_in (fiber_of m u) schedule left c
+
+abbrev pub ends_after : Module → Setup → List ℕ → ℕ → Stepped (Fibers (List (Frame ℕ)) Shared) → End × World
+ends_after m u schedule left step = finish (fiber_of m u) (ends_from m u schedule left) step
+
+-- how the whole run ends
+abbrev pub last_of : Module → Setup → List ℕ → End × World
+last_of m u schedule = ends_from m u schedule u.steps (plain_threads_start m u)
+
+-- ---- a run
+
+-- what a run has where no thread goes on
+pub record Between (m : Module) (u : Setup) (schedule : List ℕ) (t : Threads) (beside : Beside) (shared : Shared) (others : Others (List (Frame ℕ))) : Type 0 where
+  pub bytes : GivesBytes u
+  pub shows : Shows t.running.world beside shared.world
+  pub slots : ShowsSlots t.running.world.slots shared.slots
+  pub fill : t.running.world.fill ≡ u.fill
+  pub held : (a : ℕ) → shared.slots a < 256
+  pub good : GoodWorld FitsCell shared.world
+  pub told : IsBeside t.running.depot t.running.told beside
+  pub shares : Shares t.guests beside.fibers
+  pub stands : Standings m u schedule t.guests others
+  pub roots : t.running.depot.roots ≡ count_roots m
+  pub few : length t.running.told.reports < u.reports
+  pub room : t.running.world.made + 2 ^ 27 * t.running.budget.left ≤ 2 ^ 58
+  pub printf : AreCallSites m t.running.printf.calls
+
+-- how far it is at most to the end of a run, wherever the thread stands that goes on
+abbrev pub most_ahead : Module → Running → ℕ
+most_ahead m r = let all = over_funcs (λ inst. 1) m.funcs in r.budget.left * (all + 1) + all
+
+-- a thread goes on
+pub record Going (m : Module) (u : Setup) (schedule : List ℕ) (t : Threads) : Type 0 where
+  pub beside : Beside
+  pub state : PlainState
+  pub others : Others (List (Frame ℕ))
+  pub stands : IsRunning m u beside t.running.fiber t.running.world state
+  pub told : IsBeside t.running.depot t.running.told beside
+  pub keeping : Keeping m u t.running
+  pub shares : Shares t.guests beside.fibers
+  pub standings : Standings m u schedule t.guests others
+  pub same : ends_from m u schedule t.running.budget.left (goes_at state others) ≡ last_of m u schedule
+
+-- the same of a thread that waits for the answer of a call: behind an external another one may go on
+abbrev pub far_of : Module → Asked → Running → ℕ
+far_of m (asked.External e) r = suc (most_ahead m r)
+far_of m (asked.Runtime f) r = ahead m r
+
+-- a thread waits for the answer of a call: what it comes to then depends on the step, within which it stands
+pub record Asking (m : Module) (u : Setup) (schedule : List ℕ) (call : HostCall) (t : Threads) : Type 0 where
+  pub beside : Beside
+  pub within : PlainState
+  pub others : Others (List (Frame ℕ))
+  pub stands : IsRunning m u beside t.running.fiber t.running.world within
+  pub waits : FirstWaits m u within.frames call
+  pub told : IsBeside t.running.depot t.running.told beside
+  pub keeping : Keeping m u t.running
+  pub slack : HasSlack call.asked t.running.world.made t.running.budget.left
+  pub blind : t.running.told.blind + far_of m call.asked t.running ≤ 2 ^ 62 + 1
+  pub shares : Shares t.guests beside.fibers
+  pub standings : Standings m u schedule t.guests others
+  pub rest : ℕ
+  pub counted : LeftBehind call.asked rest t.running.budget.left
+  pub same : ends_after m u schedule rest (fibers_step (fiber_of m u) schedule (goes_at within others)) ≡ last_of m u schedule
+
+-- a call at which a thread stands was answered: what is left is to go behind it
+pub record Behind (m : Module) (u : Setup) (schedule : List ℕ) (call : HostCall) (a : Answer) (t : Threads) : Type 0 where
+  pub before : WorldState
+  pub old : Beside
+  pub within : PlainState
+  pub others : Others (List (Frame ℕ))
+  pub stands : IsRunning m u old t.running.fiber before within
+  pub waits : FirstWaits m u within.frames call
+  pub beside : Beside
+  pub told : IsBeside t.running.depot t.running.told beside
+  pub answered : Answered beside (asked_effect (setting_of m u) (types_due m within.frames) call within.world) a t.running.world
+  pub fill : t.running.world.fill ≡ before.fill
+  pub slots : t.running.world.slots ≡ before.slots
+  pub few : HasRoom u a t.running
+  pub blind : t.running.told.blind + ahead m t.running ≤ 2 ^ 62 + 1
+  pub roots : t.running.depot.roots ≡ count_roots m
+  pub room : t.running.world.made + 2 ^ 27 * t.running.budget.left ≤ 2 ^ 58
+  pub printf : AreCallSites m t.running.printf.calls
+  pub shares : (v : Option ℕ) → a ≡ answer.Resumed v → Shares t.guests beside.fibers
+  pub standings : Standings m u schedule t.guests others
+  pub goes : (next : PlainState) → Resumes m u call.asked within next → ends_from m u schedule t.running.budget.left (goes_at next others) ≡ last_of m u schedule
+  pub stops : (e : End) (last : World) → Stops m u call.asked within e last → (e, last) ≡ last_of m u schedule
+
+-- a pick is due
+pub record Picking (m : Module) (u : Setup) (schedule : List ℕ) (t : Threads) : Type 0 where
+  pub beside : Beside
+  pub shared : Shared
+  pub others : Others (List (Frame ℕ))
+  pub between : Between m u schedule t beside shared others
+  pub blind : t.running.told.blind + most_ahead m t.running ≤ 2 ^ 62
+  pub same : ends_from m u schedule t.running.budget.left (Waits shared others) ≡ last_of m u schedule
+
+-- a thread was picked that does the call at which it stood, and needn't wait
+pub record Performing (m : Module) (u : Setup) (schedule : List ℕ) (s : Standing) (t : Threads) : Type 0 where
+  pub beside : Beside
+  pub shared : Shared
+  pub others : Others (List (Frame ℕ))
+  pub frames : List (Frame ℕ)
+  pub between : Between m u schedule t beside shared others
+  pub blind : t.running.told.blind + most_ahead m t.running ≤ 2 ^ 62
+  pub stood : StandsFor m u t.guests.turn s frames
+  pub free : must_wait t.guests.turn (threads_of t.guests) (call_joins s.call) ≡ false
+  pub left : ℕ
+  pub some : t.running.budget.left ≡ suc left
+  pub same : ends_after m u schedule left (goes_on ((fiber_of m u).perform frames shared) (moves (fiber_of m u) others)) ≡ last_of m u schedule
+
+-- a thread was picked that begins
+pub record Beginning (m : Module) (u : Setup) (schedule : List ℕ) (t : Threads) : Type 0 where
+  pub beside : Beside
+  pub shared : Shared
+  pub others : Others (List (Frame ℕ))
+  pub between : Between m u schedule t beside shared others
+  pub blind : t.running.told.blind + most_ahead m t.running ≤ 2 ^ 62
+  pub guest : Guest
+  pub there : guest_at t.guests.turn t.guests.threads.items ≡ Some guest
+  pub left : ℕ
+  pub some : t.running.budget.left ≡ suc left
+  pub same : ends_after m u schedule left (moves (fiber_of m u) others ((fiber_of m u).begun guest.func guest.argument shared)) ≡ last_of m u schedule
+
+-- the thread that has the turn has ended with a word, whose mask and origin the slots hold
+abbrev pub HasEnded : (value : ℕ) → Threads → Threads → Type 0
+HasEnded value old new = (cells : ℕ → ℕ) → ShowsSlots old.running.world.slots cells → Changed old.guests.turn (ended_guest value (result_mask cells) (result_origin cells)) old.guests new.guests
+
+-- a run goes on, and is nearer to its end, or it has ended
+abbrev pub Turned : Module → Setup → List ℕ → ℕ → Option End → Threads → Type 0
+Turned m u schedule far None t = Going m u schedule t × (ahead m t.running < far)
+Turned m u schedule far (Some e) t = Answers (plain_threads m u schedule) e t.running
+
+-- ---- with some setup and schedule
+
+abbrev pub IsGoing : Module → ℕ → List ℕ → Threads → Type 0
+IsGoing m limit schedule t = (u : Setup) × ((u.reports ≡ limit) × Going m u schedule t)
+
+abbrev pub IsAsking : Module → ℕ → HostCall → Threads → Type 0
+IsAsking m limit call t = (u : Setup) × (schedule : List ℕ) × ((u.reports ≡ limit) × Asking m u schedule call t)
+
+abbrev pub IsBehind : Module → HostCall → Answer → Threads → Type 0
+IsBehind m call a t = (u : Setup) × (schedule : List ℕ) × Behind m u schedule call a t
+
+abbrev pub IsPicking : Module → List ℕ → Threads → Type 0
+IsPicking m schedule t = (u : Setup) × Picking m u schedule t
+
+abbrev pub IsPerforming : Module → Standing → Threads → Type 0
+IsPerforming m s t = (u : Setup) × (schedule : List ℕ) × Performing m u schedule s t
+
+abbrev pub IsBeginning : Module → Threads → Type 0
+IsBeginning m t = (u : Setup) × (schedule : List ℕ) × Beginning m u schedule t

@@ -1,0 +1,309 @@
+//! The threads of a run: what each is, and where the ones stand that don't go on.
+ghost use Rattle.std.specs.Prelude.{◌≡◌, ◌<◌, ◌≤◌, ◌+◌, ◌-◌, get_or, length, leb, true, false, None, Some, [], IfOk, OnOk, MatchBool, eqb, if◌then◌else◌};
+ghost use Rattle.ms_runs.specs.Threads.{fiber_limit, thread_at, join_answer as join_answer_of, has_ended as has_ended_of};
+ghost use Rattle.ms_threads_runs.specs.Fibers.{waits as waits_of, is_runnable as is_runnable_of};
+ghost use Rattle.ms_threads.specs.Guests.{guest_at, asked_creates, call_joins, standing_joins, threads_of, stands_of, runnable_in, joined_guest, ended_guest, Counted, IsNew, Added, Changed, Stands, Picked, part_at, site_of};
+
+use ms_bits::NoMemory;
+use ms_host::{Asked, HostCall};
+use ms_ir::External;
+use ms_machine_steps::Fiber;
+use std::alloc::Global;
+use std::mem::replace;
+
+/// How many threads may be made, that of `main` counted.
+const LIMIT: usize = 64;
+
+/// A thread beside `main`'s.
+#[derive(Clone, Copy, Debug, PartialEq, Eq)]
+pub struct Thread {
+    /// The number of the function that it begins with.
+    pub func: u64,
+    pub argument: u64,
+    pub ended: bool,
+    pub joined: bool,
+    /// The word that it answered, where it has ended.
+    pub answer: u64,
+    /// The mask of that word: a 1 for each uninitialised bit.
+    pub mask: u64,
+    /// The origin of those bits; 0 where there are none.
+    pub origin: u32,
+}
+
+/// A thread that stands at a thread call.
+#[derive(Drop)]
+pub struct Standing {
+    pub fiber: Fiber,
+    pub call: HostCall,
+}
+
+/// The threads of a run.
+#[derive(Drop)]
+pub struct Guests {
+    /// The number of the one that goes on; that of `main` is 0.
+    pub turn: usize,
+    /// Those beside `main`'s, in order of number, which begins with 1.
+    pub threads: Vec<Thread>,
+    /// Where each stands, by number from 0; the one that goes on, those that haven't begun and those that have ended stand
+    /// nowhere.
+    pub stands: Vec<Option<Standing>>,
+    /// The place in the schedule of the next pick.
+    pub place: usize,
+}
+
+/// Whether a call makes a thread.
+pub(crate) fn creates(call: &HostCall) -> bool
+    ensures { result ≡ asked_creates call.now.asked }
+{
+    match call.asked {
+        Asked::External(External::PthreadCreate) => true,
+        _ => false,
+    }
+}
+
+/// The thread that a call joins, if it is a join.
+pub(crate) fn joins(call: &HostCall) -> Option<u64>
+    ensures { result ≡ call_joins call.now }
+{
+    match call.asked {
+        Asked::External(External::PthreadJoin) => Some(word(call.args.as_slice(), 0)),
+        _ => None,
+    }
+}
+
+/// An argument; 0 where it is missing.
+pub(crate) fn word(args: &[u64], k: usize) -> u64
+    ensures { result ≡ get_or args.now k 0 }
+{
+    if k < args.len() { args[k] } else { 0 }
+}
+
+/// The origin of a word with a mask: 0 where no bit is uninitialised.
+fn kept_origin(mask: u64, origin: u32) -> u32
+    ensures { result ≡ (if eqb mask 0 then 0 else origin) }
+{
+    if mask == 0 { 0 } else { origin }
+}
+
+/// 1 where a test was passed, else 0.
+fn one_if(passed: bool) -> usize
+    ensures { result ≡ (if passed then 1 else 0) }
+{
+    if passed { 1 } else { 0 }
+}
+
+impl Guests {
+    /// The threads at the start of a run: that of `main`, which goes on.
+    pub fn new(alloc: Global) -> Result<Guests, NoMemory>
+        ensures { IfOk result IsNew }
+    {
+        let mut stands = Vec::new(alloc);
+        stands.push(None)?;
+        Ok(Guests {
+            turn: 0,
+            threads: Vec::new(alloc),
+            stands,
+            place: 0,
+        })
+    }
+
+    /// Whether as many threads were made as may be.
+    pub fn is_full(&self) -> bool
+        ensures { result ≡ leb fiber_limit (length self.now.threads.items + 1) }
+    {
+        self.threads.len() + 1 >= LIMIT
+    }
+
+    /// Adds a thread that hasn't begun, whose number is that of those made before it.
+    pub fn add(&mut self, func: u64, argument: u64) -> Result<(), NoMemory>
+        ensures { OnOk result (Added func argument self.old self.new) }
+    {
+        self.threads.push(Thread {
+            func,
+            argument,
+            ended: false,
+            joined: false,
+            answer: 0,
+            mask: 0,
+            origin: 0,
+        })?;
+        self.stands.push(None)?;
+        Ok(())
+    }
+
+    /// The thread with a number; that of `main` is none of these.
+    pub fn thread(&self, number: u64) -> Option<Thread>
+        ensures { result ≡ guest_at number self.now.threads.items }
+    {
+        if number == 0 || number > self.threads.len() as u64 {
+            return None;
+        }
+        Some(self.threads[(number - 1) as usize])
+    }
+
+    /// Whether the thread with a number has ended.
+    pub fn has_ended(&self, number: u64) -> bool
+        ensures { result ≡ has_ended_of (thread_at number (threads_of self.now)) }
+    {
+        match self.thread(number) {
+            Some(thread) => thread.ended,
+            None => false,
+        }
+    }
+
+    /// What a join of the thread with a number answers to another: 35 for the caller's own number, 3 for no thread's and
+    /// that of one that was joined, else 0.
+    pub fn join_answer(&self, own: u64, number: u64) -> u64
+        ensures { result ≡ join_answer_of own number (threads_of self.now) }
+    {
+        if number == own {
+            return 35;
+        }
+        match self.thread(number) {
+            Some(thread) => { if thread.joined { 3 } else { 0 } }
+            None => 3,
+        }
+    }
+
+    /// The word that the thread with a number answered; 0 where there is none.
+    pub fn answer_at(&self, number: u64) -> u64
+        requires { 0 < number }
+        ensures { result ≡ part_at (λ t. t.answer) self.now.threads.items (number - 1) }
+    {
+        match self.thread(number) {
+            Some(thread) => thread.answer,
+            None => 0,
+        }
+    }
+
+    /// The thread with a number was joined.
+    pub fn join(&mut self, number: u64)
+        requires some { 0 < number }
+        requires few { number ≤ length self.old.threads.items }
+        ensures { Changed number joined_guest self.old self.new }
+    {
+        let k = (number - 1) as usize;
+        let mut thread = self.threads[k];
+        thread.joined = true;
+        self.threads[k] = thread;
+    }
+
+    /// The thread that goes on has ended with a word; where that of `main` goes on, nothing changes.
+    pub fn end(&mut self, answer: u64, mask: u64, origin: u32)
+        requires { self.old.turn ≤ length self.old.threads.items }
+        ensures { Changed self.old.turn (ended_guest answer mask origin) self.old self.new }
+    {
+        if self.turn == 0 {
+            return;
+        }
+        let kept = kept_origin(mask, origin);
+        let k = self.turn - 1;
+        let mut thread = self.threads[k];
+        thread.ended = true;
+        thread.answer = answer;
+        thread.mask = mask;
+        thread.origin = kept;
+        self.threads[k] = thread;
+    }
+
+    /// The thread that goes on stands at a call.
+    pub fn stand(&mut self, fiber: Fiber, call: HostCall)
+        requires { self.old.turn < length self.old.stands.items }
+        ensures { Stands (Some (record { fiber = fiber; call = call })) self.old self.new }
+    {
+        self.stands[self.turn] = Some(Standing { fiber, call });
+    }
+
+    /// Whether a thread with a number has to wait at a call: at a join that would answer 0, of one that hasn't ended.
+    fn waits(&self, own: u64, call: &HostCall) -> bool
+        ensures { result ≡ waits_of own (threads_of self.now) (call_joins call.now) }
+    {
+        match joins(call) {
+            Some(number) => self.join_answer(own, number) == 0 && !self.has_ended(number),
+            None => false,
+        }
+    }
+
+    /// Whether the thread with a number may go on: it hasn't ended, and hasn't begun or stands at a call that needn't wait.
+    fn is_runnable(&self, k: usize) -> bool
+        requires { k < length self.now.stands.items }
+        ensures { result ≡ is_runnable_of standing_joins (threads_of self.now) (stands_of self.now) k }
+    {
+        if self.has_ended(k as u64) {
+            return false;
+        }
+        match &self.stands[k] {
+            Some(standing) => !self.waits(k as u64, &standing.call),
+            None => self.thread(k as u64).is_some(),
+        }
+    }
+
+    /// How many may go on.
+    fn count_runnable(&self) -> usize
+        requires { Counted self.now }
+        ensures { result ≡ length (runnable_in self.now) }
+    {
+        let mut count = 0;
+        for k in 0..self.stands.len() {
+            let one = one_if(self.is_runnable(k));
+            count += one;
+        }
+        count
+    }
+
+    /// The number of the one that may go on which stands at a place among those, in order of number.
+    fn runnable_at(&self, place: usize) -> usize
+        requires counted { Counted self.now }
+        requires within { place < length (runnable_in self.now) }
+        ensures { result ≡ get_or (runnable_in self.now) place 0 }
+    {
+        let mut seen = 0;
+        for k in 0..self.stands.len() {
+            let one = one_if(self.is_runnable(k));
+            seen += one;
+            if seen > place {
+                return k;
+            }
+        }
+        0
+    }
+
+    /// A pick: the thread that the schedule gives among those that may go on has the turn. Answers whether there is one.
+    pub fn pick(&mut self, schedule: &[u8]) -> bool
+        requires counted { Counted self.old }
+        requires place { self.old.place < length schedule.now }
+        ensures { MatchBool result (Picked schedule.now self.old self.new) ((runnable_in self.old ≡ []) × (self.new ≡ self.old)) }
+    {
+        let count = self.count_runnable();
+        if count == 0 {
+            return false;
+        }
+        self.turn = self.runnable_at(schedule[self.place] as usize % count);
+        self.place = if self.place + 1 < schedule.len() {
+            self.place + 1
+        } else {
+            0
+        };
+        true
+    }
+
+    /// The site of the call at which the thread of `main` stands; 0 where it stands nowhere.
+    pub fn main_site(&self) -> u32
+        requires { 0 < length self.now.stands.items }
+        ensures { result ≡ site_of (stands_of self.now 0) }
+    {
+        match &self.stands[0] {
+            Some(standing) => standing.call.site,
+            None => 0,
+        }
+    }
+
+    /// Where the one that has the turn stands, if it has begun; it stands nowhere then.
+    pub fn take_standing(&mut self) -> Option<Standing>
+        requires { self.old.turn < length self.old.stands.items }
+        ensures taken { result ≡ stands_of self.old self.old.turn }
+        ensures stands { Stands None self.old self.new }
+    {
+        replace(&mut self.stands[self.turn], None)
+    }
+}

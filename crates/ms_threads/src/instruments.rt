@@ -1,0 +1,67 @@
+//! The instrumented form of a module with threads.
+ghost use Rattle.std.specs.Prelude.{◌≡◌, ℕ, List, IfOk};
+ghost use Rattle.ms_ir.specs.Code.{strip};
+ghost use Rattle.ms_runs.specs.declared.runs.Setup.{Setup as SetupOf};
+ghost use Rattle.ms_runs.specs.Faithful.{Fair, Faithful, Undisturbed};
+ghost use Rattle.ms_runs.specs.Plain.{plain};
+ghost use Rattle.ms_valid.specs.Formed.{Formed};
+ghost use Rattle.ms_valid.specs.Uninstrumented.{CanInstrument};
+ghost use Rattle.ms_valid.specs.Valid.{Valid};
+ghost use Rattle.ms_elision_laws.specs.Elided.{IsElided, ChecksUnclean};
+ghost use Rattle.ms_pass.specs.Passed.{IsMadeOf};
+ghost use Rattle.ms_threads_runs.specs.PlainFibers.{plain_threads};
+ghost use Rattle.ms_threads.specs.Faithful.{FaithfulThreads, IsSchedule};
+ghost use Rattle.ms_threads.specs.Fills.{ThreadsHoldUnderFills};
+
+use ms_bits::NoMemory;
+use ms_check::CheckedModule;
+use ms_fork::Gate;
+use ms_ir::Module;
+use ms_pass::{instrument, instrumented};
+use std::alloc::Global;
+use std::thread::Threads;
+
+/// Inserts shadow code into a module that can be instrumented, as `instrument` does: under each schedule the plain run of the
+/// answer is the shadow run of the module, and without what is inserted it is the module itself. The output of a run is a
+/// beginning of the module's own. Where the run up to the first report counts no blind use, it is the same under every fill.
+/// The one error is want of memory, in any piece. Linear in the module.
+pub fn instrument_threads<R: Threads + Sync, G: Gate + Sync>(
+    rt: &R,
+    alloc: Global,
+    m: &CheckedModule,
+    gate: &G,
+) -> Result<CheckedModule, NoMemory>
+    requires { CanInstrument m.now }
+    ensures threads { IfOk result (λ j. FaithfulThreads m.now j) }
+    ensures pass { IfOk result (λ j. IsElided m.now j) }
+    ensures checks { IfOk result (λ j. ChecksUnclean m.now j) }
+    ensures faithful { IfOk result (λ j. Faithful m.now j) }
+    ensures stripped { IfOk result (λ j. strip j ≡ m.now) }
+    ensures undisturbed { IfOk result (λ j. (setup : SetupOf) → Fair setup → Undisturbed (plain j setup) (plain m.now setup)) }
+    ensures pieces { IfOk result (λ j. IsMadeOf m.now j) }
+    ensures holds { IfOk result (λ j. (setup : SetupOf) → Fair setup → (schedule : List ℕ) → IsSchedule schedule → ThreadsHoldUnderFills m.now setup schedule (plain_threads j setup schedule)) }
+{
+    m.is_valid();
+    instrument(rt, alloc, m, gate)
+}
+
+/// The same as a module that is to be written and not run, so that no code of it is made. It is formed and valid. The one error is
+/// want of memory.
+pub fn instrumented_threads<R: Threads + Sync, G: Gate + Sync>(
+    rt: &R,
+    alloc: Global,
+    m: &CheckedModule,
+    gate: &G,
+) -> Result<Module, NoMemory>
+    requires { CanInstrument m.now }
+    ensures threads { IfOk result (λ j. FaithfulThreads m.now j) }
+    ensures pass { IfOk result (λ j. IsElided m.now j) }
+    ensures stripped { IfOk result (λ j. strip j ≡ m.now) }
+    ensures formed { IfOk result (λ j. Formed j) }
+    ensures valid { IfOk result (λ j. Valid j) }
+    ensures pieces { IfOk result (λ j. IsMadeOf m.now j) }
+    ensures holds { IfOk result (λ j. (setup : SetupOf) → Fair setup → (schedule : List ℕ) → IsSchedule schedule → ThreadsHoldUnderFills m.now setup schedule (plain_threads j setup schedule)) }
+{
+    m.is_valid();
+    instrumented(rt, alloc, m, gate)
+}

@@ -1,0 +1,13 @@
+//! Programs with threads. A thread is a fiber over one world, on one thread of the host, and a schedule that is handed in picks
+//! which one goes on.
+#![tactic(auto)]
+
+mod calls;
+mod guests;
+mod instruments;
+mod runs;
+mod searching;
+
+pub use instruments::{instrument_threads, instrumented_threads};
+pub use runs::run_threads;
+pub use searching::threaded;

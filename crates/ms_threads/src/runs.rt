@@ -1,0 +1,289 @@
+//! Whole runs of programs with threads.
+ghost use Rattle.std.specs.Prelude.{◌≡◌, ◌<◌, ◌≤◌, ◌^◌, ℕ, List, suc, None, length, IfOk, OnOk, MatchBool};
+ghost use Rattle.ms_ir.specs.declared.syntax.Module.{Module as ModuleOf};
+ghost use Rattle.ms_ir.specs.declared.calls.RuntimeFn.TheVariants.{ThreadResult as ResultOf};
+ghost use Rattle.ms_runs.specs.declared.runs.Setup.{Setup as SetupOf};
+ghost use Rattle.ms_runs.specs.Limits.{WithinLimits};
+ghost use Rattle.ms_threads_runs.specs.PlainFibers.{plain_threads};
+ghost use Rattle.ms_host.specs.declared.calls.Answer.TheVariants.{Resumed as ResumedOf};
+ghost use Rattle.ms_runtime.specs.Answering.{AnsweredFor};
+ghost use Rattle.ms_runtime.specs.Going.{ahead};
+ghost use Rattle.ms_runtime.specs.Served.{Fits};
+ghost use Rattle.ms_threads.specs.Faithful.{IsSchedule};
+ghost use Rattle.ms_threads.specs.Guests.{IsThreadCall, IsResult};
+ghost use Rattle.ms_threads.specs.Going.{Asking, Behind, Picking, Performing, Beginning, Going, HasEnded, Turned, IsGoing, IsAsking, IsBehind, IsPicking, IsPerforming, IsBeginning, most_ahead, far_of};
+
+use crate::guests::{Guests, Standing, word};
+use ms_bits::{NoMemory, Trap};
+use ms_check::CheckedModule;
+use ms_host::{Answer, Asked, HostCall};
+use ms_ir::RuntimeFn;
+use ms_machine::{advance, resume, spawn};
+use ms_machine_steps::{Pause, no_fiber};
+use ms_runs::{End, RunResult, Setup};
+use ms_runtime::{Running, begun, thread_result};
+use std::alloc::Global;
+use std::mem::replace;
+
+/// A run of threads between two pauses.
+#[derive(Drop)]
+pub struct Threads {
+    /// The thread that goes on, with what all share.
+    pub running: Running,
+    pub guests: Guests,
+}
+
+/// Whether a call is a thread call.
+fn is_thread_call(call: &HostCall) -> bool
+    ensures { MatchBool result (IsThreadCall call.now.asked) (¬ IsThreadCall call.now.asked) }
+{
+    match call.asked {
+        Asked::External(external) => external.is_thread_call(),
+        Asked::Runtime(_) => false,
+    }
+}
+
+/// Whether a call is that of `__msan_thread_result`.
+fn asks_result(call: &HostCall) -> bool
+    ensures { MatchBool result (IsResult call.now.asked) (¬ IsResult call.now.asked) }
+{
+    match call.asked {
+        Asked::Runtime(RuntimeFn::ThreadResult) => true,
+        _ => false,
+    }
+}
+
+/// A word of 64 bits.
+fn whole(word: u64) -> u64
+    ensures same { result ≡ word }
+    ensures few { result < 2 ^ 64 }
+{
+    word
+}
+
+impl Threads {
+    /// `__msan_thread_result`: where a join answered 0 and stored a word, that has the mask and the origin with which its
+    /// thread returned.
+    fn put_result(&mut self, call: &HostCall) -> Result<(), NoMemory>
+        requires asked { IsResult call.now.asked }
+        requires fits { Fits ResultOf call.now.args }
+        ensures answered { (m : ModuleOf) (u : SetupOf) (schedule : List ℕ) → (q : Asking m u schedule call.now self.old) → OnOk result (AnsweredFor m u call.now q.within (ResumedOf None) self.old.running self.new.running) }
+        ensures guests { self.new.guests ≡ self.old.guests }
+    {
+        let args = call.args.as_slice();
+        let addr = word(args, 0);
+        let id = word(args, 1);
+        let answer = word(args, 2);
+        let site = word(args, 3) as u32;
+        if answer != 0 {
+            return Ok(());
+        }
+        if addr == 0 {
+            return Ok(());
+        }
+        let Some(thread) = self.guests.thread(id) else {
+            return Ok(());
+        };
+        let ended = thread.ended;
+        if !ended {
+            return Ok(());
+        }
+        let world = &mut self.running.world;
+        let depot = &mut self.running.depot;
+        thread_result(addr, thread.mask, thread.origin, site, world, depot)
+    }
+
+    /// What a call comes to at which no other thread goes on.
+    fn answer_of(
+        &mut self,
+        alloc: Global,
+        m: &CheckedModule,
+        call: &HostCall,
+        reports: u32,
+    ) -> Result<Answer, NoMemory>
+        requires asking { IsAsking m.now reports call.now self.old }
+        requires other { ¬ IsThreadCall call.now.asked }
+        ensures answered { (u : SetupOf) (schedule : List ℕ) → u.reports ≡ reports → (q : Asking m.now u schedule call.now self.old) → IfOk result (λ a. AnsweredFor m.now u call.now q.within a self.old.running self.new.running) }
+        ensures guests { self.new.guests ≡ self.old.guests }
+    {
+        m.is_valid();
+        if asks_result(call) {
+            self.put_result(call)?;
+            return Ok(Answer::Resumed(None));
+        }
+        self.running.answer_of(alloc, m, call, reports)
+    }
+
+    /// Goes on behind an answered call. Says how the run ends, if it does.
+    fn go_behind(&mut self, m: &CheckedModule, call: HostCall, answer: Answer) -> Option<End>
+        requires behind { IsBehind m.now call answer self.old }
+        ensures turned { (u : SetupOf) (schedule : List ℕ) → Behind m.now u schedule call answer self.old → Turned m.now u schedule (ahead m.now self.old.running) result self.new }
+    {
+        m.is_valid();
+        let _code = m.program();
+        match answer {
+            Answer::Ended(end) => Some(end),
+            Answer::Resumed(value) => {
+                resume(m, &mut self.running.fiber, value);
+                self.running.fiber.keep(call.args);
+                None
+            }
+        }
+    }
+
+    /// The thread that goes on stands at a call.
+    fn stand(&mut self, alloc: Global, call: HostCall)
+        requires turn { self.old.guests.turn < length self.old.guests.stands.items }
+        ensures picking { (m : ModuleOf) (u : SetupOf) (schedule : List ℕ) → IsThreadCall call.asked → Asking m u schedule call self.old → Picking m u schedule self.new }
+        ensures budget { self.new.running.budget ≡ self.old.running.budget }
+    {
+        let fiber = replace(&mut self.running.fiber, no_fiber(alloc));
+        self.guests.stand(fiber, call);
+    }
+
+    /// The thread that goes on has ended with a word, whose mask and origin the slots hold.
+    fn end(&mut self, answer: u64)
+        requires turn { self.old.guests.turn ≤ length self.old.guests.threads.items }
+        ensures ended { HasEnded answer self.old self.new }
+        ensures running { self.new.running ≡ self.old.running }
+    {
+        let mask = self.running.world.result_mask();
+        let origin = self.running.world.result_origin();
+        self.guests.end(answer, mask, origin);
+    }
+
+    /// The thread that has the turn does the call at which it stands. Says how the run ends, if it does.
+    fn perform(&mut self, m: &CheckedModule, standing: Standing) -> Result<Option<End>, NoMemory>
+        requires performing { IsPerforming m.now standing self.old }
+        ensures turned { (u : SetupOf) (schedule : List ℕ) → Performing m.now u schedule standing self.old → IfOk result (λ end. Turned m.now u schedule (suc (most_ahead m.now self.old.running)) end self.new) }
+    {
+        m.is_valid();
+        let Standing { fiber, call } = standing;
+        self.running.fiber = fiber;
+        let answer = self.guests.answer(&call, &mut self.running.world)?;
+        Ok(self.go_behind(m, call, answer))
+    }
+
+    /// The thread that has the turn begins.
+    fn begin(&mut self, alloc: Global, m: &CheckedModule) -> Result<(), NoMemory>
+        requires beginning { IsBeginning m.now self.old }
+        ensures turned { (u : SetupOf) (schedule : List ℕ) → Beginning m.now u schedule self.old → OnOk result (Turned m.now u schedule (suc (most_ahead m.now self.old.running)) None self.new) }
+    {
+        m.is_valid();
+        let Some(thread) = self.guests.thread(self.guests.turn as u64) else {
+            return Ok(());
+        };
+        let func = thread.func as u32;
+        let argument = whole(thread.argument);
+        let fiber = spawn(alloc, m, func, argument)?;
+        self.running.fiber = fiber;
+        self.running.world.clear_first();
+        Ok(())
+    }
+
+    /// A pick, and then the thread goes on that has the turn. Says how the run ends, if it does.
+    fn pick(
+        &mut self,
+        alloc: Global,
+        m: &CheckedModule,
+        schedule: &[u8],
+    ) -> Result<Option<End>, NoMemory>
+        requires scheduled { IsSchedule schedule.now }
+        requires picking { IsPicking m.now schedule.now self.old }
+        ensures turned { (u : SetupOf) → Picking m.now u schedule.now self.old → IfOk result (λ end. Turned m.now u schedule.now (suc (most_ahead m.now self.old.running)) end self.new) }
+    {
+        if self.running.budget.left == 0 {
+            return Ok(Some(End::Spent));
+        }
+        if !self.guests.pick(schedule) {
+            return Ok(Some(End::Trap {
+                kind: Trap::Deadlock,
+                site: self.guests.main_site(),
+            }));
+        }
+        match self.guests.take_standing() {
+            Some(standing) => self.perform(m, standing),
+            None => {
+                self.begin(alloc, m)?;
+                Ok(None)
+            }
+        }
+    }
+
+    /// The call that was asked for, or, where that is a thread call, a pick. Says how the run ends, if it does.
+    fn call(
+        &mut self,
+        alloc: Global,
+        m: &CheckedModule,
+        call: HostCall,
+        reports: u32,
+        schedule: &[u8],
+    ) -> Result<Option<End>, NoMemory>
+        requires scheduled { IsSchedule schedule.now }
+        requires asking { (u : SetupOf) × ((u.reports ≡ reports) × Asking m.now u schedule.now call self.old) }
+        ensures turned { (u : SetupOf) → u.reports ≡ reports → Asking m.now u schedule.now call self.old → IfOk result (λ end. Turned m.now u schedule.now (far_of m.now call.asked self.old.running) end self.new) }
+    {
+        if is_thread_call(&call) {
+            self.stand(alloc, call);
+            return self.pick(alloc, m, schedule);
+        }
+        let answer = self.answer_of(alloc, m, &call, reports)?;
+        Ok(self.go_behind(m, call, answer))
+    }
+
+    /// Goes on to the next pause, and behind it. Says how the run ends, if it does.
+    fn turn(
+        &mut self,
+        alloc: Global,
+        m: &CheckedModule,
+        reports: u32,
+        schedule: &[u8],
+    ) -> Result<Option<End>, NoMemory>
+        requires scheduled { IsSchedule schedule.now }
+        requires going { IsGoing m.now reports schedule.now self.old }
+        ensures turned { (u : SetupOf) → u.reports ≡ reports → Going m.now u schedule.now self.old → IfOk result (λ end. Turned m.now u schedule.now (ahead m.now self.old.running) end self.new) }
+    {
+        m.is_valid();
+        let running = &mut self.running;
+        match advance(
+            alloc,
+            m,
+            &mut running.fiber,
+            &mut running.world,
+            &mut running.budget,
+        )? {
+            Pause::Spent => Ok(Some(End::Spent)),
+            Pause::Ended(end) => Ok(Some(end)),
+            Pause::Asked(call) => self.call(alloc, m, call, reports, schedule),
+            Pause::Finished { value } => {
+                self.end(value);
+                self.pick(alloc, m, schedule)
+            }
+        }
+    }
+}
+
+/// Runs a checked module with threads, under a schedule that isn't empty: the k-th pick of the run, counted from 0, takes of r
+/// threads that may go on, in order of number, the one at the place `schedule[k mod length] mod r`. Ok is what its plain run
+/// answers; the one error is want of memory.
+///
+/// A switch of threads takes time linear in the number of threads, of which 64 may be made.
+pub fn run_threads(
+    alloc: Global,
+    m: &CheckedModule,
+    setup: &Setup,
+    schedule: &[u8],
+) -> Result<RunResult, NoMemory>
+    requires limits { WithinLimits setup.now }
+    requires scheduled { IsSchedule schedule.now }
+    ensures { IfOk result (λ r. r ≡ plain_threads m.now setup.now schedule.now) }
+{
+    let running = begun(alloc, m, setup)?;
+    let guests = Guests::new(alloc)?;
+    let mut threads = Threads { running, guests };
+    loop {
+        if let Some(end) = threads.turn(alloc, m, setup.reports, schedule)? {
+            return Ok(threads.running.into_result(end));
+        }
+    }
+}

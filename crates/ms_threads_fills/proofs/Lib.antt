@@ -1,0 +1,5 @@
+pub mod LowCalls
+pub mod LowFibers
+pub mod FirstFibers
+pub mod ToldFibers
+pub mod UnderFills

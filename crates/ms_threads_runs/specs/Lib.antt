@@ -1,0 +1,6 @@
+pub mod Fibers
+pub mod Alike
+pub mod Scripts
+pub mod PlainFibers
+pub mod ShadowFibers
+pub mod Examples

@@ -1,0 +1,26 @@
+-- Runs of a module, and of one with threads under a schedule.
+use Rattle.std.specs.Prelude.{ℕ, Bool, true, false, List}
+use Rattle.ms_ir.specs.declared.syntax.Module.{Module}
+use Rattle.ms_runs.specs.declared.runs.Setup.{Setup}
+use Rattle.ms_runs.specs.declared.runs.RunResult.{RunResult}
+use Rattle.ms_runs.specs.Plain.{plain}
+use Rattle.ms_runs.specs.Shadow.{shadow}
+use Rattle.ms_threads_runs.specs.PlainFibers.{plain_threads}
+use Rattle.ms_threads_runs.specs.ShadowFibers.{shadow_threads}
+use Rattle.ms_threads.specs.Fills.{ThreadsHoldUnderFills}
+use Rattle.ms_two_fills.specs.Checked.{HoldsUnderFills}
+
+-- the plain run of a module with a setup, and where there are threads under a schedule
+abbrev pub plain_under : (threads : Bool) → Module → Setup → (schedule : List ℕ) → RunResult
+plain_under false m setup schedule = plain m setup
+plain_under true m setup schedule = plain_threads m setup schedule
+
+-- the shadow run
+abbrev pub shadow_under : (threads : Bool) → Module → Setup → (schedule : List ℕ) → RunResult
+shadow_under false m setup schedule = shadow m setup
+shadow_under true m setup schedule = shadow_threads m setup schedule
+
+-- what the result of a checked run promises of runs with other fills, and where there are threads under the same schedule
+abbrev pub HoldsUnder : (threads : Bool) → Module → Setup → (schedule : List ℕ) → RunResult → Type 0
+HoldsUnder false m setup schedule r = HoldsUnderFills m setup r
+HoldsUnder true m setup schedule r = ThreadsHoldUnderFills m setup schedule r
