@@ -3,8 +3,7 @@
 # functions, one function of many blocks, one `phi` of many edges, one `switch` of many cases, and many globals, each at two
 # sizes. Where they are near to linear, the numbers at the two sizes are close.
 #
-# `msan run` reads a valid module, checks it, compiles it and runs its one step. The same text with one type twice is refused as
-# soon as it is read, and with a type that is too large in its last function at the end of the check; the differences are given.
+# They are the counts of the functions of `msan run` that do this, with all that these call; the run itself is in none of them.
 # Wants `valgrind`, and `crates/msan/out/msan`, which `rt run` makes in `crates/msan`. Outside the gate.
 source "$(dirname "$0")/frame.sh"
 
@@ -36,27 +35,27 @@ text() { # kind, count
         } else {
             for (k = 0; k < count; k++) printf "@g%d = global [4 x i8] zeroinitializer\n", k
         }
-        printf "define i32 @main() {\n  ret i32 0\n}\ndefine void @last() {\n  %%1 = alloca i8\n  ret void\n}\n"
+        printf "define i32 @main() {\n  ret i32 0\n}\n"
     }'
 }
 
-spent() { # file, the line that is said of it
-    local said
-    said=$("$program" run "$1" 2>&1 || true)
-    [ "$said" = "$2" ] || { echo "of $1 it says: $said" >&2; exit 1; }
-    instructions "$program" run "$1"
-}
-
 measure() { # kind, count
-    local whole checked read
-    text "$1" "$2" >"$work/valid.ll"
-    sed 's/^  %1 = alloca i8$/  %1 = alloca [67108865 x i8]/' "$work/valid.ll" >"$work/large.ll"
-    { echo '%t = type { i8 }'; echo '%t = type { i8 }'; cat "$work/valid.ll"; } >"$work/twice.ll"
-    whole=$(spent "$work/valid.ll" $'end: exit 0\nreports: 0\nblind: 0')
-    checked=$(spent "$work/large.ll" 'refused 17: size of @last')
-    read=$(spent "$work/twice.ll" 'refused 9: duplicate %t')
-    awk -v kind="$1" -v count="$2" -v whole="$whole" -v checked="$checked" -v read="$read" \
-        'BEGIN { printf "%-10s %7d items: read %9.1f each, check %9.1f, compile %9.1f\n", kind, count, read / count, (checked - read) / count, (whole - checked) / count }'
+    local said
+    text "$1" "$2" >"$work/text.ll"
+    said=$("$program" run "$work/text.ll" 2>&1 || true)
+    [ "$said" = $'end: exit 0\nreports: 0\nblind: 0' ] || { echo "of $1 it says: $said" >&2; exit 1; }
+    valgrind --tool=callgrind --callgrind-out-file="$work/counts" "$program" run "$work/text.ll" >"$work/said" 2>&1
+    callgrind_annotate --inclusive=yes --threshold=100 "$work/counts" | awk -v kind="$1" -v count="$2" '
+        { gsub(",", "", $1) }
+        /:ms_top::files::answer_to_file::/ && !whole { whole = $1 }
+        /:ms_top::answers::answer_to_read::/ && !behind { behind = $1 }
+        /:ms_top::answers::checked / && !checked { checked = $1 }
+        /:ms_code::compiler::compile / && !compiled { compiled = $1 }
+        END {
+            if (!whole || !behind || !checked || !compiled) { print "a function is missing in the counts"; exit 1 }
+            printf "%-10s %7d items: read %9.1f each, check %9.1f, compile %9.1f\n",
+                kind, count, (whole - behind) / count, (checked - compiled) / count, compiled / count
+        }'
 }
 
 for kind in functions blocks; do

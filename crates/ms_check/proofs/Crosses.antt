@@ -9,6 +9,7 @@ use Rattle.ms_bits.proofs.operations.Flags.TheSendSync as flags
 use Rattle.ms_ir.proofs.calls.External.TheSendSync as externals
 use Rattle.ms_ir.proofs.calls.RuntimeFn.TheSendSync as functions
 use Rattle.ms_ir.proofs.Crosses.{List-send, List-sync, Module-send, Module-sync}
+use Rattle.ms_code_data.specs.contracts.short.Part as part
 use Rattle.ms_code_data.specs.contracts.short.Form as form
 use Rattle.ms_code_data.specs.contracts.short.Short as short
 use Rattle.ms_code_data.specs.contracts.code.Source as source
@@ -106,11 +107,159 @@ Site-send = declared_send site.the_type (search sendable, (search sendable, tt))
 pub Routine-send : IsSend routine.the_row
 Routine-send = declared_send routine.the_type (search sendable, (search sendable, (search sendable, tt)))
 
+pub Part-send : IsSend part.the_row
+Part-send = declared_send part.the_type (search sendable, (search sendable, tt))
+
+-- a tuple for each variant, in their order
 pub Form-send : IsSend form.the_row
-Form-send = search (Crossing.crosses, sendable) depth 60 fits 20000
+Form-send = variants_send form.enum (
+  tt,
+  (
+    (search sendable, tt),
+    (
+      (Part-send, tt),
+      (
+        (Part-send, (Part-send, tt)),
+        (
+          (Part-send, (Part-send, tt)),
+          (
+            (Part-send, (search sendable, tt)),
+            (
+              (Part-send, (Part-send, tt)),
+              (
+                (Part-send, (search sendable, tt)),
+                (
+                  (search sendable, (Part-send, (search sendable, tt))),
+                  (
+                    (Part-send, (Part-send, (search sendable, (flags.the_send, tt)))),
+                    (
+                      (Part-send, (search sendable, (search sendable, (flags.the_send, tt)))),
+                      (
+                        (Part-send, (Part-send, (search sendable, (flags.the_send, tt)))),
+                        (
+                          (Part-send, (search sendable, (search sendable, (flags.the_send, tt)))),
+                          (
+                            (Part-send, (Part-send, (search sendable, (flags.the_send, tt)))),
+                            (
+                              (Part-send, (search sendable, (search sendable, (flags.the_send, tt)))),
+                              (
+                                (search sendable, (search sendable, tt)),
+                                (
+                                  (search sendable, (search sendable, (search sendable, (search sendable, tt)))),
+                                  (
+                                    (Part-send, (search sendable, (search sendable, tt))),
+                                    (
+                                      (Part-send, (Part-send, tt)),
+                                      (
+                                        (Part-send, (Part-send, tt)),
+                                        (
+                                          (Part-send, (search sendable, tt)),
+                                          (
+                                            (Part-send, (search sendable, tt)),
+                                            (
+                                              (Part-send, (Part-send, tt)),
+                                              (
+                                                (Part-send, (Part-send, tt)),
+                                                (
+                                                  (Part-send, (Part-send, (search sendable, (search sendable, tt)))),
+                                                  (
+                                                    (Part-send, (search sendable, (search sendable, (search sendable, tt)))),
+                                                    (
+                                                      (Part-send, (Part-send, (Part-send, tt))),
+                                                      (
+                                                        (Part-send, (search sendable, (Part-send, tt))),
+                                                        (
+                                                          (Part-send, (search sendable, (search sendable, tt))),
+                                                          (
+                                                            (Part-send, tt),
+                                                            (
+                                                              (Part-send, tt),
+                                                              (
+                                                                (search sendable, (search sendable, (Source-send, tt))),
+                                                                (
+                                                                  (search sendable, (Source-send, (Source-send, tt))),
+                                                                  (
+                                                                    (search sendable, (search sendable, (search sendable, tt))),
+                                                                    (
+                                                                      (search sendable, (search sendable, (Source-send, tt))),
+                                                                      (
+                                                                        (search sendable, (search sendable, (Part-send, (search sendable, tt)))),
+                                                                        (
+                                                                          (search sendable, (search sendable, (search sendable, (search sendable, (search sendable, tt))))),
+                                                                          (
+                                                                            (search sendable, (search sendable, (search sendable, (search sendable, (search sendable, tt))))),
+                                                                            (
+                                                                              (search sendable, (search sendable, (Part-send, (search sendable, (search sendable, tt))))),
+                                                                              (
+                                                                                (search sendable, (search sendable, (search sendable, (search sendable, tt)))),
+                                                                                (
+                                                                                  (search sendable, (search sendable, (search sendable, (search sendable, (search sendable, tt))))),
+                                                                                  (
+                                                                                    (search sendable, (search sendable, (search sendable, tt))),
+                                                                                    (
+                                                                                      (search sendable, (search sendable, (Part-send, tt))),
+                                                                                      (
+                                                                                        (search sendable, (search sendable, (search sendable, tt))),
+                                                                                        (
+                                                                                          (search sendable, tt),
+                                                                                          (
+                                                                                            (Part-send, (search sendable, (search sendable, tt))),
+                                                                                            (
+                                                                                              (search sendable, (Part-send, (search sendable, (search sendable, (search sendable, tt))))),
+                                                                                              (
+                                                                                                (Part-send, (search sendable, (search sendable, tt))),
+                                                                                                tt,
+                                                                                              ),
+                                                                                            ),
+                                                                                          ),
+                                                                                        ),
+                                                                                      ),
+                                                                                    ),
+                                                                                  ),
+                                                                                ),
+                                                                              ),
+                                                                            ),
+                                                                          ),
+                                                                        ),
+                                                                      ),
+                                                                    ),
+                                                                  ),
+                                                                ),
+                                                              ),
+                                                            ),
+                                                          ),
+                                                        ),
+                                                      ),
+                                                    ),
+                                                  ),
+                                                ),
+                                              ),
+                                            ),
+                                          ),
+                                        ),
+                                      ),
+                                    ),
+                                  ),
+                                ),
+                              ),
+                            ),
+                          ),
+                        ),
+                      ),
+                    ),
+                  ),
+                ),
+              ),
+            ),
+          ),
+        ),
+      ),
+    ),
+  ),
+)
 
 pub Short-send : IsSend short.the_row
-Short-send = declared_send short.the_type (search sendable, (Form-send, tt))
+Short-send = declared_send short.the_type (search sendable, (Form-send, (search sendable, tt)))
 
 pub Program-send : IsSend program.the_row
 Program-send = declared_send program.the_type (List-send _ Code-send, (List-send _ Site-send, (List-send _ Routine-send, (search sendable, (search (List-send, sendable), (List-send _ Short-send, tt))))))
@@ -200,11 +349,159 @@ Site-sync = declared_sync site.the_type (search sendable, (search sendable, tt))
 pub Routine-sync : IsSync routine.the_row
 Routine-sync = declared_sync routine.the_type (search sendable, (search sendable, (search sendable, tt)))
 
+pub Part-sync : IsSync part.the_row
+Part-sync = declared_sync part.the_type (search sendable, (search sendable, tt))
+
+-- a tuple for each variant, in their order
 pub Form-sync : IsSync form.the_row
-Form-sync = search (Crossing.crosses, sendable) depth 60 fits 20000
+Form-sync = variants_sync form.enum (
+  tt,
+  (
+    (search sendable, tt),
+    (
+      (Part-sync, tt),
+      (
+        (Part-sync, (Part-sync, tt)),
+        (
+          (Part-sync, (Part-sync, tt)),
+          (
+            (Part-sync, (search sendable, tt)),
+            (
+              (Part-sync, (Part-sync, tt)),
+              (
+                (Part-sync, (search sendable, tt)),
+                (
+                  (search sendable, (Part-sync, (search sendable, tt))),
+                  (
+                    (Part-sync, (Part-sync, (search sendable, (flags.the_sync, tt)))),
+                    (
+                      (Part-sync, (search sendable, (search sendable, (flags.the_sync, tt)))),
+                      (
+                        (Part-sync, (Part-sync, (search sendable, (flags.the_sync, tt)))),
+                        (
+                          (Part-sync, (search sendable, (search sendable, (flags.the_sync, tt)))),
+                          (
+                            (Part-sync, (Part-sync, (search sendable, (flags.the_sync, tt)))),
+                            (
+                              (Part-sync, (search sendable, (search sendable, (flags.the_sync, tt)))),
+                              (
+                                (search sendable, (search sendable, tt)),
+                                (
+                                  (search sendable, (search sendable, (search sendable, (search sendable, tt)))),
+                                  (
+                                    (Part-sync, (search sendable, (search sendable, tt))),
+                                    (
+                                      (Part-sync, (Part-sync, tt)),
+                                      (
+                                        (Part-sync, (Part-sync, tt)),
+                                        (
+                                          (Part-sync, (search sendable, tt)),
+                                          (
+                                            (Part-sync, (search sendable, tt)),
+                                            (
+                                              (Part-sync, (Part-sync, tt)),
+                                              (
+                                                (Part-sync, (Part-sync, tt)),
+                                                (
+                                                  (Part-sync, (Part-sync, (search sendable, (search sendable, tt)))),
+                                                  (
+                                                    (Part-sync, (search sendable, (search sendable, (search sendable, tt)))),
+                                                    (
+                                                      (Part-sync, (Part-sync, (Part-sync, tt))),
+                                                      (
+                                                        (Part-sync, (search sendable, (Part-sync, tt))),
+                                                        (
+                                                          (Part-sync, (search sendable, (search sendable, tt))),
+                                                          (
+                                                            (Part-sync, tt),
+                                                            (
+                                                              (Part-sync, tt),
+                                                              (
+                                                                (search sendable, (search sendable, (Source-sync, tt))),
+                                                                (
+                                                                  (search sendable, (Source-sync, (Source-sync, tt))),
+                                                                  (
+                                                                    (search sendable, (search sendable, (search sendable, tt))),
+                                                                    (
+                                                                      (search sendable, (search sendable, (Source-sync, tt))),
+                                                                      (
+                                                                        (search sendable, (search sendable, (Part-sync, (search sendable, tt)))),
+                                                                        (
+                                                                          (search sendable, (search sendable, (search sendable, (search sendable, (search sendable, tt))))),
+                                                                          (
+                                                                            (search sendable, (search sendable, (search sendable, (search sendable, (search sendable, tt))))),
+                                                                            (
+                                                                              (search sendable, (search sendable, (Part-sync, (search sendable, (search sendable, tt))))),
+                                                                              (
+                                                                                (search sendable, (search sendable, (search sendable, (search sendable, tt)))),
+                                                                                (
+                                                                                  (search sendable, (search sendable, (search sendable, (search sendable, (search sendable, tt))))),
+                                                                                  (
+                                                                                    (search sendable, (search sendable, (search sendable, tt))),
+                                                                                    (
+                                                                                      (search sendable, (search sendable, (Part-sync, tt))),
+                                                                                      (
+                                                                                        (search sendable, (search sendable, (search sendable, tt))),
+                                                                                        (
+                                                                                          (search sendable, tt),
+                                                                                          (
+                                                                                            (Part-sync, (search sendable, (search sendable, tt))),
+                                                                                            (
+                                                                                              (search sendable, (Part-sync, (search sendable, (search sendable, (search sendable, tt))))),
+                                                                                              (
+                                                                                                (Part-sync, (search sendable, (search sendable, tt))),
+                                                                                                tt,
+                                                                                              ),
+                                                                                            ),
+                                                                                          ),
+                                                                                        ),
+                                                                                      ),
+                                                                                    ),
+                                                                                  ),
+                                                                                ),
+                                                                              ),
+                                                                            ),
+                                                                          ),
+                                                                        ),
+                                                                      ),
+                                                                    ),
+                                                                  ),
+                                                                ),
+                                                              ),
+                                                            ),
+                                                          ),
+                                                        ),
+                                                      ),
+                                                    ),
+                                                  ),
+                                                ),
+                                              ),
+                                            ),
+                                          ),
+                                        ),
+                                      ),
+                                    ),
+                                  ),
+                                ),
+                              ),
+                            ),
+                          ),
+                        ),
+                      ),
+                    ),
+                  ),
+                ),
+              ),
+            ),
+          ),
+        ),
+      ),
+    ),
+  ),
+)
 
 pub Short-sync : IsSync short.the_row
-Short-sync = declared_sync short.the_type (search sendable, (Form-sync, tt))
+Short-sync = declared_sync short.the_type (search sendable, (Form-sync, (search sendable, tt)))
 
 pub Program-sync : IsSync program.the_row
 Program-sync = declared_sync program.the_type (List-sync _ Code-sync, (List-sync _ Site-sync, (List-sync _ Routine-sync, (search sendable, (search (List-sync, sendable), (List-sync _ Short-sync, tt))))))

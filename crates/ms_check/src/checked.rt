@@ -104,8 +104,8 @@ fn code_of(alloc: Global, m: &Module) -> Result<Program, CheckError>
 /// memory then, which alone says nothing. `laws::one_answer` says that a module has one such error at most, but for the path
 /// of an undefined use.
 ///
-/// The code of a valid module is made too. The time grows with the size of the module, times the logarithm of the number of
-/// its names; that of the search for an undefined use also with the number of edges, once for each 64 of a function's
+/// The code of a valid module is made too. The time grows with the size of the module, names being found as `NameTable`
+/// finds them; that of the search for an undefined use also with the number of edges, once for each 64 of a function's
 /// values; and that of the code also with the number of a struct's fields, once for each constant index into it.
 #[tactic(auto, using(crate::proofs::Exact::valid_told))]
 pub fn check(alloc: Global, m: Module) -> Result<CheckedModule, (CheckError, Module)>

@@ -139,8 +139,8 @@ impl<'m> Clause<'m> for EdgesFit {
 /// edges to its own, or that has unequal operands for one block, or a branch to the entry block of its function. None
 /// where there is none. The one error is want of memory.
 ///
-/// The time grows with the number of blocks, instructions, edges and operands of phis, times the logarithm of the number
-/// of the blocks of a function.
+/// The time grows with the number of blocks, instructions, edges and operands of phis, blocks being found as `NameTable`
+/// finds names.
 pub fn first_bad_edge(alloc: Global, m: &Module) -> Result<Option<u32>, NoMemory>
     requires { HasSmallNumbers m.now }
     ensures { IfOk result (λ fault. fault ≡ slice_get (bad_edges m.now) 0) }

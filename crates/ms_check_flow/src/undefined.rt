@@ -76,9 +76,9 @@ fn first_in_func(alloc: Global, site: &mut u32, func: &Func) -> Result<Option<Un
 /// such a path; None where each use is defined. A phi's operand is used at the end of the block that it names, and no path
 /// leads to a block that can't be reached. The one error is want of memory.
 ///
-/// The time grows with the number of instructions, operands, blocks and edges, times the logarithm of the number of a
-/// function's names, and for each function with the number of its edges times a sixty-fourth of the number of its values that
-/// are used outside the block that defines them.
+/// The time grows with the number of instructions, operands, blocks and edges, names being found as `NameTable` finds them,
+/// and for each function with the number of its edges times a sixty-fourth of the number of its values that are used outside
+/// the block that defines them.
 pub fn first_undefined(alloc: Global, m: &Module) -> Result<Option<Undefined>, NoMemory>
     requires formed { Formed m.now }
     requires before { UpToPhis m.now }

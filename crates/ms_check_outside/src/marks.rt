@@ -159,7 +159,7 @@ impl<'m> Clause<'m> for MarksFit {
 /// site of the next unmarked one. None exactly where each mark fits. The one error is want of memory. Sites have 32 bits
 /// in every module that is read.
 ///
-/// The time grows with the size of the module, times the logarithm of the number of a function's marked results.
+/// The time grows with the size of the module, marked results being found as `NameTable` finds names.
 pub fn first_bad_mark(alloc: Global, m: &Module) -> Result<Option<u32>, NoMemory>
     requires { HasSmallNumbers m.now }
     ensures { IfOk result (λ site. site ≡ slice_get (bad_marks m.now) 0) }

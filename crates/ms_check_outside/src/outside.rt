@@ -134,7 +134,7 @@ fn first_bad_callee(alloc: Global, m: &Module) -> Result<Option<&Name>, NoMemory
 /// `false` (LLVM Language Reference, "'llvm.memcpy' Intrinsic" and its neighbours). None exactly where all fit. The one
 /// error is want of memory.
 ///
-/// The time grows with the size of the module, times the logarithm of the number of names that are called.
+/// The time grows with the size of the module, names that are called being found as `NameTable` finds them.
 pub fn first_bad_external(alloc: Global, m: &Module) -> Result<Option<&Name>, NoMemory>
     ensures { IfOk result (λ name. option_copied name ≡ slice_get (bad_externals m.now) 0) }
 {

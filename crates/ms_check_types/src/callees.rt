@@ -1,5 +1,5 @@
 //! Functions that are called, by the module's definition or declaration (LLVM Language Reference, "Functions"), each
-//! found by its name in logarithmic time.
+//! found by its name as `NameTable` finds it.
 ghost use Rattle.std.specs.Prelude.{◌≡◌, [], ◌∷◌, IfOk, length, map, option_map, slice_get};
 ghost use Rattle.std.specs.Option.{option_copied};
 ghost use Rattle.ms_ir.specs.Equal.{has_name, types_eq};

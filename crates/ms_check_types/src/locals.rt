@@ -1,5 +1,5 @@
 //! The types of the values of a function, and its blocks (LLVM Language Reference, "Functions"), each found by its name
-//! in logarithmic time.
+//! as `NameTable` finds it.
 ghost use Rattle.std.specs.Prelude.{◌≡◌, ◌++◌, IfOk, map, filter_map, option_map};
 ghost use Rattle.std.specs.Option.{option_to_list};
 ghost use Rattle.std.specs.List.{flat_map};

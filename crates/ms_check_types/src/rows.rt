@@ -6,7 +6,7 @@ ghost use Rattle.ms_tables.specs.FirstPlace.{first_place, at_place};
 use ms_ir::Name;
 use ms_tables::NameTable;
 
-/// What stands in a list at the first place of a name among some names. Logarithmic time.
+/// What stands in a list at the first place of a name among some names. Found as `NameTable` finds it.
 pub fn row_of<'a, T>(names: &NameTable<'_>, rows: &'a [T], name: &Name) -> Option<&'a T>
     ensures { option_copied result ≡ at_place rows.now (first_place names.now name.now) }
 {

@@ -1,4 +1,4 @@
-//! What the names of a module stand for (LLVM Language Reference, "Module Structure"), each found in logarithmic time.
+//! What the names of a module stand for (LLVM Language Reference, "Module Structure"), each found as `NameTable` finds it.
 ghost use Rattle.std.specs.Prelude.{◌≡◌, IfOk, option_map, unwrap_or};
 ghost use Rattle.std.specs.Option.{option_copied};
 ghost use Rattle.ms_ir.specs.declared.syntax.Ty as type;

@@ -10,7 +10,7 @@ use ms_tables::NameTable;
 use std::alloc::Global;
 use std::marker::Model;
 
-/// Names in order, each with a type, where the first of each name is found by its spelling, in logarithmic time.
+/// Names in order, each with a type, where the first of each name is found by its spelling, as `NameTable` finds it.
 /// Contracts see it as the list of the pairs. Names and types are borrowed, and not copied.
 #[derive(Drop)]
 pub struct TypedNames<'m> {

@@ -1,8 +1,9 @@
 -- Numbers in slots.
-use Rattle.std.proofs.Common.{◌≡◌, ℕ, zero, suc, ◌+◌, ◌-◌, ◌<◌, ◌≤◌, Bool, true, false, List, MatchBool, refl, sym, ap, ◌∙◌, subst, arith, ⊎_elim, true≢false}
+use Rattle.std.proofs.Common.{◌≡◌, ℕ, zero, suc, ◌+◌, ◌-◌, ◌<◌, ◌≤◌, ◌⊎◌, ◌&&◌, Bool, true, false, List, [], ◌∷◌, MatchBool, inl, inr, if◌then◌else◌, leb, refl, sym, ap, ◌∙◌, subst, arith, ⊎_elim, true≢false}
 use Rattle.std.proofs.Math.Path.{fun_ext}
-use Rattle.std.proofs.lemmas.Bool.{cases_lt}
+use Rattle.std.proofs.lemmas.Bool.{cases_lt, lt-leb}
 use Rattle.ms_bits.specs.Maps.{number_at, byte_of, with_range}
+use Rattle.ms_ir.specs.declared.syntax.Name.{Name}
 use Rattle.ms_ir.specs.declared.calls.Slot.TheVariants as slot
 use Rattle.ms_ir.specs.Names.{slot_room, slots}
 use Rattle.ms_runs.specs.Plain.{in_slots}
@@ -29,6 +30,28 @@ slots-written bytes new cells a n g shows low is k l = ⊎_elim
   where
     at : with_range (held bytes) (a - 0x680000000000) n g k ≡ held new k
     at = sym (ap (λ (f : ℕ → ℕ). f k) is)
+
+-- ---- addresses before all slots, or behind them
+
+and-false : (x : Bool) → (x && false) ≡ false
+and-false true = refl
+and-false false = refl
+
+abbrev IsFar : ℕ → List (Name × (ℕ × ℕ)) → Type 0
+IsFar a [] = Unit {0}
+IsFar a (p ∷ ps) = ((a < p.1.0) ⊎ (p.1.0 + p.1.1 < a)) × IsFar a ps
+
+missed : (base size a n : ℕ) → (a < base) ⊎ (base + size < a) → (leb base a && leb (a + n) (base + size)) ≡ false
+missed base size a n (inl below) = ap (λ (b : Bool). b && leb (a + n) (base + size)) (lt-leb base a below)
+missed base size a n (inr above) = ap (λ (b : Bool). leb base a && b) (lt-leb (a + n) (base + size) (omega (arith, above))) ∙ and-false (leb base a)
+
+far_from : (a n : ℕ) (ps : List (Name × (ℕ × ℕ))) → IsFar a ps → in_slots a n ps ≡ false
+far_from a n [] far = refl
+far_from a n (p ∷ ps) far = ap (λ (b : Bool). if b then true else in_slots a n ps) (missed p.1.0 p.1.1 a n far.0) ∙ far_from a n ps far.1
+
+pub far_away : (a n : ℕ) → (a < 0x680000000000) ⊎ (0x680000003004 < a) → in_slots a n slots ≡ false
+far_away a n (inl below) = far_from a n slots (inl below, (inl (omega (arith, below)), (inl (omega (arith, below)), (inl (omega (arith, below)), tt))))
+far_away a n (inr above) = far_from a n slots (inr (omega (arith, above)), (inr (omega (arith, above)), (inr (omega (arith, above)), (inr above, tt))))
 
 -- ---- numbers that lie in a slot
 

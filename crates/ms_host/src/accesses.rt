@@ -48,6 +48,15 @@ impl World {
         self.planes.read_shadow(addr, n)
     }
 
+    /// The numbers that `n` shadow bytes and the bytes themselves are, the least first; `None` where the bytes aren't good.
+    #[inline(always)]
+    pub(crate) fn load_numbers(&self, addr: u64, n: u8) -> Option<(u64, u64)>
+        requires { n ≤ 8 }
+        ensures { (beside : Beside) (world : Meant) → Shows self.now beside world → MatchOption result (is_good world addr n ≡ false) (λ r. (is_good world addr n ≡ true) × (r.0 ≡ number_at world.shadow addr n) × (r.1 ≡ number_at world.bytes addr n)) }
+    {
+        self.planes.read_both(addr, n)
+    }
+
     /// Writes the `n` low bytes of `v` as shadow, the least first, and answers whether the bytes are good; else
     /// nothing changes. Origins stay.
     pub fn store_shadow(&mut self, addr: u64, n: u8, v: u64) -> bool

@@ -40,8 +40,8 @@ impl World {
     /// `words` are the constants in the initialisers, in text order too; globals with reserved names are none.
     ///
     /// `Full` only where the globals would take more than the limit of their area, and `Ok` only where they don't. The
-    /// time is linear in what is written in the initialisers and in the bytes, but for the names of types and the
-    /// addresses, which are found in logarithmic time.
+    /// time is linear in what is written in the initialisers and in the bytes, but for the names of types, which
+    /// `NameTable` finds, and the addresses, which are found in logarithmic time.
     pub fn make_globals(
         &mut self,
         extents: &Extents<'_>,

@@ -1,11 +1,14 @@
 //! Accesses of marked instructions: they reach the slots and the shadow alone.
-ghost use Rattle.std.specs.Prelude.{◌≡◌, ◌≤◌, ℕ, bit_xor};
+ghost use Rattle.std.specs.Prelude.{◌≡◌, ◌≤◌, ◌+◌, ℕ, true, Some, IfSome, bit_xor};
+ghost use Rattle.ms_bits.specs.Maps.{number_at, byte_of, with_range};
 ghost use Rattle.ms_runs.specs.World.{World as Meant};
+ghost use Rattle.ms_runs.specs.Memory.{is_good};
 ghost use Rattle.ms_runs.specs.Plain.{shadow_bits};
 ghost use Rattle.ms_host.specs.State.{Beside, KeepsGiven};
 ghost use Rattle.ms_host.specs.Shows.{Shows};
 ghost use Rattle.ms_host.specs.SlotBytes.{ShowsSlots, MarkedLoad, MarkedStore};
 
+use crate::slots::is_far;
 use crate::worlds::World;
 
 /// The shadow byte of an address stands at this exclusive or with it.
@@ -24,6 +27,21 @@ impl World {
         }
     }
 
+    /// The numbers that the `n` shadow bytes of one live allocation are, as `load_marked` reads them, and the bytes themselves,
+    /// found by one search; `None` where there is no such allocation, or the shadow would stand among the slots.
+    #[inline(always)]
+    pub fn load_both(&self, addr: u64, n: u8) -> Option<(u64, u64)>
+        requires { n ≤ 8 }
+        ensures shadow { IfSome result (λ r. (cells : ℕ → ℕ) (beside : Beside) (world : Meant) → ShowsSlots self.now.slots cells → Shows self.now beside world → MarkedLoad (bit_xor addr 0x500000000000) n cells world (Some r.0)) }
+        ensures bytes { IfSome result (λ r. (beside : Beside) (world : Meant) → Shows self.now beside world → (is_good world addr n ≡ true) × (r.1 ≡ number_at world.bytes addr n)) }
+    {
+        if is_far(addr ^ SHADOW_BITS) {
+            self.load_numbers(addr, n)
+        } else {
+            None
+        }
+    }
+
     /// Writes the `n` low bytes of `v` into a slot, or as shadow bytes of one live allocation at their own addresses,
     /// and answers whether they are one or the other; else nothing changes.
     pub fn store_marked(&mut self, addr: u64, n: u8, v: u64) -> bool
@@ -37,5 +55,27 @@ impl World {
         } else {
             self.store_shadow(addr ^ SHADOW_BITS, n, v)
         }
+    }
+
+    /// The number that `n` bytes of a slot are, by how far they stand from where the slots begin.
+    #[inline(always)]
+    pub fn load_slot(&self, at: usize, n: u8) -> u64
+        requires size { n ≤ 8 }
+        requires within { at + n ≤ 0x3004 }
+        ensures { (cells : ℕ → ℕ) → ShowsSlots self.now.slots cells → result ≡ number_at cells (0x680000000000 + at) n }
+    {
+        self.slots.load_at(at, n)
+    }
+
+    /// Writes the `n` low bytes of `v` into a slot, by how far they stand from where the slots begin.
+    #[inline(always)]
+    pub fn store_slot(&mut self, at: usize, n: u8, v: u64)
+        requires size { n ≤ 8 }
+        requires within { at + n ≤ 0x3004 }
+        ensures stored { (cells : ℕ → ℕ) (beside : Beside) (world : Meant) → ShowsSlots self.old.slots cells → Shows self.old beside world → ShowsSlots self.new.slots (with_range cells (0x680000000000 + at) n (byte_of v)) × Shows self.new beside world }
+        ensures given { KeepsGiven self.old self.new }
+        ensures made { self.new.made ≡ self.old.made }
+    {
+        self.slots.store_at(at, n, v);
     }
 }

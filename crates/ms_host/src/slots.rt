@@ -16,6 +16,9 @@ const BASE: u64 = 0x6800_0000_0000;
 /// How far they reach.
 const REACH: usize = 0x3004;
 
+/// Where they end.
+const END: u64 = 0x6800_0000_3004;
+
 /// The bytes of the four slots, of 800, 400, 8 and 4 bytes, in one row with those between them, which are never read.
 #[derive(Debug, Drop)]
 pub struct Slots {
@@ -53,6 +56,20 @@ fn among(a: u64, n: u64) -> bool
         || lies(a, n, BASE + 0x3000, 4)
 }
 
+/// Whether an address stands before all slots, or behind them.
+#[inline(always)]
+pub(crate) fn is_far(a: u64) -> bool
+    ensures { IsTrue result → (n : ℕ) → in_slots a n slots ≡ false }
+{
+    if a < BASE {
+        return true;
+    }
+    if a > END {
+        return true;
+    }
+    false
+}
+
 impl Slots {
     /// The slots at the start of a run: zeros. The one error is want of memory.
     pub fn new(alloc: Global) -> Result<Slots, NoMemory>
@@ -85,5 +102,25 @@ impl Slots {
             put_number(&mut self.bytes, (a - BASE) as usize, n, v);
         }
         found
+    }
+
+    /// The number that `n` bytes are, by how far they stand from where the slots begin.
+    #[inline(always)]
+    pub fn load_at(&self, at: usize, n: u8) -> u64
+        requires size { n ≤ 8 }
+        requires within { at + n ≤ 0x3004 }
+        ensures { (cells : ℕ → ℕ) → ShowsSlots self.now cells → result ≡ number_at cells (0x680000000000 + at) n }
+    {
+        number_in(&self.bytes, at, n)
+    }
+
+    /// Writes the `n` low bytes of `v`, by how far they stand from where the slots begin.
+    #[inline(always)]
+    pub fn store_at(&mut self, at: usize, n: u8, v: u64)
+        requires size { n ≤ 8 }
+        requires within { at + n ≤ 0x3004 }
+        ensures { (cells : ℕ → ℕ) → ShowsSlots self.old cells → ShowsSlots self.new (with_range cells (0x680000000000 + at) n (byte_of v)) }
+    {
+        put_number(&mut self.bytes, at, n, v);
     }
 }

@@ -97,8 +97,9 @@ fn eight_at(block: &Block, part: Part, at: u64) -> u64
     ])
 }
 
-/// The number that the `n` bytes from place `at` on are, the least first, where `n` is no usual one. Never inlined, so that
-/// the usual ones don't save registers for its loop.
+/// The number that the `n` bytes from place `at` on are, the least first, where `n` is no usual one. Cold, and never
+/// inlined, so that the usual ones don't save registers for its loop.
+#[cold]
 #[inline(never)]
 fn rare_number(block: &Block, part: Part, at: u64, n: u8) -> u64
     requires within { at + n ≤ length block.now.bytes }
@@ -128,6 +129,21 @@ pub(crate) fn number(block: &Block, part: Part, at: u64, n: u8) -> u64
     }
 }
 
+/// The numbers that the `n` shadow bytes and the `n` bytes from place `at` on are, the least first.
+#[inline(always)]
+pub(crate) fn both(block: &Block, at: u64, n: u8) -> (u64, u64)
+    requires within { at + n ≤ length block.now.bytes }
+    requires short { n ≤ 8 }
+    requires small { at < 2 ^ 40 }
+    ensures shadow { result.0 ≡ number_at (held block.now.shadow) at n }
+    ensures bytes { result.1 ≡ number_at (held block.now.bytes) at n }
+{
+    (
+        number(block, Part::Shadow, at, n),
+        number(block, Part::Bytes, at, n),
+    )
+}
+
 /// Puts the `n` low bytes of `v` at the places from `at` on, the least first. Where `n` is known the compiler makes no loop
 /// of it.
 #[inline(always)]
@@ -145,7 +161,8 @@ fn put_bytes(block: &mut Block, part: Part, at: u64, n: u8, v: u64)
     }
 }
 
-/// The same where `n` is no usual one. Never inlined, as `rare_number`.
+/// The same where `n` is no usual one. Cold, and never inlined, as `rare_number`.
+#[cold]
 #[inline(never)]
 fn put_rare(block: &mut Block, part: Part, at: u64, n: u8, v: u64)
     requires within { at + n ≤ length block.old.bytes }

@@ -9,7 +9,7 @@ ghost use Rattle.ms_planes.specs.Memory.{area_index as index_of};
 
 use crate::copies::{copy_into, copy_within};
 use crate::origins::fill_origins;
-use crate::parts::{Part, fill_into, first_marked, number, paste, put_made, put_number};
+use crate::parts::{Part, both, fill_into, first_marked, number, paste, put_made, put_number};
 use ms_alloc::{AllocError, AllocKind, BadFree, Place, Table};
 use ms_bits::NoMemory;
 use ms_raw::Block;
@@ -288,6 +288,25 @@ impl Planes {
         ensures { MatchOption result (is_good addr n self.now.table ≡ false) (λ v. (is_good addr n self.now.table ≡ true) × (v ≡ number_at (shadow_of self.now) addr n)) }
     {
         self.number(Part::Shadow, addr, n)
+    }
+
+    /// The numbers that `n` shadow bytes and the bytes themselves are, the least first, found by one search; `None` where the
+    /// bytes aren't good.
+    #[inline(always)]
+    pub fn read_both(&self, addr: u64, n: u8) -> Option<(u64, u64)>
+        requires { n ≤ 8 }
+        ensures { MatchOption result (is_good addr n self.now.table ≡ false) (λ r. (is_good addr n self.now.table ≡ true) × (r.0 ≡ number_at (shadow_of self.now) addr n) × (r.1 ≡ number_at (bytes_of self.now) addr n)) }
+    {
+        if n == 0 {
+            return Some((0, 0));
+        }
+        let Some(place) = self.table.place_of(addr, u64::from(n)) else {
+            return None;
+        };
+        match self.block(place) {
+            Some(block) => Some(both(block, addr - place.base, n)),
+            None => unreachable!(),
+        }
     }
 
     /// The number that `n` shadow bytes are, the least first.

@@ -48,6 +48,7 @@ impl Model for Code {
     ghost invariant = { λ c. c.next ≤ 2 ^ 40 + length c.insts.items };
 }
 
+#[inline(always)]
 fn append(insts: &mut Vec<Inst>, inst: Inst) -> Result<(), NoMemory>
     ensures code { OnOk result (insts.new.items ≡ insts.old.items ++ inst ∷ []) }
     ensures room { length insts.old.items ≤ length insts.new.items }
@@ -95,6 +96,7 @@ impl Code {
     }
 
     /// Adds an instruction of the program.
+    #[inline(always)]
     pub fn push(&mut self, inst: Inst) -> Result<(), NoMemory>
         ensures { OnOk result (self.new ≡ record { code = self.old.code ++ inst ∷ []; next = self.old.next }) }
     {
@@ -102,6 +104,7 @@ impl Code {
     }
 
     /// Adds an inserted instruction.
+    #[inline(always)]
     pub fn put(&mut self, name: Option<Name>, op: Op) -> Result<(), NoMemory>
         ensures { OnOk result (self.new ≡ record { code = self.old.code ++ inserted name op ∷ []; next = self.old.next }) }
     {

@@ -1,10 +1,10 @@
 -- Places of texts by their marks.
 use denote.Ref.{Bor}
-use Rattle.std.proofs.Common.{◌≡◌, ◌≤◌, ◌<◌, ◌+◌, ◌*◌, ◌%◌, ◌^◌, ℕ, zero, suc, Bool, true, false, cond, List, [], ◌∷◌, length, drop, Option, Some, None, refl, sym, ap, subst, ◌∙◌, arith, if◌then◌else◌, ⊎_elim, true≢false}
-use Rattle.std.specs.Prelude.{nat_eq, nat_lt, slice_index}
-use Rattle.std.specs.BTreeMap.{BTreeMap, get, get_by, Updates, UpdatesBy}
-use Rattle.std.specs.Ordering.{nat_cmp, is_eq}
-use Rattle.std.specs.declared.cmp.Ordering.TheVariants.{Less, Equal, Greater}
+use Rattle.std.proofs.Common.{◌≡◌, ℕ, Bool, true, false, List, Option, Some, None, refl, sym, ap, subst, ◌∙◌, if◌then◌else◌, ⊎_elim, true≢false}
+use Rattle.std.specs.Prelude.{nat_eq}
+use Rattle.std.specs.HashMap as hash
+use Rattle.std.specs.BTreeMap.{BTreeMap, get_by, UpdatesBy}
+use Rattle.std.specs.Ordering.{nat_cmp}
 use Rattle.std.specs.Cmp.Lexicographic.{pointwise, slice_cmp, bytes_decides}
 use Rattle.std.proofs.lemmas.Bool.{cases_Bool, eqb-true, eq-eqb}
 use Rattle.std.proofs.lemmas.Map.Text.{btree_map_updates_str}
@@ -12,42 +12,17 @@ use Rattle.ms_ir.specs.declared.syntax.Name.{Name}
 use Rattle.ms_ir.specs.declared.syntax.Name.TheVariants.{Number, Text}
 use Rattle.ms_ir.specs.Names.{name_eq}
 use Rattle.ms_tables.specs.declared.index.Index.{Index}
-use Rattle.ms_tables.specs.Index.{mark_from, place_marked, place_in}
+use Rattle.ms_tables.specs.Index.{Marked, text_mark, place_marked, place_in}
 
 -- ---- marks
 
-mark_step : (mark : ℕ) (text : List ℕ) (i : ℕ) → i < length text → mark_from mark (drop i text) ≡ mark_from ((mark * 31 % 2 ^ 64 + slice_index text i) % 2 ^ 64) (drop (suc i) text)
-unfolding mark_from
-mark_step mark [] i lt = absurd (omega (arith, lt))
-mark_step mark (b ∷ text) zero lt = refl
-mark_step mark (b ∷ text) (suc i) lt = mark_step mark text i (omega (arith, lt))
-
-pub mark_next : (mark : ℕ) (text : List ℕ) (i : ℕ) → i < length text → mark_from mark (drop i text) ≡ mark_from ((mark * 31 % 2 ^ 64 + slice_index text i) % 2 ^ 64) (drop (i + 1) text)
-mark_next mark text i lt =
-    let next : suc i ≡ i + 1 = omega arith in
-    subst (λ (n : ℕ). mark_from mark (drop i text) ≡ mark_from ((mark * 31 % 2 ^ 64 + slice_index text i) % 2 ^ 64) (drop n text)) next (mark_step mark text i lt)
-
-pub mark_end : (mark : ℕ) (text : List ℕ) (i : ℕ) → length text ≤ i → mark_from mark (drop i text) ≡ mark
-unfolding mark_from
-mark_end mark [] zero le = refl
-mark_end mark [] (suc i) le = refl
-mark_end mark (b ∷ text) zero le = absurd (omega (arith, le))
-mark_end mark (b ∷ text) (suc i) le = mark_end mark text i (omega (arith, le))
-
 -- texts with different marks are different
-marks_apart : (a b : List ℕ) → nat_eq (mark_from 0 a) (mark_from 0 b) ≡ false → pointwise nat_eq a b ≡ false
+marks_apart : (a b : List ℕ) → nat_eq (text_mark a) (text_mark b) ≡ false → pointwise nat_eq a b ≡ false
 marks_apart a b differ =
     ⊎_elim
-    (λ same. absurd (true≢false (sym (eq-eqb (mark_from 0 a) (mark_from 0 b) (ap (mark_from 0) ((bytes_decides a b).0 same))) ∙ differ)))
+    (λ same. absurd (true≢false (sym (eq-eqb (text_mark a) (text_mark b) (ap text_mark ((bytes_decides a b).0 same))) ∙ differ)))
     (λ other. other)
     (cases_Bool (pointwise nat_eq a b))
-
-compared_apart : (a b : ℕ) → nat_eq a b ≡ false → is_eq (nat_cmp a b) ≡ false
-compared_apart a b differ =
-    ⊎_elim
-    (λ below. ap (λ t. is_eq (cond t Less (cond (nat_eq a b) Equal Greater))) below)
-    (λ other. ap (λ t. is_eq (cond t Less (cond (nat_eq a b) Equal Greater))) other ∙ ap (λ t. is_eq (cond t Equal Greater)) differ)
-    (cases_Bool (nat_lt a b))
 
 -- ---- places
 
@@ -73,8 +48,8 @@ none_first None rest none = refl
 none_first (Some p) rest none = none
 
 -- the first text with its mark has its place, and each other name the one that it had
-pub marked_placed : (index : Index) (after : BTreeMap ℕ (Bor (List ℕ) × ℕ)) (mark : ℕ) (text : Bor (List ℕ)) (place : ℕ) → mark ≡ mark_from 0 text.now → get nat_cmp index.marked mark ≡ None
-    → Updates nat_cmp index.marked after mark (Some (text, place)) → (x : Name) → place_in (record index { marked = after }) x ≡ (if name_eq (Text text.now) x then Some place else place_in index x)
+pub marked_placed : (index : Index) (after : Marked) (mark : ℕ) (text : Bor (List ℕ)) (place : ℕ) → mark ≡ text_mark text.now → hash.get nat_eq index.marked mark ≡ None
+    → hash.Updates nat_eq index.marked after mark (Some (text, place)) → (x : Name) → place_in (record index { marked = after }) x ≡ (if name_eq (Text text.now) x then Some place else place_in index x)
 unfolding seen first_place or_rest
 marked_placed index after mark text place is first updates (Number n) = refl
 marked_placed index after mark text place is first updates (Text other) =
@@ -82,18 +57,18 @@ marked_placed index after mark text place is first updates (Text other) =
     let t = pointwise nat_eq text.now other in
     ⊎_elim
     (λ same.
-    let marks : mark ≡ mark_from 0 other = eqb-true mark (mark_from 0 other) same in
-    let found : get nat_cmp after (mark_from 0 other) ≡ Some (text, place) = subst (λ m. get nat_cmp after m ≡ Some (text, place)) marks updates.1 in
-    let none : get nat_cmp index.marked (mark_from 0 other) ≡ None = subst (λ m. get nat_cmp index.marked m ≡ None) marks first in
+    let marks : mark ≡ text_mark other = eqb-true mark (text_mark other) same in
+    let found : hash.get nat_eq after (text_mark other) ≡ Some (text, place) = subst (λ m. hash.get nat_eq after m ≡ Some (text, place)) marks updates.1 in
+    let none : hash.get nat_eq index.marked (text_mark other) ≡ None = subst (λ m. hash.get nat_eq index.marked m ≡ None) marks first in
     let right : (if t then Some place else place_in index (Text other)) ≡ (if t then Some place else rest) = ap (λ o. if t then Some place else seen other o rest) none in
     ap (λ o. seen other o rest) found ∙ chosen t place rest ∙ sym right
     )
     (λ differ.
-    let apart : t ≡ false = marks_apart text.now other (ap (λ m. nat_eq m (mark_from 0 other)) (sym is) ∙ differ) in
-    let kept : get nat_cmp after (mark_from 0 other) ≡ get nat_cmp index.marked (mark_from 0 other) = updates.2 (mark_from 0 other) (compared_apart mark (mark_from 0 other) differ) in
+    let apart : t ≡ false = marks_apart text.now other (ap (λ m. nat_eq m (text_mark other)) (sym is) ∙ differ) in
+    let kept : hash.get nat_eq after (text_mark other) ≡ hash.get nat_eq index.marked (text_mark other) = updates.2 (text_mark other) differ in
     ap (λ o. seen other o rest) kept ∙ sym (ap (λ b. if b then Some place else place_in index (Text other)) apart)
     )
-    (cases_Bool (nat_eq mark (mark_from 0 other)))
+    (cases_Bool (nat_eq mark (text_mark other)))
 
 -- another text has its place, and each other name the one that it had
 pub unmarked_placed : (index : Index) (after : BTreeMap (Bor (List ℕ)) ℕ) (bytes : List ℕ) (place : ℕ) → place_in index (Text bytes) ≡ None
@@ -102,7 +77,7 @@ pub unmarked_placed : (index : Index) (after : BTreeMap (Bor (List ℕ)) ℕ) (b
 unfolding or_rest
 unmarked_placed index after bytes place absent updates (Number n) = refl
 unmarked_placed index after bytes place absent updates (Text other) =
-    let first = place_marked index.marked (mark_from 0 other) other in
+    let first = place_marked index.marked (text_mark other) other in
     let rest = get_by (λ (k : Bor (List ℕ)). slice_cmp nat_cmp other k.now) index.texts in
     let t = pointwise nat_eq bytes other in
     let found : get_by (λ (k : Bor (List ℕ)). slice_cmp nat_cmp other k.now) after ≡ (if t then Some place else rest) = btree_map_updates_str bytes index.texts after (Some place) updates other in

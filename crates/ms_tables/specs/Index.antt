@@ -1,7 +1,12 @@
 -- What an index has at a name (own).
 use denote.Ref.{Bor}
-use Rattle.std.specs.Prelude.{ℕ, zero, suc, ◌+◌, ◌*◌, ◌%◌, ◌^◌, if◌then◌else◌, nat_eq, List, [], ◌∷◌, Option, Some, None, slice_get}
-use Rattle.std.specs.BTreeMap.{BTreeMap, get, get_by}
+use Rattle.std.specs.Prelude.{ℕ, zero, suc, if◌then◌else◌, nat_eq, List, Option, Some, None, slice_get}
+use Rattle.std.specs.declared.hash.FoldHasher.{FoldHasher}
+use Rattle.std.specs.declared.hash.BuildHasherDefault.{BuildHasherDefault}
+use Rattle.std.specs.Hash.FoldHasher.{initial, write, finish}
+use Rattle.std.specs.HashMap as hash
+use Rattle.std.specs.HashMap.{HashMap}
+use Rattle.std.specs.BTreeMap.{get, get_by}
 use Rattle.std.specs.Ordering.{nat_cmp}
 use Rattle.std.specs.Cmp.Lexicographic.{pointwise, slice_cmp}
 use Rattle.ms_ir.specs.declared.syntax.Name.{Name}
@@ -18,16 +23,19 @@ place_from zero places n = taken_at places n
 place_from (suc first) places zero = None
 place_from (suc first) places (suc n) = place_from first places n
 
--- the mark of a text, from that of the bytes before it
-unfoldable pub mark_from : ℕ → List ℕ → ℕ
-mark_from mark [] = mark
-mark_from mark (b ∷ rest) = mark_from ((mark * 31 % 2 ^ 64 + b) % 2 ^ 64) rest
+-- the mark of a text
+abbrev pub text_mark : List ℕ → ℕ
+text_mark text = finish (write initial text)
+
+-- the first text with each mark, and its place
+abbrev pub Marked : Type 0
+Marked = HashMap ℕ (Bor (List ℕ) × ℕ) (BuildHasherDefault FoldHasher)
 
 -- the place of a text with a mark, if it is the first with that mark
-abbrev pub place_marked : BTreeMap ℕ (Bor (List ℕ) × ℕ) → ℕ → List ℕ → Option ℕ
-place_marked marked mark text = elim (get nat_cmp marked mark) [ Some first ↦ (if pointwise nat_eq first.0.now text then Some first.1 else None) | None ↦ None ]
+abbrev pub place_marked : Marked → ℕ → List ℕ → Option ℕ
+place_marked marked mark text = elim (hash.get nat_eq marked mark) [ Some first ↦ (if pointwise nat_eq first.0.now text then Some first.1 else None) | None ↦ None ]
 
 -- the place of a name
 abbrev pub place_in : Index → Name → Option ℕ
 place_in index (Number n) = elim (place_from index.first index.near.items n) [ Some place ↦ Some place | None ↦ get nat_cmp index.numbers n ]
-place_in index (Text bytes) = elim (place_marked index.marked (mark_from 0 bytes) bytes) [ Some place ↦ Some place | None ↦ get_by (λ k. slice_cmp nat_cmp bytes k.now) index.texts ]
+place_in index (Text bytes) = elim (place_marked index.marked (text_mark bytes) bytes) [ Some place ↦ Some place | None ↦ get_by (λ k. slice_cmp nat_cmp bytes k.now) index.texts ]

@@ -1,17 +1,17 @@
 //! The places of names, by number and by text.
-ghost use Rattle.std.specs.Prelude.{◌≡◌, ◌≤◌, ◌+◌, ℕ, None, Some, IsTrue, if◌then◌else◌, length, OnErr, OnOk};
-ghost use Rattle.std.specs.BTreeMap.{get};
-ghost use Rattle.std.specs.Ordering.{nat_cmp};
+ghost use Rattle.std.specs.Prelude.{◌≡◌, ◌≤◌, ◌+◌, ℕ, None, Some, IsTrue, if◌then◌else◌, length, nat_eq, IfErr, IfNone, IfOk, IfSome, OnErr, OnOk};
+ghost use Rattle.std.specs.HashMap.{get};
 ghost use Rattle.ms_ir.specs.declared.syntax.Name.{Name};
 ghost use Rattle.ms_ir.specs.declared.syntax.Name.TheVariants.{Number, Text};
 ghost use Rattle.ms_ir.specs.Names.{name_eq};
-ghost use Rattle.ms_tables.specs.Index.{mark_from, place_from, taken_at};
+ghost use Rattle.ms_tables.specs.Index.{text_mark, place_from, taken_at};
 
 use crate::room::make_room;
 use ms_bits::NoMemory;
 use ms_ir::Name;
 use std::alloc::Global;
-use std::collections::BTreeMap;
+use std::collections::{BTreeMap, HashMap};
+use std::hash::{FoldHasher, Hasher};
 
 /// The most numbers that may be missing before one that is put in, for it to stand with those before it.
 const MOST_MISSING: usize = 16;
@@ -26,9 +26,9 @@ pub struct Index<'m> {
     near: Vec<Option<usize>>,
     /// The places of the other numbers.
     numbers: BTreeMap<u32, usize>,
-    /// For each mark of a text the first text with that mark, and its place. Marks are compared at once, and few
-    /// texts share one.
-    marked: BTreeMap<u64, (&'m [u8], usize)>,
+    /// For each mark of a text the first text with that mark, and its place. A mark is found at once, and few texts
+    /// share one.
+    marked: HashMap<u64, (&'m [u8], usize)>,
     /// The places of the other texts.
     texts: BTreeMap<&'m [u8], usize>,
 }
@@ -45,15 +45,12 @@ fn push_missing(places: &mut Vec<Option<usize>>, count: usize) -> Result<(), NoM
 }
 
 /// A number by which most texts are told apart.
-#[tactic(auto, using(crate::proofs::Marked::mark_next, crate::proofs::Marked::mark_end))]
 fn mark_of(text: &[u8]) -> u64
-    ensures { result ≡ mark_from 0 text.now }
+    ensures { result ≡ text_mark text.now }
 {
-    let mut mark = 0u64;
-    for byte in text {
-        mark = mark.wrapping_mul(31).wrapping_add(u64::from(*byte));
-    }
-    mark
+    let mut hasher = FoldHasher::default();
+    hasher.write(text);
+    hasher.finish()
 }
 
 /// What stands at a place of a list, where it is taken.
@@ -67,7 +64,7 @@ fn taken(places: &[Option<usize>], place: usize) -> Option<usize>
 }
 
 impl<'m> Index<'m> {
-    ghost use Rattle.ms_tables.specs.Index.{mark_from, place_from, place_marked, place_in};
+    ghost use Rattle.ms_tables.specs.Index.{text_mark, place_from, place_marked, place_in};
 
     /// An index of no name.
     pub fn new(alloc: Global) -> Index<'m>
@@ -77,7 +74,7 @@ impl<'m> Index<'m> {
             first: 0,
             near: Vec::new(alloc),
             numbers: BTreeMap::new(alloc),
-            marked: BTreeMap::new(alloc),
+            marked: HashMap::new(alloc),
             texts: BTreeMap::new(alloc),
         }
     }
@@ -114,15 +111,22 @@ impl<'m> Index<'m> {
         }
     }
 
+    /// The place of a number.
+    fn number_place(&self, number: u32) -> Option<usize>
+        ensures { result ≡ place_in self.now (Number number) }
+    {
+        match self.near_place(number) {
+            Some(place) => Some(place),
+            None => self.numbers.get(&number).copied(),
+        }
+    }
+
     /// The place of a name, if it was put in.
     pub fn get(&self, name: &Name) -> Option<usize>
         ensures { result ≡ place_in self.now name.now }
     {
         match name {
-            Name::Number(number) => match self.near_place(*number) {
-                Some(place) => Some(place),
-                None => self.numbers.get(number).copied(),
-            },
+            Name::Number(number) => self.number_place(*number),
             Name::Text(bytes) => self.text_place(bytes.as_slice()),
         }
     }
@@ -202,8 +206,8 @@ impl<'m> Index<'m> {
 
     /// Puts in a text that is the first with its mark.
     fn insert_marked(&mut self, mark: u64, text: &'m [u8], place: usize) -> Result<(), NoMemory>
-        requires mark { mark ≡ mark_from 0 text.now }
-        requires first { get nat_cmp self.old.marked mark ≡ None }
+        requires mark { mark ≡ text_mark text.now }
+        requires first { get nat_eq self.old.marked mark ≡ None }
         ensures placed { OnOk result ((x : Name) → place_in self.new x ≡ (if name_eq (Text text.now) x then Some place else place_in self.old x)) }
         ensures err { OnErr result ((x : Name) → place_in self.new x ≡ place_in self.old x) }
     {
@@ -221,28 +225,98 @@ impl<'m> Index<'m> {
         Ok(())
     }
 
-    /// Puts in a text that has no place yet.
-    fn insert_text(&mut self, text: &'m [u8], place: usize) -> Result<(), NoMemory>
-        requires { place_in self.old (Text text.now) ≡ None }
-        ensures placed { OnOk result ((x : Name) → place_in self.new x ≡ (if name_eq (Text text.now) x then Some place else place_in self.old x)) }
-        ensures err { OnErr result ((x : Name) → place_in self.new x ≡ place_in self.old x) }
+    /// The place of a text that isn't the first with its mark; where it has none, the answer is what is given with it.
+    fn seek_further(&self, text: &[u8], mark: Option<u64>) -> Result<usize, Option<u64>>
+        requires { place_marked self.now.marked (text_mark text.now) text.now ≡ None }
+        ensures placed { IfOk result (λ place. place_in self.now (Text text.now) ≡ Some place) }
+        ensures absent { OnErr result (place_in self.now (Text text.now) ≡ None) }
+        ensures given { IfErr result (λ m. m ≡ mark) }
     {
-        let mark = mark_of(text);
-        match self.marked.get(&mark) {
-            Some(_) => self.insert_unmarked(text, place),
-            None => self.insert_marked(mark, text, place),
+        match self.texts.get(text) {
+            Some(place) => Ok(*place),
+            None => Err(mark),
         }
     }
 
-    /// Puts in a name that has no place yet.
-    pub fn insert(&mut self, name: &'m Name, place: usize) -> Result<(), NoMemory>
-        requires { place_in self.old name.now ≡ None }
-        ensures placed { OnOk result ((x : Name) → place_in self.new x ≡ (if name_eq name.now x then Some place else place_in self.old x)) }
+    /// The place of a text, or else its mark, if no text has that yet.
+    fn seek(&self, text: &[u8]) -> Result<usize, Option<u64>>
+        ensures placed { IfOk result (λ place. place_in self.now (Text text.now) ≡ Some place) }
+        ensures absent { OnErr result (place_in self.now (Text text.now) ≡ None) }
+        ensures first { IfErr result (λ m. IfSome m (λ mark. (mark ≡ text_mark text.now) × (get nat_eq self.now.marked mark ≡ None))) }
+    {
+        let mark = mark_of(text);
+        match self.marked.get(&mark) {
+            Some(first) => {
+                if first.0 == text {
+                    Ok(first.1)
+                } else {
+                    self.seek_further(text, None)
+                }
+            }
+            None => self.seek_further(text, Some(mark)),
+        }
+    }
+
+    /// Puts in a text that has no place yet, with its mark where no text has that.
+    fn insert_text(
+        &mut self,
+        text: &'m [u8],
+        mark: Option<u64>,
+        place: usize,
+    ) -> Result<(), NoMemory>
+        requires absent { place_in self.old (Text text.now) ≡ None }
+        requires first { IfSome mark (λ m. (m ≡ text_mark text.now) × (get nat_eq self.old.marked m ≡ None)) }
+        ensures placed { OnOk result ((x : Name) → place_in self.new x ≡ (if name_eq (Text text.now) x then Some place else place_in self.old x)) }
+        ensures err { OnErr result ((x : Name) → place_in self.new x ≡ place_in self.old x) }
+    {
+        match mark {
+            Some(mark) => self.insert_marked(mark, text, place),
+            None => self.insert_unmarked(text, place),
+        }
+    }
+
+    /// The place of a text; where it has none yet, it is put in.
+    fn put_text(&mut self, text: &'m [u8], place: usize) -> Result<Option<usize>, NoMemory>
+        ensures found { IfOk result (λ r. r ≡ place_in self.old (Text text.now)) }
+        ensures kept { IfOk result (λ r. IfSome r (λ _. (x : Name) → place_in self.new x ≡ place_in self.old x)) }
+        ensures placed { IfOk result (λ r. IfNone r ((x : Name) → place_in self.new x ≡ (if name_eq (Text text.now) x then Some place else place_in self.old x))) }
+        ensures err { OnErr result ((x : Name) → place_in self.new x ≡ place_in self.old x) }
+    {
+        match self.seek(text) {
+            Ok(found) => Ok(Some(found)),
+            Err(mark) => {
+                self.insert_text(text, mark, place)?;
+                Ok(None)
+            }
+        }
+    }
+
+    /// The place of a number; where it has none yet, it is put in.
+    fn put_number(&mut self, number: u32, place: usize) -> Result<Option<usize>, NoMemory>
+        ensures found { IfOk result (λ r. r ≡ place_in self.old (Number number)) }
+        ensures kept { IfOk result (λ r. IfSome r (λ _. (x : Name) → place_in self.new x ≡ place_in self.old x)) }
+        ensures placed { IfOk result (λ r. IfNone r ((x : Name) → place_in self.new x ≡ (if name_eq (Number number) x then Some place else place_in self.old x))) }
+        ensures err { OnErr result ((x : Name) → place_in self.new x ≡ place_in self.old x) }
+    {
+        match self.number_place(number) {
+            Some(found) => Ok(Some(found)),
+            None => {
+                self.insert_number(number, place)?;
+                Ok(None)
+            }
+        }
+    }
+
+    /// The place of a name; where it has none yet, it is put in, with this place.
+    pub fn put(&mut self, name: &'m Name, place: usize) -> Result<Option<usize>, NoMemory>
+        ensures found { IfOk result (λ r. r ≡ place_in self.old name.now) }
+        ensures kept { IfOk result (λ r. IfSome r (λ _. (x : Name) → place_in self.new x ≡ place_in self.old x)) }
+        ensures placed { IfOk result (λ r. IfNone r ((x : Name) → place_in self.new x ≡ (if name_eq name.now x then Some place else place_in self.old x))) }
         ensures err { OnErr result ((x : Name) → place_in self.new x ≡ place_in self.old x) }
     {
         match name {
-            Name::Number(number) => self.insert_number(*number, place),
-            Name::Text(bytes) => self.insert_text(bytes.as_slice(), place),
+            Name::Number(number) => self.put_number(*number, place),
+            Name::Text(bytes) => self.put_text(bytes.as_slice(), place),
         }
     }
 }

@@ -10,8 +10,9 @@ use ms_ir::Name;
 use std::alloc::Global;
 use std::marker::Model;
 
-/// Names in order, equal ones among them, where the first place of each is found by its spelling: a number in constant
-/// time where the numbers ascend and few are missing between two of them, and every other name in logarithmic time.
+/// Names in order, equal ones among them, where the first place of each is found by its spelling: a text in constant
+/// time, as in any hash table, a number in constant time where the numbers ascend and few are missing between two of
+/// them, and any other number in logarithmic time.
 /// Contracts see it as the list of the names. The names are borrowed, and not copied.
 #[derive(Drop)]
 pub struct NameTable<'m> {
@@ -74,14 +75,11 @@ impl<'m> NameTable<'m> {
         let place = self.names.len();
         make_room(&mut self.names)?;
         self.names.push(name)?;
-        match self.index.get(name) {
-            Some(first) => Ok(Some(first)),
-            None => {
-                if let Err(error) = self.index.insert(name, place) {
-                    self.names.pop();
-                    return Err(error);
-                }
-                Ok(None)
+        match self.index.put(name, place) {
+            Ok(first) => Ok(first),
+            Err(error) => {
+                self.names.pop();
+                Err(error)
             }
         }
     }

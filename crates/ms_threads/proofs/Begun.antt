@@ -1,5 +1,5 @@
 -- A thread that begins goes on as its fiber does, and so does `main`'s at the start of a run.
-use Rattle.std.proofs.Common.{◌≡◌, ◌≢◌, ◌<◌, ◌≤◌, ◌+◌, ◌-◌, ◌*◌, ◌%◌, ◌^◌, ℕ, zero, suc, Bool, true, false, true≢false, not, eqb, if◌then◌else◌, List, [], ◌∷◌, length, get_or, map, slice_get, refl, sym, ap, subst, ◌∙◌, arith, Option, Some, None, option_map, unwrap_or, inr}
+use Rattle.std.proofs.Common.{◌≡◌, ◌≢◌, ◌<◌, ◌≤◌, ◌+◌, ◌-◌, ◌*◌, ◌%◌, ◌^◌, ℕ, zero, suc, Bool, true, false, true≢false, not, eqb, if◌then◌else◌, List, [], ◌∷◌, length, reverse, map, slice_get, refl, sym, ap, subst, ◌∙◌, arith, Option, Some, None, option_map, unwrap_or, inr}
 use Rattle.std.proofs.lemmas.Bool.{and_parts, ne_eqb}
 use Rattle.std.proofs.lemmas.Option.{slice_get-map}
 use Rattle.std.proofs.Math.Nat.{mod-eq_of_lt}
@@ -36,18 +36,17 @@ use Rattle.ms_host.specs.State.{Beside, KeepsGiven, nothing_beside}
 use Rattle.ms_host.specs.Shows.{Shows}
 use Rattle.ms_host.specs.SlotBytes.{ShowsSlots}
 use Rattle.ms_machine_steps.specs.declared.fibers.Fiber.{Fiber}
-use Rattle.ms_machine_steps.specs.Owning.{is_spawned, Owns}
-use Rattle.ms_machine_steps.specs.Standing.{frames_of}
+use Rattle.ms_machine_steps.specs.Owning.{is_spawned}
 use Rattle.ms_machine.specs.Running.{AllStandFor}
 use Rattle.ms_machine.specs.Spawning.{SpawnedFor}
 use Rattle.ms_printf.specs.CallSites.{AreCallSites}
 use Rattle.ms_runtime.specs.Served.{IsBeside}
 use Rattle.ms_runtime.specs.Going.{ahead, Begins}
 use Rattle.ms_threads.specs.declared.guests.Thread.{Thread as Guest}
-use Rattle.ms_threads.specs.declared.guests.Standing.{Standing}
 use Rattle.ms_threads.specs.declared.runs.Threads.{Threads}
-use Rattle.ms_threads.specs.Guests.{thread_of, guest_at, part_at, IsNew, Shares}
+use Rattle.ms_threads.specs.Guests.{stand_at, thread_of, guest_at, part_at, SameCalls, IsNew, Shares}
 use Rattle.ms_threads.specs.Going.{StandsAt, Standings, goes_at, ends_from, Beginning, Going, most_ahead}
+use Rattle.ms_threads.proofs.Places.{same_frames, none_more, no_call}
 
 -- ---- the function of a thread
 
@@ -114,7 +113,7 @@ module _ (m : Module) (u : Setup) (schedule : List ℕ) where
       b.between.stands.starts (t.guests.turn - 1) b.guest.func
       (slice_get-map (λ (x : Guest). x.func) t.guests.threads.items (t.guests.turn - 1) ∙ ap (option_map (λ (x : Guest). x.func)) (begin_there t b).1)
 
-  module _ (formed : Formed m) (valid : Valid m) (t t' : Threads) (b : Beginning m u schedule t) (few : b.guest.argument < 2 ^ 64) (fiber : Fiber) (spawned : SpawnedFor m b.guest.func b.guest.argument fiber) (fiber_is : t'.running.fiber ≡ fiber)
+  module _ (formed : Formed m) (valid : Valid m) (t t' : Threads) (b : Beginning m u schedule t) (few : b.guest.argument < 2 ^ 64) (fiber : Fiber) (spawned : SpawnedFor m b.guest.func b.guest.argument fiber) (calls : SameCalls fiber t'.running.fiber)
       (guests : t'.guests ≡ t.guests) (depot : t'.running.depot ≡ t.running.depot) (told : t'.running.told ≡ t.running.told) (budget : t'.running.budget ≡ t.running.budget) (printf : t'.running.printf ≡ t.running.printf)
       (slots : (cells : ℕ → ℕ) → ShowsSlots t.running.world.slots cells → ShowsSlots t'.running.world.slots (first_clean cells)) (shows : (beside : Beside) (world : World) → Shows t.running.world beside world → Shows t'.running.world beside world)
       (given : KeepsGiven t.running.world t'.running.world) (made : t'.running.world.made ≡ t.running.world.made) where
@@ -152,12 +151,12 @@ module _ (m : Module) (u : Setup) (schedule : List ℕ) where
           others = b.others;
           stands = record {
             bytes = b.between.bytes;
-            frames = subst (λ f. AllStandFor m (frames_of f) state.frames) (sym fiber_is) first.0;
+            frames = subst (λ fs. AllStandFor m fs state.frames) (sym (same_frames fiber t'.running.fiber calls)) first.0;
             shows = shows b.beside b.shared.world b.between.shows;
             slots = slots b.shared.slots b.between.slots;
             fill = given.fill ∙ b.between.fill;
             sound = record { frames = (begun_good m formed valid b.guest.func b.guest.argument b.shared.world (begin_start t b) few, inr (begin_start t b)); slots = clean; world = b.between.good };
-            owns = subst (λ f. Owns f b.shared.world state.frames) (sym fiber_is) first.1;
+            owns = record { spawned = calls.spawned ∙ first.1.spawned; blocks = ap (λ v. reverse v.items) calls.heap ∙ first.1.blocks };
           };
           told = subst (λ d. IsBeside d t'.running.told b.beside) (sym depot) (subst (λ r. IsBeside t.running.depot r b.beside) (sym told) b.between.told);
           keeping = record {
@@ -190,18 +189,15 @@ module _ (m : Module) (u : Setup) (schedule : List ℕ) where
       origins = λ k. sym (ap (λ ts. part_at (λ x. x.origin) ts k) new.threads);
     };
     standings = record {
-      counted = ap length new.stands ∙ sym (ap (λ ts. length ts + 1) new.threads);
-      turn = let one : length t.guests.stands.items ≡ 1 = ap length new.stands in let turn = new.turn in omega (arith, one, turn);
-      stands = λ k. subst (λ o. StandsAt m u k o None) (sym (ap (λ xs. get_or xs k None) new.stands ∙ nowhere k)) tt;
+      counted = ap length new.stands.1.1 ∙ sym (ap (λ ts. length ts + 1) new.threads);
+      few = let one : length t.guests.stands.items ≡ 1 = ap length new.stands.1.1 in omega (arith, one);
+      turn = let one : length t.guests.stands.items ≡ 1 = ap length new.stands.1.1 in let turn = new.turn in omega (arith, one, turn);
+      stands = λ k. subst (λ o. StandsAt m u k o None) (sym (ap (λ ps. stand_at ps k) new.stands.1.1 ∙ none_more [] new.stands.0 (no_call new.stands.0 new.stands.1.0) k)) tt;
       place = new.place ∙ sym (mod-eq_of_lt some);
       starts = λ k f e. absurd (none k f (subst (λ xs. slice_get (map (λ (x : Guest). x.func) xs) k ≡ Some f) new.threads e));
     };
     same = ap (λ n. ends_from m u schedule n (goes_at (plain_start m u) no_others)) b.budget;
   }
     where
-      nowhere : (k : ℕ) → get_or {A = Option Standing} (None ∷ []) k None ≡ None
-      nowhere zero = refl
-      nowhere (suc k) = refl
-
       none : (k f : ℕ) → slice_get [] k ≡ Some f → ⊥
       none k f e = cc

@@ -40,9 +40,8 @@ use Rattle.ms_runtime.specs.Answering.{HasRoom, AnsweredFor}
 use Rattle.ms_runtime.specs.Going.{ahead, Answers, LeftBehind}
 use Rattle.ms_runtime.proofs.Fitting.{has_room}
 use Rattle.ms_runtime.proofs.Goings.{one_nearer, at_within}
-use Rattle.ms_threads.specs.declared.guests.Standing.{Standing}
 use Rattle.ms_threads.specs.declared.runs.Threads.{Threads}
-use Rattle.ms_threads.specs.Guests.{IsThreadCall, asked_starts, Shares, KeepsStands, SharesOn, Did}
+use Rattle.ms_threads.specs.Guests.{standing_of, IsThreadCall, asked_starts, Shares, KeepsStands, SharesOn, Did}
 use Rattle.ms_threads.specs.Going.{Standings, fiber_of, goes_at, ends_from, ends_after, last_of, Going, Asking, Behind, Performing, Turned, most_ahead, far_of}
 use Rattle.ms_threads.proofs.Kept.{standings_kept}
 use Rattle.ms_threads.proofs.FiberSteps.{same_step, own_step, step_ends}
@@ -120,10 +119,10 @@ module _ (m : Module) (u : Setup) (schedule : List ℕ) where
 
   -- ---- a thread call was answered
 
-  module _ (t t' : Threads) (s : Standing) (p : Performing m u schedule s t) (x : Answer) (w : WorldState) (world : t'.running.world ≡ w) (d : Did (asked_effect (setting_of m u) (types_due m p.frames) s.call p.shared.world) x p.beside t'.guests w)
-      (keeps : Keeps t.running.world w) (made : w.made ≡ t.running.world.made) (kept : KeepsStands (asked_starts s.call.asked s.call.args) t.guests t'.guests)
-      (begin : (k f : ℕ) → slice_get (asked_starts s.call.asked s.call.args) k ≡ Some f → IsStart m f)
-      (fiber : t'.running.fiber ≡ s.fiber) (depot : t'.running.depot ≡ t.running.depot) (told : t'.running.told ≡ t.running.told) (budget : t'.running.budget ≡ t.running.budget) (printf : t'.running.printf ≡ t.running.printf) where
+  module _ (t t' : Threads) (call : HostCall) (p : Performing m u schedule (standing_of t.running.fiber call) t) (x : Answer) (w : WorldState) (world : t'.running.world ≡ w) (d : Did (asked_effect (setting_of m u) (types_due m p.frames) call p.shared.world) x p.beside t'.guests w)
+      (keeps : Keeps t.running.world w) (made : w.made ≡ t.running.world.made) (kept : KeepsStands (asked_starts call.asked call.args) t.guests t'.guests)
+      (begin : (k f : ℕ) → slice_get (asked_starts call.asked call.args) k ≡ Some f → IsStart m f)
+      (fiber : t'.running.fiber ≡ t.running.fiber) (depot : t'.running.depot ≡ t.running.depot) (told : t'.running.told ≡ t.running.told) (budget : t'.running.budget ≡ t.running.budget) (printf : t'.running.printf ≡ t.running.printf) where
     -- the state in which it does the call
     abbrev within : PlainState
     within = record { frames = p.frames; slots = p.shared.slots; world = p.shared.world }
@@ -131,7 +130,7 @@ module _ (m : Module) (u : Setup) (schedule : List ℕ) where
     turn_is : p.shared.world.turn ≡ t.guests.turn
     turn_is = ap (λ f. f.turn) p.between.shows.fibers ∙ p.between.shares.turn
 
-    stands_there : IsRunning m u p.beside s.fiber t.running.world within
+    stands_there : IsRunning m u p.beside t.running.fiber t.running.world within
     stands_there = record {
       bytes = p.between.bytes;
       frames = p.stood.frames;
@@ -170,7 +169,7 @@ module _ (m : Module) (u : Setup) (schedule : List ℕ) where
     shares_by (answer.Resumed w) h v e = h
     shares_by (answer.Ended e) h v is = absurd (cc)
 
-    pub performed_behind : Behind m u schedule s.call x t'
+    pub performed_behind : Behind m u schedule call x t'
     performed_behind = record {
       before = t.running.world;
       old = p.beside;
@@ -181,7 +180,7 @@ module _ (m : Module) (u : Setup) (schedule : List ℕ) where
       beside = record p.beside { fibers = d.0 };
       told = subst (λ d'. IsBeside d' t'.running.told (record p.beside { fibers = d.0 })) (sym depot) (subst (λ r. IsBeside t.running.depot r (record p.beside { fibers = d.0 })) (sym told)
           (record { pairs = p.between.told.pairs; reports = p.between.told.reports; blind = p.between.told.blind }));
-      answered = subst (λ (w' : WorldState). Answered (record p.beside { fibers = d.0 }) (asked_effect (setting_of m u) (types_due m p.frames) s.call p.shared.world) x w') (sym world) d.1.0;
+      answered = subst (λ (w' : WorldState). Answered (record p.beside { fibers = d.0 }) (asked_effect (setting_of m u) (types_due m p.frames) call p.shared.world) x w') (sym world) d.1.0;
       fill = ap (λ (w' : WorldState). w'.fill) world ∙ keeps.fill;
       slots = ap (λ (w' : WorldState). w'.slots) world ∙ keeps.slots;
       few = has_room u x t'.running (subst (λ r. length r.reports < u.reports) (sym told) p.between.few);
@@ -191,9 +190,9 @@ module _ (m : Module) (u : Setup) (schedule : List ℕ) where
           omega (arith, same, left, p.between.room);
       printf = subst (λ q. AreCallSites m q.calls) (sym printf) p.between.printf;
       shares = shares_by x d.1.1;
-      standings = standings_kept m u schedule (asked_starts s.call.asked s.call.args) t.guests t'.guests p.others p.between.stands kept begin;
-      goes = λ next r. ap (λ n. ends_from m u schedule n (goes_at next p.others)) left_there ∙ goes_call s.call.asked p.stood.call next r;
-      stops = λ e last st. stops_call s.call.asked p.stood.call e last st;
+      standings = standings_kept m u schedule (asked_starts call.asked call.args) t.guests t'.guests p.others p.between.stands kept begin;
+      goes = λ next r. ap (λ n. ends_from m u schedule n (goes_at next p.others)) left_there ∙ goes_call call.asked p.stood.call next r;
+      stops = λ e last st. stops_call call.asked p.stood.call e last st;
     }
 
   -- ---- behind it

@@ -1,5 +1,5 @@
 -- Where the threads stand that don't go on, behind each change of them.
-use Rattle.std.proofs.Common.{◌≡◌, ◌≢◌, ◌<◌, ◌≤◌, ◌+◌, ◌%◌, ℕ, zero, suc, Bool, true, false, List, [], ◌∷◌, ◌++◌, length, map, get_or, slice_get, eqb, ltb, if◌then◌else◌, refl, sym, ap, subst, ◌∙◌, arith, Option, Some, None, ◌⊎◌, inl, inr, ⊎_elim, eqb-true}
+use Rattle.std.proofs.Common.{◌≡◌, ◌≢◌, ◌<◌, ◌≤◌, ◌+◌, ◌%◌, ℕ, zero, suc, Bool, true, false, List, [], ◌∷◌, ◌++◌, length, map, slice_get, eqb, ltb, if◌then◌else◌, refl, sym, ap, subst, ◌∙◌, arith, Option, Some, ◌⊎◌, inl, inr, ⊎_elim, eqb-true}
 use Rattle.std.proofs.Math.Nat.{suc-mod, mod_self, mod-eq_of_lt}
 use Rattle.std.proofs.lemmas.Nat.{mod_below}
 use Rattle.std.proofs.lemmas.Bool.{ltb-true, ltb-false}
@@ -7,12 +7,12 @@ use Rattle.std.proofs.lemmas.List.{length-map, length-append}
 use Rattle.ms_ir.specs.declared.syntax.Module.{Module}
 use Rattle.ms_runs.specs.declared.runs.Setup.{Setup}
 use Rattle.ms_runs.specs.Control.{Frame}
+use Rattle.ms_runs.specs.Threads.{fiber_limit}
 use Rattle.ms_runs_good.specs.GoodStates.{IsStart}
 use Rattle.ms_threads_runs.specs.Fibers.{Others, standing}
 use Rattle.ms_threads.specs.declared.guests.Thread.{Thread as Guest}
-use Rattle.ms_threads.specs.declared.guests.Standing.{Standing}
 use Rattle.ms_threads.specs.declared.guests.Guests.{Guests}
-use Rattle.ms_threads.specs.Guests.{funcs_of, stands_of, Stands, Picked, KeepsStands}
+use Rattle.ms_threads.specs.Guests.{Standing, stand_at, funcs_of, stands_of, Stands, Picked, KeepsStands}
 use Rattle.ms_threads.specs.Going.{StandsAt, Standings}
 
 -- the place behind one, of so many
@@ -31,6 +31,7 @@ module _ (m : Module) (u : Setup) (schedule : List ℕ) where
       → Standings m u schedule h others
   standings_kept starts g h others s k begin = record {
     counted = k.counted s.counted;
+    few = k.few s.counted s.few;
     turn = let counted = k.counted s.counted in let few = longer k.funcs in let turn = k.same.turn in omega (arith, counted, s.counted, s.turn, few, turn);
     stands = λ n. subst (λ o. StandsAt m u n o (others.stands n)) (sym (k.stands n)) (s.stands n);
     place = k.same.place ∙ s.place;
@@ -60,6 +61,7 @@ module _ (m : Module) (u : Setup) (schedule : List ℕ) where
       → Standings m u schedule h (record others { stands = standing g.turn f others.stands })
   standings_stood o f g h others s c new = record {
     counted = c.count ∙ s.counted ∙ ap (λ n. n + 1) (sym (same_count g h c.threads));
+    few = let count = c.count in omega (arith, count, s.few);
     turn = let turn = c.same.turn in let count = c.count in omega (arith, turn, count, s.turn);
     stands = λ n. subst (λ x. StandsAt m u n x (standing g.turn f others.stands n)) (sym (c.stands n)) (by_test n (eqb n g.turn) refl);
     place = c.same.place ∙ s.place;
@@ -93,8 +95,9 @@ module _ (m : Module) (u : Setup) (schedule : List ℕ) where
       → Standings m u schedule h (record others { picks = others.picks + 1 })
   standings_picked g h others some s p turn = record {
     counted = ap (λ v. length v.items) p.stands ∙ s.counted ∙ ap (λ n. n + 1) (sym (same_count g h p.threads));
+    few = subst (λ v. length v.items ≤ fiber_limit) (sym p.stands) s.few;
     turn = let e : length h.stands.items ≡ length g.stands.items = ap (λ v. length v.items) p.stands in omega (arith, e, turn);
-    stands = λ n. subst (λ x. StandsAt m u n x (others.stands n)) (sym (ap (λ v. get_or v.items n None) p.stands)) (s.stands n);
+    stands = λ n. subst (λ x. StandsAt m u n x (others.stands n)) (sym (ap (λ v. stand_at v.items n) p.stands)) (s.stands n);
     place = p.place ∙ next_is others.picks (length schedule) g.place some s.place;
     starts = λ n x e. s.starts n x (subst (λ xs. slice_get xs n ≡ Some x) (same_funcs g h p.threads) e);
   }

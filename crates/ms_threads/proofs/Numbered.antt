@@ -1,11 +1,12 @@
 -- The threads that may go on: how many they are, and which stands at a place among them.
-use Rattle.std.proofs.Common.{◌≡◌, ◌<◌, ◌≤◌, ◌+◌, ◌-◌, ◌&&◌, ℕ, zero, suc, Bool, true, false, not, List, ◌∷◌, length, map, filter, get_or, if◌then◌else◌, refl, sym, ap, ◌∙◌, arith, Option}
-use Rattle.std.proofs.lemmas.List.{length-map}
+use Rattle.std.proofs.Common.{◌≡◌, ◌≢◌, ◌<◌, ◌≤◌, ◌+◌, ◌-◌, ◌&&◌, ℕ, zero, suc, Bool, true, false, true≢false, not, eqb, eqb-true, List, ◌∷◌, length, map, filter, get_or, if◌then◌else◌, refl, sym, ap, ◌∙◌, arith, Option}
+use Rattle.std.proofs.Math.ListN.{set}
+use Rattle.std.proofs.lemmas.Bool.{eq-eqb}
+use Rattle.std.proofs.lemmas.List.{length-map, get_or-set_same, get_or-set_other}
 use Rattle.ms_runs.specs.Threads.{thread_at, has_ended}
 use Rattle.ms_threads_runs.specs.Fibers.{may_go, is_runnable, numbers_from}
-use Rattle.ms_threads.specs.declared.guests.Standing.{Standing}
 use Rattle.ms_threads.specs.declared.guests.Guests.{Guests}
-use Rattle.ms_threads.specs.Guests.{thread_of, standing_joins, threads_of, stands_of, runnable_in, Counted}
+use Rattle.ms_threads.specs.Guests.{Standing, thread_of, standing_joins, threads_of, stands_of, runnable_in, Counted}
 
 -- ---- numbers that pass a test
 
@@ -50,6 +51,27 @@ module _ (p : ℕ → Bool) where
 
   pub place_here : (k n d : ℕ) → k < n → d < one (p k) → get_or (rest k n) d 0 ≡ k
   place_here k n d lt few = ap (λ xs. get_or xs d 0) (rest_on k n lt) ∙ here (p k) k (rest (k + 1) n) d few
+
+  -- the list of the first ones, with one number more behind them, and those from the next number on
+  pub listed_on : (k n count : ℕ) (ready : List ℕ) → k < n → count < length ready → ((d : ℕ) → d < count → get_or ready d 0 ≡ get_or (rest 0 n) d 0) → ((d : ℕ) → get_or (rest k n) d 0 ≡ get_or (rest 0 n) (count + d) 0)
+      → (d : ℕ) → d < count + one (p k) → get_or (set ready count k) d 0 ≡ get_or (rest 0 n) d 0
+  listed_on k n count ready lt room listed ahead d few = by_test (eqb d count) refl
+    where
+      by_test : (b : Bool) → eqb d count ≡ b → get_or (set ready count k) d 0 ≡ get_or (rest 0 n) d 0
+      by_test true e =
+          let is : d ≡ count = eqb-true d count e in
+          let some : 0 < one (p k) = omega (arith, few, is) in
+          ap (λ j. get_or (set ready count k) j 0) is ∙ get_or-set_same ready count k 0 room ∙ sym (place_here k n 0 lt some) ∙ ahead 0
+          ∙ ap (λ j. get_or (rest 0 n) j 0) (let z : count + 0 ≡ d = omega (arith, is) in z)
+      by_test false e =
+          let other : d ≢ count = (λ same. true≢false (sym (eq-eqb d count same) ∙ e)) in
+          get_or-set_other ready count d k 0 other ∙ listed d (omega (arith, few, other, one_few (p k)))
+
+  pub ahead_on : (k n count : ℕ) → k < n → ((d : ℕ) → get_or (rest k n) d 0 ≡ get_or (rest 0 n) (count + d) 0) → (count' : ℕ) → count' ≡ count + one (p k) → (d : ℕ) → get_or (rest (k + 1) n) d 0 ≡ get_or (rest 0 n) (count' + d) 0
+  ahead_on k n count lt ahead count' is d =
+      ap (λ j. get_or (rest (k + 1) n) j 0) (let e : d ≡ (one (p k) + d) - one (p k) = omega arith in e)
+      ∙ sym (place_later k n (one (p k) + d) lt (let le : one (p k) ≤ one (p k) + d = omega arith in le)) ∙ ahead (one (p k) + d)
+      ∙ ap (λ j. get_or (rest 0 n) j 0) (let e : count + (one (p k) + d) ≡ count' + d = omega (arith, is) in e)
 
   -- what stands at a place passes the test
   pub passes : (k n d x : ℕ) → d < length (filter p (numbers_from k n)) → (p (get_or (filter p (numbers_from k n)) d x) ≡ true) × (get_or (filter p (numbers_from k n)) d x < k + n)

@@ -24,15 +24,15 @@ use Rattle.ms_host.specs.declared.calls.Asked.{Asked}
 use Rattle.ms_host.specs.declared.calls.Asked.TheVariants as asked
 use Rattle.ms_host.specs.declared.calls.HostCall.{HostCall}
 use Rattle.ms_printf.specs.CallSites.{AreCallSites}
+use Rattle.ms_machine_steps.specs.declared.fibers.Fiber.{Fiber}
 use Rattle.ms_machine_steps.specs.Waiting.{IsAsked, FirstWaits}
 use Rattle.ms_runtime.specs.declared.runs.Running.{Running}
 use Rattle.ms_runtime.specs.Served.{IsBeside}
 use Rattle.ms_runtime.specs.Going.{Answers, LeftBehind, HasSlack}
 use Rattle.ms_threads.specs.declared.guests.Thread.{Thread as Guest}
-use Rattle.ms_threads.specs.declared.guests.Standing.{Standing}
 use Rattle.ms_threads.specs.declared.guests.Guests.{Guests}
 use Rattle.ms_threads.specs.declared.runs.Threads.{Threads}
-use Rattle.ms_threads.specs.Guests.{thread_of, guest_at, threads_of, stands_of, site_of, asked_joins, call_joins, standing_joins, runnable_in, IsThreadCall, Stands, Picked}
+use Rattle.ms_threads.specs.Guests.{Standing, standing_of, stand_at, thread_of, guest_at, threads_of, stands_of, site_of, asked_joins, call_joins, standing_joins, runnable_in, IsThreadCall, Stands, Picked}
 use Rattle.ms_threads.specs.Going.{StandsFor, StandsAt, fiber_of, shared_in, ends_from, ends_after, last_of, Between, most_ahead, far_of, Asking, Picking, Performing, Beginning}
 use Rattle.ms_threads.proofs.Numbered.{test_of, picked_goes}
 use Rattle.ms_threads.proofs.Threading.{same_thread, shows_fibers, shares_turned, shares_same}
@@ -55,7 +55,7 @@ module _ (m : Module) (u : Setup) (schedule : List ℕ) where
   rest_of_call (asked.External e) is rest left h = h
   rest_of_call (asked.Runtime f) is rest left h = absurd is
 
-  pub stood_picks : (t t' : Threads) (call : HostCall) (a : Asking m u schedule call t) → IsThreadCall call.asked → Stands (Some (record { fiber = t.running.fiber; call = call })) t.guests t'.guests
+  pub stood_picks : (t t' : Threads) (call : HostCall) (a : Asking m u schedule call t) → IsThreadCall call.asked → Stands (Some (standing_of t.running.fiber call)) t.guests t'.guests
       → t'.running.world ≡ t.running.world → t'.running.depot ≡ t.running.depot → t'.running.told ≡ t.running.told → t'.running.budget ≡ t.running.budget → t'.running.printf ≡ t.running.printf → Picking m u schedule t'
   stood_picks t t' call a is st world depot told budget printf = record {
     beside = a.beside;
@@ -70,7 +70,7 @@ module _ (m : Module) (u : Setup) (schedule : List ℕ) where
       good = a.stands.sound.world;
       told = subst (λ d. IsBeside d t'.running.told a.beside) (sym depot) (subst (λ r. IsBeside t.running.depot r a.beside) (sym told) a.told);
       shares = shares_same t.guests t'.guests a.beside.fibers a.shares st.same.turn st.threads;
-      stands = standings_stood m u schedule (Some (record { fiber = t.running.fiber; call = call })) (Some a.within.frames) t.guests t'.guests a.others a.standings st now;
+      stands = standings_stood m u schedule (Some (standing_of t.running.fiber call)) (Some a.within.frames) t.guests t'.guests a.others a.standings st now;
       roots = ap (λ d. d.roots) depot ∙ a.keeping.roots;
       few = subst (λ r. length r.reports < u.reports) (sym told) a.keeping.few;
       room = let made : t'.running.world.made ≡ t.running.world.made = ap (λ (w : WorldState). w.made) world in let left : t'.running.budget.left ≡ t.running.budget.left = ap (λ b. b.left) budget in
@@ -88,7 +88,7 @@ module _ (m : Module) (u : Setup) (schedule : List ℕ) where
       turn_is : a.within.world.turn ≡ t.guests.turn
       turn_is = ap (λ f. f.turn) a.stands.shows.fibers ∙ a.shares.turn
 
-      now : StandsFor m u t.guests.turn (record { fiber = t.running.fiber; call = call }) a.within.frames
+      now : StandsFor m u t.guests.turn (standing_of t.running.fiber call) a.within.frames
       now = record {
         frames = a.stands.frames;
         waits = a.waits;
@@ -224,7 +224,7 @@ module _ (m : Module) (u : Setup) (schedule : List ℕ) where
       abbrev beside' : Beside
       beside' = record p.beside { fibers = record p.beside.fibers { turn = h.turn } }
 
-      module _ (t' : Threads) (st : Stands None h t'.guests) (running : t'.running ≡ t.running) where
+      module _ (t' : Threads) (fiber : Fiber) (st : Stands None h t'.guests) (running : t'.running ≡ record t.running { fiber = fiber }) where
         threads' : t'.guests.threads ≡ t.guests.threads
         threads' = st.threads ∙ pk.threads
 
@@ -261,7 +261,7 @@ module _ (m : Module) (u : Setup) (schedule : List ℕ) where
         pick_performs s at = by_fiber (p.others.stands h.turn) refl (subst (λ o. StandsAt m u h.turn o (p.others.stands h.turn)) stood (p.between.stands.stands h.turn))
           where
             stood : stands_of t.guests h.turn ≡ Some s
-            stood = ap (λ v. get_or v.items h.turn None) (sym pk.stands) ∙ at
+            stood = ap (λ v. stand_at v.items h.turn) (sym pk.stands) ∙ at
 
             free : waits t'.guests.turn (threads_of t'.guests) (call_joins s.call) ≡ false
             free =
@@ -293,7 +293,7 @@ module _ (m : Module) (u : Setup) (schedule : List ℕ) where
         pick_begins at = by_fiber (p.others.stands h.turn) refl (subst (λ o. StandsAt m u h.turn o (p.others.stands h.turn)) stood (p.between.stands.stands h.turn))
           where
             stood : stands_of t.guests h.turn ≡ None
-            stood = ap (λ v. get_or v.items h.turn None) (sym pk.stands) ∙ at
+            stood = ap (λ v. stand_at v.items h.turn) (sym pk.stands) ∙ at
 
             there : is_some (thread_at h.turn (threads_of t.guests)) ≡ true
             there = sym (ap (may_go standing_joins h.turn (threads_of t.guests)) stood) ∙ parts.1

@@ -4,7 +4,7 @@ use Rattle.std.specs.Prelude.{IfOk}
 use Rattle.std.proofs.Math.ListN.{set}
 use Rattle.std.proofs.Math.Nat.{suc-ne-zero}
 use Rattle.std.proofs.lemmas.List.{length-map, length-append}
-use Rattle.std.proofs.lemmas.Bool.{eq-eqb, ne_eqb}
+use Rattle.std.proofs.lemmas.Bool.{eq-eqb, ne_eqb, leb-false}
 use Rattle.std.proofs.lemmas.Option.{slice_get-map, slice_get_past, slice_get-get_or, same_Some}
 use Rattle.ms_bits.specs.declared.traps.Trap.TheVariants as trap
 use Rattle.ms_runs.specs.declared.runs.End.TheVariants as «end»
@@ -24,9 +24,9 @@ use Rattle.ms_host.specs.State.{WorldState, Beside}
 use Rattle.ms_host.specs.Shows.{Shows}
 use Rattle.ms_host.specs.Answers.{effect_asked}
 use Rattle.ms_threads.specs.declared.guests.Thread.{Thread as Guest}
-use Rattle.ms_threads.specs.declared.guests.Standing.{Standing}
 use Rattle.ms_threads.specs.declared.guests.Guests.{Guests}
-use Rattle.ms_threads.specs.Guests.{thread_of, fresh, joined_guest, ended_guest, guest_at, part_at, changed_guests, changed_guest, asked_creates, asked_joins, asked_starts, IsThreadCall, threads_of, Shares, Added, Changed, KeepsStands, Did}
+use Rattle.ms_threads.specs.Guests.{thread_of, fresh, joined_guest, ended_guest, guest_at, part_at, changed_guests, changed_guest, stand_at, asked_creates, asked_joins, asked_starts, IsThreadCall, threads_of, Shares, Added, Changed, KeepsStands, Did}
+use Rattle.ms_threads.proofs.Places.{none_more, no_call}
 
 -- ---- lists
 
@@ -117,12 +117,6 @@ part_more part (x ∷ ts) t none (suc n) = part_more part ts t none n
 pub map_more : {A : Type 0} (part : Guest → A) (ts : List Guest) (t : Guest) → map part (ts ++ t ∷ []) ≡ map part ts ++ part t ∷ []
 map_more part [] t = refl
 map_more part (x ∷ ts) t = ap (λ xs. part x ∷ xs) (map_more part ts t)
-
-pub none_more : (xs : List (Option Standing)) (k : ℕ) → get_or (xs ++ None ∷ []) k None ≡ get_or xs k None
-none_more [] zero = refl
-none_more [] (suc k) = refl
-none_more (x ∷ xs) zero = refl
-none_more (x ∷ xs) (suc k) = none_more xs k
 
 -- ---- worlds
 
@@ -437,21 +431,25 @@ module _ (site id r : ℕ) (g : Guests) (beside : Beside) (w : WorldState) (worl
 
 -- ---- where they stand
 
-pub keeps_made : (func argument : ℕ) (g h : Guests) → Added func argument g h → KeepsStands (func ∷ []) g h
-keeps_made func argument g h a = record {
-  stands = λ k. ap (λ xs. get_or xs k None) a.stands ∙ none_more g.stands.items k;
+pub keeps_made : (func argument : ℕ) (g h : Guests) → leb fiber_limit (length g.threads.items + 1) ≡ false → Added func argument g h → KeepsStands (func ∷ []) g h
+keeps_made func argument g h room a = record {
+  stands = λ k. ap (λ ps. stand_at ps k) a.stands.1.1 ∙ none_more g.stands.items a.stands.0 (no_call a.stands.0 a.stands.1.0) k;
   counted = λ counted.
-      let s : length h.stands.items ≡ length g.stands.items + 1 = ap length a.stands ∙ length-append g.stands.items (None ∷ []) in
+      let s : length h.stands.items ≡ length g.stands.items + 1 = ap length a.stands.1.1 ∙ length-append g.stands.items (a.stands.0 ∷ []) in
       let t : length h.threads.items ≡ length g.threads.items + 1 = ap length a.threads ∙ length-append g.threads.items (fresh func argument ∷ []) in
       omega (arith, s, t, counted);
+  few = λ counted le.
+      let s : length h.stands.items ≡ length g.stands.items + 1 = ap length a.stands.1.1 ∙ length-append g.stands.items (a.stands.0 ∷ []) in
+      omega (arith, s, counted, leb-false fiber_limit (length g.threads.items + 1) room);
   funcs = inr (ap (map (λ (t : Guest). t.func)) a.threads ∙ map_more (λ (t : Guest). t.func) g.threads.items (fresh func argument));
   same = a.same;
 }
 
 pub keeps_changed : (n : ℕ) (change : Guest → Guest) → ((t : Guest) → (change t).func ≡ t.func) → (starts : List ℕ) (g h : Guests) → Changed n change g h → KeepsStands starts g h
 keeps_changed n change same starts g h c = record {
-  stands = λ k. ap (λ v. get_or v.items k None) c.stands;
+  stands = λ k. ap (λ v. stand_at v.items k) c.stands;
   counted = λ counted. ap (λ v. length v.items) c.stands ∙ counted ∙ ap (λ k. k + 1) (sym (ap length c.threads ∙ len n));
+  few = λ counted le. subst (λ v. length v.items ≤ fiber_limit) (sym c.stands) le;
   funcs = inl (ap (map (λ (t : Guest). t.func)) c.threads ∙ funcs n);
   same = c.same;
 }
@@ -465,7 +463,7 @@ keeps_changed n change same starts g h c = record {
     funcs (suc k) = map_changed change (λ t. t.func) same k g.threads.items
 
 pub keeps_all : (starts : List ℕ) (g : Guests) → KeepsStands starts g g
-keeps_all starts g = record { stands = λ k. refl; counted = λ c. c; funcs = inl refl; same = record { turn = refl; place = refl } }
+keeps_all starts g = record { stands = λ k. refl; counted = λ c. c; few = λ c le. le; funcs = inl refl; same = record { turn = refl; place = refl } }
 
 -- ---- what is asked for
 

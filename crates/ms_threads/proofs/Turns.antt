@@ -23,6 +23,7 @@ use Rattle.ms_host.specs.declared.calls.Asked.{Asked}
 use Rattle.ms_host.specs.declared.calls.Asked.TheVariants as asked
 use Rattle.ms_host.specs.declared.calls.HostCall.{HostCall}
 use Rattle.ms_printf.specs.CallSites.{AreCallSites}
+use Rattle.ms_machine_steps.specs.declared.fibers.Fiber.{Fiber}
 use Rattle.ms_machine_steps.specs.Advances.{Counts, IsSpent, HasEnded as HasStopped, HasAsked, HasFinished}
 use Rattle.ms_machine.specs.Running.{IsRunning}
 use Rattle.ms_runtime.specs.Served.{IsBeside}
@@ -154,7 +155,7 @@ module _ (m : Module) (u : Setup) (schedule : List ℕ) where
 
     module _ (guests : t'.guests ≡ t.guests) (value : ℕ) (h : HasFinished m u g.beside g.state t.running.budget.left value t'.running.world t'.running.budget.left)
         (made : t'.running.world.made + 2 ^ 26 * t'.running.budget.left ≤ t.running.world.made + 2 ^ 26 * t.running.budget.left)
-        (t'' : Threads) (running : t''.running ≡ t'.running) (has : HasEnded value t' t'') where
+        (t'' : Threads) (fiber : Fiber) (running : t''.running ≡ record t'.running { fiber = fiber }) (has : HasEnded value t' t'') where
       abbrev word : Poisoned
       word = answered_word m u schedule g.beside h.within value t'.running.world h.finishes
 

@@ -6,7 +6,7 @@ use Rattle.ms_runs.specs.declared.runs.End.{End}
 use Rattle.ms_runs.specs.declared.runs.Setup.{Setup}
 use Rattle.ms_runs.specs.World.{World}
 use Rattle.ms_runs.specs.Control.{Frame}
-use Rattle.ms_runs.specs.Threads.{result_mask, result_origin}
+use Rattle.ms_runs.specs.Threads.{fiber_limit, result_mask, result_origin}
 use Rattle.ms_runs.specs.Plain.{PlainState, Stepped, setting_of}
 use Rattle.ms_runs_good.specs.GoodStates.{GoodFrames, IsBelow, IsStart}
 use Rattle.ms_runs_good.specs.GoodWorlds.{GoodWorld, GivesBytes, FitsCell}
@@ -23,7 +23,6 @@ use Rattle.ms_host.specs.declared.calls.Answer.TheVariants as answer
 use Rattle.ms_host.specs.declared.calls.HostCall.{HostCall}
 use Rattle.ms_printf.specs.CallSites.{AreCallSites}
 use Rattle.ms_machine_steps.specs.Owning.{blocks_of}
-use Rattle.ms_machine_steps.specs.Standing.{frames_of}
 use Rattle.ms_machine_steps.specs.Waiting.{FirstWaits, types_due}
 use Rattle.ms_machine_steps.specs.Advances.{Resumes, Stops}
 use Rattle.ms_machine.specs.Running.{AllStandFor, IsRunning}
@@ -32,21 +31,20 @@ use Rattle.ms_runtime.specs.Served.{IsBeside}
 use Rattle.ms_runtime.specs.Answering.{HasRoom}
 use Rattle.ms_runtime.specs.Going.{ahead, Keeping, Answers, LeftBehind, HasSlack}
 use Rattle.ms_threads.specs.declared.guests.Thread.{Thread as Guest}
-use Rattle.ms_threads.specs.declared.guests.Standing.{Standing}
 use Rattle.ms_threads.specs.declared.guests.Guests.{Guests}
 use Rattle.ms_threads.specs.declared.runs.Threads.{Threads}
-use Rattle.ms_threads.specs.Guests.{threads_of, funcs_of, stands_of, guest_at, call_joins, IsThreadCall, Counted, Shares, Changed, ended_guest}
+use Rattle.ms_threads.specs.Guests.{Standing, standing_of, threads_of, funcs_of, stands_of, guest_at, call_joins, IsThreadCall, Counted, Shares, Changed, ended_guest}
 
 -- ---- where fibers stand
 
 -- a thread that stands at a thread call stands for a fiber, whatever the world is
 pub record StandsFor (m : Module) (u : Setup) (number : ℕ) (s : Standing) (fs : List (Frame ℕ)) : Type 0 where
-  pub frames : AllStandFor m (frames_of s.fiber) fs
+  pub frames : AllStandFor m s.frames fs
   pub waits : FirstWaits m u fs s.call
   pub call : IsThreadCall s.call.asked
   pub good : GoodFrames IsBelow m fs
-  pub spawned : s.fiber.spawned ≡ not (eqb number 0)
-  pub blocks : reverse s.fiber.heap.items ≡ blocks_of fs
+  pub spawned : s.spawned ≡ not (eqb number 0)
+  pub blocks : reverse s.heap ≡ blocks_of fs
 
 -- a thread stands where a fiber stands, or both stand nowhere
 abbrev pub StandsAt : Module → Setup → ℕ → Option Standing → Option (List (Frame ℕ)) → Type 0
@@ -57,6 +55,7 @@ StandsAt m u number s frames = ⊥
 -- the threads that don't go on stand where fibers stand, and as many picks were made; each can begin with its function
 pub record Standings (m : Module) (u : Setup) (schedule : List ℕ) (g : Guests) (others : Others (List (Frame ℕ))) : Type 0 where
   pub counted : Counted g
+  pub few : length g.stands.items ≤ fiber_limit
   pub turn : g.turn < length g.stands.items
   pub stands : (k : ℕ) → StandsAt m u k (stands_of g k) (others.stands k)
   pub place : g.place ≡ others.picks % length schedule
@@ -223,8 +222,8 @@ IsBehind m call a t = (u : Setup) × (schedule : List ℕ) × Behind m u schedul
 abbrev pub IsPicking : Module → List ℕ → Threads → Type 0
 IsPicking m schedule t = (u : Setup) × Picking m u schedule t
 
-abbrev pub IsPerforming : Module → Standing → Threads → Type 0
-IsPerforming m s t = (u : Setup) × (schedule : List ℕ) × Performing m u schedule s t
+abbrev pub IsPerforming : Module → HostCall → Threads → Type 0
+IsPerforming m call t = (u : Setup) × (schedule : List ℕ) × Performing m u schedule (standing_of t.running.fiber call) t
 
 abbrev pub IsBeginning : Module → Threads → Type 0
 IsBeginning m t = (u : Setup) × (schedule : List ℕ) × Beginning m u schedule t

@@ -1,10 +1,10 @@
 -- What the threads of a run in the code say of the fibers of the definitions, and what each function does to them (own).
-use Rattle.std.specs.Prelude.{◌≡◌, ◌<◌, ◌+◌, ◌%◌, ◌⊎◌, ℕ, zero, suc, Bool, true, false, List, [], ◌∷◌, ◌++◌, map, length, get_or, slice_get, eqb, ltb, if◌then◌else◌, Option, Some, None, option_map, unwrap_or}
+use Rattle.std.specs.Prelude.{◌≡◌, ◌<◌, ◌≤◌, ◌+◌, ◌%◌, ◌⊎◌, ℕ, zero, suc, Bool, true, false, List, [], ◌∷◌, ◌++◌, map, length, get_or, slice_get, eqb, ltb, if◌then◌else◌, Option, Some, None, option_map, unwrap_or}
 use Rattle.ms_ir.specs.declared.calls.External.TheVariants as external
 use Rattle.ms_ir.specs.declared.calls.RuntimeFn.TheVariants as function
 use Rattle.ms_ir.specs.Signatures.{is_thread_call}
 use Rattle.ms_runs.specs.World.{Thread, Effect}
-use Rattle.ms_runs.specs.Threads.{Fibers}
+use Rattle.ms_runs.specs.Threads.{Fibers, fiber_limit}
 use Rattle.ms_threads_runs.specs.Fibers.{runnable, standing}
 use Rattle.ms_host.specs.declared.calls.Asked.{Asked}
 use Rattle.ms_host.specs.declared.calls.Asked.TheVariants as asked
@@ -13,8 +13,12 @@ use Rattle.ms_host.specs.declared.calls.Answer.TheVariants as answer
 use Rattle.ms_host.specs.declared.calls.HostCall.{HostCall}
 use Rattle.ms_host.specs.State.{WorldState, Beside}
 use Rattle.ms_host.specs.Answers.{Answered}
+use Rattle.ms_machine_steps.specs.declared.frames.Frame.{Frame}
+use Rattle.ms_machine_steps.specs.declared.owning.Block.{Block}
+use Rattle.ms_machine_steps.specs.declared.fibers.Fiber.{Fiber}
+use Rattle.ms_machine_steps.specs.Standing.{frames_of}
 use Rattle.ms_threads.specs.declared.guests.Thread.{Thread as Guest}
-use Rattle.ms_threads.specs.declared.guests.Standing.{Standing}
+use Rattle.ms_threads.specs.declared.guests.Place.{Place}
 use Rattle.ms_threads.specs.declared.guests.Guests.{Guests}
 
 -- ---- one thread
@@ -53,6 +57,36 @@ changed_guests (suc k) change (t ∷ ts) = t ∷ changed_guests k change ts
 abbrev pub changed_guest : ℕ → (Guest → Guest) → List Guest → List Guest
 changed_guest zero change ts = ts
 changed_guest (suc k) change ts = changed_guests k change ts
+
+-- ---- where one stands
+
+-- what a thread has that stands at a call
+pub record Standing : Type 0 where
+  pub frames : List Frame
+  pub spawned : Bool
+  pub heap : List Block
+  pub call : HostCall
+
+-- a fiber that stands at a call
+abbrev pub standing_of : Fiber → HostCall → Standing
+standing_of fiber call = record { frames = frames_of fiber; spawned = fiber.spawned; heap = fiber.heap.items; call = call }
+
+-- a fiber has the calls of another, and what they have of the heap
+pub record SameCalls (old new : Fiber) : Type 0 where
+  pub frame : new.frame ≡ old.frame
+  pub below : new.below ≡ old.below
+  pub spawned : new.spawned ≡ old.spawned
+  pub heap : new.heap ≡ old.heap
+
+-- where the thread of a place stands, if it does
+abbrev pub stand_of : Place → Option Standing
+stand_of p = option_map (standing_of p.fiber) p.call
+
+-- the same of the place with a number
+abbrev pub stand_at : List Place → ℕ → Option Standing
+stand_at [] k = None
+stand_at (p ∷ ps) zero = stand_of p
+stand_at (p ∷ ps) (suc k) = stand_at ps k
 
 -- ---- calls
 
@@ -98,7 +132,7 @@ funcs_of g = map (λ (t : Guest). t.func) g.threads.items
 
 -- where the thread with a number stands
 abbrev pub stands_of : Guests → ℕ → Option Standing
-stands_of g k = get_or g.stands.items k None
+stands_of g k = stand_at g.stands.items k
 
 -- the threads that may go on, in order of number
 abbrev pub runnable_in : Guests → List ℕ
@@ -127,7 +161,7 @@ pub record Shares (g : Guests) (fibers : Fibers) : Type 0 where
 pub record IsNew (g : Guests) : Type 0 where
   pub turn : g.turn ≡ 0
   pub threads : g.threads.items ≡ []
-  pub stands : g.stands.items ≡ None ∷ []
+  pub stands : (p : Place) × ((p.call ≡ None) × (g.stands.items ≡ p ∷ []))
   pub place : g.place ≡ 0
 
 -- nobody has another turn, and no pick was made
@@ -138,7 +172,7 @@ pub record SameTurn (old new : Guests) : Type 0 where
 -- one thread more, which stands nowhere
 pub record Added (func argument : ℕ) (old new : Guests) : Type 0 where
   pub threads : new.threads.items ≡ old.threads.items ++ fresh func argument ∷ []
-  pub stands : new.stands.items ≡ old.stands.items ++ None ∷ []
+  pub stands : (p : Place) × ((p.call ≡ None) × (new.stands.items ≡ old.stands.items ++ p ∷ []))
   pub same : SameTurn old new
 
 -- the thread with a number is changed
@@ -170,6 +204,7 @@ pub record Picked (schedule : List ℕ) (old new : Guests) : Type 0 where
 pub record KeepsStands (starts : List ℕ) (old new : Guests) : Type 0 where
   pub stands : (k : ℕ) → stands_of new k ≡ stands_of old k
   pub counted : Counted old → Counted new
+  pub few : Counted old → length old.stands.items ≤ fiber_limit → length new.stands.items ≤ fiber_limit
   pub funcs : (funcs_of new ≡ funcs_of old) ⊎ (funcs_of new ≡ funcs_of old ++ starts)
   pub same : SameTurn old new
 

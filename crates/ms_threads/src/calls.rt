@@ -14,6 +14,7 @@ use crate::guests::{Guests, creates, joins, word};
 use ms_bits::{NoMemory, Trap};
 use ms_host::{Answer, HostCall, World};
 use ms_runs::End;
+use std::alloc::Global;
 
 /// The run ends by a trap, since an address isn't good.
 fn bad_address(site: u32) -> Answer
@@ -48,6 +49,7 @@ impl Guests {
     /// `pthread_create`: one thread more, and its number at an address; 11 where as many were made as may be.
     fn create(
         &mut self,
+        alloc: Global,
         id: u64,
         func: u64,
         argument: u64,
@@ -62,7 +64,7 @@ impl Guests {
         if self.is_full() {
             return Ok(gives(11));
         }
-        self.add(func, argument)?;
+        self.add(alloc, func, argument)?;
         if world.store(id, 8, self.threads.len() as u64) {
             Ok(gives(0))
         } else {
@@ -90,7 +92,13 @@ impl Guests {
     }
 
     /// What the thread call comes to at which the thread stands that goes on. The one error is want of memory.
-    pub fn answer(&mut self, call: &HostCall, world: &mut World) -> Result<Answer, NoMemory>
+    #[inline(always)]
+    pub fn answer(
+        &mut self,
+        alloc: Global,
+        call: &HostCall,
+        world: &mut World,
+    ) -> Result<Answer, NoMemory>
         requires asked { IsThreadCall call.now.asked }
         requires free { waits_of self.old.turn (threads_of self.old) (call_joins call.now) ≡ false }
         ensures did { (setting : Setting) (types : List Ty) (beside : Beside) (meant : Meant) → Shows world.old beside meant → Shares self.old beside.fibers → IfOk result (λ a. Did (asked_effect setting types call.now meant) a beside self.new world.new) }
@@ -101,6 +109,7 @@ impl Guests {
         let args = call.args.as_slice();
         if creates(call) {
             return self.create(
+                alloc,
                 word(args, 0),
                 word(args, 2),
                 word(args, 3),

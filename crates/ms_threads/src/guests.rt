@@ -1,15 +1,15 @@
 //! The threads of a run: what each is, and where the ones stand that don't go on.
-ghost use Rattle.std.specs.Prelude.{◌≡◌, ◌<◌, ◌≤◌, ◌+◌, ◌-◌, get_or, length, leb, true, false, None, Some, [], IfOk, OnOk, MatchBool, eqb, if◌then◌else◌};
+ghost use Rattle.std.specs.Prelude.{◌≡◌, ℕ, ◌<◌, ◌≤◌, ◌+◌, ◌-◌, get_or, length, leb, true, false, None, Some, [], IfOk, OnOk, MatchBool, eqb, if◌then◌else◌, option_map};
 ghost use Rattle.ms_runs.specs.Threads.{fiber_limit, thread_at, join_answer as join_answer_of, has_ended as has_ended_of};
 ghost use Rattle.ms_threads_runs.specs.Fibers.{waits as waits_of, is_runnable as is_runnable_of};
-ghost use Rattle.ms_threads.specs.Guests.{guest_at, asked_creates, call_joins, standing_joins, threads_of, stands_of, runnable_in, joined_guest, ended_guest, Counted, IsNew, Added, Changed, Stands, Picked, part_at, site_of};
+ghost use Rattle.ms_threads.specs.Guests.{guest_at, asked_creates, call_joins, standing_of, standing_joins, threads_of, stand_of, stands_of, runnable_in, joined_guest, ended_guest, Counted, IsNew, Added, Changed, SameCalls, Stands, Picked, part_at, site_of};
 
 use ms_bits::NoMemory;
 use ms_host::{Asked, HostCall};
 use ms_ir::External;
-use ms_machine_steps::Fiber;
+use ms_machine_steps::{Fiber, no_fiber};
 use std::alloc::Global;
-use std::mem::replace;
+use std::mem::{replace, swap};
 
 /// How many threads may be made, that of `main` counted.
 const LIMIT: usize = 64;
@@ -30,11 +30,12 @@ pub struct Thread {
     pub origin: u32,
 }
 
-/// A thread that stands at a thread call.
+/// Where a thread stands: at a thread call, or nowhere.
 #[derive(Drop)]
-pub struct Standing {
+pub struct Place {
+    /// What it goes on with. A thread that stands nowhere leaves an empty one here.
     pub fiber: Fiber,
-    pub call: HostCall,
+    pub call: Option<HostCall>,
 }
 
 /// The threads of a run.
@@ -46,7 +47,7 @@ pub struct Guests {
     pub threads: Vec<Thread>,
     /// Where each stands, by number from 0; the one that goes on, those that haven't begun and those that have ended stand
     /// nowhere.
-    pub stands: Vec<Option<Standing>>,
+    pub stands: Vec<Place>,
     /// The place in the schedule of the next pick.
     pub place: usize,
 }
@@ -92,13 +93,56 @@ fn one_if(passed: bool) -> usize
     if passed { 1 } else { 0 }
 }
 
+/// Exchanges the calls of two fibers, and what those have of the heap. Each keeps the memory that it has for later calls.
+#[inline(always)]
+pub(crate) fn exchange(one: &mut Fiber, other: &mut Fiber)
+    ensures one { SameCalls other.old one.new }
+    ensures other { SameCalls one.old other.new }
+{
+    swap(&mut one.frame, &mut other.frame);
+    swap(&mut one.below, &mut other.below);
+    swap(&mut one.spawned, &mut other.spawned);
+    swap(&mut one.heap, &mut other.heap);
+}
+
+impl Place {
+    /// The place of a thread that stands nowhere. It takes no memory.
+    fn empty(alloc: Global) -> Place
+        ensures { result.call ≡ None }
+    {
+        Place {
+            fiber: no_fiber(alloc),
+            call: None,
+        }
+    }
+
+    /// The thread stands at a call with what a fiber goes on with, which gets in exchange what was here.
+    #[inline(always)]
+    fn stand(&mut self, fiber: &mut Fiber, call: HostCall)
+        ensures { stand_of self.new ≡ Some (standing_of fiber.old call) }
+    {
+        exchange(fiber, &mut self.fiber);
+        self.call = Some(call);
+    }
+
+    /// The call at which the thread stands, if it does: a fiber gets what it goes on with, and it stands nowhere then.
+    #[inline(always)]
+    fn take(&mut self, fiber: &mut Fiber) -> Option<HostCall>
+        ensures taken { option_map (standing_of fiber.new) result ≡ stand_of self.old }
+        ensures nowhere { stand_of self.new ≡ None }
+    {
+        exchange(fiber, &mut self.fiber);
+        replace(&mut self.call, None)
+    }
+}
+
 impl Guests {
     /// The threads at the start of a run: that of `main`, which goes on.
     pub fn new(alloc: Global) -> Result<Guests, NoMemory>
         ensures { IfOk result IsNew }
     {
         let mut stands = Vec::new(alloc);
-        stands.push(None)?;
+        stands.push(Place::empty(alloc))?;
         Ok(Guests {
             turn: 0,
             threads: Vec::new(alloc),
@@ -115,7 +159,7 @@ impl Guests {
     }
 
     /// Adds a thread that hasn't begun, whose number is that of those made before it.
-    pub fn add(&mut self, func: u64, argument: u64) -> Result<(), NoMemory>
+    pub fn add(&mut self, alloc: Global, func: u64, argument: u64) -> Result<(), NoMemory>
         ensures { OnOk result (Added func argument self.old self.new) }
     {
         self.threads.push(Thread {
@@ -127,7 +171,7 @@ impl Guests {
             mask: 0,
             origin: 0,
         })?;
-        self.stands.push(None)?;
+        self.stands.push(Place::empty(alloc))?;
         Ok(())
     }
 
@@ -206,12 +250,12 @@ impl Guests {
         self.threads[k] = thread;
     }
 
-    /// The thread that goes on stands at a call.
-    pub fn stand(&mut self, fiber: Fiber, call: HostCall)
+    /// The thread that goes on stands at a call with what a fiber goes on with; that gets an empty one's in exchange.
+    pub fn stand(&mut self, fiber: &mut Fiber, call: HostCall)
         requires { self.old.turn < length self.old.stands.items }
-        ensures { Stands (Some (record { fiber = fiber; call = call })) self.old self.new }
+        ensures { Stands (Some (standing_of fiber.old call)) self.old self.new }
     {
-        self.stands[self.turn] = Some(Standing { fiber, call });
+        self.stands[self.turn].stand(fiber, call);
     }
 
     /// Whether a thread with a number has to wait at a call: at a join that would answer 0, of one that hasn't ended.
@@ -232,53 +276,46 @@ impl Guests {
         if self.has_ended(k as u64) {
             return false;
         }
-        match &self.stands[k] {
-            Some(standing) => !self.waits(k as u64, &standing.call),
+        match &self.stands[k].call {
+            Some(call) => !self.waits(k as u64, call),
             None => self.thread(k as u64).is_some(),
         }
     }
 
-    /// How many may go on.
-    fn count_runnable(&self) -> usize
-        requires { Counted self.now }
-        ensures { result ≡ length (runnable_in self.now) }
+    /// Lists the numbers of those that may go on, in order, in the first places. Answers how many they are.
+    #[inline(always)]
+    fn list_runnable(&self, ready: &mut [u8]) -> usize
+        requires counted { Counted self.now }
+        requires few { length self.now.stands.items ≤ fiber_limit }
+        requires room { length self.now.stands.items ≤ length ready.old }
+        ensures count { result ≡ length (runnable_in self.now) }
+        ensures few { result ≤ length self.now.stands.items }
+        ensures listed { (place : ℕ) → place < result → get_or ready.new place 0 ≡ get_or (runnable_in self.now) place 0 }
     {
         let mut count = 0;
         for k in 0..self.stands.len() {
+            ready[count] = k as u8;
             let one = one_if(self.is_runnable(k));
             count += one;
         }
         count
     }
 
-    /// The number of the one that may go on which stands at a place among those, in order of number.
-    fn runnable_at(&self, place: usize) -> usize
-        requires counted { Counted self.now }
-        requires within { place < length (runnable_in self.now) }
-        ensures { result ≡ get_or (runnable_in self.now) place 0 }
-    {
-        let mut seen = 0;
-        for k in 0..self.stands.len() {
-            let one = one_if(self.is_runnable(k));
-            seen += one;
-            if seen > place {
-                return k;
-            }
-        }
-        0
-    }
-
-    /// A pick: the thread that the schedule gives among those that may go on has the turn. Answers whether there is one.
+    /// A pick: the thread that the schedule gives among those that may go on has the turn. Answers whether there is one. One
+    /// walk over the threads.
+    #[inline(always)]
     pub fn pick(&mut self, schedule: &[u8]) -> bool
         requires counted { Counted self.old }
+        requires few { length self.old.stands.items ≤ fiber_limit }
         requires place { self.old.place < length schedule.now }
         ensures { MatchBool result (Picked schedule.now self.old self.new) ((runnable_in self.old ≡ []) × (self.new ≡ self.old)) }
     {
-        let count = self.count_runnable();
+        let mut ready = [0u8; LIMIT];
+        let count = self.list_runnable(&mut ready);
         if count == 0 {
             return false;
         }
-        self.turn = self.runnable_at(schedule[self.place] as usize % count);
+        self.turn = ready[schedule[self.place] as usize % count] as usize;
         self.place = if self.place + 1 < schedule.len() {
             self.place + 1
         } else {
@@ -292,18 +329,19 @@ impl Guests {
         requires { 0 < length self.now.stands.items }
         ensures { result ≡ site_of (stands_of self.now 0) }
     {
-        match &self.stands[0] {
-            Some(standing) => standing.call.site,
+        match &self.stands[0].call {
+            Some(call) => call.site,
             None => 0,
         }
     }
 
-    /// Where the one that has the turn stands, if it has begun; it stands nowhere then.
-    pub fn take_standing(&mut self) -> Option<Standing>
+    /// The call at which the one stands that has the turn, if it has begun: a fiber gets what it goes on with, and it stands
+    /// nowhere then.
+    pub fn take_standing(&mut self, fiber: &mut Fiber) -> Option<HostCall>
         requires { self.old.turn < length self.old.stands.items }
-        ensures taken { result ≡ stands_of self.old self.old.turn }
+        ensures taken { option_map (standing_of fiber.new) result ≡ stands_of self.old self.old.turn }
         ensures stands { Stands None self.old self.new }
     {
-        replace(&mut self.stands[self.turn], None)
+        self.stands[self.turn].take(fiber)
     }
 }

@@ -10,10 +10,10 @@ ghost use Rattle.ms_runtime.specs.Answering.{AnsweredFor};
 ghost use Rattle.ms_runtime.specs.Going.{ahead};
 ghost use Rattle.ms_runtime.specs.Served.{Fits};
 ghost use Rattle.ms_threads.specs.Faithful.{IsSchedule};
-ghost use Rattle.ms_threads.specs.Guests.{IsThreadCall, IsResult};
+ghost use Rattle.ms_threads.specs.Guests.{IsThreadCall, IsResult, standing_of};
 ghost use Rattle.ms_threads.specs.Going.{Asking, Behind, Picking, Performing, Beginning, Going, HasEnded, Turned, IsGoing, IsAsking, IsBehind, IsPicking, IsPerforming, IsBeginning, most_ahead, far_of};
 
-use crate::guests::{Guests, Standing, word};
+use crate::guests::{Guests, exchange, word};
 use ms_bits::{NoMemory, Trap};
 use ms_check::CheckedModule;
 use ms_host::{Answer, Asked, HostCall};
@@ -23,7 +23,6 @@ use ms_machine_steps::{Pause, no_fiber};
 use ms_runs::{End, RunResult, Setup};
 use ms_runtime::{Running, begun, thread_result};
 use std::alloc::Global;
-use std::mem::replace;
 
 /// A run of threads between two pauses.
 #[derive(Drop)]
@@ -115,6 +114,7 @@ impl Threads {
     }
 
     /// Goes on behind an answered call. Says how the run ends, if it does.
+    #[inline(always)]
     fn go_behind(&mut self, m: &CheckedModule, call: HostCall, answer: Answer) -> Option<End>
         requires behind { IsBehind m.now call answer self.old }
         ensures turned { (u : SetupOf) (schedule : List ℕ) → Behind m.now u schedule call answer self.old → Turned m.now u schedule (ahead m.now self.old.running) result self.new }
@@ -132,35 +132,41 @@ impl Threads {
     }
 
     /// The thread that goes on stands at a call.
-    fn stand(&mut self, alloc: Global, call: HostCall)
+    fn stand(&mut self, call: HostCall)
         requires turn { self.old.guests.turn < length self.old.guests.stands.items }
         ensures picking { (m : ModuleOf) (u : SetupOf) (schedule : List ℕ) → IsThreadCall call.asked → Asking m u schedule call self.old → Picking m u schedule self.new }
         ensures budget { self.new.running.budget ≡ self.old.running.budget }
     {
-        let fiber = replace(&mut self.running.fiber, no_fiber(alloc));
-        self.guests.stand(fiber, call);
+        self.guests.stand(&mut self.running.fiber, call);
     }
 
-    /// The thread that goes on has ended with a word, whose mask and origin the slots hold.
-    fn end(&mut self, answer: u64)
+    /// The thread that goes on has ended with a word, whose mask and origin the slots hold. The memory of its frame is given
+    /// back.
+    fn end(&mut self, alloc: Global, answer: u64)
         requires turn { self.old.guests.turn ≤ length self.old.guests.threads.items }
         ensures ended { HasEnded answer self.old self.new }
-        ensures running { self.new.running ≡ self.old.running }
+        ensures running { self.new.running ≡ (record self.old.running { fiber = self.new.running.fiber }) }
     {
         let mask = self.running.world.result_mask();
         let origin = self.running.world.result_origin();
         self.guests.end(answer, mask, origin);
+        let mut ended = no_fiber(alloc);
+        exchange(&mut self.running.fiber, &mut ended);
     }
 
     /// The thread that has the turn does the call at which it stands. Says how the run ends, if it does.
-    fn perform(&mut self, m: &CheckedModule, standing: Standing) -> Result<Option<End>, NoMemory>
-        requires performing { IsPerforming m.now standing self.old }
-        ensures turned { (u : SetupOf) (schedule : List ℕ) → Performing m.now u schedule standing self.old → IfOk result (λ end. Turned m.now u schedule (suc (most_ahead m.now self.old.running)) end self.new) }
+    #[inline(always)]
+    fn perform(
+        &mut self,
+        alloc: Global,
+        m: &CheckedModule,
+        call: HostCall,
+    ) -> Result<Option<End>, NoMemory>
+        requires performing { IsPerforming m.now call self.old }
+        ensures turned { (u : SetupOf) (schedule : List ℕ) → Performing m.now u schedule (standing_of self.old.running.fiber call) self.old → IfOk result (λ end. Turned m.now u schedule (suc (most_ahead m.now self.old.running)) end self.new) }
     {
         m.is_valid();
-        let Standing { fiber, call } = standing;
-        self.running.fiber = fiber;
-        let answer = self.guests.answer(&call, &mut self.running.world)?;
+        let answer = self.guests.answer(alloc, &call, &mut self.running.world)?;
         Ok(self.go_behind(m, call, answer))
     }
 
@@ -175,13 +181,14 @@ impl Threads {
         };
         let func = thread.func as u32;
         let argument = whole(thread.argument);
-        let fiber = spawn(alloc, m, func, argument)?;
-        self.running.fiber = fiber;
+        let mut fiber = spawn(alloc, m, func, argument)?;
+        exchange(&mut self.running.fiber, &mut fiber);
         self.running.world.clear_first();
         Ok(())
     }
 
     /// A pick, and then the thread goes on that has the turn. Says how the run ends, if it does.
+    #[inline(always)]
     fn pick(
         &mut self,
         alloc: Global,
@@ -201,8 +208,8 @@ impl Threads {
                 site: self.guests.main_site(),
             }));
         }
-        match self.guests.take_standing() {
-            Some(standing) => self.perform(m, standing),
+        match self.guests.take_standing(&mut self.running.fiber) {
+            Some(call) => self.perform(alloc, m, call),
             None => {
                 self.begin(alloc, m)?;
                 Ok(None)
@@ -224,7 +231,7 @@ impl Threads {
         ensures turned { (u : SetupOf) → u.reports ≡ reports → Asking m.now u schedule.now call self.old → IfOk result (λ end. Turned m.now u schedule.now (far_of m.now call.asked self.old.running) end self.new) }
     {
         if is_thread_call(&call) {
-            self.stand(alloc, call);
+            self.stand(call);
             return self.pick(alloc, m, schedule);
         }
         let answer = self.answer_of(alloc, m, &call, reports)?;
@@ -256,7 +263,7 @@ impl Threads {
             Pause::Ended(end) => Ok(Some(end)),
             Pause::Asked(call) => self.call(alloc, m, call, reports, schedule),
             Pause::Finished { value } => {
-                self.end(value);
+                self.end(alloc, value);
                 self.pick(alloc, m, schedule)
             }
         }

@@ -38,6 +38,7 @@ use ms_runtime::run;
 use ms_threads::run_threads;
 use ms_words::{Command, Options};
 use std::alloc::{AllocError, Global};
+use std::mem::forget;
 use std::thread::Threads;
 
 /// A status, and the texts for the standard output and the standard error.
@@ -122,7 +123,8 @@ fn answer_to_read<R: Threads + Sync, P: Pass, G: Gate + Sync>(
     }
 }
 
-/// The answer to a command on a module.
+/// The answer to a command on a module. The module's memory isn't given back: the command ends with its answer, and the process then
+/// gives back all at once.
 fn answer_to_module<R: Threads + Sync, P: Pass, G: Gate + Sync, L: SiteLines>(
     rt: &R,
     alloc: Global,
@@ -140,7 +142,20 @@ fn answer_to_module<R: Threads + Sync, P: Pass, G: Gate + Sync, L: SiteLines>(
     ensures { IfOk result (λ a. IsAnswerToModule P.gives (L.lines under.now) command.now inputs.now m a) }
 {
     match checked(alloc, m) {
-        Ok(module) => answer_to_valid(rt, alloc, command, module.get(), inputs, pass, gate, under),
+        Ok(module) => {
+            let answer = answer_to_valid(
+                rt,
+                alloc,
+                command,
+                module.get(),
+                inputs,
+                pass,
+                gate,
+                under,
+            );
+            forget(module);
+            answer
+        }
         Err(cause) => refused(alloc, Refusal::Check(cause), under),
     }
 }
@@ -235,7 +250,7 @@ fn only_input(inputs: &[Bytes]) -> &[u8]
     }
 }
 
-/// The answer of `instrument`: the text of the module that the pass gives.
+/// The answer of `instrument`: the text of the module that the pass gives, whose memory isn't given back either.
 fn answer_of_instrument<R: Threads + Sync, P: Pass>(
     rt: &R,
     alloc: Global,
@@ -246,7 +261,9 @@ fn answer_of_instrument<R: Threads + Sync, P: Pass>(
     ensures { IfOk result (λ a. IsAnswerOfInstrument P.gives m.now a) }
 {
     let instrumented = pass.instrumented(rt, alloc, m)?;
-    written(alloc, &instrumented)
+    let answer = written(alloc, &instrumented);
+    forget(instrumented);
+    answer
 }
 
 /// The answer of `run`: for the run of the module as it is, where it has threads under the schedule of the options.

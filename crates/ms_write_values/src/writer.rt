@@ -79,6 +79,7 @@ impl Writer {
     }
 
     /// Writes a token. The one error, here and below, is want of memory.
+    #[inline(always)]
     pub fn token(&mut self, text: &[u8]) -> Result<(), NoMemory>
         ensures { IfOk result (λ _. self.new ≡ put_text self.old text.now) }
     {
@@ -88,6 +89,7 @@ impl Writer {
     }
 
     /// Writes the mark of an inserted instruction at once, since most tokens of such a line are its.
+    #[inline(always)]
     #[tactic(auto, using(crate::proofs::Puts::put_mark))]
     pub fn mark(&mut self) -> Result<(), NoMemory>
         ensures { IfOk result (λ _. self.new ≡ put self.old (mark_tokens true)) }
@@ -98,6 +100,7 @@ impl Writer {
     }
 
     /// Writes the first byte of a token.
+    #[inline(always)]
     pub fn begin(&mut self, first: u8) -> Result<(), NoMemory>
         ensures { IfOk result (λ _. self.new ≡ put_text self.old (first ∷ [])) }
     {
@@ -115,6 +118,7 @@ impl Writer {
     }
 
     /// Writes one more byte of a token.
+    #[inline(always)]
     pub fn byte(&mut self, byte: u8) -> Result<(), NoMemory>
         ensures { IfOk result (λ _. self.new ≡ grown self.old (byte ∷ [])) }
     {
@@ -152,6 +156,7 @@ impl Writer {
     }
 
     /// Begins a line, behind these bytes.
+    #[inline(always)]
     pub fn start_line(&mut self, indent: &[u8]) -> Result<(), NoMemory>
         ensures { IfOk result (λ _. self.new ≡ opened self.old indent.now) }
     {
@@ -161,6 +166,7 @@ impl Writer {
     }
 
     /// Ends a line.
+    #[inline(always)]
     pub fn end_line(&mut self) -> Result<(), NoMemory>
         ensures { IfOk result (λ _. self.new ≡ ended self.old) }
     {

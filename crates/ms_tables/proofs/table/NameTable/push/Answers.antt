@@ -1,4 +1,5 @@
-use Rattle.std.proofs.Common.{◌≡◌, ◌++◌, [], ◌∷◌, List, Bor, Some, None, refl, sym, ◌∙◌, ap, map, ℕ, suc, length, if◌then◌else◌}
+use Rattle.std.proofs.Common.{◌≡◌, ◌++◌, [], ◌∷◌, List, Bor, Option, Some, None, refl, sym, ◌∙◌, ap, map, ℕ, suc, length, if◌then◌else◌}
+use Rattle.std.specs.Prelude.{IfNone, IfSome}
 use Rattle.ms_ir.specs.declared.syntax.Name.{Name}
 use Rattle.ms_ir.specs.Names.{name_eq}
 use Rattle.ms_tables.specs.FirstPlace.{first_place}
@@ -32,10 +33,17 @@ new_kept index more items after y n is appended absent count placed x =
     placed x ∙ ap (λ place. if name_eq y.now x then Some n else place) (is x) ∙ ap (λ k. if name_eq y.now x then Some k else first_place (shown items) x) (count ∙ sym (length-shown items))
     ∙ sym (place_new (shown items) y.now (sym (is y.now) ∙ sym absent) x) ∙ ap (λ names. first_place names x) (sym (shown-append items y) ∙ ap shown (sym appended))
 
-pub invariant_of-self-in-Some : goal.invariant_of-self-in-Some
-unfolding shown
-invariant_of-self-in-Some c = known_kept c.self.inside.index c.self.inside.names.items c.push.new.self.items c.args.name c.in-Some.first c.self.invariant (c.in_ok-push.ensures.items ∙ ap (λ items. items ++ c.args.name ∷ []) c.make_room.ensures) c.in-Some.ensures
+-- a name that was known has its place still, and another the next one
+either_kept : (index more : Index) (items after : List (Bor Name)) (y : Bor Name) (n : ℕ) (first : Option ℕ) → ((x : Name) → place_in index x ≡ first_place (shown items) x) → after ≡ items ++ y ∷ []
+    → n ≡ length items → first ≡ place_in index y.now → IfSome first (λ _. (x : Name) → place_in more x ≡ place_in index x)
+    → IfNone first ((x : Name) → place_in more x ≡ (if name_eq y.now x then Some n else place_in index x))
+    → (x : Name) → place_in more x ≡ first_place (shown after) x
+either_kept index more items after y n (Some k) is appended count found kept placed x = kept x ∙ known_kept index items after y k is appended found x
+either_kept index more items after y n None is appended count found kept placed x = new_kept index more items after y n is appended found count placed x
 
-pub invariant_of-self-in_default : goal.invariant_of-self-in_default
+pub invariant_of-self-in-Ok : goal.invariant_of-self-in-Ok
 unfolding shown
-invariant_of-self-in_default c = new_kept c.self.inside.index c.insert.new.self c.self.inside.names.items c.push.new.self.items c.args.name c.len-place.result c.self.invariant (c.in_ok-push.ensures.items ∙ ap (λ items. items ++ c.args.name ∷ []) c.make_room.ensures) c.in-None.ensures (c.len-place.ensures ∙ c.self.inside.names.ok.0) c.in_default.ensures.placed
+invariant_of-self-in-Ok c =
+    either_kept c.self.inside.index c.put.new.self c.self.inside.names.items c.push.new.self.items c.args.name c.len-place.result c.in-Ok.first c.self.invariant
+    (c.in_ok-push.ensures.items ∙ ap (λ items. items ++ c.args.name ∷ []) c.make_room.ensures) (c.len-place.ensures ∙ c.self.inside.names.ok.0)
+    c.in-Ok.ensures.found c.in-Ok.ensures.kept c.in-Ok.ensures.placed

@@ -22,9 +22,9 @@ go_behind-requires c =
       behind = (
         u,
         schedule,
-        performed_behind m u schedule c.args.self.now _ c.args.standing p c.in_ok-answer.answer c.answer.new.world refl
+        performed_behind m u schedule c.args.self.now _ c.args.call p c.in_ok-answer.answer c.answer.new.world refl
             (c.in_ok-answer.ensures.did (setting_of m u) (types_due m p.frames) p.beside p.shared.world p.between.shows p.between.shares) c.answer.ensures.keeps c.answer.ensures.made c.in_ok-answer.ensures.kept
-            (call_starts m c.is_valid.ensures.valid (few_funcs m c.is_valid.ensures.formed) u p.frames (first_stands m c.args.standing.fiber p.frames p.stood.frames) c.args.standing.call p.stood.waits) refl refl refl refl refl,
+            (call_starts m c.is_valid.ensures.valid (few_funcs m c.is_valid.ensures.formed) u p.frames (first_stands m c.args.self.now.running.fiber p.frames p.stood.frames) c.args.call p.stood.waits) refl refl refl refl refl,
       );
     }
 
@@ -32,10 +32,10 @@ pub returns : goal.returns
 returns c = record {
   turned = λ u schedule p.
       let m = c.args.m.now in
-      let begin = call_starts m c.is_valid.ensures.valid (few_funcs m c.is_valid.ensures.formed) u p.frames (first_stands m c.args.standing.fiber p.frames p.stood.frames) c.args.standing.call p.stood.waits in
+      let begin = call_starts m c.is_valid.ensures.valid (few_funcs m c.is_valid.ensures.formed) u p.frames (first_stands m c.args.self.now.running.fiber p.frames p.stood.frames) c.args.call p.stood.waits in
       let did = c.in_ok-answer.ensures.did (setting_of m u) (types_due m p.frames) p.beside p.shared.world p.between.shows p.between.shares in
-      let near = performed_far m u schedule c.args.self.now _ c.args.standing p c.in_ok-answer.answer c.answer.new.world refl did c.answer.ensures.keeps c.answer.ensures.made c.in_ok-answer.ensures.kept begin refl refl refl refl refl in
+      let near = performed_far m u schedule c.args.self.now _ c.args.call p c.in_ok-answer.answer c.answer.new.world refl did c.answer.ensures.keeps c.answer.ensures.made c.in_ok-answer.ensures.kept begin refl refl refl refl refl in
       turned_so m u schedule (suc (most_ahead m c.args.self.now.running)) _ c.go_behind.result c.go_behind.new.self (omega (arith, near))
       (c.go_behind.ensures.turned u schedule
-      (performed_behind m u schedule c.args.self.now _ c.args.standing p c.in_ok-answer.answer c.answer.new.world refl did c.answer.ensures.keeps c.answer.ensures.made c.in_ok-answer.ensures.kept begin refl refl refl refl refl));
+      (performed_behind m u schedule c.args.self.now _ c.args.call p c.in_ok-answer.answer c.answer.new.world refl did c.answer.ensures.keeps c.answer.ensures.made c.in_ok-answer.ensures.kept begin refl refl refl refl refl));
 }

@@ -1,7 +1,7 @@
-use Rattle.std.proofs.Common.{◌≡◌, ◌<◌, ◌≤◌, ◌∙◌, Some, None, length, refl, sym, ap, subst, arith}
+use Rattle.std.proofs.Common.{◌≡◌, ◌<◌, ◌≤◌, ◌∙◌, Some, None, option_map, length, refl, sym, ap, subst, arith}
 use Rattle.std.proofs.lemmas.Nat.{mod_below}
 use Rattle.ms_threads.specs.declared.guests.Guests.{Guests}
-use Rattle.ms_threads.specs.Guests.{stands_of, site_of}
+use Rattle.ms_threads.specs.Guests.{standing_of, stands_of, site_of}
 use Rattle.ms_threads.proofs.Picks.{pick_spent, pick_deadlocks, picked_few, pick_performs, pick_begins}
 use Rattle.ms_threads.proofs.runs.Threads.pick.Goals as goal
 
@@ -10,6 +10,9 @@ returns-then-self-eq0 c = record { turned = λ u p. pick_spent c.args.m.now u c.
 
 pub pick-requires-clause-counted : goal.pick-requires-clause-counted
 pick-requires-clause-counted c = c.requires.picking.1.between.stands.counted
+
+pub pick-requires-clause-few : goal.pick-requires-clause-few
+pick-requires-clause-few c = c.requires.picking.1.between.stands.few
 
 pub pick-requires-clause-place : goal.pick-requires-clause-place
 pick-requires-clause-place c =
@@ -37,8 +40,8 @@ perform-requires c = record {
   performing = (
     c.requires.picking.0,
     c.args.schedule.now,
-    pick_performs c.args.m.now c.requires.picking.0 c.args.schedule.now c.args.self.now c.requires.picking.1 c.if-self-eq0.false c.requires.scheduled c.pick.new.self c.if-not-pick.ensures _ c.take_standing.ensures.stands refl
-        c.in-Some.standing (sym c.take_standing.ensures.taken ∙ c.in-Some.is),
+    pick_performs c.args.m.now c.requires.picking.0 c.args.schedule.now c.args.self.now c.requires.picking.1 c.if-self-eq0.false c.requires.scheduled c.pick.new.self c.if-not-pick.ensures _ c.take_standing.new.fiber
+        c.take_standing.ensures.stands refl (standing_of c.take_standing.new.fiber c.in-Some.call) (sym c.take_standing.ensures.taken ∙ ap (option_map (standing_of c.take_standing.new.fiber)) c.in-Some.is),
   );
 }
 
@@ -46,8 +49,8 @@ pub returns-in-Some : goal.returns-in-Some
 returns-in-Some c = record {
   turned = λ u p.
       c.perform.ensures.turned u c.args.schedule.now
-      (pick_performs c.args.m.now u c.args.schedule.now c.args.self.now p c.if-self-eq0.false c.requires.scheduled c.pick.new.self c.if-not-pick.ensures _ c.take_standing.ensures.stands refl c.in-Some.standing
-      (sym c.take_standing.ensures.taken ∙ c.in-Some.is));
+      (pick_performs c.args.m.now u c.args.schedule.now c.args.self.now p c.if-self-eq0.false c.requires.scheduled c.pick.new.self c.if-not-pick.ensures _ c.take_standing.new.fiber
+      c.take_standing.ensures.stands refl (standing_of c.take_standing.new.fiber c.in-Some.call) (sym c.take_standing.ensures.taken ∙ ap (option_map (standing_of c.take_standing.new.fiber)) c.in-Some.is));
 }
 
 pub begin-requires : goal.begin-requires
@@ -55,8 +58,8 @@ begin-requires c = record {
   beginning = (
     c.requires.picking.0,
     c.args.schedule.now,
-    pick_begins c.args.m.now c.requires.picking.0 c.args.schedule.now c.args.self.now c.requires.picking.1 c.if-self-eq0.false c.requires.scheduled c.pick.new.self c.if-not-pick.ensures _ c.take_standing.ensures.stands refl
-        (sym c.take_standing.ensures.taken ∙ c.in-None.is),
+    pick_begins c.args.m.now c.requires.picking.0 c.args.schedule.now c.args.self.now c.requires.picking.1 c.if-self-eq0.false c.requires.scheduled c.pick.new.self c.if-not-pick.ensures _ c.take_standing.new.fiber c.take_standing.ensures.stands refl
+        (sym c.take_standing.ensures.taken ∙ ap (option_map (standing_of c.take_standing.new.fiber)) c.in-None.is),
   );
 }
 
@@ -64,6 +67,6 @@ pub returns-in_ok-begin-in-None : goal.returns-in_ok-begin-in-None
 returns-in_ok-begin-in-None c = record {
   turned = λ u p.
       c.in_ok-begin-in-None.ensures.turned u c.args.schedule.now
-      (pick_begins c.args.m.now u c.args.schedule.now c.args.self.now p c.if-self-eq0.false c.requires.scheduled c.pick.new.self c.if-not-pick.ensures _ c.take_standing.ensures.stands refl
-      (sym c.take_standing.ensures.taken ∙ c.in-None.is));
+      (pick_begins c.args.m.now u c.args.schedule.now c.args.self.now p c.if-self-eq0.false c.requires.scheduled c.pick.new.self c.if-not-pick.ensures _ c.take_standing.new.fiber c.take_standing.ensures.stands refl
+      (sym c.take_standing.ensures.taken ∙ ap (option_map (standing_of c.take_standing.new.fiber)) c.in-None.is));
 }

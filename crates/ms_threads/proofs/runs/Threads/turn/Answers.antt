@@ -70,9 +70,9 @@ pick-requires-clause-picking c =
     let g = q.1.1 in
     let old = c.args.self.now.running in (
       u,
-      turn_picks m u c.args.schedule.now c.args.self.now g _ refl refl refl refl c.in-Finished.value
+      turn_picks m u c.args.schedule.now c.args.self.now g (record c.args.self.now { running = record c.args.self.now.running { fiber = c.advance.new.fiber; world = c.advance.new.world; budget = c.advance.new.budget } }) refl refl refl refl c.in-Finished.value
           (subst (λ (x : Pause). Advanced (IsRunning m u g.beside) m u g.beside g.state old.budget.left old.fiber.frame.at x c.advance.new.fiber c.advance.new.world c.advance.new.budget.left) c.in-Finished.is
-          (c.in_ok-advance.ensures.advanced u g.beside g.state g.stands)) c.advance.ensures.made c.end.new.self c.end.ensures.running c.end.ensures.ended,
+          (c.in_ok-advance.ensures.advanced u g.beside g.state g.stands)) c.advance.ensures.made c.end.new.self c.end.new.self.running.fiber c.end.ensures.running c.end.ensures.ended,
     )
 
 pub returns-in-Finished : goal.returns-in-Finished
@@ -84,7 +84,7 @@ returns-in-Finished c = record {
       (c.in_ok-advance.ensures.advanced u g.beside g.state g.stands) in
       if_ok c.pick.result
       (λ e. turned_so m u c.args.schedule.now (ahead m old) _ e c.pick.new.self
-      (finished_far m u c.args.schedule.now c.args.self.now g _ refl refl refl refl c.in-Finished.value h c.advance.ensures.made c.end.new.self c.end.ensures.running c.end.ensures.ended))
+      (finished_far m u c.args.schedule.now c.args.self.now g (record c.args.self.now { running = record c.args.self.now.running { fiber = c.advance.new.fiber; world = c.advance.new.world; budget = c.advance.new.budget } }) refl refl refl refl c.in-Finished.value h c.advance.ensures.made c.end.new.self c.end.new.self.running.fiber c.end.ensures.running c.end.ensures.ended))
       (c.pick.ensures.turned u
-      (turn_picks m u c.args.schedule.now c.args.self.now g _ refl refl refl refl c.in-Finished.value h c.advance.ensures.made c.end.new.self c.end.ensures.running c.end.ensures.ended));
+      (turn_picks m u c.args.schedule.now c.args.self.now g (record c.args.self.now { running = record c.args.self.now.running { fiber = c.advance.new.fiber; world = c.advance.new.world; budget = c.advance.new.budget } }) refl refl refl refl c.in-Finished.value h c.advance.ensures.made c.end.new.self c.end.new.self.running.fiber c.end.ensures.running c.end.ensures.ended));
 }
