@@ -1,6 +1,7 @@
 #!/usr/bin/env bash
 # What `check` takes beside `run` on C programs as clang writes them at -O0: a sieve in an array, recursive calls, products of matrices, a list on
 # the heap, and text that is set, copied and walked; each at two sizes, so that all but the steps falls out, in instructions by callgrind.
+# Then, where there is `lli`, the processor time of `check` on larger sizes beside its interpreter on the same module, in turn.
 # Needs clang (14 or later), valgrind, and the program as `rt run` built it (crates/msan/out/msan). Outside the gate.
 source "$(dirname "$0")/frame.sh"
 
@@ -94,8 +95,12 @@ int main(void) {
 }
 END
 
+module() { # program, size
+    clang -O0 -fno-pie "${pointers[@]}" -S -emit-llvm "-DN=$2" -o "$work/$1.ll" "$work/$1.c" 2>/dev/null
+}
+
 cost() { # command, program, size
-    clang -O0 -fno-pie "${pointers[@]}" -S -emit-llvm "-DN=$3" -o "$work/$2.ll" "$work/$2.c" 2>/dev/null
+    module "$2" "$3"
     instructions "$program" "$1" --steps 1000000000 --reports 1000 "$work/$2.ll"
 }
 
@@ -104,4 +109,21 @@ for case in sieve:2000:4000 calls:14:17 matrix:4:8 list:600:1200 text:20:40; do
     run=$(($(cost run "$name" "$large") - $(cost run "$name" "$small")))
     check=$(($(cost check "$name" "$large") - $(cost check "$name" "$small")))
     echo "$name: run $run, check $check, $(python3 -c "print(f'{$check / $run:.2f}')") times as much"
+done
+
+seconds() { # command
+    local TIMEFORMAT='%U'
+    { time "$@" >/dev/null 2>&1 || true; } 2>&1
+}
+
+command -v lli >/dev/null || { echo "no lli: nothing is compared"; exit 0; }
+opaque=()
+lli --version | grep -q 'version 14' && opaque=(-opaque-pointers)
+for case in sieve:200000 calls:23 matrix:200 list:40000 text:1500; do
+    IFS=: read -r name size <<<"$case"
+    module "$name" "$size"
+    for turn in 1 2 3; do
+        echo "$name, turn $turn: check $(seconds "$program" check --steps 1000000000 --reports 1000 "$work/$name.ll") s," \
+            "lli $(seconds lli "${opaque[@]}" --jit-kind=mcjit -force-interpreter "$work/$name.ll") s"
+    done
 done

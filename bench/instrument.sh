@@ -1,6 +1,6 @@
 #!/usr/bin/env bash
 # What instrumenting takes. `msan instrument` on texts of two sizes, in instructions a byte by callgrind; beside
-# `opt -passes=msan -S` on the larger text, in processor time, in turn; and what a step of `check` takes beside one of `run`,
+# `opt -passes=msan -S` on the larger text and on two others of that size, in processor time, in turn; and what a step of `check` takes beside one of `run`,
 # in a loop as -O0 writes it, at two lengths, so that all but the steps falls out.
 # Needs valgrind and opt (LLVM 14 or later), and the program as `rt run` built it (crates/msan/out/msan). Outside the gate.
 source "$(dirname "$0")/frame.sh"
@@ -24,6 +24,34 @@ define i32 @f$k(i32 %0, ptr %1) sanitize_memory {
   ret i32 %8
 }
 END
+  done
+  printf 'define i32 @main() {\n  ret i32 0\n}\n'
+}
+
+branches() { # $1 functions that branch, with a `phi`
+  for ((k = 0; k < $1; k++)); do
+    cat <<END
+define i32 @f$k(i32 %0, ptr %1) sanitize_memory {
+  %3 = load i32, ptr %1
+  %4 = icmp slt i32 %3, %0
+  br i1 %4, label %5, label %7
+5:
+  %6 = add nsw i32 %3, 17
+  br label %7
+7:
+  %8 = phi i32 [ %6, %5 ], [ 12, %2 ]
+  ret i32 %8
+}
+END
+  done
+  printf 'define i32 @main() {\n  ret i32 0\n}\n'
+}
+
+words() { # $1 functions of fifteen instructions on words
+  for ((k = 0; k < $1; k++)); do
+    printf 'define i32 @f%d(i32 %%0) sanitize_memory {\n  %%2 = add i32 %%0, 1\n' "$k"
+    for ((j = 3; j < 17; j++)); do printf '  %%%d = xor i32 %%%d, %%0\n' "$j" "$((j - 1))"; done
+    printf '  ret i32 %%16\n}\n'
   done
   printf 'define i32 @main() {\n  ret i32 0\n}\n'
 }
@@ -97,16 +125,23 @@ done
 
 opaque=
 if opt --version | grep -q 'version 14'; then opaque=-opaque-pointers; fi
-for turn in 1 2 3; do
-  for tool in msan opt; do
-    TIMEFORMAT="turn $turn, $tool: %U s of processor"
-    if [ "$tool" = msan ]; then
-      time "$program" instrument "$work/functions.ll" > "$work/out.ll"
-    else
-      time opt $opaque -mtriple=x86_64-unknown-linux-gnu -passes=msan -S "$work/functions.ll" -o "$work/out.ll"
-    fi
+beside() { # the text's name, its maker, how many functions
+  "$2" "$3" > "$work/functions.ll"
+  for turn in 1 2 3; do
+    for tool in msan opt; do
+      TIMEFORMAT="$1, turn $turn, $tool: %U s of processor"
+      if [ "$tool" = msan ]; then
+        time "$program" instrument "$work/functions.ll" > "$work/out.ll"
+      else
+        time opt $opaque -mtriple=x86_64-unknown-linux-gnu -passes=msan -S "$work/functions.ll" -o "$work/out.ll"
+      fi
+    done
   done
-done
+}
+
+beside 'functions of ten instructions' functions 3000
+beside 'functions that branch' branches 3500
+beside 'functions on words' words 2000
 
 per_step() { # the loop, the steps of a round, what it is
   "$1" 1000 > "$work/short.ll"

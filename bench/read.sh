@@ -9,8 +9,8 @@
 # Wants `rt`, `valgrind` and, for the comparison, `llvm-as-19`. Outside the gate.
 source "$(dirname "$0")/frame.sh"
 
-repository read_bench 'ms_bits ms_io ms_lex ms_ir ms_grammar ms_read_body ms_read_top' \
-    'ms_bits ms_io ms_lex ms_ir ms_grammar ms_read_cursor ms_read_values ms_read_insts ms_read_top ms_read_body' <<'PROGRAM'
+repository read_bench 'ms_bits ms_io ms_lex ms_ir ms_text_grammar ms_read_body ms_read_top' \
+    'ms_bits ms_io ms_lex ms_ir ms_example_modules ms_text_grammar ms_read_cursor ms_read_values ms_read_insts ms_read_top ms_read_body' <<'PROGRAM'
 //! Reads the module of a file so many times.
 #![tactic(auto)]
 
@@ -25,7 +25,7 @@ use std::env;
 use std::io;
 
 /// 0 where the text reads as a module, and else the number of its refusal.
-#[tactic(auto, unfolding(ms_grammar::specs::Texts::max_bytes))]
+#[tactic(auto, unfolding(ms_text_grammar::specs::Texts::max_bytes))]
 fn number_of(alloc: Global, text: &[u8]) -> u8
     requires { length text.now ≤ 2 ^ 27 }
 {

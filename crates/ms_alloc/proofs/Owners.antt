@@ -1,7 +1,7 @@
 -- Numbers of allocations, one for each 16 bytes that they take.
 use Rattle.std.proofs.Common.{◌≡◌, ℕ, zero, suc, ◌+◌, ◌-◌, ◌*◌, ◌/◌, ◌^◌, ◌<◌, ◌≤◌, List, [], ◌∷◌, ◌++◌, length, get_or, set, take, replicate, arith, refl, sym, ap, subst, ◌∙◌, inr, ⊎_elim, false, Result, Ok, Err, is_ok, is_err, if◌then◌else◌}
 use Rattle.std.proofs.lemmas.Bool.{cases_lt}
-use Rattle.std.proofs.lemmas.List.{append-nil, append_assoc, length-append, length-replicate, take_all, take_at, get_or_default, get_or_append_left, get_or-append_right, get_or-replicate}
+use Rattle.std.proofs.lemmas.List.{append-nil, append_assoc, length-append, length-replicate, take_all, get_or_default, get_or_append_left, get_or-append_right, get_or-replicate}
 use Rattle.ms_alloc.specs.declared.kinds.AllocKind.{AllocKind}
 use Rattle.ms_alloc.specs.declared.allocations.Allocation.{Allocation}
 use Rattle.ms_alloc.specs.Layout.{room, area_base}
@@ -96,13 +96,6 @@ owned-push xs x owners n m c owned within pieces number small = record {
 pub made-ok : {T E : Type 0} (r : Result T E) (new a b : List Allocation) → false ≡ is_err r → new ≡ (if is_ok r then a else b) → new ≡ a
 made-ok (Ok x) new a b f e = e
 made-ok (Err x) new a b f e = absurd (cc)
-
--- and none again
-pub owned-back : (xs : List Allocation) (owners zs : List ℕ) (n m t : ℕ) → IsOwned xs owners → length owners ≤ n → t ≡ length owners → IsOwned xs (take t (take n owners ++ zs))
-owned-back xs owners zs n m t owned within is = record {
-  same = ap (λ (l : List ℕ). take t (l ++ zs)) (take_all n owners within) ∙ take_at owners zs t (sym is) ∙ owned.same;
-  small = owned.small;
-}
 
 -- the first allocations alone
 pub take-past : (xs ys : List ℕ) (n j : ℕ) → length xs ≡ n → take (n + j) (xs ++ ys) ≡ xs ++ take j ys

@@ -11,7 +11,7 @@ use Rattle.ms_alloc.specs.declared.kinds.AllocKind.TheVariants.{Fixed, Heap, Sta
 use Rattle.ms_alloc.specs.declared.allocations.Allocation.{Allocation}
 use Rattle.ms_alloc.specs.Layout.{room, area_base, area_limit}
 use Rattle.ms_alloc.specs.Allocations.{Allocations, IsArea, IsLaidOut, used, listed, of_kind, covers, is_block, is_good}
-use Rattle.ms_alloc.specs.declared.allocations.Place.{Place}
+use Rattle.ms_alloc.specs.declared.allocations.TablePlace.{TablePlace}
 use Rattle.ms_alloc.specs.Places.{IsPlace}
 use Rattle.ms_alloc.specs.Only.{IsOnly}
 use Rattle.ms_alloc.specs.Owners.{Has, IsOutside}
@@ -133,10 +133,6 @@ listed-stack t addr n some laid low =
     ∙ ap (λ r. option_or r (find (covers addr n) t.heap)) (find-outside Fixed t.fixed addr n some laid.fixed (inr (omega arith)))
     ∙ find-outside Heap t.heap addr n some laid.heap (inr (omega arith)))
 
--- what the code reads past the end of a list
-abbrev pub nowhere : Allocation
-nowhere = record { base = 0; size = 0; kind = Fixed; live = false }
-
 pub block-holds : (base : ℕ) (a : Allocation) → a.live ≡ true → a.base ≡ base → is_block base a ≡ true
 block-holds base a live same = and_from a.live (eqb a.base base) live (eq-eqb a.base base same)
 
@@ -165,7 +161,7 @@ pub none-good : (t : Allocations) (addr n : ℕ) → 0 < n → find (covers addr
 none-good t addr n some none = ap (λ (b : Bool). b || is_some (find (covers addr n) (listed t))) (ne_eqb n 0 (λ e. omega arith)) ∙ ap is_some none
 
 -- in its area, and so in the whole table
-pub place-listed : (r : Option Place) (j k : AllocKind) (t : Allocations) (addr n : ℕ) → 0 < n → j ≡ k → find (covers addr n) (listed t) ≡ find (covers addr n) (of_kind k t) →
+pub place-listed : (r : Option TablePlace) (j k : AllocKind) (t : Allocations) (addr n : ℕ) → 0 < n → j ≡ k → find (covers addr n) (listed t) ≡ find (covers addr n) (of_kind k t) →
     MatchOption r (find (covers addr n) (of_kind k t) ≡ None) (λ p. IsPlace j (of_kind k t) addr n p) →
     MatchOption r (is_good addr n t ≡ false) (λ p. IsPlace p.kind (of_kind p.kind t) addr n p)
 place-listed None j k t addr n some here same none =

@@ -34,7 +34,7 @@ impl Allocation {
 
 /// Where an allocation stands in a table.
 #[derive(Clone, Copy, Debug)]
-pub struct Place {
+pub struct TablePlace {
     /// Its area.
     pub kind: AllocKind,
     /// How many allocations stand before it in the list of its area.

@@ -7,7 +7,7 @@ ghost use Rattle.ms_alloc.specs.Only.{IsOnly};
 ghost use Rattle.ms_alloc.specs.Places.{IsPlace};
 ghost use Rattle.ms_alloc.specs.Owners.{IsOwned, Has, IsOutside};
 
-use crate::allocations::{Allocation, Place};
+use crate::allocations::{Allocation, TablePlace};
 use crate::errors::{AllocError, BadFree};
 use crate::kinds::AllocKind;
 use std::alloc::Global;
@@ -187,7 +187,7 @@ impl Area {
 
     /// The place of that allocation.
     #[inline(always)]
-    pub(crate) fn place_of(&self, kind: AllocKind, addr: u64, n: u64) -> Option<Place>
+    pub(crate) fn place_of(&self, kind: AllocKind, addr: u64, n: u64) -> Option<TablePlace>
         requires area { IsArea kind self.now }
         requires from { area_base kind ≤ addr }
         requires some { 0 < n }
@@ -195,7 +195,7 @@ impl Area {
     {
         let index = self.place_covering(kind, addr, n)?;
         let base = self.made[index].base;
-        Some(Place { kind, index, base })
+        Some(TablePlace { kind, index, base })
     }
 
     /// The number of allocations.

@@ -3,7 +3,7 @@ ghost use Rattle.std.specs.Prelude.{◌≡◌, ◌≤◌, ◌<◌, ◌+◌, find
 ghost use Rattle.ms_alloc.specs.declared.kinds.AllocKind.TheVariants.{Fixed, Heap, Stack};
 ghost use Rattle.ms_alloc.specs.Layout.{room, area_base, area_limit, IsReached};
 
-use crate::allocations::{Allocation, Place};
+use crate::allocations::{Allocation, TablePlace};
 use crate::areas::{Area, has_room};
 use crate::errors::{AllocError, BadFree};
 use crate::kinds::AllocKind;
@@ -147,7 +147,7 @@ impl Table {
 
     /// Where the live allocation stands that has the `n` bytes from `addr` on; `None` exactly where none has them.
     #[inline(always)]
-    pub fn place_of(&self, addr: u64, n: u64) -> Option<Place>
+    pub fn place_of(&self, addr: u64, n: u64) -> Option<TablePlace>
         requires { 0 < n }
         ensures { MatchOption result (is_good addr n self.now ≡ false) (λ p. IsPlace p.kind (of_kind p.kind self.now) addr n p) }
     {

@@ -47,7 +47,7 @@ smaller_clean v u = rw (greatest_clean u, least_clean v, greatest_clean v, least
     (λ g. rw (le-leb u v g) refl)
     (cases_lt v u))
 
-carry_clean : (w : ℕ) → carry_mask w 0 ≡ 0
+pub carry_clean : (w : ℕ) → carry_mask w 0 ≡ 0
 unfolding carry_mask
 carry_clean w = let e : 0 + (2 ^ w - 0) ≡ 2 ^ w = omega arith in ap (λ n. bit_or 0 (n % 2 ^ w)) e ∙ ap (bit_or 0) (mod_self (2 ^ w))
 

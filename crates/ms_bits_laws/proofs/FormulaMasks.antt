@@ -18,7 +18,7 @@ use Rattle.ms_bits_laws.proofs.Agreement.{same_mask, same_select_mask}
 
 -- ---- the formulas fit
 
-bit_fits : (b : Bool) → from_bool b < 2 ^ 1
+pub bit_fits : (b : Bool) → from_bool b < 2 ^ 1
 bit_fits true = omega arith
 bit_fits false = omega arith
 

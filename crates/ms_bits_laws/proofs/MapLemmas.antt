@@ -8,7 +8,7 @@ use Rattle.ms_bits.specs.Maps.{within, with_range, byte_of, number_at, bytes_at,
 
 -- ---- inside and outside
 
-within-true : (a n x : ℕ) → a ≤ x → x < a + n → within a n x ≡ true
+pub within-true : (a n x : ℕ) → a ≤ x → x < a + n → within a n x ≡ true
 within-true a n x p q = grind (arith, le-leb, lt-ltb)
 
 within-low : (a n x : ℕ) → x < a → within a n x ≡ false

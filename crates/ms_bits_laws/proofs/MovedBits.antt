@@ -14,7 +14,7 @@ use Rattle.ms_bits_laws.proofs.Extremes.{greatest_completes, least_completes, va
 use Rattle.ms_bits_laws.proofs.MaskFunctions.{number_bit}
 use Rattle.ms_bits.specs.WordFunctions.{bswap_of, bitreverse_of, window, fshl_of, fshr_of}
 
-lo_hi : (x m a b : ℕ) → m ≡ 1 → x < 2 → a ≡ x - m → b ≡ max x m → a ≡ b → ⊥
+pub lo_hi : (x m a b : ℕ) → m ≡ 1 → x < 2 → a ≡ x - m → b ≡ max x m → a ≡ b → ⊥
 lo_hi x m a b e p q r s = omega arith
 
 -- one operand's completions that differ at j show that it is poisoned there

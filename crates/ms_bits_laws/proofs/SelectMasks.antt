@@ -7,6 +7,7 @@ use Rattle.ms_bits.specs.Completion.{Completes, SelectionsDiffer}
 use Rattle.ms_bits.specs.Conversions.{select_of}
 use Rattle.ms_bits.specs.Formulas.{select_mask, least, greatest}
 use Rattle.ms_bits_laws.proofs.Extremes.{greatest_completes, least_completes, value_completes, greatest_bit, least_bit}
+use Rattle.ms_bits_laws.proofs.MovedBits.{lo_hi}
 
 -- a completion of a defined bit is the bit
 defined : (t p : ℕ) → t < 2 → Completes 1 t 0 p → p ≡ t
@@ -19,9 +20,6 @@ free t n p l ln h = record { fits = l; agrees = λ i li z. absurd (no i li z) }
     no : (i : ℕ) → i < 1 → bit_at n i ≡ 0 → ⊥
     no zero li z = h (omega (arith, z, bit_at_lowest n))
     no (suc i) li z = absurd (omega arith)
-
-lo_hi : (x m a b : ℕ) → m ≡ 1 → x < 2 → a ≡ x - m → b ≡ max x m → a ≡ b → ⊥
-lo_hi x m a b e p q r s = omega arith
 
 poisoned_bit : (x y m k : ℕ) → x < 2 → y < 2 → m < 2 → k < 2 → max (max ((x + y) % 2) m) k ≡ 1 → (m ≡ 1) ⊎ ((k ≡ 1) ⊎ (x ≡ y → ⊥))
 poisoned_bit x y zero zero p q r s h = inr (inr (λ e. omega arith))

@@ -5,12 +5,11 @@ use lib.Count.{count_leading_zeros, count_trailing_zeros}
 use Rattle.std.specs.Int.{bit_at}
 use Rattle.std.proofs.lemmas.Bool.{cases_Bool, eqb-true, leb-true}
 use Rattle.std.proofs.lemmas.Nat.{pow_pos, xor_lt, pow_below, le_or_l, le_or_r, ones-le, leading_le, trailing_le}
-use Rattle.std.proofs.lemmas.Nat.Bits.{bit_at-lt, bit_at_xor, bit_at_ones}
+use Rattle.std.proofs.lemmas.Nat.Bits.{bit_at-lt, bit_at_xor}
 use Rattle.ms_bits.specs.declared.traps.Trap.{Trap}
 use Rattle.ms_bits.specs.declared.word_functions.WordWidth.{WordWidth}
 use Rattle.ms_bits.specs.declared.word_functions.WordWidth.TheVariants.{I8, I16, I32, I64}
 use Rattle.ms_bits.specs.declared.word_functions.BitMove.{BitMove}
-use Rattle.ms_bits.specs.declared.word_functions.BitMove.TheVariants.{Bswap16, Bswap32, Bswap64, Bitreverse8, Bitreverse16, Bitreverse32, Bitreverse64, Fshl8, Fshl16, Fshl32, Fshl64, Fshr8, Fshr16, Fshr32, Fshr64}
 use Rattle.ms_bits.specs.Signed.{signed}
 use Rattle.ms_bits.specs.Completion.{InRange, Agrees, Completes}
 use Rattle.ms_bits.specs.Formulas.{turned_sign}
@@ -24,6 +23,7 @@ use Rattle.ms_bits_laws.proofs.WordMaskRanges.{places_le, counts_lt, abs_lt, gre
 use Rattle.ms_bits.specs.declared.word_functions.WordFn.{WordFn}
 use Rattle.ms_bits.specs.declared.word_functions.WordFn.TheVariants.{Ctpop, Ctlz, Cttz, Bswap, Bitreverse, Abs, Smax, Smin, Umax, Umin, Fshl, Fshr, UaddSat, UsubSat, SaddSat, SsubSat, Expect}
 use Rattle.ms_bits.specs.WordFunctions.{bswap_of, bitreverse_of, fshl_of, fshr_of, smax_of, smin_of, abs_of, HasForm, places, saturated, bits_of, word_answer, word_mask, whole_mask, move_fn, move_width, moved_by, moved}
+use Rattle.ms_bits_laws.proofs.OperationAgreement.{nothing_outside_ones}
 
 -- the word of an answer
 abbrev value_of : Result ℕ Trap → ℕ
@@ -73,9 +73,6 @@ answer_is SaddSat w a b c x h = ap value_of h
 answer_is SsubSat w a b c x h = ap value_of h
 answer_is Expect w a b c x h = ap value_of h
 
-all_ones : (w r s : ℕ) → Agrees w (2 ^ w - 1) r s
-all_ones w r s i l z = absurd (omega (arith, z, bit_at_ones w i l))
-
 turned_completes : (w v m a : ℕ) → 1 ≤ w → Completes w v m a → Completes w (turned_sign w v) m (turned_sign w a)
 unfolding turned_sign
 turned_completes w v m a some h = record {
@@ -103,7 +100,7 @@ module _ (w : ℕ) (v m u k t n : ℕ) (some : 1 ≤ w) (le : w ≤ 64)
   all_agree : (mask x y : ℕ) → (mask ≡ 0 → x ≡ y) → Agrees w (whole_mask w mask) x y
   all_agree mask x y same = ⊎_elim
       (λ (yes : eqb mask 0 ≡ true). rw yes (λ i l z. ap (λ j. bit_at j i) (same (eqb-true mask 0 yes))))
-      (λ (no : eqb mask 0 ≡ false). rw no (all_ones w _ _))
+      (λ (no : eqb mask 0 ≡ false). rw no (nothing_outside_ones w _ _))
       (cases_Bool (eqb mask 0))
 
   two_agree : (f : ℕ → ℕ → ℕ) → Agrees w (whole_mask w (bit_or m k)) (f a b) (f d e)
@@ -118,7 +115,7 @@ module _ (w : ℕ) (v m u k t n : ℕ) (some : 1 ≤ w) (le : w ≤ 64)
       let ec : c ≡ t = known_amount w t n c z ir.value hc in
       let eg : g ≡ t = known_amount w t n g z ir.value hg in
       rw (yes, ec, eg) (h t))
-      (λ (no : eqb n 0 ≡ false). rw no (all_ones w _ _))
+      (λ (no : eqb n 0 ≡ false). rw no (nothing_outside_ones w _ _))
       (cases_Bool (eqb n 0))
 
   plain_agrees : (f : WordFn) → HasForm f w → Agrees w (word_mask f w v m u k t n) (plain_word f w a b c) (plain_word f w d e g)
@@ -181,7 +178,7 @@ word_same w v m u k t n some ip iq ir a b c ha hb hc f = at f
     at SsubSat = refl
     at Expect = refl
 
-ones_less : (w : ℕ) → 2 ^ w - 1 < 2 ^ w
+pub ones_less : (w : ℕ) → 2 ^ w - 1 < 2 ^ w
 ones_less w = omega (arith, pow_pos w)
 
 chosen_lt : (t : Bool) (n x y : ℕ) → x < n → y < n → (if t then x else y) < n
@@ -303,24 +300,6 @@ width_form Bswap I64 = refl
 width_form f n = tt
 
 -- ---- functions that move bits alone
-
--- none traps
-pub move_answers : (k : BitMove) (a b c : ℕ) → word_answer (move_fn k) (bits_of (move_width k)) a b c ≡ Ok (moved k a b c)
-move_answers Bswap16 a b c = refl
-move_answers Bswap32 a b c = refl
-move_answers Bswap64 a b c = refl
-move_answers Bitreverse8 a b c = refl
-move_answers Bitreverse16 a b c = refl
-move_answers Bitreverse32 a b c = refl
-move_answers Bitreverse64 a b c = refl
-move_answers Fshl8 a b c = refl
-move_answers Fshl16 a b c = refl
-move_answers Fshl32 a b c = refl
-move_answers Fshl64 a b c = refl
-move_answers Fshr8 a b c = refl
-move_answers Fshr16 a b c = refl
-move_answers Fshr32 a b c = refl
-move_answers Fshr64 a b c = refl
 
 -- and what each gives fits its width
 moved_by-lt : (f : WordFn) (w a b c : ℕ) → moved_by f w a b c < 2 ^ w

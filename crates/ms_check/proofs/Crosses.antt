@@ -9,17 +9,17 @@ use Rattle.ms_bits.proofs.operations.Flags.TheSendSync as flags
 use Rattle.ms_ir.proofs.calls.External.TheSendSync as externals
 use Rattle.ms_ir.proofs.calls.RuntimeFn.TheSendSync as functions
 use Rattle.ms_ir.proofs.Crosses.{List-send, List-sync, Module-send, Module-sync}
-use Rattle.ms_code_data.specs.contracts.short.Part as part
-use Rattle.ms_code_data.specs.contracts.short.Form as form
-use Rattle.ms_code_data.specs.contracts.short.Short as short
-use Rattle.ms_code_data.specs.contracts.code.Source as source
-use Rattle.ms_code_data.specs.contracts.code.Move as move
-use Rattle.ms_code_data.specs.contracts.code.Edge as edge
-use Rattle.ms_code_data.specs.contracts.code.Stride as stride
-use Rattle.ms_code_data.specs.contracts.code.Code as code
-use Rattle.ms_code_data.specs.contracts.code.Site as site
-use Rattle.ms_code_data.specs.contracts.code.Routine as routine
-use Rattle.ms_code_data.specs.contracts.code.Program as program
+use Rattle.ms_code.specs.contracts.short.Part as part
+use Rattle.ms_code.specs.contracts.short.Form as form
+use Rattle.ms_code.specs.contracts.short.Short as short
+use Rattle.ms_code.specs.contracts.code.Source as source
+use Rattle.ms_code.specs.contracts.code.Move as move
+use Rattle.ms_code.specs.contracts.code.Edge as edge
+use Rattle.ms_code.specs.contracts.code.Stride as stride
+use Rattle.ms_code.specs.contracts.code.Code as code
+use Rattle.ms_code.specs.contracts.code.Site as site
+use Rattle.ms_code.specs.contracts.code.Routine as routine
+use Rattle.ms_code.specs.contracts.code.Program as program
 use Rattle.ms_check.specs.contracts.checked.CheckedModule as checked
 
 pub Source-send : IsSend source.the_row

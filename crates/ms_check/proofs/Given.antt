@@ -3,9 +3,9 @@ use Rattle.std.proofs.Common.{◌≡◌, ℕ, ◌+◌, ◌<◌, List, ◌++◌, 
 use Rattle.std.specs.Prelude.{slice_get, option_to_list}
 use Rattle.std.specs.Option.{option_or}
 use Rattle.ms_ir.specs.declared.syntax.Name.{Name}
+use Rattle.ms_ir.proofs.Sizes.{drop_next}
 use Rattle.ms_valid.specs.NamesOnce.{repeats}
 use Rattle.ms_tables.proofs.Once.{first_repeat-append}
-use Rattle.ms_tables.proofs.Items.{drop_item}
 use Rattle.ms_tables.proofs.Given.{given}
 
 module _ {A : Type 0} (f : A → Option Name) where
@@ -13,7 +13,7 @@ module _ {A : Type 0} (f : A → Option Name) where
   pub given_next : (seen : List Name) (items : List A) (i : ℕ) (item : A) → i < length items → item ≡ get_or items i item
       → slice_get (repeats seen (filter_map f (drop i items))) 0 ≡ option_or (slice_get (repeats seen (option_to_list (f item))) 0) (slice_get (repeats (seen ++ option_to_list (f item)) (filter_map f (drop (i + 1) items))) 0)
   given_next seen items i item below here =
-      ap (λ r. slice_get (repeats seen (filter_map f r)) 0) (drop_item items i item below here) ∙ ap (λ r. slice_get (repeats seen r) 0) (given f (drop (i + 1) items) item)
+      ap (λ r. slice_get (repeats seen (filter_map f r)) 0) (drop_next items i item below here) ∙ ap (λ r. slice_get (repeats seen r) 0) (given f (drop (i + 1) items) item)
       ∙ first_repeat-append seen (option_to_list (f item)) (filter_map f (drop (i + 1) items))
 
   -- where an item gives none that was seen

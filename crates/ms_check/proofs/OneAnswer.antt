@@ -1,7 +1,6 @@
 -- A module is refused for one fault alone, but for the path that shows an undefined use.
-use Rattle.std.proofs.Common.{◌≡◌, ℕ, zero, suc, ◌<◌, List, [], ◌∷◌, ◌++◌, refl, sym, ap, subst, ◌∙◌, arith, ⊎_elim, below_none, below_more}
+use Rattle.std.proofs.Common.{◌≡◌, ℕ, zero, suc, ◌<◌, List, [], ◌∷◌, ◌++◌, refl, sym, ap, subst, ◌∙◌, arith, below_none, below_more}
 use Rattle.std.specs.Prelude.{All, IsTrue, Some, None, slice_get}
-use Rattle.ms_ir.specs.declared.syntax.Func.{Func}
 use Rattle.ms_ir.specs.declared.syntax.Module.{Module}
 use Rattle.ms_valid.specs.NamesOnce.{duplicates}
 use Rattle.ms_valid.specs.NamesKnown.{unknowns}
@@ -11,10 +10,9 @@ use Rattle.ms_valid.specs.HasMain.{defines_main}
 use Rattle.ms_valid.specs.ExternalsFit.{bad_externals}
 use Rattle.ms_valid.specs.MarksFit.{bad_marks}
 use Rattle.ms_valid.specs.SizesFit.{unsized}
-use Rattle.ms_valid.specs.Paths.{ValueUse, Path, IsDefined, Misses}
 use Rattle.ms_valid.specs.UsesDefined.{IsUseDefined, UsesDefined}
 use Rattle.ms_valid.specs.Refusals.{Fault, Duplicate, Unknown, TypeMismatch, BadPhi, NoMain, BadExternal, Undefined, BadMark, BadSize, IsFirstUndefined, IsRefused, UpToNames, UpToTypes, UpToPhis, UpToMain, UpToExternals, UpToUses, UpToMarks}
-use Rattle.ms_valid.proofs.AtInstructions.{all_parts}
+use Rattle.ms_valid.proofs.Refused.{missed, undefined}
 use Rattle.ms_check.specs.Faults.{without_path}
 
 -- ---- lists
@@ -45,16 +43,6 @@ first_unlike P (z ∷ before) (w ∷ others) after rest x y e h k n o =
     first_unlike P before others after rest x y tails (λ i d l. h (suc i) d (omega (arith, l))) (λ i d l. k (suc i) d (omega (arith, l))) n o
 
 -- ---- undefined uses
-
--- a use that a path misses isn't defined
-missed : (f : Func) (u : ValueUse) (path : List ℕ) → Misses f u path → IsDefined f u → ⊥
-missed f u path h d = ⊎_elim h.own (λ all. h.avoids (all h.before (subst (Path f) h.ends h.leads))) d
-
--- where a use isn't defined, not each use is
-undefined : (m : Module) (site : ℕ) (path : List ℕ) → IsFirstUndefined m site path → UsesDefined m → ⊥
-undefined m site path h all =
-    let parts = all_parts IsUseDefined h.earlier (h.«use» ∷ h.later) (subst (All IsUseDefined) h.splits all) in
-    missed h.«use».func h.«use».value path h.misses (parts.1 0 h.«use» (omega arith))
 
 -- the first use that isn't defined has one site
 one_site : (m : Module) (s t : ℕ) (p q : List ℕ) → IsFirstUndefined m s p → IsFirstUndefined m t q → s ≡ t

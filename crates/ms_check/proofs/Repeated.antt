@@ -9,16 +9,17 @@ use Rattle.ms_ir.specs.Names.{name_eq}
 use Rattle.ms_ir.specs.Equal.{has_name}
 use Rattle.ms_ir.specs.declared.syntax.Module.{Module}
 use Rattle.ms_ir.specs.Locals.{locals, type_names, global_names, declared_names, Spelled}
+use Rattle.ms_ir.proofs.Sizes.{drop_next}
 use Rattle.ms_valid.specs.NamesOnce.{at_sign, percent_sign, repeats, function_duplicates, duplicates}
 use Rattle.ms_tables.proofs.Once.{first_repeat-append, repeats_same, has_name-append}
-use Rattle.ms_tables.proofs.Items.{drop_item, first-append}
+use Rattle.ms_tables.proofs.Items.{first-append}
 
 -- where the names of one item are passed
 pub names_passed : {A : Type 0} (g : A → List Name) (seen after : List Name) (items : List A) (i : ℕ) (item : A) (first : Option Name) → i < length items → item ≡ get_or items i item → after ≡ seen ++ g item
     → slice_get (repeats seen (g item)) 0 ≡ None → slice_get (repeats seen (flat_map g (drop i items))) 0 ≡ first → slice_get (repeats after (flat_map g (drop (i + 1) items))) 0 ≡ first
 names_passed g seen after items i item first below here next none before =
     ap (λ r. slice_get (repeats r (flat_map g (drop (i + 1) items))) 0) next
-    ∙ sym (ap (λ r. slice_get (repeats seen (flat_map g r)) 0) (drop_item items i item below here) ∙ first_repeat-append seen (g item) (flat_map g (drop (i + 1) items))
+    ∙ sym (ap (λ r. slice_get (repeats seen (flat_map g r)) 0) (drop_next items i item below here) ∙ first_repeat-append seen (g item) (flat_map g (drop (i + 1) items))
     ∙ ap (λ r. option_or r (slice_get (repeats (seen ++ g item) (flat_map g (drop (i + 1) items))) 0)) none)
     ∙ before
 
@@ -26,7 +27,7 @@ names_passed g seen after items i item first below here next none before =
 pub names_stopped : {A : Type 0} (g : A → List Name) (seen : List Name) (items : List A) (i : ℕ) (item : A) (x : Name) → i < length items → item ≡ get_or items i item
     → slice_get (repeats seen (g item)) 0 ≡ Some x → slice_get (repeats seen (flat_map g (drop i items))) 0 ≡ Some x
 names_stopped g seen items i item x below here found =
-    ap (λ r. slice_get (repeats seen (flat_map g r)) 0) (drop_item items i item below here) ∙ first_repeat-append seen (g item) (flat_map g (drop (i + 1) items))
+    ap (λ r. slice_get (repeats seen (flat_map g r)) 0) (drop_next items i item below here) ∙ first_repeat-append seen (g item) (flat_map g (drop (i + 1) items))
     ∙ ap (λ r. option_or r (slice_get (repeats (seen ++ g item) (flat_map g (drop (i + 1) items))) 0)) found
 
 -- of the symbols that were seen it matters only which they are
@@ -59,7 +60,7 @@ pub function_passed : (seen after : List Name) (funcs : List Func) (i : ℕ) (f 
     → slice_get (function_duplicates seen (drop i funcs)) 0 ≡ first → slice_get (function_duplicates after (drop (i + 1) funcs)) 0 ≡ first
 function_passed seen after funcs i f first below here next none before =
     ap (λ r. slice_get (function_duplicates r (drop (i + 1) funcs)) 0) next
-    ∙ sym (ap (λ r. slice_get (function_duplicates seen r) 0) (drop_item funcs i f below here) ∙ functions_next seen f (drop (i + 1) funcs)
+    ∙ sym (ap (λ r. slice_get (function_duplicates seen r) 0) (drop_next funcs i f below here) ∙ functions_next seen f (drop (i + 1) funcs)
     ∙ ap (λ r. option_or r (slice_get (function_duplicates (seen ++ f.name ∷ []) (drop (i + 1) funcs)) 0)) none)
     ∙ before
 
@@ -68,7 +69,7 @@ pub function_stopped : (seen : List Name) (funcs : List Func) (i : ℕ) (f : Fun
     → slice_get (at_sign (repeats seen (f.name ∷ [])) ++ percent_sign (repeats [] (locals f))) 0 ≡ Some x
     → slice_get (function_duplicates seen (drop i funcs)) 0 ≡ Some x
 function_stopped seen funcs i f x below here found =
-    ap (λ r. slice_get (function_duplicates seen r) 0) (drop_item funcs i f below here) ∙ functions_next seen f (drop (i + 1) funcs)
+    ap (λ r. slice_get (function_duplicates seen r) 0) (drop_next funcs i f below here) ∙ functions_next seen f (drop (i + 1) funcs)
     ∙ ap (λ r. option_or r (slice_get (function_duplicates (seen ++ f.name ∷ []) (drop (i + 1) funcs)) 0)) found
 
 -- two lists of names, one behind the other

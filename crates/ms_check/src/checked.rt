@@ -3,14 +3,14 @@ ghost use Rattle.std.specs.Prelude.{◌≡◌, None, IfErr, IfOk, IfSome, OnOk};
 ghost use Rattle.ms_valid.specs.Formed.{Formed};
 ghost use Rattle.ms_valid.specs.Refusals.{IsRefused};
 ghost use Rattle.ms_valid.specs.Valid.{Valid};
-ghost use Rattle.ms_code_data.specs.Compiled.{Compiled};
+ghost use Rattle.ms_code.specs.Compiled.{Compiled};
 ghost use Rattle.ms_check.specs.Faults.{fault_of};
 
 use crate::clauses::all_hold;
 use crate::errors::CheckError;
 use ms_bits::{Duplicate, NoMemory};
-use ms_code::compile;
-use ms_code_data::Program;
+use ms_code::Program;
+use ms_compile::compile;
 use ms_ir::Module;
 use std::alloc::Global;
 use std::marker::Model;
@@ -28,7 +28,7 @@ impl Model for CheckedModule {
     ghost use Rattle.ms_ir.specs.contracts.syntax.Module as modules;
     ghost use Rattle.ms_valid.specs.Formed.{Formed};
     ghost use Rattle.ms_valid.specs.Valid.{Valid};
-    ghost use Rattle.ms_code_data.specs.Compiled.{Compiled};
+    ghost use Rattle.ms_code.specs.Compiled.{Compiled};
 
     ghost Value = { Module };
 

@@ -18,7 +18,7 @@ use Rattle.ms_ir.specs.declared.syntax.Inst.{Inst}
 use Rattle.ms_ir.specs.declared.syntax.Block.{Block}
 use Rattle.ms_ir.specs.declared.syntax.Func.{Func}
 use Rattle.ms_ir.specs.declared.syntax.Module.{Module}
-use Rattle.ms_ir.specs.Code.{operands, block_index, func_at, insts_at, site_at}
+use Rattle.ms_ir.specs.Instructions.{operands, block_index, func_at, insts_at, site_at}
 use Rattle.ms_ir.specs.Equal.{has_name}
 use Rattle.ms_valid.specs.FlowGraph.{graph_of}
 use Rattle.ms_valid.specs.Paths.{block_successors}
@@ -28,13 +28,9 @@ use Rattle.ms_valid.specs.TypesAgree.{first_misfit, fault_unless, differ, operan
 use Rattle.ms_ir.specs.Written.{targets, block_targets}
 use Rattle.ms_valid.proofs.Finding.{both_empty, at_insts}
 use Rattle.ms_valid.proofs.NamePlaces.{index_below}
+use Rattle.ms_valid.proofs.AtInstructions.{no_fault}
 
 -- ---- one instruction
-
--- no fault is listed where there is none
-no_fault : (site : ℕ) (o : Option ℕ) → at_site site o ≡ [] → o ≡ None
-no_fault site None e = refl
-no_fault site (Some k) e = grind arith
 
 second_none : (a b : Option ℕ) → option_or a b ≡ None → b ≡ None
 second_none None b e = e

@@ -15,8 +15,9 @@ use Rattle.ms_ir.specs.Names.{name_eq}
 use Rattle.ms_ir.specs.Equal.{has_name, operand_eq}
 use Rattle.ms_valid.specs.FlowGraph.{name_place}
 use Rattle.ms_ir.specs.Locals.{block_names}
+use Rattle.ms_ir.proofs.RootKinds.{name_same as name_sound}
 use Rattle.ms_valid.specs.PhisFit.{count_name, edges_between, edges_agree, phi_fits}
-use Rattle.ms_valid.proofs.NameTests.{name_same, name_sound}
+use Rattle.ms_valid.proofs.NameTests.{name_same}
 use Rattle.ms_check_flow.specs.Arriving.{arrivals}
 use Rattle.ms_check_flow.specs.Counted.{count_of}
 use Rattle.ms_check_flow.specs.Fitting.{Agree, FitsRow}

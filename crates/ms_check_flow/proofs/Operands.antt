@@ -1,27 +1,19 @@
 -- The operands of an instruction, noted one after the other.
-use Rattle.std.proofs.Common.{◌≡◌, ℕ, ◌+◌, List, [], ◌∷◌, ◌++◌, false, map, not, refl, sym, ap, ◌∙◌, add-one, append_assoc, take, true≢false}
-use Rattle.std.specs.Prelude.{flat_map, option_to_list, slice_get}
-use Rattle.std.proofs.lemmas.Grind.{flat_map-append}
+use Rattle.std.proofs.Common.{◌≡◌, ℕ, ◌+◌, List, [], ◌∷◌, ◌++◌, false, map, not, refl, ap, true≢false}
+use Rattle.std.specs.Prelude.{flat_map}
 use Rattle.ms_ir.specs.declared.syntax.Name.{Name}
 use Rattle.ms_ir.specs.declared.syntax.Op.{Op}
 use Rattle.ms_ir.specs.declared.syntax.Op.TheVariants as op
-use Rattle.ms_ir.specs.Code.{operands, is_phi}
+use Rattle.ms_ir.specs.Instructions.{operands, is_phi}
 use Rattle.ms_ir.specs.Equal.{has_name}
 use Rattle.ms_ir.specs.Locals.{entry_name}
 use Rattle.ms_ir.specs.Spots.{Spot}
 use Rattle.ms_ir.specs.Written.{targets}
 use Rattle.ms_valid.specs.PhisFit.{edges_fit}
-use Rattle.ms_tables.proofs.Items.{one_more}
 use Rattle.ms_check_flow.specs.declared.numbers.Numbers.{Numbers}
 use Rattle.ms_check_flow.specs.Noted.{op_noted, operand_noted}
 
 -- ---- in turn
-
-pub noted_next : {A B : Type 0} (h : A → List B) (xs : List A) (k : ℕ) (start before after : List B) → after ≡ before ++ flat_map h (option_to_list (slice_get xs k))
-    → before ≡ start ++ flat_map h (take k xs) → after ≡ start ++ flat_map h (take (k + 1) xs)
-noted_next h xs k start before after next so_far =
-    next ∙ ap (λ l. l ++ flat_map h (option_to_list (slice_get xs k))) so_far ∙ append_assoc start (flat_map h (take k xs)) (flat_map h (option_to_list (slice_get xs k)))
-    ∙ ap (λ l. start ++ l) (sym (flat_map-append h (take k xs) (option_to_list (slice_get xs k))) ∙ ap (flat_map h) (sym (ap (λ n. take n xs) (add-one k) ∙ one_more xs k)))
 
 -- ---- instructions that are no phis
 

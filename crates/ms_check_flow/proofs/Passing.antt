@@ -2,11 +2,11 @@
 use Rattle.std.proofs.Common.{◌≡◌, ℕ, ◌+◌, ◌<◌, ◌≤◌, ◌^◌, List, [], ◌∷◌, ◌++◌, Some, refl, sym, ap, subst, ◌∙◌, arith, append_assoc, append-nil, length, drop}
 use Rattle.std.specs.Prelude.{All, slice_get, slice_index_or}
 use Rattle.std.proofs.lemmas.List.{drop_more, drop_all}
-use Rattle.std.proofs.lemmas.List.Elements.{All-nil, All-append}
+use Rattle.std.proofs.lemmas.List.Elements.{All-append}
 use Rattle.std.proofs.lemmas.Option.{slice_get_read}
 use Rattle.ms_ir.specs.declared.syntax.Func.{Func}
 use Rattle.ms_ir.specs.declared.syntax.Module.{Module}
-use Rattle.ms_ir.specs.Code.{one_unmarked, over_blocks, over_funcs}
+use Rattle.ms_ir.specs.Instructions.{one_unmarked, over_blocks, over_funcs}
 use Rattle.ms_ir.specs.Spots.{over_func_spots}
 use Rattle.ms_valid.specs.Formed.{Formed, count_written}
 use Rattle.ms_valid.specs.Refusals.{UpToPhis, IsFirstUndefined}
@@ -62,9 +62,6 @@ can_be_asked m formed before site i f l is few passed =
     }
 
 -- ---- behind a function
-
-pub none_passed : (m : Module) (site : ℕ) (fs : List Func) → uses m ≡ uses_from site fs → IsPassed m (uses_from site (drop 0 fs))
-none_passed m site fs is = record { earlier = []; splits = is; defined = All-nil IsUseDefined }
 
 -- a function all of whose uses are defined
 pub func_passed : (m : Module) (site next i : ℕ) (f : Func) → i < length m.funcs → f ≡ slice_index_or m.funcs i f → next ≡ site + over_blocks one_unmarked f.blocks

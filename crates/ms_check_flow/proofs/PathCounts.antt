@@ -14,7 +14,7 @@ use Rattle.ms_ir.specs.declared.syntax.Op.TheVariants as op
 use Rattle.ms_ir.specs.declared.syntax.Inst.{Inst}
 use Rattle.ms_ir.specs.declared.syntax.Block.{Block}
 use Rattle.ms_ir.specs.declared.syntax.Func.{Func}
-use Rattle.ms_ir.specs.Code.{operands, one_unmarked, over_insts, over_blocks}
+use Rattle.ms_ir.specs.Instructions.{operands, one_unmarked, over_insts, over_blocks}
 use Rattle.ms_ir.specs.Equal.{has_name}
 use Rattle.ms_valid.specs.FlowGraph.{name_place, value_names}
 use Rattle.ms_valid.specs.Formed.{count_written, block_formed, func_formed}

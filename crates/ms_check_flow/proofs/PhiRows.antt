@@ -1,6 +1,6 @@
 -- A phi fits its block where its edges are those of the block's row.
-use Rattle.std.proofs.Common.{◌≡◌, ℕ, List, [], ◌∷◌, Bool, true, false, refl, sym, ap, subst, ◌∙◌, arith}
-use Rattle.std.specs.Prelude.{◌<◌, ◌↔◌, length, All, IsTrue, Option, None, Some, option_map, unwrap_or, Result, Ok, Err, IfOk, slice_get, slice_index_or, if◌then◌else◌}
+use Rattle.std.proofs.Common.{◌≡◌, ℕ, List, [], Bool, true, refl, sym, ap, subst, ◌∙◌, arith}
+use Rattle.std.specs.Prelude.{◌<◌, ◌↔◌, length, All, IsTrue, Some, option_map, unwrap_or, Result, Ok, Err, IfOk, slice_get, slice_index_or}
 use Rattle.std.proofs.lemmas.List.{length-map}
 use Rattle.std.proofs.lemmas.Option.{slice_get_read}
 use Rattle.ms_ir.specs.declared.syntax.Name.{Name}
@@ -13,7 +13,7 @@ use Rattle.ms_ir.specs.declared.syntax.Block.{Block}
 use Rattle.ms_ir.specs.declared.syntax.Func.{Func}
 use Rattle.ms_ir.specs.Equal.{has_name}
 use Rattle.ms_valid.specs.FlowGraph.{name_place}
-use Rattle.ms_ir.specs.Locals.{block_names, entry_name}
+use Rattle.ms_ir.specs.Locals.{block_names}
 use Rattle.ms_valid.specs.PhisFit.{edges_fit, phi_fits}
 use Rattle.ms_ir.specs.Spots.{spot}
 use Rattle.ms_check_flow.specs.declared.edges.Edges.{Edges}
@@ -79,13 +79,3 @@ phi_judged f into h k b n at is r edges judged t o phi place site =
         subst (λ names. FitsRow names (length into.arrivals) (slice_index_or into.arrivals n []) edges) (sym h.names)
         (subst (λ size. FitsRow (block_names f) size (slice_index_or into.arrivals n []) edges) (sym h.len)
         (subst (λ row. FitsRow (block_names f) (length f.blocks) row edges) (sym (row_there f into h k b n at is)) w))
-
--- the name of the entry block
-pub entry_is : (f : Func) (xs : List Block) (b : Block) → xs ≡ f.blocks → 0 < length f.blocks → b ≡ slice_index_or xs 0 b → b.name ≡ entry_name f
-entry_is f xs b same filled is =
-    sym (ap (λ (o : Option Block). unwrap_or (option_map (λ (z : Block). z.name) o) (Number 0)) (block_there xs f.blocks 0 b same filled is))
-
--- what a look at an instruction tells
-pub told : (r : Bool) (e : Bool) (site : ℕ) → r ≡ e → slice_get (if e then [] else site ∷ []) 0 ≡ (if r then None else Some site)
-told r true site is = ap (λ t. if t then None else Some site) (sym is)
-told r false site is = ap (λ t. if t then None else Some site) (sym is)

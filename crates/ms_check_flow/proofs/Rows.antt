@@ -6,14 +6,13 @@ use Rattle.ms_flow.specs.declared.graphs.Graph.{Graph}
 use Rattle.ms_ir.specs.declared.syntax.Name.{Name}
 use Rattle.ms_ir.specs.declared.syntax.Block.{Block}
 use Rattle.ms_ir.specs.declared.syntax.Func.{Func}
-use Rattle.ms_ir.specs.Code.{block_index}
+use Rattle.ms_ir.specs.Instructions.{block_index}
 use Rattle.ms_ir.specs.Locals.{block_names}
 use Rattle.ms_ir.specs.Written.{block_targets}
-use Rattle.ms_valid.specs.FlowGraph.{name_place, value_names, graph_of}
+use Rattle.ms_valid.specs.FlowGraph.{name_place, graph_of}
 use Rattle.ms_valid.specs.Paths.{block_successors}
 use Rattle.ms_valid.proofs.NamePlaces.{index_is}
 use Rattle.ms_check_flow.specs.declared.numbers.Numbers.{Numbers}
-use Rattle.ms_check_flow.specs.Noted.{numbers_in}
 use Rattle.ms_check_flow.specs.Numbered.{AreNumbersOf, next_row, defs_row}
 
 indices_are : (blocks : List Block) (xs : List Name) → map (name_place (map (λ b. b.name) blocks)) xs ≡ map (block_index blocks) xs
@@ -34,11 +33,3 @@ graph_is f n next defs are nexts defines =
     ap₂ graph_with
     (nexts ∙ ap (λ names. map (next_row names) f.blocks) are.blocks ∙ next_is f f.blocks)
     (defines ∙ ap (λ names. map (defs_row names) f.blocks) are.values)
-
-abbrev numbers_by : (blocks values parameters : List Name) → Numbers
-numbers_by blocks values parameters = record { blocks = blocks; values = values; parameters = parameters }
-
--- the numbers of a function
-pub numbers_are : (f : Func) (n : Numbers) → AreNumbersOf f n → n ≡ numbers_in f
-numbers_are f n are =
-    ap₂ (λ blocks values. numbers_by blocks values n.parameters) are.blocks are.values ∙ ap (numbers_by (block_names f) (value_names f)) are.parameters

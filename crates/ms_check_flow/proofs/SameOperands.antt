@@ -6,9 +6,9 @@ use Rattle.ms_ir.specs.declared.syntax.Ty.{Ty}
 use Rattle.ms_ir.specs.declared.syntax.Operand.{Operand}
 use Rattle.ms_ir.specs.declared.syntax.Operand.TheVariants as operand
 use Rattle.ms_ir.specs.Names.{name_eq}
-use Rattle.ms_ir.specs.Equal.{Step, type_eq, indices_eq, steps_eq, operand_eq}
+use Rattle.ms_ir.specs.Equal.{AddressStep, type_eq, indices_eq, steps_eq, operand_eq}
 use Rattle.ms_ir.specs.TypeLaws.{type_eq_equiv}
-use Rattle.ms_valid.proofs.NameTests.{name_sound}
+use Rattle.ms_ir.proofs.RootKinds.{name_same}
 
 -- two tests that pass
 pub both : {a b : Bool} → a ≡ true → b ≡ true → (a && b) ≡ true
@@ -34,7 +34,7 @@ indices_trans (i ∷ is) (j ∷ js) (k ∷ ks) e f =
     both (both (type_trans i.0 j.0 k.0 one.0 other.0) (subst (λ z. nat_eq z k.1 ≡ true) (sym (eqb-true i.1 j.1 one.1)) other.1))
     (indices_trans is js ks first.1 second.1)
 
-steps_trans : (ss ts us : List Step) → steps_eq ss ts ≡ true → steps_eq ts us ≡ true → steps_eq ss us ≡ true
+steps_trans : (ss ts us : List AddressStep) → steps_eq ss ts ≡ true → steps_eq ts us ≡ true → steps_eq ss us ≡ true
 steps_trans [] [] us e f = f
 steps_trans [] (t ∷ ts) us e f = never e
 steps_trans (s ∷ ss) [] us e f = never e
@@ -57,13 +57,13 @@ operand_trans operand.Undef b c e f = never e
 operand_trans operand.Poison operand.Undef c e f = f
 operand_trans operand.Poison operand.Poison c e f = f
 operand_trans operand.Poison b c e f = never e
-operand_trans (operand.Local x) (operand.Local y) c e f = subst (λ z. operand_eq (operand.Local z) c ≡ true) (sym (name_sound x y e)) f
+operand_trans (operand.Local x) (operand.Local y) c e f = subst (λ z. operand_eq (operand.Local z) c ≡ true) (sym (name_same x y e)) f
 operand_trans (operand.Local x) b c e f = never e
-operand_trans (operand.Global x) (operand.Global y) c e f = subst (λ z. operand_eq (operand.Global z) c ≡ true) (sym (name_sound x y e)) f
+operand_trans (operand.Global x) (operand.Global y) c e f = subst (λ z. operand_eq (operand.Global z) c ≡ true) (sym (name_same x y e)) f
 operand_trans (operand.Global x) b c e f = never e
 operand_trans (operand.Offset x ss) (operand.Offset y ts) (operand.Offset z us) e f =
     let one = and_parts (name_eq x y) (steps_eq ss ts) e in
     let other = and_parts (name_eq y z) (steps_eq ts us) f in
-    both (subst (λ w. name_eq w z ≡ true) (sym (name_sound x y one.0)) other.0) (steps_trans ss ts us one.1 other.1)
+    both (subst (λ w. name_eq w z ≡ true) (sym (name_same x y one.0)) other.0) (steps_trans ss ts us one.1 other.1)
 operand_trans (operand.Offset x ss) (operand.Offset y ts) c e f = never f
 operand_trans (operand.Offset x ss) b c e f = never e

@@ -14,7 +14,7 @@ use Rattle.ms_ir.specs.declared.syntax.Op.TheVariants as op
 use Rattle.ms_ir.specs.declared.syntax.Inst.{Inst}
 use Rattle.ms_ir.specs.declared.syntax.Block.{Block}
 use Rattle.ms_ir.specs.declared.syntax.Func.{Func}
-use Rattle.ms_ir.specs.Code.{operands, block_index, one_unmarked, over_insts}
+use Rattle.ms_ir.specs.Instructions.{operands, block_index, one_unmarked, over_insts}
 use Rattle.ms_ir.specs.Equal.{has_name}
 use Rattle.ms_ir.specs.Locals.{results, parameter_names}
 use Rattle.ms_valid.specs.Paths.{ValueUse, insts_of}

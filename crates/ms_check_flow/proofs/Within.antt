@@ -18,7 +18,7 @@ use Rattle.ms_ir.specs.declared.syntax.Block.{Block}
 use Rattle.ms_ir.specs.declared.syntax.Func.{Func}
 use Rattle.ms_ir.specs.declared.syntax.Module.{Module}
 use Rattle.ms_ir.specs.Names.{name_eq}
-use Rattle.ms_ir.specs.Code.{operands, block_index, func_at, blocks_at, insts_at, site_at, is_phi}
+use Rattle.ms_ir.specs.Instructions.{operands, block_index, func_at, blocks_at, insts_at, site_at, is_phi}
 use Rattle.ms_ir.specs.Equal.{has_name}
 use Rattle.ms_ir.specs.Locals.{locals, block_names, block_name_at, Spelled}
 use Rattle.ms_valid.specs.NamesKnown.{knows, spelled, unknown_of, global_mentions}
@@ -32,6 +32,7 @@ use Rattle.ms_valid.proofs.Finding.{both_empty, at_insts}
 use Rattle.ms_valid.proofs.Joining.{from_module}
 use Rattle.ms_valid.proofs.NamePlaces.{index_below}
 use Rattle.ms_valid.proofs.NameTests.{name_same}
+use Rattle.ms_valid.proofs.AtInstructions.{passes_test}
 use Rattle.ms_check_flow.specs.Asked.{IsWithin}
 use Rattle.ms_check_flow.proofs.Arrived.{from_known}
 
@@ -149,11 +150,6 @@ block_there blocks b p inst due = by_block (slice_get blocks b) refl due
     by_block : (o : Option Block) → slice_get blocks b ≡ o → slice_get (unwrap_or (option_map (λ (k : Block). k.insts) o) []) p ≡ Some inst → b < length blocks
     by_block None is due = absurd (none-some inst due)
     by_block (Some k) is due = slice_get_within blocks b k is
-
--- a site is not listed where a test passes
-passes_test : (t : Bool) (site : ℕ) → (if t then [] else site ∷ []) ≡ [] → t ≡ true
-passes_test true site e = refl
-passes_test false site e = grind arith
 
 pub uses_within : (m : Module) → UpToPhis m → All IsWithin (uses m)
 uses_within m before =

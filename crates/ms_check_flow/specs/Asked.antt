@@ -2,7 +2,7 @@
 use Rattle.std.specs.Prelude.{◌≡◌, ◌≢◌, ℕ, ◌+◌, ◌^◌, ◌<◌, List, ◌∷◌, ◌++◌, length, All, AllPairs, IsTrue}
 use Rattle.ms_flow.specs.Search.{StaysIn}
 use Rattle.ms_ir.specs.declared.syntax.Func.{Func}
-use Rattle.ms_ir.specs.Code.{over_blocks}
+use Rattle.ms_ir.specs.Instructions.{over_blocks}
 use Rattle.ms_ir.specs.Equal.{has_name}
 use Rattle.ms_valid.specs.Formed.{count_written}
 use Rattle.ms_ir.specs.Locals.{locals}

@@ -8,7 +8,7 @@ use Rattle.ms_ir.specs.declared.syntax.Op.TheVariants as op
 use Rattle.ms_ir.specs.declared.syntax.Inst.{Inst}
 use Rattle.ms_ir.specs.declared.syntax.Block.{Block}
 use Rattle.ms_ir.specs.declared.syntax.Func.{Func}
-use Rattle.ms_ir.specs.Code.{operands, one_unmarked, over_insts}
+use Rattle.ms_ir.specs.Instructions.{operands, one_unmarked, over_insts}
 use Rattle.ms_ir.specs.Equal.{has_name}
 use Rattle.ms_ir.specs.Locals.{block_names, parameter_names}
 use Rattle.ms_valid.specs.FlowGraph.{name_place, value_names, graph_of}

@@ -9,7 +9,7 @@ use crate::arrivals::Arrivals;
 use crate::graphs::next_of;
 use ms_bits::NoMemory;
 use ms_ir::{Block, Func};
-use ms_tables::{Names, block_numbers, number};
+use ms_tables::{Names, block_numbers, name_place};
 use std::alloc::Global;
 
 /// The blocks of a function by their names, and the edges into each.
@@ -49,7 +49,11 @@ fn add_block(
     ensures { OnOk result (Joined (edges_to (name_place blocks.now block.now.name) (map (name_place blocks.now) (block_targets block.now))) arrivals.old arrivals.new) }
 {
     let targets = next_of(alloc, blocks, block.insts.as_slice())?;
-    add_edges(number(blocks, &block.name), targets.as_slice(), arrivals)
+    add_edges(
+        name_place(blocks, &block.name),
+        targets.as_slice(),
+        arrivals,
+    )
 }
 
 /// The edges into each block of a function.

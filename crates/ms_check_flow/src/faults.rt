@@ -14,7 +14,7 @@ use crate::edges::{Edges, find_edges};
 use crate::phis::{Notes, fits_row, phi_edges};
 use ms_bits::NoMemory;
 use ms_ir::{Func, Inst, Module, Name, Op};
-use ms_tables::{Clause, Here, first_fault, number};
+use ms_tables::{Clause, Here, first_fault, name_place};
 use std::alloc::Global;
 
 /// The edges of a function, and notes on its blocks.
@@ -83,7 +83,7 @@ fn fits(
     match phi_edges(op) {
         Some(edges) => {
             let blocks = func.blocks.as_slice();
-            let to = number(&into.blocks, &blocks[block].name);
+            let to = name_place(&into.blocks, &blocks[block].name);
             fits_row(into, notes, to, edges)
         }
         None => Ok(!goes_to(op, entry_label(func))),

@@ -1,6 +1,6 @@
 //! The uses of one instruction.
 ghost use Rattle.std.specs.Prelude.{◌≡◌, ◌++◌, flat_map, map, option_to_list, slice_get, OnOk};
-ghost use Rattle.ms_ir.specs.Code.{operands};
+ghost use Rattle.ms_ir.specs.Instructions.{operands};
 ghost use Rattle.ms_check_flow.specs.Noted.{value_here, operand_here, edge_here, op_here};
 
 use crate::numbers::Numbers;
@@ -8,7 +8,7 @@ use crate::phis::phi_edges;
 use ms_bits::NoMemory;
 use ms_flow::Use;
 use ms_ir::{Name, Op, Operand};
-use ms_tables::{NameTable, number};
+use ms_tables::{NameTable, name_place};
 
 /// A use of a value that is no parameter.
 #[derive(Clone, Copy)]
@@ -46,7 +46,7 @@ impl Here<'_, '_> {
         if self.numbers.parameters.contains(name) {
             return Ok(());
         }
-        let value = number(&self.numbers.values, name);
+        let value = name_place(&self.numbers.values, name);
         noted.push(NotedUse {
             site: self.site,
             place: Use {
@@ -94,7 +94,7 @@ impl Here<'_, '_> {
     {
         match &edge.0 {
             Operand::Local(name) => {
-                let from = number(&self.numbers.blocks, &edge.1);
+                let from = name_place(&self.numbers.blocks, &edge.1);
                 self.note(from, true, name, noted)
             }
             _ => Ok(()),

@@ -2,7 +2,7 @@
 ghost use Rattle.std.specs.Prelude.{◌≡◌, ◌≢◌, ◌+◌, ◌<◌, ◌^◌, ◌↔◌, length, map, take, slice_get, IfOk, IfNone, IfSome, IsNone, OnOk, All, AllPairs};
 ghost use Rattle.ms_flow.specs.Paths.{IsDefined, Misses};
 ghost use Rattle.ms_flow.specs.Search.{StaysIn};
-ghost use Rattle.ms_ir.specs.Code.{one_unmarked, over_blocks};
+ghost use Rattle.ms_ir.specs.Instructions.{one_unmarked, over_blocks};
 ghost use Rattle.ms_valid.specs.Formed.{Formed};
 ghost use Rattle.ms_valid.specs.Refusals.{UpToPhis, IsFirstUndefined};
 ghost use Rattle.ms_valid.specs.UsesDefined.{IsUseDefined, UsesDefined};

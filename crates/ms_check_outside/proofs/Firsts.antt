@@ -1,10 +1,11 @@
 -- The first of lists, one after the other.
-use Rattle.std.proofs.Common.{◌≡◌, ◌<◌, ◌≤◌, ℕ, ◌+◌, List, Option, Some, None, sym, ap, ◌∙◌, length, drop, get_or, drop_of_length-le, Bool, true, false}
+use Rattle.std.proofs.Common.{◌≡◌, ◌<◌, ℕ, ◌+◌, List, Option, Some, None, sym, ap, ◌∙◌, length, drop, get_or, Bool, true, false}
 use Rattle.std.specs.Prelude.{flat_map, slice_get}
 use Rattle.std.specs.Option.{option_or}
 use Rattle.ms_ir.specs.declared.syntax.Name.{Name}
+use Rattle.ms_ir.proofs.Sizes.{drop_next}
 use Rattle.ms_valid.specs.ExternalsFit.{name_unless}
-use Rattle.ms_tables.proofs.Items.{drop_item, first-append}
+use Rattle.ms_tables.proofs.Items.{first-append}
 
 -- the first that items give, from a place on
 abbrev pub first_from : {A B : Type 0} → (A → List B) → List A → ℕ → Option B
@@ -12,7 +13,7 @@ first_from g items i = slice_get (flat_map g (drop i items)) 0
 
 from_here : {A B : Type 0} (g : A → List B) (items : List A) (i : ℕ) (item : A) → i < length items → item ≡ get_or items i item
     → first_from g items i ≡ option_or (slice_get (g item) 0) (first_from g items (i + 1))
-from_here g items i item below here = ap (λ r. slice_get (flat_map g r) 0) (drop_item items i item below here) ∙ first-append (g item) (flat_map g (drop (i + 1) items))
+from_here g items i item below here = ap (λ r. slice_get (flat_map g r) 0) (drop_next items i item below here) ∙ first-append (g item) (flat_map g (drop (i + 1) items))
 
 pub passed : {A B : Type 0} (g : A → List B) (items : List A) (i : ℕ) (item : A) (whole : Option B) → i < length items → item ≡ get_or items i item → slice_get (g item) 0 ≡ None
     → first_from g items i ≡ whole → first_from g items (i + 1) ≡ whole
@@ -21,9 +22,6 @@ passed g items i item whole below here none before = sym (from_here g items i it
 pub stopped : {A B : Type 0} (g : A → List B) (items : List A) (i : ℕ) (item : A) (found : B) (whole : Option B) → i < length items → item ≡ get_or items i item → slice_get (g item) 0 ≡ Some found
     → first_from g items i ≡ whole → Some found ≡ whole
 stopped g items i item found whole below here some before = sym (from_here g items i item below here ∙ ap (λ r. option_or r (first_from g items (i + 1))) some) ∙ before
-
-pub ended : {A B : Type 0} (g : A → List B) (items : List A) (i : ℕ) (whole : Option B) → length items ≤ i → first_from g items i ≡ whole → None ≡ whole
-ended g items i whole past before = ap (λ r. slice_get (flat_map g r) 0) (sym (drop_of_length-le items past)) ∙ before
 
 -- a name, where something holds, and where it doesn't
 pub name_fits : (holds : Bool) (x : Name) → holds ≡ true → slice_get (name_unless holds x) 0 ≡ None

@@ -13,7 +13,7 @@ use Rattle.ms_ir.specs.declared.syntax.Inst.{Inst}
 use Rattle.ms_ir.specs.declared.syntax.Block.{Block}
 use Rattle.ms_ir.specs.declared.syntax.Func.{Func}
 use Rattle.ms_ir.specs.declared.syntax.Module.{Module}
-use Rattle.ms_ir.specs.Code.{one_unmarked, over_insts, over_blocks}
+use Rattle.ms_ir.specs.Instructions.{one_unmarked, over_insts, over_blocks}
 use Rattle.ms_ir.specs.Names.{lookup, externals, is_kept}
 use Rattle.ms_ir.specs.Equal.{has_name}
 use Rattle.ms_ir.specs.Locals.{function_names}

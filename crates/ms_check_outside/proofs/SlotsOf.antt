@@ -1,5 +1,5 @@
 -- The slots, two by two.
-use Rattle.std.proofs.Common.{◌≡◌, ℕ, Bool, true, false, refl, sym, ap, ◌∙◌, take, drop}
+use Rattle.std.proofs.Common.{◌≡◌, ℕ, Bool, true, false, sym, ap, ◌∙◌, take, drop}
 use Rattle.std.specs.Prelude.{◌||◌, ◌&&◌}
 use Rattle.std.specs.List.{list_any}
 use Rattle.std.proofs.lemmas.Bool.{eq-eqb}
@@ -8,12 +8,8 @@ use Rattle.ms_ir.specs.declared.syntax.Ty.{Ty, Int, Array}
 use Rattle.ms_ir.specs.declared.syntax.GlobalVar.{GlobalVar}
 use Rattle.ms_ir.specs.Equal.{type_eq}
 use Rattle.ms_ir.specs.Signatures.{slot_globals}
+use Rattle.ms_ir.proofs.Differing.{and_true, type_eq-array}
 use Rattle.ms_valid.specs.ExternalsFit.{slot_eq}
-use Rattle.ms_valid.proofs.TypeShapes.{type_eq-array}
-
-and_end : (b : Bool) → (b && true) ≡ b
-and_end true = refl
-and_end false = refl
 
 -- the first of two, where it holds
 pub or_then : (r a b : Bool) → r ≡ a → r ≡ true → r ≡ (a || b)
@@ -24,7 +20,7 @@ pub row_is : (x : Ty) (n : ℕ) (t : Ty) (width : ℕ) (r : Bool) → x ≡ Arra
 row_is x n t width r is hundred found =
     found
     ∙ sym (ap (λ y. type_eq y (Array 100 (Int width))) is ∙ type_eq-array n 100 t (Int width) ∙ ap (λ b. b && (type_eq t (Int width) && true)) (eq-eqb n 100 hundred)
-    ∙ and_end (type_eq t (Int width)))
+    ∙ and_true (type_eq t (Int width)))
 
 halves : (g : GlobalVar) → list_any (slot_eq g) slot_globals ≡ (list_any (slot_eq g) (take 2 slot_globals) || list_any (slot_eq g) (drop 2 slot_globals))
 halves g = list_any-append (slot_eq g) (take 2 slot_globals) (drop 2 slot_globals)

@@ -5,8 +5,8 @@ ghost use Rattle.std.specs.List.{list_all};
 ghost use Rattle.ms_valid.specs.ExternalsFit.{is_no_flag, is_number, flag_fits};
 ghost use Rattle.ms_check_outside.specs.Outside.{is_misflagged, flagged_in, flagged_among, flagged_within};
 
-use crate::slots::{is_int, is_nought};
-use ms_ir::{Block, External, Inst, Name, Op, Operand, Ty};
+use crate::slots::is_nought;
+use ms_ir::{Block, External, Inst, Name, Op, Operand, Ty, is_int};
 use ms_tables::NameTable;
 
 /// Whether an argument is `false`, or no `i1`.

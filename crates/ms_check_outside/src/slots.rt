@@ -9,17 +9,7 @@ ghost use Rattle.ms_valid.specs.ExternalsFit.{is_false, start_eq, slot_eq, globa
 ghost use Rattle.ms_ir.specs.Names.{slot_name};
 ghost use Rattle.ms_ir.specs.Signatures.{variable, slot_globals};
 
-use ms_ir::{GlobalVar, Init, Operand, Slot, Ty};
-
-/// Whether a type is the integer type of a width.
-pub fn is_int(ty: &Ty, width: u8) -> bool
-    ensures { result ≡ type_eq ty.now (IntType width) }
-{
-    match ty {
-        Ty::Int(n) => *n == width,
-        _ => false,
-    }
-}
+use ms_ir::{GlobalVar, Init, Operand, Slot, Ty, is_int};
 
 /// Whether a type is an array of 100 integers of a width.
 fn is_row(ty: &Ty, width: u8) -> bool

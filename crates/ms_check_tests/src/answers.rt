@@ -103,7 +103,7 @@ fn is_answered(alloc: Global, m: Module, text: &[u8], want: &Want) -> bool
 }
 
 /// Whether the check answers so on the module that is read from a text, and hands this module back.
-#[tactic(auto, unfolding(ms_grammar::specs::Texts::max_bytes))]
+#[tactic(auto, unfolding(ms_text_grammar::specs::Texts::max_bytes))]
 pub fn agrees(alloc: Global, text: &[u8], want: &Want) -> bool {
     if text.len() > 1 << 20 {
         return false;

@@ -46,38 +46,92 @@ d:
 static PAIRS: [Differing; 11] = [
     Differing(PARTS, PARTS, true),
     Differing("", PARTS, false),
-    Differing("@g = global i8 1\n", "@g = global i8 1\n", true),
-    Differing("@g = global i8 1\n", "@g = global i8 2\n", false),
-    Differing("@g = global i8 1\n", "@g = constant i8 1\n", false),
-    Differing("@g = global i8 undef\n", "@g = global i8 poison\n", false),
     Differing(
-        "@g = global [ 3 x ptr ] zeroinitializer\n",
-        "@g = global [ 4 x ptr ] zeroinitializer\n",
-        false,
-    ),
-    Differing("%t = type { i8 }\n", "%t = type < { i8 } >\n", false),
-    Differing(
-        "@g = global ptr getelementptr (i8, ptr getelementptr (i8, ptr @g, i64 1), i64 2)\n",
-        "@g = global ptr getelementptr (i8, ptr getelementptr (i8, ptr @g, i64 2), i64 1)\n",
-        false,
+        r#"@g = global i8 1
+"#,
+        r#"@g = global i8 1
+"#,
+        true,
     ),
     Differing(
-        "define void @f() {\n  %x = xor i8 1, 5\n  ret void\n}\n",
-        "define void @f() {\n  %x = xor i8 1, 6\n  ret void\n}\n",
+        r#"@g = global i8 1
+"#,
+        r#"@g = global i8 2
+"#,
         false,
     ),
     Differing(
-        "define void @f() {\n  %__msan.1 = xor i8 1, 5\n  ret void\n}\n",
-        "define void @f() {\n  %__msan.1 = xor i8 1, 5, !nosanitize !0\n  ret void\n}\n!0 = !{}\n",
+        r#"@g = global i8 1
+"#,
+        r#"@g = constant i8 1
+"#,
+        false,
+    ),
+    Differing(
+        r#"@g = global i8 undef
+"#,
+        r#"@g = global i8 poison
+"#,
+        false,
+    ),
+    Differing(
+        r#"@g = global [ 3 x ptr ] zeroinitializer
+"#,
+        r#"@g = global [ 4 x ptr ] zeroinitializer
+"#,
+        false,
+    ),
+    Differing(
+        r#"%t = type { i8 }
+"#,
+        r#"%t = type < { i8 } >
+"#,
+        false,
+    ),
+    Differing(
+        r#"@g = global ptr getelementptr (i8, ptr getelementptr (i8, ptr @g, i64 1), i64 2)
+"#,
+        r#"@g = global ptr getelementptr (i8, ptr getelementptr (i8, ptr @g, i64 2), i64 1)
+"#,
+        false,
+    ),
+    Differing(
+        r#"define void @f() {
+  %x = xor i8 1, 5
+  ret void
+}
+"#,
+        r#"define void @f() {
+  %x = xor i8 1, 6
+  ret void
+}
+"#,
+        false,
+    ),
+    Differing(
+        r#"define void @f() {
+  %__msan.1 = xor i8 1, 5
+  ret void
+}
+"#,
+        r#"define void @f() {
+  %__msan.1 = xor i8 1, 5, !nosanitize !0
+  ret void
+}
+!0 = !{}
+"#,
         false,
     ),
 ];
 
 /// A function whose parameters' names stand in order: numbers by their size, before texts, and these by their bytes.
 const ORDERED: &str =
-    "define void @f(i8 %0, i8 %1, i8 %2, i8 %3, i8 %4, i8 %5, i8 %6, i8 %7, i8 %8, i8 %9, i8 %10, i8 %\"\", i8 %x, i8 %x10, i8 %x2, i8 %xy) {\n  ret void\n}\n";
+    r#"define void @f(i8 %0, i8 %1, i8 %2, i8 %3, i8 %4, i8 %5, i8 %6, i8 %7, i8 %8, i8 %9, i8 %10, i8 %"", i8 %x, i8 %x10, i8 %x2, i8 %xy) {
+  ret void
+}
+"#;
 
-#[tactic(auto, unfolding(ms_grammar::specs::Texts::max_bytes))]
+#[tactic(auto, unfolding(ms_text_grammar::specs::Texts::max_bytes))]
 fn module_of(alloc: Global, text: &str) -> Result<Module, ReadError> {
     let bytes = text.as_bytes();
     if bytes.len() > 1 << 20 {

@@ -9,8 +9,11 @@ use std::test::Fail;
 struct Layout(&'static str, Option<u64>, u64, &'static [u64]);
 
 /// The named types of the cases.
-const TYPES: &str =
-    "%plain = type { i8, i32, i8 }\n%packed = type < { i8, i32, i8 } >\n%own = type { %own }\n%nested = type { i8, %plain, i64, %packed }\n";
+const TYPES: &str = r#"%plain = type { i8, i32, i8 }
+%packed = type < { i8, i32, i8 } >
+%own = type { %own }
+%nested = type { i8, %plain, i64, %packed }
+"#;
 
 static LAYOUTS: [Layout; 18] = [
     Layout("i1", Some(1), 1, &[]),
@@ -71,7 +74,7 @@ fn first_has_layout(m: &Module, case: &Layout) -> bool {
     }
 }
 
-#[tactic(auto, unfolding(ms_grammar::specs::Texts::max_bytes))]
+#[tactic(auto, unfolding(ms_text_grammar::specs::Texts::max_bytes))]
 fn is_laid_out(alloc: Global, text: &[u8], case: &Layout) -> bool {
     if text.len() > 1 << 20 {
         return false;

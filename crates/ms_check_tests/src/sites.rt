@@ -260,7 +260,7 @@ fn is_numbered(alloc: Global, m: &Module, case: &Numbered) -> bool {
     has_places(m, case.places) && has_roots(alloc, m, case.roots) && leaves(alloc, m, case.left)
 }
 
-#[tactic(auto, unfolding(ms_grammar::specs::Texts::max_bytes))]
+#[tactic(auto, unfolding(ms_text_grammar::specs::Texts::max_bytes))]
 fn agrees(alloc: Global, case: &Numbered) -> bool {
     let text = case.text.as_bytes();
     if text.len() > 1 << 20 {

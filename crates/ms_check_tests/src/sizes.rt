@@ -11,98 +11,133 @@ static SIZES: [Sized; 28] = [
     // One type may have 2^26 bytes, and all globals together have 2^24.
     Sized("", "", Want::Valid),
     Sized(
-        "@a = global [ 67108865 x i8 ] zeroinitializer\n",
+        r#"@a = global [ 67108865 x i8 ] zeroinitializer
+"#,
         "",
         Want::BadSize("@a"),
     ),
     Sized(
-        "@a = global [ 16777216 x i8 ] zeroinitializer\n",
+        r#"@a = global [ 16777216 x i8 ] zeroinitializer
+"#,
         "",
         Want::Valid,
     ),
     Sized(
-        "@a = global [ 16777217 x i8 ] zeroinitializer\n",
+        r#"@a = global [ 16777217 x i8 ] zeroinitializer
+"#,
         "",
         Want::BadSize("@a"),
     ),
     Sized(
-        "@a = global [ 16777200 x i8 ] zeroinitializer\n@b = global [ 16 x i8 ] zeroinitializer\n",
+        r#"@a = global [ 16777200 x i8 ] zeroinitializer
+@b = global [ 16 x i8 ] zeroinitializer
+"#,
         "",
         Want::Valid,
     ),
     Sized(
-        "@a = global [ 16777200 x i8 ] zeroinitializer\n@b = global [ 17 x i8 ] zeroinitializer\n",
+        r#"@a = global [ 16777200 x i8 ] zeroinitializer
+@b = global [ 17 x i8 ] zeroinitializer
+"#,
         "",
         Want::BadSize("@b"),
     ),
     // A global takes at least 16 bytes.
     Sized(
-        "@a = global [ 16777216 x i8 ] zeroinitializer\n@b = global i8 0\n",
+        r#"@a = global [ 16777216 x i8 ] zeroinitializer
+@b = global i8 0
+"#,
         "",
         Want::BadSize("@b"),
     ),
     Sized(
-        "@a = global [ 16777216 x i8 ] zeroinitializer\n@b = global [ 0 x i8 ] zeroinitializer\n@c = global [ 67108865 x i8 ] zeroinitializer\n",
+        r#"@a = global [ 16777216 x i8 ] zeroinitializer
+@b = global [ 0 x i8 ] zeroinitializer
+@c = global [ 67108865 x i8 ] zeroinitializer
+"#,
         "",
         Want::BadSize("@b"),
     ),
     // The slots of the runtime take none.
     Sized(
-        "@a = global [ 16777216 x i8 ] zeroinitializer\n@__msan_param_tls = global [ 100 x i64 ] zeroinitializer\n",
+        r#"@a = global [ 16777216 x i8 ] zeroinitializer
+@__msan_param_tls = global [ 100 x i64 ] zeroinitializer
+"#,
         "",
         Want::Valid,
     ),
     // A part of a type without a size, and one in an initialiser.
     Sized(
-        "@a = global [ 0 x [ 67108865 x i8 ] ] zeroinitializer\n",
+        r#"@a = global [ 0 x [ 67108865 x i8 ] ] zeroinitializer
+"#,
         "",
         Want::BadSize("@a"),
     ),
     Sized(
-        "@a = global ptr getelementptr ([ 67108865 x i8 ], ptr @a, i64 0)\n",
+        r#"@a = global ptr getelementptr ([ 67108865 x i8 ], ptr @a, i64 0)
+"#,
         "",
         Want::BadSize("@a"),
     ),
     Sized(
-        "@a = global ptr getelementptr ([ 67108864 x i8 ], ptr @a, i64 0)\n",
+        r#"@a = global ptr getelementptr ([ 67108864 x i8 ], ptr @a, i64 0)
+"#,
         "",
         Want::Valid,
     ),
     Sized(
-        "@a = global ptr getelementptr (i8, ptr getelementptr ([ 67108865 x i8 ], ptr @a, i64 0), i64 0)\n",
+        r#"@a = global ptr getelementptr (i8, ptr getelementptr ([ 67108865 x i8 ], ptr @a, i64 0), i64 0)
+"#,
         "",
         Want::BadSize("@a"),
     ),
     // A type that holds itself.
     Sized(
-        "%s = type { ptr }\n%t = type { %t }\n",
+        r#"%s = type { ptr }
+%t = type { %t }
+"#,
         "",
         Want::BadSize("%t"),
     ),
     Sized(
-        "%s = type { %t }\n%t = type { %s }\n",
+        r#"%s = type { %t }
+%t = type { %s }
+"#,
         "",
         Want::BadSize("%s"),
     ),
-    Sized("%t = type { ptr }\n", "  %1 = alloca %t\n", Want::Valid),
+    Sized(
+        r#"%t = type { ptr }
+"#,
+        "  %1 = alloca %t\n",
+        Want::Valid,
+    ),
     // Types come before globals, and these before functions.
     Sized(
-        "%t = type { [ 67108865 x i8 ] }\n@a = global [ 67108865 x i8 ] zeroinitializer\n",
+        r#"%t = type { [ 67108865 x i8 ] }
+@a = global [ 67108865 x i8 ] zeroinitializer
+"#,
         "  %1 = alloca [ 67108865 x i8 ]\n",
         Want::BadSize("%t"),
     ),
     Sized(
-        "%t = type { [ 1 x i8 ] }\n@a = global [ 67108865 x i8 ] zeroinitializer\n",
+        r#"%t = type { [ 1 x i8 ] }
+@a = global [ 67108865 x i8 ] zeroinitializer
+"#,
         "  %1 = alloca [ 67108865 x i8 ]\n",
         Want::BadSize("@a"),
     ),
     Sized(
-        "%t = type { [ 1 x i8 ] }\n@a = global [ 1 x i8 ] zeroinitializer\n",
+        r#"%t = type { [ 1 x i8 ] }
+@a = global [ 1 x i8 ] zeroinitializer
+"#,
         "  %1 = alloca [ 67108865 x i8 ]\n",
         Want::BadSize("@main"),
     ),
     Sized(
-        "%t = type { [ 1 x i8 ] }\n@a = global [ 1 x i8 ] zeroinitializer\n",
+        r#"%t = type { [ 1 x i8 ] }
+@a = global [ 1 x i8 ] zeroinitializer
+"#,
         "  %1 = alloca [ 67108864 x i8 ]\n",
         Want::Valid,
     ),
@@ -194,7 +229,13 @@ fn push_all(text: &mut Vec<u8>, pieces: &[&str]) -> bool {
 
 fn is_sized(alloc: Global, case: &Sized) -> bool {
     let mut text = Vec::new(alloc);
-    let pieces = [case.0, "define i32 @main() {\n", case.1, "  ret i32 0\n}\n"];
+    let pieces = [
+        case.0,
+        r#"define i32 @main() {
+"#,
+        case.1,
+        "  ret i32 0\n}\n",
+    ];
     push_all(&mut text, &pieces) && agrees(alloc, &text, &case.2)
 }
 
@@ -211,7 +252,15 @@ fn is_chain(alloc: Global, case: &Chain) -> bool {
     let mut text = Vec::new(alloc);
     push_all(&mut text, &["%t.0 = type { ", case.0, " }\n"])
         && push_types(alloc, &mut text, case.1, case.2)
-        && push_all(&mut text, &["define i32 @main() {\n  ret i32 0\n}\n"])
+        && push_all(
+            &mut text,
+            &[
+                r#"define i32 @main() {
+  ret i32 0
+}
+"#,
+            ],
+        )
         && agrees(alloc, &text, &case.3)
 }
 

@@ -227,38 +227,61 @@ define i32 @main() {
 ];
 
 /// What stands before a global, which is the second, and behind it.
-const TYPES: &str = "%pair = type { i32, i8 }\n@first = global i8 0\n";
+const TYPES: &str = r#"%pair = type { i32, i8 }
+@first = global i8 0
+"#;
 
-const MAIN: &str = "define i32 @main() {\n  ret i32 0\n}\n";
+const MAIN: &str = r#"define i32 @main() {
+  ret i32 0
+}
+"#;
 
 static INITIALISERS: [Line; 9] = [
-    Line("@g = global [ 2 x i8 ] c\"ab\"\n", Want::Valid),
     Line(
-        "@g = global [ 2 x i8 ] c\"abc\"\n",
-        Want::TypeMismatch(0, 1),
-    ),
-    Line(
-        "@g = global [ 2 x i8 ] { i32 1, i8 zeroinitializer }\n",
-        Want::TypeMismatch(0, 1),
-    ),
-    Line(
-        "@g = global %pair { i32 1, i8 zeroinitializer }\n",
+        r#"@g = global [ 2 x i8 ] c"ab"
+"#,
         Want::Valid,
     ),
     Line(
-        "@g = global %pair < { i32 1, i8 zeroinitializer } >\n",
+        r#"@g = global [ 2 x i8 ] c"abc"
+"#,
         Want::TypeMismatch(0, 1),
     ),
     Line(
-        "@g = global i8 { i32 1, i8 zeroinitializer }\n",
+        r#"@g = global [ 2 x i8 ] { i32 1, i8 zeroinitializer }
+"#,
         Want::TypeMismatch(0, 1),
     ),
-    Line("@g = global [ 2 x i8 ] [ i8 1, i8 2 ]\n", Want::Valid),
     Line(
-        "@g = global [ 2 x i8 ] [ i8 1 ]\n",
+        r#"@g = global %pair { i32 1, i8 zeroinitializer }
+"#,
+        Want::Valid,
+    ),
+    Line(
+        r#"@g = global %pair < { i32 1, i8 zeroinitializer } >
+"#,
         Want::TypeMismatch(0, 1),
     ),
-    Line("@g = global ptr @main\n", Want::TypeMismatch(0, 1)),
+    Line(
+        r#"@g = global i8 { i32 1, i8 zeroinitializer }
+"#,
+        Want::TypeMismatch(0, 1),
+    ),
+    Line(
+        r#"@g = global [ 2 x i8 ] [ i8 1, i8 2 ]
+"#,
+        Want::Valid,
+    ),
+    Line(
+        r#"@g = global [ 2 x i8 ] [ i8 1 ]
+"#,
+        Want::TypeMismatch(0, 1),
+    ),
+    Line(
+        r#"@g = global ptr @main
+"#,
+        Want::TypeMismatch(0, 1),
+    ),
 ];
 
 /// Whether the text of a line between these two is answered as the line says.

@@ -8,13 +8,12 @@ use Rattle.std.proofs.lemmas.Option.{same_Some, none-some}
 use Rattle.std.proofs.Math.Path.{ap₂}
 use Rattle.ms_ir.specs.declared.syntax.Ty.{Ty, Array, Struct, Int, Ptr, Array', Struct', Named}
 use Rattle.ms_ir.specs.Layout.{Types, size_of}
-use Rattle.ms_ir.specs.declared.syntax.Name.{Name}
 use Rattle.ms_ir.specs.declared.syntax.Op.{Op}
 use Rattle.ms_ir.specs.declared.syntax.Op.TheVariants as op
 use Rattle.ms_ir.specs.declared.syntax.Func.{Func}
 use Rattle.ms_ir.specs.declared.syntax.Init.{Init}
 use Rattle.ms_ir.specs.declared.syntax.Init as initial
-use Rattle.ms_ir.specs.Code.{operands}
+use Rattle.ms_ir.specs.Instructions.{operands}
 use Rattle.ms_ir.specs.Locals.{func_insts}
 use Rattle.ms_ir.specs.Written.{type_parts, own_types, operand_types, op_types, init_types}
 use Rattle.ms_valid.specs.SizesFit.{sized, func_types}
@@ -34,10 +33,6 @@ and_true false = refl
 -- both, where the first holds
 pub and_then : (r a x y : Bool) → r ≡ true → r ≡ a → x ≡ y → x ≡ (a && y)
 and_then r a x y t e h = h ∙ ap (λ b. b && y) (sym t ∙ e)
-
--- both, where the first doesn't hold
-pub and_else : (r a y : Bool) → r ≡ false → r ≡ a → false ≡ (a && y)
-and_else r a y f e = ap (λ b. b && y) (sym f ∙ e)
 
 -- ---- types
 
@@ -72,11 +67,6 @@ size_itself types Ptr h = (and_parts (is_some (size_of types Ptr)) _ h).0
 size_itself types (Array' n shape item) h = (and_parts (is_some (size_of types (Array' n shape item))) _ h).0
 size_itself types (Struct' p shape fields) h = (and_parts (is_some (size_of types (Struct' p shape fields))) _ h).0
 size_itself types (Named x) h = (and_parts (is_some (size_of types (Named x))) _ h).0
-
--- a named type and its definition
-pub row_sized : (types : Types) (x : Name) (t : Ty) → sized types (Named x ∷ t ∷ []) ≡ (is_some (size_of types (Named x)) && has_sizes types t)
-row_sized types x t =
-    sized_each types (Named x ∷ t ∷ []) ∙ ap₂ (λ a b. a && b) (sym (and_true (is_some (size_of types (Named x))))) (sym (and_true (has_sizes types t)))
 
 -- ---- instructions
 

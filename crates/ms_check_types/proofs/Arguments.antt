@@ -1,9 +1,9 @@
 -- Arguments and their parameters, one by one.
 use Rattle.std.proofs.Common.{◌≡◌, ℕ, zero, suc, ◌+◌, ◌<◌, ◌≤◌, List, [], ◌∷◌, length, Bool, true, false, Option, Some, None, refl, sym, ap, ◌∙◌, arith, drop, get_or, add-one}
 use Rattle.std.specs.Prelude.{slice_get, if◌then◌else◌}
-use Rattle.ms_check_types.proofs.Lists.{drop_item}
 use Rattle.ms_ir.specs.declared.syntax.Ty.{Ty}
 use Rattle.ms_ir.specs.declared.syntax.Operand.{Operand}
+use Rattle.ms_ir.proofs.Sizes.{drop_next}
 use Rattle.ms_valid.specs.TypesAgree.{argument_fault}
 use Rattle.ms_check_types.specs.Arguments.{fits_parameter}
 
@@ -48,7 +48,7 @@ module _ (fits : ℕ → Ty × Operand → Bool) where
     pub argument_passed : (k : ℕ) (a : Ty × Operand) (whole : Option ℕ) → k < length args → a ≡ get_or args k a → fits_parameter (fits k) (slice_get params k) a ≡ true
         → argument_fault fits k (drop k params) (drop k args) ≡ whole → argument_fault fits (k + 1) (drop (k + 1) params) (drop (k + 1) args) ≡ whole
     argument_passed k a whole l is ok inv =
-        let e = drop_item args k a l is in
+        let e = drop_next args k a l is in
         let p : fits_parameter (fits k) (slice_get (drop k params) 0) a ≡ true = ap (λ o. fits_parameter (fits k) o a) (get_drop params k) ∙ ok in
         ap (λ n. argument_fault fits n (drop n params) (drop (k + 1) args)) (add-one k)
         ∙ ap (λ ps. argument_fault fits (suc k) ps (drop (k + 1) args)) (sym (drop_one params k))
@@ -57,7 +57,7 @@ module _ (fits : ℕ → Ty × Operand → Bool) where
     pub argument_found : (k : ℕ) (a : Ty × Operand) (whole : Option ℕ) → k < length args → a ≡ get_or args k a → fits_parameter (fits k) (slice_get params k) a ≡ false
         → argument_fault fits k (drop k params) (drop k args) ≡ whole → Some k ≡ whole
     argument_found k a whole l is bad inv =
-        let e = drop_item args k a l is in
+        let e = drop_next args k a l is in
         let p : fits_parameter (fits k) (slice_get (drop k params) 0) a ≡ false = ap (λ o. fits_parameter (fits k) o a) (get_drop params k) ∙ bad in
         sym (arg_stop k (drop k params) a (drop (k + 1) args) p) ∙ ap (argument_fault fits k (drop k params)) (sym e) ∙ inv
 

@@ -4,8 +4,8 @@ use Rattle.std.specs.Prelude.{◌&&◌, not, nat_eq}
 use Rattle.std.specs.List.{list_any}
 use Rattle.std.proofs.lemmas.Bool.{false≢true}
 use Rattle.ms_ir.specs.declared.syntax.Name.{Name}
+use Rattle.ms_ir.proofs.Sizes.{drop_next}
 use Rattle.ms_valid.specs.TypesAgree.{differ}
-use Rattle.ms_check_types.proofs.Lists.{drop_item}
 
 behind : (a b : Bool) → (a && b) ≡ true → b ≡ true
 behind true b e = e
@@ -23,16 +23,11 @@ pub case_again : (cs : List (ℕ × Name)) (k : ℕ) (c : ℕ × Name) → k < l
 case_again cs k c l is seen = by_whole (differ cs) refl
   where
     here : differ (drop k cs) ≡ false
-    here = ap differ (drop_item cs k c l is) ∙ again (list_any (λ other. nat_eq other.0 c.0) (drop (k + 1) cs)) (differ (drop (k + 1) cs)) seen
+    here = ap differ (drop_next cs k c l is) ∙ again (list_any (λ other. nat_eq other.0 c.0) (drop (k + 1) cs)) (differ (drop (k + 1) cs)) seen
 
     by_whole : (b : Bool) → differ cs ≡ b → false ≡ b
     by_whole false e = refl
     by_whole true e = sym here ∙ differ_drop cs k e
-
-pub case_new : (cs : List (ℕ × Name)) (k : ℕ) (c : ℕ × Name) → k < length cs → c ≡ get_or cs k c → list_any (λ other. nat_eq other.0 c.0) (drop (k + 1) cs) ≡ false
-    → differ (drop (k + 1) cs) ≡ true → differ (drop k cs) ≡ true
-case_new cs k c l is new rest =
-    ap differ (drop_item cs k c l is) ∙ ap (λ b. not b && differ (drop (k + 1) cs)) new ∙ rest
 
 pub was_there : (a b : Bool) → a ≡ not b → a ≡ false → b ≡ true
 was_there a true e f = refl

@@ -1,9 +1,9 @@
 -- The first fault of a list, one part after the other.
-use Rattle.std.proofs.Common.{◌≡◌, ◌<◌, ◌≤◌, ℕ, ◌+◌, List, [], ◌∷◌, ◌++◌, Option, Some, None, refl, sym, ap, ◌∙◌, length, drop, get_or, drop_of_length-le, Bool, true, false}
+use Rattle.std.proofs.Common.{◌≡◌, ◌<◌, ℕ, ◌+◌, List, [], ◌∷◌, ◌++◌, Option, Some, None, refl, sym, ap, ◌∙◌, length, drop, get_or, Bool, true, false}
 use Rattle.std.specs.Prelude.{flat_map, slice_get}
-use Rattle.ms_check_types.proofs.Lists.{drop_item}
 use Rattle.std.proofs.lemmas.Option.{none-some}
 use Rattle.ms_ir.specs.declared.syntax.Name.{Name}
+use Rattle.ms_ir.proofs.Sizes.{drop_next}
 use Rattle.ms_valid.specs.SizesFit.{spelled_unless}
 
 -- the first of items, from a place on
@@ -13,15 +13,12 @@ first_from g xs i = slice_get (flat_map g (drop i xs)) 0
 pub fault_after : {A B : Type 0} (g : A → List B) (xs : List A) (i : ℕ) (x : A) (whole : Option B) → i < length xs → x ≡ get_or xs i x → g x ≡ []
     → first_from g xs i ≡ whole → first_from g xs (i + 1) ≡ whole
 fault_after g xs i x whole l is none h =
-    ap (λ f. slice_get (f ++ flat_map g (drop (i + 1) xs)) 0) (sym none) ∙ ap (λ ys. slice_get (flat_map g ys) 0) (sym (drop_item xs i x l is)) ∙ h
+    ap (λ f. slice_get (f ++ flat_map g (drop (i + 1) xs)) 0) (sym none) ∙ ap (λ ys. slice_get (flat_map g ys) 0) (sym (drop_next xs i x l is)) ∙ h
 
 pub fault_here : {A B : Type 0} (g : A → List B) (xs : List A) (i : ℕ) (x : A) (y : B) (whole : Option B) → i < length xs → x ≡ get_or xs i x → g x ≡ y ∷ []
     → first_from g xs i ≡ whole → Some y ≡ whole
 fault_here g xs i x y whole l is some h =
-    ap (λ f. slice_get (f ++ flat_map g (drop (i + 1) xs)) 0) (sym some) ∙ ap (λ ys. slice_get (flat_map g ys) 0) (sym (drop_item xs i x l is)) ∙ h
-
-pub no_fault : {A B : Type 0} (g : A → List B) (xs : List A) (i : ℕ) (whole : Option B) → length xs ≤ i → first_from g xs i ≡ whole → None ≡ whole
-no_fault g xs i whole l h = ap (λ ys. slice_get (flat_map g ys) 0) (sym (drop_of_length-le xs l)) ∙ h
+    ap (λ f. slice_get (f ++ flat_map g (drop (i + 1) xs)) 0) (sym some) ∙ ap (λ ys. slice_get (flat_map g ys) 0) (sym (drop_next xs i x l is)) ∙ h
 
 -- a name that isn't spelled, and one that is
 pub not_spelled : (holds : Bool) (global : Bool) (x : Name) → holds ≡ true → spelled_unless holds global x ≡ []

@@ -11,10 +11,10 @@ use Rattle.ms_ir.specs.Layout.{Extent, Types, size_of, size_in, extent_in}
 use Rattle.ms_ir.specs.declared.syntax.Ty.{Ty}
 use Rattle.ms_ir.specs.Locals.{Spelled}
 use Rattle.ms_ir.specs.Written.{init_types}
+use Rattle.ms_ir.proofs.Sizes.{drop_next}
 use Rattle.ms_valid.specs.SizesFit.{sized, spelled_unless, taken_with, passes_limit, unsized_globals}
 use Rattle.ms_check_types.specs.SizedParts.{has_sizes, taken_after}
 use Rattle.ms_check_types.proofs.AllSized.{sized_each, size_itself}
-use Rattle.ms_check_types.proofs.Lists.{drop_item}
 
 -- a size that is answered is the whole size, and within the limit
 pub size_known : (types : Types) (t : Ty) (s : ℕ) → Some s ≡ size_of types t → (s ≡ size_in types t) × (s ≤ 2 ^ 26)
@@ -79,7 +79,7 @@ first_global_from types taken gs i = slice_get (unsized_globals types taken (dro
 pub global_after : (types : Types) (taken after : ℕ) (gs : List GlobalVar) (i : ℕ) (g : GlobalVar) (whole : Option Spelled) → i < length gs → g ≡ get_or gs i g
     → Some after ≡ taken_after types taken g → first_global_from types taken gs i ≡ whole → first_global_from types after gs (i + 1) ≡ whole
 global_after types taken after gs i g whole l is h w =
-    by_test (fits types taken g) h (ap (λ ys. slice_get (unsized_globals types taken ys) 0) (sym (drop_item gs i g l is)) ∙ w)
+    by_test (fits types taken g) h (ap (λ ys. slice_get (unsized_globals types taken ys) 0) (sym (drop_next gs i g l is)) ∙ w)
   where
     by_test : (b : Bool) → Some after ≡ (if b then Some (taken_with types taken g) else None)
         → slice_get (spelled_unless b true g.name ++ unsized_globals types (taken_with types taken g) (drop (i + 1) gs)) 0 ≡ whole
@@ -90,7 +90,7 @@ global_after types taken after gs i g whole l is h w =
 pub global_here : (types : Types) (taken : ℕ) (gs : List GlobalVar) (i : ℕ) (g : GlobalVar) (whole : Option Spelled) → i < length gs → g ≡ get_or gs i g
     → None ≡ taken_after types taken g → first_global_from types taken gs i ≡ whole → Some (record { global = true; name = g.name }) ≡ whole
 global_here types taken gs i g whole l is h w =
-    by_test (fits types taken g) h (ap (λ ys. slice_get (unsized_globals types taken ys) 0) (sym (drop_item gs i g l is)) ∙ w)
+    by_test (fits types taken g) h (ap (λ ys. slice_get (unsized_globals types taken ys) 0) (sym (drop_next gs i g l is)) ∙ w)
   where
     by_test : (b : Bool) → None ≡ (if b then Some (taken_with types taken g) else None)
         → slice_get (spelled_unless b true g.name ++ unsized_globals types (taken_with types taken g) (drop (i + 1) gs)) 0 ≡ whole

@@ -6,7 +6,6 @@ pub mod FirstFaults
 pub mod Firsts
 pub mod GlobalSizes
 pub mod Items
-pub mod Lists
 pub mod OneByOne
 pub mod NamedRows
 pub mod SmallFaults

@@ -9,6 +9,7 @@ use Rattle.ms_ir.specs.declared.syntax.Func.{Func}
 use Rattle.ms_ir.specs.declared.syntax.Module.{Module}
 use Rattle.ms_ir.specs.Names.{name_eq, lookup}
 use Rattle.ms_tables.specs.FirstPlace.{first_place, at_place}
+use Rattle.ms_tables.proofs.Tied.{lookup_is}
 use Rattle.ms_ir.specs.Equal.{has_name}
 use Rattle.ms_ir.specs.Locals.{declared_names}
 use Rattle.ms_valid.specs.TypesAgree.{is_printf, is_create}
@@ -21,17 +22,6 @@ lookup_by {A} {B} k v (a ∷ xs) x = by_test (name_eq (k a) x) (first_place (map
   where
     by_test : (b : Bool) (o : Option ℕ) → lookup (map (λ c. (k c, v c)) xs) x ≡ option_map v (at_place xs o)
         → (if b then Some (v a) else lookup (map (λ c. (k c, v c)) xs) x) ≡ option_map v (at_place (a ∷ xs) (if b then Some 0 else option_map suc o))
-    by_test true o e = refl
-    by_test false None e = e
-    by_test false (Some j) e = e
-
--- a table of rows
-pub lookup_row : {A : Type 0} (rows : List (Name × A)) (x : Name) → lookup rows x ≡ option_map (λ r. r.1) (at_place rows (first_place (map (λ r. r.0) rows) x))
-lookup_row [] x = refl
-lookup_row {A} (row ∷ rows) x = by_test (name_eq row.0 x) (first_place (map (λ r. r.0) rows) x) (lookup_row rows x)
-  where
-    by_test : (b : Bool) (o : Option ℕ) → lookup rows x ≡ option_map (λ r. r.1) (at_place rows o)
-        → (if b then Some row.1 else lookup rows x) ≡ option_map (λ r. r.1) (at_place (row ∷ rows) (if b then Some 0 else option_map suc o))
     by_test true o e = refl
     by_test false None e = e
     by_test false (Some j) e = e
@@ -68,7 +58,7 @@ declared_known (d ∷ rest) x = by_test (name_eq d.name x) (declared_known rest 
 -- the type that a name stands for
 pub named_row : (rows : List (Name × Ty)) (names : List Name) (x : Name) (o : Option (Name × Ty)) → names ≡ map (λ r. r.0) rows → o ≡ at_place rows (first_place names x)
     → option_map (λ r. r.1) o ≡ lookup rows x
-named_row rows names x o named is = ap (option_map (λ r. r.1)) (is ∙ ap (λ ns. at_place rows (first_place ns x)) named) ∙ sym (lookup_row rows x)
+named_row rows names x o named is = ap (option_map (λ r. r.1)) (is ∙ ap (λ ns. at_place rows (first_place ns x)) named) ∙ sym (lookup_is rows x)
 
 -- the `printf` that is declared
 pub printf_known : (m : Module) (names : List Name) (x : Name) → names ≡ declared_names m → name_eq x (Text (codes "printf")) ≡ true → has_name names x ≡ is_printf m x

@@ -13,7 +13,7 @@ use Rattle.ms_ir.specs.declared.syntax.Inst.{Inst}
 use Rattle.ms_ir.specs.declared.syntax.Block.{Block}
 use Rattle.ms_ir.specs.declared.syntax.Func.{Func}
 use Rattle.ms_ir.specs.declared.syntax.Module.{Module}
-use Rattle.ms_ir.specs.Code.{operands, one_unmarked, over_insts, over_blocks, over_funcs}
+use Rattle.ms_ir.specs.Instructions.{operands, one_unmarked, over_insts, over_blocks, over_funcs}
 use Rattle.ms_ir.specs.Equal.{has_name, type_eq, result_type_eq}
 use Rattle.ms_ir.specs.Layout.{Types, resolved, part_type}
 use Rattle.ms_ir.specs.Locals.{block_names}

@@ -3,24 +3,18 @@ use Rattle.std.proofs.Common.{◌≡◌, ℕ, zero, suc, ◌^◌, min, ◌<◌, 
 use Rattle.std.specs.Prelude.{option_and_then, slice_get, if◌then◌else◌, ◌&&◌, nat_lt, is_none}
 use Rattle.std.proofs.lemmas.Bool.{ltb-true, ltb-false}
 use Rattle.std.proofs.lemmas.Option.{same_Some, none-some}
-use Rattle.ms_ir.specs.declared.syntax.Ty.{Ty, Int, Ptr, Array', Struct', Named, Array, Struct, Row_of-Ty, end_of-Ty, more_of-Ty, items-the_row-Ty, items_hidden-the_row-Ty-1}
-use Rattle.ms_ir.specs.declared.syntax.Ty.TheBlock.{hidden-the_row-Ty-0, hidden-the_row-Ty-1, shape-the_row-Ty-0}
+use Rattle.ms_ir.specs.declared.syntax.Ty.{Ty, Int, Ptr, Array', Struct', Named, Array, Struct}
+use Rattle.ms_ir.specs.declared.syntax.Ty.TheBlock.{hidden-the_row-Ty-0, shape-the_row-Ty-0}
 use Rattle.ms_ir.specs.declared.syntax.Operand.{Operand}
 use Rattle.ms_ir.specs.declared.syntax.Operand.TheVariants as operand
 use Rattle.ms_ir.specs.Layout.{Types, resolved, row_types, type_at, part_type}
 use Rattle.ms_ir.specs.Equal.{type_eq}
+use Rattle.ms_ir.proofs.Sizes.{drop_next}
+use Rattle.ms_ir.proofs.TypeRows.{struct_types}
 use Rattle.ms_valid.specs.TypesAgree.{leads_into, number_or_zero, is_below, first_misstep, constant_indices}
-use Rattle.ms_check_types.proofs.Lists.{drop_item}
 use Rattle.ms_check_types.specs.Parts.{constant_of, field_at, part_by}
 
 -- ---- parts of arrays and structs
-
-row_types-items : (n : _) (r : Row_of-Ty n) → row_types r ≡ items-the_row-Ty n r
-row_types-items n end_of-Ty = refl
-row_types-items n (more_of-Ty t ts) = ap (λ us. t ∷ us) (row_types-items _ ts)
-
-pub struct_types : (ts : List Ty) → row_types (hidden-the_row-Ty-1 ts) ≡ ts
-struct_types ts = row_types-items _ (hidden-the_row-Ty-1 ts) ∙ items_hidden-the_row-Ty-1 ts
 
 pub part-array : (n : ℕ) (t u : Ty) (k : Option ℕ) → part_by (Array n t) u k ≡ Some t
 unfolding hidden-the_row-Ty-0 shape-the_row-Ty-0 denote.Hole.Carrier.hidden
@@ -114,7 +108,7 @@ module _ (fits : Ty × Operand → Bool) (types : Types) where
 
 module _ (types : Types) (indices : List (Ty × ℕ)) where
   constants_next : (i : ℕ) (x : Ty × ℕ) → i < length indices → x ≡ get_or indices i x → constant_indices (drop i indices) ≡ (x.0, operand.Int x.1) ∷ constant_indices (drop (i + 1) indices)
-  constants_next i x l is = ap constant_indices (drop_item indices i x l is)
+  constants_next i x l is = ap constant_indices (drop_next indices i x l is)
 
   pub leads_stop : (i : ℕ) (x : Ty × ℕ) (whole : Ty) (all : Bool) → i < length indices → x ≡ get_or indices i x → None ≡ part_by (resolved types whole) x.0 (Some x.1)
       → is_none (first_misstep (λ j. true) types whole i (constant_indices (drop i indices))) ≡ all → false ≡ all
@@ -133,7 +127,7 @@ module _ (fits : Ty × Operand → Bool) (types : Types) (indices : List (Ty × 
   pub misstep_nowhere : (first i : ℕ) (x : Ty × Operand) (whole : Ty) (place : ℕ) (all : Option ℕ) → i < length indices → x ≡ get_or indices i x → place ≡ first + i → fits x ≡ true
       → None ≡ part_by (resolved types whole) x.0 (constant_of x.1) → first_misstep fits types whole (first + i) (drop i indices) ≡ all → Some place ≡ all
   misstep_nowhere first i x whole place all l is at ok nowhere inv =
-      ap Some at ∙ sym (ap (first_misstep fits types whole (first + i)) (drop_item indices i x l is) ∙ step_nowhere fits types whole (first + i) x (drop (i + 1) indices) ok nowhere) ∙ inv
+      ap Some at ∙ sym (ap (first_misstep fits types whole (first + i)) (drop_next indices i x l is) ∙ step_nowhere fits types whole (first + i) x (drop (i + 1) indices) ok nowhere) ∙ inv
 
   pub misstep_on : (first i : ℕ) (x : Ty × Operand) (whole p : Ty) (all : Option ℕ) → i < length indices → x ≡ get_or indices i x → fits x ≡ true
       → Some p ≡ part_by (resolved types whole) x.0 (constant_of x.1) → first_misstep fits types whole (first + i) (drop i indices) ≡ all
@@ -141,9 +135,9 @@ module _ (fits : Ty × Operand → Bool) (types : Types) (indices : List (Ty × 
   misstep_on first i x whole p all l is ok led inv =
       let n : first + (i + 1) ≡ suc (first + i) = omega arith in
       ap (λ k. first_misstep fits types p k (drop (i + 1) indices)) n
-      ∙ sym (ap (first_misstep fits types whole (first + i)) (drop_item indices i x l is) ∙ step_on fits types whole (first + i) x (drop (i + 1) indices) p ok led) ∙ inv
+      ∙ sym (ap (first_misstep fits types whole (first + i)) (drop_next indices i x l is) ∙ step_on fits types whole (first + i) x (drop (i + 1) indices) p ok led) ∙ inv
 
   pub misstep_misfit : (first i : ℕ) (x : Ty × Operand) (whole : Ty) (place : ℕ) (all : Option ℕ) → i < length indices → x ≡ get_or indices i x → place ≡ first + i → fits x ≡ false
       → first_misstep fits types whole (first + i) (drop i indices) ≡ all → Some place ≡ all
   misstep_misfit first i x whole place all l is at bad inv =
-      ap Some at ∙ sym (ap (first_misstep fits types whole (first + i)) (drop_item indices i x l is) ∙ step_misfit fits types whole (first + i) x (drop (i + 1) indices) bad) ∙ inv
+      ap Some at ∙ sym (ap (first_misstep fits types whole (first + i)) (drop_next indices i x l is) ∙ step_misfit fits types whole (first + i) x (drop (i + 1) indices) bad) ∙ inv

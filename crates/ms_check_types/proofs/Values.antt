@@ -8,7 +8,7 @@ use Rattle.ms_ir.specs.declared.syntax.Inst.{Inst}
 use Rattle.ms_ir.specs.declared.syntax.Block.{Block}
 use Rattle.ms_ir.specs.declared.syntax.Func.{Func}
 use Rattle.ms_ir.specs.Locals.{typed_result, values}
-use Rattle.ms_check_types.proofs.Lists.{drop_item}
+use Rattle.ms_ir.proofs.Sizes.{drop_next}
 
 -- with the results of one block more
 pub blocks_grow : (new mid : List (Name × Ty)) (blocks : List Block) (i : ℕ) (b : Block) (insts : List Inst) (whole : List (Name × Ty))
@@ -19,7 +19,7 @@ blocks_grow new mid blocks i b insts whole l is same grown inv =
     ap (λ n. n ++ filter_map typed_result later) (grown ∙ ap (λ xs. mid ++ filter_map typed_result xs) same)
     ∙ append_assoc mid (filter_map typed_result b.insts) (filter_map typed_result later)
     ∙ ap (λ xs. mid ++ xs) (sym (filter_map-append typed_result b.insts later))
-    ∙ ap (λ bs. mid ++ filter_map typed_result (flat_map (λ k. k.insts) bs)) (sym (drop_item blocks i b l is)) ∙ inv
+    ∙ ap (λ bs. mid ++ filter_map typed_result (flat_map (λ k. k.insts) bs)) (sym (drop_next blocks i b l is)) ∙ inv
 
 pub values_are : (f : Func) (zero one two : List (Name × Ty)) (params : List (Ty × Name)) (blocks : List Block) → params ≡ f.params → blocks ≡ f.blocks
     → zero ≡ [] → one ≡ zero ++ map (λ p. (p.1, p.0)) params → two ≡ one ++ filter_map typed_result (flat_map (λ b. b.insts) blocks) → two ≡ values f

@@ -9,8 +9,8 @@ use Rattle.ms_ir.specs.declared.syntax.Init.{Init}
 use Rattle.ms_ir.specs.declared.syntax.Block.{Block}
 use Rattle.ms_ir.specs.declared.syntax.Func.{Func}
 use Rattle.ms_ir.specs.declared.syntax.GlobalVar.{GlobalVar}
-use Rattle.ms_ir.specs.Code.{operands}
-use Rattle.ms_ir.specs.Equal.{Step}
+use Rattle.ms_ir.specs.Instructions.{operands}
+use Rattle.ms_ir.specs.Equal.{AddressStep}
 use Rattle.ms_ir.specs.Layout.{Types, size_of}
 use Rattle.ms_ir.specs.Locals.{Spelled}
 use Rattle.ms_ir.specs.Written.{type_parts, operand_types, own_types, init_types}
@@ -21,7 +21,7 @@ abbrev pub has_sizes : Types → Ty → Bool
 has_sizes types t = list_all (λ u. is_some (size_of types u)) (type_parts t)
 
 -- the types in a step of a constant address have sizes
-abbrev pub is_step_sized : Types → Step → Bool
+abbrev pub is_step_sized : Types → AddressStep → Bool
 is_step_sized types s = list_all (has_sizes types) (s.0 ∷ map (λ i. i.0) s.1)
 
 -- the types in an operand with its type have sizes

@@ -10,8 +10,8 @@ ghost use Rattle.ms_check_types.specs.Callees.{callee_signature};
 use crate::bodies::Body;
 use crate::callees::Callee;
 use crate::operands::{first_misfit, operand_fits};
-use crate::types::{is_int, is_pointer};
-use ms_ir::{Name, Op, Operand, Ty, ValueType};
+use crate::types::is_pointer;
+use ms_ir::{Name, Op, Operand, Ty, ValueType, is_int};
 
 /// Operand 0 is at fault unless something holds that no operand says by itself.
 pub fn fault_unless(holds: bool) -> Option<usize>

@@ -8,8 +8,7 @@ ghost use Rattle.ms_check_types.specs.Items.{item_fits, each_fits, all_fit};
 
 use crate::constants::constant_fits;
 use crate::symbols::Symbols;
-use crate::types::is_int;
-use ms_ir::{Init, Operand, Ty, ValueType};
+use ms_ir::{Init, Operand, Ty, ValueType, is_int};
 
 /// Whether a constant may stand behind a type: an undefined one behind every type.
 fn value_fits(symbols: &Symbols<'_>, ty: &Ty, value: &Operand) -> bool

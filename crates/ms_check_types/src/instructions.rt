@@ -2,7 +2,7 @@
 ghost use Rattle.std.specs.Prelude.{◌≡◌, ◌&&◌, IfOk};
 ghost use Rattle.std.specs.List.{list_all};
 ghost use Rattle.std.specs.Option.{option_or};
-ghost use Rattle.ms_ir.specs.Code.{operands as operands_of};
+ghost use Rattle.ms_ir.specs.Instructions.{operands as operands_of};
 ghost use Rattle.ms_ir.specs.Equal.{has_name};
 ghost use Rattle.ms_ir.specs.Locals.{block_names};
 ghost use Rattle.ms_ir.specs.Written.{targets};

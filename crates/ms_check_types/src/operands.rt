@@ -1,6 +1,6 @@
 //! Operands with the types before them (LLVM Language Reference, "Instruction Reference").
 ghost use Rattle.std.specs.Prelude.{◌≡◌, option_map, slice_get};
-ghost use Rattle.ms_ir.specs.Code.{operands};
+ghost use Rattle.ms_ir.specs.Instructions.{operands};
 ghost use Rattle.ms_ir.specs.ValueTypes.{type_of};
 ghost use Rattle.ms_valid.specs.TypesAgree.{first_misfit};
 ghost use Rattle.ms_check_types.specs.Bodies.{fits_in};

@@ -8,8 +8,7 @@ ghost use Rattle.ms_valid.specs.TypesAgree.{first_misstep, constant_indices};
 ghost use Rattle.ms_check_types.specs.Parts.{constant_of, field_at, part_by};
 
 use crate::symbols::Symbols;
-use crate::types::is_int;
-use ms_ir::{Operand, Ty};
+use ms_ir::{Operand, Ty, is_int};
 
 /// The number that an operand is, if it is one.
 pub fn constant(operand: &Operand) -> Option<u64>

@@ -14,13 +14,3 @@ pub fn is_pointer(ty: &Ty) -> bool
         _ => false,
     }
 }
-
-/// Whether a type is `iN` of a width.
-pub fn is_int(ty: &Ty, width: u8) -> bool
-    ensures { result ≡ type_eq ty.now (type.Int width) }
-{
-    match ty {
-        Ty::Int(own) => *own == width,
-        _ => false,
-    }
-}

@@ -28,15 +28,15 @@ use Rattle.ms_runs.specs.World.{World, Setting}
 use Rattle.ms_ir.specs.declared.calls.External.{External}
 use Rattle.ms_ir.specs.declared.calls.External.TheVariants.{Word}
 use Rattle.ms_ir.specs.Names.{lookup, externals}
-use Rattle.ms_ir.specs.Code.{operands, one_undef, func_index}
+use Rattle.ms_ir.specs.Instructions.{operands, one_undef, func_index}
 use Rattle.ms_runs.specs.Control.{read_all}
 use Rattle.ms_runs.specs.Act.{extended_all}
 use Rattle.ms_runs.specs.Poisoned.{Poisoned, InRange}
 use Rattle.ms_runs.specs.Masks.{Rules, value_or_zero, shift_mask, binary_mask, union, word_at, answer_mask, as_result, result_mask}
 use Rattle.ms_runs.specs.Shadow.{read_poisoned}
 use Rattle.ms_valid.specs.CleanValues.{is_clean_operand, is_division, answers_clean, makes_clean}
-use Rattle.ms_runs_good.proofs.Readings.{shadow_read}
 use Rattle.ms_clean_laws.specs.KeepClean.{KeepClean}
+use Rattle.ms_runs_laws.proofs.SameRuns.{read_fits}
 
 -- ---- operations on masks of 0
 
@@ -145,10 +145,6 @@ module _ (d : Rules) (keep : KeepClean d) where
   pub address_zero : (is : List (Ty × Operand)) (p : Poisoned) (ps : List Poisoned) → p.mask ≡ 0 → NonePoisoned ps → d.sum 64 (bit_or p.mask (union (extended_all is (map (λ q. q.mask) ps)))) ≡ 0
   address_zero is p ps e h = ap₂ (λ m k. d.sum 64 (bit_or m k)) e (indices_zero is ps h) ∙ keep.sum 64
 
--- what is read is in range
-pub read_range : (s : Setting) (values : Name → Poisoned) (n : ℕ) (t : Ty) (o : Operand) → InRange (width_of t) (read_poisoned s values n t o)
-read_range s values n t o = let h = shadow_read s values n t o in record { value = h.0; mask = h.1 }
-
 -- ---- clean operands
 
 module _ (s : Setting) (clean : Name → Bool) (values : Name → Poisoned) (holds : (x : Name) → clean x ≡ true → (values x).mask ≡ 0) where
@@ -172,7 +168,7 @@ module _ (s : Setting) (clean : Name → Bool) (values : Name → Poisoned) (hol
     -- a value that is made clean has no poisoned bit
     pub made_clean : (o : Op) (n : ℕ) (w : World) → makes_clean m clean o ≡ true → result_mask d o (read_all (read_poisoned s values) (operands o) n) w ≡ 0
     made_clean (op.Binary o f t a b) n w e =
-        binary_zero d keep o (width_of t) (read_poisoned s values n t a) (read_poisoned s values (n + one_undef a) t b) (read_range s values n t a) (read_range s values (n + one_undef a) t b)
+        binary_zero d keep o (width_of t) (read_poisoned s values n t a) (read_poisoned s values (n + one_undef a) t b) (read_fits s values n t a) (read_fits s values (n + one_undef a) t b)
         (read_clean n t a (first (is_division o) e)) (λ h. read_clean (n + one_undef a) t b (second (is_division o) h e))
       where
         first : (t : Bool) → (if t then is_clean_operand clean a else (is_clean_operand clean a && is_clean_operand clean b)) ≡ true → is_clean_operand clean a ≡ true
@@ -184,12 +180,12 @@ module _ (s : Setting) (clean : Name → Bool) (values : Name → Poisoned) (hol
         second false h e = (and_parts (is_clean_operand clean a) (is_clean_operand clean b) e).1
     made_clean (op.Icmp p f t a b) n w e =
         let all = all_clean ((t, a) ∷ (t, b) ∷ []) n e in
-        keep.compare p (width_of t) (read_poisoned s values n t a) (read_poisoned s values (n + one_undef a) t b) (read_range s values n t a) (read_range s values (n + one_undef a) t b) all.0 all.1.0
+        keep.compare p (width_of t) (read_poisoned s values n t a) (read_poisoned s values (n + one_undef a) t b) (read_fits s values n t a) (read_fits s values (n + one_undef a) t b) all.0 all.1.0
     made_clean (op.Cast o f t a u) n w e = ap (λ k. value_or_zero (cast_of o no_flags (width_of t) k (width_of u))) (all_clean ((t, a) ∷ []) n e).0 ∙ cast_zero o (width_of t) (width_of u)
     made_clean (op.Select c t a b) n w e =
         let all = all_clean (operands (op.Select c t a b)) n e in
         keep.select (width_of t) (read_poisoned s values n (ty.Int 1) c) (read_poisoned s values (n + one_undef c) t a) (read_poisoned s values (n + one_undef c + one_undef a) t b)
-        (read_range s values n (ty.Int 1) c) (read_range s values (n + one_undef c) t a) (read_range s values (n + one_undef c + one_undef a) t b) all.0
+        (read_fits s values n (ty.Int 1) c) (read_fits s values (n + one_undef c) t a) (read_fits s values (n + one_undef c + one_undef a) t b) all.0
         (select_zero (read_poisoned s values n (ty.Int 1) c).value _ _ all.1.0 all.1.1.0)
     made_clean (op.Freeze t a) n w e = refl
     made_clean (op.Phi t edges) n w e = refl

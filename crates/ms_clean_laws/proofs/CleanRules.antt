@@ -1,13 +1,14 @@
 -- Rules that poison nothing of their own.
-use Rattle.std.proofs.Common.{◌≡◌, ℕ, ◌+◌, ◌-◌, ◌%◌, ◌^◌, refl, sym, ap, ap₂, ◌∙◌, arith}
+use Rattle.std.proofs.Common.{◌≡◌, ℕ, ◌-◌, refl, sym, ap, ap₂, ◌∙◌}
 use Rattle.std.proofs.lemmas.Nat.{pow_pos}
 use Rattle.ms_bits.specs.declared.operations.BinOp.TheVariants.{And, Or, Xor}
 use Rattle.ms_bits.specs.Completion.{mask_of}
 use Rattle.ms_bits.specs.Conversions.{compare_of, select_of}
 use Rattle.ms_bits.specs.Arithmetic.{binary_of}
-use Rattle.ms_bits.specs.Formulas.{select_mask, carry_mask}
+use Rattle.ms_bits.specs.Formulas.{select_mask}
 use Rattle.ms_bits_laws.proofs.Agreement.{clean_mask}
 use Rattle.ms_bits_laws.proofs.MaskFunctions.{mask_of-exact, mask_of-lt}
+use Rattle.ms_bits_laws.proofs.CleanWords.{carry_clean}
 use Rattle.ms_runs_laws.proofs.ExactRules.{formulas_exact}
 use Rattle.ms_bits.specs.NoFlags.{no_flags}
 use Rattle.ms_runs.specs.Act.{truth}
@@ -27,14 +28,6 @@ select_none v m u k t = refl
 formula_select : (w : ℕ) (k p q : Poisoned) → k.mask ≡ 0 → select_of k.value p.mask q.mask ≡ 0 → by_formulas.select w k p q ≡ 0
 formula_select w k p q e h = ap (λ n. select_mask k.value n p.value p.mask q.value q.mask) e ∙ select_none p.value p.mask q.value q.mask k.value ∙ h
 
--- of no poisoned bits come no carries that are
-no_carry : (w : ℕ) → carry_mask w 0 ≡ 0
-unfolding carry_mask
-no_carry w = full (2 ^ w)
-  where
-    full : (n : ℕ) → (0 + (n - 0)) % n ≡ 0
-    full n = grind arith
-
 -- all completions of words without a poisoned bit are one
 pub completions_clean : KeepClean by_completions
 completions_clean = record {
@@ -43,7 +36,7 @@ completions_clean = record {
   one = λ w p q a b e h. exact_clean (λ x y. value_or_zero (binary_of Xor no_flags w x y)) w w p q e h;
   compare = λ o w p q a b e h. exact_clean (λ x y. value_or_zero (truth (compare_of o no_flags w x y))) w 1 p q e h;
   select = λ w k p q c a b e h. formulas_exact.select w k p q c a b ∙ formula_select w k p q e h;
-  sum = λ w. formulas_exact.sum w 0 (pow_pos w) ∙ no_carry w;
+  sum = λ w. formulas_exact.sum w 0 (pow_pos w) ∙ carry_clean w;
 }
 
 -- so are the formulas, which give the same masks
@@ -54,5 +47,5 @@ formulas_clean = record {
   one = λ w p q a b e h. sym (formulas_exact.one w p q a b) ∙ completions_clean.one w p q a b e h;
   compare = λ o w p q a b e h. sym (formulas_exact.compare o w p q a b) ∙ completions_clean.compare o w p q a b e h;
   select = λ w k p q c a b e h. formula_select w k p q e h;
-  sum = no_carry;
+  sum = carry_clean;
 }

@@ -8,12 +8,12 @@ use Rattle.ms_runs.specs.Masks.{Rules}
 use Rattle.ms_runs.specs.Shadow.{operand_mask, shadow_start}
 use Rattle.ms_valid.specs.Formed.{Formed}
 use Rattle.ms_valid.specs.Valid.{Valid}
-use Rattle.ms_runs_good.specs.Reached.{Walk, walked}
+use Rattle.ms_good_laws.specs.Reached.{Walk, walked}
 use Rattle.ms_valid.specs.CleanValues.{IsCleanOperand}
-use Rattle.ms_runs_good.specs.GoodRules.{KeepWidths}
-use Rattle.ms_runs_good.specs.GoodRuns.{LeadsTo}
-use Rattle.ms_runs_good.specs.GoodWorlds.{GivesBytes}
-use Rattle.ms_runs_good.proofs.Walks.{walks_keep, walks_sound}
+use Rattle.ms_good_laws.specs.GoodRules.{KeepWidths}
+use Rattle.ms_good_laws.specs.GoodRuns.{LeadsTo}
+use Rattle.ms_good_laws.specs.GoodWorlds.{GivesBytes}
+use Rattle.ms_good_laws.proofs.Walks.{walks_keep, walks_sound}
 use Rattle.ms_clean_laws.specs.KeepClean.{KeepClean}
 use Rattle.ms_clean_laws.specs.CleanStates.{AllCleanValues, ReadsClean}
 use Rattle.ms_clean_laws.proofs.CleanSteps.{each_clean, steps_clean}

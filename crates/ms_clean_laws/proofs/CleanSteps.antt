@@ -17,7 +17,7 @@ use Rattle.ms_runs.specs.declared.runs.Setup.{Setup}
 use Rattle.ms_runs.specs.declared.runs.End.TheVariants as «end»
 use Rattle.ms_ir.specs.Names.{name_eq, externals, lookup}
 use Rattle.ms_runs.specs.World.{World, Setting, Effect, Gives, Does, Goes, Enters, Leaves, Ends}
-use Rattle.ms_ir.specs.Code.{operands, one_undef, count_undefs, func_index, func_at, blocks_at, insts_at, block_index, root_at, roots_in}
+use Rattle.ms_ir.specs.Instructions.{operands, one_undef, count_undefs, func_index, func_at, blocks_at, insts_at, block_index, root_at, roots_in}
 use Rattle.ms_runs.specs.Control.{Frame, Outcome, On, Over, here, rest_of, read_all, with_value, put, read_edge, phis, block_name, jumped, bind, entered, result_at, left, frame_limit, keeping, after_effect}
 use Rattle.ms_runs.specs.Origins.{count_blind}
 use Rattle.ms_runs.specs.Act.{act}
@@ -29,15 +29,16 @@ use Rattle.ms_runs.specs.Shadow.{read_poisoned, shadow_reading, planes, ShadowSt
 use Rattle.ms_ir.specs.Equal.{has_name}
 use Rattle.ms_valid.specs.Paths.{insts_of}
 use Rattle.ms_ir.specs.Written.{result_type}
+use Rattle.ms_ir.proofs.RootKinds.{name_same as name_sound}
 use Rattle.ms_valid.specs.FormedCode.{name_formed}
 use Rattle.ms_valid.specs.Formed.{Formed}
-use Rattle.ms_runs_good.specs.GoodStates.{PoisonedBelow, GoodFrames, StandsAtCall}
+use Rattle.ms_good_laws.specs.GoodStates.{PoisonedBelow, GoodFrames, StandsAtCall}
 use Rattle.ms_valid.specs.CleanValues.{is_clean_operand, answers_clean, makes_clean, Supported}
 use Rattle.ms_valid.specs.Valid.{Valid}
-use Rattle.ms_valid.proofs.NameTests.{name_same, name_sound}
-use Rattle.ms_runs_good.proofs.NextFrames.{stands_formed}
-use Rattle.ms_runs_good.specs.GoodRuns.{LeadsTo}
-use Rattle.ms_runs_good.proofs.Frames.{top_good, kept_frames, due_first, same_insts}
+use Rattle.ms_valid.proofs.NameTests.{name_same}
+use Rattle.ms_good_laws.proofs.NextFrames.{stands_formed}
+use Rattle.ms_good_laws.specs.GoodRuns.{LeadsTo}
+use Rattle.ms_good_laws.proofs.Frames.{top_good, kept_frames, due_first, same_insts}
 use Rattle.ms_clean_laws.specs.KeepClean.{KeepClean}
 use Rattle.ms_clean_laws.specs.CleanStates.{HasCleanValues, AllCleanValues}
 use Rattle.ms_clean_laws.proofs.OneMaker.{one_maker, no_parameter}

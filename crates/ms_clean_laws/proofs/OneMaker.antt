@@ -1,7 +1,7 @@
 -- In a valid module one instruction gives a value its name, and a parameter's name is no result's.
 use Rattle.std.proofs.Common.{◌≡◌, ℕ, zero, suc, List, [], ◌∷◌, ◌++◌, flat_map, Bool, true, false, ◌&&◌, Option, Some, None, unwrap_or, slice_get, refl, sym, ap, ◌∙◌, subst, arith, ⊎_elim, if◌then◌else◌, true≢false}
 use Rattle.std.specs.List.{list_any, cons_option}
-use Rattle.std.proofs.lemmas.Bool.{or_cases, and_parts, or_left, or_right, or_parts}
+use Rattle.std.proofs.lemmas.Bool.{or_cases, and_parts, or_left, or_right}
 use Rattle.std.proofs.lemmas.List.Folds.{list_any-append}
 use Rattle.ms_ir.specs.declared.syntax.Name.{Name}
 use Rattle.ms_ir.specs.declared.syntax.Inst.{Inst}
@@ -9,29 +9,23 @@ use Rattle.ms_ir.specs.declared.syntax.Block.{Block}
 use Rattle.ms_ir.specs.declared.syntax.Func.{Func}
 use Rattle.ms_ir.specs.declared.syntax.Module.{Module}
 use Rattle.ms_ir.specs.Names.{name_eq}
-use Rattle.ms_ir.specs.Code.{func_at}
+use Rattle.ms_ir.specs.Instructions.{func_at}
 use Rattle.ms_ir.specs.Equal.{has_name}
 use Rattle.ms_ir.specs.Locals.{results, block_locals, parameter_names, func_insts}
+use Rattle.ms_ir.proofs.RootKinds.{name_same as name_sound}
 use Rattle.ms_valid.specs.Paths.{insts_of}
 use Rattle.ms_valid.specs.NamesOnce.{repeats}
 use Rattle.ms_valid.specs.CleanValues.{gives_name}
 use Rattle.ms_valid.specs.Valid.{Valid}
-use Rattle.ms_valid.proofs.NameTests.{name_same, name_sound}
-use Rattle.ms_valid.proofs.TypedValues.{names_stand_once}
-use Rattle.ms_runs_good.proofs.NextFrames.{block_there}
+use Rattle.ms_valid.proofs.NameTests.{name_same}
+use Rattle.ms_valid.proofs.TypedValues.{names_stand_once, once_more, unseen, result_listed}
+use Rattle.ms_good_laws.proofs.NextFrames.{block_there}
 
 -- ---- names that stand once (as in ms_valid's TypedValues, where these are private)
 
 seen_after : List Name → List Name → List Name
 seen_after seen [] = seen
 seen_after seen (x ∷ rest) = seen_after (x ∷ seen) rest
-
-once_more : (seen : List Name) (x : Name) (rest : List Name) → repeats seen (x ∷ rest) ≡ [] → (has_name seen x ≡ false) × (repeats (x ∷ seen) rest ≡ [])
-once_more seen x rest e = by_test (has_name seen x) refl e
-  where
-    by_test : (t : Bool) → has_name seen x ≡ t → (if t then x ∷ repeats (x ∷ seen) rest else repeats (x ∷ seen) rest) ≡ [] → (has_name seen x ≡ false) × (repeats (x ∷ seen) rest ≡ [])
-    by_test true h k = grind arith
-    by_test false h k = (h, k)
 
 once_both : (seen xs ys : List Name) → repeats seen (xs ++ ys) ≡ [] → (repeats seen xs ≡ []) × (repeats (seen_after seen xs) ys ≡ [])
 unfolding seen_after
@@ -51,13 +45,6 @@ unfolding seen_after
 now_seen seen [] x h = absurd (true≢false (sym h))
 now_seen seen (y ∷ rest) x h = ⊎_elim (λ e. still_seen (y ∷ seen) rest x (or_left (name_eq y x) (has_name seen x) e)) (λ e. now_seen (y ∷ seen) rest x e) (or_cases (name_eq y x) (has_name rest x) h)
 
-unseen : (seen xs : List Name) (x : Name) → repeats seen xs ≡ [] → has_name xs x ≡ true → has_name seen x ≡ false
-unseen seen [] x e h = absurd (true≢false (sym h))
-unseen seen (y ∷ rest) x e h = ⊎_elim
-    (λ same. ap (has_name seen) (sym (name_sound y x same)) ∙ (once_more seen y rest e).0)
-    (λ later. (or_parts (name_eq y x) (has_name seen x) (unseen (y ∷ seen) rest x (once_more seen y rest e).1 later)).1)
-    (or_cases (name_eq y x) (has_name rest x) h)
-
 -- no name stands in both of two lists in a row
 apart : (seen xs ys : List Name) (x : Name) → repeats seen (xs ++ ys) ≡ [] → has_name xs x ≡ true → has_name ys x ≡ true → ⊥
 apart seen xs ys x e h k = true≢false (sym (now_seen seen xs x h) ∙ unseen (seen_after seen xs) ys x (once_both seen xs ys e).1 k)
@@ -74,16 +61,6 @@ gives_same x i e = by_result i.result e
     by_result : (o : Option Name) → elim o [ Some y ↦ name_eq y x | None ↦ false ] ≡ true → o ≡ Some x
     by_result None h = absurd (true≢false (sym h))
     by_result (Some y) h = ap (λ z. Some z) (name_sound y x h)
-
-result_listed : (insts : List Inst) (p : ℕ) (i : Inst) (x : Name) → slice_get insts p ≡ Some i → i.result ≡ Some x → has_name (results insts) x ≡ true
-result_listed [] p i x e named = grind arith
-result_listed (j ∷ rest) zero i x e named =
-    ap (λ o. has_name (cons_option o (results rest)) x) (ap (λ o. (unwrap_or o j).result) e ∙ named) ∙ or_left (name_eq x x) (has_name (results rest) x) (name_same x)
-result_listed (j ∷ rest) (suc p) i x e named = by_result j.result (result_listed rest p i x e named)
-  where
-    by_result : (o : Option Name) → has_name (results rest) x ≡ true → has_name (cons_option o (results rest)) x ≡ true
-    by_result None h = h
-    by_result (Some y) h = or_right (name_eq y x) (has_name (results rest) x) h
 
 module _ (x : Name) (test : Inst → Bool) where
   -- what makes a value lists its name

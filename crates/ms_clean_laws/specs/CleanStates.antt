@@ -4,7 +4,7 @@ use Rattle.ms_ir.specs.declared.syntax.Name.{Name}
 use Rattle.ms_ir.specs.declared.syntax.Operand.{Operand}
 use Rattle.ms_ir.specs.declared.syntax.Func.{Func}
 use Rattle.ms_ir.specs.declared.syntax.Module.{Module}
-use Rattle.ms_ir.specs.Code.{func_at}
+use Rattle.ms_ir.specs.Instructions.{func_at}
 use Rattle.ms_runs.specs.Control.{Frame}
 use Rattle.ms_runs.specs.Poisoned.{Poisoned}
 use Rattle.ms_runs.specs.Shadow.{ShadowState, operand_mask}

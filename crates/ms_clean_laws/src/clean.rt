@@ -7,12 +7,12 @@ ghost use Rattle.ms_runs.specs.Plain.{setting_of};
 ghost use Rattle.ms_runs.specs.Masks.{Rules, by_completions, by_formulas};
 ghost use Rattle.ms_runs.specs.Shadow.{ShadowState, shadow_step, shadow_start};
 ghost use Rattle.ms_valid.specs.Formed.{Formed};
-ghost use Rattle.ms_runs_good.specs.GoodStates.{GoodShadow};
-ghost use Rattle.ms_runs_good.specs.Reached.{Walk, walked};
+ghost use Rattle.ms_good_laws.specs.GoodStates.{GoodShadow};
+ghost use Rattle.ms_good_laws.specs.Reached.{Walk, walked};
 ghost use Rattle.ms_valid.specs.Valid.{Valid};
-ghost use Rattle.ms_runs_good.specs.GoodRules.{KeepWidths};
-ghost use Rattle.ms_runs_good.specs.GoodRuns.{LeadsTo};
-ghost use Rattle.ms_runs_good.specs.GoodWorlds.{GivesBytes};
+ghost use Rattle.ms_good_laws.specs.GoodRules.{KeepWidths};
+ghost use Rattle.ms_good_laws.specs.GoodRuns.{LeadsTo};
+ghost use Rattle.ms_good_laws.specs.GoodWorlds.{GivesBytes};
 ghost use Rattle.ms_clean_laws.specs.KeepClean.{KeepClean};
 ghost use Rattle.ms_clean_laws.specs.CleanStates.{AllCleanValues, ReadsClean};
 

@@ -7,7 +7,7 @@ use Rattle.std.proofs.lemmas.Option.{slice_get_past, slice_get_read}
 use Rattle.ms_lex.specs.declared.kinds.Token.{Token}
 use Rattle.ms_lex.specs.Tokens.{Text, InOrder}
 use Rattle.ms_lex.specs.Names.{spelling_of}
-use Rattle.ms_grammar.specs.Lexemes.{lexemes_of, lexeme_of, end_of_text}
+use Rattle.ms_text_grammar.specs.Lexemes.{lexemes_of, lexeme_of, end_of_text}
 use Rattle.ms_read_cursor.specs.Reading.{front}
 use Rattle.ms_read_cursor.specs.Places.{LieIn}
 use Rattle.ms_read_cursor.proofs.Places.{lie_in}

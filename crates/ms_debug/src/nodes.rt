@@ -4,7 +4,7 @@ ghost use Rattle.std.specs.Prelude.{◌≡◌, ℕ, ◌<◌, ◌≤◌, length, 
 ghost use Rattle.std.specs.Str.{bytes_eq};
 ghost use Rattle.ms_lex.specs.Tokens.{InOrder};
 ghost use Rattle.ms_lex.specs.Names.{spelling_of};
-ghost use Rattle.ms_grammar.specs.Lexemes.{lexemes_of};
+ghost use Rattle.ms_text_grammar.specs.Lexemes.{lexemes_of};
 ghost use Rattle.ms_read_cursor.specs.Reading.{front};
 ghost use Rattle.ms_read_cursor.specs.Places.{LieIn};
 ghost use Rattle.ms_places.specs.Told.{spelling_at};

@@ -4,7 +4,7 @@ use Rattle.std.specs.Prelude.{map, if◌then◌else◌}
 use Rattle.ms_ir.specs.declared.syntax.Inst.{Inst}
 use Rattle.ms_ir.specs.declared.syntax.Module.{Module}
 use Rattle.ms_ir.specs.declared.syntax.Op.TheVariants as op
-use Rattle.ms_ir.specs.Code.{operands, count_undefs, is_phi}
+use Rattle.ms_ir.specs.Instructions.{operands, count_undefs, is_phi}
 use Rattle.ms_runs.specs.World.{World, Setting}
 use Rattle.ms_runs.specs.Control.{Frame, here, rest_of, keeping, after_effect}
 use Rattle.ms_runs.specs.Act.{act, plain_reading}

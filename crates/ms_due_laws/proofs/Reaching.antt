@@ -1,5 +1,5 @@
 -- What is due in both runs, with the checks done: the first half of the law of a step.
-use Rattle.std.proofs.Common.{◌≡◌, ◌≢◌, Bool, Option, ℕ, ◌+◌, ◌*◌, ◌≤◌, List, [], ◌∷◌, ◌++◌, length, true, false, Some, inl, inr, refl, sym, ap, ◌∙◌, subst, arith, ◌⊎◌}
+use Rattle.std.proofs.Common.{◌≡◌, Bool, ℕ, ◌+◌, ◌*◌, ◌≤◌, List, ◌∷◌, ◌++◌, length, true, false, Some, inl, inr, refl, sym, ap, ◌∙◌, subst, arith, ◌⊎◌}
 use Rattle.std.specs.Prelude.{if◌then◌else◌}
 use Rattle.std.proofs.Math.Path.{ap₂}
 use Rattle.ms_ir.specs.declared.syntax.Name.{Name}
@@ -7,29 +7,28 @@ use Rattle.ms_ir.specs.declared.syntax.Inst.{Inst}
 use Rattle.ms_ir.specs.declared.syntax.Module.{Module}
 use Rattle.ms_ir.specs.declared.syntax.Op.{Op}
 use Rattle.ms_ir.specs.declared.syntax.Op.TheVariants as op
-use Rattle.ms_ir.specs.Code.{operands, is_phi}
-use Rattle.ms_runs.specs.World.{World, Setting, Here, Effect, Gives, Does, Goes, Enters, Leaves, Ends}
+use Rattle.ms_ir.specs.Instructions.{operands, is_phi}
+use Rattle.ms_runs.specs.World.{World, Setting, Here, Gives, Does}
 use Rattle.ms_runs.specs.Control.{Frame, here, rest_of, keeping, after_effect}
 use Rattle.ms_runs.specs.Act.{act, plain_reading}
 use Rattle.ms_runs.specs.Plain.{PlainState, Stepped, More, and_then, plain_state, plain_inst, act_marked, slots_after}
 use Rattle.ms_runs.specs.Poisoned.{Poisoned}
 use Rattle.ms_runs.specs.Masks.{by_formulas}
 use Rattle.ms_runs.specs.Shadow.{poisoned_result}
-use Rattle.ms_tasks.specs.Meaning.{marked_next, Values, Reach, Went, Over as Done, run_marked, set_result, words_of, AllMarked}
+use Rattle.ms_tasks.specs.Meaning.{Reach, Went, Over as Done, run_marked, words_of, AllMarked}
 use Rattle.ms_tasks.specs.Emit.{before_tasks, start, emit_tasks}
 use Rattle.ms_tasks.specs.PassLists.{emit_op, next_here, pass_insts}
 use Rattle.ms_tasks.specs.Match.{Matches, RangedWorld, RangedValues}
 use Rattle.ms_tasks.specs.InstructionLaw.{given_of, words_at, checked_at, counted_at, acted_at, before_code, BeforeLaw, Checked, Failed, Due}
 use Rattle.ms_tasks.proofs.Before.{before_law}
-use Rattle.ms_pass_laws.proofs.Marked.{AllInserted, inserted_marked, inserted_no_block, tasks_inserted, GetsThrough, reach_step, state_of, read_words, inserted_quiet, IsQuiet}
-use Rattle.ms_pass_laws.proofs.Places.{frame_at, put_plain, drop_step, drop_many, here_step, marked_here}
+use Rattle.ms_pass_laws.proofs.Marked.{marked_through, AllInserted, inserted_marked, inserted_no_block, tasks_inserted, GetsThrough, reach_step, state_of, read_words}
+use Rattle.ms_pass_laws.proofs.Places.{frame_at, drop_many}
 use Rattle.ms_pass_laws.proofs.Step.{here_marked}
 use Rattle.ms_pass_laws.specs.Pass.{Numbering, pass}
 use Rattle.ms_pass_laws.specs.Law.{MakesNoBlock, FramesFollow, TopFollows}
 use Rattle.ms_pass_laws.specs.Known.{KnownModule}
 use Rattle.ms_threads_runs.specs.PlainFibers.{through_marked}
 use Rattle.ms_due_laws.specs.Due.{DueBoth, Reaching, Reported, Tried, Both}
-use Rattle.ms_runs.proofs.HeapBlocks.{keeps_none}
 
 -- ---- the marked instructions up to the next unmarked one
 
@@ -47,57 +46,11 @@ to_inst s j i is h g gs cells w k e f =
     ap₂ (λ x y. inst_to s j i is (here s j g) x g gs cells w y) (read_words s g.values (operands i.op) (here s j g).root) e
     ∙ ap (λ x. inst_to s j i is x (words_of s g.values (operands i.op)) g gs cells w k) f
 
--- from the first of the marked instructions on: more is what holds of those behind it
-marked_first : (s : Setting) (j : Module) (site : ℕ) (x : Option Name) (words : List ℕ) (g : Frame ℕ) (gs : List (Frame ℕ)) (cells : ℕ → ℕ) (e : Effect)
-    (go : PlainState → Stepped PlainState) (k : Values → World → Reach) (f : Values → World → Stepped PlainState) (rest : Type 0)
-    → (IsQuiet e × rest) ⊎ GetsThrough (marked_next x g.values cells e k)
-    → ((names : Name → ℕ) (w : World) → rest ⊎ GetsThrough (k (record { names = names; slots = cells }) w)
-    → go (state_of (frame_at g (g.place + 1) names) gs cells w) ≡ reach_step (k (record { names = names; slots = cells }) w) f)
-    → and_then (plain_state cells (after_effect plain_reading s j site x words (λ v w. v) (λ v w. w) g gs e)) go ≡ reach_step (marked_next x g.values cells e k) f
-marked_first s j site x words g gs cells (Gives v w) go k f rest q h = ap (λ z. go (state_of z gs cells w)) (put_plain g x v) ∙ h (set_result g.values x v) w (fewer q)
-  where
-    fewer : {A B : Type 0} → (Unit {0} × A) ⊎ B → A ⊎ B
-    fewer (inl a) = inl a.1
-    fewer (inr b) = inr b
-marked_first s j site x words g gs cells (Does w) go k f rest q h = h g.values w (fewer q)
-  where
-    fewer : {A B : Type 0} → (Unit {0} × A) ⊎ B → A ⊎ B
-    fewer (inl a) = inl a.1
-    fewer (inr b) = inr b
-marked_first s j site x words g gs cells (Goes to w) go k f rest (inl q) h = absurd q.0
-marked_first s j site x words g gs cells (Goes to w) go k f rest (inr q) h = absurd q
-marked_first s j site x words g gs cells (Enters n w) go k f rest (inl q) h = absurd q.0
-marked_first s j site x words g gs cells (Enters n w) go k f rest (inr q) h = absurd q
-marked_first s j site x words g gs cells (Leaves w) go k f rest (inl q) h = absurd q.0
-marked_first s j site x words g gs cells (Leaves w) go k f rest (inr q) h = absurd q
-marked_first s j site x words g gs cells (Ends e w) go k f rest q h = refl
-
 pub to_marked : (s : Setting) (j : Module) (h : Here) (a b : List Inst) → AllMarked a → MakesNoBlock a → (g : Frame ℕ) (gs : List (Frame ℕ)) (cells : ℕ → ℕ) (w : World)
     → here s j g ≡ h → rest_of j g ≡ a ++ b → AllInserted a ⊎ GetsThrough (run_marked s h a (record { names = g.values; slots = cells }) w)
     → through_marked s j (a ++ b) (state_of g gs cells w)
     ≡ reach_step (run_marked s h a (record { names = g.values; slots = cells }) w) (λ u z. through_marked s j b (state_of (frame_at g (g.place + length a) u.names) gs u.slots z))
-to_marked s j h [] b m blocks g gs cells w f r q = let p : g.place ≡ g.place + 0 = omega arith in ap (λ n. through_marked s j b (state_of (frame_at g n g.values) gs cells w)) p
-to_marked s j h (i ∷ a) b m blocks g gs cells w f r q =
-    to_inst s j i (a ++ b) h g gs cells w true m.0 f
-    ∙ ap (λ k. and_then (plain_state (slots_after i.op (words_of s g.values (operands i.op)) cells)
-    (after_effect plain_reading s j h.site i.result (words_of s g.values (operands i.op)) (λ v w. v) (λ v w. w) k gs (act_marked s h i.op (words_of s g.values (operands i.op)) cells w))) (through_marked s j (a ++ b)))
-    (keeps_none i.op blocks.0 (act_marked s h i.op (words_of s g.values (operands i.op)) cells w) g)
-    ∙ marked_first s j h.site i.result (words_of s g.values (operands i.op)) g gs (slots_after i.op (words_of s g.values (operands i.op)) cells)
-    (act_marked s h i.op (words_of s g.values (operands i.op)) cells w) (through_marked s j (a ++ b)) (run_marked s h a)
-    (λ u z. through_marked s j b (state_of (frame_at g (g.place + length (i ∷ a)) u.names) gs u.slots z)) (AllInserted a) (first q)
-    (λ names z more.
-    to_marked s j h a b m.2 blocks.1 (frame_at g (g.place + 1) names) gs (slots_after i.op (words_of s g.values (operands i.op)) cells) z
-    (here_step s j g names i (a ++ b) r ∙ ap (λ x. next_here (given_of s) x i) f ∙ marked_here s h i m.0) (drop_step _ g.place i (a ++ b) r) more
-    ∙ ap (λ n. reach_step (run_marked s h a (record { names = names; slots = slots_after i.op (words_of s g.values (operands i.op)) cells }) z) (λ u z. through_marked s j b (state_of (frame_at g n u.names) gs u.slots z))) places)
-  where
-    places : g.place + 1 + length a ≡ g.place + length (i ∷ a)
-    places = omega arith
-
-    first : AllInserted (i ∷ a) ⊎ GetsThrough (run_marked s h (i ∷ a) (record { names = g.values; slots = cells }) w)
-        → (IsQuiet (act_marked s h i.op (words_of s g.values (operands i.op)) cells w) × AllInserted a)
-        ⊎ GetsThrough (run_marked s h (i ∷ a) (record { names = g.values; slots = cells }) w)
-    first (inl all) = inl (inserted_quiet s h i.op _ cells w all.1, all.2)
-    first (inr on) = inr on
+to_marked s j h a b = marked_through s j (through_marked s j) (λ i is k g gs cells w m f. to_inst s j i is k g gs cells w true m f) h a b
 
 module _ (s : Setting) (numbers : ℕ → Numbering) (m : Module) (known : KnownModule s numbers m) where
   -- one instruction with the list before it

@@ -8,7 +8,7 @@ use Rattle.ms_ir.specs.declared.syntax.Module.{Module}
 use Rattle.ms_ir.specs.declared.calls.Slot.TheVariants as slot
 use Rattle.ms_ir.specs.Names.{slot_room}
 use Rattle.ms_ir.specs.Layout.{width_of}
-use Rattle.ms_ir.specs.Code.{operands}
+use Rattle.ms_ir.specs.Instructions.{operands}
 use Rattle.ms_runs.specs.declared.runs.End.{End}
 use Rattle.ms_runs.specs.World.{World, Setting, Gives, Does, Ends}
 use Rattle.ms_runs.specs.Control.{Frame, here, rest_of}

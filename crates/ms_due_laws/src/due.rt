@@ -7,7 +7,7 @@ ghost use Rattle.ms_ir.specs.declared.syntax.Operand.TheVariants as operand;
 ghost use Rattle.ms_ir.specs.declared.syntax.Op.TheVariants as op;
 ghost use Rattle.ms_ir.specs.declared.syntax.Inst.{Inst};
 ghost use Rattle.ms_ir.specs.declared.syntax.Module.{Module};
-ghost use Rattle.ms_ir.specs.Code.{operands, count_undefs, is_phi};
+ghost use Rattle.ms_ir.specs.Instructions.{operands, count_undefs, is_phi};
 ghost use Rattle.ms_runs.specs.World.{World, Setting, Gives, Does};
 ghost use Rattle.ms_runs.specs.Control.{Frame, here, rest_of, params_at, entered, keeping, after_effect};
 ghost use Rattle.ms_runs.specs.Act.{plain_reading};

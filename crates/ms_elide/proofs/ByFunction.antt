@@ -6,20 +6,16 @@ use Rattle.std.proofs.lemmas.List.{get_or_at, get_or_append_left, get_or_past}
 use Rattle.ms_ir.specs.declared.syntax.Name.{Name}
 use Rattle.ms_ir.specs.declared.syntax.Func.{Func}
 use Rattle.ms_ir.specs.declared.syntax.Module.{Module}
-use Rattle.ms_ir.specs.Code.{func_at}
+use Rattle.ms_ir.specs.Instructions.{func_at}
 use Rattle.ms_ir.specs.Equal.{has_name}
 use Rattle.ms_valid.specs.CleanValues.{IsClean}
 use Rattle.ms_elide.specs.CleanSets.{is_in, IsExact}
+use Rattle.ms_good_laws.proofs.Starts.{place_within}
 
 pub there : {A : Type 0} (xs : List A) (k : ℕ) (x : A) → k < length xs → x ≡ get_or xs k x → slice_get xs k ≡ Some x
 there [] k x lt e = absurd (omega arith)
 there (y ∷ xs) zero x lt e = ap Some (sym e)
 there (y ∷ xs) (suc k) x lt e = there xs k x (omega arith) e
-
-some_below : {A : Type 0} (xs : List A) (k : ℕ) (x : A) → slice_get xs k ≡ Some x → k < length xs
-some_below [] k x e = absurd (cc)
-some_below (y ∷ xs) zero x e = omega arith
-some_below (y ∷ xs) (suc k) x e = let below = some_below xs k x e in omega arith
 
 none_past : {A : Type 0} (xs : List A) (k : ℕ) → slice_get xs k ≡ None → length xs ≤ k
 none_past [] k e = omega arith
@@ -51,6 +47,6 @@ first_more m set n f names size at exact before k g lt here x =
 
 pub first_all : (m : Module) (set : List (List Name)) (n : ℕ) → length set ≡ n → length m.funcs ≡ n → AreFirst m set n → IsExact m set
 first_all m set n size all first = record {
-  values = λ k f at. first k f (let below = some_below m.funcs k f at in omega arith) at;
+  values = λ k f at. first k f (let below = place_within m.funcs k f at in omega arith) at;
   functions = λ k none x. ap (λ xs. has_name xs x) (get_or_past set k [] (let past = none_past m.funcs k none in omega arith));
 }

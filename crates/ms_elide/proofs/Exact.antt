@@ -3,25 +3,27 @@ use Rattle.std.proofs.Common.{◌≡◌, ℕ, Bool, true, false, List, [], ◌�
 use Rattle.std.specs.Prelude.{filter, slice_get, if◌then◌else◌}
 use Rattle.std.specs.List.{list_any}
 use Rattle.std.proofs.lemmas.Bool.{and_parts, or_cases, or_left, or_right}
+use Rattle.std.proofs.lemmas.Map.Keys.{any_passes_from_place}
 use Rattle.ms_ir.specs.declared.syntax.Name.{Name}
 use Rattle.ms_ir.specs.declared.syntax.Op.{Op}
 use Rattle.ms_ir.specs.declared.syntax.Func.{Func}
 use Rattle.ms_ir.specs.declared.syntax.Module.{Module}
 use Rattle.ms_ir.specs.Names.{name_eq}
-use Rattle.ms_ir.specs.Code.{func_index}
+use Rattle.ms_ir.specs.Instructions.{func_index}
 use Rattle.ms_ir.specs.Equal.{has_name}
 use Rattle.ms_ir.specs.Locals.{locals, results, func_insts, function_names}
+use Rattle.ms_ir.proofs.RootKinds.{name_same as name_sound}
 use Rattle.ms_valid.specs.NamesOnce.{repeats}
 use Rattle.ms_valid.specs.CleanValues.{makes_clean, gives_name, Supported, IsClean}
-use Rattle.ms_valid.proofs.NameTests.{name_same, name_sound}
+use Rattle.ms_valid.proofs.NameTests.{name_same}
 use Rattle.ms_tables.specs.FirstPlace.{first_place}
 use Rattle.ms_tables.proofs.Once.{place_once}
 use Rattle.ms_tables.proofs.Places.{place_holds}
 use Rattle.ms_tables.proofs.Tied.{func_index_is}
-use Rattle.ms_greatest.specs.SelfSupport.{Entries, listed, can_be, Needs, IsSelfSupporting, IsInGreatest}
+use Rattle.ms_elide.specs.SelfSupport.{Entries, listed, can_be, Needs, IsSelfSupporting, IsInGreatest}
 use Rattle.ms_elide.specs.Needed.{Row, rows, row_needs, op_needs, is_member}
 use Rattle.ms_elide.proofs.Needed.{Met, op_found, op_met}
-use Rattle.ms_elide.proofs.Rows.{row_names, row_passes, rows_pass, given_listed, At, some_item, item_passes, mapped, read_at}
+use Rattle.ms_elide.proofs.Rows.{row_names, row_passes, rows_pass, given_listed, At, some_item, mapped, read_at}
 
 -- ---- lists of names that pass a test
 
@@ -172,7 +174,7 @@ module _ (m : Module) (f : Func) (func : Name → Option ℕ) (same : (x : Name)
             let does = row_makes r.row (ap is_some (sym entry) ∙ its.0) (λ j there. its.1 j (subst (P j) (sym entry) there)) in
             let name : name_eq r.row.0 x ≡ true = ap (λ y. name_eq y x) r.named ∙ name_same x in
             sym (rows_pass x (makes_clean m clean_name) f)
-            ∙ item_passes (row_passes x (makes_clean m clean_name)) (rows f) k r.row r.there (ap (λ b. b && elim r.row.1 [ Some o ↦ makes_clean m clean_name o | None ↦ false ]) name ∙ does)
+            ∙ any_passes_from_place (row_passes x (makes_clean m clean_name)) (rows f) k r.row r.there (ap (λ b. b && elim r.row.1 [ Some o ↦ makes_clean m clean_name o | None ↦ false ]) name ∙ does)
 
     named_clean : (k : ℕ) (x : Name) → first_place (locals f) x ≡ Some k → set k ≡ true → IsClean m f x
     named_clean k x at h = record { clean = clean_name; supported = names_supported; member = member_named k x at h }

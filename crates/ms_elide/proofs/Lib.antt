@@ -4,3 +4,6 @@ pub mod Exact
 pub mod Steps
 pub mod Within
 pub mod ByFunction
+pub mod RemovalLists
+pub mod UserRows
+pub mod RemovalSteps

@@ -6,6 +6,7 @@ use Rattle.std.proofs.lemmas.Bool.{and_parts}
 use Rattle.std.proofs.lemmas.List.{take_all, length-map}
 use Rattle.std.proofs.lemmas.List.Folds.{list_all-map}
 use Rattle.std.proofs.lemmas.List.Elements.{Contains-append_left, Contains-append_right, Contains-append_cases, Contains-push, Contains-push_cases}
+use Rattle.std.proofs.lemmas.Option.{same_Some}
 use Rattle.ms_ir.specs.declared.syntax.Name.{Name}
 use Rattle.ms_ir.specs.declared.syntax.Ty.{Ty}
 use Rattle.ms_ir.specs.declared.syntax.Operand.{Operand}
@@ -16,7 +17,7 @@ use Rattle.ms_ir.specs.declared.syntax.Module.{Module}
 use Rattle.ms_ir.specs.declared.calls.External.{External}
 use Rattle.ms_ir.specs.declared.calls.External.TheVariants.{Word}
 use Rattle.ms_ir.specs.Names.{externals, lookup}
-use Rattle.ms_ir.specs.Code.{operands, func_index, external_named}
+use Rattle.ms_ir.specs.Instructions.{operands, func_index, external_named}
 use Rattle.ms_valid.specs.CleanValues.{is_clean_operand, is_division, answers_clean, makes_clean}
 use Rattle.ms_elide.specs.Needed.{Needs, operand_needs, both_needs, all_needs, premises, answer_premises, op_needs}
 
@@ -123,13 +124,10 @@ record Both (a b : Needs) (ks : List ℕ) : Type 0 where
   second : b ≡ Some right
   whole : left ++ right ≡ ks
 
-some_same : {A : Type 0} (a b : A) → Some a ≡ Some b → a ≡ b
-some_same a b e = cc
-
 both_of : (a b : Needs) (ks : List ℕ) → both_needs a b ≡ Some ks → Both a b ks
 both_of None b ks e = absurd (cc)
 both_of (Some xs) None ks e = absurd (cc)
-both_of (Some xs) (Some ys) ks e = record { left = xs; right = ys; first = refl; second = refl; whole = some_same (xs ++ ys) ks e }
+both_of (Some xs) (Some ys) ks e = record { left = xs; right = ys; first = refl; second = refl; whole = same_Some (xs ++ ys) ks e }
 
 module _ (place : Name → Option ℕ) (clean : Name → Bool) where
   operand_met : (o : Operand) (ks : List ℕ) → operand_needs place o ≡ Some ks → Holds place clean ks → is_clean_operand clean o ≡ true
@@ -140,7 +138,7 @@ module _ (place : Name → Option ℕ) (clean : Name → Bool) where
       by_place : (p : Option ℕ) → place x ≡ p → option_map (λ k. k ∷ []) p ≡ Some ks → clean x ≡ true
       by_place None at is = absurd (cc)
       by_place (Some k) at is =
-          let listed : k ∷ [] ≡ ks = some_same (k ∷ []) ks is in
+          let listed : k ∷ [] ≡ ks = same_Some (k ∷ []) ks is in
           let P : List ℕ → Type 0 = λ l. Contains l k in
           h k (subst P listed (Contains-push [] k)) x at
   operand_met o ks e h = refl

@@ -110,11 +110,6 @@ some_item p (x ∷ xs) e = ⊎_elim
     (λ h. let later = some_item p xs h in record { place = suc later.place; item = later.item; there = later.there; passes = later.passes })
     (or_cases (p x) (list_any p xs) e)
 
-pub item_passes : {A : Type 0} (p : A → Bool) (xs : List A) (k : ℕ) (x : A) → slice_get xs k ≡ Some x → p x ≡ true → list_any p xs ≡ true
-item_passes p [] k x at h = absurd (cc)
-item_passes p (y ∷ xs) zero x at h = let same : y ≡ x = cc in or_left (p y) (list_any p xs) (ap p same ∙ h)
-item_passes p (y ∷ xs) (suc k) x at h = or_right (p y) (list_any p xs) (item_passes p xs k x at h)
-
 pub mapped : {A B : Type 0} (f : A → B) (xs : List A) (k : ℕ) → slice_get (map f xs) k ≡ option_map f (slice_get xs k)
 mapped f [] k = refl
 mapped f (x ∷ xs) zero = refl

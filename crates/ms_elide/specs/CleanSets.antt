@@ -3,7 +3,7 @@ use Rattle.std.specs.Prelude.{◌≡◌, ◌↔◌, ◌++◌, ℕ, Bool, false, 
 use Rattle.ms_ir.specs.declared.syntax.Name.{Name}
 use Rattle.ms_ir.specs.declared.syntax.Func.{Func}
 use Rattle.ms_ir.specs.declared.syntax.Module.{Module}
-use Rattle.ms_ir.specs.Code.{func_at}
+use Rattle.ms_ir.specs.Instructions.{func_at}
 use Rattle.ms_ir.specs.Equal.{has_name}
 use Rattle.ms_ir.specs.Locals.{function_names}
 use Rattle.ms_valid.specs.CleanValues.{IsClean}

@@ -1,2 +1,4 @@
 pub mod CleanSets
 pub mod Needed
+pub mod SelfSupport
+pub mod Removal

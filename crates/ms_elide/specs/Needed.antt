@@ -12,7 +12,7 @@ use Rattle.ms_ir.specs.declared.syntax.Op.TheVariants as op
 use Rattle.ms_ir.specs.declared.syntax.Inst.{Inst}
 use Rattle.ms_ir.specs.declared.syntax.Block.{Block}
 use Rattle.ms_ir.specs.declared.syntax.Func.{Func}
-use Rattle.ms_ir.specs.Code.{operands, external_named}
+use Rattle.ms_ir.specs.Instructions.{operands, external_named}
 use Rattle.ms_tables.specs.FirstPlace.{first_place}
 use Rattle.ms_valid.specs.CleanValues.{is_division}
 use Rattle.ms_elide.specs.declared.needs.Need.{Need}

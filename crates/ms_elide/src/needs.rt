@@ -1,11 +1,11 @@
 //! What has to be clean so that a function's results are.
 ghost use Rattle.std.specs.Prelude.{◌≡◌, ◌++◌, map, take, option_to_list, slice_get, IfOk, OnOk};
-ghost use Rattle.ms_ir.specs.Code.{operands};
+ghost use Rattle.ms_ir.specs.Instructions.{operands};
 ghost use Rattle.ms_tables.specs.FirstPlace.{first_place};
 ghost use Rattle.ms_elide.specs.Needed.{needed, operand_needs, operand_needs_at, all_needs, op_needs, row_needs, result_row, result_rows, block_rows, rows};
 
 use crate::premises::premises;
-use crate::scopes::Scope;
+use crate::scopes::FuncNames;
 use ms_bits::{List, NoMemory};
 use ms_ir::{Block, Func, Inst, Op, Operand};
 use ms_tables::NameTable;
@@ -68,7 +68,11 @@ fn operands_need(
 }
 
 /// The locals that the result of an operation needs; none where it never is clean.
-fn op_need(alloc: Global, scope: &Scope<'_, '_>, op: &Op) -> Result<Option<List<usize>>, NoMemory>
+fn op_need(
+    alloc: Global,
+    scope: &FuncNames<'_, '_>,
+    op: &Op,
+) -> Result<Option<List<usize>>, NoMemory>
     ensures { IfOk result (λ needs. needs ≡ op_needs (first_place scope.now.locals.now) (first_place scope.now.functions.now) op.now) }
 {
     match premises(scope.functions, op) {
@@ -80,7 +84,7 @@ fn op_need(alloc: Global, scope: &Scope<'_, '_>, op: &Op) -> Result<Option<List<
 /// Adds what the result of an instruction needs, if it has one.
 fn push_result(
     alloc: Global,
-    scope: &Scope<'_, '_>,
+    scope: &FuncNames<'_, '_>,
     needs: &mut Vec<Option<List<usize>>>,
     inst: &Inst,
 ) -> Result<(), NoMemory>
@@ -96,7 +100,7 @@ fn push_result(
 /// Adds what the results of instructions need.
 fn push_results(
     alloc: Global,
-    scope: &Scope<'_, '_>,
+    scope: &FuncNames<'_, '_>,
     needs: &mut Vec<Option<List<usize>>>,
     insts: &[Inst],
 ) -> Result<(), NoMemory>
@@ -111,7 +115,7 @@ fn push_results(
 /// Adds what a block and its results need. A block is no value.
 fn push_block(
     alloc: Global,
-    scope: &Scope<'_, '_>,
+    scope: &FuncNames<'_, '_>,
     needs: &mut Vec<Option<List<usize>>>,
     block: &Block,
 ) -> Result<(), NoMemory>
@@ -131,7 +135,7 @@ fn parameter_needs(alloc: Global, func: &Func) -> Result<Vec<Option<List<usize>>
 /// What each local of a function needs, in the order of their places; none for one that never is clean.
 pub fn needs_of(
     alloc: Global,
-    scope: &Scope<'_, '_>,
+    scope: &FuncNames<'_, '_>,
     func: &Func,
 ) -> Result<Vec<Option<List<usize>>>, NoMemory>
     ensures { IfOk result (λ needs. needs.items ≡ map (row_needs (first_place scope.now.locals.now) (first_place scope.now.functions.now)) (rows func.now)) }

@@ -1,6 +1,6 @@
 //! Which operands decide whether a result is clean.
 ghost use Rattle.std.specs.Prelude.{◌≡◌, if◌then◌else◌};
-ghost use Rattle.ms_ir.specs.Code.{external_named};
+ghost use Rattle.ms_ir.specs.Instructions.{external_named};
 ghost use Rattle.ms_tables.specs.FirstPlace.{first_place};
 ghost use Rattle.ms_valid.specs.CleanValues.{is_division};
 ghost use Rattle.ms_elide.specs.Needed.{premises, answer_premises};

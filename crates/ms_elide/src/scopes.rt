@@ -5,7 +5,7 @@ use ms_tables::NameTable;
 /// What is looked up in a module and in a function: the names of the module's functions, and those of the function's
 /// parameters, blocks and results, by whose places they are numbered.
 #[derive(Clone, Copy)]
-pub struct Scope<'a, 'm> {
+pub struct FuncNames<'a, 'm> {
     pub functions: &'a NameTable<'m>,
     pub locals: &'a NameTable<'m>,
 }

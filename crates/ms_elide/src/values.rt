@@ -7,13 +7,13 @@ ghost use Rattle.ms_ir.specs.Locals.{locals, results, func_insts, function_names
 ghost use Rattle.ms_valid.specs.NamesOnce.{repeats};
 ghost use Rattle.ms_valid.specs.CleanValues.{IsClean};
 ghost use Rattle.ms_tables.specs.FirstPlace.{first_place};
-ghost use Rattle.ms_greatest.specs.SelfSupport.{IsInGreatest};
+ghost use Rattle.ms_elide.specs.SelfSupport.{IsInGreatest};
 ghost use Rattle.ms_elide.specs.Needed.{is_member, row_needs, rows};
 
 use crate::needs::needs_of;
-use crate::scopes::Scope;
+use crate::removal::greatest;
+use crate::scopes::FuncNames;
 use ms_bits::{List, NoMemory};
-use ms_greatest::greatest;
 use ms_ir::{Block, Func, Inst, Name};
 use ms_tables::{NameTable, locals_of};
 use std::alloc::Global;
@@ -77,7 +77,11 @@ fn members_of<'m>(
 }
 
 /// Whether each local of a function is clean, by their places. The one error is want of memory.
-fn clean_places(alloc: Global, scope: &Scope<'_, '_>, func: &Func) -> Result<List<bool>, NoMemory>
+fn clean_places(
+    alloc: Global,
+    scope: &FuncNames<'_, '_>,
+    func: &Func,
+) -> Result<List<bool>, NoMemory>
     requires { scope.now.locals.now ≡ locals func.now }
     ensures { IfOk result (λ members. (place : ℕ) → IsTrue (slice_index_or members place false) ↔ IsInGreatest (map (row_needs (first_place scope.now.locals.now) (first_place scope.now.functions.now)) (rows func.now)) place) }
 {
@@ -95,7 +99,7 @@ pub fn values_of<'m>(
     ensures { IfOk result (λ names. (m : Module) → functions.now ≡ function_names m → (x : NameOf) → IsTrue (has_name names x) ↔ IsClean m func.now x) }
 {
     let locals = locals_of(alloc, func)?;
-    let scope = Scope {
+    let scope = FuncNames {
         functions,
         locals: &locals,
     };

@@ -18,9 +18,9 @@ use Rattle.ms_runs.specs.Masks.{value_or_zero}
 use Rattle.ms_runs.specs.Plain.{start_world}
 use Rattle.ms_runs.specs.Poisoned.{Poisoned}
 use Rattle.ms_runs.specs.World.{World}
-use Rattle.ms_ir.specs.ExampleCalls.{calloc, printf}
-use Rattle.ms_ir.specs.ExampleModules.{shared_cell}
-use Rattle.ms_ir.specs.ExampleParts.{i8, i32, i64, array, local, int, undef, sets, does, binary as combine, icmp, convert, alloca, branch, ret, call, name, returns, block, main_blocks, main_of}
+use Rattle.ms_ir.specs.Declarations.{calloc, printf}
+use Rattle.ms_example_modules.specs.Programs.{shared_cell}
+use Rattle.ms_ir.specs.Builders.{i8, i32, i64, array, local, int, undef, sets, does, binary as combine, icmp, convert, alloca, branch, ret, call, name, returns, block, main_blocks, main_of}
 use Rattle.ms_runs.specs.ExampleRuns.{defaults}
 
 -- a word with a mask, from no origin

@@ -2,7 +2,7 @@
 ghost use Rattle.std.specs.Prelude.{◌≡◌, [], ◌∷◌};
 ghost use Rattle.ms_runs.specs.declared.runs.Origin.TheVariants.{Root, Chain};
 ghost use Rattle.ms_runs.specs.Origins.{trail};
-ghost use Rattle.ms_ir.specs.ExampleModules.{shared_cell};
+ghost use Rattle.ms_example_modules.specs.Programs.{shared_cell};
 ghost use Rattle.ms_runs.specs.ExampleRuns.{defaults};
 ghost use Rattle.ms_runs.specs.Plain.{setting_of};
 ghost use Rattle.ms_examples.specs.Programs.{with_pairs, sixteen_pairs};

@@ -4,7 +4,7 @@ ghost use Rattle.std.specs.Prelude.{◌≡◌, [], ◌∷◌, ◌++◌, codes, t
 ghost use Rattle.ms_bits.specs.declared.traps.Trap.TheVariants as trap;
 ghost use Rattle.ms_ir.specs.declared.syntax.Operand.TheVariants as operand;
 ghost use Rattle.ms_ir.specs.declared.syntax.Ty as ty;
-ghost use Rattle.ms_ir.specs.ExampleParts.{i32, i64, int, undef};
+ghost use Rattle.ms_ir.specs.Builders.{i32, i64, int, undef};
 ghost use Rattle.ms_runs.specs.declared.formats.Piece.TheVariants.{Text, Dec32, Str, Dec64, Hex64};
 ghost use Rattle.ms_runs.specs.declared.runs.End.TheVariants as «end»;
 ghost use Rattle.ms_runs.specs.ExampleRuns.{defaults, prints, trapped, reported, report};

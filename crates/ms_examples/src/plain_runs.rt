@@ -6,16 +6,16 @@ ghost use Rattle.ms_runs.specs.declared.runs.End.TheVariants as «end»;
 ghost use Rattle.ms_ir.specs.declared.syntax.Op.TheVariants as op;
 ghost use Rattle.ms_ir.specs.declared.syntax.Operand.TheVariants as operand;
 ghost use Rattle.ms_ir.specs.declared.syntax.Ty as ty;
-ghost use Rattle.ms_ir.specs.ExampleModules.{returns_zero, branch_on_unset, masked_to_zero, ordered_compare, set_bit_is_not_zero, select_undef, two_unset, shared_cell, lost_in_addition, recursion, nested_call, write_with_gap, store_to_shadow, clang_unoptimised, store_and_load, sum_wraps, undef_divisor, frozen, three_branches, undef_sum, undef_stored, carry_of_undef};
-ghost use Rattle.ms_ir.specs.ExampleExternals.{returns_is_null, returns_word_at, returns_low, returns_address, heap_filled, zeroed, freed, grown, grown_too_far, calls_on_two_bytes, calls_on_four_bytes, calls_on_word, reads_twice, made_anew, own_malloc, chooses, swaps, takes_room_back, reads_room_of_callee, odd_width, steps_back, reads_across, with_globals, inner_word};
-ghost use Rattle.ms_runs.specs.ExampleRuns.{frame_at_call, frames_at_call, recursion_world, called_above, counted, one_to_five, defaults, filled, fed, steps, exits, prints, spent, trapped, reported, report, report_unknown};
-ghost use Rattle.ms_ir.specs.ExampleCalls as calls;
-ghost use Rattle.ms_ir.specs.ExampleMarks.{inserts, inserts_call, inserted, unpoisons, copies_up, fills, stores_origin, looks_at_string, checks_loaded_origin, checks_loaded_shadow, checks_slot, checks_size, marked, on_heap, poisons, looks, checks, shadow_address, bad_ranges, branch_on_unset_checked, nested_call_checked, with_slots, mask_slot, result_mask};
-ghost use Rattle.ms_ir.specs.ExampleParts.{i8, i32, i64, array, struct_of_three, int, local, sets, does, call, alloca, ret, name, main_of, returns, unreachable, calls_first};
+ghost use Rattle.ms_example_modules.specs.Programs.{returns_zero, branch_on_unset, masked_to_zero, ordered_compare, set_bit_is_not_zero, select_undef, two_unset, shared_cell, lost_in_addition, recursion, nested_call, write_with_gap, store_to_shadow, clang_unoptimised, store_and_load, sum_wraps, undef_divisor, frozen, three_branches, undef_sum, undef_stored, carry_of_undef};
+ghost use Rattle.ms_example_modules.specs.Externals.{returns_is_null, returns_word_at, returns_low, returns_address, heap_filled, zeroed, freed, grown, grown_too_far, calls_on_two_bytes, calls_on_four_bytes, calls_on_word, reads_twice, made_anew, own_malloc, chooses, swaps, takes_room_back, reads_room_of_callee, odd_width, steps_back, reads_across, with_globals, inner_word};
+ghost use Rattle.ms_runs.specs.ExampleRuns.{counted, one_to_five, defaults, filled, fed, steps, exits, prints, spent, trapped, reported, report, report_unknown};
+ghost use Rattle.ms_ir.specs.Declarations as calls;
+ghost use Rattle.ms_example_modules.specs.Marks.{inserts, inserts_call, inserted, unpoisons, copies_up, fills, stores_origin, looks_at_string, checks_loaded_origin, checks_loaded_shadow, checks_slot, checks_size, marked, on_heap, poisons, looks, checks, shadow_address, bad_ranges, branch_on_unset_checked, nested_call_checked, with_slots, mask_slot, result_mask};
+ghost use Rattle.ms_ir.specs.Builders.{i8, i32, i64, array, struct_of_three, int, local, sets, does, call, alloca, ret, name, main_of, returns, unreachable, calls_first};
 ghost use Rattle.ms_runs.specs.Act.{plain_reading};
 ghost use Rattle.ms_runs.specs.Externals.{printed};
 ghost use Rattle.ms_runs.specs.World.{World, Gives, traps};
-ghost use Rattle.ms_ir.specs.Code.{strip, count_roots, root_at, site_at};
+ghost use Rattle.ms_ir.specs.Instructions.{strip, count_roots, root_at, site_at};
 ghost use Rattle.ms_runs.specs.Control.{On, Over, entered};
 ghost use Rattle.ms_bits.specs.NoFlags.{no_flags};
 ghost use Rattle.ms_ir.specs.Layout.{size_of};
@@ -27,6 +27,7 @@ ghost use Rattle.ms_bits.specs.Maps.{bytes_at, copied, copied_cells};
 ghost use Rattle.ms_bits.specs.declared.operations.BinOp.TheVariants as binary;
 ghost use Rattle.ms_bits.specs.declared.operations.CastOp.TheVariants as cast;
 ghost use Rattle.ms_bits.specs.declared.operations.Pred.TheVariants as predicate;
+ghost use Rattle.ms_examples.specs.CallFrames.{frame_at_call, frames_at_call, recursion_world, called_above};
 
 /// Whole programs under plain runs.
 pub fn modules()

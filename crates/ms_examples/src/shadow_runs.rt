@@ -3,7 +3,7 @@
 ghost use Rattle.std.specs.Prelude.{◌≡◌, [], ◌∷◌};
 ghost use Rattle.ms_bits.specs.declared.traps.Trap.TheVariants as trap;
 ghost use Rattle.ms_runs.specs.declared.runs.End.TheVariants as «end»;
-ghost use Rattle.ms_ir.specs.ExampleModules.{two_edges, returns_zero, branch_on_unset, masked_to_zero, ordered_compare, set_bit_is_not_zero, select_undef, two_unset, recursion, nested_call, write_with_gap, store_to_shadow, clang_unoptimised, sum_wraps, undef_divisor, frozen, three_branches};
+ghost use Rattle.ms_example_modules.specs.Programs.{two_edges, returns_zero, branch_on_unset, masked_to_zero, ordered_compare, set_bit_is_not_zero, select_undef, two_unset, recursion, nested_call, write_with_gap, store_to_shadow, clang_unoptimised, sum_wraps, undef_divisor, frozen, three_branches};
 ghost use Rattle.ms_runs.specs.ExampleRuns.{defaults, filled, steps, exits, prints, spent, trapped, reported, report};
 ghost use Rattle.ms_runs.specs.Shadow.{shadow};
 

@@ -122,9 +122,6 @@ defined_unless g u not_undefined before path = ⊎_elim
     (has_or_not (get_or g.defs u.block []) u.value))
     (some_or_none g u.value before)
 
-pub misses_denies : (g : Graph) (u : Use) (path : List ℕ) → Misses g u path → IsDefined g u → ⊥
-misses_denies g u path m d = m.avoids (d m.before (let P : List ℕ → Type 0 = λ l. IsPath g l in subst P m.ends m.leads))
-
 -- ---- arrives
 
 pub leaves_after : (kills words : List ℕ) (u : Use) (i word : ℕ) → u.after ≡ true

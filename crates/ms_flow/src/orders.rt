@@ -8,7 +8,7 @@ use std::alloc::Global;
 
 /// A step of the walk that is still to be done.
 #[derive(Clone, Copy)]
-struct Step {
+struct Pending {
     block: usize,
     /// Whether all that the block leads to has been walked through.
     leaves: bool,
@@ -47,11 +47,11 @@ fn postorder(alloc: Global, g: &Graph) -> Result<Vec<usize>, NoMemory>
 }
 
 /// The step with which the walk begins, to block 0.
-fn first_steps(alloc: Global) -> Result<Vec<Step>, NoMemory>
+fn first_steps(alloc: Global) -> Result<Vec<Pending>, NoMemory>
     ensures { IfOk result (λ steps. steps.items ≡ record { block = 0; leaves = false } ∷ []) }
 {
     let mut steps = Vec::new(alloc);
-    steps.push(Step {
+    steps.push(Pending {
         block: 0,
         leaves: false,
     })?;
@@ -61,9 +61,9 @@ fn first_steps(alloc: Global) -> Result<Vec<Step>, NoMemory>
 /// Does one step of the walk: leaves its block, or enters it where it isn't entered yet.
 fn take(
     g: &Graph,
-    step: Step,
+    step: Pending,
     entered: &mut [bool],
-    steps: &mut Vec<Step>,
+    steps: &mut Vec<Pending>,
     done: &mut Vec<usize>,
 ) -> Result<(), NoMemory>
     requires block { step.block < length g.now.next }
@@ -84,18 +84,18 @@ fn take(
 }
 
 /// Adds the steps to a block's successors, and behind them the one that leaves the block.
-fn enter(g: &Graph, block: usize, steps: &mut Vec<Step>) -> Result<(), NoMemory>
+fn enter(g: &Graph, block: usize, steps: &mut Vec<Pending>) -> Result<(), NoMemory>
     requires block { block < length g.now.next }
     requires successors { StaysIn g.now }
     requires steps { All (λ s. s.block < length g.now.next) steps.old.items }
     ensures { OnOk result (All (λ s. s.block < length g.now.next) steps.new.items) }
 {
-    steps.push(Step {
+    steps.push(Pending {
         block,
         leaves: true,
     })?;
     for next in g.successors(block) {
-        steps.push(Step {
+        steps.push(Pending {
             block: *next as usize,
             leaves: false,
         })?;

@@ -11,7 +11,7 @@ use Rattle.ms_runs.specs.declared.runs.Setup.{Setup}
 use Rattle.ms_runs.specs.declared.runs.End.{End}
 use Rattle.ms_runs.specs.declared.runs.End.TheVariants as «end»
 use Rattle.ms_runs.specs.World.{World, Setting, Here, Effect, Gives, Does, Goes, Enters, Leaves, Ends}
-use Rattle.ms_ir.specs.Code.{operands, count_undefs, HeadUnmarked, NoMarks}
+use Rattle.ms_ir.specs.Instructions.{operands, count_undefs, HeadUnmarked, NoMarks}
 use Rattle.ms_runs.specs.Control.{Frame, Outcome, On, Over, here, rest_of, read_all, put, result_at, release, given_back, blocks_made, keeping, entered, left, after_effect}
 use Rattle.ms_runs.specs.Act.{act, plain_reading}
 use Rattle.ms_runs.specs.Plain.{act_marked, slots_after, PlainState, More, Stop, and_then, plain_state, through, plain_step, plain_start}

@@ -10,7 +10,7 @@ use Rattle.ms_ir.specs.declared.syntax.Module.{Module}
 use Rattle.ms_ir.specs.declared.calls.External.{External}
 use Rattle.ms_ir.specs.declared.calls.External.TheVariants.{Malloc, Realloc, Memcpy, Memmove, Memset, Read, LlvmMemcpy, LlvmMemmove, LlvmMemset, LifetimeStart, PthreadCreate, PthreadJoin}
 use Rattle.ms_ir.specs.Layout.{stored_size, size_in}
-use Rattle.ms_ir.specs.Code.{operands, external_named}
+use Rattle.ms_ir.specs.Instructions.{operands, external_named}
 use Rattle.ms_runs.specs.declared.runs.End.TheVariants as «end»
 use Rattle.ms_runs.specs.World.{World, Setting, Effect, Gives, Does}
 use Rattle.ms_runs.specs.Memory.{is_good, heap_size, set_shadow}

@@ -1,7 +1,7 @@
 //! The plain run takes the steps of the shadow run.
 ghost use Rattle.std.specs.Prelude.{◌≡◌};
 ghost use Rattle.ms_ir.specs.declared.syntax.Module.{Module};
-ghost use Rattle.ms_ir.specs.Code.{NoMarks};
+ghost use Rattle.ms_ir.specs.Instructions.{NoMarks};
 ghost use Rattle.ms_runs.specs.declared.runs.Setup.{Setup};
 ghost use Rattle.ms_runs.specs.World.{Setting};
 ghost use Rattle.ms_runs.specs.Plain.{PlainState, plain_step, plain_start};

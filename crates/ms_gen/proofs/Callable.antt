@@ -10,12 +10,12 @@ use Rattle.ms_ir.specs.declared.syntax.Module.{Module}
 use Rattle.ms_ir.specs.declared.calls.External.{External}
 use Rattle.ms_ir.specs.declared.calls.External.TheVariants.{Putchar}
 use Rattle.ms_ir.specs.Names.{name_eq, lookup, externals}
-use Rattle.ms_ir.specs.Code.{func_index, external_named}
+use Rattle.ms_ir.specs.Instructions.{func_index, external_named}
 use Rattle.ms_ir.specs.Equal.{has_name}
 use Rattle.ms_ir.specs.Locals.{symbols}
 use Rattle.ms_ir.specs.Signatures.{Signature, func_signature, defined_signature, declared_signature, signature_of}
-use Rattle.ms_ir.specs.ExampleParts.{i32}
-use Rattle.ms_ir.specs.ExampleCalls.{putchar}
+use Rattle.ms_ir.specs.Builders.{i32}
+use Rattle.ms_ir.specs.Declarations.{putchar}
 use Rattle.ms_ir.specs.declared.syntax.Operand.{Operand}
 use Rattle.ms_valid.specs.ExternalsFit.{flag_fits}
 use Rattle.ms_valid.proofs.NameTests.{name_same}

@@ -8,8 +8,8 @@ use Rattle.ms_ir.specs.Names.{bit_moves, is_kept}
 use Rattle.ms_ir.specs.Locals.{Spelled, locals, value_type}
 use Rattle.ms_ir.specs.Spots.{Spot, over_block_spots}
 use Rattle.ms_ir.specs.Written.{mentions}
-use Rattle.ms_ir.specs.ExampleCalls.{putchar}
-use Rattle.ms_ir.specs.ExampleParts.{int, local}
+use Rattle.ms_ir.specs.Declarations.{putchar}
+use Rattle.ms_ir.specs.Builders.{int, local}
 use Rattle.ms_valid.specs.NamesOnce.{percent_sign, repeats}
 use Rattle.ms_valid.specs.NamesKnown.{unknown_of}
 use Rattle.ms_valid.specs.TypesAgree.{operand_fits, op_fault, at_site}

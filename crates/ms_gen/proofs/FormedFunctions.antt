@@ -2,21 +2,20 @@
 use Rattle.std.proofs.Common.{◌≡◌, ◌<◌, ◌≤◌, ◌+◌, ◌-◌, ◌*◌, ◌/◌, ◌^◌, ◌∙◌, ◌++◌, ℕ, zero, suc, true, map, refl, ap, arith}
 use Rattle.std.specs.Prelude.{not, ◌&&◌, nat_lt, nat_le, length}
 use Rattle.std.specs.List.{list_all, range_with_len}
-use Rattle.std.proofs.lemmas.Bool.{lt-ltb}
+use Rattle.std.proofs.lemmas.Bool.{lt-ltb, and_from}
 use Rattle.std.proofs.lemmas.Nat.{mod_below}
 use Rattle.std.proofs.lemmas.List.Folds.{list_all-append}
 use Rattle.ms_ir.specs.declared.syntax.Func.{Func}
 use Rattle.ms_ir.specs.Names.{is_reserved}
-use Rattle.ms_ir.specs.Code.{operands, over_blocks}
+use Rattle.ms_ir.specs.Instructions.{operands, over_blocks}
 use Rattle.ms_ir.specs.Locals.{locals}
-use Rattle.ms_ir.specs.ExampleParts.{block}
+use Rattle.ms_ir.specs.Builders.{block}
 use Rattle.ms_valid.specs.FormedNames.{are_numbered}
 use Rattle.ms_valid.specs.FormedCode.{inst_formed, is_body}
 use Rattle.ms_valid.specs.Formed.{block_formed, func_formed, count_written}
 use Rattle.ms_valid.specs.ReadLimits.{func_names}
 use Rattle.ms_gen.specs.Generator.{function_of, main_of, operation_on, operations, ending, body_of, draw, state_after}
 use Rattle.ms_gen.proofs.Names.{name_is_global}
-use Rattle.ms_gen.proofs.Whole.{both}
 
 -- ---- operations
 
@@ -32,7 +31,7 @@ operation_formed value state few =
 operations_from : (state a n : ℕ) → a + n < 900 → list_all inst_formed (map (λ k. operation_on (k + 3) (state_after (2 * k) state)) (range_with_len a n)) ≡ true
 operations_from state a zero few = refl
 operations_from state a (suc n) few =
-    both _ _ (operation_formed (a + 3) (state_after (2 * a) state) (omega (arith, few))) (operations_from state (a + 1) n (omega (arith, few)))
+    and_from _ _ (operation_formed (a + 3) (state_after (2 * a) state) (omega (arith, few))) (operations_from state (a + 1) n (omega (arith, few)))
 
 ending_formed : (number : ℕ) → number < 2 ^ 63 → list_all inst_formed (ending number) ≡ true
 ending_formed zero few = refl
@@ -40,7 +39,7 @@ ending_formed (suc before) few = rw (name_is_global before (omega (arith, few)))
 
 body_formed : (number state : ℕ) → number < 2 ^ 63 → list_all inst_formed (operations 8 state ++ ending number) ≡ true
 unfolding operations
-body_formed number state few = list_all-append inst_formed (operations 8 state) (ending number) ∙ both _ _ (operations_from state 0 8 (omega arith)) (ending_formed number few)
+body_formed number state few = list_all-append inst_formed (operations 8 state) (ending number) ∙ and_from _ _ (operations_from state 0 8 (omega arith)) (ending_formed number few)
 
 -- ---- functions
 
@@ -55,8 +54,8 @@ pub record IsSmallFunc (f : Func) : Type 0 where
 
 function_formed : (number state : ℕ) → number < 2 ^ 63 → are_numbered (locals (function_of number state)) ≡ true → is_body (body_of number state) ≡ true → func_formed (function_of number state) ≡ true
 function_formed number state few numbered ends =
-    let block : block_formed (block 1 (body_of number state)) ≡ true = both _ _ ends (body_formed number state few) in
-    both _ _ (both _ _ (ap (λ t. t && true && true && true) (name_is_global number (omega (arith, few)))) (ap (λ t. t && true) block)) numbered
+    let block : block_formed (block 1 (body_of number state)) ≡ true = and_from _ _ ends (body_formed number state few) in
+    and_from _ _ (and_from _ _ (ap (λ t. t && true && true && true) (name_is_global number (omega (arith, few)))) (ap (λ t. t && true) block)) numbered
 
 pub first_small : (state : ℕ) → IsSmallFunc (function_of 0 state)
 unfolding operations

@@ -1,20 +1,21 @@
 -- A generated module is formed and valid, and can be instrumented.
-use Rattle.std.proofs.Common.{◌≡◌, ◌<◌, ◌≤◌, ◌+◌, ◌-◌, ◌*◌, ◌∙◌, ◌++◌, ℕ, zero, suc, Bool, true, false, List, [], ◌∷◌, map, length, length-append, refl, ap, arith}
-use Rattle.std.specs.Prelude.{All, not, ◌||◌, nat_le, flat_map}
+use Rattle.std.proofs.Common.{◌≡◌, ◌<◌, ◌≤◌, ◌+◌, ◌-◌, ◌*◌, ◌∙◌, ◌++◌, ℕ, zero, suc, true, List, [], ◌∷◌, map, length, length-append, refl, ap, arith}
+use Rattle.std.specs.Prelude.{All, not, nat_le, flat_map}
 use Rattle.std.specs.List.{list_all, list_any}
 use Rattle.std.proofs.lemmas.List.Elements.{All-nil, All-append}
 use Rattle.std.proofs.lemmas.List.Folds.{list_all-append, list_all-map, list_any-append}
 use Rattle.std.proofs.lemmas.List.FromFn.{length-map-range_with_len}
 use Rattle.std.proofs.lemmas.List.Sums.{list_all-from_AllPass}
+use Rattle.std.proofs.lemmas.Bool.{and_from}
 use Rattle.ms_ir.specs.declared.syntax.Func.{Func}
 use Rattle.ms_ir.specs.declared.syntax.Name.{Name}
 use Rattle.ms_ir.specs.declared.syntax.Module.{Module}
 use Rattle.ms_ir.specs.Names.{is_reserved, is_kept}
 use Rattle.ms_ir.proofs.Tables.{not_kept}
-use Rattle.ms_ir.specs.Code.{operands}
+use Rattle.ms_ir.specs.Instructions.{operands}
 use Rattle.ms_ir.specs.Equal.{has_name}
 use Rattle.ms_ir.specs.Spots.{found}
-use Rattle.ms_ir.specs.ExampleCalls.{putchar}
+use Rattle.ms_ir.specs.Declarations.{putchar}
 use Rattle.ms_valid.specs.Formed.{Formed, func_formed, count_written}
 use Rattle.ms_valid.specs.HasMain.{is_main}
 use Rattle.ms_valid.specs.ExternalsFit.{name_unless, decl_fits, called_names, flagged_callees}
@@ -23,17 +24,14 @@ use Rattle.ms_valid.specs.SizesFit.{sized, func_types, spelled_unless}
 use Rattle.ms_valid.specs.Uninstrumented.{CanInstrument}
 use Rattle.ms_valid.specs.UsesDefined.{IsUseDefined}
 use Rattle.ms_valid.specs.Valid.{Valid}
+use Rattle.ms_valid.proofs.TypedValues.{or_true}
 use Rattle.ms_gen.specs.Generator.{operations, function_of, state_after, functions_of, main_of, generated}
 use Rattle.ms_gen.proofs.Callable.{function_callable, putchar_callable}
 use Rattle.ms_gen.proofs.Fits.{Fits, first_fits, later_fits, main_fits, unknown_at, mismatch_at, bad_edge_at, bad_mark_at, uses_at}
 use Rattle.ms_gen.proofs.FormedFunctions.{IsSmallFunc, first_small, later_small, main_small}
 use Rattle.ms_gen.proofs.Once.{names_once}
 use Rattle.ms_gen.proofs.Unmarked.{all_unmarked, no_marks}
-use Rattle.ms_gen.proofs.Whole.{both, each, over_all, none_found, nothing_in, all_in, at_most_forty}
-
-or_true : (b : Bool) → (b || true) ≡ true
-or_true true = refl
-or_true false = refl
+use Rattle.ms_gen.proofs.Whole.{each, over_all, none_found, nothing_in, all_in, at_most_forty}
 
 -- `putchar` fits, whichever functions are called
 putchar_fits : (called : List Name) → decl_fits called putchar ≡ true
@@ -101,7 +99,7 @@ module _ (seed n : ℕ) (some : 0 < n) (few : n ≤ 1000) where
 
   free : list_all (λ x. not (is_reserved x)) (map (λ f. f.name) m.funcs ++ flat_map func_names m.funcs) ≡ true
   free = list_all-append (λ x. not (is_reserved x)) (map (λ f. f.name) m.funcs) (flat_map func_names m.funcs)
-      ∙ both _ _
+      ∙ and_from _ _
       (list_all-map (λ x. not (is_reserved x)) (λ f. f.name) m.funcs
       ∙ list_all-from_AllPass (λ f. not (is_reserved f.name)) m.funcs (λ k f l. ap not (not_kept _ (all_fit k f l).free).0))
       (all_in (λ x. not (is_reserved x)) func_names m.funcs (λ k f l. (all_small k f l).free))

@@ -9,8 +9,8 @@ use Rattle.std.proofs.lemmas.Str.Ascii.{All-from_ascii}
 use Rattle.ms_ir.specs.declared.syntax.Name.{Name}
 use Rattle.ms_ir.specs.declared.syntax.Name.TheVariants.{Number, Text}
 use Rattle.ms_ir.specs.Names.{name_eq}
+use Rattle.ms_ir.proofs.RootKinds.{name_same}
 use Rattle.ms_valid.specs.FormedNames.{are_bytes, is_global_name}
-use Rattle.ms_valid.proofs.NameTests.{name_sound}
 use Rattle.ms_gen.specs.Generator.{name_of}
 
 -- the bytes of a name that is a text
@@ -26,7 +26,7 @@ pub names_differ : (j k : ℕ) → j < 2 ^ 64 → k < 2 ^ 64 → j ≢ k → nam
 names_differ j k a b other = by_test (name_eq (name_of j) (name_of k)) refl
   where
     by_test : (t : Bool) → name_eq (name_of j) (name_of k) ≡ t → t ≡ false
-    by_test true e = absurd (other (same_number j k a b (name_sound (name_of j) (name_of k) e)))
+    by_test true e = absurd (other (same_number j k a b (name_same (name_of j) (name_of k) e)))
     by_test false e = refl
 
 -- digits are bytes

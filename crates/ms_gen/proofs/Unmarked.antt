@@ -8,7 +8,7 @@ use Rattle.ms_ir.specs.declared.syntax.Inst.{Inst}
 use Rattle.ms_ir.specs.declared.syntax.Block.{Block}
 use Rattle.ms_ir.specs.declared.syntax.Func.{Func}
 use Rattle.ms_ir.specs.declared.syntax.Module.{Module}
-use Rattle.ms_ir.specs.Code.{is_unmarked, HeadUnmarked, NoMarks}
+use Rattle.ms_ir.specs.Instructions.{is_unmarked, HeadUnmarked, NoMarks}
 
 -- no instruction of a function is marked
 abbrev pub all_unmarked : Func → Bool

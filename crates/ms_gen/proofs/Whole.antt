@@ -1,21 +1,16 @@
 -- What holds of each generated function, and of `main`, holds of the whole module.
-use Rattle.std.proofs.Common.{◌≡◌, ◌<◌, ◌≤◌, ◌+◌, ◌*◌, ◌∙◌, ◌++◌, ℕ, zero, suc, Bool, true, false, List, [], ◌∷◌, length, refl, arith}
-use Rattle.std.specs.Prelude.{All, ◌&&◌, flat_map}
+use Rattle.std.proofs.Common.{◌≡◌, ◌<◌, ◌≤◌, ◌+◌, ◌*◌, ◌∙◌, ◌++◌, ℕ, zero, suc, Bool, true, List, [], ◌∷◌, length, refl, arith}
+use Rattle.std.specs.Prelude.{All, flat_map}
 use Rattle.std.specs.List.{list_all, range_with_len}
 use Rattle.std.proofs.Math.Path.{ap₂}
 use Rattle.std.proofs.lemmas.List.Elements.{All-nil, All-cons, All-head, All-tail, All-append, All-map}
 use Rattle.std.proofs.lemmas.List.Folds.{list_all-append}
+use Rattle.std.proofs.lemmas.Bool.{and_from}
 use Rattle.ms_ir.specs.declared.syntax.Inst.{Inst}
 use Rattle.ms_ir.specs.declared.syntax.Func.{Func}
-use Rattle.ms_ir.specs.Code.{one_unmarked, over_blocks, over_funcs}
+use Rattle.ms_ir.specs.Instructions.{one_unmarked, over_blocks, over_funcs}
 use Rattle.ms_ir.specs.Spots.{Spot, over_block_spots, over_func_spots}
 use Rattle.ms_gen.specs.Generator.{function_of, state_after, functions_of, main_of}
-
--- both of two tests pass
-pub both : (a b : Bool) → a ≡ true → b ≡ true → (a && b) ≡ true
-both true true p q = refl
-both true false p q = q
-both false b p q = p
 
 -- ---- the functions
 
@@ -57,7 +52,7 @@ pub all_in : {A : Type 0} (p : A → Bool) (h : Func → List A) (funcs : List F
 all_in p h [] all = refl
 all_in p h (f ∷ rest) all =
     list_all-append p (h f) (flat_map h rest)
-    ∙ both _ _ (All-head (λ g. list_all p (h g) ≡ true) f rest all) (all_in p h rest (All-tail (λ g. list_all p (h g) ≡ true) f rest all))
+    ∙ and_from _ _ (All-head (λ g. list_all p (h g) ≡ true) f rest all) (all_in p h rest (All-tail (λ g. list_all p (h g) ≡ true) f rest all))
 
 -- at most forty of what is counted in each function
 pub at_most_forty : (count : Inst → ℕ) (funcs : List Func) → All (λ f. over_blocks count f.blocks ≤ 40) funcs → over_funcs count funcs ≤ 40 * length funcs

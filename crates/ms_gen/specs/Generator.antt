@@ -13,8 +13,8 @@ use Rattle.ms_ir.specs.declared.syntax.Name.TheVariants.{Number, Text}
 use Rattle.ms_ir.specs.declared.syntax.Op.{Op}
 use Rattle.ms_ir.specs.declared.syntax.Op.TheVariants as op
 use Rattle.ms_ir.specs.declared.syntax.Operand.{Operand}
-use Rattle.ms_ir.specs.ExampleParts.{i32, local, int, sets, does, binary, alloca, ret, calls, block, main_func, module_of}
-use Rattle.ms_ir.specs.ExampleCalls.{putchar}
+use Rattle.ms_ir.specs.Builders.{i32, local, int, sets, does, binary, alloca, ret, calls, block, main_func, module_of}
+use Rattle.ms_ir.specs.Declarations.{putchar}
 
 -- ---- draws
 

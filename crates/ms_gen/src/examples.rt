@@ -1,7 +1,7 @@
 //! What is drawn for the seed 7, computed by the check.
 ghost use Rattle.std.specs.Prelude.{◌≡◌};
 ghost use Rattle.ms_bits.specs.declared.operations.BinOp.TheVariants.{And, Or, Xor};
-ghost use Rattle.ms_ir.specs.ExampleParts.{i32, local, int, sets, binary};
+ghost use Rattle.ms_ir.specs.Builders.{i32, local, int, sets, binary};
 ghost use Rattle.ms_gen.specs.Generator.{draw, state_after, operation_on};
 
 /// The first two operations of the first function, and the last of the second, whose draws follow those of the first.

@@ -1,6 +1,6 @@
 //! Generated functions.
 ghost use Rattle.std.specs.Prelude.{◌≡◌, ◌<◌, ◌*◌, ◌++◌, [], ◌∷◌, OnOk, IfOk};
-ghost use Rattle.ms_ir.specs.ExampleParts.{block, i32};
+ghost use Rattle.ms_ir.specs.Builders.{block, i32};
 ghost use Rattle.ms_ir.specs.declared.syntax.Name.TheVariants as number;
 ghost use Rattle.ms_gen.specs.Generator.{beginning, operations, ending, state_after, body_of, function_of};
 

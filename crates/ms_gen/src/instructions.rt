@@ -1,7 +1,7 @@
 //! Instructions of generated functions, and the names of these. All values are of the type `i32`.
 ghost use Rattle.std.specs.Prelude.{◌≡◌, ◌<◌, ◌+◌, ◌++◌, [], ◌∷◌, IfOk, OnOk, Some};
 ghost use Rattle.ms_ir.specs.declared.syntax.Op.TheVariants as op;
-ghost use Rattle.ms_ir.specs.ExampleParts.{i32, local, sets, does, alloca, ret as returned};
+ghost use Rattle.ms_ir.specs.Builders.{i32, local, sets, does, alloca, ret as returned};
 ghost use Rattle.ms_gen.specs.Generator.{state_after, name_of, operation_on};
 
 use crate::draws::{Draws, operation};

@@ -1,7 +1,7 @@
 //! Generated modules.
 ghost use Rattle.std.specs.Prelude.{◌≡◌, ◌<◌, ◌≤◌, ◌-◌, ◌++◌, [], ◌∷◌, OnOk, IfOk};
-ghost use Rattle.ms_ir.specs.ExampleParts.{local, int, sets, calls};
-ghost use Rattle.ms_ir.specs.ExampleCalls.{putchar as putchar_decl};
+ghost use Rattle.ms_ir.specs.Builders.{local, int, sets, calls};
+ghost use Rattle.ms_ir.specs.Declarations.{putchar as putchar_decl};
 ghost use Rattle.ms_valid.specs.Formed.{Formed};
 ghost use Rattle.ms_valid.specs.Valid.{Valid};
 ghost use Rattle.ms_valid.specs.Uninstrumented.{CanInstrument};

@@ -41,10 +41,6 @@ and-true : (b c : Bool) → b ≡ true → (b && c) ≡ c
 and-true true c e = refl
 and-true false c e = absurd (cc)
 
-and-false : (b c : Bool) → b ≡ false → (b && c) ≡ false
-and-false true c e = absurd (cc)
-and-false false c e = refl
-
 pub calloc-some : (beside : Beside) (world : World) (n base : ℕ) (w : WorldState) → n < 2 ^ 64 → Cleared kind.Heap beside world n (Ok base) w → Answered beside (calloc n world) (answer.Resumed (Some base)) w
 calloc-some beside world n base w l h =
     on-yes beside _ w (ltb n (2 ^ 64) && fits Heap n world) (Gives (next_base Heap world) (make Heap n world)) (Gives 0 world) (and-true _ _ (lt-ltb n (2 ^ 64) l) ∙ h.0) (h.1, h.2)

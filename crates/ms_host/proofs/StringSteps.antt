@@ -21,10 +21,11 @@ use Rattle.ms_runs.specs.Memory.{first_that, covers}
 use Rattle.ms_runs.specs.Memory.{bytes_left}
 use Rattle.ms_runs.specs.Externals.{compared}
 use Rattle.ms_planes.specs.Memory.{Memory, bytes_of, shadow_of, origins_of}
+use Rattle.ms_planes.proofs.Standing.{areas}
 use Rattle.ms_runs.specs.Memory.{set_bytes}
 use Rattle.ms_host.specs.State.{WorldState, Beside}
 use Rattle.ms_host.proofs.Changes.{live-size, bytes-set}
-use Rattle.ms_host.proofs.Tables.{covered-same, own, kind_of, areas}
+use Rattle.ms_host.proofs.Tables.{covered-same, own, kind_of}
 
 -- one byte more
 pub bytes-more : (f : ℕ → ℕ) (a k : ℕ) → bytes_at f a (k + 1) ≡ bytes_at f a k ++ f (a + k) ∷ []

@@ -2,7 +2,7 @@
 use Rattle.std.proofs.Common.{◌≡◌, ◌≢◌, ℕ, ◌+◌, ◌<◌, ◌≤◌, Bool, true, false, not, List, [], ◌∷◌, ◌++◌, map, refl, sym, ap, ◌∙◌, subst, arith, ◌⊎◌, inl, inr, ⊎_elim, is_some, Option, Some, None, cond, leb, eqb, ◌&&◌, ◌||◌, if◌then◌else◌, IsTrue, option_map}
 use Rattle.std.specs.List.{find, filter}
 use Rattle.std.specs.Option.{option_or}
-use Rattle.std.proofs.lemmas.Bool.{and_parts, and_from, or_cases, leb-true, le-leb, eqb-true, cases_Bool}
+use Rattle.std.proofs.lemmas.Bool.{and_parts, and_from, or_cases, leb-true, le-leb, eqb-true, cases_Bool, or_right}
 use Rattle.std.proofs.lemmas.List.{map-append}
 use Rattle.std.proofs.lemmas.List.Elements.{filter-append}
 use Rattle.std.proofs.lemmas.List.Folds.{find-append}
@@ -10,13 +10,15 @@ use Rattle.ms_alloc.specs.declared.kinds.AllocKind.{AllocKind}
 use Rattle.ms_alloc.specs.declared.kinds.AllocKind.TheVariants as kind
 use Rattle.ms_alloc.specs.declared.allocations.Allocation.{Allocation as Entry}
 use Rattle.ms_alloc.specs.Layout.{room as room_taken, area_base as base_of, area_limit as limit_of}
-use Rattle.ms_alloc.specs.Allocations.{Allocations, IsRow, IsArea, IsLaidOut, listed, of_kind, next as next_entry, with_made, with_ended, without_from, is_block, used as taken_by, next_base as base_after, covers as has_range, is_good as is_live, heap_size as block_size}
+use Rattle.ms_alloc.specs.Allocations.{Allocations, IsRow, IsLaidOut, listed, of_kind, next as next_entry, with_made, with_ended, without_from, is_block, used as taken_by, next_base as base_after, covers as has_range, is_good as is_live, heap_size as block_size}
 use Rattle.ms_planes.proofs.Reaches.{some-or}
+use Rattle.ms_planes.proofs.Standing.{areas}
 use Rattle.ms_ir.specs.Areas.{Area, Fixed, Heap, Stack}
 use Rattle.ms_runs.specs.World.{Allocation, World}
 use Rattle.ms_ir.specs.Areas.{area_eq, area_base, area_limit, room}
 use Rattle.ms_runs.specs.Memory.{used, fits, next_base, first_that, covers, is_good, is_heap_block, heap_size, keeps}
 use Rattle.ms_host.specs.Shows.{area_of, allocation_of, in_area, Lists}
+use Rattle.ms_valid.proofs.NamePlaces.{same_tests}
 
 -- ---- kinds and areas
 
@@ -34,11 +36,6 @@ pub area_same : (k : AllocKind) → area_eq (area_of k) (area_of k) ≡ true
 area_same kind.Fixed = refl
 area_same kind.Heap = refl
 area_same kind.Stack = refl
-
-pub areas : (t : Allocations) (k : AllocKind) → IsLaidOut t → IsArea k (of_kind k t)
-areas t kind.Fixed laid = laid.fixed
-areas t kind.Heap laid = laid.heap
-areas t kind.Stack laid = laid.stack
 
 -- ---- which accesses are good
 
@@ -114,18 +111,13 @@ covered-same addr n [] = refl
 covered-same addr n (a ∷ as') =
     same-choice (has_range addr n a) (allocation_of a) a (first_that (covers addr n) (map allocation_of as')) (find (has_range addr n) as') (covered-same addr n as')
 
-both-ways : (a b : Bool) → (a ≡ true → b ≡ true) → (b ≡ true → a ≡ true) → a ≡ b
-both-ways true b f g = sym (f refl)
-both-ways false true f g = g refl
-both-ways false false f g = refl
-
 or-if : (b c d : Bool) → c ≡ d → (if b then true else c) ≡ (b || d)
 or-if true c d e = refl
 or-if false c d e = e
 
 -- an access is good in a world where it is good in the table
 pub good-same : (t : Allocations) (world : World) (addr n : ℕ) → Lists t world.allocs → is_good world addr n ≡ is_live addr n t
-good-same t world addr n lists = or-if (eqb n 0) _ _ (both-ways _ _
+good-same t world addr n lists = or-if (eqb n 0) _ _ (same_tests _ _
     (λ (e : is_some (first_that (covers addr n) world.allocs) ≡ true).
     let r = found-in (covers addr n) world.allocs e in
     live-of (has_range addr n) t r.0 (sym (covered-same addr n (of_kind r.0 t)) ∙ ap (λ (xs : List Allocation). is_some (first_that (covers addr n) xs)) (sym (lists r.0)) ∙ r.1))
@@ -231,10 +223,6 @@ chosen : (b : Bool) (a : Entry) → is_some (cond b (Some a) None) ≡ true → 
 chosen true a e = refl
 chosen false a e = absurd (cc)
 
-or-live : (b c : Bool) → c ≡ true → (b || c) ≡ true
-or-live true c e = refl
-or-live false c e = e
-
 some-live : (t : Allocations) (n x : ℕ) → n ≢ 0 → IsTrue (is_live x n t) → is_some (find (has_range x n) (listed t)) ≡ true
 some-live t n x some live = ⊎_elim
     (λ (h : eqb n 0 ≡ true). absurd (some (eqb-true n 0 h)))
@@ -247,7 +235,7 @@ made-keeps t k m x n live = ⊎_elim
     (λ (h : eqb n 0 ≡ true). ap (λ (b : Bool). b || is_some (find (has_range x n) (listed (with_made k m t)))) h)
     (λ (h : is_some (find (has_range x n) (listed t)) ≡ true).
     let r = live-in (has_range x n) t h in
-    or-live (eqb n 0) _ (live-of (has_range x n) (with_made k m t) r.0 (⊎_elim
+    or_right (eqb n 0) _ (live-of (has_range x n) (with_made k m t) r.0 (⊎_elim
     (λ (e : of_kind r.0 (with_made k m t) ≡ of_kind r.0 t). ap (λ (xs : List Entry). is_some (find (has_range x n) xs)) e ∙ r.1)
     (λ (e : r.0 ≡ k). subst (λ (j : AllocKind). is_some (find (has_range x n) (of_kind j (with_made k m t))) ≡ true) (sym e)
     (ap (λ (xs : List Entry). is_some (find (has_range x n) xs)) (of-made t k m)
@@ -473,7 +461,7 @@ kept-live t mark x live =
 pub shorter-live : (t : Allocations) (x n k : ℕ) → k ≤ n → IsTrue (is_live x n t) → IsTrue (is_live x k t)
 shorter-live t x n k le live = ⊎_elim
     (λ (h : eqb n 0 ≡ true). let none : k ≡ 0 = omega (arith, eqb-true n 0 h) in ap (λ (j : ℕ). eqb j 0 || is_some (find (has_range x j) (listed t))) none)
-    (λ (h : is_some (find (has_range x n) (listed t)) ≡ true). or-live (eqb k 0) _ (found-too (listed t) h))
+    (λ (h : is_some (find (has_range x n) (listed t)) ≡ true). or_right (eqb k 0) _ (found-too (listed t) h))
     (or_cases _ _ live)
   where
     weaker : (a : Entry) → has_range x n a ≡ true → has_range x k a ≡ true
@@ -490,7 +478,7 @@ shorter-live t x n k le live = ⊎_elim
 
 -- a live heap block's bytes are good
 pub block-live : (t : Allocations) (base size : ℕ) → block_size base t ≡ Some size → IsTrue (is_live base size t)
-block-live t base size e = or-live (eqb size 0) _ (live-of (has_range base size) t kind.Heap (row t.heap e))
+block-live t base size e = or_right (eqb size 0) _ (live-of (has_range base size) t kind.Heap (row t.heap e))
   where
     full : (a : Entry) → is_block base a ≡ true → a.size ≡ size → has_range base size a ≡ true
     full a b s =

@@ -1,5 +1,5 @@
 -- How a world of a run stands for one of the definitions.
-use Rattle.std.specs.Prelude.{◌≡◌, [], ℕ, ◌/◌, true, false, List, map, filter, drop, Result, Ok, Err, IsTrue}
+use Rattle.std.specs.Prelude.{◌≡◌, ℕ, ◌/◌, true, false, List, map, filter, drop, Result, Ok, Err, IsTrue}
 use Rattle.ms_alloc.specs.declared.kinds.AllocKind.{AllocKind}
 use Rattle.ms_alloc.specs.declared.kinds.AllocKind.TheVariants as kind
 use Rattle.ms_alloc.specs.declared.errors.AllocError.{AllocError}
@@ -72,23 +72,3 @@ Cleared kind beside world n (Err NoMemory) w = (fits (area_of kind) n world ≡ 
 abbrev pub Grown : AllocKind → Allocations → ℕ → Result ℕ AllocError → Allocations → Type 0
 Grown kind old n (Ok base) new = (new ≡ with_made kind n old) × (base ≡ base_after kind old)
 Grown kind old n (Err e) new = new ≡ old
-
--- the world at the start of a run, before the globals are made
-abbrev pub first_world : List ℕ → World
-first_world input = record {
-  allocs = [];
-  bytes = λ a. 0;
-  shadow = λ a. 0;
-  origins = λ c. 0;
-  pairs = [];
-  made = 0;
-  input = input;
-  output = [];
-  reports = [];
-  blind = 0;
-  turn = 0;
-  threads = [];
-  answers = λ k. 0;
-  answer_masks = λ k. 0;
-  answer_origins = λ k. 0;
-}

@@ -10,9 +10,7 @@ ghost use Rattle.ms_host.specs.SlotBytes.{ShowsSlots, MarkedLoad, MarkedStore};
 
 use crate::slots::is_far;
 use crate::worlds::World;
-
-/// The shadow byte of an address stands at this exclusive or with it.
-const SHADOW_BITS: u64 = 0x5000_0000_0000;
+use ms_ir::areas::SHADOW_BITS;
 
 impl World {
     /// The number that `n` bytes of a slot are, or the `n` shadow bytes of one live allocation at their own addresses;

@@ -6,12 +6,10 @@ ghost use Rattle.ms_runs.specs.Plain.{in_slots};
 ghost use Rattle.ms_host.specs.SlotBytes.{ShowsSlots};
 
 use ms_bits::NoMemory;
+use ms_ir::areas::FIRST_SLOT;
 use ms_planes::words::{number_in, put_number};
 use std::alloc::Global;
 use std::marker::Model;
-
-/// Where the slots begin.
-const BASE: u64 = 0x6800_0000_0000;
 
 /// How far they reach.
 const REACH: usize = 0x3004;
@@ -50,10 +48,10 @@ fn among(a: u64, n: u64) -> bool
     ensures low { IsTrue result → 0x680000000000 ≤ a }
     ensures high { IsTrue result → a + n ≤ 0x680000003004 }
 {
-    lies(a, n, BASE, 800)
-        || lies(a, n, BASE + 0x1000, 400)
-        || lies(a, n, BASE + 0x2000, 8)
-        || lies(a, n, BASE + 0x3000, 4)
+    lies(a, n, FIRST_SLOT, 800)
+        || lies(a, n, FIRST_SLOT + 0x1000, 400)
+        || lies(a, n, FIRST_SLOT + 0x2000, 8)
+        || lies(a, n, FIRST_SLOT + 0x3000, 4)
 }
 
 /// Whether an address stands before all slots, or behind them.
@@ -61,7 +59,7 @@ fn among(a: u64, n: u64) -> bool
 pub(crate) fn is_far(a: u64) -> bool
     ensures { IsTrue result → (n : ℕ) → in_slots a n slots ≡ false }
 {
-    if a < BASE {
+    if a < FIRST_SLOT {
         return true;
     }
     if a > END {
@@ -86,7 +84,7 @@ impl Slots {
         ensures { (cells : ℕ → ℕ) → ShowsSlots self.now cells → MatchOption result (in_slots a n slots ≡ false) (λ v. (in_slots a n slots ≡ true) × (v ≡ number_at cells a n)) }
     {
         if among(a, u64::from(n)) {
-            Some(number_in(&self.bytes, (a - BASE) as usize, n))
+            Some(number_in(&self.bytes, (a - FIRST_SLOT) as usize, n))
         } else {
             None
         }
@@ -99,7 +97,7 @@ impl Slots {
     {
         let found = among(a, u64::from(n));
         if found {
-            put_number(&mut self.bytes, (a - BASE) as usize, n, v);
+            put_number(&mut self.bytes, (a - FIRST_SLOT) as usize, n, v);
         }
         found
     }

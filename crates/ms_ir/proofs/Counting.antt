@@ -7,7 +7,7 @@ use Rattle.ms_ir.specs.declared.syntax.Block.{Block}
 use Rattle.ms_ir.specs.declared.syntax.Func.{Func}
 use Rattle.ms_ir.specs.declared.syntax.Module.{Module}
 use Rattle.ms_ir.specs.declared.places.Place.{Place}
-use Rattle.ms_ir.specs.Code.{func_at, blocks_at, insts_at, over_insts, over_blocks, over_funcs, one_unmarked, site_at}
+use Rattle.ms_ir.specs.Instructions.{func_at, blocks_at, insts_at, over_insts, over_blocks, over_funcs, one_unmarked, site_at}
 use Rattle.ms_ir.specs.Places.{count_sites, IsUnmarkedAt, IsPlaceOf, HasSmallNumbers}
 use Rattle.ms_ir.specs.Searches.{FoundInst, FoundBlock, FoundFunc}
 

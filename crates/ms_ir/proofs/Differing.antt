@@ -10,13 +10,13 @@ use Rattle.ms_ir.specs.declared.syntax.Ty.{Ty, Array, Struct, Row_of-Ty, end_of-
 use Rattle.ms_ir.specs.declared.syntax.Ty.TheBlock.{hidden-the_row-Ty-0, hidden-the_row-Ty-1, shape-the_row-Ty-0}
 use Rattle.ms_ir.specs.declared.rows.Kind.{Kind}
 use Rattle.ms_ir.specs.Rows.{kind_type}
-use Rattle.ms_ir.specs.Equal.{Step, type_eq, row_eq, types_eq, indices_eq, steps_eq}
+use Rattle.ms_ir.specs.Equal.{AddressStep, type_eq, row_eq, types_eq, indices_eq, steps_eq}
 
-and_true : (b : Bool) → (b && true) ≡ b
+pub and_true : (b : Bool) → (b && true) ≡ b
 and_true true = refl
 and_true false = refl
 
-row_eq-items : (m n : _) (r : Row_of-Ty m) (s : Row_of-Ty n) → row_eq r s ≡ types_eq (items-the_row-Ty m r) (items-the_row-Ty n s)
+pub row_eq-items : (m n : _) (r : Row_of-Ty m) (s : Row_of-Ty n) → row_eq r s ≡ types_eq (items-the_row-Ty m r) (items-the_row-Ty n s)
 row_eq-items m n end_of-Ty end_of-Ty = refl
 row_eq-items m n end_of-Ty (more_of-Ty u us) = refl
 row_eq-items m n (more_of-Ty t ts) end_of-Ty = refl
@@ -58,7 +58,7 @@ pointwise_indices (i ∷ is) [] = refl
 pointwise_indices (i ∷ is) (j ∷ js) = ap (λ b. (type_eq i.0 j.0 && nat_eq i.1 j.1) && b) (pointwise_indices is js)
 
 -- steps are compared one by one
-pub pointwise_steps : (ss ts : List Step) → pointwise (λ s t. type_eq s.0 t.0 && pointwise (λ i j. type_eq i.0 j.0 && nat_eq i.1 j.1) s.1 t.1) ss ts ≡ steps_eq ss ts
+pub pointwise_steps : (ss ts : List AddressStep) → pointwise (λ s t. type_eq s.0 t.0 && pointwise (λ i j. type_eq i.0 j.0 && nat_eq i.1 j.1) s.1 t.1) ss ts ≡ steps_eq ss ts
 pointwise_steps [] [] = refl
 pointwise_steps [] (t ∷ ts) = refl
 pointwise_steps (s ∷ ss) [] = refl

@@ -60,11 +60,11 @@ named_extends types (suc n) x e h = by_type (λ y f k. named_extends types n y f
 
 -- ---- structs
 
-place_grows : (packed : Bool) (s f : Extent) → 1 ≤ f.align → s.size ≤ (place_field packed s f).size
+pub place_grows : (packed : Bool) (s f : Extent) → 1 ≤ f.align → s.size ≤ (place_field packed s f).size
 place_grows true s f p = omega arith
 place_grows false s f p = omega (arith, (rounded_near s.size f.align p).0)
 
-places_grow : (packed : Bool) (fs : List (Option Extent)) (s e : Extent) → 1 ≤ s.align → Positives fs → place_fields packed s fs ≡ Some e → s.size ≤ e.size
+pub places_grow : (packed : Bool) (fs : List (Option Extent)) (s e : Extent) → 1 ≤ s.align → Positives fs → place_fields packed s fs ≡ Some e → s.size ≤ e.size
 places_grow packed [] s e p ps h =
     let same : round_up s.size s.align ≡ e.size = ap (λ x. x.size) (same_Some (extent (round_up s.size s.align) s.align) e h) in
     omega (arith, same, (rounded_near s.size s.align p).0)

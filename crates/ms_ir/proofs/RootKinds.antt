@@ -19,7 +19,7 @@ use Rattle.ms_ir.specs.declared.calls.External.TheVariants.{Malloc, Calloc, Real
 use Rattle.ms_ir.specs.declared.places.RootKind.{RootKind}
 use Rattle.ms_ir.specs.Names.{name_eq, lookup, externals, word_externals, widths_of, external_name}
 use Rattle.ms_bits.specs.declared.word_functions.WordFn.TheVariants.{Ctpop, Ctlz, Cttz, Bswap, Bitreverse, Abs, Smax, Smin, Umax, Umin, Fshl, Fshr, UaddSat, UsubSat, SaddSat, SsubSat, Expect}
-use Rattle.ms_ir.specs.Code.{func_index, external_named}
+use Rattle.ms_ir.specs.Instructions.{func_index, external_named}
 use Rattle.ms_ir.specs.Roots.{undef_roots, call_roots, own_roots}
 use Rattle.ms_ir.specs.Rooted.{operand_roots, roots_of_kind, kind_of, called_kind}
 
@@ -39,7 +39,7 @@ pub roots_of_all : (site : ℕ) (os : List (Ty × Operand)) → flat_map (operan
 roots_of_all site [] = refl
 roots_of_all site ((t, o) ∷ rest) = ap (λ r. operand_roots site o ++ r) (roots_of_all site rest) ∙ sym (undef_roots-cons site t o rest)
 
-one_more : {A : Type 0} (xs : List A) (k : ℕ) → take (suc k) xs ≡ take k xs ++ option_to_list (slice_get xs k)
+pub one_more : {A : Type 0} (xs : List A) (k : ℕ) → take (suc k) xs ≡ take k xs ++ option_to_list (slice_get xs k)
 one_more [] zero = refl
 one_more [] (suc k) = refl
 one_more (x ∷ xs) zero = refl
@@ -54,7 +54,7 @@ roots_next h xs k start before after next so_far =
 
 -- ---- calls
 
-name_same : (x y : Name) → name_eq x y ≡ true → x ≡ y
+pub name_same : (x y : Name) → name_eq x y ≡ true → x ≡ y
 name_same (Number m) (Number n) h = ap Number (eqb-true m n h)
 name_same (Number m) (Text y) h = absurd cc
 name_same (Text x) (Number n) h = absurd cc

@@ -6,11 +6,11 @@ use Rattle.std.proofs.lemmas.Option.{slice_get_read}
 use Rattle.ms_ir.specs.declared.syntax.Inst.{Inst}
 use Rattle.ms_ir.specs.declared.syntax.Block.{Block}
 use Rattle.ms_ir.specs.declared.syntax.Func.{Func}
-use Rattle.ms_ir.specs.Code.{over_insts, over_blocks, over_funcs, one_unmarked}
+use Rattle.ms_ir.specs.Instructions.{over_insts, over_blocks, over_funcs, one_unmarked}
 use Rattle.ms_ir.specs.Searches.{FoundInst, FoundBlock, FoundFunc}
 use Rattle.ms_ir.proofs.Counting.{insts_split, blocks_split, funcs_split}
 
-insts_drop : (xs : List Inst) (i : ℕ) (x : Inst) → i < length xs → x ≡ get_or xs i x → over_insts one_unmarked (drop i xs) ≡ one_unmarked x + over_insts one_unmarked (drop (i + 1) xs)
+pub insts_drop : (xs : List Inst) (i : ℕ) (x : Inst) → i < length xs → x ≡ get_or xs i x → over_insts one_unmarked (drop i xs) ≡ one_unmarked x + over_insts one_unmarked (drop (i + 1) xs)
 insts_drop xs i x l is =
     ap (over_insts one_unmarked) (drop-cons xs i x l) ∙ ap (λ y. one_unmarked y + over_insts one_unmarked (drop (suc i) xs)) (sym is)
     ∙ ap (λ n. one_unmarked x + over_insts one_unmarked (drop n xs)) (sym (add-one i))

@@ -201,14 +201,6 @@ pub align_some : (o : Option Extent) (l : Extent) → Some l ≡ option_map limi
 align_some None l h = absurd (none-some l (sym h))
 align_some (Some e) l h = ap (λ x. x.align) (same_Some l (limit_extent e) h)
 
-pub bytes_none : (o : Option Extent) → None ≡ option_map limit_extent o → 0 ≡ limited (unwrap_or (option_map (λ whole. whole.size) o) 0)
-bytes_none None h = omega arith
-bytes_none (Some e) h = absurd (none-some (limit_extent e) h)
-
-pub bytes_some : (o : Option Extent) (l : Extent) → Some l ≡ option_map limit_extent o → l.size ≡ limited (unwrap_or (option_map (λ whole. whole.size) o) 0)
-bytes_some None l h = absurd (none-some l (sym h))
-bytes_some (Some e) l h = size_is e l h
-
 -- ---- places of fields
 
 pub offsets_same : (types : Types) (packed : Bool) (ts : List Ty) (k : ℕ) (s t : Extent) → limit_extent s ≡ limit_extent t
@@ -261,7 +253,7 @@ chain_shorter c n m s h k = subst (λ z. c * (2 * m + 4) + 2 * s + 2 < z * (2 * 
 
 -- ---- a step of the loops
 
-drop_next : {A : Type 0} (xs : List A) (i : ℕ) (x : A) → i < length xs → x ≡ get_or xs i x → drop i xs ≡ x ∷ drop (i + 1) xs
+pub drop_next : {A : Type 0} (xs : List A) (i : ℕ) (x : A) → i < length xs → x ≡ get_or xs i x → drop i xs ≡ x ∷ drop (i + 1) xs
 drop_next xs i x l is = drop-cons xs i x l ∙ ap (λ y. y ∷ drop (suc i) xs) (sym is) ∙ ap (λ n. x ∷ drop n xs) (sym (add-one i))
 
 pub struct_passed : (packed : Bool) (e : Ty → Option Extent) → ((t : Ty) → Positive (e t)) → (fields : List Ty) (i : ℕ) (x : Ty) (s l after : Extent) (whole : Option Extent)

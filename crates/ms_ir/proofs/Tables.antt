@@ -1,5 +1,6 @@
 -- Looking up in a table with a function of what its rows have.
-use Rattle.std.proofs.Common.{◌≡◌, ℕ, List, [], ◌∷◌, ◌++◌, Bool, true, false, ◌||◌, Option, Some, None, map, option_map, is_some, refl, arith, if◌then◌else◌}
+use Rattle.std.proofs.Common.{◌≡◌, ℕ, List, [], ◌∷◌, ◌++◌, Bool, true, false, Option, Some, None, map, option_map, is_some, refl, arith, if◌then◌else◌}
+use Rattle.std.proofs.lemmas.Bool.{or_parts}
 use Rattle.ms_ir.specs.declared.syntax.Name.{Name}
 use Rattle.ms_ir.specs.declared.syntax.Name.TheVariants.{Number, Text}
 use Rattle.ms_ir.specs.declared.rows.Row.{Row}
@@ -65,11 +66,6 @@ no_move_number n = refl
 
 -- ---- names that no function of a module has
 
-either_false : (a b : Bool) → (a || b) ≡ false → (a ≡ false) × (b ≡ false)
-either_false true b e = grind arith
-either_false false true e = grind arith
-either_false false false e = (refl, refl)
-
 no_row : (o : Option RuntimeFn) → is_some o ≡ false → o ≡ None
 no_row None e = refl
 no_row (Some f) e = grind arith
@@ -77,4 +73,4 @@ no_row (Some f) e = grind arith
 -- a name that isn't kept is neither reserved nor that of what marked calls reach
 pub not_kept : (x : Name) → is_kept x ≡ false → (is_reserved x ≡ false) × (lookup runtime_functions x ≡ None)
 unfolding is_kept
-not_kept x e = let both = either_false (is_reserved x) (is_some (lookup runtime_functions x)) e in (both.0, no_row (lookup runtime_functions x) both.1)
+not_kept x e = let both = or_parts (is_reserved x) (is_some (lookup runtime_functions x)) e in (both.0, no_row (lookup runtime_functions x) both.1)

@@ -10,11 +10,11 @@ row_extents-items : (named : Name → Option Extent) (n : _) (r : Row_of-Ty n) �
 row_extents-items named n end_of-Ty = refl
 row_extents-items named n (more_of-Ty t ts) = ap (λ es. type_extent named t ∷ es) (row_extents-items named _ ts)
 
-row_types-items : (n : _) (r : Row_of-Ty n) → row_types r ≡ items-the_row-Ty n r
+pub row_types-items : (n : _) (r : Row_of-Ty n) → row_types r ≡ items-the_row-Ty n r
 row_types-items n end_of-Ty = refl
 row_types-items n (more_of-Ty t ts) = ap (λ us. t ∷ us) (row_types-items _ ts)
 
-struct_types : (ts : List Ty) → row_types (hidden-the_row-Ty-1 ts) ≡ ts
+pub struct_types : (ts : List Ty) → row_types (hidden-the_row-Ty-1 ts) ≡ ts
 struct_types ts = row_types-items _ (hidden-the_row-Ty-1 ts) ∙ items_hidden-the_row-Ty-1 ts
 
 pub extent-struct : (named : Name → Option Extent) (p : Bool) (ts : List Ty) → type_extent named (Struct p ts) ≡ place_fields p (extent 0 1) (map (type_extent named) ts)

@@ -47,11 +47,11 @@ indices_eq (i ∷ is) (j ∷ js) = type_eq i.0 j.0 && nat_eq i.1 j.1 && indices_
 indices_eq _ _ = false
 
 -- a step of a constant address: the type that is stepped through, and the indices
-abbrev pub Step : Type 0
-Step = Ty × List (Ty × ℕ)
+abbrev pub AddressStep : Type 0
+AddressStep = Ty × List (Ty × ℕ)
 
 -- the steps of two constant addresses are the same
-abbrev pub steps_eq : List Step → List Step → Bool
+abbrev pub steps_eq : List AddressStep → List AddressStep → Bool
 steps_eq [] [] = true
 steps_eq (s ∷ ss) (t ∷ ts) = type_eq s.0 t.0 && indices_eq s.1 t.1 && steps_eq ss ts
 steps_eq _ _ = false

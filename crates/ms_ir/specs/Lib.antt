@@ -1,7 +1,7 @@
 pub mod Names
 pub mod Areas
 pub mod Layout
-pub mod Code
+pub mod Instructions
 pub mod Roots
 pub mod Extents
 pub mod Parts
@@ -16,9 +16,6 @@ pub mod Locals
 pub mod Signatures
 pub mod Rows
 pub mod Spots
-pub mod ExampleParts
-pub mod ExampleCalls
-pub mod ExampleModules
-pub mod ExampleExternals
-pub mod ExampleMarks
+pub mod Builders
+pub mod Declarations
 pub mod ThreadCalls

@@ -3,7 +3,7 @@ use Rattle.std.specs.Prelude.{◌≡◌, ◌+◌, ◌<◌, ◌^◌, ℕ, false, 
 use Rattle.ms_ir.specs.declared.syntax.Inst.{Inst}
 use Rattle.ms_ir.specs.declared.syntax.Module.{Module}
 use Rattle.ms_ir.specs.declared.places.Place.{Place}
-use Rattle.ms_ir.specs.Code.{blocks_at, insts_at, over_funcs, one_unmarked, site_at}
+use Rattle.ms_ir.specs.Instructions.{blocks_at, insts_at, over_funcs, one_unmarked, site_at}
 
 -- the number of sites of a module: of its unmarked instructions
 abbrev pub count_sites : Module → ℕ

@@ -9,7 +9,7 @@ use Rattle.ms_ir.specs.declared.places.RootKind.{RootKind}
 use Rattle.ms_ir.specs.declared.places.RootKind.TheVariants as kind
 use Rattle.ms_ir.specs.declared.calls.External.{External}
 use Rattle.ms_ir.specs.declared.calls.External.TheVariants.{Malloc, Realloc, LifetimeStart}
-use Rattle.ms_ir.specs.Code.{external_named}
+use Rattle.ms_ir.specs.Instructions.{external_named}
 use Rattle.ms_ir.specs.Roots.{root}
 
 -- the root of an undefined operand

@@ -15,7 +15,7 @@ use Rattle.ms_ir.specs.declared.calls.External.TheVariants.{Malloc, Realloc, Lif
 use Rattle.ms_ir.specs.declared.places.Root.{Root}
 use Rattle.ms_ir.specs.declared.places.RootKind.{RootKind}
 use Rattle.ms_ir.specs.declared.places.RootKind.TheVariants as kind
-use Rattle.ms_ir.specs.Code.{operands, func_index, one_unmarked, over_insts, over_blocks, external_named}
+use Rattle.ms_ir.specs.Instructions.{operands, func_index, one_unmarked, over_insts, over_blocks, external_named}
 
 -- a root of a kind at a site
 abbrev pub root : RootKind → ℕ → Root

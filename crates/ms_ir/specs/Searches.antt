@@ -4,7 +4,7 @@ use Rattle.std.specs.Prelude.{◌≡◌, ◌+◌, ◌<◌, ◌^◌, ℕ, false, 
 use Rattle.ms_ir.specs.declared.syntax.Inst.{Inst}
 use Rattle.ms_ir.specs.declared.syntax.Block.{Block}
 use Rattle.ms_ir.specs.declared.syntax.Func.{Func}
-use Rattle.ms_ir.specs.Code.{one_unmarked, over_insts, over_blocks, over_funcs}
+use Rattle.ms_ir.specs.Instructions.{one_unmarked, over_insts, over_blocks, over_funcs}
 
 -- the unmarked instruction with a number among some, counted from 0, and its index
 pub record FoundInst (insts : List Inst) (number index : ℕ) : Type 0 where

@@ -4,7 +4,7 @@ use Rattle.ms_ir.specs.declared.syntax.Inst.{Inst}
 use Rattle.ms_ir.specs.declared.syntax.Block.{Block}
 use Rattle.ms_ir.specs.declared.syntax.Func.{Func}
 use Rattle.ms_ir.specs.declared.syntax.Module.{Module}
-use Rattle.ms_ir.specs.Code.{one_unmarked, over_insts, over_blocks}
+use Rattle.ms_ir.specs.Instructions.{one_unmarked, over_insts, over_blocks}
 
 -- where an instruction stands: its function, the numbers from 0 of its block and of itself in there, and 1 plus the number
 -- of unmarked instructions before it in the text

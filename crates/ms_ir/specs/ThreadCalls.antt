@@ -9,7 +9,7 @@ use Rattle.ms_ir.specs.declared.syntax.Func.{Func}
 use Rattle.ms_ir.specs.declared.syntax.Module.{Module}
 use Rattle.ms_ir.specs.declared.calls.External.{External}
 use Rattle.ms_ir.specs.Signatures.{is_thread_call}
-use Rattle.ms_ir.specs.Code.{func_index, external_named}
+use Rattle.ms_ir.specs.Instructions.{func_index, external_named}
 
 -- a callee is a thread call
 abbrev pub is_asked : Option External → Bool

@@ -1,6 +1,6 @@
 //! How many parts an instruction has (LLVM Language Reference, "Instruction Reference").
 ghost use Rattle.std.specs.Prelude.{◌≡◌, length};
-ghost use Rattle.ms_ir.specs.Code.{operands};
+ghost use Rattle.ms_ir.specs.Instructions.{operands};
 ghost use Rattle.ms_ir.specs.Written.{labels, targets};
 
 use crate::syntax::Op;

@@ -3,6 +3,7 @@
 //! without inserted code.
 #![tactic(auto)]
 
+pub mod areas;
 pub mod calls;
 pub mod copying;
 pub mod counts;
@@ -25,6 +26,7 @@ pub mod spelling;
 mod stripping;
 pub mod syntax;
 pub mod value_types;
+mod widths;
 pub mod word_externals;
 
 pub use calls::{External, RuntimeFn, Slot};
@@ -40,3 +42,4 @@ pub use slots::{is_slot, slot_globals};
 pub use stripping::strip;
 pub use syntax::{Block, Decl, Func, GlobalVar, Init, Inst, Module, Name, Op, Operand, Ty};
 pub use value_types::ValueType;
+pub use widths::{is_int, width_of};

@@ -1,6 +1,6 @@
 //! The roots of a module: the instructions and operands that make uninitialised bytes or bits.
 ghost use Rattle.std.specs.Prelude.{◌≡◌, ◌<◌, ◌^◌, ℕ, ◌+◌, ◌++◌, IfOk};
-ghost use Rattle.ms_ir.specs.Code.{func_index, one_unmarked, over_insts, over_blocks, over_funcs};
+ghost use Rattle.ms_ir.specs.Instructions.{func_index, one_unmarked, over_insts, over_blocks, over_funcs};
 ghost use Rattle.ms_ir.specs.Roots.{own_roots, inst_roots, insts_roots, blocks_roots, funcs_roots, roots_of};
 ghost use Rattle.ms_ir.specs.Places.{HasSmallNumbers};
 ghost use Rattle.ms_ir.specs.Rooted.{roots_of_kind};

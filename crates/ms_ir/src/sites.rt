@@ -1,7 +1,7 @@
 //! Instructions by their sites, and sites by their instructions.
 ghost use Rattle.std.specs.Prelude.{◌≡◌, ◌+◌, ◌<◌, ◌≤◌, ◌^◌, length, take, IfSome, IfNone};
 ghost use Rattle.ms_ir.specs.declared.places.Place.{Place};
-ghost use Rattle.ms_ir.specs.Code.{blocks_at, insts_at, one_unmarked, over_insts, over_blocks, over_funcs, site_at};
+ghost use Rattle.ms_ir.specs.Instructions.{blocks_at, insts_at, one_unmarked, over_insts, over_blocks, over_funcs, site_at};
 ghost use Rattle.ms_ir.specs.Places.{IsUnmarkedAt, IsPlaceOf, HasSmallNumbers};
 ghost use Rattle.ms_ir.specs.Searches.{FoundInst, FoundBlock, FoundFunc};
 
@@ -62,7 +62,7 @@ pub fn site_of(m: &Module, place: Place) -> u32
 
 /// A part of a list, and which of its unmarked instructions is sought, counted from 0.
 #[derive(Clone, Copy)]
-struct Part {
+struct Sought {
     index: u32,
     left: u32,
 }
@@ -86,7 +86,7 @@ fn find_inst(insts: &[Inst], number: u32) -> Option<u32>
 }
 
 /// The basic block with the unmarked instruction that has a number among those of all, counted from 0.
-fn find_block(blocks: &[Block], number: u32) -> Option<Part>
+fn find_block(blocks: &[Block], number: u32) -> Option<Sought>
     requires few { over_blocks one_unmarked blocks.now < 2 ^ 32 }
     requires short { length blocks.now < 2 ^ 32 }
     ensures found { IfSome result (λ p. FoundBlock blocks.now number p.index p.left) }
@@ -97,7 +97,7 @@ fn find_block(blocks: &[Block], number: u32) -> Option<Part>
         let count = sites_of_insts(block.insts.as_slice());
         if left < count {
             let index = index as u32;
-            return Some(Part { index, left });
+            return Some(Sought { index, left });
         }
         left -= count;
     }
@@ -105,7 +105,7 @@ fn find_block(blocks: &[Block], number: u32) -> Option<Part>
 }
 
 /// The function with the unmarked instruction that has a number among those of all, counted from 0.
-fn find_func(funcs: &[Func], number: u32) -> Option<Part>
+fn find_func(funcs: &[Func], number: u32) -> Option<Sought>
     requires few { over_funcs one_unmarked funcs.now < 2 ^ 32 }
     requires short { length funcs.now < 2 ^ 32 }
     ensures found { IfSome result (λ p. FoundFunc funcs.now number p.index p.left) }
@@ -116,7 +116,7 @@ fn find_func(funcs: &[Func], number: u32) -> Option<Part>
         let count = sites_of_blocks(func.blocks.as_slice());
         if left < count {
             let index = index as u32;
-            return Some(Part { index, left });
+            return Some(Sought { index, left });
         }
         left -= count;
     }

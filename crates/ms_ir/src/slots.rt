@@ -7,6 +7,7 @@ ghost use Rattle.ms_ir.specs.declared.syntax.Ty as type;
 ghost use Rattle.ms_ir.specs.Names.{lookup, slot_names, slots, slot_name, slot_room};
 ghost use Rattle.ms_ir.specs.Signatures.{variable, slot_global, slot_globals};
 
+use crate::areas::FIRST_SLOT;
 use crate::calls::Slot;
 use crate::rows::name_of;
 use crate::syntax::{GlobalVar, Init, Name, Operand, Ty};
@@ -79,7 +80,7 @@ impl Slot {
         ensures { result ≡ (slot_room self).0 }
     {
         match self {
-            Slot::ParamMasks => 0x6800_0000_0000,
+            Slot::ParamMasks => FIRST_SLOT,
             Slot::ParamOrigins => 0x6800_0000_1000,
             Slot::RetvalMask => 0x6800_0000_2000,
             Slot::RetvalOrigin => 0x6800_0000_3000,

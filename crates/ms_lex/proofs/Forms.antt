@@ -27,7 +27,7 @@ no_colon_here (b ∷ rest) (suc n) e = no_colon_here rest n e
 
 -- ---- A name byte in front
 
-differs : (b c : ℕ) → is_name_byte b ≡ true → is_name_byte c ≡ false → eqb b c ≡ false
+pub differs : (b c : ℕ) → is_name_byte b ≡ true → is_name_byte c ≡ false → eqb b c ≡ false
 differs b c named other = elim (eqb_tells b c) [
   | inl same ↦ let e = ap is_name_byte same.1 in absurd cc
   | inr apart ↦ apart.0

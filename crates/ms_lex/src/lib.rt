@@ -19,5 +19,5 @@ pub use kinds::{Kind, Token};
 pub use laws::{HasGrammar, reads_or_stops};
 pub use lexer::{tokens, tokens_stand_in_order};
 pub use names::{name_of, plain_name};
-pub use numbers::number_of;
+pub use numbers::{decimal, number_of};
 pub use scan::is_name_byte;

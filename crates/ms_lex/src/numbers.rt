@@ -9,7 +9,7 @@ use crate::spellings::spelling;
 
 /// The number that decimal digits spell, and `None` where 64 bits don't have it.
 #[tactic(auto, using(crate::proofs::Decimals::began, crate::proofs::Decimals::ended, crate::proofs::Decimals::one_digit, crate::proofs::Decimals::too_large))]
-fn magnitude(digits: &[u8]) -> Option<u64>
+pub fn decimal(digits: &[u8]) -> Option<u64>
     ensures value { IfSome result (λ n. n ≡ decimal digits.now) }
     ensures none { IfNone result (2 ^ 64 ≤ decimal digits.now) }
 {
@@ -33,12 +33,12 @@ fn signed(spelling: &[u8]) -> Option<i128>
         [] => Some(0),
         [first, rest @ ..] => {
             if *first != b'-' {
-                match magnitude(spelling) {
+                match decimal(spelling) {
                     Some(n) => Some(i128::from(n)),
                     None => None,
                 }
             } else {
-                match magnitude(rest) {
+                match decimal(rest) {
                     Some(n) => {
                         if n > 1 << 63 {
                             None

@@ -5,9 +5,9 @@ use Rattle.ms_ir.specs.declared.syntax.Module.{Module}
 use Rattle.ms_runs.specs.declared.runs.Setup.{Setup}
 use Rattle.ms_runs.specs.Plain.{PlainState}
 use Rattle.ms_host.specs.State.{WorldState, Beside}
-use Rattle.ms_machine_steps.specs.declared.fibers.Fiber.{Fiber}
-use Rattle.ms_machine_steps.specs.declared.pauses.Pause.{Pause}
-use Rattle.ms_machine_steps.specs.declared.pauses.Pause.TheVariants as pause
+use Rattle.ms_machine_frames.specs.declared.fibers.Fiber.{Fiber}
+use Rattle.ms_machine_frames.specs.declared.pauses.Pause.{Pause}
+use Rattle.ms_machine_frames.specs.declared.pauses.Pause.TheVariants as pause
 use Rattle.ms_machine_steps.specs.Advances.{Advanced}
 
 module _ (Is Is' : Fiber → WorldState → PlainState → Type 0) (same : (fiber : Fiber) (w : WorldState) (state : PlainState) → Is fiber w state → Is' fiber w state) where

@@ -10,17 +10,17 @@ use Rattle.ms_ir.specs.declared.syntax.Block.{Block}
 use Rattle.ms_ir.specs.declared.syntax.Func.{Func}
 use Rattle.ms_ir.specs.declared.syntax.Module.{Module}
 use Rattle.ms_ir.specs.declared.places.Place.{Place}
-use Rattle.ms_ir.specs.Code.{func_at, blocks_at, insts_at, over_insts, over_blocks, over_funcs}
+use Rattle.ms_ir.specs.Instructions.{func_at, blocks_at, insts_at, over_insts, over_blocks, over_funcs}
 use Rattle.ms_ir.specs.Locals.{locals}
 use Rattle.ms_ir.proofs.Counting.{blocks_are, insts_are}
 use Rattle.ms_runs.specs.Control.{Frame}
 use Rattle.ms_valid.specs.Formed.{Formed, func_formed}
-use Rattle.ms_runs_good.specs.GoodStates.{GoodFrame, GoodFrames, IsBelow}
-use Rattle.ms_runs_good.proofs.Starts.{all_get}
-use Rattle.ms_code_data.specs.Reads.{Holds}
-use Rattle.ms_machine_steps.specs.declared.frames.Frame.{Frame as Kept}
-use Rattle.ms_machine_steps.specs.declared.fibers.Fiber.{Fiber}
-use Rattle.ms_machine_steps.specs.Standing.{frames_of}
+use Rattle.ms_good_laws.specs.GoodStates.{GoodFrame, GoodFrames, IsBelow}
+use Rattle.ms_good_laws.proofs.Starts.{all_get}
+use Rattle.ms_code.specs.Reads.{Holds}
+use Rattle.ms_machine_frames.specs.declared.frames.Frame.{Frame as Kept}
+use Rattle.ms_machine_frames.specs.declared.fibers.Fiber.{Fiber}
+use Rattle.ms_machine_frames.specs.Standing.{frames_of}
 use Rattle.ms_machine.specs.Running.{StandsFor, AllStandFor}
 use Rattle.ms_machine.specs.Searches.{IsInFunc}
 use Rattle.ms_machine.specs.Standing.{IsPlaceDue, IsWordNamed, RunsSomewhere}

@@ -1,8 +1,6 @@
 -- Searches for names, a step at a time.
 use Rattle.std.proofs.Common.{◌≡◌, ◌<◌, ℕ, suc, ◌+◌, List, [], ◌∷◌, ◌++◌, Option, Some, None, Bool, true, false, Result, Ok, Err, refl, sym, ap, subst, ◌∙◌, arith, map, drop, length, get_or}
 use Rattle.std.specs.Prelude.{filter_map, flat_map, if◌then◌else◌}
-use Rattle.std.specs.Option.{option_to_list}
-use Rattle.std.specs.List.{cons_option}
 use Rattle.std.proofs.lemmas.List.Elements.{filter_map-append}
 use Rattle.ms_ir.specs.declared.syntax.Name.{Name}
 use Rattle.ms_ir.specs.declared.syntax.Ty.{Ty}
@@ -10,10 +8,10 @@ use Rattle.ms_ir.specs.declared.syntax.Inst.{Inst}
 use Rattle.ms_ir.specs.declared.syntax.Block.{Block}
 use Rattle.ms_ir.specs.declared.syntax.Func.{Func}
 use Rattle.ms_ir.specs.Names.{name_eq, lookup}
-use Rattle.ms_ir.specs.Locals.{block_locals, locals, results, typed_result, value_type}
+use Rattle.ms_ir.specs.Locals.{block_locals, locals, typed_result, value_type}
+use Rattle.ms_ir.proofs.Sizes.{drop_next}
 use Rattle.ms_valid.specs.FlowGraph.{name_place}
 use Rattle.ms_machine.specs.Searches.{IsSought}
-use Rattle.ms_machine.proofs.Placing.{drop_item}
 
 -- ---- types
 
@@ -34,19 +32,10 @@ lookup_miss (r ∷ a) b x e = by_test (name_eq r.0 x) e (lookup_miss a b x)
     by_test true e later = absurd (cc)
     by_test false e later = later e
 
-typed_first : (o : Option (Name × Ty)) (rest : List (Name × Ty)) → cons_option o rest ≡ option_to_list o ++ rest
-typed_first None rest = refl
-typed_first (Some r) rest = refl
-
--- the results of instructions from one on are its own and those behind it
-pub insts_from : (insts : List Inst) (i : ℕ) (x : Inst) → i < length insts → x ≡ get_or insts i x
-    → filter_map typed_result (drop i insts) ≡ option_to_list (typed_result x) ++ filter_map typed_result (drop (i + 1) insts)
-insts_from insts i x l is = ap (filter_map typed_result) (drop_item insts i x l is) ∙ typed_first (typed_result x) (filter_map typed_result (drop (i + 1) insts))
-
 pub blocks_from : (blocks : List Block) (i : ℕ) (b : Block) → i < length blocks → b ≡ get_or blocks i b
     → filter_map typed_result (flat_map (λ k. k.insts) (drop i blocks)) ≡ filter_map typed_result b.insts ++ filter_map typed_result (flat_map (λ k. k.insts) (drop (i + 1) blocks))
 blocks_from blocks i b l is =
-    ap (λ bs. filter_map typed_result (flat_map (λ k. k.insts) bs)) (drop_item blocks i b l is) ∙ filter_map-append typed_result b.insts (flat_map (λ k. k.insts) (drop (i + 1) blocks))
+    ap (λ bs. filter_map typed_result (flat_map (λ k. k.insts) bs)) (drop_next blocks i b l is) ∙ filter_map-append typed_result b.insts (flat_map (λ k. k.insts) (drop (i + 1) blocks))
 
 -- a block that has a result with the name, and one that has none
 pub block_hit : (blocks : List Block) (i : ℕ) (b : Block) (insts : List Inst) (x : Name) (t : Ty) (o : Option Ty) → i < length blocks → b ≡ get_or blocks i b → insts ≡ b.insts
@@ -80,26 +69,6 @@ param_miss f params blocks x o same alike miss e =
 pub record Passed (all rest : List Name) (x : Name) (from now : ℕ) : Type 0 where
   pub place : from + name_place all x ≡ now + name_place rest x
   pub count : from + length all ≡ now + length rest
-
-pub name_found : (all rest : List Name) (y x : Name) (from now : ℕ) → name_eq y x ≡ true → Passed all (y ∷ rest) x from now → (now ≡ from + name_place all x) × (name_place all x < length all)
-name_found all rest y x from now hit p =
-    let first : name_place (y ∷ rest) x ≡ 0 = ap (λ (b : Bool). if b then 0 else suc (name_place rest x)) hit in
-    let place = p.place in
-    let count = p.count in
-    (omega (arith, first, place), omega (arith, first, place, count))
-
-pub name_passed : (all rest : List Name) (y x : Name) (from now : ℕ) → name_eq y x ≡ false → Passed all (y ∷ rest) x from now → Passed all rest x from (now + 1)
-name_passed all rest y x from now miss p =
-    let later : name_place (y ∷ rest) x ≡ suc (name_place rest x) = ap (λ (b : Bool). if b then 0 else suc (name_place rest x)) miss in
-    let place = p.place in
-    let count = p.count in
-    record { place = omega (arith, later, place); count = omega (arith, count) }
-
-pub all_passed : (all : List Name) (x : Name) (from now : ℕ) → Passed all [] x from now → (now ≡ from + length all) × (name_place all x ≡ length all)
-all_passed all x from now p =
-    let place = p.place in
-    let count = p.count in
-    (omega (arith, count), omega (arith, place, count))
 
 pub place_hit : (a b : List Name) (x : Name) → name_place a x < length a → name_place (a ++ b) x ≡ name_place a x
 place_hit [] b x l = absurd (omega (arith, l))
@@ -141,11 +110,8 @@ part_passed all part rest x from now k past p =
     let count = p.count in
     record { place = omega (arith, past.0, here, place); count = omega (arith, past.0, many, count) }
 
-pub results_from : (insts : List Inst) (i : ℕ) (x : Inst) (o : Option Name) → i < length insts → x ≡ get_or insts i x → x.result ≡ o → results (drop i insts) ≡ cons_option o (results (drop (i + 1) insts))
-results_from insts i x o l is named = ap results (drop_item insts i x l is) ∙ ap (λ r. cons_option r (results (drop (i + 1) insts))) named
-
 pub locals_from : (blocks : List Block) (i : ℕ) (b : Block) → i < length blocks → b ≡ get_or blocks i b → flat_map block_locals (drop i blocks) ≡ block_locals b ++ flat_map block_locals (drop (i + 1) blocks)
-locals_from blocks i b l is = ap (flat_map block_locals) (drop_item blocks i b l is)
+locals_from blocks i b l is = ap (flat_map block_locals) (drop_next blocks i b l is)
 
 -- the names of a function are those of its parameters, and then those of its blocks
 pub param_found : (f : Func) (params : List (Ty × Name)) (x : Name) (k : ℕ) → params ≡ f.params → (k ≡ 0 + name_place (map (λ p. p.1) params) x) × (name_place (map (λ p. p.1) params) x < length (map (λ p. p.1) params))

@@ -1,17 +1,18 @@
 -- The search for an instruction by its number, a step at a time, and why a number has one place.
-use Rattle.std.proofs.Common.{◌≡◌, ◌<◌, ◌≤◌, ℕ, zero, suc, ◌+◌, ◌-◌, ◌^◌, List, [], ◌∷◌, Some, refl, sym, ap, subst, ◌∙◌, arith, take, drop, length, get_or, add-one}
+use Rattle.std.proofs.Common.{◌≡◌, ◌<◌, ◌≤◌, ℕ, zero, suc, ◌+◌, ◌-◌, ◌^◌, List, [], ◌∷◌, Some, refl, sym, ap, subst, ◌∙◌, arith, take, drop, length, get_or}
 use Rattle.std.specs.Prelude.{slice_get}
-use Rattle.std.proofs.Math.Seq.{drop-cons}
 use Rattle.std.proofs.lemmas.Option.{slice_get_read, slice_get_within, same_Some, none-some}
 use Rattle.ms_ir.specs.declared.syntax.Inst.{Inst}
 use Rattle.ms_ir.specs.declared.syntax.Block.{Block}
 use Rattle.ms_ir.specs.declared.syntax.Func.{Func}
 use Rattle.ms_ir.specs.declared.syntax.Module.{Module}
-use Rattle.ms_ir.specs.Code.{func_at, blocks_at, insts_at, over_insts, over_blocks, over_funcs}
+use Rattle.ms_ir.specs.Instructions.{func_at, blocks_at, insts_at, over_insts, over_blocks, over_funcs}
 use Rattle.ms_ir.proofs.Counting.{blocks_are, insts_are}
+use Rattle.ms_ir.proofs.Sizes.{drop_next}
 use Rattle.ms_valid.specs.Formed.{Formed}
 use Rattle.ms_valid.proofs.SmallNumbers.{small_numbers}
 use Rattle.ms_machine.specs.Searches.{IsInBlock, IsInFunc}
+use Rattle.ms_machine_steps.proofs.RunSteps.{funcs_below}
 
 -- ---- sums
 
@@ -29,9 +30,6 @@ funcs_split zero fs = omega arith
 funcs_split (suc n) [] = refl
 funcs_split (suc n) (f ∷ fs) = omega (arith, funcs_split n fs)
 
-pub drop_item : {A : Type 0} (xs : List A) (i : ℕ) (x : A) → i < length xs → x ≡ get_or xs i x → drop i xs ≡ x ∷ drop (i + 1) xs
-drop_item xs i x l is = drop-cons xs i x l ∙ ap (λ y. y ∷ drop (suc i) xs) (sym is) ∙ ap (λ n. x ∷ drop n xs) (sym (add-one i))
-
 -- ---- a step of the search
 
 pub block_found : (bs : List Block) (i left number : ℕ) (b : Block) (xs : List Inst) → i < length bs → b ≡ get_or bs i b → over_blocks (λ inst. 1) bs + left ≡ over_blocks (λ inst. 1) (drop i bs) + number
@@ -43,7 +41,7 @@ block_found bs i left number b xs l is rest same low =
 pub block_passed : (bs : List Block) (i left number : ℕ) (b : Block) (xs : List Inst) → i < length bs → b ≡ get_or bs i b → over_blocks (λ inst. 1) bs + left ≡ over_blocks (λ inst. 1) (drop i bs) + number
     → xs ≡ b.insts → length xs ≤ left → over_blocks (λ inst. 1) bs + (left - length xs) ≡ over_blocks (λ inst. 1) (drop (i + 1) bs) + number
 block_passed bs i left number b xs l is rest same high =
-    let d : over_blocks (λ inst. 1) (drop i bs) ≡ over_insts (λ inst. 1) b.insts + over_blocks (λ inst. 1) (drop (i + 1) bs) = ap (over_blocks (λ inst. 1)) (drop_item bs i b l is) in
+    let d : over_blocks (λ inst. 1) (drop i bs) ≡ over_insts (λ inst. 1) b.insts + over_blocks (λ inst. 1) (drop (i + 1) bs) = ap (over_blocks (λ inst. 1)) (drop_next bs i b l is) in
     let n : over_insts (λ inst. 1) b.insts ≡ length b.insts = counted b.insts in
     let e : length xs ≡ length b.insts = ap length same in
     omega (arith, d, n, e, rest, high)
@@ -53,13 +51,6 @@ pub func_found : (fs : List Func) (i left number : ℕ) (f : Func) (bs : List Bl
 func_found fs i left number f bs b p l is rest same found =
     let s = funcs_split i fs in
     record { func = f; here = slice_get_read fs (length fs) i f refl l is; left = left; before = omega (arith, s, rest); within = subst (λ (ks : List Block). IsInBlock ks left b p) same found }
-
-pub func_passed : (fs : List Func) (i left number beyond : ℕ) (f : Func) (bs : List Block) → i < length fs → f ≡ get_or fs i f → over_funcs (λ inst. 1) fs + left ≡ over_funcs (λ inst. 1) (drop i fs) + number
-    → bs ≡ f.blocks → over_blocks (λ inst. 1) bs + beyond ≡ left → over_funcs (λ inst. 1) fs + beyond ≡ over_funcs (λ inst. 1) (drop (i + 1) fs) + number
-func_passed fs i left number beyond f bs l is rest same past =
-    let d : over_funcs (λ inst. 1) (drop i fs) ≡ over_blocks (λ inst. 1) f.blocks + over_funcs (λ inst. 1) (drop (i + 1) fs) = ap (over_funcs (λ inst. 1)) (drop_item fs i f l is) in
-    let e : over_blocks (λ inst. 1) bs ≡ over_blocks (λ inst. 1) f.blocks = ap (over_blocks (λ inst. 1)) same in
-    omega (arith, d, e, rest, past)
 
 -- ---- numbers are few
 
@@ -91,12 +82,6 @@ blocks_part (b ∷ bs) zero x e =
     let h : length b.insts ≡ length x.insts = ap (λ (k : Block). length k.insts) (same_Some b x e) in omega (arith, h, counted b.insts)
 blocks_part (b ∷ bs) (suc n) x e = omega (arith, blocks_part bs n x e)
 
-funcs_part : (fs : List Func) (n : ℕ) (x : Func) → slice_get fs n ≡ Some x → over_funcs (λ inst. 1) (take n fs) + over_blocks (λ inst. 1) x.blocks ≤ over_funcs (λ inst. 1) fs
-funcs_part [] n x e = absurd (none-some x e)
-funcs_part (f ∷ fs) zero x e =
-    let h : over_blocks (λ inst. 1) f.blocks ≡ over_blocks (λ inst. 1) x.blocks = ap (λ (k : Func). over_blocks (λ inst. 1) k.blocks) (same_Some f x e) in omega (arith, h)
-funcs_part (f ∷ fs) (suc n) x e = omega (arith, funcs_part fs n x e)
-
 block_number : (bs : List Block) (number b p : ℕ) → IsInBlock bs number b p → number < over_blocks (λ inst. 1) bs
 block_number bs number b p at =
     let h = blocks_part bs b at.block at.here in
@@ -107,7 +92,7 @@ block_number bs number b p at =
 -- the number of an instruction is below the number of instructions
 pub func_number : (fs : List Func) (number f b p : ℕ) → IsInFunc fs number f b p → number < over_funcs (λ inst. 1) fs
 func_number fs number f b p at =
-    let h = funcs_part fs f at.func at.here in
+    let h = funcs_below fs f at.func at.here in
     let l = block_number at.func.blocks at.left b p at.within in
     let e = at.before in
     omega (arith, h, e, l)

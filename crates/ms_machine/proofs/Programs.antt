@@ -6,13 +6,13 @@ use Rattle.ms_runs.specs.Control.{Frame}
 use Rattle.ms_runs.specs.Plain.{PlainState}
 use Rattle.ms_valid.specs.Formed.{Formed}
 use Rattle.ms_valid.specs.Valid.{Valid}
-use Rattle.ms_code_data.specs.declared.code.Program.{Program}
-use Rattle.ms_code_data.specs.Compiled.{Compiled}
+use Rattle.ms_code.specs.declared.code.Program.{Program}
+use Rattle.ms_code.specs.Compiled.{Compiled}
 use Rattle.ms_host.specs.declared.calls.Asked.{Asked}
 use Rattle.ms_host.specs.State.{WorldState, Beside}
-use Rattle.ms_machine_steps.specs.declared.frames.Frame.{Frame as Kept}
-use Rattle.ms_machine_steps.specs.declared.fibers.Fiber.{Fiber}
-use Rattle.ms_machine_steps.specs.Standing.{Stands, FramesStand, frames_of, IsState, Standing}
+use Rattle.ms_machine_frames.specs.declared.frames.Frame.{Frame as Kept}
+use Rattle.ms_machine_frames.specs.declared.fibers.Fiber.{Fiber}
+use Rattle.ms_machine_frames.specs.Standing.{Stands, FramesStand, frames_of, IsState, Standing}
 use Rattle.ms_machine_steps.specs.Advances.{HasResumed}
 use Rattle.ms_machine_steps.specs.Waiting.{IsWaiting}
 use Rattle.ms_machine.specs.Running.{StandsFor, AllStandFor, IsRunning, Runs, WaitsFor}

@@ -1,35 +1,28 @@
 -- At the start of a run of a valid module the globals have sizes and fit into their memory.
 use Rattle.std.proofs.Common.{◌≡◌, ◌≤◌, ◌+◌, ◌^◌, ℕ, Bool, true, false, List, [], ◌∷◌, ◌++◌, map, refl, sym, ap, subst, ◌∙◌, arith, if◌then◌else◌, true≢false}
 use Rattle.std.specs.Prelude.{◌&&◌, ◌||◌}
-use Rattle.std.proofs.lemmas.Bool.{le-leb}
+use Rattle.std.proofs.lemmas.Bool.{le-leb, and_from, or_right}
 use Rattle.ms_ir.specs.declared.syntax.Name.{Name}
 use Rattle.ms_ir.specs.declared.syntax.Ty.{Ty}
 use Rattle.ms_ir.specs.declared.syntax.Init.{Init, Value, Zero, Array', Struct', Text, Row_of-Init-Array-0-2, end_of-Init-Array-0-2, more_of-Init-Array-0-2}
 use Rattle.ms_ir.specs.declared.syntax.GlobalVar.{GlobalVar}
 use Rattle.ms_ir.specs.declared.syntax.Module.{Module}
 use Rattle.ms_ir.specs.Names.{is_reserved}
-use Rattle.ms_ir.specs.Areas.{Area, Fixed, area_eq, room}
+use Rattle.ms_ir.specs.Areas.{Fixed, room}
 use Rattle.ms_ir.specs.Layout.{Types, Extent, extent, size_in, align_in, round_up, place_field}
 use Rattle.ms_ir.specs.Written.{init_types, items_types}
-use Rattle.ms_runs.specs.World.{Allocation, World}
+use Rattle.ms_runs.specs.World.{World, first_world}
 use Rattle.ms_runs.specs.Memory.{used, fits, next_base, make}
 use Rattle.ms_runs.specs.Globals.{address_of, constant, write_init, write_items, write_fields, make_globals}
 use Rattle.ms_valid.specs.SizesFit.{sized, taken_with, unsized_globals}
 use Rattle.ms_valid.specs.Valid.{Valid}
-use Rattle.ms_code_data.specs.Constants.{globals_constants}
-use Rattle.ms_code_operands.proofs.SizedTypes.{own_size}
-use Rattle.ms_code_operands.proofs.ValidSizes.{sized_first, sized_both, fits_next, still_within, valid_parts}
+use Rattle.ms_code.specs.Constants.{globals_constants}
+use Rattle.ms_compile_operands.proofs.SizedTypes.{own_size}
+use Rattle.ms_compile_operands.proofs.ValidSizes.{sized_first, sized_both, fits_next, still_within, valid_parts}
 use Rattle.ms_host.specs.State.{WorldState, nothing_beside}
-use Rattle.ms_host.specs.Shows.{Shows, first_world}
+use Rattle.ms_host.specs.Shows.{Shows}
 use Rattle.ms_host.specs.Initial.{init_sized, items_sized, global_sized, globals_sized, globals_fit, MakesGlobals, PassesLimit}
-
-both_true : (a b : Bool) → a ≡ true → b ≡ true → (a && b) ≡ true
-both_true true b e h = h
-both_true false b e h = absurd (true≢false (sym e))
-
-second_true : (a b : Bool) → b ≡ true → (a || b) ≡ true
-second_true true b h = refl
-second_true false b h = h
+use Rattle.ms_good_laws.proofs.Rooms.{used_push}
 
 -- ---- sizes
 
@@ -47,14 +40,14 @@ module _ (types : Types) where
     items_have_sizes (more_of-Init-Array-0-2 t i rest) sizes =
         let first = sized_first types t (init_types i ++ items_types rest) sizes in
         let both = sized_both types (init_types i) (items_types rest) first.1 in
-        both_true _ (items_sized types rest) (both_true _ (init_sized types i) (own_size types t first.0) (init_has_sizes i both.0)) (items_have_sizes rest both.1)
+        and_from _ (items_sized types rest) (and_from _ (init_sized types i) (own_size types t first.0) (init_has_sizes i both.0)) (items_have_sizes rest both.1)
 
   globals_have_sizes : (gs : List GlobalVar) (taken : ℕ) → unsized_globals types taken gs ≡ [] → globals_sized types gs ≡ true
   globals_have_sizes [] taken e = refl
   globals_have_sizes (g ∷ rest) taken e =
       let f = fits_next types taken g rest e in
-      both_true (global_sized types g) (globals_sized types rest)
-      (second_true (is_reserved g.name) _ (both_true _ (init_sized types g.init) (own_size types g.ty f.own) (init_has_sizes g.init f.within)))
+      and_from (global_sized types g) (globals_sized types rest)
+      (or_right (is_reserved g.name) _ (and_from _ (init_sized types g.init) (own_size types g.ty f.own) (init_has_sizes g.init f.within)))
       (globals_have_sizes rest (taken_with types taken g) f.later)
 
 -- the types of a valid module's globals, and those in their initialisers, have sizes
@@ -63,19 +56,8 @@ valid_globals_sized m valid = globals_have_sizes m.types m.globals 0 (valid_part
 
 -- ---- the bytes of the area
 
-used_last : (area : Area) (xs : List Allocation) (a : Allocation) → used area (xs ++ a ∷ []) ≡ used area xs + (if area_eq area a.area then room a.size else 0)
-used_last area [] a = swap (if area_eq area a.area then room a.size else 0)
-  where
-    swap : (n : ℕ) → n + 0 ≡ 0 + n
-    swap n = omega arith
-used_last area (x ∷ xs) a =
-    more (if area_eq area x.area then room x.size else 0) (used area xs) (used area (xs ++ a ∷ [])) (if area_eq area a.area then room a.size else 0) (used_last area xs a)
-  where
-    more : (n u v k : ℕ) → v ≡ u + k → n + v ≡ n + u + k
-    more n u v k e = omega (arith, e)
-
 used_made : (n : ℕ) (w : World) → used Fixed (make Fixed n w).allocs ≡ used Fixed w.allocs + room n
-used_made n w = used_last Fixed w.allocs (record { base = next_base Fixed w; size = n; area = Fixed; live = true })
+used_made n w = used_push Fixed w.allocs (record { base = next_base Fixed w; size = n; area = Fixed; live = true })
 
 fits_within : (n u : ℕ) (w : World) → used Fixed w.allocs ≡ u → u + room n ≤ 2 ^ 24 → fits Fixed n w ≡ true
 fits_within n u w is low = le-leb (used Fixed w.allocs + room n) (2 ^ 24) (subst (λ (k : ℕ). k + room n ≤ 2 ^ 24) (sym is) low)
@@ -113,7 +95,7 @@ module _ (types : Types) (address : Name → ℕ) where
       && globals_fit types address rest (if reserved then w else write_init types address (next_base Fixed w) g.ty g.init (make Fixed (size_in types g.ty) w))) ≡ true
   fit_next g rest taken w true all low is later within = all taken w later low is
   fit_next g rest taken w false all low is later within =
-      both_true _ _ (fits_within (size_in types g.ty) taken w is within)
+      and_from _ _ (fits_within (size_in types g.ty) taken w is within)
       (all (taken + room (size_in types g.ty)) (write_init types address (next_base Fixed w) g.ty g.init (make Fixed (size_in types g.ty) w)) later within (used_with g taken w is))
 
   globals_fit_from : (gs : List GlobalVar) (taken : ℕ) (w : World) → unsized_globals types taken gs ≡ [] → taken ≤ 2 ^ 24 → used Fixed w.allocs ≡ taken → globals_fit types address gs w ≡ true

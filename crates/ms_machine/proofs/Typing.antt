@@ -19,12 +19,13 @@ use Rattle.ms_ir.specs.Locals.{block_locals, locals, results, typed_result, valu
 use Rattle.ms_ir.specs.Written.{result_type}
 use Rattle.ms_valid.specs.FlowGraph.{name_place}
 use Rattle.ms_valid.specs.FormedNames.{is_local_name, is_global_name, are_numbered}
-use Rattle.ms_valid.specs.FormedCode.{is_int_type, is_value_type, result_formed, shape_formed, op_formed, inst_formed, name_formed, is_body}
+use Rattle.ms_valid.specs.FormedCode.{is_int_type, is_value_type, result_formed, shape_formed, inst_formed, is_body}
 use Rattle.ms_valid.specs.Formed.{block_formed, func_formed}
-use Rattle.ms_code_data.specs.Reads.{Holds}
-use Rattle.ms_code_operands.specs.Words.{IsWord}
+use Rattle.ms_code.specs.Reads.{Holds}
+use Rattle.ms_compile_operands.specs.Words.{IsWord}
 use Rattle.ms_machine.specs.WordsNamed.{word_named}
 use Rattle.ms_machine.proofs.Naming.{lookup_hit, lookup_miss, place_hit, counts}
+use Rattle.ms_good_laws.proofs.Starts.{formed_shape}
 
 -- ---- types of results
 
@@ -119,14 +120,11 @@ one_known (Some y) (Some u) rows names x t g h later = by_test (name_eq y x) ref
     by_test true s h = first_known y names x t s (subst (λ (v : Ty). is_value_type v ≡ true) (same_Some u t h) (g u refl))
     by_test false s h = one_more y names x t (later h)
 
-shaped : (i : Inst) → inst_formed i ≡ true → shape_formed i.op ≡ true
-shaped i f = (and_parts (shape_formed i.op) _ (and_parts _ _ (and_parts (op_formed i.op) (name_formed (result_type i.op) i.result) f).0).0).0
-
 insts_known : (is : List Inst) (x : Name) (t : Ty) → list_all inst_formed is ≡ true → lookup (filter_map typed_result is) x ≡ Some t → Known (results is) x t
 insts_known [] x t f e = absurd (none-some t e)
 insts_known (i ∷ is) x t f e =
     let parts = and_parts (inst_formed i) (list_all inst_formed is) f in
-    one_known i.result (result_type i.op) (filter_map typed_result is) (results is) x t (λ u g. value_of i.op u (shaped i parts.0) g)
+    one_known i.result (result_type i.op) (filter_map typed_result is) (results is) x t (λ u g. value_of i.op u (formed_shape i parts.0) g)
     (ap (λ o. lookup (cons_option o (filter_map typed_result is)) x) (sym (typed_is i)) ∙ e) (insts_known is x t parts.1)
 
 -- a name with a type in one of two lists

@@ -2,23 +2,23 @@
 use Rattle.std.specs.Prelude.{◌≡◌, ℕ, List, [], ◌∷◌, Some}
 use Rattle.ms_ir.specs.declared.syntax.Func.{Func}
 use Rattle.ms_ir.specs.declared.syntax.Module.{Module}
-use Rattle.ms_ir.specs.Code.{func_at}
+use Rattle.ms_ir.specs.Instructions.{func_at}
 use Rattle.ms_ir.specs.Locals.{locals}
 use Rattle.ms_runs.specs.declared.runs.Setup.{Setup}
 use Rattle.ms_runs.specs.Control.{Frame}
 use Rattle.ms_runs.specs.Plain.{PlainState}
-use Rattle.ms_runs_good.specs.GoodWorlds.{GivesBytes}
-use Rattle.ms_runs_good.specs.GoodRuns.{SoundPlain}
-use Rattle.ms_code_data.specs.Reads.{Holds}
-use Rattle.ms_code_data.specs.Encodes.{number_of}
+use Rattle.ms_good_laws.specs.GoodWorlds.{GivesBytes}
+use Rattle.ms_good_laws.specs.GoodRuns.{SoundPlain}
+use Rattle.ms_code.specs.Reads.{Holds}
+use Rattle.ms_code.specs.Encodes.{number_of}
 use Rattle.ms_host.specs.State.{WorldState, Beside}
 use Rattle.ms_host.specs.Shows.{Shows}
 use Rattle.ms_host.specs.SlotBytes.{ShowsSlots}
 use Rattle.ms_host.specs.declared.calls.HostCall.{HostCall}
-use Rattle.ms_machine_steps.specs.declared.frames.Frame.{Frame as Kept}
-use Rattle.ms_machine_steps.specs.declared.fibers.Fiber.{Fiber}
-use Rattle.ms_machine_steps.specs.Owning.{Owns}
-use Rattle.ms_machine_steps.specs.Standing.{frames_of}
+use Rattle.ms_machine_frames.specs.declared.frames.Frame.{Frame as Kept}
+use Rattle.ms_machine_frames.specs.declared.fibers.Fiber.{Fiber}
+use Rattle.ms_machine_frames.specs.Owning.{Owns}
+use Rattle.ms_machine_frames.specs.Standing.{frames_of}
 use Rattle.ms_machine_steps.specs.Waiting.{FirstWaits}
 
 -- a kept frame stands for one of the definitions

@@ -4,7 +4,7 @@ use Rattle.std.specs.Prelude.{◌≡◌, ◌+◌, ◌<◌, ℕ, List, take, leng
 use Rattle.ms_ir.specs.declared.syntax.Name.{Name}
 use Rattle.ms_ir.specs.declared.syntax.Block.{Block}
 use Rattle.ms_ir.specs.declared.syntax.Func.{Func}
-use Rattle.ms_ir.specs.Code.{over_blocks, over_funcs}
+use Rattle.ms_ir.specs.Instructions.{over_blocks, over_funcs}
 use Rattle.ms_valid.specs.FlowGraph.{name_place}
 
 -- the instruction with a number among those of blocks, counted from 0, stands in block b, as instruction p

@@ -4,9 +4,9 @@ use Rattle.ms_ir.specs.declared.syntax.Module.{Module}
 use Rattle.ms_runs.specs.World.{World}
 use Rattle.ms_runs.specs.Control.{entered}
 use Rattle.ms_runs.specs.Act.{plain_reading}
-use Rattle.ms_machine_steps.specs.declared.fibers.Fiber.{Fiber}
-use Rattle.ms_machine_steps.specs.Owning.{is_spawned, Owns}
-use Rattle.ms_machine_steps.specs.Standing.{frames_of}
+use Rattle.ms_machine_frames.specs.declared.fibers.Fiber.{Fiber}
+use Rattle.ms_machine_frames.specs.Owning.{is_spawned, Owns}
+use Rattle.ms_machine_frames.specs.Standing.{frames_of}
 use Rattle.ms_machine.specs.Running.{AllStandFor}
 
 -- a fiber stands for the first frame of a function with an argument, in any world in which a fiber beside `main`'s has the turn

@@ -1,6 +1,6 @@
 //! Where instructions stand, by their numbers, counted from 0 in text order.
 ghost use Rattle.std.specs.Prelude.{◌≡◌, ◌≤◌, ◌<◌, ◌+◌, ℕ, Some, IfErr, IfNone, IfOk, IfSome};
-ghost use Rattle.ms_ir.specs.Code.{func_at, over_blocks, over_funcs};
+ghost use Rattle.ms_ir.specs.Instructions.{func_at, over_blocks, over_funcs};
 ghost use Rattle.ms_valid.specs.Formed.{Formed};
 ghost use Rattle.ms_machine.specs.Searches.{IsInBlock, IsInFunc};
 
@@ -8,14 +8,14 @@ use ms_ir::{Block, Func, Module, Place};
 
 /// Where an instruction stands in a function: the numbers of its block and, in the block, of itself.
 #[derive(Clone, Copy)]
-struct Part {
+struct InstPlace {
     block: usize,
     inst: usize,
 }
 
 /// Where the instruction with a number among those of blocks stands; where they have fewer, how far the number is beyond
 /// them.
-fn find_block(blocks: &[Block], number: usize) -> Result<Part, usize>
+fn find_block(blocks: &[Block], number: usize) -> Result<InstPlace, usize>
     ensures found { IfOk result (λ p. IsInBlock blocks.now number p.block p.inst) }
     ensures beyond { IfErr result (λ left. over_blocks (λ inst. 1) blocks.now + left ≡ number) }
 {
@@ -23,7 +23,7 @@ fn find_block(blocks: &[Block], number: usize) -> Result<Part, usize>
     for (index, block) in blocks.iter().enumerate() {
         let count = block.insts.as_slice().len();
         if left < count {
-            return Ok(Part {
+            return Ok(InstPlace {
                 block: index,
                 inst: left,
             });
@@ -35,7 +35,7 @@ fn find_block(blocks: &[Block], number: usize) -> Result<Part, usize>
 
 /// The function in which the instruction with a number among those of functions stands, and where in it; none where they
 /// have fewer.
-fn find_func(funcs: &[Func], number: usize) -> Option<(usize, Part)>
+fn find_func(funcs: &[Func], number: usize) -> Option<(usize, InstPlace)>
     ensures found { IfSome result (λ r. IsInFunc funcs.now number r.0 r.1.block r.1.inst) }
     ensures none { IfNone result (over_funcs (λ inst. 1) funcs.now ≤ number) }
 {

@@ -7,8 +7,8 @@ ghost use Rattle.ms_host.specs.declared.calls.HostCall.{HostCall as CallOf};
 ghost use Rattle.ms_host.specs.declared.calls.Answer.TheVariants.{Resumed};
 ghost use Rattle.ms_host.specs.Answers.{Answered, asked_effect};
 ghost use Rattle.ms_host.specs.State.{Beside, KeepsGiven, WorldState};
-ghost use Rattle.ms_machine_steps.specs.Owning.{KeepsOwn};
-ghost use Rattle.ms_machine_steps.specs.Standing.{frames_of};
+ghost use Rattle.ms_machine_frames.specs.Owning.{KeepsOwn};
+ghost use Rattle.ms_machine_frames.specs.Standing.{frames_of};
 ghost use Rattle.ms_machine_steps.specs.Waiting.{FirstWaits, Waits, answered, types_due};
 ghost use Rattle.ms_machine_steps.specs.Advances.{Advanced, HasResumed};
 ghost use Rattle.ms_machine.specs.Running.{AllStandFor, IsRunning, Runs, WaitsFor};
@@ -16,8 +16,8 @@ ghost use Rattle.ms_machine.specs.Running.{AllStandFor, IsRunning, Runs, WaitsFo
 use ms_bits::NoMemory;
 use ms_check::CheckedModule;
 use ms_host::World;
+use ms_machine_frames::{Budget, Fiber, Pause};
 use ms_machine_steps as steps;
-use ms_machine_steps::{Budget, Fiber, Pause};
 use std::alloc::Global;
 
 /// Goes on until a function is called that the module doesn't define, until the run ends, or until no step is left.
@@ -39,7 +39,7 @@ pub fn advance(
     ensures made { world.new.made + 2 ^ 26 * budget.new.left ≤ world.old.made + 2 ^ 26 * budget.old.left }
 {
     m.is_valid();
-    steps::advance(alloc, m.program(), fiber, world, budget)
+    steps::run_steps(alloc, m.program(), fiber, world, budget)
 }
 
 /// Goes on after the call at which a fiber waits, with the answer's value where it has one. Takes no memory.
@@ -56,5 +56,5 @@ pub fn resume(m: &CheckedModule, fiber: &mut Fiber, value: Option<u64>)
         → HasResumed (IsRunning m.now u later) m.now u call.asked state fiber.new after }
 {
     m.is_valid();
-    steps::resume(m.program(), fiber, value);
+    steps::give_answer(m.program(), fiber, value);
 }

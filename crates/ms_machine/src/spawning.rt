@@ -1,11 +1,11 @@
 //! The fiber of a thread that begins.
 ghost use Rattle.std.specs.Prelude.{◌≡◌, IfOk};
-ghost use Rattle.ms_runs_good.specs.GoodStates.{IsStart};
+ghost use Rattle.ms_good_laws.specs.GoodStates.{IsStart};
 ghost use Rattle.ms_machine.specs.Spawning.{SpawnedFor};
 
 use ms_bits::NoMemory;
 use ms_check::CheckedModule;
-use ms_machine_steps::{Fiber, spawn_fiber};
+use ms_machine_frames::{Fiber, spawn_fiber};
 use std::alloc::Global;
 
 /// A fiber that begins with the function with a number, of the type `ptr (ptr)`, and this argument. The one error is want of

@@ -5,7 +5,7 @@ ghost use Rattle.ms_runs.specs.declared.runs.Setup.{Setup};
 ghost use Rattle.ms_runs.specs.Control.{Frame as FrameOf};
 ghost use Rattle.ms_runs.specs.Plain.{PlainState};
 ghost use Rattle.ms_host.specs.State.{Beside, WorldState};
-ghost use Rattle.ms_machine_steps.specs.Standing.{frames_of};
+ghost use Rattle.ms_machine_frames.specs.Standing.{frames_of};
 ghost use Rattle.ms_machine.specs.Running.{AllStandFor, IsRunning};
 ghost use Rattle.ms_machine.specs.Standing.{IsPlaceDue, IsWordNamed, RunsSomewhere};
 
@@ -14,7 +14,7 @@ use crate::words::word_in;
 use ms_bits::Word;
 use ms_check::CheckedModule;
 use ms_ir::{Name, Place};
-use ms_machine_steps::Fiber;
+use ms_machine_frames::Fiber;
 
 /// Where a fiber stands at a pause: the place of the instruction that is due in the innermost call, its function, block and
 /// instruction each counted from 0. Where a call waits for its answer, that is the call.

@@ -3,7 +3,7 @@ ghost use Rattle.std.specs.Prelude.{◌≡◌, ◌≢◌, ◌<◌, map, length, 
 ghost use Rattle.ms_runs.specs.Globals.{address_of, constant};
 ghost use Rattle.ms_runs.specs.Plain.{start_world, plain_start};
 ghost use Rattle.ms_valid.specs.Valid.{Valid};
-ghost use Rattle.ms_code_data.specs.Constants.{globals_constants};
+ghost use Rattle.ms_code.specs.Constants.{globals_constants};
 ghost use Rattle.ms_host.specs.State.{nothing_beside};
 ghost use Rattle.ms_host.specs.Shows.{Shows};
 ghost use Rattle.ms_host.specs.SlotBytes.{ShowsSlots};
@@ -14,7 +14,7 @@ use ms_bits::{NoMemory, bytes_in_range};
 use ms_check::CheckedModule;
 use ms_host::World;
 use ms_ir::Module;
-use ms_machine_steps::{Fiber, start_fiber};
+use ms_machine_frames::{Fiber, start_fiber};
 use ms_runs::Setup;
 use ms_tables::Extents;
 use std::alloc::Global;

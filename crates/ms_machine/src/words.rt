@@ -7,12 +7,12 @@ ghost use Rattle.ms_ir.specs.ValueTypes.{type_of};
 ghost use Rattle.ms_valid.specs.FlowGraph.{name_place};
 ghost use Rattle.ms_valid.specs.Formed.{func_formed};
 ghost use Rattle.ms_valid.specs.FormedCode.{is_value_type};
-ghost use Rattle.ms_code_data.specs.Reads.{Holds};
+ghost use Rattle.ms_code.specs.Reads.{Holds};
 ghost use Rattle.ms_machine.specs.WordsNamed.{word_named};
 
 use crate::names::{number_named, type_named};
 use ms_bits::Word;
-use ms_code_operands::width_of;
+use ms_compile_operands::width_of;
 use ms_ir::{Func, Name, ValueType};
 
 /// The width of a type of values.

@@ -5,7 +5,8 @@ use Rattle.std.proofs.lemmas.Option.{same_Some, none-some, slice_get_within}
 use Rattle.std.proofs.lemmas.List.{reverse-reverse}
 use Rattle.ms_ir.specs.declared.syntax.Name.{Name}
 use Rattle.ms_ir.specs.Names.{name_eq}
-use Rattle.ms_moves.proofs.Names.{name_same, name_sound}
+use Rattle.ms_ir.proofs.RootKinds.{name_same as name_sound}
+use Rattle.ms_moves.proofs.Names.{name_same}
 use Rattle.ms_moves.specs.declared.moves.Source.{Source}
 use Rattle.ms_moves.specs.declared.moves.Source.TheVariants.{Root, Value, Byte}
 use Rattle.ms_moves.specs.declared.moves.Target.{Target}

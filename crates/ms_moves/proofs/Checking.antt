@@ -6,6 +6,7 @@ use Rattle.std.proofs.lemmas.Option.{same_Some, none-some, slice_get_within}
 use Rattle.std.proofs.lemmas.List.{reverse-append, take_all}
 use Rattle.ms_ir.specs.declared.syntax.Name.{Name}
 use Rattle.ms_ir.specs.Names.{name_eq}
+use Rattle.ms_ir.proofs.RootKinds.{name_same as name_sound}
 use Rattle.ms_moves.specs.declared.moves.Source.{Source}
 use Rattle.ms_moves.specs.declared.moves.Source.TheVariants.{Root, Value, Byte}
 use Rattle.ms_moves.specs.declared.moves.Target.{Target}
@@ -15,11 +16,11 @@ use Rattle.ms_moves.specs.declared.moves.Hop.{Hop}
 use Rattle.ms_moves.specs.Leads.{reached, came_from, IsBefore, IsLast, LeadsBack, Leads}
 use Rattle.ms_moves.specs.Scanned.{Ascending, is_before}
 use Rattle.ms_moves.specs.Checked.{behind, distance_in, is_reached, is_written, counts_there, NoneBetween, IsNext, is_root_at}
-use Rattle.ms_moves.proofs.Names.{name_same, name_sound}
+use Rattle.ms_moves.proofs.Names.{name_same}
 use Rattle.ms_moves.proofs.Chains.{some_if}
 use Rattle.ms_moves.proofs.Scans.{AnyRoot, Below, below_hop, before_sound, before_found}
 
-false_true : false ≡ true → ⊥
+pub false_true : false ≡ true → ⊥
 false_true e = grind arith
 
 -- ---- bytes

@@ -2,6 +2,6 @@ mod Names
 pub mod Chains
 pub mod Scans
 mod Backwards
-mod Checking
+pub mod Checking
 mod Operands
-mod EdgeWalks
+pub mod EdgeWalks

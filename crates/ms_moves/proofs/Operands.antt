@@ -3,7 +3,7 @@ use Rattle.std.proofs.Common.{◌≡◌, ◌≤◌, ◌+◌, ℕ, zero, suc, Lis
 use Rattle.std.proofs.lemmas.Option.{same_Some, none-some}
 use Rattle.ms_ir.specs.declared.syntax.Ty.{Ty}
 use Rattle.ms_ir.specs.declared.syntax.Operand.{Operand}
-use Rattle.ms_ir.specs.Code.{one_undef, count_undefs}
+use Rattle.ms_ir.specs.Instructions.{one_undef, count_undefs}
 use Rattle.ms_moves.specs.declared.moves.Source.TheVariants.{Root}
 use Rattle.ms_moves.specs.Sources.{operand_source, sources, source_at}
 

@@ -8,7 +8,7 @@ use Rattle.ms_ir.specs.declared.syntax.Op.TheVariants as op
 use Rattle.ms_ir.specs.declared.syntax.Inst.{Inst}
 use Rattle.ms_ir.specs.declared.syntax.Module.{Module}
 use Rattle.ms_runs.specs.World.{World, Setting}
-use Rattle.ms_ir.specs.Code.{operands, count_undefs, one_unmarked, roots_in, insts_at, site_at, root_at, external_named}
+use Rattle.ms_ir.specs.Instructions.{operands, count_undefs, one_unmarked, roots_in, insts_at, site_at, root_at, external_named}
 use Rattle.ms_ir.specs.declared.calls.External.{External}
 use Rattle.ms_ir.specs.declared.calls.External.TheVariants.{Word}
 use Rattle.ms_runs.specs.Control.{Frame, here, rest_of, read_all, read_edge, block_name, params_at, result_at}

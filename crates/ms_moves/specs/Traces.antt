@@ -9,12 +9,12 @@ use Rattle.ms_bits.specs.Maps.{first_nonzero}
 use Rattle.ms_runs.specs.World.{World, Setting}
 use Rattle.ms_runs.specs.Memory.{is_good, bytes_left}
 use Rattle.ms_runs.specs.Origins.{first_in_string, asks_string_at}
-use Rattle.ms_ir.specs.Code.{operands}
+use Rattle.ms_ir.specs.Instructions.{operands}
 use Rattle.ms_runs.specs.Control.{Frame, here, rest_of, read_all}
 use Rattle.ms_runs.specs.Plain.{Stepped, More, Stop, setting_of, start_world, start_frame}
 use Rattle.ms_runs.specs.Poisoned.{Poisoned}
 use Rattle.ms_runs.specs.Masks.{Rules, by_completions, word_at}
-use Rattle.ms_runs.specs.Uses.{Use, Word, Bytes, Line, Asked, uses}
+use Rattle.ms_runs.specs.Uses.{CheckedUse, Word, Bytes, Line, Asked, uses}
 use Rattle.ms_runs.specs.Shadow.{ShadowState, shadow_reading, read_poisoned, shadow_step}
 use Rattle.ms_moves.specs.declared.moves.Source.{Source}
 use Rattle.ms_moves.specs.declared.moves.Source.TheVariants.{Root, Byte}
@@ -30,7 +30,7 @@ or_byte (Some a) rest = Byte a
 or_byte None rest = rest
 
 -- what the first use that is poisoned reads
-abbrev pub read_by : World → List Poisoned → List Source → List Use → Source
+abbrev pub read_by : World → List Poisoned → List Source → List CheckedUse → Source
 read_by w ps ss [] = Root 0
 read_by w ps ss (Word kind k ∷ us) = if eqb (word_at k ps).mask 0 then read_by w ps ss us else source_at k ss
 read_by w ps ss (Bytes kind a n ∷ us) =

@@ -8,7 +8,7 @@ use Rattle.ms_ir.specs.Layout.{stored_size, size_in}
 use Rattle.ms_ir.specs.Areas.{Heap}
 use Rattle.ms_runs.specs.World.{World, Setting}
 use Rattle.ms_runs.specs.Memory.{fits, local_area, next_base, is_good, heap_size}
-use Rattle.ms_ir.specs.Code.{external_named}
+use Rattle.ms_ir.specs.Instructions.{external_named}
 use Rattle.ms_runs.specs.Poisoned.{Poisoned}
 use Rattle.ms_runs.specs.Masks.{word_at}
 use Rattle.ms_moves.specs.declared.moves.Source.{Source}

@@ -1,6 +1,6 @@
 //! What operands are read from.
 ghost use Rattle.std.specs.Prelude.{◌≡◌, ◌<◌, ◌+◌, ◌^◌, take, IfOk};
-ghost use Rattle.ms_ir.specs.Code.{operands, one_undef, count_undefs};
+ghost use Rattle.ms_ir.specs.Instructions.{operands, one_undef, count_undefs};
 ghost use Rattle.ms_moves.specs.Sources.{operand_source as source_of_operand, sources, source_at as source_in};
 
 use crate::moves::Source;

@@ -6,15 +6,16 @@ use Rattle.ms_ir.specs.declared.syntax.Op.TheVariants as op
 use Rattle.ms_ir.specs.declared.syntax.Inst.{Inst}
 use Rattle.ms_ir.specs.declared.syntax.Module.{Module}
 use Rattle.ms_runs.specs.World.{World, Setting}
-use Rattle.ms_ir.specs.Code.{func_index, roots_in, root_at, insts_at}
+use Rattle.ms_ir.specs.Instructions.{func_index, roots_in, root_at, insts_at}
 use Rattle.ms_ir.specs.ThreadCalls.{calls_thread, is_threaded}
-use Rattle.ms_runs_good.proofs.ThreadsApart.{none_due}
+use Rattle.ms_good_laws.proofs.ThreadsApart.{none_due}
 use Rattle.ms_runs.specs.Control.{Frame, Outcome, On, Over, rest_of, read_edge, block_name}
 use Rattle.ms_runs.specs.Plain.{More}
 use Rattle.ms_runs.specs.Poisoned.{Poisoned}
 use Rattle.ms_runs.specs.Masks.{by_formulas, by_completions}
 use Rattle.ms_runs.specs.Shadow.{ShadowState, shadow_moved, shadow_frames, shadow_step}
-use Rattle.ms_runs_good.specs.Reached.{edge_root}
+use Rattle.ms_good_laws.specs.Reached.{edge_root}
+use Rattle.ms_good_laws.proofs.Frames.{drop_first}
 use Rattle.ms_runs_laws.proofs.ExactRules.{formulas_exact}
 use Rattle.ms_runs_laws.proofs.SameRuns.{same_step}
 use Rattle.ms_moves.specs.declared.moves.Source.{Source}
@@ -24,7 +25,7 @@ use Rattle.ms_moves.specs.Moving.{Writes}
 use Rattle.ms_moves_laws.specs.Complete.{IsComplete}
 use Rattle.ms_moves_laws.proofs.ByteRuns.{WritesIn, found}
 use Rattle.ms_moves_laws.proofs.StepMoves.{AccountedMoved, EdgesOf, Edges, FirstRoots, first_moved}
-use Rattle.ms_moves_laws.proofs.Whole.{drop_first, stop_more}
+use Rattle.ms_moves_laws.proofs.Whole.{stop_more}
 
 -- any number counts as a root
 abbrev Any : ℕ → Type 0

@@ -245,16 +245,3 @@ pub memory_writes : (event site : ℕ) (T : ℕ → ℕ) (xs : List Written) (a 
 memory_writes event site T (x ∷ xs) a h (inl i) = writes_left _ _ (Byte a) (range_writes event site T x a h i)
 memory_writes event site T (x ∷ xs) a h (inr i) = writes_right (written_moves event site T x) _ (Byte a) (memory_writes event site T xs a h i)
 memory_writes event site T [] a h i = absurd i
-
-pub covered_left : (xs ys : List Written) (a : ℕ) → Covered xs a → Covered (xs ++ ys) a
-covered_left (x ∷ xs) ys a (inl i) = inl i
-covered_left (x ∷ xs) ys a (inr i) = inr (covered_left xs ys a i)
-covered_left [] ys a i = absurd i
-
-pub covered_right : (xs ys : List Written) (a : ℕ) → Covered ys a → Covered (xs ++ ys) a
-covered_right [] ys a i = i
-covered_right (x ∷ xs) ys a i = inr (covered_right xs ys a i)
-
-pub all_append : (P : Source → Type 0) (T : ℕ → ℕ) (xs ys : List Written) → AllSound P T xs → AllSound P T ys → AllSound P T (xs ++ ys)
-all_append P T [] ys h g = g
-all_append P T (x ∷ xs) ys h g = (h.0, all_append P T xs ys h.1 g)

@@ -1,155 +1,33 @@
--- A run ends as reported at a use whose place is poisoned, and instructions themselves never do.
-use Rattle.std.proofs.Common.{◌≡◌, ℕ, zero, suc, ◌+◌, ◌-◌, ◌*◌, ◌/◌, ◌%◌, ◌^◌, List, [], ◌∷◌, ◌++◌, map, length, leb, ltb, Bool, true, false, ◌&&◌, eqb, Option, Some, None, is_some, Result, Ok, Err, refl, sym, ap, ◌∙◌, ◌≢◌, arith, length-append, if◌then◌else◌}
+-- A run ends as reported at a use whose place is poisoned.
+use Rattle.std.proofs.Common.{◌≡◌, ℕ, zero, suc, ◌+◌, ◌-◌, ◌/◌, List, [], ◌∷◌, ◌++◌, map, length, leb, Bool, true, false, eqb, Option, Some, None, refl, sym, ap, ◌∙◌, ◌≢◌, arith, length-append, if◌then◌else◌}
 use Rattle.std.proofs.lemmas.Bool.{eqb-true, eqb-false, leb-false}
 use Rattle.std.proofs.lemmas.Option.{same_Some, none-some}
-use Rattle.ms_bits.specs.declared.traps.Trap.{Trap}
 use Rattle.ms_bits.specs.declared.traps.Trap.TheVariants as trap
-use Rattle.ms_bits.specs.Maps.{bytes_at, first_nonzero}
+use Rattle.ms_bits.specs.Maps.{first_nonzero}
 use Rattle.ms_ir.specs.declared.syntax.Name.{Name}
 use Rattle.ms_ir.specs.declared.syntax.Ty.{Ty}
 use Rattle.ms_ir.specs.declared.syntax.Operand.{Operand}
-use Rattle.ms_ir.specs.declared.syntax.Op.{Op}
-use Rattle.ms_ir.specs.declared.syntax.Op.TheVariants as op
 use Rattle.ms_ir.specs.declared.syntax.Inst.{Inst}
 use Rattle.ms_ir.specs.declared.syntax.Module.{Module}
-use Rattle.ms_runs.specs.declared.runs.End.{End}
 use Rattle.ms_runs.specs.declared.runs.End.TheVariants as «end»
 use Rattle.ms_runs.specs.declared.runs.Report.{Report}
-use Rattle.ms_ir.specs.declared.calls.External.{External}
-use Rattle.ms_ir.specs.declared.calls.External.TheVariants.{Malloc, Calloc, Realloc, Free, Memcpy, Memmove, Memset, Memcmp, Strlen, Putchar, Puts, Getchar, Read, Write, Exit, Abort, LlvmMemcpy, LlvmMemmove, LlvmMemset, LifetimeStart, LifetimeEnd, Printf, LlvmTrap, LlvmAssume, LlvmObjectSize, PthreadCreate, PthreadJoin, SchedYield}
-use Rattle.ms_ir.specs.declared.calls.External.TheVariants as external_of
-use Rattle.ms_bits.specs.WordFunctions.{bits_of, word_answer}
-use Rattle.ms_ir.specs.Layout.{stored_size, size_in, width_of}
-use Rattle.ms_ir.specs.Areas.{Heap}
-use Rattle.ms_runs.specs.World.{World, Setting, Here, Effect, Gives, Does, Goes, Enters, Leaves, Ends, traps, stuck, word, then_does, gives}
-use Rattle.ms_runs.specs.Memory.{fits, local_area, is_good, heap_size, bytes_left}
-use Rattle.ms_ir.specs.Code.{operands, count_undefs, external_named}
+use Rattle.ms_ir.specs.Layout.{width_of}
+use Rattle.ms_runs.specs.World.{World, Setting, Here, Effect, Gives, Does, Goes, Enters, Leaves, Ends, then_does}
+use Rattle.ms_runs.specs.Memory.{is_good, bytes_left}
+use Rattle.ms_ir.specs.Instructions.{operands, count_undefs}
 use Rattle.ms_runs.specs.Origins.{add_report, check, check_byte, trail, first_in_string, asks_string_at, count_blind}
-use Rattle.ms_runs.specs.Threads.{fiber_limit, thread_at, has_ended, join_answer}
-use Rattle.ms_runs.specs.Externals.{joined, malloc, reallocated, realloc, where_good, string_at, printed, taken, next_byte, external, formatted, prints}
 use Rattle.ms_runs.specs.Act.{act}
 use Rattle.ms_runs.specs.Control.{Frame, Outcome, On, Over, entered, left, keeping, after_effect}
 use Rattle.ms_runs.specs.Poisoned.{Poisoned}
 use Rattle.ms_runs.specs.Masks.{Rules, union, word_at}
-use Rattle.ms_runs.specs.Uses.{Use, Word, Bytes, Line, Asked, type_at, check_uses, blinded}
+use Rattle.ms_runs.specs.Uses.{CheckedUse, Word, Bytes, Line, Asked, type_at, check_uses, blinded}
 use Rattle.ms_runs.specs.Shadow.{shadow_reading, planes, poisoned_result, after_checks}
+use Rattle.ms_runs_laws.proofs.UnreportedEnds.{is_reported, Unreported, UnreportedAfter, trapped, act_unreported}
 use Rattle.ms_moves.specs.declared.moves.Source.{Source}
 use Rattle.ms_moves.specs.declared.moves.Source.TheVariants.{Byte}
 use Rattle.ms_moves.specs.Sources.{source_at}
 use Rattle.ms_moves.specs.Traces.{or_byte, read_by}
-
-abbrev pub is_reported : End → Bool
-is_reported «end».Reported = true
-is_reported e = false
-
--- an end that isn't a report
-abbrev Told : End → World → Type 0
-Told e w = is_reported e ≡ false
-
-abbrev ToldAfter : Effect → Type 0
-ToldAfter (Ends e w) = Told e w
-ToldAfter _ = Unit {0}
-
-exited : (n : ℕ) (w : World) → Told («end».Exit n) w
-exited n w = refl
-
-trapped : (t : Trap) (site : ℕ) (w : World) → Told («end».Trap t site) w
-trapped t site w = refl
-
-either_told : (t : Bool) (e x : Effect) → ToldAfter e → ToldAfter x → ToldAfter (if t then e else x)
-either_told true e x h g = h
-either_told false e x h g = g
-
--- ---- instructions end by an exit or a trap
-
-gives_told : (site : ℕ) (r : Result ℕ Trap) (w : World) → ToldAfter (gives site r w)
-gives_told site (Ok v) w = tt
-gives_told site (Err t) w = trapped t site w
-
-malloc_told : (fill : List ℕ) (n : ℕ) (w : World) → ToldAfter (malloc fill n w)
-malloc_told fill n w = either_told (fits Heap n w) _ _ tt tt
-
-realloc_told : (fill : List ℕ) (site p n : ℕ) (w : World) → ToldAfter (realloc fill site p n w)
-realloc_told fill site p n w = either_told (eqb p 0) _ _ (malloc_told fill n w) (by_size (heap_size w p))
-  where
-    by_size : (o : Option ℕ) → ToldAfter (elim o [ Some old ↦ reallocated fill p old n w | None ↦ traps trap.BadFree site w ])
-    by_size (Some old) = either_told (fits Heap n w) _ _ tt tt
-    by_size None = trapped trap.BadFree site w
-
-string_told : (w : World) (o : Option (List ℕ)) (f : List ℕ → Effect) (site : ℕ) → ((bs : List ℕ) → ToldAfter (f bs)) → ToldAfter (elim o [ Some bs ↦ f bs | None ↦ traps trap.BadAddress site w ])
-string_told w (Some bs) f site h = h bs
-string_told w None f site h = trapped trap.BadAddress site w
-
-printed_told : (site : ℕ) (bs : List ℕ) (v : ℕ) (w : World) → ToldAfter (printed site bs (Gives v) w)
-printed_told site bs v w = either_told (leb (length w.output + length bs) 1048576) _ _ tt (trapped trap.Output site w)
-
-prints_told : (site : ℕ) (r : Result (List ℕ) Trap) (w : World) → ToldAfter (prints site r w)
-prints_told site (Ok bs) w = printed_told site bs (length bs) w
-prints_told site (Err t) w = trapped t site w
-
-next_told : (bs : List ℕ) (w : World) → ToldAfter (next_byte bs w)
-next_told [] w = tt
-next_told (b ∷ bs) w = tt
-
-good_told : (site a n : ℕ) (w : World) (e : Effect) → ToldAfter e → ToldAfter (where_good site a n w e)
-good_told site a n w e h = either_told (is_good w a n) _ _ h (trapped trap.BadAddress site w)
-
-external_told : (s : Setting) (site : ℕ) (e : External) (ts : List Ty) (vs : List ℕ) (w : World) → ToldAfter (external s site e ts vs w)
-external_told s site Malloc ts vs w = malloc_told s.fill (word 0 vs) w
-external_told s site Calloc ts vs w = either_told (ltb (word 0 vs * word 1 vs) (2 ^ 64) && fits Heap (word 0 vs * word 1 vs) w) _ _ tt tt
-external_told s site Realloc ts vs w = realloc_told s.fill site (word 0 vs) (word 1 vs) w
-external_told s site Free ts vs w = either_told (eqb (word 0 vs) 0) _ _ tt (either_told (is_some (heap_size w (word 0 vs))) _ _ tt (trapped trap.BadFree site w))
-external_told s site Memcpy ts vs w = good_told site (word 0 vs) (word 2 vs) w _ (good_told site (word 1 vs) (word 2 vs) w _ tt)
-external_told s site Memmove ts vs w = good_told site (word 0 vs) (word 2 vs) w _ (good_told site (word 1 vs) (word 2 vs) w _ tt)
-external_told s site Memset ts vs w = good_told site (word 0 vs) (word 2 vs) w _ tt
-external_told s site Memcmp ts vs w = good_told site (word 0 vs) (word 2 vs) w _ (good_told site (word 1 vs) (word 2 vs) w _ tt)
-external_told s site Strlen ts vs w = string_told w (string_at w (word 0 vs)) (λ bs. Gives (length bs) w) site (λ bs. tt)
-external_told s site Putchar ts vs w = printed_told site (word 0 vs % 256 ∷ []) (word 0 vs % 256) w
-external_told s site Puts ts vs w = string_told w (string_at w (word 0 vs)) (λ bs. printed site (bs ++ 10 ∷ []) (Gives 1) w) site (λ bs. printed_told site (bs ++ 10 ∷ []) 1 w)
-external_told s site Getchar ts vs w = next_told w.input w
-external_told s site Read ts vs w = good_told site (word 1 vs) (word 2 vs) w _ (either_told (eqb (word 0 vs) 0) (taken (word 1 vs) (word 2 vs) w) _ tt tt)
-external_told s site Write ts vs w = good_told site (word 1 vs) (word 2 vs) w _ (either_told (eqb (word 0 vs) 1) _ _ (printed_told site (bytes_at w.bytes (word 1 vs) (word 2 vs)) (word 2 vs) w) tt)
-external_told s site Exit ts vs w = exited (word 0 vs) w
-external_told s site Abort ts vs w = trapped trap.Abort site w
-external_told s site LlvmMemcpy ts vs w = good_told site (word 0 vs) (word 2 vs) w _ (good_told site (word 1 vs) (word 2 vs) w _ tt)
-external_told s site LlvmMemmove ts vs w = good_told site (word 0 vs) (word 2 vs) w _ (good_told site (word 1 vs) (word 2 vs) w _ tt)
-external_told s site LlvmMemset ts vs w = good_told site (word 0 vs) (word 2 vs) w _ tt
-external_told s site LifetimeStart ts vs w = good_told site (word 1 vs) (word 0 vs) w _ tt
-external_told s site LifetimeEnd ts vs w = tt
-external_told s site LlvmTrap ts vs w = trapped trap.Abort site w
-external_told s site LlvmAssume ts vs w = either_told (eqb (word 0 vs) 0) _ _ (trapped trap.Unreachable site w) tt
-external_told s site LlvmObjectSize ts vs w = tt
-external_told s site PthreadCreate ts vs w = either_told (leb fiber_limit (length w.threads + 1)) _ _ tt (good_told site (word 0 vs) 8 w _ tt)
-external_told s site PthreadJoin ts vs w =
-    either_told (eqb (join_answer w.turn (word 0 vs) w.threads) 0) (if has_ended (thread_at (word 0 vs) w.threads) then joined site (word 0 vs) (word 1 vs) w else traps trap.Deadlock site w) _
-    (either_told (has_ended (thread_at (word 0 vs) w.threads)) (joined site (word 0 vs) (word 1 vs) w) _ (either_told (eqb (word 1 vs) 0) _ _ tt (good_told site (word 1 vs) 8 w _ tt)) (trapped trap.Deadlock site w)) tt
-external_told s site SchedYield ts vs w = tt
-external_told s site Printf ts vs w = prints_told site (formatted w ts vs) w
-external_told s site (external_of.Word f n) ts vs w = gives_told site (word_answer f (bits_of n) (word 0 vs) (word 1 vs) (word 2 vs)) w
-
-call_told : (s : Setting) (site : ℕ) (ts : List Ty) (vs : List ℕ) (w : World) (o : Option ℕ) (e : Option External)
-    → ToldAfter (elim o [ Some f ↦ Enters f w | None ↦ elim e [ Some x ↦ external s site x ts vs w | None ↦ Ends stuck w ] ])
-call_told s site ts vs w (Some f) e = tt
-call_told s site ts vs w None (Some x) = external_told s site x ts vs w
-call_told s site ts vs w None None = trapped trap.Unreachable 0 w
-
-act_told : (s : Setting) (h : Here) (o : Op) (vs : List ℕ) (w : World) → ToldAfter (act s h o vs w)
-act_told s h (op.Binary o f t a b) vs w = gives_told h.site _ w
-act_told s h (op.Icmp p f t a b) vs w = gives_told h.site _ w
-act_told s h (op.Cast o f t a u) vs w = gives_told h.site _ w
-act_told s h (op.Phi t edges) vs w = trapped trap.Unreachable 0 w
-act_told s h (op.Alloca t u c) vs w = either_told (fits (local_area w) (size_in s.types t * word 0 vs) w) _ _ tt (trapped trap.Stack h.site w)
-act_told s h (op.Load t a) vs w = either_told (is_good w (word 0 vs) (stored_size t)) _ _ tt (trapped trap.BadAddress h.site w)
-act_told s h (op.Store t v a) vs w = either_told (is_good w (word 1 vs) (stored_size t)) _ _ tt (trapped trap.BadAddress h.site w)
-act_told s h (op.Call r x args) vs w = call_told s h.site (map (λ a. a.0) args) vs w (s.func x) (external_named s.func x)
-act_told s h (op.Ret v) vs w = either_told h.main _ _ (exited (word 0 vs) w) tt
-act_told s h op.Unreachable vs w = trapped trap.Unreachable h.site w
-act_told s h (op.Select c t a b) vs w = tt
-act_told s h (op.Freeze t a) vs w = tt
-act_told s h (op.Gep t a is) vs w = tt
-act_told s h (op.Br to) vs w = tt
-act_told s h (op.CondBr c to otherwise) vs w = tt
-act_told s h (op.Switch t v otherwise cases) vs w = tt
+use Rattle.ms_moves.proofs.Checking.{false_true}
 
 -- ---- checks end the run at the first use that is poisoned
 
@@ -208,7 +86,7 @@ module _ (s : Setting) (one : s.limit ≡ 1) (P : Source → Type 0) (w : World)
       by_test true e = absurd (found x refl (eqb-true (w.shadow x) 0 e))
       by_test false e = reported_read (P (Byte x)) _ (bytes x (found x refl)) go
 
-  pub uses_read : (us : List Use) → ReadAfter w (P (read_by w ps ss us)) (check_uses s site os ps us w)
+  pub uses_read : (us : List CheckedUse) → ReadAfter w (P (read_by w ps ss us)) (check_uses s site os ps us w)
   uses_read [] = refl
   uses_read (Word kind k ∷ us) =
       check_read (word_at k ps).mask (width_of (type_at k os)) (word_at k ps).origin kind k (source_at k ss) (read_by w ps ss us) (comes k) (check_uses s site os ps us) (uses_read us)
@@ -240,14 +118,14 @@ module _ (s : Setting) (one : s.limit ≡ 1) (P : Source → Type 0) (w : World)
 
 abbrev ToldMoved : Outcome Poisoned → Type 0
 ToldMoved (On fs w) = Unit {0}
-ToldMoved (Over e w) = Told e w
+ToldMoved (Over e w) = Unreported e w
 
 left_told : (m : Module) (ps : List Poisoned) (fr : Frame Poisoned) (below : List (Frame Poisoned)) (w : World) → ToldMoved (left shadow_reading m ps fr below w)
 left_told m ps fr [] w = trapped trap.Unreachable 0 w
 left_told m ps fr (c ∷ below) w = tt
 
 moves_told : (s : Setting) (m : Module) (site : ℕ) (x : Option Name) (ps : List Poisoned) (lift : ℕ → World → Poisoned) (after : ℕ → World → World)
-    → (fr : Frame Poisoned) (below : List (Frame Poisoned)) (e : Effect) → ToldAfter e → ToldMoved (after_effect shadow_reading s m site x ps lift after fr below e)
+    → (fr : Frame Poisoned) (below : List (Frame Poisoned)) (e : Effect) → UnreportedAfter e → ToldMoved (after_effect shadow_reading s m site x ps lift after fr below e)
 moves_told s m site x ps lift after fr below (Gives v u) h = tt
 moves_told s m site x ps lift after fr below (Does u) h = tt
 moves_told s m site x ps lift after fr below (Goes to u) h = tt
@@ -265,9 +143,6 @@ abbrev pub ReadMoved : Type 0 → Outcome Poisoned → Type 0
 ReadMoved Q (On fs w) = Unit {0}
 ReadMoved Q (Over e w) = is_reported e ≡ true → Q
 
-false_true : false ≡ true → ⊥
-false_true e = grind arith
-
 never_read : (Q : Type 0) (x : Outcome Poisoned) → ToldMoved x → ReadMoved Q x
 never_read Q (On fs w) h = tt
 never_read Q (Over e w) h = λ f. absurd (false_true (sym h ∙ f))
@@ -278,7 +153,7 @@ after_read d s m Q w i h ps fr below (Does u) k =
     let v = count_blind (union (map (λ p. p.mask) (blinded s.func i.op ps))) u in
     let did = act s h i.op (map (λ p. p.value) ps) v in
     never_read Q _
-    (moves_told s m h.site i.result ps (poisoned_result d i.op ps) (planes s h.site (h.root + count_undefs (operands i.op) + 1) i.op ps v) (keeping i.op did fr) below did (act_told s h i.op (map (λ p. p.value) ps) v))
+    (moves_told s m h.site i.result ps (poisoned_result d i.op ps) (planes s h.site (h.root + count_undefs (operands i.op) + 1) i.op ps v) (keeping i.op did fr) below did (act_unreported s h i.op (map (λ p. p.value) ps) v))
 after_read d s m Q w i h ps fr below (Ends e u) k = λ f. k
 after_read d s m Q w i h ps fr below (Gives v u) k = absurd k
 after_read d s m Q w i h ps fr below (Goes v u) k = absurd k

@@ -5,7 +5,7 @@ use Rattle.ms_runs.specs.declared.runs.Setup.{Setup}
 use Rattle.ms_runs.specs.World.{Setting}
 use Rattle.ms_runs.specs.Plain.{setting_of}
 use Rattle.ms_runs.specs.Masks.{Rules, SameRules, by_formulas}
-use Rattle.ms_runs_good.specs.Fills.{to_first_report}
+use Rattle.ms_good_laws.specs.Fills.{to_first_report}
 use Rattle.ms_runs_laws.proofs.ExactRules.{formulas_exact}
 use Rattle.ms_runs_laws.proofs.SameRuns.{same_step}
 use Rattle.ms_moves.specs.Traces.{Traced, traced_start, traced_on, use_of, stepped, Found, trace_from, trace_by, trace}

@@ -8,7 +8,7 @@ use Rattle.ms_runs.specs.World.{Setting}
 use Rattle.ms_runs.specs.Plain.{Stepped, More, Stop, setting_of, run, go_on}
 use Rattle.ms_runs.specs.Masks.{Rules, by_completions}
 use Rattle.ms_runs.specs.Shadow.{ShadowState, shadow_step, shadow}
-use Rattle.ms_runs_good.specs.Fills.{to_first_report}
+use Rattle.ms_good_laws.specs.Fills.{to_first_report}
 use Rattle.ms_moves.specs.declared.moves.Source.{Source}
 use Rattle.ms_moves.specs.declared.moves.Move.{Move}
 use Rattle.ms_moves.specs.Traces.{Traced, traced_start, traced_on, use_of, Trace, NoReport, Found, ended, stepped, trace_from, trace}

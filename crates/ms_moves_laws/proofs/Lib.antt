@@ -1,8 +1,8 @@
 mod Exact
 mod ByteRuns
 pub mod ResultMoves
-mod MemoryMoves
-mod StepMoves
+pub mod MemoryMoves
+pub mod StepMoves
 pub mod EndsAtUse
 pub mod Whole
 pub mod Found

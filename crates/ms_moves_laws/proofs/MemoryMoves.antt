@@ -21,12 +21,12 @@ use Rattle.ms_bits.specs.declared.word_functions.WordWidth.{WordWidth}
 use Rattle.ms_bits.specs.WordFunctions.{bits_of, word_answer}
 use Rattle.ms_ir.specs.Layout.{stored_size, size_in}
 use Rattle.ms_ir.specs.Signatures.{is_thread_call}
-use Rattle.ms_runs_good.proofs.ThreadsApart.{NoThread}
+use Rattle.ms_good_laws.proofs.ThreadsApart.{NoThread}
 use Rattle.ms_ir.specs.Areas.{Heap, area_eq, room}
 use Rattle.ms_runs.specs.World.{Allocation, World, Setting, Here, Effect, Gives, Does, Ends, traps, stuck, word, gives}
 use Rattle.ms_runs.specs.Memory.{used, local_area, fits, next_base, first_that, is_good, is_heap_block, heap_size, end_block, set_bytes, set_shadow, set_cells, store_number, copy_bytes, copy_shadow, make_unset, make_bytes}
 use Rattle.ms_runs.specs.Origins.{Chained, keeps_old, pair_index, chain, poison, unpoison, copy_planes, fill_planes, mark_cells, store_origin}
-use Rattle.ms_ir.specs.Code.{makes_unset, external_named, is_root}
+use Rattle.ms_ir.specs.Instructions.{makes_unset, external_named, is_root}
 use Rattle.ms_runs.specs.Externals.{malloc, reallocated, realloc, where_good, string_at, printed, next_byte, minus_one, external, formatted, prints}
 use Rattle.ms_runs.specs.Act.{act, alloca}
 use Rattle.ms_runs.specs.Poisoned.{Poisoned}
@@ -64,7 +64,7 @@ zeroed_same map p n a h = by_test (within p n a) h
 pub zeroed : (map : ℕ → ℕ) (p n a : ℕ) → with_range map p n (λ k. 0) a ≢ 0 → map a ≢ 0
 zeroed map p n a h = λ z. h (zeroed_same map p n a h ∙ z)
 
-byte_of_zero : (k : ℕ) → byte_of 0 k ≡ 0
+pub byte_of_zero : (k : ℕ) → byte_of 0 k ≡ 0
 byte_of_zero zero = refl
 byte_of_zero (suc k) = byte_of_zero k
 

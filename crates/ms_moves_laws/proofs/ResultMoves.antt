@@ -37,7 +37,7 @@ use Rattle.ms_ir.specs.declared.calls.External.TheVariants.{Word}
 use Rattle.ms_ir.specs.Names.{lookup, externals}
 use Rattle.ms_ir.specs.Layout.{width_of, stored_size, extended}
 use Rattle.ms_runs.specs.World.{World, Setting}
-use Rattle.ms_ir.specs.Code.{operands, one_undef, count_undefs}
+use Rattle.ms_ir.specs.Instructions.{operands, one_undef, count_undefs}
 use Rattle.ms_runs.specs.Control.{read_all}
 use Rattle.ms_runs.specs.Act.{extended_all}
 use Rattle.ms_runs.specs.Poisoned.{Poisoned}
@@ -155,7 +155,7 @@ result_zero None m e = refl
 result_zero (Some t) m e = ap (λ k. k % 2 ^ width_of t) e ∙ zero-mod (2 ^ width_of t)
 
 -- the first of words has place 0
-first_place : (ps : List Poisoned) → (word_at 0 (placed 0 ps)).origin ≡ 0
+pub first_place : (ps : List Poisoned) → (word_at 0 (placed 0 ps)).origin ≡ 0
 first_place [] = refl
 first_place (p ∷ ps) = refl
 

@@ -27,16 +27,16 @@ use Rattle.ms_runs.specs.Memory.{is_good, bytes_left, end_block, end_blocks}
 use Rattle.ms_runs.specs.Origins.{count_blind, check, check_byte, first_in_string, asks_string_at, trail}
 use Rattle.ms_ir.specs.Layout.{width_of, stored_size}
 use Rattle.ms_runs.specs.Externals.{external}
-use Rattle.ms_ir.specs.Code.{operands, count_undefs, one_undef, one_unmarked, roots_in, root_at, site_at, insts_at, is_root, external_named}
+use Rattle.ms_ir.specs.Instructions.{operands, count_undefs, one_undef, one_unmarked, roots_in, root_at, site_at, insts_at, is_root, external_named}
 use Rattle.ms_runs.specs.Control.{Frame, Outcome, On, Over, here, read_all, read_edge, phis, block_name, with_value, one_on, put, jumped, bind, params_at, entered, result_at, release, given_back, blocks_made, keeping, after_effect}
 use Rattle.ms_runs.specs.Act.{act}
 use Rattle.ms_runs.specs.Poisoned.{Poisoned, clean}
 use Rattle.ms_runs.specs.Masks.{by_formulas, union, word_at, answer_mask, result_mask}
-use Rattle.ms_runs.specs.Uses.{Use, Word, Bytes, Line, Asked, type_at, check_use, check_uses, uses, blinded}
+use Rattle.ms_runs.specs.Uses.{CheckedUse, Word, Bytes, Line, Asked, type_at, check_use, check_uses, uses, blinded}
 use Rattle.ms_runs.specs.Shadow.{read_poisoned, shadow_reading, callee_planes, planes, poisoned_result, shadow_act, after_checks, shadow_first}
 use Rattle.ms_ir.specs.Written.{targets}
-use Rattle.ms_runs_good.specs.Reached.{edge_root}
-use Rattle.ms_valid.proofs.NameTests.{name_same, name_sound}
+use Rattle.ms_good_laws.specs.Reached.{edge_root}
+use Rattle.ms_valid.proofs.NameTests.{name_same}
 use Rattle.ms_moves.specs.declared.moves.Source.{Source}
 use Rattle.ms_moves.specs.declared.moves.Source.TheVariants.{Root, Value, Byte}
 use Rattle.ms_moves.specs.declared.moves.Target.TheVariants as target
@@ -49,12 +49,13 @@ use Rattle.ms_moves_laws.specs.Complete.{HasMask, HasBits}
 use Rattle.ms_moves_laws.proofs.ByteRuns.{Sound, WritesIn, sound_append, writes_left, writes_right, word_sound, word_writes, NoByte, memory_sound, memory_writes, Covered}
 use Rattle.ms_moves_laws.proofs.ResultMoves.{words_from, result_zero, result_from}
 use Rattle.ms_ir.specs.ThreadCalls.{calls_thread}
-use Rattle.ms_runs_good.proofs.ThreadsApart.{asked_alone}
+use Rattle.ms_ir.proofs.RootKinds.{name_same as name_sound}
+use Rattle.ms_good_laws.proofs.ThreadsApart.{asked_alone}
 use Rattle.ms_moves_laws.proofs.MemoryMoves.{OpMemory, alloca_memory, stored_memory, called_memory}
 
 -- ---- numbers of frames
 
-less_itself : (n : ℕ) → ltb n n ≡ false
+pub less_itself : (n : ℕ) → ltb n n ≡ false
 less_itself n = by_test (ltb n n) refl
   where
     by_test : (t : Bool) → ltb n n ≡ t → ltb n n ≡ false
@@ -145,7 +146,7 @@ byte_reports : (s : Setting) (kind site start : ℕ) (o : Option ℕ) (w : World
 byte_reports s kind site start None w = refl
 byte_reports s kind site start (Some x) w = check_reports s (w.shadow x) 8 _ kind (x - start) site w
 
-use_reports : (s : Setting) (site : ℕ) (os : List (Ty × Operand)) (ps : List Poisoned) (u : Use) (w : World) → OnlyReports w (check_use s site os ps u w)
+use_reports : (s : Setting) (site : ℕ) (os : List (Ty × Operand)) (ps : List Poisoned) (u : CheckedUse) (w : World) → OnlyReports w (check_use s site os ps u w)
 use_reports s site os ps (Word kind k) w = check_reports s (word_at k ps).mask (width_of (type_at k os)) (word_at k ps).origin kind k site w
 use_reports s site os ps (Bytes kind a n) w =
     either_reports (is_good w (word_at a ps).value (word_at n ps).value) w _ _ (byte_reports s kind site (word_at a ps).value (first_nonzero w.shadow (word_at a ps).value (word_at n ps).value) w) refl
@@ -169,7 +170,7 @@ then_reports w (Enters v u) go h f = tt
 then_reports w (Leaves u) go h f = tt
 then_reports w (Ends v u) go h f = tt
 
-uses_reports : (s : Setting) (site : ℕ) (os : List (Ty × Operand)) (ps : List Poisoned) (us : List Use) (w : World) → OnlyReports w (check_uses s site os ps us w)
+uses_reports : (s : Setting) (site : ℕ) (os : List (Ty × Operand)) (ps : List Poisoned) (us : List CheckedUse) (w : World) → OnlyReports w (check_uses s site os ps us w)
 uses_reports s site os ps [] w = refl
 uses_reports s site os ps (u ∷ us) w = then_reports w (check_use s site os ps u w) (check_uses s site os ps us) (use_reports s site os ps u w) (λ v. uses_reports s site os ps us v)
 

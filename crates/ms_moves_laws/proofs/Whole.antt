@@ -18,14 +18,14 @@ use Rattle.ms_ir.specs.Layout.{Types, Extent, extent, size_in, align_in, round_u
 use Rattle.ms_ir.specs.Areas.{Fixed}
 use Rattle.ms_runs.specs.World.{World, Setting}
 use Rattle.ms_runs.specs.Memory.{next_base, make}
-use Rattle.ms_ir.specs.Code.{operands, count_undefs, roots_in, over_insts, func_index, insts_at, root_at}
+use Rattle.ms_ir.specs.Instructions.{operands, count_undefs, roots_in, over_insts, func_index, insts_at, root_at}
 use Rattle.ms_runs.specs.Control.{Frame, Outcome, On, Over, here, rest_of, read_all, read_edge, count_phis, block_name}
 use Rattle.ms_runs.specs.Plain.{Stepped, More, Stop, setting_of}
 use Rattle.ms_runs.specs.Poisoned.{Poisoned}
 use Rattle.ms_runs.specs.Masks.{by_formulas, by_completions}
 use Rattle.ms_runs.specs.Uses.{uses}
 use Rattle.ms_runs.specs.Shadow.{read_poisoned, ShadowState, shadow_moved, shadow_first, shadow_frames, shadow_step}
-use Rattle.ms_runs_good.specs.Fills.{to_first_report}
+use Rattle.ms_good_laws.specs.Fills.{to_first_report}
 use Rattle.ms_moves.specs.declared.moves.Source.{Source}
 use Rattle.ms_moves.specs.declared.moves.Source.TheVariants.{Root, Value, Byte}
 use Rattle.ms_moves.specs.declared.moves.Move.{Move}
@@ -41,15 +41,17 @@ use Rattle.ms_moves_laws.proofs.ByteRuns.{account}
 use Rattle.ms_moves_laws.proofs.MemoryMoves.{zeroed}
 use Rattle.ms_moves_laws.proofs.ResultMoves.{words_from}
 use Rattle.ms_ir.specs.ThreadCalls.{is_threaded}
-use Rattle.ms_runs_good.proofs.ThreadsApart.{none_due}
+use Rattle.ms_good_laws.proofs.ThreadsApart.{none_due}
 use Rattle.ms_moves_laws.proofs.StepMoves.{AccountedMoved, writes_of, EdgesOf, Edges, FirstRoots, first_moved}
-use Rattle.ms_moves_laws.proofs.EndsAtUse.{is_reported, ReadMoved, uses_read, after_read}
+use Rattle.ms_runs_laws.proofs.UnreportedEnds.{is_reported}
+use Rattle.ms_moves_laws.proofs.EndsAtUse.{ReadMoved, uses_read, after_read}
 use Rattle.std.specs.Prelude.{option_and_then}
 use Rattle.ms_ir.specs.declared.syntax.Op.{Op}
 use Rattle.ms_ir.specs.declared.syntax.Op.TheVariants as op
 use Rattle.ms_ir.specs.declared.syntax.Operand.{Operand}
 use Rattle.ms_ir.specs.Written.{targets}
-use Rattle.ms_runs_good.specs.Reached.{walked, walked_on, Due, IsOperand, edge_root, AsOperand, AsItself, AsEdge, IsReached}
+use Rattle.ms_good_laws.specs.Reached.{walked, walked_on, Due, IsOperand, edge_root, AsOperand, AsItself, AsEdge, IsReached}
+use Rattle.ms_good_laws.proofs.Frames.{drop_first, drop_next}
 use Rattle.ms_moves_laws.specs.FromReached.{FromReached}
 use Rattle.ms_moves.specs.Scanned.{Ascending}
 use Rattle.ms_runs_laws.proofs.ExactRules.{formulas_exact}
@@ -91,27 +93,6 @@ module _ (types : Types) (address : Name → ℕ) where
           (go (write_init types address (next_base Fixed w) g.ty g.init (make Fixed (size_in types g.ty) w)) n))
 
 -- ---- lists
-
-pub drop_first : (xs : List Inst) (n : ℕ) (i : Inst) (is : List Inst) → drop n xs ≡ i ∷ is → slice_get xs n ≡ Some i
-drop_first [] zero i is e = absurd (none_first i is e)
-  where
-    none_first : (i : Inst) (is : List Inst) → [] ≡ i ∷ is → ⊥
-    none_first i is e = let h : 0 ≡ suc (length is) = ap length e in absurd (omega (arith, h))
-drop_first [] (suc n) i is e = absurd (none_first i is e)
-  where
-    none_first : (i : Inst) (is : List Inst) → [] ≡ i ∷ is → ⊥
-    none_first i is e = let h : 0 ≡ suc (length is) = ap length e in absurd (omega (arith, h))
-drop_first (x ∷ xs) zero i is e = first x i xs is e
-  where
-    first : (x i : Inst) (xs is : List Inst) → x ∷ xs ≡ i ∷ is → Some x ≡ Some i
-    first x i xs is e = ap (λ l. slice_get l 0) e
-drop_first (x ∷ xs) (suc n) i is e = drop_first xs n i is e
-
-drop_next : (xs : List Inst) (n : ℕ) (i : Inst) (is : List Inst) → drop n xs ≡ i ∷ is → drop (suc n) xs ≡ is
-drop_next [] zero i is e = let h : 0 ≡ suc (length is) = ap length e in absurd (omega (arith, h))
-drop_next [] (suc n) i is e = let h : 0 ≡ suc (length is) = ap length e in absurd (omega (arith, h))
-drop_next (x ∷ xs) zero i is e = ap (drop 1) e
-drop_next (x ∷ xs) (suc n) i is e = drop_next xs n i is e
 
 counted_next : (count : Inst → ℕ) (xs : List Inst) (n : ℕ) (i : Inst) (is : List Inst) → drop n xs ≡ i ∷ is → over_insts count (take (suc n) xs) ≡ over_insts count (take n xs) + count i
 counted_next count [] zero i is e = let h : 0 ≡ suc (length is) = ap length e in absurd (omega (arith, h))

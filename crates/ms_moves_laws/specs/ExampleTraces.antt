@@ -5,8 +5,8 @@ use Rattle.ms_bits.specs.declared.operations.CastOp.TheVariants as cast
 use Rattle.ms_ir.specs.declared.syntax.Module.{Module}
 use Rattle.ms_ir.specs.declared.syntax.Name.TheVariants.{Number}
 use Rattle.ms_ir.specs.declared.syntax.Op.TheVariants as op
-use Rattle.ms_ir.specs.ExampleParts.{i1, i8, i16, i32, array, local, int, undef, sets, does, calls, convert, binary as combine, alloca, byte_at, branch, ret, name, block, main_func, module_of, main_blocks, main_of}
-use Rattle.ms_ir.specs.ExampleCalls.{malloc, realloc, memmove}
+use Rattle.ms_ir.specs.Builders.{i1, i8, i16, i32, array, local, int, undef, sets, does, calls, convert, binary as combine, alloca, byte_at, branch, ret, name, block, main_func, module_of, main_blocks, main_of}
+use Rattle.ms_ir.specs.Declarations.{malloc, realloc, memmove}
 use Rattle.ms_moves.specs.declared.moves.Source.{Source}
 use Rattle.ms_moves.specs.declared.moves.Source.TheVariants as source
 use Rattle.ms_moves.specs.declared.moves.Target.{Target}

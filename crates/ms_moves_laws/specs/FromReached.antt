@@ -7,7 +7,7 @@ use Rattle.ms_runs.specs.World.{World}
 use Rattle.ms_runs.specs.Plain.{Stop, setting_of}
 use Rattle.ms_runs.specs.Masks.{by_completions}
 use Rattle.ms_runs.specs.Shadow.{shadow_step}
-use Rattle.ms_runs_good.specs.Reached.{Walk, walked, IsReached, IsOperand}
+use Rattle.ms_good_laws.specs.Reached.{Walk, walked, IsReached, IsOperand}
 use Rattle.ms_moves.specs.declared.moves.Source.{Source}
 use Rattle.ms_moves.specs.declared.moves.Move.{Move}
 use Rattle.ms_moves.specs.declared.moves.Hop.{Hop}

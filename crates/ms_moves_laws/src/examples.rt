@@ -1,6 +1,6 @@
 //! Moves of example runs, computed by the check. The values are worked out by hand.
 ghost use Rattle.std.specs.Prelude.{◌≡◌, [], ◌∷◌, Some};
-ghost use Rattle.ms_ir.specs.ExampleModules.{branch_on_unset};
+ghost use Rattle.ms_example_modules.specs.Programs.{branch_on_unset};
 ghost use Rattle.ms_runs.specs.ExampleRuns.{defaults};
 ghost use Rattle.ms_moves.specs.Leads.{Leads};
 ghost use Rattle.ms_moves.specs.Scanned.{trail_of};

@@ -1,7 +1,7 @@
 //! The ways on which poisoned bits came.
 ghost use Rattle.std.specs.Prelude.{◌≡◌, ℕ, false, List, length};
 ghost use Rattle.ms_ir.specs.ThreadCalls.{is_threaded};
-ghost use Rattle.ms_ir.specs.Code.{func_index};
+ghost use Rattle.ms_ir.specs.Instructions.{func_index};
 ghost use Rattle.ms_ir.specs.declared.syntax.Module.{Module};
 ghost use Rattle.ms_runs.specs.declared.runs.Setup.{Setup};
 ghost use Rattle.ms_moves.specs.declared.moves.Move.{Move as AMove};
@@ -16,7 +16,7 @@ ghost use Rattle.ms_moves.specs.Traces.{trace, Found};
 ghost use Rattle.ms_moves.specs.Scanned.{Ascending};
 ghost use Rattle.ms_moves_laws.specs.Complete.{IsComplete};
 ghost use Rattle.ms_moves_laws.specs.FromReached.{FromReached};
-ghost use Rattle.ms_runs_good.specs.Fills.{to_first_report};
+ghost use Rattle.ms_good_laws.specs.Fills.{to_first_report};
 
 /// Where a run has a report, a way over its moves leads from a root that the run has reached to what the report's use reads.
 pub fn some_way()

@@ -3,10 +3,10 @@ use Rattle.std.proofs.Common.{◌≡◌, ℕ, suc, Bool, true, false, List, [], 
 use Rattle.std.specs.Prelude.{if◌then◌else◌}
 use Rattle.ms_ir.specs.declared.syntax.Name.{Name}
 use Rattle.ms_ir.specs.declared.syntax.Ty.{Ty}
-use Rattle.ms_tasks.specs.Tasks.{Code, Task, tasks_code}
+use Rattle.ms_tasks.specs.Tasks.{InsertedCode, Task, tasks_code}
 use Rattle.ms_tasks.specs.Environments.{Env}
 use Rattle.ms_tasks.specs.SlotTasks.{param_mask, param_origin, take_tasks, take_parameters}
-use Rattle.ms_rules_code.specs.Made.{with_tasks}
+use Rattle.ms_rules_builder.specs.Made.{with_tasks}
 use Rattle.ms_pass_laws.specs.Pass.{entry_code}
 use Rattle.ms_pass.specs.Passed.{entry}
 
@@ -26,6 +26,6 @@ module _ (env : Env) (n : ℕ) where
       by_clean false e = by_number (env.number p.1) e
 
   -- code that begins with what takes the parameters
-  pub entry_is : (ps : List (Ty × Name)) (start after : Code) → start ≡ record { code = []; next = n } → after ≡ with_tasks start (take_parameters env 0 ps) → after ≡ entry env n ps
+  pub entry_is : (ps : List (Ty × Name)) (start after : InsertedCode) → start ≡ record { code = []; next = n } → after ≡ with_tasks start (take_parameters env 0 ps) → after ≡ entry env n ps
   entry_is ps start after first is =
-      let by : ℕ → Code = λ m. record { code = entry_code env ps n; next = m } in is ∙ ap (λ c. with_tasks c (take_parameters env 0 ps)) first ∙ ap by (taken_next 0 ps)
+      let by : ℕ → InsertedCode = λ m. record { code = entry_code env ps n; next = m } in is ∙ ap (λ c. with_tasks c (take_parameters env 0 ps)) first ∙ ap by (taken_next 0 ps)

@@ -7,7 +7,7 @@ use Rattle.std.proofs.Math.Path.{ap₂}
 use Rattle.ms_ir.specs.declared.syntax.Name.{Name}
 use Rattle.ms_ir.specs.declared.syntax.Inst.{Inst}
 use Rattle.ms_ir.specs.declared.syntax.Func.{Func}
-use Rattle.ms_ir.specs.Code.{one_unmarked, roots_in, over_blocks, over_funcs}
+use Rattle.ms_ir.specs.Instructions.{one_unmarked, roots_in, over_blocks, over_funcs}
 use Rattle.ms_pass.specs.declared.counts.Counts.{Counts}
 use Rattle.ms_pass.specs.Counted.{past_blocks, past_funcs, AreSmall}
 use Rattle.ms_ir.specs.Layout.{Types}

@@ -8,7 +8,7 @@ use Rattle.ms_ir.specs.declared.syntax.Name.{Name}
 use Rattle.ms_ir.specs.declared.syntax.Ty.{Ty}
 use Rattle.ms_ir.specs.declared.syntax.Func.{Func}
 use Rattle.ms_ir.specs.declared.syntax.Module.{Module}
-use Rattle.ms_ir.specs.Code.{func_index, func_at, one_unmarked, roots_in, over_blocks, over_funcs}
+use Rattle.ms_ir.specs.Instructions.{func_index, func_at, one_unmarked, roots_in, over_blocks, over_funcs}
 use Rattle.ms_ir.specs.Names.{name_eq, main_name}
 use Rattle.ms_ir.specs.Locals.{values, function_names}
 use Rattle.ms_ir.specs.Signatures.{slot_globals, runtime_declarations}
@@ -20,7 +20,7 @@ use Rattle.ms_elide.specs.CleanSets.{is_in}
 use Rattle.ms_tasks.specs.Environments.{Given}
 use Rattle.ms_pass_laws.specs.Pass.{Numbering, pass, pass_funcs, pass_blocks, enter_block, entry_code}
 use Rattle.ms_pass_laws.specs.Numbers.{value_index}
-use Rattle.ms_elision_laws.specs.Eliding.{eliding}
+use Rattle.ms_elide_laws.specs.Eliding.{eliding}
 use Rattle.ms_pass.specs.declared.counts.Counts.{Counts}
 use Rattle.ms_pass.specs.Counted.{here_of, past_blocks, past_funcs}
 use Rattle.ms_rules.specs.Valued.{value_names}

@@ -10,15 +10,15 @@ use Rattle.ms_ir.specs.declared.syntax.Ty.{Ty}
 use Rattle.ms_ir.specs.declared.syntax.Inst.{Inst}
 use Rattle.ms_ir.specs.declared.syntax.Block.{Block}
 use Rattle.ms_ir.specs.declared.syntax.Func.{Func}
-use Rattle.ms_ir.specs.Code.{over_insts, over_blocks}
+use Rattle.ms_ir.specs.Instructions.{over_insts, over_blocks}
 use Rattle.ms_ir.specs.Layout.{Types}
 use Rattle.ms_ir.specs.Names.{name_eq, main_name}
 use Rattle.ms_runs.specs.World.{Here}
 use Rattle.ms_valid.specs.Formed.{count_written}
-use Rattle.ms_tasks.specs.Tasks.{Code}
+use Rattle.ms_tasks.specs.Tasks.{InsertedCode}
 use Rattle.ms_tasks.specs.Environments.{Env, Given}
 use Rattle.ms_pass_laws.specs.Pass.{Numbering}
-use Rattle.ms_pass_valid.proofs.CostSum.{funcs_cost, funcs_bound}
+use Rattle.ms_instrumented_laws.proofs.CostSum.{funcs_cost, funcs_bound}
 use Rattle.ms_pass.specs.declared.counts.Counts.{Counts}
 use Rattle.ms_pass.specs.Counted.{here_of}
 use Rattle.ms_rules.specs.Valued.{valued, result_names, block_results, value_names}
@@ -67,15 +67,15 @@ func_room types given clean c f ready =
     few : (size a b c d : ℕ) → size ≤ 100 + 2 ^ 17 → a + 0 ≤ b + 1000 * 1 → b ≡ 200 * (c + 0) + 55 * (d + 0) → c ≤ 2 ^ 17 → d ≤ 2 ^ 20 → 2 * size + 1 + a < 2 ^ 40
     few size a b c d s l e p q = omega (arith, s, l, e, p, q)
 
-module _ (given : Given) (c : Counts) (f : Func) (names clean : List Name) (main : Bool) (params : List (Ty × Name)) (blocks : List Block) (start : Code) (named : names ≡ value_names f)
+module _ (given : Given) (c : Counts) (f : Func) (names clean : List Name) (main : Bool) (params : List (Ty × Name)) (blocks : List Block) (start : InsertedCode) (named : names ≡ value_names f)
     (mains : main ≡ name_eq f.name main_name) (given_params : params ≡ f.params) (blocked : blocks ≡ f.blocks) (started : start ≡ entry (env_by names clean) (first_number (length names)) params) where
   -- what is made of them is made of the function
-  seen_is : {A : Type 0} (made : Env → Here → List Block → Code → A)
+  seen_is : {A : Type 0} (made : Env → Here → List Block → InsertedCode → A)
       → made (env_by names clean) (here_of c main) blocks start
       ≡ made (env_by (value_names f) clean) (here_of c (name_eq f.name main_name)) f.blocks (entry (env_by (value_names f) clean) (first_number (length (value_names f))) f.params)
   seen_is {A} made =
-      let whole : List Name → Bool → List Block → Code → A = λ ns b bs k. made (env_by ns clean) (here_of c b) bs k in
-      let entered : List Name → List (Ty × Name) → Code = λ ns ps. entry (env_by ns clean) (first_number (length ns)) ps in
+      let whole : List Name → Bool → List Block → InsertedCode → A = λ ns b bs k. made (env_by ns clean) (here_of c b) bs k in
+      let entered : List Name → List (Ty × Name) → InsertedCode = λ ns ps. entry (env_by ns clean) (first_number (length ns)) ps in
       let begins = started ∙ ap₂ entered named given_params in
       ap₂ (λ ns b. whole ns b blocks start) named mains ∙ ap₂ (λ bs k. whole (value_names f) (name_eq f.name main_name) bs k) blocked begins
 

@@ -4,7 +4,7 @@ use Rattle.ms_ir.specs.declared.syntax.Name.{Name}
 use Rattle.ms_ir.specs.declared.syntax.Inst.{Inst}
 use Rattle.ms_ir.specs.declared.syntax.Block.{Block}
 use Rattle.ms_ir.specs.declared.syntax.Func.{Func}
-use Rattle.ms_ir.specs.Code.{one_unmarked, roots_in, over_insts, over_blocks, over_funcs}
+use Rattle.ms_ir.specs.Instructions.{one_unmarked, roots_in, over_insts, over_blocks, over_funcs}
 use Rattle.ms_runs.specs.World.{Here}
 use Rattle.ms_pass.specs.declared.counts.Counts.{Counts}
 

@@ -15,7 +15,7 @@ use Rattle.ms_ir.specs.Signatures.{slot_globals, runtime_declarations}
 use Rattle.ms_runs.specs.World.{Here}
 use Rattle.ms_elide.specs.CleanSets.{IsExact}
 use Rattle.ms_tables.specs.FirstPlace.{first_place}
-use Rattle.ms_tasks.specs.Tasks.{Code}
+use Rattle.ms_tasks.specs.Tasks.{InsertedCode}
 use Rattle.ms_tasks.specs.Environments.{Env, Given}
 use Rattle.ms_tasks.specs.PassLists.{pass_insts}
 use Rattle.ms_pass_laws.specs.Pass.{pass_blocks, entry_code, enter_block}
@@ -32,11 +32,11 @@ abbrev pub names_in : List (List Name) → ℕ → List Name
 names_in sets k = slice_index_or sets k []
 
 -- code with instructions behind it, each between its lists
-abbrev pub with_insts : Given → Env → Here → List Inst → Code → Code
+abbrev pub with_insts : Given → Env → Here → List Inst → InsertedCode → InsertedCode
 with_insts given env h is c = let x = pass_insts given env is h c.next in record { code = c.code ++ x.code; next = x.next }
 
 -- blocks, the first of which begins with code
-abbrev pub with_blocks : Given → Env → Here → List Block → Code → List Block
+abbrev pub with_blocks : Given → Env → Here → List Block → InsertedCode → List Block
 with_blocks given env h bs c = enter_block c.code (pass_blocks given env bs h c.next)
 
 -- the number of the first inserted result of a function with so many values
@@ -44,7 +44,7 @@ abbrev pub first_number : ℕ → ℕ
 first_number size = 2 * size + 1
 
 -- what a function begins with
-abbrev pub entry : Env → ℕ → List (Ty × Name) → Code
+abbrev pub entry : Env → ℕ → List (Ty × Name) → InsertedCode
 entry env n params = record { code = entry_code env params n; next = n }
 
 -- the instrumented form of a function whose values are numbered in text order

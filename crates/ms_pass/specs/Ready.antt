@@ -1,7 +1,7 @@
 -- The functions that can be instrumented.
 use Rattle.std.specs.Prelude.{◌≤◌, ◌^◌, All, length}
 use Rattle.ms_ir.specs.declared.syntax.Func.{Func}
-use Rattle.ms_ir.specs.Code.{operands, over_blocks}
+use Rattle.ms_ir.specs.Instructions.{operands, over_blocks}
 use Rattle.ms_ir.specs.Layout.{Types}
 use Rattle.ms_rules.specs.Taken.{IsTaken}
 

@@ -1,6 +1,6 @@
 //! The blocks of a function.
 ghost use Rattle.std.specs.Prelude.{◌≡◌, ◌+◌, ◌++◌, [], ◌∷◌, ◌<◌, ◌≤◌, ◌^◌, All, length, IfOk, OnOk};
-ghost use Rattle.ms_ir.specs.Code.{over_blocks};
+ghost use Rattle.ms_ir.specs.Instructions.{over_blocks};
 ghost use Rattle.ms_valid.specs.Formed.{count_written};
 ghost use Rattle.ms_rules.specs.Scopes.{env_of, given_of};
 ghost use Rattle.ms_rules.specs.Taken.{IsTaken};
@@ -12,7 +12,7 @@ use crate::insts::push_insts;
 use ms_bits::{Duplicate, List, NoMemory};
 use ms_ir::Block;
 use ms_rules::Scope;
-use ms_rules_code::Code;
+use ms_rules_builder::Builder;
 use std::alloc::Global;
 
 /// Adds the instrumented form of a block that begins with code, and answers what the next one begins with: no code, and
@@ -22,9 +22,9 @@ fn push_block(
     done: &mut Vec<Block>,
     scope: &Scope<'_, '_>,
     counts: &mut Counts,
-    start: Code,
+    start: Builder,
     block: &Block,
-) -> Result<Code, NoMemory>
+) -> Result<Builder, NoMemory>
     requires values { length scope.now.values.now ≤ 2 ^ 30 }
     requires taken { All (IsTaken (given_of scope.now).types) block.now.insts }
     requires small { AreSmall (past_insts (given_of scope.now).func counts.old block.now.insts) }
@@ -33,13 +33,13 @@ fn push_block(
     ensures next { IfOk result (λ c. c ≡ record { code = []; next = (with_insts (given_of scope.now) (env_of scope.now) (here_of counts.old scope.now.main) block.now.insts start).next }) }
     ensures counts { OnOk result (counts.new ≡ past_insts (given_of scope.now).func counts.old block.now.insts) }
 {
-    let mut code = start;
-    push_insts(alloc, &mut code, scope, counts, block.insts.as_slice())?;
-    let next = code.next();
+    let mut builder = start;
+    push_insts(alloc, &mut builder, scope, counts, block.insts.as_slice())?;
+    let next = builder.next();
     let name = block.name.copy(alloc)?;
-    let insts = List::from_vec(code.into_insts());
+    let insts = List::from_vec(builder.into_insts());
     done.push(Block { name, insts })?;
-    Ok(Code::new(alloc, next))
+    Ok(Builder::new(alloc, next))
 }
 
 /// The instrumented form of blocks of which the first begins with code. The counts become those behind them. The one
@@ -48,7 +48,7 @@ pub fn passed_blocks(
     alloc: Global,
     scope: &Scope<'_, '_>,
     counts: &mut Counts,
-    start: Code,
+    start: Builder,
     blocks: &[Block],
 ) -> Result<List<Block>, NoMemory>
     requires values { length scope.now.values.now ≤ 2 ^ 30 }
@@ -59,9 +59,9 @@ pub fn passed_blocks(
     ensures counts { OnOk result (counts.new ≡ past_blocks (given_of scope.now).func counts.old blocks.now) }
 {
     let mut done = Vec::with_capacity(alloc, blocks.len())?;
-    let mut code = start;
+    let mut builder = start;
     for block in blocks {
-        code = push_block(alloc, &mut done, scope, counts, code, block)?;
+        builder = push_block(alloc, &mut done, scope, counts, builder, block)?;
     }
     Ok(List::from_vec(done))
 }

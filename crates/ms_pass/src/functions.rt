@@ -17,19 +17,23 @@ use ms_elide::CleanSet;
 use ms_fork::{Cuts, Gate, Work, by_halves};
 use ms_ir::{Block, Func, Name, Ty};
 use ms_rules::{Scope, push_parameters, values_of};
-use ms_rules_code::Code;
+use ms_rules_builder::Builder;
 use ms_tables::{Extents, NameTable};
 use std::alloc::Global;
 use std::thread::Threads;
 
 /// What a function begins with.
-fn entry_of(alloc: Global, scope: &Scope<'_, '_>, params: &[(Ty, Name)]) -> Result<Code, NoMemory>
+fn entry_of(
+    alloc: Global,
+    scope: &Scope<'_, '_>,
+    params: &[(Ty, Name)],
+) -> Result<Builder, NoMemory>
     requires { length scope.now.values.now ≤ 2 ^ 30 }
     ensures { IfOk result (λ c. c ≡ entry (env_of scope.now) (first_number (length scope.now.values.now)) params.now) }
 {
-    let mut code = Code::new(alloc, 2 * scope.values.len() as u64 + 1);
-    push_parameters(alloc, &mut code, scope, params)?;
-    Ok(code)
+    let mut builder = Builder::new(alloc, 2 * scope.values.len() as u64 + 1);
+    push_parameters(alloc, &mut builder, scope, params)?;
+    Ok(builder)
 }
 
 /// The blocks of the instrumented form of a function, where so many sites and roots stand before it and the values with

@@ -10,14 +10,14 @@ use crate::counts::Counts;
 use ms_bits::NoMemory;
 use ms_ir::Inst;
 use ms_rules::{Scope, push_inst};
-use ms_rules_code::Code;
+use ms_rules_builder::Builder;
 use ms_tables::next_site;
 use std::alloc::Global;
 
 /// Adds an instruction between its lists. The counts become those behind it.
 fn push_next(
     alloc: Global,
-    code: &mut Code,
+    builder: &mut Builder,
     scope: &Scope<'_, '_>,
     counts: &mut Counts,
     inst: &Inst,
@@ -25,11 +25,11 @@ fn push_next(
     requires values { length scope.now.values.now ≤ 2 ^ 30 }
     requires taken { IsTaken (given_of scope.now).types inst.now }
     requires small { AreSmall (past_inst (given_of scope.now).func counts.old inst.now) }
-    requires room { code.old.next < 2 ^ 40 }
-    ensures code { OnOk result (code.new ≡ with_inst (given_of scope.now) (env_of scope.now) (here_of counts.old scope.now.main) inst.now code.old) }
+    requires room { builder.old.next < 2 ^ 40 }
+    ensures code { OnOk result (builder.new ≡ with_inst (given_of scope.now) (env_of scope.now) (here_of counts.old scope.now.main) inst.now builder.old) }
     ensures counts { OnOk result (counts.new ≡ past_inst (given_of scope.now).func counts.old inst.now) }
 {
-    let roots = push_inst(alloc, code, scope, counts.site, counts.root, inst)?;
+    let roots = push_inst(alloc, builder, scope, counts.site, counts.root, inst)?;
     counts.site = next_site(counts.site, inst);
     counts.root += roots;
     Ok(())
@@ -38,7 +38,7 @@ fn push_next(
 /// Adds instructions, each between its lists. The counts become those behind them. The one error is want of memory.
 pub fn push_insts(
     alloc: Global,
-    code: &mut Code,
+    builder: &mut Builder,
     scope: &Scope<'_, '_>,
     counts: &mut Counts,
     insts: &[Inst],
@@ -46,12 +46,12 @@ pub fn push_insts(
     requires values { length scope.now.values.now ≤ 2 ^ 30 }
     requires taken { All (IsTaken (given_of scope.now).types) insts.now }
     requires small { AreSmall (past_insts (given_of scope.now).func counts.old insts.now) }
-    requires room { (with_insts (given_of scope.now) (env_of scope.now) (here_of counts.old scope.now.main) insts.now code.old).next < 2 ^ 40 }
-    ensures code { OnOk result (code.new ≡ with_insts (given_of scope.now) (env_of scope.now) (here_of counts.old scope.now.main) insts.now code.old) }
+    requires room { (with_insts (given_of scope.now) (env_of scope.now) (here_of counts.old scope.now.main) insts.now builder.old).next < 2 ^ 40 }
+    ensures code { OnOk result (builder.new ≡ with_insts (given_of scope.now) (env_of scope.now) (here_of counts.old scope.now.main) insts.now builder.old) }
     ensures counts { OnOk result (counts.new ≡ past_insts (given_of scope.now).func counts.old insts.now) }
 {
     for inst in insts {
-        push_next(alloc, code, scope, counts, inst)?;
+        push_next(alloc, builder, scope, counts, inst)?;
     }
     Ok(())
 }

@@ -14,19 +14,20 @@ use Rattle.ms_ir.specs.declared.syntax.Block.{Block}
 use Rattle.ms_ir.specs.declared.syntax.Func.{Func}
 use Rattle.ms_ir.specs.declared.syntax.Module.{Module}
 use Rattle.ms_ir.specs.Names.{name_eq}
-use Rattle.ms_ir.specs.Code.{operands, func_at, is_phi}
+use Rattle.ms_ir.specs.Instructions.{operands, func_at, is_phi}
 use Rattle.ms_runs.specs.Control.{Frame, rest_of}
 use Rattle.ms_runs.specs.Poisoned.{Poisoned}
 use Rattle.ms_ir.specs.Equal.{has_name}
 use Rattle.ms_ir.specs.Locals.{results, block_locals, parameter_names, locals}
+use Rattle.ms_ir.proofs.RootKinds.{name_same as name_sound}
 use Rattle.ms_valid.specs.Paths.{insts_of, successors, Leads, Path, block_results, IsSet}
 use Rattle.ms_valid.specs.NamesOnce.{repeats}
 use Rattle.ms_valid.specs.Valid.{Valid}
-use Rattle.ms_runs_good.specs.GoodStates.{GoodFrames, PoisonedBelow}
-use Rattle.ms_valid.proofs.NameTests.{name_same, name_sound, within_name}
+use Rattle.ms_good_laws.specs.GoodStates.{GoodFrames, PoisonedBelow}
+use Rattle.ms_valid.proofs.NameTests.{name_same, within_name}
 use Rattle.ms_valid.proofs.TypedValues.{names_stand_once}
 use Rattle.ms_valid.proofs.SetValues.{operand_set}
-use Rattle.ms_runs_good.proofs.Frames.{top_good, due_first, same_insts}
+use Rattle.ms_good_laws.proofs.Frames.{top_good, due_first, same_insts}
 use Rattle.ms_tasks.specs.Known.{Apart, AllApart}
 use Rattle.ms_pass_laws.specs.Known.{ApartFrames}
 use Rattle.ms_pass_laws.proofs.Places.{insts_in}
@@ -80,11 +81,6 @@ contains_occurs : (x : Name) (xs : List Name) → Contains xs x → 1 ≤ occurs
 contains_occurs x xs h = has_occurs x xs (within_name xs x h)
 
 -- ---- in a block
-
-occurs_cons : (x : Name) (o : Option Name) (l : List Name) → occurs x l ≤ occurs x (cons_option o l)
-unfolding occurs
-occurs_cons x None l = omega arith
-occurs_cons x (Some y) l = omega arith
 
 before_due : (x : Name) (l : List Inst) (p : ℕ) (i : Inst) → slice_get l p ≡ Some i → i.result ≡ Some x → occurs x (results (take p l)) + 1 ≤ occurs x (results l)
 unfolding occurs

@@ -17,7 +17,7 @@ use Rattle.ms_ir.specs.Areas.{Heap}
 use Rattle.ms_runs.specs.World.{World, Setting, Here, Effect, Gives, Does, Goes, Enters, Leaves, Ends, traps, stuck, word, gives}
 use Rattle.ms_ir.specs.Layout.{stored_size, size_in}
 use Rattle.ms_runs.specs.Memory.{is_good, fits, local_area, heap_size}
-use Rattle.ms_ir.specs.Code.{external_named}
+use Rattle.ms_ir.specs.Instructions.{external_named}
 use Rattle.ms_runs.specs.Externals.{malloc, reallocated, where_good, string_at, printed, taken, next_byte, external, output_limit, formatted, prints, joined}
 use Rattle.ms_runs.specs.Act.{act}
 use Rattle.ms_runs.specs.Threads.{fiber_limit, thread_at, has_ended, join_answer}

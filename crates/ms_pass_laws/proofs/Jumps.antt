@@ -13,7 +13,7 @@ use Rattle.ms_ir.specs.declared.syntax.Func.{Func}
 use Rattle.ms_ir.specs.declared.syntax.Module.{Module}
 use Rattle.ms_ir.specs.Names.{name_eq, main_name}
 use Rattle.ms_runs.specs.World.{World, Setting, Here}
-use Rattle.ms_ir.specs.Code.{func_index, blocks_at, insts_at, block_index, over_blocks, over_funcs, one_unmarked, roots_in, root_at, is_unmarked, strip}
+use Rattle.ms_ir.specs.Instructions.{func_index, blocks_at, insts_at, block_index, over_blocks, over_funcs, one_unmarked, roots_in, root_at, is_unmarked, strip}
 use Rattle.ms_runs.specs.Control.{Frame, here, rest_of, block_name, count_phis, phis, jumped, params_at}
 use Rattle.ms_runs.specs.Act.{plain_reading}
 use Rattle.ms_runs.specs.Poisoned.{Poisoned}

@@ -1,6 +1,6 @@
 -- What the pass asks of functions: their parameters, their phis, where their jumps go, and `main`.
 use Rattle.std.proofs.Common.{◌≡◌, ◌≢◌, ℕ, zero, suc, ◌+◌, ◌≤◌, ◌<◌, List, [], ◌∷◌, ◌++◌, length, Bool, true, false, Option, Some, None, refl, sym, ap, ◌∙◌, subst, arith, inl, inr, true≢false}
-use Rattle.std.specs.Prelude.{◌||◌, ◌&&◌, map, flat_map, filter_map, drop, nat_lt, nat_eq, if◌then◌else◌, option_map, unwrap_or, slice_get}
+use Rattle.std.specs.Prelude.{◌||◌, ◌&&◌, map, flat_map, filter_map, nat_lt, nat_eq, if◌then◌else◌, option_map, unwrap_or, slice_get}
 use Rattle.std.specs.List.{list_all}
 use Rattle.std.proofs.lemmas.Bool.{and_parts, eqb-true}
 use Rattle.ms_ir.specs.declared.syntax.Name.{Name}
@@ -15,8 +15,7 @@ use Rattle.ms_ir.specs.declared.syntax.Func.{Func}
 use Rattle.ms_ir.specs.declared.syntax.Module.{Module}
 use Rattle.ms_ir.specs.Names.{name_eq, is_reserved, main_name}
 use Rattle.ms_ir.specs.Layout.{width_of}
-use Rattle.ms_runs.specs.Act.{case_of}
-use Rattle.ms_ir.specs.Code.{operands, func_index, func_at, blocks_at, insts_at, block_index, HeadUnmarked, NoMarks}
+use Rattle.ms_ir.specs.Instructions.{operands, func_index, func_at, blocks_at, block_index}
 use Rattle.ms_runs.specs.Control.{params_at}
 use Rattle.ms_ir.specs.Equal.{has_name, result_type_eq}
 use Rattle.ms_ir.specs.Written.{targets, result_type}
@@ -24,15 +23,18 @@ use Rattle.ms_ir.specs.Locals.{block_locals, parameter_names, locals, entry_name
 use Rattle.ms_valid.specs.NamesOnce.{repeats, at_sign, percent_sign, function_duplicates}
 use Rattle.ms_valid.specs.PhisFit.{edges_fit}
 use Rattle.ms_ir.specs.Spots.{Spot}
+use Rattle.ms_ir.proofs.RootKinds.{name_same as name_sound}
 use Rattle.ms_valid.specs.Formed.{Formed, func_formed}
 use Rattle.ms_valid.specs.FormedNames.{is_local_name, are_numbered}
 use Rattle.ms_valid.specs.FormedCode.{is_value_type, name_formed}
 use Rattle.ms_valid.specs.Valid.{Valid}
 use Rattle.ms_valid.proofs.Finding.{both_empty}
-use Rattle.ms_valid.proofs.NameTests.{name_same, name_sound}
-use Rattle.ms_runs_good.proofs.Starts.{all_get, formed_blocks, main_found, not_to_entry}
-use Rattle.ms_valid.proofs.TypedValues.{names_stand_once}
-use Rattle.ms_runs_good.proofs.OpEffects.{value_width}
+use Rattle.ms_valid.proofs.NameTests.{name_same}
+use Rattle.ms_good_laws.proofs.Starts.{all_get, main_found, not_to_entry}
+use Rattle.ms_valid.proofs.TypedValues.{names_stand_once, param_listed}
+use Rattle.ms_valid.proofs.SmallNumbers.{blocks_of}
+use Rattle.ms_good_laws.proofs.OpEffects.{value_width}
+use Rattle.ms_good_laws.proofs.InstructionEffects.{case_target}
 use Rattle.ms_tasks.specs.Environments.{Env}
 use Rattle.ms_tasks.specs.Known.{KnownOperands, KnownResult, KnownEdges, KnownPhi, KnownPhis, KnownParams}
 use Rattle.ms_pass_laws.specs.Known.{GoesTo}
@@ -95,15 +97,6 @@ params_known env size k (p ∷ ps) h =
           let s : k + suc j ≡ suc k + j = omega arith in (b.0, b.1 ∙ ap Some s, subst (λ n. n < size) s b.2, b.3)),
     )
 
-has_param : (ps : List (Ty × Name)) (j : ℕ) (t : Ty) (x : Name) → slice_get ps j ≡ Some (t, x) → has_name (map (λ p. p.1) ps) x ≡ true
-has_param [] j t x e = absurd (grind arith)
-has_param (p ∷ ps) zero t x e = let same : p.1 ≡ x = ap (λ q. (unwrap_or q p).1) e in ap (λ b. b || has_name (map (λ p. p.1) ps) x) (ap (λ z. name_eq z x) same ∙ name_same x)
-has_param (p ∷ ps) (suc j) t x e = later (name_eq p.1 x) (has_param ps j t x e)
-  where
-    later : (b : Bool) → has_name (map (λ p. p.1) ps) x ≡ true → (b || has_name (map (λ p. p.1) ps) x) ≡ true
-    later true h = refl
-    later false h = h
-
 has_first : (xs ys : List Name) (x : Name) → has_name xs x ≡ true → has_name (xs ++ ys) x ≡ true
 has_first [] ys x h = absurd (true≢false (sym h))
 has_first (y ∷ xs) ys x h = by_name (name_eq y x) h (λ k. has_first xs ys x k)
@@ -132,7 +125,7 @@ module _ (m : Module) (formed : Formed m) (valid : Valid m) where
           let numbered : value_index (values_at m n) x ≡ Some (0 + j) = ap (λ vs. value_index vs x) vals ∙ index ∙ ap Some zero_plus in
           let ps = formed_params f (all_get func_formed m.funcs n f formed.functions e) in
           let one = all_get (λ (p : Ty × Name). is_value_type p.0 && is_local_name p.1) f.params j (t, x) ps at in (
-            own n f e x (has_first (parameter_names f) (flat_map block_locals f.blocks) x (has_param f.params j t x at)),
+            own n f e x (has_first (parameter_names f) (flat_map block_locals f.blocks) x (param_listed f.params j t x at)),
             numbered,
             few_index (values_at m n) x (0 + j) numbered,
             (value_width t (and_parts (is_value_type t) (is_local_name x) one).0).1,
@@ -144,17 +137,9 @@ module _ (m : Module) (formed : Formed m) (valid : Valid m) where
       by_func : (o : Option Func) → func_at m n ≡ o → unwrap_or (option_map (λ (g : Func). g.blocks) o) [] ≡ [] → unwrap_or (option_map (λ (g : Func). g.params) o) [] ≡ []
       by_func None e h = refl
       by_func (Some f) e h =
-          absurd (true≢false (sym (formed_blocks f (all_get func_formed m.funcs n f formed.functions e)).0 ∙ ap (λ (l : List Block). nat_lt 0 (length l)) h))
+          absurd (true≢false (sym (blocks_of f (all_get func_formed m.funcs n f formed.functions e)).0 ∙ ap (λ (l : List Block). nat_lt 0 (length l)) h))
 
 -- ---- marks and phis
-
-pub drop_of : (l : List Inst) (p : ℕ) (i : Inst) → slice_get l p ≡ Some i → (is : List Inst) × (drop p l ≡ i ∷ is)
-drop_of [] p i e = absurd (grind arith)
-drop_of (j ∷ l) zero i e = (l, ap (λ o. unwrap_or o j ∷ l) e)
-drop_of (j ∷ l) (suc p) i e = drop_of l p i e
-
-pub unmarked_at : (m : Module) → NoMarks m → (n b p : ℕ) (i : Inst) → slice_get (insts_at m n b) p ≡ Some i → i.marked ≡ false
-unmarked_at m none n b p i e = let d = drop_of (insts_at m n b) p i e in subst HeadUnmarked d.1 (none n b p)
 
 edges_known : (env : Env) (size : ℕ) (t : Ty) (es : List (Operand × Name)) → KnownOperands env size (map (λ e. (t, e.0)) es) → KnownEdges env size es
 edges_known env size t [] h = tt
@@ -186,25 +171,6 @@ list_known env size (i ∷ l) h = ((h 0 i refl).0, (h 0 i refl).1, list_known en
 
 -- ---- jumps
 
-case_there : (cases : List (ℕ × Name)) (v : ℕ) (other : Name) → has_name (other ∷ map (λ c. c.1) cases) (case_of cases v other) ≡ true
-case_there [] v other = ap (λ b. b || false) (name_same other)
-case_there (c ∷ cs) v other = by_test (nat_eq c.0 v) (case_there cs v other)
-  where
-    into : (a b d : Bool) → (a || d) ≡ true → (a || (b || d)) ≡ true
-    into true b d h = refl
-    into false true d h = refl
-    into false false d h = h
-
-    here : (a b d : Bool) → b ≡ true → (a || (b || d)) ≡ true
-    here true b d h = refl
-    here false true d h = refl
-    here false false d h = absurd (true≢false (sym h))
-
-    by_test : (t : Bool) → has_name (other ∷ map (λ c. c.1) cs) (case_of cs v other) ≡ true
-        → has_name (other ∷ c.1 ∷ map (λ c. c.1) cs) (if t then c.1 else case_of cs v other) ≡ true
-    by_test true h = here (name_eq other c.1) (name_eq c.1 c.1) (has_name (map (λ c. c.1) cs) c.1) (name_same c.1)
-    by_test false h = into (name_eq other (case_of cs v other)) (name_eq c.1 (case_of cs v other)) (has_name (map (λ c. c.1) cs) (case_of cs v other)) h
-
 goes_there : (o : Op) (to : Name) → GoesTo o to → has_name (targets o) to ≡ true
 goes_there (op.Br a) to g = ap (λ b. b || false) (ap (λ z. name_eq a z) g ∙ name_same a)
 goes_there (op.CondBr c a b) to (inl g) = ap (λ k. k || (name_eq b to || false)) (ap (λ z. name_eq a z) g ∙ name_same a)
@@ -214,7 +180,7 @@ goes_there (op.CondBr c a b) to (inr g) = second (name_eq a to) (name_eq b to) (
     second true y h = refl
     second false true h = refl
     second false false h = absurd (true≢false (sym h))
-goes_there (op.Switch t v other cases) to g = subst (λ z. has_name (other ∷ map (λ c. c.1) cases) z ≡ true) (sym g.1) (case_there cases g.0 other)
+goes_there (op.Switch t v other cases) to g = subst (λ z. has_name (other ∷ map (λ c. c.1) cases) z ≡ true) (sym g.1) (case_target cases g.0 other)
 goes_there _ to g = absurd g
 
 -- a block that stands first has the entry's name

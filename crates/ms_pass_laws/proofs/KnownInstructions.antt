@@ -3,7 +3,7 @@ use Rattle.std.proofs.Common.{◌≡◌, ℕ, suc, ◌≤◌, List, [], ◌∷�
 use Rattle.std.specs.Prelude.{◌&&◌, ◌||◌, not, nat_eq, map, take, drop, nat_le, if◌then◌else◌, option_map, unwrap_or, is_some, slice_get}
 use Rattle.std.specs.List.{list_all}
 use Rattle.std.specs.Option.{option_or}
-use Rattle.std.proofs.lemmas.Bool.{and_parts, or_left, or_right, leb-true}
+use Rattle.std.proofs.lemmas.Bool.{and_parts, or_left, or_right, leb-true, and_from}
 use Rattle.ms_ir.specs.declared.syntax.Name.{Name}
 use Rattle.ms_ir.specs.declared.syntax.Ty.{Ty, Int, Ptr}
 use Rattle.ms_ir.specs.declared.syntax.Operand.{Operand}
@@ -21,7 +21,7 @@ use Rattle.ms_bits.specs.declared.word_functions.WordWidth.{WordWidth}
 use Rattle.ms_bits.specs.WordFunctions.{bits_of}
 use Rattle.ms_ir.specs.Names.{externals, lookup, name_eq, main_name}
 use Rattle.ms_ir.specs.Layout.{Types, resolved, part_type}
-use Rattle.ms_ir.specs.Code.{operands, func_index, func_at, insts_at, is_phi, over_insts, over_blocks, over_funcs}
+use Rattle.ms_ir.specs.Instructions.{operands, func_index, func_at, insts_at, is_phi, over_insts, over_blocks, over_funcs}
 use Rattle.ms_runs.specs.Control.{params_at}
 use Rattle.ms_ir.specs.Equal.{type_eq, result_type_eq}
 use Rattle.ms_ir.specs.Written.{result_type}
@@ -35,13 +35,13 @@ use Rattle.ms_valid.specs.TypesAgree.{first_misfit, fault_unless, first_misstep,
 use Rattle.ms_valid.specs.Uninstrumented.{CanInstrument}
 use Rattle.ms_valid.specs.Valid.{Valid}
 use Rattle.ms_valid.proofs.AtInstructions.{fits_at}
-use Rattle.ms_runs_good.proofs.NextFrames.{block_there}
-use Rattle.ms_runs_good.proofs.Starts.{all_get}
+use Rattle.ms_good_laws.proofs.NextFrames.{block_there}
+use Rattle.ms_good_laws.proofs.Starts.{all_get}
 use Rattle.ms_valid.proofs.TypedValues.{result_typed}
-use Rattle.ms_runs_good.proofs.CallTypes.{same_width, both_none, holds_unless, func_found, external_call, defined_call, defined_answer, known_external, fitted_call}
-use Rattle.ms_runs_good.proofs.WordCallTypes.{IsWord, word_call}
-use Rattle.ms_runs_good.proofs.InstructionEffects.{formed_at}
-use Rattle.ms_runs_good.proofs.OpEffects.{value_width, cast_allowed}
+use Rattle.ms_good_laws.proofs.CallTypes.{same_width, both_none, holds_unless, func_found, external_call, defined_call, defined_answer, known_external, fitted_call, no_fault_at}
+use Rattle.ms_good_laws.proofs.WordCallTypes.{IsWord, word_call}
+use Rattle.ms_good_laws.proofs.InstructionEffects.{formed_at}
+use Rattle.ms_good_laws.proofs.OpEffects.{value_width, cast_allowed}
 use Rattle.ms_tasks.specs.Known.{KnownName, KnownOperand, KnownOperands, KnownResult, KnownInst, IsBuilt, AnswersWord, FitsCallee, HasResult, is_void, ArgsFit}
 use Rattle.ms_pass_laws.specs.Known.{FitsCalled, AnswerFits, ReturnsAs, ret_at}
 use Rattle.ms_pass_laws.specs.Numbers.{numbering}
@@ -51,13 +51,6 @@ use Rattle.ms_pass_laws.proofs.NumberedValues.{known_value}
 
 no_some : {A : Type 0} (x : A) → Some x ≡ None → ⊥
 no_some x e = grind arith
-
-test_passes : (t : Bool) (a : Option ℕ) (k : ℕ) → (if t then a else Some k) ≡ None → (t ≡ true) × (a ≡ None)
-test_passes true a k e = (refl, e)
-test_passes false a k e = absurd (no_some k e)
-
-both_true : (a b : Bool) → a ≡ true → b ≡ true → (a && b) ≡ true
-both_true a b p q = ap (λ k. k && b) p ∙ q
 
 -- an operation is no call
 abbrev pub IsNoCall : Op → Type 0
@@ -71,36 +64,36 @@ args_all fits known knows k [] [] e = refl
 args_all fits known knows k [] (a ∷ rest) e = absurd (no_some k e)
 args_all fits known knows k (p ∷ ps) [] e = refl
 args_all fits known knows k (p ∷ ps) (a ∷ rest) e =
-    let h = test_passes (type_eq a.0 p && fits k a) (argument_fault fits (suc k) ps rest) k e in
-    both_true (known a) (list_all known rest) (knows k a (and_parts (type_eq a.0 p) (fits k a) h.0).1) (args_all fits known knows (suc k) ps rest h.1)
+    let h = no_fault_at (type_eq a.0 p && fits k a) (argument_fault fits (suc k) ps rest) k e in
+    and_from (known a) (list_all known rest) (knows k a (and_parts (type_eq a.0 p) (fits k a) h.0).1) (args_all fits known knows (suc k) ps rest h.1)
 
 all_known : (fits known : Ty × Operand → Bool) → ((o : Ty × Operand) → fits o ≡ true → known o ≡ true) → (os : List (Ty × Operand)) → list_all fits os ≡ true → list_all known os ≡ true
 all_known fits known knows [] e = refl
 all_known fits known knows (o ∷ os) e =
-    let h = and_parts (fits o) (list_all fits os) e in both_true (known o) (list_all known os) (knows o h.0) (all_known fits known knows os h.1)
+    let h = and_parts (fits o) (list_all fits os) e in and_from (known o) (list_all known os) (knows o h.0) (all_known fits known knows os h.1)
 
 module _ (fits : Ty × Operand → Bool) where
   misfit_all : (k : ℕ) (os : List (Ty × Operand)) → first_misfit fits k os ≡ None → list_all fits os ≡ true
   misfit_all k [] e = refl
-  misfit_all k (o ∷ rest) e = let h = test_passes (fits o) (first_misfit fits (suc k) rest) k e in both_true (fits o) (list_all fits rest) h.0 (misfit_all (suc k) rest h.1)
+  misfit_all k (o ∷ rest) e = let h = no_fault_at (fits o) (first_misfit fits (suc k) rest) k e in and_from (fits o) (list_all fits rest) h.0 (misfit_all (suc k) rest h.1)
 
   misstep_all : (types : Types) (t : Ty) (k : ℕ) (os : List (Ty × Operand)) → first_misstep fits types t k os ≡ None → list_all fits os ≡ true
   misstep_all types t k [] e = refl
   misstep_all types t k (o ∷ rest) e =
-      let h = test_passes (fits o && leads_into (resolved types t) o) (first_misstep fits types (part_type (resolved types t) (number_or_zero o.1)) (suc k) rest) k e in
-      both_true (fits o) (list_all fits rest) (and_parts (fits o) (leads_into (resolved types t) o) h.0).0 (misstep_all types (part_type (resolved types t) (number_or_zero o.1)) (suc k) rest h.1)
+      let h = no_fault_at (fits o && leads_into (resolved types t) o) (first_misstep fits types (part_type (resolved types t) (number_or_zero o.1)) (suc k) rest) k e in
+      and_from (fits o) (list_all fits rest) (and_parts (fits o) (leads_into (resolved types t) o) h.0).0 (misstep_all types (part_type (resolved types t) (number_or_zero o.1)) (suc k) rest h.1)
 
   printed_all : (k : ℕ) (os : List (Ty × Operand)) → first_misfit (λ b. is_printable b.0 && fits b) k os ≡ None → list_all fits os ≡ true
   printed_all k [] e = refl
   printed_all k (o ∷ rest) e =
-      let h = test_passes (is_printable o.0 && fits o) (first_misfit (λ b. is_printable b.0 && fits b) (suc k) rest) k e in
-      both_true (fits o) (list_all fits rest) (and_parts (is_printable o.0) (fits o) h.0).1 (printed_all (suc k) rest h.1)
+      let h = no_fault_at (is_printable o.0 && fits o) (first_misfit (λ b. is_printable b.0 && fits b) (suc k) rest) k e in
+      and_from (fits o) (list_all fits rest) (and_parts (is_printable o.0) (fits o) h.0).1 (printed_all (suc k) rest h.1)
 
   pub printf_all : (args : List (Ty × Operand)) → printf_fault fits args ≡ None → list_all fits args ≡ true
   printf_all [] e = refl
   printf_all (a ∷ rest) e =
-      let h = test_passes (type_eq a.0 Ptr && fits a) (first_misfit (λ b. is_printable b.0 && fits b) 1 rest) 0 e in
-      both_true (fits a) (list_all fits rest) (and_parts (type_eq a.0 Ptr) (fits a) h.0).1 (printed_all 1 rest h.1)
+      let h = no_fault_at (type_eq a.0 Ptr && fits a) (first_misfit (λ b. is_printable b.0 && fits b) 1 rest) 0 e in
+      and_from (fits a) (list_all fits rest) (and_parts (type_eq a.0 Ptr) (fits a) h.0).1 (printed_all 1 rest h.1)
 
   -- an operand that fits, or names a function that may begin
   abbrev pub fits_somewhere : Module → Ty × Operand → Bool
@@ -133,7 +126,7 @@ module _ (fits : Ty × Operand → Bool) where
   indices_all base [] h g = h
   indices_all base (i ∷ is) h g =
       let a = and_parts (fits (Ptr, base)) (fits i && true) h in
-      both_true (fits (Ptr, base)) (fits i && list_all fits is) a.0 (both_true (fits i) (list_all fits is) (and_parts (fits i) true a.1).0 g)
+      and_from (fits (Ptr, base)) (fits i && list_all fits is) a.0 (and_from (fits i) (list_all fits is) (and_parts (fits i) true a.1).0 g)
 
   -- operands that all fit
   listed : (m : Module) (os : List (Ty × Operand)) → list_all fits os ≡ true → list_all (fits_somewhere m) os ≡ true
@@ -155,7 +148,7 @@ module _ (fits : Ty × Operand → Bool) where
     where
       by_ret : (r : Option Ty) → returns_fit fits r (Some v) ≡ true → list_all fits (v ∷ []) ≡ true
       by_ret None e = absurd (true≢false (sym e))
-      by_ret (Some t) e = both_true (fits v) true (and_parts (type_eq v.0 t) (fits v) e).1 refl
+      by_ret (Some t) e = and_from (fits v) true (and_parts (type_eq v.0 t) (fits v) e).1 refl
   plain_all m f (op.Binary o flags t a b) n e = checked (op.Binary o flags t a b) _ e
   plain_all m f (op.Icmp o flags t a b) n e = checked (op.Icmp o flags t a b) _ e
   plain_all m f (op.Select c t a b) n e = checked (op.Select c t a b) _ e
@@ -194,31 +187,31 @@ int_value t e = absurd (true≢false (sym e))
 
 ints_values : (is : List (Ty × Operand)) → list_all (λ i. is_int_type i.0) is ≡ true → list_all (λ i. is_value_type i.0) is ≡ true
 ints_values [] e = refl
-ints_values (i ∷ is) e = let h = and_parts (is_int_type i.0) (list_all (λ i. is_int_type i.0) is) e in both_true (is_value_type i.0) (list_all (λ i. is_value_type i.0) is) (int_value i.0 h.0) (ints_values is h.1)
+ints_values (i ∷ is) e = let h = and_parts (is_int_type i.0) (list_all (λ i. is_int_type i.0) is) e in and_from (is_value_type i.0) (list_all (λ i. is_value_type i.0) is) (int_value i.0 h.0) (ints_values is h.1)
 
 edges_values : (t : Ty) (es : List (Operand × Name)) → is_value_type t ≡ true → list_all (λ (a : Ty × Operand). is_value_type a.0) (map (λ e. (t, e.0)) es) ≡ true
 edges_values t [] h = refl
-edges_values t (e ∷ es) h = both_true (is_value_type t) (list_all (λ (a : Ty × Operand). is_value_type a.0) (map (λ e. (t, e.0)) es)) h (edges_values t es h)
+edges_values t (e ∷ es) h = and_from (is_value_type t) (list_all (λ (a : Ty × Operand). is_value_type a.0) (map (λ e. (t, e.0)) es)) h (edges_values t es h)
 
 pub shape_types : (o : Op) → shape_formed o ≡ true → list_all (λ a. is_value_type a.0) (operands o) ≡ true
 shape_types (op.Binary o flags t a b) e =
-    let h = int_value t (and_parts (is_int_type t) (are_among flags (binary_flags o)) e).0 in both_true (is_value_type t) (is_value_type t && true) h (both_true (is_value_type t) true h refl)
-shape_types (op.Icmp o flags t a b) e = let h = (and_parts (is_value_type t) _ e).0 in both_true (is_value_type t) (is_value_type t && true) h (both_true (is_value_type t) true h refl)
+    let h = int_value t (and_parts (is_int_type t) (are_among flags (binary_flags o)) e).0 in and_from (is_value_type t) (is_value_type t && true) h (and_from (is_value_type t) true h refl)
+shape_types (op.Icmp o flags t a b) e = let h = (and_parts (is_value_type t) _ e).0 in and_from (is_value_type t) (is_value_type t && true) h (and_from (is_value_type t) true h refl)
 shape_types (op.Cast o flags from a to) e =
-    let h = (and_parts (is_value_type from) (is_value_type to) (and_parts (is_value_type from && is_value_type to) (are_among flags (cast_flags o)) e).0).0 in both_true (is_value_type from) true h refl
-shape_types (op.Select c t a b) e = both_true (is_value_type t) (is_value_type t && true) e (both_true (is_value_type t) true e refl)
-shape_types (op.Freeze t a) e = both_true (is_value_type t) true e refl
+    let h = (and_parts (is_value_type from) (is_value_type to) (and_parts (is_value_type from && is_value_type to) (are_among flags (cast_flags o)) e).0).0 in and_from (is_value_type from) true h refl
+shape_types (op.Select c t a b) e = and_from (is_value_type t) (is_value_type t && true) e (and_from (is_value_type t) true e refl)
+shape_types (op.Freeze t a) e = and_from (is_value_type t) true e refl
 shape_types (op.Phi t es) e = edges_values t es (and_parts (is_value_type t) _ e).0
-shape_types (op.Alloca t u c) e = both_true (is_value_type u) true (int_value u (and_parts _ (is_int_type u) e).1) refl
+shape_types (op.Alloca t u c) e = and_from (is_value_type u) true (int_value u (and_parts _ (is_int_type u) e).1) refl
 shape_types (op.Load t a) e = refl
-shape_types (op.Store t v a) e = both_true (is_value_type t) true e refl
+shape_types (op.Store t v a) e = and_from (is_value_type t) true e refl
 shape_types (op.Gep t base is) e = ints_values is (and_parts _ (list_all (λ i. is_int_type i.0) is) e).1
 shape_types (op.Call ret callee args) e = (and_parts (result_formed ret && is_global_name callee && not (name_eq callee main_name)) (list_all (λ a. is_value_type a.0) args) e).1
 shape_types (op.Br to) e = refl
 shape_types (op.CondBr c to other) e = refl
-shape_types (op.Switch t v other cases) e = both_true (is_value_type t) true (int_value t (and_parts (is_int_type t) _ e).0) refl
+shape_types (op.Switch t v other cases) e = and_from (is_value_type t) true (int_value t (and_parts (is_int_type t) _ e).0) refl
 shape_types (op.Ret None) e = refl
-shape_types (op.Ret (Some v)) e = both_true (is_value_type v.0) true e refl
+shape_types (op.Ret (Some v)) e = and_from (is_value_type v.0) true e refl
 shape_types op.Unreachable e = refl
 
 -- ---- externals
@@ -254,7 +247,7 @@ args_fit fits k [] [] e = tt
 args_fit fits k [] (a ∷ rest) e = no_some k e
 args_fit fits k (p ∷ ps) [] e = no_some k e
 args_fit fits k (p ∷ ps) (a ∷ rest) e =
-    let h = test_passes (type_eq a.0 p.0 && fits k a) (argument_fault fits (suc k) (map (λ q. q.0) ps) rest) k e in
+    let h = no_fault_at (type_eq a.0 p.0 && fits k a) (argument_fault fits (suc k) (map (λ q. q.0) ps) rest) k e in
     (same_width a.0 p.0 (and_parts (type_eq a.0 p.0) (fits k a) h.0).0, args_fit fits (suc k) ps rest h.1)
 
 as_many : (ps : List (Ty × Name)) (args : List (Ty × Operand)) → ArgsFit ps args → length args ≡ length ps
@@ -286,7 +279,7 @@ within_blocks count [] b p i e = grind arith
 within_blocks count (x ∷ bs) zero p i e = let l = within_insts count x.insts p i e in omega (arith, l)
 within_blocks count (x ∷ bs) (suc b) p i e = let l = within_blocks count bs b p i e in omega (arith, l)
 
-within_funcs : (count : Inst → ℕ) (fs : List Func) (n : ℕ) (f : Func) → slice_get fs n ≡ Some f → over_blocks count f.blocks ≤ over_funcs count fs
+pub within_funcs : (count : Inst → ℕ) (fs : List Func) (n : ℕ) (f : Func) → slice_get fs n ≡ Some f → over_blocks count f.blocks ≤ over_funcs count fs
 within_funcs count [] n f e = grind arith
 within_funcs count (x ∷ fs) zero f e = subst (λ (y : Func). over_blocks count y.blocks ≤ over_blocks count x.blocks + over_funcs count fs) (ap (λ o. unwrap_or o x) e) (omega arith)
 within_funcs count (x ∷ fs) (suc n) f e = let l = within_funcs count fs n f e in omega (arith, l)

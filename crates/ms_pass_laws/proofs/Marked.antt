@@ -20,7 +20,7 @@ use Rattle.ms_ir.specs.Layout.{width_of, stored_size}
 use Rattle.ms_runs.specs.World.{World, Setting, Here, Effect, Gives, Does, Goes, Enters, Leaves, Ends, stuck, word, gives}
 use Rattle.ms_runs.specs.Origins.{trail, add_report, check, check_byte, check_memory, check_string, asks_string_at, check_format}
 use Rattle.ms_runs.specs.Memory.{is_good}
-use Rattle.ms_ir.specs.Code.{operands, is_phi}
+use Rattle.ms_ir.specs.Instructions.{operands, is_phi}
 use Rattle.ms_runs.specs.Act.{act, operand_word, plain_reading}
 use Rattle.ms_runs.specs.Runtime.{runtime}
 use Rattle.ms_runs.specs.Control.{Frame, here, rest_of, read_all, local_block, keeping, after_effect}
@@ -276,23 +276,28 @@ marked_first s j site x words g gs cells (Leaves w) go k f rest (inl q) h = absu
 marked_first s j site x words g gs cells (Leaves w) go k f rest (inr q) h = absurd q
 marked_first s j site x words g gs cells (Ends e w) go k f rest q h = refl
 
-pub through_marked : (s : Setting) (j : Module) (h : Here) (a b : List Inst) → AllMarked a → MakesNoBlock a → (g : Frame ℕ) (gs : List (Frame ℕ)) (cells : ℕ → ℕ) (w : World)
+-- a stretch of marked instructions, where the way of going on takes each of them as a step does
+pub marked_through : (s : Setting) (j : Module) (go : List Inst → PlainState → Stepped PlainState)
+    → ((i : Inst) (is : List Inst) (h : Here) (g : Frame ℕ) (gs : List (Frame ℕ)) (cells : ℕ → ℕ) (w : World) → i.marked ≡ true → here s j g ≡ h → go (i ∷ is) (state_of g gs cells w)
+    ≡ and_then (plain_state (slots_after i.op (words_of s g.values (operands i.op)) cells)
+    (after_effect plain_reading s j h.site i.result (words_of s g.values (operands i.op)) (λ v w. v) (λ v w. w) (keeping i.op (act_marked s h i.op (words_of s g.values (operands i.op)) cells w) g) gs
+    (act_marked s h i.op (words_of s g.values (operands i.op)) cells w))) (go is)) → (h : Here) (a b : List Inst) → AllMarked a → MakesNoBlock a → (g : Frame ℕ) (gs : List (Frame ℕ)) (cells : ℕ → ℕ) (w : World)
     → here s j g ≡ h → rest_of j g ≡ a ++ b → AllInserted a ⊎ GetsThrough (run_marked s h a (record { names = g.values; slots = cells }) w)
-    → through s j (a ++ b) (state_of g gs cells w)
-    ≡ reach_step (run_marked s h a (record { names = g.values; slots = cells }) w) (λ u z. through s j b (state_of (frame_at g (g.place + length a) u.names) gs u.slots z))
-through_marked s j h [] b m blocks g gs cells w f r q = let p : g.place ≡ g.place + 0 = omega arith in ap (λ n. through s j b (state_of (frame_at g n g.values) gs cells w)) p
-through_marked s j h (i ∷ a) b m blocks g gs cells w f r q =
-    through_inst s j i (a ++ b) h g gs cells w true m.0 f
+    → go (a ++ b) (state_of g gs cells w)
+    ≡ reach_step (run_marked s h a (record { names = g.values; slots = cells }) w) (λ u z. go b (state_of (frame_at g (g.place + length a) u.names) gs u.slots z))
+marked_through s j go each h [] b m blocks g gs cells w f r q = let p : g.place ≡ g.place + 0 = omega arith in ap (λ n. go b (state_of (frame_at g n g.values) gs cells w)) p
+marked_through s j go each h (i ∷ a) b m blocks g gs cells w f r q =
+    each i (a ++ b) h g gs cells w m.0 f
     ∙ ap (λ k. and_then (plain_state (slots_after i.op (words_of s g.values (operands i.op)) cells)
-    (after_effect plain_reading s j h.site i.result (words_of s g.values (operands i.op)) (λ v w. v) (λ v w. w) k gs (act_marked s h i.op (words_of s g.values (operands i.op)) cells w))) (through s j (a ++ b)))
+    (after_effect plain_reading s j h.site i.result (words_of s g.values (operands i.op)) (λ v w. v) (λ v w. w) k gs (act_marked s h i.op (words_of s g.values (operands i.op)) cells w))) (go (a ++ b)))
     (keeps_none i.op blocks.0 (act_marked s h i.op (words_of s g.values (operands i.op)) cells w) g)
     ∙ marked_first s j h.site i.result (words_of s g.values (operands i.op)) g gs (slots_after i.op (words_of s g.values (operands i.op)) cells)
-    (act_marked s h i.op (words_of s g.values (operands i.op)) cells w) (through s j (a ++ b)) (run_marked s h a)
-    (λ u z. through s j b (state_of (frame_at g (g.place + length (i ∷ a)) u.names) gs u.slots z)) (AllInserted a) (first q)
+    (act_marked s h i.op (words_of s g.values (operands i.op)) cells w) (go (a ++ b)) (run_marked s h a)
+    (λ u z. go b (state_of (frame_at g (g.place + length (i ∷ a)) u.names) gs u.slots z)) (AllInserted a) (first q)
     (λ names z more.
-    through_marked s j h a b m.2 blocks.1 (frame_at g (g.place + 1) names) gs (slots_after i.op (words_of s g.values (operands i.op)) cells) z
+    marked_through s j go each h a b m.2 blocks.1 (frame_at g (g.place + 1) names) gs (slots_after i.op (words_of s g.values (operands i.op)) cells) z
     (here_step s j g names i (a ++ b) r ∙ ap (λ x. next_here (given_of s) x i) f ∙ marked_here s h i m.0) (drop_step _ g.place i (a ++ b) r) more
-    ∙ ap (λ n. reach_step (run_marked s h a (record { names = names; slots = slots_after i.op (words_of s g.values (operands i.op)) cells }) z) (λ u z. through s j b (state_of (frame_at g n u.names) gs u.slots z))) places)
+    ∙ ap (λ n. reach_step (run_marked s h a (record { names = names; slots = slots_after i.op (words_of s g.values (operands i.op)) cells }) z) (λ u z. go b (state_of (frame_at g n u.names) gs u.slots z))) places)
   where
     places : g.place + 1 + length a ≡ g.place + length (i ∷ a)
     places = omega arith
@@ -302,3 +307,9 @@ through_marked s j h (i ∷ a) b m blocks g gs cells w f r q =
         ⊎ GetsThrough (run_marked s h (i ∷ a) (record { names = g.values; slots = cells }) w)
     first (inl all) = inl (inserted_quiet s h i.op _ cells w all.1, all.2)
     first (inr on) = inr on
+
+pub through_marked : (s : Setting) (j : Module) (h : Here) (a b : List Inst) → AllMarked a → MakesNoBlock a → (g : Frame ℕ) (gs : List (Frame ℕ)) (cells : ℕ → ℕ) (w : World)
+    → here s j g ≡ h → rest_of j g ≡ a ++ b → AllInserted a ⊎ GetsThrough (run_marked s h a (record { names = g.values; slots = cells }) w)
+    → through s j (a ++ b) (state_of g gs cells w)
+    ≡ reach_step (run_marked s h a (record { names = g.values; slots = cells }) w) (λ u z. through s j b (state_of (frame_at g (g.place + length a) u.names) gs u.slots z))
+through_marked s j h a b = marked_through s j (through s j) (λ i is k g gs cells w m f. through_inst s j i is k g gs cells w true m f) h a b

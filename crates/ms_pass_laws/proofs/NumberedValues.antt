@@ -1,8 +1,8 @@
 -- The values of a function are numbered, each by one number, and have no reserved names.
-use Rattle.std.proofs.Common.{◌≡◌, ℕ, zero, suc, ◌<◌, List, [], ◌∷◌, ◌++◌, length, Bool, true, false, Option, Some, None, refl, sym, ap, ◌∙◌, arith, inl, inr, true≢false}
+use Rattle.std.proofs.Common.{◌≡◌, ℕ, zero, suc, ◌<◌, List, [], ◌∷◌, ◌++◌, length, Bool, true, false, Option, Some, None, refl, sym, ap, ◌∙◌, arith, inl, inr}
 use Rattle.std.specs.Prelude.{◌⊎◌, ◌||◌, ◌&&◌, not, map, flat_map, filter_map, if◌then◌else◌, option_map, unwrap_or, slice_get}
 use Rattle.std.specs.List.{cons_option, list_all}
-use Rattle.std.proofs.lemmas.Bool.{and_parts}
+use Rattle.std.proofs.lemmas.Bool.{and_parts, or_left, or_right}
 use Rattle.std.proofs.lemmas.List.Folds.{list_any-append}
 use Rattle.ms_ir.specs.declared.syntax.Name.{Name}
 use Rattle.ms_ir.specs.declared.syntax.Ty.{Ty}
@@ -11,16 +11,18 @@ use Rattle.ms_ir.specs.declared.syntax.Block.{Block}
 use Rattle.ms_ir.specs.declared.syntax.Func.{Func}
 use Rattle.ms_ir.specs.declared.syntax.Module.{Module}
 use Rattle.ms_ir.specs.Names.{name_eq, lookup, is_reserved}
-use Rattle.ms_ir.specs.Code.{func_at}
+use Rattle.ms_ir.specs.Instructions.{func_at}
 use Rattle.ms_ir.specs.Equal.{has_name}
 use Rattle.ms_ir.specs.Written.{result_type, mentions, type_mentions}
 use Rattle.ms_ir.specs.Locals.{results, block_locals, parameter_names, locals, func_insts, typed_result, values, value_type, type_names, symbols}
+use Rattle.ms_ir.proofs.RootKinds.{name_same}
 use Rattle.ms_valid.specs.ReadLimits.{mentioned, func_names}
 use Rattle.ms_valid.specs.Uninstrumented.{names_are_free}
 use Rattle.ms_valid.specs.NamesKnown.{global_mentions}
-use Rattle.ms_valid.proofs.NameTests.{name_sound}
 use Rattle.ms_tasks.specs.Known.{KnownName, OneName, FewNumbers}
 use Rattle.ms_pass_laws.specs.Numbers.{value_index, values_at, numbering}
+use Rattle.ms_good_laws.proofs.CallTypes.{not_true}
+use Rattle.ms_good_laws.proofs.JumpFrames.{passes_too}
 
 -- ---- tests of all
 
@@ -33,18 +35,6 @@ pub all_flat : {A B : Type 0} (P : B → Bool) (g : A → List B) (xs : List A) 
 all_flat P g [] k y e h = absurd (grind arith)
 all_flat P g (x ∷ xs) zero y e h = ap (λ o. list_all P (g (unwrap_or o x))) (sym h) ∙ (all_append P (g x) (flat_map g xs) e).0
 all_flat P g (x ∷ xs) (suc k) y e h = all_flat P g xs k y (all_append P (g x) (flat_map g xs) e).1 h
-
-pub all_has : (P : Name → Bool) (xs : List Name) (x : Name) → list_all P xs ≡ true → has_name xs x ≡ true → P x ≡ true
-all_has P [] x e h = absurd (true≢false (sym h))
-all_has P (y ∷ xs) x e h = by_name (name_eq y x) refl h (and_parts (P y) (list_all P xs) e) (λ a b. all_has P xs x a b)
-  where
-    by_name : (b : Bool) → name_eq y x ≡ b → (b || has_name xs x) ≡ true → (P y ≡ true) × (list_all P xs ≡ true) → (list_all P xs ≡ true → has_name xs x ≡ true → P x ≡ true) → P x ≡ true
-    by_name true same h both later = ap P (sym (name_sound y x same)) ∙ both.0
-    by_name false same h both later = later both.1 h
-
-pub not_true : (b : Bool) → not b ≡ true → b ≡ false
-not_true true e = absurd (true≢false (sym e))
-not_true false e = refl
 
 -- ---- numbers
 
@@ -76,7 +66,7 @@ one_index (w ∷ vs) x y v e h = by_names (name_eq w.0 x) refl (name_eq w.0 y) r
 
     by_names : (b : Bool) → name_eq w.0 x ≡ b → (c : Bool) → name_eq w.0 y ≡ c → (if b then Some 0 else option_map suc (value_index vs x)) ≡ Some v
         → (if c then Some 0 else option_map suc (value_index vs y)) ≡ Some v → ((k : ℕ) → value_index vs x ≡ Some k → value_index vs y ≡ Some k → x ≡ y) → x ≡ y
-    by_names true p true q e h later = sym (name_sound w.0 x p) ∙ name_sound w.0 y q
+    by_names true p true q e h later = sym (name_same w.0 x p) ∙ name_same w.0 y q
     by_names true p false q e h later = let s = suc_of (value_index vs y) v h in absurd (no_zero s.0 (zero_of v e) s.2)
     by_names false p true q e h later = let s = suc_of (value_index vs x) v e in absurd (no_zero s.0 (zero_of v h) s.2)
     by_names false p false q e h later =
@@ -126,14 +116,6 @@ in_results (i ∷ xs) ys x t e = by_result i.result (result_type i.op) e (λ h. 
     by_result (Some y) None e later = past (name_eq y x) (later e)
     by_result (Some y) (Some u) e later = by_name y u (name_eq y x) e later
 
-or_right : (a b : Bool) → b ≡ true → (a || b) ≡ true
-or_right true b e = refl
-or_right false b e = e
-
-or_left : (a b : Bool) → a ≡ true → (a || b) ≡ true
-or_left true b e = refl
-or_left false b e = absurd (true≢false (sym e))
-
 has_append : (xs ys : List Name) (x : Name) → has_name (xs ++ ys) x ≡ has_name xs x || has_name ys x
 has_append xs ys x = list_any-append (λ y. name_eq y x) xs ys
 
@@ -147,7 +129,7 @@ in_blocks (b ∷ bs) x t e =
     by_part (inl h) later = or_left (has_name (block_locals b) x) (has_name (flat_map block_locals bs) x) (or_right (name_eq b.name x) (has_name (results b.insts) x) h)
     by_part (inr h) later = or_right (has_name (block_locals b) x) (has_name (flat_map block_locals bs) x) (later h)
 
-value_local : (f : Func) (x : Name) (t : Ty) → value_type f x ≡ Some t → has_name (locals f) x ≡ true
+pub value_local : (f : Func) (x : Name) (t : Ty) → value_type f x ≡ Some t → has_name (locals f) x ≡ true
 value_local f x t e = has_append (parameter_names f) (flat_map block_locals f.blocks) x ∙ by_part (in_params f.params (filter_map typed_result (func_insts f)) x t e)
   where
     by_part : (has_name (parameter_names f) x ≡ true) ⊎ (lookup (filter_map typed_result (func_insts f)) x ≡ Some t) → (has_name (parameter_names f) x || has_name (flat_map block_locals f.blocks) x) ≡ true
@@ -163,7 +145,7 @@ module _ (m : Module) (free : names_are_free m ≡ true) where
       let a = all_append P (type_names m ++ symbols m) (map mentioned (flat_map (λ t. type_mentions t.1) m.types ++ flat_map global_mentions m.globals) ++ flat_map func_names m.funcs) free in
       let b = all_append P (map mentioned (flat_map (λ t. type_mentions t.1) m.types ++ flat_map global_mentions m.globals)) (flat_map func_names m.funcs) a.1 in
       let c = all_flat P func_names m.funcs n f b.1 at in
-      not_true (is_reserved x) (all_has P (locals f) x (all_append P (locals f) (map mentioned (flat_map (λ inst. mentions inst.op) (func_insts f))) c).0 h)
+      not_true (is_reserved x) (passes_too P (locals f) x (all_append P (locals f) (map mentioned (flat_map (λ inst. mentions inst.op) (func_insts f))) c).0 h)
 
   pub values_are : (n : ℕ) (f : Func) → func_at m n ≡ Some f → values_at m n ≡ values f
   values_are n f at = ap (λ o. unwrap_or (option_map values o) []) at

@@ -1,6 +1,6 @@
 -- The globals of a valid module stand among the globals.
-use Rattle.std.proofs.Common.{◌≡◌, ◌≤◌, ◌+◌, ◌*◌, ◌^◌, ℕ, List, [], ◌∷◌, ◌++◌, Bool, true, false, ◌&&◌, not, nat_le, refl, sym, ap, ◌∙◌, subst, arith, if◌then◌else◌, true≢false, leb-true}
-use Rattle.std.specs.Prelude.{max, ◌/◌, flat_map}
+use Rattle.std.proofs.Common.{◌≡◌, ◌≤◌, ◌+◌, ◌^◌, ℕ, List, [], ◌∷◌, ◌++◌, Bool, true, false, ◌&&◌, not, nat_le, refl, sym, ap, ◌∙◌, subst, arith, if◌then◌else◌, true≢false, leb-true}
+use Rattle.std.specs.Prelude.{flat_map}
 use Rattle.std.proofs.lemmas.Bool.{and_parts}
 use Rattle.ms_ir.specs.declared.syntax.Name.{Name}
 use Rattle.ms_ir.specs.declared.syntax.Ty.{Ty, Named}
@@ -20,8 +20,9 @@ use Rattle.ms_valid.specs.SizesFit.{sized, spelled_unless, taken_with, passes_li
 use Rattle.ms_valid.specs.Valid.{Valid}
 use Rattle.ms_valid.specs.Formed.{Formed}
 use Rattle.ms_valid.proofs.Finding.{both_empty}
-use Rattle.ms_runs_good.specs.GoodWorlds.{GivesBytes, FitsCell}
-use Rattle.ms_runs_good.proofs.Starting.{start_world_good}
+use Rattle.ms_good_laws.specs.GoodWorlds.{GivesBytes, FitsCell}
+use Rattle.ms_good_laws.proofs.Starting.{start_world_good, unless}
+use Rattle.ms_good_laws.proofs.ExternalEffects.{room_above}
 use Rattle.ms_tasks.specs.Match.{IsPlaced, ArePlaced, RangedWorld}
 
 module _ (types : Types) (address : Name → ℕ) where
@@ -47,19 +48,9 @@ used_more : (xs : List Allocation) (a : Allocation) → used Fixed (xs ++ a ∷ 
 used_more [] a = omega arith
 used_more (x ∷ xs) a = let r = used_more xs a in omega (arith, r)
 
-placed_more : (xs : List Allocation) (a : Allocation) → ArePlaced xs → IsPlaced a → ArePlaced (xs ++ a ∷ [])
+pub placed_more : (xs : List Allocation) (a : Allocation) → ArePlaced xs → IsPlaced a → ArePlaced (xs ++ a ∷ [])
 placed_more [] a h p = (p, tt)
 placed_more (x ∷ xs) a h p = (h.0, placed_more xs a h.1 p)
-
-covers : (n : ℕ) → n ≤ room n
-covers n = go (max n 1) (grind arith)
-  where
-    go : (k : ℕ) → n ≤ k → n ≤ (k + 15) / 16 * 16
-    go k le = omega arith
-
-unless : (t global : Bool) (x : Name) → spelled_unless t global x ≡ [] → t ≡ true
-unless true global x e = refl
-unless false global x e = absurd (grind arith)
 
 -- where the limit is not passed
 kept_within : (taken after : ℕ) → not (passes_limit taken after) ≡ true → taken ≤ 2 ^ 24 → after ≤ 2 ^ 24
@@ -98,7 +89,7 @@ globals_placed types address (v ∷ rest) taken w sizes u le h =
         let same = init_allocs types address v.init v.ty (next_base Fixed w) made in
         let more = used_more w.allocs new in
         let sum : taken_with types taken v ≡ taken + room n = ap (λ b. if b then taken else taken + room n) e in
-        let c = covers n in
+        let c = room_above n in
         let l = within in
         go (write_init types address (next_base Fixed w) v.ty v.init made) parts.1
         (ap (used Fixed) same ∙ more ∙ (let q : used Fixed w.allocs + room n ≡ taken + room n = ap (λ k. k + room n) u in q) ∙ sym sum) within

@@ -10,7 +10,7 @@ use Rattle.ms_ir.specs.declared.syntax.Func.{Func}
 use Rattle.ms_ir.specs.declared.syntax.Inst.{Inst}
 use Rattle.ms_ir.specs.declared.syntax.Module.{Module}
 use Rattle.ms_runs.specs.World.{Setting, Here}
-use Rattle.ms_ir.specs.Code.{insts_at, over_insts, before, one_unmarked, roots_in}
+use Rattle.ms_ir.specs.Instructions.{insts_at, over_insts, before, one_unmarked, roots_in}
 use Rattle.ms_runs.specs.Control.{Frame, here, rest_of, put}
 use Rattle.ms_runs.specs.Poisoned.{Poisoned}
 use Rattle.ms_tasks.specs.Meaning.{set_result}

@@ -1,6 +1,6 @@
 -- A step of the shadow run keeps that allocations are placed and that origins are numbers of 32 bits.
 use Rattle.std.proofs.Common.{◌≡◌, ℕ, zero, suc, ◌+◌, ◌*◌, ◌<◌, ◌≤◌, ◌^◌, List, [], ◌∷◌, ◌++◌, refl, sym, ap, ◌∙◌, subst, arith, Bool, true, false, eqb}
-use Rattle.std.specs.Prelude.{map, if◌then◌else◌, leb, ltb, max, ◌/◌, ◌%◌, ◌-◌, ◌&&◌, ◌||◌, not, cond, filter, get_or, unwrap_or, Option, Some, None, Result, Ok, Err, length, min, option_map}
+use Rattle.std.specs.Prelude.{map, if◌then◌else◌, leb, ltb, ◌/◌, ◌%◌, ◌-◌, ◌&&◌, ◌||◌, not, cond, filter, get_or, unwrap_or, Option, Some, None, Result, Ok, Err, length, min}
 use Rattle.std.proofs.lemmas.Bool.{leb-true}
 use Rattle.ms_bits.specs.declared.traps.Trap.{Trap}
 use Rattle.ms_bits.specs.Maps.{touches, byte_of, number_at, with_cell, with_cells, first_nonzero, bytes_at, copied_cells}
@@ -23,7 +23,7 @@ use Rattle.ms_bits.specs.declared.traps.Trap.TheVariants as trap
 use Rattle.ms_ir.specs.Layout.{stored_size, width_of, size_in}
 use Rattle.ms_runs.specs.Memory.{make, heap_size, is_heap_block, local_area, end_block, end_blocks, copy_bytes, copy_shadow, keeps, store_number, set_shadow, used, fits, next_base, is_good, make_unset, set_cells, bytes_left}
 use Rattle.ms_runs.specs.Origins.{keeps_old, pair_index, copy_planes, fill_planes, unpoison, Chained, chain, add_report, check, check_byte, check_memory, count_blind, poison, mark_cells, store_origin, origin_within, trail, first_in_string, pair_limit, check_string, asks_string_at, check_format, thread_result}
-use Rattle.ms_ir.specs.Code.{makes_unset, external_named, operands, one_undef, count_undefs, is_root, roots_in, blocks_at, insts_at, block_index, root_at, is_phi}
+use Rattle.ms_ir.specs.Instructions.{makes_unset, external_named, operands, one_undef, count_undefs, is_root, roots_in, blocks_at, insts_at, block_index, root_at, is_phi}
 use Rattle.ms_runs.specs.Control.{Frame, here, rest_of, read_all, with_value, put, after_effect, read_edge, phis, block_name, result_at, left, release, given_back, keeping, Over, On, bind, entered, params_at, frame_limit}
 use Rattle.ms_runs.specs.Act.{act, alloca, load, store}
 use Rattle.ms_runs.specs.Plain.{Stepped, More, Stop}
@@ -31,7 +31,7 @@ use Rattle.ms_runs.specs.Poisoned.{Poisoned, clean}
 use Rattle.ms_bits.specs.Conversions.{select_of}
 use Rattle.ms_tasks.proofs.OriginRanges.{AreRanged, operand_ranged, words_ranged, at_ranged, last_ranged}
 use Rattle.ms_runs.specs.Masks.{by_formulas, word_at, answer_origin, result_origin, union}
-use Rattle.ms_runs.specs.Uses.{Use, Word, Bytes, Line, blinded, uses, check_use, check_uses, Asked}
+use Rattle.ms_runs.specs.Uses.{CheckedUse, Word, Bytes, Line, blinded, uses, check_use, check_uses, Asked}
 use Rattle.ms_runs.specs.Shadow.{ShadowState, read_poisoned, external_planes, callee_planes, planes, poisoned_result, shadow_moved, after_checks, shadow_inst, shadow_first, shadow_frames, shadow_step, shadow_reading}
 use Rattle.ms_tasks.specs.Environments.{Env}
 use Rattle.ms_tasks.specs.Known.{IsBuilt, KnownInst, edge_roots, PhiRoot, PhiRoots}
@@ -45,6 +45,9 @@ use Rattle.ms_ir.specs.declared.calls.External.TheVariants as called
 use Rattle.ms_ir.specs.Names.{lookup, externals}
 use Rattle.ms_runs.specs.Externals.{malloc, calloc, reallocated, where_good, string_at, printed, taken, next_byte, external, output_limit, formatted, prints, joined}
 use Rattle.ms_runs.specs.Threads.{fiber_limit, thread_at, has_ended, join_answer}
+use Rattle.ms_good_laws.proofs.ExternalEffects.{room_above}
+use Rattle.ms_good_laws.proofs.WorldChanges.{pair_found}
+use Rattle.ms_pass_laws.proofs.Placed.{placed_more}
 
 -- ---- checks leave allocations and cells
 
@@ -108,7 +111,7 @@ format_quiet s format index a site w = go (asks_string_at w format index)
     go true = byte_quiet s 10 site a (first_in_string w a (bytes_left w a)) w
     go false = same w
 
-use_quiet : (s : Setting) (site : ℕ) (os : List (Ty × Operand)) (ps : List Poisoned) (u : Use) (w : World) → Quiet w (check_use s site os ps u w)
+use_quiet : (s : Setting) (site : ℕ) (os : List (Ty × Operand)) (ps : List Poisoned) (u : CheckedUse) (w : World) → Quiet w (check_use s site os ps u w)
 use_quiet s site os ps (Word kind k) w = check_quiet s (word_at k ps).mask _ (word_at k ps).origin kind k site w
 use_quiet s site os ps (Bytes kind a n) w = memory_quiet s (word_at a ps).value (word_at n ps).value kind site w
 use_quiet s site os ps (Line a) w = byte_quiet s 10 site (word_at a ps).value (first_in_string w (word_at a ps).value (bytes_left w (word_at a ps).value)) w
@@ -130,7 +133,7 @@ then_quiet w (Enters f z) go q h = tt
 then_quiet w (Leaves z) go q h = tt
 then_quiet w (Ends x z) go q h = tt
 
-uses_quiet : (s : Setting) (site : ℕ) (os : List (Ty × Operand)) (ps : List Poisoned) (us : List Use) (w : World) → Quiet w (check_uses s site os ps us w)
+uses_quiet : (s : Setting) (site : ℕ) (os : List (Ty × Operand)) (ps : List Poisoned) (us : List CheckedUse) (w : World) → Quiet w (check_uses s site os ps us w)
 uses_quiet s site os ps [] w = same w
 uses_quiet s site os ps (u ∷ us) w =
     then_quiet w (check_use s site os ps u w) (check_uses s site os ps us) (use_quiet s site os ps u w) (uses_quiet s site os ps us)
@@ -192,18 +195,6 @@ last_false true false c e = absurd (grind arith)
 last_false false true c e = absurd (grind arith)
 last_false false false c e = e
 
-index_less : (pairs : List (ℕ × ℕ)) (old site k : ℕ) → pair_index pairs old site ≡ Some k → k < length pairs
-index_less [] old site k e = absurd (grind arith)
-index_less (p ∷ rest) old site k e = by_test (eqb p.0 old && eqb p.1 site) e (λ j h. index_less rest old site j h)
-  where
-    by_option : (o : Option ℕ) → ((j : ℕ) → o ≡ Some j → j < length rest) → option_map suc o ≡ Some k → k < suc (length rest)
-    by_option None later e = absurd (grind arith)
-    by_option (Some j) later e = let l = later j refl in let same : suc j ≡ k = ap (λ q. unwrap_or q k) e in omega (arith, l, same)
-
-    by_test : (b : Bool) → (if b then Some 0 else option_map suc (pair_index rest old site)) ≡ Some k → ((j : ℕ) → pair_index rest old site ≡ Some j → j < length rest) → k < suc (length rest)
-    by_test true e later = let z : 0 ≡ k = ap (λ q. unwrap_or q k) e in omega (arith, z)
-    by_test false e later = by_option (pair_index rest old site) later e
-
 one_longer : (l : List (ℕ × ℕ)) (p : ℕ × ℕ) → length (l ++ p ∷ []) ≡ length l + 1
 one_longer [] p = omega arith
 one_longer (q ∷ l) p = let r = one_longer l p in omega (arith, r)
@@ -223,7 +214,7 @@ chained_ranged s o site w many r lt = by_old (keeps_old s w o) refl (pair_index 
           | None ↦ record { id = s.roots + 1 + length w.pairs; world = record w { pairs = w.pairs ++ (o, site) ∷ [] } }
         ] in (z.id < 2 ^ 32) × RangedWorld z.world
     by_old true e p q = (lt, r)
-    by_old false e (Some k) q = let l = index_less w.pairs o site k q in let b = r.pairs in (omega (arith, l, b, many), r)
+    by_old false e (Some k) q = let l = pair_found w.pairs o site k q in let b = r.pairs in (omega (arith, l, b, many), r)
     by_old false e None q =
         let f = few e in let l = one_longer w.pairs (o, site) in
         (omega (arith, f, many), record { placed = r.placed; origins = r.origins; pairs = omega (arith, f, l); answers = r.answers })
@@ -245,16 +236,6 @@ found_ranged (suc n) a mask w r = go (found_ranged n (a + 1) (mask / 256) w r) (
 
 -- ---- allocations
 
-placed_more : (as' : List Allocation) (a : Allocation) → ArePlaced as' → IsPlaced a → ArePlaced (as' ++ a ∷ [])
-placed_more [] a h p = (p, tt)
-placed_more (b ∷ rest) a h p = (h.0, placed_more rest a h.1 p)
-
-room_covers : (n : ℕ) → n ≤ room n
-room_covers n = go (max n 1) (grind arith)
-  where
-    go : (k : ℕ) → n ≤ k → n ≤ (k + 15) / 16 * 16
-    go k le = omega arith
-
 fitting : (n : ℕ) (w : World) → fits Stack n w ≡ true → used Stack w.allocs + room n ≤ 2 ^ 20
 fitting n w e = leb-true (used Stack w.allocs + room n) (2 ^ 20) e
 
@@ -263,7 +244,7 @@ fitting_heap n w e = leb-true (used Heap w.allocs + room n) (2 ^ 26) e
 
 heap_ranged : (n : ℕ) (w : World) → RangedWorld w → fits Heap n w ≡ true → RangedWorld (make Heap n w)
 heap_ranged n w r e = record {
-  placed = placed_more w.allocs _ r.placed (record { from = omega arith; to = omega (arith, fitting_heap n w e, room_covers n) });
+  placed = placed_more w.allocs _ r.placed (record { from = omega arith; to = omega (arith, fitting_heap n w e, room_above n) });
   origins = cells_ranged w.origins (next_base Heap w) n 0 r.origins (omega arith);
   pairs = r.pairs;
   answers = r.answers;
@@ -271,7 +252,7 @@ heap_ranged n w r e = record {
 
 made_ranged : (fill : List ℕ) (n : ℕ) (w : World) → RangedWorld w → fits Stack n w ≡ true → RangedWorld (make_unset fill Stack n w)
 made_ranged fill n w r e = record {
-  placed = placed_more w.allocs _ r.placed (record { from = omega arith; to = omega (arith, fitting n w e, room_covers n) });
+  placed = placed_more w.allocs _ r.placed (record { from = omega arith; to = omega (arith, fitting n w e, room_above n) });
   origins = cells_ranged w.origins (next_base Stack w) n 0 r.origins (omega arith);
   pairs = r.pairs;
   answers = r.answers;
@@ -730,7 +711,7 @@ ranged_kept s numbers m known c c' r e = by_frames c.frames r.frames e
     by_frames (f ∷ below) rf e = by_rest f below rf (rest_of m f) refl e
 
 -- the world in which an instruction runs whose checks passed
-pub checks_ranged : (s : Setting) (site : ℕ) (os : List (Ty × Operand)) (ps : List Poisoned) (us : List Use) (mask : ℕ) (w z : World)
+pub checks_ranged : (s : Setting) (site : ℕ) (os : List (Ty × Operand)) (ps : List Poisoned) (us : List CheckedUse) (mask : ℕ) (w z : World)
     → check_uses s site os ps us w ≡ Does z → RangedWorld w → RangedWorld (count_blind mask z)
 checks_ranged s site os ps us mask w z e r =
     ranged_left z (count_blind mask z) (counted mask z) (ranged_left w z (subst (Quiet w) e (uses_quiet s site os ps us w)) r)

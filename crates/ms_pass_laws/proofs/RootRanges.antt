@@ -11,11 +11,12 @@ use Rattle.ms_ir.specs.declared.syntax.Inst.{Inst}
 use Rattle.ms_ir.specs.declared.syntax.Block.{Block}
 use Rattle.ms_ir.specs.declared.syntax.Func.{Func}
 use Rattle.ms_ir.specs.declared.syntax.Module.{Module}
-use Rattle.ms_ir.specs.Code.{operands, insts_at, blocks_at, over_insts, over_blocks, over_funcs, before, one_unmarked, one_undef, count_undefs, is_root, roots_in, root_at}
+use Rattle.ms_ir.specs.Instructions.{operands, insts_at, blocks_at, over_insts, over_blocks, over_funcs, before, one_unmarked, one_undef, roots_in, root_at}
 use Rattle.ms_valid.specs.Formed.{Formed, count_written}
 use Rattle.ms_runs_laws.proofs.Numbering.{insts_split}
 use Rattle.ms_tasks.specs.Known.{edge_roots, PhiRoot, PhiRoots}
 use Rattle.ms_runs.specs.Origins.{pair_limit}
+use Rattle.ms_good_laws.proofs.Starting.{roots_few}
 
 -- ---- counts
 
@@ -54,23 +55,6 @@ module _ (c : Inst → ℕ) where
       let x = in_funcs m.funcs f in let y = in_blocks (blocks_at m f) b in let z = insts_split c p (insts_at m f b) in omega (arith, x, y, z)
 
 -- ---- roots
-
-undefs_few : (os : List (Ty × Operand)) → count_undefs os ≤ length os
-undefs_few [] = omega arith
-undefs_few (o ∷ os) = one o.1 (undefs_few os)
-  where
-    one : (q : Operand) → count_undefs os ≤ length os → one_undef q + count_undefs os ≤ suc (length os)
-    one operand.Undef h = omega (arith, h)
-    one operand.Poison h = omega (arith, h)
-    one _ h = omega (arith, h)
-
-pub roots_few : (func : Name → Option ℕ) (i : Inst) → roots_in func i ≤ count_written i
-roots_few func i = by_mark i.marked (is_root func i.op)
-  where
-    by_mark : (b c : Bool) → (if b then 0 else (count_undefs (operands i.op) + (if c then 1 else 0))) ≤ suc (length (operands i.op))
-    by_mark true c = omega arith
-    by_mark false true = let u = undefs_few (operands i.op) in omega (arith, u)
-    by_mark false false = let u = undefs_few (operands i.op) in omega (arith, u)
 
 pub sites_few : (i : Inst) → one_unmarked i ≤ count_written i
 sites_few i = by_mark i.marked

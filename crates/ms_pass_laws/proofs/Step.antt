@@ -1,13 +1,13 @@
 -- A step of the instrumented module is a step of the shadow run.
 use Rattle.std.proofs.Common.{◌≡◌, ◌≢◌, Bool, Option, None, ℕ, zero, suc, ◌+◌, ◌*◌, ◌≤◌, List, [], ◌∷◌, ◌++◌, length, true, false, Some, inl, inr, refl, sym, ap, ◌∙◌, subst, arith}
-use Rattle.std.specs.Prelude.{map, filter, drop, if◌then◌else◌, leb, get_or, is_some, option_and_then, slice_get}
+use Rattle.std.specs.Prelude.{map, filter, if◌then◌else◌, leb, get_or, is_some, option_and_then}
 use Rattle.std.proofs.Math.Path.{ap₂}
 use Rattle.ms_ir.specs.declared.syntax.Name.{Name}
 use Rattle.ms_ir.specs.declared.syntax.Inst.{Inst}
 use Rattle.ms_ir.specs.declared.syntax.Module.{Module}
 use Rattle.ms_runs.specs.declared.runs.End.TheVariants as «end»
 use Rattle.ms_runs.specs.World.{World, Setting, Here, Effect, Gives, Does, Goes, Enters, Leaves, Ends, stuck, result}
-use Rattle.ms_ir.specs.Code.{operands, one_undef, count_undefs, external_named, is_unmarked, one_unmarked, roots_in, over_blocks, insts_at, blocks_at, block_index, is_phi}
+use Rattle.ms_ir.specs.Instructions.{operands, one_undef, count_undefs, external_named, is_unmarked, one_unmarked, roots_in, over_blocks, insts_at, blocks_at, block_index, is_phi}
 use Rattle.ms_ir.specs.Names.{is_reserved}
 use Rattle.ms_ir.specs.declared.syntax.Op.{Op}
 use Rattle.ms_ir.specs.declared.syntax.Op.TheVariants as op
@@ -55,6 +55,7 @@ use Rattle.ms_tasks.proofs.Before.{before_law}
 use Rattle.ms_tasks.proofs.After.{numbers_low, after_gives, after_does}
 use Rattle.ms_runs_laws.proofs.SameRuns.{same_step}
 use Rattle.ms_runs_laws.proofs.ExactRules.{formulas_exact}
+use Rattle.ms_good_laws.proofs.Frames.{drop_first}
 
 -- the lists round an instruction that is no phi
 abbrev pub task_lists : Given → Env → Here → Inst → ℕ → Emitted
@@ -63,19 +64,6 @@ task_lists given env h i n = emit_tasks given env h i n
 plain_lists : (given : Given) (env : Env) (h : Here) (i : Inst) (n : ℕ) (o : Op) → is_phi o ≡ false → emit_op given env h i n o ≡ task_lists given env h i n
 plain_lists given env h i n (op.Phi t es) e = absurd (grind arith)
 plain_lists given env h i n _ e = refl
-
--- a phi that is met in its turn ends the run
-phi_plain : (s : Setting) (j : Module) (o : Op) (x : Option Name) (rest : List Inst) (g : Frame ℕ) (gs : List (Frame ℕ)) (cells : ℕ → ℕ) (w : World) → is_phi o ≡ true
-    → through s j (record { op = o; result = x; marked = false } ∷ rest) (state_of g gs cells w) ≡ Stop stuck w
-phi_plain s j (op.Phi t es) x rest g gs cells w e = refl
-phi_plain s j _ x rest g gs cells w e = absurd (grind arith)
-
--- what a list has from a place on is what it has there
-found_at : (l : List Inst) (p : ℕ) (i : Inst) (is : List Inst) → drop p l ≡ i ∷ is → slice_get l p ≡ Some i
-found_at [] zero i is e = absurd (grind arith)
-found_at [] (suc p) i is e = absurd (grind arith)
-found_at (x ∷ l) zero i is e = ap Some (ap (λ k. get_or k 0 x) e)
-found_at (x ∷ l) (suc p) i is e = found_at l p i is e
 
 -- functions keep their parameters
 params_of_kept : (given : Given) (fs : List Func) (f : ℕ) (numbers : ℕ → Numbering) (site root : ℕ) → params_in (pass_funcs given numbers fs site root) f ≡ params_in fs f
@@ -300,10 +288,10 @@ module _ (s : Setting) (numbers : ℕ → Numbering) (m : Module) (known : Known
       by_result (Some x) = ap (λ b. callee_tasks env h.site (h.root + count_undefs args + 1) next (Some x) ret b (external_named given.func callee) (tracked env h.root args)) own
 
   result_found : (f : Frame Poisoned) (i : Inst) (is : List Inst) → rest_of m f ≡ i ∷ is → result_at m f ≡ i.result
-  result_found f i is e = ap (λ o. option_and_then (λ inst. inst.result) o) (found_at (insts_at m f.func f.block) f.place i is e)
+  result_found f i is e = ap (λ o. option_and_then (λ inst. inst.result) o) (drop_first (insts_at m f.func f.block) f.place i is e)
 
   plain_found : (g : Frame ℕ) (i : Inst) (is : List Inst) → rest_of (pass numbers m) g ≡ i ∷ is → result_at (pass numbers m) g ≡ i.result
-  plain_found g i is e = ap (λ o. option_and_then (λ inst. inst.result) o) (found_at (insts_at (pass numbers m) g.func g.block) g.place i is e)
+  plain_found g i is e = ap (λ o. option_and_then (λ inst. inst.result) o) (drop_first (insts_at (pass numbers m) g.func g.block) g.place i is e)
 
   first_value : (ps : List Poisoned) → get_or (map (λ p. p.value) ps) 0 0 ≡ (get_or ps 0 clean).value
   first_value [] = refl

@@ -1,6 +1,6 @@
 -- Each formed and valid module that can be instrumented is one that the pass takes.
 use Rattle.std.proofs.Common.{◌≡◌, ◌≢◌, ℕ, zero, suc, List, [], ◌∷◌, false, Option, Some, None, refl, sym, ap, ◌∙◌, subst, arith, true≢false}
-use Rattle.std.specs.Prelude.{drop, option_map, unwrap_or, slice_get}
+use Rattle.std.specs.Prelude.{option_map, unwrap_or, slice_get}
 use Rattle.ms_ir.specs.declared.syntax.Inst.{Inst}
 use Rattle.ms_ir.specs.declared.syntax.Block.{Block}
 use Rattle.ms_ir.specs.declared.syntax.Func.{Func}
@@ -10,7 +10,7 @@ use Rattle.ms_ir.specs.declared.calls.Slot.{Slot}
 use Rattle.ms_ir.specs.declared.calls.Slot.TheVariants as slot
 use Rattle.ms_ir.specs.Names.{slot_name, slot_room}
 use Rattle.ms_runs.specs.World.{Setting}
-use Rattle.ms_ir.specs.Code.{func_index, func_at, blocks_at, insts_at, block_index, site_at}
+use Rattle.ms_ir.specs.Instructions.{func_index, func_at, blocks_at, insts_at, block_index, site_at}
 use Rattle.ms_runs.specs.Control.{Frame}
 use Rattle.ms_runs.specs.Plain.{Stepped, More, Stop, setting_of, and_then, steps}
 use Rattle.ms_runs.specs.Poisoned.{Poisoned}
@@ -23,12 +23,13 @@ use Rattle.ms_ir.specs.Spots.{spot}
 use Rattle.ms_valid.specs.Uninstrumented.{CanInstrument}
 use Rattle.ms_valid.specs.Valid.{Valid}
 use Rattle.ms_valid.proofs.AtInstructions.{fits_at}
-use Rattle.ms_runs_good.proofs.Starts.{all_get, formed_blocks}
-use Rattle.ms_runs_good.specs.GoodWorlds.{GoodWorld, GivesBytes, AnyOrigin}
-use Rattle.ms_runs_good.specs.GoodRuns.{SoundShadow, LeadsTo}
-use Rattle.ms_runs_good.proofs.MaskRanges.{formulas_keep}
-use Rattle.ms_runs_good.proofs.Sound.{shadow_sound, shadow_keeps}
-use Rattle.ms_runs_good.proofs.Frames.{same_insts}
+use Rattle.ms_valid.proofs.SmallNumbers.{blocks_of}
+use Rattle.ms_good_laws.proofs.Starts.{all_get}
+use Rattle.ms_good_laws.specs.GoodWorlds.{GoodWorld, GivesBytes, AnyOrigin}
+use Rattle.ms_good_laws.specs.GoodRuns.{SoundShadow, LeadsTo}
+use Rattle.ms_good_laws.proofs.MaskRanges.{formulas_keep}
+use Rattle.ms_good_laws.proofs.Sound.{shadow_sound, shadow_keeps}
+use Rattle.ms_good_laws.proofs.Frames.{same_insts, drop_first, unmarked_at}
 use Rattle.ms_tasks.specs.Known.{KnownPhi}
 use Rattle.ms_pass_laws.specs.Pass.{pass}
 use Rattle.ms_pass_laws.specs.Law.{CleanFrames}
@@ -39,17 +40,11 @@ use Rattle.ms_pass_laws.proofs.Apart.{good_apart}
 use Rattle.ms_pass_laws.proofs.NumberedValues.{locals_free, numbers_one, numbers_few}
 use Rattle.ms_pass_laws.proofs.KnownInstructions.{inst_known, call_fits, return_known, reads, name, result_known}
 use Rattle.ms_pass_laws.proofs.RootRanges.{module_roots, site_small, root_small, roots_many}
-use Rattle.ms_pass_laws.proofs.KnownFunctions.{main_params, function_params, function_bodies, unmarked_at, phi_known, list_known, inner_jump}
+use Rattle.ms_pass_laws.proofs.KnownFunctions.{main_params, function_params, function_bodies, phi_known, list_known, inner_jump}
 use Rattle.ms_pass_laws.proofs.Placed.{start_placed}
 use Rattle.ms_pass_laws.proofs.Unmarked.{module_strips}
 
 -- ---- instructions that stand in the module
-
-first_of : (l : List Inst) (p : ℕ) (i : Inst) (is : List Inst) → drop p l ≡ i ∷ is → slice_get l p ≡ Some i
-first_of [] zero i is e = absurd (grind arith)
-first_of [] (suc p) i is e = absurd (grind arith)
-first_of (x ∷ l) zero i is e = ap (λ k. slice_get k 0) e
-first_of (x ∷ l) (suc p) i is e = first_of l p i is e
 
 -- an instruction stands at a place of a function that is defined
 record Standing (m : Module) (n b p : ℕ) (i : Inst) : Type 0 where
@@ -93,7 +88,7 @@ module _ (m : Module) (formed : Formed m) (valid : Valid m) (can : CanInstrument
   pub module_known : (setup : Setup) → KnownModule (setting_of m setup) (numbering m) m
   module_known setup = record {
     known = λ f i is e np.
-        let there = first_of (insts_at m f.func f.block) f.place i is e in
+        let there = drop_first (insts_at m f.func f.block) f.place i is e in
         let s = standing m f.func f.block f.place i there in
         inst_known m formed valid can f.func f.block f.place s.func i s.at there s.due (marks f.func f.block f.place i there) np;
     phis = λ n b. list_known (numbering m n).env (numbering m n).size (insts_at m n b) (insts_known n b (insts_at m n b) refl);
@@ -108,20 +103,20 @@ module _ (m : Module) (formed : Formed m) (valid : Valid m) (can : CanInstrument
     params = function_params m formed valid (λ n f at x h. locals_free m can.plain.free n f at x h);
     bodies = function_bodies m formed valid;
     called = λ f i is e ret callee args same k found.
-        let there = first_of (insts_at m f.func f.block) f.place i is e in
+        let there = drop_first (insts_at m f.func f.block) f.place i is e in
         let s = standing m f.func f.block f.place i there in
         call_fits m formed valid can f.func f.block f.place s.func i s.at there s.due (marks f.func f.block f.place i there) ret callee args same k found;
     returned = λ f i is e v same.
-        let there = first_of (insts_at m f.func f.block) f.place i is e in
+        let there = drop_first (insts_at m f.func f.block) f.place i is e in
         let s = standing m f.func f.block f.place i there in
         return_known m formed valid can f.func f.block f.place s.func i s.at there s.due (marks f.func f.block f.place i there) v same;
     inner = λ f i is e to goes.
-        let there = first_of (insts_at m f.func f.block) f.place i is e in
+        let there = drop_first (insts_at m f.func f.block) f.place i is e in
         let s = standing m f.func f.block f.place i there in
         let blocks : blocks_at m f.func ≡ s.func.blocks = ap (λ o. unwrap_or (option_map (λ (g : Func). g.blocks) o) []) s.at in
         subst (λ (l : List Block). block_index l to ≢ 0) (sym blocks)
         (inner_jump (spot s.func f.block f.place (site_at m f.func f.block f.place)) i.op to (fits_at m valid f.func f.block f.place s.func i s.at there).phis_fit
-        (formed_blocks s.func (all_get func_formed m.funcs f.func s.func formed.functions s.at)).0 goes);
+        (blocks_of s.func (all_get func_formed m.funcs f.func s.func formed.functions s.at)).0 goes);
   }
 
   -- ---- states of runs

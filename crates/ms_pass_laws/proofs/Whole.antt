@@ -12,7 +12,7 @@ use Rattle.ms_ir.specs.declared.syntax.Module.{Module}
 use Rattle.ms_runs.specs.declared.runs.Setup.{Setup}
 use Rattle.ms_ir.specs.Names.{name_eq, is_reserved, main_name}
 use Rattle.ms_runs.specs.World.{Here}
-use Rattle.ms_ir.specs.Code.{func_index, insts_at, over_blocks, over_funcs, one_unmarked, roots_in, strip_block, strip_func, strip}
+use Rattle.ms_ir.specs.Instructions.{func_index, insts_at, over_blocks, over_funcs, one_unmarked, roots_in, strip_block, strip_func, strip}
 use Rattle.ms_runs.specs.Control.{here, params_at}
 use Rattle.ms_runs.specs.Act.{plain_reading}
 use Rattle.ms_runs.specs.Plain.{plain_start, plain_step, run, setting_of, start_world, start_frame, plain}

@@ -12,7 +12,7 @@ use Rattle.ms_ir.specs.declared.syntax.Inst.{Inst}
 use Rattle.ms_ir.specs.declared.syntax.Module.{Module}
 use Rattle.ms_runs.specs.declared.runs.Setup.{Setup}
 use Rattle.ms_runs.specs.World.{Setting}
-use Rattle.ms_ir.specs.Code.{operands, func_index, func_at, blocks_at, block_index, insts_at, root_at, strip, is_phi}
+use Rattle.ms_ir.specs.Instructions.{operands, func_index, func_at, blocks_at, block_index, insts_at, root_at, strip, is_phi}
 use Rattle.ms_runs.specs.Control.{Frame, here, rest_of, params_at}
 use Rattle.ms_ir.specs.Names.{main_name}
 use Rattle.ms_runs.specs.Plain.{More, steps, setting_of, start_world}

@@ -7,7 +7,7 @@ use Rattle.ms_ir.specs.declared.syntax.Func.{Func}
 use Rattle.ms_ir.specs.declared.syntax.Module.{Module}
 use Rattle.ms_ir.specs.Names.{name_eq, main_name}
 use Rattle.ms_runs.specs.World.{Here}
-use Rattle.ms_ir.specs.Code.{func_index, one_unmarked, roots_in, over_blocks, over_insts}
+use Rattle.ms_ir.specs.Instructions.{func_index, one_unmarked, roots_in, over_blocks, over_insts}
 use Rattle.ms_tasks.specs.Tasks.{tasks_code}
 use Rattle.ms_ir.specs.declared.syntax.Name.{Name}
 use Rattle.ms_ir.specs.declared.syntax.Ty.{Ty}

@@ -1,7 +1,7 @@
 //! Laws about whole instrumented modules.
 ghost use Rattle.std.specs.Prelude.{◌≡◌, ℕ};
 ghost use Rattle.ms_ir.specs.declared.syntax.Module.{Module};
-ghost use Rattle.ms_ir.specs.Code.{strip};
+ghost use Rattle.ms_ir.specs.Instructions.{strip};
 ghost use Rattle.ms_runs.specs.declared.runs.Setup.{Setup};
 ghost use Rattle.ms_runs.specs.Faithful.{Faithful};
 ghost use Rattle.ms_runs.specs.Plain.{setting_of};

@@ -20,22 +20,22 @@ use Rattle.ms_ir.specs.declared.syntax.Func.{Func}
 use Rattle.ms_ir.specs.declared.syntax.Module.{Module}
 use Rattle.ms_ir.specs.declared.forms.Form.{Form}
 use Rattle.ms_ir.specs.Locals.{func_insts}
-use Rattle.ms_grammar.specs.declared.refusals.Refusal.{Refusal}
-use Rattle.ms_grammar.specs.declared.symbols.Symbol.{Symbol}
-use Rattle.ms_grammar.specs.declared.symbols.Symbol.TheVariants as s
-use Rattle.ms_grammar.specs.declared.states.Body.{Body}
-use Rattle.ms_grammar.specs.declared.states.Parts.{Parts}
-use Rattle.ms_grammar.specs.Lexemes.{Lexeme, end_of_text, lexeme_of, lexemes_of}
-use Rattle.ms_grammar.specs.Steps.{Rule, binary_op, cast_op}
-use Rattle.ms_grammar.specs.Insts.{Marked}
-use Rattle.ms_grammar.specs.Bodies.{is_open, opened, opened_as, opened_by, line_begins, max_instructions, name_or, with_value, with_effect, with_end, with_call, is_void_call}
-use Rattle.ms_grammar.specs.Bounds.{instructions_among}
-use Rattle.ms_grammar.specs.Functions.{body_behind, function}
-use Rattle.ms_grammar.specs.Lines.{value_line, marked_line, phi_line, call_line, effect_line, end_line, instruction_by, operation_by, instruction, named_line, blocks, is_whole, line, line_by}
-use Rattle.ms_grammar.specs.Modules.{entity, entity_begins, entity_by, instructions_of, module_rule, no_parts}
-use Rattle.ms_grammar.specs.Texts.{HasTokens, Reads, ReadsUpTo}
-use Rattle.ms_grammar.proofs.Bounds.{Kept, KeptParts, record_line_is, line_kept, turns_kept, blocks_end, not_open, few_here, entity_kept}
-use Rattle.ms_grammar.proofs.Readings.{same_tokens}
+use Rattle.ms_text_grammar.specs.declared.refusals.Cause.{Cause}
+use Rattle.ms_text_grammar.specs.declared.symbols.Symbol.{Symbol}
+use Rattle.ms_text_grammar.specs.declared.symbols.Symbol.TheVariants as s
+use Rattle.ms_text_grammar.specs.declared.states.Body.{Body}
+use Rattle.ms_text_grammar.specs.declared.states.Parts.{Parts}
+use Rattle.ms_text_grammar.specs.Lexemes.{Lexeme, end_of_text, lexeme_of, lexemes_of}
+use Rattle.ms_text_grammar.specs.Steps.{Rule, binary_op, cast_op}
+use Rattle.ms_text_grammar.specs.Insts.{Marked}
+use Rattle.ms_text_grammar.specs.Bodies.{is_open, opened, opened_as, opened_by, line_begins, max_instructions, name_or, with_value, with_effect, with_end, with_call, is_void_call}
+use Rattle.ms_text_grammar.specs.Bounds.{instructions_among}
+use Rattle.ms_text_grammar.specs.Functions.{body_behind, function}
+use Rattle.ms_text_grammar.specs.Lines.{value_line, marked_line, phi_line, call_line, effect_line, end_line, instruction_by, operation_by, instruction, named_line, blocks, is_whole, line, line_by}
+use Rattle.ms_text_grammar.specs.Modules.{entity, entity_begins, entity_by, instructions_of, module_rule, no_parts}
+use Rattle.ms_text_grammar.specs.Texts.{HasTokens, Reads, ReadsUpTo}
+use Rattle.ms_text_grammar.proofs.Bounds.{Kept, KeptParts, record_line_is, line_kept, turns_kept, blocks_end, not_open, few_here, entity_kept}
+use Rattle.ms_text_grammar.proofs.Readings.{same_tokens}
 use Rattle.ms_read_cursor.specs.Reading.{front}
 use Rattle.ms_read_body.specs.Headed.{heading}
 use Rattle.ms_read_body.proofs.Suffixes.{IsEnd, reads_end, by_length}
@@ -136,7 +136,7 @@ module _ (a : Body) where
     unfolding end_line
     end_line_adds rule h = subst (Adds a) (sym h.3.0) (end_adds h.0)
 
-    no_value : (e : Refusal) (b : Body) → ◌≡◌ {A = Result Body Refusal} (Err e) (Ok b) → ⊥
+    no_value : (e : Cause) (b : Body) → ◌≡◌ {A = Result Body Cause} (Err e) (Ok b) → ⊥
     no_value e b h = cc
 
     by_word : (result : Option Name) (x : Symbol) → ReadsUpTo (instruction_by form a result x) ts v rest → Adds a v

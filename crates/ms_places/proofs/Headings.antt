@@ -3,11 +3,11 @@ use Rattle.std.proofs.Common.{◌≡◌, ℕ, List, refl, ap}
 use Rattle.ms_ir.specs.declared.syntax.Block.{Block}
 use Rattle.ms_ir.specs.declared.syntax.Func.{Func}
 use Rattle.ms_ir.specs.declared.forms.Form.{Form}
-use Rattle.ms_grammar.specs.declared.states.Parameters.{Parameters}
-use Rattle.ms_grammar.specs.Lexemes.{Lexeme}
-use Rattle.ms_grammar.specs.Functions.{body_behind, function}
-use Rattle.ms_grammar.specs.Lines.{blocks}
-use Rattle.ms_grammar.specs.Texts.{ReadsUpTo}
+use Rattle.ms_text_grammar.specs.declared.states.Parameters.{Parameters}
+use Rattle.ms_text_grammar.specs.Lexemes.{Lexeme}
+use Rattle.ms_text_grammar.specs.Functions.{body_behind, function}
+use Rattle.ms_text_grammar.specs.Lines.{blocks}
+use Rattle.ms_text_grammar.specs.Texts.{ReadsUpTo}
 use Rattle.ms_read_body.specs.Headed.{heading}
 
 pub record Headed (form : Form) (before : ℕ) (ts : List Lexeme) (f : Func) : Type 0 where

@@ -4,15 +4,15 @@ use Rattle.ms_lex.specs.declared.kinds.Token.{Token}
 use Rattle.ms_lex.specs.Tokens.{Text}
 use Rattle.ms_lex.specs.Grammar.{Ends, tail}
 use Rattle.ms_ir.specs.declared.forms.Form.{Form}
-use Rattle.ms_grammar.specs.declared.symbols.Symbol.{Symbol}
-use Rattle.ms_grammar.specs.declared.symbols.Symbol.TheVariants as s
-use Rattle.ms_grammar.specs.declared.states.Body.{Body}
-use Rattle.ms_grammar.specs.declared.states.Parts.{Parts}
-use Rattle.ms_grammar.specs.Lexemes.{Lexeme, lexemes_of}
-use Rattle.ms_grammar.specs.Bodies.{line_begins}
-use Rattle.ms_grammar.specs.Lines.{line}
-use Rattle.ms_grammar.specs.Modules.{entity_begins, entity, no_parts}
-use Rattle.ms_grammar.specs.Texts.{ReadsUpTo}
+use Rattle.ms_text_grammar.specs.declared.symbols.Symbol.{Symbol}
+use Rattle.ms_text_grammar.specs.declared.symbols.Symbol.TheVariants as s
+use Rattle.ms_text_grammar.specs.declared.states.Body.{Body}
+use Rattle.ms_text_grammar.specs.declared.states.Parts.{Parts}
+use Rattle.ms_text_grammar.specs.Lexemes.{Lexeme, lexemes_of}
+use Rattle.ms_text_grammar.specs.Bodies.{line_begins}
+use Rattle.ms_text_grammar.specs.Lines.{line}
+use Rattle.ms_text_grammar.specs.Modules.{entity_begins, entity, no_parts}
+use Rattle.ms_text_grammar.specs.Texts.{ReadsUpTo}
 use Rattle.ms_read_cursor.specs.Reading.{front}
 use Rattle.ms_read_body.specs.Headed.{heading}
 use Rattle.ms_places.specs.declared.marks.Kind.{Kind}

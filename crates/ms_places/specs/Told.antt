@@ -2,7 +2,7 @@
 use Rattle.std.specs.Prelude.{ℕ, List, drop, Option, slice_get}
 use Rattle.ms_lex.specs.declared.kinds.Token.{Token}
 use Rattle.ms_lex.specs.Tokens.{Text}
-use Rattle.ms_grammar.specs.Lexemes.{Lexeme, lexemes_of}
+use Rattle.ms_text_grammar.specs.Lexemes.{Lexeme, lexemes_of}
 use Rattle.ms_read_cursor.specs.Reading.{front}
 use Rattle.ms_places.specs.declared.marks.Mark.{Mark}
 

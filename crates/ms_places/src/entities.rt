@@ -4,25 +4,25 @@ ghost use Rattle.std.specs.Prelude.{◌≡◌, ◌≤◌, ◌<◌, ◌^◌, IfEr
 ghost use Rattle.ms_lex.specs.Grammar.{Ends, done, loop, tail};
 ghost use Rattle.ms_lex.specs.Tokens.{InOrder};
 ghost use Rattle.ms_ir.specs.declared.syntax.Module.{Module as Found};
-ghost use Rattle.ms_grammar.specs.Bodies.{max_instructions};
-ghost use Rattle.ms_grammar.specs.Functions as functions;
-ghost use Rattle.ms_grammar.specs.Modules as modules;
-ghost use Rattle.ms_grammar.specs.Texts.{HasTokens, Reads};
+ghost use Rattle.ms_text_grammar.specs.Bodies.{max_instructions};
+ghost use Rattle.ms_text_grammar.specs.Functions as functions;
+ghost use Rattle.ms_text_grammar.specs.Modules as modules;
+ghost use Rattle.ms_text_grammar.specs.Texts.{HasTokens, Reads};
 ghost use Rattle.ms_read_cursor.specs.Reading.{Judges, front, run};
 ghost use Rattle.ms_places.specs.Failures.{OnlyMemory};
 ghost use Rattle.ms_places.specs.Marks as spec;
 
 use crate::inside::function_lines;
 use crate::marks::{Mark, entity_kind, place, push_mark};
-use ms_grammar::{Parts, Refusal, Symbol};
 use ms_ir::Form;
 use ms_lex::Token;
 use ms_read_cursor::Tokens;
 use ms_read_top::{entity, entity_begins, no_parts};
+use ms_text_grammar::{Cause, Parts, Symbol};
 use std::alloc::Global;
 
 /// Whether the next token begins an entity.
-fn begins(alloc: Global, tokens: &Tokens<'_>, form: Form, parts: &Parts) -> Result<bool, Refusal>
+fn begins(alloc: Global, tokens: &Tokens<'_>, form: Form, parts: &Parts) -> Result<bool, Cause>
     ensures { Judges (modules.entity_begins form parts.now (front tokens.now)) result }
 {
     entity_begins(alloc, form, parts, &tokens.lexeme())
@@ -38,7 +38,7 @@ fn inner_lines(
     before: u32,
     symbol: Symbol,
     found: &mut Vec<Mark>,
-) -> Result<(), Refusal>
+) -> Result<(), Cause>
     requires { total < 2 ^ 32 }
     ensures told { IfOk result (λ _. spec.InnerAdds symbol form total before tokens.now found.old.items found.new.items) }
     ensures only_functions { IsErr result → symbol ≡ Symbol.Define }
@@ -63,7 +63,7 @@ fn one_entity(
     form: Form,
     parts: &mut Parts,
     found: &mut Vec<Mark>,
-) -> Result<(), Refusal>
+) -> Result<(), Cause>
     requires few { total < 2 ^ 32 }
     requires count { parts.old.count ≤ max_instructions form }
     requires begins { modules.entity_begins form parts.old (front tokens.old) ≡ Ok true }
@@ -98,7 +98,7 @@ fn all_entities(
     form: Form,
     parts: &mut Parts,
     found: &mut Vec<Mark>,
-) -> Result<(), Refusal>
+) -> Result<(), Cause>
     requires few { total < 2 ^ 32 }
     requires count { parts.old.count ≤ max_instructions form }
     ensures told { IfOk result (λ _. spec.EntitiesAdd form total parts.old tokens.old parts.new tokens.new found.old.items found.new.items) }
@@ -121,18 +121,18 @@ fn all_entities(
 /// # Errors
 ///
 /// - `NoMemory` when memory runs out. Of a text that reads as a module in this form there is no other error.
-/// - Of a text that doesn't read so, any `Refusal`.
+/// - Of a text that doesn't read so, any `Cause`.
 #[tactic(auto, using(crate::proofs::Growing::all_marks, crate::proofs::Memory::module_not_read))]
 pub fn marks_in(
     alloc: Global,
     text: &[u8],
     tokens: &[Token],
     form: Form,
-) -> Result<Vec<Mark>, Refusal>
+) -> Result<Vec<Mark>, Cause>
     requires few { length tokens.now < 2 ^ 32 }
     requires in_order { InOrder tokens.now (length text.now) }
     ensures marks { IfOk result (λ found. spec.AreMarks form text.now tokens.now found.items) }
-    ensures only_memory { IfErr result (λ cause. (m : Found) → Reads form text.now m → HasTokens form text.now tokens.now → cause ≡ Refusal.NoMemory) }
+    ensures only_memory { IfErr result (λ cause. (m : Found) → Reads form text.now m → HasTokens form text.now tokens.now → cause ≡ Cause.NoMemory) }
 {
     let mut cursor = Tokens::at(text, tokens, 0);
     let mut parts = no_parts(alloc);

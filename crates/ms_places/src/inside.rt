@@ -2,22 +2,22 @@
 
 ghost use Rattle.std.specs.Prelude.{◌≡◌, ◌++◌, ◌<◌, ◌^◌, IfErr, IfOk, Ok, true};
 ghost use Rattle.ms_lex.specs.Grammar.{Ends, done, loop, tail};
-ghost use Rattle.ms_grammar.specs.Bodies as bodies;
-ghost use Rattle.ms_grammar.specs.Functions as functions;
-ghost use Rattle.ms_grammar.specs.Lines as lines;
+ghost use Rattle.ms_text_grammar.specs.Bodies as bodies;
+ghost use Rattle.ms_text_grammar.specs.Functions as functions;
+ghost use Rattle.ms_text_grammar.specs.Lines as lines;
 ghost use Rattle.ms_read_cursor.specs.Reading.{Judges, Leaves, front, run};
 ghost use Rattle.ms_places.specs.Failures.{OnlyMemory};
 ghost use Rattle.ms_places.specs.Marks as spec;
 
 use crate::marks::{Mark, line_kind, place, push_mark};
-use ms_grammar::{Body, Refusal};
 use ms_ir::Form;
 use ms_read_body::{heading, line, line_begins};
 use ms_read_cursor::{Lexeme, Tokens};
+use ms_text_grammar::{Body, Cause};
 use std::alloc::Global;
 
 /// Whether the next token begins a line.
-fn begins(alloc: Global, tokens: &Tokens<'_>, form: Form, body: &Body) -> Result<bool, Refusal>
+fn begins(alloc: Global, tokens: &Tokens<'_>, form: Form, body: &Body) -> Result<bool, Cause>
     ensures { Judges (bodies.line_begins form body.now (front tokens.now)) result }
 {
     line_begins(alloc, form, body, &tokens.lexeme())
@@ -31,7 +31,7 @@ fn read_line(
     form: Form,
     body: &mut Body,
     first: &Lexeme<'_>,
-) -> Result<(), Refusal>
+) -> Result<(), Cause>
     requires { bodies.line_begins form body.old first.now ≡ Ok true }
     ensures { Leaves (run (lines.line form body.old first.now) tokens.old) result body.new tokens.new }
 {
@@ -47,7 +47,7 @@ fn one_line(
     form: Form,
     body: &mut Body,
     found: &mut Vec<Mark>,
-) -> Result<(), Refusal>
+) -> Result<(), Cause>
     requires few { total < 2 ^ 32 }
     requires begins { bodies.line_begins form body.old (front tokens.old) ≡ Ok true }
     ensures read { IfOk result (λ _. run (lines.line form body.old (front tokens.old)) (tail tokens.old) ≡ done body.new tokens.new) }
@@ -71,7 +71,7 @@ fn all_lines(
     form: Form,
     body: &mut Body,
     found: &mut Vec<Mark>,
-) -> Result<(), Refusal>
+) -> Result<(), Cause>
     requires { total < 2 ^ 32 }
     ensures told { IfOk result (λ _. spec.LinesAdd form total body.old tokens.old body.new tokens.new found.old.items found.new.items) }
     ensures ends { IfOk result (λ _. Ends (bodies.line_begins form) body.new tokens.new) }
@@ -96,7 +96,7 @@ pub fn function_lines(
     form: Form,
     before: u32,
     found: &mut Vec<Mark>,
-) -> Result<(), Refusal>
+) -> Result<(), Cause>
     requires { total < 2 ^ 32 }
     ensures told { IfOk result (λ _. spec.FunctionAdds form total before tokens.old found.old.items found.new.items) }
     ensures only_memory { IfErr result (λ cause. OnlyMemory (functions.function form before) tokens.old cause) }

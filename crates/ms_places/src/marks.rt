@@ -4,8 +4,8 @@ ghost use Rattle.std.specs.Prelude.{◌≡◌, ◌++◌, ◌<◌, ◌-◌, ◌^�
 ghost use Rattle.ms_places.specs.Marks as spec;
 
 use ms_bits::NoMemory;
-use ms_grammar::Symbol;
 use ms_read_cursor::Tokens;
+use ms_text_grammar::Symbol;
 
 /// What marked tokens are.
 #[derive(Clone, Copy, Debug, PartialEq, Eq)]

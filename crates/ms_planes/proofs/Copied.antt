@@ -4,7 +4,7 @@ use Rattle.std.proofs.Math.Path.{fun_ext}
 use Rattle.std.proofs.lemmas.Bool.{cases_eq, cases_lt, eq-eqb, ne_eqb}
 use Rattle.std.proofs.lemmas.List.{length-append, length-take-le, length-drop, length-set, get_or_append_left, get_or-append_right, get_or-take, get_or-drop, get_or-set_same, get_or-set_other}
 use Rattle.ms_alloc.specs.declared.allocations.Allocation.{Allocation}
-use Rattle.ms_alloc.specs.declared.allocations.Place.{Place}
+use Rattle.ms_alloc.specs.declared.allocations.TablePlace.{TablePlace}
 use Rattle.ms_alloc.specs.declared.kinds.AllocKind.{AllocKind}
 use Rattle.ms_alloc.specs.Allocations.{Allocations, covers, of_kind}
 use Rattle.ms_alloc.specs.Only.{IsOnly}
@@ -113,7 +113,7 @@ pub copied-whole : (part : Part) (was src l : Lists) (to from n size : ℕ) → 
 copied-whole Bytes was src l to from n size c whole = record { bytes = c.len ∙ whole.bytes; shadow = ap (λ (xs : List ℕ). length xs) c.rest ∙ whole.shadow; origins = c.cells ∙ whole.origins }
 copied-whole Shadow was src l to from n size c whole = record { bytes = ap (λ (xs : List ℕ). length xs) c.rest ∙ whole.bytes; shadow = c.len ∙ whole.shadow; origins = c.cells ∙ whole.origins }
 
-cells-moved : (part : Part) (m : Memory) (to from n : ℕ) (p q : Place) (was src : Lists) (s : Stands m to n p was) (r : Stands m from n q src) (l : Lists) → IsMemory m → 0 < n → IsLists s.entry.size l →
+cells-moved : (part : Part) (m : Memory) (to from n : ℕ) (p q : TablePlace) (was src : Lists) (s : Stands m to n p was) (r : Stands m from n q src) (l : Lists) → IsMemory m → 0 < n → IsLists s.entry.size l →
     OriginsCopied part was src l (to - p.base) (from - q.base) n → CellsCopied part m (with_block m p.kind p.index (Some l)) to from n
 cells-moved Bytes m to from n p q was src s r l is some whole change =
     fun_ext (λ c. shown-same (λ w o. held w.origins (o / 4)) m to n p was s l (4 * c) is whole (λ o. ap (λ (xs : List ℕ). held xs (o / 4)) change))
@@ -159,7 +159,7 @@ pub record CopyDone (part : Part) (m m' : Memory) (to from n : ℕ) : Type 0 whe
   pub memory : IsMemory m'
   pub maps : MapsCopied part m m' to from n
 
-pub copy-done : (part : Part) (m : Memory) (to from n : ℕ) (p q : Place) (was src : Lists) (s : Stands m to n p was) (r : Stands m from n q src) (l : Lists) → IsMemory m → 0 < n →
+pub copy-done : (part : Part) (m : Memory) (to from n : ℕ) (p q : TablePlace) (was src : Lists) (s : Stands m to n p was) (r : Stands m from n q src) (l : Lists) → IsMemory m → 0 < n →
     IsCopied part was src l (to - p.base) (from - q.base) n → CopyDone part m (with_block m p.kind p.index (Some l)) to from n
 copy-done part m to from n p q was src s r l is some c =
     let whole : IsLists s.entry.size l = copied-whole part was src l (to - p.base) (from - q.base) n s.entry.size c s.whole in
@@ -254,7 +254,7 @@ filled-some part was None at n v h = absurd h
 filled-some part was (Some l) at n v h = (l, refl, h)
 
 -- two places of one index are one
-pub place-same : (t : Allocations) (p q : Place) (to from n : ℕ) → IsPlace p.kind (of_kind p.kind t) to n p → IsPlace q.kind (of_kind q.kind t) from n q → area_index p.kind ≡ area_index q.kind → p.index ≡ q.index →
+pub place-same : (t : Allocations) (p q : TablePlace) (to from n : ℕ) → IsPlace p.kind (of_kind p.kind t) to n p → IsPlace q.kind (of_kind q.kind t) from n q → area_index p.kind ≡ area_index q.kind → p.index ≡ q.index →
     IsPlace p.kind (of_kind p.kind t) from n p
 place-same t p q to from n here there kinds index =
     let same : q.kind ≡ p.kind = sym (index-same p.kind q.kind kinds) in

@@ -5,7 +5,7 @@ use Rattle.std.proofs.lemmas.Bool.{cases_Bool, cases_lt, and_parts, leb-true, le
 use Rattle.ms_alloc.specs.declared.kinds.AllocKind.{AllocKind}
 use Rattle.ms_alloc.specs.declared.allocations.Allocation.{Allocation}
 use Rattle.ms_alloc.specs.Layout.{room}
-use Rattle.ms_alloc.specs.Allocations.{IsRow, covers, is_block}
+use Rattle.ms_alloc.specs.Allocations.{IsRow, covers}
 use Rattle.ms_alloc.proofs.Rows.{row-from, size-le}
 use Rattle.ms_alloc.proofs.Places.{covers-before}
 use Rattle.ms_raw.specs.Blocks.{Lists, IsLists}
@@ -137,10 +137,6 @@ found-before f k b mark (a ∷ xs) (x ∷ bs) addr row kept has = ⊎_elim
   where
     rest : List Allocation
     rest = filter (λ y. not (leb mark y.base)) xs
-
--- the end of a block
-abbrev pub ended : ℕ → Allocation → Allocation
-ended base a = if is_block base a then record a { live = false } else a
 
 pub row-even : (k : AllocKind) (b : ℕ) (xs : List Allocation) (i : ℕ) (d : Allocation) → IsRow k b xs → b % 16 ≡ 0 → i < length xs → (get_or xs i d).base % 16 ≡ 0
 row-even k b [] i d row even lt = absurd (omega arith)

@@ -7,7 +7,7 @@ use Rattle.std.proofs.lemmas.List.Folds.{find-append}
 use Rattle.ms_alloc.specs.declared.kinds.AllocKind.{AllocKind}
 use Rattle.ms_alloc.specs.declared.kinds.AllocKind.TheVariants.{Fixed, Heap, Stack}
 use Rattle.ms_alloc.specs.declared.allocations.Allocation.{Allocation}
-use Rattle.ms_alloc.specs.declared.allocations.Place.{Place}
+use Rattle.ms_alloc.specs.declared.allocations.TablePlace.{TablePlace}
 use Rattle.ms_alloc.specs.Allocations.{Allocations, listed, of_kind, covers, is_good}
 use Rattle.ms_alloc.specs.Places.{IsPlace}
 use Rattle.ms_alloc.proofs.Searches.{find-at}
@@ -34,7 +34,7 @@ found-listed Stack t addr n a e =
     ap is_some (find-append (covers addr n) (t.fixed ++ t.heap) t.stack)
     ∙ some-or (find (covers addr n) (t.fixed ++ t.heap)) (find (covers addr n) t.stack) (ap is_some e)
 
-pub placed-good : (p : Place) (t : Allocations) (addr n : ℕ) → 0 < n → IsPlace p.kind (of_kind p.kind t) addr n p → is_good addr n t ≡ true
+pub placed-good : (p : TablePlace) (t : Allocations) (addr n : ℕ) → 0 < n → IsPlace p.kind (of_kind p.kind t) addr n p → is_good addr n t ≡ true
 placed-good p t addr n some is =
     ap (λ (b : Bool). b || is_some (find (covers addr n) (listed t))) (ne_eqb n 0 (λ e. omega arith))
     ∙ found-listed p.kind t addr n _ (find-at (covers addr n) (of_kind p.kind t) p.index (record { base = 0; size = 0; kind = p.kind; live = false }) is.only)

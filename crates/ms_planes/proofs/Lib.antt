@@ -12,3 +12,4 @@ pub mod Histories
 pub mod Copied
 pub mod Good
 pub mod Cells
+pub mod Places

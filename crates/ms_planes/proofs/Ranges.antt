@@ -83,14 +83,6 @@ splice len at n k d w r lw kn inside le =
     tail : (x : ℕ) → at ≤ x → held whole x ≡ held (w ++ drop k (drop at d)) (x - at)
     tail x l = get_or-append_right (take at d) (w ++ drop k (drop at d)) at x 0 front l
 
--- zeros past the end of a list are what it holds there
-pub held-zeros : (xs zs : List ℕ) → ((k : ℕ) → held zs k ≡ 0) → held (xs ++ zs) ≡ held xs
-held-zeros xs zs none =
-    fun_ext (λ k. ⊎_elim
-    (λ (l : k < length xs). get_or_append_left xs zs 0 k l)
-    (λ (l : length xs ≤ k). get_or-append_right xs zs (length xs) k 0 refl l ∙ none (k - length xs) ∙ sym (get_or_past xs k 0 l))
-    (cases_lt k (length xs)))
-
 -- what stands in a range counts alone
 pub range-same : (f g h : ℕ → ℕ) (a n : ℕ) → ((k : ℕ) → k < n → g k ≡ h k) → with_range f a n g ≡ with_range f a n h
 range-same f g h a n same =
@@ -183,11 +175,6 @@ copy-clean shadow old f t s (suc n) clean =
     let first : shadow s ≡ 0 = ap shadow (let e : s ≡ s + 0 = omega arith in e) ∙ clean 0 (omega arith) in
     ap (λ b. copied_cells shadow old (t + 1) (s + 1) n (if b then f else with_cell f t (old (s / 4)))) (eq-eqb (shadow s) 0 first)
     ∙ copy-clean shadow old f (t + 1) (s + 1) n (λ k l. ap shadow (let e : s + 1 + k ≡ s + suc k = omega arith in e) ∙ clean (suc k) (omega (arith, l)))
-
--- a map that differs in a range alone
-pub range-outside : (f h : ℕ → ℕ) (a n : ℕ) → ((x : ℕ) → x < a → h x ≡ f x) → ((x : ℕ) → a + n ≤ x → h x ≡ f x) → h ≡ with_range f a n (λ k. h (a + k))
-range-outside f h a n low high =
-    range-is f (λ k. h (a + k)) h a n low high (λ x p q. ap h (let e : x ≡ a + (x - a) = omega arith in e))
 
 one-cell : (b : Bool) (f : ℕ → ℕ) (t v x : ℕ) → x ≢ t / 4 → (if b then f else with_cell f t v) x ≡ f x
 one-cell true f t v x other = refl

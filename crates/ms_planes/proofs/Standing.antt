@@ -9,7 +9,7 @@ use Rattle.std.proofs.lemmas.List.{get_or-set_same, get_or-set_other, get_or_def
 use Rattle.ms_alloc.specs.declared.kinds.AllocKind.{AllocKind}
 use Rattle.ms_alloc.specs.declared.kinds.AllocKind.TheVariants.{Fixed, Heap, Stack}
 use Rattle.ms_alloc.specs.declared.allocations.Allocation.{Allocation}
-use Rattle.ms_alloc.specs.declared.allocations.Place.{Place}
+use Rattle.ms_alloc.specs.declared.allocations.TablePlace.{TablePlace}
 use Rattle.ms_alloc.specs.Layout.{room, area_base, area_limit}
 use Rattle.ms_alloc.specs.Allocations.{Allocations, IsArea, IsLaidOut, of_kind, covers}
 use Rattle.ms_alloc.specs.Places.{IsPlace}
@@ -122,7 +122,7 @@ shown-other f m k i d y x is lt has = ⊎_elim
     (cases_eq (area_index (kind_of x)) (area_index k))
 
 -- what is known of a place that has a range
-pub record Stands (m : Memory) (addr n : ℕ) (p : Place) (live : Lists) : Type 0 where
+pub record Stands (m : Memory) (addr n : ℕ) (p : TablePlace) (live : Lists) : Type 0 where
   pub entry : Allocation
   pub inside_table : p.index < length (of_kind p.kind m.table)
   pub entry_is : (d : Allocation) → get_or (of_kind p.kind m.table) p.index d ≡ entry
@@ -142,7 +142,7 @@ base-top Fixed = omega arith
 base-top Heap = omega arith
 base-top Stack = omega arith
 
-pub stands : (m : Memory) (addr n : ℕ) (p : Place) → IsMemory m → IsPlace p.kind (of_kind p.kind m.table) addr n p → (live : Lists) × Stands m addr n p live
+pub stands : (m : Memory) (addr n : ℕ) (p : TablePlace) → IsMemory m → IsPlace p.kind (of_kind p.kind m.table) addr n p → (live : Lists) × Stands m addr n p live
 stands m addr n p is place =
     let d : Allocation = record { base = 0; size = 0; kind = p.kind; live = false } in
     let xs : List Allocation = of_kind p.kind m.table in
@@ -172,18 +172,15 @@ stands m addr n p is place =
 pub covers-one : (a : Allocation) (x : ℕ) → a.live ≡ true → a.base ≤ x → x < a.base + a.size → covers x 1 a ≡ true
 covers-one a x live low high = and_from _ _ (and_from _ _ live (le-leb a.base x low)) (le-leb (x + 1) (a.base + a.size) (omega (arith, high)))
 
-pub covered-at : (m : Memory) (addr n : ℕ) (p : Place) (was : Lists) (s : Stands m addr n p was) (x : ℕ) → s.entry.base ≤ x → x < s.entry.base + s.entry.size → covers x 1 (get_or (of_kind p.kind m.table) p.index s.entry) ≡ true
-covered-at m addr n p was s x low high = ap (covers x 1) (s.entry_is s.entry) ∙ covers-one s.entry x s.alive low high
-
 -- an address of the allocation reads its block
-pub shown-in : (f : Lists → ℕ → ℕ) (m : Memory) (addr n : ℕ) (p : Place) (was : Lists) (s : Stands m addr n p was) (x : ℕ) → IsMemory m → covers x 1 s.entry ≡ true → shown f m x ≡ f was (x - p.base)
+pub shown-in : (f : Lists → ℕ → ℕ) (m : Memory) (addr n : ℕ) (p : TablePlace) (was : Lists) (s : Stands m addr n p was) (x : ℕ) → IsMemory m → covers x 1 s.entry ≡ true → shown f m x ≡ f was (x - p.base)
 shown-in f m addr n p was s x is has =
     shown-at f m p.kind p.index s.entry x is s.inside_table (ap (covers x 1) (s.entry_is s.entry) ∙ has)
     ∙ ap (λ (b : Option Lists). read f b (x - (get_or (of_kind p.kind m.table) p.index s.entry).base)) s.block
     ∙ ap (λ (b : ℕ). f was (x - b)) (ap (λ (a : Allocation). a.base) (s.entry_is s.entry) ∙ sym s.base_is)
 
 -- and after a change the changed block
-pub shown-now : (f : Lists → ℕ → ℕ) (m : Memory) (addr n : ℕ) (p : Place) (was : Lists) (s : Stands m addr n p was) (l : Lists) (x : ℕ) → IsMemory m → IsLists s.entry.size l → covers x 1 s.entry ≡ true →
+pub shown-now : (f : Lists → ℕ → ℕ) (m : Memory) (addr n : ℕ) (p : TablePlace) (was : Lists) (s : Stands m addr n p was) (l : Lists) (x : ℕ) → IsMemory m → IsLists s.entry.size l → covers x 1 s.entry ≡ true →
     shown f (with_block m p.kind p.index (Some l)) x ≡ f l (x - p.base)
 shown-now f m addr n p was s l x is whole has =
     shown-at f (with_block m p.kind p.index (Some l)) p.kind p.index s.entry x (memory-put m p.kind p.index s.entry (Some l) is s.inside_table (subst (λ (a : Allocation). IsBlockOf a (Some l)) (sym (s.entry_is s.entry)) (s.alive, whole))) s.inside_table (ap (covers x 1) (s.entry_is s.entry) ∙ has)
@@ -191,12 +188,12 @@ shown-now f m addr n p was s l x is whole has =
     (ap (λ (bs : List (Option Lists)). get_or bs p.index None) (row-same m p.kind p.index (Some l) is.three) ∙ get_or-set_same (get_or m.blocks (area_index p.kind) []) p.index (Some l) None s.within_row)
     ∙ ap (λ (b : ℕ). f l (x - b)) (ap (λ (a : Allocation). a.base) (s.entry_is s.entry) ∙ sym s.base_is)
 
-pub shown-else : (f : Lists → ℕ → ℕ) (m : Memory) (addr n : ℕ) (p : Place) (was : Lists) (s : Stands m addr n p was) (l : Lists) (x : ℕ) → IsMemory m → covers x 1 s.entry ≡ false →
+pub shown-else : (f : Lists → ℕ → ℕ) (m : Memory) (addr n : ℕ) (p : TablePlace) (was : Lists) (s : Stands m addr n p was) (l : Lists) (x : ℕ) → IsMemory m → covers x 1 s.entry ≡ false →
     shown f (with_block m p.kind p.index (Some l)) x ≡ shown f m x
 shown-else f m addr n p was s l x is has = shown-other f m p.kind p.index s.entry (Some l) x is s.inside_table (ap (covers x 1) (s.entry_is s.entry) ∙ has)
 
 -- a change that a map describes by address
-pub shown-is : (f : Lists → ℕ → ℕ) (m : Memory) (addr n : ℕ) (p : Place) (was : Lists) (s : Stands m addr n p was) (l : Lists) (g : ℕ → ℕ) (x : ℕ) → IsMemory m → IsLists s.entry.size l →
+pub shown-is : (f : Lists → ℕ → ℕ) (m : Memory) (addr n : ℕ) (p : TablePlace) (was : Lists) (s : Stands m addr n p was) (l : Lists) (g : ℕ → ℕ) (x : ℕ) → IsMemory m → IsLists s.entry.size l →
     (covers x 1 s.entry ≡ true → f l (x - p.base) ≡ g x) → (covers x 1 s.entry ≡ false → shown f m x ≡ g x) → shown f (with_block m p.kind p.index (Some l)) x ≡ g x
 shown-is f m addr n p was s l g x is whole has none = ⊎_elim
     (λ (h : covers x 1 s.entry ≡ true). shown-now f m addr n p was s l x is whole h ∙ has h)
@@ -204,13 +201,13 @@ shown-is f m addr n p was s l g x is whole has none = ⊎_elim
     (cases_Bool (covers x 1 s.entry))
 
 -- what stays in the block stays in the memory
-pub shown-same : (f : Lists → ℕ → ℕ) (m : Memory) (addr n : ℕ) (p : Place) (was : Lists) (s : Stands m addr n p was) (l : Lists) (x : ℕ) → IsMemory m → IsLists s.entry.size l → ((o : ℕ) → f l o ≡ f was o) →
+pub shown-same : (f : Lists → ℕ → ℕ) (m : Memory) (addr n : ℕ) (p : TablePlace) (was : Lists) (s : Stands m addr n p was) (l : Lists) (x : ℕ) → IsMemory m → IsLists s.entry.size l → ((o : ℕ) → f l o ≡ f was o) →
     shown f (with_block m p.kind p.index (Some l)) x ≡ shown f m x
 shown-same f m addr n p was s l x is whole same =
     shown-is f m addr n p was s l (shown f m) x is whole (λ h. same (x - p.base) ∙ sym (shown-in f m addr n p was s x is h)) (λ h. refl)
 
 -- a range that is written
-pub shown-range : (f : Lists → ℕ → ℕ) (m : Memory) (addr n : ℕ) (p : Place) (was : Lists) (s : Stands m addr n p was) (l : Lists) (g : ℕ → ℕ) → IsMemory m → IsLists s.entry.size l →
+pub shown-range : (f : Lists → ℕ → ℕ) (m : Memory) (addr n : ℕ) (p : TablePlace) (was : Lists) (s : Stands m addr n p was) (l : Lists) (g : ℕ → ℕ) → IsMemory m → IsLists s.entry.size l →
     f l ≡ with_range (f was) (addr - p.base) n g → shown f (with_block m p.kind p.index (Some l)) ≡ with_range (shown f m) addr n g
 shown-range f m addr n p was s l g is whole change =
     range-is (shown f m) g (shown f (with_block m p.kind p.index (Some l))) addr n
@@ -246,7 +243,7 @@ pub record PartWritten (part : Part) (m m' : Memory) (addr n : ℕ) (g : ℕ →
   pub rest_is : part_of (other part) m' ≡ part_of (other part) m
   pub origins_is : origins_of m' ≡ origins_of m
 
-pub part-written : (part : Part) (m : Memory) (addr n : ℕ) (g : ℕ → ℕ) (p : Place) (was : Lists) (s : Stands m addr n p was) (l : Lists) → IsMemory m → KeepsOthers part was l →
+pub part-written : (part : Part) (m : Memory) (addr n : ℕ) (g : ℕ → ℕ) (p : TablePlace) (was : Lists) (s : Stands m addr n p was) (l : Lists) → IsMemory m → KeepsOthers part was l →
     held (bytes_in part l) ≡ with_range (held (bytes_in part was)) (addr - p.base) n g → PartWritten part m (with_block m p.kind p.index (Some l)) addr n g
 part-written part m addr n g p was s l is kept change =
     let whole : IsLists s.entry.size l = kept-whole part was l s.entry.size kept s.whole in
@@ -268,12 +265,12 @@ row-long vs j a i d at low lt =
     omega (arith, (get_or vs j d).ok.0, ap (λ (bs : List (Option Lists)). length bs) (ap (λ (k : ℕ). (get_or vs k d).items) at ∙ vector-at vs a d low), lt)
 
 -- the block that the code found
-pub held-block : (m : Memory) (addr n : ℕ) (p : Place) (was : Lists) (s : Stands m addr n p was) (b : Lists) → get_or (get_or m.blocks (area_index p.kind) []) p.index None ≡ Some b → Stands m addr n p b
+pub held-block : (m : Memory) (addr n : ℕ) (p : TablePlace) (was : Lists) (s : Stands m addr n p was) (b : Lists) → get_or (get_or m.blocks (area_index p.kind) []) p.index None ≡ Some b → Stands m addr n p b
 held-block m addr n p was s b is =
     let same : was ≡ b = (let e = sym s.block ∙ is in cc) in
     subst (Stands m addr n p) same s
 
-pub never-none : (m : Memory) (addr n : ℕ) (p : Place) (was : Lists) → Stands m addr n p was → get_or (get_or m.blocks (area_index p.kind) []) p.index None ≡ None → ⊥
+pub never-none : (m : Memory) (addr n : ℕ) (p : TablePlace) (was : Lists) → Stands m addr n p was → get_or (get_or m.blocks (area_index p.kind) []) p.index None ≡ None → ⊥
 never-none m addr n p was s is = let e = sym s.block ∙ is in cc
 
 -- origins that change
@@ -283,13 +280,13 @@ pub record CellsWritten (m m' : Memory) (F : ℕ → ℕ) : Type 0 where
   pub shadow_is : shadow_of m' ≡ shadow_of m
   pub origins_is : origins_of m' ≡ F
 
-pub cell-place : (m : Memory) (addr n : ℕ) (p : Place) (was : Lists) (s : Stands m addr n p was) (c : ℕ) → covers (4 * c) 1 s.entry ≡ true → (4 * c - p.base) / 4 ≡ c - p.base / 4
+pub cell-place : (m : Memory) (addr n : ℕ) (p : TablePlace) (was : Lists) (s : Stands m addr n p was) (c : ℕ) → covers (4 * c) 1 s.entry ≡ true → (4 * c - p.base) / 4 ≡ c - p.base / 4
 cell-place m addr n p was s c has = let w = inside (4 * c) 1 s.entry has in omega (arith, w.low, s.base_is, s.even)
 
-pub cell-in : (m : Memory) (addr n : ℕ) (p : Place) (was : Lists) (s : Stands m addr n p was) (c : ℕ) → IsMemory m → covers (4 * c) 1 s.entry ≡ true → origins_of m c ≡ held was.origins (c - p.base / 4)
+pub cell-in : (m : Memory) (addr n : ℕ) (p : TablePlace) (was : Lists) (s : Stands m addr n p was) (c : ℕ) → IsMemory m → covers (4 * c) 1 s.entry ≡ true → origins_of m c ≡ held was.origins (c - p.base / 4)
 cell-in m addr n p was s c is has = shown-in (λ w o. held w.origins (o / 4)) m addr n p was s (4 * c) is has ∙ ap (held was.origins) (cell-place m addr n p was s c has)
 
-pub origins-are : (m : Memory) (addr n : ℕ) (p : Place) (was : Lists) (s : Stands m addr n p was) (l : Lists) (F : ℕ → ℕ) → IsMemory m → IsLists s.entry.size l →
+pub origins-are : (m : Memory) (addr n : ℕ) (p : TablePlace) (was : Lists) (s : Stands m addr n p was) (l : Lists) (F : ℕ → ℕ) → IsMemory m → IsLists s.entry.size l →
     ((c : ℕ) → covers (4 * c) 1 s.entry ≡ true → held l.origins (c - p.base / 4) ≡ F c) → ((c : ℕ) → covers (4 * c) 1 s.entry ≡ false → origins_of m c ≡ F c) →
     origins_of (with_block m p.kind p.index (Some l)) ≡ F
 origins-are m addr n p was s l F is whole has none =
@@ -299,10 +296,10 @@ origins-are m addr n p was s l F is whole has none =
     (cases_Bool (covers (4 * c) 1 s.entry)))
 
 -- a cell that a range touches is one of the allocation
-pub touched : (m : Memory) (addr n : ℕ) (p : Place) (was : Lists) (s : Stands m addr n p was) (c : ℕ) → 0 < n → addr / 4 ≤ c → c ≤ (addr + n - 1) / 4 → covers (4 * c) 1 s.entry ≡ true
+pub touched : (m : Memory) (addr n : ℕ) (p : TablePlace) (was : Lists) (s : Stands m addr n p was) (c : ℕ) → 0 < n → addr / 4 ≤ c → c ≤ (addr + n - 1) / 4 → covers (4 * c) 1 s.entry ≡ true
 touched m addr n p was s c some low high = covers-one s.entry (4 * c) s.alive (omega (arith, low, s.low, s.even)) (omega (arith, high, s.high, some))
 
-pub cells-written : (m : Memory) (addr n origin : ℕ) (p : Place) (was : Lists) (s : Stands m addr n p was) (l : Lists) (at count : ℕ) → IsMemory m → 0 < n → l.bytes ≡ was.bytes → l.shadow ≡ was.shadow → length l.origins ≡ length was.origins →
+pub cells-written : (m : Memory) (addr n origin : ℕ) (p : TablePlace) (was : Lists) (s : Stands m addr n p was) (l : Lists) (at count : ℕ) → IsMemory m → 0 < n → l.bytes ≡ was.bytes → l.shadow ≡ was.shadow → length l.origins ≡ length was.origins →
     at ≡ addr - p.base → count ≡ (at + (n - 1)) / 4 - at / 4 + 1 → held l.origins ≡ with_range (held was.origins) (at / 4) count (λ k. origin) →
     CellsWritten m (with_block m p.kind p.index (Some l)) (with_cells (origins_of m) addr n origin)
 cells-written m addr n origin p was s l at count is some bytes shadow len at_is count_is change =

@@ -1,5 +1,5 @@
 -- The two lists of bytes of a block.
-use Rattle.std.specs.Prelude.{◌≡◌, ◌+◌, ℕ, List, length, Option, Some, None}
+use Rattle.std.specs.Prelude.{◌≡◌, ◌+◌, ◌/◌, ◌%◌, ℕ, List, length, set, Option, Some, None}
 use Rattle.ms_bits.specs.Maps.{with_range, copied_cells}
 use Rattle.ms_raw.specs.Blocks.{Lists}
 use Rattle.ms_planes.specs.Areas.{held}
@@ -15,6 +15,16 @@ bytes_in Shadow l = l.shadow
 abbrev pub other : Part → Part
 other Bytes = Shadow
 other Shadow = Bytes
+
+-- the four low bytes of v, the least first, from place `at` on
+abbrev pub with_four : List ℕ → ℕ → ℕ → List ℕ
+with_four xs at v = set (set (set (set xs at (v % 256)) (at + 1) (v / 256 % 256)) (at + 2) (v / 256 / 256 % 256)) (at + 3) (v / 256 / 256 / 256 % 256)
+
+-- the eight low ones
+abbrev pub with_eight : List ℕ → ℕ → ℕ → List ℕ
+with_eight xs at v =
+    set (set (set (set (with_four xs at v) (at + 4) (v / 256 / 256 / 256 / 256 % 256)) (at + 5) (v / 256 / 256 / 256 / 256 / 256 % 256))
+    (at + 6) (v / 256 / 256 / 256 / 256 / 256 / 256 % 256)) (at + 7) (v / 256 / 256 / 256 / 256 / 256 / 256 / 256 % 256)
 
 -- a change of one list keeps its length, the other list and the origins
 pub record KeepsOthers (part : Part) (old new : Lists) : Type 0 where

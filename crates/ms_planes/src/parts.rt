@@ -4,7 +4,7 @@ ghost use Rattle.ms_bits.specs.Fill.{made_byte};
 ghost use Rattle.ms_bits.specs.Maps.{with_range, byte_of, number_at};
 ghost use Rattle.ms_raw.specs.Blocks.{IsLists};
 ghost use Rattle.ms_planes.specs.Areas.{held};
-ghost use Rattle.ms_planes.specs.Blocks.{bytes_in, KeepsOthers, IsFilled, IsFilledInto};
+ghost use Rattle.ms_planes.specs.Blocks.{bytes_in, with_four, with_eight, KeepsOthers, IsFilled, IsFilledInto};
 
 use ms_raw::Block;
 
@@ -161,6 +161,67 @@ fn put_bytes(block: &mut Block, part: Part, at: u64, n: u8, v: u64)
     }
 }
 
+/// Puts the four low bytes of `v` at the places from `at` on, the least first.
+#[inline(always)]
+fn set_four(block: &mut Block, part: Part, at: u64, v: u64)
+    requires { at + 3 < length block.old.bytes }
+    ensures shown { bytes_in part block.new ≡ with_four (bytes_in part block.old) at v }
+    ensures others { KeepsOthers part block.old block.new }
+{
+    let a = (v % 256) as u8;
+    let b = (v / 256 % 256) as u8;
+    let c = (v / 256 / 256 % 256) as u8;
+    let d = (v / 256 / 256 / 256 % 256) as u8;
+    match part {
+        Part::Bytes => block.set_four(at, a, b, c, d),
+        Part::Shadow => block.set_four_shadow(at, a, b, c, d),
+    }
+}
+
+/// Puts the eight bytes of `v` at the places from `at` on, the least first.
+#[inline(always)]
+fn set_eight(block: &mut Block, part: Part, at: u64, v: u64)
+    requires { at + 7 < length block.old.bytes }
+    ensures shown { bytes_in part block.new ≡ with_eight (bytes_in part block.old) at v }
+    ensures others { KeepsOthers part block.old block.new }
+{
+    let a = (v % 256) as u8;
+    let b = (v / 256 % 256) as u8;
+    let c = (v / 256 / 256 % 256) as u8;
+    let d = (v / 256 / 256 / 256 % 256) as u8;
+    let high = v / 256 / 256 / 256 / 256;
+    let e = (high % 256) as u8;
+    let f = (high / 256 % 256) as u8;
+    let g = (high / 256 / 256 % 256) as u8;
+    let h = (high / 256 / 256 / 256 % 256) as u8;
+    match part {
+        Part::Bytes => block.set_eight(at, a, b, c, d, e, f, g, h),
+        Part::Shadow => block.set_eight_shadow(at, a, b, c, d, e, f, g, h),
+    }
+}
+
+/// Puts the four low bytes of `v` at the places from `at` on, as contracts of larger memory see it.
+#[inline(always)]
+fn put_four(block: &mut Block, part: Part, at: u64, v: u64)
+    requires within { at + 4 ≤ length block.old.bytes }
+    requires whole { IsLists (length block.old.bytes) block.old }
+    ensures shown { held (bytes_in part block.new) ≡ with_range (held (bytes_in part block.old)) at 4 (byte_of v) }
+    ensures others { KeepsOthers part block.old block.new }
+{
+    set_four(block, part, at, v);
+}
+
+/// Puts the eight bytes of `v`, in the same way.
+#[inline(always)]
+fn put_eight(block: &mut Block, part: Part, at: u64, v: u64)
+    requires within { at + 8 ≤ length block.old.bytes }
+    requires whole { IsLists (length block.old.bytes) block.old }
+    ensures shown { held (bytes_in part block.new) ≡ with_range (held (bytes_in part block.old)) at 8 (byte_of v) }
+    ensures others { KeepsOthers part block.old block.new }
+{
+    set_eight(block, part, at, v);
+}
+
 /// The same where `n` is no usual one. Cold, and never inlined, as `rare_number`.
 #[cold]
 #[inline(never)]
@@ -188,8 +249,8 @@ pub(crate) fn put_number(block: &mut Block, part: Part, at: u64, n: u8, v: u64)
 {
     match n {
         1 => put_bytes(block, part, at, 1, v),
-        4 => put_bytes(block, part, at, 4, v),
-        8 => put_bytes(block, part, at, 8, v),
+        4 => put_four(block, part, at, v),
+        8 => put_eight(block, part, at, v),
         _ => put_rare(block, part, at, n, v),
     }
 }

@@ -10,7 +10,7 @@ ghost use Rattle.ms_planes.specs.Memory.{area_index as index_of};
 use crate::copies::{copy_into, copy_within};
 use crate::origins::fill_origins;
 use crate::parts::{Part, both, fill_into, first_marked, number, paste, put_made, put_number};
-use ms_alloc::{AllocError, AllocKind, BadFree, Place, Table};
+use ms_alloc::{AllocError, AllocKind, BadFree, Table, TablePlace};
 use ms_bits::NoMemory;
 use ms_raw::Block;
 use std::alloc::Global;
@@ -194,13 +194,19 @@ impl Planes {
         }
     }
 
-    /// The number that `n` bytes are, the least first; `None` where they aren't good.
+    /// The number that `n` bytes are, the least first; `None` where they aren't good. The usual sizes each have a copy of the
+    /// whole search, in which the size is known.
     #[inline(always)]
     pub fn read(&self, addr: u64, n: u8) -> Option<u64>
         requires { n ≤ 8 }
         ensures { MatchOption result (is_good addr n self.now.table ≡ false) (λ v. (is_good addr n self.now.table ≡ true) × (v ≡ number_at (bytes_of self.now) addr n)) }
     {
-        self.number(Part::Bytes, addr, n)
+        match n {
+            1 => self.number(Part::Bytes, addr, 1),
+            4 => self.number(Part::Bytes, addr, 4),
+            8 => self.number(Part::Bytes, addr, 8),
+            _ => self.number(Part::Bytes, addr, n),
+        }
     }
 
     /// The number that `n` bytes are, the least first.
@@ -212,7 +218,8 @@ impl Planes {
         self.number(Part::Bytes, addr, n).unwrap()
     }
 
-    /// Writes the `n` low bytes of `v`, the least first, and answers whether they are good; else nothing changes.
+    /// Writes the `n` low bytes of `v`, the least first, and answers whether they are good; else nothing changes. The usual
+    /// sizes each have their copy, as in `read`.
     #[inline(always)]
     pub fn write(&mut self, addr: u64, n: u8, v: u64) -> bool
         requires { n ≤ 8 }
@@ -222,7 +229,12 @@ impl Planes {
         ensures shadow { shadow_of self.new ≡ shadow_of self.old }
         ensures origins { origins_of self.new ≡ origins_of self.old }
     {
-        self.put(Part::Bytes, addr, n, v)
+        match n {
+            1 => self.put(Part::Bytes, addr, 1, v),
+            4 => self.put(Part::Bytes, addr, 4, v),
+            8 => self.put(Part::Bytes, addr, 8, v),
+            _ => self.put(Part::Bytes, addr, n, v),
+        }
     }
 
     /// Writes the `n` low bytes of `v`, the least first.
@@ -446,7 +458,7 @@ impl Planes {
     }
 
     /// The block of an allocation, if it hasn't ended.
-    fn block(&self, place: Place) -> Option<&Block>
+    fn block(&self, place: TablePlace) -> Option<&Block>
         requires { place.index < length (get_or self.now.blocks (area_index place.kind) []) }
         ensures { option_copied result ≡ get_or (get_or self.now.blocks (area_index place.kind) []) place.index None }
     {
@@ -578,7 +590,7 @@ impl Planes {
     }
 
     /// Copies from one place of an allocation to another.
-    fn copy_in(&mut self, part: Part, place: Place, to: u64, from: u64, n: u64)
+    fn copy_in(&mut self, part: Part, place: TablePlace, to: u64, from: u64, n: u64)
         requires to { IsPlace place.kind (of_kind place.kind self.old.table) to n place }
         requires from { IsPlace place.kind (of_kind place.kind self.old.table) from n place }
         requires some { 0 < n }
@@ -593,7 +605,15 @@ impl Planes {
     }
 
     /// Copies from one allocation to another.
-    fn copy_over(&mut self, part: Part, target: Place, to: u64, source: Place, from: u64, n: u64)
+    fn copy_over(
+        &mut self,
+        part: Part,
+        target: TablePlace,
+        to: u64,
+        source: TablePlace,
+        from: u64,
+        n: u64,
+    )
         requires to { IsPlace target.kind (of_kind target.kind self.old.table) to n target }
         requires from { IsPlace source.kind (of_kind source.kind self.old.table) from n source }
         requires some { 0 < n }

@@ -8,7 +8,7 @@ use Rattle.ms_ir.specs.declared.syntax.Inst.{Inst}
 use Rattle.ms_ir.specs.declared.syntax.Block.{Block}
 use Rattle.ms_ir.specs.declared.syntax.Func.{Func}
 use Rattle.ms_ir.specs.declared.syntax.Module.{Module}
-use Rattle.ms_ir.specs.Code.{blocks_at, insts_at, over_insts, over_blocks, over_funcs, one_unmarked, site_at}
+use Rattle.ms_ir.specs.Instructions.{blocks_at, insts_at, over_insts, over_blocks, over_funcs, one_unmarked, site_at}
 use Rattle.ms_ir.specs.declared.places.Place.{Place}
 use Rattle.ms_ir.specs.Places.{IsPlaceOf, inst_at}
 use Rattle.ms_ir.proofs.Counting.{insts_split, blocks_split, funcs_split}
@@ -58,11 +58,6 @@ func_blocks m f xs x bs l at same here =
     same ∙ ap (λ o. unwrap_or (option_map (λ (g : Func). g.blocks) o) []) (sym (slice_get_read xs (length xs) f x refl l at)) ∙ ap (λ ys. unwrap_or (option_map (λ (g : Func). g.blocks) (slice_get ys f)) []) here
 
 -- ---- what is left of a list, and its next item
-
-pub insts_next : (xs : List Inst) (i : ℕ) (x : Inst) → i < length xs → x ≡ get_or xs i x → over_insts one_unmarked (drop i xs) ≡ one_unmarked x + over_insts one_unmarked (drop (i + 1) xs)
-insts_next xs i x l is =
-    ap (over_insts one_unmarked) (drop-cons xs i x l) ∙ ap (λ y. one_unmarked y + over_insts one_unmarked (drop (suc i) xs)) (sym is)
-    ∙ ap (λ n. one_unmarked x + over_insts one_unmarked (drop n xs)) (sym (add-one i))
 
 pub blocks_next : (xs : List Block) (i : ℕ) (x : Block) (is : List Inst) → i < length xs → x ≡ get_or xs i x → is ≡ x.insts
     → over_blocks one_unmarked (drop i xs) ≡ over_insts one_unmarked is + over_blocks one_unmarked (drop (i + 1) xs)

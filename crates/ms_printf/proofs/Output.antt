@@ -30,7 +30,7 @@ pub record PrintedSoFar (w : WorldState) (beside : Beside) (meant : World) (byte
   pub rest_is : rest ≡ Ok left
   pub shows : Shows w beside (record meant { output = meant.output ++ done })
 
-nothing_more : (bs : List ℕ) → bs ++ [] ≡ bs
+pub nothing_more : (bs : List ℕ) → bs ++ [] ≡ bs
 nothing_more [] = refl
 nothing_more (b ∷ bs) = ap (λ (l : List ℕ). b ∷ l) (nothing_more bs)
 

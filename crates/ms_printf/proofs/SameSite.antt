@@ -8,7 +8,7 @@ use Rattle.ms_ir.specs.declared.syntax.Block.{Block}
 use Rattle.ms_ir.specs.declared.syntax.Func.{Func}
 use Rattle.ms_ir.specs.declared.syntax.Module.{Module}
 use Rattle.ms_ir.specs.declared.places.Place.{Place}
-use Rattle.ms_ir.specs.Code.{insts_at, over_insts, over_blocks, over_funcs, one_unmarked}
+use Rattle.ms_ir.specs.Instructions.{insts_at, over_insts, over_blocks, over_funcs, one_unmarked}
 use Rattle.ms_ir.specs.Places.{IsUnmarkedAt, IsPlaceOf, inst_at}
 use Rattle.ms_ir.proofs.Counting.{Stands, stands, site_by_parts, insts_part, blocks_part}
 

@@ -111,9 +111,6 @@ present strings Hex64 a b e t = ap (λ (c : Bool). if c then piece_text strings 
 abbrev comes_to : World → Cut → List (Ty × ℕ) → Result (List ℕ) Trap
 comes_to world c args = all_shown c.bad (map (shown (string_at world)) (with_arguments c.pieces args))
 
-pub ended : (world : World) (a n : ℕ) (types : List Ty) (words : List ℕ) → n ≡ 0 → cut_shown world (bytes_at world.bytes a n) types words ≡ Ok []
-ended world a n types words e = ap (λ (m : ℕ). cut_shown world (bytes_at world.bytes a m) types words) e
-
 pub plain_step : (world : World) (a n m : ℕ) (bs : List ℕ) (types : List Ty) (words : List ℕ) → cut_of (bytes_at world.bytes a n) ≡ with_piece (Text bs) (cut_of (bytes_at world.bytes (a + m) (n - m)))
     → cut_shown world (bytes_at world.bytes a n) types words ≡ both_shown (Ok bs) (cut_shown world (bytes_at world.bytes (a + m) (n - m)) types words)
 plain_step world a n m bs types words e = ap (λ (c : Cut). comes_to world c (zip types words)) e

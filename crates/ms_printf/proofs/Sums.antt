@@ -1,5 +1,5 @@
 -- What the parts of a format come to in turn.
-use Rattle.std.proofs.Common.{◌≡◌, ◌≤◌, ◌<◌, ℕ, ◌+◌, ◌-◌, ◌^◌, min, List, [], ◌∷◌, ◌++◌, length, Result, Ok, Err, refl, sym, ap, ◌∙◌, subst, arith, append_assoc, length-append}
+use Rattle.std.proofs.Common.{◌≡◌, ◌≤◌, ◌<◌, ℕ, ◌+◌, ◌-◌, ◌^◌, min, List, [], ◌++◌, length, Result, Ok, Err, refl, sym, ap, ◌∙◌, subst, arith, append_assoc, length-append}
 use Rattle.ms_bits.specs.declared.traps.Trap.{Trap}
 use Rattle.ms_bits.specs.declared.traps.Trap.TheVariants as trap
 use Rattle.ms_bits.specs.Maps.{bytes_at}
@@ -10,6 +10,7 @@ use Rattle.ms_printf.specs.declared.shown.Fault.TheVariants as fault
 use Rattle.ms_printf.specs.declared.shown.Shown.{Shown}
 use Rattle.ms_printf.specs.declared.shown.Shown.TheVariants as shown
 use Rattle.ms_printf.specs.Walks.{trap_of, shown_of, Measures}
+use Rattle.ms_printf.proofs.Output.{nothing_more}
 
 -- ---- parts are joined from the left as from the right
 
@@ -64,10 +65,6 @@ more world sum new s rest next whole h e measured = record {
   same = h.same ∙ ap (both_shown h.came) e ∙ sym (joined world sum h.came s next h.measures);
 }
 
-nothing_more : (bs : List ℕ) → bs ++ [] ≡ bs
-nothing_more [] = refl
-nothing_more (b ∷ bs) = ap (λ (l : List ℕ). b ∷ l) (nothing_more bs)
-
 alone : (sum : Result ℕ Fault) (x : Result (List ℕ) Trap) → Measures sum x → both_shown x (Ok []) ≡ x
 alone (Ok n) (Ok bs) h = ap Ok (nothing_more bs)
 alone (Ok n) (Err t) h = absurd h
@@ -85,16 +82,3 @@ add n len bs cs e l = omega (arith, length-append bs cs)
 pub more_bytes : (n len new : ℕ) (came : Result (List ℕ) Trap) (cs : List ℕ) → Measures (Ok n) came → len ≡ length cs → new ≡ min (n + len) (2 ^ 64 - 1) → Measures (Ok new) (both_shown came (Ok cs))
 more_bytes n len new (Ok bs) cs h l e = e ∙ add n len bs cs h l
 more_bytes n len new (Err t) cs h l e = absurd h
-
-pub first_fault : (n : ℕ) (f : Fault) (came : Result (List ℕ) Trap) → Measures (Ok n) came → Measures (Err f) (both_shown came (Err (trap_of f)))
-first_fault n f (Ok bs) h = refl
-first_fault n f (Err t) h = absurd h
-
-pub address_kept : (world : World) (s : Shown) (came : Result (List ℕ) Trap) → Measures (Err fault.Address) came → Measures (Err fault.Address) (both_shown came (shown_of world s))
-address_kept world s came h = ap (λ (x : Result (List ℕ) Trap). both_shown x (shown_of world s)) h
-
-pub format_kept : (bs : List ℕ) (came : Result (List ℕ) Trap) → Measures (Err fault.Format) came → Measures (Err fault.Format) (both_shown came (Ok bs))
-format_kept bs came h = ap (λ (x : Result (List ℕ) Trap). both_shown x (Ok bs)) h
-
-pub later_fault : (f : Fault) (came : Result (List ℕ) Trap) → Measures (Err fault.Format) came → Measures (Err f) (both_shown came (Err (trap_of f)))
-later_fault f came h = ap (λ (x : Result (List ℕ) Trap). both_shown x (Err (trap_of f))) h

@@ -6,7 +6,7 @@ use Rattle.ms_bits.specs.Maps.{bytes_at}
 use Rattle.ms_alloc.specs.Allocations.{Allocations, is_good as is_live}
 use Rattle.ms_ir.specs.declared.syntax.Op.{Op}
 use Rattle.ms_ir.specs.declared.syntax.Ty.{Ty}
-use Rattle.ms_ir.specs.Code.{operands}
+use Rattle.ms_ir.specs.Instructions.{operands}
 use Rattle.ms_ir.specs.ValueTypes.{type_of}
 use Rattle.ms_runs.specs.declared.formats.Piece.{Piece}
 use Rattle.ms_runs.specs.declared.formats.Piece.TheVariants.{Text, Str}

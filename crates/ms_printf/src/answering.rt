@@ -4,7 +4,7 @@ ghost use Rattle.std.specs.Option.{option_copied};
 ghost use Rattle.ms_ir.specs.declared.syntax.Inst.{Inst as InstOf};
 ghost use Rattle.ms_ir.specs.declared.syntax.Op.{Op as OpOf};
 ghost use Rattle.ms_ir.specs.declared.places.Place.{Place as PlaceOf};
-ghost use Rattle.ms_ir.specs.Code.{operands};
+ghost use Rattle.ms_ir.specs.Instructions.{operands};
 ghost use Rattle.ms_ir.specs.Places.{HasSmallNumbers, IsPlaceOf, inst_at};
 ghost use Rattle.ms_runs.specs.World.{World as Meant};
 ghost use Rattle.ms_runs.specs.Externals.{formatted, prints};

@@ -3,7 +3,7 @@ ghost use Rattle.std.specs.Prelude.{◌≡◌, Some, option_map, slice_get, drop
 ghost use Rattle.std.specs.Option.{option_copied};
 ghost use Rattle.ms_ir.specs.declared.syntax.Inst.{Inst as InstOf};
 ghost use Rattle.ms_ir.specs.declared.places.Place.{Place as PlaceOf};
-ghost use Rattle.ms_ir.specs.Code.{insts_at};
+ghost use Rattle.ms_ir.specs.Instructions.{insts_at};
 ghost use Rattle.ms_ir.specs.Places.{HasSmallNumbers, IsPlaceOf, inst_at};
 ghost use Rattle.ms_printf.specs.Walks.{types_of, given};
 

@@ -4,7 +4,7 @@ ghost use Rattle.std.specs.Option.{option_copied};
 ghost use Rattle.ms_ir.specs.declared.syntax.Module.{Module as ModuleOf};
 ghost use Rattle.ms_ir.specs.declared.syntax.Inst.{Inst as InstOf};
 ghost use Rattle.ms_ir.specs.declared.places.Place.{Place as PlaceOf};
-ghost use Rattle.ms_ir.specs.Code.{blocks_at, insts_at, one_unmarked, over_insts, over_blocks, over_funcs, site_at};
+ghost use Rattle.ms_ir.specs.Instructions.{blocks_at, insts_at, one_unmarked, over_insts, over_blocks, over_funcs, site_at};
 ghost use Rattle.ms_ir.specs.Places.{HasSmallNumbers, IsPlaceOf, inst_at};
 ghost use Rattle.ms_printf.specs.CallSites.{IsCallSite, AreCallSites};
 

@@ -126,6 +126,57 @@ impl Block {
         self.shadow.put(i as usize, v);
     }
 
+    /// Puts four bytes at the places from one on.
+    pub fn set_four(&mut self, i: u64, a: u8, b: u8, c: u8, d: u8)
+        requires { i + 3 < length self.old.bytes }
+        ensures bytes { self.new.bytes ≡ set (set (set (set self.old.bytes i a) (i + 1) b) (i + 2) c) (i + 3) d }
+        ensures shadow { self.new.shadow ≡ self.old.shadow }
+        ensures origins { self.new.origins ≡ self.old.origins }
+    {
+        self.bytes.put_four(i as usize, a, b, c, d);
+    }
+
+    /// Puts four shadow bytes at the places from one on.
+    pub fn set_four_shadow(&mut self, i: u64, a: u8, b: u8, c: u8, d: u8)
+        requires { i + 3 < length self.old.bytes }
+        ensures bytes { self.new.bytes ≡ self.old.bytes }
+        ensures shadow { self.new.shadow ≡ set (set (set (set self.old.shadow i a) (i + 1) b) (i + 2) c) (i + 3) d }
+        ensures origins { self.new.origins ≡ self.old.origins }
+    {
+        self.shadow.put_four(i as usize, a, b, c, d);
+    }
+
+    /// Puts eight bytes at the places from one on.
+    pub fn set_eight(&mut self, i: u64, a: u8, b: u8, c: u8, d: u8, e: u8, f: u8, g: u8, h: u8)
+        requires { i + 7 < length self.old.bytes }
+        ensures bytes { self.new.bytes ≡ set (set (set (set (set (set (set (set self.old.bytes i a) (i + 1) b) (i + 2) c) (i + 3) d) (i + 4) e) (i + 5) f) (i + 6) g) (i + 7) h }
+        ensures shadow { self.new.shadow ≡ self.old.shadow }
+        ensures origins { self.new.origins ≡ self.old.origins }
+    {
+        self.bytes.put_eight(i as usize, a, b, c, d, e, f, g, h);
+    }
+
+    /// Puts eight shadow bytes at the places from one on.
+    pub fn set_eight_shadow(
+        &mut self,
+        i: u64,
+        a: u8,
+        b: u8,
+        c: u8,
+        d: u8,
+        e: u8,
+        f: u8,
+        g: u8,
+        h: u8,
+    )
+        requires { i + 7 < length self.old.bytes }
+        ensures bytes { self.new.bytes ≡ self.old.bytes }
+        ensures shadow { self.new.shadow ≡ set (set (set (set (set (set (set (set self.old.shadow i a) (i + 1) b) (i + 2) c) (i + 3) d) (i + 4) e) (i + 5) f) (i + 6) g) (i + 7) h }
+        ensures origins { self.new.origins ≡ self.old.origins }
+    {
+        self.shadow.put_eight(i as usize, a, b, c, d, e, f, g, h);
+    }
+
     /// Puts an origin into cell `i`, which has the bytes from `4 * i` on.
     pub fn set_origin(&mut self, i: u64, v: u32)
         requires { i < cells (length self.old.bytes) }

@@ -39,6 +39,50 @@ impl Bytes {
         unsafe { *self.at.add(i) = v }
     }
 
+    /// Puts four bytes at the places from one on. The pointer is read once, so that the compiler makes one store of them: behind a
+    /// byte that is written it has to assume that the pointer itself may have changed.
+    pub(crate) fn put_four(&mut self, i: usize, a: u8, b: u8, c: u8, d: u8)
+        requires { i + 3 < length self.old.items }
+        ensures { (self.new.items ≡ set (set (set (set self.old.items i a) (i + 1) b) (i + 2) c) (i + 3) d) × (self.new.at ≡ self.old.at) × (self.new.len ≡ self.old.len) × (self.new.size ≡ self.old.size) }
+    {
+        unsafe {
+            let first = self.at.add(i);
+            *first = a;
+            *first.add(1) = b;
+            *first.add(2) = c;
+            *first.add(3) = d;
+        }
+    }
+
+    /// Puts eight bytes, in the same way.
+    pub(crate) fn put_eight(
+        &mut self,
+        i: usize,
+        a: u8,
+        b: u8,
+        c: u8,
+        d: u8,
+        e: u8,
+        f: u8,
+        g: u8,
+        h: u8,
+    )
+        requires { i + 7 < length self.old.items }
+        ensures { (self.new.items ≡ set (set (set (set (set (set (set (set self.old.items i a) (i + 1) b) (i + 2) c) (i + 3) d) (i + 4) e) (i + 5) f) (i + 6) g) (i + 7) h) × (self.new.at ≡ self.old.at) × (self.new.len ≡ self.old.len) × (self.new.size ≡ self.old.size) }
+    {
+        unsafe {
+            let first = self.at.add(i);
+            *first = a;
+            *first.add(1) = b;
+            *first.add(2) = c;
+            *first.add(3) = d;
+            *first.add(4) = e;
+            *first.add(5) = f;
+            *first.add(6) = g;
+            *first.add(7) = h;
+        }
+    }
+
     /// Puts a byte after the others, of which there are `i`.
     pub(crate) fn push(&mut self, i: usize, v: u8)
         requires { (i ≡ length self.old.items) × (i < self.old.len) }

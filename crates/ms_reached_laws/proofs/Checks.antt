@@ -13,8 +13,8 @@ use Rattle.ms_runs.specs.Memory.{is_good, bytes_left}
 use Rattle.ms_runs.specs.Origins.{trail, trail_within, add_report, check, check_byte, first_in_string, count_blind, asks_string_at}
 use Rattle.ms_runs.specs.Poisoned.{Poisoned}
 use Rattle.ms_runs.specs.Masks.{word_at}
-use Rattle.ms_runs.specs.Uses.{Use, Word, Bytes, Line, type_at, check_use, check_uses, Asked}
-use Rattle.ms_runs_good.specs.Reached.{LeadsBack}
+use Rattle.ms_runs.specs.Uses.{CheckedUse, Word, Bytes, Line, type_at, check_use, check_uses, Asked}
+use Rattle.ms_good_laws.specs.Reached.{LeadsBack}
 use Rattle.ms_reached_laws.proofs.Trails.{back_weaker}
 use Rattle.ms_reached_laws.proofs.Worlds.{Backed, NoneFree}
 use Rattle.ms_reached_laws.proofs.Effects.{WordsBack}
@@ -67,7 +67,7 @@ module _ (site root told : ℕ → Type 0) (s : Setting) (known : (id : ℕ) →
   either_checked true w e x h g = h
   either_checked false w e x h g = g
 
-  use_checked : (at : ℕ) (os : List (Ty × Operand)) (ps : List Poisoned) (u : Use) (w : World) → WordsBack site told s.roots w.pairs ps → Backed site root told s.roots NoneFree w → Checked w (check_use s at os ps u w)
+  use_checked : (at : ℕ) (os : List (Ty × Operand)) (ps : List Poisoned) (u : CheckedUse) (w : World) → WordsBack site told s.roots w.pairs ps → Backed site root told s.roots NoneFree w → Checked w (check_use s at os ps u w)
   use_checked at os ps (Word kind k) w words b = check_checked (word_at k ps).mask (width_of (type_at k os)) (word_at k ps).origin kind k at w (words k) b
   use_checked at os ps (Bytes kind a n) w words b =
       either_checked (is_good w (word_at a ps).value (word_at n ps).value) w _ _ (byte_checked kind at (word_at a ps).value (first_nonzero w.shadow (word_at a ps).value (word_at n ps).value) w b) (itself w b)
@@ -93,7 +93,7 @@ module _ (site root told : ℕ → Type 0) (s : Setting) (known : (id : ℕ) →
   then_checked w (Leaves u) go h f = absurd h
 
   -- an instruction's checks
-  pub uses_checked : (at : ℕ) (os : List (Ty × Operand)) (ps : List Poisoned) (us : List Use) (w : World) → WordsBack site told s.roots w.pairs ps → Backed site root told s.roots NoneFree w → Checked w (check_uses s at os ps us w)
+  pub uses_checked : (at : ℕ) (os : List (Ty × Operand)) (ps : List Poisoned) (us : List CheckedUse) (w : World) → WordsBack site told s.roots w.pairs ps → Backed site root told s.roots NoneFree w → Checked w (check_uses s at os ps us w)
   uses_checked at os ps [] w words b = itself w b
   uses_checked at os ps (u ∷ us) w words b =
       then_checked w (check_use s at os ps u w) (check_uses s at os ps us) (use_checked at os ps u w words b)

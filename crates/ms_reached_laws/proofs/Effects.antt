@@ -16,21 +16,21 @@ use Rattle.ms_ir.specs.Layout.{stored_size, size_in}
 use Rattle.ms_ir.specs.Areas.{Heap, area_base, room}
 use Rattle.ms_runs.specs.World.{World, Setting, Here, Effect, Gives, Does, Goes, Enters, Leaves, Ends, traps, stuck, word, gives}
 use Rattle.ms_runs.specs.Memory.{used, fits, next_base, local_area, is_good, heap_size, store_number, set_shadow, set_cells, copy_bytes, copy_shadow, make_unset}
-use Rattle.ms_ir.specs.Code.{external_named, is_root, makes_unset}
+use Rattle.ms_ir.specs.Instructions.{external_named, is_root, makes_unset}
 use Rattle.ms_runs.specs.Externals.{malloc, reallocated, realloc, where_good, string_at, output_limit, printed, next_byte, external, formatted, prints}
 use Rattle.ms_runs.specs.Act.{act, alloca, store}
 use Rattle.ms_runs.specs.Origins.{trail_within, poison, unpoison, copy_planes, store_origin}
 use Rattle.ms_runs.specs.Poisoned.{Poisoned}
 use Rattle.ms_runs.specs.Masks.{word_at}
 use Rattle.ms_runs.specs.Shadow.{external_planes, callee_planes, planes}
-use Rattle.ms_runs_good.specs.Reached.{LeadsBack}
-use Rattle.ms_runs_good.proofs.Rooms.{used_push, room_whole}
-use Rattle.ms_runs_good.proofs.Readings.{word_number}
+use Rattle.ms_good_laws.specs.Reached.{LeadsBack}
+use Rattle.ms_good_laws.proofs.Rooms.{used_push, room_whole}
+use Rattle.ms_good_laws.proofs.Readings.{word_number}
 use Rattle.ms_ir.specs.Written.{targets}
 use Rattle.ms_reached_laws.proofs.Trails.{inside, next_block}
 use Rattle.ms_reached_laws.proofs.Worlds.{Back, Backed, NoneFree, poisoned, unpoisoned, planes_copied, copied_back, made_heap, made_room, ended_back, stored, store_grows, filled, fill_grows}
 use Rattle.ms_runs.specs.Threads.{fiber_limit, thread_at, has_ended, join_answer}
-use Rattle.ms_runs_good.proofs.ThreadsApart.{NoThread, CallsNoThread}
+use Rattle.ms_good_laws.proofs.ThreadsApart.{NoThread, CallsNoThread}
 
 -- ---- words
 

@@ -11,12 +11,12 @@ use Rattle.ms_ir.specs.declared.syntax.Inst.{Inst}
 use Rattle.ms_ir.specs.Names.{name_eq}
 use Rattle.ms_ir.specs.Layout.{width_of}
 use Rattle.ms_runs.specs.World.{Setting}
-use Rattle.ms_ir.specs.Code.{one_undef, count_undefs, over_insts, roots_in}
+use Rattle.ms_ir.specs.Instructions.{one_undef, count_undefs, over_insts, roots_in}
 use Rattle.ms_runs.specs.Control.{Frame, read_all, with_value, put, read_edge, phis, count_phis, bind}
 use Rattle.ms_runs.specs.Poisoned.{Poisoned, clean}
 use Rattle.ms_runs.specs.Masks.{word_at}
 use Rattle.ms_runs.specs.Shadow.{read_poisoned}
-use Rattle.ms_runs_good.specs.Reached.{edge_root}
+use Rattle.ms_good_laws.specs.Reached.{edge_root}
 
 -- ---- words
 

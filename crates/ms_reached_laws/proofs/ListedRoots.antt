@@ -12,12 +12,12 @@ use Rattle.ms_ir.specs.declared.calls.External.{External}
 use Rattle.ms_ir.specs.declared.calls.External.TheVariants.{Malloc, Realloc, LifetimeStart}
 use Rattle.ms_ir.specs.declared.places.Root.{Root}
 use Rattle.ms_ir.specs.Names.{name_eq}
-use Rattle.ms_ir.specs.Code.{operands, one_undef, count_undefs, external_named, is_root, roots_in, func_index, root_at, insts_at, site_at, NoMarks}
+use Rattle.ms_ir.specs.Instructions.{operands, one_undef, count_undefs, external_named, is_root, roots_in, func_index, root_at, insts_at, site_at, NoMarks}
 use Rattle.ms_ir.specs.Roots.{undef_roots, call_roots, own_roots, inst_roots, root_numbered}
 use Rattle.ms_runs.specs.Control.{read_edge, block_name}
 use Rattle.ms_runs.specs.Shadow.{ShadowState}
-use Rattle.ms_runs_good.specs.Reached.{due_site, IsOperand, IsItself, IsEdge, edge_root}
-use Rattle.ms_runs_good.proofs.Frames.{unmarked_at}
+use Rattle.ms_good_laws.specs.Reached.{due_site, IsOperand, IsItself, IsEdge, edge_root}
+use Rattle.ms_good_laws.proofs.Frames.{unmarked_at}
 use Rattle.ms_runs_laws.proofs.RootLists.{inst_counted, root_placed}
 
 -- ---- the roots of an instruction have its site

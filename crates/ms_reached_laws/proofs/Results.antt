@@ -22,7 +22,7 @@ use Rattle.ms_runs.specs.Memory.{is_good}
 use Rattle.ms_ir.specs.declared.calls.External.{External}
 use Rattle.ms_ir.specs.declared.calls.External.TheVariants.{Word}
 use Rattle.ms_ir.specs.Names.{lookup, externals}
-use Rattle.ms_ir.specs.Code.{operands, one_undef}
+use Rattle.ms_ir.specs.Instructions.{operands, one_undef}
 use Rattle.ms_runs.specs.Control.{read_all}
 use Rattle.ms_runs.specs.Act.{act}
 use Rattle.ms_runs.specs.Origins.{origin_within, load_origin}
@@ -30,10 +30,11 @@ use Rattle.ms_runs.specs.Poisoned.{Poisoned}
 use Rattle.ms_runs.specs.Masks.{Rules, value_or_zero, last_origin, select_origin, word_at, answer_mask, as_result, answer_origin}
 use Rattle.ms_runs.specs.Shadow.{read_poisoned, poisoned_result}
 use Rattle.ms_clean_laws.specs.KeepClean.{KeepClean}
-use Rattle.ms_clean_laws.proofs.CleanResults.{NonePoisoned, answer_zero, result_zero, binary_zero, cast_zero, address_zero, read_range}
+use Rattle.ms_clean_laws.proofs.CleanResults.{NonePoisoned, answer_zero, result_zero, binary_zero, cast_zero, address_zero}
 use Rattle.ms_reached_laws.proofs.Trails.{good_byte}
 use Rattle.ms_reached_laws.proofs.Worlds.{Back, Backed, NoneFree}
 use Rattle.ms_reached_laws.proofs.Effects.{WordBack, WordsBack}
+use Rattle.ms_runs_laws.proofs.SameRuns.{read_fits}
 
 -- ---- bytes of a number cut to a width
 
@@ -169,17 +170,17 @@ module _ (site root told : ℕ → Type 0) (s : Setting) (d : Rules) (keep : Kee
       → ResultBack o w (act s h o (map (λ p. p.value) (read_all (read_poisoned s values) (operands o) n)) w)
   op_result h (op.Binary o f t a b) small w g bytes words =
       any_result (op.Binary o f t a b) w _ (λ v u ne. last_back site root s.roots w.pairs (words_of (op.Binary o f t a b)) words (read_poisoned s values n t a).origin
-      (inr (λ none. ne (binary_zero d keep o (width_of t) (read_poisoned s values n t a) (read_poisoned s values (n + one_undef a) t b) (read_range s values n t a) (read_range s values (n + one_undef a) t b) none.0 (λ e. none.1.0)))))
+      (inr (λ none. ne (binary_zero d keep o (width_of t) (read_poisoned s values n t a) (read_poisoned s values (n + one_undef a) t b) (read_fits s values n t a) (read_fits s values (n + one_undef a) t b) none.0 (λ e. none.1.0)))))
   op_result h (op.Icmp p f t a b) small w g bytes words =
       any_result (op.Icmp p f t a b) w _ (λ v u ne. last_back site root s.roots w.pairs (words_of (op.Icmp p f t a b)) words (read_poisoned s values n t a).origin
-      (inr (λ none. ne (keep.compare p (width_of t) (read_poisoned s values n t a) (read_poisoned s values (n + one_undef a) t b) (read_range s values n t a) (read_range s values (n + one_undef a) t b) none.0 none.1.0))))
+      (inr (λ none. ne (keep.compare p (width_of t) (read_poisoned s values n t a) (read_poisoned s values (n + one_undef a) t b) (read_fits s values n t a) (read_fits s values (n + one_undef a) t b) none.0 none.1.0))))
   op_result h (op.Cast o f t a u) small w g bytes words =
       any_result (op.Cast o f t a u) w _ (λ v x ne. words 0 (λ z. ne (ap (λ k. value_or_zero (cast_of o no_flags (width_of t) k (width_of u))) z ∙ cast_zero o (width_of t) (width_of u))))
   op_result h (op.Select c t a b) small w g bytes words =
       λ ne.
       select_back site root s.roots w.pairs (read_poisoned s values n (ty.Int 1) c) (read_poisoned s values (n + one_undef c) t a) (read_poisoned s values (n + one_undef c + one_undef a) t b) (words 0) (words 1) (words 2)
       (λ z e. ne (keep.select (width_of t) (read_poisoned s values n (ty.Int 1) c) (read_poisoned s values (n + one_undef c) t a) (read_poisoned s values (n + one_undef c + one_undef a) t b)
-      (read_range s values n (ty.Int 1) c) (read_range s values (n + one_undef c) t a) (read_range s values (n + one_undef c + one_undef a) t b) z e))
+      (read_fits s values n (ty.Int 1) c) (read_fits s values (n + one_undef c) t a) (read_fits s values (n + one_undef c + one_undef a) t b) z e))
   op_result h (op.Gep t a ix) small w g bytes words =
       λ ne. last_back site root s.roots w.pairs (words_of (op.Gep t a ix)) words (read_poisoned s values n ty.Ptr a).origin
       (inr (λ none. ne (address_zero d keep ix (read_poisoned s values n ty.Ptr a) (read_all (read_poisoned s values) ix (n + one_undef a)) none.0 none.1)))

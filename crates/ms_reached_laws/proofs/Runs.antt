@@ -4,7 +4,7 @@ use Rattle.ms_ir.specs.ThreadCalls.{is_threaded}
 use Rattle.ms_ir.specs.declared.syntax.Module.{Module}
 use Rattle.ms_runs.specs.declared.runs.Setup.{Setup}
 use Rattle.ms_runs.specs.World.{World}
-use Rattle.ms_ir.specs.Code.{count_roots, NoMarks}
+use Rattle.ms_ir.specs.Instructions.{count_roots, NoMarks}
 use Rattle.ms_runs.specs.Control.{Frame, Outcome, On, Over}
 use Rattle.ms_runs.specs.Plain.{Stepped, More, Stop, setting_of}
 use Rattle.ms_runs.specs.Poisoned.{Poisoned}
@@ -12,12 +12,12 @@ use Rattle.ms_runs.specs.Masks.{Rules, by_completions}
 use Rattle.ms_runs.specs.Shadow.{ShadowState, shadow_moved, shadow_frames, shadow_step}
 use Rattle.ms_valid.specs.Formed.{Formed}
 use Rattle.ms_valid.specs.Valid.{Valid}
-use Rattle.ms_runs_good.specs.Reached.{Walk, walk_start, walked, Due, IsOperand, Reaches, AsOperand, AsItself, AsEdge, AnyStep, IsReached, HasRun, HasReachedOrigins, ShowsTrails, IsTold, ended, FromReached}
-use Rattle.ms_runs_good.specs.GoodRules.{KeepWidths}
-use Rattle.ms_runs_good.specs.GoodWorlds.{GivesBytes}
-use Rattle.ms_runs_good.specs.GoodRuns.{SoundShadow}
-use Rattle.ms_runs_good.proofs.MaskRanges.{completions_keep}
-use Rattle.ms_runs_good.proofs.Walks.{walks_keep, walks_sound}
+use Rattle.ms_good_laws.specs.Reached.{Walk, walk_start, walked, Due, IsOperand, Reaches, AsOperand, AsItself, AsEdge, AnyStep, IsReached, HasRun, HasReachedOrigins, ShowsTrails, IsTold, ended, FromReached}
+use Rattle.ms_good_laws.specs.GoodRules.{KeepWidths}
+use Rattle.ms_good_laws.specs.GoodWorlds.{GivesBytes}
+use Rattle.ms_good_laws.specs.GoodRuns.{SoundShadow}
+use Rattle.ms_good_laws.proofs.MaskRanges.{completions_keep}
+use Rattle.ms_good_laws.proofs.Walks.{walks_keep, walks_sound}
 use Rattle.ms_clean_laws.specs.KeepClean.{KeepClean}
 use Rattle.ms_clean_laws.proofs.CleanRules.{completions_clean}
 use Rattle.ms_reached_laws.proofs.Worlds.{Back, Backed, NoneFree}

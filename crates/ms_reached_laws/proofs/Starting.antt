@@ -23,8 +23,8 @@ use Rattle.ms_ir.specs.Locals.{Spelled}
 use Rattle.ms_valid.specs.SizesFit.{sized, spelled_unless, taken_with, passes_limit, unsized_globals, func_types}
 use Rattle.ms_valid.specs.Valid.{Valid}
 use Rattle.ms_valid.proofs.Finding.{both_empty}
-use Rattle.ms_runs_good.proofs.Rooms.{used_push, room_whole}
-use Rattle.ms_runs_good.proofs.Starting.{unless}
+use Rattle.ms_good_laws.proofs.Rooms.{used_push, room_whole}
+use Rattle.ms_good_laws.proofs.Starting.{unless}
 use Rattle.ms_reached_laws.proofs.Trails.{Apart, next_block}
 use Rattle.ms_reached_laws.proofs.Worlds.{Backed, NoneFree}
 

@@ -13,7 +13,7 @@ use Rattle.ms_runs.specs.declared.runs.End.TheVariants as «end»
 use Rattle.ms_runs.specs.declared.runs.Setup.{Setup}
 use Rattle.ms_ir.specs.Layout.{width_of, stored_size}
 use Rattle.ms_runs.specs.World.{World, Setting, Here, Effect, Gives, Does, Goes, Enters, Leaves, Ends}
-use Rattle.ms_ir.specs.Code.{operands, count_undefs, is_root, roots_in, root_at, count_roots, func_at, blocks_at, insts_at, block_index, over_insts, NoMarks}
+use Rattle.ms_ir.specs.Instructions.{operands, count_undefs, is_root, roots_in, root_at, count_roots, func_at, blocks_at, insts_at, block_index, over_insts, NoMarks}
 use Rattle.ms_runs.specs.Control.{Frame, Outcome, On, Over, here, rest_of, read_all, put, one_on, read_edge, block_name, jumped, params_at, entered, result_at, given_back, left, frame_limit, keeping, after_effect}
 use Rattle.ms_runs.specs.Act.{act}
 use Rattle.ms_runs.specs.Origins.{trail_within, count_blind}
@@ -25,13 +25,13 @@ use Rattle.ms_runs.specs.Shadow.{read_poisoned, shadow_reading, planes, poisoned
 use Rattle.ms_ir.specs.Written.{targets}
 use Rattle.ms_valid.specs.FormedCode.{shape_formed}
 use Rattle.ms_valid.specs.Formed.{Formed}
-use Rattle.ms_runs_good.specs.GoodStates.{PoisonedBelow, GoodFrame, GoodFrames}
+use Rattle.ms_good_laws.specs.GoodStates.{PoisonedBelow, GoodFrame, GoodFrames}
 use Rattle.ms_valid.specs.Valid.{Valid}
-use Rattle.ms_runs_good.specs.Reached.{Walk, Due, IsOperand, IsItself, IsEdge, edge_root, StandsAt, HasRun, IsReached, IsTold}
-use Rattle.ms_runs_good.proofs.Frames.{top_good, due_first, same_insts, unmarked_at}
-use Rattle.ms_runs_good.proofs.InstructionEffects.{formed_at, shape_of}
-use Rattle.ms_runs_good.proofs.OpEffects.{value_width}
-use Rattle.ms_runs_good.proofs.Counted.{counted_within}
+use Rattle.ms_good_laws.specs.Reached.{Walk, Due, IsOperand, IsItself, IsEdge, edge_root, StandsAt, HasRun, IsReached, IsTold}
+use Rattle.ms_good_laws.proofs.Frames.{top_good, due_first, same_insts, unmarked_at}
+use Rattle.ms_good_laws.proofs.InstructionEffects.{formed_at, shape_of}
+use Rattle.ms_good_laws.proofs.OpEffects.{value_width}
+use Rattle.ms_good_laws.proofs.Counted.{counted_within}
 use Rattle.ms_clean_laws.specs.KeepClean.{KeepClean}
 use Rattle.ms_reached_laws.proofs.Trails.{back_weaker}
 use Rattle.ms_reached_laws.proofs.Worlds.{Back, Backed, NoneFree, given_back_pairs, given_back_backed}
@@ -39,7 +39,7 @@ use Rattle.ms_reached_laws.proofs.Effects.{WordBack, WordsBack, GrownAfter, Smal
 use Rattle.ms_reached_laws.proofs.Results.{ResultBack, SmallLoad, op_result}
 use Rattle.ms_reached_laws.proofs.Checks.{Same, Checked, uses_checked, counted}
 use Rattle.ms_reached_laws.proofs.Frames.{Holds, ValuesHold, FramesHold, all_hold, edge_holds, put_holds, bind_holds, first_holds, phis_hold, frames_weaker}
-use Rattle.ms_runs_good.proofs.ThreadsApart.{no_thread_called}
+use Rattle.ms_good_laws.proofs.ThreadsApart.{no_thread_called}
 
 -- ---- what is asked of the form
 

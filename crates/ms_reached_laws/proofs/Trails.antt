@@ -9,8 +9,8 @@ use Rattle.ms_ir.specs.Areas.{Area, Heap, Stack, area_eq, area_base, room}
 use Rattle.ms_runs.specs.World.{Allocation, World}
 use Rattle.ms_runs.specs.Memory.{used, next_base, first_that, covers, is_good}
 use Rattle.ms_runs.specs.Origins.{trail_within}
-use Rattle.ms_runs_good.specs.Reached.{LeadsBack}
-use Rattle.ms_runs_good.proofs.Rooms.{room_whole}
+use Rattle.ms_good_laws.specs.Reached.{LeadsBack}
+use Rattle.ms_good_laws.proofs.Rooms.{room_whole}
 
 -- ---- trails
 

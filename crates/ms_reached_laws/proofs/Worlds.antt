@@ -1,5 +1,5 @@
 -- Worlds in which origins lead back, and what keeps them so.
-use Rattle.std.proofs.Common.{◌≡◌, ℕ, zero, suc, ◌+◌, ◌-◌, ◌/◌, ◌%◌, ◌^◌, ◌<◌, ◌≤◌, ◌⊎◌, inl, inr, ⊎_elim, List, [], ◌∷◌, ◌++◌, map, filter, length, get_or, All, Contains, Bool, true, false, not, ◌&&◌, ◌||◌, eqb, leb, ltb, Option, Some, None, option_map, slice_get, is_some, refl, sym, ap, ap₂, ◌∙◌, subst, arith, add-one, true≢false, if◌then◌else◌}
+use Rattle.std.proofs.Common.{◌≡◌, ℕ, zero, suc, ◌+◌, ◌-◌, ◌/◌, ◌%◌, ◌^◌, ◌<◌, ◌≤◌, ◌⊎◌, inl, inr, ⊎_elim, List, [], ◌∷◌, ◌++◌, map, filter, length, get_or, All, Contains, Bool, true, false, not, ◌&&◌, ◌||◌, eqb, leb, ltb, Option, Some, None, slice_get, is_some, refl, sym, ap, ap₂, ◌∙◌, subst, arith, add-one, true≢false, if◌then◌else◌}
 use Rattle.std.proofs.lemmas.Bool.{and_parts, or_parts, leb-true, ltb-true, eqb-true, eqb-false, ltb-false, le-leb, eq-eqb, ne_eqb}
 use Rattle.std.proofs.lemmas.List.{length-append}
 use Rattle.std.proofs.lemmas.List.Elements.{All-push, All-map, All-filter, All-weaker}
@@ -11,8 +11,9 @@ use Rattle.ms_runs.specs.World.{Allocation, World, Setting}
 use Rattle.ms_runs.specs.Memory.{used, fits, next_base, first_that, covers, is_good, is_heap_block, local_area, end_block, end_blocks, set_shadow, set_cells, copy_shadow, make, make_unset, keeps}
 use Rattle.ms_runs.specs.Control.{Frame, release, given_back}
 use Rattle.ms_runs.specs.Origins.{trail_within, pair_index, Chained, keeps_old, chain, poison, unpoison, copy_planes, fill_planes, mark_cells, store_origin}
-use Rattle.ms_runs_good.specs.Reached.{LeadsBack}
-use Rattle.ms_runs_good.proofs.Rooms.{used_push, used_ended, used_kept, room_whole}
+use Rattle.ms_good_laws.specs.Reached.{LeadsBack}
+use Rattle.ms_good_laws.proofs.Rooms.{used_push, used_ended, used_kept, room_whole}
+use Rattle.ms_good_laws.proofs.WorldChanges.{pair_found}
 use Rattle.ms_reached_laws.proofs.Trails.{more_back, same_trail, found_last, Apart, Clear, inside, good_clear, good_byte, touched_room, next_block}
 
 -- ---- what holds
@@ -56,18 +57,6 @@ found_new f (x ∷ xs) a e = by_test (f x) (found_new f xs a e)
     by_test : (t : Bool) → is_some (first_that f (xs ++ a ∷ [])) ≡ true → is_some (if t then Some x else first_that f (xs ++ a ∷ [])) ≡ true
     by_test true r = refl
     by_test false r = r
-
-index_within : (pairs : List (ℕ × ℕ)) (old at k : ℕ) → pair_index pairs old at ≡ Some k → k < length pairs
-index_within [] old at k e = grind arith
-index_within (p ∷ rest) old at k e = by_test (eqb p.0 old && eqb p.1 at) e (λ j h. index_within rest old at j h)
-  where
-    by_rest : (o : Option ℕ) → option_map suc o ≡ Some k → ((j : ℕ) → o ≡ Some j → j < length rest) → k < suc (length rest)
-    by_rest None h later = grind arith
-    by_rest (Some j) h later = let l = later j refl in grind arith
-
-    by_test : (t : Bool) → (if t then Some 0 else option_map suc (pair_index rest old at)) ≡ Some k → ((j : ℕ) → pair_index rest old at ≡ Some j → j < length rest) → k < suc (length rest)
-    by_test true h later = grind arith
-    by_test false h later = by_rest (pair_index rest old at) h later
 
 ended_pairs : (ps : List ℕ) (w : World) → (end_blocks ps w).pairs ≡ w.pairs
 ended_pairs [] w = refl
@@ -433,7 +422,7 @@ module _ (site root told : ℕ → Type 0) (s : Setting) where
     where
       by_tests : (t : Bool) (o : Option ℕ) → pair_index w.pairs old at ≡ o → Back site root s.roots (chosen t o old at w).world.pairs (chosen t o old at w).id
       by_tests true o e = h
-      by_tests false (Some k) e = b.pairs_back k (index_within w.pairs old at k e)
+      by_tests false (Some k) e = b.pairs_back k (pair_found w.pairs old at k e)
       by_tests false None e = newest site root told s.roots w.pairs old at here h
 
   -- and the world with its pair

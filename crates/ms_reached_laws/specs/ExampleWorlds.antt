@@ -1,28 +1,12 @@
 -- A world that no run reaches, in which an instruction takes away the origin of a byte with poisoned bits (own).
 use Rattle.std.specs.Prelude.{nat_eq, [], ◌∷◌, None, if◌then◌else◌}
 use Rattle.ms_ir.specs.declared.calls.External.TheVariants.{Calloc}
-use Rattle.ms_runs.specs.World.{World, Setting, Effect, Gives, Does, Goes, Enters, Leaves, Ends}
+use Rattle.ms_runs.specs.World.{World, Setting, Effect, Gives, Does, Goes, Enters, Leaves, Ends, first_world}
 use Rattle.ms_runs.specs.Externals.{external}
 
 -- no allocation stands, and the second byte of where the first block of the heap will begin is poisoned
 abbrev pub poisoned_room : World
-poisoned_room = record {
-  allocs = [];
-  bytes = λ a. 0;
-  shadow = λ a. if nat_eq a 0x710000000001 then 255 else 0;
-  origins = λ c. 1;
-  pairs = [];
-  made = 0;
-  input = [];
-  output = [];
-  reports = [];
-  blind = 0;
-  turn = 0;
-  threads = [];
-  answers = λ k. 0;
-  answer_masks = λ k. 0;
-  answer_origins = λ k. 0;
-}
+poisoned_room = record (first_world []) { shadow = λ a. if nat_eq a 0x710000000001 then 255 else 0; origins = λ c. 1 }
 
 -- a module with one root and nothing else
 abbrev pub bare_setting : Setting

@@ -11,12 +11,12 @@ use Rattle.ms_lex.specs.Tokens.{Text, cut_of, unless_stopped, tokens_of, GivesTo
 use Rattle.ms_lex.specs.Grammar.{Outcome, done, fails}
 use Rattle.ms_lex.proofs.Causes.{tokens_in_order}
 use Rattle.ms_lex.proofs.Exact.{sound, complete, stop_sound, stop_complete}
-use Rattle.ms_grammar.specs.declared.refusals.Refusal.{Refusal}
-use Rattle.ms_grammar.specs.declared.refusals.Refusal.TheVariants as r
-use Rattle.ms_grammar.specs.Causes.{printed_number}
-use Rattle.ms_grammar.specs.Lexemes.{Lexeme, end_of_text, lexeme_of, lexemes_of}
-use Rattle.ms_grammar.specs.Steps.{Rule}
-use Rattle.ms_grammar.specs.Texts.{ReadsUpTo, StopsAt}
+use Rattle.ms_text_grammar.specs.declared.refusals.Cause.{Cause}
+use Rattle.ms_text_grammar.specs.declared.refusals.Cause.TheVariants as r
+use Rattle.ms_text_grammar.specs.Causes.{printed_number}
+use Rattle.ms_text_grammar.specs.Lexemes.{Lexeme, end_of_text, lexeme_of, lexemes_of}
+use Rattle.ms_text_grammar.specs.Steps.{Rule}
+use Rattle.ms_text_grammar.specs.Texts.{ReadsUpTo, StopsAt}
 use Rattle.ms_read_cursor.specs.Reading.{Gives, run}
 use Rattle.ms_read_body.specs.declared.errors.ReadError.{ReadError}
 use Rattle.ms_read_body.specs.Calls.{AreTokens, lexemes_from, ReadsAt, StopsFor, error_in, ReadsExactly, answer_of}
@@ -24,7 +24,7 @@ use Rattle.ms_read_body.proofs.Suffixes.{IsEnd, reads_end, stops_end, by_length,
 
 -- ---- the number of tokens
 
-not_more : (limit : ℕ) (text : Text) (ts : List Token) (stop : Option ℕ) (found : List Token) (b : Bool) → ltb limit (length ts) ≡ b
+pub not_more : (limit : ℕ) (text : Text) (ts : List Token) (stop : Option ℕ) (found : List Token) (b : Bool) → ltb limit (length ts) ≡ b
     → cond b (Err TooManyTokens) (unless_stopped text ts stop) ≡ Ok found → length found ≤ limit
 not_more limit text ts stop found true e h = absurd cc
 not_more limit text ts None found false e h =
@@ -67,7 +67,7 @@ module _ {A : Type 0} (rule : Rule A) (text : Text) (tokens : List Token) (at : 
       let is = rest_is rest (reads_end end_of_text rule (lexemes_from text tokens at) a rest reads) in
       record { inside = omega arith; read = subst (λ l. ReadsUpTo rule (lexemes_from text tokens at) a l) is reads }
 
-  stops_for : (cause : Refusal) (rest : List Lexeme) → run rule (lexemes_from text tokens at) ≡ fails cause rest → StopsFor rule text tokens at cause (length tokens - length rest)
+  stops_for : (cause : Cause) (rest : List Lexeme) → run rule (lexemes_from text tokens at) ≡ fails cause rest → StopsFor rule text tokens at cause (length tokens - length rest)
   stops_for cause rest h =
       let stops : StopsAt rule (lexemes_from text tokens at) cause rest = stop_sound end_of_text rule (lexemes_from text tokens at) cause rest h in
       let is = rest_is rest (stops_end end_of_text rule (lexemes_from text tokens at) cause rest stops) in
@@ -86,17 +86,17 @@ module _ {A : Type 0} (rule : Rule A) (text : Text) (tokens : List Token) (at : 
   same_value : (a b : A) (m n : ℕ) → ◌≡◌ {A = Answer} (Ok (a, m)) (Ok (b, n)) → (a ≡ b) × (m ≡ n)
   same_value a b m n h = let p : ◌≡◌ {A = A × ℕ} (a, m) (b, n) = cc in (ap (λ q. q.0) p, ap (λ q. q.1) p)
 
-  same_outcome : (a b : A) (x y : List Lexeme) (o : Outcome Lexeme Refusal A) → o ≡ done a x → o ≡ done b y → (a ≡ b) × (x ≡ y)
+  same_outcome : (a b : A) (x y : List Lexeme) (o : Outcome Lexeme Cause A) → o ≡ done a x → o ≡ done b y → (a ≡ b) × (x ≡ y)
   same_outcome a b x y o p q = (cc, cc)
 
-  same_failure : (d c : Refusal) (x y : List Lexeme) (o : Outcome Lexeme Refusal A) → o ≡ fails d x → o ≡ fails c y → (d ≡ c) × (x ≡ y)
+  same_failure : (d c : Cause) (x y : List Lexeme) (o : Outcome Lexeme Cause A) → o ≡ fails d x → o ≡ fails c y → (d ≡ c) × (x ≡ y)
   same_failure d c x y o p q = (cc, cc)
 
-  apart : (a : A) (c : Refusal) (x y : List Lexeme) (o : Outcome Lexeme Refusal A) → o ≡ done a x → o ≡ fails c y → ⊥
+  apart : (a : A) (c : Cause) (x y : List Lexeme) (o : Outcome Lexeme Cause A) → o ≡ done a x → o ≡ fails c y → ⊥
   apart a c x y o p q = cc
 
   module _ (rest : List Lexeme) where
-    abbrev Told : Result A Refusal → Type 0
+    abbrev Told : Result A Cause → Type 0
     Told given = ReadsExactly rule text tokens at (answer_of text tokens given (length rest))
 
     told_ok : (a : A) → run rule (lexemes_from text tokens at) ≡ done a rest → Told (Ok a)
@@ -115,7 +115,7 @@ module _ {A : Type 0} (rule : Rule A) (text : Text) (tokens : List Token) (at : 
           absurd (apart a cause rest (lexemes_from text tokens token) _ h whole);
     }
 
-    told_err : (c : Refusal) → printed_number c ≢ None → run rule (lexemes_from text tokens at) ≡ fails c rest → Told (Err c)
+    told_err : (c : Cause) → printed_number c ≢ None → run rule (lexemes_from text tokens at) ≡ fails c rest → Told (Err c)
     told_err c real h = record {
       read = λ b next same. absurd cc;
       refused = λ error same is_real. (c, length tokens - length rest, cc, stops_for c rest h);
@@ -138,7 +138,7 @@ module _ {A : Type 0} (rule : Rule A) (text : Text) (tokens : List Token) (at : 
     }
 
     -- a reader that gives what the piece comes to
-    pub told : (given : Result A Refusal) → Gives (run rule (lexemes_from text tokens at)) given rest → Told given
+    pub told : (given : Result A Cause) → Gives (run rule (lexemes_from text tokens at)) given rest → Told given
     told (Ok a) h = told_ok a h
     told (Err r.Syntax) h = told_err r.Syntax (λ n. cc) (h (λ n. cc))
     told (Err (r.Outside construct)) h = told_err (r.Outside construct) (λ n. cc) (h (λ n. cc))
@@ -148,7 +148,7 @@ module _ {A : Type 0} (rule : Rule A) (text : Text) (tokens : List Token) (at : 
     told (Err r.NoMemory) h = told_wanting
 
   -- a call whose cursor begins at the token
-  pub answered : (given : Result A Refusal) (start rest : List Lexeme) (left : ℕ) (result : Answer) → start ≡ lexemes_from text tokens at
+  pub answered : (given : Result A Cause) (start rest : List Lexeme) (left : ℕ) (result : Answer) → start ≡ lexemes_from text tokens at
       → Gives (run rule start) given rest → left ≡ length rest → result ≡ answer_of text tokens given left → ReadsExactly rule text tokens at result
   answered given start rest left result begins gives lefts is =
       let whole = told rest given (subst (λ ts. Gives (run rule ts) given rest) begins gives) in

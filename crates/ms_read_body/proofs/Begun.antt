@@ -3,25 +3,25 @@ use Rattle.std.proofs.Common.{◌≡◌, ◌<◌, ◌+◌, ◌-◌, ◌^◌, Boo
 use Rattle.std.proofs.lemmas.Bool.{ltb-true}
 use Rattle.ms_ir.specs.declared.forms.Form.{Form}
 use Rattle.ms_ir.specs.declared.forms.Form.TheVariants.{Plain, Instrumented}
-use Rattle.ms_grammar.specs.declared.symbols.Symbol.{Symbol}
-use Rattle.ms_grammar.specs.declared.symbols.Symbol.TheVariants as s
-use Rattle.ms_grammar.specs.declared.refusals.Refusal.{Refusal}
-use Rattle.ms_grammar.specs.declared.refusals.Refusal.TheVariants as r
-use Rattle.ms_grammar.specs.declared.refusals.Limit.TheVariants as limit
-use Rattle.ms_grammar.specs.declared.states.Body.{Body}
-use Rattle.ms_grammar.specs.Lexemes.{Lexeme, name_in}
-use Rattle.ms_grammar.specs.Names.{reserved_local}
-use Rattle.ms_grammar.specs.Steps.{Verdict}
-use Rattle.ms_grammar.specs.Bodies.{opened, max_instructions, counted, short, numbers_left, begins_instruction, line_begins_by, line_begins}
+use Rattle.ms_text_grammar.specs.declared.symbols.Symbol.{Symbol}
+use Rattle.ms_text_grammar.specs.declared.symbols.Symbol.TheVariants as s
+use Rattle.ms_text_grammar.specs.declared.refusals.Cause.{Cause}
+use Rattle.ms_text_grammar.specs.declared.refusals.Cause.TheVariants as r
+use Rattle.ms_text_grammar.specs.declared.refusals.Limit.TheVariants as limit
+use Rattle.ms_text_grammar.specs.declared.states.Body.{Body}
+use Rattle.ms_text_grammar.specs.Lexemes.{Lexeme, name_in}
+use Rattle.ms_text_grammar.specs.Names.{reserved_local}
+use Rattle.ms_text_grammar.specs.Steps.{Verdict}
+use Rattle.ms_text_grammar.specs.Bodies.{opened, max_instructions, counted, short, numbers_left, begins_instruction, line_begins_by, line_begins}
 use Rattle.ms_read_body.specs.Room.{HasRoom}
 
 -- a verdict that a refusal could stand in the way of
-kept : (b : Bool) (verdict : Verdict Bool) (e : Refusal) → cond b verdict (Err e) ≡ Ok true → (b ≡ true) × (verdict ≡ Ok true)
+kept : (b : Bool) (verdict : Verdict Bool) (e : Cause) → cond b verdict (Err e) ≡ Ok true → (b ≡ true) × (verdict ≡ Ok true)
 kept true verdict e h = (refl, h)
 kept false verdict e h = absurd cc
 
 -- a verdict that comes behind a refusal that doesn't stand
-passed : (b : Bool) (verdict : Verdict Bool) (e : Refusal) → cond b (Err e) verdict ≡ Ok true → verdict ≡ Ok true
+passed : (b : Bool) (verdict : Verdict Bool) (e : Cause) → cond b (Err e) verdict ≡ Ok true → verdict ≡ Ok true
 passed true verdict e h = absurd cc
 passed false verdict e h = h
 

@@ -7,19 +7,19 @@ use Rattle.ms_ir.specs.declared.syntax.Block.{Block}
 use Rattle.ms_ir.specs.declared.syntax.Func.{Func}
 use Rattle.ms_ir.specs.declared.syntax.Decl.{Decl}
 use Rattle.ms_ir.specs.declared.forms.Form.{Form}
-use Rattle.ms_grammar.specs.declared.refusals.Refusal.{Refusal}
-use Rattle.ms_grammar.specs.declared.states.Parameters.{Parameters}
-use Rattle.ms_grammar.specs.declared.symbols.Symbol.TheVariants as s
-use Rattle.ms_grammar.specs.Functions.{function_tail, parameters}
-use Rattle.ms_grammar.specs.Insts.{names_printf}
-use Rattle.ms_grammar.specs.Lexemes.{Lexeme}
-use Rattle.ms_grammar.specs.Skipped.{attributes}
-use Rattle.ms_grammar.specs.Steps.{word}
+use Rattle.ms_text_grammar.specs.declared.refusals.Cause.{Cause}
+use Rattle.ms_text_grammar.specs.declared.states.Parameters.{Parameters}
+use Rattle.ms_text_grammar.specs.declared.symbols.Symbol.TheVariants as s
+use Rattle.ms_text_grammar.specs.Functions.{function_tail, parameters}
+use Rattle.ms_text_grammar.specs.Insts.{names_printf}
+use Rattle.ms_text_grammar.specs.Lexemes.{Lexeme}
+use Rattle.ms_text_grammar.specs.Skipped.{attributes}
+use Rattle.ms_text_grammar.specs.Steps.{word}
 use Rattle.ms_read_cursor.specs.Reading.{run}
 use Rattle.ms_read_body.specs.Headed.{types_behind, declared, blocks_behind, bodied}
 
 abbrev Read : Type 0 → Type 0
-Read = Outcome Lexeme Refusal
+Read = Outcome Lexeme Cause
 
 -- what comes behind two steps comes behind the second
 grouped : {A B C : Type 0} (o : Read A) (f : A → List Lexeme → Read B) (g : B → List Lexeme → Read C)
@@ -50,7 +50,7 @@ pub declared_reads : (form : Form) (result : Option Ty) (function : Name) (types
     → run (declared form result function) ts ≡ done (record { name = function; ret = result; params = types }) rest
 declared_reads form result function types ts rest h = declared_is form result function ts ∙ ap (λ o. and_then o (with_types result function)) h
 
-pub declared_stops : (form : Form) (result : Option Ty) (function : Name) (e : Refusal) (ts rest : List Lexeme)
+pub declared_stops : (form : Form) (result : Option Ty) (function : Name) (e : Cause) (ts rest : List Lexeme)
     → run (types_behind form function) ts ≡ fails e rest → run (declared form result function) ts ≡ fails e rest
 declared_stops form result function e ts rest h = declared_is form result function ts ∙ ap (λ o. and_then o (with_types result function)) h
 
@@ -71,6 +71,6 @@ pub bodied_reads : (form : Form) (before : ℕ) (result : Option Ty) (n : Name) 
     → run (bodied form before result n ps) ts ≡ done (record { name = n; ret = result; params = ps.found; blocks = all }) rest
 bodied_reads form before result n ps all ts rest h = bodied_is form before result n ps ts ∙ ap (λ o. and_then o (with_blocks result n ps)) h
 
-pub bodied_stops : (form : Form) (before : ℕ) (result : Option Ty) (n : Name) (ps : Parameters) (e : Refusal) (ts rest : List Lexeme)
+pub bodied_stops : (form : Form) (before : ℕ) (result : Option Ty) (n : Name) (ps : Parameters) (e : Cause) (ts rest : List Lexeme)
     → run (blocks_behind form before ps) ts ≡ fails e rest → run (bodied form before result n ps) ts ≡ fails e rest
 bodied_stops form before result n ps e ts rest h = bodied_is form before result n ps ts ∙ ap (λ o. and_then o (with_blocks result n ps)) h

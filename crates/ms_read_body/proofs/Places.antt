@@ -2,7 +2,7 @@
 use Rattle.std.proofs.Common.{◌≡◌, ◌≤◌, ◌<◌, ℕ, zero, suc, List, [], ◌∷◌, length, get_or, refl, arith}
 use Rattle.ms_lex.specs.declared.kinds.Token.{Token}
 use Rattle.ms_lex.specs.Tokens.{Text}
-use Rattle.ms_grammar.specs.Texts.{place_in}
+use Rattle.ms_text_grammar.specs.Texts.{place_in}
 
 -- a token's place is its first byte
 pub begins : (text : Text) (tokens : List Token) (k : ℕ) (d : Token) → k < length tokens → place_in text tokens k ≡ (get_or tokens k d).start

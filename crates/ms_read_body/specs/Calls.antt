@@ -5,14 +5,14 @@ use Rattle.ms_lex.specs.Tokens.{Text, tokens_of}
 use Rattle.ms_lex.specs.Grammar.{◌>>◌}
 use Rattle.ms_ir.specs.declared.syntax.Func.{Func}
 use Rattle.ms_ir.specs.declared.forms.Form.{Form}
-use Rattle.ms_grammar.specs.declared.symbols.Symbol.TheVariants as s
-use Rattle.ms_grammar.specs.declared.refusals.Refusal.{Refusal}
-use Rattle.ms_grammar.specs.declared.refusals.Refusal.TheVariants as r
-use Rattle.ms_grammar.specs.Causes.{printed_number}
-use Rattle.ms_grammar.specs.Lexemes.{Lexeme, lexemes_of}
-use Rattle.ms_grammar.specs.Steps.{Rule, word}
-use Rattle.ms_grammar.specs.Functions.{function}
-use Rattle.ms_grammar.specs.Texts.{place_in, ReadsUpTo, StopsAt}
+use Rattle.ms_text_grammar.specs.declared.symbols.Symbol.TheVariants as s
+use Rattle.ms_text_grammar.specs.declared.refusals.Cause.{Cause}
+use Rattle.ms_text_grammar.specs.declared.refusals.Cause.TheVariants as r
+use Rattle.ms_text_grammar.specs.Causes.{printed_number}
+use Rattle.ms_text_grammar.specs.Lexemes.{Lexeme, lexemes_of}
+use Rattle.ms_text_grammar.specs.Steps.{Rule, word}
+use Rattle.ms_text_grammar.specs.Functions.{function}
+use Rattle.ms_text_grammar.specs.Texts.{place_in, ReadsUpTo, StopsAt}
 use Rattle.ms_read_body.specs.declared.errors.What.{What}
 use Rattle.ms_read_body.specs.declared.errors.What.TheVariants as what
 use Rattle.ms_read_body.specs.declared.errors.ReadError.{ReadError}
@@ -43,14 +43,14 @@ pub record ReadsAt {A : Type 0} (rule : Rule A) (text : Text) (tokens : List Tok
   pub read : ReadsUpTo rule (lexemes_from text tokens at) a (lexemes_from text tokens next)
 
 -- a piece that is read from one token on stops at another, for this cause
-pub record StopsFor {A : Type 0} (rule : Rule A) (text : Text) (tokens : List Token) (at : ℕ) (cause : Refusal) (token : ℕ) : Type 0 where
+pub record StopsFor {A : Type 0} (rule : Rule A) (text : Text) (tokens : List Token) (at : ℕ) (cause : Cause) (token : ℕ) : Type 0 where
   pub inside : token ≤ length tokens
   pub stopped : StopsAt rule (lexemes_from text tokens at) cause (lexemes_from text tokens token)
 
 -- ---- errors
 
 -- what a cause names beside its number
-abbrev pub what_of : Refusal → What
+abbrev pub what_of : Cause → What
 what_of (r.Outside construct) = what.Outside construct
 what_of (r.Limit limit) = what.Limit limit
 what_of _ = what.Nothing
@@ -61,11 +61,11 @@ numbered_error (Some number) w token place = e.Refused number w token place
 numbered_error None w token place = e.NoMemory
 
 -- the error for a cause at a token, which begins at this byte
-abbrev pub error_at : Refusal → ℕ → ℕ → ReadError
+abbrev pub error_at : Cause → ℕ → ℕ → ReadError
 error_at cause token place = numbered_error (printed_number cause) (what_of cause) token place
 
 -- the error for a cause at a token of a text
-abbrev pub error_in : Text → List Token → Refusal → ℕ → ReadError
+abbrev pub error_in : Text → List Token → Cause → ℕ → ReadError
 error_in text tokens cause token = error_at cause token (place_in text tokens token)
 
 -- ---- answers
@@ -76,10 +76,10 @@ pub record ReadsExactly {A : Type 0} (rule : Rule A) (text : Text) (tokens : Lis
   -- what it answers is so
   pub read : (a : A) (next : ℕ) → result ≡ Ok (a, next) → ReadsAt rule text tokens at a next
   pub refused : (error : ReadError) → result ≡ Err error → error ≢ e.NoMemory
-      → (cause : Refusal) × (token : ℕ) × (error ≡ error_in text tokens cause token) × StopsFor rule text tokens at cause token
+      → (cause : Cause) × (token : ℕ) × (error ≡ error_in text tokens cause token) × StopsFor rule text tokens at cause token
   -- and what is so it answers
   pub reading : (a : A) (next : ℕ) → ReadsAt rule text tokens at a next → result ≢ Err e.NoMemory → result ≡ Ok (a, next)
-  pub stop : (cause : Refusal) (token : ℕ) → StopsFor rule text tokens at cause token → result ≢ Err e.NoMemory → result ≡ Err (error_in text tokens cause token)
+  pub stop : (cause : Cause) (token : ℕ) → StopsFor rule text tokens at cause token → result ≢ Err e.NoMemory → result ≡ Err (error_in text tokens cause token)
 
 -- the answer of a call whose value says nothing
 abbrev pub with_nothing : Result ℕ ReadError → Result (Unit {0} × ℕ) ReadError
@@ -87,6 +87,6 @@ with_nothing (Ok next) = Ok (tt, next)
 with_nothing (Err error) = Err error
 
 -- the answer for what a reader gave, where so many tokens are left of so many
-abbrev pub answer_of : {A : Type 0} → Text → List Token → Result A Refusal → ℕ → Result (A × ℕ) ReadError
+abbrev pub answer_of : {A : Type 0} → Text → List Token → Result A Cause → ℕ → Result (A × ℕ) ReadError
 answer_of text tokens (Ok a) left = Ok (a, length tokens - left)
 answer_of text tokens (Err cause) left = Err (error_in text tokens cause (length tokens - left))

@@ -7,16 +7,16 @@ use Rattle.ms_ir.specs.declared.syntax.Block.{Block}
 use Rattle.ms_ir.specs.declared.syntax.Func.{Func}
 use Rattle.ms_ir.specs.declared.syntax.Decl.{Decl}
 use Rattle.ms_ir.specs.declared.forms.Form.{Form}
-use Rattle.ms_grammar.specs.declared.states.Body.{Body}
-use Rattle.ms_grammar.specs.declared.states.Parameters.{Parameters}
-use Rattle.ms_grammar.specs.declared.symbols.Symbol.TheVariants as s
-use Rattle.ms_grammar.specs.Functions.{body_behind, function_tail, linkage, parameter_name, parameters, with_parameter}
-use Rattle.ms_grammar.specs.Insts.{names_printf}
-use Rattle.ms_grammar.specs.Lines.{blocks}
-use Rattle.ms_grammar.specs.Names.{global}
-use Rattle.ms_grammar.specs.Skipped.{attributes}
-use Rattle.ms_grammar.specs.Steps.{Rule, word}
-use Rattle.ms_grammar.specs.Types.{result_type}
+use Rattle.ms_text_grammar.specs.declared.states.Body.{Body}
+use Rattle.ms_text_grammar.specs.declared.states.Parameters.{Parameters}
+use Rattle.ms_text_grammar.specs.declared.symbols.Symbol.TheVariants as s
+use Rattle.ms_text_grammar.specs.Functions.{body_behind, function_tail, linkage, parameter_name, parameters, with_parameter}
+use Rattle.ms_text_grammar.specs.Insts.{names_printf}
+use Rattle.ms_text_grammar.specs.Lines.{blocks}
+use Rattle.ms_text_grammar.specs.Names.{global}
+use Rattle.ms_text_grammar.specs.Skipped.{attributes}
+use Rattle.ms_text_grammar.specs.Steps.{Rule, word}
+use Rattle.ms_text_grammar.specs.Types.{result_type}
 
 -- a parameter behind its attributes
 abbrev pub named_parameter : Form → Parameters → Ty → Rule Parameters

@@ -3,8 +3,8 @@ use Rattle.ms_lex.specs.Grammar.{give}
 use Rattle.ms_ir.specs.declared.syntax.Op.{Op}
 use Rattle.ms_ir.specs.declared.syntax.Op.TheVariants as op
 use Rattle.ms_ir.specs.declared.forms.Form.{Form}
-use Rattle.ms_grammar.specs.Steps.{Rule}
-use Rattle.ms_grammar.specs.Insts.{binary_rule, compare_rule, cast_rule, select_rule, freeze_rule, load_rule, store_rule, branch_rule, switch_rule, ret_rule}
+use Rattle.ms_text_grammar.specs.Steps.{Rule}
+use Rattle.ms_text_grammar.specs.Insts.{binary_rule, compare_rule, cast_rule, select_rule, freeze_rule, load_rule, store_rule, branch_rule, switch_rule, ret_rule}
 use Rattle.ms_read_body.specs.declared.operation_rules.EffectOperation.{EffectOperation}
 use Rattle.ms_read_body.specs.declared.operation_rules.EffectOperation.TheVariants as effect
 use Rattle.ms_read_body.specs.declared.operation_rules.ValueOperation.{ValueOperation}

@@ -1,7 +1,7 @@
 -- Where a line begins there is room for what it adds.
 use Rattle.std.specs.Prelude.{◌<◌, ◌+◌, ◌^◌, ℕ}
-use Rattle.ms_grammar.specs.declared.symbols.Symbol.{Symbol}
-use Rattle.ms_grammar.specs.declared.symbols.Symbol.TheVariants as s
+use Rattle.ms_text_grammar.specs.declared.symbols.Symbol.{Symbol}
+use Rattle.ms_text_grammar.specs.declared.symbols.Symbol.TheVariants as s
 
 -- the count has room for the instruction that begins with this symbol, if one does
 abbrev pub HasRoom : Symbol → ℕ → Type 0

@@ -2,12 +2,12 @@
 use Rattle.std.specs.Prelude.{Option, Some, None}
 use Rattle.ms_ir.specs.declared.syntax.Name.{Name}
 use Rattle.ms_ir.specs.declared.forms.Form.{Form}
-use Rattle.ms_grammar.specs.declared.states.Body.{Body}
-use Rattle.ms_grammar.specs.declared.symbols.Symbol.{Symbol}
-use Rattle.ms_grammar.specs.declared.symbols.Symbol.TheVariants as s
-use Rattle.ms_grammar.specs.Insts.{alloca_rule, step_rule, store_rule}
-use Rattle.ms_grammar.specs.Lines.{marked_line, phi_line, call_line, effect_line}
-use Rattle.ms_grammar.specs.Steps.{Rule, refuse}
+use Rattle.ms_text_grammar.specs.declared.states.Body.{Body}
+use Rattle.ms_text_grammar.specs.declared.symbols.Symbol.{Symbol}
+use Rattle.ms_text_grammar.specs.declared.symbols.Symbol.TheVariants as s
+use Rattle.ms_text_grammar.specs.Insts.{alloca_rule, gep_rule, store_rule}
+use Rattle.ms_text_grammar.specs.Lines.{marked_line, phi_line, call_line, effect_line}
+use Rattle.ms_text_grammar.specs.Steps.{Rule, refuse}
 use Rattle.ms_read_body.specs.declared.operation_rules.EffectOperation.{EffectOperation}
 use Rattle.ms_read_body.specs.declared.operation_rules.EffectOperation.TheVariants as effect
 use Rattle.ms_read_body.specs.declared.operation_rules.ValueOperation.{ValueOperation}
@@ -34,7 +34,7 @@ abbrev pub further_instruction : Form → Body → Option Name → Symbol → Ru
 further_instruction form body result s.Phi = phi_line form body result
 further_instruction form body result s.Alloca = marked_line body result (alloca_rule form)
 further_instruction form body result s.Store = effect_line form body (store_rule form)
-further_instruction form body result s.GetElementPtr = marked_line body result (step_rule form)
+further_instruction form body result s.GetElementPtr = marked_line body result (gep_rule form)
 further_instruction form body result s.Tail = call_line form body result s.Tail
 further_instruction form body result s.MustTail = call_line form body result s.MustTail
 further_instruction form body result s.NoTail = call_line form body result s.NoTail

@@ -1,12 +1,12 @@
 //! What a line adds to a body.
 
 ghost use Rattle.std.specs.Prelude.{◌≡◌, ◌<◌, ◌+◌, ◌^◌, ◌++◌, ◌∷◌, [], IfOk};
-ghost use Rattle.ms_grammar.specs.Bodies as spec;
+ghost use Rattle.ms_text_grammar.specs.Bodies as spec;
 
 use ms_bits::{Boxed, List, NoMemory};
-use ms_grammar::Body;
 use ms_ir::{Block, Inst, Name, Op};
 use ms_read_cursor::push;
+use ms_text_grammar::Body;
 use std::alloc::Global;
 use std::mem;
 

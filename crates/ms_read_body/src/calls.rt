@@ -1,21 +1,21 @@
 //! The calls with which a reader of modules reads the parts of a text.
 
 ghost use Rattle.std.specs.Prelude.{◌≡◌, ◌≤◌, ◌<◌, ◌^◌, length};
-ghost use Rattle.ms_grammar.specs.Skipped.{attributes as attributes_piece};
-ghost use Rattle.ms_grammar.specs.Types.{max_depth, type_to as type_piece};
-ghost use Rattle.ms_grammar.specs.Values.{value as value_piece};
+ghost use Rattle.ms_text_grammar.specs.Skipped.{attributes as attributes_piece};
+ghost use Rattle.ms_text_grammar.specs.Types.{max_depth, type_to as type_piece};
+ghost use Rattle.ms_text_grammar.specs.Values.{value as value_piece};
 ghost use Rattle.ms_read_cursor.specs.Reading.{Gives, run};
 ghost use Rattle.ms_read_body.specs.Calls as spec;
-ghost use Rattle.ms_grammar.specs.Texts.{place_in};
+ghost use Rattle.ms_text_grammar.specs.Texts.{place_in};
 ghost use Rattle.ms_read_body.specs.Calls.{AreTokens, ReadsExactly, definition, with_nothing};
 
 use crate::errors::{ReadError, error_at};
 use crate::functions::function;
-use ms_grammar::{Refusal, Symbol};
 use ms_ir::{Form, Func, Operand, Ty};
 use ms_lex::Token;
 use ms_read_cursor::Tokens;
 use ms_read_values::{attributes, operand, type_to};
+use ms_text_grammar::{Cause, Symbol};
 use std::alloc::Global;
 
 /// Arrays and structs that may be open at once.
@@ -48,7 +48,7 @@ fn cursor_at<'a>(text: &'a [u8], tokens: &'a [Token], at: u32) -> Tokens<'a>
 fn answer<A: Drop>(
     text: &[u8],
     tokens: &[Token],
-    read: Result<A, Refusal>,
+    read: Result<A, Cause>,
     left: usize,
 ) -> Result<(A, u32), ReadError>
     requires { AreTokens text.now tokens.now }
@@ -72,13 +72,13 @@ fn next_token(answer: Result<((), u32), ReadError>) -> Result<u32, ReadError>
 }
 
 /// Reads `define` and the function behind it.
-#[tactic(auto, unfolding(ms_grammar::specs::Steps::word))]
+#[tactic(auto, unfolding(ms_text_grammar::specs::Steps::word))]
 fn read_definition(
     alloc: Global,
     tokens: &mut Tokens<'_>,
     form: Form,
     before: u32,
-) -> Result<Func, Refusal>
+) -> Result<Func, Cause>
     ensures { Gives (run (definition form before) tokens.old) result tokens.new }
 {
     tokens.word(Symbol::Define)?;

@@ -3,8 +3,8 @@
 ghost use Rattle.std.specs.Prelude.{◌≡◌};
 ghost use Rattle.ms_read_body.specs.Calls as spec;
 
-use ms_grammar::{Limit, Outside, Refusal};
 use ms_lex::LexError;
+use ms_text_grammar::{Cause, Limit, Outside};
 
 /// What a refusal names beside its number: the construct at 5, the limit at 6, and else nothing.
 #[derive(Clone, Copy, Debug, PartialEq, Eq)]
@@ -36,18 +36,18 @@ pub enum ReadError {
 }
 
 /// What a cause names.
-fn what_of(cause: Refusal) -> What
+fn what_of(cause: Cause) -> What
     ensures { result ≡ spec.what_of cause }
 {
     match cause {
-        Refusal::Outside(construct) => What::Outside(construct),
-        Refusal::Limit(limit) => What::Limit(limit),
+        Cause::Outside(construct) => What::Outside(construct),
+        Cause::Limit(limit) => What::Limit(limit),
         _ => What::Nothing,
     }
 }
 
 /// The error for a cause at a token, which begins at this byte.
-pub fn error_at(cause: Refusal, token: u32, place: u32) -> ReadError
+pub fn error_at(cause: Cause, token: u32, place: u32) -> ReadError
     ensures { result ≡ spec.error_at cause token place }
 {
     match cause.number() {

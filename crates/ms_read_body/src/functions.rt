@@ -1,20 +1,20 @@
 //! Functions and declarations (LLVM Language Reference, "Functions").
 
 ghost use Rattle.std.specs.Prelude.{◌≡◌, IfOk, map};
-ghost use Rattle.ms_grammar.specs.Functions as spec;
+ghost use Rattle.ms_text_grammar.specs.Functions as spec;
 ghost use Rattle.ms_read_cursor.specs.Reading.{Gives, run};
 ghost use Rattle.ms_read_body.specs.Headed as headed;
 
 use crate::lines::blocks;
 use crate::parameter_lists::parameters;
 use ms_bits::{Duplicate, List, NoMemory};
-use ms_grammar::{Body, Parameters, Refusal, Symbol};
 use ms_ir::{Block, Decl, Form, Func, Name, Ty};
 use ms_read_cursor::{Tokens, global};
 use ms_read_insts::names_printf;
 use ms_read_values::{
     ValueType, attachments, attributes, function_tail, linkage, result_ty, result_type,
 };
+use ms_text_grammar::{Body, Cause, Parameters, Symbol};
 use std::alloc::Global;
 
 /// The types of parameters. The one error is want of memory.
@@ -35,7 +35,7 @@ fn types_of_read(
     tokens: &mut Tokens<'_>,
     form: Form,
     parameters: &Parameters,
-) -> Result<List<Ty>, Refusal>
+) -> Result<List<Ty>, Cause>
     ensures { Gives (run (headed.types_of form parameters.now) tokens.old) result tokens.new }
 {
     attributes(alloc, tokens, form)?;
@@ -48,7 +48,7 @@ fn types_behind(
     tokens: &mut Tokens<'_>,
     form: Form,
     name: &Name,
-) -> Result<List<Ty>, Refusal>
+) -> Result<List<Ty>, Cause>
     ensures { Gives (run (headed.types_behind form name.now) tokens.old) result tokens.new }
 {
     tokens.word(Symbol::OpenParen)?;
@@ -64,7 +64,7 @@ fn declared(
     form: Form,
     ret: Option<ValueType>,
     name: Name,
-) -> Result<Decl, Refusal>
+) -> Result<Decl, Cause>
     ensures { Gives (run (headed.declared form ret name) tokens.old) result tokens.new }
 {
     let params = types_behind(alloc, tokens, form, &name)?;
@@ -81,8 +81,8 @@ fn declared(
 ///
 /// At the first token that can't stand: `Limit(Parameters)` at the 101st parameter, `Numbering` at a written number that
 /// isn't the next one, `Reserved` and `Limit(Name)` at names, `Syntax` and `Outside`.
-#[tactic(auto, unfolding(ms_grammar::specs::Functions::declaration, crate::specs::Headed::declared))]
-pub fn declaration(alloc: Global, tokens: &mut Tokens<'_>, form: Form) -> Result<Decl, Refusal>
+#[tactic(auto, unfolding(ms_text_grammar::specs::Functions::declaration, crate::specs::Headed::declared))]
+pub fn declaration(alloc: Global, tokens: &mut Tokens<'_>, form: Form) -> Result<Decl, Cause>
     ensures { Gives (run (spec.declaration form) tokens.old) result tokens.new }
 {
     attachments(alloc, tokens, form)?;
@@ -113,7 +113,7 @@ fn blocks_behind(
     form: Form,
     before: u32,
     parameters: &Parameters,
-) -> Result<List<Block>, Refusal>
+) -> Result<List<Block>, Cause>
     ensures { Gives (run (headed.blocks_behind form before parameters.now) tokens.old) result tokens.new }
 {
     function_tail(alloc, tokens, form)?;
@@ -132,7 +132,7 @@ fn bodied(
     ret: Option<ValueType>,
     name: Name,
     parameters: Parameters,
-) -> Result<Func, Refusal>
+) -> Result<Func, Cause>
     ensures { Gives (run (headed.bodied form before ret name parameters) tokens.old) result tokens.new }
 {
     let blocks = blocks_behind(alloc, tokens, form, before, &parameters)?;
@@ -152,7 +152,7 @@ fn named(
     before: u32,
     ret: Option<ValueType>,
     name: Name,
-) -> Result<Func, Refusal>
+) -> Result<Func, Cause>
     ensures { Gives (run (headed.named form before ret name) tokens.old) result tokens.new }
 {
     tokens.word(Symbol::OpenParen)?;
@@ -167,13 +167,13 @@ fn named(
 /// At the first token that can't stand: `Limit(Instructions)` at the first token of the instruction that is one too many,
 /// `Limit(Parameters)` at the 101st parameter, `Numbering` at a written number that isn't the next one, `Reserved` and
 /// `Limit(Name)` at names, `Syntax` and `Outside`.
-#[tactic(auto, unfolding(ms_grammar::specs::Functions::function, crate::specs::Headed::bodied))]
+#[tactic(auto, unfolding(ms_text_grammar::specs::Functions::function, crate::specs::Headed::bodied))]
 pub fn function(
     alloc: Global,
     tokens: &mut Tokens<'_>,
     form: Form,
     before: u32,
-) -> Result<Func, Refusal>
+) -> Result<Func, Cause>
     ensures { Gives (run (spec.function form before) tokens.old) result tokens.new }
 {
     linkage(alloc, tokens, form)?;
@@ -189,7 +189,7 @@ fn body_opened(
     form: Form,
     before: u32,
     parameters: &Parameters,
-) -> Result<Body, Refusal>
+) -> Result<Body, Cause>
     ensures { Gives (run (headed.body_opened form before parameters.now) tokens.old) result tokens.new }
 {
     function_tail(alloc, tokens, form)?;
@@ -203,7 +203,7 @@ fn parameters_opened(
     tokens: &mut Tokens<'_>,
     form: Form,
     before: u32,
-) -> Result<Body, Refusal>
+) -> Result<Body, Cause>
     ensures { Gives (run (headed.parameters_opened form before) tokens.old) result tokens.new }
 {
     tokens.word(Symbol::OpenParen)?;
@@ -222,7 +222,7 @@ pub fn heading(
     tokens: &mut Tokens<'_>,
     form: Form,
     before: u32,
-) -> Result<Body, Refusal>
+) -> Result<Body, Cause>
     ensures { Gives (run (headed.heading form before) tokens.old) result tokens.new }
 {
     linkage(alloc, tokens, form)?;

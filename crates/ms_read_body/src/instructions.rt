@@ -1,8 +1,8 @@
 //! Instructions behind their first word (LLVM Language Reference, "Instruction Reference").
 
 ghost use Rattle.std.specs.Prelude.{◌≡◌, ◌<◌, ◌+◌, ◌^◌};
-ghost use Rattle.ms_grammar.specs.Insts.{alloca_rule as alloca_piece, step_rule as step_piece};
-ghost use Rattle.ms_grammar.specs.Lines as spec;
+ghost use Rattle.ms_text_grammar.specs.Insts.{alloca_rule as alloca_piece, gep_rule as gep_piece};
+ghost use Rattle.ms_text_grammar.specs.Lines as spec;
 ghost use Rattle.ms_read_cursor.specs.Reading.{Leaves, run};
 ghost use Rattle.ms_read_body.specs.Operations.{effect_rule, value_rule};
 ghost use Rattle.ms_read_body.specs.Words as words;
@@ -10,15 +10,15 @@ ghost use Rattle.ms_read_body.specs.Words as words;
 use crate::added::{add_call, add_effect, add_end, add_value};
 use crate::open_blocks::is_open;
 use crate::operation_rules::{EffectIn, EffectOperation, ValueIn, ValueOperation};
-use ms_grammar::{Body, Refusal, Symbol};
 use ms_ir::{Form, Name};
 use ms_read_cursor::Tokens;
-use ms_read_insts::{alloca_rule, call_rule, phi_rule, step_rule, with_suffixes};
+use ms_read_insts::{alloca_rule, call_rule, gep_rule, phi_rule, with_suffixes};
 use ms_read_values::{binary_op, cast_op};
+use ms_text_grammar::{Body, Cause, Symbol};
 use std::alloc::Global;
 
 /// An instruction with a result.
-#[tactic(auto, unfolding(ms_grammar::specs::Lines::value_line))]
+#[tactic(auto, unfolding(ms_text_grammar::specs::Lines::value_line))]
 fn value_line(
     alloc: Global,
     tokens: &mut Tokens<'_>,
@@ -26,7 +26,7 @@ fn value_line(
     body: &mut Body,
     name: &mut Option<Name>,
     operation: ValueOperation,
-) -> Result<(), Refusal>
+) -> Result<(), Cause>
     requires next { body.old.next + 1 < 2 ^ 32 }
     requires count { body.old.count + 1 < 2 ^ 32 }
     ensures { Leaves (run (spec.value_line form body.old name.old (value_rule form operation)) tokens.old) result body.new tokens.new }
@@ -36,14 +36,14 @@ fn value_line(
 }
 
 /// An `alloca`.
-#[tactic(auto, unfolding(ms_grammar::specs::Lines::marked_line))]
+#[tactic(auto, unfolding(ms_text_grammar::specs::Lines::marked_line))]
 fn alloca_line(
     alloc: Global,
     tokens: &mut Tokens<'_>,
     form: Form,
     body: &mut Body,
     name: &mut Option<Name>,
-) -> Result<(), Refusal>
+) -> Result<(), Cause>
     requires next { body.old.next + 1 < 2 ^ 32 }
     requires count { body.old.count + 1 < 2 ^ 32 }
     ensures { Leaves (run (spec.marked_line body.old name.old (alloca_piece form)) tokens.old) result body.new tokens.new }
@@ -53,31 +53,31 @@ fn alloca_line(
 }
 
 /// A `getelementptr`.
-#[tactic(auto, unfolding(ms_grammar::specs::Lines::marked_line))]
-fn step_line(
+#[tactic(auto, unfolding(ms_text_grammar::specs::Lines::marked_line))]
+fn gep_line(
     alloc: Global,
     tokens: &mut Tokens<'_>,
     form: Form,
     body: &mut Body,
     name: &mut Option<Name>,
-) -> Result<(), Refusal>
+) -> Result<(), Cause>
     requires next { body.old.next + 1 < 2 ^ 32 }
     requires count { body.old.count + 1 < 2 ^ 32 }
-    ensures { Leaves (run (spec.marked_line body.old name.old (step_piece form)) tokens.old) result body.new tokens.new }
+    ensures { Leaves (run (spec.marked_line body.old name.old (gep_piece form)) tokens.old) result body.new tokens.new }
 {
-    let read = step_rule(alloc, tokens, form)?;
+    let read = gep_rule(alloc, tokens, form)?;
     Ok(add_value(alloc, body, name, false, read)?)
 }
 
 /// A phi, behind which another may stand.
-#[tactic(auto, unfolding(ms_grammar::specs::Lines::phi_line))]
+#[tactic(auto, unfolding(ms_text_grammar::specs::Lines::phi_line))]
 fn phi_line(
     alloc: Global,
     tokens: &mut Tokens<'_>,
     form: Form,
     body: &mut Body,
     name: &mut Option<Name>,
-) -> Result<(), Refusal>
+) -> Result<(), Cause>
     requires next { body.old.next + 1 < 2 ^ 32 }
     requires count { body.old.count + 1 < 2 ^ 32 }
     ensures { Leaves (run (spec.phi_line form body.old name.old) tokens.old) result body.new tokens.new }
@@ -87,7 +87,7 @@ fn phi_line(
 }
 
 /// A call, which knows whether it has a name.
-#[tactic(auto, unfolding(ms_grammar::specs::Lines::call_line))]
+#[tactic(auto, unfolding(ms_text_grammar::specs::Lines::call_line))]
 fn call_line(
     alloc: Global,
     tokens: &mut Tokens<'_>,
@@ -95,7 +95,7 @@ fn call_line(
     body: &mut Body,
     name: &mut Option<Name>,
     first: Symbol,
-) -> Result<(), Refusal>
+) -> Result<(), Cause>
     requires next { body.old.next + 1 < 2 ^ 32 }
     requires count { body.old.count + 1 < 2 ^ 32 }
     ensures { Leaves (run (spec.call_line form body.old name.old first) tokens.old) result body.new tokens.new }
@@ -106,14 +106,14 @@ fn call_line(
 }
 
 /// An instruction without a result.
-#[tactic(auto, unfolding(ms_grammar::specs::Lines::effect_line))]
+#[tactic(auto, unfolding(ms_text_grammar::specs::Lines::effect_line))]
 fn effect_line(
     alloc: Global,
     tokens: &mut Tokens<'_>,
     form: Form,
     body: &mut Body,
     operation: EffectOperation,
-) -> Result<(), Refusal>
+) -> Result<(), Cause>
     requires { body.old.count + 1 < 2 ^ 32 }
     ensures { Leaves (run (spec.effect_line form body.old (effect_rule form operation)) tokens.old) result body.new tokens.new }
 {
@@ -122,14 +122,14 @@ fn effect_line(
 }
 
 /// A terminator.
-#[tactic(auto, unfolding(ms_grammar::specs::Lines::end_line))]
+#[tactic(auto, unfolding(ms_text_grammar::specs::Lines::end_line))]
 fn end_line(
     alloc: Global,
     tokens: &mut Tokens<'_>,
     form: Form,
     body: &mut Body,
     operation: EffectOperation,
-) -> Result<(), Refusal>
+) -> Result<(), Cause>
     requires { body.old.count + 1 < 2 ^ 32 }
     ensures { Leaves (run (spec.end_line form body.old (effect_rule form operation)) tokens.old) result body.new tokens.new }
 {
@@ -171,7 +171,7 @@ fn further_instruction(
     body: &mut Body,
     name: &mut Option<Name>,
     symbol: Symbol,
-) -> Result<(), Refusal>
+) -> Result<(), Cause>
     requires next { body.old.next + 1 < 2 ^ 32 }
     requires count { body.old.count + 1 < 2 ^ 32 }
     ensures { Leaves (run (words.further_instruction form body.old name.old symbol) tokens.old) result body.new tokens.new }
@@ -180,7 +180,7 @@ fn further_instruction(
         Symbol::Phi => phi_line(alloc, tokens, form, body, name),
         Symbol::Alloca => alloca_line(alloc, tokens, form, body, name),
         Symbol::Store => effect_line(alloc, tokens, form, body, EffectOperation::Store),
-        Symbol::GetElementPtr => step_line(alloc, tokens, form, body, name),
+        Symbol::GetElementPtr => gep_line(alloc, tokens, form, body, name),
         Symbol::Tail | Symbol::MustTail | Symbol::NoTail | Symbol::Call => {
             call_line(alloc, tokens, form, body, name, symbol)
         }
@@ -197,7 +197,7 @@ fn instruction_by(
     body: &mut Body,
     name: &mut Option<Name>,
     symbol: Symbol,
-) -> Result<(), Refusal>
+) -> Result<(), Cause>
     requires next { body.old.next + 1 < 2 ^ 32 }
     requires count { body.old.count + 1 < 2 ^ 32 }
     ensures { Leaves (run (spec.instruction_by form body.old name.old symbol) tokens.old) result body.new tokens.new }
@@ -216,7 +216,7 @@ fn instruction_by(
 /// # Errors
 ///
 /// At the first token that can't stand, those of the instruction's reader.
-#[tactic(auto, unfolding(ms_grammar::specs::Lines::instruction))]
+#[tactic(auto, unfolding(ms_text_grammar::specs::Lines::instruction))]
 pub fn instruction(
     alloc: Global,
     tokens: &mut Tokens<'_>,
@@ -224,7 +224,7 @@ pub fn instruction(
     body: &mut Body,
     name: &mut Option<Name>,
     symbol: Symbol,
-) -> Result<(), Refusal>
+) -> Result<(), Cause>
     requires next { body.old.next + 1 < 2 ^ 32 }
     requires count { body.old.count + 1 < 2 ^ 32 }
     ensures { Leaves (run (spec.instruction form body.old name.old symbol) tokens.old) result body.new tokens.new }

@@ -18,5 +18,5 @@ pub use errors::{ReadError, What, error_at};
 pub use functions::{declaration, function, heading};
 pub use line_starts::line_begins;
 pub use lines::line;
-pub use ms_grammar::{Limit, Outside, Refusal};
 pub use ms_ir::Form;
+pub use ms_text_grammar::{Cause, Limit, Outside};

@@ -1,19 +1,19 @@
 //! Which token begins a line of a body, and what refuses it there.
 
 ghost use Rattle.std.specs.Prelude.{◌≡◌, ◌⊎◌, Ok, true};
-ghost use Rattle.ms_grammar.specs.Bodies as spec;
-ghost use Rattle.ms_grammar.specs.Lexemes.{name_in};
+ghost use Rattle.ms_text_grammar.specs.Bodies as spec;
+ghost use Rattle.ms_text_grammar.specs.Lexemes.{name_in};
 ghost use Rattle.ms_read_cursor.specs.Reading.{Judges};
 
 use crate::open_blocks::{is_open, may_phi, next_value};
-use ms_grammar::{Body, Limit, Refusal, Symbol};
 use ms_ir::Form;
 use ms_read_cursor::{Lexeme, name_fits, reserved_local};
 use ms_read_values::{binary_op, cast_op};
+use ms_text_grammar::{Body, Cause, Limit, Symbol};
 use std::alloc::Global;
 
 /// How many instructions a text may have.
-#[tactic(auto, unfolding(ms_grammar::specs::Bodies::max_instructions))]
+#[tactic(auto, unfolding(ms_text_grammar::specs::Bodies::max_instructions))]
 fn max_instructions(form: Form) -> u32
     ensures { result ≡ spec.max_instructions form }
 {
@@ -24,44 +24,40 @@ fn max_instructions(form: Form) -> u32
 }
 
 /// The verdict, where there is room for one more instruction.
-fn counted(form: Form, body: &Body, verdict: Result<bool, Refusal>) -> Result<bool, Refusal>
+fn counted(form: Form, body: &Body, verdict: Result<bool, Cause>) -> Result<bool, Cause>
     ensures { result ≡ spec.counted form body.now verdict }
 {
     if body.count < max_instructions(form) {
         verdict
     } else {
-        Err(Refusal::Limit(Limit::Instructions))
+        Err(Cause::Limit(Limit::Instructions))
     }
 }
 
 /// A name that is short enough.
-fn short(text: &[u8]) -> Result<bool, Refusal>
+fn short(text: &[u8]) -> Result<bool, Cause>
     ensures { result ≡ spec.short text.now }
 {
     if name_fits(text) {
         Ok(true)
     } else {
-        Err(Refusal::Limit(Limit::Name))
+        Err(Cause::Limit(Limit::Name))
     }
 }
 
 /// The verdict, where the name isn't reserved.
-fn unreserved(form: Form, text: &[u8], verdict: Result<bool, Refusal>) -> Result<bool, Refusal>
+fn unreserved(form: Form, text: &[u8], verdict: Result<bool, Cause>) -> Result<bool, Cause>
     ensures { result ≡ spec.unreserved form text.now verdict }
 {
     if reserved_local(form, text) {
-        Err(Refusal::Reserved)
+        Err(Cause::Reserved)
     } else {
         verdict
     }
 }
 
 /// The verdict, where the written number is the expected one.
-fn numbered(
-    expected: u64,
-    token: &Lexeme<'_>,
-    verdict: Result<bool, Refusal>,
-) -> Result<bool, Refusal>
+fn numbered(expected: u64, token: &Lexeme<'_>, verdict: Result<bool, Cause>) -> Result<bool, Cause>
     requires { (token.now.symbol ≡ Symbol.NumberedLocal) ⊎ (token.now.symbol ≡ Symbol.NumberedLabel) }
     ensures { result ≡ spec.numbered expected (name_in token.now) verdict }
 {
@@ -70,10 +66,10 @@ fn numbered(
             if number == expected {
                 verdict
             } else {
-                Err(Refusal::Numbering)
+                Err(Cause::Numbering)
             }
         }
-        None => Err(Refusal::Numbering),
+        None => Err(Cause::Numbering),
     }
 }
 
@@ -102,7 +98,7 @@ pub fn begins_instruction(symbol: Symbol) -> bool
 }
 
 /// A label of text, where no block is open.
-fn label_begins(alloc: Global, form: Form, token: &Lexeme<'_>) -> Result<bool, Refusal>
+fn label_begins(alloc: Global, form: Form, token: &Lexeme<'_>) -> Result<bool, Cause>
     ensures { Judges (spec.unreserved form (name_in token.now) (spec.short (name_in token.now))) result }
 {
     let name = token.small_name(alloc)?;
@@ -111,7 +107,7 @@ fn label_begins(alloc: Global, form: Form, token: &Lexeme<'_>) -> Result<bool, R
 }
 
 /// A result's name of text.
-fn name_begins(alloc: Global, form: Form, body: &Body, token: &Lexeme<'_>) -> Result<bool, Refusal>
+fn name_begins(alloc: Global, form: Form, body: &Body, token: &Lexeme<'_>) -> Result<bool, Cause>
     ensures { Judges (spec.unreserved form (name_in token.now) (spec.counted form body.now (spec.short (name_in token.now)))) result }
 {
     let name = token.small_name(alloc)?;
@@ -120,7 +116,7 @@ fn name_begins(alloc: Global, form: Form, body: &Body, token: &Lexeme<'_>) -> Re
 }
 
 /// A word begins an instruction, if there is room for one.
-fn word_begins(form: Form, body: &Body, symbol: Symbol) -> Result<bool, Refusal>
+fn word_begins(form: Form, body: &Body, symbol: Symbol) -> Result<bool, Cause>
     ensures { result ≡ spec.word_begins form body.now symbol }
 {
     if begins_instruction(symbol) {
@@ -131,12 +127,7 @@ fn word_begins(form: Form, body: &Body, symbol: Symbol) -> Result<bool, Refusal>
 }
 
 /// Whether a line begins with this token, as far as numbers go.
-fn line_begins_by(
-    alloc: Global,
-    form: Form,
-    body: &Body,
-    token: &Lexeme<'_>,
-) -> Result<bool, Refusal>
+fn line_begins_by(alloc: Global, form: Form, body: &Body, token: &Lexeme<'_>) -> Result<bool, Cause>
     ensures { Judges (spec.line_begins_by form body.now token.now.symbol token.now) result }
 {
     match token.symbol() {
@@ -178,18 +169,18 @@ fn line_begins_by(
 /// At a label or a result's name: `Reserved`, `Limit(Instructions)` for a result and `Limit(Name)`, in this order. At a
 /// written number that isn't the next one `Numbering`. At the first token of the instruction that is one too many
 /// `Limit(Instructions)`. At any token `Numbering` where 2^32 numbers are used up.
-#[tactic(auto, unfolding(ms_grammar::specs::Bodies::line_begins))]
+#[tactic(auto, unfolding(ms_text_grammar::specs::Bodies::line_begins))]
 pub fn line_begins(
     alloc: Global,
     form: Form,
     body: &Body,
     token: &Lexeme<'_>,
-) -> Result<bool, Refusal>
+) -> Result<bool, Cause>
     ensures { Judges (spec.line_begins form body.now token.now) result }
 {
     if body.next < u32::MAX - 1 {
         line_begins_by(alloc, form, body, token)
     } else {
-        Err(Refusal::Numbering)
+        Err(Cause::Numbering)
     }
 }

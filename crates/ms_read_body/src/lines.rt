@@ -1,8 +1,8 @@
 //! The lines of a body: labels, debug records and instructions (LLVM Language Reference, "Functions").
 
 ghost use Rattle.std.specs.Prelude.{◌≡◌, ◌<◌, ◌+◌, ◌^◌, IfOk, None, Some};
-ghost use Rattle.ms_grammar.specs.Bodies as bodies;
-ghost use Rattle.ms_grammar.specs.Lines as spec;
+ghost use Rattle.ms_text_grammar.specs.Bodies as bodies;
+ghost use Rattle.ms_text_grammar.specs.Lines as spec;
 ghost use Rattle.ms_read_cursor.specs.Reading.{Gives, Judges, Leaves, run};
 ghost use Rattle.ms_read_body.specs.Beginnings as beginnings;
 ghost use Rattle.ms_read_body.specs.Closing.{closed as closed_piece};
@@ -12,10 +12,10 @@ use crate::instructions::instruction;
 use crate::line_starts::{begins_instruction, line_begins};
 use crate::open_blocks::{is_open, open, open_as};
 use ms_bits::{List, NoMemory};
-use ms_grammar::{Body, Refusal, Symbol};
 use ms_ir::{Block, Form, Name};
 use ms_read_cursor::{Lexeme, Tokens, Turn, repeat};
 use ms_read_values::balanced;
+use ms_text_grammar::{Body, Cause, Symbol};
 use std::alloc::Global;
 use std::mem;
 
@@ -31,7 +31,7 @@ fn gives_value(phis: bool, symbol: Symbol) -> bool
 }
 
 /// The word behind a result's name, by its token.
-fn value_word_of(phis: bool, token: &Lexeme<'_>) -> Result<Symbol, Refusal>
+fn value_word_of(phis: bool, token: &Lexeme<'_>) -> Result<Symbol, Cause>
     ensures { Judges (spec.value_word_of phis token.now) result }
 {
     let symbol = token.symbol();
@@ -61,13 +61,13 @@ fn label_line(alloc: Global, body: &mut Body, label: &Lexeme<'_>) -> Result<(), 
 }
 
 /// Reads a debug record behind its group, which stands in a block.
-#[tactic(auto, unfolding(ms_grammar::specs::Lines::record_line))]
+#[tactic(auto, unfolding(ms_text_grammar::specs::Lines::record_line))]
 fn record_line(
     alloc: Global,
     tokens: &mut Tokens<'_>,
     form: Form,
     body: &mut Body,
-) -> Result<(), Refusal>
+) -> Result<(), Cause>
     requires { body.old.next + 1 < 2 ^ 32 }
     ensures { Leaves (run (spec.record_line form (bodies.opened body.old)) tokens.old) result body.new tokens.new }
 {
@@ -95,7 +95,7 @@ fn named_instruction(
     body: &mut Body,
     name: &Lexeme<'_>,
     symbol: Symbol,
-) -> Result<(), Refusal>
+) -> Result<(), Cause>
     requires next { body.old.next + 1 < 2 ^ 32 }
     requires count { body.old.count + 1 < 2 ^ 32 }
     ensures { Leaves (run (spec.instruction form body.old (Some (beginnings.result_name body.old.next name.now.symbol name.now)) symbol) tokens.old) result body.new tokens.new }
@@ -105,14 +105,14 @@ fn named_instruction(
 }
 
 /// Reads an instruction behind its result's name, which is a token, in a block.
-#[tactic(auto, unfolding(ms_grammar::specs::Lines::named_line))]
+#[tactic(auto, unfolding(ms_text_grammar::specs::Lines::named_line))]
 fn named_line(
     alloc: Global,
     tokens: &mut Tokens<'_>,
     form: Form,
     body: &mut Body,
     name: &Lexeme<'_>,
-) -> Result<(), Refusal>
+) -> Result<(), Cause>
     requires next { body.old.next + 2 < 2 ^ 32 }
     requires count { body.old.count + 1 < 2 ^ 32 }
     ensures { Leaves (run (spec.named_line form (bodies.opened body.old) (beginnings.result_name (bodies.opened body.old).next name.now.symbol name.now)) tokens.old) result body.new tokens.new }
@@ -131,7 +131,7 @@ fn unnamed_line(
     form: Form,
     body: &mut Body,
     symbol: Symbol,
-) -> Result<(), Refusal>
+) -> Result<(), Cause>
     requires next { body.old.next + 2 < 2 ^ 32 }
     requires count { body.old.count + 1 < 2 ^ 32 }
     ensures { Leaves (run (spec.instruction form (bodies.opened body.old) None symbol) tokens.old) result body.new tokens.new }
@@ -141,14 +141,14 @@ fn unnamed_line(
 }
 
 /// Reads a line behind its first token, and adds it to the body.
-#[tactic(auto, unfolding(ms_grammar::specs::Lines::line))]
+#[tactic(auto, unfolding(ms_text_grammar::specs::Lines::line))]
 pub fn line(
     alloc: Global,
     tokens: &mut Tokens<'_>,
     form: Form,
     body: &mut Body,
     first: &Lexeme<'_>,
-) -> Result<(), Refusal>
+) -> Result<(), Cause>
     requires next { body.old.next + 2 < 2 ^ 32 }
     requires count { HasRoom first.now.symbol body.old.count }
     ensures { Leaves (run (spec.line form body.old first.now) tokens.old) result body.new tokens.new }
@@ -170,14 +170,14 @@ struct EachLine {
 impl Turn for EachLine {
     type State = Body;
 
-    ghost use Rattle.ms_grammar.specs.Bodies.{line_begins};
-    ghost use Rattle.ms_grammar.specs.Lines.{line};
+    ghost use Rattle.ms_text_grammar.specs.Bodies.{line_begins};
+    ghost use Rattle.ms_text_grammar.specs.Lines.{line};
 
     ghost begins = { λ rule. line_begins rule.form };
 
     ghost body = { λ rule. line rule.form };
 
-    fn goes_on(&self, alloc: Global, state: &Body, first: &Lexeme<'_>) -> Result<bool, Refusal> {
+    fn goes_on(&self, alloc: Global, state: &Body, first: &Lexeme<'_>) -> Result<bool, Cause> {
         line_begins(alloc, self.form, state, first)
     }
 
@@ -188,7 +188,7 @@ impl Turn for EachLine {
         state: Body,
         first: &Lexeme<'_>,
         tokens: &mut Tokens<'_>,
-    ) -> Result<Body, Refusal> {
+    ) -> Result<Body, Cause> {
         let mut body = state;
         line(alloc, tokens, self.form, &mut body, first)?;
         Ok(body)
@@ -196,7 +196,7 @@ impl Turn for EachLine {
 }
 
 /// Takes the brace behind the blocks of a body, where one stands and none is open, and gives the blocks.
-fn closed(alloc: Global, tokens: &mut Tokens<'_>, body: &mut Body) -> Result<List<Block>, Refusal>
+fn closed(alloc: Global, tokens: &mut Tokens<'_>, body: &mut Body) -> Result<List<Block>, Cause>
     ensures { Gives (run (closed_piece body.old) tokens.old) result tokens.new }
 {
     if is_open(&body.name) || body.blocks.as_slice().is_empty() {
@@ -212,13 +212,13 @@ fn closed(alloc: Global, tokens: &mut Tokens<'_>, body: &mut Body) -> Result<Lis
 ///
 /// At the first token that can't stand: those of `line_begins` at the first token of a line, those of the lines, and
 /// `Syntax` or `Outside` where a block is open that no terminator has ended, or where no block stands.
-#[tactic(auto, unfolding(ms_grammar::specs::Lines::blocks))]
+#[tactic(auto, unfolding(ms_text_grammar::specs::Lines::blocks))]
 pub fn blocks(
     alloc: Global,
     tokens: &mut Tokens<'_>,
     form: Form,
     start: Body,
-) -> Result<List<Block>, Refusal>
+) -> Result<List<Block>, Cause>
     ensures { Gives (run (spec.blocks form start) tokens.old) result tokens.new }
 {
     let mut body = repeat(alloc, tokens, &EachLine { form }, start)?;

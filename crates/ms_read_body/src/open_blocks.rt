@@ -1,11 +1,11 @@
 //! Blocks that begin (LLVM Language Reference, "Functions").
 
 ghost use Rattle.std.specs.Prelude.{◌≡◌, ◌<◌, ◌≤◌, ◌+◌, ◌^◌};
-ghost use Rattle.ms_grammar.specs.Bodies as spec;
+ghost use Rattle.ms_text_grammar.specs.Bodies as spec;
 
 use ms_bits::List;
-use ms_grammar::Body;
 use ms_ir::Name;
+use ms_text_grammar::Body;
 use std::alloc::Global;
 
 /// Whether a block is open.
@@ -30,7 +30,7 @@ pub fn open_as(alloc: Global, body: &mut Body, name: Name, numbers: u32)
 }
 
 /// Begins a block without a label, unless one is open.
-#[tactic(auto, unfolding(ms_grammar::specs::Bodies::opened))]
+#[tactic(auto, unfolding(ms_text_grammar::specs::Bodies::opened))]
 pub fn open(alloc: Global, body: &mut Body)
     requires { body.old.next + 1 < 2 ^ 32 }
     ensures exact { body.new ≡ spec.opened body.old }
@@ -44,7 +44,7 @@ pub fn open(alloc: Global, body: &mut Body)
 }
 
 /// The number of the next value, in whichever block it stands.
-#[tactic(auto, unfolding(ms_grammar::specs::Bodies::opened))]
+#[tactic(auto, unfolding(ms_text_grammar::specs::Bodies::opened))]
 pub fn next_value(body: &Body) -> u64
     ensures { result ≡ (spec.opened body.now).next }
 {
@@ -55,7 +55,7 @@ pub fn next_value(body: &Body) -> u64
 }
 
 /// Whether a phi may come.
-#[tactic(auto, unfolding(ms_grammar::specs::Bodies::opened))]
+#[tactic(auto, unfolding(ms_text_grammar::specs::Bodies::opened))]
 pub fn may_phi(body: &Body) -> bool
     ensures { result ≡ (spec.opened body.now).phis }
 {

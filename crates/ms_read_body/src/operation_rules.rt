@@ -4,13 +4,13 @@ ghost use Rattle.std.specs.Prelude.{◌≡◌, IfOk};
 ghost use Rattle.ms_ir.specs.declared.syntax.Op.TheVariants as operation;
 
 use ms_bits::{BinOp, Boxed, CastOp, NoMemory};
-use ms_grammar::Refusal;
 use ms_ir::{Form, Op};
 use ms_read_cursor::{Rule, Tokens};
 use ms_read_insts::{
     binary_rule, branch_rule, cast_rule, compare_rule, freeze_rule, load_rule, ret_rule,
     select_rule, store_rule, switch_rule,
 };
+use ms_text_grammar::Cause;
 use std::alloc::Global;
 
 /// `unreachable`, which has no parts. The one error is want of memory.
@@ -55,7 +55,7 @@ impl Rule for ValueIn {
 
     ghost piece = { λ rule. value_rule rule.form rule.operation };
 
-    fn read(&self, alloc: Global, tokens: &mut Tokens<'_>) -> Result<Boxed<Op>, Refusal> {
+    fn read(&self, alloc: Global, tokens: &mut Tokens<'_>) -> Result<Boxed<Op>, Cause> {
         match self.operation {
             ValueOperation::Binary(op) => binary_rule(alloc, tokens, self.form, op),
             ValueOperation::Cast(op) => cast_rule(alloc, tokens, self.form, op),
@@ -81,7 +81,7 @@ impl Rule for EffectIn {
 
     ghost piece = { λ rule. effect_rule rule.form rule.operation };
 
-    fn read(&self, alloc: Global, tokens: &mut Tokens<'_>) -> Result<Boxed<Op>, Refusal> {
+    fn read(&self, alloc: Global, tokens: &mut Tokens<'_>) -> Result<Boxed<Op>, Cause> {
         match self.operation {
             EffectOperation::Store => store_rule(alloc, tokens, self.form),
             EffectOperation::Branch => branch_rule(alloc, tokens, self.form),

@@ -2,16 +2,16 @@
 //! "Identifiers").
 
 ghost use Rattle.std.specs.Prelude.{◌≡◌, ◌<◌, IfOk, OnOk};
-ghost use Rattle.ms_grammar.specs.Functions as spec;
-ghost use Rattle.ms_grammar.specs.Types as types;
+ghost use Rattle.ms_text_grammar.specs.Functions as spec;
+ghost use Rattle.ms_text_grammar.specs.Types as types;
 ghost use Rattle.ms_read_cursor.specs.Reading.{Gives, Judges, Leaves, run};
 ghost use Rattle.ms_read_body.specs.Headed.{named_parameter as named_piece};
 
 use ms_bits::{List, NoMemory};
-use ms_grammar::{Limit, Parameters, Refusal, Symbol};
 use ms_ir::{Form, Name, Ty};
 use ms_read_cursor::{Lexeme, Series, Tokens, listed, local_name, push};
 use ms_read_values::{ValueType, attributes, value_type_of};
+use ms_text_grammar::{Cause, Limit, Parameters, Symbol};
 use std::alloc::Global;
 
 /// Parameters of a function.
@@ -25,7 +25,7 @@ fn has_room(parameters: &Parameters) -> bool
 }
 
 /// The type that begins a parameter, by its token. The 101st has no room.
-fn parameter_type_of(parameters: &Parameters, token: &Lexeme<'_>) -> Result<ValueType, Refusal>
+fn parameter_type_of(parameters: &Parameters, token: &Lexeme<'_>) -> Result<ValueType, Cause>
     ensures exact { Judges (spec.parameter_type_of parameters.now token.now) result }
     ensures room { OnOk result (parameters.now.next < 100) }
 {
@@ -33,12 +33,12 @@ fn parameter_type_of(parameters: &Parameters, token: &Lexeme<'_>) -> Result<Valu
     if has_room(parameters) {
         Ok(ty)
     } else {
-        Err(Refusal::Limit(Limit::Parameters))
+        Err(Cause::Limit(Limit::Parameters))
     }
 }
 
 /// A parameter's number as a token, which is the next one.
-fn numbered_name(expected: u32, token: &Lexeme<'_>) -> Result<Name, Refusal>
+fn numbered_name(expected: u32, token: &Lexeme<'_>) -> Result<Name, Cause>
     requires { token.now.symbol ≡ Symbol.NumberedLocal }
     ensures { Judges (spec.numbered_name expected token.now) result }
 {
@@ -47,10 +47,10 @@ fn numbered_name(expected: u32, token: &Lexeme<'_>) -> Result<Name, Refusal>
             if number == u64::from(expected) {
                 Ok(Name::Number(expected))
             } else {
-                Err(Refusal::Numbering)
+                Err(Cause::Numbering)
             }
         }
-        None => Err(Refusal::Numbering),
+        None => Err(Cause::Numbering),
     }
 }
 
@@ -59,13 +59,13 @@ fn numbered_name(expected: u32, token: &Lexeme<'_>) -> Result<Name, Refusal>
 /// # Errors
 ///
 /// `Numbering` at a number that isn't the next one, and those of `local_name`.
-#[tactic(auto, unfolding(ms_grammar::specs::Functions::parameter_name))]
+#[tactic(auto, unfolding(ms_text_grammar::specs::Functions::parameter_name))]
 fn parameter_name(
     alloc: Global,
     tokens: &mut Tokens<'_>,
     form: Form,
     number: u32,
-) -> Result<Name, Refusal>
+) -> Result<Name, Cause>
     ensures { Gives (run (spec.parameter_name form number) tokens.old) result tokens.new }
 {
     match tokens.peek() {
@@ -115,7 +115,7 @@ fn add_named(
     form: Form,
     parameters: &mut Parameters,
     ty: ValueType,
-) -> Result<(), Refusal>
+) -> Result<(), Cause>
     requires { parameters.old.next < 100 }
     ensures { Leaves (run (named_piece form parameters.old ty) tokens.old) result parameters.new tokens.new }
 {
@@ -124,13 +124,13 @@ fn add_named(
 }
 
 /// Reads a parameter that isn't dots, and adds it to the others: its type, attributes, and its name or nothing.
-#[tactic(auto, unfolding(ms_grammar::specs::Functions::typed_parameter))]
+#[tactic(auto, unfolding(ms_text_grammar::specs::Functions::typed_parameter))]
 fn typed_parameter(
     alloc: Global,
     tokens: &mut Tokens<'_>,
     form: Form,
     parameters: &mut Parameters,
-) -> Result<(), Refusal>
+) -> Result<(), Cause>
     ensures { Leaves (run (spec.typed_parameter form parameters.old) tokens.old) result parameters.new tokens.new }
 {
     let ty = parameter_type_of(parameters, &tokens.lexeme())?;
@@ -164,14 +164,14 @@ fn is_one_pointer(found: &[(Ty, Name)]) -> bool
 /// # Errors
 ///
 /// `Limit(Parameters)` at the type of the 101st, `Numbering` at a number that isn't the next one, and those of its parts.
-#[tactic(auto, unfolding(ms_grammar::specs::Functions::parameter))]
+#[tactic(auto, unfolding(ms_text_grammar::specs::Functions::parameter))]
 fn parameter(
     alloc: Global,
     tokens: &mut Tokens<'_>,
     form: Form,
     dotted: bool,
     parameters: &mut Parameters,
-) -> Result<(), Refusal>
+) -> Result<(), Cause>
     ensures { Leaves (run (spec.parameter form dotted parameters.old) tokens.old) result parameters.new tokens.new }
 {
     let dots = dotted && is_one_pointer(parameters.found.as_slice()) && tokens.sees(Symbol::Dots);
@@ -194,7 +194,7 @@ impl Series for EachParameter {
     type State = Parameters;
 
     ghost use Rattle.std.specs.Prelude.{not};
-    ghost use Rattle.ms_grammar.specs.Functions.{parameter};
+    ghost use Rattle.ms_text_grammar.specs.Functions.{parameter};
 
     ghost more = { λ rule ps. not ps.dots };
 
@@ -209,7 +209,7 @@ impl Series for EachParameter {
         alloc: Global,
         state: Parameters,
         tokens: &mut Tokens<'_>,
-    ) -> Result<Parameters, Refusal> {
+    ) -> Result<Parameters, Cause> {
         let mut parameters = state;
         parameter(alloc, tokens, self.form, self.dotted, &mut parameters)?;
         Ok(parameters)
@@ -217,13 +217,13 @@ impl Series for EachParameter {
 }
 
 /// Reads the parameters behind `(`, up to and with `)`. Its errors are those of `parameter`.
-#[tactic(auto, unfolding(ms_grammar::specs::Functions::parameters))]
+#[tactic(auto, unfolding(ms_text_grammar::specs::Functions::parameters))]
 pub fn parameters(
     alloc: Global,
     tokens: &mut Tokens<'_>,
     form: Form,
     dotted: bool,
-) -> Result<Parameters, Refusal>
+) -> Result<Parameters, Cause>
     ensures { Gives (run (spec.parameters form dotted) tokens.old) result tokens.new }
 {
     let none = Parameters {

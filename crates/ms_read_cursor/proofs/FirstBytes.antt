@@ -2,8 +2,8 @@
 use Rattle.std.proofs.Common.{◌≡◌, ℕ, ◌<◌, Bool, true, false, true≢false, cond, ◌&&◌, ◌==◌, codes, List, [], ◌∷◌, length, get_or, refl, sym, ap, ◌∙◌, arith}
 use Rattle.std.specs.Str.{bytes_eq}
 use Rattle.ms_lex.specs.Tokens.{Text, is_one_of}
-use Rattle.ms_grammar.specs.declared.symbols.Symbol.{Symbol}
-use Rattle.ms_grammar.specs.Lexemes.{Row, keywords, symbol_in}
+use Rattle.ms_text_grammar.specs.declared.symbols.Symbol.{Symbol}
+use Rattle.ms_text_grammar.specs.Lexemes.{Row, keywords, symbol_in}
 use Rattle.ms_read_cursor.specs.Words.{begins, beginning}
 
 picked : (e t : Bool) (row : Row) (narrow rows : List Row) (fallback : Symbol) (word : Text) → bytes_eq row.0 word ≡ (e && t)

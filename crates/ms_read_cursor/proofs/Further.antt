@@ -3,16 +3,16 @@ use Rattle.std.proofs.Common.{◌≡◌, ◌<◌, Bool, true, false, ◌&&◌, L
 use Rattle.ms_lex.specs.Grammar.{tail, Outcome, done, fails, and_then}
 use Rattle.ms_lex.proofs.Exact.{shorter}
 use Rattle.ms_lex.proofs.Loops.{loop_goes, loop_ends}
-use Rattle.ms_grammar.specs.declared.symbols.Symbol.{Symbol}
-use Rattle.ms_grammar.specs.declared.symbols.Symbol.TheVariants.{Comma}
-use Rattle.ms_grammar.specs.declared.refusals.Refusal.{Refusal}
-use Rattle.ms_grammar.specs.Lexemes.{Lexeme, end_of_text, is, same_symbol}
-use Rattle.ms_grammar.specs.Steps.{Rule, Verdict, comma_begins, word, listed}
+use Rattle.ms_text_grammar.specs.declared.symbols.Symbol.{Symbol}
+use Rattle.ms_text_grammar.specs.declared.symbols.Symbol.TheVariants.{Comma}
+use Rattle.ms_text_grammar.specs.declared.refusals.Cause.{Cause}
+use Rattle.ms_text_grammar.specs.Lexemes.{Lexeme, end_of_text, is, same_symbol}
+use Rattle.ms_text_grammar.specs.Steps.{Rule, Verdict, comma_begins, word, listed}
 use Rattle.ms_read_cursor.specs.Reading.{front, run}
 use Rattle.ms_read_cursor.specs.Lists.{further}
 
 -- the closing symbol, behind all items
-abbrev pub closed : {S : Type 0} → Symbol → S → List Lexeme → Outcome Lexeme Refusal S
+abbrev pub closed : {S : Type 0} → Symbol → S → List Lexeme → Outcome Lexeme Cause S
 closed closing all rest = and_then (run (word closing) rest) (λ _. done all)
 
 module _ {S : Type 0} (more : S → Bool) (item : S → Rule S) where
@@ -34,7 +34,7 @@ module _ {S : Type 0} (more : S → Bool) (item : S → Rule S) where
   pub more_goes : (state : S) (ts : List Lexeme) (x : S) (mid : List Lexeme) → more state ≡ true → is Comma (front ts) ≡ true → run (item state) (tail ts) ≡ done x mid → run (further more item state) ts ≡ run (further more item x) mid
   more_goes state ts x mid m h e = further_turn state ts m h ∙ rw e refl
 
-  pub more_stops : (state : S) (ts : List Lexeme) (d : Refusal) (k : List Lexeme) → more state ≡ true → is Comma (front ts) ≡ true → run (item state) (tail ts) ≡ fails d k → run (further more item state) ts ≡ fails d k
+  pub more_stops : (state : S) (ts : List Lexeme) (d : Cause) (k : List Lexeme) → more state ≡ true → is Comma (front ts) ≡ true → run (item state) (tail ts) ≡ fails d k → run (further more item state) ts ≡ fails d k
   more_stops state ts d k m h e = further_turn state ts m h ∙ rw e refl
 
   pub more_ends : (state : S) (ts : List Lexeme) → more state ≡ true → is Comma (front ts) ≡ false → run (further more item state) ts ≡ done state ts
@@ -49,7 +49,7 @@ module _ {S : Type 0} (more : S → Bool) (item : S → Rule S) where
   unfolding listed
   listed_empty closing start ts h = rw h refl
 
-  pub listed_stops : (closing : Symbol) (start : S) (ts : List Lexeme) (d : Refusal) (k : List Lexeme) → is closing (front ts) ≡ false → run (item start) ts ≡ fails d k → run (listed closing more item start) ts ≡ fails d k
+  pub listed_stops : (closing : Symbol) (start : S) (ts : List Lexeme) (d : Cause) (k : List Lexeme) → is closing (front ts) ≡ false → run (item start) ts ≡ fails d k → run (listed closing more item start) ts ≡ fails d k
   unfolding listed
   listed_stops closing start ts d k h e = rw (h, e) refl
 
@@ -66,10 +66,10 @@ module _ {S : Type 0} (more : S → Bool) (item : S → Rule S) where
       → run (further more item x) mid ≡ done all behind → run (word closing) behind ≡ done u left → run (listed closing more item start) ts ≡ done all left
   listed_whole closing start ts x mid all behind u left h e f w = listed_goes closing start ts x mid h e ∙ rw f (rw w refl)
 
-  pub listed_cut : (closing : Symbol) (start : S) (ts : List Lexeme) (x : S) (mid : List Lexeme) (d : Refusal) (k : List Lexeme) → is closing (front ts) ≡ false → run (item start) ts ≡ done x mid
+  pub listed_cut : (closing : Symbol) (start : S) (ts : List Lexeme) (x : S) (mid : List Lexeme) (d : Cause) (k : List Lexeme) → is closing (front ts) ≡ false → run (item start) ts ≡ done x mid
       → run (further more item x) mid ≡ fails d k → run (listed closing more item start) ts ≡ fails d k
   listed_cut closing start ts x mid d k h e f = listed_goes closing start ts x mid h e ∙ rw f refl
 
-  pub listed_open : (closing : Symbol) (start : S) (ts : List Lexeme) (x : S) (mid : List Lexeme) (all : S) (behind : List Lexeme) (d : Refusal) (k : List Lexeme) → is closing (front ts) ≡ false → run (item start) ts ≡ done x mid
+  pub listed_open : (closing : Symbol) (start : S) (ts : List Lexeme) (x : S) (mid : List Lexeme) (all : S) (behind : List Lexeme) (d : Cause) (k : List Lexeme) → is closing (front ts) ≡ false → run (item start) ts ≡ done x mid
       → run (further more item x) mid ≡ done all behind → run (word closing) behind ≡ fails d k → run (listed closing more item start) ts ≡ fails d k
   listed_open closing start ts x mid all behind d k h e f w = listed_goes closing start ts x mid h e ∙ rw f (rw w refl)

@@ -3,7 +3,7 @@ use Rattle.std.proofs.Common.{◌≡◌, ℕ, zero, suc, ◌<◌, ◌≤◌, Lis
 use Rattle.std.proofs.lemmas.List.Elements.{All-weaker, All-drop, recursion_from_All}
 use Rattle.ms_lex.specs.declared.kinds.Token.{Token}
 use Rattle.ms_lex.specs.Tokens.{Text, InOrder}
-use Rattle.ms_grammar.specs.Lexemes.{lexemes_of}
+use Rattle.ms_text_grammar.specs.Lexemes.{lexemes_of}
 use Rattle.ms_read_cursor.specs.Places.{LieIn}
 
 abbrev Within : ℕ → Token → Type 0

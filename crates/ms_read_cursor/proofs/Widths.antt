@@ -6,11 +6,11 @@ use Rattle.ms_lex.specs.declared.kinds.Kind.TheVariants as k
 use Rattle.ms_lex.specs.Tokens.{Text, is_digits, is_quote}
 use Rattle.ms_lex.specs.Names.{name_part, decoded}
 use Rattle.ms_lex.specs.Numbers.{decimal}
-use Rattle.ms_grammar.specs.declared.symbols.Symbol.{Symbol}
-use Rattle.ms_grammar.specs.declared.symbols.Symbol.TheVariants as s
+use Rattle.ms_text_grammar.specs.declared.symbols.Symbol.{Symbol}
+use Rattle.ms_text_grammar.specs.declared.symbols.Symbol.TheVariants as s
 use Rattle.ms_read_cursor.specs.declared.lexemes.Lexeme.TheInside.{Inside}
 use Rattle.ms_read_cursor.specs.Views.{lexeme_in, IsLexeme, digits_of}
-use Rattle.ms_grammar.specs.Lexemes.{Lexeme, name_in, width_in, Row, keywords, punctuation_symbols, symbol_in, int_symbol, type_or_plain, word_symbol, symbol_of, same_symbol}
+use Rattle.ms_text_grammar.specs.Lexemes.{Lexeme, name_in, width_in, Row, keywords, punctuation_symbols, symbol_in, int_symbol, type_or_plain, word_symbol, symbol_of, same_symbol}
 
 -- ---- a symbol that a table doesn't have isn't found in it
 
@@ -45,10 +45,6 @@ int_narrow false n h = absurd cc
 type_narrow : (word : Text) → type_or_plain word ≡ s.IntType → Narrow (decimal (drop 1 word))
 type_narrow [] h = absurd cc
 type_narrow (b ∷ rest) h = int_narrow (b == 105 && is_digits rest) (decimal rest) h
-
-either : (t : Bool) (x y z : Symbol) → cond t x y ≡ z → (x ≡ z) ⊎ (y ≡ z)
-either true x y z h = inl h
-either false x y z h = inr h
 
 narrow_of : (kind : Kind) (z : Text) → symbol_of kind z ≡ s.IntType → Narrow (decimal (drop 1 z))
 unfolding symbol_of same_symbol

@@ -1,7 +1,7 @@
 -- Lists behind their first item.
 use Rattle.std.specs.Prelude.{Bool, true, List}
 use Rattle.ms_lex.specs.Grammar.{loop}
-use Rattle.ms_grammar.specs.Steps.{Rule, comma_begins, with_item}
+use Rattle.ms_text_grammar.specs.Steps.{Rule, comma_begins, with_item}
 
 -- further items behind commas
 unfoldable pub further : {S : Type 0} → (S → Bool) → (S → Rule S) → S → Rule S

@@ -3,7 +3,7 @@ use Rattle.std.specs.Prelude.{◌≡◌, ◌≤◌, List, length}
 use Rattle.std.specs.List.{AllByRecursion}
 use Rattle.ms_lex.specs.declared.kinds.Token.{Token}
 use Rattle.ms_lex.specs.Tokens.{Text}
-use Rattle.ms_grammar.specs.Lexemes.{Lexeme, lexemes_of}
+use Rattle.ms_text_grammar.specs.Lexemes.{Lexeme, lexemes_of}
 use Rattle.ms_read_cursor.specs.declared.cursor.Tokens.TheInside.{Inside}
 use Rattle.ms_read_cursor.specs.Reading.{front}
 

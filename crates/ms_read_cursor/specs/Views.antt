@@ -4,8 +4,8 @@ use Rattle.ms_lex.specs.declared.kinds.Kind.{Kind}
 use Rattle.ms_lex.specs.declared.kinds.Kind.TheVariants as k
 use Rattle.ms_lex.specs.Tokens.{Text}
 use Rattle.ms_lex.specs.Names.{spelling_of}
-use Rattle.ms_grammar.specs.declared.symbols.Symbol.TheVariants.{EndOfText}
-use Rattle.ms_grammar.specs.Lexemes.{Lexeme, symbol_of}
+use Rattle.ms_text_grammar.specs.declared.symbols.Symbol.TheVariants.{EndOfText}
+use Rattle.ms_text_grammar.specs.Lexemes.{Lexeme, symbol_of}
 use Rattle.ms_read_cursor.specs.declared.lexemes.Lexeme.TheInside.{Inside}
 
 abbrev pub lexeme_in : Inside → Lexeme

@@ -2,8 +2,8 @@
 use Rattle.std.specs.Prelude.{ℕ, Bool, false, ◌==◌, if◌then◌else◌, List, [], ◌∷◌, map}
 use denote.Ref.{Bor}
 use Rattle.ms_lex.specs.Tokens.{Text}
-use Rattle.ms_grammar.specs.declared.symbols.Symbol.{Symbol}
-use Rattle.ms_grammar.specs.Lexemes.{Row}
+use Rattle.ms_text_grammar.specs.declared.symbols.Symbol.{Symbol}
+use Rattle.ms_text_grammar.specs.Lexemes.{Row}
 
 -- the rows of a table in the code
 abbrev pub rows_of : List (Bor Text × Symbol) → List Row

@@ -3,16 +3,16 @@
 ghost use Rattle.std.specs.Prelude.{◌≡◌, ◌≢◌, ◌≤◌, drop, length};
 ghost use Rattle.ms_lex.specs.Grammar.{tail};
 ghost use Rattle.ms_lex.specs.Tokens.{InOrder};
-ghost use Rattle.ms_grammar.specs.Lexemes.{lexemes_of};
-ghost use Rattle.ms_grammar.specs.Lexemes as lexemes;
-ghost use Rattle.ms_grammar.specs.Steps as spec;
+ghost use Rattle.ms_text_grammar.specs.Lexemes.{lexemes_of};
+ghost use Rattle.ms_text_grammar.specs.Lexemes as lexemes;
+ghost use Rattle.ms_text_grammar.specs.Steps as spec;
 ghost use Rattle.ms_read_cursor.specs.Reading.{Gives, front, run};
 ghost use Rattle.ms_read_cursor.specs.Places.{LieIn};
 
 use crate::lexemes::Lexeme;
 use crate::symbols::{same_symbol, symbol_of};
-use ms_grammar::{Refusal, Symbol};
 use ms_lex::Token;
+use ms_text_grammar::{Cause, Symbol};
 use std::marker::Model;
 
 /// The tokens of a text that are left. Contracts see the list of them.
@@ -26,7 +26,7 @@ pub struct Tokens<'a> {
 
 impl<'a> Model for Tokens<'a> {
     ghost use Rattle.std.specs.Prelude.{List};
-    ghost use Rattle.ms_grammar.specs.Lexemes.{Lexeme as Seen};
+    ghost use Rattle.ms_text_grammar.specs.Lexemes.{Lexeme as Seen};
 
     ghost Value = { List Seen };
 
@@ -132,9 +132,9 @@ impl<'a> Tokens<'a> {
     }
 
     /// Why the next token can't stand, where nothing says more of it.
-    pub fn refusal(&self) -> Refusal
+    pub fn refusal(&self) -> Cause
         ensures value { result ≡ spec.refusal (front self.now) }
-        ensures real { result ≢ Refusal.NoMemory }
+        ensures real { result ≢ Cause.NoMemory }
     {
         self.lexeme().refusal()
     }
@@ -144,8 +144,8 @@ impl<'a> Tokens<'a> {
     /// # Errors
     ///
     /// `Syntax` or `Outside` where another token comes next, at which it stands then.
-    #[tactic(auto, unfolding(ms_grammar::specs::Steps::word))]
-    pub fn word(&mut self, symbol: Symbol) -> Result<(), Refusal>
+    #[tactic(auto, unfolding(ms_text_grammar::specs::Steps::word))]
+    pub fn word(&mut self, symbol: Symbol) -> Result<(), Cause>
         ensures { Gives (run (spec.word symbol) self.old) result self.new }
     {
         if self.sees(symbol) {

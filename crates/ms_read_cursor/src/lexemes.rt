@@ -4,15 +4,15 @@ ghost use Rattle.std.specs.Prelude.{◌≡◌, ◌≢◌, ◌≤◌, ◌^◌, �
 ghost use Rattle.ms_lex.specs.Names.{name_part, spelling_of};
 ghost use Rattle.ms_lex.specs.Numbers.{decimal as decimal_of};
 ghost use Rattle.ms_read_cursor.specs.Views.{digits_of};
-ghost use Rattle.ms_grammar.specs.Lexemes as spec;
-ghost use Rattle.ms_grammar.specs.Steps as steps;
+ghost use Rattle.ms_text_grammar.specs.Lexemes as spec;
+ghost use Rattle.ms_text_grammar.specs.Steps as steps;
 
 use crate::decimals::decimal;
 use crate::outside::outside_of;
 use crate::symbols::same_symbol;
 use ms_bits::{Bytes, List, SmallBytes};
-use ms_grammar::{Outside, Refusal, Symbol};
 use ms_lex::{Kind, NoMemory, Token, name_of, number_of, plain_name};
+use ms_text_grammar::{Cause, Outside, Symbol};
 use std::alloc::Global;
 use std::marker::Model;
 
@@ -25,7 +25,7 @@ pub struct Lexeme<'a> {
 }
 
 impl<'a> Model for Lexeme<'a> {
-    ghost use Rattle.ms_grammar.specs.Lexemes.{Lexeme as Seen};
+    ghost use Rattle.ms_text_grammar.specs.Lexemes.{Lexeme as Seen};
 
     ghost Value = { Seen };
 
@@ -118,17 +118,17 @@ impl<'a> Lexeme<'a> {
     }
 
     /// Why it can't stand, where nothing says more of it.
-    #[tactic(auto, unfolding(ms_grammar::specs::Steps::refusal))]
-    pub fn refusal(&self) -> Refusal
+    #[tactic(auto, unfolding(ms_text_grammar::specs::Steps::refusal))]
+    pub fn refusal(&self) -> Cause
         ensures value { result ≡ steps.refusal self.now }
-        ensures real { result ≢ Refusal.NoMemory }
+        ensures real { result ≢ Cause.NoMemory }
     {
         if self.is(Symbol::Number) && self.number().is_none() {
-            return Refusal::Outside(Outside::WideInteger);
+            return Cause::Outside(Outside::WideInteger);
         }
         match outside_of(self.symbol) {
-            Some(construct) => Refusal::Outside(construct),
-            None => Refusal::Syntax,
+            Some(construct) => Cause::Outside(construct),
+            None => Cause::Syntax,
         }
     }
 

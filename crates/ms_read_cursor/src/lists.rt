@@ -4,7 +4,7 @@ ghost use Rattle.std.specs.Prelude.{◌≡◌, ◌++◌, ◌∷◌, [], IfOk};
 
 use crate::cursor::Tokens;
 use ms_bits::{List, NoMemory};
-use ms_grammar::Refusal;
+use ms_text_grammar::Cause;
 use std::alloc::Global;
 use std::mem;
 
@@ -12,12 +12,12 @@ use std::mem;
 pub trait Rule {
     type Value: Drop;
 
-    ghost use Rattle.ms_grammar.specs.Steps.{Rule as Piece};
+    ghost use Rattle.ms_text_grammar.specs.Steps.{Rule as Piece};
     ghost use Rattle.ms_read_cursor.specs.Reading.{Gives, run};
 
     ghost piece: { Self → Piece Self.Value };
 
-    fn read(&self, alloc: Global, tokens: &mut Tokens<'_>) -> Result<Self::Value, Refusal>
+    fn read(&self, alloc: Global, tokens: &mut Tokens<'_>) -> Result<Self::Value, Cause>
         ensures { Gives (run (piece self.now) tokens.old) result tokens.new };
 }
 

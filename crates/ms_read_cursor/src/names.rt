@@ -1,21 +1,21 @@
 //! Names where they are written (LLVM Language Reference, "Identifiers"), and which are kept for what is inserted.
 
 ghost use Rattle.std.specs.Prelude.{◌≡◌, ◌⊎◌};
-ghost use Rattle.ms_grammar.specs.Lexemes.{name_in};
-ghost use Rattle.ms_grammar.specs.Names as spec;
+ghost use Rattle.ms_text_grammar.specs.Lexemes.{name_in};
+ghost use Rattle.ms_text_grammar.specs.Names as spec;
 ghost use Rattle.ms_lex.specs.Numbers.{decimal};
 ghost use Rattle.ms_read_cursor.specs.Reading.{Gives, Judges, run};
 
 use crate::cursor::Tokens;
 use crate::lexemes::Lexeme;
 use ms_bits::SmallBytes;
-use ms_grammar::{Limit, Refusal, Symbol};
 use ms_ir::spelling::{is_inserted, is_reserved};
 use ms_ir::{Form, Name, RuntimeFn, is_slot};
+use ms_text_grammar::{Cause, Limit, Symbol};
 use std::alloc::Global;
 
 /// Whether a global can't have this name in the form.
-#[tactic(auto, unfolding(ms_grammar::specs::Names::reserved_global))]
+#[tactic(auto, unfolding(ms_text_grammar::specs::Names::reserved_global))]
 pub fn reserved_global(form: Form, text: &[u8]) -> bool
     ensures { result ≡ spec.reserved_global form text.now }
 {
@@ -28,7 +28,7 @@ pub fn reserved_global(form: Form, text: &[u8]) -> bool
 }
 
 /// Whether a local or a block can't have this name in the form.
-#[tactic(auto, unfolding(ms_grammar::specs::Names::reserved_local))]
+#[tactic(auto, unfolding(ms_text_grammar::specs::Names::reserved_local))]
 pub fn reserved_local(form: Form, text: &[u8]) -> bool
     ensures { result ≡ spec.reserved_local form text.now }
 {
@@ -39,7 +39,7 @@ pub fn reserved_local(form: Form, text: &[u8]) -> bool
 }
 
 /// Whether a name is of at most 1024 bytes.
-#[tactic(auto, unfolding(ms_grammar::specs::Names::name_fits))]
+#[tactic(auto, unfolding(ms_text_grammar::specs::Names::name_fits))]
 pub fn name_fits(text: &[u8]) -> bool
     ensures { result ≡ spec.name_fits text.now }
 {
@@ -47,16 +47,16 @@ pub fn name_fits(text: &[u8]) -> bool
 }
 
 /// A name of text, unless it is reserved or too long.
-fn text_name(reserved: bool, text: SmallBytes) -> Result<Name, Refusal>
+fn text_name(reserved: bool, text: SmallBytes) -> Result<Name, Cause>
     ensures { Judges (spec.text_name reserved text) result }
 {
     if reserved {
-        return Err(Refusal::Reserved);
+        return Err(Cause::Reserved);
     }
     if name_fits(text.as_slice()) {
         Ok(Name::Text(text))
     } else {
-        Err(Refusal::Limit(Limit::Name))
+        Err(Cause::Limit(Limit::Name))
     }
 }
 
@@ -65,7 +65,7 @@ fn text_name(reserved: bool, text: SmallBytes) -> Result<Name, Refusal>
 /// # Errors
 ///
 /// `Reserved` where the form doesn't have it, or else `Limit(Name)` where it is of more than 1024 bytes.
-pub fn global_name(alloc: Global, form: Form, token: &Lexeme<'_>) -> Result<Name, Refusal>
+pub fn global_name(alloc: Global, form: Form, token: &Lexeme<'_>) -> Result<Name, Cause>
     ensures { Judges (spec.global_name form (name_in token.now)) result }
 {
     let text = token.small_name(alloc)?;
@@ -74,7 +74,7 @@ pub fn global_name(alloc: Global, form: Form, token: &Lexeme<'_>) -> Result<Name
 }
 
 /// The name of a local or a block that a token spells in text. Its errors are those of `global_name`.
-pub fn local_name(alloc: Global, form: Form, token: &Lexeme<'_>) -> Result<Name, Refusal>
+pub fn local_name(alloc: Global, form: Form, token: &Lexeme<'_>) -> Result<Name, Cause>
     ensures { Judges (spec.local_name form (name_in token.now)) result }
 {
     let text = token.small_name(alloc)?;
@@ -87,7 +87,7 @@ pub fn local_name(alloc: Global, form: Form, token: &Lexeme<'_>) -> Result<Name,
 /// # Errors
 ///
 /// `Numbering` where it is above 2^32 - 1.
-pub fn number_name(token: &Lexeme<'_>) -> Result<Name, Refusal>
+pub fn number_name(token: &Lexeme<'_>) -> Result<Name, Cause>
     requires { (token.now.symbol ≡ Symbol.NumberedLocal) ⊎ (token.now.symbol ≡ Symbol.NumberedLabel) }
     ensures { Judges (spec.number_name (decimal (name_in token.now))) result }
 {
@@ -96,15 +96,15 @@ pub fn number_name(token: &Lexeme<'_>) -> Result<Name, Refusal>
             if n < 1 << 32 {
                 Ok(Name::Number(n as u32))
             } else {
-                Err(Refusal::Numbering)
+                Err(Cause::Numbering)
             }
         }
-        None => Err(Refusal::Numbering),
+        None => Err(Cause::Numbering),
     }
 }
 
 /// A local as a token: a name or a number.
-pub fn local_by(alloc: Global, form: Form, token: &Lexeme<'_>) -> Result<Name, Refusal>
+pub fn local_by(alloc: Global, form: Form, token: &Lexeme<'_>) -> Result<Name, Cause>
     ensures { Judges (spec.local_by form token.now.symbol token.now) result }
 {
     match token.symbol() {
@@ -115,7 +115,7 @@ pub fn local_by(alloc: Global, form: Form, token: &Lexeme<'_>) -> Result<Name, R
 }
 
 /// A global as a token.
-pub fn global_by(alloc: Global, form: Form, token: &Lexeme<'_>) -> Result<Name, Refusal>
+pub fn global_by(alloc: Global, form: Form, token: &Lexeme<'_>) -> Result<Name, Cause>
     ensures { Judges (spec.global_by form token.now.symbol token.now) result }
 {
     match token.symbol() {
@@ -125,8 +125,8 @@ pub fn global_by(alloc: Global, form: Form, token: &Lexeme<'_>) -> Result<Name, 
 }
 
 /// Takes a local that is used.
-#[tactic(auto, unfolding(ms_grammar::specs::Names::local))]
-pub fn local(alloc: Global, tokens: &mut Tokens<'_>, form: Form) -> Result<Name, Refusal>
+#[tactic(auto, unfolding(ms_text_grammar::specs::Names::local))]
+pub fn local(alloc: Global, tokens: &mut Tokens<'_>, form: Form) -> Result<Name, Cause>
     ensures { Gives (run (spec.local form) tokens.old) result tokens.new }
 {
     let name = local_by(alloc, form, &tokens.lexeme())?;
@@ -135,8 +135,8 @@ pub fn local(alloc: Global, tokens: &mut Tokens<'_>, form: Form) -> Result<Name,
 }
 
 /// Takes a global that is used, or the name of a function.
-#[tactic(auto, unfolding(ms_grammar::specs::Names::global))]
-pub fn global(alloc: Global, tokens: &mut Tokens<'_>, form: Form) -> Result<Name, Refusal>
+#[tactic(auto, unfolding(ms_text_grammar::specs::Names::global))]
+pub fn global(alloc: Global, tokens: &mut Tokens<'_>, form: Form) -> Result<Name, Cause>
     ensures { Gives (run (spec.global form) tokens.old) result tokens.new }
 {
     let name = global_by(alloc, form, &tokens.lexeme())?;

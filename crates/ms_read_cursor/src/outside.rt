@@ -1,12 +1,12 @@
 //! The constructs that are left out.
 
 ghost use Rattle.std.specs.Prelude.{◌≡◌};
-ghost use Rattle.ms_grammar.specs.Steps as spec;
+ghost use Rattle.ms_text_grammar.specs.Steps as spec;
 
-use ms_grammar::{Outside, Symbol};
+use ms_text_grammar::{Outside, Symbol};
 
 /// The construct that is left out and that a symbol shows wherever the grammar doesn't have it.
-#[tactic(auto, unfolding(ms_grammar::specs::Steps::outside_of))]
+#[tactic(auto, unfolding(ms_text_grammar::specs::Steps::outside_of))]
 pub fn outside_of(symbol: Symbol) -> Option<Outside>
     ensures { result ≡ spec.outside_of symbol }
 {

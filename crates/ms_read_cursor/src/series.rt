@@ -1,13 +1,13 @@
 //! Lists with commas between, each item of which goes on from what was read before it.
 
 ghost use Rattle.std.specs.Prelude.{◌≡◌, false};
-ghost use Rattle.ms_grammar.specs.Lexemes.{is};
-ghost use Rattle.ms_grammar.specs.Steps as spec;
+ghost use Rattle.ms_text_grammar.specs.Lexemes.{is};
+ghost use Rattle.ms_text_grammar.specs.Steps as spec;
 ghost use Rattle.ms_read_cursor.specs.Lists as lists;
 ghost use Rattle.ms_read_cursor.specs.Reading.{Gives, front, run};
 
 use crate::cursor::Tokens;
-use ms_grammar::{Refusal, Symbol};
+use ms_text_grammar::{Cause, Symbol};
 use std::alloc::Global;
 
 /// What reads one item, from the state that the items before it left.
@@ -16,7 +16,7 @@ pub trait Series {
     type State: Drop;
 
     ghost use Rattle.std.specs.Prelude.{Bool};
-    ghost use Rattle.ms_grammar.specs.Steps.{Rule as Piece};
+    ghost use Rattle.ms_text_grammar.specs.Steps.{Rule as Piece};
     ghost use Rattle.ms_read_cursor.specs.Reading.{Gives, run};
 
     ghost more: { Self → Self.State → Bool };
@@ -32,7 +32,7 @@ pub trait Series {
         alloc: Global,
         state: Self::State,
         tokens: &mut Tokens<'_>,
-    ) -> Result<Self::State, Refusal>
+    ) -> Result<Self::State, Cause>
         ensures { Gives (run (item self.now state) tokens.old) result tokens.new };
 }
 
@@ -43,7 +43,7 @@ fn further<S: Series>(
     tokens: &mut Tokens<'_>,
     rule: &S,
     start: S::State,
-) -> Result<S::State, Refusal>
+) -> Result<S::State, Cause>
     ensures { Gives (run (lists.further (S.more rule.now) (S.item rule.now) start) tokens.old) result tokens.new }
 {
     let mut state = start;
@@ -62,7 +62,7 @@ fn filled<S: Series>(
     closing: Symbol,
     rule: &S,
     start: S::State,
-) -> Result<S::State, Refusal>
+) -> Result<S::State, Cause>
     requires { is closing (front tokens.old) ≡ false }
     ensures { Gives (run (spec.listed closing (S.more rule.now) (S.item rule.now) start) tokens.old) result tokens.new }
 {
@@ -80,7 +80,7 @@ pub fn listed<S: Series>(
     closing: Symbol,
     rule: &S,
     start: S::State,
-) -> Result<S::State, Refusal>
+) -> Result<S::State, Cause>
     ensures { Gives (run (spec.listed closing (S.more rule.now) (S.item rule.now) start) tokens.old) result tokens.new }
 {
     if tokens.sees(closing) {

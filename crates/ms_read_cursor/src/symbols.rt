@@ -3,14 +3,14 @@
 ghost use Rattle.std.specs.Prelude.{◌≡◌, ◌≢◌, true, false, take, codes};
 ghost use Rattle.std.specs.Str.{bytes_eq};
 ghost use Rattle.ms_lex.specs.Numbers as numbers;
-ghost use Rattle.ms_grammar.specs.Lexemes.{symbol_in};
-ghost use Rattle.ms_grammar.specs.Lexemes as spec;
+ghost use Rattle.ms_text_grammar.specs.Lexemes.{symbol_in};
+ghost use Rattle.ms_text_grammar.specs.Lexemes as spec;
 ghost use Rattle.ms_read_cursor.specs.Words.{rows_of};
 
 use crate::decimals::{decimal, is_digits};
 use crate::words::{PUNCTUATION, Row, words_with};
-use ms_grammar::Symbol;
 use ms_lex::Kind;
+use ms_text_grammar::Symbol;
 
 /// Whether two symbols are the same.
 pub fn same_symbol(a: Symbol, b: Symbol) -> bool
@@ -68,7 +68,7 @@ fn type_or_plain(word: &[u8]) -> Symbol
     }
 }
 
-#[tactic(auto, using(crate::proofs::FirstBytes::by_first), unfolding(ms_grammar::specs::Lexemes::word_symbol))]
+#[tactic(auto, using(crate::proofs::FirstBytes::by_first), unfolding(ms_text_grammar::specs::Lexemes::word_symbol))]
 fn word_symbol(word: &[u8]) -> Symbol
     ensures { result ≡ spec.word_symbol word.now }
 {
@@ -171,7 +171,7 @@ fn punctuation_symbol(spelling: &[u8]) -> Symbol
 
 /// The symbol that a token of this kind is, by how it is spelled. Its time is linear in the spelling: a word is compared
 /// with the words of its first letter alone, and only with those of its length byte by byte.
-#[tactic(auto, unfolding(ms_grammar::specs::Lexemes::symbol_of))]
+#[tactic(auto, unfolding(ms_text_grammar::specs::Lexemes::symbol_of))]
 pub fn symbol_of(kind: Kind, spelling: &[u8]) -> Symbol
     ensures { result ≡ spec.symbol_of kind spelling.now }
 {

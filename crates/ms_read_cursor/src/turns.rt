@@ -6,7 +6,7 @@ ghost use Rattle.ms_read_cursor.specs.Reading.{Gives, Judges, front, run};
 
 use crate::cursor::Tokens;
 use crate::lexemes::Lexeme;
-use ms_grammar::Refusal;
+use ms_text_grammar::Cause;
 use std::alloc::Global;
 
 /// What reads a turn. A loop of the grammar goes on from a state as long as the next token begins a turn.
@@ -15,8 +15,8 @@ pub trait Turn {
     type State: Drop;
 
     ghost use Rattle.std.specs.Prelude.{Bool, Ok, true};
-    ghost use Rattle.ms_grammar.specs.Lexemes.{Lexeme as Seen};
-    ghost use Rattle.ms_grammar.specs.Steps.{Rule as Piece, Verdict};
+    ghost use Rattle.ms_text_grammar.specs.Lexemes.{Lexeme as Seen};
+    ghost use Rattle.ms_text_grammar.specs.Steps.{Rule as Piece, Verdict};
     ghost use Rattle.ms_read_cursor.specs.Reading.{Gives, Judges, run};
 
     ghost begins: { Self → Self.State → Seen → Verdict Bool };
@@ -24,12 +24,7 @@ pub trait Turn {
     ghost body: { Self → Self.State → Seen → Piece Self.State };
 
     /// Whether this token, which comes next, begins a turn, or why it can't stand.
-    fn goes_on(
-        &self,
-        alloc: Global,
-        state: &Self::State,
-        first: &Lexeme<'_>,
-    ) -> Result<bool, Refusal>
+    fn goes_on(&self, alloc: Global, state: &Self::State, first: &Lexeme<'_>) -> Result<bool, Cause>
         ensures { Judges (begins self.now state.now first.now) result };
 
     /// Reads the rest of a turn, behind its first token.
@@ -39,7 +34,7 @@ pub trait Turn {
         state: Self::State,
         first: &Lexeme<'_>,
         tokens: &mut Tokens<'_>,
-    ) -> Result<Self::State, Refusal>
+    ) -> Result<Self::State, Cause>
         requires { begins self.now state first.now ≡ Ok true }
         ensures { Gives (run (body self.now state first.now) tokens.old) result tokens.new };
 }
@@ -50,7 +45,7 @@ fn begins_turn<T: Turn>(
     tokens: &Tokens<'_>,
     rule: &T,
     state: &T::State,
-) -> Result<bool, Refusal>
+) -> Result<bool, Cause>
     ensures { Judges (T.begins rule.now state.now (front tokens.now)) result }
 {
     rule.goes_on(alloc, state, &tokens.lexeme())
@@ -62,7 +57,7 @@ fn one_turn<T: Turn>(
     tokens: &mut Tokens<'_>,
     rule: &T,
     state: T::State,
-) -> Result<T::State, Refusal>
+) -> Result<T::State, Cause>
     requires { T.begins rule.now state (front tokens.old) ≡ Ok true }
     ensures { Gives (run (T.body rule.now state (front tokens.old)) (tail tokens.old)) result tokens.new }
 {
@@ -78,7 +73,7 @@ pub fn repeat<T: Turn>(
     tokens: &mut Tokens<'_>,
     rule: &T,
     state: T::State,
-) -> Result<T::State, Refusal>
+) -> Result<T::State, Cause>
     ensures { Gives (run (loop (T.begins rule.now) (T.body rule.now) state) tokens.old) result tokens.new }
 {
     let mut state = state;

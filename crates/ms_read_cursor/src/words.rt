@@ -1,10 +1,10 @@
 //! The words that mean something by themselves, by their first letters.
 
 ghost use Rattle.std.specs.Prelude.{◌≡◌};
-ghost use Rattle.ms_grammar.specs.Lexemes.{keywords};
+ghost use Rattle.ms_text_grammar.specs.Lexemes.{keywords};
 ghost use Rattle.ms_read_cursor.specs.Words.{beginning, rows_of};
 
-use ms_grammar::Symbol;
+use ms_text_grammar::Symbol;
 
 /// A word, and its symbol.
 pub type Row = (&'static [u8], Symbol);

@@ -1,7 +1,7 @@
 -- The flags that the operations may carry.
 use Rattle.std.specs.Prelude.{Bool}
-use Rattle.ms_grammar.specs.declared.symbols.Symbol.{Symbol}
-use Rattle.ms_grammar.specs.Insts.{binary_carries, cast_carries, compare_carries}
+use Rattle.ms_text_grammar.specs.declared.symbols.Symbol.{Symbol}
+use Rattle.ms_text_grammar.specs.Insts.{binary_carries, cast_carries, compare_carries}
 use Rattle.ms_read_insts.specs.declared.flags.Carrier.{Carrier}
 use Rattle.ms_read_insts.specs.declared.flags.Carrier.TheVariants.{Binary, Cast, Compare}
 

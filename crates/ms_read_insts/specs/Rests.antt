@@ -10,15 +10,15 @@ use Rattle.ms_ir.specs.declared.syntax.Operand.{Operand}
 use Rattle.ms_ir.specs.declared.syntax.Op.{Op}
 use Rattle.ms_ir.specs.declared.syntax.Op.TheVariants as op
 use Rattle.ms_ir.specs.declared.forms.Form.{Form}
-use Rattle.ms_grammar.specs.declared.symbols.Symbol.TheVariants as s
-use Rattle.ms_grammar.specs.declared.states.Edges.{Edges}
-use Rattle.ms_grammar.specs.declared.states.Indices.{Indices}
-use Rattle.ms_grammar.specs.Steps.{Rule, word}
-use Rattle.ms_grammar.specs.Names.{local}
-use Rattle.ms_grammar.specs.Types.{value_type}
-use Rattle.ms_grammar.specs.Values.{value}
-use Rattle.ms_grammar.specs.Skipped.{attributes, suffixes_from}
-use Rattle.ms_grammar.specs.Insts.{Marked, same_type, no_indices, index_turn, index_begins, count_begins, alloca_of, callee_type, callee, arguments, names_printf, call_end, edge_begins, edge_turn, target, case_begins, case_rest}
+use Rattle.ms_text_grammar.specs.declared.symbols.Symbol.TheVariants as s
+use Rattle.ms_text_grammar.specs.declared.states.Edges.{Edges}
+use Rattle.ms_text_grammar.specs.declared.states.Indices.{Indices}
+use Rattle.ms_text_grammar.specs.Steps.{Rule, word}
+use Rattle.ms_text_grammar.specs.Names.{local}
+use Rattle.ms_text_grammar.specs.Types.{value_type}
+use Rattle.ms_text_grammar.specs.Values.{value}
+use Rattle.ms_text_grammar.specs.Skipped.{attributes, suffixes_from}
+use Rattle.ms_text_grammar.specs.Insts.{Marked, same_type, no_indices, index_turn, index_begins, count_begins, alloca_of, callee_type, callee, arguments, names_printf, call_end, edge_begins, edge_turn, target, case_begins, case_rest}
 use Rattle.ms_read_insts.specs.declared.computations.OnTwo.{OnTwo}
 use Rattle.ms_read_insts.specs.declared.computations.OnTwo.TheVariants.{Binary, Compare}
 

@@ -1,18 +1,18 @@
 //! What stands behind the arguments of a call: attributes, perhaps a debug record, and what is attached.
 
 ghost use Rattle.std.specs.Prelude.{◌≡◌};
-ghost use Rattle.ms_grammar.specs.Insts as spec;
+ghost use Rattle.ms_text_grammar.specs.Insts as spec;
 ghost use Rattle.ms_read_cursor.specs.Reading.{Gives, run};
 
-use ms_grammar::{Outside, Refusal, Symbol};
 use ms_ir::Form;
 use ms_read_cursor::{Lexeme, Tokens, Turn, repeat};
 use ms_read_values::{attribute_rest, balanced, is_attribute, suffixes_from};
+use ms_text_grammar::{Cause, Outside, Symbol};
 use std::alloc::Global;
 
 /// Reads on behind a debug group. It is a record where `(` is behind it, and else an attribute.
-#[tactic(auto, unfolding(ms_grammar::specs::Insts::debug_rest))]
-fn debug_rest(alloc: Global, tokens: &mut Tokens<'_>, form: Form) -> Result<bool, Refusal>
+#[tactic(auto, unfolding(ms_text_grammar::specs::Insts::debug_rest))]
+fn debug_rest(alloc: Global, tokens: &mut Tokens<'_>, form: Form) -> Result<bool, Cause>
     ensures { Gives (run (spec.debug_rest form) tokens.old) result tokens.new }
 {
     if !tokens.sees(Symbol::OpenParen) {
@@ -29,7 +29,7 @@ fn call_attribute(
     tokens: &mut Tokens<'_>,
     form: Form,
     symbol: Symbol,
-) -> Result<bool, Refusal>
+) -> Result<bool, Cause>
     ensures { Gives (run (spec.call_attribute form symbol) tokens.old) result tokens.new }
 {
     match symbol {
@@ -50,13 +50,13 @@ struct CallAttributes {
 impl Turn for CallAttributes {
     type State = bool;
 
-    ghost use Rattle.ms_grammar.specs.Insts.{call_attribute, call_attribute_begins};
+    ghost use Rattle.ms_text_grammar.specs.Insts.{call_attribute, call_attribute_begins};
 
     ghost begins = { λ rule. call_attribute_begins };
 
     ghost body = { λ rule ended t. call_attribute rule.form t.symbol };
 
-    fn goes_on(&self, _alloc: Global, state: &bool, first: &Lexeme<'_>) -> Result<bool, Refusal> {
+    fn goes_on(&self, _alloc: Global, state: &bool, first: &Lexeme<'_>) -> Result<bool, Cause> {
         Ok(!*state && is_attribute(first.symbol()))
     }
 
@@ -66,7 +66,7 @@ impl Turn for CallAttributes {
         _state: bool,
         first: &Lexeme<'_>,
         tokens: &mut Tokens<'_>,
-    ) -> Result<bool, Refusal> {
+    ) -> Result<bool, Cause> {
         call_attribute(alloc, tokens, self.form, first.symbol())
     }
 }
@@ -77,15 +77,15 @@ impl Turn for CallAttributes {
 /// # Errors
 ///
 /// `Outside(OperandBundle)` at `[`, and those of its parts.
-#[tactic(auto, unfolding(ms_grammar::specs::Insts::call_end))]
-pub fn call_end(alloc: Global, tokens: &mut Tokens<'_>, form: Form) -> Result<bool, Refusal>
+#[tactic(auto, unfolding(ms_text_grammar::specs::Insts::call_end))]
+pub fn call_end(alloc: Global, tokens: &mut Tokens<'_>, form: Form) -> Result<bool, Cause>
     ensures { Gives (run (spec.call_end form) tokens.old) result tokens.new }
 {
     if repeat(alloc, tokens, &CallAttributes { form }, false)? {
         return Ok(false);
     }
     if tokens.sees(Symbol::OpenBracket) {
-        return Err(Refusal::Outside(Outside::OperandBundle));
+        return Err(Cause::Outside(Outside::OperandBundle));
     }
     suffixes_from(alloc, tokens, form, false)
 }

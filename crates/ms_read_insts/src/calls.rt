@@ -4,26 +4,26 @@ ghost use Rattle.std.specs.Prelude.{◌≡◌, IfOk, codes, length};
 ghost use Rattle.ms_ir.specs.declared.syntax.Op.TheVariants as operation;
 ghost use Rattle.std.specs.Str.{bytes_eq};
 ghost use Rattle.ms_lex.specs.Grammar.{one};
-ghost use Rattle.ms_grammar.specs.Lexemes.{name_in};
-ghost use Rattle.ms_grammar.specs.Insts as spec;
+ghost use Rattle.ms_text_grammar.specs.Lexemes.{name_in};
+ghost use Rattle.ms_text_grammar.specs.Insts as spec;
 ghost use Rattle.ms_read_cursor.specs.Reading.{Gives, Judges, run};
 ghost use Rattle.ms_read_insts.specs.Rests as rest;
 
 use crate::call_ends::call_end;
 use ms_bits::{Boxed, List, NoMemory};
-use ms_grammar::{Limit, Outside, Refusal, Symbol};
 use ms_ir::{Form, Name, Op, Operand, Ty};
 use ms_read_cursor::{Lexeme, Series, Tokens, global_name, listed, with_last};
 use ms_read_values::{
     ValueType, attributes, result_ty, result_type, value, value_type, value_type_of,
 };
+use ms_text_grammar::{Cause, Limit, Outside, Symbol};
 use std::alloc::Global;
 
 /// How many arguments a call of `printf` may have.
 const MAX_PARAMETERS: usize = 100;
 
 /// Takes the result's type of a call. A call whose result has a name isn't `void`.
-fn call_type(tokens: &mut Tokens<'_>, named: bool) -> Result<Option<ValueType>, Refusal>
+fn call_type(tokens: &mut Tokens<'_>, named: bool) -> Result<Option<ValueType>, Cause>
     ensures { Gives (run (spec.call_type named) tokens.old) result tokens.new }
 {
     if named {
@@ -45,8 +45,8 @@ fn is_i32(ty: Option<ValueType>) -> bool
 }
 
 /// Takes `(ptr, ...)`.
-#[tactic(auto, unfolding(ms_grammar::specs::Insts::variadic_type))]
-fn variadic_type(tokens: &mut Tokens<'_>) -> Result<bool, Refusal>
+#[tactic(auto, unfolding(ms_text_grammar::specs::Insts::variadic_type))]
+fn variadic_type(tokens: &mut Tokens<'_>) -> Result<bool, Cause>
     ensures { Gives (run spec.variadic_type tokens.old) result tokens.new }
 {
     tokens.word(Symbol::OpenParen)?;
@@ -58,15 +58,15 @@ fn variadic_type(tokens: &mut Tokens<'_>) -> Result<bool, Refusal>
 }
 
 /// Takes the type of a callee, where it is written; that of `printf` alone may be.
-#[tactic(auto, unfolding(ms_grammar::specs::Insts::callee_type))]
-fn callee_type(tokens: &mut Tokens<'_>, ty: Option<ValueType>) -> Result<bool, Refusal>
+#[tactic(auto, unfolding(ms_text_grammar::specs::Insts::callee_type))]
+fn callee_type(tokens: &mut Tokens<'_>, ty: Option<ValueType>) -> Result<bool, Cause>
     ensures { Gives (run (spec.callee_type ty) tokens.old) result tokens.new }
 {
     if !tokens.sees(Symbol::OpenParen) {
         return Ok(false);
     }
     if !is_i32(ty) {
-        return Err(Refusal::Outside(Outside::FunctionType));
+        return Err(Cause::Outside(Outside::FunctionType));
     }
     variadic_type(tokens)
 }
@@ -86,33 +86,33 @@ fn is_main(text: &[u8]) -> bool
 }
 
 /// The callee that a global names, which is `printf` where its type stood in front.
-fn callee_name(alloc: Global, form: Form, dotted: bool, token: &Lexeme<'_>) -> Result<Name, Refusal>
+fn callee_name(alloc: Global, form: Form, dotted: bool, token: &Lexeme<'_>) -> Result<Name, Cause>
     ensures { Judges (spec.callee_name form dotted (name_in token.now)) result }
 {
     let text = token.small_name(alloc)?;
     if is_main(text.as_slice()) {
-        return Err(Refusal::Outside(Outside::CallOfMain));
+        return Err(Cause::Outside(Outside::CallOfMain));
     }
     if dotted && !is_printf(text.as_slice()) {
-        return Err(Refusal::Outside(Outside::FunctionType));
+        return Err(Cause::Outside(Outside::FunctionType));
     }
     global_name(alloc, form, token)
 }
 
 /// The callee that a token is: a global. A local would be an indirect call.
-fn callee_by(alloc: Global, form: Form, dotted: bool, token: &Lexeme<'_>) -> Result<Name, Refusal>
+fn callee_by(alloc: Global, form: Form, dotted: bool, token: &Lexeme<'_>) -> Result<Name, Cause>
     ensures { Judges (spec.callee_by form dotted token.now.symbol token.now) result }
 {
     match token.symbol() {
         Symbol::Global => callee_name(alloc, form, dotted, token),
-        Symbol::Local | Symbol::NumberedLocal => Err(Refusal::Outside(Outside::IndirectCall)),
+        Symbol::Local | Symbol::NumberedLocal => Err(Cause::Outside(Outside::IndirectCall)),
         _ => Err(token.refusal()),
     }
 }
 
 /// Takes the callee.
-#[tactic(auto, unfolding(ms_grammar::specs::Insts::callee))]
-fn callee(alloc: Global, tokens: &mut Tokens<'_>, form: Form, dotted: bool) -> Result<Name, Refusal>
+#[tactic(auto, unfolding(ms_text_grammar::specs::Insts::callee))]
+fn callee(alloc: Global, tokens: &mut Tokens<'_>, form: Form, dotted: bool) -> Result<Name, Cause>
     ensures { Gives (run (spec.callee form dotted) tokens.old) result tokens.new }
 {
     let name = callee_by(alloc, form, dotted, &tokens.lexeme())?;
@@ -131,12 +131,12 @@ pub fn names_printf(name: &Name) -> bool
 }
 
 /// The type of an argument in front of which so many stand. Only where they are counted is their number limited here.
-fn argument_type_of(counted: bool, before: usize, token: &Lexeme<'_>) -> Result<ValueType, Refusal>
+fn argument_type_of(counted: bool, before: usize, token: &Lexeme<'_>) -> Result<ValueType, Cause>
     ensures { Judges (spec.argument_type_of counted before token.now) result }
 {
     let ty = value_type_of(token)?;
     if counted && before >= MAX_PARAMETERS {
-        Err(Refusal::Limit(Limit::Parameters))
+        Err(Cause::Limit(Limit::Parameters))
     } else {
         Ok(ty)
     }
@@ -147,7 +147,7 @@ fn argument_type(
     tokens: &mut Tokens<'_>,
     counted: bool,
     found: &List<(Ty, Operand)>,
-) -> Result<ValueType, Refusal>
+) -> Result<ValueType, Cause>
     ensures { Gives (run (one (spec.argument_type_of counted (length found.now))) tokens.old) result tokens.new }
 {
     let before = found.as_slice().len();
@@ -163,7 +163,7 @@ fn argument_rest(
     form: Form,
     ty: ValueType,
     found: List<(Ty, Operand)>,
-) -> Result<List<(Ty, Operand)>, Refusal>
+) -> Result<List<(Ty, Operand)>, Cause>
     ensures { Gives (run (rest.argument_rest form ty found) tokens.old) result tokens.new }
 {
     attributes(alloc, tokens, form)?;
@@ -172,14 +172,14 @@ fn argument_rest(
 }
 
 /// Reads an argument behind those that were found.
-#[tactic(auto, unfolding(ms_grammar::specs::Insts::argument))]
+#[tactic(auto, unfolding(ms_text_grammar::specs::Insts::argument))]
 fn argument(
     alloc: Global,
     tokens: &mut Tokens<'_>,
     form: Form,
     counted: bool,
     found: List<(Ty, Operand)>,
-) -> Result<List<(Ty, Operand)>, Refusal>
+) -> Result<List<(Ty, Operand)>, Cause>
     ensures { Gives (run (spec.argument form counted found) tokens.old) result tokens.new }
 {
     let ty = argument_type(tokens, counted, &found)?;
@@ -196,7 +196,7 @@ impl Series for ArgumentSeries {
     type State = List<(Ty, Operand)>;
 
     ghost use Rattle.std.specs.Prelude.{true};
-    ghost use Rattle.ms_grammar.specs.Insts.{argument};
+    ghost use Rattle.ms_text_grammar.specs.Insts.{argument};
 
     ghost more = { λ rule found. true };
 
@@ -211,19 +211,19 @@ impl Series for ArgumentSeries {
         alloc: Global,
         state: List<(Ty, Operand)>,
         tokens: &mut Tokens<'_>,
-    ) -> Result<List<(Ty, Operand)>, Refusal> {
+    ) -> Result<List<(Ty, Operand)>, Cause> {
         argument(alloc, tokens, self.form, self.counted, state)
     }
 }
 
 /// Takes arguments with commas between, up to and with `)`.
-#[tactic(auto, unfolding(ms_grammar::specs::Insts::arguments))]
+#[tactic(auto, unfolding(ms_text_grammar::specs::Insts::arguments))]
 fn arguments(
     alloc: Global,
     tokens: &mut Tokens<'_>,
     form: Form,
     counted: bool,
-) -> Result<List<(Ty, Operand)>, Refusal>
+) -> Result<List<(Ty, Operand)>, Cause>
     ensures { Gives (run (spec.arguments form counted) tokens.old) result tokens.new }
 {
     let none = List::from_vec(Vec::new(alloc));
@@ -232,7 +232,7 @@ fn arguments(
 }
 
 /// Takes `call` behind `tail`, `musttail` or `notail`.
-fn call_word(tokens: &mut Tokens<'_>, first: Symbol) -> Result<(), Refusal>
+fn call_word(tokens: &mut Tokens<'_>, first: Symbol) -> Result<(), Cause>
     ensures { Gives (run (spec.call_word first) tokens.old) result tokens.new }
 {
     match first {
@@ -268,7 +268,7 @@ fn call_marked(
     ret: &Option<ValueType>,
     callee: Name,
     args: List<(Ty, Operand)>,
-) -> Result<(Boxed<Op>, bool), Refusal>
+) -> Result<(Boxed<Op>, bool), Cause>
     ensures { Gives (run (rest.call_marked form ret.now callee args) tokens.old) result tokens.new }
 {
     let marked = call_end(alloc, tokens, form)?;
@@ -282,7 +282,7 @@ fn call_rest(
     form: Form,
     ret: &Option<ValueType>,
     callee: Name,
-) -> Result<(Boxed<Op>, bool), Refusal>
+) -> Result<(Boxed<Op>, bool), Cause>
     ensures { Gives (run (rest.call_rest form ret.now callee) tokens.old) result tokens.new }
 {
     let args = arguments(alloc, tokens, form, names_printf(&callee))?;
@@ -295,7 +295,7 @@ fn call_callee(
     tokens: &mut Tokens<'_>,
     form: Form,
     ret: &Option<ValueType>,
-) -> Result<(Boxed<Op>, bool), Refusal>
+) -> Result<(Boxed<Op>, bool), Cause>
     ensures { Gives (run (rest.call_callee form ret.now) tokens.old) result tokens.new }
 {
     let dotted = callee_type(tokens, *ret)?;
@@ -312,14 +312,14 @@ fn call_callee(
 /// `Outside(FunctionType)` at the type of a callee other than `printf`, and at such a callee behind `(ptr, ...)`;
 /// `Outside(CallOfMain)` at `@main`; `Outside(IndirectCall)` at a local in the callee's place; `Limit(Parameters)` at the
 /// type of the 101st argument of `printf`; `Outside(OperandBundle)` at `[` behind the arguments; and those of its parts.
-#[tactic(auto, unfolding(ms_grammar::specs::Insts::call_rule))]
+#[tactic(auto, unfolding(ms_text_grammar::specs::Insts::call_rule))]
 pub fn call_rule(
     alloc: Global,
     tokens: &mut Tokens<'_>,
     form: Form,
     named: bool,
     first: Symbol,
-) -> Result<(Boxed<Op>, bool), Refusal>
+) -> Result<(Boxed<Op>, bool), Cause>
     ensures { Gives (run (spec.call_rule form named first) tokens.old) result tokens.new }
 {
     call_word(tokens, first)?;

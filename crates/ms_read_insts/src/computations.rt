@@ -4,16 +4,16 @@
 ghost use Rattle.std.specs.Prelude.{◌≡◌, IfOk};
 ghost use Rattle.ms_ir.specs.declared.syntax.Ty.TheVariants as ty;
 ghost use Rattle.ms_ir.specs.declared.syntax.Op.TheVariants as operation;
-ghost use Rattle.ms_grammar.specs.Insts as spec;
+ghost use Rattle.ms_text_grammar.specs.Insts as spec;
 ghost use Rattle.ms_read_cursor.specs.Reading.{Gives, Judges, run};
 ghost use Rattle.ms_read_insts.specs.Rests as rest;
 
 use crate::flags::{Carrier, flags_of};
 use ms_bits::{BinOp, Boxed, CastOp, Flags, NoMemory, Pred};
-use ms_grammar::{Refusal, Symbol};
 use ms_ir::{Form, Op, Operand};
 use ms_read_cursor::{Lexeme, Tokens, same_symbol};
 use ms_read_values::{ValueType, int_type, value, value_type, value_type_of};
+use ms_text_grammar::{Cause, Symbol};
 use std::alloc::Global;
 
 /// An operation on two operands of one type, as far as it is read in front of the type.
@@ -67,7 +67,7 @@ fn second_operand(
     operation: OnTwo,
     ty: ValueType,
     a: Boxed<Operand>,
-) -> Result<Boxed<Op>, Refusal>
+) -> Result<Boxed<Op>, Cause>
     ensures { Gives (run (rest.second_operand form operation ty a) tokens.old) result tokens.new }
 {
     tokens.word(Symbol::Comma)?;
@@ -82,7 +82,7 @@ fn two_operands(
     form: Form,
     operation: OnTwo,
     ty: ValueType,
-) -> Result<Boxed<Op>, Refusal>
+) -> Result<Boxed<Op>, Cause>
     ensures { Gives (run (rest.two_operands form operation ty) tokens.old) result tokens.new }
 {
     let a = value(alloc, tokens, form, ty)?;
@@ -94,13 +94,13 @@ fn two_operands(
 /// # Errors
 ///
 /// Those of its parts: `Syntax` or `Outside` at a token that can't stand, as another type than `iN`.
-#[tactic(auto, unfolding(ms_grammar::specs::Insts::binary_rule))]
+#[tactic(auto, unfolding(ms_text_grammar::specs::Insts::binary_rule))]
 pub fn binary_rule(
     alloc: Global,
     tokens: &mut Tokens<'_>,
     form: Form,
     op: BinOp,
-) -> Result<Boxed<Op>, Refusal>
+) -> Result<Boxed<Op>, Cause>
     ensures { Gives (run (spec.binary_rule form op) tokens.old) result tokens.new }
 {
     let flags = flags_of(alloc, tokens, Carrier::Binary(op))?;
@@ -109,7 +109,7 @@ pub fn binary_rule(
 }
 
 /// The predicate that a word names.
-#[tactic(auto, unfolding(ms_grammar::specs::Insts::predicate_by))]
+#[tactic(auto, unfolding(ms_text_grammar::specs::Insts::predicate_by))]
 fn predicate_by(symbol: Symbol) -> Option<Pred>
     ensures { result ≡ spec.predicate_by symbol }
 {
@@ -129,8 +129,8 @@ fn predicate_by(symbol: Symbol) -> Option<Pred>
 }
 
 /// Takes a predicate.
-#[tactic(auto, unfolding(ms_grammar::specs::Insts::predicate_word))]
-fn predicate_word(tokens: &mut Tokens<'_>) -> Result<Pred, Refusal>
+#[tactic(auto, unfolding(ms_text_grammar::specs::Insts::predicate_word))]
+fn predicate_word(tokens: &mut Tokens<'_>) -> Result<Pred, Cause>
     ensures { Gives (run spec.predicate_word tokens.old) result tokens.new }
 {
     match predicate_by(tokens.peek()) {
@@ -147,12 +147,8 @@ fn predicate_word(tokens: &mut Tokens<'_>) -> Result<Pred, Refusal>
 /// # Errors
 ///
 /// Those of its parts.
-#[tactic(auto, unfolding(ms_grammar::specs::Insts::compare_rule))]
-pub fn compare_rule(
-    alloc: Global,
-    tokens: &mut Tokens<'_>,
-    form: Form,
-) -> Result<Boxed<Op>, Refusal>
+#[tactic(auto, unfolding(ms_text_grammar::specs::Insts::compare_rule))]
+pub fn compare_rule(alloc: Global, tokens: &mut Tokens<'_>, form: Form) -> Result<Boxed<Op>, Cause>
     ensures { Gives (run (spec.compare_rule form) tokens.old) result tokens.new }
 {
     let flags = flags_of(alloc, tokens, Carrier::Compare)?;
@@ -192,7 +188,7 @@ fn cast_end(
     flags: Flags,
     from: ValueType,
     a: Boxed<Operand>,
-) -> Result<Boxed<Op>, Refusal>
+) -> Result<Boxed<Op>, Cause>
     ensures { Gives (run (rest.cast_end op flags from a) tokens.old) result tokens.new }
 {
     tokens.word(Symbol::To)?;
@@ -208,7 +204,7 @@ fn cast_rest(
     op: CastOp,
     flags: Flags,
     from: ValueType,
-) -> Result<Boxed<Op>, Refusal>
+) -> Result<Boxed<Op>, Cause>
     ensures { Gives (run (rest.cast_rest form op flags from) tokens.old) result tokens.new }
 {
     let a = value(alloc, tokens, form, from)?;
@@ -220,13 +216,13 @@ fn cast_rest(
 /// # Errors
 ///
 /// Those of its parts.
-#[tactic(auto, unfolding(ms_grammar::specs::Insts::cast_rule))]
+#[tactic(auto, unfolding(ms_text_grammar::specs::Insts::cast_rule))]
 pub fn cast_rule(
     alloc: Global,
     tokens: &mut Tokens<'_>,
     form: Form,
     op: CastOp,
-) -> Result<Boxed<Op>, Refusal>
+) -> Result<Boxed<Op>, Cause>
     ensures { Gives (run (spec.cast_rule form op) tokens.old) result tokens.new }
 {
     let flags = flags_of(alloc, tokens, Carrier::Cast(op))?;
@@ -242,8 +238,8 @@ pub fn is_int_type(width: u8, token: &Lexeme<'_>) -> bool
 }
 
 /// Takes `i1`.
-#[tactic(auto, unfolding(ms_grammar::specs::Insts::bit_type))]
-pub fn bit_type(tokens: &mut Tokens<'_>) -> Result<(), Refusal>
+#[tactic(auto, unfolding(ms_text_grammar::specs::Insts::bit_type))]
+pub fn bit_type(tokens: &mut Tokens<'_>) -> Result<(), Cause>
     ensures { Gives (run spec.bit_type tokens.old) result tokens.new }
 {
     if is_int_type(1, &tokens.lexeme()) {
@@ -265,7 +261,7 @@ fn spells(ty: ValueType, token: &Lexeme<'_>) -> bool
 }
 
 /// That a token is this type of a value, and no other.
-fn same_type_of(ty: ValueType, token: &Lexeme<'_>) -> Result<(), Refusal>
+fn same_type_of(ty: ValueType, token: &Lexeme<'_>) -> Result<(), Cause>
     ensures { Judges (spec.same_type_of ty token.now) result }
 {
     if spells(ty, token) {
@@ -276,8 +272,8 @@ fn same_type_of(ty: ValueType, token: &Lexeme<'_>) -> Result<(), Refusal>
 }
 
 /// Takes this type of a value, and no other.
-#[tactic(auto, unfolding(ms_grammar::specs::Insts::same_type))]
-fn same_type(tokens: &mut Tokens<'_>, ty: ValueType) -> Result<(), Refusal>
+#[tactic(auto, unfolding(ms_text_grammar::specs::Insts::same_type))]
+fn same_type(tokens: &mut Tokens<'_>, ty: ValueType) -> Result<(), Cause>
     ensures { Gives (run (spec.same_type ty) tokens.old) result tokens.new }
 {
     same_type_of(ty, &tokens.lexeme())?;
@@ -314,7 +310,7 @@ fn select_last(
     cond: Boxed<Operand>,
     ty: ValueType,
     a: Boxed<Operand>,
-) -> Result<Boxed<Op>, Refusal>
+) -> Result<Boxed<Op>, Cause>
     ensures { Gives (run (rest.select_last form cond ty a) tokens.old) result tokens.new }
 {
     let b = value(alloc, tokens, form, ty)?;
@@ -329,7 +325,7 @@ fn select_end(
     cond: Boxed<Operand>,
     ty: ValueType,
     a: Boxed<Operand>,
-) -> Result<Boxed<Op>, Refusal>
+) -> Result<Boxed<Op>, Cause>
     ensures { Gives (run (rest.select_end form cond ty a) tokens.old) result tokens.new }
 {
     tokens.word(Symbol::Comma)?;
@@ -343,7 +339,7 @@ fn select_rest(
     tokens: &mut Tokens<'_>,
     form: Form,
     cond: Boxed<Operand>,
-) -> Result<Boxed<Op>, Refusal>
+) -> Result<Boxed<Op>, Cause>
     ensures { Gives (run (rest.select_rest form cond) tokens.old) result tokens.new }
 {
     let ty = value_type(tokens)?;
@@ -356,8 +352,8 @@ fn select_rest(
 /// # Errors
 ///
 /// Those of its parts. A second type that isn't the first is refused at its token.
-#[tactic(auto, unfolding(ms_grammar::specs::Insts::select_rule))]
-pub fn select_rule(alloc: Global, tokens: &mut Tokens<'_>, form: Form) -> Result<Boxed<Op>, Refusal>
+#[tactic(auto, unfolding(ms_text_grammar::specs::Insts::select_rule))]
+pub fn select_rule(alloc: Global, tokens: &mut Tokens<'_>, form: Form) -> Result<Boxed<Op>, Cause>
     ensures { Gives (run (spec.select_rule form) tokens.old) result tokens.new }
 {
     bit_type(tokens)?;
@@ -371,8 +367,8 @@ pub fn select_rule(alloc: Global, tokens: &mut Tokens<'_>, form: Form) -> Result
 /// # Errors
 ///
 /// Those of its parts.
-#[tactic(auto, unfolding(ms_grammar::specs::Insts::freeze_rule))]
-pub fn freeze_rule(alloc: Global, tokens: &mut Tokens<'_>, form: Form) -> Result<Boxed<Op>, Refusal>
+#[tactic(auto, unfolding(ms_text_grammar::specs::Insts::freeze_rule))]
+pub fn freeze_rule(alloc: Global, tokens: &mut Tokens<'_>, form: Form) -> Result<Boxed<Op>, Cause>
     ensures { Gives (run (spec.freeze_rule form) tokens.old) result tokens.new }
 {
     let ty = value_type(tokens)?;

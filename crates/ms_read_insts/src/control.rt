@@ -2,17 +2,17 @@
 
 ghost use Rattle.std.specs.Prelude.{◌≡◌, ◌∷◌, ◌++◌, [], IfOk, Some, false};
 ghost use Rattle.ms_ir.specs.declared.syntax.Op.TheVariants as operation;
-ghost use Rattle.ms_grammar.specs.Insts as spec;
+ghost use Rattle.ms_text_grammar.specs.Insts as spec;
 ghost use Rattle.ms_read_cursor.specs.Reading.{Gives, run};
 ghost use Rattle.ms_read_values.specs.Narrow.{IsWidth};
 ghost use Rattle.ms_read_insts.specs.Rests as rest;
 
 use crate::computations::{bit_type, is_int_type};
 use ms_bits::{Boxed, List, NoMemory};
-use ms_grammar::{Edges, Refusal, Symbol};
 use ms_ir::{Form, Name, Op, Operand, Ty};
 use ms_read_cursor::{Lexeme, Tokens, Turn, local, repeat, with_last};
 use ms_read_values::{ValueType, int_type, number, result_type, suffixes_from, value, value_type};
+use ms_text_grammar::{Cause, Edges, Symbol};
 use std::alloc::Global;
 
 /// Reads the block that control comes from, and `]`.
@@ -21,7 +21,7 @@ fn edge_end(
     tokens: &mut Tokens<'_>,
     form: Form,
     operand: Boxed<Operand>,
-) -> Result<(Boxed<Operand>, Name), Refusal>
+) -> Result<(Boxed<Operand>, Name), Cause>
     ensures { Gives (run (rest.edge_end form operand) tokens.old) result tokens.new }
 {
     let from = local(alloc, tokens, form)?;
@@ -30,13 +30,13 @@ fn edge_end(
 }
 
 /// Reads an edge of a phi behind its `[`.
-#[tactic(auto, unfolding(ms_grammar::specs::Insts::edge))]
+#[tactic(auto, unfolding(ms_text_grammar::specs::Insts::edge))]
 fn edge(
     alloc: Global,
     tokens: &mut Tokens<'_>,
     form: Form,
     ty: ValueType,
-) -> Result<(Boxed<Operand>, Name), Refusal>
+) -> Result<(Boxed<Operand>, Name), Cause>
     ensures { Gives (run (spec.edge form ty) tokens.old) result tokens.new }
 {
     let operand = value(alloc, tokens, form, ty)?;
@@ -57,14 +57,14 @@ fn with_edge(found: List<(Operand, Name)>, edge: (Boxed<Operand>, Name)) -> Resu
 }
 
 /// Reads an edge behind its comma, or finds that what is attached begins.
-#[tactic(auto, unfolding(ms_grammar::specs::Insts::edge_turn))]
+#[tactic(auto, unfolding(ms_text_grammar::specs::Insts::edge_turn))]
 fn edge_turn(
     alloc: Global,
     tokens: &mut Tokens<'_>,
     form: Form,
     ty: ValueType,
     found: List<(Operand, Name)>,
-) -> Result<Edges, Refusal>
+) -> Result<Edges, Cause>
     ensures { Gives (run (spec.edge_turn form ty found) tokens.old) result tokens.new }
 {
     match tokens.peek() {
@@ -86,13 +86,13 @@ struct EdgeTurn {
 impl Turn for EdgeTurn {
     type State = Edges;
 
-    ghost use Rattle.ms_grammar.specs.Insts.{edge_begins, edge_turn};
+    ghost use Rattle.ms_text_grammar.specs.Insts.{edge_begins, edge_turn};
 
     ghost begins = { λ rule. edge_begins };
 
     ghost body = { λ rule edges comma. edge_turn rule.form rule.ty edges.found };
 
-    fn goes_on(&self, _alloc: Global, state: &Edges, first: &Lexeme<'_>) -> Result<bool, Refusal> {
+    fn goes_on(&self, _alloc: Global, state: &Edges, first: &Lexeme<'_>) -> Result<bool, Cause> {
         Ok(!state.ended && first.is(Symbol::Comma))
     }
 
@@ -102,7 +102,7 @@ impl Turn for EdgeTurn {
         state: Edges,
         _first: &Lexeme<'_>,
         tokens: &mut Tokens<'_>,
-    ) -> Result<Edges, Refusal> {
+    ) -> Result<Edges, Cause> {
         let Edges { found, .. } = state;
         edge_turn(alloc, tokens, self.form, self.ty, found)
     }
@@ -129,7 +129,7 @@ fn phi_rest(
     form: Form,
     ty: ValueType,
     first: Edges,
-) -> Result<(Boxed<Op>, bool), Refusal>
+) -> Result<(Boxed<Op>, bool), Cause>
     ensures { Gives (run (rest.phi_rest form ty first) tokens.old) result tokens.new }
 {
     let Edges { found, ended } = repeat(alloc, tokens, &EdgeTurn { form, ty }, first)?;
@@ -143,12 +143,12 @@ fn phi_rest(
 /// # Errors
 ///
 /// Those of its parts: `Syntax` or `Outside` at a token that can't stand.
-#[tactic(auto, unfolding(ms_grammar::specs::Insts::phi_rule))]
+#[tactic(auto, unfolding(ms_text_grammar::specs::Insts::phi_rule))]
 pub fn phi_rule(
     alloc: Global,
     tokens: &mut Tokens<'_>,
     form: Form,
-) -> Result<(Boxed<Op>, bool), Refusal>
+) -> Result<(Boxed<Op>, bool), Cause>
     ensures { Gives (run (spec.phi_rule form) tokens.old) result tokens.new }
 {
     let ty = value_type(tokens)?;
@@ -158,8 +158,8 @@ pub fn phi_rule(
 }
 
 /// Takes `label` and the name of a block.
-#[tactic(auto, unfolding(ms_grammar::specs::Insts::target))]
-fn target(alloc: Global, tokens: &mut Tokens<'_>, form: Form) -> Result<Name, Refusal>
+#[tactic(auto, unfolding(ms_text_grammar::specs::Insts::target))]
+fn target(alloc: Global, tokens: &mut Tokens<'_>, form: Form) -> Result<Name, Cause>
     ensures { Gives (run (spec.target form) tokens.old) result tokens.new }
 {
     tokens.word(Symbol::LabelWord)?;
@@ -192,7 +192,7 @@ fn branch_end(
     form: Form,
     cond: Boxed<Operand>,
     yes: Name,
-) -> Result<Boxed<Op>, Refusal>
+) -> Result<Boxed<Op>, Cause>
     ensures { Gives (run (rest.branch_end form cond yes) tokens.old) result tokens.new }
 {
     tokens.word(Symbol::Comma)?;
@@ -206,7 +206,7 @@ fn branch_rest(
     tokens: &mut Tokens<'_>,
     form: Form,
     cond: Boxed<Operand>,
-) -> Result<Boxed<Op>, Refusal>
+) -> Result<Boxed<Op>, Cause>
     ensures { Gives (run (rest.branch_rest form cond) tokens.old) result tokens.new }
 {
     tokens.word(Symbol::Comma)?;
@@ -215,8 +215,8 @@ fn branch_rest(
 }
 
 /// Reads `i1 condition, label %yes, label %no`.
-#[tactic(auto, unfolding(ms_grammar::specs::Insts::branch_on))]
-fn branch_on(alloc: Global, tokens: &mut Tokens<'_>, form: Form) -> Result<Boxed<Op>, Refusal>
+#[tactic(auto, unfolding(ms_text_grammar::specs::Insts::branch_on))]
+fn branch_on(alloc: Global, tokens: &mut Tokens<'_>, form: Form) -> Result<Boxed<Op>, Cause>
     ensures { Gives (run (spec.branch_on form) tokens.old) result tokens.new }
 {
     bit_type(tokens)?;
@@ -229,8 +229,8 @@ fn branch_on(alloc: Global, tokens: &mut Tokens<'_>, form: Form) -> Result<Boxed
 /// # Errors
 ///
 /// Those of its parts.
-#[tactic(auto, unfolding(ms_grammar::specs::Insts::branch_rule))]
-pub fn branch_rule(alloc: Global, tokens: &mut Tokens<'_>, form: Form) -> Result<Boxed<Op>, Refusal>
+#[tactic(auto, unfolding(ms_text_grammar::specs::Insts::branch_rule))]
+pub fn branch_rule(alloc: Global, tokens: &mut Tokens<'_>, form: Form) -> Result<Boxed<Op>, Cause>
     ensures { Gives (run (spec.branch_rule form) tokens.old) result tokens.new }
 {
     if !tokens.sees(Symbol::LabelWord) {
@@ -247,7 +247,7 @@ fn case_end(
     form: Form,
     n: u64,
     found: List<(u64, Name)>,
-) -> Result<List<(u64, Name)>, Refusal>
+) -> Result<List<(u64, Name)>, Cause>
     ensures { Gives (run (rest.case_end form n found) tokens.old) result tokens.new }
 {
     tokens.word(Symbol::Comma)?;
@@ -256,14 +256,14 @@ fn case_end(
 }
 
 /// Reads a case of a `switch` behind its type.
-#[tactic(auto, unfolding(ms_grammar::specs::Insts::case_rest))]
+#[tactic(auto, unfolding(ms_text_grammar::specs::Insts::case_rest))]
 fn case_rest(
     alloc: Global,
     tokens: &mut Tokens<'_>,
     form: Form,
     width: u8,
     found: List<(u64, Name)>,
-) -> Result<List<(u64, Name)>, Refusal>
+) -> Result<List<(u64, Name)>, Cause>
     requires { IsWidth width }
     ensures { Gives (run (spec.case_rest form width found) tokens.old) result tokens.new }
 {
@@ -282,7 +282,7 @@ struct CaseTurn {
 impl Turn for CaseTurn {
     type State = List<(u64, Name)>;
 
-    ghost use Rattle.ms_grammar.specs.Insts.{case_begins, case_rest};
+    ghost use Rattle.ms_text_grammar.specs.Insts.{case_begins, case_rest};
 
     ghost begins = { λ rule. case_begins rule.width };
 
@@ -293,7 +293,7 @@ impl Turn for CaseTurn {
         _alloc: Global,
         _state: &List<(u64, Name)>,
         first: &Lexeme<'_>,
-    ) -> Result<bool, Refusal> {
+    ) -> Result<bool, Cause> {
         Ok(is_int_type(self.width, first))
     }
 
@@ -303,7 +303,7 @@ impl Turn for CaseTurn {
         state: List<(u64, Name)>,
         _first: &Lexeme<'_>,
         tokens: &mut Tokens<'_>,
-    ) -> Result<List<(u64, Name)>, Refusal> {
+    ) -> Result<List<(u64, Name)>, Cause> {
         case_rest(alloc, tokens, self.form, self.width, state)
     }
 }
@@ -337,7 +337,7 @@ fn switch_last(
     value: Boxed<Operand>,
     other: Name,
     cases: List<(u64, Name)>,
-) -> Result<Boxed<Op>, Refusal>
+) -> Result<Boxed<Op>, Cause>
     ensures { Gives (run (rest.switch_last width value other cases) tokens.old) result tokens.new }
 {
     tokens.word(Symbol::CloseBracket)?;
@@ -352,7 +352,7 @@ fn switch_end(
     width: u8,
     value: Boxed<Operand>,
     other: Name,
-) -> Result<Boxed<Op>, Refusal>
+) -> Result<Boxed<Op>, Cause>
     requires { IsWidth width }
     ensures { Gives (run (rest.switch_end form width value other) tokens.old) result tokens.new }
 {
@@ -368,7 +368,7 @@ fn switch_rest(
     form: Form,
     width: u8,
     value: Boxed<Operand>,
-) -> Result<Boxed<Op>, Refusal>
+) -> Result<Boxed<Op>, Cause>
     requires { IsWidth width }
     ensures { Gives (run (rest.switch_rest form width value) tokens.old) result tokens.new }
 {
@@ -382,8 +382,8 @@ fn switch_rest(
 /// # Errors
 ///
 /// Those of its parts. A case of another type is refused at its type.
-#[tactic(auto, unfolding(ms_grammar::specs::Insts::switch_rule))]
-pub fn switch_rule(alloc: Global, tokens: &mut Tokens<'_>, form: Form) -> Result<Boxed<Op>, Refusal>
+#[tactic(auto, unfolding(ms_text_grammar::specs::Insts::switch_rule))]
+pub fn switch_rule(alloc: Global, tokens: &mut Tokens<'_>, form: Form) -> Result<Boxed<Op>, Cause>
     ensures { Gives (run (spec.switch_rule form) tokens.old) result tokens.new }
 {
     let width = int_type(tokens)?;
@@ -409,8 +409,8 @@ fn ret_of(alloc: Global, ty: ValueType, value: Boxed<Operand>) -> Result<Boxed<O
 /// # Errors
 ///
 /// Those of its parts.
-#[tactic(auto, unfolding(ms_grammar::specs::Insts::ret_rule))]
-pub fn ret_rule(alloc: Global, tokens: &mut Tokens<'_>, form: Form) -> Result<Boxed<Op>, Refusal>
+#[tactic(auto, unfolding(ms_text_grammar::specs::Insts::ret_rule))]
+pub fn ret_rule(alloc: Global, tokens: &mut Tokens<'_>, form: Form) -> Result<Boxed<Op>, Cause>
     ensures { Gives (run (spec.ret_rule form) tokens.old) result tokens.new }
 {
     match result_type(tokens)? {

@@ -1,13 +1,13 @@
 //! Flags between the word of an operation and its types.
 
 ghost use Rattle.std.specs.Prelude.{◌≡◌};
-ghost use Rattle.ms_grammar.specs.Insts as spec;
+ghost use Rattle.ms_text_grammar.specs.Insts as spec;
 ghost use Rattle.ms_read_cursor.specs.Reading.{Gives, run};
 ghost use Rattle.ms_read_insts.specs.Carriers.{carries_of};
 
 use ms_bits::{BinOp, CastOp, Flags};
-use ms_grammar::{Refusal, Symbol};
 use ms_read_cursor::{Lexeme, Tokens, Turn, repeat, same_symbol};
+use ms_text_grammar::{Cause, Symbol};
 use std::alloc::Global;
 
 /// What may carry flags.
@@ -57,7 +57,7 @@ fn is_wrap_flag(symbol: Symbol) -> bool
     matches!(symbol, Symbol::Nuw | Symbol::Nsw)
 }
 
-#[tactic(auto, unfolding(ms_grammar::specs::Insts::binary_carries))]
+#[tactic(auto, unfolding(ms_text_grammar::specs::Insts::binary_carries))]
 fn binary_carries(op: BinOp, symbol: Symbol) -> bool
     ensures { result ≡ spec.binary_carries op symbol }
 {
@@ -69,7 +69,7 @@ fn binary_carries(op: BinOp, symbol: Symbol) -> bool
     }
 }
 
-#[tactic(auto, unfolding(ms_grammar::specs::Insts::cast_carries))]
+#[tactic(auto, unfolding(ms_text_grammar::specs::Insts::cast_carries))]
 fn cast_carries(op: CastOp, symbol: Symbol) -> bool
     ensures { result ≡ spec.cast_carries op symbol }
 {
@@ -102,14 +102,14 @@ impl Turn for FlagTurn {
     type State = Flags;
 
     ghost use Rattle.ms_lex.specs.Grammar.{give};
-    ghost use Rattle.ms_grammar.specs.Insts.{flag_begins, with_flag};
+    ghost use Rattle.ms_text_grammar.specs.Insts.{flag_begins, with_flag};
     ghost use Rattle.ms_read_insts.specs.Carriers.{carries_of};
 
     ghost begins = { λ rule. flag_begins (carries_of rule.carrier) };
 
     ghost body = { λ rule flags t. give (with_flag flags t.symbol) };
 
-    fn goes_on(&self, _alloc: Global, state: &Flags, first: &Lexeme<'_>) -> Result<bool, Refusal> {
+    fn goes_on(&self, _alloc: Global, state: &Flags, first: &Lexeme<'_>) -> Result<bool, Cause> {
         let symbol = first.symbol();
         Ok(self.carrier.carries(symbol) && !is_set(*state, symbol))
     }
@@ -120,7 +120,7 @@ impl Turn for FlagTurn {
         state: Flags,
         first: &Lexeme<'_>,
         _tokens: &mut Tokens<'_>,
-    ) -> Result<Flags, Refusal> {
+    ) -> Result<Flags, Cause> {
         Ok(with_flag(state, first.symbol()))
     }
 }
@@ -131,8 +131,8 @@ impl Turn for FlagTurn {
 /// # Errors
 ///
 /// None of its own.
-#[tactic(auto, unfolding(ms_grammar::specs::Insts::flags_of))]
-pub fn flags_of(alloc: Global, tokens: &mut Tokens<'_>, carrier: Carrier) -> Result<Flags, Refusal>
+#[tactic(auto, unfolding(ms_text_grammar::specs::Insts::flags_of))]
+pub fn flags_of(alloc: Global, tokens: &mut Tokens<'_>, carrier: Carrier) -> Result<Flags, Cause>
     ensures { Gives (run (spec.flags_of (carries_of carrier)) tokens.old) result tokens.new }
 {
     let none = Flags {

@@ -13,5 +13,5 @@ pub use calls::{call_rule, names_printf};
 pub use computations::{binary_rule, cast_rule, compare_rule, freeze_rule, select_rule};
 pub use control::{branch_rule, phi_rule, ret_rule, switch_rule};
 pub use flags::{Carrier, flags_of};
-pub use memory::{alloca_rule, load_rule, step_rule, store_rule};
+pub use memory::{alloca_rule, gep_rule, load_rule, store_rule};
 pub use suffixes::with_suffixes;

@@ -3,26 +3,26 @@
 ghost use Rattle.std.specs.Prelude.{◌≡◌, ◌∷◌, ◌++◌, [], IfOk, false};
 ghost use Rattle.ms_ir.specs.declared.syntax.Op.TheVariants as operation;
 ghost use Rattle.ms_lex.specs.Grammar.{one};
-ghost use Rattle.ms_grammar.specs.Values as values;
-ghost use Rattle.ms_grammar.specs.Insts as spec;
+ghost use Rattle.ms_text_grammar.specs.Values as values;
+ghost use Rattle.ms_text_grammar.specs.Insts as spec;
 ghost use Rattle.ms_read_cursor.specs.Reading.{Gives, run};
 ghost use Rattle.ms_read_insts.specs.Rests as rest;
 
 use ms_bits::{Boxed, List, NoMemory};
-use ms_grammar::{Indices, Refusal, Symbol};
 use ms_ir::{Form, Op, Operand, Ty};
 use ms_read_cursor::{Lexeme, Tokens, Turn, repeat, with_last};
 use ms_read_values::{
-    ValueType, boxed_type, index_type_of, step_words, suffixes_from, value, value_type,
+    ValueType, boxed_type, gep_words, index_type_of, suffixes_from, value, value_type,
 };
+use ms_text_grammar::{Cause, Indices, Symbol};
 use std::alloc::Global;
 
 /// How many arrays and structs may be open at once.
 const MAX_DEPTH: u8 = 32;
 
 /// Takes `ptr` and an address behind a comma.
-#[tactic(auto, unfolding(ms_grammar::specs::Insts::address))]
-fn address(alloc: Global, tokens: &mut Tokens<'_>, form: Form) -> Result<Boxed<Operand>, Refusal>
+#[tactic(auto, unfolding(ms_text_grammar::specs::Insts::address))]
+fn address(alloc: Global, tokens: &mut Tokens<'_>, form: Form) -> Result<Boxed<Operand>, Cause>
     ensures { Gives (run (spec.address form) tokens.old) result tokens.new }
 {
     tokens.word(Symbol::Comma)?;
@@ -35,8 +35,8 @@ fn address(alloc: Global, tokens: &mut Tokens<'_>, form: Form) -> Result<Boxed<O
 /// # Errors
 ///
 /// Those of its parts: `Syntax` or `Outside` at a token that can't stand.
-#[tactic(auto, unfolding(ms_grammar::specs::Insts::load_rule))]
-pub fn load_rule(alloc: Global, tokens: &mut Tokens<'_>, form: Form) -> Result<Boxed<Op>, Refusal>
+#[tactic(auto, unfolding(ms_text_grammar::specs::Insts::load_rule))]
+pub fn load_rule(alloc: Global, tokens: &mut Tokens<'_>, form: Form) -> Result<Boxed<Op>, Cause>
     ensures { Gives (run (spec.load_rule form) tokens.old) result tokens.new }
 {
     let ty = value_type(tokens)?;
@@ -72,8 +72,8 @@ fn store_of(
 /// # Errors
 ///
 /// Those of its parts.
-#[tactic(auto, unfolding(ms_grammar::specs::Insts::store_rule))]
-pub fn store_rule(alloc: Global, tokens: &mut Tokens<'_>, form: Form) -> Result<Boxed<Op>, Refusal>
+#[tactic(auto, unfolding(ms_text_grammar::specs::Insts::store_rule))]
+pub fn store_rule(alloc: Global, tokens: &mut Tokens<'_>, form: Form) -> Result<Boxed<Op>, Cause>
     ensures { Gives (run (spec.store_rule form) tokens.old) result tokens.new }
 {
     let ty = value_type(tokens)?;
@@ -93,7 +93,7 @@ fn no_indices(alloc: Global) -> Indices
 }
 
 /// The width of an index in front of which so many stand.
-fn index_width(tokens: &mut Tokens<'_>, before: usize) -> Result<u8, Refusal>
+fn index_width(tokens: &mut Tokens<'_>, before: usize) -> Result<u8, Cause>
     ensures { Gives (run (one (values.index_type_of before)) tokens.old) result tokens.new }
 {
     let width = index_type_of(before, &tokens.lexeme())?;
@@ -122,7 +122,7 @@ fn index(
     tokens: &mut Tokens<'_>,
     form: Form,
     found: List<(Ty, Operand)>,
-) -> Result<Indices, Refusal>
+) -> Result<Indices, Cause>
     ensures { Gives (run (spec.index_by form found Symbol.IntType) tokens.old) result tokens.new }
 {
     let ty = ValueType::int(index_width(tokens, found.as_slice().len())?);
@@ -131,13 +131,13 @@ fn index(
 }
 
 /// Reads an index behind its comma, or finds that what is attached begins.
-#[tactic(auto, unfolding(ms_grammar::specs::Insts::index_turn))]
+#[tactic(auto, unfolding(ms_text_grammar::specs::Insts::index_turn))]
 fn index_turn(
     alloc: Global,
     tokens: &mut Tokens<'_>,
     form: Form,
     found: List<(Ty, Operand)>,
-) -> Result<Indices, Refusal>
+) -> Result<Indices, Cause>
     ensures { Gives (run (spec.index_turn form found) tokens.old) result tokens.new }
 {
     match tokens.peek() {
@@ -154,18 +154,13 @@ struct IndexTurn {
 impl Turn for IndexTurn {
     type State = Indices;
 
-    ghost use Rattle.ms_grammar.specs.Insts.{index_begins, index_turn};
+    ghost use Rattle.ms_text_grammar.specs.Insts.{index_begins, index_turn};
 
     ghost begins = { λ rule. index_begins };
 
     ghost body = { λ rule indices comma. index_turn rule.form indices.found };
 
-    fn goes_on(
-        &self,
-        _alloc: Global,
-        state: &Indices,
-        first: &Lexeme<'_>,
-    ) -> Result<bool, Refusal> {
+    fn goes_on(&self, _alloc: Global, state: &Indices, first: &Lexeme<'_>) -> Result<bool, Cause> {
         Ok(!state.ended && first.is(Symbol::Comma))
     }
 
@@ -175,7 +170,7 @@ impl Turn for IndexTurn {
         state: Indices,
         _first: &Lexeme<'_>,
         tokens: &mut Tokens<'_>,
-    ) -> Result<Indices, Refusal> {
+    ) -> Result<Indices, Cause> {
         let Indices { found, .. } = state;
         index_turn(alloc, tokens, self.form, found)
     }
@@ -208,7 +203,7 @@ fn step_end(
     ty: Boxed<Ty>,
     base: Boxed<Operand>,
     indices: Indices,
-) -> Result<(Boxed<Op>, bool), Refusal>
+) -> Result<(Boxed<Op>, bool), Cause>
     ensures { Gives (run (rest.step_end form ty base indices) tokens.old) result tokens.new }
 {
     let Indices { found, ended } = indices;
@@ -223,7 +218,7 @@ fn step_rest(
     form: Form,
     ty: Boxed<Ty>,
     base: Boxed<Operand>,
-) -> Result<(Boxed<Op>, bool), Refusal>
+) -> Result<(Boxed<Op>, bool), Cause>
     ensures { Gives (run (rest.step_rest form ty base) tokens.old) result tokens.new }
 {
     let indices = repeat(alloc, tokens, &IndexTurn { form }, no_indices(alloc))?;
@@ -236,15 +231,15 @@ fn step_rest(
 /// # Errors
 ///
 /// `Limit(Indices)` at the type of the 65th index, `Limit(Types)` at one bracket too many, and those of its parts.
-#[tactic(auto, unfolding(ms_grammar::specs::Insts::step_rule))]
-pub fn step_rule(
+#[tactic(auto, unfolding(ms_text_grammar::specs::Insts::gep_rule))]
+pub fn gep_rule(
     alloc: Global,
     tokens: &mut Tokens<'_>,
     form: Form,
-) -> Result<(Boxed<Op>, bool), Refusal>
-    ensures { Gives (run (spec.step_rule form) tokens.old) result tokens.new }
+) -> Result<(Boxed<Op>, bool), Cause>
+    ensures { Gives (run (spec.gep_rule form) tokens.old) result tokens.new }
 {
-    step_words(alloc, tokens)?;
+    gep_words(alloc, tokens)?;
     let ty = boxed_type(alloc, tokens, form, MAX_DEPTH)?;
     let base = address(alloc, tokens, form)?;
     step_rest(alloc, tokens, form, ty, base)
@@ -258,18 +253,13 @@ struct CountTurn {
 impl Turn for CountTurn {
     type State = Indices;
 
-    ghost use Rattle.ms_grammar.specs.Insts.{count_begins, index_turn};
+    ghost use Rattle.ms_text_grammar.specs.Insts.{count_begins, index_turn};
 
     ghost begins = { λ rule. count_begins };
 
     ghost body = { λ rule indices comma. index_turn rule.form indices.found };
 
-    fn goes_on(
-        &self,
-        _alloc: Global,
-        state: &Indices,
-        first: &Lexeme<'_>,
-    ) -> Result<bool, Refusal> {
+    fn goes_on(&self, _alloc: Global, state: &Indices, first: &Lexeme<'_>) -> Result<bool, Cause> {
         Ok(!state.ended && state.found.as_slice().len() == 0 && first.is(Symbol::Comma))
     }
 
@@ -279,7 +269,7 @@ impl Turn for CountTurn {
         state: Indices,
         _first: &Lexeme<'_>,
         tokens: &mut Tokens<'_>,
-    ) -> Result<Indices, Refusal> {
+    ) -> Result<Indices, Cause> {
         let Indices { found, .. } = state;
         index_turn(alloc, tokens, self.form, found)
     }
@@ -341,7 +331,7 @@ fn alloca_end(
     form: Form,
     ty: Boxed<Ty>,
     count: Indices,
-) -> Result<(Boxed<Op>, bool), Refusal>
+) -> Result<(Boxed<Op>, bool), Cause>
     ensures { Gives (run (rest.alloca_end form ty count) tokens.old) result tokens.new }
 {
     let Indices { found, ended } = count;
@@ -355,7 +345,7 @@ fn alloca_rest(
     tokens: &mut Tokens<'_>,
     form: Form,
     ty: Boxed<Ty>,
-) -> Result<(Boxed<Op>, bool), Refusal>
+) -> Result<(Boxed<Op>, bool), Cause>
     ensures { Gives (run (rest.alloca_rest form ty) tokens.old) result tokens.new }
 {
     let count = repeat(alloc, tokens, &CountTurn { form }, no_indices(alloc))?;
@@ -368,12 +358,12 @@ fn alloca_rest(
 /// # Errors
 ///
 /// `Limit(Types)` at one bracket too many, and those of its parts.
-#[tactic(auto, unfolding(ms_grammar::specs::Insts::alloca_rule))]
+#[tactic(auto, unfolding(ms_text_grammar::specs::Insts::alloca_rule))]
 pub fn alloca_rule(
     alloc: Global,
     tokens: &mut Tokens<'_>,
     form: Form,
-) -> Result<(Boxed<Op>, bool), Refusal>
+) -> Result<(Boxed<Op>, bool), Cause>
     ensures { Gives (run (spec.alloca_rule form) tokens.old) result tokens.new }
 {
     let ty = boxed_type(alloc, tokens, form, MAX_DEPTH)?;

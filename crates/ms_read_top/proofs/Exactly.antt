@@ -6,9 +6,9 @@ use Rattle.ms_lex.specs.declared.kinds.Token.{Token}
 use Rattle.ms_lex.specs.Tokens.{Text, tokens_of}
 use Rattle.ms_ir.specs.declared.syntax.Module.{Module}
 use Rattle.ms_ir.specs.declared.forms.Form.{Form}
-use Rattle.ms_grammar.specs.Causes.{printed_number}
-use Rattle.ms_grammar.specs.Texts.{Reads, max_tokens, place_in}
-use Rattle.ms_grammar.proofs.Readings.{one_reading, one_stop, never_both}
+use Rattle.ms_text_grammar.specs.Causes.{printed_number}
+use Rattle.ms_text_grammar.specs.Texts.{Reads, max_tokens, place_in}
+use Rattle.ms_text_grammar.proofs.Readings.{one_reading, one_stop, never_both}
 use Rattle.ms_read_body.specs.Calls.{what_of}
 use Rattle.ms_read_body.specs.declared.errors.What.{What}
 use Rattle.ms_read_body.specs.declared.errors.ReadError.{ReadError}

@@ -5,11 +5,11 @@ use Rattle.ms_lex.proofs.Exact.{sound}
 use Rattle.ms_ir.specs.declared.syntax.Func.{Func}
 use Rattle.ms_ir.specs.declared.forms.Form.{Form}
 use Rattle.ms_ir.specs.declared.forms.Form.TheVariants.{Plain, Instrumented}
-use Rattle.ms_grammar.specs.Bodies.{max_instructions}
-use Rattle.ms_grammar.specs.Functions.{function}
-use Rattle.ms_grammar.specs.Lexemes.{Lexeme, end_of_text}
-use Rattle.ms_grammar.specs.Modules.{instructions_of}
-use Rattle.ms_grammar.proofs.Bounds.{function_bound}
+use Rattle.ms_text_grammar.specs.Bodies.{max_instructions}
+use Rattle.ms_text_grammar.specs.Functions.{function}
+use Rattle.ms_text_grammar.specs.Lexemes.{Lexeme, end_of_text}
+use Rattle.ms_text_grammar.specs.Modules.{instructions_of}
+use Rattle.ms_text_grammar.proofs.Bounds.{function_bound}
 use Rattle.ms_read_cursor.specs.Reading.{run}
 
 pub function_few : (form : Form) (before : ℕ) (ts : List Lexeme) (f : Func) (rest : List Lexeme) → before ≤ max_instructions form

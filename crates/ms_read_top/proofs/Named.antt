@@ -5,14 +5,14 @@ use Rattle.ms_lex.specs.Numbers.{decimal}
 use Rattle.ms_ir.specs.declared.syntax.Name.{Name}
 use Rattle.ms_ir.specs.declared.syntax.Name.TheVariants as name
 use Rattle.ms_ir.specs.declared.forms.Form.{Form}
-use Rattle.ms_grammar.specs.declared.refusals.Refusal.{Refusal}
-use Rattle.ms_grammar.specs.declared.refusals.Refusal.TheVariants as r
-use Rattle.ms_grammar.specs.declared.refusals.Limit.TheVariants as limit
-use Rattle.ms_grammar.specs.declared.symbols.Symbol.{Symbol}
-use Rattle.ms_grammar.specs.declared.symbols.Symbol.TheVariants as s
-use Rattle.ms_grammar.specs.Lexemes.{Lexeme, name_in}
-use Rattle.ms_grammar.specs.Steps.{Verdict, judge_map}
-use Rattle.ms_grammar.specs.Names.{local_by, name_fits, reserved_local}
+use Rattle.ms_text_grammar.specs.declared.refusals.Cause.{Cause}
+use Rattle.ms_text_grammar.specs.declared.refusals.Cause.TheVariants as r
+use Rattle.ms_text_grammar.specs.declared.refusals.Limit.TheVariants as limit
+use Rattle.ms_text_grammar.specs.declared.symbols.Symbol.{Symbol}
+use Rattle.ms_text_grammar.specs.declared.symbols.Symbol.TheVariants as s
+use Rattle.ms_text_grammar.specs.Lexemes.{Lexeme, name_in}
+use Rattle.ms_text_grammar.specs.Steps.{Verdict, judge_map}
+use Rattle.ms_text_grammar.specs.Names.{local_by, name_fits, reserved_local}
 use Rattle.ms_read_top.specs.TypeNames.{type_name}
 
 named_by : Bool → Bool → Text → Verdict Name
@@ -32,7 +32,7 @@ unfolding numbered_by
 number_is true k n h = cc
 number_is false k n h = absurd cc
 
-no_name : (e : Refusal) (n : Name) → ◌≡◌ {A = Verdict Name} (Err e) (Ok n) → ⊥
+no_name : (e : Cause) (n : Name) → ◌≡◌ {A = Verdict Name} (Err e) (Ok n) → ⊥
 no_name e n h = cc
 
 pub named : (form : Form) (symbol : Symbol) (t : Lexeme) (n : Name) → local_by form symbol t ≡ Ok n → n ≡ type_name symbol t
@@ -41,6 +41,6 @@ named form s.Local t n h = text_is (reserved_local form (name_in t)) (name_fits 
 named form s.NumberedLocal t n h = number_is (nat_lt (decimal (name_in t)) (2 ^ 32)) (decimal (name_in t)) n h
 named form symbol t n h = absurd (no_name _ n h)
 
-pub not_refused : (v : Verdict Name) (e : Refusal) → judge_map (λ n. true) v ≡ Ok true → v ≡ Err e → ⊥
+pub not_refused : (v : Verdict Name) (e : Cause) → judge_map (λ n. true) v ≡ Ok true → v ≡ Err e → ⊥
 not_refused (Ok n) e h i = cc
 not_refused (Err d) e h i = cc

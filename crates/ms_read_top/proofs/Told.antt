@@ -1,40 +1,30 @@
 -- What a text comes to, from what a reader of its tokens gave.
-use Rattle.std.proofs.Common.{◌≡◌, ◌≢◌, ◌≤◌, ◌^◌, ℕ, ◌+◌, ◌-◌, Bool, true, false, cond, ltb, List, [], length, drop, Option, Some, None, Ok, Err, refl, sym, subst, ap, inl, inr, arith, lit≤}
-use Rattle.std.proofs.lemmas.Bool.{ltb-false}
+use Rattle.std.proofs.Common.{◌≡◌, ◌≢◌, ◌≤◌, ◌^◌, ℕ, ◌+◌, ◌-◌, ltb, List, [], length, drop, Some, Ok, Err, refl, sym, subst, ap, inl, inr, arith, lit≤}
 use Rattle.std.proofs.lemmas.List.{length-map}
 use Rattle.ms_lex.specs.declared.errors.LexError.{LexError}
-use Rattle.ms_lex.specs.declared.errors.LexError.TheVariants.{TooManyTokens}
 use Rattle.ms_lex.specs.declared.errors.LexError.TheVariants as lex
 use Rattle.ms_lex.specs.declared.kinds.Token.{Token}
-use Rattle.ms_lex.specs.Tokens.{Text, cut_of, unless_stopped, tokens_of}
+use Rattle.ms_lex.specs.Tokens.{Text, cut_of, tokens_of}
 use Rattle.ms_lex.specs.Grammar.{Outcome, done, fails}
 use Rattle.ms_lex.proofs.Exact.{complete, stop_sound, stop_complete}
 use Rattle.ms_ir.specs.declared.syntax.Module.{Module}
 use Rattle.ms_ir.specs.declared.forms.Form.{Form}
 use Rattle.ms_ir.specs.declared.forms.Form.TheVariants.{Plain, Instrumented}
-use Rattle.ms_grammar.specs.declared.refusals.Refusal.{Refusal}
-use Rattle.ms_grammar.specs.declared.refusals.Refusal.TheVariants as r
-use Rattle.ms_grammar.specs.Causes.{printed_number}
-use Rattle.ms_grammar.specs.Lexemes.{Lexeme, end_of_text, lexeme_of, lexemes_of}
-use Rattle.ms_grammar.specs.Modules.{module_rule}
-use Rattle.ms_grammar.specs.Texts.{HasTokens, Reads, Stops, StopsAt, max_bytes, max_tokens, place_in}
-use Rattle.ms_grammar.proofs.Ends.{reads_or_stops}
-use Rattle.ms_grammar.proofs.Readings.{same_tokens}
-use Rattle.ms_grammar.proofs.Rests.{stop_shorter}
+use Rattle.ms_text_grammar.specs.declared.refusals.Cause.{Cause}
+use Rattle.ms_text_grammar.specs.declared.refusals.Cause.TheVariants as r
+use Rattle.ms_text_grammar.specs.Causes.{printed_number}
+use Rattle.ms_text_grammar.specs.Lexemes.{Lexeme, end_of_text, lexeme_of, lexemes_of}
+use Rattle.ms_text_grammar.specs.Modules.{module_rule}
+use Rattle.ms_text_grammar.specs.Texts.{HasTokens, Reads, Stops, StopsAt, max_bytes, max_tokens, place_in}
+use Rattle.ms_text_grammar.proofs.Ends.{reads_or_stops}
+use Rattle.ms_text_grammar.proofs.Readings.{same_tokens}
+use Rattle.ms_text_grammar.proofs.Rests.{stop_shorter}
 use Rattle.ms_read_cursor.specs.Reading.{run}
 use Rattle.ms_read_body.specs.Calls.{what_of, error_at}
+use Rattle.ms_read_body.proofs.Answering.{not_more}
 use Rattle.ms_read_top.specs.Reading.{IsTextRefused, IsReading, of_lexer}
 
 -- ---- numbers that fit
-
-not_more : (limit : ℕ) (text : Text) (ts : List Token) (stop : Option ℕ) (found : List Token) (b : Bool) → ltb limit (length ts) ≡ b
-    → cond b (Err TooManyTokens) (unless_stopped text ts stop) ≡ Ok found → length found ≤ limit
-not_more limit text ts stop found true e h = absurd cc
-not_more limit text ts None found false e h =
-    let same : ts ≡ found = cc in
-    let most = ltb-false limit (length ts) e in
-    omega (arith, ap length same)
-not_more limit text ts (Some place) found false e h = absurd cc
 
 most_tokens : (form : Form) → max_tokens form ≤ 2 ^ 25
 unfolding max_tokens
@@ -49,12 +39,6 @@ most_bytes Instrumented = lit≤ tt
 pub short_text : (form : Form) (n : ℕ) → n ≤ max_bytes form → n ≤ 2 ^ 27
 short_text form n h = let most = most_bytes form in omega arith
 
--- a text that the plain form takes is short enough for each form
-pub either_form : (form : Form) (n : ℕ) → n ≤ 2 ^ 22 → n ≤ max_bytes form
-unfolding max_bytes
-either_form Plain n h = h
-either_form Instrumented n h = omega arith
-
 pub few_tokens : (form : Form) (text : Text) (tokens : List Token) → HasTokens form text tokens → length tokens ≤ 2 ^ 25
 unfolding tokens_of
 few_tokens form text tokens has =
@@ -66,7 +50,7 @@ few_tokens form text tokens has =
 
 module _ (form : Form) (text : Text) (tokens : List Token) (has : HasTokens form text tokens) where
   abbrev Given : Type 0
-  Given = Outcome Lexeme Refusal Module
+  Given = Outcome Lexeme Cause Module
 
   outcome : Given
   outcome = run (module_rule form) (lexemes_of text tokens)
@@ -74,7 +58,7 @@ module _ (form : Form) (text : Text) (tokens : List Token) (has : HasTokens form
   same_module : (m n : Module) (x y : List Lexeme) (o : Given) → o ≡ done m x → o ≡ done n y → n ≡ m
   same_module m n x y o p q = cc
 
-  apart : (m : Module) (c : Refusal) (x y : List Lexeme) (o : Given) → o ≡ done m x → o ≡ fails c y → ⊥
+  apart : (m : Module) (c : Cause) (x y : List Lexeme) (o : Given) → o ≡ done m x → o ≡ fails c y → ⊥
   apart m c x y o p q = cc
 
   abbrev Runs : List Token → Given → Type 0
@@ -95,14 +79,14 @@ module _ (form : Form) (text : Text) (tokens : List Token) (has : HasTokens form
         absurd (apart m s.1 rest s.2.2.0 _ h here)
   ]
 
-  told_stop : (c : Refusal) (rest : List Lexeme) → run (module_rule form) (lexemes_of text tokens) ≡ fails c rest → Stops form text (length tokens - length rest) c
+  told_stop : (c : Cause) (rest : List Lexeme) → run (module_rule form) (lexemes_of text tokens) ≡ fails c rest → Stops form text (length tokens - length rest) c
   told_stop c rest h =
       let stops : StopsAt (module_rule form) (lexemes_of text tokens) c rest = stop_sound end_of_text (module_rule form) (lexemes_of text tokens) c rest h in
       let less = stop_shorter end_of_text (module_rule form) (lexemes_of text tokens) c rest stops in
       let whole : (length tokens - length rest) + length rest ≡ length tokens = omega (arith, length-map tokens (lexeme_of text)) in
       (tokens, has, (rest, whole, stops))
 
-  refused : (c : Refusal) (n k : ℕ) → printed_number c ≡ Some n → Stops form text k c → IsTextRefused form text n (what_of c) k (place_in text tokens k)
+  refused : (c : Cause) (n k : ℕ) → printed_number c ≡ Some n → Stops form text k c → IsTextRefused form text n (what_of c) k (place_in text tokens k)
   refused c n k e stops = record {
     cause = c;
     stops = stops;
@@ -111,7 +95,7 @@ module _ (form : Form) (text : Text) (tokens : List Token) (has : HasTokens form
     begins = λ us other. ap (λ ts. place_in text ts k) (sym (same_tokens form text tokens us has other));
   }
 
-  told_error : (c : Refusal) (rest : List Lexeme) → (c ≢ r.NoMemory → run (module_rule form) (lexemes_of text tokens) ≡ fails c rest)
+  told_error : (c : Cause) (rest : List Lexeme) → (c ≢ r.NoMemory → run (module_rule form) (lexemes_of text tokens) ≡ fails c rest)
       → IsReading form text (Err (error_at c (length tokens - length rest) (place_in text tokens (length tokens - length rest))))
   told_error r.Syntax rest h = refused r.Syntax 4 _ refl (told_stop r.Syntax rest (h (λ n. cc)))
   told_error (r.Outside construct) rest h = refused (r.Outside construct) 5 _ refl (told_stop (r.Outside construct) rest (h (λ n. cc)))
@@ -124,7 +108,7 @@ pub told_reads : (form : Form) (text : Text) (tokens : List Token) (m : Module) 
     → run (module_rule form) (drop 0 (lexemes_of text tokens)) ≡ done m rest → IsReading form text (Ok m)
 told_reads form text tokens m rest has h = told_module form text tokens has m rest h
 
-pub told_stops : (form : Form) (text : Text) (tokens : List Token) (c : Refusal) (rest : List Lexeme) → HasTokens form text tokens
+pub told_stops : (form : Form) (text : Text) (tokens : List Token) (c : Cause) (rest : List Lexeme) → HasTokens form text tokens
     → (c ≢ r.NoMemory → run (module_rule form) (drop 0 (lexemes_of text tokens)) ≡ fails c rest)
     → IsReading form text (Err (error_at c (length tokens - length rest) (place_in text tokens (length tokens - length rest))))
 told_stops form text tokens c rest has h = told_error form text tokens has c rest h

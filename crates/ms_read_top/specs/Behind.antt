@@ -4,12 +4,12 @@ use Rattle.ms_ir.specs.declared.syntax.Module.{Module}
 use Rattle.ms_ir.specs.declared.syntax.Name.{Name}
 use Rattle.ms_ir.specs.declared.syntax.Ty.{Ty}
 use Rattle.ms_ir.specs.declared.forms.Form.{Form}
-use Rattle.ms_grammar.specs.declared.states.Parts.{Parts}
-use Rattle.ms_grammar.specs.declared.symbols.Symbol.{Symbol}
-use Rattle.ms_grammar.specs.declared.symbols.Symbol.TheVariants as s
-use Rattle.ms_grammar.specs.Modules.{attribute_group, end_of, source_filename, target_entity}
-use Rattle.ms_grammar.specs.Steps.{Rule}
-use Rattle.ms_grammar.specs.Types.{struct_type}
+use Rattle.ms_text_grammar.specs.declared.states.Parts.{Parts}
+use Rattle.ms_text_grammar.specs.declared.symbols.Symbol.{Symbol}
+use Rattle.ms_text_grammar.specs.declared.symbols.Symbol.TheVariants as s
+use Rattle.ms_text_grammar.specs.Modules.{attribute_group, end_of, source_filename, target_entity}
+use Rattle.ms_text_grammar.specs.Steps.{Rule}
+use Rattle.ms_text_grammar.specs.Types.{struct_type}
 
 -- a named type behind `type`
 abbrev pub named_struct : Form → Name → Rule (Name × Ty)

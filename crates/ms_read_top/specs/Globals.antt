@@ -6,10 +6,10 @@ use Rattle.ms_ir.specs.declared.syntax.Init.{Init}
 use Rattle.ms_ir.specs.declared.syntax.Name.{Name}
 use Rattle.ms_ir.specs.declared.syntax.Ty.{Ty}
 use Rattle.ms_ir.specs.declared.forms.Form.{Form}
-use Rattle.ms_grammar.specs.Modules.{global_suffix}
-use Rattle.ms_grammar.specs.Steps.{Rule, comma_begins}
-use Rattle.ms_grammar.specs.Types.{type_to, max_depth}
-use Rattle.ms_grammar.specs.Values.{init_to}
+use Rattle.ms_text_grammar.specs.Modules.{global_suffix}
+use Rattle.ms_text_grammar.specs.Steps.{Rule, comma_begins}
+use Rattle.ms_text_grammar.specs.Types.{type_to, max_depth}
+use Rattle.ms_text_grammar.specs.Values.{init_to}
 
 -- a global behind its initial value
 abbrev pub suffixed_global : Form → Name → Bool → Ty → Init → Rule GlobalVar

@@ -6,9 +6,9 @@ use Rattle.ms_lex.specs.declared.kinds.Token.{Token}
 use Rattle.ms_lex.specs.Tokens.{Text, tokens_of}
 use Rattle.ms_ir.specs.declared.syntax.Module.{Module}
 use Rattle.ms_ir.specs.declared.forms.Form.{Form}
-use Rattle.ms_grammar.specs.declared.refusals.Refusal.{Refusal}
-use Rattle.ms_grammar.specs.Causes.{printed_number}
-use Rattle.ms_grammar.specs.Texts.{HasTokens, Reads, Stops, max_tokens, place_in}
+use Rattle.ms_text_grammar.specs.declared.refusals.Cause.{Cause}
+use Rattle.ms_text_grammar.specs.Causes.{printed_number}
+use Rattle.ms_text_grammar.specs.Texts.{HasTokens, Reads, Stops, max_tokens, place_in}
 use Rattle.ms_read_body.specs.Calls.{what_of}
 use Rattle.ms_read_body.specs.declared.errors.What.{What}
 use Rattle.ms_read_body.specs.declared.errors.ReadError.{ReadError}
@@ -16,7 +16,7 @@ use Rattle.ms_read_body.specs.declared.errors.ReadError.TheVariants as e
 
 -- the text stops at this token, which begins at this byte, for a cause of this number that names this
 pub record IsTextRefused (form : Form) (text : Text) (number : ℕ) (what : What) (token place : ℕ) : Type 0 where
-  pub cause : Refusal
+  pub cause : Cause
   pub stops : Stops form text token cause
   pub numbered : printed_number cause ≡ Some number
   pub named : what ≡ what_of cause

@@ -1,21 +1,21 @@
 //! What a reader of a whole text answers.
 
 ghost use Rattle.std.specs.Prelude.{◌≡◌, ◌≤◌, ◌<◌, ◌-◌, ◌^◌, length};
-ghost use Rattle.ms_grammar.specs.Texts.{HasTokens, max_bytes, max_tokens as most_tokens, place_in};
+ghost use Rattle.ms_text_grammar.specs.Texts.{HasTokens, max_bytes, max_tokens as most_tokens, place_in};
 ghost use Rattle.ms_lex.specs.Tokens.{InOrder};
 ghost use Rattle.ms_read_body.specs.Calls as spec;
 ghost use Rattle.ms_read_top.specs.Reading.{IsReading, of_lexer};
 
 use crate::modules::whole_module;
-use ms_grammar::Refusal;
 use ms_ir::{Form, Module};
 use ms_lex::{LexError, Token, tokens};
 use ms_read_body::{ReadError, error_at, place_of};
 use ms_read_cursor::Tokens;
+use ms_text_grammar::Cause;
 use std::alloc::Global;
 
 /// How many tokens a text may have.
-#[tactic(auto, unfolding(ms_grammar::specs::Texts::max_tokens))]
+#[tactic(auto, unfolding(ms_text_grammar::specs::Texts::max_tokens))]
 fn max_tokens(form: Form) -> u32
     ensures { result ≡ most_tokens form }
 {
@@ -26,7 +26,7 @@ fn max_tokens(form: Form) -> u32
 }
 
 /// The error for a cause at the first of so many tokens that are left of a text.
-fn error_for(text: &[u8], tokens: &[Token], cause: Refusal, left: usize) -> ReadError
+fn error_for(text: &[u8], tokens: &[Token], cause: Cause, left: usize) -> ReadError
     requires short { length text.now < 2 ^ 32 }
     requires few { length tokens.now < 2 ^ 32 }
     ensures { result ≡ spec.error_at cause (length tokens.now - left) (place_in text.now tokens.now (length tokens.now - left)) }

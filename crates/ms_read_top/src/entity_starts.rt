@@ -1,11 +1,11 @@
 //! Which token begins an entity, and what refuses it there.
 
-ghost use Rattle.ms_grammar.specs.Modules as spec;
+ghost use Rattle.ms_text_grammar.specs.Modules as spec;
 ghost use Rattle.ms_read_cursor.specs.Reading.{Judges};
 
-use ms_grammar::{Limit, Parts, Refusal, Symbol};
 use ms_ir::{Form, Module};
 use ms_read_cursor::{Lexeme, local_by, name_fits, reserved_global};
+use ms_text_grammar::{Cause, Limit, Parts, Symbol};
 use std::alloc::Global;
 
 /// Functions and declarations of a module together.
@@ -15,7 +15,7 @@ const MAX_FUNCTIONS: usize = 16384;
 const MAX_GLOBALS: usize = 16384;
 
 /// Whether there is room for one more function or declaration behind this module.
-fn room_for_function(before: &Module) -> Result<bool, Refusal>
+fn room_for_function(before: &Module) -> Result<bool, Cause>
     ensures { Judges (spec.room_for_function before.now) result }
 {
     let functions = before.funcs.as_slice().len();
@@ -23,7 +23,7 @@ fn room_for_function(before: &Module) -> Result<bool, Refusal>
     if functions < MAX_FUNCTIONS && declarations < MAX_FUNCTIONS - functions {
         Ok(true)
     } else {
-        Err(Refusal::Limit(Limit::Functions))
+        Err(Cause::Limit(Limit::Functions))
     }
 }
 
@@ -33,19 +33,19 @@ fn global_begins(
     form: Form,
     before: &Module,
     token: &Lexeme<'_>,
-) -> Result<bool, Refusal>
+) -> Result<bool, Cause>
     ensures { Judges (spec.global_begins form before.now token.now) result }
 {
     let name = token.small_name(alloc)?;
     let text = name.as_slice();
     if reserved_global(form, text) {
-        Err(Refusal::Reserved)
+        Err(Cause::Reserved)
     } else if before.globals.as_slice().len() >= MAX_GLOBALS {
-        Err(Refusal::Limit(Limit::Globals))
+        Err(Cause::Limit(Limit::Globals))
     } else if name_fits(text) {
         Ok(true)
     } else {
-        Err(Refusal::Limit(Limit::Name))
+        Err(Cause::Limit(Limit::Name))
     }
 }
 
@@ -57,13 +57,13 @@ fn global_begins(
 /// - `Numbering` at a type's number above 2^32 - 1.
 /// - `Limit(Functions)` at `define` or `declare`, and `Limit(Globals)` at a global's name, where there is no room.
 /// - `Limit(Name)` at a name of more than 1024 bytes.
-#[tactic(auto, unfolding(ms_grammar::specs::Modules::entity_begins))]
+#[tactic(auto, unfolding(ms_text_grammar::specs::Modules::entity_begins))]
 pub fn entity_begins(
     alloc: Global,
     form: Form,
     parts: &Parts,
     token: &Lexeme<'_>,
-) -> Result<bool, Refusal>
+) -> Result<bool, Cause>
     ensures { Judges (spec.entity_begins form parts.now token.now) result }
 {
     match token.symbol() {

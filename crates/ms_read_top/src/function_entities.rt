@@ -2,17 +2,17 @@
 
 ghost use Rattle.std.specs.Prelude.{◌≡◌, ◌≤◌, ◌+◌, ◌^◌, IfOk};
 ghost use Rattle.ms_lex.specs.Grammar.{give, seq};
-ghost use Rattle.ms_grammar.specs.Bodies.{max_instructions};
-ghost use Rattle.ms_grammar.specs.Functions.{declaration as declaration_piece, function as function_piece};
-ghost use Rattle.ms_grammar.specs.Modules as spec;
+ghost use Rattle.ms_text_grammar.specs.Bodies.{max_instructions};
+ghost use Rattle.ms_text_grammar.specs.Functions.{declaration as declaration_piece, function as function_piece};
+ghost use Rattle.ms_text_grammar.specs.Modules as spec;
 ghost use Rattle.ms_read_cursor.specs.Reading.{Leaves, run};
 
-use crate::more_parts::add_declaration;
+use crate::additions::add_declaration;
 use ms_bits::NoMemory;
-use ms_grammar::{Parts, Refusal};
 use ms_ir::{Block, Form, Func};
 use ms_read_body::{declaration, function};
 use ms_read_cursor::{Tokens, push};
+use ms_text_grammar::{Cause, Parts};
 use std::alloc::Global;
 
 /// How many instructions these blocks have.
@@ -45,7 +45,7 @@ pub fn function_entity(
     tokens: &mut Tokens<'_>,
     form: Form,
     parts: &mut Parts,
-) -> Result<(), Refusal>
+) -> Result<(), Cause>
     requires { parts.old.count ≤ max_instructions form }
     ensures exact { Leaves (run (seq (function_piece form parts.old.count) (λ f. give (spec.with_function parts.old f))) tokens.old) result parts.new tokens.new }
     ensures few { IfOk result (λ _. parts.new.count ≤ max_instructions form) }
@@ -60,7 +60,7 @@ pub fn declaration_entity(
     tokens: &mut Tokens<'_>,
     form: Form,
     parts: &mut Parts,
-) -> Result<(), Refusal>
+) -> Result<(), Cause>
     ensures exact { Leaves (run (seq (declaration_piece form) (λ d. give (spec.with_declaration parts.old d))) tokens.old) result parts.new tokens.new }
     ensures count { IfOk result (λ _. parts.new.count ≡ parts.old.count) }
 {

@@ -2,19 +2,19 @@
 
 ghost use Rattle.std.specs.Prelude.{◌≡◌, IfOk, true};
 ghost use Rattle.ms_lex.specs.Grammar.{give, loop};
-ghost use Rattle.ms_grammar.specs.Lexemes.{name_in};
-ghost use Rattle.ms_grammar.specs.Modules as spec;
-ghost use Rattle.ms_grammar.specs.Steps.{comma_begins};
-ghost use Rattle.ms_grammar.specs.Types.{max_depth};
-ghost use Rattle.ms_grammar.specs.Values.{init_to as init_piece};
+ghost use Rattle.ms_text_grammar.specs.Lexemes.{name_in};
+ghost use Rattle.ms_text_grammar.specs.Modules as spec;
+ghost use Rattle.ms_text_grammar.specs.Steps.{comma_begins};
+ghost use Rattle.ms_text_grammar.specs.Types.{max_depth};
+ghost use Rattle.ms_text_grammar.specs.Values.{init_to as init_piece};
 ghost use Rattle.ms_read_cursor.specs.Reading.{Gives, Judges, front, run};
 ghost use Rattle.ms_read_top.specs.Globals as globals;
 
 use ms_bits::{Boxed, NoMemory};
-use ms_grammar::{Outside, Refusal, Symbol};
 use ms_ir::{Form, GlobalVar, Init, Name, Ty};
 use ms_read_cursor::{Lexeme, Tokens, Turn, repeat};
 use ms_read_values::{boxed_type, init_to, is_attribute_word, kind_of, meta};
+use ms_text_grammar::{Cause, Outside, Symbol};
 use std::alloc::Global;
 
 /// How many arrays and structs may be open at once.
@@ -28,13 +28,13 @@ impl Turn for EachLinkageWord {
     type State = ();
 
     ghost use Rattle.ms_lex.specs.Grammar.{give};
-    ghost use Rattle.ms_grammar.specs.Modules.{linkage_word_begins};
+    ghost use Rattle.ms_text_grammar.specs.Modules.{linkage_word_begins};
 
     ghost begins = { λ rule. linkage_word_begins };
 
     ghost body = { λ rule u t. give tt };
 
-    fn goes_on(&self, _alloc: Global, _state: &(), first: &Lexeme<'_>) -> Result<bool, Refusal> {
+    fn goes_on(&self, _alloc: Global, _state: &(), first: &Lexeme<'_>) -> Result<bool, Cause> {
         Ok(is_attribute_word(first.symbol()))
     }
 
@@ -44,19 +44,19 @@ impl Turn for EachLinkageWord {
         _state: (),
         _first: &Lexeme<'_>,
         _tokens: &mut Tokens<'_>,
-    ) -> Result<(), Refusal> {
+    ) -> Result<(), Cause> {
         Ok(())
     }
 }
 
 /// Whether a global is constant, by its token.
-fn global_kind_of(token: &Lexeme<'_>) -> Result<bool, Refusal>
+fn global_kind_of(token: &Lexeme<'_>) -> Result<bool, Cause>
     ensures { Judges (spec.global_kind_of token.now) result }
 {
     match token.symbol() {
         Symbol::GlobalWord => Ok(false),
         Symbol::ConstantWord => Ok(true),
-        Symbol::ExternalWord => Err(Refusal::Outside(Outside::ExternalGlobal)),
+        Symbol::ExternalWord => Err(Cause::Outside(Outside::ExternalGlobal)),
         _ => Err(token.refusal()),
     }
 }
@@ -66,8 +66,8 @@ fn global_kind_of(token: &Lexeme<'_>) -> Result<bool, Refusal>
 /// # Errors
 ///
 /// `Syntax` or `Outside` at a token that is another, and those of `kind_of` at the kind of metadata.
-#[tactic(auto, unfolding(ms_grammar::specs::Modules::global_suffix))]
-pub fn global_suffix(tokens: &mut Tokens<'_>, form: Form) -> Result<(), Refusal>
+#[tactic(auto, unfolding(ms_text_grammar::specs::Modules::global_suffix))]
+pub fn global_suffix(tokens: &mut Tokens<'_>, form: Form) -> Result<(), Cause>
     ensures { Gives (run (spec.global_suffix form) tokens.old) result tokens.new }
 {
     match tokens.peek() {
@@ -97,14 +97,14 @@ impl Turn for EachSuffix {
     type State = ();
 
     ghost use Rattle.std.specs.Prelude.{◌≡◌, IfOk, true};
-    ghost use Rattle.ms_grammar.specs.Modules.{global_suffix};
-    ghost use Rattle.ms_grammar.specs.Steps.{comma_begins};
+    ghost use Rattle.ms_text_grammar.specs.Modules.{global_suffix};
+    ghost use Rattle.ms_text_grammar.specs.Steps.{comma_begins};
 
     ghost begins = { λ rule. comma_begins (λ u. true) };
 
     ghost body = { λ rule u comma. global_suffix rule.form };
 
-    fn goes_on(&self, _alloc: Global, _state: &(), first: &Lexeme<'_>) -> Result<bool, Refusal> {
+    fn goes_on(&self, _alloc: Global, _state: &(), first: &Lexeme<'_>) -> Result<bool, Cause> {
         Ok(first.is(Symbol::Comma))
     }
 
@@ -114,7 +114,7 @@ impl Turn for EachSuffix {
         _state: (),
         _first: &Lexeme<'_>,
         tokens: &mut Tokens<'_>,
-    ) -> Result<(), Refusal> {
+    ) -> Result<(), Cause> {
         global_suffix(tokens, self.form)
     }
 }
@@ -125,7 +125,7 @@ fn boxed_init(
     tokens: &mut Tokens<'_>,
     form: Form,
     ty: &Ty,
-) -> Result<Boxed<Init>, Refusal>
+) -> Result<Boxed<Init>, Cause>
     ensures { Gives (run (init_piece form max_depth ty.now) tokens.old) result tokens.new }
 {
     let init = init_to(alloc, tokens, form, MAX_DEPTH, ty)?;
@@ -161,7 +161,7 @@ fn suffixed_global(
     constant: bool,
     ty: Boxed<Ty>,
     init: Boxed<Init>,
-) -> Result<Boxed<GlobalVar>, Refusal>
+) -> Result<Boxed<GlobalVar>, Cause>
     ensures { Gives (run (globals.suffixed_global form (Name.Text (name_in name.now)) constant ty init) tokens.old) result tokens.new }
 {
     repeat(alloc, tokens, &EachSuffix { form }, ())?;
@@ -175,7 +175,7 @@ fn typed_global(
     form: Form,
     name: &Lexeme<'_>,
     constant: bool,
-) -> Result<Boxed<GlobalVar>, Refusal>
+) -> Result<Boxed<GlobalVar>, Cause>
     ensures { Gives (run (globals.typed_global form (Name.Text (name_in name.now)) constant) tokens.old) result tokens.new }
 {
     let ty = boxed_type(alloc, tokens, form, MAX_DEPTH)?;
@@ -190,13 +190,13 @@ fn typed_global(
 ///
 /// `Outside(ExternalGlobal)` at `external` and `extern_weak`, `Syntax` or `Outside` at another token that can't stand, and
 /// those of `type_to`, `init_to` and `global_suffix`.
-#[tactic(auto, unfolding(ms_grammar::specs::Modules::global_variable))]
+#[tactic(auto, unfolding(ms_text_grammar::specs::Modules::global_variable))]
 pub fn global_variable(
     alloc: Global,
     tokens: &mut Tokens<'_>,
     form: Form,
     name: &Lexeme<'_>,
-) -> Result<Boxed<GlobalVar>, Refusal>
+) -> Result<Boxed<GlobalVar>, Cause>
     ensures { Gives (run (spec.global_variable form (Name.Text (name_in name.now))) tokens.old) result tokens.new }
 {
     tokens.word(Symbol::Equals)?;

@@ -1,19 +1,19 @@
 //! What a module says of its source and its target (LLVM Language Reference, "Source Filename", "Data Layout", "Target
 //! Triple"), which is read over.
 
-ghost use Rattle.ms_grammar.specs.Modules as spec;
+ghost use Rattle.ms_text_grammar.specs.Modules as spec;
 ghost use Rattle.ms_read_cursor.specs.Reading.{Gives, Judges, run};
 
-use ms_grammar::{Refusal, Symbol};
 use ms_read_cursor::{Lexeme, Tokens};
+use ms_text_grammar::{Cause, Symbol};
 
 /// Reads `=` and a string, behind `source_filename`.
 ///
 /// # Errors
 ///
 /// `Syntax` or `Outside` at a token that is another.
-#[tactic(auto, unfolding(ms_grammar::specs::Modules::source_filename))]
-pub fn source_filename(tokens: &mut Tokens<'_>) -> Result<(), Refusal>
+#[tactic(auto, unfolding(ms_text_grammar::specs::Modules::source_filename))]
+pub fn source_filename(tokens: &mut Tokens<'_>) -> Result<(), Cause>
     ensures { Gives (run spec.source_filename tokens.old) result tokens.new }
 {
     tokens.word(Symbol::Equals)?;
@@ -21,7 +21,7 @@ pub fn source_filename(tokens: &mut Tokens<'_>) -> Result<(), Refusal>
 }
 
 /// What of the target is said.
-fn target_word_of(token: &Lexeme<'_>) -> Result<(), Refusal>
+fn target_word_of(token: &Lexeme<'_>) -> Result<(), Cause>
     ensures { Judges (spec.target_word_of token.now) result }
 {
     if token.is(Symbol::DataLayout) || token.is(Symbol::Triple) {
@@ -36,8 +36,8 @@ fn target_word_of(token: &Lexeme<'_>) -> Result<(), Refusal>
 /// # Errors
 ///
 /// `Syntax` or `Outside` at a token that is another.
-#[tactic(auto, unfolding(ms_grammar::specs::Modules::target_entity))]
-pub fn target_entity(tokens: &mut Tokens<'_>) -> Result<(), Refusal>
+#[tactic(auto, unfolding(ms_text_grammar::specs::Modules::target_entity))]
+pub fn target_entity(tokens: &mut Tokens<'_>) -> Result<(), Cause>
     ensures { Gives (run spec.target_entity tokens.old) result tokens.new }
 {
     target_word_of(&tokens.lexeme())?;

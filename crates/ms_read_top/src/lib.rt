@@ -1,6 +1,7 @@
 //! The reader of whole texts, exact against the grammar of modules.
 #![tactic(auto)]
 
+mod additions;
 mod answers;
 mod entities;
 mod entity_starts;
@@ -9,7 +10,6 @@ mod global_variables;
 mod left_out;
 mod metadata_nodes;
 mod modules;
-mod more_parts;
 mod named_types;
 mod other_entities;
 mod reading;

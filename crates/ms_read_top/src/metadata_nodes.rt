@@ -2,18 +2,18 @@
 
 ghost use Rattle.std.specs.Prelude.{◌≡◌, cond};
 ghost use Rattle.ms_lex.specs.Grammar.{done, give, seq};
-ghost use Rattle.ms_grammar.specs.declared.symbols.Symbol.TheVariants.{Distinct};
-ghost use Rattle.ms_grammar.specs.Modules as spec;
-ghost use Rattle.ms_grammar.specs.Steps.{sees, skip};
+ghost use Rattle.ms_text_grammar.specs.declared.symbols.Symbol.TheVariants.{Distinct};
+ghost use Rattle.ms_text_grammar.specs.Modules as spec;
+ghost use Rattle.ms_text_grammar.specs.Steps.{sees, skip};
 ghost use Rattle.ms_read_cursor.specs.Reading.{Gives, Judges, run};
 
-use ms_grammar::{Refusal, Symbol};
 use ms_ir::Form;
 use ms_read_cursor::{Lexeme, Tokens};
 use ms_read_values::{balanced, meta};
+use ms_text_grammar::{Cause, Symbol};
 use std::alloc::Global;
 
-fn group_of(token: &Lexeme<'_>) -> Result<(), Refusal>
+fn group_of(token: &Lexeme<'_>) -> Result<(), Cause>
     ensures { Judges (spec.group_of token.now) result }
 {
     if token.is(Symbol::Group) || token.is(Symbol::DebugGroup) {
@@ -28,8 +28,8 @@ fn group_of(token: &Lexeme<'_>) -> Result<(), Refusal>
 /// # Errors
 ///
 /// `Syntax` or `Outside` at a token that is another, and those of `balanced` between the braces.
-#[tactic(auto, unfolding(ms_grammar::specs::Modules::attribute_group))]
-pub fn attribute_group(alloc: Global, tokens: &mut Tokens<'_>, form: Form) -> Result<(), Refusal>
+#[tactic(auto, unfolding(ms_text_grammar::specs::Modules::attribute_group))]
+pub fn attribute_group(alloc: Global, tokens: &mut Tokens<'_>, form: Form) -> Result<(), Cause>
     ensures { Gives (run (spec.attribute_group form) tokens.old) result tokens.new }
 {
     group_of(&tokens.lexeme())?;
@@ -40,12 +40,7 @@ pub fn attribute_group(alloc: Global, tokens: &mut Tokens<'_>, form: Form) -> Re
 }
 
 /// A node of metadata, which begins with this symbol.
-fn node_by(
-    alloc: Global,
-    tokens: &mut Tokens<'_>,
-    form: Form,
-    symbol: Symbol,
-) -> Result<(), Refusal>
+fn node_by(alloc: Global, tokens: &mut Tokens<'_>, form: Form, symbol: Symbol) -> Result<(), Cause>
     ensures { Gives (run (spec.node_by form symbol) tokens.old) result tokens.new }
 {
     match symbol {
@@ -76,8 +71,8 @@ fn past_distinct(tokens: &mut Tokens<'_>)
 /// # Errors
 ///
 /// `Syntax` or `Outside` at a token that is another, and those of `balanced` between brackets.
-#[tactic(auto, unfolding(ms_grammar::specs::Modules::metadata_entity))]
-pub fn metadata_entity(alloc: Global, tokens: &mut Tokens<'_>, form: Form) -> Result<(), Refusal>
+#[tactic(auto, unfolding(ms_text_grammar::specs::Modules::metadata_entity))]
+pub fn metadata_entity(alloc: Global, tokens: &mut Tokens<'_>, form: Form) -> Result<(), Cause>
     ensures { Gives (run (spec.metadata_entity form) tokens.old) result tokens.new }
 {
     tokens.word(Symbol::Equals)?;

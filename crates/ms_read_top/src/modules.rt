@@ -2,17 +2,17 @@
 
 ghost use Rattle.std.specs.Prelude.{◌≡◌, ◌≤◌};
 ghost use Rattle.ms_lex.specs.Grammar.{loop};
-ghost use Rattle.ms_grammar.specs.Bodies.{max_instructions};
-ghost use Rattle.ms_grammar.specs.Modules as spec;
+ghost use Rattle.ms_text_grammar.specs.Bodies.{max_instructions};
+ghost use Rattle.ms_text_grammar.specs.Modules as spec;
 ghost use Rattle.ms_read_cursor.specs.Reading.{Gives, Judges, Leaves, run};
 ghost use Rattle.ms_read_top.specs.Behind as behind;
 
 use crate::entities::entity;
 use crate::entity_starts::entity_begins;
 use ms_bits::List;
-use ms_grammar::{Parts, Refusal, Symbol};
 use ms_ir::{Form, Module};
 use ms_read_cursor::{Lexeme, Tokens};
+use ms_text_grammar::{Cause, Parts, Symbol};
 use std::alloc::Global;
 
 /// Before the first entity.
@@ -35,7 +35,7 @@ fn entities(
     tokens: &mut Tokens<'_>,
     form: Form,
     parts: &mut Parts,
-) -> Result<(), Refusal>
+) -> Result<(), Cause>
     requires { parts.old.count ≤ max_instructions form }
     ensures { Leaves (run (loop (spec.entity_begins form) (spec.entity form) parts.old) tokens.old) result parts.new tokens.new }
 {
@@ -51,7 +51,7 @@ fn entities(
 }
 
 /// The end of the text, and nothing else.
-fn end_of(token: &Lexeme<'_>) -> Result<(), Refusal>
+fn end_of(token: &Lexeme<'_>) -> Result<(), Cause>
     ensures { Judges (spec.end_of token.now) result }
 {
     if token.is(Symbol::EndOfText) {
@@ -62,7 +62,7 @@ fn end_of(token: &Lexeme<'_>) -> Result<(), Refusal>
 }
 
 /// Gives the module of these parts, where the text ends.
-fn ended(tokens: &Tokens<'_>, parts: Parts) -> Result<Module, Refusal>
+fn ended(tokens: &Tokens<'_>, parts: Parts) -> Result<Module, Cause>
     ensures { Gives (run (behind.ended parts) tokens.now) result tokens.now }
 {
     end_of(&tokens.lexeme())?;
@@ -75,8 +75,8 @@ fn ended(tokens: &Tokens<'_>, parts: Parts) -> Result<Module, Refusal>
 ///
 /// At the first token that can't stand, by the number of its cause and in this order where two apply to one token: `Syntax`
 /// or `Outside`, `Reserved`, `Numbering`, `Limit`. Want of memory may come at any place.
-#[tactic(auto, unfolding(ms_grammar::specs::Modules::module_rule))]
-pub fn whole_module(alloc: Global, tokens: &mut Tokens<'_>, form: Form) -> Result<Module, Refusal>
+#[tactic(auto, unfolding(ms_text_grammar::specs::Modules::module_rule))]
+pub fn whole_module(alloc: Global, tokens: &mut Tokens<'_>, form: Form) -> Result<Module, Cause>
     ensures { Gives (run (spec.module_rule form) tokens.old) result tokens.new }
 {
     let mut parts = no_parts(alloc);

@@ -1,14 +1,14 @@
 //! Named types (LLVM Language Reference, "Structure Type").
 
-ghost use Rattle.ms_grammar.specs.Modules as spec;
+ghost use Rattle.ms_text_grammar.specs.Modules as spec;
 ghost use Rattle.ms_read_cursor.specs.Reading.{Gives, run};
 ghost use Rattle.ms_read_top.specs.Behind as behind;
 
 use ms_bits::Boxed;
-use ms_grammar::{Refusal, Symbol};
 use ms_ir::{Form, Name, Ty};
 use ms_read_cursor::Tokens;
 use ms_read_values::struct_type;
+use ms_text_grammar::{Cause, Symbol};
 use std::alloc::Global;
 
 /// Reads the struct that a type of this name is, behind `type`.
@@ -17,7 +17,7 @@ fn named_struct(
     tokens: &mut Tokens<'_>,
     form: Form,
     name: Name,
-) -> Result<Boxed<(Name, Ty)>, Refusal>
+) -> Result<Boxed<(Name, Ty)>, Cause>
     ensures { Gives (run (behind.named_struct form name) tokens.old) result tokens.new }
 {
     let ty = struct_type(alloc, tokens, form)?;
@@ -29,13 +29,13 @@ fn named_struct(
 /// # Errors
 ///
 /// `Syntax` or `Outside` at a token that is another, and those of `struct_type`.
-#[tactic(auto, unfolding(ms_grammar::specs::Modules::named_type))]
+#[tactic(auto, unfolding(ms_text_grammar::specs::Modules::named_type))]
 pub fn named_type(
     alloc: Global,
     tokens: &mut Tokens<'_>,
     form: Form,
     name: Name,
-) -> Result<Boxed<(Name, Ty)>, Refusal>
+) -> Result<Boxed<(Name, Ty)>, Cause>
     ensures { Gives (run (spec.named_type form name) tokens.old) result tokens.new }
 {
     tokens.word(Symbol::Equals)?;

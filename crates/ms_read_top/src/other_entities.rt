@@ -2,27 +2,27 @@
 
 ghost use Rattle.std.specs.Prelude.{◌≡◌, ◌≢◌, IfOk, Ok, true};
 ghost use Rattle.ms_lex.specs.Grammar.{give, seq};
-ghost use Rattle.ms_grammar.specs.Lexemes.{name_in};
-ghost use Rattle.ms_grammar.specs.Modules as spec;
-ghost use Rattle.ms_grammar.specs.Names as names;
-ghost use Rattle.ms_grammar.specs.Steps.{judge_map};
+ghost use Rattle.ms_text_grammar.specs.Lexemes.{name_in};
+ghost use Rattle.ms_text_grammar.specs.Modules as spec;
+ghost use Rattle.ms_text_grammar.specs.Names as names;
+ghost use Rattle.ms_text_grammar.specs.Steps.{judge_map};
 ghost use Rattle.ms_read_cursor.specs.Reading.{Gives, Judges, Leaves, run};
 ghost use Rattle.ms_read_top.specs.Behind as behind;
 ghost use Rattle.ms_read_top.specs.TypeNames.{type_name as name_of_type};
 
+use crate::additions::{add_global, add_type};
 use crate::global_variables::global_variable;
 use crate::left_out::{source_filename, target_entity};
 use crate::metadata_nodes::{attribute_group, metadata_entity};
-use crate::more_parts::{add_global, add_type};
 use crate::named_types::named_type;
-use ms_grammar::{Parts, Refusal, Symbol};
 use ms_ir::{Form, Name};
 use ms_read_cursor::{Lexeme, Tokens, local_by};
+use ms_text_grammar::{Cause, Parts, Symbol};
 use std::alloc::Global;
 
 /// The name of a type that a token is, which may stand. The one error is want of memory.
 #[tactic(auto, using(crate::proofs::Named::named, crate::proofs::Named::not_refused))]
-fn type_name(alloc: Global, form: Form, token: &Lexeme<'_>) -> Result<Name, Refusal>
+fn type_name(alloc: Global, form: Form, token: &Lexeme<'_>) -> Result<Name, Cause>
     requires { judge_map (λ n. true) (names.local_by form token.now.symbol token.now) ≡ Ok true }
     ensures { Judges (Ok (name_of_type token.now.symbol token.now)) result }
 {
@@ -36,7 +36,7 @@ fn type_entity(
     form: Form,
     parts: &mut Parts,
     name: &Lexeme<'_>,
-) -> Result<(), Refusal>
+) -> Result<(), Cause>
     requires { judge_map (λ n. true) (names.local_by form name.now.symbol name.now) ≡ Ok true }
     ensures exact { Leaves (run (seq (spec.named_type form (name_of_type name.now.symbol name.now)) (λ x. give (spec.with_type parts.old x))) tokens.old) result parts.new tokens.new }
     ensures count { IfOk result (λ _. parts.new.count ≡ parts.old.count) }
@@ -53,7 +53,7 @@ fn global_entity(
     form: Form,
     parts: &mut Parts,
     name: &Lexeme<'_>,
-) -> Result<(), Refusal>
+) -> Result<(), Cause>
     ensures exact { Leaves (run (seq (spec.global_variable form (Name.Text (name_in name.now))) (λ g. give (spec.with_global parts.old g))) tokens.old) result parts.new tokens.new }
     ensures count { IfOk result (λ _. parts.new.count ≡ parts.old.count) }
 {
@@ -62,7 +62,7 @@ fn global_entity(
 }
 
 /// Reads what says nothing of a module's values, behind its word: its source, its target or a group of attributes.
-fn heading(alloc: Global, tokens: &mut Tokens<'_>, form: Form, word: Symbol) -> Result<(), Refusal>
+fn heading(alloc: Global, tokens: &mut Tokens<'_>, form: Form, word: Symbol) -> Result<(), Cause>
     ensures { Gives (run (behind.heading form word) tokens.old) result tokens.new }
 {
     match word {
@@ -79,14 +79,14 @@ fn heading(alloc: Global, tokens: &mut Tokens<'_>, form: Form, word: Symbol) -> 
 ///
 /// At the first token that can't stand: those of `source_filename`, `target_entity`, `attribute_group`, `named_type`,
 /// `global_variable` and `metadata_entity`.
-#[tactic(auto, unfolding(ms_grammar::specs::Modules::entity, ms_grammar::specs::Modules::entity_begins))]
+#[tactic(auto, unfolding(ms_text_grammar::specs::Modules::entity, ms_text_grammar::specs::Modules::entity_begins))]
 pub fn other_entity(
     alloc: Global,
     tokens: &mut Tokens<'_>,
     form: Form,
     parts: &mut Parts,
     first: &Lexeme<'_>,
-) -> Result<(), Refusal>
+) -> Result<(), Cause>
     requires begins { spec.entity_begins form parts.old first.now ≡ Ok true }
     requires no_declaration { first.now.symbol ≢ Symbol.Declare }
     requires no_function { first.now.symbol ≢ Symbol.Define }

@@ -4,7 +4,7 @@ ghost use Rattle.std.specs.Prelude.{◌≡◌, ◌≢◌, ◌≤◌, ℕ, length
 ghost use Rattle.ms_lex.specs.declared.errors.LexError.{LexError as Cause};
 ghost use Rattle.ms_lex.specs.Tokens.{tokens_of};
 ghost use Rattle.ms_ir.specs.declared.syntax.Module.{Module as Found};
-ghost use Rattle.ms_grammar.specs.Texts.{Reads, max_bytes, max_tokens};
+ghost use Rattle.ms_text_grammar.specs.Texts.{Reads, max_bytes, max_tokens};
 ghost use Rattle.ms_read_body.specs.declared.errors.What.{What};
 ghost use Rattle.ms_read_top.specs.Reading.{AnswersExactly, IsTextRefused};
 

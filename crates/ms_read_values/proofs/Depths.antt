@@ -3,15 +3,15 @@ use Rattle.std.proofs.Common.{◌≡◌, ℕ, zero, suc, ◌-◌, ◌<◌, Bool,
 use Rattle.ms_ir.specs.declared.syntax.Ty.{Ty}
 use Rattle.ms_ir.specs.declared.syntax.Init.{Init}
 use Rattle.ms_ir.specs.declared.forms.Form.{Form}
-use Rattle.ms_grammar.specs.declared.symbols.Symbol.{Symbol}
-use Rattle.ms_grammar.specs.declared.symbols.Symbol.TheVariants as s
+use Rattle.ms_text_grammar.specs.declared.symbols.Symbol.{Symbol}
+use Rattle.ms_text_grammar.specs.declared.symbols.Symbol.TheVariants as s
 use Rattle.ms_lex.specs.Grammar.{fails}
-use Rattle.ms_grammar.specs.declared.refusals.Refusal.TheVariants as r
-use Rattle.ms_grammar.specs.declared.refusals.Limit.TheVariants as limit
-use Rattle.ms_grammar.specs.Lexemes.{Lexeme}
-use Rattle.ms_grammar.specs.Steps.{Rule, refuse, stop}
-use Rattle.ms_grammar.specs.Types.{type_to, too_deep, nested, opens}
-use Rattle.ms_grammar.specs.Values.{init_to, nested_init, flat_init}
+use Rattle.ms_text_grammar.specs.declared.refusals.Cause.TheVariants as r
+use Rattle.ms_text_grammar.specs.declared.refusals.Limit.TheVariants as limit
+use Rattle.ms_text_grammar.specs.Lexemes.{Lexeme}
+use Rattle.ms_text_grammar.specs.Steps.{Rule, refuse, stop}
+use Rattle.ms_text_grammar.specs.Types.{type_to, too_deep, nested, opens}
+use Rattle.ms_text_grammar.specs.Values.{init_to, nested_init, flat_init}
 use Rattle.ms_read_cursor.specs.Reading.{front, run}
 use Rattle.ms_read_values.specs.Parts.{part_of}
 

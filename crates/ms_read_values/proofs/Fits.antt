@@ -2,8 +2,8 @@
 use Rattle.std.proofs.Common.{◌≡◌, ℕ, ◌-◌, ◌≤◌, ◌^◌, false, arith}
 use Rattle.std.proofs.Math.Pow.{pow_mono}
 use Rattle.std.specs.Prelude.{ℤ, pos, negsuc}
-use Rattle.ms_grammar.specs.Steps.{is_givable}
-use Rattle.ms_grammar.specs.Values.{fits}
+use Rattle.ms_text_grammar.specs.Steps.{is_givable}
+use Rattle.ms_text_grammar.specs.Values.{fits}
 use Rattle.ms_read_values.specs.Narrow.{IsWidth}
 
 pub wide_misfits : (width : ℕ) (n : ℤ) → IsWidth width → is_givable n ≡ false → fits width n ≡ false

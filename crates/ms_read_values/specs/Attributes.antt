@@ -1,11 +1,11 @@
 -- What may stand among attributes.
 use Rattle.std.specs.Prelude.{Bool}
 use Rattle.ms_ir.specs.declared.forms.Form.{Form}
-use Rattle.ms_grammar.specs.declared.symbols.Symbol.{Symbol}
-use Rattle.ms_grammar.specs.Lexemes.{Lexeme}
-use Rattle.ms_grammar.specs.Steps.{Rule, Verdict}
-use Rattle.ms_grammar.specs.Skipped.{attribute_begins, attribute_rest}
-use Rattle.ms_grammar.specs.Functions.{linkage_begins, linkage_rest, tail_begins, tail_rest}
+use Rattle.ms_text_grammar.specs.declared.symbols.Symbol.{Symbol}
+use Rattle.ms_text_grammar.specs.Lexemes.{Lexeme}
+use Rattle.ms_text_grammar.specs.Steps.{Rule, Verdict}
+use Rattle.ms_text_grammar.specs.Skipped.{attribute_begins, attribute_rest}
+use Rattle.ms_text_grammar.specs.Functions.{linkage_begins, linkage_rest, tail_begins, tail_rest}
 use Rattle.ms_read_values.specs.declared.attribute_lists.Among.{Among}
 use Rattle.ms_read_values.specs.declared.attribute_lists.Among.TheVariants.{Nothing, Linkage, Metadata}
 

@@ -4,13 +4,13 @@ use Rattle.ms_lex.specs.Grammar.{give, ◌>>=◌, ◌>>◌}
 use Rattle.ms_ir.specs.declared.syntax.Ty.{Ty}
 use Rattle.ms_ir.specs.declared.syntax.Ty.TheVariants as ty
 use Rattle.ms_ir.specs.declared.forms.Form.{Form}
-use Rattle.ms_grammar.specs.declared.symbols.Symbol.TheVariants as s
-use Rattle.ms_grammar.specs.declared.refusals.Refusal.TheVariants as r
-use Rattle.ms_grammar.specs.declared.refusals.Limit.TheVariants as limit
-use Rattle.ms_grammar.specs.Steps.{Rule, word, skip, stop}
-use Rattle.ms_grammar.specs.Names.{global}
-use Rattle.ms_grammar.specs.Values.{Address, number, constant_indices, step_from, base_to}
-use Rattle.ms_grammar.specs.Skipped.{balanced, in_parens, meta}
+use Rattle.ms_text_grammar.specs.declared.symbols.Symbol.TheVariants as s
+use Rattle.ms_text_grammar.specs.declared.refusals.Cause.TheVariants as r
+use Rattle.ms_text_grammar.specs.declared.refusals.Limit.TheVariants as limit
+use Rattle.ms_text_grammar.specs.Steps.{Rule, word, skip, stop}
+use Rattle.ms_text_grammar.specs.Names.{global}
+use Rattle.ms_text_grammar.specs.Values.{Address, number, constant_indices, gep_from, base_to}
+use Rattle.ms_text_grammar.specs.Skipped.{balanced, in_parens, meta}
 
 -- type ']'
 abbrev pub array_item : Rule Ty → ℕ → Rule Ty
@@ -45,7 +45,7 @@ step_end t from = do
 -- 'getelementptr' and what stands behind it, where so many may stand
 abbrev pub inner_step : Form → ℕ → ℕ → Rule Address
 inner_step form depth zero = stop (r.Limit limit.Indices)
-inner_step form depth (suc within) = skip >> step_from form depth (base_to form depth within)
+inner_step form depth (suc within) = skip >> gep_from form depth (base_to form depth within)
 
 -- a global
 abbrev pub global_base : Form → Rule Address

@@ -1,15 +1,15 @@
 //! Attributes (LLVM Language Reference, "Parameter Attributes" and "Function Attributes").
 
-ghost use Rattle.ms_grammar.specs.Functions as functions;
-ghost use Rattle.ms_grammar.specs.Skipped as spec;
+ghost use Rattle.ms_text_grammar.specs.Functions as functions;
+ghost use Rattle.ms_text_grammar.specs.Skipped as spec;
 ghost use Rattle.ms_read_cursor.specs.Reading.{Gives, run};
 
 use crate::attribute_words::is_attribute;
 use crate::brackets::in_parens;
 use crate::metadata::{attached_by, meta};
-use ms_grammar::{Refusal, Symbol};
 use ms_ir::Form;
 use ms_read_cursor::{Lexeme, Tokens, Turn, repeat};
+use ms_text_grammar::{Cause, Symbol};
 use std::alloc::Global;
 
 /// Reads `=` and a string, where `=` comes next.
@@ -17,8 +17,8 @@ use std::alloc::Global;
 /// # Errors
 ///
 /// `Syntax` or `Outside` where no string is behind `=`.
-#[tactic(auto, unfolding(ms_grammar::specs::Skipped::string_value))]
-pub fn string_value(tokens: &mut Tokens<'_>) -> Result<(), Refusal>
+#[tactic(auto, unfolding(ms_text_grammar::specs::Skipped::string_value))]
+pub fn string_value(tokens: &mut Tokens<'_>) -> Result<(), Cause>
     ensures { Gives (run spec.string_value tokens.old) result tokens.new }
 {
     if tokens.sees(Symbol::Equals) {
@@ -38,7 +38,7 @@ pub fn attribute_rest(
     tokens: &mut Tokens<'_>,
     form: Form,
     symbol: Symbol,
-) -> Result<(), Refusal>
+) -> Result<(), Cause>
     ensures { Gives (run (spec.attribute_rest form symbol) tokens.old) result tokens.new }
 {
     match symbol {
@@ -55,7 +55,7 @@ fn linkage_rest(
     tokens: &mut Tokens<'_>,
     form: Form,
     symbol: Symbol,
-) -> Result<(), Refusal>
+) -> Result<(), Cause>
     ensures { Gives (run (functions.linkage_rest form symbol) tokens.old) result tokens.new }
 {
     match symbol {
@@ -70,7 +70,7 @@ fn tail_rest(
     tokens: &mut Tokens<'_>,
     form: Form,
     symbol: Symbol,
-) -> Result<(), Refusal>
+) -> Result<(), Cause>
     ensures { Gives (run (functions.tail_rest form symbol) tokens.old) result tokens.new }
 {
     match symbol {
@@ -105,7 +105,7 @@ impl Turn for OneAttribute {
 
     ghost body = { λ rule u t. rest_among rule.form rule.among t.symbol };
 
-    fn goes_on(&self, _alloc: Global, _state: &(), first: &Lexeme<'_>) -> Result<bool, Refusal> {
+    fn goes_on(&self, _alloc: Global, _state: &(), first: &Lexeme<'_>) -> Result<bool, Cause> {
         let symbol = first.symbol();
         match self.among {
             Among::Nothing => Ok(is_attribute(symbol)),
@@ -126,7 +126,7 @@ impl Turn for OneAttribute {
         _state: (),
         first: &Lexeme<'_>,
         tokens: &mut Tokens<'_>,
-    ) -> Result<(), Refusal> {
+    ) -> Result<(), Cause> {
         match self.among {
             Among::Nothing => attribute_rest(alloc, tokens, self.form, first.symbol()),
             Among::Linkage => linkage_rest(alloc, tokens, self.form, first.symbol()),
@@ -136,8 +136,8 @@ impl Turn for OneAttribute {
 }
 
 /// Reads as many attributes as come. Its errors are those of `attribute_rest`.
-#[tactic(auto, unfolding(ms_grammar::specs::Skipped::attributes))]
-pub fn attributes(alloc: Global, tokens: &mut Tokens<'_>, form: Form) -> Result<(), Refusal>
+#[tactic(auto, unfolding(ms_text_grammar::specs::Skipped::attributes))]
+pub fn attributes(alloc: Global, tokens: &mut Tokens<'_>, form: Form) -> Result<(), Cause>
     ensures { Gives (run (spec.attributes form) tokens.old) result tokens.new }
 {
     let among = Among::Nothing;
@@ -146,8 +146,8 @@ pub fn attributes(alloc: Global, tokens: &mut Tokens<'_>, form: Form) -> Result<
 
 /// Reads as many attributes and words of linkage as come, in front of the type of a function's result. Its errors are those
 /// of `attribute_rest`.
-#[tactic(auto, unfolding(ms_grammar::specs::Functions::linkage))]
-pub fn linkage(alloc: Global, tokens: &mut Tokens<'_>, form: Form) -> Result<(), Refusal>
+#[tactic(auto, unfolding(ms_text_grammar::specs::Functions::linkage))]
+pub fn linkage(alloc: Global, tokens: &mut Tokens<'_>, form: Form) -> Result<(), Cause>
     ensures { Gives (run (functions.linkage form) tokens.old) result tokens.new }
 {
     let among = Among::Linkage;
@@ -159,8 +159,8 @@ pub fn linkage(alloc: Global, tokens: &mut Tokens<'_>, form: Form) -> Result<(),
 /// # Errors
 ///
 /// `Reserved` at the mark where the form doesn't have it, and those of `attribute_rest` and `meta`.
-#[tactic(auto, unfolding(ms_grammar::specs::Functions::function_tail))]
-pub fn function_tail(alloc: Global, tokens: &mut Tokens<'_>, form: Form) -> Result<(), Refusal>
+#[tactic(auto, unfolding(ms_text_grammar::specs::Functions::function_tail))]
+pub fn function_tail(alloc: Global, tokens: &mut Tokens<'_>, form: Form) -> Result<(), Cause>
     ensures { Gives (run (functions.function_tail form) tokens.old) result tokens.new }
 {
     let among = Among::Metadata;

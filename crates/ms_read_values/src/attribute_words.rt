@@ -1,9 +1,9 @@
 //! What begins an attribute (LLVM Language Reference, "Parameter Attributes" and "Function Attributes").
 
 ghost use Rattle.std.specs.Prelude.{◌≡◌};
-ghost use Rattle.ms_grammar.specs.Skipped as spec;
+ghost use Rattle.ms_text_grammar.specs.Skipped as spec;
 
-use ms_grammar::Symbol;
+use ms_text_grammar::Symbol;
 
 /// Whether a symbol is a word that is an attribute wherever one may stand: one without a meaning of its own, `section`, a
 /// predicate, a word of `getelementptr`, or a flag other than `samesign`.

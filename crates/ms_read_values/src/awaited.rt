@@ -1,10 +1,10 @@
 //! The closing brackets that are awaited.
 
 ghost use Rattle.std.specs.Prelude.{◌≡◌, ◌↔◌, IsTrue, OnOk, []};
-ghost use Rattle.ms_grammar.specs.Skipped as spec;
+ghost use Rattle.ms_text_grammar.specs.Skipped as spec;
 
-use ms_grammar::Symbol;
 use ms_read_cursor::same_symbol;
+use ms_text_grammar::Symbol;
 use std::alloc::{AllocError, Global};
 use std::marker::Model;
 
@@ -27,7 +27,7 @@ pub struct Awaited {
 
 impl Model for Awaited {
     ghost use Rattle.std.specs.Prelude.{List, reverse};
-    ghost use Rattle.ms_grammar.specs.declared.symbols.Symbol.{Symbol as Awaiting};
+    ghost use Rattle.ms_text_grammar.specs.declared.symbols.Symbol.{Symbol as Awaiting};
 
     ghost Value = { List Awaiting };
 

@@ -1,16 +1,16 @@
 //! Tokens in which brackets match.
 
-ghost use Rattle.ms_grammar.specs.Skipped as spec;
+ghost use Rattle.ms_text_grammar.specs.Skipped as spec;
 ghost use Rattle.ms_read_cursor.specs.Reading.{Gives, Judges, run};
 
 use crate::awaited::{Awaited, is_closer};
-use ms_grammar::{Refusal, Symbol};
 use ms_ir::Form;
 use ms_read_cursor::{Lexeme, Tokens, Turn, global_name, local_name, repeat};
+use ms_text_grammar::{Cause, Symbol};
 use std::alloc::Global;
 
 /// A name is judged also where it is read over.
-fn may_skip(alloc: Global, form: Form, token: &Lexeme<'_>) -> Result<bool, Refusal>
+fn may_skip(alloc: Global, form: Form, token: &Lexeme<'_>) -> Result<bool, Cause>
     ensures { Judges (spec.may_skip form token.now.symbol token.now) result }
 {
     match token.symbol() {
@@ -35,13 +35,13 @@ struct Between {
 impl Turn for Between {
     type State = Awaited;
 
-    ghost use Rattle.ms_grammar.specs.Skipped.{balanced_begins, balanced_turn};
+    ghost use Rattle.ms_text_grammar.specs.Skipped.{balanced_begins, balanced_turn};
 
     ghost begins = { λ rule. balanced_begins rule.form };
 
     ghost body = { λ rule. balanced_turn };
 
-    fn goes_on(&self, alloc: Global, state: &Awaited, first: &Lexeme<'_>) -> Result<bool, Refusal> {
+    fn goes_on(&self, alloc: Global, state: &Awaited, first: &Lexeme<'_>) -> Result<bool, Cause> {
         let symbol = first.symbol();
         if is_closer(symbol) {
             Ok(state.awaits(symbol))
@@ -56,7 +56,7 @@ impl Turn for Between {
         state: Awaited,
         first: &Lexeme<'_>,
         _tokens: &mut Tokens<'_>,
-    ) -> Result<Awaited, Refusal> {
+    ) -> Result<Awaited, Cause> {
         let mut state = state;
         state.take(first.symbol())?;
         Ok(state)
@@ -69,13 +69,13 @@ impl Turn for Between {
 ///
 /// At the first token that can't stand: `Reserved` at a name that the form doesn't have, `Limit(Name)` at one that is too
 /// long, and `Syntax` at another closing bracket or at the end of the text.
-#[tactic(auto, unfolding(ms_grammar::specs::Skipped::balanced))]
+#[tactic(auto, unfolding(ms_text_grammar::specs::Skipped::balanced))]
 pub fn balanced(
     alloc: Global,
     tokens: &mut Tokens<'_>,
     form: Form,
     closing: Symbol,
-) -> Result<(), Refusal>
+) -> Result<(), Cause>
     ensures { Gives (run (spec.balanced form closing) tokens.old) result tokens.new }
 {
     let awaited = repeat(alloc, tokens, &Between { form }, Awaited::nothing(alloc))?;
@@ -86,8 +86,8 @@ pub fn balanced(
 }
 
 /// Reads `(` and tokens in which brackets match up to `)`, where `(` comes next. Its errors are those of `balanced`.
-#[tactic(auto, unfolding(ms_grammar::specs::Skipped::in_parens))]
-pub fn in_parens(alloc: Global, tokens: &mut Tokens<'_>, form: Form) -> Result<(), Refusal>
+#[tactic(auto, unfolding(ms_text_grammar::specs::Skipped::in_parens))]
+pub fn in_parens(alloc: Global, tokens: &mut Tokens<'_>, form: Form) -> Result<(), Cause>
     ensures { Gives (run (spec.in_parens form) tokens.old) result tokens.new }
 {
     if tokens.sees(Symbol::OpenParen) {

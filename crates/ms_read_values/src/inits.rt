@@ -1,9 +1,9 @@
 //! Initialisers (LLVM Language Reference, "Complex Constants").
 
 ghost use Rattle.std.specs.Prelude.{◌≡◌, false};
-ghost use Rattle.ms_grammar.specs.Lexemes.{is};
-ghost use Rattle.ms_grammar.specs.Steps.{items, refuse};
-ghost use Rattle.ms_grammar.specs.Values as spec;
+ghost use Rattle.ms_text_grammar.specs.Lexemes.{is};
+ghost use Rattle.ms_text_grammar.specs.Steps.{items, refuse};
+ghost use Rattle.ms_text_grammar.specs.Values as spec;
 ghost use Rattle.ms_read_cursor.specs.Lists.{further_items};
 ghost use Rattle.ms_read_cursor.specs.Reading.{Gives, front, run};
 ghost use Rattle.ms_read_values.specs.Parts.{part_of};
@@ -11,9 +11,9 @@ ghost use Rattle.ms_read_values.specs.Parts.{part_of};
 use crate::types::{boxed_type, opens, packed_brace};
 use crate::values::value_within;
 use ms_bits::List;
-use ms_grammar::{Limit, Refusal, Symbol};
 use ms_ir::{Form, Init, Ty};
 use ms_read_cursor::{Tokens, single, with_last};
+use ms_text_grammar::{Cause, Limit, Symbol};
 use std::alloc::Global;
 
 /// What opens no bracket.
@@ -23,7 +23,7 @@ fn flat_init(
     form: Form,
     depth: u8,
     ty: &Ty,
-) -> Result<Init, Refusal>
+) -> Result<Init, Cause>
     ensures { Gives (run (spec.flat_init form depth ty.now (front tokens.old).symbol) tokens.old) result tokens.new }
 {
     match tokens.peek() {
@@ -56,26 +56,21 @@ pub fn init_to(
     form: Form,
     depth: u8,
     ty: &Ty,
-) -> Result<Init, Refusal>
+) -> Result<Init, Cause>
     ensures { Gives (run (spec.init_to form depth ty.now) tokens.old) result tokens.new }
 {
     if !opens(tokens.peek()) {
         return flat_init(alloc, tokens, form, depth, ty);
     }
     if depth == 0 {
-        return Err(Refusal::Limit(Limit::Types));
+        return Err(Cause::Limit(Limit::Types));
     }
     nested_init(alloc, tokens, form, depth - 1)
 }
 
 /// An initialiser that opens an array or a struct.
 #[cycle(inits)]
-fn nested_init(
-    alloc: Global,
-    tokens: &mut Tokens<'_>,
-    form: Form,
-    depth: u8,
-) -> Result<Init, Refusal>
+fn nested_init(alloc: Global, tokens: &mut Tokens<'_>, form: Form, depth: u8) -> Result<Init, Cause>
     ensures { Gives (run (spec.nested_init (part_of form depth) refuse (front tokens.old).symbol) tokens.old) result tokens.new }
 {
     match tokens.peek() {
@@ -96,13 +91,8 @@ fn nested_init(
 }
 
 #[cycle(inits)]
-#[tactic(auto, unfolding(ms_grammar::specs::Values::array_init))]
-fn array_init(
-    alloc: Global,
-    tokens: &mut Tokens<'_>,
-    form: Form,
-    depth: u8,
-) -> Result<Init, Refusal>
+#[tactic(auto, unfolding(ms_text_grammar::specs::Values::array_init))]
+fn array_init(alloc: Global, tokens: &mut Tokens<'_>, form: Form, depth: u8) -> Result<Init, Cause>
     ensures { Gives (run (spec.array_init (part_of form depth)) tokens.old) result tokens.new }
 {
     let all = parts(alloc, tokens, form, depth, Symbol::CloseBracket)?;
@@ -110,13 +100,8 @@ fn array_init(
 }
 
 #[cycle(inits)]
-#[tactic(auto, unfolding(ms_grammar::specs::Values::struct_init))]
-fn struct_init(
-    alloc: Global,
-    tokens: &mut Tokens<'_>,
-    form: Form,
-    depth: u8,
-) -> Result<Init, Refusal>
+#[tactic(auto, unfolding(ms_text_grammar::specs::Values::struct_init))]
+fn struct_init(alloc: Global, tokens: &mut Tokens<'_>, form: Form, depth: u8) -> Result<Init, Cause>
     ensures { Gives (run (spec.struct_init (part_of form depth)) tokens.old) result tokens.new }
 {
     let all = parts(alloc, tokens, form, depth, Symbol::CloseBrace)?;
@@ -124,13 +109,8 @@ fn struct_init(
 }
 
 #[cycle(inits)]
-#[tactic(auto, unfolding(ms_grammar::specs::Values::packed_init))]
-fn packed_init(
-    alloc: Global,
-    tokens: &mut Tokens<'_>,
-    form: Form,
-    depth: u8,
-) -> Result<Init, Refusal>
+#[tactic(auto, unfolding(ms_text_grammar::specs::Values::packed_init))]
+fn packed_init(alloc: Global, tokens: &mut Tokens<'_>, form: Form, depth: u8) -> Result<Init, Cause>
     ensures { Gives (run (spec.packed_init (part_of form depth)) tokens.old) result tokens.new }
 {
     packed_brace(tokens)?;
@@ -142,12 +122,7 @@ fn packed_init(
 /// A type and the initialiser behind it.
 #[cycle(inits)]
 #[tactic(auto, unfolding(crate::specs::Parts::part_of))]
-fn part(
-    alloc: Global,
-    tokens: &mut Tokens<'_>,
-    form: Form,
-    depth: u8,
-) -> Result<(Ty, Init), Refusal>
+fn part(alloc: Global, tokens: &mut Tokens<'_>, form: Form, depth: u8) -> Result<(Ty, Init), Cause>
     ensures { Gives (run (part_of form depth) tokens.old) result tokens.new }
 {
     let ty = boxed_type(alloc, tokens, form, depth)?;
@@ -164,7 +139,7 @@ fn more_parts(
     form: Form,
     depth: u8,
     start: List<(Ty, Init)>,
-) -> Result<List<(Ty, Init)>, Refusal>
+) -> Result<List<(Ty, Init)>, Cause>
     ensures { Gives (run (further_items (part_of form depth) start) tokens.old) result tokens.new }
 {
     let mut found = start;
@@ -185,7 +160,7 @@ fn some_parts(
     form: Form,
     depth: u8,
     closing: Symbol,
-) -> Result<List<(Ty, Init)>, Refusal>
+) -> Result<List<(Ty, Init)>, Cause>
     requires { is closing (front tokens.old) ≡ false }
     ensures { Gives (run (items closing (part_of form depth)) tokens.old) result tokens.new }
 {
@@ -205,7 +180,7 @@ fn parts(
     form: Form,
     depth: u8,
     closing: Symbol,
-) -> Result<List<(Ty, Init)>, Refusal>
+) -> Result<List<(Ty, Init)>, Cause>
     ensures { Gives (run (items closing (part_of form depth)) tokens.old) result tokens.new }
 {
     if tokens.sees(closing) {

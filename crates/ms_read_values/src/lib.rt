@@ -23,7 +23,7 @@ pub use brackets::{balanced, in_parens};
 pub use inits::init_to;
 pub use metadata::{attached_by, attachments, kind_of, meta};
 pub use numbers::number;
-pub use offsets::{index_type_of, offset, step_words};
+pub use offsets::{gep_words, index_type_of, offset};
 pub use operations::{begins_expression, binary_op, cast_op};
 pub use suffix_lists::{attached, suffix, suffixes, suffixes_from};
 pub use types::{

@@ -1,19 +1,19 @@
 //! Names of metadata (LLVM Language Reference, "Metadata").
 
-ghost use Rattle.ms_grammar.specs.Skipped as spec;
+ghost use Rattle.ms_text_grammar.specs.Skipped as spec;
 ghost use Rattle.ms_read_cursor.specs.Reading.{Gives, Judges, run};
 
-use ms_grammar::{Refusal, Symbol};
 use ms_ir::Form;
 use ms_read_cursor::{Lexeme, Tokens, Turn, repeat};
+use ms_text_grammar::{Cause, Symbol};
 use std::alloc::Global;
 
 /// Whether the mark may be attached.
-fn mark_allowed(form: Form) -> Result<bool, Refusal>
+fn mark_allowed(form: Form) -> Result<bool, Cause>
     ensures { Judges (spec.mark_allowed form) result }
 {
     match form {
-        Form::Plain => Err(Refusal::Reserved),
+        Form::Plain => Err(Cause::Reserved),
         Form::Instrumented => Ok(true),
     }
 }
@@ -23,7 +23,7 @@ fn mark_allowed(form: Form) -> Result<bool, Refusal>
 /// # Errors
 ///
 /// `Reserved` at the mark where the form doesn't have it.
-pub fn attached_by(form: Form, symbol: Symbol) -> Result<bool, Refusal>
+pub fn attached_by(form: Form, symbol: Symbol) -> Result<bool, Cause>
     ensures { Judges (spec.attached_by form symbol) result }
 {
     match symbol {
@@ -38,8 +38,8 @@ pub fn attached_by(form: Form, symbol: Symbol) -> Result<bool, Refusal>
 /// # Errors
 ///
 /// `Syntax` or `Outside` where none comes next.
-#[tactic(auto, unfolding(ms_grammar::specs::Skipped::meta))]
-pub fn meta(tokens: &mut Tokens<'_>) -> Result<(), Refusal>
+#[tactic(auto, unfolding(ms_text_grammar::specs::Skipped::meta))]
+pub fn meta(tokens: &mut Tokens<'_>) -> Result<(), Cause>
     ensures { Gives (run spec.meta tokens.old) result tokens.new }
 {
     if tokens.sees(Symbol::Meta) || tokens.sees(Symbol::NoSanitize) {
@@ -55,7 +55,7 @@ pub fn meta(tokens: &mut Tokens<'_>) -> Result<(), Refusal>
 /// # Errors
 ///
 /// `Reserved` at the mark where the form doesn't have it, `Syntax` or `Outside` at what is no name of metadata.
-pub fn kind_of(form: Form, token: &Lexeme<'_>) -> Result<bool, Refusal>
+pub fn kind_of(form: Form, token: &Lexeme<'_>) -> Result<bool, Cause>
     ensures { Judges (spec.kind_of form token.now) result }
 {
     match token.symbol() {
@@ -74,13 +74,13 @@ struct OneAttachment {
 impl Turn for OneAttachment {
     type State = ();
 
-    ghost use Rattle.ms_grammar.specs.Skipped.{attachment_begins, meta};
+    ghost use Rattle.ms_text_grammar.specs.Skipped.{attachment_begins, meta};
 
     ghost begins = { λ rule. attachment_begins rule.form };
 
     ghost body = { λ rule u t. meta };
 
-    fn goes_on(&self, _alloc: Global, _state: &(), first: &Lexeme<'_>) -> Result<bool, Refusal> {
+    fn goes_on(&self, _alloc: Global, _state: &(), first: &Lexeme<'_>) -> Result<bool, Cause> {
         attached_by(self.form, first.symbol())
     }
 
@@ -90,14 +90,14 @@ impl Turn for OneAttachment {
         _state: (),
         _first: &Lexeme<'_>,
         tokens: &mut Tokens<'_>,
-    ) -> Result<(), Refusal> {
+    ) -> Result<(), Cause> {
         meta(tokens)
     }
 }
 
 /// Reads pairs of names of metadata, as many as come. Its errors are those of `attached_by` and `meta`.
-#[tactic(auto, unfolding(ms_grammar::specs::Skipped::attachments))]
-pub fn attachments(alloc: Global, tokens: &mut Tokens<'_>, form: Form) -> Result<(), Refusal>
+#[tactic(auto, unfolding(ms_text_grammar::specs::Skipped::attachments))]
+pub fn attachments(alloc: Global, tokens: &mut Tokens<'_>, form: Form) -> Result<(), Cause>
     ensures { Gives (run (spec.attachments form) tokens.old) result tokens.new }
 {
     repeat(alloc, tokens, &OneAttachment { form }, ())

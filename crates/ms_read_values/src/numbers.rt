@@ -2,13 +2,13 @@
 
 ghost use Rattle.std.specs.Prelude.{◌≡◌, ◌≤◌, ◌<◌, ◌^◌, IfOk};
 ghost use Rattle.ms_bits.specs.Signed.{wrap};
-ghost use Rattle.ms_grammar.specs.Values as spec;
+ghost use Rattle.ms_text_grammar.specs.Values as spec;
 ghost use Rattle.ms_read_cursor.specs.Reading.{Gives, Judges, run};
 ghost use Rattle.ms_read_values.specs.Narrow.{IsWidth};
 
 use ms_bits::words::limit;
-use ms_grammar::{Refusal, Symbol};
 use ms_read_cursor::{Lexeme, Tokens};
+use ms_text_grammar::{Cause, Symbol};
 
 /// Whether a number is one of an integer type: from -2^(width - 1) to 2^width - 1.
 fn fits(width: u8, number: i128) -> bool
@@ -38,7 +38,7 @@ fn wrapped(width: u8, number: i128) -> u64
 
 /// The number that a token spells, kept modulo 2^width.
 #[tactic(auto, using(crate::proofs::Fits::wide_misfits))]
-pub fn number_by(width: u8, token: &Lexeme<'_>) -> Result<u64, Refusal>
+pub fn number_by(width: u8, token: &Lexeme<'_>) -> Result<u64, Cause>
     requires { IsWidth width }
     ensures { Judges (spec.number_by width token.now) result }
 {
@@ -54,7 +54,7 @@ pub fn number_by(width: u8, token: &Lexeme<'_>) -> Result<u64, Refusal>
     }
 }
 
-fn number_of(width: u8, token: &Lexeme<'_>) -> Result<u64, Refusal>
+fn number_of(width: u8, token: &Lexeme<'_>) -> Result<u64, Cause>
     requires { IsWidth width }
     ensures { Judges (spec.number_of width token.now) result }
 {
@@ -70,8 +70,8 @@ fn number_of(width: u8, token: &Lexeme<'_>) -> Result<u64, Refusal>
 /// # Errors
 ///
 /// `Syntax` where the type doesn't have it.
-#[tactic(auto, unfolding(ms_grammar::specs::Values::number))]
-pub fn number(tokens: &mut Tokens<'_>, width: u8) -> Result<u64, Refusal>
+#[tactic(auto, unfolding(ms_text_grammar::specs::Values::number))]
+pub fn number(tokens: &mut Tokens<'_>, width: u8) -> Result<u64, Cause>
     requires { IsWidth width }
     ensures { Gives (run (spec.number width) tokens.old) result tokens.new }
 {

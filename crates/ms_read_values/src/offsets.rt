@@ -2,8 +2,8 @@
 
 ghost use Rattle.std.specs.Prelude.{◌≡◌, ◌∷◌, IfOk, length, true};
 ghost use Rattle.ms_lex.specs.Grammar.{give};
-ghost use Rattle.ms_grammar.specs.Steps.{comma_begins};
-ghost use Rattle.ms_grammar.specs.Values as spec;
+ghost use Rattle.ms_text_grammar.specs.Steps.{comma_begins};
+ghost use Rattle.ms_text_grammar.specs.Values as spec;
 ghost use Rattle.ms_read_cursor.specs.Reading.{Gives, Judges, run};
 ghost use Rattle.ms_read_values.specs.Narrow.{IsWidth};
 ghost use Rattle.ms_read_values.specs.Rests as rest;
@@ -11,13 +11,13 @@ ghost use Rattle.ms_read_values.specs.Rests as rest;
 use crate::numbers::number;
 use crate::types::{int_type_of, type_to};
 use ms_bits::{Boxed, List, NoMemory};
-use ms_grammar::{Limit, Refusal, Symbol};
 use ms_ir::{Form, Name, Operand, Ty};
 use ms_read_cursor::{Lexeme, Tokens, Turn, global, repeat, with_last};
+use ms_text_grammar::{Cause, Limit, Symbol};
 use std::alloc::Global;
 
-fn is_step_word(symbol: Symbol) -> bool
-    ensures { result ≡ spec.is_step_word symbol }
+fn is_gep_word(symbol: Symbol) -> bool
+    ensures { result ≡ spec.is_gep_word symbol }
 {
     matches!(symbol, Symbol::InBounds | Symbol::Nuw | Symbol::Nusw)
 }
@@ -28,12 +28,12 @@ struct StepWords;
 impl Turn for StepWords {
     type State = ();
 
-    ghost begins = { λ _. spec.step_word_begins };
+    ghost begins = { λ _. spec.gep_word_begins };
 
     ghost body = { λ _ u _. give u };
 
-    fn goes_on(&self, _alloc: Global, _state: &(), first: &Lexeme<'_>) -> Result<bool, Refusal> {
-        Ok(is_step_word(first.symbol()))
+    fn goes_on(&self, _alloc: Global, _state: &(), first: &Lexeme<'_>) -> Result<bool, Cause> {
+        Ok(is_gep_word(first.symbol()))
     }
 
     fn turn(
@@ -42,15 +42,15 @@ impl Turn for StepWords {
         _state: (),
         _first: &Lexeme<'_>,
         _tokens: &mut Tokens<'_>,
-    ) -> Result<(), Refusal> {
+    ) -> Result<(), Cause> {
         Ok(())
     }
 }
 
 /// Reads over the words that may stand behind `getelementptr`.
-#[tactic(auto, unfolding(ms_grammar::specs::Values::step_words))]
-pub fn step_words(alloc: Global, tokens: &mut Tokens<'_>) -> Result<(), Refusal>
-    ensures { Gives (run spec.step_words tokens.old) result tokens.new }
+#[tactic(auto, unfolding(ms_text_grammar::specs::Values::gep_words))]
+pub fn gep_words(alloc: Global, tokens: &mut Tokens<'_>) -> Result<(), Cause>
+    ensures { Gives (run spec.gep_words tokens.old) result tokens.new }
 {
     repeat(alloc, tokens, &StepWords, ())
 }
@@ -60,7 +60,7 @@ pub fn step_words(alloc: Global, tokens: &mut Tokens<'_>) -> Result<(), Refusal>
 /// # Errors
 ///
 /// `Limit(Indices)` where 64 stand there.
-pub fn index_type_of(before: usize, token: &Lexeme<'_>) -> Result<u8, Refusal>
+pub fn index_type_of(before: usize, token: &Lexeme<'_>) -> Result<u8, Cause>
     ensures exact { Judges (spec.index_type_of before token.now) result }
     ensures narrow { IfOk result IsWidth }
 {
@@ -68,7 +68,7 @@ pub fn index_type_of(before: usize, token: &Lexeme<'_>) -> Result<u8, Refusal>
     if before < 64 {
         Ok(width)
     } else {
-        Err(Refusal::Limit(Limit::Indices))
+        Err(Cause::Limit(Limit::Indices))
     }
 }
 
@@ -77,7 +77,7 @@ fn index_rest(
     tokens: &mut Tokens<'_>,
     width: u8,
     found: List<(Ty, u64)>,
-) -> Result<List<(Ty, u64)>, Refusal>
+) -> Result<List<(Ty, u64)>, Cause>
     requires { IsWidth width }
     ensures { Gives (run (rest.index_rest width found) tokens.old) result tokens.new }
 {
@@ -86,11 +86,8 @@ fn index_rest(
 }
 
 /// An index with its type.
-#[tactic(auto, unfolding(ms_grammar::specs::Values::constant_index))]
-fn constant_index(
-    tokens: &mut Tokens<'_>,
-    found: List<(Ty, u64)>,
-) -> Result<List<(Ty, u64)>, Refusal>
+#[tactic(auto, unfolding(ms_text_grammar::specs::Values::constant_index))]
+fn constant_index(tokens: &mut Tokens<'_>, found: List<(Ty, u64)>) -> Result<List<(Ty, u64)>, Cause>
     ensures { Gives (run (spec.constant_index found) tokens.old) result tokens.new }
 {
     let width = index_type_of(found.as_slice().len(), &tokens.lexeme())?;
@@ -113,7 +110,7 @@ impl Turn for ConstantIndices {
         _alloc: Global,
         _state: &List<(Ty, u64)>,
         first: &Lexeme<'_>,
-    ) -> Result<bool, Refusal> {
+    ) -> Result<bool, Cause> {
         Ok(first.is(Symbol::Comma))
     }
 
@@ -123,13 +120,13 @@ impl Turn for ConstantIndices {
         state: List<(Ty, u64)>,
         _first: &Lexeme<'_>,
         tokens: &mut Tokens<'_>,
-    ) -> Result<List<(Ty, u64)>, Refusal> {
+    ) -> Result<List<(Ty, u64)>, Cause> {
         constant_index(tokens, state)
     }
 }
 
-#[tactic(auto, unfolding(ms_grammar::specs::Values::constant_indices))]
-fn constant_indices(alloc: Global, tokens: &mut Tokens<'_>) -> Result<List<(Ty, u64)>, Refusal>
+#[tactic(auto, unfolding(ms_text_grammar::specs::Values::constant_indices))]
+fn constant_indices(alloc: Global, tokens: &mut Tokens<'_>) -> Result<List<(Ty, u64)>, Cause>
     ensures { Gives (run spec.constant_indices tokens.old) result tokens.new }
 {
     let none = List::from_vec(Vec::new(alloc));
@@ -150,12 +147,7 @@ fn around(address: Stepped, ty: Ty, indices: List<(Ty, u64)>) -> Result<Stepped,
 }
 
 /// Reads the indices behind the base, and `)`.
-fn step_end(
-    alloc: Global,
-    tokens: &mut Tokens<'_>,
-    ty: Ty,
-    from: Stepped,
-) -> Result<Stepped, Refusal>
+fn step_end(alloc: Global, tokens: &mut Tokens<'_>, ty: Ty, from: Stepped) -> Result<Stepped, Cause>
     ensures { Gives (run (rest.step_end ty from) tokens.old) result tokens.new }
 {
     let indices = constant_indices(alloc, tokens)?;
@@ -172,7 +164,7 @@ fn step_rest(
     depth: u8,
     within: u8,
     ty: Ty,
-) -> Result<Stepped, Refusal>
+) -> Result<Stepped, Cause>
     ensures { Gives (run (rest.step_rest (spec.base_to form depth within) ty) tokens.old) result tokens.new }
 {
     tokens.word(Symbol::Comma)?;
@@ -183,17 +175,17 @@ fn step_rest(
 
 /// What stands behind `getelementptr` in a constant, in whose base so many more may stand.
 #[cycle(bases)]
-#[tactic(auto, unfolding(ms_grammar::specs::Values::step_from))]
-fn step_from(
+#[tactic(auto, unfolding(ms_text_grammar::specs::Values::gep_from))]
+fn gep_from(
     alloc: Global,
     tokens: &mut Tokens<'_>,
     form: Form,
     depth: u8,
     within: u8,
-) -> Result<Stepped, Refusal>
-    ensures { Gives (run (spec.step_from form depth (spec.base_to form depth within)) tokens.old) result tokens.new }
+) -> Result<Stepped, Cause>
+    ensures { Gives (run (spec.gep_from form depth (spec.base_to form depth within)) tokens.old) result tokens.new }
 {
-    step_words(alloc, tokens)?;
+    gep_words(alloc, tokens)?;
     tokens.word(Symbol::OpenParen)?;
     let ty = type_to(alloc, tokens, form, depth)?;
     step_rest(alloc, tokens, form, depth, within, ty)
@@ -208,18 +200,18 @@ fn inner_step(
     form: Form,
     depth: u8,
     within: u8,
-) -> Result<Stepped, Refusal>
+) -> Result<Stepped, Cause>
     ensures { Gives (run (rest.inner_step form depth within) tokens.old) result tokens.new }
 {
     if within == 0 {
-        return Err(Refusal::Limit(Limit::Indices));
+        return Err(Cause::Limit(Limit::Indices));
     }
     tokens.advance();
-    step_from(alloc, tokens, form, depth, within - 1)
+    gep_from(alloc, tokens, form, depth, within - 1)
 }
 
 /// A global as a base.
-fn global_base(alloc: Global, tokens: &mut Tokens<'_>, form: Form) -> Result<Stepped, Refusal>
+fn global_base(alloc: Global, tokens: &mut Tokens<'_>, form: Form) -> Result<Stepped, Cause>
     ensures { Gives (run (rest.global_base form) tokens.old) result tokens.new }
 {
     let base = Boxed::new(alloc, global(alloc, tokens, form)?)?;
@@ -239,7 +231,7 @@ fn base_to(
     form: Form,
     depth: u8,
     within: u8,
-) -> Result<Stepped, Refusal>
+) -> Result<Stepped, Cause>
     ensures { Gives (run (spec.base_to form depth within) tokens.old) result tokens.new }
 {
     match tokens.peek() {
@@ -249,15 +241,15 @@ fn base_to(
 }
 
 /// What stands behind `getelementptr` in a constant.
-#[tactic(auto, unfolding(ms_grammar::specs::Values::offset))]
+#[tactic(auto, unfolding(ms_text_grammar::specs::Values::offset))]
 pub fn offset(
     alloc: Global,
     tokens: &mut Tokens<'_>,
     form: Form,
     depth: u8,
-) -> Result<Operand, Refusal>
+) -> Result<Operand, Cause>
     ensures { Gives (run (spec.offset form depth) tokens.old) result tokens.new }
 {
-    let (base, steps) = step_from(alloc, tokens, form, depth, 63)?;
+    let (base, steps) = gep_from(alloc, tokens, form, depth, 63)?;
     Ok(Operand::Offset(base, steps))
 }

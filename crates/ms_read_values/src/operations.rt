@@ -2,14 +2,14 @@
 //! Operations").
 
 ghost use Rattle.std.specs.Prelude.{◌≡◌};
-ghost use Rattle.ms_grammar.specs.Steps as spec;
+ghost use Rattle.ms_text_grammar.specs.Steps as spec;
 
 use ms_bits::{BinOp, CastOp};
-use ms_grammar::Symbol;
 use ms_read_cursor::same_symbol;
+use ms_text_grammar::Symbol;
 
 /// The binary operation that a word names.
-#[tactic(auto, unfolding(ms_grammar::specs::Steps::binary_op))]
+#[tactic(auto, unfolding(ms_text_grammar::specs::Steps::binary_op))]
 pub fn binary_op(symbol: Symbol) -> Option<BinOp>
     ensures { result ≡ spec.binary_op symbol }
 {
@@ -32,7 +32,7 @@ pub fn binary_op(symbol: Symbol) -> Option<BinOp>
 }
 
 /// The cast that a word names.
-#[tactic(auto, unfolding(ms_grammar::specs::Steps::cast_op))]
+#[tactic(auto, unfolding(ms_text_grammar::specs::Steps::cast_op))]
 pub fn cast_op(symbol: Symbol) -> Option<CastOp>
     ensures { result ≡ spec.cast_op symbol }
 {

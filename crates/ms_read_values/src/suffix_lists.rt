@@ -3,24 +3,19 @@
 
 ghost use Rattle.std.specs.Prelude.{cond, false};
 ghost use Rattle.ms_lex.specs.Grammar.{give};
-ghost use Rattle.ms_grammar.specs.Skipped as spec;
+ghost use Rattle.ms_text_grammar.specs.Skipped as spec;
 ghost use Rattle.ms_read_cursor.specs.Reading.{Gives, run};
 ghost use Rattle.ms_read_values.specs.Rests as rest;
 
 use crate::brackets::{balanced, in_parens};
 use crate::metadata::{kind_of, meta};
-use ms_grammar::{Refusal, Symbol};
 use ms_ir::Form;
 use ms_read_cursor::{Lexeme, Tokens, Turn, repeat};
+use ms_text_grammar::{Cause, Symbol};
 use std::alloc::Global;
 
 /// Reads tokens between braces, where metadata is written in place.
-fn in_place(
-    alloc: Global,
-    tokens: &mut Tokens<'_>,
-    form: Form,
-    marked: bool,
-) -> Result<bool, Refusal>
+fn in_place(alloc: Global, tokens: &mut Tokens<'_>, form: Form, marked: bool) -> Result<bool, Cause>
     ensures { Gives (run (rest.in_place form marked) tokens.old) result tokens.new }
 {
     tokens.word(Symbol::OpenBrace)?;
@@ -35,7 +30,7 @@ fn by_name(
     form: Form,
     marked: bool,
     marks: bool,
-) -> Result<bool, Refusal>
+) -> Result<bool, Cause>
     ensures { Gives (run (rest.by_name form marked marks) tokens.old) result tokens.new }
 {
     meta(tokens)?;
@@ -51,7 +46,7 @@ fn attached_rest(
     marked: bool,
     marks: bool,
     symbol: Symbol,
-) -> Result<bool, Refusal>
+) -> Result<bool, Cause>
     ensures { Gives (run (spec.attached_rest form marked marks symbol) tokens.old) result tokens.new }
 {
     match symbol {
@@ -69,13 +64,13 @@ fn attached_rest(
 /// # Errors
 ///
 /// Those of `kind_of` at the kind, of `meta` behind it, and of `balanced` in brackets.
-#[tactic(auto, unfolding(ms_grammar::specs::Skipped::attached))]
+#[tactic(auto, unfolding(ms_text_grammar::specs::Skipped::attached))]
 pub fn attached(
     alloc: Global,
     tokens: &mut Tokens<'_>,
     form: Form,
     marked: bool,
-) -> Result<bool, Refusal>
+) -> Result<bool, Cause>
     ensures { Gives (run (spec.attached form marked) tokens.old) result tokens.new }
 {
     let marks = kind_of(form, &tokens.lexeme())?;
@@ -89,13 +84,13 @@ pub fn attached(
 /// # Errors
 ///
 /// `Syntax` or `Outside` where no number is behind `align`, and those of `attached`.
-#[tactic(auto, unfolding(ms_grammar::specs::Skipped::suffix))]
+#[tactic(auto, unfolding(ms_text_grammar::specs::Skipped::suffix))]
 pub fn suffix(
     alloc: Global,
     tokens: &mut Tokens<'_>,
     form: Form,
     marked: bool,
-) -> Result<bool, Refusal>
+) -> Result<bool, Cause>
     ensures { Gives (run (spec.suffix form marked) tokens.old) result tokens.new }
 {
     match tokens.peek() {
@@ -117,13 +112,13 @@ struct OneSuffix {
 impl Turn for OneSuffix {
     type State = bool;
 
-    ghost use Rattle.ms_grammar.specs.Skipped.{suffix_begins, suffix};
+    ghost use Rattle.ms_text_grammar.specs.Skipped.{suffix_begins, suffix};
 
     ghost begins = { λ rule. suffix_begins };
 
     ghost body = { λ rule marked comma. suffix rule.form marked };
 
-    fn goes_on(&self, _alloc: Global, _state: &bool, first: &Lexeme<'_>) -> Result<bool, Refusal> {
+    fn goes_on(&self, _alloc: Global, _state: &bool, first: &Lexeme<'_>) -> Result<bool, Cause> {
         Ok(first.is(Symbol::Comma))
     }
 
@@ -133,20 +128,20 @@ impl Turn for OneSuffix {
         state: bool,
         _first: &Lexeme<'_>,
         tokens: &mut Tokens<'_>,
-    ) -> Result<bool, Refusal> {
+    ) -> Result<bool, Cause> {
         suffix(alloc, tokens, self.form, state)
     }
 }
 
 /// Reads suffixes with a comma in front of each, as many as come. Gives whether the instruction is marked. Its errors are
 /// those of `suffix`.
-#[tactic(auto, unfolding(ms_grammar::specs::Skipped::suffixes))]
+#[tactic(auto, unfolding(ms_text_grammar::specs::Skipped::suffixes))]
 pub fn suffixes(
     alloc: Global,
     tokens: &mut Tokens<'_>,
     form: Form,
     marked: bool,
-) -> Result<bool, Refusal>
+) -> Result<bool, Cause>
     ensures { Gives (run (spec.suffixes form marked) tokens.old) result tokens.new }
 {
     repeat(alloc, tokens, &OneSuffix { form }, marked)
@@ -158,7 +153,7 @@ fn first_suffix(
     tokens: &mut Tokens<'_>,
     form: Form,
     begun: bool,
-) -> Result<bool, Refusal>
+) -> Result<bool, Cause>
     ensures { Gives (run (cond begun (spec.suffix form false) (give false)) tokens.old) result tokens.new }
 {
     if begun {
@@ -170,13 +165,13 @@ fn first_suffix(
 
 /// Reads the suffixes of an instruction; the comma of the first was read already, where `begun`. Gives whether the
 /// instruction is marked. Its errors are those of `suffix`.
-#[tactic(auto, unfolding(ms_grammar::specs::Skipped::suffixes_from))]
+#[tactic(auto, unfolding(ms_text_grammar::specs::Skipped::suffixes_from))]
 pub fn suffixes_from(
     alloc: Global,
     tokens: &mut Tokens<'_>,
     form: Form,
     begun: bool,
-) -> Result<bool, Refusal>
+) -> Result<bool, Cause>
     ensures { Gives (run (spec.suffixes_from form begun) tokens.old) result tokens.new }
 {
     let marked = first_suffix(alloc, tokens, form, begun)?;

@@ -1,10 +1,10 @@
 //! Types (LLVM Language Reference, "Type System").
 
 ghost use Rattle.std.specs.Prelude.{◌≡◌, IfOk, false};
-ghost use Rattle.ms_grammar.specs.declared.symbols.Symbol.TheVariants.{CloseBrace};
-ghost use Rattle.ms_grammar.specs.Lexemes.{is};
-ghost use Rattle.ms_grammar.specs.Steps.{items};
-ghost use Rattle.ms_grammar.specs.Types as spec;
+ghost use Rattle.ms_text_grammar.specs.declared.symbols.Symbol.TheVariants.{CloseBrace};
+ghost use Rattle.ms_text_grammar.specs.Lexemes.{is};
+ghost use Rattle.ms_text_grammar.specs.Steps.{items};
+ghost use Rattle.ms_text_grammar.specs.Types as spec;
 ghost use Rattle.ms_read_cursor.specs.Lists.{further_items};
 ghost use Rattle.ms_read_cursor.specs.Reading.{Gives, Judges, front, run};
 ghost use Rattle.ms_read_values.specs.Narrow.{IsWidth};
@@ -12,13 +12,13 @@ ghost use Rattle.ms_read_values.specs.Rests as rest;
 
 use crate::value_types::ValueType;
 use ms_bits::{Boxed, List};
-use ms_grammar::{Limit, Outside, Refusal, Symbol};
 use ms_ir::{Form, Ty};
 use ms_read_cursor::{Lexeme, Tokens, local, same_symbol, single, with_last};
+use ms_text_grammar::{Cause, Limit, Outside, Symbol};
 use std::alloc::Global;
 
 /// The width of the integer type that a token is.
-pub fn int_type_of(token: &Lexeme<'_>) -> Result<u8, Refusal>
+pub fn int_type_of(token: &Lexeme<'_>) -> Result<u8, Cause>
     ensures exact { Judges (spec.int_type_of token.now) result }
     ensures narrow { IfOk result IsWidth }
 {
@@ -30,8 +30,8 @@ pub fn int_type_of(token: &Lexeme<'_>) -> Result<u8, Refusal>
 }
 
 /// Takes an integer type, by its width.
-#[tactic(auto, unfolding(ms_grammar::specs::Types::int_type))]
-pub fn int_type(tokens: &mut Tokens<'_>) -> Result<u8, Refusal>
+#[tactic(auto, unfolding(ms_text_grammar::specs::Types::int_type))]
+pub fn int_type(tokens: &mut Tokens<'_>) -> Result<u8, Cause>
     ensures exact { Gives (run spec.int_type tokens.old) result tokens.new }
     ensures narrow { IfOk result IsWidth }
 {
@@ -45,7 +45,7 @@ pub fn int_type(tokens: &mut Tokens<'_>) -> Result<u8, Refusal>
 /// # Errors
 ///
 /// `Outside(AggregateValue)` where it begins an array or a struct or names a type.
-pub fn value_type_of(token: &Lexeme<'_>) -> Result<ValueType, Refusal>
+pub fn value_type_of(token: &Lexeme<'_>) -> Result<ValueType, Cause>
     ensures { Judges (spec.value_type_by token.now.symbol token.now) result }
 {
     match token.symbol() {
@@ -55,14 +55,14 @@ pub fn value_type_of(token: &Lexeme<'_>) -> Result<ValueType, Refusal>
         | Symbol::OpenBrace
         | Symbol::Less
         | Symbol::Local
-        | Symbol::NumberedLocal => Err(Refusal::Outside(Outside::AggregateValue)),
+        | Symbol::NumberedLocal => Err(Cause::Outside(Outside::AggregateValue)),
         _ => Err(token.refusal()),
     }
 }
 
 /// Takes the type of a value: `iN` or `ptr`.
-#[tactic(auto, unfolding(ms_grammar::specs::Types::value_type))]
-pub fn value_type(tokens: &mut Tokens<'_>) -> Result<ValueType, Refusal>
+#[tactic(auto, unfolding(ms_text_grammar::specs::Types::value_type))]
+pub fn value_type(tokens: &mut Tokens<'_>) -> Result<ValueType, Cause>
     ensures { Gives (run spec.value_type tokens.old) result tokens.new }
 {
     let ty = value_type_of(&tokens.lexeme())?;
@@ -71,8 +71,8 @@ pub fn value_type(tokens: &mut Tokens<'_>) -> Result<ValueType, Refusal>
 }
 
 /// Takes `void`, which is no type, or the type of a value.
-#[tactic(auto, unfolding(ms_grammar::specs::Types::result_type))]
-pub fn result_type(tokens: &mut Tokens<'_>) -> Result<Option<ValueType>, Refusal>
+#[tactic(auto, unfolding(ms_text_grammar::specs::Types::result_type))]
+pub fn result_type(tokens: &mut Tokens<'_>) -> Result<Option<ValueType>, Cause>
     ensures { Gives (run spec.result_type tokens.old) result tokens.new }
 {
     match tokens.peek() {
@@ -88,7 +88,7 @@ pub fn result_type(tokens: &mut Tokens<'_>) -> Result<Option<ValueType>, Refusal
 }
 
 /// How many items an array has, by its token.
-fn count_of(token: &Lexeme<'_>) -> Result<u64, Refusal>
+fn count_of(token: &Lexeme<'_>) -> Result<u64, Cause>
     ensures { Judges (spec.count_of token.now) result }
 {
     if !token.is(Symbol::Number) {
@@ -106,8 +106,8 @@ fn count_of(token: &Lexeme<'_>) -> Result<u64, Refusal>
     }
 }
 
-#[tactic(auto, unfolding(ms_grammar::specs::Types::count))]
-fn count(tokens: &mut Tokens<'_>) -> Result<u64, Refusal>
+#[tactic(auto, unfolding(ms_text_grammar::specs::Types::count))]
+fn count(tokens: &mut Tokens<'_>) -> Result<u64, Cause>
     ensures { Gives (run spec.count tokens.old) result tokens.new }
 {
     let n = count_of(&tokens.lexeme())?;
@@ -116,7 +116,7 @@ fn count(tokens: &mut Tokens<'_>) -> Result<u64, Refusal>
 }
 
 /// What opens no bracket.
-fn flat(alloc: Global, tokens: &mut Tokens<'_>, form: Form) -> Result<Ty, Refusal>
+fn flat(alloc: Global, tokens: &mut Tokens<'_>, form: Form) -> Result<Ty, Cause>
     ensures { Gives (run (spec.flat form (front tokens.old).symbol) tokens.old) result tokens.new }
 {
     match tokens.peek() {
@@ -141,23 +141,23 @@ pub fn opens(symbol: Symbol) -> bool
     )
 }
 
-fn too_deep(alloc: Global, tokens: &mut Tokens<'_>, form: Form) -> Result<Ty, Refusal>
+fn too_deep(alloc: Global, tokens: &mut Tokens<'_>, form: Form) -> Result<Ty, Cause>
     ensures { Gives (run (spec.too_deep form (front tokens.old).symbol) tokens.old) result tokens.new }
 {
     if opens(tokens.peek()) {
-        return Err(Refusal::Limit(Limit::Types));
+        return Err(Cause::Limit(Limit::Types));
     }
     flat(alloc, tokens, form)
 }
 
-fn brace_of(token: &Lexeme<'_>) -> Result<(), Refusal>
+fn brace_of(token: &Lexeme<'_>) -> Result<(), Cause>
     ensures { Judges (spec.brace_of token.now) result }
 {
     if token.is(Symbol::OpenBrace) {
         return Ok(());
     }
     if token.is(Symbol::Number) {
-        return Err(Refusal::Outside(Outside::Vector));
+        return Err(Cause::Outside(Outside::Vector));
     }
     Err(token.refusal())
 }
@@ -167,8 +167,8 @@ fn brace_of(token: &Lexeme<'_>) -> Result<(), Refusal>
 /// # Errors
 ///
 /// `Outside(Vector)` where a number stands there.
-#[tactic(auto, unfolding(ms_grammar::specs::Types::packed_brace))]
-pub fn packed_brace(tokens: &mut Tokens<'_>) -> Result<(), Refusal>
+#[tactic(auto, unfolding(ms_text_grammar::specs::Types::packed_brace))]
+pub fn packed_brace(tokens: &mut Tokens<'_>) -> Result<(), Cause>
     ensures { Gives (run spec.packed_brace tokens.old) result tokens.new }
 {
     brace_of(&tokens.lexeme())?;
@@ -183,7 +183,7 @@ pub fn packed_brace(tokens: &mut Tokens<'_>) -> Result<(), Refusal>
 /// `Limit(Types)` at the token that opens one more.
 #[cycle(types)]
 #[tactic(auto, using(crate::proofs::Depths::type_ends, crate::proofs::Depths::type_nests))]
-pub fn type_to(alloc: Global, tokens: &mut Tokens<'_>, form: Form, depth: u8) -> Result<Ty, Refusal>
+pub fn type_to(alloc: Global, tokens: &mut Tokens<'_>, form: Form, depth: u8) -> Result<Ty, Cause>
     ensures { Gives (run (spec.type_to form depth) tokens.old) result tokens.new }
 {
     if depth == 0 {
@@ -198,7 +198,7 @@ pub fn boxed_type(
     tokens: &mut Tokens<'_>,
     form: Form,
     depth: u8,
-) -> Result<Boxed<Ty>, Refusal>
+) -> Result<Boxed<Ty>, Cause>
     ensures { Gives (run (spec.type_to form depth) tokens.old) result tokens.new }
 {
     let ty = type_to(alloc, tokens, form, depth)?;
@@ -207,7 +207,7 @@ pub fn boxed_type(
 
 /// A type by its first token, with its parts.
 #[cycle(types)]
-fn nested(alloc: Global, tokens: &mut Tokens<'_>, form: Form, depth: u8) -> Result<Ty, Refusal>
+fn nested(alloc: Global, tokens: &mut Tokens<'_>, form: Form, depth: u8) -> Result<Ty, Cause>
     ensures { Gives (run (spec.nested form (spec.type_to form depth) (front tokens.old).symbol) tokens.old) result tokens.new }
 {
     match tokens.peek() {
@@ -235,7 +235,7 @@ fn array_item(
     form: Form,
     depth: u8,
     n: u64,
-) -> Result<Ty, Refusal>
+) -> Result<Ty, Cause>
     ensures { Gives (run (rest.array_item (spec.type_to form depth) n) tokens.old) result tokens.new }
 {
     let item = Boxed::new(alloc, type_to(alloc, tokens, form, depth)?)?;
@@ -244,8 +244,8 @@ fn array_item(
 }
 
 #[cycle(types)]
-#[tactic(auto, unfolding(ms_grammar::specs::Types::array_rest))]
-fn array_rest(alloc: Global, tokens: &mut Tokens<'_>, form: Form, depth: u8) -> Result<Ty, Refusal>
+#[tactic(auto, unfolding(ms_text_grammar::specs::Types::array_rest))]
+fn array_rest(alloc: Global, tokens: &mut Tokens<'_>, form: Form, depth: u8) -> Result<Ty, Cause>
     ensures { Gives (run (spec.array_rest (spec.type_to form depth)) tokens.old) result tokens.new }
 {
     let n = count(tokens)?;
@@ -254,8 +254,8 @@ fn array_rest(alloc: Global, tokens: &mut Tokens<'_>, form: Form, depth: u8) -> 
 }
 
 #[cycle(types)]
-#[tactic(auto, unfolding(ms_grammar::specs::Types::struct_rest))]
-fn struct_rest(alloc: Global, tokens: &mut Tokens<'_>, form: Form, depth: u8) -> Result<Ty, Refusal>
+#[tactic(auto, unfolding(ms_text_grammar::specs::Types::struct_rest))]
+fn struct_rest(alloc: Global, tokens: &mut Tokens<'_>, form: Form, depth: u8) -> Result<Ty, Cause>
     ensures { Gives (run (spec.struct_rest (spec.type_to form depth)) tokens.old) result tokens.new }
 {
     let all = fields(alloc, tokens, form, depth)?;
@@ -263,8 +263,8 @@ fn struct_rest(alloc: Global, tokens: &mut Tokens<'_>, form: Form, depth: u8) ->
 }
 
 #[cycle(types)]
-#[tactic(auto, unfolding(ms_grammar::specs::Types::packed_rest))]
-fn packed_rest(alloc: Global, tokens: &mut Tokens<'_>, form: Form, depth: u8) -> Result<Ty, Refusal>
+#[tactic(auto, unfolding(ms_text_grammar::specs::Types::packed_rest))]
+fn packed_rest(alloc: Global, tokens: &mut Tokens<'_>, form: Form, depth: u8) -> Result<Ty, Cause>
     ensures { Gives (run (spec.packed_rest (spec.type_to form depth)) tokens.old) result tokens.new }
 {
     packed_brace(tokens)?;
@@ -282,7 +282,7 @@ fn more_fields(
     form: Form,
     depth: u8,
     start: List<Ty>,
-) -> Result<List<Ty>, Refusal>
+) -> Result<List<Ty>, Cause>
     ensures { Gives (run (further_items (spec.type_to form depth) start) tokens.old) result tokens.new }
 {
     let mut found = start;
@@ -302,7 +302,7 @@ fn some_fields(
     tokens: &mut Tokens<'_>,
     form: Form,
     depth: u8,
-) -> Result<List<Ty>, Refusal>
+) -> Result<List<Ty>, Cause>
     requires { is CloseBrace (front tokens.old) ≡ false }
     ensures { Gives (run (items CloseBrace (spec.type_to form depth)) tokens.old) result tokens.new }
 {
@@ -316,12 +316,7 @@ fn some_fields(
 /// No type, or types with commas between, up to `}`.
 #[cycle(types)]
 #[tactic(auto, using(ms_read_cursor::proofs::ItemLoops::items_empty))]
-fn fields(
-    alloc: Global,
-    tokens: &mut Tokens<'_>,
-    form: Form,
-    depth: u8,
-) -> Result<List<Ty>, Refusal>
+fn fields(alloc: Global, tokens: &mut Tokens<'_>, form: Form, depth: u8) -> Result<List<Ty>, Cause>
     ensures { Gives (run (items CloseBrace (spec.type_to form depth)) tokens.old) result tokens.new }
 {
     if tokens.sees(Symbol::CloseBrace) {
@@ -333,8 +328,8 @@ fn fields(
 }
 
 /// Takes the struct that a named type is.
-#[tactic(auto, unfolding(ms_grammar::specs::Types::struct_type))]
-pub fn struct_type(alloc: Global, tokens: &mut Tokens<'_>, form: Form) -> Result<Ty, Refusal>
+#[tactic(auto, unfolding(ms_text_grammar::specs::Types::struct_type))]
+pub fn struct_type(alloc: Global, tokens: &mut Tokens<'_>, form: Form) -> Result<Ty, Cause>
     ensures { Gives (run (spec.struct_type form) tokens.old) result tokens.new }
 {
     match tokens.peek() {

@@ -1,8 +1,8 @@
 //! Values by the type in front of them (LLVM Language Reference, "Constants").
 
 ghost use Rattle.std.specs.Prelude.{◌≡◌, ◌≢◌, Some};
-ghost use Rattle.ms_grammar.specs.Types as types;
-ghost use Rattle.ms_grammar.specs.Values as spec;
+ghost use Rattle.ms_text_grammar.specs.Types as types;
+ghost use Rattle.ms_text_grammar.specs.Values as spec;
 ghost use Rattle.ms_read_cursor.specs.Reading.{Gives, Judges, run};
 
 use crate::numbers::number_by;
@@ -10,13 +10,13 @@ use crate::offsets::offset;
 use crate::operations::begins_expression;
 use crate::value_types::ValueType;
 use ms_bits::Boxed;
-use ms_grammar::{Outside, Refusal, Symbol};
 use ms_ir::{Form, Operand, Ty};
 use ms_read_cursor::{Lexeme, Tokens, global_by, local_by};
+use ms_text_grammar::{Cause, Outside, Symbol};
 use std::alloc::Global;
 
 /// The number that a token spells, behind an integer type of this width, which is one that a type may have.
-fn int_of(width: u8, token: &Lexeme<'_>) -> Result<Operand, Refusal>
+fn int_of(width: u8, token: &Lexeme<'_>) -> Result<Operand, Cause>
     ensures { Judges (spec.int_value (Some width) token.now) result }
 {
     if width >= 1 && width <= 64 {
@@ -27,7 +27,7 @@ fn int_of(width: u8, token: &Lexeme<'_>) -> Result<Operand, Refusal>
 }
 
 /// The number that a token spells, behind `iN` alone.
-fn int_value(ty: &Ty, token: &Lexeme<'_>) -> Result<Operand, Refusal>
+fn int_value(ty: &Ty, token: &Lexeme<'_>) -> Result<Operand, Cause>
     ensures { Judges (spec.int_value (types.int_width ty.now) token.now) result }
 {
     match ty {
@@ -37,7 +37,7 @@ fn int_value(ty: &Ty, token: &Lexeme<'_>) -> Result<Operand, Refusal>
 }
 
 /// `true` or `false`, behind `i1` alone.
-fn truth_value(ty: &Ty, bit: u64, token: &Lexeme<'_>) -> Result<Operand, Refusal>
+fn truth_value(ty: &Ty, bit: u64, token: &Lexeme<'_>) -> Result<Operand, Cause>
     ensures { Judges (spec.truth_value ty.now bit token.now) result }
 {
     match ty {
@@ -53,7 +53,7 @@ fn truth_value(ty: &Ty, bit: u64, token: &Lexeme<'_>) -> Result<Operand, Refusal
 }
 
 /// `null`, behind `ptr` alone.
-fn null_value(ty: &Ty, token: &Lexeme<'_>) -> Result<Operand, Refusal>
+fn null_value(ty: &Ty, token: &Lexeme<'_>) -> Result<Operand, Cause>
     ensures { Judges (spec.null_value ty.now token.now) result }
 {
     match ty {
@@ -68,7 +68,7 @@ fn local_value(
     form: Form,
     locals: bool,
     token: &Lexeme<'_>,
-) -> Result<Operand, Refusal>
+) -> Result<Operand, Cause>
     ensures { Judges (spec.local_value form locals token.now) result }
 {
     if locals {
@@ -79,12 +79,12 @@ fn local_value(
 }
 
 /// Why a token is no value.
-fn no_value(token: &Lexeme<'_>) -> Refusal
+fn no_value(token: &Lexeme<'_>) -> Cause
     ensures value { result ≡ spec.no_value token.now.symbol token.now }
-    ensures real { result ≢ Refusal.NoMemory }
+    ensures real { result ≢ Cause.NoMemory }
 {
     if begins_expression(token.symbol()) {
-        Refusal::Outside(Outside::ConstantExpression)
+        Cause::Outside(Outside::ConstantExpression)
     } else {
         token.refusal()
     }
@@ -101,7 +101,7 @@ pub fn simple_of(
     locals: bool,
     ty: &Ty,
     token: &Lexeme<'_>,
-) -> Result<Operand, Refusal>
+) -> Result<Operand, Cause>
     ensures { Judges (spec.simple_by form locals ty.now token.now.symbol token.now) result }
 {
     match token.symbol() {
@@ -117,14 +117,14 @@ pub fn simple_of(
     }
 }
 
-#[tactic(auto, unfolding(ms_grammar::specs::Values::simple_value))]
+#[tactic(auto, unfolding(ms_text_grammar::specs::Values::simple_value))]
 fn simple_value(
     alloc: Global,
     tokens: &mut Tokens<'_>,
     form: Form,
     locals: bool,
     ty: &Ty,
-) -> Result<Operand, Refusal>
+) -> Result<Operand, Cause>
     ensures { Gives (run (spec.simple_value form locals ty.now) tokens.old) result tokens.new }
 {
     let value = simple_of(alloc, form, locals, ty, &tokens.lexeme())?;
@@ -133,7 +133,7 @@ fn simple_value(
 }
 
 /// Takes a value of this type, below so many arrays and structs that may still open.
-#[tactic(auto, unfolding(ms_grammar::specs::Values::value_within))]
+#[tactic(auto, unfolding(ms_text_grammar::specs::Values::value_within))]
 pub fn value_within(
     alloc: Global,
     tokens: &mut Tokens<'_>,
@@ -141,7 +141,7 @@ pub fn value_within(
     depth: u8,
     locals: bool,
     ty: &Ty,
-) -> Result<Operand, Refusal>
+) -> Result<Operand, Cause>
     ensures { Gives (run (spec.value_within form depth locals ty.now) tokens.old) result tokens.new }
 {
     match tokens.peek() {
@@ -159,7 +159,7 @@ pub fn operand(
     tokens: &mut Tokens<'_>,
     form: Form,
     ty: &Ty,
-) -> Result<Operand, Refusal>
+) -> Result<Operand, Cause>
     ensures { Gives (run (spec.value form ty.now) tokens.old) result tokens.new }
 {
     value_within(alloc, tokens, form, 32, true, ty)
@@ -171,7 +171,7 @@ fn boxed_operand(
     tokens: &mut Tokens<'_>,
     form: Form,
     ty: &Ty,
-) -> Result<Boxed<Operand>, Refusal>
+) -> Result<Boxed<Operand>, Cause>
     ensures { Gives (run (spec.value form ty.now) tokens.old) result tokens.new }
 {
     let operand = operand(alloc, tokens, form, ty)?;
@@ -184,7 +184,7 @@ pub fn value(
     tokens: &mut Tokens<'_>,
     form: Form,
     ty: ValueType,
-) -> Result<Boxed<Operand>, Refusal>
+) -> Result<Boxed<Operand>, Cause>
     ensures { Gives (run (spec.value form ty) tokens.old) result tokens.new }
 {
     boxed_operand(alloc, tokens, form, &ty.ty())

@@ -8,7 +8,7 @@ use Rattle.ms_ir.specs.declared.syntax.Block.{Block}
 use Rattle.ms_ir.specs.declared.syntax.Func.{Func}
 use Rattle.ms_ir.specs.declared.syntax.Module.{Module}
 use Rattle.ms_ir.specs.declared.places.Place.{Place}
-use Rattle.ms_ir.specs.Code.{over_insts, over_blocks, over_funcs, one_unmarked}
+use Rattle.ms_ir.specs.Instructions.{over_insts, over_blocks, over_funcs, one_unmarked}
 use Rattle.ms_ir.specs.Places.{count_sites, IsPlaceOf}
 use Rattle.ms_ir.specs.Searches.{FoundInst, FoundBlock, FoundFunc}
 use Rattle.ms_ir.proofs.Counting.{stands, site_by_parts, insts_part, blocks_part, blocks_are, insts_are, found_place}

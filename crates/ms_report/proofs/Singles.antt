@@ -8,10 +8,10 @@ use Rattle.std.proofs.lemmas.Bool.{and_parts, ne_eqb}
 use Rattle.ms_bits.specs.declared.traps.Trap.{Trap}
 use Rattle.ms_bits.specs.declared.traps.Trap.TheVariants as trap
 use Rattle.ms_lex.specs.Tokens.{Text, is_name_byte}
-use Rattle.ms_grammar.specs.declared.refusals.Outside.{Outside}
-use Rattle.ms_grammar.specs.declared.refusals.Outside.TheVariants as outside
-use Rattle.ms_grammar.specs.declared.refusals.Limit.{Limit}
-use Rattle.ms_grammar.specs.declared.refusals.Limit.TheVariants as limit
+use Rattle.ms_text_grammar.specs.declared.refusals.Outside.{Outside}
+use Rattle.ms_text_grammar.specs.declared.refusals.Outside.TheVariants as outside
+use Rattle.ms_text_grammar.specs.declared.refusals.Limit.{Limit}
+use Rattle.ms_text_grammar.specs.declared.refusals.Limit.TheVariants as limit
 use Rattle.ms_read_body.specs.declared.errors.What.{What}
 use Rattle.ms_read_body.specs.declared.errors.What.TheVariants as what
 use Rattle.ms_ir.specs.declared.syntax.Name.{Name}
@@ -28,7 +28,7 @@ use Rattle.ms_runs.specs.declared.runs.Origin.{Origin}
 use Rattle.ms_runs.specs.declared.runs.Origin.TheVariants as origin
 use Rattle.ms_runs.specs.declared.runs.Report.{Report}
 use Rattle.ms_runs.specs.Verdict.{Verdict, Poisoned, Unsure, Clean}
-use Rattle.ms_written.specs.Names.{is_printed, hexadecimal_digit, string_byte, quoted, is_plain, name_text}
+use Rattle.ms_text_layout.specs.Names.{is_printed, hexadecimal_digit, string_byte, quoted, is_plain, name_text}
 use Rattle.ms_places.specs.Indented.{is_newline, has_no_newline}
 use Rattle.ms_report.specs.RunTexts.{trap_name, function_of, function_text, site_text, end_text, verdict_text}
 use Rattle.ms_report.specs.ReportTexts.{hexadecimal, kind_text, root_name, root_text, origin_text, use_text, bits_text}

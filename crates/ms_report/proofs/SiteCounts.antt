@@ -3,7 +3,7 @@ use Rattle.std.proofs.Common.{◌≡◌, ℕ, ◌+◌, ◌-◌, ◌^◌, ◌<◌
 use Rattle.std.specs.Prelude.{decimal, IfOk}
 use Rattle.ms_ir.specs.declared.syntax.Func.{Func}
 use Rattle.ms_ir.specs.declared.syntax.Module.{Module}
-use Rattle.ms_ir.specs.Code.{one_unmarked, over_funcs}
+use Rattle.ms_ir.specs.Instructions.{one_unmarked, over_funcs}
 use Rattle.ms_ir.specs.Places.{count_sites}
 use Rattle.ms_valid.specs.Formed.{Formed}
 use Rattle.ms_valid.proofs.SmallNumbers.{small_numbers}

@@ -2,7 +2,7 @@
 use Rattle.std.specs.Prelude.{ℕ, true, Option, Some, None, List, [], ◌++◌, flat_map, if◌then◌else◌, codes, decimal}
 use Rattle.ms_ir.specs.Locals.{Spelled}
 use Rattle.ms_valid.specs.Refusals.{Fault, Duplicate, Unknown, TypeMismatch, BadPhi, NoMain, BadExternal, Undefined, BadMark, BadSize}
-use Rattle.ms_written.specs.Names.{name_text}
+use Rattle.ms_text_layout.specs.Names.{name_text}
 
 -- the line of a refusal with a number
 abbrev pub refused_line : ℕ → List ℕ → List ℕ

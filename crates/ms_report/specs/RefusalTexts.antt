@@ -2,10 +2,10 @@
 use Rattle.std.specs.Prelude.{◌≡◌, ◌⊎◌, ℕ, Bool, true, false, is_some, is_none, List, [], ◌++◌, eqb, if◌then◌else◌, codes, decimal}
 use Rattle.ms_lex.specs.declared.errors.LexError.{LexError}
 use Rattle.ms_lex.specs.declared.errors.LexError.TheVariants as lex
-use Rattle.ms_grammar.specs.declared.refusals.Outside.{Outside}
-use Rattle.ms_grammar.specs.declared.refusals.Outside.TheVariants as outside
-use Rattle.ms_grammar.specs.declared.refusals.Limit.{Limit}
-use Rattle.ms_grammar.specs.declared.refusals.Limit.TheVariants as limit
+use Rattle.ms_text_grammar.specs.declared.refusals.Outside.{Outside}
+use Rattle.ms_text_grammar.specs.declared.refusals.Outside.TheVariants as outside
+use Rattle.ms_text_grammar.specs.declared.refusals.Limit.{Limit}
+use Rattle.ms_text_grammar.specs.declared.refusals.Limit.TheVariants as limit
 use Rattle.ms_read_body.specs.declared.errors.What.{What}
 use Rattle.ms_read_body.specs.declared.errors.What.TheVariants as what
 use Rattle.ms_read_body.specs.declared.errors.ReadError.{ReadError}

@@ -9,7 +9,7 @@ use Rattle.ms_moves.specs.declared.moves.Target.TheVariants as target
 use Rattle.ms_moves.specs.declared.moves.Move.{Move}
 use Rattle.ms_moves.specs.declared.moves.Hop.{Hop}
 use Rattle.ms_moves.specs.Leads.{came_from}
-use Rattle.ms_written.specs.Names.{name_text}
+use Rattle.ms_text_layout.specs.Names.{name_text}
 use Rattle.ms_report.specs.RunTexts.{function_of, function_text}
 use Rattle.ms_report.specs.ReportTexts.{hexadecimal}
 use Rattle.ms_report.specs.WithLines.{Lines}

@@ -82,7 +82,7 @@ fn name_of_verdict(r: &RunResult) -> &'static [u8]
 }
 
 /// Adds the line of a number with a name.
-fn push_count(text: &mut Vec<u8>, name: &[u8], count: u64) -> Result<(), NoMemory>
+pub(crate) fn push_count(text: &mut Vec<u8>, name: &[u8], count: u64) -> Result<(), NoMemory>
     ensures { IfOk result (λ _. text.new.items ≡ text.old.items ++ line name.now (decimal count)) }
 {
     text.extend_from_slice(name)?;

@@ -9,9 +9,9 @@ use crate::lines::begin_line;
 use crate::site_lines::{NoLines, SiteLines, push_under};
 use ms_bits::NoMemory;
 use ms_check::CheckError;
-use ms_grammar::{Limit, Outside};
 use ms_lex::LexError;
 use ms_read_body::{ReadError, What};
+use ms_text_grammar::{Limit, Outside};
 use ms_write_values::push_number;
 use std::alloc::Global;
 

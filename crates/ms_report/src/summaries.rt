@@ -6,7 +6,7 @@ ghost use Rattle.ms_report.specs.ReportTexts.{report_text_of};
 ghost use Rattle.ms_report.specs.RunTexts.{line, closing_of};
 ghost use Rattle.ms_report.specs.SummaryTexts.{summary_of};
 
-use crate::endings::closing;
+use crate::endings::{closing, push_count};
 use crate::reports::report_text;
 use ms_bits::NoMemory;
 use ms_ir::{Module, sites_of_funcs};
@@ -52,17 +52,6 @@ fn lines_of_size(alloc: Global, m: &Module, r: &RunResult) -> Result<Vec<u8>, No
     push_sites(&mut text, m)?;
     push_output(&mut text, r)?;
     Ok(text)
-}
-
-/// Adds the line of a number with a name.
-fn push_count(text: &mut Vec<u8>, name: &[u8], count: u64) -> Result<(), NoMemory>
-    ensures { IfOk result (λ _. text.new.items ≡ text.old.items ++ line name.now (decimal count)) }
-{
-    text.extend_from_slice(name)?;
-    text.extend_from_slice(b": ")?;
-    push_number(text, count)?;
-    text.push(b'\n')?;
-    Ok(())
 }
 
 /// Adds the line of a module's number of sites.

@@ -16,7 +16,8 @@ use Rattle.ms_ir.specs.declared.syntax.Name.TheVariants.{Number, Text}
 use Rattle.ms_ir.specs.declared.syntax.Operand.{Operand}
 use Rattle.ms_ir.specs.Equal.{has_name}
 use Rattle.ms_ir.specs.Names.{name_eq}
-use Rattle.ms_valid.proofs.NameTests.{name_same, name_sound}
+use Rattle.ms_ir.proofs.RootKinds.{name_same as name_sound}
+use Rattle.ms_valid.proofs.NameTests.{name_same}
 use Rattle.ms_tables.specs.FirstPlace.{first_place}
 use Rattle.ms_tables.proofs.Places.{place_tells}
 use Rattle.ms_rules.specs.Singles.{operands_in, are_zero, is_clean, clean_names}

@@ -5,7 +5,7 @@ use Rattle.std.proofs.lemmas.Option.{same_Some}
 use Rattle.ms_ir.specs.declared.syntax.Ty.{Ty, Ptr}
 use Rattle.ms_ir.specs.declared.syntax.Operand.{Operand}
 use Rattle.ms_ir.specs.declared.syntax.Operand.TheVariants as constant
-use Rattle.ms_ir.specs.Code.{one_undef, count_undefs}
+use Rattle.ms_ir.specs.Instructions.{one_undef, count_undefs}
 use Rattle.ms_tasks.specs.Environments.{Env, Tracked, tracked}
 use Rattle.ms_rules.specs.Tracking.{tracked_one, operand_at}
 use Rattle.ms_rules.proofs.RootCounts.{one_at_most}

@@ -8,13 +8,13 @@ use Rattle.ms_ir.specs.declared.syntax.Operand.{Operand}
 use Rattle.ms_ir.specs.declared.syntax.Operand.TheVariants as constant
 use Rattle.ms_ir.specs.Names.{name_eq}
 use Rattle.ms_ir.specs.Layout.{width_of}
-use Rattle.ms_ir.specs.Code.{one_undef}
+use Rattle.ms_ir.specs.Instructions.{one_undef}
 use Rattle.ms_tables.proofs.Items.{take_item}
 use Rattle.ms_tables.specs.FirstPlace.{first_place, at_place}
 use Rattle.ms_tasks.specs.Environments.{Env, tracked, origin_operand}
 use Rattle.ms_tasks.specs.PassLists.{mask_edges, origin_from, origins_by, origin_edges, phi_pair, phi_code}
-use Rattle.ms_rules_code.specs.Steps.{tracked_of, shadow_mask, shadow_origin}
-use Rattle.ms_rules_code.specs.declared.tracked.TrackedOperand.{TrackedOperand}
+use Rattle.ms_rules_builder.specs.Steps.{tracked_of, shadow_mask, shadow_origin}
+use Rattle.ms_rules_builder.specs.declared.tracked.TrackedOperand.{TrackedOperand}
 use Rattle.ms_rules.specs.declared.scopes.Scope.{Scope}
 use Rattle.ms_rules.specs.Scopes.{env_of, unclean_number}
 use Rattle.ms_rules.specs.Edges.{masks, origins, with_operands, first_operand, with_first, pair_of}
@@ -93,8 +93,3 @@ phis_are s v root n x t es ts named numbered are =
     (λ j. pair_of v t (masks_are (env_of s) t root ts es are j) (origins_are (env_of s) t root ts es are j))
     ∙ number_first {A = List Inst} (λ v. phi_pair (env_of s) v root t es) [] ((env_of s).clean x) ((env_of s).number x) (Some v) numbered
     ∙ ap (λ m. phi_code (env_of s) root m t es) (sym named)
-
--- none, where the result has no number
-pub no_phis : (s : Scope) (root : ℕ) (n : Option Name) (x : Name) (t : Ty) (es : List (Operand × Name)) → n ≡ Some x → None ≡ unclean_number (env_of s) x → [] ≡ phi_code (env_of s) root n t es
-no_phis s root n x t es named unnumbered =
-    number_first {A = List Inst} (λ v. phi_pair (env_of s) v root t es) [] ((env_of s).clean x) ((env_of s).number x) None unnumbered ∙ ap (λ m. phi_code (env_of s) root m t es) (sym named)

@@ -1,17 +1,18 @@
 -- How many roots stand behind operands, and how many an instruction has.
-use Rattle.std.proofs.Common.{◌≡◌, ◌<◌, ◌≤◌, ◌+◌, ◌^◌, ◌-◌, ℕ, suc, Bool, true, false, if◌then◌else◌, List, [], ◌∷◌, Option, length, refl, sym, ap, ◌∙◌, arith}
+use Rattle.std.proofs.Common.{◌≡◌, ◌<◌, ◌≤◌, ◌+◌, ◌^◌, ◌-◌, ℕ, Bool, true, false, if◌then◌else◌, Option, length, sym, ap, ◌∙◌, arith}
 use Rattle.std.proofs.lemmas.List.{length-map}
 use Rattle.ms_ir.specs.declared.syntax.Name.{Name}
-use Rattle.ms_ir.specs.declared.syntax.Ty.{Ty}
 use Rattle.ms_ir.specs.declared.syntax.Operand.{Operand}
 use Rattle.ms_ir.specs.declared.syntax.Operand.TheVariants as constant
 use Rattle.ms_ir.specs.declared.syntax.Op.{Op}
 use Rattle.ms_ir.specs.declared.syntax.Inst.{Inst}
-use Rattle.ms_ir.specs.Code.{operands, one_undef, count_undefs, is_root, roots_in}
-use Rattle.ms_tasks.specs.Environments.{Env, tracked}
-use Rattle.ms_rules_code.specs.Steps.{tracked_of}
+use Rattle.ms_ir.specs.Instructions.{operands, one_undef, count_undefs, is_root, roots_in}
+use Rattle.ms_tasks.specs.Environments.{Env}
+use Rattle.ms_rules_builder.specs.Steps.{tracked_of}
 use Rattle.ms_rules.specs.declared.tracked.Tracking.{Tracking}
 use Rattle.ms_rules.specs.Tracking.{IsTracked}
+use Rattle.ms_good_laws.proofs.Starting.{undefs_few}
+use Rattle.ms_instrumented_laws.proofs.CostSum.{tracked_many}
 
 -- ---- operands
 
@@ -19,15 +20,6 @@ pub one_at_most : (o : Operand) → one_undef o ≤ 1
 one_at_most constant.Undef = omega arith
 one_at_most constant.Poison = omega arith
 one_at_most o = omega arith
-
--- no more than operands are undefined
-pub undefs_few : (os : List (Ty × Operand)) → count_undefs os ≤ length os
-undefs_few [] = omega arith
-undefs_few (o ∷ os) = omega (arith, one_at_most o.1, undefs_few os)
-
-tracked_many : (env : Env) (root : ℕ) (os : List (Ty × Operand)) → length (tracked env root os) ≡ length os
-tracked_many env root [] = refl
-tracked_many env root (o ∷ os) = ap suc (tracked_many env (root + one_undef o.1) os)
 
 -- the operands are as many as those that are tracked
 pub all_tracked : (env : Env) (o : Op) (t : Tracking) → IsTracked env o t → length t.operands.items ≡ length (operands o)

@@ -13,11 +13,11 @@ use Rattle.ms_ir.specs.declared.syntax.Inst.{Inst}
 use Rattle.ms_ir.specs.declared.syntax.Func.{Func}
 use Rattle.ms_ir.specs.declared.syntax.Module.{Module}
 use Rattle.ms_ir.specs.declared.calls.External.{External}
-use Rattle.ms_ir.specs.Code.{external_named, func_at, is_phi, operands}
+use Rattle.ms_ir.specs.Instructions.{external_named, func_at, is_phi, operands}
 use Rattle.ms_ir.specs.Locals.{function_names, values}
 use Rattle.ms_ir.specs.Names.{name_eq, main_name}
 use Rattle.ms_runs.specs.World.{Here}
-use Rattle.ms_runs_good.proofs.Counted.{counted_within}
+use Rattle.ms_good_laws.proofs.Counted.{counted_within}
 use Rattle.ms_valid.specs.Formed.{Formed}
 use Rattle.ms_valid.specs.Uninstrumented.{CanInstrument}
 use Rattle.ms_valid.specs.Valid.{Valid}
@@ -27,14 +27,14 @@ use Rattle.ms_tasks.specs.Environments as environments
 use Rattle.ms_tasks.specs.Environments.{Given}
 use Rattle.ms_tasks.specs.Emit.{after_tasks, before_tasks, emit_tasks, start}
 use Rattle.ms_tasks.specs.PlaneTasks.{saved_by, saves}
-use Rattle.ms_tasks.specs.Tasks.{Code, tasks_code}
+use Rattle.ms_tasks.specs.Tasks.{InsertedCode, tasks_code}
 use Rattle.ms_tasks.specs.PassLists.{emit_lists, emit_op}
 use Rattle.ms_pass_laws.specs.Numbers.{values_at}
-use Rattle.ms_pass_valid.proofs.Costs.{written_append}
-use Rattle.ms_pass_valid.proofs.CostSum.{lists_cost}
-use Rattle.ms_pass_valid.proofs.PlainModules.{plain_module}
-use Rattle.ms_rules_code.specs.Called.{called_external}
-use Rattle.ms_rules_code.specs.Made.{with_tasks}
+use Rattle.ms_instrumented_laws.proofs.Costs.{written_append}
+use Rattle.ms_instrumented_laws.proofs.CostSum.{lists_cost}
+use Rattle.ms_instrumented_laws.proofs.PlainModules.{plain_module}
+use Rattle.ms_rules_builder.specs.Called.{called_external}
+use Rattle.ms_rules_builder.specs.Made.{with_tasks}
 use Rattle.ms_rules.specs.declared.singles.Env.{Env}
 use Rattle.ms_rules.specs.Around.{saved_for}
 use Rattle.ms_rules.specs.Singles.{env_in, env_named, given_in, here_in, is_clean, operands_in, StandsIn}
@@ -80,13 +80,13 @@ module _ (given : Given) (env : environments.Env) (h : Here) (i : Inst) (n : ℕ
       let same : (emit_tasks given env h i n).next ≡ (emit_lists given env h i n).next = ap (λ l. l.next) (plain_lists given env h i n plain) in
       omega (arith, grows, same, lists_low given env h i n)
 
-  pub behind_low : (made : Code) → made.next ≡ (emit_tasks given env h i n).next → made.next ≤ n + 200 + 55 * length (operands i.op)
+  pub behind_low : (made : InsertedCode) → made.next ≡ (emit_tasks given env h i n).next → made.next ≤ n + 200 + 55 * length (operands i.op)
   behind_low made is =
       let same : (emit_tasks given env h i n).next ≡ (emit_lists given env h i n).next = ap (λ l. l.next) (plain_lists given env h i n plain) in
       omega (arith, is, same, lists_low given env h i n)
 
   -- what is made before the instruction ends there
-  pub between_is : (saved : ℕ) (external : Option External) (first kept made : Code) → first ≡ record { code = []; next = n } → saved ≡ first.next
+  pub between_is : (saved : ℕ) (external : Option External) (first kept made : InsertedCode) → first ≡ record { code = []; next = n } → saved ≡ first.next
       → kept ≡ record { code = first.code; next = first.next + saved_for external } → called_external given.func i.op ≡ external → made ≡ with_tasks kept (before_tasks given env h i saved)
       → made.next ≡ between
   between_is saved external first kept made begun numbered kept_is called made_is =
@@ -95,7 +95,7 @@ module _ (given : Given) (env : environments.Env) (h : Here) (i : Inst) (n : ℕ
       (ap (λ c. c.next) kept_is ∙ ap₂ (λ a b. a + b) (ap (λ c. c.next) begun) (sym (saves_are given.func i.op ∙ ap saved_for called)))
 
   -- and what is made behind it begins there
-  pub behind_is : (saved from : ℕ) (first made : Code) → saved ≡ n → from ≡ between → first ≡ record { code = []; next = from } → made ≡ with_tasks first (after_tasks given env h i saved)
+  pub behind_is : (saved from : ℕ) (first made : InsertedCode) → saved ≡ n → from ≡ between → first ≡ record { code = []; next = from } → made ≡ with_tasks first (after_tasks given env h i saved)
       → made.next ≡ (emit_tasks given env h i n).next
   behind_is saved from first made saved_is from_is begun made_is =
       ap (λ c. c.next) made_is ∙ ap₂ (λ s k. (tasks_code (after_tasks given env h i s) k).next) saved_is (ap (λ c. c.next) begun ∙ from_is)

@@ -9,8 +9,8 @@ use Rattle.ms_ir.specs.declared.syntax.Operand.TheVariants as constant
 use Rattle.ms_tables.specs.FirstPlace.{first_place, at_place}
 use Rattle.ms_tasks.specs.Environments.{mask_type}
 use Rattle.ms_tasks.specs.Tasks.{inserted, mask_name, origin_name}
-use Rattle.ms_rules_code.specs.Steps.{shadow_mask, shadow_origin}
-use Rattle.ms_rules_code.specs.declared.tracked.TrackedOperand.{TrackedOperand}
+use Rattle.ms_rules_builder.specs.Steps.{shadow_mask, shadow_origin}
+use Rattle.ms_rules_builder.specs.declared.tracked.TrackedOperand.{TrackedOperand}
 
 -- the operands that hold masks
 abbrev pub masks : List TrackedOperand → List Operand

@@ -9,7 +9,7 @@ use Rattle.ms_ir.specs.declared.syntax.Op.{Op}
 use Rattle.ms_ir.specs.declared.syntax.Op.TheVariants as op
 use Rattle.ms_ir.specs.declared.syntax.Inst.{Inst}
 use Rattle.ms_ir.specs.declared.syntax.Module.{Module}
-use Rattle.ms_ir.specs.Code.{func_index, insts_at, operands, root_at, site_at}
+use Rattle.ms_ir.specs.Instructions.{func_index, insts_at, operands, root_at, site_at}
 use Rattle.ms_ir.specs.Names.{name_eq, main_name}
 use Rattle.ms_runs.specs.Control.{func_name}
 use Rattle.ms_runs.specs.World.{Here}

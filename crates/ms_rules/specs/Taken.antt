@@ -3,10 +3,10 @@ use Rattle.std.specs.Prelude.{◌≡◌, ◌≤◌, false, All}
 use Rattle.ms_ir.specs.declared.syntax.Inst.{Inst}
 use Rattle.ms_ir.specs.declared.syntax.Op.{Op}
 use Rattle.ms_ir.specs.declared.syntax.Op.TheVariants as op
-use Rattle.ms_ir.specs.Code.{operands}
+use Rattle.ms_ir.specs.Instructions.{operands}
 use Rattle.ms_ir.specs.Layout.{Types, width_of}
-use Rattle.ms_code_operands.specs.Sized.{IsSized}
-use Rattle.ms_rules_results.specs.Widths.{HasWidths}
+use Rattle.ms_compile_operands.specs.Sized.{IsSized}
+use Rattle.ms_rules_tables.specs.Widths.{HasWidths}
 
 -- the element of an `alloca` has a size
 abbrev pub IsSizedAlloca : Types → Op → Type 0

@@ -4,10 +4,10 @@ use Rattle.ms_ir.specs.declared.syntax.Op.{Op}
 use Rattle.ms_ir.specs.declared.syntax.Ty.{Ty, Ptr}
 use Rattle.ms_ir.specs.declared.syntax.Operand.{Operand}
 use Rattle.ms_ir.specs.declared.syntax.Operand.TheVariants as constant
-use Rattle.ms_ir.specs.Code.{count_undefs, operands}
+use Rattle.ms_ir.specs.Instructions.{count_undefs, operands}
 use Rattle.ms_ir.specs.Layout.{width_of}
 use Rattle.ms_tasks.specs.Environments.{Env, Tracked, mask_operand, origin_operand, tracked}
-use Rattle.ms_rules_code.specs.Steps.{tracked_of}
+use Rattle.ms_rules_builder.specs.Steps.{tracked_of}
 use Rattle.ms_rules.specs.declared.tracked.Tracking.{Tracking}
 
 -- an operand before which so many roots stand

@@ -3,22 +3,21 @@ ghost use Rattle.std.specs.Prelude.{◌≡◌, ◌≤◌, ◌^◌, length, map, 
 ghost use Rattle.ms_tasks.specs.Emit.{before_tasks};
 ghost use Rattle.ms_tasks.specs.ResultTasks.{result_tasks};
 ghost use Rattle.ms_tasks.specs.SlotTasks.{hand_tasks};
-ghost use Rattle.ms_rules_code.specs.Made.{with_tasks};
-ghost use Rattle.ms_rules_code.specs.Steps.{tracked_of};
-ghost use Rattle.ms_rules_results.specs.Widths.{HasWidths};
+ghost use Rattle.ms_rules_builder.specs.Made.{with_tasks};
+ghost use Rattle.ms_rules_builder.specs.Steps.{tracked_of};
+ghost use Rattle.ms_rules_tables.specs.Widths.{HasWidths};
 ghost use Rattle.ms_rules.specs.Around.{here_of};
 ghost use Rattle.ms_rules.specs.Callees.{IsCallee};
 ghost use Rattle.ms_rules.specs.Scopes.{env_of, given_of};
 ghost use Rattle.ms_rules.specs.Tracking.{IsTracked};
 
-use crate::callees::Callee;
+use crate::callees::CalleeKind;
 use crate::scopes::Scope;
 use crate::tracked::Tracking;
 use ms_bits::NoMemory;
 use ms_ir::{Inst, Op};
-use ms_rules_checks::{check, count_blind, save};
-use ms_rules_code::{Code, TrackedOperand};
-use ms_rules_results::define;
+use ms_rules_builder::{Builder, TrackedOperand};
+use ms_rules_tables::{check, count_blind, define, save};
 use ms_slots::{hand_arguments, hand_result};
 use std::alloc::Global;
 
@@ -26,19 +25,19 @@ use std::alloc::Global;
 #[tactic(auto, using(crate::proofs::Adding::none_with))]
 fn hand_over(
     alloc: Global,
-    code: &mut Code,
+    builder: &mut Builder,
     scope: &Scope<'_, '_>,
     op: &Op,
-    callee: Callee,
+    callee: CalleeKind,
     operands: &[TrackedOperand<'_>],
 ) -> Result<(), NoMemory>
     requires { IsCallee (given_of scope.now).func op.now callee }
-    ensures { OnOk result (code.new ≡ with_tasks code.old (hand_tasks (given_of scope.now).func scope.now.main op.now (map tracked_of operands.now))) }
+    ensures { OnOk result (builder.new ≡ with_tasks builder.old (hand_tasks (given_of scope.now).func scope.now.main op.now (map tracked_of operands.now))) }
 {
     match op {
         Op::Call { .. } => {
             if callee.own {
-                hand_arguments(alloc, code, operands)
+                hand_arguments(alloc, builder, operands)
             } else {
                 Ok(())
             }
@@ -47,7 +46,7 @@ fn hand_over(
             if scope.main {
                 Ok(())
             } else {
-                hand_result(alloc, code, operands)
+                hand_result(alloc, builder, operands)
             }
         }
         _ => Ok(()),
@@ -58,20 +57,20 @@ fn hand_over(
 #[tactic(auto, using(crate::proofs::Adding::none_with))]
 fn define_result(
     alloc: Global,
-    code: &mut Code,
+    builder: &mut Builder,
     scope: &Scope<'_, '_>,
     inst: &Inst,
-    callee: Callee,
+    callee: CalleeKind,
     operands: &[TrackedOperand<'_>],
 ) -> Result<(), NoMemory>
     requires few { length scope.now.values.now ≤ 2 ^ 30 }
     requires widths { HasWidths inst.now.op }
     requires callee { IsCallee (given_of scope.now).func inst.now.op callee }
-    ensures { OnOk result (code.new ≡ with_tasks code.old (result_tasks (given_of scope.now).func (env_of scope.now) inst.now.result inst.now.op (map tracked_of operands.now))) }
+    ensures { OnOk result (builder.new ≡ with_tasks builder.old (result_tasks (given_of scope.now).func (env_of scope.now) inst.now.result inst.now.op (map tracked_of operands.now))) }
 {
     match &inst.result {
         Some(name) => match scope.number(name) {
-            Some(value) => define(alloc, code, value, callee.own, &inst.op, operands),
+            Some(value) => define(alloc, builder, value, callee.own, &inst.op, operands),
             None => Ok(()),
         },
         None => Ok(()),
@@ -81,24 +80,31 @@ fn define_result(
 /// Adds what stands before an instruction that is no phi. `saved` is the number for what is saved.
 pub fn push_before(
     alloc: Global,
-    code: &mut Code,
+    builder: &mut Builder,
     scope: &Scope<'_, '_>,
     site: u32,
     saved: u64,
     inst: &Inst,
-    callee: Callee,
+    callee: CalleeKind,
     tracking: &Tracking<'_>,
 ) -> Result<(), NoMemory>
     requires few { length scope.now.values.now ≤ 2 ^ 30 }
     requires widths { HasWidths inst.now.op }
     requires callee { IsCallee (given_of scope.now).func inst.now.op callee }
     requires tracked { IsTracked (env_of scope.now) inst.now.op tracking.now }
-    ensures { OnOk result (code.new ≡ with_tasks code.old (before_tasks (given_of scope.now) (env_of scope.now) (here_of scope.now site tracking.now) inst.now saved)) }
+    ensures { OnOk result (builder.new ≡ with_tasks builder.old (before_tasks (given_of scope.now) (env_of scope.now) (here_of scope.now site tracking.now) inst.now saved)) }
 {
     let operands = tracking.operands.as_slice();
-    hand_over(alloc, code, scope, &inst.op, callee, operands)?;
-    check(code, site, scope.main, callee.external, &inst.op, operands)?;
-    count_blind(alloc, code, callee.external, &inst.op, operands)?;
-    define_result(alloc, code, scope, inst, callee, operands)?;
-    save(alloc, code, saved, callee.external, &inst.op, operands)
+    hand_over(alloc, builder, scope, &inst.op, callee, operands)?;
+    check(
+        builder,
+        site,
+        scope.main,
+        callee.external,
+        &inst.op,
+        operands,
+    )?;
+    count_blind(alloc, builder, callee.external, &inst.op, operands)?;
+    define_result(alloc, builder, scope, inst, callee, operands)?;
+    save(alloc, builder, saved, callee.external, &inst.op, operands)
 }

@@ -2,22 +2,22 @@
 ghost use Rattle.std.specs.Prelude.{◌≡◌, ◌<◌, ◌≤◌, ◌^◌, length, OnOk};
 ghost use Rattle.ms_tasks.specs.Emit.{after_tasks};
 ghost use Rattle.ms_tasks.specs.SlotTasks.{result_mask_slot, result_origin_slot, take_value};
-ghost use Rattle.ms_rules_checks.specs.Sizes.{element_size};
-ghost use Rattle.ms_rules_code.specs.Made.{with_tasks};
+ghost use Rattle.ms_rules_tables.specs.Sizes.{element_size};
+ghost use Rattle.ms_rules_builder.specs.Made.{with_tasks};
 ghost use Rattle.ms_rules.specs.Around.{here_of, taken_by};
 ghost use Rattle.ms_rules.specs.Callees.{IsCallee};
 ghost use Rattle.ms_rules.specs.Scopes.{env_of, given_of};
 ghost use Rattle.ms_rules.specs.Taken.{IsSizedAlloca};
 ghost use Rattle.ms_rules.specs.Tracking.{IsTracked};
 
-use crate::callees::Callee;
+use crate::callees::CalleeKind;
 use crate::scopes::Scope;
 use crate::tracked::Tracking;
 use ms_bits::NoMemory;
-use ms_code_operands::size;
+use ms_compile_operands::size;
 use ms_ir::{Inst, Name, Op, Ty};
-use ms_rules_checks::set_planes;
-use ms_rules_code::Code;
+use ms_rules_builder::Builder;
+use ms_rules_tables::set_planes;
 use ms_slots::fetch_result;
 use std::alloc::Global;
 
@@ -36,16 +36,16 @@ fn element_size(scope: &Scope<'_, '_>, op: &Op) -> u64
 #[tactic(auto, using(crate::proofs::Adding::none_with))]
 fn take_over(
     alloc: Global,
-    code: &mut Code,
+    builder: &mut Builder,
     scope: &Scope<'_, '_>,
     name: &Name,
     ty: &Ty,
 ) -> Result<(), NoMemory>
     requires { length scope.now.values.now ≤ 2 ^ 30 }
-    ensures { OnOk result (code.new ≡ with_tasks code.old (take_value (env_of scope.now) result_mask_slot result_origin_slot name.now ty.now)) }
+    ensures { OnOk result (builder.new ≡ with_tasks builder.old (take_value (env_of scope.now) result_mask_slot result_origin_slot name.now ty.now)) }
 {
     match scope.number(name) {
-        Some(value) => fetch_result(alloc, code, value, ty),
+        Some(value) => fetch_result(alloc, builder, value, ty),
         None => Ok(()),
     }
 }
@@ -54,16 +54,16 @@ fn take_over(
 #[tactic(auto, using(crate::proofs::Adding::none_with))]
 fn take_result(
     alloc: Global,
-    code: &mut Code,
+    builder: &mut Builder,
     scope: &Scope<'_, '_>,
     name: &Option<Name>,
     op: &Op,
 ) -> Result<(), NoMemory>
     requires { length scope.now.values.now ≤ 2 ^ 30 }
-    ensures { OnOk result (code.new ≡ with_tasks code.old (taken_by (env_of scope.now) name.now op.now)) }
+    ensures { OnOk result (builder.new ≡ with_tasks builder.old (taken_by (env_of scope.now) name.now op.now)) }
 {
     match (name, op) {
-        (Some(name), Op::Call { ret: Some(ty), .. }) => take_over(alloc, code, scope, name, ty),
+        (Some(name), Op::Call { ret: Some(ty), .. }) => take_over(alloc, builder, scope, name, ty),
         _ => Ok(()),
     }
 }
@@ -71,12 +71,12 @@ fn take_result(
 /// Adds what stands behind an instruction that is no phi. `saved` is the number of what was saved before it.
 pub fn push_behind(
     alloc: Global,
-    code: &mut Code,
+    builder: &mut Builder,
     scope: &Scope<'_, '_>,
     site: u32,
     saved: u64,
     inst: &Inst,
-    callee: Callee,
+    callee: CalleeKind,
     tracking: &Tracking<'_>,
 ) -> Result<(), NoMemory>
     requires few { length scope.now.values.now ≤ 2 ^ 30 }
@@ -84,13 +84,13 @@ pub fn push_behind(
     requires callee { IsCallee (given_of scope.now).func inst.now.op callee }
     requires tracked { IsTracked (env_of scope.now) inst.now.op tracking.now }
     requires roots { tracking.now.before < 2 ^ 40 }
-    ensures { OnOk result (code.new ≡ with_tasks code.old (after_tasks (given_of scope.now) (env_of scope.now) (here_of scope.now site tracking.now) inst.now saved)) }
+    ensures { OnOk result (builder.new ≡ with_tasks builder.old (after_tasks (given_of scope.now) (env_of scope.now) (here_of scope.now site tracking.now) inst.now saved)) }
 {
     if callee.own {
-        take_result(alloc, code, scope, &inst.result, &inst.op)
+        take_result(alloc, builder, scope, &inst.result, &inst.op)
     } else {
         set_planes(
-            code,
+            builder,
             site,
             tracking.behind + 1,
             saved,

@@ -1,6 +1,6 @@
 //! What operations call.
 ghost use Rattle.std.specs.Prelude.{◌≡◌, is_some, true, if◌then◌else◌};
-ghost use Rattle.ms_ir.specs.Code.{external_named, is_root, makes_unset};
+ghost use Rattle.ms_ir.specs.Instructions.{external_named, is_root, makes_unset};
 ghost use Rattle.ms_rules.specs.Callees.{IsCallee};
 ghost use Rattle.ms_tables.specs.FirstPlace.{first_place};
 
@@ -9,22 +9,22 @@ use ms_tables::NameTable;
 
 /// What an operation calls: a function of the module, an external, or nothing.
 #[derive(Clone, Copy)]
-pub struct Callee {
+pub struct CalleeKind {
     pub own: bool,
     pub external: Option<External>,
 }
 
 /// What a call of a name goes to, in a module with these functions.
-fn named_callee(functions: &NameTable<'_>, name: &Name) -> Callee
+fn named_callee(functions: &NameTable<'_>, name: &Name) -> CalleeKind
     ensures own { is_some (first_place functions.now name.now) ≡ result.own }
     ensures external { external_named (first_place functions.now) name.now ≡ result.external }
 {
     match functions.place(name) {
-        Some(_) => Callee {
+        Some(_) => CalleeKind {
             own: true,
             external: None,
         },
-        None => Callee {
+        None => CalleeKind {
             own: false,
             external: External::named(name),
         },
@@ -32,12 +32,12 @@ fn named_callee(functions: &NameTable<'_>, name: &Name) -> Callee
 }
 
 /// What an operation calls, in a module with these functions.
-pub fn callee_of(functions: &NameTable<'_>, op: &Op) -> Callee
+pub fn callee_of(functions: &NameTable<'_>, op: &Op) -> CalleeKind
     ensures { IsCallee (first_place functions.now) op.now result }
 {
     match op {
         Op::Call { callee, .. } => named_callee(functions, callee),
-        _ => Callee {
+        _ => CalleeKind {
             own: false,
             external: None,
         },
@@ -57,7 +57,7 @@ fn makes_unset(external: Option<External>) -> bool
 }
 
 /// How many roots an operation is itself.
-pub fn own_roots(functions: &NameTable<'_>, callee: Callee, op: &Op) -> u64
+pub fn own_roots(functions: &NameTable<'_>, callee: CalleeKind, op: &Op) -> u64
     requires { IsCallee (first_place functions.now) op.now callee }
     ensures { result ≡ if is_root (first_place functions.now) op.now then 1 else 0 }
 {

@@ -4,13 +4,13 @@ ghost use Rattle.ms_rules.specs.Placed.{with_one};
 
 use ms_bits::{Duplicate, NoMemory};
 use ms_ir::Inst;
-use ms_rules_code::Code;
+use ms_rules_builder::Builder;
 use std::alloc::Global;
 
 /// Adds a copy of an instruction.
-pub fn push_copy(alloc: Global, code: &mut Code, inst: &Inst) -> Result<(), NoMemory>
-    ensures { OnOk result (code.new ≡ with_one code.old inst.now) }
+pub fn push_copy(alloc: Global, builder: &mut Builder, inst: &Inst) -> Result<(), NoMemory>
+    ensures { OnOk result (builder.new ≡ with_one builder.old inst.now) }
 {
     let copy = inst.copy(alloc)?;
-    code.push(copy)
+    builder.push(copy)
 }

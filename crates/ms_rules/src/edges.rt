@@ -1,11 +1,11 @@
 //! The edges of the phis of masks and origins.
 ghost use Rattle.std.specs.Prelude.{◌≡◌, ◌++◌, [], ◌∷◌, length, map, IfOk, OnOk};
-ghost use Rattle.ms_rules_code.specs.Steps.{shadow_mask, shadow_origin};
+ghost use Rattle.ms_rules_builder.specs.Steps.{shadow_mask, shadow_origin};
 ghost use Rattle.ms_rules.specs.Edges.{masks, origins, with_operands, first_operand, with_first};
 
 use ms_bits::{Duplicate, List, NoMemory};
 use ms_ir::{Name, Operand};
-use ms_rules_code::{Shadow, TrackedOperand, mask_name, origin_name};
+use ms_rules_builder::{Shadow, TrackedOperand, mask_name, origin_name};
 use ms_tables::NameTable;
 use std::alloc::Global;
 

@@ -1,7 +1,7 @@
 //! The lists round one instruction.
 ghost use Rattle.std.specs.Prelude.{◌≡◌, ◌+◌, ◌<◌, ◌≤◌, ◌^◌, false, All, length, IfOk, OnOk};
-ghost use Rattle.ms_ir.specs.Code.{is_phi, operands, roots_in};
-ghost use Rattle.ms_rules_results.specs.Widths.{HasWidths};
+ghost use Rattle.ms_ir.specs.Instructions.{is_phi, operands, roots_in};
+ghost use Rattle.ms_rules_tables.specs.Widths.{HasWidths};
 ghost use Rattle.ms_rules.specs.Around.{here_of, saved_for};
 ghost use Rattle.ms_rules.specs.Callees.{IsCallee};
 ghost use Rattle.ms_rules.specs.Placed.{with_inst};
@@ -11,36 +11,36 @@ ghost use Rattle.ms_rules.specs.Tracking.{IsTracked};
 
 use crate::before::push_before;
 use crate::behind::push_behind;
-use crate::callees::{Callee, callee_of, own_roots};
+use crate::callees::{CalleeKind, callee_of, own_roots};
 use crate::copies::push_copy;
 use crate::phis::push_phi;
 use crate::scopes::Scope;
 use crate::tracked::{Tracking, track};
 use ms_bits::NoMemory;
 use ms_ir::{External, Inst, Op};
-use ms_rules_code::Code;
+use ms_rules_builder::Builder;
 use std::alloc::Global;
 
 /// The next number, which is kept where something is saved under it.
-pub fn number_to_save(code: &mut Code, external: Option<External>) -> u64
-    requires { code.old.next < 2 ^ 40 }
-    ensures number { result ≡ code.old.next }
-    ensures code { code.new ≡ record { code = code.old.code; next = code.old.next + saved_for external } }
+pub fn number_to_save(builder: &mut Builder, external: Option<External>) -> u64
+    requires { builder.old.next < 2 ^ 40 }
+    ensures number { result ≡ builder.old.next }
+    ensures code { builder.new ≡ record { code = builder.old.code; next = builder.old.next + saved_for external } }
 {
     match external {
-        Some(External::Realloc) => code.reserve(),
-        _ => code.next(),
+        Some(External::Realloc) => builder.reserve(),
+        _ => builder.next(),
     }
 }
 
 /// Adds an instruction that is no phi between its lists.
 fn push_around(
     alloc: Global,
-    code: &mut Code,
+    builder: &mut Builder,
     scope: &Scope<'_, '_>,
     site: u32,
     inst: &Inst,
-    callee: Callee,
+    callee: CalleeKind,
     tracking: &Tracking<'_>,
 ) -> Result<(), NoMemory>
     requires few { length scope.now.values.now ≤ 2 ^ 30 }
@@ -49,19 +49,19 @@ fn push_around(
     requires callee { IsCallee (given_of scope.now).func inst.now.op callee }
     requires tracked { IsTracked (env_of scope.now) inst.now.op tracking.now }
     requires roots { tracking.now.before < 2 ^ 40 }
-    requires room { code.old.next < 2 ^ 40 }
-    ensures { OnOk result (code.new ≡ with_inst (given_of scope.now) (env_of scope.now) (here_of scope.now site tracking.now) inst.now code.old) }
+    requires room { builder.old.next < 2 ^ 40 }
+    ensures { OnOk result (builder.new ≡ with_inst (given_of scope.now) (env_of scope.now) (here_of scope.now site tracking.now) inst.now builder.old) }
 {
-    let saved = number_to_save(code, callee.external);
-    push_before(alloc, code, scope, site, saved, inst, callee, tracking)?;
-    push_copy(alloc, code, inst)?;
-    push_behind(alloc, code, scope, site, saved, inst, callee, tracking)
+    let saved = number_to_save(builder, callee.external);
+    push_before(alloc, builder, scope, site, saved, inst, callee, tracking)?;
+    push_copy(alloc, builder, inst)?;
+    push_behind(alloc, builder, scope, site, saved, inst, callee, tracking)
 }
 
 /// Adds an instruction that is no phi between its lists. Answers how many roots it has.
 fn push_plain(
     alloc: Global,
-    code: &mut Code,
+    builder: &mut Builder,
     scope: &Scope<'_, '_>,
     site: u32,
     root: u64,
@@ -71,13 +71,13 @@ fn push_plain(
     requires taken { IsTaken (given_of scope.now).types inst.now }
     requires plain { is_phi inst.now.op ≡ false }
     requires roots { root < 2 ^ 40 }
-    requires room { code.old.next < 2 ^ 40 }
-    ensures code { OnOk result (code.new ≡ with_inst (given_of scope.now) (env_of scope.now) (record { site = site; root = root; main = scope.now.main }) inst.now code.old) }
+    requires room { builder.old.next < 2 ^ 40 }
+    ensures code { OnOk result (builder.new ≡ with_inst (given_of scope.now) (env_of scope.now) (record { site = site; root = root; main = scope.now.main }) inst.now builder.old) }
     ensures roots { IfOk result (λ n. n ≡ roots_in (given_of scope.now).func inst.now) }
 {
     let callee = callee_of(scope.functions, &inst.op);
     let tracking = track(alloc, scope, root, &inst.op)?;
-    push_around(alloc, code, scope, site, inst, callee, &tracking)?;
+    push_around(alloc, builder, scope, site, inst, callee, &tracking)?;
     Ok(tracking.behind - tracking.before + own_roots(scope.functions, callee, &inst.op))
 }
 
@@ -86,7 +86,7 @@ fn push_plain(
 /// uninitialised bytes. The one error is want of memory.
 pub fn push_inst(
     alloc: Global,
-    code: &mut Code,
+    builder: &mut Builder,
     scope: &Scope<'_, '_>,
     site: u32,
     root: u64,
@@ -95,13 +95,13 @@ pub fn push_inst(
     requires few { length scope.now.values.now ≤ 2 ^ 30 }
     requires taken { IsTaken (given_of scope.now).types inst.now }
     requires roots { root < 2 ^ 40 }
-    requires room { code.old.next < 2 ^ 40 }
-    ensures code { OnOk result (code.new ≡ with_inst (given_of scope.now) (env_of scope.now) (record { site = site; root = root; main = scope.now.main }) inst.now code.old) }
+    requires room { builder.old.next < 2 ^ 40 }
+    ensures code { OnOk result (builder.new ≡ with_inst (given_of scope.now) (env_of scope.now) (record { site = site; root = root; main = scope.now.main }) inst.now builder.old) }
     ensures roots { IfOk result (λ n. n ≡ roots_in (given_of scope.now).func inst.now) }
     ensures few { IfOk result (λ n. n ≤ length (operands inst.now.op) + 1) }
 {
     match &inst.op {
-        Op::Phi { ty, edges } => push_phi(alloc, code, scope, root, inst, ty, edges.as_slice()),
-        _ => push_plain(alloc, code, scope, site, root, inst),
+        Op::Phi { ty, edges } => push_phi(alloc, builder, scope, root, inst, ty, edges.as_slice()),
+        _ => push_plain(alloc, builder, scope, site, root, inst),
     }
 }

@@ -1,13 +1,13 @@
 //! What a function does first.
 ghost use Rattle.std.specs.Prelude.{◌≡◌, ◌≤◌, ◌^◌, length, OnOk};
 ghost use Rattle.ms_tasks.specs.SlotTasks.{param_mask, param_origin, take_value, take_parameters};
-ghost use Rattle.ms_rules_code.specs.Made.{with_tasks};
+ghost use Rattle.ms_rules_builder.specs.Made.{with_tasks};
 ghost use Rattle.ms_rules.specs.Scopes.{env_of};
 
 use crate::scopes::Scope;
 use ms_bits::NoMemory;
 use ms_ir::{Name, Ty};
-use ms_rules_code::Code;
+use ms_rules_builder::Builder;
 use ms_slots::fetch_parameter;
 use std::alloc::Global;
 
@@ -15,16 +15,16 @@ use std::alloc::Global;
 #[tactic(auto, using(crate::proofs::Adding::none_with))]
 fn push_parameter(
     alloc: Global,
-    code: &mut Code,
+    builder: &mut Builder,
     scope: &Scope<'_, '_>,
     place: usize,
     param: &(Ty, Name),
 ) -> Result<(), NoMemory>
     requires few { length scope.now.values.now ≤ 2 ^ 30 }
-    ensures { OnOk result (code.new ≡ with_tasks code.old (take_value (env_of scope.now) (param_mask place) (param_origin place) param.now.1 param.now.0)) }
+    ensures { OnOk result (builder.new ≡ with_tasks builder.old (take_value (env_of scope.now) (param_mask place) (param_origin place) param.now.1 param.now.0)) }
 {
     match scope.number(&param.1) {
-        Some(value) => fetch_parameter(alloc, code, place as u64, value, &param.0),
+        Some(value) => fetch_parameter(alloc, builder, place as u64, value, &param.0),
         None => Ok(()),
     }
 }
@@ -32,15 +32,15 @@ fn push_parameter(
 /// Adds what takes over the masks and origins of parameters. The one error is want of memory.
 pub fn push_parameters(
     alloc: Global,
-    code: &mut Code,
+    builder: &mut Builder,
     scope: &Scope<'_, '_>,
     params: &[(Ty, Name)],
 ) -> Result<(), NoMemory>
     requires few { length scope.now.values.now ≤ 2 ^ 30 }
-    ensures { OnOk result (code.new ≡ with_tasks code.old (take_parameters (env_of scope.now) 0 params.now)) }
+    ensures { OnOk result (builder.new ≡ with_tasks builder.old (take_parameters (env_of scope.now) 0 params.now)) }
 {
     for (place, param) in params.iter().enumerate() {
-        push_parameter(alloc, code, scope, place, param)?;
+        push_parameter(alloc, builder, scope, place, param)?;
     }
     Ok(())
 }

@@ -1,7 +1,7 @@
 //! Phis, which the phis of their masks and origins follow.
 ghost use Rattle.std.specs.Prelude.{◌≡◌, ◌<◌, ◌≤◌, ◌^◌, [], ◌∷◌, Some, All, length, map, IfOk, OnOk};
 ghost use Rattle.ms_ir.specs.declared.syntax.Ty.{Int};
-ghost use Rattle.ms_ir.specs.Code.{count_undefs, operands};
+ghost use Rattle.ms_ir.specs.Instructions.{count_undefs, operands};
 ghost use Rattle.ms_ir.specs.Layout.{width_of};
 ghost use Rattle.ms_tasks.specs.Tasks.{inserted, mask_name, origin_name};
 ghost use Rattle.ms_tasks.specs.Environments.{mask_type};
@@ -16,20 +16,20 @@ use crate::edges::{mask_edges, origin_edges};
 use crate::scopes::Scope;
 use crate::tracked::{Tracking, track};
 use ms_bits::{List, NoMemory};
-use ms_ir::{Inst, Name, Op, Operand, Ty};
-use ms_rules_code::{Code, TrackedOperand, mask_name, origin_name, width_of};
+use ms_ir::{Inst, Name, Op, Operand, Ty, width_of};
+use ms_rules_builder::{Builder, TrackedOperand, mask_name, origin_name};
 use std::alloc::Global;
 
 /// Adds an inserted phi of integers of a width.
 fn put_phi(
-    code: &mut Code,
+    builder: &mut Builder,
     name: Name,
     width: u8,
     edges: List<(Operand, Name)>,
 ) -> Result<(), NoMemory>
-    ensures { OnOk result (code.new ≡ with_insts code.old (inserted (Some name) (Op.Phi (Int width) edges) ∷ [])) }
+    ensures { OnOk result (builder.new ≡ with_insts builder.old (inserted (Some name) (Op.Phi (Int width) edges) ∷ [])) }
 {
-    code.put(
+    builder.put(
         Some(name),
         Op::Phi {
             ty: Ty::Int(width),
@@ -41,55 +41,55 @@ fn put_phi(
 /// Adds the phi of the mask of the value with a number.
 fn put_mask(
     alloc: Global,
-    code: &mut Code,
+    builder: &mut Builder,
     value: u32,
     ty: &Ty,
     edges: &[(Operand, Name)],
     operands: &[TrackedOperand<'_>],
 ) -> Result<(), NoMemory>
     requires { length operands.now ≡ length edges.now }
-    ensures { OnOk result (code.new ≡ with_insts code.old (inserted (Some (mask_name value)) (Op.Phi (mask_type ty.now) (with_operands (masks operands.now) edges.now)) ∷ [])) }
+    ensures { OnOk result (builder.new ≡ with_insts builder.old (inserted (Some (mask_name value)) (Op.Phi (mask_type ty.now) (with_operands (masks operands.now) edges.now)) ∷ [])) }
 {
     let name = mask_name(alloc, value as u64)?;
     let edges = mask_edges(alloc, operands, edges)?;
-    put_phi(code, name, width_of(ty), edges)
+    put_phi(builder, name, width_of(ty), edges)
 }
 
 /// Adds the phi of the origin of the value with a number.
 fn put_origin(
     alloc: Global,
-    code: &mut Code,
+    builder: &mut Builder,
     value: u32,
     edges: &[(Operand, Name)],
     operands: &[TrackedOperand<'_>],
 ) -> Result<(), NoMemory>
-    ensures { OnOk result (code.new ≡ with_insts code.old (inserted (Some (origin_name value)) (Op.Phi (Int 32) (with_first (origins operands.now) (map (λ e. e.1) edges.now) edges.now)) ∷ [])) }
+    ensures { OnOk result (builder.new ≡ with_insts builder.old (inserted (Some (origin_name value)) (Op.Phi (Int 32) (with_first (origins operands.now) (map (λ e. e.1) edges.now) edges.now)) ∷ [])) }
 {
     let name = origin_name(alloc, value as u64)?;
     let edges = origin_edges(alloc, operands, edges)?;
-    put_phi(code, name, 32, edges)
+    put_phi(builder, name, 32, edges)
 }
 
 /// Adds the phis of the mask and the origin of the value with a number.
 fn put_pair(
     alloc: Global,
-    code: &mut Code,
+    builder: &mut Builder,
     value: u32,
     ty: &Ty,
     edges: &[(Operand, Name)],
     operands: &[TrackedOperand<'_>],
 ) -> Result<(), NoMemory>
     requires { length operands.now ≡ length edges.now }
-    ensures { OnOk result (code.new ≡ with_insts code.old (pair_of value ty.now (with_operands (masks operands.now) edges.now) (with_first (origins operands.now) (map (λ e. e.1) edges.now) edges.now))) }
+    ensures { OnOk result (builder.new ≡ with_insts builder.old (pair_of value ty.now (with_operands (masks operands.now) edges.now) (with_first (origins operands.now) (map (λ e. e.1) edges.now) edges.now))) }
 {
-    put_mask(alloc, code, value, ty, edges, operands)?;
-    put_origin(alloc, code, value, edges, operands)
+    put_mask(alloc, builder, value, ty, edges, operands)?;
+    put_origin(alloc, builder, value, edges, operands)
 }
 
 /// Adds the phis of the mask and the origin of a phi, where its result has a number.
 fn push_pair(
     alloc: Global,
-    code: &mut Code,
+    builder: &mut Builder,
     scope: &Scope<'_, '_>,
     name: &Option<Name>,
     ty: &Ty,
@@ -98,11 +98,11 @@ fn push_pair(
 ) -> Result<(), NoMemory>
     requires few { length scope.now.values.now ≤ 2 ^ 30 }
     requires tracked { IsTracked (env_of scope.now) (Op.Phi ty.now edges.now) tracking.now }
-    ensures { OnOk result (code.new ≡ with_insts code.old (phi_code (env_of scope.now) tracking.now.before name.now ty.now edges.now)) }
+    ensures { OnOk result (builder.new ≡ with_insts builder.old (phi_code (env_of scope.now) tracking.now.before name.now ty.now edges.now)) }
 {
     match name {
         Some(name) => match scope.number(name) {
-            Some(value) => put_pair(alloc, code, value, ty, edges, &tracking.operands),
+            Some(value) => put_pair(alloc, builder, value, ty, edges, &tracking.operands),
             None => Ok(()),
         },
         None => Ok(()),
@@ -112,7 +112,7 @@ fn push_pair(
 /// Adds what stands behind a phi: the phis of its mask and its origin. Answers how many of its operands are undefined.
 pub fn push_behind_phi(
     alloc: Global,
-    code: &mut Code,
+    builder: &mut Builder,
     scope: &Scope<'_, '_>,
     root: u64,
     inst: &Inst,
@@ -123,18 +123,18 @@ pub fn push_behind_phi(
     requires narrow { All (λ o. width_of o.0 ≤ 64) (operands inst.now.op) }
     requires roots { root < 2 ^ 40 }
     requires phi { inst.now.op ≡ Op.Phi ty.now edges.now }
-    ensures code { OnOk result (code.new ≡ with_insts code.old (phi_code (env_of scope.now) root inst.now.result ty.now edges.now)) }
+    ensures code { OnOk result (builder.new ≡ with_insts builder.old (phi_code (env_of scope.now) root inst.now.result ty.now edges.now)) }
     ensures roots { IfOk result (λ n. n ≡ count_undefs (operands inst.now.op)) }
 {
     let tracking = track(alloc, scope, root, &inst.op)?;
-    push_pair(alloc, code, scope, &inst.result, ty, edges, &tracking)?;
+    push_pair(alloc, builder, scope, &inst.result, ty, edges, &tracking)?;
     Ok(tracking.behind - tracking.before)
 }
 
 /// Adds a phi, and the phis of its mask and its origin. Answers how many of its operands are undefined.
 pub fn push_phi(
     alloc: Global,
-    code: &mut Code,
+    builder: &mut Builder,
     scope: &Scope<'_, '_>,
     root: u64,
     inst: &Inst,
@@ -145,9 +145,9 @@ pub fn push_phi(
     requires narrow { All (λ o. width_of o.0 ≤ 64) (operands inst.now.op) }
     requires roots { root < 2 ^ 40 }
     requires phi { inst.now.op ≡ Op.Phi ty.now edges.now }
-    ensures code { OnOk result (code.new ≡ with_insts code.old (inst.now ∷ phi_code (env_of scope.now) root inst.now.result ty.now edges.now)) }
+    ensures code { OnOk result (builder.new ≡ with_insts builder.old (inst.now ∷ phi_code (env_of scope.now) root inst.now.result ty.now edges.now)) }
     ensures roots { IfOk result (λ n. n ≡ count_undefs (operands inst.now.op)) }
 {
-    push_copy(alloc, code, inst)?;
-    push_behind_phi(alloc, code, scope, root, inst, ty, edges)
+    push_copy(alloc, builder, inst)?;
+    push_behind_phi(alloc, builder, scope, root, inst, ty, edges)
 }

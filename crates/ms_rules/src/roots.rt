@@ -1,6 +1,6 @@
 //! How many roots an instruction has.
 ghost use Rattle.std.specs.Prelude.{◌≡◌, ◌+◌, ◌<◌, ◌≤◌, ◌^◌, length};
-ghost use Rattle.ms_ir.specs.Code.{count_undefs, one_undef, operands, roots_in};
+ghost use Rattle.ms_ir.specs.Instructions.{count_undefs, one_undef, operands, roots_in};
 ghost use Rattle.ms_rules.specs.Tracking.{operand_at};
 ghost use Rattle.ms_tables.specs.FirstPlace.{first_place};
 

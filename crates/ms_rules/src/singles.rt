@@ -1,6 +1,6 @@
 //! The lists round a single instruction.
 ghost use Rattle.std.specs.Prelude.{◌≡◌, ◌+◌, ◌*◌, ◌<◌, ◌≤◌, ◌^◌, false, length, IfOk};
-ghost use Rattle.ms_ir.specs.Code.{is_phi, operands};
+ghost use Rattle.ms_ir.specs.Instructions.{is_phi, operands};
 ghost use Rattle.ms_ir.specs.Names.{name_eq, main_name};
 ghost use Rattle.ms_tables.specs.FirstPlace.{first_place};
 ghost use Rattle.ms_tasks.specs.PassLists.{emit_lists};
@@ -18,7 +18,7 @@ ghost use Rattle.ms_rules.specs.Valued.{value_names};
 
 use crate::before::push_before;
 use crate::behind::push_behind;
-use crate::callees::{Callee, callee_of};
+use crate::callees::{CalleeKind, callee_of};
 use crate::clean::clean_names;
 use crate::emitting::number_to_save;
 use crate::phis::push_behind_phi;
@@ -27,7 +27,7 @@ use crate::tracked::{Tracking, track};
 use crate::values::values_of;
 use ms_bits::{List, NoMemory};
 use ms_ir::{Func, Inst, Module, Name, Op, Operand, Ty};
-use ms_rules_code::Code;
+use ms_rules_builder::Builder;
 use ms_tables::{Extents, NameTable, functions_of};
 use std::alloc::Global;
 use std::collections::BTreeMap;
@@ -51,7 +51,7 @@ pub struct Emitted {
 }
 
 /// The lists as they are answered.
-fn answer(before: Code, after: Code) -> Emitted
+fn answer(before: Builder, after: Builder) -> Emitted
     requires { after.next < 2 ^ 32 }
     ensures { lists_of result ≡ record { before = before.code; after = after.code; next = after.next } }
 {
@@ -80,9 +80,9 @@ fn round_phi(
     requires phi { inst.now.op ≡ Op.Phi ty.now edges.now }
     ensures { (site : _) → IfOk result (λ e. lists_of e ≡ emit_lists (given_of scope.now) (env_of scope.now) (record { site = site; root = root; main = scope.now.main }) inst.now next) }
 {
-    let mut after = Code::new(alloc, next);
+    let mut after = Builder::new(alloc, next);
     push_behind_phi(alloc, &mut after, scope, root, inst, ty, edges)?;
-    Ok(answer(Code::new(alloc, next), after))
+    Ok(answer(Builder::new(alloc, next), after))
 }
 
 /// The lists round an instruction that is no phi.
@@ -92,7 +92,7 @@ fn round_tracked(
     site: u32,
     next: u64,
     inst: &Inst,
-    callee: Callee,
+    callee: CalleeKind,
     tracking: &Tracking<'_>,
 ) -> Result<Emitted, NoMemory>
     requires few { length scope.now.values.now ≤ 2 ^ 30 }
@@ -104,7 +104,7 @@ fn round_tracked(
     requires room { next + 200 + 55 * length (operands inst.now.op) < 2 ^ 32 }
     ensures { IfOk result (λ e. lists_of e ≡ emit_lists (given_of scope.now) (env_of scope.now) (here_of scope.now site tracking.now) inst.now next) }
 {
-    let mut before = Code::new(alloc, next);
+    let mut before = Builder::new(alloc, next);
     let saved = number_to_save(&mut before, callee.external);
     push_before(
         alloc,
@@ -116,7 +116,7 @@ fn round_tracked(
         callee,
         tracking,
     )?;
-    let mut after = Code::new(alloc, before.next());
+    let mut after = Builder::new(alloc, before.next());
     push_behind(
         alloc, &mut after, scope, site, saved, inst, callee, tracking,
     )?;
@@ -171,7 +171,7 @@ fn round_inst(
     ensures { IfOk result (λ e. lists_of e ≡ single_lists (given_of scope.now) (env_of scope.now) (record { site = site; root = root; main = scope.now.main }) inst.now next) }
 {
     if is_handing_over(scope, &inst.op) {
-        return Ok(answer(Code::new(alloc, next), Code::new(alloc, next)));
+        return Ok(answer(Builder::new(alloc, next), Builder::new(alloc, next)));
     }
     match &inst.op {
         Op::Phi { ty, edges } => round_phi(alloc, scope, root, next, inst, ty, edges.as_slice()),

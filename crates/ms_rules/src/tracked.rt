@@ -1,9 +1,9 @@
 //! The operands of an instruction with what is known of their masks and origins.
 ghost use Rattle.std.specs.Prelude.{◌≡◌, ◌+◌, ◌-◌, ◌++◌, ◌<◌, ◌≤◌, ◌^◌, [], ◌∷◌, All, length, map, IfOk, OnOk};
-ghost use Rattle.ms_ir.specs.Code.{one_undef, operands};
+ghost use Rattle.ms_ir.specs.Instructions.{one_undef, operands};
 ghost use Rattle.ms_ir.specs.Layout.{width_of};
 ghost use Rattle.ms_ir.specs.ValueTypes.{type_of};
-ghost use Rattle.ms_rules_code.specs.Steps.{tracked_of, shadow_mask, shadow_origin};
+ghost use Rattle.ms_rules_builder.specs.Steps.{tracked_of, shadow_mask, shadow_origin};
 ghost use Rattle.ms_tasks.specs.Environments.{local_mask, local_origin, mask_operand, origin_operand};
 ghost use Rattle.ms_rules.specs.Scopes.{env_of};
 ghost use Rattle.ms_rules.specs.Tracking.{tracked_one, operand_at, IsTracked};
@@ -12,7 +12,7 @@ use crate::scopes::Scope;
 use ms_bits::NoMemory;
 use ms_bits::words::limit;
 use ms_ir::{Name, Op, Operand, ValueType};
-use ms_rules_code::{Shadow, TrackedOperand};
+use ms_rules_builder::{Shadow, TrackedOperand};
 use std::alloc::Global;
 
 /// The operands of an instruction with what is known of them, and how many roots stand in the text before them and behind

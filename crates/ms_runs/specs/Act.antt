@@ -18,7 +18,7 @@ use Rattle.ms_ir.specs.Layout.{width_of, stored_size, size_in, extended, indexed
 use Rattle.ms_runs.specs.World.{World, Setting, Here, Effect, Gives, Does, Goes, Enters, Leaves, Ends, traps, stuck, word, gives}
 use Rattle.ms_bits.specs.Maps.{number_at}
 use Rattle.ms_runs.specs.Memory.{fits, next_base, local_area, is_good, make_unset, store_number}
-use Rattle.ms_ir.specs.Code.{external_named}
+use Rattle.ms_ir.specs.Instructions.{external_named}
 use Rattle.ms_runs.specs.Globals.{constant}
 use Rattle.ms_runs.specs.Control.{Reading}
 use Rattle.ms_runs.specs.Externals.{external}

@@ -17,7 +17,7 @@ use Rattle.ms_ir.specs.Names.{main_name, name_eq}
 use Rattle.ms_ir.specs.Areas.{Stack}
 use Rattle.ms_runs.specs.World.{World, Setting, Here, Effect, Gives, Does, Goes, Enters, Leaves, Ends, stuck}
 use Rattle.ms_runs.specs.Memory.{keeps, next_base, end_blocks}
-use Rattle.ms_ir.specs.Code.{one_undef, func_at, blocks_at, insts_at, block_index, site_at, root_at, roots_in}
+use Rattle.ms_ir.specs.Instructions.{one_undef, func_at, blocks_at, insts_at, block_index, site_at, root_at, roots_in}
 
 -- a call that stands: the function, block and instruction that is due, each counted from 0, what its results are so
 -- far, where its part of the stack begins, which is 0 in a fiber beside `main`'s, and the heap blocks of its own there

@@ -1,5 +1,5 @@
--- The setups that example modules run with, what their runs answer, and frames of one of them.
-use Rattle.std.specs.Prelude.{ℕ, zero, suc, List, [], ◌∷◌, None}
+-- The setups that example modules run with, and what their runs answer.
+use Rattle.std.specs.Prelude.{ℕ, List, [], ◌∷◌}
 use Rattle.ms_bits.specs.declared.traps.Trap.{Trap}
 use Rattle.ms_runs.specs.declared.runs.End.{End}
 use Rattle.ms_runs.specs.declared.runs.End.TheVariants as «end»
@@ -7,11 +7,6 @@ use Rattle.ms_runs.specs.declared.runs.Origin.TheVariants as origin
 use Rattle.ms_runs.specs.declared.runs.Report.{Report}
 use Rattle.ms_runs.specs.declared.runs.RunResult.{RunResult}
 use Rattle.ms_runs.specs.declared.runs.Setup.{Setup}
-use Rattle.ms_runs.specs.World.{World, Enters}
-use Rattle.ms_runs.specs.Control.{Frame, Outcome, after_effect}
-use Rattle.ms_runs.specs.Act.{plain_reading}
-use Rattle.ms_runs.specs.Plain.{setting_of, start_world}
-use Rattle.ms_ir.specs.ExampleModules.{recursion}
 
 -- the setup where nothing is asked for: no input, the fill a5, ten million steps and one report
 abbrev pub defaults : Setup
@@ -66,22 +61,3 @@ report_unknown site kind part mask width o =
 -- a run without output that returned 0 and counted blind uses
 abbrev pub counted : ℕ → RunResult
 counted n = record { output = []; «end» = «end».Exit 0; reports = []; blind = n }
-
--- a frame of the function of `recursion` that stands at its call
-abbrev pub frame_at_call : Frame ℕ
-frame_at_call = record { func = 0; block = 2; place = 1; values = λ x. 0; mark = 0x720000000000; heap = [] }
-
--- so many of these frames
-abbrev pub frames_at_call : ℕ → List (Frame ℕ)
-frames_at_call zero = []
-frames_at_call (suc n) = frame_at_call ∷ frames_at_call n
-
--- the world in which `recursion` starts
-abbrev pub recursion_world : World
-recursion_world = start_world (recursion 1) defaults
-
--- what that call comes to where so many frames stand below its own
-abbrev pub called_above : ℕ → Outcome ℕ
-called_above n =
-    after_effect plain_reading (setting_of (recursion 1) defaults) (recursion 1) 5 None [] (λ v world. v) (λ v world. world) frame_at_call (frames_at_call n)
-    (Enters 0 recursion_world)

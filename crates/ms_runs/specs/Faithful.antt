@@ -4,7 +4,7 @@ use Rattle.ms_ir.specs.declared.syntax.Module.{Module}
 use Rattle.ms_runs.specs.declared.runs.RunResult.{RunResult}
 use Rattle.ms_runs.specs.declared.runs.End.TheVariants as «end»
 use Rattle.ms_runs.specs.declared.runs.Setup.{Setup}
-use Rattle.ms_ir.specs.Code.{strip}
+use Rattle.ms_ir.specs.Instructions.{strip}
 use Rattle.ms_runs.specs.Limits.{input_limit}
 use Rattle.ms_runs.specs.Plain.{plain}
 use Rattle.ms_runs.specs.Shadow.{shadow}

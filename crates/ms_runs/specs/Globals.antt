@@ -8,9 +8,9 @@ use Rattle.ms_ir.specs.declared.syntax.Operand.TheVariants as operand
 use Rattle.ms_ir.specs.declared.syntax.Init.{Init, Value, Zero, Array', Struct', Text, Row_of-Init-Array-0-2, end_of-Init-Array-0-2, more_of-Init-Array-0-2}
 use Rattle.ms_ir.specs.declared.syntax.GlobalVar.{GlobalVar}
 use Rattle.ms_ir.specs.declared.syntax.Module.{Module}
-use Rattle.ms_ir.specs.Equal.{Step}
+use Rattle.ms_ir.specs.Equal.{AddressStep}
 use Rattle.ms_ir.specs.Names.{name_eq, lookup, slots, is_reserved}
-use Rattle.ms_ir.specs.Code.{func_index}
+use Rattle.ms_ir.specs.Instructions.{func_index}
 use Rattle.ms_ir.specs.Layout.{Types, Extent, extent, width_of, stored_size, size_in, align_in, round_up, place_field, extended, indexed}
 use Rattle.ms_ir.specs.Areas.{Fixed, area_base, room}
 use Rattle.ms_runs.specs.World.{World}
@@ -37,7 +37,7 @@ abbrev pub extended_indices : List (Ty × ℕ) → List ℕ
 extended_indices indices = map (λ i. extended (width_of i.0) i.1) indices
 
 -- the address to which constant steps lead from an address, the outermost first
-abbrev pub stepped : Types → ℕ → List Step → ℕ
+abbrev pub stepped : Types → ℕ → List AddressStep → ℕ
 stepped types base [] = base
 stepped types base (s ∷ inner) = indexed types s.0 (stepped types base inner) (extended_indices s.1)
 

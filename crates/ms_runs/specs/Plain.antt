@@ -16,10 +16,10 @@ use Rattle.ms_runs.specs.declared.runs.RunResult.{RunResult}
 use Rattle.ms_ir.specs.Names.{lookup, slots, runtime_functions, main_name}
 use Rattle.ms_ir.specs.Areas.{Stack, area_base}
 use Rattle.ms_ir.specs.Layout.{width_of, stored_size}
-use Rattle.ms_runs.specs.World.{World, Setting, Here, Effect, Gives, Does, Ends, traps, stuck, result, word}
+use Rattle.ms_runs.specs.World.{World, Setting, Here, Effect, Gives, Does, Ends, traps, stuck, result, word, first_world}
 use Rattle.ms_bits.specs.Maps.{number_at, byte_of, with_range}
 use Rattle.ms_runs.specs.Memory.{is_good, set_shadow}
-use Rattle.ms_ir.specs.Code.{operands, func_index, count_roots}
+use Rattle.ms_ir.specs.Instructions.{operands, func_index, count_roots}
 use Rattle.ms_runs.specs.Globals.{address_of, make_globals}
 use Rattle.ms_runs.specs.Control.{Frame, Reading, Outcome, On, Over, here, rest_of, read_all, after_effect, keeping}
 use Rattle.ms_runs.specs.Act.{plain_reading, act}
@@ -136,23 +136,7 @@ setting_of m setup = record {
 
 -- the world at the start: the globals alone stand in memory, and nothing is made, taken or printed
 abbrev pub start_world : Module → Setup → World
-start_world m setup = make_globals m.types (address_of m) m.globals (record {
-  allocs = [];
-  bytes = λ a. 0;
-  shadow = λ a. 0;
-  origins = λ c. 0;
-  pairs = [];
-  made = 0;
-  input = setup.input;
-  output = [];
-  reports = [];
-  blind = 0;
-  turn = 0;
-  threads = [];
-  answers = λ k. 0;
-  answer_masks = λ k. 0;
-  answer_origins = λ k. 0;
-})
+start_world m setup = make_globals m.types (address_of m) m.globals (first_world setup.input)
 
 -- the frame at the start: the first instruction of `main`
 abbrev pub start_frame : {V : Type 0} → Reading V → Module → Frame V

@@ -17,7 +17,7 @@ use Rattle.ms_runs.specs.World.{World, Setting, Here, Effect, Gives, Does, Goes,
 use Rattle.ms_bits.specs.Maps.{byte_of}
 use Rattle.ms_runs.specs.Memory.{heap_size, set_shadow}
 use Rattle.ms_runs.specs.Origins.{count_blind, poison, unpoison, copy_planes, fill_planes, store_origin, thread_result}
-use Rattle.ms_ir.specs.Code.{operands, count_undefs, external_named}
+use Rattle.ms_ir.specs.Instructions.{operands, count_undefs, external_named}
 use Rattle.ms_runs.specs.Control.{Frame, Reading, Outcome, On, Over, here, rest_of, read_all, after_effect, keeping}
 use Rattle.ms_runs.specs.Act.{operand_word, act}
 use Rattle.ms_runs.specs.Plain.{Stepped, More, Stop, run, setting_of, start_world, start_frame}

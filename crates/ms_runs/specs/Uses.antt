@@ -18,29 +18,29 @@ use Rattle.ms_ir.specs.Equal.{type_eq}
 use Rattle.ms_ir.specs.Layout.{width_of}
 use Rattle.ms_runs.specs.World.{World, Setting, Effect, Does, then_does}
 use Rattle.ms_runs.specs.Origins.{check, check_memory, check_string, check_format}
-use Rattle.ms_ir.specs.Code.{external_named}
+use Rattle.ms_ir.specs.Instructions.{external_named}
 use Rattle.ms_runs.specs.Poisoned.{Poisoned}
 use Rattle.ms_runs.specs.Masks.{word_at}
 
 -- a checked use: the mask of an operand, whose place is the part; the bytes at an operand; the string there; the string
 -- there, where the format at operand 0 asks for one
-pub data Use : Type 0 where
-  Word : (kind operand : ℕ) → Use
-  Bytes : (kind addr size : ℕ) → Use
-  Line : (addr : ℕ) → Use
-  Asked : (addr : ℕ) → Use
+pub data CheckedUse : Type 0 where
+  Word : (kind operand : ℕ) → CheckedUse
+  Bytes : (kind addr size : ℕ) → CheckedUse
+  Line : (addr : ℕ) → CheckedUse
+  Asked : (addr : ℕ) → CheckedUse
 
 -- of the arguments of `printf` after its format, which are counted from k on: the word of each
-abbrev pub value_uses : ℕ → List (Ty × Operand) → List Use
+abbrev pub value_uses : ℕ → List (Ty × Operand) → List CheckedUse
 value_uses k [] = []
 value_uses k (a ∷ args) = Word 7 k ∷ value_uses (suc k) args
 
 -- and the string at each pointer, where the format asks for one
-abbrev pub string_uses : ℕ → List (Ty × Operand) → List Use
+abbrev pub string_uses : ℕ → List (Ty × Operand) → List CheckedUse
 string_uses k [] = []
 string_uses k (a ∷ args) = if type_eq a.0 ty.Ptr then Asked k ∷ string_uses (suc k) args else string_uses (suc k) args
 
-abbrev pub external_uses : External → List (Ty × Operand) → List Use
+abbrev pub external_uses : External → List (Ty × Operand) → List CheckedUse
 external_uses Malloc args = Word 5 0 ∷ []
 external_uses Calloc args = Word 5 0 ∷ Word 5 1 ∷ []
 external_uses Realloc args = Word 6 0 ∷ Word 5 1 ∷ []
@@ -71,18 +71,18 @@ external_uses SchedYield args = []
 external_uses (external.Word f n) args = []
 external_uses Printf args = Word 6 0 ∷ Line 0 ∷ (value_uses 1 (drop 1 args) ++ string_uses 1 (drop 1 args))
 
-abbrev pub binary_uses : BinOp → List Use
+abbrev pub binary_uses : BinOp → List CheckedUse
 binary_uses Udiv = Word 4 1 ∷ []
 binary_uses Sdiv = Word 4 1 ∷ []
 binary_uses Urem = Word 4 1 ∷ []
 binary_uses Srem = Word 4 1 ∷ []
 binary_uses _ = []
 
-abbrev pub callee_uses : Option External → List (Ty × Operand) → List Use
+abbrev pub callee_uses : Option External → List (Ty × Operand) → List CheckedUse
 callee_uses None args = []
 callee_uses (Some e) args = external_uses e args
 
-abbrev pub uses : (Name → Option ℕ) → (main : Bool) → Op → List Use
+abbrev pub uses : (Name → Option ℕ) → (main : Bool) → Op → List CheckedUse
 uses func main (op.Binary o f t a b) = binary_uses o
 uses func main (op.Alloca t u c) = Word 5 0 ∷ []
 uses func main (op.Load t a) = Word 3 0 ∷ []
@@ -98,13 +98,13 @@ type_at k [] = ty.Ptr
 type_at zero (o ∷ os) = o.0
 type_at (suc k) (o ∷ os) = type_at k os
 
-abbrev pub check_use : Setting → (site : ℕ) → List (Ty × Operand) → List Poisoned → Use → World → Effect
+abbrev pub check_use : Setting → (site : ℕ) → List (Ty × Operand) → List Poisoned → CheckedUse → World → Effect
 check_use s site os ps (Word kind k) w = check s (word_at k ps).mask (width_of (type_at k os)) (word_at k ps).origin kind k site w
 check_use s site os ps (Bytes kind a n) w = check_memory s (word_at a ps).value (word_at n ps).value kind site w
 check_use s site os ps (Line a) w = check_string s (word_at a ps).value site w
 check_use s site os ps (Asked a) w = check_format s (word_at 0 ps).value a (word_at a ps).value site w
 
-abbrev pub check_uses : Setting → (site : ℕ) → List (Ty × Operand) → List Poisoned → List Use → World → Effect
+abbrev pub check_uses : Setting → (site : ℕ) → List (Ty × Operand) → List Poisoned → List CheckedUse → World → Effect
 check_uses s site os ps [] w = Does w
 check_uses s site os ps (u ∷ us) w = then_does (check_use s site os ps u w) (check_uses s site os ps us)
 

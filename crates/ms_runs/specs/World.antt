@@ -1,5 +1,5 @@
 -- The world outside the frames, what stays the same in a run, and what one instruction comes to (own).
-use Rattle.std.specs.Prelude.{ℕ, Bool, List, get_or, Option, Result, Ok, Err}
+use Rattle.std.specs.Prelude.{ℕ, Bool, List, get_or, Option, Result, Ok, Err, []}
 use Rattle.ms_ir.specs.declared.syntax.Name.{Name}
 use Rattle.ms_runs.specs.declared.runs.End.{End}
 use Rattle.ms_runs.specs.declared.runs.End.TheVariants as «end»
@@ -44,6 +44,26 @@ pub record World : Type 0 where
   pub answers : ℕ → ℕ
   pub answer_masks : ℕ → ℕ
   pub answer_origins : ℕ → ℕ
+
+-- the world in which nothing stands but the input that is left
+abbrev pub first_world : List ℕ → World
+first_world input = record {
+  allocs = [];
+  bytes = λ a. 0;
+  shadow = λ a. 0;
+  origins = λ c. 0;
+  pairs = [];
+  made = 0;
+  input = input;
+  output = [];
+  reports = [];
+  blind = 0;
+  turn = 0;
+  threads = [];
+  answers = λ k. 0;
+  answer_masks = λ k. 0;
+  answer_origins = λ k. 0;
+}
 
 -- what stays the same in a run, and is the same for a module and its instrumented form: the named types, where each
 -- global stands, the place of each function, the fill, the limit of reports and the number of roots

@@ -8,7 +8,7 @@ use Rattle.ms_bits.specs.Fill.{made_byte}
 use Rattle.ms_bits.specs.Maps.{within, with_range, byte_of, bytes_at}
 use Rattle.ms_ir.specs.Areas.{Area, Heap}
 use Rattle.ms_ir.specs.Layout.{stored_size, size_in}
-use Rattle.ms_ir.specs.Code.{external_named}
+use Rattle.ms_ir.specs.Instructions.{external_named}
 use Rattle.ms_ir.specs.declared.syntax.Op.{Op}
 use Rattle.ms_ir.specs.declared.syntax.Op.TheVariants as op
 use Rattle.ms_ir.specs.declared.syntax.Ty.{Ty}

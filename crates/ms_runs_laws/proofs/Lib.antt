@@ -10,3 +10,4 @@ pub mod ShownSteps
 pub mod PlanesApart
 pub mod OutputGrows
 pub mod SameOutput
+pub mod UnreportedEnds

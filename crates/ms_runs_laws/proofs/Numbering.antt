@@ -10,7 +10,7 @@ use Rattle.ms_ir.specs.declared.syntax.Func.{Func}
 use Rattle.ms_ir.specs.declared.syntax.Module.{Module}
 use Rattle.ms_runs.specs.World.{Setting}
 use Rattle.ms_ir.specs.Names.{name_eq, is_reserved, main_name}
-use Rattle.ms_ir.specs.Code.{func_index, blocks_at, insts_at, over_insts, over_blocks, over_funcs, before, one_unmarked, site_at, roots_in, root_at, is_unmarked, strip_block, strip_func, strip, HeadUnmarked, NoMarks}
+use Rattle.ms_ir.specs.Instructions.{func_index, blocks_at, insts_at, over_insts, over_blocks, over_funcs, before, one_unmarked, site_at, roots_in, root_at, is_unmarked, strip_block, strip_func, strip, HeadUnmarked, NoMarks}
 use Rattle.ms_runs.specs.Control.{Frame, func_name, here}
 use Rattle.ms_runs_laws.specs.Marks.{SameRest}
 use Rattle.ms_runs_laws.proofs.Stripped.{Skips, insts_kept, blocks_kept, funcs_kept, roots_skip, sites_skip, func_kept, blocks_stripped, insts_stripped, func_name_kept}

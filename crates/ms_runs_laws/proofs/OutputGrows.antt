@@ -21,7 +21,7 @@ use Rattle.ms_bits.specs.Arithmetic.{binary_of}
 use Rattle.ms_bits.specs.Conversions.{compare_of, cast_of}
 use Rattle.ms_runs.specs.Memory.{end_block, end_blocks, local_area, fits, is_good, heap_size}
 use Rattle.ms_bits.specs.Maps.{bytes_at}
-use Rattle.ms_ir.specs.Code.{operands, external_named, HeadUnmarked, NoMarks}
+use Rattle.ms_ir.specs.Instructions.{operands, external_named, HeadUnmarked, NoMarks}
 use Rattle.ms_runs.specs.Control.{Frame, Outcome, On, Over, here, rest_of, read_all, entered, left, release, given_back, keeping, after_effect}
 use Rattle.ms_runs.specs.Externals.{external, malloc, reallocated, where_good, string_at, printed, next_byte, formatted, prints}
 use Rattle.ms_runs.specs.Act.{plain_reading, act, truth}

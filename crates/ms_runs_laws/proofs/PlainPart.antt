@@ -16,7 +16,7 @@ use Rattle.ms_bits.specs.Arithmetic.{binary_of}
 use Rattle.ms_bits.specs.Conversions.{compare_of, cast_of}
 use Rattle.ms_runs.specs.Memory.{local_area, fits, is_good, heap_size}
 use Rattle.ms_bits.specs.Maps.{bytes_at}
-use Rattle.ms_ir.specs.Code.{external_named}
+use Rattle.ms_ir.specs.Instructions.{external_named}
 use Rattle.ms_runs.specs.Externals.{external, malloc, reallocated, where_good, string_at, printed, next_byte, formatted, prints}
 use Rattle.ms_runs.specs.Act.{act, truth}
 

@@ -14,11 +14,11 @@ use Rattle.ms_runs.specs.World.{World, Setting, Effect, Gives, Does, Goes, Enter
 use Rattle.ms_ir.specs.Layout.{stored_size, size_in}
 use Rattle.ms_runs.specs.Memory.{is_good, heap_size, set_shadow}
 use Rattle.ms_bits.specs.Maps.{byte_of}
-use Rattle.ms_ir.specs.Code.{external_named}
+use Rattle.ms_ir.specs.Instructions.{external_named}
 use Rattle.ms_runs.specs.Origins.{Chained, keeps_old, pair_index, chain, check, check_byte, asks_string_at, count_blind, poison, copy_planes, fill_planes, mark_cells, store_origin}
 use Rattle.ms_runs.specs.Poisoned.{Poisoned}
 use Rattle.ms_runs.specs.Masks.{word_at}
-use Rattle.ms_runs.specs.Uses.{Use, Word, Bytes, Line, Asked, check_use, check_uses}
+use Rattle.ms_runs.specs.Uses.{CheckedUse, Word, Bytes, Line, Asked, check_use, check_uses}
 use Rattle.ms_runs.specs.Shadow.{external_planes, callee_planes, planes}
 use Rattle.ms_runs_laws.proofs.PlainPart.{bare}
 
@@ -146,13 +146,13 @@ byte_passes : (s : Setting) (kind site a : ℕ) (x : Option ℕ) (w : World) →
 byte_passes s kind site a None w = here w
 byte_passes s kind site a (Some x) w = check_passes s _ _ _ kind _ site w
 
-use_passes : (s : Setting) (site : ℕ) (os : List (Ty × Operand)) (ps : List Poisoned) (u : Use) (w : World) → Passes w (check_use s site os ps u w)
+use_passes : (s : Setting) (site : ℕ) (os : List (Ty × Operand)) (ps : List Poisoned) (u : CheckedUse) (w : World) → Passes w (check_use s site os ps u w)
 use_passes s site os ps (Word kind k) w = check_passes s _ _ _ kind k site w
 use_passes s site os ps (Bytes kind a n) w = pass_if w (is_good w (word_at a ps).value (word_at n ps).value) _ _ (byte_passes s kind site _ _ w) (here w)
 use_passes s site os ps (Line a) w = byte_passes s 10 site _ _ w
 use_passes s site os ps (Asked a) w = pass_if w (asks_string_at w (word_at 0 ps).value a) _ _ (byte_passes s 10 site _ _ w) (here w)
 
-pub uses_pass : (s : Setting) (site : ℕ) (os : List (Ty × Operand)) (ps : List Poisoned) (us : List Use) (w : World) → Passes w (check_uses s site os ps us w)
+pub uses_pass : (s : Setting) (site : ℕ) (os : List (Ty × Operand)) (ps : List Poisoned) (us : List CheckedUse) (w : World) → Passes w (check_uses s site os ps us w)
 uses_pass s site os ps [] w = here w
 uses_pass s site os ps (u ∷ us) w = next (check_use s site os ps u w) (use_passes s site os ps u w) (λ x. uses_pass s site os ps us x)
   where

@@ -10,7 +10,7 @@ use Rattle.ms_bits.specs.Maps.{within, with_range, byte_of, bytes_at, string_wit
 use Rattle.ms_bits_laws.proofs.MapLemmas.{same_number}
 use Rattle.ms_ir.specs.Areas.{Area, Heap, area_eq}
 use Rattle.ms_ir.specs.Layout.{width_of, stored_size, size_in}
-use Rattle.ms_ir.specs.Code.{external_named}
+use Rattle.ms_ir.specs.Instructions.{external_named}
 use Rattle.ms_ir.specs.declared.syntax.Op.{Op}
 use Rattle.ms_ir.specs.declared.syntax.Op.TheVariants as op
 use Rattle.ms_ir.specs.declared.syntax.Ty.{Ty}

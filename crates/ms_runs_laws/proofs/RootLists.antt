@@ -3,6 +3,7 @@ use Rattle.std.proofs.Common.{◌≡◌, ◌<◌, ℕ, zero, suc, ◌+◌, ◌-�
 use Rattle.std.specs.Prelude.{map, filter, cond, not, if◌then◌else◌, take, slice_get, option_map, unwrap_or}
 use Rattle.std.proofs.Math.Path.{ap₂}
 use Rattle.std.proofs.lemmas.Bool.{ne_eqb}
+use Rattle.std.proofs.lemmas.Option.{none-some, same_Some}
 use Rattle.ms_ir.specs.declared.syntax.Name.{Name}
 use Rattle.ms_ir.specs.declared.syntax.Ty.{Ty}
 use Rattle.ms_ir.specs.declared.syntax.Operand.{Operand}
@@ -16,7 +17,7 @@ use Rattle.ms_ir.specs.declared.syntax.Module.{Module}
 use Rattle.ms_ir.specs.declared.calls.External.{External}
 use Rattle.ms_ir.specs.declared.calls.External.TheVariants.{Malloc, Calloc, Realloc, Free, Memcpy, Memmove, Memset, Memcmp, Strlen, Putchar, Puts, Getchar, Read, Write, Exit, Abort, LlvmMemcpy, LlvmMemmove, LlvmMemset, LifetimeStart, LifetimeEnd, Printf, LlvmTrap, LlvmAssume, LlvmObjectSize, PthreadCreate, PthreadJoin, SchedYield, Word}
 use Rattle.ms_ir.specs.declared.places.Root.{Root}
-use Rattle.ms_ir.specs.Code.{operands, func_index, func_at, blocks_at, insts_at, one_unmarked, over_insts, over_blocks, over_funcs, site_at, count_undefs, makes_unset, external_named, is_root, roots_in, root_at, count_roots, is_unmarked, strip_block, strip_func, strip}
+use Rattle.ms_ir.specs.Instructions.{operands, func_index, func_at, blocks_at, insts_at, one_unmarked, over_insts, over_blocks, over_funcs, site_at, count_undefs, makes_unset, external_named, is_root, roots_in, root_at, count_roots, is_unmarked, strip_block, strip_func, strip}
 use Rattle.ms_ir.specs.Roots.{undef_roots, call_roots, own_roots, inst_roots, insts_roots, blocks_roots, funcs_roots, roots_of, root_numbered}
 use Rattle.ms_runs_laws.proofs.Stripped.{insts_kept, blocks_kept, sites_skip, func_kept}
 
@@ -171,18 +172,12 @@ placed_later a rest part k n e h = record {
 placed_at : (whole part part' : List Root) (n n' : ℕ) → part ≡ part' → n ≡ n' → Placed whole part n → Placed whole part' n'
 placed_at whole part part' n n' e f h = subst (λ p. Placed whole p n') e (subst (λ k. Placed whole part k) f h)
 
-some_same : {A : Type 0} (x y : A) → Some x ≡ Some y → x ≡ y
-some_same x y e = cc
-
-none_some : {A : Type 0} (y : A) → None ≡ Some y → ⊥
-none_some y e = cc
-
 insts_placed : (func : Name → Option ℕ) (is : List Inst) (p site : ℕ) (inst : Inst) → slice_get is p ≡ Some inst
     → Placed (insts_roots func site is) (inst_roots func (site + over_insts one_unmarked (take p is)) inst) (over_insts (roots_in func) (take p is))
-insts_placed func [] p site inst e = absurd (none_some inst e)
+insts_placed func [] p site inst e = absurd (none-some inst e)
 insts_placed func (i ∷ is) zero site inst e =
     let at : site ≡ site + 0 = omega arith in
-    placed_at _ (inst_roots func site i) _ 0 0 (ap₂ (λ n x. inst_roots func n x) at (some_same i inst e)) refl
+    placed_at _ (inst_roots func site i) _ 0 0 (ap₂ (λ n x. inst_roots func n x) at (same_Some i inst e)) refl
     (record { front = []; behind = insts_roots func (site + one_unmarked i) is; is = refl; length_is = refl })
 insts_placed func (i ∷ is) (suc p) site inst e =
     let at : site + one_unmarked i + over_insts one_unmarked (take p is) ≡ site + (one_unmarked i + over_insts one_unmarked (take p is)) = omega arith in
@@ -192,12 +187,12 @@ insts_placed func (i ∷ is) (suc p) site inst e =
 blocks_placed : (func : Name → Option ℕ) (bs : List Block) (b site : ℕ) (block : Block) (part : List Root) (n : ℕ) → slice_get bs b ≡ Some block
     → Placed (insts_roots func (site + over_blocks one_unmarked (take b bs)) block.insts) part n
     → Placed (blocks_roots func site bs) part (over_blocks (roots_in func) (take b bs) + n)
-blocks_placed func [] b site block part n e h = absurd (none_some block e)
+blocks_placed func [] b site block part n e h = absurd (none-some block e)
 blocks_placed func (x ∷ bs) zero site block part n e h =
     let at : site + 0 ≡ site = omega arith in
     let m : n ≡ 0 + n = omega arith in
     placed_at _ part part n _ refl m
-    (placed_first (insts_roots func site x.insts) _ part n (subst (λ l. Placed l part n) (ap₂ (λ k y. insts_roots func k y.insts) at (sym (some_same x block e))) h))
+    (placed_first (insts_roots func site x.insts) _ part n (subst (λ l. Placed l part n) (ap₂ (λ k y. insts_roots func k y.insts) at (sym (same_Some x block e))) h))
 blocks_placed func (x ∷ bs) (suc b) site block part n e h =
     let at : site + (over_insts one_unmarked x.insts + over_blocks one_unmarked (take b bs)) ≡ site + over_insts one_unmarked x.insts + over_blocks one_unmarked (take b bs) = omega arith in
     let m : over_insts (roots_in func) x.insts + (over_blocks (roots_in func) (take b bs) + n) ≡ over_insts (roots_in func) x.insts + over_blocks (roots_in func) (take b bs) + n = omega arith in
@@ -208,12 +203,12 @@ blocks_placed func (x ∷ bs) (suc b) site block part n e h =
 funcs_placed : (func : Name → Option ℕ) (fs : List Func) (f site : ℕ) (g : Func) (part : List Root) (n : ℕ) → slice_get fs f ≡ Some g
     → Placed (blocks_roots func (site + over_funcs one_unmarked (take f fs)) g.blocks) part n
     → Placed (funcs_roots func site fs) part (over_funcs (roots_in func) (take f fs) + n)
-funcs_placed func [] f site g part n e h = absurd (none_some g e)
+funcs_placed func [] f site g part n e h = absurd (none-some g e)
 funcs_placed func (x ∷ fs) zero site g part n e h =
     let at : site + 0 ≡ site = omega arith in
     let m : n ≡ 0 + n = omega arith in
     placed_at _ part part n _ refl m
-    (placed_first (blocks_roots func site x.blocks) _ part n (subst (λ l. Placed l part n) (ap₂ (λ k y. blocks_roots func k y.blocks) at (sym (some_same x g e))) h))
+    (placed_first (blocks_roots func site x.blocks) _ part n (subst (λ l. Placed l part n) (ap₂ (λ k y. blocks_roots func k y.blocks) at (sym (same_Some x g e))) h))
 funcs_placed func (x ∷ fs) (suc f) site g part n e h =
     let at : site + (over_blocks one_unmarked x.blocks + over_funcs one_unmarked (take f fs)) ≡ site + over_blocks one_unmarked x.blocks + over_funcs one_unmarked (take f fs) = omega arith in
     let m : over_blocks (roots_in func) x.blocks + (over_funcs (roots_in func) (take f fs) + n) ≡ over_blocks (roots_in func) x.blocks + over_funcs (roots_in func) (take f fs) + n = omega arith in
@@ -230,14 +225,14 @@ module_placed m f b p inst e = by_func (func_at m f) refl
     func = func_index m.funcs
 
     by_func : (o : Option Func) → func_at m f ≡ o → Placed (roots_of m) (inst_roots func (site_at m f b p) inst) (root_at func m f b p)
-    by_func None h = absurd (none_some inst (sym (ap (λ o. slice_get (unwrap_or (option_map (λ k. k.insts) (slice_get (unwrap_or (option_map (λ g. g.blocks) o) []) b)) []) p) h) ∙ e))
+    by_func None h = absurd (none-some inst (sym (ap (λ o. slice_get (unwrap_or (option_map (λ k. k.insts) (slice_get (unwrap_or (option_map (λ g. g.blocks) o) []) b)) []) p) h) ∙ e))
     by_func (Some g) h = by_block (slice_get g.blocks b) refl
       where
         blocks_are : blocks_at m f ≡ g.blocks
         blocks_are = ap (λ o. unwrap_or (option_map (λ k. k.blocks) o) []) h
 
         by_block : (o : Option Block) → slice_get g.blocks b ≡ o → Placed (roots_of m) (inst_roots func (site_at m f b p) inst) (root_at func m f b p)
-        by_block None k = absurd (none_some inst (sym (ap (λ l. slice_get (unwrap_or (option_map (λ x. x.insts) (slice_get l b)) []) p) blocks_are ∙ ap (λ o. slice_get (unwrap_or (option_map (λ x. x.insts) o) []) p) k) ∙ e))
+        by_block None k = absurd (none-some inst (sym (ap (λ l. slice_get (unwrap_or (option_map (λ x. x.insts) (slice_get l b)) []) p) blocks_are ∙ ap (λ o. slice_get (unwrap_or (option_map (λ x. x.insts) o) []) p) k) ∙ e))
         by_block (Some x) k =
             placed_at (roots_of m) _ _ _ _ (ap (λ n. inst_roots func n inst) sites) numbers
             (funcs_placed func m.funcs f 1 g _ _ h (blocks_placed func g.blocks b _ x _ _ k (insts_placed func x.insts p _ inst (ap (λ l. slice_get l p) (sym insts_are) ∙ e))))

@@ -1,7 +1,6 @@
 -- Rules that agree on words in range give the same runs.
-use Rattle.std.proofs.Common.{◌≡◌, ℕ, zero, suc, ◌+◌, ◌-◌, ◌*◌, ◌^◌, ◌<◌, List, [], ◌∷◌, refl, ap, arith}
+use Rattle.std.proofs.Common.{◌≡◌, ℕ, ◌+◌, ◌-◌, ◌^◌, ◌<◌, List, [], ◌∷◌, refl, ap}
 use Rattle.std.specs.Prelude.{map}
-use Rattle.std.proofs.Math.Nat.{pow-suc}
 use Rattle.std.proofs.lemmas.Nat.{mod_below, pow_pos, or_lt}
 use Rattle.std.proofs.lemmas.Nat.Bits.{bit_at-lt}
 use Rattle.ms_bits.specs.declared.operations.BinOp.{BinOp}
@@ -16,12 +15,14 @@ use Rattle.ms_ir.specs.declared.syntax.Op.TheVariants as op
 use Rattle.ms_ir.specs.declared.syntax.Inst.{Inst}
 use Rattle.ms_ir.specs.declared.syntax.Module.{Module}
 use Rattle.ms_runs.specs.declared.runs.Setup.{Setup}
-use Rattle.ms_bits.specs.Fill.{number_of_bits, undef_bit, undef_word_of}
+use Rattle.ms_bits.specs.Fill.{undef_bit, undef_word_of}
 use Rattle.ms_bits.specs.Signed.{signed}
 use Rattle.ms_bits_laws.proofs.OperationAgreement.{wrap-lt}
+use Rattle.ms_bits_laws.proofs.MaskFunctions.{number_fits}
+use Rattle.ms_bits_laws.proofs.WordAgreement.{ones_less}
 use Rattle.ms_ir.specs.Layout.{width_of, extended}
 use Rattle.ms_runs.specs.World.{World, Setting, Here, Effect, Gives, Does, Goes, Enters, Leaves, Ends}
-use Rattle.ms_ir.specs.Code.{operands, count_undefs, one_undef}
+use Rattle.ms_ir.specs.Instructions.{operands, count_undefs, one_undef}
 use Rattle.ms_runs.specs.Control.{Frame, here, rest_of, read_all, keeping, after_effect}
 use Rattle.ms_runs.specs.Act.{operand_word, act, extended_all}
 use Rattle.ms_runs.specs.Plain.{run, setting_of, start_world, start_frame}
@@ -31,20 +32,9 @@ use Rattle.ms_runs.specs.Shadow.{read_poisoned, shadow_reading, operand_mask, pl
 
 -- ---- words that are read are in range
 
-bits_fit : (f : ℕ → ℕ) → ((i : ℕ) → f i < 2) → (n : ℕ) → number_of_bits f n < 2 ^ n
-unfolding number_of_bits
-bits_fit f h zero = omega arith
-bits_fit f h (suc n) = step (f n) (h n) (bits_fit f h n)
-  where
-    step : (d : ℕ) → d < 2 → number_of_bits f n < 2 ^ n → number_of_bits f n + d * 2 ^ n < 2 ^ suc n
-    step d q r = grind (arith, pow-suc 2 n)
-
-undef_fits : (fill : List ℕ) (w : ℕ) → undef_word_of fill w < 2 ^ w
+pub undef_fits : (fill : List ℕ) (w : ℕ) → undef_word_of fill w < 2 ^ w
 unfolding undef_word_of undef_bit
-undef_fits fill w = bits_fit _ (λ i. bit_at-lt _ _) w
-
-ones_fit : (w : ℕ) → 2 ^ w - 1 < 2 ^ w
-ones_fit w = omega (arith, pow_pos w)
+undef_fits fill w = number_fits _ (λ i. bit_at-lt _ _) w
 
 word_fits : (s : Setting) (v : Name → ℕ) (w : ℕ) (o : Operand) → operand_word s v w o < 2 ^ w
 word_fits s v w (operand.Int n) = mod_below _ _ (pow_pos w)
@@ -58,13 +48,13 @@ word_fits s v w (operand.Offset x steps) = mod_below _ _ (pow_pos w)
 mask_fits : (v : Name → Poisoned) (w : ℕ) (o : Operand) → operand_mask v w o < 2 ^ w
 mask_fits v w (operand.Int n) = pow_pos w
 mask_fits v w operand.Null = pow_pos w
-mask_fits v w operand.Undef = ones_fit w
-mask_fits v w operand.Poison = ones_fit w
+mask_fits v w operand.Undef = ones_less w
+mask_fits v w operand.Poison = ones_less w
 mask_fits v w (operand.Local x) = mod_below _ _ (pow_pos w)
 mask_fits v w (operand.Global x) = pow_pos w
 mask_fits v w (operand.Offset x steps) = pow_pos w
 
-read_fits : (s : Setting) (v : Name → Poisoned) (root : ℕ) (t : Ty) (o : Operand) → InRange (width_of t) (read_poisoned s v root t o)
+pub read_fits : (s : Setting) (v : Name → Poisoned) (root : ℕ) (t : Ty) (o : Operand) → InRange (width_of t) (read_poisoned s v root t o)
 read_fits s v root t o = record { value = word_fits s _ (width_of t) o; mask = mask_fits v (width_of t) o }
 
 -- ---- the same masks

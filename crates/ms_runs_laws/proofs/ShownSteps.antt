@@ -14,7 +14,7 @@ use Rattle.ms_runs.specs.declared.runs.End.TheVariants as «end»
 use Rattle.ms_ir.specs.Names.{name_eq}
 use Rattle.ms_ir.specs.Layout.{width_of}
 use Rattle.ms_runs.specs.World.{World, Setting, Effect, Gives, Does, Goes, Enters, Leaves, Ends}
-use Rattle.ms_ir.specs.Code.{one_undef, roots_in, root_at, block_index, blocks_at, insts_at}
+use Rattle.ms_ir.specs.Instructions.{one_undef, roots_in, root_at, block_index, blocks_at, insts_at}
 use Rattle.ms_runs.specs.Memory.{end_block, end_blocks}
 use Rattle.ms_runs.specs.Control.{Frame, Outcome, On, Over, read_all, read_edge, phis, count_phis, block_name, with_value, one_on, put, bind, params_at, jumped, left, entered, release, given_back, result_at, after_effect}
 use Rattle.ms_runs.specs.Act.{operand_word, plain_reading}

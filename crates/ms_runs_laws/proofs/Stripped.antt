@@ -15,8 +15,8 @@ use Rattle.ms_ir.specs.Names.{name_eq, is_reserved, lookup, slots, main_name}
 use Rattle.ms_ir.specs.Layout.{Types, size_in}
 use Rattle.ms_ir.specs.Areas.{area_base, room, Fixed}
 use Rattle.ms_runs.specs.Memory.{make, next_base}
-use Rattle.ms_runs.specs.World.{World}
-use Rattle.ms_ir.specs.Code.{func_index, block_index, func_at, blocks_at, insts_at, over_insts, over_blocks, over_funcs, one_unmarked, roots_in, count_roots, is_unmarked, strip_block, strip_func, strip}
+use Rattle.ms_runs.specs.World.{World, first_world}
+use Rattle.ms_ir.specs.Instructions.{func_index, func_at, blocks_at, insts_at, over_insts, over_blocks, over_funcs, one_unmarked, roots_in, count_roots, is_unmarked, strip_block, strip_func, strip}
 use Rattle.ms_runs.specs.Globals.{address_from, address_of, write_init, make_globals}
 use Rattle.ms_runs.specs.Control.{Reading, func_name, block_name, params_at}
 use Rattle.ms_runs.specs.Plain.{setting_of, start_world, start_frame}
@@ -52,10 +52,6 @@ sites_skip i e = ap (λ b. if b then 0 else 1) e
 pub func_kept : (fs : List Func) (x : Name) → func_index (map strip_func fs) x ≡ func_index fs x
 func_kept [] x = refl
 func_kept (f ∷ fs) x = ap (λ k. if name_eq f.name x then Some 0 else option_map suc k) (func_kept fs x)
-
-pub block_kept : (bs : List Block) (x : Name) → block_index (map strip_block bs) x ≡ block_index bs x
-block_kept [] x = refl
-block_kept (b ∷ bs) x = ap (λ k. if name_eq b.name x then 0 else suc k) (block_kept bs x)
 
 pub func_stripped : (m : Module) (f : ℕ) → func_at (strip m) f ≡ option_map strip_func (func_at m f)
 func_stripped m f = slice_get-map strip_func m.funcs f
@@ -100,9 +96,6 @@ block_name_kept m f b =
     of_block : (o : Option Block) → unwrap_or (option_map (λ k. k.name) (option_map strip_block o)) (Number 0) ≡ unwrap_or (option_map (λ k. k.name) o) (Number 0)
     of_block None = refl
     of_block (Some k) = refl
-
-pub block_index_kept : (m : Module) (f : ℕ) (x : Name) → block_index (blocks_at (strip m) f) x ≡ block_index (blocks_at m f) x
-block_index_kept m f x = ap (λ l. block_index l x) (blocks_stripped m f) ∙ block_kept (blocks_at m f) x
 
 -- ---- globals
 
@@ -164,30 +157,10 @@ setting_kept m s = λ i. record {
   roots = roots_kept m i;
 }
 
--- the world before the globals are made
-abbrev empty_world : Setup → World
-empty_world s = record {
-  allocs = [];
-  bytes = λ a. 0;
-  shadow = λ a. 0;
-  origins = λ c. 0;
-  pairs = [];
-  made = 0;
-  input = s.input;
-  output = [];
-  reports = [];
-  blind = 0;
-  turn = 0;
-  threads = [];
-  answers = λ k. 0;
-  answer_masks = λ k. 0;
-  answer_origins = λ k. 0;
-}
-
 pub start_kept : (m : Module) (s : Setup) → start_world (strip m) s ≡ start_world m s
 start_kept m s =
-    ap (λ address. make_globals m.types address (unreserved m.globals) (empty_world s)) (λ i x. addresses_kept m x i)
-    ∙ globals_kept m.types (address_of m) m.globals (empty_world s)
+    ap (λ address. make_globals m.types address (unreserved m.globals) (first_world s.input)) (λ i x. addresses_kept m x i)
+    ∙ globals_kept m.types (address_of m) m.globals (first_world s.input)
 
 pub frame_kept : {V : Type 0} (reading : Reading V) (m : Module) → start_frame reading (strip m) ≡ start_frame reading m
 frame_kept reading m = λ i. record {

@@ -2,7 +2,7 @@
 use Rattle.std.specs.Prelude.{◌≡◌, ℕ, true, filter, drop}
 use Rattle.ms_ir.specs.declared.syntax.Inst.{Inst}
 use Rattle.ms_ir.specs.declared.syntax.Module.{Module}
-use Rattle.ms_ir.specs.Code.{insts_at, is_unmarked}
+use Rattle.ms_ir.specs.Instructions.{insts_at, is_unmarked}
 
 -- a count that is 0 at each marked instruction
 abbrev pub Skips : (Inst → ℕ) → Type 0

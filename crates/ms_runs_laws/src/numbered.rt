@@ -2,7 +2,7 @@
 ghost use Rattle.std.specs.Prelude.{◌≡◌, ◌<◌, ◌+◌, ℕ, Some, length, slice_get};
 ghost use Rattle.ms_ir.specs.declared.syntax.Inst.{Inst};
 ghost use Rattle.ms_ir.specs.declared.syntax.Module.{Module};
-ghost use Rattle.ms_ir.specs.Code.{func_index, insts_at, site_at, roots_in, root_at, count_roots, strip};
+ghost use Rattle.ms_ir.specs.Instructions.{func_index, insts_at, site_at, roots_in, root_at, count_roots, strip};
 ghost use Rattle.ms_ir.specs.Roots.{inst_roots, roots_of, root_numbered};
 
 /// A module has as many roots as are counted, and inserted code adds none.

@@ -1,8 +1,6 @@
 -- The arguments of calls that are asked for fit.
 use Rattle.std.proofs.Common.{◌≡◌, ◌<◌, ◌≤◌, ℕ, zero, suc, false, true≢false, ◌∙◌, List, [], ◌∷◌, map, length, get_or, refl, sym, ap, subst, arith, Result, Ok, Err, Option, Some, None, option_map, unwrap_or}
 use Rattle.std.specs.Prelude.{slice_get, IfOk}
-use Rattle.ms_bits.specs.declared.word_functions.WordFn.{WordFn}
-use Rattle.ms_bits.specs.declared.word_functions.WordFn.TheVariants as word
 use Rattle.ms_bits.specs.WordFunctions.{bits_of}
 use Rattle.ms_ir.specs.declared.syntax.Ty.{Ty, Int, Ptr}
 use Rattle.ms_ir.specs.declared.syntax.Inst.{Inst}
@@ -10,9 +8,9 @@ use Rattle.ms_ir.specs.declared.places.Place.{Place}
 use Rattle.ms_ir.specs.declared.calls.External.{External}
 use Rattle.ms_ir.specs.declared.calls.External.TheVariants as external
 use Rattle.ms_ir.specs.declared.calls.RuntimeFn.{RuntimeFn}
-use Rattle.ms_ir.specs.Code.{operands}
+use Rattle.ms_ir.specs.Instructions.{operands}
 use Rattle.ms_ir.specs.Places.{IsPlaceOf, inst_at}
-use Rattle.ms_ir.specs.Signatures.{runtime_signature, word_params, is_thread_call}
+use Rattle.ms_ir.specs.Signatures.{runtime_signature, is_thread_call}
 use Rattle.ms_ir.specs.declared.syntax.Module.{Module}
 use Rattle.ms_runs.specs.declared.runs.End.{End}
 use Rattle.ms_runs.specs.declared.runs.Setup.{Setup}
@@ -21,9 +19,10 @@ use Rattle.ms_runs.specs.Threads.{fibers_of}
 use Rattle.ms_runs.specs.Runtime.{runtime}
 use Rattle.ms_runs.specs.Control.{Frame}
 use Rattle.ms_valid.specs.Valid.{Valid}
-use Rattle.ms_runs_good.specs.GoodStates.{IsBelow}
-use Rattle.ms_runs_good.specs.Straight.{HaveTypes}
-use Rattle.ms_runs_good.proofs.FibersKept.{Kept, runtime_keeps}
+use Rattle.ms_good_laws.specs.GoodStates.{IsBelow}
+use Rattle.ms_good_laws.specs.Straight.{HaveTypes}
+use Rattle.ms_good_laws.proofs.FibersKept.{Kept, runtime_keeps}
+use Rattle.ms_good_laws.proofs.ExternalEffects.{first_param}
 use Rattle.ms_host.specs.State.{WorldState, Beside}
 use Rattle.ms_host.specs.Answers.{FitsFirst, Answered, IsExternal, effect_asked, asked_effect}
 use Rattle.ms_host.specs.declared.calls.Asked.{Asked}
@@ -31,8 +30,8 @@ use Rattle.ms_host.specs.declared.calls.Asked.TheVariants as asked
 use Rattle.ms_host.specs.declared.calls.Answer.{Answer}
 use Rattle.ms_host.specs.declared.calls.Answer.TheVariants as answer
 use Rattle.ms_host.specs.declared.calls.HostCall.{HostCall}
-use Rattle.ms_machine_steps.specs.declared.fibers.Fiber.{Fiber}
-use Rattle.ms_machine_steps.specs.Standing.{frames_of}
+use Rattle.ms_machine_frames.specs.declared.fibers.Fiber.{Fiber}
+use Rattle.ms_machine_frames.specs.Standing.{frames_of}
 use Rattle.ms_machine_steps.specs.Waiting.{IsAsked, FirstWaits, types_due}
 use Rattle.ms_machine_steps.proofs.Asking.{asked_types, AreArguments, are_arguments}
 use Rattle.ms_machine.specs.Running.{AllStandFor}
@@ -91,20 +90,9 @@ pub fits_asked : (a : Asked) (types : List Ty) (args : List ℕ) (f : RuntimeFn)
 fits_asked (asked.Runtime f) types args g e count have = fits f args count have
 fits_asked (asked.External x) types args g e count have = absurd (cc)
 
-first_word : (f : WordFn) (w : ℕ) → slice_get (word_params f w) 0 ≡ Some (Int w)
-first_word word.Ctpop w = refl
-first_word word.Ctlz w = refl
-first_word word.Cttz w = refl
-first_word word.Bswap w = refl
-first_word word.Bitreverse w = refl
-first_word word.Abs w = refl
-first_word word.Fshl w = refl
-first_word word.Fshr w = refl
-first_word _ w = refl
-
 pub fits_first : (a : Asked) (types : List Ty) (args : List ℕ) → HaveTypes IsBelow 0 args (asked_types a types) → FitsFirst a args
 fits_first (asked.External external.Exit) types args have = have 0 (Int 32) refl
-fits_first (asked.External (external.Word f n)) types args have = have 0 (Int (bits_of n)) (first_word f (bits_of n))
+fits_first (asked.External (external.Word f n)) types args have = have 0 (Int (bits_of n)) (first_param f (bits_of n))
 fits_first (asked.External e) types args have = tt
 fits_first (asked.Runtime f) types args have = tt
 

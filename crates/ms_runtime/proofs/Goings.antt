@@ -8,7 +8,7 @@ use Rattle.ms_ir.specs.declared.syntax.Op.TheVariants as op
 use Rattle.ms_ir.specs.declared.syntax.Inst.{Inst}
 use Rattle.ms_ir.specs.declared.calls.RuntimeFn.TheVariants as function
 use Rattle.ms_ir.specs.ThreadCalls.{is_asked, calls_thread, is_threaded}
-use Rattle.ms_ir.specs.Code.{over_funcs, func_index}
+use Rattle.ms_ir.specs.Instructions.{over_funcs, func_index}
 use Rattle.ms_runs.specs.declared.runs.End.{End}
 use Rattle.ms_runs.specs.declared.runs.End.TheVariants as «end»
 use Rattle.ms_runs.specs.declared.runs.Setup.{Setup}
@@ -17,12 +17,12 @@ use Rattle.ms_runs.specs.World.{World, result, stuck}
 use Rattle.ms_runs.specs.Memory.{end_block, end_blocks}
 use Rattle.ms_runs.specs.Control.{Frame, release, given_back}
 use Rattle.ms_runs.specs.Plain.{PlainState, go_on, run, plain, plain_start, Stop}
-use Rattle.ms_runs_good.proofs.ThreadsApart.{none_called}
-use Rattle.ms_runs_good.proofs.Frames.{same_insts}
+use Rattle.ms_good_laws.proofs.ThreadsApart.{none_called}
+use Rattle.ms_good_laws.proofs.Frames.{same_insts}
 use Rattle.ms_valid.specs.Formed.{Formed}
 use Rattle.ms_valid.specs.Valid.{Valid}
-use Rattle.ms_code_data.specs.declared.code.Program.{Program}
-use Rattle.ms_code_data.specs.Compiled.{Compiled}
+use Rattle.ms_code.specs.declared.code.Program.{Program}
+use Rattle.ms_code.specs.Compiled.{Compiled}
 use Rattle.ms_host.specs.State.{WorldState, Beside, nothing_beside}
 use Rattle.ms_host.specs.Shows.{Shows}
 use Rattle.ms_host.specs.declared.calls.Asked.{Asked}
@@ -30,8 +30,8 @@ use Rattle.ms_host.specs.declared.calls.Asked.TheVariants as asked
 use Rattle.ms_host.specs.declared.calls.Answer.TheVariants as answer
 use Rattle.ms_host.specs.declared.calls.HostCall.{HostCall}
 use Rattle.ms_printf.specs.CallSites.{AreCallSites}
-use Rattle.ms_machine_steps.specs.Owning.{KeepsOwn}
-use Rattle.ms_machine_steps.specs.Standing.{FramesStand, frames_of, IsState}
+use Rattle.ms_machine_frames.specs.Owning.{KeepsOwn}
+use Rattle.ms_machine_frames.specs.Standing.{FramesStand, frames_of, IsState}
 use Rattle.ms_machine_steps.specs.Waiting.{IsAsked, Waits, FirstWaits, answered}
 use Rattle.ms_machine_steps.specs.Advances.{step_of, Counts, IsSpent, HasEnded, HasAsked, HasFinished, Resumes, Stops, HasResumed}
 use Rattle.ms_machine_steps.proofs.Answered.{waiter, below_it, waits, waiter_stands, answered_on, answered_ends, HasStopped}

@@ -13,9 +13,10 @@ use Rattle.ms_ir.specs.declared.syntax.Func.{Func}
 use Rattle.ms_ir.specs.declared.syntax.Module.{Module}
 use Rattle.ms_ir.specs.declared.calls.External.{External}
 use Rattle.ms_ir.specs.declared.calls.External.TheVariants.{Malloc, Realloc, LifetimeStart}
-use Rattle.ms_ir.specs.Code.{operands, one_undef, count_undefs, makes_unset, external_named, is_root, roots_in, one_unmarked, func_index, over_insts, over_blocks, over_funcs, count_roots}
+use Rattle.ms_ir.specs.Instructions.{operands, count_undefs, makes_unset, external_named, is_root, roots_in, one_unmarked, func_index, over_insts, over_blocks, over_funcs, count_roots}
 use Rattle.ms_ir.specs.Roots.{undef_roots, call_roots, own_roots, inst_roots, insts_roots, blocks_roots, funcs_roots, roots_of}
 use Rattle.ms_valid.specs.Formed.{Formed, count_written}
+use Rattle.ms_good_laws.proofs.Starting.{roots_few}
 
 undefs_counted : (site : ℕ) (os : List (Ty × Operand)) → length (undef_roots site os) ≡ count_undefs os
 undefs_counted site [] = refl
@@ -71,26 +72,6 @@ roots_counted m = funcs_counted (func_index m.funcs) 1 m.funcs
 
 -- ---- and how few
 
-undefs_few : (os : List (Ty × Operand)) → count_undefs os ≤ length os
-undefs_few [] = omega arith
-undefs_few (o ∷ rest) = omega (arith, one o.1, undefs_few rest)
-  where
-    one : (x : Operand) → one_undef x ≤ 1
-    one operand.Undef = omega arith
-    one operand.Poison = omega arith
-    one x = omega arith
-
-inst_few : (func : Name → Option ℕ) (i : Inst) → roots_in func i ≤ count_written i
-inst_few func i = by_mark i.marked
-  where
-    own : (b : Bool) → (if b then 1 else 0) ≤ 1
-    own true = omega arith
-    own false = omega arith
-
-    by_mark : (b : Bool) → (if b then 0 else (count_undefs (operands i.op) + (if is_root func i.op then 1 else 0))) ≤ suc (length (operands i.op))
-    by_mark true = omega arith
-    by_mark false = omega (arith, undefs_few (operands i.op), own (is_root func i.op))
-
 module _ (c d : Inst → ℕ) (each : (i : Inst) → c i ≤ d i) where
   less_insts : (is : List Inst) → over_insts c is ≤ over_insts d is
   less_insts [] = omega arith
@@ -105,7 +86,7 @@ module _ (c d : Inst → ℕ) (each : (i : Inst) → c i ≤ d i) where
   less_funcs (f ∷ fs) = omega (arith, less_blocks f.blocks, less_funcs fs)
 
 pub few_roots : (m : Module) → Formed m → count_roots m < 2 ^ 30
-few_roots m formed = omega (arith, less_funcs (roots_in (func_index m.funcs)) count_written (inst_few (func_index m.funcs)) m.funcs, formed.few_operands)
+few_roots m formed = omega (arith, less_funcs (roots_in (func_index m.funcs)) count_written (roots_few (func_index m.funcs)) m.funcs, formed.few_operands)
 
 -- a formed module has fewer than 2 to the 30 instructions
 pub few_insts : (m : Module) → Formed m → over_funcs (λ inst. 1) m.funcs < 2 ^ 30

@@ -17,7 +17,7 @@ use ms_depot::Depot;
 use ms_host::{Answer, Asked, HostCall, World, answer};
 use ms_ir::{External, roots};
 use ms_machine::{advance, resume, start};
-use ms_machine_steps::{Budget, Fiber, Pause};
+use ms_machine_frames::{Budget, Fiber, Pause};
 use ms_printf::CallSites;
 use ms_runs::{End, RunResult, Setup};
 use std::alloc::Global;

@@ -13,7 +13,7 @@ use Rattle.ms_ir.specs.declared.syntax.Operand.{Operand}
 use Rattle.ms_ir.specs.declared.syntax.Op.{Op}
 use Rattle.ms_ir.specs.declared.syntax.Module.{Module}
 use Rattle.ms_ir.specs.Layout.{width_of}
-use Rattle.ms_ir.specs.Code.{operands, one_undef}
+use Rattle.ms_ir.specs.Instructions.{operands, one_undef}
 use Rattle.ms_runs.specs.declared.runs.Setup.{Setup}
 use Rattle.ms_runs.specs.World.{World}
 use Rattle.ms_runs.specs.Control.{read_all}
@@ -22,13 +22,13 @@ use Rattle.ms_runs.specs.Plain.{setting_of}
 use Rattle.ms_runs.specs.Poisoned.{Poisoned}
 use Rattle.ms_runs.specs.Masks.{by_formulas, binary_mask, value_or_zero, result_mask}
 use Rattle.ms_runs.specs.Shadow.{operand_mask, read_poisoned}
-use Rattle.ms_code_data.specs.declared.code.Source.{Source}
-use Rattle.ms_code_data.specs.declared.code.Stride.{Stride}
-use Rattle.ms_code_data.specs.declared.code.Code.{Code}
-use Rattle.ms_code_data.specs.declared.code.Code.TheVariants as code
-use Rattle.ms_code_data.specs.Words.{word_of}
-use Rattle.ms_code_data.specs.Reads.{Reads}
-use Rattle.ms_code_data.specs.Encodes.{Where}
+use Rattle.ms_code.specs.declared.code.Source.{Source}
+use Rattle.ms_code.specs.declared.code.Stride.{Stride}
+use Rattle.ms_code.specs.declared.code.Code.{Code}
+use Rattle.ms_code.specs.declared.code.Code.TheVariants as code
+use Rattle.ms_code.specs.Words.{word_of}
+use Rattle.ms_code.specs.Reads.{Reads}
+use Rattle.ms_code.specs.Encodes.{Where}
 use Rattle.ms_shades.specs.Shades.{mask_of, strides_mask, HoldsShades}
 use Rattle.ms_shades.specs.Results.{bare, IsMask}
 use Rattle.ms_shades.proofs.Reading.{reads_mask}
@@ -107,9 +107,6 @@ address_is fill xs ms base offset strides to at u inst values root world filled 
     ap₂ (λ a b. carry_mask 64 (bit_or a b)) (mask_is fill xs ms at u values filled holds 64 base p based)
     (indices_mask at.whole at.names ms values holds.masks u indices strides read (root + one_undef p))
     ∙ sym (ap (mask_in at.whole u values root world) is)
-
-pub freeze_is : (fill xs ms : List ℕ) (a : Source) (to : ℕ) → IsMask fill xs ms (code.Freeze a to) 0
-freeze_is fill xs ms a to at u inst values root world filled (t, p, (is, ra, res)) holds = sym (ap (mask_in at.whole u values root world) is)
 
 -- ---- the same, of what was computed
 

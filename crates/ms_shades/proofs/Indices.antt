@@ -13,7 +13,8 @@ use Rattle.ms_ir.specs.declared.syntax.Operand.{Operand}
 use Rattle.ms_ir.specs.declared.syntax.Operand.TheVariants as operand
 use Rattle.ms_ir.specs.declared.syntax.Module.{Module}
 use Rattle.ms_ir.specs.Layout.{width_of, extended}
-use Rattle.ms_ir.specs.Code.{one_undef}
+use Rattle.ms_ir.specs.Instructions.{one_undef}
+use Rattle.ms_ir.proofs.Sizes.{drop_next}
 use Rattle.ms_runs.specs.declared.runs.Setup.{Setup}
 use Rattle.ms_runs.specs.Control.{read_all}
 use Rattle.ms_runs.specs.Act.{extended_all}
@@ -21,11 +22,10 @@ use Rattle.ms_runs.specs.Plain.{setting_of}
 use Rattle.ms_runs.specs.Poisoned.{Poisoned}
 use Rattle.ms_runs.specs.Masks.{union}
 use Rattle.ms_runs.specs.Shadow.{operand_mask, read_poisoned}
-use Rattle.ms_code_data.specs.declared.code.Stride.{Stride}
-use Rattle.ms_code_data.specs.Words.{extended_by}
-use Rattle.ms_code_data.specs.Reads.{Holds, IsIndex, ReadIndices, is_integer, strided}
-use Rattle.ms_tables.proofs.Items.{drop_item}
-use Rattle.ms_code_operands.proofs.SignBits.{extended_is}
+use Rattle.ms_code.specs.declared.code.Stride.{Stride}
+use Rattle.ms_code.specs.Words.{extended_by}
+use Rattle.ms_code.specs.Reads.{Holds, IsIndex, ReadIndices, is_integer, strided}
+use Rattle.ms_compile_operands.proofs.SignBits.{extended_is}
 use Rattle.ms_shades.specs.Shades.{mask_of, stride_mask, strides_mask}
 use Rattle.ms_shades.proofs.Reading.{reads_mask}
 
@@ -89,7 +89,7 @@ strides_none ms ss n e = sym (ap (strides_mask ms) (drop_all n ss (omega (arith,
 pub strides_back : (ms : List ℕ) (ss : List Stride) (k n : ℕ) (s : Stride) (mask one : ℕ) → n ≡ k + 1 → k < length ss → s ≡ get_or ss k s → one ≡ stride_mask ms s → mask ≡ strides_mask ms (drop n ss)
     → bit_or one mask ≡ strides_mask ms (drop k ss)
 strides_back ms ss k n s mask one e lt is here before =
-    ap₂ bit_or here (before ∙ ap (λ j. strides_mask ms (drop j ss)) e) ∙ sym (ap (strides_mask ms) (drop_item ss k s lt is))
+    ap₂ bit_or here (before ∙ ap (λ j. strides_mask ms (drop j ss)) e) ∙ sym (ap (strides_mask ms) (drop_next ss k s lt is))
 
 pub strides_whole : (ms : List ℕ) (ss : List Stride) (n : ℕ) → n ≡ 0 → strides_mask ms (drop n ss) ≡ strides_mask ms ss
 strides_whole ms ss n e = ap (λ k. strides_mask ms (drop k ss)) e

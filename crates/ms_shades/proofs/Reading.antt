@@ -14,7 +14,7 @@ use Rattle.ms_ir.specs.declared.syntax.Inst.{Inst}
 use Rattle.ms_ir.specs.declared.syntax.Module.{Module}
 use Rattle.ms_ir.specs.Names.{name_eq}
 use Rattle.ms_ir.specs.Layout.{width_of}
-use Rattle.ms_ir.specs.Code.{one_undef, roots_in, func_index, blocks_at, insts_at, block_index, root_at}
+use Rattle.ms_ir.specs.Instructions.{one_undef, roots_in, func_index, blocks_at, insts_at, block_index, root_at}
 use Rattle.ms_runs.specs.declared.runs.Setup.{Setup}
 use Rattle.ms_runs.specs.Control.{read_all, read_edge, phis, with_value, block_name}
 use Rattle.ms_runs.specs.Act.{operand_word, plain_reading}
@@ -22,13 +22,13 @@ use Rattle.ms_runs.specs.Plain.{setting_of}
 use Rattle.ms_runs.specs.Poisoned.{Poisoned, clean}
 use Rattle.ms_runs.specs.Shadow.{operand_mask, read_poisoned}
 use Rattle.ms_valid.specs.FlowGraph.{name_place}
-use Rattle.ms_code_data.specs.declared.code.Source.{Source}
-use Rattle.ms_code_data.specs.declared.code.Source.TheVariants as source
-use Rattle.ms_code_data.specs.declared.code.Move.{Move}
-use Rattle.ms_code_data.specs.declared.code.Edge.{Edge}
-use Rattle.ms_code_data.specs.Words.{word_of, moved, put_all, read_by}
-use Rattle.ms_code_data.specs.Reads.{Holds, Reads, ReadsAll}
-use Rattle.ms_code_data.specs.Encodes.{Where, values_at, Leads}
+use Rattle.ms_code.specs.declared.code.Source.{Source}
+use Rattle.ms_code.specs.declared.code.Source.TheVariants as source
+use Rattle.ms_code.specs.declared.code.Move.{Move}
+use Rattle.ms_code.specs.declared.code.Edge.{Edge}
+use Rattle.ms_code.specs.Words.{word_of, moved, put_all, read_by}
+use Rattle.ms_code.specs.Reads.{Holds, Reads, ReadsAll}
+use Rattle.ms_code.specs.Encodes.{Where, values_at, Leads}
 use Rattle.ms_shades.specs.Shades.{mask_of, masks_of, masks_read, masks_moved, shades_at}
 use Rattle.ms_shades.proofs.Fills.{ones_word, zeros_word}
 

@@ -1,19 +1,19 @@
 -- Masks of the words that code reads, kept by number beside the values of a frame (own).
 use Rattle.std.specs.Prelude.{ℕ, ◌-◌, ◌^◌, List, [], ◌∷◌, map, get_or, bit_and, bit_or}
 use Rattle.ms_ir.specs.declared.syntax.Name.{Name}
-use Rattle.ms_ir.specs.Code.{blocks_at, insts_at, block_index, root_at}
+use Rattle.ms_ir.specs.Instructions.{blocks_at, insts_at, block_index, root_at}
 use Rattle.ms_runs.specs.declared.runs.Setup.{Setup}
 use Rattle.ms_runs.specs.Control.{phis, block_name}
 use Rattle.ms_runs.specs.Plain.{setting_of}
 use Rattle.ms_runs.specs.Poisoned.{Poisoned, clean}
 use Rattle.ms_runs.specs.Shadow.{read_poisoned}
-use Rattle.ms_code_data.specs.declared.code.Source.{Source}
-use Rattle.ms_code_data.specs.declared.code.Source.TheVariants as source
-use Rattle.ms_code_data.specs.declared.code.Move.{Move}
-use Rattle.ms_code_data.specs.declared.code.Stride.{Stride}
-use Rattle.ms_code_data.specs.Words.{put_all, extended_by}
-use Rattle.ms_code_data.specs.Reads.{Holds}
-use Rattle.ms_code_data.specs.Encodes.{Where}
+use Rattle.ms_code.specs.declared.code.Source.{Source}
+use Rattle.ms_code.specs.declared.code.Source.TheVariants as source
+use Rattle.ms_code.specs.declared.code.Move.{Move}
+use Rattle.ms_code.specs.declared.code.Stride.{Stride}
+use Rattle.ms_code.specs.Words.{put_all, extended_by}
+use Rattle.ms_code.specs.Reads.{Holds}
+use Rattle.ms_code.specs.Encodes.{Where}
 
 -- the mask that is read, from the masks of a frame's values
 abbrev pub mask_of : (masks : List ℕ) → Source → ℕ

@@ -1,13 +1,13 @@
 //! Masks of addresses.
 ghost use Rattle.std.specs.Prelude.{◌≡◌, ◌≤◌, ◌<◌, ◌^◌, length, drop, get_or, All, bit_or};
 ghost use Rattle.ms_bits.specs.Formulas.{carry_mask as carry_mask_of};
-ghost use Rattle.ms_code_data.specs.Words.{extended_by};
-ghost use Rattle.ms_code_data.specs.Fits.{IsSource, IsStride};
+ghost use Rattle.ms_code.specs.Words.{extended_by};
+ghost use Rattle.ms_code.specs.Fits.{IsSource, IsStride};
 ghost use Rattle.ms_shades.specs.Shades.{mask_of as mask_read, stride_mask as mask_of_stride, strides_mask as mask_of_strides};
 ghost use Rattle.ms_shades.specs.Views.{IsView};
 
 use crate::words::{View, mask_of};
-use ms_code_data::{Source, Stride};
+use ms_code::{Source, Stride};
 use ms_masks::carry_mask;
 
 /// A mask that is at most `greatest`, sign-extended to 64 bits.

@@ -1,12 +1,12 @@
 //! The edge that a jump takes, and the masks of its phis.
 ghost use Rattle.std.specs.Prelude.{◌≡◌, ◌≤◌, ◌<◌, ℕ, List, length, take, All, OnOk};
-ghost use Rattle.ms_code_data.specs.Fits.{IsMove};
+ghost use Rattle.ms_code.specs.Fits.{IsMove};
 ghost use Rattle.ms_shades.specs.Views.{IsView};
 ghost use Rattle.ms_shades.specs.Shades.{masks_read};
 
 use crate::words::{View, mask_of};
 use ms_bits::NoMemory;
-use ms_code_data::Move;
+use ms_code::Move;
 
 /// Reads the masks of phis, in the place of what stands in a row, whose memory is used again.
 pub fn read_masks(view: &View<'_>, moves: &[Move], row: &mut Vec<u64>) -> Result<(), NoMemory>

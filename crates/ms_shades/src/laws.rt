@@ -9,10 +9,10 @@ ghost use Rattle.ms_runs.specs.Control.{read_all};
 ghost use Rattle.ms_runs.specs.Plain.{setting_of};
 ghost use Rattle.ms_runs.specs.Poisoned.{Poisoned};
 ghost use Rattle.ms_runs.specs.Shadow.{operand_mask, read_poisoned};
-ghost use Rattle.ms_code_data.specs.declared.code.Source.{Source as SourceOf};
-ghost use Rattle.ms_code_data.specs.declared.code.Edge.{Edge as EdgeOf};
-ghost use Rattle.ms_code_data.specs.Reads.{Holds, Reads, ReadsAll};
-ghost use Rattle.ms_code_data.specs.Encodes.{Where, Leads};
+ghost use Rattle.ms_code.specs.declared.code.Source.{Source as SourceOf};
+ghost use Rattle.ms_code.specs.declared.code.Edge.{Edge as EdgeOf};
+ghost use Rattle.ms_code.specs.Reads.{Holds, Reads, ReadsAll};
+ghost use Rattle.ms_code.specs.Encodes.{Where, Leads};
 ghost use Rattle.ms_shades.specs.Shades.{mask_of as mask_read, masks_of, masks_moved, shades_at};
 
 /// A source that reads the word of an operand reads its mask too, where the masks of values stand by number.

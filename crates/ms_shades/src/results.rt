@@ -6,7 +6,7 @@ ghost use Rattle.ms_shades.specs.Results.{IsComputed, IsMask};
 use crate::addresses::address_mask;
 use crate::masks::{binary_mask, cast_mask};
 use crate::words::{View, read_word};
-use ms_code_data::Code;
+use ms_code::Code;
 use ms_masks::{compare_mask, select_mask};
 
 /// The mask of the result of an operation, a comparison, a cast, a selection, a `getelementptr` or a `freeze`.

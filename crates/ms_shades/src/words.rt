@@ -1,12 +1,12 @@
 //! The words that code reads, with their masks.
 ghost use Rattle.std.specs.Prelude.{◌≡◌, ◌<◌, ◌^◌, length};
-ghost use Rattle.ms_code_data.specs.Words.{word_of};
-ghost use Rattle.ms_code_data.specs.Fits.{IsSource};
+ghost use Rattle.ms_code.specs.Words.{word_of};
+ghost use Rattle.ms_code.specs.Fits.{IsSource};
 ghost use Rattle.ms_shades.specs.Shades.{mask_of as mask_read};
 ghost use Rattle.ms_shades.specs.Views.{IsView};
 
 use ms_bits::undef_word;
-use ms_code_data::Source;
+use ms_code::Source;
 use ms_masks::ones;
 
 /// A word that is read: its number and its mask.

@@ -1,13 +1,9 @@
 -- Where the slots are, and one store and one load.
-use Rattle.std.proofs.Common.{◌≡◌, ℕ, zero, suc, ◌+◌, ◌*◌, ◌/◌, ◌%◌, ◌^◌, ◌<◌, ◌≤◌, List, ◌∷◌, refl, sym, ap, ◌∙◌, subst, arith, Bool, true, false, Some, None}
-use Rattle.std.specs.Prelude.{if◌then◌else◌, leb, ◌&&◌, bit_xor}
-use Rattle.std.proofs.Math.Path.{ap₂}
-use Rattle.std.proofs.Math.Nat.{mod-eq_of_lt, pow-suc}
-use Rattle.std.proofs.Math.Pow.{pow_mono}
+use Rattle.std.proofs.Common.{◌≡◌, ℕ, ◌+◌, ◌*◌, ◌%◌, ◌^◌, ◌<◌, List, ◌∷◌, ap, ◌∙◌, arith, true, Some, None}
+use Rattle.std.specs.Prelude.{if◌then◌else◌, bit_xor}
 use Rattle.ms_bits.specs.declared.traps.Trap.TheVariants as trap
 use Rattle.ms_bits.specs.Maps.{byte_of, with_range, number_at}
 use Rattle.ms_bits.specs.Signed.{signed, wrap}
-use Rattle.ms_bits_laws.proofs.MapLemmas.{stored_is_loaded}
 use Rattle.ms_ir.specs.declared.calls.Slot.TheVariants as slot
 use Rattle.ms_ir.specs.declared.syntax.Name.{Name}
 use Rattle.ms_ir.specs.declared.syntax.Ty.{Ty}
@@ -25,22 +21,9 @@ use Rattle.ms_tasks.specs.Tasks.{inserted}
 use Rattle.ms_tasks.specs.Meaning.{Values, run_marked, marked_next}
 use Rattle.ms_tasks.specs.SlotTasks.{param_mask, param_origin, result_mask_slot, result_origin_slot}
 use Rattle.ms_tasks.specs.Match.{SlotAddresses, mask_slot, origin_slot}
-use Rattle.ms_tasks.proofs.OperandWords.{mod_once}
-use Rattle.ms_tasks.proofs.WordMasks.{wrap_signed}
+use Rattle.ms_tasks.proofs.Slots.{slot_of}
 
 -- ---- where the slots are
-
-slot_of : (a : ℕ) (k size : ℕ) → k < 100 → a < 2 ^ 47 → size ≤ 8 → (a + (wrap 64 (signed 64 k) * size + 0)) % 2 ^ 64 % 2 ^ 64 ≡ a + k * size
-slot_of a k size lk la ls =
-    let word : wrap 64 (signed 64 k) ≡ k = wrap_signed 64 k (omega arith) in
-    let bound : k * size ≤ 800 = product k size lk ls in
-    ap (λ i. (a + (i * size + 0)) % 2 ^ 64 % 2 ^ 64) word ∙ mod_once 64 (a + (k * size + 0)) ∙ ap (λ i. i % 2 ^ 64) (plus (k * size)) ∙ mod-eq_of_lt (omega (arith, bound))
-  where
-    plus : (n : ℕ) → a + (n + 0) ≡ a + n
-    plus n = omega arith
-
-    product : (k size : ℕ) → k < 100 → size ≤ 8 → k * size ≤ 800
-    product k size lk ls = let m : k * size ≤ k * 8 = grind arith in omega (arith, m)
 
 module _ (s : Setting) (at : SlotAddresses s) (names : Name → ℕ) where
   pub param_mask_at : (k : ℕ) → k < 100 → operand_word s names 64 (param_mask k) ≡ mask_slot k
@@ -55,61 +38,7 @@ module _ (s : Setting) (at : SlotAddresses s) (names : Name → ℕ) where
   pub result_origin_at : operand_word s names 64 result_origin_slot ≡ 0x680000003000
   result_origin_at = ap (λ a. a % 2 ^ 64) (at.stand slot.RetvalOrigin)
 
-in_first : (base size a n : ℕ) (rest : Bool) → base ≤ a → a + n ≤ base + size → (if leb base a && leb (a + n) (base + size) then true else rest) ≡ true
-in_first base size a n rest p q =
-    let e : leb base a ≡ true = grind arith in
-    let f : leb (a + n) (base + size) ≡ true = grind arith in
-    ap₂ (λ b c. if b && c then true else rest) e f
-
-in_later : (b rest : Bool) → rest ≡ true → (if b then true else rest) ≡ true
-in_later true rest e = refl
-in_later false rest e = e
-
-pub mask_inside : (k n : ℕ) → k < 100 → n ≤ 8 → in_slots (mask_slot k) n slots ≡ true
-mask_inside k n lk ln = in_first 0x680000000000 800 (mask_slot k) n _ (omega arith) (omega arith)
-
-pub origin_inside : (k n : ℕ) → k < 100 → n ≤ 4 → in_slots (origin_slot k) n slots ≡ true
-origin_inside k n lk ln = in_later (leb 0x680000000000 (origin_slot k) && leb (origin_slot k + n) (0x680000000000 + 800)) _ (in_first 0x680000001000 400 (origin_slot k) n _ (omega arith) (omega arith))
-
-pub result_inside : (n : ℕ) → n ≤ 8 → in_slots 0x680000002000 n slots ≡ true
-result_inside n l =
-    in_later (leb 0x680000000000 0x680000002000 && leb (0x680000002000 + n) (0x680000000000 + 800)) _
-    (in_later (leb 0x680000001000 0x680000002000 && leb (0x680000002000 + n) (0x680000001000 + 400)) _
-    (in_first 0x680000002000 8 0x680000002000 n _ (omega arith) (omega arith)))
-
-pub answer_inside : in_slots 0x680000003000 4 slots ≡ true
-answer_inside = refl
-
 -- ---- one store and one load
-
-pub size_small : (w : ℕ) → w ≤ 64 → (w + 7) / 8 ≤ 8
-size_small w l = omega arith
-
-bytes_bits : (n : ℕ) → 256 ^ n ≡ 2 ^ (8 * n)
-bytes_bits zero = refl
-bytes_bits (suc n) =
-    let e : 8 * suc n ≡ suc (suc (suc (suc (suc (suc (suc (suc (8 * n)))))))) = omega arith in
-    pow-suc 256 n ∙ grind (
-      arith,
-      bytes_bits n,
-      e,
-      pow-suc 2 (8 * n),
-      pow-suc 2 (suc (8 * n)),
-      pow-suc 2 (suc (suc (8 * n))),
-      pow-suc 2 (suc (suc (suc (8 * n)))),
-      pow-suc 2 (suc (suc (suc (suc (8 * n))))),
-      pow-suc 2 (suc (suc (suc (suc (suc (8 * n)))))),
-      pow-suc 2 (suc (suc (suc (suc (suc (suc (8 * n))))))),
-      pow-suc 2 (suc (suc (suc (suc (suc (suc (suc (8 * n)))))))),
-    )
-
--- a word that was stored whole
-pub stored_word : (cells : ℕ → ℕ) (a w v : ℕ) → v < 2 ^ w → number_at (with_range cells a ((w + 7) / 8) (byte_of v)) a ((w + 7) / 8) % 2 ^ w ≡ v
-stored_word cells a w v l =
-    let n = (w + 7) / 8 in
-    let room : 2 ^ w ≤ 2 ^ (8 * n) = pow_mono (omega arith) in
-    let less : v < 256 ^ n = subst (λ i. v < i) (sym (bytes_bits n)) (omega (arith, room, l)) in
-    ap (λ i. i % 2 ^ w) (stored_is_loaded cells a n v ∙ mod-eq_of_lt less) ∙ mod-eq_of_lt l
 
 module _ (s : Setting) (h : Here) (names : Name → ℕ) where
   -- the words with some bytes of the slots

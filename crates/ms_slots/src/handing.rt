@@ -1,15 +1,15 @@
 //! What is handed over to a callee or a caller.
 ghost use Rattle.std.specs.Prelude.{◌≡◌, map, IfOk, OnOk};
 ghost use Rattle.ms_tasks.specs.SlotTasks as slots;
-ghost use Rattle.ms_rules_code.specs.Made.{with_tasks};
-ghost use Rattle.ms_rules_code.specs.Steps.{tracked_of, shadow_mask, shadow_origin};
+ghost use Rattle.ms_rules_builder.specs.Made.{with_tasks};
+ghost use Rattle.ms_rules_builder.specs.Steps.{tracked_of, shadow_mask, shadow_origin};
 ghost use Rattle.ms_slots.specs.Places.{mask_slot, origin_slot};
 
-use crate::places::Place;
+use crate::places::Handover;
 use crate::words::{store_mask, store_origin};
 use ms_bits::NoMemory;
 use ms_ir::Operand;
-use ms_rules_code::{Code, Shadow, TrackedOperand, mask_name, origin_name};
+use ms_rules_builder::{Builder, Shadow, TrackedOperand, mask_name, origin_name};
 use std::alloc::Global;
 
 fn mask_operand(alloc: Global, shadow: Shadow) -> Result<Operand, NoMemory>
@@ -34,28 +34,28 @@ fn origin_operand(alloc: Global, shadow: Shadow) -> Result<Operand, NoMemory>
 
 fn hand(
     alloc: Global,
-    code: &mut Code,
-    place: Place,
+    builder: &mut Builder,
+    place: Handover,
     operand: &TrackedOperand<'_>,
 ) -> Result<(), NoMemory>
-    ensures { OnOk result (code.new ≡ with_tasks code.old (slots.give_tasks (mask_slot place) (origin_slot place) (tracked_of operand.now))) }
+    ensures { OnOk result (builder.new ≡ with_tasks builder.old (slots.give_tasks (mask_slot place) (origin_slot place) (tracked_of operand.now))) }
 {
     let mask = mask_operand(alloc, operand.shadow)?;
-    store_mask(alloc, code, place, operand.width(), mask)?;
+    store_mask(alloc, builder, place, operand.width(), mask)?;
     let origin = origin_operand(alloc, operand.shadow)?;
-    store_origin(alloc, code, place, origin)
+    store_origin(alloc, builder, place, origin)
 }
 
 /// Hands over the masks and origins of the arguments of a call. The one error is want of memory.
 pub fn hand_arguments(
     alloc: Global,
-    code: &mut Code,
+    builder: &mut Builder,
     operands: &[TrackedOperand<'_>],
 ) -> Result<(), NoMemory>
-    ensures { OnOk result (code.new ≡ with_tasks code.old (slots.give_arguments 0 (map tracked_of operands.now))) }
+    ensures { OnOk result (builder.new ≡ with_tasks builder.old (slots.give_arguments 0 (map tracked_of operands.now))) }
 {
     for (place, operand) in operands.iter().enumerate() {
-        hand(alloc, code, Place::Parameter(place as u64), operand)?;
+        hand(alloc, builder, Handover::Parameter(place as u64), operand)?;
     }
     Ok(())
 }
@@ -63,13 +63,13 @@ pub fn hand_arguments(
 /// Hands over the mask and the origin of what is returned, if something is. The one error is want of memory.
 pub fn hand_result(
     alloc: Global,
-    code: &mut Code,
+    builder: &mut Builder,
     operands: &[TrackedOperand<'_>],
 ) -> Result<(), NoMemory>
-    ensures { OnOk result (code.new ≡ with_tasks code.old (slots.give_result (map tracked_of operands.now))) }
+    ensures { OnOk result (builder.new ≡ with_tasks builder.old (slots.give_result (map tracked_of operands.now))) }
 {
     match operands.first() {
-        Some(operand) => hand(alloc, code, Place::Result, operand),
+        Some(operand) => hand(alloc, builder, Handover::Result, operand),
         None => Ok(()),
     }
 }

@@ -4,44 +4,44 @@
 ghost use Rattle.std.specs.Prelude.{◌≡◌, ◌<◌, ◌≤◌, ◌+◌, ◌*◌, ◌^◌, length, IfOk, OnOk};
 ghost use Rattle.ms_tasks.specs.Tasks.{tasks_code};
 ghost use Rattle.ms_tasks.specs.SlotTasks.{result_mask_slot, result_origin_slot};
-ghost use Rattle.ms_rules_code.specs.Made.{with_tasks};
+ghost use Rattle.ms_rules_builder.specs.Made.{with_tasks};
 ghost use Rattle.ms_slots.specs.Places.{mask_slot, origin_slot, store_tasks, load_tasks, store_arguments, load_parameters, made};
 
-use crate::places::Place;
+use crate::places::Handover;
 use crate::words::{load_word, store_mask, store_origin};
 use ms_bits::{Duplicate, List, NoMemory};
-use ms_ir::{Inst, Operand, Ty};
-use ms_rules_code::{Code, width_of};
+use ms_ir::{Inst, Operand, Ty, width_of};
+use ms_rules_builder::Builder;
 use std::alloc::Global;
 
 fn store_word(
     alloc: Global,
-    code: &mut Code,
-    place: Place,
+    builder: &mut Builder,
+    place: Handover,
     ty: &Ty,
     mask: &Operand,
     origin: &Operand,
 ) -> Result<(), NoMemory>
-    ensures { OnOk result (code.new ≡ with_tasks code.old (store_tasks (mask_slot place) (origin_slot place) (ty.now, mask.now, origin.now))) }
+    ensures { OnOk result (builder.new ≡ with_tasks builder.old (store_tasks (mask_slot place) (origin_slot place) (ty.now, mask.now, origin.now))) }
 {
     let mask = mask.copy(alloc)?;
-    store_mask(alloc, code, place, width_of(ty), mask)?;
+    store_mask(alloc, builder, place, width_of(ty), mask)?;
     let origin = origin.copy(alloc)?;
-    store_origin(alloc, code, place, origin)
+    store_origin(alloc, builder, place, origin)
 }
 
 fn store_words(
     alloc: Global,
-    code: &mut Code,
+    builder: &mut Builder,
     args: &[(Ty, Operand, Operand)],
 ) -> Result<(), NoMemory>
-    ensures { OnOk result (code.new ≡ with_tasks code.old (store_arguments 0 args.now)) }
+    ensures { OnOk result (builder.new ≡ with_tasks builder.old (store_arguments 0 args.now)) }
 {
     for (place, (ty, mask, origin)) in args.iter().enumerate() {
         store_word(
             alloc,
-            code,
-            Place::Parameter(place as u64),
+            builder,
+            Handover::Parameter(place as u64),
             ty,
             mask,
             origin,
@@ -50,12 +50,23 @@ fn store_words(
     Ok(())
 }
 
-fn load_words(alloc: Global, code: &mut Code, params: &[Ty], next: u32) -> Result<(), NoMemory>
-    ensures { OnOk result (code.new ≡ with_tasks code.old (load_parameters next 0 params.now)) }
+fn load_words(
+    alloc: Global,
+    builder: &mut Builder,
+    params: &[Ty],
+    next: u32,
+) -> Result<(), NoMemory>
+    ensures { OnOk result (builder.new ≡ with_tasks builder.old (load_parameters next 0 params.now)) }
 {
     for (place, ty) in params.iter().enumerate() {
         let number = u64::from(next) + 2 * place as u64;
-        load_word(alloc, code, Place::Parameter(place as u64), number, ty)?;
+        load_word(
+            alloc,
+            builder,
+            Handover::Parameter(place as u64),
+            number,
+            ty,
+        )?;
     }
     Ok(())
 }
@@ -69,9 +80,9 @@ pub fn pass_arguments(
 ) -> Result<(List<Inst>, u32), NoMemory>
     ensures { IfOk result (λ r. made r ≡ tasks_code (store_arguments 0 args.now) next) }
 {
-    let mut code = Code::new(alloc, u64::from(next));
-    store_words(alloc, &mut code, args)?;
-    Ok((List::from_vec(code.into_insts()), next))
+    let mut builder = Builder::new(alloc, u64::from(next));
+    store_words(alloc, &mut builder, args)?;
+    Ok((List::from_vec(builder.into_insts()), next))
 }
 
 /// The code that takes over the masks and origins of parameters of these types, and the next free number. Those of
@@ -86,9 +97,9 @@ pub fn take_parameters(
     ensures { IfOk result (λ r. made r ≡ tasks_code (load_parameters next 0 params.now) (next + 2 * length params.now)) }
 {
     let after = next + 2 * params.len() as u32;
-    let mut code = Code::new(alloc, u64::from(after));
-    load_words(alloc, &mut code, params, next)?;
-    Ok((List::from_vec(code.into_insts()), after))
+    let mut builder = Builder::new(alloc, u64::from(after));
+    load_words(alloc, &mut builder, params, next)?;
+    Ok((List::from_vec(builder.into_insts()), after))
 }
 
 /// The code that hands over the mask and the origin of a result, and the next free number, which stays.
@@ -101,9 +112,9 @@ pub fn give_result(
 ) -> Result<(List<Inst>, u32), NoMemory>
     ensures { IfOk result (λ r. made r ≡ tasks_code (store_tasks result_mask_slot result_origin_slot (ty.now, mask.now, origin.now)) next) }
 {
-    let mut code = Code::new(alloc, u64::from(next));
-    store_word(alloc, &mut code, Place::Result, ty, mask, origin)?;
-    Ok((List::from_vec(code.into_insts()), next))
+    let mut builder = Builder::new(alloc, u64::from(next));
+    store_word(alloc, &mut builder, Handover::Result, ty, mask, origin)?;
+    Ok((List::from_vec(builder.into_insts()), next))
 }
 
 /// The code that takes over the mask and the origin of a result of a type, and the next free number. They come out as the
@@ -113,7 +124,7 @@ pub fn take_result(alloc: Global, ty: &Ty, next: u32) -> Result<(List<Inst>, u32
     ensures { IfOk result (λ r. made r ≡ tasks_code (load_tasks result_mask_slot result_origin_slot next ty.now) (next + 2)) }
 {
     let after = next + 2;
-    let mut code = Code::new(alloc, u64::from(after));
-    load_word(alloc, &mut code, Place::Result, u64::from(next), ty)?;
-    Ok((List::from_vec(code.into_insts()), after))
+    let mut builder = Builder::new(alloc, u64::from(after));
+    load_word(alloc, &mut builder, Handover::Result, u64::from(next), ty)?;
+    Ok((List::from_vec(builder.into_insts()), after))
 }

@@ -11,7 +11,7 @@ use std::alloc::Global;
 
 /// Where the mask and the origin of a word are handed over.
 #[derive(Clone, Copy)]
-pub enum Place {
+pub enum Handover {
     /// Those of an argument with a place, from 0.
     Parameter(u64),
     /// Those of a result.
@@ -57,14 +57,14 @@ fn item_of_slot(alloc: Global, slot: Slot, width: u8, place: u64) -> Result<Oper
     Ok(Operand::Offset(name, steps))
 }
 
-impl Place {
+impl Handover {
     /// The slot of the mask. The one error is want of memory.
     pub fn mask_slot(self, alloc: Global) -> Result<Operand, NoMemory>
         ensures { IfOk result (λ o. o ≡ mask_slot self) }
     {
         match self {
-            Place::Parameter(place) => item_of_slot(alloc, Slot::ParamMasks, 64, place),
-            Place::Result => whole_slot(alloc, Slot::RetvalMask),
+            Handover::Parameter(place) => item_of_slot(alloc, Slot::ParamMasks, 64, place),
+            Handover::Result => whole_slot(alloc, Slot::RetvalMask),
         }
     }
 
@@ -73,8 +73,8 @@ impl Place {
         ensures { IfOk result (λ o. o ≡ origin_slot self) }
     {
         match self {
-            Place::Parameter(place) => item_of_slot(alloc, Slot::ParamOrigins, 32, place),
-            Place::Result => whole_slot(alloc, Slot::RetvalOrigin),
+            Handover::Parameter(place) => item_of_slot(alloc, Slot::ParamOrigins, 32, place),
+            Handover::Result => whole_slot(alloc, Slot::RetvalOrigin),
         }
     }
 }

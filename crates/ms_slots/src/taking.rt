@@ -1,40 +1,51 @@
 //! What a function takes over from its caller, and a caller from its callee.
 ghost use Rattle.std.specs.Prelude.{◌≡◌, OnOk};
 ghost use Rattle.ms_tasks.specs.SlotTasks.{take_tasks, param_mask, param_origin, result_mask_slot, result_origin_slot};
-ghost use Rattle.ms_rules_code.specs.Made.{with_tasks};
+ghost use Rattle.ms_rules_builder.specs.Made.{with_tasks};
 ghost use Rattle.ms_slots.specs.Places.{mask_slot, origin_slot};
 
-use crate::places::Place;
+use crate::places::Handover;
 use crate::words::load_word;
 use ms_bits::NoMemory;
 use ms_ir::Ty;
-use ms_rules_code::Code;
+use ms_rules_builder::Builder;
 use std::alloc::Global;
 
-fn fetch(alloc: Global, code: &mut Code, place: Place, value: u32, ty: &Ty) -> Result<(), NoMemory>
-    ensures { OnOk result (code.new ≡ with_tasks code.old (take_tasks (mask_slot place) (origin_slot place) value ty.now)) }
+fn fetch(
+    alloc: Global,
+    builder: &mut Builder,
+    place: Handover,
+    value: u32,
+    ty: &Ty,
+) -> Result<(), NoMemory>
+    ensures { OnOk result (builder.new ≡ with_tasks builder.old (take_tasks (mask_slot place) (origin_slot place) value ty.now)) }
 {
-    load_word(alloc, code, place, 2 * u64::from(value) + 1, ty)
+    load_word(alloc, builder, place, 2 * u64::from(value) + 1, ty)
 }
 
 /// Takes over the mask and the origin of the parameter with a place, from 0, under the names of the function's value with
 /// a number. The one error is want of memory.
 pub fn fetch_parameter(
     alloc: Global,
-    code: &mut Code,
+    builder: &mut Builder,
     place: u64,
     value: u32,
     ty: &Ty,
 ) -> Result<(), NoMemory>
-    ensures { OnOk result (code.new ≡ with_tasks code.old (take_tasks (param_mask place) (param_origin place) value ty.now)) }
+    ensures { OnOk result (builder.new ≡ with_tasks builder.old (take_tasks (param_mask place) (param_origin place) value ty.now)) }
 {
-    fetch(alloc, code, Place::Parameter(place), value, ty)
+    fetch(alloc, builder, Handover::Parameter(place), value, ty)
 }
 
 /// Takes over the mask and the origin of the result of a call, under the names of the function's value with a number. The
 /// one error is want of memory.
-pub fn fetch_result(alloc: Global, code: &mut Code, value: u32, ty: &Ty) -> Result<(), NoMemory>
-    ensures { OnOk result (code.new ≡ with_tasks code.old (take_tasks result_mask_slot result_origin_slot value ty.now)) }
+pub fn fetch_result(
+    alloc: Global,
+    builder: &mut Builder,
+    value: u32,
+    ty: &Ty,
+) -> Result<(), NoMemory>
+    ensures { OnOk result (builder.new ≡ with_tasks builder.old (take_tasks result_mask_slot result_origin_slot value ty.now)) }
 {
-    fetch(alloc, code, Place::Result, value, ty)
+    fetch(alloc, builder, Handover::Result, value, ty)
 }

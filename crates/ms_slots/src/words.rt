@@ -4,22 +4,22 @@
 ghost use Rattle.std.specs.Prelude.{◌≡◌, ◌<◌, ◌+◌, ◌^◌, [], ◌∷◌, OnOk};
 ghost use Rattle.ms_ir.specs.declared.syntax.Ty.{Int};
 ghost use Rattle.ms_tasks.specs.Tasks.{msan_name, Leaf, Fetches, Puts};
-ghost use Rattle.ms_rules_code.specs.Made.{with_tasks};
+ghost use Rattle.ms_rules_builder.specs.Made.{with_tasks};
 ghost use Rattle.ms_slots.specs.Places.{mask_slot, origin_slot, load_tasks};
 
-use crate::places::Place;
+use crate::places::Handover;
 use ms_bits::NoMemory;
-use ms_ir::{Name, Op, Operand, Ty};
-use ms_rules_code::{Code, msan_name, width_of};
+use ms_ir::{Name, Op, Operand, Ty, width_of};
+use ms_rules_builder::{Builder, msan_name};
 use std::alloc::Global;
 
 /// The bits of an origin.
 const ORIGIN_WIDTH: u8 = 32;
 
-fn store(code: &mut Code, width: u8, value: Operand, addr: Operand) -> Result<(), NoMemory>
-    ensures { OnOk result (code.new ≡ with_tasks code.old (Puts (Int width) (Leaf value) (Leaf addr) ∷ [])) }
+fn store(builder: &mut Builder, width: u8, value: Operand, addr: Operand) -> Result<(), NoMemory>
+    ensures { OnOk result (builder.new ≡ with_tasks builder.old (Puts (Int width) (Leaf value) (Leaf addr) ∷ [])) }
 {
-    code.put(
+    builder.put(
         None,
         Op::Store {
             ty: Ty::Int(width),
@@ -29,10 +29,10 @@ fn store(code: &mut Code, width: u8, value: Operand, addr: Operand) -> Result<()
     )
 }
 
-fn load(code: &mut Code, name: Name, width: u8, addr: Operand) -> Result<(), NoMemory>
-    ensures { OnOk result (code.new ≡ with_tasks code.old (Fetches name (Int width) (Leaf addr) ∷ [])) }
+fn load(builder: &mut Builder, name: Name, width: u8, addr: Operand) -> Result<(), NoMemory>
+    ensures { OnOk result (builder.new ≡ with_tasks builder.old (Fetches name (Int width) (Leaf addr) ∷ [])) }
 {
-    code.put(
+    builder.put(
         Some(name),
         Op::Load {
             ty: Ty::Int(width),
@@ -44,63 +44,68 @@ fn load(code: &mut Code, name: Name, width: u8, addr: Operand) -> Result<(), NoM
 /// A mask of a width goes into its slot.
 pub fn store_mask(
     alloc: Global,
-    code: &mut Code,
-    place: Place,
+    builder: &mut Builder,
+    place: Handover,
     width: u8,
     mask: Operand,
 ) -> Result<(), NoMemory>
-    ensures { OnOk result (code.new ≡ with_tasks code.old (Puts (Int width) (Leaf mask) (Leaf (mask_slot place)) ∷ [])) }
+    ensures { OnOk result (builder.new ≡ with_tasks builder.old (Puts (Int width) (Leaf mask) (Leaf (mask_slot place)) ∷ [])) }
 {
     let slot = place.mask_slot(alloc)?;
-    store(code, width, mask, slot)
+    store(builder, width, mask, slot)
 }
 
 /// An origin goes into its slot.
 pub fn store_origin(
     alloc: Global,
-    code: &mut Code,
-    place: Place,
+    builder: &mut Builder,
+    place: Handover,
     origin: Operand,
 ) -> Result<(), NoMemory>
-    ensures { OnOk result (code.new ≡ with_tasks code.old (Puts (Int 32) (Leaf origin) (Leaf (origin_slot place)) ∷ [])) }
+    ensures { OnOk result (builder.new ≡ with_tasks builder.old (Puts (Int 32) (Leaf origin) (Leaf (origin_slot place)) ∷ [])) }
 {
     let slot = place.origin_slot(alloc)?;
-    store(code, ORIGIN_WIDTH, origin, slot)
+    store(builder, ORIGIN_WIDTH, origin, slot)
 }
 
 fn load_mask(
     alloc: Global,
-    code: &mut Code,
-    place: Place,
+    builder: &mut Builder,
+    place: Handover,
     number: u64,
     width: u8,
 ) -> Result<(), NoMemory>
-    ensures { OnOk result (code.new ≡ with_tasks code.old (Fetches (msan_name number) (Int width) (Leaf (mask_slot place)) ∷ [])) }
+    ensures { OnOk result (builder.new ≡ with_tasks builder.old (Fetches (msan_name number) (Int width) (Leaf (mask_slot place)) ∷ [])) }
 {
     let name = msan_name(alloc, number)?;
     let slot = place.mask_slot(alloc)?;
-    load(code, name, width, slot)
+    load(builder, name, width, slot)
 }
 
-fn load_origin(alloc: Global, code: &mut Code, place: Place, number: u64) -> Result<(), NoMemory>
-    ensures { OnOk result (code.new ≡ with_tasks code.old (Fetches (msan_name number) (Int 32) (Leaf (origin_slot place)) ∷ [])) }
+fn load_origin(
+    alloc: Global,
+    builder: &mut Builder,
+    place: Handover,
+    number: u64,
+) -> Result<(), NoMemory>
+    ensures { OnOk result (builder.new ≡ with_tasks builder.old (Fetches (msan_name number) (Int 32) (Leaf (origin_slot place)) ∷ [])) }
 {
     let name = msan_name(alloc, number)?;
     let slot = place.origin_slot(alloc)?;
-    load(code, name, ORIGIN_WIDTH, slot)
+    load(builder, name, ORIGIN_WIDTH, slot)
 }
 
 /// A mask of a type and an origin come out of their slots, as the inserted result with a number and the one after it.
 pub fn load_word(
     alloc: Global,
-    code: &mut Code,
-    place: Place,
+    builder: &mut Builder,
+    place: Handover,
     number: u64,
     ty: &Ty,
 ) -> Result<(), NoMemory>
     requires { number < 2 ^ 63 }
-    ensures { OnOk result (code.new ≡ with_tasks code.old (load_tasks (mask_slot place) (origin_slot place) number ty.now)) }
+    ensures { OnOk result (builder.new ≡ with_tasks builder.old (load_tasks (mask_slot place) (origin_slot place) number ty.now)) }
 {
-    load_mask(alloc, code, place, number, width_of(ty))?;
-    load_origin(alloc, code, place, number + 1)
+    load_mask(alloc, builder, place, number, width_of(ty))?;
+    load_origin(alloc, builder, place, number + 1)
 }

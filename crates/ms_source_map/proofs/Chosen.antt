@@ -6,7 +6,7 @@ use Rattle.std.proofs.lemmas.List.{map-append}
 use Rattle.ms_ir.specs.declared.syntax.Block.{Block}
 use Rattle.ms_ir.specs.declared.syntax.Func.{Func}
 use Rattle.ms_ir.specs.declared.syntax.Module.{Module}
-use Rattle.ms_ir.specs.Code.{is_unmarked}
+use Rattle.ms_ir.specs.Instructions.{is_unmarked}
 use Rattle.ms_ir.specs.Locals.{func_insts}
 use Rattle.ms_places.specs.declared.marks.Mark.{Mark}
 use Rattle.ms_places.specs.Instructions.{module_insts}

@@ -69,7 +69,7 @@ of_printed (b ∷ bytes) = behind (printed b) (map printed bytes) (shown_other b
 
 -- ---- indented texts
 
-none : IsIndented []
+pub none : IsIndented []
 none = record { lines = []; single = refl; whole = refl }
 
 one : (line : List ℕ) → Single line → IsIndented (indented line)

@@ -4,7 +4,7 @@ use Rattle.std.specs.List.{zip, enumerate_from}
 use Rattle.ms_ir.specs.declared.syntax.Block.{Block}
 use Rattle.ms_ir.specs.declared.syntax.Func.{Func}
 use Rattle.ms_ir.specs.declared.syntax.Module.{Module}
-use Rattle.ms_ir.specs.Code.{is_unmarked}
+use Rattle.ms_ir.specs.Instructions.{is_unmarked}
 use Rattle.ms_places.specs.declared.marks.Mark.{Mark}
 use Rattle.ms_places.specs.Instructions.{is_instruction, module_insts}
 

@@ -2,7 +2,7 @@
 
 ghost use Rattle.std.specs.Prelude.{◌≡◌, ◌++◌, IfOk, map, filter, flat_map};
 ghost use Rattle.std.specs.List.{zip};
-ghost use Rattle.ms_ir.specs.Code.{is_unmarked};
+ghost use Rattle.ms_ir.specs.Instructions.{is_unmarked};
 ghost use Rattle.ms_places.specs.Instructions.{is_instruction, module_insts};
 ghost use Rattle.ms_source_map.specs.Sites as spec;
 

@@ -33,7 +33,7 @@ fn push_sites(out: &mut Vec<u8>, map: &SourceMap<'_>, sites: u32) -> bool {
 }
 
 /// Whether the lines of a text's sites are those that are wanted.
-#[tactic(auto, unfolding(ms_grammar::specs::Texts::max_bytes))]
+#[tactic(auto, unfolding(ms_text_grammar::specs::Texts::max_bytes))]
 fn lines_agree(alloc: Global, case: &Case, found: &[Token]) -> bool
     requires short { length case.now.0.now ≤ 10000 }
     requires few { length found.now ≤ 10000 }

@@ -1,23 +1,13 @@
 -- A list at an item that a loop has come to.
-use Rattle.std.proofs.Common.{◌≡◌, ℕ, zero, suc, ◌+◌, ◌<◌, List, [], ◌∷◌, ◌++◌, Option, Some, None, length, get_or, take, drop, map, refl, sym, ◌∙◌, ap, drop-cons, add-one, append_assoc}
-use Rattle.std.specs.Prelude.{IfNone, IfOk, Result, Ok, Err, option_to_list, slice_get}
+use Rattle.std.proofs.Common.{◌≡◌, ℕ, ◌+◌, ◌<◌, List, [], ◌∷◌, ◌++◌, Option, Some, None, length, get_or, take, map, refl, sym, ◌∙◌, ap, add-one, append_assoc}
+use Rattle.std.specs.Prelude.{IfNone, option_to_list, slice_get}
 use Rattle.std.specs.Option.{option_or}
 use Rattle.std.proofs.lemmas.List.{take_more, map-append}
-
--- what is left begins with the item
-pub drop_item : {A : Type 0} (items : List A) (i : ℕ) (item : A) → i < length items → item ≡ get_or items i item → drop i items ≡ item ∷ drop (i + 1) items
-drop_item items i item below is = drop-cons items i item below ∙ ap (λ x. x ∷ drop (suc i) items) (sym is) ∙ ap (λ n. item ∷ drop n items) (sym (add-one i))
+use Rattle.ms_ir.proofs.RootKinds.{one_more}
 
 -- what is done ends with it behind the next step
 pub take_item : {A : Type 0} (items : List A) (i : ℕ) (item : A) → i < length items → item ≡ get_or items i item → take (i + 1) items ≡ take i items ++ item ∷ []
 take_item items i item below is = take_more items i item below ∙ ap (λ x. take i items ++ x ∷ []) (sym is)
-
--- one item more, if there is one more
-pub one_more : {A : Type 0} (items : List A) (k : ℕ) → take (suc k) items ≡ take k items ++ option_to_list (slice_get items k)
-one_more [] zero = refl
-one_more [] (suc k) = refl
-one_more (x ∷ items) zero = refl
-one_more (x ∷ items) (suc k) = ap (λ r. x ∷ r) (one_more items k)
 
 -- what stands for the items so far, and for one more
 pub mapped_next : {A B : Type 0} (f : A → B) (items : List A) (k : ℕ) (start before after : List B) → after ≡ before ++ map f (option_to_list (slice_get items k))
@@ -40,10 +30,6 @@ none_then (Some x) P is h = absurd (cc)
 pub under_none : {A : Type 0} (answer : Option A) (P Q : Type 0) → (P → Q) → IfNone answer P → IfNone answer Q
 under_none None P Q go h = go h
 under_none (Some x) P Q go h = tt
-
-pub under_ok : {A E : Type 0} (answer : Result A E) (P Q : A → Type 0) → ((x : A) → P x → Q x) → IfOk answer P → IfOk answer Q
-under_ok (Ok x) P Q go h = go x h
-under_ok (Err e) P Q go h = tt
 
 -- the first of two lists, and of two lists before a third
 pub first-append : {A : Type 0} (xs ys : List A) → slice_get (xs ++ ys) 0 ≡ option_or (slice_get xs 0) (slice_get ys 0)

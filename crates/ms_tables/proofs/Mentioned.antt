@@ -7,12 +7,12 @@ use Rattle.ms_ir.specs.declared.syntax.Ty.{Ty}
 use Rattle.ms_ir.specs.declared.syntax.Operand.{Operand}
 use Rattle.ms_ir.specs.declared.syntax.Op.{Op}
 use Rattle.ms_ir.specs.declared.syntax.Op.TheVariants as op
-use Rattle.ms_ir.specs.Code.{operands}
+use Rattle.ms_ir.specs.Instructions.{operands}
 use Rattle.ms_ir.specs.Written.{Mention, OfLocal, OfGlobal, type_mentions, operand_mentions, operands_mentions, targets, mentions}
 use Rattle.ms_ir.specs.Locals.{Spelled}
+use Rattle.ms_ir.proofs.Sizes.{drop_next}
 use Rattle.ms_valid.specs.NamesKnown.{spelled}
 use Rattle.ms_tables.specs.Sought.{first_sought}
-use Rattle.ms_tables.proofs.Items.{drop_item}
 
 pub sought-append : (sought : Mention → Bool) (xs ys : List Mention) → first_sought sought (xs ++ ys) ≡ option_or (first_sought sought xs) (first_sought sought ys)
 sought-append sought [] ys = refl
@@ -27,7 +27,7 @@ sought-append sought (x ∷ xs) ys = split (sought x) (sought-append sought xs y
 pub sought_passed : {A : Type 0} (sought : Mention → Bool) (g : A → List Mention) (items : List A) (i : ℕ) (item : A) (first : Option Spelled) → i < length items → item ≡ get_or items i item
     → first_sought sought (g item) ≡ None → first_sought sought (flat_map g (drop i items)) ≡ first → first_sought sought (flat_map g (drop (i + 1) items)) ≡ first
 sought_passed sought g items i item first below here none before =
-    sym (ap (λ r. first_sought sought (flat_map g r)) (drop_item items i item below here) ∙ sought-append sought (g item) (flat_map g (drop (i + 1) items))
+    sym (ap (λ r. first_sought sought (flat_map g r)) (drop_next items i item below here) ∙ sought-append sought (g item) (flat_map g (drop (i + 1) items))
     ∙ ap (λ r. option_or r (first_sought sought (flat_map g (drop (i + 1) items)))) none)
     ∙ before
 
@@ -35,7 +35,7 @@ sought_passed sought g items i item first below here none before =
 pub sought_stopped : {A : Type 0} (sought : Mention → Bool) (g : A → List Mention) (items : List A) (i : ℕ) (item : A) (x : Spelled) → i < length items → item ≡ get_or items i item
     → first_sought sought (g item) ≡ Some x → first_sought sought (flat_map g (drop i items)) ≡ Some x
 sought_stopped sought g items i item x below here found =
-    ap (λ r. first_sought sought (flat_map g r)) (drop_item items i item below here) ∙ sought-append sought (g item) (flat_map g (drop (i + 1) items))
+    ap (λ r. first_sought sought (flat_map g r)) (drop_next items i item below here) ∙ sought-append sought (g item) (flat_map g (drop (i + 1) items))
     ∙ ap (λ r. option_or r (first_sought sought (flat_map g (drop (i + 1) items)))) found
 
 pub with_end : (sought : Mention → Bool) (xs : List Mention) → first_sought sought xs ≡ first_sought sought (xs ++ [])

@@ -24,6 +24,17 @@ after_first (suc first) places zero le = absurd (omega (arith, le))
 after_first (suc first) places (suc n) le =
     let same : n - first ≡ suc n - suc first = omega arith in after_first first places n (omega (arith, le)) ∙ ap (λ k. taken_at places k) same
 
+none_behind : (places : List (Option ℕ)) (n : ℕ) → n ≡ length places → taken_at places n ≡ None
+none_behind [] zero e = refl
+none_behind [] (suc n) e = refl
+none_behind (p ∷ places) zero e = absurd (omega (arith, e))
+none_behind (p ∷ places) (suc n) e = none_behind places n (omega (arith, e))
+
+pub after_last : (first : ℕ) (places : List (Option ℕ)) (n : ℕ) → n ≡ first + length places → place_from first places n ≡ None
+after_last zero places n e = none_behind places n (omega (arith, e))
+after_last (suc first) places zero e = refl
+after_last (suc first) places (suc n) e = after_last first places n (omega (arith, e))
+
 none_at_end : (places : List (Option ℕ)) (n : ℕ) → taken_at (places ++ None ∷ []) n ≡ taken_at places n
 none_at_end [] zero = refl
 none_at_end [] (suc n) = refl

@@ -4,7 +4,7 @@ use Rattle.std.specs.Prelude.{◌||◌, ◌<◌, slice_get}
 use Rattle.ms_ir.specs.declared.syntax.Name.{Name}
 use Rattle.ms_ir.specs.Names.{name_eq}
 use Rattle.ms_ir.specs.Equal.{has_name}
-use Rattle.ms_valid.proofs.NameTests.{name_sound}
+use Rattle.ms_ir.proofs.RootKinds.{name_same}
 use Rattle.ms_tables.specs.FirstPlace.{first_place}
 
 -- the place of a name in a list with one more at its end, which is that name or isn't
@@ -39,7 +39,7 @@ place_known names y k known x = first_place-append names y x ∙ split (first_pl
     split : (place : Option ℕ) → first_place names x ≡ place → (hit : Bool) → name_eq y x ≡ hit → with_last place hit (length names) ≡ place
     split (Some n) at hit e = refl
     split None at false e = refl
-    split None at true e = absurd (let same : first_place names y ≡ first_place names x = ap (first_place names) (name_sound y x e) in cc)
+    split None at true e = absurd (let same : first_place names y ≡ first_place names x = ap (first_place names) (name_same y x e) in cc)
 
 -- a name that it has not yet is found at the end
 pub place_new : (names : List Name) (y : Name) → first_place names y ≡ None → (x : Name) → first_place (names ++ y ∷ []) x ≡ (if name_eq y x then Some (length names) else first_place names x)
@@ -49,7 +49,7 @@ place_new names y absent x = first_place-append names y x ∙ split (first_place
     split None at true e = refl
     split None at false e = refl
     split (Some n) at false e = refl
-    split (Some n) at true e = absurd (let same : first_place names y ≡ first_place names x = ap (first_place names) (name_sound y x e) in cc)
+    split (Some n) at true e = absurd (let same : first_place names y ≡ first_place names x = ap (first_place names) (name_same y x e) in cc)
 
 -- a list has a name exactly where the name has a place
 pub place_tells : (names : List Name) (x : Name) → is_some (first_place names x) ≡ has_name names x
@@ -81,6 +81,6 @@ place_holds [] x k e = absurd (cc)
 place_holds (y ∷ names) x k e = split (name_eq y x) refl (first_place names x) (place_holds names x) e
   where
     split : (hit : Bool) → name_eq y x ≡ hit → (place : Option ℕ) → ((j : ℕ) → place ≡ Some j → slice_get names j ≡ Some x) → (if hit then Some 0 else option_map suc place) ≡ Some k → slice_get (y ∷ names) k ≡ Some x
-    split true same place rest is = let zero : 0 ≡ k = cc in subst (λ n. slice_get (y ∷ names) n ≡ Some x) zero (ap Some (name_sound y x same))
+    split true same place rest is = let zero : 0 ≡ k = cc in subst (λ n. slice_get (y ∷ names) n ≡ Some x) zero (ap Some (name_same y x same))
     split false same (Some j) rest is = let next : suc j ≡ k = cc in subst (λ n. slice_get (y ∷ names) n ≡ Some x) next (rest j refl)
     split false same None rest is = absurd (cc)

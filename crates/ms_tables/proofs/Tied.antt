@@ -2,10 +2,9 @@
 use Rattle.std.proofs.Common.{◌≡◌, ℕ, suc, Bool, true, false, List, [], ◌∷◌, Option, Some, None, length, map, option_map, refl, sym, ◌∙◌, ap, if◌then◌else◌}
 use Rattle.std.specs.Prelude.{unwrap_or}
 use Rattle.ms_ir.specs.declared.syntax.Name.{Name}
-use Rattle.ms_ir.specs.declared.syntax.Block.{Block}
 use Rattle.ms_ir.specs.declared.syntax.Func.{Func}
 use Rattle.ms_ir.specs.Names.{name_eq, lookup}
-use Rattle.ms_ir.specs.Code.{block_index, func_index}
+use Rattle.ms_ir.specs.Instructions.{func_index}
 use Rattle.ms_valid.specs.FlowGraph.{name_place}
 use Rattle.ms_tables.specs.FirstPlace.{first_place, at_place}
 
@@ -21,16 +20,6 @@ name_place_is (y ∷ names) x = split (name_eq y x) (ap suc (name_place_is names
   where
     split : (hit : Bool) → suc (name_place names x) ≡ unwrap_or (option_map suc (first_place names x)) (suc (length names))
         → (if hit then 0 else suc (name_place names x)) ≡ unwrap_or (if hit then Some 0 else option_map suc (first_place names x)) (suc (length names))
-    split true rest = refl
-    split false rest = rest
-
--- the number of a block, which is their number where none has the name
-pub block_index_is : (blocks : List Block) (x : Name) → block_index blocks x ≡ unwrap_or (first_place (map (λ b. b.name) blocks) x) (length blocks)
-block_index_is [] x = refl
-block_index_is (b ∷ blocks) x = split (name_eq b.name x) (ap suc (block_index_is blocks x) ∙ sym (next_or (first_place (map (λ k. k.name) blocks) x) (length blocks)))
-  where
-    split : (hit : Bool) → suc (block_index blocks x) ≡ unwrap_or (option_map suc (first_place (map (λ k. k.name) blocks) x)) (suc (length blocks))
-        → (if hit then 0 else suc (block_index blocks x)) ≡ unwrap_or (if hit then Some 0 else option_map suc (first_place (map (λ k. k.name) blocks) x)) (suc (length blocks))
     split true rest = refl
     split false rest = rest
 

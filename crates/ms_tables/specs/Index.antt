@@ -1,6 +1,7 @@
 -- What an index has at a name (own).
 use denote.Ref.{Bor}
-use Rattle.std.specs.Prelude.{ℕ, zero, suc, if◌then◌else◌, nat_eq, List, Option, Some, None, slice_get}
+use Rattle.std.specs.Global.{Box}
+use Rattle.std.specs.Prelude.{ℕ, zero, suc, if◌then◌else◌, nat_eq, List, [], ◌∷◌, Option, Some, None, slice_get}
 use Rattle.std.specs.declared.hash.FoldHasher.{FoldHasher}
 use Rattle.std.specs.declared.hash.BuildHasherDefault.{BuildHasherDefault}
 use Rattle.std.specs.Hash.FoldHasher.{initial, write, finish}
@@ -31,11 +32,24 @@ text_mark text = finish (write initial text)
 abbrev pub Marked : Type 0
 Marked = HashMap ℕ (Bor (List ℕ) × ℕ) (BuildHasherDefault FoldHasher)
 
--- the place of a text with a mark, if it is the first with that mark
-abbrev pub place_marked : Marked → ℕ → List ℕ → Option ℕ
-place_marked marked mark text = elim (hash.get nat_eq marked mark) [ Some first ↦ (if pointwise nat_eq first.0.now text then Some first.1 else None) | None ↦ None ]
+-- the first text with a mark, and its place, where texts are found by their marks
+abbrev pub first_marked : Option (Box Marked) → ℕ → Option (Bor (List ℕ) × ℕ)
+first_marked marked mark = elim marked [ Some m ↦ hash.get nat_eq m.value mark | None ↦ None ]
+
+-- the place of a text, if it is the first with its mark
+abbrev pub place_marked : Option (Box Marked) → List ℕ → Option ℕ
+place_marked marked text = elim (first_marked marked (text_mark text)) [ Some first ↦ (if pointwise nat_eq first.0.now text then Some first.1 else None) | None ↦ None ]
+
+-- the place of a text among few: that of the last which is equal, or else what was found before
+abbrev pub place_few : Option ℕ → List (Bor (List ℕ) × ℕ) → List ℕ → Option ℕ
+place_few found [] text = found
+place_few found (entry ∷ few) text = place_few (if pointwise nat_eq entry.0.now text then Some entry.1 else found) few text
+
+-- the place of a text that isn't the first with its mark
+abbrev pub place_unmarked : Index → List ℕ → Option ℕ
+place_unmarked index text = elim (place_few None index.few.items text) [ Some place ↦ Some place | None ↦ get_by (λ k. slice_cmp nat_cmp text k.now) index.texts ]
 
 -- the place of a name
 abbrev pub place_in : Index → Name → Option ℕ
 place_in index (Number n) = elim (place_from index.first index.near.items n) [ Some place ↦ Some place | None ↦ get nat_cmp index.numbers n ]
-place_in index (Text bytes) = elim (place_marked index.marked (text_mark bytes) bytes) [ Some place ↦ Some place | None ↦ get_by (λ k. slice_cmp nat_cmp bytes k.now) index.texts ]
+place_in index (Text bytes) = elim (place_marked index.marked bytes) [ Some place ↦ Some place | None ↦ place_unmarked index bytes ]

@@ -29,7 +29,7 @@ pub use extents::Extents;
 pub use here::Here;
 pub use named::Named;
 pub use names::Names;
-pub use numbers::{block_numbers, number};
+pub use numbers::{block_numbers, name_place};
 pub use picked::{Pick, push_code};
 pub use sought::Search;
 pub use spelled::{Spelled, Unknown};

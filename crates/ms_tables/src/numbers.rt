@@ -22,7 +22,7 @@ pub fn block_numbers(alloc: Global, func: &Func) -> Result<Names<'_>, NoMemory>
 
 /// The number of a block or value by its name: the first place of the name, or the number of all names where it isn't
 /// among them.
-pub fn number(names: &Names<'_>, name: &Name) -> u32
+pub fn name_place(names: &Names<'_>, name: &Name) -> u32
     ensures { result ≡ name_place names.now name.now }
 {
     match names.place(name) {

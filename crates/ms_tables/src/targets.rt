@@ -4,7 +4,7 @@ ghost use Rattle.ms_valid.specs.FlowGraph.{name_place};
 ghost use Rattle.ms_ir.specs.Written.{targets};
 
 use crate::Names;
-use crate::numbers::number;
+use crate::numbers::name_place;
 use ms_bits::NoMemory;
 use ms_ir::{Name, Op};
 
@@ -12,7 +12,7 @@ use ms_ir::{Name, Op};
 pub fn push_number(names: &Names<'_>, name: &Name, numbers: &mut Vec<u32>) -> Result<(), NoMemory>
     ensures { OnOk result (numbers.new.items ≡ numbers.old.items ++ name_place names.now name.now ∷ []) }
 {
-    numbers.push(number(names, name))?;
+    numbers.push(name_place(names, name))?;
     Ok(())
 }
 

@@ -1,6 +1,6 @@
 //! The first name that is sought in instructions and their parts.
 ghost use Rattle.std.specs.Prelude.{◌≡◌, ◌++◌, [], ◌∷◌, List, map, flat_map, slice_get, option_and_then};
-ghost use Rattle.ms_ir.specs.Code.{operands};
+ghost use Rattle.ms_ir.specs.Instructions.{operands};
 ghost use Rattle.ms_ir.specs.Written.{Mention, OfLocal, type_mentions, operand_mentions, operands_mentions, targets, mentions};
 ghost use Rattle.ms_valid.specs.NamesKnown.{global_mentions};
 ghost use Rattle.ms_tables.specs.Sought.{first_sought};

@@ -1,6 +1,6 @@
 //! The first fault that a clause finds in the functions of a module.
 ghost use Rattle.std.specs.Prelude.{◌≡◌, ◌+◌, ◌++◌, ◌<◌, ◌^◌, All, length, IfOk, IfNone, slice_get};
-ghost use Rattle.ms_ir.specs.Code.{one_unmarked, over_insts, over_blocks, over_funcs};
+ghost use Rattle.ms_ir.specs.Instructions.{one_unmarked, over_insts, over_blocks, over_funcs};
 ghost use Rattle.ms_ir.specs.Places.{count_sites};
 ghost use Rattle.ms_ir.specs.Spots.{spot, over_spots, over_block_spots, over_func_spots, found};
 

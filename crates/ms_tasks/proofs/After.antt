@@ -15,7 +15,7 @@ use Rattle.ms_ir.specs.Layout.{width_of, stored_size, size_in}
 use Rattle.ms_ir.specs.Areas.{Area}
 use Rattle.ms_runs.specs.World.{World, Setting, Here, Effect, Gives, Does, Enters, Ends, traps, stuck, result}
 use Rattle.ms_runs.specs.Memory.{is_good, set_shadow, fits, next_base, local_area, make_unset, store_number}
-use Rattle.ms_ir.specs.Code.{operands, count_undefs, is_root, makes_unset, external_named}
+use Rattle.ms_ir.specs.Instructions.{operands, count_undefs, is_root, makes_unset, external_named}
 use Rattle.ms_runs.specs.Act.{operand_word, alloca, store}
 use Rattle.ms_ir.specs.Names.{is_reserved, name_eq, lookup, externals}
 use Rattle.ms_runs.specs.Origins.{poison}

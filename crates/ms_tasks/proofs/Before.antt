@@ -18,11 +18,11 @@ use Rattle.ms_runs.specs.World.{World, Setting, Here, Effect, Gives, Does, Goes,
 use Rattle.ms_runs.specs.Origins.{check, check_byte, check_memory, check_string, asks_string_at, add_report, trail, count_blind, first_in_string}
 use Rattle.ms_runs.specs.Memory.{bytes_left, is_good, heap_size}
 use Rattle.ms_runs.specs.Act.{operand_word}
-use Rattle.ms_ir.specs.Code.{operands, one_undef, count_undefs, external_named}
+use Rattle.ms_ir.specs.Instructions.{operands, one_undef, count_undefs, external_named}
 use Rattle.ms_runs.specs.Control.{read_all, with_value}
 use Rattle.ms_runs.specs.Poisoned.{Poisoned}
 use Rattle.ms_runs.specs.Masks.{by_formulas, union, word_at}
-use Rattle.ms_runs.specs.Uses.{Use, Word, Bytes, Line, Asked, uses, type_at, check_use, check_uses, value_uses, string_uses, external_uses, callee_uses}
+use Rattle.ms_runs.specs.Uses.{CheckedUse, Word, Bytes, Line, Asked, uses, type_at, check_use, check_uses, value_uses, string_uses, external_uses, callee_uses}
 use Rattle.ms_runs.specs.Shadow.{read_poisoned, poisoned_result}
 use Rattle.ms_tasks.specs.Tasks.{msan_name, Task, target, parts}
 use Rattle.ms_tasks.specs.Meaning.{Values, Reach, Went, Over, Reaches, Same, Below, run_marked, do_tasks, set_result, marked_next, task_slots, task_effect, evaluate_all}
@@ -66,7 +66,7 @@ tracked_narrow env size root (o ∷ os) known (suc k) = tracked_narrow env size 
 -- ---- the checks of what is built
 
 -- those of the arguments of `printf`, whose numbers are small
-values_fit : (ts : List Tracked) (k : ℕ) (args : List (Ty × Operand)) (us : List Use) → k + length args < 2 ^ 32 → AreFit ts us → AreFit ts (value_uses k args ++ us)
+values_fit : (ts : List Tracked) (k : ℕ) (args : List (Ty × Operand)) (us : List CheckedUse) → k + length args < 2 ^ 32 → AreFit ts us → AreFit ts (value_uses k args ++ us)
 values_fit ts k [] us l h = h
 values_fit ts k (a ∷ args) us l h = (omega arith, omega (arith, l), values_fit ts (suc k) args us (omega (arith, l)) h)
 
@@ -204,7 +204,7 @@ memory_left s a n kind site w r = by_good (is_good w a n)
     by_good true = byte_left s kind site a (first_nonzero w.shadow a n) w r
     by_good false = r
 
-checks_left : (s : Setting) (site : ℕ) (os : List (Ty × Operand)) (ps : List Poisoned) (us : List Use) → (w : World) → RangedWorld w
+checks_left : (s : Setting) (site : ℕ) (os : List (Ty × Operand)) (ps : List Poisoned) (us : List CheckedUse) → (w : World) → RangedWorld w
     → IsLeft (check_uses s site os ps us w)
 checks_left s site os ps [] w r = r
 checks_left s site os ps (Word kind k ∷ us) w r =

@@ -17,7 +17,7 @@ use Rattle.ms_ir.specs.declared.calls.RuntimeFn.TheVariants as function
 use Rattle.ms_ir.specs.Layout.{width_of}
 use Rattle.ms_runs.specs.World.{World, Setting, Here}
 use Rattle.ms_runs.specs.Origins.{count_blind}
-use Rattle.ms_ir.specs.Code.{one_undef, external_named}
+use Rattle.ms_ir.specs.Instructions.{one_undef, external_named}
 use Rattle.ms_runs.specs.Control.{read_all}
 use Rattle.ms_runs.specs.Act.{operand_word}
 use Rattle.ms_runs.specs.Poisoned.{Poisoned}

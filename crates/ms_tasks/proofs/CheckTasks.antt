@@ -19,7 +19,7 @@ use Rattle.ms_runs.specs.Origins.{check, add_report, trail, check_byte, check_me
 use Rattle.ms_runs.specs.Act.{operand_word}
 use Rattle.ms_runs.specs.Poisoned.{Poisoned}
 use Rattle.ms_runs.specs.Masks.{word_at}
-use Rattle.ms_runs.specs.Uses.{Use, Word, Bytes, Line, Asked, type_at, check_use, check_uses}
+use Rattle.ms_runs.specs.Uses.{CheckedUse, Word, Bytes, Line, Asked, type_at, check_use, check_uses}
 use Rattle.ms_bits.specs.Maps.{first_nonzero}
 use Rattle.ms_runs.specs.Memory.{is_good, bytes_left}
 use Rattle.ms_tasks.specs.Tasks.{Leaf, Turn, Task, parts}
@@ -119,7 +119,7 @@ format_is s format index a site w = by_asked (asks_string_at w format index)
     by_asked false = tt
 
 -- words are checked, of kinds and at places that are small numbers; bytes at words of 64 bits
-abbrev pub AreFit : List Tracked → List Use → Type 0
+abbrev pub AreFit : List Tracked → List CheckedUse → Type 0
 AreFit ts [] = Unit {0}
 AreFit ts (Word kind k ∷ us) = (kind < 2 ^ 32) × (k < 2 ^ 32) × AreFit ts us
 AreFit ts (Bytes kind a n ∷ us) = (kind < 2 ^ 32) × (width_of (tracked_at a ts).ty ≡ 64) × (width_of (tracked_at n ts).ty ≡ 64) × AreFit ts us
@@ -193,7 +193,7 @@ module _ (s : Setting) (h : Here) (v : Values) (ts : List Tracked) (os : List (T
       (subst IsCheck (sym same) (format_is s (word_at 0 ps).value a (word_at a ps).value h.site w)) next
       ∙ ap (λ x. check_on (then_does x f) go) same
 
-  pub checks_done : (us : List Use) → AreFit ts us → (rest : List Task) (w : World)
+  pub checks_done : (us : List CheckedUse) → AreFit ts us → (rest : List Task) (w : World)
       → do_tasks s h (check_tasks h.site ts us ++ rest) v w ≡ check_on (check_uses s h.site os ps us w) (do_tasks s h rest v)
   checks_done [] a rest w = refl
   checks_done (Word kind k ∷ us) a rest w =

@@ -21,7 +21,7 @@ use Rattle.ms_ir.specs.declared.calls.RuntimeFn.TheVariants as function
 use Rattle.ms_bits.specs.declared.traps.Trap.TheVariants as trap
 use Rattle.ms_ir.specs.Names.{slots, is_reserved}
 use Rattle.ms_ir.specs.Layout.{width_of, stored_size}
-use Rattle.ms_runs.specs.World.{World, Setting, Here, Allocation, Effect, Gives, Does, Ends, traps}
+use Rattle.ms_runs.specs.World.{World, Setting, Here, Allocation, Effect, Gives, Ends, traps}
 use Rattle.ms_runs.specs.Memory.{is_good, first_that, covers}
 use Rattle.ms_runs.specs.Origins.{origin_within, load_origin}
 use Rattle.ms_runs.specs.Plain.{shadow_bits, in_slots}
@@ -125,12 +125,6 @@ origin_low (suc n) a m w =
 abbrev effect_world : Effect → World → World
 effect_world (Gives k u) w = u
 effect_world _ w = w
-
-gives_does : (k : ℕ) (w u : World) → Gives k w ≡ Does u → ⊥
-gives_does k w u e = grind arith
-
-ends_does : (e : End) (w u : World) → Ends e w ≡ Does u → ⊥
-ends_does e w u f = grind arith
 
 ends_gives : (e : End) (k : ℕ) (w u : World) → Ends e w ≡ Gives k u → ⊥
 ends_gives e k w u f = grind arith

@@ -16,7 +16,7 @@ use Rattle.ms_runs.specs.declared.runs.End.TheVariants as «end»
 use Rattle.ms_ir.specs.Layout.{stored_size, width_of}
 use Rattle.ms_runs.specs.World.{World, Setting, Here, Gives, Does, Goes, Enters, Ends, Leaves, traps, stuck, word}
 use Rattle.ms_runs.specs.Memory.{is_good, store_number}
-use Rattle.ms_ir.specs.Code.{operands, count_undefs, external_named}
+use Rattle.ms_ir.specs.Instructions.{operands, count_undefs, external_named}
 use Rattle.ms_runs.specs.Act.{store}
 use Rattle.ms_runs.specs.Poisoned.{Poisoned}
 use Rattle.ms_runs.specs.Masks.{by_formulas, result_mask, answer_mask, as_result}

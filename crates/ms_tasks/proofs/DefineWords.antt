@@ -28,9 +28,9 @@ use Rattle.ms_ir.specs.declared.syntax.Op.TheVariants as op
 use Rattle.ms_runs.specs.declared.runs.End.TheVariants as «end»
 use Rattle.ms_bits.specs.NoFlags.{no_flags}
 use Rattle.ms_ir.specs.Layout.{width_of, size_in}
-use Rattle.ms_runs.specs.World.{World, Setting, Here, Effect, Gives, Does, Ends, traps, word, gives}
+use Rattle.ms_runs.specs.World.{World, Setting, Here, Effect, Gives, Ends, traps, word, gives}
 use Rattle.ms_runs.specs.Memory.{fits, next_base, local_area, make_unset}
-use Rattle.ms_ir.specs.Code.{operands, one_undef, count_undefs}
+use Rattle.ms_ir.specs.Instructions.{operands, one_undef, count_undefs}
 use Rattle.ms_runs.specs.Control.{read_all, with_value}
 use Rattle.ms_runs.specs.Act.{operand_word, act}
 use Rattle.ms_runs.specs.Poisoned.{Poisoned}
@@ -57,10 +57,6 @@ use Rattle.ms_tasks.proofs.WordMasks.{WordFits, IsWordOp, NoCallOp, call_moved, 
 
 zero-div : (n : ℕ) → 0 / n ≡ 0
 zero-div n = grind arith
-
-gives_does : (site : ℕ) (r : Result ℕ Trap) (w u : World) → gives site r w ≡ Does u → ⊥
-gives_does site (Ok n) w u e = grind arith
-gives_does site (Err t) w u e = grind arith
 
 gives_goes : (site : ℕ) (r : Result ℕ Trap) (w : World) → GoesOn (gives site r w) → ⊥
 gives_goes site (Ok n) w g = g

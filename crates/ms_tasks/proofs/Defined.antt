@@ -7,7 +7,7 @@ use Rattle.ms_ir.specs.declared.syntax.Op.{Op}
 use Rattle.ms_runs.specs.declared.runs.End.{End}
 use Rattle.ms_ir.specs.Names.{is_reserved}
 use Rattle.ms_runs.specs.World.{World, Setting, Here, Effect, Gives, Ends}
-use Rattle.ms_ir.specs.Code.{operands}
+use Rattle.ms_ir.specs.Instructions.{operands}
 use Rattle.ms_runs.specs.Control.{with_value, read_all}
 use Rattle.ms_runs.specs.Act.{act}
 use Rattle.ms_runs.specs.Poisoned.{Poisoned}

@@ -17,7 +17,7 @@ use Rattle.ms_ir.specs.declared.syntax.Operand.{Operand}
 use Rattle.ms_bits.specs.NoFlags.{no_flags}
 use Rattle.ms_ir.specs.Names.{lookup, bit_moves, runtime_functions, runtime_name}
 use Rattle.ms_runs.specs.World.{World, Setting, Here, Gives, Ends, stuck, gives}
-use Rattle.ms_ir.specs.Code.{operands}
+use Rattle.ms_ir.specs.Instructions.{operands}
 use Rattle.ms_runs.specs.Act.{truth}
 use Rattle.ms_runs.specs.Masks.{value_or_zero}
 use Rattle.ms_runs.specs.Plain.{slots_after, act_marked}

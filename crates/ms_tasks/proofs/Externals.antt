@@ -20,7 +20,7 @@ use Rattle.ms_runs.specs.World.{Allocation, Thread, World, Setting, Here, Effect
 use Rattle.ms_ir.specs.Areas.{Heap}
 use Rattle.ms_runs.specs.Memory.{heap_size, fits, used, next_base, is_good, first_that, is_heap_block, set_shadow, set_cells, copy_shadow}
 use Rattle.ms_runs.specs.Origins.{chain, poison, unpoison, copy_planes, fill_planes, store_origin, thread_result}
-use Rattle.ms_ir.specs.Code.{one_undef, count_undefs, makes_unset}
+use Rattle.ms_ir.specs.Instructions.{one_undef, count_undefs, makes_unset}
 use Rattle.ms_runs.specs.Control.{read_all, with_value}
 use Rattle.ms_runs.specs.Act.{operand_word}
 use Rattle.ms_runs.specs.Poisoned.{Poisoned}

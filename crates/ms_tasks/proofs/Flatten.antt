@@ -17,11 +17,11 @@ use Rattle.ms_bits.specs.NoFlags.{no_flags}
 use Rattle.ms_ir.specs.Layout.{width_of}
 use Rattle.ms_ir.specs.Names.{name_eq}
 use Rattle.ms_runs.specs.World.{World, Setting, Here, Effect, Gives, Does, Goes, Enters, Leaves, Ends}
-use Rattle.ms_ir.specs.Code.{operands}
+use Rattle.ms_ir.specs.Instructions.{operands}
 use Rattle.ms_runs.specs.Control.{with_value}
 use Rattle.ms_runs.specs.Act.{operand_word}
 use Rattle.ms_runs.specs.Plain.{slots_after, act_marked}
-use Rattle.ms_tasks.specs.Tasks.{msan_name, Or, Expr, Leaf, Two, Turn, Test, Pick, Task, Sets, Tries, Fetches, Puts, Calls, Flat, Last, Is, By, Half, inserted, binop_of, binary, close, half, flatten, flatten_all, parts, target, set_op, last_op, Code, plain_code, task_code, tasks_code}
+use Rattle.ms_tasks.specs.Tasks.{msan_name, Or, Expr, Leaf, Two, Turn, Test, Pick, Task, Sets, Tries, Fetches, Puts, Calls, Flat, Last, Is, By, Half, inserted, binop_of, binary, close, half, flatten, flatten_all, parts, target, set_op, last_op, InsertedCode, plain_code, task_code, tasks_code}
 use Rattle.ms_tasks.specs.Meaning.{Values, Reach, Went, Over, set_result, marked_next, words_of, run_marked, evaluate, evaluate_all, task_effect, task_slots, do_tasks, Below, Same, Reaches, BelowOperand, BelowExpr, BelowExprs, BelowTask, BelowTasks, whole}
 use Rattle.ms_tasks.proofs.InsertedNames.{msan_below, below_more, with_here, with_other}
 use Rattle.ms_tasks.proofs.Effects.{arith_gives, cast_gives, test_gives, TakesWords, last_operands, last_slots, last_effect}
@@ -274,7 +274,7 @@ module _ (s : Setting) (h : Here) where
   -- ---- tasks
 
   -- what a task's code does: its effect, from the same words
-  record CodeRuns (base n : ℕ) (c : Code) (t : Task) (v u : Values) (w : World) : Type 0 where
+  record CodeRuns (base n : ℕ) (c : InsertedCode) (t : Task) (v u : Values) (w : World) : Type 0 where
     pub after : Values
     pub kept : Same base v after
     pub more : n ≤ c.next

@@ -11,6 +11,7 @@ use Rattle.std.specs.Int.Digits.{digits_of}
 use Rattle.ms_ir.specs.declared.syntax.Name.{Name}
 use Rattle.ms_ir.specs.declared.syntax.Name.TheVariants.{Number, Text}
 use Rattle.ms_ir.specs.Names.{name_eq, is_reserved}
+use Rattle.ms_ir.proofs.RootKinds.{name_same}
 use Rattle.ms_runs.specs.Control.{with_value}
 use Rattle.ms_tasks.specs.Tasks.{numeral, msan_name, mask_name, origin_name}
 use Rattle.ms_tasks.specs.Meaning.{Below}
@@ -21,31 +22,15 @@ bytes_self : (x : List ℕ) → pointwise nat_eq x x ≡ true
 bytes_self [] = refl
 bytes_self (a ∷ x) = ap (λ b. b && pointwise nat_eq x x) (eq-eqb a a refl) ∙ bytes_self x
 
-bytes_sound : (x y : List ℕ) → pointwise nat_eq x y ≡ true → x ≡ y
-bytes_sound [] [] e = refl
-bytes_sound [] (b ∷ y) e = grind arith
-bytes_sound (a ∷ x) [] e = grind arith
-bytes_sound (a ∷ x) (b ∷ y) e = split (nat_eq a b) refl (bytes_sound x y) e
-  where
-    split : (t : Bool) → nat_eq a b ≡ t → (pointwise nat_eq x y ≡ true → x ≡ y) → (t && pointwise nat_eq x y) ≡ true → (a ∷ x) ≡ (b ∷ y)
-    split true p rest q = ap₂ (λ c z. c ∷ z) (eqb-true a b p) (rest q)
-    split false p rest q = grind arith
-
 pub name_self : (x : Name) → name_eq x x ≡ true
 name_self (Number n) = eq-eqb n n refl
 name_self (Text x) = bytes_self x
-
-pub name_sound : (x y : Name) → name_eq x y ≡ true → x ≡ y
-name_sound (Number m) (Number n) e = ap Number (eqb-true m n e)
-name_sound (Number m) (Text y) e = grind arith
-name_sound (Text x) (Number n) e = grind arith
-name_sound (Text x) (Text y) e = ap Text (bytes_sound x y e)
 
 pub name_differs : (x y : Name) → x ≢ y → name_eq x y ≡ false
 name_differs x y h = by_test (name_eq x y) refl
   where
     by_test : (b : Bool) → name_eq x y ≡ b → b ≡ false
-    by_test true e = absurd (h (name_sound x y e))
+    by_test true e = absurd (h (name_same x y e))
     by_test false e = refl
 
 pub with_here : {V : Type 0} (values : Name → V) (x : Name) (v : V) → with_value values x v x ≡ v

@@ -11,7 +11,7 @@ use Rattle.ms_ir.specs.declared.syntax.Ty.{Ty, Int}
 use Rattle.ms_ir.specs.declared.syntax.Operand.{Operand}
 use Rattle.ms_ir.specs.Layout.{width_of}
 use Rattle.ms_runs.specs.World.{Setting}
-use Rattle.ms_ir.specs.Code.{one_undef, count_undefs}
+use Rattle.ms_ir.specs.Instructions.{one_undef, count_undefs}
 use Rattle.ms_runs.specs.Control.{read_all, with_value}
 use Rattle.ms_runs.specs.Act.{operand_word}
 use Rattle.ms_runs.specs.Poisoned.{Poisoned}

@@ -7,7 +7,7 @@ use Rattle.ms_ir.specs.declared.syntax.Ty.{Ty, Ptr}
 use Rattle.ms_ir.specs.declared.syntax.Operand.{Operand}
 use Rattle.ms_ir.specs.declared.syntax.Op.{Op}
 use Rattle.ms_ir.specs.declared.syntax.Inst.{Inst}
-use Rattle.ms_ir.specs.Code.{is_phi}
+use Rattle.ms_ir.specs.Instructions.{is_phi}
 use Rattle.ms_tasks.specs.Meaning.{AllMarked}
 use Rattle.ms_tasks.specs.Tasks.{msan_name, Expr, Leaf, Two, Turn, Test, Pick, Task, Sets, Tries, Fetches, Puts, Calls, Last, Is, By, inserted, close, closed, half, set_op, plain_code, flatten, flatten_all, parts, target, last_op, task_code, tasks_code}
 
@@ -102,10 +102,6 @@ are_marked (i ∷ l) p = (p.0.0, p.0.1, are_marked l p.1)
 pub tasks_marked : (ts : List Task) (n : ℕ) → AllMarked (tasks_code ts n).code
 tasks_marked ts n = are_marked (tasks_code ts n).code (tasks_all (λ i. (i.marked ≡ true) × (is_phi i.op ≡ false)) (λ x o e. (refl, e)) ts n)
 
-pub marked_append : (a b : List Inst) → AllMarked a → AllMarked b → AllMarked (a ++ b)
-marked_append [] b p q = q
-marked_append (i ∷ a) b p q = (p.0, p.1, marked_append a b p.2 q)
-
 -- ---- numbers
 
 close_more : (code : List Inst) (l : Last) (n : ℕ) → n ≤ (close code l n).next
@@ -140,7 +136,7 @@ pub words_more : (es : List (Ty × Expr)) (n : ℕ) → n ≤ (flatten_all es n)
 words_more [] n = omega arith
 words_more (e ∷ es) n = omega (arith, word_more e.1 n, words_more es (flatten e.1 n).next)
 
-task_more : (t : Task) (n : ℕ) → n ≤ (task_code t n).next
+pub task_more : (t : Task) (n : ℕ) → n ≤ (task_code t n).next
 task_more (Sets x t e) n = half_more e n
 task_more (Tries x o t a b) n = words_more ((t, a) ∷ (t, b) ∷ []) n
 task_more (Fetches x t a) n = words_more ((Ptr, a) ∷ []) n

@@ -4,6 +4,7 @@ use Rattle.std.specs.Prelude.{if◌then◌else◌}
 use Rattle.ms_ir.specs.declared.syntax.Name.{Name}
 use Rattle.ms_ir.specs.declared.syntax.Operand.TheVariants as operand
 use Rattle.ms_ir.specs.Names.{name_eq, is_reserved}
+use Rattle.ms_ir.proofs.RootKinds.{name_same}
 use Rattle.ms_runs.specs.Control.{with_value}
 use Rattle.ms_runs.specs.Poisoned.{Poisoned}
 use Rattle.ms_tasks.specs.Tasks.{mask_name, origin_name}
@@ -11,7 +12,7 @@ use Rattle.ms_tasks.specs.Meaning.{Values, Same, Below}
 use Rattle.ms_tasks.specs.Environments.{Env, local_mask, local_origin}
 use Rattle.ms_tasks.specs.Known.{KnownName, OneName}
 use Rattle.ms_tasks.specs.Match.{held, Matches}
-use Rattle.ms_tasks.proofs.InsertedNames.{own_not_msan, own_below, mask_name_one, origin_name_one, mask_not_origin, name_sound, name_self, with_other}
+use Rattle.ms_tasks.proofs.InsertedNames.{own_not_msan, own_below, mask_name_one, origin_name_one, mask_not_origin, name_self, with_other}
 use Rattle.ms_tasks.proofs.OperandWords.{mask_at, origin_at}
 
 -- what a name holds elsewhere
@@ -79,7 +80,7 @@ matches_set env size x k one values names after p m d = record {
         true_false g = grind arith
 
     at_mask : (y : Name) (v : ℕ) → env.number y ≡ Some v → (b : Bool) → name_eq y x ≡ b → held after (local_mask env y) ≡ (if b then p else values y).mask
-    at_mask y v e true f = ap (λ i. held after (local_mask env i)) (name_sound y x f) ∙ d.mask_held
+    at_mask y v e true f = ap (λ i. held after (local_mask env i)) (name_same y x f) ∙ d.mask_held
     at_mask y v e false f =
         let ne = other y v e f in
         mask_elsewhere env after names y v e
@@ -90,7 +91,7 @@ matches_set env size x k one values names after p m d = record {
         → held (with_value after x p.value) (local_origin env y) ≡ (if b then p else values y).origin
     at_origin y v e true f ne =
         origin_elsewhere env (with_value after x p.value) after y v e (past_own (origin_name v) (not_origin v))
-        ∙ ap (λ i. held after (local_origin env i)) (name_sound y x f) ∙ d.origin_held ne
+        ∙ ap (λ i. held after (local_origin env i)) (name_same y x f) ∙ d.origin_held ne
     at_origin y v e false f ne =
         let nv = other y v e f in
         origin_elsewhere env (with_value after x p.value) after y v e (past_own (origin_name v) (not_origin v))

@@ -1,12 +1,12 @@
 -- What operands, their masks and their origins hold where words match.
-use Rattle.std.proofs.Common.{◌≡◌, ◌≢◌, ℕ, zero, suc, ◌+◌, ◌*◌, ◌/◌, ◌%◌, ◌^◌, ◌<◌, List, [], ◌∷◌, refl, sym, ap, ◌∙◌, subst, arith, Bool, true, false, Some, None}
+use Rattle.std.proofs.Common.{◌≡◌, ◌≢◌, ℕ, zero, suc, ◌+◌, ◌/◌, ◌%◌, ◌^◌, ◌<◌, List, [], ◌∷◌, refl, sym, ap, ◌∙◌, subst, arith, Bool, true, false, Some, None}
 use Rattle.std.specs.Prelude.{if◌then◌else◌, map}
 use Rattle.std.proofs.Math.Path.{ap₂}
-use Rattle.std.proofs.Math.Nat.{mod-eq_of_lt, zero-mod, pow-suc}
+use Rattle.std.proofs.Math.Nat.{mod-eq_of_lt, zero-mod}
 use Rattle.std.proofs.Math.Pow.{ones_lt}
 use Rattle.std.proofs.lemmas.Nat.{mod_below, pow_pos}
 use Rattle.std.proofs.lemmas.Nat.Bits.{bit_at-lt}
-use Rattle.ms_bits.specs.Fill.{number_of_bits, undef_bit, undef_word_of, made_byte}
+use Rattle.ms_bits.specs.Fill.{undef_bit, undef_word_of, made_byte}
 use Rattle.ms_ir.specs.declared.syntax.Name.{Name}
 use Rattle.ms_ir.specs.declared.syntax.Ty.{Ty}
 use Rattle.ms_ir.specs.declared.syntax.Operand.{Operand}
@@ -14,7 +14,7 @@ use Rattle.ms_ir.specs.declared.syntax.Operand.TheVariants as operand
 use Rattle.ms_ir.specs.Names.{is_reserved}
 use Rattle.ms_ir.specs.Layout.{width_of}
 use Rattle.ms_runs.specs.World.{Setting}
-use Rattle.ms_ir.specs.Code.{one_undef, count_undefs}
+use Rattle.ms_ir.specs.Instructions.{one_undef, count_undefs}
 use Rattle.ms_runs.specs.Control.{read_all, with_value}
 use Rattle.ms_runs.specs.Act.{operand_word}
 use Rattle.ms_runs.specs.Poisoned.{Poisoned}
@@ -26,6 +26,7 @@ use Rattle.ms_tasks.specs.Environments.{Env, Tracked, tracked, tracked_at, local
 use Rattle.ms_tasks.specs.Known.{KnownOperand, KnownOperands}
 use Rattle.ms_tasks.specs.Match.{held, Matches, RangedValues}
 use Rattle.ms_tasks.proofs.InsertedNames.{mask_not_origin, with_other}
+use Rattle.ms_bits_laws.proofs.MaskFunctions.{number_fits}
 
 -- three equations at once
 pub ap₃ : {A B C D : Type 0} (f : A → B → C → D) {x y : A} {u v : B} {p q : C} → x ≡ y → u ≡ v → p ≡ q → f x u p ≡ f y v q
@@ -36,17 +37,9 @@ ap₃ f a b c = ap₂ (λ g p. g p) (ap₂ f a b) c
 pub mod_once : (w n : ℕ) → n % 2 ^ w % 2 ^ w ≡ n % 2 ^ w
 mod_once w n = mod-eq_of_lt (mod_below n (2 ^ w) (pow_pos w))
 
-pub bits_less : (bit : ℕ → ℕ) → ((i : ℕ) → bit i < 2) → (n : ℕ) → number_of_bits bit n < 2 ^ n
-unfolding number_of_bits
-bits_less bit h zero = omega arith
-bits_less bit h (suc n) = one (bit n) (number_of_bits bit n) (h n) (bits_less bit h n)
-  where
-    one : (d v : ℕ) → d < 2 → v < 2 ^ n → v + d * 2 ^ n < 2 ^ suc n
-    one d v q p = grind (arith, pow-suc 2 n)
-
 pub undef_less : (fill : List ℕ) (w : ℕ) → undef_word_of fill w < 2 ^ w
 unfolding undef_word_of undef_bit
-undef_less fill w = bits_less (undef_bit fill) (λ i. bit_at-lt (made_byte fill (i / 8)) (i % 8)) w
+undef_less fill w = number_fits (undef_bit fill) (λ i. bit_at-lt (made_byte fill (i / 8)) (i % 8)) w
 
 -- the word of an operand is below the power of its width
 pub word_less : (s : Setting) (names : Name → ℕ) (w : ℕ) (o : Operand) → operand_word s names w o < 2 ^ w

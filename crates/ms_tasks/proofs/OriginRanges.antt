@@ -7,7 +7,7 @@ use Rattle.ms_ir.specs.declared.syntax.Operand.{Operand}
 use Rattle.ms_ir.specs.declared.syntax.Operand.TheVariants as operand
 use Rattle.ms_ir.specs.declared.calls.External.{External}
 use Rattle.ms_ir.specs.declared.calls.External.TheVariants.{Word}
-use Rattle.ms_ir.specs.Code.{one_undef, count_undefs}
+use Rattle.ms_ir.specs.Instructions.{one_undef, count_undefs}
 use Rattle.ms_runs.specs.World.{Setting}
 use Rattle.ms_runs.specs.Poisoned.{Poisoned}
 use Rattle.ms_runs.specs.Control.{read_all}

@@ -11,7 +11,8 @@ use Rattle.ms_ir.specs.declared.syntax.Inst.{Inst}
 use Rattle.ms_ir.specs.Names.{name_eq, is_reserved}
 use Rattle.ms_ir.specs.Layout.{width_of}
 use Rattle.ms_runs.specs.World.{Setting, Here}
-use Rattle.ms_ir.specs.Code.{is_phi, one_undef, roots_in}
+use Rattle.ms_ir.specs.Instructions.{is_phi, one_undef, roots_in}
+use Rattle.ms_ir.proofs.RootKinds.{name_same}
 use Rattle.ms_runs.specs.Control.{with_value, read_edge, phis, count_phis}
 use Rattle.ms_runs.specs.Act.{operand_word}
 use Rattle.ms_runs.specs.Poisoned.{Poisoned, clean}
@@ -23,7 +24,7 @@ use Rattle.ms_tasks.specs.Emit.{emit_tasks, start, before_tasks}
 use Rattle.ms_tasks.specs.Known.{KnownName, OneName, KnownEdges, edge_roots, KnownPhi, KnownPhis, PhiRoot, PhiRoots}
 use Rattle.ms_tasks.specs.Match.{held, Matches, RangedValues}
 use Rattle.ms_tasks.specs.PassLists.{mask_edges, origin_from, origins_by, origin_edges, phi_pair, phi_code, next_here, pass_insts, here_past}
-use Rattle.ms_tasks.proofs.InsertedNames.{own_not_msan, mask_not_origin, mask_name_one, origin_name_one, name_sound, name_self, with_here, with_other}
+use Rattle.ms_tasks.proofs.InsertedNames.{own_not_msan, mask_not_origin, mask_name_one, origin_name_one, name_self, with_here, with_other}
 use Rattle.ms_tasks.proofs.OperandWords.{value_known, mask_known, origin_known, mask_at, origin_at}
 use Rattle.ms_tasks.proofs.Marked.{tasks_marked}
 
@@ -114,7 +115,7 @@ module _ (s : Setting) (env : Env) (size : ℕ) (values : Name → Poisoned) (na
           → ((read_edge (read_poisoned s values) clean t from es (l + one_undef e.0)).mask ≢ 0
           → read_edge plain_read 0 (Int 32) from (origins_by env n all es) (k + one_undef (origin_from env n all e.1)) ≡ o)
           → (if b then plain_read k (Int 32) (origin_from env n all e.1) else read_edge plain_read 0 (Int 32) from (origins_by env n all es) (k + one_undef (origin_from env n all e.1))) ≡ o
-      by_name true same ne go = ap (λ x. plain_read k (Int 32) (origin_from env n all x)) (name_sound e.1 from same) ∙ h k
+      by_name true same ne go = ap (λ x. plain_read k (Int 32) (origin_from env n all x)) (name_same e.1 from same) ∙ h k
       by_name false same ne go = go ne
 
   edge_origin : (t : Ty) (es : List (Operand × Name)) (n k : ℕ) → KnownEdges env size es → n + edge_roots es < 2 ^ 32
@@ -153,12 +154,12 @@ module _ (env : Env) (size : ℕ) (one : OneName env) (x : Name) (k : KnownName 
       at_value y own false = raw.value y own
 
       at_mask : (y : Name) (v : ℕ) → env.number y ≡ Some v → env.clean y ≡ false → (b : Bool) → name_eq y x ≡ b → with_own (mask_name v) ≡ (if b then p else values y).mask
-      at_mask y v e c true f = absurd (true≢false (sym cl ∙ subst (λ i. env.clean i ≡ false) (name_sound y x f) c))
+      at_mask y v e c true f = absurd (true≢false (sym cl ∙ subst (λ i. env.clean i ≡ false) (name_same y x f) c))
       at_mask y v e c false f = past_mask v ∙ raw.mask y v e c
 
       at_origin : (y : Name) (v : ℕ) → env.number y ≡ Some v → env.clean y ≡ false → (b : Bool) → name_eq y x ≡ b → (if b then p else values y).mask ≢ 0
           → with_own (origin_name v) ≡ (if b then p else values y).origin
-      at_origin y v e c true f ne = absurd (true≢false (sym cl ∙ subst (λ i. env.clean i ≡ false) (name_sound y x f) c))
+      at_origin y v e c true f ne = absurd (true≢false (sym cl ∙ subst (λ i. env.clean i ≡ false) (name_same y x f) c))
       at_origin y v e c false f ne = past_origin v ∙ raw.origin y v e c ne
 
   raw_set : (mask origin : ℕ) → mask ≡ p.mask → (p.mask ≢ 0 → origin ≡ p.origin)
@@ -177,7 +178,7 @@ module _ (env : Env) (size : ℕ) (one : OneName env) (x : Name) (k : KnownName 
       at_value y own false = raw.value y own
 
       place_is : (y : Name) (v : ℕ) → env.number y ≡ Some v → name_eq y x ≡ true → v ≡ k.place
-      place_is y v e f = some_same v k.place (sym e ∙ ap env.number (name_sound y x f) ∙ k.numbered)
+      place_is y v e f = some_same v k.place (sym e ∙ ap env.number (name_same y x f) ∙ k.numbered)
         where
           some_same : (a b : ℕ) → Some a ≡ Some b → a ≡ b
           some_same a b q = ap (λ o. unwrap_or o 0) q

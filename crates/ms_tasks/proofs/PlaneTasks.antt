@@ -8,7 +8,6 @@ use Rattle.ms_bits.specs.declared.traps.Trap.TheVariants as trap
 use Rattle.ms_bits.specs.Maps.{byte_of, with_cell}
 use Rattle.ms_ir.specs.declared.syntax.Name.{Name}
 use Rattle.ms_ir.specs.declared.syntax.Ty.{Ty, Int, Ptr}
-use Rattle.ms_ir.specs.declared.syntax.Operand.TheVariants as operand
 use Rattle.ms_runs.specs.declared.runs.End.{End}
 use Rattle.ms_ir.specs.declared.calls.RuntimeFn.TheVariants as function
 use Rattle.ms_ir.specs.Names.{slots}
@@ -20,7 +19,7 @@ use Rattle.ms_runs.specs.Origins.{Chained, store_origin, mark_cells, chain, keep
 use Rattle.ms_runs.specs.Plain.{shadow_bits, in_slots, store_marked}
 use Rattle.ms_runs.specs.Act.{operand_word}
 use Rattle.ms_runs.specs.Poisoned.{Poisoned}
-use Rattle.ms_tasks.specs.Tasks.{Leaf, Task, Puts, Calls, parts}
+use Rattle.ms_tasks.specs.Tasks.{Task, Puts, Calls, parts}
 use Rattle.ms_tasks.specs.Meaning.{Went, evaluate, marked_next, do_tasks, task_slots, evaluate_all}
 use Rattle.ms_tasks.specs.Environments.{Tracked, mask_type, mask_of, origin_of, word_of, number, widened}
 use Rattle.ms_tasks.specs.ResultTasks.{shadow_address}
@@ -154,10 +153,3 @@ fits_small Heap n w e =
 fits_small Stack n w e =
     let all : used Stack w.allocs + (max n 1 + 15) / 16 * 16 ≤ 2 ^ 20 = grind arith in
     (omega arith, omega arith)
-
-pub poison_done : (s : Setting) (at : Here) (x : Name) (a n root : ℕ) → a < 2 ^ 64 → n < 2 ^ 64 → root < 2 ^ 32 → (names : Name → ℕ) (cells : ℕ → ℕ) (w : World) → names x ≡ a
-    → do_tasks s at (Calls None function.Poison ((Ptr, Leaf (operand.Local x)) ∷ (Int 64, number 0) ∷ (Int 64, number n) ∷ (Int 32, number root) ∷ []) ∷ []) (record { names = names; slots = cells }) w
-    ≡ Went (record { names = names; slots = cells }) (poison a 0 n root w)
-poison_done s at x a n root la ln lr names cells w e =
-    ap (λ z. Went (record { names = names; slots = cells }) z)
-    (ap₃ (λ i j k. poison i 0 j k w) (ap (λ i. i % 2 ^ 64) e ∙ mod-eq_of_lt la) (mod-eq_of_lt ln) (mod-eq_of_lt lr))

@@ -9,7 +9,7 @@ use Rattle.ms_ir.specs.declared.syntax.Operand.{Operand}
 use Rattle.ms_ir.specs.declared.syntax.Op.TheVariants as op
 use Rattle.ms_ir.specs.Names.{lookup, externals}
 use Rattle.ms_runs.specs.World.{Here}
-use Rattle.ms_ir.specs.Code.{external_named}
+use Rattle.ms_ir.specs.Instructions.{external_named}
 use Rattle.ms_runs.specs.Uses.{Word, callee_uses, has_true_flag, blind_words}
 use Rattle.ms_tasks.specs.Tasks.{Task}
 use Rattle.ms_tasks.specs.Emit.{own_tasks}

@@ -19,7 +19,8 @@ use Rattle.ms_ir.specs.Names.{is_reserved, name_eq, slots}
 use Rattle.ms_ir.specs.Layout.{width_of, stored_size}
 use Rattle.ms_runs.specs.World.{World, Setting, Here, Gives, Does, traps}
 use Rattle.ms_runs.specs.Memory.{is_good, set_shadow}
-use Rattle.ms_ir.specs.Code.{operands, one_undef, count_undefs}
+use Rattle.ms_ir.specs.Instructions.{operands, one_undef, count_undefs}
+use Rattle.ms_ir.proofs.RootKinds.{name_same}
 use Rattle.ms_runs.specs.Control.{read_all, with_value, bind}
 use Rattle.ms_runs.specs.Act.{operand_word}
 use Rattle.ms_runs.specs.Plain.{shadow_bits, in_slots, load_marked, store_marked}
@@ -31,7 +32,7 @@ use Rattle.ms_tasks.specs.Environments.{Env, Tracked, tracked, mask_type, mask_o
 use Rattle.ms_tasks.specs.SlotTasks.{param_mask, param_origin, result_mask_slot, result_origin_slot, give_tasks, take_tasks, give_arguments, hand_tasks, take_value, take_parameters}
 use Rattle.ms_tasks.specs.Known.{KnownName, KnownOperands, KnownResult, OneName, KnownParams, ArgsFit}
 use Rattle.ms_tasks.specs.Match.{held, Matches, RangedValues, SlotAddresses, mask_slot, origin_slot, SlotsHold, ArgsHeld, CallHeld, Handed}
-use Rattle.ms_tasks.proofs.InsertedNames.{own_not_msan, mask_not_origin, mask_name_one, origin_name_one, name_sound, name_self, with_here, with_other}
+use Rattle.ms_tasks.proofs.InsertedNames.{own_not_msan, mask_not_origin, mask_name_one, origin_name_one, name_self, with_here, with_other}
 use Rattle.ms_tasks.proofs.OperandWords.{word_less, mod_once, Holds, tracked_holds, mask_at}
 use Rattle.ms_tasks.proofs.MatchedNames.{Defines, mask_elsewhere, origin_elsewhere}
 use Rattle.ms_tasks.proofs.Defined.{mask_first, clean_kept}
@@ -42,7 +43,7 @@ use Rattle.std.proofs.lemmas.List.{append-nil}
 
 -- ---- where the slots are
 
-slot_of : (a : ℕ) (k size : ℕ) → k < 100 → a < 2 ^ 47 → size ≤ 8 → (a + (wrap 64 (signed 64 k) * size + 0)) % 2 ^ 64 % 2 ^ 64 ≡ a + k * size
+pub slot_of : (a : ℕ) (k size : ℕ) → k < 100 → a < 2 ^ 47 → size ≤ 8 → (a + (wrap 64 (signed 64 k) * size + 0)) % 2 ^ 64 % 2 ^ 64 ≡ a + k * size
 slot_of a k size lk la ls =
     let word : wrap 64 (signed 64 k) ≡ k = wrap_signed 64 k (omega arith) in
     let bound : k * size ≤ 800 = product k size lk ls in
@@ -67,37 +68,37 @@ module _ (s : Setting) (at : SlotAddresses s) (names : Name → ℕ) where
   result_origin_at : operand_word s names 64 result_origin_slot ≡ 0x680000003000
   result_origin_at = ap (λ a. a % 2 ^ 64) (at.stand slot.RetvalOrigin)
 
-in_first : (base size a n : ℕ) (rest : Bool) → base ≤ a → a + n ≤ base + size → (if leb base a && leb (a + n) (base + size) then true else rest) ≡ true
+pub in_first : (base size a n : ℕ) (rest : Bool) → base ≤ a → a + n ≤ base + size → (if leb base a && leb (a + n) (base + size) then true else rest) ≡ true
 in_first base size a n rest p q =
     let e : leb base a ≡ true = grind arith in
     let f : leb (a + n) (base + size) ≡ true = grind arith in
     ap₂ (λ b c. if b && c then true else rest) e f
 
-in_later : (b rest : Bool) → rest ≡ true → (if b then true else rest) ≡ true
+pub in_later : (b rest : Bool) → rest ≡ true → (if b then true else rest) ≡ true
 in_later true rest e = refl
 in_later false rest e = e
 
-mask_inside : (k n : ℕ) → k < 100 → n ≤ 8 → in_slots (mask_slot k) n slots ≡ true
+pub mask_inside : (k n : ℕ) → k < 100 → n ≤ 8 → in_slots (mask_slot k) n slots ≡ true
 mask_inside k n lk ln = in_first 0x680000000000 800 (mask_slot k) n _ (omega arith) (omega arith)
 
-origin_inside : (k n : ℕ) → k < 100 → n ≤ 4 → in_slots (origin_slot k) n slots ≡ true
+pub origin_inside : (k n : ℕ) → k < 100 → n ≤ 4 → in_slots (origin_slot k) n slots ≡ true
 origin_inside k n lk ln = in_later (leb 0x680000000000 (origin_slot k) && leb (origin_slot k + n) (0x680000000000 + 800)) _ (in_first 0x680000001000 400 (origin_slot k) n _ (omega arith) (omega arith))
 
-result_inside : (n : ℕ) → n ≤ 8 → in_slots 0x680000002000 n slots ≡ true
+pub result_inside : (n : ℕ) → n ≤ 8 → in_slots 0x680000002000 n slots ≡ true
 result_inside n l =
     in_later (leb 0x680000000000 0x680000002000 && leb (0x680000002000 + n) (0x680000000000 + 800)) _
     (in_later (leb 0x680000001000 0x680000002000 && leb (0x680000002000 + n) (0x680000001000 + 400)) _
     (in_first 0x680000002000 8 0x680000002000 n _ (omega arith) (omega arith)))
 
-answer_inside : in_slots 0x680000003000 4 slots ≡ true
+pub answer_inside : in_slots 0x680000003000 4 slots ≡ true
 answer_inside = refl
 
 -- ---- one store and one load
 
-size_small : (w : ℕ) → w ≤ 64 → (w + 7) / 8 ≤ 8
+pub size_small : (w : ℕ) → w ≤ 64 → (w + 7) / 8 ≤ 8
 size_small w l = omega arith
 
-bytes_bits : (n : ℕ) → 256 ^ n ≡ 2 ^ (8 * n)
+pub bytes_bits : (n : ℕ) → 256 ^ n ≡ 2 ^ (8 * n)
 bytes_bits zero = refl
 bytes_bits (suc n) =
     let e : 8 * suc n ≡ suc (suc (suc (suc (suc (suc (suc (suc (8 * n)))))))) = omega arith in
@@ -116,7 +117,7 @@ bytes_bits (suc n) =
     )
 
 -- a word that was stored whole
-stored_word : (cells : ℕ → ℕ) (a w v : ℕ) → v < 2 ^ w → number_at (with_range cells a ((w + 7) / 8) (byte_of v)) a ((w + 7) / 8) % 2 ^ w ≡ v
+pub stored_word : (cells : ℕ → ℕ) (a w v : ℕ) → v < 2 ^ w → number_at (with_range cells a ((w + 7) / 8) (byte_of v)) a ((w + 7) / 8) % 2 ^ w ≡ v
 stored_word cells a w v l =
     let n = (w + 7) / 8 in
     let room : 2 ^ w ≤ 2 ^ (8 * n) = pow_mono (omega arith) in
@@ -387,12 +388,12 @@ result_taken s at h env size one (Some x) (Some t) known values p names cells m 
             ∙ with_other names x (origin_name v) p.value (λ z. own_not_msan x (2 * v + 2) k.own (sym z))
 
         at_mask : (y : Name) (v : ℕ) → env.number y ≡ Some v → (b : Bool) → name_eq y x ≡ b → held after (local_mask env y) ≡ (if b then p else values y).mask
-        at_mask y v e true f = ap (λ i. held after (local_mask env i)) (name_sound y x f) ∙ d.mask_held
+        at_mask y v e true f = ap (λ i. held after (local_mask env i)) (name_same y x f) ∙ d.mask_held
         at_mask y v e false f = mask_elsewhere env after names y v e (kept_mask v (other y v e f)) ∙ m.mask y v e
 
         at_origin : (y : Name) (v : ℕ) → env.number y ≡ Some v → (b : Bool) → name_eq y x ≡ b → (if b then p else values y).mask ≢ 0
             → held after (local_origin env y) ≡ (if b then p else values y).origin
-        at_origin y v e true f ne = ap (λ i. held after (local_origin env i)) (name_sound y x f) ∙ d.origin_held ne
+        at_origin y v e true f ne = ap (λ i. held after (local_origin env i)) (name_same y x f) ∙ d.origin_held ne
         at_origin y v e false f ne = origin_elsewhere env after names y v e (kept_origin v (other y v e f)) ∙ m.origin y v e ne
 
 -- ---- parameters

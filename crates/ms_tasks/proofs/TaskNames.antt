@@ -16,10 +16,10 @@ use Rattle.ms_ir.specs.declared.syntax.Op.TheVariants as op
 use Rattle.ms_ir.specs.declared.syntax.Inst.{Inst}
 use Rattle.ms_ir.specs.Layout.{width_of}
 use Rattle.ms_runs.specs.World.{Setting, Here}
-use Rattle.ms_ir.specs.Code.{operands, one_undef, count_undefs, external_named}
+use Rattle.ms_ir.specs.Instructions.{operands, one_undef, count_undefs, external_named}
 use Rattle.ms_ir.specs.declared.calls.External.{External}
 use Rattle.ms_ir.specs.declared.calls.External.TheVariants.{Malloc, Realloc, Memcpy, Memmove, Memset, Read, LlvmMemcpy, LlvmMemmove, LlvmMemset, LifetimeStart, PthreadCreate, PthreadJoin}
-use Rattle.ms_runs.specs.Uses.{Use, Word, Bytes, Line, Asked, uses, has_flag, has_true_flag, flagged_words}
+use Rattle.ms_runs.specs.Uses.{CheckedUse, Word, Bytes, Line, Asked, uses, has_flag, has_true_flag, flagged_words}
 use Rattle.ms_tasks.specs.Tasks.{mask_name, origin_name, Expr, Leaf, Turn, Task, Sets}
 use Rattle.ms_tasks.specs.Meaning.{BelowOperand, BelowExpr, BelowExprs, BelowTasks}
 use Rattle.ms_tasks.specs.Environments.{Env, Given, Tracked, mask_operand, origin_operand, local_mask, local_origin, tracked, tracked_at, is_zero, mask_of, widened, widened_mask, extended_expr, extended_mask, joined, unknown, bits_at}
@@ -111,7 +111,7 @@ module _ (env : Env) (size base : ℕ) (room : 2 * size + 1 ≤ base) where
 
   -- ---- checks
 
-  use_low : (site : ℕ) (ts : List Tracked) → AllLow ts → (u : Use) → BelowTasks base (use_tasks site ts u)
+  use_low : (site : ℕ) (ts : List Tracked) → AllLow ts → (u : CheckedUse) → BelowTasks base (use_tasks site ts u)
   use_low site ts p (Word kind n) =
       let t = tracked_at n ts in
       let l = at_low n ts p in
@@ -120,7 +120,7 @@ module _ (env : Env) (size base : ℕ) (room : 2 * size + 1 ≤ base) where
   use_low site ts p (Line a) = (tt, ((at_low a ts p).own, (tt, tt)), tt)
   use_low site ts p (Asked a) = (tt, ((at_low 0 ts p).own, (tt, ((at_low a ts p).own, (tt, tt)))), tt)
 
-  checks_low : (site : ℕ) (ts : List Tracked) → AllLow ts → (us : List Use) → BelowTasks base (check_tasks site ts us)
+  checks_low : (site : ℕ) (ts : List Tracked) → AllLow ts → (us : List CheckedUse) → BelowTasks base (check_tasks site ts us)
   checks_low site ts p [] = tt
   checks_low site ts p (u ∷ us) = below_append base (use_tasks site ts u) (check_tasks site ts us) (use_low site ts p u) (checks_low site ts p us)
 

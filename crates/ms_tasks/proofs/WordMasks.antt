@@ -1,11 +1,11 @@
 -- The mask of each kind of result that is one word, and that it is 0 where the operands' are.
 use Rattle.std.proofs.Common.{◌≡◌, ℕ, zero, suc, ◌+◌, ◌-◌, ◌*◌, ◌%◌, ◌^◌, ◌<◌, ◌≤◌, List, [], ◌∷◌, refl, sym, ap, ◌∙◌, subst, arith, Bool, true, false, Option, Some, None}
-use Rattle.std.specs.Prelude.{if◌then◌else◌, eqb, bit_and, bit_or, bit_xor, ltb, leb, map, get_or, pos, negsuc, ℤ}
+use Rattle.std.specs.Prelude.{if◌then◌else◌, eqb, bit_and, bit_or, bit_xor, ltb, leb, map, get_or, pos, negsuc}
 use Rattle.std.specs.Int.{from_bool}
 use Rattle.std.proofs.lemmas.Option.{same_Some}
 use Rattle.std.proofs.Math.Path.{ap₂}
 use Rattle.std.proofs.Math.Nat.{mod-eq_of_lt, zero-mod}
-use Rattle.std.proofs.lemmas.Nat.{mod_below, pow_pos}
+use Rattle.std.proofs.lemmas.Nat.{pow_pos}
 use Rattle.std.specs.Int.Bits.{and_zero_r, or_zero_r, xor_self, xor_zero_r}
 use Rattle.ms_bits.specs.declared.operations.BinOp.TheVariants as binary
 use Rattle.ms_bits.specs.declared.operations.CastOp.{CastOp}
@@ -24,6 +24,7 @@ use Rattle.ms_bits.specs.declared.word_functions.BitMove.TheVariants as move
 use Rattle.ms_bits.specs.WordFunctions.{bits_of, word_mask, move_fn, move_width, move_of, moved_by, moved}
 use Rattle.ms_bits_laws.proofs.WordAgreement.{width_some, moved_lt}
 use Rattle.ms_bits_laws.proofs.CleanWords.{word_clean}
+use Rattle.ms_bits_laws.proofs.OperationAgreement.{wrap-lt}
 use Rattle.ms_ir.specs.declared.calls.External.{External}
 use Rattle.ms_ir.specs.declared.calls.External.TheVariants.{Word}
 use Rattle.ms_ir.specs.Names.{lookup, externals}
@@ -37,7 +38,7 @@ use Rattle.ms_bits.specs.NoFlags.{no_flags}
 use Rattle.ms_ir.specs.Layout.{width_of, extended}
 use Rattle.ms_runs.specs.World.{World, Setting}
 use Rattle.ms_runs.specs.World.{word as value}
-use Rattle.ms_ir.specs.Code.{operands, one_undef}
+use Rattle.ms_ir.specs.Instructions.{operands, one_undef}
 use Rattle.ms_runs.specs.Control.{read_all}
 use Rattle.ms_runs.specs.Act.{operand_word, extended_all}
 use Rattle.ms_runs.specs.Poisoned.{Poisoned}
@@ -56,11 +57,6 @@ use Rattle.ms_tasks.proofs.CheckTasks.{zero_word}
 use Rattle.ms_tasks.proofs.JoinedWords.{Makes, AllMake, own_mask, joined_is}
 use Rattle.ms_tasks.proofs.Words.{Is, is_leaf, is_bits, is_or, mask_carry, mask_and, mask_or, mask_compare, mask_select}
 use Rattle.ms_tasks.proofs.LastOrigins.{AllWords, AllClean}
-
-wrap_below : (w : ℕ) (z : ℤ) → wrap w z < 2 ^ w
-unfolding wrap
-wrap_below w (pos n) = mod_below n (2 ^ w) (pow_pos w)
-wrap_below w (negsuc n) = omega (arith, pow_pos w)
 
 -- a word is its own signed reading
 pub wrap_signed : (w v : ℕ) → v < 2 ^ w → wrap w (signed w v) ≡ v
@@ -181,7 +177,7 @@ module _ (s : Setting) (names : Name → ℕ) where
           is_leaf s names 64 m (wrap 64 (signed w x))
           (ap (λ i. operand_word s names i m) same ∙ e
           ∙ sym (wrap_signed w x (subst (λ n. n < 2 ^ w) e (word_less s names w m))) ∙ ap (λ i. wrap i (signed w x)) (sym same))
-      by_width false f = record { raw = ap (λ n. wrap 64 (signed w n)) e; less = wrap_below 64 (signed w x) }
+      by_width false f = record { raw = ap (λ n. wrap 64 (signed w n)) e; less = wrap-lt 64 (signed w x) }
 
   -- the masks of indices
   indices_make : (env : Env) (values : Name → Poisoned) (is : List (Ty × Operand)) (root : ℕ)

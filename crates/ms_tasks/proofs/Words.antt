@@ -1,5 +1,5 @@
 -- Words that expressions compute, as whole numbers below the power of their width.
-use Rattle.std.proofs.Common.{◌≡◌, ℕ, zero, suc, ◌+◌, ◌-◌, ◌%◌, ◌^◌, ◌<◌, ◌≤◌, refl, sym, ap, ◌∙◌, subst, arith, Bool, true, false}
+use Rattle.std.proofs.Common.{◌≡◌, ℕ, zero, suc, ◌+◌, ◌-◌, ◌%◌, ◌^◌, ◌<◌, ◌≤◌, refl, sym, ap, ◌∙◌, subst, arith}
 use Rattle.std.specs.Prelude.{bit_and, bit_or, bit_xor, ltb, leb}
 use Rattle.std.specs.Int.{from_bool}
 use Rattle.std.proofs.Math.Path.{ap₂}
@@ -22,10 +22,7 @@ use Rattle.ms_tasks.specs.Meaning.{evaluate, whole}
 use Rattle.ms_tasks.specs.Environments.{number, bits_at}
 use Rattle.ms_tasks.specs.ResultMasks.{carry_expr, and_expr, or_expr, order_expr, eq_expr, turned_expr, compare_expr, select_expr}
 use Rattle.ms_tasks.proofs.OperandWords.{ap₃, word_less}
-
-bool_less : (b : Bool) → from_bool b < 2 ^ 1
-bool_less true = omega arith
-bool_less false = omega arith
+use Rattle.ms_bits_laws.proofs.FormulaMasks.{bit_fits}
 
 select_less : (w t x y : ℕ) → x < 2 ^ w → y < 2 ^ w → select_of t x y < 2 ^ w
 unfolding select_of
@@ -79,7 +76,7 @@ module _ (s : Setting) (names : Name → ℕ) where
   is_xor {w} {a} {b} {x} {y} i j = record { raw = ap₂ bit_xor (is_eval i) (is_eval j); less = xor_lt w x y i.less j.less }
 
   pub is_test : (p : Pred) {w : ℕ} {a b : Expr} {x y : ℕ} → Is w a x → Is w b y → Is 1 (Test p (Int w) a b) (from_bool (holds p w x y))
-  is_test p {w} {a} {b} {x} {y} i j = record { raw = ap₂ (λ k l. from_bool (holds p w k l)) (is_eval i) (is_eval j); less = bool_less (holds p w x y) }
+  is_test p {w} {a} {b} {x} {y} i j = record { raw = ap₂ (λ k l. from_bool (holds p w k l)) (is_eval i) (is_eval j); less = bit_fits (holds p w x y) }
 
   pub is_pick : {w : ℕ} {c a b : Expr} {t x y : ℕ} → Is 1 c t → Is w a x → Is w b y → Is w (Pick c (Int w) a b) (select_of t x y)
   is_pick {w} {c} {a} {b} {t} {x} {y} h i j = record { raw = ap₃ select_of (is_eval h) (is_eval i) (is_eval j); less = select_less w t x y i.less j.less }

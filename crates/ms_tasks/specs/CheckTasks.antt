@@ -7,9 +7,9 @@ use Rattle.ms_ir.specs.declared.syntax.Op.TheVariants as op
 use Rattle.ms_ir.specs.Layout.{width_of}
 use Rattle.ms_bits.specs.declared.operations.BinOp.TheVariants as binary
 use Rattle.ms_ir.specs.declared.calls.RuntimeFn.TheVariants as function
-use Rattle.ms_runs.specs.Uses.{Use, Word, Bytes, Line, Asked, has_flag, blind_words}
+use Rattle.ms_runs.specs.Uses.{CheckedUse, Word, Bytes, Line, Asked, has_flag, blind_words}
 use Rattle.ms_ir.specs.declared.syntax.Name.{Name}
-use Rattle.ms_ir.specs.Code.{external_named}
+use Rattle.ms_ir.specs.Instructions.{external_named}
 use Rattle.ms_tasks.specs.Tasks.{Expr, Task, Calls}
 use Rattle.ms_tasks.specs.Environments.{Tracked, tracked_at, is_zero, mask_of, origin_of, word_of, widened, widened_mask, joined, unknown, number}
 
@@ -36,7 +36,7 @@ format_task site k f a =
     Calls None function.CheckFormat ((Ptr, word_of f) ∷ (Int 32, number k) ∷ (Ptr, word_of a) ∷ (Int 32, number site) ∷ [])
 
 -- a check is left out where the mask is known to be 0
-abbrev pub use_tasks : ℕ → List Tracked → Use → List Task
+abbrev pub use_tasks : ℕ → List Tracked → CheckedUse → List Task
 use_tasks site ts (Word kind k) =
     if is_zero (tracked_at k ts).mask then [] else check_task site kind k (tracked_at k ts) ∷ []
 use_tasks site ts (Bytes kind a n) = memory_task site kind (tracked_at a ts) (tracked_at n ts) ∷ []
@@ -44,7 +44,7 @@ use_tasks site ts (Line a) = string_task site (tracked_at a ts) ∷ []
 use_tasks site ts (Asked a) = format_task site a (tracked_at 0 ts) (tracked_at a ts) ∷ []
 
 -- the checks of uses, in their order
-abbrev pub check_tasks : ℕ → List Tracked → List Use → List Task
+abbrev pub check_tasks : ℕ → List Tracked → List CheckedUse → List Task
 check_tasks site ts [] = []
 check_tasks site ts (u ∷ us) = use_tasks site ts u ++ check_tasks site ts us
 

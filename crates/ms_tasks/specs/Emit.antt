@@ -4,7 +4,7 @@ use Rattle.ms_ir.specs.declared.syntax.Name.{Name}
 use Rattle.ms_ir.specs.declared.syntax.Op.{Op}
 use Rattle.ms_ir.specs.declared.syntax.Inst.{Inst}
 use Rattle.ms_runs.specs.World.{Here}
-use Rattle.ms_ir.specs.Code.{operands}
+use Rattle.ms_ir.specs.Instructions.{operands}
 use Rattle.ms_runs.specs.Uses.{uses}
 use Rattle.ms_tasks.specs.Tasks.{Task, tasks_code}
 use Rattle.ms_tasks.specs.Environments.{Env, Given, Tracked, tracked}

@@ -5,7 +5,7 @@ use Rattle.ms_ir.specs.declared.syntax.Ty.{Ty, Int, Ptr}
 use Rattle.ms_ir.specs.declared.syntax.Operand.{Operand}
 use Rattle.ms_ir.specs.declared.syntax.Operand.TheVariants as operand
 use Rattle.ms_ir.specs.Layout.{width_of, Types}
-use Rattle.ms_ir.specs.Code.{one_undef}
+use Rattle.ms_ir.specs.Instructions.{one_undef}
 use Rattle.ms_bits.specs.declared.operations.CastOp.TheVariants as cast
 use Rattle.ms_bits.specs.declared.operations.Pred.TheVariants as pred
 use Rattle.ms_tasks.specs.Tasks.{mask_name, origin_name, Expr, Or, Leaf, Two, Turn, Test}

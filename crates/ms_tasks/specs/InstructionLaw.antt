@@ -8,7 +8,7 @@ use Rattle.ms_ir.specs.declared.syntax.Name.{Name}
 use Rattle.ms_ir.specs.declared.syntax.Inst.{Inst}
 use Rattle.ms_runs.specs.declared.runs.End.{End}
 use Rattle.ms_runs.specs.World.{World, Setting, Here, Effect, Gives, Does, Ends, result}
-use Rattle.ms_ir.specs.Code.{operands, count_undefs, external_named}
+use Rattle.ms_ir.specs.Instructions.{operands, count_undefs, external_named}
 use Rattle.ms_runs.specs.Control.{with_value, read_all}
 use Rattle.ms_runs.specs.Act.{act}
 use Rattle.ms_runs.specs.Masks.{by_formulas, union}

@@ -11,7 +11,7 @@ use Rattle.ms_ir.specs.declared.syntax.Inst.{Inst}
 use Rattle.ms_ir.specs.Names.{is_reserved}
 use Rattle.ms_ir.specs.Signatures.{external_signature, called_params}
 use Rattle.ms_ir.specs.Layout.{width_of}
-use Rattle.ms_ir.specs.Code.{operands, one_undef, external_named, roots_in}
+use Rattle.ms_ir.specs.Instructions.{operands, one_undef, external_named, roots_in}
 use Rattle.ms_ir.specs.declared.calls.External.{External}
 use Rattle.ms_ir.specs.declared.calls.External.TheVariants.{Word}
 use Rattle.ms_bits.specs.WordFunctions.{bits_of}

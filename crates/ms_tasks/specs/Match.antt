@@ -10,7 +10,7 @@ use Rattle.ms_ir.specs.declared.syntax.Inst.{Inst}
 use Rattle.ms_ir.specs.Names.{is_reserved, slot_name, slot_room}
 use Rattle.ms_ir.specs.Layout.{width_of, stored_size}
 use Rattle.ms_runs.specs.World.{World, Setting, Here, Allocation}
-use Rattle.ms_ir.specs.Code.{operands, external_named, roots_in}
+use Rattle.ms_ir.specs.Instructions.{operands, external_named, roots_in}
 use Rattle.ms_runs.specs.Masks.{word_at}
 use Rattle.ms_ir.specs.declared.calls.External.{External}
 use Rattle.ms_ir.specs.declared.calls.External.TheVariants.{Realloc}

@@ -12,7 +12,7 @@ use Rattle.ms_runs.specs.declared.runs.End.{End}
 use Rattle.ms_bits.specs.NoFlags.{no_flags}
 use Rattle.ms_ir.specs.Layout.{width_of}
 use Rattle.ms_runs.specs.World.{World, Setting, Here, Effect, Gives, Does, Goes, Enters, Leaves, Ends, stuck, word, gives}
-use Rattle.ms_ir.specs.Code.{operands, is_phi}
+use Rattle.ms_ir.specs.Instructions.{operands, is_phi}
 use Rattle.ms_runs.specs.Control.{with_value}
 use Rattle.ms_runs.specs.Act.{operand_word}
 use Rattle.ms_runs.specs.Masks.{value_or_zero}

@@ -11,8 +11,8 @@ use Rattle.ms_ir.specs.declared.syntax.Inst.{Inst}
 use Rattle.ms_ir.specs.Names.{name_eq}
 use Rattle.ms_ir.specs.Layout.{width_of}
 use Rattle.ms_runs.specs.World.{Here}
-use Rattle.ms_ir.specs.Code.{one_undef, one_unmarked, roots_in}
-use Rattle.ms_tasks.specs.Tasks.{mask_name, origin_name, Code, inserted}
+use Rattle.ms_ir.specs.Instructions.{one_undef, one_unmarked, roots_in}
+use Rattle.ms_tasks.specs.Tasks.{mask_name, origin_name, InsertedCode, inserted}
 use Rattle.ms_tasks.specs.Environments.{Env, Given, mask_type, mask_operand, origin_operand}
 use Rattle.ms_tasks.specs.Emit.{Emitted, emit_tasks}
 
@@ -66,7 +66,7 @@ abbrev pub emit_lists : Given → Env → Here → Inst → ℕ → Emitted
 emit_lists given env h i n = emit_op given env h i n i.op
 
 -- the instructions from a place on to the end of their block, each between its lists
-abbrev pub pass_insts : Given → Env → List Inst → Here → ℕ → Code
+abbrev pub pass_insts : Given → Env → List Inst → Here → ℕ → InsertedCode
 pass_insts given env [] h n = record { code = []; next = n }
 pass_insts given env (i ∷ is) h n =
     let x = emit_op given env h i n i.op in let y = pass_insts given env is (next_here given h i) x.next in

@@ -8,7 +8,7 @@ use Rattle.ms_ir.specs.declared.syntax.Op.{Op}
 use Rattle.ms_ir.specs.declared.syntax.Op.TheVariants as op
 use Rattle.ms_ir.specs.Layout.{width_of, size_in}
 use Rattle.ms_runs.specs.World.{Here}
-use Rattle.ms_ir.specs.Code.{count_undefs, external_named}
+use Rattle.ms_ir.specs.Instructions.{count_undefs, external_named}
 use Rattle.ms_ir.specs.declared.calls.RuntimeFn.TheVariants as function
 use Rattle.ms_ir.specs.declared.calls.External.{External}
 use Rattle.ms_ir.specs.declared.calls.External.TheVariants.{Malloc, Realloc, Memcpy, Memmove, Memset, Read, LlvmMemcpy, LlvmMemmove, LlvmMemset, LifetimeStart, PthreadCreate, PthreadJoin}

@@ -90,7 +90,7 @@ pub record Half : Type 0 where
   pub next : ℕ
 
 -- instructions, and the next free number of an inserted result
-pub record Code : Type 0 where
+pub record InsertedCode : Type 0 where
   pub code : List Inst
   pub next : ℕ
 
@@ -179,17 +179,17 @@ last_op (Puts t a b) os = op.Store t (operand_at os 0) (operand_at os 1)
 last_op (Calls x f args) os = op.Call (runtime_signature f).ret (runtime_name f) os
 
 -- a task whose last instruction takes words
-abbrev pub plain_code : Task → ℕ → Code
+abbrev pub plain_code : Task → ℕ → InsertedCode
 plain_code t n =
     let x = flatten_all (parts t) n in
     record { code = x.code ++ inserted (target t) (last_op t x.operands) ∷ []; next = x.next }
 
 -- the instructions of a task, from a free number on
-abbrev pub task_code : Task → ℕ → Code
+abbrev pub task_code : Task → ℕ → InsertedCode
 task_code (Sets x t e) n = let h = half e n in record { code = h.code ++ inserted (Some x) (set_op t h.last) ∷ []; next = h.next }
 task_code t n = plain_code t n
 
 -- the instructions of tasks in turn
-abbrev pub tasks_code : List Task → ℕ → Code
+abbrev pub tasks_code : List Task → ℕ → InsertedCode
 tasks_code [] n = record { code = []; next = n }
 tasks_code (t ∷ ts) n = let x = task_code t n in let y = tasks_code ts x.next in record { code = x.code ++ y.code; next = y.next }

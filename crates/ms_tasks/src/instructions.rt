@@ -8,7 +8,7 @@ ghost use Rattle.ms_ir.specs.declared.syntax.Operand.{Operand};
 ghost use Rattle.ms_ir.specs.declared.syntax.Op.TheVariants as op;
 ghost use Rattle.ms_ir.specs.declared.syntax.Inst.{Inst};
 ghost use Rattle.ms_ir.specs.Names.{is_reserved};
-ghost use Rattle.ms_ir.specs.Code.{operands};
+ghost use Rattle.ms_ir.specs.Instructions.{operands};
 ghost use Rattle.ms_runs.specs.World.{World, Setting, Here, Gives, Does};
 ghost use Rattle.ms_runs.specs.Poisoned.{Poisoned};
 ghost use Rattle.ms_runs.specs.Masks.{by_formulas};

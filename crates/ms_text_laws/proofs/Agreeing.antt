@@ -3,19 +3,19 @@ use Rattle.std.proofs.Common.{◌≡◌, ◌⊎◌, inl, inr, ℕ, zero, suc, �
 use Rattle.std.specs.Prelude.{nat_lt}
 use Rattle.std.proofs.lemmas.Bool.{ltb-true, lt-ltb, and_parts, and_from}
 use Rattle.ms_lex.specs.Grammar.{Outcome, done, fails, and_then, judged as outcome_of, turn, turns, run, head, tail, one, seq, loop}
-use Rattle.ms_grammar.specs.declared.refusals.Limit.{Limit}
-use Rattle.ms_grammar.specs.declared.refusals.Refusal.{Refusal}
-use Rattle.ms_grammar.specs.declared.refusals.Refusal.TheVariants as r
-use Rattle.ms_grammar.specs.declared.symbols.Symbol.{Symbol}
-use Rattle.ms_grammar.specs.Lexemes.{Lexeme, end_of_text}
-use Rattle.ms_grammar.specs.Steps.{Rule, Verdict, within, judge_map, stop, listed, items}
+use Rattle.ms_text_grammar.specs.declared.refusals.Limit.{Limit}
+use Rattle.ms_text_grammar.specs.declared.refusals.Cause.{Cause}
+use Rattle.ms_text_grammar.specs.declared.refusals.Cause.TheVariants as r
+use Rattle.ms_text_grammar.specs.declared.symbols.Symbol.{Symbol}
+use Rattle.ms_text_grammar.specs.Lexemes.{Lexeme, end_of_text}
+use Rattle.ms_text_grammar.specs.Steps.{Rule, Verdict, within, judge_map, stop, listed, items}
 use Rattle.ms_text_laws.specs.Fits.{NamesLimit}
 
 -- ---- verdicts
 
 -- two verdicts are the same, or the first names a limit
 abbrev pub Near : {A : Type 0} → Verdict A → Verdict A → Type 0
-Near v w = (v ≡ w) ⊎ ((e : Refusal) × NamesLimit e × (v ≡ Err e))
+Near v w = (v ≡ w) ⊎ ((e : Cause) × NamesLimit e × (v ≡ Err e))
 
 pub names_limit : (l : Limit) → NamesLimit (r.Limit l)
 names_limit l = inl (l, refl)
@@ -39,7 +39,7 @@ then_near true v w x near = near
 then_near false v w x near = inl refl
 
 -- one has more room than the other
-pub room_near : {A : Type 0} (p q : Bool) (v w : Verdict A) (e : Refusal) → NamesLimit e → (p ≡ true → q ≡ true) → Near v w → Near (cond p v (Err e)) (cond q w (Err e))
+pub room_near : {A : Type 0} (p q : Bool) (v w : Verdict A) (e : Cause) → NamesLimit e → (p ≡ true → q ≡ true) → Near v w → Near (cond p v (Err e)) (cond q w (Err e))
 room_near true true v w e limit more near = near
 room_near true false v w e limit more near = absurd (true≢false (sym (more refl)))
 room_near false q v w e limit more near = inr (e, limit, refl)
@@ -58,8 +58,8 @@ mapped_near f v w (inr (e, limit, is)) = inr (e, limit, ap (judge_map f) is)
 -- ---- pieces
 
 -- two outcomes are the same, or the first names a limit
-abbrev pub Agrees : {A : Type 0} → Outcome Lexeme Refusal A → Outcome Lexeme Refusal A → Type 0
-Agrees o p = (o ≡ p) ⊎ ((e : Refusal) × (rest : List Lexeme) × NamesLimit e × (o ≡ fails e rest))
+abbrev pub Agrees : {A : Type 0} → Outcome Lexeme Cause A → Outcome Lexeme Cause A → Type 0
+Agrees o p = (o ≡ p) ⊎ ((e : Cause) × (rest : List Lexeme) × NamesLimit e × (o ≡ fails e rest))
 
 -- of all lexemes the second piece makes what the first makes of them, unless that names a limit
 pub record Looser {A : Type 0} (g h : Rule A) : Type 0 where
@@ -76,10 +76,10 @@ pub taken : {A : Type 0} {f g : Lexeme → Verdict A} → ((t : Lexeme) → Near
 taken {f = f} {g = g} near = record { each = λ ts. verdict_agrees (f (head end_of_text ts)) (g (head end_of_text ts)) ts (tail ts) (near (head end_of_text ts)) }
 
 -- the first piece stops at a limit at once
-pub stopped : {A : Type 0} {e : Refusal} {h : Rule A} → NamesLimit e → Looser (stop e) h
+pub stopped : {A : Type 0} {e : Cause} {h : Rule A} → NamesLimit e → Looser (stop e) h
 stopped {e = e} limit = record { each = λ ts. inr (e, ts, limit, refl) }
 
-then_agrees : {A B : Type 0} (o p : Outcome Lexeme Refusal A) (f g : A → List Lexeme → Outcome Lexeme Refusal B) → Agrees o p
+then_agrees : {A B : Type 0} (o p : Outcome Lexeme Cause A) (f g : A → List Lexeme → Outcome Lexeme Cause B) → Agrees o p
     → ((a : A) (ts : List Lexeme) → Agrees (f a ts) (g a ts)) → Agrees (and_then o f) (and_then p g)
 then_agrees (done a ts) p f g (inl same) each = subst (λ x. Agrees (f a ts) (and_then x g)) same (each a ts)
 then_agrees (fails e ts) p f g (inl same) each = inl (ap (λ x. and_then x g) same)
@@ -90,7 +90,7 @@ next {g = g} {h = h} {k = k} {l = l} p q = record {
   each = λ ts. then_agrees (run end_of_text g ts) (run end_of_text h ts) (λ a. run end_of_text (k a)) (λ a. run end_of_text (l a)) (p.each ts) (λ a rest. (q a).each rest);
 }
 
-turn_agrees : {A : Type 0} (v w : Verdict Bool) (o p : Outcome Lexeme Refusal A) (a : A) (ts : List Lexeme) → Near v w → Agrees o p → Agrees (turn v o a ts) (turn w p a ts)
+turn_agrees : {A : Type 0} (v w : Verdict Bool) (o p : Outcome Lexeme Cause A) (a : A) (ts : List Lexeme) → Near v w → Agrees o p → Agrees (turn v o a ts) (turn w p a ts)
 turn_agrees (Ok true) w o p a ts (inl same) h = subst (λ x. Agrees o (turn x p a ts)) same h
 turn_agrees (Ok false) w o p a ts (inl same) h = inl (ap (λ x. turn x p a ts) same)
 turn_agrees (Err e) w o p a ts (inl same) h = inl (ap (λ x. turn x p a ts) same)

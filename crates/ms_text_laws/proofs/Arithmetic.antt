@@ -11,11 +11,11 @@ use Rattle.ms_ir.specs.declared.syntax.Op.{Op}
 use Rattle.ms_ir.specs.declared.syntax.Op.TheVariants as op
 use Rattle.ms_bits.specs.NoFlags.{no_flags}
 use Rattle.ms_ir.specs.declared.forms.Form.{Form}
-use Rattle.ms_grammar.specs.declared.symbols.Symbol.{Symbol}
-use Rattle.ms_grammar.specs.declared.symbols.Symbol.TheVariants as s
-use Rattle.ms_grammar.specs.Lexemes.{Lexeme, same_symbol}
-use Rattle.ms_grammar.specs.Insts.{is_set, with_flag, flags_of, binary_carries, cast_carries, compare_carries, binary_rule, compare_rule, cast_rule, select_rule, freeze_rule}
-use Rattle.ms_grammar.specs.Texts.{ReadsUpTo}
+use Rattle.ms_text_grammar.specs.declared.symbols.Symbol.{Symbol}
+use Rattle.ms_text_grammar.specs.declared.symbols.Symbol.TheVariants as s
+use Rattle.ms_text_grammar.specs.Lexemes.{Lexeme, same_symbol}
+use Rattle.ms_text_grammar.specs.Insts.{is_set, with_flag, flags_of, binary_carries, cast_carries, compare_carries, binary_rule, compare_rule, cast_rule, select_rule, freeze_rule}
+use Rattle.ms_text_grammar.specs.Texts.{ReadsUpTo}
 use Rattle.ms_valid.specs.FormedCode.{is_width, is_value_type, are_among, binary_flags, cast_flags}
 use Rattle.ms_text_laws.proofs.Sound.{AllSound}
 use Rattle.ms_text_laws.proofs.FormedTypes.{value_is_type}

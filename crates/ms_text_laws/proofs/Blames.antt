@@ -1,17 +1,17 @@
 -- Where a piece of the grammar stops it names a cause, which isn't want of memory: a law for each way in which pieces are put together.
 use Rattle.std.proofs.Common.{◌≡◌, ℕ, zero, suc, Bool, true, false, cond, List, [], ◌∷◌, Option, Some, None, Ok, Err, refl, subst, ⊎_elim}
 use Rattle.ms_lex.specs.Grammar.{head, TurnStops, give, one, look, seq, loop}
-use Rattle.ms_grammar.specs.declared.refusals.Limit.{Limit}
-use Rattle.ms_grammar.specs.declared.refusals.Outside.{Outside}
-use Rattle.ms_grammar.specs.declared.refusals.Refusal.{Refusal}
-use Rattle.ms_grammar.specs.declared.refusals.Refusal.TheVariants as r
-use Rattle.ms_grammar.specs.declared.symbols.Symbol.{Symbol}
-use Rattle.ms_grammar.specs.Lexemes.{Lexeme, end_of_text, is}
-use Rattle.ms_grammar.specs.Steps.{Rule, Verdict, outside_of, syntax_or, refusal, within, judge_map, next_symbol, refuse, stop, skip, sees, word, listed, with_item, items}
-use Rattle.ms_grammar.specs.Texts.{ReadsUpTo, StopsAt}
+use Rattle.ms_text_grammar.specs.declared.refusals.Limit.{Limit}
+use Rattle.ms_text_grammar.specs.declared.refusals.Outside.{Outside}
+use Rattle.ms_text_grammar.specs.declared.refusals.Cause.{Cause}
+use Rattle.ms_text_grammar.specs.declared.refusals.Cause.TheVariants as r
+use Rattle.ms_text_grammar.specs.declared.symbols.Symbol.{Symbol}
+use Rattle.ms_text_grammar.specs.Lexemes.{Lexeme, end_of_text, is}
+use Rattle.ms_text_grammar.specs.Steps.{Rule, Verdict, outside_of, syntax_or, refusal, within, judge_map, next_symbol, refuse, stop, skip, sees, word, listed, with_item, items}
+use Rattle.ms_text_grammar.specs.Texts.{ReadsUpTo, StopsAt}
 
 -- a cause other than want of memory
-abbrev pub IsCause : Refusal → Type 0
+abbrev pub IsCause : Cause → Type 0
 IsCause e = e ≡ r.NoMemory → ⊥
 
 -- ---- verdicts
@@ -22,11 +22,11 @@ IsNamed (Ok a) = Unit {0}
 IsNamed (Err e) = IsCause e
 
 -- a refusal that is no want of memory
-abbrev named : Refusal → Bool
+abbrev named : Cause → Bool
 named r.NoMemory = false
 named e = true
 
-pub cause : (e : Refusal) → named e ≡ true → IsCause e
+pub cause : (e : Cause) → named e ≡ true → IsCause e
 cause r.NoMemory h = λ same. cc
 cause r.Syntax h = λ same. cc
 cause (r.Outside construct) h = λ same. cc
@@ -42,7 +42,7 @@ pub refusal_is : (t : Lexeme) → IsCause (refusal t)
 unfolding refusal
 refusal_is t = cause _ (either_named _ (r.Outside _) (syntax_or (outside_of t.symbol)) refl (syntax_named (outside_of t.symbol)))
   where
-    either_named : (b : Bool) (c d : Refusal) → named c ≡ true → named d ≡ true → named (cond b c d) ≡ true
+    either_named : (b : Bool) (c d : Cause) → named c ≡ true → named d ≡ true → named (cond b c d) ≡ true
     either_named true c d h k = h
     either_named false c d h k = k
 
@@ -63,7 +63,7 @@ pub mapped_named : {A B : Type 0} (f : A → B) (v : Verdict A) → IsNamed v �
 mapped_named f (Ok a) h = tt
 mapped_named f (Err e) h = h
 
-pub cause_of : {A : Type 0} (v : Verdict A) (e : Refusal) → IsNamed v → v ≡ Err e → IsCause e
+pub cause_of : {A : Type 0} (v : Verdict A) (e : Cause) → IsNamed v → v ≡ Err e → IsCause e
 cause_of (Ok a) e h same = absurd cc
 cause_of (Err d) e h same = let this : d ≡ e = cc in subst IsCause this h
 
@@ -71,7 +71,7 @@ cause_of (Err d) e h same = let this : d ≡ e = cc in subst IsCause this h
 
 -- each stop of the piece names a cause
 pub record Blames {A : Type 0} (g : Rule A) : Type 0 where
-  pub each : (ts : List Lexeme) (e : Refusal) (rest : List Lexeme) → StopsAt g ts e rest → IsCause e
+  pub each : (ts : List Lexeme) (e : Cause) (rest : List Lexeme) → StopsAt g ts e rest → IsCause e
 
 pub given : {A : Type 0} {a : A} → Blames (give a)
 given = record { each = λ ts e rest h. absurd h }
@@ -90,7 +90,7 @@ either true p q = p
 either false p q = q
 
 module _ {S : Type 0} (begins : S → Lexeme → Verdict Bool) (body : S → Lexeme → Rule S) (all : (s : S) (t : Lexeme) → IsNamed (begins s t)) (more : (s : S) (t : Lexeme) → Blames (body s t)) where
-  turns_blame : (n : ℕ) (a : S) (ts : List Lexeme) (e : Refusal) (rest : List Lexeme)
+  turns_blame : (n : ℕ) (a : S) (ts : List Lexeme) (e : Cause) (rest : List Lexeme)
       → TurnStops begins (λ s t. ReadsUpTo (body s t)) (λ s t. StopsAt (body s t)) n a ts e rest → IsCause e
   turns_blame n a [] e rest h = absurd h
   turns_blame zero a (t ∷ ts) e rest h = ⊎_elim (λ first. cause_of (begins a t) e (all a t) first.0) (λ second. (more a t).each ts e rest second.1) h
@@ -107,7 +107,7 @@ symbol_seen = seen (λ t. tt)
 pub refused : {A : Type 0} → Blames (refuse {A = A})
 refused = seen refusal_is
 
-pub stopped : {A : Type 0} (e : Refusal) → named e ≡ true → Blames (stop {A = A} e)
+pub stopped : {A : Type 0} (e : Cause) → named e ≡ true → Blames (stop {A = A} e)
 stopped e h = seen (λ t. cause e h)
 
 pub skipped : Blames skip

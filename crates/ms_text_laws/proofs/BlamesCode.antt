@@ -13,22 +13,22 @@ use Rattle.ms_ir.specs.declared.syntax.Operand.{Operand}
 use Rattle.ms_ir.specs.declared.syntax.Op.{Op}
 use Rattle.ms_ir.specs.declared.syntax.Op.TheVariants as op
 use Rattle.ms_ir.specs.declared.forms.Form.{Form}
-use Rattle.ms_grammar.specs.declared.refusals.Limit.TheVariants as limit
-use Rattle.ms_grammar.specs.declared.refusals.Outside.TheVariants as outside
-use Rattle.ms_grammar.specs.declared.refusals.Refusal.TheVariants as r
-use Rattle.ms_grammar.specs.declared.states.Body.{Body}
-use Rattle.ms_grammar.specs.declared.symbols.Symbol.{Symbol}
-use Rattle.ms_grammar.specs.declared.symbols.Symbol.TheVariants as s
-use Rattle.ms_grammar.specs.Lexemes.{Lexeme, is, name_in}
-use Rattle.ms_grammar.specs.Steps.{Rule, Verdict, binary_op, cast_op}
-use Rattle.ms_grammar.specs.Names.{reserved_local, name_fits, global_name}
-use Rattle.ms_grammar.specs.Types.{value_type_of}
-use Rattle.ms_grammar.specs.Values.{value}
-use Rattle.ms_grammar.specs.Insts.{Marked, with_suffixes, flags_of, binary_rule, known, predicate_by, predicate_word, compare_rule, cast_rule, bit_type, spells, other_type, same_type, select_rule, freeze_rule, address, load_rule, store_rule, index_by, index_turn, step_rule, alloca_rule, call_type, is_i32, variadic_type, callee_type, is_printf, callee_by, callee, max_parameters, argument, arguments, debug_rest, call_attribute, call_end, call_word, call_rule, edge, edge_by, edge_turn, phi_rule, target, branch_on, branch_rule, case_rest, switch_rule, ret_value, ret_rule}
-use Rattle.ms_grammar.specs.Bodies.{is_open, opened, max_instructions, counted, short, numbered, unreserved, begins_instruction, line_begins_by, numbers_left, line_begins}
-use Rattle.ms_grammar.specs.Lines.{value_line, marked_line, phi_line, call_line, effect_line, end_line, instruction_by, operation_by, instruction, gives_value, named_line, record_line, line_by, line, is_whole, blocks}
+use Rattle.ms_text_grammar.specs.declared.refusals.Limit.TheVariants as limit
+use Rattle.ms_text_grammar.specs.declared.refusals.Outside.TheVariants as outside
+use Rattle.ms_text_grammar.specs.declared.refusals.Cause.TheVariants as r
+use Rattle.ms_text_grammar.specs.declared.states.Body.{Body}
+use Rattle.ms_text_grammar.specs.declared.symbols.Symbol.{Symbol}
+use Rattle.ms_text_grammar.specs.declared.symbols.Symbol.TheVariants as s
+use Rattle.ms_text_grammar.specs.Lexemes.{Lexeme, is, name_in}
+use Rattle.ms_text_grammar.specs.Steps.{Rule, Verdict, binary_op, cast_op}
+use Rattle.ms_text_grammar.specs.Names.{reserved_local, name_fits, global_name}
+use Rattle.ms_text_grammar.specs.Types.{value_type_of}
+use Rattle.ms_text_grammar.specs.Values.{value}
+use Rattle.ms_text_grammar.specs.Insts.{Marked, with_suffixes, flags_of, binary_rule, known, predicate_by, predicate_word, compare_rule, cast_rule, bit_type, spells, other_type, same_type, select_rule, freeze_rule, address, load_rule, store_rule, index_by, index_turn, gep_rule, alloca_rule, call_type, is_i32, variadic_type, callee_type, is_printf, callee_by, callee, max_parameters, argument, arguments, debug_rest, call_attribute, call_end, call_word, call_rule, edge, edge_by, edge_turn, phi_rule, target, branch_on, branch_rule, case_rest, switch_rule, ret_value, ret_rule}
+use Rattle.ms_text_grammar.specs.Bodies.{is_open, opened, max_instructions, counted, short, numbered, unreserved, begins_instruction, line_begins_by, numbers_left, line_begins}
+use Rattle.ms_text_grammar.specs.Lines.{value_line, marked_line, phi_line, call_line, effect_line, end_line, instruction_by, operation_by, instruction, gives_value, named_line, record_line, line_by, line, is_whole, blocks}
 use Rattle.ms_text_laws.proofs.Blames.{IsNamed, cause, refusal_is, if_named, or_refused, within_named, Blames, given, judged, seen, chained, either, looped, refused, stopped, sight, word_taken, by_symbol, behind_token, behind_word, listed_blame}
-use Rattle.ms_text_laws.proofs.BlamesParts.{global_named, local_blames, int_type_blames, value_type_named, value_type_blames, result_type_blames, type_blames, number_blames, step_words_blame, index_type_blames, value_blames, balanced_blames, attribute_rest_blames, attributes_blame, all_suffixes_blame}
+use Rattle.ms_text_laws.proofs.BlamesParts.{global_named, local_blames, int_type_blames, value_type_named, value_type_blames, result_type_blames, type_blames, number_blames, gep_words_blame, index_type_blames, value_blames, balanced_blames, attribute_rest_blames, attributes_blame, all_suffixes_blame}
 
 module _ (form : Form) where
   operand_blames : (type : Ty) → Blames (value form type)
@@ -108,10 +108,10 @@ module _ (form : Form) where
   unfolding index_turn
   index_blames found = by_symbol (index_by_blames found)
 
-  step_blames : Blames (step_rule form)
-  unfolding step_rule
-  step_blames =
-      chained step_words_blame (λ u. chained (type_blames form 32) (λ t. chained address_blames (λ base.
+  gep_blames : Blames (gep_rule form)
+  unfolding gep_rule
+  gep_blames =
+      chained gep_words_blame (λ u. chained (type_blames form 32) (λ t. chained address_blames (λ base.
       chained (looped (λ i t. tt) (λ i t. index_blames i.found)) (λ indices. chained (all_suffixes_blame form indices.ended) (λ marked. given)))))
 
   alloca_blames : Blames (alloca_rule form)
@@ -267,7 +267,7 @@ module _ (form : Form) where
   by_word a result s.Alloca = marked_line_blames a result (alloca_rule form) alloca_blames
   by_word a result s.Load = value_line_blames a result (load_rule form) load_blames
   by_word a result s.Store = effect_line_blames a (store_rule form) store_blames
-  by_word a result s.GetElementPtr = marked_line_blames a result (step_rule form) step_blames
+  by_word a result s.GetElementPtr = marked_line_blames a result (gep_rule form) gep_blames
   by_word a result s.Tail = call_line_blames a result s.Tail
   by_word a result s.MustTail = call_line_blames a result s.MustTail
   by_word a result s.NoTail = call_line_blames a result s.NoTail

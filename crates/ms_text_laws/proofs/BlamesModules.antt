@@ -7,22 +7,22 @@ use Rattle.ms_ir.specs.declared.syntax.Name.{Name}
 use Rattle.ms_ir.specs.declared.syntax.Name.TheVariants as name
 use Rattle.ms_ir.specs.declared.syntax.Module.{Module}
 use Rattle.ms_ir.specs.declared.forms.Form.{Form}
-use Rattle.ms_grammar.specs.declared.refusals.Limit.TheVariants as limit
-use Rattle.ms_grammar.specs.declared.refusals.Outside.TheVariants as outside
-use Rattle.ms_grammar.specs.declared.refusals.Refusal.{Refusal}
-use Rattle.ms_grammar.specs.declared.refusals.Refusal.TheVariants as r
-use Rattle.ms_grammar.specs.declared.states.Parameters.{Parameters}
-use Rattle.ms_grammar.specs.declared.states.Parts.{Parts}
-use Rattle.ms_grammar.specs.declared.symbols.Symbol.{Symbol}
-use Rattle.ms_grammar.specs.declared.symbols.Symbol.TheVariants as s
-use Rattle.ms_grammar.specs.Lexemes.{Lexeme, is, name_in, lexemes_of}
-use Rattle.ms_grammar.specs.Names.{reserved_global, name_fits, local_by}
-use Rattle.ms_grammar.specs.Types.{value_type_of}
-use Rattle.ms_grammar.specs.Skipped.{is_attribute, attached_by}
-use Rattle.ms_grammar.specs.Insts.{names_printf}
-use Rattle.ms_grammar.specs.Functions.{no_parameters, has_room, parameter_name_by, parameter_name, typed_parameter, parameter, parameters, linkage_rest, linkage, declaration, tail_rest, function_tail, body_behind, function}
-use Rattle.ms_grammar.specs.Modules.{source_filename, target_entity, attribute_group, node_by, metadata_entity, named_type, global_kind_by, global_suffix_by, global_suffix, global_variable, max_functions, max_globals, room_for_function, global_begins, entity_begins_by, entity_begins, entity_by, entity, module_rule}
-use Rattle.ms_grammar.specs.Texts.{Stops}
+use Rattle.ms_text_grammar.specs.declared.refusals.Limit.TheVariants as limit
+use Rattle.ms_text_grammar.specs.declared.refusals.Outside.TheVariants as outside
+use Rattle.ms_text_grammar.specs.declared.refusals.Cause.{Cause}
+use Rattle.ms_text_grammar.specs.declared.refusals.Cause.TheVariants as r
+use Rattle.ms_text_grammar.specs.declared.states.Parameters.{Parameters}
+use Rattle.ms_text_grammar.specs.declared.states.Parts.{Parts}
+use Rattle.ms_text_grammar.specs.declared.symbols.Symbol.{Symbol}
+use Rattle.ms_text_grammar.specs.declared.symbols.Symbol.TheVariants as s
+use Rattle.ms_text_grammar.specs.Lexemes.{Lexeme, is, name_in, lexemes_of}
+use Rattle.ms_text_grammar.specs.Names.{reserved_global, name_fits, local_by}
+use Rattle.ms_text_grammar.specs.Types.{value_type_of}
+use Rattle.ms_text_grammar.specs.Skipped.{is_attribute, attached_by}
+use Rattle.ms_text_grammar.specs.Insts.{names_printf}
+use Rattle.ms_text_grammar.specs.Functions.{no_parameters, has_room, parameter_name_by, parameter_name, typed_parameter, parameter, parameters, linkage_rest, linkage, declaration, tail_rest, function_tail, body_behind, function}
+use Rattle.ms_text_grammar.specs.Modules.{source_filename, target_entity, attribute_group, node_by, metadata_entity, named_type, global_kind_by, global_suffix_by, global_suffix, global_variable, max_functions, max_globals, room_for_function, global_begins, entity_begins_by, entity_begins, entity_by, entity, module_rule}
+use Rattle.ms_text_grammar.specs.Texts.{Stops}
 use Rattle.ms_text_laws.proofs.Blames.{IsCause, IsNamed, cause, refusal_is, if_named, or_refused, within_named, mapped_named, Blames, given, judged, seen, chained, either, looped, skipped, sight, word_taken, by_symbol, behind_token, behind_word, listed_blame}
 use Rattle.ms_text_laws.proofs.BlamesParts.{local_named, local_by_named, global_blames, value_type_named, result_type_blames, type_blames, struct_type_blames, init_blames, balanced_blames, attribute_rest_blames, attributes_blame, attached_by_named, meta_blames, attachments_blame, kind_named}
 use Rattle.ms_text_laws.proofs.BlamesCode.{blocks_blame}
@@ -171,5 +171,5 @@ module _ (form : Form) where
   unfolding module_rule
   module_blames = chained (looped entity_begins_named entity_blames) (λ p. chained (seen (λ t. or_refused (is s.EndOfText t) (Ok tt) t tt)) (λ u. given))
 
-pub stops_named : (form : Form) (text : Text) (k : ℕ) (e : Refusal) → Stops form text k e → IsCause e
+pub stops_named : (form : Form) (text : Text) (k : ℕ) (e : Cause) → Stops form text k e → IsCause e
 stops_named form text k e h = (module_blames form).each (lexemes_of text h.0) e h.2.0 h.2.2

@@ -9,17 +9,17 @@ use Rattle.ms_ir.specs.declared.syntax.Operand.TheVariants as operand
 use Rattle.ms_ir.specs.declared.syntax.Init.{Init}
 use Rattle.ms_ir.specs.declared.forms.Form.{Form}
 use Rattle.ms_ir.specs.declared.forms.Form.TheVariants.{Plain, Instrumented}
-use Rattle.ms_grammar.specs.declared.refusals.Limit.TheVariants as limit
-use Rattle.ms_grammar.specs.declared.refusals.Outside.TheVariants as outside
-use Rattle.ms_grammar.specs.declared.refusals.Refusal.TheVariants as r
-use Rattle.ms_grammar.specs.declared.symbols.Symbol.{Symbol}
-use Rattle.ms_grammar.specs.declared.symbols.Symbol.TheVariants as s
-use Rattle.ms_grammar.specs.Lexemes.{Lexeme, is, name_in, number_in, width_in}
-use Rattle.ms_grammar.specs.Steps.{Rule, refusal, begins_expression}
-use Rattle.ms_grammar.specs.Names.{reserved_global, reserved_local, name_fits, text_name, local_name, global_name, number_name, local_by, local, global_by, global}
-use Rattle.ms_grammar.specs.Types.{int_width, is_ptr, is_width, int_type_of, int_type, value_type_by, value_type_of, value_type, result_type_by, result_type, count_by, count, flat, packed_brace, array_rest, struct_rest, packed_rest, nested, opens, type_to, struct_by, struct_type}
-use Rattle.ms_grammar.specs.Values.{fits, number_by, number, step_words, max_indices, index_type_of, constant_index, constant_indices, Address, step_from, base_by, base_to, max_within, offset, is_int_width, int_value, local_value, simple_by, simple_value, value_by, value_within, flat_init, typed, array_init, struct_init, packed_init, nested_init, init_to}
-use Rattle.ms_grammar.specs.Skipped.{is_closer, is_awaited, may_skip, all_closed, balanced, in_parens, string_value, attribute_rest, attributes, mark_allowed, attached_by, meta, attachments, kind_by, kind_of, attached_rest, attached, suffix_by, suffix, suffixes, suffixes_from}
+use Rattle.ms_text_grammar.specs.declared.refusals.Limit.TheVariants as limit
+use Rattle.ms_text_grammar.specs.declared.refusals.Outside.TheVariants as outside
+use Rattle.ms_text_grammar.specs.declared.refusals.Cause.TheVariants as r
+use Rattle.ms_text_grammar.specs.declared.symbols.Symbol.{Symbol}
+use Rattle.ms_text_grammar.specs.declared.symbols.Symbol.TheVariants as s
+use Rattle.ms_text_grammar.specs.Lexemes.{Lexeme, is, name_in, number_in, width_in}
+use Rattle.ms_text_grammar.specs.Steps.{Rule, refusal, begins_expression}
+use Rattle.ms_text_grammar.specs.Names.{reserved_global, reserved_local, name_fits, text_name, local_name, global_name, number_name, local_by, local, global_by, global}
+use Rattle.ms_text_grammar.specs.Types.{int_width, is_ptr, is_width, int_type_of, int_type, value_type_by, value_type_of, value_type, result_type_by, result_type, count_by, count, flat, packed_brace, array_rest, struct_rest, packed_rest, nested, opens, type_to, struct_by, struct_type}
+use Rattle.ms_text_grammar.specs.Values.{fits, number_by, number, gep_words, max_indices, index_type_of, constant_index, constant_indices, Address, gep_from, base_by, base_to, max_within, offset, is_int_width, int_value, local_value, simple_by, simple_value, value_by, value_within, flat_init, typed, array_init, struct_init, packed_init, nested_init, init_to}
+use Rattle.ms_text_grammar.specs.Skipped.{is_closer, is_awaited, may_skip, all_closed, balanced, in_parens, string_value, attribute_rest, attributes, mark_allowed, attached_by, meta, attachments, kind_by, kind_of, attached_rest, attached, suffix_by, suffix, suffixes, suffixes_from}
 use Rattle.ms_text_laws.proofs.Blames.{IsCause, IsNamed, cause, refusal_is, if_named, or_refused, within_named, mapped_named, Blames, given, judged, chained, either, looped, refused, stopped, sight, word_taken, by_symbol, behind_token, behind_word, items_blame}
 
 -- ---- names
@@ -153,9 +153,9 @@ pub number_blames : (width : ℕ) → Blames (number width)
 unfolding number
 number_blames width = judged (λ t. or_refused (is s.Number t) (number_by width t) t (number_by_named width t))
 
-pub step_words_blame : Blames step_words
-unfolding step_words
-step_words_blame = looped (λ u t. tt) (λ u t. given)
+pub gep_words_blame : Blames gep_words
+unfolding gep_words
+gep_words_blame = looped (λ u t. tt) (λ u t. given)
 
 pub index_type_blames : (before : ℕ) (t : Lexeme) → IsNamed (index_type_of before t)
 index_type_blames before t = within_named (nat_lt before max_indices) limit.Indices (int_type_of t) (int_type_named t)
@@ -168,10 +168,10 @@ constant_indices_blame : Blames constant_indices
 unfolding constant_indices
 constant_indices_blame = looped (λ found t. tt) (λ found t. constant_index_blames found)
 
-step_from_blames : (form : Form) (depth : ℕ) {base : Rule Address} → Blames base → Blames (step_from form depth base)
-unfolding step_from
-step_from_blames form depth p =
-    chained step_words_blame (λ u. behind_word _ (λ v. chained (type_blames form depth) (λ t. behind_word _ (λ w. behind_word _ (λ x. chained p (λ from.
+gep_from_blames : (form : Form) (depth : ℕ) {base : Rule Address} → Blames base → Blames (gep_from form depth base)
+unfolding gep_from
+gep_from_blames form depth p =
+    chained gep_words_blame (λ u. behind_word _ (λ v. chained (type_blames form depth) (λ t. behind_word _ (λ w. behind_word _ (λ x. chained p (λ from.
     chained constant_indices_blame (λ indices. behind_word _ (λ y. given))))))))
 
 base_by_blames : (form : Form) {inner : Rule Address} → Blames inner → (x : Symbol) → Blames (base_by form inner x)
@@ -181,11 +181,11 @@ base_by_blames form p x = chained (global_blames form) (λ n. given)
 base_blames : (form : Form) (depth within : ℕ) → Blames (base_to form depth within)
 unfolding base_to
 base_blames form depth zero = by_symbol (λ x. base_by_blames form (stopped (r.Limit limit.Indices) refl) x)
-base_blames form depth (suc within) = by_symbol (λ x. base_by_blames form (behind_token (λ u. step_from_blames form depth (base_blames form depth within))) x)
+base_blames form depth (suc within) = by_symbol (λ x. base_by_blames form (behind_token (λ u. gep_from_blames form depth (base_blames form depth within))) x)
 
 offset_blames : (form : Form) (depth : ℕ) → Blames (offset form depth)
 unfolding offset
-offset_blames form depth = chained (step_from_blames form depth (base_blames form depth max_within)) (λ a. given)
+offset_blames form depth = chained (gep_from_blames form depth (base_blames form depth max_within)) (λ a. given)
 
 int_value_named : (width : Option ℕ) (t : Lexeme) → IsNamed (int_value width t)
 int_value_named None t = refusal_is t

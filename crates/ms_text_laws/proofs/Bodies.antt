@@ -1,8 +1,8 @@
 -- The bodies of functions are read as what they were written of.
 use Rattle.std.proofs.Common.{◌≡◌, ℕ, ◌+◌, ◌≤◌, ◌<◌, ◌^◌, Bool, true, false, not, ◌&&◌, cond, List, [], ◌∷◌, ◌++◌, map, length, flat_map, Option, Some, None, Ok, Err, refl, sym, ap, ◌∙◌, subst, append_assoc, append-nil, arith, eq-eqb, ne_eqb}
 use Rattle.std.specs.Prelude.{codes, ◌==◌}
-use Rattle.std.proofs.lemmas.Bool.{ltb-true, lt-ltb}
-use Rattle.ms_ir.specs.Code.{is_phi}
+use Rattle.std.proofs.lemmas.Bool.{ltb-true, lt-ltb, and_parts}
+use Rattle.ms_ir.specs.Instructions.{is_phi}
 use Rattle.ms_lex.specs.Numbers as read
 use Rattle.ms_lex.specs.Grammar.{head}
 use Rattle.ms_ir.specs.declared.syntax.Name.{Name}
@@ -12,25 +12,26 @@ use Rattle.ms_ir.specs.declared.syntax.Op.TheVariants as op
 use Rattle.ms_ir.specs.declared.syntax.Inst.{Inst}
 use Rattle.ms_ir.specs.declared.syntax.Block.{Block}
 use Rattle.ms_ir.specs.declared.forms.Form.TheVariants.{Instrumented}
-use Rattle.ms_grammar.specs.declared.refusals.Refusal.TheVariants as r
-use Rattle.ms_grammar.specs.declared.refusals.Limit.TheVariants as limit
-use Rattle.ms_grammar.specs.declared.states.Body.{Body}
-use Rattle.ms_grammar.specs.declared.symbols.Symbol.TheVariants as s
-use Rattle.ms_grammar.specs.Lexemes.{Lexeme, end_of_text, same_symbol, symbol_of, name_in}
-use Rattle.ms_grammar.specs.Steps.{word, binary_op, cast_op}
-use Rattle.ms_grammar.specs.Bodies.{is_open, opened_by, opened_as, opened, numbered, unreserved}
-use Rattle.ms_grammar.specs.Lines.{is_whole}
-use Rattle.ms_grammar.specs.Modules.{instructions_of}
+use Rattle.ms_text_grammar.specs.declared.refusals.Cause.TheVariants as r
+use Rattle.ms_text_grammar.specs.declared.refusals.Limit.TheVariants as limit
+use Rattle.ms_text_grammar.specs.declared.states.Body.{Body}
+use Rattle.ms_text_grammar.specs.declared.symbols.Symbol.TheVariants as s
+use Rattle.ms_text_grammar.specs.Lexemes.{Lexeme, end_of_text, same_symbol, symbol_of, name_in}
+use Rattle.ms_text_grammar.specs.Steps.{word, binary_op, cast_op}
+use Rattle.ms_text_grammar.specs.Bodies.{is_open, opened_by, opened_as, opened, numbered, unreserved}
+use Rattle.ms_text_grammar.specs.Lines.{is_whole}
+use Rattle.ms_text_grammar.specs.Modules.{instructions_of}
 use Rattle.ms_valid.specs.FormedNames.{are_bytes, is_local_name}
 use Rattle.ms_valid.specs.FormedCode.{name_formed, is_terminator, ends_well, is_body}
 use Rattle.ms_ir.specs.Written.{result_type}
-use Rattle.ms_written.specs.Pieces.{Line, sign}
-use Rattle.ms_written.specs.Names.{label_token}
-use Rattle.ms_written.specs.Insts.{inst_tokens, inst_line}
-use Rattle.ms_written.specs.Modules.{entry_label, body_lines, block_lines, blocks_lines}
+use Rattle.ms_text_layout.specs.Pieces.{Line, sign}
+use Rattle.ms_text_layout.specs.Names.{label_token}
+use Rattle.ms_text_layout.specs.Insts.{inst_tokens, inst_line}
+use Rattle.ms_text_layout.specs.Modules.{entry_label, body_lines, block_lines, blocks_lines}
+use Rattle.ms_text_layout.proofs.WholeKinds.{not_true}
 use Rattle.ms_text_laws.proofs.Limited.{Limits, short, line_begins_by, line_begins, line_by, line, blocks}
 use Rattle.ms_text_laws.proofs.Takes.{Takes, given, chain, turned, ended, chosen, word_taken, along}
-use Rattle.ms_text_laws.proofs.Spelled.{both, is_below, label_number_symbol, label_text_symbol, label_number_in, label_text_in, local_unreserved}
+use Rattle.ms_text_laws.proofs.Spelled.{is_below, label_number_symbol, label_text_symbol, label_number_in, label_text_in, local_unreserved}
 use Rattle.ms_text_laws.proofs.Flags.{Fresh, IsFresh}
 use Rattle.ms_text_laws.proofs.Types.{valued}
 use Rattle.ms_text_laws.proofs.Ops.{next_body, OpFits}
@@ -57,10 +58,6 @@ phi_goes_on : (o : Op) → is_phi o ≡ true → is_terminator o ≡ false
 phi_goes_on (op.Phi t edges) h = refl
 phi_goes_on o h = absurd cc
 
-not_true : (b : Bool) → not b ≡ true → b ≡ false
-not_true true h = absurd cc
-not_true false h = refl
-
 -- an instruction that isn't the last
 record Goes (phis : Bool) (o : Op) (rest : List Inst) : Type 0 where
   phi : is_phi o ≡ true → phis ≡ true
@@ -69,8 +66,8 @@ record Goes (phis : Bool) (o : Op) (rest : List Inst) : Type 0 where
 
 plain_goes : (phis : Bool) (inst next : Inst) (rest : List Inst) → ends_well (inst ∷ next ∷ rest) ≡ true → Goes phis inst.op (next ∷ rest)
 plain_goes phis inst next rest h =
-    let parts = both (not (is_terminator inst.op) && not (is_phi inst.op)) (ends_well (next ∷ rest)) h in
-    let tests = both (not (is_terminator inst.op)) (not (is_phi inst.op)) parts.0 in
+    let parts = and_parts (not (is_terminator inst.op) && not (is_phi inst.op)) (ends_well (next ∷ rest)) h in
+    let tests = and_parts (not (is_terminator inst.op)) (not (is_phi inst.op)) parts.0 in
     let plain : is_phi inst.op ≡ false = not_true (is_phi inst.op) tests.1 in
     record { phi = λ e. absurd cc; more = not_true (is_terminator inst.op) tests.0; after = subst (λ b. Order b (next ∷ rest)) (sym plain) parts.1 }
 
@@ -88,7 +85,7 @@ last_ends true inst h = elim (is_phi inst.op) as (λ b. cond b false (is_termina
   | false ↦ λ p. p
 ] h
 
-end_is_no_phi : (o : Op) → is_terminator o ≡ true → is_phi o ≡ false
+pub end_is_no_phi : (o : Op) → is_terminator o ≡ true → is_phi o ≡ false
 end_is_no_phi (op.Phi t edges) h = absurd cc
 end_is_no_phi o h = refl
 
@@ -271,7 +268,7 @@ module _ (limits : Limits) (some : 0 < limits.indices) (dotted : Bool) where
         (record { blocks = h.blocks; name = ap (λ k. Some (Number k)) next; insts_are = refl; next_is = ap (λ k. k + 1) h.next_is; count_is = h.count_is; phis_are = refl }))
     label_taken (Called x) c found k count rest h local few number low then =
         let t : Lexeme = label_token (Called x) in
-        let spelt : name_in t ≡ x = label_text_in x (both (are_bytes x) _ local).0 in
+        let spelt : name_in t ≡ x = label_text_in x (and_parts (are_bytes x) _ local).0 in
         let begins : line_begins_by limits c t.symbol t ≡ Ok true =
         ap (λ y. line_begins_by limits c y t) (label_text_symbol x)
         ∙ ap (λ o. cond (is_open o) (Ok false) (unreserved Instrumented (name_in t) (short limits (name_in t)))) h.name

@@ -2,11 +2,11 @@
 use Rattle.std.proofs.Common.{◌≡◌, ℕ, zero, suc, Bool, true, false, cond, List, [], ◌∷◌, Ok, refl, sym, subst}
 use Rattle.std.specs.List.{list_all}
 use Rattle.ms_lex.specs.Grammar.{head, Turns, give, one, seq, loop}
-use Rattle.ms_grammar.specs.declared.refusals.Refusal.{Refusal}
-use Rattle.ms_grammar.specs.declared.symbols.Symbol.{Symbol}
-use Rattle.ms_grammar.specs.Lexemes.{Lexeme, end_of_text}
-use Rattle.ms_grammar.specs.Steps.{Rule, Verdict, refuse, stop, listed, with_item, items}
-use Rattle.ms_grammar.specs.Texts.{ReadsUpTo}
+use Rattle.ms_text_grammar.specs.declared.refusals.Cause.{Cause}
+use Rattle.ms_text_grammar.specs.declared.symbols.Symbol.{Symbol}
+use Rattle.ms_text_grammar.specs.Lexemes.{Lexeme, end_of_text}
+use Rattle.ms_text_grammar.specs.Steps.{Rule, Verdict, refuse, stop, listed, with_item, items}
+use Rattle.ms_text_grammar.specs.Texts.{ReadsUpTo}
 use Rattle.ms_text_laws.proofs.Sound.{all_pushed, no_value}
 
 -- each value that the piece reads is one of these
@@ -33,7 +33,7 @@ either false p q = q
 pub refused : {A : Type 0} {P : A → Type 0} → Brings (refuse {A = A}) P
 refused = record { each = λ ts v rest h. no_value _ v h.0 }
 
-pub stopped : {A : Type 0} {P : A → Type 0} (e : Refusal) → Brings (stop {A = A} e) P
+pub stopped : {A : Type 0} {P : A → Type 0} (e : Cause) → Brings (stop {A = A} e) P
 stopped e = record { each = λ ts v rest h. no_value e v h.0 }
 
 module _ {S : Type 0} (begins : S → Lexeme → Verdict Bool) (body : S → Lexeme → Rule S) (P : S → Type 0) (more : (b : S) (t : Lexeme) → P b → begins b t ≡ Ok true → Brings (body b t) P) where

@@ -12,16 +12,16 @@ use Rattle.ms_ir.specs.declared.syntax.Operand.{Operand}
 use Rattle.ms_ir.specs.declared.syntax.Op.TheVariants as op
 use Rattle.ms_ir.specs.Names.{name_eq, main_name}
 use Rattle.ms_ir.specs.declared.forms.Form.{Form}
-use Rattle.ms_grammar.specs.declared.refusals.Refusal.TheVariants as r
-use Rattle.ms_grammar.specs.declared.refusals.Limit.TheVariants as limit
-use Rattle.ms_grammar.specs.declared.symbols.Symbol.{Symbol}
-use Rattle.ms_grammar.specs.declared.symbols.Symbol.TheVariants as s
-use Rattle.ms_grammar.specs.Lexemes.{Lexeme, name_in}
-use Rattle.ms_grammar.specs.Names.{reserved_global, name_fits, text_name, global_name}
-use Rattle.ms_grammar.specs.Types.{value_type_of}
-use Rattle.ms_grammar.specs.Insts.{Marked, call_type, is_printf, callee_name, callee_by, callee, names_printf, max_parameters, argument, arguments, call_rule}
-use Rattle.ms_grammar.specs.Bodies.{is_void_call}
-use Rattle.ms_grammar.specs.Texts.{ReadsUpTo}
+use Rattle.ms_text_grammar.specs.declared.refusals.Cause.TheVariants as r
+use Rattle.ms_text_grammar.specs.declared.refusals.Limit.TheVariants as limit
+use Rattle.ms_text_grammar.specs.declared.symbols.Symbol.{Symbol}
+use Rattle.ms_text_grammar.specs.declared.symbols.Symbol.TheVariants as s
+use Rattle.ms_text_grammar.specs.Lexemes.{Lexeme, name_in}
+use Rattle.ms_text_grammar.specs.Names.{reserved_global, name_fits, text_name, global_name}
+use Rattle.ms_text_grammar.specs.Types.{value_type_of}
+use Rattle.ms_text_grammar.specs.Insts.{Marked, call_type, is_printf, callee_name, callee_by, callee, names_printf, max_parameters, argument, arguments, call_rule}
+use Rattle.ms_text_grammar.specs.Bodies.{is_void_call}
+use Rattle.ms_text_grammar.specs.Texts.{ReadsUpTo}
 use Rattle.ms_valid.specs.FormedNames.{is_global_name}
 use Rattle.ms_valid.specs.FormedCode.{is_value_type, result_formed, operand_formed}
 use Rattle.ms_text_laws.proofs.Sound.{IsSound, AllSound, all_pushed, no_value, if_else, if_within}

@@ -1,28 +1,26 @@
 -- The operands of the instructions of a body: one for each token at most.
-use Rattle.std.proofs.Common.{◌≡◌, ◌≤◌, ℕ, ◌+◌, Bool, true, false, cond, List, [], ◌∷◌, ◌++◌, length, Option, Some, None, Result, Ok, Err, ap, arith}
+use Rattle.std.proofs.Common.{◌≡◌, ◌≤◌, ℕ, ◌+◌, Bool, true, false, cond, List, [], ◌∷◌, ◌++◌, length, Option, Some, None, ap, arith}
 use Rattle.ms_bits.specs.declared.operations.BinOp.{BinOp}
 use Rattle.ms_bits.specs.declared.operations.CastOp.{CastOp}
 use Rattle.ms_lex.specs.Grammar.{give, one, ◌>>=◌, ◌>>◌}
-use Rattle.ms_ir.specs.Code.{over_insts, over_blocks}
+use Rattle.ms_ir.specs.Instructions.{over_insts, over_blocks}
 use Rattle.ms_ir.specs.declared.syntax.Block.{Block}
 use Rattle.ms_ir.specs.declared.syntax.Inst.{Inst}
 use Rattle.ms_ir.specs.declared.syntax.Name.{Name}
 use Rattle.ms_ir.specs.declared.syntax.Op.{Op}
 use Rattle.ms_ir.specs.declared.forms.Form.{Form}
-use Rattle.ms_grammar.specs.declared.states.Body.{Body}
-use Rattle.ms_grammar.specs.declared.symbols.Symbol.{Symbol}
-use Rattle.ms_grammar.specs.declared.symbols.Symbol.TheVariants as s
-use Rattle.ms_grammar.specs.Lexemes.{Lexeme}
-use Rattle.ms_grammar.specs.Steps.{Rule, refuse, word, binary_op, cast_op}
-use Rattle.ms_grammar.specs.Insts.{Marked, with_suffixes, step_rule, alloca_rule, call_rule, phi_rule}
-use Rattle.ms_grammar.specs.Bodies.{is_open, opened, opened_by, name_or, line_begins, with_value, with_effect, with_end, with_call, is_void_call}
-use Rattle.ms_grammar.specs.Lines.{value_line, marked_line, phi_line, call_line, effect_line, end_line, instruction_by, operation_by, instruction, value_word_of, named_line, record_line, line_by, line, is_whole, blocks}
-use Rattle.ms_grammar.specs.Texts.{ReadsUpTo}
+use Rattle.ms_text_grammar.specs.declared.states.Body.{Body}
+use Rattle.ms_text_grammar.specs.declared.symbols.Symbol.{Symbol}
+use Rattle.ms_text_grammar.specs.declared.symbols.Symbol.TheVariants as s
+use Rattle.ms_text_grammar.specs.Lexemes.{Lexeme}
+use Rattle.ms_text_grammar.specs.Steps.{Rule, refuse, word, binary_op, cast_op}
+use Rattle.ms_text_grammar.specs.Insts.{Marked, with_suffixes, gep_rule, alloca_rule, call_rule, phi_rule}
+use Rattle.ms_text_grammar.specs.Bodies.{is_open, opened, opened_by, name_or, line_begins, with_value, with_effect, with_end, with_call, is_void_call}
+use Rattle.ms_text_grammar.specs.Lines.{value_line, marked_line, phi_line, call_line, effect_line, end_line, instruction_by, operation_by, instruction, value_word_of, named_line, record_line, line_by, line, is_whole, blocks}
+use Rattle.ms_text_grammar.specs.Texts.{ReadsUpTo}
+use Rattle.ms_text_grammar.proofs.Bounds.{no_value, record_line_is}
 use Rattle.ms_text_laws.proofs.CountedTurns.{left, turns_fall}
-use Rattle.ms_text_laws.proofs.CountedOps.{arity, count_operands, Few, binary_few, compare_few, cast_few, select_few, freeze_few, load_few, store_few, branch_few, switch_few, ret_few, unreachable_few, Counted, suffixed, step_counted, alloca_counted, call_counted, phi_counted}
-
-no_value : {A E : Type 0} (e : E) (a : A) → ◌≡◌ {A = Result A E} (Err e) (Ok a) → ⊥
-no_value e a h = cc
+use Rattle.ms_text_laws.proofs.CountedOps.{arity, count_operands, Few, binary_few, compare_few, cast_few, select_few, freeze_few, load_few, store_few, branch_few, switch_few, ret_few, unreachable_few, Counted, suffixed, gep_counted, alloca_counted, call_counted, phi_counted}
 
 insts_more : (xs : List Inst) (x : Inst) → over_insts count_operands (xs ++ x ∷ []) ≡ over_insts count_operands xs + count_operands x
 insts_more [] x = omega arith
@@ -113,7 +111,7 @@ module _ (a : Body) where
     by_word result s.Alloca h = marked_line_grown result (alloca_rule form) (alloca_counted form) h
     by_word result s.Load h = value_line_grown result _ (load_few form) h
     by_word result s.Store h = effect_line_grown _ (store_few form) h
-    by_word result s.GetElementPtr h = marked_line_grown result (step_rule form) (step_counted form) h
+    by_word result s.GetElementPtr h = marked_line_grown result (gep_rule form) (gep_counted form) h
     by_word result s.Tail h = call_line_grown result _ h
     by_word result s.MustTail h = call_line_grown result _ h
     by_word result s.NoTail h = call_line_grown result _ h
@@ -140,10 +138,6 @@ named_line_grown form a n ts v rest h =
     let symbol = left (one (value_word_of a.phis)) h.1 h.3.0 h.3.1 h.3.2 in
     let behind = instruction_grown a form h.3.1 v rest (Some n) h.3.0 h.3.3 in
     omega (arith, equals, symbol, behind)
-
-record_line_is : (form : Form) (a : Body) (ts : List Lexeme) (v : Body) (rest : List Lexeme) → ReadsUpTo (record_line form a) ts v rest → v ≡ a
-unfolding record_line
-record_line_is form a ts v rest h = h.3.3.0
 
 -- ---- a line and its first token
 

@@ -4,7 +4,7 @@ use Rattle.std.proofs.lemmas.List.{length-map}
 use Rattle.ms_bits.specs.declared.operations.BinOp.{BinOp}
 use Rattle.ms_bits.specs.declared.operations.CastOp.{CastOp}
 use Rattle.ms_lex.specs.Grammar.{give, loop, ◌>>=◌}
-use Rattle.ms_ir.specs.Code.{operands}
+use Rattle.ms_ir.specs.Instructions.{operands}
 use Rattle.ms_ir.specs.declared.syntax.Inst.{Inst}
 use Rattle.ms_ir.specs.declared.syntax.Name.{Name}
 use Rattle.ms_ir.specs.declared.syntax.Op.{Op}
@@ -13,18 +13,19 @@ use Rattle.ms_ir.specs.declared.syntax.Operand.{Operand}
 use Rattle.ms_ir.specs.declared.syntax.Ty.{Ty}
 use Rattle.ms_ir.specs.declared.syntax.Ty.TheVariants as ty
 use Rattle.ms_ir.specs.declared.forms.Form.{Form}
-use Rattle.ms_grammar.specs.declared.states.Edges.{Edges}
-use Rattle.ms_grammar.specs.declared.states.Indices.{Indices}
-use Rattle.ms_grammar.specs.declared.symbols.Symbol.{Symbol}
-use Rattle.ms_grammar.specs.declared.symbols.Symbol.TheVariants as s
-use Rattle.ms_grammar.specs.Lexemes.{Lexeme, end_of_text, same_symbol}
-use Rattle.ms_grammar.specs.Steps.{Rule, Verdict, refusal, word}
-use Rattle.ms_grammar.specs.Types.{int_type, value_type, type_to, max_depth}
-use Rattle.ms_grammar.specs.Values.{step_words}
-use Rattle.ms_grammar.specs.Skipped.{attributes, suffixes_from}
-use Rattle.ms_grammar.specs.Insts.{Marked, with_suffixes, binary_rule, compare_rule, cast_rule, bit_type, select_rule, freeze_rule, address, load_rule, store_rule, no_indices, index_by, index_turn, index_begins, step_rule, alloca_of, alloca_rule, call_type, callee_type, callee, names_printf, argument, arguments, call_word, call_end, call_rule, edge, edge_by, edge_turn, edge_begins, phi_rule, branch_on, branch_rule, switch_rule, ret_value, ret_rule}
-use Rattle.ms_grammar.specs.Texts.{ReadsUpTo}
-use Rattle.ms_text_laws.proofs.CountedTurns.{left, length_more, loop_counts, listed_counts, Owes, TakesOne, takes_one, settled, passed, paid, either_owes}
+use Rattle.ms_text_grammar.specs.declared.states.Edges.{Edges}
+use Rattle.ms_text_grammar.specs.declared.states.Indices.{Indices}
+use Rattle.ms_text_grammar.specs.declared.symbols.Symbol.{Symbol}
+use Rattle.ms_text_grammar.specs.declared.symbols.Symbol.TheVariants as s
+use Rattle.ms_text_grammar.specs.Lexemes.{Lexeme, end_of_text, same_symbol}
+use Rattle.ms_text_grammar.specs.Steps.{Rule, Verdict, refusal, word}
+use Rattle.ms_text_grammar.specs.Types.{int_type, value_type, type_to, max_depth}
+use Rattle.ms_text_grammar.specs.Values.{gep_words}
+use Rattle.ms_text_grammar.specs.Skipped.{attributes, suffixes_from}
+use Rattle.ms_text_grammar.specs.Insts.{Marked, with_suffixes, binary_rule, compare_rule, cast_rule, bit_type, select_rule, freeze_rule, address, load_rule, store_rule, no_indices, index_by, index_turn, index_begins, gep_rule, alloca_of, alloca_rule, call_type, callee_type, callee, names_printf, argument, arguments, call_word, call_end, call_rule, edge, edge_by, edge_turn, edge_begins, phi_rule, branch_on, branch_rule, switch_rule, ret_value, ret_rule}
+use Rattle.ms_text_grammar.specs.Texts.{ReadsUpTo}
+use Rattle.ms_text_grammar.proofs.Bounds.{length_more}
+use Rattle.ms_text_laws.proofs.CountedTurns.{left, loop_counts, listed_counts, Owes, TakesOne, takes_one, settled, passed, paid, either_owes}
 
 abbrev pub arity : Op → ℕ
 arity o = length (operands o)
@@ -135,13 +136,13 @@ module _ (form : Form) where
       → ReadsUpTo (loop begins (λ indices comma. index_turn form indices.found) start) ts v rest → length v.found + length rest ≤ length start.found + length ts
   indices_count begins = loop_counts begins (λ indices comma. index_turn form indices.found) (λ i. length i.found) (λ a t. index_more a.found)
 
-  pub step_counted : Counted (step_rule form)
-  unfolding step_rule
-  step_counted ts m rest h =
+  pub gep_counted : Counted (gep_rule form)
+  unfolding gep_rule
+  gep_counted ts m rest h =
       let typed = h.3 in
       let based = typed.3 in
       let stepped = based.3 in
-      let words = left step_words ts h.0 h.1 h.2 in
+      let words = left gep_words ts h.0 h.1 h.2 in
       let type = left (type_to form max_depth) h.1 typed.0 typed.1 typed.2 in
       let base = left (address form) typed.1 based.0 based.1 based.2 in
       let indices = indices_count index_begins no_indices based.1 stepped.0 stepped.1 stepped.2 in

@@ -1,24 +1,20 @@
 -- What a list that is read has grown by, against the tokens that it took.
-use Rattle.std.proofs.Common.{◌≡◌, ◌≤◌, ℕ, zero, suc, ◌+◌, Bool, true, false, cond, List, [], ◌∷◌, ◌++◌, length, Result, Err, sym, ◌∙◌, ap, ap₂, arith}
+use Rattle.std.proofs.Common.{◌≡◌, ◌≤◌, ℕ, zero, suc, ◌+◌, Bool, true, false, cond, List, [], ◌∷◌, length, Result, Err, sym, ◌∙◌, ap, ap₂, arith}
 use Rattle.ms_lex.specs.Grammar.{Turns, give, one, seq, loop, ◌>>=◌, ◌>>◌}
 use Rattle.ms_lex.proofs.Exact.{shorter, complete}
-use Rattle.ms_grammar.specs.declared.refusals.Refusal.{Refusal}
-use Rattle.ms_grammar.specs.declared.symbols.Symbol.{Symbol}
-use Rattle.ms_grammar.specs.Lexemes.{Lexeme, end_of_text}
-use Rattle.ms_grammar.specs.Steps.{Rule, Verdict, skip, sees, word, comma_begins, listed}
-use Rattle.ms_grammar.specs.Texts.{ReadsUpTo}
+use Rattle.ms_text_grammar.specs.declared.refusals.Cause.{Cause}
+use Rattle.ms_text_grammar.specs.declared.symbols.Symbol.{Symbol}
+use Rattle.ms_text_grammar.specs.Lexemes.{Lexeme, end_of_text}
+use Rattle.ms_text_grammar.specs.Steps.{Rule, Verdict, skip, sees, word, comma_begins, listed}
+use Rattle.ms_text_grammar.specs.Texts.{ReadsUpTo}
 use Rattle.ms_text_laws.proofs.Sound.{no_value}
 
 -- no more tokens are left than there were
 pub left : {A : Type 0} (g : Rule A) (ts : List Lexeme) (v : A) (rest : List Lexeme) → ReadsUpTo g ts v rest → length rest ≤ length ts
 left g ts v rest h = shorter end_of_text g ts v rest (complete end_of_text g ts v rest h)
 
-pub length_more : {A : Type 0} (xs : List A) (x : A) → length (xs ++ x ∷ []) ≡ length xs + 1
-length_more [] x = omega arith
-length_more (y ∷ xs) x = let rest = length_more xs x in omega (arith, rest)
-
 -- What no turn raises, no number of turns raises.
-module _ {S : Type 0} (begins : S → Lexeme → Result Bool Refusal) (R : S → Lexeme → List Lexeme → S → List Lexeme → Type 0) (size : S → List Lexeme → ℕ)
+module _ {S : Type 0} (begins : S → Lexeme → Result Bool Cause) (R : S → Lexeme → List Lexeme → S → List Lexeme → Type 0) (size : S → List Lexeme → ℕ)
     (falls : (a : S) (t : Lexeme) (ts : List Lexeme) (v : S) (rest : List Lexeme) → R a t ts v rest → size v rest ≤ size a (t ∷ ts)) where
   pub turns_fall : (n : ℕ) (a : S) (ts : List Lexeme) (v : S) (rest : List Lexeme) → Turns begins R n a ts v rest → size v rest ≤ size a ts
   turns_fall zero a ts v rest h = let same : size v rest ≡ size a ts = ap₂ size h.1 h.2 in omega (arith, same)
@@ -74,12 +70,12 @@ pub record Owes {A : Type 0} (size : A → ℕ) (n : ℕ) (g : Rule A) : Type 0 
 pub record TakesOne {A : Type 0} (g : Rule A) : Type 0 where
   pub each : (ts : List Lexeme) (v : A) (rest : List Lexeme) → ReadsUpTo g ts v rest → 1 + length rest ≤ length ts
 
-one_taken : {A : Type 0} (f : Lexeme → Verdict A) (e : Refusal) → f end_of_text ≡ Err e → (ts : List Lexeme) (v : A) (rest : List Lexeme) → ReadsUpTo (one f) ts v rest → 1 + length rest ≤ length ts
+one_taken : {A : Type 0} (f : Lexeme → Verdict A) (e : Cause) → f end_of_text ≡ Err e → (ts : List Lexeme) (v : A) (rest : List Lexeme) → ReadsUpTo (one f) ts v rest → 1 + length rest ≤ length ts
 one_taken f e none [] v rest h = no_value e v (sym none ∙ h.0)
 one_taken f e none (t ∷ ts) v rest h = let same = ap length h.1 in omega (arith, same)
 
 -- a token that can't be the end of the text
-pub takes_one : {A : Type 0} {f : Lexeme → Verdict A} (e : Refusal) → f end_of_text ≡ Err e → TakesOne (one f)
+pub takes_one : {A : Type 0} {f : Lexeme → Verdict A} (e : Cause) → f end_of_text ≡ Err e → TakesOne (one f)
 takes_one {f = f} e none = record { each = one_taken f e none }
 
 pub settled : {A : Type 0} {size : A → ℕ} {n : ℕ} {a : A} → size a ≤ n → Owes size n (give a)

@@ -5,26 +5,26 @@ use Rattle.std.proofs.lemmas.List.{length-map}
 use Rattle.ms_lex.specs.declared.errors.LexError.TheVariants.{TooManyTokens}
 use Rattle.ms_lex.specs.declared.kinds.Token.{Token}
 use Rattle.ms_lex.specs.Tokens.{Text, cut_of, unless_stopped, tokens_of}
-use Rattle.ms_ir.specs.Code.{over_insts, over_blocks, over_funcs}
+use Rattle.ms_ir.specs.Instructions.{over_insts, over_blocks, over_funcs}
 use Rattle.ms_ir.specs.declared.syntax.Inst.{Inst}
 use Rattle.ms_ir.specs.declared.syntax.Block.{Block}
 use Rattle.ms_ir.specs.declared.syntax.Func.{Func}
 use Rattle.ms_ir.specs.declared.syntax.Module.{Module}
 use Rattle.ms_ir.specs.declared.forms.Form.{Form}
 use Rattle.ms_ir.specs.declared.forms.Form.TheVariants.{Plain, Instrumented}
-use Rattle.ms_grammar.specs.declared.states.Parts.{Parts}
-use Rattle.ms_grammar.specs.declared.symbols.Symbol.{Symbol}
-use Rattle.ms_grammar.specs.declared.symbols.Symbol.TheVariants as s
-use Rattle.ms_grammar.specs.Lexemes.{Lexeme, lexeme_of, lexemes_of}
-use Rattle.ms_grammar.specs.Steps.{word}
-use Rattle.ms_grammar.specs.Names.{global}
-use Rattle.ms_grammar.specs.Types.{result_type}
-use Rattle.ms_grammar.specs.Bodies.{max_instructions}
-use Rattle.ms_grammar.specs.Bounds.{instructions_among, WithinLimits}
-use Rattle.ms_grammar.specs.Functions.{parameters, linkage, function_tail, body_behind, function}
-use Rattle.ms_grammar.specs.Modules.{entity_begins, entity, entity_by, no_parts, module_rule}
-use Rattle.ms_grammar.specs.Texts.{HasTokens, Reads, ReadsUpTo, max_tokens}
-use Rattle.ms_grammar.proofs.Bounds.{module_within}
+use Rattle.ms_text_grammar.specs.declared.states.Parts.{Parts}
+use Rattle.ms_text_grammar.specs.declared.symbols.Symbol.{Symbol}
+use Rattle.ms_text_grammar.specs.declared.symbols.Symbol.TheVariants as s
+use Rattle.ms_text_grammar.specs.Lexemes.{Lexeme, lexeme_of, lexemes_of}
+use Rattle.ms_text_grammar.specs.Steps.{word}
+use Rattle.ms_text_grammar.specs.Names.{global}
+use Rattle.ms_text_grammar.specs.Types.{result_type}
+use Rattle.ms_text_grammar.specs.Bodies.{max_instructions}
+use Rattle.ms_text_grammar.specs.Bounds.{instructions_among, WithinLimits}
+use Rattle.ms_text_grammar.specs.Functions.{parameters, linkage, function_tail, body_behind, function}
+use Rattle.ms_text_grammar.specs.Modules.{entity_begins, entity, entity_by, no_parts, module_rule}
+use Rattle.ms_text_grammar.specs.Texts.{HasTokens, Reads, ReadsUpTo, max_tokens}
+use Rattle.ms_text_grammar.proofs.Bounds.{module_within}
 use Rattle.ms_valid.specs.Formed.{count_written}
 use Rattle.ms_text_laws.proofs.Fits.{counted_blocks}
 use Rattle.ms_text_laws.proofs.CountedTurns.{left, turns_fall}

@@ -7,17 +7,17 @@ use Rattle.ms_lex.specs.declared.kinds.Token.{Token}
 use Rattle.ms_lex.specs.Tokens.{Text, is_quote, refusal_of, unless_stopped, cut_of, tokens_of}
 use Rattle.ms_ir.specs.declared.syntax.Module.{Module}
 use Rattle.ms_ir.specs.declared.forms.Form.{Form}
-use Rattle.ms_grammar.specs.declared.refusals.Refusal.{Refusal}
-use Rattle.ms_grammar.specs.declared.refusals.Refusal.TheVariants as r
-use Rattle.ms_grammar.specs.Causes.{printed_number}
-use Rattle.ms_grammar.specs.Texts.{HasTokens, Reads, Stops, max_bytes, max_tokens}
-use Rattle.ms_grammar.proofs.Ends.{reads_or_stops}
+use Rattle.ms_text_grammar.specs.declared.refusals.Cause.{Cause}
+use Rattle.ms_text_grammar.specs.declared.refusals.Cause.TheVariants as r
+use Rattle.ms_text_grammar.specs.Causes.{printed_number}
+use Rattle.ms_text_grammar.specs.Texts.{HasTokens, Reads, Stops, max_bytes, max_tokens}
+use Rattle.ms_text_grammar.proofs.Ends.{reads_or_stops}
 use Rattle.ms_text_laws.proofs.Blames.{IsCause}
 use Rattle.ms_text_laws.proofs.BlamesModules.{stops_named}
 
 abbrev IsAnswered : Form → Text → Type 0
 IsAnswered form text =
-    ((m : Module) × Reads form text m) ⊎ (((k : ℕ) × (c : Refusal) × Stops form text k c) ⊎ ((e : LexError) × (tokens_of text (max_tokens form) ≡ Err e)))
+    ((m : Module) × Reads form text m) ⊎ (((k : ℕ) × (c : Cause) × Stops form text k c) ⊎ ((e : LexError) × (tokens_of text (max_tokens form) ≡ Err e)))
 
 module _ (form : Form) (text : Text) (short : length text ≤ max_bytes form) where
   by_tokens : (r : Result (List Token) LexError) → tokens_of text (max_tokens form) ≡ r → IsAnswered form text
@@ -49,7 +49,7 @@ named text most h = tokens_named text (cut_of text).tokens (cut_of text).stop (n
 
 -- ---- why a text stops
 
-numbered : (e : Refusal) → IsCause e → is_some (printed_number e) ≡ true
+numbered : (e : Cause) → IsCause e → is_some (printed_number e) ≡ true
 numbered r.NoMemory h = absurd (h refl)
 numbered r.Syntax h = refl
 numbered (r.Outside construct) h = refl
@@ -57,5 +57,5 @@ numbered (r.Limit limit) h = refl
 numbered r.Numbering h = refl
 numbered r.Reserved h = refl
 
-pub stops_numbered : (form : Form) (text : Text) (k : ℕ) (e : Refusal) → Stops form text k e → is_some (printed_number e) ≡ true
+pub stops_numbered : (form : Form) (text : Text) (k : ℕ) (e : Cause) → Stops form text k e → is_some (printed_number e) ≡ true
 stops_numbered form text k e h = numbered e (stops_named form text k e h)

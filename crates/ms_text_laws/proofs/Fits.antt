@@ -2,7 +2,7 @@
 use Rattle.std.proofs.Common.{◌≡◌, ℕ, suc, ◌+◌, ◌≤◌, ◌<◌, Bool, true, ◌&&◌, List, [], ◌∷◌, ◌++◌, map, length, flat_map, filter_map, Option, Some, None, refl, sym, ap, ◌∙◌, subst, arith, leb-true, eqb-true}
 use Rattle.std.specs.Prelude.{nat_lt, nat_le, nat_eq}
 use Rattle.std.specs.List.{list_all}
-use Rattle.std.proofs.lemmas.Bool.{ltb-true, and_from}
+use Rattle.std.proofs.lemmas.Bool.{ltb-true, and_from, and_parts}
 use Rattle.std.proofs.lemmas.List.Folds.{list_all-append}
 use Rattle.std.proofs.lemmas.Grind.{flat_map-append}
 use Rattle.ms_ir.specs.declared.syntax.Name.{Name}
@@ -15,8 +15,8 @@ use Rattle.ms_ir.specs.declared.syntax.Func.{Func}
 use Rattle.ms_ir.specs.declared.syntax.Decl.{Decl}
 use Rattle.ms_ir.specs.declared.syntax.GlobalVar.{GlobalVar}
 use Rattle.ms_ir.specs.declared.syntax.Module.{Module}
-use Rattle.ms_ir.specs.Code.{over_insts, over_blocks, over_funcs}
-use Rattle.ms_grammar.specs.Modules.{instructions_of}
+use Rattle.ms_ir.specs.Instructions.{over_insts, over_blocks, over_funcs}
+use Rattle.ms_text_grammar.specs.Modules.{instructions_of}
 use Rattle.ms_valid.specs.FormedNames.{is_local_name, is_global_name, name_number, count_up, are_numbered}
 use Rattle.ms_valid.specs.FormedCode.{is_value_type, type_formed, result_formed, init_formed, op_formed, name_formed, inst_formed, is_body}
 use Rattle.ms_valid.specs.Formed.{is_struct, named_type_formed, global_formed, decl_formed, block_formed, func_formed, Formed}
@@ -25,7 +25,7 @@ use Rattle.ms_ir.specs.Written.{Mention, type_mentions, init_mentions, mentions,
 use Rattle.ms_valid.specs.NamesKnown.{global_mentions}
 use Rattle.ms_ir.specs.Locals.{results, block_locals, parameter_names, locals, func_insts, symbols, global_names, declared_names, function_names, type_names}
 use Rattle.ms_text_laws.proofs.Limited.{Limits}
-use Rattle.ms_text_laws.proofs.Spelled.{both, is_below}
+use Rattle.ms_text_laws.proofs.Spelled.{is_below}
 use Rattle.ms_text_laws.proofs.Types.{few_names, few_parts}
 use Rattle.ms_text_laws.proofs.Values.{few_within}
 use Rattle.ms_text_laws.proofs.Insts.{are_within, within_parts}
@@ -38,12 +38,12 @@ use Rattle.ms_text_laws.proofs.Modules.{NamedsFit, GlobalsFit, DeclsFit, FuncsFi
 -- ---- lists
 
 all_parts : {A : Type 0} (p : A → Bool) (xs ys : List A) → list_all p (xs ++ ys) ≡ true → (list_all p xs ≡ true) × (list_all p ys ≡ true)
-all_parts p xs ys h = both (list_all p xs) (list_all p ys) (sym (list_all-append p xs ys) ∙ h)
+all_parts p xs ys h = and_parts (list_all p xs) (list_all p ys) (sym (list_all-append p xs ys) ∙ h)
 
 names_of : (most : ℕ) (xs : List Mention) → list_all (is_below most) (map mentioned xs) ≡ true → few_names most xs ≡ true
 names_of most [] h = refl
 names_of most (x ∷ xs) h =
-    let parts = both (is_below most (mentioned x)) (list_all (is_below most) (map mentioned xs)) h in
+    let parts = and_parts (is_below most (mentioned x)) (list_all (is_below most) (map mentioned xs)) h in
     and_from _ _ parts.0 (names_of most xs parts.1)
 
 -- ---- what is within the limits
@@ -74,7 +74,7 @@ Counts k names = count_up k (filter_map name_number names) ≡ true
 params_counted : (params : List (Ty × Name)) (k : ℕ) (more : List Name) → Counts k (map (λ p. p.1) params ++ more) → AreNextParams k params × Counts (next_params k params) more
 params_counted [] k more h = (tt, h)
 params_counted ((t, Number n) ∷ params) k more h =
-    let parts = both (nat_eq n k) _ h in
+    let parts = and_parts (nat_eq n k) _ h in
     let rest = params_counted params (k + 1) more parts.1 in
     ((eqb-true n k parts.0, rest.0), rest.1)
 params_counted ((t, Called x) ∷ params) k more h = let rest = params_counted params k more h in ((tt, rest.0), rest.1)
@@ -85,7 +85,7 @@ Counted insts = (k : ℕ) (more : List Name) → Counts k (results insts ++ more
 one_counted : (o : Op) (result : Option Name) (marked : Bool) (insts : List Inst) → Counted insts → Counted (inst_of o result marked ∷ insts)
 one_counted o None marked insts rest k more h = let r = rest k more h in ((tt, r.0), r.1)
 one_counted o (Some (Number n)) marked insts rest k more h =
-    let parts = both (nat_eq n k) _ h in
+    let parts = and_parts (nat_eq n k) _ h in
     let r = rest (k + 1) more parts.1 in
     ((eqb-true n k parts.0, r.0), r.1)
 one_counted o (Some (Called x)) marked insts rest k more h =
@@ -98,7 +98,7 @@ insts_counted [] k more h = (tt, h)
 insts_counted (inst ∷ insts) k more h = one_counted inst.op inst.result inst.marked insts (insts_counted insts) k more h
 
 name_counted : (x : Name) (k : ℕ) (more : List Name) → Counts k (x ∷ more) → IsNextName k x × Counts (next_name k x) more
-name_counted (Number n) k more h = let parts = both (nat_eq n k) _ h in (eqb-true n k parts.0, parts.1)
+name_counted (Number n) k more h = let parts = and_parts (nat_eq n k) _ h in (eqb-true n k parts.0, parts.1)
 name_counted (Called x) k more h = let same : k ≡ k + 0 = omega arith in (tt, subst (λ j. Counts j more) same h)
 
 blocks_counted : (bs : List Block) (k : ℕ) → Counts k (flat_map block_locals bs) → AreNextBlocks k bs
@@ -133,18 +133,18 @@ insts_split limits xs ys h =
 
 result_short : (most : ℕ) (o : Op) (result : Option Name) (marked : Bool) (insts : List Inst) → list_all (is_below most) (results (inst_of o result marked ∷ insts)) ≡ true → (is_short_result most result ≡ true) × (list_all (is_below most) (results insts) ≡ true)
 result_short most o None marked insts h = (refl, h)
-result_short most o (Some x) marked insts h = both (is_below most x) (list_all (is_below most) (results insts)) h
+result_short most o (Some x) marked insts h = and_parts (is_below most x) (list_all (is_below most) (results insts)) h
 
 insts_fit : (limits : Limits) (insts : List Inst) → list_all inst_formed insts ≡ true → list_all (is_below limits.names) (results insts) ≡ true → InstsWithin limits insts → InstsFit limits insts
 insts_fit limits [] formed names h = tt
 insts_fit limits (inst ∷ insts) formed names h =
-    let parts = both (inst_formed inst) (list_all inst_formed insts) formed in
-    let own = both (op_formed inst.op) (name_formed (result_type inst.op) inst.result) parts.0 in
+    let parts = and_parts (inst_formed inst) (list_all inst_formed insts) formed in
+    let own = and_parts (op_formed inst.op) (name_formed (result_type inst.op) inst.result) parts.0 in
     let short = result_short limits.names inst.op inst.result inst.marked insts names in
     let few = few_parts limits.names (mentions inst.op) (mentioned_in insts) h.mentioned_few in
     let types = within_parts (suc limits.depth) (op_types inst.op) (types_in insts) h.deep in
-    let indices = both (few_indices_of limits.indices inst.op) _ h.indices in
-    let printed = both (few_printed limits.parameters inst.op) _ h.printed in (
+    let indices = and_parts (few_indices_of limits.indices inst.op) _ h.indices in
+    let printed = and_parts (few_printed limits.parameters inst.op) _ h.printed in (
       record { op_fits = record { formed = own.0; shallow = types.0; named = few.0; indices = indices.0; printed = printed.0 }; named = own.1; short_name = short.0 },
       insts_fit limits insts parts.1 short.1 (record { mentioned_few = few.1; deep = types.1; indices = indices.1; printed = printed.1 }),
     )
@@ -152,10 +152,10 @@ insts_fit limits (inst ∷ insts) formed names h =
 blocks_fit : (limits : Limits) (bs : List Block) → list_all block_formed bs ≡ true → list_all (is_below limits.names) (flat_map block_locals bs) ≡ true → InstsWithin limits (flat_map (λ b. b.insts) bs) → BlocksFit limits bs
 blocks_fit limits [] formed names h = tt
 blocks_fit limits (b ∷ bs) formed names h =
-    let parts = both (block_formed b) (list_all block_formed bs) formed in
-    let own = both (is_local_name b.name && is_body b.insts) (list_all inst_formed b.insts) parts.0 in
-    let first = both (is_local_name b.name) (is_body b.insts) own.0 in
-    let short = both (is_below limits.names b.name) _ names in
+    let parts = and_parts (block_formed b) (list_all block_formed bs) formed in
+    let own = and_parts (is_local_name b.name && is_body b.insts) (list_all inst_formed b.insts) parts.0 in
+    let first = and_parts (is_local_name b.name) (is_body b.insts) own.0 in
+    let short = and_parts (is_below limits.names b.name) _ names in
     let locals = all_parts (is_below limits.names) (results b.insts) (flat_map block_locals bs) short.1 in
     let split = insts_split limits b.insts (flat_map (λ b. b.insts) bs) h in
     (record { local = first.0; short_name = short.0; order = first.1; insts = insts_fit limits b.insts own.1 locals.0 split.0 }, blocks_fit limits bs parts.1 locals.1 split.1)
@@ -173,18 +173,18 @@ counted_blocks (b ∷ bs) = let rest = counted_blocks bs in let insts = counted_
 params_short : (most : ℕ) (params : List (Ty × Name)) → list_all (is_below most) (map (λ p. p.1) params) ≡ true → list_all (λ p. is_below most p.1) params ≡ true
 params_short most [] h = refl
 params_short most (p ∷ params) h =
-    let parts = both (is_below most p.1) (list_all (is_below most) (map (λ p. p.1) params)) h in
+    let parts = and_parts (is_below most p.1) (list_all (is_below most) (map (λ p. p.1) params)) h in
     and_from _ _ parts.0 (params_short most params parts.1)
 
 func_fits : (limits : Limits) (before : ℕ) (f : Func) → func_formed f ≡ true → is_below limits.names f.name ≡ true → list_all (is_below limits.names) (func_names f) ≡ true
     → are_within (suc limits.depth) (types_in (func_insts f)) ≡ true → list_all (λ inst. few_indices_of limits.indices inst.op) (func_insts f) ≡ true → list_all (λ inst. few_printed limits.parameters inst.op) (func_insts f) ≡ true
     → nat_le (length f.params) limits.parameters ≡ true → nat_lt (next_params 0 f.params + lines_in f.blocks) limits.numbers ≡ true → before + instructions_of f.blocks ≤ limits.instructions → FuncFits limits before f
 func_fits limits before f formed name names deep indices printed params numbers insts =
-    let e = both _ (are_numbered (locals f)) formed in
-    let d = both _ (list_all block_formed f.blocks) e.0 in
-    let c = both _ (nat_lt 0 (length f.blocks)) d.0 in
-    let b = both _ (list_all (λ p. is_value_type p.0 && is_local_name p.1) f.params) c.0 in
-    let a = both (is_global_name f.name) (result_formed f.ret) b.0 in
+    let e = and_parts _ (are_numbered (locals f)) formed in
+    let d = and_parts _ (list_all block_formed f.blocks) e.0 in
+    let c = and_parts _ (nat_lt 0 (length f.blocks)) d.0 in
+    let b = and_parts _ (list_all (λ p. is_value_type p.0 && is_local_name p.1) f.params) c.0 in
+    let a = and_parts (is_global_name f.name) (result_formed f.ret) b.0 in
     let split = all_parts (is_below limits.names) (locals f) (map mentioned (mentioned_in (func_insts f))) names in
     let own = all_parts (is_below limits.names) (parameter_names f) (flat_map block_locals f.blocks) split.0 in
     let counted = params_counted f.params 0 (flat_map block_locals f.blocks) e.1 in
@@ -210,14 +210,14 @@ funcs_fit : (limits : Limits) (fs : List Func) (before : ℕ) → list_all func_
     → list_all (λ f. nat_lt (next_params 0 f.params + lines_in f.blocks) limits.numbers) fs ≡ true → before + over_funcs (λ inst. 1) fs ≤ limits.instructions → FuncsFit limits before fs
 funcs_fit limits [] before formed name names deep indices printed params numbers insts = tt
 funcs_fit limits (f ∷ fs) before formed name names deep indices printed params numbers insts =
-    let a = both (func_formed f) (list_all func_formed fs) formed in
-    let b = both (is_below limits.names f.name) _ name in
+    let a = and_parts (func_formed f) (list_all func_formed fs) formed in
+    let b = and_parts (is_below limits.names f.name) _ name in
     let c = all_parts (is_below limits.names) (func_names f) (flat_map func_names fs) names in
     let d = within_parts (suc limits.depth) (types_in (func_insts f)) (flat_map (λ f. types_in (func_insts f)) fs) deep in
-    let e = both (list_all (λ inst. few_indices_of limits.indices inst.op) (func_insts f)) _ indices in
-    let g = both (list_all (λ inst. few_printed limits.parameters inst.op) (func_insts f)) _ printed in
-    let i = both (nat_le (length f.params) limits.parameters) _ params in
-    let j = both (nat_lt (next_params 0 f.params + lines_in f.blocks) limits.numbers) _ numbers in
+    let e = and_parts (list_all (λ inst. few_indices_of limits.indices inst.op) (func_insts f)) _ indices in
+    let g = and_parts (list_all (λ inst. few_printed limits.parameters inst.op) (func_insts f)) _ printed in
+    let i = and_parts (nat_le (length f.params) limits.parameters) _ params in
+    let j = and_parts (nat_lt (next_params 0 f.params + lines_in f.blocks) limits.numbers) _ numbers in
     let same = counted_blocks f.blocks in (
       func_fits limits before f a.0 b.0 c.0 d.0 e.0 g.0 i.0 j.0 (omega (arith, insts, same)),
       funcs_fit limits fs (before + instructions_of f.blocks) a.1 b.1 c.1 d.1 e.1 g.1 i.1 j.1 (omega (arith, insts, same)),
@@ -229,12 +229,12 @@ types_fit : (limits : Limits) (ts : List (Name × Ty)) → list_all named_type_f
     → are_within (suc limits.depth) (map (λ t. t.1) ts) ≡ true → NamedsFit limits ts
 types_fit limits [] formed names mentioned_few deep = tt
 types_fit limits (t ∷ ts) formed names mentioned_few deep =
-    let a = both (named_type_formed t) (list_all named_type_formed ts) formed in
-    let own = both (is_local_name t.0 && is_struct t.1) (type_formed t.1) a.0 in
-    let first = both (is_local_name t.0) (is_struct t.1) own.0 in
-    let b = both (is_below limits.names t.0) _ names in
+    let a = and_parts (named_type_formed t) (list_all named_type_formed ts) formed in
+    let own = and_parts (is_local_name t.0 && is_struct t.1) (type_formed t.1) a.0 in
+    let first = and_parts (is_local_name t.0) (is_struct t.1) own.0 in
+    let b = and_parts (is_below limits.names t.0) _ names in
     let c = few_parts limits.names (type_mentions t.1) (flat_map (λ t. type_mentions t.1) ts) mentioned_few in
-    let d = both (nat_le (type_depth t.1) (suc limits.depth)) _ deep in (
+    let d = and_parts (nat_le (type_depth t.1) (suc limits.depth)) _ deep in (
       record { local = first.0; short_name = b.0; struct = first.1; type = record { formed = own.1; shallow = leb-true (type_depth t.1) (suc limits.depth) d.0; named = c.0 } },
       types_fit limits ts a.1 b.1 c.1 d.1,
     )
@@ -243,15 +243,15 @@ globals_fit : (limits : Limits) (gs : List GlobalVar) → list_all global_formed
     → list_all (λ g. nat_le (type_depth g.ty) (suc limits.depth) && nat_le (init_depth g.init) (suc limits.depth)) gs ≡ true → list_all (λ g. few_within limits.indices g.init) gs ≡ true → GlobalsFit limits gs
 globals_fit limits [] formed names mentioned_few deep indices = tt
 globals_fit limits (g ∷ gs) formed names mentioned_few deep indices =
-    let a = both (global_formed g) (list_all global_formed gs) formed in
-    let own = both (is_global_name g.name && type_formed g.ty) (init_formed g.ty g.init) a.0 in
-    let first = both (is_global_name g.name) (type_formed g.ty) own.0 in
-    let b = both (is_below limits.names g.name) _ names in
+    let a = and_parts (global_formed g) (list_all global_formed gs) formed in
+    let own = and_parts (is_global_name g.name && type_formed g.ty) (init_formed g.ty g.init) a.0 in
+    let first = and_parts (is_global_name g.name) (type_formed g.ty) own.0 in
+    let b = and_parts (is_below limits.names g.name) _ names in
     let c = few_parts limits.names (global_mentions g) (flat_map global_mentions gs) mentioned_few in
     let inner = few_parts limits.names (type_mentions g.ty) (init_mentions g.init) c.0 in
-    let d = both (nat_le (type_depth g.ty) (suc limits.depth) && nat_le (init_depth g.init) (suc limits.depth)) _ deep in
-    let depths = both (nat_le (type_depth g.ty) (suc limits.depth)) (nat_le (init_depth g.init) (suc limits.depth)) d.0 in
-    let e = both (few_within limits.indices g.init) _ indices in (
+    let d = and_parts (nat_le (type_depth g.ty) (suc limits.depth) && nat_le (init_depth g.init) (suc limits.depth)) _ deep in
+    let depths = and_parts (nat_le (type_depth g.ty) (suc limits.depth)) (nat_le (init_depth g.init) (suc limits.depth)) d.0 in
+    let e = and_parts (few_within limits.indices g.init) _ indices in (
       record {
         global_name = first.0;
         short_name = b.0;
@@ -264,11 +264,11 @@ globals_fit limits (g ∷ gs) formed names mentioned_few deep indices =
 decls_fit : (limits : Limits) (ds : List Decl) → list_all decl_formed ds ≡ true → list_all (is_below limits.names) (map (λ d. d.name) ds) ≡ true → list_all (λ d. nat_le (length d.params) limits.parameters) ds ≡ true → DeclsFit limits ds
 decls_fit limits [] formed names params = tt
 decls_fit limits (d ∷ ds) formed names params =
-    let a = both (decl_formed d) (list_all decl_formed ds) formed in
-    let own = both (is_global_name d.name && result_formed d.ret) (list_all is_value_type d.params) a.0 in
-    let first = both (is_global_name d.name) (result_formed d.ret) own.0 in
-    let b = both (is_below limits.names d.name) _ names in
-    let c = both (nat_le (length d.params) limits.parameters) _ params in
+    let a = and_parts (decl_formed d) (list_all decl_formed ds) formed in
+    let own = and_parts (is_global_name d.name && result_formed d.ret) (list_all is_value_type d.params) a.0 in
+    let first = and_parts (is_global_name d.name) (result_formed d.ret) own.0 in
+    let b = and_parts (is_below limits.names d.name) _ names in
+    let c = and_parts (nat_le (length d.params) limits.parameters) _ params in
     (record { global_name = first.0; short_name = b.0; result = first.1; params = own.1; few_params = leb-true (length d.params) limits.parameters c.0 }, decls_fit limits ds a.1 b.1 c.1)
 
 -- ---- modules

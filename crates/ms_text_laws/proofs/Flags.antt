@@ -1,6 +1,7 @@
 -- Flags, marks and words of operations are read as what they were written of.
 use Rattle.std.proofs.Common.{◌≡◌, Bool, true, false, not, ◌&&◌, ◌||◌, cond, List, ◌∷◌, ◌++◌, Some, Ok, refl, sym, ap, ◌∙◌, append_assoc}
 use Rattle.std.specs.Prelude.{codes}
+use Rattle.std.proofs.lemmas.Bool.{and_from, and_parts}
 use Rattle.ms_bits.specs.declared.operations.BinOp.{BinOp}
 use Rattle.ms_bits.specs.declared.operations.BinOp.TheVariants as binary
 use Rattle.ms_bits.specs.declared.operations.CastOp.{CastOp}
@@ -12,16 +13,15 @@ use Rattle.ms_lex.specs.Tokens.{Text}
 use Rattle.ms_lex.specs.Grammar.{head, give, loop}
 use Rattle.ms_bits.specs.NoFlags.{no_flags}
 use Rattle.ms_ir.specs.declared.forms.Form.TheVariants.{Instrumented}
-use Rattle.ms_grammar.specs.declared.symbols.Symbol.{Symbol}
-use Rattle.ms_grammar.specs.declared.symbols.Symbol.TheVariants as s
-use Rattle.ms_grammar.specs.Lexemes.{Lexeme, end_of_text, same_symbol, symbol_of, word_symbol}
-use Rattle.ms_grammar.specs.Skipped.{is_attribute, meta, in_parens, attached, suffix, suffixes, suffixes_from}
-use Rattle.ms_grammar.specs.Insts.{is_set, with_flag, flag_begins, flags_of, binary_carries, cast_carries, compare_carries, predicate_by, predicate_word, known}
+use Rattle.ms_text_grammar.specs.declared.symbols.Symbol.{Symbol}
+use Rattle.ms_text_grammar.specs.declared.symbols.Symbol.TheVariants as s
+use Rattle.ms_text_grammar.specs.Lexemes.{Lexeme, end_of_text, same_symbol, symbol_of, word_symbol}
+use Rattle.ms_text_grammar.specs.Skipped.{is_attribute, meta, in_parens, attached, suffix, suffixes, suffixes_from}
+use Rattle.ms_text_grammar.specs.Insts.{is_set, with_flag, flag_begins, flags_of, binary_carries, cast_carries, compare_carries, predicate_by, predicate_word, known}
 use Rattle.ms_valid.specs.FormedCode.{are_among, binary_flags, cast_flags}
-use Rattle.ms_written.specs.Pieces.{word as word_token, meta as meta_token}
-use Rattle.ms_written.specs.Insts.{binary_word, cast_word, predicate_text, flag_token, flag_tokens, mark_tokens}
+use Rattle.ms_text_layout.specs.Pieces.{word as word_token, meta as meta_token}
+use Rattle.ms_text_layout.specs.Insts.{binary_word, cast_word, predicate_text, flag_token, flag_tokens, mark_tokens}
 use Rattle.ms_text_laws.proofs.Takes.{Takes, given, taken, seen, chain, turned, ended, by_symbol}
-use Rattle.ms_text_laws.proofs.Spelled.{both}
 use Rattle.ms_text_laws.proofs.Listed.{comma_is}
 
 -- ---- flags
@@ -30,18 +30,10 @@ use Rattle.ms_text_laws.proofs.Listed.{comma_is}
 abbrev pub carried : (Symbol → Bool) → Flags
 carried carries = record { nuw = carries s.Nuw; nsw = carries s.Nsw; exact = carries s.Exact; disjoint = carries s.Disjoint; nneg = carries s.Nneg; samesign = carries s.SameSign }
 
-implied : (a b : Bool) → (not a || b) ≡ true → a ≡ true → b ≡ true
-implied true b h p = h
-implied false b h p = absurd cc
-
 along_implied : (a b c : Bool) → (not a || b) ≡ true → (not b || c) ≡ true → (not a || c) ≡ true
 along_implied false b c p q = refl
 along_implied true true c p q = q
 along_implied true false c p q = absurd cc
-
-and_true : (a b : Bool) → a ≡ true → b ≡ true → (a && b) ≡ true
-and_true true b p q = q
-and_true false b p q = p
 
 abbrev pub Among : Flags → Flags → Type 0
 Among a b =
@@ -50,11 +42,11 @@ Among a b =
 
 among_parts : (a b : Flags) → are_among a b ≡ true → Among a b
 among_parts a b h =
-    let e = both _ (not a.samesign || b.samesign) h in
-    let d = both _ (not a.nneg || b.nneg) e.0 in
-    let c = both _ (not a.disjoint || b.disjoint) d.0 in
-    let x = both _ (not a.exact || b.exact) c.0 in
-    let w = both (not a.nuw || b.nuw) (not a.nsw || b.nsw) x.0 in
+    let e = and_parts _ (not a.samesign || b.samesign) h in
+    let d = and_parts _ (not a.nneg || b.nneg) e.0 in
+    let c = and_parts _ (not a.disjoint || b.disjoint) d.0 in
+    let x = and_parts _ (not a.exact || b.exact) c.0 in
+    let w = and_parts (not a.nuw || b.nuw) (not a.nsw || b.nsw) x.0 in
     (w.0, w.1, x.1, c.1, d.1, e.1)
 
 pub among_among : (a b c : Flags) → are_among a b ≡ true → are_among b c ≡ true → Among a c
@@ -79,7 +71,7 @@ module _ (carries : Symbol → Bool) where
       → From (cond set (with_flag start x) start) ts flags rest → From start (flag_token set text ++ ts) flags rest
   step x text false start ts flags rest e may unset p = p
   step x text true start ts flags rest e may unset p =
-      let begins : (carries (word_token text).symbol && not (is_set start (word_token text).symbol)) ≡ true = ap (λ y. carries y && not (is_set start y)) e ∙ and_true (carries x) (not (is_set start x)) may (ap not unset) in
+      let begins : (carries (word_token text).symbol && not (is_set start (word_token text).symbol)) ≡ true = ap (λ y. carries y && not (is_set start y)) e ∙ and_from (carries x) (not (is_set start x)) may (ap not unset) in
       turned (ap Ok begins) given (rw e p)
 
   -- the state behind a flag
@@ -185,18 +177,6 @@ cast_type cast.Bitcast = (refl, refl)
 
 -- ---- predicates
 
-predicate_symbol : Pred → Symbol
-predicate_symbol predicate.Eq = s.Eq
-predicate_symbol predicate.Ne = s.Ne
-predicate_symbol predicate.Ugt = s.Ugt
-predicate_symbol predicate.Uge = s.Uge
-predicate_symbol predicate.Ult = s.Ult
-predicate_symbol predicate.Ule = s.Ule
-predicate_symbol predicate.Sgt = s.Sgt
-predicate_symbol predicate.Sge = s.Sge
-predicate_symbol predicate.Slt = s.Slt
-predicate_symbol predicate.Sle = s.Sle
-
 abbrev PredicateWord : Pred → Type 0
 PredicateWord p = (predicate_by (word_token (predicate_text p)).symbol ≡ Some p) × (compare_carries (word_token (predicate_text p)).symbol ≡ false)
 
@@ -283,7 +263,7 @@ pub no_mark : (rest : List Lexeme) (marked : Bool) → IsFresh rest → Takes (s
 unfolding suffixes
 no_mark rest marked h = ended (ap Ok h.comma)
 
-mark_symbol : (meta_token (codes "!nosanitize")).symbol ≡ s.NoSanitize
+pub mark_symbol : (meta_token (codes "!nosanitize")).symbol ≡ s.NoSanitize
 unfolding symbol_of
 mark_symbol = refl
 

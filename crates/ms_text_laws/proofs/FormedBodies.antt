@@ -4,11 +4,11 @@ use Rattle.std.specs.List.{list_all}
 use Rattle.std.proofs.lemmas.Bool.{ltb-true, lt-ltb, and_parts, and_from}
 use Rattle.std.proofs.lemmas.List.{flat_map_more}
 use Rattle.std.proofs.lemmas.List.Elements.{filter_map-append}
-use Rattle.ms_ir.specs.Code.{is_phi}
+use Rattle.ms_ir.specs.Instructions.{is_phi}
 use Rattle.ms_bits.specs.declared.operations.BinOp.{BinOp}
 use Rattle.ms_bits.specs.declared.operations.CastOp.{CastOp}
 use Rattle.ms_lex.specs.Tokens.{Text}
-use Rattle.ms_lex.specs.Grammar.{head, give, one, ◌>>◌}
+use Rattle.ms_lex.specs.Grammar.{head, give, one}
 use Rattle.ms_ir.specs.declared.syntax.Block.{Block}
 use Rattle.ms_ir.specs.declared.syntax.Inst.{Inst}
 use Rattle.ms_ir.specs.declared.syntax.Name.{Name}
@@ -17,18 +17,19 @@ use Rattle.ms_ir.specs.declared.syntax.Op.{Op}
 use Rattle.ms_ir.specs.declared.syntax.Op.TheVariants as op
 use Rattle.ms_ir.specs.declared.syntax.Ty.{Ty}
 use Rattle.ms_ir.specs.declared.forms.Form.{Form}
-use Rattle.ms_grammar.specs.declared.refusals.Limit.TheVariants as limit
-use Rattle.ms_grammar.specs.declared.refusals.Refusal.TheVariants as r
-use Rattle.ms_grammar.specs.declared.states.Body.{Body}
-use Rattle.ms_grammar.specs.declared.symbols.Symbol.{Symbol}
-use Rattle.ms_grammar.specs.declared.symbols.Symbol.TheVariants as s
-use Rattle.ms_grammar.specs.Lexemes.{Lexeme, end_of_text, name_in}
-use Rattle.ms_grammar.specs.Steps.{Rule, Verdict, refuse, word, binary_op, cast_op}
-use Rattle.ms_grammar.specs.Names.{reserved_local, name_fits, text_name}
-use Rattle.ms_grammar.specs.Insts.{Marked, binary_rule, compare_rule, cast_rule, select_rule, freeze_rule, load_rule, store_rule, step_rule, alloca_rule, branch_rule, switch_rule, ret_rule}
-use Rattle.ms_grammar.specs.Bodies.{is_open, opened, opened_as, opened_by, name_or, numbers_of, numbers_left, line_begins, line_begins_by, with_value, with_effect, with_end, is_void_call}
-use Rattle.ms_grammar.specs.Lines.{value_line, marked_line, phi_line, call_line, effect_line, end_line, instruction_by, operation_by, instruction, gives_value, value_word_of, named_line, record_line, line_by, line, is_whole, blocks}
-use Rattle.ms_grammar.specs.Texts.{ReadsUpTo}
+use Rattle.ms_text_grammar.specs.declared.refusals.Limit.TheVariants as limit
+use Rattle.ms_text_grammar.specs.declared.refusals.Cause.TheVariants as r
+use Rattle.ms_text_grammar.specs.declared.states.Body.{Body}
+use Rattle.ms_text_grammar.specs.declared.symbols.Symbol.{Symbol}
+use Rattle.ms_text_grammar.specs.declared.symbols.Symbol.TheVariants as s
+use Rattle.ms_text_grammar.specs.Lexemes.{Lexeme, end_of_text, name_in}
+use Rattle.ms_text_grammar.specs.Steps.{Rule, Verdict, word, binary_op, cast_op}
+use Rattle.ms_text_grammar.specs.Names.{reserved_local, name_fits, text_name}
+use Rattle.ms_text_grammar.specs.Insts.{Marked, binary_rule, compare_rule, cast_rule, select_rule, freeze_rule, load_rule, store_rule, gep_rule, alloca_rule, branch_rule, switch_rule, ret_rule}
+use Rattle.ms_text_grammar.specs.Bodies.{is_open, opened, opened_as, opened_by, name_or, numbers_of, numbers_left, line_begins, line_begins_by, with_value, with_effect, with_end, is_void_call}
+use Rattle.ms_text_grammar.specs.Lines.{value_line, marked_line, phi_line, call_line, effect_line, end_line, instruction_by, operation_by, instruction, gives_value, value_word_of, named_line, line_by, line, is_whole, blocks}
+use Rattle.ms_text_grammar.specs.Texts.{ReadsUpTo}
+use Rattle.ms_text_grammar.proofs.Bounds.{record_line_is, blocks_end}
 use Rattle.ms_valid.specs.FormedNames.{are_bytes, is_local_name, name_number, count_up}
 use Rattle.ms_valid.specs.FormedCode.{op_formed, name_formed, inst_formed, is_terminator, ends_well, is_body}
 use Rattle.ms_valid.specs.Formed.{block_formed}
@@ -36,7 +37,8 @@ use Rattle.ms_ir.specs.Locals.{results, block_locals}
 use Rattle.ms_ir.specs.Written.{result_type}
 use Rattle.ms_text_laws.proofs.Sound.{IsSound, AllSound, sound_rest, loop_keeps, all_pushed, no_value, same_value, if_good, if_else}
 use Rattle.ms_text_laws.proofs.Names.{local_name_formed}
-use Rattle.ms_text_laws.proofs.Operations.{GivesValue, HasEffect, Ends, binary_read, cast_read, compare_read, select_read, freeze_read, load_read, store_read, alloca_read, step_read, phi_read, call_read, branch_read, switch_read, ret_read, unreachable, suffixed}
+use Rattle.ms_text_laws.proofs.Operations.{GivesValue, HasEffect, Ends, binary_read, cast_read, compare_read, select_read, freeze_read, load_read, store_read, alloca_read, gep_read, phi_read, call_read, branch_read, switch_read, ret_read, unreachable, suffixed}
+use Rattle.ms_text_laws.proofs.Bodies.{end_is_no_phi}
 
 -- ---- verdicts
 
@@ -109,10 +111,6 @@ goes_on i (next ∷ rest) on plain h =
 
 plain_leads : (phis : Bool) (insts : List Inst) (i : Inst) → is_terminator i.op ≡ false → is_phi i.op ≡ false → Leads phis insts → Leads false (insts ++ i ∷ [])
 plain_leads phis insts i on plain h = λ more g. ap is_body (append_assoc insts (i ∷ []) more) ∙ ends_behind phis insts i more plain (goes_on i more on plain g) h
-
-end_is_no_phi : (o : Op) → is_terminator o ≡ true → is_phi o ≡ false
-end_is_no_phi (op.Phi t edges) h = absurd cc
-end_is_no_phi o h = refl
 
 -- ---- one instruction
 
@@ -262,7 +260,7 @@ module _ (from : ℕ) (a : Body) (o : is_open a.name ≡ true) (k : Kept from a)
     by_word result s.Alloca p n h = marked_line_kept result (alloca_rule form) (alloca_read form) n h
     by_word result s.Load p n h = value_line_kept result (load_rule form) (load_read form) n h
     by_word result s.Store p n h = effect_line_kept (store_rule form) (store_read form) h
-    by_word result s.GetElementPtr p n h = marked_line_kept result (step_rule form) (step_read form) n h
+    by_word result s.GetElementPtr p n h = marked_line_kept result (gep_rule form) (gep_read form) n h
     by_word result s.Tail p n h = call_line_kept result s.Tail n h
     by_word result s.MustTail p n h = call_line_kept result s.MustTail n h
     by_word result s.NoTail p n h = call_line_kept result s.NoTail n h
@@ -291,10 +289,6 @@ module _ (from : ℕ) (a : Body) (o : is_open a.name ≡ true) (k : Kept from a)
       let fits = subst (λ x. gives_value a.phis x ≡ true) (same_value first.symbol h.3.0 words.1) words.0 in
       let behind = sound_rest (one (value_word_of a.phis)) h.1 h.3.0 h.3.1 (sound_rest (word s.Equals) ts h.0 h.1 all h.2) h.3.2 in
       instruction_kept form h.3.1 behind v rest (Some n) h.3.0 (value_fits a.phis h.3.0 fits) next h.3.3
-
-record_line_is : (form : Form) (a : Body) (ts : List Lexeme) (v : Body) (rest : List Lexeme) → ReadsUpTo (record_line form a) ts v rest → v ≡ a
-unfolding record_line
-record_line_is form a ts v rest h = h.3.3.0
 
 -- ---- blocks that open
 
@@ -371,11 +365,6 @@ pub record AreFormed (from : ℕ) (bs : List Block) : Type 0 where
   pub formed : list_all block_formed bs ≡ true
   pub last : ℕ
   pub counts : CountsTo from (flat_map block_locals bs) last
-
-blocks_end : (whole : Bool) (body : Body) (mid : List Lexeme) (v : List Block) (rest : List Lexeme)
-    → ReadsUpTo (cond whole (word s.CloseBrace >> give body.blocks) refuse) mid v rest → (whole ≡ true) × (v ≡ body.blocks)
-blocks_end true body mid v rest h = (refl, h.3.0)
-blocks_end false body mid v rest h = no_value _ v h.0
 
 some_there : (bs : List Block) → not (length bs == 0) ≡ true → nat_lt 0 (length bs) ≡ true
 some_there [] h = absurd cc

@@ -13,19 +13,19 @@ use Rattle.ms_ir.specs.declared.syntax.Name.{Name}
 use Rattle.ms_ir.specs.declared.syntax.Name.TheVariants as name
 use Rattle.ms_ir.specs.declared.syntax.Ty.{Ty}
 use Rattle.ms_ir.specs.declared.forms.Form.{Form}
-use Rattle.ms_grammar.specs.declared.refusals.Limit.TheVariants as limit
-use Rattle.ms_grammar.specs.declared.states.Body.{Body}
-use Rattle.ms_grammar.specs.declared.states.Parameters.{Parameters}
-use Rattle.ms_grammar.specs.declared.symbols.Symbol.{Symbol}
-use Rattle.ms_grammar.specs.declared.symbols.Symbol.TheVariants as s
-use Rattle.ms_grammar.specs.Lexemes.{Lexeme, end_of_text, name_in}
-use Rattle.ms_grammar.specs.Steps.{next_symbol, skip, word}
-use Rattle.ms_grammar.specs.Names.{global, local_name, reserved_local, name_fits}
-use Rattle.ms_grammar.specs.Types.{value_type_of, result_type}
-use Rattle.ms_grammar.specs.Skipped.{attributes, attachments}
-use Rattle.ms_grammar.specs.Insts.{names_printf, max_parameters}
-use Rattle.ms_grammar.specs.Functions.{no_parameters, has_room, parameter_type_of, parameter_name_by, parameter_name, next_behind, with_parameter, typed_parameter, dots_come, parameter, parameters, linkage, declaration, function_tail, body_behind, function}
-use Rattle.ms_grammar.specs.Texts.{ReadsUpTo}
+use Rattle.ms_text_grammar.specs.declared.refusals.Limit.TheVariants as limit
+use Rattle.ms_text_grammar.specs.declared.states.Body.{Body}
+use Rattle.ms_text_grammar.specs.declared.states.Parameters.{Parameters}
+use Rattle.ms_text_grammar.specs.declared.symbols.Symbol.{Symbol}
+use Rattle.ms_text_grammar.specs.declared.symbols.Symbol.TheVariants as s
+use Rattle.ms_text_grammar.specs.Lexemes.{Lexeme, end_of_text, name_in}
+use Rattle.ms_text_grammar.specs.Steps.{next_symbol, skip, word}
+use Rattle.ms_text_grammar.specs.Names.{global, local_name, reserved_local, name_fits}
+use Rattle.ms_text_grammar.specs.Types.{value_type_of, result_type}
+use Rattle.ms_text_grammar.specs.Skipped.{attributes, attachments}
+use Rattle.ms_text_grammar.specs.Insts.{names_printf, max_parameters}
+use Rattle.ms_text_grammar.specs.Functions.{no_parameters, has_room, parameter_type_of, parameter_name_by, parameter_name, next_behind, with_parameter, typed_parameter, dots_come, parameter, parameters, linkage, declaration, function_tail, body_behind, function}
+use Rattle.ms_text_grammar.specs.Texts.{ReadsUpTo}
 use Rattle.ms_valid.specs.FormedNames.{is_local_name, is_global_name, are_numbered}
 use Rattle.ms_valid.specs.FormedCode.{is_value_type, result_formed}
 use Rattle.ms_valid.specs.Formed.{decl_formed, block_formed, func_formed}

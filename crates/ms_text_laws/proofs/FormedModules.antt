@@ -14,19 +14,19 @@ use Rattle.ms_ir.specs.declared.syntax.Name.{Name}
 use Rattle.ms_ir.specs.declared.syntax.Name.TheVariants as name
 use Rattle.ms_ir.specs.declared.syntax.Ty.{Ty}
 use Rattle.ms_ir.specs.declared.forms.Form.{Form}
-use Rattle.ms_grammar.specs.declared.refusals.Limit.TheVariants as limit
-use Rattle.ms_grammar.specs.declared.refusals.Refusal.TheVariants as r
-use Rattle.ms_grammar.specs.declared.states.Parts.{Parts}
-use Rattle.ms_grammar.specs.declared.symbols.Symbol.{Symbol}
-use Rattle.ms_grammar.specs.declared.symbols.Symbol.TheVariants as s
-use Rattle.ms_grammar.specs.Lexemes.{Lexeme, name_in, lexemes_of}
-use Rattle.ms_grammar.specs.Steps.{judge_map, word}
-use Rattle.ms_grammar.specs.Names.{local_name, number_name, reserved_global, name_fits, text_name}
-use Rattle.ms_grammar.specs.Types.{type_to, max_depth}
-use Rattle.ms_grammar.specs.Modules.{named_type, linkage_word_begins, global_kind_of, global_variable, max_globals, entity_begins, entity_begins_by, entity, entity_by, with_type, with_global, with_declaration, with_function, no_parts, module_rule}
-use Rattle.ms_grammar.specs.Bounds.{WithinLimits}
-use Rattle.ms_grammar.specs.Texts.{Reads, ReadsUpTo}
-use Rattle.ms_grammar.proofs.Bounds.{module_within}
+use Rattle.ms_text_grammar.specs.declared.refusals.Limit.TheVariants as limit
+use Rattle.ms_text_grammar.specs.declared.refusals.Cause.TheVariants as r
+use Rattle.ms_text_grammar.specs.declared.states.Parts.{Parts}
+use Rattle.ms_text_grammar.specs.declared.symbols.Symbol.{Symbol}
+use Rattle.ms_text_grammar.specs.declared.symbols.Symbol.TheVariants as s
+use Rattle.ms_text_grammar.specs.Lexemes.{Lexeme, name_in, lexemes_of}
+use Rattle.ms_text_grammar.specs.Steps.{judge_map, word}
+use Rattle.ms_text_grammar.specs.Names.{local_name, number_name, reserved_global, name_fits, text_name}
+use Rattle.ms_text_grammar.specs.Types.{type_to, max_depth}
+use Rattle.ms_text_grammar.specs.Modules.{named_type, linkage_word_begins, global_kind_of, global_variable, max_globals, entity_begins, entity_begins_by, entity, entity_by, with_type, with_global, with_declaration, with_function, no_parts, module_rule}
+use Rattle.ms_text_grammar.specs.Bounds.{WithinLimits}
+use Rattle.ms_text_grammar.specs.Texts.{Reads, ReadsUpTo}
+use Rattle.ms_text_grammar.proofs.Bounds.{module_within}
 use Rattle.ms_valid.specs.FormedNames.{are_bytes, is_local_name, is_global_name}
 use Rattle.ms_valid.specs.FormedCode.{type_formed, init_formed}
 use Rattle.ms_valid.specs.Formed.{is_struct, named_type_formed, global_formed, decl_formed, func_formed, Formed}

@@ -6,14 +6,14 @@ use Rattle.std.proofs.lemmas.Bool.{and_from}
 use Rattle.ms_lex.specs.Grammar.{head}
 use Rattle.ms_ir.specs.declared.syntax.Ty.{Ty, Int, Ptr, Array, Array', Struct', Named}
 use Rattle.ms_ir.specs.declared.forms.Form.{Form}
-use Rattle.ms_grammar.specs.declared.refusals.Limit.TheVariants as limit
-use Rattle.ms_grammar.specs.declared.refusals.Refusal.TheVariants as r
-use Rattle.ms_grammar.specs.declared.symbols.Symbol.{Symbol}
-use Rattle.ms_grammar.specs.declared.symbols.Symbol.TheVariants as s
-use Rattle.ms_grammar.specs.Lexemes.{Lexeme, end_of_text, is, same_symbol, number_in, width_in}
-use Rattle.ms_grammar.specs.Steps.{Rule, next_symbol, skip, stop, word, items}
-use Rattle.ms_grammar.specs.Types.{int_type_of, int_type, value_type_by, value_type_of, value_type, result_type_by, result_type, count_by, count, flat, packed_brace, array_rest, struct_rest, packed_rest, nested, opens, type_to, struct_by, struct_type}
-use Rattle.ms_grammar.specs.Texts.{ReadsUpTo}
+use Rattle.ms_text_grammar.specs.declared.refusals.Limit.TheVariants as limit
+use Rattle.ms_text_grammar.specs.declared.refusals.Cause.TheVariants as r
+use Rattle.ms_text_grammar.specs.declared.symbols.Symbol.{Symbol}
+use Rattle.ms_text_grammar.specs.declared.symbols.Symbol.TheVariants as s
+use Rattle.ms_text_grammar.specs.Lexemes.{Lexeme, end_of_text, is, same_symbol, number_in, width_in}
+use Rattle.ms_text_grammar.specs.Steps.{Rule, next_symbol, skip, stop, word, items}
+use Rattle.ms_text_grammar.specs.Types.{int_type_of, int_type, value_type_by, value_type_of, value_type, result_type_by, result_type, count_by, count, flat, packed_brace, array_rest, struct_rest, packed_rest, nested, opens, type_to, struct_by, struct_type}
+use Rattle.ms_text_grammar.specs.Texts.{ReadsUpTo}
 use Rattle.ms_valid.specs.FormedCode.{is_width, is_value_type, type_formed, result_formed}
 use Rattle.ms_valid.specs.Formed.{is_struct}
 use Rattle.ms_valid.proofs.TypeShapes.{type_formed-array, type_formed-struct}

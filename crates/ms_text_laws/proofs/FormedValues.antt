@@ -13,17 +13,17 @@ use Rattle.ms_ir.specs.declared.syntax.Operand.TheVariants as operand
 use Rattle.ms_ir.specs.declared.syntax.Init.{Init}
 use Rattle.ms_ir.specs.declared.syntax.Init as initial
 use Rattle.ms_ir.specs.declared.forms.Form.{Form}
-use Rattle.ms_grammar.specs.declared.refusals.Limit.TheVariants as limit
-use Rattle.ms_grammar.specs.declared.refusals.Refusal.{Refusal}
-use Rattle.ms_grammar.specs.declared.refusals.Refusal.TheVariants as r
-use Rattle.ms_grammar.specs.declared.symbols.Symbol.{Symbol}
-use Rattle.ms_grammar.specs.declared.symbols.Symbol.TheVariants as s
-use Rattle.ms_grammar.specs.Lexemes.{Lexeme, end_of_text, is, name_in, number_in}
-use Rattle.ms_grammar.specs.Steps.{Rule, judge_map, next_symbol, skip, stop, word, comma_begins}
-use Rattle.ms_grammar.specs.Names.{local_by, global_by}
-use Rattle.ms_grammar.specs.Types.{int_width, is_ptr, int_type_of, packed_brace, opens, type_to}
-use Rattle.ms_grammar.specs.Values.{fits, number_by, number, step_words, max_indices, index_type_of, constant_index, constant_indices, Address, step_from, base_by, base_to, max_within, offset, int_value, truth_value, null_value, local_value, simple_by, simple_value, value_by, value_within, flat_init, typed, array_init, struct_init, packed_init, nested_init, init_to}
-use Rattle.ms_grammar.specs.Texts.{ReadsUpTo}
+use Rattle.ms_text_grammar.specs.declared.refusals.Limit.TheVariants as limit
+use Rattle.ms_text_grammar.specs.declared.refusals.Cause.{Cause}
+use Rattle.ms_text_grammar.specs.declared.refusals.Cause.TheVariants as r
+use Rattle.ms_text_grammar.specs.declared.symbols.Symbol.{Symbol}
+use Rattle.ms_text_grammar.specs.declared.symbols.Symbol.TheVariants as s
+use Rattle.ms_text_grammar.specs.Lexemes.{Lexeme, end_of_text, is, name_in, number_in}
+use Rattle.ms_text_grammar.specs.Steps.{Rule, judge_map, next_symbol, skip, stop, word, comma_begins}
+use Rattle.ms_text_grammar.specs.Names.{local_by, global_by}
+use Rattle.ms_text_grammar.specs.Types.{int_width, is_ptr, int_type_of, packed_brace, opens, type_to}
+use Rattle.ms_text_grammar.specs.Values.{fits, number_by, number, gep_words, max_indices, index_type_of, constant_index, constant_indices, Address, gep_from, base_by, base_to, max_within, offset, int_value, truth_value, null_value, local_value, simple_by, simple_value, value_by, value_within, flat_init, typed, array_init, struct_init, packed_init, nested_init, init_to}
+use Rattle.ms_text_grammar.specs.Texts.{ReadsUpTo}
 use Rattle.ms_valid.specs.FormedNames.{is_global_name}
 use Rattle.ms_valid.specs.FormedCode.{is_width, type_formed, number_formed, step_formed, steps_formed, operand_formed, is_constant, init_formed}
 use Rattle.ms_valid.proofs.TypeShapes.{init_formed-array, init_formed-struct}
@@ -83,11 +83,11 @@ stepped_formed a = is_global_name a.0 && steps_formed a.1
 abbrev ReadsAddress : Rule Address → Type 0
 ReadsAddress rule = (ts : List Lexeme) (v : Address) (rest : List Lexeme) → AllSound ts → ReadsUpTo rule ts v rest → address_formed v ≡ true
 
-step_from_formed : (form : Form) (depth : ℕ) (base : Rule Address) → ReadsAddress base
-    → (ts : List Lexeme) (v : Address) (rest : List Lexeme) → AllSound ts → ReadsUpTo (step_from form depth base) ts v rest → stepped_formed v ≡ true
-unfolding step_from
-step_from_formed form depth base each ts v rest all h =
-    let words = sound_rest step_words ts h.0 h.1 all h.2 in
+gep_from_formed : (form : Form) (depth : ℕ) (base : Rule Address) → ReadsAddress base
+    → (ts : List Lexeme) (v : Address) (rest : List Lexeme) → AllSound ts → ReadsUpTo (gep_from form depth base) ts v rest → stepped_formed v ≡ true
+unfolding gep_from
+gep_from_formed form depth base each ts v rest all h =
+    let words = sound_rest gep_words ts h.0 h.1 all h.2 in
     let bracket = h.3 in
     let behind_open = sound_rest (word s.OpenParen) h.1 bracket.0 bracket.1 words bracket.2 in
     let target = bracket.3 in
@@ -117,23 +117,23 @@ base_by_formed form inner each x ts v rest all h =
     subst (λ a. address_formed a ≡ true) (sym h.3.0) (and_from (is_global_name h.0) true (global_formed form ts h.0 h.1 all h.2) refl)
 
 -- another `getelementptr` as a base
-inner_formed : (form : Form) (depth : ℕ) (base : Rule Address) → ReadsAddress base → ReadsAddress (skip >> step_from form depth base)
+inner_formed : (form : Form) (depth : ℕ) (base : Rule Address) → ReadsAddress base → ReadsAddress (skip >> gep_from form depth base)
 inner_formed form depth base each ts v rest all h =
-    stepped_address v (step_from_formed form depth base each h.1 v rest (sound_rest skip ts h.0 h.1 all h.2) h.3)
+    stepped_address v (gep_from_formed form depth base each h.1 v rest (sound_rest skip ts h.0 h.1 all h.2) h.3)
 
 base_formed : (form : Form) (depth within : ℕ) → ReadsAddress (base_to form depth within)
 unfolding base_to
 base_formed form depth zero ts v rest all h =
     base_by_formed form (stop (r.Limit limit.Indices)) (λ us w others sound k. no_value _ w k.0) h.0 h.1 v rest (sound_rest next_symbol ts h.0 h.1 all h.2) h.3
 base_formed form depth (suc within) ts v rest all h =
-    base_by_formed form (skip >> step_from form depth (base_to form depth within)) (inner_formed form depth (base_to form depth within) (base_formed form depth within))
+    base_by_formed form (skip >> gep_from form depth (base_to form depth within)) (inner_formed form depth (base_to form depth within) (base_formed form depth within))
     h.0 h.1 v rest (sound_rest next_symbol ts h.0 h.1 all h.2) h.3
 
 offset_formed : (form : Form) (depth : ℕ) (type : Ty) (ts : List Lexeme) (v : Operand) (rest : List Lexeme) → AllSound ts → ReadsUpTo (offset form depth) ts v rest → operand_formed type v ≡ true
 unfolding offset
 offset_formed form depth type ts v rest all h =
     subst (λ a. operand_formed type a ≡ true) (sym h.3.0)
-    (step_from_formed form depth (base_to form depth max_within) (base_formed form depth max_within) ts h.0 h.1 all h.2)
+    (gep_from_formed form depth (base_to form depth max_within) (base_formed form depth max_within) ts h.0 h.1 all h.2)
 
 -- ---- values of one token
 
@@ -201,7 +201,7 @@ int_constant : (width : Option ℕ) (t : Lexeme) (v : Operand) → int_value wid
 int_constant None t v h = no_value _ v h
 int_constant (Some width) t v h = subst (λ a. is_constant a ≡ true) (if_mapped operand.Int (number_by width t) v (if_good (is_width width) _ _ v h).1).2 refl
 
-tested_constant : (b : Bool) (a v : Operand) (e : Refusal) → is_constant a ≡ true → cond b (Ok a) (Err e) ≡ Ok v → is_constant v ≡ true
+tested_constant : (b : Bool) (a v : Operand) (e : Cause) → is_constant a ≡ true → cond b (Ok a) (Err e) ≡ Ok v → is_constant v ≡ true
 tested_constant b a v e c h = subst (λ a. is_constant a ≡ true) (same_value a v (if_good b (Ok a) e v h).1) c
 
 simple_by_constant : (form : Form) (type : Ty) (x : Symbol) (t : Lexeme) (v : Operand) → simple_by form false type x t ≡ Ok v → is_constant v ≡ true

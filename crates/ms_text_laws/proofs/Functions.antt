@@ -2,7 +2,7 @@
 use Rattle.std.proofs.Common.{◌≡◌, ℕ, ◌+◌, ◌≤◌, ◌<◌, ◌^◌, Bool, true, false, not, ◌&&◌, ◌||◌, cond, List, [], ◌∷◌, ◌++◌, map, length, Option, Some, None, Ok, Err, refl, sym, ap, ◌∙◌, subst, append_assoc, append-nil, arith, length-append, eq-eqb}
 use Rattle.std.specs.Prelude.{codes}
 use Rattle.std.specs.List.{list_all}
-use Rattle.std.proofs.lemmas.Bool.{ltb-true, lt-ltb, and_right, and_from}
+use Rattle.std.proofs.lemmas.Bool.{ltb-true, lt-ltb, and_right, and_from, and_parts}
 use Rattle.ms_lex.specs.Numbers as read
 use Rattle.ms_lex.specs.Grammar.{head}
 use Rattle.ms_ir.specs.declared.syntax.Name.{Name}
@@ -12,27 +12,27 @@ use Rattle.ms_ir.specs.declared.syntax.Block.{Block}
 use Rattle.ms_ir.specs.declared.syntax.Decl.{Decl}
 use Rattle.ms_ir.specs.declared.syntax.Func.{Func}
 use Rattle.ms_ir.specs.declared.forms.Form.TheVariants.{Instrumented}
-use Rattle.ms_grammar.specs.declared.refusals.Refusal.TheVariants as r
-use Rattle.ms_grammar.specs.declared.refusals.Limit.TheVariants as limit
-use Rattle.ms_grammar.specs.declared.states.Parameters.{Parameters}
-use Rattle.ms_grammar.specs.declared.symbols.Symbol.{Symbol}
-use Rattle.ms_grammar.specs.declared.symbols.Symbol.TheVariants as s
-use Rattle.ms_grammar.specs.Lexemes.{Lexeme, end_of_text, is, same_symbol, symbol_of, name_in}
-use Rattle.ms_grammar.specs.Steps.{word, within}
-use Rattle.ms_grammar.specs.Types.{value_type_by, value_type_of}
-use Rattle.ms_grammar.specs.Skipped.{is_attribute, attached_by, attachments}
-use Rattle.ms_grammar.specs.Insts.{names_printf, is_i32}
-use Rattle.ms_grammar.specs.Functions.{no_parameters, next_behind as next_param, is_one_pointer as one_pointer_found, dots_come, linkage, function_tail, body_behind}
-use Rattle.ms_grammar.specs.Modules.{instructions_of}
+use Rattle.ms_text_grammar.specs.declared.refusals.Cause.TheVariants as r
+use Rattle.ms_text_grammar.specs.declared.refusals.Limit.TheVariants as limit
+use Rattle.ms_text_grammar.specs.declared.states.Parameters.{Parameters}
+use Rattle.ms_text_grammar.specs.declared.symbols.Symbol.{Symbol}
+use Rattle.ms_text_grammar.specs.declared.symbols.Symbol.TheVariants as s
+use Rattle.ms_text_grammar.specs.Lexemes.{Lexeme, end_of_text, is, same_symbol, symbol_of, name_in}
+use Rattle.ms_text_grammar.specs.Steps.{word, within}
+use Rattle.ms_text_grammar.specs.Types.{value_type_by, value_type_of}
+use Rattle.ms_text_grammar.specs.Skipped.{is_attribute, attached_by, attachments}
+use Rattle.ms_text_grammar.specs.Insts.{names_printf, is_i32}
+use Rattle.ms_text_grammar.specs.Functions.{no_parameters, next_behind as next_param, is_one_pointer as one_pointer_found, dots_come, linkage, function_tail, body_behind}
+use Rattle.ms_text_grammar.specs.Modules.{instructions_of}
 use Rattle.ms_valid.specs.FormedNames.{are_bytes, is_local_name, is_global_name}
 use Rattle.ms_valid.specs.FormedCode.{is_value_type, result_formed}
-use Rattle.ms_written.specs.Pieces.{word as word_token, sign, three_dots, with_commas, enclosed, flush}
-use Rattle.ms_written.specs.Names.{local_token, global_token}
-use Rattle.ms_written.specs.Types.{type_tokens, result_tokens}
-use Rattle.ms_written.specs.Modules.{is_one_pointer, is_dotted, dots, parameter_tokens, head_line, blocks_lines, function_lines}
+use Rattle.ms_text_layout.specs.Pieces.{word as word_token, sign, three_dots, with_commas, enclosed, flush}
+use Rattle.ms_text_layout.specs.Names.{local_token, global_token}
+use Rattle.ms_text_layout.specs.Types.{type_tokens, result_tokens}
+use Rattle.ms_text_layout.specs.Modules.{is_one_pointer, is_dotted, dots, parameter_tokens, head_line, blocks_lines, function_lines}
 use Rattle.ms_text_laws.proofs.Limited.{Limits, local_name, has_room, parameter_type_of, parameter_name, typed_parameter, parameter, parameters, declaration, function, blocks as blocks_rule}
 use Rattle.ms_text_laws.proofs.Takes.{Takes, given, taken, seen, chain, ended, by_symbol, word_taken, along}
-use Rattle.ms_text_laws.proofs.Spelled.{both, is_below, int_token, int_token_symbol, int_token_width, local_name_good, local_number_symbol, local_text_symbol, local_number_in, local_text_in}
+use Rattle.ms_text_laws.proofs.Spelled.{is_below, int_token, int_token_symbol, int_token_width, local_name_good, local_number_symbol, local_text_symbol, local_number_in, local_text_in}
 use Rattle.ms_text_laws.proofs.Listed.{AllTake, Closing, listed_back}
 use Rattle.ms_text_laws.proofs.Types.{value_type_symbol, valued, regrouped, width_parts, void_symbol, ptr_symbol, close_paren, result_taken, type_closes, no_closer}
 use Rattle.ms_text_laws.proofs.Values.{global_taken, open_paren_taken}
@@ -54,7 +54,7 @@ abbrev pub next_params : ℕ → List (Ty × Name) → ℕ
 next_params k [] = k
 next_params k (p ∷ params) = next_params (next_param p.1 k) params
 
-param_few : (k : ℕ) (x : Name) → next_param x k ≤ k + 1
+pub param_few : (k : ℕ) (x : Name) → next_param x k ≤ k + 1
 param_few k (Number n) = omega arith
 param_few k (Called x) = omega arith
 
@@ -116,7 +116,7 @@ module _ (limits : Limits) where
       by_symbol s.NumberedLocal (local_number_symbol n)
       (valued (ap Number (sym next)) (taken (ap (λ b. cond b (Ok (Number k)) (Err r.Numbering)) (eq-eqb (read.decimal (name_in (local_token (Number n)))) k (local_number_in n small ∙ next)))))
   name_taken (Called x) k rest h few next =
-      by_symbol s.Local (local_text_symbol x) (taken (ap (local_name limits) (local_text_in x (both (are_bytes x) _ h).0) ∙ local_name_good limits x h few))
+      by_symbol s.Local (local_text_symbol x) (taken (ap (local_name limits) (local_text_in x (and_parts (are_bytes x) _ h).0) ∙ local_name_good limits x h few))
 
   no_dots : (printf : Bool) (ps : Parameters) (t : Ty) (ts : List Lexeme) → is_value_type t ≡ true → dots_come printf ps (head end_of_text (type_tokens t ++ ts)) ≡ Ok false
   unfolding same_symbol
@@ -154,9 +154,9 @@ module _ (limits : Limits) where
       → AllTake (λ t. true) (λ ps. not ps.dots) (parameter limits false) (map parameter_tokens params) (state found k) (state (found ++ params) (next_params k params))
   params_take [] found k types names numbers few low = ap (λ xs. state xs k) (append-nil found)
   params_take (p ∷ params) found k types names numbers few low =
-      let parts = both (is_value_type p.0 && is_local_name p.1) (list_all (λ p. is_value_type p.0 && is_local_name p.1) params) types in
-      let first = both (is_value_type p.0) (is_local_name p.1) parts.0 in
-      let short = both (is_below limits.names p.1) (list_all (λ p. is_below limits.names p.1) params) names in
+      let parts = and_parts (is_value_type p.0 && is_local_name p.1) (list_all (λ p. is_value_type p.0 && is_local_name p.1) params) types in
+      let first = and_parts (is_value_type p.0) (is_local_name p.1) parts.0 in
+      let short = and_parts (is_below limits.names p.1) (list_all (λ p. is_below limits.names p.1) params) names in
       let next = param_few k p.1 in (
         refl,
         state (found ++ p ∷ []) (next_param p.1 k),
@@ -172,7 +172,7 @@ module _ (limits : Limits) where
       → Declares printf tail (state (found ++ unnamed k ts) (behind_unnamed k ts)) end → Declares printf (map type_tokens ts ++ tail) (state found k) end
   declared_take printf [] tail found k end types few low h = subst (λ xs. Declares printf tail (state xs k) end) (append-nil found) h
   declared_take printf (t ∷ ts) tail found k end types few low h =
-      let parts = both (is_value_type t) (list_all is_value_type ts) types in (
+      let parts = and_parts (is_value_type t) (list_all is_value_type ts) types in (
         refl,
         state (found ++ (t, Number k) ∷ []) (k + 1),
         λ rest good. declared_taken printf t found k rest parts.0 (omega (arith, few)) low good,
@@ -213,14 +213,14 @@ module _ (limits : Limits) where
   params_begin : (params : List (Ty × Name)) → list_all (λ p. is_value_type p.0 && is_local_name p.1) params ≡ true → Begin (map parameter_tokens params)
   params_begin [] h = tt
   params_begin (p ∷ params) h = λ rest.
-      let type = (both (is_value_type p.0) (is_local_name p.1) (both (is_value_type p.0 && is_local_name p.1) (list_all (λ p. is_value_type p.0 && is_local_name p.1) params) h).0).0 in
+      let type = (and_parts (is_value_type p.0) (is_local_name p.1) (and_parts (is_value_type p.0 && is_local_name p.1) (list_all (λ p. is_value_type p.0 && is_local_name p.1) params) h).0).0 in
       ap (λ ts. is s.CloseParen (head end_of_text ts)) (append_assoc (type_tokens p.0) (local_token p.1 ∷ []) rest) ∙ type_begins p.0 (local_token p.1 ∷ rest) type
 
   declared_begin : (ts : List Ty) (dotted : Bool) → list_all is_value_type ts ≡ true → Begin (map type_tokens ts ++ dots dotted)
   unfolding same_symbol symbol_of
   declared_begin [] false h = tt
   declared_begin [] true h = λ rest. refl
-  declared_begin (t ∷ ts) dotted h = λ rest. type_begins t rest (both (is_value_type t) (list_all is_value_type ts) h).0
+  declared_begin (t ∷ ts) dotted h = λ rest. type_begins t rest (and_parts (is_value_type t) (list_all is_value_type ts) h).0
 
   -- ---- in front of the result
 
@@ -246,7 +246,7 @@ module _ (limits : Limits) where
 
   dotted_parts : (d : Decl) → is_dotted d ≡ true → (names_printf d.name ≡ true) × (is_one_pointer d.params ≡ true)
   unfolding is_dotted
-  dotted_parts d h = let last = both (names_printf d.name && is_i32 d.ret) (is_one_pointer d.params) h in ((both (names_printf d.name) (is_i32 d.ret) last.0).0, last.1)
+  dotted_parts d h = let last = and_parts (names_printf d.name && is_i32 d.ret) (is_one_pointer d.params) h in ((and_parts (names_printf d.name) (is_i32 d.ret) last.0).0, last.1)
 
   declaration_tokens : (ret : Option Ty) (x : Name) (parts : List (List Lexeme)) (rest : List Lexeme)
       → (result_tokens ret ++ global_token x ∷ enclosed (codes "(") (codes ")") parts) ++ rest ≡ result_tokens ret ++ global_token x ∷ sign (codes "(") ∷ (with_commas parts ++ sign (codes ")") ∷ rest)

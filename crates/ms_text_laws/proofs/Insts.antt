@@ -3,6 +3,7 @@ use Rattle.std.proofs.Common.{◌≡◌, ℕ, suc, ◌≤◌, ◌^◌, Bool, tru
 use Rattle.std.specs.Prelude.{codes, nat_lt, nat_le, ◌==◌}
 use Rattle.std.specs.List.{list_all}
 use Rattle.std.proofs.lemmas.List.Folds.{list_all-append}
+use Rattle.std.proofs.lemmas.Bool.{and_parts}
 use Rattle.ms_bits.specs.declared.operations.BinOp.{BinOp}
 use Rattle.ms_bits.specs.declared.operations.CastOp.{CastOp}
 use Rattle.ms_bits.specs.declared.operations.Pred.{Pred}
@@ -14,24 +15,24 @@ use Rattle.ms_ir.specs.declared.syntax.Operand.{Operand}
 use Rattle.ms_ir.specs.declared.syntax.Operand.TheVariants as operand
 use Rattle.ms_ir.specs.declared.syntax.Op.TheVariants as op
 use Rattle.ms_bits.specs.NoFlags.{no_flags}
-use Rattle.ms_grammar.specs.declared.symbols.Symbol.TheVariants as s
-use Rattle.ms_grammar.specs.Lexemes.{Lexeme, is, same_symbol, symbol_of, word_symbol, width_in}
-use Rattle.ms_grammar.specs.Steps.{word}
-use Rattle.ms_grammar.specs.Types.{int_type, int_type_of, value_type_of}
-use Rattle.ms_grammar.specs.Insts.{binary_carries, cast_carries, compare_carries, bit_type, spells, other_type, same_type, case_begins}
+use Rattle.ms_text_grammar.specs.declared.symbols.Symbol.TheVariants as s
+use Rattle.ms_text_grammar.specs.Lexemes.{Lexeme, is, same_symbol, symbol_of, word_symbol, width_in}
+use Rattle.ms_text_grammar.specs.Steps.{word}
+use Rattle.ms_text_grammar.specs.Types.{int_type, int_type_of, value_type_of}
+use Rattle.ms_text_grammar.specs.Insts.{binary_carries, cast_carries, compare_carries, bit_type, spells, other_type, same_type, case_begins}
 use Rattle.ms_valid.specs.FormedNames.{is_local_name}
 use Rattle.ms_valid.specs.FormedCode.{is_width, is_int_type, is_value_type, operand_formed, are_among, binary_flags, cast_flags}
 use Rattle.ms_valid.specs.ReadLimits.{type_depth, steps_depth}
-use Rattle.ms_ir.specs.Equal.{Step}
+use Rattle.ms_ir.specs.Equal.{AddressStep}
 use Rattle.ms_ir.specs.Written.{operand_mentions, operands_mentions, operand_types}
-use Rattle.ms_written.specs.Pieces.{word as word_token, sign, comma, behind_commas, with_commas}
-use Rattle.ms_written.specs.Names.{local_token, number_token}
-use Rattle.ms_written.specs.Types.{type_tokens}
-use Rattle.ms_written.specs.Values.{value_tokens, typed_tokens}
-use Rattle.ms_written.specs.Insts.{predicate_text, flag_tokens, address_tokens, target_tokens, bit_tokens, case_tokens}
+use Rattle.ms_text_layout.specs.Pieces.{word as word_token, sign, comma, behind_commas, with_commas}
+use Rattle.ms_text_layout.specs.Names.{local_token, number_token}
+use Rattle.ms_text_layout.specs.Types.{type_tokens}
+use Rattle.ms_text_layout.specs.Values.{value_tokens, typed_tokens}
+use Rattle.ms_text_layout.specs.Insts.{predicate_text, flag_tokens, address_tokens, target_tokens, bit_tokens, case_tokens}
 use Rattle.ms_text_laws.proofs.Limited.{Limits, local, value, binary_rule, compare_rule, cast_rule, select_rule, freeze_rule, address, load_rule, store_rule, target, branch_on, branch_rule, case_rest, switch_rule, ret_rule}
 use Rattle.ms_text_laws.proofs.Takes.{Takes, given, taken, seen, chain, turned, ended, other, word_taken, along}
-use Rattle.ms_text_laws.proofs.Spelled.{both, is_below, local_good, int_token, int_token_symbol, int_token_width}
+use Rattle.ms_text_laws.proofs.Spelled.{is_below, local_good, int_token, int_token_symbol, int_token_width}
 use Rattle.ms_text_laws.proofs.Types.{few_names, few_parts, value_type_taken, value_type_symbol, valued, regrouped, width_parts, ptr_symbol, ptr_taken, open_bracket_taken, close_bracket_taken, result_taken}
 use Rattle.ms_text_laws.proofs.Values.{offset_depth, few_offsets, ValueFits, value_taken, number_taken, is_symbol, comma_taken}
 use Rattle.ms_text_laws.proofs.Flags.{carried, among_among, binary_among, cast_among, compare_among, binary_type, cast_type, predicate_is, predicate_taken, flags_taken}
@@ -43,7 +44,7 @@ abbrev pub are_within : ℕ → List Ty → Bool
 are_within depth ts = list_all (λ t. nat_le (type_depth t) depth) ts
 
 pub within_parts : (depth : ℕ) (ts us : List Ty) → are_within depth (ts ++ us) ≡ true → (are_within depth ts ≡ true) × (are_within depth us ≡ true)
-within_parts depth ts us h = both (are_within depth ts) (are_within depth us) (sym (list_all-append (λ t. nat_le (type_depth t) depth) ts us) ∙ h)
+within_parts depth ts us h = and_parts (are_within depth ts) (are_within depth us) (sym (list_all-append (λ t. nat_le (type_depth t) depth) ts us) ∙ h)
 
 -- operands behind their types, within the limits
 pub record OperandsFit (limits : Limits) (xs : List (Ty × Operand)) : Type 0 where
@@ -52,11 +53,11 @@ pub record OperandsFit (limits : Limits) (xs : List (Ty × Operand)) : Type 0 wh
   pub named : few_names limits.names (operands_mentions xs) ≡ true
   pub indices : list_all (λ a. few_offsets limits.indices a.1) xs ≡ true
 
-steps_within : (depth : ℕ) (steps : List Step) → are_within depth (flat_map (λ s. s.0 ∷ map (λ i. i.0) s.1) steps) ≡ true → steps_depth steps ≤ depth
+steps_within : (depth : ℕ) (steps : List AddressStep) → are_within depth (flat_map (λ s. s.0 ∷ map (λ i. i.0) s.1) steps) ≡ true → steps_depth steps ≤ depth
 steps_within depth [] h = zero-le
 steps_within depth (s ∷ inner) h =
     let parts = within_parts depth (s.0 ∷ map (λ i. i.0) s.1) (flat_map (λ i. i.0 ∷ map (λ j. j.0) i.1) inner) h in
-    let first = leb-true (type_depth s.0) depth (both (nat_le (type_depth s.0) depth) _ parts.0).0 in
+    let first = leb-true (type_depth s.0) depth (and_parts (nat_le (type_depth s.0) depth) _ parts.0).0 in
     let rest = steps_within depth inner parts.1 in
     omega (arith, first, rest)
 
@@ -75,18 +76,18 @@ module _ (limits : Limits) where
       let depth = suc limits.depth in
       let types = within_parts depth (a.0 ∷ operand_types a.1) (flat_map (λ a. a.0 ∷ operand_types a.1) xs) h.shallow in
       record {
-        formed = (both (operand_formed a.0 a.1) _ h.formed).0;
-        shallow = types_depth depth a.1 (both (nat_le (type_depth a.0) depth) (are_within depth (operand_types a.1)) types.0).1;
+        formed = (and_parts (operand_formed a.0 a.1) _ h.formed).0;
+        shallow = types_depth depth a.1 (and_parts (nat_le (type_depth a.0) depth) (are_within depth (operand_types a.1)) types.0).1;
         named = (few_parts limits.names (operand_mentions a.1) (operands_mentions xs) h.named).0;
-        indices = (both (few_offsets limits.indices a.1) _ h.indices).0;
+        indices = (and_parts (few_offsets limits.indices a.1) _ h.indices).0;
       }
 
   pub rest_operands : (a : Ty × Operand) (xs : List (Ty × Operand)) → OperandsFit limits (a ∷ xs) → OperandsFit limits xs
   rest_operands a xs h = record {
-    formed = (both (operand_formed a.0 a.1) _ h.formed).1;
+    formed = (and_parts (operand_formed a.0 a.1) _ h.formed).1;
     shallow = (within_parts (suc limits.depth) (a.0 ∷ operand_types a.1) (flat_map (λ a. a.0 ∷ operand_types a.1) xs) h.shallow).1;
     named = (few_parts limits.names (operand_mentions a.1) (operands_mentions xs) h.named).1;
-    indices = (both (few_offsets limits.indices a.1) _ h.indices).1;
+    indices = (and_parts (few_offsets limits.indices a.1) _ h.indices).1;
   }
 
   pub second_operand : (a b : Ty × Operand) (xs : List (Ty × Operand)) → OperandsFit limits (a ∷ b ∷ xs) → ValueFits limits (suc limits.depth) b.0 b.1

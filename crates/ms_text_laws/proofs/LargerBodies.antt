@@ -10,23 +10,23 @@ use Rattle.ms_ir.specs.declared.forms.Form.TheVariants.{Instrumented}
 use Rattle.ms_ir.specs.declared.syntax.Module.{Module}
 use Rattle.ms_ir.specs.declared.syntax.Name.{Name}
 use Rattle.ms_ir.specs.declared.syntax.Op.{Op}
-use Rattle.ms_grammar.specs.declared.refusals.Limit.TheVariants as limit
-use Rattle.ms_grammar.specs.declared.refusals.Refusal.TheVariants as r
-use Rattle.ms_grammar.specs.declared.states.Body.{Body}
-use Rattle.ms_grammar.specs.declared.states.Parameters.{Parameters}
-use Rattle.ms_grammar.specs.declared.states.Parts.{Parts}
-use Rattle.ms_grammar.specs.declared.symbols.Symbol.{Symbol}
-use Rattle.ms_grammar.specs.declared.symbols.Symbol.TheVariants as s
-use Rattle.ms_grammar.specs.Lexemes.{Lexeme, name_in}
-use Rattle.ms_grammar.specs.Names.{reserved_local, reserved_global}
-use Rattle.ms_grammar.specs.Steps.{Rule, Verdict, binary_op, cast_op}
-use Rattle.ms_grammar.specs.Types.{value_type_of}
-use Rattle.ms_grammar.specs.Insts.{Marked, with_suffixes}
-use Rattle.ms_grammar.specs.Bodies.{is_open, opened, begins_instruction}
-use Rattle.ms_grammar.specs.Lines.{value_line, marked_line, effect_line, end_line}
+use Rattle.ms_text_grammar.specs.declared.refusals.Limit.TheVariants as limit
+use Rattle.ms_text_grammar.specs.declared.refusals.Cause.TheVariants as r
+use Rattle.ms_text_grammar.specs.declared.states.Body.{Body}
+use Rattle.ms_text_grammar.specs.declared.states.Parameters.{Parameters}
+use Rattle.ms_text_grammar.specs.declared.states.Parts.{Parts}
+use Rattle.ms_text_grammar.specs.declared.symbols.Symbol.{Symbol}
+use Rattle.ms_text_grammar.specs.declared.symbols.Symbol.TheVariants as s
+use Rattle.ms_text_grammar.specs.Lexemes.{Lexeme, name_in}
+use Rattle.ms_text_grammar.specs.Names.{reserved_local, reserved_global}
+use Rattle.ms_text_grammar.specs.Steps.{Rule, Verdict, binary_op, cast_op}
+use Rattle.ms_text_grammar.specs.Types.{value_type_of}
+use Rattle.ms_text_grammar.specs.Insts.{Marked, with_suffixes}
+use Rattle.ms_text_grammar.specs.Bodies.{is_open, opened, begins_instruction}
+use Rattle.ms_text_grammar.specs.Lines.{value_line, marked_line, effect_line, end_line}
 use Rattle.ms_text_laws.proofs.Limited.{Limits, local_by, counted, short, line_begins_by, numbers_left, line_begins, phi_line, call_line, instruction_by, operation_by, instruction, named_line, line_by, line, blocks, has_room, parameter_type_of, parameter_name_by, parameter_name, typed_parameter, parameter, parameters, declaration, function, named_type, global_variable, room_for_function, global_begins, entity_begins_by, entity_begins, entity_by, entity, module_rule}
 use Rattle.ms_text_laws.proofs.Agreeing.{Near, Looser, same, taken, next, repeated, either, listed_looser, names_limit, less_still, both_still, else_near, then_near, room_near, within_near, mapped_near}
-use Rattle.ms_text_laws.proofs.LargerLimits.{NoMore, local_name_near, local_by_near, global_looser, struct_type_looser, whole_type_looser, whole_init_looser, binary_looser, compare_looser, cast_looser, select_looser, freeze_looser, load_looser, store_looser, step_looser, alloca_looser, call_looser, phi_looser, branch_looser, switch_looser, ret_looser}
+use Rattle.ms_text_laws.proofs.LargerLimits.{NoMore, local_name_near, local_by_near, global_looser, struct_type_looser, whole_type_looser, whole_init_looser, binary_looser, compare_looser, cast_looser, select_looser, freeze_looser, load_looser, store_looser, gep_looser, alloca_looser, call_looser, phi_looser, branch_looser, switch_looser, ret_looser}
 
 -- ---- lines
 
@@ -92,7 +92,7 @@ module _ (a b : Limits) (up : NoMore a b) where
   by_word_looser body result s.Alloca = marked_line_looser body result (alloca_looser a b up)
   by_word_looser body result s.Load = value_line_looser body result (load_looser a b up)
   by_word_looser body result s.Store = effect_line_looser body (store_looser a b up)
-  by_word_looser body result s.GetElementPtr = marked_line_looser body result (step_looser a b up)
+  by_word_looser body result s.GetElementPtr = marked_line_looser body result (gep_looser a b up)
   by_word_looser body result s.Tail = call_line_looser body result _
   by_word_looser body result s.MustTail = call_line_looser body result _
   by_word_looser body result s.NoTail = call_line_looser body result _

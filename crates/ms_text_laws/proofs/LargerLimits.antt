@@ -13,18 +13,18 @@ use Rattle.ms_ir.specs.declared.syntax.Name.TheVariants as name
 use Rattle.ms_ir.specs.declared.syntax.Operand.{Operand}
 use Rattle.ms_ir.specs.declared.syntax.Operand.TheVariants as operand
 use Rattle.ms_ir.specs.declared.syntax.Ty.{Ty}
-use Rattle.ms_grammar.specs.declared.refusals.Limit.TheVariants as limit
-use Rattle.ms_grammar.specs.declared.refusals.Outside.TheVariants as outside
-use Rattle.ms_grammar.specs.declared.refusals.Refusal.TheVariants as r
-use Rattle.ms_grammar.specs.declared.symbols.Symbol.{Symbol}
-use Rattle.ms_grammar.specs.declared.symbols.Symbol.TheVariants as s
-use Rattle.ms_grammar.specs.Lexemes.{Lexeme, name_in}
-use Rattle.ms_grammar.specs.Steps.{Rule}
-use Rattle.ms_grammar.specs.Names.{reserved_local, reserved_global}
-use Rattle.ms_grammar.specs.Types.{int_type_of, value_type_of, opens, array_rest, struct_rest, packed_rest}
-use Rattle.ms_grammar.specs.Values.{Address, typed, array_init, struct_init, packed_init, nested_init}
-use Rattle.ms_grammar.specs.Insts.{is_printf}
-use Rattle.ms_text_laws.proofs.Limited.{Limits, text_name, local_name, global_name, local_by, global_by, local, global, flat, nested, too_deep, type_to, struct_by, struct_type, index_type_of, constant_index, constant_indices, step_from, base_by, base_to, offset, local_value, simple_by, simple_value, value_by, value_within, value, flat_init, deep_init, init_to, binary_rule, compare_rule, cast_rule, select_rule, freeze_rule, address, load_rule, store_rule, index_by, index_turn, step_rule, alloca_rule, callee_by, callee, argument_type_of, argument, arguments, call_rule, edge, edge_by, edge_turn, phi_rule, target, branch_on, branch_rule, case_rest, switch_rule, ret_value, ret_rule}
+use Rattle.ms_text_grammar.specs.declared.refusals.Limit.TheVariants as limit
+use Rattle.ms_text_grammar.specs.declared.refusals.Outside.TheVariants as outside
+use Rattle.ms_text_grammar.specs.declared.refusals.Cause.TheVariants as r
+use Rattle.ms_text_grammar.specs.declared.symbols.Symbol.{Symbol}
+use Rattle.ms_text_grammar.specs.declared.symbols.Symbol.TheVariants as s
+use Rattle.ms_text_grammar.specs.Lexemes.{Lexeme, name_in}
+use Rattle.ms_text_grammar.specs.Steps.{Rule}
+use Rattle.ms_text_grammar.specs.Names.{reserved_local, reserved_global}
+use Rattle.ms_text_grammar.specs.Types.{int_type_of, value_type_of, opens, array_rest, struct_rest, packed_rest}
+use Rattle.ms_text_grammar.specs.Values.{Address, typed, array_init, struct_init, packed_init, nested_init}
+use Rattle.ms_text_grammar.specs.Insts.{is_printf}
+use Rattle.ms_text_laws.proofs.Limited.{Limits, text_name, local_name, global_name, local_by, global_by, local, global, flat, nested, too_deep, type_to, struct_by, struct_type, index_type_of, constant_index, constant_indices, gep_from, base_by, base_to, offset, local_value, simple_by, simple_value, value_by, value_within, value, flat_init, deep_init, init_to, binary_rule, compare_rule, cast_rule, select_rule, freeze_rule, address, load_rule, store_rule, index_by, index_turn, gep_rule, alloca_rule, callee_by, callee, argument_type_of, argument, arguments, call_rule, edge, edge_by, edge_turn, phi_rule, target, branch_on, branch_rule, case_rest, switch_rule, ret_value, ret_rule}
 use Rattle.ms_text_laws.proofs.Agreeing.{Near, Looser, same, taken, stopped, next, turning, either, listed_looser, items_looser, names_limit, less_still, or_still, else_near, room_near, within_near, mapped_near}
 
 -- no limit of the one is above that of the other
@@ -158,8 +158,8 @@ module _ (a b : Limits) (up : NoMore a b) where
   unfolding constant_indices
   constant_indices_looser = turning (λ found comma. constant_index_looser found)
 
-  from_looser : (d e : ℕ) → d ≤ e → {f g : Rule Address} → Looser f g → Looser (step_from a d f) (step_from b e g)
-  unfolding step_from
+  from_looser : (d e : ℕ) → d ≤ e → {f g : Rule Address} → Looser f g → Looser (gep_from a d f) (gep_from b e g)
+  unfolding gep_from
   from_looser d e le p =
       next same (λ u. next same (λ v. next (type_looser d e le) (λ t. next same (λ w. next same (λ x. next p (λ from. next constant_indices_looser (λ is. same)))))))
 
@@ -270,9 +270,9 @@ module _ (a b : Limits) (up : NoMore a b) where
   unfolding index_turn
   index_turn_looser found = next same (λ x. index_by_looser found x)
 
-  pub step_looser : Looser (step_rule a) (step_rule b)
-  unfolding step_rule
-  step_looser = next same (λ u. next whole_type_looser (λ t. next address_looser (λ base. next (turning (λ i comma. index_turn_looser i.found)) (λ i. same))))
+  pub gep_looser : Looser (gep_rule a) (gep_rule b)
+  unfolding gep_rule
+  gep_looser = next same (λ u. next whole_type_looser (λ t. next address_looser (λ base. next (turning (λ i comma. index_turn_looser i.found)) (λ i. same))))
 
   pub alloca_looser : Looser (alloca_rule a) (alloca_rule b)
   unfolding alloca_rule

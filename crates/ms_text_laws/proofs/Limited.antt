@@ -6,40 +6,40 @@ use Rattle.ms_lex.specs.Numbers.{decimal}
 use Rattle.ms_lex.specs.Grammar.{one, give, ◌>>=◌, ◌>>◌, loop, look}
 use Rattle.ms_ir.specs.declared.syntax.Name.{Name}
 use Rattle.ms_ir.specs.declared.forms.Form.TheVariants.{Instrumented}
-use Rattle.ms_grammar.specs.declared.symbols.Symbol.{Symbol}
-use Rattle.ms_grammar.specs.Lexemes.{Lexeme, name_in}
-use Rattle.ms_grammar.specs.Steps.{Rule, Verdict, refusal, next_symbol, refuse, stop, skip, word, within, judge_map, comma_begins, sees, listed, binary_op, cast_op}
+use Rattle.ms_text_grammar.specs.declared.symbols.Symbol.{Symbol}
+use Rattle.ms_text_grammar.specs.Lexemes.{Lexeme, name_in}
+use Rattle.ms_text_grammar.specs.Steps.{Rule, Verdict, refusal, next_symbol, refuse, stop, skip, word, within, judge_map, comma_begins, sees, listed, binary_op, cast_op}
 use Rattle.ms_ir.specs.declared.syntax.Ty.{Ty}
-use Rattle.ms_grammar.specs.Names.{reserved_local, reserved_global, number_name}
+use Rattle.ms_text_grammar.specs.Names.{reserved_local, reserved_global, number_name}
 use Rattle.ms_ir.specs.declared.syntax.Operand.{Operand}
 use Rattle.ms_ir.specs.declared.syntax.Init.{Init}
-use Rattle.ms_grammar.specs.Types.{int_width, int_type_of, opens, int_type, value_type_of, value_type, result_type, count, array_rest, struct_rest, packed_rest}
+use Rattle.ms_text_grammar.specs.Types.{int_width, int_type_of, opens, int_type, value_type_of, value_type, result_type, count, array_rest, struct_rest, packed_rest}
 use Rattle.ms_bits.specs.declared.operations.BinOp.{BinOp}
 use Rattle.ms_bits.specs.declared.operations.CastOp.{CastOp}
 use Rattle.ms_ir.specs.declared.syntax.Op.{Op}
-use Rattle.ms_grammar.specs.declared.states.Edges.{Edges}
-use Rattle.ms_grammar.specs.declared.states.Indices.{Indices}
-use Rattle.ms_grammar.specs.Values.{Address, number, step_words, int_value, truth_value, null_value, no_value, bytes_init, typed, nested_init}
-use Rattle.ms_grammar.specs.Skipped.{attributes, suffixes_from, attachments}
-use Rattle.ms_grammar.specs.declared.states.Body.{Body}
-use Rattle.ms_grammar.specs.Insts.{Marked, names_printf, binary_carries, cast_carries, compare_carries, flags_of, predicate_word, bit_type, same_type, no_indices, index_begins, count_begins, alloca_of, call_type, callee_type, is_printf, call_end, call_word, edge_begins, case_begins}
+use Rattle.ms_text_grammar.specs.declared.states.Edges.{Edges}
+use Rattle.ms_text_grammar.specs.declared.states.Indices.{Indices}
+use Rattle.ms_text_grammar.specs.Values.{Address, number, gep_words, int_value, truth_value, null_value, no_value, bytes_init, typed, nested_init}
+use Rattle.ms_text_grammar.specs.Skipped.{attributes, suffixes_from, attachments}
+use Rattle.ms_text_grammar.specs.declared.states.Body.{Body}
+use Rattle.ms_text_grammar.specs.Insts.{Marked, names_printf, binary_carries, cast_carries, compare_carries, flags_of, predicate_word, bit_type, same_type, no_indices, index_begins, count_begins, alloca_of, call_type, callee_type, is_printf, call_end, call_word, edge_begins, case_begins}
 use Rattle.ms_ir.specs.declared.syntax.Block.{Block}
-use Rattle.ms_grammar.specs.Bodies.{is_open, opened, opened_as, begins_instruction, with_value, with_call, numbered, unreserved}
+use Rattle.ms_text_grammar.specs.Bodies.{is_open, opened, opened_as, begins_instruction, with_value, with_call, numbered, unreserved}
 use Rattle.ms_ir.specs.declared.syntax.Func.{Func}
 use Rattle.ms_ir.specs.declared.syntax.Decl.{Decl}
-use Rattle.ms_grammar.specs.declared.states.Parameters.{Parameters}
-use Rattle.ms_grammar.specs.Lines.{value_line, marked_line, effect_line, end_line, value_word_of, record_line, is_whole}
+use Rattle.ms_text_grammar.specs.declared.states.Parameters.{Parameters}
+use Rattle.ms_text_grammar.specs.Lines.{value_line, marked_line, effect_line, end_line, value_word_of, record_line, is_whole}
 use Rattle.ms_ir.specs.declared.syntax.GlobalVar.{GlobalVar}
 use Rattle.ms_ir.specs.declared.syntax.Module.{Module}
-use Rattle.ms_grammar.specs.declared.states.Parts.{Parts}
-use Rattle.ms_grammar.specs.Functions.{no_parameters, numbered_name, with_parameter, dots_come, linkage, function_tail, body_behind}
-use Rattle.ms_grammar.specs.Modules.{source_filename, target_entity, attribute_group, metadata_entity, linkage_word_begins, global_kind_of, global_suffix, with_type, with_global, with_declaration, with_function, no_parts, end_of}
+use Rattle.ms_text_grammar.specs.declared.states.Parts.{Parts}
+use Rattle.ms_text_grammar.specs.Functions.{no_parameters, numbered_name, with_parameter, dots_come, linkage, function_tail, body_behind}
+use Rattle.ms_text_grammar.specs.Modules.{source_filename, target_entity, attribute_group, metadata_entity, linkage_word_begins, global_kind_of, global_suffix, with_type, with_global, with_declaration, with_function, no_parts, end_of}
 use Rattle.ms_ir.specs.declared.syntax.Name.TheVariants as name
-use Rattle.ms_grammar.specs.declared.symbols.Symbol.TheVariants as s
-use Rattle.ms_grammar.specs.declared.refusals.Refusal.TheVariants as r
-use Rattle.ms_grammar.specs.declared.refusals.Limit.TheVariants as limit
+use Rattle.ms_text_grammar.specs.declared.symbols.Symbol.TheVariants as s
+use Rattle.ms_text_grammar.specs.declared.refusals.Cause.TheVariants as r
+use Rattle.ms_text_grammar.specs.declared.refusals.Limit.TheVariants as limit
 use Rattle.ms_ir.specs.declared.syntax.Ty.TheVariants as ty
-use Rattle.ms_grammar.specs.declared.refusals.Outside.TheVariants as outside
+use Rattle.ms_text_grammar.specs.declared.refusals.Outside.TheVariants as outside
 use Rattle.ms_ir.specs.declared.syntax.Operand.TheVariants as operand
 use Rattle.ms_ir.specs.declared.syntax.Init.TheVariants as init
 use Rattle.ms_ir.specs.declared.syntax.Op.TheVariants as op
@@ -132,9 +132,9 @@ constant_index limits found = do
 unfoldable pub constant_indices : Limits → Rule (List (Ty × ℕ))
 constant_indices limits = loop (comma_begins (λ found. true)) (λ found comma. constant_index limits found) []
 
-unfoldable pub step_from : Limits → ℕ → Rule Address → Rule Address
-step_from limits depth base = do
-  step_words
+unfoldable pub gep_from : Limits → ℕ → Rule Address → Rule Address
+gep_from limits depth base = do
+  gep_words
   word s.OpenParen
   t ← type_to limits depth
   word s.Comma
@@ -150,10 +150,10 @@ base_by limits inner symbol = global limits >>= λ x. give (x, [])
 
 unfoldable pub base_to : Limits → ℕ → ℕ → Rule Address
 base_to limits depth zero = next_symbol >>= base_by limits (stop (r.Limit limit.Indices))
-base_to limits depth (suc within) = next_symbol >>= base_by limits (skip >> step_from limits depth (base_to limits depth within))
+base_to limits depth (suc within) = next_symbol >>= base_by limits (skip >> gep_from limits depth (base_to limits depth within))
 
 unfoldable pub offset : Limits → ℕ → Rule Operand
-offset limits depth = step_from limits depth (base_to limits depth (limits.indices - 1)) >>= λ a. give (operand.Offset a.0 a.1)
+offset limits depth = gep_from limits depth (base_to limits depth (limits.indices - 1)) >>= λ a. give (operand.Offset a.0 a.1)
 
 abbrev pub local_value : Limits → Bool → Lexeme → Verdict Operand
 local_value limits true t = judge_map operand.Local (local_by limits t.symbol t)
@@ -274,9 +274,9 @@ index_by limits found symbol = give (record { found = found; ended = true })
 unfoldable pub index_turn : Limits → List (Ty × Operand) → Rule Indices
 index_turn limits found = next_symbol >>= index_by limits found
 
-unfoldable pub step_rule : Limits → Rule Marked
-step_rule limits = do
-  step_words
+unfoldable pub gep_rule : Limits → Rule Marked
+gep_rule limits = do
+  gep_words
   t ← type_to limits (suc limits.depth)
   base ← address limits
   indices ← loop index_begins (λ indices comma. index_turn limits indices.found) no_indices
@@ -442,7 +442,7 @@ instruction_by limits body result s.Freeze = value_line Instrumented body result
 instruction_by limits body result s.Alloca = marked_line body result (alloca_rule limits)
 instruction_by limits body result s.Load = value_line Instrumented body result (load_rule limits)
 instruction_by limits body result s.Store = effect_line Instrumented body (store_rule limits)
-instruction_by limits body result s.GetElementPtr = marked_line body result (step_rule limits)
+instruction_by limits body result s.GetElementPtr = marked_line body result (gep_rule limits)
 instruction_by limits body result s.Tail = call_line limits body result s.Tail
 instruction_by limits body result s.MustTail = call_line limits body result s.MustTail
 instruction_by limits body result s.NoTail = call_line limits body result s.NoTail

@@ -1,8 +1,8 @@
 -- The lines of a body are read as what they were written of: instructions with their results.
 use Rattle.std.proofs.Common.{◌≡◌, ℕ, ◌+◌, ◌<◌, ◌^◌, Bool, true, false, cond, List, [], ◌∷◌, ◌++◌, Option, Some, None, Ok, Err, refl, sym, ap, ◌∙◌, subst, append_assoc, eq-eqb}
 use Rattle.std.specs.Prelude.{codes}
-use Rattle.std.proofs.lemmas.Bool.{ltb-true, lt-ltb}
-use Rattle.ms_ir.specs.Code.{is_phi}
+use Rattle.std.proofs.lemmas.Bool.{ltb-true, lt-ltb, and_parts}
+use Rattle.ms_ir.specs.Instructions.{is_phi}
 use Rattle.ms_bits.specs.declared.operations.BinOp.{BinOp}
 use Rattle.ms_bits.specs.declared.operations.BinOp.TheVariants as binary
 use Rattle.ms_bits.specs.declared.operations.CastOp.{CastOp}
@@ -15,23 +15,23 @@ use Rattle.ms_ir.specs.declared.syntax.Op.{Op}
 use Rattle.ms_ir.specs.declared.syntax.Op.TheVariants as op
 use Rattle.ms_ir.specs.declared.syntax.Inst.{Inst}
 use Rattle.ms_ir.specs.declared.forms.Form.TheVariants.{Instrumented}
-use Rattle.ms_grammar.specs.declared.refusals.Refusal.TheVariants as r
-use Rattle.ms_grammar.specs.declared.refusals.Limit.TheVariants as limit
-use Rattle.ms_grammar.specs.declared.states.Body.{Body}
-use Rattle.ms_grammar.specs.declared.symbols.Symbol.TheVariants as s
-use Rattle.ms_grammar.specs.Lexemes.{Lexeme, end_of_text, same_symbol, symbol_of, name_in}
-use Rattle.ms_grammar.specs.Steps.{word, refusal, binary_op, cast_op}
-use Rattle.ms_grammar.specs.Bodies.{opened, numbers_of, name_or, unreserved}
-use Rattle.ms_grammar.specs.Lines.{gives_value, value_word_of}
+use Rattle.ms_text_grammar.specs.declared.refusals.Cause.TheVariants as r
+use Rattle.ms_text_grammar.specs.declared.refusals.Limit.TheVariants as limit
+use Rattle.ms_text_grammar.specs.declared.states.Body.{Body}
+use Rattle.ms_text_grammar.specs.declared.symbols.Symbol.TheVariants as s
+use Rattle.ms_text_grammar.specs.Lexemes.{Lexeme, end_of_text, same_symbol, symbol_of, name_in}
+use Rattle.ms_text_grammar.specs.Steps.{word, refusal, binary_op, cast_op}
+use Rattle.ms_text_grammar.specs.Bodies.{opened, numbers_of, name_or, unreserved}
+use Rattle.ms_text_grammar.specs.Lines.{gives_value, value_word_of}
 use Rattle.ms_valid.specs.FormedNames.{are_bytes, is_local_name}
 use Rattle.ms_valid.specs.FormedCode.{name_formed, is_terminator}
 use Rattle.ms_ir.specs.Written.{result_type}
-use Rattle.ms_written.specs.Pieces.{sign}
-use Rattle.ms_written.specs.Names.{local_token}
-use Rattle.ms_written.specs.Insts.{op_tokens, named_tokens, mark_tokens}
+use Rattle.ms_text_layout.specs.Pieces.{sign}
+use Rattle.ms_text_layout.specs.Names.{local_token}
+use Rattle.ms_text_layout.specs.Insts.{op_tokens, named_tokens, mark_tokens}
 use Rattle.ms_text_laws.proofs.Limited.{Limits, counted, short, line_begins_by, line_begins, instruction, named_line, line_by, line}
 use Rattle.ms_text_laws.proofs.Takes.{Takes, taken, chain, turned, word_taken, along}
-use Rattle.ms_text_laws.proofs.Spelled.{both, is_below, local_number_symbol, local_text_symbol, local_number_in, local_text_in, local_unreserved}
+use Rattle.ms_text_laws.proofs.Spelled.{is_below, local_number_symbol, local_text_symbol, local_number_in, local_text_in, local_unreserved}
 use Rattle.ms_text_laws.proofs.Flags.{binary_symbol, cast_symbol, Fresh, IsFresh}
 use Rattle.ms_text_laws.proofs.Ops.{op_head, op_symbol, head_symbol, op_tail, op_split, next_body, OpFits, op_taken}
 
@@ -269,7 +269,7 @@ module _ (limits : Limits) (some : 0 < limits.indices) (dotted : Bool) where
   line_taken b o (Some (Called x)) marked rest numbers room h n fits p fresh then =
       let t : Lexeme = local_token (Called x) in
       let local = formed_local o (Called x) n in
-      let spelt : name_in t ≡ x = local_text_in x (both (are_bytes x) _ local).0 in
+      let spelt : name_in t ≡ x = local_text_in x (and_parts (are_bytes x) _ local).0 in
       let begins : line_begins_by limits b t.symbol t ≡ Ok true =
       ap (λ y. line_begins_by limits b y t) (local_text_symbol x)
       ∙ ap (λ text. unreserved Instrumented text (counted limits b (short limits text))) spelt

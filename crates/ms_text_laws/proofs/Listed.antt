@@ -1,11 +1,11 @@
 -- Lists with commas between are read as what they were written of.
 use Rattle.std.proofs.Common.{◌≡◌, Bool, true, false, ◌&&◌, List, [], ◌∷◌, ◌++◌, Ok, refl, ap, append_assoc}
 use Rattle.ms_lex.specs.Grammar.{head, loop}
-use Rattle.ms_grammar.specs.declared.symbols.Symbol.{Symbol}
-use Rattle.ms_grammar.specs.declared.symbols.Symbol.TheVariants as s
-use Rattle.ms_grammar.specs.Lexemes.{Lexeme, end_of_text, is, same_symbol, symbol_of}
-use Rattle.ms_grammar.specs.Steps.{Rule, word, comma_begins, listed}
-use Rattle.ms_written.specs.Pieces.{comma, behind_commas, with_commas}
+use Rattle.ms_text_grammar.specs.declared.symbols.Symbol.{Symbol}
+use Rattle.ms_text_grammar.specs.declared.symbols.Symbol.TheVariants as s
+use Rattle.ms_text_grammar.specs.Lexemes.{Lexeme, end_of_text, is, same_symbol, symbol_of}
+use Rattle.ms_text_grammar.specs.Steps.{Rule, word, comma_begins, listed}
+use Rattle.ms_text_layout.specs.Pieces.{comma, behind_commas, with_commas}
 use Rattle.ms_text_laws.proofs.Takes.{Takes, given, taken, seen, chain, turned, ended, along}
 
 -- Part after part takes the state further, before tokens that pass the test.

@@ -3,7 +3,7 @@ use Rattle.std.proofs.Common.{◌≡◌, ℕ, suc, ◌+◌, ◌≤◌, ◌<◌, 
 use Rattle.std.specs.Prelude.{codes, nat_lt, ◌==◌, is_some}
 use Rattle.std.specs.List.{list_all}
 use Rattle.std.specs.Str.{bytes_eq}
-use Rattle.std.proofs.lemmas.Bool.{lt-ltb, eqb-true}
+use Rattle.std.proofs.lemmas.Bool.{lt-ltb, eqb-true, and_parts}
 use Rattle.ms_lex.specs.Tokens.{Text}
 use Rattle.ms_lex.specs.Grammar.{head, loop, one}
 use Rattle.ms_ir.specs.declared.syntax.Name.{Name}
@@ -14,32 +14,32 @@ use Rattle.ms_ir.specs.declared.syntax.Operand.TheVariants as operand
 use Rattle.ms_ir.specs.declared.syntax.Op.TheVariants as op
 use Rattle.ms_ir.specs.Names.{name_eq, main_name}
 use Rattle.ms_ir.specs.declared.forms.Form.TheVariants.{Instrumented}
-use Rattle.ms_grammar.specs.declared.refusals.Refusal.TheVariants as r
-use Rattle.ms_grammar.specs.declared.refusals.Outside.TheVariants as outside
-use Rattle.ms_grammar.specs.declared.refusals.Limit.TheVariants as limit
-use Rattle.ms_grammar.specs.declared.symbols.Symbol.{Symbol}
-use Rattle.ms_grammar.specs.declared.symbols.Symbol.TheVariants as s
-use Rattle.ms_grammar.specs.declared.states.Indices.{Indices}
-use Rattle.ms_grammar.specs.Lexemes.{Lexeme, end_of_text, is, same_symbol, symbol_of}
-use Rattle.ms_grammar.specs.Steps.{Rule, Verdict, word, within}
-use Rattle.ms_grammar.specs.Types.{int_width, is_width as has_width, int_type_of, value_type_by, value_type_of}
-use Rattle.ms_grammar.specs.Values.{is_step_word, step_words}
-use Rattle.ms_grammar.specs.Skipped.{is_attribute, attributes, suffixes_from}
-use Rattle.ms_grammar.specs.Insts.{no_indices, index_begins, count_begins, call_type, is_i32, variadic_type, callee_type, is_printf, names_printf, call_end, edge_begins}
+use Rattle.ms_text_grammar.specs.declared.refusals.Cause.TheVariants as r
+use Rattle.ms_text_grammar.specs.declared.refusals.Outside.TheVariants as outside
+use Rattle.ms_text_grammar.specs.declared.refusals.Limit.TheVariants as limit
+use Rattle.ms_text_grammar.specs.declared.symbols.Symbol.{Symbol}
+use Rattle.ms_text_grammar.specs.declared.symbols.Symbol.TheVariants as s
+use Rattle.ms_text_grammar.specs.declared.states.Indices.{Indices}
+use Rattle.ms_text_grammar.specs.Lexemes.{Lexeme, end_of_text, is, same_symbol, symbol_of}
+use Rattle.ms_text_grammar.specs.Steps.{Rule, Verdict, word, within}
+use Rattle.ms_text_grammar.specs.Types.{int_width, is_width as has_width, int_type_of, value_type_by, value_type_of}
+use Rattle.ms_text_grammar.specs.Values.{is_gep_word, gep_words}
+use Rattle.ms_text_grammar.specs.Skipped.{is_attribute, attributes, suffixes_from}
+use Rattle.ms_text_grammar.specs.Insts.{no_indices, index_begins, count_begins, call_type, is_i32, variadic_type, callee_type, is_printf, names_printf, call_end, edge_begins}
 use Rattle.ms_valid.specs.FormedNames.{are_bytes, is_local_name, is_global_name}
 use Rattle.ms_valid.specs.FormedCode.{is_width, is_int_type, is_value_type, type_formed, result_formed}
-use Rattle.ms_written.specs.Pieces.{word as word_token, sign, comma, meta as meta_token, three_dots, behind_commas, with_commas, enclosed}
-use Rattle.ms_written.specs.Names.{local_token, global_token}
-use Rattle.ms_written.specs.Types.{type_tokens, result_tokens}
-use Rattle.ms_written.specs.Values.{value_tokens, typed_tokens, pair_tokens}
-use Rattle.ms_written.specs.Insts.{address_tokens, edge_tokens, is_one, count_tokens, callee_type_tokens, mark_tokens}
-use Rattle.ms_text_laws.proofs.Limited.{Limits, global_name, index_type_of, index_turn, step_rule, alloca_rule, callee_name, callee_by, callee, argument_type_of, argument, arguments, call_rule, edge, edge_turn, phi_rule}
+use Rattle.ms_text_layout.specs.Pieces.{word as word_token, sign, comma, meta as meta_token, three_dots, behind_commas, with_commas, enclosed}
+use Rattle.ms_text_layout.specs.Names.{local_token, global_token}
+use Rattle.ms_text_layout.specs.Types.{type_tokens, result_tokens}
+use Rattle.ms_text_layout.specs.Values.{value_tokens, typed_tokens, pair_tokens}
+use Rattle.ms_text_layout.specs.Insts.{address_tokens, edge_tokens, is_one, count_tokens, callee_type_tokens, mark_tokens}
+use Rattle.ms_text_laws.proofs.Limited.{Limits, global_name, index_type_of, index_turn, gep_rule, alloca_rule, callee_name, callee_by, callee, argument_type_of, argument, arguments, call_rule, edge, edge_turn, phi_rule}
 use Rattle.ms_text_laws.proofs.Takes.{Takes, given, taken, seen, chain, turned, ended, by_symbol, chosen, other, word_taken, along}
-use Rattle.ms_text_laws.proofs.Spelled.{both, is_below, int_token, int_token_symbol, global_text_in, local_number_symbol, local_text_symbol, int_token_width, global_name_good}
+use Rattle.ms_text_laws.proofs.Spelled.{is_below, int_token, int_token_symbol, global_text_in, local_number_symbol, local_text_symbol, int_token_width, global_name_good}
 use Rattle.ms_text_laws.proofs.Listed.{AllTake, comma_is, listed_back}
 use Rattle.ms_text_laws.proofs.Types.{TypeFits, type_taken, type_closes, no_closer, value_type_taken, value_type_symbol, valued, regrouped, width_parts, void_symbol, ptr_symbol, ptr_taken, open_bracket_taken, close_bracket_taken, close_paren, result_taken}
 use Rattle.ms_text_laws.proofs.Values.{ValueFits, starts_value, value_starts, comma_taken, open_paren_taken, global_symbol}
-use Rattle.ms_text_laws.proofs.Flags.{IsFresh, no_mark, marked_taken, ended_taken}
+use Rattle.ms_text_laws.proofs.Flags.{IsFresh, no_mark, marked_taken, ended_taken, mark_symbol}
 use Rattle.ms_text_laws.proofs.Insts.{OperandsFit, first_operand, rest_operands, operand_taken, typed_split, int_type_good, address_taken, name_taken}
 
 -- ---- what is behind the last comma
@@ -53,10 +53,6 @@ suffix_end : (marked : Bool) (rest : List Lexeme) → IsFresh rest → Takes (su
 unfolding suffixes_from
 suffix_end false rest h = chain given (no_mark rest false h)
 suffix_end true rest h = ended_taken rest h
-
-mark_symbol : (meta_token (codes "!nosanitize")).symbol ≡ s.NoSanitize
-unfolding symbol_of
-mark_symbol = refl
 
 -- ---- the first symbol of a type
 
@@ -130,32 +126,32 @@ module _ (limits : Limits) where
       (record { found = found ++ indices; ended = marked }) (behind_comma marked rest)
   indices_taken [] found marked rest int p few h = valued (ap (λ xs. record { found = xs; ended = marked }) (sym (append-nil found))) (indices_end marked found rest h)
   indices_taken (i ∷ indices) found marked rest int p few h =
-      let ints = both (is_int_type i.0) (list_all (λ i. is_int_type i.0) indices) int in
+      let ints = and_parts (is_int_type i.0) (list_all (λ i. is_int_type i.0) indices) int in
       turned (ap Ok comma_is)
       (along (append_assoc (pair_tokens i) (behind_commas (map pair_tokens indices)) (mark_tokens marked ++ rest)) (index_taken i.0 i.1 found _ ints.0 (first_operand limits i indices p) (omega (arith, few))))
       (valued (ap (λ xs. record { found = xs; ended = marked }) (append_assoc found (i ∷ []) indices))
       (indices_taken indices (found ++ i ∷ []) marked rest ints.1 (rest_operands limits i indices p) (omega (arith, few, length-append found (i ∷ []))) h))
 
-  step_tokens : (t : Ty) (base : Operand) (indices : List (Ty × Operand)) (ts : List Lexeme)
+  gep_tokens : (t : Ty) (base : Operand) (indices : List (Ty × Operand)) (ts : List Lexeme)
       → with_commas (type_tokens t ∷ address_tokens base ∷ map pair_tokens indices) ++ ts ≡ type_tokens t ++ comma ∷ (address_tokens base ++ (behind_commas (map pair_tokens indices) ++ ts))
-  step_tokens t base indices ts =
+  gep_tokens t base indices ts =
       append_assoc (type_tokens t) (behind_commas (address_tokens base ∷ map pair_tokens indices)) ts
       ∙ ap (λ ys. type_tokens t ++ comma ∷ ys) (append_assoc (address_tokens base) (behind_commas (map pair_tokens indices)) ts)
 
   pub step_taken : (t : Ty) (base : Operand) (indices : List (Ty × Operand)) (marked : Bool) (rest : List Lexeme) → TypeFits limits (suc limits.depth) t → OperandsFit limits ((Ptr, base) ∷ indices)
       → list_all (λ i. is_int_type i.0) indices ≡ true → length indices ≤ limits.indices → IsFresh rest
-      → Takes (step_rule limits) (with_commas (type_tokens t ∷ address_tokens base ∷ map pair_tokens indices) ++ (mark_tokens marked ++ rest)) (op.Gep t base indices, marked) rest
-  unfolding step_rule step_words
+      → Takes (gep_rule limits) (with_commas (type_tokens t ∷ address_tokens base ∷ map pair_tokens indices) ++ (mark_tokens marked ++ rest)) (op.Gep t base indices, marked) rest
+  unfolding gep_rule gep_words
   step_taken t base indices marked rest type p int few h =
-      along (step_tokens t base indices (mark_tokens marked ++ rest))
-      (chain (ended (type_symbol t _ type.formed (λ y. Ok (is_step_word y)) (Ok false) refl refl refl refl refl refl refl))
+      along (gep_tokens t base indices (mark_tokens marked ++ rest))
+      (chain (ended (type_symbol t _ type.formed (λ y. Ok (is_gep_word y)) (Ok false) refl refl refl refl refl refl refl))
       (chain (type_taken limits t (suc limits.depth) _ type) (chain (address_taken limits base _ (first_operand limits (Ptr, base) indices p))
       (chain (indices_taken indices [] marked rest int (rest_operands limits (Ptr, base) indices p) (omega (arith, few)) h) (chain (suffix_end marked rest h) given)))))
 
   -- ---- alloca
 
   one_of_32 : (u : Ty) (count : Operand) → (has_width 32 (int_width u) && is_one count) ≡ true → (u ≡ Int 32) × (count ≡ operand.Int 1)
-  one_of_32 (Int w) (operand.Int n) h = let parts = both (w == 32) (n == 1) h in (ap Int (eqb-true w 32 parts.0), ap operand.Int (eqb-true n 1 parts.1))
+  one_of_32 (Int w) (operand.Int n) h = let parts = and_parts (w == 32) (n == 1) h in (ap Int (eqb-true w 32 parts.0), ap operand.Int (eqb-true n 1 parts.1))
   one_of_32 (Int w) operand.Null h = absurd (no_one (w == 32) h)
   one_of_32 (Int w) operand.Undef h = absurd (no_one (w == 32) h)
   one_of_32 (Int w) operand.Poison h = absurd (no_one (w == 32) h)
@@ -285,7 +281,7 @@ module _ (limits : Limits) where
       → AllTake (λ t. true) (λ found. true) (argument limits counted) (map pair_tokens args) found (found ++ args)
   arguments_take counted [] found types p few = append-nil found
   arguments_take counted (a ∷ args) found types p few =
-      let parts = both (is_value_type a.0) (list_all (λ a. is_value_type a.0) args) types in (
+      let parts = and_parts (is_value_type a.0) (list_all (λ a. is_value_type a.0) args) types in (
         refl,
         found ++ a ∷ [],
         λ rest good. argument_taken counted a found rest parts.0 (room_behind counted (length found) (length found + length (a ∷ args)) (omega arith) few) (first_operand limits a args p),
@@ -307,7 +303,7 @@ module _ (limits : Limits) where
   arguments_begin : (args : List (Ty × Operand)) → list_all (λ a. is_value_type a.0) args ≡ true → ArgumentsBegin (map pair_tokens args)
   arguments_begin [] h = tt
   arguments_begin (a ∷ args) h = λ rest.
-      let type = value_type_formed a.0 (both (is_value_type a.0) (list_all (λ a. is_value_type a.0) args) h).0 in
+      let type = value_type_formed a.0 (and_parts (is_value_type a.0) (list_all (λ a. is_value_type a.0) args) h).0 in
       ap (λ ts. is s.CloseParen (head end_of_text ts)) (typed_split limits a.0 a.1 rest) ∙ (no_closer _ (type_closes a.0 (value_tokens a.0 a.1 ++ rest) type)).0
 
   arguments_taken : (counted : Bool) (args : List (Ty × Operand)) (rest : List Lexeme) → list_all (λ a. is_value_type a.0) args ≡ true → OperandsFit limits args → (counted ≡ true → length args ≤ limits.parameters)
@@ -331,7 +327,7 @@ module _ (limits : Limits) where
       → callee_by limits dotted (global_token (Called x)).symbol (global_token (Called x)) ≡ Ok (Called x)
   callee_good dotted x only h few other =
       ap (λ y. callee_by limits dotted y (global_token (Called x))) (global_symbol (Called x))
-      ∙ ap (callee_name limits dotted) (global_text_in x (both (are_bytes x) _ h).0)
+      ∙ ap (callee_name limits dotted) (global_text_in x (and_parts (are_bytes x) _ h).0)
       ∙ ap (λ b. cond b (Err (r.Outside outside.CallOfMain)) (cond (dotted && not (is_printf x)) (Err (r.Outside outside.FunctionType)) (global_name limits x))) (not_true (bytes_eq x (codes "main")) other)
       ∙ ap (λ b. cond b (Err (r.Outside outside.FunctionType)) (global_name limits x)) (dots_good dotted (is_printf x) only)
       ∙ global_name_good limits x h few
@@ -392,7 +388,7 @@ module _ (limits : Limits) where
       ∙ ap (λ ys. dots ++ global_token x ∷ sign (codes "(") ∷ ys) (regrouped (with_commas (map pair_tokens args)) (sign (codes ")")) ts))
 
   all_three : (a b c : Bool) → (a && b && c) ≡ true → (b ≡ true) × (c ≡ true)
-  all_three a b c h = let last = both (a && b) c h in ((both a b last.0).1, last.1)
+  all_three a b c h = let last = and_parts (a && b) c h in ((and_parts a b last.0).1, last.1)
 
   pub call_taken : (dotted : Bool) (ret : Option Ty) (x : Name) (args : List (Ty × Operand)) (marked : Bool) (rest : List Lexeme)
       → result_formed ret ≡ true → is_global_name x ≡ true → is_below limits.names x ≡ true → not (name_eq x main_name) ≡ true → list_all (λ a. is_value_type a.0) args ≡ true → OperandsFit limits args

@@ -9,13 +9,13 @@ use Rattle.ms_ir.specs.declared.syntax.Operand.TheVariants as operand
 use Rattle.ms_ir.specs.declared.syntax.Op.{Op}
 use Rattle.ms_ir.specs.declared.syntax.Op.TheVariants as op
 use Rattle.ms_ir.specs.declared.forms.Form.{Form}
-use Rattle.ms_grammar.specs.declared.symbols.Symbol.{Symbol}
-use Rattle.ms_grammar.specs.declared.symbols.Symbol.TheVariants as s
-use Rattle.ms_grammar.specs.Lexemes.{Lexeme}
-use Rattle.ms_grammar.specs.Types.{int_type_of}
-use Rattle.ms_grammar.specs.Values.{max_indices}
-use Rattle.ms_grammar.specs.Insts.{Marked, address, load_rule, store_rule, index_by, index_turn, step_rule, alloca_of, alloca_rule}
-use Rattle.ms_grammar.specs.Texts.{ReadsUpTo}
+use Rattle.ms_text_grammar.specs.declared.symbols.Symbol.{Symbol}
+use Rattle.ms_text_grammar.specs.declared.symbols.Symbol.TheVariants as s
+use Rattle.ms_text_grammar.specs.Lexemes.{Lexeme}
+use Rattle.ms_text_grammar.specs.Types.{int_type_of}
+use Rattle.ms_text_grammar.specs.Values.{max_indices}
+use Rattle.ms_text_grammar.specs.Insts.{Marked, address, load_rule, store_rule, index_by, index_turn, gep_rule, alloca_of, alloca_rule}
+use Rattle.ms_text_grammar.specs.Texts.{ReadsUpTo}
 use Rattle.ms_valid.specs.FormedCode.{is_width, is_int_type, type_formed, operand_formed}
 use Rattle.ms_text_laws.proofs.Sound.{AllSound, all_pushed, if_within}
 use Rattle.ms_text_laws.proofs.FormedTypes.{int_type_of_formed, value_is_type}
@@ -64,15 +64,15 @@ module _ (form : Form) (found : List (Ty × Operand)) (h : AreIntegers found) wh
   unfolding index_turn
   index_yields = behind (λ x. index_by_yields x)
 
-step_yields : (form : Form) → Yields (step_rule form) (λ m. GivesValue m.0)
-unfolding step_rule
-step_yields form =
+gep_yields : (form : Form) → Yields (gep_rule form) (λ m. GivesValue m.0)
+unfolding gep_rule
+gep_yields form =
     behind (λ words. chained (type_read form) (λ t w. chained (address_read form) (λ base p.
     chained {P = λ i. AreIntegers i.found} (looped (refl, refl) (λ indices comma sound h e. index_yields form indices.found h)) (λ indices h. behind (λ marked.
     given (op_is (op.Gep t base indices.found) (and_from (type_formed t) (list_all (λ i. is_int_type i.0) indices.found) w h.0) (operand_more Ptr base indices.found p h.1) refl, refl, refl, refl))))))
 
-pub step_read : (form : Form) (ts : List Lexeme) (v : Marked) (rest : List Lexeme) → AllSound ts → ReadsUpTo (step_rule form) ts v rest → GivesValue v.0
-step_read form = (step_yields form).each
+pub gep_read : (form : Form) (ts : List Lexeme) (v : Marked) (rest : List Lexeme) → AllSound ts → ReadsUpTo (gep_rule form) ts v rest → GivesValue v.0
+gep_read form = (gep_yields form).each
 
 alloca_is : (t : Ty) (found : List (Ty × Operand)) → type_formed t ≡ true → AreIntegers found → GivesValue (alloca_of t found)
 alloca_is t [] w h = (op_is (op.Alloca t (Int 32) (operand.Int 1)) (and_from (type_formed t) true w refl) refl refl, refl, refl, refl)

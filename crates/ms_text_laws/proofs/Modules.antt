@@ -1,7 +1,7 @@
 -- Entities and whole modules are read as what they were written of.
 use Rattle.std.proofs.Common.{◌≡◌, ℕ, suc, ◌+◌, ◌≤◌, ◌<◌, ◌^◌, Bool, true, false, cond, List, [], ◌∷◌, ◌++◌, map, length, flat_map, Ok, Err, refl, sym, ap, ◌∙◌, subst, append_assoc, append-nil, arith, length-append}
 use Rattle.std.specs.Prelude.{codes, nat_lt}
-use Rattle.std.proofs.lemmas.Bool.{ltb-true, lt-ltb}
+use Rattle.std.proofs.lemmas.Bool.{ltb-true, lt-ltb, and_parts}
 use Rattle.ms_lex.specs.Tokens.{Text}
 use Rattle.ms_lex.specs.Numbers as read
 use Rattle.ms_lex.specs.Grammar.{head, give, loop, ◌>>=◌}
@@ -13,26 +13,26 @@ use Rattle.ms_ir.specs.declared.syntax.Decl.{Decl}
 use Rattle.ms_ir.specs.declared.syntax.GlobalVar.{GlobalVar}
 use Rattle.ms_ir.specs.declared.syntax.Module.{Module}
 use Rattle.ms_ir.specs.declared.forms.Form.TheVariants.{Instrumented}
-use Rattle.ms_grammar.specs.declared.refusals.Refusal.TheVariants as r
-use Rattle.ms_grammar.specs.declared.refusals.Limit.TheVariants as limit
-use Rattle.ms_grammar.specs.declared.states.Parts.{Parts}
-use Rattle.ms_grammar.specs.declared.symbols.Symbol.{Symbol}
-use Rattle.ms_grammar.specs.declared.symbols.Symbol.TheVariants as s
-use Rattle.ms_grammar.specs.Lexemes.{Lexeme, end_of_text, same_symbol, symbol_of, word_symbol, name_in}
-use Rattle.ms_grammar.specs.Steps.{Verdict, word, judge_map}
-use Rattle.ms_grammar.specs.Names.{reserved_global}
-use Rattle.ms_grammar.specs.Skipped.{is_attribute_word, balanced}
-use Rattle.ms_grammar.specs.Modules.{instructions_of, global_kind_by, metadata_entity}
+use Rattle.ms_text_grammar.specs.declared.refusals.Cause.TheVariants as r
+use Rattle.ms_text_grammar.specs.declared.refusals.Limit.TheVariants as limit
+use Rattle.ms_text_grammar.specs.declared.states.Parts.{Parts}
+use Rattle.ms_text_grammar.specs.declared.symbols.Symbol.{Symbol}
+use Rattle.ms_text_grammar.specs.declared.symbols.Symbol.TheVariants as s
+use Rattle.ms_text_grammar.specs.Lexemes.{Lexeme, end_of_text, same_symbol, symbol_of, word_symbol, name_in}
+use Rattle.ms_text_grammar.specs.Steps.{Verdict, word, judge_map}
+use Rattle.ms_text_grammar.specs.Names.{reserved_global}
+use Rattle.ms_text_grammar.specs.Skipped.{is_attribute_word, balanced}
+use Rattle.ms_text_grammar.specs.Modules.{instructions_of, global_kind_by, metadata_entity}
 use Rattle.ms_valid.specs.FormedNames.{are_bytes, is_local_name, is_global_name}
 use Rattle.ms_valid.specs.Formed.{is_struct}
-use Rattle.ms_written.specs.Pieces.{Piece, tokens_in, Line, spaced, indent_of, pieces_of, word as word_token, sign, meta as meta_token, enclosed}
-use Rattle.ms_written.specs.Names.{local_token, global_token}
-use Rattle.ms_written.specs.Types.{type_tokens, result_tokens}
-use Rattle.ms_written.specs.Values.{init_tokens}
-use Rattle.ms_written.specs.Modules.{type_line, global_word, global_line, is_dotted, dots, declaration_line, function_lines, has_dots, has_mark, module_lines, mark_pieces, module_pieces}
+use Rattle.ms_text_layout.specs.Pieces.{Piece, tokens_in, Line, spaced, indent_of, pieces_of, word as word_token, sign, meta as meta_token, enclosed}
+use Rattle.ms_text_layout.specs.Names.{local_token, global_token}
+use Rattle.ms_text_layout.specs.Types.{type_tokens, result_tokens}
+use Rattle.ms_text_layout.specs.Values.{init_tokens}
+use Rattle.ms_text_layout.specs.Modules.{type_line, global_word, global_line, is_dotted, dots, declaration_line, function_lines, has_dots, has_mark, module_lines, mark_pieces, module_pieces}
 use Rattle.ms_text_laws.proofs.Limited.{Limits, local_by, named_type, global_variable, global_begins, entity_begins_by, entity_begins, entity_by, entity, room_for_function, module_rule}
 use Rattle.ms_text_laws.proofs.Takes.{Takes, given, taken, seen, chain, turned, ended, by_symbol, word_taken, along}
-use Rattle.ms_text_laws.proofs.Spelled.{both, is_below, local_good, local_number_symbol, local_text_symbol, local_number_in, local_text_in, global_text_in, global_unreserved}
+use Rattle.ms_text_laws.proofs.Spelled.{is_below, local_good, local_number_symbol, local_text_symbol, local_number_in, local_text_in, global_text_in, global_unreserved}
 use Rattle.ms_text_laws.proofs.Types.{TypeFits, type_taken, struct_type_taken, valued}
 use Rattle.ms_text_laws.proofs.Values.{InitFits, init_taken, global_symbol}
 use Rattle.ms_text_laws.proofs.Flags.{Fresh, IsFresh}
@@ -159,7 +159,7 @@ module _ (limits : Limits) where
       (chain (named_taken (Number n) t rest h) given)) then
   type_entity (Called w) t found rest h then =
       let x : Lexeme = local_token (Called w) in
-      let spelt : name_in x ≡ w = local_text_in w (both (are_bytes w) _ h.local).0 in
+      let spelt : name_in x ≡ w = local_text_in w (and_parts (are_bytes w) _ h.local).0 in
       let verdict : local_by limits s.Local x ≡ Ok (Called w) = ap (λ y. local_by limits y x) (sym (local_text_symbol w)) ∙ local_good limits (Called w) h.local h.short_name in
       entity_read s.Local (state found [] [] [] 0) (state (found ++ (Called w, t) ∷ []) [] [] [] 0) x (local_text_symbol w) (ap (judge_map (λ y. true)) verdict)
       (subst (λ k. Takes (named_type limits (Called k) >>= λ y. give (state (found ++ y ∷ []) [] [] [] 0)) (sign (codes "=") ∷ word_token (codes "type") ∷ (type_tokens t ++ rest)) (state (found ++ (Called w, t) ∷ []) [] [] [] 0) rest) (sym spelt)
@@ -187,7 +187,7 @@ module _ (limits : Limits) where
 
   global_begin : (w : Text) (m : Module) → is_global_name (Called w) ≡ true → nat_lt (length w) limits.names ≡ true → length m.globals < limits.globals → global_begins limits m (global_token (Called w)) ≡ Ok true
   global_begin w m h few room =
-      let spelt : name_in (global_token (Called w)) ≡ w = global_text_in w (both (are_bytes w) _ h).0 in
+      let spelt : name_in (global_token (Called w)) ≡ w = global_text_in w (and_parts (are_bytes w) _ h).0 in
       let inner : Verdict Bool = cond (nat_lt (length w) limits.names) (Ok true) (Err (r.Limit limit.Name)) in
       ap (λ text. cond (reserved_global Instrumented text) (Err r.Reserved) (cond (nat_lt (length m.globals) limits.globals) (cond (nat_lt (length text) limits.names) (Ok true) (Err (r.Limit limit.Name))) (Err (r.Limit limit.Globals)))) spelt
       ∙ ap (λ b. cond b (Err r.Reserved) (cond (nat_lt (length m.globals) limits.globals) inner (Err (r.Limit limit.Globals)))) (global_unreserved w h)
@@ -201,7 +201,7 @@ module _ (limits : Limits) where
       let x : Lexeme = global_token (Called w) in
       let name = subst (λ y. is_global_name y ≡ true) e h.global_name in
       let short = subst (λ y. is_below limits.names y ≡ true) e h.short_name in
-      let spelt : name_in x ≡ w = global_text_in w (both (are_bytes w) _ name).0 in
+      let spelt : name_in x ≡ w = global_text_in w (and_parts (are_bytes w) _ name).0 in
       let p : Parts = state types found [] [] 0 in
       entity_read s.Global p (state types (found ++ g ∷ []) [] [] 0) x (global_symbol (Called w)) (global_begin w p.«module» name short room)
       (subst (λ k. Takes (global_variable limits (Called k) >>= λ y. give (state types (found ++ y ∷ []) [] [] 0)) (sign (codes "=") ∷ word_token (global_word g.constant) ∷ (type_tokens g.ty ++ (init_tokens g.ty g.init ++ rest))) (state types (found ++ g ∷ []) [] [] 0) rest) (sym spelt)

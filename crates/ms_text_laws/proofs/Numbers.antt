@@ -1,17 +1,17 @@
 -- Numbers are read as what they were written of.
-use Rattle.std.proofs.Common.{◌≡◌, ℕ, zero, suc, ◌+◌, ◌-◌, ◌*◌, ◌%◌, ◌^◌, ◌<◌, ◌≤◌, Bool, true, false, ◌&&◌, cond, eqb, ltb, [], ◌∷◌, ◌++◌, length, ℤ, pos, negsuc, neg_ℤ, refl, sym, ap, ◌∙◌, inl, inr, arith, length-append, mod-eq_of_lt, pow-suc, mul_assoc, mul-one, add-one}
+use Rattle.std.proofs.Common.{◌≡◌, ℕ, zero, suc, ◌+◌, ◌-◌, ◌*◌, ◌%◌, ◌^◌, ◌<◌, ◌≤◌, true, false, cond, eqb, ltb, [], ◌∷◌, ◌++◌, length, ℤ, pos, negsuc, neg_ℤ, refl, sym, ap, ◌∙◌, inl, inr, arith, length-append, mod-eq_of_lt, pow-suc, mul_assoc, mul-one, add-one}
 use Rattle.std.specs.Prelude.{decimal}
 use Rattle.std.specs.List.{list_all}
 use Rattle.std.specs.Char.{is_ascii_digit}
-use Rattle.std.proofs.lemmas.Bool.{ltb-false, lt-ltb}
+use Rattle.std.proofs.lemmas.Bool.{ltb-false, lt-ltb, and_parts}
 use Rattle.std.proofs.lemmas.Bool.Decides.{eqb_tells}
 use Rattle.std.proofs.lemmas.Fmt.{decimal_by_steps}
 use Rattle.ms_bits.specs.Signed.{signed, wrap}
 use Rattle.ms_lex.specs.Tokens.{Text}
 use Rattle.ms_lex.specs.Numbers as read
-use Rattle.ms_grammar.specs.Values.{fits}
-use Rattle.ms_written.specs.Names.{signed_text}
-use Rattle.ms_written.proofs.WholeNames.{decimal_digits, decimal_some}
+use Rattle.ms_text_grammar.specs.Values.{fits}
+use Rattle.ms_text_layout.specs.Names.{signed_text}
+use Rattle.ms_text_layout.proofs.WholeNames.{decimal_digits, decimal_some}
 
 -- ---- decimal digits
 
@@ -31,10 +31,6 @@ decimal_back = decimal_by_steps (λ n ds. read.decimal ds ≡ n)
 
 -- ---- signed numbers
 
-both : (a b : Bool) → (a && b) ≡ true → (a ≡ true) × (b ≡ true)
-both true b h = (refl, h)
-both false b h = absurd cc
-
 no_minus : (b : ℕ) → is_ascii_digit b ≡ true → eqb b 45 ≡ false
 no_minus b h = elim (eqb_tells b 45) [
   | inl same ↦ let e = ap is_ascii_digit same.1 in absurd cc
@@ -43,7 +39,7 @@ no_minus b h = elim (eqb_tells b 45) [
 
 unsigned : (w : Text) → 0 < length w → list_all is_ascii_digit w ≡ true → read.signed_decimal w ≡ pos (read.decimal w)
 unsigned [] some h = absurd (omega (arith, some))
-unsigned (b ∷ w) some h = rw (no_minus b (both (is_ascii_digit b) (list_all is_ascii_digit w) h).0) refl
+unsigned (b ∷ w) some h = rw (no_minus b (and_parts (is_ascii_digit b) (list_all is_ascii_digit w) h).0) refl
 
 -- a number whose digits are few enough
 abbrev pub IsShort : ℤ → Type 0

@@ -3,14 +3,14 @@ use Rattle.std.proofs.Common.{List, refl, sym, subst}
 use Rattle.ms_ir.specs.declared.syntax.Op.{Op}
 use Rattle.ms_ir.specs.declared.syntax.Op.TheVariants as op
 use Rattle.ms_ir.specs.declared.forms.Form.{Form}
-use Rattle.ms_grammar.specs.Lexemes.{Lexeme}
-use Rattle.ms_grammar.specs.Steps.{Rule}
-use Rattle.ms_grammar.specs.Insts.{Marked, with_suffixes}
-use Rattle.ms_grammar.specs.Texts.{ReadsUpTo}
+use Rattle.ms_text_grammar.specs.Lexemes.{Lexeme}
+use Rattle.ms_text_grammar.specs.Steps.{Rule}
+use Rattle.ms_text_grammar.specs.Insts.{Marked, with_suffixes}
+use Rattle.ms_text_grammar.specs.Texts.{ReadsUpTo}
 use Rattle.ms_text_laws.proofs.Sound.{AllSound}
 pub use Rattle.ms_text_laws.proofs.Parts.{GivesValue, HasEffect, Ends, IsPhi, IsCall}
 pub use Rattle.ms_text_laws.proofs.Arithmetic.{binary_read, cast_read, compare_read, select_read, freeze_read}
-pub use Rattle.ms_text_laws.proofs.Memory.{load_read, store_read, alloca_read, step_read}
+pub use Rattle.ms_text_laws.proofs.Memory.{load_read, store_read, alloca_read, gep_read}
 pub use Rattle.ms_text_laws.proofs.Calls.{call_read}
 pub use Rattle.ms_text_laws.proofs.Jumps.{phi_read, branch_read, switch_read, ret_read}
 

@@ -2,6 +2,7 @@
 use Rattle.std.proofs.Common.{◌≡◌, ℕ, suc, ◌≤◌, ◌<◌, Bool, true, false, not, ◌&&◌, ◌||◌, List, [], ◌∷◌, ◌++◌, map, length, flat_map, Option, Some, None, refl, sym, ap, ◌∙◌, subst, append-nil, leb-true}
 use Rattle.std.specs.Prelude.{codes, nat_lt, nat_le, is_some}
 use Rattle.std.specs.List.{list_all}
+use Rattle.std.proofs.lemmas.Bool.{and_parts}
 use Rattle.ms_bits.specs.declared.operations.BinOp.{BinOp}
 use Rattle.ms_bits.specs.declared.operations.BinOp.TheVariants as binary
 use Rattle.ms_bits.specs.declared.operations.CastOp.{CastOp}
@@ -12,29 +13,29 @@ use Rattle.ms_ir.specs.declared.syntax.Operand.{Operand}
 use Rattle.ms_ir.specs.declared.syntax.Op.{Op}
 use Rattle.ms_ir.specs.declared.syntax.Op.TheVariants as op
 use Rattle.ms_ir.specs.Names.{name_eq, main_name}
-use Rattle.ms_ir.specs.Code.{operands}
+use Rattle.ms_ir.specs.Instructions.{operands}
 use Rattle.ms_bits.specs.NoFlags.{no_flags}
 use Rattle.ms_ir.specs.declared.forms.Form.TheVariants.{Instrumented}
-use Rattle.ms_grammar.specs.declared.states.Body.{Body}
-use Rattle.ms_grammar.specs.declared.symbols.Symbol.{Symbol}
-use Rattle.ms_grammar.specs.declared.symbols.Symbol.TheVariants as s
-use Rattle.ms_grammar.specs.Lexemes.{Lexeme, symbol_of, word_symbol}
-use Rattle.ms_grammar.specs.Steps.{Rule, binary_op, cast_op}
-use Rattle.ms_grammar.specs.Insts.{names_printf, with_suffixes}
-use Rattle.ms_grammar.specs.Bodies.{is_open, with_value, with_effect, with_end, with_call}
-use Rattle.ms_grammar.specs.Lines.{value_line, marked_line, effect_line, end_line}
+use Rattle.ms_text_grammar.specs.declared.states.Body.{Body}
+use Rattle.ms_text_grammar.specs.declared.symbols.Symbol.{Symbol}
+use Rattle.ms_text_grammar.specs.declared.symbols.Symbol.TheVariants as s
+use Rattle.ms_text_grammar.specs.Lexemes.{Lexeme, symbol_of, word_symbol}
+use Rattle.ms_text_grammar.specs.Steps.{Rule, binary_op, cast_op}
+use Rattle.ms_text_grammar.specs.Insts.{names_printf, with_suffixes}
+use Rattle.ms_text_grammar.specs.Bodies.{is_open, with_value, with_effect, with_end, with_call}
+use Rattle.ms_text_grammar.specs.Lines.{value_line, marked_line, effect_line, end_line}
 use Rattle.ms_valid.specs.FormedNames.{is_local_name, is_global_name}
 use Rattle.ms_valid.specs.FormedCode.{is_width, is_int_type, is_value_type, type_formed, result_formed, number_formed, operand_formed, are_among, binary_flags, cast_flags, shape_formed, op_formed, name_formed}
 use Rattle.ms_valid.specs.ReadLimits.{type_depth}
 use Rattle.ms_ir.specs.Written.{Mention, OfLocal, type_mentions, operand_mentions, operands_mentions, labels, mentions, own_types, operand_types, op_types, result_type}
-use Rattle.ms_written.specs.Pieces.{word as word_token, sign, comma, with_commas, enclosed}
-use Rattle.ms_written.specs.Names.{global_token}
-use Rattle.ms_written.specs.Types.{type_tokens, result_tokens}
-use Rattle.ms_written.specs.Values.{value_tokens, typed_tokens, pair_tokens}
-use Rattle.ms_written.specs.Insts.{binary_word, cast_word, predicate_text, flag_tokens, address_tokens, target_tokens, bit_tokens, edge_tokens, case_tokens, count_tokens, callee_type_tokens, returned_tokens, op_tokens, mark_tokens}
+use Rattle.ms_text_layout.specs.Pieces.{word as word_token, sign, comma, with_commas, enclosed}
+use Rattle.ms_text_layout.specs.Names.{global_token}
+use Rattle.ms_text_layout.specs.Types.{type_tokens, result_tokens}
+use Rattle.ms_text_layout.specs.Values.{value_tokens, typed_tokens, pair_tokens}
+use Rattle.ms_text_layout.specs.Insts.{binary_word, cast_word, predicate_text, flag_tokens, address_tokens, target_tokens, bit_tokens, edge_tokens, case_tokens, count_tokens, callee_type_tokens, returned_tokens, op_tokens, mark_tokens}
 use Rattle.ms_text_laws.proofs.Limited.{Limits, binary_rule, cast_rule, call_rule, phi_line, call_line, instruction}
 use Rattle.ms_text_laws.proofs.Takes.{Takes, given, chain}
-use Rattle.ms_text_laws.proofs.Spelled.{both, is_below}
+use Rattle.ms_text_laws.proofs.Spelled.{is_below}
 use Rattle.ms_text_laws.proofs.Types.{few_names, few_parts, TypeFits}
 use Rattle.ms_text_laws.proofs.Values.{few_offsets}
 use Rattle.ms_text_laws.proofs.Flags.{binary_symbol, cast_symbol, binary_word_symbol, cast_word_symbol, IsFresh, marked_taken}
@@ -169,17 +170,17 @@ pub record OpFits (limits : Limits) (o : Op) : Type 0 where
 
 module _ (limits : Limits) (o : Op) (h : OpFits limits o) where
   first_two : (shape_formed o && list_all (λ a. operand_formed a.0 a.1) (operands o)) ≡ true
-  first_two = (both _ (list_all is_local_name (labels o)) h.formed).0
+  first_two = (and_parts _ (list_all is_local_name (labels o)) h.formed).0
 
   pub shape : shape_formed o ≡ true
-  shape = (both (shape_formed o) _ first_two).0
+  shape = (and_parts (shape_formed o) _ first_two).0
 
   pub labelled : list_all is_local_name (labels o) ≡ true
-  labelled = (both _ (list_all is_local_name (labels o)) h.formed).1
+  labelled = (and_parts _ (list_all is_local_name (labels o)) h.formed).1
 
   pub operands_fit : few_names limits.names (operands_mentions (operands o)) ≡ true → list_all (λ a. few_offsets limits.indices a.1) (operands o) ≡ true → OperandsFit limits (operands o)
   operands_fit named indices = record {
-    formed = (both (shape_formed o) _ first_two).1;
+    formed = (and_parts (shape_formed o) _ first_two).1;
     shallow = (within_parts (suc limits.depth) (own_types o) (flat_map (λ a. a.0 ∷ operand_types a.1) (operands o)) h.shallow).1;
     named = named;
     indices = indices;
@@ -190,16 +191,16 @@ abbrev LocalsFit : Limits → List Name → Type 0
 LocalsFit limits xs = (list_all is_local_name xs ≡ true) × (few_names limits.names (map OfLocal xs) ≡ true)
 
 first_local : (limits : Limits) (x : Name) (xs : List Name) → LocalsFit limits (x ∷ xs) → Local limits x
-first_local limits x xs h = ((both (is_local_name x) (list_all is_local_name xs) h.0).0, (both (is_below limits.names x) (few_names limits.names (map OfLocal xs)) h.1).0)
+first_local limits x xs h = ((and_parts (is_local_name x) (list_all is_local_name xs) h.0).0, (and_parts (is_below limits.names x) (few_names limits.names (map OfLocal xs)) h.1).0)
 
 rest_locals : (limits : Limits) (x : Name) (xs : List Name) → LocalsFit limits (x ∷ xs) → LocalsFit limits xs
-rest_locals limits x xs h = ((both (is_local_name x) (list_all is_local_name xs) h.0).1, (both (is_below limits.names x) (few_names limits.names (map OfLocal xs)) h.1).1)
+rest_locals limits x xs h = ((and_parts (is_local_name x) (list_all is_local_name xs) h.0).1, (and_parts (is_below limits.names x) (few_names limits.names (map OfLocal xs)) h.1).1)
 
 cases_fit : (limits : Limits) (w : ℕ) (cases : List (ℕ × Name)) → list_all (λ c. number_formed (Int w) c.0) cases ≡ true → LocalsFit limits (map (λ c. c.1) cases) → CasesFit limits w cases
 cases_fit limits w [] h p = tt
 cases_fit limits w (c ∷ cases) h p =
-    let parts = both (number_formed (Int w) c.0) (list_all (λ c. number_formed (Int w) c.0) cases) h in
-    (((both (is_width w) _ parts.0).1, first_local limits c.1 (map (λ c. c.1) cases) p), cases_fit limits w cases parts.1 (rest_locals limits c.1 (map (λ c. c.1) cases) p))
+    let parts = and_parts (number_formed (Int w) c.0) (list_all (λ c. number_formed (Int w) c.0) cases) h in
+    (((and_parts (is_width w) _ parts.0).1, first_local limits c.1 (map (λ c. c.1) cases) p), cases_fit limits w cases parts.1 (rest_locals limits c.1 (map (λ c. c.1) cases) p))
 
 -- the edges of a phi
 abbrev edge_mentions : Operand × Name → List Mention
@@ -212,17 +213,17 @@ edges_fit limits t [] f w n i l = tt
 edges_fit limits t (e ∷ edges) f w n i l =
     let names = few_parts limits.names (edge_mentions e) (flat_map edge_mentions edges) n in
     let both_names = few_parts limits.names (operand_mentions e.0) (OfLocal e.1 ∷ []) names.0 in
-    let formed = both (operand_formed t e.0) _ f in
+    let formed = and_parts (operand_formed t e.0) _ f in
     let types = within_parts (suc limits.depth) (t ∷ operand_types e.0) (flat_map (λ a. a.0 ∷ operand_types a.1) (map (λ e. (t, e.0)) edges)) w in
-    let offsets = both (few_offsets limits.indices e.0) _ i in
-    let locals = both (is_local_name e.1) _ l in
+    let offsets = and_parts (few_offsets limits.indices e.0) _ i in
+    let locals = and_parts (is_local_name e.1) _ l in
     let alone : OperandsFit limits ((t, e.0) ∷ []) = record {
       formed = rw formed.0 refl;
       shallow = ap (are_within (suc limits.depth)) (append-nil (t ∷ operand_types e.0)) ∙ types.0;
       named = ap (few_names limits.names) (append-nil (operand_mentions e.0)) ∙ both_names.0;
       indices = rw offsets.0 refl;
     } in
-    ((first_operand limits (t, e.0) [] alone, (locals.0, (both (is_below limits.names e.1) true both_names.1).0)), edges_fit limits t edges formed.1 types.1 names.1 offsets.1 locals.1)
+    ((first_operand limits (t, e.0) [] alone, (locals.0, (and_parts (is_below limits.names e.1) true both_names.1).0)), edges_fit limits t edges formed.1 types.1 names.1 offsets.1 locals.1)
 
 -- ---- lines
 
@@ -277,7 +278,7 @@ module _ (limits : Limits) (b : Body) (result : Option Name) (marked : Bool) (re
   own_type : (t : Ty) (o : Op) (h : OpFits limits o) (others : List Ty) → own_types o ≡ t ∷ others → type_depth t ≤ suc limits.depth
   own_type t o h others e =
       let own : are_within (suc limits.depth) (t ∷ others) ≡ true = ap (are_within (suc limits.depth)) (sym e) ∙ (within_parts (suc limits.depth) (own_types o) (flat_map (λ a. a.0 ∷ operand_types a.1) (operands o)) h.shallow).0 in
-      leb-true (type_depth t) (suc limits.depth) (both (nat_le (type_depth t) (suc limits.depth)) (are_within (suc limits.depth) others) own).0
+      leb-true (type_depth t) (suc limits.depth) (and_parts (nat_le (type_depth t) (suc limits.depth)) (are_within (suc limits.depth) others) own).0
 
   named_call : (ret : Option Ty) → name_formed ret result ≡ true → is_open result ≡ is_some ret
   named_call ret h = elim ret as (λ r. name_formed r result ≡ true → is_open result ≡ is_some r) [
@@ -300,25 +301,25 @@ module _ (limits : Limits) (b : Body) (result : Option Name) (marked : Bool) (re
       leb-true (length args) limits.parameters few
 
   no_edge : (t : Ty) → OpFits limits (op.Phi t []) → ⊥
-  no_edge t h = let e = (both (is_value_type t) false (shape limits (op.Phi t []) h)).1 in absurd cc
+  no_edge t h = let e = (and_parts (is_value_type t) false (shape limits (op.Phi t []) h)).1 in absurd cc
 
   no_switch : (t : Ty) (v : Operand) (other : Name) (cases : List (ℕ × Name)) → is_int_type t ≡ false → OpFits limits (op.Switch t v other cases) → ⊥
-  no_switch t v other cases e h = let int = (both (is_int_type t) (list_all (λ c. number_formed t c.0) cases) (shape limits (op.Switch t v other cases) h)).0 in absurd cc
+  no_switch t v other cases e h = let int = (and_parts (is_int_type t) (list_all (λ c. number_formed t c.0) cases) (shape limits (op.Switch t v other cases) h)).0 in absurd cc
 
   pub op_taken : (dotted : Bool) (o : Op) → 0 < limits.indices → OpFits limits o → name_formed (result_type o) result ≡ true → Takes (instruction limits b result (op_symbol o)) (op_tail dotted o ++ behind) (next_body b result o marked) rest
   unfolding instruction binary_op cast_op phi_line call_line marked_line
   op_taken dotted (op.Binary o flags t x y) some h n =
       let all = plain_operands (op.Binary o flags t x y) h refl h.indices in
-      let parts = both (is_int_type t) (are_among flags (binary_flags o)) (shape limits (op.Binary o flags t x y) h) in
+      let parts = and_parts (is_int_type t) (are_among flags (binary_flags o)) (shape limits (op.Binary o flags t x y) h) in
       binary_line o (valued_line (binary_taken limits o flags t x y behind parts.0 parts.1 (first_operand limits (t, x) _ all) (second_operand limits (t, x) (t, y) _ all)))
   op_taken dotted (op.Icmp p flags t x y) some h n =
       let all = plain_operands (op.Icmp p flags t x y) h refl h.indices in
-      let parts = both (is_value_type t) (are_among flags (record no_flags { samesign = true })) (shape limits (op.Icmp p flags t x y) h) in
+      let parts = and_parts (is_value_type t) (are_among flags (record no_flags { samesign = true })) (shape limits (op.Icmp p flags t x y) h) in
       valued_line (compare_taken limits p flags t x y behind parts.0 parts.1 (first_operand limits (t, x) _ all) (second_operand limits (t, x) (t, y) _ all))
   op_taken dotted (op.Cast o flags from x to) some h n =
       let all = plain_operands (op.Cast o flags from x to) h refl h.indices in
-      let parts = both (is_value_type from && is_value_type to) (are_among flags (cast_flags o)) (shape limits (op.Cast o flags from x to) h) in
-      let types = both (is_value_type from) (is_value_type to) parts.0 in
+      let parts = and_parts (is_value_type from && is_value_type to) (are_among flags (cast_flags o)) (shape limits (op.Cast o flags from x to) h) in
+      let types = and_parts (is_value_type from) (is_value_type to) parts.0 in
       cast_line o (valued_line (cast_taken limits o flags from x to behind types.0 types.1 parts.1 (first_operand limits (from, x) _ all)))
   op_taken dotted (op.Select c t x y) some h n =
       let all = plain_operands (op.Select c t x y) h refl h.indices in
@@ -329,14 +330,14 @@ module _ (limits : Limits) (b : Body) (result : Option Name) (marked : Bool) (re
   op_taken dotted (op.Phi t []) some h n = absurd (no_edge t h)
   op_taken dotted (op.Phi t (e ∷ edges)) some h n =
       let o : Op = op.Phi t (e ∷ edges) in
-      let parts = both (is_value_type t) (nat_lt 0 (length (e ∷ edges))) (shape limits o h) in
+      let parts = and_parts (is_value_type t) (nat_lt 0 (length (e ∷ edges))) (shape limits o h) in
       let types = (within_parts (suc limits.depth) (own_types o) (flat_map (λ a. a.0 ∷ operand_types a.1) (operands o)) h.shallow).1 in
-      chain (phi_taken limits t e edges marked rest parts.0 (edges_fit limits t (e ∷ edges) (both (shape_formed o) _ (first_two limits o h)).1 types h.named h.indices (labelled limits o h)) fresh) given
+      chain (phi_taken limits t e edges marked rest parts.0 (edges_fit limits t (e ∷ edges) (and_parts (shape_formed o) _ (first_two limits o h)).1 types h.named h.indices (labelled limits o h)) fresh) given
   op_taken dotted (op.Alloca t u count) some h n =
       let o : Op = op.Alloca t u count in
       let names = few_parts limits.names (type_mentions t) (operand_mentions count) h.named in
       let all = operands_fit limits o h (ap (few_names limits.names) (append-nil (operand_mentions count)) ∙ names.1) h.indices in
-      let parts = both (type_formed t) (is_int_type u) (shape limits o h) in
+      let parts = and_parts (type_formed t) (is_int_type u) (shape limits o h) in
       let type : TypeFits limits (suc limits.depth) t = record { formed = parts.0; shallow = own_type t o h [] refl; named = names.0 } in
       chain (alloca_taken limits t u count marked rest some type parts.1 (first_operand limits (u, count) _ all) fresh) given
   op_taken dotted (op.Load t x) some h n =
@@ -348,18 +349,18 @@ module _ (limits : Limits) (b : Body) (result : Option Name) (marked : Bool) (re
   op_taken dotted (op.Gep t base indices) some h n =
       let o : Op = op.Gep t base indices in
       let names = few_parts limits.names (type_mentions t) (operand_mentions base ++ operands_mentions indices) h.named in
-      let few = both (nat_le (length indices) limits.indices) (list_all (λ a. few_offsets limits.indices a.1) (operands o)) h.indices in
+      let few = and_parts (nat_le (length indices) limits.indices) (list_all (λ a. few_offsets limits.indices a.1) (operands o)) h.indices in
       let all = operands_fit limits o h names.1 few.1 in
-      let parts = both (type_formed t) (list_all (λ i. is_int_type i.0) indices) (shape limits o h) in
+      let parts = and_parts (type_formed t) (list_all (λ i. is_int_type i.0) indices) (shape limits o h) in
       let type : TypeFits limits (suc limits.depth) t = record { formed = parts.0; shallow = own_type t o h [] refl; named = names.0 } in
       chain (step_taken limits t base indices marked rest type all parts.1 (leb-true (length indices) limits.indices few.0) fresh) given
   op_taken dotted (op.Call ret x args) some h n =
       let o : Op = op.Call ret x args in
-      let names = both (is_below limits.names x) (few_names limits.names (operands_mentions args)) h.named in
+      let names = and_parts (is_below limits.names x) (few_names limits.names (operands_mentions args)) h.named in
       let all = operands_fit limits o h names.1 h.indices in
-      let third = both (result_formed ret && is_global_name x && not (name_eq x main_name)) (list_all (λ a. is_value_type a.0) args) (shape limits o h) in
-      let second = both (result_formed ret && is_global_name x) (not (name_eq x main_name)) third.0 in
-      let first = both (result_formed ret) (is_global_name x) second.0 in
+      let third = and_parts (result_formed ret && is_global_name x && not (name_eq x main_name)) (list_all (λ a. is_value_type a.0) args) (shape limits o h) in
+      let second = and_parts (result_formed ret && is_global_name x) (not (name_eq x main_name)) third.0 in
+      let first = and_parts (result_formed ret) (is_global_name x) second.0 in
       chain (as_named ret n (call_taken limits dotted ret x args marked rest first.0 first.1 names.0 second.1 third.1 all (printed_few ret x args h.printed) fresh)) given
   op_taken dotted (op.Br to) some h n = end_taken (jump_taken limits to behind (first_local limits to [] (plain_labels (op.Br to) h refl)))
   op_taken dotted (op.CondBr c to other) some h n =
@@ -371,7 +372,7 @@ module _ (limits : Limits) (b : Body) (result : Option Name) (marked : Bool) (re
       let o : Op = op.Switch (Int w) v other cases in
       let all = plain_operands o h refl h.indices in
       let names = plain_labels o h refl in
-      let parts = both (is_width w) (list_all (λ c. number_formed (Int w) c.0) cases) (shape limits o h) in
+      let parts = and_parts (is_width w) (list_all (λ c. number_formed (Int w) c.0) cases) (shape limits o h) in
       end_taken (switch_taken limits w v other cases behind parts.0 (first_operand limits (Int w, v) _ all) (first_local limits other (map (λ c. c.1) cases) names)
       (cases_fit limits w cases parts.1 (rest_locals limits other (map (λ c. c.1) cases) names)))
   op_taken dotted (op.Switch Ptr v other cases) some h n = absurd (no_switch Ptr v other cases refl h)

@@ -6,12 +6,12 @@ use Rattle.std.proofs.lemmas.Bool.{and_from}
 use Rattle.ms_ir.specs.declared.syntax.Ty.{Ty, Int}
 use Rattle.ms_ir.specs.declared.syntax.Operand.{Operand}
 use Rattle.ms_ir.specs.declared.syntax.Op.{Op}
-use Rattle.ms_ir.specs.Code.{operands, is_phi}
+use Rattle.ms_ir.specs.Instructions.{operands, is_phi}
 use Rattle.ms_ir.specs.declared.forms.Form.{Form}
-use Rattle.ms_grammar.specs.Names.{local}
-use Rattle.ms_grammar.specs.Types.{int_type, value_type, result_type as result_rule, type_to, max_depth}
-use Rattle.ms_grammar.specs.Values.{number, value}
-use Rattle.ms_grammar.specs.Bodies.{is_void_call}
+use Rattle.ms_text_grammar.specs.Names.{local}
+use Rattle.ms_text_grammar.specs.Types.{int_type, value_type, result_type as result_rule, type_to, max_depth}
+use Rattle.ms_text_grammar.specs.Values.{number, value}
+use Rattle.ms_text_grammar.specs.Bodies.{is_void_call}
 use Rattle.ms_valid.specs.FormedNames.{is_local_name}
 use Rattle.ms_valid.specs.FormedCode.{is_width, is_value_type, type_formed, result_formed, number_formed, operand_formed, shape_formed, op_formed, is_terminator}
 use Rattle.ms_ir.specs.Written.{labels, result_type}

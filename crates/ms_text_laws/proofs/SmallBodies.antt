@@ -12,20 +12,20 @@ use Rattle.ms_ir.specs.declared.syntax.Name.TheVariants as name
 use Rattle.ms_ir.specs.declared.syntax.Op.{Op}
 use Rattle.ms_ir.specs.declared.syntax.Op.TheVariants as op
 use Rattle.ms_ir.specs.declared.forms.Form.{Form}
-use Rattle.ms_grammar.specs.declared.states.Body.{Body}
-use Rattle.ms_grammar.specs.declared.symbols.Symbol.{Symbol}
-use Rattle.ms_grammar.specs.declared.symbols.Symbol.TheVariants as s
-use Rattle.ms_grammar.specs.Lexemes.{Lexeme, name_in}
-use Rattle.ms_grammar.specs.Steps.{Rule, Verdict, binary_op, cast_op}
-use Rattle.ms_grammar.specs.Names.{reserved_local, name_fits}
-use Rattle.ms_grammar.specs.Insts.{Marked, binary_rule, compare_rule, cast_rule, select_rule, freeze_rule, load_rule, store_rule, step_rule, alloca_rule, branch_rule, switch_rule, ret_rule}
-use Rattle.ms_grammar.specs.Bodies.{is_open, opened, opened_as, opened_by, name_or, numbers_left, line_begins, line_begins_by, with_value, with_effect, with_end, is_void_call}
-use Rattle.ms_grammar.specs.Lines.{value_line, marked_line, phi_line, call_line, effect_line, end_line, instruction_by, operation_by, instruction, named_line, record_line, line_by, line, is_whole, blocks}
+use Rattle.ms_text_grammar.specs.declared.states.Body.{Body}
+use Rattle.ms_text_grammar.specs.declared.symbols.Symbol.{Symbol}
+use Rattle.ms_text_grammar.specs.declared.symbols.Symbol.TheVariants as s
+use Rattle.ms_text_grammar.specs.Lexemes.{Lexeme, name_in}
+use Rattle.ms_text_grammar.specs.Steps.{Rule, Verdict, binary_op, cast_op}
+use Rattle.ms_text_grammar.specs.Names.{reserved_local, name_fits}
+use Rattle.ms_text_grammar.specs.Insts.{Marked, binary_rule, compare_rule, cast_rule, select_rule, freeze_rule, load_rule, store_rule, gep_rule, alloca_rule, branch_rule, switch_rule, ret_rule}
+use Rattle.ms_text_grammar.specs.Bodies.{is_open, opened, opened_as, opened_by, name_or, numbers_left, line_begins, line_begins_by, with_value, with_effect, with_end, is_void_call}
+use Rattle.ms_text_grammar.specs.Lines.{value_line, marked_line, phi_line, call_line, effect_line, end_line, instruction_by, operation_by, instruction, named_line, record_line, line_by, line, is_whole, blocks}
 use Rattle.ms_text_laws.proofs.Sound.{all_pushed, if_good, if_else}
 use Rattle.ms_text_laws.proofs.Brings.{Brings, given, chained, behind, either, refused, looped}
 use Rattle.ms_text_laws.proofs.SmallNames.{is_small_name, number_small, local_small}
 use Rattle.ms_text_laws.proofs.SmallOps.{HasSmallParts, is_small_op, op_is_small}
-use Rattle.ms_text_laws.proofs.SmallRules.{may_have, IsSmallMarked, suffixed, binary_read, compare_read, cast_read, select_read, freeze_read, load_read, store_read, step_read, alloca_read, call_read, phi_read, branch_read, switch_read, ret_read, unreachable_read}
+use Rattle.ms_text_laws.proofs.SmallRules.{may_have, IsSmallMarked, suffixed, binary_read, compare_read, cast_read, select_read, freeze_read, load_read, store_read, gep_read, alloca_read, call_read, phi_read, branch_read, switch_read, ret_read, unreachable_read}
 
 -- a name, if there is one
 abbrev pub is_small_result : Form → Option Name → Bool
@@ -114,7 +114,7 @@ module _ (form : Form) (a : Body) (k : Kept form a) where
   by_word result s.Alloca n = marked_line_read result (alloca_rule form) n (alloca_read form)
   by_word result s.Load n = value_line_read result (load_rule form) n (load_read form)
   by_word result s.Store n = effect_line_read (store_rule form) (store_read form)
-  by_word result s.GetElementPtr n = marked_line_read result (step_rule form) n (step_read form)
+  by_word result s.GetElementPtr n = marked_line_read result (gep_rule form) n (gep_read form)
   by_word result s.Tail n = call_line_read result s.Tail n
   by_word result s.MustTail n = call_line_read result s.MustTail n
   by_word result s.NoTail n = call_line_read result s.NoTail n

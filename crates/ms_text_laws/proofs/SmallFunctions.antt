@@ -11,14 +11,14 @@ use Rattle.ms_ir.specs.declared.syntax.Ty.{Ty}
 use Rattle.ms_ir.specs.declared.syntax.Func.{Func}
 use Rattle.ms_ir.specs.declared.syntax.Decl.{Decl}
 use Rattle.ms_ir.specs.declared.forms.Form.{Form}
-use Rattle.ms_grammar.specs.declared.refusals.Limit.TheVariants as limit
-use Rattle.ms_grammar.specs.declared.states.Parameters.{Parameters}
-use Rattle.ms_grammar.specs.declared.symbols.Symbol.{Symbol}
-use Rattle.ms_grammar.specs.declared.symbols.Symbol.TheVariants as s
-use Rattle.ms_grammar.specs.Lexemes.{name_in}
-use Rattle.ms_grammar.specs.Types.{value_type_of}
-use Rattle.ms_grammar.specs.Insts.{max_parameters, names_printf}
-use Rattle.ms_grammar.specs.Functions.{no_parameters, has_room, parameter_name_by, parameter_name, typed_parameter, parameter, parameters, declaration, body_behind, function}
+use Rattle.ms_text_grammar.specs.declared.refusals.Limit.TheVariants as limit
+use Rattle.ms_text_grammar.specs.declared.states.Parameters.{Parameters}
+use Rattle.ms_text_grammar.specs.declared.symbols.Symbol.{Symbol}
+use Rattle.ms_text_grammar.specs.declared.symbols.Symbol.TheVariants as s
+use Rattle.ms_text_grammar.specs.Lexemes.{name_in}
+use Rattle.ms_text_grammar.specs.Types.{value_type_of}
+use Rattle.ms_text_grammar.specs.Insts.{max_parameters, names_printf}
+use Rattle.ms_text_grammar.specs.Functions.{no_parameters, has_room, parameter_name_by, parameter_name, typed_parameter, parameter, parameters, declaration, body_behind, function}
 use Rattle.ms_text_laws.proofs.Sound.{all_pushed, same_value, if_good, if_within}
 use Rattle.ms_text_laws.proofs.Brings.{Brings, given, judged, chained, behind, either, listed_brings}
 use Rattle.ms_text_laws.proofs.SmallNames.{is_small_name, number_small, local_name_small, global_read}

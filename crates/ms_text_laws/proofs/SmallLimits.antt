@@ -13,15 +13,15 @@ use Rattle.ms_ir.specs.declared.syntax.Decl.{Decl}
 use Rattle.ms_ir.specs.declared.syntax.GlobalVar.{GlobalVar}
 use Rattle.ms_ir.specs.declared.syntax.Module.{Module}
 use Rattle.ms_ir.specs.Names.{is_reserved}
-use Rattle.ms_ir.specs.Code.{blocks_at, insts_at, HeadUnmarked, NoMarks}
+use Rattle.ms_ir.specs.Instructions.{blocks_at, insts_at, HeadUnmarked, NoMarks}
 use Rattle.ms_ir.specs.Written.{Mention, type_mentions, init_mentions, mentions, op_types}
 use Rattle.ms_ir.specs.Locals.{results, block_locals, parameter_names, locals, func_insts, global_names, declared_names, function_names, symbols, type_names}
 use Rattle.ms_ir.specs.declared.forms.Form.{Form}
 use Rattle.ms_ir.specs.declared.forms.Form.TheVariants.{Plain, Instrumented}
-use Rattle.ms_grammar.specs.Bodies.{max_instructions}
-use Rattle.ms_grammar.specs.Bounds.{WithinLimits}
-use Rattle.ms_grammar.specs.Texts.{Reads, max_tokens}
-use Rattle.ms_grammar.proofs.Bounds.{module_within}
+use Rattle.ms_text_grammar.specs.Bodies.{max_instructions}
+use Rattle.ms_text_grammar.specs.Bounds.{WithinLimits}
+use Rattle.ms_text_grammar.specs.Texts.{Reads, max_tokens}
+use Rattle.ms_text_grammar.proofs.Bounds.{module_within}
 use Rattle.ms_valid.specs.NamesKnown.{global_mentions}
 use Rattle.ms_valid.specs.ReadLimits.{mentioned, type_depth, init_depth, is_short, is_shallow_global, are_shallow, few_indices, few_init_indices, func_names, module_names, ReadLimits}
 use Rattle.ms_valid.specs.Uninstrumented.{names_are_free, IsUninstrumented, CanInstrument}

@@ -13,14 +13,14 @@ use Rattle.ms_ir.specs.declared.syntax.Decl.{Decl}
 use Rattle.ms_ir.specs.declared.syntax.GlobalVar.{GlobalVar}
 use Rattle.ms_ir.specs.declared.syntax.Module.{Module}
 use Rattle.ms_ir.specs.declared.forms.Form.{Form}
-use Rattle.ms_grammar.specs.declared.states.Parts.{Parts}
-use Rattle.ms_grammar.specs.declared.symbols.Symbol.{Symbol}
-use Rattle.ms_grammar.specs.declared.symbols.Symbol.TheVariants as s
-use Rattle.ms_grammar.specs.Lexemes.{Lexeme, name_in, lexemes_of}
-use Rattle.ms_grammar.specs.Steps.{judge_map}
-use Rattle.ms_grammar.specs.Names.{local_by, reserved_global, name_fits}
-use Rattle.ms_grammar.specs.Modules.{named_type, global_variable, max_globals, entity_begins, entity_begins_by, entity, entity_by, with_type, with_global, with_declaration, with_function, module_rule}
-use Rattle.ms_grammar.specs.Texts.{Reads}
+use Rattle.ms_text_grammar.specs.declared.states.Parts.{Parts}
+use Rattle.ms_text_grammar.specs.declared.symbols.Symbol.{Symbol}
+use Rattle.ms_text_grammar.specs.declared.symbols.Symbol.TheVariants as s
+use Rattle.ms_text_grammar.specs.Lexemes.{Lexeme, name_in, lexemes_of}
+use Rattle.ms_text_grammar.specs.Steps.{judge_map}
+use Rattle.ms_text_grammar.specs.Names.{local_by, reserved_global, name_fits}
+use Rattle.ms_text_grammar.specs.Modules.{named_type, global_variable, max_globals, entity_begins, entity_begins_by, entity, entity_by, with_type, with_global, with_declaration, with_function, module_rule}
+use Rattle.ms_text_grammar.specs.Texts.{Reads}
 use Rattle.ms_text_laws.proofs.Sound.{all_pushed, if_good, if_else, if_mapped}
 use Rattle.ms_text_laws.proofs.Brings.{Brings, given, chained, behind, looped}
 use Rattle.ms_text_laws.proofs.FormedFunctions.{text_named}

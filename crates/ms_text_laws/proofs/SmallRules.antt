@@ -15,16 +15,16 @@ use Rattle.ms_ir.specs.declared.syntax.Op.{Op}
 use Rattle.ms_ir.specs.declared.syntax.Op.TheVariants as op
 use Rattle.ms_ir.specs.declared.forms.Form.{Form}
 use Rattle.ms_ir.specs.declared.forms.Form.TheVariants.{Plain, Instrumented}
-use Rattle.ms_grammar.specs.declared.refusals.Limit.TheVariants as limit
-use Rattle.ms_grammar.specs.declared.symbols.Symbol.{Symbol}
-use Rattle.ms_grammar.specs.declared.symbols.Symbol.TheVariants as s
-use Rattle.ms_grammar.specs.Lexemes.{Lexeme, name_in}
-use Rattle.ms_grammar.specs.Steps.{Rule}
-use Rattle.ms_grammar.specs.Names.{global_name}
-use Rattle.ms_grammar.specs.Types.{int_type_of, value_type_of}
-use Rattle.ms_grammar.specs.Values.{max_indices, value}
-use Rattle.ms_grammar.specs.Skipped.{kind_by, attached_rest, attached, suffix_by, suffix, suffixes, suffixes_from}
-use Rattle.ms_grammar.specs.Insts.{Marked, with_suffixes, binary_rule, compare_rule, cast_rule, select_rule, freeze_rule, address, load_rule, store_rule, index_by, index_turn, step_rule, alloca_of, alloca_rule, call_type, is_printf, callee_by, callee, names_printf, max_parameters, argument, arguments, call_end, call_rule, edge, edge_by, edge_turn, phi_rule, target, branch_on, branch_rule, case_rest, switch_rule, ret_value, ret_rule}
+use Rattle.ms_text_grammar.specs.declared.refusals.Limit.TheVariants as limit
+use Rattle.ms_text_grammar.specs.declared.symbols.Symbol.{Symbol}
+use Rattle.ms_text_grammar.specs.declared.symbols.Symbol.TheVariants as s
+use Rattle.ms_text_grammar.specs.Lexemes.{Lexeme, name_in}
+use Rattle.ms_text_grammar.specs.Steps.{Rule}
+use Rattle.ms_text_grammar.specs.Names.{global_name}
+use Rattle.ms_text_grammar.specs.Types.{int_type_of, value_type_of}
+use Rattle.ms_text_grammar.specs.Values.{max_indices, value}
+use Rattle.ms_text_grammar.specs.Skipped.{kind_by, attached_rest, attached, suffix_by, suffix, suffixes, suffixes_from}
+use Rattle.ms_text_grammar.specs.Insts.{Marked, with_suffixes, binary_rule, compare_rule, cast_rule, select_rule, freeze_rule, address, load_rule, store_rule, index_by, index_turn, gep_rule, alloca_of, alloca_rule, call_type, is_printf, callee_by, callee, names_printf, max_parameters, argument, arguments, call_end, call_rule, edge, edge_by, edge_turn, phi_rule, target, branch_on, branch_rule, case_rest, switch_rule, ret_value, ret_rule}
 use Rattle.ms_text_laws.proofs.Sound.{all_pushed, no_value, same_value, if_else, if_within}
 use Rattle.ms_text_laws.proofs.Yields.{mapped_more}
 use Rattle.ms_text_laws.proofs.Brings.{Brings, given, judged, chained, behind, either, looped, listed_brings}
@@ -189,9 +189,9 @@ module _ (form : Form) where
   unfolding index_turn
   index_read found h = behind (λ x. index_by_read found x h)
 
-  pub step_read : Brings (step_rule form) IsSmallMarked
-  unfolding step_rule
-  step_read =
+  pub gep_read : Brings (gep_rule form) IsSmallMarked
+  unfolding gep_rule
+  gep_read =
       behind (λ words. chained (type_read form 32) (λ t w. chained address_read (λ base p.
       chained {P = λ i. FewIndices i.found} (looped (refl, refl) (λ indices comma h e. index_read indices.found h)) (λ indices h. chained (all_suffixes_read indices.ended) (λ marked k.
       given (record { own = one_type t w; parts = pair_more Ptr base indices.found (ptr_small form 32) p h.0; names = refl; counts = h.1 }, k))))))

@@ -8,13 +8,13 @@ use Rattle.ms_ir.specs.declared.syntax.Ty.{Ty, Int, Ptr, Array, Struct, Named, R
 use Rattle.ms_ir.specs.declared.syntax.Ty.TheBlock.{hidden-the_row-Ty-0, hidden-the_row-Ty-1, shape-the_row-Ty-0}
 use Rattle.ms_ir.specs.Written.{type_mentions}
 use Rattle.ms_ir.specs.declared.forms.Form.{Form}
-use Rattle.ms_grammar.specs.declared.refusals.Limit.TheVariants as limit
-use Rattle.ms_grammar.specs.declared.refusals.Refusal.TheVariants as r
-use Rattle.ms_grammar.specs.declared.symbols.Symbol.{Symbol}
-use Rattle.ms_grammar.specs.declared.symbols.Symbol.TheVariants as s
-use Rattle.ms_grammar.specs.Lexemes.{Lexeme, width_in}
-use Rattle.ms_grammar.specs.Steps.{Rule}
-use Rattle.ms_grammar.specs.Types.{value_type_by, value_type_of, value_type, result_type_by, result_type, flat, array_rest, struct_rest, packed_rest, nested, opens, type_to, struct_by, struct_type}
+use Rattle.ms_text_grammar.specs.declared.refusals.Limit.TheVariants as limit
+use Rattle.ms_text_grammar.specs.declared.refusals.Cause.TheVariants as r
+use Rattle.ms_text_grammar.specs.declared.symbols.Symbol.{Symbol}
+use Rattle.ms_text_grammar.specs.declared.symbols.Symbol.TheVariants as s
+use Rattle.ms_text_grammar.specs.Lexemes.{Lexeme, width_in}
+use Rattle.ms_text_grammar.specs.Steps.{Rule}
+use Rattle.ms_text_grammar.specs.Types.{value_type_by, value_type_of, value_type, result_type_by, result_type, flat, array_rest, struct_rest, packed_rest, nested, opens, type_to, struct_by, struct_type}
 use Rattle.ms_valid.specs.ReadLimits.{type_depth, row_depth, mentioned}
 use Rattle.ms_valid.proofs.TypeShapes.{type_mentions-array, type_mentions-struct}
 use Rattle.ms_text_laws.proofs.Sound.{no_value, same_value}

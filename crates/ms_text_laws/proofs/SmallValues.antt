@@ -12,22 +12,22 @@ use Rattle.ms_ir.specs.declared.syntax.Operand.TheVariants as operand
 use Rattle.ms_ir.specs.declared.syntax.Init.{Init, Row_of-Init-Array-0-2, end_of-Init-Array-0-2, more_of-Init-Array-0-2, items-the_row-Init-Array-0-2, items_hidden-the_row-Init-Array-0-2-0}
 use Rattle.ms_ir.specs.declared.syntax.Init as initial
 use Rattle.ms_ir.specs.declared.syntax.Init.TheBlock.{hidden-the_row-Init-Array-0-2-0}
-use Rattle.ms_ir.specs.Equal.{Step}
+use Rattle.ms_ir.specs.Equal.{AddressStep}
 use Rattle.ms_ir.specs.Written.{OfGlobal, type_mentions, operand_mentions, operand_types, init_mentions}
 use Rattle.ms_ir.specs.declared.forms.Form.{Form}
-use Rattle.ms_grammar.specs.declared.refusals.Limit.TheVariants as limit
-use Rattle.ms_grammar.specs.declared.refusals.Refusal.{Refusal}
-use Rattle.ms_grammar.specs.declared.refusals.Refusal.TheVariants as r
-use Rattle.ms_grammar.specs.declared.symbols.Symbol.{Symbol}
-use Rattle.ms_grammar.specs.declared.symbols.Symbol.TheVariants as s
-use Rattle.ms_grammar.specs.Lexemes.{Lexeme, name_in}
-use Rattle.ms_grammar.specs.Steps.{Rule, skip, stop}
-use Rattle.ms_grammar.specs.Names.{local_by, global_by}
-use Rattle.ms_grammar.specs.Types.{int_width, is_ptr, int_type_of, type_to, opens}
-use Rattle.ms_grammar.specs.Values.{number_by, max_indices, constant_index, constant_indices, Address, step_from, base_by, base_to, max_within, offset, is_int_width, int_value, local_value, simple_by, simple_value, value_by, value_within, flat_init, typed, array_init, struct_init, packed_init, nested_init, init_to}
+use Rattle.ms_text_grammar.specs.declared.refusals.Limit.TheVariants as limit
+use Rattle.ms_text_grammar.specs.declared.refusals.Cause.{Cause}
+use Rattle.ms_text_grammar.specs.declared.refusals.Cause.TheVariants as r
+use Rattle.ms_text_grammar.specs.declared.symbols.Symbol.{Symbol}
+use Rattle.ms_text_grammar.specs.declared.symbols.Symbol.TheVariants as s
+use Rattle.ms_text_grammar.specs.Lexemes.{Lexeme, name_in}
+use Rattle.ms_text_grammar.specs.Steps.{Rule, skip, stop}
+use Rattle.ms_text_grammar.specs.Names.{local_by, global_by}
+use Rattle.ms_text_grammar.specs.Types.{int_width, is_ptr, int_type_of, type_to, opens}
+use Rattle.ms_text_grammar.specs.Values.{number_by, max_indices, constant_index, constant_indices, Address, gep_from, base_by, base_to, max_within, offset, is_int_width, int_value, local_value, simple_by, simple_value, value_by, value_within, flat_init, typed, array_init, struct_init, packed_init, nested_init, init_to}
+use Rattle.ms_text_grammar.proofs.Bounds.{length_more}
 use Rattle.ms_valid.specs.ReadLimits.{mentioned, type_depth, steps_depth, init_depth, items_depth, few_constant_indices, few_init_indices, few_items_indices}
 use Rattle.ms_valid.proofs.TypeShapes.{init_mentions-array, init_mentions-struct}
-use Rattle.ms_text_laws.proofs.CountedTurns.{length_more}
 use Rattle.ms_text_laws.proofs.Sound.{all_pushed, no_value, same_value, if_good, if_mapped, if_within}
 use Rattle.ms_text_laws.proofs.Brings.{Brings, given, judged, chained, behind, either, stopped, looped, items_bring}
 use Rattle.ms_text_laws.proofs.SmallNames.{is_small_name, small_mentions, all_joined, all_so, all_among, all_mapped, local_by_small, global_by_small, global_read}
@@ -70,7 +70,7 @@ indices_read depth = looped (refl, refl) (λ found comma h e. index_read depth f
 -- ---- steps
 
 -- a step of a small type, and few indices
-abbrev is_small_step : Form → ℕ → Step → Bool
+abbrev is_small_step : Form → ℕ → AddressStep → Bool
 is_small_step form depth s = is_small_type form depth s.0 && nat_le (length s.1) 64 && list_all (λ i. nat_le (type_depth i.0) depth) s.1
 
 -- a small name, and so many small steps at most
@@ -78,7 +78,7 @@ abbrev IsSmallAddress : Form → ℕ → ℕ → Address → Type 0
 IsSmallAddress form depth most a = (is_small_name form a.0 ≡ true) × (length a.1 ≤ most) × (list_all (is_small_step form depth) a.1 ≡ true)
 
 module _ (form : Form) (depth : ℕ) where
-  step_parts : (s : Step) → is_small_step form depth s ≡ true
+  step_parts : (s : AddressStep) → is_small_step form depth s ≡ true
       → (is_small_type form depth s.0 ≡ true) × (nat_le (length s.1) 64 ≡ true) × (list_all (λ i. nat_le (type_depth i.0) depth) s.1 ≡ true)
   step_parts s h =
       let all = and_parts (is_small_type form depth s.0 && nat_le (length s.1) 64) (list_all (λ i. nat_le (type_depth i.0) depth) s.1) h in
@@ -90,7 +90,7 @@ module _ (form : Form) (depth : ℕ) where
       and_from (is_small_type form depth t && nat_le (length indices) 64) (list_all (λ i. nat_le (type_depth i.0) depth) indices)
       (and_from (is_small_type form depth t) (nat_le (length indices) 64) w h.0) h.1
 
-  step_shallow : (s : Step) → is_small_step form depth s ≡ true → are_shallow_types depth (s.0 ∷ map (λ i. i.0) s.1) ≡ true
+  step_shallow : (s : AddressStep) → is_small_step form depth s ≡ true → are_shallow_types depth (s.0 ∷ map (λ i. i.0) s.1) ≡ true
   step_shallow s h =
       let parts = step_parts s h in
       and_from (nat_le (type_depth s.0) depth) (are_shallow_types depth (map (λ i. i.0) s.1)) (small_parts form depth s.0 parts.0).0
@@ -110,9 +110,9 @@ module _ (form : Form) (depth : ℕ) where
       (and_from (small_mentions form (types ++ OfGlobal a.0 ∷ [])) (few && fewer) names counts)
       (all_among (is_small_step form depth) (λ t. nat_le (type_depth t) depth) (λ s. s.0 ∷ map (λ i. i.0) s.1) step_shallow steps h.2)
 
-  step_read : (most : ℕ) (base : Rule Address) → Brings base (IsSmallAddress form depth most) → Brings (step_from form depth base) (IsSmallAddress form depth (suc most))
-  unfolding step_from
-  step_read most base p =
+  gep_read : (most : ℕ) (base : Rule Address) → Brings base (IsSmallAddress form depth most) → Brings (gep_from form depth base) (IsSmallAddress form depth (suc most))
+  unfolding gep_from
+  gep_read most base p =
       behind (λ words. behind (λ paren. chained (type_read form depth) (λ t w. behind (λ comma. behind (λ pointer. chained p (λ a g.
       chained (indices_read depth) (λ indices h. behind (λ close. given (around a t indices g w h)))))))))
     where
@@ -130,11 +130,11 @@ module _ (form : Form) (depth : ℕ) where
   unfolding base_to
   base_read zero = behind (λ x. base_by_read zero (stop (r.Limit limit.Indices)) (stopped (r.Limit limit.Indices)) x)
   base_read (suc within) =
-      behind (λ x. base_by_read (suc within) (skip >> step_from form depth (base_to form depth within)) (behind (λ taken. step_read within (base_to form depth within) (base_read within))) x)
+      behind (λ x. base_by_read (suc within) (skip >> gep_from form depth (base_to form depth within)) (behind (λ taken. gep_read within (base_to form depth within) (base_read within))) x)
 
   offset_read : Brings (offset form depth) (λ o. is_small_operand form depth o ≡ true)
   unfolding offset
-  offset_read = chained (step_read max_within (base_to form depth max_within) (base_read max_within)) (λ a h. given (steps_small a h))
+  offset_read = chained (gep_read max_within (base_to form depth max_within) (base_read max_within)) (λ a h. given (steps_small a h))
 
 -- ---- values of one token
 
@@ -151,7 +151,7 @@ module _ (form : Form) (depth : ℕ) where
   int_read None t v h = no_value _ v h
   int_read (Some width) t v h = subst IsSmall (if_mapped operand.Int (number_by width t) v (if_good (is_int_width width) _ _ v h).1).2 refl
 
-  tested_read : (b : Bool) (a v : Operand) (e : Refusal) → IsSmall a → cond b (Ok a) (Err e) ≡ Ok v → IsSmall v
+  tested_read : (b : Bool) (a v : Operand) (e : Cause) → IsSmall a → cond b (Ok a) (Err e) ≡ Ok v → IsSmall v
   tested_read b a v e p h = subst IsSmall (same_value a v (if_good b (Ok a) e v h).1) p
 
   local_value_read : (locals : Bool) (t : Lexeme) (v : Operand) → local_value form locals t ≡ Ok v → IsSmall v
@@ -267,7 +267,7 @@ module _ (form : Form) (depth : ℕ) where
       let same : init_depth (initial.Struct packed xs) ≡ suc (deepest_item xs) = ap suc (listed_depth xs) in
       init_from (suc depth) (initial.Struct packed xs) (omega (arith, deep, same)) (listed_few xs ∙ items_few xs h) (ap (small_mentions form) (init_mentions-struct packed xs) ∙ items_named xs h)
 
-  steps_within : (steps : List Step) → are_shallow_types depth (flat_map (λ s. s.0 ∷ map (λ i. i.0) s.1) steps) ≡ true → steps_depth steps ≤ depth
+  steps_within : (steps : List AddressStep) → are_shallow_types depth (flat_map (λ s. s.0 ∷ map (λ i. i.0) s.1) steps) ≡ true → steps_depth steps ≤ depth
   steps_within [] h = omega arith
   steps_within (s ∷ inner) h =
       let others = flat_map (λ i. i.0 ∷ map (λ j. j.0) i.1) inner in

@@ -14,14 +14,14 @@ use Rattle.ms_lex.specs.Names.{spelling_of, name_part, is_backslash, unescaped, 
 use Rattle.ms_lex.specs.Numbers.{decimal}
 use Rattle.ms_lex.specs.Grammar.{head, Turns, give, loop, ◌>>=◌, ◌>>◌}
 use Rattle.ms_ir.specs.declared.forms.Form.{Form}
-use Rattle.ms_grammar.specs.declared.refusals.Limit.{Limit}
-use Rattle.ms_grammar.specs.declared.refusals.Refusal.{Refusal}
-use Rattle.ms_grammar.specs.declared.symbols.Symbol.{Symbol}
-use Rattle.ms_grammar.specs.declared.symbols.Symbol.TheVariants as s
-use Rattle.ms_grammar.specs.Lexemes.{Lexeme, Row, keywords, punctuation_symbols, symbol_in, int_symbol, type_or_plain, word_symbol, symbol_of, end_of_text, lexeme_of, lexemes_of, name_in, width_in, same_symbol, is}
-use Rattle.ms_grammar.specs.Steps.{Rule, Verdict, within, judge_map, skip, sees, word, comma_begins, listed, with_item, items}
-use Rattle.ms_grammar.specs.Texts.{HasTokens, ReadsUpTo}
-use Rattle.ms_grammar.proofs.Rests.{reads_keep}
+use Rattle.ms_text_grammar.specs.declared.refusals.Limit.{Limit}
+use Rattle.ms_text_grammar.specs.declared.refusals.Cause.{Cause}
+use Rattle.ms_text_grammar.specs.declared.symbols.Symbol.{Symbol}
+use Rattle.ms_text_grammar.specs.declared.symbols.Symbol.TheVariants as s
+use Rattle.ms_text_grammar.specs.Lexemes.{Lexeme, Row, keywords, punctuation_symbols, symbol_in, int_symbol, type_or_plain, word_symbol, symbol_of, end_of_text, lexeme_of, lexemes_of, name_in, width_in, same_symbol, is}
+use Rattle.ms_text_grammar.specs.Steps.{Rule, Verdict, within, judge_map, skip, sees, word, comma_begins, listed, with_item, items}
+use Rattle.ms_text_grammar.specs.Texts.{HasTokens, ReadsUpTo}
+use Rattle.ms_text_grammar.proofs.Rests.{reads_keep}
 use Rattle.ms_valid.specs.FormedNames.{are_bytes}
 use Rattle.ms_valid.specs.FormedCode.{is_width}
 
@@ -247,18 +247,18 @@ items_pass closing item test each ts v rest all h =
 
 -- ---- verdicts
 
-pub no_value : {A P : Type 0} (e : Refusal) (a : A) → ◌≡◌ {A = Verdict A} (Err e) (Ok a) → P
+pub no_value : {A P : Type 0} (e : Cause) (a : A) → ◌≡◌ {A = Verdict A} (Err e) (Ok a) → P
 no_value e a h = absurd cc
 
 pub same_value : {A : Type 0} (a b : A) → ◌≡◌ {A = Verdict A} (Ok a) (Ok b) → a ≡ b
 same_value a b h = cc
 
 -- a test that must pass, and one that must not
-pub if_good : {A : Type 0} (b : Bool) (v : Verdict A) (e : Refusal) (a : A) → cond b v (Err e) ≡ Ok a → (b ≡ true) × (v ≡ Ok a)
+pub if_good : {A : Type 0} (b : Bool) (v : Verdict A) (e : Cause) (a : A) → cond b v (Err e) ≡ Ok a → (b ≡ true) × (v ≡ Ok a)
 if_good true v e a h = (refl, h)
 if_good false v e a h = no_value e a h
 
-pub if_else : {A : Type 0} (b : Bool) (e : Refusal) (v : Verdict A) (a : A) → cond b (Err e) v ≡ Ok a → (b ≡ false) × (v ≡ Ok a)
+pub if_else : {A : Type 0} (b : Bool) (e : Cause) (v : Verdict A) (a : A) → cond b (Err e) v ≡ Ok a → (b ≡ false) × (v ≡ Ok a)
 if_else true e v a h = no_value e a h
 if_else false e v a h = (refl, h)
 

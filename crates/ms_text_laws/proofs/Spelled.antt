@@ -5,7 +5,7 @@ use Rattle.std.specs.List.{list_all}
 use Rattle.std.specs.Char.{is_ascii_digit}
 use Rattle.std.specs.Str.{bytes_eq}
 use Rattle.std.proofs.lemmas.List.{take_at}
-use Rattle.std.proofs.lemmas.Bool.{ltb-true, lt-ltb, and_right}
+use Rattle.std.proofs.lemmas.Bool.{ltb-true, lt-ltb, and_right, and_parts}
 use Rattle.std.proofs.lemmas.Bool.Decides.{eqb_tells}
 use Rattle.ms_lex.specs.Tokens.{Text, is_digits, is_quote}
 use Rattle.ms_lex.specs.Names.{decoded}
@@ -14,22 +14,19 @@ use Rattle.ms_ir.specs.declared.syntax.Name.{Name}
 use Rattle.ms_ir.specs.declared.syntax.Name.TheVariants.{Number, Text as Called}
 use Rattle.ms_ir.specs.Names.{lookup, runtime_functions, slots}
 use Rattle.ms_ir.specs.declared.forms.Form.TheVariants.{Instrumented}
-use Rattle.ms_grammar.specs.declared.refusals.Refusal.TheVariants as r
-use Rattle.ms_grammar.specs.declared.symbols.Symbol.{Symbol}
-use Rattle.ms_grammar.specs.declared.symbols.Symbol.TheVariants as s
-use Rattle.ms_grammar.specs.Lexemes.{Lexeme, Row, keywords, symbol_in, type_or_plain, int_symbol, word_symbol, symbol_of, name_in, width_in}
-use Rattle.ms_grammar.specs.Names.{begins_msan, is_inserted, reserved_local, reserved_global, number_name}
+use Rattle.ms_text_grammar.specs.declared.refusals.Cause.TheVariants as r
+use Rattle.ms_text_grammar.specs.declared.symbols.Symbol.{Symbol}
+use Rattle.ms_text_grammar.specs.declared.symbols.Symbol.TheVariants as s
+use Rattle.ms_text_grammar.specs.Lexemes.{Lexeme, Row, keywords, symbol_in, type_or_plain, int_symbol, word_symbol, symbol_of, name_in, width_in}
+use Rattle.ms_text_grammar.specs.Names.{begins_msan, is_inserted, reserved_local, reserved_global, number_name}
 use Rattle.ms_valid.specs.FormedNames.{are_bytes, is_local_name, is_global_name}
-use Rattle.ms_written.specs.Pieces.{word}
-use Rattle.ms_written.specs.Names.{quoted, is_plain, name_text, local_token, global_token, label_token}
-use Rattle.ms_written.proofs.WholeNames.{decimal_digits, decimal_some}
-use Rattle.ms_written.proofs.SpelledBack.{name_back}
+use Rattle.ms_text_layout.specs.Pieces.{word}
+use Rattle.ms_text_layout.specs.Names.{quoted, is_plain, name_text, local_token, global_token, label_token}
+use Rattle.ms_text_layout.proofs.WholeNames.{decimal_digits, decimal_some}
+use Rattle.ms_text_layout.proofs.SpelledBack.{name_back}
+use Rattle.ms_text_layout.proofs.WholeKinds.{not_true}
 use Rattle.ms_text_laws.proofs.Limited.{Limits, local_name, global_name, local_by, global_by}
 use Rattle.ms_text_laws.proofs.Numbers.{decimal_back}
-
-pub both : (a b : Bool) → (a && b) ≡ true → (a ≡ true) × (b ≡ true)
-both true b h = (refl, h)
-both false b h = absurd cc
 
 -- ---- digits
 
@@ -44,16 +41,12 @@ no_quote b h = elim (eqb_tells b 34) [
 
 digits_decoded : (w : Text) → list_all is_ascii_digit w ≡ true → decoded w ≡ w
 digits_decoded [] h = refl
-digits_decoded (b ∷ w) h = rw (no_quote b (both (is_ascii_digit b) (list_all is_ascii_digit w) h).0) refl
-
-not_digit : (d : Bool) → not d ≡ true → d ≡ false
-not_digit true h = absurd cc
-not_digit false h = refl
+digits_decoded (b ∷ w) h = rw (no_quote b (and_parts (is_ascii_digit b) (list_all is_ascii_digit w) h).0) refl
 
 plain_no_digits : (x : Text) → is_plain x ≡ true → is_digits x ≡ false
 plain_no_digits [] p = refl
 plain_no_digits (b ∷ w) p =
-    let first : is_ascii_digit b ≡ false = not_digit (is_ascii_digit b) (both (not (is_ascii_digit b)) _ p).0 in
+    let first : is_ascii_digit b ≡ false = not_true (is_ascii_digit b) (and_parts (not (is_ascii_digit b)) _ p).0 in
     and_right (nat_lt 0 (length (b ∷ w))) _ (ap (λ d. d && list_all is_ascii_digit w) first)
 
 text_no_digits : (x : Text) → is_digits (name_text (Called x)) ≡ false
@@ -120,11 +113,11 @@ free_global false f slot h = refl
 
 pub local_unreserved : (x : Text) → is_local_name (Called x) ≡ true → reserved_local Instrumented x ≡ false
 unfolding reserved_local
-local_unreserved x h = free_local (begins_msan x) (is_inserted x) (both (are_bytes x) _ h).1
+local_unreserved x h = free_local (begins_msan x) (is_inserted x) (and_parts (are_bytes x) _ h).1
 
 pub global_unreserved : (x : Text) → is_global_name (Called x) ≡ true → reserved_global Instrumented x ≡ false
 unfolding reserved_global
-global_unreserved x h = free_global (begins_msan x) (is_some (lookup runtime_functions (Called x))) (is_some (lookup slots (Called x))) (both (are_bytes x) _ h).1
+global_unreserved x h = free_global (begins_msan x) (is_some (lookup runtime_functions (Called x))) (is_some (lookup slots (Called x))) (and_parts (are_bytes x) _ h).1
 
 -- ---- verdicts on names
 
@@ -147,13 +140,13 @@ module _ (limits : Limits) where
       ∙ ap (λ b. cond b (Ok (Number n)) (Err r.Numbering)) h
   local_good (Called x) h few =
       ap (λ y. local_by limits y (local_token (Called x))) (local_text_symbol x)
-      ∙ ap (local_name limits) (local_text_in x (both (are_bytes x) _ h).0)
+      ∙ ap (local_name limits) (local_text_in x (and_parts (are_bytes x) _ h).0)
       ∙ local_name_good x h few
 
   pub global_good : (x : Name) → is_global_name x ≡ true → is_below limits.names x ≡ true → global_by limits (global_token x).symbol (global_token x) ≡ Ok x
   unfolding symbol_of
   global_good (Number n) h few = absurd cc
-  global_good (Called x) h few = ap (global_name limits) (global_text_in x (both (are_bytes x) _ h).0) ∙ global_name_good x h few
+  global_good (Called x) h few = ap (global_name limits) (global_text_in x (and_parts (are_bytes x) _ h).0) ∙ global_name_good x h few
 
 -- ---- the words of integer types
 
@@ -167,7 +160,7 @@ apart : (a b d : ℕ) (more : Bool) → (not (a == 105) || not (is_ascii_digit b
 apart a b d more h digit = elim (a == 105) as (λ t. (not t || not (is_ascii_digit b)) ≡ true → (t && ((b == d) && more)) ≡ false) [
   | false ↦ λ p. refl
   | true ↦ λ p. elim (eqb_tells b d) [
-    | inl same ↦ let e = ap is_ascii_digit same.1 in let f = not_digit (is_ascii_digit b) p in absurd cc
+    | inl same ↦ let e = ap is_ascii_digit same.1 in let f = not_true (is_ascii_digit b) p in absurd cc
     | inr differ ↦ ap (λ t. t && more) differ.0
   ]
 ] h
@@ -181,14 +174,14 @@ no_keyword : (table : List Row) (fallback : Symbol) (d : ℕ) (w : Text) → lis
     → symbol_in table fallback (105 ∷ d ∷ w) ≡ fallback
 no_keyword [] fallback d w h digit = refl
 no_keyword (row ∷ table) fallback d w h digit =
-    let parts = both (not_int row.0) (list_all (λ row. not_int row.0) table) h in
+    let parts = and_parts (not_int row.0) (list_all (λ row. not_int row.0) table) h in
     ap (λ b. cond b row.1 (symbol_in table fallback (105 ∷ d ∷ w))) (no_row row.0 d w parts.0 digit) ∙ no_keyword table fallback d w parts.1 digit
 
 int_word : (w : Text) → 0 < length w → list_all is_ascii_digit w ≡ true → word_symbol (105 ∷ w) ≡ int_symbol (read.decimal w)
 unfolding word_symbol
 int_word [] some h = absurd (omega (arith, some))
 int_word (d ∷ w) some h =
-    no_keyword keywords (type_or_plain (105 ∷ d ∷ w)) d w refl (both (is_ascii_digit d) _ h).0
+    no_keyword keywords (type_or_plain (105 ∷ d ∷ w)) d w refl (and_parts (is_ascii_digit d) _ h).0
     ∙ rw (lt-ltb 0 (length (d ∷ w)) some, h) refl
 
 narrow : (n : ℕ) → 1 ≤ n → n ≤ 64 → int_symbol n ≡ s.IntType

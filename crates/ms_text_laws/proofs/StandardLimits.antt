@@ -2,7 +2,7 @@
 use Rattle.std.proofs.Common.{◌≡◌, ℕ, suc, ◌+◌, ◌*◌, ◌-◌, ◌≤◌, ◌^◌, Bool, true, not, ◌&&◌, List, [], ◌∷◌, map, length, flat_map, refl, sym, ap, ◌∙◌, arith, leb-true, le-leb}
 use Rattle.std.specs.Prelude.{nat_lt, nat_le}
 use Rattle.std.specs.List.{list_all}
-use Rattle.std.proofs.lemmas.Bool.{lt-ltb, and_from, or_right}
+use Rattle.std.proofs.lemmas.Bool.{lt-ltb, and_from, or_right, and_parts}
 use Rattle.ms_ir.specs.declared.syntax.Name.{Name}
 use Rattle.ms_ir.specs.declared.syntax.Name.TheVariants.{Number, Text as Called}
 use Rattle.ms_ir.specs.declared.syntax.Ty.{Ty}
@@ -16,11 +16,11 @@ use Rattle.ms_ir.specs.declared.syntax.Inst.{Inst}
 use Rattle.ms_ir.specs.declared.syntax.Block.{Block}
 use Rattle.ms_ir.specs.declared.syntax.Func.{Func}
 use Rattle.ms_ir.specs.declared.syntax.Module.{Module}
-use Rattle.ms_ir.specs.Code.{operands, over_funcs}
-use Rattle.ms_grammar.specs.Insts.{names_printf}
-use Rattle.ms_grammar.specs.Bodies.{max_instructions}
-use Rattle.ms_grammar.specs.Functions.{next_behind as next_param}
-use Rattle.ms_grammar.specs.Modules.{instructions_of}
+use Rattle.ms_ir.specs.Instructions.{operands, over_funcs}
+use Rattle.ms_text_grammar.specs.Insts.{names_printf}
+use Rattle.ms_text_grammar.specs.Bodies.{max_instructions}
+use Rattle.ms_text_grammar.specs.Functions.{next_behind as next_param}
+use Rattle.ms_text_grammar.specs.Modules.{instructions_of}
 use Rattle.ms_valid.specs.FormedNames.{are_numbered}
 use Rattle.ms_valid.specs.FormedCode.{inst_formed, is_body}
 use Rattle.ms_valid.specs.Formed.{block_formed, func_formed, Formed}
@@ -30,12 +30,12 @@ use Rattle.ms_ir.specs.Locals.{func_insts, locals}
 use Rattle.ms_text_laws.specs.Fits.{few_arguments, FitsForm}
 use Rattle.ms_text_laws.proofs.SmallNames.{all_so}
 use Rattle.ms_text_laws.proofs.Limited.{Limits, standard}
-use Rattle.ms_text_laws.proofs.Spelled.{both, is_below}
+use Rattle.ms_text_laws.proofs.Spelled.{is_below}
 use Rattle.ms_text_laws.proofs.Values.{few_offsets, few_within, few_among}
 use Rattle.ms_text_laws.proofs.Insts.{are_within}
 use Rattle.ms_text_laws.proofs.Ops.{few_indices_of, few_printed}
 use Rattle.ms_text_laws.proofs.Bodies.{lines_in}
-use Rattle.ms_text_laws.proofs.Functions.{next_params}
+use Rattle.ms_text_laws.proofs.Functions.{next_params, param_few}
 use Rattle.ms_text_laws.proofs.Fits.{counted_blocks, Within}
 
 -- ---- the limits of an instrumented text
@@ -64,10 +64,6 @@ arguments_same : (o : Op) → few_arguments o ≡ true → few_printed 100 o ≡
 arguments_same (op.Call ret callee args) h = h
 arguments_same o h = h
 
-param_few : (k : ℕ) (x : Name) → next_param x k ≤ k + 1
-param_few k (Number n) = omega arith
-param_few k (Called x) = omega arith
-
 some_insts : (insts : List Inst) → is_body insts ≡ true → 1 ≤ length insts
 some_insts [] h = absurd cc
 some_insts (inst ∷ insts) h = omega arith
@@ -82,8 +78,8 @@ params_few k (p ∷ params) =
 lines_few : (bs : List Block) → list_all block_formed bs ≡ true → lines_in bs ≤ 2 * instructions_of bs
 lines_few [] h = omega arith
 lines_few (b ∷ bs) h =
-    let parts = both (block_formed b) (list_all block_formed bs) h in
-    let some = some_insts b.insts (both _ (is_body b.insts) (both _ (list_all inst_formed b.insts) parts.0).0).1 in
+    let parts = and_parts (block_formed b) (list_all block_formed bs) h in
+    let some = some_insts b.insts (and_parts _ (is_body b.insts) (and_parts _ (list_all inst_formed b.insts) parts.0).0).1 in
     let rest = lines_few bs parts.1 in
     omega (arith, rest, some)
 
@@ -91,9 +87,9 @@ numbers_few : (fs : List Func) → list_all func_formed fs ≡ true → list_all
     → list_all (λ f. nat_lt (next_params 0 f.params + lines_in f.blocks) (2 ^ 32 - 2)) fs ≡ true
 numbers_few [] h p most = refl
 numbers_few (f ∷ fs) h p most =
-    let parts = both (func_formed f) (list_all func_formed fs) h in
-    let params = both (nat_le (length f.params) 100) _ p in
-    let blocks = (both _ (list_all block_formed f.blocks) (both _ (are_numbered (locals f)) parts.0).0).1 in
+    let parts = and_parts (func_formed f) (list_all func_formed fs) h in
+    let params = and_parts (nat_le (length f.params) 100) _ p in
+    let blocks = (and_parts _ (list_all block_formed f.blocks) (and_parts _ (are_numbered (locals f)) parts.0).0).1 in
     let same = counted_blocks f.blocks in
     let few = params_few 0 f.params in
     let hundred = leb-true (length f.params) 100 params.0 in
@@ -104,10 +100,10 @@ pub fits_within : (m : Module) → Formed m → FitsForm m → Within standard m
 unfolding max_instructions
 fits_within m formed h =
     let l = h.limits in
-    let params = both (list_all (λ f. nat_le (length f.params) 100) m.funcs) (list_all (λ d. nat_le (length d.params) 100) m.decls) l.parameters in
-    let nested = both (are_shallow (map (λ t. t.1) m.types) && list_all is_shallow_global m.globals) _ l.nested in
-    let outside = both (are_shallow (map (λ t. t.1) m.types)) (list_all is_shallow_global m.globals) nested.0 in
-    let indices = both (list_all (λ g. few_init_indices g.init) m.globals) (list_all (λ f. list_all (λ inst. few_indices inst.op) (func_insts f)) m.funcs) l.indices in
+    let params = and_parts (list_all (λ f. nat_le (length f.params) 100) m.funcs) (list_all (λ d. nat_le (length d.params) 100) m.decls) l.parameters in
+    let nested = and_parts (are_shallow (map (λ t. t.1) m.types) && list_all is_shallow_global m.globals) _ l.nested in
+    let outside = and_parts (are_shallow (map (λ t. t.1) m.types)) (list_all is_shallow_global m.globals) nested.0 in
+    let indices = and_parts (list_all (λ g. few_init_indices g.init) m.globals) (list_all (λ f. list_all (λ inst. few_indices inst.op) (func_insts f)) m.funcs) l.indices in
     record {
       some_indices = omega arith;
       names = all_so is_short (is_below 1025) short_below (module_names m) l.names;

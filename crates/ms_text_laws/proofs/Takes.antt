@@ -1,10 +1,10 @@
 -- What a piece of the grammar takes of the tokens in front of it: laws for each way in which pieces are put together.
 use Rattle.std.proofs.Common.{◌≡◌, zero, suc, Bool, true, false, cond, List, [], ◌∷◌, Ok, refl, ap}
 use Rattle.ms_lex.specs.Grammar.{head, give, one, look, seq, loop}
-use Rattle.ms_grammar.specs.declared.symbols.Symbol.{Symbol}
-use Rattle.ms_grammar.specs.Lexemes.{Lexeme, end_of_text, same_symbol}
-use Rattle.ms_grammar.specs.Steps.{Rule, Verdict, next_symbol, word}
-use Rattle.ms_grammar.specs.Texts.{ReadsUpTo}
+use Rattle.ms_text_grammar.specs.declared.symbols.Symbol.{Symbol}
+use Rattle.ms_text_grammar.specs.Lexemes.{Lexeme, end_of_text, same_symbol}
+use Rattle.ms_text_grammar.specs.Steps.{Rule, Verdict, next_symbol, word}
+use Rattle.ms_text_grammar.specs.Texts.{ReadsUpTo}
 
 -- the piece reads this value from the tokens and leaves the rest
 pub record Takes {A : Type 0} (g : Rule A) (ts : List Lexeme) (a : A) (rest : List Lexeme) : Type 0 where

@@ -3,31 +3,31 @@ use Rattle.std.proofs.Common.{◌≡◌, ℕ, zero, suc, ◌≤◌, ◌^◌, Boo
 use native.Mathlib.Nat.{le-max_left, le-max_right}
 use Rattle.std.specs.Prelude.{codes, nat_lt, nat_le, pos}
 use Rattle.std.specs.List.{list_all}
-use Rattle.std.proofs.lemmas.Bool.{ltb-true}
+use Rattle.std.proofs.lemmas.Bool.{ltb-true, and_parts}
 use Rattle.std.proofs.lemmas.List.Folds.{list_all-append}
 use Rattle.ms_lex.specs.Grammar.{head}
 use Rattle.ms_ir.specs.declared.syntax.Name.{Name}
 use Rattle.ms_ir.specs.declared.syntax.Name.TheVariants.{Number, Text as Called}
 use Rattle.ms_ir.specs.declared.syntax.Ty.{Ty, Int, Ptr, Array', Struct', Named, Row_of-Ty, end_of-Ty, more_of-Ty, items-the_row-Ty, Struct}
-use Rattle.ms_grammar.specs.declared.symbols.Symbol.{Symbol}
-use Rattle.ms_grammar.specs.declared.symbols.Symbol.TheVariants as s
-use Rattle.ms_grammar.specs.Lexemes.{Lexeme, end_of_text, is, same_symbol, symbol_of, word_symbol}
-use Rattle.ms_grammar.specs.Steps.{Rule, word, items, with_item, refusal}
-use Rattle.ms_grammar.specs.Skipped.{is_closer}
-use Rattle.ms_grammar.specs.Types.{value_type_by, value_type, result_type, opens, count_by, count, packed_brace, array_rest, struct_rest, packed_rest}
+use Rattle.ms_text_grammar.specs.declared.symbols.Symbol.{Symbol}
+use Rattle.ms_text_grammar.specs.declared.symbols.Symbol.TheVariants as s
+use Rattle.ms_text_grammar.specs.Lexemes.{Lexeme, end_of_text, is, same_symbol, symbol_of, word_symbol}
+use Rattle.ms_text_grammar.specs.Steps.{Rule, word, items, with_item, refusal}
+use Rattle.ms_text_grammar.specs.Skipped.{is_closer}
+use Rattle.ms_text_grammar.specs.Types.{value_type_by, value_type, result_type, opens, count_by, count, packed_brace, array_rest, struct_rest, packed_rest}
 use Rattle.ms_valid.specs.FormedNames.{is_local_name}
 use Rattle.ms_valid.specs.FormedCode.{is_width, is_value_type, type_formed, row_formed, result_formed}
 use Rattle.ms_valid.specs.ReadLimits.{type_depth, row_depth, mentioned}
 use Rattle.ms_ir.specs.Written.{Mention, type_mentions, row_mentions}
-use Rattle.ms_written.specs.Pieces.{word as word_token, sign, with_commas}
-use Rattle.ms_written.specs.Names.{local_token, count_token}
-use Rattle.ms_written.specs.Types.{type_tokens, row_tokens, struct_tokens, result_tokens}
+use Rattle.ms_text_layout.specs.Pieces.{word as word_token, sign, with_commas}
+use Rattle.ms_text_layout.specs.Names.{local_token, count_token}
+use Rattle.ms_text_layout.specs.Types.{type_tokens, row_tokens, struct_tokens, result_tokens}
 use Rattle.ms_valid.specs.Formed.{is_struct}
 use Rattle.ms_text_laws.proofs.Limited.{Limits, flat, nested, type_to, struct_type, local}
 use Rattle.ms_text_laws.proofs.Takes.{Takes, given, taken, chain, by_symbol, other, word_taken, along}
 use Rattle.ms_text_laws.proofs.Numbers.{signed_back}
 use Rattle.ms_text_laws.proofs.Rows.{array_is, struct_is}
-use Rattle.ms_text_laws.proofs.Spelled.{both, is_below, local_good, int_token, int_token_symbol, int_token_width, local_number_symbol, local_text_symbol}
+use Rattle.ms_text_laws.proofs.Spelled.{is_below, local_good, int_token, int_token_symbol, int_token_width, local_number_symbol, local_text_symbol}
 use Rattle.ms_text_laws.proofs.Listed.{AllTake, Closing, listed_back}
 
 -- ---- words
@@ -90,9 +90,6 @@ no_closer s.CloseBracket h = absurd cc
 no_closer s.CloseBrace h = absurd cc
 no_closer x h = (refl, refl, refl)
 
-pub of_symbol : {A : Type 0} (f : Symbol → A) {x y : Symbol} {a : A} → x ≡ y → f y ≡ a → f x ≡ a
-of_symbol f e h = ap f e ∙ h
-
 -- ---- values of another form
 
 pub valued : {A : Type 0} {g : Rule A} {ts rest : List Lexeme} {a b : A} → a ≡ b → Takes g ts a rest → Takes g ts b rest
@@ -101,7 +98,7 @@ valued {g = g} {ts = ts} {rest = rest} e p = subst (λ v. Takes g ts v rest) e p
 -- ---- types of values
 
 pub width_parts : (n : ℕ) → is_width n ≡ true → (1 ≤ n) × (n ≤ 64)
-width_parts n h = let parts = both (nat_le 1 n) (nat_le n 64) h in (leb-true 1 n parts.0, leb-true n 64 parts.1)
+width_parts n h = let parts = and_parts (nat_le 1 n) (nat_le n 64) h in (leb-true 1 n parts.0, leb-true n 64 parts.1)
 
 int_taken : (n : ℕ) (ts : List Lexeme) → is_width n ≡ true → Takes value_type (int_token n ∷ ts) (Int n) ts
 unfolding value_type
@@ -138,7 +135,7 @@ abbrev pub few_names : ℕ → List Mention → Bool
 few_names most xs = list_all (λ x. is_below most (mentioned x)) xs
 
 pub few_parts : (most : ℕ) (xs ys : List Mention) → few_names most (xs ++ ys) ≡ true → (few_names most xs ≡ true) × (few_names most ys ≡ true)
-few_parts most xs ys h = both (few_names most xs) (few_names most ys) (sym (list_all-append (λ x. is_below most (mentioned x)) xs ys) ∙ h)
+few_parts most xs ys h = and_parts (few_names most xs) (few_names most ys) (sym (list_all-append (λ x. is_below most (mentioned x)) xs ys) ∙ h)
 
 -- a type as it may stand, of so many arrays and structs at most, whose names are short
 pub record TypeFits (limits : Limits) (depth : ℕ) (t : Ty) : Type 0 where
@@ -150,10 +147,6 @@ pub record RowFits (limits : Limits) (depth : ℕ) {n : _} (row : Row_of-Ty n) :
   pub formed : row_formed row ≡ true
   pub shallow : row_depth row ≤ depth
   pub named : few_names limits.names (row_mentions row) ≡ true
-
-name_opens : (x : Name) → opens (local_token x).symbol ≡ false
-name_opens (Number n) = ap opens (local_number_symbol n)
-name_opens (Called x) = ap opens (local_text_symbol x)
 
 pub name_closes : (x : Name) → is_closer (local_token x).symbol ≡ false
 name_closes (Number n) = ap is_closer (local_number_symbol n)
@@ -201,14 +194,14 @@ module _ (limits : Limits) where
 
   first_fits : {n : _} (t : Ty) (row : Row_of-Ty n) (depth : ℕ) → RowFits limits depth (more_of-Ty t row) → TypeFits limits depth t
   first_fits t row depth h = record {
-    formed = (both (type_formed t) (row_formed row) h.formed).0;
+    formed = (and_parts (type_formed t) (row_formed row) h.formed).0;
     shallow = le_trans (le-max_left (type_depth t) (row_depth row)) h.shallow;
     named = (few_parts limits.names (type_mentions t) (row_mentions row) h.named).0;
   }
 
   rest_fits : {n : _} (t : Ty) (row : Row_of-Ty n) (depth : ℕ) → RowFits limits depth (more_of-Ty t row) → RowFits limits depth row
   rest_fits t row depth h = record {
-    formed = (both (type_formed t) (row_formed row) h.formed).1;
+    formed = (and_parts (type_formed t) (row_formed row) h.formed).1;
     shallow = le_trans (le-max_right (type_depth t) (row_depth row)) h.shallow;
     named = (few_parts limits.names (type_mentions t) (row_mentions row) h.named).1;
   }
@@ -222,7 +215,7 @@ module _ (limits : Limits) where
 
   row_begins : {n : _} (row : Row_of-Ty n) → row_formed row ≡ true → RowBegins (row_tokens row)
   row_begins end_of-Ty h = tt
-  row_begins (more_of-Ty t row) h = λ rest. (no_closer _ (type_closes t rest (both (type_formed t) (row_formed row) h).0)).2
+  row_begins (more_of-Ty t row) h = λ rest. (no_closer _ (type_closes t rest (and_parts (type_formed t) (row_formed row) h).0)).2
 
   fields_taken : {n : _} (row : Row_of-Ty n) (depth : ℕ) (rest : List Lexeme) → row_formed row ≡ true → RowTakes row depth []
       → Takes (items s.CloseBrace (type_to limits depth)) (with_commas (row_tokens row) ++ sign (codes "}") ∷ rest) (items-the_row-Ty _ row) rest
@@ -246,10 +239,10 @@ module _ (limits : Limits) where
     pub type_taken : (t : Ty) (depth : ℕ) (rest : List Lexeme) → TypeFits limits depth t → Takes (type_to limits depth) (type_tokens t ++ rest) t rest
     type_taken Ptr depth rest h = flat_taken depth s.PtrType ptr_symbol refl (value_type_taken Ptr rest refl)
     type_taken (Int n) depth rest h = let w = width_parts n h.formed in flat_taken depth s.IntType (int_token_symbol n w.0 w.1) refl (value_type_taken (Int n) rest h.formed)
-    type_taken (Named x) depth rest h = named_taken x depth rest h.formed (both (is_below limits.names x) true h.named).0
+    type_taken (Named x) depth rest h = named_taken x depth rest h.formed (and_parts (is_below limits.names x) true h.named).0
     type_taken (Array' n shape item) zero rest h = absurd (omega (arith, h.shallow))
     type_taken (Array' n shape (more_of-Ty t end_of-Ty)) (suc depth) rest h =
-        let parts = both (nat_lt n (2 ^ 64)) (row_formed (more_of-Ty t end_of-Ty)) h.formed in
+        let parts = and_parts (nat_lt n (2 ^ 64)) (row_formed (more_of-Ty t end_of-Ty)) h.formed in
         let row : RowFits limits depth (more_of-Ty t end_of-Ty) = record { formed = parts.1; shallow = omega (arith, h.shallow); named = h.named } in
         along (ap (λ ys. sign (codes "[") ∷ count_token n ∷ word_token (codes "x") ∷ ys) (regrouped (type_tokens t ++ []) (sign (codes "]")) rest ∙ ap (λ ys. ys ++ sign (codes "]") ∷ rest) (append-nil (type_tokens t))))
         (valued (array_is n shape t)

@@ -3,7 +3,7 @@ use Rattle.std.proofs.Common.{◌≡◌, ℕ, zero, suc, ◌+◌, ◌-◌, ◌*�
 use native.Mathlib.Nat.{le-max_left, le-max_right}
 use Rattle.std.specs.Prelude.{codes, nat_lt, nat_le, ◌==◌}
 use Rattle.std.specs.List.{list_all}
-use Rattle.std.proofs.lemmas.Bool.{ltb-true, ltb-false, lt-ltb, leb-true, eqb-true}
+use Rattle.std.proofs.lemmas.Bool.{ltb-true, ltb-false, lt-ltb, leb-true, eqb-true, and_parts}
 use Rattle.ms_bits.specs.Signed.{signed, wrap}
 use Rattle.ms_lex.specs.Numbers.{signed_decimal}
 use Rattle.ms_lex.specs.Grammar.{head, give, ◌>>=◌}
@@ -14,30 +14,30 @@ use Rattle.ms_ir.specs.declared.syntax.Operand.{Operand}
 use Rattle.ms_ir.specs.declared.syntax.Operand.TheVariants as operand
 use Rattle.ms_ir.specs.declared.syntax.Init.{Init, Row_of-Init-Array-0-2, end_of-Init-Array-0-2, more_of-Init-Array-0-2, items-the_row-Init-Array-0-2}
 use Rattle.ms_ir.specs.declared.syntax.Init as initial
-use Rattle.ms_ir.specs.Equal.{Step}
+use Rattle.ms_ir.specs.Equal.{AddressStep}
 use Rattle.ms_ir.specs.Layout.{width_of}
-use Rattle.ms_grammar.specs.declared.refusals.Limit.TheVariants as limit
-use Rattle.ms_grammar.specs.declared.symbols.Symbol.{Symbol}
-use Rattle.ms_grammar.specs.declared.symbols.Symbol.TheVariants as s
-use Rattle.ms_grammar.specs.Lexemes.{Lexeme, end_of_text, is, same_symbol, symbol_of, word_symbol}
-use Rattle.ms_grammar.specs.Steps.{Rule, word, items, with_item, refusal, within, judge_map}
-use Rattle.ms_grammar.specs.Types.{int_type_of, opens}
-use Rattle.ms_grammar.specs.Values.{Address, number_by, number, step_words, typed, array_init, struct_init, packed_init, nested_init}
+use Rattle.ms_text_grammar.specs.declared.refusals.Limit.TheVariants as limit
+use Rattle.ms_text_grammar.specs.declared.symbols.Symbol.{Symbol}
+use Rattle.ms_text_grammar.specs.declared.symbols.Symbol.TheVariants as s
+use Rattle.ms_text_grammar.specs.Lexemes.{Lexeme, end_of_text, is, same_symbol, symbol_of, word_symbol}
+use Rattle.ms_text_grammar.specs.Steps.{Rule, word, items, with_item, refusal, within, judge_map}
+use Rattle.ms_text_grammar.specs.Types.{int_type_of, opens}
+use Rattle.ms_text_grammar.specs.Values.{Address, number_by, number, gep_words, typed, array_init, struct_init, packed_init, nested_init}
 use Rattle.ms_valid.specs.FormedNames.{are_bytes, is_local_name, is_global_name}
 use Rattle.ms_valid.specs.FormedCode.{is_width, type_formed, number_formed, step_formed, operand_formed, is_constant, init_formed, items_formed}
 use Rattle.ms_valid.specs.ReadLimits.{type_depth, steps_depth, init_depth, items_depth}
 use Rattle.ms_ir.specs.Written.{type_mentions, operand_mentions, init_mentions, items_mentions, OfGlobal}
-use Rattle.ms_written.specs.Pieces.{word as word_token, sign, comma, behind_commas, with_commas, enclosed}
-use Rattle.ms_written.specs.Names.{local_token, global_token, number_token, bytes_token, signed_text}
-use Rattle.ms_written.specs.Types.{type_tokens}
-use Rattle.ms_written.specs.Values.{integer_token, constant_index_tokens, offset_tokens, base_tokens, value_tokens, init_tokens, items_tokens}
-use Rattle.ms_written.proofs.SpelledBack.{string_back}
-use Rattle.ms_grammar.specs.Skipped.{is_closer}
-use Rattle.ms_text_laws.proofs.Limited.{Limits, global, type_to, constant_index, constant_indices, step_from, base_to, offset, simple_by, simple_value, value_within, local_value, flat_init, init_to}
+use Rattle.ms_text_layout.specs.Pieces.{word as word_token, sign, comma, behind_commas, with_commas, enclosed}
+use Rattle.ms_text_layout.specs.Names.{local_token, global_token, number_token, bytes_token, signed_text}
+use Rattle.ms_text_layout.specs.Types.{type_tokens}
+use Rattle.ms_text_layout.specs.Values.{integer_token, constant_index_tokens, offset_tokens, base_tokens, value_tokens, init_tokens, items_tokens}
+use Rattle.ms_text_layout.proofs.SpelledBack.{string_back}
+use Rattle.ms_text_grammar.specs.Skipped.{is_closer}
+use Rattle.ms_text_laws.proofs.Limited.{Limits, global, type_to, constant_index, constant_indices, gep_from, base_to, offset, simple_by, simple_value, value_within, local_value, flat_init, init_to}
 use Rattle.ms_text_laws.proofs.Takes.{Takes, given, taken, chain, ended, by_symbol, other, word_taken, along}
 use Rattle.ms_text_laws.proofs.Numbers.{IsShort, signed_back, wrapped}
 use Rattle.ms_text_laws.proofs.Rows.{init_array_is, init_struct_is}
-use Rattle.ms_text_laws.proofs.Spelled.{both, is_below, local_good, global_good, int_token, int_token_symbol, int_token_width, local_number_symbol, local_text_symbol}
+use Rattle.ms_text_laws.proofs.Spelled.{is_below, local_good, global_good, int_token, int_token_symbol, int_token_width, local_number_symbol, local_text_symbol}
 use Rattle.ms_text_laws.proofs.Listed.{AllTake, comma_symbol, loop_back, close_taken, listed_back}
 use Rattle.ms_text_laws.proofs.Types.{few_names, few_parts, TypeFits, type_taken, type_closes, no_closer, valued, regrouped, plain_tokens, packed_tokens, width_parts, brace_taken, greater_taken, ptr_taken, close_brace, close_bracket, close_paren}
 
@@ -97,9 +97,9 @@ false_symbol : (word_token (codes "false")).symbol ≡ s.False
 unfolding symbol_of word_symbol
 false_symbol = refl
 
-pub step_symbol : (word_token (codes "getelementptr")).symbol ≡ s.GetElementPtr
+pub gep_symbol : (word_token (codes "getelementptr")).symbol ≡ s.GetElementPtr
 unfolding symbol_of word_symbol
-step_symbol = refl
+gep_symbol = refl
 
 zero_symbol : (word_token (codes "zeroinitializer")).symbol ≡ s.ZeroInitializer
 unfolding symbol_of word_symbol
@@ -151,7 +151,7 @@ pub record ValueFits (limits : Limits) (depth : ℕ) (t : Ty) (a : Operand) : Ty
   pub indices : few_offsets limits.indices a ≡ true
 
 -- steps as they may stand, within the limits
-record StepsFit (limits : Limits) (depth : ℕ) (steps : List Step) : Type 0 where
+record StepsFit (limits : Limits) (depth : ℕ) (steps : List AddressStep) : Type 0 where
   formed : list_all step_formed steps ≡ true
   shallow : steps_depth steps ≤ depth
   named : few_names limits.names (flat_map (λ s. type_mentions s.0) steps) ≡ true
@@ -167,7 +167,7 @@ module _ (limits : Limits) where
       → Takes (constant_index limits found) (constant_index_tokens (t, k) ++ rest) (found ++ (t, k) ∷ []) rest
   unfolding constant_index same_symbol
   index_taken (Int w) k found rest h few =
-      let parts = both (is_width w) (nat_lt k (2 ^ w)) h in
+      let parts = and_parts (is_width w) (nat_lt k (2 ^ w)) h in
       let width = width_parts w parts.0 in
       let int : int_type_of (int_token w) ≡ Ok w = rw (is_symbol (int_token w) s.IntType refl (int_token_symbol w width.0 width.1), int_token_width w width.1) refl in
       chain (taken (ap (λ b. within b limit.Indices (int_type_of (int_token w))) (lt-ltb (length found) limits.indices few) ∙ int)) (chain (number_taken w k rest parts.0 parts.1) given)
@@ -180,7 +180,7 @@ module _ (limits : Limits) where
       → AllTake (λ t. true) (λ found. true) (constant_index limits) (map constant_index_tokens indices) found (found ++ indices)
   indices_taken [] found h few = append-nil found
   indices_taken (i ∷ indices) found h few =
-      let parts = both (number_formed i.0 i.1) (list_all (λ i. number_formed i.0 i.1) indices) h in (
+      let parts = and_parts (number_formed i.0 i.1) (list_all (λ i. number_formed i.0 i.1) indices) h in (
         refl,
         found ++ i ∷ [],
         λ rest good. index_taken i.0 i.1 found rest parts.0 (omega (arith, few)),
@@ -197,32 +197,32 @@ module _ (limits : Limits) where
       ∙ ap (λ ys. type_tokens t ++ comma ∷ word_token (codes "ptr") ∷ ys) (append_assoc base (behind_commas (map constant_index_tokens indices)) (sign (codes ")") ∷ rest)))
 
   -- a step, whose base is written so
-  step_taken : (step : Step) (base : Rule Address) (inner : List Lexeme) (a : Address) (depth : ℕ) (rest : List Lexeme) → ((more : List Lexeme) → Takes base (inner ++ more) a more) → TypeFits limits depth step.0
+  step_taken : (step : AddressStep) (base : Rule Address) (inner : List Lexeme) (a : Address) (depth : ℕ) (rest : List Lexeme) → ((more : List Lexeme) → Takes base (inner ++ more) a more) → TypeFits limits depth step.0
       → list_all (λ i. number_formed i.0 i.1) step.1 ≡ true → length step.1 ≤ limits.indices
-      → Takes (step_from limits depth base) (sign (codes "(") ∷ (type_tokens step.0 ++ comma ∷ word_token (codes "ptr") ∷ (inner ++ (behind_commas (map constant_index_tokens step.1) ++ sign (codes ")") ∷ rest)))) (a.0, step ∷ a.1) rest
-  unfolding step_from step_words constant_indices symbol_of
+      → Takes (gep_from limits depth base) (sign (codes "(") ∷ (type_tokens step.0 ++ comma ∷ word_token (codes "ptr") ∷ (inner ++ (behind_commas (map constant_index_tokens step.1) ++ sign (codes ")") ∷ rest)))) (a.0, step ∷ a.1) rest
+  unfolding gep_from gep_words constant_indices symbol_of
   step_taken step base inner a depth rest from h all most =
       chain (ended refl) (chain open_paren_taken (chain (type_taken limits step.0 depth _ h) (chain comma_taken (chain ptr_taken (chain (from _)
       (chain (loop_back (λ t. true) (λ found. true) (constant_index limits) s.CloseParen (sign (codes ")")) close_paren (map constant_index_tokens step.1) [] step.1 rest (indices_taken step.1 [] all (omega (arith, most))))
       (chain (close_taken {S = List (Ty × ℕ)} (λ t. true) (λ found. true) (constant_index limits) s.CloseParen (sign (codes ")")) close_paren rest) given)))))))
 
-  first_step : (step : Step) (inner : List Step) (depth : ℕ) → StepsFit limits depth (step ∷ inner) → TypeFits limits depth step.0 × (list_all (λ i. number_formed i.0 i.1) step.1 ≡ true) × (length step.1 ≤ limits.indices)
+  first_step : (step : AddressStep) (inner : List AddressStep) (depth : ℕ) → StepsFit limits depth (step ∷ inner) → TypeFits limits depth step.0 × (list_all (λ i. number_formed i.0 i.1) step.1 ≡ true) × (length step.1 ≤ limits.indices)
   first_step step inner depth h =
-      let formed = both (type_formed step.0) (list_all (λ i. number_formed i.0 i.1) step.1) (both (step_formed step) (list_all step_formed inner) h.formed).0 in
+      let formed = and_parts (type_formed step.0) (list_all (λ i. number_formed i.0 i.1) step.1) (and_parts (step_formed step) (list_all step_formed inner) h.formed).0 in
       let names = few_parts limits.names (type_mentions step.0) (flat_map (λ i. type_mentions i.0) inner) h.named in
-      let few = (both (nat_le (length step.1) limits.indices) _ h.indices).0 in
+      let few = (and_parts (nat_le (length step.1) limits.indices) _ h.indices).0 in
       (record { formed = formed.0; shallow = le_trans (le-max_left (type_depth step.0) (steps_depth inner)) h.shallow; named = names.0 }, formed.1, leb-true (length step.1) limits.indices few)
 
-  rest_steps : (step : Step) (inner : List Step) (depth : ℕ) → StepsFit limits depth (step ∷ inner) → StepsFit limits depth inner
+  rest_steps : (step : AddressStep) (inner : List AddressStep) (depth : ℕ) → StepsFit limits depth (step ∷ inner) → StepsFit limits depth inner
   rest_steps step inner depth h = record {
-    formed = (both (step_formed step) (list_all step_formed inner) h.formed).1;
+    formed = (and_parts (step_formed step) (list_all step_formed inner) h.formed).1;
     shallow = le_trans (le-max_right (type_depth step.0) (steps_depth inner)) h.shallow;
     named = (few_parts limits.names (type_mentions step.0) (flat_map (λ i. type_mentions i.0) inner) h.named).1;
-    indices = (both (nat_le (length step.1) limits.indices) (list_all (λ i. nat_le (length i.1) limits.indices) inner) h.indices).1;
+    indices = (and_parts (nat_le (length step.1) limits.indices) (list_all (λ i. nat_le (length i.1) limits.indices) inner) h.indices).1;
   }
 
   -- a global, or steps from it
-  base_taken : (x : Name) (steps : List Step) (within depth : ℕ) (rest : List Lexeme) → is_global_name x ≡ true → is_below limits.names x ≡ true → length steps ≤ within → StepsFit limits depth steps
+  base_taken : (x : Name) (steps : List AddressStep) (within depth : ℕ) (rest : List Lexeme) → is_global_name x ≡ true → is_below limits.names x ≡ true → length steps ≤ within → StepsFit limits depth steps
       → Takes (base_to limits depth within) (base_tokens (global_token x) steps ++ rest) (x, steps) rest
   unfolding base_to
   base_taken x [] zero depth rest name few room h = by_symbol s.Global (global_symbol x) (chain (global_taken x rest name few) given)
@@ -231,7 +231,7 @@ module _ (limits : Limits) where
   base_taken x (step ∷ inner) (suc within) depth rest name few room h =
       let first = first_step step inner depth h in
       along (offset_tokens_are step.0 (base_tokens (global_token x) inner) step.1 rest)
-      (by_symbol s.GetElementPtr step_symbol (chain (taken refl)
+      (by_symbol s.GetElementPtr gep_symbol (chain (taken refl)
       (step_taken step (base_to limits depth within) (base_tokens (global_token x) inner) (x, inner) depth rest
       (λ more. base_taken x inner within depth more name few (omega (arith, room)) (rest_steps step inner depth h)) first.0 first.1 first.2)))
 
@@ -299,26 +299,26 @@ module _ (limits : Limits) where
     poison_taken t rest = by_symbol s.Poison poison_symbol (taken (ap (λ y. simple_by limits locals t y (word_token (codes "poison"))) poison_symbol))
 
     integer_taken : (t : Ty) (n : ℕ) (rest : List Lexeme) → number_formed t n ≡ true → Simple t (integer_token (width_of t) n) (operand.Int n) rest
-    integer_taken (Int w) n rest h = let parts = both (is_width w) (nat_lt n (2 ^ w)) h in int_value_taken w n rest parts.0 parts.1
+    integer_taken (Int w) n rest h = let parts = and_parts (is_width w) (nat_lt n (2 ^ w)) h in int_value_taken w n rest parts.0 parts.1
     integer_taken Ptr n rest h = absurd cc
     integer_taken (Array' m shape item) n rest h = absurd cc
     integer_taken (Struct' packed shape fields) n rest h = absurd cc
     integer_taken (Named x) n rest h = absurd cc
 
-    offset_value_taken : (t : Ty) (x : Name) (steps : List Step) (rest : List Lexeme) → ValueFits limits depth t (operand.Offset x steps)
+    offset_value_taken : (t : Ty) (x : Name) (steps : List AddressStep) (rest : List Lexeme) → ValueFits limits depth t (operand.Offset x steps)
         → Takes (value_within limits depth locals t) (base_tokens (global_token x) steps ++ rest) (operand.Offset x steps) rest
     unfolding value_within offset
-    offset_value_taken t x [] rest h = absurd (true≢false (sym (both (is_global_name x) false h.formed).1))
+    offset_value_taken t x [] rest h = absurd (true≢false (sym (and_parts (is_global_name x) false h.formed).1))
     offset_value_taken t x (step ∷ inner) rest h =
-        let forms = both (is_global_name x) (list_all step_formed (step ∷ inner)) h.formed in
+        let forms = and_parts (is_global_name x) (list_all step_formed (step ∷ inner)) h.formed in
         let names = few_parts limits.names (flat_map (λ s. type_mentions s.0) (step ∷ inner)) (OfGlobal x ∷ []) h.named in
-        let below = (both (is_below limits.names x) true names.1).0 in
-        let counts = both (nat_le (length (step ∷ inner)) limits.indices) (list_all (λ s. nat_le (length s.1) limits.indices) (step ∷ inner)) h.indices in
+        let below = (and_parts (is_below limits.names x) true names.1).0 in
+        let counts = and_parts (nat_le (length (step ∷ inner)) limits.indices) (list_all (λ s. nat_le (length s.1) limits.indices) (step ∷ inner)) h.indices in
         let few = leb-true (length (step ∷ inner)) limits.indices counts.0 in
         let fits : StepsFit limits depth (step ∷ inner) = record { formed = forms.1; shallow = h.shallow; named = names.0; indices = counts.1 } in
         let first = first_step step inner depth fits in
         along (offset_tokens_are step.0 (base_tokens (global_token x) inner) step.1 rest)
-        (by_symbol s.GetElementPtr step_symbol (chain (taken refl)
+        (by_symbol s.GetElementPtr gep_symbol (chain (taken refl)
         (chain (step_taken step (base_to limits depth (limits.indices - 1)) (base_tokens (global_token x) inner) (x, inner) depth rest
         (λ more. base_taken x inner (limits.indices - 1) depth more forms.0 below (omega (arith, few)) (rest_steps step inner depth fits)) first.0 first.1 first.2) given)))
 
@@ -329,8 +329,8 @@ module _ (limits : Limits) where
     value_taken t operand.Null rest free h = null_taken t rest h.formed
     value_taken t operand.Undef rest free h = undef_taken t rest
     value_taken t operand.Poison rest free h = poison_taken t rest
-    value_taken t (operand.Local x) rest free h = local_value_taken x t rest free h.formed (both (is_below limits.names x) true h.named).0
-    value_taken t (operand.Global x) rest free h = global_value_taken x t rest h.formed (both (is_below limits.names x) true h.named).0
+    value_taken t (operand.Local x) rest free h = local_value_taken x t rest free h.formed (and_parts (is_below limits.names x) true h.named).0
+    value_taken t (operand.Global x) rest free h = global_value_taken x t rest h.formed (and_parts (is_below limits.names x) true h.named).0
     value_taken t (operand.Offset x steps) rest free h = offset_value_taken t x steps rest h
 
 -- ---- the first symbol of a value
@@ -355,7 +355,7 @@ value_starts t operand.Poison rest = ap starts_value poison_symbol
 value_starts t (operand.Local x) rest = local_starts x
 value_starts t (operand.Global x) rest = ap starts_value (global_symbol x)
 value_starts t (operand.Offset x []) rest = ap starts_value (global_symbol x)
-value_starts t (operand.Offset x (step ∷ inner)) rest = ap starts_value step_symbol
+value_starts t (operand.Offset x (step ∷ inner)) rest = ap starts_value gep_symbol
 
 -- ---- initialisers
 
@@ -424,7 +424,7 @@ module _ (limits : Limits) where
 
   constant_taken : (a : Operand) (depth : ℕ) (t : Ty) (rest : List Lexeme) → InitFits limits depth t (initial.Value a) → Takes (init_to limits depth t) (value_tokens t a ++ rest) (initial.Value a) rest
   constant_taken a depth t rest h =
-      let parts = both (is_constant a) (operand_formed t a) h.formed in
+      let parts = and_parts (is_constant a) (operand_formed t a) h.formed in
       let fits : ValueFits limits depth t a = record { formed = parts.1; shallow = le_trans (value_depth a) h.shallow; named = h.named; indices = h.indices } in
       let x : Symbol = (head end_of_text (value_tokens t a ++ rest)).symbol in
       let starts : starts_value x ≡ true = value_starts t a rest in
@@ -432,7 +432,7 @@ module _ (limits : Limits) where
 
   first_item : {n : _} (t : Ty) (i : Init) (row : Row_of-Init-Array-0-2 n) (depth : ℕ) → ItemsFit limits depth (more_of-Init-Array-0-2 t i row) → TypeFits limits depth t × InitFits limits depth t i
   first_item t i row depth h =
-      let formed = both (type_formed t) (init_formed t i) (both (type_formed t && init_formed t i) (items_formed row) h.formed).0 in
+      let formed = and_parts (type_formed t) (init_formed t i) (and_parts (type_formed t && init_formed t i) (items_formed row) h.formed).0 in
       let names = few_parts limits.names (type_mentions t) (init_mentions i ++ items_mentions row) h.named in
       let deep : max (type_depth t) (init_depth i) ≤ depth = le_trans (le-max_left (max (type_depth t) (init_depth i)) (items_depth row)) h.shallow in (
         record { formed = formed.0; shallow = le_trans (le-max_left (type_depth t) (init_depth i)) deep; named = names.0 },
@@ -440,7 +440,7 @@ module _ (limits : Limits) where
           formed = formed.1;
           shallow = le_trans (le-max_right (type_depth t) (init_depth i)) deep;
           named = (few_parts limits.names (init_mentions i) (items_mentions row) names.1).0;
-          indices = (both (few_within limits.indices i) (few_among limits.indices row) h.indices).0;
+          indices = (and_parts (few_within limits.indices i) (few_among limits.indices row) h.indices).0;
         },
       )
 
@@ -448,10 +448,10 @@ module _ (limits : Limits) where
   rest_items t i row depth h =
       let names = few_parts limits.names (type_mentions t) (init_mentions i ++ items_mentions row) h.named in
       record {
-        formed = (both (type_formed t && init_formed t i) (items_formed row) h.formed).1;
+        formed = (and_parts (type_formed t && init_formed t i) (items_formed row) h.formed).1;
         shallow = le_trans (le-max_right (max (type_depth t) (init_depth i)) (items_depth row)) h.shallow;
         named = (few_parts limits.names (init_mentions i) (items_mentions row) names.1).1;
-        indices = (both (few_within limits.indices i) (few_among limits.indices row) h.indices).1;
+        indices = (and_parts (few_within limits.indices i) (few_among limits.indices row) h.indices).1;
       }
 
   abbrev item_rule : ℕ → Rule (Ty × Init)
@@ -470,7 +470,7 @@ module _ (limits : Limits) where
   row_begins : {n : _} (row : Row_of-Init-Array-0-2 n) → items_formed row ≡ true → ItemsBegin s.CloseBracket (items_tokens row) × ItemsBegin s.CloseBrace (items_tokens row)
   row_begins end_of-Init-Array-0-2 h = (tt, tt)
   row_begins (more_of-Init-Array-0-2 t i row) h =
-      let formed = both (type_formed t) (init_formed t i) (both (type_formed t && init_formed t i) (items_formed row) h).0 in
+      let formed = and_parts (type_formed t) (init_formed t i) (and_parts (type_formed t && init_formed t i) (items_formed row) h).0 in
       (λ rest. (no_closer _ (item_begins t i rest formed.0)).1, λ rest. (no_closer _ (item_begins t i rest formed.0)).2)
 
   bracket_taken : {n : _} (row : Row_of-Init-Array-0-2 n) (depth : ℕ) (rest : List Lexeme) → items_formed row ≡ true → ItemsTake row depth []

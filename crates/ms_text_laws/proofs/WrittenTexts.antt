@@ -9,16 +9,16 @@ use Rattle.ms_lex.specs.Grammar.{Outcome, done, fails, run}
 use Rattle.ms_lex.proofs.Exact.{complete, stop_complete}
 use Rattle.ms_ir.specs.declared.forms.Form.TheVariants.{Instrumented}
 use Rattle.ms_ir.specs.declared.syntax.Module.{Module}
-use Rattle.ms_grammar.specs.declared.refusals.Refusal.{Refusal}
-use Rattle.ms_grammar.specs.Lexemes.{Lexeme, end_of_text, lexemes_of}
-use Rattle.ms_grammar.specs.Modules as modules
-use Rattle.ms_grammar.specs.Texts.{Reads, ReadsUpTo, Stops, StopsAt, max_tokens}
+use Rattle.ms_text_grammar.specs.declared.refusals.Cause.{Cause}
+use Rattle.ms_text_grammar.specs.Lexemes.{Lexeme, end_of_text, lexemes_of}
+use Rattle.ms_text_grammar.specs.Modules as modules
+use Rattle.ms_text_grammar.specs.Texts.{Reads, ReadsUpTo, Stops, StopsAt, max_tokens}
 use Rattle.ms_valid.specs.Formed.{Formed}
-use Rattle.ms_written.specs.Apart.{spans}
-use Rattle.ms_written.specs.Modules.{module_pieces, written}
-use Rattle.ms_written.specs.Pieces.{tokens_in}
-use Rattle.ms_written.proofs.CutBack.{tokens_back, lexemes_back}
-use Rattle.ms_written.proofs.WholeModules.{module_apart}
+use Rattle.ms_text_layout.specs.Apart.{spans}
+use Rattle.ms_text_layout.specs.Modules.{module_pieces, written}
+use Rattle.ms_text_layout.specs.Pieces.{tokens_in}
+use Rattle.ms_text_layout.proofs.CutBack.{tokens_back, lexemes_back}
+use Rattle.ms_text_layout.proofs.WholeModules.{module_apart}
 use Rattle.ms_text_laws.specs.Fits.{NamesLimit}
 use Rattle.ms_text_laws.proofs.Agreeing.{Agrees}
 use Rattle.ms_text_laws.proofs.LargerBodies.{module_looser}
@@ -95,11 +95,11 @@ module _ (m : Module) (formed : Formed m) where
       by_cut o h (inl good) = let same : ts ≡ spans 0 (module_pieces m) = cc in ap (lexemes_of (written m)) same ∙ own_lexemes m
       by_cut o h (inr many) = absurd cc
 
-  done_as : (o : Outcome Lexeme Refusal Module) (k : Module) → o ≡ done k [] → Agrees o (done m []) → k ≡ m
+  done_as : (o : Outcome Lexeme Cause Module) (k : Module) → o ≡ done k [] → Agrees o (done m []) → k ≡ m
   done_as o k h (inl good) = cc
   done_as o k h (inr (e, rest, limit, bad)) = absurd cc
 
-  fails_as : (o : Outcome Lexeme Refusal Module) (e : Refusal) (rest : List Lexeme) → o ≡ fails e rest → Agrees o (done m []) → NamesLimit e
+  fails_as : (o : Outcome Lexeme Cause Module) (e : Cause) (rest : List Lexeme) → o ≡ fails e rest → Agrees o (done m []) → NamesLimit e
   fails_as o e rest h (inl good) = absurd cc
   fails_as o e rest h (inr (d, more, limit, bad)) = let same : d ≡ e = cc in subst NamesLimit same limit
 
@@ -110,7 +110,7 @@ module _ (m : Module) (formed : Formed m) where
       (complete end_of_text (modules.module_rule Instrumented) (tokens_in (module_pieces m)) k [] (subst (λ xs. ReadsUpTo (modules.module_rule Instrumented) xs k []) (these_lexemes ts has.cut) reads)) comes_to
 
   -- where it stops, it is for a limit
-  pub written_stops : (k : ℕ) (e : Refusal) → Stops Instrumented (written m) k e → NamesLimit e
+  pub written_stops : (k : ℕ) (e : Cause) → Stops Instrumented (written m) k e → NamesLimit e
   written_stops k e (ts, has, (rest, at, stops)) =
       fails_as (run end_of_text (modules.module_rule Instrumented) (tokens_in (module_pieces m))) e rest
       (stop_complete end_of_text (modules.module_rule Instrumented) (tokens_in (module_pieces m)) e rest (subst (λ xs. StopsAt (modules.module_rule Instrumented) xs e rest) (these_lexemes ts has.cut) stops)) comes_to

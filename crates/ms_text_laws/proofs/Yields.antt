@@ -3,10 +3,10 @@ use Rattle.std.proofs.Common.{◌≡◌, Bool, true, false, cond, ◌&&◌, List
 use Rattle.std.specs.List.{list_all}
 use Rattle.std.proofs.lemmas.Bool.{and_parts, and_from}
 use Rattle.ms_lex.specs.Grammar.{head, give, one, seq, loop}
-use Rattle.ms_grammar.specs.declared.symbols.Symbol.{Symbol}
-use Rattle.ms_grammar.specs.Lexemes.{Lexeme, end_of_text}
-use Rattle.ms_grammar.specs.Steps.{Rule, Verdict, listed}
-use Rattle.ms_grammar.specs.Texts.{ReadsUpTo}
+use Rattle.ms_text_grammar.specs.declared.symbols.Symbol.{Symbol}
+use Rattle.ms_text_grammar.specs.Lexemes.{Lexeme, end_of_text}
+use Rattle.ms_text_grammar.specs.Steps.{Rule, Verdict, listed}
+use Rattle.ms_text_grammar.specs.Texts.{ReadsUpTo}
 use Rattle.ms_text_laws.proofs.Sound.{IsSound, AllSound, sound_head, sound_rest, loop_keeps, listed_keeps}
 
 -- each value that the piece reads from sound lexemes is one of these

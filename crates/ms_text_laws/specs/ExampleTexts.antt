@@ -1,7 +1,7 @@
 -- A text of an example module.
 use Rattle.std.specs.Prelude.{◌∷◌, [], codes}
 use Rattle.ms_lex.specs.Tokens.{Text}
-use Rattle.ms_grammar.specs.ExampleTexts.{lines}
+use Rattle.ms_text_grammar.specs.ExampleTexts.{lines}
 
 -- a value is defined on one of two paths to its use
 abbrev pub undefined_on_a_path_text : Text

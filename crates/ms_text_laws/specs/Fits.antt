@@ -5,15 +5,15 @@ use Rattle.ms_ir.specs.declared.syntax.Op.{Op}
 use Rattle.ms_ir.specs.declared.syntax.Op.TheVariants as op
 use Rattle.ms_ir.specs.declared.syntax.Module.{Module}
 use Rattle.ms_ir.specs.declared.forms.Form.TheVariants.{Instrumented}
-use Rattle.ms_grammar.specs.declared.refusals.Limit.{Limit}
-use Rattle.ms_grammar.specs.declared.refusals.Refusal.{Refusal}
-use Rattle.ms_grammar.specs.declared.refusals.Refusal.TheVariants as r
-use Rattle.ms_grammar.specs.Insts.{names_printf}
-use Rattle.ms_grammar.specs.Bodies.{max_instructions}
-use Rattle.ms_grammar.specs.Texts.{max_bytes, max_tokens}
+use Rattle.ms_text_grammar.specs.declared.refusals.Limit.{Limit}
+use Rattle.ms_text_grammar.specs.declared.refusals.Cause.{Cause}
+use Rattle.ms_text_grammar.specs.declared.refusals.Cause.TheVariants as r
+use Rattle.ms_text_grammar.specs.Insts.{names_printf}
+use Rattle.ms_text_grammar.specs.Bodies.{max_instructions}
+use Rattle.ms_text_grammar.specs.Texts.{max_bytes, max_tokens}
 use Rattle.ms_ir.specs.Locals.{func_insts}
 use Rattle.ms_valid.specs.ReadLimits.{ReadLimits}
-use Rattle.ms_written.specs.Modules.{module_pieces, written}
+use Rattle.ms_text_layout.specs.Modules.{module_pieces, written}
 
 -- a call of `printf` has at most 100 arguments; those of other calls are counted by the parameters of the callee
 abbrev pub few_arguments : Op → Bool
@@ -32,5 +32,5 @@ pub record FitsText (m : Module) : Type 0 where
   pub few_tokens : length (module_pieces m) ≤ max_tokens Instrumented
 
 -- a refusal names a limit on a text's parts, or the numbering of a function, whose numbers can run out
-abbrev pub NamesLimit : Refusal → Type 0
+abbrev pub NamesLimit : Cause → Type 0
 NamesLimit e = ((l : Limit) × (e ≡ r.Limit l)) ⊎ (e ≡ r.Numbering)

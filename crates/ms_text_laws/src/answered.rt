@@ -6,15 +6,15 @@ ghost use Rattle.ms_lex.specs.declared.errors.LexError.TheVariants.{NoMemory};
 ghost use Rattle.ms_lex.specs.Tokens.{Text, tokens_of};
 ghost use Rattle.ms_ir.specs.declared.syntax.Module.{Module};
 ghost use Rattle.ms_ir.specs.declared.forms.Form.{Form};
-ghost use Rattle.ms_grammar.specs.declared.refusals.Refusal.{Refusal};
-ghost use Rattle.ms_grammar.specs.Causes.{printed_number};
-ghost use Rattle.ms_grammar.specs.Texts.{Reads, Stops, max_bytes, max_tokens};
+ghost use Rattle.ms_text_grammar.specs.declared.refusals.Cause.{Cause};
+ghost use Rattle.ms_text_grammar.specs.Causes.{printed_number};
+ghost use Rattle.ms_text_grammar.specs.Texts.{Reads, Stops, max_bytes, max_tokens};
 
 /// Every text that isn't too long reads as a module, or stops at a token for a cause that has a printed number, or has no
 /// tokens for a cause other than want of memory.
 pub fn every_text_is_answered()
     ensures answered { (form : Form) (text : Text) → length text ≤ max_bytes form
-        → ((m : Module) × Reads form text m) ⊎ (((k : ℕ) × (c : Refusal) × Stops form text k c) ⊎ ((e : LexError) × (tokens_of text (max_tokens form) ≡ Err e))) }
-    ensures numbered { (form : Form) (text : Text) (k : ℕ) (c : Refusal) → Stops form text k c → IsTrue (is_some (printed_number c)) }
+        → ((m : Module) × Reads form text m) ⊎ (((k : ℕ) × (c : Cause) × Stops form text k c) ⊎ ((e : LexError) × (tokens_of text (max_tokens form) ≡ Err e))) }
+    ensures numbered { (form : Form) (text : Text) (k : ℕ) (c : Cause) → Stops form text k c → IsTrue (is_some (printed_number c)) }
     ensures memory_is_no_cause { (text : Text) (most : ℕ) → ¬ (tokens_of text most ≡ Err NoMemory) }
 {}

@@ -1,10 +1,10 @@
 //! Modules of which the laws speak, computed by the check.
 ghost use Rattle.std.specs.Prelude.{◌≡◌};
 ghost use Rattle.ms_ir.specs.declared.forms.Form.TheVariants.{Plain};
-ghost use Rattle.ms_grammar.specs.Answers.{answer_of, reads};
+ghost use Rattle.ms_text_grammar.specs.Answers.{answer_of, reads};
 ghost use Rattle.ms_valid.specs.ExampleFaults.{undefined_on_a_path};
 ghost use Rattle.ms_valid.specs.Formed.{Formed};
-ghost use Rattle.ms_written.specs.ExampleModules.{odd_names, many_parts, marked_parts};
+ghost use Rattle.ms_text_layout.specs.ExampleModules.{odd_names, many_parts, marked_parts};
 ghost use Rattle.ms_text_laws.specs.ExampleTexts.{undefined_on_a_path_text};
 ghost use Rattle.ms_text_laws.specs.Fits.{FitsText};
 

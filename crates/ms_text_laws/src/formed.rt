@@ -4,7 +4,7 @@ ghost use Rattle.std.specs.Prelude.{IsTrue};
 ghost use Rattle.ms_lex.specs.Tokens.{Text};
 ghost use Rattle.ms_ir.specs.declared.syntax.Module.{Module};
 ghost use Rattle.ms_ir.specs.declared.forms.Form.{Form};
-ghost use Rattle.ms_grammar.specs.Texts.{Reads};
+ghost use Rattle.ms_text_grammar.specs.Texts.{Reads};
 ghost use Rattle.ms_valid.specs.Formed.{Formed};
 ghost use Rattle.ms_valid.specs.FormedNames.{are_bytes};
 

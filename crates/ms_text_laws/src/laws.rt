@@ -9,14 +9,14 @@ ghost use Rattle.ms_lex.specs.Numbers as read;
 ghost use Rattle.ms_lex.specs.Tokens.{tokens_of};
 ghost use Rattle.ms_ir.specs.declared.syntax.Module.{Module};
 ghost use Rattle.ms_ir.specs.declared.forms.Form.TheVariants.{Instrumented};
-ghost use Rattle.ms_grammar.specs.declared.refusals.Refusal.{Refusal};
-ghost use Rattle.ms_grammar.specs.Lexemes.{end_of_text};
-ghost use Rattle.ms_grammar.specs.Modules.{module_rule};
-ghost use Rattle.ms_grammar.specs.Texts.{Reads, Stops, max_tokens};
+ghost use Rattle.ms_text_grammar.specs.declared.refusals.Cause.{Cause};
+ghost use Rattle.ms_text_grammar.specs.Lexemes.{end_of_text};
+ghost use Rattle.ms_text_grammar.specs.Modules.{module_rule};
+ghost use Rattle.ms_text_grammar.specs.Texts.{Reads, Stops, max_tokens};
 ghost use Rattle.ms_valid.specs.Formed.{Formed};
-ghost use Rattle.ms_written.specs.Modules.{module_pieces, written};
-ghost use Rattle.ms_written.specs.Names.{signed_text};
-ghost use Rattle.ms_written.specs.Pieces.{tokens_in};
+ghost use Rattle.ms_text_layout.specs.Modules.{module_pieces, written};
+ghost use Rattle.ms_text_layout.specs.Names.{signed_text};
+ghost use Rattle.ms_text_layout.specs.Pieces.{tokens_in};
 ghost use Rattle.ms_text_laws.specs.Fits.{FitsForm, FitsText, NamesLimit};
 
 /// Digits of a number below 2^64 are read as that number. So is the signed text of a word of an integer type, modulo 2 to
@@ -43,6 +43,6 @@ pub fn layouts_are_injective()
 /// it is refused for a limit or for numbering alone. So it has too many tokens, or it stops at one for such a cause.
 pub fn layouts_are_never_misread()
     ensures reads { (m : Module) → Formed m → (k : Module) → Reads Instrumented (written m) k → k ≡ m }
-    ensures stops { (m : Module) → Formed m → (token : ℕ) (cause : Refusal) → Stops Instrumented (written m) token cause → NamesLimit cause }
+    ensures stops { (m : Module) → Formed m → (token : ℕ) (cause : Cause) → Stops Instrumented (written m) token cause → NamesLimit cause }
     ensures tokens { (m : Module) (error : LexError) → tokens_of (written m) (max_tokens Instrumented) ≡ Err error → error ≡ TooManyTokens }
 {}

@@ -2,30 +2,53 @@
 
 use crate::cases::Case;
 use crate::cases::Want::{LeftOut, Numbering, Reserved, Syntax, Written};
-use ms_grammar::Outside;
 use ms_ir::Form::{Instrumented, Plain};
+use ms_text_grammar::Outside;
 
 /// Functions with their parameters, blocks and numbers.
 pub static FUNCTIONS: [Case; 40] = [
     Case(
         Plain,
-        "define i32 @main() {\n  ret i32 0\n}\n",
-        Written("define i32 @main() {\n  ret i32 0\n}\n"),
+        r#"define i32 @main() {
+  ret i32 0
+}
+"#,
+        Written(
+            r#"define i32 @main() {
+  ret i32 0
+}
+"#,
+        ),
     ),
     Case(
         Plain,
         "define dso_local void @f() #0 !dbg !1 !prof !2 { ret void }",
-        Written("define void @f() {\n  ret void\n}\n"),
+        Written(
+            r#"define void @f() {
+  ret void
+}
+"#,
+        ),
     ),
     Case(
         Plain,
         "define void @f() adds ad Add i0 i8x i { ret void }",
-        Written("define void @f() {\n  ret void\n}\n"),
+        Written(
+            r#"define void @f() {
+  ret void
+}
+"#,
+        ),
     ),
     Case(
         Plain,
         "define external extern_weak void @f() { ret void }",
-        Written("define void @f() {\n  ret void\n}\n"),
+        Written(
+            r#"define void @f() {
+  ret void
+}
+"#,
+        ),
     ),
     Case(Plain, "define void @f() !dbg {", Syntax(6, 22)),
     Case(
@@ -36,12 +59,22 @@ pub static FUNCTIONS: [Case; 40] = [
     Case(
         Instrumented,
         "define void @f() !dbg !1 !nosanitize !2 { ret void }",
-        Written("define void @f() {\n  ret void\n}\n"),
+        Written(
+            r#"define void @f() {
+  ret void
+}
+"#,
+        ),
     ),
     Case(
         Plain,
         "define void @f(i8 %a, i8 %0, i8 noundef %\"b c\", i8) { ret void }",
-        Written("define void @f(i8 %a, i8 %0, i8 %\"b c\", i8 %1) {\n  ret void\n}\n"),
+        Written(
+            r#"define void @f(i8 %a, i8 %0, i8 %"b c", i8 %1) {
+  ret void
+}
+"#,
+        ),
     ),
     Case(Plain, "define void @f(i8 %a %b)", Syntax(6, 21)),
     Case(Plain, "define void @f(i8 %a,)", Syntax(7, 21)),
@@ -79,65 +112,129 @@ pub static FUNCTIONS: [Case; 40] = [
         LeftOut(Outside::Variadic, 7, 22),
     ),
     Case(Plain, "define i32 @main() {", Syntax(6, 20)),
-    Case(Plain, "define i32 @main() {\n}\n", Syntax(6, 21)),
     Case(
         Plain,
-        "define i32 @main() {\n  %2 = add i32 1, 2\n",
+        r#"define i32 @main() {
+}
+"#,
+        Syntax(6, 21),
+    ),
+    Case(
+        Plain,
+        r#"define i32 @main() {
+  %2 = add i32 1, 2
+"#,
         Numbering(6, 23),
     ),
     Case(
         Plain,
-        "define i32 @main() {\n  %__msan.x = add i32 1, 2\n",
+        r#"define i32 @main() {
+  %__msan.x = add i32 1, 2
+"#,
         Reserved(6, 23),
     ),
     // Inserted code has names of this form.
     Case(
         Plain,
-        "define i32 @main() {\n  %__msan.1 = add i32 1, 2\n",
+        r#"define i32 @main() {
+  %__msan.1 = add i32 1, 2
+"#,
         Reserved(6, 23),
     ),
     Case(
         Instrumented,
-        "define i32 @main() {\n  %__msan.x = add i32 1, 2\n",
+        r#"define i32 @main() {
+  %__msan.x = add i32 1, 2
+"#,
         Reserved(6, 23),
     ),
-    Case(Plain, "define i32 @main() {\n  1:\n", Numbering(6, 23)),
     Case(
         Plain,
-        "define i32 @main() {\n  %1 = fadd i32 1, 2\n",
+        r#"define i32 @main() {
+  1:
+"#,
+        Numbering(6, 23),
+    ),
+    Case(
+        Plain,
+        r#"define i32 @main() {
+  %1 = fadd i32 1, 2
+"#,
         LeftOut(Outside::FloatingPoint, 8, 28),
     ),
     Case(
         Plain,
-        "define void @f(i1 %0, i32) {\n  br i1 %0, label %3, label %x\n4:\n",
+        r#"define void @f(i1 %0, i32) {
+  br i1 %0, label %3, label %x
+4:
+"#,
         Numbering(19, 60),
     ),
     Case(
         Plain,
-        "define void @f(i1 %0, i32) {\n  br i1 %0, label %3, label %x\n3:\n  ret void\nx:\n  ret void\n}\n",
+        r#"define void @f(i1 %0, i32) {
+  br i1 %0, label %3, label %x
+3:
+  ret void
+x:
+  ret void
+}
+"#,
         Written(
-            "define void @f(i1 %0, i32 %1) {\n  br i1 %0, label %3, label %x\n3:\n  ret void\nx:\n  ret void\n}\n",
+            r#"define void @f(i1 %0, i32 %1) {
+  br i1 %0, label %3, label %x
+3:
+  ret void
+x:
+  ret void
+}
+"#,
         ),
     ),
     Case(
         Plain,
         "define void @f() { 0: br label %1 ret void }",
-        Written("define void @f() {\n  br label %1\n1:\n  ret void\n}\n"),
+        Written(
+            r#"define void @f() {
+  br label %1
+1:
+  ret void
+}
+"#,
+        ),
     ),
     Case(
         Plain,
         "define void @f() { \"0\": ret void }",
-        Written("define void @f() {\n\"0\":\n  ret void\n}\n"),
+        Written(
+            r#"define void @f() {
+"0":
+  ret void
+}
+"#,
+        ),
     ),
     Case(
         Plain,
         "define void @f() { -5: ret void }",
-        Written("define void @f() {\n-5:\n  ret void\n}\n"),
+        Written(
+            r#"define void @f() {
+-5:
+  ret void
+}
+"#,
+        ),
     ),
     Case(
         Plain,
         "define void @f() { \"a b\": ret void }",
-        Written("define void @f() {\n\"a b\":\n  ret void\n}\n"),
+        Written(
+            r#"define void @f() {
+"a b":
+  ret void
+}
+"#,
+        ),
     ),
     Case(
         Plain,
@@ -147,7 +244,14 @@ pub static FUNCTIONS: [Case; 40] = [
     Case(
         Plain,
         "define void @f() { call void @f() %1 = call i8 @h() ret void }",
-        Written("define void @f() {\n  call void @f()\n  %1 = call i8 @h()\n  ret void\n}\n"),
+        Written(
+            r#"define void @f() {
+  call void @f()
+  %1 = call i8 @h()
+  ret void
+}
+"#,
+        ),
     ),
     Case(Plain, "define void @f() { ret void", Syntax(8, 27)),
     Case(Plain, "define void @f() { x: y: ret void }", Syntax(7, 22)),
@@ -161,7 +265,13 @@ pub static FUNCTIONS: [Case; 40] = [
         Plain,
         "declare i32 @printf(ptr) define void @f() { call i32 @printf(ptr @f, i8 1) call void @printf() ret void }",
         Written(
-            "declare i32 @printf(ptr, ...)\ndefine void @f() {\n  %1 = call i32 (ptr, ...) @printf(ptr @f, i8 1)\n  call void @printf()\n  ret void\n}\n",
+            r#"declare i32 @printf(ptr, ...)
+define void @f() {
+  %1 = call i32 (ptr, ...) @printf(ptr @f, i8 1)
+  call void @printf()
+  ret void
+}
+"#,
         ),
     ),
 ];
@@ -172,64 +282,117 @@ pub static MARKS: [Case; 10] = [
         Instrumented,
         "define void @f() { load i8, ptr %p, align 1, !nosanitize !0 ret void }",
         Written(
-            "define void @f() {\n  %1 = load i8, ptr %p, !nosanitize !0\n  ret void\n}\n!0 = !{}\n",
+            r#"define void @f() {
+  %1 = load i8, ptr %p, !nosanitize !0
+  ret void
+}
+!0 = !{}
+"#,
         ),
     ),
     Case(
         Instrumented,
         "define void @f() { freeze i8 1, !nosanitize !5, align 4 ret void }",
         Written(
-            "define void @f() {\n  %1 = freeze i8 1, !nosanitize !0\n  ret void\n}\n!0 = !{}\n",
+            r#"define void @f() {
+  %1 = freeze i8 1, !nosanitize !0
+  ret void
+}
+!0 = !{}
+"#,
         ),
     ),
     Case(
         Instrumented,
         "define void @f() { freeze i8 1, !nosanitize !x(1) ret void }",
         Written(
-            "define void @f() {\n  %1 = freeze i8 1, !nosanitize !0\n  ret void\n}\n!0 = !{}\n",
+            r#"define void @f() {
+  %1 = freeze i8 1, !nosanitize !0
+  ret void
+}
+!0 = !{}
+"#,
         ),
     ),
     Case(
         Instrumented,
         "define void @f() { freeze i8 1, !nosanitize !{} ret void }",
-        Written("define void @f() {\n  %1 = freeze i8 1\n  ret void\n}\n"),
+        Written(
+            r#"define void @f() {
+  %1 = freeze i8 1
+  ret void
+}
+"#,
+        ),
     ),
     Case(
         Instrumented,
         "define void @f() { alloca i8, !nosanitize !1, !a !1 ret void }",
-        Written("define void @f() {\n  %1 = alloca i8, !nosanitize !0\n  ret void\n}\n!0 = !{}\n"),
+        Written(
+            r#"define void @f() {
+  %1 = alloca i8, !nosanitize !0
+  ret void
+}
+!0 = !{}
+"#,
+        ),
     ),
     Case(
         Instrumented,
         "define void @f() { getelementptr i8, ptr %p, i8 1, !nosanitize !1 ret void }",
         Written(
-            "define void @f() {\n  %1 = getelementptr i8, ptr %p, i8 1, !nosanitize !0\n  ret void\n}\n!0 = !{}\n",
+            r#"define void @f() {
+  %1 = getelementptr i8, ptr %p, i8 1, !nosanitize !0
+  ret void
+}
+!0 = !{}
+"#,
         ),
     ),
     Case(
         Instrumented,
         "define void @f() { phi i8 [ 1, %x ], !nosanitize !1 ret void, !nosanitize !1 }",
         Written(
-            "define void @f() {\n  %1 = phi i8 [ 1, %x ], !nosanitize !0\n  ret void, !nosanitize !0\n}\n!0 = !{}\n",
+            r#"define void @f() {
+  %1 = phi i8 [ 1, %x ], !nosanitize !0
+  ret void, !nosanitize !0
+}
+!0 = !{}
+"#,
         ),
     ),
     Case(
         Instrumented,
         "define void @f() { call void @f(), !nosanitize !1 ret void }",
-        Written("define void @f() {\n  call void @f(), !nosanitize !0\n  ret void\n}\n!0 = !{}\n"),
+        Written(
+            r#"define void @f() {
+  call void @f(), !nosanitize !0
+  ret void
+}
+!0 = !{}
+"#,
+        ),
     ),
     Case(
         Instrumented,
         "define void @f() { switch i8 %v, label %d [ i8 1, label %a i8 -1, label %b ] }",
         Written(
-            "define void @f() {\n  switch i8 %v, label %d [ i8 1, label %a i8 -1, label %b ]\n}\n",
+            r#"define void @f() {
+  switch i8 %v, label %d [ i8 1, label %a i8 -1, label %b ]
+}
+"#,
         ),
     ),
     Case(
         Instrumented,
         "define void @f() { %__msan.0 = load i8, ptr @__msan_retval_tls call void @__msan_check() ret void }",
         Written(
-            "define void @f() {\n  %__msan.0 = load i8, ptr @__msan_retval_tls\n  call void @__msan_check()\n  ret void\n}\n",
+            r#"define void @f() {
+  %__msan.0 = load i8, ptr @__msan_retval_tls
+  call void @__msan_check()
+  ret void
+}
+"#,
         ),
     ),
 ];
@@ -239,12 +402,18 @@ pub static SKIPPED: [Case; 16] = [
     Case(
         Plain,
         "declare void @f() nounwind(x [ 1 { } ( ) , @f ] a: ) y",
-        Written("declare void @f()\n"),
+        Written(
+            r#"declare void @f()
+"#,
+        ),
     ),
     Case(
         Plain,
         "declare void @f() nounwind(volatile ... 1.5 %4294967296 )",
-        Written("declare void @f()\n"),
+        Written(
+            r#"declare void @f()
+"#,
+        ),
     ),
     Case(Plain, "attributes #0 = { ( ] ) }", Syntax(5, 20)),
     Case(Plain, "attributes #0 = { ( x } )", Syntax(6, 22)),
@@ -267,7 +436,10 @@ pub static SKIPPED: [Case; 16] = [
     Case(
         Instrumented,
         "declare void @f() nounwind(@__msan_check %__msan.1 )",
-        Written("declare void @f()\n"),
+        Written(
+            r#"declare void @f()
+"#,
+        ),
     ),
     Case(
         Instrumented,
@@ -277,7 +449,10 @@ pub static SKIPPED: [Case; 16] = [
     Case(
         Plain,
         "declare void @f() align 4 \"a\"=\"b\" \"c\" #0 #dbg section exact slt",
-        Written("declare void @f()\n"),
+        Written(
+            r#"declare void @f()
+"#,
+        ),
     ),
     Case(Plain, "declare void @f() x", Syntax(5, 18)),
     Case(Plain, "declare void @f() align", Syntax(6, 23)),

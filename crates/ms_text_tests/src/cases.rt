@@ -3,11 +3,11 @@
 ghost use Rattle.std.specs.Prelude.{◌≤◌, ◌^◌, length};
 
 use ms_bits::NoMemory;
-use ms_grammar::{Limit, Outside};
 use ms_ir::Form;
 use ms_lex::LexError;
 use ms_read_body::{ReadError, What};
 use ms_read_top::read;
+use ms_text_grammar::{Limit, Outside};
 use ms_write::write;
 use std::alloc::Global;
 
@@ -78,7 +78,8 @@ pub static LINE: Frame = Frame {
     tokens: 6,
     bytes: 19,
     tail: " ret void }",
-    written_head: "define void @f() {\n  ",
+    written_head: r#"define void @f() {
+  "#,
     written_tail: "\n  ret void\n}\n",
 };
 
@@ -88,7 +89,8 @@ pub static LAST: Frame = Frame {
     tokens: 6,
     bytes: 19,
     tail: " }",
-    written_head: "define void @f() {\n  ",
+    written_head: r#"define void @f() {
+  "#,
     written_tail: "\n}\n",
 };
 

@@ -4,8 +4,8 @@ use crate::cases::Case;
 use crate::cases::Want::{
     BadByte, Kept, LeftOut, Numbering, OpenString, Reserved, Syntax, Written,
 };
-use ms_grammar::Outside;
 use ms_ir::Form::{Instrumented, Plain};
+use ms_text_grammar::Outside;
 
 /// What stands at the top of a text.
 pub static ENTITIES: [Case; 38] = [
@@ -17,7 +17,10 @@ pub static ENTITIES: [Case; 38] = [
     Case(
         Plain,
         "source_filename = \"a.c\" @g = global i8 0",
-        Written("@g = global i8 0\n"),
+        Written(
+            r#"@g = global i8 0
+"#,
+        ),
     ),
     Case(Plain, "source_filename = \"a.c\" x", Syntax(3, 24)),
     Case(Plain, "source_filename = a.c", Syntax(2, 18)),
@@ -50,26 +53,53 @@ pub static ENTITIES: [Case; 38] = [
     Case(Plain, "#0", Syntax(0, 0)),
     Case(
         Plain,
-        "%t = type { i8 }\n@g = global i8 1\n@h = constant i8 2\ndeclare void @f(i8)\n",
-        Written("%t = type { i8 }\n@g = global i8 1\n@h = constant i8 2\ndeclare void @f(i8)\n"),
+        r#"%t = type { i8 }
+@g = global i8 1
+@h = constant i8 2
+declare void @f(i8)
+"#,
+        Written(
+            r#"%t = type { i8 }
+@g = global i8 1
+@h = constant i8 2
+declare void @f(i8)
+"#,
+        ),
     ),
     Case(
         Plain,
         "define void @f() { ret void } declare void @h(i8) @g = global i8 1 %t = type { i8 }",
         Written(
-            "%t = type { i8 }\n@g = global i8 1\ndeclare void @h(i8)\ndefine void @f() {\n  ret void\n}\n",
+            r#"%t = type { i8 }
+@g = global i8 1
+declare void @h(i8)
+define void @f() {
+  ret void
+}
+"#,
         ),
     ),
-    Case(Plain, "declare i32 @main()\n", Kept),
+    Case(
+        Plain,
+        r#"declare i32 @main()
+"#,
+        Kept,
+    ),
     Case(
         Plain,
         "declare external void @f(i8 noundef %x, ptr) nounwind #0",
-        Written("declare void @f(i8, ptr)\n"),
+        Written(
+            r#"declare void @f(i8, ptr)
+"#,
+        ),
     ),
     Case(
         Plain,
         "declare !dbg !1 void @f()",
-        Written("declare void @f()\n"),
+        Written(
+            r#"declare void @f()
+"#,
+        ),
     ),
     Case(
         Plain,
@@ -81,13 +111,26 @@ pub static ENTITIES: [Case; 38] = [
         "declare void @f(ptr, ...)",
         LeftOut(Outside::Variadic, 6, 21),
     ),
-    Case(Plain, "declare i32 @printf(ptr, ...)\n", Kept),
+    Case(
+        Plain,
+        r#"declare i32 @printf(ptr, ...)
+"#,
+        Kept,
+    ),
     Case(
         Plain,
         "declare void @printf(ptr, ...)",
-        Written("declare void @printf(ptr)\n"),
+        Written(
+            r#"declare void @printf(ptr)
+"#,
+        ),
     ),
-    Case(Plain, "declare i32 @printf(ptr, ptr)\n", Kept),
+    Case(
+        Plain,
+        r#"declare i32 @printf(ptr, ptr)
+"#,
+        Kept,
+    ),
     Case(
         Plain,
         "declare i32 @printf(i8, ...)",
@@ -96,7 +139,12 @@ pub static ENTITIES: [Case; 38] = [
     Case(Plain, "declare void @f(i8, )", Syntax(6, 20)),
     Case(Plain, "declare void %f()", Syntax(2, 13)),
     Case(Plain, "declare void @__msan_check()", Reserved(2, 13)),
-    Case(Instrumented, "declare i64 @__msan_size(ptr)\n", Kept),
+    Case(
+        Instrumented,
+        r#"declare i64 @__msan_size(ptr)
+"#,
+        Kept,
+    ),
 ];
 
 /// Global variables.
@@ -168,7 +216,10 @@ pub static GLOBALS: [Case; 23] = [
     Case(
         Plain,
         "@\"a\\22b\\5C\" = global i8 255 declare i32 @printf(ptr)",
-        Written("@\"a\\22b\\5C\" = global i8 -1\ndeclare i32 @printf(ptr, ...)"),
+        Written(
+            r#"@"a\22b\5C" = global i8 -1
+declare i32 @printf(ptr, ...)"#,
+        ),
     ),
     Case(Plain, "@0 = global i8 0", Written("@\"0\" = global i8 0")),
     Case(

@@ -2,8 +2,8 @@
 
 use crate::cases::Case;
 use crate::cases::Want::{Kept, LeftOut, Numbering, Reserved, Syntax, Written};
-use ms_grammar::Outside;
 use ms_ir::Form::Plain;
+use ms_text_grammar::Outside;
 
 /// Operations on words.
 pub static COMPUTATIONS: [Case; 57] = [

@@ -3,9 +3,9 @@
 use crate::cases::Want::{Kept, Limited, Read, Syntax, TooManyTokens};
 use crate::cases::{Want, is_error, rewritten};
 use ms_bits::NoMemory;
-use ms_grammar::Limit;
 use ms_ir::Form;
 use ms_ir::Form::Plain;
+use ms_text_grammar::Limit;
 use std::alloc::Global;
 use std::test::Fail;
 
@@ -99,7 +99,8 @@ static LIMITS: [Long; 26] = [
     ),
     Long(
         Plain,
-        "define void @f() {\n  %1 = getelementptr i8, ptr %p",
+        r#"define void @f() {
+  %1 = getelementptr i8, ptr %p"#,
         ", i64 0",
         64,
         "\n  ret void\n}\n",
@@ -109,7 +110,8 @@ static LIMITS: [Long; 26] = [
     ),
     Long(
         Plain,
-        "define void @f() {\n  %1 = getelementptr i8, ptr %p",
+        r#"define void @f() {
+  %1 = getelementptr i8, ptr %p"#,
         ", i64 0",
         65,
         "\n  ret void\n}\n",
@@ -190,7 +192,9 @@ static LIMITS: [Long; 26] = [
     ),
     Long(
         Plain,
-        "declare i32 @printf(ptr, ...)\ndefine void @f() {\n  %1 = call i32 (ptr, ...) @printf(ptr @s",
+        r#"declare i32 @printf(ptr, ...)
+define void @f() {
+  %1 = call i32 (ptr, ...) @printf(ptr @s"#,
         ", i8 0",
         99,
         ")\n  ret void\n}\n",
@@ -200,7 +204,9 @@ static LIMITS: [Long; 26] = [
     ),
     Long(
         Plain,
-        "declare i32 @printf(ptr, ...)\ndefine void @f() {\n  %1 = call i32 (ptr, ...) @printf(ptr @s",
+        r#"declare i32 @printf(ptr, ...)
+define void @f() {
+  %1 = call i32 (ptr, ...) @printf(ptr @s"#,
         ", i8 0",
         100,
         ")\n  ret void\n}\n",
@@ -208,22 +214,44 @@ static LIMITS: [Long; 26] = [
         "",
         Limited(Limit::Parameters, 325, 686),
     ),
-    Long(Plain, "", "@g = global i8 0\n", 16384, "", "", "", Kept),
     Long(
         Plain,
         "",
-        "@g = global i8 0\n",
+        r#"@g = global i8 0
+"#,
+        16384,
+        "",
+        "",
+        "",
+        Kept,
+    ),
+    Long(
+        Plain,
+        "",
+        r#"@g = global i8 0
+"#,
         16385,
         "",
         "",
         "",
         Limited(Limit::Globals, 81920, 278528),
     ),
-    Long(Plain, "", "declare void @f()\n", 16384, "", "", "", Kept),
     Long(
         Plain,
         "",
-        "declare void @f()\n",
+        r#"declare void @f()
+"#,
+        16384,
+        "",
+        "",
+        "",
+        Kept,
+    ),
+    Long(
+        Plain,
+        "",
+        r#"declare void @f()
+"#,
         16385,
         "",
         "",
@@ -233,7 +261,8 @@ static LIMITS: [Long; 26] = [
     Long(
         Plain,
         "",
-        "declare void @f()\n",
+        r#"declare void @f()
+"#,
         16384,
         "define void @f() { ret void }",
         "",

@@ -5,11 +5,11 @@ ghost use Rattle.ms_read_body.specs.Calls.{AreTokens};
 
 use crate::cases::Want::{LeftOut, Limited, Numbering, Reserved, Syntax};
 use crate::cases::{Want, is_error};
-use ms_grammar::{Limit, Outside};
 use ms_ir::Form::{Instrumented, Plain};
 use ms_ir::{Form, Ty};
 use ms_lex::{LexError, Token, tokens};
 use ms_read_body::{ReadError, read_body, read_type, read_value, skip_attributes};
+use ms_text_grammar::{Limit, Outside};
 use std::alloc::Global;
 use std::test::Fail;
 
@@ -45,7 +45,11 @@ use Answer::{Next, Not};
 /// A piece in a form, a text, the token from which it is read, and the answer.
 struct Part(Piece, Form, &'static str, u32, Answer);
 
-const MAIN: &str = "define i32 @main() {\n  %1 = add i32 1, 2\n  ret i32 0\n}\n";
+const MAIN: &str = r#"define i32 @main() {
+  %1 = add i32 1, 2
+  ret i32 0
+}
+"#;
 
 /// Types are read.
 static TYPES: [Part; 19] = [
@@ -201,7 +205,11 @@ static FUNCTIONS: [Part; 10] = [
     Part(
         Function,
         Plain,
-        "declare void @f() define i32 @main() {\n  %1 = add i32 1, 2\n  ret i32 0\n}\n",
+        r#"declare void @f() define i32 @main() {
+  %1 = add i32 1, 2
+  ret i32 0
+}
+"#,
         5,
         Next(22),
     ),

@@ -1,42 +1,32 @@
 -- A thread that begins goes on as its fiber does, and so does `main`'s at the start of a run.
-use Rattle.std.proofs.Common.{◌≡◌, ◌≢◌, ◌<◌, ◌≤◌, ◌+◌, ◌-◌, ◌*◌, ◌%◌, ◌^◌, ℕ, zero, suc, Bool, true, false, true≢false, not, eqb, if◌then◌else◌, List, [], ◌∷◌, length, reverse, map, slice_get, refl, sym, ap, subst, ◌∙◌, arith, Option, Some, None, option_map, unwrap_or, inr}
-use Rattle.std.proofs.lemmas.Bool.{and_parts, ne_eqb}
+use Rattle.std.proofs.Common.{◌≡◌, ◌<◌, ◌+◌, ◌-◌, ◌*◌, ◌^◌, ℕ, zero, suc, true, not, eqb, List, [], ◌∷◌, length, reverse, map, slice_get, sym, ap, subst, ◌∙◌, arith, Some, None, option_map, inr}
+use Rattle.std.proofs.lemmas.Bool.{ne_eqb}
 use Rattle.std.proofs.lemmas.Option.{slice_get-map}
 use Rattle.std.proofs.Math.Nat.{mod-eq_of_lt}
 use Rattle.ms_bits.specs.Maps.{with_range}
-use Rattle.ms_ir.specs.declared.syntax.Name.{Name}
-use Rattle.ms_ir.specs.declared.syntax.Ty.{Ty, Ptr}
-use Rattle.ms_ir.specs.declared.syntax.Func.{Func}
 use Rattle.ms_ir.specs.declared.syntax.Module.{Module}
 use Rattle.ms_ir.specs.declared.calls.Slot.TheVariants as slot
-use Rattle.ms_ir.specs.Names.{name_eq, slot_room}
-use Rattle.ms_ir.specs.Layout.{width_of}
-use Rattle.ms_ir.specs.Equal.{result_type_eq, types_eq, type_eq}
-use Rattle.ms_ir.specs.Signatures.{answers, signature_eq, func_signature}
-use Rattle.ms_ir.specs.Locals.{value_type}
-use Rattle.ms_ir.specs.Code.{over_funcs, func_at}
+use Rattle.ms_ir.specs.Names.{slot_room}
+use Rattle.ms_ir.specs.Signatures.{answers}
+use Rattle.ms_ir.specs.Instructions.{over_funcs}
 use Rattle.ms_valid.specs.Formed.{Formed}
 use Rattle.ms_valid.specs.Valid.{Valid}
-use Rattle.ms_valid.specs.Paths.{insts_of}
-use Rattle.ms_valid.proofs.NameTests.{name_sound}
-use Rattle.ms_valid.proofs.TypedValues.{param_typed}
 use Rattle.ms_runs.specs.declared.runs.Setup.{Setup}
 use Rattle.ms_runs.specs.World.{World}
-use Rattle.ms_runs.specs.Control.{bind, entered, params_at}
+use Rattle.ms_runs.specs.Control.{entered}
 use Rattle.ms_runs.specs.Act.{plain_reading}
 use Rattle.ms_runs.specs.Plain.{PlainState, plain_start}
 use Rattle.ms_runs.specs.Threads.{first_clean}
-use Rattle.ms_runs_good.specs.GoodStates.{GoodFrame, IsBelow, IsStart}
-use Rattle.ms_runs_good.proofs.Starts.{Entry, entry_of, place_within, no_leading}
-use Rattle.ms_runs_good.proofs.NextFrames.{one_type}
-use Rattle.ms_runs_good.proofs.Readings.{plain_unset}
-use Rattle.ms_runs_good.proofs.WorldChanges.{range_keeps}
+use Rattle.ms_good_laws.specs.GoodStates.{GoodFrame, IsBelow, IsStart}
+use Rattle.ms_good_laws.proofs.Readings.{plain_unset}
+use Rattle.ms_good_laws.proofs.WorldChanges.{range_keeps}
 use Rattle.ms_threads_runs.specs.PlainFibers.{no_others}
+use Rattle.ms_threads_laws.proofs.StartedFibers.{start_types, unary_good}
 use Rattle.ms_host.specs.State.{Beside, KeepsGiven, nothing_beside}
 use Rattle.ms_host.specs.Shows.{Shows}
 use Rattle.ms_host.specs.SlotBytes.{ShowsSlots}
-use Rattle.ms_machine_steps.specs.declared.fibers.Fiber.{Fiber}
-use Rattle.ms_machine_steps.specs.Owning.{is_spawned}
+use Rattle.ms_machine_frames.specs.declared.fibers.Fiber.{Fiber}
+use Rattle.ms_machine_frames.specs.Owning.{is_spawned}
 use Rattle.ms_machine.specs.Running.{AllStandFor}
 use Rattle.ms_machine.specs.Spawning.{SpawnedFor}
 use Rattle.ms_printf.specs.CallSites.{AreCallSites}
@@ -50,52 +40,10 @@ use Rattle.ms_threads.proofs.Places.{same_frames, none_more, no_call}
 
 -- ---- the function of a thread
 
--- it has one parameter, a pointer
-only_parameter : (f : Func) → signature_eq (func_signature f) (answers Ptr (Ptr ∷ [])) ≡ true → (y : Name) × (f.params ≡ (Ptr, y) ∷ [])
-only_parameter f same = by_params f.params (and_parts (result_type_eq (func_signature f).ret (answers Ptr (Ptr ∷ [])).ret) (types_eq (func_signature f).params (Ptr ∷ [])) same).1
-  where
-    ptr_is : (t : Ty) → type_eq t Ptr ≡ true → t ≡ Ptr
-    ptr_is Ptr e = refl
-    ptr_is t e = absurd (true≢false (sym e))
-
-    by_params : (ps : List (Ty × Name)) → types_eq (map (λ (q : Ty × Name). q.0) ps) (Ptr ∷ []) ≡ true → (y : Name) × (ps ≡ (Ptr, y) ∷ [])
-    by_params [] e = absurd (true≢false (sym e))
-    by_params (p ∷ []) e = let q = ptr_is p.0 (and_parts (type_eq p.0 Ptr) true e).0 in (p.1, λ j. (q j, p.1) ∷ [])
-    by_params (p ∷ r ∷ rest) e = absurd (true≢false (sym (and_parts (type_eq p.0 Ptr) false e).1))
-
 -- its first frame is good
 begun_good : (m : Module) → Formed m → Valid m → (func argument : ℕ) (world : World) → IsStart m func → argument < 2 ^ 64 → GoodFrame IsBelow m (entered plain_reading m func (argument ∷ []) world)
-begun_good m formed valid func argument world start few = record {
-  func = start.0;
-  stands = stands;
-  before = [];
-  path = (refl, tt);
-  place = place_within (insts_of (start.0) 0) 0 entry.inst due;
-  behind_phis = subst (λ c. c ≤ 0) (sym (no_leading (insts_of (start.0) 0) entry.inst due entry.plain)) (omega arith);
-  words = λ x t set typed. subst (λ ps. IsBelow (bind plain_reading.unset ps (argument ∷ []) x) (2 ^ width_of t)) (sym params) (by_name x t typed (name_eq x only.0) refl);
-}
-  where
-    stands : func_at m func ≡ Some (start.0)
-    stands = start.1.0
-
-    only : (y : Name) × ((start.0).params ≡ (Ptr, y) ∷ [])
-    only = only_parameter (start.0) start.1.1
-
-    params : params_at m func ≡ (Ptr, only.0) ∷ []
-    params = ap (λ (o : Option Func). unwrap_or (option_map (λ g. g.params) o) []) stands ∙ only.1
-
-    entry : Entry (start.0)
-    entry = entry_of m formed valid func (start.0) stands
-
-    due : slice_get (insts_of (start.0) 0) 0 ≡ Some entry.inst
-    due = ap (λ o. slice_get (unwrap_or (option_map (λ k. k.insts) o) []) 0) entry.at ∙ entry.due
-
-    by_name : (x : Name) (t : Ty) → value_type (start.0) x ≡ Some t → (b : Bool) → name_eq x only.0 ≡ b → IsBelow (if b then argument else plain_reading.unset) (2 ^ width_of t)
-    by_name x t typed true e =
-        let own : value_type (start.0) only.0 ≡ Some Ptr = param_typed m valid func (start.0) stands 0 Ptr only.0 (ap (λ ps. slice_get ps 0) only.1) in
-        let same : Ptr ≡ t = one_type Ptr t (value_type (start.0) only.0) own (ap (value_type (start.0)) (sym (name_sound x only.0 e)) ∙ typed) in
-        subst (λ z. argument < 2 ^ width_of z) same few
-    by_name x t typed false e = plain_unset t
+begun_good m formed valid func argument world start few =
+    unary_good IsBelow plain_reading m formed valid func (start.0) start.1.0 (start_types (start.0) start.1.1) argument plain_unset few world
 
 -- ---- it begins
 

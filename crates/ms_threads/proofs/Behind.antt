@@ -2,7 +2,7 @@
 use Rattle.std.proofs.Common.{◌≡◌, ◌<◌, ◌≤◌, ◌+◌, ◌-◌, ◌*◌, ◌^◌, ℕ, suc, Bool, true, false, not, eqb, if◌then◌else◌, List, ◌∷◌, length, slice_get, refl, sym, ap, subst, ◌∙◌, arith, Option, Some, None, inl}
 use Rattle.ms_ir.specs.declared.syntax.Module.{Module}
 use Rattle.ms_ir.specs.declared.calls.External.{External}
-use Rattle.ms_ir.specs.Code.{over_funcs}
+use Rattle.ms_ir.specs.Instructions.{over_funcs}
 use Rattle.ms_ir.specs.Signatures.{is_thread_call}
 use Rattle.ms_valid.specs.Formed.{Formed}
 use Rattle.ms_valid.specs.Valid.{Valid}
@@ -12,11 +12,11 @@ use Rattle.ms_runs.specs.World.{World}
 use Rattle.ms_runs.specs.Control.{Frame}
 use Rattle.ms_runs.specs.Plain.{PlainState, Stepped, setting_of}
 use Rattle.ms_runs.specs.Threads.{Fibers}
-use Rattle.ms_runs_good.specs.GoodStates.{IsStart}
+use Rattle.ms_good_laws.specs.GoodStates.{IsStart}
 use Rattle.ms_threads_runs.specs.Fibers.{goes_on, moves}
 use Rattle.ms_threads_runs.specs.PlainFibers.{plain_threads, plain_going}
-use Rattle.ms_code_data.specs.declared.code.Program.{Program}
-use Rattle.ms_code_data.specs.Compiled.{Compiled}
+use Rattle.ms_code.specs.declared.code.Program.{Program}
+use Rattle.ms_code.specs.Compiled.{Compiled}
 use Rattle.ms_host.specs.State.{WorldState}
 use Rattle.ms_host.specs.declared.calls.Asked.{Asked}
 use Rattle.ms_host.specs.declared.calls.Asked.TheVariants as asked
@@ -26,9 +26,9 @@ use Rattle.ms_host.specs.declared.calls.HostCall.{HostCall}
 use Rattle.ms_host.specs.State.{Keeps}
 use Rattle.ms_host.specs.Answers.{Answered, asked_effect}
 use Rattle.ms_printf.specs.CallSites.{AreCallSites}
-use Rattle.ms_machine_steps.specs.declared.fibers.Fiber.{Fiber}
-use Rattle.ms_machine_steps.specs.Owning.{KeepsOwn}
-use Rattle.ms_machine_steps.specs.Standing.{frames_of, IsState}
+use Rattle.ms_machine_frames.specs.declared.fibers.Fiber.{Fiber}
+use Rattle.ms_machine_frames.specs.Owning.{KeepsOwn}
+use Rattle.ms_machine_frames.specs.Standing.{frames_of, IsState}
 use Rattle.ms_machine_steps.specs.Waiting.{Waits, types_due, answered}
 use Rattle.ms_machine_steps.specs.Advances.{Resumes, Stops, HasResumed}
 use Rattle.ms_machine_steps.proofs.Answered.{waiter, below_it, waits, waiter_stands, answered_on, answered_ends, HasStopped}

@@ -6,7 +6,7 @@ use Rattle.ms_ir.specs.declared.syntax.Name.{Name}
 use Rattle.ms_ir.specs.declared.syntax.Func.{Func}
 use Rattle.ms_ir.specs.declared.calls.External.{External}
 use Rattle.ms_ir.specs.Names.{lookup, externals, name_eq}
-use Rattle.ms_ir.specs.Code.{func_index, external_named}
+use Rattle.ms_ir.specs.Instructions.{func_index, external_named}
 use Rattle.ms_ir.specs.ThreadCalls.{is_asked}
 
 -- a function has a number where one has its name

@@ -8,7 +8,7 @@ use Rattle.ms_ir.specs.declared.syntax.Module.{Module}
 use Rattle.ms_runs.specs.declared.runs.Setup.{Setup}
 use Rattle.ms_runs.specs.Control.{Frame}
 use Rattle.ms_runs.specs.Threads.{fiber_limit}
-use Rattle.ms_runs_good.specs.GoodStates.{IsStart}
+use Rattle.ms_good_laws.specs.GoodStates.{IsStart}
 use Rattle.ms_threads_runs.specs.Fibers.{Others, standing}
 use Rattle.ms_threads.specs.declared.guests.Thread.{Thread as Guest}
 use Rattle.ms_threads.specs.declared.guests.Guests.{Guests}

@@ -96,10 +96,6 @@ test_of g k = is_runnable standing_joins (threads_of g) (stands_of g) k
 pub all_of : (g : Guests) → Counted g → runnable_in g ≡ rest (test_of g) 0 (length g.stands.items)
 all_of g counted = ap (λ d. filter (test_of g) (numbers_from 0 d)) (let e : length (threads_of g) + 1 ≡ length g.stands.items - 0 = omega (arith, counted, length-map g.threads.items thread_of) in e)
 
--- one that has ended may not
-pub ended_rests : (g : Guests) (k : ℕ) → true ≡ has_ended (thread_at k (threads_of g)) → false ≡ test_of g k
-ended_rests g k e = ap (λ b. not b && may_go standing_joins k (threads_of g) (stands_of g k)) e
-
 -- another goes by where it stands
 pub goes_by : (g : Guests) (k : ℕ) (o : Option Standing) (b : Bool) → false ≡ has_ended (thread_at k (threads_of g)) → stands_of g k ≡ o → b ≡ may_go standing_joins k (threads_of g) o → b ≡ test_of g k
 goes_by g k o b e is goes = goes ∙ ap (may_go standing_joins k (threads_of g)) (sym is) ∙ ap (λ t. not t && may_go standing_joins k (threads_of g) (stands_of g k)) e

@@ -8,7 +8,7 @@ use Rattle.ms_ir.specs.declared.syntax.Inst.{Inst}
 use Rattle.ms_ir.specs.declared.syntax.Module.{Module}
 use Rattle.ms_ir.specs.declared.calls.External.{External}
 use Rattle.ms_ir.specs.declared.calls.External.TheVariants as external
-use Rattle.ms_ir.specs.Code.{over_funcs, func_index, insts_at, external_named, operands}
+use Rattle.ms_ir.specs.Instructions.{over_funcs, func_index, insts_at, external_named, operands}
 use Rattle.ms_runs.specs.declared.runs.End.TheVariants as «end»
 use Rattle.ms_runs.specs.declared.runs.Setup.{Setup}
 use Rattle.ms_runs.specs.World.{Thread}
@@ -24,7 +24,7 @@ use Rattle.ms_host.specs.declared.calls.Asked.{Asked}
 use Rattle.ms_host.specs.declared.calls.Asked.TheVariants as asked
 use Rattle.ms_host.specs.declared.calls.HostCall.{HostCall}
 use Rattle.ms_printf.specs.CallSites.{AreCallSites}
-use Rattle.ms_machine_steps.specs.declared.fibers.Fiber.{Fiber}
+use Rattle.ms_machine_frames.specs.declared.fibers.Fiber.{Fiber}
 use Rattle.ms_machine_steps.specs.Waiting.{IsAsked, FirstWaits}
 use Rattle.ms_runtime.specs.declared.runs.Running.{Running}
 use Rattle.ms_runtime.specs.Served.{IsBeside}

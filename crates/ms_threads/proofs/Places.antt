@@ -4,8 +4,8 @@ use Rattle.std.proofs.Math.ListN.{set}
 use Rattle.std.proofs.lemmas.Bool.{eq-eqb}
 use Rattle.std.proofs.lemmas.List.{length-set}
 use Rattle.ms_host.specs.declared.calls.HostCall.{HostCall}
-use Rattle.ms_machine_steps.specs.declared.fibers.Fiber.{Fiber}
-use Rattle.ms_machine_steps.specs.Standing.{frames_of}
+use Rattle.ms_machine_frames.specs.declared.fibers.Fiber.{Fiber}
+use Rattle.ms_machine_frames.specs.Standing.{frames_of}
 use Rattle.ms_threads.specs.declared.guests.Place.{Place}
 use Rattle.ms_threads.specs.declared.guests.Guests.{Guests}
 use Rattle.ms_threads.specs.Guests.{Standing, standing_of, stand_of, stand_at, SameCalls, Stands}

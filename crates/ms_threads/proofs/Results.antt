@@ -6,6 +6,7 @@ use Rattle.ms_bits.specs.Maps.{byte_of}
 use Rattle.ms_ir.specs.declared.syntax.Ty.{Ty}
 use Rattle.ms_ir.specs.declared.syntax.Module.{Module}
 use Rattle.ms_ir.specs.declared.calls.RuntimeFn.TheVariants as function
+use Rattle.ms_ir.proofs.Differing.{and_true}
 use Rattle.ms_runs.specs.declared.runs.Setup.{Setup}
 use Rattle.ms_runs.specs.declared.runs.RunResult.{RunResult}
 use Rattle.ms_runs.specs.World.{World, Setting, Does}
@@ -22,10 +23,10 @@ use Rattle.ms_host.specs.declared.calls.Asked.TheVariants as asked
 use Rattle.ms_host.specs.declared.calls.Answer.TheVariants.{Resumed}
 use Rattle.ms_host.specs.declared.calls.HostCall.{HostCall}
 use Rattle.ms_machine_steps.specs.Waiting.{types_due}
-use Rattle.ms_runs_good.specs.GoodStates.{IsBelow}
-use Rattle.ms_runs_good.specs.Straight.{HaveTypes}
+use Rattle.ms_good_laws.specs.GoodStates.{IsBelow}
+use Rattle.ms_good_laws.specs.Straight.{HaveTypes}
 use Rattle.ms_machine_steps.proofs.Asking.{asked_types}
-use Rattle.ms_runs_good.proofs.FibersKept.{runtime_keeps}
+use Rattle.ms_good_laws.proofs.FibersKept.{runtime_keeps}
 use Rattle.ms_runtime.specs.Served.{IsBeside, CanAnswer, Served, Fits}
 use Rattle.ms_runtime.proofs.Fitting.{fits_asked}
 use Rattle.ms_runtime.specs.Answering.{AnsweredFor}
@@ -55,10 +56,6 @@ last_false a b c = and_false (a && b && c)
     and_false : (x : Bool) → (x && false) ≡ false
     and_false true = refl
     and_false false = refl
-
-and_true : (x : Bool) → (x && true) ≡ x
-and_true true = refl
-and_true false = refl
 
 module _ (setting : Setting) (a id answer site : ℕ) (world : World) where
   pub result_answered : answer ≢ 0 → thread_result setting a id answer site world ≡ world

@@ -1,11 +1,11 @@
 -- What thread calls and ends of threads do to the threads of a run is what they do to the fibers of its world.
-use Rattle.std.proofs.Common.{◌≡◌, ◌<◌, ◌≤◌, ◌+◌, ◌-◌, ◌&&◌, ◌||◌, ◌≢◌, ℕ, zero, suc, Bool, true, false, not, List, [], ◌∷◌, ◌++◌, length, map, get_or, slice_get, eqb, leb, if◌then◌else◌, refl, sym, ap, ◌∙◌, subst, arith, Option, Some, None, option_map, ◌⊎◌, inl, inr, true≢false, eqb-true, Result}
+use Rattle.std.proofs.Common.{◌≡◌, ◌<◌, ◌≤◌, ◌+◌, ◌-◌, ◌&&◌, ◌||◌, ◌≢◌, ℕ, zero, suc, Bool, true, false, not, List, [], ◌∷◌, ◌++◌, length, map, get_or, slice_get, eqb, leb, if◌then◌else◌, refl, sym, ap, ◌∙◌, subst, arith, Some, None, option_map, ◌⊎◌, inl, inr, true≢false, eqb-true, Result}
 use Rattle.std.specs.Prelude.{IfOk}
 use Rattle.std.proofs.Math.ListN.{set}
 use Rattle.std.proofs.Math.Nat.{suc-ne-zero}
 use Rattle.std.proofs.lemmas.List.{length-map, length-append}
 use Rattle.std.proofs.lemmas.Bool.{eq-eqb, ne_eqb, leb-false}
-use Rattle.std.proofs.lemmas.Option.{slice_get-map, slice_get_past, slice_get-get_or, same_Some}
+use Rattle.std.proofs.lemmas.Option.{slice_get-map, same_Some}
 use Rattle.ms_bits.specs.declared.traps.Trap.TheVariants as trap
 use Rattle.ms_runs.specs.declared.runs.End.TheVariants as «end»
 use Rattle.ms_ir.specs.declared.syntax.Ty.{Ty}
@@ -13,7 +13,7 @@ use Rattle.ms_ir.specs.declared.calls.External.TheVariants as external
 use Rattle.ms_runs.specs.World.{World, Setting, Thread, Effect, Gives, Ends}
 use Rattle.ms_runs.specs.Memory.{is_good, store_number}
 use Rattle.ms_runs.specs.Externals.{where_good, create, join, joined}
-use Rattle.ms_runs.specs.Threads.{Fibers, fibers_of, fiber_limit, thread_at, changed_at, changed_thread, with_fiber, with_joined, has_ended, join_of, join_answer, set_at}
+use Rattle.ms_runs.specs.Threads.{Fibers, fibers_of, fiber_limit, thread_at, changed_at, changed_thread, with_fiber, with_joined, has_ended, join_answer, set_at}
 use Rattle.ms_runs.specs.Poisoned.{Poisoned}
 use Rattle.ms_threads_runs.specs.Fibers.{waits}
 use Rattle.ms_host.specs.declared.calls.Asked.{Asked}
@@ -25,37 +25,15 @@ use Rattle.ms_host.specs.Shows.{Shows}
 use Rattle.ms_host.specs.Answers.{effect_asked}
 use Rattle.ms_threads.specs.declared.guests.Thread.{Thread as Guest}
 use Rattle.ms_threads.specs.declared.guests.Guests.{Guests}
-use Rattle.ms_threads.specs.Guests.{thread_of, fresh, joined_guest, ended_guest, guest_at, part_at, changed_guests, changed_guest, stand_at, asked_creates, asked_joins, asked_starts, IsThreadCall, threads_of, Shares, Added, Changed, KeepsStands, Did}
+use Rattle.ms_threads.specs.Guests.{thread_of, fresh, joined_guest, ended_guest, guest_at, part_at, changed_guests, changed_guest, stand_at, asked_creates, asked_joins, IsThreadCall, threads_of, Shares, Added, Changed, KeepsStands, Did}
 use Rattle.ms_threads.proofs.Places.{none_more, no_call}
 
 -- ---- lists
-
--- no thread has number 0, or one behind the last
-pub no_guest : (n : ℕ) (ts : List Guest) → n ≡ 0 → None ≡ guest_at n ts
-no_guest n ts e = ap (λ k. guest_at k ts) (sym e)
-
-pub past_guest : (n k : ℕ) (ts : List Guest) → n ≡ suc k → length ts ≤ k → None ≡ guest_at n ts
-past_guest n k ts e le = sym (ap (λ j. guest_at j ts) e ∙ slice_get_past ts k le)
-
-pub that_guest : (n k : ℕ) (ts : List Guest) (d : Guest) → n ≡ suc k → k < length ts → Some (get_or ts k d) ≡ guest_at n ts
-that_guest n k ts d e lt = sym (ap (λ j. guest_at j ts) e ∙ slice_get-get_or ts k d lt)
 
 -- the threads of the definitions by number
 pub same_thread : (n : ℕ) (ts : List Guest) → option_map thread_of (guest_at n ts) ≡ thread_at n (map thread_of ts)
 same_thread zero ts = refl
 same_thread (suc k) ts = sym (slice_get-map thread_of ts k)
-
--- whether one has ended, and what a join of it answers, by the thread of the code
-pub ended_of : (n : ℕ) (ts : List Guest) (o : Option Guest) → o ≡ guest_at n ts → has_ended (option_map thread_of o) ≡ has_ended (thread_at n (map thread_of ts))
-ended_of n ts o e = ap (λ q. has_ended (option_map thread_of q)) e ∙ ap has_ended (same_thread n ts)
-
-pub join_by : (own n : ℕ) (ts : List Guest) (o : Option Guest) → n ≢ own → o ≡ guest_at n ts → join_of (option_map thread_of o) ≡ join_answer own n (map thread_of ts)
-join_by own n ts o other e =
-    ap (λ q. join_of (option_map thread_of q)) e ∙ ap join_of (same_thread n ts)
-    ∙ sym (ap (λ (b : Bool). if b then 35 else join_of (thread_at n (map thread_of ts))) (ne_eqb n own other))
-
-pub own_join : (own n : ℕ) (ts : List Thread) → n ≡ own → 35 ≡ join_answer own n ts
-own_join own n ts e = sym (ap (λ (b : Bool). if b then 35 else join_of (thread_at n ts)) (eq-eqb n own e))
 
 -- a changed list
 pub set_changed : (k : ℕ) (change : Guest → Guest) (ts : List Guest) (d : Guest) → k < length ts → set ts k (change (get_or ts k d)) ≡ changed_guests k change ts
@@ -484,16 +462,6 @@ module _ (setting : Setting) (site : ℕ) (types : List Ty) (args : List ℕ) (w
   effect_yields (asked.External external.SchedYield) is none e = refl
   effect_yields (asked.External x) is none e = absurd (true≢false (sym is))
   effect_yields (asked.Runtime f) is none e = absurd is
-
-pub starts_created : (of : Asked) (args : List ℕ) → asked_creates of ≡ true → get_or args 2 0 ∷ [] ≡ asked_starts of args
-starts_created (asked.External external.PthreadCreate) args e = refl
-starts_created (asked.External x) args e = absurd (true≢false (sym e))
-starts_created (asked.Runtime f) args e = absurd (true≢false (sym e))
-
-pub starts_joined : (of : Asked) (args : List ℕ) (id : ℕ) → asked_joins of args ≡ Some id → [] ≡ asked_starts of args
-starts_joined (asked.External external.PthreadJoin) args id e = refl
-starts_joined (asked.External x) args id e = absurd (cc)
-starts_joined (asked.Runtime f) args id e = absurd (cc)
 
 -- where words are those of a call
 pub did_words : {E : Type 0} (e : ℕ → ℕ → ℕ → Effect) {a a' b b' c c' : ℕ} (r : Result Answer E) (beside : Beside) (g : Guests) (w : WorldState) → a ≡ a' → b ≡ b' → c ≡ c' → IfOk r (λ x. Did (e a b c) x beside g w) → IfOk r (λ x. Did (e a' b' c') x beside g w)

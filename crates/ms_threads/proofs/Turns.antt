@@ -5,7 +5,7 @@ use Rattle.ms_bits.specs.Maps.{number_at}
 use Rattle.ms_ir.specs.declared.syntax.Module.{Module}
 use Rattle.ms_ir.specs.declared.calls.Slot.TheVariants as slot
 use Rattle.ms_ir.specs.Names.{slot_room}
-use Rattle.ms_ir.specs.Code.{over_funcs}
+use Rattle.ms_ir.specs.Instructions.{over_funcs}
 use Rattle.ms_runs.specs.declared.runs.End.{End}
 use Rattle.ms_runs.specs.declared.runs.End.TheVariants as «end»
 use Rattle.ms_runs.specs.declared.runs.Setup.{Setup}
@@ -13,8 +13,8 @@ use Rattle.ms_runs.specs.World.{World, result}
 use Rattle.ms_runs.specs.Control.{given_back}
 use Rattle.ms_runs.specs.Poisoned.{Poisoned}
 use Rattle.ms_runs.specs.Threads.{Fibers, fibers_of, with_answer, result_mask, result_origin}
-use Rattle.ms_runs_good.specs.GoodWorlds.{GoodWorld, FitsCell}
-use Rattle.ms_runs_good.proofs.WorldChanges.{given_back_good}
+use Rattle.ms_good_laws.specs.GoodWorlds.{GoodWorld, FitsCell}
+use Rattle.ms_good_laws.proofs.WorldChanges.{given_back_good}
 use Rattle.ms_threads_runs.specs.PlainFibers.{Shared, plain_threads}
 use Rattle.ms_host.specs.State.{Beside}
 use Rattle.ms_host.specs.Shows.{Shows}
@@ -23,7 +23,7 @@ use Rattle.ms_host.specs.declared.calls.Asked.{Asked}
 use Rattle.ms_host.specs.declared.calls.Asked.TheVariants as asked
 use Rattle.ms_host.specs.declared.calls.HostCall.{HostCall}
 use Rattle.ms_printf.specs.CallSites.{AreCallSites}
-use Rattle.ms_machine_steps.specs.declared.fibers.Fiber.{Fiber}
+use Rattle.ms_machine_frames.specs.declared.fibers.Fiber.{Fiber}
 use Rattle.ms_machine_steps.specs.Advances.{Counts, IsSpent, HasEnded as HasStopped, HasAsked, HasFinished}
 use Rattle.ms_machine.specs.Running.{IsRunning}
 use Rattle.ms_runtime.specs.Served.{IsBeside}

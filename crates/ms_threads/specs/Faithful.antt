@@ -6,7 +6,7 @@ use Rattle.ms_runs.specs.declared.runs.Setup.{Setup}
 use Rattle.ms_runs.specs.Faithful.{Fair, Undisturbed}
 use Rattle.ms_threads_runs.specs.PlainFibers.{plain_threads}
 use Rattle.ms_threads_runs.specs.ShadowFibers.{shadow_threads}
-use Rattle.ms_runs_good.specs.Fills.{IsFill, refilled, to_first_report, SameShown}
+use Rattle.ms_good_laws.specs.Fills.{IsFill, refilled, to_first_report, SameShown}
 
 -- a schedule isn't empty
 abbrev pub IsSchedule : List ℕ → Type 0

@@ -5,7 +5,7 @@ use Rattle.ms_runs.specs.declared.runs.Setup.{Setup}
 use Rattle.ms_runs.specs.declared.runs.Report.{Report}
 use Rattle.ms_runs.specs.declared.runs.RunResult.{RunResult}
 use Rattle.ms_runs.specs.Verdict.{Clean, verdict_of}
-use Rattle.ms_runs_good.specs.Fills.{IsFill, refilled, to_first_report, SameShown}
+use Rattle.ms_good_laws.specs.Fills.{IsFill, refilled, to_first_report, SameShown}
 use Rattle.ms_threads_runs.specs.PlainFibers.{plain_threads}
 use Rattle.ms_threads_runs.specs.ShadowFibers.{shadow_threads}
 

@@ -1,15 +1,15 @@
 -- What a run of threads keeps from pause to pause (own).
 use Rattle.std.specs.Prelude.{◌≡◌, ◌<◌, ◌≤◌, ◌+◌, ◌*◌, ◌%◌, ◌^◌, ℕ, suc, false, not, List, length, reverse, eqb, Option, Some, None, slice_get}
 use Rattle.ms_ir.specs.declared.syntax.Module.{Module}
-use Rattle.ms_ir.specs.Code.{over_funcs, count_roots}
+use Rattle.ms_ir.specs.Instructions.{over_funcs, count_roots}
 use Rattle.ms_runs.specs.declared.runs.End.{End}
 use Rattle.ms_runs.specs.declared.runs.Setup.{Setup}
 use Rattle.ms_runs.specs.World.{World}
 use Rattle.ms_runs.specs.Control.{Frame}
 use Rattle.ms_runs.specs.Threads.{fiber_limit, result_mask, result_origin}
 use Rattle.ms_runs.specs.Plain.{PlainState, Stepped, setting_of}
-use Rattle.ms_runs_good.specs.GoodStates.{GoodFrames, IsBelow, IsStart}
-use Rattle.ms_runs_good.specs.GoodWorlds.{GoodWorld, GivesBytes, FitsCell}
+use Rattle.ms_good_laws.specs.GoodStates.{GoodFrames, IsBelow, IsStart}
+use Rattle.ms_good_laws.specs.GoodWorlds.{GoodWorld, GivesBytes, FitsCell}
 use Rattle.ms_threads_runs.specs.Fibers.{Meaning, Others, Fibers, Goes, Waits, waits as must_wait, goes_on, moves, finish, fibers_step, ends_in}
 use Rattle.ms_threads_runs.specs.PlainFibers.{Shared, plain_fiber, plain_threads, plain_threads_start}
 use Rattle.ms_host.specs.State.{WorldState, Beside}
@@ -22,7 +22,7 @@ use Rattle.ms_host.specs.declared.calls.Answer.{Answer}
 use Rattle.ms_host.specs.declared.calls.Answer.TheVariants as answer
 use Rattle.ms_host.specs.declared.calls.HostCall.{HostCall}
 use Rattle.ms_printf.specs.CallSites.{AreCallSites}
-use Rattle.ms_machine_steps.specs.Owning.{blocks_of}
+use Rattle.ms_machine_frames.specs.Owning.{blocks_of}
 use Rattle.ms_machine_steps.specs.Waiting.{FirstWaits, types_due}
 use Rattle.ms_machine_steps.specs.Advances.{Resumes, Stops}
 use Rattle.ms_machine.specs.Running.{AllStandFor, IsRunning}

@@ -13,10 +13,10 @@ use Rattle.ms_host.specs.declared.calls.Answer.TheVariants as answer
 use Rattle.ms_host.specs.declared.calls.HostCall.{HostCall}
 use Rattle.ms_host.specs.State.{WorldState, Beside}
 use Rattle.ms_host.specs.Answers.{Answered}
-use Rattle.ms_machine_steps.specs.declared.frames.Frame.{Frame}
-use Rattle.ms_machine_steps.specs.declared.owning.Block.{Block}
-use Rattle.ms_machine_steps.specs.declared.fibers.Fiber.{Fiber}
-use Rattle.ms_machine_steps.specs.Standing.{frames_of}
+use Rattle.ms_machine_frames.specs.declared.frames.Frame.{Frame}
+use Rattle.ms_machine_frames.specs.declared.owning.Block.{Block}
+use Rattle.ms_machine_frames.specs.declared.fibers.Fiber.{Fiber}
+use Rattle.ms_machine_frames.specs.Standing.{frames_of}
 use Rattle.ms_threads.specs.declared.guests.Thread.{Thread as Guest}
 use Rattle.ms_threads.specs.declared.guests.Place.{Place}
 use Rattle.ms_threads.specs.declared.guests.Guests.{Guests}

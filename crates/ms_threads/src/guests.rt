@@ -7,7 +7,7 @@ ghost use Rattle.ms_threads.specs.Guests.{guest_at, asked_creates, call_joins, s
 use ms_bits::NoMemory;
 use ms_host::{Asked, HostCall};
 use ms_ir::External;
-use ms_machine_steps::{Fiber, no_fiber};
+use ms_machine_frames::{Fiber, no_fiber};
 use std::alloc::Global;
 use std::mem::{replace, swap};
 

@@ -19,7 +19,7 @@ use ms_check::CheckedModule;
 use ms_host::{Answer, Asked, HostCall};
 use ms_ir::RuntimeFn;
 use ms_machine::{advance, resume, spawn};
-use ms_machine_steps::{Pause, no_fiber};
+use ms_machine_frames::{Pause, no_fiber};
 use ms_runs::{End, RunResult, Setup};
 use ms_runtime::{Running, begun, thread_result};
 use std::alloc::Global;

@@ -6,13 +6,13 @@ use Rattle.ms_ir.specs.declared.syntax.Module.{Module}
 use Rattle.ms_ir.specs.declared.syntax.Op.{Op}
 use Rattle.ms_ir.specs.declared.syntax.Op.TheVariants as op
 use Rattle.ms_ir.specs.declared.syntax.Name.{Name}
-use Rattle.ms_ir.specs.Code.{operands}
+use Rattle.ms_ir.specs.Instructions.{operands}
 use Rattle.ms_runs.specs.World.{World, Setting, Here, Effect, Gives, Does, Goes, Enters, Leaves, Ends}
 use Rattle.ms_runs.specs.Control.{Frame, here, rest_of}
 use Rattle.ms_runs.specs.Plain.{act_marked, slots_after}
 use Rattle.ms_runs.specs.Poisoned.{Poisoned}
 use Rattle.ms_runs.specs.Threads.{Fibers, fibers_of}
-use Rattle.ms_runs_good.proofs.FibersKept.{Kept, marked_keeps}
+use Rattle.ms_good_laws.proofs.FibersKept.{Kept, marked_keeps}
 use Rattle.ms_tasks.specs.Environments.{Env, Given}
 use Rattle.ms_tasks.specs.Meaning.{AllMarked, Values, Reach, Went, Over, run_marked, marked_next, words_of}
 use Rattle.ms_tasks.specs.Emit.{before_tasks, start}

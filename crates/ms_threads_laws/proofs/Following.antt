@@ -13,7 +13,7 @@ use Rattle.ms_ir.specs.declared.syntax.Op.TheVariants as op
 use Rattle.ms_ir.specs.declared.syntax.Inst.{Inst}
 use Rattle.ms_ir.specs.declared.syntax.Module.{Module}
 use Rattle.ms_ir.specs.Names.{name_eq, main_name}
-use Rattle.ms_ir.specs.Code.{operands, func_index}
+use Rattle.ms_ir.specs.Instructions.{operands, func_index}
 use Rattle.ms_runs.specs.declared.runs.End.{End}
 use Rattle.ms_runs.specs.declared.runs.End.TheVariants as «end»
 use Rattle.ms_runs.specs.World.{World, Thread, Setting, Here, Gives, Does, Leaves, Ends as Over, word, result}

@@ -19,7 +19,7 @@ use Rattle.ms_ir.specs.declared.calls.External.{External}
 use Rattle.ms_ir.specs.declared.calls.External.TheVariants.{PthreadCreate, PthreadJoin, SchedYield}
 use Rattle.ms_ir.specs.Areas.{Fixed}
 use Rattle.ms_ir.specs.Names.{name_eq, lookup, externals, is_reserved}
-use Rattle.ms_ir.specs.Code.{operands, count_undefs, func_index, func_at, external_named}
+use Rattle.ms_ir.specs.Instructions.{operands, count_undefs, func_index, func_at, external_named}
 use Rattle.ms_ir.specs.Layout.{Types, Extent, extent, size_in, align_in, round_up, place_field, width_of}
 use Rattle.ms_ir.specs.ThreadCalls.{is_asked}
 use Rattle.ms_runs.specs.declared.runs.Report.{Report}
@@ -41,20 +41,20 @@ use Rattle.ms_valid.specs.CleanValues.{IsClean}
 use Rattle.ms_valid.specs.Paths.{insts_of}
 use Rattle.ms_valid.specs.Formed.{Formed}
 use Rattle.ms_valid.specs.Valid.{Valid}
-use Rattle.ms_runs_good.specs.GoodStates.{PoisonedBelow, GoodFrames, IsStart}
-use Rattle.ms_runs_good.specs.GoodEffects.{GoodMoved}
-use Rattle.ms_runs_good.specs.GoodWorlds.{GoodWorld, GoodAfter, GivesBytes, AnyOrigin}
-use Rattle.ms_runs_good.specs.GoodRuns.{SoundShadow, LeadsTo}
-use Rattle.ms_runs_good.specs.Straight.{HaveTypes}
-use Rattle.ms_runs_good.proofs.Frames.{top_good, kept_good, kept_frames, read_all_have, due_first, MovedTo, moves_to}
-use Rattle.ms_runs_good.proofs.InstructionEffects.{act_fits}
-use Rattle.ms_runs_good.proofs.MaskRanges.{formulas_keep}
-use Rattle.ms_runs_good.proofs.Moves.{moves_good}
-use Rattle.ms_runs_good.proofs.Readings.{shadow_unset, shadow_read}
-use Rattle.ms_runs_good.proofs.ShadowSteps.{numbers_have, result_fits}
-use Rattle.ms_runs_good.proofs.Sound.{shadow_sound, shadow_keeps}
-use Rattle.ms_runs_good.proofs.Starting.{shadow_setting}
-use Rattle.ms_runs_good.proofs.WorldChanges.{with_reports, given_back_good, unpoison_good, thread_result_good}
+use Rattle.ms_good_laws.specs.GoodStates.{PoisonedBelow, GoodFrames, IsStart}
+use Rattle.ms_good_laws.specs.GoodEffects.{GoodMoved}
+use Rattle.ms_good_laws.specs.GoodWorlds.{GoodWorld, GoodAfter, GivesBytes, AnyOrigin}
+use Rattle.ms_good_laws.specs.GoodRuns.{SoundShadow, LeadsTo}
+use Rattle.ms_good_laws.specs.Straight.{HaveTypes}
+use Rattle.ms_good_laws.proofs.Frames.{top_good, kept_good, kept_frames, read_all_have, due_first, MovedTo, moves_to}
+use Rattle.ms_good_laws.proofs.InstructionEffects.{act_fits}
+use Rattle.ms_good_laws.proofs.MaskRanges.{formulas_keep}
+use Rattle.ms_good_laws.proofs.Moves.{moves_good}
+use Rattle.ms_good_laws.proofs.Readings.{shadow_unset, shadow_read}
+use Rattle.ms_good_laws.proofs.ShadowSteps.{numbers_have, result_fits}
+use Rattle.ms_good_laws.proofs.Sound.{shadow_sound, shadow_keeps}
+use Rattle.ms_good_laws.proofs.Starting.{shadow_setting}
+use Rattle.ms_good_laws.proofs.WorldChanges.{with_reports, given_back_good, unpoison_good, thread_result_good}
 use Rattle.ms_clean_laws.specs.CleanStates.{HasCleanValues, AllCleanValues}
 use Rattle.ms_clean_laws.proofs.CleanRules.{formulas_clean}
 use Rattle.ms_clean_laws.proofs.CleanRuns.{start_clean}

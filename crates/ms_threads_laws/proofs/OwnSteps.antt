@@ -11,7 +11,7 @@ use Rattle.ms_ir.specs.declared.syntax.Module.{Module}
 use Rattle.ms_ir.specs.declared.calls.External.{External}
 use Rattle.ms_ir.specs.declared.calls.External.TheVariants as called
 use Rattle.ms_ir.specs.declared.calls.RuntimeFn.TheVariants as runtime
-use Rattle.ms_ir.specs.Code.{operands, count_undefs, external_named}
+use Rattle.ms_ir.specs.Instructions.{operands, count_undefs, external_named}
 use Rattle.ms_ir.specs.Layout.{width_of, stored_size, size_in}
 use Rattle.ms_ir.specs.ThreadCalls.{is_asked}
 use Rattle.ms_runs.specs.declared.runs.End.TheVariants as «end»
@@ -26,12 +26,12 @@ use Rattle.ms_runs.specs.Act.{act}
 use Rattle.ms_runs.specs.Plain.{Stepped, More, Stop}
 use Rattle.ms_runs.specs.Poisoned.{Poisoned}
 use Rattle.ms_runs.specs.Masks.{Rules, union, word_at}
-use Rattle.ms_runs.specs.Uses.{Use, Word, Bytes, Line, Asked, type_at, uses, check_use, check_uses, blinded}
+use Rattle.ms_runs.specs.Uses.{CheckedUse, Word, Bytes, Line, Asked, type_at, uses, check_use, check_uses, blinded}
 use Rattle.ms_runs.specs.Shadow.{ShadowState, read_poisoned, shadow_reading, external_planes, callee_planes, planes, poisoned_result, shadow_moved, shadow_act, after_checks, shadow_first, shadow_frames, shadow_step}
-use Rattle.ms_runs_good.specs.GoodWorlds.{GoodAfter}
-use Rattle.ms_runs_good.proofs.Frames.{MovedTo, moves_to}
-use Rattle.ms_runs_good.proofs.FibersKept.{world_of, Kept, external_keeps, runtime_keeps, marked_keeps}
-use Rattle.ms_runs_good.proofs.ThreadsApart.{NoThread, CallsNoThread, asked_alone}
+use Rattle.ms_good_laws.specs.GoodWorlds.{GoodAfter}
+use Rattle.ms_good_laws.proofs.Frames.{MovedTo, moves_to}
+use Rattle.ms_good_laws.proofs.FibersKept.{world_of, Kept, external_keeps, runtime_keeps, marked_keeps, by_if}
+use Rattle.ms_good_laws.proofs.ThreadsApart.{NoThread, CallsNoThread, asked_alone}
 use Rattle.ms_threads_runs.specs.Fibers.{Own, Asks}
 use Rattle.ms_threads_runs.specs.PlainFibers.{due_inst, due_of, due_at, frames_due}
 use Rattle.ms_threads_runs.specs.ShadowFibers.{shadow_state}
@@ -79,7 +79,7 @@ module _ (P : World → Type 0) (told : (w : World) (rs : List Report) → P w �
   string_passes : (s : Setting) (a site : ℕ) (w : World) → P w → Passes (check_string s a site w)
   string_passes s a site w p = byte_passes s 10 site a (first_in_string w a (bytes_left w a)) w p
 
-  use_passes : (s : Setting) (site : ℕ) (os : List (Ty × Operand)) (ps : List Poisoned) (u : Use) (w : World) → P w → Passes (check_use s site os ps u w)
+  use_passes : (s : Setting) (site : ℕ) (os : List (Ty × Operand)) (ps : List Poisoned) (u : CheckedUse) (w : World) → P w → Passes (check_use s site os ps u w)
   use_passes s site os ps (Word kind k) w p = check_passes s (word_at k ps).mask (width_of (type_at k os)) (word_at k ps).origin kind k site w p
   use_passes s site os ps (Bytes kind a n) w p =
       either_passes (is_good w (word_at a ps).value (word_at n ps).value) (check_byte s kind site (word_at a ps).value (first_nonzero w.shadow (word_at a ps).value (word_at n ps).value) w) (Does w)
@@ -96,7 +96,7 @@ module _ (P : World → Type 0) (told : (w : World) (rs : List Report) → P w �
   then_passes (Leaves z) go p h = tt
   then_passes (Ends e z) go p h = tt
 
-  pub uses_pass : (s : Setting) (site : ℕ) (os : List (Ty × Operand)) (ps : List Poisoned) (us : List Use) (w : World) → P w → Passes (check_uses s site os ps us w)
+  pub uses_pass : (s : Setting) (site : ℕ) (os : List (Ty × Operand)) (ps : List Poisoned) (us : List CheckedUse) (w : World) → P w → Passes (check_uses s site os ps us w)
   uses_pass s site os ps [] w p = p
   uses_pass s site os ps (u ∷ us) w p = then_passes (check_use s site os ps u w) (check_uses s site os ps us) (use_passes s site os ps u w p) (uses_pass s site os ps us)
 
@@ -110,13 +110,13 @@ keeps_then w (Enters f z) go k h = record { kept = k.kept }
 keeps_then w (Leaves z) go k h = record { kept = k.kept }
 keeps_then w (Ends e z) go k h = record { kept = k.kept }
 
-use_keeps : (s : Setting) (site : ℕ) (os : List (Ty × Operand)) (ps : List Poisoned) (u : Use) (w : World) → Kept w (check_use s site os ps u w)
+use_keeps : (s : Setting) (site : ℕ) (os : List (Ty × Operand)) (ps : List Poisoned) (u : CheckedUse) (w : World) → Kept w (check_use s site os ps u w)
 use_keeps s site os ps (Word kind k) w = runtime_keeps s runtime.Check ((word_at k ps).mask ∷ width_of (type_at k os) ∷ (word_at k ps).origin ∷ kind ∷ k ∷ site ∷ []) w
 use_keeps s site os ps (Bytes kind a n) w = runtime_keeps s runtime.CheckMemory ((word_at a ps).value ∷ (word_at n ps).value ∷ kind ∷ site ∷ []) w
 use_keeps s site os ps (Line a) w = runtime_keeps s runtime.CheckString ((word_at a ps).value ∷ site ∷ []) w
 use_keeps s site os ps (Asked a) w = runtime_keeps s runtime.CheckFormat ((word_at 0 ps).value ∷ a ∷ (word_at a ps).value ∷ site ∷ []) w
 
-pub checks_keep : (s : Setting) (site : ℕ) (os : List (Ty × Operand)) (ps : List Poisoned) (us : List Use) (w : World) → Kept w (check_uses s site os ps us w)
+pub checks_keep : (s : Setting) (site : ℕ) (os : List (Ty × Operand)) (ps : List Poisoned) (us : List CheckedUse) (w : World) → Kept w (check_uses s site os ps us w)
 checks_keep s site os ps [] w = record { kept = refl }
 checks_keep s site os ps (u ∷ us) w = keeps_then w (check_use s site os ps u w) (check_uses s site os ps us) (use_keeps s site os ps u w) (checks_keep s site os ps us)
 
@@ -168,18 +168,14 @@ back_keeps frame w = blocks_keep frame.heap (if eqb frame.mark 0 then w else rel
 
 -- ---- instructions
 
-either_kept : (w : World) (b : Bool) {x y : Effect} → Kept w x → Kept w y → Kept w (if b then x else y)
-either_kept w true p q = p
-either_kept w false p q = q
-
 calm_external : (s : Setting) (site : ℕ) (o : Option External) (ts : List Ty) (vs : List ℕ) (w : World) → NoThread o
     → Kept w (elim o as (λ z. Effect) [ Some e ↦ external s site e ts vs w | None ↦ Ends stuck w ])
 calm_external s site None ts vs w calm = record { kept = refl }
 calm_external s site (Some e) ts vs w calm = external_keeps s site e ts vs w calm
 
 calm_keeps : (s : Setting) (h : Here) (o : Op) (vs : List ℕ) (w : World) → CallsNoThread s.func o → Kept w (act s h o vs w)
-calm_keeps s h (op.Load t a) vs w calm = either_kept w (is_good w (word 0 vs) (stored_size t)) (record { kept = refl }) (record { kept = refl })
-calm_keeps s h (op.Store t v a) vs w calm = either_kept w (is_good w (word 1 vs) (stored_size t)) (record { kept = refl }) (record { kept = refl })
+calm_keeps s h (op.Load t a) vs w calm = by_if w (is_good w (word 0 vs) (stored_size t)) (record { kept = refl }) (record { kept = refl })
+calm_keeps s h (op.Store t v a) vs w calm = by_if w (is_good w (word 1 vs) (stored_size t)) (record { kept = refl }) (record { kept = refl })
 calm_keeps s h (op.Call ret callee args) vs w calm = by_own (s.func callee)
   where
     by_own : (q : Option ℕ)

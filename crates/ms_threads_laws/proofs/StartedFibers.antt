@@ -1,6 +1,6 @@
 -- Fibers that thread calls make begin with functions of the type `ptr (ptr)`: what this says of their first frame and of its
 -- return, and that `pthread_create` keeps it.
-use Rattle.std.proofs.Common.{◌≡◌, ◌<◌, ◌≤◌, ◌+◌, ◌%◌, ◌^◌, ◌⊎◌, ◌&&◌, ℕ, zero, suc, Bool, true, false, List, [], ◌∷◌, ◌++◌, map, length, nat_eq, nat_lt, slice_get, Option, Some, None, is_some, option_map, unwrap_or, if◌then◌else◌, codes, IsFalse, refl, sym, ap, ap₂, ◌∙◌, subst, arith, true≢false, inl, inr}
+use Rattle.std.proofs.Common.{◌≡◌, ◌<◌, ◌≤◌, ◌+◌, ◌%◌, ◌^◌, ◌⊎◌, ◌&&◌, ℕ, zero, suc, Bool, true, false, List, [], ◌∷◌, ◌++◌, map, length, nat_eq, slice_get, get_or, Option, Some, None, is_some, option_map, unwrap_or, if◌then◌else◌, codes, IsFalse, refl, sym, ap, ap₂, ◌∙◌, subst, arith, true≢false, inl, inr}
 use Rattle.std.specs.List.{list_all}
 use Rattle.std.specs.Option.{option_or}
 use Rattle.std.proofs.lemmas.Bool.{and_parts, or_parts}
@@ -12,38 +12,36 @@ use Rattle.ms_ir.specs.declared.syntax.Operand.{Operand}
 use Rattle.ms_ir.specs.declared.syntax.Operand.TheVariants as operand
 use Rattle.ms_ir.specs.declared.syntax.Op.TheVariants as op
 use Rattle.ms_ir.specs.declared.syntax.Inst.{Inst}
-use Rattle.ms_ir.specs.declared.syntax.Block.{Block}
 use Rattle.ms_ir.specs.declared.syntax.Func.{Func}
 use Rattle.ms_ir.specs.declared.syntax.Module.{Module}
 use Rattle.ms_ir.specs.declared.calls.External.TheVariants.{PthreadCreate}
 use Rattle.ms_ir.specs.Areas.{Fixed, area_base}
 use Rattle.ms_ir.specs.Names.{name_eq, main_name, lookup, externals, slots, is_reserved, is_kept}
-use Rattle.ms_ir.specs.Code.{func_index, func_at, insts_at, over_insts, over_blocks, over_funcs}
+use Rattle.ms_ir.specs.Instructions.{func_index, func_at, insts_at, over_funcs}
 use Rattle.ms_ir.specs.Equal.{type_eq, types_eq, result_type_eq}
 use Rattle.ms_ir.specs.Layout.{width_of}
 use Rattle.ms_ir.specs.Locals.{value_type}
 use Rattle.ms_ir.specs.Signatures.{Signature, answers, signature_eq, func_signature, defined_signature, declared_signature, external_signature, signature_of}
+use Rattle.ms_ir.proofs.RootKinds.{name_same as name_sound}
 use Rattle.ms_runs.specs.World.{World, Thread}
 use Rattle.ms_runs.specs.Threads.{thread_at, changed_at, changed_thread, with_answer}
 use Rattle.ms_runs.specs.Globals.{address_from, address_of, own_address}
-use Rattle.ms_runs.specs.Control.{Frame, rest_of, bind, entered, params_at, func_name}
+use Rattle.ms_runs.specs.Control.{Frame, Reading, rest_of, bind, entered, params_at, func_name}
 use Rattle.ms_runs.specs.Poisoned.{Poisoned, clean}
 use Rattle.ms_runs.specs.Shadow.{shadow_reading}
 use Rattle.ms_valid.specs.TypesAgree.{operand_fits, op_fault, call_fault, argument_fault, printf_fault, fault_unless, returns_fit, is_printf, is_create, is_start, fits_call}
 use Rattle.ms_valid.specs.Paths.{insts_of}
-use Rattle.ms_valid.specs.FormedCode.{is_body}
-use Rattle.ms_valid.specs.Formed.{Formed, func_formed, block_formed, count_written}
+use Rattle.ms_valid.specs.Formed.{Formed, count_written}
 use Rattle.ms_valid.specs.Valid.{Valid}
-use Rattle.ms_valid.proofs.NameTests.{name_same, name_sound}
+use Rattle.ms_valid.proofs.NameTests.{name_same}
 use Rattle.ms_valid.proofs.AtInstructions.{fits_at}
 use Rattle.ms_valid.proofs.ByParts.{fits_outside}
-use Rattle.ms_valid.proofs.TypedValues.{param_typed}
-use Rattle.ms_runs_good.specs.GoodStates.{PoisonedBelow, GoodFrames, IsMain, IsStart}
-use Rattle.ms_runs_good.proofs.Starts.{Entry, entry_of, place_within, no_leading, formed_blocks, formed_insts}
-use Rattle.ms_runs_good.proofs.NextFrames.{one_type}
-use Rattle.ms_runs_good.proofs.Readings.{shadow_unset}
-use Rattle.ms_runs_good.proofs.Frames.{same_insts, due_first}
-use Rattle.ms_runs_good.proofs.CallTypes.{both_none, holds_unless, func_found, external_named_so, external_declared}
+use Rattle.ms_valid.proofs.SmallNumbers.{few_funcs}
+use Rattle.ms_good_laws.specs.GoodStates.{PoisonedBelow, GoodFrame, GoodFrames, IsMain, IsStart}
+use Rattle.ms_good_laws.proofs.Moves.{entered_good}
+use Rattle.ms_good_laws.proofs.Readings.{shadow_unset}
+use Rattle.ms_good_laws.proofs.Frames.{same_insts, due_first}
+use Rattle.ms_good_laws.proofs.CallTypes.{both_none, holds_unless, func_found, external_named_so, external_declared, no_fault_at, undefined}
 use Rattle.ms_clean_laws.specs.CleanStates.{HasCleanValues}
 use Rattle.ms_tasks.specs.Known.{ArgsFit}
 use Rattle.ms_due_laws.specs.Due.{argument_word}
@@ -95,12 +93,12 @@ ptr_is Ptr e = refl
 ptr_is t e = absurd (true≢false (sym e))
 
 -- it answers a pointer, and has one parameter, which is a pointer
-record IsUnary (f : Func) : Type 0 where
-  ret : f.ret ≡ Some Ptr
-  name : Name
-  params : f.params ≡ (Ptr, name) ∷ []
+pub record IsUnary (f : Func) : Type 0 where
+  pub ret : f.ret ≡ Some Ptr
+  pub name : Name
+  pub params : f.params ≡ (Ptr, name) ∷ []
 
-start_types : (f : Func) → signature_eq (func_signature f) (answers Ptr (Ptr ∷ [])) ≡ true → IsUnary f
+pub start_types : (f : Func) → signature_eq (func_signature f) (answers Ptr (Ptr ∷ [])) ≡ true → IsUnary f
 start_types f e =
     let both = and_parts (result_type_eq f.ret (Some Ptr)) (types_eq (map (λ p. p.0) f.params) (Ptr ∷ [])) e in
     let ps = by_params f.params both.1 in
@@ -117,6 +115,22 @@ start_types f e =
 
 -- ---- the first frame of a fiber
 
+-- it is good, for each reading of words
+pub unary_good : {V : Type 0} (holds : V → ℕ → Type 0) (reading : Reading V) (m : Module) → Formed m → Valid m → (n : ℕ) (f : Func) → func_at m n ≡ Some f → IsUnary f → (v : V)
+    → ((t : Ty) → holds reading.unset (2 ^ width_of t)) → holds v (2 ^ 64) → (w : World) → GoodFrame holds m (entered reading m n (v ∷ []) w)
+unary_good holds reading m formed valid n f at unary v unset fits w =
+    entered_good holds reading m formed valid n (v ∷ []) w f at unset (λ k t x e. by_place k t x (subst (λ ps. slice_get ps k ≡ Some (t, x)) unary.params e))
+  where
+    by_place : (k : ℕ) (t : Ty) (x : Name) → slice_get {X = Ty × Name} ((Ptr, unary.name) ∷ []) k ≡ Some (t, x) → holds (get_or (v ∷ []) k reading.unset) (2 ^ width_of t)
+    by_place zero t x e = subst (λ z. holds v (2 ^ width_of z)) (ap (λ (o : Option (Ty × Name)). (unwrap_or o (Ptr, unary.name)).0) e) fits
+    by_place (suc k) t x e =
+        let one : List (Ty × Name) = (Ptr, unary.name) ∷ [] in
+        let found : Ty × Name = (t, x) in
+        absurd (too_far k (slice_get_within one (suc k) found e))
+      where
+        too_far : (k : ℕ) → suc k < 1 → ⊥
+        too_far k l = omega (arith, l)
+
 module _ (m : Module) (t : Thread) (starts : StartsWell m t) where
   stands : func_at m t.func ≡ Some (starts.func.0)
   stands = starts.func.1.0
@@ -130,31 +144,9 @@ module _ (m : Module) (t : Thread) (starts : StartsWell m t) where
   -- it is good
   pub first_good : Formed m → Valid m → (w : World) → GoodFrames PoisonedBelow m (entered shadow_reading m t.func (argument_word t.argument ∷ []) w ∷ [])
   first_good formed valid w = (
-    record {
-      func = starts.func.0;
-      stands = stands;
-      before = [];
-      path = (refl, tt);
-      place = place_within (insts_of (starts.func.0) 0) 0 entry.inst due;
-      behind_phis = subst (λ c. c ≤ 0) (sym (no_leading (insts_of (starts.func.0) 0) entry.inst due entry.plain)) (omega arith);
-      words = λ x u set typed. subst (λ ps. PoisonedBelow (bind clean ps (argument_word t.argument ∷ []) x) (2 ^ width_of u)) (sym params) (by_name x u typed (name_eq x unary.name) refl);
-    },
+    unary_good PoisonedBelow shadow_reading m formed valid t.func (starts.func.0) stands unary (argument_word t.argument) shadow_unset (starts.argument, omega arith) w,
     inr starts.func,
   )
-    where
-      entry : Entry (starts.func.0)
-      entry = entry_of m formed valid t.func (starts.func.0) stands
-
-      due : slice_get (insts_of (starts.func.0) 0) 0 ≡ Some entry.inst
-      due = ap (λ o. slice_get (unwrap_or (option_map (λ k. k.insts) o) []) 0) entry.at ∙ entry.due
-
-      by_name : (x : Name) (u : Ty) → value_type (starts.func.0) x ≡ Some u → (b : Bool) → name_eq x unary.name ≡ b → PoisonedBelow (if b then argument_word t.argument else clean) (2 ^ width_of u)
-      by_name x u typed true e =
-          let own : value_type (starts.func.0) unary.name ≡ Some Ptr =
-          param_typed m valid t.func (starts.func.0) stands 0 Ptr unary.name (ap (λ ps. slice_get ps 0) unary.params) in
-          let same : Ptr ≡ u = one_type Ptr u (value_type (starts.func.0) unary.name) own (ap (value_type (starts.func.0)) (sym (name_sound x unary.name e)) ∙ typed) in
-          subst (λ z. PoisonedBelow (argument_word t.argument) (2 ^ width_of z)) same (starts.argument, omega arith)
-      by_name x u typed false e = shadow_unset u
 
   -- its argument fits
   pub first_fits : ArgsFit (params_at m t.func) ((Ptr, operand.Int t.argument) ∷ [])
@@ -208,36 +200,19 @@ returns_pointer m valid f i is v good rest outside ret = by_last good.1
 
 -- ---- functions are few
 
-some_insts : (is : List Inst) → is_body is ≡ true → 1 ≤ over_insts count_written is
-some_insts [] e = absurd (true≢false (sym e))
-some_insts (i ∷ is) e = omega arith
-
-some_blocks : (bs : List Block) → nat_lt 0 (length bs) ≡ true → list_all block_formed bs ≡ true → 1 ≤ over_blocks count_written bs
-some_blocks [] l e = absurd (true≢false (sym l))
-some_blocks (b ∷ bs) l e =
-    let one = some_insts b.insts (formed_insts b (and_parts (block_formed b) (list_all block_formed bs) e).0).0 in omega (arith, one)
-
-funcs_few : (fs : List Func) → list_all func_formed fs ≡ true → length fs ≤ over_funcs count_written fs
-funcs_few [] e = omega arith
-funcs_few (f ∷ fs) e =
-    let parts = and_parts (func_formed f) (list_all func_formed fs) e in
-    let blocks = formed_blocks f parts.0 in
-    let one = some_blocks f.blocks blocks.0 blocks.1 in
-    let more = funcs_few fs parts.1 in omega (arith, one, more)
-
 -- ---- what a name of a function stands for
 
--- a name that is found in a table is as all its names are
-found_so : (test : Name → Bool) (rows : List (Name × (ℕ × ℕ))) → list_all (λ row. test row.0) rows ≡ true → (x : Name) (v : ℕ × ℕ) → lookup rows x ≡ Some v → test x ≡ true
-found_so test [] all x v e = absurd (grind arith)
-found_so test (row ∷ rows) all x v e = by_hit (name_eq row.0 x) refl (found_so test rows parts.1 x v) e
+-- a name that is found in a table is as all its rows are
+pub found_so : {A : Type 0} (test : Name → A → Bool) (rows : List (Name × A)) → list_all (λ row. test row.0 row.1) rows ≡ true → (x : Name) (v : A) → lookup rows x ≡ Some v → test x v ≡ true
+found_so test [] all x v e = absurd (cc)
+found_so {A} test (row ∷ rows) all x v e = by_hit (λ h. found_so test rows parts.1 x v h) (name_eq row.0 x) refl e
   where
-    parts : (test row.0 ≡ true) × (list_all (λ r. test r.0) rows ≡ true)
-    parts = and_parts (test row.0) (list_all (λ r. test r.0) rows) all
+    parts : (test row.0 row.1 ≡ true) × (list_all (λ r. test r.0 r.1) rows ≡ true)
+    parts = and_parts (test row.0 row.1) (list_all (λ r. test r.0 r.1) rows) all
 
-    by_hit : (hit : Bool) → name_eq row.0 x ≡ hit → (lookup rows x ≡ Some v → test x ≡ true) → (if hit then Some row.1 else lookup rows x) ≡ Some v → test x ≡ true
-    by_hit true h later e = subst (λ y. test y ≡ true) (name_sound row.0 x h) parts.0
-    by_hit false h later e = later e
+    by_hit : (lookup rows x ≡ Some v → test x v ≡ true) → (hit : Bool) → name_eq row.0 x ≡ hit → (if hit then Some row.1 else lookup rows x) ≡ Some v → test x v ≡ true
+    by_hit later true h e = subst (λ y. test y v ≡ true) (name_sound row.0 x h) (subst (λ w. test row.0 w ≡ true) (same_Some row.1 v e) parts.0)
+    by_hit later false h e = later e
 
 free_of_kept : (x : Name) → is_kept x ≡ false → is_reserved x ≡ false
 unfolding is_kept
@@ -248,7 +223,7 @@ no_slot x free = by_found (lookup slots x) refl
   where
     by_found : (o : Option (ℕ × ℕ)) → lookup slots x ≡ o → o ≡ None
     by_found None e = refl
-    by_found (Some v) e = absurd (true≢false (sym (found_so is_reserved slots refl x v e) ∙ free))
+    by_found (Some v) e = absurd (true≢false (sym (found_so (λ y slot. is_reserved y) slots refl x v e) ∙ free))
 
 -- its place
 pub named_place : (m : Module) → Formed m → Valid m → (x : Name) (n : ℕ) → func_index m.funcs x ≡ Some n → address_of m x % 2 ^ 64 ≡ n
@@ -256,7 +231,7 @@ named_place m formed valid x n found =
     let g = func_found m.funcs x n found in
     let free : is_reserved x ≡ false = free_of_kept x (ap is_kept (sym g.2) ∙ is_false (is_kept g.0.name) ((fits_outside m valid).functions_fit n g.0 g.1)) in
     let low : n < length m.funcs = slice_get_within m.funcs n g.0 g.1 in
-    let few : length m.funcs ≤ over_funcs count_written m.funcs = funcs_few m.funcs formed.functions in
+    let few : length m.funcs ≤ over_funcs count_written m.funcs = few_funcs m.funcs formed.functions in
     let own : address_of m x ≡ n % 2 ^ 64 =
     ap (λ (o : Option (ℕ × ℕ)). elim o as (λ z. ℕ) [ Some slot ↦ slot.0 | None ↦ own_address m x ]) (no_slot x free)
     ∙ ap (λ (o : Option ℕ). elim o as (λ z. ℕ) [ Some f ↦ f % 2 ^ 64 | None ↦ address_from m.types m.globals (area_base Fixed) x ]) found in
@@ -269,10 +244,6 @@ named_place m formed valid x n found =
     twice k l = omega (arith, l)
 
 -- ---- `pthread_create`
-
-passes_at : (t : Bool) (a : Option ℕ) (n : ℕ) → (if t then a else Some n) ≡ None → (t ≡ true) × (a ≡ None)
-passes_at true a n e = (refl, e)
-passes_at false a n e = absurd (grind arith)
 
 -- the first of some arguments whose parameter is a pointer, and the others
 record FirstPointer (fits : ℕ → Ty × Operand → Bool) (k : ℕ) (qs : List Ty) (args : List (Ty × Operand)) : Type 0 where
@@ -289,7 +260,7 @@ one_off : (fits : ℕ → Ty × Operand → Bool) (k : ℕ) (ps qs : List Ty) (a
 one_off fits k [] qs args e same = absurd (true≢false (sym same))
 one_off fits k (p ∷ ps) qs [] e same = absurd (grind arith)
 one_off fits k (p ∷ ps) qs (a ∷ rest) e same =
-    let h = passes_at (type_eq a.0 p && fits k a) (argument_fault fits (suc k) ps rest) k e in
+    let h = no_fault_at (type_eq a.0 p && fits k a) (argument_fault fits (suc k) ps rest) k e in
     let f = and_parts (type_eq a.0 p) (fits k a) h.0 in
     let g = and_parts (type_eq p Ptr) (types_eq ps qs) same in
     record {
@@ -307,19 +278,6 @@ none_off : (fits : ℕ → Ty × Operand → Bool) (k : ℕ) (ps : List Ty) (arg
 none_off fits k [] [] e same = refl
 none_off fits k [] (a ∷ rest) e same = absurd (grind arith)
 none_off fits k (p ∷ ps) args e same = absurd (true≢false (sym same))
-
-undefined : (funcs : List Func) (x : Name) → func_index funcs x ≡ None → defined_signature funcs x ≡ None
-undefined [] x e = refl
-undefined (f ∷ rest) x e = by_test (name_eq f.name x) e (λ h. undefined rest x h)
-  where
-    by_index : (o : Option ℕ) → option_map suc o ≡ None → o ≡ None
-    by_index None e = refl
-    by_index (Some n) e = absurd (grind arith)
-
-    by_test : (t : Bool) → (if t then Some 0 else option_map suc (func_index rest x)) ≡ None → (func_index rest x ≡ None → defined_signature rest x ≡ None)
-        → (if t then Some (func_signature f) else defined_signature rest x) ≡ None
-    by_test true e later = absurd (grind arith)
-    by_test false e later = later (by_index (func_index rest x) e)
 
 -- what `pthread_create` is called with: its third argument names a function that may begin
 pub record Creates (m : Module) (args : List (Ty × Operand)) : Type 0 where

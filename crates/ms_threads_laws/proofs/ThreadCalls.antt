@@ -8,7 +8,7 @@ use Rattle.ms_ir.specs.declared.syntax.Op.TheVariants as op
 use Rattle.ms_ir.specs.declared.calls.External.{External}
 use Rattle.ms_ir.specs.declared.calls.External.TheVariants.{Realloc, PthreadCreate, PthreadJoin, SchedYield, Word}
 use Rattle.ms_ir.specs.Names.{lookup, externals}
-use Rattle.ms_ir.specs.Code.{external_named, is_phi}
+use Rattle.ms_ir.specs.Instructions.{external_named, is_phi}
 use Rattle.ms_runs.specs.World.{World, Setting, Here, Enters, Ends, stuck}
 use Rattle.ms_runs.specs.Externals.{external}
 use Rattle.ms_runs.specs.Act.{act}

@@ -3,7 +3,7 @@ ghost use Rattle.std.specs.Prelude.{◌≡◌, ℕ, true, List, Some};
 ghost use Rattle.ms_ir.specs.declared.syntax.Name.{Name};
 ghost use Rattle.ms_ir.specs.declared.syntax.Func.{Func};
 ghost use Rattle.ms_ir.specs.declared.syntax.Module.{Module};
-ghost use Rattle.ms_ir.specs.Code.{func_at};
+ghost use Rattle.ms_ir.specs.Instructions.{func_at};
 ghost use Rattle.ms_runs.specs.declared.runs.Setup.{Setup};
 ghost use Rattle.ms_runs.specs.Plain.{setting_of};
 ghost use Rattle.ms_runs.specs.Faithful.{Fair};

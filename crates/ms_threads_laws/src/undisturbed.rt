@@ -1,7 +1,7 @@
 //! What a shadow run with guest threads shows of the plain run.
 ghost use Rattle.std.specs.Prelude.{ℕ, List};
 ghost use Rattle.ms_ir.specs.declared.syntax.Module.{Module};
-ghost use Rattle.ms_ir.specs.Code.{NoMarks};
+ghost use Rattle.ms_ir.specs.Instructions.{NoMarks};
 ghost use Rattle.ms_runs.specs.declared.runs.Setup.{Setup};
 ghost use Rattle.ms_runs.specs.Masks.{Rules};
 ghost use Rattle.ms_runs.specs.Faithful.{Undisturbed};

@@ -10,8 +10,8 @@ use Rattle.ms_ir.specs.declared.syntax.Op.TheVariants as op
 use Rattle.ms_ir.specs.declared.syntax.Operand.{Operand}
 use Rattle.ms_ir.specs.declared.syntax.Operand.TheVariants as operand
 use Rattle.ms_ir.specs.declared.syntax.Ty as ty
-use Rattle.ms_ir.specs.ExampleParts.{i32, i64, local, int, sets, does, convert, alloca, ret, call, block, main_func, module_of, declares}
-use Rattle.ms_ir.specs.ExampleCalls.{putchar, free}
+use Rattle.ms_ir.specs.Builders.{i32, i64, local, int, sets, does, convert, alloca, ret, call, block, main_func, module_of, declares}
+use Rattle.ms_ir.specs.Declarations.{putchar, free}
 
 abbrev pub pthread_create : Decl
 pthread_create = declares (codes "pthread_create") (Some i32) (ty.Ptr ∷ ty.Ptr ∷ ty.Ptr ∷ ty.Ptr ∷ [])

@@ -8,7 +8,7 @@ use Rattle.ms_ir.specs.declared.syntax.Module.{Module}
 use Rattle.ms_ir.specs.declared.calls.External.{External}
 use Rattle.ms_ir.specs.declared.calls.External.TheVariants.{PthreadJoin}
 use Rattle.ms_ir.specs.ThreadCalls.{is_asked}
-use Rattle.ms_ir.specs.Code.{operands, external_named}
+use Rattle.ms_ir.specs.Instructions.{operands, external_named}
 use Rattle.ms_runs.specs.declared.runs.Setup.{Setup}
 use Rattle.ms_runs.specs.declared.runs.RunResult.{RunResult}
 use Rattle.ms_runs.specs.World.{World, Setting, stuck, word, result}

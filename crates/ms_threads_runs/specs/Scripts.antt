@@ -2,7 +2,7 @@
 use Rattle.std.specs.Prelude.{ℕ, Bool, true, false, List, [], ◌∷◌, ◌++◌, length, eqb, if◌then◌else◌, Option, Some, None}
 use Rattle.ms_runs.specs.declared.runs.End.{End}
 use Rattle.ms_runs.specs.declared.runs.End.TheVariants as «end»
-use Rattle.ms_runs.specs.World.{World}
+use Rattle.ms_runs.specs.World.{World, first_world}
 use Rattle.ms_runs.specs.Threads.{changed_thread, join_answer}
 use Rattle.ms_runs.specs.Poisoned.{clean}
 use Rattle.ms_runs.specs.Plain.{Stepped, More, Stop}
@@ -63,30 +63,10 @@ follows scripts = record {
   begun = λ func argument w. record { fiber = record { main = false; acts = scripts func }; shared = w };
 }
 
--- a world in which nothing stands
-abbrev pub empty_world : World
-empty_world = record {
-  allocs = [];
-  bytes = λ a. 0;
-  shadow = λ a. 0;
-  origins = λ c. 0;
-  pairs = [];
-  made = 0;
-  input = [];
-  output = [];
-  reports = [];
-  blind = 0;
-  turn = 0;
-  threads = [];
-  answers = λ k. 0;
-  answer_masks = λ k. 0;
-  answer_origins = λ k. 0;
-}
-
 -- how a run of so many steps ends in which `main` follows a script, and what it printed
 abbrev pub ends : (scripts : ℕ → List Act) → List Act → (schedule : List ℕ) → (steps : ℕ) → End × List ℕ
 ends scripts acts schedule steps =
-    let at = ends_in (follows scripts) schedule steps (Goes (record { main = true; acts = acts }) empty_world (record { stands = λ k. None; picks = 0 })) in
+    let at = ends_in (follows scripts) schedule steps (Goes (record { main = true; acts = acts }) (first_world []) (record { stands = λ k. None; picks = 0 })) in
     (at.0, at.1.output)
 
 -- the script of the fibers below: one prints 66

@@ -1,5 +1,5 @@
 -- What is said with the lines under each site is what is said without them, once these lines are taken out.
-use Rattle.std.proofs.Common.{◌≡◌, inl, inr, ℕ, Bool, true, false, List, [], ◌++◌, length, map, eqb, if◌then◌else◌, Option, Some, None, Result, Ok, Err, refl, sym, ap, ◌∙◌, append-nil, subst}
+use Rattle.std.proofs.Common.{◌≡◌, inl, inr, ℕ, Bool, true, false, List, ◌++◌, length, map, eqb, if◌then◌else◌, Option, Some, None, Result, Ok, Err, refl, sym, ap, ◌∙◌, append-nil, subst}
 use Rattle.std.proofs.Math.Path.{ap₂}
 use Rattle.ms_ir.specs.declared.syntax.Module.{Module}
 use Rattle.ms_ir.specs.ThreadCalls.{is_threaded}
@@ -20,7 +20,7 @@ use Rattle.ms_read_body.specs.declared.errors.ReadError.TheVariants as e
 use Rattle.ms_read_top.specs.Reading.{IsReading}
 use Rattle.ms_valid.specs.Refusals.{Fault}
 use Rattle.ms_places.specs.Indented.{IsIndented, unindented}
-use Rattle.ms_source_map.proofs.Indents.{of_site}
+use Rattle.ms_source_map.proofs.Indents.{of_site, none as none_indented}
 use Rattle.ms_report.specs.declared.refusals.Refusal.TheVariants.{Read}
 use Rattle.ms_report.specs.FaultTexts.{fault_text}
 use Rattle.ms_report.specs.RefusalTexts.{refusal_text}
@@ -42,9 +42,6 @@ use Rattle.ms_top.specs.Runs.{plain_under}
 use Rattle.ms_top.specs.Said.{answer_of, answer_of_results, run_text, says, status_of, UnlessThreaded, IsExplanation, AreSections, IsAnswerToModule, IsAnswerToReading, IsAnswerToText}
 
 -- ---- lines
-
-none_indented : IsIndented []
-none_indented = record { lines = []; single = refl; whole = refl }
 
 -- no line under any site is indented
 none_are_indented : (under : Lines) → under ≡ no_lines → (site : ℕ) → IsIndented (under site)

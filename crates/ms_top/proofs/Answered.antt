@@ -12,8 +12,8 @@ use Rattle.ms_read_body.specs.declared.errors.ReadError.{ReadError}
 use Rattle.ms_read_body.specs.declared.errors.ReadError.TheVariants as e
 use Rattle.ms_read_top.specs.Reading.{IsReading}
 use Rattle.ms_report.specs.WithLines.{Lines}
-use Rattle.ms_grammar.specs.Texts.{Reads}
-use Rattle.ms_grammar.proofs.WiderBodies.{plain_is_instrumented}
+use Rattle.ms_text_grammar.specs.Texts.{Reads}
+use Rattle.ms_text_grammar.proofs.WiderBodies.{plain_is_instrumented}
 use Rattle.ms_gen.specs.Generator.{generated}
 use Rattle.ms_valid.specs.Valid.{Valid}
 use Rattle.ms_valid.proofs.Refused.{invalid}

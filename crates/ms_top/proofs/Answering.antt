@@ -1,6 +1,6 @@
 -- From what the parts of an answer are to what the answer is.
 use Rattle.std.proofs.Common.{◌≡◌, ◌≢◌, ℕ, Bool, suc, ◌^◌, ◌<◌, ◌≤◌, true, false, List, [], ◌∷◌, ◌++◌, length, append-nil, Option, Some, None, Result, Ok, Err, refl, ap, ap₂, sym, ◌∙◌, subst, inl, inr, arith}
-use Rattle.std.specs.Prelude.{get_or, map, slice_index_or, nat_lt, is_some, is_none, IfSome, IsTrue}
+use Rattle.std.specs.Prelude.{get_or, map, slice_index_or, nat_lt, is_none, IfSome, IsTrue}
 use Rattle.std.proofs.lemmas.Bool.{true≢false, and_from, lt-ltb}
 use Rattle.ms_lex.specs.declared.errors.LexError.{LexError}
 use Rattle.ms_lex.specs.declared.errors.LexError.TheVariants as lexing
@@ -14,10 +14,10 @@ use Rattle.ms_runs.specs.Plain.{plain}
 use Rattle.ms_runs.specs.Limits.{WithinLimits as RunFits}
 use Rattle.ms_ir.specs.declared.forms.Form.{Form}
 use Rattle.ms_ir.specs.declared.forms.Form.TheVariants.{Plain}
-use Rattle.ms_grammar.specs.declared.refusals.Refusal.{Refusal}
-use Rattle.ms_grammar.specs.declared.refusals.Refusal.TheVariants as refusal
-use Rattle.ms_grammar.specs.Causes.{printed_number}
-use Rattle.ms_grammar.specs.Texts.{HasTokens, Reads, max_bytes, max_tokens}
+use Rattle.ms_text_grammar.specs.declared.refusals.Cause.{Cause}
+use Rattle.ms_text_grammar.specs.declared.refusals.Cause.TheVariants as refusal
+use Rattle.ms_text_grammar.specs.Causes.{printed_number}
+use Rattle.ms_text_grammar.specs.Texts.{HasTokens, Reads, max_bytes, max_tokens}
 use Rattle.ms_read_body.specs.Calls.{what_of}
 use Rattle.ms_read_body.specs.declared.errors.What.{What}
 use Rattle.ms_read_body.specs.declared.errors.ReadError.{ReadError}
@@ -46,7 +46,7 @@ use Rattle.ms_corpus.specs.Jobs.{with_input}
 use Rattle.ms_top.specs.Parts.{AreShort, AreWithinLimits, IsReady, IsRunOfGiven, AreRunsOfGiven}
 use Rattle.ms_report.specs.FaultTexts.{fault_line}
 use Rattle.ms_report.specs.WithLines.{Lines, no_lines, under_line, fault_site, refusal_text_with}
-use Rattle.ms_report.specs.RefusalTexts.{IsNumbered, IsReadRefusal, HasLine, refusal_text, threads_text, wants_memory}
+use Rattle.ms_report.specs.RefusalTexts.{IsNumbered, IsReadRefusal, refusal_text, threads_text, wants_memory}
 use Rattle.ms_words.specs.Words.{defaults}
 use Rattle.ms_threads.specs.Faithful.{IsSchedule}
 use Rattle.ms_top.specs.Runs.{plain_under}
@@ -108,11 +108,6 @@ corpus_answer Gives under m n names o s inputs rs a same given q is =
 pub all_within : (o : Options) (s : Setup) (inputs : List (List ℕ)) → RunsWithinLimits o → AreShort inputs → s ≡ setup_of o [] → AreWithinLimits s inputs
 all_within o s inputs fit short is n d below = within o (get_or inputs n d) (with_input s (get_or inputs n d)) fit (short n d below) (ap (λ t. with_input t (get_or inputs n d)) is)
 
--- the input of a run that has one at most is short
-pub only_short : (inputs : List (List ℕ)) → AreShort inputs → length (only_input inputs) ≤ input_limit
-only_short [] short = omega arith
-only_short (input ∷ rest) short = short 0 [] (omega arith)
-
 -- the summary of that run
 pub summary_answer : (Gives : Module → Module → Type 0) (m n : Module) (s : Setup) (schedule : List ℕ) (r : RunResult) (a : Answer) → n ≡ m → s ≡ setup_of defaults [] → schedule ≡ defaults.schedule
     → IsRunOfGiven Gives m s schedule r → a ≡ answer_of (status_of r) (summary_of n r) [] → IsAnswerOfGen Gives true m a
@@ -121,13 +116,6 @@ summary_answer Gives m n s schedule r a same given picks q is =
     (q.0, q.1, is ∙ ap (λ k. answer_of (status_of r) (summary_of k r) []) same ∙ ap (λ x. answer_of (status_of x) (summary_of m x) []) run)
 
 -- ---- validity
-
-some_unless_none : {A : Type 0} (o : Option A) → is_none o ≡ false → is_some o ≡ true
-some_unless_none None h = absurd (true≢false h)
-some_unless_none (Some x) h = refl
-
-pub check_has_line : (cause : CheckError) → wants_memory (OfCheck cause) ≡ false → HasLine (OfCheck cause)
-check_has_line cause h = some_unless_none (fault_of cause) h
 
 faulty : (Gives : Module → Module → Type 0) (under : Lines) (command : Command) (inputs : List (List ℕ)) (m : Module) (o : Option Fault) (a : Answer) → IfSome o (IsRefused m) → is_none o ≡ false
     → a ≡ says 5 (fault_line o ++ under_line under (fault_site o)) → IsAnswerToModule Gives under command inputs m a
@@ -182,7 +170,7 @@ same_number : {m n : ℕ} → Some m ≡ Some n → m ≡ n
 same_number h = cc
 
 -- the number of a cause fits what it names
-fits : (cause : Refusal) (number : ℕ) → printed_number cause ≡ Some number → IsNumbered number (what_of cause)
+fits : (cause : Cause) (number : ℕ) → printed_number cause ≡ Some number → IsNumbered number (what_of cause)
 fits refusal.Syntax number h = inl (sym (same_number h))
 fits (refusal.Outside construct) number h = sym (same_number h)
 fits (refusal.Limit limit) number h = sym (same_number h)

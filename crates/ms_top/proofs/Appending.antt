@@ -1,11 +1,7 @@
 -- Bytes appended to what a sink has written.
 use Rattle.std.proofs.Math.Seq.{take-nil}
-use Rattle.std.proofs.Common.{◌≡◌, ℕ, zero, suc, ◌+◌, ◌-◌, ◌≤◌, List, [], ◌∷◌, ◌++◌, take, drop, min, Option, Some, None, refl, ap, sym, ◌∙◌, append_assoc, append-nil, zero-add, arith}
+use Rattle.std.proofs.Common.{◌≡◌, ℕ, zero, suc, ◌+◌, ◌-◌, ◌≤◌, List, [], ◌∷◌, ◌++◌, take, drop, min, Option, Some, None, refl, ap, sym, ◌∙◌, append_assoc, zero-add, arith}
 use Rattle.ms_io.specs.Writing.{with_appended, AppendsPrefix}
-
-pub with_appended-nil : (w : Option (List ℕ)) → with_appended w [] ≡ w
-with_appended-nil None = refl
-with_appended-nil (Some b) = ap Some (append-nil b)
 
 pub with_appended-twice : (w : Option (List ℕ)) (a b : List ℕ) → with_appended (with_appended w a) b ≡ with_appended w (a ++ b)
 with_appended-twice None a b = refl

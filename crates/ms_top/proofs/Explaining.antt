@@ -11,9 +11,9 @@ use Rattle.ms_runs.specs.declared.runs.Setup.{Setup}
 use Rattle.ms_runs.specs.Faithful.{Fair, Faithful}
 use Rattle.ms_runs.specs.Plain.{plain}
 use Rattle.ms_runs.specs.Shadow.{shadow}
-use Rattle.ms_runs_good.specs.Fills.{to_first_report}
-use Rattle.ms_runs_good.specs.Reached.{IsReached, IsOperand}
-use Rattle.ms_two_fills.proofs.Whole.{first_of}
+use Rattle.ms_good_laws.specs.Fills.{to_first_report}
+use Rattle.ms_good_laws.specs.Reached.{IsReached, IsOperand}
+use Rattle.ms_fills_laws.proofs.Whole.{first_of}
 use Rattle.ms_moves.specs.declared.moves.Source.{Source}
 use Rattle.ms_moves.specs.declared.moves.Move.{Move}
 use Rattle.ms_moves.specs.declared.moves.Hop.{Hop}
@@ -26,7 +26,7 @@ use Rattle.ms_moves_laws.proofs.Found.{where_reported}
 use Rattle.ms_moves_laws.proofs.Whole.{ordered, some_way}
 use Rattle.ms_trail.specs.declared.found.Trace.{Trace}
 use Rattle.ms_trail.specs.declared.found.Trace.TheVariants.{NoReport, TooLong, Found}
-use Rattle.ms_trail.specs.Logs.{move_limit}
+use Rattle.ms_trail_bytes.specs.Logs.{move_limit}
 use Rattle.ms_trail.specs.Tracing.{limited}
 use Rattle.ms_report.specs.WithLines.{Lines, reports_with}
 use Rattle.ms_words.specs.declared.commands.Command.{Command}

@@ -6,13 +6,13 @@ use Rattle.ms_ir.specs.declared.syntax.Name.{Name}
 use Rattle.ms_ir.specs.declared.syntax.Name.TheVariants.{Number, Text}
 use Rattle.ms_ir.specs.declared.calls.External.{External}
 use Rattle.ms_ir.specs.declared.calls.External.TheVariants.{PthreadCreate, PthreadJoin, SchedYield}
-use Rattle.ms_ir.specs.Code.{func_index, external_named}
-use Rattle.ms_ir.specs.ExampleCalls.{putchar}
+use Rattle.ms_ir.specs.Instructions.{func_index, external_named}
+use Rattle.ms_ir.specs.Declarations.{putchar}
 use Rattle.ms_ir.specs.Names.{lookup, externals, external_name}
 use Rattle.ms_ir.specs.Signatures.{is_thread_call}
 use Rattle.ms_ir.specs.ThreadCalls.{is_asked, is_func_threaded, is_threaded}
 use Rattle.ms_runs.specs.Shadow.{shadow}
-use Rattle.ms_runs_good.proofs.CallTypes.{external_named_so}
+use Rattle.ms_good_laws.proofs.CallTypes.{external_named_so}
 use Rattle.ms_gen.specs.Generator.{function_of, functions_of, generated, main_of, name_of, operations, state_after}
 use Rattle.ms_words.specs.Words.{defaults}
 use Rattle.ms_top.specs.declared.answers.Answer.{Answer}

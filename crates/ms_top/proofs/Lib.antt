@@ -5,7 +5,6 @@ pub mod Answering
 pub mod Explaining
 pub mod Faithful
 pub mod GeneratedRuns
-pub mod Ok
 pub mod Making
 pub mod Placing
 pub mod Promised

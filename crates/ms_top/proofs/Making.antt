@@ -2,7 +2,7 @@
 use Rattle.std.proofs.Common.{◌≡◌, ◌∙◌, true, false, sym, ap, subst, true≢false}
 use Rattle.std.specs.Prelude.{List, ℕ}
 use Rattle.ms_ir.specs.declared.syntax.Module.{Module}
-use Rattle.ms_ir.specs.Code.{strip}
+use Rattle.ms_ir.specs.Instructions.{strip}
 use Rattle.ms_ir.specs.ThreadCalls.{is_threaded}
 use Rattle.ms_runs.specs.declared.runs.Setup.{Setup}
 use Rattle.ms_runs.specs.Faithful.{Fair, Faithful, Undisturbed}
@@ -10,10 +10,10 @@ use Rattle.ms_runs.specs.Plain.{plain}
 use Rattle.ms_threads_runs.specs.PlainFibers.{plain_threads}
 use Rattle.ms_valid.specs.Formed.{Formed}
 use Rattle.ms_valid.specs.Valid.{Valid}
-use Rattle.ms_runs_good.specs.Fills.{InsertedUnderFills}
-use Rattle.ms_two_fills.specs.Checked.{HoldsUnderFills}
-use Rattle.ms_two_fills.specs.Chosen.{HoldsUnderChoices}
-use Rattle.ms_elision_laws.specs.Elided.{IsElided}
+use Rattle.ms_good_laws.specs.Fills.{InsertedUnderFills}
+use Rattle.ms_fills_laws.specs.Checked.{HoldsUnderFills}
+use Rattle.ms_fills_laws.specs.Chosen.{HoldsUnderChoices}
+use Rattle.ms_elide_laws.specs.Elided.{IsElided}
 use Rattle.ms_pass.specs.Passed.{IsMadeOf}
 use Rattle.ms_threads.specs.Faithful.{FaithfulThreads, IsSchedule}
 use Rattle.ms_threads.specs.Fills.{ThreadsHoldUnderFills}

@@ -16,9 +16,9 @@ use Rattle.ms_valid.specs.Refusals.{Fault as ModuleFault, Undefined}
 use Rattle.ms_valid.proofs.Refused.{invalid}
 use Rattle.ms_check.specs.Faults.{without_path}
 use Rattle.ms_check.proofs.OneAnswer.{one_answer as one_fault}
-use Rattle.ms_elision_laws.proofs.Once.{elided_once}
-use Rattle.ms_written.specs.Modules.{written}
-use Rattle.ms_grammar.proofs.Readings.{same_tokens}
+use Rattle.ms_elide_laws.proofs.Once.{elided_once}
+use Rattle.ms_text_layout.specs.Modules.{written}
+use Rattle.ms_text_grammar.proofs.Readings.{same_tokens}
 use Rattle.ms_places.specs.Marks.{AreMarks}
 use Rattle.ms_places.proofs.One.{one_list_of_marks}
 use Rattle.ms_source_map.specs.Lines.{lines_of_site}

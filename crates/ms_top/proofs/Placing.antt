@@ -6,9 +6,9 @@ use Rattle.ms_lex.specs.declared.errors.LexError.{LexError}
 use Rattle.ms_lex.specs.declared.errors.LexError.TheVariants as lexing
 use Rattle.ms_lex.specs.declared.kinds.Token.{Token}
 use Rattle.ms_lex.specs.Tokens.{tokens_of}
-use Rattle.ms_grammar.specs.declared.refusals.Refusal.{Refusal}
-use Rattle.ms_grammar.specs.declared.refusals.Refusal.TheVariants as refusal
-use Rattle.ms_grammar.specs.Texts.{HasTokens, Reads, max_tokens}
+use Rattle.ms_text_grammar.specs.declared.refusals.Cause.{Cause}
+use Rattle.ms_text_grammar.specs.declared.refusals.Cause.TheVariants as refusal
+use Rattle.ms_text_grammar.specs.Texts.{HasTokens, Reads, max_tokens}
 use Rattle.ms_read_top.proofs.Told.{few_tokens, short_text}
 use Rattle.ms_top.specs.Parts.{IsModuleText}
 
@@ -37,6 +37,6 @@ pub few_again : (form : Form) (text : List ℕ) (tokens : List Token) → HasTok
 few_again form text tokens has = omega (arith, few_tokens form text tokens has)
 
 -- what stands in them is found, but for want of memory
-pub marks_want_memory : (form : Form) (text : List ℕ) (tokens : List Token) (cause : Refusal) → IsModuleText form text → HasTokens form text tokens
+pub marks_want_memory : (form : Form) (text : List ℕ) (tokens : List Token) (cause : Cause) → IsModuleText form text → HasTokens form text tokens
     → ((m : Module) → Reads form text m → HasTokens form text tokens → cause ≡ refusal.NoMemory) → cause ≡ refusal.NoMemory
 marks_want_memory form text tokens cause (m, reads) has only = only m reads has

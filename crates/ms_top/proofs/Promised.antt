@@ -28,16 +28,16 @@ use Rattle.ms_valid.specs.Valid.{Valid}
 use Rattle.ms_valid.proofs.Refused.{invalid}
 use Rattle.ms_words.specs.Words.{command_of}
 use Rattle.ms_words.proofs.WithinLimits.{command_within}
-use Rattle.ms_grammar.specs.Texts.{Reads}
+use Rattle.ms_text_grammar.specs.Texts.{Reads}
 use Rattle.ms_ir.specs.declared.forms.Form.TheVariants.{Plain}
 use Rattle.ms_text_laws.proofs.FormedModules.{read_formed}
-use Rattle.ms_two_fills.specs.Chosen.{HoldsUnderChoices}
+use Rattle.ms_fills_laws.specs.Chosen.{HoldsUnderChoices}
 use Rattle.ms_valid.specs.FormedNames.{are_bytes}
 use Rattle.ms_top.proofs.Answered.{text_read, explain_refused}
 use Rattle.ms_top.proofs.Answering.{scheduled}
 use Rattle.ms_top.proofs.Explaining.{explained_shadow, explained_way, explained_none}
 use Rattle.ms_top.proofs.Faithful.{fair_options, alone_says, runs_alone}
-use Rattle.ms_grammar.proofs.Readings.{one_reading}
+use Rattle.ms_text_grammar.proofs.Readings.{one_reading}
 
 abbrev IsByte : ℕ → Type 0
 IsByte b = b < 2 ^ 8

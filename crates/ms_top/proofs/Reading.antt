@@ -17,11 +17,11 @@ use Rattle.ms_words.specs.declared.commands.WordsError.TheVariants.{NoMemory as 
 use Rattle.ms_words.specs.Words.{command_of, name_of, place_of, IsAnswer as IsRead}
 use Rattle.ms_gen.specs.Generator.{generated}
 use Rattle.ms_ir.specs.declared.syntax.Module.{Module}
+use Rattle.ms_ir.proofs.Sizes.{drop_next}
 use Rattle.ms_top.specs.Command.{input_names, module_file, module_limit, input_limit, input_files, files_of}
 use Rattle.ms_top.specs.Unread.{CauseShows}
 use Rattle.ms_top.specs.Files.{Counted, counted, FilesRead, Whole, Fault, Long, behind, IsAtFault, IsLong, CanRead}
 use Rattle.ms_top.specs.Instrumented.{IsInstrumented}
-use Rattle.ms_tables.proofs.Items.{drop_item}
 use Rattle.ms_top.specs.Parts.{AreShort, IsAnswerBehind, IsAnswerToFault, is_want_of_memory}
 use Rattle.ms_report.specs.WordsTexts.{words_text}
 use Rattle.ms_top.specs.Said.{says, answer_of_help, answer_of_version, IsAnswerOfGen, IsAnswerToText, IsAnswerToFiles, IsAnswerToCommand, IsAnswerFor, IsAnswer}
@@ -196,7 +196,7 @@ short_next held name text bytes texts more whole got grown short =
 module _ (held held_now : Option Holdings) (faults taken faults_now taken_now : ℕ) (texts names : List (List ℕ)) (i : ℕ) (same : held_now ≡ held) where
   left_from : (name : List ℕ) → i < length names → name ≡ get_or names i name → ReadSoFar held faults taken faults_now taken_now texts names (drop i names)
       → ReadSoFar held faults taken faults_now taken_now texts names (name ∷ drop (i + 1) names)
-  left_from name below is before = subst (ReadSoFar held faults taken faults_now taken_now texts names) (drop_item names i name below is) before
+  left_from name below is before = subst (ReadSoFar held faults taken faults_now taken_now texts names) (drop_next names i name below is) before
 
   -- it is read
   pub read_next : (name text bytes : List ℕ) (more : List (List ℕ)) (faults_next taken_next : ℕ) → i < length names → name ≡ get_or names i name → IsWholeFile held_now name input_limit bytes → text ≡ bytes

@@ -4,7 +4,7 @@ use Rattle.std.specs.Prelude.{codes, decimal, option_map, slice_get}
 use Rattle.ms_ir.specs.declared.syntax.Func.{Func}
 use Rattle.ms_ir.specs.declared.syntax.Module.{Module}
 use Rattle.ms_ir.specs.declared.places.Root.{Root}
-use Rattle.ms_ir.specs.Code.{one_unmarked, strip_func, strip}
+use Rattle.ms_ir.specs.Instructions.{one_unmarked, strip_func, strip}
 use Rattle.ms_ir.specs.Roots.{root_numbered}
 use Rattle.ms_runs.specs.declared.runs.End.{End}
 use Rattle.ms_runs.specs.declared.runs.End.TheVariants as ends

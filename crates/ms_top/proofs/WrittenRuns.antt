@@ -5,19 +5,19 @@ use Rattle.ms_lex.specs.Tokens.{tokens_of}
 use Rattle.ms_ir.specs.declared.syntax.Module.{Module}
 use Rattle.ms_ir.specs.declared.forms.Form.TheVariants.{Instrumented}
 use Rattle.ms_ir.specs.ThreadCalls.{is_threaded}
-use Rattle.ms_grammar.specs.declared.refusals.Refusal.{Refusal}
-use Rattle.ms_grammar.specs.Causes.{printed_number}
-use Rattle.ms_grammar.specs.Texts.{Reads, Stops, max_tokens}
+use Rattle.ms_text_grammar.specs.declared.refusals.Cause.{Cause}
+use Rattle.ms_text_grammar.specs.Causes.{printed_number}
+use Rattle.ms_text_grammar.specs.Texts.{Reads, Stops, max_tokens}
 use Rattle.ms_read_body.specs.declared.errors.ReadError.{ReadError}
 use Rattle.ms_read_body.specs.declared.errors.ReadError.TheVariants as e
 use Rattle.ms_read_top.specs.Reading.{IsReading}
 use Rattle.ms_valid.specs.Formed.{Formed}
-use Rattle.ms_written.specs.Modules.{written}
+use Rattle.ms_text_layout.specs.Modules.{written}
 use Rattle.ms_text_laws.specs.Fits.{FitsText, NamesLimit}
 use Rattle.ms_text_laws.proofs.ReadBack.{text_back, same_text}
 use Rattle.ms_text_laws.proofs.WrittenTexts.{written_reads, written_stops, written_cut}
-use Rattle.ms_elision_laws.specs.Elided.{IsElided}
-use Rattle.ms_elision_laws.proofs.Once.{elided_once}
+use Rattle.ms_elide_laws.specs.Elided.{IsElided}
+use Rattle.ms_elide_laws.proofs.Once.{elided_once}
 use Rattle.ms_top.specs.declared.answers.Answer.{Answer}
 use Rattle.ms_words.specs.declared.commands.Command.TheVariants.{Instrument, Run}
 use Rattle.ms_words.specs.declared.commands.Options.{Options}
@@ -73,7 +73,7 @@ module _ (under : Lines) (name : List ℕ) (inputs : List (List ℕ)) (o : Optio
   fitting i elided fits =
       read_alike (subst (λ t. Reads Instrumented t j) (sym is_written) (text_back j made.formed (subst FitsText (elided_once m i j elided made.elided) fits)))
 
-  limit_number : (cause : Refusal) (number : ℕ) → NamesLimit cause → printed_number cause ≡ Some number → (number ≡ 6) ⊎ (number ≡ 7)
+  limit_number : (cause : Cause) (number : ℕ) → NamesLimit cause → printed_number cause ≡ Some number → (number ≡ 6) ⊎ (number ≡ 7)
   limit_number cause number (inl (limit, is)) printed = let same : Some 6 ≡ Some number = sym (ap printed_number is) ∙ printed in inl (sym (same_Some 6 number same))
   limit_number cause number (inr is) printed = let same : Some 7 ≡ Some number = sym (ap printed_number is) ∙ printed in inr (sym (same_Some 7 number same))
 

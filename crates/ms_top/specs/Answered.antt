@@ -10,6 +10,7 @@ use Rattle.ms_words.specs.declared.commands.Command.{Command}
 use Rattle.ms_words.specs.declared.commands.Command.TheVariants.{Explain, Corpus}
 use Rattle.ms_top.specs.declared.answers.Answer.{Answer}
 use Rattle.ms_top.specs.Said.{answer_of_result}
+use Rattle.ms_top.specs.Statuses as statuses
 
 -- files with these names are held, and these are their bytes, no more than their limits
 abbrev pub AreHeld : Holdings → List (List ℕ × ℕ) → List (List ℕ) → Type 0
@@ -25,7 +26,7 @@ IsTaken command m = Unit {0}
 
 -- the status of an answer for a valid module that is taken: done, a trap, no step left, a report
 abbrev pub IsDoneStatus : ℕ → Type 0
-IsDoneStatus n = (n ≡ 0) ⊎ ((n ≡ 3) ⊎ ((n ≡ 4) ⊎ (n ≡ 77)))
+IsDoneStatus n = (n ≡ statuses.done) ⊎ ((n ≡ statuses.trapped) ⊎ ((n ≡ statuses.spent) ⊎ (n ≡ statuses.reported)))
 
 -- a is what `check` says of a module and b is what `run` says of it, each with some lines under its sites: the output of a is a
 -- beginning of that of b, and unless the checked run ends as reported, output and end are the same

@@ -2,15 +2,15 @@
 use Rattle.std.specs.Prelude.{◌≡◌, ℕ, false, List}
 use Rattle.ms_ir.specs.declared.syntax.Module.{Module}
 use Rattle.ms_runs.specs.declared.runs.Setup.{Setup}
-use Rattle.ms_ir.specs.Code.{strip}
+use Rattle.ms_ir.specs.Instructions.{strip}
 use Rattle.ms_ir.specs.ThreadCalls.{is_threaded}
 use Rattle.ms_runs.specs.Faithful.{Fair, Undisturbed}
 use Rattle.ms_runs.specs.Plain.{plain}
 use Rattle.ms_valid.specs.Formed.{Formed}
 use Rattle.ms_valid.specs.Valid.{Valid}
-use Rattle.ms_runs_good.specs.Fills.{InsertedUnderFills}
-use Rattle.ms_two_fills.specs.Chosen.{HoldsUnderChoices}
-use Rattle.ms_elision_laws.specs.Elided.{IsElided}
+use Rattle.ms_good_laws.specs.Fills.{InsertedUnderFills}
+use Rattle.ms_fills_laws.specs.Chosen.{HoldsUnderChoices}
+use Rattle.ms_elide_laws.specs.Elided.{IsElided}
 use Rattle.ms_pass.specs.Passed.{IsMadeOf}
 use Rattle.ms_threads.specs.Faithful.{IsSchedule}
 use Rattle.ms_top.specs.Runs.{plain_under, shadow_under, HoldsUnder}

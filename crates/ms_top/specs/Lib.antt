@@ -7,6 +7,7 @@ pub mod Lines
 pub mod Explained
 pub mod Instrumented
 pub mod Said
+pub mod Statuses
 pub mod Parts
 pub mod Promised
 pub mod Unread

@@ -4,7 +4,7 @@ use Rattle.ms_ir.specs.declared.forms.Form.{Form}
 use Rattle.ms_ir.specs.declared.syntax.Module.{Module}
 use Rattle.ms_lex.specs.declared.kinds.Token.{Token}
 use Rattle.ms_lex.specs.Tokens.{Text}
-use Rattle.ms_grammar.specs.Texts.{HasTokens}
+use Rattle.ms_text_grammar.specs.Texts.{HasTokens}
 use Rattle.ms_places.specs.declared.marks.Mark.{Mark}
 use Rattle.ms_places.specs.Marks.{AreMarks}
 use Rattle.ms_source_map.specs.Lines.{lines_of_site}

@@ -4,7 +4,7 @@ use Rattle.ms_io.specs.declared.traits.FileError.{FileError}
 use Rattle.ms_io.specs.declared.traits.FileError.TheVariants.{Failed, Absent, TooLong, NoMemory}
 use Rattle.ms_ir.specs.declared.syntax.Module.{Module}
 use Rattle.ms_ir.specs.declared.forms.Form.{Form}
-use Rattle.ms_grammar.specs.Texts.{Reads}
+use Rattle.ms_text_grammar.specs.Texts.{Reads}
 use Rattle.ms_runs.specs.declared.runs.RunResult.{RunResult}
 use Rattle.ms_runs.specs.declared.runs.Setup.{Setup}
 use Rattle.ms_runs.specs.Plain.{plain}
@@ -22,12 +22,13 @@ use Rattle.ms_top.specs.Command.{input_names, input_files, input_limit}
 use Rattle.ms_top.specs.Files.{Counted, CanRead, FilesRead, behind}
 use Rattle.ms_top.specs.Runs.{plain_under}
 use Rattle.ms_top.specs.Said.{says, IsAnswerToFiles}
+use Rattle.ms_top.specs.Statuses as statuses
 
 -- the answer for why a file isn't read whole; want of memory has an answer of its own
 abbrev pub IsAnswerToFault : FileError → List ℕ → Answer → Type 0
-IsAnswerToFault Failed name a = a ≡ says 6 (line (codes "file fault") name)
-IsAnswerToFault Absent name a = a ≡ says 6 (line (codes "file fault") name)
-IsAnswerToFault (TooLong taken) name a = a ≡ says 9 (line (codes "file too long") name)
+IsAnswerToFault Failed name a = a ≡ says statuses.file_fault (line (codes "file fault") name)
+IsAnswerToFault Absent name a = a ≡ says statuses.file_fault (line (codes "file fault") name)
+IsAnswerToFault (TooLong taken) name a = a ≡ says statuses.too_long (line (codes "file too long") name)
 IsAnswerToFault NoMemory name a = ⊥
 
 -- the answer to a command whose module's file has this text, for what reading the other files comes to

@@ -2,16 +2,16 @@
 use Rattle.std.specs.Prelude.{◌≡◌, ◌≢◌, ◌<◌, ◌≤◌, ◌⊎◌, ℕ, true, false, List, [], ◌∷◌, ◌++◌, length}
 use Rattle.ms_ir.specs.declared.forms.Form.TheVariants.{Plain}
 use Rattle.ms_ir.specs.declared.syntax.Module.{Module}
-use Rattle.ms_ir.specs.Code.{NoMarks}
+use Rattle.ms_ir.specs.Instructions.{NoMarks}
 use Rattle.ms_ir.specs.ThreadCalls.{is_threaded}
 use Rattle.ms_runs.specs.Faithful.{Fair}
 use Rattle.ms_runs.specs.Shadow.{shadow}
 use Rattle.ms_runs.specs.declared.runs.Setup.{Setup}
-use Rattle.ms_grammar.specs.Texts.{Reads}
+use Rattle.ms_text_grammar.specs.Texts.{Reads}
 use Rattle.ms_valid.specs.Formed.{Formed}
 use Rattle.ms_valid.specs.Valid.{Valid}
-use Rattle.ms_two_fills.specs.Chosen.{HoldsUnderChoices}
-use Rattle.ms_runs_good.specs.Fills.{to_first_report}
+use Rattle.ms_fills_laws.specs.Chosen.{HoldsUnderChoices}
+use Rattle.ms_good_laws.specs.Fills.{to_first_report}
 use Rattle.ms_moves.specs.declared.moves.Source.{Source}
 use Rattle.ms_moves.specs.declared.moves.Move.{Move}
 use Rattle.ms_moves.specs.Traces.{trace, Found}
@@ -28,19 +28,20 @@ use Rattle.ms_top.specs.Lines.{AreLines}
 use Rattle.ms_top.specs.Explained.{too_long, no_report}
 use Rattle.ms_top.specs.Runs.{shadow_under, HoldsUnder}
 use Rattle.ms_top.specs.Said.{answer_of_result, answer_of_explained, says}
+use Rattle.ms_top.specs.Statuses as statuses
 
 -- the answer that a file can't be read: one is at fault
 abbrev pub IsFileFault : Counted → Answer → Type 0
-IsFileFault c a = (a.status ≡ 6) × ((name : List ℕ) × IsAtFault c name)
+IsFileFault c a = (a.status ≡ statuses.file_fault) × ((name : List ℕ) × IsAtFault c name)
 
 -- the answer that a file is too long: one has more bytes than its limit
 abbrev pub IsFileTooLong : Counted → Answer → Type 0
-IsFileTooLong c a = (a.status ≡ 9) × ((name : List ℕ) × (limit : ℕ) × IsLong c name limit)
+IsFileTooLong c a = (a.status ≡ statuses.too_long) × ((name : List ℕ) × (limit : ℕ) × IsLong c name limit)
 
 -- the answer that a text is refused: the files were read, and the first text isn't that of a valid module
 abbrev pub IsTextRefused : Counted → List (List ℕ × ℕ) → Answer → Type 0
 IsTextRefused c files a =
-    (a.status ≡ 5) × ((text : List ℕ) × (inputs : List (List ℕ)) × CanRead c files (Whole (text ∷ inputs)) × ((m : Module) → Reads Plain text m → Valid m → ⊥))
+    (a.status ≡ statuses.refused) × ((text : List ℕ) × (inputs : List (List ℕ)) × CanRead c files (Whole (text ∷ inputs)) × ((m : Module) → Reads Plain text m → Valid m → ⊥))
 
 -- nothing was run and nothing printed on the standard output, for one of these three reasons
 pub record NothingRan (c : Counted) (files : List (List ℕ × ℕ)) (a : Answer) : Type 0 where
@@ -76,7 +77,7 @@ pub record ThreadsRefused (c : Counted) (file : List ℕ) (o : Options) (a : Ans
   pub reads : Reads Plain text module_read
   pub valid : Valid module_read
   pub threads : is_threaded module_read ≡ true
-  pub refused : a ≡ says 5 threads_text
+  pub refused : a ≡ says statuses.refused threads_text
 
 -- The text that explains a run with a report: the moves before it are too many, or it shows a way over them. That begins at a root
 -- which the run had reached, each hop's target is what the next hop reads, and the last is what the report's use reads

@@ -8,7 +8,7 @@ use Rattle.ms_runs.specs.Shadow.{shadow}
 use Rattle.ms_threads_runs.specs.PlainFibers.{plain_threads}
 use Rattle.ms_threads_runs.specs.ShadowFibers.{shadow_threads}
 use Rattle.ms_threads.specs.Fills.{ThreadsHoldUnderFills}
-use Rattle.ms_two_fills.specs.Checked.{HoldsUnderFills}
+use Rattle.ms_fills_laws.specs.Checked.{HoldsUnderFills}
 
 -- the plain run of a module with a setup, and where there are threads under a schedule
 abbrev pub plain_under : (threads : Bool) → Module → Setup → (schedule : List ℕ) → RunResult

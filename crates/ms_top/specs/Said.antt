@@ -15,7 +15,7 @@ use Rattle.ms_read_body.specs.declared.errors.ReadError.TheVariants as e
 use Rattle.ms_read_top.specs.Reading.{IsReading}
 use Rattle.ms_valid.specs.Valid.{Valid}
 use Rattle.ms_valid.specs.Refusals.{Fault as ModuleFault, Undefined, IsRefused}
-use Rattle.ms_written.specs.Modules.{written}
+use Rattle.ms_text_layout.specs.Modules.{written}
 use Rattle.ms_report.specs.declared.refusals.Refusal.TheVariants.{Read}
 use Rattle.ms_report.specs.RunTexts.{line}
 use Rattle.ms_report.specs.SummaryTexts.{summary_of}
@@ -35,6 +35,7 @@ use Rattle.ms_top.specs.Explained.{explained_with}
 use Rattle.ms_top.specs.Files.{Counted, CanRead, FilesRead, Whole, Fault, Long}
 use Rattle.ms_top.specs.Lines.{AreLines, fault_text_with}
 use Rattle.ms_top.specs.Runs.{plain_under}
+use Rattle.ms_top.specs.Statuses as statuses
 
 abbrev pub answer_of : ℕ → List ℕ → List ℕ → Answer
 answer_of status out err = record { status = status; out = out; err = err }
@@ -47,30 +48,30 @@ says status err = answer_of status [] err
 abbrev pub DifferInPath : Answer → Answer → Type 0
 DifferInPath a b =
     (under : Lines) × (site : ℕ) × (p : List ℕ) × (q : List ℕ)
-    × (a ≡ says 5 (fault_text_with under (Undefined site p))) × (b ≡ says 5 (fault_text_with under (Undefined site q)))
+    × (a ≡ says statuses.refused (fault_text_with under (Undefined site p))) × (b ≡ says statuses.refused (fault_text_with under (Undefined site q)))
 
 -- ---- the program itself
 
 -- the answer of `help` is the usage
 abbrev pub answer_of_help : Answer
-answer_of_help = answer_of 0 usage []
+answer_of_help = answer_of statuses.done usage []
 
 -- the answer of `version` is its line
 abbrev pub answer_of_version : Answer
-answer_of_version = answer_of 0 version_line []
+answer_of_version = answer_of statuses.done version_line []
 
 -- ---- a run
 
 -- the status of a run without a report, which doesn't end as reported
 abbrev pub end_status : End → ℕ
-end_status (ends.Exit n) = 0
-end_status (ends.Trap kind site) = 3
-end_status ends.Reported = 0
-end_status ends.Spent = 4
+end_status (ends.Exit n) = statuses.done
+end_status (ends.Trap kind site) = statuses.trapped
+end_status ends.Reported = statuses.done
+end_status ends.Spent = statuses.spent
 
 -- a report decides first, then how the run ended
 abbrev pub status_of : RunResult → ℕ
-status_of r = if eqb (length r.reports) 0 then end_status r.«end» else 77
+status_of r = if eqb (length r.reports) 0 then end_status r.«end» else statuses.reported
 
 -- the lines of a run's reports, and then the closing lines, with or without the verdict; `under` are the lines under each site
 abbrev pub run_text : Lines → (verdict : Bool) → Module → RunResult → List ℕ
@@ -107,7 +108,8 @@ has_status status rs = list_any (λ r. eqb (status_of r) status) rs
 
 -- a report decides first, then a trap, then that a run is spent
 abbrev pub status_of_all : List RunResult → ℕ
-status_of_all rs = if has_status 77 rs then 77 else if has_status 3 rs then 3 else if has_status 4 rs then 4 else 0
+status_of_all rs =
+    if has_status statuses.reported rs then statuses.reported else if has_status statuses.trapped rs then statuses.trapped else if has_status statuses.spent rs then statuses.spent else statuses.done
 
 -- the answer for the results of many runs
 abbrev pub answer_of_results : Lines → Module → (names : List (List ℕ)) → List RunResult → Answer
@@ -117,7 +119,7 @@ answer_of_results under m names rs = answer_of (status_of_all rs) (sections_of u
 
 -- the answer of a command that takes no schedule: it refuses a module with threads
 abbrev pub UnlessThreaded : (threads : Bool) → Answer → Type 0 → Type 0
-UnlessThreaded true a Is = a ≡ says 5 threads_text
+UnlessThreaded true a Is = a ≡ says statuses.refused threads_text
 UnlessThreaded false a Is = Is
 
 -- ---- from the words to the answer, for a pass that gives modules so
@@ -125,7 +127,7 @@ UnlessThreaded false a Is = Is
 module _ (Gives : Module → Module → Type 0) where
   -- the answer of `instrument`: the text of a module that the pass gives
   abbrev pub IsAnswerOfInstrument : Module → Answer → Type 0
-  IsAnswerOfInstrument m a = (j : Module) × Gives m j × (a ≡ answer_of 0 (written j) [])
+  IsAnswerOfInstrument m a = (j : Module) × Gives m j × (a ≡ answer_of statuses.done (written j) [])
 
   -- the answer of `check`: of the run of a module that the pass gives, with the verdict; where the module has threads, under a schedule
   abbrev pub IsAnswerOfCheck : Lines → Setup → (schedule : List ℕ) → Module → Answer → Type 0
@@ -151,7 +153,7 @@ module _ (Gives : Module → Module → Type 0) where
   -- the answer of `gen` for the module that it makes: the module's text, or the summary of the run of a module that the
   -- pass gives, with no option given
   abbrev pub IsAnswerOfGen : (run : Bool) → Module → Answer → Type 0
-  IsAnswerOfGen false m a = a ≡ answer_of 0 (written m) []
+  IsAnswerOfGen false m a = a ≡ answer_of statuses.done (written m) []
   IsAnswerOfGen true m a =
       (j : Module) × Gives m j × (let r = plain_under (is_threaded m) j (setup_of defaults []) defaults.schedule in a ≡ answer_of (status_of r) (summary_of m r) [])
 
@@ -170,14 +172,14 @@ module _ (Gives : Module → Module → Type 0) where
   -- the answer for a module: why it isn't valid, or else the answer for a valid one
   abbrev pub IsAnswerToModule : Lines → Command → List (List ℕ) → Module → Answer → Type 0
   IsAnswerToModule under command inputs m a =
-      ((fault : ModuleFault) × IsRefused m fault × (a ≡ says 5 (fault_text_with under fault))) ⊎ (Valid m × IsAnswerToValid under command inputs m a)
+      ((fault : ModuleFault) × IsRefused m fault × (a ≡ says statuses.refused (fault_text_with under fault))) ⊎ (Valid m × IsAnswerToValid under command inputs m a)
 
   -- the answer for what reading a text comes to: a module, with the lines under its sites that the command asks for, or why
   -- there is none; want of memory has an answer of its own
   abbrev pub IsAnswerToReading : Command → List (List ℕ) → List ℕ → Result Module ReadError → Answer → Type 0
   IsAnswerToReading command inputs text (Ok m) a = (under : Lines) × AreLines command text m under × IsAnswerToModule under command inputs m a
   IsAnswerToReading command inputs text (Err e.NoMemory) a = ⊥
-  IsAnswerToReading command inputs text (Err cause) a = a ≡ says 5 (refusal_text (Read cause))
+  IsAnswerToReading command inputs text (Err cause) a = a ≡ says statuses.refused (refusal_text (Read cause))
 
   -- the answer for a module's text: what it reads as in the form of the command, or why it isn't read, decides
   abbrev pub IsAnswerToText : Command → List (List ℕ) → List ℕ → Answer → Type 0
@@ -198,8 +200,8 @@ module _ (Gives : Module → Module → Type 0) where
   -- the answer for what reading the files comes to
   abbrev pub IsAnswerToFiles : Command → FilesRead → Answer → Type 0
   IsAnswerToFiles command (Whole texts) a = IsAnswerToTexts command texts a
-  IsAnswerToFiles command (Fault name) a = a ≡ says 6 (line (codes "file fault") name)
-  IsAnswerToFiles command (Long name) a = a ≡ says 9 (line (codes "file too long") name)
+  IsAnswerToFiles command (Fault name) a = a ≡ says statuses.file_fault (line (codes "file fault") name)
+  IsAnswerToFiles command (Long name) a = a ≡ says statuses.too_long (line (codes "file too long") name)
 
   abbrev pub IsAnswerToCommand : Counted → Command → Answer → Type 0
   IsAnswerToCommand c command a = (r : FilesRead) × CanRead c (files_of command) r × IsAnswerToFiles command r a
@@ -207,7 +209,7 @@ module _ (Gives : Module → Module → Type 0) where
   -- the answer for what words come to: a command, or the first fault in them
   abbrev pub IsAnswerFor : Counted → Result Command WordsError → Answer → Type 0
   IsAnswerFor c (Ok command) a = IsAnswerToCommand c command a
-  IsAnswerFor c (Err fault) a = a ≡ says 2 (words_text (name_of fault) (place_of fault))
+  IsAnswerFor c (Err fault) a = a ≡ says statuses.bad_words (words_text (name_of fault) (place_of fault))
 
   -- what a call with these words and these files is to say, but for want of memory
   abbrev pub IsAnswer : Counted → List (List ℕ) → Answer → Type 0
@@ -215,7 +217,7 @@ module _ (Gives : Module → Module → Type 0) where
 
 -- the answer where memory is wanting
 abbrev pub no_memory : Answer
-no_memory = says 8 (codes "out of memory\n")
+no_memory = says statuses.no_memory (codes "out of memory\n")
 
 -- ---- what the sinks have then
 

@@ -14,6 +14,7 @@ use Rattle.ms_top.specs.declared.answers.Answer.{Answer}
 use Rattle.ms_top.specs.Instrumented.{IsInstrumented}
 use Rattle.ms_top.specs.Lines.{AreLines}
 use Rattle.ms_top.specs.Said.{answer_of_result, says}
+use Rattle.ms_top.specs.Statuses as statuses
 
 -- a text is refused for a limit or for numbering: it has too many tokens, or the refusal is 6 or 7
 abbrev pub IsBeyondLimit : ReadError → Type 0
@@ -23,7 +24,7 @@ IsBeyondLimit NoMemory = ⊥
 
 -- the answer to a text that is refused for one of these
 abbrev pub IsLimitRefusal : Answer → Type 0
-IsLimitRefusal b = (cause : ReadError) × IsBeyondLimit cause × (b ≡ says 5 (refusal_text (Read cause)))
+IsLimitRefusal b = (cause : ReadError) × IsBeyondLimit cause × (b ≡ says statuses.refused (refusal_text (Read cause)))
 
 -- b is what `run` says of a text, and c is what `check` says of m: both of one result, b without the verdict. The text is read as a
 -- module that the pass makes of m; each answer has lines of its own under the sites

@@ -7,7 +7,7 @@ ghost use Rattle.ms_valid.specs.Refusals.{IsRefused};
 ghost use Rattle.ms_valid.specs.Uninstrumented.{CanInstrument};
 ghost use Rattle.ms_valid.specs.Valid.{Valid};
 ghost use Rattle.ms_check.specs.Faults.{fault_of};
-ghost use Rattle.ms_grammar.specs.Texts.{Reads};
+ghost use Rattle.ms_text_grammar.specs.Texts.{Reads};
 ghost use Rattle.ms_report.specs.RefusalTexts.{HasLine, threads_text, wants_memory as is_want_of_memory};
 ghost use Rattle.ms_report.specs.WithLines.{refusal_text_with};
 ghost use Rattle.ms_words.specs.Limits.{RunsWithinLimits, IsWithinLimits};
@@ -16,9 +16,11 @@ ghost use Rattle.ms_top.specs.Parts.{AreShort, IsReady, IsRunOfGiven};
 ghost use Rattle.ms_threads.specs.Faithful.{IsSchedule};
 ghost use Rattle.ms_top.specs.Runs.{plain_under};
 ghost use Rattle.ms_top.specs.Said.{answer_of, answer_of_result, run_text, says, status_of as status_of_run, IsAnswerOfInstrument, IsAnswerOfCheck, IsAnswerToValid, IsAnswerToModule, IsAnswerToReading, IsAnswerToText};
+ghost use Rattle.ms_top.specs.Statuses as statuses;
 
 use crate::commands::{form_of, located_file};
 use crate::corpus::{Jobs, answer_of_corpus};
+use crate::exit_codes::Status;
 use crate::explained::answer_of_explain;
 use crate::generated::{summarised, written};
 use crate::itself::{answer_of_help, answer_of_version};
@@ -52,10 +54,10 @@ pub struct Answer {
 impl Answer {
     /// An answer of a command that is done, with this text on the standard output alone.
     pub fn on_out(alloc: Global, out: Vec<u8>) -> Answer
-        ensures { result ≡ answer_of 0 out.items [] }
+        ensures { result ≡ answer_of statuses.done out.items [] }
     {
         Answer {
-            status: 0,
+            status: Status::Done as u8,
             out: Bytes::from_vec(out),
             err: Bytes::from_vec(Vec::new(alloc)),
         }
@@ -351,10 +353,10 @@ fn run_under(
 
 /// The answer of a command that takes no schedule, for a module with threads.
 pub fn refused_threads(alloc: Global) -> Result<Answer, NoMemory>
-    ensures { IfOk result (λ a. a ≡ says 5 threads_text) }
+    ensures { IfOk result (λ a. a ≡ says statuses.refused threads_text) }
 {
     let line = threads_line(alloc)?;
-    Ok(Answer::on_err(alloc, 5, line))
+    Ok(Answer::on_err(alloc, Status::Refused as u8, line))
 }
 
 /// What a run with these options and this input is given.
@@ -412,13 +414,13 @@ pub fn status_of(r: &RunResult) -> u8
     ensures { result ≡ status_of_run r.now }
 {
     if !r.reports.as_slice().is_empty() {
-        return 77;
+        return Status::Reported as u8;
     }
     match r.end {
-        End::Exit(_) => 0,
-        End::Trap { .. } => 3,
-        End::Reported => 0,
-        End::Spent => 4,
+        End::Exit(_) => Status::Done as u8,
+        End::Trap { .. } => Status::Trapped as u8,
+        End::Reported => Status::Done as u8,
+        End::Spent => Status::Spent as u8,
     }
 }
 
@@ -426,7 +428,7 @@ pub fn status_of(r: &RunResult) -> u8
 fn refused<L: SiteLines>(alloc: Global, cause: Refusal, under: &L) -> Result<Answer, NoMemory>
     requires { is_want_of_memory cause ≡ false → HasLine cause }
     ensures reason { IfOk result (λ a. is_want_of_memory cause ≡ false) }
-    ensures line { IfOk result (λ a. a ≡ says 5 (refusal_text_with (L.lines under.now) cause)) }
+    ensures line { IfOk result (λ a. a ≡ says statuses.refused (refusal_text_with (L.lines under.now) cause)) }
 {
     let cause = Boxed::new(alloc, cause)?;
     refused_for(alloc, cause.get(), under)
@@ -436,13 +438,13 @@ fn refused<L: SiteLines>(alloc: Global, cause: Refusal, under: &L) -> Result<Ans
 fn refused_for<L: SiteLines>(alloc: Global, cause: &Refusal, under: &L) -> Result<Answer, NoMemory>
     requires { is_want_of_memory cause.now ≡ false → HasLine cause.now }
     ensures reason { IfOk result (λ a. is_want_of_memory cause.now ≡ false) }
-    ensures line { IfOk result (λ a. a ≡ says 5 (refusal_text_with (L.lines under.now) cause.now)) }
+    ensures line { IfOk result (λ a. a ≡ says statuses.refused (refusal_text_with (L.lines under.now) cause.now)) }
 {
     if wants_memory(cause) {
         return Err(AllocError);
     }
     let line = refusal_line_with(alloc, cause, under)?;
-    Ok(Answer::on_err(alloc, 5, line))
+    Ok(Answer::on_err(alloc, Status::Refused as u8, line))
 }
 
 /// Whether a cause is that memory ran out.

@@ -9,6 +9,7 @@ ghost use Rattle.ms_top.specs.Parts.{AreShort, AreRunsOfGiven, AreWithinLimits};
 ghost use Rattle.ms_top.specs.Said.{answer_of_results, has_status, heading_of, section_of, sections_of, status_of_all as status_of_runs, AreSections, IsAnswerOfCorpus};
 
 use crate::answers::{Answer, refused_threads, setup_of, status_of, text_of_run};
+use crate::exit_codes::Status;
 use crate::passes::{Pass, has_threads, instrumented_by};
 use ms_bits::{Bytes, List, NoMemory, Text};
 use ms_check::CheckedModule;
@@ -230,13 +231,13 @@ fn any_with(results: &[RunResult], status: u8) -> bool
 fn status_of_all(results: &[RunResult]) -> u8
     ensures { result ≡ status_of_runs results.now }
 {
-    if any_with(results, 77) {
-        77
-    } else if any_with(results, 3) {
-        3
-    } else if any_with(results, 4) {
-        4
+    if any_with(results, Status::Reported as u8) {
+        Status::Reported as u8
+    } else if any_with(results, Status::Trapped as u8) {
+        Status::Trapped as u8
+    } else if any_with(results, Status::Spent as u8) {
+        Status::Spent as u8
     } else {
-        0
+        Status::Done as u8
     }
 }

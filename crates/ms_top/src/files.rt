@@ -9,9 +9,11 @@ ghost use Rattle.ms_top.specs.Files.{counted, CanRead, Whole};
 ghost use Rattle.ms_top.specs.Parts.{AreShort, IsAnswerBehind, IsAnswerToFault, is_want_of_memory};
 ghost use Rattle.ms_top.specs.Said.{IsAnswerToCommand, says};
 ghost use Rattle.ms_top.specs.Unread.{IsUnread};
+ghost use Rattle.ms_top.specs.Statuses as statuses;
 
 use crate::answers::{Answer, answer_to_text};
 use crate::commands::{inputs_of, module_limit};
+use crate::exit_codes::Status;
 use crate::generated::answer_of_gen;
 use crate::itself::{answer_of_help, answer_of_version};
 use crate::passes::Pass;
@@ -29,7 +31,7 @@ const INPUT_LIMIT: u64 = 1 << 20;
 /// The answer for words that are no command. Where the fault is that memory ran out, so is the error.
 pub fn no_command(alloc: Global, fault: WordsError) -> Result<Answer, NoMemory>
     ensures reason { IfOk result (λ a. is_want_of_memory fault ≡ false) }
-    ensures line { IfOk result (λ a. a ≡ says 2 (words_text (name_of fault) (place_of fault))) }
+    ensures line { IfOk result (λ a. a ≡ says statuses.bad_words (words_text (name_of fault) (place_of fault))) }
 {
     if wants_memory(fault) {
         return Err(AllocError);
@@ -39,7 +41,7 @@ pub fn no_command(alloc: Global, fault: WordsError) -> Result<Answer, NoMemory>
         place: fault.place(),
     };
     let line = words_line(alloc, &fault)?;
-    Ok(Answer::on_err(alloc, 2, line))
+    Ok(Answer::on_err(alloc, Status::BadWords as u8, line))
 }
 
 /// Whether a fault in words is that memory ran out.
@@ -180,9 +182,14 @@ fn unread(alloc: Global, file: &Text, cause: FileError) -> Result<Answer, NoMemo
     ensures { IfOk result (λ a. IsAnswerToFault cause file.now a) }
 {
     match cause {
-        FileError::Failed => about_file(alloc, 6, b"file fault", file),
-        FileError::Absent => about_file(alloc, 6, b"file fault", file),
-        FileError::TooLong { .. } => about_file(alloc, 9, b"file too long", file),
+        FileError::Failed => about_file(alloc, Status::FileFault as u8, b"file fault", file),
+        FileError::Absent => about_file(alloc, Status::FileFault as u8, b"file fault", file),
+        FileError::TooLong { .. } => about_file(
+            alloc,
+            Status::TooLong as u8,
+            b"file too long",
+            file,
+        ),
         FileError::NoMemory => Err(AllocError),
     }
 }

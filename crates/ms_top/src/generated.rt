@@ -3,13 +3,14 @@ ghost use Rattle.std.specs.Prelude.{◌≡◌, ◌∷◌, [], true, IfOk};
 ghost use Rattle.ms_valid.specs.Formed.{Formed};
 ghost use Rattle.ms_valid.specs.Uninstrumented.{CanInstrument};
 ghost use Rattle.ms_valid.specs.Valid.{Valid};
-ghost use Rattle.ms_written.specs.Modules.{written as text_of};
+ghost use Rattle.ms_text_layout.specs.Modules.{written as text_of};
 ghost use Rattle.ms_report.specs.SummaryTexts.{summary_of};
 ghost use Rattle.ms_words.specs.Limits.{MadeWithinLimits};
 ghost use Rattle.ms_words.specs.Words.{defaults};
 ghost use Rattle.ms_gen.specs.Generator.{generated};
 ghost use Rattle.ms_top.specs.Command.{setup_of};
 ghost use Rattle.ms_top.specs.Said.{answer_of, status_of as status_of_run, IsAnswerOfGen};
+ghost use Rattle.ms_top.specs.Statuses as statuses;
 
 use crate::answers::{Answer, run_given, status_of};
 use crate::passes::Pass;
@@ -47,7 +48,7 @@ pub fn answer_of_gen<R: Threads + Sync, P: Pass>(
 /// The answer with a module's text.
 pub fn written(alloc: Global, m: &Module) -> Result<Answer, NoMemory>
     requires { Formed m.now }
-    ensures { IfOk result (λ a. a ≡ answer_of 0 (text_of m.now) []) }
+    ensures { IfOk result (λ a. a ≡ answer_of statuses.done (text_of m.now) []) }
 {
     let text = write(alloc, m)?;
     Ok(Answer::on_out(alloc, text))

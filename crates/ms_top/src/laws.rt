@@ -8,11 +8,11 @@ ghost use Rattle.ms_ir.specs.ThreadCalls.{is_threaded};
 ghost use Rattle.ms_runs.specs.declared.runs.RunResult.{RunResult};
 ghost use Rattle.ms_runs.specs.Faithful.{Fair, Faithful};
 ghost use Rattle.ms_runs.specs.Shadow.{shadow};
-ghost use Rattle.ms_two_fills.specs.Checked.{HoldsUnderFills};
+ghost use Rattle.ms_fills_laws.specs.Checked.{HoldsUnderFills};
 ghost use Rattle.ms_valid.specs.Formed.{Formed};
-ghost use Rattle.ms_written.specs.Modules.{written};
+ghost use Rattle.ms_text_layout.specs.Modules.{written};
 ghost use Rattle.ms_text_laws.specs.Fits.{FitsText};
-ghost use Rattle.ms_elision_laws.specs.Elided.{IsElided};
+ghost use Rattle.ms_elide_laws.specs.Elided.{IsElided};
 ghost use Rattle.ms_top.specs.declared.answers.Answer.{Answer};
 ghost use Rattle.ms_words.specs.declared.commands.Command.{Command};
 ghost use Rattle.ms_words.specs.declared.commands.Command.TheVariants.{Instrument, Run, Check, Explain, Corpus, Gen, Help, Version};
@@ -32,7 +32,7 @@ ghost use Rattle.ms_report.specs.WithLines.{Lines, no_lines};
 ghost use Rattle.ms_report.specs.WordsTexts.{words_text};
 ghost use Rattle.ms_valid.specs.Refusals.{Fault};
 ghost use Rattle.ms_gen.specs.Generator.{generated};
-ghost use Rattle.ms_grammar.specs.Texts.{Reads};
+ghost use Rattle.ms_text_grammar.specs.Texts.{Reads};
 ghost use Rattle.ms_ir.specs.declared.forms.Form.TheVariants.{Plain};
 ghost use Rattle.ms_valid.specs.Valid.{Valid};
 ghost use Rattle.ms_top.specs.Answered.{AreHeld, IsTaken, IsDoneStatus, Begins};
@@ -47,6 +47,7 @@ ghost use Rattle.ms_top.specs.Instrumented.{IsInstrumented};
 ghost use Rattle.ms_top.specs.Lines.{AreLines, fault_text_with};
 ghost use Rattle.ms_top.specs.Said.{IsAnswer, IsAnswerToCommand, IsAnswerOfGen, IsAnswerToText, IsAnswerToValid, DifferInPath, answer_of, answer_of_result, answer_of_explained, answer_of_results, run_text, says, status_of};
 ghost use Rattle.ms_top.specs.Written.{IsLimitRefusal, RunsAlike};
+ghost use Rattle.ms_top.specs.Statuses as statuses;
 
 use crate::passes::Pass;
 
@@ -64,10 +65,10 @@ pub fn one_answer()
 /// What is said of a question about the program itself is the usage, or the line with the version, and of a first word that
 /// is neither a question nor a command the line `words: UnknownCommand at 0`, whatever words follow.
 pub fn questions_are_answered()
-    ensures help { (c : Counted) (words : List (List ℕ)) (a : Answer) → command_of words ≡ Ok Help → IsAnswer IsInstrumented c words a → a ≡ answer_of 0 usage [] }
-    ensures version { (c : Counted) (words : List (List ℕ)) (a : Answer) → command_of words ≡ Ok Version → IsAnswer IsInstrumented c words a → a ≡ answer_of 0 version_line [] }
+    ensures help { (c : Counted) (words : List (List ℕ)) (a : Answer) → command_of words ≡ Ok Help → IsAnswer IsInstrumented c words a → a ≡ answer_of statuses.done usage [] }
+    ensures version { (c : Counted) (words : List (List ℕ)) (a : Answer) → command_of words ≡ Ok Version → IsAnswer IsInstrumented c words a → a ≡ answer_of statuses.done version_line [] }
     ensures unknown { (c : Counted) (word : List ℕ) (rest : List (List ℕ)) (a : Answer) → find (asks word) topics ≡ None → find (λ n. same word (command_word n)) commands ≡ None
-        → IsAnswer IsInstrumented c (word ∷ rest) a → a ≡ says 2 (words_text (codes "UnknownCommand") 0) }
+        → IsAnswer IsInstrumented c (word ∷ rest) a → a ≡ says statuses.bad_words (words_text (codes "UnknownCommand") 0) }
 {}
 
 /// What is said of a checked module is its shadow run with the verdict, where the setup is fair, as those of options within the
@@ -105,7 +106,7 @@ pub fn explanations_show_the_way()
     ensures none { (under : Lines) (file : List ℕ) (inputs : List (List ℕ)) (o : Options) (m : Module) (a : Answer) → is_threaded m ≡ false → let s = setup_of o (only_input inputs) in Fair s
         → IsAnswerToValid IsInstrumented under (Explain file o) inputs m a → (shadow m s).reports ≡ [] → a.out ≡ no_report }
     ensures threads { (under : Lines) (file : List ℕ) (o : Options) (inputs : List (List ℕ)) (m : Module) (a : Answer) → is_threaded m ≡ true
-        → IsAnswerToValid IsInstrumented under (Explain file o) inputs m a → a ≡ says 5 threads_text }
+        → IsAnswerToValid IsInstrumented under (Explain file o) inputs m a → a ≡ says statuses.refused threads_text }
 {}
 
 /// The same of every pass, where the modules that it gives are faithful.
@@ -164,7 +165,7 @@ pub fn valid_modules_are_answered()
         → IsAnswer IsInstrumented c words a → IsAnswerOfGen IsInstrumented run (generated seed functions) a }
     ensures status { (under : Lines) (command : Command) (inputs : List (List ℕ)) (m : Module) (a : Answer) → IsTaken command m → IsAnswerToValid IsInstrumented under command inputs m a → IsDoneStatus a.status }
     ensures threads { (under : Lines) (file : List ℕ) (names : List (List ℕ)) (o : Options) (workers : ℕ) (inputs : List (List ℕ)) (m : Module) (a : Answer) → is_threaded m ≡ true
-        → IsAnswerToValid IsInstrumented under (Corpus file names o workers) inputs m a → a ≡ says 5 threads_text }
+        → IsAnswerToValid IsInstrumented under (Corpus file names o workers) inputs m a → a ≡ says statuses.refused threads_text }
 {}
 
 /// The output of `check` on a module is a beginning of the output of `run` on it, with the same options and input, where the setup

@@ -4,6 +4,7 @@
 pub mod answers;
 mod commands;
 mod corpus;
+mod exit_codes;
 mod explained;
 mod files;
 mod generated;
@@ -14,6 +15,7 @@ pub mod passes;
 mod pieces;
 mod top;
 
+pub use exit_codes::Status;
 pub use ms_fork::{Gate, OpenGate};
 pub use ms_words::{Command, Options};
 pub use passes::{Pass, PlainPass, RealPass};

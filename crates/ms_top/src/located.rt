@@ -1,18 +1,18 @@
 //! The lines that show where each site stands.
 ghost use Rattle.std.specs.Prelude.{◌≡◌, length, IfOk};
 ghost use Rattle.ms_lex.specs.Tokens.{InOrder};
-ghost use Rattle.ms_grammar.specs.Texts.{HasTokens, max_tokens as most_tokens};
+ghost use Rattle.ms_text_grammar.specs.Texts.{HasTokens, max_tokens as most_tokens};
 ghost use Rattle.ms_places.specs.Marks.{AreMarks};
 ghost use Rattle.ms_source_map.specs.Lines.{lines_at, lines_of_site};
 ghost use Rattle.ms_top.specs.Parts.{IsModuleText};
 
 use ms_bits::NoMemory;
-use ms_grammar::Refusal;
 use ms_ir::{Form, Module};
 use ms_lex::{LexError, Token, tokens};
 use ms_places::{Mark, marks_in};
 use ms_report::SiteLines;
 use ms_source_map::SourceMap;
+use ms_text_grammar::Cause;
 use std::alloc::{AllocError, Global};
 
 /// Where each site of a module stands in its text, and in the source that the text was made of.
@@ -67,7 +67,7 @@ impl Places {
 }
 
 /// How many tokens a text may have.
-#[tactic(auto, unfolding(ms_grammar::specs::Texts::max_tokens))]
+#[tactic(auto, unfolding(ms_text_grammar::specs::Texts::max_tokens))]
 fn max_tokens(form: Form) -> u32
     ensures { result ≡ most_tokens form }
 {
@@ -104,7 +104,7 @@ fn marks_of(alloc: Global, text: &[u8], tokens: &[Token], form: Form) -> Result<
     match marks_in(alloc, text, tokens, form) {
         Ok(found) => Ok(found),
         Err(cause) => {
-            prove!(matches!(&cause, Refusal::NoMemory));
+            prove!(matches!(&cause, Cause::NoMemory));
             Err(AllocError)
         }
     }

@@ -2,7 +2,7 @@
 ghost use Rattle.std.specs.Prelude.{◌≡◌, true, false, IfOk};
 ghost use Rattle.std.specs.Thread.{IsSync};
 ghost use Rattle.ms_ir.specs.declared.syntax.Module.{Module as ModuleOf};
-ghost use Rattle.ms_ir.specs.Code.{strip};
+ghost use Rattle.ms_ir.specs.Instructions.{strip};
 ghost use Rattle.ms_ir.specs.ThreadCalls.{is_threaded};
 ghost use Rattle.ms_valid.specs.Formed.{Formed};
 ghost use Rattle.ms_valid.specs.Uninstrumented.{CanInstrument};

@@ -3,14 +3,13 @@ ghost use Rattle.std.specs.Prelude.{◌≡◌, ◌≢◌, ◌≤◌, ◌⊎◌, 
 ghost use Rattle.ms_io.specs.Counts.{Rose};
 ghost use Rattle.ms_io.specs.Writing.{with_appended, AppendsPrefix};
 ghost use Rattle.ms_top.specs.Said.{answer_of, between, WritesWhole, WritesPart};
+ghost use Rattle.ms_top.specs.Statuses as statuses;
 
+use crate::exit_codes::Status;
 use ms_io::{Sink, SinkFailed};
 
 /// The most bytes that one put has.
 const PIECE: usize = 65536;
-
-/// The status where a put failed.
-const FAILED_PUT: u8 = 7;
 
 /// Puts all of `text` in pieces of at most 65536 bytes. An empty text is not put.
 ///
@@ -41,21 +40,21 @@ pub fn say<O: Sink, E: Sink>(
     out_text: &[u8],
     err_text: &[u8],
 ) -> u8
-    requires { status ≢ 7 }
-    ensures status { result ≢ 7 → result ≡ status }
-    ensures whole { result ≢ 7 → WritesWhole
+    requires { status ≢ statuses.failed_put }
+    ensures status { result ≢ statuses.failed_put → result ≡ status }
+    ensures whole { result ≢ statuses.failed_put → WritesWhole
         (between (O.written out.old) (E.written err.old) (O.written out.new) (E.written err.new)) (answer_of status out_text.now err_text.now) }
-    ensures part { result ≡ 7 → WritesPart
+    ensures part { result ≡ statuses.failed_put → WritesPart
         (between (O.written out.old) (E.written err.old) (O.written out.new) (E.written err.new)) (answer_of status out_text.now err_text.now) }
-    ensures failed { result ≡ 7 → Rose (O.faults out.old) (O.faults out.new) ⊎ Rose (E.faults err.old) (E.faults err.new) }
+    ensures failed { result ≡ statuses.failed_put → Rose (O.faults out.old) (O.faults out.new) ⊎ Rose (E.faults err.old) (E.faults err.new) }
     ensures out_faults_never_fall { O.faults out.old ≤ O.faults out.new }
     ensures err_faults_never_fall { E.faults err.old ≤ E.faults err.new }
 {
     if put_text(out, out_text).is_err() {
-        return FAILED_PUT;
+        return Status::FailedPut as u8;
     }
     if put_text(err, err_text).is_err() {
-        return FAILED_PUT;
+        return Status::FailedPut as u8;
     }
     status
 }

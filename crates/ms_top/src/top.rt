@@ -7,9 +7,11 @@ ghost use Rattle.ms_words.specs.Words.{command_of};
 ghost use Rattle.ms_top.specs.Files.{counted};
 ghost use Rattle.ms_top.specs.Instrumented.{IsInstrumented};
 ghost use Rattle.ms_top.specs.Said.{IsSaid, IsPartlySaid, IsDone, IsPartlyDone, IsTold, IsPartlyTold, between};
+ghost use Rattle.ms_top.specs.Statuses as statuses;
 
 use crate::answers::Answer;
 use crate::commands::read_command;
+use crate::exit_codes::Status;
 use crate::files::{answer_to_command, no_command};
 use crate::passes::{Pass, RealPass};
 use crate::pieces::say;
@@ -19,9 +21,6 @@ use ms_io::{Files, Sink};
 use ms_words::Command;
 use std::alloc::Global;
 use std::thread::Threads;
-
-/// The status where memory runs out.
-const NO_MEMORY_STATUS: u8 = 8;
 
 /// Does what the words after the program's name ask for. `run` runs the module in a file, and `check` runs it with the
 /// shadow of each word: the output is written to `out`; each use of uninitialised bits that was found, and how the run
@@ -45,13 +44,13 @@ pub fn msan<R: Threads + Sync, F: Files, O: Sink, E: Sink>(
     out: &mut O,
     err: &mut E,
 ) -> u8
-    ensures said { result ≢ 7 → IsSaid IsInstrumented
+    ensures said { result ≢ statuses.failed_put → IsSaid IsInstrumented
         (counted (F.held files.old) (F.faults files.old) (F.faults files.new) (F.taken files.old) (F.taken files.new))
         (between (O.written out.old) (E.written err.old) (O.written out.new) (E.written err.new)) words.now result }
-    ensures partly_said { result ≡ 7 → IsPartlySaid IsInstrumented
+    ensures partly_said { result ≡ statuses.failed_put → IsPartlySaid IsInstrumented
         (counted (F.held files.old) (F.faults files.old) (F.faults files.new) (F.taken files.old) (F.taken files.new))
         (between (O.written out.old) (E.written err.old) (O.written out.new) (E.written err.new)) words.now }
-    ensures failed { result ≡ 7 → Rose (O.faults out.old) (O.faults out.new) ⊎ Rose (E.faults err.old) (E.faults err.new) }
+    ensures failed { result ≡ statuses.failed_put → Rose (O.faults out.old) (O.faults out.new) ⊎ Rose (E.faults err.old) (E.faults err.new) }
     ensures holdings_stay { F.held files.new ≡ F.held files.old }
     ensures faults_never_fall { F.faults files.old ≤ F.faults files.new }
     ensures taken_never_falls { F.taken files.old ≤ F.taken files.new }
@@ -82,13 +81,13 @@ pub fn job<R: Threads + Sync, F: Files, O: Sink, E: Sink, P: Pass, G: Gate + Syn
     gate: &G,
 ) -> u8
     requires { IsWithinLimits command.now }
-    ensures said { result ≢ 7 → IsDone P.gives
+    ensures said { result ≢ statuses.failed_put → IsDone P.gives
         (counted (F.held files.old) (F.faults files.old) (F.faults files.new) (F.taken files.old) (F.taken files.new))
         (between (O.written out.old) (E.written err.old) (O.written out.new) (E.written err.new)) command.now result }
-    ensures partly_said { result ≡ 7 → IsPartlyDone P.gives
+    ensures partly_said { result ≡ statuses.failed_put → IsPartlyDone P.gives
         (counted (F.held files.old) (F.faults files.old) (F.faults files.new) (F.taken files.old) (F.taken files.new))
         (between (O.written out.old) (E.written err.old) (O.written out.new) (E.written err.new)) command.now }
-    ensures failed { result ≡ 7 → Rose (O.faults out.old) (O.faults out.new) ⊎ Rose (E.faults err.old) (E.faults err.new) }
+    ensures failed { result ≡ statuses.failed_put → Rose (O.faults out.old) (O.faults out.new) ⊎ Rose (E.faults err.old) (E.faults err.new) }
     ensures holdings_stay { F.held files.new ≡ F.held files.old }
     ensures faults_never_fall { F.faults files.old ≤ F.faults files.new }
     ensures taken_never_falls { F.taken files.old ≤ F.taken files.new }
@@ -104,10 +103,10 @@ pub fn job<R: Threads + Sync, F: Files, O: Sink, E: Sink, P: Pass, G: Gate + Syn
 
 /// Writes an answer, or that memory ran out, and returns its status.
 fn put_answer<O: Sink, E: Sink>(answer: Result<Answer, NoMemory>, out: &mut O, err: &mut E) -> u8
-    requires { IfOk answer (λ a. a.status ≢ 7) }
-    ensures told { result ≢ 7 → IsTold answer (between (O.written out.old) (E.written err.old) (O.written out.new) (E.written err.new)) result }
-    ensures partly_told { result ≡ 7 → IsPartlyTold answer (between (O.written out.old) (E.written err.old) (O.written out.new) (E.written err.new)) }
-    ensures failed { result ≡ 7 → Rose (O.faults out.old) (O.faults out.new) ⊎ Rose (E.faults err.old) (E.faults err.new) }
+    requires { IfOk answer (λ a. a.status ≢ statuses.failed_put) }
+    ensures told { result ≢ statuses.failed_put → IsTold answer (between (O.written out.old) (E.written err.old) (O.written out.new) (E.written err.new)) result }
+    ensures partly_told { result ≡ statuses.failed_put → IsPartlyTold answer (between (O.written out.old) (E.written err.old) (O.written out.new) (E.written err.new)) }
+    ensures failed { result ≡ statuses.failed_put → Rose (O.faults out.old) (O.faults out.new) ⊎ Rose (E.faults err.old) (E.faults err.new) }
     ensures out_faults_never_fall { O.faults out.old ≤ O.faults out.new }
     ensures err_faults_never_fall { E.faults err.old ≤ E.faults err.new }
 {
@@ -119,6 +118,6 @@ fn put_answer<O: Sink, E: Sink>(answer: Result<Answer, NoMemory>, out: &mut O, e
             answer.out.as_slice(),
             answer.err.as_slice(),
         ),
-        Err(_) => say(out, err, NO_MEMORY_STATUS, b"", b"out of memory\n"),
+        Err(_) => say(out, err, Status::NoMemory as u8, b"", b"out of memory\n"),
     }
 }

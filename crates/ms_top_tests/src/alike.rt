@@ -83,7 +83,12 @@ fn agrees_twice<R: Threads + Sync, T: CheckedRow>(rt: &R, alloc: Global, row: &T
     }
 }
 
-fn table_agrees_twice<R: Threads + Sync, T: CheckedRow>(rt: &R, alloc: Global, rows: &[T]) -> bool {
+/// Whether `check` says what each row of a table tells, also where its module is first written with inserted code.
+pub fn table_agrees_twice<R: Threads + Sync, T: CheckedRow>(
+    rt: &R,
+    alloc: Global,
+    rows: &[T],
+) -> bool {
     for row in rows {
         if !agrees_twice(rt, alloc, row) {
             return false;

@@ -339,7 +339,8 @@ pub fn agrees<R: Threads + Sync>(rt: &R, alloc: Global, call: &Call) -> bool {
     }
 }
 
-fn table_agrees<R: Threads + Sync, T: Row>(rt: &R, alloc: Global, rows: &[T]) -> bool {
+/// Whether the call of each row of a table writes and answers what the row says.
+pub fn table_agrees<R: Threads + Sync, T: Row>(rt: &R, alloc: Global, rows: &[T]) -> bool {
     for row in rows {
         if !agrees(rt, alloc, &row.call()) {
             return false;

@@ -4,12 +4,42 @@ use crate::calls::{Beside, Call, Row, all_agree, on_text, saying};
 use std::test::Fail;
 
 /// Puts out one byte, and then four of which the third is unset.
-const GAP: &str =
-    "define i32 @main() {\n  %1 = alloca [4 x i8]\n  %2 = call i32 @putchar(i32 62)\n  %3 = call ptr @memset(ptr %1, i32 65, i64 2)\n  %4 = getelementptr i8, ptr %1, i64 3\n  store i8 66, ptr %4\n  %5 = call i64 @write(i32 1, ptr %1, i64 4)\n  ret i32 0\n}\ndeclare i32 @putchar(i32)\ndeclare ptr @memset(ptr, i32, i64)\ndeclare i64 @write(i32, ptr, i64)\n";
+const GAP: &str = r#"define i32 @main() {
+  %1 = alloca [4 x i8]
+  %2 = call i32 @putchar(i32 62)
+  %3 = call ptr @memset(ptr %1, i32 65, i64 2)
+  %4 = getelementptr i8, ptr %1, i64 3
+  store i8 66, ptr %4
+  %5 = call i64 @write(i32 1, ptr %1, i64 4)
+  ret i32 0
+}
+declare i32 @putchar(i32)
+declare ptr @memset(ptr, i32, i64)
+declare i64 @write(i32, ptr, i64)
+"#;
 
 /// Puts out the first byte of its input, and ends as that says: an `R` with a report, an `S` never, a `T` with a trap.
-const ENDS: &str =
-    "declare i32 @getchar()\ndeclare i32 @putchar(i32)\ndefine i32 @main() {\n  %c = call i32 @getchar()\n  %p = call i32 @putchar(i32 %c)\n  switch i32 %c, label %quiet [\n    i32 82, label %report\n    i32 83, label %spin\n    i32 84, label %trap\n  ]\nquiet:\n  ret i32 0\nreport:\n  ret i32 undef\nspin:\n  br label %spin\ntrap:\n  %q = udiv i32 1, 0\n  ret i32 %q\n}\n";
+const ENDS: &str = r#"declare i32 @getchar()
+declare i32 @putchar(i32)
+define i32 @main() {
+  %c = call i32 @getchar()
+  %p = call i32 @putchar(i32 %c)
+  switch i32 %c, label %quiet [
+    i32 82, label %report
+    i32 83, label %spin
+    i32 84, label %trap
+  ]
+quiet:
+  ret i32 0
+report:
+  ret i32 undef
+spin:
+  br label %spin
+trap:
+  %q = udiv i32 1, 0
+  ret i32 %q
+}
+"#;
 
 const ONE: &str =
     "input 1, 1 bytes: a\n>\nreport 1: output at site 6 in @main, part 2, bits 0xff of i8\n  origin 1: alloca at site 1 in @main\nend: reported\nreports: 1\nblind: 0\nverdict: poisoned\n";

@@ -5,20 +5,53 @@ use crate::modules::Checked;
 use std::test::Fail;
 
 /// Of the phi's two edges one is undefined: an `A` takes the other one.
-const ONE_EDGE: &str =
-    "define i32 @main() {\n  %1 = call i32 @getchar()\n  %2 = icmp eq i32 %1, 65\n  br i1 %2, label %3, label %4\n3:\n  br label %5\n4:\n  br label %5\n5:\n  %6 = phi i32 [ 0, %3 ], [ undef, %4 ]\n  ret i32 %6\n}\ndeclare i32 @getchar()\n";
+const ONE_EDGE: &str = r#"define i32 @main() {
+  %1 = call i32 @getchar()
+  %2 = icmp eq i32 %1, 65
+  br i1 %2, label %3, label %4
+3:
+  br label %5
+4:
+  br label %5
+5:
+  %6 = phi i32 [ 0, %3 ], [ undef, %4 ]
+  ret i32 %6
+}
+declare i32 @getchar()
+"#;
 
 /// The loop's phi is undefined at first, and so is each sum: they support each other, and none is clean.
-const UNDEFINED_FIRST: &str =
-    "define i32 @main() {\n  br label %1\n1:\n  %2 = phi i32 [ undef, %0 ], [ %3, %1 ]\n  %3 = and i32 %2, 7\n  %4 = icmp eq i32 0, 0\n  br i1 %4, label %5, label %1\n5:\n  ret i32 %3\n}\n";
+const UNDEFINED_FIRST: &str = r#"define i32 @main() {
+  br label %1
+1:
+  %2 = phi i32 [ undef, %0 ], [ %3, %1 ]
+  %3 = and i32 %2, 7
+  %4 = icmp eq i32 0, 0
+  br i1 %4, label %5, label %1
+5:
+  ret i32 %3
+}
+"#;
 
 /// A quotient is poisoned with its dividend, and so is a product of it.
-const DIVIDEND: &str =
-    "define i32 @main() {\n  %1 = udiv i32 undef, 4\n  %2 = mul i32 %1, 2\n  ret i32 %2\n}\n";
+const DIVIDEND: &str = r#"define i32 @main() {
+  %1 = udiv i32 undef, 4
+  %2 = mul i32 %1, 2
+  ret i32 %2
+}
+"#;
 
 /// A parameter has the bits that the caller hands over, in one of two calls.
-const PARAMETER: &str =
-    "define i32 @id(i32 %0) {\n  ret i32 %0\n}\ndefine i32 @main() {\n  %1 = call i32 @id(i32 3)\n  %2 = call i32 @id(i32 undef)\n  %3 = xor i32 %1, %2\n  ret i32 %3\n}\n";
+const PARAMETER: &str = r#"define i32 @id(i32 %0) {
+  ret i32 %0
+}
+define i32 @main() {
+  %1 = call i32 @id(i32 3)
+  %2 = call i32 @id(i32 undef)
+  %3 = xor i32 %1, %2
+  ret i32 %3
+}
+"#;
 
 /// An input for the first of these modules alone.
 const AN_A: Terms = Terms {

@@ -3,20 +3,47 @@
 use crate::calls::{ALL, Beside, Call, Row, Taking, Wanted, all_agree, on_text, saying};
 use std::test::Fail;
 
-const RETURNS: &str = "define i32 @main() {\n  ret i32 0\n}\n";
+const RETURNS: &str = r#"define i32 @main() {
+  ret i32 0
+}
+"#;
 
-const STORED: &str =
-    "define i32 @main() {\n  %1 = alloca i32\n  store i32 12, ptr %1\n  %2 = load i32, ptr %1\n  %3 = xor i32 %2, 10\n  ret i32 %3\n}\n";
+const STORED: &str = r#"define i32 @main() {
+  %1 = alloca i32
+  store i32 12, ptr %1
+  %2 = load i32, ptr %1
+  %3 = xor i32 %2, 10
+  ret i32 %3
+}
+"#;
 
 /// Writes four bytes, of which the third is unset, behind one that is printed.
-const WITH_GAP: &str =
-    "define i32 @main() {\n  %1 = alloca [4 x i8]\n  %2 = call i32 @putchar(i32 62)\n  %3 = call ptr @memset(ptr %1, i32 65, i64 2)\n  %4 = getelementptr i8, ptr %1, i64 3\n  store i8 66, ptr %4\n  %5 = call i64 @write(i32 1, ptr %1, i64 4)\n  ret i32 0\n}\ndeclare i32 @putchar(i32)\ndeclare ptr @memset(ptr, i32, i64)\ndeclare i64 @write(i32, ptr, i64)\n";
+const WITH_GAP: &str = r#"define i32 @main() {
+  %1 = alloca [4 x i8]
+  %2 = call i32 @putchar(i32 62)
+  %3 = call ptr @memset(ptr %1, i32 65, i64 2)
+  %4 = getelementptr i8, ptr %1, i64 3
+  store i8 66, ptr %4
+  %5 = call i64 @write(i32 1, ptr %1, i64 4)
+  ret i32 0
+}
+declare i32 @putchar(i32)
+declare ptr @memset(ptr, i32, i64)
+declare i64 @write(i32, ptr, i64)
+"#;
 
 const BAD_BYTE: &str = "?";
 
 /// Prints the letter A two times 65536 times and once more.
-const PRINTS: &str =
-    "@g = global [131073 x i8] zeroinitializer\ndefine i32 @main() {\n  %1 = call ptr @memset(ptr @g, i32 65, i64 131073)\n  %2 = call i64 @write(i32 1, ptr @g, i64 131073)\n  ret i32 0\n}\ndeclare ptr @memset(ptr, i32, i64)\ndeclare i64 @write(i32, ptr, i64)\n";
+const PRINTS: &str = r#"@g = global [131073 x i8] zeroinitializer
+define i32 @main() {
+  %1 = call ptr @memset(ptr @g, i32 65, i64 131073)
+  %2 = call i64 @write(i32 1, ptr @g, i64 131073)
+  ret i32 0
+}
+declare ptr @memset(ptr, i32, i64)
+declare i64 @write(i32, ptr, i64)
+"#;
 
 /// The words, the text of the file `f`, the number of bytes of the file `a`, the numbers of the reads that fail, the output and
 /// the standard error, what is written to each, and the status. The file `b` is empty, and there is no other.

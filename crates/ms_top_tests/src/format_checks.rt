@@ -1,153 +1,348 @@
 //! What `check` reports at calls of `printf`. Masks, parts and origins were worked out by hand.
 
-use crate::alike::all_agree_twice;
 use crate::calls::{Case, Terms, all_agree};
 use crate::modules::Checked;
+use crate::told::all_told_twice;
 use std::test::Fail;
 
 /// The words of arguments.
-static VALUES: [Case; 7] = [
-    Case(
-        "check f",
-        "@f = constant [10 x i8] c\"%d %s%lx\\0A\\00\"\n@s = constant [2 x i8] c\"v\\00\"\ndefine i32 @main() {\n  %1 = call i32 (ptr, ...) @printf(ptr @f, i32 undef, ptr @s, i64 255)\n  ret i32 %1\n}\ndeclare i32 @printf(ptr, ...)\n",
-        "",
-        "report 1: value at site 1 in @main, part 1, bits 0xffffffff of i32\n  origin 1: undef at site 1 in @main\nend: reported\nreports: 1\nblind: 0\nverdict: poisoned\n",
-        77,
-    ),
-    // A surplus argument is checked too.
-    Case(
-        "check f",
-        "@f = constant [2 x i8] c\"a\\00\"\ndefine i32 @main() {\n  %1 = call i32 (ptr, ...) @printf(ptr @f, i64 undef)\n  ret i32 %1\n}\ndeclare i32 @printf(ptr, ...)\n",
-        "",
-        "report 1: value at site 1 in @main, part 1, bits 0xffffffffffffffff of i64\n  origin 1: undef at site 1 in @main\nend: reported\nreports: 1\nblind: 0\nverdict: poisoned\n",
-        77,
-    ),
-    // Of a pointer its word is checked, and the first argument is one.
-    Case(
-        "check f",
-        "@f = constant [5 x i8] c\"%d%s\\00\"\ndefine i32 @main() {\n  %1 = call i32 (ptr, ...) @printf(ptr @f, i32 1, ptr undef)\n  ret i32 %1\n}\ndeclare i32 @printf(ptr, ...)\n",
-        "",
-        "report 1: value at site 1 in @main, part 2, bits 0xffffffffffffffff of i64\n  origin 1: undef at site 1 in @main\nend: reported\nreports: 1\nblind: 0\nverdict: poisoned\n",
-        77,
-    ),
-    Case(
-        "check f",
-        "define i32 @main() {\n  %1 = call i32 (ptr, ...) @printf(ptr undef)\n  ret i32 %1\n}\ndeclare i32 @printf(ptr, ...)\n",
-        "",
-        "report 1: pointer at site 1 in @main, part 0, bits 0xffffffffffffffff of i64\n  origin 1: undef at site 1 in @main\nend: reported\nreports: 1\nblind: 0\nverdict: poisoned\n",
-        77,
-    ),
-    // All bits of a word are checked, though only its low byte is printed.
-    Case(
-        "check f",
-        "@f = constant [3 x i8] c\"%c\\00\"\ndefine i32 @main() {\n  %1 = alloca i32\n  store i8 7, ptr %1\n  %2 = load i32, ptr %1\n  %3 = call i32 (ptr, ...) @printf(ptr @f, i32 %2)\n  ret i32 %3\n}\ndeclare i32 @printf(ptr, ...)\n",
-        "",
-        "report 1: value at site 4 in @main, part 1, bits 0xffffff00 of i32\n  origin 1: alloca at site 1 in @main\nend: reported\nreports: 1\nblind: 0\nverdict: poisoned\n",
-        77,
-    ),
-    // Also where the format comes to a trap.
-    Case(
-        "check f",
-        "@f = constant [4 x i8] c\"%5d\\00\"\ndefine i32 @main() {\n  %1 = call i32 (ptr, ...) @printf(ptr @f, i32 undef)\n  ret i32 %1\n}\ndeclare i32 @printf(ptr, ...)\n",
-        "",
-        "report 1: value at site 1 in @main, part 1, bits 0xffffffff of i32\n  origin 1: undef at site 1 in @main\nend: reported\nreports: 1\nblind: 0\nverdict: poisoned\n",
-        77,
-    ),
-    // A parameter keeps what its caller handed over.
-    Case(
-        "check f",
-        "@f = constant [3 x i8] c\"%d\\00\"\ndefine i32 @main() {\n  call void @show(i32 undef)\n  ret i32 0\n}\ndefine void @show(i32 %0) {\n  %2 = call i32 (ptr, ...) @printf(ptr @f, i32 %0)\n  ret void\n}\ndeclare i32 @printf(ptr, ...)\n",
-        "",
-        "report 1: value at site 3 in @show, part 1, bits 0xffffffff of i32\n  origin 1: undef at site 1 in @main\nend: reported\nreports: 1\nblind: 0\nverdict: poisoned\n",
-        77,
-    ),
-];
+static VALUES: &[u8] = br#"check f~
+@f = constant [10 x i8] c"%d %s%lx\0A\00"
+@s = constant [2 x i8] c"v\00"
+define i32 @main() {
+  %1 = call i32 (ptr, ...) @printf(ptr @f, i32 undef, ptr @s, i64 255)
+  ret i32 %1
+}
+declare i32 @printf(ptr, ...)
+~
+~
+report 1: value at site 1 in @main, part 1, bits 0xffffffff of i32
+  origin 1: undef at site 1 in @main
+end: reported
+reports: 1
+blind: 0
+verdict: poisoned
+~
+77
+====
+# A surplus argument is checked too.
+check f~
+@f = constant [2 x i8] c"a\00"
+define i32 @main() {
+  %1 = call i32 (ptr, ...) @printf(ptr @f, i64 undef)
+  ret i32 %1
+}
+declare i32 @printf(ptr, ...)
+~
+~
+report 1: value at site 1 in @main, part 1, bits 0xffffffffffffffff of i64
+  origin 1: undef at site 1 in @main
+end: reported
+reports: 1
+blind: 0
+verdict: poisoned
+~
+77
+====
+# Of a pointer its word is checked, and the first argument is one.
+check f~
+@f = constant [5 x i8] c"%d%s\00"
+define i32 @main() {
+  %1 = call i32 (ptr, ...) @printf(ptr @f, i32 1, ptr undef)
+  ret i32 %1
+}
+declare i32 @printf(ptr, ...)
+~
+~
+report 1: value at site 1 in @main, part 2, bits 0xffffffffffffffff of i64
+  origin 1: undef at site 1 in @main
+end: reported
+reports: 1
+blind: 0
+verdict: poisoned
+~
+77
+====
+check f~
+define i32 @main() {
+  %1 = call i32 (ptr, ...) @printf(ptr undef)
+  ret i32 %1
+}
+declare i32 @printf(ptr, ...)
+~
+~
+report 1: pointer at site 1 in @main, part 0, bits 0xffffffffffffffff of i64
+  origin 1: undef at site 1 in @main
+end: reported
+reports: 1
+blind: 0
+verdict: poisoned
+~
+77
+====
+# All bits of a word are checked, though only its low byte is printed.
+check f~
+@f = constant [3 x i8] c"%c\00"
+define i32 @main() {
+  %1 = alloca i32
+  store i8 7, ptr %1
+  %2 = load i32, ptr %1
+  %3 = call i32 (ptr, ...) @printf(ptr @f, i32 %2)
+  ret i32 %3
+}
+declare i32 @printf(ptr, ...)
+~
+~
+report 1: value at site 4 in @main, part 1, bits 0xffffff00 of i32
+  origin 1: alloca at site 1 in @main
+end: reported
+reports: 1
+blind: 0
+verdict: poisoned
+~
+77
+====
+# Also where the format comes to a trap.
+check f~
+@f = constant [4 x i8] c"%5d\00"
+define i32 @main() {
+  %1 = call i32 (ptr, ...) @printf(ptr @f, i32 undef)
+  ret i32 %1
+}
+declare i32 @printf(ptr, ...)
+~
+~
+report 1: value at site 1 in @main, part 1, bits 0xffffffff of i32
+  origin 1: undef at site 1 in @main
+end: reported
+reports: 1
+blind: 0
+verdict: poisoned
+~
+77
+====
+# A parameter keeps what its caller handed over.
+check f~
+@f = constant [3 x i8] c"%d\00"
+define i32 @main() {
+  call void @show(i32 undef)
+  ret i32 0
+}
+define void @show(i32 %0) {
+  %2 = call i32 (ptr, ...) @printf(ptr @f, i32 %0)
+  ret void
+}
+declare i32 @printf(ptr, ...)
+~
+~
+report 1: value at site 3 in @show, part 1, bits 0xffffffff of i32
+  origin 1: undef at site 1 in @main
+end: reported
+reports: 1
+blind: 0
+verdict: poisoned
+~
+77
+====
+"#;
 
 /// The bytes of the format, and of each string for which it asks.
-static STRINGS: [Case; 5] = [
-    // The format's bytes come before the words of arguments.
-    Case(
-        "check f",
-        "define i32 @main() {\n  %1 = alloca [2 x i8]\n  store i8 97, ptr %1\n  %2 = call i32 (ptr, ...) @printf(ptr %1, i32 undef)\n  ret i32 %2\n}\ndeclare i32 @printf(ptr, ...)\n",
-        "",
-        "report 1: string at site 3 in @main, part 1, bits 0xff of i8\n  origin 1: alloca at site 1 in @main\nend: reported\nreports: 1\nblind: 0\nverdict: poisoned\n",
-        77,
-    ),
-    // Each byte of a string for which the format asks is checked.
-    Case(
-        "check f",
-        "@f = constant [3 x i8] c\"%s\\00\"\ndefine i32 @main() {\n  %1 = alloca [3 x i8]\n  store i8 97, ptr %1\n  %2 = call i32 (ptr, ...) @printf(ptr @f, ptr %1)\n  ret i32 %2\n}\ndeclare i32 @printf(ptr, ...)\n",
-        "",
-        "report 1: string at site 3 in @main, part 1, bits 0xff of i8\n  origin 1: alloca at site 1 in @main\nend: reported\nreports: 1\nblind: 0\nverdict: poisoned\n",
-        77,
-    ),
-    // Of the second `%s` alone.
-    Case(
-        "check f",
-        "@f = constant [5 x i8] c\"%s%s\\00\"\n@s = constant [2 x i8] c\"v\\00\"\ndefine i32 @main() {\n  %1 = alloca i8\n  %2 = call i32 (ptr, ...) @printf(ptr @f, ptr @s, ptr %1)\n  ret i32 %2\n}\ndeclare i32 @printf(ptr, ...)\n",
-        "",
-        "report 1: string at site 2 in @main, part 0, bits 0xff of i8\n  origin 1: alloca at site 1 in @main\nend: reported\nreports: 1\nblind: 0\nverdict: poisoned\n",
-        77,
-    ),
-    // Arguments are counted by the directives that take one.
-    Case(
-        "check f",
-        "@f = constant [14 x i8] c\"%%%d %% %lx%s\\00\"\ndefine i32 @main() {\n  %1 = alloca i8\n  %2 = call i32 (ptr, ...) @printf(ptr @f, i32 1, i64 2, ptr %1)\n  ret i32 %2\n}\ndeclare i32 @printf(ptr, ...)\n",
-        "",
-        "report 1: string at site 2 in @main, part 0, bits 0xff of i8\n  origin 1: alloca at site 1 in @main\nend: reported\nreports: 1\nblind: 0\nverdict: poisoned\n",
-        77,
-    ),
-    // Before a bad place strings are checked.
-    Case(
-        "check f",
-        "@f = constant [6 x i8] c\"%s%5d\\00\"\ndefine i32 @main() {\n  %1 = alloca i8\n  %2 = call i32 (ptr, ...) @printf(ptr @f, ptr %1, i32 1)\n  ret i32 %2\n}\ndeclare i32 @printf(ptr, ...)\n",
-        "",
-        "report 1: string at site 2 in @main, part 0, bits 0xff of i8\n  origin 1: alloca at site 1 in @main\nend: reported\nreports: 1\nblind: 0\nverdict: poisoned\n",
-        77,
-    ),
-];
+static STRINGS: &[u8] = br#"# The format's bytes come before the words of arguments.
+check f~
+define i32 @main() {
+  %1 = alloca [2 x i8]
+  store i8 97, ptr %1
+  %2 = call i32 (ptr, ...) @printf(ptr %1, i32 undef)
+  ret i32 %2
+}
+declare i32 @printf(ptr, ...)
+~
+~
+report 1: string at site 3 in @main, part 1, bits 0xff of i8
+  origin 1: alloca at site 1 in @main
+end: reported
+reports: 1
+blind: 0
+verdict: poisoned
+~
+77
+====
+# Each byte of a string for which the format asks is checked.
+check f~
+@f = constant [3 x i8] c"%s\00"
+define i32 @main() {
+  %1 = alloca [3 x i8]
+  store i8 97, ptr %1
+  %2 = call i32 (ptr, ...) @printf(ptr @f, ptr %1)
+  ret i32 %2
+}
+declare i32 @printf(ptr, ...)
+~
+~
+report 1: string at site 3 in @main, part 1, bits 0xff of i8
+  origin 1: alloca at site 1 in @main
+end: reported
+reports: 1
+blind: 0
+verdict: poisoned
+~
+77
+====
+# Of the second `%s` alone.
+check f~
+@f = constant [5 x i8] c"%s%s\00"
+@s = constant [2 x i8] c"v\00"
+define i32 @main() {
+  %1 = alloca i8
+  %2 = call i32 (ptr, ...) @printf(ptr @f, ptr @s, ptr %1)
+  ret i32 %2
+}
+declare i32 @printf(ptr, ...)
+~
+~
+report 1: string at site 2 in @main, part 0, bits 0xff of i8
+  origin 1: alloca at site 1 in @main
+end: reported
+reports: 1
+blind: 0
+verdict: poisoned
+~
+77
+====
+# Arguments are counted by the directives that take one.
+check f~
+@f = constant [14 x i8] c"%%%d %% %lx%s\00"
+define i32 @main() {
+  %1 = alloca i8
+  %2 = call i32 (ptr, ...) @printf(ptr @f, i32 1, i64 2, ptr %1)
+  ret i32 %2
+}
+declare i32 @printf(ptr, ...)
+~
+~
+report 1: string at site 2 in @main, part 0, bits 0xff of i8
+  origin 1: alloca at site 1 in @main
+end: reported
+reports: 1
+blind: 0
+verdict: poisoned
+~
+77
+====
+# Before a bad place strings are checked.
+check f~
+@f = constant [6 x i8] c"%s%5d\00"
+define i32 @main() {
+  %1 = alloca i8
+  %2 = call i32 (ptr, ...) @printf(ptr @f, ptr %1, i32 1)
+  ret i32 %2
+}
+declare i32 @printf(ptr, ...)
+~
+~
+report 1: string at site 2 in @main, part 0, bits 0xff of i8
+  origin 1: alloca at site 1 in @main
+end: reported
+reports: 1
+blind: 0
+verdict: poisoned
+~
+77
+====
+"#;
 
 /// What isn't checked.
-static UNASKED: [Case; 5] = [
-    // The bytes at a pointer for which no `%s` asks.
-    Case(
-        "check f",
-        "@f = constant [4 x i8] c\"a%%\\00\"\ndefine i32 @main() {\n  %1 = alloca i8\n  %2 = call i32 (ptr, ...) @printf(ptr @f, ptr %1)\n  ret i32 %2\n}\ndeclare i32 @printf(ptr, ...)\n",
-        "a%",
-        "end: exit 2\nreports: 0\nblind: 0\nverdict: clean\n",
-        0,
-    ),
-    Case(
-        "check f",
-        "@f = constant [3 x i8] c\"%s\\00\"\n@s = constant [2 x i8] c\"v\\00\"\ndefine i32 @main() {\n  %1 = alloca i8\n  %2 = call i32 (ptr, ...) @printf(ptr @f, ptr @s, ptr %1)\n  ret i32 %2\n}\ndeclare i32 @printf(ptr, ...)\n",
-        "v",
-        "end: exit 1\nreports: 0\nblind: 0\nverdict: clean\n",
-        0,
-    ),
-    // After a bad place, and at a directive that prints no string.
-    Case(
-        "check f",
-        "@f = constant [6 x i8] c\"%5d%s\\00\"\ndefine i32 @main() {\n  %1 = alloca i8\n  %2 = call i32 (ptr, ...) @printf(ptr @f, i32 1, ptr %1)\n  ret i32 %2\n}\ndeclare i32 @printf(ptr, ...)\n",
-        "",
-        "end: trap format at site 2 in @main\nreports: 0\nblind: 0\nverdict: clean\n",
-        3,
-    ),
-    Case(
-        "check f",
-        "@f = constant [3 x i8] c\"%d\\00\"\ndefine i32 @main() {\n  %1 = alloca i8\n  %2 = call i32 (ptr, ...) @printf(ptr @f, ptr %1)\n  ret i32 %2\n}\ndeclare i32 @printf(ptr, ...)\n",
-        "",
-        "end: trap format at site 2 in @main\nreports: 0\nblind: 0\nverdict: clean\n",
-        3,
-    ),
-    // An address that is no pointer is no string.
-    Case(
-        "check f",
-        "@f = constant [3 x i8] c\"%s\\00\"\ndefine i32 @main() {\n  %1 = alloca i8\n  %2 = ptrtoint ptr %1 to i64\n  %3 = call i32 (ptr, ...) @printf(ptr @f, i64 %2)\n  ret i32 %3\n}\ndeclare i32 @printf(ptr, ...)\n",
-        "",
-        "end: trap format at site 3 in @main\nreports: 0\nblind: 0\nverdict: clean\n",
-        3,
-    ),
-];
+static UNASKED: &[u8] = br#"# The bytes at a pointer for which no `%s` asks.
+check f~
+@f = constant [4 x i8] c"a%%\00"
+define i32 @main() {
+  %1 = alloca i8
+  %2 = call i32 (ptr, ...) @printf(ptr @f, ptr %1)
+  ret i32 %2
+}
+declare i32 @printf(ptr, ...)
+~
+a%~
+end: exit 2
+reports: 0
+blind: 0
+verdict: clean
+~
+0
+====
+check f~
+@f = constant [3 x i8] c"%s\00"
+@s = constant [2 x i8] c"v\00"
+define i32 @main() {
+  %1 = alloca i8
+  %2 = call i32 (ptr, ...) @printf(ptr @f, ptr @s, ptr %1)
+  ret i32 %2
+}
+declare i32 @printf(ptr, ...)
+~
+v~
+end: exit 1
+reports: 0
+blind: 0
+verdict: clean
+~
+0
+====
+# After a bad place, and at a directive that prints no string.
+check f~
+@f = constant [6 x i8] c"%5d%s\00"
+define i32 @main() {
+  %1 = alloca i8
+  %2 = call i32 (ptr, ...) @printf(ptr @f, i32 1, ptr %1)
+  ret i32 %2
+}
+declare i32 @printf(ptr, ...)
+~
+~
+end: trap format at site 2 in @main
+reports: 0
+blind: 0
+verdict: clean
+~
+3
+====
+check f~
+@f = constant [3 x i8] c"%d\00"
+define i32 @main() {
+  %1 = alloca i8
+  %2 = call i32 (ptr, ...) @printf(ptr @f, ptr %1)
+  ret i32 %2
+}
+declare i32 @printf(ptr, ...)
+~
+~
+end: trap format at site 2 in @main
+reports: 0
+blind: 0
+verdict: clean
+~
+3
+====
+# An address that is no pointer is no string.
+check f~
+@f = constant [3 x i8] c"%s\00"
+define i32 @main() {
+  %1 = alloca i8
+  %2 = ptrtoint ptr %1 to i64
+  %3 = call i32 (ptr, ...) @printf(ptr @f, i64 %2)
+  ret i32 %3
+}
+declare i32 @printf(ptr, ...)
+~
+~
+end: trap format at site 3 in @main
+reports: 0
+blind: 0
+verdict: clean
+~
+3
+====
+"#;
 
 /// Runs that go on after a report; what was never written is the byte of the fill.
 static GOING_ON: [Checked; 10] = [
@@ -159,7 +354,19 @@ static GOING_ON: [Checked; 10] = [
             steps: 10000000,
             reports: 9,
         },
-        "define i32 @main() {\n  %1 = alloca [4 x i8]\n  %2 = alloca [2 x i8]\n  store i8 97, ptr %1\n  %3 = getelementptr i8, ptr %1, i64 2\n  store i16 115, ptr %3\n  %4 = getelementptr i8, ptr %2, i64 1\n  store i8 0, ptr %4\n  %5 = call i32 (ptr, ...) @printf(ptr %1, ptr %2)\n  ret i32 %5\n}\ndeclare i32 @printf(ptr, ...)\n",
+        r#"define i32 @main() {
+  %1 = alloca [4 x i8]
+  %2 = alloca [2 x i8]
+  store i8 97, ptr %1
+  %3 = getelementptr i8, ptr %1, i64 2
+  store i16 115, ptr %3
+  %4 = getelementptr i8, ptr %2, i64 1
+  store i8 0, ptr %4
+  %5 = call i32 (ptr, ...) @printf(ptr %1, ptr %2)
+  ret i32 %5
+}
+declare i32 @printf(ptr, ...)
+"#,
         b"a\xa5s",
         "report 1: string at site 8 in @main, part 1, bits 0xff of i8\n  origin 1: alloca at site 1 in @main\nend: exit 3\nreports: 1\nblind: 0\nverdict: poisoned\n",
         77,
@@ -172,7 +379,19 @@ static GOING_ON: [Checked; 10] = [
             steps: 10000000,
             reports: 9,
         },
-        "define i32 @main() {\n  %1 = alloca [4 x i8]\n  %2 = alloca [2 x i8]\n  store i8 97, ptr %1\n  %3 = getelementptr i8, ptr %1, i64 2\n  store i16 115, ptr %3\n  %4 = getelementptr i8, ptr %2, i64 1\n  store i8 0, ptr %4\n  %5 = call i32 (ptr, ...) @printf(ptr %1, ptr %2)\n  ret i32 %5\n}\ndeclare i32 @printf(ptr, ...)\n",
+        r#"define i32 @main() {
+  %1 = alloca [4 x i8]
+  %2 = alloca [2 x i8]
+  store i8 97, ptr %1
+  %3 = getelementptr i8, ptr %1, i64 2
+  store i16 115, ptr %3
+  %4 = getelementptr i8, ptr %2, i64 1
+  store i8 0, ptr %4
+  %5 = call i32 (ptr, ...) @printf(ptr %1, ptr %2)
+  ret i32 %5
+}
+declare i32 @printf(ptr, ...)
+"#,
         b"a%",
         "report 1: string at site 8 in @main, part 1, bits 0xff of i8\n  origin 1: alloca at site 1 in @main\nreport 2: string at site 8 in @main, part 0, bits 0xff of i8\n  origin 2: alloca at site 2 in @main\nend: exit 2\nreports: 2\nblind: 0\nverdict: poisoned\n",
         77,
@@ -185,7 +404,19 @@ static GOING_ON: [Checked; 10] = [
             steps: 10000000,
             reports: 9,
         },
-        "define i32 @main() {\n  %1 = alloca [4 x i8]\n  %2 = alloca [2 x i8]\n  store i8 97, ptr %1\n  %3 = getelementptr i8, ptr %1, i64 2\n  store i16 115, ptr %3\n  %4 = getelementptr i8, ptr %2, i64 1\n  store i8 0, ptr %4\n  %5 = call i32 (ptr, ...) @printf(ptr %1, ptr %2)\n  ret i32 %5\n}\ndeclare i32 @printf(ptr, ...)\n",
+        r#"define i32 @main() {
+  %1 = alloca [4 x i8]
+  %2 = alloca [2 x i8]
+  store i8 97, ptr %1
+  %3 = getelementptr i8, ptr %1, i64 2
+  store i16 115, ptr %3
+  %4 = getelementptr i8, ptr %2, i64 1
+  store i8 0, ptr %4
+  %5 = call i32 (ptr, ...) @printf(ptr %1, ptr %2)
+  ret i32 %5
+}
+declare i32 @printf(ptr, ...)
+"#,
         b"a",
         "report 1: string at site 8 in @main, part 1, bits 0xff of i8\n  origin 1: alloca at site 1 in @main\nend: exit 1\nreports: 1\nblind: 0\nverdict: poisoned\n",
         77,
@@ -198,7 +429,17 @@ static GOING_ON: [Checked; 10] = [
             steps: 10000000,
             reports: 9,
         },
-        "@f = constant [9 x i8] c\"%s %x %s\\00\"\ndefine i32 @main() {\n  %1 = alloca [3 x i8]\n  store i8 120, ptr %1\n  %2 = getelementptr i8, ptr %1, i64 2\n  store i8 0, ptr %2\n  %3 = call i32 (ptr, ...) @printf(ptr @f, ptr %1, i32 undef, ptr %1)\n  ret i32 %3\n}\ndeclare i32 @printf(ptr, ...)\n",
+        r#"@f = constant [9 x i8] c"%s %x %s\00"
+define i32 @main() {
+  %1 = alloca [3 x i8]
+  store i8 120, ptr %1
+  %2 = getelementptr i8, ptr %1, i64 2
+  store i8 0, ptr %2
+  %3 = call i32 (ptr, ...) @printf(ptr @f, ptr %1, i32 undef, ptr %1)
+  ret i32 %3
+}
+declare i32 @printf(ptr, ...)
+"#,
         b"x\xa5 a5a5a5a5 x\xa5",
         "report 1: value at site 5 in @main, part 2, bits 0xffffffff of i32\n  origin 2: undef at site 5 in @main\nreport 2: string at site 5 in @main, part 1, bits 0xff of i8\n  origin 1: alloca at site 1 in @main\nreport 3: string at site 5 in @main, part 1, bits 0xff of i8\n  origin 1: alloca at site 1 in @main\nend: exit 14\nreports: 3\nblind: 0\nverdict: poisoned\n",
         77,
@@ -211,7 +452,13 @@ static GOING_ON: [Checked; 10] = [
             steps: 10000000,
             reports: 9,
         },
-        "@f = constant [3 x i8] c\"%s\\00\"\ndefine i32 @main() {\n  %1 = call i32 (ptr, ...) @printf(ptr @f, ptr undef)\n  ret i32 %1\n}\ndeclare i32 @printf(ptr, ...)\n",
+        r#"@f = constant [3 x i8] c"%s\00"
+define i32 @main() {
+  %1 = call i32 (ptr, ...) @printf(ptr @f, ptr undef)
+  ret i32 %1
+}
+declare i32 @printf(ptr, ...)
+"#,
         b"",
         "report 1: value at site 1 in @main, part 1, bits 0xffffffffffffffff of i64\n  origin 1: undef at site 1 in @main\nend: trap bad-address at site 1 in @main\nreports: 1\nblind: 0\nverdict: poisoned\n",
         77,
@@ -223,7 +470,12 @@ static GOING_ON: [Checked; 10] = [
             steps: 10000000,
             reports: 9,
         },
-        "define i32 @main() {\n  %1 = call i32 (ptr, ...) @printf(ptr undef)\n  ret i32 %1\n}\ndeclare i32 @printf(ptr, ...)\n",
+        r#"define i32 @main() {
+  %1 = call i32 (ptr, ...) @printf(ptr undef)
+  ret i32 %1
+}
+declare i32 @printf(ptr, ...)
+"#,
         b"",
         "report 1: pointer at site 1 in @main, part 0, bits 0xffffffffffffffff of i64\n  origin 1: undef at site 1 in @main\nend: trap bad-address at site 1 in @main\nreports: 1\nblind: 0\nverdict: poisoned\n",
         77,
@@ -236,7 +488,14 @@ static GOING_ON: [Checked; 10] = [
             steps: 10000000,
             reports: 9,
         },
-        "define i32 @main() {\n  %1 = alloca [2 x i8]\n  store i8 97, ptr %1\n  %2 = call i32 (ptr, ...) @printf(ptr %1)\n  ret i32 %2\n}\ndeclare i32 @printf(ptr, ...)\n",
+        r#"define i32 @main() {
+  %1 = alloca [2 x i8]
+  store i8 97, ptr %1
+  %2 = call i32 (ptr, ...) @printf(ptr %1)
+  ret i32 %2
+}
+declare i32 @printf(ptr, ...)
+"#,
         b"",
         "report 1: string at site 3 in @main, part 1, bits 0xff of i8\n  origin 1: alloca at site 1 in @main\nend: trap bad-address at site 3 in @main\nreports: 1\nblind: 0\nverdict: poisoned\n",
         77,
@@ -249,7 +508,13 @@ static GOING_ON: [Checked; 10] = [
             steps: 10000000,
             reports: 9,
         },
-        "@f = constant [4 x i8] c\"%5d\\00\"\ndefine i32 @main() {\n  %1 = call i32 (ptr, ...) @printf(ptr @f, i32 undef)\n  ret i32 %1\n}\ndeclare i32 @printf(ptr, ...)\n",
+        r#"@f = constant [4 x i8] c"%5d\00"
+define i32 @main() {
+  %1 = call i32 (ptr, ...) @printf(ptr @f, i32 undef)
+  ret i32 %1
+}
+declare i32 @printf(ptr, ...)
+"#,
         b"",
         "report 1: value at site 1 in @main, part 1, bits 0xffffffff of i32\n  origin 1: undef at site 1 in @main\nend: trap format at site 1 in @main\nreports: 1\nblind: 0\nverdict: poisoned\n",
         77,
@@ -262,7 +527,13 @@ static GOING_ON: [Checked; 10] = [
             steps: 10000000,
             reports: 9,
         },
-        "@f = constant [2 x i8] c\"a\\00\"\ndefine i32 @main() {\n  %1 = call i32 (ptr, ...) @printf(ptr @f, ptr undef)\n  ret i32 %1\n}\ndeclare i32 @printf(ptr, ...)\n",
+        r#"@f = constant [2 x i8] c"a\00"
+define i32 @main() {
+  %1 = call i32 (ptr, ...) @printf(ptr @f, ptr undef)
+  ret i32 %1
+}
+declare i32 @printf(ptr, ...)
+"#,
         b"a",
         "report 1: value at site 1 in @main, part 1, bits 0xffffffffffffffff of i64\n  origin 1: undef at site 1 in @main\nend: exit 1\nreports: 1\nblind: 0\nverdict: poisoned\n",
         77,
@@ -275,7 +546,13 @@ static GOING_ON: [Checked; 10] = [
             steps: 10000000,
             reports: 9,
         },
-        "@f = constant [7 x i8] c\"%c%c%c\\00\"\ndefine i32 @main() {\n  %1 = call i32 (ptr, ...) @printf(ptr @f, i32 -1, i32 128, i32 4095)\n  ret i32 %1\n}\ndeclare i32 @printf(ptr, ...)\n",
+        r#"@f = constant [7 x i8] c"%c%c%c\00"
+define i32 @main() {
+  %1 = call i32 (ptr, ...) @printf(ptr @f, i32 -1, i32 128, i32 4095)
+  ret i32 %1
+}
+declare i32 @printf(ptr, ...)
+"#,
         b"\xff\x80\xff",
         "end: exit 3\nreports: 0\nblind: 0\nverdict: clean\n",
         0,
@@ -285,7 +562,7 @@ static GOING_ON: [Checked; 10] = [
 #[test]
 fn formats_are_checked(rt: HostRuntime) -> Result<(), Fail> {
     assert!(rt;
-        all_agree_twice(&rt, rt.alloc(), &[&VALUES, &STRINGS, &UNASKED])
+        all_told_twice::<_, Case>(&rt, rt.alloc(), &[(VALUES, 7), (STRINGS, 5), (UNASKED, 5)])
             && all_agree(&rt, rt.alloc(), &[&GOING_ON])
     );
     Ok(())

@@ -1,97 +1,149 @@
 //! Modules in other spellings, and such as have little to check.
 
-use crate::calls::{Call, Case, Wanted, agrees, all_agree, on_text};
+use crate::calls::{Call, Case, Wanted, agrees, on_text};
+use crate::told::all_told;
 use std::alloc::Global;
 use std::test::Fail;
 use std::thread::Threads;
 
 /// Other spellings run.
-static SPELLINGS: [Case; 12] = [
-    Case(
-        "run f",
-        "; a comment\ntarget triple = \"x\"\ndefine dso_local i32 @main() #0 {\n%1=alloca i32, align 4\n   store i32 12 , ptr %1, align 4 ; twelve\n  load i32, ptr %1\n  %3 = xor i32 %2, 0010\n  ret i32 %3\n}\nattributes #0 = { nounwind }",
-        "",
-        "end: exit 6\nreports: 0\nblind: 0\n",
-        0,
-    ),
-    Case(
-        "run f",
-        "define i32 @main() {\n  ret i32 0\n}",
-        "",
-        "end: exit 0\nreports: 0\nblind: 0\n",
-        0,
-    ),
-    Case(
-        "run f",
-        "define i32 @main() { ret i32 -1 }",
-        "",
-        "end: exit 4294967295\nreports: 0\nblind: 0\n",
-        0,
-    ),
-    Case(
-        "run f",
-        "define i32 @main() { 0: ret i32 -2147483648 }",
-        "",
-        "end: exit 2147483648\nreports: 0\nblind: 0\n",
-        0,
-    ),
-    Case(
-        "run f",
-        "define i32 @main() { alloca i32, i32 1 store i32 7, ptr %1 %2 = load i32, ptr %1 ret i32 %2 }",
-        "",
-        "end: exit 7\nreports: 0\nblind: 0\n",
-        0,
-    ),
-    Case(
-        "run f",
-        "define i32 @main() { %1 = and i32 12, 10 %2 = or i32 %1, 1 ret i32 %2 }",
-        "",
-        "end: exit 9\nreports: 0\nblind: 0\n",
-        0,
-    ),
-    Case(
-        "check f",
-        "; a comment\ntarget triple = \"x\"\ndefine dso_local i32 @main() #0 {\n%1=alloca i32, align 4\n   store i32 12 , ptr %1, align 4 ; twelve\n  load i32, ptr %1\n  %3 = xor i32 %2, 0010\n  ret i32 %3\n}\nattributes #0 = { nounwind }",
-        "",
-        "end: exit 6\nreports: 0\nblind: 0\nverdict: clean\n",
-        0,
-    ),
-    Case(
-        "check f",
-        "define i32 @main() {\n  ret i32 0\n}",
-        "",
-        "end: exit 0\nreports: 0\nblind: 0\nverdict: clean\n",
-        0,
-    ),
-    Case(
-        "check f",
-        "define i32 @main() { ret i32 -1 }",
-        "",
-        "end: exit 4294967295\nreports: 0\nblind: 0\nverdict: clean\n",
-        0,
-    ),
-    Case(
-        "check f",
-        "define i32 @main() { 0: ret i32 -2147483648 }",
-        "",
-        "end: exit 2147483648\nreports: 0\nblind: 0\nverdict: clean\n",
-        0,
-    ),
-    Case(
-        "check f",
-        "define i32 @main() { alloca i32, i32 1 store i32 7, ptr %1 %2 = load i32, ptr %1 ret i32 %2 }",
-        "",
-        "end: exit 7\nreports: 0\nblind: 0\nverdict: clean\n",
-        0,
-    ),
-    Case(
-        "check f",
-        "define i32 @main() { %1 = and i32 12, 10 %2 = or i32 %1, 1 ret i32 %2 }",
-        "",
-        "end: exit 9\nreports: 0\nblind: 0\nverdict: clean\n",
-        0,
-    ),
-];
+static SPELLINGS: &[u8] = br#"run f~
+; a comment
+target triple = "x"
+define dso_local i32 @main() #0 {
+%1=alloca i32, align 4
+   store i32 12 , ptr %1, align 4 ; twelve
+  load i32, ptr %1
+  %3 = xor i32 %2, 0010
+  ret i32 %3
+}
+attributes #0 = { nounwind }~
+~
+end: exit 6
+reports: 0
+blind: 0
+~
+0
+====
+run f~
+define i32 @main() {
+  ret i32 0
+}~
+~
+end: exit 0
+reports: 0
+blind: 0
+~
+0
+====
+run f~
+define i32 @main() { ret i32 -1 }~
+~
+end: exit 4294967295
+reports: 0
+blind: 0
+~
+0
+====
+run f~
+define i32 @main() { 0: ret i32 -2147483648 }~
+~
+end: exit 2147483648
+reports: 0
+blind: 0
+~
+0
+====
+run f~
+define i32 @main() { alloca i32, i32 1 store i32 7, ptr %1 %2 = load i32, ptr %1 ret i32 %2 }~
+~
+end: exit 7
+reports: 0
+blind: 0
+~
+0
+====
+run f~
+define i32 @main() { %1 = and i32 12, 10 %2 = or i32 %1, 1 ret i32 %2 }~
+~
+end: exit 9
+reports: 0
+blind: 0
+~
+0
+====
+check f~
+; a comment
+target triple = "x"
+define dso_local i32 @main() #0 {
+%1=alloca i32, align 4
+   store i32 12 , ptr %1, align 4 ; twelve
+  load i32, ptr %1
+  %3 = xor i32 %2, 0010
+  ret i32 %3
+}
+attributes #0 = { nounwind }~
+~
+end: exit 6
+reports: 0
+blind: 0
+verdict: clean
+~
+0
+====
+check f~
+define i32 @main() {
+  ret i32 0
+}~
+~
+end: exit 0
+reports: 0
+blind: 0
+verdict: clean
+~
+0
+====
+check f~
+define i32 @main() { ret i32 -1 }~
+~
+end: exit 4294967295
+reports: 0
+blind: 0
+verdict: clean
+~
+0
+====
+check f~
+define i32 @main() { 0: ret i32 -2147483648 }~
+~
+end: exit 2147483648
+reports: 0
+blind: 0
+verdict: clean
+~
+0
+====
+check f~
+define i32 @main() { alloca i32, i32 1 store i32 7, ptr %1 %2 = load i32, ptr %1 ret i32 %2 }~
+~
+end: exit 7
+reports: 0
+blind: 0
+verdict: clean
+~
+0
+====
+check f~
+define i32 @main() { %1 = and i32 12, 10 %2 = or i32 %1, 1 ret i32 %2 }~
+~
+end: exit 9
+reports: 0
+blind: 0
+verdict: clean
+~
+0
+====
+"#;
 
 /// Modules of which `run` and `check` say the same, but that `check` calls each clean: the closing lines and the status.
 static BEYOND: [Beyond; 13] = [
@@ -190,7 +242,8 @@ fn all_are_alike<R: Threads + Sync>(rt: &R, alloc: Global, rows: &[Beyond]) -> b
 #[test]
 fn other_forms_run(rt: HostRuntime) -> Result<(), Fail> {
     assert!(rt;
-        all_agree(&rt, rt.alloc(), &[&SPELLINGS]) && all_are_alike(&rt, rt.alloc(), &BEYOND)
+        all_told::<_, Case>(&rt, rt.alloc(), &[(SPELLINGS, 12)])
+            && all_are_alike(&rt, rt.alloc(), &BEYOND)
     );
     Ok(())
 }

@@ -14,7 +14,16 @@ static INPUTS: [Checked; 4] = [
             steps: 10000000,
             reports: 1,
         },
-        "define i32 @main() {\n  %1 = alloca [4 x i8]\n  %2 = call i64 @read(i32 0, ptr %1, i64 4)\n  %3 = getelementptr i8, ptr %1, i64 2\n  %4 = load i8, ptr %3\n  %5 = zext i8 %4 to i32\n  ret i32 %5\n}\ndeclare i64 @read(i32, ptr, i64)\n",
+        r#"define i32 @main() {
+  %1 = alloca [4 x i8]
+  %2 = call i64 @read(i32 0, ptr %1, i64 4)
+  %3 = getelementptr i8, ptr %1, i64 2
+  %4 = load i8, ptr %3
+  %5 = zext i8 %4 to i32
+  ret i32 %5
+}
+declare i64 @read(i32, ptr, i64)
+"#,
         b"",
         "end: exit 99\nreports: 0\nblind: 0\nverdict: clean\n",
         0,
@@ -26,7 +35,16 @@ static INPUTS: [Checked; 4] = [
             steps: 10000000,
             reports: 1,
         },
-        "define i32 @main() {\n  %1 = alloca [4 x i8]\n  %2 = call i64 @read(i32 0, ptr %1, i64 4)\n  %3 = getelementptr i8, ptr %1, i64 3\n  %4 = load i8, ptr %3\n  %5 = zext i8 %4 to i32\n  ret i32 %5\n}\ndeclare i64 @read(i32, ptr, i64)\n",
+        r#"define i32 @main() {
+  %1 = alloca [4 x i8]
+  %2 = call i64 @read(i32 0, ptr %1, i64 4)
+  %3 = getelementptr i8, ptr %1, i64 3
+  %4 = load i8, ptr %3
+  %5 = zext i8 %4 to i32
+  ret i32 %5
+}
+declare i64 @read(i32, ptr, i64)
+"#,
         b"",
         "report 1: exit at site 6 in @main, part 0, bits 0xff of i32\n  origin 1: alloca at site 1 in @main\nend: reported\nreports: 1\nblind: 0\nverdict: poisoned\n",
         77,
@@ -38,7 +56,20 @@ static INPUTS: [Checked; 4] = [
             steps: 10000000,
             reports: 1,
         },
-        "define i32 @main() {\n  %1 = call i32 @getchar()\n  %2 = icmp eq i32 %1, 65\n  br i1 %2, label %3, label %4\n3:\n  br label %5\n4:\n  br label %5\n5:\n  %6 = phi i32 [ 0, %3 ], [ undef, %4 ]\n  ret i32 %6\n}\ndeclare i32 @getchar()\n",
+        r#"define i32 @main() {
+  %1 = call i32 @getchar()
+  %2 = icmp eq i32 %1, 65
+  br i1 %2, label %3, label %4
+3:
+  br label %5
+4:
+  br label %5
+5:
+  %6 = phi i32 [ 0, %3 ], [ undef, %4 ]
+  ret i32 %6
+}
+declare i32 @getchar()
+"#,
         b"",
         "end: exit 0\nreports: 0\nblind: 0\nverdict: clean\n",
         0,
@@ -50,7 +81,20 @@ static INPUTS: [Checked; 4] = [
             steps: 10000000,
             reports: 1,
         },
-        "define i32 @main() {\n  %1 = call i32 @getchar()\n  %2 = icmp eq i32 %1, 65\n  br i1 %2, label %3, label %4\n3:\n  br label %5\n4:\n  br label %5\n5:\n  %6 = phi i32 [ 0, %3 ], [ undef, %4 ]\n  ret i32 %6\n}\ndeclare i32 @getchar()\n",
+        r#"define i32 @main() {
+  %1 = call i32 @getchar()
+  %2 = icmp eq i32 %1, 65
+  br i1 %2, label %3, label %4
+3:
+  br label %5
+4:
+  br label %5
+5:
+  %6 = phi i32 [ 0, %3 ], [ undef, %4 ]
+  ret i32 %6
+}
+declare i32 @getchar()
+"#,
         b"",
         "report 1: exit at site 7 in @main, part 0, bits 0xffffffff of i32\n  origin 1: undef at site 6 in @main\nend: reported\nreports: 1\nblind: 0\nverdict: poisoned\n",
         77,
@@ -67,7 +111,11 @@ static FILLS: [Checked; 6] = [
             steps: 10000000,
             reports: 1,
         },
-        "define i32 @main() {\n  %1 = udiv i32 8, undef\n  ret i32 0\n}\n",
+        r#"define i32 @main() {
+  %1 = udiv i32 8, undef
+  ret i32 0
+}
+"#,
         b"",
         "report 1: divisor at site 1 in @main, part 1, bits 0xffffffff of i32\n  origin 1: undef at site 1 in @main\nend: reported\nreports: 1\nblind: 0\nverdict: poisoned\n",
         77,
@@ -79,7 +127,11 @@ static FILLS: [Checked; 6] = [
             steps: 10000000,
             reports: 1,
         },
-        "define i32 @main() {\n  %1 = freeze i32 undef\n  ret i32 %1\n}\n",
+        r#"define i32 @main() {
+  %1 = freeze i32 undef
+  ret i32 %1
+}
+"#,
         b"",
         "end: exit 0\nreports: 0\nblind: 1\nverdict: unsure\n",
         0,
@@ -91,7 +143,11 @@ static FILLS: [Checked; 6] = [
             steps: 10000000,
             reports: 1,
         },
-        "define i32 @main() {\n  %1 = add nsw i32 undef, 1\n  ret i32 %1\n}\n",
+        r#"define i32 @main() {
+  %1 = add nsw i32 undef, 1
+  ret i32 %1
+}
+"#,
         b"",
         "end: trap nsw at site 1 in @main\nreports: 0\nblind: 1\nverdict: unsure\n",
         3,
@@ -103,7 +159,11 @@ static FILLS: [Checked; 6] = [
             steps: 10000000,
             reports: 1,
         },
-        "define i32 @main() {\n  %1 = add nsw i32 undef, 1\n  ret i32 %1\n}\n",
+        r#"define i32 @main() {
+  %1 = add nsw i32 undef, 1
+  ret i32 %1
+}
+"#,
         b"",
         "report 1: exit at site 2 in @main, part 0, bits 0xffffffff of i32\n  origin 1: undef at site 1 in @main\nend: reported\nreports: 1\nblind: 1\nverdict: poisoned\n",
         77,
@@ -115,7 +175,21 @@ static FILLS: [Checked; 6] = [
             steps: 10000000,
             reports: 1,
         },
-        "define i32 @main() {\n  %1 = and i32 undef, 1\n  %2 = add i32 %1, 1\n  %3 = lshr i32 %2, 1\n  %4 = icmp eq i32 %3, 0\n  br i1 %4, label %5, label %7\n5:\n  %6 = call i32 @putchar(i32 65)\n  ret i32 0\n7:\n  %8 = call i32 @putchar(i32 66)\n  ret i32 0\n}\ndeclare i32 @putchar(i32)\n",
+        r#"define i32 @main() {
+  %1 = and i32 undef, 1
+  %2 = add i32 %1, 1
+  %3 = lshr i32 %2, 1
+  %4 = icmp eq i32 %3, 0
+  br i1 %4, label %5, label %7
+5:
+  %6 = call i32 @putchar(i32 65)
+  ret i32 0
+7:
+  %8 = call i32 @putchar(i32 66)
+  ret i32 0
+}
+declare i32 @putchar(i32)
+"#,
         b"",
         "report 1: branch at site 5 in @main, part 0, bits 0x1 of i1\n  origin 1: undef at site 1 in @main\nend: reported\nreports: 1\nblind: 0\nverdict: poisoned\n",
         77,
@@ -127,7 +201,21 @@ static FILLS: [Checked; 6] = [
             steps: 10000000,
             reports: 1,
         },
-        "define i32 @main() {\n  %1 = and i32 undef, 1\n  %2 = add i32 %1, 1\n  %3 = lshr i32 %2, 1\n  %4 = icmp eq i32 %3, 0\n  br i1 %4, label %5, label %7\n5:\n  %6 = call i32 @putchar(i32 65)\n  ret i32 0\n7:\n  %8 = call i32 @putchar(i32 66)\n  ret i32 0\n}\ndeclare i32 @putchar(i32)\n",
+        r#"define i32 @main() {
+  %1 = and i32 undef, 1
+  %2 = add i32 %1, 1
+  %3 = lshr i32 %2, 1
+  %4 = icmp eq i32 %3, 0
+  br i1 %4, label %5, label %7
+5:
+  %6 = call i32 @putchar(i32 65)
+  ret i32 0
+7:
+  %8 = call i32 @putchar(i32 66)
+  ret i32 0
+}
+declare i32 @putchar(i32)
+"#,
         b"",
         "report 1: branch at site 5 in @main, part 0, bits 0x1 of i1\n  origin 1: undef at site 1 in @main\nend: reported\nreports: 1\nblind: 0\nverdict: poisoned\n",
         77,
@@ -144,7 +232,10 @@ static STEPS: [Checked; 4] = [
             steps: 0,
             reports: 1,
         },
-        "define i32 @main() {\n  ret i32 0\n}\n",
+        r#"define i32 @main() {
+  ret i32 0
+}
+"#,
         b"",
         "end: spent\nreports: 0\nblind: 0\nverdict: clean\n",
         4,
@@ -156,7 +247,10 @@ static STEPS: [Checked; 4] = [
             steps: 1,
             reports: 1,
         },
-        "define i32 @main() {\n  ret i32 0\n}\n",
+        r#"define i32 @main() {
+  ret i32 0
+}
+"#,
         b"",
         "end: exit 0\nreports: 0\nblind: 0\nverdict: clean\n",
         0,
@@ -168,7 +262,17 @@ static STEPS: [Checked; 4] = [
             steps: 3,
             reports: 1,
         },
-        "define i32 @main() {\n  %1 = alloca i32\n  %2 = load i32, ptr %1\n  %3 = icmp eq i32 %2, 0\n  br i1 %3, label %4, label %5\n4:\n  ret i32 0\n5:\n  ret i32 1\n}\n",
+        r#"define i32 @main() {
+  %1 = alloca i32
+  %2 = load i32, ptr %1
+  %3 = icmp eq i32 %2, 0
+  br i1 %3, label %4, label %5
+4:
+  ret i32 0
+5:
+  ret i32 1
+}
+"#,
         b"",
         "end: spent\nreports: 0\nblind: 0\nverdict: clean\n",
         4,
@@ -180,7 +284,17 @@ static STEPS: [Checked; 4] = [
             steps: 4,
             reports: 1,
         },
-        "define i32 @main() {\n  %1 = alloca i32\n  %2 = load i32, ptr %1\n  %3 = icmp eq i32 %2, 0\n  br i1 %3, label %4, label %5\n4:\n  ret i32 0\n5:\n  ret i32 1\n}\n",
+        r#"define i32 @main() {
+  %1 = alloca i32
+  %2 = load i32, ptr %1
+  %3 = icmp eq i32 %2, 0
+  br i1 %3, label %4, label %5
+4:
+  ret i32 0
+5:
+  ret i32 1
+}
+"#,
         b"",
         "report 1: branch at site 4 in @main, part 0, bits 0x1 of i1\n  origin 1: alloca at site 1 in @main\nend: reported\nreports: 1\nblind: 0\nverdict: poisoned\n",
         77,
@@ -196,7 +310,20 @@ static REPORTS: [Checked; 3] = [
             steps: 10000000,
             reports: 2,
         },
-        "define i32 @main() {\n  %1 = call i32 @putchar(i32 97)\n  br i1 undef, label %2, label %2\n2:\n  %3 = call i32 @putchar(i32 98)\n  br i1 undef, label %4, label %4\n4:\n  %5 = call i32 @putchar(i32 99)\n  br i1 undef, label %6, label %6\n6:\n  ret i32 0\n}\ndeclare i32 @putchar(i32)\n",
+        r#"define i32 @main() {
+  %1 = call i32 @putchar(i32 97)
+  br i1 undef, label %2, label %2
+2:
+  %3 = call i32 @putchar(i32 98)
+  br i1 undef, label %4, label %4
+4:
+  %5 = call i32 @putchar(i32 99)
+  br i1 undef, label %6, label %6
+6:
+  ret i32 0
+}
+declare i32 @putchar(i32)
+"#,
         b"ab",
         "report 1: branch at site 2 in @main, part 0, bits 0x1 of i1\n  origin 1: undef at site 2 in @main\nreport 2: branch at site 4 in @main, part 0, bits 0x1 of i1\n  origin 2: undef at site 4 in @main\nend: reported\nreports: 2\nblind: 0\nverdict: poisoned\n",
         77,
@@ -208,7 +335,17 @@ static REPORTS: [Checked; 3] = [
             steps: 10000000,
             reports: 2,
         },
-        "define i32 @main() {\n  %1 = alloca i32\n  %2 = load i32, ptr %1\n  %3 = icmp eq i32 %2, 0\n  br i1 %3, label %4, label %5\n4:\n  ret i32 0\n5:\n  ret i32 1\n}\n",
+        r#"define i32 @main() {
+  %1 = alloca i32
+  %2 = load i32, ptr %1
+  %3 = icmp eq i32 %2, 0
+  br i1 %3, label %4, label %5
+4:
+  ret i32 0
+5:
+  ret i32 1
+}
+"#,
         b"",
         "report 1: branch at site 4 in @main, part 0, bits 0x1 of i1\n  origin 1: alloca at site 1 in @main\nend: exit 1\nreports: 1\nblind: 0\nverdict: poisoned\n",
         77,
@@ -221,7 +358,25 @@ static REPORTS: [Checked; 3] = [
             steps: 10000000,
             reports: 3,
         },
-        "define i32 @main() {\n  %1 = alloca [8 x i8]\n  %2 = and i16 undef, -256\n  %3 = getelementptr i8, ptr %1, i64 3\n  store i16 %2, ptr %3\n  %4 = load i8, ptr %1\n  %5 = zext i8 %4 to i32\n  %6 = call i32 @putchar(i32 %5)\n  %7 = getelementptr i8, ptr %1, i64 4\n  %8 = load i8, ptr %7\n  %9 = zext i8 %8 to i32\n  %10 = call i32 @putchar(i32 %9)\n  %11 = load i8, ptr %3\n  %12 = zext i8 %11 to i32\n  %13 = call i32 @putchar(i32 %12)\n  ret i32 0\n}\ndeclare i32 @putchar(i32)\n",
+        r#"define i32 @main() {
+  %1 = alloca [8 x i8]
+  %2 = and i16 undef, -256
+  %3 = getelementptr i8, ptr %1, i64 3
+  store i16 %2, ptr %3
+  %4 = load i8, ptr %1
+  %5 = zext i8 %4 to i32
+  %6 = call i32 @putchar(i32 %5)
+  %7 = getelementptr i8, ptr %1, i64 4
+  %8 = load i8, ptr %7
+  %9 = zext i8 %8 to i32
+  %10 = call i32 @putchar(i32 %9)
+  %11 = load i8, ptr %3
+  %12 = zext i8 %11 to i32
+  %13 = call i32 @putchar(i32 %12)
+  ret i32 0
+}
+declare i32 @putchar(i32)
+"#,
         b"\xa5\xa5\x00",
         "report 1: value at site 7 in @main, part 0, bits 0xff of i32\n  origin 1: alloca at site 1 in @main\nreport 2: value at site 11 in @main, part 0, bits 0xff of i32\n  origin 3: stored at site 4 in @main\n  origin 2: undef at site 2 in @main\nend: exit 0\nreports: 2\nblind: 0\nverdict: poisoned\n",
         77,

@@ -2,13 +2,25 @@
 
 use crate::calls::{Call, Case, Desk, MORE, Row, Taking, Wanted, all_agree, on_text, said, says};
 use crate::checks::CLANG_UNOPTIMISED;
+use crate::told::all_told;
 use std::alloc::Global;
 use std::test::Fail;
 use std::thread::Threads;
 
 /// Prints the letter A once more than a run may print.
-const PRINTS_ON: &str =
-    "define i32 @main() {\n  br label %1\n1:\n  %2 = phi i32 [ 0, %0 ], [ %4, %1 ]\n  %3 = call i32 @putchar(i32 65)\n  %4 = add i32 %2, 1\n  %5 = icmp ult i32 %4, 1048577\n  br i1 %5, label %1, label %6\n6:\n  ret i32 0\n}\ndeclare i32 @putchar(i32)\n";
+const PRINTS_ON: &str = r#"define i32 @main() {
+  br label %1
+1:
+  %2 = phi i32 [ 0, %0 ], [ %4, %1 ]
+  %3 = call i32 @putchar(i32 65)
+  %4 = add i32 %2, 1
+  %5 = icmp ult i32 %4, 1048577
+  br i1 %5, label %1, label %6
+6:
+  ret i32 0
+}
+declare i32 @putchar(i32)
+"#;
 
 /// What is said where the text is read to its end.
 const RUN: Wanted<'static> = Wanted {
@@ -23,24 +35,39 @@ const RUN: Wanted<'static> = Wanted {
 };
 
 /// Marked code reaches no more than its own.
-static MARKED: [Case; 2] = [
-    // A marked load reaches no byte of the module's.
-    Case(
-        "run f",
-        "define i32 @main() {\n  %1 = alloca i32\n  %__msan.1 = load i32, ptr %1, !nosanitize !0\n  ret i32 0\n}\n",
-        "",
-        "end: trap bad-address at site 2 in @main\nreports: 0\nblind: 0\n",
-        3,
-    ),
-    // The module has no such place.
-    Case(
-        "run f",
-        "define i32 @main() {\n  call void @__msan_check(i64 1, i32 1, i32 0, i32 1, i32 0, i32 99), !nosanitize !0\n  ret i32 0\n}\ndeclare void @__msan_check(i64, i32, i32, i32, i32, i32)\n",
-        "",
-        "report 1: branch at site 99 in ?, part 0, bits 0x1 of i1\n  origin 0: unknown\nend: reported\nreports: 1\nblind: 0\n",
-        77,
-    ),
-];
+static MARKED: &[u8] = br#"# A marked load reaches no byte of the module's.
+run f~
+define i32 @main() {
+  %1 = alloca i32
+  %__msan.1 = load i32, ptr %1, !nosanitize !0
+  ret i32 0
+}
+~
+~
+end: trap bad-address at site 2 in @main
+reports: 0
+blind: 0
+~
+3
+====
+# The module has no such place.
+run f~
+define i32 @main() {
+  call void @__msan_check(i64 1, i32 1, i32 0, i32 1, i32 0, i32 99), !nosanitize !0
+  ret i32 0
+}
+declare void @__msan_check(i64, i32, i32, i32, i32, i32)
+~
+~
+report 1: branch at site 99 in ?, part 0, bits 0x1 of i1
+  origin 0: unknown
+end: reported
+reports: 1
+blind: 0
+~
+77
+====
+"#;
 
 /// How a line begins that names a refusal.
 static REFUSALS: [&str; 17] = [
@@ -146,6 +173,9 @@ fn a_text_may_end_anywhere(rt: HostRuntime) -> Result<(), Fail> {
 
 #[test]
 fn marked_code_and_output_stay_within(rt: HostRuntime) -> Result<(), Fail> {
-    assert!(rt; all_agree(&rt, rt.alloc(), &[&MARKED]) && all_agree(&rt, rt.alloc(), &[&PRINTED]));
+    assert!(rt;
+        all_told::<_, Case>(&rt, rt.alloc(), &[(MARKED, 2)])
+            && all_agree(&rt, rt.alloc(), &[&PRINTED])
+    );
     Ok(())
 }

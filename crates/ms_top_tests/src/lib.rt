@@ -6,6 +6,8 @@ mod alike;
 #[cfg(test)]
 mod aside_calls;
 #[cfg(test)]
+mod block_bytes;
+#[cfg(test)]
 mod bounds;
 #[cfg(test)]
 mod bytes;
@@ -32,6 +34,8 @@ mod faults;
 #[cfg(test)]
 mod format_checks;
 #[cfg(test)]
+mod format_texts;
+#[cfg(test)]
 mod formats;
 #[cfg(test)]
 mod forms;
@@ -54,6 +58,8 @@ mod meetings;
 #[cfg(test)]
 mod memory;
 #[cfg(test)]
+mod memory_checks;
+#[cfg(test)]
 mod modules;
 #[cfg(test)]
 mod options;
@@ -64,19 +70,27 @@ mod passes;
 #[cfg(test)]
 mod questions;
 #[cfg(test)]
+mod read_bytes;
+#[cfg(test)]
 mod refusals;
 #[cfg(test)]
 mod runs;
 #[cfg(test)]
 mod runtime;
 #[cfg(test)]
+mod runtime_strings;
+#[cfg(test)]
 mod schedules;
 #[cfg(test)]
 mod site_lines;
 #[cfg(test)]
+mod stream_arguments;
+#[cfg(test)]
 mod texts;
 #[cfg(test)]
 mod threads;
+#[cfg(test)]
+mod told;
 #[cfg(test)]
 mod trails;
 #[cfg(test)]
@@ -84,7 +98,11 @@ mod traps;
 #[cfg(test)]
 mod validity;
 #[cfg(test)]
+mod value_checks;
+#[cfg(test)]
 mod word_calls;
+#[cfg(test)]
+mod word_masks;
 #[cfg(test)]
 mod word_values;
 #[cfg(test)]

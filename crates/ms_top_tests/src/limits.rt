@@ -19,7 +19,8 @@ struct Long(
 static LIMITS: [Long; 8] = [
     Long(
         "check f",
-        "define i32 @main() {\n",
+        r#"define i32 @main() {
+"#,
         "ret i32 0\n",
         131073,
         "}\n",
@@ -28,7 +29,8 @@ static LIMITS: [Long; 8] = [
     ),
     Long(
         "check f",
-        "define i32 @main() {\n",
+        r#"define i32 @main() {
+"#,
         "ret i32 0\n",
         131072,
         "}\n",
@@ -38,7 +40,8 @@ static LIMITS: [Long; 8] = [
     Long(
         "check f",
         "",
-        "declare void @f()\n",
+        r#"declare void @f()
+"#,
         16385,
         "",
         "refused 6: limit functions at token 81920, byte 294912\n",
@@ -47,7 +50,8 @@ static LIMITS: [Long; 8] = [
     Long(
         "check f",
         "",
-        "@g = global i8 0\n",
+        r#"@g = global i8 0
+"#,
         16385,
         "",
         "refused 6: limit globals at token 81920, byte 278528\n",
@@ -73,7 +77,8 @@ static LIMITS: [Long; 8] = [
     ),
     Long(
         "check f",
-        "define i32 @main() {\n  %1 = getelementptr i8, ptr null",
+        r#"define i32 @main() {
+  %1 = getelementptr i8, ptr null"#,
         ", i64 0",
         65,
         "\n  ret i32 0\n}\n",
@@ -143,7 +148,8 @@ static FORMS: [Long; 9] = [
 static STACKS: [Long; 2] = [
     Long(
         "run f",
-        "define i32 @main() {\n",
+        r#"define i32 @main() {
+"#,
         "  alloca i32\n",
         65536,
         "  ret i32 0\n}\n",
@@ -152,7 +158,8 @@ static STACKS: [Long; 2] = [
     ),
     Long(
         "run f",
-        "define i32 @main() {\n",
+        r#"define i32 @main() {
+"#,
         "  alloca i32\n",
         65537,
         "  ret i32 0\n}\n",

@@ -4,8 +4,32 @@ use crate::calls::{Beside, Call, Case, Row, all_agree, on_text, saying};
 use std::test::Fail;
 
 /// Branches on a variable that has no value, and tells its source, of which clang wrote the like.
-const UNSET: &str =
-    "define i32 @main() !dbg !4 {\n  %1 = alloca i32, align 4\n    #dbg_declare(ptr %1, !5, !DIExpression(), !6)\n  %2 = load i32, ptr %1, align 4, !dbg !7\n  %3 = icmp eq i32 %2, 3, !dbg !8\n  br i1 %3, label %4, label %5, !dbg !9\n\n4:\n  br label %5, !dbg !9\n\n5:\n  ret i32 0, !dbg !10\n}\n\n!0 = !DIFile(filename: \"unset.c\", directory: \"/home\")\n!1 = distinct !DICompileUnit(language: DW_LANG_C11, file: !0)\n!2 = !DIBasicType(name: \"int\", size: 32)\n!3 = !DISubroutineType(types: !{})\n!4 = distinct !DISubprogram(name: \"main\", scope: !0, file: !0, line: 3, type: !3, unit: !1)\n!5 = !DILocalVariable(name: \"wanted\", scope: !4, file: !0, line: 4, type: !2)\n!6 = !DILocation(line: 4, column: 7, scope: !4)\n!7 = !DILocation(line: 5, column: 7, scope: !4)\n!8 = !DILocation(line: 5, column: 14, scope: !4)\n!9 = !DILocation(line: 5, column: 7, scope: !4)\n!10 = !DILocation(line: 7, column: 3, scope: !4)\n";
+const UNSET: &str = r#"define i32 @main() !dbg !4 {
+  %1 = alloca i32, align 4
+    #dbg_declare(ptr %1, !5, !DIExpression(), !6)
+  %2 = load i32, ptr %1, align 4, !dbg !7
+  %3 = icmp eq i32 %2, 3, !dbg !8
+  br i1 %3, label %4, label %5, !dbg !9
+
+4:
+  br label %5, !dbg !9
+
+5:
+  ret i32 0, !dbg !10
+}
+
+!0 = !DIFile(filename: "unset.c", directory: "/home")
+!1 = distinct !DICompileUnit(language: DW_LANG_C11, file: !0)
+!2 = !DIBasicType(name: "int", size: 32)
+!3 = !DISubroutineType(types: !{})
+!4 = distinct !DISubprogram(name: "main", scope: !0, file: !0, line: 3, type: !3, unit: !1)
+!5 = !DILocalVariable(name: "wanted", scope: !4, file: !0, line: 4, type: !2)
+!6 = !DILocation(line: 4, column: 7, scope: !4)
+!7 = !DILocation(line: 5, column: 7, scope: !4)
+!8 = !DILocation(line: 5, column: 14, scope: !4)
+!9 = !DILocation(line: 5, column: 7, scope: !4)
+!10 = !DILocation(line: 7, column: 3, scope: !4)
+"#;
 
 const SHOWN: &str =
     "report 1: branch at site 4 in @main, part 0, bits 0x1 of i1\n    f:6: br i1 %3, label %4, label %5\n    unset.c:5:7\n  origin 1: alloca at site 1 in @main\n    f:2: %1 = alloca i32, align 4\n    unset.c:4:7: wanted\nend: reported\nreports: 1\nblind: 0\nverdict: poisoned\n";
@@ -17,11 +41,19 @@ const TWO_SHOWN: &str =
     "input 1, 0 bytes: a\n\nreport 1: branch at site 4 in @main, part 0, bits 0x1 of i1\n    f:6: br i1 %3, label %4, label %5\n    unset.c:5:7\n  origin 1: alloca at site 1 in @main\n    f:2: %1 = alloca i32, align 4\n    unset.c:4:7: wanted\nend: reported\nreports: 1\nblind: 0\nverdict: poisoned\ninput 2, 0 bytes: b\n\nreport 1: branch at site 4 in @main, part 0, bits 0x1 of i1\n    f:6: br i1 %3, label %4, label %5\n    unset.c:5:7\n  origin 1: alloca at site 1 in @main\n    f:2: %1 = alloca i32, align 4\n    unset.c:4:7: wanted\nend: reported\nreports: 1\nblind: 0\nverdict: poisoned\n";
 
 /// Divides by zero, without debug information.
-const DIVIDES: &str = "define i32 @main() {\n  %q = udiv i32 1, 0\n  ret i32 %q\n}\n";
+const DIVIDES: &str = r#"define i32 @main() {
+  %q = udiv i32 1, 0
+  ret i32 %q
+}
+"#;
 
 /// Uses a value before it is defined.
-const EARLY: &str =
-    "define i32 @main() {\n  %y = add i32 %x, 1\n  %x = add i32 2, 3\n  ret i32 %y\n}\n";
+const EARLY: &str = r#"define i32 @main() {
+  %y = add i32 %x, 1
+  %x = add i32 2, 3
+  ret i32 %y
+}
+"#;
 
 static CASES: [Case; 8] = [
     Case("check --where f", UNSET, "", SHOWN, 77),

@@ -3,16 +3,59 @@
 use crate::calls::{Beside, Call, Row, Terms, Wanted, on_text, saying};
 
 /// Declares every external; it stands behind the text of each row.
-const EXTERNALS: &str =
-    "\ndeclare ptr @malloc(i64)\ndeclare ptr @calloc(i64, i64)\ndeclare ptr @realloc(ptr, i64)\ndeclare void @free(ptr)\ndeclare ptr @memcpy(ptr, ptr, i64)\ndeclare ptr @memmove(ptr, ptr, i64)\ndeclare ptr @memset(ptr, i32, i64)\ndeclare i32 @memcmp(ptr, ptr, i64)\ndeclare i64 @strlen(ptr)\ndeclare i32 @putchar(i32)\ndeclare i32 @puts(ptr)\ndeclare i32 @printf(ptr, ...)\ndeclare i32 @getchar()\ndeclare i64 @read(i32, ptr, i64)\ndeclare i64 @write(i32, ptr, i64)\ndeclare void @exit(i32)\ndeclare void @abort()\ndeclare void @llvm.memcpy.p0.p0.i64(ptr, ptr, i64, i1)\ndeclare void @llvm.memmove.p0.p0.i64(ptr, ptr, i64, i1)\ndeclare void @llvm.memset.p0.i64(ptr, i8, i64, i1)\ndeclare void @llvm.lifetime.start.p0(i64, ptr)\ndeclare void @llvm.lifetime.end.p0(i64, ptr)\n";
+const EXTERNALS: &str = r#"
+declare ptr @malloc(i64)
+declare ptr @calloc(i64, i64)
+declare ptr @realloc(ptr, i64)
+declare void @free(ptr)
+declare ptr @memcpy(ptr, ptr, i64)
+declare ptr @memmove(ptr, ptr, i64)
+declare ptr @memset(ptr, i32, i64)
+declare i32 @memcmp(ptr, ptr, i64)
+declare i64 @strlen(ptr)
+declare i32 @putchar(i32)
+declare i32 @puts(ptr)
+declare i32 @printf(ptr, ...)
+declare i32 @getchar()
+declare i64 @read(i32, ptr, i64)
+declare i64 @write(i32, ptr, i64)
+declare void @exit(i32)
+declare void @abort()
+declare void @llvm.memcpy.p0.p0.i64(ptr, ptr, i64, i1)
+declare void @llvm.memmove.p0.p0.i64(ptr, ptr, i64, i1)
+declare void @llvm.memset.p0.i64(ptr, i8, i64, i1)
+declare void @llvm.lifetime.start.p0(i64, ptr)
+declare void @llvm.lifetime.end.p0(i64, ptr)
+"#;
 
 /// The slots; they stand before the text of a row with marks.
-const SLOTS: &str =
-    "@__msan_param_tls = global [100 x i64] zeroinitializer\n@__msan_param_origin_tls = global [100 x i32] zeroinitializer\n@__msan_retval_tls = global i64 0\n@__msan_retval_origin_tls = global i32 0\n";
+const SLOTS: &str = r#"@__msan_param_tls = global [100 x i64] zeroinitializer
+@__msan_param_origin_tls = global [100 x i32] zeroinitializer
+@__msan_retval_tls = global i64 0
+@__msan_retval_origin_tls = global i32 0
+"#;
 
 /// Declares the runtime functions and the externals that rows with marks call; it stands behind the text of such a row.
-const RUNTIME: &str =
-    "\ndeclare void @__msan_check(i64, i32, i32, i32, i32, i32)\ndeclare void @__msan_check_memory(ptr, i64, i32, i32)\ndeclare void @__msan_check_string(ptr, i32)\ndeclare void @__msan_blind(i64)\ndeclare void @__msan_poison(ptr, i64, i64, i32)\ndeclare void @__msan_unpoison(ptr, i64)\ndeclare void @__msan_copy(ptr, ptr, i64)\ndeclare void @__msan_fill(ptr, i64, i64, i32, i32)\ndeclare void @__msan_store_origin(ptr, i64, i32, i32)\ndeclare i32 @__msan_load_origin(ptr, i64)\ndeclare i64 @__msan_size(ptr)\ndeclare void @__msan_check_format(ptr, i32, ptr, i32)\ndeclare void @__msan_thread_result(ptr, i64, i32, i32)\ndeclare ptr @malloc(i64)\ndeclare ptr @realloc(ptr, i64)\ndeclare void @free(ptr)\ndeclare i32 @putchar(i32)\ndeclare void @llvm.lifetime.start.p0(i64, ptr)\n";
+const RUNTIME: &str = r#"
+declare void @__msan_check(i64, i32, i32, i32, i32, i32)
+declare void @__msan_check_memory(ptr, i64, i32, i32)
+declare void @__msan_check_string(ptr, i32)
+declare void @__msan_blind(i64)
+declare void @__msan_poison(ptr, i64, i64, i32)
+declare void @__msan_unpoison(ptr, i64)
+declare void @__msan_copy(ptr, ptr, i64)
+declare void @__msan_fill(ptr, i64, i64, i32, i32)
+declare void @__msan_store_origin(ptr, i64, i32, i32)
+declare i32 @__msan_load_origin(ptr, i64)
+declare i64 @__msan_size(ptr)
+declare void @__msan_check_format(ptr, i32, ptr, i32)
+declare void @__msan_thread_result(ptr, i64, i32, i32)
+declare ptr @malloc(i64)
+declare ptr @realloc(ptr, i64)
+declare void @free(ptr)
+declare i32 @putchar(i32)
+declare void @llvm.lifetime.start.p0(i64, ptr)
+"#;
 
 /// A module's text without the declarations of the externals, what its run prints, how it ends, and the status. The run has
 /// no input, the fill a5, ten million steps and one report.

@@ -2,166 +2,438 @@
 
 use crate::calls::{Case, DEFAULTS, all_agree};
 use crate::modules::Checked;
+use crate::told::all_told;
 use std::test::Fail;
 
 /// Its word is made of the bytes of the fill.
-const FROZEN: &str = "define i32 @main() {\n  %1 = freeze i32 undef\n  ret i32 %1\n}\n";
+const FROZEN: &str = r#"define i32 @main() {
+  %1 = freeze i32 undef
+  ret i32 %1
+}
+"#;
 
 /// Traps under a fill whose word is the greatest number with a sign.
-const SUM: &str = "define i32 @main() {\n  %1 = add nsw i32 undef, 1\n  ret i32 %1\n}\n";
+const SUM: &str = r#"define i32 @main() {
+  %1 = add nsw i32 undef, 1
+  ret i32 %1
+}
+"#;
 
 /// Two uses of undefined words.
-const TWO_USES: &str =
-    "define i32 @main() {\n  br i1 undef, label %1, label %1\n1:\n  ret i32 undef\n}\n";
+const TWO_USES: &str = r#"define i32 @main() {
+  br i1 undef, label %1, label %1
+1:
+  ret i32 undef
+}
+"#;
 
-const RETURNS: &str = "define i32 @main() {\n  ret i32 0\n}\n";
+const RETURNS: &str = r#"define i32 @main() {
+  ret i32 0
+}
+"#;
 
 /// Echoes one byte.
-const ECHO: &str =
-    "declare i32 @putchar(i32)\ndeclare i32 @getchar()\ndefine i32 @main() {\n  %1 = call i32 @getchar()\n  %2 = call i32 @putchar(i32 %1)\n  ret i32 0\n}\n";
+const ECHO: &str = r#"declare i32 @putchar(i32)
+declare i32 @getchar()
+define i32 @main() {
+  %1 = call i32 @getchar()
+  %2 = call i32 @putchar(i32 %1)
+  ret i32 0
+}
+"#;
 
 /// A module of one function, from the seed 0.
-const FROM_ZERO: &str =
-    "declare i32 @putchar(i32)\ndefine i32 @f0(i32 %0) {\n  %2 = alloca i32\n  store i32 %0, ptr %2\n  %3 = load i32, ptr %2\n  %4 = add i32 %3, 30472\n  %5 = or i32 %4, 3444\n  %6 = or i32 %5, 16283\n  %7 = and i32 %6, 48071\n  %8 = and i32 %7, 29851\n  %9 = add i32 %8, 42706\n  %10 = xor i32 %9, 34877\n  %11 = and i32 %10, 22814\n  ret i32 %11\n}\ndefine i32 @main() {\n  %1 = call i32 @f0(i32 1)\n  %2 = call i32 @putchar(i32 %1)\n  ret i32 0\n}\n";
+const FROM_ZERO: &str = r#"declare i32 @putchar(i32)
+define i32 @f0(i32 %0) {
+  %2 = alloca i32
+  store i32 %0, ptr %2
+  %3 = load i32, ptr %2
+  %4 = add i32 %3, 30472
+  %5 = or i32 %4, 3444
+  %6 = or i32 %5, 16283
+  %7 = and i32 %6, 48071
+  %8 = and i32 %7, 29851
+  %9 = add i32 %8, 42706
+  %10 = xor i32 %9, 34877
+  %11 = and i32 %10, 22814
+  ret i32 %11
+}
+define i32 @main() {
+  %1 = call i32 @f0(i32 1)
+  %2 = call i32 @putchar(i32 %1)
+  ret i32 0
+}
+"#;
 
 /// A module of two functions, from the seed 7.
-const FROM_SEVEN: &str =
-    "declare i32 @putchar(i32)\ndefine i32 @f0(i32 %0) {\n  %2 = alloca i32\n  store i32 %0, ptr %2\n  %3 = load i32, ptr %2\n  %4 = xor i32 %3, 3391\n  %5 = or i32 %4, 23441\n  %6 = or i32 %5, 51459\n  %7 = and i32 %6, 14356\n  %8 = add i32 %7, 42614\n  %9 = add i32 %8, 2483\n  %10 = and i32 %9, 21616\n  %11 = or i32 %10, 63906\n  ret i32 %11\n}\ndefine i32 @f1(i32 %0) {\n  %2 = alloca i32\n  store i32 %0, ptr %2\n  %3 = load i32, ptr %2\n  %4 = or i32 %3, 36467\n  %5 = and i32 %4, 39071\n  %6 = and i32 %5, 31649\n  %7 = xor i32 %6, 18226\n  %8 = or i32 %7, 49264\n  %9 = and i32 %8, 7641\n  %10 = or i32 %9, 52080\n  %11 = and i32 %10, 61853\n  %12 = call i32 @f0(i32 %11)\n  ret i32 %12\n}\ndefine i32 @main() {\n  %1 = call i32 @f1(i32 1)\n  %2 = call i32 @putchar(i32 %1)\n  ret i32 0\n}\n";
+const FROM_SEVEN: &str = r#"declare i32 @putchar(i32)
+define i32 @f0(i32 %0) {
+  %2 = alloca i32
+  store i32 %0, ptr %2
+  %3 = load i32, ptr %2
+  %4 = xor i32 %3, 3391
+  %5 = or i32 %4, 23441
+  %6 = or i32 %5, 51459
+  %7 = and i32 %6, 14356
+  %8 = add i32 %7, 42614
+  %9 = add i32 %8, 2483
+  %10 = and i32 %9, 21616
+  %11 = or i32 %10, 63906
+  ret i32 %11
+}
+define i32 @f1(i32 %0) {
+  %2 = alloca i32
+  store i32 %0, ptr %2
+  %3 = load i32, ptr %2
+  %4 = or i32 %3, 36467
+  %5 = and i32 %4, 39071
+  %6 = and i32 %5, 31649
+  %7 = xor i32 %6, 18226
+  %8 = or i32 %7, 49264
+  %9 = and i32 %8, 7641
+  %10 = or i32 %9, 52080
+  %11 = and i32 %10, 61853
+  %12 = call i32 @f0(i32 %11)
+  ret i32 %12
+}
+define i32 @main() {
+  %1 = call i32 @f1(i32 1)
+  %2 = call i32 @putchar(i32 %1)
+  ret i32 0
+}
+"#;
 
 /// The first fault is said.
-static FAULTS: [Case; 47] = [
-    Case("", "", "", "words: UnknownCommand at 0\n", 2),
-    Case("corpora f a", "", "", "words: UnknownCommand at 0\n", 2),
-    Case("corpus f", "", "", "words: MissingFile at 2\n", 2),
-    Case(
-        "corpus --workers 9 f a",
-        "",
-        "",
-        "words: OutOfRange at 2\n",
-        2,
-    ),
-    Case(
-        "corpus --workers=0 f a",
-        "",
-        "",
-        "words: OutOfRange at 1\n",
-        2,
-    ),
-    Case(
-        "check --workers=2 f",
-        "",
-        "",
-        "words: UnknownOption at 1\n",
-        2,
-    ),
-    Case("explain", "", "", "words: MissingFile at 1\n", 2),
-    Case("explain f g", "", "", "words: Extra at 2\n", 2),
-    Case(
-        "explain --reports 2 f",
-        "",
-        "",
-        "words: UnknownOption at 1\n",
-        2,
-    ),
-    Case("runs f", "", "", "words: UnknownCommand at 0\n", 2),
-    Case("checks f", "", "", "words: UnknownCommand at 0\n", 2),
-    Case("run", "", "", "words: MissingFile at 1\n", 2),
-    Case("check", "", "", "words: MissingFile at 1\n", 2),
-    Case("check --steps 01 f", "", "", "words: BadNumber at 2\n", 2),
-    Case("check --fill a f", "", "", "words: BadHex at 2\n", 2),
-    Case("check a b", "", "", "words: Extra at 2\n", 2),
-    Case(
-        "run --steps 5 --steps 6 f",
-        "",
-        "",
-        "words: Repeated at 3\n",
-        2,
-    ),
-    Case("run --input", "", "", "words: MissingValue at 2\n", 2),
-    Case(
-        "check --where=yes f",
-        "",
-        "",
-        "words: UnknownOption at 1\n",
-        2,
-    ),
-    Case(
-        "check --where --where f",
-        "",
-        "",
-        "words: Repeated at 2\n",
-        2,
-    ),
-    Case(
-        "instrument --where f",
-        "",
-        "",
-        "words: UnknownOption at 1\n",
-        2,
-    ),
-    Case("run -x f", "", "", "words: UnknownOption at 1\n", 2),
-    Case("run --reports 0 f", "", "", "words: OutOfRange at 2\n", 2),
-    Case("gen --seed 7", "", "", "words: MissingOption at 3\n", 2),
-    Case(
-        "instrument --fill 00 f",
-        "",
-        "",
-        "words: UnknownOption at 1\n",
-        2,
-    ),
-    Case("run --", "", "", "words: MissingFile at 2\n", 2),
-    Case("run f --steps=5", "", "", "words: Extra at 2\n", 2),
-    Case("run f --", "", "", "words: Extra at 2\n", 2),
-    Case("gen --seed=1 f", "", "", "words: Extra at 2\n", 2),
-    Case("run --steps= f", "", "", "words: BadNumber at 1\n", 2),
-    Case("run --steps 00 f", "", "", "words: BadNumber at 2\n", 2),
-    Case("run --steps +1 f", "", "", "words: BadNumber at 2\n", 2),
-    Case(
-        "run --steps 1000000001 f",
-        "",
-        "",
-        "words: OutOfRange at 2\n",
-        2,
-    ),
-    Case(
-        "gen --seed 18446744073709551616",
-        "",
-        "",
-        "words: OutOfRange at 2\n",
-        2,
-    ),
-    Case("gen --functions=0", "", "", "words: OutOfRange at 1\n", 2),
-    Case(
-        "gen --functions 1001",
-        "",
-        "",
-        "words: OutOfRange at 2\n",
-        2,
-    ),
-    Case("run --speed", "", "", "words: UnknownOption at 1\n", 2),
-    Case("run --=5 f", "", "", "words: UnknownOption at 1\n", 2),
-    Case("run ---steps 5 f", "", "", "words: UnknownOption at 1\n", 2),
-    Case("gen --run=x", "", "", "words: UnknownOption at 1\n", 2),
-    Case(
-        "gen --run --run=x",
-        "",
-        "",
-        "words: UnknownOption at 2\n",
-        2,
-    ),
-    Case("gen --run --run", "", "", "words: Repeated at 2\n", 2),
-    Case("run --steps=1 --steps", "", "", "words: Repeated at 2\n", 2),
-    Case(
-        "run --steps=1 --steps=x",
-        "",
-        "",
-        "words: Repeated at 2\n",
-        2,
-    ),
-    Case("run --fill=g --speed", "", "", "words: BadHex at 1\n", 2),
-    Case("run --step 5 f", "", "", "words: UnknownOption at 1\n", 2),
-    Case("run --seed 5 f", "", "", "words: UnknownOption at 1\n", 2),
-];
+static FAULTS: &[u8] = br#"~
+~
+~
+words: UnknownCommand at 0
+~
+2
+====
+corpora f a~
+~
+~
+words: UnknownCommand at 0
+~
+2
+====
+corpus f~
+~
+~
+words: MissingFile at 2
+~
+2
+====
+corpus --workers 9 f a~
+~
+~
+words: OutOfRange at 2
+~
+2
+====
+corpus --workers=0 f a~
+~
+~
+words: OutOfRange at 1
+~
+2
+====
+check --workers=2 f~
+~
+~
+words: UnknownOption at 1
+~
+2
+====
+explain~
+~
+~
+words: MissingFile at 1
+~
+2
+====
+explain f g~
+~
+~
+words: Extra at 2
+~
+2
+====
+explain --reports 2 f~
+~
+~
+words: UnknownOption at 1
+~
+2
+====
+runs f~
+~
+~
+words: UnknownCommand at 0
+~
+2
+====
+checks f~
+~
+~
+words: UnknownCommand at 0
+~
+2
+====
+run~
+~
+~
+words: MissingFile at 1
+~
+2
+====
+check~
+~
+~
+words: MissingFile at 1
+~
+2
+====
+check --steps 01 f~
+~
+~
+words: BadNumber at 2
+~
+2
+====
+check --fill a f~
+~
+~
+words: BadHex at 2
+~
+2
+====
+check a b~
+~
+~
+words: Extra at 2
+~
+2
+====
+run --steps 5 --steps 6 f~
+~
+~
+words: Repeated at 3
+~
+2
+====
+run --input~
+~
+~
+words: MissingValue at 2
+~
+2
+====
+check --where=yes f~
+~
+~
+words: UnknownOption at 1
+~
+2
+====
+check --where --where f~
+~
+~
+words: Repeated at 2
+~
+2
+====
+instrument --where f~
+~
+~
+words: UnknownOption at 1
+~
+2
+====
+run -x f~
+~
+~
+words: UnknownOption at 1
+~
+2
+====
+run --reports 0 f~
+~
+~
+words: OutOfRange at 2
+~
+2
+====
+gen --seed 7~
+~
+~
+words: MissingOption at 3
+~
+2
+====
+instrument --fill 00 f~
+~
+~
+words: UnknownOption at 1
+~
+2
+====
+run --~
+~
+~
+words: MissingFile at 2
+~
+2
+====
+run f --steps=5~
+~
+~
+words: Extra at 2
+~
+2
+====
+run f --~
+~
+~
+words: Extra at 2
+~
+2
+====
+gen --seed=1 f~
+~
+~
+words: Extra at 2
+~
+2
+====
+run --steps= f~
+~
+~
+words: BadNumber at 1
+~
+2
+====
+run --steps 00 f~
+~
+~
+words: BadNumber at 2
+~
+2
+====
+run --steps +1 f~
+~
+~
+words: BadNumber at 2
+~
+2
+====
+run --steps 1000000001 f~
+~
+~
+words: OutOfRange at 2
+~
+2
+====
+gen --seed 18446744073709551616~
+~
+~
+words: OutOfRange at 2
+~
+2
+====
+gen --functions=0~
+~
+~
+words: OutOfRange at 1
+~
+2
+====
+gen --functions 1001~
+~
+~
+words: OutOfRange at 2
+~
+2
+====
+run --speed~
+~
+~
+words: UnknownOption at 1
+~
+2
+====
+run --=5 f~
+~
+~
+words: UnknownOption at 1
+~
+2
+====
+run ---steps 5 f~
+~
+~
+words: UnknownOption at 1
+~
+2
+====
+gen --run=x~
+~
+~
+words: UnknownOption at 1
+~
+2
+====
+gen --run --run=x~
+~
+~
+words: UnknownOption at 2
+~
+2
+====
+gen --run --run~
+~
+~
+words: Repeated at 2
+~
+2
+====
+run --steps=1 --steps~
+~
+~
+words: Repeated at 2
+~
+2
+====
+run --steps=1 --steps=x~
+~
+~
+words: Repeated at 2
+~
+2
+====
+run --fill=g --speed~
+~
+~
+words: BadHex at 1
+~
+2
+====
+run --step 5 f~
+~
+~
+words: UnknownOption at 1
+~
+2
+====
+run --seed 5 f~
+~
+~
+words: UnknownOption at 1
+~
+2
+====
+"#;
 
 /// Options are read.
 static OPTIONS: [Case; 16] = [
@@ -309,7 +581,8 @@ static GENERATED_RUNS: [Checked; 2] = [
 #[test]
 fn words_are_read(rt: HostRuntime) -> Result<(), Fail> {
     assert!(rt;
-        all_agree(&rt, rt.alloc(), &[&FAULTS, &OPTIONS, &GENERATED])
+        all_told::<_, Case>(&rt, rt.alloc(), &[(FAULTS, 47)])
+            && all_agree(&rt, rt.alloc(), &[&OPTIONS, &GENERATED])
             && all_agree(&rt, rt.alloc(), &[&GENERATED_RUNS])
     );
     Ok(())

@@ -3,6 +3,7 @@
 use crate::alike::all_run_and_checked;
 use crate::calls::all_agree;
 use crate::modules::{Given, Run};
+use crate::told::all_told_runs;
 use std::test::Fail;
 
 /// Bytes are printed.
@@ -108,20 +109,18 @@ static WRITES: [Run; 7] = [
 
 /// No input is empty.
 /// A run without an input file has an empty input.
-static EMPTY_INPUT: [Run; 2] = [
-    Run(
-        "define i32 @main() { %r = call i32 @getchar() %s = call i32 @getchar() %t = and i32 %r, %s ret i32 %t }",
-        b"",
-        "exit 4294967295",
-        0,
-    ),
-    Run(
-        "define i32 @main() { %p = alloca i32 store i32 7, ptr %p %n = call i64 @read(i32 0, ptr %p, i64 4) %r = trunc i64 %n to i32 %v = load i32, ptr %p %w = add i32 %v, %r ret i32 %w }",
-        b"",
-        "exit 7",
-        0,
-    ),
-];
+static EMPTY_INPUT: &[u8] =
+    br#"define i32 @main() { %r = call i32 @getchar() %s = call i32 @getchar() %t = and i32 %r, %s ret i32 %t }~
+~
+exit 4294967295~
+0
+====
+define i32 @main() { %p = alloca i32 store i32 7, ptr %p %n = call i64 @read(i32 0, ptr %p, i64 4) %r = trunc i64 %n to i32 %v = load i32, ptr %p %w = add i32 %v, %r ret i32 %w }~
+~
+exit 7~
+0
+====
+"#;
 
 /// Input is taken once.
 static INPUTS: [Given; 9] = [
@@ -232,49 +231,44 @@ static INPUTS: [Given; 9] = [
 ];
 
 /// Calls end the run.
-static ENDINGS: [Run; 6] = [
-    Run(
-        "define i32 @main() { %a = call i32 @putchar(i32 65) call void @exit(i32 7) %b = call i32 @putchar(i32 66) ret i32 0 }",
-        b"A",
-        "exit 7",
-        0,
-    ),
-    Run(
-        "define i32 @main() { call void @exit(i32 -1) unreachable }",
-        b"",
-        "exit 4294967295",
-        0,
-    ),
-    Run(
-        "define i32 @main() { call void @f() ret i32 0 } define void @f() { call void @exit(i32 9) ret void }",
-        b"",
-        "exit 9",
-        0,
-    ),
-    Run(
-        "define i32 @main() { %a = call i32 @putchar(i32 65) call void @abort() ret i32 0 }",
-        b"A",
-        "trap abort at site 2 in @main",
-        3,
-    ),
-    Run(
-        "define i32 @main() { call void @f() ret i32 0 } define void @f() { call void @abort() unreachable }",
-        b"",
-        "trap abort at site 3 in @f",
-        3,
-    ),
-    Run(
-        "define i32 @main() { ret i32 -2147483648 }",
-        b"",
-        "exit 2147483648",
-        0,
-    ),
-];
+static ENDINGS: &[u8] =
+    br#"define i32 @main() { %a = call i32 @putchar(i32 65) call void @exit(i32 7) %b = call i32 @putchar(i32 66) ret i32 0 }~
+A~
+exit 7~
+0
+====
+define i32 @main() { call void @exit(i32 -1) unreachable }~
+~
+exit 4294967295~
+0
+====
+define i32 @main() { call void @f() ret i32 0 } define void @f() { call void @exit(i32 9) ret void }~
+~
+exit 9~
+0
+====
+define i32 @main() { %a = call i32 @putchar(i32 65) call void @abort() ret i32 0 }~
+A~
+trap abort at site 2 in @main~
+3
+====
+define i32 @main() { call void @f() ret i32 0 } define void @f() { call void @abort() unreachable }~
+~
+trap abort at site 3 in @f~
+3
+====
+define i32 @main() { ret i32 -2147483648 }~
+~
+exit 2147483648~
+0
+====
+"#;
 
 #[test]
 fn streams_are_used(rt: HostRuntime) -> Result<(), Fail> {
     assert!(rt;
-        all_run_and_checked(&rt, rt.alloc(), &[&PRINTS, &WRITES, &EMPTY_INPUT, &ENDINGS])
+        all_told_runs(&rt, rt.alloc(), &[(EMPTY_INPUT, 2), (ENDINGS, 6)])
+            && all_run_and_checked(&rt, rt.alloc(), &[&PRINTS, &WRITES])
             && all_agree(&rt, rt.alloc(), &[&INPUTS])
     );
     Ok(())

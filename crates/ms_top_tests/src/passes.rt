@@ -8,8 +8,17 @@ use std::test::Fail;
 use std::thread::Threads;
 
 /// Compares an unset word with 0, and branches on that.
-const BRANCH_ON_UNSET: &str =
-    "define i32 @main() {\n  %1 = alloca i32\n  %2 = load i32, ptr %1\n  %3 = icmp eq i32 %2, 0\n  br i1 %3, label %4, label %5\n4:\n  ret i32 0\n5:\n  ret i32 1\n}\n";
+const BRANCH_ON_UNSET: &str = r#"define i32 @main() {
+  %1 = alloca i32
+  %2 = load i32, ptr %1
+  %3 = icmp eq i32 %2, 0
+  br i1 %3, label %4, label %5
+4:
+  ret i32 0
+5:
+  ret i32 1
+}
+"#;
 
 static INSTRUMENTED: [Checked; 1] = [Checked(
     DEFAULTS,

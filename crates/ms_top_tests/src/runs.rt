@@ -8,35 +8,88 @@ use std::collections::BTreeMap;
 use std::test::Fail;
 use std::thread::Threads;
 
-const STORED: &str =
-    "define i32 @main() {\n  %1 = alloca i32\n  store i32 12, ptr %1\n  %2 = load i32, ptr %1\n  %3 = xor i32 %2, 10\n  ret i32 %3\n}\n";
+const STORED: &str = r#"define i32 @main() {
+  %1 = alloca i32
+  store i32 12, ptr %1
+  %2 = load i32, ptr %1
+  %3 = xor i32 %2, 10
+  ret i32 %3
+}
+"#;
 
-const UNSET: &str =
-    "define i32 @main() {\n  %1 = alloca i32\n  %2 = load i32, ptr %1\n  %3 = xor i32 %2, 10\n  ret i32 %3\n}\n";
+const UNSET: &str = r#"define i32 @main() {
+  %1 = alloca i32
+  %2 = load i32, ptr %1
+  %3 = xor i32 %2, 10
+  ret i32 %3
+}
+"#;
 
-const TWO_UNSET: &str =
-    "define i32 @main() {\n  %1 = alloca i32\n  %2 = alloca i32\n  %3 = load i32, ptr %1\n  %4 = load i32, ptr %2\n  %5 = xor i32 %3, %4\n  ret i32 %5\n}\n";
+const TWO_UNSET: &str = r#"define i32 @main() {
+  %1 = alloca i32
+  %2 = alloca i32
+  %3 = load i32, ptr %1
+  %4 = load i32, ptr %2
+  %5 = xor i32 %3, %4
+  ret i32 %5
+}
+"#;
 
-const UNDEFINED_BYTE: &str = "define i32 @main() {\n  %1 = and i32 undef, 255\n  ret i32 %1\n}\n";
+const UNDEFINED_BYTE: &str = r#"define i32 @main() {
+  %1 = and i32 undef, 255
+  ret i32 %1
+}
+"#;
 
-const MASKED_TO_ZERO: &str = "define i32 @main() {\n  %1 = and i32 undef, 0\n  ret i32 %1\n}\n";
+const MASKED_TO_ZERO: &str = r#"define i32 @main() {
+  %1 = and i32 undef, 0
+  ret i32 %1
+}
+"#;
 
-const RETURNS_ZERO: &str = "define i32 @main() {\n  ret i32 0\n}\n";
+const RETURNS_ZERO: &str = r#"define i32 @main() {
+  ret i32 0
+}
+"#;
 
 /// The shadow of a part of a word goes through memory, and over what stood there.
-const STORED_BYTE: &str =
-    "define i32 @main() {\n  %1 = alloca i32\n  %2 = and i32 undef, 65280\n  store i32 7, ptr %1\n  store i32 %2, ptr %1\n  %3 = load i32, ptr %1\n  %4 = or i32 %3, 255\n  ret i32 %4\n}\n";
+const STORED_BYTE: &str = r#"define i32 @main() {
+  %1 = alloca i32
+  %2 = and i32 undef, 65280
+  store i32 7, ptr %1
+  store i32 %2, ptr %1
+  %3 = load i32, ptr %1
+  %4 = or i32 %3, 255
+  ret i32 %4
+}
+"#;
 
-const OVERWRITTEN: &str =
-    "define i32 @main() {\n  %1 = alloca i32\n  store i32 undef, ptr %1\n  store i32 9, ptr %1\n  %2 = load i32, ptr %1\n  ret i32 %2\n}\n";
+const OVERWRITTEN: &str = r#"define i32 @main() {
+  %1 = alloca i32
+  store i32 undef, ptr %1
+  store i32 9, ptr %1
+  %2 = load i32, ptr %1
+  ret i32 %2
+}
+"#;
 
 /// Where two words lie side by side, the store to one leaves the other unset.
-const NEIGHBOURS: &str =
-    "define i32 @main() {\n  %1 = alloca i32\n  %2 = alloca i32\n  store i32 5, ptr %1\n  %3 = load i32, ptr %2\n  ret i32 %3\n}\n";
+const NEIGHBOURS: &str = r#"define i32 @main() {
+  %1 = alloca i32
+  %2 = alloca i32
+  store i32 5, ptr %1
+  %3 = load i32, ptr %2
+  ret i32 %3
+}
+"#;
 
 /// The value is used where it isn't defined, which is no use of uninitialised bits.
-const BEFORE_DEFINITION: &str =
-    "define i32 @main() {\n  %a = or i32 %b, 1\n  %b = or i32 1, 2\n  ret i32 %a\n}\n";
+const BEFORE_DEFINITION: &str = r#"define i32 @main() {
+  %a = or i32 %b, 1
+  %b = or i32 1, 2
+  ret i32 %a
+}
+"#;
 
 /// Words are commands.
 static WORDS: [Case; 6] = [

@@ -5,24 +5,106 @@ use crate::calls::{Beside, Call, Case, Row, all_agree, on_text, saying};
 use std::test::Fail;
 
 /// A thread prints B; `main` makes it, yields, prints A and joins it.
-const BOTH: &str =
-    "define ptr @w(ptr %0) {\n  %2 = call i32 @putchar(i32 66)\n  ret ptr %0\n}\ndefine i32 @main() {\n  %1 = alloca i64\n  %2 = call i32 @pthread_create(ptr %1, ptr null, ptr @w, ptr null)\n  %3 = call i32 @sched_yield()\n  %4 = call i32 @putchar(i32 65)\n  %5 = load i64, ptr %1\n  %6 = call i32 @pthread_join(i64 %5, ptr null)\n  ret i32 0\n}\ndeclare i32 @putchar(i32)\ndeclare i32 @pthread_create(ptr, ptr, ptr, ptr)\ndeclare i32 @pthread_join(i64, ptr)\ndeclare i32 @sched_yield()\n";
+const BOTH: &str = r#"define ptr @w(ptr %0) {
+  %2 = call i32 @putchar(i32 66)
+  ret ptr %0
+}
+define i32 @main() {
+  %1 = alloca i64
+  %2 = call i32 @pthread_create(ptr %1, ptr null, ptr @w, ptr null)
+  %3 = call i32 @sched_yield()
+  %4 = call i32 @putchar(i32 65)
+  %5 = load i64, ptr %1
+  %6 = call i32 @pthread_join(i64 %5, ptr null)
+  ret i32 0
+}
+declare i32 @putchar(i32)
+declare i32 @pthread_create(ptr, ptr, ptr, ptr)
+declare i32 @pthread_join(i64, ptr)
+declare i32 @sched_yield()
+"#;
 
 /// Two threads print their letter, yield and print it again; `main` makes both, and joins the first before the second.
-const TWO: &str =
-    "define ptr @w(ptr %0) {\n  %2 = ptrtoint ptr %0 to i64\n  %3 = trunc i64 %2 to i32\n  %4 = call i32 @putchar(i32 %3)\n  %5 = call i32 @sched_yield()\n  %6 = call i32 @putchar(i32 %3)\n  ret ptr null\n}\ndefine i32 @main() {\n  %1 = alloca i64\n  %2 = inttoptr i64 65 to ptr\n  %3 = inttoptr i64 66 to ptr\n  %4 = call i32 @pthread_create(ptr %1, ptr null, ptr @w, ptr %2)\n  %5 = call i32 @pthread_create(ptr %1, ptr null, ptr @w, ptr %3)\n  %6 = call i32 @pthread_join(i64 1, ptr null)\n  %7 = call i32 @pthread_join(i64 2, ptr null)\n  ret i32 0\n}\ndeclare i32 @putchar(i32)\ndeclare i32 @pthread_create(ptr, ptr, ptr, ptr)\ndeclare i32 @pthread_join(i64, ptr)\ndeclare i32 @sched_yield()\n";
+const TWO: &str = r#"define ptr @w(ptr %0) {
+  %2 = ptrtoint ptr %0 to i64
+  %3 = trunc i64 %2 to i32
+  %4 = call i32 @putchar(i32 %3)
+  %5 = call i32 @sched_yield()
+  %6 = call i32 @putchar(i32 %3)
+  ret ptr null
+}
+define i32 @main() {
+  %1 = alloca i64
+  %2 = inttoptr i64 65 to ptr
+  %3 = inttoptr i64 66 to ptr
+  %4 = call i32 @pthread_create(ptr %1, ptr null, ptr @w, ptr %2)
+  %5 = call i32 @pthread_create(ptr %1, ptr null, ptr @w, ptr %3)
+  %6 = call i32 @pthread_join(i64 1, ptr null)
+  %7 = call i32 @pthread_join(i64 2, ptr null)
+  ret i32 0
+}
+declare i32 @putchar(i32)
+declare i32 @pthread_create(ptr, ptr, ptr, ptr)
+declare i32 @pthread_join(i64, ptr)
+declare i32 @sched_yield()
+"#;
 
 /// Two threads join one another, and `main` joins the first one.
-const RING: &str =
-    "define ptr @w(ptr %0) {\n  %2 = ptrtoint ptr %0 to i64\n  %3 = call i32 @pthread_join(i64 %2, ptr null)\n  ret ptr null\n}\ndefine i32 @main() {\n  %1 = alloca i64\n  %2 = inttoptr i64 2 to ptr\n  %3 = inttoptr i64 1 to ptr\n  %4 = call i32 @pthread_create(ptr %1, ptr null, ptr @w, ptr %2)\n  %5 = call i32 @pthread_create(ptr %1, ptr null, ptr @w, ptr %3)\n  %6 = call i32 @pthread_join(i64 1, ptr null)\n  ret i32 0\n}\ndeclare i32 @pthread_create(ptr, ptr, ptr, ptr)\ndeclare i32 @pthread_join(i64, ptr)\n";
+const RING: &str = r#"define ptr @w(ptr %0) {
+  %2 = ptrtoint ptr %0 to i64
+  %3 = call i32 @pthread_join(i64 %2, ptr null)
+  ret ptr null
+}
+define i32 @main() {
+  %1 = alloca i64
+  %2 = inttoptr i64 2 to ptr
+  %3 = inttoptr i64 1 to ptr
+  %4 = call i32 @pthread_create(ptr %1, ptr null, ptr @w, ptr %2)
+  %5 = call i32 @pthread_create(ptr %1, ptr null, ptr @w, ptr %3)
+  %6 = call i32 @pthread_join(i64 1, ptr null)
+  ret i32 0
+}
+declare i32 @pthread_create(ptr, ptr, ptr, ptr)
+declare i32 @pthread_join(i64, ptr)
+"#;
 
 /// A thread sets a variable of `main`, which yields once before it reads it.
-const CELL: &str =
-    "define ptr @w(ptr %0) {\n  store i32 7, ptr %0\n  ret ptr null\n}\ndefine i32 @main() {\n  %1 = alloca i64\n  %2 = alloca i32\n  %3 = call i32 @pthread_create(ptr %1, ptr null, ptr @w, ptr %2)\n  %4 = call i32 @sched_yield()\n  %5 = load i32, ptr %2\n  ret i32 %5\n}\ndeclare i32 @pthread_create(ptr, ptr, ptr, ptr)\ndeclare i32 @sched_yield()\n";
+const CELL: &str = r#"define ptr @w(ptr %0) {
+  store i32 7, ptr %0
+  ret ptr null
+}
+define i32 @main() {
+  %1 = alloca i64
+  %2 = alloca i32
+  %3 = call i32 @pthread_create(ptr %1, ptr null, ptr @w, ptr %2)
+  %4 = call i32 @sched_yield()
+  %5 = load i32, ptr %2
+  ret i32 %5
+}
+declare i32 @pthread_create(ptr, ptr, ptr, ptr)
+declare i32 @sched_yield()
+"#;
 
 /// Threads are made until the answer isn't 0; it is returned a thousandfold, and how many calls there were.
-const FULL: &str =
-    "define ptr @w(ptr %0) {\n  ret ptr null\n}\ndefine i32 @main() {\n  %1 = alloca i64\n  br label %2\n2:\n  %3 = phi i32 [ 0, %0 ], [ %5, %2 ]\n  %4 = call i32 @pthread_create(ptr %1, ptr null, ptr @w, ptr null)\n  %5 = add i32 %3, 1\n  %6 = icmp eq i32 %4, 0\n  br i1 %6, label %2, label %7\n7:\n  %8 = mul i32 %4, 1000\n  %9 = add i32 %8, %5\n  ret i32 %9\n}\ndeclare i32 @pthread_create(ptr, ptr, ptr, ptr)\n";
+const FULL: &str = r#"define ptr @w(ptr %0) {
+  ret ptr null
+}
+define i32 @main() {
+  %1 = alloca i64
+  br label %2
+2:
+  %3 = phi i32 [ 0, %0 ], [ %5, %2 ]
+  %4 = call i32 @pthread_create(ptr %1, ptr null, ptr @w, ptr null)
+  %5 = add i32 %3, 1
+  %6 = icmp eq i32 %4, 0
+  br i1 %6, label %2, label %7
+7:
+  %8 = mul i32 %4, 1000
+  %9 = add i32 %8, %5
+  ret i32 %9
+}
+declare i32 @pthread_create(ptr, ptr, ptr, ptr)
+"#;
 
 /// One thread beside `main`.
 static PICKED: [Case; 6] = [
@@ -205,7 +287,27 @@ static JOINED: [Case; 5] = [
     // 35 for the caller, 3 for no thread, 0 for one that ends, 3 for it again.
     Case(
         "check f",
-        "define ptr @w(ptr %0) {\n  ret ptr null\n}\ndefine i32 @main() {\n  %1 = alloca i64\n  %2 = call i32 @pthread_create(ptr %1, ptr null, ptr @w, ptr null)\n  %3 = call i32 @pthread_join(i64 0, ptr null)\n  %4 = call i32 @pthread_join(i64 2, ptr null)\n  %5 = call i32 @pthread_join(i64 1, ptr null)\n  %6 = call i32 @pthread_join(i64 1, ptr null)\n  %7 = mul i32 %3, 1000\n  %8 = mul i32 %4, 100\n  %9 = mul i32 %5, 10\n  %10 = add i32 %7, %8\n  %11 = add i32 %10, %9\n  %12 = add i32 %11, %6\n  ret i32 %12\n}\ndeclare i32 @pthread_create(ptr, ptr, ptr, ptr)\ndeclare i32 @pthread_join(i64, ptr)\n",
+        r#"define ptr @w(ptr %0) {
+  ret ptr null
+}
+define i32 @main() {
+  %1 = alloca i64
+  %2 = call i32 @pthread_create(ptr %1, ptr null, ptr @w, ptr null)
+  %3 = call i32 @pthread_join(i64 0, ptr null)
+  %4 = call i32 @pthread_join(i64 2, ptr null)
+  %5 = call i32 @pthread_join(i64 1, ptr null)
+  %6 = call i32 @pthread_join(i64 1, ptr null)
+  %7 = mul i32 %3, 1000
+  %8 = mul i32 %4, 100
+  %9 = mul i32 %5, 10
+  %10 = add i32 %7, %8
+  %11 = add i32 %10, %9
+  %12 = add i32 %11, %6
+  ret i32 %12
+}
+declare i32 @pthread_create(ptr, ptr, ptr, ptr)
+declare i32 @pthread_join(i64, ptr)
+"#,
         "",
         "end: exit 35303\nreports: 0\nblind: 0\nverdict: clean\n",
         0,
@@ -213,7 +315,26 @@ static JOINED: [Case; 5] = [
     // In a thread 0 is no thread that can be joined, and 1 the caller.
     Case(
         "check f",
-        "define ptr @w(ptr %0) {\n  %2 = call i32 @pthread_join(i64 0, ptr null)\n  %3 = call i32 @pthread_join(i64 1, ptr null)\n  %4 = mul i32 %2, 100\n  %5 = add i32 %4, %3\n  %6 = zext i32 %5 to i64\n  %7 = inttoptr i64 %6 to ptr\n  ret ptr %7\n}\ndefine i32 @main() {\n  %1 = alloca i64\n  %2 = call i32 @pthread_create(ptr %1, ptr null, ptr @w, ptr null)\n  %3 = call i32 @pthread_join(i64 1, ptr %1)\n  %4 = load i64, ptr %1\n  %5 = trunc i64 %4 to i32\n  ret i32 %5\n}\ndeclare i32 @pthread_create(ptr, ptr, ptr, ptr)\ndeclare i32 @pthread_join(i64, ptr)\n",
+        r#"define ptr @w(ptr %0) {
+  %2 = call i32 @pthread_join(i64 0, ptr null)
+  %3 = call i32 @pthread_join(i64 1, ptr null)
+  %4 = mul i32 %2, 100
+  %5 = add i32 %4, %3
+  %6 = zext i32 %5 to i64
+  %7 = inttoptr i64 %6 to ptr
+  ret ptr %7
+}
+define i32 @main() {
+  %1 = alloca i64
+  %2 = call i32 @pthread_create(ptr %1, ptr null, ptr @w, ptr null)
+  %3 = call i32 @pthread_join(i64 1, ptr %1)
+  %4 = load i64, ptr %1
+  %5 = trunc i64 %4 to i32
+  ret i32 %5
+}
+declare i32 @pthread_create(ptr, ptr, ptr, ptr)
+declare i32 @pthread_join(i64, ptr)
+"#,
         "",
         "end: exit 335\nreports: 0\nblind: 0\nverdict: clean\n",
         0,
@@ -221,7 +342,25 @@ static JOINED: [Case; 5] = [
     // Of the result the lowest byte isn't set, which is shifted out.
     Case(
         "check f",
-        "define ptr @w(ptr %0) {\n  %2 = alloca i64\n  store i64 0, ptr %2\n  store i8 undef, ptr %2\n  %3 = load ptr, ptr %2\n  ret ptr %3\n}\ndefine i32 @main() {\n  %1 = alloca i64\n  %2 = call i32 @pthread_create(ptr %1, ptr null, ptr @w, ptr null)\n  %3 = call i32 @pthread_join(i64 1, ptr %1)\n  %4 = load i64, ptr %1\n  %5 = lshr i64 %4, 8\n  %6 = trunc i64 %5 to i32\n  ret i32 %6\n}\ndeclare i32 @pthread_create(ptr, ptr, ptr, ptr)\ndeclare i32 @pthread_join(i64, ptr)\n",
+        r#"define ptr @w(ptr %0) {
+  %2 = alloca i64
+  store i64 0, ptr %2
+  store i8 undef, ptr %2
+  %3 = load ptr, ptr %2
+  ret ptr %3
+}
+define i32 @main() {
+  %1 = alloca i64
+  %2 = call i32 @pthread_create(ptr %1, ptr null, ptr @w, ptr null)
+  %3 = call i32 @pthread_join(i64 1, ptr %1)
+  %4 = load i64, ptr %1
+  %5 = lshr i64 %4, 8
+  %6 = trunc i64 %5 to i32
+  ret i32 %6
+}
+declare i32 @pthread_create(ptr, ptr, ptr, ptr)
+declare i32 @pthread_join(i64, ptr)
+"#,
         "",
         "end: exit 0\nreports: 0\nblind: 0\nverdict: clean\n",
         0,
@@ -229,7 +368,24 @@ static JOINED: [Case; 5] = [
     // That byte came by a store of the thread, and by the join.
     Case(
         "check f",
-        "define ptr @w(ptr %0) {\n  %2 = alloca i64\n  store i64 0, ptr %2\n  store i8 undef, ptr %2\n  %3 = load ptr, ptr %2\n  ret ptr %3\n}\ndefine i32 @main() {\n  %1 = alloca i64\n  %2 = call i32 @pthread_create(ptr %1, ptr null, ptr @w, ptr null)\n  %3 = call i32 @pthread_join(i64 1, ptr %1)\n  %4 = load i64, ptr %1\n  %5 = trunc i64 %4 to i32\n  ret i32 %5\n}\ndeclare i32 @pthread_create(ptr, ptr, ptr, ptr)\ndeclare i32 @pthread_join(i64, ptr)\n",
+        r#"define ptr @w(ptr %0) {
+  %2 = alloca i64
+  store i64 0, ptr %2
+  store i8 undef, ptr %2
+  %3 = load ptr, ptr %2
+  ret ptr %3
+}
+define i32 @main() {
+  %1 = alloca i64
+  %2 = call i32 @pthread_create(ptr %1, ptr null, ptr @w, ptr null)
+  %3 = call i32 @pthread_join(i64 1, ptr %1)
+  %4 = load i64, ptr %1
+  %5 = trunc i64 %4 to i32
+  ret i32 %5
+}
+declare i32 @pthread_create(ptr, ptr, ptr, ptr)
+declare i32 @pthread_join(i64, ptr)
+"#,
         "",
         "report 1: exit at site 11 in @main, part 0, bits 0xff of i32\n  origin 5: stored at site 8 in @main\n  origin 4: stored at site 3 in @w\n  origin 2: undef at site 3 in @w\nend: reported\nreports: 1\nblind: 0\nverdict: poisoned\n",
         77,
@@ -237,7 +393,24 @@ static JOINED: [Case; 5] = [
     // A call in the thread had an unset result, which isn't the thread's.
     Case(
         "check f",
-        "define ptr @w(ptr %0) {\n  %2 = call ptr @g()\n  ret ptr null\n}\ndefine ptr @g() {\n  ret ptr undef\n}\ndefine i32 @main() {\n  %1 = alloca i64\n  %2 = call i32 @pthread_create(ptr %1, ptr null, ptr @w, ptr null)\n  %3 = call i32 @pthread_join(i64 1, ptr %1)\n  %4 = load i64, ptr %1\n  %5 = trunc i64 %4 to i32\n  ret i32 %5\n}\ndeclare i32 @pthread_create(ptr, ptr, ptr, ptr)\ndeclare i32 @pthread_join(i64, ptr)\n",
+        r#"define ptr @w(ptr %0) {
+  %2 = call ptr @g()
+  ret ptr null
+}
+define ptr @g() {
+  ret ptr undef
+}
+define i32 @main() {
+  %1 = alloca i64
+  %2 = call i32 @pthread_create(ptr %1, ptr null, ptr @w, ptr null)
+  %3 = call i32 @pthread_join(i64 1, ptr %1)
+  %4 = load i64, ptr %1
+  %5 = trunc i64 %4 to i32
+  ret i32 %5
+}
+declare i32 @pthread_create(ptr, ptr, ptr, ptr)
+declare i32 @pthread_join(i64, ptr)
+"#,
         "",
         "end: exit 0\nreports: 0\nblind: 0\nverdict: clean\n",
         0,
@@ -251,7 +424,11 @@ static REFUSED: [Case; 4] = [
     // A declaration is no call.
     Case(
         "explain f",
-        "define i32 @main() {\n  ret i32 0\n}\ndeclare i32 @sched_yield()\n",
+        r#"define i32 @main() {
+  ret i32 0
+}
+declare i32 @sched_yield()
+"#,
         "no report\n",
         "end: exit 0\nreports: 0\nblind: 0\nverdict: clean\n",
         0,
@@ -259,7 +436,14 @@ static REFUSED: [Case; 4] = [
     // A function of the module is no thread call.
     Case(
         "explain f",
-        "define i32 @sched_yield() {\n  ret i32 0\n}\ndefine i32 @main() {\n  %1 = call i32 @sched_yield()\n  ret i32 %1\n}\n",
+        r#"define i32 @sched_yield() {
+  ret i32 0
+}
+define i32 @main() {
+  %1 = call i32 @sched_yield()
+  ret i32 %1
+}
+"#,
         "no report\n",
         "end: exit 0\nreports: 0\nblind: 0\nverdict: clean\n",
         0,
@@ -267,7 +451,12 @@ static REFUSED: [Case; 4] = [
     // What isn't valid is refused for that.
     Case(
         "explain f",
-        "define i32 @main() {\n  %1 = call i32 @sched_yield()\n  ret i64 0\n}\ndeclare i32 @sched_yield()\n",
+        r#"define i32 @main() {
+  %1 = call i32 @sched_yield()
+  ret i64 0
+}
+declare i32 @sched_yield()
+"#,
         "",
         "refused 11: type at site 2, operand 0\n",
         5,

@@ -96,7 +96,7 @@ fn are_printed(alloc: Global, m: &Module) -> bool
     }
 }
 
-#[tactic(auto, unfolding(ms_grammar::specs::Texts::max_bytes))]
+#[tactic(auto, unfolding(ms_text_grammar::specs::Texts::max_bytes))]
 fn agrees(alloc: Global, text: &[u8]) -> bool {
     if text.len() > 1 << 20 {
         return false;

@@ -12,8 +12,15 @@ use std::alloc::{AllocError, Global};
 use std::test::Fail;
 
 /// A module of six sites, and of two roots at its first two.
-pub const TWO_UNSET: &str =
-    "define i32 @main() {\n  %1 = alloca i32\n  %2 = alloca i32\n  %3 = load i32, ptr %1\n  %4 = load i32, ptr %2\n  %5 = xor i32 %3, %4\n  ret i32 %5\n}\n";
+pub const TWO_UNSET: &str = r#"define i32 @main() {
+  %1 = alloca i32
+  %2 = alloca i32
+  %3 = load i32, ptr %1
+  %4 = load i32, ptr %2
+  %5 = xor i32 %3, %4
+  ret i32 %5
+}
+"#;
 
 /// A report's site, kind, part, width, mask and origin.
 #[derive(Clone, Copy)]
@@ -304,7 +311,7 @@ fn all_are_printed(alloc: Global, m: &Module) -> bool
         && all_are_traps(alloc, m, &TRAPS)
 }
 
-#[tactic(auto, unfolding(ms_grammar::specs::Texts::max_bytes))]
+#[tactic(auto, unfolding(ms_text_grammar::specs::Texts::max_bytes))]
 fn agrees(alloc: Global, text: &[u8]) -> bool {
     if text.len() > 1 << 20 {
         return false;

@@ -27,7 +27,15 @@ struct Way(&'static str, &'static [Hop], &'static [&'static [Hop]]);
 static WAYS: [Way; 3] = [
     // Move 1 stores to a neighbour, with which the byte shares an origin.
     Way(
-        "define i32 @main() {\n  %1 = alloca [4 x i8]\n  store i8 undef, ptr %1\n  %2 = getelementptr i8, ptr %1, i64 1\n  %3 = load i8, ptr %2\n  %4 = zext i8 %3 to i32\n  ret i32 %4\n}\n",
+        r#"define i32 @main() {
+  %1 = alloca [4 x i8]
+  store i8 undef, ptr %1
+  %2 = getelementptr i8, ptr %1, i64 1
+  %3 = load i8, ptr %2
+  %4 = zext i8 %3 to i32
+  ret i32 %4
+}
+"#,
         &[
             Hop { index: 0, byte: 1 },
             Hop { index: 2, byte: 0 },
@@ -62,7 +70,17 @@ static WAYS: [Way; 3] = [
     ),
     // Move 2 is of the step that move 3 is of, so move 3 doesn't read what it wrote.
     Way(
-        "define i32 @main() {\n  br label %1\n1:\n  %2 = phi i32 [ undef, %0 ], [ %3, %1 ]\n  %3 = phi i32 [ undef, %0 ], [ %2, %1 ]\n  %4 = phi i1 [ true, %0 ], [ false, %1 ]\n  br i1 %4, label %1, label %5\n5:\n  ret i32 %3\n}\n",
+        r#"define i32 @main() {
+  br label %1
+1:
+  %2 = phi i32 [ undef, %0 ], [ %3, %1 ]
+  %3 = phi i32 [ undef, %0 ], [ %2, %1 ]
+  %4 = phi i1 [ true, %0 ], [ false, %1 ]
+  br i1 %4, label %1, label %5
+5:
+  ret i32 %3
+}
+"#,
         &[Hop { index: 0, byte: 0 }, Hop { index: 3, byte: 0 }],
         &[
             &[
@@ -76,7 +94,10 @@ static WAYS: [Way; 3] = [
     ),
     // What is used is a root itself.
     Way(
-        "define i32 @main() {\n  ret i32 undef\n}\n",
+        r#"define i32 @main() {
+  ret i32 undef
+}
+"#,
         &[],
         &[&[Hop { index: 0, byte: 0 }]],
     ),
@@ -179,7 +200,7 @@ fn is_checked(alloc: Global, m: Module, way: &Way) -> bool
     }
 }
 
-#[tactic(auto, unfolding(ms_grammar::specs::Texts::max_bytes))]
+#[tactic(auto, unfolding(ms_text_grammar::specs::Texts::max_bytes))]
 fn agrees(alloc: Global, text: &[u8], way: &Way) -> bool {
     if text.len() > 1 << 20 {
         return false;

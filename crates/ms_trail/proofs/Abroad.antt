@@ -5,7 +5,7 @@ use Rattle.ms_ir.specs.declared.syntax.Op.TheVariants as op
 use Rattle.ms_ir.specs.declared.syntax.Inst.{Inst}
 use Rattle.ms_ir.specs.declared.syntax.Module.{Module}
 use Rattle.ms_ir.specs.declared.calls.External.{External}
-use Rattle.ms_ir.specs.Code.{operands, site_at, external_named}
+use Rattle.ms_ir.specs.Instructions.{operands, site_at, external_named}
 use Rattle.ms_runs.specs.declared.runs.Setup.{Setup}
 use Rattle.ms_runs.specs.World.{World, Setting, Here, Effect, Gives, Does, Goes, Enters, Leaves, Ends, stuck}
 use Rattle.ms_runs.specs.Externals.{external}
@@ -14,12 +14,12 @@ use Rattle.ms_runs.specs.Act.{plain_reading, act}
 use Rattle.ms_runs.specs.Plain.{PlainState, setting_of}
 use Rattle.ms_runs.specs.Poisoned.{Poisoned}
 use Rattle.ms_runs.specs.Shadow.{read_poisoned}
-use Rattle.ms_code_data.specs.declared.code.Source.{Source}
-use Rattle.ms_code_data.specs.declared.code.Code.{Code}
-use Rattle.ms_code_data.specs.declared.code.Code.TheVariants as code
-use Rattle.ms_code_data.specs.Words.{words_of}
-use Rattle.ms_code_data.specs.Encodes.{Where, Encodes}
-use Rattle.ms_code_data.specs.Compiled.{where_is}
+use Rattle.ms_code.specs.declared.code.Source.{Source}
+use Rattle.ms_code.specs.declared.code.Code.{Code}
+use Rattle.ms_code.specs.declared.code.Code.TheVariants as code
+use Rattle.ms_code.specs.Words.{words_of}
+use Rattle.ms_code.specs.Encodes.{Where, Encodes}
+use Rattle.ms_code.specs.Compiled.{where_is}
 use Rattle.ms_host.specs.declared.calls.Asked.TheVariants as asked
 use Rattle.ms_host.specs.declared.calls.HostCall.{HostCall}
 use Rattle.ms_host.specs.Answers.{asked_effect, resumed}
@@ -33,7 +33,7 @@ use Rattle.ms_follow_laws.proofs.Light.{light_effect, light_act}
 use Rattle.ms_moves.specs.Traces.{Traced}
 use Rattle.ms_trail.specs.declared.follower.Follower.{Follower}
 use Rattle.ms_trail.specs.Asking.{WaitsSome}
-use Rattle.ms_trail.specs.Due.{IsDue}
+use Rattle.ms_trail_uses.specs.Due.{IsDue}
 use Rattle.ms_trail.specs.Following.{Passes, IsFollowed}
 use Rattle.ms_trail.proofs.DueCode.{DueNow, due_now, holds_now}
 

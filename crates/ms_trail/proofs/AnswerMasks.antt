@@ -20,14 +20,14 @@ use Rattle.ms_ir.specs.Signatures.{Signature, word_params, called_signature}
 use Rattle.ms_runs.specs.World.{World, Gives}
 use Rattle.ms_runs.specs.Poisoned.{Poisoned, clean}
 use Rattle.ms_runs.specs.Masks.{word_at, answer_mask, answer_origin, as_result, last_origin}
-use Rattle.ms_runs_good.specs.GoodStates.{IsBelow, PoisonedBelow}
-use Rattle.ms_runs_good.specs.Straight.{HaveTypes}
-use Rattle.ms_runs_good.proofs.CallTypes.{CallsAs, calls_answer}
-use Rattle.ms_runs_good.proofs.ShadowSteps.{numbers_have}
+use Rattle.ms_good_laws.specs.GoodStates.{IsBelow, PoisonedBelow}
+use Rattle.ms_good_laws.specs.Straight.{HaveTypes}
+use Rattle.ms_good_laws.proofs.CallTypes.{CallsAs, calls_answer}
+use Rattle.ms_good_laws.proofs.ShadowSteps.{numbers_have}
 use Rattle.ms_moves.specs.Sources.{placed}
-use Rattle.ms_moves_laws.proofs.ResultMoves.{result_zero}
-use Rattle.ms_trail.specs.Origins.{last_masked}
-use Rattle.ms_trail.proofs.Asked.{last_placed}
+use Rattle.ms_moves_laws.proofs.ResultMoves.{result_zero, first_place}
+use Rattle.ms_trail_uses.specs.Origins.{last_masked}
+use Rattle.ms_trail_uses.proofs.Asked.{last_placed}
 use Rattle.ms_trail.proofs.Outsides.{value_at, mask_at}
 
 -- the masks of poisoned words have their types
@@ -95,10 +95,6 @@ answer_clean (Word f n) ps h = absurd (h f n refl)
 answer_clean e ps h = refl
 
 -- ---- where they come from
-
-first_place : (ps : List Poisoned) → (word_at 0 (placed 0 ps)).origin ≡ 0
-first_place [] = refl
-first_place (p ∷ ps) = refl
 
 pub answer_place : (f : WordFn) (n : WordWidth) (ps : List Poisoned) → answer_origin (Some (Word f n)) (placed 0 ps) ≡ last_masked 0 (map (λ p. p.mask) ps) 0
 answer_place f n ps = ap (last_origin (placed 0 ps)) (first_place ps) ∙ last_placed ps 0 0

@@ -22,7 +22,7 @@ use Rattle.ms_ir.specs.Names.{lookup, externals}
 use Rattle.ms_ir.specs.Locals.{locals}
 use Rattle.ms_ir.specs.Signatures.{called_signature, is_thread_call}
 use Rattle.ms_ir.specs.ThreadCalls.{is_asked, calls_thread}
-use Rattle.ms_ir.specs.Code.{func_at, operands, count_undefs, insts_at, root_at, site_at, external_named}
+use Rattle.ms_ir.specs.Instructions.{func_at, operands, count_undefs, insts_at, root_at, site_at, external_named}
 use Rattle.ms_runs.specs.declared.runs.End.{End}
 use Rattle.ms_runs.specs.declared.runs.Setup.{Setup}
 use Rattle.ms_runs.specs.World.{World, Setting, Here, Effect, Gives, Does, Goes, Enters, Leaves, Ends, gives, word}
@@ -38,22 +38,22 @@ use Rattle.ms_runs.specs.Poisoned.{Poisoned, clean}
 use Rattle.ms_runs.specs.Masks.{by_formulas, union, word_at, answer_mask, answer_origin, as_result, result_mask}
 use Rattle.ms_runs.specs.Uses.{blinded}
 use Rattle.ms_runs.specs.Shadow.{ShadowState, read_poisoned, planes, poisoned_result, shadow_reading, shadow_moved, shadow_act, shadow_step}
-use Rattle.ms_runs_good.specs.GoodStates.{PoisonedBelow}
-use Rattle.ms_runs_good.specs.Straight.{HaveTypes}
-use Rattle.ms_runs_good.proofs.CallTypes.{CallsAs, external_call}
-use Rattle.ms_runs_good.proofs.ThreadsApart.{none_due}
-use Rattle.ms_runs_good.proofs.Frames.{same_insts, read_all_have}
-use Rattle.ms_runs_good.proofs.Readings.{shadow_read}
-use Rattle.ms_runs_good.proofs.ShadowSteps.{numbers_have}
+use Rattle.ms_good_laws.specs.GoodStates.{PoisonedBelow}
+use Rattle.ms_good_laws.specs.Straight.{HaveTypes}
+use Rattle.ms_good_laws.proofs.CallTypes.{CallsAs, external_call}
+use Rattle.ms_good_laws.proofs.ThreadsApart.{none_due}
+use Rattle.ms_good_laws.proofs.Frames.{same_insts, read_all_have}
+use Rattle.ms_good_laws.proofs.Readings.{shadow_read}
+use Rattle.ms_good_laws.proofs.ShadowSteps.{numbers_have}
 use Rattle.ms_valid.specs.Valid.{Valid}
 use Rattle.ms_valid.proofs.NameTests.{name_same}
-use Rattle.ms_code_data.specs.declared.code.Source.{Source as Read_from}
-use Rattle.ms_code_data.specs.declared.code.Code.{Code}
-use Rattle.ms_code_data.specs.declared.code.Code.TheVariants as code
-use Rattle.ms_code_data.specs.Words.{words_of}
-use Rattle.ms_code_data.specs.Reads.{Holds, PutsResult}
-use Rattle.ms_code_data.specs.Encodes.{Where}
-use Rattle.ms_code_data.specs.Compiled.{where_is}
+use Rattle.ms_code.specs.declared.code.Source.{Source as Read_from}
+use Rattle.ms_code.specs.declared.code.Code.{Code}
+use Rattle.ms_code.specs.declared.code.Code.TheVariants as code
+use Rattle.ms_code.specs.Words.{words_of}
+use Rattle.ms_code.specs.Reads.{Holds, PutsResult}
+use Rattle.ms_code.specs.Encodes.{Where}
+use Rattle.ms_code.specs.Compiled.{where_is}
 use Rattle.ms_host.specs.declared.calls.Answer.TheVariants as answer
 use Rattle.ms_host.specs.declared.calls.Asked.TheVariants as asked
 use Rattle.ms_host.specs.Answers.{Answered, FitsFirst, asked_effect, resumed}
@@ -75,14 +75,14 @@ use Rattle.ms_moves.specs.Traces.{Traced}
 use Rattle.ms_shades.specs.Shades.{masks_of}
 use Rattle.ms_shades.proofs.Reading.{read_masks}
 use Rattle.ms_trail.specs.declared.follower.Follower.{Follower}
-use Rattle.ms_trail.specs.declared.shades.Shade.{Shade}
-use Rattle.ms_trail.specs.declared.tables.Row.{Row}
+use Rattle.ms_trail_uses.specs.declared.shades.Shade.{Shade}
+use Rattle.ms_trail_uses.specs.declared.tables.Row.{Row}
 use Rattle.ms_trail.specs.Calling.{answer_told, noted_masks, returned_told}
-use Rattle.ms_trail.specs.Due.{IsDue}
+use Rattle.ms_trail_uses.specs.Due.{IsDue}
 use Rattle.ms_trail.specs.Following.{HasShade, HaveShades, Passes, Went, IsFollowed}
-use Rattle.ms_trail.specs.Logs.{IsLog}
-use Rattle.ms_trail.specs.Origins.{last_masked}
-use Rattle.ms_trail.specs.Shading.{Facts, Done}
+use Rattle.ms_trail_bytes.specs.Logs.{IsLog}
+use Rattle.ms_trail_uses.specs.Origins.{last_masked}
+use Rattle.ms_trail_bytes.specs.Shading.{Facts, Done}
 use Rattle.ms_trail.specs.Telling.{masked_move}
 use Rattle.ms_trail.proofs.Valued.{same_numbers}
 use Rattle.ms_trail.proofs.ResultSteps.{KeepsCalls, shades_count}
@@ -91,7 +91,7 @@ use Rattle.ms_trail.proofs.DueCode.{DueNow, due_now, holds_now}
 use Rattle.ms_trail.proofs.Onward.{onward, shaded_running, memory_same, gives_state, does_state, moves_at}
 use Rattle.ms_trail.proofs.Writing.{gone, its, number_is, site_same, inst_is, roots_are, shade_is}
 use Rattle.ms_trail.proofs.Left.{put_masks}
-use Rattle.ms_trail.proofs.Unsetting.{poison_same}
+use Rattle.ms_trail_bytes.proofs.Unsetting.{poison_same}
 use Rattle.ms_trail.proofs.AnswerMasks.{masks_have, answer_cut, answer_clean, answer_place}
 use Rattle.ms_trail.proofs.Outcomes.{facts}
 use Rattle.ms_trail.proofs.Abroad.{Gave, enc, is, external_is, call, effect_like, goes_alike}

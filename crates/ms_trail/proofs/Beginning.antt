@@ -9,12 +9,12 @@ use Rattle.ms_runs.specs.Plain.{start_frame, plain_start}
 use Rattle.ms_runs.specs.Act.{plain_reading}
 use Rattle.ms_runs.specs.Shadow.{shadow_reading}
 use Rattle.ms_valid.specs.FlowGraph.{name_place}
-use Rattle.ms_code_data.specs.Reads.{Holds}
+use Rattle.ms_code.specs.Reads.{Holds}
 use Rattle.ms_host.specs.State.{WorldState, nothing_beside}
-use Rattle.ms_machine_steps.specs.declared.fibers.Fiber.{Fiber}
+use Rattle.ms_machine_frames.specs.declared.fibers.Fiber.{Fiber}
 use Rattle.ms_machine.specs.Running.{StandsFor, IsRunning}
 use Rattle.ms_moves.specs.Traces.{one_report}
-use Rattle.ms_trail.specs.declared.shades.Shade.{Shade}
+use Rattle.ms_trail_uses.specs.declared.shades.Shade.{Shade}
 use Rattle.ms_trail.specs.Following.{HasShade, HaveShades}
 
 -- whatever limit of reports a setup has

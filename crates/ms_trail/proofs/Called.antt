@@ -16,7 +16,8 @@ use Rattle.ms_ir.specs.declared.calls.External.{External}
 use Rattle.ms_ir.specs.Names.{name_eq, externals, lookup}
 use Rattle.ms_ir.specs.Layout.{width_of}
 use Rattle.ms_ir.specs.Locals.{locals, block_locals}
-use Rattle.ms_ir.specs.Code.{func_at, func_index, operands, count_undefs, one_undef, insts_at, root_at, site_at, external_named}
+use Rattle.ms_ir.specs.Instructions.{func_at, func_index, operands, count_undefs, one_undef, insts_at, root_at, site_at, external_named}
+use Rattle.ms_ir.proofs.Sizes.{drop_next}
 use Rattle.ms_runs.specs.declared.runs.Setup.{Setup}
 use Rattle.ms_runs.specs.World.{World, Setting, Here, Effect, Enters, Ends, stuck}
 use Rattle.ms_runs.specs.Externals.{external}
@@ -27,23 +28,22 @@ use Rattle.ms_runs.specs.Poisoned.{Poisoned, clean}
 use Rattle.ms_runs.specs.Masks.{by_formulas, word_at}
 use Rattle.ms_runs.specs.Uses.{blinded, flagged_words, has_true_flag}
 use Rattle.ms_runs.specs.Shadow.{ShadowState, read_poisoned, shadow_reading, planes, poisoned_result}
-use Rattle.ms_runs_good.proofs.Frames.{same_insts}
-use Rattle.ms_runs_good.proofs.Counted.{counted_within}
-use Rattle.ms_runs_good.proofs.CallTypes.{func_found, fitted_call, args_widths, defined_call}
+use Rattle.ms_good_laws.proofs.Frames.{same_insts}
+use Rattle.ms_good_laws.proofs.Counted.{counted_within}
+use Rattle.ms_good_laws.proofs.CallTypes.{func_found, fitted_call, args_widths, defined_call}
 use Rattle.ms_valid.specs.Formed.{Formed, count_written}
 use Rattle.ms_valid.specs.Paths.{insts_of}
 use Rattle.ms_valid.specs.Valid.{Valid}
-use Rattle.ms_tables.proofs.Items.{drop_item}
-use Rattle.ms_code_data.specs.declared.code.Source.{Source}
-use Rattle.ms_code_data.specs.declared.code.Code.{Code}
-use Rattle.ms_code_data.specs.declared.code.Code.TheVariants as code
-use Rattle.ms_code_data.specs.Reads.{Holds}
-use Rattle.ms_code_data.specs.Encodes.{Where, Encodes}
-use Rattle.ms_code_data.specs.Compiled.{where_is}
+use Rattle.ms_code.specs.declared.code.Source.{Source}
+use Rattle.ms_code.specs.declared.code.Code.{Code}
+use Rattle.ms_code.specs.declared.code.Code.TheVariants as code
+use Rattle.ms_code.specs.Reads.{Holds}
+use Rattle.ms_code.specs.Encodes.{Where, Encodes}
+use Rattle.ms_code.specs.Compiled.{where_is}
 use Rattle.ms_host.specs.State.{WorldState, Beside, nothing_beside}
-use Rattle.ms_machine_steps.specs.declared.fibers.Fiber.{Fiber}
+use Rattle.ms_machine_frames.specs.declared.fibers.Fiber.{Fiber}
 use Rattle.ms_machine_steps.specs.Advances.{step_of}
-use Rattle.ms_machine_steps.proofs.Calls.{zero_at, bind_holds, params_length}
+use Rattle.ms_machine_frames.proofs.Calls.{zero_at, bind_holds, params_length}
 use Rattle.ms_machine.specs.Running.{StandsFor, AllStandFor, IsRunning}
 use Rattle.ms_follow_laws.specs.Follows.{light, bare_frame}
 use Rattle.ms_moves.specs.declared.moves.Source.{Source as From}
@@ -56,18 +56,19 @@ use Rattle.ms_moves.specs.Traces.{Traced}
 use Rattle.ms_shades.specs.Shades.{masks_of}
 use Rattle.ms_shades.proofs.Reading.{read_masks}
 use Rattle.ms_trail.specs.declared.follower.Follower.{Follower}
-use Rattle.ms_trail.specs.declared.logs.Log.{Log}
-use Rattle.ms_trail.specs.declared.shades.Shade.{Shade}
-use Rattle.ms_trail.specs.declared.tables.Row.{Row}
+use Rattle.ms_trail_bytes.specs.declared.logs.Log.{Log}
+use Rattle.ms_trail_uses.specs.declared.shades.Shade.{Shade}
+use Rattle.ms_trail_uses.specs.declared.tables.Row.{Row}
 use Rattle.ms_trail.specs.Calling.{params_told}
-use Rattle.ms_trail.specs.Logs.{IsLog}
-use Rattle.ms_trail.specs.Due.{IsDue}
+use Rattle.ms_trail_bytes.specs.Logs.{IsLog}
+use Rattle.ms_trail_uses.specs.Due.{IsDue}
 use Rattle.ms_trail.specs.Telling.{masked_move}
 use Rattle.ms_trail.specs.Following.{HasShade, HaveShades, Passes, Went, IsFollowed}
 use Rattle.ms_trail.proofs.ResultSteps.{TopShade, shades_count}
 use Rattle.ms_trail.proofs.DueCode.{DueNow, holds_now}
 use Rattle.ms_trail.proofs.Onward.{KeepsRest, onward, enters_state, moves_at}
 use Rattle.ms_trail.proofs.Writing.{now, gone, its, number_is, shade_is, on, site_same, inst_is, roots_are}
+use Rattle.ms_compile.proofs.Building.{drop-zero}
 
 -- ---- telling the arguments, one after the other
 
@@ -76,13 +77,9 @@ pub record ParamsSoFar (event site frame : ℕ) (params : List (Ty × Name)) (ma
       → (more : List Move) × (IsLog log more × (moves ++ params_told event site frame params masks from 0 ≡ more ++ params_told event site frame (drop k params) masks from k))
   pub count : log.count ≤ start.count + k
 
-drop_none : {A : Type 0} (xs : List A) → drop 0 xs ≡ xs
-drop_none [] = refl
-drop_none (x ∷ xs) = refl
-
 pub params_none : (event site frame : ℕ) (params : List (Ty × Name)) (masks : List ℕ) (from : List From) (log : Log) → ParamsSoFar event site frame params masks from log log 0
 params_none event site frame params masks from log = record {
-  told = λ moves is. (moves, (is, (λ j. moves ++ params_told event site frame (sym (drop_none params) j) masks from 0)));
+  told = λ moves is. (moves, (is, (λ j. moves ++ params_told event site frame (sym (drop-zero params) j) masks from 0)));
   count = omega arith;
 }
 
@@ -94,7 +91,7 @@ params_more event site frame params masks from start log new k lt t item mask ma
       let had = so.told moves is in
       let one : List Move = masked_move event site mask (source_at k from) (Value frame t.1) in
       let next : params_told event site frame (drop k params) masks from k ≡ one ++ params_told event site frame (drop (k + 1) params) masks from (k + 1) =
-      ap (λ (ts : List (Ty × Name)). params_told event site frame ts masks from k) (drop_item params k t lt item)
+      ap (λ (ts : List (Ty × Name)). params_told event site frame ts masks from k) (drop_next params k t lt item)
       ∙ ap (λ n. masked_move event site n (source_at k from) (Value frame t.1) ++ params_told event site frame (drop (k + 1) params) masks from (k + 1)) (sym masked)
       in
       (had.0 ++ one, (tell had.0 had.1.0, had.1.1 ∙ ap (λ ms. had.0 ++ ms) next ∙ sym (append_assoc had.0 one (params_told event site frame (drop (k + 1) params) masks from (k + 1)))));

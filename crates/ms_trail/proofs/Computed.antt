@@ -7,7 +7,7 @@ use Rattle.ms_ir.specs.declared.syntax.Name.TheVariants.{Number}
 use Rattle.ms_ir.specs.declared.syntax.Inst.{Inst}
 use Rattle.ms_ir.specs.declared.syntax.Op.{Op}
 use Rattle.ms_ir.specs.declared.syntax.Module.{Module}
-use Rattle.ms_ir.specs.Code.{operands, site_at}
+use Rattle.ms_ir.specs.Instructions.{operands, site_at}
 use Rattle.ms_ir.specs.Locals.{locals}
 use Rattle.ms_runs.specs.declared.runs.Setup.{Setup}
 use Rattle.ms_runs.specs.World.{World}
@@ -16,13 +16,13 @@ use Rattle.ms_runs.specs.Plain.{PlainState, setting_of}
 use Rattle.ms_runs.specs.Poisoned.{Poisoned}
 use Rattle.ms_runs.specs.Masks.{result_origin}
 use Rattle.ms_runs.specs.Shadow.{read_poisoned}
-use Rattle.ms_code_data.specs.declared.code.Code.{Code}
-use Rattle.ms_code_data.specs.declared.code.Code.TheVariants as code
-use Rattle.ms_code_data.specs.Reads.{IsPlace}
-use Rattle.ms_code_data.specs.Encodes.{Where, Encodes}
-use Rattle.ms_code_data.specs.Compiled.{where_is}
+use Rattle.ms_code.specs.declared.code.Code.{Code}
+use Rattle.ms_code.specs.declared.code.Code.TheVariants as code
+use Rattle.ms_code.specs.Reads.{IsPlace}
+use Rattle.ms_code.specs.Encodes.{Where, Encodes}
+use Rattle.ms_code.specs.Compiled.{where_is}
 use Rattle.ms_host.specs.State.{WorldState, Beside, nothing_beside}
-use Rattle.ms_machine_steps.specs.declared.fibers.Fiber.{Fiber}
+use Rattle.ms_machine_frames.specs.declared.fibers.Fiber.{Fiber}
 use Rattle.ms_machine.specs.Running.{IsRunning}
 use Rattle.ms_follow_laws.specs.Follows.{bare_frame}
 use Rattle.ms_moves.specs.declared.moves.Source.{Source}
@@ -32,19 +32,19 @@ use Rattle.ms_moves.specs.Sources.{sources, source_at, placed, result_source}
 use Rattle.ms_moves.specs.Traces.{Traced}
 use Rattle.ms_shades.specs.Results.{IsComputed, IsMask}
 use Rattle.ms_trail.specs.declared.follower.Follower.{Follower}
-use Rattle.ms_trail.specs.declared.tables.Row.{Row}
-use Rattle.ms_trail.specs.Logs.{IsLog}
+use Rattle.ms_trail_uses.specs.declared.tables.Row.{Row}
+use Rattle.ms_trail_bytes.specs.Logs.{IsLog}
 use Rattle.ms_trail.specs.Telling.{masked_move}
-use Rattle.ms_trail.specs.Tabled.{HasRow}
-use Rattle.ms_trail.specs.Origins.{place_read}
-use Rattle.ms_trail.specs.Due.{IsDue, sets_at}
-use Rattle.ms_trail.specs.Stepping as stepping
+use Rattle.ms_trail_uses.specs.Tabled.{HasRow}
+use Rattle.ms_trail_uses.specs.Origins.{place_read}
+use Rattle.ms_trail_uses.specs.Due.{IsDue, sets_at}
+use Rattle.ms_trail_uses.specs.Stepping as stepping
 use Rattle.ms_trail.specs.Following.{Passes, Went, IsFollowed}
 use Rattle.ms_trail.proofs.Going.{ends}
 use Rattle.ms_trail.proofs.ResultSteps.{KeepsCalls, valued_followed, top}
 use Rattle.ms_trail.proofs.DueCode.{DueNow, due_now, holds_now, valued_is, result_is}
-use Rattle.ms_trail.proofs.Placing.{place_is}
-use Rattle.ms_trail.specs.Stepping.{AsksNothing}
+use Rattle.ms_trail_uses.proofs.Placing.{place_is}
+use Rattle.ms_trail_uses.specs.Stepping.{AsksNothing}
 use Rattle.ms_trail.proofs.Inward.{IsInward, asks_nothing}
 
 -- it is computed without a call

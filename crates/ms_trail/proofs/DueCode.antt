@@ -4,7 +4,7 @@ use Rattle.std.proofs.lemmas.Option.{same_Some, none-some}
 use Rattle.ms_ir.specs.declared.syntax.Func.{Func}
 use Rattle.ms_ir.specs.declared.syntax.Inst.{Inst}
 use Rattle.ms_ir.specs.declared.syntax.Module.{Module}
-use Rattle.ms_ir.specs.Code.{operands, site_at}
+use Rattle.ms_ir.specs.Instructions.{operands, site_at}
 use Rattle.ms_ir.specs.Locals.{locals}
 use Rattle.ms_runs.specs.declared.runs.Setup.{Setup}
 use Rattle.ms_runs.specs.World.{Does}
@@ -15,16 +15,16 @@ use Rattle.ms_runs.specs.Uses.{uses, check_uses}
 use Rattle.ms_runs.specs.Shadow.{read_poisoned}
 use Rattle.ms_valid.specs.Formed.{Formed}
 use Rattle.ms_valid.specs.Valid.{Valid}
-use Rattle.ms_code_data.specs.declared.code.Code.{Code}
-use Rattle.ms_code_data.specs.declared.code.Code.TheVariants as code
-use Rattle.ms_code_data.specs.declared.code.Program.{Program}
-use Rattle.ms_code_data.specs.declared.code.Site.{Site}
-use Rattle.ms_code_data.specs.Reads.{Holds, IsResult}
-use Rattle.ms_code_data.specs.Encodes.{Where, Encodes}
-use Rattle.ms_code_data.specs.Compiled.{Compiled}
+use Rattle.ms_code.specs.declared.code.Code.{Code}
+use Rattle.ms_code.specs.declared.code.Code.TheVariants as code
+use Rattle.ms_code.specs.declared.code.Program.{Program}
+use Rattle.ms_code.specs.declared.code.Site.{Site}
+use Rattle.ms_code.specs.Reads.{Holds, IsResult}
+use Rattle.ms_code.specs.Encodes.{Where, Encodes}
+use Rattle.ms_code.specs.Compiled.{Compiled}
 use Rattle.ms_host.specs.State.{WorldState, Beside, nothing_beside}
-use Rattle.ms_machine_steps.specs.declared.fibers.Fiber.{Fiber}
-use Rattle.ms_machine_steps.specs.Standing.{IsState}
+use Rattle.ms_machine_frames.specs.declared.fibers.Fiber.{Fiber}
+use Rattle.ms_machine_frames.specs.Standing.{IsState}
 use Rattle.ms_machine_steps.proofs.Due.{site_is}
 use Rattle.ms_machine_steps.proofs.Loops.{first, due, encodes, fits, at_code, at_site}
 use Rattle.ms_machine.specs.Running.{StandsFor, AllStandFor, IsRunning, Runs}
@@ -34,7 +34,7 @@ use Rattle.ms_moves.specs.Traces.{Traced}
 use Rattle.ms_shades.specs.Shades.{HoldsShades}
 use Rattle.ms_shades.specs.Results.{IsComputed}
 use Rattle.ms_trail.specs.declared.follower.Follower.{Follower}
-use Rattle.ms_trail.specs.Due.{HasCode, IsDue, sets_at}
+use Rattle.ms_trail_uses.specs.Due.{HasCode, IsDue, sets_at}
 use Rattle.ms_trail.specs.Ready.{FitsHere}
 use Rattle.ms_trail.specs.Following.{InstPasses, FramesPass, Passes, IsFollowed}
 use Rattle.ms_trail.proofs.ResultSteps.{top}

@@ -13,7 +13,7 @@ use Rattle.ms_ir.specs.declared.syntax.Op.TheVariants as op
 use Rattle.ms_ir.specs.declared.syntax.Inst.{Inst}
 use Rattle.ms_ir.specs.declared.syntax.Module.{Module}
 use Rattle.ms_ir.specs.Equal.{type_eq}
-use Rattle.ms_ir.specs.Code.{operands, count_undefs, func_index, root_at}
+use Rattle.ms_ir.specs.Instructions.{operands, count_undefs, func_index, root_at}
 use Rattle.ms_ir.specs.Locals.{locals}
 use Rattle.ms_runs.specs.declared.runs.End.TheVariants as «end»
 use Rattle.ms_runs.specs.declared.runs.Setup.{Setup}
@@ -23,14 +23,14 @@ use Rattle.ms_runs.specs.Plain.{setting_of}
 use Rattle.ms_runs.specs.Poisoned.{Poisoned}
 use Rattle.ms_runs.specs.Uses.{uses, check_uses}
 use Rattle.ms_runs.specs.Shadow.{read_poisoned}
-use Rattle.ms_runs_good.proofs.Frames.{unmarked_at}
-use Rattle.ms_code.proofs.Widths.{wider}
-use Rattle.ms_code_data.specs.declared.code.Routine.{Routine}
-use Rattle.ms_code_data.specs.declared.code.Code.{Code}
-use Rattle.ms_code_data.specs.declared.code.Code.TheVariants as code
-use Rattle.ms_code_data.specs.Fits.{Fits}
-use Rattle.ms_code_data.specs.Reads.{Holds}
-use Rattle.ms_code_data.specs.Compiled.{where_is}
+use Rattle.ms_good_laws.proofs.Frames.{unmarked_at}
+use Rattle.ms_compile.proofs.Widths.{wider}
+use Rattle.ms_code.specs.declared.code.Routine.{Routine}
+use Rattle.ms_code.specs.declared.code.Code.{Code}
+use Rattle.ms_code.specs.declared.code.Code.TheVariants as code
+use Rattle.ms_code.specs.Fits.{Fits}
+use Rattle.ms_code.specs.Reads.{Holds}
+use Rattle.ms_code.specs.Compiled.{where_is}
 use Rattle.ms_host.specs.State.{nothing_beside}
 use Rattle.ms_host.specs.Shows.{Shows}
 use Rattle.ms_machine.specs.Running.{StandsFor, AllStandFor}
@@ -41,17 +41,17 @@ use Rattle.ms_moves.specs.Events.{innermost}
 use Rattle.ms_moves.specs.Traces.{Traced, use_of, frames_read, first_read as first_source}
 use Rattle.ms_shades.specs.Shades.{HoldsShades}
 use Rattle.ms_trail.specs.declared.follower.Follower.{Follower}
-use Rattle.ms_trail.specs.declared.tables.Row.{Row}
-use Rattle.ms_trail.specs.declared.used.Used.{Used}
-use Rattle.ms_trail.specs.declared.used.Used.TheVariants as read
-use Rattle.ms_trail.specs.declared.used.Shape.{Shape}
-use Rattle.ms_trail.specs.declared.used.Shape.TheVariants as shape
-use Rattle.ms_trail.specs.Due.{HasCode, IsDue}
-use Rattle.ms_trail.specs.Tabled.{HasRow}
-use Rattle.ms_trail.specs.Used.{first_read, source_of, code_read, IsUsing, Checked, asked_read, strings_read, or_used, memory_read, plain_read, shape_of, printed_read, printf_read, words_read, seen}
+use Rattle.ms_trail_uses.specs.declared.tables.Row.{Row}
+use Rattle.ms_trail_uses.specs.declared.used.Used.{Used}
+use Rattle.ms_trail_uses.specs.declared.used.Used.TheVariants as read
+use Rattle.ms_trail_uses.specs.declared.used.Shape.{Shape}
+use Rattle.ms_trail_uses.specs.declared.used.Shape.TheVariants as shape
+use Rattle.ms_trail_uses.specs.Due.{HasCode, IsDue}
+use Rattle.ms_trail_uses.specs.Tabled.{HasRow}
+use Rattle.ms_trail_uses.specs.Used.{first_read, source_of, code_read, IsUsing, Checked, asked_read, strings_read, or_used, memory_read, plain_read, shape_of, printed_read, printf_read, words_read, seen}
 use Rattle.ms_trail.specs.Following.{InstPasses, FramesPass, IsFollowed}
 use Rattle.ms_trail.specs.Turning.{due_sources, inst_sources, ReadsAt, FoundAt}
-use Rattle.ms_trail.proofs.CodeUses.{code_reads}
+use Rattle.ms_trail_uses.proofs.CodeUses.{code_reads}
 use Rattle.ms_trail.proofs.Passing.{read_is, uses_checked}
 use Rattle.ms_trail.proofs.Going.{reports}
 use Rattle.ms_trail.proofs.ResultSteps.{TopShade, top}

@@ -2,7 +2,7 @@
 use Rattle.std.proofs.Common.{◌≡◌, ◌≢◌, List, ◌∷◌, map, refl, sym, ap, ◌∙◌, subst}
 use Rattle.ms_ir.specs.declared.syntax.Inst.{Inst}
 use Rattle.ms_ir.specs.declared.syntax.Module.{Module}
-use Rattle.ms_ir.specs.Code.{operands, NoMarks}
+use Rattle.ms_ir.specs.Instructions.{operands, NoMarks}
 use Rattle.ms_runs.specs.declared.runs.End.{End}
 use Rattle.ms_runs.specs.declared.runs.End.TheVariants as «end»
 use Rattle.ms_runs.specs.World.{World, Setting, Here, Effect, Does, Ends}
@@ -15,7 +15,8 @@ use Rattle.ms_runs.specs.Uses.{uses, check_uses, blinded}
 use Rattle.ms_runs.specs.Shadow.{ShadowState, read_poisoned, shadow_moved, shadow_act, after_checks, shadow_first, shadow_frames, shadow_step}
 use Rattle.ms_follow_laws.specs.Follows.{light, bare_frame, step_shadow, Follows, StepFollows}
 use Rattle.ms_follow_laws.proofs.Steps.{step_follows}
-use Rattle.ms_moves_laws.proofs.EndsAtUse.{is_reported, ReadMoved, after_read}
+use Rattle.ms_runs_laws.proofs.UnreportedEnds.{is_reported}
+use Rattle.ms_moves_laws.proofs.EndsAtUse.{ReadMoved, after_read}
 
 stop_same : (x e : End) (w v : World) → ◌≡◌ {A = Stepped ShadowState} (Stop x w) (Stop e v) → x ≡ e
 stop_same x e w v h = cc

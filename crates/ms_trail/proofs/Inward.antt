@@ -8,23 +8,23 @@ use Rattle.ms_ir.specs.declared.syntax.Op.{Op}
 use Rattle.ms_ir.specs.declared.syntax.Op.TheVariants as op
 use Rattle.ms_ir.specs.declared.syntax.Inst.{Inst}
 use Rattle.ms_ir.specs.declared.syntax.Module.{Module}
-use Rattle.ms_ir.specs.Code.{func_index}
+use Rattle.ms_ir.specs.Instructions.{func_index}
 use Rattle.ms_runs.specs.declared.runs.Setup.{Setup}
 use Rattle.ms_runs.specs.Control.{Frame}
 use Rattle.ms_runs.specs.Plain.{PlainState}
-use Rattle.ms_code_data.specs.declared.code.Code.{Code}
-use Rattle.ms_code_data.specs.declared.code.Code.TheVariants as code
-use Rattle.ms_code_data.specs.Encodes.{Where, Encodes}
-use Rattle.ms_code_data.specs.Compiled.{where_is}
+use Rattle.ms_code.specs.declared.code.Code.{Code}
+use Rattle.ms_code.specs.declared.code.Code.TheVariants as code
+use Rattle.ms_code.specs.Encodes.{Where, Encodes}
+use Rattle.ms_code.specs.Compiled.{where_is}
 use Rattle.ms_host.specs.declared.calls.Asked.{Asked}
 use Rattle.ms_host.specs.declared.calls.Asked.TheVariants as asked
 use Rattle.ms_host.specs.declared.calls.HostCall.{HostCall}
 use Rattle.ms_host.specs.State.{WorldState, Beside}
-use Rattle.ms_machine_steps.specs.declared.fibers.Fiber.{Fiber}
+use Rattle.ms_machine_frames.specs.declared.fibers.Fiber.{Fiber}
 use Rattle.ms_machine_steps.specs.Waiting.{IsAsked, Waits, FirstWaits}
 use Rattle.ms_machine.specs.Running.{IsRunning}
-use Rattle.ms_trail.specs.Due.{HasCode, IsDue}
-use Rattle.ms_trail.specs.Stepping.{AsksNothing}
+use Rattle.ms_trail_uses.specs.Due.{HasCode, IsDue}
+use Rattle.ms_trail_uses.specs.Stepping.{AsksNothing}
 
 -- code that calls nothing outside the module
 abbrev pub IsInward : Code → Type 0

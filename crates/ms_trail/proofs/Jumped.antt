@@ -14,7 +14,7 @@ use Rattle.ms_ir.specs.declared.syntax.Module.{Module}
 use Rattle.ms_ir.specs.Names.{name_eq}
 use Rattle.ms_ir.specs.Layout.{width_of}
 use Rattle.ms_ir.specs.Locals.{locals}
-use Rattle.ms_ir.specs.Code.{func_index, operands, count_undefs, one_undef, one_unmarked, roots_in, insts_at, blocks_at, block_index, root_at, site_at, external_named}
+use Rattle.ms_ir.specs.Instructions.{func_index, operands, count_undefs, one_undef, one_unmarked, roots_in, insts_at, blocks_at, block_index, root_at, site_at, external_named}
 use Rattle.ms_runs.specs.declared.runs.Setup.{Setup}
 use Rattle.ms_runs.specs.World.{World, Setting, Here, Goes}
 use Rattle.ms_runs.specs.Control.{Frame, here, read_all, read_edge, block_name, params_at, count_phis, jumped}
@@ -24,21 +24,21 @@ use Rattle.ms_runs.specs.Poisoned.{Poisoned, clean}
 use Rattle.ms_runs.specs.Masks.{by_formulas, word_at}
 use Rattle.ms_runs.specs.Uses.{blinded}
 use Rattle.ms_runs.specs.Shadow.{ShadowState, read_poisoned, shadow_reading, planes, poisoned_result}
-use Rattle.ms_runs_good.proofs.Frames.{unmarked_at}
-use Rattle.ms_code.proofs.Numbers.{phis_below}
-use Rattle.ms_code_data.specs.declared.code.Source.{Source}
-use Rattle.ms_code_data.specs.declared.code.Move.{Move as Moved}
-use Rattle.ms_code_data.specs.declared.code.Edge.{Edge}
-use Rattle.ms_code_data.specs.declared.code.Code.{Code}
-use Rattle.ms_code_data.specs.declared.code.Code.TheVariants as code
-use Rattle.ms_code_data.specs.Words.{put_all}
-use Rattle.ms_code_data.specs.Reads.{Holds, Reads, IsPlace}
-use Rattle.ms_code_data.specs.Encodes.{Where, number_of, ReadsEdge, AreMoved, Leads, Encodes}
-use Rattle.ms_code_data.specs.Compiled.{where_is}
+use Rattle.ms_good_laws.proofs.Frames.{unmarked_at}
+use Rattle.ms_compile.proofs.Numbers.{phis_below}
+use Rattle.ms_code.specs.declared.code.Source.{Source}
+use Rattle.ms_code.specs.declared.code.Move.{Move as Moved}
+use Rattle.ms_code.specs.declared.code.Edge.{Edge}
+use Rattle.ms_code.specs.declared.code.Code.{Code}
+use Rattle.ms_code.specs.declared.code.Code.TheVariants as code
+use Rattle.ms_code.specs.Words.{put_all}
+use Rattle.ms_code.specs.Reads.{Holds, Reads, IsPlace}
+use Rattle.ms_code.specs.Encodes.{Where, number_of, ReadsEdge, AreMoved, Leads, Encodes}
+use Rattle.ms_code.specs.Compiled.{where_is}
 use Rattle.ms_host.specs.State.{Beside, nothing_beside}
-use Rattle.ms_machine_steps.specs.Meaning.{Jumps, IsJump, Doing, doing}
+use Rattle.ms_machine_frames.specs.Meaning.{Jumps, IsJump, Doing, doing}
 use Rattle.ms_machine_steps.specs.Advances.{step_of}
-use Rattle.ms_machine_steps.specs.declared.fibers.Fiber.{Fiber}
+use Rattle.ms_machine_frames.specs.declared.fibers.Fiber.{Fiber}
 use Rattle.ms_machine_steps.proofs.Acts.{Same, acts}
 use Rattle.ms_machine.specs.Running.{IsRunning}
 use Rattle.ms_host.specs.State.{WorldState}
@@ -55,13 +55,13 @@ use Rattle.ms_moves.specs.Traces.{Traced}
 use Rattle.ms_shades.specs.Shades.{mask_of, masks_read, masks_moved, shades_at}
 use Rattle.ms_shades.proofs.Reading.{reads_mask, jump_masks}
 use Rattle.ms_trail.specs.declared.follower.Follower.{Follower}
-use Rattle.ms_trail.specs.declared.shades.Shade.{Shade}
-use Rattle.ms_trail.specs.declared.tables.Row.{Row}
-use Rattle.ms_trail.specs.Logs.{IsLog}
-use Rattle.ms_trail.specs.Tabled.{HasRow}
-use Rattle.ms_trail.specs.Due.{IsDue}
+use Rattle.ms_trail_uses.specs.declared.shades.Shade.{Shade}
+use Rattle.ms_trail_uses.specs.declared.tables.Row.{Row}
+use Rattle.ms_trail_bytes.specs.Logs.{IsLog}
+use Rattle.ms_trail_uses.specs.Tabled.{HasRow}
+use Rattle.ms_trail_uses.specs.Due.{IsDue}
 use Rattle.ms_trail.specs.Phis.{phis_told, TellsPhis}
-use Rattle.ms_trail.specs.Taken.{IsTaken}
+use Rattle.ms_trail_uses.specs.Taken.{IsTaken}
 use Rattle.ms_trail.specs.Telling.{masked_move}
 use Rattle.ms_trail.specs.Following.{HasShade, HaveShades, Passes, Went, IsFollowed}
 use Rattle.ms_trail.proofs.Valued.{same_numbers}

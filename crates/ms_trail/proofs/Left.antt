@@ -14,7 +14,7 @@ use Rattle.ms_ir.specs.declared.syntax.Inst.{Inst}
 use Rattle.ms_ir.specs.declared.syntax.Module.{Module}
 use Rattle.ms_ir.specs.Layout.{width_of}
 use Rattle.ms_ir.specs.Locals.{locals}
-use Rattle.ms_ir.specs.Code.{func_at, operands, count_undefs, insts_at, root_at, site_at, external_named}
+use Rattle.ms_ir.specs.Instructions.{func_at, operands, count_undefs, insts_at, root_at, site_at, external_named}
 use Rattle.ms_runs.specs.declared.runs.End.TheVariants as «end»
 use Rattle.ms_runs.specs.declared.runs.Setup.{Setup}
 use Rattle.ms_runs.specs.World.{World, Setting, Here, Leaves, Ends, word}
@@ -25,24 +25,24 @@ use Rattle.ms_runs.specs.Poisoned.{Poisoned, clean}
 use Rattle.ms_runs.specs.Masks.{by_formulas, word_at}
 use Rattle.ms_runs.specs.Uses.{blinded}
 use Rattle.ms_runs.specs.Shadow.{ShadowState, read_poisoned, planes, poisoned_result}
-use Rattle.ms_runs_good.specs.GoodStates.{IsBelow, GoodFrames, StandsAtCall, IsMain, Bottom}
-use Rattle.ms_runs_good.proofs.Frames.{same_insts, top_good}
-use Rattle.ms_runs_good.proofs.SitedMoves.{last_is_main}
+use Rattle.ms_good_laws.specs.GoodStates.{IsBelow, GoodFrames, StandsAtCall, IsMain, Bottom}
+use Rattle.ms_good_laws.proofs.Frames.{same_insts, top_good}
+use Rattle.ms_good_laws.proofs.SitedMoves.{last_is_main}
 use Rattle.ms_valid.specs.Formed.{Formed}
 use Rattle.ms_valid.specs.Valid.{Valid}
-use Rattle.ms_code_data.specs.declared.code.Source.{Source}
-use Rattle.ms_code_data.specs.declared.code.Code.{Code}
-use Rattle.ms_code_data.specs.declared.code.Code.TheVariants as code
-use Rattle.ms_code_data.specs.declared.code.Program.{Program}
-use Rattle.ms_code_data.specs.Fits.{IsPut}
-use Rattle.ms_code_data.specs.Reads.{Holds, PutsResult}
-use Rattle.ms_code_data.specs.Encodes.{Where, number_of, Returns, Encodes}
-use Rattle.ms_code_data.specs.Compiled.{Compiled, where_is}
+use Rattle.ms_code.specs.declared.code.Source.{Source}
+use Rattle.ms_code.specs.declared.code.Code.{Code}
+use Rattle.ms_code.specs.declared.code.Code.TheVariants as code
+use Rattle.ms_code.specs.declared.code.Program.{Program}
+use Rattle.ms_code.specs.Fits.{IsPut}
+use Rattle.ms_code.specs.Reads.{Holds, PutsResult}
+use Rattle.ms_code.specs.Encodes.{Where, number_of, Returns, Encodes}
+use Rattle.ms_code.specs.Compiled.{Compiled, where_is}
 use Rattle.ms_host.specs.State.{Beside, nothing_beside}
-use Rattle.ms_machine_steps.specs.declared.frames.Frame.{Frame as Kept}
-use Rattle.ms_machine_steps.specs.declared.fibers.Fiber.{Fiber}
-use Rattle.ms_machine_steps.specs.Meaning.{put_of, put_value}
-use Rattle.ms_machine_steps.specs.Standing.{Stands, FramesStand, IsState, frames_of}
+use Rattle.ms_machine_frames.specs.declared.frames.Frame.{Frame as Kept}
+use Rattle.ms_machine_frames.specs.declared.fibers.Fiber.{Fiber}
+use Rattle.ms_machine_frames.specs.Meaning.{put_of, put_value}
+use Rattle.ms_machine_frames.specs.Standing.{Stands, FramesStand, IsState, frames_of}
 use Rattle.ms_machine_steps.specs.Advances.{step_of}
 use Rattle.ms_machine_steps.proofs.Due.{Due, due_good, code_stands}
 use Rattle.ms_machine_steps.proofs.Crossings.{call_puts}
@@ -59,12 +59,12 @@ use Rattle.ms_moves.specs.Traces.{Traced}
 use Rattle.ms_shades.specs.Shades.{mask_of}
 use Rattle.ms_shades.proofs.Reading.{source_difference, reads_mask}
 use Rattle.ms_trail.specs.declared.follower.Follower.{Follower}
-use Rattle.ms_trail.specs.declared.shades.Shade.{Shade}
-use Rattle.ms_trail.specs.declared.tables.Row.{Row}
+use Rattle.ms_trail_uses.specs.declared.shades.Shade.{Shade}
+use Rattle.ms_trail_uses.specs.declared.tables.Row.{Row}
 use Rattle.ms_trail.specs.Calling.{returned_told}
-use Rattle.ms_trail.specs.Logs.{IsLog}
-use Rattle.ms_trail.specs.Tabled.{HasRow}
-use Rattle.ms_trail.specs.Due.{IsDue}
+use Rattle.ms_trail_bytes.specs.Logs.{IsLog}
+use Rattle.ms_trail_uses.specs.Tabled.{HasRow}
+use Rattle.ms_trail_uses.specs.Due.{IsDue}
 use Rattle.ms_trail.specs.Telling.{masked_move}
 use Rattle.ms_trail.specs.Following.{HasShade, HaveShades, Passes, Went, IsFollowed}
 use Rattle.ms_trail.proofs.Valued.{masks_set}

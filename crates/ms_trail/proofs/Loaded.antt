@@ -1,5 +1,5 @@
 -- A follower that loaded a word has taken the step.
-use Rattle.std.proofs.Common.{◌≡◌, ◌≢◌, ◌+◌, ◌%◌, ◌^◌, ℕ, zero, suc, Bool, true, false, eqb, List, [], ◌∷◌, ◌++◌, map, Option, Some, refl, sym, ap, ◌∙◌, subst, bit_and, if◌then◌else◌}
+use Rattle.std.proofs.Common.{◌≡◌, ◌≢◌, ◌+◌, ◌%◌, ◌^◌, ℕ, Bool, true, false, eqb, List, ◌∷◌, ◌++◌, map, Option, Some, refl, sym, ap, ◌∙◌, subst, bit_and, if◌then◌else◌}
 use Rattle.std.specs.Prelude.{set, unwrap_or, slice_get}
 use Rattle.std.proofs.lemmas.Option.{same_Some}
 use Rattle.std.proofs.lemmas.Nat.{and_mask}
@@ -14,7 +14,7 @@ use Rattle.ms_ir.specs.declared.syntax.Op.TheVariants as op
 use Rattle.ms_ir.specs.declared.syntax.Inst.{Inst}
 use Rattle.ms_ir.specs.declared.syntax.Module.{Module}
 use Rattle.ms_ir.specs.Layout.{width_of, stored_size}
-use Rattle.ms_ir.specs.Code.{operands, count_undefs, site_at}
+use Rattle.ms_ir.specs.Instructions.{operands, count_undefs, site_at}
 use Rattle.ms_ir.specs.Locals.{locals}
 use Rattle.ms_runs.specs.declared.runs.Setup.{Setup}
 use Rattle.ms_bits.specs.declared.traps.Trap.TheVariants as trap
@@ -28,13 +28,13 @@ use Rattle.ms_runs.specs.Poisoned.{Poisoned}
 use Rattle.ms_runs.specs.Masks.{by_formulas, union, word_at, result_mask}
 use Rattle.ms_runs.specs.Uses.{blinded}
 use Rattle.ms_runs.specs.Shadow.{ShadowState, read_poisoned, shadow_reading, planes, shadow_moved, poisoned_result, shadow_act, shadow_step}
-use Rattle.ms_code_data.specs.declared.code.Source.{Source as Operand_}
-use Rattle.ms_code_data.specs.declared.code.Code.{Code}
-use Rattle.ms_code_data.specs.declared.code.Code.TheVariants as code
-use Rattle.ms_code_data.specs.Words.{word_of}
-use Rattle.ms_code_data.specs.Reads.{IsPlace, IsResult}
-use Rattle.ms_code_data.specs.Encodes.{Where, Encodes}
-use Rattle.ms_code_data.specs.Compiled.{where_is}
+use Rattle.ms_code.specs.declared.code.Source.{Source as Operand_}
+use Rattle.ms_code.specs.declared.code.Code.{Code}
+use Rattle.ms_code.specs.declared.code.Code.TheVariants as code
+use Rattle.ms_code.specs.Words.{word_of}
+use Rattle.ms_code.specs.Reads.{IsPlace, IsResult}
+use Rattle.ms_code.specs.Encodes.{Where, Encodes}
+use Rattle.ms_code.specs.Compiled.{where_is}
 use Rattle.ms_host.specs.State.{Beside, nothing_beside}
 use Rattle.ms_host.specs.Shows.{Shows}
 use Rattle.ms_machine_steps.specs.Advances.{step_of}
@@ -46,24 +46,20 @@ use Rattle.ms_moves.specs.declared.moves.Move.{Move}
 use Rattle.ms_moves.specs.Sources.{sources, byte_source, result_source}
 use Rattle.ms_moves.specs.Traces.{Traced}
 use Rattle.ms_trail.specs.declared.follower.Follower.{Follower}
-use Rattle.ms_trail.specs.declared.tables.Row.{Row}
-use Rattle.ms_trail.specs.Logs.{IsLog}
+use Rattle.ms_trail_uses.specs.declared.tables.Row.{Row}
+use Rattle.ms_trail_bytes.specs.Logs.{IsLog}
 use Rattle.ms_trail.specs.Telling.{masked_move}
-use Rattle.ms_trail.specs.Tabled.{HasRow}
-use Rattle.ms_trail.specs.Due.{IsDue}
+use Rattle.ms_trail_uses.specs.Tabled.{HasRow}
+use Rattle.ms_trail_uses.specs.Due.{IsDue}
 use Rattle.ms_trail.specs.Following.{Passes, Went, IsFollowed}
-use Rattle.ms_trail.proofs.CodeUses.{source_word}
+use Rattle.ms_trail_uses.proofs.CodeUses.{source_word}
 use Rattle.ms_trail.proofs.Going.{goes, acts}
 use Rattle.ms_trail.proofs.Valued.{IsValued}
 use Rattle.ms_trail.proofs.ResultSteps.{KeepsCalls, valued_followed, top}
 use Rattle.ms_trail.proofs.DueCode.{DueNow, due_now, holds_now}
+use Rattle.ms_good_laws.proofs.Readings.{word_number}
 
 -- ---- effects that go on
-
-pub word_number : (k : ℕ) (qs : List Poisoned) → word k (map (λ p. p.value) qs) ≡ (word_at k qs).value
-word_number k [] = refl
-word_number zero (p ∷ qs) = refl
-word_number (suc k) (p ∷ qs) = word_number k qs
 
 abbrev pub IsEnd : Effect → Type 0
 IsEnd (Ends e w) = Unit {0}

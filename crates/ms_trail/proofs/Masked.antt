@@ -2,15 +2,15 @@
 use Rattle.std.proofs.Common.{◌≡◌, ◌<◌, ℕ, List, length, Option, sym, ap, ◌∙◌, subst}
 use Rattle.ms_ir.specs.declared.syntax.Op.{Op}
 use Rattle.ms_runs.specs.World.{World}
-use Rattle.ms_code_data.specs.declared.code.Code.{Code}
-use Rattle.ms_code_data.specs.declared.code.Edge.{Edge}
+use Rattle.ms_code.specs.declared.code.Code.{Code}
+use Rattle.ms_code.specs.declared.code.Edge.{Edge}
 use Rattle.ms_shades.specs.declared.words.View.{View}
 use Rattle.ms_shades.specs.Results.{IsMask}
 use Rattle.ms_shades.specs.Views.{IsView}
-use Rattle.ms_trail.specs.declared.used.Used.{Used}
-use Rattle.ms_trail.specs.Used.{code_read}
-use Rattle.ms_trail.specs.Taken.{IsTaken}
-use Rattle.ms_trail.specs.Origins.{place_read}
+use Rattle.ms_trail_uses.specs.declared.used.Used.{Used}
+use Rattle.ms_trail_uses.specs.Used.{code_read}
+use Rattle.ms_trail_uses.specs.Taken.{IsTaken}
+use Rattle.ms_trail_uses.specs.Origins.{place_read}
 
 pub mask_same : (fill fill' xs xs' ms ms' : List ℕ) (k : Code) (mask : ℕ) → fill ≡ fill' → xs ≡ xs' → ms ≡ ms' → IsMask fill xs ms k mask → IsMask fill' xs' ms' k mask
 mask_same fill fill' xs xs' ms ms' k mask e f g h =

@@ -9,7 +9,7 @@ use Rattle.ms_ir.specs.declared.syntax.Inst.{Inst}
 use Rattle.ms_ir.specs.declared.syntax.Module.{Module}
 use Rattle.ms_ir.specs.declared.calls.External.{External}
 use Rattle.ms_ir.specs.declared.calls.External.TheVariants.{Malloc, Realloc, LifetimeStart}
-use Rattle.ms_ir.specs.Code.{operands, count_undefs, insts_at, root_at, site_at, external_named}
+use Rattle.ms_ir.specs.Instructions.{operands, count_undefs, insts_at, root_at, site_at, external_named}
 use Rattle.ms_runs.specs.declared.runs.End.TheVariants as «end»
 use Rattle.ms_runs.specs.declared.runs.Setup.{Setup}
 use Rattle.ms_runs.specs.World.{World, Setting, Here, Effect, Gives, Does, Goes, Enters, Leaves}
@@ -20,16 +20,16 @@ use Rattle.ms_runs.specs.Plain.{PlainState, More, setting_of}
 use Rattle.ms_runs.specs.Poisoned.{Poisoned, clean}
 use Rattle.ms_runs.specs.Masks.{by_formulas, word_at}
 use Rattle.ms_runs.specs.Shadow.{ShadowState, read_poisoned, shadow_reading, shadow_moved, shadow_step}
-use Rattle.ms_runs_good.specs.GoodWorlds.{GoodWorld, FitsCell}
-use Rattle.ms_runs_good.proofs.WorldChanges.{either, set_shadow_good, set_cells_good}
+use Rattle.ms_good_laws.specs.GoodWorlds.{GoodWorld, FitsCell}
+use Rattle.ms_good_laws.proofs.WorldChanges.{either, set_shadow_good, set_cells_good}
 use Rattle.ms_host.specs.State.{WorldState, Keeps, nothing_beside}
 use Rattle.ms_host.specs.Shows.{Shows}
 use Rattle.ms_host.specs.SlotBytes.{ShowsSlots}
 use Rattle.ms_printf.specs.CallSites.{AreCallSites}
-use Rattle.ms_machine_steps.specs.declared.fibers.Fiber.{Fiber}
-use Rattle.ms_runs_good.specs.GoodStates.{IsMain}
-use Rattle.ms_runs_good.proofs.Bottoms.{StateBottom, shadow_bottom}
-use Rattle.ms_machine_steps.proofs.HeapBlocks.{same_turn}
+use Rattle.ms_machine_frames.specs.declared.fibers.Fiber.{Fiber}
+use Rattle.ms_good_laws.specs.GoodStates.{IsMain}
+use Rattle.ms_good_laws.proofs.Bottoms.{StateBottom, shadow_bottom}
+use Rattle.ms_machine_frames.proofs.HeapBlocks.{same_turn}
 use Rattle.ms_machine.specs.Running.{IsRunning}
 use Rattle.ms_follow_laws.specs.Follows.{light, bare_frame}
 use Rattle.ms_moves.specs.declared.moves.Source.{Source}
@@ -39,8 +39,8 @@ use Rattle.ms_moves.specs.Written.{callee_written, external_written, written}
 use Rattle.ms_moves.specs.Events.{Numbers, renumbered, innermost, result_move, return_move, param_moves, phi_moves, memory_moves, callee_moves, inst_moves, first_moves, frames_moves, event_moves}
 use Rattle.ms_moves.specs.Traces.{Traced}
 use Rattle.ms_trail.specs.declared.follower.Follower.{Follower}
-use Rattle.ms_trail.specs.Logs.{IsLog}
-use Rattle.ms_trail.specs.Tabled.{AreTables}
+use Rattle.ms_trail_bytes.specs.Logs.{IsLog}
+use Rattle.ms_trail_uses.specs.Tabled.{AreTables}
 use Rattle.ms_trail.specs.Following.{HaveShades, Went, IsFollowed}
 
 -- what no step changes of a follower
@@ -92,11 +92,6 @@ shaded_running m u fiber w w' next v r shows keeps good = record {
   sound = record { frames = r.sound.frames; slots = r.sound.slots; world = good };
   owns = record { spawned = r.owns.spawned ∙ same_turn w w' nothing_beside next.world v r.shows shows; blocks = r.owns.blocks };
 }
-
-pub good_poison : (a from to : ℕ) (w : World) → GoodWorld FitsCell w → GoodWorld FitsCell (poison a from to 0 w)
-good_poison a from to w g =
-    either (GoodWorld FitsCell) (ltb from to && is_good w _ _) _ w
-    (set_cells_good FitsCell _ _ 0 _ (set_shadow_good FitsCell _ _ (λ k. 255) w g (λ k. omega arith)) (omega arith)) g
 
 -- ---- moves of bytes, which don't look at where poisoned bits come from
 

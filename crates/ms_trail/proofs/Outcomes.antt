@@ -14,8 +14,8 @@ use Rattle.ms_runs.specs.Poisoned.{Poisoned}
 use Rattle.ms_runs.specs.Masks.{word_at}
 use Rattle.ms_host.specs.Answers.{resumed}
 use Rattle.ms_moves.specs.Written.{heap_place}
-use Rattle.ms_trail.specs.Shading.{Facts}
-use Rattle.ms_trail.proofs.Loaded.{word_number}
+use Rattle.ms_trail_bytes.specs.Shading.{Facts}
+use Rattle.ms_good_laws.proofs.Readings.{word_number}
 
 -- ---- effects that go on
 

@@ -9,8 +9,8 @@ use Rattle.ms_runs.specs.Memory.{fits, heap_size, is_good, next_base}
 use Rattle.ms_runs.specs.Origins.{copy_planes, poison, unpoison}
 use Rattle.ms_runs.specs.Poisoned.{Poisoned}
 use Rattle.ms_runs.specs.Masks.{word_at}
-use Rattle.ms_runs_good.specs.GoodWorlds.{GoodWorld, FitsCell}
-use Rattle.ms_runs_good.proofs.WorldChanges.{either, set_shadow_good}
+use Rattle.ms_good_laws.specs.GoodWorlds.{GoodWorld, FitsCell}
+use Rattle.ms_good_laws.proofs.WorldChanges.{either, set_shadow_good}
 use Rattle.ms_follow_laws.specs.Follows.{fill_shadow}
 use Rattle.ms_host.specs.State.{WorldState, Beside}
 use Rattle.ms_host.specs.Shows.{Shows}
@@ -19,9 +19,9 @@ use Rattle.ms_moves.specs.declared.moves.Move.{Move}
 use Rattle.ms_moves.specs.Sources.{source_at}
 use Rattle.ms_moves.specs.Written.{Filled, Copied, heap_place, made}
 use Rattle.ms_moves.specs.Events.{written_moves, memory_moves}
-use Rattle.ms_trail.specs.declared.logs.Log.{Log}
-use Rattle.ms_trail.specs.Logs.{IsLog}
-use Rattle.ms_trail.specs.Shading.{ShadedAs, Done}
+use Rattle.ms_trail_bytes.specs.declared.logs.Log.{Log}
+use Rattle.ms_trail_bytes.specs.Logs.{IsLog}
+use Rattle.ms_trail_bytes.specs.Shading.{ShadedAs, Done}
 
 pub value_at : (ps : List Poisoned) (k : ℕ) → get_or (map (λ p. p.value) ps) k 0 ≡ (word_at k ps).value
 value_at [] k = refl

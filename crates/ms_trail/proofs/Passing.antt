@@ -18,9 +18,9 @@ use Rattle.ms_moves.specs.declared.moves.Source.{Source}
 use Rattle.ms_moves.specs.Sources.{source_at}
 use Rattle.ms_moves.specs.Traces.{or_byte, read_by}
 use Rattle.ms_moves_laws.proofs.EndsAtUse.{found_byte, found_in}
-use Rattle.ms_trail.specs.declared.used.Used.{Used}
-use Rattle.ms_trail.specs.declared.used.Used.TheVariants as read
-use Rattle.ms_trail.specs.Used.{used_byte, or_used, first_read, source_of, Checked}
+use Rattle.ms_trail_uses.specs.declared.used.Used.{Used}
+use Rattle.ms_trail_uses.specs.declared.used.Used.TheVariants as read
+use Rattle.ms_trail_uses.specs.Used.{used_byte, or_used, first_read, source_of, Checked}
 
 -- ---- what is read
 
@@ -28,7 +28,7 @@ byte_source : (ss : List Source) (o : Option ℕ) (rest : Option Used) → or_by
 byte_source ss None rest = refl
 byte_source ss (Some a) rest = refl
 
-pub read_is : (w : World) (ps : List Poisoned) (ss : List Source) (us : List use_of.Use) → read_by w ps ss us ≡ source_of ss (first_read w ps us)
+pub read_is : (w : World) (ps : List Poisoned) (ss : List Source) (us : List use_of.CheckedUse) → read_by w ps ss us ≡ source_of ss (first_read w ps us)
 read_is w ps ss [] = refl
 read_is w ps ss (use_of.Word kind k ∷ us) = by_test (eqb (word_at k ps).mask 0) (read_is w ps ss us)
   where
@@ -84,7 +84,7 @@ module _ (s : Setting) (one : s.limit ≡ 1) (w : World) (site : ℕ) (os : List
       by_test true e = absurd (found x refl (eqb-true (w.shadow x) 0 e))
       by_test false e = reported (record { site = site; kind = kind; part = x - start; width = 8; mask = w.shadow x; origin = w.origins (x / 4); chain = trail s w (w.origins (x / 4)) }) go
 
-  pub uses_checked : (us : List use_of.Use) → Checked w (first_read w ps us) (check_uses s site os ps us w)
+  pub uses_checked : (us : List use_of.CheckedUse) → Checked w (first_read w ps us) (check_uses s site os ps us w)
   uses_checked [] = refl
   uses_checked (use_of.Word kind k ∷ us) =
       word_checked (word_at k ps).mask (width_of (type_at k os)) (word_at k ps).origin kind k (read.Operand k) (first_read w ps us) (check_uses s site os ps us) (uses_checked us)

@@ -11,22 +11,23 @@ use Rattle.ms_ir.specs.declared.syntax.Op.{Op}
 use Rattle.ms_ir.specs.declared.syntax.Op.TheVariants as op
 use Rattle.ms_ir.specs.declared.syntax.Inst.{Inst}
 use Rattle.ms_ir.specs.declared.syntax.Module.{Module}
-use Rattle.ms_ir.specs.Code.{insts_at, before, func_index, one_unmarked, roots_in, root_at, site_at, over_insts, NoMarks}
+use Rattle.ms_ir.specs.Instructions.{insts_at, before, func_index, one_unmarked, roots_in, root_at, site_at, over_insts, NoMarks}
+use Rattle.ms_ir.proofs.Sizes.{drop_next}
 use Rattle.ms_runs.specs.Control.{count_phis}
-use Rattle.ms_runs_good.proofs.Frames.{unmarked_at}
-use Rattle.ms_tables.proofs.Items.{drop_item}
-use Rattle.ms_code.proofs.Numbers.{counted, phis_below}
-use Rattle.ms_code_data.specs.Encodes.{number_of}
+use Rattle.ms_good_laws.proofs.Frames.{unmarked_at}
+use Rattle.ms_compile.proofs.Numbers.{counted, phis_below}
+use Rattle.ms_compile.proofs.Building.{drop-zero}
+use Rattle.ms_code.specs.Encodes.{number_of}
 use Rattle.ms_moves.specs.declared.moves.Target.TheVariants.{Value}
 use Rattle.ms_moves.specs.declared.moves.Move.{Move}
 use Rattle.ms_moves.specs.Edges.{edge_source}
-use Rattle.ms_trail.specs.declared.logs.Log.{Log}
-use Rattle.ms_trail.specs.declared.tables.Row.{Row}
-use Rattle.ms_trail.specs.Logs.{IsLog}
+use Rattle.ms_trail_bytes.specs.declared.logs.Log.{Log}
+use Rattle.ms_trail_uses.specs.declared.tables.Row.{Row}
+use Rattle.ms_trail_bytes.specs.Logs.{IsLog}
 use Rattle.ms_trail.specs.Phis.{phis_told}
-use Rattle.ms_trail.specs.Tabled.{HasRow, AreTables}
+use Rattle.ms_trail_uses.specs.Tabled.{HasRow, AreTables}
 use Rattle.ms_trail.specs.Telling.{masked_move}
-use Rattle.ms_trail.proofs.Sums.{inst_start, insts_taken}
+use Rattle.ms_trail_uses.proofs.Sums.{inst_start, insts_taken}
 
 -- ---- leading phis
 
@@ -118,8 +119,8 @@ module _ (m : Module) (f b : ℕ) where
           let inst_is : row.inst.now ≡ p.inst = ap (λ (r : Row). r.inst.now) row_is ∙ (row_of k p).is.inst_is in
           let roots : row.roots ≡ root_at (func_index m.funcs) m f b k = ap (λ (r : Row). r.roots) row_is ∙ (row_of k p).is.roots in
           let site_is : site ≡ site_at m f b k = sited' ∙ site_here k lt in
-          let insts : drop k (insts_at m f b) ≡ p.inst ∷ drop (k + 1) (insts_at m f b) = drop_item (insts_at m f b) k p.inst (slice_get_within (insts_at m f b) k p.inst p.stands) (read_at (insts_at m f b) k p.inst p.stands) in
-          let masks : drop k read ≡ mask ∷ drop (k + 1) read = drop_item read k mask lt (masked ∙ default read k lt mask) in
+          let insts : drop k (insts_at m f b) ≡ p.inst ∷ drop (k + 1) (insts_at m f b) = drop_next (insts_at m f b) k p.inst (slice_get_within (insts_at m f b) k p.inst p.stands) (read_at (insts_at m f b) k p.inst p.stands) in
+          let masks : drop k read ≡ mask ∷ drop (k + 1) read = drop_next read k mask lt (masked ∙ default read k lt mask) in
           let site_next : site_at m f b k + one_unmarked p.inst ≡ site_at m f b (k + 1) = omega (arith, count_on one_unmarked k p.inst p.stands) in
           let one : List Move = masked_move event site mask (edge_source frame p.ty from p.edges row.roots) (Value frame (unwrap_or row.inst.now.result (Number 0))) in
           let head : left k ≡ one ++ left (k + 1) =
@@ -147,10 +148,6 @@ module _ (m : Module) (f b : ℕ) where
 
 -- ---- all of them
 
-drop_none : {A : Type 0} (xs : List A) → drop 0 xs ≡ xs
-drop_none [] = refl
-drop_none (x ∷ xs) = refl
-
 none_told : (event frame : ℕ) (func : Name → Option ℕ) (from : Name) (insts : List Inst) (n site : ℕ) → phis_told event frame func from insts n site [] ≡ []
 none_told event frame func from [] n site = refl
 none_told event frame func from (i ∷ is) n site = refl
@@ -170,7 +167,7 @@ so_far_none rows first read event site frame from log = record {
     moves,
     (
       is,
-      (λ j. moves ++ phis_told event frame (func_index m.funcs) from (sym (drop_none (insts_at m f b)) j) (root_at (func_index m.funcs) m f b 0) (site_at m f b 0) (sym (drop_none read) j)),
+      (λ j. moves ++ phis_told event frame (func_index m.funcs) from (sym (drop-zero (insts_at m f b)) j) (root_at (func_index m.funcs) m f b 0) (site_at m f b 0) (sym (drop-zero read) j)),
     ),
   );
   count = omega arith;

@@ -6,21 +6,21 @@ use Rattle.ms_ir.specs.declared.calls.External.{External}
 use Rattle.ms_ir.specs.declared.syntax.Func.{Func}
 use Rattle.ms_ir.specs.declared.syntax.Inst.{Inst}
 use Rattle.ms_ir.specs.declared.syntax.Module.{Module}
-use Rattle.ms_ir.specs.Code.{func_at, func_index, insts_at, operands, count_undefs, is_root, roots_in, root_at, count_roots, NoMarks}
-use Rattle.ms_runs_good.proofs.Frames.{unmarked_at}
-use Rattle.ms_runs_good.proofs.Counted.{counted_within}
-use Rattle.ms_code_data.specs.declared.code.Code.{Code}
-use Rattle.ms_code_data.specs.declared.code.Code.TheVariants as code
-use Rattle.ms_code_data.specs.declared.code.Routine.{Routine}
-use Rattle.ms_code_data.specs.Fits.{Fits, IsSource, IsPut}
-use Rattle.ms_code_data.specs.declared.code.Source.{Source}
+use Rattle.ms_ir.specs.Instructions.{func_at, func_index, insts_at, operands, count_undefs, is_root, roots_in, root_at, count_roots, NoMarks}
+use Rattle.ms_good_laws.proofs.Frames.{unmarked_at}
+use Rattle.ms_good_laws.proofs.Counted.{counted_within}
+use Rattle.ms_code.specs.declared.code.Code.{Code}
+use Rattle.ms_code.specs.declared.code.Code.TheVariants as code
+use Rattle.ms_code.specs.declared.code.Routine.{Routine}
+use Rattle.ms_code.specs.Fits.{Fits, IsSource, IsPut}
+use Rattle.ms_code.specs.declared.code.Source.{Source}
 use Rattle.ms_host.specs.State.{nothing_beside}
-use Rattle.ms_machine_steps.specs.Meaning.{phis_in, put_of}
+use Rattle.ms_machine_frames.specs.Meaning.{phis_in, put_of}
 use Rattle.ms_machine.specs.Running.{Runs}
 use Rattle.ms_trail.specs.declared.follower.Follower.{Follower}
-use Rattle.ms_trail.specs.declared.tables.Row.{Row}
-use Rattle.ms_trail.specs.Tabled.{HasRow}
-use Rattle.ms_trail.specs.Due.{sets_at}
+use Rattle.ms_trail_uses.specs.declared.tables.Row.{Row}
+use Rattle.ms_trail_uses.specs.Tabled.{HasRow}
+use Rattle.ms_trail_uses.specs.Due.{sets_at}
 use Rattle.ms_trail.specs.Ready.{IsReady}
 use Rattle.ms_trail.proofs.DueCode.{DueNow, due_now, holds_now}
 

@@ -5,7 +5,7 @@ use Rattle.std.proofs.lemmas.Bool.{eqb-false}
 use Rattle.ms_ir.specs.declared.syntax.Name.{Name}
 use Rattle.ms_ir.specs.declared.syntax.Inst.{Inst}
 use Rattle.ms_ir.specs.declared.syntax.Module.{Module}
-use Rattle.ms_ir.specs.Code.{operands}
+use Rattle.ms_ir.specs.Instructions.{operands}
 use Rattle.ms_ir.specs.Locals.{locals}
 use Rattle.ms_runs.specs.declared.runs.Setup.{Setup}
 use Rattle.ms_runs.specs.World.{World, Setting, Here, Does}
@@ -16,12 +16,12 @@ use Rattle.ms_runs.specs.Poisoned.{Poisoned}
 use Rattle.ms_runs.specs.Masks.{by_formulas, union, result_mask}
 use Rattle.ms_runs.specs.Uses.{uses, check_uses, blinded}
 use Rattle.ms_runs.specs.Shadow.{ShadowState, read_poisoned, poisoned_result, shadow_step}
-use Rattle.ms_code_data.specs.Reads.{Holds, IsPlace}
+use Rattle.ms_code.specs.Reads.{Holds, IsPlace}
 use Rattle.ms_host.specs.State.{nothing_beside}
 use Rattle.ms_printf.specs.CallSites.{AreCallSites}
 use Rattle.ms_machine_steps.specs.Advances.{step_of}
-use Rattle.ms_runs_good.specs.GoodStates.{IsMain}
-use Rattle.ms_runs_good.proofs.Bottoms.{StateBottom, shadow_bottom}
+use Rattle.ms_good_laws.specs.GoodStates.{IsMain}
+use Rattle.ms_good_laws.proofs.Bottoms.{StateBottom, shadow_bottom}
 use Rattle.ms_machine.specs.Running.{IsRunning}
 use Rattle.ms_follow_laws.specs.Follows.{light}
 use Rattle.ms_moves.specs.declared.moves.Source.{Source}
@@ -32,9 +32,9 @@ use Rattle.ms_moves.specs.Sources.{sources, result_source}
 use Rattle.ms_moves.specs.Events.{Numbers, renumbered, innermost, moved, event_moves}
 use Rattle.ms_moves.specs.Traces.{Traced, traced_on}
 use Rattle.ms_trail.specs.declared.follower.Follower.{Follower}
-use Rattle.ms_trail.specs.declared.shades.Shade.{Shade}
-use Rattle.ms_trail.specs.Logs.{IsLog}
-use Rattle.ms_trail.specs.Tabled.{AreTables}
+use Rattle.ms_trail_uses.specs.declared.shades.Shade.{Shade}
+use Rattle.ms_trail_bytes.specs.Logs.{IsLog}
+use Rattle.ms_trail_uses.specs.Tabled.{AreTables}
 use Rattle.ms_trail.specs.Telling.{masked_move}
 use Rattle.ms_trail.specs.Following.{HaveShades, HasShade, IsFollowed}
 use Rattle.ms_trail.proofs.Going.{goes, acts}

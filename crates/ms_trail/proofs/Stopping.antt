@@ -5,7 +5,7 @@ use Rattle.ms_bits.specs.declared.traps.Trap.TheVariants as trap
 use Rattle.ms_ir.specs.declared.syntax.Op.{Op}
 use Rattle.ms_ir.specs.declared.syntax.Inst.{Inst}
 use Rattle.ms_ir.specs.declared.syntax.Module.{Module}
-use Rattle.ms_ir.specs.Code.{operands, count_undefs}
+use Rattle.ms_ir.specs.Instructions.{operands, count_undefs}
 use Rattle.ms_runs.specs.declared.runs.End.{End}
 use Rattle.ms_runs.specs.declared.runs.End.TheVariants as «end»
 use Rattle.ms_runs.specs.declared.runs.Setup.{Setup}
@@ -18,14 +18,14 @@ use Rattle.ms_runs.specs.Poisoned.{Poisoned}
 use Rattle.ms_runs.specs.Masks.{by_formulas, union}
 use Rattle.ms_runs.specs.Uses.{blinded}
 use Rattle.ms_runs.specs.Shadow.{read_poisoned, shadow_reading, planes, shadow_moved, poisoned_result, shadow_step}
-use Rattle.ms_runs_good.proofs.Frames.{unmarked_at}
-use Rattle.ms_code_data.specs.declared.code.Code.{Code}
-use Rattle.ms_code_data.specs.declared.code.Code.TheVariants as code
-use Rattle.ms_code_data.specs.Encodes.{Encodes}
-use Rattle.ms_code_data.specs.Compiled.{where_is}
+use Rattle.ms_good_laws.proofs.Frames.{unmarked_at}
+use Rattle.ms_code.specs.declared.code.Code.{Code}
+use Rattle.ms_code.specs.declared.code.Code.TheVariants as code
+use Rattle.ms_code.specs.Encodes.{Encodes}
+use Rattle.ms_code.specs.Compiled.{where_is}
 use Rattle.ms_moves.specs.Traces.{Traced}
 use Rattle.ms_trail.specs.declared.follower.Follower.{Follower}
-use Rattle.ms_trail.specs.Due.{IsDue, sets_at}
+use Rattle.ms_trail_uses.specs.Due.{IsDue, sets_at}
 use Rattle.ms_trail.specs.Following.{Passes, Went, IsFollowed}
 use Rattle.ms_trail.proofs.Going.{acts, not_reported}
 use Rattle.ms_trail.proofs.DueCode.{DueNow, due_now}

@@ -1,13 +1,12 @@
 -- Logs of moves of words.
-use Rattle.std.proofs.Common.{◌≡◌, ℕ, Bool, List, [], ◌∷◌, ◌++◌, if◌then◌else◌, sym, ap, ◌∙◌, subst, append-nil, eq-eqb, Result, Ok, Err}
-use Rattle.std.specs.Prelude.{OnOk, IfOk}
+use Rattle.std.proofs.Common.{◌≡◌, ℕ, Bool, List, [], ◌∷◌, ◌++◌, if◌then◌else◌, sym, ap, ◌∙◌, subst, append-nil, eq-eqb}
 use Rattle.std.proofs.lemmas.Bool.{ne_eqb}
 use Rattle.ms_moves.specs.declared.moves.Source.{Source}
 use Rattle.ms_moves.specs.declared.moves.Target.{Target}
 use Rattle.ms_moves.specs.declared.moves.Move.{Move}
 use Rattle.ms_moves.specs.Events.{moved}
-use Rattle.ms_trail.specs.declared.logs.Log.{Log}
-use Rattle.ms_trail.specs.Logs.{IsLog}
+use Rattle.ms_trail_bytes.specs.declared.logs.Log.{Log}
+use Rattle.ms_trail_bytes.specs.Logs.{IsLog}
 use Rattle.ms_trail.specs.Telling.{masked_move}
 
 -- a clean word is no move
@@ -21,15 +20,3 @@ pub told_one : (log : Log) (moves : List Move) (event site mask : ℕ) (from fro
 told_one log moves event site mask from from' to to' some same there is =
     subst (λ (ms : List Move). IsLog log ms)
     ((λ i. moves ++ moved event site (same i) (there i) ∷ []) ∙ sym (ap (λ (b : Bool). moves ++ (if b then [] else moved event site from to ∷ [])) (ne_eqb mask 0 some))) is
-
-pub on_told : {A E : Type 0} (r : Result A E) (P Q : Type 0) → (P → Q) → OnOk r P → OnOk r Q
-on_told (Ok a) P Q f h = f h
-on_told (Err e) P Q f h = h
-
-pub if_told : {A E : Type 0} (r : Result A E) (P Q : A → Type 0) → ((a : A) → P a → Q a) → IfOk r P → IfOk r Q
-if_told (Ok a) P Q f h = f a h
-if_told (Err e) P Q f h = h
-
-pub on_any : {A E : Type 0} (r : Result A E) (P : Type 0) → P → OnOk r P
-on_any (Ok a) P h = h
-on_any (Err e) P h = tt

@@ -18,8 +18,8 @@ use Rattle.ms_trail.specs.declared.follower.Follower.{Follower}
 use Rattle.ms_trail.specs.declared.follower.Turn.{Turn}
 use Rattle.ms_trail.specs.declared.follower.Turn.TheVariants as turn
 use Rattle.ms_trail.specs.declared.found.Trace.TheVariants as found
-use Rattle.ms_trail.specs.declared.logs.Log.{Log}
-use Rattle.ms_trail.specs.Logs.{move_limit, IsLog}
+use Rattle.ms_trail_bytes.specs.declared.logs.Log.{Log}
+use Rattle.ms_trail_bytes.specs.Logs.{move_limit, IsLog}
 use Rattle.ms_trail.specs.Following.{IsFollowed, Turned}
 use Rattle.ms_trail.specs.Ready.{HasRoom, Grew, IsGoing}
 use Rattle.ms_trail.specs.Tracing.{limited}

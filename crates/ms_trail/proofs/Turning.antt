@@ -1,9 +1,9 @@
 -- Turns of a follower.
-use Rattle.ms_code_data.specs.declared.code.Code.{Code}
+use Rattle.ms_code.specs.declared.code.Code.{Code}
 use Rattle.ms_host.specs.State.{nothing_beside}
 use Rattle.ms_machine.specs.Running.{Runs}
 use Rattle.ms_trail.specs.declared.follower.Follower.{Follower}
-use Rattle.ms_trail.specs.Due.{IsDue}
+use Rattle.ms_trail_uses.specs.Due.{IsDue}
 use Rattle.ms_trail.specs.Following.{Passes}
 use Rattle.ms_trail.specs.Ready.{FitsHere, IsGoing, IsReady}
 

@@ -1,7 +1,6 @@
 -- A step by an instruction that sets its result, and nothing else: the frames, the shadow and the moves behind it.
-use Rattle.std.proofs.Common.{◌≡◌, ◌+◌, ◌-◌, ℕ, Bool, true, false, ltb, List, [], ◌∷◌, map, drop, length, if◌then◌else◌, Some, None, Result, Ok, Err, refl, sym, ap, ◌∙◌, arith}
+use Rattle.std.proofs.Common.{◌≡◌, ◌+◌, ◌-◌, ℕ, Bool, true, false, List, [], ◌∷◌, map, drop, length, if◌then◌else◌, Some, None, Result, Ok, Err, refl, sym, ap, ◌∙◌, arith}
 use Rattle.std.specs.Prelude.{set}
-use Rattle.std.proofs.lemmas.Bool.{ltb-true}
 use Rattle.ms_bits.specs.declared.traps.Trap.{Trap}
 use Rattle.ms_ir.specs.declared.syntax.Name.{Name}
 use Rattle.ms_ir.specs.declared.syntax.Op.{Op}
@@ -10,7 +9,7 @@ use Rattle.ms_ir.specs.declared.syntax.Inst.{Inst}
 use Rattle.ms_ir.specs.declared.syntax.Module.{Module}
 use Rattle.ms_ir.specs.Names.{name_eq}
 use Rattle.ms_ir.specs.Layout.{stored_size}
-use Rattle.ms_ir.specs.Code.{operands, count_undefs, insts_at, site_at, root_at, external_named}
+use Rattle.ms_ir.specs.Instructions.{operands, count_undefs, insts_at, site_at, root_at, external_named}
 use Rattle.ms_runs.specs.World.{World, Setting, Here, Effect, Gives, Does, Goes, Enters, Leaves, Ends, word, gives}
 use Rattle.ms_runs.specs.Memory.{is_good}
 use Rattle.ms_runs.proofs.HeapBlocks.{keeps_none}
@@ -21,7 +20,7 @@ use Rattle.ms_runs.specs.Poisoned.{Poisoned}
 use Rattle.ms_runs.specs.Masks.{by_formulas, word_at}
 use Rattle.ms_runs.specs.Shadow.{ShadowState, read_poisoned, shadow_reading, planes, shadow_moved, poisoned_result, shadow_act}
 use Rattle.ms_valid.proofs.NameTests.{name_same}
-use Rattle.ms_code_data.specs.Reads.{Holds, IsPlace}
+use Rattle.ms_code.specs.Reads.{Holds, IsPlace}
 use Rattle.ms_machine_steps.proofs.Dense.{set_holds}
 use Rattle.ms_follow_laws.specs.Follows.{shadow_left, leave_shadow, first_shadow, step_shadow, frames_shadow}
 use Rattle.ms_moves.specs.declared.moves.Source.{Source}
@@ -31,6 +30,7 @@ use Rattle.ms_moves.specs.Sources.{operand_source, sources, source_at, result_so
 use Rattle.ms_moves.specs.Written.{written}
 use Rattle.ms_moves.specs.Events.{Numbers, renumbered, innermost, word_move, result_move, return_move, param_moves, phi_moves, memory_moves, callee_moves, inst_moves, first_moves, frames_moves, event_moves}
 use Rattle.ms_trail.specs.Telling.{masked_move}
+use Rattle.ms_moves_laws.proofs.StepMoves.{less_itself}
 
 -- ---- which operations these are
 
@@ -68,16 +68,6 @@ act_settled s h (op.Load t a) vs w v = either_settled w (is_good w (word 0 vs) (
 act_settled s h (op.Gep t a is) vs w v = refl
 act_settled s h _ vs w v = absurd v
 
-planes_same : (s : Setting) (site root : ℕ) (o : Op) (ps : List Poisoned) (before : World) (n : ℕ) (w : World) → IsValued o → planes s site root o ps before n w ≡ w
-planes_same s site root (op.Binary o f t a b) ps before n w v = refl
-planes_same s site root (op.Icmp o f t a b) ps before n w v = refl
-planes_same s site root (op.Cast o f t a u) ps before n w v = refl
-planes_same s site root (op.Select c t a b) ps before n w v = refl
-planes_same s site root (op.Freeze t a) ps before n w v = refl
-planes_same s site root (op.Load t a) ps before n w v = refl
-planes_same s site root (op.Gep t a is) ps before n w v = refl
-planes_same s site root _ ps before n w v = absurd v
-
 left_same : (s : Setting) (o : Op) (ps : List Poisoned) (before : World) (n : ℕ) (w : World) → IsValued o → shadow_left s o ps before n w ≡ w
 left_same s (op.Binary o f t a b) ps before n w v = refl
 left_same s (op.Icmp o f t a b) ps before n w v = refl
@@ -97,13 +87,6 @@ leaves_same (Leaves u) after w h = refl
 leaves_same (Ends e u) after w h = refl
 
 -- ---- numbers of frames
-
-less_itself : (n : ℕ) → ltb n n ≡ false
-less_itself n = by_test (ltb n n) refl
-  where
-    by_test : (b : Bool) → ltb n n ≡ b → b ≡ false
-    by_test true e = absurd (omega (arith, ltb-true n n e))
-    by_test false e = refl
 
 drop_none : {A : Type 0} (xs : List A) (k : ℕ) → k ≡ 0 → drop k xs ≡ xs
 drop_none xs k none = ap (λ n. drop n xs) none ∙ start xs

@@ -12,7 +12,7 @@ use Rattle.ms_ir.specs.declared.syntax.Inst.{Inst}
 use Rattle.ms_ir.specs.declared.syntax.Module.{Module}
 use Rattle.ms_ir.specs.Layout.{stored_size, size_in}
 use Rattle.ms_ir.specs.Locals.{locals}
-use Rattle.ms_ir.specs.Code.{operands, count_undefs, site_at}
+use Rattle.ms_ir.specs.Instructions.{operands, count_undefs, site_at}
 use Rattle.ms_runs.specs.declared.runs.Setup.{Setup}
 use Rattle.ms_runs.specs.World.{World, Setting, Here, Effect, Gives, Does, traps}
 use Rattle.ms_runs.specs.Memory.{fits, local_area, next_base, is_good, make_unset, store_number, set_shadow}
@@ -25,21 +25,22 @@ use Rattle.ms_runs.specs.Poisoned.{Poisoned}
 use Rattle.ms_runs.specs.Masks.{by_formulas, union, word_at, result_mask}
 use Rattle.ms_runs.specs.Uses.{blinded}
 use Rattle.ms_runs.specs.Shadow.{ShadowState, read_poisoned, planes, shadow_moved, poisoned_result, shadow_act, shadow_step}
-use Rattle.ms_runs_good.specs.GoodWorlds.{FitsCell}
-use Rattle.ms_runs_good.proofs.WorldChanges.{byte_below, set_shadow_good}
-use Rattle.ms_runs_good.proofs.ExternalEffects.{fits_small}
+use Rattle.ms_good_laws.specs.GoodWorlds.{FitsCell}
+use Rattle.ms_good_laws.proofs.WorldChanges.{set_shadow_good}
+use Rattle.ms_good_laws.proofs.ExternalEffects.{fits_small}
+use Rattle.ms_good_laws.proofs.Readings.{word_number}
 use Rattle.ms_valid.proofs.NameTests.{name_same}
-use Rattle.ms_code_data.specs.declared.code.Source.{Source as Operand}
-use Rattle.ms_code_data.specs.declared.code.Code.{Code}
-use Rattle.ms_code_data.specs.declared.code.Code.TheVariants as code
-use Rattle.ms_code_data.specs.Words.{word_of}
-use Rattle.ms_code_data.specs.Reads.{Holds, IsPlace, IsResult}
-use Rattle.ms_code_data.specs.Encodes.{Where, Encodes}
-use Rattle.ms_code_data.specs.Compiled.{where_is}
+use Rattle.ms_code.specs.declared.code.Source.{Source as Operand}
+use Rattle.ms_code.specs.declared.code.Code.{Code}
+use Rattle.ms_code.specs.declared.code.Code.TheVariants as code
+use Rattle.ms_code.specs.Words.{word_of}
+use Rattle.ms_code.specs.Reads.{Holds, IsPlace, IsResult}
+use Rattle.ms_code.specs.Encodes.{Where, Encodes}
+use Rattle.ms_code.specs.Compiled.{where_is}
 use Rattle.ms_host.specs.State.{WorldState, Beside, Keeps, nothing_beside}
 use Rattle.ms_host.specs.Shows.{Shows}
-use Rattle.ms_machine_steps.specs.declared.fibers.Fiber.{Fiber}
-use Rattle.ms_machine_steps.specs.Standing.{frames_of}
+use Rattle.ms_machine_frames.specs.declared.fibers.Fiber.{Fiber}
+use Rattle.ms_machine_frames.specs.Standing.{frames_of}
 use Rattle.ms_machine_steps.specs.Advances.{step_of}
 use Rattle.ms_machine.specs.Running.{StandsFor, AllStandFor, IsRunning}
 use Rattle.ms_follow_laws.specs.Follows.{light, bare_frame, shadow_left, leave_shadow, first_shadow, frames_shadow, step_shadow}
@@ -52,19 +53,21 @@ use Rattle.ms_moves.specs.Events.{innermost, written_moves, memory_moves, event_
 use Rattle.ms_moves.specs.Traces.{Traced}
 use Rattle.ms_shades.specs.Shades.{mask_of}
 use Rattle.ms_trail.specs.declared.follower.Follower.{Follower}
-use Rattle.ms_trail.specs.declared.shades.Shade.{Shade}
-use Rattle.ms_trail.specs.declared.tables.Row.{Row}
-use Rattle.ms_trail.specs.Logs.{IsLog}
-use Rattle.ms_trail.specs.Tabled.{HasRow}
-use Rattle.ms_trail.specs.Due.{IsDue}
+use Rattle.ms_trail_uses.specs.declared.shades.Shade.{Shade}
+use Rattle.ms_trail_uses.specs.declared.tables.Row.{Row}
+use Rattle.ms_trail_bytes.specs.Logs.{IsLog}
+use Rattle.ms_trail_uses.specs.Tabled.{HasRow}
+use Rattle.ms_trail_uses.specs.Due.{IsDue}
 use Rattle.ms_trail.specs.Following.{HasShade, HaveShades, Passes, Went, IsFollowed}
-use Rattle.ms_trail.proofs.CodeUses.{source_word, source_mask}
+use Rattle.ms_trail_uses.proofs.CodeUses.{source_word, source_mask}
 use Rattle.ms_trail.proofs.Going.{goes, acts}
 use Rattle.ms_trail.proofs.Valued.{same_numbers, masks_set}
 use Rattle.ms_trail.proofs.ResultSteps.{TopShade, KeepsCalls, shades_count, top}
 use Rattle.ms_trail.proofs.DueCode.{DueNow, due_now, holds_now}
-use Rattle.ms_trail.proofs.Loaded.{IsEnd, word_number, not_ended}
-use Rattle.ms_trail.proofs.Onward.{onward, shaded_running, good_poison, memory_same, gives_state, does_state, moves_at, IsWriting, writing_moves}
+use Rattle.ms_trail.proofs.Loaded.{IsEnd, not_ended}
+use Rattle.ms_trail.proofs.Onward.{onward, shaded_running, memory_same, gives_state, does_state, moves_at, IsWriting, writing_moves}
+use Rattle.ms_trail_bytes.proofs.Filling.{good_poison}
+use Rattle.ms_bits_laws.proofs.MapLemmas.{byte_of-lt}
 
 module _ (m : Module) (u : Setup) (t : Traced) (old : Follower) (o : IsFollowed m u t old) (k : Code) (passes : Passes m u t) (due : IsDue m old.fiber old.world k) (next : PlainState) (took : step_of m u o.state ≡ More next) where
   abbrev pub now : DueNow m u t old o k
@@ -359,7 +362,7 @@ module _ (m : Module) (u : Setup) (t : Traced) (old : Follower) (o : IsFollowed 
               masks = its.shade_is.masks;
             }) in
             wrote (subst IsWriting (sym s_is) tt) (one_on now.frame) (sym (ap (λ (c : ShadowState). c.frames) s_state)) v (v_is ∙ sym (s_shade next.world)) new
-            (shaded_running m u new.fiber w new.world next v running stored.0 slots (set_shadow_good FitsCell first size (byte_of mask) next.world running.sound.world (byte_below mask))) keeps event shade site (site_same site site_is)
+            (shaded_running m u new.fiber w new.world next v running stored.0 slots (set_shadow_good FitsCell first size (byte_of mask) next.world running.sound.world (byte_of-lt mask))) keeps event shade site (site_same site site_is)
             (subst (λ (ms : List Move). IsLog new.log (t.moves ++ ms))
             (sym (append-nil (written_moves old.event site v.shadow (Filled first size from)))
             ∙ (λ j. written_moves old.event site v.shadow (Filled (same_first j) (same_size j) (same_from j)) ++ [])

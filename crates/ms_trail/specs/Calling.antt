@@ -1,6 +1,6 @@
 -- Moves of arguments, by their masks (own).
 use Rattle.std.specs.Prelude.{ℕ, ◌+◌, List, [], ◌∷◌, ◌++◌, get_or, Option, Some, None}
-use Rattle.ms_machine_steps.specs.Meaning.{put_value}
+use Rattle.ms_machine_frames.specs.Meaning.{put_value}
 use Rattle.ms_ir.specs.declared.syntax.Name.{Name}
 use Rattle.ms_ir.specs.declared.syntax.Ty.{Ty}
 use Rattle.ms_moves.specs.declared.moves.Source.{Source}

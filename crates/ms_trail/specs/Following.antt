@@ -5,7 +5,7 @@ use Rattle.ms_ir.specs.ThreadCalls.{is_threaded}
 use Rattle.ms_ir.specs.declared.syntax.Func.{Func}
 use Rattle.ms_ir.specs.declared.syntax.Module.{Module}
 use Rattle.ms_ir.specs.declared.syntax.Inst.{Inst}
-use Rattle.ms_ir.specs.Code.{func_at, operands, count_roots, NoMarks}
+use Rattle.ms_ir.specs.Instructions.{func_at, operands, count_roots, NoMarks}
 use Rattle.ms_ir.specs.Locals.{locals}
 use Rattle.ms_runs.specs.declared.runs.End.{End}
 use Rattle.ms_runs.specs.declared.runs.End.TheVariants as «end»
@@ -17,19 +17,19 @@ use Rattle.ms_runs.specs.Poisoned.{Poisoned}
 use Rattle.ms_runs.specs.Masks.{by_formulas}
 use Rattle.ms_runs.specs.Uses.{uses, check_uses}
 use Rattle.ms_runs.specs.Shadow.{ShadowState, read_poisoned, shadow_step}
-use Rattle.ms_code_data.specs.Reads.{Holds}
+use Rattle.ms_code.specs.Reads.{Holds}
 use Rattle.ms_host.specs.State.{nothing_beside}
 use Rattle.ms_printf.specs.CallSites.{AreCallSites}
-use Rattle.ms_runs_good.specs.GoodStates.{IsMain, Bottom}
+use Rattle.ms_good_laws.specs.GoodStates.{IsMain, Bottom}
 use Rattle.ms_machine.specs.Running.{IsRunning}
 use Rattle.ms_follow_laws.specs.Follows.{Follows}
 use Rattle.ms_moves.specs.Traces.{Traced, traced_on, use_of}
 use Rattle.ms_trail.specs.declared.follower.Follower.{Follower}
 use Rattle.ms_trail.specs.declared.follower.Turn.{Turn}
 use Rattle.ms_trail.specs.declared.follower.Turn.TheVariants as turn
-use Rattle.ms_trail.specs.declared.shades.Shade.{Shade}
-use Rattle.ms_trail.specs.Logs.{IsLog}
-use Rattle.ms_trail.specs.Tabled.{AreTables}
+use Rattle.ms_trail_uses.specs.declared.shades.Shade.{Shade}
+use Rattle.ms_trail_bytes.specs.Logs.{IsLog}
+use Rattle.ms_trail_uses.specs.Tabled.{AreTables}
 
 -- a call's masks, under its number, are those of a frame's values
 pub record HasShade (m : Module) (number : ℕ) (frame : Frame Poisoned) (shade : Shade) : Type 0 where

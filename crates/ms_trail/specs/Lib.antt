@@ -1,17 +1,8 @@
-pub mod Due
 pub mod Following
-pub mod Logs
 pub mod Ready
-pub mod Tabled
 pub mod Tracing
 pub mod Turning
-pub mod Taken
-pub mod Origins
 pub mod Phis
-pub mod Spans
 pub mod Telling
-pub mod Stepping
-pub mod Used
 pub mod Calling
 pub mod Asking
-pub mod Shading

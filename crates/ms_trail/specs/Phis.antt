@@ -4,11 +4,11 @@ use Rattle.ms_ir.specs.declared.syntax.Name.{Name}
 use Rattle.ms_ir.specs.declared.syntax.Name.TheVariants.{Number}
 use Rattle.ms_ir.specs.declared.syntax.Op.TheVariants as op
 use Rattle.ms_ir.specs.declared.syntax.Inst.{Inst}
-use Rattle.ms_ir.specs.Code.{operands, count_undefs, one_unmarked, roots_in}
+use Rattle.ms_ir.specs.Instructions.{operands, count_undefs, one_unmarked, roots_in}
 use Rattle.ms_moves.specs.declared.moves.Target.TheVariants.{Value}
 use Rattle.ms_moves.specs.declared.moves.Move.{Move}
 use Rattle.ms_moves.specs.Edges.{edge_source}
-use Rattle.ms_trail.specs.declared.tables.Row.{Row}
+use Rattle.ms_trail_uses.specs.declared.tables.Row.{Row}
 use Rattle.ms_trail.specs.Telling.{masked_move}
 
 -- the moves of the phis that instructions begin with, whose masks are given; n roots and a site come before

@@ -1,14 +1,14 @@
 -- Followers that may take one more step, and what a step adds to them (own).
 use Rattle.std.specs.Prelude.{◌≡◌, ◌≤◌, ◌<◌, ◌+◌, ◌^◌, List, length}
 use Rattle.ms_runs.specs.declared.runs.Setup.{Setup}
-use Rattle.ms_code_data.specs.declared.code.Code.{Code}
-use Rattle.ms_code_data.specs.declared.code.Routine.{Routine}
-use Rattle.ms_code_data.specs.Fits.{Fits}
-use Rattle.ms_machine_steps.specs.declared.fibers.Fiber.{Fiber}
-use Rattle.ms_machine_steps.specs.Meaning.{phis_in}
+use Rattle.ms_code.specs.declared.code.Code.{Code}
+use Rattle.ms_code.specs.declared.code.Routine.{Routine}
+use Rattle.ms_code.specs.Fits.{Fits}
+use Rattle.ms_machine_frames.specs.declared.fibers.Fiber.{Fiber}
+use Rattle.ms_machine_frames.specs.Meaning.{phis_in}
 use Rattle.ms_moves.specs.Traces.{Traced}
 use Rattle.ms_trail.specs.declared.follower.Follower.{Follower}
-use Rattle.ms_trail.specs.Due.{IsDue}
+use Rattle.ms_trail_uses.specs.Due.{IsDue}
 use Rattle.ms_trail.specs.Following.{IsFollowed, Passes}
 
 -- what code needs is there, in the frame at which a fiber stands

@@ -2,7 +2,7 @@
 use Rattle.std.specs.Prelude.{◌≡◌, ℕ, List, [], ◌∷◌, Option, Some, None}
 use Rattle.ms_ir.specs.declared.syntax.Inst.{Inst}
 use Rattle.ms_ir.specs.declared.syntax.Module.{Module}
-use Rattle.ms_ir.specs.Code.{operands}
+use Rattle.ms_ir.specs.Instructions.{operands}
 use Rattle.ms_runs.specs.declared.runs.End.TheVariants as «end»
 use Rattle.ms_runs.specs.declared.runs.Setup.{Setup}
 use Rattle.ms_runs.specs.World.{World, Setting}
@@ -15,8 +15,8 @@ use Rattle.ms_moves.specs.declared.moves.Source.{Source}
 use Rattle.ms_moves.specs.Sources.{sources}
 use Rattle.ms_moves.specs.Events.{Numbers, innermost}
 use Rattle.ms_moves.specs.Traces.{Traced, use_of}
-use Rattle.ms_trail.specs.declared.used.Used.{Used}
-use Rattle.ms_trail.specs.Used.{source_of}
+use Rattle.ms_trail_uses.specs.declared.used.Used.{Used}
+use Rattle.ms_trail_uses.specs.Used.{source_of}
 use Rattle.ms_trail.specs.Following.{Passes}
 
 -- what the operands of the instruction that is due are read from

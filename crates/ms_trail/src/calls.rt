@@ -1,9 +1,9 @@
 //! Calls and returns.
 ghost use Rattle.std.specs.Prelude.{◌≡◌, ◌≤◌, ◌<◌, ◌+◌, ◌-◌, ◌^◌, ◌++◌, List, length, replicate, slice_get, Some, All, IfOk, OnOk};
-ghost use Rattle.ms_ir.specs.Code.{operands, count_undefs};
+ghost use Rattle.ms_ir.specs.Instructions.{operands, count_undefs};
 ghost use Rattle.ms_runs.specs.declared.runs.Setup.{Setup};
-ghost use Rattle.ms_code_data.specs.Fits.{IsSource, IsPut};
-ghost use Rattle.ms_machine_steps.specs.Meaning.{put_of, put_value};
+ghost use Rattle.ms_code.specs.Fits.{IsSource, IsPut};
+ghost use Rattle.ms_machine_frames.specs.Meaning.{put_of, put_value};
 ghost use Rattle.ms_moves.specs.declared.moves.Move.{Move as MoveOf};
 ghost use Rattle.ms_moves.specs.Sources.{sources, source_at as source_in};
 ghost use Rattle.ms_moves.specs.Traces.{Traced};
@@ -11,23 +11,23 @@ ghost use Rattle.ms_shades.specs.Shades.{masks_of};
 ghost use Rattle.ms_shades.specs.Views.{IsView};
 ghost use Rattle.ms_trail.specs.Calling.{params_told, returned_told};
 ghost use Rattle.ms_trail.specs.Following.{IsFollowed, Passes, Went};
-ghost use Rattle.ms_trail.specs.Logs.{IsLog};
+ghost use Rattle.ms_trail_bytes.specs.Logs.{IsLog};
 ghost use Rattle.ms_trail.specs.Ready.{Grew, IsReady};
 
 use crate::due::{code_at, due_site};
 use crate::follower::Follower;
-use crate::logs::Log;
 use crate::results::put_mask;
-use crate::shades::Shade;
-use crate::spans::Stamp;
-use crate::steps::step;
-use crate::tables::Row;
 use crate::words::{tell_param, tell_return};
 use ms_bits::NoMemory;
-use ms_code_data::{Code, Source as Operand};
+use ms_code::{Code, Source as Operand};
 use ms_ir::{Func, Inst, Module, Name, Ty};
-use ms_machine_steps::{Frame, place_of_result};
+use ms_machine_frames::{Frame, place_of_result};
 use ms_shades::{View, mask_of};
+use ms_trail_bytes::logs::Log;
+use ms_trail_bytes::spans::Stamp;
+use ms_trail_uses::shades::Shade;
+use ms_trail_uses::steps::step;
+use ms_trail_uses::tables::Row;
 use std::alloc::Global;
 use std::mem::replace;
 

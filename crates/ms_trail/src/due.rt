@@ -1,18 +1,18 @@
 //! The code of the instruction that is due, and its site.
 ghost use Rattle.std.specs.Prelude.{◌≡◌, ◌∷◌, ◌<◌, ℕ, List, length, get_or};
-ghost use Rattle.ms_ir.specs.Code.{site_at};
+ghost use Rattle.ms_ir.specs.Instructions.{site_at};
 ghost use Rattle.ms_runs.specs.declared.runs.Setup.{Setup};
 ghost use Rattle.ms_runs.specs.Control.{Frame as FrameOf};
 ghost use Rattle.ms_runs.specs.Plain.{PlainState};
 ghost use Rattle.ms_host.specs.State.{Beside};
 ghost use Rattle.ms_machine.specs.Running.{IsRunning, Runs};
-ghost use Rattle.ms_trail.specs.Due.{IsDue};
+ghost use Rattle.ms_trail_uses.specs.Due.{IsDue};
 ghost use Rattle.ms_trail.specs.Ready.{FitsHere};
 
 use ms_check::CheckedModule;
-use ms_code_data::{Code, Site};
+use ms_code::{Code, Site};
 use ms_host::World;
-use ms_machine_steps::Fiber;
+use ms_machine_frames::Fiber;
 
 /// The code with a number.
 pub(crate) fn code_at(code: &[Code], at: usize) -> &Code

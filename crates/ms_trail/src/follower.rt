@@ -3,25 +3,25 @@ ghost use Rattle.std.specs.Prelude.{◌≡◌, ◌<◌, length, IfOk, false};
 ghost use Rattle.ms_ir.specs.ThreadCalls.{is_threaded};
 ghost use Rattle.ms_runs.specs.Limits.{WithinLimits};
 ghost use Rattle.ms_valid.specs.Uninstrumented.{CanInstrument};
-ghost use Rattle.ms_code_data.specs.Fits.{IsSource};
-ghost use Rattle.ms_code_data.specs.Words.{word_of};
+ghost use Rattle.ms_code.specs.Fits.{IsSource};
+ghost use Rattle.ms_code.specs.Words.{word_of};
 ghost use Rattle.ms_moves.specs.Traces.{one_report, traced_start};
 ghost use Rattle.ms_shades.specs.Shades.{mask_of as mask_read};
 ghost use Rattle.ms_trail.specs.Following.{IsFollowed};
 
-use crate::logs::Log;
-use crate::shades::Shade;
-use crate::tables::Tables;
 use ms_bits::NoMemory;
 use ms_check::CheckedModule;
-use ms_code_data::Source as Operand;
+use ms_code::Source as Operand;
 use ms_host::World;
 use ms_machine::start;
-use ms_machine_steps::Fiber;
+use ms_machine_frames::Fiber;
 use ms_moves::moves::Source;
 use ms_printf::CallSites;
 use ms_runs::Setup;
 use ms_shades::{View, mask_of, value_of};
+use ms_trail_bytes::logs::Log;
+use ms_trail_uses::shades::Shade;
+use ms_trail_uses::tables::Tables;
 use std::alloc::Global;
 
 /// How a run that is followed goes on.

@@ -1,33 +1,33 @@
 //! Jumps.
 ghost use Rattle.std.specs.Prelude.{◌≡◌, ◌≤◌, ◌<◌, ◌+◌, ◌^◌, ◌++◌, ℕ, List, length, All, IfOk, OnOk};
 ghost use Rattle.ms_ir.specs.declared.syntax.Module.{Module};
-ghost use Rattle.ms_ir.specs.Code.{func_index, insts_at, root_at, site_at, count_roots, NoMarks};
+ghost use Rattle.ms_ir.specs.Instructions.{func_index, insts_at, root_at, site_at, count_roots, NoMarks};
 ghost use Rattle.ms_runs.specs.declared.runs.Setup.{Setup};
 ghost use Rattle.ms_runs.specs.Control.{count_phis};
-ghost use Rattle.ms_code_data.specs.Fits.{IsMove};
-ghost use Rattle.ms_code_data.specs.Words.{put_all};
-ghost use Rattle.ms_code_data.specs.Encodes.{number_of};
-ghost use Rattle.ms_machine_steps.specs.Meaning.{IsJump};
+ghost use Rattle.ms_code.specs.Fits.{IsMove};
+ghost use Rattle.ms_code.specs.Words.{put_all};
+ghost use Rattle.ms_code.specs.Encodes.{number_of};
+ghost use Rattle.ms_machine_frames.specs.Meaning.{IsJump};
 ghost use Rattle.ms_moves.specs.Traces.{Traced};
 ghost use Rattle.ms_moves.specs.declared.moves.Move.{Move as MoveOf};
 ghost use Rattle.ms_trail.specs.Following.{IsFollowed, Passes, Went};
-ghost use Rattle.ms_trail.specs.Logs.{IsLog};
+ghost use Rattle.ms_trail_bytes.specs.Logs.{IsLog};
 ghost use Rattle.ms_trail.specs.Phis.{TellsPhis, phis_told};
 ghost use Rattle.ms_trail.specs.Ready.{Grew, IsReady};
-ghost use Rattle.ms_trail.specs.Tabled.{AreTables};
-ghost use Rattle.ms_trail.specs.Taken.{IsTaken};
+ghost use Rattle.ms_trail_uses.specs.Tabled.{AreTables};
+ghost use Rattle.ms_trail_uses.specs.Taken.{IsTaken};
 
 use crate::due::due_site;
 use crate::follower::Follower;
-use crate::logs::Log;
-use crate::spans::Stamp;
-use crate::steps::step;
-use crate::tables::Tables;
 use crate::words::tell_phi;
 use ms_bits::NoMemory;
-use ms_code_data::{Code, Edge, Move};
+use ms_code::{Code, Edge, Move};
 use ms_ir::Name;
 use ms_shades::read_masks;
+use ms_trail_bytes::logs::Log;
+use ms_trail_bytes::spans::Stamp;
+use ms_trail_uses::steps::step;
+use ms_trail_uses::tables::Tables;
 use std::alloc::Global;
 
 /// Puts masks at the places of phis, one after the other.

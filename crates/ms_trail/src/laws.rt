@@ -5,21 +5,21 @@ ghost use Rattle.ms_ir.specs.declared.syntax.Name.{Name};
 ghost use Rattle.ms_ir.specs.declared.syntax.Ty.{Ty};
 ghost use Rattle.ms_ir.specs.declared.syntax.Operand.{Operand};
 ghost use Rattle.ms_ir.specs.declared.syntax.Inst.{Inst};
-ghost use Rattle.ms_ir.specs.Code.{func_index, operands};
+ghost use Rattle.ms_ir.specs.Instructions.{func_index, operands};
 ghost use Rattle.ms_runs.specs.declared.runs.Setup.{Setup};
 ghost use Rattle.ms_runs.specs.World.{World, Setting};
 ghost use Rattle.ms_runs.specs.Poisoned.{Poisoned};
 ghost use Rattle.ms_runs.specs.Masks.{result_origin};
-ghost use Rattle.ms_runs.specs.Uses.{Use, uses, check_uses};
+ghost use Rattle.ms_runs.specs.Uses.{CheckedUse, uses, check_uses};
 ghost use Rattle.ms_moves.specs.declared.moves.Source.{Source as SourceOf};
 ghost use Rattle.ms_moves.specs.Sources.{placed};
 ghost use Rattle.ms_moves.specs.Traces.{read_by};
-ghost use Rattle.ms_code_data.specs.declared.code.Code.{Code};
-ghost use Rattle.ms_code_data.specs.Encodes.{Where, Encodes, in_main};
+ghost use Rattle.ms_code.specs.declared.code.Code.{Code};
+ghost use Rattle.ms_code.specs.Encodes.{Where, Encodes, in_main};
 ghost use Rattle.ms_shades.specs.Shades.{HoldsShades};
 ghost use Rattle.ms_shades.specs.Results.{IsComputed, words_read};
-ghost use Rattle.ms_trail.specs.Used.{first_read, code_read, source_of, Checked};
-ghost use Rattle.ms_trail.specs.Origins.{place_read};
+ghost use Rattle.ms_trail_uses.specs.Used.{first_read, code_read, source_of, Checked};
+ghost use Rattle.ms_trail_uses.specs.Origins.{place_read};
 
 /// What code finds to be used is what the instruction that it stands for is checked for.
 pub fn uses_are_found()
@@ -29,8 +29,8 @@ pub fn uses_are_found()
 
 /// Where nothing is found the checks pass, and else the run ends at its first report, whose use reads what was found.
 pub fn found_uses_end()
-    ensures read { (w : World) (ps : List Poisoned) (ss : List SourceOf) (us : List Use) → read_by w ps ss us ≡ source_of ss (first_read w ps us) }
-    ensures checked { (s : Setting) → s.limit ≡ 1 → (w : World) (site : ℕ) (os : List (Ty × Operand)) (ps : List Poisoned) (us : List Use) → Checked w (first_read w ps us) (check_uses s site os ps us w) }
+    ensures read { (w : World) (ps : List Poisoned) (ss : List SourceOf) (us : List CheckedUse) → read_by w ps ss us ≡ source_of ss (first_read w ps us) }
+    ensures checked { (s : Setting) → s.limit ≡ 1 → (w : World) (site : ℕ) (os : List (Ty × Operand)) (ps : List Poisoned) (us : List CheckedUse) → Checked w (first_read w ps us) (check_uses s site os ps us w) }
 {}
 
 /// The operand from which a result's origin comes has the place that code finds.

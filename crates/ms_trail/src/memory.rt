@@ -6,14 +6,14 @@ ghost use Rattle.ms_trail.specs.Following.{IsFollowed, Passes, Went};
 ghost use Rattle.ms_trail.specs.Ready.{Grew, IsReady};
 
 use crate::due::due_site;
-use crate::fills::{shade_stored, unset};
 use crate::follower::Follower;
 use crate::results::put_mask;
-use crate::sources::{own_root, stored_source};
-use crate::spans::Stamp;
-use crate::steps::step;
 use ms_bits::NoMemory;
-use ms_code_data::{Code, Source as Operand};
+use ms_code::{Code, Source as Operand};
+use ms_trail_bytes::fills::{shade_stored, unset};
+use ms_trail_bytes::sources::{own_root, stored_source};
+use ms_trail_bytes::spans::Stamp;
+use ms_trail_uses::steps::step;
 use std::alloc::Global;
 
 /// The value with a place.

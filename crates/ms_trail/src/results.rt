@@ -3,22 +3,22 @@ ghost use Rattle.std.specs.Prelude.{◌≡◌, ◌≢◌, ◌<◌, length, IfOk,
 ghost use Rattle.ms_runs.specs.declared.runs.Setup.{Setup};
 ghost use Rattle.ms_moves.specs.Traces.{Traced};
 ghost use Rattle.ms_shades.specs.Results.{IsComputed, IsMask};
-ghost use Rattle.ms_trail.specs.Due.{sets_at};
+ghost use Rattle.ms_trail_uses.specs.Due.{sets_at};
 ghost use Rattle.ms_trail.specs.Following.{Passes, Went, IsFollowed};
-ghost use Rattle.ms_trail.specs.Origins.{place_read};
+ghost use Rattle.ms_trail_uses.specs.Origins.{place_read};
 ghost use Rattle.ms_trail.specs.Ready.{Grew, IsReady};
 
 use crate::due::due_site;
 use crate::follower::Follower;
-use crate::loads::{loaded_mask, loaded_source};
-use crate::places::result_place;
-use crate::spans::Stamp;
-use crate::steps::step;
 use crate::words::{tell_loaded, tell_result};
 use ms_bits::NoMemory;
-use ms_code_data::{Code, Source as Operand};
+use ms_code::{Code, Source as Operand};
 use ms_ir::Op;
 use ms_shades::computed;
+use ms_trail_bytes::spans::Stamp;
+use ms_trail_uses::loads::{loaded_mask, loaded_source};
+use ms_trail_uses::places::result_place;
+use ms_trail_uses::steps::step;
 use std::alloc::Global;
 
 /// Sets the mask of a value.

@@ -5,20 +5,20 @@ ghost use Rattle.ms_runs.specs.Limits.{WithinLimits};
 ghost use Rattle.ms_valid.specs.Uninstrumented.{CanInstrument};
 ghost use Rattle.ms_moves.specs.declared.moves.Move.{Move as MoveOf};
 ghost use Rattle.ms_moves.specs.Traces.{trace as moves_of, Found};
-ghost use Rattle.ms_trail.specs.Logs.{IsLog};
+ghost use Rattle.ms_trail_bytes.specs.Logs.{IsLog};
 ghost use Rattle.ms_trail.specs.Tracing.{limited};
 
 use crate::follower::{Follower, Turn};
 use crate::found::Trace;
-use crate::logs::{Log, MOVE_LIMIT};
 use ms_bits::{List, NoMemory};
 use ms_check::CheckedModule;
 use ms_moves::moves::Source;
 use ms_runs::Setup;
+use ms_trail_bytes::logs::{Log, MOVE_LIMIT};
 use std::alloc::Global;
 
 /// What following a run comes to that is reported, with the moves before that and what the report's use reads.
-#[tactic(auto, unfolding(crate::specs::Logs::move_limit))]
+#[tactic(auto, unfolding(ms_trail_bytes::specs::Logs::move_limit))]
 fn reported(log: Log, at: Source) -> Trace
     ensures { (moves : List MoveOf) → IsLog log moves → result ≡ limited (Found moves at) }
 {

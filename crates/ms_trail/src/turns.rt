@@ -3,20 +3,20 @@ ghost use Rattle.std.specs.Prelude.{◌≡◌, None, IfOk};
 ghost use Rattle.ms_runs.specs.declared.runs.Setup.{Setup as SetupOf};
 ghost use Rattle.ms_moves.specs.Traces.{Traced};
 ghost use Rattle.ms_trail.specs.Following.{IsFollowed, Passes, Turned, Went};
-ghost use Rattle.ms_machine_steps.specs.Meaning.{IsJump};
-ghost use Rattle.ms_trail.specs.Due.{IsDue, sets_at};
+ghost use Rattle.ms_machine_frames.specs.Meaning.{IsJump};
+ghost use Rattle.ms_trail_uses.specs.Due.{IsDue, sets_at};
 ghost use Rattle.ms_trail.specs.Ready.{FitsHere, Grew, IsGoing, IsReady};
 ghost use Rattle.ms_trail.specs.Turning.{ReadsAt, FoundAt};
 
-use crate::checked::first_used;
 use crate::due::due_code;
-use crate::edges::taken;
 use crate::follower::{Follower, Turn};
-use crate::used::Used;
 use ms_bits::NoMemory;
-use ms_code_data::Code;
+use ms_code::Code;
 use ms_moves::moves::Source;
 use ms_moves::sources::source_at;
+use ms_trail_uses::checked::first_used;
+use ms_trail_uses::edges::taken;
+use ms_trail_uses::used::Used;
 use std::alloc::Global;
 
 /// The place of the value that an instruction sets by its operands alone, if it does.

@@ -4,22 +4,22 @@ ghost use Rattle.ms_ir.specs.declared.syntax.Name.{Name as NameOf};
 ghost use Rattle.ms_ir.specs.declared.syntax.Ty.{Ty as TyOf};
 ghost use Rattle.ms_ir.specs.declared.syntax.Operand.{Operand as OperandOf};
 ghost use Rattle.ms_ir.specs.declared.syntax.Op.TheVariants as op;
-ghost use Rattle.ms_ir.specs.Code.{operands, count_undefs};
+ghost use Rattle.ms_ir.specs.Instructions.{operands, count_undefs};
 ghost use Rattle.ms_moves.specs.declared.moves.Move.{Move as MoveOf};
 ghost use Rattle.ms_moves.specs.declared.moves.Target.TheVariants as place;
 ghost use Rattle.ms_moves.specs.Sources.{sources, source_at as source_in};
 ghost use Rattle.ms_moves.specs.Edges.{edge_source};
-ghost use Rattle.ms_trail.specs.Logs.{IsLog};
+ghost use Rattle.ms_trail_bytes.specs.Logs.{IsLog};
 ghost use Rattle.ms_trail.specs.Telling.{masked_move};
 
-use crate::logs::Log;
-use crate::sources::{phi_source, result_target};
-use crate::spans::Stamp;
-use crate::tables::Row;
 use ms_bits::{Duplicate, NoMemory};
 use ms_ir::{Inst, Name};
 use ms_moves::moves::{Move, Source, Target};
 use ms_moves::sources::source_at;
+use ms_trail_bytes::logs::Log;
+use ms_trail_bytes::sources::{phi_source, result_target};
+use ms_trail_bytes::spans::Stamp;
+use ms_trail_uses::tables::Row;
 use std::alloc::Global;
 
 /// A word moves from a source to a place.

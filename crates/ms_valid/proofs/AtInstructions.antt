@@ -6,7 +6,7 @@ use Rattle.ms_ir.specs.declared.syntax.Inst.{Inst}
 use Rattle.ms_ir.specs.declared.syntax.Func.{Func}
 use Rattle.ms_ir.specs.declared.syntax.Module.{Module}
 use Rattle.ms_ir.specs.Names.{is_kept}
-use Rattle.ms_ir.specs.Code.{func_at, insts_at, site_at}
+use Rattle.ms_ir.specs.Instructions.{func_at, insts_at, site_at}
 use Rattle.ms_ir.specs.Written.{type_mentions, mentions}
 use Rattle.ms_ir.specs.Spots.{Spot, spot, found, found_at_insts}
 use Rattle.ms_ir.specs.Locals.{Spelled, locals, value_type}
@@ -28,12 +28,12 @@ all_parts P (x ∷ xs) ys h =
     (All-cons P x xs (h 0 x (omega arith)) rest.0, rest.1)
 
 -- no fault is listed where there is none
-no_fault : (site : ℕ) (o : Option ℕ) → at_site site o ≡ [] → o ≡ None
+pub no_fault : (site : ℕ) (o : Option ℕ) → at_site site o ≡ [] → o ≡ None
 no_fault site None e = refl
 no_fault site (Some k) e = grind arith
 
 -- no site is listed where a test passes
-passes_test : (t : Bool) (site : ℕ) → (if t then [] else site ∷ []) ≡ [] → t ≡ true
+pub passes_test : (t : Bool) (site : ℕ) → (if t then [] else site ∷ []) ≡ [] → t ≡ true
 passes_test true site e = refl
 passes_test false site e = grind arith
 

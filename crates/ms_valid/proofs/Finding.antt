@@ -2,20 +2,18 @@
 use Rattle.std.proofs.Common.{◌≡◌, ℕ, zero, suc, ◌+◌, List, [], ◌∷◌, ◌++◌, refl, sym, ap, subst, ◌∙◌, arith}
 use Rattle.std.specs.Prelude.{take, Option, Some, None, option_map, unwrap_or, slice_get}
 use Rattle.std.proofs.Math.Path.{ap₂}
+use Rattle.std.proofs.lemmas.Option.{same_Some}
 use Rattle.ms_ir.specs.declared.syntax.Inst.{Inst}
 use Rattle.ms_ir.specs.declared.syntax.Block.{Block}
 use Rattle.ms_ir.specs.declared.syntax.Func.{Func}
 use Rattle.ms_ir.specs.declared.syntax.Module.{Module}
-use Rattle.ms_ir.specs.Code.{one_unmarked, over_insts, over_blocks, over_funcs, func_at, blocks_at, insts_at, site_at}
+use Rattle.ms_ir.specs.Instructions.{one_unmarked, over_insts, over_blocks, over_funcs, func_at, blocks_at, insts_at, site_at}
 use Rattle.ms_ir.specs.Spots.{Spot, spot, next_spot, over_spots, over_block_spots, over_func_spots, found}
 
 -- two lists that together have nothing have nothing
 pub both_empty : {A : Type 0} (xs ys : List A) → xs ++ ys ≡ [] → (xs ≡ []) × (ys ≡ [])
 both_empty [] ys e = (refl, e)
 both_empty (x ∷ xs) ys e = grind arith
-
-same_some : {A : Type 0} (x y : A) → Some x ≡ Some y → x ≡ y
-same_some x y e = ap (λ o. unwrap_or o x) e
 
 module _ {A : Type 0} (look : Spot → Inst → List A) (Holds : List A → Type 0) (split : (xs ys : List A) → Holds (xs ++ ys) → Holds xs × Holds ys) where
   -- instructions
@@ -25,7 +23,7 @@ module _ {A : Type 0} (look : Spot → Inst → List A) (Holds : List A → Type
   in_insts f b n m [] p inst q s all e u v = grind arith
   in_insts f b n m (i ∷ rest) zero inst q s all e u v =
       let same : look (spot f b n m) i ≡ look (spot f b q s) inst =
-      ap (look (spot f b n m)) (same_some i inst e) ∙ ap (λ k. look (spot f b k m) inst) {x = n} {y = q} (omega arith)
+      ap (look (spot f b n m)) (same_Some i inst e) ∙ ap (λ k. look (spot f b k m) inst) {x = n} {y = q} (omega arith)
       ∙ ap (λ k. look (spot f b q k) inst) {x = m} {y = s} (omega arith) in
       subst Holds same (split (look (spot f b n m) i) (over_spots look (next_spot (spot f b n m) i) rest) all).0
   in_insts f b n m (i ∷ rest) (suc p) inst q s all e u v =
@@ -41,7 +39,7 @@ module _ {A : Type 0} (look : Spot → Inst → List A) (Holds : List A → Type
       let here : Holds (over_spots look (spot f n 0 m) g.insts) =
       (split (over_spots look (spot f n 0 m) g.insts) (over_block_spots look f (n + 1) (m + over_insts one_unmarked g.insts) rest) all).0 in
       subst (λ d. Holds (look (spot f d p s) inst)) {x = n} {y = c} (omega arith)
-      (in_insts f n 0 m k.insts p inst p s (subst (λ h. Holds (over_spots look (spot f n 0 m) h.insts)) (same_some g k at) here) e (omega arith) (omega arith))
+      (in_insts f n 0 m k.insts p inst p s (subst (λ h. Holds (over_spots look (spot f n 0 m) h.insts)) (same_Some g k at) here) e (omega arith) (omega arith))
   in_blocks f n m (g ∷ rest) (suc b) p k inst c s all at e u v =
       in_blocks f (n + 1) (m + over_insts one_unmarked g.insts) rest b p k inst c s
       (split (over_spots look (spot f n 0 m) g.insts) (over_block_spots look f (n + 1) (m + over_insts one_unmarked g.insts) rest) all).1 at e
@@ -56,7 +54,7 @@ module _ {A : Type 0} (look : Spot → Inst → List A) (Holds : List A → Type
   in_funcs head m (g ∷ rest) zero b p f k inst s all at is e v =
       let later = (split (head g) (over_block_spots look g 0 m g.blocks ++ over_func_spots head look (m + over_blocks one_unmarked g.blocks) rest) all).1 in
       let here = (split (over_block_spots look g 0 m g.blocks) (over_func_spots head look (m + over_blocks one_unmarked g.blocks) rest) later).0 in
-      in_blocks f 0 m f.blocks b p k inst b s (subst (λ h. Holds (over_block_spots look h 0 m h.blocks)) (same_some g f at) here) is e (omega arith) (omega arith)
+      in_blocks f 0 m f.blocks b p k inst b s (subst (λ h. Holds (over_block_spots look h 0 m h.blocks)) (same_Some g f at) here) is e (omega arith) (omega arith)
   in_funcs head m (g ∷ rest) (suc n) b p f k inst s all at is e v =
       let later = (split (head g) (over_block_spots look g 0 m g.blocks ++ over_func_spots head look (m + over_blocks one_unmarked g.blocks) rest) all).1 in
       in_funcs head (m + over_blocks one_unmarked g.blocks) rest n b p f k inst s
@@ -85,7 +83,7 @@ module _ {A : Type 0} (look : Spot → Inst → List A) (Holds : List A → Type
 pub none_at_heads : {A : Type 0} (head : Func → List A) (look : Spot → Inst → List A) (at_site : ℕ) (funcs : List Func) (n : ℕ) (f : Func)
     → over_func_spots head look at_site funcs ≡ [] → slice_get funcs n ≡ Some f → head f ≡ []
 none_at_heads head look m [] n f none at = grind arith
-none_at_heads head look m (g ∷ rest) zero f none at = ap head (sym (same_some g f at)) ∙ (both_empty (head g) _ none).0
+none_at_heads head look m (g ∷ rest) zero f none at = ap head (sym (same_Some g f at)) ∙ (both_empty (head g) _ none).0
 none_at_heads head look m (g ∷ rest) (suc n) f none at =
     let later = (both_empty (head g) (over_block_spots look g 0 m g.blocks ++ over_func_spots head look (m + over_blocks one_unmarked g.blocks) rest) none).1 in
     none_at_heads head look (m + over_blocks one_unmarked g.blocks) rest n f (both_empty (over_block_spots look g 0 m g.blocks) _ later).1 at

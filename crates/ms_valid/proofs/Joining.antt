@@ -6,7 +6,7 @@ use Rattle.ms_ir.specs.declared.syntax.Inst.{Inst}
 use Rattle.ms_ir.specs.declared.syntax.Block.{Block}
 use Rattle.ms_ir.specs.declared.syntax.Func.{Func}
 use Rattle.ms_ir.specs.declared.syntax.Module.{Module}
-use Rattle.ms_ir.specs.Code.{one_unmarked, over_insts, over_blocks, over_funcs, func_at, blocks_at, insts_at, site_at}
+use Rattle.ms_ir.specs.Instructions.{one_unmarked, over_insts, over_blocks, over_funcs, func_at, blocks_at, insts_at, site_at}
 use Rattle.ms_ir.specs.Spots.{Spot, spot, next_spot, over_spots, over_block_spots, over_func_spots, found}
 
 module _ {A : Type 0} (look : Spot → Inst → List A) (Holds : List A → Type 0) (none : Holds []) (join : (xs ys : List A) → Holds xs → Holds ys → Holds (xs ++ ys)) where

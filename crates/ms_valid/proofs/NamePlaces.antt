@@ -5,10 +5,11 @@ use Rattle.std.proofs.lemmas.Bool.{eq-eqb, eqb-true}
 use Rattle.ms_ir.specs.declared.syntax.Name.{Name}
 use Rattle.ms_ir.specs.declared.syntax.Block.{Block}
 use Rattle.ms_ir.specs.Names.{name_eq}
-use Rattle.ms_ir.specs.Code.{block_index}
+use Rattle.ms_ir.specs.Instructions.{block_index}
 use Rattle.ms_ir.specs.Equal.{has_name}
+use Rattle.ms_ir.proofs.RootKinds.{name_same as name_sound}
 use Rattle.ms_valid.specs.FlowGraph.{name_place}
-use Rattle.ms_valid.proofs.NameTests.{name_same, name_sound}
+use Rattle.ms_valid.proofs.NameTests.{name_same}
 
 -- ---- places
 

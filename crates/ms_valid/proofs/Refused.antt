@@ -22,11 +22,11 @@ no_first : {A : Type 0} (xs : List A) (x : A) → xs ≡ [] → slice_get xs 0 �
 no_first xs x e h = let none : None ≡ Some x = sym (ap (λ l. slice_get l 0) e) ∙ h in grind arith
 
 -- a use that a path misses isn't defined
-missed : (f : Func) (u : ValueUse) (path : List ℕ) → Misses f u path → IsDefined f u → ⊥
+pub missed : (f : Func) (u : ValueUse) (path : List ℕ) → Misses f u path → IsDefined f u → ⊥
 missed f u path h d = ⊎_elim h.own (λ all. h.avoids (all h.before (subst (Path f) h.ends h.leads))) d
 
 -- a module with a use that isn't defined isn't valid
-undefined : (m : Module) (site : ℕ) (path : List ℕ) → IsFirstUndefined m site path → UsesDefined m → ⊥
+pub undefined : (m : Module) (site : ℕ) (path : List ℕ) → IsFirstUndefined m site path → UsesDefined m → ⊥
 undefined m site path h all =
     let parts = all_parts IsUseDefined h.earlier (h.«use» ∷ h.later) (subst (All IsUseDefined) h.splits all) in
     missed h.«use».func h.«use».value path h.misses (parts.1 0 h.«use» (omega arith))

@@ -10,7 +10,7 @@ use Rattle.ms_ir.specs.declared.syntax.Op.TheVariants as op
 use Rattle.ms_ir.specs.declared.syntax.Inst.{Inst}
 use Rattle.ms_ir.specs.declared.syntax.Func.{Func}
 use Rattle.ms_ir.specs.declared.syntax.Module.{Module}
-use Rattle.ms_ir.specs.Code.{operands, func_at, insts_at, site_at, block_index, is_phi}
+use Rattle.ms_ir.specs.Instructions.{operands, func_at, insts_at, site_at, block_index, is_phi}
 use Rattle.ms_ir.specs.Spots.{Spot, spot}
 use Rattle.ms_valid.specs.Paths.{ValueUse, Path, IsDefined, insts_of, IsSet}
 use Rattle.ms_valid.specs.UsesDefined.{operand_use, edge_use, inst_uses, IsUseDefined}

@@ -7,7 +7,7 @@ use Rattle.ms_ir.specs.declared.syntax.Inst.{Inst}
 use Rattle.ms_ir.specs.declared.syntax.Block.{Block}
 use Rattle.ms_ir.specs.declared.syntax.Func.{Func}
 use Rattle.ms_ir.specs.declared.syntax.Module.{Module}
-use Rattle.ms_ir.specs.Code.{blocks_at, one_unmarked, over_insts, over_blocks, over_funcs}
+use Rattle.ms_ir.specs.Instructions.{blocks_at, one_unmarked, over_insts, over_blocks, over_funcs}
 use Rattle.ms_ir.specs.Places.{HasSmallNumbers}
 use Rattle.ms_valid.specs.FormedNames.{is_local_name, is_global_name, are_numbered}
 use Rattle.ms_valid.specs.FormedCode.{is_value_type, result_formed, inst_formed, is_body}
@@ -34,7 +34,7 @@ funcs_written [] = omega arith
 funcs_written (f ∷ fs) = omega (arith, funcs_written fs, blocks_written f.blocks)
 
 -- a body has an instruction
-some_inst : (xs : List Inst) → is_body xs ≡ true → 0 < length xs
+pub some_inst : (xs : List Inst) → is_body xs ≡ true → 0 < length xs
 some_inst [] e = absurd (no e)
   where
     no : false ≡ true → ⊥
@@ -52,7 +52,7 @@ few_blocks (b ∷ bs) e =
     let parts : (block_formed b ≡ true) × (list_all block_formed bs ≡ true) = and_parts (block_formed b) (list_all block_formed bs) e in
     omega (arith, few_blocks bs parts.1, block_written b parts.0)
 
-blocks_of : (f : Func) → func_formed f ≡ true → (nat_lt 0 (length f.blocks) ≡ true) × (list_all block_formed f.blocks ≡ true)
+pub blocks_of : (f : Func) → func_formed f ≡ true → (nat_lt 0 (length f.blocks) ≡ true) × (list_all block_formed f.blocks ≡ true)
 blocks_of f e =
     let front : Bool = is_global_name f.name && result_formed f.ret && list_all (λ p. is_value_type p.0 && is_local_name p.1) f.params in
     let four : ((front && nat_lt 0 (length f.blocks)) && list_all block_formed f.blocks) ≡ true = (and_parts ((front && nat_lt 0 (length f.blocks)) && list_all block_formed f.blocks) (are_numbered (locals f)) e).0 in
@@ -66,7 +66,7 @@ lt_holds zero e = absurd (no e)
     no e = search arith
 lt_holds (suc n) e = omega arith
 
-few_funcs : (fs : List Func) → list_all func_formed fs ≡ true → length fs ≤ over_funcs count_written fs
+pub few_funcs : (fs : List Func) → list_all func_formed fs ≡ true → length fs ≤ over_funcs count_written fs
 few_funcs [] e = omega arith
 few_funcs (f ∷ fs) e =
     let parts : (func_formed f ≡ true) × (list_all func_formed fs ≡ true) = and_parts (func_formed f) (list_all func_formed fs) e in

@@ -59,7 +59,7 @@ module _ (f : Func) (x : Name) (set : List ℕ) (closed : is_closed f x set ≡ 
   path (b ∷ rest) last p = walk rest b last (subst (λ k. has_number set k ≡ true) (sym p.0) (and_parts _ _ closed).0) p.1
 
 -- of two facts one of which fails the other holds
-second_holds : (t s : Bool) → t ≡ true → (not t || s) ≡ true → s ≡ true
+pub second_holds : (t s : Bool) → t ≡ true → (not t || s) ≡ true → s ≡ true
 second_holds true s e h = h
 second_holds false s e h = grind arith
 

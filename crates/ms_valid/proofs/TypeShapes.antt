@@ -1,9 +1,7 @@
 -- What the definitions say of arrays, structs and initialisers with items, by the lists of these.
 use Rattle.std.proofs.Common.{◌≡◌, ℕ, suc, List, [], ◌∷◌, ◌++◌, Bool, true, false, refl, sym, ap, ◌∙◌, append_assoc}
-use Rattle.std.specs.Prelude.{◌&&◌, ◌^◌, nat_eq, nat_lt, flat_map, length, Option, Some, None}
-use Rattle.std.specs.Bool.{beq}
+use Rattle.std.specs.Prelude.{◌&&◌, ◌^◌, nat_lt, flat_map, length, Option, Some, None}
 use Rattle.std.specs.List.{list_all}
-use Rattle.std.proofs.Math.Path.{ap₂}
 use Rattle.ms_ir.specs.declared.syntax.Ty.{Ty, Array, Struct, Row_of-Ty, end_of-Ty, more_of-Ty, items-the_row-Ty, items_hidden-the_row-Ty-1}
 use Rattle.ms_ir.specs.declared.syntax.Ty.TheBlock.{hidden-the_row-Ty-0, hidden-the_row-Ty-1, shape-the_row-Ty-0}
 use Rattle.ms_ir.specs.declared.syntax.Operand.{Operand}
@@ -11,18 +9,12 @@ use Rattle.ms_ir.specs.declared.syntax.Init.{Init, Row_of-Init-Array-0-2, end_of
 use Rattle.ms_ir.specs.declared.syntax.Init as initial
 use Rattle.ms_ir.specs.declared.syntax.Init.TheBlock.{hidden-the_row-Init-Array-0-2-0}
 use Rattle.ms_ir.specs.Layout.{Types, resolved}
-use Rattle.ms_ir.specs.Equal.{type_eq, row_eq, types_eq}
+use Rattle.ms_ir.specs.Equal.{type_eq}
 use Rattle.ms_ir.specs.Written.{type_mentions, row_mentions, type_parts, row_parts, init_mentions, items_mentions, init_types, items_types}
 use Rattle.ms_valid.specs.Initialisers.{count_items, item_types, field_types, init_fits, items_fit}
 use Rattle.ms_valid.specs.FormedCode.{type_formed, row_formed, init_formed, items_formed}
 
 -- ---- rows of types
-
-row_eq-items : (m n : _) (r : Row_of-Ty m) (s : Row_of-Ty n) → row_eq r s ≡ types_eq (items-the_row-Ty m r) (items-the_row-Ty n s)
-row_eq-items m n end_of-Ty end_of-Ty = refl
-row_eq-items m n end_of-Ty (more_of-Ty u us) = refl
-row_eq-items m n (more_of-Ty t ts) end_of-Ty = refl
-row_eq-items m n (more_of-Ty t ts) (more_of-Ty u us) = ap (λ b. type_eq t u && b) (row_eq-items _ _ ts us)
 
 row_mentions-items : (n : _) (r : Row_of-Ty n) → row_mentions r ≡ flat_map type_mentions (items-the_row-Ty n r)
 row_mentions-items n end_of-Ty = refl
@@ -38,10 +30,6 @@ row_formed-items n (more_of-Ty t ts) = ap (λ b. type_formed t && b) (row_formed
 
 -- ---- arrays
 
-pub type_eq-array : (m n : ℕ) (t u : Ty) → type_eq (Array m t) (Array n u) ≡ (nat_eq m n && (type_eq t u && true))
-unfolding hidden-the_row-Ty-0 shape-the_row-Ty-0 denote.Hole.Carrier.hidden
-type_eq-array m n t u = refl
-
 pub type_mentions-array : (n : ℕ) (t : Ty) → type_mentions (Array n t) ≡ type_mentions t ++ []
 unfolding hidden-the_row-Ty-0 shape-the_row-Ty-0 denote.Hole.Carrier.hidden
 type_mentions-array n t = refl
@@ -55,11 +43,6 @@ unfolding hidden-the_row-Ty-0 shape-the_row-Ty-0 denote.Hole.Carrier.hidden
 type_formed-array n t = refl
 
 -- ---- structs
-
-pub type_eq-struct : (p q : Bool) (ts us : List Ty) → type_eq (Struct p ts) (Struct q us) ≡ (beq p q && types_eq ts us)
-type_eq-struct p q ts us =
-    ap (λ b. beq p q && b)
-    (row_eq-items _ _ (hidden-the_row-Ty-1 ts) (hidden-the_row-Ty-1 us) ∙ ap₂ types_eq (items_hidden-the_row-Ty-1 ts) (items_hidden-the_row-Ty-1 us))
 
 pub type_mentions-struct : (p : Bool) (ts : List Ty) → type_mentions (Struct p ts) ≡ flat_map type_mentions ts
 type_mentions-struct p ts = row_mentions-items _ (hidden-the_row-Ty-1 ts) ∙ ap (flat_map type_mentions) (items_hidden-the_row-Ty-1 ts)

@@ -3,7 +3,7 @@ use Rattle.std.proofs.Common.{◌≡◌, ℕ, zero, suc, List, [], ◌∷◌, �
 use Rattle.std.specs.Prelude.{◌||◌, map, flat_map, filter_map, Option, Some, None, option_map, unwrap_or, slice_get, if◌then◌else◌}
 use Rattle.std.specs.List.{cons_option}
 use Rattle.std.proofs.Math.Path.{ap₂}
-use Rattle.std.proofs.lemmas.Bool.{or_cases}
+use Rattle.std.proofs.lemmas.Bool.{or_cases, or_parts}
 use Rattle.std.proofs.lemmas.List.Folds.{list_any-append}
 use Rattle.ms_ir.specs.declared.syntax.Name.{Name}
 use Rattle.ms_ir.specs.declared.syntax.Ty.{Ty}
@@ -15,10 +15,11 @@ use Rattle.ms_ir.specs.Names.{name_eq, lookup}
 use Rattle.ms_ir.specs.Equal.{has_name}
 use Rattle.ms_ir.specs.Written.{result_type}
 use Rattle.ms_ir.specs.Locals.{results, block_locals, parameter_names, locals, func_insts, typed_result, value_type, global_names, declared_names, type_names}
-use Rattle.ms_ir.specs.Code.{func_at}
+use Rattle.ms_ir.specs.Instructions.{func_at}
+use Rattle.ms_ir.proofs.RootKinds.{name_same as name_sound}
 use Rattle.ms_valid.specs.Valid.{Valid}
 use Rattle.ms_valid.specs.NamesOnce.{repeats, percent_sign, at_sign, function_duplicates}
-use Rattle.ms_valid.proofs.NameTests.{name_same, name_sound}
+use Rattle.ms_valid.proofs.NameTests.{name_same}
 use Rattle.ms_valid.proofs.Finding.{both_empty}
 
 -- ---- names that stand once
@@ -29,7 +30,7 @@ seen_after seen [] = seen
 seen_after seen (x ∷ rest) = seen_after (x ∷ seen) rest
 
 -- a list without a repeated name: its first wasn't seen, and nothing is repeated behind it
-once_more : (seen : List Name) (x : Name) (rest : List Name) → repeats seen (x ∷ rest) ≡ [] → (has_name seen x ≡ false) × (repeats (x ∷ seen) rest ≡ [])
+pub once_more : (seen : List Name) (x : Name) (rest : List Name) → repeats seen (x ∷ rest) ≡ [] → (has_name seen x ≡ false) × (repeats (x ∷ seen) rest ≡ [])
 once_more seen x rest e = by_test (has_name seen x) refl e
   where
     by_test : (t : Bool) → has_name seen x ≡ t → (if t then x ∷ repeats (x ∷ seen) rest else repeats (x ∷ seen) rest) ≡ [] → (has_name seen x ≡ false) × (repeats (x ∷ seen) rest ≡ [])
@@ -46,7 +47,7 @@ once_both seen (x ∷ rest) ys e =
     (ap (λ b. if b then x ∷ repeats (x ∷ seen) rest else repeats (x ∷ seen) rest) first.0 ∙ later.0, later.1)
 
 -- what was seen before, and what stands in the list, is seen after it
-or_true : (b : Bool) → (b || true) ≡ true
+pub or_true : (b : Bool) → (b || true) ≡ true
 or_true true = refl
 or_true false = refl
 
@@ -61,7 +62,7 @@ now_seen seen [] x h = absurd (true≢false (sym h))
 now_seen seen (y ∷ rest) x h = ⊎_elim (λ e. still_seen (y ∷ seen) rest x (ap (λ b. b || has_name seen x) e)) (λ e. now_seen (y ∷ seen) rest x e) (or_cases (name_eq y x) (has_name rest x) h)
 
 -- a name of a list without a repeated one wasn't seen before
-unseen : (seen xs : List Name) (x : Name) → repeats seen xs ≡ [] → has_name xs x ≡ true → has_name seen x ≡ false
+pub unseen : (seen xs : List Name) (x : Name) → repeats seen xs ≡ [] → has_name xs x ≡ true → has_name seen x ≡ false
 unseen seen [] x e h = absurd (true≢false (sym h))
 unseen seen (y ∷ rest) x e h = ⊎_elim
     (λ same. ap (has_name seen) (sym (name_sound y x same)) ∙ (once_more seen y rest e).0)
@@ -82,13 +83,8 @@ in_one seen xs ys x e h = by_test (has_name xs x) refl
 
 -- ---- results
 
--- one of two tests that fail together
-both_false : (a b : Bool) → (a || b) ≡ false → (a ≡ false) × (b ≡ false)
-both_false true b e = absurd (true≢false e)
-both_false false b e = (refl, e)
-
 -- the name of a result is among the results
-result_listed : (insts : List Inst) (p : ℕ) (inst : Inst) (x : Name) → slice_get insts p ≡ Some inst → inst.result ≡ Some x → has_name (results insts) x ≡ true
+pub result_listed : (insts : List Inst) (p : ℕ) (inst : Inst) (x : Name) → slice_get insts p ≡ Some inst → inst.result ≡ Some x → has_name (results insts) x ≡ true
 result_listed [] p inst x e named = grind arith
 result_listed (i ∷ rest) zero inst x e named =
     ap (λ o. has_name (cons_option o (results rest)) x) (ap (λ o. (unwrap_or o i).result) e ∙ named) ∙ ap (λ b. b || has_name (results rest) x) (name_same x)
@@ -116,9 +112,9 @@ skip_one : (o : Option Name) (t : Option Ty) (names : List Name) (l : List (Name
     → (lookup (cons_option (one_typed o t) l) x ≡ lookup l x) × (has_name names x ≡ false)
 unfolding one_typed
 skip_one None t names l x e = (refl, e)
-skip_one (Some y) None names l x e = (refl, (both_false (name_eq y x) (has_name names x) e).1)
+skip_one (Some y) None names l x e = (refl, (or_parts (name_eq y x) (has_name names x) e).1)
 skip_one (Some y) (Some u) names l x e =
-    let parts = both_false (name_eq y x) (has_name names x) e in
+    let parts = or_parts (name_eq y x) (has_name names x) e in
     (ap (λ b. if b then Some u else lookup l x) parts.0, parts.1)
 
 cons_append : {A : Type 0} (o : Option A) (xs ys : List A) → cons_option o xs ++ ys ≡ cons_option o (xs ++ ys)
@@ -153,7 +149,7 @@ lookup_here seen (i ∷ rest) (suc p) inst x t more once e named gives =
     by_result None h listed later = later seen h
     by_result (Some y) h listed later =
         let first = once_more seen y (results rest) h in
-        let apart = both_false (name_eq y x) (has_name seen x) (unseen (y ∷ seen) (results rest) x first.1 listed) in
+        let apart = or_parts (name_eq y x) (has_name seen x) (unseen (y ∷ seen) (results rest) x first.1 listed) in
         by_type (result_type i.op) apart.0 (later (y ∷ seen) first.1)
       where
         by_type : (u : Option Ty) → name_eq y x ≡ false → lookup (filter_map typed_result rest ++ more) x ≡ Some t
@@ -183,7 +179,7 @@ lookup_in_blocks seen (g ∷ rest) zero p k inst x t once at e named gives =
 lookup_in_blocks seen (g ∷ rest) (suc b) p k inst x t once at e named gives =
     let parts = once_both seen (block_locals g) (flat_map block_locals rest) once in
     let later = lookup_in_blocks (seen_after seen (block_locals g)) rest b p k inst x t parts.1 at e named gives in
-    let apart = both_false (name_eq g.name x) (has_name (results g.insts) x) (in_one seen (block_locals g) (flat_map block_locals rest) x once later.0) in (
+    let apart = or_parts (name_eq g.name x) (has_name (results g.insts) x) (in_one seen (block_locals g) (flat_map block_locals rest) x once later.0) in (
       list_any-append (λ y. name_eq y x) (block_locals g) (flat_map block_locals rest) ∙ ap (λ b. has_name (block_locals g) x || b) later.0 ∙ or_true (has_name (block_locals g) x),
       ap (λ l. lookup l x) (typed_append g.insts (flat_map (λ h. h.insts) rest))
           ∙ lookup_past g.insts (filter_map typed_result (flat_map (λ h. h.insts) rest)) x apart.1 ∙ later.1,
@@ -192,10 +188,10 @@ lookup_in_blocks seen (g ∷ rest) (suc b) p k inst x t once at e named gives =
 lookup_past_params : (ps : List (Ty × Name)) (more : List (Name × Ty)) (x : Name) → has_name (map (λ p. p.1) ps) x ≡ false → lookup (map (λ p. (p.1, p.0)) ps ++ more) x ≡ lookup more x
 lookup_past_params [] more x e = refl
 lookup_past_params (p ∷ rest) more x e =
-    let parts = both_false (name_eq p.1 x) (has_name (map (λ q. q.1) rest) x) e in
+    let parts = or_parts (name_eq p.1 x) (has_name (map (λ q. q.1) rest) x) e in
     ap (λ b. if b then Some p.0 else lookup (map (λ q. (q.1, q.0)) rest ++ more) x) parts.0 ∙ lookup_past_params rest more x parts.1
 
-param_listed : (ps : List (Ty × Name)) (k : ℕ) (t : Ty) (x : Name) → slice_get ps k ≡ Some (t, x) → has_name (map (λ p. p.1) ps) x ≡ true
+pub param_listed : (ps : List (Ty × Name)) (k : ℕ) (t : Ty) (x : Name) → slice_get ps k ≡ Some (t, x) → has_name (map (λ p. p.1) ps) x ≡ true
 param_listed [] k t x e = grind arith
 param_listed (p ∷ rest) zero t x e =
     let same : p ≡ (t, x) = ap (λ o. unwrap_or o p) e in
@@ -211,7 +207,7 @@ lookup_param seen (p ∷ rest) zero t x more once e =
     ∙ ap (λ b. if b then Some t else lookup (map (λ r. (r.1, r.0)) rest ++ more) x) (name_same x)
 lookup_param seen (p ∷ rest) (suc k) t x more once e =
     let first = once_more seen p.1 (map (λ r. r.1) rest) once in
-    let apart = both_false (name_eq p.1 x) (has_name seen x) (unseen (p.1 ∷ seen) (map (λ r. r.1) rest) x first.1 (param_listed rest k t x e)) in
+    let apart = or_parts (name_eq p.1 x) (has_name seen x) (unseen (p.1 ∷ seen) (map (λ r. r.1) rest) x first.1 (param_listed rest k t x e)) in
     ap (λ b. if b then Some p.0 else lookup (map (λ r. (r.1, r.0)) rest ++ more) x) apart.0 ∙ lookup_param (p.1 ∷ seen) rest k t x more first.1 e
 
 -- nothing is spelled where there is nothing

@@ -15,7 +15,7 @@ use Rattle.ms_ir.specs.declared.calls.External.{External}
 use Rattle.ms_ir.specs.declared.calls.External.TheVariants as external
 use Rattle.ms_ir.specs.declared.syntax.Ty.{Ty}
 use Rattle.ms_ir.specs.Names.{name_eq}
-use Rattle.ms_ir.specs.Code.{operands, func_index, external_named}
+use Rattle.ms_ir.specs.Instructions.{operands, func_index, external_named}
 use Rattle.ms_ir.specs.Locals.{func_insts}
 
 -- an operand is clean, where it is said which values are: a constant is, and an undefined one isn't

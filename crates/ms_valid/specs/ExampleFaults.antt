@@ -17,8 +17,8 @@ use Rattle.ms_ir.specs.declared.syntax.Func.{Func}
 use Rattle.ms_ir.specs.declared.syntax.Decl.{Decl}
 use Rattle.ms_ir.specs.declared.syntax.GlobalVar.{GlobalVar}
 use Rattle.ms_ir.specs.declared.syntax.Module.{Module}
-use Rattle.ms_ir.specs.ExampleParts.{struct_of_two, i8, i32, i64, local, int, sets, does, binary as combine, icmp, branch, ret, name, call, block, main_func, module_of, main_blocks, main_of}
-use Rattle.ms_ir.specs.ExampleCalls.{getchar, putchar}
+use Rattle.ms_ir.specs.Builders.{struct_of_two, i8, i32, i64, local, int, sets, does, binary as combine, icmp, branch, ret, name, call, block, main_func, module_of, main_blocks, main_of}
+use Rattle.ms_ir.specs.Declarations.{getchar, putchar}
 use Rattle.ms_ir.specs.Locals.{Spelled}
 
 -- a name spelled with `@`

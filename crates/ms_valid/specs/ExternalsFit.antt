@@ -17,7 +17,7 @@ use Rattle.ms_ir.specs.declared.syntax.Module.{Module}
 use Rattle.ms_ir.specs.declared.calls.External.{External}
 use Rattle.ms_ir.specs.declared.calls.External.TheVariants as external
 use Rattle.ms_ir.specs.Names.{name_eq, lookup, externals, runtime_functions, is_reserved, is_kept}
-use Rattle.ms_ir.specs.Code.{func_index, external_named}
+use Rattle.ms_ir.specs.Instructions.{func_index, external_named}
 use Rattle.ms_ir.specs.Equal.{has_name, type_eq}
 use Rattle.ms_ir.specs.Locals.{func_insts}
 use Rattle.ms_ir.specs.Spots.{found}

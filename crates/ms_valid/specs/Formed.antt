@@ -9,7 +9,7 @@ use Rattle.ms_ir.specs.declared.syntax.Func.{Func}
 use Rattle.ms_ir.specs.declared.syntax.Decl.{Decl}
 use Rattle.ms_ir.specs.declared.syntax.GlobalVar.{GlobalVar}
 use Rattle.ms_ir.specs.declared.syntax.Module.{Module}
-use Rattle.ms_ir.specs.Code.{operands, over_funcs}
+use Rattle.ms_ir.specs.Instructions.{operands, over_funcs}
 use Rattle.ms_ir.specs.Locals.{locals}
 use Rattle.ms_valid.specs.FormedNames.{is_local_name, is_global_name, are_numbered}
 use Rattle.ms_valid.specs.FormedCode.{is_value_type, type_formed, result_formed, init_formed, inst_formed, is_body}

@@ -16,9 +16,9 @@ use Rattle.ms_ir.specs.declared.syntax.Init as initial
 use Rattle.ms_ir.specs.declared.syntax.Op.{Op}
 use Rattle.ms_ir.specs.declared.syntax.Op.TheVariants as op
 use Rattle.ms_ir.specs.declared.syntax.Inst.{Inst}
-use Rattle.ms_ir.specs.Equal.{Step}
+use Rattle.ms_ir.specs.Equal.{AddressStep}
 use Rattle.ms_ir.specs.Names.{name_eq, main_name}
-use Rattle.ms_ir.specs.Code.{operands, is_phi}
+use Rattle.ms_ir.specs.Instructions.{operands, is_phi}
 use Rattle.ms_bits.specs.NoFlags.{no_flags}
 use Rattle.ms_ir.specs.Written.{labels, result_type}
 use Rattle.ms_valid.specs.FormedNames.{are_bytes, is_local_name, is_global_name}
@@ -65,11 +65,11 @@ number_formed (Int n) k = is_width n && nat_lt k (2 ^ n)
 number_formed t k = false
 
 -- a step of a constant address as it may stand
-abbrev pub step_formed : Step → Bool
+abbrev pub step_formed : AddressStep → Bool
 step_formed s = type_formed s.0 && list_all (λ i. number_formed i.0 i.1) s.1
 
 -- the steps of a constant address as they may stand, of which there is one or more
-abbrev pub steps_formed : List Step → Bool
+abbrev pub steps_formed : List AddressStep → Bool
 steps_formed [] = false
 steps_formed (s ∷ inner) = step_formed s && list_all step_formed inner
 

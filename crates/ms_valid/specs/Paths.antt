@@ -5,7 +5,7 @@ use Rattle.ms_ir.specs.declared.syntax.Name.{Name}
 use Rattle.ms_ir.specs.declared.syntax.Inst.{Inst}
 use Rattle.ms_ir.specs.declared.syntax.Block.{Block}
 use Rattle.ms_ir.specs.declared.syntax.Func.{Func}
-use Rattle.ms_ir.specs.Code.{block_index}
+use Rattle.ms_ir.specs.Instructions.{block_index}
 use Rattle.ms_ir.specs.Written.{block_targets}
 use Rattle.ms_ir.specs.Locals.{results, parameter_names}
 

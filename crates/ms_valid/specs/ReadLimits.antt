@@ -13,8 +13,8 @@ use Rattle.ms_ir.specs.declared.syntax.Op.TheVariants as op
 use Rattle.ms_ir.specs.declared.syntax.Func.{Func}
 use Rattle.ms_ir.specs.declared.syntax.GlobalVar.{GlobalVar}
 use Rattle.ms_ir.specs.declared.syntax.Module.{Module}
-use Rattle.ms_ir.specs.Equal.{Step}
-use Rattle.ms_ir.specs.Code.{operands, over_funcs}
+use Rattle.ms_ir.specs.Equal.{AddressStep}
+use Rattle.ms_ir.specs.Instructions.{operands, over_funcs}
 use Rattle.ms_ir.specs.Written.{Mention, OfType, OfLocal, OfGlobal, type_mentions, mentions, op_types}
 use Rattle.ms_valid.specs.NamesKnown.{global_mentions}
 use Rattle.ms_ir.specs.Locals.{locals, symbols, type_names, func_insts}
@@ -33,7 +33,7 @@ abbrev mutual
   row_depth (more_of-Ty t ts) = max (type_depth t) (row_depth ts)
 
 -- the same of the types of a constant address, the greatest
-abbrev pub steps_depth : List Step → ℕ
+abbrev pub steps_depth : List AddressStep → ℕ
 steps_depth [] = 0
 steps_depth (s ∷ inner) = max (type_depth s.0) (steps_depth inner)
 

@@ -16,9 +16,9 @@ use Rattle.ms_ir.specs.declared.syntax.Func.{Func}
 use Rattle.ms_ir.specs.declared.syntax.GlobalVar.{GlobalVar}
 use Rattle.ms_ir.specs.declared.syntax.Module.{Module}
 use Rattle.ms_ir.specs.Names.{name_eq}
-use Rattle.ms_ir.specs.Code.{operands}
+use Rattle.ms_ir.specs.Instructions.{operands}
 use Rattle.ms_ir.specs.Layout.{Types, resolved, part_type, row_types}
-use Rattle.ms_ir.specs.Equal.{Step, has_name, type_eq, result_type_eq}
+use Rattle.ms_ir.specs.Equal.{AddressStep, has_name, type_eq, result_type_eq}
 use Rattle.ms_ir.specs.Written.{targets}
 use Rattle.ms_ir.specs.Spots.{found_at_insts}
 use Rattle.ms_ir.specs.Locals.{value_type, block_names, global_names}
@@ -66,7 +66,7 @@ abbrev pub constant_indices : List (Ty × ℕ) → List (Ty × Operand)
 constant_indices indices = map (λ i. (i.0, operand.Int i.1)) indices
 
 -- the indices of a constant step lead into parts of its type
-abbrev pub step_fits : Types → Step → Bool
+abbrev pub step_fits : Types → AddressStep → Bool
 step_fits types s = is_none (first_misstep (λ i. true) types s.0 0 (drop 1 (constant_indices s.1)))
 
 -- ---- operands

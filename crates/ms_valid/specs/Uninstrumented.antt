@@ -3,7 +3,7 @@ use Rattle.std.specs.Prelude.{◌≤◌, ◌^◌, Bool, not, nat_le, length, IsT
 use Rattle.std.specs.List.{list_all}
 use Rattle.ms_ir.specs.declared.syntax.Module.{Module}
 use Rattle.ms_ir.specs.Names.{is_reserved}
-use Rattle.ms_ir.specs.Code.{operands, over_funcs, NoMarks}
+use Rattle.ms_ir.specs.Instructions.{operands, over_funcs, NoMarks}
 use Rattle.ms_valid.specs.ReadLimits.{module_names}
 
 -- no name that a module defines or uses is reserved

@@ -8,7 +8,7 @@ use Rattle.ms_ir.specs.declared.syntax.Op.{Op}
 use Rattle.ms_ir.specs.declared.syntax.Op.TheVariants as op
 use Rattle.ms_ir.specs.declared.syntax.Func.{Func}
 use Rattle.ms_ir.specs.declared.syntax.Module.{Module}
-use Rattle.ms_ir.specs.Code.{operands, block_index}
+use Rattle.ms_ir.specs.Instructions.{operands, block_index}
 use Rattle.ms_ir.specs.Spots.{Spot, found_at_insts}
 use Rattle.ms_valid.specs.Paths.{ValueUse, insts_of, IsDefined}
 

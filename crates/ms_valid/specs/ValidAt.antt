@@ -4,7 +4,7 @@ use Rattle.ms_ir.specs.declared.syntax.Inst.{Inst}
 use Rattle.ms_ir.specs.declared.syntax.Func.{Func}
 use Rattle.ms_ir.specs.declared.syntax.Module.{Module}
 use Rattle.ms_ir.specs.Names.{is_kept}
-use Rattle.ms_ir.specs.Code.{func_at, insts_at, site_at}
+use Rattle.ms_ir.specs.Instructions.{func_at, insts_at, site_at}
 use Rattle.ms_ir.specs.Written.{type_mentions, mentions}
 use Rattle.ms_ir.specs.Spots.{Spot, spot}
 use Rattle.ms_ir.specs.Locals.{locals, value_type}

@@ -10,7 +10,7 @@ ghost use Rattle.ms_ir.specs.declared.syntax.Op.TheVariants as op;
 ghost use Rattle.ms_ir.specs.declared.syntax.Operand.{Operand};
 ghost use Rattle.ms_ir.specs.declared.syntax.Operand.TheVariants as operand;
 ghost use Rattle.ms_ir.specs.declared.syntax.Ty.{Ty};
-ghost use Rattle.ms_ir.specs.Code.{operands, block_index, func_at, insts_at, is_phi};
+ghost use Rattle.ms_ir.specs.Instructions.{operands, block_index, func_at, insts_at, is_phi};
 ghost use Rattle.ms_valid.specs.Paths.{IsSet, Path, ValueUse, IsDefined, Misses, insts_of};
 ghost use Rattle.ms_ir.specs.Places.{HasSmallNumbers};
 ghost use Rattle.ms_valid.specs.Valid.{Valid};

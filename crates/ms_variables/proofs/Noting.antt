@@ -2,7 +2,7 @@
 use Rattle.std.proofs.Common.{◌≡◌, ◌<◌, ◌+◌, ℕ, Bool, true, false, ◌&&◌, ◌==◌, cond, nat_eq, List, Option, Some, None, is_some, Bor, bytes_eq, length, get_or, add-one, refl, ap, subst, ◌∙◌, arith}
 use Rattle.std.specs.Cmp.Lexicographic.{pointwise, bytes_decides}
 use Rattle.std.specs.HashMap as hash
-use Rattle.std.proofs.lemmas.Bool.{eqb-true}
+use Rattle.std.proofs.lemmas.Bool.{eqb-true, and_parts}
 use Rattle.std.proofs.lemmas.Option.{slice_get-get_or}
 use Rattle.ms_lex.specs.Tokens.{Text}
 use Rattle.ms_places.specs.declared.marks.Mark.{Mark}
@@ -31,14 +31,10 @@ pub absent : (o : Option ℕ) (b : Bool) → b ≡ is_some o → b ≡ false →
 absent None b e f = refl
 absent (Some x) b e f = absurd cc
 
-both : (a b : Bool) → (a && b) ≡ true → (a ≡ true) × (b ≡ true)
-both true b h = (refl, h)
-both false b h = absurd cc
-
 -- equal keys have one place
 same_place : (records : Records) (function f : ℕ) (local l : Text) → ((function == f) && bytes_eq local l) ≡ true → noted records f l ≡ noted records function local
 same_place records function f local l h =
-    let parts = both (function == f) (bytes_eq local l) h in
+    let parts = and_parts (function == f) (bytes_eq local l) h in
     let function_is = eqb-true function f parts.0 in
     let local_is = (bytes_decides local l).0 parts.1 in
     subst (λ (g : ℕ). noted records g l ≡ noted records function local) function_is

@@ -2,7 +2,7 @@
 use Rattle.std.proofs.Common.{◌≡◌, ◌<◌, ℕ, zero, suc, List, [], ◌∷◌, length, get_or, drop, slice_range, refl, sym, ap, ◌∙◌, arith}
 use Rattle.ms_lex.specs.declared.kinds.Token.{Token}
 use Rattle.ms_lex.specs.Tokens.{Text}
-use Rattle.ms_grammar.specs.Lexemes.{lexemes_of}
+use Rattle.ms_text_grammar.specs.Lexemes.{lexemes_of}
 use Rattle.ms_read_cursor.specs.Reading.{front}
 
 spelling_at_place : (text : Text) (tokens : List Token) (n : ℕ) (d : Token) → n < length tokens

@@ -3,11 +3,11 @@ use Rattle.std.proofs.Common.{◌≡◌, Bool, true, false, List, [], ◌∷◌,
 use Rattle.std.specs.Prelude.{◌&&◌}
 use Rattle.ms_ir.specs.declared.syntax.Decl.{Decl}
 use Rattle.ms_ir.specs.declared.syntax.Ty.{Ty}
-use Rattle.ms_grammar.specs.Insts.{names_printf, is_i32}
-use Rattle.ms_grammar.specs.Lexemes.{Lexeme}
-use Rattle.ms_written.specs.Modules.{is_one_pointer, is_dotted, dots}
-use Rattle.ms_written.specs.Pieces.{comma, behind_commas, with_commas}
-use Rattle.ms_written.specs.Types.{type_tokens}
+use Rattle.ms_text_grammar.specs.Insts.{names_printf, is_i32}
+use Rattle.ms_text_grammar.specs.Lexemes.{Lexeme}
+use Rattle.ms_text_layout.specs.Modules.{is_one_pointer, is_dotted, dots}
+use Rattle.ms_text_layout.specs.Pieces.{comma, behind_commas, with_commas}
+use Rattle.ms_text_layout.specs.Types.{type_tokens}
 use Rattle.ms_write_values.specs.Parts.{dot_tokens}
 use Rattle.ms_write_values.specs.Sheets.{Sheet, put}
 use Rattle.ms_write_values.proofs.Puts.{put_append}

@@ -9,10 +9,10 @@ use Rattle.ms_ir.specs.declared.syntax.Name.{Name}
 use Rattle.ms_ir.specs.declared.syntax.Name.TheVariants as name
 use Rattle.ms_ir.specs.declared.syntax.Op.{Op}
 use Rattle.ms_ir.specs.declared.syntax.Op.TheVariants as op
-use Rattle.ms_grammar.specs.Lexemes.{Lexeme}
-use Rattle.ms_written.specs.Insts.{op_tokens, named_tokens, mark_tokens, inst_tokens, inst_line}
-use Rattle.ms_written.specs.Modules.{type_line, global_line, declaration_line, head_line, entry_label, body_lines, block_lines, blocks_lines, function_lines, has_dots, module_lines}
-use Rattle.ms_written.specs.Pieces.{Line, indent_of}
+use Rattle.ms_text_grammar.specs.Lexemes.{Lexeme}
+use Rattle.ms_text_layout.specs.Insts.{op_tokens, named_tokens, mark_tokens, inst_tokens, inst_line}
+use Rattle.ms_text_layout.specs.Modules.{type_line, global_line, declaration_line, head_line, entry_label, body_lines, block_lines, blocks_lines, function_lines, has_dots, module_lines}
+use Rattle.ms_text_layout.specs.Pieces.{Line, indent_of}
 use Rattle.ms_write.proofs.Rendering.{IsFull, AreFull}
 
 -- ---- lists

@@ -2,8 +2,8 @@
 use Rattle.std.proofs.Common.{◌≡◌, Bool, List, [], ◌∷◌, ◌++◌, Some, refl, ap, sym, ◌∙◌, append_assoc, append-nil}
 use Rattle.std.specs.Prelude.{◌||◌, ◌&&◌, codes, if◌then◌else◌}
 use Rattle.ms_lex.specs.Tokens.{Text}
-use Rattle.ms_grammar.specs.Lexemes.{Lexeme}
-use Rattle.ms_written.specs.Pieces.{Piece, render, is_first, are_close, between, spaced, Line, indent_of, pieces_of}
+use Rattle.ms_text_grammar.specs.Lexemes.{Lexeme}
+use Rattle.ms_text_layout.specs.Pieces.{Piece, render, is_first, are_close, between, spaced, Line, indent_of, pieces_of}
 use Rattle.ms_write_values.specs.Sheets.{Sheet, first_byte, are_near, gap, put_text, put, opened, put_line, put_lines}
 
 -- ---- spaces

@@ -1,19 +1,19 @@
 //! What instructions do (LLVM Language Reference, "Instruction Reference").
 ghost use Rattle.std.specs.Prelude.{◌≡◌, ◌&&◌, Bool, [], ◌∷◌, ◌++◌, IfOk, codes, flat_map, map};
-ghost use Rattle.ms_grammar.specs.Types.{int_width, is_width};
-ghost use Rattle.ms_grammar.specs.Insts.{is_i32 as is_i32_result, names_printf as names_printf_of};
-ghost use Rattle.ms_written.specs.Insts.{binary_word as binary_word_of, cast_word as cast_word_of, predicate_text, flag_tokens, address_tokens, target_tokens, bit_tokens, edge_tokens, case_tokens, is_one as is_one_of, count_tokens, callee_type_tokens, returned_tokens, op_tokens};
-ghost use Rattle.ms_written.specs.Names.{global_token};
-ghost use Rattle.ms_written.specs.Pieces.{behind_commas, enclosed, sign, with_commas, word};
-ghost use Rattle.ms_written.specs.Types.{result_tokens, type_tokens};
-ghost use Rattle.ms_written.specs.Values.{pair_tokens, typed_tokens};
+ghost use Rattle.ms_text_grammar.specs.Types.{int_width, is_width};
+ghost use Rattle.ms_text_grammar.specs.Insts.{is_i32 as is_i32_result, names_printf as names_printf_of};
+ghost use Rattle.ms_text_layout.specs.Insts.{binary_word as binary_word_of, cast_word as cast_word_of, predicate_text, flag_tokens, address_tokens, target_tokens, bit_tokens, edge_tokens, case_tokens, is_one as is_one_of, count_tokens, callee_type_tokens, returned_tokens, op_tokens};
+ghost use Rattle.ms_text_layout.specs.Names.{global_token};
+ghost use Rattle.ms_text_layout.specs.Pieces.{behind_commas, enclosed, sign, with_commas, word};
+ghost use Rattle.ms_text_layout.specs.Types.{result_tokens, type_tokens};
+ghost use Rattle.ms_text_layout.specs.Values.{pair_tokens, typed_tokens};
 ghost use Rattle.ms_write.specs.Kinds.{IsComputation, IsAccess, IsTerminator};
 ghost use Rattle.ms_write_values.specs.Parts.{two_tokens};
 ghost use Rattle.ms_write_values.specs.Sheets.{put};
 
 use ms_bits::{BinOp, CastOp, Flags, NoMemory, Pred};
-use ms_ir::{Name, Op, Operand, Ty};
-use ms_write_values::{Writer, binary_word, cast_word, predicate_word, width_of};
+use ms_ir::{Name, Op, Operand, Ty, width_of};
+use ms_write_values::{Writer, binary_word, cast_word, predicate_word};
 
 /// Whether a type is `i32`.
 fn is_i32(ty: &Ty) -> bool
@@ -256,7 +256,7 @@ fn write_store(
 }
 
 #[tactic(auto, using(ms_write_values::proofs::Puts::put_append))]
-fn write_element_pointer(
+fn write_gep(
     writer: &mut Writer,
     ty: &Ty,
     base: &Operand,
@@ -403,7 +403,7 @@ fn write_ret(writer: &mut Writer, value: &Option<(Ty, Operand)>) -> Result<(), N
 }
 
 /// Writes an operation, a comparison, a cast, a choice or a `freeze`.
-#[tactic(auto, unfolding(ms_written::specs::Insts::op_tokens))]
+#[tactic(auto, unfolding(ms_text_layout::specs::Insts::op_tokens))]
 fn write_computation(writer: &mut Writer, op: &Op) -> Result<(), NoMemory>
     requires { IsComputation op.now }
     ensures { (dotted : Bool) → IfOk result (λ _. writer.new ≡ put writer.old (op_tokens dotted op.now)) }
@@ -437,7 +437,7 @@ fn write_computation(writer: &mut Writer, op: &Op) -> Result<(), NoMemory>
 }
 
 /// Writes an instruction that makes, reads or writes memory, or makes an address.
-#[tactic(auto, unfolding(ms_written::specs::Insts::op_tokens))]
+#[tactic(auto, unfolding(ms_text_layout::specs::Insts::op_tokens))]
 fn write_access(writer: &mut Writer, op: &Op) -> Result<(), NoMemory>
     requires { IsAccess op.now }
     ensures { (dotted : Bool) → IfOk result (λ _. writer.new ≡ put writer.old (op_tokens dotted op.now)) }
@@ -450,15 +450,13 @@ fn write_access(writer: &mut Writer, op: &Op) -> Result<(), NoMemory>
         } => write_alloca(writer, ty, count_ty, count),
         Op::Load { ty, addr } => write_load(writer, ty, addr),
         Op::Store { ty, value, addr } => write_store(writer, ty, value, addr),
-        Op::Gep { ty, base, indices } => {
-            write_element_pointer(writer, ty, base, indices.as_slice())
-        }
+        Op::Gep { ty, base, indices } => { write_gep(writer, ty, base, indices.as_slice()) }
         _ => unreachable!(),
     }
 }
 
 /// Writes an instruction that ends a block.
-#[tactic(auto, unfolding(ms_written::specs::Insts::op_tokens))]
+#[tactic(auto, unfolding(ms_text_layout::specs::Insts::op_tokens))]
 fn write_terminator(writer: &mut Writer, op: &Op) -> Result<(), NoMemory>
     requires { IsTerminator op.now }
     ensures { (dotted : Bool) → IfOk result (λ _. writer.new ≡ put writer.old (op_tokens dotted op.now)) }
@@ -479,7 +477,7 @@ fn write_terminator(writer: &mut Writer, op: &Op) -> Result<(), NoMemory>
 }
 
 /// Writes what an instruction does; `dotted` says whether calls of `printf` have three dots.
-#[tactic(auto, unfolding(ms_written::specs::Insts::op_tokens))]
+#[tactic(auto, unfolding(ms_text_layout::specs::Insts::op_tokens))]
 pub fn write_op(writer: &mut Writer, dotted: bool, op: &Op) -> Result<(), NoMemory>
     ensures { IfOk result (λ _. writer.new ≡ put writer.old (op_tokens dotted op.now)) }
 {

@@ -1,15 +1,12 @@
 -- A step of the loops over lists, and the first item of a list that has one.
-use Rattle.std.proofs.Common.{◌≡◌, ◌<◌, ◌≤◌, ℕ, suc, ◌+◌, ◌-◌, List, ◌∷◌, ◌++◌, map, sym, ap, ◌∙◌, arith, take, drop, length, get_or, add-one, length-drop}
+use Rattle.std.proofs.Common.{◌≡◌, ◌<◌, ◌≤◌, ℕ, ◌+◌, ◌-◌, List, ◌∷◌, ◌++◌, map, sym, ap, ◌∙◌, arith, take, drop, length, get_or, length-drop}
 use Rattle.std.specs.Prelude.{codes, flat_map}
-use Rattle.std.proofs.Math.Seq.{drop-cons}
 use Rattle.std.proofs.lemmas.List.{take_all}
-use Rattle.ms_grammar.specs.Lexemes.{Lexeme}
-use Rattle.ms_written.specs.Pieces.{Line, behind_commas, with_commas}
+use Rattle.ms_text_grammar.specs.Lexemes.{Lexeme}
+use Rattle.ms_text_layout.specs.Pieces.{Line, behind_commas, with_commas}
 use Rattle.ms_write_values.specs.Sheets.{Sheet, put_text, put, put_lines}
 use Rattle.ms_write_values.proofs.Puts.{put_append, put_lines_append}
-
-drop_next : {A : Type 0} (xs : List A) (i : ℕ) (x : A) → i < length xs → x ≡ get_or xs i x → drop i xs ≡ x ∷ drop (i + 1) xs
-drop_next xs i x l is = drop-cons xs i x l ∙ ap (λ y. y ∷ drop (suc i) xs) (sym is) ∙ ap (λ n. x ∷ drop n xs) (sym (add-one i))
+use Rattle.ms_ir.proofs.Sizes.{drop_next}
 
 behind_first : {A : Type 0} (xs : List A) (x : A) → 1 ≤ length xs → x ≡ get_or xs 0 x → xs ≡ x ∷ take (length xs - 1) (drop 1 xs)
 behind_first xs x l is =

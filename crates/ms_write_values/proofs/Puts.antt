@@ -2,10 +2,10 @@
 use Rattle.std.proofs.Common.{◌≡◌, ℕ, Bool, true, false, if◌then◌else◌, Option, Some, None, List, [], ◌∷◌, ◌++◌, refl, ap, ◌∙◌, append_assoc}
 use Rattle.std.specs.Prelude.{codes, ◌||◌, ◌&&◌, ◌==◌}
 use Rattle.ms_lex.specs.Tokens.{Text}
-use Rattle.ms_grammar.specs.Lexemes.{Lexeme}
-use Rattle.ms_written.specs.Pieces.{Line, sign, with_commas}
-use Rattle.ms_written.specs.Insts.{mark_tokens}
-use Rattle.ms_written.specs.Types.{struct_tokens}
+use Rattle.ms_text_grammar.specs.Lexemes.{Lexeme}
+use Rattle.ms_text_layout.specs.Pieces.{Line, sign, with_commas}
+use Rattle.ms_text_layout.specs.Insts.{mark_tokens}
+use Rattle.ms_text_layout.specs.Types.{struct_tokens}
 use Rattle.ms_write_values.specs.Sheets.{Sheet, gap, put_text, put, put_line, put_lines}
 use Rattle.ms_write_values.specs.Parts.{open_tokens, close_tokens}
 

@@ -4,10 +4,10 @@ use Rattle.ms_lex.specs.Tokens.{Text}
 use Rattle.ms_ir.specs.declared.syntax.Init.{Init}
 use Rattle.ms_ir.specs.declared.syntax.Operand.{Operand}
 use Rattle.ms_ir.specs.declared.syntax.Ty.{Ty}
-use Rattle.ms_grammar.specs.Lexemes.{Lexeme}
-use Rattle.ms_written.specs.Pieces.{sign, comma, three_dots}
-use Rattle.ms_written.specs.Types.{type_tokens}
-use Rattle.ms_written.specs.Values.{init_tokens, typed_tokens, value_tokens}
+use Rattle.ms_text_grammar.specs.Lexemes.{Lexeme}
+use Rattle.ms_text_layout.specs.Pieces.{sign, comma, three_dots}
+use Rattle.ms_text_layout.specs.Types.{type_tokens}
+use Rattle.ms_text_layout.specs.Values.{init_tokens, typed_tokens, value_tokens}
 
 -- the digits of a signed number that is kept as a word: of the word, or behind a minus sign of how far it is below zero
 abbrev pub signed_digits : ℕ → Option ℕ → Text

@@ -11,6 +11,5 @@ mod words;
 mod writer;
 
 pub use spelling::{push_name, push_number};
-pub use types::width_of;
 pub use words::{binary_word, cast_word, predicate_word};
 pub use writer::Writer;

@@ -1,25 +1,13 @@
 //! Types (LLVM Language Reference, "Type System").
 ghost use Rattle.std.specs.Prelude.{◌≡◌, [], ◌∷◌, IfOk, decimal, map};
-ghost use Rattle.ms_ir.specs.Layout.{width_of as width_of_type};
-ghost use Rattle.ms_written.specs.Pieces.{word, behind_commas, with_commas};
-ghost use Rattle.ms_written.specs.Types.{array_tokens, struct_tokens, type_tokens, result_tokens};
+ghost use Rattle.ms_text_layout.specs.Pieces.{word, behind_commas, with_commas};
+ghost use Rattle.ms_text_layout.specs.Types.{array_tokens, struct_tokens, type_tokens, result_tokens};
 ghost use Rattle.ms_write_values.specs.Parts.{open_tokens, close_tokens};
 ghost use Rattle.ms_write_values.specs.Sheets.{put};
 
 use crate::writer::Writer;
 use ms_bits::NoMemory;
 use ms_ir::Ty;
-
-/// The bits of a word of a type; a pointer has 64, and a type without words none.
-pub fn width_of(ty: &Ty) -> u8
-    ensures { result ≡ width_of_type ty.now }
-{
-    match ty {
-        Ty::Int(width) => *width,
-        Ty::Ptr => 64,
-        _ => 0,
-    }
-}
 
 impl Writer {
     /// Writes an integer type by its digits.

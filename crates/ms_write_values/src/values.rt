@@ -1,16 +1,15 @@
 //! Values behind their types (LLVM Language Reference, "Constants").
 ghost use Rattle.std.specs.Prelude.{◌≡◌, ◌∷◌, IfOk, codes, map};
-ghost use Rattle.ms_written.specs.Names.{global_token};
-ghost use Rattle.ms_written.specs.Pieces.{behind_commas, with_commas, word};
-ghost use Rattle.ms_written.specs.Types.{type_tokens};
-ghost use Rattle.ms_written.specs.Values.{constant_index_tokens, offset_tokens, base_tokens, value_tokens, typed_tokens, pair_tokens};
+ghost use Rattle.ms_text_layout.specs.Names.{global_token};
+ghost use Rattle.ms_text_layout.specs.Pieces.{behind_commas, with_commas, word};
+ghost use Rattle.ms_text_layout.specs.Types.{type_tokens};
+ghost use Rattle.ms_text_layout.specs.Values.{constant_index_tokens, offset_tokens, base_tokens, value_tokens, typed_tokens, pair_tokens};
 ghost use Rattle.ms_write_values.specs.Parts.{two_tokens};
 ghost use Rattle.ms_write_values.specs.Sheets.{put};
 
-use crate::types::width_of;
 use crate::writer::Writer;
 use ms_bits::{List, NoMemory};
-use ms_ir::{Name, Operand, Ty};
+use ms_ir::{Name, Operand, Ty, width_of};
 
 impl Writer {
     /// Writes a constant index behind its type: a number, of a single bit too.
@@ -54,7 +53,7 @@ impl Writer {
 
     /// Writes a constant `getelementptr`, within which others may stand.
     #[cycle(addresses)]
-    #[tactic(auto, using(crate::proofs::Puts::put_append), unfolding(ms_written::specs::Values::offset_tokens))]
+    #[tactic(auto, using(crate::proofs::Puts::put_append), unfolding(ms_text_layout::specs::Values::offset_tokens))]
     fn step(
         &mut self,
         step: &(Ty, List<(Ty, u64)>),
@@ -81,7 +80,7 @@ impl Writer {
     }
 
     /// Writes a value of a type, which isn't written.
-    #[tactic(auto, unfolding(ms_written::specs::Values::value_tokens))]
+    #[tactic(auto, unfolding(ms_text_layout::specs::Values::value_tokens))]
     pub fn value(&mut self, ty: &Ty, operand: &Operand) -> Result<(), NoMemory>
         ensures { IfOk result (λ _. self.new ≡ put self.old (value_tokens ty.now operand.now)) }
     {

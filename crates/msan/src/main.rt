@@ -4,15 +4,10 @@
 
 use ms_bits::Text;
 use ms_io::{RealFiles, RealSink};
+use ms_top::Status;
 use std::process::ExitCode;
 use std::rt::Env;
 use std::{env, io};
-
-/// The status where memory runs out for the words.
-const NO_MEMORY: u8 = 8;
-
-/// The status where the system doesn't give the words, as where one isn't UTF-8.
-const NO_WORDS: u8 = 10;
 
 /// The words after the program's name.
 fn words_of<R: Env + AllocGlobal>(rt: &R) -> io::Result<Vec<Text>> {
@@ -30,10 +25,10 @@ fn main(rt: HostRuntime) -> ExitCode {
         Ok(words) => words,
         Err(error) => {
             let status = match error.kind() {
-                io::ErrorKind::OutOfMemory => NO_MEMORY,
-                _ => NO_WORDS,
+                io::ErrorKind::OutOfMemory => Status::NoMemory,
+                _ => Status::NoWords,
             };
-            return ExitCode::from(status);
+            return ExitCode::from(status as u8);
         }
     };
     let mut files = RealFiles::new(&rt);

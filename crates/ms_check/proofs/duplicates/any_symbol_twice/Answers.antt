@@ -1,9 +1,10 @@
 use Rattle.std.proofs.Common.{◌≡◌, ◌++◌, [], None, ◌∙◌, ap, sym}
 use Rattle.std.specs.Prelude.{slice_get}
 use Rattle.std.specs.Option.{option_copied}
+use Rattle.std.proofs.lemmas.Result.{IfOk-weaker}
 use Rattle.ms_ir.specs.Locals.{global_names, declared_names, type_names}
 use Rattle.ms_valid.specs.NamesOnce.{repeats, function_duplicates}
-use Rattle.ms_tables.proofs.Items.{none_then, under_ok}
+use Rattle.ms_tables.proofs.Items.{none_then}
 use Rattle.ms_check.proofs.Repeated.{symbol_fault, function_fault}
 use Rattle.ms_check.proofs.duplicates.any_symbol_twice.Goals as goal
 
@@ -23,6 +24,6 @@ returns-in-None c =
     ap (λ seen. slice_get (repeats seen names) 0) (sym c.requires.empty) ∙ sym c.in_ok-name.ensures.first ∙ ap option_copied c.in-None.is in
     let symbols : c.symbol_twice.new.symbols ≡ names =
     none_then c.in_ok-name.field-0 (c.symbol_twice.new.symbols ≡ c.args.symbols.now ++ names) c.in-None.is c.in_ok-name.ensures.symbols ∙ ap (λ seen. seen ++ names) c.requires.empty in
-    under_ok c.functions_twice.result _ _ (λ r p.
+    IfOk-weaker c.functions_twice.result _ _ (λ r p.
     p ∙ ap (λ funcs. slice_get (function_duplicates c.symbol_twice.new.symbols funcs) 0) c.as_slice.ensures ∙ function_fault m c.symbol_twice.new.symbols types once symbols
     ) c.functions_twice.ensures

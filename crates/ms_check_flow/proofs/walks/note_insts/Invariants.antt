@@ -1,5 +1,5 @@
 use Rattle.std.proofs.Common.{◌≡◌, ◌+◌, ◌++◌, [], drop}
-use Rattle.ms_ir.specs.Code.{one_unmarked, over_insts}
+use Rattle.ms_ir.specs.Instructions.{one_unmarked, over_insts}
 use Rattle.ms_check_flow.specs.Noted.{insts_noted}
 use Rattle.ms_check_flow.proofs.walks.note_insts.Given as goal
 

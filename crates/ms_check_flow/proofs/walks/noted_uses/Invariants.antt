@@ -1,5 +1,5 @@
 use Rattle.std.proofs.Common.{◌≡◌, ◌+◌, ◌++◌, drop}
-use Rattle.ms_ir.specs.Code.{one_unmarked, over_blocks}
+use Rattle.ms_ir.specs.Instructions.{one_unmarked, over_blocks}
 use Rattle.ms_check_flow.specs.Noted.{blocks_noted}
 use Rattle.ms_check_flow.proofs.walks.noted_uses.Given as goal
 

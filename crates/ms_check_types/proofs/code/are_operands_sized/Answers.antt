@@ -1,5 +1,5 @@
 use Rattle.std.proofs.Common.{sym, ◌∙◌, arith}
-use Rattle.ms_ir.specs.Code.{operands}
+use Rattle.ms_ir.specs.Instructions.{operands}
 use Rattle.ms_check_types.specs.SizedParts.{is_typed_sized}
 use Rattle.ms_check_types.proofs.OneByOne.{all_on, all_stop, all_done}
 use Rattle.ms_check_types.proofs.code.are_operands_sized.Goals as goal

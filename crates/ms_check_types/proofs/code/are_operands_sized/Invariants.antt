@@ -1,6 +1,6 @@
 use Rattle.std.proofs.Common.{◌≡◌, drop}
 use Rattle.std.specs.List.{list_all}
-use Rattle.ms_ir.specs.Code.{operands}
+use Rattle.ms_ir.specs.Instructions.{operands}
 use Rattle.ms_check_types.specs.SizedParts.{is_typed_sized}
 use Rattle.ms_check_types.proofs.code.are_operands_sized.Given as goal
 

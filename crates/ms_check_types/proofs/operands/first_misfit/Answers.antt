@@ -1,5 +1,5 @@
 use Rattle.std.proofs.Common.{sym, ◌∙◌, arith}
-use Rattle.ms_ir.specs.Code.{operands}
+use Rattle.ms_ir.specs.Instructions.{operands}
 use Rattle.ms_check_types.specs.Bodies.{fits_in}
 use Rattle.ms_check_types.proofs.OneByOne.{misfit_on, misfit_here, misfit_none}
 use Rattle.ms_check_types.proofs.operands.first_misfit.Goals as goal

@@ -1,5 +1,5 @@
 use Rattle.std.proofs.Common.{[], ◌∷◌, map, Some, ap, sym, ◌∙◌, append-nil}
-use Rattle.ms_ir.specs.Code.{operands}
+use Rattle.ms_ir.specs.Instructions.{operands}
 use Rattle.ms_tables.specs.FirstPlace.{first_place}
 use Rattle.ms_elide.proofs.Steps.{needs_more, needs_never}
 use Rattle.ms_elide.proofs.needs.operands_need.Goals as goal

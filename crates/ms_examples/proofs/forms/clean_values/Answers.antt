@@ -3,11 +3,11 @@ use Rattle.std.specs.Prelude.{◌&&◌}
 use Rattle.std.specs.List.{list_any}
 use Rattle.ms_ir.specs.declared.syntax.Name.TheVariants.{Number}
 use Rattle.ms_ir.specs.Names.{name_eq}
-use Rattle.ms_ir.specs.ExampleModules.{branch_on_unset}
+use Rattle.ms_example_modules.specs.Programs.{branch_on_unset}
 use Rattle.ms_valid.specs.CleanValues.{gives_name, makes_clean}
 use Rattle.ms_valid.specs.ExampleFaults.{first_func}
 use Rattle.ms_ir.specs.Locals.{func_insts}
-use Rattle.ms_valid.proofs.NameTests.{name_sound}
+use Rattle.ms_ir.proofs.RootKinds.{name_same}
 use Rattle.ms_examples.proofs.forms.clean_values.Goals as goal
 
 pub returns-clause-room : goal.returns-clause-room
@@ -15,7 +15,7 @@ returns-clause-room c = record {
   clean = λ y. name_eq y (Number 1);
   supported = λ x e. subst
       (λ y. list_any (λ inst. gives_name y inst && makes_clean branch_on_unset (λ z. name_eq z (Number 1)) inst.op) (func_insts (first_func branch_on_unset)) ≡ true)
-      (sym (name_sound x (Number 1) e)) refl;
+      (sym (name_same x (Number 1) e)) refl;
   member = refl;
 }
 

@@ -1,6 +1,6 @@
 use Rattle.std.proofs.Common.{refl, ◌∙◌, [], ◌∷◌}
 use Rattle.ms_bits.specs.Words.{words}
-use Rattle.ms_ir.specs.ExampleModules.{frozen, undef_sum}
+use Rattle.ms_example_modules.specs.Programs.{frozen, undef_sum}
 use Rattle.ms_runs.specs.ExampleRuns.{filled}
 use Rattle.ms_runs_laws.specs.Formulas.{formulas}
 use Rattle.ms_runs_laws.proofs.ExactRules.{computed}

@@ -1,6 +1,6 @@
 use Rattle.std.proofs.Common.{refl, ◌∙◌}
 use Rattle.ms_bits.specs.Words.{words}
-use Rattle.ms_ir.specs.ExampleModules.{returns_zero}
+use Rattle.ms_example_modules.specs.Programs.{returns_zero}
 use Rattle.ms_runs.specs.ExampleRuns.{defaults, steps}
 use Rattle.ms_runs.specs.Origins.{depth_limit}
 use Rattle.ms_examples.specs.Programs.{sixteen_copies}

@@ -1,9 +1,9 @@
 use Rattle.std.proofs.Common.{refl, ◌∙◌, [], ◌∷◌}
 use Rattle.ms_bits.specs.Words.{words}
-use Rattle.ms_ir.specs.ExampleExternals.{heap_filled, freed}
-use Rattle.ms_ir.specs.ExampleCalls as calls
+use Rattle.ms_example_modules.specs.Externals.{heap_filled, freed}
+use Rattle.ms_ir.specs.Declarations as calls
 use Rattle.ms_runs.specs.ExampleRuns.{defaults}
-use Rattle.ms_ir.specs.ExampleParts.{does, call, local}
+use Rattle.ms_ir.specs.Builders.{does, call, local}
 use Rattle.ms_examples.specs.Programs.{branch_on_zeroed}
 use Rattle.ms_runs_laws.specs.Formulas.{formulas}
 use Rattle.ms_runs_laws.proofs.ExactRules.{computed}

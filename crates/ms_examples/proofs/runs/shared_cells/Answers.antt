@@ -1,6 +1,6 @@
 use Rattle.std.proofs.Common.{refl, ◌∙◌}
 use Rattle.ms_bits.specs.Words.{words}
-use Rattle.ms_ir.specs.ExampleModules.{shared_cell}
+use Rattle.ms_example_modules.specs.Programs.{shared_cell}
 use Rattle.ms_runs.specs.ExampleRuns.{defaults}
 use Rattle.ms_runs.specs.Origins.{depth_limit}
 use Rattle.ms_runs_laws.specs.Formulas.{formulas}

@@ -1,6 +1,6 @@
 use Rattle.std.proofs.Common.{refl, ◌∙◌, [], ◌∷◌}
 use Rattle.ms_bits.specs.Words.{words}
-use Rattle.ms_ir.specs.ExampleModules.{lost_in_addition, carry_of_undef}
+use Rattle.ms_example_modules.specs.Programs.{lost_in_addition, carry_of_undef}
 use Rattle.ms_runs.specs.ExampleRuns.{defaults, filled}
 use Rattle.ms_examples.specs.Programs.{indexed_by_undef}
 use Rattle.ms_runs_laws.specs.Formulas.{formulas}

@@ -1,6 +1,6 @@
 use Rattle.std.proofs.Common.{refl, ◌∙◌}
 use Rattle.ms_bits.specs.Words.{words}
-use Rattle.ms_ir.specs.ExampleModules.{two_edges, branch_on_unset, frozen, store_to_shadow, sum_wraps, three_branches}
+use Rattle.ms_example_modules.specs.Programs.{two_edges, branch_on_unset, frozen, store_to_shadow, sum_wraps, three_branches}
 use Rattle.ms_runs.specs.ExampleRuns.{defaults, steps}
 use Rattle.ms_runs_laws.specs.Formulas.{formulas}
 use Rattle.ms_runs_laws.proofs.ExactRules.{computed}

@@ -1,6 +1,6 @@
 use Rattle.std.proofs.Common.{refl, ◌∙◌}
 use Rattle.ms_bits.specs.Words.{words}
-use Rattle.ms_ir.specs.ExampleModules.{clang_unoptimised, nested_call, recursion, write_with_gap}
+use Rattle.ms_example_modules.specs.Programs.{clang_unoptimised, nested_call, recursion, write_with_gap}
 use Rattle.ms_runs.specs.ExampleRuns.{defaults}
 use Rattle.ms_runs_laws.specs.Formulas.{formulas}
 use Rattle.ms_runs_laws.proofs.ExactRules.{computed}

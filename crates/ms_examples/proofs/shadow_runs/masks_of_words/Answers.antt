@@ -1,6 +1,6 @@
 use Rattle.std.proofs.Common.{refl, ◌∙◌, [], ◌∷◌}
 use Rattle.ms_bits.specs.Words.{words}
-use Rattle.ms_ir.specs.ExampleModules.{branch_on_unset, masked_to_zero, ordered_compare, returns_zero, select_undef, set_bit_is_not_zero, two_unset, undef_divisor}
+use Rattle.ms_example_modules.specs.Programs.{branch_on_unset, masked_to_zero, ordered_compare, returns_zero, select_undef, set_bit_is_not_zero, two_unset, undef_divisor}
 use Rattle.ms_runs.specs.ExampleRuns.{defaults, filled}
 use Rattle.ms_runs_laws.specs.Formulas.{formulas}
 use Rattle.ms_runs_laws.proofs.ExactRules.{computed}

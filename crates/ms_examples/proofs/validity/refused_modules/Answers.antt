@@ -3,7 +3,7 @@ use Rattle.std.specs.Prelude.{slice_index_or}
 use Rattle.ms_ir.specs.declared.syntax.Name.TheVariants.{Number}
 use Rattle.ms_ir.specs.declared.syntax.Func.{Func}
 use Rattle.ms_ir.specs.Names.{is_kept, bit_moves}
-use Rattle.ms_ir.specs.ExampleParts.{main_func}
+use Rattle.ms_ir.specs.Builders.{main_func}
 use Rattle.ms_valid.specs.Paths.{ValueUse}
 use Rattle.ms_valid.specs.UsesDefined.{uses}
 use Rattle.ms_ir.specs.declared.syntax.Ty.TheBlock.{hidden-the_row-Ty-0, shape-the_row-Ty-0}

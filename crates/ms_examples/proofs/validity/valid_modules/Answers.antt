@@ -1,7 +1,7 @@
 use Rattle.std.proofs.Common.{refl}
 use Rattle.ms_ir.specs.declared.syntax.Ty.TheBlock.{hidden-the_row-Ty-0, shape-the_row-Ty-0}
-use Rattle.ms_ir.specs.ExampleModules.{returns_zero, branch_on_unset, masked_to_zero, ordered_compare, set_bit_is_not_zero, select_undef, two_unset, shared_cell, lost_in_addition, recursion, nested_call, write_with_gap, store_to_shadow, clang_unoptimised, sum_wraps, undef_divisor, frozen, three_branches, undef_sum, undef_stored, carry_of_undef}
-use Rattle.ms_ir.specs.ExampleMarks.{branch_on_unset_checked, nested_call_checked}
+use Rattle.ms_example_modules.specs.Programs.{returns_zero, branch_on_unset, masked_to_zero, ordered_compare, set_bit_is_not_zero, select_undef, two_unset, shared_cell, lost_in_addition, recursion, nested_call, write_with_gap, store_to_shadow, clang_unoptimised, sum_wraps, undef_divisor, frozen, three_branches, undef_sum, undef_stored, carry_of_undef}
+use Rattle.ms_example_modules.specs.Marks.{branch_on_unset_checked, nested_call_checked}
 use Rattle.ms_ir.specs.Names.{word_externals, bit_moves, is_kept}
 use Rattle.ms_valid.proofs.TestedPaths.{tested_uses}
 use Rattle.ms_examples.proofs.validity.valid_modules.Goals as goal

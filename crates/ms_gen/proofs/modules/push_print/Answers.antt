@@ -1,7 +1,7 @@
 use Rattle.std.proofs.Common.{◌∙◌, ◌++◌, [], ◌∷◌, Some, ap}
 use Rattle.std.proofs.lemmas.Result.{IfOk-weaker}
 use Rattle.ms_ir.specs.declared.syntax.Op.TheVariants as op
-use Rattle.ms_ir.specs.ExampleParts.{i32, local, sets}
+use Rattle.ms_ir.specs.Builders.{i32, local, sets}
 use Rattle.ms_gen.proofs.modules.push_print.Goals as goal
 
 pub returns : goal.returns

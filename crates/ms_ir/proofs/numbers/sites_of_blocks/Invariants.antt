@@ -1,5 +1,5 @@
 use Rattle.std.proofs.Common.{◌≡◌, ◌<◌, ◌+◌, ◌-◌, ◌^◌, min, drop}
-use Rattle.ms_ir.specs.Code.{one_unmarked, over_blocks}
+use Rattle.ms_ir.specs.Instructions.{one_unmarked, over_blocks}
 use Rattle.ms_ir.proofs.numbers.sites_of_blocks.Given as goal
 
 abbrev pub invariant-loop-block : goal.invariant-loop-block

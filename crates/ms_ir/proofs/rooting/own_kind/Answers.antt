@@ -1,4 +1,4 @@
-use Rattle.ms_ir.specs.Code.{func_index}
+use Rattle.ms_ir.specs.Instructions.{func_index}
 use Rattle.ms_ir.proofs.RootKinds.{called_roots}
 use Rattle.ms_ir.proofs.rooting.own_kind.Goals as goal
 

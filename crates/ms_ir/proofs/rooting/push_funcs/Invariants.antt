@@ -1,5 +1,5 @@
 use Rattle.std.proofs.Common.{◌≡◌, ◌+◌, ◌++◌, drop}
-use Rattle.ms_ir.specs.Code.{func_index, one_unmarked, over_funcs}
+use Rattle.ms_ir.specs.Instructions.{func_index, one_unmarked, over_funcs}
 use Rattle.ms_ir.specs.Roots.{funcs_roots}
 use Rattle.ms_ir.proofs.rooting.push_funcs.Given as goal
 

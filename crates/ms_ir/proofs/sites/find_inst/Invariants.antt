@@ -1,5 +1,5 @@
 use Rattle.std.proofs.Common.{◌≡◌, ◌+◌, ◌≤◌, drop}
-use Rattle.ms_ir.specs.Code.{one_unmarked, over_insts}
+use Rattle.ms_ir.specs.Instructions.{one_unmarked, over_insts}
 use Rattle.ms_ir.proofs.sites.find_inst.Given as goal
 
 abbrev pub invariant-loop-index : goal.invariant-loop-index

@@ -1,5 +1,5 @@
 use Rattle.std.proofs.Common.{◌≡◌, ◌≤◌, ◌<◌, ◌+◌, ◌-◌, ◌^◌, length, ap, sym, subst, arith}
-use Rattle.ms_ir.specs.Code.{one_unmarked, over_insts, over_blocks, over_funcs}
+use Rattle.ms_ir.specs.Instructions.{one_unmarked, over_insts, over_blocks, over_funcs}
 use Rattle.ms_ir.specs.Places.{IsPlaceOf}
 use Rattle.ms_ir.specs.Searches.{FoundInst, FoundBlock, FoundFunc}
 use Rattle.ms_ir.proofs.Counting.{blocks_few, no_place, found_place, block_is_there, inst_is_there}

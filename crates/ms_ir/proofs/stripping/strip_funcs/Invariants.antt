@@ -1,6 +1,6 @@
 use Rattle.std.proofs.Common.{◌≡◌}
 use Rattle.std.specs.Prelude.{map, take}
-use Rattle.ms_ir.specs.Code.{strip_func}
+use Rattle.ms_ir.specs.Instructions.{strip_func}
 use Rattle.ms_ir.proofs.stripping.strip_funcs.Given as goal
 
 abbrev pub invariant-loop-func : goal.invariant-loop-func

@@ -1,6 +1,6 @@
 use Rattle.std.proofs.Common.{◌≡◌, ◌++◌, drop}
 use Rattle.std.specs.Prelude.{filter}
-use Rattle.ms_ir.specs.Code.{is_unmarked}
+use Rattle.ms_ir.specs.Instructions.{is_unmarked}
 use Rattle.ms_ir.proofs.stripping.strip_insts.Given as goal
 
 abbrev pub invariant-loop-inst : goal.invariant-loop-inst

@@ -1,5 +1,5 @@
 use Rattle.std.proofs.Common.{◌≡◌, ◌+◌, drop}
-use Rattle.ms_ir.specs.Code.{over_blocks}
+use Rattle.ms_ir.specs.Instructions.{over_blocks}
 use Rattle.ms_machine.proofs.places.find_block.Given as goal
 
 abbrev pub invariant-loop-index : goal.invariant-loop-index

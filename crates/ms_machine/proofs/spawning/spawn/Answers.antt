@@ -1,8 +1,8 @@
 use Rattle.std.proofs.Common.{[], ◌∷◌}
 use Rattle.ms_runs.specs.Control.{entered}
 use Rattle.ms_runs.specs.Act.{plain_reading}
-use Rattle.ms_machine_steps.specs.Crossing.{Spawned}
-use Rattle.ms_machine_steps.specs.Standing.{frames_of}
+use Rattle.ms_machine_frames.specs.Crossing.{Spawned}
+use Rattle.ms_machine_frames.specs.Standing.{frames_of}
 use Rattle.ms_machine_steps.proofs.Spawning.{start_routine, spawned_stands, spawned_owns}
 use Rattle.std.proofs.lemmas.Result.{IfOk-weaker}
 use Rattle.ms_machine.specs.Spawning.{SpawnedFor}

@@ -1,5 +1,5 @@
 use Rattle.std.proofs.Common.{arith}
-use Rattle.ms_machine_steps.specs.Standing.{frames_of}
+use Rattle.ms_machine_frames.specs.Standing.{frames_of}
 use Rattle.ms_machine.proofs.FramesDue.{as_many, frames_counted}
 use Rattle.ms_machine.proofs.standing.frames.Goals as goal
 

@@ -1,6 +1,6 @@
 use Rattle.std.proofs.Common.{◌<◌, sym, subst}
 use Rattle.ms_ir.specs.declared.syntax.Module.{Module}
-use Rattle.ms_ir.specs.Code.{over_funcs}
+use Rattle.ms_ir.specs.Instructions.{over_funcs}
 use Rattle.ms_valid.specs.Formed.{Formed}
 use Rattle.ms_machine.specs.Searches.{IsInFunc}
 use Rattle.ms_machine.proofs.FramesDue.{few_somewhere, place_due}

@@ -1,10 +1,10 @@
 use Rattle.std.proofs.Common.{◌≡◌, ◌<◌, ℕ, List, Some, sym, ap, subst, ◌∙◌, length}
 use Rattle.ms_ir.specs.declared.syntax.Name.{Name}
 use Rattle.ms_ir.specs.declared.syntax.Module.{Module}
-use Rattle.ms_ir.specs.Code.{func_at, over_funcs}
+use Rattle.ms_ir.specs.Instructions.{func_at, over_funcs}
 use Rattle.ms_ir.specs.Locals.{locals}
 use Rattle.ms_valid.specs.Formed.{Formed}
-use Rattle.ms_code_data.specs.Reads.{Holds}
+use Rattle.ms_code.specs.Reads.{Holds}
 use Rattle.ms_machine.specs.Searches.{IsInFunc}
 use Rattle.ms_machine.specs.WordsNamed.{word_named}
 use Rattle.ms_machine.proofs.FramesDue.{few_somewhere, formed_somewhere, held_somewhere, word_due}

@@ -1,8 +1,8 @@
 use Rattle.std.proofs.Common.{not, eqb, reverse, sym, ap, ◌∙◌}
 use Rattle.ms_runs.specs.Plain.{plain_start}
-use Rattle.ms_runs_good.specs.GoodWorlds.{GivesBytes}
-use Rattle.ms_runs_good.proofs.Sound.{plain_sound}
-use Rattle.ms_machine_steps.specs.Standing.{frames_of}
+use Rattle.ms_good_laws.specs.GoodWorlds.{GivesBytes}
+use Rattle.ms_good_laws.proofs.Sound.{plain_sound}
+use Rattle.ms_machine_frames.specs.Standing.{frames_of}
 use Rattle.ms_machine.proofs.Programs.{frames_from}
 use Rattle.ms_machine.proofs.starting.start.Goals as goal
 

@@ -1,6 +1,7 @@
 use Rattle.std.proofs.Common.{ℕ, List, Err, ap, subst}
+use Rattle.ms_runs.specs.World.{first_world}
 use Rattle.ms_host.specs.State.{nothing_beside}
-use Rattle.ms_host.specs.Shows.{Shows, first_world}
+use Rattle.ms_host.specs.Shows.{Shows}
 use Rattle.ms_machine.proofs.StartGlobals.{globals_made, never_full}
 use Rattle.ms_machine.proofs.starting.start_world.Goals as goal
 

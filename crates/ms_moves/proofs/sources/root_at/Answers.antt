@@ -1,6 +1,6 @@
 use Rattle.std.proofs.Common.{◌+◌, ℕ, take, sym, ap, ◌∙◌}
 use Rattle.std.specs.Option.{option_copied}
-use Rattle.ms_ir.specs.Code.{operands, count_undefs}
+use Rattle.ms_ir.specs.Instructions.{operands, count_undefs}
 use Rattle.ms_moves.proofs.Operands.{undefs_some}
 use Rattle.ms_moves.proofs.sources.root_at.Goals as goal
 

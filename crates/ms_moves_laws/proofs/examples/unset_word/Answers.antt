@@ -1,6 +1,6 @@
 use Rattle.std.proofs.Common.{◌≡◌, [], ◌∷◌, Some, refl, ◌∙◌}
 use Rattle.ms_bits.specs.Words.{words}
-use Rattle.ms_ir.specs.ExampleModules.{branch_on_unset}
+use Rattle.ms_example_modules.specs.Programs.{branch_on_unset}
 use Rattle.ms_runs.specs.ExampleRuns.{defaults}
 use Rattle.ms_runs_laws.specs.Formulas.{formulas}
 use Rattle.ms_moves.specs.Scanned.{trail_of}

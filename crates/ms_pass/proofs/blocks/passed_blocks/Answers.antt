@@ -18,17 +18,17 @@ push_block-requires-clause-small c =
 pub push_block-requires-clause-room : goal.push_block-requires-clause-room
 push_block-requires-clause-room c =
     let scope = c.args.scope.now in
-    room_now (given_of scope) (env_of scope) scope.main c.loop-block.counts c.loop-block.code c.args.blocks.now c.loop-block.block-index c.block-item.result (2 ^ 40) c.loop-block-test.true c.block-item.is c.loop-block.invariant.room
+    room_now (given_of scope) (env_of scope) scope.main c.loop-block.counts c.loop-block.builder c.args.blocks.now c.loop-block.block-index c.block-item.result (2 ^ 40) c.loop-block-test.true c.block-item.is c.loop-block.invariant.room
 
 pub loop-block-preserved : goal.loop-block-preserved
 loop-block-preserved c =
     let scope = c.args.scope.now in
-    let below = c.loop-block-test.true in let is = c.block-item.is in let e = c.in_ok-code.ensures in
+    let below = c.loop-block-test.true in let is = c.block-item.is in let e = c.in_ok-builder.ensures in
     record {
-      blocks = blocks_next (given_of scope) (env_of scope) scope.main c.loop-block.counts c.push_block.new.counts c.loop-block.code _ c.loop-block.done.items c.push_block.new.done.items _ c.args.blocks.now c.loop-block.block-index c.block-item.result below is
+      blocks = blocks_next (given_of scope) (env_of scope) scope.main c.loop-block.counts c.push_block.new.counts c.loop-block.builder _ c.loop-block.done.items c.push_block.new.done.items _ c.args.blocks.now c.loop-block.block-index c.block-item.result below is
           e.counts e.next e.block c.loop-block.invariant.blocks;
       counts = counts_next (given_of scope).func c.loop-block.counts c.push_block.new.counts _ c.args.blocks.now c.loop-block.block-index c.block-item.result below is e.counts c.loop-block.invariant.counts;
-      room = room_next (given_of scope) (env_of scope) scope.main c.loop-block.counts c.push_block.new.counts c.loop-block.code _ c.args.blocks.now c.loop-block.block-index c.block-item.result (2 ^ 40) below is
+      room = room_next (given_of scope) (env_of scope) scope.main c.loop-block.counts c.push_block.new.counts c.loop-block.builder _ c.args.blocks.now c.loop-block.block-index c.block-item.result (2 ^ 40) below is
           e.counts e.next c.loop-block.invariant.room;
     }
 
@@ -36,6 +36,6 @@ pub returns : goal.returns
 returns c =
     let scope = c.args.scope.now in
     record {
-      blocks = c.from_vec.ensures ∙ blocks_end (given_of scope) (env_of scope) (here_of c.loop-block.counts scope.main) c.loop-block.code c.loop-block.done.items _ c.args.blocks.now c.loop-block.block-index (omega arith) c.loop-block.invariant.blocks;
+      blocks = c.from_vec.ensures ∙ blocks_end (given_of scope) (env_of scope) (here_of c.loop-block.counts scope.main) c.loop-block.builder c.loop-block.done.items _ c.args.blocks.now c.loop-block.block-index (omega arith) c.loop-block.invariant.blocks;
       counts = counts_end (given_of scope).func c.loop-block.counts _ c.args.blocks.now c.loop-block.block-index (omega arith) c.loop-block.invariant.counts;
     }

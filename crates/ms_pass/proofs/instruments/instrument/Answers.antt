@@ -1,15 +1,15 @@
 use Rattle.std.proofs.Common.{◌≡◌, false, sym, ap, subst, ◌∙◌}
+use Rattle.std.proofs.lemmas.Result.{IfOk-weaker}
 use Rattle.ms_ir.specs.declared.syntax.Module.{Module}
 use Rattle.ms_ir.specs.ThreadCalls.{is_threaded}
-use Rattle.ms_ir.specs.Code.{strip}
+use Rattle.ms_ir.specs.Instructions.{strip}
 use Rattle.ms_runs.specs.declared.runs.Setup.{Setup}
 use Rattle.ms_runs.specs.Faithful.{Fair, Faithful, Undisturbed}
 use Rattle.ms_runs.specs.Plain.{plain}
-use Rattle.ms_runs_good.specs.Fills.{InsertedUnderFills}
-use Rattle.ms_two_fills.specs.Checked.{HoldsUnderFills}
-use Rattle.ms_two_fills.specs.Chosen.{HoldsUnderChoices}
-use Rattle.ms_tables.proofs.Items.{under_ok}
-use Rattle.ms_elision_laws.specs.Elided.{IsElided, ChecksUnclean}
+use Rattle.ms_good_laws.specs.Fills.{InsertedUnderFills}
+use Rattle.ms_fills_laws.specs.Checked.{HoldsUnderFills}
+use Rattle.ms_fills_laws.specs.Chosen.{HoldsUnderChoices}
+use Rattle.ms_elide_laws.specs.Elided.{IsElided, ChecksUnclean}
 use Rattle.ms_pass.specs.Passed.{IsMadeOf}
 use Rattle.ms_pass.proofs.instruments.instrument.Goals as goal
 
@@ -20,17 +20,17 @@ returns g c =
     let made : Module → Type 0 = λ j. j ≡ answer in
     let given = c.in_ok-module.ensures in
     record {
-      pass = under_ok c.of_valid.result made (λ j. IsElided m j) (λ j same. subst (λ (x : Module). IsElided m x) (sym same) given.pass) c.of_valid.ensures;
-      checks = under_ok c.of_valid.result made (λ j. ChecksUnclean m j) (λ j same. subst (λ (x : Module). ChecksUnclean m x) (sym same) given.checks) c.of_valid.ensures;
-      faithful = under_ok c.of_valid.result made (λ j. Faithful m j) (λ j same. subst (λ (x : Module). Faithful m x) (sym same) given.faithful) c.of_valid.ensures;
-      stripped = under_ok c.of_valid.result made (λ j. strip j ≡ m) (λ j same. ap strip same ∙ given.stripped) c.of_valid.ensures;
-      under_fills = under_ok c.of_valid.result made (λ j. is_threaded m ≡ false → (setup : Setup) → Fair setup → InsertedUnderFills j setup)
+      pass = IfOk-weaker c.of_valid.result made (λ j. IsElided m j) (λ j same. subst (λ (x : Module). IsElided m x) (sym same) given.pass) c.of_valid.ensures;
+      checks = IfOk-weaker c.of_valid.result made (λ j. ChecksUnclean m j) (λ j same. subst (λ (x : Module). ChecksUnclean m x) (sym same) given.checks) c.of_valid.ensures;
+      faithful = IfOk-weaker c.of_valid.result made (λ j. Faithful m j) (λ j same. subst (λ (x : Module). Faithful m x) (sym same) given.faithful) c.of_valid.ensures;
+      stripped = IfOk-weaker c.of_valid.result made (λ j. strip j ≡ m) (λ j same. ap strip same ∙ given.stripped) c.of_valid.ensures;
+      under_fills = IfOk-weaker c.of_valid.result made (λ j. is_threaded m ≡ false → (setup : Setup) → Fair setup → InsertedUnderFills j setup)
           (λ j same. subst (λ (x : Module). is_threaded m ≡ false → (setup : Setup) → Fair setup → InsertedUnderFills x setup) (sym same) given.under_fills) c.of_valid.ensures;
-      holds = under_ok c.of_valid.result made (λ j. is_threaded m ≡ false → (setup : Setup) → Fair setup → HoldsUnderFills m setup (plain j setup))
+      holds = IfOk-weaker c.of_valid.result made (λ j. is_threaded m ≡ false → (setup : Setup) → Fair setup → HoldsUnderFills m setup (plain j setup))
           (λ j same. subst (λ (x : Module). is_threaded m ≡ false → (setup : Setup) → Fair setup → HoldsUnderFills m setup (plain x setup)) (sym same) given.holds) c.of_valid.ensures;
-      choices = under_ok c.of_valid.result made (λ j. is_threaded m ≡ false → (setup : Setup) → Fair setup → HoldsUnderChoices m setup (plain j setup))
+      choices = IfOk-weaker c.of_valid.result made (λ j. is_threaded m ≡ false → (setup : Setup) → Fair setup → HoldsUnderChoices m setup (plain j setup))
           (λ j same. subst (λ (x : Module). is_threaded m ≡ false → (setup : Setup) → Fair setup → HoldsUnderChoices m setup (plain x setup)) (sym same) given.choices) c.of_valid.ensures;
-      undisturbed = under_ok c.of_valid.result made (λ j. (setup : Setup) → Fair setup → Undisturbed (plain j setup) (plain m setup))
+      undisturbed = IfOk-weaker c.of_valid.result made (λ j. (setup : Setup) → Fair setup → Undisturbed (plain j setup) (plain m setup))
           (λ j same. subst (λ (x : Module). (setup : Setup) → Fair setup → Undisturbed (plain x setup) (plain m setup)) (sym same) given.undisturbed) c.of_valid.ensures;
-      pieces = under_ok c.of_valid.result made (λ j. IsMadeOf m j) (λ j same. subst (λ (x : Module). IsMadeOf m x) (sym same) given.pieces) c.of_valid.ensures;
+      pieces = IfOk-weaker c.of_valid.result made (λ j. IsMadeOf m j) (λ j same. subst (λ (x : Module). IsMadeOf m x) (sym same) given.pieces) c.of_valid.ensures;
     }

@@ -1,22 +1,22 @@
 use Rattle.std.proofs.Common.{List, All, option_map, sym, ap, subst, ◌∙◌}
 use Rattle.ms_ir.specs.declared.syntax.Name.{Name}
 use Rattle.ms_ir.specs.declared.syntax.Module.{Module}
-use Rattle.ms_ir.specs.Code.{func_at, strip}
+use Rattle.ms_ir.specs.Instructions.{func_at, strip}
 use Rattle.ms_ir.specs.Locals.{function_names}
 use Rattle.ms_runs.specs.Faithful.{Faithful}
 use Rattle.ms_valid.specs.Formed.{Formed}
 use Rattle.ms_valid.specs.Valid.{Valid}
 use Rattle.ms_runs_laws.proofs.SameOutput.{faithful_undisturbed}
-use Rattle.ms_two_fills.proofs.Chosen.{checked_holds_chosen}
-use Rattle.ms_two_fills.proofs.Whole.{inserted_fills, checked_holds}
+use Rattle.ms_fills_laws.proofs.Chosen.{checked_holds_chosen}
+use Rattle.ms_fills_laws.proofs.Whole.{inserted_fills, checked_holds}
 use Rattle.ms_tables.specs.FirstPlace.{first_place}
 use Rattle.ms_elide.specs.CleanSets.{is_in, IsExact}
 use Rattle.ms_pass_laws.proofs.Unmarked.{module_strips}
 use Rattle.ms_pass_laws.proofs.Whole.{strip_pass}
-use Rattle.ms_elision_laws.specs.Checks.{check_calls}
-use Rattle.ms_elision_laws.specs.Eliding.{eliding, SaysExactly}
-use Rattle.ms_elision_laws.proofs.CheckCount.{checks_counted}
-use Rattle.ms_elision_laws.proofs.Elided.{faithful, formed_valid}
+use Rattle.ms_elide_laws.specs.Checks.{check_calls}
+use Rattle.ms_elide_laws.specs.Eliding.{eliding, SaysExactly}
+use Rattle.ms_elide_laws.proofs.CheckCount.{checks_counted}
+use Rattle.ms_elide_laws.proofs.Elided.{faithful, formed_valid}
 use Rattle.ms_pass.specs.Counted.{past_funcs, AreSmall}
 use Rattle.ms_pass.specs.Passed.{no_counts, passed_module}
 use Rattle.ms_pass.specs.Ready.{IsReady}

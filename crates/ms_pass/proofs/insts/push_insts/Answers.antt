@@ -18,13 +18,13 @@ push_next-requires-clause-small c =
 pub push_next-requires-clause-room : goal.push_next-requires-clause-room
 push_next-requires-clause-room c =
     let scope = c.args.scope.now in
-    room_next (given_of scope) (env_of scope) (here_of c.loop-inst.counts scope.main) c.loop-inst.code _ (drop c.loop-inst.inst-index c.args.insts.now) (2 ^ 40) c.loop-inst.invariant.code c.requires.room
+    room_next (given_of scope) (env_of scope) (here_of c.loop-inst.counts scope.main) c.loop-inst.builder _ (drop c.loop-inst.inst-index c.args.insts.now) (2 ^ 40) c.loop-inst.invariant.code c.requires.room
 
 pub loop-inst-preserved : goal.loop-inst-preserved
 loop-inst-preserved c =
     let scope = c.args.scope.now in
     record {
-      code = insts_next (given_of scope) (env_of scope) scope.main c.loop-inst.counts c.push_next.new.counts c.loop-inst.code c.push_next.new.code _ c.args.insts.now c.loop-inst.inst-index c.inst-item.result c.loop-inst-test.true c.inst-item.is
+      code = insts_next (given_of scope) (env_of scope) scope.main c.loop-inst.counts c.push_next.new.counts c.loop-inst.builder c.push_next.new.builder _ c.args.insts.now c.loop-inst.inst-index c.inst-item.result c.loop-inst-test.true c.inst-item.is
           c.in_ok-push_next.ensures.counts c.in_ok-push_next.ensures.code c.loop-inst.invariant.code;
       counts = counts_next (given_of scope).func c.loop-inst.counts c.push_next.new.counts _ c.args.insts.now c.loop-inst.inst-index c.inst-item.result c.loop-inst-test.true c.inst-item.is
           c.in_ok-push_next.ensures.counts c.loop-inst.invariant.counts;
@@ -34,6 +34,6 @@ pub returns : goal.returns
 returns c =
     let scope = c.args.scope.now in
     record {
-      code = insts_end (given_of scope) (env_of scope) (here_of c.loop-inst.counts scope.main) c.loop-inst.code _ c.args.insts.now c.loop-inst.inst-index (omega arith) c.loop-inst.invariant.code;
+      code = insts_end (given_of scope) (env_of scope) (here_of c.loop-inst.counts scope.main) c.loop-inst.builder _ c.args.insts.now c.loop-inst.inst-index (omega arith) c.loop-inst.invariant.code;
       counts = counts_end (given_of scope).func c.loop-inst.counts _ c.args.insts.now c.loop-inst.inst-index (omega arith) c.loop-inst.invariant.counts;
     }

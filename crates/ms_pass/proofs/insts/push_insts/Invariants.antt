@@ -6,6 +6,6 @@ use Rattle.ms_pass.proofs.insts.push_insts.Given as goal
 
 abbrev pub invariant-loop-inst : goal.invariant-loop-inst
 invariant-loop-inst l = record {
-  code : with_insts (given_of l.scope) (env_of l.scope) (here_of l.counts l.scope.main) (drop l.inst-index l.insts) l.code ≡ with_insts (given_of l.scope) (env_of l.scope) (here_of l.fn.counts l.scope.main) l.insts l.fn.code;
+  code : with_insts (given_of l.scope) (env_of l.scope) (here_of l.counts l.scope.main) (drop l.inst-index l.insts) l.builder ≡ with_insts (given_of l.scope) (env_of l.scope) (here_of l.fn.counts l.scope.main) l.insts l.fn.builder;
   counts : past_insts (given_of l.scope).func l.counts (drop l.inst-index l.insts) ≡ past_insts (given_of l.scope).func l.fn.counts l.insts;
 }

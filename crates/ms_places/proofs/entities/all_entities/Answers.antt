@@ -1,7 +1,7 @@
 use Rattle.std.proofs.Common.{Bool, Ok, true, ◌≡◌, ap, arith, ◌∙◌}
 use Rattle.ms_lex.specs.Grammar.{loop}
-use Rattle.ms_grammar.specs.Modules.{entity, entity_begins}
-use Rattle.ms_grammar.specs.Steps.{Verdict}
+use Rattle.ms_text_grammar.specs.Modules.{entity, entity_begins}
+use Rattle.ms_text_grammar.specs.Steps.{Verdict}
 use Rattle.ms_places.specs.Failures.{OnlyMemory}
 use Rattle.ms_places.proofs.Memory.{entity_not_begun, entity_not_read, returned}
 use Rattle.ms_places.proofs.entities.all_entities.Goals as goal

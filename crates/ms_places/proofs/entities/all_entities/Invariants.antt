@@ -1,5 +1,5 @@
 use Rattle.std.proofs.Common.{◌≤◌, length}
-use Rattle.ms_grammar.specs.Bodies.{max_instructions}
+use Rattle.ms_text_grammar.specs.Bodies.{max_instructions}
 use Rattle.ms_places.specs.Marks.{EntitiesAdd}
 use Rattle.ms_places.proofs.entities.all_entities.Given as goal
 

@@ -1,9 +1,9 @@
 use Rattle.std.proofs.Common.{◌≡◌, subst}
 use Rattle.ms_lex.specs.Grammar.{loop}
 use Rattle.ms_ir.specs.declared.syntax.Module.{Module}
-use Rattle.ms_grammar.specs.declared.refusals.Refusal.TheVariants.{NoMemory}
-use Rattle.ms_grammar.specs.Modules.{entity, entity_begins, no_parts}
-use Rattle.ms_grammar.specs.Texts.{HasTokens, Reads}
+use Rattle.ms_text_grammar.specs.declared.refusals.Cause.TheVariants.{NoMemory}
+use Rattle.ms_text_grammar.specs.Modules.{entity, entity_begins, no_parts}
+use Rattle.ms_text_grammar.specs.Texts.{HasTokens, Reads}
 use Rattle.ms_places.specs.Failures.{OnlyMemory}
 use Rattle.ms_places.proofs.Memory.{module_not_read, returned}
 use Rattle.ms_places.proofs.entities.marks_in.Goals as goal

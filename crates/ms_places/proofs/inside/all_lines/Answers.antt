@@ -1,8 +1,8 @@
 use Rattle.std.proofs.Common.{Bool, Ok, true, ◌≡◌, ap, arith, ◌∙◌}
 use Rattle.ms_lex.specs.Grammar.{loop}
-use Rattle.ms_grammar.specs.Bodies.{line_begins}
-use Rattle.ms_grammar.specs.Lines.{line}
-use Rattle.ms_grammar.specs.Steps.{Verdict}
+use Rattle.ms_text_grammar.specs.Bodies.{line_begins}
+use Rattle.ms_text_grammar.specs.Lines.{line}
+use Rattle.ms_text_grammar.specs.Steps.{Verdict}
 use Rattle.ms_places.specs.Failures.{OnlyMemory}
 use Rattle.ms_places.proofs.Memory.{line_not_begun, line_not_read, returned}
 use Rattle.ms_places.proofs.inside.all_lines.Goals as goal

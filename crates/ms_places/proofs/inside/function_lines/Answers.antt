@@ -1,4 +1,4 @@
-use Rattle.ms_grammar.specs.Functions.{function}
+use Rattle.ms_text_grammar.specs.Functions.{function}
 use Rattle.ms_places.specs.Failures.{OnlyMemory}
 use Rattle.ms_places.proofs.Memory.{heading_not_read, returned}
 use Rattle.ms_places.proofs.inside.function_lines.Goals as goal

@@ -1,6 +1,6 @@
 use Rattle.std.proofs.Common.{subst}
 use Rattle.ms_lex.specs.Grammar.{tail}
-use Rattle.ms_grammar.specs.Lines.{line}
+use Rattle.ms_text_grammar.specs.Lines.{line}
 use Rattle.ms_read_cursor.specs.Reading.{front}
 use Rattle.ms_places.specs.Failures.{OnlyMemory}
 use Rattle.ms_places.proofs.Memory.{gave, returned}

@@ -1,5 +1,5 @@
 use Rattle.std.proofs.Common.{arith, ap}
-use Rattle.ms_ir.specs.Code.{one_unmarked, over_insts}
+use Rattle.ms_ir.specs.Instructions.{one_unmarked, over_insts}
 use Rattle.ms_printf.proofs.Listed.{block_starts, block_insts, blocks_next}
 use Rattle.ms_printf.proofs.sites.push_blocks.Goals as goal
 

@@ -1,6 +1,6 @@
 use Rattle.std.proofs.Common.{◌≡◌, ◌+◌, drop}
 use Rattle.ms_ir.specs.declared.syntax.Module.{Module}
-use Rattle.ms_ir.specs.Code.{blocks_at, one_unmarked, over_blocks, site_at}
+use Rattle.ms_ir.specs.Instructions.{blocks_at, one_unmarked, over_blocks, site_at}
 use Rattle.ms_printf.specs.CallSites.{AreCallSites}
 use Rattle.ms_printf.proofs.sites.push_blocks.Given as goal
 

@@ -1,5 +1,5 @@
 use Rattle.std.proofs.Common.{arith, ap}
-use Rattle.ms_ir.specs.Code.{one_unmarked, over_blocks}
+use Rattle.ms_ir.specs.Instructions.{one_unmarked, over_blocks}
 use Rattle.ms_printf.proofs.Listed.{func_starts, func_blocks, funcs_next}
 use Rattle.ms_printf.proofs.sites.push_funcs.Goals as goal
 

@@ -1,6 +1,6 @@
 use Rattle.std.proofs.Common.{◌≡◌, ◌+◌, drop}
 use Rattle.ms_ir.specs.declared.syntax.Module.{Module}
-use Rattle.ms_ir.specs.Code.{one_unmarked, over_funcs}
+use Rattle.ms_ir.specs.Instructions.{one_unmarked, over_funcs}
 use Rattle.ms_printf.specs.CallSites.{AreCallSites}
 use Rattle.ms_printf.proofs.sites.push_funcs.Given as goal
 

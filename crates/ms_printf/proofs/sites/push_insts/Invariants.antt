@@ -1,6 +1,6 @@
 use Rattle.std.proofs.Common.{◌≡◌, ◌+◌, drop}
 use Rattle.ms_ir.specs.declared.syntax.Module.{Module}
-use Rattle.ms_ir.specs.Code.{insts_at, one_unmarked, over_insts, site_at}
+use Rattle.ms_ir.specs.Instructions.{insts_at, one_unmarked, over_insts, site_at}
 use Rattle.ms_printf.specs.CallSites.{AreCallSites}
 use Rattle.ms_printf.proofs.sites.push_insts.Given as goal
 

@@ -1,4 +1,4 @@
-use Rattle.ms_grammar.specs.Types.{max_depth, type_to}
+use Rattle.ms_text_grammar.specs.Types.{max_depth, type_to}
 use Rattle.ms_read_body.proofs.Answering.{answered}
 use Rattle.ms_read_body.proofs.calls.read_type.Goals as goal
 

@@ -1,4 +1,4 @@
-use Rattle.ms_grammar.specs.Values.{value}
+use Rattle.ms_text_grammar.specs.Values.{value}
 use Rattle.ms_read_body.proofs.Answering.{answered}
 use Rattle.ms_read_body.proofs.calls.read_value.Goals as goal
 

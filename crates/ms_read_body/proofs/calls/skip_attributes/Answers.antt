@@ -1,4 +1,4 @@
-use Rattle.ms_grammar.specs.Skipped.{attributes}
+use Rattle.ms_text_grammar.specs.Skipped.{attributes}
 use Rattle.ms_read_body.specs.Calls.{ReadsExactly}
 use Rattle.std.proofs.Common.{sym, subst}
 use Rattle.ms_read_body.proofs.Answering.{answered}

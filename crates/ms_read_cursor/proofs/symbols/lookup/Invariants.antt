@@ -1,5 +1,5 @@
 use Rattle.std.proofs.Common.{◌≡◌, length}
-use Rattle.ms_grammar.specs.Lexemes.{symbol_in}
+use Rattle.ms_text_grammar.specs.Lexemes.{symbol_in}
 use Rattle.ms_read_cursor.specs.Words.{rows_of}
 use Rattle.ms_read_cursor.proofs.symbols.lookup.Given as goal
 

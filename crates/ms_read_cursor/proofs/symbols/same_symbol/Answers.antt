@@ -1,7 +1,7 @@
 use Rattle.std.proofs.Common.{rules, sym, ◌∙◌}
 use denote.Enum.Bare.{same_true}
-use Rattle.ms_grammar.specs.contracts.symbols.Symbol.{the_type}
-use Rattle.ms_grammar.specs.Lexemes.{same_symbol}
+use Rattle.ms_text_grammar.specs.contracts.symbols.Symbol.{the_type}
+use Rattle.ms_text_grammar.specs.Lexemes.{same_symbol}
 use Rattle.ms_read_cursor.proofs.symbols.same_symbol.Goals as goal
 
 pub returns-clause-value : goal.returns-clause-value

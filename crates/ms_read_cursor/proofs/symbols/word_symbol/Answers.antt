@@ -1,5 +1,5 @@
 use Rattle.std.proofs.Common.{get_or, refl, ap, ◌∙◌, arith}
-use Rattle.ms_grammar.specs.Lexemes.{keywords, symbol_in, type_or_plain, word_symbol}
+use Rattle.ms_text_grammar.specs.Lexemes.{keywords, symbol_in, type_or_plain, word_symbol}
 use Rattle.ms_read_cursor.specs.Words.{beginning}
 use Rattle.ms_read_cursor.proofs.FirstBytes.{by_first}
 use Rattle.ms_read_cursor.proofs.symbols.word_symbol.Goals as goal

@@ -1,8 +1,8 @@
 use Rattle.std.proofs.Common.{◌≡◌, sym, ap, ◌∙◌, arith, true, Bool, Ok}
 use Rattle.ms_lex.specs.Grammar.{loop}
 use Rattle.ms_lex.proofs.Loops.{loop_goes, loop_moves, after}
-use Rattle.ms_grammar.specs.Lexemes.{end_of_text}
-use Rattle.ms_grammar.specs.Steps.{Verdict}
+use Rattle.ms_text_grammar.specs.Lexemes.{end_of_text}
+use Rattle.ms_text_grammar.specs.Steps.{Verdict}
 use Rattle.ms_read_cursor.specs.Reading.{run}
 use Rattle.ms_read_cursor.proofs.turns.repeat.Goals as goal
 

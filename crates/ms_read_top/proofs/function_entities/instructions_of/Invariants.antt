@@ -1,5 +1,5 @@
 use Rattle.std.proofs.Common.{◌≡◌, ◌+◌, length}
-use Rattle.ms_grammar.specs.Modules.{instructions_of}
+use Rattle.ms_text_grammar.specs.Modules.{instructions_of}
 use Rattle.ms_read_top.proofs.function_entities.instructions_of.Given as goal
 
 abbrev pub invariant-counted : goal.invariant-counted

@@ -1,9 +1,9 @@
 use Rattle.std.proofs.Common.{◌≡◌, sym, ap, ◌∙◌, arith, true, Bool, Ok}
 use Rattle.ms_lex.specs.Grammar.{tail, loop}
 use Rattle.ms_lex.proofs.Loops.{loop_goes, loop_moves, after}
-use Rattle.ms_grammar.specs.Lexemes.{Lexeme, end_of_text}
-use Rattle.ms_grammar.specs.Modules.{entity, entity_begins}
-use Rattle.ms_grammar.specs.Steps.{Verdict}
+use Rattle.ms_text_grammar.specs.Lexemes.{Lexeme, end_of_text}
+use Rattle.ms_text_grammar.specs.Modules.{entity, entity_begins}
+use Rattle.ms_text_grammar.specs.Steps.{Verdict}
 use Rattle.ms_read_cursor.specs.Reading.{run}
 use Rattle.ms_read_top.proofs.modules.entities.Goals as goal
 

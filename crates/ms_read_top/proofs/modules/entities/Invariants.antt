@@ -1,7 +1,7 @@
 use Rattle.std.proofs.Common.{◌≡◌, ◌≤◌, length}
 use Rattle.ms_lex.specs.Grammar.{loop}
-use Rattle.ms_grammar.specs.Bodies.{max_instructions}
-use Rattle.ms_grammar.specs.Modules.{entity_begins, entity}
+use Rattle.ms_text_grammar.specs.Bodies.{max_instructions}
+use Rattle.ms_text_grammar.specs.Modules.{entity_begins, entity}
 use Rattle.ms_read_cursor.specs.Reading.{run}
 use Rattle.ms_read_top.proofs.modules.entities.Given as goal
 

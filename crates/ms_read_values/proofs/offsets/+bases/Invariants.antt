@@ -7,8 +7,8 @@ decreases-base_to l = 4 * l.within + 1
 abbrev pub decreases-inner_step : goal.decreases-inner_step
 decreases-inner_step l = 4 * l.within
 
-abbrev pub decreases-step_from : goal.decreases-step_from
-decreases-step_from l = 4 * l.within + 3
+abbrev pub decreases-gep_from : goal.decreases-gep_from
+decreases-gep_from l = 4 * l.within + 3
 
 abbrev pub decreases-step_rest : goal.decreases-step_rest
 decreases-step_rest l = 4 * l.within + 2

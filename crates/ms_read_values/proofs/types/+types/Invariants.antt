@@ -1,5 +1,5 @@
 use Rattle.std.proofs.Common.{◌≡◌, ◌+◌, ◌*◌, length}
-use Rattle.ms_grammar.specs.Types.{type_to}
+use Rattle.ms_text_grammar.specs.Types.{type_to}
 use Rattle.ms_read_cursor.specs.Lists.{further_items}
 use Rattle.ms_read_cursor.specs.Reading.{run}
 use Rattle.ms_read_values.proofs.types.+types.Given as goal

@@ -1,5 +1,5 @@
 use Rattle.std.proofs.Common.{◌++◌, [], ◌∷◌, get_or, sym, ◌∙◌, arith}
-use Rattle.ms_rules_code.specs.Steps.{shadow_mask}
+use Rattle.ms_rules_builder.specs.Steps.{shadow_mask}
 use Rattle.ms_rules.proofs.PhiEdges.{edges_more}
 use Rattle.ms_rules.proofs.edges.mask_edges.Goals as goal
 

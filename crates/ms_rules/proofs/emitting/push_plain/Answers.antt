@@ -1,5 +1,5 @@
 use Rattle.std.proofs.Common.{arith}
-use Rattle.ms_ir.specs.Code.{is_root}
+use Rattle.ms_ir.specs.Instructions.{is_root}
 use Rattle.ms_rules.specs.Scopes.{env_of, given_of}
 use Rattle.ms_rules.proofs.RootCounts.{roots_fit}
 use Rattle.ms_rules.proofs.emitting.push_plain.Goals as goal

@@ -2,7 +2,7 @@ use Rattle.std.proofs.Common.{◌≡◌, map, length, ap, subst, ◌∙◌}
 use Rattle.std.specs.Prelude.{OnOk}
 use Rattle.std.proofs.lemmas.List.{length-map}
 use Rattle.ms_ir.specs.declared.syntax.Op.TheVariants as op
-use Rattle.ms_rules_code.specs.Steps.{tracked_of}
+use Rattle.ms_rules_builder.specs.Steps.{tracked_of}
 use Rattle.ms_rules.specs.Placed.{with_insts}
 use Rattle.ms_rules.specs.Scopes.{env_of}
 use Rattle.ms_rules.proofs.PhiEdges.{phis_are}
@@ -16,6 +16,6 @@ put_pair-requires c =
 
 pub returns-in-Some-number : goal.returns-in-Some-number
 returns-in-Some-number c =
-    subst (λ is. OnOk c.put_pair.result (c.put_pair.new.code ≡ with_insts c.args.code.now is))
+    subst (λ is. OnOk c.put_pair.result (c.put_pair.new.builder ≡ with_insts c.args.builder.now is))
     (phis_are c.args.scope.now c.in-Some-number.value c.args.tracking.now.before c.args.name.now c.in-Some.name c.args.ty.now c.args.edges.now c.deref.result.now c.in-Some.is c.in-Some-number.ensures
     (ap (map tracked_of) c.deref.ensures.value ∙ c.requires.tracked.are)) c.put_pair.ensures

@@ -9,8 +9,8 @@ use Rattle.ms_rules.proofs.phis.put_origin.Goals as goal
 
 pub returns : goal.returns
 returns c =
-    let code = c.args.code.now in
+    let code = c.args.builder.now in
     on_ok_weaker c.put_phi.result
-    (λ (is : c.put_phi.new.code ≡ with_insts code (inserted (Some c.in_ok-name.name) (op.Phi (Int 32) c.in_ok-edges.edges) ∷ [])).
+    (λ (is : c.put_phi.new.builder ≡ with_insts code (inserted (Some c.in_ok-name.name) (op.Phi (Int 32) c.in_ok-edges.edges) ∷ [])).
     is ∙ ap₂ (λ n es. with_insts code (inserted (Some n) (op.Phi (Int 32) es) ∷ [])) c.in_ok-name.ensures c.in_ok-edges.ensures)
     c.put_phi.ensures

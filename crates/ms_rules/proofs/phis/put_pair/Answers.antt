@@ -12,7 +12,7 @@ returns c =
     let v = c.args.value in
     let ops = c.args.operands.now in
     let es = c.args.edges.now in
-    insts_with c.put_origin.result c.args.code.now c.put_mask.new.code c.put_origin.new.code
+    insts_with c.put_origin.result c.args.builder.now c.put_mask.new.builder c.put_origin.new.builder
     (inserted (Some (mask_name v)) (op.Phi (mask_type c.args.ty.now) (with_operands (masks ops) es)) ∷ [])
     (inserted (Some (origin_name v)) (op.Phi (Int 32) (with_first (origins ops) (map (λ e. e.1) es) es)) ∷ [])
     c.in_ok-put_mask.ensures c.put_origin.ensures

@@ -1,5 +1,5 @@
 use Rattle.std.proofs.Common.{arith}
-use Rattle.ms_ir.specs.Code.{operands}
+use Rattle.ms_ir.specs.Instructions.{operands}
 use Rattle.ms_rules.proofs.Operands.{undefs_none, undefs_more}
 use Rattle.ms_rules.proofs.RootCounts.{one_at_most}
 use Rattle.ms_rules.specs.Tracking.{operand_at}

@@ -1,5 +1,5 @@
 use Rattle.std.proofs.Common.{◌≡◌, ◌+◌, ◌≤◌, drop}
-use Rattle.ms_ir.specs.Code.{count_undefs, operands}
+use Rattle.ms_ir.specs.Instructions.{count_undefs, operands}
 use Rattle.ms_rules.proofs.roots.undefined_count.Given as goal
 
 abbrev pub invariant-loop-place : goal.invariant-loop-place

@@ -2,7 +2,7 @@ use Rattle.std.proofs.Common.{◌≡◌, Some, length, refl, sym, ap, subst, ◌
 use Rattle.std.specs.Prelude.{IfOk, slice_get}
 use Rattle.std.proofs.Math.Path.{ap₂}
 use Rattle.std.proofs.lemmas.Option.{slice_get_read, slice_get_past}
-use Rattle.ms_ir.specs.Code.{func_at}
+use Rattle.ms_ir.specs.Instructions.{func_at}
 use Rattle.ms_tasks.specs.Emit as emit
 use Rattle.ms_rules.specs.Singles.{given_in, lists_of, single_lists}
 use Rattle.ms_rules.proofs.SingleInsts.{func_there, single_env, single_few, single_fits, single_here, single_taken}

@@ -1,8 +1,8 @@
 use Rattle.std.proofs.Common.{◌≡◌, ◌+◌, map, length, refl, sym, subst, ap, ◌∙◌, arith}
 use Rattle.std.proofs.lemmas.List.{length-map}
-use Rattle.ms_ir.specs.Code.{operands, count_undefs}
+use Rattle.ms_ir.specs.Instructions.{operands, count_undefs}
 use Rattle.ms_tasks.specs.Environments.{tracked}
-use Rattle.ms_rules_code.specs.Steps.{tracked_of}
+use Rattle.ms_rules_builder.specs.Steps.{tracked_of}
 use Rattle.ms_rules.specs.Scopes.{env_of}
 use Rattle.ms_rules.proofs.Operands.{Tracks, tracks_none, tracks_more, tracks_all}
 use Rattle.ms_rules.proofs.tracked.track.Goals as goal

@@ -1,6 +1,6 @@
 use Rattle.std.proofs.Common.{◌≡◌, map}
-use Rattle.ms_ir.specs.Code.{operands}
-use Rattle.ms_rules_code.specs.Steps.{tracked_of}
+use Rattle.ms_ir.specs.Instructions.{operands}
+use Rattle.ms_rules_builder.specs.Steps.{tracked_of}
 use Rattle.ms_rules.specs.Scopes.{env_of}
 use Rattle.ms_rules.proofs.Operands.{Tracks}
 use Rattle.ms_rules.proofs.tracked.track.Given as goal

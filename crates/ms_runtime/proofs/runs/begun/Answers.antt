@@ -2,7 +2,7 @@ use Rattle.std.proofs.Common.{arith, sym, ap, subst, refl, ◌≡◌, ◌∙◌,
 use Rattle.std.proofs.Math.Nat.{mul-le-mul_right}
 use Rattle.ms_ir.specs.declared.syntax.Module.{Module}
 use Rattle.ms_ir.specs.declared.places.Root.{Root}
-use Rattle.ms_ir.specs.Code.{over_funcs}
+use Rattle.ms_ir.specs.Instructions.{over_funcs}
 use Rattle.ms_ir.specs.Roots.{roots_of}
 use Rattle.ms_valid.specs.Formed.{Formed}
 use Rattle.ms_valid.proofs.SmallNumbers.{small_numbers}

@@ -1,6 +1,6 @@
 use Rattle.std.proofs.Common.{◌≡◌, ◌<◌, ◌+◌, ◌-◌, length, sym, subst, ◌∙◌, arith}
 use Rattle.std.proofs.lemmas.Nat.{or_lt}
-use Rattle.ms_code_data.specs.Fits.{IsStride}
+use Rattle.ms_code.specs.Fits.{IsStride}
 use Rattle.ms_shades.proofs.Indices.{strides_none, strides_back, strides_whole}
 use Rattle.ms_shades.proofs.addresses.strides_mask.Goals as goal
 

@@ -1,8 +1,8 @@
 use Rattle.std.proofs.Common.{length, sym, subst}
 use Rattle.std.specs.Prelude.{All}
-use Rattle.ms_code_data.specs.declared.code.Code.{Code}
-use Rattle.ms_code_data.specs.declared.code.Code.TheVariants as code
-use Rattle.ms_code_data.specs.Fits.{IsStride}
+use Rattle.ms_code.specs.declared.code.Code.{Code}
+use Rattle.ms_code.specs.declared.code.Code.TheVariants as code
+use Rattle.ms_code.specs.Fits.{IsStride}
 use Rattle.ms_shades.specs.Results.{IsComputed}
 use Rattle.ms_shades.proofs.Computing.{binary_told, icmp_told, cast_told, select_told, address_told}
 use Rattle.ms_shades.proofs.results.computed.Goals as goal

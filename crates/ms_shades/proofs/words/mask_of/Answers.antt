@@ -1,7 +1,7 @@
 use Rattle.std.proofs.Common.{length, subst}
-use Rattle.ms_code_data.specs.declared.code.Source.{Source}
-use Rattle.ms_code_data.specs.declared.code.Source.TheVariants as source
-use Rattle.ms_code_data.specs.Fits.{IsSource}
+use Rattle.ms_code.specs.declared.code.Source.{Source}
+use Rattle.ms_code.specs.declared.code.Source.TheVariants as source
+use Rattle.ms_code.specs.Fits.{IsSource}
 use Rattle.ms_shades.proofs.Fills.{ones_below}
 use Rattle.ms_shades.proofs.words.mask_of.Goals as goal
 

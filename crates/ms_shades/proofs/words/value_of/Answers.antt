@@ -1,8 +1,8 @@
 use Rattle.std.proofs.Common.{◌<◌, ◌^◌, ℕ, length, ap, subst}
 use Rattle.ms_bits.specs.Numeral.{Numeral}
-use Rattle.ms_code_data.specs.declared.code.Source.{Source}
-use Rattle.ms_code_data.specs.declared.code.Source.TheVariants as source
-use Rattle.ms_code_data.specs.Fits.{IsSource}
+use Rattle.ms_code.specs.declared.code.Source.{Source}
+use Rattle.ms_code.specs.declared.code.Source.TheVariants as source
+use Rattle.ms_code.specs.Fits.{IsSource}
 use Rattle.ms_shades.proofs.Fills.{below_wider}
 use Rattle.ms_shades.proofs.words.value_of.Goals as goal
 

@@ -5,5 +5,5 @@ use Rattle.ms_slots.proofs.lists.pass_arguments.Goals as goal
 
 pub returns : goal.returns
 returns c =
-    list_made (store_arguments 0 c.args.args.now) c.args.next c.from_vec.result c.new-code.result c.store_words.new.code (c.from_vec.ensures ∙ c.into_insts.ensures)
-    (c.new-code.ensures ∙ ap (λ n. made ([], n)) c.from.ensures) c.in_ok-store_words.ensures (stored_next 0 c.args.args.now c.args.next)
+    list_made (store_arguments 0 c.args.args.now) c.args.next c.from_vec.result c.new-builder.result c.store_words.new.builder (c.from_vec.ensures ∙ c.into_insts.ensures)
+    (c.new-builder.ensures ∙ ap (λ n. made ([], n)) c.from.ensures) c.in_ok-store_words.ensures (stored_next 0 c.args.args.now c.args.next)

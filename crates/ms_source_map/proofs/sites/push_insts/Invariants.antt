@@ -1,5 +1,5 @@
 use Rattle.std.proofs.Common.{◌≡◌, ◌++◌, drop, map}
-use Rattle.ms_ir.specs.Code.{is_unmarked}
+use Rattle.ms_ir.specs.Instructions.{is_unmarked}
 use Rattle.ms_source_map.proofs.sites.push_insts.Given as goal
 
 abbrev pub invariant-loop-inst : goal.invariant-loop-inst

@@ -1,6 +1,6 @@
 use Rattle.std.proofs.Common.{◌≡◌, ◌∙◌, map}
 use Rattle.std.proofs.lemmas.Result.{IfOk-weaker}
-use Rattle.ms_ir.specs.Code.{is_unmarked}
+use Rattle.ms_ir.specs.Instructions.{is_unmarked}
 use Rattle.ms_places.specs.Instructions.{module_insts}
 use Rattle.ms_source_map.specs.Sites as spec
 use Rattle.ms_source_map.proofs.Chosen.{of_module}

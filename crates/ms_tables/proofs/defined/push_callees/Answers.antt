@@ -1,14 +1,14 @@
 use Rattle.std.proofs.Common.{◌++◌, ◌∙◌, ap, append_assoc}
 use Rattle.std.proofs.Math.Path.{ap₂}
+use Rattle.std.proofs.lemmas.Result.{IfOk-weaker}
 use Rattle.ms_ir.specs.Locals.{declared_names, function_names}
 use Rattle.ms_tables.proofs.Given.{given_is}
-use Rattle.ms_tables.proofs.Items.{under_ok}
 use Rattle.ms_tables.proofs.defined.push_callees.Goals as goal
 
 pub returns : goal.returns
 returns c =
     let m = c.args.m.now in
-    under_ok c.push_all-2.result _ _ (λ _ last.
+    IfOk-weaker c.push_all-2.result _ _ (λ _ last.
     last
     ∙ ap₂ (λ names more. names ++ more)
     (c.in_ok-push_all.ensures ∙ ap (λ more. c.args.names.now ++ more) (given_is (λ d. d.name) c.as_slice.result.now m.decls c.as_slice.ensures))

@@ -1,11 +1,11 @@
 use Rattle.std.proofs.Common.{List, sym, ◌∙◌}
-use Rattle.ms_ir.specs.Equal.{Step}
+use Rattle.ms_ir.specs.Equal.{AddressStep}
 use Rattle.ms_ir.specs.Written.{Mention, type_mentions}
 use Rattle.ms_tables.proofs.Items.{none_left}
 use Rattle.ms_tables.proofs.Mentioned.{sought_passed, sought_stopped}
 use Rattle.ms_tables.proofs.sought.in_steps.Goals as goal
 
-abbrev step_mentions : Step → List Mention
+abbrev step_mentions : AddressStep → List Mention
 step_mentions s = type_mentions s.0
 
 pub returns-in-Some : goal.returns-in-Some

@@ -1,6 +1,6 @@
 use Rattle.std.proofs.Common.{◌≤◌, length, map, sym, ap, ◌∙◌, arith}
 use Rattle.std.proofs.lemmas.List.{length-map}
-use Rattle.ms_ir.specs.Code.{operands}
+use Rattle.ms_ir.specs.Instructions.{operands}
 use Rattle.ms_ir.specs.Written.{operand_mentions}
 use Rattle.ms_tables.specs.Sought.{first_sought}
 use Rattle.ms_tables.proofs.Items.{none_left}

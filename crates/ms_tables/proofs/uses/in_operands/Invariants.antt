@@ -1,6 +1,6 @@
 use Rattle.std.proofs.Common.{◌≡◌, map, drop}
 use Rattle.std.specs.Prelude.{flat_map}
-use Rattle.ms_ir.specs.Code.{operands}
+use Rattle.ms_ir.specs.Instructions.{operands}
 use Rattle.ms_ir.specs.Written.{operand_mentions, operands_mentions}
 use Rattle.ms_tables.specs.Sought.{first_sought}
 use Rattle.ms_tables.proofs.uses.in_operands.Given as goal

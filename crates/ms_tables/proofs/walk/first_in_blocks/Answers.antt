@@ -1,6 +1,6 @@
 use Rattle.std.proofs.Common.{◌≡◌, arith, ap, sym, ◌∙◌, ◌+◌, None}
 use Rattle.std.specs.Prelude.{slice_get}
-use Rattle.ms_ir.specs.Code.{one_unmarked, over_insts}
+use Rattle.ms_ir.specs.Instructions.{one_unmarked, over_insts}
 use Rattle.ms_ir.specs.Spots.{spot, over_spots}
 use Rattle.ms_tables.proofs.Items.{none_left, none_then}
 use Rattle.ms_tables.proofs.Walks.{blocks_stopped, blocks_passed, blocks_sum}

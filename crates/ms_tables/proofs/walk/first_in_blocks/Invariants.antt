@@ -1,6 +1,6 @@
 use Rattle.std.proofs.Common.{◌≡◌, ◌+◌, drop}
 use Rattle.std.specs.Prelude.{slice_get}
-use Rattle.ms_ir.specs.Code.{one_unmarked, over_blocks}
+use Rattle.ms_ir.specs.Instructions.{one_unmarked, over_blocks}
 use Rattle.ms_ir.specs.Spots.{over_block_spots}
 use Rattle.ms_tables.proofs.walk.first_in_blocks.Given as goal
 

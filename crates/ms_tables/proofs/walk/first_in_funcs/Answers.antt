@@ -1,5 +1,5 @@
 use Rattle.std.proofs.Common.{◌≡◌, ◌+◌, None, arith, sym, ◌∙◌}
-use Rattle.ms_ir.specs.Code.{one_unmarked, over_blocks}
+use Rattle.ms_ir.specs.Instructions.{one_unmarked, over_blocks}
 use Rattle.ms_tables.proofs.Items.{none_left, none_then}
 use Rattle.ms_tables.proofs.Walks.{funcs_stopped, funcs_passed, funcs_sum}
 use Rattle.ms_tables.proofs.walk.first_in_funcs.Goals as goal

@@ -1,11 +1,11 @@
 use Rattle.std.proofs.Common.{refl, arith, leb-true, length}
 use Rattle.ms_ir.specs.declared.forms.Form.TheVariants.{Instrumented}
 use Rattle.ms_ir.specs.Names.{bit_moves}
-use Rattle.ms_grammar.specs.Pieces.{pieces}
-use Rattle.ms_grammar.specs.Texts.{max_bytes, max_tokens}
-use Rattle.ms_written.specs.Layout.{layout}
-use Rattle.ms_written.specs.Modules.{module_pieces, written}
-use Rattle.ms_written.specs.ExampleModules.{odd_names, many_parts, marked_parts}
+use Rattle.ms_text_grammar.specs.Pieces.{pieces}
+use Rattle.ms_text_grammar.specs.Texts.{max_bytes, max_tokens}
+use Rattle.ms_text_layout.specs.Layout.{layout}
+use Rattle.ms_text_layout.specs.Modules.{module_pieces, written}
+use Rattle.ms_text_layout.specs.ExampleModules.{odd_names, many_parts, marked_parts}
 use Rattle.ms_ir.specs.declared.syntax.Ty.TheBlock.{hidden-the_row-Ty-0, shape-the_row-Ty-0, hidden-the_row-Ty-1, shape-the_row-Ty-1}
 use Rattle.ms_ir.specs.declared.syntax.Init.TheBlock.{hidden-the_row-Init-Array-0-2-0, shape-the_row-Init-Array-0-2-0}
 use Rattle.ms_text_laws.proofs.examples.modules_fit.Goals as goal

@@ -1,5 +1,5 @@
 use Rattle.std.proofs.Common.{refl}
-use Rattle.ms_grammar.specs.Pieces.{pieces}
+use Rattle.ms_text_grammar.specs.Pieces.{pieces}
 use Rattle.ms_text_laws.proofs.examples.undefined_value.Goals as goal
 
 pub returns : goal.returns

@@ -1,8 +1,8 @@
 use Rattle.std.proofs.Common.{ℕ, List}
+use Rattle.std.proofs.lemmas.Result.{IfOk-weaker}
 use Rattle.ms_runs.specs.declared.runs.Setup.{Setup}
 use Rattle.ms_runs.specs.Faithful.{Fair}
-use Rattle.ms_tables.proofs.Items.{under_ok}
-use Rattle.ms_elision_laws.specs.Elided.{IsElided}
+use Rattle.ms_elide_laws.specs.Elided.{IsElided}
 use Rattle.ms_threads_runs.specs.PlainFibers.{plain_threads}
 use Rattle.ms_threads.specs.Faithful.{FaithfulThreads, IsSchedule}
 use Rattle.ms_threads.specs.Fills.{ThreadsHoldUnderFills}
@@ -16,14 +16,14 @@ returns g c =
     let valid = c.is_valid.ensures.valid in
     let made = c.instrument.ensures in
     record {
-      threads = under_ok c.instrument.result (λ j. IsElided m j) (λ j. FaithfulThreads m j) (λ j elided. faithful_threads m formed valid c.requires j elided) made.pass;
+      threads = IfOk-weaker c.instrument.result (λ j. IsElided m j) (λ j. FaithfulThreads m j) (λ j elided. faithful_threads m formed valid c.requires j elided) made.pass;
       pass = made.pass;
       checks = made.checks;
       faithful = made.faithful;
       stripped = made.stripped;
       undisturbed = made.undisturbed;
       pieces = made.pieces;
-      holds = under_ok c.instrument.result (λ j. IsElided m j)
+      holds = IfOk-weaker c.instrument.result (λ j. IsElided m j)
           (λ j. (setup : Setup) → Fair setup → (schedule : List ℕ) → IsSchedule schedule → ThreadsHoldUnderFills m setup schedule (plain_threads j setup schedule))
           (λ j elided setup fair schedule some. threads_hold m formed valid c.requires j elided setup fair schedule) made.pass;
     }

@@ -1,5 +1,5 @@
 use Rattle.std.proofs.Common.{true, sym, ap, ◌∙◌}
-use Rattle.ms_ir.specs.Code.{func_index}
+use Rattle.ms_ir.specs.Instructions.{func_index}
 use Rattle.ms_ir.specs.ThreadCalls.{calls_thread}
 use Rattle.ms_threads.proofs.Called.{thread_called}
 use Rattle.ms_threads.proofs.searching.calls_thread.Goals as goal

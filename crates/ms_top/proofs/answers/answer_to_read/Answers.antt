@@ -1,25 +1,25 @@
 use Rattle.std.proofs.Common.{subst, sym}
-use Rattle.ms_grammar.specs.Texts.{HasTokens, Reads}
+use Rattle.ms_text_grammar.specs.Texts.{HasTokens, Reads}
 use Rattle.ms_places.specs.Marks.{AreMarks}
 use Rattle.ms_report.specs.WithLines.{no_lines}
 use Rattle.ms_source_map.specs.Lines.{lines_at}
 use Rattle.ms_top.proofs.Answering.{lines_shown, none_shown}
-use Rattle.ms_top.proofs.Ok.{on_ok}
 use Rattle.ms_top.proofs.answers.answer_to_read.Goals as goal
+use Rattle.ms_runtime.proofs.Fitting.{if_ok}
 
 pub of-requires : goal.of-requires
 of-requires g c = (c.args.m, subst (λ f. Reads f c.args.text.now c.args.m) (sym c.form_of.ensures) c.requires.reads)
 
 pub returns-in-None : goal.returns-in-None
 returns-in-None g c =
-    on_ok c.answer_to_module.result (λ a is. (no_lines, none_shown c.args.command.now c.args.text.now c.args.m (c.located_file.ensures.unnamed c.in-None.is), is)) c.answer_to_module.ensures
+    if_ok c.answer_to_module.result (λ a is. (no_lines, none_shown c.args.command.now c.args.text.now c.args.m (c.located_file.ensures.unnamed c.in-None.is), is)) c.answer_to_module.ensures
 
 pub returns-in_ok-located-in-Some : goal.returns-in_ok-located-in-Some
 returns-in_ok-located-in-Some g c =
     let text = c.args.text.now in
     let places = c.in_ok-places-in-Some.places in
     let under = lines_at c.in_ok-located-in-Some.located.map in
-    on_ok c.answer_to_module-in-Some.result (λ a is. (
+    if_ok c.answer_to_module-in-Some.result (λ a is. (
       under,
       lines_shown c.args.command.now c.in-Some.file.now text places.tokens.items places.marks.items c.args.m under c.in-Some.ensures.named
           (subst (λ f. HasTokens f text places.tokens.items) c.form_of.ensures c.in_ok-places-in-Some.ensures.tokens)

@@ -1,8 +1,8 @@
 use Rattle.std.proofs.Common.{subst, sym, ◌≤◌, length, arith}
-use Rattle.ms_grammar.specs.Texts.{Reads, max_bytes}
+use Rattle.ms_text_grammar.specs.Texts.{Reads, max_bytes}
 use Rattle.ms_top.proofs.Answering.{file_limit, ready, formed, has_line, module_answer, refusal_answer}
-use Rattle.ms_top.proofs.Ok.{on_ok, on_both}
 use Rattle.ms_top.proofs.answers.answer_to_text.Goals as goal
+use Rattle.ms_runtime.proofs.Fitting.{if_ok, if_ok_both}
 
 pub read-requires : goal.read-requires
 read-requires g c = subst (λ f. length c.args.text.now ≤ max_bytes f) (sym c.form_of.ensures) (file_limit c.args.command.now _ c.requires.fits)
@@ -23,9 +23,9 @@ refused-requires g c = has_line c.form_of.result c.args.text.now c.read.result c
     (record { «module» = c.read.ensures.«module»; lex = c.read.ensures.lex; refused = c.read.ensures.refused; wanting = c.read.ensures.wanting }) c.in-Err.is
 
 pub returns-in-Ok : goal.returns-in-Ok
-returns-in-Ok g c = on_ok c.answer_to_read.result (λ a is. module_answer g.P.Pass.gives c.args.command.now c.args.inputs.now c.form_of.result c.args.text.now c.read.result c.in-Ok.module a c.form_of.ensures
+returns-in-Ok g c = if_ok c.answer_to_read.result (λ a is. module_answer g.P.Pass.gives c.args.command.now c.args.inputs.now c.form_of.result c.args.text.now c.read.result c.in-Ok.module a c.form_of.ensures
     (record { «module» = c.read.ensures.«module»; lex = c.read.ensures.lex; refused = c.read.ensures.refused; wanting = c.read.ensures.wanting }) c.in-Ok.is is) c.answer_to_read.ensures
 
 pub returns-in-Err : goal.returns-in-Err
-returns-in-Err g c = on_both c.refused.result (λ a h is. refusal_answer g.P.Pass.gives c.args.command.now c.args.inputs.now c.form_of.result c.args.text.now c.read.result c.in-Err.cause a c.form_of.ensures
+returns-in-Err g c = if_ok_both c.refused.result (λ a h is. refusal_answer g.P.Pass.gives c.args.command.now c.args.inputs.now c.form_of.result c.args.text.now c.read.result c.in-Err.cause a c.form_of.ensures
     (record { «module» = c.read.ensures.«module»; lex = c.read.ensures.lex; refused = c.read.ensures.refused; wanting = c.read.ensures.wanting }) c.in-Err.is h is) c.refused.ensures.reason c.refused.ensures.line

@@ -9,9 +9,9 @@ use Rattle.ms_top.specs.Files.{Counted, counted}
 use Rattle.ms_top.specs.Parts.{AreShort, IsAnswerBehind, IsAnswerToFault}
 use Rattle.ms_top.specs.Said.{IsAnswerToText}
 use Rattle.ms_top.specs.Unread.{CauseShows, IsUnread}
-use Rattle.ms_top.proofs.Ok.{on_ok}
 use Rattle.ms_top.proofs.Reading.{inputs_read, input_unread}
 use Rattle.ms_top.proofs.files.answer_behind.Goals as goal
+use Rattle.ms_runtime.proofs.Fitting.{if_ok}
 
 -- the answer for the first file of an input that isn't read
 fault_behind : (Gives : Module → Module → Type 0) (c : Counted) (command : Command) (names : List (List ℕ)) (u : InputFault) (name text : List ℕ) (a : Answer) → names ≡ input_names command
@@ -24,7 +24,7 @@ answer_to_text-requires-clause-inputs g c κs within = subst AreShort (sym c.as_
 
 pub returns-in-Ok-clause-said : goal.returns-in-Ok-clause-said
 returns-in-Ok-clause-said g c =
-    on_ok c.answer_to_text.result
+    if_ok c.answer_to_text.result
     (λ a is. inputs_read g.P.Pass.gives _ c.args.command.now c.inputs_of-names.result.now c.args.text.now c.in-Ok.inputs a c.inputs_of-names.ensures c.in-Ok.ensures.read
     (subst (λ inputs. IsAnswerToText g.P.Pass.gives c.args.command.now inputs c.args.text.now a) c.as_slice.ensures is))
     c.answer_to_text.ensures
@@ -32,6 +32,6 @@ returns-in-Ok-clause-said g c =
 pub returns-in-Err-clause-said : goal.returns-in-Err-clause-said
 returns-in-Err-clause-said g c =
     let counts : Counted = counted (g.F.Files.held c.args.files.now) (g.F.Files.faults c.args.files.now) (g.F.Files.faults c.read_inputs.new.files) (g.F.Files.taken c.args.files.now) (g.F.Files.taken c.read_inputs.new.files) in
-    on_ok c.unread.result
+    if_ok c.unread.result
     (λ a is. fault_behind g.P.Pass.gives counts c.args.command.now c.inputs_of-names.result.now c.in-Err.at c.index-names-at.result c.args.text.now a c.inputs_of-names.ensures c.in-Err.ensures.unread c.index-names-at.is is)
     c.unread.ensures

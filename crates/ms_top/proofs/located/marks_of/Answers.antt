@@ -1,5 +1,5 @@
 use Rattle.std.proofs.Common.{◌≡◌, true≢false, sym, ◌∙◌}
-use Rattle.ms_grammar.specs.declared.refusals.Refusal.TheVariants.{NoMemory}
+use Rattle.ms_text_grammar.specs.declared.refusals.Cause.TheVariants.{NoMemory}
 use Rattle.ms_top.proofs.Placing.{marks_want_memory}
 use Rattle.ms_top.proofs.located.marks_of.Goals as goal
 use Rattle.ms_top.proofs.located.marks_of.Goals.{in-NoMemory, in_default}

@@ -1,13 +1,13 @@
 use Rattle.ms_top.specs.Files.{counted}
 use Rattle.ms_top.specs.Said.{IsAnswerToCommand, between}
-use Rattle.ms_top.proofs.Ok.{on_ok}
 use Rattle.ms_top.proofs.Saying.{told, partly_told}
 use Rattle.ms_top.proofs.Statuses.{command-not_seven}
 use Rattle.ms_top.proofs.top.job.Goals as goal
+use Rattle.ms_runtime.proofs.Fitting.{if_ok}
 
 pub put_answer-requires : goal.put_answer-requires
 put_answer-requires g c =
-    on_ok c.answer_to_command.result (λ a is. command-not_seven g.P.Pass.gives
+    if_ok c.answer_to_command.result (λ a is. command-not_seven g.P.Pass.gives
     (counted (g.F.Files.held c.args.files.now) (g.F.Files.faults c.args.files.now) (g.F.Files.faults c.answer_to_command.new.files) (g.F.Files.taken c.args.files.now) (g.F.Files.taken c.answer_to_command.new.files))
     c.args.command.now a is) c.answer_to_command.ensures.said
 

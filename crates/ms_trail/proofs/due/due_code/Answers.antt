@@ -1,5 +1,5 @@
 use Rattle.std.proofs.Common.{◌<◌, length, get_or, sym, ap, subst, ◌∙◌, List}
-use Rattle.ms_code_data.specs.declared.code.Code.{Code}
+use Rattle.ms_code.specs.declared.code.Code.{Code}
 use Rattle.ms_trail.proofs.DueCode.{code_there, due_code, fits_code}
 use Rattle.ms_trail.proofs.due.due_code.Goals as goal
 

@@ -1,5 +1,5 @@
 use Rattle.std.proofs.Common.{◌<◌, length, get_or, sym, ap, subst, ◌∙◌, List}
-use Rattle.ms_code_data.specs.declared.code.Site.{Site}
+use Rattle.ms_code.specs.declared.code.Site.{Site}
 use Rattle.ms_trail.proofs.DueCode.{site_there, due_site}
 use Rattle.ms_trail.proofs.due.due_site.Goals as goal
 

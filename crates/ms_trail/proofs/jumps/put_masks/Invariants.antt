@@ -1,4 +1,4 @@
-use Rattle.ms_machine_steps.proofs.Moves.{Writing}
+use Rattle.ms_machine_frames.proofs.Moves.{Writing}
 use Rattle.ms_trail.proofs.jumps.put_masks.Given as goal
 
 abbrev pub invariant-loop-i : goal.invariant-loop-i

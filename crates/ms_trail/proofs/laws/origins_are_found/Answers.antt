@@ -1,4 +1,4 @@
-use Rattle.ms_trail.proofs.Placing.{place_is}
+use Rattle.ms_trail_uses.proofs.Placing.{place_is}
 use Rattle.ms_trail.proofs.laws.origins_are_found.Goals as goal
 
 pub returns : goal.returns

@@ -1,4 +1,4 @@
-use Rattle.ms_trail.proofs.CodeUses.{code_reads}
+use Rattle.ms_trail_uses.proofs.CodeUses.{code_reads}
 use Rattle.ms_trail.proofs.laws.uses_are_found.Goals as goal
 
 pub returns : goal.returns

@@ -1,5 +1,5 @@
 use Rattle.std.proofs.Common.{◌≡◌, take}
-use Rattle.ms_code_data.specs.Words.{words_of}
+use Rattle.ms_code.specs.Words.{words_of}
 use Rattle.ms_trail.proofs.outside.argument_words.Given as goal
 
 abbrev pub invariant-loop-arg : goal.invariant-loop-arg

@@ -1,17 +1,17 @@
 use Rattle.std.proofs.Common.{◌≡◌, ℕ, List, ◌++◌, ap, sym, subst, append-nil, Option}
 use Rattle.std.specs.Prelude.{OnOk}
-use Rattle.ms_ir.specs.Code.{operands}
-use Rattle.ms_machine_steps.specs.Meaning.{put_of}
+use Rattle.ms_ir.specs.Instructions.{operands}
+use Rattle.ms_machine_frames.specs.Meaning.{put_of}
 use Rattle.ms_moves.specs.declared.moves.Move.{Move}
 use Rattle.ms_moves.specs.Sources.{sources, source_at}
 use Rattle.ms_trail.specs.Calling.{answer_told, noted_masks}
-use Rattle.ms_trail.specs.Logs.{IsLog}
-use Rattle.ms_trail.proofs.Told.{on_any}
+use Rattle.ms_trail_bytes.specs.Logs.{IsLog}
 use Rattle.ms_trail.proofs.outside.note_answer.Goals as goal
+use Rattle.ms_planes.proofs.Histories.{all-ok}
 
 pub returns-in-Some-clause-masks : goal.returns-in-Some-clause-masks
 returns-in-Some-clause-masks c =
-    on_any c.tell_answer.result _ (subst (λ (q : Option ℕ). c.put_result.new.masks.items ≡ noted_masks (put_of c.args.code.now) q c.args.mask c.args.masks.now.items) (sym c.in-Some.is) c.put_result.ensures)
+    all-ok c.tell_answer.result _ (subst (λ (q : Option ℕ). c.put_result.new.masks.items ≡ noted_masks (put_of c.args.code.now) q c.args.mask c.args.masks.now.items) (sym c.in-Some.is) c.put_result.ensures)
 
 pub returns-in-None-clause-masks : goal.returns-in-None-clause-masks
 returns-in-None-clause-masks c = sym (ap (λ (q : Option ℕ). noted_masks (put_of c.args.code.now) q c.args.mask c.args.masks.now.items) c.in-None.is)

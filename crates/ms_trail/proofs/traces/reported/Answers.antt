@@ -1,5 +1,5 @@
 use Rattle.ms_trail.proofs.Tracing.{log_few, log_many}
-use Rattle.ms_trail.specs.Logs.{move_limit}
+use Rattle.ms_trail_bytes.specs.Logs.{move_limit}
 use Rattle.ms_trail.proofs.traces.reported.Goals as goal
 
 pub returns-then-count-gt-MOVE_LIMIT : goal.returns-then-count-gt-MOVE_LIMIT

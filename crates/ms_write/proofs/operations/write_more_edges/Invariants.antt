@@ -1,6 +1,6 @@
 use Rattle.std.proofs.Common.{◌≡◌, map, drop}
-use Rattle.ms_written.specs.Insts.{edge_tokens}
-use Rattle.ms_written.specs.Pieces.{behind_commas}
+use Rattle.ms_text_layout.specs.Insts.{edge_tokens}
+use Rattle.ms_text_layout.specs.Pieces.{behind_commas}
 use Rattle.ms_write_values.specs.Sheets.{put}
 use Rattle.ms_write.proofs.operations.write_more_edges.Given as goal
 

@@ -1,7 +1,7 @@
 use Rattle.std.proofs.Common.{◌++◌, ap, map}
 use Rattle.std.specs.Prelude.{flat_map}
 use Rattle.std.proofs.lemmas.Result.{IfOk-equal}
-use Rattle.ms_ir.specs.Code.{operands}
+use Rattle.ms_ir.specs.Instructions.{operands}
 use Rattle.ms_check_flow.specs.Noted.{operand_here, op_here}
 use Rattle.ms_check_flow.proofs.Operands.{plain_noted}
 use Rattle.ms_check_flow.proofs.here.Here.note_op.Goals as goal

@@ -1,8 +1,8 @@
 use Rattle.std.proofs.Common.{◌+◌, ◌∙◌, ℕ, Option, drop, sym, subst}
 use Rattle.std.proofs.Math.ListN.{drop_of_length-le}
 use Rattle.ms_ir.specs.Layout.{size_in}
+use Rattle.ms_ir.proofs.Sizes.{drop_next}
 use Rattle.ms_host.specs.Initial.{Reaches}
-use Rattle.ms_tables.proofs.Items.{drop_item}
 use Rattle.ms_host.proofs.Changes.{keeps-both}
 use Rattle.ms_host.proofs.KeptNumbers.{size-reaches}
 use Rattle.ms_host.proofs.InitParts.{value-written, text-written, array-written, struct-written, progress-step, progress-end}
@@ -36,7 +36,7 @@ write_parts-loop-ty-preserved t c =
     record {
       written = progress-step types c.args.packed c.args.at c.args.self.now l.self c.write_init-left.new.self c.args.words.now l.left.now c.write_init-left.result.now
           l.so_far c.part_begin-begin.result c.sum.result c.size_of.result c.sum-so_far.result c.args.parts.now (drop l.ty-index c.args.parts.now) (drop (l.ty-index + 1) c.args.parts.now) part.0 part.1
-          (drop_item c.args.parts.now l.ty-index part c.loop-ty-test.true c.loop-ty-item.is)
+          (drop_next c.args.parts.now l.ty-index part c.loop-ty-test.true c.loop-ty-item.is)
           c.part_begin-begin.ensures c.sum.ensures
           (λ known. subst (λ (o : Option ℕ). Reaches o (size_in types part.0)) (sym c.size_of.ensures) (size-reaches types part.0 known))
           c.sum-so_far.ensures c.write_init-left.ensures.written l.invariant.written;

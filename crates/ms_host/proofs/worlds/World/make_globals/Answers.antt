@@ -3,7 +3,7 @@ use Rattle.std.proofs.Math.ListN.{drop_of_length-le}
 use Rattle.std.proofs.lemmas.Result.{err_from_is_err_and}
 use Rattle.ms_alloc.specs.declared.errors.AllocError.TheVariants as refused
 use Rattle.ms_ir.specs.declared.syntax.GlobalVar.{GlobalVar}
-use Rattle.ms_tables.proofs.Items.{drop_item}
+use Rattle.ms_ir.proofs.Sizes.{drop_next}
 use Rattle.ms_host.proofs.Changes.{keeps-both}
 use Rattle.ms_host.proofs.GlobalsMade.{advance-step, advance-end, advance-full, same-error}
 use Rattle.ms_host.proofs.worlds.World.make_globals.Goals as goal
@@ -15,7 +15,7 @@ returns-in_err-left-clause-full c = λ full.
     let all : List GlobalVar = c.args.globals.now in
     let g = c.global-item.result in
     advance-full c.args.extents.now c.args.self.now l.self c.args.words.now l.left.now all (drop l.global-index all) (drop (l.global-index + 1) all) g
-    (drop_item all l.global-index g c.loop-global-test.true c.global-item.is)
+    (drop_next all l.global-index g c.loop-global-test.true c.global-item.is)
     (c.in_err-left.ensures.full (ap Err (sym p.2 ∙ same-error p.0 refused.Full (sym p.1 ∙ full)))) l.invariant.written
 
 pub loop-global-preserved : goal.loop-global-preserved
@@ -25,7 +25,7 @@ loop-global-preserved c =
     let g = c.global-item.result in
     record {
       written = advance-step c.args.extents.now c.args.self.now l.self c.make_global.new.self c.args.words.now l.left.now c.in_ok-left.left.now all (drop l.global-index all) (drop (l.global-index + 1) all) g
-          (drop_item all l.global-index g c.loop-global-test.true c.global-item.is) c.in_ok-left.ensures.written l.invariant.written;
+          (drop_next all l.global-index g c.loop-global-test.true c.global-item.is) c.in_ok-left.ensures.written l.invariant.written;
       keeps = keeps-both _ _ _ l.invariant.keeps c.make_global.ensures.keeps;
       made = c.make_global.ensures.made ∙ l.invariant.made;
     }

@@ -1,6 +1,6 @@
 use Rattle.std.proofs.Common.{◌≡◌, drop, is_some}
 use Rattle.ms_ir.specs.declared.syntax.Name.TheVariants.{Text}
-use Rattle.ms_ir.specs.Code.{func_index}
+use Rattle.ms_ir.specs.Instructions.{func_index}
 use Rattle.ms_ir.proofs.rooting.callees.defines.Given as goal
 
 abbrev pub invariant-loop-func : goal.invariant-loop-func

@@ -4,7 +4,7 @@ use Rattle.std.proofs.lemmas.List.{take_all, length-map}
 use Rattle.ms_ir.specs.declared.syntax.Ty.{Ty}
 use Rattle.ms_ir.specs.declared.syntax.Operand.{Operand}
 use Rattle.ms_ir.specs.declared.places.Root.{Root}
-use Rattle.ms_ir.specs.Code.{operands}
+use Rattle.ms_ir.specs.Instructions.{operands}
 use Rattle.ms_ir.specs.Rooted.{operand_roots}
 use Rattle.ms_ir.proofs.RootKinds.{roots_next, roots_of_all}
 use Rattle.ms_ir.proofs.rooting.operands.push_operands.Goals as goal

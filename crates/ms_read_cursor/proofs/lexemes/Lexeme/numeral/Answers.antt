@@ -1,5 +1,5 @@
 use Rattle.std.proofs.Common.{◌≡◌, sym, ◌∙◌}
-use Rattle.ms_grammar.specs.Lexemes.{name_in}
+use Rattle.ms_text_grammar.specs.Lexemes.{name_in}
 use Rattle.ms_read_cursor.proofs.Widths.{numbered_in}
 use Rattle.ms_read_cursor.proofs.lexemes.Lexeme.numeral.Goals as goal
 

@@ -1,6 +1,6 @@
 use Rattle.std.proofs.Common.{◌≡◌, ◌<◌, ◌^◌, ap, ◌∙◌, rules, arith}
 use Rattle.ms_lex.specs.Numbers.{decimal}
-use Rattle.ms_grammar.specs.Lexemes.{width_in}
+use Rattle.ms_text_grammar.specs.Lexemes.{width_in}
 use Rattle.ms_read_cursor.proofs.Widths.{narrow_in}
 use Rattle.ms_read_cursor.proofs.lexemes.Lexeme.width.Goals as goal
 

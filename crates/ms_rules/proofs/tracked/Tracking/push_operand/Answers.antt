@@ -1,8 +1,8 @@
 use Rattle.std.proofs.Common.{◌≡◌, ◌+◌, ◌≤◌, [], ◌∷◌, ◌++◌, map, sym, subst}
 use Rattle.std.specs.Prelude.{OnOk}
-use Rattle.ms_ir.specs.Code.{operands, one_undef}
+use Rattle.ms_ir.specs.Instructions.{operands, one_undef}
 use Rattle.ms_ir.specs.Layout.{width_of}
-use Rattle.ms_rules_code.specs.Steps.{tracked_of}
+use Rattle.ms_rules_builder.specs.Steps.{tracked_of}
 use Rattle.ms_rules.specs.Scopes.{env_of}
 use Rattle.ms_rules.specs.Tracking.{tracked_one}
 use Rattle.ms_rules.proofs.Operands.{none_below, type_found, operand_found, both_found}

@@ -1,7 +1,7 @@
 use Rattle.std.proofs.Common.{List, ◌∷◌, refl, sym, subst, ◌∙◌}
 use Rattle.ms_host.specs.declared.calls.Answer.{Answer}
-use Rattle.ms_machine_steps.specs.declared.frames.Frame.{Frame as Kept}
-use Rattle.ms_machine_steps.specs.Standing.{frames_of}
+use Rattle.ms_machine_frames.specs.declared.frames.Frame.{Frame as Kept}
+use Rattle.ms_machine_frames.specs.Standing.{frames_of}
 use Rattle.ms_machine_steps.specs.Waiting.{answered}
 use Rattle.ms_machine.specs.Running.{AllStandFor}
 use Rattle.ms_runtime.specs.Answering.{AnsweredFor}

@@ -1,6 +1,6 @@
 use Rattle.std.proofs.Common.{refl, sym, subst}
 use Rattle.ms_runs.specs.declared.runs.End.{End}
-use Rattle.ms_machine_steps.specs.declared.pauses.Pause.{Pause}
+use Rattle.ms_machine_frames.specs.declared.pauses.Pause.{Pause}
 use Rattle.ms_machine_steps.specs.Advances.{Advanced}
 use Rattle.ms_machine.specs.Running.{IsRunning}
 use Rattle.ms_runtime.specs.declared.runs.Running.{Running}

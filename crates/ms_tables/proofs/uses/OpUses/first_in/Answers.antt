@@ -1,7 +1,7 @@
 use Rattle.std.proofs.Common.{[], ◌∷◌, map, sym, ap, ◌∙◌}
 use Rattle.std.specs.Option.{option_or}
 use Rattle.std.proofs.Math.Path.{ap₂}
-use Rattle.ms_ir.specs.Code.{operands}
+use Rattle.ms_ir.specs.Instructions.{operands}
 use Rattle.ms_ir.specs.Written.{OfLocal, OfGlobal, type_mentions, operands_mentions, targets}
 use Rattle.ms_tables.specs.Sought.{first_sought}
 use Rattle.ms_tables.proofs.Mentioned.{sought-append, alloca_mentions, gep_mentions, call_mentions, plain_mentions}

@@ -1,6 +1,6 @@
 use Rattle.std.proofs.Common.{◌≡◌, ◌<◌, ◌^◌, Some, refl, sym, subst, ◌∙◌, arith}
 use Rattle.std.proofs.lemmas.Option.{same_Some}
-use Rattle.ms_runs_good.specs.GoodStates.{IsStart}
+use Rattle.ms_good_laws.specs.GoodStates.{IsStart}
 use Rattle.ms_machine.specs.Spawning.{SpawnedFor}
 use Rattle.ms_threads.specs.declared.guests.Thread.{Thread as Guest}
 use Rattle.ms_threads.proofs.Starting.{start_few}

@@ -1,5 +1,5 @@
 use Rattle.std.proofs.Common.{List, ◌∷◌, refl, sym, subst, ◌∙◌}
-use Rattle.ms_machine_steps.specs.declared.frames.Frame.{Frame as Kept}
+use Rattle.ms_machine_frames.specs.declared.frames.Frame.{Frame as Kept}
 use Rattle.ms_machine_steps.specs.Waiting.{answered}
 use Rattle.ms_machine.specs.Running.{AllStandFor}
 use Rattle.ms_threads.proofs.Behind.{behind_ends, behind_goes, behind_nearer}

@@ -1,5 +1,5 @@
 use Rattle.std.proofs.Common.{refl, subst, arith}
-use Rattle.ms_machine_steps.specs.declared.pauses.Pause.{Pause}
+use Rattle.ms_machine_frames.specs.declared.pauses.Pause.{Pause}
 use Rattle.ms_machine_steps.specs.Advances.{Advanced}
 use Rattle.ms_machine.specs.Running.{IsRunning}
 use Rattle.ms_runtime.specs.Going.{ahead}

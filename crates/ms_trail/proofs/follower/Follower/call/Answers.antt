@@ -1,17 +1,17 @@
 use Rattle.std.proofs.Common.{◌≡◌, ◌≤◌, ◌<◌, ◌+◌, ◌-◌, ◌++◌, ◌∙◌, ℕ, Bool, true, List, [], ◌∷◌, length, replicate, refl, sym, ap, subst, arith}
 use Rattle.std.specs.Prelude.{All, slice_get}
 use Rattle.ms_ir.specs.declared.syntax.Module.{Module}
-use Rattle.ms_ir.specs.Code.{operands}
+use Rattle.ms_ir.specs.Instructions.{operands}
 use Rattle.ms_host.specs.State.{nothing_beside}
 use Rattle.ms_moves.specs.declared.moves.Move.{Move}
 use Rattle.ms_moves.specs.Sources.{sources}
-use Rattle.ms_code_data.specs.Fits.{IsSource}
+use Rattle.ms_code.specs.Fits.{IsSource}
 use Rattle.ms_shades.specs.Shades.{masks_of}
 use Rattle.ms_trail.specs.declared.follower.Follower.{Follower}
-use Rattle.ms_trail.specs.declared.shades.Shade.{Shade}
+use Rattle.ms_trail_uses.specs.declared.shades.Shade.{Shade}
 use Rattle.ms_trail.specs.Calling.{params_told}
-use Rattle.ms_trail.specs.Logs.{IsLog}
-use Rattle.ms_trail.specs.Stepping.{Stepped}
+use Rattle.ms_trail_bytes.specs.Logs.{IsLog}
+use Rattle.ms_trail_uses.specs.Stepping.{Stepped}
 use Rattle.ms_trail.specs.Ready.{IsReady}
 use Rattle.ms_trail.proofs.Masked.{view_is}
 use Rattle.ms_trail.proofs.Computed.{computed_over}

@@ -1,30 +1,30 @@
 use Rattle.std.proofs.Common.{◌≡◌, ◌+◌, ◌++◌, ◌∙◌, ℕ, List, length, get_or, unwrap_or, refl, sym, ap, subst, arith}
-use Rattle.ms_ir.specs.Code.{operands, count_undefs}
+use Rattle.ms_ir.specs.Instructions.{operands, count_undefs}
 use Rattle.ms_runs.specs.World.{Effect}
 use Rattle.ms_runs.specs.Control.{here, read_all}
 use Rattle.ms_runs.specs.Plain.{setting_of}
 use Rattle.ms_runs.specs.Poisoned.{Poisoned}
 use Rattle.ms_runs.specs.Shadow.{read_poisoned}
 use Rattle.std.specs.Prelude.{All}
-use Rattle.ms_code_data.specs.Fits.{IsSource}
-use Rattle.ms_code_data.specs.Words.{words_of}
+use Rattle.ms_code.specs.Fits.{IsSource}
+use Rattle.ms_code.specs.Words.{words_of}
 use Rattle.ms_host.specs.declared.calls.Answer.{Answer}
 use Rattle.ms_host.specs.declared.calls.Answer.TheVariants as answer
 use Rattle.ms_host.specs.Answers.{Answered, FitsFirst, asked_effect}
 use Rattle.ms_host.specs.declared.calls.Asked.TheVariants as asked
 use Rattle.ms_host.specs.State.{nothing_beside}
-use Rattle.ms_machine_steps.specs.Meaning.{put_of}
+use Rattle.ms_machine_frames.specs.Meaning.{put_of}
 use Rattle.ms_machine_steps.specs.Waiting.{types_due}
 use Rattle.ms_moves.specs.Sources.{sources, source_at}
 use Rattle.ms_shades.specs.Shades.{masks_of}
 use Rattle.ms_trail.specs.declared.follower.Follower.{Follower}
 use Rattle.ms_trail.specs.Calling.{answer_told, noted_masks}
-use Rattle.ms_trail.specs.Origins.{last_masked}
+use Rattle.ms_trail_uses.specs.Origins.{last_masked}
 use Rattle.ms_trail.specs.Ready.{IsReady}
-use Rattle.ms_trail.specs.Shading.{Facts, Done}
+use Rattle.ms_trail_bytes.specs.Shading.{Facts, Done}
 use Rattle.ms_trail.proofs.DueCode.{due_now}
 use Rattle.ms_trail.proofs.Masked.{view_is}
-use Rattle.ms_trail.proofs.Asked.{resumed_is}
+use Rattle.ms_trail_uses.proofs.Asked.{resumed_is}
 use Rattle.ms_trail.proofs.Outsides.{word_read}
 use Rattle.ms_trail.proofs.Abroad.{words_are, call, first_waits, waits_some, waits_for, site_is_here}
 use Rattle.ms_trail.proofs.Answering.{alone, masks_are, values_fit, masks_fit, ended_is, outside_over, known, had, outside_on}

@@ -1,7 +1,7 @@
 use Rattle.std.proofs.Common.{◌+◌, Bool, refl, subst, arith}
 use Rattle.ms_host.specs.State.{nothing_beside}
 use Rattle.ms_trail.specs.declared.follower.Follower.{Follower}
-use Rattle.ms_trail.specs.Stepping.{Stepped}
+use Rattle.ms_trail_uses.specs.Stepping.{Stepped}
 use Rattle.ms_trail.proofs.Computed.{computed_over, computed_on, computed_asks}
 use Rattle.ms_trail.proofs.Readying.{runs_of, row_within, few_operands, same_count, filled, bare, few_made, place_within}
 use Rattle.ms_trail.proofs.follower.Follower.compute.Goals as goal

@@ -1,5 +1,5 @@
 use Rattle.std.proofs.Common.{sym}
-use Rattle.ms_trail.proofs.Jumping.{sets_computed}
+use Rattle.ms_trail_uses.proofs.Jumping.{sets_computed}
 use Rattle.ms_trail.proofs.follower.Follower.do_inst.Goals as goal
 
 pub compute-requires-clause-computed : goal.compute-requires-clause-computed

@@ -1,5 +1,5 @@
 use Rattle.std.proofs.Common.{refl, sym, subst, arith}
-use Rattle.ms_machine_steps.specs.Meaning.{IsJump}
+use Rattle.ms_machine_frames.specs.Meaning.{IsJump}
 use Rattle.ms_trail.proofs.Stopping.{stopped, sets_none}
 use Rattle.ms_trail.proofs.follower.Follower.do_other.Goals as goal
 

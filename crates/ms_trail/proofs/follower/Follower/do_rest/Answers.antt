@@ -1,9 +1,9 @@
 use Rattle.std.proofs.Common.{length, sym, subst}
-use Rattle.ms_trail.specs.Taken.{HasCondition}
+use Rattle.ms_trail_uses.specs.Taken.{HasCondition}
 use Rattle.ms_trail.proofs.Masked.{view_is, taken_same}
 use Rattle.ms_trail.proofs.Readying.{same_count, filled}
-use Rattle.ms_trail.proofs.Jumping.{has_condition, taken_edge}
-use Rattle.ms_machine_steps.specs.Meaning.{phis_in}
+use Rattle.ms_trail_uses.proofs.Jumping.{has_condition, taken_edge}
+use Rattle.ms_machine_frames.specs.Meaning.{phis_in}
 use Rattle.ms_trail.proofs.follower.Follower.do_rest.Goals as goal
 
 pub taken-requires-clause-view : goal.taken-requires-clause-view

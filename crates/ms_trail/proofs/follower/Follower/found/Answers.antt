@@ -1,8 +1,8 @@
 use Rattle.std.proofs.Common.{length, sym, subst}
-use Rattle.ms_trail.specs.Used.{IsUsing}
+use Rattle.ms_trail_uses.specs.Used.{IsUsing}
 use Rattle.ms_trail.proofs.Masked.{view_is, read_same}
 use Rattle.ms_trail.proofs.Finding.{row_within, same_here, filled_here, using_fits, found_none, found_some}
-use Rattle.ms_machine_steps.specs.Meaning.{phis_in}
+use Rattle.ms_machine_frames.specs.Meaning.{phis_in}
 use Rattle.ms_trail.proofs.follower.Follower.found.Goals as goal
 
 pub row-requires : goal.row-requires

@@ -1,17 +1,17 @@
 use Rattle.std.proofs.Common.{◌≡◌, ◌≤◌, ◌+◌, ◌-◌, ◌∙◌, ℕ, Bool, true, List, length, refl, sym, ap, subst, arith}
 use Rattle.std.specs.Prelude.{All}
 use Rattle.std.proofs.lemmas.List.{length-map}
-use Rattle.ms_code_data.specs.declared.code.Move.{Move as PhiMove}
-use Rattle.ms_code_data.specs.Fits.{IsMove}
-use Rattle.ms_code_data.specs.Words.{put_all}
+use Rattle.ms_code.specs.declared.code.Move.{Move as PhiMove}
+use Rattle.ms_code.specs.Fits.{IsMove}
+use Rattle.ms_code.specs.Words.{put_all}
 use Rattle.ms_shades.specs.Shades.{mask_of, masks_read}
-use Rattle.ms_code_data.specs.declared.code.Code.{Code}
-use Rattle.ms_code_data.specs.declared.code.Code.TheVariants as code
+use Rattle.ms_code.specs.declared.code.Code.{Code}
+use Rattle.ms_code.specs.declared.code.Code.TheVariants as code
 use Rattle.ms_host.specs.State.{nothing_beside}
-use Rattle.ms_machine_steps.specs.Meaning.{IsJump}
+use Rattle.ms_machine_frames.specs.Meaning.{IsJump}
 use Rattle.ms_trail.specs.declared.follower.Follower.{Follower}
 use Rattle.ms_trail.specs.Phis.{TellsPhis}
-use Rattle.ms_trail.specs.Stepping.{Stepped}
+use Rattle.ms_trail_uses.specs.Stepping.{Stepped}
 use Rattle.ms_trail.specs.Ready.{IsReady}
 use Rattle.ms_trail.proofs.Masked.{view_is}
 use Rattle.ms_trail.proofs.Computed.{computed_over}

@@ -1,7 +1,7 @@
 use Rattle.std.proofs.Common.{◌+◌, Bool, true, refl, sym, subst, arith}
 use Rattle.ms_host.specs.State.{nothing_beside}
 use Rattle.ms_trail.specs.declared.follower.Follower.{Follower}
-use Rattle.ms_trail.specs.Stepping.{Stepped}
+use Rattle.ms_trail_uses.specs.Stepping.{Stepped}
 use Rattle.ms_trail.proofs.Computed.{computed_over}
 use Rattle.ms_trail.proofs.Inward.{IsInward, asks_nothing}
 use Rattle.ms_trail.proofs.Loaded.{loaded_on}

@@ -4,10 +4,10 @@ use Rattle.ms_valid.specs.Formed.{Formed}
 use Rattle.ms_valid.proofs.SmallNumbers.{small_numbers}
 use Rattle.ms_runs.specs.Plain.{plain_start}
 use Rattle.ms_printf.specs.CallSites.{AreCallSites}
-use Rattle.ms_runs_good.proofs.Starts.{start_is_main}
+use Rattle.ms_good_laws.proofs.Starts.{start_is_main}
 use Rattle.ms_runtime.proofs.RootCounts.{few_roots}
 use Rattle.ms_follow_laws.proofs.Steps.{start_follows}
-use Rattle.ms_trail.specs.Tabled.{AreTables}
+use Rattle.ms_trail_uses.specs.Tabled.{AreTables}
 use Rattle.ms_trail.proofs.Beginning.{one_running, start_shades}
 use Rattle.ms_trail.proofs.follower.Follower.new.Goals as goal
 

@@ -1,10 +1,10 @@
 use Rattle.std.proofs.Common.{◌+◌, Bool, true, refl, sym, subst, arith}
-use Rattle.ms_ir.specs.Code.{operands}
+use Rattle.ms_ir.specs.Instructions.{operands}
 use Rattle.ms_host.specs.State.{nothing_beside}
 use Rattle.ms_moves.specs.declared.moves.Source.{Source}
 use Rattle.ms_moves.specs.Sources.{sources, source_at}
 use Rattle.ms_trail.specs.declared.follower.Follower.{Follower}
-use Rattle.ms_trail.specs.Stepping.{Stepped}
+use Rattle.ms_trail_uses.specs.Stepping.{Stepped}
 use Rattle.ms_trail.proofs.Computed.{computed_over}
 use Rattle.ms_trail.proofs.Inward.{IsInward, asks_nothing}
 use Rattle.ms_trail.proofs.Writing.{good_stored, store_on}

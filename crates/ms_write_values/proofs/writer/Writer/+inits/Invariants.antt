@@ -1,7 +1,7 @@
 use Rattle.std.proofs.Common.{◌≡◌, ◌+◌, ◌*◌, map, drop}
 use denote.Param.Weighed.{most}
 use Rattle.ms_ir.specs.declared.syntax.Init.{size-Init}
-use Rattle.ms_written.specs.Pieces.{behind_commas}
+use Rattle.ms_text_layout.specs.Pieces.{behind_commas}
 use Rattle.ms_write_values.specs.Parts.{item_tokens}
 use Rattle.ms_write_values.specs.Sheets.{put}
 use Rattle.ms_write_values.proofs.writer.Writer.+inits.Given as goal

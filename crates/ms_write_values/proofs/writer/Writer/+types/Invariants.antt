@@ -1,8 +1,8 @@
 use Rattle.std.proofs.Common.{◌≡◌, ◌+◌, ◌*◌, map, drop}
 use denote.Param.Weighed.{most}
 use Rattle.ms_ir.specs.declared.syntax.Ty.{size-Ty}
-use Rattle.ms_written.specs.Pieces.{behind_commas}
-use Rattle.ms_written.specs.Types.{type_tokens}
+use Rattle.ms_text_layout.specs.Pieces.{behind_commas}
+use Rattle.ms_text_layout.specs.Types.{type_tokens}
 use Rattle.ms_write_values.specs.Sheets.{put}
 use Rattle.ms_write_values.proofs.writer.Writer.+types.Given as goal
 

@@ -1,6 +1,6 @@
 use Rattle.std.proofs.Common.{◌≡◌, map, drop}
-use Rattle.ms_written.specs.Pieces.{behind_commas}
-use Rattle.ms_written.specs.Values.{constant_index_tokens}
+use Rattle.ms_text_layout.specs.Pieces.{behind_commas}
+use Rattle.ms_text_layout.specs.Values.{constant_index_tokens}
 use Rattle.ms_write_values.specs.Sheets.{put}
 use Rattle.ms_write_values.proofs.writer.Writer.constant_indices.Given as goal
 

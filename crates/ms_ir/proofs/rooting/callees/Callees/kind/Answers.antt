@@ -1,5 +1,5 @@
 use Rattle.std.proofs.Common.{◌∙◌}
-use Rattle.ms_ir.specs.Code.{func_index}
+use Rattle.ms_ir.specs.Instructions.{func_index}
 use Rattle.ms_ir.proofs.RootKinds.{called_as, called_as_none}
 use Rattle.ms_ir.proofs.rooting.callees.Callees.kind.Goals as goal
 

@@ -1,2 +1,0 @@
-pub mod SelfSupport
-pub mod Removal

@@ -1,0 +1,8 @@
+pub mod Selections
+pub mod Quickly
+pub mod Moves
+pub mod HeapBlocks
+pub mod Steps
+pub mod Numbers
+pub mod Calls
+pub mod Starts

@@ -1,0 +1,4 @@
+pub mod Meaning
+pub mod Owning
+pub mod Crossing
+pub mod Standing

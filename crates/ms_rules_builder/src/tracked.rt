@@ -1,0 +1,53 @@
+//! Operands with what is known of their masks and origins.
+ghost use Rattle.std.specs.Prelude.{◌≡◌, IfOk};
+ghost use Rattle.ms_ir.specs.Layout.{width_of};
+ghost use Rattle.ms_ir.specs.Equal.{type_eq};
+ghost use Rattle.ms_ir.specs.ValueTypes.{type_of};
+ghost use Rattle.ms_ir.specs.declared.syntax.Ty as type;
+ghost use Rattle.ms_tasks.specs.Environments.{is_zero};
+ghost use Rattle.ms_rules_builder.specs.Steps.{shadow_mask};
+
+use ms_ir::{Operand, ValueType, width_of};
+
+/// What is known of the mask and the origin of an operand.
+#[derive(Clone, Copy)]
+pub enum Shadow {
+    /// The mask is 0.
+    Clean,
+    /// An undefined operand: a mask with all bits of its type, and the number of its root.
+    Undefined(u64, u64),
+    /// The mask and the origin of the function's value with a number stand under their names.
+    Value(u32),
+}
+
+/// An operand with its type, and with what is known of its mask and its origin.
+#[derive(Clone, Copy)]
+pub struct TrackedOperand<'a> {
+    pub ty: ValueType<'a>,
+    pub operand: &'a Operand,
+    pub shadow: Shadow,
+}
+
+impl TrackedOperand<'_> {
+    /// The bits of its word, 64 for a pointer and 0 for what is no word.
+    pub fn width(&self) -> u8
+        ensures { result ≡ width_of (type_of self.now.ty) }
+    {
+        match self.ty {
+            ValueType::Bit => 1,
+            ValueType::Pointer => 64,
+            ValueType::Written(ty) => width_of(ty),
+        }
+    }
+
+    /// Whether its mask is known to be 0.
+    pub fn is_clean(&self) -> bool
+        ensures { result ≡ is_zero (shadow_mask self.now.shadow) }
+    {
+        match self.shadow {
+            Shadow::Clean => true,
+            Shadow::Undefined(mask, _) => mask == 0,
+            Shadow::Value(_) => false,
+        }
+    }
+}

@@ -1,4 +1,0 @@
-pub mod Checking
-pub mod Made
-pub mod PlaneRows
-pub mod Unions

@@ -1,4 +1,0 @@
-pub mod Pieces
-pub mod Plain
-pub mod Sizes
-pub mod Tables

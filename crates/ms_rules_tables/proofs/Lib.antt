@@ -1,0 +1,11 @@
+pub mod Tables
+pub mod Tasks
+pub mod Shifts
+pub mod Others
+pub mod LastOrigin
+pub mod Sums
+pub mod Moves
+pub mod Checking
+pub mod Made
+pub mod PlaneRows
+pub mod Unions

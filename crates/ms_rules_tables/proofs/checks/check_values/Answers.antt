@@ -1,0 +1,13 @@
+use Rattle.std.proofs.Common.{map, drop}
+use Rattle.ms_runs.specs.Uses.{value_uses}
+use Rattle.ms_tasks.specs.CheckTasks.{check_tasks}
+use Rattle.ms_rules_builder.specs.Made.{with_tasks}
+use Rattle.ms_rules_builder.specs.Steps.{tracked_of}
+use Rattle.ms_rules_tables.proofs.Checking.{value_more}
+use Rattle.ms_rules_tables.proofs.checks.check_values.Goals as goal
+
+pub loop-place-preserved : goal.loop-place-preserved
+loop-place-preserved c =
+    let ts = map tracked_of c.args.operands.now in
+    value_more c.args.site ts c.args.args.now c.loop-place.place c.loop-place.builder c.check_use.new.builder (with_tasks c.args.builder.now (check_tasks c.args.site ts (value_uses 1 (drop 1 c.args.args.now)))) c.loop-place-test.true
+    c.in_ok-check_use.ensures c.loop-place.invariant

@@ -1,0 +1,6 @@
+pub mod Widths
+pub mod Rules
+pub mod Pieces
+pub mod Plain
+pub mod Sizes
+pub mod Tables

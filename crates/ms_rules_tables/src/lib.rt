@@ -1,0 +1,20 @@
+//! The code of the rules round one instruction, one table of steps for each: masks and origins of results; checks of uses,
+//! blind uses, and shadow and origins of memory.
+#![tactic(auto)]
+
+mod blind;
+mod calls;
+mod carries;
+mod checks;
+mod loads;
+mod masks;
+mod origins;
+mod planes;
+mod results;
+mod rules;
+mod uses;
+
+pub use blind::count_blind;
+pub use checks::check;
+pub use planes::{save, set_planes};
+pub use results::define;

@@ -1,0 +1,76 @@
+//! The code of the mask and the origin of what is loaded.
+ghost use Rattle.std.specs.Prelude.{◌≡◌, ℕ, [], ◌∷◌, map, OnOk, Option, Some};
+ghost use Rattle.ms_ir.specs.declared.syntax.Name.{Name as NameOf};
+ghost use Rattle.ms_ir.specs.declared.syntax.Ty.{Ty as TyOf, Int, Ptr};
+ghost use Rattle.ms_ir.specs.declared.syntax.Operand.{Operand as OperandOf};
+ghost use Rattle.ms_ir.specs.declared.syntax.Operand.TheVariants as operand;
+ghost use Rattle.ms_ir.specs.declared.syntax.Op.TheVariants as operation;
+ghost use Rattle.ms_ir.specs.declared.calls.RuntimeFn.TheVariants as function;
+ghost use Rattle.ms_ir.specs.Layout.{width_of};
+ghost use Rattle.ms_tasks.specs.Tasks.{Leaf, Fetches, Calls, mask_name as mask_name_of, origin_name as origin_name_of};
+ghost use Rattle.ms_tasks.specs.Environments.{tracked_at, word_of, widened};
+ghost use Rattle.ms_tasks.specs.ResultTasks.{define_tasks, shadow_address};
+ghost use Rattle.ms_rules_builder.specs.Made.{with_tasks};
+ghost use Rattle.ms_rules_builder.specs.Steps.{inputs_of, tracked_of};
+
+use ms_bits::NoMemory;
+use ms_ir::RuntimeFn;
+use ms_ir::areas::SHADOW_BITS;
+use ms_rules_builder::Step::{Constant, Inserted, ToNumber, ToPointer, Widen, Word};
+use ms_rules_builder::{
+    Builder, Inputs, Operation, Step, TrackedOperand, Width, mask_name, origin_name,
+};
+use std::alloc::Global;
+
+// The address of the shadow of what the address names.
+const SHADOW: [Step; 5] = [
+    Word(0),
+    ToNumber,
+    Constant(SHADOW_BITS),
+    Step::Two(Operation::Xor, Width::Bits(64)),
+    ToPointer,
+];
+
+fn load_mask(
+    alloc: Global,
+    builder: &mut Builder,
+    value: u32,
+    width: u8,
+    inputs: &Inputs<'_>,
+) -> Result<(), NoMemory>
+    ensures { OnOk result (builder.new ≡ with_tasks builder.old (Fetches (mask_name_of value) (Int width) (shadow_address (word_of (tracked_at 0 (inputs_of inputs.now).operands))) ∷ [])) }
+{
+    let name = mask_name(alloc, value as u64)?;
+    builder.fetch(name, width, inputs, &SHADOW)
+}
+
+fn load_origin(
+    alloc: Global,
+    builder: &mut Builder,
+    value: u32,
+    width: u8,
+    inputs: &Inputs<'_>,
+) -> Result<(), NoMemory>
+    ensures { OnOk result (builder.new ≡ with_tasks builder.old (Calls (Some (origin_name_of value)) function.LoadOrigin ((Ptr, word_of (tracked_at 0 (inputs_of inputs.now).operands)) ∷ (Int 64, widened width (Leaf (operand.Local (mask_name_of value)))) ∷ []) ∷ [])) }
+{
+    let name = origin_name(alloc, value as u64)?;
+    let mask = 2 * (value as u64) + 1;
+    let words = [Word(0), Inserted(mask), Widen(width)];
+    builder.call(Some(name), RuntimeFn::LoadOrigin, inputs, &words)
+}
+
+/// Defines the mask and the origin of what a load of a width gives: both stand in memory, and the origin is that of the
+/// first byte that the mask poisons.
+pub fn define_load(
+    alloc: Global,
+    builder: &mut Builder,
+    value: u32,
+    width: u8,
+    operands: &[TrackedOperand<'_>],
+) -> Result<(), NoMemory>
+    ensures { (func : NameOf → Option ℕ) (t : TyOf) (a : OperandOf) → width_of t ≡ width → OnOk result (builder.new ≡ with_tasks builder.old (define_tasks func value (operation.Load t a) (map tracked_of operands.now))) }
+{
+    let inputs = Inputs::plain(operands, width, &None);
+    load_mask(alloc, builder, value, width, &inputs)?;
+    load_origin(alloc, builder, value, width, &inputs)
+}

@@ -1,0 +1,247 @@
+//! The code that sets shadow and origins of memory.
+ghost use Rattle.std.specs.Prelude.{◌≡◌, ℕ, ◌+◌, false, map, reverse, List, [], OnOk, Option};
+ghost use Rattle.ms_ir.specs.declared.syntax.Ty.{Ty as TyOf};
+ghost use Rattle.ms_ir.specs.declared.calls.External.TheVariants as outside;
+ghost use Rattle.ms_ir.specs.Instructions.{operands as operands_of, count_undefs};
+ghost use Rattle.ms_ir.specs.declared.syntax.Name.{Name as NameOf};
+ghost use Rattle.ms_ir.specs.Signatures.{runtime_signature};
+ghost use Rattle.ms_runs.specs.World.{Here};
+ghost use Rattle.ms_tasks.specs.Environments.{Env, Given, tracked_at};
+ghost use Rattle.ms_tasks.specs.PlaneTasks.{plane_tasks, save_tasks, saved_tasks, external_tasks, fill_task};
+ghost use Rattle.ms_tasks.specs.Tasks.{Expr};
+ghost use Rattle.ms_rules_tables.specs.Pieces.{named_call, store_pieces};
+ghost use Rattle.ms_rules_tables.specs.Plain.{plain};
+ghost use Rattle.ms_rules_tables.specs.Sizes.{element_size};
+ghost use Rattle.ms_rules_builder.specs.Called.{calls_own, called_external};
+ghost use Rattle.ms_rules_builder.specs.Made.{with_tasks};
+ghost use Rattle.ms_rules_builder.specs.Steps.{tracked_of, words};
+
+use crate::calls::{call, store, width_at};
+use ms_bits::{NoMemory, Pred};
+use ms_ir::areas::SHADOW_BITS;
+use ms_ir::{External, Name, Op, RuntimeFn, width_of};
+use ms_rules_builder::{Builder, Inputs, Operation, Step, TrackedOperand, Width, msan_name};
+use std::alloc::Global;
+
+/// Saves under the inserted name with a number what an external needs from before its call: the size of the block that
+/// `realloc` ends.
+fn save_for(
+    alloc: Global,
+    builder: &mut Builder,
+    number: u64,
+    external: External,
+    operands: &[TrackedOperand<'_>],
+) -> Result<(), NoMemory>
+    ensures { OnOk result (builder.new ≡ with_tasks builder.old (saved_tasks number external (map tracked_of operands.now))) }
+{
+    match external {
+        External::Realloc => {
+            let name = msan_name(alloc, number)?;
+            let inputs = Inputs::plain(operands, 0, &None);
+            builder.call(Some(name), RuntimeFn::Size, &inputs, &[Step::Word(0)])
+        }
+        _ => Ok(()),
+    }
+}
+
+/// Saves under the inserted name with a number what an external needs from before its call. The one error is want of
+/// memory.
+pub fn save(
+    alloc: Global,
+    builder: &mut Builder,
+    number: u64,
+    external: Option<External>,
+    op: &Op,
+    operands: &[TrackedOperand<'_>],
+) -> Result<(), NoMemory>
+    ensures { (func : NameOf → Option ℕ) → called_external func op.now ≡ external → OnOk result (builder.new ≡ with_tasks builder.old (save_tasks func number op.now (map tracked_of operands.now))) }
+{
+    match external {
+        Some(external) => save_for(alloc, builder, number, external, operands),
+        None => Ok(()),
+    }
+}
+
+/// Calls a runtime function that answers nothing with the words that steps leave, if the instruction has a result.
+fn call_named(
+    builder: &mut Builder,
+    function: RuntimeFn,
+    operands: &[TrackedOperand<'_>],
+    name: &Option<Name>,
+    steps: &[Step],
+) -> Result<(), NoMemory>
+    ensures { (args : List (TyOf × Expr)) → map (λ a. a.0) args ≡ (runtime_signature function).params → map (λ a. a.1) args ≡ reverse (words (plain (map tracked_of operands.now) name.now) steps.now []) → OnOk result (builder.new ≡ with_tasks builder.old (named_call function name.now args)) }
+{
+    if name.is_none() {
+        return Ok(());
+    }
+    call(builder, function, operands, name, steps)
+}
+
+/// Stores the mask and the origin of a stored value of so many bits.
+fn set_stored(
+    builder: &mut Builder,
+    site: u32,
+    width: u8,
+    operands: &[TrackedOperand<'_>],
+) -> Result<(), NoMemory>
+    ensures { OnOk result (builder.new ≡ with_tasks builder.old (store_pieces site width (map tracked_of operands.now))) }
+{
+    let mask_at_shadow = [
+        Step::Mask(0),
+        Step::Word(1),
+        Step::ToNumber,
+        Step::Constant(SHADOW_BITS),
+        Step::Two(Operation::Xor, Width::Bits(64)),
+        Step::ToPointer,
+    ];
+    store(builder, width, operands, &mask_at_shadow)?;
+    let origin = [
+        Step::Word(1),
+        Step::Mask(0),
+        Step::Widen(width),
+        Step::Origin(0),
+        Step::Constant(site as u64),
+    ];
+    call(builder, RuntimeFn::StoreOrigin, operands, &None, &origin)
+}
+
+/// Sets shadow and origins of bytes that an external fills with one byte.
+fn set_filled(
+    builder: &mut Builder,
+    site: u32,
+    operands: &[TrackedOperand<'_>],
+) -> Result<(), NoMemory>
+    ensures { OnOk result (builder.new ≡ with_tasks builder.old (fill_task site (tracked_at 0 (map tracked_of operands.now)) (tracked_at 1 (map tracked_of operands.now)) (tracked_at 2 (map tracked_of operands.now)))) }
+{
+    let steps = [
+        Step::Word(0),
+        Step::Word(2),
+        Step::Mask(1),
+        Step::Widen(width_at(operands, 1)),
+        Step::Origin(1),
+        Step::Constant(site as u64),
+    ];
+    call(builder, RuntimeFn::Fill, operands, &None, &steps)
+}
+
+/// Clears the shadow of the bytes where `pthread_create` stored a thread's name, if it made one.
+fn set_created(
+    builder: &mut Builder,
+    name: &Option<Name>,
+    operands: &[TrackedOperand<'_>],
+) -> Result<(), NoMemory>
+    ensures { (site root saved : ℕ) → OnOk result (builder.new ≡ with_tasks builder.old (external_tasks site root saved name.now outside.PthreadCreate (map tracked_of operands.now))) }
+{
+    let none = Step::Constant(0);
+    let steps = [
+        Step::Word(0),
+        Step::Result,
+        none,
+        Step::Test(Pred::Eq, Width::Bits(32)),
+        Step::Constant(8),
+        none,
+        Step::Pick(Width::Bits(64)),
+    ];
+    call_named(builder, RuntimeFn::Unpoison, operands, name, &steps)
+}
+
+/// Sets shadow and origins of the bytes where `pthread_join` stored the value of a thread.
+fn set_joined(
+    builder: &mut Builder,
+    site: u32,
+    name: &Option<Name>,
+    operands: &[TrackedOperand<'_>],
+) -> Result<(), NoMemory>
+    ensures { (root saved : ℕ) → OnOk result (builder.new ≡ with_tasks builder.old (external_tasks site root saved name.now outside.PthreadJoin (map tracked_of operands.now))) }
+{
+    let steps = [
+        Step::Word(1),
+        Step::Word(0),
+        Step::Result,
+        Step::Constant(site as u64),
+    ];
+    call_named(builder, RuntimeFn::ThreadResult, operands, name, &steps)
+}
+
+/// Sets shadow and origins behind a call of an external.
+fn set_external(
+    builder: &mut Builder,
+    site: u32,
+    root: u64,
+    saved: u64,
+    external: External,
+    name: &Option<Name>,
+    operands: &[TrackedOperand<'_>],
+) -> Result<(), NoMemory>
+    ensures { OnOk result (builder.new ≡ with_tasks builder.old (external_tasks site root saved name.now external (map tracked_of operands.now))) }
+{
+    let root = Step::Constant(root);
+    let start = Step::Constant(0);
+    match external {
+        External::Malloc => {
+            let steps = [Step::Result, start, Step::Word(0), root];
+            call_named(builder, RuntimeFn::Poison, operands, name, &steps)
+        }
+        External::Realloc => {
+            let steps = [Step::Result, Step::Inserted(saved), Step::Word(1), root];
+            call_named(builder, RuntimeFn::Poison, operands, name, &steps)
+        }
+        External::Read => {
+            let steps = [Step::Word(1), Step::Result];
+            call_named(builder, RuntimeFn::Unpoison, operands, name, &steps)
+        }
+        External::PthreadCreate => set_created(builder, name, operands),
+        External::PthreadJoin => set_joined(builder, site, name, operands),
+        External::LifetimeStart => {
+            let steps = [Step::Word(1), start, Step::Word(0), root];
+            call(builder, RuntimeFn::Poison, operands, name, &steps)
+        }
+        External::Memcpy | External::Memmove | External::LlvmMemcpy | External::LlvmMemmove => {
+            let steps = [Step::Word(0), Step::Word(1), Step::Word(2)];
+            call(builder, RuntimeFn::Copy, operands, name, &steps)
+        }
+        External::Memset | External::LlvmMemset => set_filled(builder, site, operands),
+        _ => Ok(()),
+    }
+}
+
+/// Sets shadow and origins behind an operation that calls no function of the module. `root` is the number of its own root,
+/// `saved` that of the inserted name with what was saved, and `size` the size of an element of an `alloca`. The one error
+/// is want of memory.
+pub fn set_planes(
+    builder: &mut Builder,
+    site: u32,
+    root: u64,
+    saved: u64,
+    size: u64,
+    external: Option<External>,
+    name: &Option<Name>,
+    op: &Op,
+    operands: &[TrackedOperand<'_>],
+) -> Result<(), NoMemory>
+    ensures { (given : Given) (env : Env) (h : Here) → calls_own given.func op.now ≡ false → called_external given.func op.now ≡ external
+        → element_size given.types op.now ≡ size → h.site ≡ site → h.root + count_undefs (operands_of op.now) + 1 ≡ root
+        → OnOk result (builder.new ≡ with_tasks builder.old (plane_tasks given env h saved name.now op.now (map tracked_of operands.now))) }
+{
+    match op {
+        Op::Alloca { count_ty, .. } => {
+            let steps = [
+                Step::Result,
+                Step::Constant(0),
+                Step::Constant(size),
+                Step::Word(0),
+                Step::Widen(width_of(count_ty)),
+                Step::Two(Operation::Mul, Width::Bits(64)),
+                Step::Constant(root),
+            ];
+            call_named(builder, RuntimeFn::Poison, operands, name, &steps)
+        }
+        Op::Store { ty, .. } => set_stored(builder, site, width_of(ty), operands),
+        Op::Call { .. } => match external {
+            Some(external) => set_external(builder, site, root, saved, external, name, operands),
+            None => Ok(()),
+        },
+        _ => Ok(()),
+    }
+}

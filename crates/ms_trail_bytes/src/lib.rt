@@ -1,0 +1,9 @@
+//! The list of moves of poisoned bits, and the moves of ranges of bytes: what a fill, a copy or a value that is set puts on it.
+#![tactic(auto)]
+
+pub mod fills;
+pub mod logs;
+pub mod sets;
+pub mod sources;
+pub mod spans;
+pub mod unsets;

@@ -1,0 +1,75 @@
+//! Moves as they are told, up to a limit.
+ghost use Rattle.std.specs.Prelude.{◌≤◌, ◌<◌, ◌+◌, ◌^◌, ◌++◌, [], ◌∷◌, List, IsTrue, ◌↔◌, OnOk};
+ghost use Rattle.ms_moves.specs.declared.moves.Move.{Move as MoveOf};
+ghost use Rattle.ms_trail_bytes.specs.Logs.{move_limit, IsLog};
+
+use ms_bits::NoMemory;
+use ms_moves::moves::Move;
+use std::alloc::Global;
+
+/// How many moves are kept.
+pub const MOVE_LIMIT: u64 = 4_194_304;
+
+/// The moves so far, of which the first are kept, and their number, which counts the others too.
+#[derive(Drop)]
+pub struct Log {
+    pub moves: Vec<Move>,
+    pub count: u64,
+}
+
+impl Log {
+    /// A log of no moves. It takes no memory yet.
+    pub fn new(alloc: Global) -> Log
+        ensures { IsLog result [] }
+    {
+        Log {
+            moves: Vec::new(alloc),
+            count: 0,
+        }
+    }
+
+    /// Whether the next move is kept.
+    #[tactic(auto, unfolding(crate::specs::Logs::move_limit))]
+    pub fn has_room(&self) -> bool
+        ensures { IsTrue result ↔ (self.now.count < move_limit) }
+    {
+        self.count < MOVE_LIMIT
+    }
+
+    /// One move more, which is kept. The one error is want of memory.
+    pub fn push(&mut self, told: Move) -> Result<(), NoMemory>
+        requires room { self.old.count < move_limit }
+        requires few { self.old.count + 1 < 2 ^ 64 }
+        ensures told { (moves : List MoveOf) → IsLog self.old moves → OnOk result (IsLog self.new (moves ++ told ∷ [])) }
+        ensures count { self.new.count ≤ self.old.count + 1 }
+    {
+        self.moves.push(told)?;
+        self.count += 1;
+        Ok(())
+    }
+
+    /// One move more, which isn't kept.
+    pub fn skip(&mut self)
+        requires full { move_limit ≤ self.old.count }
+        requires few { self.old.count + 1 < 2 ^ 64 }
+        ensures told { (moves : List MoveOf) (told : MoveOf) → IsLog self.old moves → IsLog self.new (moves ++ told ∷ []) }
+        ensures count { self.new.count ≤ self.old.count + 1 }
+    {
+        self.count += 1;
+    }
+
+    /// One move more, which is kept where there is room. The one error is want of memory.
+    #[tactic(auto, unfolding(crate::specs::Logs::move_limit))]
+    pub fn add(&mut self, told: Move) -> Result<(), NoMemory>
+        requires { self.old.count + 1 < 2 ^ 64 }
+        ensures told { (moves : List MoveOf) → IsLog self.old moves → OnOk result (IsLog self.new (moves ++ told ∷ [])) }
+        ensures count { self.new.count ≤ self.old.count + 1 }
+    {
+        if self.count < MOVE_LIMIT {
+            self.push(told)
+        } else {
+            self.skip();
+            Ok(())
+        }
+    }
+}

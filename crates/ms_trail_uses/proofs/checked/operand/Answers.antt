@@ -1,0 +1,15 @@
+use Rattle.std.proofs.Common.{Bool, sym, ap, ◌∙◌, if◌then◌else◌, Some, None, eq-eqb}
+use Rattle.std.proofs.lemmas.Bool.{ne_eqb}
+use Rattle.ms_shades.specs.Shades.{mask_of}
+use Rattle.ms_trail_uses.specs.declared.used.Used.TheVariants as read
+use Rattle.ms_trail_uses.proofs.checked.operand.Goals as goal
+
+pub returns-then-mask-ne0 : goal.returns-then-mask-ne0
+returns-then-mask-ne0 c =
+    let ms = c.args.view.now.masks.now in
+    sym (ap (λ (b : Bool). if b then None else Some (read.Operand c.args.k)) (ne_eqb (mask_of ms c.args.source) 0 (λ z. c.if-mask-ne0.true (c.mask_of-mask.ensures.mask ∙ z))))
+
+pub returns-else-mask-ne0 : goal.returns-else-mask-ne0
+returns-else-mask-ne0 c =
+    let ms = c.args.view.now.masks.now in
+    sym (ap (λ (b : Bool). if b then None else Some (read.Operand c.args.k)) (eq-eqb (mask_of ms c.args.source) 0 (sym c.mask_of-mask.ensures.mask ∙ c.if-mask-ne0.false)))
