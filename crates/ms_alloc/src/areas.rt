@@ -1,11 +1,8 @@
 //! The allocations of one area, a list in order of address.
 ghost use Rattle.std.specs.Prelude.{◌≡◌, ◌<◌, ◌≤◌, ◌+◌, ◌^◌, ◌∷◌, ◌++◌, [], true, false, not, leb, find, filter, map, take, length, IfOk, OnOk, OnErr, MatchOption, IsErr, IsErrOf, IsTrue, ◌↔◌, Some, None, option_map, if◌then◌else◌};
 ghost use Rattle.ms_alloc.specs.declared.kinds.AllocKind.TheVariants.{Heap, Stack};
-ghost use Rattle.ms_alloc.specs.Layout.{room, area_base, area_limit};
-ghost use Rattle.ms_alloc.specs.Allocations.{IsArea, used, covers, is_block};
-ghost use Rattle.ms_alloc.specs.Only.{IsOnly};
-ghost use Rattle.ms_alloc.specs.Places.{IsPlace};
-ghost use Rattle.ms_alloc.specs.Owners.{IsOwned, Has, IsOutside};
+ghost use Rattle.ms_alloc.specs.{Layout.{room, area_base, area_limit}, Allocations.{IsArea, used, covers, is_block}};
+ghost use Rattle.ms_alloc.specs.{Only.{IsOnly}, Places.{IsPlace}, Owners.{IsOwned, Has, IsOutside}};
 
 use crate::allocations::{Allocation, TablePlace};
 use crate::errors::{AllocError, BadFree};
@@ -89,8 +86,7 @@ pub(crate) struct Area {
 
 impl Model for Area {
     ghost use Rattle.std.specs.Prelude.{List};
-    ghost use Rattle.ms_alloc.specs.declared.allocations.Allocation.{Allocation};
-    ghost use Rattle.ms_alloc.specs.Owners.{IsOwned};
+    ghost use Rattle.ms_alloc.specs.{declared.allocations.Allocation.{Allocation}, Owners.{IsOwned}};
 
     ghost Value = { List Allocation };
 

@@ -47,8 +47,7 @@ fn kind_at(addr: u64) -> Option<AllocKind>
 
 impl Table {
     ghost use Rattle.ms_alloc.specs.Allocations.{no_allocations, next_base, used, of_kind, with_made, with_ended, without_from, is_good, block_of, heap_size, listed, covers, is_block, IsLaidOut};
-    ghost use Rattle.ms_alloc.specs.Only.{IsOnly};
-    ghost use Rattle.ms_alloc.specs.Places.{IsPlace};
+    ghost use Rattle.ms_alloc.specs.{Only.{IsOnly}, Places.{IsPlace}};
 
     /// A table without allocations. Takes no memory yet.
     pub fn new(alloc: Global) -> Table

@@ -1,9 +1,7 @@
 //! Files in memory and of the file system, each through its bound.
 
 ghost use Rattle.std.specs.Prelude.{◌≡◌, ◌+◌, ◌^◌, ◌<◌, ◌≤◌, List, ℕ, length, Some, None};
-ghost use Rattle.ms_io.specs.Counts.{Rose, RoseBy};
-ghost use Rattle.ms_io.specs.Reading.{Holdings};
-ghost use Rattle.ms_io.specs.Writing.{with_appended};
+ghost use Rattle.ms_io.specs.{Counts.{Rose, RoseBy}, Reading.{Holdings}, Writing.{with_appended}};
 
 use ms_io::{
     FileError, Files, MemFiles, MemSink, RealFiles, Sink, SinkFailed, SureFiles, SureSink,

@@ -1,7 +1,6 @@
 //! Operations on two words of one width, and of them sums, differences and products.
 ghost use Rattle.std.specs.Prelude.{◌≡◌, ◌*ℤ◌};
-ghost use Rattle.ms_bits.specs.Signed.{signed};
-ghost use Rattle.ms_bits.specs.Arithmetic.{of_width, binary_of, add_of, sub_of, mul_of};
+ghost use Rattle.ms_bits.specs.{Signed.{signed}, Arithmetic.{of_width, binary_of, add_of, sub_of, mul_of}};
 
 use crate::bitwise::{and, ashr, lshr, or, shl, xor};
 use crate::division::{sdiv, srem, udiv, urem};

@@ -1,7 +1,6 @@
 //! Shifts, and operations bit by bit.
 ghost use Rattle.std.specs.Prelude.{◌≡◌, ◌^◌, ◌<◌, pos, ◌*ℤ◌, bit_and, bit_xor};
-ghost use Rattle.ms_bits.specs.Signed.{signed};
-ghost use Rattle.ms_bits.specs.Arithmetic.{of_width, shl_of, lshr_of, ashr_of, or_of};
+ghost use Rattle.ms_bits.specs.{Signed.{signed}, Arithmetic.{of_width, shl_of, lshr_of, ashr_of, or_of}};
 
 use crate::operations::Flags;
 use crate::traps::Trap;

@@ -1,7 +1,6 @@
 //! Casts of words to other widths.
 ghost use Rattle.std.specs.Prelude.{◌≡◌, ◌%◌, ◌^◌, ◌<◌, ◌≤◌};
-ghost use Rattle.ms_bits.specs.Arithmetic.{of_width};
-ghost use Rattle.ms_bits.specs.Conversions.{Allows, cast_of};
+ghost use Rattle.ms_bits.specs.{Arithmetic.{of_width}, Conversions.{Allows, cast_of}};
 
 use crate::operations::{CastOp, Flags};
 use crate::traps::Trap;

@@ -13,8 +13,7 @@ pub struct List<T> {
 }
 
 impl<T> Model for List<T> {
-    ghost use Rattle.std.specs.Prelude.{List as ListOf};
-    ghost use Rattle.std.specs.Coded.{coded_list};
+    ghost use Rattle.std.specs.{Prelude.{List as ListOf}, Coded.{coded_list}};
 
     ghost Value = { ListOf T };
 

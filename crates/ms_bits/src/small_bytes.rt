@@ -1,6 +1,5 @@
 //! A list of bytes that takes no block of the heap where it is short.
-ghost use Rattle.std.specs.Prelude.{◌≡◌, ◌+◌, ◌≤◌, ◌++◌, length, Some, IfOk, nat_eq, refl};
-ghost use Rattle.std.specs.Ordering.{nat_cmp};
+ghost use Rattle.std.specs.{Prelude.{◌≡◌, ◌+◌, ◌≤◌, ◌++◌, length, Some, IfOk, nat_eq, refl}, Ordering.{nat_cmp}};
 ghost use Rattle.std.specs.Cmp.{partial_equiv_from_equiv};
 ghost use Rattle.std.specs.Cmp.Lexicographic.{pointwise, slice_cmp, nat_list_eq_equiv, nat_list_cmp_total, texts_po, texts_ties};
 ghost use Rattle.ms_bits.specs.Stored.{stored_bytes};
@@ -32,8 +31,7 @@ pub struct SmallBytes {
 }
 
 impl Model for SmallBytes {
-    ghost use Rattle.std.specs.Prelude.{List as ListOf, ℕ};
-    ghost use Rattle.std.specs.Coded.{coded_list, coded_ℕ};
+    ghost use Rattle.std.specs.{Prelude.{List as ListOf, ℕ}, Coded.{coded_list, coded_ℕ}};
 
     ghost Value = { ListOf ℕ };
 

@@ -2,8 +2,7 @@
 //! Intrinsics", "Saturation Arithmetic Intrinsics" and "'llvm.expect' Intrinsic").
 ghost use Rattle.std.specs.Prelude.{◌≡◌, ◌≤◌, ◌<◌, ◌+◌, ◌-◌, ◌*◌, ◌^◌, eqb, max, min, unsigned_abs};
 ghost use lib.Count.{count_leading_zeros, count_trailing_zeros};
-ghost use Rattle.ms_bits.specs.Formulas.{turned_sign};
-ghost use Rattle.ms_bits.specs.Signed.{signed};
+ghost use Rattle.ms_bits.specs.{Formulas.{turned_sign}, Signed.{signed}};
 ghost use Rattle.ms_bits.specs.WordFunctions.{bits_of, bswap_of, bitreverse_of, window as window_of, fshl_of, fshr_of, smax_of, smin_of, abs_of, saturated as saturated_of, word_answer, moved, moved_by as moved_by_of};
 
 use crate::traps::Trap;

@@ -1,10 +1,8 @@
 //! The masks of `and`, `or` and `xor`.
 //! v and u are the numbers of two words of w bits, m and k their masks.
 ghost use Rattle.std.specs.Prelude.{◌≡◌, ◌<◌, ◌^◌, ℕ, bit_and, bit_or, bit_xor, Ok};
-ghost use Rattle.ms_bits.specs.Arithmetic.{binary_of};
-ghost use Rattle.ms_bits.specs.Completion.{InRange, Agrees, Completes, IsMaskOf, mask_of};
-ghost use Rattle.ms_bits.specs.Formulas.{union_mask, and_mask, or_mask};
-ghost use Rattle.ms_bits.specs.declared.operations.Flags.{Flags};
+ghost use Rattle.ms_bits.specs.{Arithmetic.{binary_of}, Completion.{InRange, Agrees, Completes, IsMaskOf, mask_of}};
+ghost use Rattle.ms_bits.specs.{Formulas.{union_mask, and_mask, or_mask}, declared.operations.Flags.{Flags}};
 ghost use Rattle.ms_bits.specs.declared.operations.BinOp.TheVariants.{And, Or, Xor};
 
 /// `and`: a bit is poisoned where no operand has a defined 0 and some operand is poisoned.

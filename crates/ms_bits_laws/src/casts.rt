@@ -1,10 +1,7 @@
 //! The masks of casts: the same cast of the mask. A cast to `to` bits of a word of w bits.
-ghost use Rattle.std.specs.Prelude.{◌≡◌, ◌<◌, ◌≤◌, ◌^◌, ◌-◌, ℕ, min, Ok};
-ghost use Rattle.std.specs.Int.{bit_at};
-ghost use Rattle.ms_bits.specs.Conversions.{Allows, cast_of};
-ghost use Rattle.ms_bits.specs.Completion.{InRange, Agrees};
-ghost use Rattle.ms_bits.specs.declared.operations.Flags.{Flags};
-ghost use Rattle.ms_bits.specs.declared.operations.CastOp.{CastOp};
+ghost use Rattle.std.specs.{Prelude.{◌≡◌, ◌<◌, ◌≤◌, ◌^◌, ◌-◌, ℕ, min, Ok}, Int.{bit_at}};
+ghost use Rattle.ms_bits.specs.{Conversions.{Allows, cast_of}, Completion.{InRange, Agrees}};
+ghost use Rattle.ms_bits.specs.{declared.operations.Flags.{Flags}, declared.operations.CastOp.{CastOp}};
 ghost use Rattle.ms_bits.specs.declared.operations.CastOp.TheVariants.{Trunc, Zext, Sext, PtrToInt, IntToPtr, Bitcast};
 
 /// Where each bit of a cast word comes from: a narrower word keeps its low bits, a wider one gets zeros, or with `sext`

@@ -2,8 +2,7 @@
 //! v and u are the numbers of two words of w bits, m and k their masks.
 ghost use Rattle.std.specs.Prelude.{◌≡◌, ◌<◌, ◌≤◌, ◌^◌, ℕ};
 ghost use Rattle.ms_bits.specs.Completion.{InRange, Agrees, Completes, IsMaskOf, IsSelectMaskOf, mask_of, select_mask_of};
-ghost use Rattle.ms_bits.specs.Formulas.{greatest, least};
-ghost use Rattle.ms_bits.specs.Conversions.{select_of};
+ghost use Rattle.ms_bits.specs.{Formulas.{greatest, least}, Conversions.{select_of}};
 
 /// Words that agree outside a mask; where the mask is 0 they are equal.
 pub fn agreement()

@@ -1,12 +1,9 @@
 //! The masks of `icmp`, for every predicate.
 //! v and u are the numbers of two words of w bits, m and k their masks. An answer is a word of one bit.
-ghost use Rattle.std.specs.Prelude.{◌≡◌, ◌<◌, ◌≤◌, ◌^◌, ℕ, Bool, ltb, int_lt, Ok};
-ghost use Rattle.std.specs.Int.{from_bool};
-ghost use Rattle.ms_bits.specs.Signed.{signed};
-ghost use Rattle.ms_bits.specs.Conversions.{holds, compare_of};
+ghost use Rattle.std.specs.{Prelude.{◌≡◌, ◌<◌, ◌≤◌, ◌^◌, ℕ, Bool, ltb, int_lt, Ok}, Int.{from_bool}};
+ghost use Rattle.ms_bits.specs.{Signed.{signed}, Conversions.{holds, compare_of}};
 ghost use Rattle.ms_bits.specs.Completion.{InRange, Agrees, Completes, IsMaskOf, mask_of};
-ghost use Rattle.ms_bits.specs.Formulas.{order_mask, turned_sign, compare_mask};
-ghost use Rattle.ms_bits.specs.declared.operations.Flags.{Flags};
+ghost use Rattle.ms_bits.specs.{Formulas.{order_mask, turned_sign, compare_mask}, declared.operations.Flags.{Flags}};
 ghost use Rattle.ms_bits.specs.declared.operations.Pred.{Pred};
 
 /// A comparison's answer is poisoned exactly where two choices of completions answer differently. For `eq` and `ne` this

@@ -2,9 +2,7 @@
 //! Each bit of the result comes from one bit of the first operand, so the same shift of its mask serves.
 ghost use Rattle.std.specs.Prelude.{◌≡◌, ◌<◌, ◌≤◌, ◌^◌, ◌+◌, ◌-◌, ◌*◌, ◌%◌, ◌↔◌, ◌*ℤ◌, pos, ℕ, min, true, false, Ok};
 ghost use Rattle.std.specs.Int.{bit_at};
-ghost use Rattle.ms_bits.specs.Arithmetic.{binary_of};
-ghost use Rattle.ms_bits.specs.Signed.{signed, fits_signed};
-ghost use Rattle.ms_bits.specs.Completion.{InRange, Agrees};
+ghost use Rattle.ms_bits.specs.{Arithmetic.{binary_of}, Signed.{signed, fits_signed}, Completion.{InRange, Agrees}};
 ghost use Rattle.ms_bits.specs.declared.operations.Flags.{Flags};
 ghost use Rattle.ms_bits.specs.declared.operations.BinOp.TheVariants.{Shl, Lshr, Ashr};
 

@@ -1,11 +1,8 @@
 //! The masks of `add`, `sub` and `mul`, and of every other sum of products.
 //! m and k are the masks of two words of w bits, and s is any mask.
-ghost use Rattle.std.specs.Prelude.{◌≡◌, ◌<◌, ◌^◌, ◌%◌, ◌↔◌, ◌⊎◌, ℕ, suc, Ok};
-ghost use Rattle.std.specs.Int.{bit_at};
-ghost use Rattle.ms_bits.specs.Arithmetic.{binary_of};
-ghost use Rattle.ms_bits.specs.Completion.{InRange, Agrees};
-ghost use Rattle.ms_bits.specs.Formulas.{union_mask, carry_mask, HasBitUpTo};
-ghost use Rattle.ms_bits.specs.declared.operations.Flags.{Flags};
+ghost use Rattle.std.specs.{Prelude.{◌≡◌, ◌<◌, ◌^◌, ◌%◌, ◌↔◌, ◌⊎◌, ℕ, suc, Ok}, Int.{bit_at}};
+ghost use Rattle.ms_bits.specs.{Arithmetic.{binary_of}, Completion.{InRange, Agrees}};
+ghost use Rattle.ms_bits.specs.{Formulas.{union_mask, carry_mask, HasBitUpTo}, declared.operations.Flags.{Flags}};
 ghost use Rattle.ms_bits.specs.declared.operations.BinOp.TheVariants.{Add, Sub, Mul};
 
 /// The union of two masks: what agrees outside one of them agrees outside the union.

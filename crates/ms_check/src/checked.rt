@@ -1,8 +1,6 @@
 //! Modules that are known to be valid, with the code that they run as, and the check by which it is known.
 ghost use Rattle.std.specs.Prelude.{◌≡◌, None, IfErr, IfOk, IfSome, OnOk};
-ghost use Rattle.ms_valid.specs.Formed.{Formed};
-ghost use Rattle.ms_valid.specs.Refusals.{IsRefused};
-ghost use Rattle.ms_valid.specs.Valid.{Valid};
+ghost use Rattle.ms_valid.specs.{Formed.{Formed}, Refusals.{IsRefused}, Valid.{Valid}};
 ghost use Rattle.ms_code.specs.Compiled.{Compiled};
 ghost use Rattle.ms_check.specs.Faults.{fault_of};
 
@@ -26,8 +24,7 @@ impl Model for CheckedModule {
     ghost use Rattle.std.specs.Prelude.{◌≡◌};
     ghost use Rattle.ms_ir.specs.declared.syntax.Module.{Module};
     ghost use Rattle.ms_ir.specs.contracts.syntax.Module as modules;
-    ghost use Rattle.ms_valid.specs.Formed.{Formed};
-    ghost use Rattle.ms_valid.specs.Valid.{Valid};
+    ghost use Rattle.ms_valid.specs.{Formed.{Formed}, Valid.{Valid}};
     ghost use Rattle.ms_code.specs.Compiled.{Compiled};
 
     ghost Value = { Module };

@@ -1,7 +1,6 @@
 //! The clauses of a valid module in their order, each tested where those before it hold.
 ghost use Rattle.std.specs.Prelude.{◌≡◌, [], IfErr, IfSome, OnOk};
-ghost use Rattle.ms_valid.specs.Formed.{Formed};
-ghost use Rattle.ms_valid.specs.NamesOnce.{duplicates};
+ghost use Rattle.ms_valid.specs.{Formed.{Formed}, NamesOnce.{duplicates}};
 ghost use Rattle.ms_valid.specs.Refusals.{IsRefused, UpToNames, UpToTypes, UpToPhis, UpToMain, UpToExternals, UpToUses, UpToMarks};
 ghost use Rattle.ms_valid.specs.Valid.{Valid};
 ghost use Rattle.ms_check.specs.Faults.{fault_of};

@@ -1,8 +1,7 @@
 //! Laws about what a check answers.
 ghost use Rattle.std.specs.Prelude.{◌≡◌};
 ghost use Rattle.ms_ir.specs.declared.syntax.Module.{Module};
-ghost use Rattle.ms_valid.specs.Refusals.{Fault, IsRefused};
-ghost use Rattle.ms_valid.specs.Valid.{Valid};
+ghost use Rattle.ms_valid.specs.{Refusals.{Fault, IsRefused}, Valid.{Valid}};
 ghost use Rattle.ms_check.specs.Faults.{without_path};
 
 /// A module that is refused isn't valid, and it is refused for one fault alone, but for the path that shows an undefined

@@ -1,8 +1,6 @@
 //! The first name that is used and not defined.
 ghost use Rattle.std.specs.Prelude.{◌≡◌, ◌++◌, [], flat_map, IfOk, slice_get};
-ghost use Rattle.ms_ir.specs.Locals.{locals, type_names, symbols};
-ghost use Rattle.ms_ir.specs.Places.{HasSmallNumbers};
-ghost use Rattle.ms_ir.specs.Spots.{found_at_insts};
+ghost use Rattle.ms_ir.specs.{Locals.{locals, type_names, symbols}, Places.{HasSmallNumbers}, Spots.{found_at_insts}};
 ghost use Rattle.ms_ir.specs.Written.{type_mentions, mentions};
 ghost use Rattle.ms_valid.specs.NamesKnown.{global_mentions, unknowns};
 ghost use Rattle.ms_tables.specs.Sought.{first_sought};

@@ -1,8 +1,7 @@
 //! The edges of a function, by the numbers of its blocks.
 ghost use Rattle.std.specs.Prelude.{◌≡◌, ◌<◌, ◌^◌, ℕ, [], ◌∷◌, length, map, IfOk, OnOk, slice_index_or};
-ghost use Rattle.ms_ir.specs.Written.{block_targets};
+ghost use Rattle.ms_ir.specs.{Written.{block_targets}, Locals.{block_names}};
 ghost use Rattle.ms_valid.specs.FlowGraph.{name_place};
-ghost use Rattle.ms_ir.specs.Locals.{block_names};
 ghost use Rattle.ms_check_flow.specs.Arriving.{Joined, edges_to, arrivals, AreEdgesOf};
 
 use crate::arrivals::Arrivals;

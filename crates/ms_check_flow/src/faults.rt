@@ -1,14 +1,9 @@
 //! The first phi or branch at fault.
 ghost use Rattle.std.specs.Prelude.{◌≡◌, ◌<◌, ◌^◌, ℕ, [], ◌∷◌, length, map, IsTrue, IfOk, slice_get, if◌then◌else◌};
-ghost use Rattle.ms_ir.specs.Places.{HasSmallNumbers};
-ghost use Rattle.ms_ir.specs.Equal.{has_name};
-ghost use Rattle.ms_ir.specs.Locals.{entry_name};
-ghost use Rattle.ms_ir.specs.Spots.{spot};
+ghost use Rattle.ms_ir.specs.{Places.{HasSmallNumbers}, Equal.{has_name}, Locals.{entry_name}, Spots.{spot}};
 ghost use Rattle.ms_ir.specs.Written.{targets};
 ghost use Rattle.ms_valid.specs.PhisFit.{edges_fit, bad_edges};
-ghost use Rattle.ms_check_flow.specs.Arriving.{AreEdgesOf};
-ghost use Rattle.ms_check_flow.specs.Fitting.{IsClear};
-ghost use Rattle.ms_check_flow.specs.Ways.{AreWaysOf};
+ghost use Rattle.ms_check_flow.specs.{Arriving.{AreEdgesOf}, Fitting.{IsClear}, Ways.{AreWaysOf}};
 
 use crate::edges::{Edges, find_edges};
 use crate::phis::{Notes, fits_row, phi_edges};

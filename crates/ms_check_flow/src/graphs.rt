@@ -1,8 +1,7 @@
 //! A function as a graph of numbers.
 ghost use Rattle.std.specs.Prelude.{◌≡◌, ◌++◌, [], ◌∷◌, map, flat_map, IfOk, OnOk};
 ghost use Rattle.ms_valid.specs.FlowGraph.{name_place, graph_of};
-ghost use Rattle.ms_ir.specs.Locals.{results};
-ghost use Rattle.ms_ir.specs.Written.{targets};
+ghost use Rattle.ms_ir.specs.{Locals.{results}, Written.{targets}};
 ghost use Rattle.ms_check_flow.specs.Numbered.{AreNumbersOf, next_row, defs_row};
 
 use crate::numbers::Numbers;

@@ -1,8 +1,7 @@
 //! Phis against the edges into their blocks (LLVM Language Reference, "'phi' Instruction").
 ghost use Rattle.std.specs.Prelude.{◌≡◌, ◌<◌, ◌↔◌, ℕ, [], false, length, map, All, IsTrue, IfOk, OnOk, MatchOption, slice_index, slice_index_or};
-ghost use Rattle.ms_ir.specs.declared.syntax.Ty.{Ty as TyOf};
+ghost use Rattle.ms_ir.specs.{declared.syntax.Ty.{Ty as TyOf}, Instructions.{is_phi}};
 ghost use Rattle.ms_ir.specs.declared.syntax.Op.TheVariants as opcode;
-ghost use Rattle.ms_ir.specs.Instructions.{is_phi};
 ghost use Rattle.ms_valid.specs.FlowGraph.{name_place};
 ghost use Rattle.ms_check_flow.specs.Fitting.{Agree, FitsRow, IsClear};
 

@@ -1,10 +1,8 @@
 //! The first use that isn't defined on every path.
 ghost use Rattle.std.specs.Prelude.{◌≡◌, ◌≢◌, ◌+◌, ◌<◌, ◌^◌, ◌↔◌, length, map, take, slice_get, IfOk, IfNone, IfSome, IsNone, OnOk, All, AllPairs};
-ghost use Rattle.ms_flow.specs.Paths.{IsDefined, Misses};
-ghost use Rattle.ms_flow.specs.Search.{StaysIn};
+ghost use Rattle.ms_flow.specs.{Paths.{IsDefined, Misses}, Search.{StaysIn}};
 ghost use Rattle.ms_ir.specs.Instructions.{one_unmarked, over_blocks};
-ghost use Rattle.ms_valid.specs.Formed.{Formed};
-ghost use Rattle.ms_valid.specs.Refusals.{UpToPhis, IsFirstUndefined};
+ghost use Rattle.ms_valid.specs.{Formed.{Formed}, Refusals.{UpToPhis, IsFirstUndefined}};
 ghost use Rattle.ms_valid.specs.UsesDefined.{IsUseDefined, UsesDefined};
 ghost use Rattle.ms_check_flow.specs.Asked.{func_uses, CanBeAsked, IsFirstOf};
 

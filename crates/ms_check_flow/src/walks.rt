@@ -2,8 +2,7 @@
 ghost use Rattle.std.specs.Prelude.{◌≡◌, ◌++◌, ◌+◌, ◌<◌, ◌^◌, [], map, length, option_to_list, IfOk, OnOk};
 ghost use Rattle.ms_ir.specs.Instructions.{one_unmarked, over_insts, over_blocks};
 ghost use Rattle.ms_valid.specs.FlowGraph.{value_names, graph_of};
-ghost use Rattle.ms_check_flow.specs.Noted.{op_noted, insts_noted, blocks_noted, AreAskedOf};
-ghost use Rattle.ms_check_flow.specs.Numbered.{AreNumbersOf};
+ghost use Rattle.ms_check_flow.specs.{Noted.{op_noted, insts_noted, blocks_noted, AreAskedOf}, Numbered.{AreNumbersOf}};
 
 use crate::graphs::graph;
 use crate::here::{Here, NotedUse};

@@ -1,7 +1,5 @@
 //! Calls of intrinsics with flags that don't fit.
-ghost use Rattle.std.specs.Prelude.{◌≡◌, slice_get};
-ghost use Rattle.std.specs.Option.{option_copied};
-ghost use Rattle.std.specs.List.{list_all};
+ghost use Rattle.std.specs.{Prelude.{◌≡◌, slice_get}, Option.{option_copied}, List.{list_all}};
 ghost use Rattle.ms_valid.specs.ExternalsFit.{is_no_flag, is_number, flag_fits};
 ghost use Rattle.ms_check_outside.specs.Outside.{is_misflagged, flagged_in, flagged_among, flagged_within};
 

@@ -1,9 +1,6 @@
 //! The first site where a mark doesn't fit.
-ghost use Rattle.std.specs.Prelude.{◌≡◌, not, [], ◌∷◌, Option, None, if◌then◌else◌, IfOk, slice_get};
-ghost use Rattle.std.specs.List.{list_any};
-ghost use Rattle.ms_ir.specs.Names.{is_inserted_name};
-ghost use Rattle.ms_ir.specs.Places.{HasSmallNumbers};
-ghost use Rattle.ms_ir.specs.Written.{mentions};
+ghost use Rattle.std.specs.{Prelude.{◌≡◌, not, [], ◌∷◌, Option, None, if◌then◌else◌, IfOk, slice_get}, List.{list_any}};
+ghost use Rattle.ms_ir.specs.{Names.{is_inserted_name}, Places.{HasSmallNumbers}, Written.{mentions}};
 ghost use Rattle.ms_valid.specs.MarksFit.{may_be_marked, all_results, is_inserted, marked_results, mark_fits, bad_marks};
 ghost use Rattle.ms_check_outside.specs.Inserted.{fits};
 

@@ -1,8 +1,6 @@
 //! The first name that doesn't fit what stands outside of a module.
-ghost use Rattle.std.specs.Prelude.{◌≡◌, ◌++◌, flat_map, IfOk, slice_get};
-ghost use Rattle.std.specs.Option.{option_copied};
-ghost use Rattle.ms_ir.specs.Names.{is_kept};
-ghost use Rattle.ms_ir.specs.Locals.{function_names};
+ghost use Rattle.std.specs.{Prelude.{◌≡◌, ◌++◌, flat_map, IfOk, slice_get}, Option.{option_copied}};
+ghost use Rattle.ms_ir.specs.{Names.{is_kept}, Locals.{function_names}};
 ghost use Rattle.ms_valid.specs.ExternalsFit.{name_unless, global_fits, is_runtime, is_external, decl_fits, called_names, bad_externals};
 ghost use Rattle.ms_check_outside.specs.Outside.{func_faults};
 

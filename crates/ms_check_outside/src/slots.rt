@@ -1,13 +1,10 @@
 //! The slots, globals that hand masks and origins over at calls.
-ghost use Rattle.std.specs.Prelude.{◌≡◌, take, drop};
-ghost use Rattle.std.specs.List.{list_any};
-ghost use Rattle.ms_ir.specs.declared.syntax.Ty.{Int as IntType, Array as ArrayType};
+ghost use Rattle.std.specs.{Prelude.{◌≡◌, take, drop}, List.{list_any}};
+ghost use Rattle.ms_ir.specs.{declared.syntax.Ty.{Int as IntType, Array as ArrayType}, Equal.{type_eq}};
+ghost use Rattle.ms_ir.specs.{Names.{slot_name}, Signatures.{variable, slot_globals}};
 ghost use Rattle.ms_ir.specs.declared.syntax.Init as initial;
 ghost use Rattle.ms_ir.specs.declared.syntax.Operand.TheVariants as operand;
-ghost use Rattle.ms_ir.specs.Equal.{type_eq};
 ghost use Rattle.ms_valid.specs.ExternalsFit.{is_false, start_eq, slot_eq, global_fits};
-ghost use Rattle.ms_ir.specs.Names.{slot_name};
-ghost use Rattle.ms_ir.specs.Signatures.{variable, slot_globals};
 
 use ms_ir::{GlobalVar, Init, Operand, Slot, Ty, is_int};
 

@@ -1,9 +1,7 @@
 //! Functions that are called, by the module's definition or declaration (LLVM Language Reference, "Functions"), each
 //! found by its name as `NameTable` finds it.
-ghost use Rattle.std.specs.Prelude.{◌≡◌, [], ◌∷◌, IfOk, length, map, option_map, slice_get};
-ghost use Rattle.std.specs.Option.{option_copied};
-ghost use Rattle.ms_ir.specs.Equal.{has_name, types_eq};
-ghost use Rattle.ms_ir.specs.Locals.{declared_names, function_names};
+ghost use Rattle.std.specs.{Prelude.{◌≡◌, [], ◌∷◌, IfOk, length, map, option_map, slice_get}, Option.{option_copied}};
+ghost use Rattle.ms_ir.specs.{Equal.{has_name, types_eq}, Locals.{declared_names, function_names}};
 ghost use Rattle.ms_ir.specs.declared.syntax.Ty.{Ptr};
 ghost use Rattle.ms_ir.specs.Signatures.{signature_eq, answers, func_signature, signature_of, defined_signature, declared_signature};
 ghost use Rattle.ms_check_types.specs.Callees.{callee_signature};

@@ -3,8 +3,7 @@ ghost use Rattle.std.specs.Prelude.{◌≡◌, ◌&&◌, nat_eq, slice_get, if�
 ghost use Rattle.ms_ir.specs.declared.syntax.Op.TheVariants as operation;
 ghost use Rattle.ms_ir.specs.Signatures.{signature_of};
 ghost use Rattle.ms_valid.specs.TypesAgree.{first_misfit, fault_unless, argument_fault, is_start, is_create, fits_call, is_printable, printf_fault, is_printf, call_fault};
-ghost use Rattle.ms_check_types.specs.Arguments.{fits_parameter};
-ghost use Rattle.ms_check_types.specs.Bodies.{fits_in, module_of};
+ghost use Rattle.ms_check_types.specs.{Arguments.{fits_parameter}, Bodies.{fits_in, module_of}};
 ghost use Rattle.ms_check_types.specs.Callees.{callee_signature};
 
 use crate::bodies::Body;

@@ -1,8 +1,6 @@
 //! The types that are written in instructions and functions.
-ghost use Rattle.std.specs.Prelude.{◌≡◌, slice_get};
-ghost use Rattle.std.specs.List.{list_all};
-ghost use Rattle.ms_ir.specs.Instructions.{operands};
-ghost use Rattle.ms_ir.specs.Written.{own_types};
+ghost use Rattle.std.specs.{Prelude.{◌≡◌, slice_get}, List.{list_all}};
+ghost use Rattle.ms_ir.specs.{Instructions.{operands}, Written.{own_types}};
 ghost use Rattle.ms_check_types.specs.SizedParts.{has_sizes, is_typed_sized, is_op_sized, is_block_sized, is_func_sized};
 ghost use Rattle.ms_check_types.specs.Typed.{holds_at};
 

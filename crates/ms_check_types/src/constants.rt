@@ -1,9 +1,7 @@
 //! Constants with their types (LLVM Language Reference, "Constants", "Constant Expressions").
-ghost use Rattle.std.specs.Prelude.{◌≡◌, None, ◌&&◌};
-ghost use Rattle.std.specs.List.{list_all};
+ghost use Rattle.std.specs.{Prelude.{◌≡◌, None, ◌&&◌}, List.{list_all}};
 ghost use Rattle.ms_ir.specs.declared.syntax.Ty as type;
-ghost use Rattle.ms_ir.specs.Equal.{type_eq};
-ghost use Rattle.ms_ir.specs.ValueTypes.{type_of};
+ghost use Rattle.ms_ir.specs.{Equal.{type_eq}, ValueTypes.{type_of}};
 ghost use Rattle.ms_valid.specs.TypesAgree.{operand_fits, is_variable, step_fits};
 
 use crate::steps::leads_on;

@@ -1,6 +1,5 @@
 //! Instructions that step through a type (LLVM Language Reference, "'getelementptr' Instruction").
-ghost use Rattle.std.specs.Prelude.{◌≡◌, length, take, drop, ◌∷◌};
-ghost use Rattle.std.specs.Option.{option_or};
+ghost use Rattle.std.specs.{Prelude.{◌≡◌, length, take, drop, ◌∷◌}, Option.{option_or}};
 ghost use Rattle.ms_ir.specs.declared.syntax.Ty as type;
 ghost use Rattle.ms_valid.specs.TypesAgree.{first_misfit, first_misstep};
 ghost use Rattle.ms_check_types.specs.Bodies.{fits_in, types_of};

@@ -1,10 +1,6 @@
 //! The operands of an instruction (LLVM Language Reference, "Instruction Reference").
-ghost use Rattle.std.specs.Prelude.{◌≡◌, ◌&&◌, IfOk};
-ghost use Rattle.std.specs.List.{list_all};
-ghost use Rattle.std.specs.Option.{option_or};
-ghost use Rattle.ms_ir.specs.Instructions.{operands as operands_of};
-ghost use Rattle.ms_ir.specs.Equal.{has_name};
-ghost use Rattle.ms_ir.specs.Locals.{block_names};
+ghost use Rattle.std.specs.{Prelude.{◌≡◌, ◌&&◌, IfOk}, List.{list_all}, Option.{option_or}};
+ghost use Rattle.ms_ir.specs.{Instructions.{operands as operands_of}, Equal.{has_name}, Locals.{block_names}};
 ghost use Rattle.ms_ir.specs.Written.{targets};
 ghost use Rattle.ms_valid.specs.TypesAgree.{differ, first_misfit, fault_unless};
 ghost use Rattle.ms_check_types.specs.Bodies.{fits_in, func_of, fault_in};

@@ -1,12 +1,8 @@
 //! Terminators (LLVM Language Reference, "'switch' Instruction", "'br' Instruction", "'ret' Instruction").
-ghost use Rattle.std.specs.Prelude.{◌≡◌, ◌&&◌, IfOk, slice_get};
-ghost use Rattle.std.specs.List.{list_all};
-ghost use Rattle.ms_ir.specs.Equal.{has_name};
-ghost use Rattle.ms_ir.specs.Locals.{block_names};
-ghost use Rattle.ms_ir.specs.Written.{targets};
+ghost use Rattle.std.specs.{Prelude.{◌≡◌, ◌&&◌, IfOk, slice_get}, List.{list_all}};
+ghost use Rattle.ms_ir.specs.{Equal.{has_name}, Locals.{block_names}, Written.{targets}};
 ghost use Rattle.ms_valid.specs.TypesAgree.{differ, returns_fit};
-ghost use Rattle.ms_check_types.specs.Bodies.{fits_in, func_of};
-ghost use Rattle.ms_check_types.specs.Typed.{holds_at};
+ghost use Rattle.ms_check_types.specs.{Bodies.{fits_in, func_of}, Typed.{holds_at}};
 
 use crate::bodies::Body;
 use crate::operands::operand_fits;

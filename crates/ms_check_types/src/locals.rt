@@ -1,10 +1,8 @@
 //! The types of the values of a function, and its blocks (LLVM Language Reference, "Functions"), each found by its name
 //! as `NameTable` finds it.
-ghost use Rattle.std.specs.Prelude.{◌≡◌, ◌++◌, IfOk, map, filter_map, option_map};
-ghost use Rattle.std.specs.Option.{option_to_list};
+ghost use Rattle.std.specs.{Prelude.{◌≡◌, ◌++◌, IfOk, map, filter_map, option_map}, Option.{option_to_list}};
 ghost use Rattle.std.specs.List.{flat_map};
-ghost use Rattle.ms_ir.specs.Equal.{has_name};
-ghost use Rattle.ms_ir.specs.Locals.{typed_result, values, value_type, block_names};
+ghost use Rattle.ms_ir.specs.{Equal.{has_name}, Locals.{typed_result, values, value_type, block_names}};
 ghost use Rattle.ms_ir.specs.ValueTypes.{type_of};
 
 use crate::typed::TypedNames;

@@ -1,10 +1,8 @@
 //! Operands with the types before them (LLVM Language Reference, "Instruction Reference").
 ghost use Rattle.std.specs.Prelude.{◌≡◌, option_map, slice_get};
-ghost use Rattle.ms_ir.specs.Instructions.{operands};
-ghost use Rattle.ms_ir.specs.ValueTypes.{type_of};
+ghost use Rattle.ms_ir.specs.{Instructions.{operands}, ValueTypes.{type_of}};
 ghost use Rattle.ms_valid.specs.TypesAgree.{first_misfit};
-ghost use Rattle.ms_check_types.specs.Bodies.{fits_in};
-ghost use Rattle.ms_check_types.specs.Typed.{holds_at};
+ghost use Rattle.ms_check_types.specs.{Bodies.{fits_in}, Typed.{holds_at}};
 
 use crate::bodies::Body;
 use crate::constants::{global_fits, offset_fits};

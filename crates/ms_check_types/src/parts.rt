@@ -1,6 +1,5 @@
 //! Types that have sizes in all their parts.
-ghost use Rattle.std.specs.Prelude.{◌≡◌};
-ghost use Rattle.std.specs.List.{list_all};
+ghost use Rattle.std.specs.{Prelude.{◌≡◌}, List.{list_all}};
 ghost use Rattle.ms_check_types.specs.SizedParts.{has_sizes};
 
 use ms_ir::Ty;

@@ -1,6 +1,5 @@
 //! What stands beside a name in a list.
-ghost use Rattle.std.specs.Prelude.{◌≡◌};
-ghost use Rattle.std.specs.Option.{option_copied};
+ghost use Rattle.std.specs.{Prelude.{◌≡◌}, Option.{option_copied}};
 ghost use Rattle.ms_tables.specs.FirstPlace.{first_place, at_place};
 
 use ms_ir::Name;

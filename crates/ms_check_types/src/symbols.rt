@@ -1,10 +1,7 @@
 //! What the names of a module stand for (LLVM Language Reference, "Module Structure"), each found as `NameTable` finds it.
-ghost use Rattle.std.specs.Prelude.{◌≡◌, IfOk, option_map, unwrap_or};
-ghost use Rattle.std.specs.Option.{option_copied};
+ghost use Rattle.std.specs.{Prelude.{◌≡◌, IfOk, option_map, unwrap_or}, Option.{option_copied}};
 ghost use Rattle.ms_ir.specs.declared.syntax.Ty as type;
-ghost use Rattle.ms_ir.specs.Layout.{resolved};
-ghost use Rattle.ms_ir.specs.Locals.{type_names, global_names};
-ghost use Rattle.ms_ir.specs.Names.{lookup};
+ghost use Rattle.ms_ir.specs.{Layout.{resolved}, Locals.{type_names, global_names}, Names.{lookup}};
 ghost use Rattle.ms_ir.specs.Signatures.{signature_of};
 ghost use Rattle.ms_ir.specs.declared.syntax.Operand.TheVariants as operand;
 ghost use Rattle.ms_valid.specs.TypesAgree.{is_variable, is_printf, is_start, is_create};

@@ -1,7 +1,6 @@
 //! Names with the types that stand beside them.
 ghost use Rattle.std.specs.Prelude.{◌≡◌, ◌++◌, [], ◌∷◌, IfOk, OnErr, option_map};
-ghost use Rattle.ms_ir.specs.Names.{lookup};
-ghost use Rattle.ms_ir.specs.ValueTypes.{type_of};
+ghost use Rattle.ms_ir.specs.{Names.{lookup}, ValueTypes.{type_of}};
 
 use crate::rows::row_of;
 use ms_bits::NoMemory;
@@ -19,11 +18,9 @@ pub struct TypedNames<'m> {
 }
 
 impl<'m> Model for TypedNames<'m> {
-    ghost use Rattle.std.specs.Prelude.{List, map, ◌≡◌};
-    ghost use Rattle.std.specs.Coded.{codes};
+    ghost use Rattle.std.specs.{Prelude.{List, map, ◌≡◌}, Coded.{codes}};
     ghost use Rattle.ms_ir.specs.contracts.syntax.Ty as coded_ty;
-    ghost use Rattle.ms_ir.specs.Layout.{Types};
-    ghost use Rattle.ms_ir.specs.ValueTypes.{type_of};
+    ghost use Rattle.ms_ir.specs.{Layout.{Types}, ValueTypes.{type_of}};
 
     ghost Value = { Types };
 

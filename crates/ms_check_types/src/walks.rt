@@ -1,8 +1,7 @@
 //! The first mismatch of a module, in the order of its text.
 ghost use Rattle.std.specs.Prelude.{◌≡◌, ◌<◌, ◌^◌, [], IfOk, length, option_map, slice_get};
 ghost use Rattle.ms_ir.specs.Instructions.{over_funcs};
-ghost use Rattle.ms_valid.specs.Formed.{count_written};
-ghost use Rattle.ms_valid.specs.TypesAgree.{mismatches};
+ghost use Rattle.ms_valid.specs.{Formed.{count_written}, TypesAgree.{mismatches}};
 ghost use Rattle.ms_check_types.specs.Faults.{as_pair, inst_faults, code_faults, globals_fault};
 
 use crate::bodies::Body;

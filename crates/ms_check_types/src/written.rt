@@ -1,8 +1,6 @@
 //! The types that are written in operands and initialisers.
-ghost use Rattle.std.specs.Prelude.{◌≡◌, map};
-ghost use Rattle.std.specs.List.{list_all};
-ghost use Rattle.ms_ir.specs.ValueTypes.{type_of};
-ghost use Rattle.ms_ir.specs.Written.{operand_types, init_types};
+ghost use Rattle.std.specs.{Prelude.{◌≡◌, map}, List.{list_all}};
+ghost use Rattle.ms_ir.specs.{ValueTypes.{type_of}, Written.{operand_types, init_types}};
 ghost use Rattle.ms_check_types.specs.SizedParts.{has_sizes, is_step_sized, is_typed_sized, is_item_sized};
 
 use crate::parts::has_sizes;

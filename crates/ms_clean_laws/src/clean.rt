@@ -1,20 +1,13 @@
 //! Values that are clean in every run.
 ghost use Rattle.std.specs.Prelude.{◌≡◌, ℕ, Some};
 ghost use Rattle.ms_ir.specs.declared.syntax.Module.{Module};
-ghost use Rattle.ms_runs.specs.declared.runs.Setup.{Setup};
-ghost use Rattle.ms_runs.specs.World.{World};
-ghost use Rattle.ms_runs.specs.Plain.{setting_of};
+ghost use Rattle.ms_runs.specs.{declared.runs.Setup.{Setup}, World.{World}, Plain.{setting_of}};
 ghost use Rattle.ms_runs.specs.Masks.{Rules, by_completions, by_formulas};
 ghost use Rattle.ms_runs.specs.Shadow.{ShadowState, shadow_step, shadow_start};
-ghost use Rattle.ms_valid.specs.Formed.{Formed};
-ghost use Rattle.ms_good_laws.specs.GoodStates.{GoodShadow};
-ghost use Rattle.ms_good_laws.specs.Reached.{Walk, walked};
-ghost use Rattle.ms_valid.specs.Valid.{Valid};
-ghost use Rattle.ms_good_laws.specs.GoodRules.{KeepWidths};
-ghost use Rattle.ms_good_laws.specs.GoodRuns.{LeadsTo};
-ghost use Rattle.ms_good_laws.specs.GoodWorlds.{GivesBytes};
-ghost use Rattle.ms_clean_laws.specs.KeepClean.{KeepClean};
-ghost use Rattle.ms_clean_laws.specs.CleanStates.{AllCleanValues, ReadsClean};
+ghost use Rattle.ms_valid.specs.{Formed.{Formed}, Valid.{Valid}};
+ghost use Rattle.ms_good_laws.specs.{GoodStates.{GoodShadow}, Reached.{Walk, walked}, GoodRules.{KeepWidths}};
+ghost use Rattle.ms_good_laws.specs.{GoodRuns.{LeadsTo}, GoodWorlds.{GivesBytes}};
+ghost use Rattle.ms_clean_laws.specs.{KeepClean.{KeepClean}, CleanStates.{AllCleanValues, ReadsClean}};
 
 /// Of words without a poisoned bit, the rules that try all completions give none, nor do the formulas of inserted code.
 pub fn clean_rules()

@@ -1,11 +1,9 @@
 //! The words of the constants in the initialisers of globals.
 ghost use Rattle.std.specs.Prelude.{◌≡◌, ◌++◌, [], map, IfOk};
 ghost use Rattle.ms_runs.specs.Globals.{address_of, constant};
-ghost use Rattle.ms_valid.specs.Formed.{Formed};
-ghost use Rattle.ms_valid.specs.Valid.{Valid};
+ghost use Rattle.ms_valid.specs.{Formed.{Formed}, Valid.{Valid}};
 ghost use Rattle.ms_code.specs.Constants.{init_constants, parts_constants, global_constants, globals_constants};
-ghost use Rattle.ms_compile_operands.specs.Sized.{IsReadable};
-ghost use Rattle.ms_compile_operands.specs.Tabled.{AreTables};
+ghost use Rattle.ms_compile_operands.specs.{Sized.{IsReadable}, Tabled.{AreTables}};
 ghost use Rattle.ms_compile_operands.specs.InitialWords.{AreReadable, AreLow, words_of};
 
 use crate::addresses::address;

@@ -1,8 +1,7 @@
 //! The jobs of a list of inputs: each is a piece of its own, and as many threads make them as there are workers.
 ghost use Rattle.std.specs.Prelude.{◌≡◌, ℕ, ◌<◌, ◌≤◌, false, All, length, map, IfOk};
 ghost use Rattle.ms_ir.specs.ThreadCalls.{is_threaded};
-ghost use Rattle.ms_runs.specs.Limits.{WithinLimits};
-ghost use Rattle.ms_runs.specs.Plain.{plain};
+ghost use Rattle.ms_runs.specs.{Limits.{WithinLimits}, Plain.{plain}};
 ghost use Rattle.ms_corpus.specs.Jobs.{with_input, input_of};
 
 use ms_bits::{Bytes, Duplicate, List, NoMemory};

@@ -2,11 +2,9 @@
 
 ghost use Rattle.std.specs.Prelude.{◌≡◌, ℕ, ◌<◌, ◌≤◌, length, drop, replicate, slice_index, slice_get, if◌then◌else◌, IfOk, option_copied};
 ghost use Rattle.std.specs.Str.{bytes_eq};
-ghost use Rattle.ms_lex.specs.Tokens.{InOrder};
-ghost use Rattle.ms_lex.specs.Names.{spelling_of};
+ghost use Rattle.ms_lex.specs.{Tokens.{InOrder}, Names.{spelling_of}};
 ghost use Rattle.ms_text_grammar.specs.Lexemes.{lexemes_of};
-ghost use Rattle.ms_read_cursor.specs.Reading.{front};
-ghost use Rattle.ms_read_cursor.specs.Places.{LieIn};
+ghost use Rattle.ms_read_cursor.specs.{Reading.{front}, Places.{LieIn}};
 ghost use Rattle.ms_places.specs.Told.{spelling_at};
 ghost use Rattle.ms_debug.specs.Tables.{IsTable};
 ghost use Rattle.ms_debug.specs.Nodes as spec;

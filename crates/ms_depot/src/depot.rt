@@ -1,7 +1,6 @@
 //! The pairs of an earlier origin and the site of a write, each under its number.
 ghost use Rattle.std.specs.Prelude.{◌≡◌, ◌≤◌, ◌<◌, ◌+◌, ◌-◌, ◌^◌, [], ℕ, length, IfOk, OnErr, MatchOption, Some, None};
-ghost use Rattle.ms_runs.specs.World.{World, Setting};
-ghost use Rattle.ms_runs.specs.Origins.{depth_limit, trail as trail_of};
+ghost use Rattle.ms_runs.specs.{World.{World, Setting}, Origins.{depth_limit, trail as trail_of}};
 ghost use Rattle.ms_depot.specs.Depots.{IsNumber, StandsFor, IsChained, depth_in, earlier_of};
 
 use indexmap::IndexSet;

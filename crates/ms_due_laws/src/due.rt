@@ -1,28 +1,20 @@
 //! What is due in the shadow run of a module and in the run of its instrumented form.
 ghost use Rattle.std.specs.Prelude.{◌≡◌, ℕ, Bool, List, [], ◌∷◌, ◌+◌, Option, Some, false, true};
-ghost use Rattle.ms_ir.specs.declared.syntax.Name.{Name};
-ghost use Rattle.ms_ir.specs.declared.syntax.Ty.{Ty, Ptr};
-ghost use Rattle.ms_ir.specs.declared.syntax.Operand.{Operand};
+ghost use Rattle.ms_ir.specs.{declared.syntax.Name.{Name}, declared.syntax.Ty.{Ty, Ptr}};
+ghost use Rattle.ms_ir.specs.{declared.syntax.Operand.{Operand}, declared.syntax.Inst.{Inst}};
+ghost use Rattle.ms_ir.specs.{declared.syntax.Module.{Module}, Instructions.{operands, count_undefs, is_phi}};
 ghost use Rattle.ms_ir.specs.declared.syntax.Operand.TheVariants as operand;
 ghost use Rattle.ms_ir.specs.declared.syntax.Op.TheVariants as op;
-ghost use Rattle.ms_ir.specs.declared.syntax.Inst.{Inst};
-ghost use Rattle.ms_ir.specs.declared.syntax.Module.{Module};
-ghost use Rattle.ms_ir.specs.Instructions.{operands, count_undefs, is_phi};
 ghost use Rattle.ms_runs.specs.World.{World, Setting, Gives, Does};
 ghost use Rattle.ms_runs.specs.Control.{Frame, here, rest_of, params_at, entered, keeping, after_effect};
-ghost use Rattle.ms_runs.specs.Act.{plain_reading};
-ghost use Rattle.ms_runs.specs.Plain.{PlainState, Stepped, through};
-ghost use Rattle.ms_runs.specs.Poisoned.{Poisoned};
-ghost use Rattle.ms_runs.specs.Masks.{by_formulas};
-ghost use Rattle.ms_runs.specs.Shadow.{shadow_reading, shadow_moved, poisoned_result, planes};
-ghost use Rattle.ms_tasks.specs.Known.{AllApart, ArgsFit};
-ghost use Rattle.ms_tasks.specs.Match.{Handed, Saved, Matches, RangedWorld, RangedValues};
+ghost use Rattle.ms_runs.specs.{Act.{plain_reading}, Plain.{PlainState, Stepped, through}, Poisoned.{Poisoned}};
+ghost use Rattle.ms_runs.specs.{Masks.{by_formulas}, Shadow.{shadow_reading, shadow_moved, poisoned_result, planes}};
+ghost use Rattle.ms_runs.specs.Threads.{first_clean};
+ghost use Rattle.ms_tasks.specs.{Known.{AllApart, ArgsFit}, Match.{Handed, Saved, Matches, RangedWorld, RangedValues}};
 ghost use Rattle.ms_tasks.specs.InstructionLaw.{GoesOn, CallsOutside, words_at, checked_at, counted_at, acted_at};
-ghost use Rattle.ms_pass_laws.specs.Pass.{Numbering, pass};
-ghost use Rattle.ms_pass_laws.specs.Law.{FramesFollow, TopFollows, Steps, Sound};
+ghost use Rattle.ms_pass_laws.specs.{Pass.{Numbering, pass}, Law.{FramesFollow, TopFollows, Steps, Sound}};
 ghost use Rattle.ms_pass_laws.specs.Known.{KnownModule};
 ghost use Rattle.ms_threads_runs.specs.PlainFibers.{through_marked};
-ghost use Rattle.ms_runs.specs.Threads.{first_clean};
 ghost use Rattle.ms_due_laws.specs.Due.{state_with, argument_word, DueBoth, Reaching, ReturnsBoth};
 
 /// The first half of a step: from a state of the instrumented module that follows one of the shadow run, both end alike,

@@ -1,7 +1,6 @@
 //! The greatest set, found by removal.
 ghost use Rattle.std.specs.Prelude.{◌≡◌, ◌<◌, ◌↔◌, ℕ, [], false, map, is_some, All, Contains, IfOk, OnOk, IsTrue, length, slice_index_or};
-ghost use Rattle.ms_elide.specs.SelfSupport.{Needs, StaysWithin, IsInGreatest};
-ghost use Rattle.ms_elide.specs.Removal.{IsRemoved};
+ghost use Rattle.ms_elide.specs.{SelfSupport.{Needs, StaysWithin, IsInGreatest}, Removal.{IsRemoved}};
 
 use crate::users::Users;
 use ms_bits::{List, NoMemory};

@@ -1,8 +1,7 @@
 //! The clean values of a module.
 ghost use Rattle.std.specs.Prelude.{◌≡◌, ◌<◌, [], length, IfOk, OnOk, slice_index_or};
 ghost use Rattle.ms_ir.specs.Locals.{function_names, locals};
-ghost use Rattle.ms_valid.specs.NamesOnce.{repeats};
-ghost use Rattle.ms_valid.specs.Valid.{Valid};
+ghost use Rattle.ms_valid.specs.{NamesOnce.{repeats}, Valid.{Valid}};
 ghost use Rattle.ms_elide.specs.CleanSets.{is_in, HasMore, IsExact};
 
 use crate::values::values_of;

@@ -1,14 +1,10 @@
 //! The clean values of a function.
 ghost use Rattle.std.specs.Prelude.{◌≡◌, ◌++◌, ◌↔◌, ℕ, [], false, IfOk, IsTrue, OnOk, filter, map, option_to_list, slice_index_or};
-ghost use Rattle.ms_ir.specs.declared.syntax.Name.{Name as NameOf};
-ghost use Rattle.ms_ir.specs.declared.syntax.Module.{Module};
-ghost use Rattle.ms_ir.specs.Equal.{has_name};
+ghost use Rattle.ms_ir.specs.{declared.syntax.Name.{Name as NameOf}, declared.syntax.Module.{Module}, Equal.{has_name}};
 ghost use Rattle.ms_ir.specs.Locals.{locals, results, func_insts, function_names};
-ghost use Rattle.ms_valid.specs.NamesOnce.{repeats};
-ghost use Rattle.ms_valid.specs.CleanValues.{IsClean};
+ghost use Rattle.ms_valid.specs.{NamesOnce.{repeats}, CleanValues.{IsClean}};
 ghost use Rattle.ms_tables.specs.FirstPlace.{first_place};
-ghost use Rattle.ms_elide.specs.SelfSupport.{IsInGreatest};
-ghost use Rattle.ms_elide.specs.Needed.{is_member, row_needs, rows};
+ghost use Rattle.ms_elide.specs.{SelfSupport.{IsInGreatest}, Needed.{is_member, row_needs, rows}};
 
 use crate::needs::needs_of;
 use crate::removal::greatest;

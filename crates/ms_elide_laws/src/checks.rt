@@ -1,15 +1,10 @@
 //! How many checks of words are left.
 ghost use Rattle.std.specs.Prelude.{◌≡◌, ℕ, Bool, Some, option_map};
-ghost use Rattle.ms_ir.specs.declared.syntax.Name.{Name};
-ghost use Rattle.ms_ir.specs.declared.syntax.Func.{Func};
-ghost use Rattle.ms_ir.specs.declared.syntax.Module.{Module};
-ghost use Rattle.ms_ir.specs.Instructions.{func_at};
-ghost use Rattle.ms_valid.specs.Formed.{Formed};
-ghost use Rattle.ms_valid.specs.Uninstrumented.{CanInstrument};
-ghost use Rattle.ms_valid.specs.Valid.{Valid};
+ghost use Rattle.ms_ir.specs.{declared.syntax.Name.{Name}, declared.syntax.Func.{Func}};
+ghost use Rattle.ms_ir.specs.{declared.syntax.Module.{Module}, Instructions.{func_at}};
+ghost use Rattle.ms_valid.specs.{Formed.{Formed}, Uninstrumented.{CanInstrument}, Valid.{Valid}};
 ghost use Rattle.ms_pass_laws.specs.Pass.{pass};
-ghost use Rattle.ms_elide_laws.specs.Eliding.{eliding};
-ghost use Rattle.ms_elide_laws.specs.Checks.{check_calls, unclean_checks};
+ghost use Rattle.ms_elide_laws.specs.{Eliding.{eliding}, Checks.{check_calls, unclean_checks}};
 
 /// In each function of the instrumented form stand as many calls of the runtime function that checks a word as the
 /// function of the module has uses that are checked as words and whose operand isn't said to be clean.

@@ -1,10 +1,8 @@
 //! A module whose checks are counted by the check.
 ghost use Rattle.std.specs.Prelude.{◌≡◌, [], ◌∷◌, map};
 ghost use Rattle.ms_example_modules.specs.Programs.{branch_on_unset};
-ghost use Rattle.ms_pass_laws.specs.Pass.{pass};
-ghost use Rattle.ms_pass_laws.specs.Numbers.{numbering};
-ghost use Rattle.ms_elide_laws.specs.Eliding.{eliding, SaysExactly};
-ghost use Rattle.ms_elide_laws.specs.Checks.{check_calls};
+ghost use Rattle.ms_pass_laws.specs.{Pass.{pass}, Numbers.{numbering}};
+ghost use Rattle.ms_elide_laws.specs.{Eliding.{eliding, SaysExactly}, Checks.{check_calls}};
 ghost use Rattle.ms_elide_laws.specs.ExampleSayings.{the_address};
 
 /// Of a word on the stack that is loaded, compared and branched on the address alone is clean. So of two checks that of

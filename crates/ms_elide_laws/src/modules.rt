@@ -1,22 +1,14 @@
 //! Laws about whole modules that are instrumented with clean values left out.
 ghost use Rattle.std.specs.Prelude.{◌≡◌, ◌≤◌, ◌+◌, ◌*◌, ℕ, Bool, true, Some, length};
-ghost use Rattle.ms_ir.specs.declared.syntax.Name.{Name};
-ghost use Rattle.ms_ir.specs.declared.syntax.Operand.{Operand};
-ghost use Rattle.ms_ir.specs.declared.syntax.Func.{Func};
-ghost use Rattle.ms_ir.specs.declared.syntax.Module.{Module};
+ghost use Rattle.ms_ir.specs.{declared.syntax.Name.{Name}, declared.syntax.Operand.{Operand}};
+ghost use Rattle.ms_ir.specs.{declared.syntax.Func.{Func}, declared.syntax.Module.{Module}};
 ghost use Rattle.ms_ir.specs.Instructions.{func_at, operands, over_funcs};
-ghost use Rattle.ms_runs.specs.declared.runs.Setup.{Setup};
-ghost use Rattle.ms_runs.specs.Faithful.{Faithful};
-ghost use Rattle.ms_runs.specs.Plain.{setting_of};
-ghost use Rattle.ms_valid.specs.CleanValues.{is_clean_operand, IsCleanOperand};
-ghost use Rattle.ms_valid.specs.Formed.{Formed, count_written};
-ghost use Rattle.ms_valid.specs.Uninstrumented.{CanInstrument};
-ghost use Rattle.ms_valid.specs.Valid.{Valid};
-ghost use Rattle.ms_pass_laws.specs.Pass.{pass};
-ghost use Rattle.ms_pass_laws.specs.Known.{KnownModule, IsTaken};
+ghost use Rattle.ms_runs.specs.{declared.runs.Setup.{Setup}, Faithful.{Faithful}, Plain.{setting_of}};
+ghost use Rattle.ms_valid.specs.{CleanValues.{is_clean_operand, IsCleanOperand}, Formed.{Formed, count_written}};
+ghost use Rattle.ms_valid.specs.{Uninstrumented.{CanInstrument}, Valid.{Valid}};
+ghost use Rattle.ms_pass_laws.specs.{Pass.{pass}, Known.{KnownModule, IsTaken}};
 ghost use Rattle.ms_instrumented_laws.specs.Numbers.{GoodNumbers};
-ghost use Rattle.ms_elide_laws.specs.Elided.{IsElided};
-ghost use Rattle.ms_elide_laws.specs.Eliding.{eliding, SaysClean, SaysExactly};
+ghost use Rattle.ms_elide_laws.specs.{Elided.{IsElided}, Eliding.{eliding, SaysClean, SaysExactly}};
 
 /// What the pass asks of a module holds of each that is formed, valid and can be instrumented, whatever is said to be
 /// clean. Where what is said to be clean is clean, it has no poisoned bit in any run, so the pass takes the module.

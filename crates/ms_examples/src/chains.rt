@@ -1,10 +1,8 @@
 //! Ways from an origin back to its root.
 ghost use Rattle.std.specs.Prelude.{◌≡◌, [], ◌∷◌};
-ghost use Rattle.ms_runs.specs.declared.runs.Origin.TheVariants.{Root, Chain};
-ghost use Rattle.ms_runs.specs.Origins.{trail};
+ghost use Rattle.ms_runs.specs.{declared.runs.Origin.TheVariants.{Root, Chain}, Origins.{trail}};
+ghost use Rattle.ms_runs.specs.{ExampleRuns.{defaults}, Plain.{setting_of}};
 ghost use Rattle.ms_example_modules.specs.Programs.{shared_cell};
-ghost use Rattle.ms_runs.specs.ExampleRuns.{defaults};
-ghost use Rattle.ms_runs.specs.Plain.{setting_of};
 ghost use Rattle.ms_examples.specs.Programs.{with_pairs, sixteen_pairs};
 
 /// Where there are two roots, the first pair has the number 3. A way of sixteen stores goes down to the second root; a

@@ -5,22 +5,16 @@ ghost use Rattle.ms_bits.specs.declared.operations.BinOp.TheVariants as binary;
 ghost use Rattle.ms_bits.specs.declared.operations.CastOp.TheVariants as cast;
 ghost use Rattle.ms_ir.specs.declared.syntax.Init as initial;
 ghost use Rattle.ms_ir.specs.declared.syntax.Name.TheVariants.{Number, Text};
+ghost use Rattle.ms_ir.specs.Declarations.{malloc, putchar, llvm_memcpy, msan_check};
+ghost use Rattle.ms_ir.specs.Builders.{i1, i8, i16, i32, i64, array, local, int, undef, sets, does, binary as combine, convert, alloca, call, declares, block, module_of, main_of, main_blocks, name};
 ghost use Rattle.ms_ir.specs.declared.syntax.Op.TheVariants as op;
 ghost use Rattle.ms_ir.specs.declared.syntax.Operand.TheVariants as operand;
 ghost use Rattle.ms_ir.specs.declared.syntax.Ty as ty;
-ghost use Rattle.ms_ir.specs.Declarations.{malloc, putchar, llvm_memcpy, msan_check};
-ghost use Rattle.ms_example_modules.specs.Externals.{own_malloc};
-ghost use Rattle.ms_example_modules.specs.Programs.{recursion};
-ghost use Rattle.ms_ir.specs.Builders.{i1, i8, i16, i32, i64, array, local, int, undef, sets, does, binary as combine, convert, alloca, call, declares, block, module_of, main_of, main_blocks, name};
+ghost use Rattle.ms_example_modules.specs.{Externals.{own_malloc}, Programs.{recursion}};
 ghost use Rattle.ms_valid.specs.ExampleFaults.{symbol, percent, with_globals, global_of, ends, body, body_with, with_types, with_func, with_empty_func, calls_void, binds, binds_marked, does_marked, at_global, at_local, word_and_byte, part_of, joins, joins_twice, endless};
-ghost use Rattle.ms_valid.specs.NamesOnce.{duplicates};
-ghost use Rattle.ms_valid.specs.NamesKnown.{unknowns};
-ghost use Rattle.ms_valid.specs.TypesAgree.{mismatches};
-ghost use Rattle.ms_valid.specs.PhisFit.{bad_edges};
-ghost use Rattle.ms_valid.specs.HasMain.{defines_main};
-ghost use Rattle.ms_valid.specs.ExternalsFit.{bad_externals};
-ghost use Rattle.ms_valid.specs.MarksFit.{bad_marks};
-ghost use Rattle.ms_valid.specs.SizesFit.{unsized};
+ghost use Rattle.ms_valid.specs.{NamesOnce.{duplicates}, NamesKnown.{unknowns}, TypesAgree.{mismatches}};
+ghost use Rattle.ms_valid.specs.{PhisFit.{bad_edges}, HasMain.{defines_main}, ExternalsFit.{bad_externals}};
+ghost use Rattle.ms_valid.specs.{MarksFit.{bad_marks}, SizesFit.{unsized}};
 
 /// Names that are defined twice. Values and blocks of a function share names, and so do all that is spelled with `@`.
 pub fn names_twice()

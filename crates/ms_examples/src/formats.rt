@@ -6,11 +6,9 @@ ghost use Rattle.ms_ir.specs.declared.syntax.Operand.TheVariants as operand;
 ghost use Rattle.ms_ir.specs.declared.syntax.Ty as ty;
 ghost use Rattle.ms_ir.specs.Builders.{i32, i64, int, undef};
 ghost use Rattle.ms_runs.specs.declared.formats.Piece.TheVariants.{Text, Dec32, Str, Dec64, Hex64};
-ghost use Rattle.ms_runs.specs.declared.runs.End.TheVariants as «end»;
 ghost use Rattle.ms_runs.specs.ExampleRuns.{defaults, prints, trapped, reported, report};
-ghost use Rattle.ms_runs.specs.Formats.{cut_of, asks_string};
-ghost use Rattle.ms_runs.specs.Plain.{plain};
-ghost use Rattle.ms_runs.specs.Shadow.{shadow};
+ghost use Rattle.ms_runs.specs.{Formats.{cut_of, asks_string}, Plain.{plain}, Shadow.{shadow}};
+ghost use Rattle.ms_runs.specs.declared.runs.End.TheVariants as «end»;
 ghost use Rattle.ms_examples.specs.Programs.{prints_by, letter_v, no_string};
 
 /// Formats cut into pieces, and the arguments that are strings.

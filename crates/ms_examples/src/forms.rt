@@ -9,26 +9,24 @@ ghost use Rattle.ms_bits.specs.declared.word_functions.WordWidth.TheVariants as 
 ghost use Rattle.ms_ir.specs.declared.calls.External.TheVariants as external;
 ghost use Rattle.ms_ir.specs.declared.syntax.Init as initial;
 ghost use Rattle.ms_ir.specs.declared.syntax.Name.TheVariants.{Number, Text};
+ghost use Rattle.ms_ir.specs.Builders.{i1, i8, i32, i64, array, int, local, undef, sets, does, binary as combine, alloca, name, main_func, main_of, block};
+ghost use Rattle.ms_ir.specs.{Layout.{size_of}, Names.{externals, lookup, slots}};
+ghost use Rattle.ms_ir.specs.Signatures.{external_declarations, external_signature, runtime_declarations, slot_globals};
 ghost use Rattle.ms_ir.specs.declared.syntax.Op.TheVariants as op;
 ghost use Rattle.ms_ir.specs.declared.syntax.Operand.TheVariants as operand;
 ghost use Rattle.ms_ir.specs.declared.syntax.Ty as ty;
 ghost use Rattle.ms_ir.specs.Declarations as calls;
 ghost use Rattle.ms_example_modules.specs.Marks as marks;
 ghost use Rattle.ms_example_modules.specs.Programs.{branch_on_unset, clang_unoptimised, recursion, select_undef, undef_divisor};
-ghost use Rattle.ms_ir.specs.Builders.{i1, i8, i32, i64, array, int, local, undef, sets, does, binary as combine, alloca, name, main_func, main_of, block};
 ghost use Rattle.ms_runs.specs.ExampleRuns.{counted, exits, report, reported};
+ghost use Rattle.ms_runs.specs.Verdict.{verdict_of, Poisoned, Unsure, Clean};
 ghost use Rattle.ms_bits.specs.NoFlags.{no_flags};
-ghost use Rattle.ms_ir.specs.Layout.{size_of};
-ghost use Rattle.ms_ir.specs.Names.{externals, lookup, slots};
 ghost use Rattle.ms_valid.specs.CleanValues.{makes_clean, IsClean};
 ghost use Rattle.ms_valid.specs.ExampleFaults.{ends, at_global, calls_void, global_of, joins, first_func, word_and_byte};
 ghost use Rattle.ms_valid.specs.Formed.{named_type_formed, global_formed, decl_formed, func_formed};
 ghost use Rattle.ms_valid.specs.FormedCode.{type_formed, operand_formed, inst_formed, is_body};
 ghost use Rattle.ms_valid.specs.FormedNames.{is_local_name, is_global_name, are_numbered};
-ghost use Rattle.ms_valid.specs.ReadLimits.{ReadLimits, type_depth};
-ghost use Rattle.ms_ir.specs.Signatures.{external_declarations, external_signature, runtime_declarations, slot_globals};
-ghost use Rattle.ms_valid.specs.Uninstrumented.{names_are_free};
-ghost use Rattle.ms_runs.specs.Verdict.{verdict_of, Poisoned, Unsure, Clean};
+ghost use Rattle.ms_valid.specs.{ReadLimits.{ReadLimits, type_depth}, Uninstrumented.{names_are_free}};
 
 /// Names, and the numbers among them.
 #[tactic(auto, unfolding(ms_ir::specs::Names::bit_moves))]

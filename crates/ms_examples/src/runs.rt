@@ -3,12 +3,12 @@ ghost use Rattle.std.specs.Prelude.{◌≡◌, [], ◌∷◌};
 ghost use Rattle.ms_bits.specs.declared.traps.Trap.TheVariants as trap;
 ghost use Rattle.ms_runs.specs.declared.runs.End.TheVariants as «end»;
 ghost use Rattle.ms_runs.specs.declared.runs.Origin.TheVariants.{Root, Chain};
+ghost use Rattle.ms_runs.specs.ExampleRuns.{defaults, filled, steps, exits, prints, spent, trapped, reported, report};
+ghost use Rattle.ms_runs.specs.Shadow.{shadow};
 ghost use Rattle.ms_example_modules.specs.Programs.{returns_zero, shared_cell, lost_in_addition, frozen, undef_sum, carry_of_undef};
 ghost use Rattle.ms_example_modules.specs.Externals.{heap_filled, freed};
 ghost use Rattle.ms_ir.specs.Declarations as calls;
-ghost use Rattle.ms_runs.specs.ExampleRuns.{defaults, filled, steps, exits, prints, spent, trapped, reported, report};
 ghost use Rattle.ms_ir.specs.Builders.{does, call, local};
-ghost use Rattle.ms_runs.specs.Shadow.{shadow};
 ghost use Rattle.ms_examples.specs.Programs.{masked_undef, indexed_by_undef, branch_on_zeroed, sixteen_copies};
 
 /// A word of which some bits are undefined comes to the return of `main`: they are reported there, unless they were

@@ -5,8 +5,7 @@ ghost use Rattle.ms_ir.specs.declared.syntax.Name.TheVariants.{Number, Text};
 ghost use Rattle.ms_example_modules.specs.Programs.{returns_zero, branch_on_unset, masked_to_zero, ordered_compare, set_bit_is_not_zero, select_undef, two_unset, shared_cell, lost_in_addition, recursion, nested_call, write_with_gap, store_to_shadow, clang_unoptimised, sum_wraps, undef_divisor, frozen, three_branches, undef_sum, undef_stored, carry_of_undef};
 ghost use Rattle.ms_example_modules.specs.Marks.{branch_on_unset_checked, nested_call_checked};
 ghost use Rattle.ms_valid.specs.ExampleFaults.{symbol, percent, undefined_on_a_path, empty_module, main_twice, returns_unknown, returns_wide, branches_to_entry, calls_wide_putchar, marked_alloca, large_global};
-ghost use Rattle.ms_valid.specs.Formed.{Formed};
-ghost use Rattle.ms_valid.specs.Valid.{Valid};
+ghost use Rattle.ms_valid.specs.{Formed.{Formed}, Valid.{Valid}};
 ghost use Rattle.ms_valid.specs.Refusals.{Duplicate, Unknown, TypeMismatch, BadPhi, NoMain, BadExternal, Undefined, BadMark, BadSize, IsRefused};
 
 /// The example modules are valid, and so are those with inserted code.

@@ -1,20 +1,13 @@
 //! Runs that are the same, whatever uninitialised memory holds at each step.
 ghost use Rattle.std.specs.Prelude.{◌≡◌, ℕ, List, false};
-ghost use Rattle.ms_ir.specs.ThreadCalls.{is_threaded};
-ghost use Rattle.ms_ir.specs.declared.syntax.Module.{Module};
-ghost use Rattle.ms_ir.specs.Instructions.{NoMarks};
+ghost use Rattle.ms_ir.specs.{ThreadCalls.{is_threaded}, declared.syntax.Module.{Module}, Instructions.{NoMarks}};
 ghost use Rattle.ms_runs.specs.declared.runs.Setup.{Setup};
 ghost use Rattle.ms_runs.specs.Plain.{PlainState, Stepped, setting_of, steps, plain, plain_start};
-ghost use Rattle.ms_runs.specs.Masks.{by_completions};
-ghost use Rattle.ms_runs.specs.Shadow.{shadow_step, shadow_start, shadow};
-ghost use Rattle.ms_runs.specs.Faithful.{Fair, Faithful};
-ghost use Rattle.ms_valid.specs.Formed.{Formed};
-ghost use Rattle.ms_valid.specs.Valid.{Valid};
-ghost use Rattle.ms_runs.specs.Verdict.{Clean, verdict_of};
-ghost use Rattle.ms_good_laws.specs.Fills.{IsFill, SameShown};
-ghost use Rattle.ms_good_laws.specs.GoodWorlds.{GivesBytes};
-ghost use Rattle.ms_fills_laws.specs.Certain.{CertainSteps, UntoldSteps};
-ghost use Rattle.ms_fills_laws.specs.Changing.{ComesTo, shown_by};
+ghost use Rattle.ms_runs.specs.{Masks.{by_completions}, Shadow.{shadow_step, shadow_start, shadow}};
+ghost use Rattle.ms_runs.specs.{Faithful.{Fair, Faithful}, Verdict.{Clean, verdict_of}};
+ghost use Rattle.ms_valid.specs.{Formed.{Formed}, Valid.{Valid}};
+ghost use Rattle.ms_good_laws.specs.{Fills.{IsFill, SameShown}, GoodWorlds.{GivesBytes}};
+ghost use Rattle.ms_fills_laws.specs.{Certain.{CertainSteps, UntoldSteps}, Changing.{ComesTo, shown_by}};
 ghost use Rattle.ms_fills_laws.specs.Chosen.{steps_by, chosen_step, HoldsUnderChoices};
 
 /// Bits outside a mask are certain: after any number of steps of a shadow run, with neither a report nor a blind use so

@@ -1,24 +1,13 @@
 //! Runs that are the same whatever uninitialised memory holds.
 ghost use Rattle.std.specs.Prelude.{◌≡◌, ◌<◌, ℕ, List, [], ◌∷◌, All, false};
-ghost use Rattle.ms_ir.specs.ThreadCalls.{is_threaded};
-ghost use Rattle.ms_ir.specs.declared.syntax.Module.{Module};
-ghost use Rattle.ms_runs.specs.declared.runs.Setup.{Setup};
-ghost use Rattle.ms_runs.specs.declared.runs.Report.{Report};
-ghost use Rattle.ms_runs.specs.Plain.{setting_of, plain};
-ghost use Rattle.ms_runs.specs.Masks.{by_completions};
-ghost use Rattle.ms_runs.specs.Shadow.{ShadowState, shadow_step, shadow};
-ghost use Rattle.ms_runs.specs.LowEqual.{LowEqual};
-ghost use Rattle.ms_runs.specs.Faithful.{Fair, Faithful};
-ghost use Rattle.ms_ir.specs.Instructions.{NoMarks};
-ghost use Rattle.ms_valid.specs.Formed.{Formed};
-ghost use Rattle.ms_valid.specs.Valid.{Valid};
+ghost use Rattle.ms_ir.specs.{ThreadCalls.{is_threaded}, declared.syntax.Module.{Module}, Instructions.{NoMarks}};
+ghost use Rattle.ms_runs.specs.{declared.runs.Setup.{Setup}, declared.runs.Report.{Report}, Plain.{setting_of, plain}};
+ghost use Rattle.ms_runs.specs.{Masks.{by_completions}, Shadow.{ShadowState, shadow_step, shadow}, LowEqual.{LowEqual}};
+ghost use Rattle.ms_runs.specs.{Faithful.{Fair, Faithful}, Shadow.{shadow_start}};
+ghost use Rattle.ms_valid.specs.{Formed.{Formed}, Valid.{Valid}};
 ghost use Rattle.ms_good_laws.specs.Fills.{IsFill, refilled, to_first_report, NoBlindUse, SameShown, SameUnderFills, InsertedUnderFills};
-ghost use Rattle.ms_good_laws.specs.GoodWorlds.{GivesBytes};
-ghost use Rattle.ms_good_laws.specs.GoodRuns.{LeadsTo};
-ghost use Rattle.ms_runs.specs.Shadow.{shadow_start};
-ghost use Rattle.ms_fills_laws.specs.Placed.{SoundPlaced};
-ghost use Rattle.ms_fills_laws.specs.First.{FirstOf};
-ghost use Rattle.ms_fills_laws.specs.Alike.{StepsAlike, CountsNone};
+ghost use Rattle.ms_good_laws.specs.{GoodWorlds.{GivesBytes}, GoodRuns.{LeadsTo}};
+ghost use Rattle.ms_fills_laws.specs.{Placed.{SoundPlaced}, First.{FirstOf}, Alike.{StepsAlike, CountsNone}};
 ghost use Rattle.ms_fills_laws.specs.Checked.{HoldsUnderFills};
 
 /// Two runs of a formed and valid module under two fills start in low equal states. From low equal states a step that

@@ -1,7 +1,6 @@
 //! The definitions of a graph as one sorted list.
 ghost use Rattle.std.specs.Prelude.{◌≡◌, ℕ, ◌<◌, ◌≤◌, ◌↔◌, ◌⊎◌, length, vec_len, IfOk, OnOk, IsTrue, All, Contains, slice_index_or};
-ghost use Rattle.ms_flow.specs.Paths.{Defines};
-ghost use Rattle.ms_flow.specs.Search.{Has};
+ghost use Rattle.ms_flow.specs.{Paths.{Defines}, Search.{Has}};
 
 use crate::graphs::Graph;
 use crate::places;

@@ -1,7 +1,6 @@
 //! One path that a value takes without a definition.
 ghost use Rattle.std.specs.Prelude.{◌≡◌, ◌≢◌, ℕ, ◌+◌, ◌<◌, List, [], ◌∷◌, length, take, vec_len, IfOk, OnOk, IfSome, IfNone, AllPairs};
-ghost use Rattle.ms_flow.specs.Paths.{Misses, HasEdge, Defines};
-ghost use Rattle.ms_flow.specs.Search.{StaysIn, Arrives, IsUndefined};
+ghost use Rattle.ms_flow.specs.{Paths.{Misses, HasEdge, Defines}, Search.{StaysIn, Arrives, IsUndefined}};
 ghost use Rattle.ms_flow.specs.Walks.{IsWalk, Marks, Trail, Visits, block_at, from_at, unseen};
 
 use crate::graphs::{Graph, Use};

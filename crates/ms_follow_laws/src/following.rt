@@ -1,11 +1,8 @@
 //! The plain run takes the steps of the shadow run.
 ghost use Rattle.std.specs.Prelude.{◌≡◌};
-ghost use Rattle.ms_ir.specs.declared.syntax.Module.{Module};
-ghost use Rattle.ms_ir.specs.Instructions.{NoMarks};
-ghost use Rattle.ms_runs.specs.declared.runs.Setup.{Setup};
-ghost use Rattle.ms_runs.specs.World.{Setting};
-ghost use Rattle.ms_runs.specs.Plain.{PlainState, plain_step, plain_start};
-ghost use Rattle.ms_runs.specs.Masks.{Rules};
+ghost use Rattle.ms_ir.specs.{declared.syntax.Module.{Module}, Instructions.{NoMarks}};
+ghost use Rattle.ms_runs.specs.{declared.runs.Setup.{Setup}, World.{Setting}};
+ghost use Rattle.ms_runs.specs.{Plain.{PlainState, plain_step, plain_start}, Masks.{Rules}};
 ghost use Rattle.ms_runs.specs.Shadow.{ShadowState, shadow_step, shadow_start};
 ghost use Rattle.ms_follow_laws.specs.Follows.{Follows, StepFollows};
 

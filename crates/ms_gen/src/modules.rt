@@ -1,10 +1,7 @@
 //! Generated modules.
 ghost use Rattle.std.specs.Prelude.{◌≡◌, ◌<◌, ◌≤◌, ◌-◌, ◌++◌, [], ◌∷◌, OnOk, IfOk};
-ghost use Rattle.ms_ir.specs.Builders.{local, int, sets, calls};
-ghost use Rattle.ms_ir.specs.Declarations.{putchar as putchar_decl};
-ghost use Rattle.ms_valid.specs.Formed.{Formed};
-ghost use Rattle.ms_valid.specs.Valid.{Valid};
-ghost use Rattle.ms_valid.specs.Uninstrumented.{CanInstrument};
+ghost use Rattle.ms_ir.specs.{Builders.{local, int, sets, calls}, Declarations.{putchar as putchar_decl}};
+ghost use Rattle.ms_valid.specs.{Formed.{Formed}, Valid.{Valid}, Uninstrumented.{CanInstrument}};
 ghost use Rattle.ms_gen.specs.Generator.{call_of, functions_of, main_of, main_body_of, generated};
 
 use crate::draws::Draws;

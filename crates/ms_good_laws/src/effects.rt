@@ -1,29 +1,16 @@
 //! What instructions and the functions that they call come to in good worlds.
 ghost use Rattle.std.specs.Prelude.{◌≡◌, ℕ, List, map, true, Some, slice_get};
-ghost use Rattle.ms_ir.specs.declared.syntax.Ty.{Ty};
-ghost use Rattle.ms_ir.specs.declared.syntax.Func.{Func};
-ghost use Rattle.ms_ir.specs.declared.syntax.Inst.{Inst};
-ghost use Rattle.ms_ir.specs.declared.syntax.Module.{Module};
-ghost use Rattle.ms_runs.specs.declared.runs.Setup.{Setup};
-ghost use Rattle.ms_ir.specs.declared.calls.External.{External};
-ghost use Rattle.ms_ir.specs.declared.calls.RuntimeFn.{RuntimeFn};
-ghost use Rattle.ms_runs.specs.World.{World, Here};
-ghost use Rattle.ms_ir.specs.Instructions.{operands, func_at, insts_at};
-ghost use Rattle.ms_runs.specs.Act.{act};
-ghost use Rattle.ms_runs.specs.Externals.{external};
-ghost use Rattle.ms_runs.specs.Runtime.{runtime};
-ghost use Rattle.ms_runs.specs.Plain.{act_marked, setting_of};
-ghost use Rattle.ms_runs.specs.Poisoned.{Poisoned, clean};
-ghost use Rattle.ms_runs.specs.Masks.{Rules};
-ghost use Rattle.ms_runs.specs.Shadow.{poisoned_result};
+ghost use Rattle.ms_ir.specs.{declared.syntax.Ty.{Ty}, declared.syntax.Func.{Func}, declared.syntax.Inst.{Inst}};
+ghost use Rattle.ms_ir.specs.{declared.syntax.Module.{Module}, declared.calls.External.{External}};
+ghost use Rattle.ms_ir.specs.{declared.calls.RuntimeFn.{RuntimeFn}, Instructions.{operands, func_at, insts_at}};
 ghost use Rattle.ms_ir.specs.Signatures.{external_signature, called_params, runtime_signature};
-ghost use Rattle.ms_valid.specs.Formed.{Formed};
-ghost use Rattle.ms_good_laws.specs.GoodStates.{IsBelow, PoisonedBelow};
-ghost use Rattle.ms_good_laws.specs.GoodEffects.{FitsEffect};
-ghost use Rattle.ms_valid.specs.Valid.{Valid};
+ghost use Rattle.ms_runs.specs.{declared.runs.Setup.{Setup}, World.{World, Here}, Act.{act}, Externals.{external}};
+ghost use Rattle.ms_runs.specs.{Runtime.{runtime}, Plain.{act_marked, setting_of}, Poisoned.{Poisoned, clean}};
+ghost use Rattle.ms_runs.specs.{Masks.{Rules}, Shadow.{poisoned_result}};
+ghost use Rattle.ms_valid.specs.{Formed.{Formed}, Valid.{Valid}};
+ghost use Rattle.ms_good_laws.specs.{GoodStates.{IsBelow, PoisonedBelow}, GoodEffects.{FitsEffect}};
 ghost use Rattle.ms_good_laws.specs.GoodWorlds.{GoodWorld, GivesBytes, FitsCell, AnyOrigin, GoodAfter};
-ghost use Rattle.ms_good_laws.specs.GoodRules.{KeepWidths};
-ghost use Rattle.ms_good_laws.specs.Straight.{Answers, HaveTypes};
+ghost use Rattle.ms_good_laws.specs.{GoodRules.{KeepWidths}, Straight.{Answers, HaveTypes}};
 
 /// An external that gets words of its parameters' types in a good world answers a word of its type, or nothing where it
 /// answers none, or ends the run, and leaves a good world.

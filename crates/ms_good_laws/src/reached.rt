@@ -1,12 +1,9 @@
 //! What a shadow run has reached: a law about the definition, and examples that the check computes.
 ghost use Rattle.std.specs.Prelude.{◌≡◌, ◌+◌, ℕ, Some, IfSome, length, option_map};
 ghost use Rattle.ms_ir.specs.declared.syntax.Module.{Module};
-ghost use Rattle.ms_runs.specs.declared.runs.Setup.{Setup};
+ghost use Rattle.ms_runs.specs.{declared.runs.Setup.{Setup}, ExampleRuns.{defaults}, Masks.{Rules, by_formulas}};
+ghost use Rattle.ms_runs.specs.{Plain.{run, setting_of}, Shadow.{shadow_step, shadow_by}};
 ghost use Rattle.ms_example_modules.specs.Programs.{branch_on_unset};
-ghost use Rattle.ms_runs.specs.ExampleRuns.{defaults};
-ghost use Rattle.ms_runs.specs.Masks.{Rules, by_formulas};
-ghost use Rattle.ms_runs.specs.Plain.{run, setting_of};
-ghost use Rattle.ms_runs.specs.Shadow.{shadow_step, shadow_by};
 ghost use Rattle.ms_good_laws.specs.Reached.{Walk, walked, IsReached, HasReachedOrigins};
 ghost use Rattle.ms_good_laws.specs.ExampleWalks.{poisoned_from, phi_of_undef};
 

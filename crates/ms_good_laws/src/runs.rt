@@ -1,19 +1,13 @@
 //! Good states of runs.
 ghost use Rattle.std.specs.Prelude.{◌≡◌, ◌<◌, ℕ, All};
-ghost use Rattle.ms_ir.specs.declared.syntax.Module.{Module};
-ghost use Rattle.ms_runs.specs.declared.runs.Setup.{Setup};
-ghost use Rattle.ms_runs.specs.declared.runs.End.TheVariants as end_of;
-ghost use Rattle.ms_runs.specs.World.{result as told};
+ghost use Rattle.ms_ir.specs.{declared.syntax.Module.{Module}, Instructions.{NoMarks}};
+ghost use Rattle.ms_runs.specs.{declared.runs.Setup.{Setup}, World.{result as told}};
 ghost use Rattle.ms_runs.specs.Plain.{steps, PlainState, plain_step, setting_of, go_on, plain, plain_start};
-ghost use Rattle.ms_runs.specs.Masks.{Rules};
-ghost use Rattle.ms_runs.specs.Shadow.{ShadowState, shadow_step, shadow_by, shadow_start};
-ghost use Rattle.ms_ir.specs.Instructions.{NoMarks};
-ghost use Rattle.ms_valid.specs.Formed.{Formed};
-ghost use Rattle.ms_good_laws.specs.GoodStates.{GoodShadow, IsMain, Bottom};
-ghost use Rattle.ms_good_laws.specs.Sited.{HasSite, StopsAtSite};
-ghost use Rattle.ms_valid.specs.Valid.{Valid};
-ghost use Rattle.ms_good_laws.specs.GoodWorlds.{GoodWorld, GivesBytes, FitsCell, AnyOrigin};
-ghost use Rattle.ms_good_laws.specs.GoodRules.{KeepWidths};
+ghost use Rattle.ms_runs.specs.{Masks.{Rules}, Shadow.{ShadowState, shadow_step, shadow_by, shadow_start}};
+ghost use Rattle.ms_runs.specs.declared.runs.End.TheVariants as end_of;
+ghost use Rattle.ms_valid.specs.{Formed.{Formed}, Valid.{Valid}};
+ghost use Rattle.ms_good_laws.specs.{GoodStates.{GoodShadow, IsMain, Bottom}, Sited.{HasSite, StopsAtSite}};
+ghost use Rattle.ms_good_laws.specs.{GoodWorlds.{GoodWorld, GivesBytes, FitsCell, AnyOrigin}, GoodRules.{KeepWidths}};
 ghost use Rattle.ms_good_laws.specs.GoodRuns.{SoundPlain, SoundShadow, LeadsTo};
 
 /// A run of a formed and valid module starts in a good state and a good world.

@@ -1,18 +1,11 @@
 //! Good frames: where a run starts, and what an instruction does to them.
 ghost use Rattle.std.specs.Prelude.{◌≡◌, ℕ, List, [], ◌∷◌, Some, slice_get};
-ghost use Rattle.ms_ir.specs.declared.syntax.Inst.{Inst};
-ghost use Rattle.ms_ir.specs.declared.syntax.Module.{Module};
+ghost use Rattle.ms_ir.specs.{declared.syntax.Inst.{Inst}, declared.syntax.Module.{Module}};
 ghost use Rattle.ms_good_laws.specs.GoodEffects.{FitsEffect, GoodMoved};
-ghost use Rattle.ms_valid.specs.Paths.{insts_of};
 ghost use Rattle.ms_good_laws.specs.GoodStates.{IsBelow, PoisonedBelow, GoodFrame, GoodFrames, GoodPlain, GoodShadow};
-ghost use Rattle.ms_valid.specs.Valid.{Valid};
-ghost use Rattle.ms_valid.specs.Formed.{Formed};
-ghost use Rattle.ms_runs.specs.declared.runs.Setup.{Setup};
-ghost use Rattle.ms_runs.specs.Act.{plain_reading};
-ghost use Rattle.ms_runs.specs.Control.{Frame, after_effect};
-ghost use Rattle.ms_runs.specs.World.{World, Setting, Effect};
-ghost use Rattle.ms_runs.specs.Poisoned.{Poisoned};
-ghost use Rattle.ms_runs.specs.Plain.{start_frame, start_world};
+ghost use Rattle.ms_valid.specs.{Paths.{insts_of}, Valid.{Valid}, Formed.{Formed}};
+ghost use Rattle.ms_runs.specs.{declared.runs.Setup.{Setup}, Act.{plain_reading}, Control.{Frame, after_effect}};
+ghost use Rattle.ms_runs.specs.{World.{World, Setting, Effect}, Poisoned.{Poisoned}, Plain.{start_frame, start_world}};
 ghost use Rattle.ms_runs.specs.Shadow.{shadow_reading};
 
 /// A run of a formed and valid module starts in a good state.

@@ -1,11 +1,8 @@
 //! What operations give of words in range.
 ghost use Rattle.std.specs.Prelude.{◌<◌, ◌≤◌, ◌^◌, ℕ, IfOk};
-ghost use Rattle.ms_bits.specs.declared.operations.Flags.{Flags};
-ghost use Rattle.ms_bits.specs.declared.operations.BinOp.{BinOp};
-ghost use Rattle.ms_bits.specs.declared.operations.CastOp.{CastOp};
-ghost use Rattle.ms_bits.specs.declared.operations.Pred.{Pred};
-ghost use Rattle.ms_bits.specs.Arithmetic.{binary_of};
-ghost use Rattle.ms_bits.specs.Conversions.{Allows, cast_of, compare_of, select_of};
+ghost use Rattle.ms_bits.specs.{declared.operations.Flags.{Flags}, declared.operations.BinOp.{BinOp}};
+ghost use Rattle.ms_bits.specs.{declared.operations.CastOp.{CastOp}, declared.operations.Pred.{Pred}};
+ghost use Rattle.ms_bits.specs.{Arithmetic.{binary_of}, Conversions.{Allows, cast_of, compare_of, select_of}};
 ghost use Rattle.ms_runs.specs.Act.{truth};
 
 /// Of words of a width, an operation gives a word of that width, a comparison one of 1 bit, a cast one of the width that

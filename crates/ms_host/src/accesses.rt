@@ -4,8 +4,7 @@ ghost use Rattle.ms_alloc.specs.Allocations.{is_good as is_live};
 ghost use Rattle.ms_bits.specs.Maps.{number_at, byte_of};
 ghost use Rattle.ms_runs.specs.World.{World as Meant};
 ghost use Rattle.ms_runs.specs.Memory.{is_good, store_number, set_shadow, make_bytes, set_bytes, copy_bytes, copy_shadow};
-ghost use Rattle.ms_host.specs.State.{Beside, Keeps};
-ghost use Rattle.ms_host.specs.Shows.{Shows};
+ghost use Rattle.ms_host.specs.{State.{Beside, Keeps}, Shows.{Shows}};
 
 use crate::worlds::World;
 use crate::writes::{write_byte, write_unset};

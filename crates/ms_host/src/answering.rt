@@ -3,12 +3,10 @@ ghost use Rattle.std.specs.Prelude.{false, List, ◌≡◌, ◌≤◌, ◌<◌, 
 ghost use Rattle.ms_bits.specs.declared.word_functions.WordFn.{WordFn as WordFnOf};
 ghost use Rattle.ms_bits.specs.declared.word_functions.WordWidth.{WordWidth as WordWidthOf};
 ghost use Rattle.ms_bits.specs.WordFunctions.{bits_of, word_answer};
-ghost use Rattle.ms_ir.specs.declared.syntax.Ty.{Ty};
-ghost use Rattle.ms_ir.specs.Signatures.{is_variadic, is_thread_call};
+ghost use Rattle.ms_ir.specs.{declared.syntax.Ty.{Ty}, Signatures.{is_variadic, is_thread_call}};
 ghost use Rattle.ms_runs.specs.World.{World as Meant, Setting, gives};
 ghost use Rattle.ms_runs.specs.Externals.{external as external_of, assumed, unknown_size};
-ghost use Rattle.ms_host.specs.State.{Beside, Keeps, WorldState};
-ghost use Rattle.ms_host.specs.Shows.{Shows};
+ghost use Rattle.ms_host.specs.{State.{Beside, Keeps, WorldState}, Shows.{Shows}};
 ghost use Rattle.ms_host.specs.Answers.{Answered, IsExternal, IsStream, FitsFirst, asked_effect};
 
 use crate::calls::{Answer, Asked, HostCall, trap};

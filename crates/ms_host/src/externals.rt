@@ -1,11 +1,9 @@
 //! What calls of externals do to the world.
 ghost use Rattle.std.specs.Prelude.{◌≡◌, ◌≤◌, ◌<◌, ◌+◌, ◌*◌, ◌^◌, [], ◌∷◌, IfOk};
 ghost use Rattle.ms_bits.specs.Maps.{bytes_at};
-ghost use Rattle.ms_runs.specs.World.{World as Meant, Gives, Does};
-ghost use Rattle.ms_runs.specs.Memory.{copy_bytes, set_bytes, make_bytes};
+ghost use Rattle.ms_runs.specs.{World.{World as Meant, Gives, Does}, Memory.{copy_bytes, set_bytes, make_bytes}};
 ghost use Rattle.ms_runs.specs.Externals.{malloc, calloc, realloc, free, where_good, printed, next_byte, compared};
-ghost use Rattle.ms_host.specs.State.{Beside, Keeps};
-ghost use Rattle.ms_host.specs.Shows.{Shows};
+ghost use Rattle.ms_host.specs.{State.{Beside, Keeps}, Shows.{Shows}};
 ghost use Rattle.ms_host.specs.Answers.{Answered, resumed, strlen_of, puts_of, write_of, read_of};
 
 use crate::calls::{Answer, trap};

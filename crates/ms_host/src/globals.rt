@@ -1,10 +1,8 @@
 //! Initialisers of globals.
 ghost use Rattle.std.specs.Prelude.{◌≡◌, ◌∷◌, true, false, ℕ, List, IfOk, OnOk, IsErrOf};
 ghost use Rattle.ms_ir.specs.Layout.{stored_size};
-ghost use Rattle.ms_runs.specs.Memory.{store_number};
-ghost use Rattle.ms_runs.specs.World.{World as Meant};
-ghost use Rattle.ms_host.specs.State.{Beside, Keeps};
-ghost use Rattle.ms_host.specs.Shows.{Shows};
+ghost use Rattle.ms_runs.specs.{Memory.{store_number}, World.{World as Meant}};
+ghost use Rattle.ms_host.specs.{State.{Beside, Keeps}, Shows.{Shows}};
 ghost use Rattle.ms_host.specs.Initial.{Reaches, part_begin, Changes, WritesInit, WritesParts, global_sized, global_fits, MakesGlobal, MakesGlobals, PassesLimit};
 
 use crate::numbers::{rounded, sum};

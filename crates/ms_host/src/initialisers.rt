@@ -1,11 +1,8 @@
 //! The bytes of initialisers.
 ghost use Rattle.std.specs.Prelude.{◌≡◌, ◌+◌, length, get_or};
 ghost use Rattle.ms_bits.specs.Maps.{byte_of};
-ghost use Rattle.ms_runs.specs.World.{World as Meant};
-ghost use Rattle.ms_runs.specs.Memory.{store_number, set_bytes};
-ghost use Rattle.ms_host.specs.State.{Beside, Keeps};
-ghost use Rattle.ms_host.specs.Shows.{Shows};
-ghost use Rattle.ms_host.specs.Initial.{Changes};
+ghost use Rattle.ms_runs.specs.{World.{World as Meant}, Memory.{store_number, set_bytes}};
+ghost use Rattle.ms_host.specs.{State.{Beside, Keeps}, Shows.{Shows}, Initial.{Changes}};
 
 use crate::shadows::live_past;
 use crate::worlds::World;

@@ -1,11 +1,8 @@
 //! Accesses of marked instructions: they reach the slots and the shadow alone.
 ghost use Rattle.std.specs.Prelude.{◌≡◌, ◌≤◌, ◌+◌, ℕ, true, Some, IfSome, bit_xor};
 ghost use Rattle.ms_bits.specs.Maps.{number_at, byte_of, with_range};
-ghost use Rattle.ms_runs.specs.World.{World as Meant};
-ghost use Rattle.ms_runs.specs.Memory.{is_good};
-ghost use Rattle.ms_runs.specs.Plain.{shadow_bits};
-ghost use Rattle.ms_host.specs.State.{Beside, KeepsGiven};
-ghost use Rattle.ms_host.specs.Shows.{Shows};
+ghost use Rattle.ms_runs.specs.{World.{World as Meant}, Memory.{is_good}, Plain.{shadow_bits}};
+ghost use Rattle.ms_host.specs.{State.{Beside, KeepsGiven}, Shows.{Shows}};
 ghost use Rattle.ms_host.specs.SlotBytes.{ShowsSlots, MarkedLoad, MarkedStore};
 
 use crate::slots::is_far;

@@ -2,12 +2,9 @@
 ghost use Rattle.std.specs.Prelude.{◌≡◌, ◌≢◌, ◌≤◌, ◌<◌, ◌+◌, ◌-◌, ◌^◌, false, Some, IsTrue, OnOk, MatchOption};
 ghost use Rattle.ms_alloc.specs.Allocations.{is_good as is_live, IsLaidOut};
 ghost use Rattle.ms_bits.specs.Maps.{first_nonzero};
-ghost use Rattle.ms_runs.specs.World.{World as Meant};
-ghost use Rattle.ms_runs.specs.Memory.{set_cells, set_shadow, bytes_left};
+ghost use Rattle.ms_runs.specs.{World.{World as Meant}, Memory.{set_cells, set_shadow, bytes_left}};
 ghost use Rattle.ms_runs.specs.Origins.{poison, unpoison, copy_planes, mark_cells, load_origin, first_in_string};
-ghost use Rattle.ms_host.specs.State.{Beside, Keeps};
-ghost use Rattle.ms_host.specs.Shows.{Shows};
-ghost use Rattle.ms_host.specs.Poisonings.{IsFound, with_mark};
+ghost use Rattle.ms_host.specs.{State.{Beside, Keeps}, Shows.{Shows}, Poisonings.{IsFound, with_mark}};
 
 use crate::worlds::World;
 use ms_bits::NoMemory;

@@ -2,11 +2,8 @@
 ghost use Rattle.std.specs.Prelude.{◌≡◌, ◌≤◌, ◌+◌, ℕ, List, [], ◌∷◌, ◌++◌, length, take, drop, get_or, OnOk, MatchOption, IsTrue, ◌↔◌};
 ghost use Rattle.ms_alloc.specs.Allocations.{is_good as is_live};
 ghost use Rattle.ms_bits.specs.Maps.{bytes_at};
-ghost use Rattle.ms_runs.specs.World.{World as Meant};
-ghost use Rattle.ms_runs.specs.Memory.{set_bytes};
-ghost use Rattle.ms_runs.specs.Externals.{output_limit};
-ghost use Rattle.ms_host.specs.State.{Beside, Keeps};
-ghost use Rattle.ms_host.specs.Shows.{Shows};
+ghost use Rattle.ms_runs.specs.{World.{World as Meant}, Memory.{set_bytes}, Externals.{output_limit}};
+ghost use Rattle.ms_host.specs.{State.{Beside, Keeps}, Shows.{Shows}};
 
 use crate::worlds::World;
 use crate::writes::{smaller, write_bytes};

@@ -2,11 +2,8 @@
 ghost use Rattle.std.specs.Prelude.{◌≡◌, ◌≤◌, ◌<◌, ◌+◌, ◌^◌, Some, None, MatchOption, IsTrue};
 ghost use Rattle.ms_alloc.specs.Allocations.{is_good as is_live};
 ghost use Rattle.ms_bits.specs.Maps.{bytes_at};
-ghost use Rattle.ms_runs.specs.World.{World as Meant};
-ghost use Rattle.ms_runs.specs.Memory.{bytes_left};
-ghost use Rattle.ms_runs.specs.Externals.{string_at, compared};
-ghost use Rattle.ms_host.specs.State.{Beside};
-ghost use Rattle.ms_host.specs.Shows.{Shows};
+ghost use Rattle.ms_runs.specs.{World.{World as Meant}, Memory.{bytes_left}, Externals.{string_at, compared}};
+ghost use Rattle.ms_host.specs.{State.{Beside}, Shows.{Shows}};
 
 use crate::worlds::World;
 

@@ -3,11 +3,8 @@ ghost use Rattle.std.specs.Prelude.{◌≡◌, ◌%◌, ◌^◌, ℕ};
 ghost use Rattle.ms_bits.specs.Maps.{number_at};
 ghost use Rattle.ms_ir.specs.declared.calls.Slot.TheVariants as slot;
 ghost use Rattle.ms_ir.specs.Names.{slot_room};
-ghost use Rattle.ms_runs.specs.World.{World as Meant};
-ghost use Rattle.ms_runs.specs.Threads.{first_clean};
-ghost use Rattle.ms_host.specs.State.{Beside, KeepsGiven};
-ghost use Rattle.ms_host.specs.Shows.{Shows};
-ghost use Rattle.ms_host.specs.SlotBytes.{ShowsSlots};
+ghost use Rattle.ms_runs.specs.{World.{World as Meant}, Threads.{first_clean}};
+ghost use Rattle.ms_host.specs.{State.{Beside, KeepsGiven}, Shows.{Shows}, SlotBytes.{ShowsSlots}};
 
 use crate::worlds::World;
 use ms_ir::Slot;

@@ -1,12 +1,10 @@
 //! The world of a run, and its allocations.
 ghost use Rattle.std.specs.Prelude.{◌≡◌, ◌≤◌, ◌<◌, ◌+◌, ◌^◌, [], ℕ, length, IfOk};
 ghost use Rattle.ms_alloc.specs.Allocations.{heap_size as block_size, IsLaidOut};
-ghost use Rattle.ms_runs.specs.World.{World as Meant, first_world};
-ghost use Rattle.ms_runs.specs.Memory.{heap_size, end_block, next_base};
+ghost use Rattle.ms_runs.specs.{World.{World as Meant, first_world}, Memory.{heap_size, end_block, next_base}};
 ghost use Rattle.ms_runs.specs.Control.{release};
 ghost use Rattle.ms_host.specs.State.{Beside, Keeps, nothing_beside};
-ghost use Rattle.ms_host.specs.Shows.{Shows, area_of, Allocated, Cleared, Grown};
-ghost use Rattle.ms_host.specs.SlotBytes.{ShowsSlots};
+ghost use Rattle.ms_host.specs.{Shows.{Shows, area_of, Allocated, Cleared, Grown}, SlotBytes.{ShowsSlots}};
 
 use crate::slots::Slots;
 use crate::writes::write_unset;

@@ -1,8 +1,7 @@
 //! Bytes that are written one after the other.
 ghost use Rattle.std.specs.Prelude.{◌≡◌, ◌≤◌, ◌<◌, ◌+◌, ◌^◌, length, get_or, min, IsTrue};
 ghost use Rattle.ms_alloc.specs.Allocations.{is_good, IsLaidOut};
-ghost use Rattle.ms_bits.specs.Maps.{with_range};
-ghost use Rattle.ms_bits.specs.Fill.{made_byte};
+ghost use Rattle.ms_bits.specs.{Maps.{with_range}, Fill.{made_byte}};
 ghost use Rattle.ms_planes.specs.Memory.{bytes_of, shadow_of, origins_of};
 
 use ms_planes::Planes;

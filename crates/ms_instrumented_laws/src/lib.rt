@@ -7,11 +7,8 @@
 
 ghost use Rattle.std.specs.Prelude.{ℕ};
 ghost use Rattle.ms_ir.specs.declared.syntax.Module.{Module};
-ghost use Rattle.ms_valid.specs.Formed.{Formed};
-ghost use Rattle.ms_valid.specs.Uninstrumented.{CanInstrument};
-ghost use Rattle.ms_valid.specs.Valid.{Valid};
-ghost use Rattle.ms_pass_laws.specs.Pass.{Numbering, pass};
-ghost use Rattle.ms_pass_laws.specs.Numbers.{numbering};
+ghost use Rattle.ms_valid.specs.{Formed.{Formed}, Uninstrumented.{CanInstrument}, Valid.{Valid}};
+ghost use Rattle.ms_pass_laws.specs.{Pass.{Numbering, pass}, Numbers.{numbering}};
 ghost use Rattle.ms_instrumented_laws.specs.Numbers.{GoodNumbers};
 
 /// The instrumented form of each module that is formed, valid and can be instrumented is formed and valid itself: with

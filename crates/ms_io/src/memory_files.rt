@@ -1,7 +1,6 @@
 //! Files in memory: those that fail where a test wants it, and those that never fail.
 ghost use Rattle.std.specs.Prelude.{◌≡◌, ◌+◌, ◌^◌, ◌<◌, ◌≤◌, ◌↔◌, All, min, length, Contains, Option, Some, None, IfOk};
-ghost use Rattle.ms_io.specs.Counts.{last_count, Rose, RoseBy};
-ghost use Rattle.ms_io.specs.Named.{files_of};
+ghost use Rattle.ms_io.specs.{Counts.{last_count, Rose, RoseBy}, Named.{files_of}};
 ghost use Rattle.ms_io.specs.Reading.{IsWholeFile, IsAbsent, IsTooLong, IsFaultless, IfFailed, UnlessFailed, IfAbsent, IfTooLong};
 
 use crate::{FileError, Files};

@@ -1,7 +1,6 @@
 //! Sinks in memory.
 ghost use Rattle.std.specs.Prelude.{◌≡◌, ℕ, ◌+◌, ◌<◌, ◌≤◌, ◌↔◌, ◌++◌, [], List, take, drop, length, min, Contains, Option, Some, None, IsOk, IsErr, OnOk, OnErr};
-ghost use Rattle.ms_io.specs.Counts.{last_count, Rose};
-ghost use Rattle.ms_io.specs.Writing.{with_appended, AppendsPrefix};
+ghost use Rattle.ms_io.specs.{Counts.{last_count, Rose}, Writing.{with_appended, AppendsPrefix}};
 
 use crate::{Sink, SinkFailed};
 

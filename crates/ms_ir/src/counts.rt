@@ -1,7 +1,6 @@
 //! How many parts an instruction has (LLVM Language Reference, "Instruction Reference").
 ghost use Rattle.std.specs.Prelude.{◌≡◌, length};
-ghost use Rattle.ms_ir.specs.Instructions.{operands};
-ghost use Rattle.ms_ir.specs.Written.{labels, targets};
+ghost use Rattle.ms_ir.specs.{Instructions.{operands}, Written.{labels, targets}};
 
 use crate::syntax::Op;
 

@@ -1,9 +1,7 @@
 //! Equality of types and operands, named types by name (LLVM Language Reference, "Structure Type").
-ghost use Rattle.std.specs.Prelude.{◌≡◌};
-ghost use Rattle.std.specs.Cmp.{partial_equiv_from_equiv};
+ghost use Rattle.std.specs.{Prelude.{◌≡◌}, Cmp.{partial_equiv_from_equiv}};
 ghost use Rattle.ms_ir.specs.declared.syntax.Operand.TheVariants as operand;
-ghost use Rattle.ms_ir.specs.Equal.{type_eq, types_eq, steps_eq, is_undefined, operand_eq};
-ghost use Rattle.ms_ir.specs.TypeLaws.{type_eq_equiv};
+ghost use Rattle.ms_ir.specs.{Equal.{type_eq, types_eq, steps_eq, is_undefined, operand_eq}, TypeLaws.{type_eq_equiv}};
 
 use crate::syntax::{Name, Operand, Ty};
 use ms_bits::List;

@@ -5,11 +5,9 @@
 //! name is looked up by a walk of the named types.
 ghost use Rattle.std.specs.Prelude.{◌≡◌, ◌+◌, ◌<◌, ◌≤◌, map, option_map, IsSome, IfSome, unwrap_or};
 ghost use Rattle.std.specs.Option.{option_copied};
-ghost use Rattle.ms_ir.specs.declared.syntax.Ty.{Ptr};
-ghost use Rattle.ms_ir.specs.Names.{lookup};
+ghost use Rattle.ms_ir.specs.{declared.syntax.Ty.{Ptr}, Names.{lookup}};
 ghost use Rattle.ms_ir.specs.Layout.{extent, place_fields, type_extent, named_extent, extent_in, size_of, size_in, align_in, resolved, field_offset, part_offset};
-ghost use Rattle.ms_ir.specs.Extents.{IsLayout, limited, limit_extent, as_extent};
-ghost use Rattle.ms_ir.specs.Parts.{count_parts};
+ghost use Rattle.ms_ir.specs.{Extents.{IsLayout, limited, limit_extent, as_extent}, Parts.{count_parts}};
 
 use crate::layouts::{CHAIN, LARGEST, Layout, int_align, pad, place_field, repeat, round_up};
 use crate::{Module, Name, Ty};

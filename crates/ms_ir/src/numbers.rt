@@ -1,8 +1,7 @@
 //! How many sites a part of a module has. Counts stand still at the greatest number of 32 bits.
 ghost use Rattle.std.specs.Prelude.{◌≡◌, ◌<◌, ◌-◌, ◌^◌, min, ◌↔◌, length, All, IsTrue};
 ghost use Rattle.ms_ir.specs.Instructions.{one_unmarked, over_insts, over_blocks, over_funcs};
-ghost use Rattle.ms_ir.specs.Places.{HasSmallNumbers};
-ghost use Rattle.ms_ir.specs.Searches.{AreSmall};
+ghost use Rattle.ms_ir.specs.{Places.{HasSmallNumbers}, Searches.{AreSmall}};
 
 use crate::{Block, Func, Inst, Module};
 

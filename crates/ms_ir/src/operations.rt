@@ -1,9 +1,7 @@
 //! The parts of an instruction by their places, in written order (LLVM Language Reference, "Instruction Reference").
 //! Each answer takes constant time and no memory.
-ghost use Rattle.std.specs.Prelude.{◌≡◌, [], ◌∷◌, map, slice_get};
-ghost use Rattle.std.specs.Option.{option_copied};
-ghost use Rattle.ms_ir.specs.Instructions.{operands, is_phi};
-ghost use Rattle.ms_ir.specs.Written.{labels, targets, own_types};
+ghost use Rattle.std.specs.{Prelude.{◌≡◌, [], ◌∷◌, map, slice_get}, Option.{option_copied}};
+ghost use Rattle.ms_ir.specs.{Instructions.{operands, is_phi}, Written.{labels, targets, own_types}};
 
 use crate::syntax::{Name, Op, Operand, Ty};
 

@@ -2,8 +2,7 @@
 ghost use Rattle.std.specs.Prelude.{◌≡◌, ◌<◌, ◌^◌, ℕ, ◌+◌, ◌++◌, IfOk};
 ghost use Rattle.ms_ir.specs.Instructions.{func_index, one_unmarked, over_insts, over_blocks, over_funcs};
 ghost use Rattle.ms_ir.specs.Roots.{own_roots, inst_roots, insts_roots, blocks_roots, funcs_roots, roots_of};
-ghost use Rattle.ms_ir.specs.Places.{HasSmallNumbers};
-ghost use Rattle.ms_ir.specs.Rooted.{roots_of_kind};
+ghost use Rattle.ms_ir.specs.{Places.{HasSmallNumbers}, Rooted.{roots_of_kind}};
 
 mod callees;
 mod operands;

@@ -1,9 +1,7 @@
 //! The rows of a table of functions, and how one is found by its name.
-ghost use Rattle.std.specs.Prelude.{◌≡◌, map, option_map, IfOk};
-ghost use Rattle.std.specs.Option.{option_copied};
+ghost use Rattle.std.specs.{Prelude.{◌≡◌, map, option_map, IfOk}, Option.{option_copied}};
 ghost use Rattle.ms_ir.specs.declared.syntax.Name.TheVariants as spelling;
-ghost use Rattle.ms_ir.specs.Names.{lookup};
-ghost use Rattle.ms_ir.specs.Equal.{type_eq, types_eq, result_type_eq};
+ghost use Rattle.ms_ir.specs.{Names.{lookup}, Equal.{type_eq, types_eq, result_type_eq}};
 ghost use Rattle.ms_ir.specs.Signatures.{decl_signature, signature_eq, answers};
 ghost use Rattle.ms_ir.specs.Rows.{by_name, by_kind, kind_type, row_signature, row_declaration};
 

@@ -1,7 +1,5 @@
 //! How names are spelled ("Identifiers"), and which are kept for what is inserted.
-ghost use Rattle.std.specs.Prelude.{◌≡◌};
-ghost use Rattle.std.specs.Char.{is_ascii_digit};
-ghost use Rattle.std.specs.List.{list_all};
+ghost use Rattle.std.specs.{Prelude.{◌≡◌}, Char.{is_ascii_digit}, List.{list_all}};
 ghost use Rattle.ms_ir.specs.declared.syntax.Name.TheVariants as spelling;
 ghost use Rattle.ms_ir.specs.Names.{name_eq, is_reserved, is_digits, is_inserted_name};
 

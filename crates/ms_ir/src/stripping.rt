@@ -1,7 +1,6 @@
 //! What is left of a module without what was inserted.
 ghost use Rattle.std.specs.Prelude.{◌≡◌, IfOk, filter, map, not};
-ghost use Rattle.ms_ir.specs.Instructions.{is_unmarked, strip, strip_block, strip_func};
-ghost use Rattle.ms_ir.specs.Names.{is_reserved};
+ghost use Rattle.ms_ir.specs.{Instructions.{is_unmarked, strip, strip_block, strip_func}, Names.{is_reserved}};
 
 use crate::parts::{push_copy, three};
 use crate::{Block, Decl, Func, GlobalVar, Inst, Module};

@@ -1,10 +1,7 @@
 //! The types of operands and results (LLVM Language Reference, "Instruction Reference").
 ghost use Rattle.std.specs.Prelude.{◌≡◌, [], ◌∷◌, map, option_map, slice_get};
 ghost use Rattle.ms_ir.specs.declared.syntax.Ty as type;
-ghost use Rattle.ms_ir.specs.Instructions.{operands};
-ghost use Rattle.ms_ir.specs.Equal.{type_eq};
-ghost use Rattle.ms_ir.specs.ValueTypes.{type_of};
-ghost use Rattle.ms_ir.specs.Written.{result_type};
+ghost use Rattle.ms_ir.specs.{Instructions.{operands}, Equal.{type_eq}, ValueTypes.{type_of}, Written.{result_type}};
 
 use crate::syntax::{Name, Op, Operand, Ty};
 

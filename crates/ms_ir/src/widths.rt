@@ -1,8 +1,7 @@
 //! Types of words, asked for by their bits (LLVM Language Reference, "Type System").
 ghost use Rattle.std.specs.Prelude.{◌≡◌};
 ghost use Rattle.ms_ir.specs.declared.syntax.Ty as type;
-ghost use Rattle.ms_ir.specs.Equal.{type_eq};
-ghost use Rattle.ms_ir.specs.Layout.{width_of};
+ghost use Rattle.ms_ir.specs.{Equal.{type_eq}, Layout.{width_of}};
 
 use crate::syntax::Ty;
 

@@ -4,8 +4,7 @@ ghost use Rattle.std.specs.Prelude.{◌≡◌};
 ghost use Rattle.ms_ir.specs.declared.syntax.Name.TheVariants as spelling;
 ghost use Rattle.ms_ir.specs.declared.calls.External.TheVariants as external;
 ghost use Rattle.ms_ir.specs.Names.{lookup, word_externals};
-ghost use Rattle.ms_ir.specs.Signatures.{decl_signature, signature_eq, external_signature};
-ghost use Rattle.ms_ir.specs.Rows.{word_rows};
+ghost use Rattle.ms_ir.specs.{Signatures.{decl_signature, signature_eq, external_signature}, Rows.{word_rows}};
 
 use crate::calls::External;
 use crate::rows::{Kind, are_types};

@@ -1,9 +1,7 @@
 //! The token at the front of a text.
 
 ghost use Rattle.std.specs.Prelude.{◌≡◌, ◌≢◌, ◌<◌, ◌≤◌, ◌+◌, ◌^◌, ◌∷◌, codes, if◌then◌else◌, drop, length, slice_index, IfSome, true, false};
-ghost use Rattle.std.specs.Char.{is_ascii_digit};
-ghost use Rattle.std.specs.List.{list_all, position_or_len, prefix_len};
-ghost use Rattle.std.specs.Option.{option_map};
+ghost use Rattle.std.specs.{Char.{is_ascii_digit}, List.{list_all, position_or_len, prefix_len}, Option.{option_map}};
 ghost use Rattle.ms_lex.specs.Tokens as spec;
 
 use crate::kinds::Kind;

@@ -2,8 +2,7 @@
 //! after the other.
 ghost use Rattle.std.specs.Prelude.{◌≡◌, ◌+◌, ◌<◌, ◌^◌, length, map, filter_map, flat_map, option_map};
 ghost use Rattle.std.specs.Option.{option_to_list};
-ghost use Rattle.ms_ir.specs.Names.{lookup};
-ghost use Rattle.ms_ir.specs.Locals.{block_locals, locals, results, typed_result, value_type};
+ghost use Rattle.ms_ir.specs.{Names.{lookup}, Locals.{block_locals, locals, results, typed_result, value_type}};
 ghost use Rattle.ms_ir.specs.ValueTypes.{type_of};
 ghost use Rattle.ms_machine.specs.Searches.{IsSought};
 

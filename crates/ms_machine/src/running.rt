@@ -1,14 +1,11 @@
 //! Runs of checked modules, from pause to pause.
 ghost use Rattle.std.specs.Prelude.{◌≡◌, ◌≤◌, ◌<◌, ◌+◌, ◌*◌, ◌^◌, ◌∷◌, ℕ, List, IfOk};
-ghost use Rattle.ms_runs.specs.declared.runs.Setup.{Setup};
-ghost use Rattle.ms_runs.specs.Control.{Frame as FrameOf};
+ghost use Rattle.ms_runs.specs.{declared.runs.Setup.{Setup}, Control.{Frame as FrameOf}};
 ghost use Rattle.ms_runs.specs.Plain.{PlainState, setting_of};
 ghost use Rattle.ms_host.specs.declared.calls.HostCall.{HostCall as CallOf};
-ghost use Rattle.ms_host.specs.declared.calls.Answer.TheVariants.{Resumed};
-ghost use Rattle.ms_host.specs.Answers.{Answered, asked_effect};
+ghost use Rattle.ms_host.specs.{declared.calls.Answer.TheVariants.{Resumed}, Answers.{Answered, asked_effect}};
 ghost use Rattle.ms_host.specs.State.{Beside, KeepsGiven, WorldState};
-ghost use Rattle.ms_machine_frames.specs.Owning.{KeepsOwn};
-ghost use Rattle.ms_machine_frames.specs.Standing.{frames_of};
+ghost use Rattle.ms_machine_frames.specs.{Owning.{KeepsOwn}, Standing.{frames_of}};
 ghost use Rattle.ms_machine_steps.specs.Waiting.{FirstWaits, Waits, answered, types_due};
 ghost use Rattle.ms_machine_steps.specs.Advances.{Advanced, HasResumed};
 ghost use Rattle.ms_machine.specs.Running.{AllStandFor, IsRunning, Runs, WaitsFor};

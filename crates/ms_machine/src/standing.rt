@@ -1,13 +1,10 @@
 //! Where a fiber stands, how many calls stand, and what the values of the innermost are.
 ghost use Rattle.std.specs.Prelude.{◌≡◌, ◌-◌, ◌^◌, ℕ, List, length, min};
 ghost use Rattle.ms_ir.specs.declared.syntax.Module.{Module};
-ghost use Rattle.ms_runs.specs.declared.runs.Setup.{Setup};
-ghost use Rattle.ms_runs.specs.Control.{Frame as FrameOf};
-ghost use Rattle.ms_runs.specs.Plain.{PlainState};
+ghost use Rattle.ms_runs.specs.{declared.runs.Setup.{Setup}, Control.{Frame as FrameOf}, Plain.{PlainState}};
 ghost use Rattle.ms_host.specs.State.{Beside, WorldState};
 ghost use Rattle.ms_machine_frames.specs.Standing.{frames_of};
-ghost use Rattle.ms_machine.specs.Running.{AllStandFor, IsRunning};
-ghost use Rattle.ms_machine.specs.Standing.{IsPlaceDue, IsWordNamed, RunsSomewhere};
+ghost use Rattle.ms_machine.specs.{Running.{AllStandFor, IsRunning}, Standing.{IsPlaceDue, IsWordNamed, RunsSomewhere}};
 
 use crate::places::{func_of, place_at};
 use crate::words::word_in;

@@ -1,12 +1,9 @@
 //! The fiber and the world at the start of a run.
 ghost use Rattle.std.specs.Prelude.{◌≡◌, ◌≢◌, ◌<◌, map, length, IfOk};
-ghost use Rattle.ms_runs.specs.Globals.{address_of, constant};
-ghost use Rattle.ms_runs.specs.Plain.{start_world, plain_start};
+ghost use Rattle.ms_runs.specs.{Globals.{address_of, constant}, Plain.{start_world, plain_start}};
 ghost use Rattle.ms_valid.specs.Valid.{Valid};
 ghost use Rattle.ms_code.specs.Constants.{globals_constants};
-ghost use Rattle.ms_host.specs.State.{nothing_beside};
-ghost use Rattle.ms_host.specs.Shows.{Shows};
-ghost use Rattle.ms_host.specs.SlotBytes.{ShowsSlots};
+ghost use Rattle.ms_host.specs.{State.{nothing_beside}, Shows.{Shows}, SlotBytes.{ShowsSlots}};
 ghost use Rattle.ms_machine.specs.Running.{IsRunning};
 
 use ms_alloc::AllocError;

@@ -1,12 +1,8 @@
 //! The words of a function's values, by their names.
 ghost use Rattle.std.specs.Prelude.{◌≡◌, ◌≤◌, ◌<◌, ◌%◌, ◌^◌, ℕ, true, length, get_or};
-ghost use Rattle.ms_ir.specs.declared.syntax.Name.{Name as NameOf};
-ghost use Rattle.ms_ir.specs.Layout.{width_of};
-ghost use Rattle.ms_ir.specs.Locals.{locals};
+ghost use Rattle.ms_ir.specs.{declared.syntax.Name.{Name as NameOf}, Layout.{width_of}, Locals.{locals}};
 ghost use Rattle.ms_ir.specs.ValueTypes.{type_of};
-ghost use Rattle.ms_valid.specs.FlowGraph.{name_place};
-ghost use Rattle.ms_valid.specs.Formed.{func_formed};
-ghost use Rattle.ms_valid.specs.FormedCode.{is_value_type};
+ghost use Rattle.ms_valid.specs.{FlowGraph.{name_place}, Formed.{func_formed}, FormedCode.{is_value_type}};
 ghost use Rattle.ms_code.specs.Reads.{Holds};
 ghost use Rattle.ms_machine.specs.WordsNamed.{word_named};
 

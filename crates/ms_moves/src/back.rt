@@ -2,8 +2,7 @@
 ghost use Rattle.std.specs.Prelude.{◌≡◌, ◌≤◌, ◌<◌, ◌+◌, ◌^◌, length, IfOk, option_map};
 ghost use Rattle.ms_ir.specs.Names.{name_eq};
 ghost use Rattle.ms_moves.specs.Scanned.{Ascending, byte_in as byte_of_target, is_root as is_root_source, counted_byte as counted, trail_of};
-ghost use Rattle.ms_moves.specs.Readings.{source_of};
-ghost use Rattle.ms_moves.specs.Leads.{came_from as source_behind};
+ghost use Rattle.ms_moves.specs.{Readings.{source_of}, Leads.{came_from as source_behind}};
 
 use crate::moves::{Hop, Move, Source, Target};
 use ms_bits::NoMemory;

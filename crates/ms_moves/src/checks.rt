@@ -1,8 +1,7 @@
 //! Whether hops are a way over moves, told from what a way is: nothing but the types is shared with how one is found.
 ghost use Rattle.std.specs.Prelude.{◌≡◌, ◌≤◌, ◌&&◌, MatchBool, eqb, length, slice_get, Some as Held};
 ghost use Rattle.ms_ir.specs.Names.{name_eq};
-ghost use Rattle.ms_moves.specs.Leads.{Leads};
-ghost use Rattle.ms_moves.specs.Scanned.{Ascending, is_before};
+ghost use Rattle.ms_moves.specs.{Leads.{Leads}, Scanned.{Ascending, is_before}};
 ghost use Rattle.ms_moves.specs.Checked.{distance_in, is_reached, is_written, counts_there, NoneBetween, IsNext, is_root_at};
 
 use crate::moves::{Hop, Move, Source, Target};

@@ -1,9 +1,7 @@
 //! Ways over moves.
 ghost use Rattle.std.specs.Prelude.{◌≡◌, List, Some};
-ghost use Rattle.ms_moves.specs.declared.moves.Move.{Move as AMove};
-ghost use Rattle.ms_moves.specs.declared.moves.Hop.{Hop as AHop};
-ghost use Rattle.ms_moves.specs.declared.moves.Source.{Source as ASource};
-ghost use Rattle.ms_moves.specs.Leads.{Leads};
+ghost use Rattle.ms_moves.specs.{declared.moves.Move.{Move as AMove}, declared.moves.Hop.{Hop as AHop}};
+ghost use Rattle.ms_moves.specs.{declared.moves.Source.{Source as ASource}, Leads.{Leads}};
 ghost use Rattle.ms_moves.specs.Scanned.{Ascending, trail_of};
 
 /// Of one list of moves there is at most one way to a use.

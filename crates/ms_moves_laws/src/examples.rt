@@ -2,9 +2,7 @@
 ghost use Rattle.std.specs.Prelude.{◌≡◌, [], ◌∷◌, Some};
 ghost use Rattle.ms_example_modules.specs.Programs.{branch_on_unset};
 ghost use Rattle.ms_runs.specs.ExampleRuns.{defaults};
-ghost use Rattle.ms_moves.specs.Leads.{Leads};
-ghost use Rattle.ms_moves.specs.Scanned.{trail_of};
-ghost use Rattle.ms_moves.specs.Traces.{trace, Found};
+ghost use Rattle.ms_moves.specs.{Leads.{Leads}, Scanned.{trail_of}, Traces.{trace, Found}};
 ghost use Rattle.ms_moves_laws.specs.ExampleTraces.{unset_moves, neighbour_moves, swapped_moves, hop, neighbour_read, phis_swapped, higher_byte, settled_bits, passed_through, grown_and_moved, root, value, byte, to_value, to_bytes, move as moves};
 
 /// An unset word is loaded, compared and branched on.

@@ -1,21 +1,12 @@
 //! The ways on which poisoned bits came.
 ghost use Rattle.std.specs.Prelude.{◌≡◌, ℕ, false, List, length};
-ghost use Rattle.ms_ir.specs.ThreadCalls.{is_threaded};
-ghost use Rattle.ms_ir.specs.Instructions.{func_index};
-ghost use Rattle.ms_ir.specs.declared.syntax.Module.{Module};
-ghost use Rattle.ms_runs.specs.declared.runs.Setup.{Setup};
-ghost use Rattle.ms_moves.specs.declared.moves.Move.{Move as AMove};
-ghost use Rattle.ms_moves.specs.declared.moves.Source.{Source as ASource};
-ghost use Rattle.ms_runs.specs.declared.runs.End.TheVariants as end_of;
-ghost use Rattle.ms_runs.specs.World.{Setting};
-ghost use Rattle.ms_runs.specs.Plain.{More};
-ghost use Rattle.ms_runs.specs.Masks.{by_completions};
+ghost use Rattle.ms_ir.specs.{ThreadCalls.{is_threaded}, Instructions.{func_index}, declared.syntax.Module.{Module}};
+ghost use Rattle.ms_runs.specs.{declared.runs.Setup.{Setup}, World.{Setting}, Plain.{More}, Masks.{by_completions}};
 ghost use Rattle.ms_runs.specs.Shadow.{ShadowState, shadow, shadow_step};
-ghost use Rattle.ms_moves.specs.Events.{Numbers};
-ghost use Rattle.ms_moves.specs.Traces.{trace, Found};
-ghost use Rattle.ms_moves.specs.Scanned.{Ascending};
-ghost use Rattle.ms_moves_laws.specs.Complete.{IsComplete};
-ghost use Rattle.ms_moves_laws.specs.FromReached.{FromReached};
+ghost use Rattle.ms_moves.specs.{declared.moves.Move.{Move as AMove}, declared.moves.Source.{Source as ASource}};
+ghost use Rattle.ms_moves.specs.{Events.{Numbers}, Traces.{trace, Found}, Scanned.{Ascending}};
+ghost use Rattle.ms_runs.specs.declared.runs.End.TheVariants as end_of;
+ghost use Rattle.ms_moves_laws.specs.{Complete.{IsComplete}, FromReached.{FromReached}};
 ghost use Rattle.ms_good_laws.specs.Fills.{to_first_report};
 
 /// Where a run has a report, a way over its moves leads from a root that the run has reached to what the report's use reads.

@@ -2,10 +2,8 @@
 ghost use Rattle.std.specs.Prelude.{◌≡◌, ◌+◌, ◌++◌, [], ◌∷◌, ◌<◌, ◌≤◌, ◌^◌, All, length, IfOk, OnOk};
 ghost use Rattle.ms_ir.specs.Instructions.{over_blocks};
 ghost use Rattle.ms_valid.specs.Formed.{count_written};
-ghost use Rattle.ms_rules.specs.Scopes.{env_of, given_of};
-ghost use Rattle.ms_rules.specs.Taken.{IsTaken};
-ghost use Rattle.ms_pass.specs.Counted.{here_of, past_insts, past_blocks, AreSmall};
-ghost use Rattle.ms_pass.specs.Passed.{with_insts, with_blocks};
+ghost use Rattle.ms_rules.specs.{Scopes.{env_of, given_of}, Taken.{IsTaken}};
+ghost use Rattle.ms_pass.specs.{Counted.{here_of, past_insts, past_blocks, AreSmall}, Passed.{with_insts, with_blocks}};
 
 use crate::counts::Counts;
 use crate::insts::push_insts;

@@ -1,6 +1,5 @@
 //! How many sites and roots stand before a place in a module.
-ghost use Rattle.std.specs.Prelude.{◌≡◌, map, length, IfOk};
-ghost use Rattle.std.specs.List.{range_with_len};
+ghost use Rattle.std.specs.{Prelude.{◌≡◌, map, length, IfOk}, List.{range_with_len}};
 ghost use Rattle.ms_tables.specs.FirstPlace.{first_place};
 ghost use Rattle.ms_pass.specs.Counted.{past_inst, past_insts, past_blocks, past_funcs, AreSmall};
 ghost use Rattle.ms_pass.specs.Passed.{before_func, no_counts};

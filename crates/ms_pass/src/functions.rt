@@ -1,14 +1,11 @@
 //! The functions of a module.
-ghost use Rattle.std.specs.Prelude.{◌≡◌, ◌≤◌, ◌^◌, All, length, map, IfOk};
-ghost use Rattle.std.specs.List.{range_with_len};
+ghost use Rattle.std.specs.{Prelude.{◌≡◌, ◌≤◌, ◌^◌, All, length, map, IfOk}, List.{range_with_len}};
 ghost use Rattle.ms_ir.specs.Names.{name_eq, main_name};
 ghost use Rattle.ms_tables.specs.FirstPlace.{first_place};
-ghost use Rattle.ms_rules.specs.Scopes.{env_of};
-ghost use Rattle.ms_rules.specs.Valued.{value_names};
+ghost use Rattle.ms_rules.specs.{Scopes.{env_of}, Valued.{value_names}};
 ghost use Rattle.ms_pass.specs.Counted.{here_of, past_blocks, past_funcs, AreSmall};
 ghost use Rattle.ms_pass.specs.Passed.{entry, first_number, func_made, given_by, names_in, no_counts, passed_func};
-ghost use Rattle.ms_pass.specs.Ready.{IsReady};
-ghost use Rattle.ms_pass.specs.Pieces.{CanPass};
+ghost use Rattle.ms_pass.specs.{Ready.{IsReady}, Pieces.{CanPass}};
 
 use crate::blocks::passed_blocks;
 use crate::counts::{Counts, counts_before};

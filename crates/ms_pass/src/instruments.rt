@@ -1,16 +1,11 @@
 //! The instrumented form of a module.
 ghost use Rattle.std.specs.Prelude.{◌≡◌, false, IfOk};
-ghost use Rattle.ms_ir.specs.ThreadCalls.{is_threaded};
-ghost use Rattle.ms_ir.specs.Instructions.{strip};
-ghost use Rattle.ms_runs.specs.declared.runs.Setup.{Setup as SetupOf};
-ghost use Rattle.ms_runs.specs.Faithful.{Fair, Faithful, Undisturbed};
+ghost use Rattle.ms_ir.specs.{ThreadCalls.{is_threaded}, Instructions.{strip}};
+ghost use Rattle.ms_runs.specs.{declared.runs.Setup.{Setup as SetupOf}, Faithful.{Fair, Faithful, Undisturbed}};
 ghost use Rattle.ms_runs.specs.Plain.{plain};
-ghost use Rattle.ms_valid.specs.Formed.{Formed};
-ghost use Rattle.ms_valid.specs.Uninstrumented.{CanInstrument};
-ghost use Rattle.ms_valid.specs.Valid.{Valid};
+ghost use Rattle.ms_valid.specs.{Formed.{Formed}, Uninstrumented.{CanInstrument}, Valid.{Valid}};
 ghost use Rattle.ms_good_laws.specs.Fills.{InsertedUnderFills};
-ghost use Rattle.ms_fills_laws.specs.Checked.{HoldsUnderFills};
-ghost use Rattle.ms_fills_laws.specs.Chosen.{HoldsUnderChoices};
+ghost use Rattle.ms_fills_laws.specs.{Checked.{HoldsUnderFills}, Chosen.{HoldsUnderChoices}};
 ghost use Rattle.ms_elide_laws.specs.Elided.{IsElided, ChecksUnclean};
 ghost use Rattle.ms_pass.specs.Passed.{IsMadeOf};
 

@@ -1,10 +1,7 @@
 //! The instructions of a block.
 ghost use Rattle.std.specs.Prelude.{◌≡◌, ◌<◌, ◌≤◌, ◌^◌, All, length, OnOk};
-ghost use Rattle.ms_rules.specs.Placed.{with_inst};
-ghost use Rattle.ms_rules.specs.Scopes.{env_of, given_of};
-ghost use Rattle.ms_rules.specs.Taken.{IsTaken};
-ghost use Rattle.ms_pass.specs.Counted.{here_of, past_inst, past_insts, AreSmall};
-ghost use Rattle.ms_pass.specs.Passed.{with_insts};
+ghost use Rattle.ms_rules.specs.{Placed.{with_inst}, Scopes.{env_of, given_of}, Taken.{IsTaken}};
+ghost use Rattle.ms_pass.specs.{Counted.{here_of, past_inst, past_insts, AreSmall}, Passed.{with_insts}};
 
 use crate::counts::Counts;
 use ms_bits::NoMemory;

@@ -1,11 +1,8 @@
 //! The instrumented form of a module, from its parts.
-ghost use Rattle.std.specs.Prelude.{◌≡◌, ◌++◌, All, length, map, IfOk};
-ghost use Rattle.std.specs.List.{range_with_len};
-ghost use Rattle.ms_ir.specs.Locals.{function_names};
-ghost use Rattle.ms_ir.specs.Signatures.{slot_globals, runtime_declarations};
+ghost use Rattle.std.specs.{Prelude.{◌≡◌, ◌++◌, All, length, map, IfOk}, List.{range_with_len}};
+ghost use Rattle.ms_ir.specs.{Locals.{function_names}, Signatures.{slot_globals, runtime_declarations}};
 ghost use Rattle.ms_tables.specs.FirstPlace.{first_place};
-ghost use Rattle.ms_pass.specs.Counted.{past_funcs, AreSmall};
-ghost use Rattle.ms_pass.specs.Passed.{inst, no_counts, passed_module};
+ghost use Rattle.ms_pass.specs.{Counted.{past_funcs, AreSmall}, Passed.{inst, no_counts, passed_module}};
 ghost use Rattle.ms_pass.specs.Ready.{IsReady};
 
 use crate::functions::passed_funcs;

@@ -1,11 +1,8 @@
 //! Runs of instrumented modules, computed by the check. The reports are worked out by hand from the rules of masks and
 //! origins.
 ghost use Rattle.std.specs.Prelude.{◌≡◌, [], ◌∷◌};
-ghost use Rattle.ms_runs.specs.Plain.{plain};
-ghost use Rattle.ms_runs.specs.Masks.{by_formulas};
-ghost use Rattle.ms_runs.specs.Shadow.{shadow_by};
-ghost use Rattle.ms_pass_laws.specs.Pass.{pass};
-ghost use Rattle.ms_pass_laws.specs.Numbers.{numbering};
+ghost use Rattle.ms_runs.specs.{Plain.{plain}, Masks.{by_formulas}, Shadow.{shadow_by}};
+ghost use Rattle.ms_pass_laws.specs.{Pass.{pass}, Numbers.{numbering}};
 ghost use Rattle.ms_pass_laws.specs.Examples.{branching, calling, five_reports, told};
 
 /// A comparison of an undefined byte decides bit 2 of what is selected, which is shifted to bit 3, goes through a phi and

@@ -1,16 +1,9 @@
 //! Laws about whole instrumented modules.
 ghost use Rattle.std.specs.Prelude.{◌≡◌, ℕ};
-ghost use Rattle.ms_ir.specs.declared.syntax.Module.{Module};
-ghost use Rattle.ms_ir.specs.Instructions.{strip};
-ghost use Rattle.ms_runs.specs.declared.runs.Setup.{Setup};
-ghost use Rattle.ms_runs.specs.Faithful.{Faithful};
-ghost use Rattle.ms_runs.specs.Plain.{setting_of};
-ghost use Rattle.ms_valid.specs.Formed.{Formed};
-ghost use Rattle.ms_valid.specs.Uninstrumented.{CanInstrument};
-ghost use Rattle.ms_valid.specs.Valid.{Valid};
-ghost use Rattle.ms_pass_laws.specs.Pass.{Numbering, pass};
-ghost use Rattle.ms_pass_laws.specs.Numbers.{numbering};
-ghost use Rattle.ms_pass_laws.specs.Known.{KnownModule, IsTaken};
+ghost use Rattle.ms_ir.specs.{declared.syntax.Module.{Module}, Instructions.{strip}};
+ghost use Rattle.ms_runs.specs.{declared.runs.Setup.{Setup}, Faithful.{Faithful}, Plain.{setting_of}};
+ghost use Rattle.ms_valid.specs.{Formed.{Formed}, Uninstrumented.{CanInstrument}, Valid.{Valid}};
+ghost use Rattle.ms_pass_laws.specs.{Pass.{Numbering, pass}, Numbers.{numbering}, Known.{KnownModule, IsTaken}};
 
 /// Without its marked instructions, reserved globals and reserved declarations the instrumented form is what the module
 /// itself is without its own: the module, where it can be instrumented.

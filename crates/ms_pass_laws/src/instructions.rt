@@ -1,10 +1,7 @@
 //! Laws about single instructions that rest on laws of whole runs.
 ghost use Rattle.std.specs.Prelude.{◌≡◌};
-ghost use Rattle.ms_ir.specs.declared.syntax.Name.{Name};
-ghost use Rattle.ms_ir.specs.declared.syntax.Inst.{Inst};
-ghost use Rattle.ms_runs.specs.World.{Setting, Here};
-ghost use Rattle.ms_runs.specs.Poisoned.{Poisoned};
-ghost use Rattle.ms_runs.specs.Masks.{by_completions, by_formulas};
+ghost use Rattle.ms_ir.specs.{declared.syntax.Name.{Name}, declared.syntax.Inst.{Inst}};
+ghost use Rattle.ms_runs.specs.{World.{Setting, Here}, Poisoned.{Poisoned}, Masks.{by_completions, by_formulas}};
 ghost use Rattle.ms_runs.specs.Shadow.{poisoned_result};
 ghost use Rattle.ms_tasks.specs.InstructionLaw.{words_at};
 

@@ -1,18 +1,13 @@
 //! Laws about steps and runs of an instrumented module beside the shadow run of the module.
 ghost use Rattle.std.specs.Prelude.{◌≡◌, ℕ, [], unwrap_or};
-ghost use Rattle.ms_ir.specs.declared.syntax.Module.{Module};
-ghost use Rattle.ms_ir.specs.Names.{main_name};
-ghost use Rattle.ms_ir.specs.Instructions.{func_index, strip};
-ghost use Rattle.ms_runs.specs.declared.runs.Setup.{Setup};
-ghost use Rattle.ms_runs.specs.World.{Setting};
-ghost use Rattle.ms_runs.specs.Control.{params_at};
+ghost use Rattle.ms_ir.specs.{declared.syntax.Module.{Module}, Names.{main_name}, Instructions.{func_index, strip}};
+ghost use Rattle.ms_runs.specs.{declared.runs.Setup.{Setup}, World.{Setting}, Control.{params_at}};
 ghost use Rattle.ms_runs.specs.Masks.{by_completions, by_formulas};
 ghost use Rattle.ms_runs.specs.Plain.{PlainState, More, plain_start, plain_step, run, setting_of};
 ghost use Rattle.ms_runs.specs.Shadow.{ShadowState, shadow_start, shadow_step};
 ghost use Rattle.ms_valid.specs.Valid.{Valid};
 ghost use Rattle.ms_good_laws.specs.GoodRuns.{SoundShadow};
-ghost use Rattle.ms_pass_laws.specs.Pass.{Numbering, pass};
-ghost use Rattle.ms_pass_laws.specs.Law.{Follows, Steps, Sound, Ranged};
+ghost use Rattle.ms_pass_laws.specs.{Pass.{Numbering, pass}, Law.{Follows, Steps, Sound, Ranged}};
 ghost use Rattle.ms_pass_laws.specs.Known.{KnownModule, ApartFrames, CleanRun};
 
 /// The law of a step: from a state of the instrumented module that follows a state of the shadow run, a step of both

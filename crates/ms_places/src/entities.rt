@@ -1,13 +1,11 @@
 //! The marks of a whole text.
 
 ghost use Rattle.std.specs.Prelude.{◌≡◌, ◌≤◌, ◌<◌, ◌^◌, IfErr, IfOk, IsErr, Ok, true, length};
-ghost use Rattle.ms_lex.specs.Grammar.{Ends, done, loop, tail};
-ghost use Rattle.ms_lex.specs.Tokens.{InOrder};
+ghost use Rattle.ms_lex.specs.{Grammar.{Ends, done, loop, tail}, Tokens.{InOrder}};
 ghost use Rattle.ms_ir.specs.declared.syntax.Module.{Module as Found};
-ghost use Rattle.ms_text_grammar.specs.Bodies.{max_instructions};
+ghost use Rattle.ms_text_grammar.specs.{Bodies.{max_instructions}, Texts.{HasTokens, Reads}};
 ghost use Rattle.ms_text_grammar.specs.Functions as functions;
 ghost use Rattle.ms_text_grammar.specs.Modules as modules;
-ghost use Rattle.ms_text_grammar.specs.Texts.{HasTokens, Reads};
 ghost use Rattle.ms_read_cursor.specs.Reading.{Judges, front, run};
 ghost use Rattle.ms_places.specs.Failures.{OnlyMemory};
 ghost use Rattle.ms_places.specs.Marks as spec;

@@ -1,13 +1,9 @@
 //! What holds of the marks of a text.
 
-ghost use Rattle.std.specs.Prelude.{◌≡◌, List};
-ghost use Rattle.std.specs.List.{AllZip};
+ghost use Rattle.std.specs.{Prelude.{◌≡◌, List}, List.{AllZip}};
 ghost use Rattle.ms_lex.specs.declared.kinds.Token.{Token as Taken};
-ghost use Rattle.ms_ir.specs.declared.forms.Form.{Form as TextForm};
-ghost use Rattle.ms_ir.specs.declared.syntax.Module.{Module as Found};
-ghost use Rattle.ms_text_grammar.specs.Bounds.{instructions_among};
-ghost use Rattle.ms_text_grammar.specs.Lexemes.{lexemes_of};
-ghost use Rattle.ms_text_grammar.specs.Texts.{HasTokens, Reads};
+ghost use Rattle.ms_ir.specs.{declared.forms.Form.{Form as TextForm}, declared.syntax.Module.{Module as Found}};
+ghost use Rattle.ms_text_grammar.specs.{Bounds.{instructions_among}, Lexemes.{lexemes_of}, Texts.{HasTokens, Reads}};
 ghost use Rattle.ms_places.specs.declared.marks.Mark.{Mark as TextMark};
 ghost use Rattle.ms_places.specs.Instructions.{IsLineOf, instruction_marks, instructions_in, module_insts};
 ghost use Rattle.ms_places.specs.Marks.{AreMarks};

@@ -1,7 +1,6 @@
 //! The bytes of one block, or its shadow bytes: numbers, fills, copies and searches in them.
 ghost use Rattle.std.specs.Prelude.{◌≡◌, ◌≢◌, ◌≤◌, ◌<◌, ◌+◌, ◌^◌, ℕ, length, set, IfNone, IfSome, IsTrue};
-ghost use Rattle.ms_bits.specs.Fill.{made_byte};
-ghost use Rattle.ms_bits.specs.Maps.{with_range, byte_of, number_at};
+ghost use Rattle.ms_bits.specs.{Fill.{made_byte}, Maps.{with_range, byte_of, number_at}};
 ghost use Rattle.ms_raw.specs.Blocks.{IsLists};
 ghost use Rattle.ms_planes.specs.Areas.{held};
 ghost use Rattle.ms_planes.specs.Blocks.{bytes_in, with_four, with_eight, KeepsOthers, IsFilled, IsFilledInto};

@@ -2,8 +2,7 @@
 ghost use Rattle.std.specs.Prelude.{◌≡◌, ◌≢◌, ◌≤◌, ◌<◌, ◌+◌, ◌/◌, Some, None, IsTrue, IsErr, ◌↔◌, OnOk, OnErr, IfOk, IsErrOf, option_map, eqb, length, get_or, if◌then◌else◌, [], option_copied, MatchOption, true, false};
 ghost use Rattle.ms_bits.specs.Fill.{made_byte};
 ghost use Rattle.ms_bits.specs.Maps.{with_range, byte_of, number_at, first_nonzero, copied, with_cells, with_cell, copied_cells};
-ghost use Rattle.ms_alloc.specs.declared.kinds.AllocKind.TheVariants.{Stack};
-ghost use Rattle.ms_alloc.specs.Layout.{room, area_limit};
+ghost use Rattle.ms_alloc.specs.{declared.kinds.AllocKind.TheVariants.{Stack}, Layout.{room, area_limit}};
 ghost use Rattle.ms_alloc.specs.Allocations.{no_allocations, next_base, used, of_kind, with_made, with_ended, without_from, is_good, block_of, heap_size, IsLaidOut};
 ghost use Rattle.ms_planes.specs.Memory.{area_index as index_of};
 
@@ -76,8 +75,8 @@ impl fmt::Debug for Planes {
 
 impl Planes {
     ghost use Rattle.ms_planes.specs.Memory.{bytes_of, shadow_of, origins_of, part_of, area_index, IsSame, KeepsLive, MapsCopied};
-    ghost use Rattle.ms_alloc.specs.Places.{IsPlace};
     ghost use Rattle.ms_planes.specs.Blocks.{other};
+    ghost use Rattle.ms_alloc.specs.Places.{IsPlace};
 
     /// No allocations. Takes no memory yet.
     pub fn new(alloc: Global) -> Planes

@@ -1,18 +1,11 @@
 //! The answer to a call of `printf`.
-ghost use Rattle.std.specs.Prelude.{◌≡◌, map, Some, get_or, IfOk};
-ghost use Rattle.std.specs.Option.{option_copied};
-ghost use Rattle.ms_ir.specs.declared.syntax.Inst.{Inst as InstOf};
-ghost use Rattle.ms_ir.specs.declared.syntax.Op.{Op as OpOf};
-ghost use Rattle.ms_ir.specs.declared.places.Place.{Place as PlaceOf};
-ghost use Rattle.ms_ir.specs.Instructions.{operands};
+ghost use Rattle.std.specs.{Prelude.{◌≡◌, map, Some, get_or, IfOk}, Option.{option_copied}};
+ghost use Rattle.ms_ir.specs.{declared.syntax.Inst.{Inst as InstOf}, declared.syntax.Op.{Op as OpOf}};
+ghost use Rattle.ms_ir.specs.{declared.places.Place.{Place as PlaceOf}, Instructions.{operands}};
 ghost use Rattle.ms_ir.specs.Places.{HasSmallNumbers, IsPlaceOf, inst_at};
-ghost use Rattle.ms_runs.specs.World.{World as Meant};
-ghost use Rattle.ms_runs.specs.Externals.{formatted, prints};
-ghost use Rattle.ms_host.specs.State.{Beside, Keeps};
-ghost use Rattle.ms_host.specs.Shows.{Shows};
-ghost use Rattle.ms_host.specs.Answers.{Answered};
-ghost use Rattle.ms_printf.specs.CallSites.{AreCallSites};
-ghost use Rattle.ms_printf.specs.Walks.{types_of};
+ghost use Rattle.ms_runs.specs.{World.{World as Meant}, Externals.{formatted, prints}};
+ghost use Rattle.ms_host.specs.{State.{Beside, Keeps}, Shows.{Shows}, Answers.{Answered}};
+ghost use Rattle.ms_printf.specs.{CallSites.{AreCallSites}, Walks.{types_of}};
 
 use crate::arguments::op_at;
 use crate::printing::{measured, print_rest};

@@ -1,10 +1,7 @@
 //! The arguments of a call, with the types that its instruction has.
-ghost use Rattle.std.specs.Prelude.{◌≡◌, Some, option_map, slice_get, drop, zip};
-ghost use Rattle.std.specs.Option.{option_copied};
-ghost use Rattle.ms_ir.specs.declared.syntax.Inst.{Inst as InstOf};
-ghost use Rattle.ms_ir.specs.declared.places.Place.{Place as PlaceOf};
-ghost use Rattle.ms_ir.specs.Instructions.{insts_at};
-ghost use Rattle.ms_ir.specs.Places.{HasSmallNumbers, IsPlaceOf, inst_at};
+ghost use Rattle.std.specs.{Prelude.{◌≡◌, Some, option_map, slice_get, drop, zip}, Option.{option_copied}};
+ghost use Rattle.ms_ir.specs.{declared.syntax.Inst.{Inst as InstOf}, declared.places.Place.{Place as PlaceOf}};
+ghost use Rattle.ms_ir.specs.{Instructions.{insts_at}, Places.{HasSmallNumbers, IsPlaceOf, inst_at}};
 ghost use Rattle.ms_printf.specs.Walks.{types_of, given};
 
 use ms_ir::{Inst, Module, Op, ValueType, place_of};

@@ -1,11 +1,8 @@
 //! Which arguments a format asks for as strings.
 ghost use Rattle.std.specs.Prelude.{◌≡◌, ◌<◌, ◌-◌};
 ghost use Rattle.ms_bits.specs.Maps.{bytes_at};
-ghost use Rattle.ms_runs.specs.World.{World as Meant};
-ghost use Rattle.ms_runs.specs.Formats.{asks_string as asks};
-ghost use Rattle.ms_runs.specs.Origins.{asks_string_at};
-ghost use Rattle.ms_host.specs.State.{Beside};
-ghost use Rattle.ms_host.specs.Shows.{Shows};
+ghost use Rattle.ms_runs.specs.{World.{World as Meant}, Formats.{asks_string as asks}, Origins.{asks_string_at}};
+ghost use Rattle.ms_host.specs.{State.{Beside}, Shows.{Shows}};
 ghost use Rattle.ms_printf.specs.Walks.{IsRest, asks_for_string, arguments_taken};
 
 use crate::parts::{Part, part_at};

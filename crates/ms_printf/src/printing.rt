@@ -1,10 +1,8 @@
 //! The two walks of a call: what the format comes to is measured first, and printed where it fits.
 ghost use Rattle.std.specs.Prelude.{◌≡◌, ◌++◌, ℕ, List, Result, Ok, IfOk, OnOk};
 ghost use Rattle.ms_bits.specs.declared.traps.Trap.{Trap as TrapOf};
-ghost use Rattle.ms_runs.specs.World.{World as Meant};
-ghost use Rattle.ms_runs.specs.Formats.{both_shown};
-ghost use Rattle.ms_host.specs.State.{Beside, Keeps};
-ghost use Rattle.ms_host.specs.Shows.{Shows};
+ghost use Rattle.ms_runs.specs.{World.{World as Meant}, Formats.{both_shown}};
+ghost use Rattle.ms_host.specs.{State.{Beside, Keeps}, Shows.{Shows}};
 ghost use Rattle.ms_printf.specs.Walks.{types_of, shown_of, rest_shown, IsWalk, IsReadable, Measures};
 
 use crate::shown::{Fault, Shown};

@@ -1,13 +1,10 @@
 //! What the parts of a format come to with their arguments.
 ghost use Rattle.std.specs.Prelude.{◌≡◌, true, option_map, IfOk};
-ghost use Rattle.ms_runs.specs.World.{World as Meant};
-ghost use Rattle.ms_runs.specs.Externals.{string_at};
+ghost use Rattle.ms_runs.specs.{World.{World as Meant}, Externals.{string_at}};
 ghost use Rattle.ms_runs.specs.Formats.{argument_type, takes_argument, piece_text, shown};
 ghost use Rattle.ms_runs.specs.declared.formats.Piece.TheVariants as piece;
-ghost use Rattle.ms_ir.specs.Equal.{type_eq};
-ghost use Rattle.ms_ir.specs.ValueTypes.{type_of};
-ghost use Rattle.ms_host.specs.State.{Beside};
-ghost use Rattle.ms_host.specs.Shows.{Shows};
+ghost use Rattle.ms_ir.specs.{Equal.{type_eq}, ValueTypes.{type_of}};
+ghost use Rattle.ms_host.specs.{State.{Beside}, Shows.{Shows}};
 ghost use Rattle.ms_printf.specs.Walks.{given, shown_of, trap_of, IsReadable};
 
 use crate::arguments::Argument;

@@ -1,8 +1,6 @@
 //! The calls of `printf` in a module, found once, so that a call in a run needs no walk over the module.
-ghost use Rattle.std.specs.Prelude.{◌≡◌, ◌+◌, ◌<◌, ◌^◌, Some, false, IfOk, IfSome, Contains};
-ghost use Rattle.std.specs.Option.{option_copied};
-ghost use Rattle.ms_ir.specs.declared.syntax.Module.{Module as ModuleOf};
-ghost use Rattle.ms_ir.specs.declared.syntax.Inst.{Inst as InstOf};
+ghost use Rattle.std.specs.{Prelude.{◌≡◌, ◌+◌, ◌<◌, ◌^◌, Some, false, IfOk, IfSome, Contains}, Option.{option_copied}};
+ghost use Rattle.ms_ir.specs.{declared.syntax.Module.{Module as ModuleOf}, declared.syntax.Inst.{Inst as InstOf}};
 ghost use Rattle.ms_ir.specs.declared.places.Place.{Place as PlaceOf};
 ghost use Rattle.ms_ir.specs.Instructions.{blocks_at, insts_at, one_unmarked, over_insts, over_blocks, over_funcs, site_at};
 ghost use Rattle.ms_ir.specs.Places.{HasSmallNumbers, IsPlaceOf, inst_at};

@@ -1,8 +1,7 @@
 //! Walks along a format that stands in memory. Nothing of the format is copied.
 ghost use Rattle.std.specs.Prelude.{◌≡◌, ◌<◌, IfOk, IfSome};
 ghost use Rattle.ms_runs.specs.World.{World as Meant};
-ghost use Rattle.ms_host.specs.State.{Beside};
-ghost use Rattle.ms_host.specs.Shows.{Shows};
+ghost use Rattle.ms_host.specs.{State.{Beside}, Shows.{Shows}};
 ghost use Rattle.ms_printf.specs.Walks.{types_of, IsWalk, IsReadable, GoesOn};
 
 use crate::arguments::argument_at;

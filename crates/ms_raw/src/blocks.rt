@@ -1,7 +1,6 @@
 //! Blocks. Nothing here has a pointer: the parts of a block have them.
 ghost use Rattle.std.specs.Prelude.{◌≡◌, ◌≤◌, ◌<◌, ◌+◌, ◌^◌, ◌%◌, length, get_or, set, IfOk};
-ghost use Rattle.ms_raw.specs.Blocks.{blank, distance, cells};
-ghost use Rattle.ms_raw.specs.Copies.{copied, copied_cells};
+ghost use Rattle.ms_raw.specs.{Blocks.{blank, distance, cells}, Copies.{copied, copied_cells}};
 
 use crate::bytes::Bytes;
 use crate::cells::Cells;

@@ -1,7 +1,6 @@
 //! A row of bytes behind a pointer. A row is filled from its first place on, so raw memory is never read before it is written.
 ghost use Rattle.std.specs.Prelude.{replicate, ◌≡◌, ◌≤◌, ◌<◌, ◌^◌, ◌∷◌, [], ◌++◌, ◌*◌, ◌+◌, ℕ, List, length, get_or, set};
-ghost use Rattle.ms_raw.specs.Copies.{copied};
-ghost use Rattle.ms_raw.specs.Ownership.{bytes_own, bytes_lent, IsSize};
+ghost use Rattle.ms_raw.specs.{Copies.{copied}, Ownership.{bytes_own, bytes_lent, IsSize}};
 
 use crate::memory::Memory;
 use std::marker::Model;

@@ -1,7 +1,6 @@
 //! A row of origins behind a pointer, one for each cell of four bytes.
 ghost use Rattle.std.specs.Prelude.{replicate, ◌≡◌, ◌≤◌, ◌<◌, ◌^◌, ◌∷◌, [], ◌++◌, ◌*◌, ◌+◌, ℕ, List, length, get_or, set};
-ghost use Rattle.ms_raw.specs.Copies.{copied_cells, origin_after};
-ghost use Rattle.ms_raw.specs.Ownership.{words_own, words_lent, IsSize};
+ghost use Rattle.ms_raw.specs.{Copies.{copied_cells, origin_after}, Ownership.{words_own, words_lent, IsSize}};
 
 use crate::bytes::Bytes;
 use crate::memory::Memory;

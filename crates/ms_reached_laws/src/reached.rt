@@ -1,17 +1,11 @@
 //! Poisoned bits come from what a run has reached.
 ghost use Rattle.std.specs.Prelude.{◌≡◌, ℕ, Some, option_map, false};
-ghost use Rattle.ms_ir.specs.ThreadCalls.{is_threaded};
-ghost use Rattle.ms_ir.specs.declared.syntax.Module.{Module};
-ghost use Rattle.ms_runs.specs.declared.runs.Setup.{Setup};
-ghost use Rattle.ms_ir.specs.Instructions.{site_at, NoMarks};
-ghost use Rattle.ms_runs.specs.Masks.{Rules, by_completions};
-ghost use Rattle.ms_ir.specs.Roots.{root_numbered};
-ghost use Rattle.ms_runs.specs.Shadow.{ShadowState};
-ghost use Rattle.ms_valid.specs.Formed.{Formed};
+ghost use Rattle.ms_ir.specs.{ThreadCalls.{is_threaded}, declared.syntax.Module.{Module}};
+ghost use Rattle.ms_ir.specs.{Instructions.{site_at, NoMarks}, Roots.{root_numbered}};
+ghost use Rattle.ms_runs.specs.{declared.runs.Setup.{Setup}, Masks.{Rules, by_completions}, Shadow.{ShadowState}};
+ghost use Rattle.ms_valid.specs.{Formed.{Formed}, Valid.{Valid}};
 ghost use Rattle.ms_good_laws.specs.Reached.{FromReached, IsOperand, IsItself, IsEdge, due_site};
-ghost use Rattle.ms_valid.specs.Valid.{Valid};
-ghost use Rattle.ms_good_laws.specs.GoodRules.{KeepWidths};
-ghost use Rattle.ms_good_laws.specs.GoodWorlds.{GivesBytes};
+ghost use Rattle.ms_good_laws.specs.{GoodRules.{KeepWidths}, GoodWorlds.{GivesBytes}};
 ghost use Rattle.ms_clean_laws.specs.KeepClean.{KeepClean};
 
 /// In every state of a shadow run of a formed and valid module without marks, and at its end, the origin of each word with a

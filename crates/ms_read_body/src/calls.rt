@@ -2,11 +2,10 @@
 
 ghost use Rattle.std.specs.Prelude.{◌≡◌, ◌≤◌, ◌<◌, ◌^◌, length};
 ghost use Rattle.ms_text_grammar.specs.Skipped.{attributes as attributes_piece};
-ghost use Rattle.ms_text_grammar.specs.Types.{max_depth, type_to as type_piece};
-ghost use Rattle.ms_text_grammar.specs.Values.{value as value_piece};
+ghost use Rattle.ms_text_grammar.specs.{Types.{max_depth, type_to as type_piece}, Values.{value as value_piece}};
+ghost use Rattle.ms_text_grammar.specs.Texts.{place_in};
 ghost use Rattle.ms_read_cursor.specs.Reading.{Gives, run};
 ghost use Rattle.ms_read_body.specs.Calls as spec;
-ghost use Rattle.ms_text_grammar.specs.Texts.{place_in};
 ghost use Rattle.ms_read_body.specs.Calls.{AreTokens, ReadsExactly, definition, with_nothing};
 
 use crate::errors::{ReadError, error_at};

@@ -5,8 +5,7 @@ ghost use Rattle.ms_text_grammar.specs.Bodies as bodies;
 ghost use Rattle.ms_text_grammar.specs.Lines as spec;
 ghost use Rattle.ms_read_cursor.specs.Reading.{Gives, Judges, Leaves, run};
 ghost use Rattle.ms_read_body.specs.Beginnings as beginnings;
-ghost use Rattle.ms_read_body.specs.Closing.{closed as closed_piece};
-ghost use Rattle.ms_read_body.specs.Room.{HasRoom};
+ghost use Rattle.ms_read_body.specs.{Closing.{closed as closed_piece}, Room.{HasRoom}};
 
 use crate::instructions::instruction;
 use crate::line_starts::{begins_instruction, line_begins};
@@ -170,8 +169,7 @@ struct EachLine {
 impl Turn for EachLine {
     type State = Body;
 
-    ghost use Rattle.ms_text_grammar.specs.Bodies.{line_begins};
-    ghost use Rattle.ms_text_grammar.specs.Lines.{line};
+    ghost use Rattle.ms_text_grammar.specs.{Bodies.{line_begins}, Lines.{line}};
 
     ghost begins = { λ rule. line_begins rule.form };
 

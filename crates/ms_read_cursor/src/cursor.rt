@@ -1,13 +1,11 @@
 //! A cursor over the tokens of a text.
 
 ghost use Rattle.std.specs.Prelude.{◌≡◌, ◌≢◌, ◌≤◌, drop, length};
-ghost use Rattle.ms_lex.specs.Grammar.{tail};
-ghost use Rattle.ms_lex.specs.Tokens.{InOrder};
+ghost use Rattle.ms_lex.specs.{Grammar.{tail}, Tokens.{InOrder}};
 ghost use Rattle.ms_text_grammar.specs.Lexemes.{lexemes_of};
 ghost use Rattle.ms_text_grammar.specs.Lexemes as lexemes;
 ghost use Rattle.ms_text_grammar.specs.Steps as spec;
-ghost use Rattle.ms_read_cursor.specs.Reading.{Gives, front, run};
-ghost use Rattle.ms_read_cursor.specs.Places.{LieIn};
+ghost use Rattle.ms_read_cursor.specs.{Reading.{Gives, front, run}, Places.{LieIn}};
 
 use crate::lexemes::Lexeme;
 use crate::symbols::{same_symbol, symbol_of};

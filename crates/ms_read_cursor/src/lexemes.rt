@@ -1,8 +1,7 @@
 //! A token of a text as the grammar sees it.
 
 ghost use Rattle.std.specs.Prelude.{◌≡◌, ◌≢◌, ◌≤◌, ◌^◌, ◌⊎◌, length, drop, IfOk, IfSome, IfNone, true, false};
-ghost use Rattle.ms_lex.specs.Names.{name_part, spelling_of};
-ghost use Rattle.ms_lex.specs.Numbers.{decimal as decimal_of};
+ghost use Rattle.ms_lex.specs.{Names.{name_part, spelling_of}, Numbers.{decimal as decimal_of}};
 ghost use Rattle.ms_read_cursor.specs.Views.{digits_of};
 ghost use Rattle.ms_text_grammar.specs.Lexemes as spec;
 ghost use Rattle.ms_text_grammar.specs.Steps as steps;

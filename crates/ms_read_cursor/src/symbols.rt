@@ -1,7 +1,6 @@
 //! The symbol that a token is to the grammar.
 
-ghost use Rattle.std.specs.Prelude.{◌≡◌, ◌≢◌, true, false, take, codes};
-ghost use Rattle.std.specs.Str.{bytes_eq};
+ghost use Rattle.std.specs.{Prelude.{◌≡◌, ◌≢◌, true, false, take, codes}, Str.{bytes_eq}};
 ghost use Rattle.ms_lex.specs.Numbers as numbers;
 ghost use Rattle.ms_text_grammar.specs.Lexemes.{symbol_in};
 ghost use Rattle.ms_text_grammar.specs.Lexemes as spec;

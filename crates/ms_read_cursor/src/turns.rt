@@ -15,8 +15,7 @@ pub trait Turn {
     type State: Drop;
 
     ghost use Rattle.std.specs.Prelude.{Bool, Ok, true};
-    ghost use Rattle.ms_text_grammar.specs.Lexemes.{Lexeme as Seen};
-    ghost use Rattle.ms_text_grammar.specs.Steps.{Rule as Piece, Verdict};
+    ghost use Rattle.ms_text_grammar.specs.{Lexemes.{Lexeme as Seen}, Steps.{Rule as Piece, Verdict}};
     ghost use Rattle.ms_read_cursor.specs.Reading.{Gives, Judges, run};
 
     ghost begins: { Self → Self.State → Seen → Verdict Bool };

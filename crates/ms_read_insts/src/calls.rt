@@ -1,8 +1,7 @@
 //! Calls (LLVM Language Reference, "'call' Instruction").
 
-ghost use Rattle.std.specs.Prelude.{◌≡◌, IfOk, codes, length};
+ghost use Rattle.std.specs.{Prelude.{◌≡◌, IfOk, codes, length}, Str.{bytes_eq}};
 ghost use Rattle.ms_ir.specs.declared.syntax.Op.TheVariants as operation;
-ghost use Rattle.std.specs.Str.{bytes_eq};
 ghost use Rattle.ms_lex.specs.Grammar.{one};
 ghost use Rattle.ms_text_grammar.specs.Lexemes.{name_in};
 ghost use Rattle.ms_text_grammar.specs.Insts as spec;

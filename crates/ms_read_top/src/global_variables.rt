@@ -2,11 +2,9 @@
 
 ghost use Rattle.std.specs.Prelude.{◌≡◌, IfOk, true};
 ghost use Rattle.ms_lex.specs.Grammar.{give, loop};
-ghost use Rattle.ms_text_grammar.specs.Lexemes.{name_in};
-ghost use Rattle.ms_text_grammar.specs.Modules as spec;
-ghost use Rattle.ms_text_grammar.specs.Steps.{comma_begins};
-ghost use Rattle.ms_text_grammar.specs.Types.{max_depth};
+ghost use Rattle.ms_text_grammar.specs.{Lexemes.{name_in}, Steps.{comma_begins}, Types.{max_depth}};
 ghost use Rattle.ms_text_grammar.specs.Values.{init_to as init_piece};
+ghost use Rattle.ms_text_grammar.specs.Modules as spec;
 ghost use Rattle.ms_read_cursor.specs.Reading.{Gives, Judges, front, run};
 ghost use Rattle.ms_read_top.specs.Globals as globals;
 
@@ -97,8 +95,7 @@ impl Turn for EachSuffix {
     type State = ();
 
     ghost use Rattle.std.specs.Prelude.{◌≡◌, IfOk, true};
-    ghost use Rattle.ms_text_grammar.specs.Modules.{global_suffix};
-    ghost use Rattle.ms_text_grammar.specs.Steps.{comma_begins};
+    ghost use Rattle.ms_text_grammar.specs.{Modules.{global_suffix}, Steps.{comma_begins}};
 
     ghost begins = { λ rule. comma_begins (λ u. true) };
 

@@ -2,9 +2,8 @@
 
 ghost use Rattle.std.specs.Prelude.{◌≡◌, cond};
 ghost use Rattle.ms_lex.specs.Grammar.{done, give, seq};
-ghost use Rattle.ms_text_grammar.specs.declared.symbols.Symbol.TheVariants.{Distinct};
+ghost use Rattle.ms_text_grammar.specs.{declared.symbols.Symbol.TheVariants.{Distinct}, Steps.{sees, skip}};
 ghost use Rattle.ms_text_grammar.specs.Modules as spec;
-ghost use Rattle.ms_text_grammar.specs.Steps.{sees, skip};
 ghost use Rattle.ms_read_cursor.specs.Reading.{Gives, Judges, run};
 
 use ms_ir::Form;

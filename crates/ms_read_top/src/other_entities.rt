@@ -2,10 +2,9 @@
 
 ghost use Rattle.std.specs.Prelude.{◌≡◌, ◌≢◌, IfOk, Ok, true};
 ghost use Rattle.ms_lex.specs.Grammar.{give, seq};
-ghost use Rattle.ms_text_grammar.specs.Lexemes.{name_in};
+ghost use Rattle.ms_text_grammar.specs.{Lexemes.{name_in}, Steps.{judge_map}};
 ghost use Rattle.ms_text_grammar.specs.Modules as spec;
 ghost use Rattle.ms_text_grammar.specs.Names as names;
-ghost use Rattle.ms_text_grammar.specs.Steps.{judge_map};
 ghost use Rattle.ms_read_cursor.specs.Reading.{Gives, Judges, Leaves, run};
 ghost use Rattle.ms_read_top.specs.Behind as behind;
 ghost use Rattle.ms_read_top.specs.TypeNames.{type_name as name_of_type};

@@ -1,8 +1,7 @@
 //! The reader of whole texts.
 
 ghost use Rattle.std.specs.Prelude.{◌≡◌, ◌≢◌, ◌≤◌, ℕ, length};
-ghost use Rattle.ms_lex.specs.declared.errors.LexError.{LexError as Cause};
-ghost use Rattle.ms_lex.specs.Tokens.{tokens_of};
+ghost use Rattle.ms_lex.specs.{declared.errors.LexError.{LexError as Cause}, Tokens.{tokens_of}};
 ghost use Rattle.ms_ir.specs.declared.syntax.Module.{Module as Found};
 ghost use Rattle.ms_text_grammar.specs.Texts.{Reads, max_bytes, max_tokens};
 ghost use Rattle.ms_read_body.specs.declared.errors.What.{What};

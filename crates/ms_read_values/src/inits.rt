@@ -1,11 +1,9 @@
 //! Initialisers (LLVM Language Reference, "Complex Constants").
 
 ghost use Rattle.std.specs.Prelude.{◌≡◌, false};
-ghost use Rattle.ms_text_grammar.specs.Lexemes.{is};
-ghost use Rattle.ms_text_grammar.specs.Steps.{items, refuse};
+ghost use Rattle.ms_text_grammar.specs.{Lexemes.{is}, Steps.{items, refuse}};
 ghost use Rattle.ms_text_grammar.specs.Values as spec;
-ghost use Rattle.ms_read_cursor.specs.Lists.{further_items};
-ghost use Rattle.ms_read_cursor.specs.Reading.{Gives, front, run};
+ghost use Rattle.ms_read_cursor.specs.{Lists.{further_items}, Reading.{Gives, front, run}};
 ghost use Rattle.ms_read_values.specs.Parts.{part_of};
 
 use crate::types::{boxed_type, opens, packed_brace};

@@ -1,12 +1,9 @@
 //! Types (LLVM Language Reference, "Type System").
 
 ghost use Rattle.std.specs.Prelude.{◌≡◌, IfOk, false};
-ghost use Rattle.ms_text_grammar.specs.declared.symbols.Symbol.TheVariants.{CloseBrace};
-ghost use Rattle.ms_text_grammar.specs.Lexemes.{is};
-ghost use Rattle.ms_text_grammar.specs.Steps.{items};
+ghost use Rattle.ms_text_grammar.specs.{declared.symbols.Symbol.TheVariants.{CloseBrace}, Lexemes.{is}, Steps.{items}};
 ghost use Rattle.ms_text_grammar.specs.Types as spec;
-ghost use Rattle.ms_read_cursor.specs.Lists.{further_items};
-ghost use Rattle.ms_read_cursor.specs.Reading.{Gives, Judges, front, run};
+ghost use Rattle.ms_read_cursor.specs.{Lists.{further_items}, Reading.{Gives, Judges, front, run}};
 ghost use Rattle.ms_read_values.specs.Narrow.{IsWidth};
 ghost use Rattle.ms_read_values.specs.Rests as rest;
 

@@ -1,7 +1,6 @@
 //! The lines of a run's reports.
 ghost use Rattle.std.specs.Prelude.{◌≡◌, ◌++◌, None, IfOk, IfSome, codes, decimal};
-ghost use Rattle.ms_ir.specs.Places.{HasSmallNumbers};
-ghost use Rattle.ms_ir.specs.Roots.{roots_of, root_numbered};
+ghost use Rattle.ms_ir.specs.{Places.{HasSmallNumbers}, Roots.{roots_of, root_numbered}};
 ghost use Rattle.ms_valid.specs.Formed.{Formed};
 ghost use Rattle.ms_report.specs.ReportTexts.{hexadecimal, kind_text, root_name, root_text, origin_text, origin_line, earlier as earlier_of, use_text, bits_text, report_line, report_text_of};
 ghost use Rattle.ms_report.specs.WithLines.{origin_site, under_line, chain_with, origins_with, reports_with};

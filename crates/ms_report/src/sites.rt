@@ -1,6 +1,5 @@
 //! Where a site is.
-ghost use Rattle.std.specs.Prelude.{◌≡◌, ◌++◌, IfOk};
-ghost use Rattle.std.specs.Option.{option_copied};
+ghost use Rattle.std.specs.{Prelude.{◌≡◌, ◌++◌, IfOk}, Option.{option_copied}};
 ghost use Rattle.ms_ir.specs.Places.{HasSmallNumbers};
 ghost use Rattle.ms_report.specs.RunTexts.{function_of, function_text, site_text};
 

@@ -2,9 +2,7 @@
 ghost use Rattle.std.specs.Prelude.{◌≡◌, ◌++◌, true, decimal, codes, length, IfOk};
 ghost use Rattle.ms_ir.specs.Places.{count_sites};
 ghost use Rattle.ms_valid.specs.Formed.{Formed};
-ghost use Rattle.ms_report.specs.ReportTexts.{report_text_of};
-ghost use Rattle.ms_report.specs.RunTexts.{line, closing_of};
-ghost use Rattle.ms_report.specs.SummaryTexts.{summary_of};
+ghost use Rattle.ms_report.specs.{ReportTexts.{report_text_of}, RunTexts.{line, closing_of}, SummaryTexts.{summary_of}};
 
 use crate::endings::{closing, push_count};
 use crate::reports::report_text;

@@ -1,15 +1,9 @@
 //! What stands before an instruction that is no phi.
 ghost use Rattle.std.specs.Prelude.{◌≡◌, ◌≤◌, ◌^◌, length, map, OnOk};
-ghost use Rattle.ms_tasks.specs.Emit.{before_tasks};
-ghost use Rattle.ms_tasks.specs.ResultTasks.{result_tasks};
-ghost use Rattle.ms_tasks.specs.SlotTasks.{hand_tasks};
-ghost use Rattle.ms_rules_builder.specs.Made.{with_tasks};
-ghost use Rattle.ms_rules_builder.specs.Steps.{tracked_of};
+ghost use Rattle.ms_tasks.specs.{Emit.{before_tasks}, ResultTasks.{result_tasks}, SlotTasks.{hand_tasks}};
+ghost use Rattle.ms_rules_builder.specs.{Made.{with_tasks}, Steps.{tracked_of}};
 ghost use Rattle.ms_rules_tables.specs.Widths.{HasWidths};
-ghost use Rattle.ms_rules.specs.Around.{here_of};
-ghost use Rattle.ms_rules.specs.Callees.{IsCallee};
-ghost use Rattle.ms_rules.specs.Scopes.{env_of, given_of};
-ghost use Rattle.ms_rules.specs.Tracking.{IsTracked};
+ghost use Rattle.ms_rules.specs.{Around.{here_of}, Callees.{IsCallee}, Scopes.{env_of, given_of}, Tracking.{IsTracked}};
 
 use crate::callees::CalleeKind;
 use crate::scopes::Scope;

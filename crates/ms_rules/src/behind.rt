@@ -1,14 +1,10 @@
 //! What stands behind an instruction that is no phi.
 ghost use Rattle.std.specs.Prelude.{◌≡◌, ◌<◌, ◌≤◌, ◌^◌, length, OnOk};
-ghost use Rattle.ms_tasks.specs.Emit.{after_tasks};
-ghost use Rattle.ms_tasks.specs.SlotTasks.{result_mask_slot, result_origin_slot, take_value};
+ghost use Rattle.ms_tasks.specs.{Emit.{after_tasks}, SlotTasks.{result_mask_slot, result_origin_slot, take_value}};
 ghost use Rattle.ms_rules_tables.specs.Sizes.{element_size};
 ghost use Rattle.ms_rules_builder.specs.Made.{with_tasks};
-ghost use Rattle.ms_rules.specs.Around.{here_of, taken_by};
-ghost use Rattle.ms_rules.specs.Callees.{IsCallee};
-ghost use Rattle.ms_rules.specs.Scopes.{env_of, given_of};
-ghost use Rattle.ms_rules.specs.Taken.{IsSizedAlloca};
-ghost use Rattle.ms_rules.specs.Tracking.{IsTracked};
+ghost use Rattle.ms_rules.specs.{Around.{here_of, taken_by}, Callees.{IsCallee}, Scopes.{env_of, given_of}};
+ghost use Rattle.ms_rules.specs.{Taken.{IsSizedAlloca}, Tracking.{IsTracked}};
 
 use crate::callees::CalleeKind;
 use crate::scopes::Scope;

@@ -2,12 +2,8 @@
 ghost use Rattle.std.specs.Prelude.{◌≡◌, ◌+◌, ◌<◌, ◌≤◌, ◌^◌, false, All, length, IfOk, OnOk};
 ghost use Rattle.ms_ir.specs.Instructions.{is_phi, operands, roots_in};
 ghost use Rattle.ms_rules_tables.specs.Widths.{HasWidths};
-ghost use Rattle.ms_rules.specs.Around.{here_of, saved_for};
-ghost use Rattle.ms_rules.specs.Callees.{IsCallee};
-ghost use Rattle.ms_rules.specs.Placed.{with_inst};
-ghost use Rattle.ms_rules.specs.Scopes.{env_of, given_of};
-ghost use Rattle.ms_rules.specs.Taken.{IsTaken, IsSizedAlloca};
-ghost use Rattle.ms_rules.specs.Tracking.{IsTracked};
+ghost use Rattle.ms_rules.specs.{Around.{here_of, saved_for}, Callees.{IsCallee}, Placed.{with_inst}};
+ghost use Rattle.ms_rules.specs.{Scopes.{env_of, given_of}, Taken.{IsTaken, IsSizedAlloca}, Tracking.{IsTracked}};
 
 use crate::before::push_before;
 use crate::behind::push_behind;

@@ -1,15 +1,10 @@
 //! Phis, which the phis of their masks and origins follow.
 ghost use Rattle.std.specs.Prelude.{◌≡◌, ◌<◌, ◌≤◌, ◌^◌, [], ◌∷◌, Some, All, length, map, IfOk, OnOk};
-ghost use Rattle.ms_ir.specs.declared.syntax.Ty.{Int};
-ghost use Rattle.ms_ir.specs.Instructions.{count_undefs, operands};
-ghost use Rattle.ms_ir.specs.Layout.{width_of};
-ghost use Rattle.ms_tasks.specs.Tasks.{inserted, mask_name, origin_name};
-ghost use Rattle.ms_tasks.specs.Environments.{mask_type};
+ghost use Rattle.ms_ir.specs.{declared.syntax.Ty.{Int}, Instructions.{count_undefs, operands}, Layout.{width_of}};
+ghost use Rattle.ms_tasks.specs.{Tasks.{inserted, mask_name, origin_name}, Environments.{mask_type}};
 ghost use Rattle.ms_tasks.specs.PassLists.{phi_code};
-ghost use Rattle.ms_rules.specs.Edges.{masks, origins, with_operands, with_first, pair_of};
-ghost use Rattle.ms_rules.specs.Placed.{with_insts};
-ghost use Rattle.ms_rules.specs.Scopes.{env_of};
-ghost use Rattle.ms_rules.specs.Tracking.{IsTracked};
+ghost use Rattle.ms_rules.specs.{Edges.{masks, origins, with_operands, with_first, pair_of}, Placed.{with_insts}};
+ghost use Rattle.ms_rules.specs.{Scopes.{env_of}, Tracking.{IsTracked}};
 
 use crate::copies::push_copy;
 use crate::edges::{mask_edges, origin_edges};

@@ -1,20 +1,13 @@
 //! The lists round a single instruction.
 ghost use Rattle.std.specs.Prelude.{◌≡◌, ◌+◌, ◌*◌, ◌<◌, ◌≤◌, ◌^◌, false, length, IfOk};
-ghost use Rattle.ms_ir.specs.Instructions.{is_phi, operands};
-ghost use Rattle.ms_ir.specs.Names.{name_eq, main_name};
+ghost use Rattle.ms_ir.specs.{Instructions.{is_phi, operands}, Names.{name_eq, main_name}};
 ghost use Rattle.ms_tables.specs.FirstPlace.{first_place};
 ghost use Rattle.ms_tasks.specs.PassLists.{emit_lists};
-ghost use Rattle.ms_valid.specs.Formed.{Formed};
-ghost use Rattle.ms_valid.specs.Uninstrumented.{CanInstrument};
-ghost use Rattle.ms_valid.specs.Valid.{Valid};
+ghost use Rattle.ms_valid.specs.{Formed.{Formed}, Uninstrumented.{CanInstrument}, Valid.{Valid}};
 ghost use Rattle.ms_pass_laws.specs.Numbers.{values_at};
-ghost use Rattle.ms_rules.specs.Around.{here_of};
-ghost use Rattle.ms_rules.specs.Callees.{IsCallee};
-ghost use Rattle.ms_rules.specs.Scopes.{env_of, given_of};
+ghost use Rattle.ms_rules.specs.{Around.{here_of}, Callees.{IsCallee}, Scopes.{env_of, given_of}};
 ghost use Rattle.ms_rules.specs.Singles.{env_in, env_named, given_in, here_in, hands_over, lists_of, single_lists, AreGiven, AreOwn, StandsIn};
-ghost use Rattle.ms_rules.specs.Taken.{IsTaken};
-ghost use Rattle.ms_rules.specs.Tracking.{IsTracked};
-ghost use Rattle.ms_rules.specs.Valued.{value_names};
+ghost use Rattle.ms_rules.specs.{Taken.{IsTaken}, Tracking.{IsTracked}, Valued.{value_names}};
 
 use crate::before::push_before;
 use crate::behind::push_behind;

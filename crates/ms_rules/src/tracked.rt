@@ -1,12 +1,9 @@
 //! The operands of an instruction with what is known of their masks and origins.
 ghost use Rattle.std.specs.Prelude.{◌≡◌, ◌+◌, ◌-◌, ◌++◌, ◌<◌, ◌≤◌, ◌^◌, [], ◌∷◌, All, length, map, IfOk, OnOk};
-ghost use Rattle.ms_ir.specs.Instructions.{one_undef, operands};
-ghost use Rattle.ms_ir.specs.Layout.{width_of};
-ghost use Rattle.ms_ir.specs.ValueTypes.{type_of};
+ghost use Rattle.ms_ir.specs.{Instructions.{one_undef, operands}, Layout.{width_of}, ValueTypes.{type_of}};
 ghost use Rattle.ms_rules_builder.specs.Steps.{tracked_of, shadow_mask, shadow_origin};
 ghost use Rattle.ms_tasks.specs.Environments.{local_mask, local_origin, mask_operand, origin_operand};
-ghost use Rattle.ms_rules.specs.Scopes.{env_of};
-ghost use Rattle.ms_rules.specs.Tracking.{tracked_one, operand_at, IsTracked};
+ghost use Rattle.ms_rules.specs.{Scopes.{env_of}, Tracking.{tracked_one, operand_at, IsTracked}};
 
 use crate::scopes::Scope;
 use ms_bits::NoMemory;

@@ -1,6 +1,5 @@
 //! The arguments of calls of runtime functions.
-ghost use Rattle.std.specs.Prelude.{◌≡◌, map, IfOk};
-ghost use Rattle.std.specs.List.{zip};
+ghost use Rattle.std.specs.{Prelude.{◌≡◌, map, IfOk}, List.{zip}};
 ghost use Rattle.ms_ir.specs.declared.calls.RuntimeFn.TheVariants as called;
 ghost use Rattle.ms_ir.specs.Signatures.{runtime_signature};
 ghost use Rattle.ms_rules_builder.specs.Arguments.{parameter_type};

@@ -1,12 +1,10 @@
 //! A list of instructions that grows at its end.
 ghost use Rattle.std.specs.Prelude.{◌≡◌, ℕ, length, ◌+◌, ◌-◌, ◌<◌, ◌≤◌, ◌^◌, ◌++◌, [], ◌∷◌, true, reverse, map, List as ListOf, OnOk, Option, Some, None};
-ghost use Rattle.ms_ir.specs.declared.syntax.Ty.{Ty as TyOf, Int};
-ghost use Rattle.ms_ir.specs.declared.syntax.Op.TheVariants as instruction;
-ghost use Rattle.ms_ir.specs.Names.{runtime_name as runtime_name_of};
+ghost use Rattle.ms_ir.specs.{declared.syntax.Ty.{Ty as TyOf, Int}, Names.{runtime_name as runtime_name_of}};
 ghost use Rattle.ms_ir.specs.Signatures.{runtime_signature};
+ghost use Rattle.ms_ir.specs.declared.syntax.Op.TheVariants as instruction;
 ghost use Rattle.ms_tasks.specs.Tasks.{inserted, Expr, Sets, Tries, Fetches, Puts, Calls};
-ghost use Rattle.ms_rules_builder.specs.Made.{with_tasks};
-ghost use Rattle.ms_rules_builder.specs.Steps.{inputs_of, words, is_leaf, is_operation};
+ghost use Rattle.ms_rules_builder.specs.{Made.{with_tasks}, Steps.{inputs_of, words, is_leaf, is_operation}};
 
 mod running;
 

@@ -1,8 +1,6 @@
 //! Operands with what is known of their masks and origins.
 ghost use Rattle.std.specs.Prelude.{◌≡◌, IfOk};
-ghost use Rattle.ms_ir.specs.Layout.{width_of};
-ghost use Rattle.ms_ir.specs.Equal.{type_eq};
-ghost use Rattle.ms_ir.specs.ValueTypes.{type_of};
+ghost use Rattle.ms_ir.specs.{Layout.{width_of}, Equal.{type_eq}, ValueTypes.{type_of}};
 ghost use Rattle.ms_ir.specs.declared.syntax.Ty as type;
 ghost use Rattle.ms_tasks.specs.Environments.{is_zero};
 ghost use Rattle.ms_rules_builder.specs.Steps.{shadow_mask};

@@ -3,9 +3,7 @@ ghost use Rattle.std.specs.Prelude.{◌≡◌, ℕ, [], ◌∷◌, map, take, dr
 ghost use Rattle.ms_ir.specs.declared.syntax.Name.{Name as NameOf};
 ghost use Rattle.ms_runs.specs.Uses.{has_flag as has_flag_of, is_odd as is_odd_of, has_true_flag as has_true_flag_of, flagged_words, blind_words as blind_words_of};
 ghost use Rattle.ms_tasks.specs.CheckTasks.{all_zero, blind_tasks, blinded_of, blind_binary_of, union_masks};
-ghost use Rattle.ms_rules_builder.specs.Called.{called_external};
-ghost use Rattle.ms_rules_builder.specs.Made.{with_tasks};
-ghost use Rattle.ms_rules_builder.specs.Steps.{tracked_of, words};
+ghost use Rattle.ms_rules_builder.specs.{Called.{called_external}, Made.{with_tasks}, Steps.{tracked_of, words}};
 ghost use Rattle.ms_rules_tables.specs.Plain.{plain};
 
 use crate::calls::call;

@@ -1,12 +1,8 @@
 //! Calls of runtime functions, and what they need of operands by their places.
 ghost use Rattle.std.specs.Prelude.{◌≡◌, map, reverse, List, [], ◌∷◌, OnOk, None};
-ghost use Rattle.ms_ir.specs.declared.syntax.Ty.{Ty as TyOf, Int};
-ghost use Rattle.ms_ir.specs.Layout.{width_of};
-ghost use Rattle.ms_ir.specs.Signatures.{runtime_signature};
-ghost use Rattle.ms_tasks.specs.Environments.{tracked_at, is_zero};
-ghost use Rattle.ms_tasks.specs.Tasks.{Expr, Puts, Calls};
-ghost use Rattle.ms_rules_builder.specs.Made.{with_tasks};
-ghost use Rattle.ms_rules_builder.specs.Steps.{tracked_of, words};
+ghost use Rattle.ms_ir.specs.{declared.syntax.Ty.{Ty as TyOf, Int}, Layout.{width_of}, Signatures.{runtime_signature}};
+ghost use Rattle.ms_tasks.specs.{Environments.{tracked_at, is_zero}, Tasks.{Expr, Puts, Calls}};
+ghost use Rattle.ms_rules_builder.specs.{Made.{with_tasks}, Steps.{tracked_of, words}};
 ghost use Rattle.ms_rules_tables.specs.Plain.{plain};
 
 use ms_bits::NoMemory;

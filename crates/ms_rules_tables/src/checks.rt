@@ -1,12 +1,9 @@
 //! The code that checks uses.
 ghost use Rattle.std.specs.Prelude.{◌≡◌, ℕ, map, drop, OnOk, Option};
-ghost use Rattle.ms_ir.specs.declared.syntax.Name.{Name as NameOf};
-ghost use Rattle.ms_ir.specs.declared.calls.External.TheVariants.{Printf};
+ghost use Rattle.ms_ir.specs.{declared.syntax.Name.{Name as NameOf}, declared.calls.External.TheVariants.{Printf}};
 ghost use Rattle.ms_runs.specs.Uses.{uses, external_uses, value_uses, string_uses, Word};
 ghost use Rattle.ms_tasks.specs.CheckTasks.{check_tasks, use_tasks};
-ghost use Rattle.ms_rules_builder.specs.Called.{called_external};
-ghost use Rattle.ms_rules_builder.specs.Made.{with_tasks};
-ghost use Rattle.ms_rules_builder.specs.Steps.{tracked_of};
+ghost use Rattle.ms_rules_builder.specs.{Called.{called_external}, Made.{with_tasks}, Steps.{tracked_of}};
 ghost use Rattle.ms_rules_tables.specs.Tables.{use_of};
 
 use crate::calls::{call, is_clean_at, width_at};

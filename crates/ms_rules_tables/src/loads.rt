@@ -1,17 +1,14 @@
 //! The code of the mask and the origin of what is loaded.
 ghost use Rattle.std.specs.Prelude.{◌≡◌, ℕ, [], ◌∷◌, map, OnOk, Option, Some};
-ghost use Rattle.ms_ir.specs.declared.syntax.Name.{Name as NameOf};
-ghost use Rattle.ms_ir.specs.declared.syntax.Ty.{Ty as TyOf, Int, Ptr};
-ghost use Rattle.ms_ir.specs.declared.syntax.Operand.{Operand as OperandOf};
+ghost use Rattle.ms_ir.specs.{declared.syntax.Name.{Name as NameOf}, declared.syntax.Ty.{Ty as TyOf, Int, Ptr}};
+ghost use Rattle.ms_ir.specs.{declared.syntax.Operand.{Operand as OperandOf}, Layout.{width_of}};
 ghost use Rattle.ms_ir.specs.declared.syntax.Operand.TheVariants as operand;
 ghost use Rattle.ms_ir.specs.declared.syntax.Op.TheVariants as operation;
 ghost use Rattle.ms_ir.specs.declared.calls.RuntimeFn.TheVariants as function;
-ghost use Rattle.ms_ir.specs.Layout.{width_of};
 ghost use Rattle.ms_tasks.specs.Tasks.{Leaf, Fetches, Calls, mask_name as mask_name_of, origin_name as origin_name_of};
 ghost use Rattle.ms_tasks.specs.Environments.{tracked_at, word_of, widened};
 ghost use Rattle.ms_tasks.specs.ResultTasks.{define_tasks, shadow_address};
-ghost use Rattle.ms_rules_builder.specs.Made.{with_tasks};
-ghost use Rattle.ms_rules_builder.specs.Steps.{inputs_of, tracked_of};
+ghost use Rattle.ms_rules_builder.specs.{Made.{with_tasks}, Steps.{inputs_of, tracked_of}};
 
 use ms_bits::NoMemory;
 use ms_ir::RuntimeFn;

@@ -4,8 +4,7 @@ ghost use Rattle.std.specs.Prelude.{◌≡◌, ◌≢◌, ℕ, true, List, [], �
 ghost use Rattle.ms_bits.specs.declared.operations.BinOp.TheVariants as binary;
 ghost use Rattle.ms_bits.specs.declared.word_functions.WordFn.TheVariants as word;
 ghost use Rattle.ms_bits.specs.WordFunctions.{bits_of as width_bits};
-ghost use Rattle.ms_tasks.specs.Tasks.{Expr};
-ghost use Rattle.ms_tasks.specs.Environments.{Tracked, tracked_at, bits_of, mask_of, word_of};
+ghost use Rattle.ms_tasks.specs.{Tasks.{Expr}, Environments.{Tracked, tracked_at, bits_of, mask_of, word_of}};
 ghost use Rattle.ms_tasks.specs.ResultMasks.{binary_expr, cast_expr, compare_expr, ctpop_expr, ctlz_expr, cttz_expr, word_expr};
 ghost use Rattle.ms_rules_builder.specs.Steps.{Inputs as InputsOf, is_operation, stepped, words};
 ghost use Rattle.ms_rules_tables.specs.Rules.{is_rule, on_width, args_with};

@@ -1,10 +1,8 @@
 //! The rules of origins.
 ghost use Rattle.std.specs.Prelude.{◌≡◌, ◌-◌, true, [], ◌∷◌, ◌++◌, length, map, IfOk, OnOk};
 ghost use Rattle.ms_ir.specs.declared.syntax.Ty.{Int};
-ghost use Rattle.ms_tasks.specs.Tasks.{Sets, origin_name as origin_name_of};
-ghost use Rattle.ms_tasks.specs.ResultMasks.{first_last};
-ghost use Rattle.ms_rules_builder.specs.Made.{with_tasks};
-ghost use Rattle.ms_rules_builder.specs.Steps.{Inputs as InputsOf, inputs_of, words, tracked_of};
+ghost use Rattle.ms_tasks.specs.{Tasks.{Sets, origin_name as origin_name_of}, ResultMasks.{first_last}};
+ghost use Rattle.ms_rules_builder.specs.{Made.{with_tasks}, Steps.{Inputs as InputsOf, inputs_of, words, tracked_of}};
 ghost use Rattle.ms_rules_tables.specs.Rules.{is_rule, tests};
 
 use crate::rules::set_origin;

@@ -1,19 +1,14 @@
 //! The code that sets shadow and origins of memory.
 ghost use Rattle.std.specs.Prelude.{◌≡◌, ℕ, ◌+◌, false, map, reverse, List, [], OnOk, Option};
-ghost use Rattle.ms_ir.specs.declared.syntax.Ty.{Ty as TyOf};
+ghost use Rattle.ms_ir.specs.{declared.syntax.Ty.{Ty as TyOf}, Instructions.{operands as operands_of, count_undefs}};
+ghost use Rattle.ms_ir.specs.{declared.syntax.Name.{Name as NameOf}, Signatures.{runtime_signature}};
 ghost use Rattle.ms_ir.specs.declared.calls.External.TheVariants as outside;
-ghost use Rattle.ms_ir.specs.Instructions.{operands as operands_of, count_undefs};
-ghost use Rattle.ms_ir.specs.declared.syntax.Name.{Name as NameOf};
-ghost use Rattle.ms_ir.specs.Signatures.{runtime_signature};
 ghost use Rattle.ms_runs.specs.World.{Here};
 ghost use Rattle.ms_tasks.specs.Environments.{Env, Given, tracked_at};
 ghost use Rattle.ms_tasks.specs.PlaneTasks.{plane_tasks, save_tasks, saved_tasks, external_tasks, fill_task};
 ghost use Rattle.ms_tasks.specs.Tasks.{Expr};
-ghost use Rattle.ms_rules_tables.specs.Pieces.{named_call, store_pieces};
-ghost use Rattle.ms_rules_tables.specs.Plain.{plain};
-ghost use Rattle.ms_rules_tables.specs.Sizes.{element_size};
-ghost use Rattle.ms_rules_builder.specs.Called.{calls_own, called_external};
-ghost use Rattle.ms_rules_builder.specs.Made.{with_tasks};
+ghost use Rattle.ms_rules_tables.specs.{Pieces.{named_call, store_pieces}, Plain.{plain}, Sizes.{element_size}};
+ghost use Rattle.ms_rules_builder.specs.{Called.{calls_own, called_external}, Made.{with_tasks}};
 ghost use Rattle.ms_rules_builder.specs.Steps.{tracked_of, words};
 
 use crate::calls::{call, store, width_at};

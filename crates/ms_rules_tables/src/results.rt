@@ -2,22 +2,17 @@
 ghost use Rattle.std.specs.Prelude.{◌≡◌, ℕ, ◌≤◌, true, List, [], ◌∷◌, map, take, reverse, OnOk, Option, Some};
 ghost use Rattle.ms_bits.specs.declared.operations.Flags.{Flags as FlagsOf};
 ghost use Rattle.ms_bits.specs.WordFunctions.{move_of, bits_of as width_bits};
-ghost use Rattle.ms_ir.specs.declared.syntax.Name.{Name as NameOf};
-ghost use Rattle.ms_ir.specs.declared.syntax.Ty.{Ty as TyOf, Int};
-ghost use Rattle.ms_ir.specs.declared.syntax.Operand.{Operand as OperandOf};
+ghost use Rattle.ms_ir.specs.{declared.syntax.Name.{Name as NameOf}, declared.syntax.Ty.{Ty as TyOf, Int}};
+ghost use Rattle.ms_ir.specs.{declared.syntax.Operand.{Operand as OperandOf}, Signatures.{runtime_signature}};
+ghost use Rattle.ms_ir.specs.Layout.{width_of as width_of_type};
 ghost use Rattle.ms_ir.specs.declared.syntax.Op.TheVariants as operation;
 ghost use Rattle.ms_ir.specs.declared.calls.RuntimeFn.TheVariants as called;
-ghost use Rattle.ms_ir.specs.Signatures.{runtime_signature};
-ghost use Rattle.ms_ir.specs.Layout.{width_of as width_of_type};
 ghost use Rattle.ms_tasks.specs.Tasks.{Expr, Sets, Calls, mask_name as mask_name_of, origin_name as origin_name_of};
 ghost use Rattle.ms_tasks.specs.Environments.{number, is_zero, tracked_at, bits_of, mask_of};
 ghost use Rattle.ms_tasks.specs.ResultMasks.{address_expr, answer_expr, answer_origin_expr, cast_expr, compare_expr, sum_expr, word_expr, first_last};
 ghost use Rattle.ms_tasks.specs.ResultTasks.{binary_tasks, external_move, called_tasks, shift_task, word_tasks, define_tasks, result_width as result_width_of};
-ghost use Rattle.ms_rules_builder.specs.Called.{calls_own};
-ghost use Rattle.ms_rules_builder.specs.Made.{with_tasks};
-ghost use Rattle.ms_rules_builder.specs.Steps.{inputs_of, tracked_of, words};
-ghost use Rattle.ms_rules_tables.specs.Widths.{HasWidths};
-ghost use Rattle.ms_rules_tables.specs.Rules.{is_rule, defined, moves, answered};
+ghost use Rattle.ms_rules_builder.specs.{Called.{calls_own}, Made.{with_tasks}, Steps.{inputs_of, tracked_of, words}};
+ghost use Rattle.ms_rules_tables.specs.{Widths.{HasWidths}, Rules.{is_rule, defined, moves, answered}};
 
 use crate::carries::carry_rule;
 use crate::loads::define_load;

@@ -2,8 +2,7 @@
 ghost use Rattle.std.specs.Prelude.{◌≡◌, true, [], ◌∷◌, OnOk};
 ghost use Rattle.ms_ir.specs.declared.syntax.Ty.{Int};
 ghost use Rattle.ms_tasks.specs.Tasks.{Expr, Sets, Tries, mask_name as mask_name_of, origin_name as origin_name_of};
-ghost use Rattle.ms_rules_builder.specs.Made.{with_tasks};
-ghost use Rattle.ms_rules_builder.specs.Steps.{inputs_of, words};
+ghost use Rattle.ms_rules_builder.specs.{Made.{with_tasks}, Steps.{inputs_of, words}};
 ghost use Rattle.ms_rules_tables.specs.Rules.{is_rule};
 
 use ms_bits::{BinOp, NoMemory};

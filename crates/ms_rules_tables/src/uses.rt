@@ -1,9 +1,7 @@
 //! The uses that are checked, as tables.
 ghost use Rattle.std.specs.Prelude.{◌≡◌, ℕ, false, List, map, Option, IfSome};
-ghost use Rattle.ms_ir.specs.declared.syntax.Ty.{Ty as TyOf};
-ghost use Rattle.ms_ir.specs.declared.syntax.Operand.{Operand as OperandOf};
-ghost use Rattle.ms_ir.specs.Signatures.{is_variadic};
-ghost use Rattle.ms_ir.specs.declared.syntax.Name.{Name as NameOf};
+ghost use Rattle.ms_ir.specs.{declared.syntax.Ty.{Ty as TyOf}, declared.syntax.Operand.{Operand as OperandOf}};
+ghost use Rattle.ms_ir.specs.{Signatures.{is_variadic}, declared.syntax.Name.{Name as NameOf}};
 ghost use Rattle.ms_runs.specs.Uses.{external_uses as external_uses_of, binary_uses as binary_uses_of, uses};
 ghost use Rattle.ms_rules_builder.specs.Called.{called_external};
 ghost use Rattle.ms_rules_tables.specs.Tables.{use_of};

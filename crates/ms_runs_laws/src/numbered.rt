@@ -1,7 +1,6 @@
 //! The list of a module's roots, and the numbers by which runs speak of them.
 ghost use Rattle.std.specs.Prelude.{◌≡◌, ◌<◌, ◌+◌, ℕ, Some, length, slice_get};
-ghost use Rattle.ms_ir.specs.declared.syntax.Inst.{Inst};
-ghost use Rattle.ms_ir.specs.declared.syntax.Module.{Module};
+ghost use Rattle.ms_ir.specs.{declared.syntax.Inst.{Inst}, declared.syntax.Module.{Module}};
 ghost use Rattle.ms_ir.specs.Instructions.{func_index, insts_at, site_at, roots_in, root_at, count_roots, strip};
 ghost use Rattle.ms_ir.specs.Roots.{inst_roots, roots_of, root_numbered};
 

@@ -1,11 +1,7 @@
 //! What a shadow run shows of the plain run, and with it what instrumented code does.
-ghost use Rattle.ms_ir.specs.declared.syntax.Module.{Module};
-ghost use Rattle.ms_runs.specs.declared.runs.Setup.{Setup};
-ghost use Rattle.ms_runs.specs.Masks.{Rules};
-ghost use Rattle.ms_runs.specs.Plain.{plain};
-ghost use Rattle.ms_runs.specs.Shadow.{shadow_by};
+ghost use Rattle.ms_ir.specs.{declared.syntax.Module.{Module}, Instructions.{NoMarks}};
+ghost use Rattle.ms_runs.specs.{declared.runs.Setup.{Setup}, Masks.{Rules}, Plain.{plain}, Shadow.{shadow_by}};
 ghost use Rattle.ms_runs.specs.Faithful.{Fair, Faithful, Undisturbed};
-ghost use Rattle.ms_ir.specs.Instructions.{NoMarks};
 
 /// Checks don't disturb a run: the shadow run of a module without marks puts out a beginning of what its plain run puts
 /// out, and unless it ends as reported it has the same end and the same output. This holds for every choice of masks, and

@@ -1,8 +1,7 @@
 //! The rules that give masks, and the shadow runs by them.
 ghost use Rattle.std.specs.Prelude.{◌≡◌};
 ghost use Rattle.ms_ir.specs.declared.syntax.Module.{Module};
-ghost use Rattle.ms_runs.specs.declared.runs.Setup.{Setup};
-ghost use Rattle.ms_runs.specs.Masks.{Rules, SameRules, by_completions, by_formulas};
+ghost use Rattle.ms_runs.specs.{declared.runs.Setup.{Setup}, Masks.{Rules, SameRules, by_completions, by_formulas}};
 ghost use Rattle.ms_runs.specs.Shadow.{shadow, shadow_by};
 
 /// The formulas of inserted code give the masks that trying all completions gives, for every operation and width, and

@@ -1,8 +1,7 @@
 //! What instructions leave of memory.
 ghost use Rattle.std.specs.Prelude.{ℕ, List};
 ghost use Rattle.ms_ir.specs.declared.syntax.Op.{Op};
-ghost use Rattle.ms_runs.specs.World.{World, Setting, Here};
-ghost use Rattle.ms_runs.specs.Act.{act};
+ghost use Rattle.ms_runs.specs.{World.{World, Setting, Here}, Act.{act}};
 ghost use Rattle.ms_runs_laws.specs.Inside.{InsideAfter, AgreesLive, SameAnswer};
 
 /// No instruction changes a byte that isn't live: what it changes was live before it, or belongs to an allocation that it

@@ -1,14 +1,11 @@
 //! What is left of a module without its marked instructions, reserved globals and reserved declarations has the same
 //! setting, the same start and the same numbers of sites and roots.
 ghost use Rattle.std.specs.Prelude.{◌≡◌, ℕ, List, Option, map, filter, option_map};
-ghost use Rattle.ms_ir.specs.declared.syntax.Name.{Name};
-ghost use Rattle.ms_ir.specs.declared.syntax.Inst.{Inst};
+ghost use Rattle.ms_ir.specs.{declared.syntax.Name.{Name}, declared.syntax.Inst.{Inst}};
 ghost use Rattle.ms_ir.specs.declared.syntax.Module.{Module};
-ghost use Rattle.ms_runs.specs.declared.runs.Setup.{Setup};
 ghost use Rattle.ms_ir.specs.Instructions.{func_index, func_at, blocks_at, insts_at, over_insts, before, one_unmarked, site_at, roots_in, root_at, count_roots, is_unmarked, strip_block, strip_func, strip, NoMarks};
-ghost use Rattle.ms_runs.specs.Globals.{address_of};
-ghost use Rattle.ms_runs.specs.Control.{Reading, func_name, block_name, params_at};
-ghost use Rattle.ms_runs.specs.Poisoned.{Poisoned};
+ghost use Rattle.ms_runs.specs.{declared.runs.Setup.{Setup}, Globals.{address_of}};
+ghost use Rattle.ms_runs.specs.{Control.{Reading, func_name, block_name, params_at}, Poisoned.{Poisoned}};
 ghost use Rattle.ms_runs.specs.Plain.{setting_of, start_world, start_frame};
 ghost use Rattle.ms_runs_laws.specs.Marks.{Skips, SameRest};
 

@@ -2,12 +2,9 @@
 ghost use Rattle.std.specs.Prelude.{◌≡◌, ◌≢◌, ◌<◌, None, length, IfOk, OnOk, IsTrue};
 ghost use Rattle.ms_alloc.specs.Allocations.{is_good as is_live};
 ghost use Rattle.ms_ir.specs.declared.calls.RuntimeFn.TheVariants.{CheckMemory, CheckString, CheckFormat, Poison, Unpoison, Copy, Fill, StoreOrigin, LoadOrigin, Size};
-ghost use Rattle.ms_runs.specs.World.{World as Meant, Setting, Does, Gives};
-ghost use Rattle.ms_runs.specs.Memory.{set_cells, set_shadow};
-ghost use Rattle.ms_runs.specs.Origins.{chain, mark_cells};
-ghost use Rattle.ms_runs.specs.Runtime.{runtime};
-ghost use Rattle.ms_host.specs.State.{Beside, Keeps};
-ghost use Rattle.ms_host.specs.Shows.{Shows};
+ghost use Rattle.ms_runs.specs.{World.{World as Meant, Setting, Does, Gives}, Memory.{set_cells, set_shadow}};
+ghost use Rattle.ms_runs.specs.{Origins.{chain, mark_cells}, Runtime.{runtime}};
+ghost use Rattle.ms_host.specs.{State.{Beside, Keeps}, Shows.{Shows}};
 ghost use Rattle.ms_runtime.specs.Served.{IsFor, IsBeside, Served, IsWithin, TellsMore, Fits, Follows};
 
 use crate::arguments::{low_byte, small, word};

@@ -3,9 +3,7 @@ ghost use Rattle.std.specs.Prelude.{◌≡◌, ◌<◌, ◌++◌, ◌∷◌, [],
 ghost use Rattle.ms_runs.specs.World.{World as Meant, Setting, Does};
 ghost use Rattle.ms_runs.specs.Origins.{check as check_of, check_byte as check_byte_of, count_blind as count_blind_of};
 ghost use Rattle.ms_depot.specs.Depots.{DepotState};
-ghost use Rattle.ms_host.specs.State.{WorldState, Beside};
-ghost use Rattle.ms_host.specs.Shows.{Shows};
-ghost use Rattle.ms_host.specs.Poisonings.{IsFound};
+ghost use Rattle.ms_host.specs.{State.{WorldState, Beside}, Shows.{Shows}, Poisonings.{IsFound}};
 ghost use Rattle.ms_runtime.specs.Served.{IsFor, IsBeside, Served, IsWithin, TellsMore};
 
 use ms_bits::{List, NoMemory};

@@ -2,9 +2,7 @@
 ghost use Rattle.std.specs.Prelude.{◌≡◌, ◌<◌, ◌≤◌, ℕ, false, IfOk};
 ghost use Rattle.ms_ir.specs.ThreadCalls.{is_threaded};
 ghost use Rattle.ms_runs.specs.declared.runs.RunResult.{RunResult as ResultOf};
-ghost use Rattle.ms_runs.specs.declared.runs.Setup.{Setup as SetupOf};
-ghost use Rattle.ms_runs.specs.Limits.{WithinLimits};
-ghost use Rattle.ms_runs.specs.World.{stuck};
+ghost use Rattle.ms_runs.specs.{declared.runs.Setup.{Setup as SetupOf}, Limits.{WithinLimits}, World.{stuck}};
 ghost use Rattle.ms_runs.specs.Plain.{plain};
 ghost use Rattle.ms_host.specs.Answers.{Answered};
 ghost use Rattle.ms_runtime.specs.Going.{Begins, Going, Asking, Paused, Answers, Turned, IsGoing, IsAsking, IsPaused, ahead};

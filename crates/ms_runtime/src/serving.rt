@@ -1,11 +1,8 @@
 //! A call of a runtime function, answered.
 ghost use Rattle.std.specs.Prelude.{List, ◌≡◌, ◌<◌, length, IfOk};
 ghost use Rattle.ms_ir.specs.declared.syntax.Ty.{Ty};
-ghost use Rattle.ms_runs.specs.World.{World as Meant, Setting};
-ghost use Rattle.ms_runs.specs.Runtime.{runtime};
-ghost use Rattle.ms_host.specs.State.{Beside, Keeps};
-ghost use Rattle.ms_host.specs.Shows.{Shows};
-ghost use Rattle.ms_host.specs.Answers.{asked_effect};
+ghost use Rattle.ms_runs.specs.{World.{World as Meant, Setting}, Runtime.{runtime}};
+ghost use Rattle.ms_host.specs.{State.{Beside, Keeps}, Shows.{Shows}, Answers.{asked_effect}};
 ghost use Rattle.ms_runtime.specs.Served.{CanServe, CanAnswer, IsFor, IsBeside, Served, IsWithin, TellsMore, Fits, FitsAsked, IsCheck};
 
 use crate::arguments::{moved, use_of, word};

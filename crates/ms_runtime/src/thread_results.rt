@@ -1,13 +1,9 @@
 //! What `__msan_thread_result` does where a thread has ended.
 ghost use Rattle.std.specs.Prelude.{◌≡◌, OnOk, None, if◌then◌else◌};
 ghost use Rattle.ms_bits.specs.Maps.{byte_of};
-ghost use Rattle.ms_runs.specs.declared.runs.RunResult.{RunResult};
-ghost use Rattle.ms_runs.specs.World.{World as Meant, Setting, Does};
-ghost use Rattle.ms_runs.specs.Memory.{set_shadow, is_good};
-ghost use Rattle.ms_runs.specs.Origins.{store_origin};
-ghost use Rattle.ms_host.specs.State.{Beside, Keeps};
-ghost use Rattle.ms_host.specs.Shows.{Shows};
-ghost use Rattle.ms_host.specs.declared.calls.Answer.TheVariants.{Resumed};
+ghost use Rattle.ms_runs.specs.{declared.runs.RunResult.{RunResult}, World.{World as Meant, Setting, Does}};
+ghost use Rattle.ms_runs.specs.{Memory.{set_shadow, is_good}, Origins.{store_origin}};
+ghost use Rattle.ms_host.specs.{State.{Beside, Keeps}, Shows.{Shows}, declared.calls.Answer.TheVariants.{Resumed}};
 ghost use Rattle.ms_runtime.specs.Served.{IsBeside, Served};
 
 use crate::memory::mark_chained;

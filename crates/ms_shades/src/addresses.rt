@@ -1,8 +1,7 @@
 //! Masks of addresses.
 ghost use Rattle.std.specs.Prelude.{◌≡◌, ◌≤◌, ◌<◌, ◌^◌, length, drop, get_or, All, bit_or};
 ghost use Rattle.ms_bits.specs.Formulas.{carry_mask as carry_mask_of};
-ghost use Rattle.ms_code.specs.Words.{extended_by};
-ghost use Rattle.ms_code.specs.Fits.{IsSource, IsStride};
+ghost use Rattle.ms_code.specs.{Words.{extended_by}, Fits.{IsSource, IsStride}};
 ghost use Rattle.ms_shades.specs.Shades.{mask_of as mask_read, stride_mask as mask_of_stride, strides_mask as mask_of_strides};
 ghost use Rattle.ms_shades.specs.Views.{IsView};
 

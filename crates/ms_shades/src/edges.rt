@@ -1,8 +1,7 @@
 //! The edge that a jump takes, and the masks of its phis.
 ghost use Rattle.std.specs.Prelude.{◌≡◌, ◌≤◌, ◌<◌, ℕ, List, length, take, All, OnOk};
 ghost use Rattle.ms_code.specs.Fits.{IsMove};
-ghost use Rattle.ms_shades.specs.Views.{IsView};
-ghost use Rattle.ms_shades.specs.Shades.{masks_read};
+ghost use Rattle.ms_shades.specs.{Views.{IsView}, Shades.{masks_read}};
 
 use crate::words::{View, mask_of};
 use ms_bits::NoMemory;

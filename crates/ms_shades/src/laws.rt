@@ -1,18 +1,11 @@
 //! What code reads decides its masks: laws, each a public function with an empty body, whose promise is the law.
 ghost use Rattle.std.specs.Prelude.{◌≡◌, ℕ, List, map};
-ghost use Rattle.ms_ir.specs.declared.syntax.Name.{Name};
-ghost use Rattle.ms_ir.specs.declared.syntax.Ty.{Ty};
-ghost use Rattle.ms_ir.specs.declared.syntax.Operand.{Operand};
+ghost use Rattle.ms_ir.specs.{declared.syntax.Name.{Name}, declared.syntax.Ty.{Ty}, declared.syntax.Operand.{Operand}};
 ghost use Rattle.ms_ir.specs.declared.syntax.Module.{Module};
-ghost use Rattle.ms_runs.specs.declared.runs.Setup.{Setup};
-ghost use Rattle.ms_runs.specs.Control.{read_all};
-ghost use Rattle.ms_runs.specs.Plain.{setting_of};
-ghost use Rattle.ms_runs.specs.Poisoned.{Poisoned};
-ghost use Rattle.ms_runs.specs.Shadow.{operand_mask, read_poisoned};
-ghost use Rattle.ms_code.specs.declared.code.Source.{Source as SourceOf};
-ghost use Rattle.ms_code.specs.declared.code.Edge.{Edge as EdgeOf};
-ghost use Rattle.ms_code.specs.Reads.{Holds, Reads, ReadsAll};
-ghost use Rattle.ms_code.specs.Encodes.{Where, Leads};
+ghost use Rattle.ms_runs.specs.{declared.runs.Setup.{Setup}, Control.{read_all}, Plain.{setting_of}};
+ghost use Rattle.ms_runs.specs.{Poisoned.{Poisoned}, Shadow.{operand_mask, read_poisoned}};
+ghost use Rattle.ms_code.specs.{declared.code.Source.{Source as SourceOf}, declared.code.Edge.{Edge as EdgeOf}};
+ghost use Rattle.ms_code.specs.{Reads.{Holds, Reads, ReadsAll}, Encodes.{Where, Leads}};
 ghost use Rattle.ms_shades.specs.Shades.{mask_of as mask_read, masks_of, masks_moved, shades_at};
 
 /// A source that reads the word of an operand reads its mask too, where the masks of values stand by number.

@@ -1,7 +1,6 @@
 //! The masks of results.
 ghost use Rattle.std.specs.Prelude.{◌≡◌, ◌≤◌, ◌<◌, ◌^◌};
-ghost use Rattle.ms_bits.specs.Conversions.{Allows, cast_of};
-ghost use Rattle.ms_bits.specs.NoFlags.{no_flags};
+ghost use Rattle.ms_bits.specs.{Conversions.{Allows, cast_of}, NoFlags.{no_flags}};
 ghost use Rattle.ms_runs.specs.Masks.{by_formulas, binary_mask as binary_mask_of, shift_mask as shift_mask_of, value_or_zero as or_zero_of};
 ghost use Rattle.ms_shades.specs.Results.{bare};
 

@@ -1,7 +1,6 @@
 //! Masks of results of code that looks at words alone.
 ghost use Rattle.std.specs.Prelude.{length};
-ghost use Rattle.ms_shades.specs.Views.{IsView};
-ghost use Rattle.ms_shades.specs.Results.{IsComputed, IsMask};
+ghost use Rattle.ms_shades.specs.{Views.{IsView}, Results.{IsComputed, IsMask}};
 
 use crate::addresses::address_mask;
 use crate::masks::{binary_mask, cast_mask};

@@ -1,9 +1,7 @@
 //! The words that code reads, with their masks.
 ghost use Rattle.std.specs.Prelude.{◌≡◌, ◌<◌, ◌^◌, length};
-ghost use Rattle.ms_code.specs.Words.{word_of};
-ghost use Rattle.ms_code.specs.Fits.{IsSource};
-ghost use Rattle.ms_shades.specs.Shades.{mask_of as mask_read};
-ghost use Rattle.ms_shades.specs.Views.{IsView};
+ghost use Rattle.ms_code.specs.{Words.{word_of}, Fits.{IsSource}};
+ghost use Rattle.ms_shades.specs.{Shades.{mask_of as mask_read}, Views.{IsView}};
 
 use ms_bits::undef_word;
 use ms_code::Source;

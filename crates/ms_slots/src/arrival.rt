@@ -1,8 +1,6 @@
 //! Laws about the lists: what the caller stores the callee loads, and what the callee stores the caller loads.
 ghost use Rattle.std.specs.Prelude.{◌≤◌, ℕ, length, List};
-ghost use Rattle.ms_ir.specs.declared.syntax.Name.{Name};
-ghost use Rattle.ms_ir.specs.declared.syntax.Ty.{Ty};
-ghost use Rattle.ms_ir.specs.declared.syntax.Operand.{Operand};
+ghost use Rattle.ms_ir.specs.{declared.syntax.Name.{Name}, declared.syntax.Ty.{Ty}, declared.syntax.Operand.{Operand}};
 ghost use Rattle.ms_ir.specs.Layout.{width_of};
 ghost use Rattle.ms_runs.specs.World.{Setting, Here};
 ghost use Rattle.ms_tasks.specs.Match.{SlotAddresses};

@@ -1,8 +1,7 @@
 //! What is handed over to a callee or a caller.
 ghost use Rattle.std.specs.Prelude.{◌≡◌, map, IfOk, OnOk};
 ghost use Rattle.ms_tasks.specs.SlotTasks as slots;
-ghost use Rattle.ms_rules_builder.specs.Made.{with_tasks};
-ghost use Rattle.ms_rules_builder.specs.Steps.{tracked_of, shadow_mask, shadow_origin};
+ghost use Rattle.ms_rules_builder.specs.{Made.{with_tasks}, Steps.{tracked_of, shadow_mask, shadow_origin}};
 ghost use Rattle.ms_slots.specs.Places.{mask_slot, origin_slot};
 
 use crate::places::Handover;

@@ -2,8 +2,7 @@
 //!
 //! Numbers are those of inserted results. The one error of each function is want of memory.
 ghost use Rattle.std.specs.Prelude.{◌≡◌, ◌<◌, ◌≤◌, ◌+◌, ◌*◌, ◌^◌, length, IfOk, OnOk};
-ghost use Rattle.ms_tasks.specs.Tasks.{tasks_code};
-ghost use Rattle.ms_tasks.specs.SlotTasks.{result_mask_slot, result_origin_slot};
+ghost use Rattle.ms_tasks.specs.{Tasks.{tasks_code}, SlotTasks.{result_mask_slot, result_origin_slot}};
 ghost use Rattle.ms_rules_builder.specs.Made.{with_tasks};
 ghost use Rattle.ms_slots.specs.Places.{mask_slot, origin_slot, store_tasks, load_tasks, store_arguments, load_parameters, made};
 

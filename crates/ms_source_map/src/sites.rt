@@ -1,7 +1,6 @@
 //! The marks of the instructions that have sites.
 
-ghost use Rattle.std.specs.Prelude.{◌≡◌, ◌++◌, IfOk, map, filter, flat_map};
-ghost use Rattle.std.specs.List.{zip};
+ghost use Rattle.std.specs.{Prelude.{◌≡◌, ◌++◌, IfOk, map, filter, flat_map}, List.{zip}};
 ghost use Rattle.ms_ir.specs.Instructions.{is_unmarked};
 ghost use Rattle.ms_places.specs.Instructions.{is_instruction, module_insts};
 ghost use Rattle.ms_source_map.specs.Sites as spec;

@@ -1,7 +1,6 @@
 //! The positions of an instruction in the source.
 
-ghost use Rattle.std.specs.Prelude.{◌≡◌, ◌++◌, Some, IfOk};
-ghost use Rattle.std.specs.Option.{option_and_then};
+ghost use Rattle.std.specs.{Prelude.{◌≡◌, ◌++◌, Some, IfOk}, Option.{option_and_then}};
 ghost use Rattle.ms_places.specs.Told.{mark_at};
 ghost use Rattle.ms_source_map.specs.Lines as spec;
 

@@ -1,7 +1,6 @@
 //! The sizes of types, by the kept layouts of the named types.
 ghost use Rattle.std.specs.Prelude.{◌≡◌, ◌≤◌, Option, option_map, unwrap_or, IfOk, IfSome};
-ghost use Rattle.ms_ir.specs.declared.syntax.Ty.{Named};
-ghost use Rattle.ms_ir.specs.Layout.{Extent, size_of, align_in};
+ghost use Rattle.ms_ir.specs.{declared.syntax.Ty.{Named}, Layout.{Extent, size_of, align_in}};
 ghost use Rattle.ms_ir.specs.Extents.{IsLayout, limit_extent, as_extent};
 ghost use Rattle.ms_tables.specs.Kept.{size_within};
 
@@ -49,8 +48,7 @@ pub struct Extents<'m> {
 }
 
 impl<'m> Model for Extents<'m> {
-    ghost use Rattle.std.specs.Prelude.{◌≡◌};
-    ghost use Rattle.std.specs.Coded.{codes};
+    ghost use Rattle.std.specs.{Prelude.{◌≡◌}, Coded.{codes}};
     ghost use Rattle.ms_ir.specs.contracts.syntax.Ty as coded_ty;
     ghost use Rattle.ms_ir.specs.Layout.{Types};
 

@@ -1,7 +1,6 @@
 //! The places of names, by number and by text.
 ghost use Rattle.std.specs.Prelude.{◌≡◌, ◌≤◌, ◌+◌, ◌-◌, ℕ, None, Some, IsTrue, if◌then◌else◌, length, slice_get, IfErr, IfNone, IfOk, IfSome, OnErr, OnOk};
-ghost use Rattle.ms_ir.specs.declared.syntax.Name.{Name};
-ghost use Rattle.ms_ir.specs.declared.syntax.Name.TheVariants.{Number, Text};
+ghost use Rattle.ms_ir.specs.{declared.syntax.Name.{Name}, declared.syntax.Name.TheVariants.{Number, Text}};
 ghost use Rattle.ms_ir.specs.Names.{name_eq};
 ghost use Rattle.ms_tables.specs.Index.{text_mark, place_from, taken_at, place_few};
 

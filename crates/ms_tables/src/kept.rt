@@ -3,8 +3,7 @@
 //! A chain of one more link is laid out from the layouts of those that are shorter, so a named type is looked up
 //! at its mention, and not laid out again.
 ghost use Rattle.std.specs.Prelude.{◌≡◌, ◌+◌, ◌<◌, ◌-◌, ◌^◌, All, map, None, option_map, IfOk, IfSome, OnOk};
-ghost use Rattle.ms_ir.specs.Names.{lookup};
-ghost use Rattle.ms_ir.specs.Layout.{extent, place_fields, type_extent, named_extent};
+ghost use Rattle.ms_ir.specs.{Names.{lookup}, Layout.{extent, place_fields, type_extent, named_extent}};
 ghost use Rattle.ms_ir.specs.Extents.{IsLayout, limit_extent, as_extent};
 ghost use Rattle.ms_tables.specs.Kept.{Links, links_of, laid_rows};
 

@@ -1,6 +1,5 @@
 //! What gives names in a module.
-ghost use Rattle.std.specs.Prelude.{◌≡◌, Some, Option};
-ghost use Rattle.std.specs.Option.{option_copied};
+ghost use Rattle.std.specs.{Prelude.{◌≡◌, Some, Option}, Option.{option_copied}};
 ghost use Rattle.ms_ir.specs.declared.syntax.Name.{Name};
 
 use ms_ir::{Block, Decl, Func, GlobalVar, Inst, Name, Ty};

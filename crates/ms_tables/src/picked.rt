@@ -1,8 +1,7 @@
 //! Names that are picked out of instructions.
 ghost use Rattle.std.specs.Prelude.{◌≡◌, ◌++◌, Option, option_to_list, filter_map, flat_map, IfOk};
 ghost use Rattle.std.specs.Option.{option_copied};
-ghost use Rattle.ms_ir.specs.declared.syntax.Inst.{Inst};
-ghost use Rattle.ms_ir.specs.declared.syntax.Name.{Name};
+ghost use Rattle.ms_ir.specs.{declared.syntax.Inst.{Inst}, declared.syntax.Name.{Name}};
 
 use crate::table::NameTable;
 use ms_bits::NoMemory;

@@ -23,8 +23,7 @@ pub struct NameTable<'m> {
 impl<'m> Model for NameTable<'m> {
     ghost use Rattle.std.specs.Prelude.{List, map, ◌≡◌};
     ghost use Rattle.ms_ir.specs.declared.syntax.Name.{Name};
-    ghost use Rattle.ms_tables.specs.FirstPlace.{first_place};
-    ghost use Rattle.ms_tables.specs.Index.{place_in};
+    ghost use Rattle.ms_tables.specs.{FirstPlace.{first_place}, Index.{place_in}};
 
     ghost Value = { List Name };
 

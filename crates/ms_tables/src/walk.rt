@@ -1,7 +1,6 @@
 //! The first fault that a clause finds in the functions of a module.
 ghost use Rattle.std.specs.Prelude.{◌≡◌, ◌+◌, ◌++◌, ◌<◌, ◌^◌, All, length, IfOk, IfNone, slice_get};
-ghost use Rattle.ms_ir.specs.Instructions.{one_unmarked, over_insts, over_blocks, over_funcs};
-ghost use Rattle.ms_ir.specs.Places.{count_sites};
+ghost use Rattle.ms_ir.specs.{Instructions.{one_unmarked, over_insts, over_blocks, over_funcs}, Places.{count_sites}};
 ghost use Rattle.ms_ir.specs.Spots.{spot, over_spots, over_block_spots, over_func_spots, found};
 
 use crate::here::Here;
@@ -17,8 +16,7 @@ pub trait Clause<'m> {
     type Fault;
 
     ghost use Rattle.std.specs.Prelude.{◌≡◌, ◌<◌, List, IfOk, IfNone, slice_get, length};
-    ghost use Rattle.ms_ir.specs.declared.syntax.Inst.{Inst as Looked};
-    ghost use Rattle.ms_ir.specs.declared.syntax.Func.{Func as Around};
+    ghost use Rattle.ms_ir.specs.{declared.syntax.Inst.{Inst as Looked}, declared.syntax.Func.{Func as Around}};
     ghost use Rattle.ms_ir.specs.Spots.{Spot};
     ghost use Rattle.ms_tables.specs.Here.{spot_of};
 

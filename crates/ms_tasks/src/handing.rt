@@ -1,14 +1,9 @@
 //! Laws about calls: what the caller stores in the slots the callee loads, and what the callee stores the caller loads.
 //! That the slots are filled is said by `instruction_is_due`.
 ghost use Rattle.std.specs.Prelude.{◌≡◌, ◌≤◌, ℕ, true, length, List, Option, Some};
-ghost use Rattle.ms_ir.specs.declared.syntax.Name.{Name};
-ghost use Rattle.ms_ir.specs.declared.syntax.Ty.{Ty};
-ghost use Rattle.ms_ir.specs.declared.syntax.Operand.{Operand};
-ghost use Rattle.ms_runs.specs.World.{Setting, Here};
-ghost use Rattle.ms_runs.specs.Control.{bind};
-ghost use Rattle.ms_runs.specs.Poisoned.{Poisoned, clean};
-ghost use Rattle.ms_tasks.specs.Environments.{Env};
-ghost use Rattle.ms_tasks.specs.Known.{OneName, KnownResult, KnownParams, ArgsFit};
+ghost use Rattle.ms_ir.specs.{declared.syntax.Name.{Name}, declared.syntax.Ty.{Ty}, declared.syntax.Operand.{Operand}};
+ghost use Rattle.ms_runs.specs.{World.{Setting, Here}, Control.{bind}, Poisoned.{Poisoned, clean}};
+ghost use Rattle.ms_tasks.specs.{Environments.{Env}, Known.{OneName, KnownResult, KnownParams, ArgsFit}};
 ghost use Rattle.ms_tasks.specs.Match.{Matches, SlotAddresses, ArgsHeld};
 ghost use Rattle.ms_tasks.specs.SlotLaw.{SameLength, Entered, ReturnFits, ResultTaken};
 

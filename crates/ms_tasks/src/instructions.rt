@@ -2,23 +2,14 @@
 //! callee or caller takes, checks its operands, counts a blind use and defines the mask and the origin of its result; the
 //! list behind it sets the shadow and the origins of memory, or takes the result of a call. All as the shadow run does.
 ghost use Rattle.std.specs.Prelude.{◌≡◌, ◌≢◌, ◌≤◌, ◌+◌, ℕ, true, false, is_some, List, [], Option, Some, None};
-ghost use Rattle.ms_ir.specs.declared.syntax.Name.{Name};
-ghost use Rattle.ms_ir.specs.declared.syntax.Ty.{Ty};
-ghost use Rattle.ms_ir.specs.declared.syntax.Operand.{Operand};
+ghost use Rattle.ms_ir.specs.{declared.syntax.Name.{Name}, declared.syntax.Ty.{Ty}, declared.syntax.Operand.{Operand}};
+ghost use Rattle.ms_ir.specs.{declared.syntax.Inst.{Inst}, Names.{is_reserved}, Instructions.{operands}};
 ghost use Rattle.ms_ir.specs.declared.syntax.Op.TheVariants as op;
-ghost use Rattle.ms_ir.specs.declared.syntax.Inst.{Inst};
-ghost use Rattle.ms_ir.specs.Names.{is_reserved};
-ghost use Rattle.ms_ir.specs.Instructions.{operands};
-ghost use Rattle.ms_runs.specs.World.{World, Setting, Here, Gives, Does};
-ghost use Rattle.ms_runs.specs.Poisoned.{Poisoned};
-ghost use Rattle.ms_runs.specs.Masks.{by_formulas};
+ghost use Rattle.ms_runs.specs.{World.{World, Setting, Here, Gives, Does}, Poisoned.{Poisoned}, Masks.{by_formulas}};
 ghost use Rattle.ms_runs.specs.Shadow.{poisoned_result};
-ghost use Rattle.ms_tasks.specs.Meaning.{Values, set_result, BelowTasks};
-ghost use Rattle.ms_tasks.specs.Environments.{Env, Given, Tracked};
-ghost use Rattle.ms_tasks.specs.PlaneTasks.{saves};
-ghost use Rattle.ms_tasks.specs.Emit.{before_tasks, after_tasks, own_tasks, start};
-ghost use Rattle.ms_tasks.specs.Known.{AllApart};
-ghost use Rattle.ms_tasks.specs.Match.{Matches, RangedWorld, RangedValues, Saved};
+ghost use Rattle.ms_tasks.specs.{Meaning.{Values, set_result, BelowTasks}, Environments.{Env, Given, Tracked}};
+ghost use Rattle.ms_tasks.specs.{PlaneTasks.{saves}, Emit.{before_tasks, after_tasks, own_tasks, start}};
+ghost use Rattle.ms_tasks.specs.{Known.{AllApart}, Match.{Matches, RangedWorld, RangedValues, Saved}};
 ghost use Rattle.ms_tasks.specs.InstructionLaw.{given_of, Stands, words_at, checked_at, counted_at, acted_at, after_result, BeforeLaw, AfterLaw};
 
 /// The lists read and set no inserted name from a number on, where the names before it are those of the masks and

@@ -1,16 +1,10 @@
 //! Laws about phis: each is followed by the phis of its mask and of its origin, and a jump reads them all at once.
 ghost use Rattle.std.specs.Prelude.{◌≡◌, ℕ, drop, true, List};
-ghost use Rattle.ms_ir.specs.declared.syntax.Name.{Name};
-ghost use Rattle.ms_ir.specs.declared.syntax.Inst.{Inst};
-ghost use Rattle.ms_runs.specs.World.{Setting, Here};
-ghost use Rattle.ms_runs.specs.Control.{phis, count_phis};
-ghost use Rattle.ms_runs.specs.Act.{plain_reading};
-ghost use Rattle.ms_runs.specs.Poisoned.{Poisoned, clean};
-ghost use Rattle.ms_runs.specs.Shadow.{read_poisoned};
-ghost use Rattle.ms_tasks.specs.Environments.{Env, Given};
-ghost use Rattle.ms_tasks.specs.Known.{OneName, KnownPhis, PhiRoots};
-ghost use Rattle.ms_tasks.specs.Match.{Matches, RangedValues};
-ghost use Rattle.ms_tasks.specs.PassLists.{pass_insts, here_past};
+ghost use Rattle.ms_ir.specs.{declared.syntax.Name.{Name}, declared.syntax.Inst.{Inst}};
+ghost use Rattle.ms_runs.specs.{World.{Setting, Here}, Control.{phis, count_phis}, Act.{plain_reading}};
+ghost use Rattle.ms_runs.specs.{Poisoned.{Poisoned, clean}, Shadow.{read_poisoned}};
+ghost use Rattle.ms_tasks.specs.{Environments.{Env, Given}, Known.{OneName, KnownPhis, PhiRoots}};
+ghost use Rattle.ms_tasks.specs.{Match.{Matches, RangedValues}, PassLists.{pass_insts, here_past}};
 
 /// Where words matched before a jump from the block `from`, they match behind it, once what is known to be clean has the
 /// mask 0 there. What is left of the block behind its phis is the instrumented form of what is left of the module's.

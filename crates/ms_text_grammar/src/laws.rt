@@ -1,19 +1,12 @@
 //! What holds of every text.
 
 ghost use Rattle.std.specs.Prelude.{◌≡◌, ◌≤◌, ◌↔◌, ◌⊎◌, ℕ, ◌+◌, List, length};
-ghost use Rattle.ms_lex.specs.declared.kinds.Token.{Token};
-ghost use Rattle.ms_lex.specs.Tokens.{Text};
-ghost use Rattle.ms_ir.specs.declared.syntax.Func.{Func};
-ghost use Rattle.ms_ir.specs.declared.syntax.Module.{Module};
-ghost use Rattle.ms_ir.specs.declared.forms.Form.{Form};
+ghost use Rattle.ms_lex.specs.{declared.kinds.Token.{Token}, Tokens.{Text}};
+ghost use Rattle.ms_ir.specs.{declared.syntax.Func.{Func}, declared.syntax.Module.{Module}, declared.forms.Form.{Form}};
 ghost use Rattle.ms_ir.specs.declared.forms.Form.TheVariants.{Plain, Instrumented};
-ghost use Rattle.ms_text_grammar.specs.declared.refusals.Cause.{Cause};
-ghost use Rattle.ms_text_grammar.specs.Answers.{answer_of, reads, stops};
-ghost use Rattle.ms_text_grammar.specs.Bodies.{max_instructions};
-ghost use Rattle.ms_text_grammar.specs.Bounds.{WithinLimits};
-ghost use Rattle.ms_text_grammar.specs.Functions.{function};
-ghost use Rattle.ms_text_grammar.specs.Lexemes.{Lexeme};
-ghost use Rattle.ms_text_grammar.specs.Modules.{instructions_of};
+ghost use Rattle.ms_text_grammar.specs.{declared.refusals.Cause.{Cause}, Answers.{answer_of, reads, stops}};
+ghost use Rattle.ms_text_grammar.specs.{Bodies.{max_instructions}, Bounds.{WithinLimits}, Functions.{function}};
+ghost use Rattle.ms_text_grammar.specs.{Lexemes.{Lexeme}, Modules.{instructions_of}};
 ghost use Rattle.ms_text_grammar.specs.Texts.{HasTokens, Reads, ReadsUpTo, Stops, max_bytes};
 
 /// A text reads as one module, or stops at one token for one cause, and never both.

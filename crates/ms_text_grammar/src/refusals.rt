@@ -1,8 +1,7 @@
 //! Why a token can't stand where it stands.
 
 ghost use Rattle.std.specs.Prelude.{◌≡◌};
-ghost use Rattle.ms_text_grammar.specs.declared.refusals.Cause.TheVariants.{NoMemory};
-ghost use Rattle.ms_text_grammar.specs.Causes.{printed_number};
+ghost use Rattle.ms_text_grammar.specs.{declared.refusals.Cause.TheVariants.{NoMemory}, Causes.{printed_number}};
 
 use std::alloc::{AllocError, AllocFailed};
 

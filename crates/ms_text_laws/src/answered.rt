@@ -1,13 +1,10 @@
 //! What holds of every text.
 
 ghost use Rattle.std.specs.Prelude.{◌≡◌, ◌≤◌, ◌⊎◌, ℕ, length, Err, is_some, IsTrue};
-ghost use Rattle.ms_lex.specs.declared.errors.LexError.{LexError};
-ghost use Rattle.ms_lex.specs.declared.errors.LexError.TheVariants.{NoMemory};
+ghost use Rattle.ms_lex.specs.{declared.errors.LexError.{LexError}, declared.errors.LexError.TheVariants.{NoMemory}};
 ghost use Rattle.ms_lex.specs.Tokens.{Text, tokens_of};
-ghost use Rattle.ms_ir.specs.declared.syntax.Module.{Module};
-ghost use Rattle.ms_ir.specs.declared.forms.Form.{Form};
-ghost use Rattle.ms_text_grammar.specs.declared.refusals.Cause.{Cause};
-ghost use Rattle.ms_text_grammar.specs.Causes.{printed_number};
+ghost use Rattle.ms_ir.specs.{declared.syntax.Module.{Module}, declared.forms.Form.{Form}};
+ghost use Rattle.ms_text_grammar.specs.{declared.refusals.Cause.{Cause}, Causes.{printed_number}};
 ghost use Rattle.ms_text_grammar.specs.Texts.{Reads, Stops, max_bytes, max_tokens};
 
 /// Every text that isn't too long reads as a module, or stops at a token for a cause that has a printed number, or has no

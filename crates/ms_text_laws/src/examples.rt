@@ -2,11 +2,9 @@
 ghost use Rattle.std.specs.Prelude.{◌≡◌};
 ghost use Rattle.ms_ir.specs.declared.forms.Form.TheVariants.{Plain};
 ghost use Rattle.ms_text_grammar.specs.Answers.{answer_of, reads};
-ghost use Rattle.ms_valid.specs.ExampleFaults.{undefined_on_a_path};
-ghost use Rattle.ms_valid.specs.Formed.{Formed};
+ghost use Rattle.ms_valid.specs.{ExampleFaults.{undefined_on_a_path}, Formed.{Formed}};
 ghost use Rattle.ms_text_layout.specs.ExampleModules.{odd_names, many_parts, marked_parts};
-ghost use Rattle.ms_text_laws.specs.ExampleTexts.{undefined_on_a_path_text};
-ghost use Rattle.ms_text_laws.specs.Fits.{FitsText};
+ghost use Rattle.ms_text_laws.specs.{ExampleTexts.{undefined_on_a_path_text}, Fits.{FitsText}};
 
 /// Modules with odd names, with all parts of modules, and with marks are formed, and an instrumented text can hold them.
 pub fn modules_fit()

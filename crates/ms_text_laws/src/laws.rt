@@ -3,20 +3,14 @@
 ghost use Rattle.std.specs.Prelude.{◌≡◌, ◌<◌, ◌≤◌, ◌^◌, ℕ, [], Err, decimal};
 ghost use Rattle.ms_bits.specs.Signed.{signed, wrap};
 ghost use Rattle.ms_lex.specs.declared.errors.LexError.{LexError};
-ghost use Rattle.ms_lex.specs.declared.errors.LexError.TheVariants.{TooManyTokens};
-ghost use Rattle.ms_lex.specs.Grammar.{done, run};
-ghost use Rattle.ms_lex.specs.Numbers as read;
+ghost use Rattle.ms_lex.specs.{declared.errors.LexError.TheVariants.{TooManyTokens}, Grammar.{done, run}};
 ghost use Rattle.ms_lex.specs.Tokens.{tokens_of};
-ghost use Rattle.ms_ir.specs.declared.syntax.Module.{Module};
-ghost use Rattle.ms_ir.specs.declared.forms.Form.TheVariants.{Instrumented};
-ghost use Rattle.ms_text_grammar.specs.declared.refusals.Cause.{Cause};
-ghost use Rattle.ms_text_grammar.specs.Lexemes.{end_of_text};
-ghost use Rattle.ms_text_grammar.specs.Modules.{module_rule};
+ghost use Rattle.ms_lex.specs.Numbers as read;
+ghost use Rattle.ms_ir.specs.{declared.syntax.Module.{Module}, declared.forms.Form.TheVariants.{Instrumented}};
+ghost use Rattle.ms_text_grammar.specs.{declared.refusals.Cause.{Cause}, Lexemes.{end_of_text}, Modules.{module_rule}};
 ghost use Rattle.ms_text_grammar.specs.Texts.{Reads, Stops, max_tokens};
 ghost use Rattle.ms_valid.specs.Formed.{Formed};
-ghost use Rattle.ms_text_layout.specs.Modules.{module_pieces, written};
-ghost use Rattle.ms_text_layout.specs.Names.{signed_text};
-ghost use Rattle.ms_text_layout.specs.Pieces.{tokens_in};
+ghost use Rattle.ms_text_layout.specs.{Modules.{module_pieces, written}, Names.{signed_text}, Pieces.{tokens_in}};
 ghost use Rattle.ms_text_laws.specs.Fits.{FitsForm, FitsText, NamesLimit};
 
 /// Digits of a number below 2^64 are read as that number. So is the signed text of a word of an integer type, modulo 2 to

@@ -1,13 +1,10 @@
 //! What holds of all pieces.
 
 ghost use Rattle.std.specs.Prelude.{◌≡◌, ◌≤◌, ◌++◌, ℕ, List, IsTrue, length, Ok};
-ghost use Rattle.ms_lex.specs.Names.{decoded};
-ghost use Rattle.ms_lex.specs.Tokens.{Text, tokens_of};
-ghost use Rattle.ms_ir.specs.declared.syntax.Name.TheVariants.{Text as Called};
-ghost use Rattle.ms_ir.specs.declared.syntax.Module.{Module};
+ghost use Rattle.ms_lex.specs.{Names.{decoded}, Tokens.{Text, tokens_of}};
+ghost use Rattle.ms_ir.specs.{declared.syntax.Name.TheVariants.{Text as Called}, declared.syntax.Module.{Module}};
 ghost use Rattle.ms_text_grammar.specs.Lexemes.{lexemes_of};
-ghost use Rattle.ms_text_layout.specs.Apart.{AreApart, AreWholeLines, spans};
-ghost use Rattle.ms_text_layout.specs.Modules.{module_pieces, written};
+ghost use Rattle.ms_text_layout.specs.{Apart.{AreApart, AreWholeLines, spans}, Modules.{module_pieces, written}};
 ghost use Rattle.ms_text_layout.specs.Names.{are_bytes, name_text, quoted};
 ghost use Rattle.ms_text_layout.specs.Pieces.{Piece, render, tokens_in, Line, pieces_of};
 

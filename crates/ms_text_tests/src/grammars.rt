@@ -1,8 +1,7 @@
 //! The laws of grammars at a small one.
 
 ghost use Rattle.std.specs.Prelude.{◌≡◌, [], codes};
-ghost use Rattle.ms_lex.specs.Grammar.{done, fails, run};
-ghost use Rattle.ms_lex.specs.Sums.{sum};
+ghost use Rattle.ms_lex.specs.{Grammar.{done, fails, run}, Sums.{sum}};
 
 use ms_lex::{HasGrammar, reads_or_stops};
 

@@ -1,13 +1,10 @@
 //! What the thread calls do (POSIX, "pthread_create", "pthread_join" and "sched_yield"; own: numbers and their limit).
 ghost use Rattle.std.specs.Prelude.{◌≡◌, ◌<◌, ◌+◌, ◌∷◌, ◌||◌, [], Some, true, false, eqb, if◌then◌else◌, get_or, IfOk, MatchBool, List};
 ghost use Rattle.ms_ir.specs.declared.syntax.Ty.{Ty};
-ghost use Rattle.ms_runs.specs.World.{World as Meant, Setting};
-ghost use Rattle.ms_runs.specs.Memory.{is_good, store_number};
+ghost use Rattle.ms_runs.specs.{World.{World as Meant, Setting}, Memory.{is_good, store_number}};
 ghost use Rattle.ms_runs.specs.Externals.{create as create_of, join as join_of};
 ghost use Rattle.ms_threads_runs.specs.Fibers.{waits as waits_of};
-ghost use Rattle.ms_host.specs.State.{Beside, Keeps};
-ghost use Rattle.ms_host.specs.Shows.{Shows};
-ghost use Rattle.ms_host.specs.Answers.{asked_effect};
+ghost use Rattle.ms_host.specs.{State.{Beside, Keeps}, Shows.{Shows}, Answers.{asked_effect}};
 ghost use Rattle.ms_threads.specs.Guests.{IsThreadCall, asked_starts, call_joins, threads_of, Shares, KeepsStands, Did};
 
 use crate::guests::{Guests, creates, joins, word};

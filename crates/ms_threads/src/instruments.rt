@@ -1,17 +1,13 @@
 //! The instrumented form of a module with threads.
 ghost use Rattle.std.specs.Prelude.{◌≡◌, ℕ, List, IfOk};
 ghost use Rattle.ms_ir.specs.Instructions.{strip};
-ghost use Rattle.ms_runs.specs.declared.runs.Setup.{Setup as SetupOf};
-ghost use Rattle.ms_runs.specs.Faithful.{Fair, Faithful, Undisturbed};
+ghost use Rattle.ms_runs.specs.{declared.runs.Setup.{Setup as SetupOf}, Faithful.{Fair, Faithful, Undisturbed}};
 ghost use Rattle.ms_runs.specs.Plain.{plain};
-ghost use Rattle.ms_valid.specs.Formed.{Formed};
-ghost use Rattle.ms_valid.specs.Uninstrumented.{CanInstrument};
-ghost use Rattle.ms_valid.specs.Valid.{Valid};
+ghost use Rattle.ms_valid.specs.{Formed.{Formed}, Uninstrumented.{CanInstrument}, Valid.{Valid}};
 ghost use Rattle.ms_elide_laws.specs.Elided.{IsElided, ChecksUnclean};
 ghost use Rattle.ms_pass.specs.Passed.{IsMadeOf};
 ghost use Rattle.ms_threads_runs.specs.PlainFibers.{plain_threads};
-ghost use Rattle.ms_threads.specs.Faithful.{FaithfulThreads, IsSchedule};
-ghost use Rattle.ms_threads.specs.Fills.{ThreadsHoldUnderFills};
+ghost use Rattle.ms_threads.specs.{Faithful.{FaithfulThreads, IsSchedule}, Fills.{ThreadsHoldUnderFills}};
 
 use ms_bits::NoMemory;
 use ms_check::CheckedModule;

@@ -2,15 +2,11 @@
 ghost use Rattle.std.specs.Prelude.{◌≡◌, ◌<◌, ◌≤◌, ◌^◌, ℕ, List, suc, None, length, IfOk, OnOk, MatchBool};
 ghost use Rattle.ms_ir.specs.declared.syntax.Module.{Module as ModuleOf};
 ghost use Rattle.ms_ir.specs.declared.calls.RuntimeFn.TheVariants.{ThreadResult as ResultOf};
-ghost use Rattle.ms_runs.specs.declared.runs.Setup.{Setup as SetupOf};
-ghost use Rattle.ms_runs.specs.Limits.{WithinLimits};
+ghost use Rattle.ms_runs.specs.{declared.runs.Setup.{Setup as SetupOf}, Limits.{WithinLimits}};
 ghost use Rattle.ms_threads_runs.specs.PlainFibers.{plain_threads};
 ghost use Rattle.ms_host.specs.declared.calls.Answer.TheVariants.{Resumed as ResumedOf};
-ghost use Rattle.ms_runtime.specs.Answering.{AnsweredFor};
-ghost use Rattle.ms_runtime.specs.Going.{ahead};
-ghost use Rattle.ms_runtime.specs.Served.{Fits};
-ghost use Rattle.ms_threads.specs.Faithful.{IsSchedule};
-ghost use Rattle.ms_threads.specs.Guests.{IsThreadCall, IsResult, standing_of};
+ghost use Rattle.ms_runtime.specs.{Answering.{AnsweredFor}, Going.{ahead}, Served.{Fits}};
+ghost use Rattle.ms_threads.specs.{Faithful.{IsSchedule}, Guests.{IsThreadCall, IsResult, standing_of}};
 ghost use Rattle.ms_threads.specs.Going.{Asking, Behind, Picking, Performing, Beginning, Going, HasEnded, Turned, IsGoing, IsAsking, IsBehind, IsPicking, IsPerforming, IsBeginning, most_ahead, far_of};
 
 use crate::guests::{Guests, exchange, word};

@@ -1,8 +1,6 @@
 //! Whether a module has threads.
-ghost use Rattle.std.specs.Prelude.{◌≡◌};
-ghost use Rattle.std.specs.List.{list_any};
-ghost use Rattle.ms_ir.specs.Names.{lookup, externals, name_eq};
-ghost use Rattle.ms_ir.specs.Instructions.{func_index};
+ghost use Rattle.std.specs.{Prelude.{◌≡◌}, List.{list_any}};
+ghost use Rattle.ms_ir.specs.{Names.{lookup, externals, name_eq}, Instructions.{func_index}};
 ghost use Rattle.ms_ir.specs.ThreadCalls.{is_asked, calls_thread, is_block_threaded, is_func_threaded, is_threaded};
 
 use ms_ir::{Block, External, Func, Inst, Module, Name, Op};

@@ -2,14 +2,10 @@
 ghost use Rattle.std.specs.Prelude.{◌≡◌, ℕ, List, []};
 ghost use Rattle.ms_ir.specs.declared.syntax.Module.{Module};
 ghost use Rattle.ms_runs.specs.declared.runs.Setup.{Setup};
-ghost use Rattle.ms_valid.specs.Formed.{Formed};
-ghost use Rattle.ms_valid.specs.Uninstrumented.{CanInstrument};
-ghost use Rattle.ms_valid.specs.Valid.{Valid};
-ghost use Rattle.ms_good_laws.specs.Fills.{IsFill, refilled, to_first_report, SameShown};
-ghost use Rattle.ms_good_laws.specs.GoodWorlds.{GivesBytes};
+ghost use Rattle.ms_valid.specs.{Formed.{Formed}, Uninstrumented.{CanInstrument}, Valid.{Valid}};
+ghost use Rattle.ms_good_laws.specs.{Fills.{IsFill, refilled, to_first_report, SameShown}, GoodWorlds.{GivesBytes}};
 ghost use Rattle.ms_fills_laws.specs.First.{FirstOf};
-ghost use Rattle.ms_threads_runs.specs.PlainFibers.{plain_threads};
-ghost use Rattle.ms_threads_runs.specs.ShadowFibers.{shadow_threads};
+ghost use Rattle.ms_threads_runs.specs.{PlainFibers.{plain_threads}, ShadowFibers.{shadow_threads}};
 
 /// With one schedule, a shadow run that ends at its first report and has no blind use is the same under every fill; where it
 /// has no report, the program itself prints the same and ends in the same way under every fill. A run up to its first report is

@@ -1,8 +1,7 @@
 //! Masks by completions and by formulas, in runs of fibers.
 ghost use Rattle.std.specs.Prelude.{◌≡◌, ℕ, List};
 ghost use Rattle.ms_ir.specs.declared.syntax.Module.{Module};
-ghost use Rattle.ms_runs.specs.declared.runs.Setup.{Setup};
-ghost use Rattle.ms_runs.specs.Masks.{Rules, SameRules, by_completions, by_formulas};
+ghost use Rattle.ms_runs.specs.{declared.runs.Setup.{Setup}, Masks.{Rules, SameRules, by_completions, by_formulas}};
 ghost use Rattle.ms_threads_runs.specs.ShadowFibers.{shadow_threads_by};
 
 /// Rules that give the same masks give the same shadow runs of fibers under every schedule. So do the rules by completions

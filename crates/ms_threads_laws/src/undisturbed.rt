@@ -1,12 +1,8 @@
 //! What a shadow run with guest threads shows of the plain run.
 ghost use Rattle.std.specs.Prelude.{ℕ, List};
-ghost use Rattle.ms_ir.specs.declared.syntax.Module.{Module};
-ghost use Rattle.ms_ir.specs.Instructions.{NoMarks};
-ghost use Rattle.ms_runs.specs.declared.runs.Setup.{Setup};
-ghost use Rattle.ms_runs.specs.Masks.{Rules};
-ghost use Rattle.ms_runs.specs.Faithful.{Undisturbed};
-ghost use Rattle.ms_threads_runs.specs.PlainFibers.{plain_threads};
-ghost use Rattle.ms_threads_runs.specs.ShadowFibers.{shadow_threads_by};
+ghost use Rattle.ms_ir.specs.{declared.syntax.Module.{Module}, Instructions.{NoMarks}};
+ghost use Rattle.ms_runs.specs.{declared.runs.Setup.{Setup}, Masks.{Rules}, Faithful.{Undisturbed}};
+ghost use Rattle.ms_threads_runs.specs.{PlainFibers.{plain_threads}, ShadowFibers.{shadow_threads_by}};
 
 /// Checks don't disturb a run of fibers: with one schedule the shadow run of a module without marks puts out a beginning of
 /// what its plain run puts out, and unless it ends as reported it has the same end and the same output.

@@ -4,8 +4,7 @@ ghost use Rattle.ms_bits.specs.declared.traps.Trap.TheVariants as trap;
 ghost use Rattle.ms_runs.specs.declared.runs.End.TheVariants as «end»;
 ghost use Rattle.ms_runs.specs.declared.runs.Origin.TheVariants as origin;
 ghost use Rattle.ms_runs.specs.ExampleRuns.{defaults, steps, prints, spent, trapped, exits, reported};
-ghost use Rattle.ms_threads_runs.specs.PlainFibers.{plain_threads};
-ghost use Rattle.ms_threads_runs.specs.ShadowFibers.{shadow_threads};
+ghost use Rattle.ms_threads_runs.specs.{PlainFibers.{plain_threads}, ShadowFibers.{shadow_threads}};
 ghost use Rattle.ms_threads_runs.specs.Examples.{prints_from_two, joins_round, joins_unset, reads_room_of_ended, frees_own_room};
 
 /// Plain runs with a schedule.

@@ -2,20 +2,16 @@
 ghost use Rattle.std.specs.Prelude.{◌≡◌, ◌≤◌, [], false, length, IfErr, IfOk, IfSome, OnOk, Ok};
 ghost use Rattle.ms_runs.specs.Limits.{WithinLimits};
 ghost use Rattle.ms_ir.specs.ThreadCalls.{is_threaded};
-ghost use Rattle.ms_valid.specs.Formed.{Formed};
-ghost use Rattle.ms_valid.specs.Refusals.{IsRefused};
-ghost use Rattle.ms_valid.specs.Uninstrumented.{CanInstrument};
-ghost use Rattle.ms_valid.specs.Valid.{Valid};
+ghost use Rattle.ms_valid.specs.{Formed.{Formed}, Refusals.{IsRefused}, Uninstrumented.{CanInstrument}, Valid.{Valid}};
 ghost use Rattle.ms_check.specs.Faults.{fault_of};
 ghost use Rattle.ms_text_grammar.specs.Texts.{Reads};
 ghost use Rattle.ms_report.specs.RefusalTexts.{HasLine, threads_text, wants_memory as is_want_of_memory};
 ghost use Rattle.ms_report.specs.WithLines.{refusal_text_with};
 ghost use Rattle.ms_words.specs.Limits.{RunsWithinLimits, IsWithinLimits};
 ghost use Rattle.ms_top.specs.Command.{form_of, setup_of as setup_with, module_limit, input_limit, only_input as only_input_of};
-ghost use Rattle.ms_top.specs.Parts.{AreShort, IsReady, IsRunOfGiven};
-ghost use Rattle.ms_threads.specs.Faithful.{IsSchedule};
-ghost use Rattle.ms_top.specs.Runs.{plain_under};
+ghost use Rattle.ms_top.specs.{Parts.{AreShort, IsReady, IsRunOfGiven}, Runs.{plain_under}};
 ghost use Rattle.ms_top.specs.Said.{answer_of, answer_of_result, run_text, says, status_of as status_of_run, IsAnswerOfInstrument, IsAnswerOfCheck, IsAnswerToValid, IsAnswerToModule, IsAnswerToReading, IsAnswerToText};
+ghost use Rattle.ms_threads.specs.Faithful.{IsSchedule};
 ghost use Rattle.ms_top.specs.Statuses as statuses;
 
 use crate::commands::{form_of, located_file};

@@ -1,8 +1,7 @@
 //! The command that words ask for, and what belongs to it: the form and the size of its module's text, the name of its file,
 //! and those of its inputs' files.
 ghost use Rattle.std.specs.Prelude.{◌≡◌, None, Some, IfOk, IfSome};
-ghost use Rattle.ms_words.specs.Limits.{IsWithinLimits};
-ghost use Rattle.ms_words.specs.Words.{IsAnswer};
+ghost use Rattle.ms_words.specs.{Limits.{IsWithinLimits}, Words.{IsAnswer}};
 ghost use Rattle.ms_top.specs.Command.{form_of, input_names, located_file as located_file_of, module_limit};
 
 use ms_bits::{Boxed, Text};

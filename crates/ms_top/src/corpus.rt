@@ -1,11 +1,9 @@
 //! What `corpus` says: a section for each input.
 ghost use Rattle.std.specs.Prelude.{◌≡◌, ◌≤◌, ◌++◌, [], false, codes, decimal, IfOk};
 ghost use Rattle.ms_ir.specs.ThreadCalls.{is_threaded};
-ghost use Rattle.ms_valid.specs.Formed.{Formed};
-ghost use Rattle.ms_valid.specs.Uninstrumented.{CanInstrument};
+ghost use Rattle.ms_valid.specs.{Formed.{Formed}, Uninstrumented.{CanInstrument}};
 ghost use Rattle.ms_words.specs.Limits.{RunsWithinLimits};
-ghost use Rattle.ms_top.specs.Command.{setup_of as setup_with};
-ghost use Rattle.ms_top.specs.Parts.{AreShort, AreRunsOfGiven, AreWithinLimits};
+ghost use Rattle.ms_top.specs.{Command.{setup_of as setup_with}, Parts.{AreShort, AreRunsOfGiven, AreWithinLimits}};
 ghost use Rattle.ms_top.specs.Said.{answer_of_results, has_status, heading_of, section_of, sections_of, status_of_all as status_of_runs, AreSections, IsAnswerOfCorpus};
 
 use crate::answers::{Answer, refused_threads, setup_of, status_of, text_of_run};

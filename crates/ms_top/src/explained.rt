@@ -3,8 +3,7 @@ ghost use Rattle.std.specs.Prelude.{◌≡◌, ◌≤◌, ◌<◌, ◌^◌, true
 ghost use Rattle.ms_ir.specs.ThreadCalls.{is_threaded};
 ghost use Rattle.ms_moves.specs.Scanned.{Ascending, trail_of};
 ghost use Rattle.ms_runs.specs.Limits.{WithinLimits};
-ghost use Rattle.ms_valid.specs.Formed.{Formed};
-ghost use Rattle.ms_valid.specs.Uninstrumented.{CanInstrument};
+ghost use Rattle.ms_valid.specs.{Formed.{Formed}, Uninstrumented.{CanInstrument}};
 ghost use Rattle.ms_words.specs.Limits.{RunsWithinLimits};
 ghost use Rattle.ms_top.specs.Command.{input_limit, setup_of as setup_with};
 ghost use Rattle.ms_top.specs.Explained.{CanLead, explained_with, followed, trace_with, way_with};

@@ -1,14 +1,10 @@
 //! What is said of words and files.
 ghost use Rattle.std.specs.Prelude.{◌≡◌, ◌≤◌, ◌++◌, false, codes, length, Some, IfErr, IfOk};
-ghost use Rattle.ms_report.specs.RunTexts.{line};
-ghost use Rattle.ms_report.specs.WordsTexts.{words_text};
-ghost use Rattle.ms_words.specs.Limits.{IsWithinLimits};
-ghost use Rattle.ms_words.specs.Words.{name_of, place_of};
-ghost use Rattle.ms_top.specs.Command.{input_files, module_file, module_limit};
-ghost use Rattle.ms_top.specs.Files.{counted, CanRead, Whole};
+ghost use Rattle.ms_report.specs.{RunTexts.{line}, WordsTexts.{words_text}};
+ghost use Rattle.ms_words.specs.{Limits.{IsWithinLimits}, Words.{name_of, place_of}};
+ghost use Rattle.ms_top.specs.{Command.{input_files, module_file, module_limit}, Files.{counted, CanRead, Whole}};
 ghost use Rattle.ms_top.specs.Parts.{AreShort, IsAnswerBehind, IsAnswerToFault, is_want_of_memory};
-ghost use Rattle.ms_top.specs.Said.{IsAnswerToCommand, says};
-ghost use Rattle.ms_top.specs.Unread.{IsUnread};
+ghost use Rattle.ms_top.specs.{Said.{IsAnswerToCommand, says}, Unread.{IsUnread}};
 ghost use Rattle.ms_top.specs.Statuses as statuses;
 
 use crate::answers::{Answer, answer_to_text};

@@ -1,15 +1,11 @@
 //! What `gen` says: the text of the module that it makes, or the summary of its run.
 ghost use Rattle.std.specs.Prelude.{◌≡◌, ◌∷◌, [], true, IfOk};
-ghost use Rattle.ms_valid.specs.Formed.{Formed};
-ghost use Rattle.ms_valid.specs.Uninstrumented.{CanInstrument};
-ghost use Rattle.ms_valid.specs.Valid.{Valid};
+ghost use Rattle.ms_valid.specs.{Formed.{Formed}, Uninstrumented.{CanInstrument}, Valid.{Valid}};
 ghost use Rattle.ms_text_layout.specs.Modules.{written as text_of};
 ghost use Rattle.ms_report.specs.SummaryTexts.{summary_of};
-ghost use Rattle.ms_words.specs.Limits.{MadeWithinLimits};
-ghost use Rattle.ms_words.specs.Words.{defaults};
+ghost use Rattle.ms_words.specs.{Limits.{MadeWithinLimits}, Words.{defaults}};
 ghost use Rattle.ms_gen.specs.Generator.{generated};
-ghost use Rattle.ms_top.specs.Command.{setup_of};
-ghost use Rattle.ms_top.specs.Said.{answer_of, status_of as status_of_run, IsAnswerOfGen};
+ghost use Rattle.ms_top.specs.{Command.{setup_of}, Said.{answer_of, status_of as status_of_run, IsAnswerOfGen}};
 ghost use Rattle.ms_top.specs.Statuses as statuses;
 
 use crate::answers::{Answer, run_given, status_of};

@@ -1,11 +1,8 @@
 //! The pass as a parameter of the top call.
-ghost use Rattle.std.specs.Prelude.{◌≡◌, true, false, IfOk};
-ghost use Rattle.std.specs.Thread.{IsSync};
-ghost use Rattle.ms_ir.specs.declared.syntax.Module.{Module as ModuleOf};
-ghost use Rattle.ms_ir.specs.Instructions.{strip};
+ghost use Rattle.std.specs.{Prelude.{◌≡◌, true, false, IfOk}, Thread.{IsSync}};
+ghost use Rattle.ms_ir.specs.{declared.syntax.Module.{Module as ModuleOf}, Instructions.{strip}};
 ghost use Rattle.ms_ir.specs.ThreadCalls.{is_threaded};
-ghost use Rattle.ms_valid.specs.Formed.{Formed};
-ghost use Rattle.ms_valid.specs.Uninstrumented.{CanInstrument};
+ghost use Rattle.ms_valid.specs.{Formed.{Formed}, Uninstrumented.{CanInstrument}};
 ghost use Rattle.ms_top.specs.Instrumented.{IsInstrumented};
 
 use ms_bits::{Boxed, Duplicate, NoMemory};

@@ -1,7 +1,6 @@
 //! Puts texts to sinks, in pieces.
 ghost use Rattle.std.specs.Prelude.{◌≡◌, ◌≢◌, ◌≤◌, ◌⊎◌, OnOk, OnErr};
-ghost use Rattle.ms_io.specs.Counts.{Rose};
-ghost use Rattle.ms_io.specs.Writing.{with_appended, AppendsPrefix};
+ghost use Rattle.ms_io.specs.{Counts.{Rose}, Writing.{with_appended, AppendsPrefix}};
 ghost use Rattle.ms_top.specs.Said.{answer_of, between, WritesWhole, WritesPart};
 ghost use Rattle.ms_top.specs.Statuses as statuses;
 

@@ -1,11 +1,9 @@
 //! The top calls.
 ghost use Rattle.std.specs.Prelude.{◌≡◌, ◌≢◌, ◌≤◌, ◌⊎◌, Err, IfOk};
 ghost use Rattle.ms_io.specs.Counts.{Rose};
-ghost use Rattle.ms_words.specs.declared.commands.WordsError.{WordsError};
-ghost use Rattle.ms_words.specs.Limits.{IsWithinLimits};
+ghost use Rattle.ms_words.specs.{declared.commands.WordsError.{WordsError}, Limits.{IsWithinLimits}};
 ghost use Rattle.ms_words.specs.Words.{command_of};
-ghost use Rattle.ms_top.specs.Files.{counted};
-ghost use Rattle.ms_top.specs.Instrumented.{IsInstrumented};
+ghost use Rattle.ms_top.specs.{Files.{counted}, Instrumented.{IsInstrumented}};
 ghost use Rattle.ms_top.specs.Said.{IsSaid, IsPartlySaid, IsDone, IsPartlyDone, IsTold, IsPartlyTold, between};
 ghost use Rattle.ms_top.specs.Statuses as statuses;
 

@@ -2,8 +2,7 @@
 ghost use Rattle.std.specs.Prelude.{◌≡◌, ◌<◌, ◌^◌, length, IfOk, false};
 ghost use Rattle.ms_ir.specs.ThreadCalls.{is_threaded};
 ghost use Rattle.ms_runs.specs.Limits.{WithinLimits};
-ghost use Rattle.ms_valid.specs.Formed.{Formed};
-ghost use Rattle.ms_valid.specs.Uninstrumented.{CanInstrument};
+ghost use Rattle.ms_valid.specs.{Formed.{Formed}, Uninstrumented.{CanInstrument}};
 ghost use Rattle.ms_moves.specs.Scanned.{Ascending};
 ghost use Rattle.ms_top.specs.Explained.{CanLead};
 

@@ -1,9 +1,7 @@
 //! The code of the instruction that is due, and its site.
 ghost use Rattle.std.specs.Prelude.{◌≡◌, ◌∷◌, ◌<◌, ℕ, List, length, get_or};
 ghost use Rattle.ms_ir.specs.Instructions.{site_at};
-ghost use Rattle.ms_runs.specs.declared.runs.Setup.{Setup};
-ghost use Rattle.ms_runs.specs.Control.{Frame as FrameOf};
-ghost use Rattle.ms_runs.specs.Plain.{PlainState};
+ghost use Rattle.ms_runs.specs.{declared.runs.Setup.{Setup}, Control.{Frame as FrameOf}, Plain.{PlainState}};
 ghost use Rattle.ms_host.specs.State.{Beside};
 ghost use Rattle.ms_machine.specs.Running.{IsRunning, Runs};
 ghost use Rattle.ms_trail_uses.specs.Due.{IsDue};

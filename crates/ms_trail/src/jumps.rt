@@ -2,20 +2,14 @@
 ghost use Rattle.std.specs.Prelude.{◌≡◌, ◌≤◌, ◌<◌, ◌+◌, ◌^◌, ◌++◌, ℕ, List, length, All, IfOk, OnOk};
 ghost use Rattle.ms_ir.specs.declared.syntax.Module.{Module};
 ghost use Rattle.ms_ir.specs.Instructions.{func_index, insts_at, root_at, site_at, count_roots, NoMarks};
-ghost use Rattle.ms_runs.specs.declared.runs.Setup.{Setup};
-ghost use Rattle.ms_runs.specs.Control.{count_phis};
-ghost use Rattle.ms_code.specs.Fits.{IsMove};
-ghost use Rattle.ms_code.specs.Words.{put_all};
-ghost use Rattle.ms_code.specs.Encodes.{number_of};
+ghost use Rattle.ms_runs.specs.{declared.runs.Setup.{Setup}, Control.{count_phis}};
+ghost use Rattle.ms_code.specs.{Fits.{IsMove}, Words.{put_all}, Encodes.{number_of}};
 ghost use Rattle.ms_machine_frames.specs.Meaning.{IsJump};
-ghost use Rattle.ms_moves.specs.Traces.{Traced};
-ghost use Rattle.ms_moves.specs.declared.moves.Move.{Move as MoveOf};
-ghost use Rattle.ms_trail.specs.Following.{IsFollowed, Passes, Went};
-ghost use Rattle.ms_trail_bytes.specs.Logs.{IsLog};
-ghost use Rattle.ms_trail.specs.Phis.{TellsPhis, phis_told};
+ghost use Rattle.ms_moves.specs.{Traces.{Traced}, declared.moves.Move.{Move as MoveOf}};
+ghost use Rattle.ms_trail.specs.{Following.{IsFollowed, Passes, Went}, Phis.{TellsPhis, phis_told}};
 ghost use Rattle.ms_trail.specs.Ready.{Grew, IsReady};
-ghost use Rattle.ms_trail_uses.specs.Tabled.{AreTables};
-ghost use Rattle.ms_trail_uses.specs.Taken.{IsTaken};
+ghost use Rattle.ms_trail_bytes.specs.Logs.{IsLog};
+ghost use Rattle.ms_trail_uses.specs.{Tabled.{AreTables}, Taken.{IsTaken}};
 
 use crate::due::due_site;
 use crate::follower::Follower;

@@ -1,25 +1,14 @@
 //! What code decides of the shadow meaning of its instruction: laws, each a public function with an empty body, whose promise is
 //! the law.
 ghost use Rattle.std.specs.Prelude.{◌≡◌, ℕ, List, false};
-ghost use Rattle.ms_ir.specs.declared.syntax.Name.{Name};
-ghost use Rattle.ms_ir.specs.declared.syntax.Ty.{Ty};
-ghost use Rattle.ms_ir.specs.declared.syntax.Operand.{Operand};
-ghost use Rattle.ms_ir.specs.declared.syntax.Inst.{Inst};
-ghost use Rattle.ms_ir.specs.Instructions.{func_index, operands};
-ghost use Rattle.ms_runs.specs.declared.runs.Setup.{Setup};
-ghost use Rattle.ms_runs.specs.World.{World, Setting};
-ghost use Rattle.ms_runs.specs.Poisoned.{Poisoned};
-ghost use Rattle.ms_runs.specs.Masks.{result_origin};
-ghost use Rattle.ms_runs.specs.Uses.{CheckedUse, uses, check_uses};
-ghost use Rattle.ms_moves.specs.declared.moves.Source.{Source as SourceOf};
-ghost use Rattle.ms_moves.specs.Sources.{placed};
-ghost use Rattle.ms_moves.specs.Traces.{read_by};
-ghost use Rattle.ms_code.specs.declared.code.Code.{Code};
-ghost use Rattle.ms_code.specs.Encodes.{Where, Encodes, in_main};
-ghost use Rattle.ms_shades.specs.Shades.{HoldsShades};
-ghost use Rattle.ms_shades.specs.Results.{IsComputed, words_read};
-ghost use Rattle.ms_trail_uses.specs.Used.{first_read, code_read, source_of, Checked};
-ghost use Rattle.ms_trail_uses.specs.Origins.{place_read};
+ghost use Rattle.ms_ir.specs.{declared.syntax.Name.{Name}, declared.syntax.Ty.{Ty}, declared.syntax.Operand.{Operand}};
+ghost use Rattle.ms_ir.specs.{declared.syntax.Inst.{Inst}, Instructions.{func_index, operands}};
+ghost use Rattle.ms_runs.specs.{declared.runs.Setup.{Setup}, World.{World, Setting}, Poisoned.{Poisoned}};
+ghost use Rattle.ms_runs.specs.{Masks.{result_origin}, Uses.{CheckedUse, uses, check_uses}};
+ghost use Rattle.ms_moves.specs.{declared.moves.Source.{Source as SourceOf}, Sources.{placed}, Traces.{read_by}};
+ghost use Rattle.ms_code.specs.{declared.code.Code.{Code}, Encodes.{Where, Encodes, in_main}};
+ghost use Rattle.ms_shades.specs.{Shades.{HoldsShades}, Results.{IsComputed, words_read}};
+ghost use Rattle.ms_trail_uses.specs.{Used.{first_read, code_read, source_of, Checked}, Origins.{place_read}};
 
 /// What code finds to be used is what the instruction that it stands for is checked for.
 pub fn uses_are_found()

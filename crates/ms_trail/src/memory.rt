@@ -2,8 +2,7 @@
 ghost use Rattle.std.specs.Prelude.{◌≡◌, ◌<◌, length, get_or, IfOk};
 ghost use Rattle.ms_runs.specs.declared.runs.Setup.{Setup};
 ghost use Rattle.ms_moves.specs.Traces.{Traced};
-ghost use Rattle.ms_trail.specs.Following.{IsFollowed, Passes, Went};
-ghost use Rattle.ms_trail.specs.Ready.{Grew, IsReady};
+ghost use Rattle.ms_trail.specs.{Following.{IsFollowed, Passes, Went}, Ready.{Grew, IsReady}};
 
 use crate::due::due_site;
 use crate::follower::Follower;

@@ -3,10 +3,8 @@ ghost use Rattle.std.specs.Prelude.{◌≡◌, ◌≢◌, ◌<◌, length, IfOk,
 ghost use Rattle.ms_runs.specs.declared.runs.Setup.{Setup};
 ghost use Rattle.ms_moves.specs.Traces.{Traced};
 ghost use Rattle.ms_shades.specs.Results.{IsComputed, IsMask};
-ghost use Rattle.ms_trail_uses.specs.Due.{sets_at};
-ghost use Rattle.ms_trail.specs.Following.{Passes, Went, IsFollowed};
-ghost use Rattle.ms_trail_uses.specs.Origins.{place_read};
-ghost use Rattle.ms_trail.specs.Ready.{Grew, IsReady};
+ghost use Rattle.ms_trail_uses.specs.{Due.{sets_at}, Origins.{place_read}};
+ghost use Rattle.ms_trail.specs.{Following.{Passes, Went, IsFollowed}, Ready.{Grew, IsReady}};
 
 use crate::due::due_site;
 use crate::follower::Follower;

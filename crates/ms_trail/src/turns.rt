@@ -3,10 +3,9 @@ ghost use Rattle.std.specs.Prelude.{◌≡◌, None, IfOk};
 ghost use Rattle.ms_runs.specs.declared.runs.Setup.{Setup as SetupOf};
 ghost use Rattle.ms_moves.specs.Traces.{Traced};
 ghost use Rattle.ms_trail.specs.Following.{IsFollowed, Passes, Turned, Went};
+ghost use Rattle.ms_trail.specs.{Ready.{FitsHere, Grew, IsGoing, IsReady}, Turning.{ReadsAt, FoundAt}};
 ghost use Rattle.ms_machine_frames.specs.Meaning.{IsJump};
 ghost use Rattle.ms_trail_uses.specs.Due.{IsDue, sets_at};
-ghost use Rattle.ms_trail.specs.Ready.{FitsHere, Grew, IsGoing, IsReady};
-ghost use Rattle.ms_trail.specs.Turning.{ReadsAt, FoundAt};
 
 use crate::due::due_code;
 use crate::follower::{Follower, Turn};

@@ -1,14 +1,11 @@
 //! Moves of words, as they are told: one where the word is poisoned.
 ghost use Rattle.std.specs.Prelude.{◌≡◌, ◌≤◌, ◌<◌, ◌+◌, ◌^◌, ◌++◌, [], ◌∷◌, List, OnOk, unwrap_or};
-ghost use Rattle.ms_ir.specs.declared.syntax.Name.{Name as NameOf};
-ghost use Rattle.ms_ir.specs.declared.syntax.Ty.{Ty as TyOf};
-ghost use Rattle.ms_ir.specs.declared.syntax.Operand.{Operand as OperandOf};
+ghost use Rattle.ms_ir.specs.{declared.syntax.Name.{Name as NameOf}, declared.syntax.Ty.{Ty as TyOf}};
+ghost use Rattle.ms_ir.specs.{declared.syntax.Operand.{Operand as OperandOf}, Instructions.{operands, count_undefs}};
 ghost use Rattle.ms_ir.specs.declared.syntax.Op.TheVariants as op;
-ghost use Rattle.ms_ir.specs.Instructions.{operands, count_undefs};
-ghost use Rattle.ms_moves.specs.declared.moves.Move.{Move as MoveOf};
-ghost use Rattle.ms_moves.specs.declared.moves.Target.TheVariants as place;
-ghost use Rattle.ms_moves.specs.Sources.{sources, source_at as source_in};
+ghost use Rattle.ms_moves.specs.{declared.moves.Move.{Move as MoveOf}, Sources.{sources, source_at as source_in}};
 ghost use Rattle.ms_moves.specs.Edges.{edge_source};
+ghost use Rattle.ms_moves.specs.declared.moves.Target.TheVariants as place;
 ghost use Rattle.ms_trail_bytes.specs.Logs.{IsLog};
 ghost use Rattle.ms_trail.specs.Telling.{masked_move};
 

@@ -2,16 +2,12 @@
 ghost use Rattle.std.specs.Prelude.{◌≡◌, ◌≤◌, ◌<◌, ◌+◌, ◌^◌, ◌≢◌, ◌++◌, [], ◌∷◌, ℕ, List, true, IsTrue, OnOk, if◌then◌else◌};
 ghost use Rattle.ms_alloc.specs.Allocations.{is_good as is_live};
 ghost use Rattle.ms_bits.specs.Maps.{byte_of};
-ghost use Rattle.ms_runs.specs.World.{World as Meant};
-ghost use Rattle.ms_runs.specs.Memory.{is_good, set_cells, set_shadow};
+ghost use Rattle.ms_runs.specs.{World.{World as Meant}, Memory.{is_good, set_cells, set_shadow}};
 ghost use Rattle.ms_runs.specs.Origins.{copy_planes, poison};
 ghost use Rattle.ms_good_laws.specs.GoodWorlds.{GoodWorld, FitsCell};
-ghost use Rattle.ms_host.specs.State.{Beside, Keeps};
-ghost use Rattle.ms_host.specs.Shows.{Shows};
-ghost use Rattle.ms_moves.specs.declared.moves.Source.{Source as SourceOf};
-ghost use Rattle.ms_moves.specs.declared.moves.Move.{Move as MoveOf};
-ghost use Rattle.ms_moves.specs.Written.{Copied, Filled, made};
-ghost use Rattle.ms_moves.specs.Events.{written_moves, memory_moves};
+ghost use Rattle.ms_host.specs.{State.{Beside, Keeps}, Shows.{Shows}};
+ghost use Rattle.ms_moves.specs.{declared.moves.Source.{Source as SourceOf}, declared.moves.Move.{Move as MoveOf}};
+ghost use Rattle.ms_moves.specs.{Written.{Copied, Filled, made}, Events.{written_moves, memory_moves}};
 ghost use Rattle.ms_trail_bytes.specs.Logs.{IsLog};
 
 use crate::logs::Log;

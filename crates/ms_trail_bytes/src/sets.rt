@@ -1,16 +1,11 @@
 //! Bytes that are filled with one byte.
 ghost use Rattle.std.specs.Prelude.{◌≡◌, ◌≤◌, ◌<◌, ◌+◌, ◌^◌, ◌++◌, ◌||◌, ℕ, List, true, eqb, OnOk};
-ghost use Rattle.ms_runs.specs.World.{World as Meant};
-ghost use Rattle.ms_runs.specs.Memory.{is_good};
+ghost use Rattle.ms_runs.specs.{World.{World as Meant}, Memory.{is_good}};
 ghost use Rattle.ms_good_laws.specs.GoodWorlds.{GoodWorld, FitsCell};
-ghost use Rattle.ms_host.specs.State.{Beside, Keeps};
-ghost use Rattle.ms_host.specs.Shows.{Shows};
+ghost use Rattle.ms_host.specs.{State.{Beside, Keeps}, Shows.{Shows}};
 ghost use Rattle.ms_follow_laws.specs.Follows.{fill_shadow};
-ghost use Rattle.ms_moves.specs.declared.moves.Move.{Move as MoveOf};
-ghost use Rattle.ms_moves.specs.Written.{Filled};
-ghost use Rattle.ms_moves.specs.Events.{written_moves};
-ghost use Rattle.ms_trail_bytes.specs.Logs.{IsLog};
-ghost use Rattle.ms_trail_bytes.specs.Shading.{ShadedAs};
+ghost use Rattle.ms_moves.specs.{declared.moves.Move.{Move as MoveOf}, Written.{Filled}, Events.{written_moves}};
+ghost use Rattle.ms_trail_bytes.specs.{Logs.{IsLog}, Shading.{ShadedAs}};
 
 use crate::fills::shade_filled;
 use crate::logs::Log;

@@ -1,12 +1,9 @@
 //! What an instruction reads and writes, by the names of its operands and of its result.
 ghost use Rattle.std.specs.Prelude.{◌≡◌, ◌≢◌, ◌<◌, ◌+◌, ◌^◌, ℕ, List, unwrap_or, IfOk};
-ghost use Rattle.ms_ir.specs.declared.syntax.Ty.{Ty as TyOf};
-ghost use Rattle.ms_ir.specs.declared.syntax.Name.{Name as NameOf};
-ghost use Rattle.ms_ir.specs.declared.syntax.Operand.{Operand as OperandOf};
-ghost use Rattle.ms_ir.specs.Instructions.{operands, count_undefs};
+ghost use Rattle.ms_ir.specs.{declared.syntax.Ty.{Ty as TyOf}, declared.syntax.Name.{Name as NameOf}};
+ghost use Rattle.ms_ir.specs.{declared.syntax.Operand.{Operand as OperandOf}, Instructions.{operands, count_undefs}};
 ghost use Rattle.ms_moves.specs.declared.moves.Target.TheVariants as place;
-ghost use Rattle.ms_moves.specs.Edges.{edge_source as source_of_edges};
-ghost use Rattle.ms_moves.specs.Sources.{sources, source_at as source_in};
+ghost use Rattle.ms_moves.specs.{Edges.{edge_source as source_of_edges}, Sources.{sources, source_at as source_in}};
 
 use ms_bits::{Duplicate, NoMemory};
 use ms_ir::{Inst, Name, Op};

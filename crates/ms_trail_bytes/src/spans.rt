@@ -3,11 +3,9 @@ ghost use Rattle.std.specs.Prelude.{◌≡◌, ◌≢◌, ◌≤◌, ◌<◌, �
 ghost use Rattle.ms_alloc.specs.Allocations.{is_good as is_live};
 ghost use Rattle.ms_runs.specs.World.{World as Meant};
 ghost use Rattle.ms_good_laws.specs.GoodWorlds.{GoodWorld, FitsCell};
-ghost use Rattle.ms_host.specs.State.{Beside};
-ghost use Rattle.ms_host.specs.Shows.{Shows};
+ghost use Rattle.ms_host.specs.{State.{Beside}, Shows.{Shows}};
 ghost use Rattle.ms_moves.specs.declared.moves.Move.{Move as MoveOf};
-ghost use Rattle.ms_trail_bytes.specs.Logs.{IsLog};
-ghost use Rattle.ms_trail_bytes.specs.Spans.{source_in, span_moves, Telling};
+ghost use Rattle.ms_trail_bytes.specs.{Logs.{IsLog}, Spans.{source_in, span_moves, Telling}};
 
 use crate::logs::Log;
 use ms_bits::{Duplicate, NoMemory};

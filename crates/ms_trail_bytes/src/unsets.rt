@@ -2,17 +2,13 @@
 ghost use Rattle.std.specs.Prelude.{◌≡◌, ◌≤◌, ◌<◌, ◌+◌, ◌^◌, ◌++◌, [], ◌∷◌, ℕ, List, Some, min, true, unwrap_or, IsTrue, OnOk, if◌then◌else◌};
 ghost use Rattle.ms_alloc.specs.Allocations.{heap_size as block_size, is_good as is_live};
 ghost use Rattle.ms_ir.specs.Areas.{Heap};
-ghost use Rattle.ms_runs.specs.World.{World as Meant};
-ghost use Rattle.ms_runs.specs.Memory.{fits, heap_size, is_good, next_base};
+ghost use Rattle.ms_runs.specs.{World.{World as Meant}, Memory.{fits, heap_size, is_good, next_base}};
 ghost use Rattle.ms_runs.specs.Origins.{copy_planes, poison};
 ghost use Rattle.ms_good_laws.specs.GoodWorlds.{GoodWorld, FitsCell};
-ghost use Rattle.ms_host.specs.State.{Beside, Keeps};
-ghost use Rattle.ms_host.specs.Shows.{Shows};
-ghost use Rattle.ms_moves.specs.declared.moves.Move.{Move as MoveOf};
-ghost use Rattle.ms_moves.specs.Written.{Copied, Filled, heap_place, made};
+ghost use Rattle.ms_host.specs.{State.{Beside, Keeps}, Shows.{Shows}};
+ghost use Rattle.ms_moves.specs.{declared.moves.Move.{Move as MoveOf}, Written.{Copied, Filled, heap_place, made}};
 ghost use Rattle.ms_moves.specs.Events.{memory_moves, written_moves};
-ghost use Rattle.ms_trail_bytes.specs.Logs.{IsLog};
-ghost use Rattle.ms_trail_bytes.specs.Shading.{IsRange, ShadedAs};
+ghost use Rattle.ms_trail_bytes.specs.{Logs.{IsLog}, Shading.{IsRange, ShadedAs}};
 
 use crate::fills::{shade_copied, tell_copied};
 use crate::logs::Log;

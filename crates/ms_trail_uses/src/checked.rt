@@ -1,11 +1,9 @@
 //! The first use of an instruction that is poisoned.
 ghost use Rattle.std.specs.Prelude.{◌≡◌, ◌<◌, length, get_or, drop, if◌then◌else◌, All, Some, None, option_and_then};
-ghost use Rattle.ms_ir.specs.Instructions.{operands};
-ghost use Rattle.ms_ir.specs.Equal.{type_eq};
+ghost use Rattle.ms_ir.specs.{Instructions.{operands}, Equal.{type_eq}};
 ghost use Rattle.ms_runs.specs.World.{World as Meant};
 ghost use Rattle.ms_code.specs.Fits.{IsSource};
-ghost use Rattle.ms_host.specs.State.{Beside};
-ghost use Rattle.ms_host.specs.Shows.{Shows};
+ghost use Rattle.ms_host.specs.{State.{Beside}, Shows.{Shows}};
 ghost use Rattle.ms_shades.specs.Views.{IsView};
 ghost use Rattle.ms_trail_uses.specs.Used.{seen, asked_read, strings_read, printed_read, arguments_read, divides, code_read, IsUsing, operand_read};
 

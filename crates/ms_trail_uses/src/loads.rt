@@ -1,10 +1,8 @@
 //! The masks of words that are loaded, and where they come from.
 ghost use Rattle.std.specs.Prelude.{◌≡◌, ◌≢◌, ◌≤◌, true, bit_and};
 ghost use Rattle.ms_bits.specs.Maps.{first_nonzero, number_at};
-ghost use Rattle.ms_runs.specs.World.{World as Meant};
-ghost use Rattle.ms_runs.specs.Memory.{is_good};
-ghost use Rattle.ms_host.specs.State.{Beside};
-ghost use Rattle.ms_host.specs.Shows.{Shows};
+ghost use Rattle.ms_runs.specs.{World.{World as Meant}, Memory.{is_good}};
+ghost use Rattle.ms_host.specs.{State.{Beside}, Shows.{Shows}};
 ghost use Rattle.ms_moves.specs.Sources.{byte_source};
 ghost use Rattle.ms_trail_uses.specs.Used.{byte_used};
 

@@ -1,12 +1,8 @@
 //! Which operand the poisoned bits of a result come from.
 ghost use Rattle.std.specs.Prelude.{◌≡◌, ◌≤◌, ◌<◌, ◌+◌, ◌^◌, length, drop, get_or, eqb, if◌then◌else◌, All};
 ghost use Rattle.ms_bits.specs.Conversions.{select_of};
-ghost use Rattle.ms_code.specs.Words.{word_of};
-ghost use Rattle.ms_code.specs.Fits.{IsSource, IsStride};
-ghost use Rattle.ms_code.specs.Reads.{is_integer as is_integer_operand};
-ghost use Rattle.ms_shades.specs.Shades.{mask_of as mask_read};
-ghost use Rattle.ms_shades.specs.Views.{IsView};
-ghost use Rattle.ms_shades.specs.Results.{IsComputed};
+ghost use Rattle.ms_code.specs.{Words.{word_of}, Fits.{IsSource, IsStride}, Reads.{is_integer as is_integer_operand}};
+ghost use Rattle.ms_shades.specs.{Shades.{mask_of as mask_read}, Views.{IsView}, Results.{IsComputed}};
 ghost use Rattle.ms_trail_uses.specs.Origins.{head_mask, last_masked, last_stride, index_read, place_read};
 
 use crate::checked::typed_at;

@@ -1,8 +1,7 @@
 //! Single steps of the machine.
 ghost use Rattle.std.specs.Prelude.{◌≡◌, ◌≤◌, ◌<◌, ◌+◌, ◌^◌, IfOk};
 ghost use Rattle.ms_ir.specs.Instructions.{NoMarks};
-ghost use Rattle.ms_runs.specs.declared.runs.Setup.{Setup};
-ghost use Rattle.ms_runs.specs.Plain.{PlainState};
+ghost use Rattle.ms_runs.specs.{declared.runs.Setup.{Setup}, Plain.{PlainState}};
 ghost use Rattle.ms_host.specs.State.{Beside, KeepsGiven};
 ghost use Rattle.ms_machine.specs.Running.{IsRunning, Runs};
 ghost use Rattle.ms_trail_uses.specs.Stepping.{AsksNothing, spent, Stepped};

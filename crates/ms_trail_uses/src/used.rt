@@ -1,12 +1,10 @@
 //! Uses that are checked, in the order in which they are.
 ghost use Rattle.std.specs.Prelude.{◌≡◌, ◌-◌, length, get_or, All};
-ghost use Rattle.ms_runs.specs.World.{World as Meant};
+ghost use Rattle.ms_runs.specs.{World.{World as Meant}, Masks.{word_at}};
 ghost use Rattle.ms_code.specs.Fits.{IsSource};
-ghost use Rattle.ms_host.specs.State.{Beside};
-ghost use Rattle.ms_host.specs.Shows.{Shows};
+ghost use Rattle.ms_host.specs.{State.{Beside}, Shows.{Shows}};
 ghost use Rattle.ms_shades.specs.Views.{IsView};
 ghost use Rattle.ms_trail_uses.specs.Used.{seen, found_used, word_read, range_read, bytes_read, string_read, line_read, or_used, shape_of as shape_of_external, two_read, three_read, plain_read, memory_read, shape_read, words_read};
-ghost use Rattle.ms_runs.specs.Masks.{word_at};
 
 use ms_code::Source;
 use ms_host::{PoisonedByte, World};

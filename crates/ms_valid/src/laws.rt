@@ -1,27 +1,18 @@
 //! Laws about the definitions, beside those that `examples` computes.
 ghost use Rattle.std.specs.Prelude.{◌≡◌, ◌↔◌, ◌⊎◌, ◌++◌, ℕ, List, [], ◌∷◌, false, Some, Contains, length, slice_get};
 ghost use Rattle.ms_flow.specs.Paths as flow;
-ghost use Rattle.ms_ir.specs.declared.syntax.Func.{Func};
-ghost use Rattle.ms_ir.specs.declared.syntax.Inst.{Inst};
-ghost use Rattle.ms_ir.specs.declared.syntax.Module.{Module};
-ghost use Rattle.ms_ir.specs.declared.syntax.Block.{Block};
-ghost use Rattle.ms_ir.specs.declared.syntax.Name.{Name};
-ghost use Rattle.ms_ir.specs.declared.syntax.Op.TheVariants as op;
-ghost use Rattle.ms_ir.specs.declared.syntax.Operand.{Operand};
-ghost use Rattle.ms_ir.specs.declared.syntax.Operand.TheVariants as operand;
-ghost use Rattle.ms_ir.specs.declared.syntax.Ty.{Ty};
+ghost use Rattle.ms_ir.specs.{declared.syntax.Func.{Func}, declared.syntax.Inst.{Inst}};
+ghost use Rattle.ms_ir.specs.{declared.syntax.Module.{Module}, declared.syntax.Block.{Block}};
+ghost use Rattle.ms_ir.specs.{declared.syntax.Name.{Name}, declared.syntax.Operand.{Operand}, declared.syntax.Ty.{Ty}};
 ghost use Rattle.ms_ir.specs.Instructions.{operands, block_index, func_at, insts_at, is_phi};
-ghost use Rattle.ms_valid.specs.Paths.{IsSet, Path, ValueUse, IsDefined, Misses, insts_of};
-ghost use Rattle.ms_ir.specs.Places.{HasSmallNumbers};
-ghost use Rattle.ms_valid.specs.Valid.{Valid};
-ghost use Rattle.ms_valid.specs.Formed.{Formed};
-ghost use Rattle.ms_valid.specs.ValidAt.{FitsOutside, FitsWithin};
-ghost use Rattle.ms_valid.specs.Refusals.{Fault, IsFirstUndefined, IsRefused};
-ghost use Rattle.ms_ir.specs.Locals.{parameter_names, locals, value_type};
+ghost use Rattle.ms_ir.specs.{Places.{HasSmallNumbers}, Locals.{parameter_names, locals, value_type}};
 ghost use Rattle.ms_ir.specs.Written.{result_type};
-ghost use Rattle.ms_valid.specs.UsesDefined.{UsesDefined};
-ghost use Rattle.ms_valid.specs.PathTest.{undefined_uses};
-ghost use Rattle.ms_valid.specs.FlowGraph.{graph_of, flow_use};
+ghost use Rattle.ms_ir.specs.declared.syntax.Op.TheVariants as op;
+ghost use Rattle.ms_ir.specs.declared.syntax.Operand.TheVariants as operand;
+ghost use Rattle.ms_valid.specs.{Paths.{IsSet, Path, ValueUse, IsDefined, Misses, insts_of}, Valid.{Valid}};
+ghost use Rattle.ms_valid.specs.{Formed.{Formed}, ValidAt.{FitsOutside, FitsWithin}};
+ghost use Rattle.ms_valid.specs.{Refusals.{Fault, IsFirstUndefined, IsRefused}, UsesDefined.{UsesDefined}};
+ghost use Rattle.ms_valid.specs.{PathTest.{undefined_uses}, FlowGraph.{graph_of, flow_use}};
 
 /// Where no use fails the computed test, each use is defined on every path to it.
 pub fn tested_paths()

@@ -1,7 +1,6 @@
 //! What the instructions and the debug records of a text are about.
 
-ghost use Rattle.std.specs.Prelude.{◌≡◌, length};
-ghost use Rattle.std.specs.Option.{option_copied};
+ghost use Rattle.std.specs.{Prelude.{◌≡◌, length}, Option.{option_copied}};
 ghost use Rattle.ms_lex.specs.Tokens.{InOrder};
 ghost use Rattle.ms_places.specs.Told.{spelling_at};
 ghost use Rattle.ms_variables.specs.Variables as spec;

@@ -3,9 +3,8 @@
 ghost use Rattle.std.specs.Prelude.{◌≡◌, ◌+◌, ◌≤◌, ◌<◌, ◌^◌, length, if◌then◌else◌, IfOk, OnOk};
 ghost use Rattle.std.specs.Option.{option_and_then};
 ghost use Rattle.ms_lex.specs.Tokens.{InOrder};
-ghost use Rattle.ms_variables.specs.Noted.{Notes, HasFirst};
+ghost use Rattle.ms_variables.specs.{Noted.{Notes, HasFirst}, Views.{IsTable}};
 ghost use Rattle.ms_variables.specs.Variables as spec;
-ghost use Rattle.ms_variables.specs.Views.{IsTable};
 
 use crate::marked::MarkedText;
 use ms_bits::NoMemory;

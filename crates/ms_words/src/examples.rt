@@ -2,11 +2,11 @@
 ghost use Rattle.std.specs.Prelude.{◌≡◌, ◌++◌, [], ◌∷◌, Ok, Err, Some, true, false, codes, decimal, replicate};
 ghost use Rattle.ms_words.specs.declared.commands.Command.TheVariants.{Instrument, Run, Check, Explain, Corpus, Gen, Help, Version};
 ghost use Rattle.ms_words.specs.declared.commands.WordsError.TheVariants.{UnknownCommand, UnknownOption, MissingValue, MissingFile, MissingOption, Extra, BadNumber, BadHex, Repeated, OutOfRange};
+ghost use Rattle.ms_words.specs.Usage.{synopsis, command_about, topic_line, option_line};
+ghost use Rattle.ms_words.specs.Words.{command_of, defaults};
 ghost use Rattle.ms_words.specs.declared.names.CommandName.TheVariants as name;
 ghost use Rattle.ms_words.specs.declared.names.OptionName.TheVariants as option;
 ghost use Rattle.ms_words.specs.declared.topics.Topic.TheVariants as topic;
-ghost use Rattle.ms_words.specs.Usage.{synopsis, command_about, topic_line, option_line};
-ghost use Rattle.ms_words.specs.Words.{command_of, defaults};
 
 /// Lists of words as they are met most.
 pub fn usual_words()

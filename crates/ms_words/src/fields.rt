@@ -1,9 +1,7 @@
 //! The fields of a command, from what `clap` found.
-ghost use Rattle.std.specs.Prelude.{◌≡◌, ◌-◌, ◌^◌, IfOk, unwrap_or, [], codes, map, drop};
-ghost use Rattle.std.specs.Option.{option_map_or};
+ghost use Rattle.std.specs.{Prelude.{◌≡◌, ◌-◌, ◌^◌, IfOk, unwrap_or, [], codes, map, drop}, Option.{option_map_or}};
 ghost use Rattle.clap.specs.Words.{found_of, first_value};
-ghost use Rattle.ms_words.specs.Table.{option_word};
-ghost use Rattle.ms_words.specs.Values.{hex_bytes as hex_bytes_of};
+ghost use Rattle.ms_words.specs.{Table.{option_word}, Values.{hex_bytes as hex_bytes_of}};
 ghost use Rattle.ms_words.specs.Words.{number_by, options_by, explain_options_by, corpus_options_by, command_by, no_schedule as no_schedule_of};
 ghost use Rattle.ms_words.specs.Fields.{IsNumber, IsHex, FitsRun, FitsReports, FitsScheduled, FitsCorpus, FitsGen, Fits, found_value, found_file, found_inputs, is_set as is_set_of};
 

@@ -1,8 +1,7 @@
 //! The names of commands and of their options: one row each.
 ghost use Rattle.std.specs.Prelude.{◌≡◌, ◌&&◌, not, find, option_map};
 ghost use Rattle.ms_words.specs.Table.{commands, command_word, default_of, option_word, options_of, wanted_of, takes as takes_of, least_files as least_files_of, most_files as most_files_of};
-ghost use Rattle.ms_words.specs.Reading.{same, takes_nothing};
-ghost use Rattle.ms_words.specs.Usage.{is_wanted};
+ghost use Rattle.ms_words.specs.{Reading.{same, takes_nothing}, Usage.{is_wanted}};
 
 /// A command.
 #[derive(Clone, Copy)]

@@ -1,7 +1,6 @@
 //! The first words that ask about the program itself.
 ghost use Rattle.std.specs.Prelude.{◌≡◌, find};
-ghost use Rattle.ms_words.specs.Limits.{IsWithinLimits};
-ghost use Rattle.ms_words.specs.Table.{topics, topic_word, topic_long, topic_short};
+ghost use Rattle.ms_words.specs.{Limits.{IsWithinLimits}, Table.{topics, topic_word, topic_long, topic_short}};
 ghost use Rattle.ms_words.specs.Words.{asked, asks as asks_for};
 
 use crate::commands::Command;

@@ -1,7 +1,6 @@
 //! The values of options.
 ghost use Rattle.std.specs.Prelude.{◌≡◌, ◌^◌, ◌<◌, ◌≤◌, true, IsTrue, IfOk, MatchOption};
-ghost use Rattle.std.specs.Char.{digit_value, is_ascii_digit, is_ascii_hexdigit};
-ghost use Rattle.std.specs.List.{list_all};
+ghost use Rattle.std.specs.{Char.{digit_value, is_ascii_digit, is_ascii_hexdigit}, List.{list_all}};
 ghost use Rattle.ms_words.specs.Values.{is_number as is_number_of, is_hex as is_hex_of, number as number_of, hex_bytes as hex_bytes_of, value_fault as value_fault_of};
 ghost use Rattle.ms_words.specs.declared.names.Takes.TheVariants.{Number, Hex};
 

@@ -1,8 +1,6 @@
 //! The words of the command line.
 ghost use Rattle.std.specs.Prelude.{◌≡◌, IfOk};
-ghost use Rattle.ms_words.specs.Words.{IsAnswer, command_given};
-ghost use Rattle.ms_words.specs.Limits.{IsWithinLimits};
-ghost use Rattle.ms_words.specs.Accepted.{Whole};
+ghost use Rattle.ms_words.specs.{Words.{IsAnswer, command_given}, Limits.{IsWithinLimits}, Accepted.{Whole}};
 
 use crate::clap_words::{matches, spell};
 use crate::commands::{Command, WordsError};

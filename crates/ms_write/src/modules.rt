@@ -1,15 +1,11 @@
 //! Modules, in the order of their kinds: named types, globals, declarations, functions, and the last line of a module with
 //! marks (LLVM Language Reference, "Module Structure"; own: the order).
-ghost use Rattle.std.specs.Prelude.{◌≡◌, ◌++◌, [], ◌∷◌, IfOk, codes, flat_map, map};
-ghost use Rattle.std.specs.List.{list_any};
+ghost use Rattle.std.specs.{Prelude.{◌≡◌, ◌++◌, [], ◌∷◌, IfOk, codes, flat_map, map}, List.{list_any}};
 ghost use Rattle.ms_text_layout.specs.Modules.{global_word as global_word_of, type_line, global_line, is_one_pointer as is_one_pointer_of, is_dotted as is_dotted_of, declaration_line, function_lines, has_dots as has_dots_of, has_mark_in as has_mark_in_of, has_mark as has_mark_of, module_lines, mark_pieces, written, dots};
-ghost use Rattle.ms_text_layout.specs.Names.{global_token};
-ghost use Rattle.ms_text_layout.specs.Pieces.{enclosed, render, sign, word};
-ghost use Rattle.ms_text_layout.specs.Types.{result_tokens, type_tokens};
-ghost use Rattle.ms_text_layout.specs.Values.{init_tokens};
+ghost use Rattle.ms_text_layout.specs.{Names.{global_token}, Pieces.{enclosed, render, sign, word}};
+ghost use Rattle.ms_text_layout.specs.{Types.{result_tokens, type_tokens}, Values.{init_tokens}};
 ghost use Rattle.ms_text_grammar.specs.Types.{is_ptr as is_ptr_of};
-ghost use Rattle.ms_write_values.specs.Parts.{dot_tokens};
-ghost use Rattle.ms_write_values.specs.Sheets.{grown, put, put_line, put_lines};
+ghost use Rattle.ms_write_values.specs.{Parts.{dot_tokens}, Sheets.{grown, put, put_line, put_lines}};
 
 use crate::functions::write_function_lines;
 use crate::operations::{gives_i32, names_printf};

@@ -3,13 +3,10 @@ ghost use Rattle.std.specs.Prelude.{◌≡◌, ◌&&◌, Bool, [], ◌∷◌, �
 ghost use Rattle.ms_text_grammar.specs.Types.{int_width, is_width};
 ghost use Rattle.ms_text_grammar.specs.Insts.{is_i32 as is_i32_result, names_printf as names_printf_of};
 ghost use Rattle.ms_text_layout.specs.Insts.{binary_word as binary_word_of, cast_word as cast_word_of, predicate_text, flag_tokens, address_tokens, target_tokens, bit_tokens, edge_tokens, case_tokens, is_one as is_one_of, count_tokens, callee_type_tokens, returned_tokens, op_tokens};
-ghost use Rattle.ms_text_layout.specs.Names.{global_token};
-ghost use Rattle.ms_text_layout.specs.Pieces.{behind_commas, enclosed, sign, with_commas, word};
-ghost use Rattle.ms_text_layout.specs.Types.{result_tokens, type_tokens};
-ghost use Rattle.ms_text_layout.specs.Values.{pair_tokens, typed_tokens};
+ghost use Rattle.ms_text_layout.specs.{Names.{global_token}, Pieces.{behind_commas, enclosed, sign, with_commas, word}};
+ghost use Rattle.ms_text_layout.specs.{Types.{result_tokens, type_tokens}, Values.{pair_tokens, typed_tokens}};
 ghost use Rattle.ms_write.specs.Kinds.{IsComputation, IsAccess, IsTerminator};
-ghost use Rattle.ms_write_values.specs.Parts.{two_tokens};
-ghost use Rattle.ms_write_values.specs.Sheets.{put};
+ghost use Rattle.ms_write_values.specs.{Parts.{two_tokens}, Sheets.{put}};
 
 use ms_bits::{BinOp, CastOp, Flags, NoMemory, Pred};
 use ms_ir::{Name, Op, Operand, Ty, width_of};

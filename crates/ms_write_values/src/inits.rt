@@ -1,10 +1,8 @@
 //! Initialisers (LLVM Language Reference, "Complex Constants").
 ghost use Rattle.std.specs.Prelude.{◌≡◌, [], ◌∷◌, IfOk, codes, map};
-ghost use Rattle.ms_text_layout.specs.Pieces.{behind_commas, enclosed, with_commas};
-ghost use Rattle.ms_text_layout.specs.Types.{struct_tokens};
+ghost use Rattle.ms_text_layout.specs.{Pieces.{behind_commas, enclosed, with_commas}, Types.{struct_tokens}};
 ghost use Rattle.ms_text_layout.specs.Values.{init_tokens};
-ghost use Rattle.ms_write_values.specs.Parts.{item_tokens};
-ghost use Rattle.ms_write_values.specs.Sheets.{put};
+ghost use Rattle.ms_write_values.specs.{Parts.{item_tokens}, Sheets.{put}};
 
 use crate::writer::Writer;
 use ms_bits::NoMemory;

@@ -1,10 +1,8 @@
 //! Numbers, and integers of a type ("Simple Constants" of the LLVM Language Reference).
 ghost use Rattle.std.specs.Prelude.{◌≡◌, [], ◌∷◌, IfOk};
 ghost use Rattle.ms_bits.specs.Signed.{signed};
-ghost use Rattle.ms_text_layout.specs.Names.{signed_text, number_token, count_token};
-ghost use Rattle.ms_text_layout.specs.Values.{integer_token};
-ghost use Rattle.ms_write_values.specs.Parts.{signed_digits};
-ghost use Rattle.ms_write_values.specs.Sheets.{put};
+ghost use Rattle.ms_text_layout.specs.{Names.{signed_text, number_token, count_token}, Values.{integer_token}};
+ghost use Rattle.ms_write_values.specs.{Parts.{signed_digits}, Sheets.{put}};
 
 use crate::writer::Writer;
 use ms_bits::NoMemory;

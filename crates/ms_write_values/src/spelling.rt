@@ -1,6 +1,5 @@
 //! How names, strings and numbers are spelled (LLVM Language Reference, "Identifiers" and "Simple Constants").
-ghost use Rattle.std.specs.Prelude.{◌≡◌, ◌<◌, ◌++◌, IfOk, decimal};
-ghost use Rattle.std.specs.List.{list_all};
+ghost use Rattle.std.specs.{Prelude.{◌≡◌, ◌<◌, ◌++◌, IfOk, decimal}, List.{list_all}};
 ghost use Rattle.ms_lex.specs.Tokens.{is_name_byte as is_name_byte_of};
 ghost use Rattle.ms_text_layout.specs.Names.{is_printed as is_printed_of, hexadecimal_digit as hexadecimal_digit_of, string_byte as string_byte_of, quoted as quoted_of, is_plain as is_plain_of, name_text};
 

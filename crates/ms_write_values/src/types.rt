@@ -2,8 +2,7 @@
 ghost use Rattle.std.specs.Prelude.{◌≡◌, [], ◌∷◌, IfOk, decimal, map};
 ghost use Rattle.ms_text_layout.specs.Pieces.{word, behind_commas, with_commas};
 ghost use Rattle.ms_text_layout.specs.Types.{array_tokens, struct_tokens, type_tokens, result_tokens};
-ghost use Rattle.ms_write_values.specs.Parts.{open_tokens, close_tokens};
-ghost use Rattle.ms_write_values.specs.Sheets.{put};
+ghost use Rattle.ms_write_values.specs.{Parts.{open_tokens, close_tokens}, Sheets.{put}};
 
 use crate::writer::Writer;
 use ms_bits::NoMemory;

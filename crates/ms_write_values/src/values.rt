@@ -1,11 +1,9 @@
 //! Values behind their types (LLVM Language Reference, "Constants").
 ghost use Rattle.std.specs.Prelude.{◌≡◌, ◌∷◌, IfOk, codes, map};
-ghost use Rattle.ms_text_layout.specs.Names.{global_token};
-ghost use Rattle.ms_text_layout.specs.Pieces.{behind_commas, with_commas, word};
+ghost use Rattle.ms_text_layout.specs.{Names.{global_token}, Pieces.{behind_commas, with_commas, word}};
 ghost use Rattle.ms_text_layout.specs.Types.{type_tokens};
 ghost use Rattle.ms_text_layout.specs.Values.{constant_index_tokens, offset_tokens, base_tokens, value_tokens, typed_tokens, pair_tokens};
-ghost use Rattle.ms_write_values.specs.Parts.{two_tokens};
-ghost use Rattle.ms_write_values.specs.Sheets.{put};
+ghost use Rattle.ms_write_values.specs.{Parts.{two_tokens}, Sheets.{put}};
 
 use crate::writer::Writer;
 use ms_bits::{List, NoMemory};

@@ -2,9 +2,7 @@
 ghost use Rattle.std.specs.Prelude.{◌≡◌, is_some, if◌then◌else◌, Some, None};
 ghost use Rattle.ms_ir.specs.declared.syntax.Name.TheVariants as spelling;
 ghost use Rattle.ms_ir.specs.declared.calls.External.TheVariants as external;
-ghost use Rattle.ms_ir.specs.Instructions.{func_index};
-ghost use Rattle.ms_ir.specs.Names.{external_name};
-ghost use Rattle.ms_ir.specs.Rooted.{kind_of, called_kind};
+ghost use Rattle.ms_ir.specs.{Instructions.{func_index}, Names.{external_name}, Rooted.{kind_of, called_kind}};
 
 use crate::{External, Func, Name, RootKind};
 

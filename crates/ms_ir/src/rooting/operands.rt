@@ -1,8 +1,6 @@
 //! Undefined operands.
 ghost use Rattle.std.specs.Prelude.{◌≡◌, ◌++◌, map, flat_map, option_to_list, slice_get, IfOk};
-ghost use Rattle.ms_ir.specs.Instructions.{operands as operands_of};
-ghost use Rattle.ms_ir.specs.Roots.{undef_roots};
-ghost use Rattle.ms_ir.specs.Rooted.{operand_roots};
+ghost use Rattle.ms_ir.specs.{Instructions.{operands as operands_of}, Roots.{undef_roots}, Rooted.{operand_roots}};
 
 use crate::{Op, Operand, Root, RootKind};
 use ms_bits::NoMemory;
