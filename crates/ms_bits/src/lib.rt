@@ -27,7 +27,7 @@ pub use comparisons::compare;
 pub use conversions::cast;
 pub use duplicate::{Duplicate, NoMemory};
 pub use lists::{Bytes, List, bytes_in_range, words_in_range};
-pub use operations::{BinOp, CastOp, Flags, Pred};
+pub use operations::{BinOp, CastOp, Flags, NO_FLAGS, Pred};
 pub use small_bytes::SmallBytes;
 pub use texts::Text;
 pub use traps::Trap;

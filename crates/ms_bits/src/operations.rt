@@ -61,3 +61,13 @@ pub struct Flags {
     /// The operands have the same sign: `icmp`.
     pub samesign: bool,
 }
+
+/// No flag is set.
+pub const NO_FLAGS: Flags = Flags {
+    nuw: false,
+    nsw: false,
+    exact: false,
+    disjoint: false,
+    nneg: false,
+    samesign: false,
+};

@@ -4,9 +4,9 @@ ghost use Rattle.ms_ir.specs.declared.syntax.Ty.{Named};
 ghost use Rattle.ms_valid.specs.SizesFit.{sized, unsized, unsized_globals};
 ghost use Rattle.ms_check_types.specs.SizedParts.{type_faults, func_faults};
 
-use crate::code::is_func_sized;
 use crate::globals::first_global;
 use crate::parts::has_sizes;
+use crate::sized_bodies::is_func_sized;
 use ms_bits::NoMemory;
 use ms_ir::{Func, Module, Name, Ty};
 use ms_tables::{Extents, Spelled};

@@ -254,7 +254,7 @@ fn judge(
     }
 }
 
-/// Whether the value arrives at the use.
+/// Whether the value arrives at the use without a definition.
 fn arrives(u: &Use, values: &[u32], kills: &[u64], words: &[u64]) -> bool
     requires few { length values.now ≤ 64 }
     requires kills { length kills.now ≡ length words.now }

@@ -6,18 +6,9 @@ ghost use Rattle.ms_gen.specs.Generator.{state_after, name_of, operation_on};
 
 use crate::draws::{Draws, operation};
 use itoa::Buffer;
-use ms_bits::{Flags, List, NoMemory, SmallBytes};
+use ms_bits::{List, NO_FLAGS, NoMemory, SmallBytes};
 use ms_ir::{Inst, Name, Op, Operand, Ty};
 use std::alloc::Global;
-
-const NO_FLAGS: Flags = Flags {
-    nuw: false,
-    nsw: false,
-    exact: false,
-    disjoint: false,
-    nneg: false,
-    samesign: false,
-};
 
 /// The name of the function with a number.
 pub fn function_name(alloc: Global, number: u32) -> Result<Name, NoMemory>

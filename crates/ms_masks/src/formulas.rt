@@ -3,17 +3,7 @@ ghost use Rattle.std.specs.Prelude.{◌≡◌, ◌≤◌, ◌<◌, ◌+◌, ◌-
 ghost use Rattle.ms_bits.specs.{Arithmetic.{binary_of}, Conversions.{Allows, cast_of, select_of}, NoFlags.{no_flags}};
 ghost use Rattle.ms_bits.specs.Formulas.{and_mask as and_mask_of, or_mask as or_mask_of, eq_mask as eq_mask_of, order_mask as order_mask_of, turned_sign as turned_sign_of, compare_mask as compare_mask_of, select_mask as select_mask_of, carry_mask as carry_mask_of};
 
-use ms_bits::{BinOp, CastOp, Flags, Pred, Trap, Word, binary, cast};
-
-/// No flag.
-const NO_FLAGS: Flags = Flags {
-    nuw: false,
-    nsw: false,
-    exact: false,
-    disjoint: false,
-    nneg: false,
-    samesign: false,
-};
+use ms_bits::{BinOp, CastOp, NO_FLAGS, Pred, Trap, Word, binary, cast};
 
 /// The greatest number of a width.
 pub fn ones(width: u8) -> u64

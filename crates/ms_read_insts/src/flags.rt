@@ -5,7 +5,7 @@ ghost use Rattle.ms_text_grammar.specs.Insts as spec;
 ghost use Rattle.ms_read_cursor.specs.Reading.{Gives, run};
 ghost use Rattle.ms_read_insts.specs.Carriers.{carries_of};
 
-use ms_bits::{BinOp, CastOp, Flags};
+use ms_bits::{BinOp, CastOp, Flags, NO_FLAGS};
 use ms_read_cursor::{Lexeme, Tokens, Turn, repeat, same_symbol};
 use ms_text_grammar::{Cause, Symbol};
 use std::alloc::Global;
@@ -135,13 +135,5 @@ impl Turn for FlagTurn {
 pub fn flags_of(alloc: Global, tokens: &mut Tokens<'_>, carrier: Carrier) -> Result<Flags, Cause>
     ensures { Gives (run (spec.flags_of (carries_of carrier)) tokens.old) result tokens.new }
 {
-    let none = Flags {
-        nuw: false,
-        nsw: false,
-        exact: false,
-        disjoint: false,
-        nneg: false,
-        samesign: false,
-    };
-    repeat(alloc, tokens, &FlagTurn { carrier }, none)
+    repeat(alloc, tokens, &FlagTurn { carrier }, NO_FLAGS)
 }

@@ -6,7 +6,7 @@ ghost use Rattle.ms_rules.specs.Edges.{masks, origins, with_operands, first_oper
 use ms_bits::{Duplicate, List, NoMemory};
 use ms_ir::{Name, Operand};
 use ms_rules_builder::{Shadow, TrackedOperand, mask_name, origin_name};
-use ms_tables::NameTable;
+use ms_tables::{NameTable, labels_of};
 use std::alloc::Global;
 
 /// The operand that holds a mask.
@@ -71,17 +71,6 @@ pub fn mask_edges(
         push_mask(alloc, &mut made, operands[place].shadow, &edge.1)?;
     }
     Ok(List::from_vec(made))
-}
-
-/// The labels of edges.
-fn labels_of<'m>(alloc: Global, edges: &'m [(Operand, Name)]) -> Result<NameTable<'m>, NoMemory>
-    ensures { IfOk result (λ names. names ≡ map (λ e. e.1) edges.now) }
-{
-    let mut names = NameTable::new(alloc);
-    for edge in edges {
-        names.push(&edge.1)?;
-    }
-    Ok(names)
 }
 
 /// The operand that holds the origin at the first place of a label.

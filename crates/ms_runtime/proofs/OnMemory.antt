@@ -1,5 +1,5 @@
 -- The runtime functions on memory, by the words of their arguments.
-use Rattle.std.proofs.Common.{◌≡◌, ◌≢◌, ℕ, ◌+◌, ◌%◌, Bool, true, false, List, ◌∷◌, [], ◌++◌, length, refl, sym, ap, ◌∙◌, subst, eqb, ◌||◌, ◌⊎◌, inl, inr, not, if◌then◌else◌, Option, Some, None, Result, Ok, Err, OnOk}
+use Rattle.std.proofs.Common.{◌≡◌, ◌≢◌, ℕ, ◌+◌, ◌%◌, Bool, true, false, List, ◌∷◌, [], ◌++◌, length, refl, sym, ap, ◌∙◌, subst, eqb, ◌||◌, ◌⊎◌, inl, inr, not, if◌then◌else◌, Option, Some, None}
 use Rattle.std.proofs.lemmas.Bool.{eq-eqb, ne_eqb}
 use Rattle.ms_bits.specs.Maps.{first_nonzero}
 use Rattle.ms_runs.specs.declared.runs.RunResult.{RunResult}
@@ -31,11 +31,6 @@ with4 P {a = a} {a' = a'} {b = b} {b' = b'} {c = c} {c' = c'} {d = d} {d' = d'} 
 -- what is followed of one function is followed of an equal one
 pub from-kind : (P : RuntimeFn → Type 0) {f g : RuntimeFn} → f ≡ g → P g → P f
 from-kind P e h = subst P (sym e) h
-
--- what is said where there is an answer
-pub on-ok : {A E : Type 0} (r : Result A E) (P Q : Type 0) → (P → Q) → OnOk r P → OnOk r Q
-on-ok (Ok x) P Q f h = f h
-on-ok (Err e) P Q f h = h
 
 -- a value is given, and the world stays
 pub gives : (w : WorldState) (beside : Beside) (world : World) (effect : Effect) (v : ℕ) → effect ≡ Gives v world → Shows w beside world → Answered beside effect (Resumed (Some v)) w

@@ -30,7 +30,7 @@ pub use here::Here;
 pub use named::Named;
 pub use names::Names;
 pub use numbers::{block_numbers, name_place};
-pub use picked::{Pick, push_code};
+pub use picked::{Pick, labels_of, push_code};
 pub use sought::Search;
 pub use spelled::{Spelled, Unknown};
 pub use table::NameTable;

@@ -1,11 +1,23 @@
 //! Names that are picked out of instructions.
-ghost use Rattle.std.specs.Prelude.{◌≡◌, ◌++◌, Option, option_to_list, filter_map, flat_map, IfOk};
+ghost use Rattle.std.specs.Prelude.{◌≡◌, ◌++◌, Option, option_to_list, map, filter_map, flat_map, IfOk};
 ghost use Rattle.std.specs.Option.{option_copied};
 ghost use Rattle.ms_ir.specs.{declared.syntax.Inst.{Inst}, declared.syntax.Name.{Name}};
 
 use crate::table::NameTable;
 use ms_bits::NoMemory;
-use ms_ir::{Block, Inst, Name};
+use ms_ir::{Block, Inst, Name, Operand};
+use std::alloc::Global;
+
+/// The labels of the edges of a phi. The one error is want of memory.
+pub fn labels_of<'m>(alloc: Global, edges: &'m [(Operand, Name)]) -> Result<NameTable<'m>, NoMemory>
+    ensures { IfOk result (λ names. names ≡ map (λ e. e.1) edges.now) }
+{
+    let mut names = NameTable::new(alloc);
+    for edge in edges {
+        names.push(&edge.1)?;
+    }
+    Ok(names)
+}
 
 /// A name that is picked out of each instruction that has it.
 pub trait Pick {

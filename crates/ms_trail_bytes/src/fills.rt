@@ -103,7 +103,8 @@ pub fn shade_stored(
     }
 }
 
-/// Copies the shadow of `n` bytes that are good: each one comes from the byte at its distance. The one error is want of memory.
+/// Copies the shadow and the origins of `n` bytes to good ones, and notes in the list that each came from the byte at its
+/// distance. The one error is want of memory.
 pub fn shade_copied(
     alloc: Global,
     world: &mut World,

@@ -3,7 +3,8 @@ use Rattle.ms_bits.specs.Maps.{byte_of}
 use Rattle.ms_runs.specs.World.{World, Setting}
 use Rattle.ms_runs.specs.Memory.{set_shadow, is_good}
 use Rattle.ms_runs.specs.Origins.{store_origin}
-use Rattle.ms_runtime.proofs.OnMemory.{on-ok, does-as, store-clean, store-marked}
+use Rattle.std.proofs.lemmas.Result.{on_ok_weaker}
+use Rattle.ms_runtime.proofs.OnMemory.{does-as, store-clean, store-marked}
 use Rattle.ms_runtime.proofs.thread_results.thread_result.Goals as goal
 
 -- where the bytes are good, and where they aren't
@@ -29,7 +30,7 @@ returns-clause-served c = λ setting beside meant told roots kept shows.
     let h = c.if-not-store_shadow.ensures.stored beside meant shows in
     let e : put setting c.args.addr c.args.mask c.args.origin c.args.site meant (is_good meant c.args.addr 8) ≡ put setting c.args.addr c.args.mask c.args.origin c.args.site meant true =
     ap (put setting c.args.addr c.args.mask c.args.origin c.args.site meant) h.0 in
-    on-ok c.mark_chained.result _ _
+    on_ok_weaker c.mark_chained.result
     (does-as c.mark_chained.new.world c.mark_chained.new.depot told _ _
     (store-marked setting (set_shadow c.args.addr 8 (byte_of c.args.mask) meant) c.args.addr c.args.mask c.args.origin c.args.site c.if-mask-eq0.false ∙ sym e))
     (c.mark_chained.ensures.served setting beside (set_shadow c.args.addr 8 (byte_of c.args.mask) meant) told roots kept h.1)

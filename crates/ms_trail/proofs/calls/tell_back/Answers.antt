@@ -10,13 +10,13 @@ use Rattle.ms_moves.specs.Sources.{sources, source_at}
 use Rattle.ms_trail.specs.Calling.{returned_told}
 use Rattle.ms_trail_bytes.specs.Logs.{IsLog}
 use Rattle.ms_trail.proofs.calls.tell_back.Goals as goal
-use Rattle.ms_runtime.proofs.OnMemory.{on-ok}
+use Rattle.std.proofs.lemmas.Result.{on_ok_weaker}
 
 pub returns-in-Some-clause-told : goal.returns-in-Some-clause-told
 returns-in-Some-clause-told c = λ moves is.
     let a = c.args in
     subst (λ (r : Option Name). OnOk c.tell_return.result (IsLog c.tell_return.new.log (moves ++ returned_told a.stamp.event a.stamp.site a.frame r a.mask (source_at 0 (sources a.inner (operands a.row.inst.now.op) a.row.roots))))) (sym c.in-Some.is)
-    (on-ok c.tell_return.result _ _
+    (on_ok_weaker c.tell_return.result
     (λ h. subst (λ (ms : List Move). IsLog c.tell_return.new.log (moves ++ ms))
     (ap (λ (r : Option Name). masked_move a.stamp.event a.stamp.site a.mask (source_at 0 (sources a.inner (operands a.row.inst.now.op) a.row.roots)) (Value a.frame (unwrap_or r (Number 0)))) c.in-Some.is) h)
     (c.tell_return.ensures.told moves is))

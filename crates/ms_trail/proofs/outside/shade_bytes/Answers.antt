@@ -10,7 +10,7 @@ use Rattle.ms_trail_bytes.specs.Shading.{ShadedAs}
 use Rattle.ms_trail_bytes.proofs.Filling.{source_no_byte}
 use Rattle.ms_trail_bytes.proofs.Refilled.{same_byte}
 use Rattle.ms_trail.proofs.outside.shade_bytes.Goals as goal
-use Rattle.ms_runtime.proofs.OnMemory.{on-ok}
+use Rattle.std.proofs.lemmas.Result.{on_ok_weaker}
 
 pub shade_set-requires-clause-byte : goal.shade_set-requires-clause-byte
 shade_set-requires-clause-byte c = omega arith
@@ -22,7 +22,7 @@ pub returns-clause-set : goal.returns-clause-set
 returns-clause-set c = λ beside meant moves shows whole good is.
     let a = c.args in
     let same : fill_shadow a.addr a.n (a.mask % 256) meant ≡ fill_shadow a.addr a.n a.mask meant = same_byte a.addr a.n a.mask meant in
-    on-ok c.shade_set.result _ _
+    on_ok_weaker c.shade_set.result
     (λ h. (
       subst (λ (x : World). ShadedAs beside meant x c.shade_set.new.world) same h.0,
       subst (λ (ms : List Move). IsLog c.shade_set.new.log (moves ++ ms)) (λ j. written_moves a.stamp.event a.stamp.site (same j).shadow (Filled a.addr a.n (c.in_ok-from.ensures j))) h.1,

@@ -9,7 +9,7 @@ use Rattle.ms_moves.specs.Written.{heap_place}
 use Rattle.ms_trail_bytes.specs.Shading.{Facts}
 use Rattle.ms_trail.proofs.Outsides.{word_read, mask_read, malloc_done, started_done, realloc_done, memcpy_done, memmove_done, llvm_memcpy_done, llvm_memmove_done, memset_done, llvm_memset_done, read_done, default_done, finish}
 use Rattle.ms_trail.proofs.outside.shade_memory.Goals as goal
-use Rattle.ms_runtime.proofs.OnMemory.{on-ok}
+use Rattle.std.proofs.lemmas.Result.{on_ok_weaker}
 
 pub own_root-root-requires : goal.own_root-root-requires
 own_root-root-requires c = c.requires.roots
@@ -32,7 +32,7 @@ returns-in-Malloc-clause-shaded c = λ beside meant before ps moves words masks 
     let n = word_read ps c.as_slice-words.result.now 2 c.word-n.result (c.as_slice-words.ensures.value ∙ words) c.word-n.ensures in
     let mask = mask_read ps c.as_slice-masks.result.now 1 c.word-mask.result (c.as_slice-masks.ensures.value ∙ masks) c.word-mask.ensures in
     let known = subst (λ (e : External). Facts e ps before call.given meant) c.in-Malloc.is facts in
-    on-ok c.shade_unset.result _ _
+    on_ok_weaker c.shade_unset.result
     (λ h. finish beside event site root _ ps ss before call.given meant moves w log call.external external.Malloc c.own_root-root.ensures c.in-Malloc.is
     (malloc_done beside event site root ps ss before call.given meant moves w log c.word-a.result a known h))
     (c.shade_unset.ensures.unset beside meant moves shows whole is)
@@ -52,7 +52,7 @@ returns-in-Realloc-clause-shaded c = λ beside meant before ps moves words masks
     let n = word_read ps c.as_slice-words.result.now 2 c.word-n.result (c.as_slice-words.ensures.value ∙ words) c.word-n.ensures in
     let mask = mask_read ps c.as_slice-masks.result.now 1 c.word-mask.result (c.as_slice-masks.ensures.value ∙ masks) c.word-mask.ensures in
     let known = subst (λ (e : External). Facts e ps before call.given meant) c.in-Realloc.is facts in
-    on-ok c.shade_moved.result _ _
+    on_ok_weaker c.shade_moved.result
     (λ h. finish beside event site root _ ps ss before call.given meant moves w log call.external external.Realloc c.own_root-root.ensures c.in-Realloc.is
     (realloc_done beside event site root ps ss before call.given meant moves w log c.word-a.result c.word-b.result call.old a b old known.0 h))
     (c.shade_moved.ensures.moved beside meant before moves (known.0 ∙ ap (λ k. heap_place k before) (sym b)) (λ f. (λ j. is_good meant call.given (min (old j) (b j))) ∙ known.1 (ap (λ k. fits Heap k before) (sym b) ∙ f)) shows whole is)
@@ -72,7 +72,7 @@ returns-in-Memcpy-clause-shaded c = λ beside meant before ps moves words masks 
     let n = word_read ps c.as_slice-words.result.now 2 c.word-n.result (c.as_slice-words.ensures.value ∙ words) c.word-n.ensures in
     let mask = mask_read ps c.as_slice-masks.result.now 1 c.word-mask.result (c.as_slice-masks.ensures.value ∙ masks) c.word-mask.ensures in
     let known = subst (λ (e : External). Facts e ps before call.given meant) c.in-Memcpy.is facts in
-    on-ok c.shade_copy.result _ _
+    on_ok_weaker c.shade_copy.result
     (λ h. finish beside event site root _ ps ss before call.given meant moves w log call.external external.Memcpy c.own_root-root.ensures c.in-Memcpy.is
     (memcpy_done beside event site root ps ss before call.given meant moves w log c.word-a.result c.word-b.result c.word-n.result a b n h))
     (c.shade_copy.ensures.copied beside meant moves shows whole ((λ j. is_good meant (a j) (n j)) ∙ known.0) ((λ j. is_good meant (b j) (n j)) ∙ known.1) is)
@@ -92,7 +92,7 @@ returns-in-Memmove-clause-shaded c = λ beside meant before ps moves words masks
     let n = word_read ps c.as_slice-words.result.now 2 c.word-n.result (c.as_slice-words.ensures.value ∙ words) c.word-n.ensures in
     let mask = mask_read ps c.as_slice-masks.result.now 1 c.word-mask.result (c.as_slice-masks.ensures.value ∙ masks) c.word-mask.ensures in
     let known = subst (λ (e : External). Facts e ps before call.given meant) c.in-Memmove.is facts in
-    on-ok c.shade_copy-in-Memmove.result _ _
+    on_ok_weaker c.shade_copy-in-Memmove.result
     (λ h. finish beside event site root _ ps ss before call.given meant moves w log call.external external.Memmove c.own_root-root.ensures c.in-Memmove.is
     (memmove_done beside event site root ps ss before call.given meant moves w log c.word-a.result c.word-b.result c.word-n.result a b n h))
     (c.shade_copy-in-Memmove.ensures.copied beside meant moves shows whole ((λ j. is_good meant (a j) (n j)) ∙ known.0) ((λ j. is_good meant (b j) (n j)) ∙ known.1) is)
@@ -112,7 +112,7 @@ returns-in-LlvmMemcpy-clause-shaded c = λ beside meant before ps moves words ma
     let n = word_read ps c.as_slice-words.result.now 2 c.word-n.result (c.as_slice-words.ensures.value ∙ words) c.word-n.ensures in
     let mask = mask_read ps c.as_slice-masks.result.now 1 c.word-mask.result (c.as_slice-masks.ensures.value ∙ masks) c.word-mask.ensures in
     let known = subst (λ (e : External). Facts e ps before call.given meant) c.in-LlvmMemcpy.is facts in
-    on-ok c.shade_copy-in-LlvmMemcpy.result _ _
+    on_ok_weaker c.shade_copy-in-LlvmMemcpy.result
     (λ h. finish beside event site root _ ps ss before call.given meant moves w log call.external external.LlvmMemcpy c.own_root-root.ensures c.in-LlvmMemcpy.is
     (llvm_memcpy_done beside event site root ps ss before call.given meant moves w log c.word-a.result c.word-b.result c.word-n.result a b n h))
     (c.shade_copy-in-LlvmMemcpy.ensures.copied beside meant moves shows whole ((λ j. is_good meant (a j) (n j)) ∙ known.0) ((λ j. is_good meant (b j) (n j)) ∙ known.1) is)
@@ -132,7 +132,7 @@ returns-in-LlvmMemmove-clause-shaded c = λ beside meant before ps moves words m
     let n = word_read ps c.as_slice-words.result.now 2 c.word-n.result (c.as_slice-words.ensures.value ∙ words) c.word-n.ensures in
     let mask = mask_read ps c.as_slice-masks.result.now 1 c.word-mask.result (c.as_slice-masks.ensures.value ∙ masks) c.word-mask.ensures in
     let known = subst (λ (e : External). Facts e ps before call.given meant) c.in-LlvmMemmove.is facts in
-    on-ok c.shade_copy-in-LlvmMemmove.result _ _
+    on_ok_weaker c.shade_copy-in-LlvmMemmove.result
     (λ h. finish beside event site root _ ps ss before call.given meant moves w log call.external external.LlvmMemmove c.own_root-root.ensures c.in-LlvmMemmove.is
     (llvm_memmove_done beside event site root ps ss before call.given meant moves w log c.word-a.result c.word-b.result c.word-n.result a b n h))
     (c.shade_copy-in-LlvmMemmove.ensures.copied beside meant moves shows whole ((λ j. is_good meant (a j) (n j)) ∙ known.0) ((λ j. is_good meant (b j) (n j)) ∙ known.1) is)
@@ -152,7 +152,7 @@ returns-in-Memset-clause-shaded c = λ beside meant before ps moves words masks 
     let n = word_read ps c.as_slice-words.result.now 2 c.word-n.result (c.as_slice-words.ensures.value ∙ words) c.word-n.ensures in
     let mask = mask_read ps c.as_slice-masks.result.now 1 c.word-mask.result (c.as_slice-masks.ensures.value ∙ masks) c.word-mask.ensures in
     let known = subst (λ (e : External). Facts e ps before call.given meant) c.in-Memset.is facts in
-    on-ok c.shade_bytes.result _ _
+    on_ok_weaker c.shade_bytes.result
     (λ h. finish beside event site root _ ps ss before call.given meant moves w log call.external external.Memset c.own_root-root.ensures c.in-Memset.is
     (memset_done beside event site root ps ss before call.given meant moves w log c.word-a.result c.word-n.result c.word-mask.result a n mask h))
     (c.shade_bytes.ensures.set beside meant moves shows whole ((λ j. is_good meant (a j) (n j)) ∙ known) is)
@@ -172,7 +172,7 @@ returns-in-LlvmMemset-clause-shaded c = λ beside meant before ps moves words ma
     let n = word_read ps c.as_slice-words.result.now 2 c.word-n.result (c.as_slice-words.ensures.value ∙ words) c.word-n.ensures in
     let mask = mask_read ps c.as_slice-masks.result.now 1 c.word-mask.result (c.as_slice-masks.ensures.value ∙ masks) c.word-mask.ensures in
     let known = subst (λ (e : External). Facts e ps before call.given meant) c.in-LlvmMemset.is facts in
-    on-ok c.shade_bytes-in-LlvmMemset.result _ _
+    on_ok_weaker c.shade_bytes-in-LlvmMemset.result
     (λ h. finish beside event site root _ ps ss before call.given meant moves w log call.external external.LlvmMemset c.own_root-root.ensures c.in-LlvmMemset.is
     (llvm_memset_done beside event site root ps ss before call.given meant moves w log c.word-a.result c.word-n.result c.word-mask.result a n mask h))
     (c.shade_bytes-in-LlvmMemset.ensures.set beside meant moves shows whole ((λ j. is_good meant (a j) (n j)) ∙ known) is)
@@ -192,7 +192,7 @@ returns-in-LifetimeStart-clause-shaded c = λ beside meant before ps moves words
     let n = word_read ps c.as_slice-words.result.now 2 c.word-n.result (c.as_slice-words.ensures.value ∙ words) c.word-n.ensures in
     let mask = mask_read ps c.as_slice-masks.result.now 1 c.word-mask.result (c.as_slice-masks.ensures.value ∙ masks) c.word-mask.ensures in
     let known = subst (λ (e : External). Facts e ps before call.given meant) c.in-LifetimeStart.is facts in
-    on-ok c.shade_unset-in-LifetimeStart.result _ _
+    on_ok_weaker c.shade_unset-in-LifetimeStart.result
     (λ h. finish beside event site root _ ps ss before call.given meant moves w log call.external external.LifetimeStart c.own_root-root.ensures c.in-LifetimeStart.is
     (started_done beside event site root ps ss before call.given meant moves w log c.word-b.result c.word-a.result a b h))
     (c.shade_unset-in-LifetimeStart.ensures.unset beside meant moves shows whole is)

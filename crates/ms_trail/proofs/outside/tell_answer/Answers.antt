@@ -10,13 +10,13 @@ use Rattle.ms_trail.specs.Calling.{returned_told}
 use Rattle.ms_trail_bytes.specs.Logs.{IsLog}
 use Rattle.ms_trail.specs.Telling.{masked_move}
 use Rattle.ms_trail.proofs.outside.tell_answer.Goals as goal
-use Rattle.ms_runtime.proofs.OnMemory.{on-ok}
+use Rattle.std.proofs.lemmas.Result.{on_ok_weaker}
 
 pub returns-in-Some-clause-told : goal.returns-in-Some-clause-told
 returns-in-Some-clause-told c = λ moves is.
     let a = c.args in
     subst (λ (r : Option Name). OnOk c.tell_result.result (IsLog c.tell_result.new.log (moves ++ returned_told a.stamp.event a.stamp.site a.number r a.mask (source_at a.from (sources a.number (operands a.row.inst.now.op) a.row.roots))))) (sym c.in-Some.is)
-    (on-ok c.tell_result.result _ _
+    (on_ok_weaker c.tell_result.result
     (λ h. subst (λ (ms : List Move). IsLog c.tell_result.new.log (moves ++ ms))
     (ap (λ (r : Option Name). masked_move a.stamp.event a.stamp.site a.mask (source_at a.from (sources a.number (operands a.row.inst.now.op) a.row.roots)) (Value a.number (unwrap_or r (Number 0)))) c.in-Some.is) h)
     (c.tell_result.ensures.told moves is))

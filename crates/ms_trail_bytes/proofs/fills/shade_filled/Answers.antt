@@ -5,7 +5,7 @@ use Rattle.ms_moves.specs.declared.moves.Move.{Move}
 use Rattle.ms_trail_bytes.specs.Logs.{IsLog}
 use Rattle.ms_trail_bytes.proofs.Filling.{filled_same, good_filled}
 use Rattle.ms_trail_bytes.proofs.fills.shade_filled.Goals as goal
-use Rattle.ms_runtime.proofs.OnMemory.{on-ok}
+use Rattle.std.proofs.lemmas.Result.{on_ok_weaker}
 
 pub tell_bytes-requires-clause-live : goal.tell_bytes-requires-clause-live
 tell_bytes-requires-clause-live c = sym c.covers-good.ensures.table ∙ c.if-good.true
@@ -15,7 +15,7 @@ returns-then-good-clause-filled c = λ beside meant moves shows whole is.
     let a = c.args in
     let after = set_cells a.addr a.n 0 (set_shadow a.addr a.n (λ k. a.mask) meant) in
     let there = c.fill_planes.ensures.filled beside meant shows in
-    on-ok c.tell_bytes.result _ _
+    on_ok_weaker c.tell_bytes.result
     (λ h. (there, subst (λ (ms : List Move). IsLog c.tell_bytes.new.log (moves ++ ms)) (filled_same a.stamp.event a.stamp.site after.shadow a.addr a.n a.from.now) h))
     (c.tell_bytes.ensures.told beside after moves there (good_filled a.addr a.n a.mask meant (omega (arith, c.ranges.mask)) whole) is)
 

@@ -12,7 +12,7 @@ use Rattle.ms_trail_bytes.proofs.Filling.{filled_same, stored_good}
 use Rattle.ms_trail_bytes.proofs.Refilled.{stored_clean}
 use Rattle.ms_trail_bytes.proofs.fills.shade_stored.Goals as goal
 use Rattle.ms_bits_laws.proofs.MapLemmas.{byte_of-lt}
-use Rattle.ms_runtime.proofs.OnMemory.{on-ok}
+use Rattle.std.proofs.lemmas.Result.{on_ok_weaker}
 
 pub tell_bytes-requires-clause-live : goal.tell_bytes-requires-clause-live
 tell_bytes-requires-clause-live c = sym c.covers-good.ensures.table ∙ c.if-good.true
@@ -28,7 +28,7 @@ returns-then-good-clause-stored c = λ beside meant moves source same shows whol
     let a = c.args in
     let after = set_shadow a.addr a.size (byte_of a.mask) meant in
     let there = stored_good c.store_shadow.result (is_good meant a.addr a.size) _ _ (c.store_shadow.ensures.stored beside meant shows) good in
-    on-ok c.tell_bytes.result _ _
+    on_ok_weaker c.tell_bytes.result
     (λ h. (
       there,
       subst (λ (ms : List Move). IsLog c.tell_bytes.new.log (moves ++ ms))

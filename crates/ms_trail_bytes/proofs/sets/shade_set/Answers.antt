@@ -2,7 +2,7 @@ use Rattle.std.proofs.Common.{sym, ◌∙◌, arith, true≢false}
 use Rattle.ms_trail_bytes.proofs.Refilled.{set_clean, set_marked, not_clean, some_bytes}
 use Rattle.ms_trail_bytes.proofs.Unsetting.{positive}
 use Rattle.ms_trail_bytes.proofs.sets.shade_set.Goals as goal
-use Rattle.ms_runtime.proofs.OnMemory.{on-ok}
+use Rattle.std.proofs.lemmas.Result.{on_ok_weaker}
 
 pub returns-then-clean-clause-set : goal.returns-then-clean-clause-set
 returns-then-clean-clause-set c = λ beside meant moves shows whole good is.
@@ -30,7 +30,7 @@ returns-then-good-clause-count c = omega (arith, c.shade_filled.ensures.count, c
 pub returns-then-good-clause-set : goal.returns-then-good-clause-set
 returns-then-good-clause-set c = λ beside meant moves shows whole good is.
     let a = c.args in
-    on-ok c.shade_filled.result _ _
+    on_ok_weaker c.shade_filled.result
     (set_marked meant a.addr a.n a.mask good c.requires.byte beside c.shade_filled.new.world a.stamp.event a.stamp.site a.from.now c.shade_filled.new.log moves (sym c.is_clean-clean.ensures ∙ c.if-clean.false))
     (c.shade_filled.ensures.filled beside meant moves shows whole is)
 

@@ -2,7 +2,7 @@ use Rattle.std.proofs.Common.{true≢false, sym, ◌∙◌, arith}
 use Rattle.ms_runs.specs.Origins.{copy_planes}
 use Rattle.ms_trail_bytes.proofs.Unsetting.{copied_as, none_copied, positive}
 use Rattle.ms_trail_bytes.proofs.unsets.shade_copy.Goals as goal
-use Rattle.ms_runtime.proofs.OnMemory.{on-ok}
+use Rattle.std.proofs.lemmas.Result.{on_ok_weaker}
 
 pub returns-then-n-eq0-clause-copied : goal.returns-then-n-eq0-clause-copied
 returns-then-n-eq0-clause-copied c = λ beside meant moves shows whole good source is.
@@ -26,7 +26,7 @@ shade_copied-requires-clause-few c = omega (arith, c.requires.few, c.is_range.en
 pub returns-then-good-clause-copied : goal.returns-then-good-clause-copied
 returns-then-good-clause-copied c = λ beside meant moves shows whole good source is.
     let a = c.args in
-    on-ok c.shade_copied.result _ _ (λ h. (copied_as beside meant a.to a.from a.n c.shade_copied.new.world h.0, h.1)) (c.shade_copied.ensures.copied beside meant moves shows whole good is)
+    on_ok_weaker c.shade_copied.result (λ h. (copied_as beside meant a.to a.from a.n c.shade_copied.new.world h.0, h.1)) (c.shade_copied.ensures.copied beside meant moves shows whole good is)
 
 pub returns-then-good-clause-count : goal.returns-then-good-clause-count
 returns-then-good-clause-count c = omega (arith, c.shade_copied.ensures.count, c.is_range.ensures.few)

@@ -8,7 +8,7 @@ use Rattle.ms_trail_bytes.specs.Logs.{IsLog}
 use Rattle.ms_trail_bytes.proofs.Filling.{good_poison}
 use Rattle.ms_trail_bytes.proofs.Unsetting.{poison_same, poisoned_as, both_told}
 use Rattle.ms_trail_bytes.proofs.unsets.shade_moved.Goals as goal
-use Rattle.ms_runtime.proofs.OnMemory.{on-ok}
+use Rattle.std.proofs.lemmas.Result.{on_ok_weaker}
 
 pub tell_block-requires-clause-low : goal.tell_block-requires-clause-low
 tell_block-requires-clause-low c = λ some. omega (arith, c.requires.low (omega (arith, some, c.min.ensures)), c.min.ensures)
@@ -31,7 +31,7 @@ returns-clause-moved c = λ beside meant before moves place good shows whole is.
     let told : IsLog c.tell_block.new.log (moves ++ memory_moves a.stamp.event a.stamp.site after.shadow come) =
     subst (λ (k : ℕ). IsLog c.tell_block.new.log (moves ++ memory_moves a.stamp.event a.stamp.site after.shadow (if fits Heap a.n before then Copied (next_base Heap before) k a.block ∷ [] else []))) kept first
     in
-    on-ok c.tell_made.result _ _
+    on_ok_weaker c.tell_made.result
     (λ h. (poisoned_as beside meant a.given a.old a.n c.poison.new.self there, both_told c.tell_made.new.log moves a.stamp.event a.stamp.site after.shadow come (made after a.given a.old a.n a.root) h))
     (c.tell_made.ensures.told beside after (moves ++ memory_moves a.stamp.event a.stamp.site after.shadow come) there whole_there told)
 

@@ -1,7 +1,7 @@
 use Rattle.std.proofs.Common.{sym, ◌∙◌, arith}
 use Rattle.ms_trail_bytes.proofs.Filling.{good_told, bad_told}
 use Rattle.ms_trail_bytes.proofs.unsets.tell_good.Goals as goal
-use Rattle.ms_runtime.proofs.OnMemory.{on-ok}
+use Rattle.std.proofs.lemmas.Result.{on_ok_weaker}
 
 pub is_range-requires-clause-live : goal.is_range-requires-clause-live
 is_range-requires-clause-live c = sym c.covers-good.ensures.table ∙ c.if-good.true
@@ -17,7 +17,7 @@ tell_bytes-requires-clause-few c = omega (arith, c.requires.few, c.is_range.ensu
 
 pub returns-then-good-clause-told : goal.returns-then-good-clause-told
 returns-then-good-clause-told c = λ beside meant moves shows whole is.
-    on-ok c.tell_bytes.result _ _
+    on_ok_weaker c.tell_bytes.result
     (good_told c.tell_bytes.new.log moves c.args.stamp.event c.args.stamp.site meant c.args.first c.args.n c.args.root (sym (c.covers-good.ensures.good beside meant shows) ∙ c.if-good.true)) (c.tell_bytes.ensures.told beside meant moves shows whole is)
 
 pub returns-then-good-clause-count : goal.returns-then-good-clause-count

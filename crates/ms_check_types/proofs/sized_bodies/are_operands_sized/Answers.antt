@@ -2,7 +2,7 @@ use Rattle.std.proofs.Common.{sym, ◌∙◌, arith}
 use Rattle.ms_ir.specs.Instructions.{operands}
 use Rattle.ms_check_types.specs.SizedParts.{is_typed_sized}
 use Rattle.ms_check_types.proofs.OneByOne.{all_on, all_stop, all_done}
-use Rattle.ms_check_types.proofs.code.are_operands_sized.Goals as goal
+use Rattle.ms_check_types.proofs.sized_bodies.are_operands_sized.Goals as goal
 
 pub returns-then-not-is_operand_at_sized : goal.returns-then-not-is_operand_at_sized
 returns-then-not-is_operand_at_sized c =
