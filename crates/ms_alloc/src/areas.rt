@@ -38,7 +38,7 @@ pub(crate) fn has_room(kind: AllocKind, used: u64, size: u64) -> bool
     size <= left && room_of(size) <= left
 }
 
-/// One more allocation, which takes the bytes behind those that are taken. Where memory is wanting both lists are as
+/// One more allocation, which takes the bytes after those that are taken. Where memory runs out both lists are as
 /// they were.
 fn push(
     made: &mut Vec<Allocation>,
@@ -113,7 +113,7 @@ impl Area {
         self.owners.len() as u64 * 16
     }
 
-    /// Makes an allocation at the end of the area, and answers its base.
+    /// Makes an allocation at the end of the area, and returns its base.
     pub(crate) fn append(&mut self, kind: AllocKind, size: u64) -> Result<u64, AllocError>
         requires { IsArea kind self.old }
         ensures base { IfOk result (λ base. base ≡ area_base kind + used self.old) }
@@ -227,7 +227,7 @@ impl Area {
         Some(self.made[place].size)
     }
 
-    /// Ends the live block of the heap that begins at `base`, and answers its size.
+    /// Ends the live block of the heap that begins at `base`, and returns its size.
     pub(crate) fn end(&mut self, base: u64) -> Result<u64, BadFree>
         requires { IsArea Heap self.old }
         ensures size { IfOk result (λ size. option_map (λ a. a.size) (find (is_block base) self.old) ≡ Some size) }

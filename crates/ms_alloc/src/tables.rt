@@ -68,7 +68,7 @@ impl Table {
         has_room(kind, self.used(kind), size)
     }
 
-    /// Makes an allocation of `size` bytes at the end of its area, and answers its base.
+    /// Makes an allocation of `size` bytes at the end of its area, and returns its base.
     ///
     /// `Full` where the allocations of the area would then take more than its limit; `NoMemory` where the table
     /// itself can't grow. The table is then as it was.
@@ -86,7 +86,7 @@ impl Table {
         }
     }
 
-    /// Ends the live heap block that begins at `base`, and answers its size. It stays in the table, not live.
+    /// Ends the live heap block that begins at `base`, and returns its size. It stays in the table, not live.
     ///
     /// `BadFree` where no live heap block begins there. The table is then as it was.
     pub fn end(&mut self, base: u64) -> Result<u64, BadFree>

@@ -15,7 +15,7 @@ struct Row {
     answer: Option<(u32, &'static [u32])>,
 }
 
-/// A use of a value in a block, in front of what the block defines or behind it.
+/// A use of a value in a block, in front of what the block defines or after it.
 #[derive(Clone, Copy)]
 enum Asked {
     Before(u32, u32),

@@ -11,7 +11,7 @@ const HEAP: u64 = 0x7100_0000_0000;
 
 const STACK: u64 = 0x7200_0000_0000;
 
-/// A call of the planes, and its answer. An address, where there is one, comes first, and a number of bytes behind it.
+/// A call of the planes, and its answer. An address, where there is one, comes first, and a number of bytes after it.
 enum Step {
     /// An allocation of so many bytes, and its base.
     Makes(AllocKind, u64, u64),

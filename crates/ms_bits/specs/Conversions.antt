@@ -24,7 +24,7 @@ holds Sge width a b = int_le (signed width b) (signed width a)
 holds Slt width a b = int_lt (signed width a) (signed width b)
 holds Sle width a b = int_le (signed width a) (signed width b)
 
--- 'icmp': what it answers; 'samesign' asks for equal sign bits
+-- 'icmp': what it returns; 'samesign' asks for equal sign bits
 unfoldable pub compare_of : Pred → Flags → ℕ → ℕ → ℕ → Result Bool Trap
 compare_of predicate flags width a b =
     cond (flags.samesign && not (beq (negative width a) (negative width b))) (Err Samesign)

@@ -7,12 +7,12 @@ use crate::operations::{BinOp, CastOp, Flags, Pred};
 use crate::traps::Trap;
 use std::alloc::{AllocError, Global};
 
-/// Want of memory. The one answer that no clause ties to a cause.
+/// Memory ran out. The one answer that no clause ties to a cause.
 pub type NoMemory = AllocError;
 
 /// What can be copied where there is memory.
 pub trait Duplicate: Drop {
-    /// An equal value. The one error is want of memory.
+    /// An equal value. The one error is running out of memory.
     fn copy(&self, alloc: Global) -> Result<Self, NoMemory>
         ensures { IfOk result (λ c. c ≡ self.now) };
 }

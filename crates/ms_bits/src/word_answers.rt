@@ -210,7 +210,7 @@ fn saturated(width: u8, number: i128) -> u64
     }
 }
 
-/// What a function of whole words answers of three operands, of which it takes as many as it needs. Takes no memory.
+/// What a function of whole words returns of three operands, of which it takes as many as it needs. Takes no memory.
 ///
 /// # Errors
 ///

@@ -4,7 +4,7 @@ use Rattle.ms_check.specs.declared.errors.CheckError.{CheckError}
 use Rattle.ms_check.specs.declared.errors.CheckError.TheVariants as error
 use Rattle.ms_valid.specs.Refusals.{Fault, Duplicate, Unknown, TypeMismatch, BadPhi, NoMain, BadExternal, Undefined, BadMark, BadSize}
 
--- the fault that it tells; want of memory tells none
+-- the fault that it tells; running out of memory tells none
 abbrev pub fault_of : CheckError → Option Fault
 fault_of (error.Duplicate global name) = Some (Duplicate (record { global = global; name = name }))
 fault_of (error.Unknown site global name) = Some (Unknown site (record { global = global; name = name }))

@@ -38,7 +38,7 @@ impl Model for CheckedModule {
 
 impl CheckedModule {
     /// A module that is known to be valid, which is not checked again. Its code is made, in the time that `check` takes for
-    /// that. The one error is want of memory.
+    /// that. The one error is running out of memory.
     pub fn of_valid(alloc: Global, m: Module) -> Result<CheckedModule, NoMemory>
         requires formed { Formed m }
         requires valid { Valid m }
@@ -97,7 +97,7 @@ fn code_of(alloc: Global, m: &Module) -> Result<Program, CheckError>
 }
 
 /// Checks a module, as a reader or the pass gives it. Ok only where it is valid. Else the error is the first clause that it
-/// breaks, with the first place in its text, and the module comes back as it was. A valid module is never refused: the error is want of
+/// breaks, with the first place in its text, and the module comes back as it was. A valid module is never refused: the error is running out of
 /// memory then, which alone says nothing. `laws::one_answer` says that a module has one such error at most, but for the path
 /// of an undefined use.
 ///

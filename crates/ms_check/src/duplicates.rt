@@ -64,7 +64,7 @@ fn local_twice(alloc: Global, func: &Func) -> Result<Option<&Name>, NoMemory>
     locals_twice(&mut seen, func)
 }
 
-/// Appends a function's symbol. Answers it where it stands already among those before it, and else the first name
+/// Appends a function's symbol. Returns it where it stands already among those before it, and else the first name
 /// that the function gives twice.
 fn function_twice<'m>(
     alloc: Global,
@@ -147,7 +147,7 @@ fn first_symbol_twice(alloc: Global, m: &Module) -> Result<Option<Spelled<'_>>, 
 
 /// The first name that a module defines twice, in text order: a type's, then a global's or a declaration's, then of
 /// each function its symbol and the names of its parameters, blocks and results. None exactly where each is defined
-/// once. The one error is want of memory.
+/// once. The one error is running out of memory.
 pub fn first_duplicate(alloc: Global, m: &Module) -> Result<Option<Spelled<'_>>, NoMemory>
     ensures { IfOk result (λ r. r ≡ slice_get (duplicates m.now) 0) }
 {

@@ -62,7 +62,7 @@ pub enum CheckError {
         global: bool,
         name: Name,
     },
-    /// Memory was wanting. It tells nothing of the module.
+    /// Memory ran out. It tells nothing of the module.
     NoMemory,
 }
 

@@ -1,4 +1,4 @@
-//! Laws about what a check answers.
+//! Laws about what a check returns.
 ghost use Rattle.std.specs.Prelude.{◌≡◌};
 ghost use Rattle.ms_ir.specs.declared.syntax.Module.{Module};
 ghost use Rattle.ms_valid.specs.{Refusals.{Fault, IsRefused}, Valid.{Valid}};

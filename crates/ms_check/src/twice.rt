@@ -7,7 +7,7 @@ use ms_bits::NoMemory;
 use ms_ir::Name;
 use ms_tables::{NameTable, Named};
 
-/// Appends the name that a part gives, if it gives one. Answers it where it stands already among those seen.
+/// Appends the name that a part gives, if it gives one. Returns it where it stands already among those seen.
 fn append_given<'m, T: Named>(
     seen: &mut NameTable<'m>,
     part: &'m T,
@@ -21,7 +21,7 @@ fn append_given<'m, T: Named>(
     }
 }
 
-/// Appends a name. Answers it where it stands already among those seen.
+/// Appends a name. Returns it where it stands already among those seen.
 pub fn append<'m>(seen: &mut NameTable<'m>, name: &'m Name) -> Result<Option<&'m Name>, NoMemory>
     ensures first { IfOk result (λ r. option_copied r ≡ slice_get (repeats seen.old (name.now ∷ [])) 0) }
     ensures seen { IfOk result (λ _. seen.new ≡ seen.old ++ name.now ∷ []) }

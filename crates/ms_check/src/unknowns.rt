@@ -141,7 +141,7 @@ fn first_missing<'m>(
 /// The first name that a module uses and doesn't define, with its site, in text order: in the named types, then in the
 /// globals, then in the instructions. A type's name may stand anywhere in the module, that of a global, a declaration
 /// or a function too, and that of a parameter, a block or a result anywhere in its function. None exactly where each
-/// name is defined. The one error is want of memory. Sites have 32 bits in every module that is read.
+/// name is defined. The one error is running out of memory. Sites have 32 bits in every module that is read.
 pub fn first_unknown(alloc: Global, m: &Module) -> Result<Option<Unknown<'_>>, NoMemory>
     requires { HasSmallNumbers m.now }
     ensures { IfOk result (λ r. r ≡ slice_get (unknowns m.now) 0) }

@@ -30,7 +30,7 @@ fn take_off(numbers: &[u32], due: &mut [usize]) -> bool
 }
 
 /// Whether two lists have each number equally often. `due` has a place for each number, and counts nothing before and,
-/// where they have, behind.
+/// where they have, after.
 pub fn same_counts(numbers: &[u32], others: &[u32], due: &mut [usize]) -> bool
     requires clear { (k : ℕ) → slice_index due.old k ≡ 0 }
     requires numbers { All (λ n. n < length due.old) numbers.now }

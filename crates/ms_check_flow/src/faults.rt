@@ -132,7 +132,7 @@ impl<'m> Clause<'m> for EdgesFit {
 
 /// The site of the first phi or branch at fault, in text order: a phi that doesn't name each block as often as that has
 /// edges to its own, or that has unequal operands for one block, or a branch to the entry block of its function. None
-/// where there is none. The one error is want of memory.
+/// where there is none. The one error is running out of memory.
 ///
 /// The time grows with the number of blocks, instructions, edges and operands of phis, blocks being found as `NameTable`
 /// finds names.

@@ -67,7 +67,7 @@ fn defs_rows(alloc: Global, func: &Func, values: &Names<'_>) -> Result<List<List
     Ok(List::from_vec(rows))
 }
 
-/// The graph of a function, whose blocks and values go by these numbers. The one error is want of memory.
+/// The graph of a function, whose blocks and values go by these numbers. The one error is running out of memory.
 pub fn graph(alloc: Global, func: &Func, numbers: &Numbers<'_>) -> Result<Graph, NoMemory>
     requires { AreNumbersOf func.now numbers.now }
     ensures { IfOk result (λ g. g ≡ graph_of func.now) }

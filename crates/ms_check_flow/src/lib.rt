@@ -1,6 +1,6 @@
 //! The clauses of a valid module that speak of its blocks, decided in a time near to linear in the module: each phi has an
 //! operand for each edge into its block and no branch goes to an entry block, a function is `main`, and each use of a value
-//! is defined on every path that leads to it. Each call answers the first fault in text order, as the clause lists them.
+//! is defined on every path that leads to it. Each call returns the first fault in text order, as the clause lists them.
 #![tactic(auto)]
 
 mod arrivals;

@@ -78,7 +78,7 @@ fn names_in_code<'m>(alloc: Global, func: &'m Func) -> Result<(Names<'m>, Names<
     Ok((blocks, values))
 }
 
-/// The numbers of a function's blocks and values. The one error is want of memory.
+/// The numbers of a function's blocks and values. The one error is running out of memory.
 pub fn numbers_of<'m>(alloc: Global, func: &'m Func) -> Result<Numbers<'m>, NoMemory>
     requires few { length (value_names func.now) < 2 ^ 32 }
     ensures { IfOk result (AreNumbersOf func.now) }

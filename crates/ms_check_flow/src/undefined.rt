@@ -54,7 +54,7 @@ fn undefined_at(noted: &[NotedUse], missing: Missing) -> Undefined
     }
 }
 
-/// The first use of a function that isn't defined, where its first instruction has a site. The site becomes that behind the
+/// The first use of a function that isn't defined, where its first instruction has a site. The site becomes that after the
 /// function.
 fn first_in_func(alloc: Global, site: &mut u32, func: &Func) -> Result<Option<Undefined>, NoMemory>
     requires { CanBeAsked func.now site.old }
@@ -72,7 +72,7 @@ fn first_in_func(alloc: Global, site: &mut u32, func: &Func) -> Result<Option<Un
 
 /// The first use of a value, in text order, that isn't defined on every path from its function's entry block to it, with
 /// such a path; None where each use is defined. A phi's operand is used at the end of the block that it names, and no path
-/// leads to a block that can't be reached. The one error is want of memory.
+/// leads to a block that can't be reached. The one error is running out of memory.
 ///
 /// The time grows with the number of instructions, operands, blocks and edges, names being found as `NameTable` finds them,
 /// and for each function with the number of its edges times a sixty-fourth of the number of its values that are used outside

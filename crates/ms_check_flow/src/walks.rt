@@ -32,8 +32,8 @@ fn push_result<'m>(seen: &mut NameTable<'m>, inst: &'m Inst) -> Result<(), NoMem
     Ok(())
 }
 
-/// Notes the uses of an instruction, which has a site and stands behind the results that are seen in its block. The site
-/// becomes that behind it, and its own result is seen.
+/// Notes the uses of an instruction, which has a site and stands after the results that are seen in its block. The site
+/// becomes that after it, and its own result is seen.
 fn note_inst<'m>(
     numbers: &Numbers<'m>,
     block: u32,
@@ -58,7 +58,7 @@ fn note_inst<'m>(
     push_result(seen, inst)
 }
 
-/// Notes the uses of a block's instructions, the first of which has a site. The site becomes that behind them.
+/// Notes the uses of a block's instructions, the first of which has a site. The site becomes that after them.
 fn note_insts<'m>(
     alloc: Global,
     numbers: &Numbers<'m>,
@@ -78,7 +78,7 @@ fn note_insts<'m>(
     Ok(())
 }
 
-/// The uses of a function's values that are no parameters, in text order. The site becomes that behind the function.
+/// The uses of a function's values that are no parameters, in text order. The site becomes that after the function.
 fn noted_uses<'m>(
     alloc: Global,
     numbers: &Numbers<'m>,
@@ -98,7 +98,7 @@ fn noted_uses<'m>(
     Ok(noted)
 }
 
-/// What is asked about a function that has these numbers. The site becomes that behind the function.
+/// What is asked about a function that has these numbers. The site becomes that after the function.
 fn asked_by<'m>(
     alloc: Global,
     numbers: &Numbers<'m>,
@@ -117,7 +117,7 @@ fn asked_by<'m>(
     Ok(Asked { graph, noted })
 }
 
-/// What is asked about a function, the first instruction of which has a site. The site becomes that behind the function.
+/// What is asked about a function, the first instruction of which has a site. The site becomes that after the function.
 pub fn asked_of(alloc: Global, site: &mut u32, func: &Func) -> Result<Asked, NoMemory>
     requires names { length (value_names func.now) < 2 ^ 32 }
     requires few { site.old + over_blocks one_unmarked func.now.blocks < 2 ^ 32 }

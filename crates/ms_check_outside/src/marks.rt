@@ -153,7 +153,7 @@ impl<'m> Clause<'m> for MarksFit {
 /// The site of the first instruction whose mark doesn't fit, in text order: a marked one that is a terminator, an
 /// `alloca` or a call of anything but a runtime function, or whose result isn't named `__msan.` and digits; or an unmarked
 /// one whose result is named so, or that names something reserved or the result of a marked one. A marked one has the
-/// site of the next unmarked one. None exactly where each mark fits. The one error is want of memory. Sites have 32 bits
+/// site of the next unmarked one. None exactly where each mark fits. The one error is running out of memory. Sites have 32 bits
 /// in every module that is read.
 ///
 /// The time grows with the size of the module, marked results being found as `NameTable` finds names.

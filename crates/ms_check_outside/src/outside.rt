@@ -98,7 +98,7 @@ fn first_in_funcs<'m>(functions: &NameTable<'_>, funcs: &'m [Func]) -> Option<&'
     None
 }
 
-/// The first declaration of a module that doesn't fit. The one error is want of memory.
+/// The first declaration of a module that doesn't fit. The one error is running out of memory.
 fn first_bad_decl(alloc: Global, m: &Module) -> Result<Option<&Name>, NoMemory>
     ensures { IfOk result (λ name. option_copied name ≡ slice_get (flat_map (λ d. name_unless (decl_fits (called_names m.now) d) d.name) m.now.decls) 0) }
 {
@@ -107,7 +107,7 @@ fn first_bad_decl(alloc: Global, m: &Module) -> Result<Option<&Name>, NoMemory>
 }
 
 /// The first function of a module whose name none may have, or the first callee whose flag doesn't fit, in text order. The one
-/// error is want of memory.
+/// error is running out of memory.
 fn first_bad_func(alloc: Global, m: &Module) -> Result<Option<&Name>, NoMemory>
     ensures { IfOk result (λ name. option_copied name ≡ slice_get (flat_map (func_faults (function_names m.now)) m.now.funcs) 0) }
 {
@@ -116,7 +116,7 @@ fn first_bad_func(alloc: Global, m: &Module) -> Result<Option<&Name>, NoMemory>
 }
 
 /// The first declaration of a module that doesn't fit, or else the first function whose name none may have or callee whose
-/// flag doesn't fit. The one error is want of memory.
+/// flag doesn't fit. The one error is running out of memory.
 fn first_bad_callee(alloc: Global, m: &Module) -> Result<Option<&Name>, NoMemory>
     ensures { IfOk result (λ name. option_copied name ≡ slice_get (flat_map (λ d. name_unless (decl_fits (called_names m.now) d) d.name) m.now.decls ++ flat_map (func_faults (function_names m.now)) m.now.funcs) 0) }
 {
@@ -130,7 +130,7 @@ fn first_bad_callee(alloc: Global, m: &Module) -> Result<Option<&Name>, NoMemory
 /// then of a declaration that is reserved and no runtime function with its types, or that is called and no external with
 /// its types; then of a function that is reserved or an intrinsic that moves bits, or of an intrinsic that is called there with an `i1` other than
 /// `false` (LLVM Language Reference, "'llvm.memcpy' Intrinsic" and its neighbours). None exactly where all fit. The one
-/// error is want of memory.
+/// error is running out of memory.
 ///
 /// The time grows with the size of the module, names that are called being found as `NameTable` finds them.
 pub fn first_bad_external(alloc: Global, m: &Module) -> Result<Option<&Name>, NoMemory>

@@ -1,4 +1,4 @@
-//! Texts of modules with what the check answers on them.
+//! Texts of modules with what the check returns on them.
 
 ghost use Rattle.std.specs.Prelude.{◌≤◌, ◌^◌, length};
 ghost use Rattle.ms_valid.specs.Formed.{Formed};
@@ -9,7 +9,7 @@ use ms_read_top::read;
 use ms_write::write;
 use std::alloc::Global;
 
-/// What the check answers. Names are spelled with their `@` or `%`.
+/// What the check returns. Names are spelled with their `@` or `%`.
 pub enum Want {
     Valid,
     Duplicate(&'static str),

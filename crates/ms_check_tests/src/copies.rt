@@ -9,7 +9,7 @@ use std::alloc::Global;
 use std::cmp::Ordering;
 use std::test::Fail;
 
-/// What stands before and behind the pieces in which two modules differ.
+/// What stands before and after the pieces in which two modules differ.
 struct Differing(&'static str, &'static str, bool);
 
 /// Every kind of part of a module.
@@ -182,7 +182,7 @@ fn comes_behind(before: &Name, behind: &Name) -> bool {
     before.cmp(behind) == Ordering::Less && behind.cmp(before) == Ordering::Greater
 }
 
-/// Whether each name comes behind the one before it.
+/// Whether each name comes after the one before it.
 fn are_in_order(params: &[(Ty, Name)]) -> bool {
     let mut last: Option<&Name> = None;
     for param in params {

@@ -1,4 +1,4 @@
-//! What the check answers on modules, and their layouts, sites, roots and copies. Each module is the text that stands
+//! What the check returns on modules, and their layouts, sites, roots and copies. Each module is the text that stands
 //! for it; each answer was worked out by hand.
 #![tactic(auto)]
 

@@ -1,4 +1,4 @@
-//! The tables of whole modules, as tests by what the check answers on them.
+//! The tables of whole modules, as tests by what the check returns on them.
 
 use crate::answers::all_agree;
 use crate::{edges, externals, marks, names, order, types, uses};

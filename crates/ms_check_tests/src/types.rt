@@ -226,7 +226,7 @@ define i32 @main() {
     ),
 ];
 
-/// What stands before a global, which is the second, and behind it.
+/// What stands before a global, which is the second, and after it.
 const TYPES: &str = r#"%pair = type { i32, i8 }
 @first = global i8 0
 "#;

@@ -65,7 +65,7 @@ fn is_one_pointer(params: &[(Ty, Name)]) -> bool
     }
 }
 
-/// Whether a function takes a pointer, and answers one.
+/// Whether a function takes a pointer, and returns one.
 pub fn takes_pointer(func: &Func) -> bool
     ensures { result ≡ signature_eq (func_signature func.now) (answers Ptr (Ptr ∷ [])) }
 {
@@ -86,7 +86,7 @@ pub struct Callees<'m> {
 }
 
 impl<'m> Callees<'m> {
-    /// The functions of a module. The one error is want of memory.
+    /// The functions of a module. The one error is running out of memory.
     pub fn of(alloc: Global, m: &'m Module) -> Result<Callees<'m>, NoMemory>
         ensures { IfOk result (λ callees. callees.source.now ≡ m.now) }
     {

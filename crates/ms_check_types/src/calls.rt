@@ -19,7 +19,7 @@ pub fn fault_unless(holds: bool) -> Option<usize>
     if holds { None } else { Some(0) }
 }
 
-/// Whether an operand names the function that a fiber may begin with: one that takes a pointer and answers one.
+/// Whether an operand names the function that a fiber may begin with: one that takes a pointer and returns one.
 fn is_start(body: &Body<'_, '_>, operand: &Operand) -> bool
     ensures { result ≡ is_start (module_of body.now) operand.now }
 {

@@ -16,7 +16,7 @@ pub fn global_fits(symbols: &Symbols<'_>, ty: ValueType<'_>, name: &Name) -> boo
     ty.is_pointer() && symbols.is_variable(name)
 }
 
-/// Whether each index behind the first leads into a part of a type.
+/// Whether each index after the first leads into a part of a type.
 fn inner_indices_fit(symbols: &Symbols<'_>, ty: &Ty, indices: &[(Ty, u64)]) -> bool
     ensures { result ≡ step_fits symbols.now.source.now.types (ty.now, indices.now) }
 {

@@ -78,7 +78,7 @@ fn first_fault<'m>(extents: &Extents, m: &'m Module) -> Option<Spelled<'m>>
 /// The first named type, global or function, in this order, that is or has a type without a size, or the global with
 /// which the globals pass 16 MiB (LLVM Language Reference, "Structure Type"; the limits are own); none where all sizes
 /// fit. Each named type is laid out once, and each type that is written is looked at where it stands. The one error is
-/// want of memory.
+/// running out of memory.
 pub fn first_unsized<'m>(alloc: Global, m: &'m Module) -> Result<Option<Spelled<'m>>, NoMemory>
     ensures { IfOk result (λ fault. fault ≡ slice_get (unsized m.now) 0) }
 {

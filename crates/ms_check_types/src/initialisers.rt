@@ -9,7 +9,7 @@ use crate::constants::constant_fits;
 use crate::symbols::Symbols;
 use ms_ir::{Init, Operand, Ty, ValueType, is_int};
 
-/// Whether a constant may stand behind a type: an undefined one behind every type.
+/// Whether a constant may stand after a type: an undefined one after every type.
 fn value_fits(symbols: &Symbols<'_>, ty: &Ty, value: &Operand) -> bool
     ensures { result ≡ (is_undefined value.now || operand_fits symbols.now.source.now (λ x. None) ty.now value.now) }
 {

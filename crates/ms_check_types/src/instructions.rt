@@ -24,7 +24,7 @@ fn plain_fault(body: &Body<'_, '_>, op: &Op) -> Option<usize>
     first_misfit(body, op).or(fault_unless(leads_to_blocks(body, op)))
 }
 
-/// The operand at fault of a `switch` with these cases. The one error is want of memory.
+/// The operand at fault of a `switch` with these cases. The one error is running out of memory.
 fn switch_fault(
     alloc: Global,
     body: &Body<'_, '_>,
@@ -39,7 +39,7 @@ fn switch_fault(
     Ok(first_misfit(body, op).or(fault_unless(different && known)))
 }
 
-/// The operand of an instruction at fault: the first that doesn't fit or that is missing, else 0. The one error is want of
+/// The operand of an instruction at fault: the first that doesn't fit or that is missing, else 0. The one error is running out of
 /// memory.
 pub fn op_fault<'a>(
     alloc: Global,

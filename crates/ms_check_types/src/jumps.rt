@@ -11,7 +11,7 @@ use ms_ir::{Name, Op, Operand, Ty, ValueType};
 use std::alloc::Global;
 use std::collections::BTreeSet;
 
-/// Whether the numbers of some cases are different. The one error is want of memory.
+/// Whether the numbers of some cases are different. The one error is running out of memory.
 pub fn differ(alloc: Global, cases: &[(u64, Name)]) -> Result<bool, NoMemory>
     ensures { IfOk result (λ r. r ≡ differ cases.now) }
 {
@@ -46,7 +46,7 @@ pub fn leads_to_blocks(body: &Body<'_, '_>, op: &Op) -> bool
     true
 }
 
-/// Whether a `ret` gives a value of the type that the function answers, or none where it answers none.
+/// Whether a `ret` gives a value of the type that the function returns, or none where it returns none.
 pub fn returns_fit(body: &Body<'_, '_>, value: &Option<(Ty, Operand)>) -> bool
     ensures { result ≡ returns_fit (fits_in body.now) (func_of body.now).ret value.now }
 {

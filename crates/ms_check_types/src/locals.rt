@@ -51,7 +51,7 @@ fn push_blocks<'m>(values: &mut TypedNames<'m>, blocks: &'m [Block]) -> Result<(
     Ok(())
 }
 
-/// The values of a function with their types. The one error is want of memory.
+/// The values of a function with their types. The one error is running out of memory.
 fn values_of(alloc: Global, func: &Func) -> Result<TypedNames<'_>, NoMemory>
     ensures { IfOk result (λ typed. typed ≡ values func.now) }
 {
@@ -72,7 +72,7 @@ pub struct Locals<'m> {
 }
 
 impl<'m> Locals<'m> {
-    /// The locals of a function. The one error is want of memory.
+    /// The locals of a function. The one error is running out of memory.
     pub fn of(alloc: Global, func: &'m Func) -> Result<Locals<'m>, NoMemory>
         ensures { IfOk result (λ locals. locals.func.now ≡ func.now) }
     {

@@ -40,7 +40,7 @@ pub struct Symbols<'m> {
 }
 
 impl<'m> Symbols<'m> {
-    /// The symbols of a module. The one error is want of memory.
+    /// The symbols of a module. The one error is running out of memory.
     pub fn of(alloc: Global, m: &'m Module) -> Result<Symbols<'m>, NoMemory>
         ensures { IfOk result (λ symbols. symbols.source.now ≡ m.now) }
     {
@@ -96,7 +96,7 @@ impl<'m> Symbols<'m> {
         name.is(b"pthread_create") && self.callees.declares(name)
     }
 
-    /// Whether a name is that of a function that the module defines, which takes a pointer and answers one.
+    /// Whether a name is that of a function that the module defines, which takes a pointer and returns one.
     pub fn is_start(&self, name: &Name) -> bool
         ensures { result ≡ is_start self.now.source.now (operand.Global name.now) }
     {

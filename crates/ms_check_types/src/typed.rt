@@ -52,7 +52,7 @@ impl<'m> TypedNames<'m> {
         }
     }
 
-    /// Appends a name with its type. The one error is want of memory, where nothing changes.
+    /// Appends a name with its type. The one error is running out of memory, where nothing changes.
     pub fn push(&mut self, name: &'m Name, ty: ValueType<'m>) -> Result<(), NoMemory>
         ensures pushed { IfOk result (λ _. self.new ≡ self.old ++ (name.now, type_of ty.entry) ∷ []) }
         ensures err { OnErr result (self.new ≡ self.old) }

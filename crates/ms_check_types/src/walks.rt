@@ -61,7 +61,7 @@ impl<'a, 'm> Clause<'m> for TypesAgree<'a, 'm> {
     }
 }
 
-/// The first mismatch in the functions of a module. The one error is want of memory.
+/// The first mismatch in the functions of a module. The one error is running out of memory.
 fn first_in_code<'m>(
     alloc: Global,
     symbols: &Symbols<'m>,
@@ -110,7 +110,7 @@ fn first_in_module<'m>(
 }
 
 /// The first mismatch of a module in the order of its text: of the initialisers of its globals, and then of its instructions.
-/// None exactly where all types agree. The one error is want of memory. Near-linear in the module.
+/// None exactly where all types agree. The one error is running out of memory. Near-linear in the module.
 pub fn first_mismatch(alloc: Global, m: &Module) -> Result<Option<Mismatch>, NoMemory>
     requires globals { length m.now.globals < 2 ^ 30 }
     requires operands { over_funcs count_written m.now.funcs < 2 ^ 30 }

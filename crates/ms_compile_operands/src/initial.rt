@@ -104,7 +104,7 @@ fn push_globals(
 }
 
 /// The words of the constants in the initialisers of a module's globals, in text order; undefined ones are zero, and
-/// globals with reserved names have none. The one error is want of memory.
+/// globals with reserved names have none. The one error is running out of memory.
 ///
 /// The time is linear in what is written in the initialisers, but for names, which `NameTable` finds, and for
 /// the structs that constant offsets lead into, whose fields are gone over at each.

@@ -56,7 +56,7 @@ impl<'m> CleanSet<'m> {
 }
 
 /// The clean values of a valid module: its results that have no poisoned bit in any run, as far as the text of their
-/// functions shows. Near to linear in the module. The one error is want of memory.
+/// functions shows. Near to linear in the module. The one error is running out of memory.
 pub fn clean_values(alloc: Global, m: &Module) -> Result<CleanSet<'_>, NoMemory>
     requires { Valid m.now }
     ensures functions { IfOk result (λ s. length s ≡ length m.now.funcs) }

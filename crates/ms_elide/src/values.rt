@@ -72,7 +72,7 @@ fn members_of<'m>(
     Ok(names)
 }
 
-/// Whether each local of a function is clean, by their places. The one error is want of memory.
+/// Whether each local of a function is clean, by their places. The one error is running out of memory.
 fn clean_places(
     alloc: Global,
     scope: &FuncNames<'_, '_>,
@@ -85,7 +85,7 @@ fn clean_places(
     greatest(alloc, &needs)
 }
 
-/// The names of the clean values of a function. The one error is want of memory.
+/// The names of the clean values of a function. The one error is running out of memory.
 pub fn values_of<'m>(
     alloc: Global,
     functions: &NameTable<'m>,

@@ -58,7 +58,7 @@ checks mask width origin = inserts_call msan_check (mask ∷ int width ∷ origi
 abbrev pub unpoisons : ℕ → Inst
 unpoisons n = inserts_call msan_unpoison (local 1 ∷ int n ∷ [])
 
--- shadow and origins of the first n of the eight bytes are copied to the fifth and those behind it
+-- shadow and origins of the first n of the eight bytes are copied to the fifth and those after it
 abbrev pub copies_up : ℕ → List Inst
 copies_up n = inserts (codes "1") (byte_at (local 1) 4) ∷ inserts_call msan_copy (inserted (codes "1") ∷ local 1 ∷ int n ∷ []) ∷ []
 

@@ -17,7 +17,7 @@ use std::alloc::Global;
 /// every use is defined. A definition in the block of the use counts where the use stands `after` it. No
 /// path leads to a block that can't be reached, so a use there is defined.
 ///
-/// The one error is want of memory. The time grows with the number of blocks, edges and definitions,
+/// The one error is running out of memory. The time grows with the number of blocks, edges and definitions,
 /// times a sixty-fourth of the number of values that are used outside the block that defines them.
 pub fn missing(alloc: Global, g: &Graph, uses: &[Use]) -> Result<Option<Missing>, NoMemory>
     requires same_length { length g.now.next ≡ length g.now.defs }

@@ -14,7 +14,7 @@ struct Pending {
     leaves: bool,
 }
 
-/// All blocks: first those that block 0 leads to, in reverse postorder, so that most blocks stand behind
+/// All blocks: first those that block 0 leads to, in reverse postorder, so that most blocks stand after
 /// those that lead to them, then the others.
 pub fn order(alloc: Global, g: &Graph) -> Result<Vec<usize>, NoMemory>
     requires filled { 0 < length g.now.next }
@@ -83,7 +83,7 @@ fn take(
     Ok(())
 }
 
-/// Adds the steps to a block's successors, and behind them the one that leaves the block.
+/// Adds the steps to a block's successors, and after them the one that leaves the block.
 fn enter(g: &Graph, block: usize, steps: &mut Vec<Pending>) -> Result<(), NoMemory>
     requires block { block < length g.now.next }
     requires successors { StaysIn g.now }

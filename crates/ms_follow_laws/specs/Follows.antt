@@ -1,5 +1,5 @@
 -- A run without inserted code that is followed, with the shadow of memory written beside it (own): the plain run of a module
--- takes the steps of its shadow run, and behind each step memory gets the shadow that the step leaves there.
+-- takes the steps of its shadow run, and after each step memory gets the shadow that the step leaves there.
 use Rattle.std.specs.Prelude.{◌≡◌, ℕ, ◌*◌, ◌%◌, List, [], ◌∷◌, map, not, ◌&&◌, ◌||◌, eqb, if◌then◌else◌, Option, Some, None, unwrap_or}
 use Rattle.ms_bits.specs.Maps.{byte_of}
 use Rattle.ms_ir.specs.declared.syntax.Name.{Name}
@@ -45,7 +45,7 @@ fill_shadow a n mask w =
     if not (is_good w a n) then w else
     if eqb (mask % 256) 0 || eqb n 0 then set_shadow a n (λ k. 0) w else set_shadow a n (λ k. mask % 256) w
 
--- behind a join that answered a word, the bytes at an address get the mask of the word that a thread answered
+-- after a join that answered a word, the bytes at an address get the mask of the word that a thread answered
 abbrev pub answer_shadow : (a id answer : ℕ) → World → World
 answer_shadow a id answer w =
     if eqb answer 0 && not (eqb a 0) && is_good w a 8 && has_ended (thread_at id w.threads) then set_shadow a 8 (byte_of (w.answer_masks id)) w else w
@@ -77,7 +77,7 @@ shadow_left s (op.Store t x a) ps before v w = set_shadow (word_at 1 ps).value (
 shadow_left s (op.Call r x as') ps before v w = callee_shadow (external_named s.func x) ps before v w
 shadow_left s _ ps before v w = w
 
--- behind an effect: one that goes on behind the instruction leaves shadow, and no other does
+-- after an effect: one that goes on after the instruction leaves shadow, and no other does
 abbrev pub leave_shadow : Effect → (ℕ → World → World) → World → World
 leave_shadow (Gives v u) after w = after v w
 leave_shadow (Does u) after w = after 0 w

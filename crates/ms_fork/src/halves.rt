@@ -19,7 +19,7 @@ pub trait Work {
     /// What is made for this number.
     ghost answer: { Self → ℕ → Self.Item };
 
-    /// Makes the item of a number. The one error is want of memory.
+    /// Makes the item of a number. The one error is running out of memory.
     fn make(&self, alloc: Global, index: usize) -> Result<Self::Item, NoMemory>
         requires { can self.now index }
         ensures { IfOk result (λ item. item ≡ answer self.now index) };
@@ -144,7 +144,7 @@ fn fork<R: Threads + Sync, W: Work<Item = T> + Sync, T: Send + Drop, G: Gate + S
 ///
 /// A list of more than `most` items is cut in halves, and so is each half again. As long as there are threads left, the
 /// second half goes to a thread of its own where one can be made; where none can, it is made after the first. Each piece
-/// enters the gate with its first number before it does anything else; an empty list has no piece. The one error is want of
+/// enters the gate with its first number before it does anything else; an empty list has no piece. The one error is running out of
 /// memory, in any piece.
 pub fn by_halves<R: Threads + Sync, W: Work<Item = T> + Sync, T: Send + Drop, G: Gate + Sync>(
     rt: &R,

@@ -18,12 +18,12 @@ use Rattle.ms_ir.specs.Declarations.{putchar}
 
 -- ---- draws
 
--- the state behind a draw, in the linear congruence for words of 64 bits (Knuth, The Art of Computer Programming, volume 2,
+-- the state after a draw, in the linear congruence for words of 64 bits (Knuth, The Art of Computer Programming, volume 2,
 -- "The Linear Congruential Method")
 abbrev pub next_state : ℕ → ℕ
 next_state state = (state * 6364136223846793005 + 1442695040888963407) % 2 ^ 64
 
--- the state behind so many draws
+-- the state after so many draws
 abbrev pub state_after : (draws state : ℕ) → ℕ
 state_after draws state = iterate next_state draws state
 

@@ -117,7 +117,7 @@ fn all_functions(alloc: Global, seed: u64, functions: u32) -> Result<Vec<Func>, 
 /// `main` calls the last function with the number 1, and prints what it gives by `putchar`. The module has
 /// `13 * functions + 2` instructions; it is formed and valid, and can be instrumented.
 ///
-/// The one error is want of memory.
+/// The one error is running out of memory.
 pub fn generate(alloc: Global, seed: u64, functions: u32) -> Result<Module, NoMemory>
     requires some { 0 < functions }
     requires limit { functions ≤ 1000 }

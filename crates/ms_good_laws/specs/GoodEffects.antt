@@ -26,7 +26,7 @@ pub record FitsCall {V : Type 0} (holds : V → ℕ → Type 0) (unset : V) (m :
   pub in_range : (f : Func) (k : ℕ) (t : Ty) (x : Name) → func_at m n ≡ Some f → slice_get f.params k ≡ Some (t, x) → holds (get_or words k unset) (2 ^ width_of t)
 
 -- an effect that an instruction of a function may have: a result in the range of its type, none where it has none, a jump to
--- one of its targets, a call with words in range, and a return of a word in the range of what the function answers
+-- one of its targets, a call with words in range, and a return of a word in the range of what the function returns
 abbrev pub FitsEffect : {V : Type 0} → (V → ℕ → Type 0) → V → Module → Func → Inst → List V → (ℕ → World → V) → Effect → Type 0
 FitsEffect holds unset m f inst words lift (Gives v world) =
     IsFalse (is_terminator inst.op) × ((x : Name) (t : Ty) → inst.result ≡ Some x → result_type inst.op ≡ Some t → holds (lift v world) (2 ^ width_of t))

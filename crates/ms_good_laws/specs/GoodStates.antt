@@ -20,7 +20,7 @@ use Rattle.ms_ir.specs.Locals.{value_type}
 use Rattle.ms_valid.specs.Paths.{insts_of, Path}
 use Rattle.ms_valid.specs.Paths.{IsSet}
 
--- a frame stands at an instruction behind its block's phis, came there over the blocks `before`, and each value that is
+-- a frame stands at an instruction after its block's phis, came there over the blocks `before`, and each value that is
 -- set has a word of its type's width; `holds` says what a word must be below
 pub record GoodFrame {V : Type 0} (holds : V → ℕ → Type 0) (m : Module) (frame : Frame V) : Type 0 where
   pub func : Func

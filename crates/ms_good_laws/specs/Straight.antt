@@ -1,4 +1,4 @@
--- Instructions that go on behind themselves: what they answer has the range of its type (own).
+-- Instructions that go on after themselves: what they answer has the range of its type (own).
 use Rattle.std.specs.Prelude.{◌≡◌, ◌<◌, ◌^◌, ℕ, List, get_or, Option, Some, None, slice_get}
 use Rattle.ms_ir.specs.declared.syntax.Ty.{Ty}
 use Rattle.ms_ir.specs.Layout.{width_of}

@@ -7,7 +7,7 @@ ghost use Rattle.ms_example_modules.specs.Programs.{branch_on_unset};
 ghost use Rattle.ms_good_laws.specs.Reached.{Walk, walked, IsReached, HasReachedOrigins};
 ghost use Rattle.ms_good_laws.specs.ExampleWalks.{poisoned_from, phi_of_undef};
 
-/// From where a walk has come to, the run goes on to what it answers.
+/// From where a walk has come to, the run goes on to what it returns.
 pub fn walked_runs()
     ensures { (d : Rules) (m : Module) (setup : Setup) (n left : ℕ) (walk : Walk) → walked d m setup n ≡ Some walk → setup.steps ≡ n + left
         → shadow_by d m setup ≡ run (λ c. c.world) (shadow_step d (setting_of m setup) m) left walk.state }

@@ -20,11 +20,11 @@ abbrev pub Reaches : Option ℕ → ℕ → Type 0
 Reaches (Some x) n = x ≡ n
 Reaches None n = 2 ^ 64 ≤ n
 
--- where a part begins behind so many bytes: in an array, as in a packed struct, just there
+-- where a part begins after so many bytes: in an array, as in a packed struct, just there
 abbrev pub part_begin : Types → Bool → ℕ → Ty → ℕ
 part_begin types packed n t = if packed then n else round_up n (align_in types t)
 
--- the parts of an array or a struct, written from an address on behind so many bytes
+-- the parts of an array or a struct, written from an address on after so many bytes
 abbrev pub write_parts : Types → (Name → ℕ) → Bool → (a n : ℕ) → List (Ty × Init) → World → World
 write_parts types address packed a n [] world = world
 write_parts types address packed a n (p ∷ rest) world =

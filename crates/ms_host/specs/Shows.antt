@@ -54,7 +54,7 @@ pub record Shows (w : WorldState) (beside : Beside) (world : World) : Type 0 whe
   pub blind : world.blind ≡ beside.blind
   pub fibers : fibers_of world ≡ beside.fibers
 
--- an allocation of n uninitialised bytes was made at a base, or nothing changed: it doesn't fit, or memory is wanting
+-- an allocation of n uninitialised bytes was made at a base, or nothing changed: it doesn't fit, or memory runs out
 abbrev pub Allocated : AllocKind → Beside → World → ℕ → Result ℕ AllocError → WorldState → Type 0
 Allocated kind beside world n (Ok base) w =
     (fits (area_of kind) n world ≡ true) × (base ≡ next_base (area_of kind) world) × Shows w beside (make_unset w.fill (area_of kind) n world)

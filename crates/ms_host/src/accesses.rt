@@ -28,7 +28,7 @@ impl World {
         self.planes.read(addr, n)
     }
 
-    /// Writes the `n` low bytes of `v`, the least first, and answers whether they are good; else nothing changes.
+    /// Writes the `n` low bytes of `v`, the least first, and returns whether they are good; else nothing changes.
     #[inline(always)]
     pub fn store(&mut self, addr: u64, n: u8, v: u64) -> bool
         requires { n ≤ 8 }
@@ -56,7 +56,7 @@ impl World {
         self.planes.read_both(addr, n)
     }
 
-    /// Writes the `n` low bytes of `v` as shadow, the least first, and answers whether the bytes are good; else
+    /// Writes the `n` low bytes of `v` as shadow, the least first, and returns whether the bytes are good; else
     /// nothing changes. Origins stay.
     pub fn store_shadow(&mut self, addr: u64, n: u8, v: u64) -> bool
         requires { n ≤ 8 }
@@ -75,7 +75,7 @@ impl World {
         self.planes.byte(addr)
     }
 
-    /// Copies `n` bytes, as they were before, and answers whether both ranges are good; else nothing changes.
+    /// Copies `n` bytes, as they were before, and returns whether both ranges are good; else nothing changes.
     pub fn copy(&mut self, to: u64, from: u64, n: u64) -> Result<bool, NoMemory>
         ensures copied { (beside : Beside) (world : Meant) → Shows self.old beside world → IfOk result (λ ok. MatchBool ok ((is_good world to n ≡ true) × (is_good world from n ≡ true) × Shows self.new beside (copy_bytes to from n world)) ((is_good world to n && is_good world from n ≡ false) × Shows self.new beside world)) }
         ensures keeps { Keeps self.old self.new }
@@ -101,7 +101,7 @@ impl World {
         Ok(())
     }
 
-    /// Makes `n` bytes `byte`, and answers whether they are good; else nothing changes. Linear in `n`.
+    /// Makes `n` bytes `byte`, and returns whether they are good; else nothing changes. Linear in `n`.
     pub fn set(&mut self, addr: u64, n: u64, byte: u8) -> bool
         ensures set { (beside : Beside) (world : Meant) → Shows self.old beside world → MatchBool result ((is_good world addr n ≡ true) × Shows self.new beside (set_bytes addr n (λ k. byte) world)) ((is_good world addr n ≡ false) × Shows self.new beside world) }
         ensures keeps { Keeps self.old self.new }
@@ -115,7 +115,7 @@ impl World {
         good
     }
 
-    /// Makes `n` bytes uninitialised anew, and answers whether they are good; else nothing changes. Linear in `n`.
+    /// Makes `n` bytes uninitialised anew, and returns whether they are good; else nothing changes. Linear in `n`.
     pub fn remake(&mut self, addr: u64, n: u64) -> bool
         requires { self.old.made + 2 ^ 26 < 2 ^ 64 }
         ensures made_again { (beside : Beside) (world : Meant) → Shows self.old beside world → MatchBool result ((is_good world addr n ≡ true) × Shows self.new beside (make_bytes self.old.fill addr n world)) ((is_good world addr n ≡ false) × Shows self.new beside world) }

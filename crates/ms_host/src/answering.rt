@@ -59,7 +59,7 @@ fn unknown_size(least: u64) -> u64
 
 /// Answers a call of an external other than `printf` and the thread calls: what it does to the world, and whether the run goes on.
 ///
-/// An argument that is missing counts as 0. The one error is want of memory, and the run is over then.
+/// An argument that is missing counts as 0. The one error is running out of memory, and the run is over then.
 #[tactic(auto, using(crate::proofs::FixedNumbers::fixed_number, crate::proofs::FixedNumbers::no_thread_call))]
 pub fn answer(call: &HostCall, world: &mut World) -> Result<Answer, NoMemory>
     requires few { world.old.made + 2 ^ 26 < 2 ^ 64 }

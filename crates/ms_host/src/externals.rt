@@ -192,7 +192,7 @@ impl World {
         }
     }
 
-    /// `write`: prints to descriptor 1, and answers -1 for any other; traps where the range isn't good, or the limit of the
+    /// `write`: prints to descriptor 1, and returns -1 for any other; traps where the range isn't good, or the limit of the
     /// output would be passed.
     pub(crate) fn write(
         &mut self,
@@ -219,7 +219,7 @@ impl World {
         }
     }
 
-    /// `read`: takes input from descriptor 0, and answers -1 for any other; traps where the range isn't good.
+    /// `read`: takes input from descriptor 0, and returns -1 for any other; traps where the range isn't good.
     pub(crate) fn read(&mut self, site: u32, from: u64, addr: u64, n: u64) -> Answer
         ensures answered { (beside : Beside) (world : Meant) → Shows self.old beside world → Answered beside (read_of site from addr n world) result self.new }
         ensures keeps { Keeps self.old self.new }

@@ -22,7 +22,7 @@ fn stored_size(ty: &Ty) -> u8
     }
 }
 
-/// Where a part of a type begins behind so many bytes.
+/// Where a part of a type begins after so many bytes.
 fn part_begin(extents: &Extents<'_>, packed: bool, so_far: Option<u64>, ty: &Ty) -> Option<u64>
     ensures { (n : ℕ) → Reaches so_far n → Reaches result (part_begin extents.now packed n ty.now) }
 {
@@ -58,7 +58,7 @@ impl World {
         Ok(())
     }
 
-    /// Makes a global, whose constants are the first of `words`, and answers the words that are left.
+    /// Makes a global, whose constants are the first of `words`, and returns the words that are left.
     fn make_global<'a>(
         &mut self,
         extents: &Extents<'_>,
@@ -81,7 +81,7 @@ impl World {
         Ok(left)
     }
 
-    /// Writes an initialiser of a type from an address on, whose constants are the first of `words`, and answers the
+    /// Writes an initialiser of a type from an address on, whose constants are the first of `words`, and returns the
     /// words that are left.
     #[cycle(initialisers)]
     fn write_init<'a>(
@@ -134,7 +134,7 @@ impl World {
         left
     }
 
-    /// Writes the first of some words, and answers the others.
+    /// Writes the first of some words, and returns the others.
     fn write_word<'a>(&mut self, at: Option<u64>, n: u8, words: &'a [u64]) -> &'a [u64]
         ensures written { (v : ℕ) (rest : List ℕ) → words.now ≡ v ∷ rest → (result.now ≡ rest) × Changes self.old self.new at (λ a. store_number a n v) }
         ensures keeps { Keeps self.old self.new }

@@ -38,7 +38,7 @@ impl World {
     }
 
     /// Writes the `n` low bytes of `v` into a slot, or as shadow bytes of one live allocation at their own addresses,
-    /// and answers whether they are one or the other; else nothing changes.
+    /// and returns whether they are one or the other; else nothing changes.
     pub fn store_marked(&mut self, addr: u64, n: u8, v: u64) -> bool
         requires { n ≤ 8 }
         ensures stored { (cells : ℕ → ℕ) (beside : Beside) (world : Meant) → ShowsSlots self.old.slots cells → Shows self.old beside world → MarkedStore addr n v cells world beside result self.new }

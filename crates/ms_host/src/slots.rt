@@ -54,7 +54,7 @@ fn among(a: u64, n: u64) -> bool
         || lies(a, n, FIRST_SLOT + 0x3000, 4)
 }
 
-/// Whether an address stands before all slots, or behind them.
+/// Whether an address stands before all slots, or after them.
 #[inline(always)]
 pub(crate) fn is_far(a: u64) -> bool
     ensures { IsTrue result → (n : ℕ) → in_slots a n slots ≡ false }
@@ -69,7 +69,7 @@ pub(crate) fn is_far(a: u64) -> bool
 }
 
 impl Slots {
-    /// The slots at the start of a run: zeros. The one error is want of memory.
+    /// The slots at the start of a run: zeros. The one error is running out of memory.
     pub fn new(alloc: Global) -> Result<Slots, NoMemory>
         ensures { IfOk result (λ s. ShowsSlots s (λ a. 0)) }
     {
@@ -90,7 +90,7 @@ impl Slots {
         }
     }
 
-    /// Writes the `n` low bytes of `v` into a slot, and answers whether they lie in one; else nothing changes.
+    /// Writes the `n` low bytes of `v` into a slot, and returns whether they lie in one; else nothing changes.
     pub fn store(&mut self, a: u64, n: u8, v: u64) -> bool
         requires { n ≤ 8 }
         ensures { (cells : ℕ → ℕ) → ShowsSlots self.old cells → MatchBool result ((in_slots a n slots ≡ true) × ShowsSlots self.new (with_range cells a n (byte_of v))) ((in_slots a n slots ≡ false) × ShowsSlots self.new cells) }

@@ -59,7 +59,7 @@ impl World {
         Ok(())
     }
 
-    /// Takes the next bytes of the input, at most `n`, into good memory, and answers their number.
+    /// Takes the next bytes of the input, at most `n`, into good memory, and returns their number.
     pub fn take(&mut self, addr: u64, n: u64) -> u64
         requires { IsTrue (is_live addr n self.old.planes.table) }
         ensures taken { (beside : Beside) (world : Meant) → Shows self.old beside world → (result ≡ length (take n world.input)) × Shows self.new beside (record (set_bytes addr (length (take n world.input)) (λ k. get_or (take n world.input) k 0) world) { input = drop n world.input }) }

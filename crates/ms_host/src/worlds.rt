@@ -18,7 +18,7 @@ use std::marker::Model;
 /// slots, how much of the input was taken, the output, and the number of uninitialised bytes that were made. It also
 /// has the fill of which these are made.
 ///
-/// The one error of most calls is want of memory. The run is over then, and only the input and the fill are still known.
+/// The one error of most calls is running out of memory. The run is over then, and only the input and the fill are still known.
 #[derive(Debug, Drop)]
 pub struct World {
     pub(crate) planes: Planes,
@@ -44,7 +44,7 @@ impl World {
     /// The world at the start of a run, before the globals are made. The input and the fill are copied.
     ///
     /// The k-th uninitialised byte that is made, counted from 0, is the byte of the fill at k modulo its length. The one
-    /// error is want of memory.
+    /// error is running out of memory.
     pub fn new(alloc: Global, input: &[u8], fill: &[u8]) -> Result<World, NoMemory>
         requires { 0 < length fill.now }
         ensures shows { IfOk result (λ w. Shows w nothing_beside (first_world input.now)) }
@@ -67,17 +67,17 @@ impl World {
         })
     }
 
-    /// A law: the allocations of each area stand one behind the other, within its limit.
+    /// A law: the allocations of each area stand one after the other, within its limit.
     pub fn is_laid_out(&self)
         ensures { IsLaidOut self.now.planes.table }
     {
         self.planes.is_laid_out();
     }
 
-    /// Makes an allocation of `size` uninitialised bytes, and answers its base. Linear in the size.
+    /// Makes an allocation of `size` uninitialised bytes, and returns its base. Linear in the size.
     ///
     /// `Full` exactly where the allocations of its area would then take more than the limit; else `NoMemory` where
-    /// memory is wanting. The world is then as it was.
+    /// memory runs out. The world is then as it was.
     pub fn make_uninit(&mut self, kind: AllocKind, size: u64) -> Result<u64, AllocError>
         requires { self.old.made + 2 ^ 26 < 2 ^ 64 }
         ensures allocated { (beside : Beside) (world : Meant) → Shows self.old beside world → Allocated kind beside world size result self.new }
@@ -99,10 +99,10 @@ impl World {
         Ok(base)
     }
 
-    /// Makes an allocation of `size` zero bytes, and answers its base.
+    /// Makes an allocation of `size` zero bytes, and returns its base.
     ///
     /// `Full` exactly where the allocations of its area would then take more than the limit; else `NoMemory` where
-    /// memory is wanting. The world is then as it was.
+    /// memory runs out. The world is then as it was.
     pub fn make_zero(&mut self, kind: AllocKind, size: u64) -> Result<u64, AllocError>
         ensures cleared { (beside : Beside) (world : Meant) → Shows self.old beside world → Cleared kind beside world size result self.new }
         ensures table { Grown kind self.old.planes.table size result self.new.planes.table }
@@ -132,7 +132,7 @@ impl World {
         self.planes.release(mark);
     }
 
-    /// Ends the live heap block that begins at `base`, and answers its size; `None` where none begins there, and then
+    /// Ends the live heap block that begins at `base`, and returns its size; `None` where none begins there, and then
     /// nothing changes.
     pub fn end(&mut self, base: u64) -> Option<u64>
         ensures size { (beside : Beside) (world : Meant) → Shows self.old beside world → result ≡ heap_size world base }

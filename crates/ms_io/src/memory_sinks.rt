@@ -4,7 +4,7 @@ ghost use Rattle.ms_io.specs.{Counts.{last_count, Rose}, Writing.{with_appended,
 
 use crate::{Sink, SinkFailed};
 
-/// Writes `bytes` over what stands at `at` and behind.
+/// Writes `bytes` over what stands at `at` and after.
 fn write_at(room: &mut [u8], at: usize, bytes: &[u8])
     requires { at + length bytes.now ≤ length room.old }
     ensures { room.new ≡ take at room.old ++ (bytes.now ++ drop (at + length bytes.now) room.old) }

@@ -19,7 +19,7 @@ struct Counters {
     faults: u64,
 }
 
-/// Reads once, at most `most` bytes, and appends what was read. Answers how many bytes that were, 0 at the
+/// Reads once, at most `most` bytes, and appends what was read. Returns how many bytes that were, 0 at the
 /// end of the file. Its errors are `Failed`, where a fault was counted, and `NoMemory`.
 fn append_chunk<F: Read>(
     file: &mut F,
@@ -217,7 +217,7 @@ impl<W: io::Write + Drop> Sink for RealSink<W> {
     }
 }
 
-/// Writes all of `bytes`, piece by piece. Answers whether each write took something.
+/// Writes all of `bytes`, piece by piece. Returns whether each write took something.
 fn write_whole<W: io::Write>(writer: &mut W, bytes: &[u8]) -> bool
     ensures { IsTrue result → Appends (W.contents writer.old) (W.contents writer.new) bytes.now }
 {

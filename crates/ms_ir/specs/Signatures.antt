@@ -32,7 +32,7 @@ pub record Signature : Type 0 where
 abbrev pub answers : Ty → List Ty → Signature
 answers t params = record { ret = Some t; params = params }
 
--- a function that answers nothing
+-- a function that returns nothing
 abbrev pub answers_nothing : List Ty → Signature
 answers_nothing params = record { ret = None; params = params }
 

@@ -18,7 +18,7 @@ pub record Spot : Type 0 where
 abbrev pub spot : Func → (block place site : ℕ) → Spot
 spot f block place site = record { func = f; block = block; place = place; site = site }
 
--- the spot behind an instruction
+-- the spot after an instruction
 abbrev pub next_spot : Spot → Inst → Spot
 next_spot at inst = record at { place = at.place + 1; site = at.site + one_unmarked inst }
 

@@ -123,7 +123,7 @@ abbrev mutual
 
 -- ---- results
 
--- the type of what an instruction answers: none where it answers nothing
+-- the type of what an instruction answers: none where it returns nothing
 abbrev pub result_type : Op → Option Ty
 result_type (op.Binary o flags t a b) = Some t
 result_type (op.Icmp p flags t a b) = Some (Int 1)

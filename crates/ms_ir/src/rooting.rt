@@ -24,7 +24,7 @@ fn own_kind(callees: &Callees<'_>, op: &Op) -> Option<RootKind>
     }
 }
 
-/// Adds the roots of an instruction at a site. Answers the site of the next one.
+/// Adds the roots of an instruction at a site. Returns the site of the next one.
 fn push_inst(
     roots: &mut Vec<Root>,
     callees: &Callees<'_>,
@@ -45,7 +45,7 @@ fn push_inst(
     Ok(site + 1)
 }
 
-/// Appends the roots of instructions. Answers the site behind them.
+/// Appends the roots of instructions. Returns the site after them.
 fn push_insts(
     roots: &mut Vec<Root>,
     callees: &Callees<'_>,
@@ -63,7 +63,7 @@ fn push_insts(
     Ok(site)
 }
 
-/// Appends the roots of basic blocks. Answers the site behind them.
+/// Appends the roots of basic blocks. Returns the site after them.
 fn push_blocks(
     roots: &mut Vec<Root>,
     callees: &Callees<'_>,
@@ -98,7 +98,7 @@ fn push_funcs(
     Ok(())
 }
 
-/// The roots of a module in text order; the first has the number 1. The one error is want of memory. Linear
+/// The roots of a module in text order; the first has the number 1. The one error is running out of memory. Linear
 /// in the module.
 pub fn roots(alloc: Global, m: &Module) -> Result<List<Root>, NoMemory>
     requires { HasSmallNumbers m.now }

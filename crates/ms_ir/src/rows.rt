@@ -9,7 +9,7 @@ use crate::syntax::{Decl, Name, Ty};
 use ms_bits::{List, NoMemory, SmallBytes};
 use std::alloc::Global;
 
-/// A type that a function of a table takes or answers.
+/// A type that a function of a table takes or returns.
 #[derive(Clone, Copy, Debug, PartialEq, Eq)]
 pub enum Kind {
     /// `ptr`.
@@ -24,7 +24,7 @@ pub struct Row<F> {
     pub name: &'static [u8],
     /// Which it is.
     pub is: F,
-    /// What it answers; none is `void`.
+    /// What it returns; none is `void`.
     pub ret: Option<Kind>,
     /// What it takes.
     pub params: &'static [Kind],
@@ -87,14 +87,14 @@ fn types_of(alloc: Global, kinds: &[Kind]) -> Result<List<Ty>, NoMemory>
     Ok(List::from_vec(types))
 }
 
-/// The name that a text is. The one error is want of memory.
+/// The name that a text is. The one error is running out of memory.
 pub fn name_of(alloc: Global, text: &[u8]) -> Result<Name, NoMemory>
     ensures { IfOk result (λ x. x ≡ spelling.Text text.now) }
 {
     Ok(Name::Text(SmallBytes::from_slice(alloc, text)?))
 }
 
-/// Whether a declaration has the types of a function that answers and takes these.
+/// Whether a declaration has the types of a function that returns and takes these.
 pub fn are_types(ret: Kind, params: &[Kind], decl: &Decl) -> bool
     ensures { result ≡ signature_eq (decl_signature decl.now) (answers (kind_type ret) (map kind_type params.now)) }
 {
@@ -109,7 +109,7 @@ impl<F> Row<F> {
         is_result(self.ret, &decl.ret) && are_params(self.params, decl.params.as_slice())
     }
 
-    /// What the function answers; none is `void`.
+    /// What the function returns; none is `void`.
     pub fn result_type(&self) -> Option<Ty>
         ensures { result ≡ (row_signature self.now).ret }
     {
@@ -119,7 +119,7 @@ impl<F> Row<F> {
         }
     }
 
-    /// The function as it is declared. The one error is want of memory.
+    /// The function as it is declared. The one error is running out of memory.
     pub fn declaration(&self, alloc: Global) -> Result<Decl, NoMemory>
         ensures { IfOk result (λ d. d ≡ row_declaration self.now) }
     {
@@ -133,7 +133,7 @@ impl<F> Row<F> {
     }
 }
 
-/// The functions of a table as they are declared. The one error is want of memory.
+/// The functions of a table as they are declared. The one error is running out of memory.
 pub fn declarations_of<F>(alloc: Global, rows: &[Row<F>]) -> Result<List<Decl>, NoMemory>
     ensures { IfOk result (λ ds. ds ≡ map row_declaration rows.now) }
 {

@@ -269,7 +269,7 @@ impl RuntimeFn {
         row_of(self).name
     }
 
-    /// What it answers; none is `void`.
+    /// What it returns; none is `void`.
     pub fn result_type(self) -> Option<Ty>
         ensures { result ≡ (runtime_signature self).ret }
     {
@@ -284,7 +284,7 @@ impl RuntimeFn {
     }
 }
 
-/// The functions that marked calls alone reach, as an instrumented module declares them. The one error is want of memory.
+/// The functions that marked calls alone reach, as an instrumented module declares them. The one error is running out of memory.
 pub fn runtime_declarations(alloc: Global) -> Result<List<Decl>, NoMemory>
     ensures { IfOk result (λ ds. ds ≡ runtime_declarations) }
 {

@@ -39,7 +39,7 @@ fn first<T>(items: &[T], count: u32) -> &[T]
     }
 }
 
-/// The site that comes behind these functions, blocks and instructions.
+/// The site that comes after these functions, blocks and instructions.
 fn site_behind(funcs: &[Func], blocks: &[Block], insts: &[Inst]) -> u32
     requires { 1 + over_funcs one_unmarked funcs.now + over_blocks one_unmarked blocks.now + over_insts one_unmarked insts.now < 2 ^ 32 }
     ensures { result ≡ 1 + over_funcs one_unmarked funcs.now + over_blocks one_unmarked blocks.now + over_insts one_unmarked insts.now }

@@ -169,7 +169,7 @@ impl Op {
         }
     }
 
-    /// The type of the result; none where it answers nothing.
+    /// The type of the result; none where it returns nothing.
     pub fn result_type(&self) -> Option<ValueType<'_>>
         ensures { option_map type_of result ≡ result_type self.now }
     {

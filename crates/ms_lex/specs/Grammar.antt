@@ -1,5 +1,5 @@
 -- A grammar as data, and what it means: which tokens it reads, and where it stops and why.
--- `T` is the type of tokens, `R` that of reasons to stop, and `end` stands for the token behind the last one.
+-- `T` is the type of tokens, `R` that of reasons to stop, and `end` stands for the token after the last one.
 use Rattle.std.specs.Prelude.{◌≡◌, ◌≢◌, ◌⊎◌, ℕ, zero, suc, Bool, true, false, List, [], ◌∷◌, length, Result, Ok, Err}
 
 -- the next token
@@ -7,7 +7,7 @@ abbrev pub head : {T : Type 0} → T → List T → T
 head end [] = end
 head end (t ∷ ts) = t
 
--- the tokens behind the next one
+-- the tokens after the next one
 abbrev pub tail : {T : Type 0} → List T → List T
 tail [] = []
 tail (t ∷ ts) = ts
@@ -70,7 +70,7 @@ Stops end (loop begins body s) ts e rest =
 -- ---- Reading as a function
 
 pub data Outcome (T R A : Type 0) : Type 0 where
-  -- a value, and the tokens behind it
+  -- a value, and the tokens after it
   done : A → List T → Outcome T R A
   -- why the first of these tokens can't stand where it stands
   fails : R → List T → Outcome T R A
@@ -112,12 +112,12 @@ g >> h = seq g (λ _. h)
 
 -- ---- What a function that reads ensures
 
--- What it returned, and the tokens that it left, are this outcome. Only want of memory, for which one reason stands, is free.
+-- What it returned, and the tokens that it left, are this outcome. Only running out of memory, for which one reason stands, is free.
 abbrev pub Gives : {T R A : Type 0} → R → Outcome T R A → Result A R → List T → Type 0
 Gives no_memory outcome (Ok a) left = outcome ≡ done a left
 Gives no_memory outcome (Err e) left = e ≢ no_memory → outcome ≡ fails e left
 
--- It returned a value exactly where the grammar reads one, and a reason exactly where the grammar stops, unless memory was wanting.
+-- It returned a value exactly where the grammar reads one, and a reason exactly where the grammar stops, unless memory ran out.
 abbrev pub Exactly : {T R A : Type 0} → T → R → Grammar T R A → List T → Result A R → List T → Type 0
 Exactly end no_memory g ts (Ok a) left = Reads end g ts a left
 Exactly end no_memory g ts (Err e) left = e ≢ no_memory → Stops end g ts e left

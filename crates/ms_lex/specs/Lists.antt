@@ -17,11 +17,11 @@ expected test reason t = if test t then Ok tt else Err (reason t)
 unfoldable pub expect : {T R : Type 0} → (T → Bool) → (T → R) → Grammar T R (Unit {0})
 expect test reason = one (expected test reason)
 
--- the item behind a separator
+-- the item after a separator
 abbrev pub one_more : {T R A : Type 0} → Grammar T R A → List A → T → Grammar T R (List A)
 one_more item found separator = item >>= λ x. give (found ++ x ∷ [])
 
--- items behind separators, as long as one comes next
+-- items after separators, as long as one comes next
 unfoldable pub more : {T R A : Type 0} → (T → Bool) → Grammar T R A → List A → Grammar T R (List A)
 more separates item found = loop (λ _ t. Ok (separates t)) (one_more item) found
 

@@ -12,7 +12,7 @@ use Rattle.ms_lex.specs.Tokens.{Text, is_quote}
 abbrev pub spelling_of : Text → Token → Text
 spelling_of text token = slice_range text token.start token.end
 
--- the run or the string that a token of this kind holds: without what is in front of it, and without the colon behind it
+-- the run or the string that a token of this kind holds: without what is in front of it, and without the colon after it
 abbrev pub name_part : Kind → Text → Text
 name_part Label spelling = take (length spelling - 1) spelling
 name_part CText spelling = drop 1 spelling

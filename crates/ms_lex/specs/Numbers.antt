@@ -4,7 +4,7 @@ use Rattle.ms_lex.specs.declared.kinds.Token.{Token}
 use Rattle.ms_lex.specs.Tokens.{Text}
 use Rattle.ms_lex.specs.Names.{spelling_of}
 
--- the number that decimal digits spell: a digit counts ten times for each digit behind it
+-- the number that decimal digits spell: a digit counts ten times for each digit after it
 abbrev pub decimal : Text → ℕ
 decimal [] = 0
 decimal (digit ∷ rest) = (digit - 48) * 10 ^ length rest + decimal rest

@@ -10,7 +10,7 @@ digit = one (λ b. if is_ascii_digit b then Ok (b - 48) else Err b)
 abbrev pub is_plus : ℕ → ℕ → Result Bool ℕ
 is_plus total b = Ok (b == 43)
 
--- the digit behind a plus sign
+-- the digit after a plus sign
 abbrev pub add_digit : ℕ → ℕ → Grammar ℕ ℕ ℕ
 add_digit total plus = digit >>= λ n. give (total + n)
 

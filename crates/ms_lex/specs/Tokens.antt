@@ -108,8 +108,8 @@ c_text = followed_by (run_that is_c) string
 abbrev pub punctuation : Text
 punctuation = codes "()[]{}<>,=*!|"
 
--- The form of each kind of token. Where a form fits, none that stands behind it is tried: so `!` is punctuation
--- only where no run is directly behind it, and a word is a run that is part of no label.
+-- The form of each kind of token. Where a form fits, none that stands after it is tried: so `!` is punctuation
+-- only where no run is directly after it, and a word is a run that is part of no label.
 abbrev pub table : List (Kind × Form)
 table =
     (Label, label)
@@ -155,7 +155,7 @@ nothing = record { tokens = []; stop = None }
 abbrev pub with_first : Token → Cut → Cut
 with_first token rest = record { tokens = token ∷ rest.tokens; stop = rest.stop }
 
--- a token of n bytes at this place, and the text behind its first byte
+-- a token of n bytes at this place, and the text after its first byte
 abbrev pub cut_at : Found → ℕ → (ℕ → Cut) → Cut
 cut_at None place behind = record { tokens = []; stop = Some place }
 cut_at (Some found) place behind = with_first (record { kind = found.0; start = place; end = place + found.1 }) (behind (found.1 - 1))
@@ -189,12 +189,12 @@ tokens_of text limit =
     if nat_lt limit (length (cut_of text).tokens) then Err TooManyTokens
     else unless_stopped text (cut_of text).tokens (cut_of text).stop
 
--- the answer of a call, unless memory was wanting
+-- the answer of a call, unless memory ran out
 abbrev pub GivesTokens : Result (List Token) LexError → Result (Vec Token Global) LexError → Type 0
 GivesTokens answer (Ok found) = answer ≡ Ok found.items
 GivesTokens answer (Err error) = error ≢ NoMemory → answer ≡ Err error
 
--- a call refuses for this reason exactly where the fact holds, unless memory was wanting
+-- a call refuses for this reason exactly where the fact holds, unless memory ran out
 abbrev pub RefusesExactly : Result (Vec Token Global) LexError → LexError → Type 0 → Type 0
 RefusesExactly result reason Fact = (result ≡ Err reason → Fact) × (Fact → (result ≡ Err reason) ⊎ (result ≡ Err NoMemory))
 

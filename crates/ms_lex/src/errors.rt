@@ -6,7 +6,7 @@ ghost use Rattle.ms_lex.specs.declared.errors.LexError.TheVariants.{NoMemory as 
 use std::alloc::{AllocError, AllocFailed};
 use thiserror::Error;
 
-/// Want of memory.
+/// Running out of memory.
 pub type NoMemory = AllocError;
 
 /// Why a text has no tokens. A place is that of a byte, counted from 0.
@@ -21,7 +21,7 @@ pub enum LexError {
     /// More tokens stand before any such place than the caller allows.
     #[error("too many tokens")]
     TooManyTokens,
-    /// Memory was wanting.
+    /// Memory ran out.
     #[error("out of memory")]
     NoMemory,
 }

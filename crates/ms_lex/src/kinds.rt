@@ -3,9 +3,9 @@
 /// What a token is. Where several fit at one place, the first in this order is taken.
 #[derive(Clone, Copy, Debug, PartialEq, Eq)]
 pub enum Kind {
-    /// A run of name bytes or a string, with the `:` directly behind it, as `entry:` or `"a b":`.
+    /// A run of name bytes or a string, with the `:` directly after it, as `entry:` or `"a b":`.
     Label,
-    /// `c` with the string directly behind it, as `c"abc\00"`.
+    /// `c` with the string directly after it, as `c"abc\00"`.
     CText,
     /// A string, as `"abc"`.
     Str,
@@ -15,13 +15,13 @@ pub enum Kind {
     Word,
     /// Any other run of name bytes, as `1.5` or `...`.
     Other,
-    /// `@` with a run of name bytes or a string directly behind it, as `@main`.
+    /// `@` with a run of name bytes or a string directly after it, as `@main`.
     Global,
-    /// `%` with a run of name bytes or a string directly behind it, as `%5`.
+    /// `%` with a run of name bytes or a string directly after it, as `%5`.
     Local,
-    /// `!` with a run of name bytes directly behind it, as `!0`.
+    /// `!` with a run of name bytes directly after it, as `!0`.
     Meta,
-    /// `#` with a run of name bytes directly behind it, as `#0`.
+    /// `#` with a run of name bytes directly after it, as `#0`.
     Group,
     /// One of `( ) [ ] { } < > , = * ! |`.
     Punct,
@@ -34,6 +34,6 @@ pub struct Token {
     pub kind: Kind,
     /// The place of its first byte.
     pub start: u32,
-    /// The place behind its last byte.
+    /// The place after its last byte.
     pub end: u32,
 }

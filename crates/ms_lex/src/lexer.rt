@@ -1,4 +1,4 @@
-//! The tokens of a text, one behind the other.
+//! The tokens of a text, one after the other.
 
 ghost use Rattle.std.specs.Prelude.{◌≡◌, ◌≢◌, ◌≤◌, ◌<◌, ◌^◌, ◌∷◌, [], length, true, false, IfSome, IfNone, IfOk, IsTrue, IsFalse, ℕ, slice_index};
 ghost use Rattle.ms_lex.specs.Tokens.{GivesTokens, InOrder, RefusesExactly, StopsAt, cut_of, is_quote, tokens_of};
@@ -73,15 +73,15 @@ fn cut(alloc: Global, text: &[u8], limit: u32) -> Result<Vec<Token>, LexError>
 ///   stand before it: `OpenString` where that byte is a `"`, whose string doesn't end, and `BadByte`
 ///   where it is another, as the `@` before such a string.
 /// - `TooManyTokens` where more than `limit` tokens stand before any such byte.
-/// - `NoMemory` where memory was wanting.
+/// - `NoMemory` where memory ran out.
 #[tactic(auto, using(crate::proofs::Causes::bad_byte_exactly, crate::proofs::Causes::open_string_exactly, crate::proofs::Causes::too_many_exactly, crate::proofs::Causes::given_in_order))]
 pub fn tokens(alloc: Global, text: &[u8], limit: u32) -> Result<Vec<Token>, LexError>
     requires { length text.now ≤ 2 ^ 27 }
-    // The tokens that the text has by the table of kinds, or why it has none, unless memory was wanting.
+    // The tokens that the text has by the table of kinds, or why it has none, unless memory ran out.
     ensures exact { GivesTokens (tokens_of text.now limit) result }
     ensures in_order { IfOk result (λ found. InOrder found.items (length text.now)) }
 
-    // Each refusal comes exactly at its place, unless memory was wanting.
+    // Each refusal comes exactly at its place, unless memory ran out.
     ensures bad_byte { (place : ℕ) → RefusesExactly result (LexError.BadByte place)
         (StopsAt text.now limit place × IsFalse (is_quote (slice_index text.now place))) }
     ensures open_string { (place : ℕ) → RefusesExactly result (LexError.OpenString place)

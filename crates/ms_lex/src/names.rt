@@ -22,8 +22,8 @@ fn hexadecimal_digit(b: u8) -> Option<u8>
     }
 }
 
-/// The byte that a backslash and two hexadecimal digits stand for, and the bytes behind them. The text
-/// begins behind the backslash.
+/// The byte that a backslash and two hexadecimal digits stand for, and the bytes after them. The text
+/// begins after the backslash.
 #[tactic(auto, using(crate::proofs::Escapes::pair, crate::proofs::Escapes::at_end, crate::proofs::Escapes::before_one, crate::proofs::Escapes::no_high, crate::proofs::Escapes::no_low))]
 fn hexadecimal_byte(text: &[u8]) -> Option<(u8, &[u8])>
     requires { slice_index text.now 0 ≢ 92 }
@@ -41,7 +41,7 @@ fn hexadecimal_byte(text: &[u8]) -> Option<(u8, &[u8])>
     }
 }
 
-/// The first byte that a string's bytes stand for, and the bytes behind those that stand for it.
+/// The first byte that a string's bytes stand for, and the bytes after those that stand for it.
 #[tactic(auto, using(crate::proofs::Escapes::plain, crate::proofs::Escapes::double))]
 fn first_byte(text: &[u8]) -> Option<(u8, &[u8])>
     ensures some { IfSome result (λ p. unescaped text.now ≡ p.0 ∷ unescaped p.1.now) }
@@ -133,7 +133,7 @@ pub fn plain_name<'a>(text: &'a [u8], token: &Token) -> Option<&'a [u8]>
 ///
 /// # Errors
 ///
-/// Only where memory was wanting.
+/// Only where memory ran out.
 #[tactic(auto, unfolding(crate::specs::Names::name_of))]
 pub fn name_of(alloc: Global, text: &[u8], token: &Token) -> Result<Vec<u8>, NoMemory>
     requires ordered { token.now.start ≤ token.now.end }

@@ -88,7 +88,7 @@ pub fn quote_place(text: &[u8]) -> usize
     n
 }
 
-/// The byte at this place, and 0 behind the end.
+/// The byte at this place, and 0 after the end.
 fn byte_at(text: &[u8], place: usize) -> u8
     ensures value { result ≡ slice_index text.now place }
     ensures within { result ≢ 0 → place < length text.now }
@@ -194,7 +194,7 @@ fn begins_word(run: &[u8]) -> bool
     }
 }
 
-/// What a run is that is no part of a label or of a text behind `c`.
+/// What a run is that is no part of a label or of a text after `c`.
 fn run_kind(run: &[u8]) -> Kind
     ensures { result ≡ (if spec.is_number run.now then Kind.Number
         else if spec.begins_word run.now then Kind.Word else Kind.Other) }
@@ -208,7 +208,7 @@ fn run_kind(run: &[u8]) -> Kind
     }
 }
 
-/// The `c` and the string directly behind it, where the run at the front is `c` alone.
+/// The `c` and the string directly after it, where the run at the front is `c` alone.
 #[tactic(auto, using(crate::proofs::Forms::no_c, crate::proofs::Forms::c_with_string, crate::proofs::Forms::c_with_none))]
 fn c_text(text: &[u8], run: usize) -> Option<usize>
     requires whole { run ≡ prefix_len spec.is_name_byte text.now }
@@ -262,7 +262,7 @@ fn string_token(text: &[u8], rest: &[u8]) -> Option<(Kind, usize)>
     }
 }
 
-/// A token of one byte and what stands behind that.
+/// A token of one byte and what stands after that.
 fn behind_byte(kind: Kind, length: Option<usize>) -> Option<(Kind, usize)>
     requires { IfSome length (λ n. n < 2 ^ 62) }
     ensures { result ≡ spec.or_next kind (option_map (λ m. 1 + m) length) None }

@@ -5,7 +5,7 @@ ghost use Rattle.ms_lex.specs.Names.{spelling_of};
 
 use crate::kinds::Token;
 
-/// The first byte, and the bytes behind it.
+/// The first byte, and the bytes after it.
 pub fn front(text: &[u8]) -> Option<(u8, &[u8])>
     ensures some { IfSome result (λ p. text.now ≡ p.0 ∷ p.1.now) }
     ensures none { IfNone result (text.now ≡ []) }
@@ -16,7 +16,7 @@ pub fn front(text: &[u8]) -> Option<(u8, &[u8])>
     }
 }
 
-/// The text behind so many bytes.
+/// The text after so many bytes.
 pub fn behind(text: &[u8], n: usize) -> &[u8]
     requires { n ≤ length text.now }
     ensures { result.now ≡ drop n text.now }

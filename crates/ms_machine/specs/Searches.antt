@@ -22,7 +22,7 @@ pub record IsInFunc (funcs : List Func) (number f b p : ℕ) : Type 0 where
   pub before : over_funcs (λ inst. 1) (take f funcs) + left ≡ number
   pub within : IsInBlock func.blocks left b p
 
--- what a search for a name among some says, behind so many others: the number of the first that is equal to it, or, where
+-- what a search for a name among some says, after so many others: the number of the first that is equal to it, or, where
 -- none is, the number of all
 abbrev pub IsSought : List Name → Name → ℕ → Result ℕ ℕ → Type 0
 IsSought names x from (Ok k) = (k ≡ from + name_place names x) × (name_place names x < length names)

@@ -83,7 +83,7 @@ fn seek_param(params: &[(Ty, Name)], name: &Name) -> Result<usize, usize>
     Err(params.len())
 }
 
-/// The number of a name among those of results, behind so many other names.
+/// The number of a name among those of results, after so many other names.
 fn seek_result(insts: &[Inst], name: &Name, from: usize) -> Result<usize, usize>
     requires { from + length (results insts.now) < 2 ^ 64 }
     ensures { IsSought (results insts.now) name.now from result }
@@ -100,7 +100,7 @@ fn seek_result(insts: &[Inst], name: &Name, from: usize) -> Result<usize, usize>
     Err(passed)
 }
 
-/// The number of a name among those of a block and its results, behind so many other names.
+/// The number of a name among those of a block and its results, after so many other names.
 fn seek_block(block: &Block, name: &Name, from: usize) -> Result<usize, usize>
     requires { from + length (block_locals block.now) < 2 ^ 64 }
     ensures { IsSought (block_locals block.now) name.now from result }
@@ -112,7 +112,7 @@ fn seek_block(block: &Block, name: &Name, from: usize) -> Result<usize, usize>
     }
 }
 
-/// The number of a name among those of blocks and their results, behind so many other names.
+/// The number of a name among those of blocks and their results, after so many other names.
 fn seek_blocks(blocks: &[Block], name: &Name, from: usize) -> Result<usize, usize>
     requires { from + length (flat_map block_locals blocks.now) < 2 ^ 64 }
     ensures { IsSought (flat_map block_locals blocks.now) name.now from result }

@@ -20,8 +20,8 @@ use std::alloc::Global;
 /// Goes on until a function is called that the module doesn't define, until the run ends, or until no step is left.
 ///
 /// A step is an unmarked instruction with the marked ones before it. None is begun where none is left. That of an
-/// external is counted when it is asked for; then `resume` goes on behind the call. A step takes as long in a large
-/// module as in a small one. The one error is want of memory, and the run is over then.
+/// external is counted when it is asked for; then `resume` goes on after the call. A step takes as long in a large
+/// module as in a small one. The one error is running out of memory, and the run is over then.
 pub fn advance(
     alloc: Global,
     m: &CheckedModule,

@@ -8,7 +8,7 @@ use ms_check::CheckedModule;
 use ms_machine_frames::{Fiber, spawn_fiber};
 use std::alloc::Global;
 
-/// A fiber that begins with the function with a number, of the type `ptr (ptr)`, and this argument. The one error is want of
+/// A fiber that begins with the function with a number, of the type `ptr (ptr)`, and this argument. The one error is running out of
 /// memory.
 pub fn spawn(alloc: Global, m: &CheckedModule, func: u32, argument: u64) -> Result<Fiber, NoMemory>
     requires start { IsStart m.now func }

@@ -20,7 +20,7 @@ use std::alloc::Global;
 /// `extents` are those of the module's named types, and `words` are the constants in the initialisers of its globals, in
 /// text order.
 ///
-/// The time is that of making the globals, and linear in the input and the fill, which are copied. The one error is want of
+/// The time is that of making the globals, and linear in the input and the fill, which are copied. The one error is running out of
 /// memory: a valid module's globals fit.
 fn start_world(
     alloc: Global,
@@ -46,7 +46,7 @@ fn start_world(
     }
 }
 
-/// Want of memory, where a fault can be nothing else.
+/// Running out of memory, where a fault can be nothing else.
 fn wanting(fault: AllocError) -> NoMemory
     requires { fault ≢ AllocError.Full }
 {
@@ -73,7 +73,7 @@ fn world_of(alloc: Global, m: &CheckedModule, setup: &Setup) -> Result<World, No
 /// The fiber and the world at the start of a run of a checked module: the globals stand in memory, and `main` is called.
 ///
 /// The time is that of making the globals and the values of `main`, near to linear in the module's named types, and linear in
-/// the input and the fill, which are copied. The one error is want of memory: a valid module's globals fit.
+/// the input and the fill, which are copied. The one error is running out of memory: a valid module's globals fit.
 pub fn start(alloc: Global, m: &CheckedModule, setup: &Setup) -> Result<(Fiber, World), NoMemory>
     requires filled { 0 < length setup.now.fill }
     ensures running { IfOk result (λ s. IsRunning m.now setup.now nothing_beside s.0 s.1 (plain_start m.now setup.now)) }

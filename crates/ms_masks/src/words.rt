@@ -141,7 +141,7 @@ fn whole_mask(width: u8, m: u64) -> u64
     if m == 0 { 0 } else { ones(width) }
 }
 
-/// What a function of whole words answers of three masks, where it answers; 0 where it traps.
+/// What a function of whole words returns of three masks, where it answers; 0 where it traps.
 fn moved_mask(function: WordFn, width: WordWidth, m: u64, k: u64, t: u64) -> u64
     requires { m < 2 ^ bits_of width }
     ensures { IfOk (word_answer function (bits_of width) m k t) (λ moved. result ≡ moved) }

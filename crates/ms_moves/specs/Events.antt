@@ -32,7 +32,7 @@ moved event site from to = record { event = event; site = site; from = from; to 
 abbrev pub word_move : (event site : ℕ) → Poisoned → Source → Target → List Move
 word_move event site word from to = if eqb word.mask 0 then [] else moved event site from to ∷ []
 
--- the result, if it has a name, of an instruction behind which the values are given
+-- the result, if it has a name, of an instruction after which the values are given
 abbrev pub result_move : (event site frame : ℕ) → Option Name → (Name → Poisoned) → Source → List Move
 result_move event site frame None values from = []
 result_move event site frame (Some x) values from = word_move event site (values x) from (Value frame x)

@@ -14,7 +14,7 @@ use Rattle.ms_runs.specs.Masks.{word_at, result_origin}
 use Rattle.ms_moves.specs.declared.moves.Source.{Source}
 use Rattle.ms_moves.specs.declared.moves.Source.TheVariants.{Root, Value, Byte}
 
--- what an operand is read from, in the frame with a number, behind so many roots; 0 is no root, and stands for a constant
+-- what an operand is read from, in the frame with a number, after so many roots; 0 is no root, and stands for a constant
 abbrev pub operand_source : (frame root : ℕ) → Operand → Source
 operand_source frame root operand.Undef = Root (root + 1)
 operand_source frame root operand.Poison = Root (root + 1)

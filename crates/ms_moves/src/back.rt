@@ -105,7 +105,7 @@ fn counted_byte(m: &Move, event: Option<u64>, reading: Reading<'_>) -> Option<u6
 }
 
 /// The hops that lead to what a use reads, if any do: one pass over the moves from the last one back. The one error is
-/// want of memory.
+/// running out of memory.
 pub fn trail(alloc: Global, moves: &[Move], at: &Source) -> Result<Option<Vec<Hop>>, NoMemory>
     requires ascending { Ascending moves.now }
     requires few { length moves.now < 2 ^ 32 }

@@ -63,7 +63,7 @@ pub fn operand_source(
 }
 
 /// What the operand with a place is read from, in the call with a number; so many roots stand before the instruction. The one
-/// error is want of memory.
+/// error is running out of memory.
 #[tactic(auto, using(crate::proofs::Operands::source_some, crate::proofs::Operands::source_none, crate::proofs::Operands::undefs_upto))]
 pub fn source_at(
     alloc: Global,

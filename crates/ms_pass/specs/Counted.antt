@@ -12,7 +12,7 @@ use Rattle.ms_pass.specs.declared.counts.Counts.{Counts}
 abbrev pub here_of : Counts → Bool → Here
 here_of c main = record { site = c.site; root = c.root; main = main }
 
--- the counts behind an instruction, instructions, blocks and functions
+-- the counts after an instruction, instructions, blocks and functions
 abbrev pub past_inst : (Name → Option ℕ) → Counts → Inst → Counts
 past_inst func c i = record { site = c.site + one_unmarked i; root = c.root + roots_in func i }
 

@@ -31,7 +31,7 @@ env_by names clean = record { number = first_place names; clean = λ x. is_some 
 abbrev pub names_in : List (List Name) → ℕ → List Name
 names_in sets k = slice_index_or sets k []
 
--- code with instructions behind it, each between its lists
+-- code with instructions after it, each between its lists
 abbrev pub with_insts : Given → Env → Here → List Inst → InsertedCode → InsertedCode
 with_insts given env h is c = let x = pass_insts given env is h c.next in record { code = c.code ++ x.code; next = x.next }
 
@@ -79,7 +79,7 @@ func_made given clean funcs k =
 abbrev pub inst : (clean : List (List Name)) → Module → ℕ → Func
 inst clean m = func_made (given_by m.types (function_names m)) (names_in clean) m.funcs
 
--- the instrumented form of a module: its functions one by one, and behind its globals and declarations those of the runtime
+-- the instrumented form of a module: its functions one by one, and after its globals and declarations those of the runtime
 abbrev pub passed_module : (clean : List (List Name)) → Module → Module
 passed_module clean m = record {
   types = m.types;

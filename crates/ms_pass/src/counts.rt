@@ -18,7 +18,7 @@ pub struct Counts {
 }
 
 impl Counts {
-    /// The counts behind an instruction.
+    /// The counts after an instruction.
     fn behind_inst(self, functions: &NameTable<'_>, inst: &Inst) -> Counts
         requires { AreSmall (past_inst (first_place functions.now) self inst.now) }
         ensures { result ≡ past_inst (first_place functions.now) self inst.now }
@@ -29,7 +29,7 @@ impl Counts {
         }
     }
 
-    /// The counts behind instructions.
+    /// The counts after instructions.
     fn behind_insts(self, functions: &NameTable<'_>, insts: &[Inst]) -> Counts
         requires { AreSmall (past_insts (first_place functions.now) self insts.now) }
         ensures { result ≡ past_insts (first_place functions.now) self insts.now }
@@ -41,7 +41,7 @@ impl Counts {
         counts
     }
 
-    /// The counts behind the blocks of a function.
+    /// The counts after the blocks of a function.
     fn behind_blocks(self, functions: &NameTable<'_>, blocks: &[Block]) -> Counts
         requires { AreSmall (past_blocks (first_place functions.now) self blocks.now) }
         ensures { result ≡ past_blocks (first_place functions.now) self blocks.now }
@@ -54,7 +54,7 @@ impl Counts {
     }
 }
 
-/// The counts before each function of a module. The one error is want of memory. Linear in the functions.
+/// The counts before each function of a module. The one error is running out of memory. Linear in the functions.
 pub fn counts_before(
     alloc: Global,
     functions: &NameTable<'_>,

@@ -132,7 +132,7 @@ impl<'a, 'm> Work for Functions<'a, 'm> {
 }
 
 /// The instrumented form of the functions of a module, where `clean` has the clean values of each: the same for every gate.
-/// They are made in pieces of at most eight by several threads. The one error is want of memory, in any piece.
+/// They are made in pieces of at most eight by several threads. The one error is running out of memory, in any piece.
 pub fn passed_funcs<'m, R: Threads + Sync, G: Gate + Sync>(
     rt: &R,
     alloc: Global,

@@ -30,7 +30,7 @@ use std::thread::Threads;
 /// The functions are made in pieces of at most eight, by several threads where there are more. Each piece enters the gate with
 /// the number of its first function, counted from 0, before it does anything else. The answer is the same for every gate: its
 /// functions are made one by one, each with the sites and roots before it, and its globals and declarations are those of the
-/// module and then the slots and the runtime functions. The one error is want of memory, in any piece. Linear in the module.
+/// module and then the slots and the runtime functions. The one error is running out of memory, in any piece. Linear in the module.
 pub fn instrumented<R: Threads + Sync, G: Gate + Sync>(
     rt: &R,
     alloc: Global,
@@ -56,7 +56,7 @@ pub fn instrumented<R: Threads + Sync, G: Gate + Sync>(
     Ok(module)
 }
 
-/// The same as a checked module, which can be run. The one error is want of memory. Linear in the module.
+/// The same as a checked module, which can be run. The one error is running out of memory. Linear in the module.
 pub fn instrument<R: Threads + Sync, G: Gate + Sync>(
     rt: &R,
     alloc: Global,

@@ -11,7 +11,7 @@ use ms_rules_builder::Builder;
 use ms_tables::next_site;
 use std::alloc::Global;
 
-/// Adds an instruction between its lists. The counts become those behind it.
+/// Adds an instruction between its lists. The counts become those after it.
 fn push_next(
     alloc: Global,
     builder: &mut Builder,
@@ -32,7 +32,7 @@ fn push_next(
     Ok(())
 }
 
-/// Adds instructions, each between its lists. The counts become those behind them. The one error is want of memory.
+/// Adds instructions, each between its lists. The counts become those after them. The one error is running out of memory.
 pub fn push_insts(
     alloc: Global,
     builder: &mut Builder,

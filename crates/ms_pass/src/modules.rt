@@ -24,7 +24,7 @@ fn push_copies<T: Duplicate>(alloc: Global, items: &mut Vec<T>, more: &[T]) -> R
     Ok(())
 }
 
-/// A copy of one list with that of another behind it.
+/// A copy of one list with that of another after it.
 fn joined<T: Duplicate>(alloc: Global, first: &[T], more: &[T]) -> Result<List<T>, NoMemory>
     ensures { IfOk result (λ items. items ≡ first.now ++ more.now) }
 {
@@ -94,7 +94,7 @@ fn funcs_within<'m, R: Threads + Sync, G: Gate + Sync>(
     )
 }
 
-/// A module with these types and functions, and behind its globals and declarations the slots and the runtime's.
+/// A module with these types and functions, and after its globals and declarations the slots and the runtime's.
 fn with_funcs(
     alloc: Global,
     m: &Module,
@@ -113,7 +113,7 @@ fn with_funcs(
     })
 }
 
-/// The instrumented form of a module with these clean values, whose functions can be instrumented. The one error is want of
+/// The instrumented form of a module with these clean values, whose functions can be instrumented. The one error is running out of
 /// memory.
 pub fn passed_module<'m, R: Threads + Sync, G: Gate + Sync>(
     rt: &R,

@@ -76,7 +76,7 @@ fn copy_by_cells(block: Block, at: u64, source: &Block, from: u64, n: u64) -> Bl
     copied
 }
 
-/// The same as `copy_by_bytes`. Where both places stand equally far behind the start of a cell, whole cells are copied at
+/// The same as `copy_by_bytes`. Where both places stand equally far after the start of a cell, whole cells are copied at
 /// once, and only those at the ends byte by byte.
 fn copy_origins(block: Block, at: u64, source: &Block, from: u64, n: u64) -> Block
     requires within { at + n ≤ length block.bytes }

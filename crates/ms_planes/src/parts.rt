@@ -269,7 +269,7 @@ pub(crate) fn paste(block: &mut Block, part: Part, at: u64, source: &[u8])
 
 /// Puts `v` at the `n` places from `at` on.
 ///
-/// Takes the block by value: behind a reference the compiler has to assume that a byte that is written changes the
+/// Takes the block by value: through a reference the compiler has to assume that a byte that is written changes the
 /// block's own pointers, and loads them again in each round.
 fn fill(block: Block, part: Part, at: u64, n: u64, v: u8) -> Block
     requires within { at + n ≤ length block.bytes }

@@ -89,10 +89,10 @@ impl Planes {
         }
     }
 
-    /// Makes an allocation of `size` zero bytes, clean, with origin 0, and answers its base.
+    /// Makes an allocation of `size` zero bytes, clean, with origin 0, and returns its base.
     ///
-    /// `Full` where the allocations of its area would then take more than the limit; `NoMemory` where memory is
-    /// wanting. The planes are then as they were.
+    /// `Full` where the allocations of its area would then take more than the limit; `NoMemory` where memory
+    /// runs out. The planes are then as they were.
     pub fn make(&mut self, kind: AllocKind, size: u64) -> Result<u64, AllocError>
         ensures base { IfOk result (λ base. base ≡ next_base kind self.old.table) }
         ensures table { OnOk result (self.new.table ≡ with_made kind size self.old.table) }
@@ -116,7 +116,7 @@ impl Planes {
         made
     }
 
-    /// Ends the live heap block that begins at `base`, and answers its size.
+    /// Ends the live heap block that begins at `base`, and returns its size.
     ///
     /// `BadFree` where no live heap block begins there. The planes are then as they were.
     pub fn end(&mut self, base: u64) -> Result<u64, BadFree>
@@ -217,7 +217,7 @@ impl Planes {
         self.number(Part::Bytes, addr, n).unwrap()
     }
 
-    /// Writes the `n` low bytes of `v`, the least first, and answers whether they are good; else nothing changes. The usual
+    /// Writes the `n` low bytes of `v`, the least first, and returns whether they are good; else nothing changes. The usual
     /// sizes each have their copy, as in `read`.
     #[inline(always)]
     pub fn write(&mut self, addr: u64, n: u8, v: u64) -> bool
@@ -329,7 +329,7 @@ impl Planes {
         self.number(Part::Shadow, addr, n).unwrap()
     }
 
-    /// Writes the `n` low bytes of `v` as shadow, the least first, and answers whether the bytes are good; else nothing
+    /// Writes the `n` low bytes of `v` as shadow, the least first, and returns whether the bytes are good; else nothing
     /// changes.
     pub fn write_shadow(&mut self, addr: u64, n: u8, v: u64) -> bool
         requires { n ≤ 8 }
@@ -405,7 +405,7 @@ impl Planes {
         self.fill(Part::Shadow, addr, n, 0);
     }
 
-    /// Copies `n` bytes, as they were before. The planes are as they were where memory is wanting.
+    /// Copies `n` bytes, as they were before. The planes are as they were where memory runs out.
     pub fn copy_bytes(&mut self, to: u64, from: u64, n: u64) -> Result<(), NoMemory>
         requires to { IsTrue (is_good to n self.old.table) }
         requires from { IsTrue (is_good from n self.old.table) }
@@ -423,7 +423,7 @@ impl Planes {
 
     /// Gives each of `n` bytes the shadow that its source had before, and each of them whose new shadow isn't 0, in
     /// rising order, puts the origin that its source's cell had before into its own cell. The planes are as they were
-    /// where memory is wanting.
+    /// where memory runs out.
     pub fn copy_shadow(&mut self, to: u64, from: u64, n: u64) -> Result<(), NoMemory>
         requires to { IsTrue (is_good to n self.old.table) }
         requires from { IsTrue (is_good from n self.old.table) }
@@ -482,7 +482,7 @@ impl Planes {
         }
     }
 
-    /// Writes the `n` low bytes of `v` as bytes or shadow bytes, the least first, and answers whether the bytes are good;
+    /// Writes the `n` low bytes of `v` as bytes or shadow bytes, the least first, and returns whether the bytes are good;
     /// else nothing changes.
     #[inline(always)]
     fn put(&mut self, part: Part, addr: u64, n: u8, v: u64) -> bool

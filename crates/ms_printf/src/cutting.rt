@@ -14,7 +14,7 @@ fn text(alloc: Global, bytes: &[u8]) -> Result<Piece, NoMemory>
     Ok(Piece::Text(List::from_vec(Vec::from_slice(alloc, bytes)?)))
 }
 
-/// The directive with which the bytes behind a `%` begin, and of how many bytes it is.
+/// The directive with which the bytes after a `%` begin, and of how many bytes it is.
 fn directive(alloc: Global, rest: &[u8]) -> Result<Option<(Piece, usize)>, NoMemory>
     ensures value { IfOk result (λ o. directive_of rest.now ≡ option_map (λ d. (d.0, drop d.1 rest.now)) o) }
     ensures within { IfOk result (λ o. IfSome o (λ d. d.1 ≤ length rest.now)) }
@@ -52,7 +52,7 @@ fn plain_length(bytes: &[u8]) -> usize
     n
 }
 
-/// What stands behind so many bytes.
+/// What stands after so many bytes.
 fn behind(bytes: &[u8], n: usize) -> &[u8]
     requires { n ≤ length bytes.now }
     ensures { result.now ≡ drop n bytes.now }
@@ -92,7 +92,7 @@ fn first_piece(
 }
 
 /// Cuts a format, which are the bytes before a zero byte, into its pieces, up to the first place where no directive stands
-/// behind a `%`. The one error is want of memory.
+/// after a `%`. The one error is running out of memory.
 #[tactic(auto, using(crate::proofs::Cuts::began, crate::proofs::Cuts::more, crate::proofs::Cuts::ended, crate::proofs::Cuts::stopped))]
 pub fn cut(alloc: Global, format: &[u8]) -> Result<Cut, NoMemory>
     ensures { IfOk result (λ c. c ≡ cut_of format.now) }

@@ -49,7 +49,7 @@ impl Model for Block {
 impl Block {
     /// A block of `n` zero bytes, whose shadow and origins are 0. Asks for memory once.
     ///
-    /// `NoMemory` where that memory is wanting.
+    /// `NoMemory` where that memory runs out.
     pub fn new(alloc: Global, n: u64) -> Result<Block, NoMemory>
         requires { n ≤ 2 ^ 26 }
         ensures { IfOk result (λ b. b ≡ blank n) }

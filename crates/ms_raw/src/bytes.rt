@@ -1,11 +1,11 @@
-//! A row of bytes behind a pointer. A row is filled from its first place on, so raw memory is never read before it is written.
+//! A row of bytes at a pointer. A row is filled from its first place on, so raw memory is never read before it is written.
 ghost use Rattle.std.specs.Prelude.{replicate, ◌≡◌, ◌≤◌, ◌<◌, ◌^◌, ◌∷◌, [], ◌++◌, ◌*◌, ◌+◌, ℕ, List, length, get_or, set};
 ghost use Rattle.ms_raw.specs.{Copies.{copied}, Ownership.{bytes_own, bytes_lent, IsSize}};
 
 use crate::memory::Memory;
 use std::marker::Model;
 
-/// Bytes that lie behind a pointer, side by side, where there is room for `len`.
+/// Bytes that lie at a pointer, side by side, where there is room for `len`.
 pub(crate) struct Bytes {
     at: *mut u8,
     len: usize,
@@ -38,7 +38,7 @@ impl Bytes {
         unsafe { *self.at.add(i) = v }
     }
 
-    /// Puts four bytes at the places from one on. The pointer is read once, so that the compiler makes one store of them: behind a
+    /// Puts four bytes at the places from one on. The pointer is read once, so that the compiler makes one store of them: through a
     /// byte that is written it has to assume that the pointer itself may have changed.
     pub(crate) fn put_four(&mut self, i: usize, a: u8, b: u8, c: u8, d: u8)
         requires { i + 3 < length self.old.items }
@@ -99,7 +99,7 @@ impl Bytes {
         Bytes { at, len }
     }
 
-    /// The memory that the bytes lie in, `size` bytes with what stands behind them.
+    /// The memory that the bytes lie in, `size` bytes with what stands after them.
     pub(crate) fn into_memory(self, size: usize) -> Memory
         requires { (size ≡ self.size) × IsSize size }
         ensures { (result.at ≡ self.at) × (result.size ≡ size) }

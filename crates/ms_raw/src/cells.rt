@@ -1,4 +1,4 @@
-//! A row of origins behind a pointer, one for each cell of four bytes.
+//! A row of origins at a pointer, one for each cell of four bytes.
 ghost use Rattle.std.specs.Prelude.{replicate, ◌≡◌, ◌≤◌, ◌<◌, ◌^◌, ◌∷◌, [], ◌++◌, ◌*◌, ◌+◌, ℕ, List, length, get_or, set};
 ghost use Rattle.ms_raw.specs.{Copies.{copied_cells, origin_after}, Ownership.{words_own, words_lent, IsSize}};
 
@@ -6,7 +6,7 @@ use crate::bytes::Bytes;
 use crate::memory::Memory;
 use std::marker::Model;
 
-/// Origins, which are numbers of 32 bits, that lie behind a pointer, side by side, where there is room for `len`.
+/// Origins, which are numbers of 32 bits, that lie at a pointer, side by side, where there is room for `len`.
 pub(crate) struct Cells {
     at: *mut u32,
     len: usize,
@@ -59,7 +59,7 @@ impl Cells {
         }
     }
 
-    /// The memory that the origins lie in, `size` bytes with what stands behind them.
+    /// The memory that the origins lie in, `size` bytes with what stands after them.
     pub(crate) fn into_memory(self, size: usize) -> Memory
         requires { (size ≡ self.size) × IsSize size }
         ensures { (result.at ≡ self.at) × (result.size ≡ size) }

@@ -33,7 +33,7 @@ lexemes_from text tokens at = drop at (lexemes_of text tokens)
 
 -- ---- pieces of the grammar
 
--- `define` and the function behind it, in front of which the text has so many instructions
+-- `define` and the function after it, in front of which the text has so many instructions
 abbrev pub definition : Form → ℕ → Rule Func
 definition form before = word s.Define >> function form before
 
@@ -71,9 +71,9 @@ error_in text tokens cause token = error_at cause token (place_in text tokens to
 -- ---- answers
 
 -- A call that reads this piece from a token on answers Ok exactly where the piece reads, with its value and the token
--- behind it, and an error exactly where the piece stops, with the cause, the token and its place. Want of memory alone is free.
+-- after it, and an error exactly where the piece stops, with the cause, the token and its place. Running out of memory alone is free.
 pub record ReadsExactly {A : Type 0} (rule : Rule A) (text : Text) (tokens : List Token) (at : ℕ) (result : Result (A × ℕ) ReadError) : Type 0 where
-  -- what it answers is so
+  -- what it returns is so
   pub read : (a : A) (next : ℕ) → result ≡ Ok (a, next) → ReadsAt rule text tokens at a next
   pub refused : (error : ReadError) → result ≡ Err error → error ≢ e.NoMemory
       → (cause : Cause) × (token : ℕ) × (error ≡ error_in text tokens cause token) × StopsFor rule text tokens at cause token

@@ -7,6 +7,6 @@ use Rattle.ms_text_grammar.specs.declared.symbols.Symbol.TheVariants as s
 use Rattle.ms_text_grammar.specs.Lines.{is_whole}
 use Rattle.ms_text_grammar.specs.Steps.{Rule, refuse, word}
 
--- the brace behind its blocks
+-- the brace after its blocks
 abbrev pub closed : Body → Rule (List Block)
 closed body = cond (is_whole body) (word s.CloseBrace >> give body.blocks) refuse

@@ -1,4 +1,4 @@
--- Functions and declarations behind what was read of them.
+-- Functions and declarations after what was read of them.
 use Rattle.std.specs.Prelude.{ℕ, false, List, Option, map}
 use Rattle.ms_lex.specs.Grammar.{give, ◌>>=◌, ◌>>◌}
 use Rattle.ms_ir.specs.declared.syntax.Name.{Name}
@@ -18,22 +18,22 @@ use Rattle.ms_text_grammar.specs.Skipped.{attributes}
 use Rattle.ms_text_grammar.specs.Steps.{Rule, word}
 use Rattle.ms_text_grammar.specs.Types.{result_type}
 
--- a parameter behind its attributes
+-- a parameter after its attributes
 abbrev pub named_parameter : Form → Parameters → Ty → Rule Parameters
 named_parameter form ps type = parameter_name form ps.next >>= λ n. give (with_parameter ps type n)
 
--- the types of the parameters of a declaration, behind these
+-- the types of the parameters of a declaration, after these
 abbrev pub types_of : Form → Parameters → Rule (List Ty)
 types_of form ps = attributes form >> give (map (λ p. p.0) ps.found)
 
--- the types of the parameters of a declaration, behind its name
+-- the types of the parameters of a declaration, after its name
 abbrev pub types_behind : Form → Name → Rule (List Ty)
 types_behind form function = do
   word s.OpenParen
   ps ← parameters form (names_printf function)
   types_of form ps
 
--- a declaration behind its name
+-- a declaration after its name
 unfoldable pub declared : Form → Option Ty → Name → Rule Decl
 declared form result function = do
   word s.OpenParen
@@ -41,14 +41,14 @@ declared form result function = do
   attributes form
   give (record { name = function; ret = result; params = map (λ p. p.0) ps.found })
 
--- the blocks of a function behind its parameters
+-- the blocks of a function after its parameters
 abbrev pub blocks_behind : Form → ℕ → Parameters → Rule (List Block)
 blocks_behind form before ps = do
   function_tail form
   word s.OpenBrace
   blocks form (body_behind ps before)
 
--- a function behind its parameters
+-- a function after its parameters
 unfoldable pub bodied : Form → ℕ → Option Ty → Name → Parameters → Rule Func
 bodied form before result n ps = do
   function_tail form
@@ -56,7 +56,7 @@ bodied form before result n ps = do
   all ← blocks form (body_behind ps before)
   give (record { name = n; ret = result; params = ps.found; blocks = all })
 
--- a function behind its name
+-- a function after its name
 abbrev pub named : Form → ℕ → Option Ty → Name → Rule Func
 named form before result n = do
   word s.OpenParen
@@ -65,21 +65,21 @@ named form before result n = do
 
 -- ---- functions up to their blocks
 
--- behind the parameters, up to and with the brace in front of the blocks: a body in which no block has begun
+-- after the parameters, up to and with the brace in front of the blocks: a body in which no block has begun
 abbrev pub body_opened : Form → ℕ → Parameters → Rule Body
 body_opened form before ps = do
   function_tail form
   word s.OpenBrace
   give (body_behind ps before)
 
--- behind the name
+-- after the name
 abbrev pub parameters_opened : Form → ℕ → Rule Body
 parameters_opened form before = do
   word s.OpenParen
   ps ← parameters form false
   body_opened form before ps
 
--- behind `define`
+-- after `define`
 abbrev pub heading : Form → ℕ → Rule Body
 heading form before = do
   linkage form

@@ -10,7 +10,7 @@ use Rattle.ms_read_body.specs.declared.operation_rules.EffectOperation.TheVarian
 use Rattle.ms_read_body.specs.declared.operation_rules.ValueOperation.{ValueOperation}
 use Rattle.ms_read_body.specs.declared.operation_rules.ValueOperation.TheVariants as value
 
--- an operation with a result, behind its word
+-- an operation with a result, after its word
 abbrev pub value_rule : Form → ValueOperation → Rule Op
 value_rule form (value.Binary binary) = binary_rule form binary
 value_rule form (value.Cast cast) = cast_rule form cast

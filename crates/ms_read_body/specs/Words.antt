@@ -29,7 +29,7 @@ end_operation s.Ret = Some effect.Ret
 end_operation s.Unreachable = Some effect.Unreachable
 end_operation symbol = None
 
--- behind any other word
+-- after any other word
 abbrev pub further_instruction : Form → Body → Option Name → Symbol → Rule Body
 further_instruction form body result s.Phi = phi_line form body result
 further_instruction form body result s.Alloca = marked_line body result (alloca_rule form)

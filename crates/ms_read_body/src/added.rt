@@ -31,7 +31,7 @@ fn numbers_of(name: &Option<Name>) -> u32
     }
 }
 
-/// Adds an instruction to the open block, whose result has this name. The one error is want of memory.
+/// Adds an instruction to the open block, whose result has this name. The one error is running out of memory.
 fn add(
     alloc: Global,
     body: &mut Body,
@@ -52,7 +52,7 @@ fn add(
 }
 
 /// Adds an instruction that has a result, which takes its name, or else the next number. `phis` says whether a phi may come
-/// behind it. The one error is want of memory.
+/// after it. The one error is running out of memory.
 pub fn add_value(
     alloc: Global,
     body: &mut Body,
@@ -71,7 +71,7 @@ pub fn add_value(
     add(alloc, body, operation, Some(result))
 }
 
-/// Adds an instruction that has no result. The one error is want of memory.
+/// Adds an instruction that has no result. The one error is running out of memory.
 pub fn add_effect(
     alloc: Global,
     body: &mut Body,
@@ -84,7 +84,7 @@ pub fn add_effect(
     add(alloc, body, operation, None)
 }
 
-/// Ends the open block. The one error is want of memory.
+/// Ends the open block. The one error is running out of memory.
 fn end_block(alloc: Global, body: &mut Body) -> Result<(), NoMemory>
     ensures { IfOk result (λ _. body.new ≡ record body.old { blocks = body.old.blocks ++ record { name = spec.name_or body.old.name 0; insts = body.old.insts } ∷ []; name = None; insts = [] }) }
 {
@@ -95,7 +95,7 @@ fn end_block(alloc: Global, body: &mut Body) -> Result<(), NoMemory>
     push(alloc, &mut body.blocks, block)
 }
 
-/// Adds a terminator, which ends the block. The one error is want of memory.
+/// Adds a terminator, which ends the block. The one error is running out of memory.
 pub fn add_end(alloc: Global, body: &mut Body, operation: (Boxed<Op>, bool)) -> Result<(), NoMemory>
     requires { body.old.count + 1 < 2 ^ 32 }
     ensures { IfOk result (λ _. body.new ≡ spec.with_end body.old operation) }
@@ -114,7 +114,7 @@ fn is_void_call(op: &Op) -> bool
     }
 }
 
-/// Adds a call, which has a result unless its type is `void`. The one error is want of memory.
+/// Adds a call, which has a result unless its type is `void`. The one error is running out of memory.
 pub fn add_call(
     alloc: Global,
     body: &mut Body,

@@ -43,7 +43,7 @@ fn cursor_at<'a>(text: &'a [u8], tokens: &'a [Token], at: u32) -> Tokens<'a>
     Tokens::at(text, tokens, at as usize)
 }
 
-/// What a call answers where a reader gave this, and so many tokens are left behind it.
+/// What a call returns where a reader gave this, and so many tokens are left after it.
 fn answer<A: Drop>(
     text: &[u8],
     tokens: &[Token],
@@ -70,7 +70,7 @@ fn next_token(answer: Result<((), u32), ReadError>) -> Result<u32, ReadError>
     }
 }
 
-/// Reads `define` and the function behind it.
+/// Reads `define` and the function after it.
 #[tactic(auto, unfolding(ms_text_grammar::specs::Steps::word))]
 fn read_definition(
     alloc: Global,

@@ -17,7 +17,7 @@ pub enum What {
 /// Why a text isn't read.
 #[derive(Clone, Copy, Debug, PartialEq, Eq)]
 pub enum ReadError {
-    /// It has no tokens. The cause is never want of memory.
+    /// It has no tokens. The cause is never running out of memory.
     Lex(LexError),
     /// A token can't stand where it stands: 4 where the tokens through it begin no text of the grammar, 5 where it shows a
     /// construct that is left out besides, 6 where it passes a limit, 7 where a written number isn't the next one or is
@@ -31,7 +31,7 @@ pub enum ReadError {
         /// The byte at which the token begins, counted from 0. At the end of the text it is the text's length.
         place: u32,
     },
-    /// Memory was wanting.
+    /// Memory ran out.
     NoMemory,
 }
 

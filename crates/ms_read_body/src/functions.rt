@@ -17,7 +17,7 @@ use ms_read_values::{
 use ms_text_grammar::{Body, Cause, Parameters, Symbol};
 use std::alloc::Global;
 
-/// The types of parameters. The one error is want of memory.
+/// The types of parameters. The one error is running out of memory.
 fn types_of(alloc: Global, parameters: &List<(Ty, Name)>) -> Result<List<Ty>, NoMemory>
     ensures { IfOk result (λ types. types ≡ map (λ p. p.0) parameters.now) }
 {
@@ -29,7 +29,7 @@ fn types_of(alloc: Global, parameters: &List<(Ty, Name)>) -> Result<List<Ty>, No
     Ok(List::from_vec(types))
 }
 
-/// Reads the attributes behind the parameters of a declaration, and gives the types of these.
+/// Reads the attributes after the parameters of a declaration, and gives the types of these.
 fn types_of_read(
     alloc: Global,
     tokens: &mut Tokens<'_>,
@@ -42,7 +42,7 @@ fn types_of_read(
     Ok(types_of(alloc, &parameters.found)?)
 }
 
-/// Reads the parameters of a declaration behind its name, and the attributes behind them. Gives the types of the parameters.
+/// Reads the parameters of a declaration after its name, and the attributes after them. Gives the types of the parameters.
 fn types_behind(
     alloc: Global,
     tokens: &mut Tokens<'_>,
@@ -56,7 +56,7 @@ fn types_behind(
     types_of_read(alloc, tokens, form, &parameters)
 }
 
-/// Reads a declaration behind its name.
+/// Reads a declaration after its name.
 #[tactic(auto, using(crate::proofs::Headed::declared_reads, crate::proofs::Headed::declared_stops))]
 fn declared(
     alloc: Global,
@@ -75,7 +75,7 @@ fn declared(
     })
 }
 
-/// Reads a declaration behind `declare`.
+/// Reads a declaration after `declare`.
 ///
 /// # Errors
 ///
@@ -106,7 +106,7 @@ fn body_behind(alloc: Global, parameters: &Parameters, before: u32) -> Body
     }
 }
 
-/// Reads the blocks of a function behind its parameters, with the braces round them.
+/// Reads the blocks of a function after its parameters, with the braces round them.
 fn blocks_behind(
     alloc: Global,
     tokens: &mut Tokens<'_>,
@@ -122,7 +122,7 @@ fn blocks_behind(
     blocks(alloc, tokens, form, start)
 }
 
-/// Reads a function behind its parameters.
+/// Reads a function after its parameters.
 #[tactic(auto, using(crate::proofs::Headed::bodied_reads, crate::proofs::Headed::bodied_stops))]
 fn bodied(
     alloc: Global,
@@ -144,7 +144,7 @@ fn bodied(
     })
 }
 
-/// Reads a function behind its name.
+/// Reads a function after its name.
 fn named(
     alloc: Global,
     tokens: &mut Tokens<'_>,
@@ -160,7 +160,7 @@ fn named(
     bodied(alloc, tokens, form, before, ret, name, params)
 }
 
-/// Reads a function behind `define`, in front of which the text has so many instructions.
+/// Reads a function after `define`, in front of which the text has so many instructions.
 ///
 /// # Errors
 ///
@@ -197,7 +197,7 @@ fn body_opened(
     Ok(body_behind(alloc, parameters, before))
 }
 
-/// Reads a function behind its name up to its blocks.
+/// Reads a function after its name up to its blocks.
 fn parameters_opened(
     alloc: Global,
     tokens: &mut Tokens<'_>,
@@ -211,7 +211,7 @@ fn parameters_opened(
     body_opened(alloc, tokens, form, before, &params)
 }
 
-/// Reads a function behind `define` up to and with the brace in front of its blocks, and gives its body, in which no block
+/// Reads a function after `define` up to and with the brace in front of its blocks, and gives its body, in which no block
 /// has begun.
 ///
 /// # Errors

@@ -1,4 +1,4 @@
-//! Instructions behind their first word (LLVM Language Reference, "Instruction Reference").
+//! Instructions after their first word (LLVM Language Reference, "Instruction Reference").
 
 ghost use Rattle.std.specs.Prelude.{◌≡◌, ◌<◌, ◌+◌, ◌^◌};
 ghost use Rattle.ms_text_grammar.specs.Insts.{alloca_rule as alloca_piece, gep_rule as gep_piece};
@@ -69,7 +69,7 @@ fn gep_line(
     Ok(add_value(alloc, body, name, false, read)?)
 }
 
-/// A phi, behind which another may stand.
+/// A phi, after which another may stand.
 #[tactic(auto, unfolding(ms_text_grammar::specs::Lines::phi_line))]
 fn phi_line(
     alloc: Global,
@@ -163,7 +163,7 @@ fn end_operation(symbol: Symbol) -> Option<EffectOperation>
     }
 }
 
-/// An instruction behind a word that is none of the others.
+/// An instruction after a word that is none of the others.
 fn further_instruction(
     alloc: Global,
     tokens: &mut Tokens<'_>,
@@ -188,7 +188,7 @@ fn further_instruction(
     }
 }
 
-/// An instruction behind a word that names no binary operation and no cast.
+/// An instruction after a word that names no binary operation and no cast.
 #[tactic(auto, using(crate::proofs::Words::by_value, crate::proofs::Words::by_end, crate::proofs::Words::by_further))]
 fn instruction_by(
     alloc: Global,
@@ -211,7 +211,7 @@ fn instruction_by(
     }
 }
 
-/// Reads an instruction behind its first word, and adds it to the body. Its result takes this name, or else the next number.
+/// Reads an instruction after its first word, and adds it to the body. Its result takes this name, or else the next number.
 ///
 /// # Errors
 ///

@@ -18,7 +18,7 @@ use ms_text_grammar::{Body, Cause, Symbol};
 use std::alloc::Global;
 use std::mem;
 
-/// Whether a word may stand behind a result's name.
+/// Whether a word may stand after a result's name.
 fn gives_value(phis: bool, symbol: Symbol) -> bool
     ensures { result ≡ spec.gives_value phis symbol }
 {
@@ -29,7 +29,7 @@ fn gives_value(phis: bool, symbol: Symbol) -> bool
     }
 }
 
-/// The word behind a result's name, by its token.
+/// The word after a result's name, by its token.
 fn value_word_of(phis: bool, token: &Lexeme<'_>) -> Result<Symbol, Cause>
     ensures { Judges (spec.value_word_of phis token.now) result }
 {
@@ -41,7 +41,7 @@ fn value_word_of(phis: bool, token: &Lexeme<'_>) -> Result<Symbol, Cause>
     }
 }
 
-/// Begins the block of a label: of a name, or of the next number. The one error is want of memory.
+/// Begins the block of a label: of a name, or of the next number. The one error is running out of memory.
 fn label_line(alloc: Global, body: &mut Body, label: &Lexeme<'_>) -> Result<(), NoMemory>
     requires { body.old.next + 1 < 2 ^ 32 }
     ensures { IfOk result (λ _. body.new ≡ beginnings.labelled body.old label.now.symbol label.now) }
@@ -59,7 +59,7 @@ fn label_line(alloc: Global, body: &mut Body, label: &Lexeme<'_>) -> Result<(), 
     Ok(())
 }
 
-/// Reads a debug record behind its group, which stands in a block.
+/// Reads a debug record after its group, which stands in a block.
 #[tactic(auto, unfolding(ms_text_grammar::specs::Lines::record_line))]
 fn record_line(
     alloc: Global,
@@ -76,7 +76,7 @@ fn record_line(
     Ok(())
 }
 
-/// The name of a result, which a token is: a name, or the next number. The one error is want of memory.
+/// The name of a result, which a token is: a name, or the next number. The one error is running out of memory.
 fn result_name(alloc: Global, number: u32, token: &Lexeme<'_>) -> Result<Name, NoMemory>
     ensures { IfOk result (λ n. n ≡ beginnings.result_name number token.now.symbol token.now) }
 {
@@ -86,7 +86,7 @@ fn result_name(alloc: Global, number: u32, token: &Lexeme<'_>) -> Result<Name, N
     }
 }
 
-/// Reads an instruction behind its first word, whose result has the name that a token is.
+/// Reads an instruction after its first word, whose result has the name that a token is.
 fn named_instruction(
     alloc: Global,
     tokens: &mut Tokens<'_>,
@@ -103,7 +103,7 @@ fn named_instruction(
     instruction(alloc, tokens, form, body, &mut Some(name), symbol)
 }
 
-/// Reads an instruction behind its result's name, which is a token, in a block.
+/// Reads an instruction after its result's name, which is a token, in a block.
 #[tactic(auto, unfolding(ms_text_grammar::specs::Lines::named_line))]
 fn named_line(
     alloc: Global,
@@ -123,7 +123,7 @@ fn named_line(
     named_instruction(alloc, tokens, form, body, name, symbol)
 }
 
-/// Reads an instruction behind its first word, in a block, where no name stands in front of it.
+/// Reads an instruction after its first word, in a block, where no name stands in front of it.
 fn unnamed_line(
     alloc: Global,
     tokens: &mut Tokens<'_>,
@@ -139,7 +139,7 @@ fn unnamed_line(
     instruction(alloc, tokens, form, body, &mut None, symbol)
 }
 
-/// Reads a line behind its first token, and adds it to the body.
+/// Reads a line after its first token, and adds it to the body.
 #[tactic(auto, unfolding(ms_text_grammar::specs::Lines::line))]
 pub fn line(
     alloc: Global,
@@ -193,7 +193,7 @@ impl Turn for EachLine {
     }
 }
 
-/// Takes the brace behind the blocks of a body, where one stands and none is open, and gives the blocks.
+/// Takes the brace after the blocks of a body, where one stands and none is open, and gives the blocks.
 fn closed(alloc: Global, tokens: &mut Tokens<'_>, body: &mut Body) -> Result<List<Block>, Cause>
     ensures { Gives (run (closed_piece body.old) tokens.old) result tokens.new }
 {
@@ -204,7 +204,7 @@ fn closed(alloc: Global, tokens: &mut Tokens<'_>, body: &mut Body) -> Result<Lis
     Ok(mem::replace(&mut body.blocks, List::from_vec(Vec::new(alloc))))
 }
 
-/// Reads the blocks of a function behind `{`, up to and with `}`, from a body that none has begun in.
+/// Reads the blocks of a function after `{`, up to and with `}`, from a body that none has begun in.
 ///
 /// # Errors
 ///

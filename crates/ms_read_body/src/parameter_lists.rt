@@ -83,7 +83,7 @@ fn parameter_name(
     }
 }
 
-/// The next number behind a parameter.
+/// The next number after a parameter.
 fn next_behind(name: &Name, next: u32) -> u32
     requires { next < 100 }
     ensures { result ≡ spec.next_behind name.now next }
@@ -94,7 +94,7 @@ fn next_behind(name: &Name, next: u32) -> u32
     }
 }
 
-/// Adds a parameter. The one error is want of memory.
+/// Adds a parameter. The one error is running out of memory.
 fn add(
     alloc: Global,
     parameters: &mut Parameters,
@@ -183,7 +183,7 @@ fn parameter(
     typed_parameter(alloc, tokens, form, parameters)
 }
 
-/// Parameter after parameter; nothing stands behind the dots.
+/// Parameter after parameter; nothing stands after the dots.
 #[derive(Clone, Copy)]
 struct EachParameter {
     form: Form,
@@ -216,7 +216,7 @@ impl Series for EachParameter {
     }
 }
 
-/// Reads the parameters behind `(`, up to and with `)`. Its errors are those of `parameter`.
+/// Reads the parameters after `(`, up to and with `)`. Its errors are those of `parameter`.
 #[tactic(auto, unfolding(ms_text_grammar::specs::Functions::parameters))]
 pub fn parameters(
     alloc: Global,

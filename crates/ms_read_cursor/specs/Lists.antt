@@ -1,9 +1,9 @@
--- Lists behind their first item.
+-- Lists after their first item.
 use Rattle.std.specs.Prelude.{Bool, true, List}
 use Rattle.ms_lex.specs.Grammar.{loop}
 use Rattle.ms_text_grammar.specs.Steps.{Rule, comma_begins, with_item}
 
--- further items behind commas
+-- further items after commas
 unfoldable pub further : {S : Type 0} → (S → Bool) → (S → Rule S) → S → Rule S
 further more item state = loop (comma_begins more) (λ state comma. item state) state
 

@@ -86,7 +86,7 @@ impl<'a> Lexeme<'a> {
         same_symbol(self.symbol, symbol)
     }
 
-    /// The name that it spells, decoded and without its sign. The one error is want of memory.
+    /// The name that it spells, decoded and without its sign. The one error is running out of memory.
     #[tactic(auto, unfolding(ms_lex::specs::Names::name_of))]
     pub fn name(&self, alloc: Global) -> Result<Bytes, NoMemory>
         ensures { IfOk result (λ name. name ≡ spec.name_in self.now) }
@@ -131,7 +131,7 @@ impl<'a> Lexeme<'a> {
         }
     }
 
-    /// Its bytes behind the first one.
+    /// Its bytes after the first one.
     fn behind_sign(&self) -> &'a [u8]
         ensures { result.now ≡ drop 1 self.now.spelling }
     {

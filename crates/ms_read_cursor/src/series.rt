@@ -36,7 +36,7 @@ pub trait Series {
         ensures { Gives (run (item self.now state) tokens.old) result tokens.new };
 }
 
-/// Reads further items behind commas, as long as one may come.
+/// Reads further items after commas, as long as one may come.
 #[tactic(auto, using(crate::proofs::Further::more_goes, crate::proofs::Further::more_stops, crate::proofs::Further::more_ends, crate::proofs::Further::no_more, crate::proofs::Further::turn_shorter))]
 fn further<S: Series>(
     alloc: Global,

@@ -26,7 +26,7 @@ pub trait Turn {
     fn goes_on(&self, alloc: Global, state: &Self::State, first: &Lexeme<'_>) -> Result<bool, Cause>
         ensures { Judges (begins self.now state.now first.now) result };
 
-    /// Reads the rest of a turn, behind its first token.
+    /// Reads the rest of a turn, after its first token.
     fn turn(
         &self,
         alloc: Global,

@@ -1,4 +1,4 @@
--- The rests of operations, behind the parts that were read.
+-- The rests of operations, after the parts that were read.
 use Rattle.std.specs.Prelude.{ℕ, List, [], ◌∷◌, ◌++◌, Option}
 use Rattle.ms_bits.specs.declared.operations.CastOp.{CastOp}
 use Rattle.ms_bits.specs.declared.operations.Flags.{Flags}
@@ -114,7 +114,7 @@ edge_end form v = do
   word s.CloseBracket
   give (v, from)
 
--- more edges behind commas, and suffixes
+-- more edges after commas, and suffixes
 abbrev pub phi_rest : Form → Ty → Edges → Rule Marked
 phi_rest form t first = do
   edges ← loop edge_begins (λ edges comma. edge_turn form t edges.found) first
@@ -173,7 +173,7 @@ argument_rest form t found = do
   v ← value form t
   give (found ++ (t, v) ∷ [])
 
--- what stands behind the arguments
+-- what stands after the arguments
 abbrev pub call_marked : Form → Option Ty → Name → List (Ty × Operand) → Rule Marked
 call_marked form result function args = do
   marked ← call_end form
@@ -189,7 +189,7 @@ call_callee form result = do
   marked ← call_end form
   give (op.Call result function args, marked)
 
--- arguments, and what stands behind them
+-- arguments, and what stands after them
 abbrev pub call_rest : Form → Option Ty → Name → Rule Marked
 call_rest form result function = do
   args ← arguments form (names_printf function)

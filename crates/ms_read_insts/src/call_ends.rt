@@ -1,4 +1,4 @@
-//! What stands behind the arguments of a call: attributes, perhaps a debug record, and what is attached.
+//! What stands after the arguments of a call: attributes, perhaps a debug record, and what is attached.
 
 ghost use Rattle.std.specs.Prelude.{◌≡◌};
 ghost use Rattle.ms_text_grammar.specs.Insts as spec;
@@ -10,7 +10,7 @@ use ms_read_values::{attribute_rest, balanced, is_attribute, suffixes_from};
 use ms_text_grammar::{Cause, Outside, Symbol};
 use std::alloc::Global;
 
-/// Reads on behind a debug group. It is a record where `(` is behind it, and else an attribute.
+/// Reads on after a debug group. It is a record where `(` is after it, and else an attribute.
 #[tactic(auto, unfolding(ms_text_grammar::specs::Insts::debug_rest))]
 fn debug_rest(alloc: Global, tokens: &mut Tokens<'_>, form: Form) -> Result<bool, Cause>
     ensures { Gives (run (spec.debug_rest form) tokens.old) result tokens.new }
@@ -23,7 +23,7 @@ fn debug_rest(alloc: Global, tokens: &mut Tokens<'_>, form: Form) -> Result<bool
     Ok(true)
 }
 
-/// Reads on behind the first token of an attribute or a record, and finds whether it is a record.
+/// Reads on after the first token of an attribute or a record, and finds whether it is a record.
 fn call_attribute(
     alloc: Global,
     tokens: &mut Tokens<'_>,
@@ -71,8 +71,8 @@ impl Turn for CallAttributes {
     }
 }
 
-/// Reads what stands behind the arguments of a call, and finds whether the mark is attached. A debug record ends the call:
-/// it is a line of its own, and so is what stands behind it.
+/// Reads what stands after the arguments of a call, and finds whether the mark is attached. A debug record ends the call:
+/// it is a line of its own, and so is what stands after it.
 ///
 /// # Errors
 ///

@@ -141,7 +141,7 @@ fn argument_type_of(counted: bool, before: usize, token: &Lexeme<'_>) -> Result<
     }
 }
 
-/// Takes the type of an argument behind those that were found.
+/// Takes the type of an argument after those that were found.
 fn argument_type(
     tokens: &mut Tokens<'_>,
     counted: bool,
@@ -155,7 +155,7 @@ fn argument_type(
     Ok(ty)
 }
 
-/// Reads attributes and a value behind the type of an argument.
+/// Reads attributes and a value after the type of an argument.
 fn argument_rest(
     alloc: Global,
     tokens: &mut Tokens<'_>,
@@ -170,7 +170,7 @@ fn argument_rest(
     Ok(with_last(found, (ty.ty(), operand.into_inner()))?)
 }
 
-/// Reads an argument behind those that were found.
+/// Reads an argument after those that were found.
 #[tactic(auto, unfolding(ms_text_grammar::specs::Insts::argument))]
 fn argument(
     alloc: Global,
@@ -230,7 +230,7 @@ fn arguments(
     listed(alloc, tokens, Symbol::CloseParen, &rule, none)
 }
 
-/// Takes `call` behind `tail`, `musttail` or `notail`.
+/// Takes `call` after `tail`, `musttail` or `notail`.
 fn call_word(tokens: &mut Tokens<'_>, first: Symbol) -> Result<(), Cause>
     ensures { Gives (run (spec.call_word first) tokens.old) result tokens.new }
 {
@@ -240,7 +240,7 @@ fn call_word(tokens: &mut Tokens<'_>, first: Symbol) -> Result<(), Cause>
     }
 }
 
-/// A call. The one error is want of memory.
+/// A call. The one error is running out of memory.
 fn call_of(
     alloc: Global,
     ret: Option<ValueType>,
@@ -259,7 +259,7 @@ fn call_of(
     )
 }
 
-/// Reads what stands behind the arguments of a call.
+/// Reads what stands after the arguments of a call.
 fn call_marked(
     alloc: Global,
     tokens: &mut Tokens<'_>,
@@ -274,7 +274,7 @@ fn call_marked(
     Ok((call_of(alloc, *ret, callee, args)?, marked))
 }
 
-/// Reads the arguments of a call behind `(`, and what stands behind them.
+/// Reads the arguments of a call after `(`, and what stands after them.
 fn call_rest(
     alloc: Global,
     tokens: &mut Tokens<'_>,
@@ -303,14 +303,14 @@ fn call_callee(
     call_rest(alloc, tokens, form, ret, callee)
 }
 
-/// Reads a call behind its first word, which is `call`, `tail`, `musttail` or `notail`, with what is attached. `named` says
+/// Reads a call after its first word, which is `call`, `tail`, `musttail` or `notail`, with what is attached. `named` says
 /// whether its result has a name. The second value is whether what is attached has the mark.
 ///
 /// # Errors
 ///
-/// `Outside(FunctionType)` at the type of a callee other than `printf`, and at such a callee behind `(ptr, ...)`;
+/// `Outside(FunctionType)` at the type of a callee other than `printf`, and at such a callee after `(ptr, ...)`;
 /// `Outside(CallOfMain)` at `@main`; `Outside(IndirectCall)` at a local in the callee's place; `Limit(Parameters)` at the
-/// type of the 101st argument of `printf`; `Outside(OperandBundle)` at `[` behind the arguments; and those of its parts.
+/// type of the 101st argument of `printf`; `Outside(OperandBundle)` at `[` after the arguments; and those of its parts.
 #[tactic(auto, unfolding(ms_text_grammar::specs::Insts::call_rule))]
 pub fn call_rule(
     alloc: Global,

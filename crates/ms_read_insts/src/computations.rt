@@ -24,7 +24,7 @@ enum OnTwo {
 }
 
 impl OnTwo {
-    /// The operation on these operands. The one error is want of memory.
+    /// The operation on these operands. The one error is running out of memory.
     fn of(
         self,
         alloc: Global,
@@ -59,7 +59,7 @@ impl OnTwo {
     }
 }
 
-/// Reads `, b` behind the first operand.
+/// Reads `, b` after the first operand.
 fn second_operand(
     alloc: Global,
     tokens: &mut Tokens<'_>,
@@ -75,7 +75,7 @@ fn second_operand(
     Ok(operation.of(alloc, ty, a, b)?)
 }
 
-/// Reads `a, b` behind their type.
+/// Reads `a, b` after their type.
 fn two_operands(
     alloc: Global,
     tokens: &mut Tokens<'_>,
@@ -89,7 +89,7 @@ fn two_operands(
     second_operand(alloc, tokens, form, operation, ty, a)
 }
 
-/// Reads a binary operation behind its word: `flags iN a, b`.
+/// Reads a binary operation after its word: `flags iN a, b`.
 ///
 /// # Errors
 ///
@@ -142,7 +142,7 @@ fn predicate_word(tokens: &mut Tokens<'_>) -> Result<Pred, Cause>
     }
 }
 
-/// Reads an `icmp` behind its word: `samesign` or nothing, a predicate, and `type a, b`.
+/// Reads an `icmp` after its word: `samesign` or nothing, a predicate, and `type a, b`.
 ///
 /// # Errors
 ///
@@ -157,7 +157,7 @@ pub fn compare_rule(alloc: Global, tokens: &mut Tokens<'_>, form: Form) -> Resul
     two_operands(alloc, tokens, form, OnTwo::Compare(pred, flags), ty)
 }
 
-/// A cast. The one error is want of memory.
+/// A cast. The one error is running out of memory.
 fn cast_of(
     alloc: Global,
     op: CastOp,
@@ -180,7 +180,7 @@ fn cast_of(
     )
 }
 
-/// Reads `to type` behind the operand of a cast.
+/// Reads `to type` after the operand of a cast.
 fn cast_end(
     alloc: Global,
     tokens: &mut Tokens<'_>,
@@ -196,7 +196,7 @@ fn cast_end(
     Ok(cast_of(alloc, op, flags, from, a, to)?)
 }
 
-/// Reads `a to type` behind the type of `a`.
+/// Reads `a to type` after the type of `a`.
 fn cast_rest(
     alloc: Global,
     tokens: &mut Tokens<'_>,
@@ -211,7 +211,7 @@ fn cast_rest(
     cast_end(alloc, tokens, op, flags, from, a)
 }
 
-/// Reads a cast behind its word: `flags type a to type`.
+/// Reads a cast after its word: `flags type a to type`.
 ///
 /// # Errors
 ///
@@ -281,7 +281,7 @@ fn same_type(tokens: &mut Tokens<'_>, ty: ValueType) -> Result<(), Cause>
     Ok(())
 }
 
-/// A `select`. The one error is want of memory.
+/// A `select`. The one error is running out of memory.
 fn select_of(
     alloc: Global,
     cond: Boxed<Operand>,
@@ -302,7 +302,7 @@ fn select_of(
     )
 }
 
-/// Reads the second value behind its type.
+/// Reads the second value after its type.
 fn select_last(
     alloc: Global,
     tokens: &mut Tokens<'_>,
@@ -317,7 +317,7 @@ fn select_last(
     Ok(select_of(alloc, cond, ty, a, b)?)
 }
 
-/// Reads `, type b` behind the first value.
+/// Reads `, type b` after the first value.
 fn select_end(
     alloc: Global,
     tokens: &mut Tokens<'_>,
@@ -333,7 +333,7 @@ fn select_end(
     select_last(alloc, tokens, form, cond, ty, a)
 }
 
-/// Reads `type a, type b` behind the condition.
+/// Reads `type a, type b` after the condition.
 fn select_rest(
     alloc: Global,
     tokens: &mut Tokens<'_>,
@@ -347,7 +347,7 @@ fn select_rest(
     select_end(alloc, tokens, form, cond, ty, a)
 }
 
-/// Reads a `select` behind its word: `i1 condition, type a, type b`, with one type twice.
+/// Reads a `select` after its word: `i1 condition, type a, type b`, with one type twice.
 ///
 /// # Errors
 ///
@@ -362,7 +362,7 @@ pub fn select_rule(alloc: Global, tokens: &mut Tokens<'_>, form: Form) -> Result
     select_rest(alloc, tokens, form, cond)
 }
 
-/// Reads a `freeze` behind its word: `type a`.
+/// Reads a `freeze` after its word: `type a`.
 ///
 /// # Errors
 ///

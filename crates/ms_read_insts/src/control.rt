@@ -29,7 +29,7 @@ fn edge_end(
     Ok((operand, from))
 }
 
-/// Reads an edge of a phi behind its `[`.
+/// Reads an edge of a phi after its `[`.
 #[tactic(auto, unfolding(ms_text_grammar::specs::Insts::edge))]
 fn edge(
     alloc: Global,
@@ -44,7 +44,7 @@ fn edge(
     edge_end(alloc, tokens, form, operand)
 }
 
-/// The state behind one edge more.
+/// The state after one edge more.
 fn with_edge(found: List<(Operand, Name)>, edge: (Boxed<Operand>, Name)) -> Result<Edges, NoMemory>
     ensures { IfOk result (λ edges. edges ≡ record { found = found ++ edge ∷ []; ended = false }) }
 {
@@ -56,7 +56,7 @@ fn with_edge(found: List<(Operand, Name)>, edge: (Boxed<Operand>, Name)) -> Resu
     })
 }
 
-/// Reads an edge behind its comma, or finds that what is attached begins.
+/// Reads an edge after its comma, or finds that what is attached begins.
 #[tactic(auto, unfolding(ms_text_grammar::specs::Insts::edge_turn))]
 fn edge_turn(
     alloc: Global,
@@ -108,21 +108,21 @@ impl Turn for EdgeTurn {
     }
 }
 
-/// The state behind the first edge.
+/// The state after the first edge.
 fn first_edges(alloc: Global, first: (Boxed<Operand>, Name)) -> Result<Edges, NoMemory>
     ensures { IfOk result (λ edges. edges ≡ record { found = first ∷ []; ended = false }) }
 {
     with_edge(List::from_vec(Vec::new(alloc)), first)
 }
 
-/// A phi. The one error is want of memory.
+/// A phi. The one error is running out of memory.
 fn phi_of(alloc: Global, ty: ValueType, edges: List<(Operand, Name)>) -> Result<Boxed<Op>, NoMemory>
     ensures { IfOk result (λ o. o ≡ operation.Phi ty edges) }
 {
     Boxed::new(alloc, Op::Phi { ty: ty.ty(), edges })
 }
 
-/// Reads the edges behind the first one, and what is attached.
+/// Reads the edges after the first one, and what is attached.
 fn phi_rest(
     alloc: Global,
     tokens: &mut Tokens<'_>,
@@ -137,7 +137,7 @@ fn phi_rest(
     Ok((phi_of(alloc, ty, found)?, marked))
 }
 
-/// Reads a phi behind its word: `type [value, local]`, more edges behind commas, and what is attached. The second value is
+/// Reads a phi after its word: `type [value, local]`, more edges after commas, and what is attached. The second value is
 /// whether that has the mark.
 ///
 /// # Errors
@@ -166,7 +166,7 @@ fn target(alloc: Global, tokens: &mut Tokens<'_>, form: Form) -> Result<Name, Ca
     local(alloc, tokens, form)
 }
 
-/// A `br` on a condition. The one error is want of memory.
+/// A `br` on a condition. The one error is running out of memory.
 fn branch_of(
     alloc: Global,
     cond: Boxed<Operand>,
@@ -185,7 +185,7 @@ fn branch_of(
     )
 }
 
-/// Reads `, label %no` behind the first target.
+/// Reads `, label %no` after the first target.
 fn branch_end(
     alloc: Global,
     tokens: &mut Tokens<'_>,
@@ -200,7 +200,7 @@ fn branch_end(
     Ok(branch_of(alloc, cond, yes, no)?)
 }
 
-/// Reads `, label %yes, label %no` behind the condition.
+/// Reads `, label %yes, label %no` after the condition.
 fn branch_rest(
     alloc: Global,
     tokens: &mut Tokens<'_>,
@@ -224,7 +224,7 @@ fn branch_on(alloc: Global, tokens: &mut Tokens<'_>, form: Form) -> Result<Boxed
     branch_rest(alloc, tokens, form, cond)
 }
 
-/// Reads a `br` behind its word: `label %to`, or `i1 condition, label %yes, label %no`.
+/// Reads a `br` after its word: `label %to`, or `i1 condition, label %yes, label %no`.
 ///
 /// # Errors
 ///
@@ -240,7 +240,7 @@ pub fn branch_rule(alloc: Global, tokens: &mut Tokens<'_>, form: Form) -> Result
     Ok(Boxed::new(alloc, Op::Br { to })?)
 }
 
-/// Reads `, label %to` behind the number of a case.
+/// Reads `, label %to` after the number of a case.
 fn case_end(
     alloc: Global,
     tokens: &mut Tokens<'_>,
@@ -255,7 +255,7 @@ fn case_end(
     Ok(with_last(found, (n, to))?)
 }
 
-/// Reads a case of a `switch` behind its type.
+/// Reads a case of a `switch` after its type.
 #[tactic(auto, unfolding(ms_text_grammar::specs::Insts::case_rest))]
 fn case_rest(
     alloc: Global,
@@ -308,7 +308,7 @@ impl Turn for CaseTurn {
     }
 }
 
-/// A `switch` on a value of this width. The one error is want of memory.
+/// A `switch` on a value of this width. The one error is running out of memory.
 fn switch_of(
     alloc: Global,
     width: u8,
@@ -329,7 +329,7 @@ fn switch_of(
     )
 }
 
-/// Reads `]` behind the cases of a `switch`.
+/// Reads `]` after the cases of a `switch`.
 fn switch_last(
     alloc: Global,
     tokens: &mut Tokens<'_>,
@@ -377,7 +377,7 @@ fn switch_rest(
     switch_end(alloc, tokens, form, width, value, other)
 }
 
-/// Reads a `switch` behind its word: `iN value, label %other [iN number, label %to ..]`.
+/// Reads a `switch` after its word: `iN value, label %other [iN number, label %to ..]`.
 ///
 /// # Errors
 ///
@@ -392,7 +392,7 @@ pub fn switch_rule(alloc: Global, tokens: &mut Tokens<'_>, form: Form) -> Result
     switch_rest(alloc, tokens, form, width, value)
 }
 
-/// A `ret` of a value. The one error is want of memory.
+/// A `ret` of a value. The one error is running out of memory.
 fn ret_of(alloc: Global, ty: ValueType, value: Boxed<Operand>) -> Result<Boxed<Op>, NoMemory>
     ensures { IfOk result (λ o. o ≡ operation.Ret (Some (ty, value))) }
 {
@@ -404,7 +404,7 @@ fn ret_of(alloc: Global, ty: ValueType, value: Boxed<Operand>) -> Result<Boxed<O
     )
 }
 
-/// Reads a `ret` behind its word: `void`, or `type value`.
+/// Reads a `ret` after its word: `void`, or `type value`.
 ///
 /// # Errors
 ///

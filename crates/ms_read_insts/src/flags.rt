@@ -125,7 +125,7 @@ impl Turn for FlagTurn {
     }
 }
 
-/// The flags behind the word of an operation: those that it may carry, each at most once and in any order. Another word
+/// The flags after the word of an operation: those that it may carry, each at most once and in any order. Another word
 /// ends them, also a flag that was read.
 ///
 /// # Errors

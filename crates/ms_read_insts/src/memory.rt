@@ -20,7 +20,7 @@ use std::alloc::Global;
 /// How many arrays and structs may be open at once.
 const MAX_DEPTH: u8 = 32;
 
-/// Takes `ptr` and an address behind a comma.
+/// Takes `ptr` and an address after a comma.
 #[tactic(auto, unfolding(ms_text_grammar::specs::Insts::address))]
 fn address(alloc: Global, tokens: &mut Tokens<'_>, form: Form) -> Result<Boxed<Operand>, Cause>
     ensures { Gives (run (spec.address form) tokens.old) result tokens.new }
@@ -30,7 +30,7 @@ fn address(alloc: Global, tokens: &mut Tokens<'_>, form: Form) -> Result<Boxed<O
     value(alloc, tokens, form, ValueType::ptr())
 }
 
-/// Reads a `load` behind its word: `type, ptr address`.
+/// Reads a `load` after its word: `type, ptr address`.
 ///
 /// # Errors
 ///
@@ -48,7 +48,7 @@ pub fn load_rule(alloc: Global, tokens: &mut Tokens<'_>, form: Form) -> Result<B
     Ok(Boxed::new(alloc, read)?)
 }
 
-/// A `store`. The one error is want of memory.
+/// A `store`. The one error is running out of memory.
 fn store_of(
     alloc: Global,
     ty: ValueType,
@@ -67,7 +67,7 @@ fn store_of(
     )
 }
 
-/// Reads a `store` behind its word: `type value, ptr address`.
+/// Reads a `store` after its word: `type value, ptr address`.
 ///
 /// # Errors
 ///
@@ -101,7 +101,7 @@ fn index_width(tokens: &mut Tokens<'_>, before: usize) -> Result<u8, Cause>
     Ok(width)
 }
 
-/// The indices with one more behind them. The one error is want of memory.
+/// The indices with one more after them. The one error is running out of memory.
 fn with_index(
     found: List<(Ty, Operand)>,
     ty: ValueType,
@@ -130,7 +130,7 @@ fn index(
     Ok(with_index(found, ty, operand)?)
 }
 
-/// Reads an index behind its comma, or finds that what is attached begins.
+/// Reads an index after its comma, or finds that what is attached begins.
 #[tactic(auto, unfolding(ms_text_grammar::specs::Insts::index_turn))]
 fn index_turn(
     alloc: Global,
@@ -176,7 +176,7 @@ impl Turn for IndexTurn {
     }
 }
 
-/// A `getelementptr`. The one error is want of memory.
+/// A `getelementptr`. The one error is running out of memory.
 fn step_of(
     alloc: Global,
     ty: Boxed<Ty>,
@@ -195,7 +195,7 @@ fn step_of(
     )
 }
 
-/// Reads what is attached behind the indices.
+/// Reads what is attached after the indices.
 fn step_end(
     alloc: Global,
     tokens: &mut Tokens<'_>,
@@ -211,7 +211,7 @@ fn step_end(
     Ok((step_of(alloc, ty, base, found)?, marked))
 }
 
-/// Reads the indices behind the base, and what is attached.
+/// Reads the indices after the base, and what is attached.
 fn step_rest(
     alloc: Global,
     tokens: &mut Tokens<'_>,
@@ -225,7 +225,7 @@ fn step_rest(
     step_end(alloc, tokens, form, ty, base, indices)
 }
 
-/// Reads a `getelementptr` behind its word: `inbounds` and the like, `type, ptr base`, `, iN index` as many as come, and
+/// Reads a `getelementptr` after its word: `inbounds` and the like, `type, ptr base`, `, iN index` as many as come, and
 /// what is attached. The second value is whether that has the mark.
 ///
 /// # Errors
@@ -275,7 +275,7 @@ impl Turn for CountTurn {
     }
 }
 
-/// An `alloca` of one item, which is counted by an `i32`. The one error is want of memory.
+/// An `alloca` of one item, which is counted by an `i32`. The one error is running out of memory.
 fn alloca_of_one(alloc: Global, ty: Boxed<Ty>) -> Result<Boxed<Op>, NoMemory>
     ensures { IfOk result (λ o. o ≡ spec.alloca_of ty []) }
 {
@@ -289,7 +289,7 @@ fn alloca_of_one(alloc: Global, ty: Boxed<Ty>) -> Result<Boxed<Op>, NoMemory>
     )
 }
 
-/// An `alloca` with this count and its type. The one error is want of memory.
+/// An `alloca` with this count and its type. The one error is running out of memory.
 fn alloca_counted(
     alloc: Global,
     ty: Boxed<Ty>,
@@ -308,7 +308,7 @@ fn alloca_counted(
     )
 }
 
-/// An `alloca` with the count that was written, or else with `i32 1`. At most one count is found. The one error is want of
+/// An `alloca` with the count that was written, or else with `i32 1`. At most one count is found. The one error is running out of
 /// memory.
 fn alloca_of(
     alloc: Global,
@@ -324,7 +324,7 @@ fn alloca_of(
     alloca_counted(alloc, ty, counts.swap_remove(0))
 }
 
-/// Reads what is attached behind the count.
+/// Reads what is attached after the count.
 fn alloca_end(
     alloc: Global,
     tokens: &mut Tokens<'_>,
@@ -339,7 +339,7 @@ fn alloca_end(
     Ok((alloca_of(alloc, ty, found)?, marked))
 }
 
-/// Reads the count behind the type, where one comes, and what is attached.
+/// Reads the count after the type, where one comes, and what is attached.
 fn alloca_rest(
     alloc: Global,
     tokens: &mut Tokens<'_>,
@@ -352,7 +352,7 @@ fn alloca_rest(
     alloca_end(alloc, tokens, form, ty, count)
 }
 
-/// Reads an `alloca` behind its word: `type` and perhaps `, iN count`, and what is attached. The second value is whether
+/// Reads an `alloca` after its word: `type` and perhaps `, iN count`, and what is attached. The second value is whether
 /// that has the mark.
 ///
 /// # Errors

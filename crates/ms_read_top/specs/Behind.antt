@@ -1,4 +1,4 @@
--- Parts of entities behind what was read of them.
+-- Parts of entities after what was read of them.
 use Rattle.ms_lex.specs.Grammar.{give, look, ◌>>=◌, ◌>>◌}
 use Rattle.ms_ir.specs.declared.syntax.Module.{Module}
 use Rattle.ms_ir.specs.declared.syntax.Name.{Name}
@@ -11,11 +11,11 @@ use Rattle.ms_text_grammar.specs.Modules.{attribute_group, end_of, source_filena
 use Rattle.ms_text_grammar.specs.Steps.{Rule}
 use Rattle.ms_text_grammar.specs.Types.{struct_type}
 
--- a named type behind `type`
+-- a named type after `type`
 abbrev pub named_struct : Form → Name → Rule (Name × Ty)
 named_struct form n = struct_type form >>= λ t. give (n, t)
 
--- what says nothing of a module's values, behind its word: its source, its target or a group of attributes
+-- what says nothing of a module's values, after its word: its source, its target or a group of attributes
 abbrev pub heading : Form → Symbol → Rule (Unit {0})
 heading form s.SourceFilename = source_filename
 heading form s.Target = target_entity

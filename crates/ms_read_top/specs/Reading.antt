@@ -22,14 +22,14 @@ pub record IsTextRefused (form : Form) (text : Text) (number : ℕ) (what : What
   pub named : what ≡ what_of cause
   pub begins : (tokens : List Token) → HasTokens form text tokens → place ≡ place_in text tokens token
 
--- what an answer says is so; want of memory says nothing
+-- what an answer says is so; running out of memory says nothing
 abbrev pub IsReading : Form → Text → Result Module ReadError → Type 0
 IsReading form text (Ok m) = Reads form text m
 IsReading form text (Err (e.Lex cause)) = (tokens_of text (max_tokens form) ≡ Err cause) × (cause ≢ lex.NoMemory)
 IsReading form text (Err (e.Refused number what token place)) = IsTextRefused form text number what token place
 IsReading form text (Err e.NoMemory) = Unit {0}
 
--- the call answers this exactly where the fact holds, unless memory was wanting
+-- the call answers this exactly where the fact holds, unless memory ran out
 abbrev pub AnswersExactly : Result Module ReadError → Result Module ReadError → Type 0 → Type 0
 AnswersExactly result answer Fact = (result ≡ answer → Fact) × (Fact → (result ≡ answer) ⊎ (result ≡ Err e.NoMemory))
 

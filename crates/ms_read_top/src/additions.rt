@@ -9,21 +9,21 @@ use ms_read_cursor::push;
 use ms_text_grammar::Parts;
 use std::alloc::Global;
 
-/// Adds a named type. The one error is want of memory.
+/// Adds a named type. The one error is running out of memory.
 pub fn add_type(alloc: Global, parts: &mut Parts, ty: (Name, Ty)) -> Result<(), NoMemory>
     ensures { IfOk result (λ _. parts.new ≡ spec.with_type parts.old ty) }
 {
     push(alloc, &mut parts.module.types, ty)
 }
 
-/// Adds a global. The one error is want of memory.
+/// Adds a global. The one error is running out of memory.
 pub fn add_global(alloc: Global, parts: &mut Parts, global: GlobalVar) -> Result<(), NoMemory>
     ensures { IfOk result (λ _. parts.new ≡ spec.with_global parts.old global) }
 {
     push(alloc, &mut parts.module.globals, global)
 }
 
-/// Adds a declaration. The one error is want of memory.
+/// Adds a declaration. The one error is running out of memory.
 pub fn add_declaration(alloc: Global, parts: &mut Parts, declaration: Decl) -> Result<(), NoMemory>
     ensures { IfOk result (λ _. parts.new ≡ spec.with_declaration parts.old declaration) }
 {

@@ -12,7 +12,7 @@ use ms_read_cursor::{Lexeme, Tokens};
 use ms_text_grammar::{Cause, Parts, Symbol};
 use std::alloc::Global;
 
-/// Reads an entity behind its first token, with which it may begin, and adds it to the parts.
+/// Reads an entity after its first token, with which it may begin, and adds it to the parts.
 #[tactic(auto, unfolding(ms_text_grammar::specs::Modules::entity))]
 pub fn entity(
     alloc: Global,

@@ -14,7 +14,7 @@ const MAX_FUNCTIONS: usize = 16384;
 /// Globals of a module.
 const MAX_GLOBALS: usize = 16384;
 
-/// Whether there is room for one more function or declaration behind this module.
+/// Whether there is room for one more function or declaration after this module.
 fn room_for_function(before: &Module) -> Result<bool, Cause>
     ensures { Judges (spec.room_for_function before.now) result }
 {
@@ -27,7 +27,7 @@ fn room_for_function(before: &Module) -> Result<bool, Cause>
     }
 }
 
-/// Whether a global of the name that a token is may stand behind this module.
+/// Whether a global of the name that a token is may stand after this module.
 fn global_begins(
     alloc: Global,
     form: Form,

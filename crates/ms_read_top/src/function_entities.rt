@@ -29,7 +29,7 @@ fn instructions_of(blocks: &[Block]) -> u32
     count
 }
 
-/// Adds a function, with its instructions. The one error is want of memory.
+/// Adds a function, with its instructions. The one error is running out of memory.
 fn add_function(alloc: Global, parts: &mut Parts, found: Func) -> Result<(), NoMemory>
     requires { parts.old.count + spec.instructions_of found.blocks ≤ 2 ^ 22 }
     ensures { IfOk result (λ _. parts.new ≡ spec.with_function parts.old found) }
@@ -38,7 +38,7 @@ fn add_function(alloc: Global, parts: &mut Parts, found: Func) -> Result<(), NoM
     push(alloc, &mut parts.module.funcs, found)
 }
 
-/// Reads a function behind `define`, and adds it to the parts.
+/// Reads a function after `define`, and adds it to the parts.
 #[tactic(auto, using(crate::proofs::Few::function_few, crate::proofs::Few::most))]
 pub fn function_entity(
     alloc: Global,
@@ -54,7 +54,7 @@ pub fn function_entity(
     Ok(add_function(alloc, parts, found)?)
 }
 
-/// Reads a declaration behind `declare`, and adds it to the parts.
+/// Reads a declaration after `declare`, and adds it to the parts.
 pub fn declaration_entity(
     alloc: Global,
     tokens: &mut Tokens<'_>,

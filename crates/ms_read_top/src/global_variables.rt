@@ -59,7 +59,7 @@ fn global_kind_of(token: &Lexeme<'_>) -> Result<bool, Cause>
     }
 }
 
-/// Reads an alignment, a section or attached metadata, behind its comma.
+/// Reads an alignment, a section or attached metadata, after its comma.
 ///
 /// # Errors
 ///
@@ -85,7 +85,7 @@ pub fn global_suffix(tokens: &mut Tokens<'_>, form: Form) -> Result<(), Cause>
     }
 }
 
-/// What may stand behind a global, each behind its comma.
+/// What may stand after a global, each after its comma.
 #[derive(Clone, Copy)]
 struct EachSuffix {
     form: Form,
@@ -129,7 +129,7 @@ fn boxed_init(
     Ok(Boxed::new(alloc, init)?)
 }
 
-/// The global of the name that a token is. The one error is want of memory.
+/// The global of the name that a token is. The one error is running out of memory.
 fn global_of(
     alloc: Global,
     name: &Lexeme<'_>,
@@ -149,7 +149,7 @@ fn global_of(
     Boxed::new(alloc, found)
 }
 
-/// Reads what may stand behind the initial value of a global, and gives the global.
+/// Reads what may stand after the initial value of a global, and gives the global.
 fn suffixed_global(
     alloc: Global,
     tokens: &mut Tokens<'_>,
@@ -165,7 +165,7 @@ fn suffixed_global(
     Ok(global_of(alloc, name, constant, ty, init)?)
 }
 
-/// Reads a global behind `global` or `constant`.
+/// Reads a global after `global` or `constant`.
 fn typed_global(
     alloc: Global,
     tokens: &mut Tokens<'_>,
@@ -180,8 +180,8 @@ fn typed_global(
     suffixed_global(alloc, tokens, form, name, constant, ty, init)
 }
 
-/// Reads a global behind its name, which is a token: words of linkage, `global` or `constant`, its type, its initial value,
-/// and what may stand behind them.
+/// Reads a global after its name, which is a token: words of linkage, `global` or `constant`, its type, its initial value,
+/// and what may stand after them.
 ///
 /// # Errors
 ///

@@ -7,7 +7,7 @@ ghost use Rattle.ms_read_cursor.specs.Reading.{Gives, Judges, run};
 use ms_read_cursor::{Lexeme, Tokens};
 use ms_text_grammar::{Cause, Symbol};
 
-/// Reads `=` and a string, behind `source_filename`.
+/// Reads `=` and a string, after `source_filename`.
 ///
 /// # Errors
 ///
@@ -31,7 +31,7 @@ fn target_word_of(token: &Lexeme<'_>) -> Result<(), Cause>
     }
 }
 
-/// Reads `datalayout` or `triple`, `=` and a string, behind `target`.
+/// Reads `datalayout` or `triple`, `=` and a string, after `target`.
 ///
 /// # Errors
 ///

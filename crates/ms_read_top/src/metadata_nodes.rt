@@ -22,7 +22,7 @@ fn group_of(token: &Lexeme<'_>) -> Result<(), Cause>
     }
 }
 
-/// Reads a group, `=` and tokens in braces in which brackets match, behind `attributes`.
+/// Reads a group, `=` and tokens in braces in which brackets match, after `attributes`.
 ///
 /// # Errors
 ///
@@ -65,7 +65,7 @@ fn past_distinct(tokens: &mut Tokens<'_>)
     }
 }
 
-/// Reads `=` and a node of metadata, with or without `distinct` in front of it, behind a name of metadata.
+/// Reads `=` and a node of metadata, with or without `distinct` in front of it, after a name of metadata.
 ///
 /// # Errors
 ///

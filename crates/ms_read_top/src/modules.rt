@@ -74,7 +74,7 @@ fn ended(tokens: &Tokens<'_>, parts: Parts) -> Result<Module, Cause>
 /// # Errors
 ///
 /// At the first token that can't stand, by the number of its cause and in this order where two apply to one token: `Syntax`
-/// or `Outside`, `Reserved`, `Numbering`, `Limit`. Want of memory may come at any place.
+/// or `Outside`, `Reserved`, `Numbering`, `Limit`. Running out of memory may come at any place.
 #[tactic(auto, unfolding(ms_text_grammar::specs::Modules::module_rule))]
 pub fn whole_module(alloc: Global, tokens: &mut Tokens<'_>, form: Form) -> Result<Module, Cause>
     ensures { Gives (run (spec.module_rule form) tokens.old) result tokens.new }

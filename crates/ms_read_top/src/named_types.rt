@@ -11,7 +11,7 @@ use ms_read_values::struct_type;
 use ms_text_grammar::{Cause, Symbol};
 use std::alloc::Global;
 
-/// Reads the struct that a type of this name is, behind `type`.
+/// Reads the struct that a type of this name is, after `type`.
 fn named_struct(
     alloc: Global,
     tokens: &mut Tokens<'_>,
@@ -24,7 +24,7 @@ fn named_struct(
     Ok(Boxed::new(alloc, (name, ty))?)
 }
 
-/// Reads `=`, `type` and the struct that a type of this name is, behind the name.
+/// Reads `=`, `type` and the struct that a type of this name is, after the name.
 ///
 /// # Errors
 ///

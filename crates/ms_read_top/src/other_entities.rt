@@ -19,7 +19,7 @@ use ms_read_cursor::{Lexeme, Tokens, local_by};
 use ms_text_grammar::{Cause, Parts, Symbol};
 use std::alloc::Global;
 
-/// The name of a type that a token is, which may stand. The one error is want of memory.
+/// The name of a type that a token is, which may stand. The one error is running out of memory.
 #[tactic(auto, using(crate::proofs::Named::named, crate::proofs::Named::not_refused))]
 fn type_name(alloc: Global, form: Form, token: &Lexeme<'_>) -> Result<Name, Cause>
     requires { judge_map (λ n. true) (names.local_by form token.now.symbol token.now) ≡ Ok true }
@@ -28,7 +28,7 @@ fn type_name(alloc: Global, form: Form, token: &Lexeme<'_>) -> Result<Name, Caus
     local_by(alloc, form, token)
 }
 
-/// Reads a named type behind its name, which is a token, and adds it to the parts.
+/// Reads a named type after its name, which is a token, and adds it to the parts.
 fn type_entity(
     alloc: Global,
     tokens: &mut Tokens<'_>,
@@ -45,7 +45,7 @@ fn type_entity(
     Ok(add_type(alloc, parts, ty.into_inner())?)
 }
 
-/// Reads a global behind its name, which is a token, and adds it to the parts.
+/// Reads a global after its name, which is a token, and adds it to the parts.
 fn global_entity(
     alloc: Global,
     tokens: &mut Tokens<'_>,
@@ -60,7 +60,7 @@ fn global_entity(
     Ok(add_global(alloc, parts, global.into_inner())?)
 }
 
-/// Reads what says nothing of a module's values, behind its word: its source, its target or a group of attributes.
+/// Reads what says nothing of a module's values, after its word: its source, its target or a group of attributes.
 fn heading(alloc: Global, tokens: &mut Tokens<'_>, form: Form, word: Symbol) -> Result<(), Cause>
     ensures { Gives (run (behind.heading form word) tokens.old) result tokens.new }
 {
@@ -71,7 +71,7 @@ fn heading(alloc: Global, tokens: &mut Tokens<'_>, form: Form, word: Symbol) -> 
     }
 }
 
-/// Reads an entity that is neither a function nor a declaration, behind its first token, with which it may begin, and adds it
+/// Reads an entity that is neither a function nor a declaration, after its first token, with which it may begin, and adds it
 /// to the parts.
 ///
 /// # Errors

@@ -23,11 +23,11 @@ use std::alloc::Global;
 ///   shows a construct that is left out besides, 8 at a name or a mark that the form doesn't have, 7 at a written number
 ///   that isn't the next one or is above 2^32 - 1, and 6 where it passes a limit. Of two at one token the first of these is
 ///   answered.
-/// - `NoMemory` where memory was wanting.
+/// - `NoMemory` where memory ran out.
 #[tactic(auto, using(crate::proofs::Exactly::module_exactly, crate::proofs::Exactly::lex_exactly, crate::proofs::Exactly::refused_exactly, crate::proofs::Exactly::lexer_has_memory))]
 pub fn read(alloc: Global, text: &[u8], form: Form) -> Result<Module, ReadError>
     requires { length text.now ≤ max_bytes form }
-    // Each answer comes exactly where it is so, unless memory was wanting.
+    // Each answer comes exactly where it is so, unless memory ran out.
     ensures module { (m : Found) → AnswersExactly result (Ok m) (Reads form text.now m) }
     ensures lex { (cause : Cause) → AnswersExactly result (Err (ReadError.Lex cause)) (tokens_of text.now (max_tokens form) ≡ Err cause) }
     ensures refused { (number : ℕ) (what : What) (token place : ℕ) →

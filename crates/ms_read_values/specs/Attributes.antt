@@ -15,7 +15,7 @@ begins_among form Nothing = attribute_begins
 begins_among form Linkage = linkage_begins
 begins_among form Metadata = tail_begins form
 
--- behind its first token
+-- after its first token
 abbrev pub rest_among : Form → Among → Symbol → Rule (Unit {0})
 rest_among form Nothing symbol = attribute_rest form symbol
 rest_among form Linkage symbol = linkage_rest form symbol

@@ -1,4 +1,4 @@
--- The rests of types, values and suffixes, behind the parts that were read.
+-- The rests of types, values and suffixes, after the parts that were read.
 use Rattle.std.specs.Prelude.{ℕ, zero, suc, Bool, ◌||◌, List, [], ◌∷◌, ◌++◌}
 use Rattle.ms_lex.specs.Grammar.{give, ◌>>=◌, ◌>>◌}
 use Rattle.ms_ir.specs.declared.syntax.Ty.{Ty}
@@ -42,7 +42,7 @@ step_end t from = do
   word s.CloseParen
   give (from.0, (t, indices) ∷ from.1)
 
--- 'getelementptr' and what stands behind it, where so many may stand
+-- 'getelementptr' and what stands after it, where so many may stand
 abbrev pub inner_step : Form → ℕ → ℕ → Rule Address
 inner_step form depth zero = stop (r.Limit limit.Indices)
 inner_step form depth (suc within) = skip >> gep_from form depth (base_to form depth within)

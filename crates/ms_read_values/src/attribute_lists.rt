@@ -16,7 +16,7 @@ use std::alloc::Global;
 ///
 /// # Errors
 ///
-/// `Syntax` or `Outside` where no string is behind `=`.
+/// `Syntax` or `Outside` where no string is after `=`.
 #[tactic(auto, unfolding(ms_text_grammar::specs::Skipped::string_value))]
 pub fn string_value(tokens: &mut Tokens<'_>) -> Result<(), Cause>
     ensures { Gives (run spec.string_value tokens.old) result tokens.new }
@@ -28,7 +28,7 @@ pub fn string_value(tokens: &mut Tokens<'_>) -> Result<(), Cause>
     Ok(())
 }
 
-/// Reads what is behind the first token of an attribute, which is this symbol.
+/// Reads what is after the first token of an attribute, which is this symbol.
 ///
 /// # Errors
 ///
@@ -49,7 +49,7 @@ pub fn attribute_rest(
     }
 }
 
-/// Reads what is behind the first token of an attribute or a word of linkage, which is this symbol.
+/// Reads what is after the first token of an attribute or a word of linkage, which is this symbol.
 fn linkage_rest(
     alloc: Global,
     tokens: &mut Tokens<'_>,
@@ -64,7 +64,7 @@ fn linkage_rest(
     }
 }
 
-/// Reads what is behind the first token of an attribute or an attachment, which is this symbol.
+/// Reads what is after the first token of an attribute or an attachment, which is this symbol.
 fn tail_rest(
     alloc: Global,
     tokens: &mut Tokens<'_>,
@@ -85,7 +85,7 @@ enum Among {
     Nothing,
     /// Words of linkage, in front of a function's type.
     Linkage,
-    /// Attached metadata, behind a function's parameters.
+    /// Attached metadata, after a function's parameters.
     Metadata,
 }
 
@@ -154,7 +154,7 @@ pub fn linkage(alloc: Global, tokens: &mut Tokens<'_>, form: Form) -> Result<(),
     repeat(alloc, tokens, &OneAttribute { form, among }, ())
 }
 
-/// Reads the attributes and the attached metadata behind the parameters of a function, as many as come.
+/// Reads the attributes and the attached metadata after the parameters of a function, as many as come.
 ///
 /// # Errors
 ///

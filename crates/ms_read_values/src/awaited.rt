@@ -61,7 +61,7 @@ impl Awaited {
         }
     }
 
-    /// Goes past a token of this symbol. The one error is want of memory.
+    /// Goes past a token of this symbol. The one error is running out of memory.
     pub fn take(&mut self, symbol: Symbol) -> Result<(), AllocError>
         ensures { OnOk result (self.new ≡ spec.awaits self.old symbol) }
     {

@@ -117,7 +117,7 @@ fn packed_init(alloc: Global, tokens: &mut Tokens<'_>, form: Form, depth: u8) ->
     Ok(Init::Struct(true, all))
 }
 
-/// A type and the initialiser behind it.
+/// A type and the initialiser after it.
 #[cycle(inits)]
 #[tactic(auto, unfolding(crate::specs::Parts::part_of))]
 fn part(alloc: Global, tokens: &mut Tokens<'_>, form: Form, depth: u8) -> Result<(Ty, Init), Cause>
@@ -128,7 +128,7 @@ fn part(alloc: Global, tokens: &mut Tokens<'_>, form: Form, depth: u8) -> Result
     Ok((ty.into_inner(), init))
 }
 
-/// Reads further parts behind commas.
+/// Reads further parts after commas.
 #[cycle(inits)]
 #[tactic(auto, using(ms_read_cursor::proofs::ItemLoops::more_goes, ms_read_cursor::proofs::ItemLoops::more_stops, ms_read_cursor::proofs::ItemLoops::more_ends, ms_read_cursor::proofs::ItemLoops::turn_shorter))]
 fn more_parts(

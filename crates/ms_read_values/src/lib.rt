@@ -1,4 +1,4 @@
-//! Readers of types and values, and of what is read over: tokens between brackets, attributes, and metadata behind an
+//! Readers of types and values, and of what is read over: tokens between brackets, attributes, and metadata after an
 //! instruction. Each is proved exact against the piece of the grammar of its name; one that takes an allocator may also
 //! answer `NoMemory`.
 #![tactic(auto)]

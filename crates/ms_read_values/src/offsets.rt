@@ -22,7 +22,7 @@ fn is_gep_word(symbol: Symbol) -> bool
     matches!(symbol, Symbol::InBounds | Symbol::Nuw | Symbol::Nusw)
 }
 
-/// The words behind `getelementptr` that are read over.
+/// The words after `getelementptr` that are read over.
 struct StepWords;
 
 impl Turn for StepWords {
@@ -47,7 +47,7 @@ impl Turn for StepWords {
     }
 }
 
-/// Reads over the words that may stand behind `getelementptr`.
+/// Reads over the words that may stand after `getelementptr`.
 #[tactic(auto, unfolding(ms_text_grammar::specs::Values::gep_words))]
 pub fn gep_words(alloc: Global, tokens: &mut Tokens<'_>) -> Result<(), Cause>
     ensures { Gives (run spec.gep_words tokens.old) result tokens.new }
@@ -95,7 +95,7 @@ fn constant_index(tokens: &mut Tokens<'_>, found: List<(Ty, u64)>) -> Result<Lis
     index_rest(tokens, width, found)
 }
 
-/// The indices, each behind a comma.
+/// The indices, each after a comma.
 struct ConstantIndices;
 
 impl Turn for ConstantIndices {
@@ -136,7 +136,7 @@ fn constant_indices(alloc: Global, tokens: &mut Tokens<'_>) -> Result<List<(Ty, 
 /// A global, and the steps that lead on from it, the outermost first.
 type Stepped = (Boxed<Name>, List<(Ty, List<(Ty, u64)>)>);
 
-/// An address with one step more around the others. The one error is want of memory.
+/// An address with one step more around the others. The one error is running out of memory.
 fn around(address: Stepped, ty: Ty, indices: List<(Ty, u64)>) -> Result<Stepped, NoMemory>
     ensures { IfOk result (λ a. a ≡ (address.0, (ty, indices) ∷ address.1)) }
 {
@@ -146,7 +146,7 @@ fn around(address: Stepped, ty: Ty, indices: List<(Ty, u64)>) -> Result<Stepped,
     Ok((base, List::from_vec(steps)))
 }
 
-/// Reads the indices behind the base, and `)`.
+/// Reads the indices after the base, and `)`.
 fn step_end(alloc: Global, tokens: &mut Tokens<'_>, ty: Ty, from: Stepped) -> Result<Stepped, Cause>
     ensures { Gives (run (rest.step_end ty from) tokens.old) result tokens.new }
 {
@@ -155,7 +155,7 @@ fn step_end(alloc: Global, tokens: &mut Tokens<'_>, ty: Ty, from: Stepped) -> Re
     Ok(around(from, ty, indices)?)
 }
 
-/// Reads `, ptr`, the base, the indices and `)` behind the type.
+/// Reads `, ptr`, the base, the indices and `)` after the type.
 #[cycle(bases)]
 fn step_rest(
     alloc: Global,
@@ -173,7 +173,7 @@ fn step_rest(
     step_end(alloc, tokens, ty, from)
 }
 
-/// What stands behind `getelementptr` in a constant, in whose base so many more may stand.
+/// What stands after `getelementptr` in a constant, in whose base so many more may stand.
 #[cycle(bases)]
 #[tactic(auto, unfolding(ms_text_grammar::specs::Values::gep_from))]
 fn gep_from(
@@ -240,7 +240,7 @@ fn base_to(
     }
 }
 
-/// What stands behind `getelementptr` in a constant.
+/// What stands after `getelementptr` in a constant.
 #[tactic(auto, unfolding(ms_text_grammar::specs::Values::offset))]
 pub fn offset(
     alloc: Global,

@@ -1,4 +1,4 @@
-//! What may stand behind an instruction: its alignment and attached metadata, one kind of which marks an inserted
+//! What may stand after an instruction: its alignment and attached metadata, one kind of which marks an inserted
 //! instruction.
 
 ghost use Rattle.std.specs.Prelude.{cond, false};
@@ -38,7 +38,7 @@ fn by_name(
     Ok(marked || marks)
 }
 
-/// Reads what is behind the kind of an attachment, which begins with this symbol. Metadata in place marks nothing.
+/// Reads what is after the kind of an attachment, which begins with this symbol. Metadata in place marks nothing.
 fn attached_rest(
     alloc: Global,
     tokens: &mut Tokens<'_>,
@@ -63,7 +63,7 @@ fn attached_rest(
 ///
 /// # Errors
 ///
-/// Those of `kind_of` at the kind, of `meta` behind it, and of `balanced` in brackets.
+/// Those of `kind_of` at the kind, of `meta` after it, and of `balanced` in brackets.
 #[tactic(auto, unfolding(ms_text_grammar::specs::Skipped::attached))]
 pub fn attached(
     alloc: Global,
@@ -79,11 +79,11 @@ pub fn attached(
     attached_rest(alloc, tokens, form, marked, marks, symbol)
 }
 
-/// Reads one suffix behind its comma. Gives whether the instruction is marked.
+/// Reads one suffix after its comma. Gives whether the instruction is marked.
 ///
 /// # Errors
 ///
-/// `Syntax` or `Outside` where no number is behind `align`, and those of `attached`.
+/// `Syntax` or `Outside` where no number is after `align`, and those of `attached`.
 #[tactic(auto, unfolding(ms_text_grammar::specs::Skipped::suffix))]
 pub fn suffix(
     alloc: Global,
@@ -103,7 +103,7 @@ pub fn suffix(
     }
 }
 
-/// Suffix after suffix, each behind its comma.
+/// Suffix after suffix, each after its comma.
 #[derive(Clone, Copy)]
 struct OneSuffix {
     form: Form,

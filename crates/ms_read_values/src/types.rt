@@ -159,7 +159,7 @@ fn brace_of(token: &Lexeme<'_>) -> Result<(), Cause>
     Err(token.refusal())
 }
 
-/// Takes `{` behind `<`.
+/// Takes `{` after `<`.
 ///
 /// # Errors
 ///
@@ -224,7 +224,7 @@ fn nested(alloc: Global, tokens: &mut Tokens<'_>, form: Form, depth: u8) -> Resu
     }
 }
 
-/// Reads the type of an array's items, behind their number, and `]`.
+/// Reads the type of an array's items, after their number, and `]`.
 #[cycle(types)]
 fn array_item(
     alloc: Global,
@@ -270,7 +270,7 @@ fn packed_rest(alloc: Global, tokens: &mut Tokens<'_>, form: Form, depth: u8) ->
     Ok(Ty::Struct(true, all))
 }
 
-/// Reads further types behind commas.
+/// Reads further types after commas.
 #[cycle(types)]
 #[tactic(auto, using(ms_read_cursor::proofs::ItemLoops::more_goes, ms_read_cursor::proofs::ItemLoops::more_stops, ms_read_cursor::proofs::ItemLoops::more_ends, ms_read_cursor::proofs::ItemLoops::turn_shorter))]
 fn more_fields(

@@ -15,7 +15,7 @@ use ms_read_cursor::{Lexeme, Tokens, global_by, local_by};
 use ms_text_grammar::{Cause, Outside, Symbol};
 use std::alloc::Global;
 
-/// The number that a token spells, behind an integer type of this width, which is one that a type may have.
+/// The number that a token spells, after an integer type of this width, which is one that a type may have.
 fn int_of(width: u8, token: &Lexeme<'_>) -> Result<Operand, Cause>
     ensures { Judges (spec.int_value (Some width) token.now) result }
 {
@@ -26,7 +26,7 @@ fn int_of(width: u8, token: &Lexeme<'_>) -> Result<Operand, Cause>
     }
 }
 
-/// The number that a token spells, behind `iN` alone.
+/// The number that a token spells, after `iN` alone.
 fn int_value(ty: &Ty, token: &Lexeme<'_>) -> Result<Operand, Cause>
     ensures { Judges (spec.int_value (types.int_width ty.now) token.now) result }
 {
@@ -36,7 +36,7 @@ fn int_value(ty: &Ty, token: &Lexeme<'_>) -> Result<Operand, Cause>
     }
 }
 
-/// `true` or `false`, behind `i1` alone.
+/// `true` or `false`, after `i1` alone.
 fn truth_value(ty: &Ty, bit: u64, token: &Lexeme<'_>) -> Result<Operand, Cause>
     ensures { Judges (spec.truth_value ty.now bit token.now) result }
 {
@@ -52,7 +52,7 @@ fn truth_value(ty: &Ty, bit: u64, token: &Lexeme<'_>) -> Result<Operand, Cause>
     }
 }
 
-/// `null`, behind `ptr` alone.
+/// `null`, after `ptr` alone.
 fn null_value(ty: &Ty, token: &Lexeme<'_>) -> Result<Operand, Cause>
     ensures { Judges (spec.null_value ty.now token.now) result }
 {
@@ -178,7 +178,7 @@ fn boxed_operand(
     Ok(Boxed::new(alloc, operand)?)
 }
 
-/// Takes an operand of an instruction, behind its type.
+/// Takes an operand of an instruction, after its type.
 pub fn value(
     alloc: Global,
     tokens: &mut Tokens<'_>,

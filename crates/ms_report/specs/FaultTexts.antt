@@ -8,7 +8,7 @@ use Rattle.ms_text_layout.specs.Names.{name_text}
 abbrev pub refused_line : ℕ → List ℕ → List ℕ
 refused_line number text = codes "refused " ++ decimal number ++ codes ": " ++ text ++ codes "\n"
 
--- a name behind its sign
+-- a name after its sign
 abbrev pub signed : Spelled → List ℕ
 signed x = (if x.global then codes "@" else codes "%") ++ name_text x.name
 
@@ -16,7 +16,7 @@ signed x = (if x.global then codes "@" else codes "%") ++ name_text x.name
 abbrev pub at_site : ℕ → List ℕ
 at_site site = codes " at site " ++ decimal site
 
--- numbers, each behind a space
+-- numbers, each after a space
 abbrev pub spaced : List ℕ → List ℕ
 spaced numbers = flat_map (λ n. codes " " ++ decimal n) numbers
 

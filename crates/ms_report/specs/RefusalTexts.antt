@@ -66,7 +66,7 @@ cause_name number =
     if eqb number 7 then codes "numbering" else
     codes "reserved"
 
--- the name behind a cause that has one
+-- the name after a cause that has one
 abbrev pub what_text : What → List ℕ
 what_text what.Nothing = []
 what_text (what.Outside construct) = codes " " ++ outside_name construct
@@ -106,7 +106,7 @@ IsNumbered number what.Nothing = (number ≡ 4) ⊎ (number ≡ 7) ⊎ (number �
 IsNumbered number (what.Outside construct) = number ≡ 5
 IsNumbered number (what.Limit l) = number ≡ 6
 
--- want of memory alone has none
+-- running out of memory alone has none
 abbrev pub wants_memory : Refusal → Bool
 wants_memory (Read e.NoMemory) = true
 wants_memory (Read cause) = false

@@ -53,7 +53,7 @@ origin_text m (origin.Chain old site) = codes "stored" ++ site_text m site
 abbrev pub origin_line : ℕ → List ℕ → List ℕ
 origin_line n text = codes "  origin " ++ decimal n ++ codes ": " ++ text ++ codes "\n"
 
--- the number of the origin behind one with the number n
+-- the number of the origin after one with the number n
 abbrev pub earlier : ℕ → Origin → ℕ
 earlier n (origin.Root number) = n
 earlier n (origin.Chain old site) = old

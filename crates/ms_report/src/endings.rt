@@ -134,7 +134,7 @@ fn push_closing<L: SiteLines>(
 }
 
 /// The closing lines of a run of `m`: how it ended, its number of reports, its number of blind uses, and
-/// where `verdict` is set whether it used uninitialised bits. The one error is want of memory.
+/// where `verdict` is set whether it used uninitialised bits. The one error is running out of memory.
 #[tactic(auto, using(crate::proofs::WithoutLines::closing_alone))]
 pub fn closing(alloc: Global, m: &Module, r: &RunResult, verdict: bool) -> Result<Vec<u8>, NoMemory>
     requires { Formed m.now }

@@ -10,7 +10,7 @@ use ms_check::CheckError;
 use ms_ir::Name;
 use ms_write_values::{push_name, push_number};
 
-/// Adds a name behind its sign, `@` where it is global.
+/// Adds a name after its sign, `@` where it is global.
 fn push_signed(text: &mut Vec<u8>, global: bool, name: &Name) -> Result<(), NoMemory>
     ensures { IfOk result (λ _. text.new.items ≡ text.old.items ++ signed (record { global = global; name = name.now })) }
 {
@@ -26,7 +26,7 @@ fn push_site(text: &mut Vec<u8>, site: u32) -> Result<(), NoMemory>
     push_number(text, site as u64)
 }
 
-/// Adds numbers, each behind a space.
+/// Adds numbers, each after a space.
 fn push_spaced(text: &mut Vec<u8>, numbers: &[u32]) -> Result<(), NoMemory>
     ensures { IfOk result (λ _. text.new.items ≡ text.old.items ++ spaced numbers.now) }
 {
@@ -139,7 +139,7 @@ pub fn site_of_fault(cause: &CheckError) -> Option<u32>
     }
 }
 
-/// Adds the line that says why a module isn't valid. The cause isn't want of memory.
+/// Adds the line that says why a module isn't valid. The cause isn't running out of memory.
 pub fn push_check(text: &mut Vec<u8>, cause: &CheckError) -> Result<(), NoMemory>
     requires { is_some (fault_of cause.now) ≡ true }
     ensures { IfOk result (λ _. text.new.items ≡ text.old.items ++ fault_line (fault_of cause.now)) }

@@ -85,7 +85,7 @@ fn name_of_cause(number: u8) -> &'static [u8]
     }
 }
 
-/// Adds the name behind a cause that has one.
+/// Adds the name after a cause that has one.
 fn push_what(text: &mut Vec<u8>, what: What) -> Result<(), NoMemory>
     ensures { IfOk result (λ _. text.new.items ≡ text.old.items ++ what_text what) }
 {
@@ -201,9 +201,9 @@ fn site_of_refusal(e: &Refusal) -> Option<u32>
     }
 }
 
-/// The line that says why a module is refused: the number of the cause, what it is, and where. The cause isn't want of
+/// The line that says why a module is refused: the number of the cause, what it is, and where. The cause isn't running out of
 /// memory; a `Refused` has a number from 4 to 8, and names a construct exactly at 5 and a limit exactly at 6. Causes that
-/// a module isn't valid have the numbers 9 to 17. The one error is want of memory.
+/// a module isn't valid have the numbers 9 to 17. The one error is running out of memory.
 #[tactic(auto, using(crate::proofs::WithoutLines::refusal_alone))]
 pub fn refusal_line(alloc: Global, e: &Refusal) -> Result<Vec<u8>, NoMemory>
     requires { HasLine e.now }

@@ -127,7 +127,7 @@ fn site_of_origin(m: &Module, roots: &[Root], origin: Origin) -> Option<u32>
     }
 }
 
-/// The number of the origin behind one with the number `number`.
+/// The number of the origin after one with the number `number`.
 fn earlier(number: u32, origin: Origin) -> u32
     ensures { result ≡ earlier_of number origin }
 {
@@ -323,7 +323,7 @@ fn push_all<L: SiteLines>(
     push_reports(alloc, text, m, roots.as_slice(), reports, under)
 }
 
-/// The lines of the reports of a run of `m`, with the way of each to its root. The one error is want of
+/// The lines of the reports of a run of `m`, with the way of each to its root. The one error is running out of
 /// memory. Linear in the module, the number of reports and the lengths of their ways.
 pub fn report_text(alloc: Global, m: &Module, r: &RunResult) -> Result<Vec<u8>, NoMemory>
     requires { Formed m.now }

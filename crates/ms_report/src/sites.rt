@@ -21,7 +21,7 @@ fn function_at(m: &Module, site: u32) -> Option<&Name>
     }
 }
 
-/// Adds a function's name behind its sign, or a question mark.
+/// Adds a function's name after its sign, or a question mark.
 fn push_function(text: &mut Vec<u8>, name: Option<&Name>) -> Result<(), NoMemory>
     ensures { IfOk result (λ _. text.new.items ≡ text.old.items ++ function_text (option_copied name.entry)) }
 {

@@ -21,7 +21,7 @@ abbrev pub saved_for : Option External → ℕ
 saved_for None = 0
 saved_for (Some e) = saved_by e
 
--- what is taken over behind a call of a function of the module
+-- what is taken over after a call of a function of the module
 abbrev pub taken_by : Env → Option Name → Op → List Task
 taken_by env x (op.Call ret callee args) = take_result env x ret
 taken_by env x _ = []

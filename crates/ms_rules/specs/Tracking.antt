@@ -14,7 +14,7 @@ use Rattle.ms_rules.specs.declared.tracked.Tracking.{Tracking}
 abbrev pub tracked_one : Env → ℕ → Ty × Operand → Tracked
 tracked_one env root o = record { ty = o.0; operand = o.1; mask = mask_operand env (width_of o.0) o.1; origin = origin_operand env root o.1 }
 
--- the operands of an operation, with the roots before and behind them
+-- the operands of an operation, with the roots before and after them
 pub record IsTracked (env : Env) (o : Op) (t : Tracking) : Type 0 where
   pub are : map tracked_of t.operands.items ≡ tracked env t.before (operands o)
   pub behind : t.behind ≡ t.before + count_undefs (operands o)

@@ -1,4 +1,4 @@
-//! What stands behind an instruction that is no phi.
+//! What stands after an instruction that is no phi.
 ghost use Rattle.std.specs.Prelude.{◌≡◌, ◌<◌, ◌≤◌, ◌^◌, length, OnOk};
 ghost use Rattle.ms_tasks.specs.{Emit.{after_tasks}, SlotTasks.{result_mask_slot, result_origin_slot, take_value}};
 ghost use Rattle.ms_rules_tables.specs.Sizes.{element_size};
@@ -64,7 +64,7 @@ fn take_result(
     }
 }
 
-/// Adds what stands behind an instruction that is no phi. `saved` is the number of what was saved before it.
+/// Adds what stands after an instruction that is no phi. `saved` is the number of what was saved before it.
 pub fn push_behind(
     alloc: Global,
     builder: &mut Builder,

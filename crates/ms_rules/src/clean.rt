@@ -35,7 +35,7 @@ fn push_clean<'m>(
     Ok(())
 }
 
-/// The names of values whose operands are the constant 0. The one error is want of memory.
+/// The names of values whose operands are the constant 0. The one error is running out of memory.
 pub fn clean_names(
     alloc: Global,
     values: &BTreeMap<Name, (Operand, Operand)>,

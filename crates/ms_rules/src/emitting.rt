@@ -54,7 +54,7 @@ fn push_around(
     push_behind(alloc, builder, scope, site, saved, inst, callee, tracking)
 }
 
-/// Adds an instruction that is no phi between its lists. Answers how many roots it has.
+/// Adds an instruction that is no phi between its lists. Returns how many roots it has.
 fn push_plain(
     alloc: Global,
     builder: &mut Builder,
@@ -78,8 +78,8 @@ fn push_plain(
 }
 
 /// Adds an instruction of the program between the lists that are inserted round it, where it has a site and so many roots
-/// stand before it. Answers how many roots it has itself: its undefined operands, and one more where it makes
-/// uninitialised bytes. The one error is want of memory.
+/// stand before it. Returns how many roots it has itself: its undefined operands, and one more where it makes
+/// uninitialised bytes. The one error is running out of memory.
 pub fn push_inst(
     alloc: Global,
     builder: &mut Builder,

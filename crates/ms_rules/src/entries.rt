@@ -29,7 +29,7 @@ fn push_parameter(
     }
 }
 
-/// Adds what takes over the masks and origins of parameters. The one error is want of memory.
+/// Adds what takes over the masks and origins of parameters. The one error is running out of memory.
 pub fn push_parameters(
     alloc: Global,
     builder: &mut Builder,

@@ -104,7 +104,7 @@ fn push_pair(
     }
 }
 
-/// Adds what stands behind a phi: the phis of its mask and its origin. Answers how many of its operands are undefined.
+/// Adds what stands after a phi: the phis of its mask and its origin. Returns how many of its operands are undefined.
 pub fn push_behind_phi(
     alloc: Global,
     builder: &mut Builder,
@@ -126,7 +126,7 @@ pub fn push_behind_phi(
     Ok(tracking.behind - tracking.before)
 }
 
-/// Adds a phi, and the phis of its mask and its origin. Answers how many of its operands are undefined.
+/// Adds a phi, and the phis of its mask and its origin. Returns how many of its operands are undefined.
 pub fn push_phi(
     alloc: Global,
     builder: &mut Builder,

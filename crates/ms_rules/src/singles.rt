@@ -35,7 +35,7 @@ pub struct Env {
     pub values: BTreeMap<Name, (Operand, Operand)>,
 }
 
-/// What is inserted before an instruction and behind it, and the number of the next inserted result.
+/// What is inserted before an instruction and after it, and the number of the next inserted result.
 #[derive(Drop)]
 pub struct Emitted {
     pub before: List<Inst>,
@@ -259,8 +259,8 @@ fn round_of<'m>(
 
 /// The lists that stand round an unmarked instruction of the function with a number, in a module that can be instrumented.
 /// The inserted results are numbered from `next` on: the values of the function are numbered from 0 and the operands of
-/// value v are the results 2v + 1 and 2v + 2, so that `next` begins behind those of the last value. At a call of a function of
-/// the module, and at a return outside `main`, both lists are empty. The one error is want of memory.
+/// value v are the results 2v + 1 and 2v + 2, so that `next` begins after those of the last value. At a call of a function of
+/// the module, and at a return outside `main`, both lists are empty. The one error is running out of memory.
 ///
 /// It takes time linear in the module, since it makes its tables of names and types anew. `ms_pass::instrument` makes them
 /// once for all instructions.

@@ -12,7 +12,7 @@ use ms_ir::{Name, Op, Operand, ValueType};
 use ms_rules_builder::{Shadow, TrackedOperand};
 use std::alloc::Global;
 
-/// The operands of an instruction with what is known of them, and how many roots stand in the text before them and behind
+/// The operands of an instruction with what is known of them, and how many roots stand in the text before them and after
 /// them.
 #[derive(Drop)]
 pub struct Tracking<'a> {
@@ -94,7 +94,7 @@ pub fn one_undefined(operand: &Operand) -> u64
 }
 
 impl<'a> Tracking<'a> {
-    /// Adds an operand behind the others.
+    /// Adds an operand after the others.
     fn push(
         &mut self,
         scope: &Scope<'_, '_>,
@@ -136,7 +136,7 @@ impl<'a> Tracking<'a> {
     }
 }
 
-/// The operands of an operation with what is known of them, where so many roots stand before them. The one error is want of
+/// The operands of an operation with what is known of them, where so many roots stand before them. The one error is running out of
 /// memory.
 pub fn track<'a>(
     alloc: Global,

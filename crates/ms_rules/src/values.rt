@@ -43,7 +43,7 @@ fn push_blocks<'m>(names: &mut NameTable<'m>, blocks: &'m [Block]) -> Result<(),
     Ok(())
 }
 
-/// The names of a function's values: the parameters, and then the results in text order. The one error is want of memory.
+/// The names of a function's values: the parameters, and then the results in text order. The one error is running out of memory.
 pub fn values_of(alloc: Global, func: &Func) -> Result<NameTable<'_>, NoMemory>
     ensures { IfOk result (λ names. names ≡ value_names func.now) }
 {

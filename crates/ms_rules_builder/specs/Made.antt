@@ -2,6 +2,6 @@
 use Rattle.std.specs.Prelude.{List, ◌++◌}
 use Rattle.ms_tasks.specs.Tasks.{InsertedCode, Task, tasks_code}
 
--- code with the instructions of tasks behind it
+-- code with the instructions of tasks after it
 abbrev pub with_tasks : InsertedCode → List Task → InsertedCode
 with_tasks c ts = let x = tasks_code ts c.next in record { code = c.code ++ x.code; next = x.next }

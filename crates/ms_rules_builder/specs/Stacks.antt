@@ -94,7 +94,7 @@ flatten_stack (e ∷ st) n =
     let y = flatten_stack st n in let x = flatten e y.next in
     record { code = y.code ++ x.code; operands = y.operands ++ x.operand ∷ []; next = x.next }
 
--- code with the instructions of the words on a stack behind it
+-- code with the instructions of the words on a stack after it
 abbrev pub with_words : InsertedCode → List Expr → InsertedCode
 with_words c st = let x = flatten_stack st c.next in record { code = c.code ++ x.code; next = x.next }
 

@@ -20,9 +20,9 @@ use std::alloc::Global;
 use std::marker::Model;
 
 /// Instructions of which some are inserted, and the number of the next inserted result. Contracts see both. What is
-/// added stands behind what is there.
+/// added stands after what is there.
 ///
-/// The one error of each method is want of memory.
+/// The one error of each method is running out of memory.
 #[derive(Drop)]
 pub struct Builder {
     alloc: Global,
@@ -82,7 +82,7 @@ impl Builder {
         self.insts
     }
 
-    /// Keeps a number of an inserted result for later, and answers it.
+    /// Keeps a number of an inserted result for later, and returns it.
     pub fn reserve(&mut self) -> u64
         requires { self.old.next < 2 ^ 40 }
         ensures number { result ≡ self.old.next }

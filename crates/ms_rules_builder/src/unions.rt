@@ -31,7 +31,7 @@ impl Widening {
     }
 }
 
-/// Adds a step so many times. The one error is want of memory.
+/// Adds a step so many times. The one error is running out of memory.
 pub fn push_times(steps: &mut Vec<Step>, step: Step, times: usize) -> Result<(), NoMemory>
     ensures { OnOk result (steps.new.items ≡ steps.old.items ++ replicate times step) }
 {
@@ -59,7 +59,7 @@ fn push_mask(
     Ok(())
 }
 
-/// Adds the steps of the words of a union, and answers how many words these are.
+/// Adds the steps of the words of a union, and returns how many words these are.
 fn push_masks(
     steps: &mut Vec<Step>,
     operands: &[TrackedOperand<'_>],
@@ -79,7 +79,7 @@ fn push_masks(
 }
 
 /// Adds the steps that leave the union of the operands' masks on the stack: of the masks that aren't known to be 0, and 0
-/// where there is none. The one error is want of memory.
+/// where there is none. The one error is running out of memory.
 pub fn push_union(
     steps: &mut Vec<Step>,
     operands: &[TrackedOperand<'_>],

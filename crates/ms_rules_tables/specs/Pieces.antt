@@ -1,4 +1,4 @@
--- What stands behind an operation, of what is known of it.
+-- What stands after an operation, of what is known of it.
 use Rattle.std.specs.Prelude.{ℕ, List, [], ◌∷◌, Option, None, is_some, if◌then◌else◌}
 use Rattle.ms_ir.specs.declared.syntax.Name.{Name}
 use Rattle.ms_ir.specs.declared.syntax.Ty.{Ty, Int, Ptr}
@@ -21,6 +21,6 @@ abbrev pub store_args : (site width : ℕ) → List Tracked → List (Ty × Expr
 store_args site width ts =
     (Ptr, word_of (tracked_at 1 ts)) ∷ (Int 64, widened width (mask_of (tracked_at 0 ts))) ∷ (Int 32, origin_of (tracked_at 0 ts)) ∷ (Int 32, number site) ∷ []
 
--- what stands behind a `store` of a word of so many bits
+-- what stands after a `store` of a word of so many bits
 abbrev pub store_pieces : (site width : ℕ) → List Tracked → List Task
 store_pieces site width ts = mask_store width ts ∷ Calls None function.StoreOrigin (store_args site width ts) ∷ []

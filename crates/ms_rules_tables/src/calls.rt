@@ -31,7 +31,7 @@ pub fn is_clean_at(operands: &[TrackedOperand<'_>], place: usize) -> bool
     }
 }
 
-/// Calls a runtime function that answers nothing with the words that steps leave.
+/// Calls a runtime function that returns nothing with the words that steps leave.
 pub fn call(
     builder: &mut Builder,
     function: RuntimeFn,

@@ -9,7 +9,7 @@ use ms_rules_builder::Step::Constant;
 use ms_rules_builder::{Operation, Step, TrackedOperand, Widening, push_union};
 use std::alloc::Global;
 
-/// The rule of the first operands' masks: a bit is poisoned where it or a lower one is in one of them. The one error is want of
+/// The rule of the first operands' masks: a bit is poisoned where it or a lower one is in one of them. The one error is running out of
 /// memory.
 pub fn carry_rule(
     alloc: Global,

@@ -138,7 +138,7 @@ fn check_printf(
 }
 
 /// Checks the uses of an operation at a site; `main` says whether it stands in the function `main`, and `external` which
-/// external it calls. The one error is want of memory.
+/// external it calls. The one error is running out of memory.
 pub fn check(
     builder: &mut Builder,
     site: u32,

@@ -1,4 +1,4 @@
-//! The rules of masks that are the same for all operands: each is a table of steps, in which an operation stands behind the
+//! The rules of masks that are the same for all operands: each is a table of steps, in which an operation stands after the
 //! words that it works on.
 ghost use Rattle.std.specs.Prelude.{◌≡◌, ◌≢◌, ℕ, true, List, [], ◌∷◌, map, reverse, MatchOption};
 ghost use Rattle.ms_bits.specs.declared.operations.BinOp.TheVariants as binary;

@@ -39,7 +39,7 @@ fn save_for(
     }
 }
 
-/// Saves under the inserted name with a number what an external needs from before its call. The one error is want of
+/// Saves under the inserted name with a number what an external needs from before its call. The one error is running out of
 /// memory.
 pub fn save(
     alloc: Global,
@@ -57,7 +57,7 @@ pub fn save(
     }
 }
 
-/// Calls a runtime function that answers nothing with the words that steps leave, if the instruction has a result.
+/// Calls a runtime function that returns nothing with the words that steps leave, if the instruction has a result.
 fn call_named(
     builder: &mut Builder,
     function: RuntimeFn,
@@ -159,7 +159,7 @@ fn set_joined(
     call_named(builder, RuntimeFn::ThreadResult, operands, name, &steps)
 }
 
-/// Sets shadow and origins behind a call of an external.
+/// Sets shadow and origins after a call of an external.
 fn set_external(
     builder: &mut Builder,
     site: u32,
@@ -201,9 +201,9 @@ fn set_external(
     }
 }
 
-/// Sets shadow and origins behind an operation that calls no function of the module. `root` is the number of its own root,
+/// Sets shadow and origins after an operation that calls no function of the module. `root` is the number of its own root,
 /// `saved` that of the inserted name with what was saved, and `size` the size of an element of an `alloca`. The one error
-/// is want of memory.
+/// is running out of memory.
 pub fn set_planes(
     builder: &mut Builder,
     site: u32,

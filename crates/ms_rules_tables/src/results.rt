@@ -244,7 +244,7 @@ fn call_move(
     builder.call(Some(name), RuntimeFn::Move(kind), inputs, steps)
 }
 
-// What a function that moves bits answers: it gives its mask too.
+// What a function that moves bits returns: it gives its mask too.
 fn define_move(
     alloc: Global,
     builder: &mut Builder,
@@ -260,7 +260,7 @@ fn define_move(
     call_move(alloc, builder, value, kind, &inputs, steps)
 }
 
-// What another function of whole words answers, as a value of a width.
+// What another function of whole words returns, as a value of a width.
 fn define_ruled(
     alloc: Global,
     builder: &mut Builder,
@@ -283,7 +283,7 @@ fn define_ruled(
     )
 }
 
-// What a function of whole words answers, as a value of a width.
+// What a function of whole words returns, as a value of a width.
 fn define_word_answer(
     alloc: Global,
     builder: &mut Builder,
@@ -301,7 +301,7 @@ fn define_word_answer(
     }
 }
 
-// What an external that is known answers, as a value of a width.
+// What an external that is known returns, as a value of a width.
 fn define_external(
     alloc: Global,
     builder: &mut Builder,
@@ -320,7 +320,7 @@ fn define_external(
     }
 }
 
-// What an external answers, as a value of a width.
+// What an external returns, as a value of a width.
 fn define_answer(
     alloc: Global,
     builder: &mut Builder,
@@ -362,7 +362,7 @@ fn define_call(
 }
 
 /// Defines the mask and the origin of the function's value with a number, which an operation sets; `own` says that it calls
-/// a function of the module, which hands both over itself. The one error is want of memory.
+/// a function of the module, which hands both over itself. The one error is running out of memory.
 pub fn define(
     alloc: Global,
     builder: &mut Builder,

@@ -98,7 +98,7 @@ count_phis (inst ∷ insts) = elim inst.op [ op.Phi t edges ↦ suc (count_phis 
 abbrev pub block_name : Module → ℕ → ℕ → Name
 block_name m f b = unwrap_or (option_map (λ k. k.name) (slice_get (blocks_at m f) b)) (Number 0)
 
--- a jump: the frame stands behind the phis of the block with a name, which have their results
+-- a jump: the frame stands after the phis of the block with a name, which have their results
 abbrev pub jumped : {V : Type 0} → Reading V → Setting → Module → Name → Frame V → Frame V
 jumped reading setting m to frame =
     let b = block_index (blocks_at m frame.func) to in
@@ -165,7 +165,7 @@ blocks_made o (Ends e world) = []
 abbrev pub keeping : {V : Type 0} → Op → Effect → Frame V → Frame V
 keeping o effect frame = record frame { heap = blocks_made o effect ++ frame.heap }
 
--- a return: the caller goes on behind its call, whose result is the word returned
+-- a return: the caller goes on after its call, whose result is the word returned
 abbrev pub left : {V : Type 0} → Reading V → Module → List V → Frame V → List (Frame V) → World → Outcome V
 left reading m words frame [] world = Over stuck world
 left reading m words frame (caller ∷ below) world =

@@ -82,13 +82,13 @@ abbrev pub printed : (site : ℕ) → List ℕ → (World → Effect) → World 
 printed site bs go world =
     if leb (length world.output + length bs) output_limit then go (record world { output = world.output ++ bs }) else traps trap.Output site world
 
--- takes the next bytes of the input, at most n, into memory, and answers their number
+-- takes the next bytes of the input, at most n, into memory, and returns their number
 abbrev pub taken : (a n : ℕ) → World → Effect
 taken a n world =
     let bs = take n world.input in
     Gives (length bs) (record (set_bytes a (length bs) (λ k. get_or bs k 0) world) { input = drop n world.input })
 
--- 'getchar': takes and answers the next byte of the input, or answers -1 at its end
+-- 'getchar': takes and returns the next byte of the input, or answers -1 at its end
 abbrev pub next_byte : List ℕ → World → Effect
 next_byte [] world = Gives (minus_one 32) world
 next_byte (b ∷ bs) world = Gives b (record world { input = bs })

@@ -113,7 +113,7 @@ abbrev pub steps : {S : Type 0} → (S → Stepped S) → ℕ → S → Stepped 
 steps step zero s = More s
 steps step (suc n) s = and_then (step s) (steps step n)
 
--- what a run answers after a step
+-- what a run returns after a step
 abbrev pub go_on : {S : Type 0} → (S → RunResult) → Stepped S → RunResult
 go_on answer (More state) = answer state
 go_on answer (Stop e world) = result e world

@@ -112,7 +112,7 @@ then_does (Goes block world) go = Ends stuck world
 then_does (Enters func world) go = Ends stuck world
 then_does (Leaves world) go = Ends stuck world
 
--- what a run answers: how it ended, and what the world has of output, reports and blind uses
+-- what a run returns: how it ended, and what the world has of output, reports and blind uses
 abbrev pub result : End → World → RunResult
 result e world = record { output = world.output; «end» = e; reports = world.reports; blind = world.blind }
 

@@ -1,4 +1,4 @@
-//! Equal copies of what a run is given and what it answers.
+//! Equal copies of what a run is given and what it returns.
 
 use crate::runs::{End, Origin, Report, RunResult, Setup};
 use ms_bits::{Duplicate, NoMemory};

@@ -1,4 +1,4 @@
-//! What a run of a module is given and answers, and what it means: the definitions that every contract on runs cites.
+//! What a run of a module is given and returns, and what it means: the definitions that every contract on runs cites.
 #![tactic(auto)]
 
 pub mod copying;

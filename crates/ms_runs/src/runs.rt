@@ -1,4 +1,4 @@
-//! What a run is given and what it answers.
+//! What a run is given and what it returns.
 
 use ms_bits::{Bytes, List, Trap};
 
@@ -60,7 +60,7 @@ pub struct Report {
     pub chain: List<Origin>,
 }
 
-/// What a run answers.
+/// What a run returns.
 #[derive(Debug, PartialEq, Eq, Drop)]
 pub struct RunResult {
     /// The bytes of the standard output.

@@ -1,4 +1,4 @@
-//! What a run is given and what it answers may be sent to another thread, and shared with one.
+//! What a run is given and what it returns may be sent to another thread, and shared with one.
 
 use crate::runs::{End, Origin, Report, RunResult, Setup};
 use ms_bits::shared::is_shared;

@@ -51,7 +51,7 @@ pub record Going (m : Module) (u : Setup) (r : Running) : Type 0 where
   pub keeping : Keeping m u r
   pub same : run (λ (s : PlainState). s.world) (step_of m u) r.budget.left state ≡ plain m u
 
--- the steps that are left behind the one within which a call is asked for
+-- the steps that are left after the one within which a call is asked for
 abbrev pub LeftBehind : Asked → (rest left : ℕ) → Type 0
 LeftBehind (asked.External e) rest left = rest ≡ left
 LeftBehind (asked.Runtime f) rest left = suc rest ≡ left
@@ -81,7 +81,7 @@ pub record Paused (m : Module) (u : Setup) (call : HostCall) (r : Running) : Typ
   pub counted : LeftBehind call.asked rest r.budget.left
   pub same : go_on (run (λ (s : PlainState). s.world) (step_of m u) rest) (step_of m u asking.within) ≡ plain m u
 
--- a run has ended so, and this is what it answers
+-- a run has ended so, and this is what it returns
 pub record Answers (answer : RunResult) (e : End) (r : Running) : Type 0 where
   pub beside : Beside
   pub world : World

@@ -29,7 +29,7 @@ pub(crate) struct Use {
     pub(crate) site: u32,
 }
 
-/// One item more at a list's end. The one error is want of memory, after which the list is as before.
+/// One item more at a list's end. The one error is running out of memory, after which the list is as before.
 fn push<T: Drop>(alloc: Global, items: &mut List<T>, item: T) -> Result<(), NoMemory>
     ensures pushed { OnOk result (items.new ≡ items.old ++ item ∷ []) }
     ensures unchanged { OnErr result (items.new ≡ items.old) }
@@ -43,7 +43,7 @@ fn push<T: Drop>(alloc: Global, items: &mut List<T>, item: T) -> Result<(), NoMe
 
 /// Reports a use where its mask isn't 0: the run ends where the reports come to `limit`, and else goes on.
 ///
-/// The one error is want of memory.
+/// The one error is running out of memory.
 pub(crate) fn check(
     alloc: Global,
     depot: &Depot,
@@ -80,7 +80,7 @@ pub(crate) fn check(
 /// Reports a byte of memory that was found poisoned, if one was: the run ends where the reports come to `limit`, and
 /// else goes on.
 ///
-/// The one error is want of memory.
+/// The one error is running out of memory.
 pub(crate) fn check_byte(
     alloc: Global,
     depot: &Depot,

@@ -96,7 +96,7 @@ impl Running {
         }
     }
 
-    /// Goes on to the next pause, and answers it. Says how the run ends, if it does.
+    /// Goes on to the next pause, and returns it. Says how the run ends, if it does.
     fn turn(
         &mut self,
         alloc: Global,
@@ -114,7 +114,7 @@ impl Running {
         }
     }
 
-    /// What the run answers.
+    /// What the run returns.
     pub fn into_result(self, end: End) -> RunResult
         ensures { (answer : ResultOf) → Answers answer end self → result ≡ answer }
     {
@@ -154,7 +154,7 @@ pub fn begun(alloc: Global, m: &CheckedModule, setup: &Setup) -> Result<Running,
     })
 }
 
-/// Runs a checked module without thread calls. Ok is what its plain run answers; the one error is want of memory.
+/// Runs a checked module without thread calls. Ok is what its plain run returns; the one error is running out of memory.
 ///
 /// A step takes as long in a large module as in a small one; a call of `printf` adds a binary search among the calls of
 /// `printf` in the module, which are listed once, at the start.

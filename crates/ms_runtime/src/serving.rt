@@ -22,7 +22,7 @@ use std::alloc::Global;
 /// whether the run goes on. It ends exactly where the number of reports comes to `limit`. `__msan_thread_result` changes nothing,
 /// which is its meaning where no thread was made.
 ///
-/// The one error is want of memory, and the run is over then.
+/// The one error is running out of memory, and the run is over then.
 pub fn serve(
     alloc: Global,
     call: &HostCall,

@@ -38,7 +38,7 @@ strides_mask ms (s ∷ ss) = bit_or (stride_mask ms s) (strides_mask ms ss)
 abbrev pub masks_read : (masks : List ℕ) → List Move → List ℕ
 masks_read ms moves = map (λ p. mask_of ms p.from) moves
 
--- the masks behind a jump: its phis all read the masks before it
+-- the masks after a jump: its phis all read the masks before it
 abbrev pub masks_moved : (masks : List ℕ) → List Move → List ℕ
 masks_moved ms moves = put_all ms moves (masks_read ms moves)
 

@@ -45,7 +45,7 @@ fn hand(
     store_origin(alloc, builder, place, origin)
 }
 
-/// Hands over the masks and origins of the arguments of a call. The one error is want of memory.
+/// Hands over the masks and origins of the arguments of a call. The one error is running out of memory.
 pub fn hand_arguments(
     alloc: Global,
     builder: &mut Builder,
@@ -59,7 +59,7 @@ pub fn hand_arguments(
     Ok(())
 }
 
-/// Hands over the mask and the origin of what is returned, if something is. The one error is want of memory.
+/// Hands over the mask and the origin of what is returned, if something is. The one error is running out of memory.
 pub fn hand_result(
     alloc: Global,
     builder: &mut Builder,

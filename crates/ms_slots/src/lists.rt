@@ -1,6 +1,6 @@
 //! The code that hands over or takes over all arguments of a call, or a result, as lists of marked instructions.
 //!
-//! Numbers are those of inserted results. The one error of each function is want of memory.
+//! Numbers are those of inserted results. The one error of each function is running out of memory.
 ghost use Rattle.std.specs.Prelude.{◌≡◌, ◌<◌, ◌≤◌, ◌+◌, ◌*◌, ◌^◌, length, IfOk, OnOk};
 ghost use Rattle.ms_tasks.specs.{Tasks.{tasks_code}, SlotTasks.{result_mask_slot, result_origin_slot}};
 ghost use Rattle.ms_rules_builder.specs.Made.{with_tasks};

@@ -58,7 +58,7 @@ fn item_of_slot(alloc: Global, slot: Slot, width: u8, place: u64) -> Result<Oper
 }
 
 impl Handover {
-    /// The slot of the mask. The one error is want of memory.
+    /// The slot of the mask. The one error is running out of memory.
     pub fn mask_slot(self, alloc: Global) -> Result<Operand, NoMemory>
         ensures { IfOk result (λ o. o ≡ mask_slot self) }
     {
@@ -68,7 +68,7 @@ impl Handover {
         }
     }
 
-    /// The slot of the origin. The one error is want of memory.
+    /// The slot of the origin. The one error is running out of memory.
     pub fn origin_slot(self, alloc: Global) -> Result<Operand, NoMemory>
         ensures { IfOk result (λ o. o ≡ origin_slot self) }
     {

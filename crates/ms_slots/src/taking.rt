@@ -24,7 +24,7 @@ fn fetch(
 }
 
 /// Takes over the mask and the origin of the parameter with a place, from 0, under the names of the function's value with
-/// a number. The one error is want of memory.
+/// a number. The one error is running out of memory.
 pub fn fetch_parameter(
     alloc: Global,
     builder: &mut Builder,
@@ -38,7 +38,7 @@ pub fn fetch_parameter(
 }
 
 /// Takes over the mask and the origin of the result of a call, under the names of the function's value with a number. The
-/// one error is want of memory.
+/// one error is running out of memory.
 pub fn fetch_result(
     alloc: Global,
     builder: &mut Builder,

@@ -1,6 +1,6 @@
 //! The code that puts a word's mask and origin into two slots, or takes them from there.
 //!
-//! The one error of each function is want of memory.
+//! The one error of each function is running out of memory.
 ghost use Rattle.std.specs.Prelude.{◌≡◌, ◌<◌, ◌+◌, ◌^◌, [], ◌∷◌, OnOk};
 ghost use Rattle.ms_ir.specs.declared.syntax.Ty.{Int};
 ghost use Rattle.ms_tasks.specs.Tasks.{msan_name, Leaf, Fetches, Puts};

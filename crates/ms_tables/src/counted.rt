@@ -43,7 +43,7 @@ fn list_blocks<'m>(names: &mut Vec<&'m Name>, blocks: &'m [Block]) -> Result<(),
 }
 
 /// How many names `locals_of` has, without a table of them. They are listed, since a list's length fits in a `usize`. The one
-/// error is want of memory.
+/// error is running out of memory.
 pub fn count_locals(alloc: Global, func: &Func) -> Result<usize, NoMemory>
     ensures { IfOk result (λ count. count ≡ length (locals func.now)) }
 {

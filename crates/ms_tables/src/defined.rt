@@ -31,7 +31,7 @@ fn push_all<'m, T: Named>(names: &mut NameTable<'m>, parts: &'m [T]) -> Result<(
     Ok(())
 }
 
-/// The names that some parts give. The one error is want of memory.
+/// The names that some parts give. The one error is running out of memory.
 pub fn names_of<'m, T: Named>(alloc: Global, parts: &'m [T]) -> Result<NameTable<'m>, NoMemory>
     ensures { IfOk result (λ names. names ≡ filter_map T.name_of parts.now) }
 {
@@ -40,14 +40,14 @@ pub fn names_of<'m, T: Named>(alloc: Global, parts: &'m [T]) -> Result<NameTable
     Ok(names)
 }
 
-/// The names of a function's parameters. The one error is want of memory.
+/// The names of a function's parameters. The one error is running out of memory.
 pub fn parameters_of(alloc: Global, func: &Func) -> Result<NameTable<'_>, NoMemory>
     ensures { IfOk result (λ names. names ≡ parameter_names func.now) }
 {
     names_of(alloc, func.params.as_slice())
 }
 
-/// The names of a function's blocks. The one error is want of memory.
+/// The names of a function's blocks. The one error is running out of memory.
 pub fn blocks_of(alloc: Global, func: &Func) -> Result<NameTable<'_>, NoMemory>
     ensures { IfOk result (λ names. names ≡ block_names func.now) }
 {
@@ -65,7 +65,7 @@ fn push_blocks<'m>(names: &mut NameTable<'m>, blocks: &'m [Block]) -> Result<(),
     Ok(())
 }
 
-/// The names of a function's parameters, blocks and results. The one error is want of memory.
+/// The names of a function's parameters, blocks and results. The one error is running out of memory.
 pub fn locals_of(alloc: Global, func: &Func) -> Result<NameTable<'_>, NoMemory>
     ensures { IfOk result (λ names. names ≡ locals func.now) }
 {
@@ -74,28 +74,28 @@ pub fn locals_of(alloc: Global, func: &Func) -> Result<NameTable<'_>, NoMemory>
     Ok(names)
 }
 
-/// The names of a module's types. The one error is want of memory.
+/// The names of a module's types. The one error is running out of memory.
 pub fn types_of(alloc: Global, m: &Module) -> Result<NameTable<'_>, NoMemory>
     ensures { IfOk result (λ names. names ≡ type_names m.now) }
 {
     names_of(alloc, m.types.as_slice())
 }
 
-/// The names of a module's globals. The one error is want of memory.
+/// The names of a module's globals. The one error is running out of memory.
 pub fn globals_of(alloc: Global, m: &Module) -> Result<NameTable<'_>, NoMemory>
     ensures { IfOk result (λ names. names ≡ global_names m.now) }
 {
     names_of(alloc, m.globals.as_slice())
 }
 
-/// The names of the functions that a module declares. The one error is want of memory.
+/// The names of the functions that a module declares. The one error is running out of memory.
 pub fn declarations_of(alloc: Global, m: &Module) -> Result<NameTable<'_>, NoMemory>
     ensures { IfOk result (λ names. names ≡ declared_names m.now) }
 {
     names_of(alloc, m.decls.as_slice())
 }
 
-/// The names of the functions that a module defines. The one error is want of memory.
+/// The names of the functions that a module defines. The one error is running out of memory.
 pub fn functions_of(alloc: Global, m: &Module) -> Result<NameTable<'_>, NoMemory>
     ensures { IfOk result (λ names. names ≡ function_names m.now) }
 {
@@ -110,7 +110,7 @@ fn push_callees<'m>(names: &mut NameTable<'m>, m: &'m Module) -> Result<(), NoMe
     push_all(names, m.funcs.as_slice())
 }
 
-/// The names of a module's globals, declarations and functions. The one error is want of memory.
+/// The names of a module's globals, declarations and functions. The one error is running out of memory.
 pub fn symbols_of(alloc: Global, m: &Module) -> Result<NameTable<'_>, NoMemory>
     ensures { IfOk result (λ names. names ≡ symbols m.now) }
 {

@@ -63,7 +63,7 @@ impl<'m> Model for Extents<'m> {
 
 impl<'m> Extents<'m> {
     /// The extents of a module's named types, in time linear in what is written in them, but for their names, which
-    /// `NameTable` finds. The one error is want of memory.
+    /// `NameTable` finds. The one error is running out of memory.
     pub fn of(alloc: Global, m: &'m Module) -> Result<Extents<'m>, NoMemory>
         ensures { IfOk result (λ extents. extents ≡ m.now.types) }
     {

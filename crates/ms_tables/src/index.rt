@@ -34,7 +34,7 @@ pub struct Index<'m> {
     few: Vec<(&'m [u8], usize)>,
     /// The places of the texts by their marks, once there are many: a mark is found at once, and few texts share one.
     marked: Option<Box<Marked<'m>>>,
-    /// The places of the texts behind another with their mark.
+    /// The places of the texts after another with their mark.
     texts: BTreeMap<&'m [u8], usize>,
 }
 
@@ -250,7 +250,7 @@ impl<'m> Index<'m> {
         Ok(())
     }
 
-    /// Puts in a text that has no place yet, behind another with its mark.
+    /// Puts in a text that has no place yet, after another with its mark.
     fn insert_behind(&mut self, text: &'m [u8], place: usize) -> Result<(), NoMemory>
         requires { place_in self.old (Text text.now) ≡ None }
         ensures placed { OnOk result ((x : Name) → place_in self.new x ≡ (if name_eq (Text text.now) x then Some place else place_in self.old x)) }

@@ -88,7 +88,7 @@ impl<'m> Kept<'m> {
         Ok(layouts)
     }
 
-    /// Lets chains have one link more. Where memory is wanting, nothing changes.
+    /// Lets chains have one link more. Where memory runs out, nothing changes.
     pub fn lengthen(&mut self, alloc: Global) -> Result<(), NoMemory>
         requires { self.old.links < 2 ^ 32 - 1 }
         ensures { OnOk result (self.new ≡ links_of self.old.types (self.old.links + 1)) }

@@ -61,8 +61,8 @@ impl<'m> Names<'m> {
         self.table.contains(name)
     }
 
-    /// Appends a name. Answers the place of the first equal name before it, if there is one. Where memory is
-    /// wanting, the names stay as they were.
+    /// Appends a name. Returns the place of the first equal name before it, if there is one. Where memory
+    /// runs out, the names stay as they were.
     pub fn push(&mut self, name: &'m Name) -> Result<Option<u32>, NoMemory>
         requires { length self.old < 2 ^ 32 - 1 }
         ensures names { IfOk result (λ _. self.new ≡ self.old ++ name.now ∷ []) }

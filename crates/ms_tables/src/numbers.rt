@@ -8,7 +8,7 @@ use ms_bits::NoMemory;
 use ms_ir::{Func, Name};
 use std::alloc::Global;
 
-/// The names of the blocks of a function, which number them from 0 on. The one error is want of memory.
+/// The names of the blocks of a function, which number them from 0 on. The one error is running out of memory.
 pub fn block_numbers(alloc: Global, func: &Func) -> Result<Names<'_>, NoMemory>
     requires { length func.now.blocks < 2 ^ 32 }
     ensures { IfOk result (λ names. names ≡ block_names func.now) }

@@ -8,7 +8,7 @@ use ms_bits::NoMemory;
 use ms_ir::{Block, Inst, Name, Operand};
 use std::alloc::Global;
 
-/// The labels of the edges of a phi. The one error is want of memory.
+/// The labels of the edges of a phi. The one error is running out of memory.
 pub fn labels_of<'m>(alloc: Global, edges: &'m [(Operand, Name)]) -> Result<NameTable<'m>, NoMemory>
     ensures { IfOk result (λ names. names ≡ map (λ e. e.1) edges.now) }
 {

@@ -7,7 +7,7 @@ use ms_bits::NoMemory;
 const ROOM: usize = 32;
 
 /// Makes room in a list that has no item. Most lists of names get as many at most, and a list that grows to them step by step
-/// is moved each time. The one error is want of memory.
+/// is moved each time. The one error is running out of memory.
 pub fn make_room<T>(list: &mut Vec<T>) -> Result<(), NoMemory>
     ensures { list.new.items ≡ list.old.items }
 {

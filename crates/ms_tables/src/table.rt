@@ -64,8 +64,8 @@ impl<'m> NameTable<'m> {
         self.place(name).is_some()
     }
 
-    /// Appends a name. Answers the place of the first equal name before it, if there is one. Where memory is
-    /// wanting, the names stay as they were.
+    /// Appends a name. Returns the place of the first equal name before it, if there is one. Where memory
+    /// runs out, the names stay as they were.
     pub fn push(&mut self, name: &'m Name) -> Result<Option<usize>, NoMemory>
         ensures names { IfOk result (λ _. self.new ≡ self.old ++ name.now ∷ []) }
         ensures found { IfOk result (λ place. place ≡ first_place self.old name.now) }

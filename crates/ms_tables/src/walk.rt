@@ -33,12 +33,12 @@ pub trait Clause<'m> {
     fn func_fault(&self, func: &'m Func) -> Option<Self::Fault>
         ensures { result ≡ slice_get (head self.now func.now) 0 };
 
-    /// The tables of a function. The one error is want of memory.
+    /// The tables of a function. The one error is running out of memory.
     fn enter(&self, alloc: Global, func: &'m Func) -> Result<Self::Tables, NoMemory>
         requires { Asks func.now }
         ensures { IfOk result (λ t. AreOf self.now func.now t) };
 
-    /// The first fault of an instruction. The one error is want of memory.
+    /// The first fault of an instruction. The one error is running out of memory.
     fn fault(
         &self,
         alloc: Global,
@@ -52,7 +52,7 @@ pub trait Clause<'m> {
         ensures tables { IfOk result (λ r. IfNone r (AreOf self.now here.now.func.now tables.new)) };
 }
 
-/// The site behind an instruction.
+/// The site after an instruction.
 pub fn next_site(site: u32, inst: &Inst) -> u32
     requires { site + one_unmarked inst.now < 2 ^ 32 }
     ensures { result ≡ site + one_unmarked inst.now }
@@ -60,7 +60,7 @@ pub fn next_site(site: u32, inst: &Inst) -> u32
     if inst.marked { site } else { site + 1 }
 }
 
-/// The first fault in the instructions of a block. The site becomes that behind them.
+/// The first fault in the instructions of a block. The site becomes that after them.
 fn first_in_insts<'m, C: Clause<'m>>(
     alloc: Global,
     clause: &C,
@@ -92,7 +92,7 @@ fn first_in_insts<'m, C: Clause<'m>>(
     Ok(None)
 }
 
-/// The first fault in the blocks of a function. The site becomes that behind them.
+/// The first fault in the blocks of a function. The site becomes that after them.
 fn first_in_blocks<'m, C: Clause<'m>>(
     alloc: Global,
     clause: &C,
@@ -116,7 +116,7 @@ fn first_in_blocks<'m, C: Clause<'m>>(
     Ok(None)
 }
 
-/// The first fault at the instructions of a function. The site becomes that behind them.
+/// The first fault at the instructions of a function. The site becomes that after them.
 fn first_in_code<'m, C: Clause<'m>>(
     alloc: Global,
     clause: &C,
@@ -139,7 +139,7 @@ fn first_in_code<'m, C: Clause<'m>>(
     )
 }
 
-/// The first fault of a function. The site becomes that behind it.
+/// The first fault of a function. The site becomes that after it.
 fn first_in_func<'m, C: Clause<'m>>(
     alloc: Global,
     clause: &C,
@@ -176,7 +176,7 @@ fn first_in_funcs<'m, C: Clause<'m>>(
     Ok(None)
 }
 
-/// The first fault of a clause in the functions of a module, in text order. The one error is want of memory. Sites have 32
+/// The first fault of a clause in the functions of a module, in text order. The one error is running out of memory. Sites have 32
 /// bits in every module that is read, and each function has what the clause asks.
 pub fn first_fault<'m, C: Clause<'m>>(
     alloc: Global,

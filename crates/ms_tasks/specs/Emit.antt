@@ -25,7 +25,7 @@ before_tasks given env h i saved =
     let ts = tracked env h.root (operands i.op) in
     hand_tasks given.func h.main i.op ts ++ own_tasks given env h i.result i.op saved ts
 
--- what stands behind an instruction that is no phi
+-- what stands after an instruction that is no phi
 abbrev pub after_tasks : Given → Env → Here → Inst → (saved : ℕ) → List Task
 after_tasks given env h i saved = plane_tasks given env h saved i.result i.op (tracked env h.root (operands i.op))
 

@@ -72,12 +72,12 @@ pass_insts given env (i ∷ is) h n =
     let x = emit_op given env h i n i.op in let y = pass_insts given env is (next_here given h i) x.next in
     record { code = x.before ++ (i ∷ (x.after ++ y.code)); next = y.next }
 
--- where a block is gone on with that begins with this operation: behind its phis
+-- where a block is gone on with that begins with this operation: after its phis
 abbrev pub here_by : Here → Op → Here → Here
 here_by h (op.Phi t es) later = later
 here_by h _ later = h
 
--- where a jump goes on: behind the phis of a block
+-- where a jump goes on: after the phis of a block
 abbrev pub here_past : (Name → Option ℕ) → Here → List Inst → Here
 here_past func h [] = h
 here_past func h (i ∷ is) = here_by h i.op (here_past func (record { site = h.site + one_unmarked i; root = h.root + roots_in func i; main = h.main }) is)

@@ -1,4 +1,4 @@
--- What sets shadow and origins of memory behind an instruction.
+-- What sets shadow and origins of memory after an instruction.
 use Rattle.std.specs.Prelude.{ℕ, ◌+◌, true, false, List, [], ◌∷◌, Option, Some, None, Bool, is_some}
 use Rattle.ms_bits.specs.declared.operations.Pred.TheVariants as pred
 use Rattle.ms_ir.specs.declared.syntax.Name.{Name}
@@ -58,7 +58,7 @@ fill_task site a c n =
 abbrev pub made_size : Name → Expr
 made_size x = Pick (Test pred.Eq (Int 32) (Leaf (operand.Local x)) (number 0)) (Int 64) (number 8) (number 0)
 
--- what becomes of shadow and origins behind an external
+-- what becomes of shadow and origins after an external
 abbrev pub external_tasks : (site root saved : ℕ) → Option Name → External → List Tracked → List Task
 external_tasks site root saved (Some x) Malloc ts = poison_task (Leaf (operand.Local x)) (number 0) (word_of (tracked_at 0 ts)) root
 external_tasks site root saved (Some x) Realloc ts = poison_task (Leaf (operand.Local x)) (Leaf (operand.Local (msan_name saved))) (word_of (tracked_at 1 ts)) root
@@ -77,7 +77,7 @@ external_tasks site root saved r Memset ts = fill_task site (tracked_at 0 ts) (t
 external_tasks site root saved r LlvmMemset ts = fill_task site (tracked_at 0 ts) (tracked_at 1 ts) (tracked_at 2 ts)
 external_tasks site root saved r _ ts = []
 
--- behind a call: of a function of the module the result's mask and origin are taken, of an external shadow and origins
+-- after a call: of a function of the module the result's mask and origin are taken, of an external shadow and origins
 -- are set
 abbrev pub callee_tasks : Env → (site root saved : ℕ) → Option Name → Option Ty → (own : Bool) → Option External → List Tracked → List Task
 callee_tasks env site root saved x ret true e ts = take_result env x ret
@@ -86,7 +86,7 @@ callee_tasks env site root saved x ret false (Some e) ts = external_tasks site r
 
 -- ---- all instructions
 
--- what stands behind an instruction: the bytes of an `alloca` are poisoned, a `store` stores its mask and its origin
+-- what stands after an instruction: the bytes of an `alloca` are poisoned, a `store` stores its mask and its origin
 abbrev pub plane_tasks : Given → Env → Here → (saved : ℕ) → Option Name → Op → List Tracked → List Task
 plane_tasks given env h saved (Some x) (op.Alloca t u count) ts =
     Calls None function.Poison

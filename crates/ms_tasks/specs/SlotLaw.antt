@@ -34,7 +34,7 @@ ReturnFits None ret cells p = Unit {0}
 ReturnFits (Some x) None cells p = ⊥
 ReturnFits (Some x) (Some t) cells p = (width_of t ≤ 64) × SlotsHold cells (slot_room slot.RetvalMask).0 (slot_room slot.RetvalOrigin).0 (width_of t) p
 
--- what stands behind a call, with the word of its result: mask and origin of the result stand as the shadow run has them
+-- what stands after a call, with the word of its result: mask and origin of the result stand as the shadow run has them
 pub record ResultTaken (s : Setting) (h : Here) (env : Env) (x : Option Name) (ret : Option Ty) (values : Name → Poisoned) (p : Poisoned) (names : Name → ℕ) (cells : ℕ → ℕ) : Type 0 where
   pub after : Name → ℕ
   pub runs : (w : World) → do_tasks s h (take_result env x ret) (record { names = set_result names x p.value; slots = cells }) w ≡ Went (record { names = after; slots = cells }) w

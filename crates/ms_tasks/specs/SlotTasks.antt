@@ -60,7 +60,7 @@ abbrev pub take_parameters : Env → ℕ → List (Ty × Name) → List Task
 take_parameters env k [] = []
 take_parameters env k (p ∷ ps) = take_value env (param_mask k) (param_origin k) p.1 p.0 ++ take_parameters env (suc k) ps
 
--- behind a call of a function of the module
+-- after a call of a function of the module
 abbrev pub take_result : Env → Option Name → Option Ty → List Task
 take_result env (Some x) (Some t) = take_value env result_mask_slot result_origin_slot x t
 take_result env x t = []

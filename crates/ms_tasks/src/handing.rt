@@ -17,7 +17,7 @@ pub fn arguments_arrive()
         → Entered s h env params ps cells }
 {}
 
-/// Behind a call the mask and the origin of what was returned stand under the names of the call's result.
+/// After a call the mask and the origin of what was returned stand under the names of the call's result.
 pub fn result_arrives()
     ensures { (s : Setting) → SlotAddresses s → (h : Here) (env : Env) (size : ℕ) → OneName env
         → (x : Option Name) (ret : Option Ty) → KnownResult env size x → (values : Name → Poisoned) (p : Poisoned) (names : Name → ℕ) (cells : ℕ → ℕ)

@@ -1,6 +1,6 @@
 //! Laws about the lists that are inserted round one instruction that is no phi. The list before it hands over what a
 //! callee or caller takes, checks its operands, counts a blind use and defines the mask and the origin of its result; the
-//! list behind it sets the shadow and the origins of memory, or takes the result of a call. All as the shadow run does.
+//! list after it sets the shadow and the origins of memory, or takes the result of a call. All as the shadow run does.
 ghost use Rattle.std.specs.Prelude.{◌≡◌, ◌≢◌, ◌≤◌, ◌+◌, ℕ, true, false, is_some, List, [], Option, Some, None};
 ghost use Rattle.ms_ir.specs.{declared.syntax.Name.{Name}, declared.syntax.Ty.{Ty}, declared.syntax.Operand.{Operand}};
 ghost use Rattle.ms_ir.specs.{declared.syntax.Inst.{Inst}, Names.{is_reserved}, Instructions.{operands}};
@@ -33,7 +33,7 @@ pub fn instruction_is_due()
         → BeforeLaw s env saved h i values v w }
 {}
 
-/// What is inserted behind an instruction that gave a value, and behind one that gave none: the shadow and the origins of
+/// What is inserted after an instruction that gave a value, and after one that gave none: the shadow and the origins of
 /// memory are those of the shadow run, the words still match, and no answer tells whether it has run. The list reads the
 /// words of operands, so of what gave a value none may be its own result.
 pub fn memory_is_marked()

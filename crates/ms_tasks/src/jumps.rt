@@ -6,8 +6,8 @@ ghost use Rattle.ms_runs.specs.{Poisoned.{Poisoned, clean}, Shadow.{read_poisone
 ghost use Rattle.ms_tasks.specs.{Environments.{Env, Given}, Known.{OneName, KnownPhis, PhiRoots}};
 ghost use Rattle.ms_tasks.specs.{Match.{Matches, RangedValues}, PassLists.{pass_insts, here_past}};
 
-/// Where words matched before a jump from the block `from`, they match behind it, once what is known to be clean has the
-/// mask 0 there. What is left of the block behind its phis is the instrumented form of what is left of the module's.
+/// Where words matched before a jump from the block `from`, they match after it, once what is known to be clean has the
+/// mask 0 there. What is left of the block after its phis is the instrumented form of what is left of the module's.
 pub fn phis_take_masks()
     ensures masks { (given : Given) (s : Setting) (env : Env) (size : ℕ) → OneName env → (values : Name → Poisoned) (names : Name → ℕ)
         → Matches env values names → RangedValues values → (from : Name) (is : List Inst) → KnownPhis env size is

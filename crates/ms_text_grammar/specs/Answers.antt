@@ -74,7 +74,7 @@ abbrev pub function_stop_in : Form → ℕ → Text → Result (List Token) LexE
 function_stop_in form before text (Err e) = None
 function_stop_in form before text (Ok tokens) = stop_of (length tokens) (run end_of_text (function form before) (lexemes_of text tokens))
 
--- where, behind `define`, a function stops that so many instructions stand before
+-- where, after `define`, a function stops that so many instructions stand before
 abbrev pub function_stop : Form → ℕ → Text → Option (ℕ × Cause)
 function_stop form before text = function_stop_in form before text (tokens_of text (max_tokens form))
 

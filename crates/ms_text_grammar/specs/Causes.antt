@@ -3,7 +3,7 @@ use Rattle.std.specs.Prelude.{ℕ, Option, Some, None}
 use Rattle.ms_text_grammar.specs.declared.refusals.Cause.{Cause}
 use Rattle.ms_text_grammar.specs.declared.refusals.Cause.TheVariants as r
 
--- 4 to 8; want of memory is no refusal
+-- 4 to 8; running out of memory is no refusal
 abbrev pub printed_number : Cause → Option ℕ
 printed_number r.Syntax = Some 4
 printed_number (r.Outside construct) = Some 5

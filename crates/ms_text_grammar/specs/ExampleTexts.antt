@@ -2,7 +2,7 @@
 use Rattle.std.specs.Prelude.{ℕ, zero, suc, List, [], ◌∷◌, ◌++◌, codes, map}
 use Rattle.ms_lex.specs.Tokens.{Text}
 
--- each line, and a newline behind it
+-- each line, and a newline after it
 abbrev pub lines : List Text → Text
 lines [] = []
 lines (line ∷ rest) = line ++ 10 ∷ lines rest
@@ -31,7 +31,7 @@ quoted_words =
 abbrev pub at_head : Text → Text
 at_head word = codes "define void @f() " ++ word
 
--- the words of operations, and of `icmp`, each with what stands behind its flags
+-- the words of operations, and of `icmp`, each with what stands after its flags
 abbrev pub operations : List (Text × Text)
 operations =
     map (λ word. (word, codes " i8 1, 1")) (

@@ -50,7 +50,7 @@ parameter_name_by form number symbol = give (name.Number number)
 unfoldable pub parameter_name : Form → ℕ → Rule Name
 parameter_name form number = next_symbol >>= parameter_name_by form number
 
--- the next number behind a parameter
+-- the next number after a parameter
 abbrev pub next_behind : Name → ℕ → ℕ
 next_behind (name.Number n) next = next + 1
 next_behind (name.Text text) next = next
@@ -83,7 +83,7 @@ parameter form dotted ps = do
   dots ← look (dots_come dotted ps)
   cond dots (skip >> give (record ps { dots = true })) (typed_parameter form ps)
 
--- the parameters behind `(`, up to and with `)`; nothing stands behind the dots
+-- the parameters after `(`, up to and with `)`; nothing stands after the dots
 unfoldable pub parameters : Form → Bool → Rule Parameters
 parameters form dotted = listed s.CloseParen (λ ps. not ps.dots) (parameter form dotted) no_parameters
 
@@ -93,7 +93,7 @@ parameters form dotted = listed s.CloseParen (λ ps. not ps.dots) (parameter for
 abbrev pub linkage_begins : Unit {0} → Lexeme → Verdict Bool
 linkage_begins u t = Ok (is s.ExternalWord t || is_attribute t.symbol)
 
--- behind its first token
+-- after its first token
 abbrev pub linkage_rest : Form → Symbol → Rule (Unit {0})
 linkage_rest form s.ExternalWord = give tt
 linkage_rest form symbol = attribute_rest form symbol
@@ -104,7 +104,7 @@ linkage form = loop linkage_begins (λ u t. linkage_rest form t.symbol) tt
 
 -- ---- declarations
 
--- behind `declare`
+-- after `declare`
 unfoldable pub declaration : Form → Rule Decl
 declaration form = do
   attachments form
@@ -118,11 +118,11 @@ declaration form = do
 
 -- ---- functions
 
--- attributes and attached metadata behind the parameters
+-- attributes and attached metadata after the parameters
 abbrev pub tail_begins : Form → Unit {0} → Lexeme → Verdict Bool
 tail_begins form u t = if is_attribute t.symbol then Ok true else attached_by form t.symbol
 
--- behind its first token
+-- after its first token
 abbrev pub tail_rest : Form → Symbol → Rule (Unit {0})
 tail_rest form s.Meta = meta
 tail_rest form s.NoSanitize = meta
@@ -136,7 +136,7 @@ function_tail form = loop (tail_begins form) (λ u t. tail_rest form t.symbol) t
 abbrev pub body_behind : Parameters → ℕ → Body
 body_behind ps before = record { blocks = []; name = None; insts = []; next = ps.next; count = before; phis = false }
 
--- behind `define`
+-- after `define`
 unfoldable pub function : Form → ℕ → Rule Func
 function form before = do
   linkage form

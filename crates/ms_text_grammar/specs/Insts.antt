@@ -1,4 +1,4 @@
--- Instructions behind their result's name, with what is attached to them, and whether that is the mark
+-- Instructions after their result's name, with what is attached to them, and whether that is the mark
 -- (LLVM Language Reference, "Instruction Reference").
 use Rattle.std.specs.Prelude.{ℕ, Bool, true, false, not, ◌&&◌, ◌||◌, ◌==◌, cond, nat_lt, if◌then◌else◌, List, [], ◌∷◌, ◌++◌, length, codes, Option, Some, None, Ok, Err}
 use Rattle.std.specs.Str.{bytes_eq}
@@ -107,7 +107,7 @@ compare_carries symbol = same_symbol symbol s.SameSign
 abbrev pub flag_begins : (Symbol → Bool) → Flags → Lexeme → Verdict Bool
 flag_begins carries flags t = Ok (carries t.symbol && not (is_set flags t.symbol))
 
--- the flags behind an operation that carries these
+-- the flags after an operation that carries these
 unfoldable pub flags_of : (Symbol → Bool) → Rule Flags
 flags_of carries = loop (flag_begins carries) (λ flags t. give (with_flag flags t.symbol)) no_flags
 
@@ -216,7 +216,7 @@ freeze_rule form = do
 
 -- ---- memory
 
--- `ptr` and an address behind a comma
+-- `ptr` and an address after a comma
 unfoldable pub address : Form → Rule Operand
 address form = word s.Comma >> (word s.PtrType >> value form ty.Ptr)
 
@@ -239,7 +239,7 @@ store_rule form = do
 abbrev pub no_indices : Indices
 no_indices = record { found = []; ended = false }
 
--- an index behind its comma, or else what is attached begins
+-- an index after its comma, or else what is attached begins
 abbrev pub index_by : Form → List (Ty × Operand) → Symbol → Rule Indices
 index_by form found s.IntType = do
   width ← one (index_type_of (length found))
@@ -247,11 +247,11 @@ index_by form found s.IntType = do
   give (record { found = found ++ (ty.Int width, v) ∷ []; ended = false })
 index_by form found symbol = give (record { found = found; ended = true })
 
--- behind a comma
+-- after a comma
 unfoldable pub index_turn : Form → List (Ty × Operand) → Rule Indices
 index_turn form found = next_symbol >>= index_by form found
 
--- a comma, unless what is attached began behind the one before
+-- a comma, unless what is attached began after the one before
 abbrev pub index_begins : Indices → Lexeme → Verdict Bool
 index_begins indices t = Ok (not indices.ended && is s.Comma t)
 
@@ -357,17 +357,17 @@ argument form counted found = do
 unfoldable pub arguments : Form → Bool → Rule (List (Ty × Operand))
 arguments form counted = listed s.CloseParen (λ found. true) (argument form counted) []
 
--- Attributes behind a call, up to a debug record. The state is whether a record was read.
+-- Attributes after a call, up to a debug record. The state is whether a record was read.
 abbrev pub call_attribute_begins : Bool → Lexeme → Verdict Bool
 call_attribute_begins ended t = Ok (not ended && is_attribute t.symbol)
 
--- a debug group is a record where `(` is behind it, and else an attribute
+-- a debug group is a record where `(` is after it, and else an attribute
 unfoldable pub debug_rest : Form → Rule Bool
 debug_rest form = do
   has ← sees s.OpenParen
   cond has (skip >> (balanced form s.CloseParen >> give true)) (give false)
 
--- behind the first token of an attribute or a record
+-- after the first token of an attribute or a record
 abbrev pub call_attribute : Form → Symbol → Rule Bool
 call_attribute form s.DebugGroup = debug_rest form
 call_attribute form symbol = attribute_rest form symbol >> give false
@@ -376,18 +376,18 @@ call_attribute form symbol = attribute_rest form symbol >> give false
 abbrev pub no_bundle_of : Lexeme → Verdict (Unit {0})
 no_bundle_of t = if is s.OpenBracket t then Err (r.Outside outside.OperandBundle) else Ok tt
 
--- what stands behind a call's arguments; a record ends the call
+-- what stands after a call's arguments; a record ends the call
 unfoldable pub call_end : Form → Rule Bool
 call_end form = do
   ended ← loop call_attribute_begins (λ ended t. call_attribute form t.symbol) false
   cond ended (give false) (look no_bundle_of >> suffixes_from form false)
 
--- `call` behind `tail`, `musttail` or `notail`
+-- `call` after `tail`, `musttail` or `notail`
 abbrev pub call_word : Symbol → Rule (Unit {0})
 call_word s.Call = give tt
 call_word symbol = word s.Call
 
--- behind its first word; `named` where it has a result's name
+-- after its first word; `named` where it has a result's name
 unfoldable pub call_rule : Form → Bool → Symbol → Rule Marked
 call_rule form named first = do
   call_word first
@@ -406,7 +406,7 @@ call_rule form named first = do
 abbrev pub no_edges : Edges
 no_edges = record { found = []; ended = false }
 
--- behind `[`
+-- after `[`
 unfoldable pub edge : Form → Ty → Rule (Operand × Name)
 edge form type = do
   v ← value form type
@@ -415,7 +415,7 @@ edge form type = do
   word s.CloseBracket
   give (v, from)
 
--- an edge behind its comma, or else what is attached begins
+-- an edge after its comma, or else what is attached begins
 abbrev pub edge_by : Form → Ty → List (Operand × Name) → Symbol → Rule Edges
 edge_by form type found s.OpenBracket = do
   skip
@@ -423,15 +423,15 @@ edge_by form type found s.OpenBracket = do
   give (record { found = found ++ e ∷ []; ended = false })
 edge_by form type found symbol = give (record { found = found; ended = true })
 
--- behind a comma
+-- after a comma
 unfoldable pub edge_turn : Form → Ty → List (Operand × Name) → Rule Edges
 edge_turn form type found = next_symbol >>= edge_by form type found
 
--- a comma, unless what is attached began behind the one before
+-- a comma, unless what is attached began after the one before
 abbrev pub edge_begins : Edges → Lexeme → Verdict Bool
 edge_begins edges t = Ok (not edges.ended && is s.Comma t)
 
--- value-type '[' value ',' local ']', and more of them behind commas
+-- value-type '[' value ',' local ']', and more of them after commas
 unfoldable pub phi_rule : Form → Rule Marked
 phi_rule form = do
   t ← value_type
@@ -468,7 +468,7 @@ branch_rule form = do
 abbrev pub case_begins : ℕ → List (ℕ × Name) → Lexeme → Verdict Bool
 case_begins width found t = Ok (is s.IntType t && width_in t == width)
 
--- behind its type
+-- after its type
 unfoldable pub case_rest : Form → ℕ → List (ℕ × Name) → Rule (List (ℕ × Name))
 case_rest form width found = do
   n ← number width
@@ -488,7 +488,7 @@ switch_rule form = do
   word s.CloseBracket
   give (op.Switch (ty.Int width) v other cases)
 
--- the value behind its type
+-- the value after its type
 abbrev pub ret_value : Form → Option Ty → Rule Op
 ret_value form None = give (op.Ret None)
 ret_value form (Some type) = value form type >>= λ v. give (op.Ret (Some (type, v)))

@@ -128,7 +128,7 @@ word_symbol word = symbol_in keywords (type_or_plain word) word
 abbrev pub label_symbol : Text → Symbol
 label_symbol spelling = if is_digits (take (length spelling - 1) spelling) then s.NumberedLabel else s.Label
 
--- a local is a number where digits alone are behind its sign
+-- a local is a number where digits alone are after its sign
 abbrev pub local_symbol : Text → Symbol
 local_symbol spelling = if is_digits (drop 1 spelling) then s.NumberedLocal else s.Local
 
@@ -183,7 +183,7 @@ pub record Lexeme : Type 0 where
   pub kind : Kind
   pub spelling : Text
 
--- what stands behind the last token
+-- what stands after the last token
 abbrev pub end_of_text : Lexeme
 end_of_text = record { symbol = s.EndOfText; kind = k.Punct; spelling = [] }
 

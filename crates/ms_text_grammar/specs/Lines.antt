@@ -28,7 +28,7 @@ value_line form body result rule = with_suffixes form rule >>= λ m. give (with_
 unfoldable pub marked_line : Body → Option Name → Rule Marked → Rule Body
 marked_line body result rule = rule >>= λ m. give (with_value body result false m)
 
--- a phi, behind which another may stand
+-- a phi, after which another may stand
 unfoldable pub phi_line : Form → Body → Option Name → Rule Body
 phi_line form body result = phi_rule form >>= λ m. give (with_value body result true m)
 
@@ -44,7 +44,7 @@ effect_line form body rule = with_suffixes form rule >>= λ m. give (with_effect
 unfoldable pub end_line : Form → Body → Rule Op → Rule Body
 end_line form body rule = with_suffixes form rule >>= λ m. give (with_end body m)
 
--- behind a word that is no name of a binary operation or a cast
+-- after a word that is no name of a binary operation or a cast
 abbrev pub instruction_by : Form → Body → Option Name → Symbol → Rule Body
 instruction_by form body result s.Phi = phi_line form body result
 instruction_by form body result s.Icmp = value_line form body result (compare_rule form)
@@ -64,17 +64,17 @@ instruction_by form body result s.Ret = end_line form body (ret_rule form)
 instruction_by form body result s.Unreachable = end_line form body (give op.Unreachable)
 instruction_by form body result symbol = refuse
 
--- behind any word
+-- after any word
 abbrev pub operation_by : Form → Body → Option Name → Symbol → Option BinOp → Option CastOp → Rule Body
 operation_by form body result symbol (Some o) c = value_line form body result (binary_rule form o)
 operation_by form body result symbol None (Some o) = value_line form body result (cast_rule form o)
 operation_by form body result symbol None None = instruction_by form body result symbol
 
--- the instruction behind its first word
+-- the instruction after its first word
 unfoldable pub instruction : Form → Body → Option Name → Symbol → Rule Body
 instruction form body result symbol = operation_by form body result symbol (binary_op symbol) (cast_op symbol)
 
--- the words that may stand behind a result's name
+-- the words that may stand after a result's name
 abbrev pub gives_value : Bool → Symbol → Bool
 gives_value phis s.Phi = phis
 gives_value phis s.Store = false
@@ -88,21 +88,21 @@ gives_value phis symbol = begins_instruction symbol
 abbrev pub value_word_of : Bool → Lexeme → Verdict Symbol
 value_word_of phis t = if gives_value phis t.symbol then Ok t.symbol else Err (refusal t)
 
--- behind a result's name
+-- after a result's name
 unfoldable pub named_line : Form → Body → Name → Rule Body
 named_line form body result = do
   word s.Equals
   symbol ← one (value_word_of body.phis)
   instruction form body (Some result) symbol
 
--- behind a debug group
+-- after a debug group
 unfoldable pub record_line : Form → Body → Rule Body
 record_line form body = do
   word s.OpenParen
   balanced form s.CloseParen
   give body
 
--- behind the first token of a line
+-- after the first token of a line
 abbrev pub line_by : Form → Body → Symbol → Lexeme → Rule Body
 line_by form body s.Label t = give (opened_as body (name.Text (name_in t)) 0)
 line_by form body s.NumberedLabel t = give (opened_as body (name.Number body.next) 1)
@@ -111,7 +111,7 @@ line_by form body s.Local t = named_line form (opened body) (name.Text (name_in 
 line_by form body s.NumberedLocal t = named_line form (opened body) (name.Number (opened body).next)
 line_by form body symbol t = instruction form (opened body) None symbol
 
--- a line behind its first token
+-- a line after its first token
 unfoldable pub line : Form → Body → Lexeme → Rule Body
 line form body t = line_by form body t.symbol t
 
@@ -119,7 +119,7 @@ line form body t = line_by form body t.symbol t
 abbrev pub is_whole : Body → Bool
 is_whole body = not (is_open body.name) && not (length body.blocks == 0)
 
--- the blocks of a function whose parameters took so many numbers, behind `{`, up to and with `}`
+-- the blocks of a function whose parameters took so many numbers, after `{`, up to and with `}`
 unfoldable pub blocks : Form → Body → Rule (List Block)
 blocks form start = do
   body ← loop (line_begins form) (line form) start

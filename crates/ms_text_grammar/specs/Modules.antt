@@ -59,7 +59,7 @@ abbrev pub node_by : Form → Symbol → Rule (Unit {0})
 node_by form s.Bang = skip >> (word s.OpenBrace >> balanced form s.CloseBrace)
 node_by form symbol = meta >> (word s.OpenParen >> balanced form s.CloseParen)
 
--- behind a name of metadata
+-- after a name of metadata
 unfoldable pub metadata_entity : Form → Rule (Unit {0})
 metadata_entity form = do
   word s.Equals
@@ -70,7 +70,7 @@ metadata_entity form = do
 
 -- ---- named types
 
--- behind its name
+-- after its name
 unfoldable pub named_type : Form → Name → Rule (Name × Ty)
 named_type form n = do
   word s.Equals
@@ -101,11 +101,11 @@ global_suffix_by form s.Align = skip >> word s.Number
 global_suffix_by form s.Section = skip >> word s.Str
 global_suffix_by form symbol = one (kind_of form) >> meta
 
--- behind its comma
+-- after its comma
 unfoldable pub global_suffix : Form → Rule (Unit {0})
 global_suffix form = next_symbol >>= global_suffix_by form
 
--- behind its name
+-- after its name
 unfoldable pub global_variable : Form → Name → Rule GlobalVar
 global_variable form n = do
   word s.Equals
@@ -176,7 +176,7 @@ with_declaration parts d = record parts { «module» = record parts.«module» {
 abbrev pub with_function : Parts → Func → Parts
 with_function parts f = record { «module» = record parts.«module» { funcs = parts.«module».funcs ++ f ∷ [] }; count = parts.count + instructions_of f.blocks }
 
--- behind its first token
+-- after its first token
 abbrev pub entity_by : Form → Parts → Symbol → Lexeme → Rule Parts
 entity_by form parts s.SourceFilename t = source_filename >> give parts
 entity_by form parts s.Target t = target_entity >> give parts
@@ -188,7 +188,7 @@ entity_by form parts s.Declare t = declaration form >>= λ d. give (with_declara
 entity_by form parts s.Define t = function form parts.count >>= λ f. give (with_function parts f)
 entity_by form parts symbol t = metadata_entity form >> give parts
 
--- an entity behind its first token
+-- an entity after its first token
 unfoldable pub entity : Form → Parts → Lexeme → Rule Parts
 entity form parts t = entity_by form parts t.symbol t
 

@@ -1,5 +1,5 @@
 -- What is read over: tokens between brackets, attributes (LLVM Language Reference, "Parameter Attributes", "Function Attributes"),
--- and metadata behind an instruction ("Metadata").
+-- and metadata after an instruction ("Metadata").
 use Rattle.std.specs.Prelude.{Bool, true, false, ◌||◌, cond, if◌then◌else◌, List, [], ◌∷◌, Ok, Err}
 use Rattle.ms_lex.specs.Grammar.{give, one, loop, ◌>>=◌, ◌>>◌}
 use Rattle.ms_ir.specs.declared.forms.Form.{Form}
@@ -41,7 +41,7 @@ abbrev pub without_first : List Symbol → List Symbol
 without_first [] = []
 without_first (closer ∷ outer) = outer
 
--- what is awaited behind a token
+-- what is awaited after a token
 abbrev pub awaits : List Symbol → Symbol → List Symbol
 awaits awaited s.OpenParen = s.CloseParen ∷ awaited
 awaits awaited s.OpenBracket = s.CloseBracket ∷ awaited
@@ -110,7 +110,7 @@ string_value = do
   has ← sees s.Equals
   cond has (skip >> word s.Str) (give tt)
 
--- behind the first token of an attribute
+-- after the first token of an attribute
 abbrev pub attribute_rest : Form → Symbol → Rule (Unit {0})
 attribute_rest form s.Align = word s.Number
 attribute_rest form s.Group = give tt
@@ -167,7 +167,7 @@ kind_by form symbol t = Err (refusal t)
 abbrev pub kind_of : Form → Lexeme → Verdict Bool
 kind_of form t = kind_by form t.symbol t
 
--- behind the kind: metadata written in place marks nothing
+-- after the kind: metadata written in place marks nothing
 abbrev pub attached_rest : Form → Bool → Bool → Symbol → Rule Bool
 attached_rest form marked marks s.Bang = do
   skip
@@ -191,7 +191,7 @@ abbrev pub suffix_by : Form → Bool → Symbol → Rule Bool
 suffix_by form marked s.Align = skip >> (word s.Number >> give marked)
 suffix_by form marked symbol = attached form marked
 
--- a suffix behind its comma
+-- a suffix after its comma
 unfoldable pub suffix : Form → Bool → Rule Bool
 suffix form marked = next_symbol >>= suffix_by form marked
 

@@ -89,15 +89,15 @@ flat form s.Local = local form >>= λ n. give (ty.Named n)
 flat form s.NumberedLocal = local form >>= λ n. give (ty.Named n)
 flat form symbol = refuse
 
--- behind `<`, where a number would be the length of a vector
+-- after `<`, where a number would be the length of a vector
 abbrev pub brace_of : Lexeme → Verdict (Unit {0})
 brace_of t = if is s.OpenBrace t then Ok tt else if is s.Number t then Err (r.Outside outside.Vector) else Err (refusal t)
 
--- '{' behind '<'
+-- '{' after '<'
 unfoldable pub packed_brace : Rule (Unit {0})
 packed_brace = one brace_of
 
--- behind `[`
+-- after `[`
 unfoldable pub array_rest : Rule Ty → Rule Ty
 array_rest item = do
   n ← count
@@ -106,13 +106,13 @@ array_rest item = do
   word s.CloseBracket
   give (ty.Array n t)
 
--- behind `{`
+-- after `{`
 unfoldable pub struct_rest : Rule Ty → Rule Ty
 struct_rest field = do
   fields ← items s.CloseBrace field
   give (ty.Struct false fields)
 
--- behind `<`
+-- after `<`
 unfoldable pub packed_rest : Rule Ty → Rule Ty
 packed_rest field = do
   packed_brace

@@ -43,7 +43,7 @@ number width = one (number_of width)
 
 -- ---- a constant `getelementptr`
 
--- the words that may stand behind `getelementptr`, and are read over
+-- the words that may stand after `getelementptr`, and are read over
 abbrev pub is_gep_word : Symbol → Bool
 is_gep_word s.InBounds = true
 is_gep_word s.Nuw = true
@@ -81,7 +81,7 @@ constant_indices = loop (comma_begins (λ found. true)) (λ found comma. constan
 abbrev pub Address : Type 0
 Address = Name × List AddressStep
 
--- behind `getelementptr`, with what may stand as the base
+-- after `getelementptr`, with what may stand as the base
 unfoldable pub gep_from : Form → ℕ → Rule Address → Rule Address
 gep_from form depth base = do
   gep_words
@@ -108,7 +108,7 @@ base_to form depth (suc within) = next_symbol >>= base_by form (skip >> gep_from
 abbrev pub max_within : ℕ
 max_within = 63
 
--- behind `getelementptr`
+-- after `getelementptr`
 unfoldable pub offset : Form → ℕ → Rule Operand
 offset form depth = gep_from form depth (base_to form depth max_within) >>= λ a. give (operand.Offset a.0 a.1)
 
@@ -118,16 +118,16 @@ offset form depth = gep_from form depth (base_to form depth max_within) >>= λ a
 abbrev pub is_int_width : ℕ → Bool
 is_int_width width = nat_le 1 width && nat_le width 64
 
--- a number stands behind iN alone
+-- a number stands after iN alone
 abbrev pub int_value : Option ℕ → Lexeme → Verdict Operand
 int_value None t = Err (refusal t)
 int_value (Some width) t = if is_int_width width then judge_map operand.Int (number_by width t) else Err (refusal t)
 
--- `true` and `false` stand behind `i1` alone
+-- `true` and `false` stand after `i1` alone
 abbrev pub truth_value : Ty → ℕ → Lexeme → Verdict Operand
 truth_value type n t = if is_width 1 (int_width type) then Ok (operand.Int n) else Err (refusal t)
 
--- `null` stands behind `ptr` alone
+-- `null` stands after `ptr` alone
 abbrev pub null_value : Ty → Lexeme → Verdict Operand
 null_value type t = if is_ptr type then Ok operand.Null else Err (refusal t)
 
@@ -186,23 +186,23 @@ flat_init form depth type s.ZeroInitializer = skip >> give init.Zero
 flat_init form depth type s.CText = one bytes_init
 flat_init form depth type symbol = value_within form depth false type >>= λ v. give (init.Value v)
 
--- a type and the initialiser behind it
+-- a type and the initialiser after it
 abbrev pub typed : Rule Ty → (Ty → Rule Init) → Rule (Ty × Init)
 typed type inner = type >>= λ t. inner t >>= λ i. give (t, i)
 
--- behind `[`
+-- after `[`
 unfoldable pub array_init : Rule (Ty × Init) → Rule Init
 array_init item = do
   all ← items s.CloseBracket item
   give (init.Array all)
 
--- behind `{`
+-- after `{`
 unfoldable pub struct_init : Rule (Ty × Init) → Rule Init
 struct_init item = do
   all ← items s.CloseBrace item
   give (init.Struct false all)
 
--- behind `<`
+-- after `<`
 unfoldable pub packed_init : Rule (Ty × Init) → Rule Init
 packed_init item = do
   packed_brace

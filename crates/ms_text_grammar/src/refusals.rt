@@ -92,12 +92,12 @@ pub enum Cause {
     Numbering,
     /// A name that begins with `__msan`, or a mark, that the form doesn't have.
     Reserved,
-    /// Memory was wanting. No definition gives it.
+    /// Memory ran out. No definition gives it.
     NoMemory,
 }
 
 impl Cause {
-    /// The number under which it is printed, from 4 to 8; none for want of memory.
+    /// The number under which it is printed, from 4 to 8; none where memory runs out.
     pub fn number(&self) -> Option<u8>
         ensures { result ≡ printed_number self.now }
     {

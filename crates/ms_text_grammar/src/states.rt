@@ -3,20 +3,20 @@
 use ms_bits::List;
 use ms_ir::{Block, Inst, Module, Name, Operand, Ty};
 
-/// The edges of a phi. A comma begins either an edge or the metadata behind the phi.
+/// The edges of a phi. A comma begins either an edge or the metadata after the phi.
 #[derive(Drop)]
 pub struct Edges {
     pub found: List<(Operand, Name)>,
-    /// A comma was read, and no edge stands behind it.
+    /// A comma was read, and no edge stands after it.
     pub ended: bool,
 }
 
-/// The indices of a `getelementptr`, or the count of an `alloca`. A comma begins either an index or the metadata behind
+/// The indices of a `getelementptr`, or the count of an `alloca`. A comma begins either an index or the metadata after
 /// the instruction.
 #[derive(Drop)]
 pub struct Indices {
     pub found: List<(Ty, Operand)>,
-    /// A comma was read, and no index stands behind it.
+    /// A comma was read, and no index stands after it.
     pub ended: bool,
 }
 
@@ -26,7 +26,7 @@ pub struct Parameters {
     pub found: List<(Ty, Name)>,
     /// The number of the next unnamed parameter or block.
     pub next: u32,
-    /// `...` was read, behind the one parameter of a declared `printf`.
+    /// `...` was read, after the one parameter of a declared `printf`.
     pub dots: bool,
 }
 

@@ -8,7 +8,7 @@ ghost use Rattle.ms_text_grammar.specs.{declared.refusals.Cause.{Cause}, Causes.
 ghost use Rattle.ms_text_grammar.specs.Texts.{Reads, Stops, max_bytes, max_tokens};
 
 /// Every text that isn't too long reads as a module, or stops at a token for a cause that has a printed number, or has no
-/// tokens for a cause other than want of memory.
+/// tokens for a cause other than running out of memory.
 pub fn every_text_is_answered()
     ensures answered { (form : Form) (text : Text) → length text ≤ max_bytes form
         → ((m : Module) × Reads form text m) ⊎ (((k : ℕ) × (c : Cause) × Stops form text k c) ⊎ ((e : LexError) × (tokens_of text (max_tokens form) ≡ Err e))) }

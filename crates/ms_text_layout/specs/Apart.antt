@@ -16,7 +16,7 @@ Fronts kind n (b ∷ rest) = (is_blank b ≡ false) × ((b == 59) ≡ false) × 
 abbrev pub IsSpelled : Lexeme → Type 0
 IsSpelled t = t.symbol ≡ symbol_of t.kind t.spelling
 
--- each token is in front of what follows it, whole, and blanks are behind it
+-- each token is in front of what follows it, whole, and blanks are after it
 abbrev pub AreApart : List Piece → Type 0
 AreApart [] = Unit {0}
 AreApart (p ∷ rest) =
@@ -32,12 +32,12 @@ spans place (p ∷ rest) =
 
 -- ---- lines
 
--- a blank, or one of the signs that may stand close behind a token
+-- a blank, or one of the signs that may stand close after a token
 abbrev pub ends_token : Text → Bool
 ends_token [] = false
 ends_token (b ∷ rest) = is_blank b || is_one_of (codes ",()") b
 
--- a token that is in front of what may stand behind it, whole; behind `(` that is anything
+-- a token that is in front of what may stand after it, whole; after `(` that is anything
 pub record IsWhole (t : Lexeme) : Type 0 where
   pub spelled : IsSpelled t
   pub fronts : (rest : Text) → IsTrue (begins_with 40 t || ends_token rest) → Fronts t.kind (length t.spelling) (t.spelling ++ rest)
@@ -47,7 +47,7 @@ abbrev pub AreWhole : List Lexeme → Type 0
 AreWhole [] = Unit {0}
 AreWhole (t ∷ rest) = IsWhole t × AreWhole rest
 
--- lines of such tokens behind blanks
+-- lines of such tokens after blanks
 abbrev pub AreWholeLines : List Line → Type 0
 AreWholeLines [] = Unit {0}
 AreWholeLines (line ∷ rest) = IsTrue (list_all is_blank line.indent) × AreWhole line.tokens × AreWholeLines rest

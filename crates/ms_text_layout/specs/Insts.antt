@@ -85,7 +85,7 @@ address_tokens a = typed_tokens Ptr a
 abbrev pub target_tokens : Name → List Lexeme
 target_tokens to = word (codes "label") ∷ local_token to ∷ []
 
--- a bit behind its type
+-- a bit after its type
 abbrev pub bit_tokens : Operand → List Lexeme
 bit_tokens a = typed_tokens (Int 1) a
 

@@ -47,7 +47,7 @@ is_one_pointer (t ∷ u ∷ rest) = false
 unfoldable pub is_dotted : Decl → Bool
 is_dotted d = names_printf d.name && is_i32 d.ret && is_one_pointer d.params
 
--- the dots behind the parameters of a declaration, where it has them
+-- the dots after the parameters of a declaration, where it has them
 abbrev pub dots : Bool → List (List Lexeme)
 dots false = []
 dots true = (three_dots ∷ []) ∷ []
@@ -59,7 +59,7 @@ declaration_line d =
 
 -- ---- functions
 
--- a parameter behind its type; its name is always written
+-- a parameter after its type; its name is always written
 abbrev pub parameter_tokens : Ty × Name → List Lexeme
 parameter_tokens p = type_tokens p.0 ++ local_token p.1 ∷ []
 
@@ -81,11 +81,11 @@ entry_label (name.Text x) = label_line (name.Text x) ∷ []
 abbrev pub body_lines : Bool → Block → List Line
 body_lines dotted b = map (inst_line dotted) b.insts
 
--- a block behind its label
+-- a block after its label
 unfoldable pub block_lines : Bool → Block → List Line
 block_lines dotted b = label_line b.name ∷ body_lines dotted b
 
--- the first block, and those behind it
+-- the first block, and those after it
 abbrev pub blocks_lines : Bool → List Block → List Line
 blocks_lines dotted [] = []
 blocks_lines dotted (entry ∷ rest) = entry_label entry.name ++ (body_lines dotted entry ++ flat_map (block_lines dotted) rest)

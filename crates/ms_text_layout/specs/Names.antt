@@ -61,7 +61,7 @@ label_token n = lexeme k.Label (name_text n ++ codes ":")
 
 -- ---- numbers
 
--- digits, behind a minus sign where the number is negative
+-- digits, after a minus sign where the number is negative
 abbrev pub signed_text : ℤ → Text
 signed_text (pos n) = decimal n
 signed_text (negsuc n) = 45 ∷ decimal (n + 1)

@@ -30,7 +30,7 @@ is_first byte (b ∷ rest) = b == byte
 abbrev pub begins_with : ℕ → Lexeme → Bool
 begins_with byte t = is_first byte t.spelling
 
--- No space stands before `,` and `)`, behind `(`, and before the `(` behind the name of a function.
+-- No space stands before `,` and `)`, after `(`, and before the `(` after the name of a function.
 unfoldable pub are_close : Lexeme → Lexeme → Bool
 are_close a b = begins_with 40 a || begins_with 44 b || begins_with 41 b || (begins_with 64 a && begins_with 40 b)
 
@@ -38,7 +38,7 @@ are_close a b = begins_with 40 a || begins_with 44 b || begins_with 41 b || (beg
 abbrev pub between : Lexeme → Lexeme → Text
 between a b = if are_close a b then [] else codes " "
 
--- the tokens of a line, with these bytes behind the last one
+-- the tokens of a line, with these bytes after the last one
 abbrev pub spaced : Text → List Lexeme → List Piece
 spaced behind [] = []
 spaced behind (t ∷ []) = record { token = t; gap = behind } ∷ []
@@ -55,7 +55,7 @@ pub record Line : Type 0 where
 abbrev pub flush : List Lexeme → Line
 flush tokens = record { indent = []; tokens = tokens }
 
--- a line behind two spaces
+-- a line after two spaces
 abbrev pub indented : List Lexeme → Line
 indented tokens = record { indent = codes "  "; tokens = tokens }
 
@@ -64,7 +64,7 @@ abbrev pub indent_of : List Line → Text
 indent_of [] = []
 indent_of (line ∷ rest) = line.indent
 
--- the pieces of lines, each of which ends with a newline, behind the first one's indent
+-- the pieces of lines, each of which ends with a newline, after the first one's indent
 abbrev pub pieces_of : List Line → List Piece
 pieces_of [] = []
 pieces_of (line ∷ rest) = spaced (10 ∷ indent_of rest) line.tokens ++ pieces_of rest

@@ -1,4 +1,4 @@
--- How values are written behind their types (LLVM Language Reference, "Constants"), and initialisers ("Complex Constants").
+-- How values are written after their types (LLVM Language Reference, "Constants"), and initialisers ("Complex Constants").
 use Rattle.std.specs.Prelude.{ℕ, ◌==◌, if◌then◌else◌, List, [], ◌∷◌, ◌++◌, codes, map}
 use Rattle.ms_ir.specs.declared.syntax.Ty.{Ty}
 use Rattle.ms_ir.specs.declared.syntax.Operand.{Operand}
@@ -22,7 +22,7 @@ integer_token width n = if width == 1 then word (if n == 0 then codes "false" el
 abbrev pub constant_index_tokens : Ty × ℕ → List Lexeme
 constant_index_tokens i = type_tokens i.0 ++ number_token (width_of i.0) i.1 ∷ []
 
--- a constant `getelementptr`, behind which a space stands, with its base
+-- a constant `getelementptr`, after which a space stands, with its base
 unfoldable pub offset_tokens : Ty → List Lexeme → List (Ty × ℕ) → List Lexeme
 offset_tokens t base indices =
     word (codes "getelementptr") ∷ enclosed (codes "(") (codes ")") (type_tokens t ∷ (word (codes "ptr") ∷ base) ∷ map constant_index_tokens indices)
@@ -42,7 +42,7 @@ value_tokens t (operand.Local x) = local_token x ∷ []
 value_tokens t (operand.Global x) = global_token x ∷ []
 value_tokens t (operand.Offset x steps) = base_tokens (global_token x) steps
 
--- a value behind its type
+-- a value after its type
 abbrev pub typed_tokens : Ty → Operand → List Lexeme
 typed_tokens t a = type_tokens t ++ value_tokens t a
 
@@ -52,7 +52,7 @@ pair_tokens p = typed_tokens p.0 p.1
 
 -- ---- initialisers
 
--- the initialiser of a type, and each of a row of items or fields behind its type
+-- the initialiser of a type, and each of a row of items or fields after its type
 abbrev mutual
   pub init_tokens : Ty → Init → List Lexeme
   init_tokens t (initial.Value a) = value_tokens t a

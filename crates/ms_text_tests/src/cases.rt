@@ -107,7 +107,7 @@ pub fn rewritten(alloc: Global, text: &[u8], form: Form) -> Result<Vec<u8>, Read
     }
 }
 
-/// Three pieces behind one another.
+/// Three pieces after one another.
 fn joined(alloc: Global, head: &str, text: &str, tail: &str) -> Result<Vec<u8>, NoMemory> {
     let mut all = head.as_bytes().to_vec(alloc)?;
     all.extend_from_slice(text.as_bytes())?;

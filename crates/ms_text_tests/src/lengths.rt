@@ -9,7 +9,7 @@ use ms_text_grammar::Limit;
 use std::alloc::Global;
 use std::test::Fail;
 
-/// A form, a text in front, a piece and how often it stands, a text behind, a piece that stands there as often, a text at
+/// A form, a text in front, a piece and how often it stands, a text after, a piece that stands there as often, a text at
 /// the end, and what is wanted.
 struct Long(
     Form,

@@ -17,24 +17,24 @@ use std::test::Fail;
 #[derive(Clone, Copy)]
 enum Piece {
     Type,
-    /// A value behind `i1`.
+    /// A value after `i1`.
     Bit,
-    /// A value behind `i8`.
+    /// A value after `i8`.
     Byte,
-    /// A value behind `i64`.
+    /// A value after `i64`.
     Word,
-    /// A value behind `ptr`.
+    /// A value after `ptr`.
     Pointer,
     Attributes,
     /// A function.
     Function,
-    /// A function behind so many instructions.
+    /// A function after so many instructions.
     Behind(u32),
 }
 
 use Piece::{Attributes, Behind, Bit, Byte, Function, Pointer, Type, Word};
 
-/// The number of the token behind the piece, or why it isn't read.
+/// The number of the token after the piece, or why it isn't read.
 enum Answer {
     Next(u32),
     Not(Want),
@@ -99,7 +99,7 @@ static TYPES: [Part; 19] = [
 ];
 
 /// Values are read.
-/// Values behind their types.
+/// Values after their types.
 static VALUES: [Part; 25] = [
     Part(Byte, Plain, "-128", 0, Next(1)),
     Part(Byte, Plain, "255", 0, Next(1)),
@@ -198,7 +198,7 @@ static ATTRIBUTES: [Part; 10] = [
 ];
 
 /// Functions are read.
-/// Functions, also behind others and up to the limit of instructions.
+/// Functions, also after others and up to the limit of instructions.
 static FUNCTIONS: [Part; 10] = [
     Part(Function, Plain, MAIN, 0, Next(17)),
     Part(Function, Plain, "declare i32 @main()", 0, Not(Syntax(0, 0))),
@@ -260,7 +260,7 @@ fn all_tokens(alloc: Global, text: &[u8]) -> Result<Vec<Token>, LexError>
     tokens(alloc, text, 1000)
 }
 
-/// The token behind what was read.
+/// The token after what was read.
 fn next_of<A: Drop>(read: Result<(A, u32), ReadError>) -> Result<u32, ReadError> {
     match read {
         Ok((_, next)) => Ok(next),

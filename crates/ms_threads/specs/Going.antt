@@ -118,7 +118,7 @@ pub record Going (m : Module) (u : Setup) (schedule : List ℕ) (t : Threads) : 
   pub standings : Standings m u schedule t.guests others
   pub same : ends_from m u schedule t.running.budget.left (goes_at state others) ≡ last_of m u schedule
 
--- the same of a thread that waits for the answer of a call: behind an external another one may go on
+-- the same of a thread that waits for the answer of a call: after an external another one may go on
 abbrev pub far_of : Module → Asked → Running → ℕ
 far_of m (asked.External e) r = suc (most_ahead m r)
 far_of m (asked.Runtime f) r = ahead m r
@@ -140,7 +140,7 @@ pub record Asking (m : Module) (u : Setup) (schedule : List ℕ) (call : HostCal
   pub counted : LeftBehind call.asked rest t.running.budget.left
   pub same : ends_after m u schedule rest (fibers_step (fiber_of m u) schedule (goes_at within others)) ≡ last_of m u schedule
 
--- a call at which a thread stands was answered: what is left is to go behind it
+-- a call at which a thread stands was answered: what is left is to go after it
 pub record Behind (m : Module) (u : Setup) (schedule : List ℕ) (call : HostCall) (a : Answer) (t : Threads) : Type 0 where
   pub before : WorldState
   pub old : Beside

@@ -188,7 +188,7 @@ pub record Stands (where_now : Option Standing) (old new : Guests) : Type 0 wher
   pub threads : new.threads ≡ old.threads
   pub same : SameTurn old new
 
--- the place behind a place of the schedule
+-- the place after a place of the schedule
 abbrev pub next_place : List ℕ → ℕ → ℕ
 next_place schedule place = if ltb (place + 1) (length schedule) then place + 1 else 0
 

@@ -23,14 +23,14 @@ fn bad_address(site: u32) -> Answer
     })
 }
 
-/// A call answers a number.
+/// A call returns a number.
 fn gives(value: u64) -> Answer
     ensures { result ≡ Answer.Resumed (Some value) }
 {
     Answer::Resumed(Some(value))
 }
 
-/// Stores a word at an address unless that is null. Answers whether it could.
+/// Stores a word at an address unless that is null. Returns whether it could.
 fn store_word(r: u64, word: u64, world: &mut World) -> bool
     ensures stored { (beside : Beside) (meant : Meant) → Shows world.old beside meant → MatchBool result (((eqb r 0 || is_good meant r 8) ≡ true) × Shows world.new beside (if eqb r 0 then meant else store_number r 8 word meant)) ((eqb r 0 ≡ false) × (is_good meant r 8 ≡ false) × Shows world.new beside meant) }
     ensures keeps { Keeps world.old world.new }
@@ -88,7 +88,7 @@ impl Guests {
         gives(0)
     }
 
-    /// What the thread call comes to at which the thread stands that goes on. The one error is want of memory.
+    /// What the thread call comes to at which the thread stands that goes on. The one error is running out of memory.
     #[inline(always)]
     pub fn answer(
         &mut self,

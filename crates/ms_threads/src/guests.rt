@@ -282,7 +282,7 @@ impl Guests {
         }
     }
 
-    /// Lists the numbers of those that may go on, in order, in the first places. Answers how many they are.
+    /// Lists the numbers of those that may go on, in order, in the first places. Returns how many they are.
     #[inline(always)]
     fn list_runnable(&self, ready: &mut [u8]) -> usize
         requires counted { Counted self.now }
@@ -301,7 +301,7 @@ impl Guests {
         count
     }
 
-    /// A pick: the thread that the schedule gives among those that may go on has the turn. Answers whether there is one. One
+    /// A pick: the thread that the schedule gives among those that may go on has the turn. Returns whether there is one. One
     /// walk over the threads.
     #[inline(always)]
     pub fn pick(&mut self, schedule: &[u8]) -> bool

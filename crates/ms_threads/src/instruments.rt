@@ -20,7 +20,7 @@ use std::thread::Threads;
 /// Inserts shadow code into a module that can be instrumented, as `instrument` does: under each schedule the plain run of the
 /// answer is the shadow run of the module, and without what is inserted it is the module itself. The output of a run is a
 /// beginning of the module's own. Where the run up to the first report counts no blind use, it is the same under every fill.
-/// The one error is want of memory, in any piece. Linear in the module.
+/// The one error is running out of memory, in any piece. Linear in the module.
 pub fn instrument_threads<R: Threads + Sync, G: Gate + Sync>(
     rt: &R,
     alloc: Global,
@@ -42,7 +42,7 @@ pub fn instrument_threads<R: Threads + Sync, G: Gate + Sync>(
 }
 
 /// The same as a module that is to be written and not run, so that no code of it is made. It is formed and valid. The one error is
-/// want of memory.
+/// running out of memory.
 pub fn instrumented_threads<R: Threads + Sync, G: Gate + Sync>(
     rt: &R,
     alloc: Global,

@@ -109,7 +109,7 @@ impl Threads {
         self.running.answer_of(alloc, m, call, reports)
     }
 
-    /// Goes on behind an answered call. Says how the run ends, if it does.
+    /// Goes on after an answered call. Says how the run ends, if it does.
     #[inline(always)]
     fn go_behind(&mut self, m: &CheckedModule, call: HostCall, answer: Answer) -> Option<End>
         requires behind { IsBehind m.now call answer self.old }
@@ -234,7 +234,7 @@ impl Threads {
         Ok(self.go_behind(m, call, answer))
     }
 
-    /// Goes on to the next pause, and behind it. Says how the run ends, if it does.
+    /// Goes on to the next pause, and after it. Says how the run ends, if it does.
     fn turn(
         &mut self,
         alloc: Global,
@@ -268,7 +268,7 @@ impl Threads {
 
 /// Runs a checked module with threads, under a schedule that isn't empty: the k-th pick of the run, counted from 0, takes of r
 /// threads that may go on, in order of number, the one at the place `schedule[k mod length] mod r`. Ok is what its plain run
-/// answers; the one error is want of memory.
+/// answers; the one error is running out of memory.
 ///
 /// A switch of threads takes time linear in the number of threads, of which 64 may be made.
 pub fn run_threads(

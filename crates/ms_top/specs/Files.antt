@@ -21,7 +21,7 @@ pub data FilesRead : Type 0 where
   Fault : List ℕ → FilesRead
   Long : List ℕ → FilesRead
 
--- behind a file that is read whole
+-- after a file that is read whole
 abbrev pub behind : List ℕ → FilesRead → FilesRead
 behind text (Whole texts) = Whole (text ∷ texts)
 behind text (Fault name) = Fault name

@@ -24,7 +24,7 @@ use Rattle.ms_top.specs.Runs.{plain_under}
 use Rattle.ms_top.specs.Said.{says, IsAnswerToFiles}
 use Rattle.ms_top.specs.Statuses as statuses
 
--- the answer for why a file isn't read whole; want of memory has an answer of its own
+-- the answer for why a file isn't read whole; running out of memory has an answer of its own
 abbrev pub IsAnswerToFault : FileError → List ℕ → Answer → Type 0
 IsAnswerToFault Failed name a = a ≡ says statuses.file_fault (line (codes "file fault") name)
 IsAnswerToFault Absent name a = a ≡ says statuses.file_fault (line (codes "file fault") name)
@@ -51,7 +51,7 @@ IsReady (Gen seed functions run) m = CanInstrument m
 IsReady Help m = CanInstrument m
 IsReady Version m = CanInstrument m
 
--- the fault in words is want of memory
+-- the fault in words is running out of memory
 abbrev pub is_want_of_memory : WordsError → Bool
 is_want_of_memory WantsMemory = true
 is_want_of_memory fault = false

@@ -175,7 +175,7 @@ module _ (Gives : Module → Module → Type 0) where
       ((fault : ModuleFault) × IsRefused m fault × (a ≡ says statuses.refused (fault_text_with under fault))) ⊎ (Valid m × IsAnswerToValid under command inputs m a)
 
   -- the answer for what reading a text comes to: a module, with the lines under its sites that the command asks for, or why
-  -- there is none; want of memory has an answer of its own
+  -- there is none; running out of memory has an answer of its own
   abbrev pub IsAnswerToReading : Command → List (List ℕ) → List ℕ → Result Module ReadError → Answer → Type 0
   IsAnswerToReading command inputs text (Ok m) a = (under : Lines) × AreLines command text m under × IsAnswerToModule under command inputs m a
   IsAnswerToReading command inputs text (Err e.NoMemory) a = ⊥
@@ -211,11 +211,11 @@ module _ (Gives : Module → Module → Type 0) where
   IsAnswerFor c (Ok command) a = IsAnswerToCommand c command a
   IsAnswerFor c (Err fault) a = a ≡ says statuses.bad_words (words_text (name_of fault) (place_of fault))
 
-  -- what a call with these words and these files is to say, but for want of memory
+  -- what a call with these words and these files is to say, but for running out of memory
   abbrev pub IsAnswer : Counted → List (List ℕ) → Answer → Type 0
   IsAnswer c words a = IsAnswerFor c (command_of words) a
 
--- the answer where memory is wanting
+-- the answer where memory runs out
 abbrev pub no_memory : Answer
 no_memory = says statuses.no_memory (codes "out of memory\n")
 
@@ -244,7 +244,7 @@ WritesPart w a =
 
 -- ---- the whole call
 
--- an answer of which so much is known, or want of memory, was written whole, and has this status
+-- an answer of which so much is known, or running out of memory, was written whole, and has this status
 abbrev pub IsWritten : (Answer → Type 0) → Written → ℕ → Type 0
 IsWritten Is w status = (a : Answer) × ((Is a ⊎ (a ≡ no_memory)) × (a.status ≡ status) × WritesWhole w a)
 
@@ -266,7 +266,7 @@ IsDone Gives c w command status = IsWritten (IsAnswerToCommand Gives c command) 
 abbrev pub IsPartlyDone : (Module → Module → Type 0) → Counted → Written → Command → Type 0
 IsPartlyDone Gives c w command = IsPartlyWritten (IsAnswerToCommand Gives c command) w
 
--- an answer that was found, or want of memory where none was
+-- an answer that was found, or running out of memory where none was
 abbrev pub IsFound : {E : Type 0} → Result Answer E → Answer → Type 0
 IsFound (Ok b) a = a ≡ b
 IsFound (Err e) a = a ≡ no_memory

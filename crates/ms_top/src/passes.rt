@@ -32,7 +32,7 @@ pub trait Pass {
         ensures gives { IfOk result (λ j. gives m.now j) }
         ensures stripped { IfOk result (λ j. strip j ≡ m.now) };
 
-    /// Such a module that is to be written and not run, so that no code of it is needed. It is formed. The one error is want of
+    /// Such a module that is to be written and not run, so that no code of it is needed. It is formed. The one error is running out of
     /// memory.
     fn instrumented<R: Threads + Sync>(
         &self,

@@ -29,7 +29,7 @@ pub const DEFAULTS: Terms = Terms {
 #[derive(Clone, Copy)]
 pub enum Beside<'a> {
     Nothing,
-    /// The input of these terms as the file `i`, and the terms as options behind the words.
+    /// The input of these terms as the file `i`, and the terms as options after the words.
     On(Terms),
     /// So many times the letter x as the file `a`, and nothing as `b`.
     Letters(usize),
@@ -47,7 +47,7 @@ pub const ALL: Taking<'static> = Taking(&[], 131072);
 /// Takes more than a run may print.
 pub const MORE: Taking<'static> = Taking(&[], 1049600);
 
-/// What a call writes and answers: the output, behind which the letter A stands so many times, the pieces of the standard
+/// What a call writes and returns: the output, after which the letter A stands so many times, the pieces of the standard
 /// error, and the status.
 #[derive(Clone, Copy)]
 pub struct Wanted<'a> {
@@ -239,7 +239,7 @@ fn desk_of(alloc: Global, call: &Call) -> Result<Desk, AllocError> {
     })
 }
 
-/// What a call writes and answers.
+/// What a call writes and returns.
 pub fn said<R: Threads + Sync>(rt: &R, alloc: Global, call: &Call) -> Result<Desk, AllocError> {
     let mut desk = desk_of(alloc, call)?;
     desk.status = msan(
@@ -275,7 +275,7 @@ fn do_job<R: Threads + Sync, P: Pass, G: Gate + Sync>(
     }
 }
 
-/// What a call writes and answers where a pass makes the module that is run, and each run on one of many inputs enters a gate.
+/// What a call writes and returns where a pass makes the module that is run, and each run on one of many inputs enters a gate.
 pub fn said_by<R: Threads + Sync, P: Pass, G: Gate + Sync>(
     rt: &R,
     alloc: Global,
@@ -288,7 +288,7 @@ pub fn said_by<R: Threads + Sync, P: Pass, G: Gate + Sync>(
     Ok(desk)
 }
 
-/// What stands behind these pieces, if a text begins with them.
+/// What stands after these pieces, if a text begins with them.
 pub fn behind<'a>(text: &'a [u8], pieces: &[&str]) -> Option<&'a [u8]> {
     let mut rest = text;
     for piece in pieces {
@@ -300,7 +300,7 @@ pub fn behind<'a>(text: &'a [u8], pieces: &[&str]) -> Option<&'a [u8]> {
     Some(rest)
 }
 
-/// Whether a text is these pieces, one behind the other.
+/// Whether a text is these pieces, one after the other.
 pub fn is_joined(text: &[u8], pieces: &[&str]) -> bool {
     match behind(text, pieces) {
         Some(rest) => rest.is_empty(),
@@ -331,7 +331,7 @@ pub fn says(desk: &Desk, wanted: &Wanted) -> bool {
         && is_joined(desk.err.as_slice(), &wanted.err)
 }
 
-/// Whether a call writes and answers what it wants.
+/// Whether a call writes and returns what it wants.
 pub fn agrees<R: Threads + Sync>(rt: &R, alloc: Global, call: &Call) -> bool {
     match said(rt, alloc, call) {
         Ok(desk) => says(&desk, &call.wanted),
@@ -339,7 +339,7 @@ pub fn agrees<R: Threads + Sync>(rt: &R, alloc: Global, call: &Call) -> bool {
     }
 }
 
-/// Whether the call of each row of a table writes and answers what the row says.
+/// Whether the call of each row of a table writes and returns what the row says.
 pub fn table_agrees<R: Threads + Sync, T: Row>(rt: &R, alloc: Global, rows: &[T]) -> bool {
     for row in rows {
         if !agrees(rt, alloc, &row.call()) {
@@ -349,7 +349,7 @@ pub fn table_agrees<R: Threads + Sync, T: Row>(rt: &R, alloc: Global, rows: &[T]
     true
 }
 
-/// Whether the call of each row of these tables writes and answers what the row says.
+/// Whether the call of each row of these tables writes and returns what the row says.
 pub fn all_agree<R: Threads + Sync, T: Row>(rt: &R, alloc: Global, tables: &[&[T]]) -> bool {
     for rows in tables {
         if !table_agrees(rt, alloc, rows) {

@@ -1,4 +1,4 @@
-//! Origins that lead over stores back to a root. Pairs of an origin and a site are numbered behind the roots.
+//! Origins that lead over stores back to a root. Pairs of an origin and a site are numbered after the roots.
 
 use crate::calls::Case;
 use crate::modules::Marked;

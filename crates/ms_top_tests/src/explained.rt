@@ -615,7 +615,7 @@ verdict: clean
 ====
 "#;
 
-/// A byte that is read from the standard input is clean, and one behind it is not; an input isn't there without its option.
+/// A byte that is read from the standard input is clean, and one after it is not; an input isn't there without its option.
 struct Read(
     &'static str,
     &'static [(&'static str, &'static str)],

@@ -1,4 +1,4 @@
-//! What `check` says of the bytes that externals read, and of shadow and origins behind their calls. Masks, sites and origins
+//! What `check` says of the bytes that externals read, and of shadow and origins after their calls. Masks, sites and origins
 //! were worked out by hand.
 
 use crate::block_bytes::{BLOCKS, COPIES, MOVED_BLOCKS};

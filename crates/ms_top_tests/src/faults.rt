@@ -17,7 +17,7 @@ const STORED: &str = r#"define i32 @main() {
 }
 "#;
 
-/// Writes four bytes, of which the third is unset, behind one that is printed.
+/// Writes four bytes, of which the third is unset, after one that is printed.
 const WITH_GAP: &str = r#"define i32 @main() {
   %1 = alloca [4 x i8]
   %2 = call i32 @putchar(i32 62)
@@ -328,7 +328,7 @@ static LONG_AND_UNHELD: [Failing; 12] = [
     ),
 ];
 
-/// Behind a failed put nothing is put.
+/// After a failed put nothing is put.
 static SINKS: [Failing; 22] = [
     Failing("check f", WITH_GAP, 0, &[], Taking(&[], 0), ALL, "", "", 7),
     Failing(
@@ -529,7 +529,7 @@ static SINKS: [Failing; 22] = [
 ];
 
 /// Long texts are put in pieces.
-/// A text is put in pieces of at most 65536 bytes, and behind one that fails nothing is put.
+/// A text is put in pieces of at most 65536 bytes, and after one that fails nothing is put.
 static PIECES: [Piece; 4] = [
     Piece(&[0], 0, "", 7),
     Piece(&[1], 65536, "", 7),

@@ -93,7 +93,7 @@ static REFUSALS: [&str; 17] = [
 /// A sink for a few lines.
 const FEW: Taking<'static> = Taking(&[], 1000);
 
-/// The words, and the verdict behind the closing lines.
+/// The words, and the verdict after the closing lines.
 struct Printed(&'static str, &'static str);
 
 /// Output has an end: what a run may print at most is printed, and then it traps.

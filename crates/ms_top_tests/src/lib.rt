@@ -1,4 +1,4 @@
-//! What `msan` writes and answers for words and a file: calls over files and sinks in memory.
+//! What `msan` writes and returns for words and a file: calls over files and sinks in memory.
 #![tactic(auto)]
 
 #[cfg(test)]

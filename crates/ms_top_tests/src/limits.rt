@@ -1,4 +1,4 @@
-//! Limits on what a text may have, which its first token behind them passes. Tokens and bytes were counted by hand.
+//! Limits on what a text may have, which its first token after them passes. Tokens and bytes were counted by hand.
 
 use crate::calls::{Call, Row, all_agree, on_text, saying};
 use std::test::Fail;

@@ -10,14 +10,14 @@ use std::thread::Threads;
 #[derive(Clone, Copy)]
 struct Listing(&'static str, &'static str, &'static str, &'static str);
 
-/// The slots, which stand behind the globals of a module.
+/// The slots, which stand after the globals of a module.
 const SLOTS: &str = r#"@__msan_param_tls = global [ 100 x i64 ] zeroinitializer
 @__msan_param_origin_tls = global [ 100 x i32 ] zeroinitializer
 @__msan_retval_tls = global i64 0
 @__msan_retval_origin_tls = global i32 0
 "#;
 
-/// The declarations of the runtime functions, which stand behind those of a module.
+/// The declarations of the runtime functions, which stand after those of a module.
 const RUNTIME: &str = r#"declare void @__msan_check(i64, i32, i32, i32, i32, i32)
 declare void @__msan_check_memory(ptr, i64, i32, i32)
 declare void @__msan_check_string(ptr, i32)

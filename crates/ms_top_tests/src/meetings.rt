@@ -131,7 +131,7 @@ fn sixteen_functions(alloc: Global) -> Result<Boxed<CheckedModule>, NoMemory>
     Boxed::new(alloc, CheckedModule::of_valid(alloc, module)?)
 }
 
-/// Instruments a module, whose pieces enter a gate, and answers whether there was memory for it.
+/// Instruments a module, whose pieces enter a gate, and returns whether there was memory for it.
 fn enter<R: Threads + Sync>(rt: &R, alloc: Global, m: &CheckedModule, gate: &Meeting) -> bool
     requires { CanInstrument m.now }
 {

@@ -2,7 +2,7 @@
 
 use crate::calls::{Beside, Call, Row, Terms, Wanted, on_text, saying};
 
-/// Declares every external; it stands behind the text of each row.
+/// Declares every external; it stands after the text of each row.
 const EXTERNALS: &str = r#"
 declare ptr @malloc(i64)
 declare ptr @calloc(i64, i64)
@@ -35,7 +35,7 @@ const SLOTS: &str = r#"@__msan_param_tls = global [100 x i64] zeroinitializer
 @__msan_retval_origin_tls = global i32 0
 "#;
 
-/// Declares the runtime functions and the externals that rows with marks call; it stands behind the text of such a row.
+/// Declares the runtime functions and the externals that rows with marks call; it stands after the text of such a row.
 const RUNTIME: &str = r#"
 declare void @__msan_check(i64, i32, i32, i32, i32, i32)
 declare void @__msan_check_memory(ptr, i64, i32, i32)
@@ -103,7 +103,7 @@ pub fn closed<'a>(out: &'a [u8], letters: usize, end: &'a str, status: u8) -> Wa
     }
 }
 
-/// A call on these texts, one behind the other.
+/// A call on these texts, one after the other.
 fn on_texts<'a>(
     words: &'a str,
     texts: [&'a str; 3],

@@ -135,7 +135,7 @@ fn table_is_told<R: Threads + Sync, T: Row + Told>(
     }
 }
 
-/// Whether each of these tables has so many rows, and the call of each row writes and answers what the row says.
+/// Whether each of these tables has so many rows, and the call of each row writes and returns what the row says.
 pub fn all_told<R: Threads + Sync, T: Row + Told>(
     rt: &R,
     alloc: Global,

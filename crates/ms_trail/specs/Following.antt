@@ -81,7 +81,7 @@ FramesPass s m (fr ∷ below) w = InstPasses s m (rest_of m fr) fr w
 abbrev pub Passes : Module → Setup → Traced → Type 0
 Passes m u t = FramesPass (setting_of m u) m t.state.frames t.state.world
 
--- a step was taken behind checks that pass: the run goes on, or it ended without a report
+-- a step was taken after checks that pass: the run goes on, or it ended without a report
 abbrev pub Went : Module → Setup → Traced → Bool → Follower → Type 0
 Went m u t true f = (c : ShadowState) × ((shadow_step by_formulas (setting_of m u) m t.state ≡ More c) × IsFollowed m u (traced_on (setting_of m u) m t c) f)
 Went m u t false f = (e : End) × (w : World) × ((shadow_step by_formulas (setting_of m u) m t.state ≡ Stop e w) × (e ≢ «end».Reported))

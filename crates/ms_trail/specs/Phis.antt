@@ -22,7 +22,7 @@ phis_told event frame func from (i ∷ is) n site (mask ∷ masks) =
     ]
 phis_told event frame func from _ n site _ = []
 
--- the rows of phis with these masks are there, with few roots, and there are sites before the one behind them
+-- the rows of phis with these masks are there, with few roots, and there are sites before the one after them
 pub record TellsPhis (rows : List Row) (first : ℕ) (masks : List ℕ) (behind : ℕ) : Type 0 where
   pub there : (k : ℕ) → k < length masks → first + k < length rows
   pub few : (k : ℕ) (row : Row) → k < length masks → slice_get rows (first + k) ≡ Some row → row.roots + count_undefs (operands row.inst.now.op) < 2 ^ 32

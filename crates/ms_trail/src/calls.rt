@@ -45,7 +45,7 @@ pub(crate) fn argument_masks(
     Ok(masks)
 }
 
-/// The masks of a call's values: those of its arguments, and none behind.
+/// The masks of a call's values: those of its arguments, and none after.
 fn clean_behind(masks: &mut Vec<u64>, values: usize) -> Result<(), NoMemory>
     requires { length masks.old.items ≤ values }
     ensures { OnOk result (masks.new.items ≡ masks.old.items ++ replicate (values - length masks.old.items) 0) }
@@ -63,7 +63,7 @@ fn function_at(m: &Module, func: usize) -> &Func
 }
 
 /// The moves of the arguments of a call in the call with a number, whose masks these begin with, to the parameters of the call
-/// that was entered. The one error is want of memory.
+/// that was entered. The one error is running out of memory.
 fn tell_params(
     alloc: Global,
     log: &mut Log,
@@ -108,7 +108,7 @@ pub(crate) fn put_result(masks: &mut Vec<u64>, code: &Code, mask: u64)
 }
 
 /// The move of a word with a mask from a return, in the call that was left, to the result of the call that it goes back to, if that
-/// has one. The one error is want of memory.
+/// has one. The one error is running out of memory.
 fn tell_back(
     alloc: Global,
     log: &mut Log,
@@ -131,7 +131,7 @@ fn tell_back(
 }
 
 impl Follower<'_> {
-    /// A call of a function of the module. Answers whether the run goes on. The one error is want of memory.
+    /// A call of a function of the module. Returns whether the run goes on. The one error is running out of memory.
     pub(crate) fn call(
         &mut self,
         alloc: Global,
@@ -181,7 +181,7 @@ impl Follower<'_> {
         }
     }
 
-    /// A return. Answers whether the run goes on. The one error is want of memory.
+    /// A return. Returns whether the run goes on. The one error is running out of memory.
     pub(crate) fn leave(
         &mut self,
         alloc: Global,

@@ -54,7 +54,7 @@ pub struct Follower<'m> {
 }
 
 impl<'m> Follower<'m> {
-    /// The start of a run that ends at its first report. The one error is want of memory.
+    /// The start of a run that ends at its first report. The one error is running out of memory.
     pub fn new(alloc: Global, m: &'m CheckedModule, setup: &'m Setup) -> Result<Self, NoMemory>
         requires plain { CanInstrument m.now }
         requires limits { WithinLimits setup.now }

@@ -37,7 +37,7 @@ fn put_masks(masks: &mut Vec<u64>, moves: &[Move], read: &[u64])
 }
 
 /// The moves of phis with these masks, the first of which has a number, in a jump from the block with a name; the instruction
-/// behind them has a site. The one error is want of memory.
+/// after them has a site. The one error is running out of memory.
 fn tell_phis(
     alloc: Global,
     log: &mut Log,
@@ -73,7 +73,7 @@ fn tell_phis(
 }
 
 impl Follower<'_> {
-    /// A jump: its phis all read the masks before it. Answers whether the run goes on. The one error is want of memory.
+    /// A jump: its phis all read the masks before it. Returns whether the run goes on. The one error is running out of memory.
     pub(crate) fn jump(&mut self, alloc: Global, code: &Code, edge: &Edge) -> Result<bool, NoMemory>
         requires ready { IsReady self.old code.now }
         requires jumps { IsJump code.now }

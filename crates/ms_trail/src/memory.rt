@@ -24,7 +24,7 @@ fn value_at(values: &Vec<u64>, place: usize) -> u64
 }
 
 impl Follower<'_> {
-    /// An `alloca` of `count` elements of `size` bytes. Answers whether the run goes on. The one error is want of memory.
+    /// An `alloca` of `count` elements of `size` bytes. Returns whether the run goes on. The one error is running out of memory.
     pub(crate) fn alloca(
         &mut self,
         alloc: Global,
@@ -68,7 +68,7 @@ impl Follower<'_> {
         }
     }
 
-    /// A store of `size` bytes. Answers whether the run goes on. The one error is want of memory.
+    /// A store of `size` bytes. Returns whether the run goes on. The one error is running out of memory.
     pub(crate) fn store(
         &mut self,
         alloc: Global,

@@ -105,7 +105,7 @@ fn answer_mask(external: External, words: &[u64], masks: &[u64]) -> u64
 }
 
 /// The move of a word with a mask from the operand with a place to the result of its instruction, in the call with a number, if it
-/// has one. The one error is want of memory.
+/// has one. The one error is running out of memory.
 fn tell_answer(
     alloc: Global,
     log: &mut Log,
@@ -126,7 +126,7 @@ fn tell_answer(
     }
 }
 
-/// Puts the mask of what a call was answered, if it was answered something, and tells its move. The one error is want of memory.
+/// Puts the mask of what a call was answered, if it was answered something, and tells its move. The one error is running out of memory.
 fn note_answer(
     alloc: Global,
     masks: &mut Vec<u64>,
@@ -205,7 +205,7 @@ fn shade_bytes(
     shade_set(alloc, world, log, stamp, &from, addr, n, byte)
 }
 
-/// What a call of an external that was answered, in the call with a number, does to the shadow of memory. The one error is want of
+/// What a call of an external that was answered, in the call with a number, does to the shadow of memory. The one error is running out of
 /// memory.
 fn shade_memory(
     alloc: Global,
@@ -256,7 +256,7 @@ fn shade_memory(
 }
 
 impl Follower<'_> {
-    /// A call of an external. Answers whether the run goes on. The one error is want of memory.
+    /// A call of an external. Returns whether the run goes on. The one error is running out of memory.
     pub(crate) fn call_outside(
         &mut self,
         alloc: Global,

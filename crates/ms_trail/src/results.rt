@@ -45,7 +45,7 @@ impl Follower<'_> {
         (mask, place)
     }
 
-    /// An instruction that sets a value by its operands alone. Answers whether the run goes on. The one error is want of memory.
+    /// An instruction that sets a value by its operands alone. Returns whether the run goes on. The one error is running out of memory.
     pub(crate) fn compute(
         &mut self,
         alloc: Global,
@@ -84,7 +84,7 @@ impl Follower<'_> {
         }
     }
 
-    /// A load of `size` bytes, which keeps the bits of `cut`. Answers whether the run goes on. The one error is want of memory.
+    /// A load of `size` bytes, which keeps the bits of `cut`. Returns whether the run goes on. The one error is running out of memory.
     pub(crate) fn load(
         &mut self,
         alloc: Global,

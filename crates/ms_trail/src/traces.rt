@@ -31,7 +31,7 @@ fn reported(log: Log, at: Source) -> Trace
 }
 
 /// Follows a run of a checked module up to its first report, whatever limit of reports the setup has. Ok is the moves of poisoned
-/// bits that come before it, with what the report's use reads, or why there is no such list; the one error is want of memory.
+/// bits that come before it, with what the report's use reads, or why there is no such list; the one error is running out of memory.
 ///
 /// The run is that of the machine, one step at a time, and the masks of its values are computed beside it. A step takes as long
 /// in a large module as in a small one, but for a phi, which takes the time of a walk over its edges.

@@ -34,7 +34,7 @@ fn place_set(code: &Code) -> Option<usize>
 }
 
 impl Follower<'_> {
-    /// What a use that is reported reads. The one error is want of memory.
+    /// What a use that is reported reads. The one error is running out of memory.
     fn read_by(&self, alloc: Global, code: &Code, used: Used) -> Result<Source, NoMemory>
         requires going { IsGoing self.now }
         requires due { IsDue self.now.m.now self.now.fiber self.now.world code.now }
@@ -49,8 +49,8 @@ impl Follower<'_> {
         }
     }
 
-    /// What the instruction that is due does, where it neither sets a value by its operands alone nor jumps. Answers whether the run
-    /// goes on; the one error is want of memory.
+    /// What the instruction that is due does, where it neither sets a value by its operands alone nor jumps. Returns whether the run
+    /// goes on; the one error is running out of memory.
     fn do_other(&mut self, alloc: Global, code: &Code) -> Result<bool, NoMemory>
         requires ready { IsReady self.old code.now }
         requires sets { sets_at code.now ≡ None }
@@ -94,8 +94,8 @@ impl Follower<'_> {
         }
     }
 
-    /// What the instruction that is due does, where it sets no value by its operands alone. Answers whether the run goes on; the one
-    /// error is want of memory.
+    /// What the instruction that is due does, where it sets no value by its operands alone. Returns whether the run goes on; the one
+    /// error is running out of memory.
     fn do_rest(&mut self, alloc: Global, code: &Code) -> Result<bool, NoMemory>
         requires ready { IsReady self.old code.now }
         requires sets { sets_at code.now ≡ None }
@@ -109,7 +109,7 @@ impl Follower<'_> {
         }
     }
 
-    /// What the instruction that is due does. Answers whether the run goes on; the one error is want of memory.
+    /// What the instruction that is due does. Returns whether the run goes on; the one error is running out of memory.
     fn do_inst(&mut self, alloc: Global, code: &Code) -> Result<bool, NoMemory>
         requires ready { IsReady self.old code.now }
         ensures went { (u : SetupOf) (t : Traced) → IsFollowed self.old.m.now u t self.old → Passes self.old.m.now u t → IfOk result (λ on. Went self.old.m.now u t on self.new) }
@@ -121,7 +121,7 @@ impl Follower<'_> {
         }
     }
 
-    /// What the instruction that is due reads of poisoned bits, where that is reported. The one error is want of memory.
+    /// What the instruction that is due reads of poisoned bits, where that is reported. The one error is running out of memory.
     fn found(&self, alloc: Global, code: &Code) -> Result<Option<Source>, NoMemory>
         requires going { IsGoing self.now }
         requires due { IsDue self.now.m.now self.now.fiber self.now.world code.now }
@@ -136,7 +136,7 @@ impl Follower<'_> {
         }
     }
 
-    /// The step, behind checks that pass. The one error is want of memory.
+    /// The step, after checks that pass. The one error is running out of memory.
     fn go_on(&mut self, alloc: Global, code: &Code) -> Result<Turn, NoMemory>
         requires ready { IsReady self.old code.now }
         ensures turned { (u : SetupOf) (t : Traced) → IsFollowed self.old.m.now u t self.old → Passes self.old.m.now u t → IfOk result (λ turn. Turned self.old.m.now u t turn self.new) }
@@ -146,7 +146,7 @@ impl Follower<'_> {
         if on { Ok(Turn::On) } else { Ok(Turn::Over) }
     }
 
-    /// One step. The one error is want of memory, and the run is over then.
+    /// One step. The one error is running out of memory, and the run is over then.
     pub fn turn(&mut self, alloc: Global) -> Result<Turn, NoMemory>
         requires going { IsGoing self.old }
         ensures turned { (u : SetupOf) (t : Traced) → u.reports ≡ 1 → IsFollowed self.old.m.now u t self.old → IfOk result (λ turn. Turned self.old.m.now u t turn self.new) }

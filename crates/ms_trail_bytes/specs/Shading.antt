@@ -28,7 +28,7 @@ pub record IsRange (addr n : ℕ) : Type 0 where
   pub high : addr + n < 2 ^ 48
   pub few : n ≤ 2 ^ 26
 
--- what is known of the world behind an external that gave a number: where its bytes are
+-- what is known of the world after an external that gave a number: where its bytes are
 abbrev pub Facts : External → List Poisoned → (before : World) → (given : ℕ) → (after : World) → Type 0
 Facts Malloc ps before given after = given ≡ heap_place (word_at 0 ps).value before
 Facts Realloc ps before given after =
@@ -42,7 +42,7 @@ Facts Memset ps before given after = is_good after (word_at 0 ps).value (word_at
 Facts LlvmMemset ps before given after = is_good after (word_at 0 ps).value (word_at 2 ps).value ≡ true
 Facts e ps before given after = Unit {0}
 
--- memory is shaded behind an external that gave a number, and its moves are told
+-- memory is shaded after an external that gave a number, and its moves are told
 abbrev pub Done : Beside → (event site root : ℕ) → List Poisoned → List Source → (before : World) → (given : ℕ) → (after : World) → List Move → WorldState → Log → External → Type 0
 Done beside event site root ps ss before given after moves w log e =
     ShadedAs beside after (external_shadow e ps before given after) w

@@ -21,7 +21,7 @@ span_move event site from copied addr r = moved event site (source_in from copie
 abbrev pub span_moves : (event site : ℕ) → (ℕ → ℕ) → Source → (copied : Bool) → (addr n : ℕ) → List Move
 span_moves event site shadow from copied addr n = map (span_move event site from copied addr) (runs shadow addr n)
 
--- behind these moves, those of the runs that begin before byte number k were told
+-- after these moves, those of the runs that begin before byte number k were told
 pub record Telling (event site : ℕ) (from : Source) (copied : Bool) (addr n : ℕ) (shadow : ℕ → ℕ) (moves : List Move) (log : Log) (k : ℕ) : Type 0 where
   pub told : List Move
   pub log_is : IsLog log told

@@ -42,7 +42,7 @@ fn tell_unset(
 }
 
 /// Makes the bytes with the numbers from `from` to before `to`, counted from an address, uninitialised, where they are good: they
-/// come from a root. The one error is want of memory.
+/// come from a root. The one error is running out of memory.
 pub fn unset(
     alloc: Global,
     world: &mut World,
@@ -71,7 +71,7 @@ pub fn unset(
 }
 
 /// Gives `size` good bytes the bytes of a mask as shadow, the least first: where it isn't 0, they come from a source. The one
-/// error is want of memory.
+/// error is running out of memory.
 pub fn shade_stored(
     alloc: Global,
     world: &mut World,
@@ -104,7 +104,7 @@ pub fn shade_stored(
 }
 
 /// Copies the shadow and the origins of `n` bytes to good ones, and notes in the list that each came from the byte at its
-/// distance. The one error is want of memory.
+/// distance. The one error is running out of memory.
 pub fn shade_copied(
     alloc: Global,
     world: &mut World,
@@ -133,7 +133,7 @@ pub fn shade_copied(
 }
 
 /// The moves of `n` bytes that were copied with their shadow, where they are good: each one comes from the byte at its distance. The
-/// one error is want of memory.
+/// one error is running out of memory.
 pub fn tell_copied(
     alloc: Global,
     world: &World,
@@ -158,7 +158,7 @@ pub fn tell_copied(
     }
 }
 
-/// Gives `n` good bytes a mask that isn't 0 as shadow: they come from a source. The one error is want of memory.
+/// Gives `n` good bytes a mask that isn't 0 as shadow: they come from a source. The one error is running out of memory.
 pub fn shade_filled(
     alloc: Global,
     world: &mut World,

@@ -36,7 +36,7 @@ impl Log {
         self.count < MOVE_LIMIT
     }
 
-    /// One move more, which is kept. The one error is want of memory.
+    /// One move more, which is kept. The one error is running out of memory.
     pub fn push(&mut self, told: Move) -> Result<(), NoMemory>
         requires room { self.old.count < move_limit }
         requires few { self.old.count + 1 < 2 ^ 64 }
@@ -58,7 +58,7 @@ impl Log {
         self.count += 1;
     }
 
-    /// One move more, which is kept where there is room. The one error is want of memory.
+    /// One move more, which is kept where there is room. The one error is running out of memory.
     #[tactic(auto, unfolding(crate::specs::Logs::move_limit))]
     pub fn add(&mut self, told: Move) -> Result<(), NoMemory>
         requires { self.old.count + 1 < 2 ^ 64 }

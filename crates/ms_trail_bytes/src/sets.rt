@@ -23,7 +23,7 @@ fn is_clean(mask: u8, n: u64) -> bool
     mask == 0 || n == 0
 }
 
-/// Gives `n` good bytes a byte of a mask as shadow: where it isn't 0, they come from a source. The one error is want of memory.
+/// Gives `n` good bytes a byte of a mask as shadow: where it isn't 0, they come from a source. The one error is running out of memory.
 pub fn shade_set(
     alloc: Global,
     world: &mut World,

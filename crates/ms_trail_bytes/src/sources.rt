@@ -13,7 +13,7 @@ use ms_moves::sources::{roots_before, source_at};
 use std::alloc::Global;
 
 /// What a phi is read from in the call with a number, in a jump from the block with a name; so many roots stand before it. The
-/// one error is want of memory.
+/// one error is running out of memory.
 pub fn phi_source(
     alloc: Global,
     frame: u64,
@@ -31,7 +31,7 @@ pub fn phi_source(
 }
 
 /// What the operand that is stored is read from, in the call with a number; so many roots stand before the instruction. Root 0 where
-/// its mask is 0. The one error is want of memory.
+/// its mask is 0. The one error is running out of memory.
 pub fn stored_source(
     alloc: Global,
     frame: u64,
@@ -50,7 +50,7 @@ pub fn stored_source(
     Ok(from)
 }
 
-/// The root that an instruction is itself, before which so many roots stand: it comes behind those of its operands.
+/// The root that an instruction is itself, before which so many roots stand: it comes after those of its operands.
 pub fn own_root(before: u32, op: &Op) -> u32
     requires { before + count_undefs (operands op.now) + 1 < 2 ^ 32 }
     ensures { result ≡ before + count_undefs (operands op.now) + 1 }
@@ -59,7 +59,7 @@ pub fn own_root(before: u32, op: &Op) -> u32
 }
 
 /// The result of an instruction of the call with a number, as a place that is written; `%0` where it has no name. The one
-/// error is want of memory.
+/// error is running out of memory.
 pub fn result_target(alloc: Global, frame: u64, inst: &Inst) -> Result<Target, NoMemory>
     ensures { IfOk result (λ t. t ≡ place.Value frame (unwrap_or inst.now.result (Name.Number 0))) }
 {

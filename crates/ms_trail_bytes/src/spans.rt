@@ -28,7 +28,7 @@ fn shadow_at(world: &World, addr: u64, n: u64, k: u64) -> u64
     }
 }
 
-/// The number that lies so far behind another, but at most `n`.
+/// The number that lies so far after another, but at most `n`.
 fn at_most(n: u64, first: u64, part: u64) -> u64
     requires { first ≤ n }
     ensures past { first ≤ result }
@@ -68,7 +68,7 @@ fn is_full(world: &World, addr: u64, n: u64, k: u64) -> bool
     }
 }
 
-/// The number of a byte behind which no eight of `n` live ones are poisoned in each bit, and before which all are poisoned from one
+/// The number of a byte after which no eight of `n` live ones are poisoned in each bit, and before which all are poisoned from one
 /// with a number on.
 fn past_full(world: &World, addr: u64, n: u64, first: u64) -> u64
     requires live { IsTrue (is_live addr n world.now.planes.table) }
@@ -107,7 +107,7 @@ fn past_poisoned(world: &World, addr: u64, n: u64, first: u64) -> u64
     n
 }
 
-/// Where a run of bytes comes from that begins so far behind the first of bytes that come from a byte.
+/// Where a run of bytes comes from that begins so far after the first of bytes that come from a byte.
 fn byte_source(addr: u64, copied: bool, k: u64) -> Source
     requires { addr + k < 2 ^ 64 }
     ensures { result ≡ source_in (Source.Byte addr) copied k }
@@ -130,7 +130,7 @@ fn value_source(alloc: Global, frame: u64, name: &Name) -> Result<Source, NoMemo
     })
 }
 
-/// Where a run of bytes comes from that begins so far behind the first byte: bytes that were copied come from the bytes at
+/// Where a run of bytes comes from that begins so far after the first byte: bytes that were copied come from the bytes at
 /// their distance, and others from one source.
 fn run_source(alloc: Global, from: &Source, copied: bool, k: u64) -> Result<Source, NoMemory>
     requires { (a : ℕ) → from.now ≡ Source.Byte a → a + k < 2 ^ 64 }
@@ -150,7 +150,7 @@ pub struct Stamp {
     pub site: u32,
 }
 
-/// The move of the run that begins with byte number `k` of `n` live ones, if one does. Answers the number of the byte behind it,
+/// The move of the run that begins with byte number `k` of `n` live ones, if one does. Returns the number of the byte after it,
 /// else of the next one.
 fn tell_run(
     alloc: Global,
@@ -191,7 +191,7 @@ fn tell_run(
     }
 }
 
-/// The move of the next run from byte number `k` of `n` live ones on, if there is one. Answers the number of the byte behind it,
+/// The move of the next run from byte number `k` of `n` live ones on, if there is one. Returns the number of the byte after it,
 /// else `n`.
 fn tell_next(
     alloc: Global,
@@ -221,7 +221,7 @@ fn tell_next(
     }
 }
 
-/// The moves of `n` live bytes that were written: one for each of the longest runs of poisoned ones. The one error is want of
+/// The moves of `n` live bytes that were written: one for each of the longest runs of poisoned ones. The one error is running out of
 /// memory.
 pub fn tell_bytes(
     alloc: Global,

@@ -81,7 +81,7 @@ fn tell_good(
 }
 
 /// The moves of the bytes with the numbers from `from` to before `to`, counted from an address, where they are good: they come from
-/// a root. The one error is want of memory.
+/// a root. The one error is running out of memory.
 fn tell_made(
     alloc: Global,
     world: &World,
@@ -107,7 +107,7 @@ fn tell_made(
 }
 
 /// Makes the bytes with the numbers from `from` to before `to`, counted from an address, uninitialised, where they are good: they
-/// come from a root. The one error is want of memory.
+/// come from a root. The one error is running out of memory.
 pub fn shade_unset(
     alloc: Global,
     world: &mut World,
@@ -130,7 +130,7 @@ pub fn shade_unset(
 }
 
 /// Copies the shadow of `n` bytes from one good range to another: each byte comes from the one at its distance. The one error is
-/// want of memory.
+/// running out of memory.
 pub fn shade_copy(
     alloc: Global,
     world: &mut World,
@@ -185,7 +185,7 @@ fn tell_block(
     }
 }
 
-/// A block was reallocated to `n` bytes: what it had came along, and the rest is uninitialised. The one error is want of memory.
+/// A block was reallocated to `n` bytes: what it had came along, and the rest is uninitialised. The one error is running out of memory.
 pub fn shade_moved(
     alloc: Global,
     world: &mut World,

@@ -144,7 +144,7 @@ plain_read ps shape.Compared = three_read ps
 plain_read ps shape.Written = three_read ps
 plain_read ps shape.Text = word_read ps 0
 
--- of memory, behind those
+-- of memory, after those
 abbrev pub memory_read : World → List Poisoned → Shape → Option Used
 memory_read w ps shape.Compared = or_used (bytes_read w ps 0 2) (bytes_read w ps 1 2)
 memory_read w ps shape.Written = bytes_read w ps 1 2

@@ -80,7 +80,7 @@ fn better(integer: bool, mask: u64, best: usize, k: usize) -> usize
     if integer || mask == 0 { best } else { k }
 }
 
-/// The number of the next stride behind an operand.
+/// The number of the next stride after an operand.
 fn behind(integer: bool, next: usize) -> usize
     requires { next + 1 < 2 ^ 64 }
     ensures is { result ≡ (if integer then next else next + 1) }

@@ -12,7 +12,7 @@ pub struct Shade {
 }
 
 impl Shade {
-    /// A call with so many values, of which none is poisoned. The one error is want of memory.
+    /// A call with so many values, of which none is poisoned. The one error is running out of memory.
     pub fn new(alloc: Global, number: u64, values: usize) -> Result<Shade, NoMemory>
         ensures number { IfOk result (λ s. s.number ≡ number) }
         ensures masks { IfOk result (λ s. s.masks.items ≡ replicate values 0) }

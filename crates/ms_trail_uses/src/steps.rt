@@ -21,7 +21,7 @@ fn is_spent(pause: &Pause) -> bool
 }
 
 /// Has the machine take one step, in a module without marked instructions, from an instruction that asks for no call.
-/// Answers whether the run goes on. The one error is want of memory.
+/// Returns whether the run goes on. The one error is running out of memory.
 pub fn step(
     alloc: Global,
     m: &CheckedModule,

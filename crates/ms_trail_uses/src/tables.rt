@@ -61,7 +61,7 @@ fn own_roots(functions: &NameTable<'_>, op: &Op) -> u32
     }
 }
 
-/// How many roots stand behind an instruction, before which so many stand.
+/// How many roots stand after an instruction, before which so many stand.
 fn roots_behind(functions: &NameTable<'_>, first: u32, inst: &Inst) -> u32
     requires { first + roots_in (first_place functions.now) inst.now < 2 ^ 32 }
     ensures { result ≡ first + roots_in (first_place functions.now) inst.now }
@@ -73,8 +73,8 @@ fn roots_behind(functions: &NameTable<'_>, first: u32, inst: &Inst) -> u32
     first + undefined + own_roots(functions, &inst.op)
 }
 
-/// Appends the rows of the instructions of a block with a name, before which so many roots stand. Answers how many stand
-/// behind them.
+/// Appends the rows of the instructions of a block with a name, before which so many roots stand. Returns how many stand
+/// after them.
 fn push_insts<'m>(
     rows: &mut Vec<Row<'m>>,
     functions: &NameTable<'m>,
@@ -95,7 +95,7 @@ fn push_insts<'m>(
     Ok(roots)
 }
 
-/// Appends the rows of the instructions of the blocks of a function. Answers how many roots stand behind them.
+/// Appends the rows of the instructions of the blocks of a function. Returns how many roots stand after them.
 fn push_blocks<'m>(
     rows: &mut Vec<Row<'m>>,
     functions: &NameTable<'m>,
@@ -133,7 +133,7 @@ fn rows_of<'m>(
 }
 
 impl<'m> Tables<'m> {
-    /// The rows of a module. Near to linear in it. The one error is want of memory.
+    /// The rows of a module. Near to linear in it. The one error is running out of memory.
     pub fn of(alloc: Global, m: &'m Module) -> Result<Tables<'m>, NoMemory>
         requires { count_roots m.now < 2 ^ 32 }
         ensures { IfOk result (λ tables. AreTables m.now tables.rows.items) }

@@ -253,7 +253,7 @@ pub fn first_argument(view: &View<'_>, world: &World, args: &[Source], shape: Sh
     or_else(first, second)
 }
 
-/// The first argument of `printf` behind its format whose word is poisoned.
+/// The first argument of `printf` after its format whose word is poisoned.
 pub fn printed_word(view: &View<'_>, args: &[Source]) -> Option<Used>
     requires view { IsView view.now }
     requires args { All (IsSource (length view.now.values.now) 64) args.now }

@@ -109,11 +109,11 @@ with_func x ret params insts m = record m {
   } ∷ [];
 }
 
--- a function that answers nothing and does nothing
+-- a function that returns nothing and does nothing
 abbrev pub with_empty_func : List ℕ → List (Ty × Name) → Module → Module
 with_empty_func x params m = with_func x None params (does (op.Ret None) ∷ []) m
 
--- a call of a function that answers nothing
+-- a call of a function that returns nothing
 abbrev pub calls_void : List ℕ → List (Ty × Operand) → Inst
 calls_void x args = does (op.Call None (Text x) args)
 

@@ -73,7 +73,7 @@ abbrev pub steps_formed : List AddressStep → Bool
 steps_formed [] = false
 steps_formed (s ∷ inner) = step_formed s && list_all step_formed inner
 
--- an operand as it may stand behind a type: a number behind an integer type, and `null` behind `ptr`
+-- an operand as it may stand after a type: a number after an integer type, and `null` after `ptr`
 abbrev pub operand_formed : Ty → Operand → Bool
 operand_formed t (operand.Int k) = number_formed t k
 operand_formed Ptr operand.Null = true
@@ -89,7 +89,7 @@ abbrev pub is_constant : Operand → Bool
 is_constant (operand.Local x) = false
 is_constant o = true
 
--- an initialiser as it may stand behind a type, and its items or fields with their types
+-- an initialiser as it may stand after a type, and its items or fields with their types
 abbrev mutual
   pub init_formed : Ty → Init → Bool
   init_formed t (initial.Value o) = is_constant o && operand_formed t o

@@ -31,7 +31,7 @@ arrives_within f x (suc n) = with_new (arrives_within f x n) (flat_map (goes_on 
 abbrev pub is_closed : Func → Name → List ℕ → Bool
 is_closed f x set = has_number set 0 && list_all (λ b. list_all (has_number set) (goes_on f x b)) set
 
--- a use stands outside such a list, or behind the definition in its block
+-- a use stands outside such a list, or after the definition in its block
 abbrev pub is_outside : Func → ValueUse → List ℕ → Bool
 is_outside f u set = is_closed f u.name set && (not (has_number set u.block) || has_name (results (take u.place (insts_of f u.block))) u.name)
 

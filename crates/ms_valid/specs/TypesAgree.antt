@@ -53,7 +53,7 @@ leads_into (Array' n shape item) index = true
 leads_into (Struct' packed shape fields) index = type_eq index.0 (Int 32) && is_below (min (length (row_types fields)) (2 ^ 31)) index.1
 leads_into t index = false
 
--- of the indices behind the first, which are counted from k on, the first that doesn't fit or leads into no part
+-- of the indices after the first, which are counted from k on, the first that doesn't fit or leads into no part
 abbrev pub first_misstep : (Ty × Operand → Bool) → Types → Ty → ℕ → List (Ty × Operand) → Option ℕ
 first_misstep fits types t k [] = None
 first_misstep fits types t k (index ∷ rest) =
@@ -80,7 +80,7 @@ abbrev pub is_type : Option Ty → Ty → Bool
 is_type None t = false
 is_type (Some u) t = type_eq u t
 
--- an operand has the type before it, where those of the values of its function are given; numbers and `null` stand behind
+-- an operand has the type before it, where those of the values of its function are given; numbers and `null` stand after
 -- no other type by their form, and a function is no value but where `fits_call` says so
 abbrev pub operand_fits : Module → (Name → Option Ty) → Ty → Operand → Bool
 operand_fits m typed t (operand.Local x) = is_type (typed x) t
@@ -105,7 +105,7 @@ abbrev pub differ : List (ℕ × Name) → Bool
 differ [] = true
 differ (c ∷ rest) = not (list_any (λ other. nat_eq other.0 c.0) rest) && differ rest
 
--- 'ret' gives a value of the type that the function answers, or none where it answers none
+-- 'ret' gives a value of the type that the function returns, or none where it returns none
 abbrev pub returns_fit : (Ty × Operand → Bool) → Option Ty → Option (Ty × Operand) → Bool
 returns_fit fits None None = true
 returns_fit fits (Some t) (Some v) = type_eq v.0 t && fits v

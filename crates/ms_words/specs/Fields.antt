@@ -29,7 +29,7 @@ found_value f o = found_by (takes o) (first_value f (option_word o))
 abbrev pub found_file : Found → Word
 found_file f = unwrap_or (first_value f (codes "files")) []
 
--- the files behind the first one
+-- the files after the first one
 abbrev pub found_inputs : Found → List Word
 found_inputs f = drop 1 (unwrap_or (option_map raw_values (matched_of f (codes "files"))) [])
 

@@ -30,19 +30,19 @@ same = pointwise nat_eq
 abbrev pub Outcome : Type 0
 Outcome = Result (Next × Given) WordsError
 
--- what a call answers: what is expected of it, or that memory is wanting
+-- what a call returns: what is expected of it, or that memory runs out
 abbrev pub Answers : Outcome → Result Next WordsError → Given → Type 0
 Answers expected (Ok next) g = expected ≡ Ok (next, g)
 Answers expected (Err e) g = (e ≡ NoMemory) ⊎ (expected ≡ Err e)
 
 -- ---- options
 
--- what stands behind a first dash, 45
+-- what stands after a first dash, 45
 abbrev pub behind_dash : Word → Option Word
 behind_dash [] = None
 behind_dash (b ∷ rest) = if b == 45 then Some rest else None
 
--- what stands before the first `=`, 61, and behind it where there is one
+-- what stands before the first `=`, 61, and after it where there is one
 abbrev pub name_and_value : Word → Word × Option Word
 name_and_value text = (before_first (λ b. b == 61) text, if list_any (λ b. b == 61) text then Some (after_first (λ b. b == 61) text) else None)
 
@@ -56,7 +56,7 @@ abbrev pub known_option : CommandName → Word × Option Word → Option (Option
 known_option c parts = option_map (λ o. (o, parts.1))
     (find (λ o. same (option_word o) parts.0 && not (takes_nothing (takes o) && is_some parts.1)) (options_of c))
 
--- the same of what stands behind two dashes
+-- the same of what stands after two dashes
 abbrev pub option_in : CommandName → Option Word → Option (OptionName × Option Word)
 option_in c None = None
 option_in c (Some text) = known_option c (name_and_value text)
@@ -80,7 +80,7 @@ with_value_if None o value g = Ok (AnOption, with_option o value g)
 abbrev pub read_value : OptionName → ℕ → Word → Given → Outcome
 read_value o place value g = with_value_if (value_fault (takes o) place value) o value g
 
--- a value behind `=`, or else the next word where the option takes a value
+-- a value after `=`, or else the next word where the option takes a value
 abbrev pub begin_option : OptionName → Option Word → ℕ → Given → Outcome
 begin_option o (Some value) place g = read_value o place value g
 begin_option o None place g = if takes_nothing (takes o) then Ok (AnOption, with_option o [] g) else Ok (AValue o, g)
@@ -102,7 +102,7 @@ read_file c place word g =
 
 -- ---- all words
 
--- a word that isn't `--`, with what stands behind its first dash: `-` is a file, `-x` an unknown option, `--x` an option
+-- a word that isn't `--`, with what stands after its first dash: `-` is a file, `-x` an unknown option, `--x` an option
 abbrev pub read_plain : CommandName → Option Word → ℕ → Word → Given → Outcome
 read_plain c None place word g = read_file c place word g
 read_plain c (Some []) place word g = read_file c place word g

@@ -94,7 +94,7 @@ abbrev pub command_of : List Word → Result Command WordsError
 command_of [] = Err (UnknownCommand 0)
 command_of (word ∷ rest) = asked_or (find (asks word) topics) word rest
 
--- the answer to words: what they ask for, or that memory is wanting
+-- the answer to words: what they ask for, or that memory runs out
 abbrev pub IsAnswer : List Word → Result Command WordsError → Type 0
 IsAnswer words answer = (answer ≡ Err NoMemory) ⊎ (answer ≡ command_of words)
 
@@ -114,7 +114,7 @@ name_of (Repeated place) = codes "Repeated"
 name_of (OutOfRange place) = codes "OutOfRange"
 name_of NoMemory = codes "NoMemory"
 
--- the place of the word at fault; want of memory has none
+-- the place of the word at fault; running out of memory has none
 abbrev pub place_of : WordsError → ℕ
 place_of (UnknownCommand place) = place
 place_of (UnknownOption place) = place

@@ -11,7 +11,7 @@ use ms_bits::NoMemory;
 use ms_ir::{Block, Func, Name, Ty};
 use ms_write_values::Writer;
 
-/// Writes a parameter's name behind its type.
+/// Writes a parameter's name after its type.
 #[tactic(auto, using(ms_write_values::proofs::Puts::put_append))]
 fn write_parameter(writer: &mut Writer, parameter: &(Ty, Name)) -> Result<(), NoMemory>
     ensures { IfOk result (λ _. writer.new ≡ put writer.old (parameter_tokens parameter.now)) }
@@ -20,7 +20,7 @@ fn write_parameter(writer: &mut Writer, parameter: &(Ty, Name)) -> Result<(), No
     writer.local(&parameter.1)
 }
 
-/// Writes parameters behind a comma each.
+/// Writes parameters after a comma each.
 #[tactic(auto, using(ms_write_values::proofs::Puts::put_append))]
 fn write_more_parameters(writer: &mut Writer, parameters: &[(Ty, Name)]) -> Result<(), NoMemory>
     ensures { IfOk result (λ _. writer.new ≡ put writer.old (behind_commas (map parameter_tokens parameters.now))) }
@@ -79,7 +79,7 @@ fn write_head_line(writer: &mut Writer, func: &Func) -> Result<(), NoMemory>
     writer.end_line()
 }
 
-/// Writes a block behind its label.
+/// Writes a block after its label.
 #[tactic(auto, unfolding(ms_text_layout::specs::Modules::block_lines))]
 fn write_block_lines(writer: &mut Writer, dotted: bool, block: &Block) -> Result<(), NoMemory>
     ensures { IfOk result (λ _. writer.new ≡ put_lines writer.old (block_lines dotted block.now)) }
@@ -108,7 +108,7 @@ fn write_entry_lines(writer: &mut Writer, dotted: bool, entry: &Block) -> Result
     write_inst_lines(writer, dotted, entry.insts.as_slice())
 }
 
-/// Writes blocks behind the first one.
+/// Writes blocks after the first one.
 #[tactic(auto, using(ms_write_values::proofs::Puts::put_lines_append))]
 fn write_more_blocks(writer: &mut Writer, dotted: bool, blocks: &[Block]) -> Result<(), NoMemory>
     ensures { IfOk result (λ _. writer.new ≡ put_lines writer.old (flat_map (block_lines dotted) blocks.now)) }

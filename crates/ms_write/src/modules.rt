@@ -133,7 +133,7 @@ fn write_global_lines(writer: &mut Writer, globals: &[GlobalVar]) -> Result<(), 
     Ok(())
 }
 
-/// Writes the dots behind the parameters of a declaration that has them.
+/// Writes the dots after the parameters of a declaration that has them.
 fn write_dots(writer: &mut Writer, dotted: bool) -> Result<(), NoMemory>
     ensures { IfOk result (λ _. writer.new ≡ put writer.old (dot_tokens dotted)) }
 {
@@ -144,7 +144,7 @@ fn write_dots(writer: &mut Writer, dotted: bool) -> Result<(), NoMemory>
     Ok(())
 }
 
-/// Writes the types of a declaration's parameters between parentheses, with dots behind them where it has some.
+/// Writes the types of a declaration's parameters between parentheses, with dots after them where it has some.
 #[tactic(auto, using(ms_write_values::proofs::Puts::put_append, crate::proofs::Dots::put_dots))]
 fn write_parameter_types(writer: &mut Writer, decl: &Decl) -> Result<(), NoMemory>
     ensures { IfOk result (λ _. writer.new ≡ put writer.old (enclosed (codes "(") (codes ")") (map type_tokens decl.now.params ++ dots (is_dotted_of decl.now)))) }

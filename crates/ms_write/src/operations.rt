@@ -52,7 +52,7 @@ fn is_one(operand: &Operand) -> bool
     }
 }
 
-/// Writes an address behind `ptr`.
+/// Writes an address after `ptr`.
 fn write_address(writer: &mut Writer, address: &Operand) -> Result<(), NoMemory>
     ensures { IfOk result (λ _. writer.new ≡ put writer.old (address_tokens address.now)) }
 {
@@ -60,7 +60,7 @@ fn write_address(writer: &mut Writer, address: &Operand) -> Result<(), NoMemory>
     writer.typed(&ty, address)
 }
 
-/// Writes a bit behind its type.
+/// Writes a bit after its type.
 fn write_bit(writer: &mut Writer, bit: &Operand) -> Result<(), NoMemory>
     ensures { IfOk result (λ _. writer.new ≡ put writer.old (bit_tokens bit.now)) }
 {
@@ -165,7 +165,7 @@ fn write_edge(writer: &mut Writer, ty: &Ty, edge: &(Operand, Name)) -> Result<()
     writer.token(b"]")
 }
 
-/// Writes edges behind a comma each.
+/// Writes edges after a comma each.
 #[tactic(auto, using(ms_write_values::proofs::Puts::put_append))]
 fn write_more_edges(writer: &mut Writer, ty: &Ty, edges: &[(Operand, Name)]) -> Result<(), NoMemory>
     ensures { IfOk result (λ _. writer.new ≡ put writer.old (behind_commas (map (edge_tokens ty.now) edges.now))) }
@@ -201,7 +201,7 @@ fn write_phi(writer: &mut Writer, ty: &Ty, edges: &[(Operand, Name)]) -> Result<
     write_edges(writer, ty, edges)
 }
 
-/// Writes the count of an `alloca` behind a comma. That of one item isn't written where its type is `i32`.
+/// Writes the count of an `alloca` after a comma. That of one item isn't written where its type is `i32`.
 #[tactic(auto, using(ms_write_values::proofs::Puts::put_append))]
 fn write_item_count(writer: &mut Writer, ty: &Ty, count: &Operand) -> Result<(), NoMemory>
     ensures { IfOk result (λ _. writer.new ≡ put writer.old (behind_commas (count_tokens ty.now count.now))) }
@@ -351,7 +351,7 @@ fn write_case(writer: &mut Writer, ty: &Ty, case: &(u64, Name)) -> Result<(), No
     write_target(writer, &case.1)
 }
 
-/// Writes cases behind one another.
+/// Writes cases after one another.
 #[tactic(auto, using(ms_write_values::proofs::Puts::put_append))]
 fn write_cases(writer: &mut Writer, ty: &Ty, cases: &[(u64, Name)]) -> Result<(), NoMemory>
     ensures { IfOk result (λ _. writer.new ≡ put writer.old (flat_map (case_tokens ty.now) cases.now)) }

@@ -9,7 +9,7 @@ use Rattle.ms_text_layout.specs.Pieces.{sign, comma, three_dots}
 use Rattle.ms_text_layout.specs.Types.{type_tokens}
 use Rattle.ms_text_layout.specs.Values.{init_tokens, typed_tokens, value_tokens}
 
--- the digits of a signed number that is kept as a word: of the word, or behind a minus sign of how far it is below zero
+-- the digits of a signed number that is kept as a word: of the word, or after a minus sign of how far it is below zero
 abbrev pub signed_digits : ℕ → Option ℕ → Text
 signed_digits value None = decimal value
 signed_digits value (Some far) = 45 ∷ decimal far
@@ -23,7 +23,7 @@ abbrev pub close_tokens : Bool → List Lexeme
 close_tokens false = sign (codes "}") ∷ []
 close_tokens true = sign (codes "}") ∷ sign (codes ">") ∷ []
 
--- an item of an array or a field of a struct, behind its type
+-- an item of an array or a field of a struct, after its type
 abbrev pub item_tokens : Ty × Init → List Lexeme
 item_tokens p = type_tokens p.0 ++ init_tokens p.0 p.1
 
@@ -31,7 +31,7 @@ item_tokens p = type_tokens p.0 ++ init_tokens p.0 p.1
 abbrev pub two_tokens : Ty → Operand → Operand → List Lexeme
 two_tokens t a b = typed_tokens t a ++ comma ∷ value_tokens t b
 
--- the dots behind the parameters of a declaration that has them
+-- the dots after the parameters of a declaration that has them
 abbrev pub dot_tokens : Bool → List Lexeme
 dot_tokens false = []
 dot_tokens true = comma ∷ three_dots ∷ []

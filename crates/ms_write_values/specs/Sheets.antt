@@ -1,5 +1,5 @@
 -- A text as far as it is written: its bytes, and the first byte of the token that stands last in the line. That byte tells
--- whether a space stands behind the token.
+-- whether a space stands after the token.
 use Rattle.std.specs.Prelude.{ℕ, Bool, ◌||◌, ◌&&◌, ◌==◌, if◌then◌else◌, List, [], ◌∷◌, ◌++◌, codes, Option, Some, None}
 use Rattle.ms_lex.specs.Tokens.{Text}
 use Rattle.ms_text_grammar.specs.Lexemes.{Lexeme}
@@ -44,7 +44,7 @@ put s (t ∷ rest) = put (put_text s t.spelling) rest
 
 -- ---- lines
 
--- a line is begun behind these bytes
+-- a line is begun after these bytes
 abbrev pub opened : Sheet → Text → Sheet
 opened s indent = record { bytes = s.bytes ++ indent; last = None }
 

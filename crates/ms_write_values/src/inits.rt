@@ -43,7 +43,7 @@ impl Writer {
         self.close_struct(packed)
     }
 
-    /// Writes an item of an array or a field of a struct behind its type.
+    /// Writes an item of an array or a field of a struct after its type.
     #[cycle(inits)]
     #[tactic(auto, using(crate::proofs::Puts::put_append))]
     fn item(&mut self, item: &(Ty, Init)) -> Result<(), NoMemory>
@@ -69,7 +69,7 @@ impl Writer {
         Ok(())
     }
 
-    /// Writes items behind a comma each.
+    /// Writes items after a comma each.
     #[cycle(inits)]
     #[tactic(auto, using(crate::proofs::Puts::put_append))]
     fn more_items(&mut self, items: &[(Ty, Init)]) -> Result<(), NoMemory>

@@ -54,7 +54,7 @@ fn push_string_byte(text: &mut Vec<u8>, byte: u8) -> Result<(), NoMemory>
     Ok(())
 }
 
-/// Adds bytes between quotes to a text. The one error, here and below, is want of memory.
+/// Adds bytes between quotes to a text. The one error, here and below, is running out of memory.
 #[tactic(auto, unfolding(ms_text_layout::specs::Names::quoted))]
 pub fn push_quoted(text: &mut Vec<u8>, bytes: &[u8]) -> Result<(), NoMemory>
     ensures { IfOk result (λ _. text.new.items ≡ text.old.items ++ quoted_of bytes.now) }

@@ -104,7 +104,7 @@ impl Writer {
         Ok(())
     }
 
-    /// Writes types behind a comma each.
+    /// Writes types after a comma each.
     #[cycle(types)]
     #[tactic(auto, using(crate::proofs::Puts::put_append))]
     fn more_types(&mut self, types: &[Ty]) -> Result<(), NoMemory>

@@ -1,4 +1,4 @@
-//! Values behind their types (LLVM Language Reference, "Constants").
+//! Values after their types (LLVM Language Reference, "Constants").
 ghost use Rattle.std.specs.Prelude.{◌≡◌, ◌∷◌, IfOk, codes, map};
 ghost use Rattle.ms_text_layout.specs.{Names.{global_token}, Pieces.{behind_commas, with_commas, word}};
 ghost use Rattle.ms_text_layout.specs.Types.{type_tokens};
@@ -10,7 +10,7 @@ use ms_bits::{List, NoMemory};
 use ms_ir::{Name, Operand, Ty, width_of};
 
 impl Writer {
-    /// Writes a constant index behind its type: a number, of a single bit too.
+    /// Writes a constant index after its type: a number, of a single bit too.
     #[tactic(auto, using(crate::proofs::Puts::put_append))]
     fn constant_index(&mut self, index: &(Ty, u64)) -> Result<(), NoMemory>
         ensures { IfOk result (λ _. self.new ≡ put self.old (constant_index_tokens index.now)) }
@@ -19,7 +19,7 @@ impl Writer {
         self.number(width_of(&index.0), index.1)
     }
 
-    /// Writes constant indices behind a comma each.
+    /// Writes constant indices after a comma each.
     #[tactic(auto, using(crate::proofs::Puts::put_append))]
     fn constant_indices(&mut self, indices: &[(Ty, u64)]) -> Result<(), NoMemory>
         ensures { IfOk result (λ _. self.new ≡ put self.old (behind_commas (map constant_index_tokens indices.now))) }
@@ -93,7 +93,7 @@ impl Writer {
         }
     }
 
-    /// Writes a value behind its type.
+    /// Writes a value after its type.
     #[tactic(auto, using(crate::proofs::Puts::put_append))]
     pub fn typed(&mut self, ty: &Ty, operand: &Operand) -> Result<(), NoMemory>
         ensures { IfOk result (λ _. self.new ≡ put self.old (typed_tokens ty.now operand.now)) }
@@ -102,7 +102,7 @@ impl Writer {
         self.value(ty, operand)
     }
 
-    /// Writes two values behind their one type.
+    /// Writes two values after their one type.
     #[tactic(auto, using(crate::proofs::Puts::put_append))]
     pub fn two(&mut self, ty: &Ty, a: &Operand, b: &Operand) -> Result<(), NoMemory>
         ensures { IfOk result (λ _. self.new ≡ put self.old (two_tokens ty.now a.now b.now)) }
@@ -127,7 +127,7 @@ impl Writer {
         Ok(())
     }
 
-    /// Writes values with their types, behind a comma each.
+    /// Writes values with their types, after a comma each.
     #[tactic(auto, using(crate::proofs::Puts::put_append))]
     pub fn more_pairs(&mut self, pairs: &[(Ty, Operand)]) -> Result<(), NoMemory>
         ensures { IfOk result (λ _. self.new ≡ put self.old (behind_commas (map pair_tokens pairs.now))) }

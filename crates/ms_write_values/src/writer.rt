@@ -14,7 +14,7 @@ use std::marker::Model;
 #[derive(Drop)]
 pub struct Writer {
     bytes: Vec<u8>,
-    /// It tells whether a space stands behind that token; none stands at the start of a line.
+    /// It tells whether a space stands after that token; none stands at the start of a line.
     last: Option<u8>,
 }
 
@@ -36,7 +36,7 @@ fn first_byte(text: &[u8]) -> u8
     }
 }
 
-/// Whether no space stands between tokens that begin with these bytes: none before `,` and `)`, behind `(`, and between a
+/// Whether no space stands between tokens that begin with these bytes: none before `,` and `)`, after `(`, and between a
 /// global's name and `(`.
 fn are_near(before: u8, next: u8) -> bool
     ensures { result ≡ are_near_of before next }
@@ -77,7 +77,7 @@ impl Writer {
         Ok(())
     }
 
-    /// Writes a token. The one error, here and below, is want of memory.
+    /// Writes a token. The one error, here and below, is running out of memory.
     #[inline(always)]
     pub fn token(&mut self, text: &[u8]) -> Result<(), NoMemory>
         ensures { IfOk result (λ _. self.new ≡ put_text self.old text.now) }
@@ -125,21 +125,21 @@ impl Writer {
         Ok(())
     }
 
-    /// Writes the decimal digits of a number, behind the bytes of a token.
+    /// Writes the decimal digits of a number, after the bytes of a token.
     pub fn digits(&mut self, number: u64) -> Result<(), NoMemory>
         ensures { IfOk result (λ _. self.new ≡ grown self.old (decimal number)) }
     {
         push_number(&mut self.bytes, number)
     }
 
-    /// Writes a name without its sign, behind the bytes of a token.
+    /// Writes a name without its sign, after the bytes of a token.
     pub fn name(&mut self, name: &Name) -> Result<(), NoMemory>
         ensures { IfOk result (λ _. self.new ≡ grown self.old (name_text name.now)) }
     {
         push_name(&mut self.bytes, name)
     }
 
-    /// Writes bytes between quotes, behind the bytes of a token.
+    /// Writes bytes between quotes, after the bytes of a token.
     pub fn quoted(&mut self, bytes: &[u8]) -> Result<(), NoMemory>
         ensures { IfOk result (λ _. self.new ≡ grown self.old (quoted_of bytes.now)) }
     {
@@ -154,7 +154,7 @@ impl Writer {
         self.token(buffer.format(number).as_bytes())
     }
 
-    /// Begins a line, behind these bytes.
+    /// Begins a line, after these bytes.
     #[inline(always)]
     pub fn start_line(&mut self, indent: &[u8]) -> Result<(), NoMemory>
         ensures { IfOk result (λ _. self.new ≡ opened self.old indent.now) }
