@@ -88,7 +88,7 @@ taken a n world =
     let bs = take n world.input in
     Gives (length bs) (record (set_bytes a (length bs) (λ k. get_or bs k 0) world) { input = drop n world.input })
 
--- 'getchar': takes and returns the next byte of the input, or answers -1 at its end
+-- 'getchar': takes and returns the next byte of the input, or returns -1 at its end
 abbrev pub next_byte : List ℕ → World → Effect
 next_byte [] world = Gives (minus_one 32) world
 next_byte (b ∷ bs) world = Gives b (record world { input = bs })

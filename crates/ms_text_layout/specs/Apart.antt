@@ -32,7 +32,7 @@ spans place (p ∷ rest) =
 
 -- ---- lines
 
--- a blank, or one of the signs that may stand close after a token
+-- a blank, or one of the signs that may stand directly after a token
 abbrev pub ends_token : Text → Bool
 ends_token [] = false
 ends_token (b ∷ rest) = is_blank b || is_one_of (codes ",()") b

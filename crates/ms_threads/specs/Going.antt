@@ -140,7 +140,7 @@ pub record Asking (m : Module) (u : Setup) (schedule : List ℕ) (call : HostCal
   pub counted : LeftBehind call.asked rest t.running.budget.left
   pub same : ends_after m u schedule rest (fibers_step (fiber_of m u) schedule (goes_at within others)) ≡ last_of m u schedule
 
--- a call at which a thread stands was answered: what is left is to go after it
+-- a call at which a thread stands was answered: what is left is to go on after it
 pub record Behind (m : Module) (u : Setup) (schedule : List ℕ) (call : HostCall) (a : Answer) (t : Threads) : Type 0 where
   pub before : WorldState
   pub old : Beside
