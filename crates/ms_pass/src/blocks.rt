@@ -32,7 +32,7 @@ fn push_block(
     ensures counts { OnOk result (counts.new ≡ past_insts (given_of scope.now).func counts.old block.now.insts) }
 {
     let mut builder = start;
-    push_insts(alloc, &mut builder, scope, counts, block.insts.as_slice())?;
+    push_insts(&mut builder, scope, counts, block.insts.as_slice())?;
     let next = builder.next();
     let name = block.name.copy(alloc)?;
     let insts = List::from_vec(builder.into_insts());

@@ -29,7 +29,7 @@ fn entry_of(
     ensures { IfOk result (λ c. c ≡ entry (env_of scope.now) (first_number (length scope.now.values.now)) params.now) }
 {
     let mut builder = Builder::new(alloc, 2 * scope.values.len() as u64 + 1);
-    push_parameters(alloc, &mut builder, scope, params)?;
+    push_parameters(&mut builder, scope, params)?;
     Ok(builder)
 }
 

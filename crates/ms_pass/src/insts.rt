@@ -9,11 +9,9 @@ use ms_ir::Inst;
 use ms_rules::{Scope, push_inst};
 use ms_rules_builder::Builder;
 use ms_tables::next_site;
-use std::alloc::Global;
 
 /// Adds an instruction between its lists. The counts become those after it.
 fn push_next(
-    alloc: Global,
     builder: &mut Builder,
     scope: &Scope<'_, '_>,
     counts: &mut Counts,
@@ -26,7 +24,7 @@ fn push_next(
     ensures code { OnOk result (builder.new ≡ with_inst (given_of scope.now) (env_of scope.now) (here_of counts.old scope.now.main) inst.now builder.old) }
     ensures counts { OnOk result (counts.new ≡ past_inst (given_of scope.now).func counts.old inst.now) }
 {
-    let roots = push_inst(alloc, builder, scope, counts.site, counts.root, inst)?;
+    let roots = push_inst(builder, scope, counts.site, counts.root, inst)?;
     counts.site = next_site(counts.site, inst);
     counts.root += roots;
     Ok(())
@@ -34,7 +32,6 @@ fn push_next(
 
 /// Adds instructions, each between its lists. The counts become those after them. The one error is running out of memory.
 pub fn push_insts(
-    alloc: Global,
     builder: &mut Builder,
     scope: &Scope<'_, '_>,
     counts: &mut Counts,
@@ -48,7 +45,7 @@ pub fn push_insts(
     ensures counts { OnOk result (counts.new ≡ past_insts (given_of scope.now).func counts.old insts.now) }
 {
     for inst in insts {
-        push_next(alloc, builder, scope, counts, inst)?;
+        push_next(builder, scope, counts, inst)?;
     }
     Ok(())
 }

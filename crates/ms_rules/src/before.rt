@@ -13,12 +13,10 @@ use ms_ir::{Inst, Op};
 use ms_rules_builder::{Builder, TrackedOperand};
 use ms_rules_tables::{check, count_blind, define, save};
 use ms_slots::{hand_arguments, hand_result};
-use std::alloc::Global;
 
 /// Adds what hands masks and origins over to a function of the module that is called, or to the caller.
 #[tactic(auto, using(crate::proofs::Adding::none_with))]
 fn hand_over(
-    alloc: Global,
     builder: &mut Builder,
     scope: &Scope<'_, '_>,
     op: &Op,
@@ -31,7 +29,7 @@ fn hand_over(
     match op {
         Op::Call { .. } => {
             if callee.own {
-                hand_arguments(alloc, builder, operands)
+                hand_arguments(builder, operands)
             } else {
                 Ok(())
             }
@@ -40,7 +38,7 @@ fn hand_over(
             if scope.main {
                 Ok(())
             } else {
-                hand_result(alloc, builder, operands)
+                hand_result(builder, operands)
             }
         }
         _ => Ok(()),
@@ -50,7 +48,6 @@ fn hand_over(
 /// Adds what defines the mask and the origin of the result, if there is one.
 #[tactic(auto, using(crate::proofs::Adding::none_with))]
 fn define_result(
-    alloc: Global,
     builder: &mut Builder,
     scope: &Scope<'_, '_>,
     inst: &Inst,
@@ -64,7 +61,7 @@ fn define_result(
 {
     match &inst.result {
         Some(name) => match scope.number(name) {
-            Some(value) => define(alloc, builder, value, callee.own, &inst.op, operands),
+            Some(value) => define(builder, value, callee.own, &inst.op, operands),
             None => Ok(()),
         },
         None => Ok(()),
@@ -73,7 +70,6 @@ fn define_result(
 
 /// Adds what stands before an instruction that is no phi. `saved` is the number for what is saved.
 pub fn push_before(
-    alloc: Global,
     builder: &mut Builder,
     scope: &Scope<'_, '_>,
     site: u32,
@@ -89,7 +85,7 @@ pub fn push_before(
     ensures { OnOk result (builder.new ≡ with_tasks builder.old (before_tasks (given_of scope.now) (env_of scope.now) (here_of scope.now site tracking.now) inst.now saved)) }
 {
     let operands = tracking.operands.as_slice();
-    hand_over(alloc, builder, scope, &inst.op, callee, operands)?;
+    hand_over(builder, scope, &inst.op, callee, operands)?;
     check(
         builder,
         site,
@@ -98,7 +94,7 @@ pub fn push_before(
         &inst.op,
         operands,
     )?;
-    count_blind(alloc, builder, callee.external, &inst.op, operands)?;
-    define_result(alloc, builder, scope, inst, callee, operands)?;
-    save(alloc, builder, saved, callee.external, &inst.op, operands)
+    count_blind(builder, callee.external, &inst.op, operands)?;
+    define_result(builder, scope, inst, callee, operands)?;
+    save(builder, saved, callee.external, &inst.op, operands)
 }

@@ -15,7 +15,6 @@ use ms_ir::{Inst, Name, Op, Ty};
 use ms_rules_builder::Builder;
 use ms_rules_tables::set_planes;
 use ms_slots::fetch_result;
-use std::alloc::Global;
 
 /// The size of what an `alloca` makes room for, and 0 of another operation.
 fn element_size(scope: &Scope<'_, '_>, op: &Op) -> u64
@@ -31,7 +30,6 @@ fn element_size(scope: &Scope<'_, '_>, op: &Op) -> u64
 /// Adds what takes over the mask and the origin of a result of a call.
 #[tactic(auto, using(crate::proofs::Adding::none_with))]
 fn take_over(
-    alloc: Global,
     builder: &mut Builder,
     scope: &Scope<'_, '_>,
     name: &Name,
@@ -41,7 +39,7 @@ fn take_over(
     ensures { OnOk result (builder.new ≡ with_tasks builder.old (take_value (env_of scope.now) result_mask_slot result_origin_slot name.now ty.now)) }
 {
     match scope.number(name) {
-        Some(value) => fetch_result(alloc, builder, value, ty),
+        Some(value) => fetch_result(builder, value, ty),
         None => Ok(()),
     }
 }
@@ -49,7 +47,6 @@ fn take_over(
 /// Adds what takes over the mask and the origin of the result of a call, if it has one.
 #[tactic(auto, using(crate::proofs::Adding::none_with))]
 fn take_result(
-    alloc: Global,
     builder: &mut Builder,
     scope: &Scope<'_, '_>,
     name: &Option<Name>,
@@ -59,14 +56,13 @@ fn take_result(
     ensures { OnOk result (builder.new ≡ with_tasks builder.old (taken_by (env_of scope.now) name.now op.now)) }
 {
     match (name, op) {
-        (Some(name), Op::Call { ret: Some(ty), .. }) => take_over(alloc, builder, scope, name, ty),
+        (Some(name), Op::Call { ret: Some(ty), .. }) => take_over(builder, scope, name, ty),
         _ => Ok(()),
     }
 }
 
 /// Adds what stands after an instruction that is no phi. `saved` is the number of what was saved before it.
 pub fn push_behind(
-    alloc: Global,
     builder: &mut Builder,
     scope: &Scope<'_, '_>,
     site: u32,
@@ -83,7 +79,7 @@ pub fn push_behind(
     ensures { OnOk result (builder.new ≡ with_tasks builder.old (after_tasks (given_of scope.now) (env_of scope.now) (here_of scope.now site tracking.now) inst.now saved)) }
 {
     if callee.own {
-        take_result(alloc, builder, scope, &inst.result, &inst.op)
+        take_result(builder, scope, &inst.result, &inst.op)
     } else {
         set_planes(
             builder,

@@ -1,35 +1,13 @@
 //! The edges of the phis of masks and origins.
 ghost use Rattle.std.specs.Prelude.{◌≡◌, ◌++◌, [], ◌∷◌, length, map, IfOk, OnOk};
-ghost use Rattle.ms_rules_builder.specs.Steps.{shadow_mask, shadow_origin};
+ghost use Rattle.ms_rules_builder.specs.Steps.{shadow_mask};
 ghost use Rattle.ms_rules.specs.Edges.{masks, origins, with_operands, first_operand, with_first};
 
 use ms_bits::{Duplicate, List, NoMemory};
 use ms_ir::{Name, Operand};
-use ms_rules_builder::{Shadow, TrackedOperand, mask_name, origin_name};
+use ms_rules_builder::{Shadow, TrackedOperand};
 use ms_tables::{NameTable, labels_of};
 use std::alloc::Global;
-
-/// The operand that holds a mask.
-fn mask_operand(alloc: Global, shadow: Shadow) -> Result<Operand, NoMemory>
-    ensures { IfOk result (λ o. o ≡ shadow_mask shadow) }
-{
-    match shadow {
-        Shadow::Clean => Ok(Operand::Int(0)),
-        Shadow::Undefined(mask, _) => Ok(Operand::Int(mask)),
-        Shadow::Value(value) => Ok(Operand::Local(mask_name(alloc, value as u64)?)),
-    }
-}
-
-/// The operand that holds an origin.
-fn origin_operand(alloc: Global, shadow: Shadow) -> Result<Operand, NoMemory>
-    ensures { IfOk result (λ o. o ≡ shadow_origin shadow) }
-{
-    match shadow {
-        Shadow::Clean => Ok(Operand::Int(0)),
-        Shadow::Undefined(_, root) => Ok(Operand::Int(root)),
-        Shadow::Value(value) => Ok(Operand::Local(origin_name(alloc, value as u64)?)),
-    }
-}
 
 /// Adds an edge.
 fn push_edge(
@@ -53,7 +31,7 @@ fn push_mask(
     ensures { OnOk result (edges.new.items ≡ edges.old.items ++ (shadow_mask shadow, label.now) ∷ []) }
 {
     let label = label.copy(alloc)?;
-    let operand = mask_operand(alloc, shadow)?;
+    let operand = shadow.mask(alloc)?;
     push_edge(edges, operand, label)
 }
 
@@ -84,7 +62,7 @@ fn first_origin(
 {
     match labels.place(label) {
         Some(place) => match operands.get(place) {
-            Some(tracked) => origin_operand(alloc, tracked.shadow),
+            Some(tracked) => tracked.shadow.origin(alloc),
             None => Ok(Operand::Int(0)),
         },
         None => Ok(Operand::Int(0)),

@@ -15,7 +15,6 @@ use crate::tracked::{Tracking, track};
 use ms_bits::NoMemory;
 use ms_ir::{External, Inst, Op};
 use ms_rules_builder::Builder;
-use std::alloc::Global;
 
 /// The next number, which is kept where something is saved under it.
 pub fn number_to_save(builder: &mut Builder, external: Option<External>) -> u64
@@ -31,7 +30,6 @@ pub fn number_to_save(builder: &mut Builder, external: Option<External>) -> u64
 
 /// Adds an instruction that is no phi between its lists.
 fn push_around(
-    alloc: Global,
     builder: &mut Builder,
     scope: &Scope<'_, '_>,
     site: u32,
@@ -49,14 +47,13 @@ fn push_around(
     ensures { OnOk result (builder.new ≡ with_inst (given_of scope.now) (env_of scope.now) (here_of scope.now site tracking.now) inst.now builder.old) }
 {
     let saved = number_to_save(builder, callee.external);
-    push_before(alloc, builder, scope, site, saved, inst, callee, tracking)?;
-    push_copy(alloc, builder, inst)?;
-    push_behind(alloc, builder, scope, site, saved, inst, callee, tracking)
+    push_before(builder, scope, site, saved, inst, callee, tracking)?;
+    push_copy(builder, inst)?;
+    push_behind(builder, scope, site, saved, inst, callee, tracking)
 }
 
 /// Adds an instruction that is no phi between its lists. Returns how many roots it has.
 fn push_plain(
-    alloc: Global,
     builder: &mut Builder,
     scope: &Scope<'_, '_>,
     site: u32,
@@ -72,8 +69,8 @@ fn push_plain(
     ensures roots { IfOk result (λ n. n ≡ roots_in (given_of scope.now).func inst.now) }
 {
     let callee = callee_of(scope.functions, &inst.op);
-    let tracking = track(alloc, scope, root, &inst.op)?;
-    push_around(alloc, builder, scope, site, inst, callee, &tracking)?;
+    let tracking = track(builder.alloc(), scope, root, &inst.op)?;
+    push_around(builder, scope, site, inst, callee, &tracking)?;
     Ok(tracking.behind - tracking.before + own_roots(scope.functions, callee, &inst.op))
 }
 
@@ -81,7 +78,6 @@ fn push_plain(
 /// stand before it. Returns how many roots it has itself: its undefined operands, and one more where it makes
 /// uninitialised bytes. The one error is running out of memory.
 pub fn push_inst(
-    alloc: Global,
     builder: &mut Builder,
     scope: &Scope<'_, '_>,
     site: u32,
@@ -97,7 +93,7 @@ pub fn push_inst(
     ensures few { IfOk result (λ n. n ≤ length (operands inst.now.op) + 1) }
 {
     match &inst.op {
-        Op::Phi { ty, edges } => push_phi(alloc, builder, scope, root, inst, ty, edges.as_slice()),
-        _ => push_plain(alloc, builder, scope, site, root, inst),
+        Op::Phi { ty, edges } => push_phi(builder, scope, root, inst, ty, edges.as_slice()),
+        _ => push_plain(builder, scope, site, root, inst),
     }
 }

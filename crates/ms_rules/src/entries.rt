@@ -9,12 +9,10 @@ use ms_bits::NoMemory;
 use ms_ir::{Name, Ty};
 use ms_rules_builder::Builder;
 use ms_slots::fetch_parameter;
-use std::alloc::Global;
 
 /// Adds what takes over the mask and the origin of the parameter with a place, from 0.
 #[tactic(auto, using(crate::proofs::Adding::none_with))]
 fn push_parameter(
-    alloc: Global,
     builder: &mut Builder,
     scope: &Scope<'_, '_>,
     place: usize,
@@ -24,14 +22,13 @@ fn push_parameter(
     ensures { OnOk result (builder.new ≡ with_tasks builder.old (take_value (env_of scope.now) (param_mask place) (param_origin place) param.now.1 param.now.0)) }
 {
     match scope.number(&param.1) {
-        Some(value) => fetch_parameter(alloc, builder, place as u64, value, &param.0),
+        Some(value) => fetch_parameter(builder, place as u64, value, &param.0),
         None => Ok(()),
     }
 }
 
 /// Adds what takes over the masks and origins of parameters. The one error is running out of memory.
 pub fn push_parameters(
-    alloc: Global,
     builder: &mut Builder,
     scope: &Scope<'_, '_>,
     params: &[(Ty, Name)],
@@ -40,7 +37,7 @@ pub fn push_parameters(
     ensures { OnOk result (builder.new ≡ with_tasks builder.old (take_parameters (env_of scope.now) 0 params.now)) }
 {
     for (place, param) in params.iter().enumerate() {
-        push_parameter(alloc, builder, scope, place, param)?;
+        push_parameter(builder, scope, place, param)?;
     }
     Ok(())
 }

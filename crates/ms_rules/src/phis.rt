@@ -13,7 +13,6 @@ use crate::tracked::{Tracking, track};
 use ms_bits::{List, NoMemory};
 use ms_ir::{Inst, Name, Op, Operand, Ty, width_of};
 use ms_rules_builder::{Builder, TrackedOperand, mask_name, origin_name};
-use std::alloc::Global;
 
 /// Adds an inserted phi of integers of a width.
 fn put_phi(
@@ -35,7 +34,6 @@ fn put_phi(
 
 /// Adds the phi of the mask of the value with a number.
 fn put_mask(
-    alloc: Global,
     builder: &mut Builder,
     value: u32,
     ty: &Ty,
@@ -45,14 +43,13 @@ fn put_mask(
     requires { length operands.now ≡ length edges.now }
     ensures { OnOk result (builder.new ≡ with_insts builder.old (inserted (Some (mask_name value)) (Op.Phi (mask_type ty.now) (with_operands (masks operands.now) edges.now)) ∷ [])) }
 {
-    let name = mask_name(alloc, value as u64)?;
-    let edges = mask_edges(alloc, operands, edges)?;
+    let name = mask_name(builder.alloc(), value as u64)?;
+    let edges = mask_edges(builder.alloc(), operands, edges)?;
     put_phi(builder, name, width_of(ty), edges)
 }
 
 /// Adds the phi of the origin of the value with a number.
 fn put_origin(
-    alloc: Global,
     builder: &mut Builder,
     value: u32,
     edges: &[(Operand, Name)],
@@ -60,14 +57,13 @@ fn put_origin(
 ) -> Result<(), NoMemory>
     ensures { OnOk result (builder.new ≡ with_insts builder.old (inserted (Some (origin_name value)) (Op.Phi (Int 32) (with_first (origins operands.now) (map (λ e. e.1) edges.now) edges.now)) ∷ [])) }
 {
-    let name = origin_name(alloc, value as u64)?;
-    let edges = origin_edges(alloc, operands, edges)?;
+    let name = origin_name(builder.alloc(), value as u64)?;
+    let edges = origin_edges(builder.alloc(), operands, edges)?;
     put_phi(builder, name, 32, edges)
 }
 
 /// Adds the phis of the mask and the origin of the value with a number.
 fn put_pair(
-    alloc: Global,
     builder: &mut Builder,
     value: u32,
     ty: &Ty,
@@ -77,13 +73,12 @@ fn put_pair(
     requires { length operands.now ≡ length edges.now }
     ensures { OnOk result (builder.new ≡ with_insts builder.old (pair_of value ty.now (with_operands (masks operands.now) edges.now) (with_first (origins operands.now) (map (λ e. e.1) edges.now) edges.now))) }
 {
-    put_mask(alloc, builder, value, ty, edges, operands)?;
-    put_origin(alloc, builder, value, edges, operands)
+    put_mask(builder, value, ty, edges, operands)?;
+    put_origin(builder, value, edges, operands)
 }
 
 /// Adds the phis of the mask and the origin of a phi, where its result has a number.
 fn push_pair(
-    alloc: Global,
     builder: &mut Builder,
     scope: &Scope<'_, '_>,
     name: &Option<Name>,
@@ -97,7 +92,7 @@ fn push_pair(
 {
     match name {
         Some(name) => match scope.number(name) {
-            Some(value) => put_pair(alloc, builder, value, ty, edges, &tracking.operands),
+            Some(value) => put_pair(builder, value, ty, edges, &tracking.operands),
             None => Ok(()),
         },
         None => Ok(()),
@@ -106,7 +101,6 @@ fn push_pair(
 
 /// Adds what stands after a phi: the phis of its mask and its origin. Returns how many of its operands are undefined.
 pub fn push_behind_phi(
-    alloc: Global,
     builder: &mut Builder,
     scope: &Scope<'_, '_>,
     root: u64,
@@ -121,14 +115,13 @@ pub fn push_behind_phi(
     ensures code { OnOk result (builder.new ≡ with_insts builder.old (phi_code (env_of scope.now) root inst.now.result ty.now edges.now)) }
     ensures roots { IfOk result (λ n. n ≡ count_undefs (operands inst.now.op)) }
 {
-    let tracking = track(alloc, scope, root, &inst.op)?;
-    push_pair(alloc, builder, scope, &inst.result, ty, edges, &tracking)?;
+    let tracking = track(builder.alloc(), scope, root, &inst.op)?;
+    push_pair(builder, scope, &inst.result, ty, edges, &tracking)?;
     Ok(tracking.behind - tracking.before)
 }
 
 /// Adds a phi, and the phis of its mask and its origin. Returns how many of its operands are undefined.
 pub fn push_phi(
-    alloc: Global,
     builder: &mut Builder,
     scope: &Scope<'_, '_>,
     root: u64,
@@ -143,6 +136,6 @@ pub fn push_phi(
     ensures code { OnOk result (builder.new ≡ with_insts builder.old (inst.now ∷ phi_code (env_of scope.now) root inst.now.result ty.now edges.now)) }
     ensures roots { IfOk result (λ n. n ≡ count_undefs (operands inst.now.op)) }
 {
-    push_copy(alloc, builder, inst)?;
-    push_behind_phi(alloc, builder, scope, root, inst, ty, edges)
+    push_copy(builder, inst)?;
+    push_behind_phi(builder, scope, root, inst, ty, edges)
 }

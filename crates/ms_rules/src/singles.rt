@@ -74,7 +74,7 @@ fn round_phi(
     ensures { (site : _) → IfOk result (λ e. lists_of e ≡ emit_lists (given_of scope.now) (env_of scope.now) (record { site = site; root = root; main = scope.now.main }) inst.now next) }
 {
     let mut after = Builder::new(alloc, next);
-    push_behind_phi(alloc, &mut after, scope, root, inst, ty, edges)?;
+    push_behind_phi(&mut after, scope, root, inst, ty, edges)?;
     Ok(answer(Builder::new(alloc, next), after))
 }
 
@@ -99,20 +99,9 @@ fn round_tracked(
 {
     let mut before = Builder::new(alloc, next);
     let saved = number_to_save(&mut before, callee.external);
-    push_before(
-        alloc,
-        &mut before,
-        scope,
-        site,
-        saved,
-        inst,
-        callee,
-        tracking,
-    )?;
+    push_before(&mut before, scope, site, saved, inst, callee, tracking)?;
     let mut after = Builder::new(alloc, before.next());
-    push_behind(
-        alloc, &mut after, scope, site, saved, inst, callee, tracking,
-    )?;
+    push_behind(&mut after, scope, site, saved, inst, callee, tracking)?;
     Ok(answer(before, after))
 }
 

@@ -68,6 +68,11 @@ impl Builder {
         }
     }
 
+    /// The allocator of what is added.
+    pub fn alloc(&self) -> Global {
+        self.alloc
+    }
+
     /// The number of the next inserted result.
     pub fn next(&self) -> u64
         ensures { result ≡ self.now.next }

@@ -3,9 +3,12 @@ ghost use Rattle.std.specs.Prelude.{◌≡◌, IfOk};
 ghost use Rattle.ms_ir.specs.{Layout.{width_of}, Equal.{type_eq}, ValueTypes.{type_of}};
 ghost use Rattle.ms_ir.specs.declared.syntax.Ty as type;
 ghost use Rattle.ms_tasks.specs.Environments.{is_zero};
-ghost use Rattle.ms_rules_builder.specs.Steps.{shadow_mask};
+ghost use Rattle.ms_rules_builder.specs.Steps.{shadow_mask, shadow_origin};
 
+use crate::names::{mask_name, origin_name};
+use ms_bits::NoMemory;
 use ms_ir::{Operand, ValueType, width_of};
+use std::alloc::Global;
 
 /// What is known of the mask and the origin of an operand.
 #[derive(Clone, Copy)]
@@ -16,6 +19,30 @@ pub enum Shadow {
     Undefined(u64, u64),
     /// The mask and the origin of the function's value with a number stand under their names.
     Value(u32),
+}
+
+impl Shadow {
+    /// The operand that holds the mask. The one error is running out of memory.
+    pub fn mask(self, alloc: Global) -> Result<Operand, NoMemory>
+        ensures { IfOk result (λ o. o ≡ shadow_mask self) }
+    {
+        match self {
+            Shadow::Clean => Ok(Operand::Int(0)),
+            Shadow::Undefined(mask, _) => Ok(Operand::Int(mask)),
+            Shadow::Value(value) => Ok(Operand::Local(mask_name(alloc, u64::from(value))?)),
+        }
+    }
+
+    /// The operand that holds the origin. The one error is running out of memory.
+    pub fn origin(self, alloc: Global) -> Result<Operand, NoMemory>
+        ensures { IfOk result (λ o. o ≡ shadow_origin self) }
+    {
+        match self {
+            Shadow::Clean => Ok(Operand::Int(0)),
+            Shadow::Undefined(_, origin) => Ok(Operand::Int(origin)),
+            Shadow::Value(value) => Ok(Operand::Local(origin_name(alloc, u64::from(value))?)),
+        }
+    }
 }
 
 /// An operand with its type, and with what is known of its mask and its origin.

@@ -149,7 +149,6 @@ fn union_steps(alloc: Global, operands: &[TrackedOperand<'_>]) -> Result<Vec<Ste
 /// Counts the blind use of an operation, if it may have one; `external` says which external it calls. The one error is want
 /// of memory.
 pub fn count_blind(
-    alloc: Global,
     builder: &mut Builder,
     external: Option<External>,
     op: &Op,
@@ -161,6 +160,6 @@ pub fn count_blind(
     if are_clean(blind) {
         return Ok(());
     }
-    let steps = union_steps(alloc, blind)?;
+    let steps = union_steps(builder.alloc(), blind)?;
     call(builder, RuntimeFn::Blind, blind, &None, &steps)
 }

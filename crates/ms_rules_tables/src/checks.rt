@@ -12,24 +12,30 @@ use ms_bits::NoMemory;
 use ms_ir::{External, Op, Operand, RuntimeFn, Ty};
 use ms_rules_builder::{Builder, Step, TrackedOperand};
 
+/// The site of an instruction, and its operands.
+#[derive(Clone, Copy)]
+struct Checked<'a, 'm> {
+    site: u32,
+    operands: &'a [TrackedOperand<'m>],
+}
+
 /// Checks the mask of an operand by its place, unless it is known to be 0.
 fn check_word(
     builder: &mut Builder,
-    site: u32,
+    inst: &Checked<'_, '_>,
     kind: u64,
     place: usize,
-    operands: &[TrackedOperand<'_>],
 ) -> Result<(), NoMemory>
-    ensures { OnOk result (builder.new ≡ with_tasks builder.old (use_tasks site (map tracked_of operands.now) (Word kind place))) }
+    ensures { OnOk result (builder.new ≡ with_tasks builder.old (use_tasks inst.now.site (map tracked_of inst.now.operands.now) (Word kind place))) }
 {
-    if is_clean_at(operands, place) {
+    if is_clean_at(inst.operands, place) {
         return Ok(());
     }
-    let width = width_at(operands, place);
+    let width = width_at(inst.operands, place);
     call(
         builder,
         RuntimeFn::Check,
-        operands,
+        inst.operands,
         &None,
         &[
             Step::Mask(place),
@@ -38,7 +44,7 @@ fn check_word(
             Step::Origin(place),
             Step::Constant(kind),
             Step::Constant(place as u64),
-            Step::Constant(site as u64),
+            Step::Constant(inst.site as u64),
         ],
     )
 }
@@ -46,43 +52,42 @@ fn check_word(
 /// Checks a use.
 fn check_use(
     builder: &mut Builder,
-    site: u32,
+    inst: &Checked<'_, '_>,
     used: CheckedUse,
-    operands: &[TrackedOperand<'_>],
 ) -> Result<(), NoMemory>
-    ensures { OnOk result (builder.new ≡ with_tasks builder.old (use_tasks site (map tracked_of operands.now) (use_of used))) }
+    ensures { OnOk result (builder.new ≡ with_tasks builder.old (use_tasks inst.now.site (map tracked_of inst.now.operands.now) (use_of used))) }
 {
     match used {
-        CheckedUse::Word(kind, place) => check_word(builder, site, kind, place, operands),
+        CheckedUse::Word(kind, place) => check_word(builder, inst, kind, place),
         CheckedUse::Bytes(kind, start, size) => call(
             builder,
             RuntimeFn::CheckMemory,
-            operands,
+            inst.operands,
             &None,
             &[
                 Step::Word(start),
                 Step::Word(size),
                 Step::Constant(kind),
-                Step::Constant(site as u64),
+                Step::Constant(inst.site as u64),
             ],
         ),
         CheckedUse::Line(start) => call(
             builder,
             RuntimeFn::CheckString,
-            operands,
+            inst.operands,
             &None,
-            &[Step::Word(start), Step::Constant(site as u64)],
+            &[Step::Word(start), Step::Constant(inst.site as u64)],
         ),
         CheckedUse::Asked(start) => call(
             builder,
             RuntimeFn::CheckFormat,
-            operands,
+            inst.operands,
             &None,
             &[
                 Step::Word(0),
                 Step::Constant(start as u64),
                 Step::Word(start),
-                Step::Constant(site as u64),
+                Step::Constant(inst.site as u64),
             ],
         ),
     }
@@ -91,14 +96,13 @@ fn check_use(
 /// Checks the word of each argument of `printf` after the format.
 fn check_values(
     builder: &mut Builder,
-    site: u32,
+    inst: &Checked<'_, '_>,
     args: &[(Ty, Operand)],
-    operands: &[TrackedOperand<'_>],
 ) -> Result<(), NoMemory>
-    ensures { OnOk result (builder.new ≡ with_tasks builder.old (check_tasks site (map tracked_of operands.now) (value_uses 1 (drop 1 args.now)))) }
+    ensures { OnOk result (builder.new ≡ with_tasks builder.old (check_tasks inst.now.site (map tracked_of inst.now.operands.now) (value_uses 1 (drop 1 args.now)))) }
 {
     for place in 1..args.len() {
-        check_use(builder, site, CheckedUse::Word(VALUE, place), operands)?;
+        check_use(builder, inst, CheckedUse::Word(VALUE, place))?;
     }
     Ok(())
 }
@@ -107,15 +111,14 @@ fn check_values(
 /// text there.
 fn check_texts(
     builder: &mut Builder,
-    site: u32,
+    inst: &Checked<'_, '_>,
     args: &[(Ty, Operand)],
-    operands: &[TrackedOperand<'_>],
 ) -> Result<(), NoMemory>
-    ensures { OnOk result (builder.new ≡ with_tasks builder.old (check_tasks site (map tracked_of operands.now) (string_uses 1 (drop 1 args.now)))) }
+    ensures { OnOk result (builder.new ≡ with_tasks builder.old (check_tasks inst.now.site (map tracked_of inst.now.operands.now) (string_uses 1 (drop 1 args.now)))) }
 {
     for place in 1..args.len() {
         if let Ty::Ptr = args[place].0 {
-            check_use(builder, site, CheckedUse::Asked(place), operands)?;
+            check_use(builder, inst, CheckedUse::Asked(place))?;
         }
     }
     Ok(())
@@ -125,16 +128,15 @@ fn check_texts(
 /// for which the format asks.
 fn check_printf(
     builder: &mut Builder,
-    site: u32,
+    inst: &Checked<'_, '_>,
     args: &[(Ty, Operand)],
-    operands: &[TrackedOperand<'_>],
 ) -> Result<(), NoMemory>
-    ensures { OnOk result (builder.new ≡ with_tasks builder.old (check_tasks site (map tracked_of operands.now) (external_uses Printf args.now))) }
+    ensures { OnOk result (builder.new ≡ with_tasks builder.old (check_tasks inst.now.site (map tracked_of inst.now.operands.now) (external_uses Printf args.now))) }
 {
-    check_use(builder, site, CheckedUse::Word(POINTER, 0), operands)?;
-    check_use(builder, site, CheckedUse::Line(0), operands)?;
-    check_values(builder, site, args, operands)?;
-    check_texts(builder, site, args, operands)
+    check_use(builder, inst, CheckedUse::Word(POINTER, 0))?;
+    check_use(builder, inst, CheckedUse::Line(0))?;
+    check_values(builder, inst, args)?;
+    check_texts(builder, inst, args)
 }
 
 /// Checks the uses of an operation at a site; `main` says whether it stands in the function `main`, and `external` which
@@ -149,14 +151,15 @@ pub fn check(
 ) -> Result<(), NoMemory>
     ensures { (func : NameOf → Option ℕ) → called_external func op.now ≡ external → OnOk result (builder.new ≡ with_tasks builder.old (check_tasks site (map tracked_of operands.now) (uses func main op.now))) }
 {
+    let inst = Checked { site, operands };
     if let Some(External::Printf) = external {
         return match op {
-            Op::Call { args, .. } => check_printf(builder, site, args.as_slice(), operands),
+            Op::Call { args, .. } => check_printf(builder, &inst, args.as_slice()),
             _ => Ok(()),
         };
     }
     for used in checked_uses(main, external, op) {
-        check_use(builder, site, *used, operands)?;
+        check_use(builder, &inst, *used)?;
     }
     Ok(())
 }

@@ -17,7 +17,6 @@ use ms_rules_builder::Step::{Constant, Inserted, ToNumber, ToPointer, Widen, Wor
 use ms_rules_builder::{
     Builder, Inputs, Operation, Step, TrackedOperand, Width, mask_name, origin_name,
 };
-use std::alloc::Global;
 
 // The address of the shadow of what the address names.
 const SHADOW: [Step; 5] = [
@@ -29,7 +28,6 @@ const SHADOW: [Step; 5] = [
 ];
 
 fn load_mask(
-    alloc: Global,
     builder: &mut Builder,
     value: u32,
     width: u8,
@@ -37,12 +35,11 @@ fn load_mask(
 ) -> Result<(), NoMemory>
     ensures { OnOk result (builder.new ≡ with_tasks builder.old (Fetches (mask_name_of value) (Int width) (shadow_address (word_of (tracked_at 0 (inputs_of inputs.now).operands))) ∷ [])) }
 {
-    let name = mask_name(alloc, value as u64)?;
+    let name = mask_name(builder.alloc(), value as u64)?;
     builder.fetch(name, width, inputs, &SHADOW)
 }
 
 fn load_origin(
-    alloc: Global,
     builder: &mut Builder,
     value: u32,
     width: u8,
@@ -50,7 +47,7 @@ fn load_origin(
 ) -> Result<(), NoMemory>
     ensures { OnOk result (builder.new ≡ with_tasks builder.old (Calls (Some (origin_name_of value)) function.LoadOrigin ((Ptr, word_of (tracked_at 0 (inputs_of inputs.now).operands)) ∷ (Int 64, widened width (Leaf (operand.Local (mask_name_of value)))) ∷ []) ∷ [])) }
 {
-    let name = origin_name(alloc, value as u64)?;
+    let name = origin_name(builder.alloc(), value as u64)?;
     let mask = 2 * (value as u64) + 1;
     let words = [Word(0), Inserted(mask), Widen(width)];
     builder.call(Some(name), RuntimeFn::LoadOrigin, inputs, &words)
@@ -59,7 +56,6 @@ fn load_origin(
 /// Defines the mask and the origin of what a load of a width gives: both stand in memory, and the origin is that of the
 /// first byte that the mask poisons.
 pub fn define_load(
-    alloc: Global,
     builder: &mut Builder,
     value: u32,
     width: u8,
@@ -68,6 +64,6 @@ pub fn define_load(
     ensures { (func : NameOf → Option ℕ) (t : TyOf) (a : OperandOf) → width_of t ≡ width → OnOk result (builder.new ≡ with_tasks builder.old (define_tasks func value (operation.Load t a) (map tracked_of operands.now))) }
 {
     let inputs = Inputs::plain(operands, width, &None);
-    load_mask(alloc, builder, value, width, &inputs)?;
-    load_origin(alloc, builder, value, width, &inputs)
+    load_mask(builder, value, width, &inputs)?;
+    load_origin(builder, value, width, &inputs)
 }

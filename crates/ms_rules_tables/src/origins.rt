@@ -49,13 +49,12 @@ fn last_origin_rule(alloc: Global, operands: &[TrackedOperand<'_>]) -> Result<Ve
 
 /// The origin of a value gets that of the last operand whose mask isn't 0, else the first operand's.
 pub fn set_last_origin(
-    alloc: Global,
     builder: &mut Builder,
     value: u32,
     inputs: &Inputs<'_>,
 ) -> Result<(), NoMemory>
     ensures { OnOk result (builder.new ≡ with_tasks builder.old (Sets (origin_name_of value) (Int 32) (first_last (inputs_of inputs.now).operands) ∷ [])) }
 {
-    let rule = last_origin_rule(alloc, inputs.operands)?;
-    set_origin(alloc, builder, value, inputs, rule.as_slice())
+    let rule = last_origin_rule(builder.alloc(), inputs.operands)?;
+    set_origin(builder, value, inputs, rule.as_slice())
 }

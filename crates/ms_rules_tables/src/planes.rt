@@ -16,12 +16,10 @@ use ms_bits::{NoMemory, Pred};
 use ms_ir::areas::SHADOW_BITS;
 use ms_ir::{External, Name, Op, RuntimeFn, width_of};
 use ms_rules_builder::{Builder, Inputs, Operation, Step, TrackedOperand, Width, msan_name};
-use std::alloc::Global;
 
 /// Saves under the inserted name with a number what an external needs from before its call: the size of the block that
 /// `realloc` ends.
 fn save_for(
-    alloc: Global,
     builder: &mut Builder,
     number: u64,
     external: External,
@@ -31,7 +29,7 @@ fn save_for(
 {
     match external {
         External::Realloc => {
-            let name = msan_name(alloc, number)?;
+            let name = msan_name(builder.alloc(), number)?;
             let inputs = Inputs::plain(operands, 0, &None);
             builder.call(Some(name), RuntimeFn::Size, &inputs, &[Step::Word(0)])
         }
@@ -42,7 +40,6 @@ fn save_for(
 /// Saves under the inserted name with a number what an external needs from before its call. The one error is running out of
 /// memory.
 pub fn save(
-    alloc: Global,
     builder: &mut Builder,
     number: u64,
     external: Option<External>,
@@ -52,7 +49,7 @@ pub fn save(
     ensures { (func : NameOf → Option ℕ) → called_external func op.now ≡ external → OnOk result (builder.new ≡ with_tasks builder.old (save_tasks func number op.now (map tracked_of operands.now))) }
 {
     match external {
-        Some(external) => save_for(alloc, builder, number, external, operands),
+        Some(external) => save_for(builder, number, external, operands),
         None => Ok(()),
     }
 }

@@ -25,11 +25,9 @@ use ms_bits::{BinOp, BitMove, CastOp, NoMemory, Pred, WordFn, WordWidth};
 use ms_ir::{External, Name, Op, RuntimeFn, Ty, width_of};
 use ms_rules_builder::Step::Mask;
 use ms_rules_builder::{Builder, Inputs, Step, TrackedOperand, Widening, mask_name};
-use std::alloc::Global;
 
 // The origin and the mask of a value, of a width, get the words of rules.
 fn define_word(
-    alloc: Global,
     builder: &mut Builder,
     value: u32,
     width: u8,
@@ -41,13 +39,12 @@ fn define_word(
     requires mask { is_rule mask.now ≡ true }
     ensures { (e f : Expr) → words (inputs_of inputs.now) origin.now [] ≡ e ∷ [] → words (inputs_of inputs.now) mask.now [] ≡ f ∷ [] → OnOk result (builder.new ≡ with_tasks builder.old (defined value width e f)) }
 {
-    set_origin(alloc, builder, value, inputs, origin)?;
-    set_mask(alloc, builder, value, width, inputs, mask)
+    set_origin(builder, value, inputs, origin)?;
+    set_mask(builder, value, width, inputs, mask)
 }
 
 // The same where the origin is that of the last operand whose mask isn't 0.
 fn define_joined(
-    alloc: Global,
     builder: &mut Builder,
     value: u32,
     width: u8,
@@ -57,13 +54,12 @@ fn define_joined(
     requires { is_rule mask.now ≡ true }
     ensures { (e : Expr) → words (inputs_of inputs.now) mask.now [] ≡ e ∷ [] → OnOk result (builder.new ≡ with_tasks builder.old (defined value width (first_last (inputs_of inputs.now).operands) e)) }
 {
-    set_last_origin(alloc, builder, value, inputs)?;
-    set_mask(alloc, builder, value, width, inputs, mask)
+    set_last_origin(builder, value, inputs)?;
+    set_mask(builder, value, width, inputs, mask)
 }
 
 // The same of a result that is clean.
 fn define_clean(
-    alloc: Global,
     builder: &mut Builder,
     value: u32,
     width: u8,
@@ -72,11 +68,10 @@ fn define_clean(
     ensures { OnOk result (builder.new ≡ with_tasks builder.old (defined value width (number 0) (number 0))) }
 {
     let inputs = Inputs::plain(operands, width, &None);
-    define_word(alloc, builder, value, width, &inputs, &CLEAN, &CLEAN)
+    define_word(builder, value, width, &inputs, &CLEAN, &CLEAN)
 }
 
 fn define_shift(
-    alloc: Global,
     builder: &mut Builder,
     value: u32,
     op: BinOp,
@@ -88,8 +83,8 @@ fn define_shift(
     ensures { OnOk result (builder.new ≡ with_tasks builder.old (Sets (origin_name_of value) (Int 32) (first_last (map tracked_of operands.now)) ∷ shift_task (mask_name_of value) op width (tracked_at 0 (map tracked_of operands.now)) (tracked_at 1 (map tracked_of operands.now)) ∷ [])) }
 {
     let inputs = Inputs::new(operands, width, &None);
-    set_last_origin(alloc, builder, value, &inputs)?;
-    attempt_mask(alloc, builder, value, op, width, &inputs, &SHIFT)
+    set_last_origin(builder, value, &inputs)?;
+    attempt_mask(builder, value, op, width, &inputs, &SHIFT)
 }
 
 // The operands of an operation on two words.
@@ -104,7 +99,6 @@ fn pair<'a, 'm>(operands: &'a [TrackedOperand<'m>]) -> &'a [TrackedOperand<'m>]
 }
 
 fn define_sum(
-    alloc: Global,
     builder: &mut Builder,
     value: u32,
     width: u8,
@@ -113,12 +107,11 @@ fn define_sum(
     ensures { let ts = map tracked_of operands.now in OnOk result (builder.new ≡ with_tasks builder.old (defined value width (first_last ts) (sum_expr width (tracked_at 0 ts ∷ tracked_at 1 ts ∷ [])))) }
 {
     let inputs = Inputs::plain(operands, width, &None);
-    let mask = carry_rule(alloc, pair(operands), Widening::Own)?;
-    define_joined(alloc, builder, value, width, &inputs, mask.as_slice())
+    let mask = carry_rule(builder.alloc(), pair(operands), Widening::Own)?;
+    define_joined(builder, value, width, &inputs, mask.as_slice())
 }
 
 fn define_binary(
-    alloc: Global,
     builder: &mut Builder,
     value: u32,
     op: BinOp,
@@ -131,18 +124,17 @@ fn define_binary(
 {
     match op {
         BinOp::Shl | BinOp::Lshr | BinOp::Ashr => {
-            define_shift(alloc, builder, value, op, width, operands)
+            define_shift(builder, value, op, width, operands)
         }
-        BinOp::Add | BinOp::Sub | BinOp::Mul => define_sum(alloc, builder, value, width, operands),
+        BinOp::Add | BinOp::Sub | BinOp::Mul => define_sum(builder, value, width, operands),
         _ => {
             let inputs = Inputs::new(operands, width, &None);
-            define_joined(alloc, builder, value, width, &inputs, binary_rule(op))
+            define_joined(builder, value, width, &inputs, binary_rule(op))
         }
     }
 }
 
 fn define_compare(
-    alloc: Global,
     builder: &mut Builder,
     value: u32,
     pred: Pred,
@@ -154,11 +146,10 @@ fn define_compare(
     ensures { let ts = map tracked_of operands.now in OnOk result (builder.new ≡ with_tasks builder.old (defined value 1 (first_last ts) (compare_expr pred width (bits_of (tracked_at 0 ts)) (mask_of (tracked_at 0 ts)) (bits_of (tracked_at 1 ts)) (mask_of (tracked_at 1 ts))))) }
 {
     let inputs = Inputs::new(operands, width, &None);
-    define_joined(alloc, builder, value, 1, &inputs, compare_rule(pred))
+    define_joined(builder, value, 1, &inputs, compare_rule(pred))
 }
 
 fn define_cast(
-    alloc: Global,
     builder: &mut Builder,
     value: u32,
     op: CastOp,
@@ -170,13 +161,12 @@ fn define_cast(
 {
     let inputs = Inputs::plain(operands, from, &None);
     match cast_step(op, from, to) {
-        Some(cast) => define_joined(alloc, builder, value, to, &inputs, &[Mask(0), cast]),
-        None => define_joined(alloc, builder, value, to, &inputs, &FIRST),
+        Some(cast) => define_joined(builder, value, to, &inputs, &[Mask(0), cast]),
+        None => define_joined(builder, value, to, &inputs, &FIRST),
     }
 }
 
 fn define_select(
-    alloc: Global,
     builder: &mut Builder,
     value: u32,
     width: u8,
@@ -185,19 +175,10 @@ fn define_select(
     ensures { (c a b : OperandOf) (t : TyOf) → width_of_type t ≡ width → OnOk result (builder.new ≡ with_tasks builder.old (word_tasks (mask_name_of value) (origin_name_of value) (operation.Select c t a b) (map tracked_of operands.now))) }
 {
     let inputs = Inputs::plain(operands, width, &None);
-    define_word(
-        alloc,
-        builder,
-        value,
-        width,
-        &inputs,
-        &CHOICE_ORIGIN,
-        &CHOICE,
-    )
+    define_word(builder, value, width, &inputs, &CHOICE_ORIGIN, &CHOICE)
 }
 
 fn define_gep(
-    alloc: Global,
     builder: &mut Builder,
     value: u32,
     operands: &[TrackedOperand<'_>],
@@ -205,8 +186,8 @@ fn define_gep(
     ensures { let ts = map tracked_of operands.now in OnOk result (builder.new ≡ with_tasks builder.old (defined value 64 (first_last ts) (address_expr ts))) }
 {
     let inputs = Inputs::plain(operands, 64, &None);
-    let mask = carry_rule(alloc, operands, Widening::Sign)?;
-    define_joined(alloc, builder, value, 64, &inputs, mask.as_slice())
+    let mask = carry_rule(builder.alloc(), operands, Widening::Sign)?;
+    define_joined(builder, value, 64, &inputs, mask.as_slice())
 }
 
 fn result_width(ret: &Option<Ty>) -> u8
@@ -231,7 +212,6 @@ fn is_amount_known(operands: &[TrackedOperand<'_>]) -> bool
 
 // A marked call of a function that moves bits, with what steps leave, gives the mask of a value.
 fn call_move(
-    alloc: Global,
     builder: &mut Builder,
     value: u32,
     kind: BitMove,
@@ -240,13 +220,12 @@ fn call_move(
 ) -> Result<(), NoMemory>
     ensures { (args : List (TyOf × Expr)) → map (λ a. a.0) args ≡ (runtime_signature (called.Move kind)).params → map (λ a. a.1) args ≡ reverse (words (inputs_of inputs.now) steps.now []) → OnOk result (builder.new ≡ with_tasks builder.old (Calls (Some (mask_name_of value)) (called.Move kind) args ∷ [])) }
 {
-    let name = mask_name(alloc, value as u64)?;
+    let name = mask_name(builder.alloc(), value as u64)?;
     builder.call(Some(name), RuntimeFn::Move(kind), inputs, steps)
 }
 
 // What a function that moves bits returns: it gives its mask too.
 fn define_move(
-    alloc: Global,
     builder: &mut Builder,
     value: u32,
     kind: BitMove,
@@ -255,14 +234,13 @@ fn define_move(
     ensures { let ts = map tracked_of operands.now in OnOk result (builder.new ≡ with_tasks builder.old (Sets (origin_name_of value) (Int 32) (first_last ts) ∷ moves value kind ts)) }
 {
     let inputs = Inputs::new(operands, kind.width().bits(), &None);
-    set_last_origin(alloc, builder, value, &inputs)?;
+    set_last_origin(builder, value, &inputs)?;
     let steps = move_steps(kind.function(), is_amount_known(operands));
-    call_move(alloc, builder, value, kind, &inputs, steps)
+    call_move(builder, value, kind, &inputs, steps)
 }
 
 // What another function of whole words returns, as a value of a width.
 fn define_ruled(
-    alloc: Global,
     builder: &mut Builder,
     value: u32,
     width: u8,
@@ -274,7 +252,6 @@ fn define_ruled(
 {
     let inputs = Inputs::new(operands, word_width.bits(), &None);
     define_joined(
-        alloc,
         builder,
         value,
         width,
@@ -285,7 +262,6 @@ fn define_ruled(
 
 // What a function of whole words returns, as a value of a width.
 fn define_word_answer(
-    alloc: Global,
     builder: &mut Builder,
     value: u32,
     width: u8,
@@ -296,14 +272,13 @@ fn define_word_answer(
     ensures { let ts = map tracked_of operands.now in OnOk result (builder.new ≡ with_tasks builder.old (answered value width (move_of function word_width) (first_last ts) (word_expr function (width_bits word_width) (tracked_at 0 ts) (tracked_at 1 ts) (tracked_at 2 ts)) ts)) }
 {
     match BitMove::of(function, word_width) {
-        Some(kind) => define_move(alloc, builder, value, kind, operands),
-        None => define_ruled(alloc, builder, value, width, function, word_width, operands),
+        Some(kind) => define_move(builder, value, kind, operands),
+        None => define_ruled(builder, value, width, function, word_width, operands),
     }
 }
 
 // What an external that is known returns, as a value of a width.
 fn define_external(
-    alloc: Global,
     builder: &mut Builder,
     value: u32,
     width: u8,
@@ -314,15 +289,14 @@ fn define_external(
 {
     match external {
         External::Word(function, word_width) => {
-            define_word_answer(alloc, builder, value, width, function, word_width, operands)
+            define_word_answer(builder, value, width, function, word_width, operands)
         }
-        _ => define_clean(alloc, builder, value, width, operands),
+        _ => define_clean(builder, value, width, operands),
     }
 }
 
 // What an external returns, as a value of a width.
 fn define_answer(
-    alloc: Global,
     builder: &mut Builder,
     value: u32,
     width: u8,
@@ -332,13 +306,12 @@ fn define_answer(
     ensures { let ts = map tracked_of operands.now in OnOk result (builder.new ≡ with_tasks builder.old (answered value width (external_move external) (answer_origin_expr external ts) (answer_expr external ts) ts)) }
 {
     match external {
-        Some(external) => define_external(alloc, builder, value, width, external, operands),
-        None => define_clean(alloc, builder, value, width, operands),
+        Some(external) => define_external(builder, value, width, external, operands),
+        None => define_clean(builder, value, width, operands),
     }
 }
 
 fn define_call(
-    alloc: Global,
     builder: &mut Builder,
     value: u32,
     own: bool,
@@ -352,7 +325,6 @@ fn define_call(
         return Ok(());
     }
     define_answer(
-        alloc,
         builder,
         value,
         result_width(ret),
@@ -364,7 +336,6 @@ fn define_call(
 /// Defines the mask and the origin of the function's value with a number, which an operation sets; `own` says that it calls
 /// a function of the module, which hands both over itself. The one error is running out of memory.
 pub fn define(
-    alloc: Global,
     builder: &mut Builder,
     value: u32,
     own: bool,
@@ -375,31 +346,19 @@ pub fn define(
     ensures { (func : NameOf → Option ℕ) → calls_own func op.now ≡ own → OnOk result (builder.new ≡ with_tasks builder.old (define_tasks func value op.now (map tracked_of operands.now))) }
 {
     match op {
-        Op::Binary { op, ty, .. } => {
-            define_binary(alloc, builder, value, *op, width_of(ty), operands)
-        }
+        Op::Binary { op, ty, .. } => { define_binary(builder, value, *op, width_of(ty), operands) }
         Op::Icmp { pred, ty, .. } => {
-            define_compare(alloc, builder, value, *pred, width_of(ty), operands)
+            define_compare(builder, value, *pred, width_of(ty), operands)
         }
         Op::Cast { op, from, to, .. } => {
-            define_cast(
-                alloc,
-                builder,
-                value,
-                *op,
-                width_of(from),
-                width_of(to),
-                operands,
-            )
+            define_cast(builder, value, *op, width_of(from), width_of(to), operands)
         }
-        Op::Select { ty, .. } => define_select(alloc, builder, value, width_of(ty), operands),
-        Op::Freeze { ty, .. } => define_clean(alloc, builder, value, width_of(ty), operands),
-        Op::Alloca { .. } => define_clean(alloc, builder, value, 64, operands),
-        Op::Load { ty, .. } => define_load(alloc, builder, value, width_of(ty), operands),
-        Op::Gep { .. } => define_gep(alloc, builder, value, operands),
-        Op::Call { ret, callee, .. } => {
-            define_call(alloc, builder, value, own, ret, callee, operands)
-        }
+        Op::Select { ty, .. } => define_select(builder, value, width_of(ty), operands),
+        Op::Freeze { ty, .. } => define_clean(builder, value, width_of(ty), operands),
+        Op::Alloca { .. } => define_clean(builder, value, 64, operands),
+        Op::Load { ty, .. } => define_load(builder, value, width_of(ty), operands),
+        Op::Gep { .. } => define_gep(builder, value, operands),
+        Op::Call { ret, callee, .. } => { define_call(builder, value, own, ret, callee, operands) }
         _ => Ok(()),
     }
 }

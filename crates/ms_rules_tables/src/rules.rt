@@ -8,7 +8,6 @@ ghost use Rattle.ms_rules_tables.specs.Rules.{is_rule};
 use ms_bits::{BinOp, NoMemory};
 use ms_ir::Name;
 use ms_rules_builder::{Builder, Inputs, Step, mask_name, origin_name};
-use std::alloc::Global;
 
 // A name of a width gets the word of a rule.
 fn set(
@@ -30,7 +29,6 @@ fn set(
 
 /// The origin of a value gets the word of a rule.
 pub fn set_origin(
-    alloc: Global,
     builder: &mut Builder,
     value: u32,
     inputs: &Inputs<'_>,
@@ -39,13 +37,12 @@ pub fn set_origin(
     requires { is_rule rule.now ≡ true }
     ensures { (e : Expr) → words (inputs_of inputs.now) rule.now [] ≡ e ∷ [] → OnOk result (builder.new ≡ with_tasks builder.old (Sets (origin_name_of value) (Int 32) e ∷ [])) }
 {
-    let name = origin_name(alloc, value as u64)?;
+    let name = origin_name(builder.alloc(), value as u64)?;
     set(builder, name, 32, inputs, rule)
 }
 
 /// The mask of a value, of a width, gets the word of a rule.
 pub fn set_mask(
-    alloc: Global,
     builder: &mut Builder,
     value: u32,
     width: u8,
@@ -55,13 +52,12 @@ pub fn set_mask(
     requires { is_rule rule.now ≡ true }
     ensures { (e : Expr) → words (inputs_of inputs.now) rule.now [] ≡ e ∷ [] → OnOk result (builder.new ≡ with_tasks builder.old (Sets (mask_name_of value) (Int width) e ∷ [])) }
 {
-    let name = mask_name(alloc, value as u64)?;
+    let name = mask_name(builder.alloc(), value as u64)?;
     set(builder, name, width, inputs, rule)
 }
 
 /// The mask of a value, of a width, gets what an operation that may trap makes of the two words that steps leave.
 pub fn attempt_mask(
-    alloc: Global,
     builder: &mut Builder,
     value: u32,
     op: BinOp,
@@ -71,6 +67,6 @@ pub fn attempt_mask(
 ) -> Result<(), NoMemory>
     ensures { (a b : Expr) → words (inputs_of inputs.now) steps.now [] ≡ b ∷ a ∷ [] → OnOk result (builder.new ≡ with_tasks builder.old (Tries (mask_name_of value) op (Int width) a b ∷ [])) }
 {
-    let name = mask_name(alloc, value as u64)?;
+    let name = mask_name(builder.alloc(), value as u64)?;
     builder.attempt(name, op, width, inputs, steps)
 }

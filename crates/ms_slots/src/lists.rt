@@ -14,7 +14,6 @@ use ms_rules_builder::Builder;
 use std::alloc::Global;
 
 fn store_word(
-    alloc: Global,
     builder: &mut Builder,
     place: Handover,
     ty: &Ty,
@@ -23,49 +22,27 @@ fn store_word(
 ) -> Result<(), NoMemory>
     ensures { OnOk result (builder.new ≡ with_tasks builder.old (store_tasks (mask_slot place) (origin_slot place) (ty.now, mask.now, origin.now))) }
 {
-    let mask = mask.copy(alloc)?;
-    store_mask(alloc, builder, place, width_of(ty), mask)?;
-    let origin = origin.copy(alloc)?;
-    store_origin(alloc, builder, place, origin)
+    let mask = mask.copy(builder.alloc())?;
+    store_mask(builder, place, width_of(ty), mask)?;
+    let origin = origin.copy(builder.alloc())?;
+    store_origin(builder, place, origin)
 }
 
-fn store_words(
-    alloc: Global,
-    builder: &mut Builder,
-    args: &[(Ty, Operand, Operand)],
-) -> Result<(), NoMemory>
+fn store_words(builder: &mut Builder, args: &[(Ty, Operand, Operand)]) -> Result<(), NoMemory>
     ensures { OnOk result (builder.new ≡ with_tasks builder.old (store_arguments 0 args.now)) }
 {
     for (place, (ty, mask, origin)) in args.iter().enumerate() {
-        store_word(
-            alloc,
-            builder,
-            Handover::Parameter(place as u64),
-            ty,
-            mask,
-            origin,
-        )?;
+        store_word(builder, Handover::Parameter(place as u64), ty, mask, origin)?;
     }
     Ok(())
 }
 
-fn load_words(
-    alloc: Global,
-    builder: &mut Builder,
-    params: &[Ty],
-    next: u32,
-) -> Result<(), NoMemory>
+fn load_words(builder: &mut Builder, params: &[Ty], next: u32) -> Result<(), NoMemory>
     ensures { OnOk result (builder.new ≡ with_tasks builder.old (load_parameters next 0 params.now)) }
 {
     for (place, ty) in params.iter().enumerate() {
         let number = u64::from(next) + 2 * place as u64;
-        load_word(
-            alloc,
-            builder,
-            Handover::Parameter(place as u64),
-            number,
-            ty,
-        )?;
+        load_word(builder, Handover::Parameter(place as u64), number, ty)?;
     }
     Ok(())
 }
@@ -80,7 +57,7 @@ pub fn pass_arguments(
     ensures { IfOk result (λ r. made r ≡ tasks_code (store_arguments 0 args.now) next) }
 {
     let mut builder = Builder::new(alloc, u64::from(next));
-    store_words(alloc, &mut builder, args)?;
+    store_words(&mut builder, args)?;
     Ok((List::from_vec(builder.into_insts()), next))
 }
 
@@ -97,7 +74,7 @@ pub fn take_parameters(
 {
     let after = next + 2 * params.len() as u32;
     let mut builder = Builder::new(alloc, u64::from(after));
-    load_words(alloc, &mut builder, params, next)?;
+    load_words(&mut builder, params, next)?;
     Ok((List::from_vec(builder.into_insts()), after))
 }
 
@@ -112,7 +89,7 @@ pub fn give_result(
     ensures { IfOk result (λ r. made r ≡ tasks_code (store_tasks result_mask_slot result_origin_slot (ty.now, mask.now, origin.now)) next) }
 {
     let mut builder = Builder::new(alloc, u64::from(next));
-    store_word(alloc, &mut builder, Handover::Result, ty, mask, origin)?;
+    store_word(&mut builder, Handover::Result, ty, mask, origin)?;
     Ok((List::from_vec(builder.into_insts()), next))
 }
 
@@ -124,6 +101,6 @@ pub fn take_result(alloc: Global, ty: &Ty, next: u32) -> Result<(List<Inst>, u32
 {
     let after = next + 2;
     let mut builder = Builder::new(alloc, u64::from(after));
-    load_word(alloc, &mut builder, Handover::Result, u64::from(next), ty)?;
+    load_word(&mut builder, Handover::Result, u64::from(next), ty)?;
     Ok((List::from_vec(builder.into_insts()), after))
 }

@@ -9,24 +9,16 @@ use crate::words::load_word;
 use ms_bits::NoMemory;
 use ms_ir::Ty;
 use ms_rules_builder::Builder;
-use std::alloc::Global;
 
-fn fetch(
-    alloc: Global,
-    builder: &mut Builder,
-    place: Handover,
-    value: u32,
-    ty: &Ty,
-) -> Result<(), NoMemory>
+fn fetch(builder: &mut Builder, place: Handover, value: u32, ty: &Ty) -> Result<(), NoMemory>
     ensures { OnOk result (builder.new ≡ with_tasks builder.old (take_tasks (mask_slot place) (origin_slot place) value ty.now)) }
 {
-    load_word(alloc, builder, place, 2 * u64::from(value) + 1, ty)
+    load_word(builder, place, 2 * u64::from(value) + 1, ty)
 }
 
 /// Takes over the mask and the origin of the parameter with a place, from 0, under the names of the function's value with
 /// a number. The one error is running out of memory.
 pub fn fetch_parameter(
-    alloc: Global,
     builder: &mut Builder,
     place: u64,
     value: u32,
@@ -34,18 +26,13 @@ pub fn fetch_parameter(
 ) -> Result<(), NoMemory>
     ensures { OnOk result (builder.new ≡ with_tasks builder.old (take_tasks (param_mask place) (param_origin place) value ty.now)) }
 {
-    fetch(alloc, builder, Handover::Parameter(place), value, ty)
+    fetch(builder, Handover::Parameter(place), value, ty)
 }
 
 /// Takes over the mask and the origin of the result of a call, under the names of the function's value with a number. The
 /// one error is running out of memory.
-pub fn fetch_result(
-    alloc: Global,
-    builder: &mut Builder,
-    value: u32,
-    ty: &Ty,
-) -> Result<(), NoMemory>
+pub fn fetch_result(builder: &mut Builder, value: u32, ty: &Ty) -> Result<(), NoMemory>
     ensures { OnOk result (builder.new ≡ with_tasks builder.old (take_tasks result_mask_slot result_origin_slot value ty.now)) }
 {
-    fetch(alloc, builder, Handover::Result, value, ty)
+    fetch(builder, Handover::Result, value, ty)
 }

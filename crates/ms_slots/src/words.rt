@@ -11,7 +11,6 @@ use crate::places::Handover;
 use ms_bits::NoMemory;
 use ms_ir::{Name, Op, Operand, Ty, width_of};
 use ms_rules_builder::{Builder, msan_name};
-use std::alloc::Global;
 
 /// The bits of an origin.
 const ORIGIN_WIDTH: u8 = 32;
@@ -43,7 +42,6 @@ fn load(builder: &mut Builder, name: Name, width: u8, addr: Operand) -> Result<(
 
 /// A mask of a width goes into its slot.
 pub fn store_mask(
-    alloc: Global,
     builder: &mut Builder,
     place: Handover,
     width: u8,
@@ -51,53 +49,36 @@ pub fn store_mask(
 ) -> Result<(), NoMemory>
     ensures { OnOk result (builder.new ≡ with_tasks builder.old (Puts (Int width) (Leaf mask) (Leaf (mask_slot place)) ∷ [])) }
 {
-    let slot = place.mask_slot(alloc)?;
+    let slot = place.mask_slot(builder.alloc())?;
     store(builder, width, mask, slot)
 }
 
 /// An origin goes into its slot.
-pub fn store_origin(
-    alloc: Global,
-    builder: &mut Builder,
-    place: Handover,
-    origin: Operand,
-) -> Result<(), NoMemory>
+pub fn store_origin(builder: &mut Builder, place: Handover, origin: Operand) -> Result<(), NoMemory>
     ensures { OnOk result (builder.new ≡ with_tasks builder.old (Puts (Int 32) (Leaf origin) (Leaf (origin_slot place)) ∷ [])) }
 {
-    let slot = place.origin_slot(alloc)?;
+    let slot = place.origin_slot(builder.alloc())?;
     store(builder, ORIGIN_WIDTH, origin, slot)
 }
 
-fn load_mask(
-    alloc: Global,
-    builder: &mut Builder,
-    place: Handover,
-    number: u64,
-    width: u8,
-) -> Result<(), NoMemory>
+fn load_mask(builder: &mut Builder, place: Handover, number: u64, width: u8) -> Result<(), NoMemory>
     ensures { OnOk result (builder.new ≡ with_tasks builder.old (Fetches (msan_name number) (Int width) (Leaf (mask_slot place)) ∷ [])) }
 {
-    let name = msan_name(alloc, number)?;
-    let slot = place.mask_slot(alloc)?;
+    let name = msan_name(builder.alloc(), number)?;
+    let slot = place.mask_slot(builder.alloc())?;
     load(builder, name, width, slot)
 }
 
-fn load_origin(
-    alloc: Global,
-    builder: &mut Builder,
-    place: Handover,
-    number: u64,
-) -> Result<(), NoMemory>
+fn load_origin(builder: &mut Builder, place: Handover, number: u64) -> Result<(), NoMemory>
     ensures { OnOk result (builder.new ≡ with_tasks builder.old (Fetches (msan_name number) (Int 32) (Leaf (origin_slot place)) ∷ [])) }
 {
-    let name = msan_name(alloc, number)?;
-    let slot = place.origin_slot(alloc)?;
+    let name = msan_name(builder.alloc(), number)?;
+    let slot = place.origin_slot(builder.alloc())?;
     load(builder, name, ORIGIN_WIDTH, slot)
 }
 
 /// A mask of a type and an origin come out of their slots, as the inserted result with a number and the one after it.
 pub fn load_word(
-    alloc: Global,
     builder: &mut Builder,
     place: Handover,
     number: u64,
@@ -106,6 +87,6 @@ pub fn load_word(
     requires { number < 2 ^ 63 }
     ensures { OnOk result (builder.new ≡ with_tasks builder.old (load_tasks (mask_slot place) (origin_slot place) number ty.now)) }
 {
-    load_mask(alloc, builder, place, number, width_of(ty))?;
-    load_origin(alloc, builder, place, number + 1)
+    load_mask(builder, place, number, width_of(ty))?;
+    load_origin(builder, place, number + 1)
 }

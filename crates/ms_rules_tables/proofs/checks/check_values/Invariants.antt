@@ -7,5 +7,5 @@ use Rattle.ms_rules_tables.proofs.checks.check_values.Given as goal
 
 abbrev pub invariant-loop-place : goal.invariant-loop-place
 invariant-loop-place l =
-    let ts = map tracked_of l.operands in
-    with_tasks l.builder (check_tasks l.site ts (value_uses l.place (drop l.place l.args))) ≡ with_tasks l.initial.builder (check_tasks l.site ts (value_uses 1 (drop 1 l.args)))
+    let ts = map tracked_of l.inst.operands.now in
+    with_tasks l.builder (check_tasks l.inst.site ts (value_uses l.place (drop l.place l.args))) ≡ with_tasks l.initial.builder (check_tasks l.inst.site ts (value_uses 1 (drop 1 l.args)))

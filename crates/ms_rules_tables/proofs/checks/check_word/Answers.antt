@@ -11,10 +11,10 @@ use Rattle.ms_rules_tables.proofs.checks.check_word.Goals as goal
 
 pub returns : goal.returns
 returns c =
-    let t = tracked_at c.args.place (map tracked_of c.args.operands.now) in
+    let t = tracked_at c.args.place (map tracked_of c.args.inst.now.operands.now) in
     let args : ℕ → List (Ty × Expr) = λ w.
-    (Int 64, widened w (mask_of t)) ∷ (Int 32, number w) ∷ (Int 32, origin_of t) ∷ (Int 32, number c.args.kind) ∷ (Int 32, number c.args.place) ∷ (Int 32, number c.args.site) ∷ [] in
+    (Int 64, widened w (mask_of t)) ∷ (Int 32, number w) ∷ (Int 32, origin_of t) ∷ (Int 32, number c.args.kind) ∷ (Int 32, number c.args.place) ∷ (Int 32, number c.args.inst.now.site) ∷ [] in
     let Made : ℕ → Type 0 = λ w. OnOk c.call.result (c.call.new.builder ≡ with_tasks c.args.builder.now (Calls None function.Check (args w) ∷ [])) in
     let Chosen : Bool → Type 0 = λ b.
-    OnOk c.call.result (c.call.new.builder ≡ with_tasks c.args.builder.now (if b then [] else check_task c.args.site c.args.kind c.args.place t ∷ [])) in
+    OnOk c.call.result (c.call.new.builder ≡ with_tasks c.args.builder.now (if b then [] else check_task c.args.inst.now.site c.args.kind c.args.place t ∷ [])) in
     subst Chosen c.if-is_clean_at.ensures (subst Made c.width_at-width.ensures (c.call.ensures (args c.width_at-width.result) refl refl))
