@@ -3,43 +3,17 @@ ghost use Rattle.std.specs.Prelude.{◌≡◌, ◌++◌, IfOk, codes, decimal};
 ghost use Rattle.ms_ir.specs.Places.{HasSmallNumbers};
 ghost use Rattle.ms_valid.specs.Formed.{Formed};
 ghost use Rattle.ms_runs.specs.Verdict.{verdict_of};
-ghost use Rattle.ms_report.specs.RunTexts.{trap_name, end_text, verdict_text, verdict_line, line, closing_of};
+ghost use Rattle.ms_report.specs.RunTexts.{end_text, verdict_text, verdict_line, line, closing_of};
 ghost use Rattle.ms_report.specs.WithLines.{end_site, closing_text_with};
 
+use crate::names::name_of_trap;
 use crate::site_lines::{NoLines, SiteLines, push_under};
 use crate::sites::push_site;
-use ms_bits::{NoMemory, Trap};
+use ms_bits::NoMemory;
 use ms_ir::Module;
 use ms_runs::{End, RunResult};
 use ms_write_values::push_number;
 use std::alloc::Global;
-
-/// The printed name of a trap.
-fn name_of_trap(trap: Trap) -> &'static [u8]
-    ensures { result.now ≡ trap_name trap }
-{
-    match trap {
-        Trap::Shift => b"shift",
-        Trap::ZeroDivisor => b"zero-divisor",
-        Trap::ZeroPoison => b"zero-poison",
-        Trap::Overflow => b"overflow",
-        Trap::Nuw => b"nuw",
-        Trap::Nsw => b"nsw",
-        Trap::Exact => b"exact",
-        Trap::Disjoint => b"disjoint",
-        Trap::Nneg => b"nneg",
-        Trap::Samesign => b"samesign",
-        Trap::BadAddress => b"bad-address",
-        Trap::BadFree => b"bad-free",
-        Trap::Stack => b"stack",
-        Trap::Depth => b"depth",
-        Trap::Output => b"output",
-        Trap::Unreachable => b"unreachable",
-        Trap::Abort => b"abort",
-        Trap::Deadlock => b"deadlock",
-        Trap::Format => b"format",
-    }
-}
 
 /// Adds how a run ended.
 fn push_end(text: &mut Vec<u8>, m: &Module, end: End) -> Result<(), NoMemory>

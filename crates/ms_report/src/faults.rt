@@ -4,7 +4,7 @@ ghost use Rattle.ms_check.specs.Faults.{fault_of};
 ghost use Rattle.ms_report.specs.FaultTexts.{refused_line, signed, at_site, spaced, fault_line};
 ghost use Rattle.ms_report.specs.WithLines.{fault_site};
 
-use crate::lines::begin_line;
+use crate::lines::{begin_line, push_cause};
 use ms_bits::NoMemory;
 use ms_check::CheckError;
 use ms_ir::Name;
@@ -90,14 +90,6 @@ fn push_type(text: &mut Vec<u8>, site: u32, operand: u32) -> Result<(), NoMemory
     Ok(())
 }
 
-/// Adds the line for a module without `main`.
-fn push_main(text: &mut Vec<u8>) -> Result<(), NoMemory>
-    ensures { IfOk result (λ _. text.new.items ≡ text.old.items ++ refused_line 13 (codes "no main")) }
-{
-    begin_line(text, 13)?;
-    text.extend_from_slice(b"no main\n")
-}
-
 /// Adds a path of blocks.
 fn push_blocks(text: &mut Vec<u8>, path: &[u32]) -> Result<(), NoMemory>
     ensures { IfOk result (λ _. text.new.items ≡ text.old.items ++ (codes ", path" ++ spaced path.now)) }
@@ -151,7 +143,7 @@ pub fn push_check(text: &mut Vec<u8>, cause: &CheckError) -> Result<(), NoMemory
         CheckError::Unknown { site, global, name } => push_unknown(text, *site, *global, name),
         CheckError::TypeMismatch { site, operand } => push_type(text, *site, *operand),
         CheckError::BadPhi { site } => push_site_line(text, 12, b"phi", *site),
-        CheckError::NoMain => push_main(text),
+        CheckError::NoMain => push_cause(text, 13, b"no main"),
         CheckError::BadExternal { name } => push_name_line(text, 14, b"external ", true, name),
         CheckError::Undefined { site, path } => push_path(text, *site, path.as_slice()),
         CheckError::BadMark { site } => push_site_line(text, 16, b"mark", *site),

@@ -6,6 +6,7 @@ mod endings;
 mod faults;
 mod laws;
 mod lines;
+mod names;
 mod refusals;
 mod reports;
 mod site_lines;

@@ -1,17 +1,17 @@
 //! The lines of refusals.
-ghost use Rattle.std.specs.Prelude.{◌≡◌, ◌++◌, IfOk, codes, decimal};
+ghost use Rattle.std.specs.Prelude.{◌≡◌, ◌++◌, IfOk, decimal};
 ghost use Rattle.ms_report.specs.FaultTexts.{refused_line};
-ghost use Rattle.ms_report.specs.RefusalTexts.{HasLine, IsReadRefusal, IsNumbered, outside_name, limit_name, cause_name, what_text, token_text, lexer_text, reader_text, refusal_text, threads_text};
+ghost use Rattle.ms_report.specs.RefusalTexts.{HasLine, IsReadRefusal, IsNumbered, what_text, token_text, lexer_text, reader_text, refusal_text, threads_text};
 ghost use Rattle.ms_report.specs.WithLines.{refusal_site, refusal_text_with};
 
 use crate::faults::{push_check, site_of_fault};
-use crate::lines::begin_line;
+use crate::lines::{begin_line, push_cause};
+use crate::names::{name_of_cause, name_of_construct, name_of_limit};
 use crate::site_lines::{NoLines, SiteLines, push_under};
 use ms_bits::NoMemory;
 use ms_check::CheckError;
 use ms_lex::LexError;
 use ms_read_body::{ReadError, What};
-use ms_text_grammar::{Limit, Outside};
 use ms_write_values::push_number;
 use std::alloc::Global;
 
@@ -22,67 +22,6 @@ pub enum Refusal {
     Read(ReadError),
     /// It is read, and isn't valid.
     Check(CheckError),
-}
-
-/// The printed name of a construct that is left out.
-fn name_of_construct(construct: Outside) -> &'static [u8]
-    ensures { result.now ≡ outside_name construct }
-{
-    match construct {
-        Outside::FloatingPoint => b"floating point",
-        Outside::Vector => b"vector",
-        Outside::WideInteger => b"wide integer",
-        Outside::AddressSpace => b"address space",
-        Outside::ThreadLocal => b"thread local",
-        Outside::AggregateValue => b"aggregate value",
-        Outside::ByValue => b"by value",
-        Outside::IndirectCall => b"indirect call",
-        Outside::FunctionType => b"function type",
-        Outside::Variadic => b"variadic",
-        Outside::Exceptions => b"exceptions",
-        Outside::Assembly => b"assembly",
-        Outside::IndirectBranch => b"indirect branch",
-        Outside::Atomics => b"atomics",
-        Outside::Volatile => b"volatile",
-        Outside::VariableArguments => b"variable arguments",
-        Outside::Alias => b"alias",
-        Outside::Comdat => b"comdat",
-        Outside::ExternalGlobal => b"external global",
-        Outside::OpaqueType => b"opaque type",
-        Outside::TypedPointer => b"typed pointer",
-        Outside::MetadataOperand => b"metadata operand",
-        Outside::OperandBundle => b"operand bundle",
-        Outside::ConstantExpression => b"constant expression",
-        Outside::CallOfMain => b"call of main",
-    }
-}
-
-/// The printed name of a limit.
-fn name_of_limit(limit: Limit) -> &'static [u8]
-    ensures { result.now ≡ limit_name limit }
-{
-    match limit {
-        Limit::Instructions => b"instructions",
-        Limit::Functions => b"functions",
-        Limit::Globals => b"globals",
-        Limit::Parameters => b"parameters",
-        Limit::Types => b"types",
-        Limit::Indices => b"indices",
-        Limit::Name => b"name",
-    }
-}
-
-/// The printed name of the cause with a number.
-fn name_of_cause(number: u8) -> &'static [u8]
-    ensures { result.now ≡ cause_name number }
-{
-    match number {
-        4 => b"syntax",
-        5 => b"outside",
-        6 => b"limit",
-        7 => b"numbering",
-        _ => b"reserved",
-    }
 }
 
 /// Adds the name after a cause that has one.
@@ -123,14 +62,6 @@ fn push_byte(text: &mut Vec<u8>, number: u8, name: &[u8], place: u32) -> Result<
     Ok(())
 }
 
-/// Adds the line for a text of too many tokens.
-fn push_tokens(text: &mut Vec<u8>) -> Result<(), NoMemory>
-    ensures { IfOk result (λ _. text.new.items ≡ text.old.items ++ refused_line 3 (codes "too many tokens")) }
-{
-    begin_line(text, 3)?;
-    text.extend_from_slice(b"too many tokens\n")
-}
-
 /// Adds the line for a text that has no tokens.
 fn push_lexer(text: &mut Vec<u8>, e: LexError) -> Result<(), NoMemory>
     requires { IsReadRefusal (ReadError.Lex e) }
@@ -139,7 +70,7 @@ fn push_lexer(text: &mut Vec<u8>, e: LexError) -> Result<(), NoMemory>
     match e {
         LexError::BadByte { place } => push_byte(text, 1, b"bad byte at ", place),
         LexError::OpenString { place } => push_byte(text, 2, b"open string at ", place),
-        LexError::TooManyTokens => push_tokens(text),
+        LexError::TooManyTokens => push_cause(text, 3, b"too many tokens"),
         LexError::NoMemory => Ok(()),
     }
 }
@@ -242,7 +173,6 @@ pub fn threads_line(alloc: Global) -> Result<Vec<u8>, NoMemory>
     ensures { IfOk result (λ text. text.items ≡ threads_text) }
 {
     let mut text = Vec::new(alloc);
-    begin_line(&mut text, 18)?;
-    text.extend_from_slice(b"threads\n")?;
+    push_cause(&mut text, 18, b"threads")?;
     Ok(text)
 }

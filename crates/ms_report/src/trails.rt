@@ -14,6 +14,14 @@ use ms_moves::moves::{Hop, Move, Source, Target};
 use ms_write_values::{push_name, push_number};
 use std::alloc::Global;
 
+/// A module with moves of a run of it, and what is printed under each line that names a site.
+#[derive(Drop)]
+struct Moved<'a, L> {
+    m: &'a Module,
+    moves: &'a [Move],
+    under: &'a L,
+}
+
 /// Adds a value of the frame with a number.
 fn push_value(text: &mut Vec<u8>, frame: u64, name: &Name) -> Result<(), NoMemory>
     ensures { IfOk result (λ _. text.new.items ≡ text.old.items ++ value_text frame name.now) }
@@ -25,15 +33,15 @@ fn push_value(text: &mut Vec<u8>, frame: u64, name: &Name) -> Result<(), NoMemor
 }
 
 /// Adds the byte at a distance from an address.
-fn push_byte(alloc: Global, text: &mut Vec<u8>, addr: u64, distance: u64) -> Result<(), NoMemory>
+fn push_byte(text: &mut Vec<u8>, addr: u64, distance: u64) -> Result<(), NoMemory>
     ensures { IfOk result (λ _. text.new.items ≡ text.old.items ++ byte_text (addr + distance)) }
 {
     text.extend_from_slice(b"byte 0x")?;
-    push_hexadecimal(alloc, text, addr.wrapping_add(distance))
+    push_hexadecimal(text, addr.wrapping_add(distance))
 }
 
 /// Adds a source.
-fn push_source(alloc: Global, text: &mut Vec<u8>, source: &Source) -> Result<(), NoMemory>
+fn push_source(text: &mut Vec<u8>, source: &Source) -> Result<(), NoMemory>
     ensures { IfOk result (λ _. text.new.items ≡ text.old.items ++ source_text source.now) }
 {
     match source {
@@ -42,37 +50,37 @@ fn push_source(alloc: Global, text: &mut Vec<u8>, source: &Source) -> Result<(),
             push_number(text, *number as u64)
         }
         Source::Value { frame, name } => push_value(text, *frame, name),
-        Source::Byte { addr } => push_byte(alloc, text, *addr, 0),
+        Source::Byte { addr } => push_byte(text, *addr, 0),
     }
 }
 
 /// Adds what byte `k` of a move's target came from.
-fn push_from(alloc: Global, text: &mut Vec<u8>, made: &Move, k: u64) -> Result<(), NoMemory>
+fn push_from(text: &mut Vec<u8>, made: &Move, k: u64) -> Result<(), NoMemory>
     ensures { IfOk result (λ _. text.new.items ≡ text.old.items ++ source_text (came_from made.now.from made.now.to k)) }
 {
     match (&made.from, &made.to) {
-        (Source::Byte { addr }, Target::Bytes { .. }) => push_byte(alloc, text, *addr, k),
-        (from, _) => push_source(alloc, text, from),
+        (Source::Byte { addr }, Target::Bytes { .. }) => push_byte(text, *addr, k),
+        (from, _) => push_source(text, from),
     }
 }
 
 /// Adds byte `k` of a target.
-fn push_to(alloc: Global, text: &mut Vec<u8>, target: &Target, k: u64) -> Result<(), NoMemory>
+fn push_to(text: &mut Vec<u8>, target: &Target, k: u64) -> Result<(), NoMemory>
     ensures { IfOk result (λ _. text.new.items ≡ text.old.items ++ target_text target.now k) }
 {
     match target {
         Target::Value { frame, name } => push_value(text, *frame, name),
-        Target::Bytes { addr, .. } => push_byte(alloc, text, *addr, k),
+        Target::Bytes { addr, .. } => push_byte(text, *addr, k),
     }
 }
 
 /// Adds what byte `k` of a move's target came from, and that byte.
-fn push_way(alloc: Global, text: &mut Vec<u8>, made: &Move, k: u64) -> Result<(), NoMemory>
+fn push_way(text: &mut Vec<u8>, made: &Move, k: u64) -> Result<(), NoMemory>
     ensures { IfOk result (λ _. text.new.items ≡ text.old.items ++ way_text made.now k) }
 {
-    push_from(alloc, text, made, k)?;
+    push_from(text, made, k)?;
     text.extend_from_slice(b" to ")?;
-    push_to(alloc, text, &made.to, k)
+    push_to(text, &made.to, k)
 }
 
 /// Begins the line of the move with a number, whose instruction has a site.
@@ -90,99 +98,66 @@ fn begin_move(text: &mut Vec<u8>, m: &Module, index: u32, site: u32) -> Result<(
 }
 
 /// Adds the line of a hop over a move.
-fn push_move_line(
-    alloc: Global,
-    text: &mut Vec<u8>,
-    m: &Module,
-    hop: Hop,
-    made: &Move,
-) -> Result<(), NoMemory>
+fn push_move_line(text: &mut Vec<u8>, m: &Module, hop: Hop, made: &Move) -> Result<(), NoMemory>
     requires { HasSmallNumbers m.now }
     ensures { IfOk result (λ _. text.new.items ≡ text.old.items ++ move_line m.now hop.index made.now hop.byte) }
 {
     begin_move(text, m, hop.index, made.site)?;
-    push_way(alloc, text, made, hop.byte)?;
+    push_way(text, made, hop.byte)?;
     text.push(b'\n')?;
-    Ok(())
-}
-
-/// Adds the line of a hop over a move, and the lines under it.
-fn push_move<L: SiteLines>(
-    alloc: Global,
-    text: &mut Vec<u8>,
-    m: &Module,
-    hop: Hop,
-    made: &Move,
-    under: &L,
-) -> Result<(), NoMemory>
-    requires { HasSmallNumbers m.now }
-    ensures { IfOk result (λ _. text.new.items ≡ text.old.items ++ hop_with (L.lines under.now) m.now hop (Held made.now)) }
-{
-    push_move_line(alloc, text, m, hop, made)?;
-    under.push_lines(text, made.site)
-}
-
-/// Adds the line of a hop, and the lines under it.
-fn push_hop<L: SiteLines>(
-    alloc: Global,
-    text: &mut Vec<u8>,
-    m: &Module,
-    moves: &[Move],
-    hop: Hop,
-    under: &L,
-) -> Result<(), NoMemory>
-    requires { HasSmallNumbers m.now }
-    ensures { IfOk result (λ _. text.new.items ≡ text.old.items ++ hop_with (L.lines under.now) m.now hop (slice_get moves.now hop.index)) }
-{
-    match moves.get(hop.index as usize) {
-        Some(made) => push_move(alloc, text, m, hop, made, under),
-        None => Ok(()),
-    }
-}
-
-/// Adds the lines of hops.
-fn push_hops<L: SiteLines>(
-    alloc: Global,
-    text: &mut Vec<u8>,
-    m: &Module,
-    moves: &[Move],
-    hops: &[Hop],
-    under: &L,
-) -> Result<(), NoMemory>
-    requires { HasSmallNumbers m.now }
-    ensures { IfOk result (λ _. text.new.items ≡ text.old.items ++ hops_with (L.lines under.now) m.now moves.now hops.now) }
-{
-    for hop in hops {
-        push_hop(alloc, text, m, moves, *hop, under)?;
-    }
     Ok(())
 }
 
 /// Adds the line of what a use reads.
-fn push_use(alloc: Global, text: &mut Vec<u8>, at: &Source) -> Result<(), NoMemory>
+fn push_use(text: &mut Vec<u8>, at: &Source) -> Result<(), NoMemory>
     ensures { IfOk result (λ _. text.new.items ≡ text.old.items ++ use_line at.now) }
 {
     text.extend_from_slice(b"  use: ")?;
-    push_source(alloc, text, at)?;
+    push_source(text, at)?;
     text.push(b'\n')?;
     Ok(())
 }
 
-/// Adds the lines of hops, and the line of what the use reads to which they lead.
-fn push_trail<L: SiteLines>(
-    alloc: Global,
-    text: &mut Vec<u8>,
-    m: &Module,
-    moves: &[Move],
-    at: &Source,
-    hops: &[Hop],
-    under: &L,
-) -> Result<(), NoMemory>
-    requires { HasSmallNumbers m.now }
-    ensures { IfOk result (λ _. text.new.items ≡ text.old.items ++ trail_with (L.lines under.now) m.now moves.now at.now hops.now) }
-{
-    push_hops(alloc, text, m, moves, hops, under)?;
-    push_use(alloc, text, at)
+impl<L: SiteLines> Moved<'_, L> {
+    /// Adds the line of a hop over a move, and the lines under it.
+    fn push_move(&self, text: &mut Vec<u8>, hop: Hop, made: &Move) -> Result<(), NoMemory>
+        requires { HasSmallNumbers self.now.m.now }
+        ensures { IfOk result (λ _. text.new.items ≡ text.old.items ++ hop_with (L.lines self.now.under.now) self.now.m.now hop (Held made.now)) }
+    {
+        push_move_line(text, self.m, hop, made)?;
+        self.under.push_lines(text, made.site)
+    }
+
+    /// Adds the line of a hop, and the lines under it.
+    fn push_hop(&self, text: &mut Vec<u8>, hop: Hop) -> Result<(), NoMemory>
+        requires { HasSmallNumbers self.now.m.now }
+        ensures { IfOk result (λ _. text.new.items ≡ text.old.items ++ hop_with (L.lines self.now.under.now) self.now.m.now hop (slice_get self.now.moves.now hop.index)) }
+    {
+        match self.moves.get(hop.index as usize) {
+            Some(made) => self.push_move(text, hop, made),
+            None => Ok(()),
+        }
+    }
+
+    /// Adds the lines of hops.
+    fn push_hops(&self, text: &mut Vec<u8>, hops: &[Hop]) -> Result<(), NoMemory>
+        requires { HasSmallNumbers self.now.m.now }
+        ensures { IfOk result (λ _. text.new.items ≡ text.old.items ++ hops_with (L.lines self.now.under.now) self.now.m.now self.now.moves.now hops.now) }
+    {
+        for hop in hops {
+            self.push_hop(text, *hop)?;
+        }
+        Ok(())
+    }
+
+    /// Adds the lines of hops, and the line of what the use reads to which they lead.
+    fn push_trail(&self, text: &mut Vec<u8>, at: &Source, hops: &[Hop]) -> Result<(), NoMemory>
+        requires { HasSmallNumbers self.now.m.now }
+        ensures { IfOk result (λ _. text.new.items ≡ text.old.items ++ trail_with (L.lines self.now.under.now) self.now.m.now self.now.moves.now at.now hops.now) }
+    {
+        self.push_hops(text, hops)?;
+        push_use(text, at)
+    }
 }
 
 /// The lines of the hops over moves of a run of `m`, with these lines under each, and the line of what the use reads to which they
@@ -203,6 +178,7 @@ pub fn trail_text_with<L: SiteLines>(
     ensures { IfOk result (λ text. text.items ≡ trail_with (L.lines under.now) m.now moves.now at.now hops.now) }
 {
     let mut text = Vec::new(alloc);
-    push_trail(alloc, &mut text, m, moves, at, hops, under)?;
+    let moved = Moved { m, moves, under };
+    moved.push_trail(&mut text, at, hops)?;
     Ok(text)
 }

@@ -1,5 +1,8 @@
 use Rattle.ms_valid.proofs.SmallNumbers.{small_numbers}
 use Rattle.ms_report.proofs.reports.report_text_with.Goals as goal
 
-pub push_all-requires : goal.push_all-requires
-push_all-requires g c = small_numbers c.args.m.now c.requires
+pub text_of-requires-clause-numbers : goal.text_of-requires-clause-numbers
+text_of-requires-clause-numbers g c = small_numbers c.args.m.now c.requires
+
+pub roots-requires : goal.roots-requires
+roots-requires g c = small_numbers c.args.m.now c.requires
