@@ -4,7 +4,7 @@ ghost use Rattle.ms_check.specs.declared.errors.CheckError.TheVariants.{NoMemory
 
 use ms_bits::List;
 use ms_ir::Name;
-use std::alloc::{AllocError, AllocFailed};
+use std::alloc::AllocError;
 
 /// The first clause that a module breaks of what a valid module is, in the order of the variants, and for this clause the
 /// first place of the module's text: its types, then its globals, its declarations and its functions.
@@ -70,14 +70,6 @@ impl From<AllocError> for CheckError {
     ghost from_gives = { λ _ e. e ≡ NoMemory };
 
     fn from(_error: AllocError) -> CheckError {
-        CheckError::NoMemory
-    }
-}
-
-impl<T: Drop> From<AllocFailed<T>> for CheckError {
-    ghost from_gives = { λ _ e. e ≡ NoMemory };
-
-    fn from(_error: AllocFailed<T>) -> CheckError {
         CheckError::NoMemory
     }
 }
