@@ -1,20 +1,15 @@
 -- What contracts see of a text with its table of nodes.
 use Rattle.std.specs.Prelude.{◌≡◌, ℕ, ◌<◌, List, length, slice_index}
 use Rattle.std.specs.List.{position_or_len}
-use Rattle.ms_read_cursor.specs.Places.{LieIn}
 use Rattle.ms_places.specs.Told.{Told}
 use Rattle.ms_debug.specs.declared.nodes.Debug.TheInside.{Inside}
 use Rattle.ms_debug.specs.Nodes.{is_number, number_of}
-
-abbrev pub told_in : Inside → Told
-told_in a = record { text = a.text.now; tokens = a.tokens.now; marks = a.marks.now }
 
 -- of each number below that of the marks, the place of the first node that has it
 pub record IsTable (d : Told) (nodes : List ℕ) : Type 0 where
   pub size : length nodes ≡ length d.marks
   pub first : (n : ℕ) → n < length d.marks → slice_index nodes n ≡ position_or_len (λ m. is_number n (number_of d m)) d.marks
 
--- the tokens lie in the text, and the table is that of its nodes
-pub record IsReady (a : Inside) : Type 0 where
-  pub lie : LieIn a.text.now a.tokens.now
-  pub table : IsTable (told_in a) a.nodes.items
+-- the table is that of the text's nodes
+abbrev pub IsReady : Inside → Type 0
+IsReady a = IsTable a.marked a.nodes.items

@@ -1,28 +1,23 @@
 //! The nodes of metadata of a text, by their numbers, and their fields.
 
-ghost use Rattle.std.specs.Prelude.{◌≡◌, ℕ, ◌<◌, ◌≤◌, length, drop, replicate, slice_index, slice_get, if◌then◌else◌, IfOk, option_copied};
+ghost use Rattle.std.specs.Prelude.{◌≡◌, ℕ, ◌<◌, ◌≤◌, length, replicate, slice_index, if◌then◌else◌, IfOk, option_copied};
 ghost use Rattle.std.specs.Str.{bytes_eq};
-ghost use Rattle.ms_lex.specs.{Tokens.{InOrder}, Names.{spelling_of}};
-ghost use Rattle.ms_text_grammar.specs.Lexemes.{lexemes_of};
-ghost use Rattle.ms_read_cursor.specs.{Reading.{front}, Places.{LieIn}};
+ghost use Rattle.ms_lex.specs.Names.{spelling_of};
 ghost use Rattle.ms_places.specs.Told.{spelling_at};
 ghost use Rattle.ms_debug.specs.Tables.{IsTable};
 ghost use Rattle.ms_debug.specs.Nodes as spec;
 
 use ms_bits::{Bytes, List, NoMemory};
 use ms_lex::{Kind, Token, name_of};
-use ms_places::{Kind as What, Mark};
+use ms_places::{Kind as What, Mark, MarkedText};
 use ms_read_cursor::{decimal, is_digits};
 use std::alloc::Global;
 use std::marker::Model;
 
-/// A text with its tokens, what stands in it, and where the nodes of its metadata are. Contracts see the text, the tokens and
-/// the marks.
+/// A text with what stands in it, and where the nodes of its metadata are. Contracts see the text with what stands in it.
 #[derive(Drop)]
 pub struct Debug<'a> {
-    text: &'a [u8],
-    tokens: &'a [Token],
-    marks: &'a [Mark],
+    marked: MarkedText<'a>,
     /// Of each number below that of the marks, the place of the first node that has it, or the number of the marks.
     nodes: Vec<usize>,
 }
@@ -32,23 +27,11 @@ impl<'a> Model for Debug<'a> {
 
     ghost Value = { Told };
 
-    ghost use Rattle.ms_debug.specs.Tables.{told_in, IsReady};
+    ghost use Rattle.ms_debug.specs.Tables.{IsReady};
 
-    ghost view = { told_in };
+    ghost view = { λ d. d.marked };
 
     ghost invariant = { IsReady };
-}
-
-/// The bytes of the token with a number, or none where there is no such token.
-#[tactic(auto, using(crate::proofs::Places::spelling_read, crate::proofs::Places::lies_read))]
-fn spelled<'a>(text: &'a [u8], tokens: &[Token], number: u32) -> &'a [u8]
-    requires { LieIn text.now tokens.now }
-    ensures { result.now ≡ (front (drop number (lexemes_of text.now tokens.now))).spelling }
-{
-    match tokens.get(number as usize) {
-        None => &[],
-        Some(token) => &text[token.start as usize..token.end as usize],
-    }
 }
 
 /// The number that digits spell, where 64 bits have it.
@@ -105,30 +88,17 @@ fn no_nodes(alloc: Global, count: usize) -> Result<Vec<usize>, NoMemory>
 /// Of each number below that of the marks, the place of the first node that has it. From the last mark to the first, so that
 /// what is kept last is the first.
 #[tactic(auto, using(crate::proofs::Tables::started, crate::proofs::Tables::kept, crate::proofs::Tables::ended))]
-fn table_of(
-    alloc: Global,
-    text: &[u8],
-    tokens: &[Token],
-    marks: &[Mark],
-) -> Result<Vec<usize>, NoMemory>
-    requires { LieIn text.now tokens.now }
-    ensures { IfOk result (λ nodes. IsTable (record { text = text.now; tokens = tokens.now; marks = marks.now }) nodes.items) }
+fn table_of(alloc: Global, marked: &MarkedText<'_>) -> Result<Vec<usize>, NoMemory>
+    ensures { IfOk result (λ nodes. IsTable marked.now nodes.items) }
 {
+    let marks = marked.marks();
     let mut nodes = no_nodes(alloc, marks.len())?;
     for place in (0..marks.len()).rev() {
         let mark = &marks[place];
-        let name = spelled(text, tokens, mark.first);
+        let name = marked.spelling(mark.first as usize);
         keep(&mut nodes, number_if(mark.kind, name), place);
     }
     Ok(nodes)
-}
-
-/// The mark at a place.
-#[tactic(auto, using(crate::proofs::Places::get_of_item))]
-fn mark_at(marks: &[Mark], place: usize) -> Option<&Mark>
-    ensures { option_copied result ≡ slice_get marks.now place }
-{
-    marks.get(place)
 }
 
 /// The string that a token is, with its escapes undone.
@@ -145,63 +115,37 @@ fn string_of(alloc: Global, text: &[u8], token: &Token) -> Result<Option<Bytes>,
 }
 
 impl<'a> Debug<'a> {
-    /// A text with its tokens and what stands in it. Takes a time linear in the number of marks.
+    /// Finds the nodes of a text's metadata. Takes a time linear in the number of marks.
     ///
     /// # Errors
     ///
     /// Only where it runs out of memory.
-    #[tactic(auto, using(crate::proofs::Places::lie))]
-    pub fn new(
-        alloc: Global,
-        text: &'a [u8],
-        tokens: &'a [Token],
-        marks: &'a [Mark],
-    ) -> Result<Debug<'a>, NoMemory>
-        requires in_order { InOrder tokens.now (length text.now) }
-        ensures { IfOk result (λ d. d ≡ record { text = text.now; tokens = tokens.now; marks = marks.now }) }
+    pub fn new(alloc: Global, marked: MarkedText<'a>) -> Result<Debug<'a>, NoMemory>
+        ensures { IfOk result (λ d. d ≡ marked.entry) }
     {
-        let nodes = table_of(alloc, text, tokens, marks)?;
-        Ok(Debug {
-            text,
-            tokens,
-            marks,
-            nodes,
-        })
+        let nodes = table_of(alloc, &marked)?;
+        Ok(Debug { marked, nodes })
     }
 
-    /// The bytes of the text.
-    pub fn text(&self) -> &'a [u8]
-        ensures { result.now ≡ self.now.text }
+    /// The text with what stands in it.
+    pub fn marked(&self) -> &MarkedText<'a>
+        ensures { result.now ≡ self.now }
     {
-        self.text
-    }
-
-    /// The tokens of the text.
-    pub fn tokens(&self) -> &'a [Token]
-        ensures { result.now ≡ self.now.tokens }
-    {
-        self.tokens
-    }
-
-    /// What stands in the text.
-    pub fn marks(&self) -> &'a [Mark]
-        ensures { result.now ≡ self.now.marks }
-    {
-        self.marks
+        &self.marked
     }
 
     /// The bytes of the token with this number, or none where there is no such token.
-    pub fn spelling(&self, token: u32) -> &'a [u8]
+    fn spelling(&self, token: u32) -> &'a [u8]
         ensures { result.now ≡ spelling_at self.now token }
     {
-        spelled(self.text, self.tokens, token)
+        self.marked.spelling(token as usize)
     }
 
     /// Whether a token is spelled so.
     fn is_spelled(&self, token: u32, word: &[u8]) -> bool
         ensures { result ≡ bytes_eq (spelling_at self.now token) word.now }
     {
-        self.spelling(token) == word
+        self.marked.is_spelled(word, token as usize)
     }
 
     /// The number of the token after the first one of a mark's tokens that is spelled so: the value of a field, as of `scope:`.
@@ -223,7 +167,7 @@ impl<'a> Debug<'a> {
         ensures { option_copied result ≡ spec.node self.now number }
     {
         if number < self.nodes.len() as u64 {
-            mark_at(self.marks, self.nodes[number as usize])
+            self.marked.mark(self.nodes[number as usize])
         } else {
             None
         }
@@ -257,13 +201,13 @@ impl<'a> Debug<'a> {
     }
 
     /// The string that a token is, with its escapes undone.
-    #[tactic(auto, using(crate::proofs::Places::lexeme_read, crate::proofs::Places::lexeme_past, crate::proofs::Places::lies_read), unfolding(crate::specs::Nodes::string_at))]
+    #[tactic(auto, using(crate::proofs::Places::string_there, crate::proofs::Places::no_string))]
     fn string_at(&self, alloc: Global, token: u32) -> Result<Option<Bytes>, NoMemory>
         ensures { IfOk result (λ found. found ≡ spec.string_at self.now token) }
     {
-        match self.tokens.get(token as usize) {
+        match self.marked.token(token as usize) {
             None => Ok(None),
-            Some(token) => string_of(alloc, self.text, token),
+            Some(token) => string_of(alloc, self.marked.text(), token),
         }
     }
 

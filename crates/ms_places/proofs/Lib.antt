@@ -3,3 +3,4 @@ pub mod Headings
 pub mod Each
 pub mod One
 pub mod Memory
+pub mod Spelled

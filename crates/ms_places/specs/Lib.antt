@@ -3,4 +3,5 @@ pub mod Marks
 pub mod Instructions
 pub mod Failures
 pub mod Told
+pub mod MarkedTexts
 pub mod Indented

@@ -6,7 +6,7 @@ ghost use Rattle.ms_ir.specs.declared.syntax.Module.{Module as Found};
 ghost use Rattle.ms_text_grammar.specs.{Bodies.{max_instructions}, Texts.{HasTokens, Reads}};
 ghost use Rattle.ms_text_grammar.specs.Functions as functions;
 ghost use Rattle.ms_text_grammar.specs.Modules as modules;
-ghost use Rattle.ms_read_cursor.specs.Reading.{Judges, front, run};
+ghost use Rattle.ms_read_cursor.specs.Reading.{front, run};
 ghost use Rattle.ms_places.specs.Failures.{OnlyMemory};
 ghost use Rattle.ms_places.specs.Marks as spec;
 
@@ -19,17 +19,9 @@ use ms_read_top::{entity, entity_begins, no_parts};
 use ms_text_grammar::{Cause, Parts, Symbol};
 use std::alloc::Global;
 
-/// Whether the next token begins an entity.
-fn begins(alloc: Global, tokens: &Tokens<'_>, form: Form, parts: &Parts) -> Result<bool, Cause>
-    ensures { Judges (modules.entity_begins form parts.now (front tokens.now)) result }
-{
-    entity_begins(alloc, form, parts, &tokens.lexeme())
-}
-
-/// Marks the lines of an entity after its first token, which has this symbol.
+/// Marks the lines of an entity, whose first token comes next and has this symbol.
 #[tactic(auto, using(crate::proofs::Growing::function_inner))]
 fn inner_lines(
-    alloc: Global,
     total: usize,
     tokens: &Tokens<'_>,
     form: Form,
@@ -38,14 +30,15 @@ fn inner_lines(
     found: &mut Vec<Mark>,
 ) -> Result<(), Cause>
     requires { total < 2 ^ 32 }
-    ensures told { IfOk result (λ _. spec.InnerAdds symbol form total before tokens.now found.old.items found.new.items) }
+    ensures told { IfOk result (λ _. spec.InnerAdds symbol form total before (tail tokens.now) found.old.items found.new.items) }
     ensures only_functions { IsErr result → symbol ≡ Symbol.Define }
-    ensures only_memory { IfErr result (λ cause. OnlyMemory (functions.function form before) tokens.now cause) }
+    ensures only_memory { IfErr result (λ cause. OnlyMemory (functions.function form before) (tail tokens.now) cause) }
 {
     match symbol {
         Symbol::Define => {
             let mut inside = tokens.copy();
-            function_lines(alloc, total, &mut inside, form, before, found)
+            inside.advance();
+            function_lines(total, &mut inside, form, before, found)
         }
         _ => Ok(()),
     }
@@ -55,7 +48,6 @@ fn inner_lines(
 /// tokens.
 #[tactic(auto, using(crate::proofs::Growing::entity_adds, crate::proofs::Memory::gave, crate::proofs::Memory::is_only, crate::proofs::Memory::inner_not_read))]
 fn one_entity(
-    alloc: Global,
     total: usize,
     tokens: &mut Tokens<'_>,
     form: Form,
@@ -70,27 +62,17 @@ fn one_entity(
     ensures few { IfOk result (λ _. parts.new.count ≤ max_instructions form) }
     ensures only_memory { IfErr result (λ cause. OnlyMemory (modules.entity form parts.old (front tokens.old)) (tail tokens.old) cause) }
 {
-    let first = tokens.lexeme();
+    let symbol = tokens.peek();
     let at = place(total, tokens);
-    tokens.advance();
-    inner_lines(
-        alloc,
-        total,
-        tokens,
-        form,
-        parts.count,
-        first.symbol(),
-        found,
-    )?;
-    entity(alloc, tokens, form, parts, &first)?;
-    push_mark(found, entity_kind(first.symbol()), at, place(total, tokens))?;
+    inner_lines(total, tokens, form, parts.count, symbol, found)?;
+    entity(tokens, form, parts)?;
+    push_mark(found, entity_kind(symbol), at, place(total, tokens))?;
     Ok(())
 }
 
 /// Reads and marks entity after entity, as long as one begins.
 #[tactic(auto, using(crate::proofs::Growing::entities_none, crate::proofs::Growing::entities_more, crate::proofs::Growing::entity_moves, crate::proofs::Growing::entities_end, crate::proofs::Growing::no_entity_left, crate::proofs::Memory::entity_not_begun, crate::proofs::Memory::entity_not_read))]
 fn all_entities(
-    alloc: Global,
     total: usize,
     tokens: &mut Tokens<'_>,
     form: Form,
@@ -104,10 +86,10 @@ fn all_entities(
     ensures only_memory { IfErr result (λ cause. OnlyMemory (loop (modules.entity_begins form) (modules.entity form) parts.old) tokens.old cause) }
 {
     'entities: while tokens.left() > 0 {
-        if !begins(alloc, tokens, form, parts)? {
+        if !entity_begins(tokens, form, parts)? {
             return Ok(());
         }
-        one_entity(alloc, total, tokens, form, parts, found)?;
+        one_entity(total, tokens, form, parts, found)?;
     }
     Ok(())
 }
@@ -132,16 +114,9 @@ pub fn marks_in(
     ensures marks { IfOk result (λ found. spec.AreMarks form text.now tokens.now found.items) }
     ensures only_memory { IfErr result (λ cause. (m : Found) → Reads form text.now m → HasTokens form text.now tokens.now → cause ≡ Cause.NoMemory) }
 {
-    let mut cursor = Tokens::at(text, tokens, 0);
+    let mut cursor = Tokens::at(alloc, text, tokens, 0);
     let mut parts = no_parts(alloc);
     let mut found = Vec::new(alloc);
-    all_entities(
-        alloc,
-        tokens.len(),
-        &mut cursor,
-        form,
-        &mut parts,
-        &mut found,
-    )?;
+    all_entities(tokens.len(), &mut cursor, form, &mut parts, &mut found)?;
     Ok(found)
 }

@@ -4,8 +4,10 @@
 mod entities;
 mod inside;
 mod laws;
+mod marked_texts;
 mod marks;
 
 pub use entities::marks_in;
 pub use laws::{instructions_are_told, marks_are_one};
+pub use marked_texts::MarkedText;
 pub use marks::{Kind, Mark};

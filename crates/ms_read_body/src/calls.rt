@@ -35,12 +35,12 @@ pub fn place_of(text: &[u8], tokens: &[Token], token: usize) -> u32
 }
 
 /// A cursor over the tokens of a text from token `at` on.
-fn cursor_at<'a>(text: &'a [u8], tokens: &'a [Token], at: u32) -> Tokens<'a>
+fn cursor_at<'a>(alloc: Global, text: &'a [u8], tokens: &'a [Token], at: u32) -> Tokens<'a>
     requires whole { AreTokens text.now tokens.now }
     requires inside { at ≤ length tokens.now }
     ensures { result ≡ spec.lexemes_from text.now tokens.now at }
 {
-    Tokens::at(text, tokens, at as usize)
+    Tokens::at(alloc, text, tokens, at as usize)
 }
 
 /// What a call returns where a reader gave this, and so many tokens are left after it.
@@ -72,16 +72,11 @@ fn next_token(answer: Result<((), u32), ReadError>) -> Result<u32, ReadError>
 
 /// Reads `define` and the function after it.
 #[tactic(auto, unfolding(ms_text_grammar::specs::Steps::word))]
-fn read_definition(
-    alloc: Global,
-    tokens: &mut Tokens<'_>,
-    form: Form,
-    before: u32,
-) -> Result<Func, Cause>
+fn read_definition(tokens: &mut Tokens<'_>, form: Form, before: u32) -> Result<Func, Cause>
     ensures { Gives (run (definition form before) tokens.old) result tokens.new }
 {
     tokens.word(Symbol::Define)?;
-    function(alloc, tokens, form, before)
+    function(tokens, form, before)
 }
 
 /// Reads one function from token `at`, which is `define`. `before` is the number of instructions that the text has before
@@ -104,8 +99,8 @@ pub fn read_body(
     requires inside { at ≤ length tokens.now }
     ensures { ReadsExactly (definition form before) text.now tokens.now at result }
 {
-    let mut cursor = cursor_at(text, tokens, at);
-    let read = read_definition(alloc, &mut cursor, form, before);
+    let mut cursor = cursor_at(alloc, text, tokens, at);
+    let read = read_definition(&mut cursor, form, before);
     answer(text, tokens, read, cursor.left())
 }
 
@@ -127,8 +122,8 @@ pub fn read_type(
     requires inside { at ≤ length tokens.now }
     ensures { ReadsExactly (type_piece form max_depth) text.now tokens.now at result }
 {
-    let mut cursor = cursor_at(text, tokens, at);
-    let read = type_to(alloc, &mut cursor, form, MAX_DEPTH);
+    let mut cursor = cursor_at(alloc, text, tokens, at);
+    let read = type_to(&mut cursor, form, MAX_DEPTH);
     answer(text, tokens, read, cursor.left())
 }
 
@@ -151,8 +146,8 @@ pub fn read_value(
     requires inside { at ≤ length tokens.now }
     ensures { ReadsExactly (value_piece form ty.now) text.now tokens.now at result }
 {
-    let mut cursor = cursor_at(text, tokens, at);
-    let read = operand(alloc, &mut cursor, form, ty);
+    let mut cursor = cursor_at(alloc, text, tokens, at);
+    let read = operand(&mut cursor, form, ty);
     answer(text, tokens, read, cursor.left())
 }
 
@@ -173,7 +168,7 @@ pub fn skip_attributes(
     requires inside { at ≤ length tokens.now }
     ensures { ReadsExactly (attributes_piece form) text.now tokens.now at (with_nothing result) }
 {
-    let mut cursor = cursor_at(text, tokens, at);
-    let read = attributes(alloc, &mut cursor, form);
+    let mut cursor = cursor_at(alloc, text, tokens, at);
+    let read = attributes(&mut cursor, form);
     next_token(answer(text, tokens, read, cursor.left()))
 }

@@ -31,35 +31,28 @@ fn types_of(alloc: Global, parameters: &List<(Ty, Name)>) -> Result<List<Ty>, No
 
 /// Reads the attributes after the parameters of a declaration, and gives the types of these.
 fn types_of_read(
-    alloc: Global,
     tokens: &mut Tokens<'_>,
     form: Form,
     parameters: &Parameters,
 ) -> Result<List<Ty>, Cause>
     ensures { Gives (run (headed.types_of form parameters.now) tokens.old) result tokens.new }
 {
-    attributes(alloc, tokens, form)?;
-    Ok(types_of(alloc, &parameters.found)?)
+    attributes(tokens, form)?;
+    Ok(types_of(tokens.alloc(), &parameters.found)?)
 }
 
 /// Reads the parameters of a declaration after its name, and the attributes after them. Gives the types of the parameters.
-fn types_behind(
-    alloc: Global,
-    tokens: &mut Tokens<'_>,
-    form: Form,
-    name: &Name,
-) -> Result<List<Ty>, Cause>
+fn types_behind(tokens: &mut Tokens<'_>, form: Form, name: &Name) -> Result<List<Ty>, Cause>
     ensures { Gives (run (headed.types_behind form name.now) tokens.old) result tokens.new }
 {
     tokens.word(Symbol::OpenParen)?;
-    let parameters = parameters(alloc, tokens, form, names_printf(name))?;
-    types_of_read(alloc, tokens, form, &parameters)
+    let parameters = parameters(tokens, form, names_printf(name))?;
+    types_of_read(tokens, form, &parameters)
 }
 
 /// Reads a declaration after its name.
 #[tactic(auto, using(crate::proofs::Headed::declared_reads, crate::proofs::Headed::declared_stops))]
 fn declared(
-    alloc: Global,
     tokens: &mut Tokens<'_>,
     form: Form,
     ret: Option<ValueType>,
@@ -67,7 +60,7 @@ fn declared(
 ) -> Result<Decl, Cause>
     ensures { Gives (run (headed.declared form ret name) tokens.old) result tokens.new }
 {
-    let params = types_behind(alloc, tokens, form, &name)?;
+    let params = types_behind(tokens, form, &name)?;
     Ok(Decl {
         name,
         ret: result_ty(ret),
@@ -82,14 +75,14 @@ fn declared(
 /// At the first token that can't stand: `Limit(Parameters)` at the 101st parameter, `Numbering` at a written number that
 /// isn't the next one, `Reserved` and `Limit(Name)` at names, `Syntax` and `Outside`.
 #[tactic(auto, unfolding(ms_text_grammar::specs::Functions::declaration, crate::specs::Headed::declared))]
-pub fn declaration(alloc: Global, tokens: &mut Tokens<'_>, form: Form) -> Result<Decl, Cause>
+pub fn declaration(tokens: &mut Tokens<'_>, form: Form) -> Result<Decl, Cause>
     ensures { Gives (run (spec.declaration form) tokens.old) result tokens.new }
 {
-    attachments(alloc, tokens, form)?;
-    linkage(alloc, tokens, form)?;
+    attachments(tokens, form)?;
+    linkage(tokens, form)?;
     let ret = result_type(tokens)?;
-    let name = global(alloc, tokens, form)?;
-    declared(alloc, tokens, form, ret, name)
+    let name = global(tokens, form)?;
+    declared(tokens, form, ret, name)
 }
 
 /// The body of a function, in front of which the text has so many instructions.
@@ -108,7 +101,6 @@ fn body_behind(alloc: Global, parameters: &Parameters, before: u32) -> Body
 
 /// Reads the blocks of a function after its parameters, with the braces round them.
 fn blocks_behind(
-    alloc: Global,
     tokens: &mut Tokens<'_>,
     form: Form,
     before: u32,
@@ -116,16 +108,15 @@ fn blocks_behind(
 ) -> Result<List<Block>, Cause>
     ensures { Gives (run (headed.blocks_behind form before parameters.now) tokens.old) result tokens.new }
 {
-    function_tail(alloc, tokens, form)?;
+    function_tail(tokens, form)?;
     tokens.word(Symbol::OpenBrace)?;
-    let start = body_behind(alloc, parameters, before);
-    blocks(alloc, tokens, form, start)
+    let start = body_behind(tokens.alloc(), parameters, before);
+    blocks(tokens, form, start)
 }
 
 /// Reads a function after its parameters.
 #[tactic(auto, using(crate::proofs::Headed::bodied_reads, crate::proofs::Headed::bodied_stops))]
 fn bodied(
-    alloc: Global,
     tokens: &mut Tokens<'_>,
     form: Form,
     before: u32,
@@ -135,7 +126,7 @@ fn bodied(
 ) -> Result<Func, Cause>
     ensures { Gives (run (headed.bodied form before ret name parameters) tokens.old) result tokens.new }
 {
-    let blocks = blocks_behind(alloc, tokens, form, before, &parameters)?;
+    let blocks = blocks_behind(tokens, form, before, &parameters)?;
     Ok(Func {
         name,
         ret: result_ty(ret),
@@ -146,7 +137,6 @@ fn bodied(
 
 /// Reads a function after its name.
 fn named(
-    alloc: Global,
     tokens: &mut Tokens<'_>,
     form: Form,
     before: u32,
@@ -156,8 +146,8 @@ fn named(
     ensures { Gives (run (headed.named form before ret name) tokens.old) result tokens.new }
 {
     tokens.word(Symbol::OpenParen)?;
-    let params = parameters(alloc, tokens, form, false)?;
-    bodied(alloc, tokens, form, before, ret, name, params)
+    let params = parameters(tokens, form, false)?;
+    bodied(tokens, form, before, ret, name, params)
 }
 
 /// Reads a function after `define`, in front of which the text has so many instructions.
@@ -168,23 +158,17 @@ fn named(
 /// `Limit(Parameters)` at the 101st parameter, `Numbering` at a written number that isn't the next one, `Reserved` and
 /// `Limit(Name)` at names, `Syntax` and `Outside`.
 #[tactic(auto, unfolding(ms_text_grammar::specs::Functions::function, crate::specs::Headed::bodied))]
-pub fn function(
-    alloc: Global,
-    tokens: &mut Tokens<'_>,
-    form: Form,
-    before: u32,
-) -> Result<Func, Cause>
+pub fn function(tokens: &mut Tokens<'_>, form: Form, before: u32) -> Result<Func, Cause>
     ensures { Gives (run (spec.function form before) tokens.old) result tokens.new }
 {
-    linkage(alloc, tokens, form)?;
+    linkage(tokens, form)?;
     let ret = result_type(tokens)?;
-    let name = global(alloc, tokens, form)?;
-    named(alloc, tokens, form, before, ret, name)
+    let name = global(tokens, form)?;
+    named(tokens, form, before, ret, name)
 }
 
 /// Reads what stands between the parameters of a function and its blocks, and gives its body, in which no block has begun.
 fn body_opened(
-    alloc: Global,
     tokens: &mut Tokens<'_>,
     form: Form,
     before: u32,
@@ -192,23 +176,18 @@ fn body_opened(
 ) -> Result<Body, Cause>
     ensures { Gives (run (headed.body_opened form before parameters.now) tokens.old) result tokens.new }
 {
-    function_tail(alloc, tokens, form)?;
+    function_tail(tokens, form)?;
     tokens.word(Symbol::OpenBrace)?;
-    Ok(body_behind(alloc, parameters, before))
+    Ok(body_behind(tokens.alloc(), parameters, before))
 }
 
 /// Reads a function after its name up to its blocks.
-fn parameters_opened(
-    alloc: Global,
-    tokens: &mut Tokens<'_>,
-    form: Form,
-    before: u32,
-) -> Result<Body, Cause>
+fn parameters_opened(tokens: &mut Tokens<'_>, form: Form, before: u32) -> Result<Body, Cause>
     ensures { Gives (run (headed.parameters_opened form before) tokens.old) result tokens.new }
 {
     tokens.word(Symbol::OpenParen)?;
-    let params = parameters(alloc, tokens, form, false)?;
-    body_opened(alloc, tokens, form, before, &params)
+    let params = parameters(tokens, form, false)?;
+    body_opened(tokens, form, before, &params)
 }
 
 /// Reads a function after `define` up to and with the brace in front of its blocks, and gives its body, in which no block
@@ -217,16 +196,11 @@ fn parameters_opened(
 /// # Errors
 ///
 /// Those of [`function`] up to there.
-pub fn heading(
-    alloc: Global,
-    tokens: &mut Tokens<'_>,
-    form: Form,
-    before: u32,
-) -> Result<Body, Cause>
+pub fn heading(tokens: &mut Tokens<'_>, form: Form, before: u32) -> Result<Body, Cause>
     ensures { Gives (run (headed.heading form before) tokens.old) result tokens.new }
 {
-    linkage(alloc, tokens, form)?;
+    linkage(tokens, form)?;
     result_type(tokens)?;
-    global(alloc, tokens, form)?;
-    parameters_opened(alloc, tokens, form, before)
+    global(tokens, form)?;
+    parameters_opened(tokens, form, before)
 }

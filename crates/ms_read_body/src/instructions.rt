@@ -15,12 +15,10 @@ use ms_read_cursor::Tokens;
 use ms_read_insts::{alloca_rule, call_rule, gep_rule, phi_rule, with_suffixes};
 use ms_read_values::{binary_op, cast_op};
 use ms_text_grammar::{Body, Cause, Symbol};
-use std::alloc::Global;
 
 /// An instruction with a result.
 #[tactic(auto, unfolding(ms_text_grammar::specs::Lines::value_line))]
 fn value_line(
-    alloc: Global,
     tokens: &mut Tokens<'_>,
     form: Form,
     body: &mut Body,
@@ -31,14 +29,13 @@ fn value_line(
     requires count { body.old.count + 1 < 2 ^ 32 }
     ensures { Leaves (run (spec.value_line form body.old name.old (value_rule form operation)) tokens.old) result body.new tokens.new }
 {
-    let read = with_suffixes(alloc, tokens, form, &ValueIn { form, operation })?;
-    Ok(add_value(alloc, body, name, false, read)?)
+    let read = with_suffixes(tokens, form, &ValueIn { form, operation })?;
+    Ok(add_value(tokens.alloc(), body, name, false, read)?)
 }
 
 /// An `alloca`.
 #[tactic(auto, unfolding(ms_text_grammar::specs::Lines::marked_line))]
 fn alloca_line(
-    alloc: Global,
     tokens: &mut Tokens<'_>,
     form: Form,
     body: &mut Body,
@@ -48,14 +45,13 @@ fn alloca_line(
     requires count { body.old.count + 1 < 2 ^ 32 }
     ensures { Leaves (run (spec.marked_line body.old name.old (alloca_piece form)) tokens.old) result body.new tokens.new }
 {
-    let read = alloca_rule(alloc, tokens, form)?;
-    Ok(add_value(alloc, body, name, false, read)?)
+    let read = alloca_rule(tokens, form)?;
+    Ok(add_value(tokens.alloc(), body, name, false, read)?)
 }
 
 /// A `getelementptr`.
 #[tactic(auto, unfolding(ms_text_grammar::specs::Lines::marked_line))]
 fn gep_line(
-    alloc: Global,
     tokens: &mut Tokens<'_>,
     form: Form,
     body: &mut Body,
@@ -65,14 +61,13 @@ fn gep_line(
     requires count { body.old.count + 1 < 2 ^ 32 }
     ensures { Leaves (run (spec.marked_line body.old name.old (gep_piece form)) tokens.old) result body.new tokens.new }
 {
-    let read = gep_rule(alloc, tokens, form)?;
-    Ok(add_value(alloc, body, name, false, read)?)
+    let read = gep_rule(tokens, form)?;
+    Ok(add_value(tokens.alloc(), body, name, false, read)?)
 }
 
 /// A phi, after which another may stand.
 #[tactic(auto, unfolding(ms_text_grammar::specs::Lines::phi_line))]
 fn phi_line(
-    alloc: Global,
     tokens: &mut Tokens<'_>,
     form: Form,
     body: &mut Body,
@@ -82,14 +77,13 @@ fn phi_line(
     requires count { body.old.count + 1 < 2 ^ 32 }
     ensures { Leaves (run (spec.phi_line form body.old name.old) tokens.old) result body.new tokens.new }
 {
-    let read = phi_rule(alloc, tokens, form)?;
-    Ok(add_value(alloc, body, name, true, read)?)
+    let read = phi_rule(tokens, form)?;
+    Ok(add_value(tokens.alloc(), body, name, true, read)?)
 }
 
 /// A call, which knows whether it has a name.
 #[tactic(auto, unfolding(ms_text_grammar::specs::Lines::call_line))]
 fn call_line(
-    alloc: Global,
     tokens: &mut Tokens<'_>,
     form: Form,
     body: &mut Body,
@@ -101,14 +95,13 @@ fn call_line(
     ensures { Leaves (run (spec.call_line form body.old name.old first) tokens.old) result body.new tokens.new }
 {
     let named = is_open(name);
-    let read = call_rule(alloc, tokens, form, named, first)?;
-    Ok(add_call(alloc, body, name, read)?)
+    let read = call_rule(tokens, form, named, first)?;
+    Ok(add_call(tokens.alloc(), body, name, read)?)
 }
 
 /// An instruction without a result.
 #[tactic(auto, unfolding(ms_text_grammar::specs::Lines::effect_line))]
 fn effect_line(
-    alloc: Global,
     tokens: &mut Tokens<'_>,
     form: Form,
     body: &mut Body,
@@ -117,14 +110,13 @@ fn effect_line(
     requires { body.old.count + 1 < 2 ^ 32 }
     ensures { Leaves (run (spec.effect_line form body.old (effect_rule form operation)) tokens.old) result body.new tokens.new }
 {
-    let read = with_suffixes(alloc, tokens, form, &EffectIn { form, operation })?;
-    Ok(add_effect(alloc, body, read)?)
+    let read = with_suffixes(tokens, form, &EffectIn { form, operation })?;
+    Ok(add_effect(tokens.alloc(), body, read)?)
 }
 
 /// A terminator.
 #[tactic(auto, unfolding(ms_text_grammar::specs::Lines::end_line))]
 fn end_line(
-    alloc: Global,
     tokens: &mut Tokens<'_>,
     form: Form,
     body: &mut Body,
@@ -133,8 +125,8 @@ fn end_line(
     requires { body.old.count + 1 < 2 ^ 32 }
     ensures { Leaves (run (spec.end_line form body.old (effect_rule form operation)) tokens.old) result body.new tokens.new }
 {
-    let read = with_suffixes(alloc, tokens, form, &EffectIn { form, operation })?;
-    Ok(add_end(alloc, body, read)?)
+    let read = with_suffixes(tokens, form, &EffectIn { form, operation })?;
+    Ok(add_end(tokens.alloc(), body, read)?)
 }
 
 /// The operation that a word stands for, where it has a result and takes any suffix.
@@ -165,7 +157,6 @@ fn end_operation(symbol: Symbol) -> Option<EffectOperation>
 
 /// An instruction after a word that is none of the others.
 fn further_instruction(
-    alloc: Global,
     tokens: &mut Tokens<'_>,
     form: Form,
     body: &mut Body,
@@ -177,12 +168,12 @@ fn further_instruction(
     ensures { Leaves (run (words.further_instruction form body.old name.old symbol) tokens.old) result body.new tokens.new }
 {
     match symbol {
-        Symbol::Phi => phi_line(alloc, tokens, form, body, name),
-        Symbol::Alloca => alloca_line(alloc, tokens, form, body, name),
-        Symbol::Store => effect_line(alloc, tokens, form, body, EffectOperation::Store),
-        Symbol::GetElementPtr => gep_line(alloc, tokens, form, body, name),
+        Symbol::Phi => phi_line(tokens, form, body, name),
+        Symbol::Alloca => alloca_line(tokens, form, body, name),
+        Symbol::Store => effect_line(tokens, form, body, EffectOperation::Store),
+        Symbol::GetElementPtr => gep_line(tokens, form, body, name),
         Symbol::Tail | Symbol::MustTail | Symbol::NoTail | Symbol::Call => {
-            call_line(alloc, tokens, form, body, name, symbol)
+            call_line(tokens, form, body, name, symbol)
         }
         _ => Err(tokens.refusal()),
     }
@@ -191,7 +182,6 @@ fn further_instruction(
 /// An instruction after a word that names no binary operation and no cast.
 #[tactic(auto, using(crate::proofs::Words::by_value, crate::proofs::Words::by_end, crate::proofs::Words::by_further))]
 fn instruction_by(
-    alloc: Global,
     tokens: &mut Tokens<'_>,
     form: Form,
     body: &mut Body,
@@ -203,11 +193,11 @@ fn instruction_by(
     ensures { Leaves (run (spec.instruction_by form body.old name.old symbol) tokens.old) result body.new tokens.new }
 {
     if let Some(operation) = value_operation(symbol) {
-        return value_line(alloc, tokens, form, body, name, operation);
+        return value_line(tokens, form, body, name, operation);
     }
     match end_operation(symbol) {
-        Some(operation) => end_line(alloc, tokens, form, body, operation),
-        None => further_instruction(alloc, tokens, form, body, name, symbol),
+        Some(operation) => end_line(tokens, form, body, operation),
+        None => further_instruction(tokens, form, body, name, symbol),
     }
 }
 
@@ -218,7 +208,6 @@ fn instruction_by(
 /// At the first token that can't stand, those of the instruction's reader.
 #[tactic(auto, unfolding(ms_text_grammar::specs::Lines::instruction))]
 pub fn instruction(
-    alloc: Global,
     tokens: &mut Tokens<'_>,
     form: Form,
     body: &mut Body,
@@ -230,10 +219,10 @@ pub fn instruction(
     ensures { Leaves (run (spec.instruction form body.old name.old symbol) tokens.old) result body.new tokens.new }
 {
     if let Some(op) = binary_op(symbol) {
-        return value_line(alloc, tokens, form, body, name, ValueOperation::Binary(op));
+        return value_line(tokens, form, body, name, ValueOperation::Binary(op));
     }
     match cast_op(symbol) {
-        Some(op) => value_line(alloc, tokens, form, body, name, ValueOperation::Cast(op)),
-        None => instruction_by(alloc, tokens, form, body, name, symbol),
+        Some(op) => value_line(tokens, form, body, name, ValueOperation::Cast(op)),
+        None => instruction_by(tokens, form, body, name, symbol),
     }
 }

@@ -3,11 +3,11 @@
 ghost use Rattle.std.specs.Prelude.{◌≡◌, ◌⊎◌, Ok, true};
 ghost use Rattle.ms_text_grammar.specs.Bodies as spec;
 ghost use Rattle.ms_text_grammar.specs.Lexemes.{name_in};
-ghost use Rattle.ms_read_cursor.specs.Reading.{Judges};
+ghost use Rattle.ms_read_cursor.specs.Reading.{Judges, front};
 
 use crate::open_blocks::{is_open, may_phi, next_value};
 use ms_ir::Form;
-use ms_read_cursor::{Lexeme, name_fits, reserved_local};
+use ms_read_cursor::{Lexeme, Tokens, name_fits, reserved_local};
 use ms_read_values::{binary_op, cast_op};
 use ms_text_grammar::{Body, Cause, Limit, Symbol};
 use std::alloc::Global;
@@ -162,7 +162,7 @@ fn line_begins_by(alloc: Global, form: Form, body: &Body, token: &Lexeme<'_>) ->
     }
 }
 
-/// Whether a line begins with this token, which comes next.
+/// Whether the next token begins a line.
 ///
 /// # Errors
 ///
@@ -170,16 +170,11 @@ fn line_begins_by(alloc: Global, form: Form, body: &Body, token: &Lexeme<'_>) ->
 /// written number that isn't the next one `Numbering`. At the first token of the instruction that is one too many
 /// `Limit(Instructions)`. At any token `Numbering` where 2^32 numbers are used up.
 #[tactic(auto, unfolding(ms_text_grammar::specs::Bodies::line_begins))]
-pub fn line_begins(
-    alloc: Global,
-    form: Form,
-    body: &Body,
-    token: &Lexeme<'_>,
-) -> Result<bool, Cause>
-    ensures { Judges (spec.line_begins form body.now token.now) result }
+pub fn line_begins(tokens: &Tokens<'_>, form: Form, body: &Body) -> Result<bool, Cause>
+    ensures { Judges (spec.line_begins form body.now (front tokens.now)) result }
 {
     if body.next < u32::MAX - 1 {
-        line_begins_by(alloc, form, body, token)
+        line_begins_by(tokens.alloc(), form, body, &tokens.lexeme())
     } else {
         Err(Cause::Numbering)
     }

@@ -3,7 +3,8 @@
 ghost use Rattle.std.specs.Prelude.{◌≡◌, ◌<◌, ◌+◌, ◌^◌, IfOk, None, Some};
 ghost use Rattle.ms_text_grammar.specs.Bodies as bodies;
 ghost use Rattle.ms_text_grammar.specs.Lines as spec;
-ghost use Rattle.ms_read_cursor.specs.Reading.{Gives, Judges, Leaves, run};
+ghost use Rattle.ms_lex.specs.Grammar.{tail};
+ghost use Rattle.ms_read_cursor.specs.Reading.{Gives, Judges, Leaves, front, run};
 ghost use Rattle.ms_read_body.specs.Beginnings as beginnings;
 ghost use Rattle.ms_read_body.specs.{Closing.{closed as closed_piece}, Room.{HasRoom}};
 
@@ -61,18 +62,13 @@ fn label_line(alloc: Global, body: &mut Body, label: &Lexeme<'_>) -> Result<(), 
 
 /// Reads a debug record after its group, which stands in a block.
 #[tactic(auto, unfolding(ms_text_grammar::specs::Lines::record_line))]
-fn record_line(
-    alloc: Global,
-    tokens: &mut Tokens<'_>,
-    form: Form,
-    body: &mut Body,
-) -> Result<(), Cause>
+fn record_line(tokens: &mut Tokens<'_>, form: Form, body: &mut Body) -> Result<(), Cause>
     requires { body.old.next + 1 < 2 ^ 32 }
     ensures { Leaves (run (spec.record_line form (bodies.opened body.old)) tokens.old) result body.new tokens.new }
 {
-    open(alloc, body);
+    open(tokens.alloc(), body);
     tokens.word(Symbol::OpenParen)?;
-    balanced(alloc, tokens, form, Symbol::CloseParen)?;
+    balanced(tokens, form, Symbol::CloseParen)?;
     Ok(())
 }
 
@@ -88,7 +84,6 @@ fn result_name(alloc: Global, number: u32, token: &Lexeme<'_>) -> Result<Name, N
 
 /// Reads an instruction after its first word, whose result has the name that a token is.
 fn named_instruction(
-    alloc: Global,
     tokens: &mut Tokens<'_>,
     form: Form,
     body: &mut Body,
@@ -99,14 +94,13 @@ fn named_instruction(
     requires count { body.old.count + 1 < 2 ^ 32 }
     ensures { Leaves (run (spec.instruction form body.old (Some (beginnings.result_name body.old.next name.now.symbol name.now)) symbol) tokens.old) result body.new tokens.new }
 {
-    let name = result_name(alloc, body.next, name)?;
-    instruction(alloc, tokens, form, body, &mut Some(name), symbol)
+    let name = result_name(tokens.alloc(), body.next, name)?;
+    instruction(tokens, form, body, &mut Some(name), symbol)
 }
 
 /// Reads an instruction after its result's name, which is a token, in a block.
 #[tactic(auto, unfolding(ms_text_grammar::specs::Lines::named_line))]
 fn named_line(
-    alloc: Global,
     tokens: &mut Tokens<'_>,
     form: Form,
     body: &mut Body,
@@ -116,16 +110,15 @@ fn named_line(
     requires count { body.old.count + 1 < 2 ^ 32 }
     ensures { Leaves (run (spec.named_line form (bodies.opened body.old) (beginnings.result_name (bodies.opened body.old).next name.now.symbol name.now)) tokens.old) result body.new tokens.new }
 {
-    open(alloc, body);
+    open(tokens.alloc(), body);
     tokens.word(Symbol::Equals)?;
     let symbol = value_word_of(body.phis, &tokens.lexeme())?;
     tokens.advance();
-    named_instruction(alloc, tokens, form, body, name, symbol)
+    named_instruction(tokens, form, body, name, symbol)
 }
 
 /// Reads an instruction after its first word, in a block, where no name stands in front of it.
 fn unnamed_line(
-    alloc: Global,
     tokens: &mut Tokens<'_>,
     form: Form,
     body: &mut Body,
@@ -135,28 +128,24 @@ fn unnamed_line(
     requires count { body.old.count + 1 < 2 ^ 32 }
     ensures { Leaves (run (spec.instruction form (bodies.opened body.old) None symbol) tokens.old) result body.new tokens.new }
 {
-    open(alloc, body);
-    instruction(alloc, tokens, form, body, &mut None, symbol)
+    open(tokens.alloc(), body);
+    instruction(tokens, form, body, &mut None, symbol)
 }
 
-/// Reads a line after its first token, and adds it to the body.
+/// Reads a line, which the next token begins, and adds it to the body.
 #[tactic(auto, unfolding(ms_text_grammar::specs::Lines::line))]
-pub fn line(
-    alloc: Global,
-    tokens: &mut Tokens<'_>,
-    form: Form,
-    body: &mut Body,
-    first: &Lexeme<'_>,
-) -> Result<(), Cause>
+pub fn line(tokens: &mut Tokens<'_>, form: Form, body: &mut Body) -> Result<(), Cause>
     requires next { body.old.next + 2 < 2 ^ 32 }
-    requires count { HasRoom first.now.symbol body.old.count }
-    ensures { Leaves (run (spec.line form body.old first.now) tokens.old) result body.new tokens.new }
+    requires count { HasRoom (front tokens.old).symbol body.old.count }
+    ensures { Leaves (run (spec.line form body.old (front tokens.old)) (tail tokens.old)) result body.new tokens.new }
 {
+    let first = tokens.lexeme();
+    tokens.advance();
     match first.symbol() {
-        Symbol::Label | Symbol::NumberedLabel => Ok(label_line(alloc, body, first)?),
-        Symbol::DebugGroup => record_line(alloc, tokens, form, body),
-        Symbol::Local | Symbol::NumberedLocal => named_line(alloc, tokens, form, body, first),
-        _ => unnamed_line(alloc, tokens, form, body, first.symbol()),
+        Symbol::Label | Symbol::NumberedLabel => Ok(label_line(tokens.alloc(), body, &first)?),
+        Symbol::DebugGroup => record_line(tokens, form, body),
+        Symbol::Local | Symbol::NumberedLocal => named_line(tokens, form, body, &first),
+        _ => unnamed_line(tokens, form, body, first.symbol()),
     }
 }
 
@@ -175,33 +164,27 @@ impl Turn for EachLine {
 
     ghost body = { λ rule. line rule.form };
 
-    fn goes_on(&self, alloc: Global, state: &Body, first: &Lexeme<'_>) -> Result<bool, Cause> {
-        line_begins(alloc, self.form, state, first)
+    fn goes_on(&self, state: &Body, tokens: &Tokens<'_>) -> Result<bool, Cause> {
+        line_begins(tokens, self.form, state)
     }
 
     #[tactic(auto, using(crate::proofs::Begun::next_left, crate::proofs::Begun::room_left))]
-    fn turn(
-        &self,
-        alloc: Global,
-        state: Body,
-        first: &Lexeme<'_>,
-        tokens: &mut Tokens<'_>,
-    ) -> Result<Body, Cause> {
+    fn turn(&self, state: Body, tokens: &mut Tokens<'_>) -> Result<Body, Cause> {
         let mut body = state;
-        line(alloc, tokens, self.form, &mut body, first)?;
+        line(tokens, self.form, &mut body)?;
         Ok(body)
     }
 }
 
 /// Takes the brace after the blocks of a body, where one stands and none is open, and gives the blocks.
-fn closed(alloc: Global, tokens: &mut Tokens<'_>, body: &mut Body) -> Result<List<Block>, Cause>
+fn closed(tokens: &mut Tokens<'_>, body: &mut Body) -> Result<List<Block>, Cause>
     ensures { Gives (run (closed_piece body.old) tokens.old) result tokens.new }
 {
     if is_open(&body.name) || body.blocks.as_slice().is_empty() {
         return Err(tokens.refusal());
     }
     tokens.word(Symbol::CloseBrace)?;
-    Ok(mem::replace(&mut body.blocks, List::from_vec(Vec::new(alloc))))
+    Ok(mem::replace(&mut body.blocks, List::from_vec(Vec::new(tokens.alloc()))))
 }
 
 /// Reads the blocks of a function after `{`, up to and with `}`, from a body that none has begun in.
@@ -211,14 +194,9 @@ fn closed(alloc: Global, tokens: &mut Tokens<'_>, body: &mut Body) -> Result<Lis
 /// At the first token that can't stand: those of `line_begins` at the first token of a line, those of the lines, and
 /// `Syntax` or `Outside` where a block is open that no terminator has ended, or where no block stands.
 #[tactic(auto, unfolding(ms_text_grammar::specs::Lines::blocks))]
-pub fn blocks(
-    alloc: Global,
-    tokens: &mut Tokens<'_>,
-    form: Form,
-    start: Body,
-) -> Result<List<Block>, Cause>
+pub fn blocks(tokens: &mut Tokens<'_>, form: Form, start: Body) -> Result<List<Block>, Cause>
     ensures { Gives (run (spec.blocks form start) tokens.old) result tokens.new }
 {
-    let mut body = repeat(alloc, tokens, &EachLine { form }, start)?;
-    closed(alloc, tokens, &mut body)
+    let mut body = repeat(tokens, &EachLine { form }, start)?;
+    closed(tokens, &mut body)
 }

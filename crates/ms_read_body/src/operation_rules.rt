@@ -55,14 +55,14 @@ impl Rule for ValueIn {
 
     ghost piece = { λ rule. value_rule rule.form rule.operation };
 
-    fn read(&self, alloc: Global, tokens: &mut Tokens<'_>) -> Result<Boxed<Op>, Cause> {
+    fn read(&self, tokens: &mut Tokens<'_>) -> Result<Boxed<Op>, Cause> {
         match self.operation {
-            ValueOperation::Binary(op) => binary_rule(alloc, tokens, self.form, op),
-            ValueOperation::Cast(op) => cast_rule(alloc, tokens, self.form, op),
-            ValueOperation::Compare => compare_rule(alloc, tokens, self.form),
-            ValueOperation::Select => select_rule(alloc, tokens, self.form),
-            ValueOperation::Freeze => freeze_rule(alloc, tokens, self.form),
-            ValueOperation::Load => load_rule(alloc, tokens, self.form),
+            ValueOperation::Binary(op) => binary_rule(tokens, self.form, op),
+            ValueOperation::Cast(op) => cast_rule(tokens, self.form, op),
+            ValueOperation::Compare => compare_rule(tokens, self.form),
+            ValueOperation::Select => select_rule(tokens, self.form),
+            ValueOperation::Freeze => freeze_rule(tokens, self.form),
+            ValueOperation::Load => load_rule(tokens, self.form),
         }
     }
 }
@@ -81,13 +81,13 @@ impl Rule for EffectIn {
 
     ghost piece = { λ rule. effect_rule rule.form rule.operation };
 
-    fn read(&self, alloc: Global, tokens: &mut Tokens<'_>) -> Result<Boxed<Op>, Cause> {
+    fn read(&self, tokens: &mut Tokens<'_>) -> Result<Boxed<Op>, Cause> {
         match self.operation {
-            EffectOperation::Store => store_rule(alloc, tokens, self.form),
-            EffectOperation::Branch => branch_rule(alloc, tokens, self.form),
-            EffectOperation::Switch => switch_rule(alloc, tokens, self.form),
-            EffectOperation::Ret => ret_rule(alloc, tokens, self.form),
-            EffectOperation::Unreachable => Ok(unreachable(alloc)?),
+            EffectOperation::Store => store_rule(tokens, self.form),
+            EffectOperation::Branch => branch_rule(tokens, self.form),
+            EffectOperation::Switch => switch_rule(tokens, self.form),
+            EffectOperation::Ret => ret_rule(tokens, self.form),
+            EffectOperation::Unreachable => Ok(unreachable(tokens.alloc())?),
         }
     }
 }

@@ -60,17 +60,12 @@ fn numbered_name(expected: u32, token: &Lexeme<'_>) -> Result<Name, Cause>
 ///
 /// `Numbering` at a number that isn't the next one, and those of `local_name`.
 #[tactic(auto, unfolding(ms_text_grammar::specs::Functions::parameter_name))]
-fn parameter_name(
-    alloc: Global,
-    tokens: &mut Tokens<'_>,
-    form: Form,
-    number: u32,
-) -> Result<Name, Cause>
+fn parameter_name(tokens: &mut Tokens<'_>, form: Form, number: u32) -> Result<Name, Cause>
     ensures { Gives (run (spec.parameter_name form number) tokens.old) result tokens.new }
 {
     match tokens.peek() {
         Symbol::Local => {
-            let name = local_name(alloc, form, &tokens.lexeme())?;
+            let name = local_name(tokens.alloc(), form, &tokens.lexeme())?;
             tokens.advance();
             Ok(name)
         }
@@ -110,7 +105,6 @@ fn add(
 
 /// Reads the name of a parameter, or nothing, and adds the parameter to the others.
 fn add_named(
-    alloc: Global,
     tokens: &mut Tokens<'_>,
     form: Form,
     parameters: &mut Parameters,
@@ -119,14 +113,13 @@ fn add_named(
     requires { parameters.old.next < 100 }
     ensures { Leaves (run (named_piece form parameters.old ty) tokens.old) result parameters.new tokens.new }
 {
-    let name = parameter_name(alloc, tokens, form, parameters.next)?;
-    Ok(add(alloc, parameters, ty, name)?)
+    let name = parameter_name(tokens, form, parameters.next)?;
+    Ok(add(tokens.alloc(), parameters, ty, name)?)
 }
 
 /// Reads a parameter that isn't dots, and adds it to the others: its type, attributes, and its name or nothing.
 #[tactic(auto, unfolding(ms_text_grammar::specs::Functions::typed_parameter))]
 fn typed_parameter(
-    alloc: Global,
     tokens: &mut Tokens<'_>,
     form: Form,
     parameters: &mut Parameters,
@@ -135,8 +128,8 @@ fn typed_parameter(
 {
     let ty = parameter_type_of(parameters, &tokens.lexeme())?;
     tokens.advance();
-    attributes(alloc, tokens, form)?;
-    add_named(alloc, tokens, form, parameters, ty)
+    attributes(tokens, form)?;
+    add_named(tokens, form, parameters, ty)
 }
 
 /// Whether a type is `ptr`.
@@ -166,7 +159,6 @@ fn is_one_pointer(found: &[(Ty, Name)]) -> bool
 /// `Limit(Parameters)` at the type of the 101st, `Numbering` at a number that isn't the next one, and those of its parts.
 #[tactic(auto, unfolding(ms_text_grammar::specs::Functions::parameter))]
 fn parameter(
-    alloc: Global,
     tokens: &mut Tokens<'_>,
     form: Form,
     dotted: bool,
@@ -180,7 +172,7 @@ fn parameter(
         parameters.dots = true;
         return Ok(());
     }
-    typed_parameter(alloc, tokens, form, parameters)
+    typed_parameter(tokens, form, parameters)
 }
 
 /// Parameter after parameter; nothing stands after the dots.
@@ -204,33 +196,23 @@ impl Series for EachParameter {
         !state.dots
     }
 
-    fn read(
-        &self,
-        alloc: Global,
-        state: Parameters,
-        tokens: &mut Tokens<'_>,
-    ) -> Result<Parameters, Cause> {
+    fn read(&self, state: Parameters, tokens: &mut Tokens<'_>) -> Result<Parameters, Cause> {
         let mut parameters = state;
-        parameter(alloc, tokens, self.form, self.dotted, &mut parameters)?;
+        parameter(tokens, self.form, self.dotted, &mut parameters)?;
         Ok(parameters)
     }
 }
 
 /// Reads the parameters after `(`, up to and with `)`. Its errors are those of `parameter`.
 #[tactic(auto, unfolding(ms_text_grammar::specs::Functions::parameters))]
-pub fn parameters(
-    alloc: Global,
-    tokens: &mut Tokens<'_>,
-    form: Form,
-    dotted: bool,
-) -> Result<Parameters, Cause>
+pub fn parameters(tokens: &mut Tokens<'_>, form: Form, dotted: bool) -> Result<Parameters, Cause>
     ensures { Gives (run (spec.parameters form dotted) tokens.old) result tokens.new }
 {
     let none = Parameters {
-        found: List::from_vec(Vec::new(alloc)),
+        found: List::from_vec(Vec::new(tokens.alloc())),
         next: 0,
         dots: false,
     };
     let each = EachParameter { form, dotted };
-    listed(alloc, tokens, Symbol::CloseParen, &each, none)
+    listed(tokens, Symbol::CloseParen, &each, none)
 }

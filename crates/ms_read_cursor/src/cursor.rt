@@ -11,11 +11,13 @@ use crate::lexemes::Lexeme;
 use crate::symbols::{same_symbol, symbol_of};
 use ms_lex::Token;
 use ms_text_grammar::{Cause, Symbol};
+use std::alloc::Global;
 use std::marker::Model;
 
-/// The tokens of a text that are left. Contracts see the list of them.
+/// The tokens of a text that are left, and the allocator of what is read from them. Contracts see the list of the tokens.
 #[derive(Drop)]
 pub struct Tokens<'a> {
+    alloc: Global,
     text: &'a [u8],
     rest: &'a [Token],
     /// The symbol of the next token, so that it is found once.
@@ -57,14 +59,19 @@ fn behind(tokens: &[Token], place: usize) -> &[Token]
 impl<'a> Tokens<'a> {
     /// The tokens of a text from this place on, which is the number of those before it.
     #[tactic(auto, using(crate::proofs::Places::lie_in, crate::proofs::Places::behind))]
-    pub fn at(text: &'a [u8], tokens: &'a [Token], place: usize) -> Tokens<'a>
+    pub fn at(alloc: Global, text: &'a [u8], tokens: &'a [Token], place: usize) -> Tokens<'a>
         requires in_order { InOrder tokens.now (length text.now) }
         requires inside { place ≤ length tokens.now }
         ensures { result ≡ drop place (lexemes_of text.now tokens.now) }
     {
         let rest = behind(tokens, place);
         let symbol = first_symbol(text, rest);
-        Tokens { text, rest, symbol }
+        Tokens {
+            alloc,
+            text,
+            rest,
+            symbol,
+        }
     }
 
     /// The same tokens once more.
@@ -72,10 +79,16 @@ impl<'a> Tokens<'a> {
         ensures { result ≡ self.now }
     {
         Tokens {
+            alloc: self.alloc,
             text: self.text,
             rest: self.rest,
             symbol: self.symbol,
         }
+    }
+
+    /// The allocator of what is read from the tokens.
+    pub fn alloc(&self) -> Global {
+        self.alloc
     }
 
     /// How many tokens are left. The place of the next one is that many before the end.

@@ -17,7 +17,7 @@ pub trait Rule {
 
     ghost piece: { Self → Piece Self.Value };
 
-    fn read(&self, alloc: Global, tokens: &mut Tokens<'_>) -> Result<Self::Value, Cause>
+    fn read(&self, tokens: &mut Tokens<'_>) -> Result<Self::Value, Cause>
         ensures { Gives (run (piece self.now) tokens.old) result tokens.new };
 }
 

@@ -126,20 +126,20 @@ pub fn global_by(alloc: Global, form: Form, token: &Lexeme<'_>) -> Result<Name, 
 
 /// Takes a local that is used.
 #[tactic(auto, unfolding(ms_text_grammar::specs::Names::local))]
-pub fn local(alloc: Global, tokens: &mut Tokens<'_>, form: Form) -> Result<Name, Cause>
+pub fn local(tokens: &mut Tokens<'_>, form: Form) -> Result<Name, Cause>
     ensures { Gives (run (spec.local form) tokens.old) result tokens.new }
 {
-    let name = local_by(alloc, form, &tokens.lexeme())?;
+    let name = local_by(tokens.alloc(), form, &tokens.lexeme())?;
     tokens.advance();
     Ok(name)
 }
 
 /// Takes a global that is used, or the name of a function.
 #[tactic(auto, unfolding(ms_text_grammar::specs::Names::global))]
-pub fn global(alloc: Global, tokens: &mut Tokens<'_>, form: Form) -> Result<Name, Cause>
+pub fn global(tokens: &mut Tokens<'_>, form: Form) -> Result<Name, Cause>
     ensures { Gives (run (spec.global form) tokens.old) result tokens.new }
 {
-    let name = global_by(alloc, form, &tokens.lexeme())?;
+    let name = global_by(tokens.alloc(), form, &tokens.lexeme())?;
     tokens.advance();
     Ok(name)
 }

@@ -8,7 +8,6 @@ ghost use Rattle.ms_read_cursor.specs.Reading.{Gives, front, run};
 
 use crate::cursor::Tokens;
 use ms_text_grammar::{Cause, Symbol};
-use std::alloc::Global;
 
 /// What reads one item, from the state that the items before it left.
 pub trait Series {
@@ -27,29 +26,19 @@ pub trait Series {
     fn has_more(&self, state: &Self::State) -> bool
         ensures { result ≡ more self.now state.now };
 
-    fn read(
-        &self,
-        alloc: Global,
-        state: Self::State,
-        tokens: &mut Tokens<'_>,
-    ) -> Result<Self::State, Cause>
+    fn read(&self, state: Self::State, tokens: &mut Tokens<'_>) -> Result<Self::State, Cause>
         ensures { Gives (run (item self.now state) tokens.old) result tokens.new };
 }
 
 /// Reads further items after commas, as long as one may come.
 #[tactic(auto, using(crate::proofs::Further::more_goes, crate::proofs::Further::more_stops, crate::proofs::Further::more_ends, crate::proofs::Further::no_more, crate::proofs::Further::turn_shorter))]
-fn further<S: Series>(
-    alloc: Global,
-    tokens: &mut Tokens<'_>,
-    rule: &S,
-    start: S::State,
-) -> Result<S::State, Cause>
+fn further<S: Series>(tokens: &mut Tokens<'_>, rule: &S, start: S::State) -> Result<S::State, Cause>
     ensures { Gives (run (lists.further (S.more rule.now) (S.item rule.now) start) tokens.old) result tokens.new }
 {
     let mut state = start;
     'commas: while rule.has_more(&state) && tokens.sees(Symbol::Comma) {
         tokens.advance();
-        state = rule.read(alloc, state, tokens)?;
+        state = rule.read(state, tokens)?;
     }
     Ok(state)
 }
@@ -57,7 +46,6 @@ fn further<S: Series>(
 /// Items with commas between, and the closing symbol, which doesn't come first.
 #[tactic(auto, using(crate::proofs::Further::listed_whole, crate::proofs::Further::listed_cut, crate::proofs::Further::listed_open, crate::proofs::Further::listed_stops))]
 fn filled<S: Series>(
-    alloc: Global,
     tokens: &mut Tokens<'_>,
     closing: Symbol,
     rule: &S,
@@ -66,8 +54,8 @@ fn filled<S: Series>(
     requires { is closing (front tokens.old) ≡ false }
     ensures { Gives (run (spec.listed closing (S.more rule.now) (S.item rule.now) start) tokens.old) result tokens.new }
 {
-    let first = rule.read(alloc, start, tokens)?;
-    let all = further(alloc, tokens, rule, first)?;
+    let first = rule.read(start, tokens)?;
+    let all = further(tokens, rule, first)?;
     tokens.word(closing)?;
     Ok(all)
 }
@@ -75,7 +63,6 @@ fn filled<S: Series>(
 /// No item, or items with commas between, and the closing symbol.
 #[tactic(auto, using(crate::proofs::Further::listed_empty))]
 pub fn listed<S: Series>(
-    alloc: Global,
     tokens: &mut Tokens<'_>,
     closing: Symbol,
     rule: &S,
@@ -87,6 +74,6 @@ pub fn listed<S: Series>(
         tokens.advance();
         Ok(start)
     } else {
-        filled(alloc, tokens, closing, rule, start)
+        filled(tokens, closing, rule, start)
     }
 }

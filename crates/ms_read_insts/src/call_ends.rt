@@ -5,37 +5,31 @@ ghost use Rattle.ms_text_grammar.specs.Insts as spec;
 ghost use Rattle.ms_read_cursor.specs.Reading.{Gives, run};
 
 use ms_ir::Form;
-use ms_read_cursor::{Lexeme, Tokens, Turn, repeat};
+use ms_read_cursor::{Tokens, Turn, repeat};
 use ms_read_values::{attribute_rest, balanced, is_attribute, suffixes_from};
 use ms_text_grammar::{Cause, Outside, Symbol};
-use std::alloc::Global;
 
 /// Reads on after a debug group. It is a record where `(` is after it, and else an attribute.
 #[tactic(auto, unfolding(ms_text_grammar::specs::Insts::debug_rest))]
-fn debug_rest(alloc: Global, tokens: &mut Tokens<'_>, form: Form) -> Result<bool, Cause>
+fn debug_rest(tokens: &mut Tokens<'_>, form: Form) -> Result<bool, Cause>
     ensures { Gives (run (spec.debug_rest form) tokens.old) result tokens.new }
 {
     if !tokens.sees(Symbol::OpenParen) {
         return Ok(false);
     }
     tokens.advance();
-    balanced(alloc, tokens, form, Symbol::CloseParen)?;
+    balanced(tokens, form, Symbol::CloseParen)?;
     Ok(true)
 }
 
 /// Reads on after the first token of an attribute or a record, and finds whether it is a record.
-fn call_attribute(
-    alloc: Global,
-    tokens: &mut Tokens<'_>,
-    form: Form,
-    symbol: Symbol,
-) -> Result<bool, Cause>
+fn call_attribute(tokens: &mut Tokens<'_>, form: Form, symbol: Symbol) -> Result<bool, Cause>
     ensures { Gives (run (spec.call_attribute form symbol) tokens.old) result tokens.new }
 {
     match symbol {
-        Symbol::DebugGroup => debug_rest(alloc, tokens, form),
+        Symbol::DebugGroup => debug_rest(tokens, form),
         _ => {
-            attribute_rest(alloc, tokens, form, symbol)?;
+            attribute_rest(tokens, form, symbol)?;
             Ok(false)
         }
     }
@@ -56,18 +50,14 @@ impl Turn for CallAttributes {
 
     ghost body = { λ rule ended t. call_attribute rule.form t.symbol };
 
-    fn goes_on(&self, _alloc: Global, state: &bool, first: &Lexeme<'_>) -> Result<bool, Cause> {
-        Ok(!*state && is_attribute(first.symbol()))
+    fn goes_on(&self, state: &bool, tokens: &Tokens<'_>) -> Result<bool, Cause> {
+        Ok(!*state && is_attribute(tokens.peek()))
     }
 
-    fn turn(
-        &self,
-        alloc: Global,
-        _state: bool,
-        first: &Lexeme<'_>,
-        tokens: &mut Tokens<'_>,
-    ) -> Result<bool, Cause> {
-        call_attribute(alloc, tokens, self.form, first.symbol())
+    fn turn(&self, _state: bool, tokens: &mut Tokens<'_>) -> Result<bool, Cause> {
+        let symbol = tokens.peek();
+        tokens.advance();
+        call_attribute(tokens, self.form, symbol)
     }
 }
 
@@ -78,14 +68,14 @@ impl Turn for CallAttributes {
 ///
 /// `Outside(OperandBundle)` at `[`, and those of its parts.
 #[tactic(auto, unfolding(ms_text_grammar::specs::Insts::call_end))]
-pub fn call_end(alloc: Global, tokens: &mut Tokens<'_>, form: Form) -> Result<bool, Cause>
+pub fn call_end(tokens: &mut Tokens<'_>, form: Form) -> Result<bool, Cause>
     ensures { Gives (run (spec.call_end form) tokens.old) result tokens.new }
 {
-    if repeat(alloc, tokens, &CallAttributes { form }, false)? {
+    if repeat(tokens, &CallAttributes { form }, false)? {
         return Ok(false);
     }
     if tokens.sees(Symbol::OpenBracket) {
         return Err(Cause::Outside(Outside::OperandBundle));
     }
-    suffixes_from(alloc, tokens, form, false)
+    suffixes_from(tokens, form, false)
 }

@@ -111,10 +111,10 @@ fn callee_by(alloc: Global, form: Form, dotted: bool, token: &Lexeme<'_>) -> Res
 
 /// Takes the callee.
 #[tactic(auto, unfolding(ms_text_grammar::specs::Insts::callee))]
-fn callee(alloc: Global, tokens: &mut Tokens<'_>, form: Form, dotted: bool) -> Result<Name, Cause>
+fn callee(tokens: &mut Tokens<'_>, form: Form, dotted: bool) -> Result<Name, Cause>
     ensures { Gives (run (spec.callee form dotted) tokens.old) result tokens.new }
 {
-    let name = callee_by(alloc, form, dotted, &tokens.lexeme())?;
+    let name = callee_by(tokens.alloc(), form, dotted, &tokens.lexeme())?;
     tokens.advance();
     Ok(name)
 }
@@ -157,7 +157,6 @@ fn argument_type(
 
 /// Reads attributes and a value after the type of an argument.
 fn argument_rest(
-    alloc: Global,
     tokens: &mut Tokens<'_>,
     form: Form,
     ty: ValueType,
@@ -165,15 +164,14 @@ fn argument_rest(
 ) -> Result<List<(Ty, Operand)>, Cause>
     ensures { Gives (run (rest.argument_rest form ty found) tokens.old) result tokens.new }
 {
-    attributes(alloc, tokens, form)?;
-    let operand = value(alloc, tokens, form, ty)?;
+    attributes(tokens, form)?;
+    let operand = value(tokens, form, ty)?;
     Ok(with_last(found, (ty.ty(), operand.into_inner()))?)
 }
 
 /// Reads an argument after those that were found.
 #[tactic(auto, unfolding(ms_text_grammar::specs::Insts::argument))]
 fn argument(
-    alloc: Global,
     tokens: &mut Tokens<'_>,
     form: Form,
     counted: bool,
@@ -182,7 +180,7 @@ fn argument(
     ensures { Gives (run (spec.argument form counted found) tokens.old) result tokens.new }
 {
     let ty = argument_type(tokens, counted, &found)?;
-    argument_rest(alloc, tokens, form, ty, found)
+    argument_rest(tokens, form, ty, found)
 }
 
 #[derive(Clone, Copy)]
@@ -207,27 +205,25 @@ impl Series for ArgumentSeries {
 
     fn read(
         &self,
-        alloc: Global,
         state: List<(Ty, Operand)>,
         tokens: &mut Tokens<'_>,
     ) -> Result<List<(Ty, Operand)>, Cause> {
-        argument(alloc, tokens, self.form, self.counted, state)
+        argument(tokens, self.form, self.counted, state)
     }
 }
 
 /// Takes arguments with commas between, up to and with `)`.
 #[tactic(auto, unfolding(ms_text_grammar::specs::Insts::arguments))]
 fn arguments(
-    alloc: Global,
     tokens: &mut Tokens<'_>,
     form: Form,
     counted: bool,
 ) -> Result<List<(Ty, Operand)>, Cause>
     ensures { Gives (run (spec.arguments form counted) tokens.old) result tokens.new }
 {
-    let none = List::from_vec(Vec::new(alloc));
+    let none = List::from_vec(Vec::new(tokens.alloc()));
     let rule = ArgumentSeries { form, counted };
-    listed(alloc, tokens, Symbol::CloseParen, &rule, none)
+    listed(tokens, Symbol::CloseParen, &rule, none)
 }
 
 /// Takes `call` after `tail`, `musttail` or `notail`.
@@ -261,7 +257,6 @@ fn call_of(
 
 /// Reads what stands after the arguments of a call.
 fn call_marked(
-    alloc: Global,
     tokens: &mut Tokens<'_>,
     form: Form,
     ret: &Option<ValueType>,
@@ -270,13 +265,12 @@ fn call_marked(
 ) -> Result<(Boxed<Op>, bool), Cause>
     ensures { Gives (run (rest.call_marked form ret.now callee args) tokens.old) result tokens.new }
 {
-    let marked = call_end(alloc, tokens, form)?;
-    Ok((call_of(alloc, *ret, callee, args)?, marked))
+    let marked = call_end(tokens, form)?;
+    Ok((call_of(tokens.alloc(), *ret, callee, args)?, marked))
 }
 
 /// Reads the arguments of a call after `(`, and what stands after them.
 fn call_rest(
-    alloc: Global,
     tokens: &mut Tokens<'_>,
     form: Form,
     ret: &Option<ValueType>,
@@ -284,13 +278,12 @@ fn call_rest(
 ) -> Result<(Boxed<Op>, bool), Cause>
     ensures { Gives (run (rest.call_rest form ret.now callee) tokens.old) result tokens.new }
 {
-    let args = arguments(alloc, tokens, form, names_printf(&callee))?;
-    call_marked(alloc, tokens, form, ret, callee, args)
+    let args = arguments(tokens, form, names_printf(&callee))?;
+    call_marked(tokens, form, ret, callee, args)
 }
 
 /// Reads the callee, in front of which its type may stand, and the rest of a call.
 fn call_callee(
-    alloc: Global,
     tokens: &mut Tokens<'_>,
     form: Form,
     ret: &Option<ValueType>,
@@ -298,9 +291,9 @@ fn call_callee(
     ensures { Gives (run (rest.call_callee form ret.now) tokens.old) result tokens.new }
 {
     let dotted = callee_type(tokens, *ret)?;
-    let callee = callee(alloc, tokens, form, dotted)?;
+    let callee = callee(tokens, form, dotted)?;
     tokens.word(Symbol::OpenParen)?;
-    call_rest(alloc, tokens, form, ret, callee)
+    call_rest(tokens, form, ret, callee)
 }
 
 /// Reads a call after its first word, which is `call`, `tail`, `musttail` or `notail`, with what is attached. `named` says
@@ -313,7 +306,6 @@ fn call_callee(
 /// type of the 101st argument of `printf`; `Outside(OperandBundle)` at `[` after the arguments; and those of its parts.
 #[tactic(auto, unfolding(ms_text_grammar::specs::Insts::call_rule))]
 pub fn call_rule(
-    alloc: Global,
     tokens: &mut Tokens<'_>,
     form: Form,
     named: bool,
@@ -322,7 +314,7 @@ pub fn call_rule(
     ensures { Gives (run (spec.call_rule form named first) tokens.old) result tokens.new }
 {
     call_word(tokens, first)?;
-    attributes(alloc, tokens, form)?;
+    attributes(tokens, form)?;
     let ret = call_type(tokens, named)?;
-    call_callee(alloc, tokens, form, &ret)
+    call_callee(tokens, form, &ret)
 }

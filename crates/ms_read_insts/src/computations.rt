@@ -61,7 +61,6 @@ impl OnTwo {
 
 /// Reads `, b` after the first operand.
 fn second_operand(
-    alloc: Global,
     tokens: &mut Tokens<'_>,
     form: Form,
     operation: OnTwo,
@@ -71,13 +70,12 @@ fn second_operand(
     ensures { Gives (run (rest.second_operand form operation ty a) tokens.old) result tokens.new }
 {
     tokens.word(Symbol::Comma)?;
-    let b = value(alloc, tokens, form, ty)?;
-    Ok(operation.of(alloc, ty, a, b)?)
+    let b = value(tokens, form, ty)?;
+    Ok(operation.of(tokens.alloc(), ty, a, b)?)
 }
 
 /// Reads `a, b` after their type.
 fn two_operands(
-    alloc: Global,
     tokens: &mut Tokens<'_>,
     form: Form,
     operation: OnTwo,
@@ -85,8 +83,8 @@ fn two_operands(
 ) -> Result<Boxed<Op>, Cause>
     ensures { Gives (run (rest.two_operands form operation ty) tokens.old) result tokens.new }
 {
-    let a = value(alloc, tokens, form, ty)?;
-    second_operand(alloc, tokens, form, operation, ty, a)
+    let a = value(tokens, form, ty)?;
+    second_operand(tokens, form, operation, ty, a)
 }
 
 /// Reads a binary operation after its word: `flags iN a, b`.
@@ -95,17 +93,12 @@ fn two_operands(
 ///
 /// Those of its parts: `Syntax` or `Outside` at a token that can't stand, as another type than `iN`.
 #[tactic(auto, unfolding(ms_text_grammar::specs::Insts::binary_rule))]
-pub fn binary_rule(
-    alloc: Global,
-    tokens: &mut Tokens<'_>,
-    form: Form,
-    op: BinOp,
-) -> Result<Boxed<Op>, Cause>
+pub fn binary_rule(tokens: &mut Tokens<'_>, form: Form, op: BinOp) -> Result<Boxed<Op>, Cause>
     ensures { Gives (run (spec.binary_rule form op) tokens.old) result tokens.new }
 {
-    let flags = flags_of(alloc, tokens, Carrier::Binary(op))?;
+    let flags = flags_of(tokens, Carrier::Binary(op))?;
     let ty = ValueType::int(int_type(tokens)?);
-    two_operands(alloc, tokens, form, OnTwo::Binary(op, flags), ty)
+    two_operands(tokens, form, OnTwo::Binary(op, flags), ty)
 }
 
 /// The predicate that a word names.
@@ -148,13 +141,13 @@ fn predicate_word(tokens: &mut Tokens<'_>) -> Result<Pred, Cause>
 ///
 /// Those of its parts.
 #[tactic(auto, unfolding(ms_text_grammar::specs::Insts::compare_rule))]
-pub fn compare_rule(alloc: Global, tokens: &mut Tokens<'_>, form: Form) -> Result<Boxed<Op>, Cause>
+pub fn compare_rule(tokens: &mut Tokens<'_>, form: Form) -> Result<Boxed<Op>, Cause>
     ensures { Gives (run (spec.compare_rule form) tokens.old) result tokens.new }
 {
-    let flags = flags_of(alloc, tokens, Carrier::Compare)?;
+    let flags = flags_of(tokens, Carrier::Compare)?;
     let pred = predicate_word(tokens)?;
     let ty = value_type(tokens)?;
-    two_operands(alloc, tokens, form, OnTwo::Compare(pred, flags), ty)
+    two_operands(tokens, form, OnTwo::Compare(pred, flags), ty)
 }
 
 /// A cast. The one error is running out of memory.
@@ -182,7 +175,6 @@ fn cast_of(
 
 /// Reads `to type` after the operand of a cast.
 fn cast_end(
-    alloc: Global,
     tokens: &mut Tokens<'_>,
     op: CastOp,
     flags: Flags,
@@ -193,12 +185,11 @@ fn cast_end(
 {
     tokens.word(Symbol::To)?;
     let to = value_type(tokens)?;
-    Ok(cast_of(alloc, op, flags, from, a, to)?)
+    Ok(cast_of(tokens.alloc(), op, flags, from, a, to)?)
 }
 
 /// Reads `a to type` after the type of `a`.
 fn cast_rest(
-    alloc: Global,
     tokens: &mut Tokens<'_>,
     form: Form,
     op: CastOp,
@@ -207,8 +198,8 @@ fn cast_rest(
 ) -> Result<Boxed<Op>, Cause>
     ensures { Gives (run (rest.cast_rest form op flags from) tokens.old) result tokens.new }
 {
-    let a = value(alloc, tokens, form, from)?;
-    cast_end(alloc, tokens, op, flags, from, a)
+    let a = value(tokens, form, from)?;
+    cast_end(tokens, op, flags, from, a)
 }
 
 /// Reads a cast after its word: `flags type a to type`.
@@ -217,17 +208,12 @@ fn cast_rest(
 ///
 /// Those of its parts.
 #[tactic(auto, unfolding(ms_text_grammar::specs::Insts::cast_rule))]
-pub fn cast_rule(
-    alloc: Global,
-    tokens: &mut Tokens<'_>,
-    form: Form,
-    op: CastOp,
-) -> Result<Boxed<Op>, Cause>
+pub fn cast_rule(tokens: &mut Tokens<'_>, form: Form, op: CastOp) -> Result<Boxed<Op>, Cause>
     ensures { Gives (run (spec.cast_rule form op) tokens.old) result tokens.new }
 {
-    let flags = flags_of(alloc, tokens, Carrier::Cast(op))?;
+    let flags = flags_of(tokens, Carrier::Cast(op))?;
     let from = value_type(tokens)?;
-    cast_rest(alloc, tokens, form, op, flags, from)
+    cast_rest(tokens, form, op, flags, from)
 }
 
 /// Whether a token is an integer type of this width.
@@ -304,7 +290,6 @@ fn select_of(
 
 /// Reads the second value after its type.
 fn select_last(
-    alloc: Global,
     tokens: &mut Tokens<'_>,
     form: Form,
     cond: Boxed<Operand>,
@@ -313,13 +298,12 @@ fn select_last(
 ) -> Result<Boxed<Op>, Cause>
     ensures { Gives (run (rest.select_last form cond ty a) tokens.old) result tokens.new }
 {
-    let b = value(alloc, tokens, form, ty)?;
-    Ok(select_of(alloc, cond, ty, a, b)?)
+    let b = value(tokens, form, ty)?;
+    Ok(select_of(tokens.alloc(), cond, ty, a, b)?)
 }
 
 /// Reads `, type b` after the first value.
 fn select_end(
-    alloc: Global,
     tokens: &mut Tokens<'_>,
     form: Form,
     cond: Boxed<Operand>,
@@ -330,12 +314,11 @@ fn select_end(
 {
     tokens.word(Symbol::Comma)?;
     same_type(tokens, ty)?;
-    select_last(alloc, tokens, form, cond, ty, a)
+    select_last(tokens, form, cond, ty, a)
 }
 
 /// Reads `type a, type b` after the condition.
 fn select_rest(
-    alloc: Global,
     tokens: &mut Tokens<'_>,
     form: Form,
     cond: Boxed<Operand>,
@@ -343,8 +326,8 @@ fn select_rest(
     ensures { Gives (run (rest.select_rest form cond) tokens.old) result tokens.new }
 {
     let ty = value_type(tokens)?;
-    let a = value(alloc, tokens, form, ty)?;
-    select_end(alloc, tokens, form, cond, ty, a)
+    let a = value(tokens, form, ty)?;
+    select_end(tokens, form, cond, ty, a)
 }
 
 /// Reads a `select` after its word: `i1 condition, type a, type b`, with one type twice.
@@ -353,13 +336,13 @@ fn select_rest(
 ///
 /// Those of its parts. A second type that isn't the first is refused at its token.
 #[tactic(auto, unfolding(ms_text_grammar::specs::Insts::select_rule))]
-pub fn select_rule(alloc: Global, tokens: &mut Tokens<'_>, form: Form) -> Result<Boxed<Op>, Cause>
+pub fn select_rule(tokens: &mut Tokens<'_>, form: Form) -> Result<Boxed<Op>, Cause>
     ensures { Gives (run (spec.select_rule form) tokens.old) result tokens.new }
 {
     bit_type(tokens)?;
-    let cond = value(alloc, tokens, form, ValueType::int(1))?;
+    let cond = value(tokens, form, ValueType::int(1))?;
     tokens.word(Symbol::Comma)?;
-    select_rest(alloc, tokens, form, cond)
+    select_rest(tokens, form, cond)
 }
 
 /// Reads a `freeze` after its word: `type a`.
@@ -368,14 +351,14 @@ pub fn select_rule(alloc: Global, tokens: &mut Tokens<'_>, form: Form) -> Result
 ///
 /// Those of its parts.
 #[tactic(auto, unfolding(ms_text_grammar::specs::Insts::freeze_rule))]
-pub fn freeze_rule(alloc: Global, tokens: &mut Tokens<'_>, form: Form) -> Result<Boxed<Op>, Cause>
+pub fn freeze_rule(tokens: &mut Tokens<'_>, form: Form) -> Result<Boxed<Op>, Cause>
     ensures { Gives (run (spec.freeze_rule form) tokens.old) result tokens.new }
 {
     let ty = value_type(tokens)?;
-    let a = value(alloc, tokens, form, ty)?;
+    let a = value(tokens, form, ty)?;
     let read = Op::Freeze {
         ty: ty.ty(),
         a: a.into_inner(),
     };
-    Ok(Boxed::new(alloc, read)?)
+    Ok(Boxed::new(tokens.alloc(), read)?)
 }

@@ -10,38 +10,35 @@ ghost use Rattle.ms_read_insts.specs.Rests as rest;
 use crate::computations::{bit_type, is_int_type};
 use ms_bits::{Boxed, List, NoMemory};
 use ms_ir::{Form, Name, Op, Operand, Ty};
-use ms_read_cursor::{Lexeme, Tokens, Turn, local, repeat, with_last};
+use ms_read_cursor::{Tokens, Turn, local, repeat, with_last};
 use ms_read_values::{ValueType, int_type, number, result_type, suffixes_from, value, value_type};
 use ms_text_grammar::{Cause, Edges, Symbol};
 use std::alloc::Global;
 
+/// The cases of a `switch`: the words and the labels.
+type Cases = List<(u64, Name)>;
+
 /// Reads the block that control comes from, and `]`.
 fn edge_end(
-    alloc: Global,
     tokens: &mut Tokens<'_>,
     form: Form,
     operand: Boxed<Operand>,
 ) -> Result<(Boxed<Operand>, Name), Cause>
     ensures { Gives (run (rest.edge_end form operand) tokens.old) result tokens.new }
 {
-    let from = local(alloc, tokens, form)?;
+    let from = local(tokens, form)?;
     tokens.word(Symbol::CloseBracket)?;
     Ok((operand, from))
 }
 
 /// Reads an edge of a phi after its `[`.
 #[tactic(auto, unfolding(ms_text_grammar::specs::Insts::edge))]
-fn edge(
-    alloc: Global,
-    tokens: &mut Tokens<'_>,
-    form: Form,
-    ty: ValueType,
-) -> Result<(Boxed<Operand>, Name), Cause>
+fn edge(tokens: &mut Tokens<'_>, form: Form, ty: ValueType) -> Result<(Boxed<Operand>, Name), Cause>
     ensures { Gives (run (spec.edge form ty) tokens.old) result tokens.new }
 {
-    let operand = value(alloc, tokens, form, ty)?;
+    let operand = value(tokens, form, ty)?;
     tokens.word(Symbol::Comma)?;
-    edge_end(alloc, tokens, form, operand)
+    edge_end(tokens, form, operand)
 }
 
 /// The state after one edge more.
@@ -59,7 +56,6 @@ fn with_edge(found: List<(Operand, Name)>, edge: (Boxed<Operand>, Name)) -> Resu
 /// Reads an edge after its comma, or finds that what is attached begins.
 #[tactic(auto, unfolding(ms_text_grammar::specs::Insts::edge_turn))]
 fn edge_turn(
-    alloc: Global,
     tokens: &mut Tokens<'_>,
     form: Form,
     ty: ValueType,
@@ -70,7 +66,7 @@ fn edge_turn(
     match tokens.peek() {
         Symbol::OpenBracket => {
             tokens.advance();
-            let next = edge(alloc, tokens, form, ty)?;
+            let next = edge(tokens, form, ty)?;
             Ok(with_edge(found, next)?)
         }
         _ => Ok(Edges { found, ended: true }),
@@ -92,19 +88,14 @@ impl Turn for EdgeTurn {
 
     ghost body = { λ rule edges comma. edge_turn rule.form rule.ty edges.found };
 
-    fn goes_on(&self, _alloc: Global, state: &Edges, first: &Lexeme<'_>) -> Result<bool, Cause> {
-        Ok(!state.ended && first.is(Symbol::Comma))
+    fn goes_on(&self, state: &Edges, tokens: &Tokens<'_>) -> Result<bool, Cause> {
+        Ok(!state.ended && tokens.sees(Symbol::Comma))
     }
 
-    fn turn(
-        &self,
-        alloc: Global,
-        state: Edges,
-        _first: &Lexeme<'_>,
-        tokens: &mut Tokens<'_>,
-    ) -> Result<Edges, Cause> {
+    fn turn(&self, state: Edges, tokens: &mut Tokens<'_>) -> Result<Edges, Cause> {
+        tokens.advance();
         let Edges { found, .. } = state;
-        edge_turn(alloc, tokens, self.form, self.ty, found)
+        edge_turn(tokens, self.form, self.ty, found)
     }
 }
 
@@ -124,7 +115,6 @@ fn phi_of(alloc: Global, ty: ValueType, edges: List<(Operand, Name)>) -> Result<
 
 /// Reads the edges after the first one, and what is attached.
 fn phi_rest(
-    alloc: Global,
     tokens: &mut Tokens<'_>,
     form: Form,
     ty: ValueType,
@@ -132,9 +122,9 @@ fn phi_rest(
 ) -> Result<(Boxed<Op>, bool), Cause>
     ensures { Gives (run (rest.phi_rest form ty first) tokens.old) result tokens.new }
 {
-    let Edges { found, ended } = repeat(alloc, tokens, &EdgeTurn { form, ty }, first)?;
-    let marked = suffixes_from(alloc, tokens, form, ended)?;
-    Ok((phi_of(alloc, ty, found)?, marked))
+    let Edges { found, ended } = repeat(tokens, &EdgeTurn { form, ty }, first)?;
+    let marked = suffixes_from(tokens, form, ended)?;
+    Ok((phi_of(tokens.alloc(), ty, found)?, marked))
 }
 
 /// Reads a phi after its word: `type [value, local]`, more edges after commas, and what is attached. The second value is
@@ -144,26 +134,22 @@ fn phi_rest(
 ///
 /// Those of its parts: `Syntax` or `Outside` at a token that can't stand.
 #[tactic(auto, unfolding(ms_text_grammar::specs::Insts::phi_rule))]
-pub fn phi_rule(
-    alloc: Global,
-    tokens: &mut Tokens<'_>,
-    form: Form,
-) -> Result<(Boxed<Op>, bool), Cause>
+pub fn phi_rule(tokens: &mut Tokens<'_>, form: Form) -> Result<(Boxed<Op>, bool), Cause>
     ensures { Gives (run (spec.phi_rule form) tokens.old) result tokens.new }
 {
     let ty = value_type(tokens)?;
     tokens.word(Symbol::OpenBracket)?;
-    let first = first_edges(alloc, edge(alloc, tokens, form, ty)?)?;
-    phi_rest(alloc, tokens, form, ty, first)
+    let first = first_edges(tokens.alloc(), edge(tokens, form, ty)?)?;
+    phi_rest(tokens, form, ty, first)
 }
 
 /// Takes `label` and the name of a block.
 #[tactic(auto, unfolding(ms_text_grammar::specs::Insts::target))]
-fn target(alloc: Global, tokens: &mut Tokens<'_>, form: Form) -> Result<Name, Cause>
+fn target(tokens: &mut Tokens<'_>, form: Form) -> Result<Name, Cause>
     ensures { Gives (run (spec.target form) tokens.old) result tokens.new }
 {
     tokens.word(Symbol::LabelWord)?;
-    local(alloc, tokens, form)
+    local(tokens, form)
 }
 
 /// A `br` on a condition. The one error is running out of memory.
@@ -187,7 +173,6 @@ fn branch_of(
 
 /// Reads `, label %no` after the first target.
 fn branch_end(
-    alloc: Global,
     tokens: &mut Tokens<'_>,
     form: Form,
     cond: Boxed<Operand>,
@@ -196,13 +181,12 @@ fn branch_end(
     ensures { Gives (run (rest.branch_end form cond yes) tokens.old) result tokens.new }
 {
     tokens.word(Symbol::Comma)?;
-    let no = target(alloc, tokens, form)?;
-    Ok(branch_of(alloc, cond, yes, no)?)
+    let no = target(tokens, form)?;
+    Ok(branch_of(tokens.alloc(), cond, yes, no)?)
 }
 
 /// Reads `, label %yes, label %no` after the condition.
 fn branch_rest(
-    alloc: Global,
     tokens: &mut Tokens<'_>,
     form: Form,
     cond: Boxed<Operand>,
@@ -210,18 +194,18 @@ fn branch_rest(
     ensures { Gives (run (rest.branch_rest form cond) tokens.old) result tokens.new }
 {
     tokens.word(Symbol::Comma)?;
-    let yes = target(alloc, tokens, form)?;
-    branch_end(alloc, tokens, form, cond, yes)
+    let yes = target(tokens, form)?;
+    branch_end(tokens, form, cond, yes)
 }
 
 /// Reads `i1 condition, label %yes, label %no`.
 #[tactic(auto, unfolding(ms_text_grammar::specs::Insts::branch_on))]
-fn branch_on(alloc: Global, tokens: &mut Tokens<'_>, form: Form) -> Result<Boxed<Op>, Cause>
+fn branch_on(tokens: &mut Tokens<'_>, form: Form) -> Result<Boxed<Op>, Cause>
     ensures { Gives (run (spec.branch_on form) tokens.old) result tokens.new }
 {
     bit_type(tokens)?;
-    let cond = value(alloc, tokens, form, ValueType::int(1))?;
-    branch_rest(alloc, tokens, form, cond)
+    let cond = value(tokens, form, ValueType::int(1))?;
+    branch_rest(tokens, form, cond)
 }
 
 /// Reads a `br` after its word: `label %to`, or `i1 condition, label %yes, label %no`.
@@ -230,45 +214,33 @@ fn branch_on(alloc: Global, tokens: &mut Tokens<'_>, form: Form) -> Result<Boxed
 ///
 /// Those of its parts.
 #[tactic(auto, unfolding(ms_text_grammar::specs::Insts::branch_rule))]
-pub fn branch_rule(alloc: Global, tokens: &mut Tokens<'_>, form: Form) -> Result<Boxed<Op>, Cause>
+pub fn branch_rule(tokens: &mut Tokens<'_>, form: Form) -> Result<Boxed<Op>, Cause>
     ensures { Gives (run (spec.branch_rule form) tokens.old) result tokens.new }
 {
     if !tokens.sees(Symbol::LabelWord) {
-        return branch_on(alloc, tokens, form);
+        return branch_on(tokens, form);
     }
-    let to = target(alloc, tokens, form)?;
-    Ok(Boxed::new(alloc, Op::Br { to })?)
+    let to = target(tokens, form)?;
+    Ok(Boxed::new(tokens.alloc(), Op::Br { to })?)
 }
 
 /// Reads `, label %to` after the number of a case.
-fn case_end(
-    alloc: Global,
-    tokens: &mut Tokens<'_>,
-    form: Form,
-    n: u64,
-    found: List<(u64, Name)>,
-) -> Result<List<(u64, Name)>, Cause>
+fn case_end(tokens: &mut Tokens<'_>, form: Form, n: u64, found: Cases) -> Result<Cases, Cause>
     ensures { Gives (run (rest.case_end form n found) tokens.old) result tokens.new }
 {
     tokens.word(Symbol::Comma)?;
-    let to = target(alloc, tokens, form)?;
+    let to = target(tokens, form)?;
     Ok(with_last(found, (n, to))?)
 }
 
 /// Reads a case of a `switch` after its type.
 #[tactic(auto, unfolding(ms_text_grammar::specs::Insts::case_rest))]
-fn case_rest(
-    alloc: Global,
-    tokens: &mut Tokens<'_>,
-    form: Form,
-    width: u8,
-    found: List<(u64, Name)>,
-) -> Result<List<(u64, Name)>, Cause>
+fn case_rest(tokens: &mut Tokens<'_>, form: Form, width: u8, found: Cases) -> Result<Cases, Cause>
     requires { IsWidth width }
     ensures { Gives (run (spec.case_rest form width found) tokens.old) result tokens.new }
 {
     let n = number(tokens, width)?;
-    case_end(alloc, tokens, form, n, found)
+    case_end(tokens, form, n, found)
 }
 
 /// The cases of a `switch` of this width.
@@ -280,7 +252,7 @@ struct CaseTurn {
 }
 
 impl Turn for CaseTurn {
-    type State = List<(u64, Name)>;
+    type State = Cases;
 
     ghost use Rattle.ms_text_grammar.specs.Insts.{case_begins, case_rest};
 
@@ -288,23 +260,13 @@ impl Turn for CaseTurn {
 
     ghost body = { λ rule found t. case_rest rule.form rule.width found };
 
-    fn goes_on(
-        &self,
-        _alloc: Global,
-        _state: &List<(u64, Name)>,
-        first: &Lexeme<'_>,
-    ) -> Result<bool, Cause> {
-        Ok(is_int_type(self.width, first))
+    fn goes_on(&self, _state: &Cases, tokens: &Tokens<'_>) -> Result<bool, Cause> {
+        Ok(is_int_type(self.width, &tokens.lexeme()))
     }
 
-    fn turn(
-        &self,
-        alloc: Global,
-        state: List<(u64, Name)>,
-        _first: &Lexeme<'_>,
-        tokens: &mut Tokens<'_>,
-    ) -> Result<List<(u64, Name)>, Cause> {
-        case_rest(alloc, tokens, self.form, self.width, state)
+    fn turn(&self, state: Cases, tokens: &mut Tokens<'_>) -> Result<Cases, Cause> {
+        tokens.advance();
+        case_rest(tokens, self.form, self.width, state)
     }
 }
 
@@ -314,7 +276,7 @@ fn switch_of(
     width: u8,
     value: Boxed<Operand>,
     other: Name,
-    cases: List<(u64, Name)>,
+    cases: Cases,
 ) -> Result<Boxed<Op>, NoMemory>
     ensures { IfOk result (λ o. o ≡ operation.Switch (Ty.Int width) value other cases) }
 {
@@ -331,22 +293,20 @@ fn switch_of(
 
 /// Reads `]` after the cases of a `switch`.
 fn switch_last(
-    alloc: Global,
     tokens: &mut Tokens<'_>,
     width: u8,
     value: Boxed<Operand>,
     other: Name,
-    cases: List<(u64, Name)>,
+    cases: Cases,
 ) -> Result<Boxed<Op>, Cause>
     ensures { Gives (run (rest.switch_last width value other cases) tokens.old) result tokens.new }
 {
     tokens.word(Symbol::CloseBracket)?;
-    Ok(switch_of(alloc, width, value, other, cases)?)
+    Ok(switch_of(tokens.alloc(), width, value, other, cases)?)
 }
 
 /// Reads the cases of a `switch`, and `]`.
 fn switch_end(
-    alloc: Global,
     tokens: &mut Tokens<'_>,
     form: Form,
     width: u8,
@@ -356,14 +316,13 @@ fn switch_end(
     requires { IsWidth width }
     ensures { Gives (run (rest.switch_end form width value other) tokens.old) result tokens.new }
 {
-    let none = List::from_vec(Vec::new(alloc));
-    let cases = repeat(alloc, tokens, &CaseTurn { form, width }, none)?;
-    switch_last(alloc, tokens, width, value, other, cases)
+    let none = List::from_vec(Vec::new(tokens.alloc()));
+    let cases = repeat(tokens, &CaseTurn { form, width }, none)?;
+    switch_last(tokens, width, value, other, cases)
 }
 
 /// Reads `label %other [` and the cases of a `switch`.
 fn switch_rest(
-    alloc: Global,
     tokens: &mut Tokens<'_>,
     form: Form,
     width: u8,
@@ -372,9 +331,9 @@ fn switch_rest(
     requires { IsWidth width }
     ensures { Gives (run (rest.switch_rest form width value) tokens.old) result tokens.new }
 {
-    let other = target(alloc, tokens, form)?;
+    let other = target(tokens, form)?;
     tokens.word(Symbol::OpenBracket)?;
-    switch_end(alloc, tokens, form, width, value, other)
+    switch_end(tokens, form, width, value, other)
 }
 
 /// Reads a `switch` after its word: `iN value, label %other [iN number, label %to ..]`.
@@ -383,13 +342,13 @@ fn switch_rest(
 ///
 /// Those of its parts. A case of another type is refused at its type.
 #[tactic(auto, unfolding(ms_text_grammar::specs::Insts::switch_rule))]
-pub fn switch_rule(alloc: Global, tokens: &mut Tokens<'_>, form: Form) -> Result<Boxed<Op>, Cause>
+pub fn switch_rule(tokens: &mut Tokens<'_>, form: Form) -> Result<Boxed<Op>, Cause>
     ensures { Gives (run (spec.switch_rule form) tokens.old) result tokens.new }
 {
     let width = int_type(tokens)?;
-    let value = value(alloc, tokens, form, ValueType::int(width))?;
+    let value = value(tokens, form, ValueType::int(width))?;
     tokens.word(Symbol::Comma)?;
-    switch_rest(alloc, tokens, form, width, value)
+    switch_rest(tokens, form, width, value)
 }
 
 /// A `ret` of a value. The one error is running out of memory.
@@ -410,14 +369,14 @@ fn ret_of(alloc: Global, ty: ValueType, value: Boxed<Operand>) -> Result<Boxed<O
 ///
 /// Those of its parts.
 #[tactic(auto, unfolding(ms_text_grammar::specs::Insts::ret_rule))]
-pub fn ret_rule(alloc: Global, tokens: &mut Tokens<'_>, form: Form) -> Result<Boxed<Op>, Cause>
+pub fn ret_rule(tokens: &mut Tokens<'_>, form: Form) -> Result<Boxed<Op>, Cause>
     ensures { Gives (run (spec.ret_rule form) tokens.old) result tokens.new }
 {
     match result_type(tokens)? {
-        None => Ok(Boxed::new(alloc, Op::Ret { value: None })?),
+        None => Ok(Boxed::new(tokens.alloc(), Op::Ret { value: None })?),
         Some(ty) => {
-            let operand = value(alloc, tokens, form, ty)?;
-            Ok(ret_of(alloc, ty, operand)?)
+            let operand = value(tokens, form, ty)?;
+            Ok(ret_of(tokens.alloc(), ty, operand)?)
         }
     }
 }

@@ -6,9 +6,8 @@ ghost use Rattle.ms_read_cursor.specs.Reading.{Gives, run};
 ghost use Rattle.ms_read_insts.specs.Carriers.{carries_of};
 
 use ms_bits::{BinOp, CastOp, Flags, NO_FLAGS};
-use ms_read_cursor::{Lexeme, Tokens, Turn, repeat, same_symbol};
+use ms_read_cursor::{Tokens, Turn, repeat, same_symbol};
 use ms_text_grammar::{Cause, Symbol};
-use std::alloc::Global;
 
 /// What may carry flags.
 #[derive(Clone, Copy, Debug, PartialEq, Eq)]
@@ -109,19 +108,15 @@ impl Turn for FlagTurn {
 
     ghost body = { λ rule flags t. give (with_flag flags t.symbol) };
 
-    fn goes_on(&self, _alloc: Global, state: &Flags, first: &Lexeme<'_>) -> Result<bool, Cause> {
-        let symbol = first.symbol();
+    fn goes_on(&self, state: &Flags, tokens: &Tokens<'_>) -> Result<bool, Cause> {
+        let symbol = tokens.peek();
         Ok(self.carrier.carries(symbol) && !is_set(*state, symbol))
     }
 
-    fn turn(
-        &self,
-        _alloc: Global,
-        state: Flags,
-        first: &Lexeme<'_>,
-        _tokens: &mut Tokens<'_>,
-    ) -> Result<Flags, Cause> {
-        Ok(with_flag(state, first.symbol()))
+    fn turn(&self, state: Flags, tokens: &mut Tokens<'_>) -> Result<Flags, Cause> {
+        let symbol = tokens.peek();
+        tokens.advance();
+        Ok(with_flag(state, symbol))
     }
 }
 
@@ -132,8 +127,8 @@ impl Turn for FlagTurn {
 ///
 /// None of its own.
 #[tactic(auto, unfolding(ms_text_grammar::specs::Insts::flags_of))]
-pub fn flags_of(alloc: Global, tokens: &mut Tokens<'_>, carrier: Carrier) -> Result<Flags, Cause>
+pub fn flags_of(tokens: &mut Tokens<'_>, carrier: Carrier) -> Result<Flags, Cause>
     ensures { Gives (run (spec.flags_of (carries_of carrier)) tokens.old) result tokens.new }
 {
-    repeat(alloc, tokens, &FlagTurn { carrier }, NO_FLAGS)
+    repeat(tokens, &FlagTurn { carrier }, NO_FLAGS)
 }

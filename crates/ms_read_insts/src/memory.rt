@@ -10,7 +10,7 @@ ghost use Rattle.ms_read_insts.specs.Rests as rest;
 
 use ms_bits::{Boxed, List, NoMemory};
 use ms_ir::{Form, Op, Operand, Ty};
-use ms_read_cursor::{Lexeme, Tokens, Turn, repeat, with_last};
+use ms_read_cursor::{Tokens, Turn, repeat, with_last};
 use ms_read_values::{
     ValueType, boxed_type, gep_words, index_type_of, suffixes_from, value, value_type,
 };
@@ -22,12 +22,12 @@ const MAX_DEPTH: u8 = 32;
 
 /// Takes `ptr` and an address after a comma.
 #[tactic(auto, unfolding(ms_text_grammar::specs::Insts::address))]
-fn address(alloc: Global, tokens: &mut Tokens<'_>, form: Form) -> Result<Boxed<Operand>, Cause>
+fn address(tokens: &mut Tokens<'_>, form: Form) -> Result<Boxed<Operand>, Cause>
     ensures { Gives (run (spec.address form) tokens.old) result tokens.new }
 {
     tokens.word(Symbol::Comma)?;
     tokens.word(Symbol::PtrType)?;
-    value(alloc, tokens, form, ValueType::ptr())
+    value(tokens, form, ValueType::ptr())
 }
 
 /// Reads a `load` after its word: `type, ptr address`.
@@ -36,16 +36,16 @@ fn address(alloc: Global, tokens: &mut Tokens<'_>, form: Form) -> Result<Boxed<O
 ///
 /// Those of its parts: `Syntax` or `Outside` at a token that can't stand.
 #[tactic(auto, unfolding(ms_text_grammar::specs::Insts::load_rule))]
-pub fn load_rule(alloc: Global, tokens: &mut Tokens<'_>, form: Form) -> Result<Boxed<Op>, Cause>
+pub fn load_rule(tokens: &mut Tokens<'_>, form: Form) -> Result<Boxed<Op>, Cause>
     ensures { Gives (run (spec.load_rule form) tokens.old) result tokens.new }
 {
     let ty = value_type(tokens)?;
-    let addr = address(alloc, tokens, form)?;
+    let addr = address(tokens, form)?;
     let read = Op::Load {
         ty: ty.ty(),
         addr: addr.into_inner(),
     };
-    Ok(Boxed::new(alloc, read)?)
+    Ok(Boxed::new(tokens.alloc(), read)?)
 }
 
 /// A `store`. The one error is running out of memory.
@@ -73,13 +73,13 @@ fn store_of(
 ///
 /// Those of its parts.
 #[tactic(auto, unfolding(ms_text_grammar::specs::Insts::store_rule))]
-pub fn store_rule(alloc: Global, tokens: &mut Tokens<'_>, form: Form) -> Result<Boxed<Op>, Cause>
+pub fn store_rule(tokens: &mut Tokens<'_>, form: Form) -> Result<Boxed<Op>, Cause>
     ensures { Gives (run (spec.store_rule form) tokens.old) result tokens.new }
 {
     let ty = value_type(tokens)?;
-    let value = value(alloc, tokens, form, ty)?;
-    let addr = address(alloc, tokens, form)?;
-    Ok(store_of(alloc, ty, value, addr)?)
+    let value = value(tokens, form, ty)?;
+    let addr = address(tokens, form)?;
+    Ok(store_of(tokens.alloc(), ty, value, addr)?)
 }
 
 /// Before the first index.
@@ -117,23 +117,17 @@ fn with_index(
 }
 
 /// Reads a further index, whose type comes next.
-fn index(
-    alloc: Global,
-    tokens: &mut Tokens<'_>,
-    form: Form,
-    found: List<(Ty, Operand)>,
-) -> Result<Indices, Cause>
+fn index(tokens: &mut Tokens<'_>, form: Form, found: List<(Ty, Operand)>) -> Result<Indices, Cause>
     ensures { Gives (run (spec.index_by form found Symbol.IntType) tokens.old) result tokens.new }
 {
     let ty = ValueType::int(index_width(tokens, found.as_slice().len())?);
-    let operand = value(alloc, tokens, form, ty)?;
+    let operand = value(tokens, form, ty)?;
     Ok(with_index(found, ty, operand)?)
 }
 
 /// Reads an index after its comma, or finds that what is attached begins.
 #[tactic(auto, unfolding(ms_text_grammar::specs::Insts::index_turn))]
 fn index_turn(
-    alloc: Global,
     tokens: &mut Tokens<'_>,
     form: Form,
     found: List<(Ty, Operand)>,
@@ -141,7 +135,7 @@ fn index_turn(
     ensures { Gives (run (spec.index_turn form found) tokens.old) result tokens.new }
 {
     match tokens.peek() {
-        Symbol::IntType => index(alloc, tokens, form, found),
+        Symbol::IntType => index(tokens, form, found),
         _ => Ok(Indices { found, ended: true }),
     }
 }
@@ -160,19 +154,14 @@ impl Turn for IndexTurn {
 
     ghost body = { λ rule indices comma. index_turn rule.form indices.found };
 
-    fn goes_on(&self, _alloc: Global, state: &Indices, first: &Lexeme<'_>) -> Result<bool, Cause> {
-        Ok(!state.ended && first.is(Symbol::Comma))
+    fn goes_on(&self, state: &Indices, tokens: &Tokens<'_>) -> Result<bool, Cause> {
+        Ok(!state.ended && tokens.sees(Symbol::Comma))
     }
 
-    fn turn(
-        &self,
-        alloc: Global,
-        state: Indices,
-        _first: &Lexeme<'_>,
-        tokens: &mut Tokens<'_>,
-    ) -> Result<Indices, Cause> {
+    fn turn(&self, state: Indices, tokens: &mut Tokens<'_>) -> Result<Indices, Cause> {
+        tokens.advance();
         let Indices { found, .. } = state;
-        index_turn(alloc, tokens, self.form, found)
+        index_turn(tokens, self.form, found)
     }
 }
 
@@ -197,7 +186,6 @@ fn step_of(
 
 /// Reads what is attached after the indices.
 fn step_end(
-    alloc: Global,
     tokens: &mut Tokens<'_>,
     form: Form,
     ty: Boxed<Ty>,
@@ -207,13 +195,12 @@ fn step_end(
     ensures { Gives (run (rest.step_end form ty base indices) tokens.old) result tokens.new }
 {
     let Indices { found, ended } = indices;
-    let marked = suffixes_from(alloc, tokens, form, ended)?;
-    Ok((step_of(alloc, ty, base, found)?, marked))
+    let marked = suffixes_from(tokens, form, ended)?;
+    Ok((step_of(tokens.alloc(), ty, base, found)?, marked))
 }
 
 /// Reads the indices after the base, and what is attached.
 fn step_rest(
-    alloc: Global,
     tokens: &mut Tokens<'_>,
     form: Form,
     ty: Boxed<Ty>,
@@ -221,8 +208,8 @@ fn step_rest(
 ) -> Result<(Boxed<Op>, bool), Cause>
     ensures { Gives (run (rest.step_rest form ty base) tokens.old) result tokens.new }
 {
-    let indices = repeat(alloc, tokens, &IndexTurn { form }, no_indices(alloc))?;
-    step_end(alloc, tokens, form, ty, base, indices)
+    let indices = repeat(tokens, &IndexTurn { form }, no_indices(tokens.alloc()))?;
+    step_end(tokens, form, ty, base, indices)
 }
 
 /// Reads a `getelementptr` after its word: `inbounds` and the like, `type, ptr base`, `, iN index` as many as come, and
@@ -232,17 +219,13 @@ fn step_rest(
 ///
 /// `Limit(Indices)` at the type of the 65th index, `Limit(Types)` at one bracket too many, and those of its parts.
 #[tactic(auto, unfolding(ms_text_grammar::specs::Insts::gep_rule))]
-pub fn gep_rule(
-    alloc: Global,
-    tokens: &mut Tokens<'_>,
-    form: Form,
-) -> Result<(Boxed<Op>, bool), Cause>
+pub fn gep_rule(tokens: &mut Tokens<'_>, form: Form) -> Result<(Boxed<Op>, bool), Cause>
     ensures { Gives (run (spec.gep_rule form) tokens.old) result tokens.new }
 {
-    gep_words(alloc, tokens)?;
-    let ty = boxed_type(alloc, tokens, form, MAX_DEPTH)?;
-    let base = address(alloc, tokens, form)?;
-    step_rest(alloc, tokens, form, ty, base)
+    gep_words(tokens)?;
+    let ty = boxed_type(tokens, form, MAX_DEPTH)?;
+    let base = address(tokens, form)?;
+    step_rest(tokens, form, ty, base)
 }
 
 #[derive(Clone, Copy)]
@@ -259,19 +242,14 @@ impl Turn for CountTurn {
 
     ghost body = { λ rule indices comma. index_turn rule.form indices.found };
 
-    fn goes_on(&self, _alloc: Global, state: &Indices, first: &Lexeme<'_>) -> Result<bool, Cause> {
-        Ok(!state.ended && state.found.as_slice().len() == 0 && first.is(Symbol::Comma))
+    fn goes_on(&self, state: &Indices, tokens: &Tokens<'_>) -> Result<bool, Cause> {
+        Ok(!state.ended && state.found.as_slice().len() == 0 && tokens.sees(Symbol::Comma))
     }
 
-    fn turn(
-        &self,
-        alloc: Global,
-        state: Indices,
-        _first: &Lexeme<'_>,
-        tokens: &mut Tokens<'_>,
-    ) -> Result<Indices, Cause> {
+    fn turn(&self, state: Indices, tokens: &mut Tokens<'_>) -> Result<Indices, Cause> {
+        tokens.advance();
         let Indices { found, .. } = state;
-        index_turn(alloc, tokens, self.form, found)
+        index_turn(tokens, self.form, found)
     }
 }
 
@@ -326,7 +304,6 @@ fn alloca_of(
 
 /// Reads what is attached after the count.
 fn alloca_end(
-    alloc: Global,
     tokens: &mut Tokens<'_>,
     form: Form,
     ty: Boxed<Ty>,
@@ -335,21 +312,20 @@ fn alloca_end(
     ensures { Gives (run (rest.alloca_end form ty count) tokens.old) result tokens.new }
 {
     let Indices { found, ended } = count;
-    let marked = suffixes_from(alloc, tokens, form, ended)?;
-    Ok((alloca_of(alloc, ty, found)?, marked))
+    let marked = suffixes_from(tokens, form, ended)?;
+    Ok((alloca_of(tokens.alloc(), ty, found)?, marked))
 }
 
 /// Reads the count after the type, where one comes, and what is attached.
 fn alloca_rest(
-    alloc: Global,
     tokens: &mut Tokens<'_>,
     form: Form,
     ty: Boxed<Ty>,
 ) -> Result<(Boxed<Op>, bool), Cause>
     ensures { Gives (run (rest.alloca_rest form ty) tokens.old) result tokens.new }
 {
-    let count = repeat(alloc, tokens, &CountTurn { form }, no_indices(alloc))?;
-    alloca_end(alloc, tokens, form, ty, count)
+    let count = repeat(tokens, &CountTurn { form }, no_indices(tokens.alloc()))?;
+    alloca_end(tokens, form, ty, count)
 }
 
 /// Reads an `alloca` after its word: `type` and perhaps `, iN count`, and what is attached. The second value is whether
@@ -359,13 +335,9 @@ fn alloca_rest(
 ///
 /// `Limit(Types)` at one bracket too many, and those of its parts.
 #[tactic(auto, unfolding(ms_text_grammar::specs::Insts::alloca_rule))]
-pub fn alloca_rule(
-    alloc: Global,
-    tokens: &mut Tokens<'_>,
-    form: Form,
-) -> Result<(Boxed<Op>, bool), Cause>
+pub fn alloca_rule(tokens: &mut Tokens<'_>, form: Form) -> Result<(Boxed<Op>, bool), Cause>
     ensures { Gives (run (spec.alloca_rule form) tokens.old) result tokens.new }
 {
-    let ty = boxed_type(alloc, tokens, form, MAX_DEPTH)?;
-    alloca_rest(alloc, tokens, form, ty)
+    let ty = boxed_type(tokens, form, MAX_DEPTH)?;
+    alloca_rest(tokens, form, ty)
 }

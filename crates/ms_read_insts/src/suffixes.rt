@@ -11,19 +11,13 @@ use ms_ir::{Form, Op};
 use ms_read_cursor::{Rule, Tokens};
 use ms_read_values::suffixes_from;
 use ms_text_grammar::Cause;
-use std::alloc::Global;
 
 /// Reads what is attached to what was read before it. It serves every type, so that nothing is said of how an operation is
 /// let go.
-fn attached_to<T: Drop>(
-    alloc: Global,
-    tokens: &mut Tokens<'_>,
-    form: Form,
-    read: T,
-) -> Result<(T, bool), Cause>
+fn attached_to<T: Drop>(tokens: &mut Tokens<'_>, form: Form, read: T) -> Result<(T, bool), Cause>
     ensures { Gives (run (seq (skipped.suffixes_from form false) (λ marked. give (read, marked))) tokens.old) result tokens.new }
 {
-    let marked = suffixes_from(alloc, tokens, form, false)?;
+    let marked = suffixes_from(tokens, form, false)?;
     Ok((read, marked))
 }
 
@@ -34,13 +28,12 @@ fn attached_to<T: Drop>(
 /// Those of the rule, `Reserved` at a mark in the plain form, and those of the other parts.
 #[tactic(auto, unfolding(ms_text_grammar::specs::Insts::with_suffixes))]
 pub fn with_suffixes<R: Rule<Value = Boxed<Op>>>(
-    alloc: Global,
     tokens: &mut Tokens<'_>,
     form: Form,
     rule: &R,
 ) -> Result<(Boxed<Op>, bool), Cause>
     ensures { Gives (run (spec.with_suffixes form (R.piece rule.now)) tokens.old) result tokens.new }
 {
-    let op = rule.read(alloc, tokens)?;
-    attached_to(alloc, tokens, form, op)
+    let op = rule.read(tokens)?;
+    attached_to(tokens, form, op)
 }

@@ -16,7 +16,7 @@ use std::alloc::Global;
 
 /// How many tokens a text may have.
 #[tactic(auto, unfolding(ms_text_grammar::specs::Texts::max_tokens))]
-fn max_tokens(form: Form) -> u32
+pub fn max_tokens(form: Form) -> u32
     ensures { result ≡ most_tokens form }
 {
     match form {
@@ -42,8 +42,8 @@ fn answer(alloc: Global, text: &[u8], tokens: &[Token], form: Form) -> Result<Mo
     requires in_order { InOrder tokens.now (length text.now) }
     ensures { IsReading form text.now result }
 {
-    let mut cursor = Tokens::at(text, tokens, 0);
-    match whole_module(alloc, &mut cursor, form) {
+    let mut cursor = Tokens::at(alloc, text, tokens, 0);
+    match whole_module(&mut cursor, form) {
         Ok(found) => Ok(found),
         Err(cause) => Err(error_for(text, tokens, cause, cursor.left())),
     }

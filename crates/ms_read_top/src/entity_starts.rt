@@ -1,12 +1,11 @@
 //! Which token begins an entity, and what refuses it there.
 
 ghost use Rattle.ms_text_grammar.specs.Modules as spec;
-ghost use Rattle.ms_read_cursor.specs.Reading.{Judges};
+ghost use Rattle.ms_read_cursor.specs.Reading.{Judges, front};
 
 use ms_ir::{Form, Module};
-use ms_read_cursor::{Lexeme, local_by, name_fits, reserved_global};
+use ms_read_cursor::{Tokens, local_by, name_fits, reserved_global};
 use ms_text_grammar::{Cause, Limit, Parts, Symbol};
-use std::alloc::Global;
 
 /// Functions and declarations of a module together.
 const MAX_FUNCTIONS: usize = 16384;
@@ -27,16 +26,11 @@ fn room_for_function(before: &Module) -> Result<bool, Cause>
     }
 }
 
-/// Whether a global of the name that a token is may stand after this module.
-fn global_begins(
-    alloc: Global,
-    form: Form,
-    before: &Module,
-    token: &Lexeme<'_>,
-) -> Result<bool, Cause>
-    ensures { Judges (spec.global_begins form before.now token.now) result }
+/// Whether a global of the name that the next token is may stand after this module.
+fn global_begins(tokens: &Tokens<'_>, form: Form, before: &Module) -> Result<bool, Cause>
+    ensures { Judges (spec.global_begins form before.now (front tokens.now)) result }
 {
-    let name = token.small_name(alloc)?;
+    let name = tokens.lexeme().small_name(tokens.alloc())?;
     let text = name.as_slice();
     if reserved_global(form, text) {
         Err(Cause::Reserved)
@@ -49,7 +43,7 @@ fn global_begins(
     }
 }
 
-/// Whether an entity begins with this token, in a module with these parts in front of it.
+/// Whether the next token begins an entity, in a module with these parts in front of it.
 ///
 /// # Errors
 ///
@@ -58,25 +52,20 @@ fn global_begins(
 /// - `Limit(Functions)` at `define` or `declare`, and `Limit(Globals)` at a global's name, where there is no room.
 /// - `Limit(Name)` at a name of more than 1024 bytes.
 #[tactic(auto, unfolding(ms_text_grammar::specs::Modules::entity_begins))]
-pub fn entity_begins(
-    alloc: Global,
-    form: Form,
-    parts: &Parts,
-    token: &Lexeme<'_>,
-) -> Result<bool, Cause>
-    ensures { Judges (spec.entity_begins form parts.now token.now) result }
+pub fn entity_begins(tokens: &Tokens<'_>, form: Form, parts: &Parts) -> Result<bool, Cause>
+    ensures { Judges (spec.entity_begins form parts.now (front tokens.now)) result }
 {
-    match token.symbol() {
+    match tokens.peek() {
         Symbol::SourceFilename
         | Symbol::Target
         | Symbol::Attributes
         | Symbol::Meta
         | Symbol::NoSanitize => Ok(true),
         Symbol::Local | Symbol::NumberedLocal => {
-            local_by(alloc, form, token)?;
+            local_by(tokens.alloc(), form, &tokens.lexeme())?;
             Ok(true)
         }
-        Symbol::Global => global_begins(alloc, form, &parts.module, token),
+        Symbol::Global => global_begins(tokens, form, &parts.module),
         Symbol::Declare | Symbol::Define => room_for_function(&parts.module),
         _ => Ok(false),
     }

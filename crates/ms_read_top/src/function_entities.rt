@@ -40,23 +40,17 @@ fn add_function(alloc: Global, parts: &mut Parts, found: Func) -> Result<(), NoM
 
 /// Reads a function after `define`, and adds it to the parts.
 #[tactic(auto, using(crate::proofs::Few::function_few, crate::proofs::Few::most))]
-pub fn function_entity(
-    alloc: Global,
-    tokens: &mut Tokens<'_>,
-    form: Form,
-    parts: &mut Parts,
-) -> Result<(), Cause>
+pub fn function_entity(tokens: &mut Tokens<'_>, form: Form, parts: &mut Parts) -> Result<(), Cause>
     requires { parts.old.count ≤ max_instructions form }
     ensures exact { Leaves (run (seq (function_piece form parts.old.count) (λ f. give (spec.with_function parts.old f))) tokens.old) result parts.new tokens.new }
     ensures few { IfOk result (λ _. parts.new.count ≤ max_instructions form) }
 {
-    let found = function(alloc, tokens, form, parts.count)?;
-    Ok(add_function(alloc, parts, found)?)
+    let found = function(tokens, form, parts.count)?;
+    Ok(add_function(tokens.alloc(), parts, found)?)
 }
 
 /// Reads a declaration after `declare`, and adds it to the parts.
 pub fn declaration_entity(
-    alloc: Global,
     tokens: &mut Tokens<'_>,
     form: Form,
     parts: &mut Parts,
@@ -64,6 +58,6 @@ pub fn declaration_entity(
     ensures exact { Leaves (run (seq (declaration_piece form) (λ d. give (spec.with_declaration parts.old d))) tokens.old) result parts.new tokens.new }
     ensures count { IfOk result (λ _. parts.new.count ≡ parts.old.count) }
 {
-    let found = declaration(alloc, tokens, form)?;
-    Ok(add_declaration(alloc, parts, found)?)
+    let found = declaration(tokens, form)?;
+    Ok(add_declaration(tokens.alloc(), parts, found)?)
 }

@@ -32,17 +32,12 @@ impl Turn for EachLinkageWord {
 
     ghost body = { λ rule u t. give tt };
 
-    fn goes_on(&self, _alloc: Global, _state: &(), first: &Lexeme<'_>) -> Result<bool, Cause> {
-        Ok(is_attribute_word(first.symbol()))
+    fn goes_on(&self, _state: &(), tokens: &Tokens<'_>) -> Result<bool, Cause> {
+        Ok(is_attribute_word(tokens.peek()))
     }
 
-    fn turn(
-        &self,
-        _alloc: Global,
-        _state: (),
-        _first: &Lexeme<'_>,
-        _tokens: &mut Tokens<'_>,
-    ) -> Result<(), Cause> {
+    fn turn(&self, _state: (), tokens: &mut Tokens<'_>) -> Result<(), Cause> {
+        tokens.advance();
         Ok(())
     }
 }
@@ -101,32 +96,22 @@ impl Turn for EachSuffix {
 
     ghost body = { λ rule u comma. global_suffix rule.form };
 
-    fn goes_on(&self, _alloc: Global, _state: &(), first: &Lexeme<'_>) -> Result<bool, Cause> {
-        Ok(first.is(Symbol::Comma))
+    fn goes_on(&self, _state: &(), tokens: &Tokens<'_>) -> Result<bool, Cause> {
+        Ok(tokens.sees(Symbol::Comma))
     }
 
-    fn turn(
-        &self,
-        _alloc: Global,
-        _state: (),
-        _first: &Lexeme<'_>,
-        tokens: &mut Tokens<'_>,
-    ) -> Result<(), Cause> {
+    fn turn(&self, _state: (), tokens: &mut Tokens<'_>) -> Result<(), Cause> {
+        tokens.advance();
         global_suffix(tokens, self.form)
     }
 }
 
 /// Reads the initial value of a global of this type onto the heap.
-fn boxed_init(
-    alloc: Global,
-    tokens: &mut Tokens<'_>,
-    form: Form,
-    ty: &Ty,
-) -> Result<Boxed<Init>, Cause>
+fn boxed_init(tokens: &mut Tokens<'_>, form: Form, ty: &Ty) -> Result<Boxed<Init>, Cause>
     ensures { Gives (run (init_piece form max_depth ty.now) tokens.old) result tokens.new }
 {
-    let init = init_to(alloc, tokens, form, MAX_DEPTH, ty)?;
-    Ok(Boxed::new(alloc, init)?)
+    let init = init_to(tokens, form, MAX_DEPTH, ty)?;
+    Ok(Boxed::new(tokens.alloc(), init)?)
 }
 
 /// The global of the name that a token is. The one error is running out of memory.
@@ -151,7 +136,6 @@ fn global_of(
 
 /// Reads what may stand after the initial value of a global, and gives the global.
 fn suffixed_global(
-    alloc: Global,
     tokens: &mut Tokens<'_>,
     form: Form,
     name: &Lexeme<'_>,
@@ -161,13 +145,12 @@ fn suffixed_global(
 ) -> Result<Boxed<GlobalVar>, Cause>
     ensures { Gives (run (globals.suffixed_global form (Name.Text (name_in name.now)) constant ty init) tokens.old) result tokens.new }
 {
-    repeat(alloc, tokens, &EachSuffix { form }, ())?;
-    Ok(global_of(alloc, name, constant, ty, init)?)
+    repeat(tokens, &EachSuffix { form }, ())?;
+    Ok(global_of(tokens.alloc(), name, constant, ty, init)?)
 }
 
 /// Reads a global after `global` or `constant`.
 fn typed_global(
-    alloc: Global,
     tokens: &mut Tokens<'_>,
     form: Form,
     name: &Lexeme<'_>,
@@ -175,9 +158,9 @@ fn typed_global(
 ) -> Result<Boxed<GlobalVar>, Cause>
     ensures { Gives (run (globals.typed_global form (Name.Text (name_in name.now)) constant) tokens.old) result tokens.new }
 {
-    let ty = boxed_type(alloc, tokens, form, MAX_DEPTH)?;
-    let init = boxed_init(alloc, tokens, form, ty.get())?;
-    suffixed_global(alloc, tokens, form, name, constant, ty, init)
+    let ty = boxed_type(tokens, form, MAX_DEPTH)?;
+    let init = boxed_init(tokens, form, ty.get())?;
+    suffixed_global(tokens, form, name, constant, ty, init)
 }
 
 /// Reads a global after its name, which is a token: words of linkage, `global` or `constant`, its type, its initial value,
@@ -189,7 +172,6 @@ fn typed_global(
 /// those of `type_to`, `init_to` and `global_suffix`.
 #[tactic(auto, unfolding(ms_text_grammar::specs::Modules::global_variable))]
 pub fn global_variable(
-    alloc: Global,
     tokens: &mut Tokens<'_>,
     form: Form,
     name: &Lexeme<'_>,
@@ -197,8 +179,8 @@ pub fn global_variable(
     ensures { Gives (run (spec.global_variable form (Name.Text (name_in name.now))) tokens.old) result tokens.new }
 {
     tokens.word(Symbol::Equals)?;
-    repeat(alloc, tokens, &EachLinkageWord {}, ())?;
+    repeat(tokens, &EachLinkageWord {}, ())?;
     let constant = global_kind_of(&tokens.lexeme())?;
     tokens.advance();
-    typed_global(alloc, tokens, form, name, constant)
+    typed_global(tokens, form, name, constant)
 }

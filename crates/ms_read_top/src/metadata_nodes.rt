@@ -10,7 +10,6 @@ use ms_ir::Form;
 use ms_read_cursor::{Lexeme, Tokens};
 use ms_read_values::{balanced, meta};
 use ms_text_grammar::{Cause, Symbol};
-use std::alloc::Global;
 
 fn group_of(token: &Lexeme<'_>) -> Result<(), Cause>
     ensures { Judges (spec.group_of token.now) result }
@@ -28,30 +27,30 @@ fn group_of(token: &Lexeme<'_>) -> Result<(), Cause>
 ///
 /// `Syntax` or `Outside` at a token that is another, and those of `balanced` between the braces.
 #[tactic(auto, unfolding(ms_text_grammar::specs::Modules::attribute_group))]
-pub fn attribute_group(alloc: Global, tokens: &mut Tokens<'_>, form: Form) -> Result<(), Cause>
+pub fn attribute_group(tokens: &mut Tokens<'_>, form: Form) -> Result<(), Cause>
     ensures { Gives (run (spec.attribute_group form) tokens.old) result tokens.new }
 {
     group_of(&tokens.lexeme())?;
     tokens.advance();
     tokens.word(Symbol::Equals)?;
     tokens.word(Symbol::OpenBrace)?;
-    balanced(alloc, tokens, form, Symbol::CloseBrace)
+    balanced(tokens, form, Symbol::CloseBrace)
 }
 
 /// A node of metadata, which begins with this symbol.
-fn node_by(alloc: Global, tokens: &mut Tokens<'_>, form: Form, symbol: Symbol) -> Result<(), Cause>
+fn node_by(tokens: &mut Tokens<'_>, form: Form, symbol: Symbol) -> Result<(), Cause>
     ensures { Gives (run (spec.node_by form symbol) tokens.old) result tokens.new }
 {
     match symbol {
         Symbol::Bang => {
             tokens.advance();
             tokens.word(Symbol::OpenBrace)?;
-            balanced(alloc, tokens, form, Symbol::CloseBrace)
+            balanced(tokens, form, Symbol::CloseBrace)
         }
         _ => {
             meta(tokens)?;
             tokens.word(Symbol::OpenParen)?;
-            balanced(alloc, tokens, form, Symbol::CloseParen)
+            balanced(tokens, form, Symbol::CloseParen)
         }
     }
 }
@@ -71,11 +70,11 @@ fn past_distinct(tokens: &mut Tokens<'_>)
 ///
 /// `Syntax` or `Outside` at a token that is another, and those of `balanced` between brackets.
 #[tactic(auto, unfolding(ms_text_grammar::specs::Modules::metadata_entity))]
-pub fn metadata_entity(alloc: Global, tokens: &mut Tokens<'_>, form: Form) -> Result<(), Cause>
+pub fn metadata_entity(tokens: &mut Tokens<'_>, form: Form) -> Result<(), Cause>
     ensures { Gives (run (spec.metadata_entity form) tokens.old) result tokens.new }
 {
     tokens.word(Symbol::Equals)?;
     past_distinct(tokens);
     let symbol = tokens.peek();
-    node_by(alloc, tokens, form, symbol)
+    node_by(tokens, form, symbol)
 }

@@ -30,22 +30,15 @@ pub fn no_parts(alloc: Global) -> Parts
 
 /// Reads entity after entity, as long as the next token begins one, and adds them to the parts.
 #[tactic(auto, using(ms_lex::proofs::Loops::loop_goes, ms_lex::proofs::Loops::loop_ends, ms_lex::proofs::Loops::loop_stops, ms_lex::proofs::Loops::loop_moves, ms_lex::proofs::Loops::loop_all))]
-fn entities(
-    alloc: Global,
-    tokens: &mut Tokens<'_>,
-    form: Form,
-    parts: &mut Parts,
-) -> Result<(), Cause>
+fn entities(tokens: &mut Tokens<'_>, form: Form, parts: &mut Parts) -> Result<(), Cause>
     requires { parts.old.count ≤ max_instructions form }
     ensures { Leaves (run (loop (spec.entity_begins form) (spec.entity form) parts.old) tokens.old) result parts.new tokens.new }
 {
     'entities: while tokens.left() > 0 {
-        let first = tokens.lexeme();
-        if !entity_begins(alloc, form, parts, &first)? {
+        if !entity_begins(tokens, form, parts)? {
             return Ok(());
         }
-        tokens.advance();
-        entity(alloc, tokens, form, parts, &first)?;
+        entity(tokens, form, parts)?;
     }
     Ok(())
 }
@@ -76,10 +69,10 @@ fn ended(tokens: &Tokens<'_>, parts: Parts) -> Result<Module, Cause>
 /// At the first token that can't stand, by the number of its cause and in this order where two apply to one token: `Syntax`
 /// or `Outside`, `Reserved`, `Numbering`, `Limit`. Running out of memory may come at any place.
 #[tactic(auto, unfolding(ms_text_grammar::specs::Modules::module_rule))]
-pub fn whole_module(alloc: Global, tokens: &mut Tokens<'_>, form: Form) -> Result<Module, Cause>
+pub fn whole_module(tokens: &mut Tokens<'_>, form: Form) -> Result<Module, Cause>
     ensures { Gives (run (spec.module_rule form) tokens.old) result tokens.new }
 {
-    let mut parts = no_parts(alloc);
-    entities(alloc, tokens, form, &mut parts)?;
+    let mut parts = no_parts(tokens.alloc());
+    entities(tokens, form, &mut parts)?;
     ended(tokens, parts)
 }

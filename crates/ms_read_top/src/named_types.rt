@@ -9,19 +9,13 @@ use ms_ir::{Form, Name, Ty};
 use ms_read_cursor::Tokens;
 use ms_read_values::struct_type;
 use ms_text_grammar::{Cause, Symbol};
-use std::alloc::Global;
 
 /// Reads the struct that a type of this name is, after `type`.
-fn named_struct(
-    alloc: Global,
-    tokens: &mut Tokens<'_>,
-    form: Form,
-    name: Name,
-) -> Result<Boxed<(Name, Ty)>, Cause>
+fn named_struct(tokens: &mut Tokens<'_>, form: Form, name: Name) -> Result<Boxed<(Name, Ty)>, Cause>
     ensures { Gives (run (behind.named_struct form name) tokens.old) result tokens.new }
 {
-    let ty = struct_type(alloc, tokens, form)?;
-    Ok(Boxed::new(alloc, (name, ty))?)
+    let ty = struct_type(tokens, form)?;
+    Ok(Boxed::new(tokens.alloc(), (name, ty))?)
 }
 
 /// Reads `=`, `type` and the struct that a type of this name is, after the name.
@@ -31,7 +25,6 @@ fn named_struct(
 /// `Syntax` or `Outside` at a token that is another, and those of `struct_type`.
 #[tactic(auto, unfolding(ms_text_grammar::specs::Modules::named_type))]
 pub fn named_type(
-    alloc: Global,
     tokens: &mut Tokens<'_>,
     form: Form,
     name: Name,
@@ -40,5 +33,5 @@ pub fn named_type(
 {
     tokens.word(Symbol::Equals)?;
     tokens.word(Symbol::TypeWord)?;
-    named_struct(alloc, tokens, form, name)
+    named_struct(tokens, form, name)
 }

@@ -30,7 +30,6 @@ fn type_name(alloc: Global, form: Form, token: &Lexeme<'_>) -> Result<Name, Caus
 
 /// Reads a named type after its name, which is a token, and adds it to the parts.
 fn type_entity(
-    alloc: Global,
     tokens: &mut Tokens<'_>,
     form: Form,
     parts: &mut Parts,
@@ -40,14 +39,13 @@ fn type_entity(
     ensures exact { Leaves (run (seq (spec.named_type form (name_of_type name.now.symbol name.now)) (λ x. give (spec.with_type parts.old x))) tokens.old) result parts.new tokens.new }
     ensures count { IfOk result (λ _. parts.new.count ≡ parts.old.count) }
 {
-    let name = type_name(alloc, form, name)?;
-    let ty = named_type(alloc, tokens, form, name)?;
-    Ok(add_type(alloc, parts, ty.into_inner())?)
+    let name = type_name(tokens.alloc(), form, name)?;
+    let ty = named_type(tokens, form, name)?;
+    Ok(add_type(tokens.alloc(), parts, ty.into_inner())?)
 }
 
 /// Reads a global after its name, which is a token, and adds it to the parts.
 fn global_entity(
-    alloc: Global,
     tokens: &mut Tokens<'_>,
     form: Form,
     parts: &mut Parts,
@@ -56,18 +54,18 @@ fn global_entity(
     ensures exact { Leaves (run (seq (spec.global_variable form (Name.Text (name_in name.now))) (λ g. give (spec.with_global parts.old g))) tokens.old) result parts.new tokens.new }
     ensures count { IfOk result (λ _. parts.new.count ≡ parts.old.count) }
 {
-    let global = global_variable(alloc, tokens, form, name)?;
-    Ok(add_global(alloc, parts, global.into_inner())?)
+    let global = global_variable(tokens, form, name)?;
+    Ok(add_global(tokens.alloc(), parts, global.into_inner())?)
 }
 
 /// Reads what says nothing of a module's values, after its word: its source, its target or a group of attributes.
-fn heading(alloc: Global, tokens: &mut Tokens<'_>, form: Form, word: Symbol) -> Result<(), Cause>
+fn heading(tokens: &mut Tokens<'_>, form: Form, word: Symbol) -> Result<(), Cause>
     ensures { Gives (run (behind.heading form word) tokens.old) result tokens.new }
 {
     match word {
         Symbol::SourceFilename => source_filename(tokens),
         Symbol::Target => target_entity(tokens),
-        _ => attribute_group(alloc, tokens, form),
+        _ => attribute_group(tokens, form),
     }
 }
 
@@ -80,7 +78,6 @@ fn heading(alloc: Global, tokens: &mut Tokens<'_>, form: Form, word: Symbol) -> 
 /// `global_variable` and `metadata_entity`.
 #[tactic(auto, unfolding(ms_text_grammar::specs::Modules::entity, ms_text_grammar::specs::Modules::entity_begins))]
 pub fn other_entity(
-    alloc: Global,
     tokens: &mut Tokens<'_>,
     form: Form,
     parts: &mut Parts,
@@ -94,13 +91,13 @@ pub fn other_entity(
 {
     match first.symbol() {
         Symbol::SourceFilename | Symbol::Target | Symbol::Attributes => {
-            heading(alloc, tokens, form, first.symbol())?;
+            heading(tokens, form, first.symbol())?;
             Ok(())
         }
-        Symbol::Local | Symbol::NumberedLocal => { type_entity(alloc, tokens, form, parts, first) }
-        Symbol::Global => global_entity(alloc, tokens, form, parts, first),
+        Symbol::Local | Symbol::NumberedLocal => { type_entity(tokens, form, parts, first) }
+        Symbol::Global => global_entity(tokens, form, parts, first),
         _ => {
-            metadata_entity(alloc, tokens, form)?;
+            metadata_entity(tokens, form)?;
             Ok(())
         }
     }

@@ -41,24 +41,20 @@ impl Turn for Between {
 
     ghost body = { λ rule. balanced_turn };
 
-    fn goes_on(&self, alloc: Global, state: &Awaited, first: &Lexeme<'_>) -> Result<bool, Cause> {
-        let symbol = first.symbol();
+    fn goes_on(&self, state: &Awaited, tokens: &Tokens<'_>) -> Result<bool, Cause> {
+        let symbol = tokens.peek();
         if is_closer(symbol) {
             Ok(state.awaits(symbol))
         } else {
-            may_skip(alloc, self.form, first)
+            may_skip(tokens.alloc(), self.form, &tokens.lexeme())
         }
     }
 
-    fn turn(
-        &self,
-        _alloc: Global,
-        state: Awaited,
-        first: &Lexeme<'_>,
-        _tokens: &mut Tokens<'_>,
-    ) -> Result<Awaited, Cause> {
+    fn turn(&self, state: Awaited, tokens: &mut Tokens<'_>) -> Result<Awaited, Cause> {
+        let symbol = tokens.peek();
+        tokens.advance();
         let mut state = state;
-        state.take(first.symbol())?;
+        state.take(symbol)?;
         Ok(state)
     }
 }
@@ -70,15 +66,10 @@ impl Turn for Between {
 /// At the first token that can't stand: `Reserved` at a name that the form doesn't have, `Limit(Name)` at one that is too
 /// long, and `Syntax` at another closing bracket or at the end of the text.
 #[tactic(auto, unfolding(ms_text_grammar::specs::Skipped::balanced))]
-pub fn balanced(
-    alloc: Global,
-    tokens: &mut Tokens<'_>,
-    form: Form,
-    closing: Symbol,
-) -> Result<(), Cause>
+pub fn balanced(tokens: &mut Tokens<'_>, form: Form, closing: Symbol) -> Result<(), Cause>
     ensures { Gives (run (spec.balanced form closing) tokens.old) result tokens.new }
 {
-    let awaited = repeat(alloc, tokens, &Between { form }, Awaited::nothing(alloc))?;
+    let awaited = repeat(tokens, &Between { form }, Awaited::nothing(tokens.alloc()))?;
     if !awaited.is_nothing() {
         return Err(tokens.refusal());
     }
@@ -87,12 +78,12 @@ pub fn balanced(
 
 /// Reads `(` and tokens in which brackets match up to `)`, where `(` comes next. Its errors are those of `balanced`.
 #[tactic(auto, unfolding(ms_text_grammar::specs::Skipped::in_parens))]
-pub fn in_parens(alloc: Global, tokens: &mut Tokens<'_>, form: Form) -> Result<(), Cause>
+pub fn in_parens(tokens: &mut Tokens<'_>, form: Form) -> Result<(), Cause>
     ensures { Gives (run (spec.in_parens form) tokens.old) result tokens.new }
 {
     if tokens.sees(Symbol::OpenParen) {
         tokens.advance();
-        balanced(alloc, tokens, form, Symbol::CloseParen)?;
+        balanced(tokens, form, Symbol::CloseParen)?;
     }
     Ok(())
 }

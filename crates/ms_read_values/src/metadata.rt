@@ -6,7 +6,6 @@ ghost use Rattle.ms_read_cursor.specs.Reading.{Gives, Judges, run};
 use ms_ir::Form;
 use ms_read_cursor::{Lexeme, Tokens, Turn, repeat};
 use ms_text_grammar::{Cause, Symbol};
-use std::alloc::Global;
 
 /// Whether the mark may be attached.
 fn mark_allowed(form: Form) -> Result<bool, Cause>
@@ -80,25 +79,20 @@ impl Turn for OneAttachment {
 
     ghost body = { λ rule u t. meta };
 
-    fn goes_on(&self, _alloc: Global, _state: &(), first: &Lexeme<'_>) -> Result<bool, Cause> {
-        attached_by(self.form, first.symbol())
+    fn goes_on(&self, _state: &(), tokens: &Tokens<'_>) -> Result<bool, Cause> {
+        attached_by(self.form, tokens.peek())
     }
 
-    fn turn(
-        &self,
-        _alloc: Global,
-        _state: (),
-        _first: &Lexeme<'_>,
-        tokens: &mut Tokens<'_>,
-    ) -> Result<(), Cause> {
+    fn turn(&self, _state: (), tokens: &mut Tokens<'_>) -> Result<(), Cause> {
+        tokens.advance();
         meta(tokens)
     }
 }
 
 /// Reads pairs of names of metadata, as many as come. Its errors are those of `attached_by` and `meta`.
 #[tactic(auto, unfolding(ms_text_grammar::specs::Skipped::attachments))]
-pub fn attachments(alloc: Global, tokens: &mut Tokens<'_>, form: Form) -> Result<(), Cause>
+pub fn attachments(tokens: &mut Tokens<'_>, form: Form) -> Result<(), Cause>
     ensures { Gives (run (spec.attachments form) tokens.old) result tokens.new }
 {
-    repeat(alloc, tokens, &OneAttachment { form }, ())
+    repeat(tokens, &OneAttachment { form }, ())
 }

@@ -14,7 +14,6 @@ use ms_bits::{Boxed, List, NoMemory};
 use ms_ir::{Form, Name, Operand, Ty};
 use ms_read_cursor::{Lexeme, Tokens, Turn, global, repeat, with_last};
 use ms_text_grammar::{Cause, Limit, Symbol};
-use std::alloc::Global;
 
 fn is_gep_word(symbol: Symbol) -> bool
     ensures { result ≡ spec.is_gep_word symbol }
@@ -32,27 +31,22 @@ impl Turn for StepWords {
 
     ghost body = { λ _ u _. give u };
 
-    fn goes_on(&self, _alloc: Global, _state: &(), first: &Lexeme<'_>) -> Result<bool, Cause> {
-        Ok(is_gep_word(first.symbol()))
+    fn goes_on(&self, _state: &(), tokens: &Tokens<'_>) -> Result<bool, Cause> {
+        Ok(is_gep_word(tokens.peek()))
     }
 
-    fn turn(
-        &self,
-        _alloc: Global,
-        _state: (),
-        _first: &Lexeme<'_>,
-        _tokens: &mut Tokens<'_>,
-    ) -> Result<(), Cause> {
+    fn turn(&self, _state: (), tokens: &mut Tokens<'_>) -> Result<(), Cause> {
+        tokens.advance();
         Ok(())
     }
 }
 
 /// Reads over the words that may stand after `getelementptr`.
 #[tactic(auto, unfolding(ms_text_grammar::specs::Values::gep_words))]
-pub fn gep_words(alloc: Global, tokens: &mut Tokens<'_>) -> Result<(), Cause>
+pub fn gep_words(tokens: &mut Tokens<'_>) -> Result<(), Cause>
     ensures { Gives (run spec.gep_words tokens.old) result tokens.new }
 {
-    repeat(alloc, tokens, &StepWords, ())
+    repeat(tokens, &StepWords, ())
 }
 
 /// The type of an index in front of which so many stand.
@@ -105,32 +99,26 @@ impl Turn for ConstantIndices {
 
     ghost body = { λ _ found _. spec.constant_index found };
 
-    fn goes_on(
-        &self,
-        _alloc: Global,
-        _state: &List<(Ty, u64)>,
-        first: &Lexeme<'_>,
-    ) -> Result<bool, Cause> {
-        Ok(first.is(Symbol::Comma))
+    fn goes_on(&self, _state: &List<(Ty, u64)>, tokens: &Tokens<'_>) -> Result<bool, Cause> {
+        Ok(tokens.sees(Symbol::Comma))
     }
 
     fn turn(
         &self,
-        _alloc: Global,
         state: List<(Ty, u64)>,
-        _first: &Lexeme<'_>,
         tokens: &mut Tokens<'_>,
     ) -> Result<List<(Ty, u64)>, Cause> {
+        tokens.advance();
         constant_index(tokens, state)
     }
 }
 
 #[tactic(auto, unfolding(ms_text_grammar::specs::Values::constant_indices))]
-fn constant_indices(alloc: Global, tokens: &mut Tokens<'_>) -> Result<List<(Ty, u64)>, Cause>
+fn constant_indices(tokens: &mut Tokens<'_>) -> Result<List<(Ty, u64)>, Cause>
     ensures { Gives (run spec.constant_indices tokens.old) result tokens.new }
 {
-    let none = List::from_vec(Vec::new(alloc));
-    repeat(alloc, tokens, &ConstantIndices, none)
+    let none = List::from_vec(Vec::new(tokens.alloc()));
+    repeat(tokens, &ConstantIndices, none)
 }
 
 /// A global, and the steps that lead on from it, the outermost first.
@@ -147,10 +135,10 @@ fn around(address: Stepped, ty: Ty, indices: List<(Ty, u64)>) -> Result<Stepped,
 }
 
 /// Reads the indices after the base, and `)`.
-fn step_end(alloc: Global, tokens: &mut Tokens<'_>, ty: Ty, from: Stepped) -> Result<Stepped, Cause>
+fn step_end(tokens: &mut Tokens<'_>, ty: Ty, from: Stepped) -> Result<Stepped, Cause>
     ensures { Gives (run (rest.step_end ty from) tokens.old) result tokens.new }
 {
-    let indices = constant_indices(alloc, tokens)?;
+    let indices = constant_indices(tokens)?;
     tokens.word(Symbol::CloseParen)?;
     Ok(around(from, ty, indices)?)
 }
@@ -158,7 +146,6 @@ fn step_end(alloc: Global, tokens: &mut Tokens<'_>, ty: Ty, from: Stepped) -> Re
 /// Reads `, ptr`, the base, the indices and `)` after the type.
 #[cycle(bases)]
 fn step_rest(
-    alloc: Global,
     tokens: &mut Tokens<'_>,
     form: Form,
     depth: u8,
@@ -169,53 +156,41 @@ fn step_rest(
 {
     tokens.word(Symbol::Comma)?;
     tokens.word(Symbol::PtrType)?;
-    let from = base_to(alloc, tokens, form, depth, within)?;
-    step_end(alloc, tokens, ty, from)
+    let from = base_to(tokens, form, depth, within)?;
+    step_end(tokens, ty, from)
 }
 
 /// What stands after `getelementptr` in a constant, in whose base so many more may stand.
 #[cycle(bases)]
 #[tactic(auto, unfolding(ms_text_grammar::specs::Values::gep_from))]
-fn gep_from(
-    alloc: Global,
-    tokens: &mut Tokens<'_>,
-    form: Form,
-    depth: u8,
-    within: u8,
-) -> Result<Stepped, Cause>
+fn gep_from(tokens: &mut Tokens<'_>, form: Form, depth: u8, within: u8) -> Result<Stepped, Cause>
     ensures { Gives (run (spec.gep_from form depth (spec.base_to form depth within)) tokens.old) result tokens.new }
 {
-    gep_words(alloc, tokens)?;
+    gep_words(tokens)?;
     tokens.word(Symbol::OpenParen)?;
-    let ty = type_to(alloc, tokens, form, depth)?;
-    step_rest(alloc, tokens, form, depth, within, ty)
+    let ty = type_to(tokens, form, depth)?;
+    step_rest(tokens, form, depth, within, ty)
 }
 
 /// Another `getelementptr` as a base, where so many may stand.
 #[cycle(bases)]
 #[tactic(auto, using(crate::proofs::Bases::inner_ends, crate::proofs::Bases::inner_goes))]
-fn inner_step(
-    alloc: Global,
-    tokens: &mut Tokens<'_>,
-    form: Form,
-    depth: u8,
-    within: u8,
-) -> Result<Stepped, Cause>
+fn inner_step(tokens: &mut Tokens<'_>, form: Form, depth: u8, within: u8) -> Result<Stepped, Cause>
     ensures { Gives (run (rest.inner_step form depth within) tokens.old) result tokens.new }
 {
     if within == 0 {
         return Err(Cause::Limit(Limit::Indices));
     }
     tokens.advance();
-    gep_from(alloc, tokens, form, depth, within - 1)
+    gep_from(tokens, form, depth, within - 1)
 }
 
 /// A global as a base.
-fn global_base(alloc: Global, tokens: &mut Tokens<'_>, form: Form) -> Result<Stepped, Cause>
+fn global_base(tokens: &mut Tokens<'_>, form: Form) -> Result<Stepped, Cause>
     ensures { Gives (run (rest.global_base form) tokens.old) result tokens.new }
 {
-    let base = Boxed::new(alloc, global(alloc, tokens, form)?)?;
-    Ok((base, List::from_vec(Vec::new(alloc))))
+    let base = Boxed::new(tokens.alloc(), global(tokens, form)?)?;
+    Ok((base, List::from_vec(Vec::new(tokens.alloc()))))
 }
 
 /// The base of a `getelementptr`, in which so many more may stand within one another.
@@ -225,31 +200,20 @@ fn global_base(alloc: Global, tokens: &mut Tokens<'_>, form: Form) -> Result<Ste
 /// `Limit(Indices)` at the one that is too many.
 #[cycle(bases)]
 #[tactic(auto, using(crate::proofs::Bases::base_is))]
-fn base_to(
-    alloc: Global,
-    tokens: &mut Tokens<'_>,
-    form: Form,
-    depth: u8,
-    within: u8,
-) -> Result<Stepped, Cause>
+fn base_to(tokens: &mut Tokens<'_>, form: Form, depth: u8, within: u8) -> Result<Stepped, Cause>
     ensures { Gives (run (spec.base_to form depth within) tokens.old) result tokens.new }
 {
     match tokens.peek() {
-        Symbol::GetElementPtr => inner_step(alloc, tokens, form, depth, within),
-        _ => global_base(alloc, tokens, form),
+        Symbol::GetElementPtr => inner_step(tokens, form, depth, within),
+        _ => global_base(tokens, form),
     }
 }
 
 /// What stands after `getelementptr` in a constant.
 #[tactic(auto, unfolding(ms_text_grammar::specs::Values::offset))]
-pub fn offset(
-    alloc: Global,
-    tokens: &mut Tokens<'_>,
-    form: Form,
-    depth: u8,
-) -> Result<Operand, Cause>
+pub fn offset(tokens: &mut Tokens<'_>, form: Form, depth: u8) -> Result<Operand, Cause>
     ensures { Gives (run (spec.offset form depth) tokens.old) result tokens.new }
 {
-    let (base, steps) = gep_from(alloc, tokens, form, depth, 63)?;
+    let (base, steps) = gep_from(tokens, form, depth, 63)?;
     Ok(Operand::Offset(base, steps))
 }

@@ -10,37 +10,29 @@ ghost use Rattle.ms_read_values.specs.Rests as rest;
 use crate::brackets::{balanced, in_parens};
 use crate::metadata::{kind_of, meta};
 use ms_ir::Form;
-use ms_read_cursor::{Lexeme, Tokens, Turn, repeat};
+use ms_read_cursor::{Tokens, Turn, repeat};
 use ms_text_grammar::{Cause, Symbol};
-use std::alloc::Global;
 
 /// Reads tokens between braces, where metadata is written in place.
-fn in_place(alloc: Global, tokens: &mut Tokens<'_>, form: Form, marked: bool) -> Result<bool, Cause>
+fn in_place(tokens: &mut Tokens<'_>, form: Form, marked: bool) -> Result<bool, Cause>
     ensures { Gives (run (rest.in_place form marked) tokens.old) result tokens.new }
 {
     tokens.word(Symbol::OpenBrace)?;
-    balanced(alloc, tokens, form, Symbol::CloseBrace)?;
+    balanced(tokens, form, Symbol::CloseBrace)?;
     Ok(marked)
 }
 
 /// Reads a name of metadata, and tokens in parentheses where they come.
-fn by_name(
-    alloc: Global,
-    tokens: &mut Tokens<'_>,
-    form: Form,
-    marked: bool,
-    marks: bool,
-) -> Result<bool, Cause>
+fn by_name(tokens: &mut Tokens<'_>, form: Form, marked: bool, marks: bool) -> Result<bool, Cause>
     ensures { Gives (run (rest.by_name form marked marks) tokens.old) result tokens.new }
 {
     meta(tokens)?;
-    in_parens(alloc, tokens, form)?;
+    in_parens(tokens, form)?;
     Ok(marked || marks)
 }
 
 /// Reads what is after the kind of an attachment, which begins with this symbol. Metadata in place marks nothing.
 fn attached_rest(
-    alloc: Global,
     tokens: &mut Tokens<'_>,
     form: Form,
     marked: bool,
@@ -52,9 +44,9 @@ fn attached_rest(
     match symbol {
         Symbol::Bang => {
             tokens.advance();
-            in_place(alloc, tokens, form, marked)
+            in_place(tokens, form, marked)
         }
-        _ => by_name(alloc, tokens, form, marked, marks),
+        _ => by_name(tokens, form, marked, marks),
     }
 }
 
@@ -65,18 +57,13 @@ fn attached_rest(
 ///
 /// Those of `kind_of` at the kind, of `meta` after it, and of `balanced` in brackets.
 #[tactic(auto, unfolding(ms_text_grammar::specs::Skipped::attached))]
-pub fn attached(
-    alloc: Global,
-    tokens: &mut Tokens<'_>,
-    form: Form,
-    marked: bool,
-) -> Result<bool, Cause>
+pub fn attached(tokens: &mut Tokens<'_>, form: Form, marked: bool) -> Result<bool, Cause>
     ensures { Gives (run (spec.attached form marked) tokens.old) result tokens.new }
 {
     let marks = kind_of(form, &tokens.lexeme())?;
     tokens.advance();
     let symbol = tokens.peek();
-    attached_rest(alloc, tokens, form, marked, marks, symbol)
+    attached_rest(tokens, form, marked, marks, symbol)
 }
 
 /// Reads one suffix after its comma. Gives whether the instruction is marked.
@@ -85,12 +72,7 @@ pub fn attached(
 ///
 /// `Syntax` or `Outside` where no number is after `align`, and those of `attached`.
 #[tactic(auto, unfolding(ms_text_grammar::specs::Skipped::suffix))]
-pub fn suffix(
-    alloc: Global,
-    tokens: &mut Tokens<'_>,
-    form: Form,
-    marked: bool,
-) -> Result<bool, Cause>
+pub fn suffix(tokens: &mut Tokens<'_>, form: Form, marked: bool) -> Result<bool, Cause>
     ensures { Gives (run (spec.suffix form marked) tokens.old) result tokens.new }
 {
     match tokens.peek() {
@@ -99,7 +81,7 @@ pub fn suffix(
             tokens.word(Symbol::Number)?;
             Ok(marked)
         }
-        _ => attached(alloc, tokens, form, marked),
+        _ => attached(tokens, form, marked),
     }
 }
 
@@ -118,46 +100,31 @@ impl Turn for OneSuffix {
 
     ghost body = { λ rule marked comma. suffix rule.form marked };
 
-    fn goes_on(&self, _alloc: Global, _state: &bool, first: &Lexeme<'_>) -> Result<bool, Cause> {
-        Ok(first.is(Symbol::Comma))
+    fn goes_on(&self, _state: &bool, tokens: &Tokens<'_>) -> Result<bool, Cause> {
+        Ok(tokens.sees(Symbol::Comma))
     }
 
-    fn turn(
-        &self,
-        alloc: Global,
-        state: bool,
-        _first: &Lexeme<'_>,
-        tokens: &mut Tokens<'_>,
-    ) -> Result<bool, Cause> {
-        suffix(alloc, tokens, self.form, state)
+    fn turn(&self, state: bool, tokens: &mut Tokens<'_>) -> Result<bool, Cause> {
+        tokens.advance();
+        suffix(tokens, self.form, state)
     }
 }
 
 /// Reads suffixes with a comma in front of each, as many as come. Gives whether the instruction is marked. Its errors are
 /// those of `suffix`.
 #[tactic(auto, unfolding(ms_text_grammar::specs::Skipped::suffixes))]
-pub fn suffixes(
-    alloc: Global,
-    tokens: &mut Tokens<'_>,
-    form: Form,
-    marked: bool,
-) -> Result<bool, Cause>
+pub fn suffixes(tokens: &mut Tokens<'_>, form: Form, marked: bool) -> Result<bool, Cause>
     ensures { Gives (run (spec.suffixes form marked) tokens.old) result tokens.new }
 {
-    repeat(alloc, tokens, &OneSuffix { form }, marked)
+    repeat(tokens, &OneSuffix { form }, marked)
 }
 
 /// The suffix whose comma was read already, if one was.
-fn first_suffix(
-    alloc: Global,
-    tokens: &mut Tokens<'_>,
-    form: Form,
-    begun: bool,
-) -> Result<bool, Cause>
+fn first_suffix(tokens: &mut Tokens<'_>, form: Form, begun: bool) -> Result<bool, Cause>
     ensures { Gives (run (cond begun (spec.suffix form false) (give false)) tokens.old) result tokens.new }
 {
     if begun {
-        suffix(alloc, tokens, form, false)
+        suffix(tokens, form, false)
     } else {
         Ok(false)
     }
@@ -166,14 +133,9 @@ fn first_suffix(
 /// Reads the suffixes of an instruction; the comma of the first was read already, where `begun`. Gives whether the
 /// instruction is marked. Its errors are those of `suffix`.
 #[tactic(auto, unfolding(ms_text_grammar::specs::Skipped::suffixes_from))]
-pub fn suffixes_from(
-    alloc: Global,
-    tokens: &mut Tokens<'_>,
-    form: Form,
-    begun: bool,
-) -> Result<bool, Cause>
+pub fn suffixes_from(tokens: &mut Tokens<'_>, form: Form, begun: bool) -> Result<bool, Cause>
     ensures { Gives (run (spec.suffixes_from form begun) tokens.old) result tokens.new }
 {
-    let marked = first_suffix(alloc, tokens, form, begun)?;
-    suffixes(alloc, tokens, form, marked)
+    let marked = first_suffix(tokens, form, begun)?;
+    suffixes(tokens, form, marked)
 }

@@ -12,7 +12,6 @@ use ms_bits::{Boxed, List};
 use ms_ir::{Form, Ty};
 use ms_read_cursor::{Lexeme, Tokens, local, same_symbol, single, with_last};
 use ms_text_grammar::{Cause, Limit, Outside, Symbol};
-use std::alloc::Global;
 
 /// The width of the integer type that a token is.
 pub fn int_type_of(token: &Lexeme<'_>) -> Result<u8, Cause>
@@ -113,7 +112,7 @@ fn count(tokens: &mut Tokens<'_>) -> Result<u64, Cause>
 }
 
 /// What opens no bracket.
-fn flat(alloc: Global, tokens: &mut Tokens<'_>, form: Form) -> Result<Ty, Cause>
+fn flat(tokens: &mut Tokens<'_>, form: Form) -> Result<Ty, Cause>
     ensures { Gives (run (spec.flat form (front tokens.old).symbol) tokens.old) result tokens.new }
 {
     match tokens.peek() {
@@ -122,7 +121,7 @@ fn flat(alloc: Global, tokens: &mut Tokens<'_>, form: Form) -> Result<Ty, Cause>
             Ok(ty.ty())
         }
         Symbol::Local | Symbol::NumberedLocal => {
-            let name = local(alloc, tokens, form)?;
+            let name = local(tokens, form)?;
             Ok(Ty::Named(name))
         }
         _ => Err(tokens.refusal()),
@@ -138,13 +137,13 @@ pub fn opens(symbol: Symbol) -> bool
     )
 }
 
-fn too_deep(alloc: Global, tokens: &mut Tokens<'_>, form: Form) -> Result<Ty, Cause>
+fn too_deep(tokens: &mut Tokens<'_>, form: Form) -> Result<Ty, Cause>
     ensures { Gives (run (spec.too_deep form (front tokens.old).symbol) tokens.old) result tokens.new }
 {
     if opens(tokens.peek()) {
         return Err(Cause::Limit(Limit::Types));
     }
-    flat(alloc, tokens, form)
+    flat(tokens, form)
 }
 
 fn brace_of(token: &Lexeme<'_>) -> Result<(), Cause>
@@ -180,92 +179,81 @@ pub fn packed_brace(tokens: &mut Tokens<'_>) -> Result<(), Cause>
 /// `Limit(Types)` at the token that opens one more.
 #[cycle(types)]
 #[tactic(auto, using(crate::proofs::Depths::type_ends, crate::proofs::Depths::type_nests))]
-pub fn type_to(alloc: Global, tokens: &mut Tokens<'_>, form: Form, depth: u8) -> Result<Ty, Cause>
+pub fn type_to(tokens: &mut Tokens<'_>, form: Form, depth: u8) -> Result<Ty, Cause>
     ensures { Gives (run (spec.type_to form depth) tokens.old) result tokens.new }
 {
     if depth == 0 {
-        return too_deep(alloc, tokens, form);
+        return too_deep(tokens, form);
     }
-    nested(alloc, tokens, form, depth - 1)
+    nested(tokens, form, depth - 1)
 }
 
 /// Takes a type in which at most so many arrays and structs may still open, onto the heap. Its errors are those of `type_to`.
-pub fn boxed_type(
-    alloc: Global,
-    tokens: &mut Tokens<'_>,
-    form: Form,
-    depth: u8,
-) -> Result<Boxed<Ty>, Cause>
+pub fn boxed_type(tokens: &mut Tokens<'_>, form: Form, depth: u8) -> Result<Boxed<Ty>, Cause>
     ensures { Gives (run (spec.type_to form depth) tokens.old) result tokens.new }
 {
-    let ty = type_to(alloc, tokens, form, depth)?;
-    Ok(Boxed::new(alloc, ty)?)
+    let ty = type_to(tokens, form, depth)?;
+    Ok(Boxed::new(tokens.alloc(), ty)?)
 }
 
 /// A type by its first token, with its parts.
 #[cycle(types)]
-fn nested(alloc: Global, tokens: &mut Tokens<'_>, form: Form, depth: u8) -> Result<Ty, Cause>
+fn nested(tokens: &mut Tokens<'_>, form: Form, depth: u8) -> Result<Ty, Cause>
     ensures { Gives (run (spec.nested form (spec.type_to form depth) (front tokens.old).symbol) tokens.old) result tokens.new }
 {
     match tokens.peek() {
         Symbol::OpenBracket => {
             tokens.advance();
-            array_rest(alloc, tokens, form, depth)
+            array_rest(tokens, form, depth)
         }
         Symbol::OpenBrace => {
             tokens.advance();
-            struct_rest(alloc, tokens, form, depth)
+            struct_rest(tokens, form, depth)
         }
         Symbol::Less => {
             tokens.advance();
-            packed_rest(alloc, tokens, form, depth)
+            packed_rest(tokens, form, depth)
         }
-        _ => flat(alloc, tokens, form),
+        _ => flat(tokens, form),
     }
 }
 
 /// Reads the type of an array's items, after their number, and `]`.
 #[cycle(types)]
-fn array_item(
-    alloc: Global,
-    tokens: &mut Tokens<'_>,
-    form: Form,
-    depth: u8,
-    n: u64,
-) -> Result<Ty, Cause>
+fn array_item(tokens: &mut Tokens<'_>, form: Form, depth: u8, n: u64) -> Result<Ty, Cause>
     ensures { Gives (run (rest.array_item (spec.type_to form depth) n) tokens.old) result tokens.new }
 {
-    let item = Boxed::new(alloc, type_to(alloc, tokens, form, depth)?)?;
+    let item = Boxed::new(tokens.alloc(), type_to(tokens, form, depth)?)?;
     tokens.word(Symbol::CloseBracket)?;
     Ok(Ty::Array(n, item))
 }
 
 #[cycle(types)]
 #[tactic(auto, unfolding(ms_text_grammar::specs::Types::array_rest))]
-fn array_rest(alloc: Global, tokens: &mut Tokens<'_>, form: Form, depth: u8) -> Result<Ty, Cause>
+fn array_rest(tokens: &mut Tokens<'_>, form: Form, depth: u8) -> Result<Ty, Cause>
     ensures { Gives (run (spec.array_rest (spec.type_to form depth)) tokens.old) result tokens.new }
 {
     let n = count(tokens)?;
     tokens.word(Symbol::X)?;
-    array_item(alloc, tokens, form, depth, n)
+    array_item(tokens, form, depth, n)
 }
 
 #[cycle(types)]
 #[tactic(auto, unfolding(ms_text_grammar::specs::Types::struct_rest))]
-fn struct_rest(alloc: Global, tokens: &mut Tokens<'_>, form: Form, depth: u8) -> Result<Ty, Cause>
+fn struct_rest(tokens: &mut Tokens<'_>, form: Form, depth: u8) -> Result<Ty, Cause>
     ensures { Gives (run (spec.struct_rest (spec.type_to form depth)) tokens.old) result tokens.new }
 {
-    let all = fields(alloc, tokens, form, depth)?;
+    let all = fields(tokens, form, depth)?;
     Ok(Ty::Struct(false, all))
 }
 
 #[cycle(types)]
 #[tactic(auto, unfolding(ms_text_grammar::specs::Types::packed_rest))]
-fn packed_rest(alloc: Global, tokens: &mut Tokens<'_>, form: Form, depth: u8) -> Result<Ty, Cause>
+fn packed_rest(tokens: &mut Tokens<'_>, form: Form, depth: u8) -> Result<Ty, Cause>
     ensures { Gives (run (spec.packed_rest (spec.type_to form depth)) tokens.old) result tokens.new }
 {
     packed_brace(tokens)?;
-    let all = fields(alloc, tokens, form, depth)?;
+    let all = fields(tokens, form, depth)?;
     tokens.word(Symbol::Greater)?;
     Ok(Ty::Struct(true, all))
 }
@@ -274,7 +262,6 @@ fn packed_rest(alloc: Global, tokens: &mut Tokens<'_>, form: Form, depth: u8) ->
 #[cycle(types)]
 #[tactic(auto, using(ms_read_cursor::proofs::ItemLoops::more_goes, ms_read_cursor::proofs::ItemLoops::more_stops, ms_read_cursor::proofs::ItemLoops::more_ends, ms_read_cursor::proofs::ItemLoops::turn_shorter))]
 fn more_fields(
-    alloc: Global,
     tokens: &mut Tokens<'_>,
     form: Form,
     depth: u8,
@@ -285,7 +272,7 @@ fn more_fields(
     let mut found = start;
     'commas: while tokens.sees(Symbol::Comma) {
         tokens.advance();
-        let ty = type_to(alloc, tokens, form, depth)?;
+        let ty = type_to(tokens, form, depth)?;
         found = with_last(found, ty)?;
     }
     Ok(found)
@@ -294,18 +281,13 @@ fn more_fields(
 /// Types with commas between, up to `}`, which doesn't come first.
 #[cycle(types)]
 #[tactic(auto, using(ms_read_cursor::proofs::ItemLoops::items_whole, ms_read_cursor::proofs::ItemLoops::items_cut, ms_read_cursor::proofs::ItemLoops::items_open, ms_read_cursor::proofs::ItemLoops::items_stop))]
-fn some_fields(
-    alloc: Global,
-    tokens: &mut Tokens<'_>,
-    form: Form,
-    depth: u8,
-) -> Result<List<Ty>, Cause>
+fn some_fields(tokens: &mut Tokens<'_>, form: Form, depth: u8) -> Result<List<Ty>, Cause>
     requires { is CloseBrace (front tokens.old) ≡ false }
     ensures { Gives (run (items CloseBrace (spec.type_to form depth)) tokens.old) result tokens.new }
 {
-    let first = type_to(alloc, tokens, form, depth)?;
-    let start = single(alloc, first)?;
-    let all = more_fields(alloc, tokens, form, depth, start)?;
+    let first = type_to(tokens, form, depth)?;
+    let start = single(tokens.alloc(), first)?;
+    let all = more_fields(tokens, form, depth, start)?;
     tokens.word(Symbol::CloseBrace)?;
     Ok(all)
 }
@@ -313,30 +295,30 @@ fn some_fields(
 /// No type, or types with commas between, up to `}`.
 #[cycle(types)]
 #[tactic(auto, using(ms_read_cursor::proofs::ItemLoops::items_empty))]
-fn fields(alloc: Global, tokens: &mut Tokens<'_>, form: Form, depth: u8) -> Result<List<Ty>, Cause>
+fn fields(tokens: &mut Tokens<'_>, form: Form, depth: u8) -> Result<List<Ty>, Cause>
     ensures { Gives (run (items CloseBrace (spec.type_to form depth)) tokens.old) result tokens.new }
 {
     if tokens.sees(Symbol::CloseBrace) {
         tokens.advance();
-        Ok(List::from_vec(Vec::new(alloc)))
+        Ok(List::from_vec(Vec::new(tokens.alloc())))
     } else {
-        some_fields(alloc, tokens, form, depth)
+        some_fields(tokens, form, depth)
     }
 }
 
 /// Takes the struct that a named type is.
 #[tactic(auto, unfolding(ms_text_grammar::specs::Types::struct_type))]
-pub fn struct_type(alloc: Global, tokens: &mut Tokens<'_>, form: Form) -> Result<Ty, Cause>
+pub fn struct_type(tokens: &mut Tokens<'_>, form: Form) -> Result<Ty, Cause>
     ensures { Gives (run (spec.struct_type form) tokens.old) result tokens.new }
 {
     match tokens.peek() {
         Symbol::OpenBrace => {
             tokens.advance();
-            struct_rest(alloc, tokens, form, 31)
+            struct_rest(tokens, form, 31)
         }
         Symbol::Less => {
             tokens.advance();
-            packed_rest(alloc, tokens, form, 31)
+            packed_rest(tokens, form, 31)
         }
         _ => Err(tokens.refusal()),
     }

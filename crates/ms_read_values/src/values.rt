@@ -119,7 +119,6 @@ pub fn simple_of(
 
 #[tactic(auto, unfolding(ms_text_grammar::specs::Values::simple_value))]
 fn simple_value(
-    alloc: Global,
     tokens: &mut Tokens<'_>,
     form: Form,
     locals: bool,
@@ -127,7 +126,7 @@ fn simple_value(
 ) -> Result<Operand, Cause>
     ensures { Gives (run (spec.simple_value form locals ty.now) tokens.old) result tokens.new }
 {
-    let value = simple_of(alloc, form, locals, ty, &tokens.lexeme())?;
+    let value = simple_of(tokens.alloc(), form, locals, ty, &tokens.lexeme())?;
     tokens.advance();
     Ok(value)
 }
@@ -135,7 +134,6 @@ fn simple_value(
 /// Takes a value of this type, below so many arrays and structs that may still open.
 #[tactic(auto, unfolding(ms_text_grammar::specs::Values::value_within))]
 pub fn value_within(
-    alloc: Global,
     tokens: &mut Tokens<'_>,
     form: Form,
     depth: u8,
@@ -147,45 +145,30 @@ pub fn value_within(
     match tokens.peek() {
         Symbol::GetElementPtr => {
             tokens.advance();
-            offset(alloc, tokens, form, depth)
+            offset(tokens, form, depth)
         }
-        _ => simple_value(alloc, tokens, form, locals, ty),
+        _ => simple_value(tokens, form, locals, ty),
     }
 }
 
 /// Takes a value of any type, where a local may stand.
-pub fn operand(
-    alloc: Global,
-    tokens: &mut Tokens<'_>,
-    form: Form,
-    ty: &Ty,
-) -> Result<Operand, Cause>
+pub fn operand(tokens: &mut Tokens<'_>, form: Form, ty: &Ty) -> Result<Operand, Cause>
     ensures { Gives (run (spec.value form ty.now) tokens.old) result tokens.new }
 {
-    value_within(alloc, tokens, form, 32, true, ty)
+    value_within(tokens, form, 32, true, ty)
 }
 
 /// Takes a value of any type, where a local may stand, onto the heap.
-fn boxed_operand(
-    alloc: Global,
-    tokens: &mut Tokens<'_>,
-    form: Form,
-    ty: &Ty,
-) -> Result<Boxed<Operand>, Cause>
+fn boxed_operand(tokens: &mut Tokens<'_>, form: Form, ty: &Ty) -> Result<Boxed<Operand>, Cause>
     ensures { Gives (run (spec.value form ty.now) tokens.old) result tokens.new }
 {
-    let operand = operand(alloc, tokens, form, ty)?;
-    Ok(Boxed::new(alloc, operand)?)
+    let operand = operand(tokens, form, ty)?;
+    Ok(Boxed::new(tokens.alloc(), operand)?)
 }
 
 /// Takes an operand of an instruction, after its type.
-pub fn value(
-    alloc: Global,
-    tokens: &mut Tokens<'_>,
-    form: Form,
-    ty: ValueType,
-) -> Result<Boxed<Operand>, Cause>
+pub fn value(tokens: &mut Tokens<'_>, form: Form, ty: ValueType) -> Result<Boxed<Operand>, Cause>
     ensures { Gives (run (spec.value form ty) tokens.old) result tokens.new }
 {
-    boxed_operand(alloc, tokens, form, &ty.ty())
+    boxed_operand(tokens, form, &ty.ty())
 }

@@ -13,7 +13,7 @@ use ms_bits::NoMemory;
 use ms_debug::Debug;
 use ms_ir::Module;
 use ms_lex::Token;
-use ms_places::Mark;
+use ms_places::{Mark, MarkedText};
 use ms_variables::Variables;
 use std::alloc::Global;
 use std::marker::Model;
@@ -57,10 +57,11 @@ fn push_instruction(
     requires newlines { newlines.now ≡ newlines_before_tokens debug.now.text debug.now.tokens }
     ensures { IfOk result (λ _. out.new.items ≡ out.old.items ++ spec.lines_of_instruction file.now debug.now place) }
 {
-    match debug.marks().get(place) {
+    let marked = debug.marked();
+    match marked.mark(place) {
         None => Ok(()),
         Some(mark) => {
-            push_text_line(out, file, debug, newlines, mark)?;
+            push_text_line(out, file, marked, newlines, mark)?;
             push_source(out, debug, variables, place, mark)
         }
     }
@@ -86,8 +87,9 @@ impl<'a> SourceMap<'a> {
         ensures { IfOk result (λ map. spec.lines_at map
             ≡ spec.lines_of_site file.now (record { text = text.now; tokens = tokens.now; marks = marks.now }) m.now) }
     {
-        let debug = Debug::new(alloc, text, tokens, marks)?;
-        let variables = Variables::new(alloc, text, tokens, marks)?;
+        let marked = MarkedText::new(text, tokens, marks);
+        let debug = Debug::new(alloc, marked.copy())?;
+        let variables = Variables::new(alloc, marked)?;
         let sites = site_places(alloc, m, marks)?;
         let newlines = newlines_before_tokens(alloc, text, tokens)?;
         Ok(SourceMap {

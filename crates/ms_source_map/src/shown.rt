@@ -4,8 +4,8 @@ ghost use Rattle.std.specs.Prelude.{◌≡◌, ◌+◌, ◌<◌, ◌^◌, ◌++�
 ghost use Rattle.ms_source_map.specs.Shown as spec;
 
 use ms_bits::NoMemory;
-use ms_debug::{Debug, push_printed};
-use ms_places::Mark;
+use ms_debug::push_printed;
+use ms_places::{Mark, MarkedText};
 use ms_write_values::push_number;
 
 /// How many bytes of an instruction are shown.
@@ -22,20 +22,20 @@ fn begins_metadata(bytes: &[u8]) -> bool
 }
 
 /// Whether a token is a comma that metadata follows.
-fn begins_attachment(debug: &Debug<'_>, token: u32) -> bool
-    requires { token + 1 < 2 ^ 32 }
-    ensures { result ≡ spec.begins_attachment debug.now token }
+fn begins_attachment(marked: &MarkedText<'_>, token: usize) -> bool
+    requires { token + 1 < 2 ^ 64 }
+    ensures { result ≡ spec.begins_attachment marked.now token }
 {
-    debug.spelling(token) == b",".as_slice() && begins_metadata(debug.spelling(token + 1))
+    marked.is_spelled(b",", token) && begins_metadata(marked.spelling(token + 1))
 }
 
 /// The number of the token after those of an instruction without what is attached to it.
 #[tactic(auto, using(crate::proofs::Ranges::passed, crate::proofs::Ranges::found, crate::proofs::Ranges::over), unfolding(crate::specs::Shown::shown_end))]
-fn shown_end(debug: &Debug<'_>, mark: &Mark) -> u32
-    ensures { result ≡ spec.shown_end debug.now mark.now }
+fn shown_end(marked: &MarkedText<'_>, mark: &Mark) -> u32
+    ensures { result ≡ spec.shown_end marked.now mark.now }
 {
     for token in mark.first..mark.behind {
-        if begins_attachment(debug, token) {
+        if begins_attachment(marked, token as usize) {
             return token;
         }
     }
@@ -73,14 +73,14 @@ fn bytes_in(text: &[u8], start: usize, end: usize) -> &[u8]
 
 /// The bytes of an instruction without what is attached to it.
 #[tactic(auto, unfolding(crate::specs::Shown::instruction_bytes))]
-fn instruction_bytes<'a>(debug: &Debug<'a>, mark: &Mark) -> &'a [u8]
-    ensures { result.now ≡ spec.instruction_bytes debug.now mark.now }
+fn instruction_bytes<'a>(marked: &MarkedText<'a>, mark: &Mark) -> &'a [u8]
+    ensures { result.now ≡ spec.instruction_bytes marked.now mark.now }
 {
-    let tokens = debug.tokens();
-    let last = shown_end(debug, mark).saturating_sub(1);
+    let tokens = marked.tokens();
+    let last = shown_end(marked, mark).saturating_sub(1);
     match (tokens.get(mark.first as usize), tokens.get(last as usize)) {
         (Some(first), Some(last)) => {
-            bytes_in(debug.text(), first.start as usize, last.end as usize)
+            bytes_in(marked.text(), first.start as usize, last.end as usize)
         }
         _ => &[],
     }
@@ -145,18 +145,18 @@ fn push_numbered_line(
 pub fn push_text_line(
     out: &mut Vec<u8>,
     file: &[u8],
-    debug: &Debug<'_>,
+    marked: &MarkedText<'_>,
     newlines: &[u32],
     mark: &Mark,
 ) -> Result<(), NoMemory>
-    requires { newlines.now ≡ spec.newlines_before_tokens debug.now.text debug.now.tokens }
-    ensures { IfOk result (λ _. out.new.items ≡ out.old.items ++ spec.text_line file.now debug.now mark.now) }
+    requires { newlines.now ≡ spec.newlines_before_tokens marked.now.text marked.now.tokens }
+    ensures { IfOk result (λ _. out.new.items ≡ out.old.items ++ spec.text_line file.now marked.now mark.now) }
 {
     match newlines.get(mark.first as usize) {
         None => Ok(()),
         Some(newlines) => {
             let number = *newlines as u64 + 1;
-            push_numbered_line(out, file, number, instruction_bytes(debug, mark))
+            push_numbered_line(out, file, number, instruction_bytes(marked, mark))
         }
     }
 }

@@ -46,7 +46,7 @@ fn push_declared(out: &mut Vec<u8>, debug: &Debug<'_>, place: Option<usize>) -> 
 {
     match place {
         None => Ok(()),
-        Some(place) => match debug.marks().get(place) {
+        Some(place) => match debug.marked().mark(place) {
             None => Ok(()),
             Some(declaration) => push_variable(out, debug, declaration),
         },

@@ -1,7 +1,7 @@
 //! The lines that show where each site stands.
 ghost use Rattle.std.specs.Prelude.{◌≡◌, length, IfOk};
 ghost use Rattle.ms_lex.specs.Tokens.{InOrder};
-ghost use Rattle.ms_text_grammar.specs.Texts.{HasTokens, max_tokens as most_tokens};
+ghost use Rattle.ms_text_grammar.specs.Texts.{HasTokens};
 ghost use Rattle.ms_places.specs.Marks.{AreMarks};
 ghost use Rattle.ms_source_map.specs.Lines.{lines_at, lines_of_site};
 ghost use Rattle.ms_top.specs.Parts.{IsModuleText};
@@ -10,6 +10,7 @@ use ms_bits::NoMemory;
 use ms_ir::{Form, Module};
 use ms_lex::{LexError, Token, tokens};
 use ms_places::{Mark, marks_in};
+use ms_read_top::max_tokens;
 use ms_report::SiteLines;
 use ms_source_map::SourceMap;
 use ms_text_grammar::Cause;
@@ -63,17 +64,6 @@ impl Places {
     {
         let map = SourceMap::new(alloc, file, text, &self.tokens, &self.marks, m)?;
         Ok(Located { map })
-    }
-}
-
-/// How many tokens a text may have.
-#[tactic(auto, unfolding(ms_text_grammar::specs::Texts::max_tokens))]
-fn max_tokens(form: Form) -> u32
-    ensures { result ≡ most_tokens form }
-{
-    match form {
-        Form::Plain => 1 << 20,
-        Form::Instrumented => 1 << 25,
     }
 }
 

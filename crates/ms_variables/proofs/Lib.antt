@@ -1,4 +1,3 @@
-pub mod Spelled
 pub mod LastSpelled
 pub mod Functions
 pub mod Noting

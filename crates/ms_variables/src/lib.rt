@@ -5,7 +5,7 @@
 //! Records").
 #![tactic(auto)]
 
-mod marked;
+mod locals;
 mod table;
 
 pub use table::Variables;

@@ -2,14 +2,12 @@
 
 ghost use Rattle.std.specs.Prelude.{◌≡◌, ◌+◌, ◌≤◌, ◌<◌, ◌^◌, length, if◌then◌else◌, IfOk, OnOk};
 ghost use Rattle.std.specs.Option.{option_and_then};
-ghost use Rattle.ms_lex.specs.Tokens.{InOrder};
 ghost use Rattle.ms_variables.specs.{Noted.{Notes, HasFirst}, Views.{IsTable}};
 ghost use Rattle.ms_variables.specs.Variables as spec;
 
-use crate::marked::MarkedText;
+use crate::locals::{declared_in, local_of};
 use ms_bits::NoMemory;
-use ms_lex::Token;
-use ms_places::{Kind, Mark};
+use ms_places::{Kind, Mark, MarkedText};
 use std::alloc::Global;
 use std::collections::HashMap;
 use std::marker::Model;
@@ -54,7 +52,7 @@ fn note_mark<'a>(
 ) -> Result<(), NoMemory>
     ensures { OnOk result (Notes records.old records.new function (spec.declared_in marked.now mark.now) place) }
 {
-    match marked.declared_in(mark) {
+    match declared_in(marked, mark) {
         None => Ok(()),
         Some(local) => note(records, function, local, place),
     }
@@ -84,7 +82,7 @@ fn record_for<'a>(
     requires { HasFirst marked.now (length marked.now.marks) records.now }
     ensures { result ≡ option_and_then (spec.record_in marked.now function) (spec.local_of marked.now mark.now) }
 {
-    match marked.local_of(mark) {
+    match local_of(marked, mark) {
         None => None,
         Some(local) => records.get(&(function, local)).copied(),
     }
@@ -131,16 +129,9 @@ impl<'a> Variables<'a> {
     /// # Errors
     ///
     /// The one error is that memory runs out.
-    pub fn new(
-        alloc: Global,
-        text: &'a [u8],
-        tokens: &'a [Token],
-        marks: &'a [Mark],
-    ) -> Result<Variables<'a>, NoMemory>
-        requires in_order { InOrder tokens.now (length text.now) }
-        ensures { IfOk result (λ variables. variables ≡ record { text = text.now; tokens = tokens.now; marks = marks.now }) }
+    pub fn new(alloc: Global, marked: MarkedText<'a>) -> Result<Variables<'a>, NoMemory>
+        ensures { IfOk result (λ variables. variables ≡ marked.entry) }
     {
-        let marked = MarkedText::new(text, tokens, marks);
         let records = all_records(alloc, &marked)?;
         Ok(Variables { marked, records })
     }

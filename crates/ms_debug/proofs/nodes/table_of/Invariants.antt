@@ -2,4 +2,4 @@ use Rattle.ms_debug.proofs.Tables.{IsTableFrom}
 use Rattle.ms_debug.proofs.nodes.table_of.Given as goal
 
 abbrev pub invariant-loop-place : goal.invariant-loop-place
-invariant-loop-place l = IsTableFrom (record { text = l.text; tokens = l.tokens; marks = l.marks }) l.place l.nodes.items
+invariant-loop-place l = IsTableFrom l.marked l.place l.nodes.items

@@ -1,4 +1,3 @@
-use Rattle.std.proofs.Common.{subst}
 use Rattle.ms_lex.specs.Grammar.{tail}
 use Rattle.ms_text_grammar.specs.Modules.{entity}
 use Rattle.ms_read_cursor.specs.Reading.{front}
@@ -11,7 +10,5 @@ returns-in_err-entity-clause-only_memory c =
     let form = c.args.form in
     let parts = c.args.parts.now in
     let cause = c.in_err-entity.field-0.0 in
-    let only = gave (entity form parts c.lexeme-first.result) c.advance.new.self c.entity.new.tokens cause c.in_err-entity.ensures.exact in
-    let first = subst (λ t. OnlyMemory (entity form parts t) c.advance.new.self cause) c.lexeme-first.ensures only in
-    let whole = subst (λ ts. OnlyMemory (entity form parts (front c.args.tokens.now)) ts cause) c.advance.ensures first in
+    let whole = gave (entity form parts (front c.args.tokens.now)) (tail c.args.tokens.now) c.entity.new.tokens cause c.in_err-entity.ensures.exact in
     returned c.from_residual-in_err-entity.result cause (OnlyMemory (entity form parts (front c.args.tokens.now)) (tail c.args.tokens.now)) c.from_residual-in_err-entity.ensures.1 whole

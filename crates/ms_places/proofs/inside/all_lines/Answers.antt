@@ -10,12 +10,12 @@ use Rattle.ms_places.proofs.inside.all_lines.Goals as goal
 said : Bool → Verdict Bool
 said b = Ok b
 
-pub returns-in_err-begins-clause-only_memory : goal.returns-in_err-begins-clause-only_memory
-returns-in_err-begins-clause-only_memory c =
+pub returns-in_err-line_begins-clause-only_memory : goal.returns-in_err-line_begins-clause-only_memory
+returns-in_err-line_begins-clause-only_memory c =
     let form = c.args.form in
-    let cause = c.in_err-begins.field-0.0 in
+    let cause = c.in_err-line_begins.field-0.0 in
     let only = line_not_begun form c.args.total c.args.body.now c.args.tokens.now c.lines.body c.lines.tokens c.args.found.now.items c.lines.found.items cause c.lines.invariant (omega arith)
-    c.in_err-begins.ensures in
+    c.in_err-line_begins.ensures in
     returned c.from_residual.result cause (OnlyMemory (loop (line_begins form) (line form) c.args.body.now) c.args.tokens.now) c.from_residual.ensures.1 only
 
 pub returns-in_err-one_line-clause-only_memory : goal.returns-in_err-one_line-clause-only_memory
@@ -23,8 +23,8 @@ unfolding said
 returns-in_err-one_line-clause-only_memory c =
     let form = c.args.form in
     let cause = c.in_err-one_line.field-0.0 in
-    let is_true : c.in_ok-begins.field-0 ≡ true = grind arith in
-    let begins = c.in_ok-begins.ensures ∙ ap said is_true in
+    let is_true : c.in_ok-line_begins.field-0 ≡ true = grind arith in
+    let begins = c.in_ok-line_begins.ensures ∙ ap said is_true in
     let only = line_not_read form c.args.total c.args.body.now c.args.tokens.now c.lines.body c.lines.tokens c.args.found.now.items c.lines.found.items cause c.lines.invariant (omega arith)
     begins c.in_err-one_line.ensures.only_memory in
     returned c.from_residual-in_err-one_line.result cause (OnlyMemory (loop (line_begins form) (line form) c.args.body.now) c.args.tokens.now) c.from_residual-in_err-one_line.ensures.1 only

@@ -1,4 +1,3 @@
-use Rattle.std.proofs.Common.{subst}
 use Rattle.ms_lex.specs.Grammar.{tail}
 use Rattle.ms_text_grammar.specs.Lines.{line}
 use Rattle.ms_read_cursor.specs.Reading.{front}
@@ -11,7 +10,5 @@ returns-in_err-read_line-clause-only_memory c =
     let form = c.args.form in
     let body = c.args.body.now in
     let cause = c.in_err-read_line.field-0.0 in
-    let only = gave (line form body c.lexeme-first.result) c.advance.new.self _ cause c.in_err-read_line.ensures in
-    let first = subst (λ t. OnlyMemory (line form body t) c.advance.new.self cause) c.lexeme-first.ensures only in
-    let whole = subst (λ ts. OnlyMemory (line form body (front c.args.tokens.now)) ts cause) c.advance.ensures first in
+    let whole = gave (line form body (front c.args.tokens.now)) (tail c.args.tokens.now) _ cause c.in_err-read_line.ensures in
     returned c.from_residual.result cause (OnlyMemory (line form body (front c.args.tokens.now)) (tail c.args.tokens.now)) c.from_residual.ensures.1 whole

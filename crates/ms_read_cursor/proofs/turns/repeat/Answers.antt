@@ -12,13 +12,13 @@ said b = Ok b
 pub turns-smaller : goal.turns-smaller
 turns-smaller g c =
     let rule = c.args.rule.now in
-    loop_moves end_of_text (g.T.Turn.begins rule) (g.T.Turn.body rule) c.turns.state c.turns.tokens c.in_ok-state.state c.one_turn.new.tokens (omega arith) c.in_ok-state.ensures
+    loop_moves end_of_text (g.T.Turn.begins rule) (g.T.Turn.body rule) c.turns.state c.turns.tokens c.in_ok-state.state c.turn.new.tokens (omega arith) c.in_ok-state.ensures
 
 pub turns-preserved : goal.turns-preserved
 unfolding said
 turns-preserved g c =
     let rule = c.args.rule.now in
-    let is_true : c.in_ok-begins_turn.field-0 ≡ true = grind arith in
-    let begins = c.in_ok-begins_turn.ensures ∙ ap said is_true in
+    let is_true : c.in_ok-goes_on.field-0 ≡ true = grind arith in
+    let begins = c.in_ok-goes_on.ensures ∙ ap said is_true in
     let step = loop_goes end_of_text (g.T.Turn.begins rule) (g.T.Turn.body rule) c.turns.state c.turns.tokens (omega arith) begins in
     sym (step ∙ after end_of_text _ (λ s. run (loop (g.T.Turn.begins rule) (g.T.Turn.body rule) s)) _ _ c.in_ok-state.ensures) ∙ c.turns.invariant

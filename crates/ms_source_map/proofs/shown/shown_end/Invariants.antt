@@ -5,5 +5,5 @@ use Rattle.ms_source_map.specs.Shown.{begins_attachment}
 use Rattle.ms_source_map.proofs.shown.shown_end.Given as goal
 
 abbrev pub invariant-loop-token : goal.invariant-loop-token
-invariant-loop-token l = find (begins_attachment l.debug) (range_with_len l.token (l.token-end - l.token))
-    ≡ find (begins_attachment l.debug) (range_with_len l.mark.first (l.mark.behind - l.mark.first))
+invariant-loop-token l = find (begins_attachment l.marked) (range_with_len l.token (l.token-end - l.token))
+    ≡ find (begins_attachment l.marked) (range_with_len l.mark.first (l.mark.behind - l.mark.first))

@@ -1,7 +1,7 @@
 use Rattle.std.proofs.Common.{rules, ◌≡◌, ◌-◌, length, ◌<◌, get_or, take, drop, subst}
 use Rattle.ms_places.specs.Told.{Told, spelling_at}
-use Rattle.ms_variables.proofs.Spelled.{spelling_is}
-use Rattle.ms_variables.proofs.marked.MarkedText.spelling.Goals as goal
+use Rattle.ms_places.proofs.Spelled.{spelling_is}
+use Rattle.ms_places.proofs.marked_texts.MarkedText.spelling.Goals as goal
 
 pub returns-in-Some : goal.returns-in-Some
 returns-in-Some c =

@@ -2,7 +2,7 @@
 use Rattle.std.specs.Prelude.{length}
 use Rattle.ms_lex.specs.Tokens.{InOrder}
 use Rattle.ms_places.specs.Told.{Told}
-use Rattle.ms_variables.specs.declared.marked.MarkedText.TheInside.{Inside}
+use Rattle.ms_places.specs.declared.marked_texts.MarkedText.TheInside.{Inside}
 
 abbrev pub told : Inside → Told
 told s = record { text = s.text.now; tokens = s.tokens.now; marks = s.marks.now }
