@@ -11,7 +11,7 @@ use std::alloc::AllocError;
 ///
 /// A site is 1 plus the number of unmarked instructions before the one at fault, through all functions; 0 is a place
 /// outside the functions. A name is `global` where it is spelled with `@`, and not where it is spelled with `%`.
-#[derive(Drop)]
+#[derive(Debug, Drop)]
 pub enum CheckError {
     /// A second type with a name; a second global, declaration or function; or a second parameter, block or result of one
     /// function (LLVM Language Reference, "Identifiers", "Module Structure").

@@ -8,8 +8,11 @@ use ms_ir::{Form, Module, Name};
 use ms_read_top::read;
 use ms_write::write;
 use std::alloc::Global;
+use std::fmt::Debug;
+use std::str::from_utf8;
 
 /// What the check returns. Names are spelled with their `@` or `%`.
+#[derive(Debug)]
 pub enum Want {
     Valid,
     Duplicate(&'static str),
@@ -88,8 +91,21 @@ pub fn is_written(alloc: Global, m: &Module, text: &[u8]) -> bool {
     }
 }
 
+/// Says which row of a table fails, counted from 1. The answer is `false`, with which a runner ends.
+pub fn fails<R: Eprint>(rt: &R, what: &str, index: usize) -> bool {
+    let _printed = eprintln!(rt; "{what} {} fails", index.saturating_add(1));
+    false
+}
+
+/// Prints a text, what is wanted of it and what came. The answer is `false`.
+pub fn differs<R: Eprint, W: Debug, G: Debug>(rt: &R, text: &[u8], want: &W, got: &G) -> bool {
+    let text = from_utf8(text).unwrap_or("a text that isn't ASCII");
+    let _printed = eprintln!(rt; "{text}\nwanted {want:?}, got {got:?}");
+    false
+}
+
 /// Whether the check answers so on a module, and hands the module of this text back.
-fn is_answered(alloc: Global, m: Module, text: &[u8], want: &Want) -> bool
+fn is_answered<R: Eprint>(rt: &R, alloc: Global, m: Module, text: &[u8], want: &Want) -> bool
     requires { Formed m }
 {
     match check(alloc, m) {
@@ -97,30 +113,41 @@ fn is_answered(alloc: Global, m: Module, text: &[u8], want: &Want) -> bool
             is_valid(want)
                 && is_written(alloc, checked.module(), text)
                 && is_written(alloc, &checked.into_module(), text)
+                || differs(rt, text, want, &"a valid module, as its text or another")
         }
-        Err((error, back)) => is_error(&error, want) && is_written(alloc, &back, text),
+        Err((error, back)) => {
+            is_error(&error, want) && is_written(alloc, &back, text)
+                || differs(rt, text, want, &error)
+        }
     }
 }
 
 /// Whether the check answers so on the module that is read from a text, and hands this module back.
 #[tactic(auto, unfolding(ms_text_grammar::specs::Texts::max_bytes))]
-pub fn agrees(alloc: Global, text: &[u8], want: &Want) -> bool {
+pub fn agrees<R: Eprint>(rt: &R, alloc: Global, text: &[u8], want: &Want) -> bool {
     if text.len() > 1 << 20 {
         return false;
     }
     match read(alloc, text, Form::Instrumented) {
-        Ok(m) => is_answered(alloc, m, text, want),
-        Err(_) => false,
+        Ok(m) => is_answered(rt, alloc, m, text, want),
+        Err(error) => differs(rt, text, want, &error),
     }
 }
 
+fn table_agrees<R: Eprint>(rt: &R, alloc: Global, cases: &[Case]) -> bool {
+    for (number, case) in cases.iter().enumerate() {
+        if !agrees(rt, alloc, case.0.as_bytes(), &case.1) {
+            return fails(rt, "row", number);
+        }
+    }
+    true
+}
+
 /// Whether the check answers on each module of these tables as it is wanted.
-pub fn all_agree(alloc: Global, tables: &[&[Case]]) -> bool {
-    for cases in tables {
-        for case in *cases {
-            if !agrees(alloc, case.0.as_bytes(), &case.1) {
-                return false;
-            }
+pub fn all_agree<R: Eprint>(rt: &R, alloc: Global, tables: &[&[Case]]) -> bool {
+    for (number, cases) in tables.iter().enumerate() {
+        if !table_agrees(rt, alloc, cases) {
+            return fails(rt, "table", number);
         }
     }
     true

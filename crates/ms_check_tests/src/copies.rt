@@ -1,5 +1,6 @@
 //! Copies of modules, modules that differ in one place, and the order of names.
 
+use crate::answers::{differs, fails};
 use ms_bits::{Duplicate, NoMemory};
 use ms_ir::{Form, Module, Name, Ty};
 use ms_read_body::ReadError;
@@ -162,17 +163,21 @@ fn is_equal(alloc: Global, m: &Module, text: &str) -> Option<bool> {
     }
 }
 
-fn agrees(alloc: Global, case: &Differing) -> bool {
+fn agrees<R: Eprint>(rt: &R, alloc: Global, case: &Differing) -> bool {
     match module_of(alloc, case.0) {
-        Ok(m) => has_equal_copy(alloc, &m) && is_equal(alloc, &m, case.1) == Some(case.2),
-        Err(_) => false,
+        Ok(m) => {
+            let got = (has_equal_copy(alloc, &m), is_equal(alloc, &m, case.1));
+            got == (true, Some(case.2))
+                || differs(rt, case.1.as_bytes(), &(true, Some(case.2)), &got)
+        }
+        Err(error) => differs(rt, case.0.as_bytes(), &"a module", &error),
     }
 }
 
-fn all_agree(alloc: Global, cases: &[Differing]) -> bool {
-    for case in cases {
-        if !agrees(alloc, case) {
-            return false;
+fn all_agree<R: Eprint>(rt: &R, alloc: Global, cases: &[Differing]) -> bool {
+    for (number, case) in cases.iter().enumerate() {
+        if !agrees(rt, alloc, case) {
+            return fails(rt, "row", number);
         }
     }
     true
@@ -208,6 +213,6 @@ fn has_names_in_order(alloc: Global, text: &str) -> bool {
 
 #[test]
 fn copies_are_equal_and_names_are_ordered(rt: HostRuntime) -> Result<(), Fail> {
-    assert!(rt; all_agree(rt.alloc(), &PAIRS) && has_names_in_order(rt.alloc(), ORDERED));
+    assert!(rt; all_agree(&rt, rt.alloc(), &PAIRS) && has_names_in_order(rt.alloc(), ORDERED));
     Ok(())
 }

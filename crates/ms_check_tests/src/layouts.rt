@@ -1,11 +1,13 @@
 //! Types with their sizes, their alignments and the places of their parts.
 
+use crate::answers::{differs, fails};
 use ms_ir::{Form, Module, Ty, align_of, offset_of, parts_of, size_of};
 use ms_read_top::read;
 use std::alloc::Global;
 use std::test::Fail;
 
 /// A type that a global has, its size in bytes if it has one, its alignment, and where its parts begin.
+#[derive(Debug)]
 struct Layout(&'static str, Option<u64>, u64, &'static [u64]);
 
 /// The named types of the cases.
@@ -60,45 +62,45 @@ fn has_offsets(m: &Module, ty: &Ty, offsets: &[u64]) -> bool {
     true
 }
 
-fn has_layout(m: &Module, ty: &Ty, case: &Layout) -> bool {
-    size_of(m, ty) == case.1
-        && align_of(m, ty) == case.2
-        && (case.1.is_none() || has_offsets(m, ty, case.3))
+fn has_layout<R: Eprint>(rt: &R, m: &Module, ty: &Ty, case: &Layout) -> bool {
+    let got = (size_of(m, ty), align_of(m, ty), parts_of(m, ty));
+    got.0 == case.1 && got.1 == case.2 && (case.1.is_none() || has_offsets(m, ty, case.3))
+        || differs(rt, case.0.as_bytes(), case, &got)
 }
 
 /// Whether the first global of a module has a type with that layout.
-fn first_has_layout(m: &Module, case: &Layout) -> bool {
+fn first_has_layout<R: Eprint>(rt: &R, m: &Module, case: &Layout) -> bool {
     match m.globals.as_slice() {
-        [global, ..] => has_layout(m, &global.ty, case),
+        [global, ..] => has_layout(rt, m, &global.ty, case),
         [] => false,
     }
 }
 
 #[tactic(auto, unfolding(ms_text_grammar::specs::Texts::max_bytes))]
-fn is_laid_out(alloc: Global, text: &[u8], case: &Layout) -> bool {
+fn is_laid_out<R: Eprint>(rt: &R, alloc: Global, text: &[u8], case: &Layout) -> bool {
     if text.len() > 1 << 20 {
         return false;
     }
     match read(alloc, text, Form::Plain) {
-        Ok(m) => first_has_layout(&m, case),
+        Ok(m) => first_has_layout(rt, &m, case),
         Err(_) => false,
     }
 }
 
-fn agrees(alloc: Global, case: &Layout) -> bool {
+fn agrees<R: Eprint>(rt: &R, alloc: Global, case: &Layout) -> bool {
     let mut text = Vec::new(alloc);
     for piece in [TYPES, "@g = global ", case.0, " zeroinitializer\n"] {
         if text.extend_from_slice(piece.as_bytes()).is_err() {
             return false;
         }
     }
-    is_laid_out(alloc, &text, case)
+    is_laid_out(rt, alloc, &text, case)
 }
 
-fn all_agree(alloc: Global, cases: &[Layout]) -> bool {
-    for case in cases {
-        if !agrees(alloc, case) {
-            return false;
+fn all_agree<R: Eprint>(rt: &R, alloc: Global, cases: &[Layout]) -> bool {
+    for (number, case) in cases.iter().enumerate() {
+        if !agrees(rt, alloc, case) {
+            return fails(rt, "row", number);
         }
     }
     true
@@ -106,6 +108,6 @@ fn all_agree(alloc: Global, cases: &[Layout]) -> bool {
 
 #[test]
 fn layouts(rt: HostRuntime) -> Result<(), Fail> {
-    assert!(rt; all_agree(rt.alloc(), &LAYOUTS));
+    assert!(rt; all_agree(&rt, rt.alloc(), &LAYOUTS));
     Ok(())
 }

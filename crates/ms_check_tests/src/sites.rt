@@ -2,7 +2,7 @@
 
 ghost use Rattle.ms_ir.specs.Places.{HasSmallNumbers};
 
-use crate::answers::is_written;
+use crate::answers::{differs, fails, is_written};
 use ms_ir::{
     Form, Module, Place, Root, RootKind, has_small_numbers, place_of, roots, site_of, strip,
 };
@@ -253,29 +253,38 @@ fn leaves(alloc: Global, m: &Module, text: &str) -> bool {
     }
 }
 
-fn is_numbered(alloc: Global, m: &Module, case: &Numbered) -> bool {
+fn is_numbered<R: Eprint>(rt: &R, alloc: Global, m: &Module, case: &Numbered) -> bool {
     if !has_small_numbers(m) {
         return false;
     }
-    has_places(m, case.places) && has_roots(alloc, m, case.roots) && leaves(alloc, m, case.left)
+    let got = (
+        has_places(m, case.places),
+        has_roots(alloc, m, case.roots),
+        leaves(alloc, m, case.left),
+    );
+    let wanted = (
+        "the places, the roots and the text that is left",
+        case.places,
+    );
+    got == (true, true, true) || differs(rt, case.left.as_bytes(), &wanted, &got)
 }
 
 #[tactic(auto, unfolding(ms_text_grammar::specs::Texts::max_bytes))]
-fn agrees(alloc: Global, case: &Numbered) -> bool {
+fn agrees<R: Eprint>(rt: &R, alloc: Global, case: &Numbered) -> bool {
     let text = case.text.as_bytes();
     if text.len() > 1 << 20 {
         return false;
     }
     match read(alloc, text, Form::Instrumented) {
-        Ok(m) => is_numbered(alloc, &m, case),
+        Ok(m) => is_numbered(rt, alloc, &m, case),
         Err(_) => false,
     }
 }
 
-fn all_agree(alloc: Global, cases: &[Numbered]) -> bool {
-    for case in cases {
-        if !agrees(alloc, case) {
-            return false;
+fn all_agree<R: Eprint>(rt: &R, alloc: Global, cases: &[Numbered]) -> bool {
+    for (number, case) in cases.iter().enumerate() {
+        if !agrees(rt, alloc, case) {
+            return fails(rt, "row", number);
         }
     }
     true
@@ -283,6 +292,6 @@ fn all_agree(alloc: Global, cases: &[Numbered]) -> bool {
 
 #[test]
 fn sites_and_roots(rt: HostRuntime) -> Result<(), Fail> {
-    assert!(rt; all_agree(rt.alloc(), &NUMBERED));
+    assert!(rt; all_agree(&rt, rt.alloc(), &NUMBERED));
     Ok(())
 }

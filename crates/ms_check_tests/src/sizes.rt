@@ -1,6 +1,6 @@
 //! Types without a size, and globals that don't fit into their 16 MiB.
 
-use crate::answers::{Want, agrees};
+use crate::answers::{Want, agrees, fails};
 use std::alloc::{AllocError, Global};
 use std::test::Fail;
 
@@ -227,7 +227,7 @@ fn push_all(text: &mut Vec<u8>, pieces: &[&str]) -> bool {
     true
 }
 
-fn is_sized(alloc: Global, case: &Sized) -> bool {
+fn is_sized<R: Eprint>(rt: &R, alloc: Global, case: &Sized) -> bool {
     let mut text = Vec::new(alloc);
     let pieces = [
         case.0,
@@ -236,19 +236,19 @@ fn is_sized(alloc: Global, case: &Sized) -> bool {
         case.1,
         "  ret i32 0\n}\n",
     ];
-    push_all(&mut text, &pieces) && agrees(alloc, &text, &case.2)
+    push_all(&mut text, &pieces) && agrees(rt, alloc, &text, &case.2)
 }
 
-fn all_are_sized(alloc: Global, cases: &[Sized]) -> bool {
-    for case in cases {
-        if !is_sized(alloc, case) {
-            return false;
+fn all_are_sized<R: Eprint>(rt: &R, alloc: Global, cases: &[Sized]) -> bool {
+    for (number, case) in cases.iter().enumerate() {
+        if !is_sized(rt, alloc, case) {
+            return fails(rt, "row", number);
         }
     }
     true
 }
 
-fn is_chain(alloc: Global, case: &Chain) -> bool {
+fn is_chain<R: Eprint>(rt: &R, alloc: Global, case: &Chain) -> bool {
     let mut text = Vec::new(alloc);
     push_all(&mut text, &["%t.0 = type { ", case.0, " }\n"])
         && push_types(alloc, &mut text, case.1, case.2)
@@ -261,13 +261,13 @@ fn is_chain(alloc: Global, case: &Chain) -> bool {
 "#,
             ],
         )
-        && agrees(alloc, &text, &case.3)
+        && agrees(rt, alloc, &text, &case.3)
 }
 
-fn all_are_chains(alloc: Global, cases: &[Chain]) -> bool {
-    for case in cases {
-        if !is_chain(alloc, case) {
-            return false;
+fn all_are_chains<R: Eprint>(rt: &R, alloc: Global, cases: &[Chain]) -> bool {
+    for (number, case) in cases.iter().enumerate() {
+        if !is_chain(rt, alloc, case) {
+            return fails(rt, "row", number);
         }
     }
     true
@@ -275,6 +275,6 @@ fn all_are_chains(alloc: Global, cases: &[Chain]) -> bool {
 
 #[test]
 fn sizes_and_chains_fit(rt: HostRuntime) -> Result<(), Fail> {
-    assert!(rt; all_are_sized(rt.alloc(), &SIZES) && all_are_chains(rt.alloc(), &CHAINS));
+    assert!(rt; all_are_sized(&rt, rt.alloc(), &SIZES) && all_are_chains(&rt, rt.alloc(), &CHAINS));
     Ok(())
 }

@@ -8,6 +8,7 @@ use std::test::Fail;
 fn names_and_uses_are_known(rt: HostRuntime) -> Result<(), Fail> {
     assert!(rt;
         all_agree(
+            &rt,
             rt.alloc(),
             &[
                 &names::DUPLICATES,
@@ -25,6 +26,7 @@ fn names_and_uses_are_known(rt: HostRuntime) -> Result<(), Fail> {
 fn types_externals_and_marks_fit(rt: HostRuntime) -> Result<(), Fail> {
     assert!(rt;
         all_agree(
+            &rt,
             rt.alloc(),
             &[
                 &types::TERMINATORS,

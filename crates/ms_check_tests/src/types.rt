@@ -1,6 +1,6 @@
 //! Operands, calls, jumps and initialisers whose types agree or don't.
 
-use crate::answers::{Case, Want, agrees};
+use crate::answers::{Case, Want, agrees, fails};
 use std::alloc::Global;
 use std::test::Fail;
 
@@ -285,20 +285,39 @@ static INITIALISERS: [Line; 9] = [
 ];
 
 /// Whether the text of a line between these two is answered as the line says.
-fn agrees_within(alloc: Global, head: &str, line: &Line, tail: &str) -> bool {
+fn agrees_within<R: Eprint>(rt: &R, alloc: Global, head: &str, line: &Line, tail: &str) -> bool {
     let mut text = Vec::new(alloc);
     text.extend_from_slice(head.as_bytes()).is_ok()
         && text.extend_from_slice(line.0.as_bytes()).is_ok()
         && text.extend_from_slice(tail.as_bytes()).is_ok()
-        && agrees(alloc, &text, &line.1)
+        && agrees(rt, alloc, &text, &line.1)
 }
 
-fn all_agree_within(alloc: Global, head: &str, tail: &str, tables: &[&[Line]]) -> bool {
-    for lines in tables {
-        for line in *lines {
-            if !agrees_within(alloc, head, line, tail) {
-                return false;
-            }
+fn lines_agree_within<R: Eprint>(
+    rt: &R,
+    alloc: Global,
+    head: &str,
+    tail: &str,
+    lines: &[Line],
+) -> bool {
+    for (number, line) in lines.iter().enumerate() {
+        if !agrees_within(rt, alloc, head, line, tail) {
+            return fails(rt, "row", number);
+        }
+    }
+    true
+}
+
+fn all_agree_within<R: Eprint>(
+    rt: &R,
+    alloc: Global,
+    head: &str,
+    tail: &str,
+    tables: &[&[Line]],
+) -> bool {
+    for (number, lines) in tables.iter().enumerate() {
+        if !lines_agree_within(rt, alloc, head, tail, lines) {
+            return fails(rt, "table", number);
         }
     }
     true
@@ -308,11 +327,12 @@ fn all_agree_within(alloc: Global, head: &str, tail: &str, tables: &[&[Line]]) -
 fn types_of_lines_agree(rt: HostRuntime) -> Result<(), Fail> {
     assert!(rt;
         all_agree_within(
+            &rt,
             rt.alloc(),
             HEAD,
             TAIL,
             &[&VALUES, &CASTS, &INDICES, &ARGUMENTS, &PRINTED]
-        ) && all_agree_within(rt.alloc(), TYPES, MAIN, &[&INITIALISERS])
+        ) && all_agree_within(&rt, rt.alloc(), TYPES, MAIN, &[&INITIALISERS])
     );
     Ok(())
 }

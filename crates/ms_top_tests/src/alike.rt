@@ -2,6 +2,7 @@
 //! for the verdict.
 
 use crate::calls::{Call, Case, Desk, NOTHING, Row, all_agree, behind, on_text, said, says};
+use crate::failing::{differ, differs, fails};
 use crate::modules::Run;
 use std::alloc::Global;
 use std::thread::Threads;
@@ -50,16 +51,24 @@ fn says_all_but_the_verdict(said: &Desk, checked: &Desk) -> bool {
 }
 
 /// Whether `run` says of what `instrument` wrote, if it wrote a module, what `check` says, but for the verdict.
-fn runs_alike<R: Threads + Sync>(rt: &R, alloc: Global, written: &Desk, checked: &Desk) -> bool {
+fn runs_alike<R: Threads + Sync + Eprint>(
+    rt: &R,
+    alloc: Global,
+    written: &Desk,
+    checked: &Desk,
+) -> bool {
     if written.status != 0 || !written.err.as_slice().is_empty() {
-        return false;
+        return differ(rt, "instrument f", checked, written);
     }
     match said(
         rt,
         alloc,
         &on_text("run f", written.out.as_slice(), NOTHING),
     ) {
-        Ok(run) => says_all_but_the_verdict(&run, checked),
+        Ok(run) => {
+            says_all_but_the_verdict(&run, checked)
+                || differ(rt, "run f, of what instrument wrote", checked, &run)
+        }
         Err(_) => false,
     }
 }
@@ -68,44 +77,52 @@ fn with_words<'a>(call: &Call<'a>, words: &'a str) -> Call<'a> {
     Call { words, ..*call }
 }
 
-fn is_written_alike<R: Threads + Sync>(rt: &R, alloc: Global, call: &Call, checked: &Desk) -> bool {
+fn is_written_alike<R: Threads + Sync + Eprint>(
+    rt: &R,
+    alloc: Global,
+    call: &Call,
+    checked: &Desk,
+) -> bool {
     match said(rt, alloc, &with_words(call, "instrument f")) {
         Ok(written) => runs_alike(rt, alloc, &written, checked),
         Err(_) => false,
     }
 }
 
-fn agrees_twice<R: Threads + Sync, T: CheckedRow>(rt: &R, alloc: Global, row: &T) -> bool {
-    let call = row.call();
-    match said(rt, alloc, &with_words(&call, "check f")) {
-        Ok(checked) => { row.is_shown(&checked) && is_written_alike(rt, alloc, &call, &checked) }
+fn agrees_twice<R: Threads + Sync + Eprint, T: CheckedRow>(rt: &R, alloc: Global, row: &T) -> bool {
+    let call = with_words(&row.call(), "check f");
+    match said(rt, alloc, &call) {
+        Ok(checked) => {
+            (row.is_shown(&checked) || differs(rt, &call, &checked))
+                && is_written_alike(rt, alloc, &call, &checked)
+        }
         Err(_) => false,
     }
 }
 
 /// Whether `check` says what each row of a table tells, also where its module is first written with inserted code.
-pub fn table_agrees_twice<R: Threads + Sync, T: CheckedRow>(
+pub fn table_agrees_twice<R: Threads + Sync + Eprint, T: CheckedRow>(
     rt: &R,
     alloc: Global,
     rows: &[T],
 ) -> bool {
-    for row in rows {
+    for (number, row) in rows.iter().enumerate() {
         if !agrees_twice(rt, alloc, row) {
-            return false;
+            return fails(rt, "row", number);
         }
     }
     true
 }
 
 /// Whether `check` says what each row of these tables tells, also where its module is first written with inserted code.
-pub fn all_agree_twice<R: Threads + Sync, T: CheckedRow>(
+pub fn all_agree_twice<R: Threads + Sync + Eprint, T: CheckedRow>(
     rt: &R,
     alloc: Global,
     tables: &[&[T]],
 ) -> bool {
-    for rows in tables {
+    for (number, rows) in tables.iter().enumerate() {
         if !table_agrees_twice(rt, alloc, rows) {
-            return false;
+            return fails(rt, "table", number);
         }
     }
     true
@@ -113,6 +130,10 @@ pub fn all_agree_twice<R: Threads + Sync, T: CheckedRow>(
 
 /// Whether each row's module runs as it says, is said the same of by `check`, and by `run` of what `instrument` writes of it;
 /// without a report each ends as the row says.
-pub fn all_run_and_checked<R: Threads + Sync>(rt: &R, alloc: Global, tables: &[&[Run]]) -> bool {
+pub fn all_run_and_checked<R: Threads + Sync + Eprint>(
+    rt: &R,
+    alloc: Global,
+    tables: &[&[Run]],
+) -> bool {
     all_agree(rt, alloc, tables) && all_agree_twice(rt, alloc, tables)
 }

@@ -105,6 +105,6 @@ verdict: clean
 
 #[test]
 fn asides_are_answered(rt: HostRuntime) -> Result<(), Fail> {
-    assert!(rt; all_told_twice::<_, Case>(&rt, rt.alloc(), &[(ASIDE, 6)]));
+    assert!(rt; all_told_twice::<_, Case>(&rt, rt.alloc(), &[ASIDE]));
     Ok(())
 }

@@ -271,13 +271,13 @@ fn bytes_are_moved_and_told(rt: HostRuntime) -> Result<(), Fail> {
             &rt,
             rt.alloc(),
             &[
-                (COPIES, 6),
-                (OVERLAPS, 6),
-                (BAD_COPIES, 7),
-                (SETS, 7),
-                (COMPARISONS, 6),
-                (LENGTHS, 5),
-                (LIFETIMES, 7)
+                COPIES,
+                OVERLAPS,
+                BAD_COPIES,
+                SETS,
+                COMPARISONS,
+                LENGTHS,
+                LIFETIMES
             ]
         )
     );

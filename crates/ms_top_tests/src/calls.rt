@@ -1,5 +1,6 @@
 //! Calls of `msan` over files and two sinks in memory, as rows of tables tell them, and the one runner of all tables.
 
+use crate::failing::{differs, fails};
 use ms_bits::Text;
 use ms_io::{MemFiles, MemSink};
 use ms_top::{Gate, Pass, job, msan};
@@ -331,29 +332,33 @@ pub fn says(desk: &Desk, wanted: &Wanted) -> bool {
         && is_joined(desk.err.as_slice(), &wanted.err)
 }
 
-/// Whether a call writes and returns what it wants.
-pub fn agrees<R: Threads + Sync>(rt: &R, alloc: Global, call: &Call) -> bool {
+/// Whether a call writes and returns what it wants. Where it doesn't, both are printed.
+pub fn agrees<R: Threads + Sync + Eprint>(rt: &R, alloc: Global, call: &Call) -> bool {
     match said(rt, alloc, call) {
-        Ok(desk) => says(&desk, &call.wanted),
+        Ok(desk) => says(&desk, &call.wanted) || differs(rt, call, &desk),
         Err(_) => false,
     }
 }
 
 /// Whether the call of each row of a table writes and returns what the row says.
-pub fn table_agrees<R: Threads + Sync, T: Row>(rt: &R, alloc: Global, rows: &[T]) -> bool {
-    for row in rows {
+pub fn table_agrees<R: Threads + Sync + Eprint, T: Row>(rt: &R, alloc: Global, rows: &[T]) -> bool {
+    for (number, row) in rows.iter().enumerate() {
         if !agrees(rt, alloc, &row.call()) {
-            return false;
+            return fails(rt, "row", number);
         }
     }
     true
 }
 
 /// Whether the call of each row of these tables writes and returns what the row says.
-pub fn all_agree<R: Threads + Sync, T: Row>(rt: &R, alloc: Global, tables: &[&[T]]) -> bool {
-    for rows in tables {
+pub fn all_agree<R: Threads + Sync + Eprint, T: Row>(
+    rt: &R,
+    alloc: Global,
+    tables: &[&[T]],
+) -> bool {
+    for (number, rows) in tables.iter().enumerate() {
         if !table_agrees(rt, alloc, rows) {
-            return false;
+            return fails(rt, "table", number);
         }
     }
     true

@@ -293,8 +293,8 @@ blind: 0
 #[test]
 fn origins_are_chained(rt: HostRuntime) -> Result<(), Fail> {
     assert!(rt;
-        all_told::<_, Case>(&rt, rt.alloc(), &[(CHAINS, 6)])
-            && all_told::<_, Marked>(&rt, rt.alloc(), &[(PAIRS, 6)])
+        all_told::<_, Case>(&rt, rt.alloc(), &[CHAINS])
+            && all_told::<_, Marked>(&rt, rt.alloc(), &[PAIRS])
     );
     Ok(())
 }

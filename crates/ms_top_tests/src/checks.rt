@@ -673,24 +673,17 @@ verdict: clean
 "#;
 
 /// Whether uses of computed values are checked.
-fn values_are_checked<R: Threads + Sync>(rt: &R, alloc: Global) -> bool {
+fn values_are_checked<R: Threads + Sync + Eprint>(rt: &R, alloc: Global) -> bool {
     all_told_twice::<_, Case>(
         rt,
         alloc,
-        &[
-            (COMPARISONS, 10),
-            (BITS, 6),
-            (SELECTIONS, 5),
-            (SHIFTS, 6),
-            (PHIS, 4),
-            (CARRIES, 10),
-        ],
+        &[COMPARISONS, BITS, SELECTIONS, SHIFTS, PHIS, CARRIES],
     )
 }
 
 /// Whether uses of what is loaded, and of what calls answer, are checked.
-fn memory_is_checked<R: Threads + Sync>(rt: &R, alloc: Global) -> bool {
-    all_told_twice::<_, Case>(rt, alloc, &[(MEMORY, 7), (CALLS, 7), (HEAP, 9)])
+fn memory_is_checked<R: Threads + Sync + Eprint>(rt: &R, alloc: Global) -> bool {
+    all_told_twice::<_, Case>(rt, alloc, &[MEMORY, CALLS, HEAP])
 }
 
 #[test]
@@ -698,11 +691,7 @@ fn uses_are_checked(rt: HostRuntime) -> Result<(), Fail> {
     assert!(rt;
         memory_is_checked(&rt, rt.alloc())
             && values_are_checked(&rt, rt.alloc())
-            && all_told_twice::<_, Case>(
-                &rt,
-                rt.alloc(),
-                &[(OUTSIDE, 11), (KINDS, 10), (BLIND, 4), (TRAPS, 6)]
-            )
+            && all_told_twice::<_, Case>(&rt, rt.alloc(), &[OUTSIDE, KINDS, BLIND, TRAPS])
             && all_agree_twice(&rt, rt.alloc(), &[&COMPILED])
     );
     Ok(())

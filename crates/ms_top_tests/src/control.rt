@@ -501,11 +501,8 @@ static STEPS: [Given; 16] = [
 #[test]
 fn control_goes_its_way(rt: HostRuntime) -> Result<(), Fail> {
     assert!(rt;
-        all_told_runs(
-            &rt,
-            rt.alloc(),
-            &[(CALLS, 15), (STACKS, 19), (JUMPS, 14), (PHIS, 10)]
-        ) && all_agree(&rt, rt.alloc(), &[&STEPS])
+        all_told_runs(&rt, rt.alloc(), &[CALLS, STACKS, JUMPS, PHIS])
+            && all_agree(&rt, rt.alloc(), &[&STEPS])
     );
     Ok(())
 }

@@ -666,7 +666,7 @@ static READ: [Read; 3] = [
 #[test]
 fn reports_are_explained(rt: HostRuntime) -> Result<(), Fail> {
     assert!(rt;
-        all_told::<_, Case>(&rt, rt.alloc(), &[(CASES, 28)]) && all_agree(&rt, rt.alloc(), &[&READ])
+        all_told::<_, Case>(&rt, rt.alloc(), &[CASES]) && all_agree(&rt, rt.alloc(), &[&READ])
     );
     Ok(())
 }

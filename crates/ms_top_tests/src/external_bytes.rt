@@ -582,28 +582,15 @@ declare i32 @getchar()
 ];
 
 /// Whether blocks, and copies of their bytes, have the shadow that they should.
-fn blocks_move_shadow<R: Threads + Sync>(rt: &R, alloc: Global) -> bool {
-    all_told_twice::<_, Case>(
-        rt,
-        alloc,
-        &[
-            (BLOCKS, 9),
-            (MOVED_BLOCKS, 12),
-            (COPIES, 15),
-            (LIFETIMES, 5),
-        ],
-    )
+fn blocks_move_shadow<R: Threads + Sync + Eprint>(rt: &R, alloc: Global) -> bool {
+    all_told_twice::<_, Case>(rt, alloc, &[BLOCKS, MOVED_BLOCKS, COPIES, LIFETIMES])
 }
 
 #[test]
 fn externals_move_shadow(rt: HostRuntime) -> Result<(), Fail> {
     assert!(rt;
         blocks_move_shadow(&rt, rt.alloc())
-            && all_told_twice::<_, Case>(
-                &rt,
-                rt.alloc(),
-                &[(SETS, 13), (COMPARED, 8), (STRINGS, 12), (WRITTEN, 4)]
-            )
+            && all_told_twice::<_, Case>(&rt, rt.alloc(), &[SETS, COMPARED, STRINGS, WRITTEN])
             && all_agree(&rt, rt.alloc(), &[&INPUTS])
     );
     Ok(())

@@ -562,7 +562,7 @@ declare i32 @printf(ptr, ...)
 #[test]
 fn formats_are_checked(rt: HostRuntime) -> Result<(), Fail> {
     assert!(rt;
-        all_told_twice::<_, Case>(&rt, rt.alloc(), &[(VALUES, 7), (STRINGS, 5), (UNASKED, 5)])
+        all_told_twice::<_, Case>(&rt, rt.alloc(), &[VALUES, STRINGS, UNASKED])
             && all_agree(&rt, rt.alloc(), &[&GOING_ON])
     );
     Ok(())

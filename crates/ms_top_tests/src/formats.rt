@@ -636,11 +636,8 @@ impl Row for Wide {
 #[test]
 fn formats_are_followed(rt: HostRuntime) -> Result<(), Fail> {
     assert!(rt;
-        all_told_twice::<_, Case>(
-            &rt,
-            rt.alloc(),
-            &[(STRINGS, 7), (FORMATS, 4), (ADDRESSES, 13)]
-        ) && all_agree_twice(&rt, rt.alloc(), &[&TEXTS, &NUMBERS])
+        all_told_twice::<_, Case>(&rt, rt.alloc(), &[STRINGS, FORMATS, ADDRESSES])
+            && all_agree_twice(&rt, rt.alloc(), &[&TEXTS, &NUMBERS])
     );
     Ok(())
 }

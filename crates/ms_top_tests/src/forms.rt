@@ -228,7 +228,7 @@ fn of_row(words: &'static str, row: &Beyond, verdict: &'static str) -> Call<'sta
     on_text(words, row.0.as_bytes(), wanted)
 }
 
-fn all_are_alike<R: Threads + Sync>(rt: &R, alloc: Global, rows: &[Beyond]) -> bool {
+fn all_are_alike<R: Threads + Sync + Eprint>(rt: &R, alloc: Global, rows: &[Beyond]) -> bool {
     for row in rows {
         if !agrees(rt, alloc, &of_row("run f", row, ""))
             || !agrees(rt, alloc, &of_row("check f", row, "verdict: clean\n"))
@@ -242,7 +242,7 @@ fn all_are_alike<R: Threads + Sync>(rt: &R, alloc: Global, rows: &[Beyond]) -> b
 #[test]
 fn other_forms_run(rt: HostRuntime) -> Result<(), Fail> {
     assert!(rt;
-        all_told::<_, Case>(&rt, rt.alloc(), &[(SPELLINGS, 12)])
+        all_told::<_, Case>(&rt, rt.alloc(), &[SPELLINGS])
             && all_are_alike(&rt, rt.alloc(), &BEYOND)
     );
     Ok(())

@@ -244,12 +244,6 @@ exit 5~
 
 #[test]
 fn blocks_are_made_and_ended(rt: HostRuntime) -> Result<(), Fail> {
-    assert!(rt;
-        all_told_runs(
-            &rt,
-            rt.alloc(),
-            &[(MALLOC, 9), (CALLOC, 7), (REALLOC, 16), (FREE, 10)]
-        )
-    );
+    assert!(rt; all_told_runs(&rt, rt.alloc(), &[MALLOC, CALLOC, REALLOC, FREE]));
     Ok(())
 }

@@ -30,6 +30,8 @@ mod external_bytes;
 #[cfg(test)]
 mod externals;
 #[cfg(test)]
+mod failing;
+#[cfg(test)]
 mod faults;
 #[cfg(test)]
 mod format_checks;

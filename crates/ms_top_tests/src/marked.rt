@@ -686,15 +686,15 @@ blind: 0
 "#;
 
 /// Whether marked code checks and computes shadow.
-fn shadow_is_computed<R: Threads + Sync>(rt: &R, alloc: Global) -> bool {
-    all_told::<_, Marked>(rt, alloc, &[(CHECKS, 12), (SHADOW, 15)])
+fn shadow_is_computed<R: Threads + Sync + Eprint>(rt: &R, alloc: Global) -> bool {
+    all_told::<_, Marked>(rt, alloc, &[CHECKS, SHADOW])
 }
 
 #[test]
 fn inserted_code_runs(rt: HostRuntime) -> Result<(), Fail> {
     assert!(rt;
         shadow_is_computed(&rt, rt.alloc())
-            && all_told::<_, Marked>(&rt, rt.alloc(), &[(SLOTS, 18), (MARKS, 12)])
+            && all_told::<_, Marked>(&rt, rt.alloc(), &[SLOTS, MARKS])
     );
     Ok(())
 }

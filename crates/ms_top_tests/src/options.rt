@@ -581,7 +581,7 @@ static GENERATED_RUNS: [Checked; 2] = [
 #[test]
 fn words_are_read(rt: HostRuntime) -> Result<(), Fail> {
     assert!(rt;
-        all_told::<_, Case>(&rt, rt.alloc(), &[(FAULTS, 47)])
+        all_told::<_, Case>(&rt, rt.alloc(), &[FAULTS])
             && all_agree(&rt, rt.alloc(), &[&OPTIONS, &GENERATED])
             && all_agree(&rt, rt.alloc(), &[&GENERATED_RUNS])
     );

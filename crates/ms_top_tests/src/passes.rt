@@ -1,6 +1,7 @@
 //! What is checked is the module that the pass makes: with a pass that inserts nothing no use is reported.
 
 use crate::calls::{Case, DEFAULTS, Row, all_agree, said_by, says};
+use crate::failing::differs;
 use crate::modules::Checked;
 use ms_top::{OpenGate, PlainPass};
 use std::alloc::Global;
@@ -45,10 +46,10 @@ static UNEXPLAINED: [Case; 1] = [Case(
 )];
 
 /// Whether a row's module is checked so where the pass inserts nothing.
-fn agrees_plainly<R: Threads + Sync, T: Row>(rt: &R, alloc: Global, row: &T) -> bool {
+fn agrees_plainly<R: Threads + Sync + Eprint, T: Row>(rt: &R, alloc: Global, row: &T) -> bool {
     let call = row.call();
     match said_by(rt, alloc, &call, &PlainPass, &OpenGate) {
-        Ok(desk) => says(&desk, &call.wanted),
+        Ok(desk) => says(&desk, &call.wanted) || differs(rt, &call, &desk),
         Err(_) => false,
     }
 }

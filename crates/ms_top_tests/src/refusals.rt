@@ -383,17 +383,6 @@ refused 5: outside floating point at token 8, byte 28
 
 #[test]
 fn texts_are_refused(rt: HostRuntime) -> Result<(), Fail> {
-    assert!(rt;
-        all_told::<_, Case>(
-            &rt,
-            rt.alloc(),
-            &[
-                (TEXTS, 9),
-                (INSERTED, 7),
-                (ENTITIES, 12),
-                (INSTRUCTIONS, 14)
-            ]
-        )
-    );
+    assert!(rt; all_told::<_, Case>(&rt, rt.alloc(), &[TEXTS, INSERTED, ENTITIES, INSTRUCTIONS]));
     Ok(())
 }

@@ -600,15 +600,15 @@ blind: 1
 "#;
 
 /// Whether the functions that check bytes, strings and formats serve.
-fn bytes_and_strings_are_checked<R: Threads + Sync>(rt: &R, alloc: Global) -> bool {
-    all_told::<_, Marked>(rt, alloc, &[(MEMORY, 24), (STRINGS, 9), (FORMATS, 13)])
+fn bytes_and_strings_are_checked<R: Threads + Sync + Eprint>(rt: &R, alloc: Global) -> bool {
+    all_told::<_, Marked>(rt, alloc, &[MEMORY, STRINGS, FORMATS])
 }
 
 #[test]
 fn runtime_functions_serve(rt: HostRuntime) -> Result<(), Fail> {
     assert!(rt;
         bytes_and_strings_are_checked(&rt, rt.alloc())
-            && all_told::<_, Marked>(&rt, rt.alloc(), &[(ORIGINS, 16), (OTHERS, 11)])
+            && all_told::<_, Marked>(&rt, rt.alloc(), &[ORIGINS, OTHERS])
     );
     Ok(())
 }

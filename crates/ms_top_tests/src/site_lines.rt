@@ -3,6 +3,7 @@ ghost use Rattle.std.specs.Prelude.{◌≡◌, ◌+◌, ◌%◌, ◌++◌, ◌�
 ghost use Rattle.ms_valid.specs.Formed.{Formed};
 ghost use Rattle.ms_check.specs.Faults.{fault_of};
 
+use crate::failing::is_text;
 use crate::texts::{REPORTS, TWO_UNSET, reports_of, result_of};
 use ms_bits::{List, NoMemory, Trap};
 use ms_check::CheckError;
@@ -54,78 +55,79 @@ static ENDS: [(End, &str); 4] = [
     ),
 ];
 
-fn are_reported(alloc: Global, m: &Module, r: &RunResult) -> bool
+fn are_reported<R: Eprint>(rt: &R, alloc: Global, m: &Module, r: &RunResult) -> bool
     requires { Formed m.now }
 {
     match report_text_with(alloc, m, r, &Numbers) {
-        Ok(text) => text.as_slice() == REPORTED.as_bytes(),
+        Ok(text) => is_text(rt, REPORTED, text.as_slice()),
         Err(_) => false,
     }
 }
 
-fn is_closed(alloc: Global, m: &Module, r: &RunResult, lines: &str) -> bool
+fn is_closed<R: Eprint>(rt: &R, alloc: Global, m: &Module, r: &RunResult, lines: &str) -> bool
     requires { Formed m.now }
 {
     match closing_with(alloc, m, r, true, &Numbers) {
-        Ok(text) => text.as_slice() == lines.as_bytes(),
+        Ok(text) => is_text(rt, lines, text.as_slice()),
         Err(_) => false,
     }
 }
 
-fn all_are_closed(alloc: Global, m: &Module) -> bool
+fn all_are_closed<R: Eprint>(rt: &R, alloc: Global, m: &Module) -> bool
     requires { Formed m.now }
 {
     for (end, lines) in &ENDS {
         let r = result_of(alloc, *end, Vec::new(alloc), 0);
-        if !is_closed(alloc, m, &r, lines) {
+        if !is_closed(rt, alloc, m, &r, lines) {
             return false;
         }
     }
     true
 }
 
-fn are_printed(alloc: Global, m: &Module) -> bool
+fn are_printed<R: Eprint>(rt: &R, alloc: Global, m: &Module) -> bool
     requires { Formed m.now }
 {
     match reports_of(alloc, &REPORTS) {
         Ok(reports) => {
             let r = result_of(alloc, End::Reported, reports, 0);
-            are_reported(alloc, m, &r) && all_are_closed(alloc, m)
+            are_reported(rt, alloc, m, &r) && all_are_closed(rt, alloc, m)
         }
         Err(_) => false,
     }
 }
 
 #[tactic(auto, unfolding(ms_text_grammar::specs::Texts::max_bytes))]
-fn agrees(alloc: Global, text: &[u8]) -> bool {
+fn agrees<R: Eprint>(rt: &R, alloc: Global, text: &[u8]) -> bool {
     if text.len() > 1 << 20 {
         return false;
     }
     match read(alloc, text, Form::Plain) {
-        Ok(m) => are_printed(alloc, &m),
+        Ok(m) => are_printed(rt, alloc, &m),
         Err(_) => false,
     }
 }
 
-fn is_refused(alloc: Global, cause: CheckError, lines: &str) -> bool
+fn is_refused<R: Eprint>(rt: &R, alloc: Global, cause: CheckError, lines: &str) -> bool
     requires { is_some (fault_of cause) ≡ true }
 {
     let cause = Refusal::Check(cause);
     match refusal_line_with(alloc, &cause, &Numbers) {
-        Ok(text) => text.as_slice() == lines.as_bytes(),
+        Ok(text) => is_text(rt, lines, text.as_slice()),
         Err(_) => false,
     }
 }
 
 /// Whether a path from the block 0 over the block 2 is said with the lines of its use.
-fn is_path(alloc: Global) -> Result<bool, AllocError> {
+fn is_path<R: Eprint>(rt: &R, alloc: Global) -> Result<bool, AllocError> {
     let path = List::from_vec(Vec::from_slice(alloc, &[0, 2])?);
     let lines = "refused 15: undefined at site 8, path 0 2\n    number 8\n";
-    Ok(is_refused(alloc, CheckError::Undefined { site: 8, path }, lines))
+    Ok(is_refused(rt, alloc, CheckError::Undefined { site: 8, path }, lines))
 }
 
-fn are_refused(alloc: Global) -> bool {
+fn are_refused<R: Eprint>(rt: &R, alloc: Global) -> bool {
     is_refused(
+        rt,
         alloc,
         CheckError::TypeMismatch {
             site: 3,
@@ -133,22 +135,24 @@ fn are_refused(alloc: Global) -> bool {
         },
         "refused 11: type at site 3, operand 1\n    number 3\n",
     ) && is_refused(
+        rt,
         alloc,
         CheckError::BadPhi { site: 4 },
         "refused 12: phi at site 4\n    number 4\n",
     ) && is_refused(
+        rt,
         alloc,
         CheckError::BadMark { site: 9 },
         "refused 16: mark at site 9\n    number 9\n",
-    ) && is_refused(alloc, CheckError::NoMain, "refused 13: no main\n")
+    ) && is_refused(rt, alloc, CheckError::NoMain, "refused 13: no main\n")
 }
 
 #[test]
 fn lines_stand_under_their_sites(rt: HostRuntime) -> Result<(), Fail> {
     assert!(rt;
-        agrees(rt.alloc(), TWO_UNSET.as_bytes())
-            && are_refused(rt.alloc())
-            && is_path(rt.alloc()).ok() == Some(true)
+        agrees(&rt, rt.alloc(), TWO_UNSET.as_bytes())
+            && are_refused(&rt, rt.alloc())
+            && is_path(&rt, rt.alloc()).ok() == Some(true)
     );
     Ok(())
 }

@@ -3,6 +3,7 @@
 ghost use Rattle.ms_valid.specs.Formed.{Formed};
 
 use crate::calls::is_joined;
+use crate::failing::is_other;
 use ms_bits::{Bytes, Duplicate, List, Trap};
 use ms_ir::{Form, Module};
 use ms_read_top::read;
@@ -191,43 +192,56 @@ pub fn reports_of(alloc: Global, cases: &[Reported]) -> Result<Vec<Report>, Allo
 }
 
 /// Whether these pieces are the lines of the reports of a run.
-fn are_lines(alloc: Global, m: &Module, r: &RunResult, pieces: &[&str]) -> bool
+fn are_lines<R: Eprint>(rt: &R, alloc: Global, m: &Module, r: &RunResult, pieces: &[&str]) -> bool
     requires { Formed m.now }
 {
     match report_text(alloc, m, r) {
-        Ok(text) => is_joined(text.as_slice(), pieces),
+        Ok(text) => is_joined(text.as_slice(), pieces) || is_other(rt, pieces, text.as_slice()),
         Err(_) => false,
     }
 }
 
 /// Whether these pieces are the closing lines of a run.
-fn is_closing(alloc: Global, m: &Module, r: &RunResult, verdict: bool, pieces: &[&str]) -> bool
+fn is_closing<R: Eprint>(
+    rt: &R,
+    alloc: Global,
+    m: &Module,
+    r: &RunResult,
+    verdict: bool,
+    pieces: &[&str],
+) -> bool
     requires { Formed m.now }
 {
     match closing(alloc, m, r, verdict) {
-        Ok(text) => is_joined(text.as_slice(), pieces),
+        Ok(text) => is_joined(text.as_slice(), pieces) || is_other(rt, pieces, text.as_slice()),
         Err(_) => false,
     }
 }
 
-fn are_printed(alloc: Global, m: &Module, cases: &[Reported], pieces: &[&str]) -> bool
+fn are_printed<R: Eprint>(
+    rt: &R,
+    alloc: Global,
+    m: &Module,
+    cases: &[Reported],
+    pieces: &[&str],
+) -> bool
     requires { Formed m.now }
 {
     match reports_of(alloc, cases) {
         Ok(reports) => {
             let r = result_of(alloc, End::Reported, reports, 0);
-            are_lines(alloc, m, &r, pieces)
+            are_lines(rt, alloc, m, &r, pieces)
         }
         Err(_) => false,
     }
 }
 
-fn all_are_closed(alloc: Global, m: &Module, cases: &[Ended]) -> bool
+fn all_are_closed<R: Eprint>(rt: &R, alloc: Global, m: &Module, cases: &[Ended]) -> bool
     requires { Formed m.now }
 {
     for case in cases {
         let r = result_of(alloc, case.0, Vec::new(alloc), case.1);
-        if !is_closing(alloc, m, &r, case.2, &[case.3]) {
+        if !is_closing(rt, alloc, m, &r, case.2, &[case.3]) {
             return false;
         }
     }
@@ -235,20 +249,20 @@ fn all_are_closed(alloc: Global, m: &Module, cases: &[Ended]) -> bool
 }
 
 /// Whether the closing lines of a run with one report say that it has one.
-fn is_poisoned(alloc: Global, m: &Module, case: &Reported) -> bool
+fn is_poisoned<R: Eprint>(rt: &R, alloc: Global, m: &Module, case: &Reported) -> bool
     requires { Formed m.now }
 {
     match reports_of(alloc, &[*case]) {
         Ok(reports) => {
             let r = result_of(alloc, End::Reported, reports, 4);
             let lines = "end: reported\nreports: 1\nblind: 4\nverdict: poisoned\n";
-            is_closing(alloc, m, &r, true, &[lines])
+            is_closing(rt, alloc, m, &r, true, &[lines])
         }
         Err(_) => false,
     }
 }
 
-fn is_named(alloc: Global, m: &Module, kind: u32, name: &str) -> bool
+fn is_named<R: Eprint>(rt: &R, alloc: Global, m: &Module, kind: u32, name: &str) -> bool
     requires { Formed m.now }
 {
     let found = Found {
@@ -262,6 +276,7 @@ fn is_named(alloc: Global, m: &Module, kind: u32, name: &str) -> bool
     let behind =
         " at site 3 in @main, part 2, bits 0xa0 of i8\n  origin 1: alloca at site 1 in @main\n";
     are_printed(
+        rt,
         alloc,
         m,
         &[Reported(found, &ROOT, "")],
@@ -269,18 +284,18 @@ fn is_named(alloc: Global, m: &Module, kind: u32, name: &str) -> bool
     )
 }
 
-fn all_are_named(alloc: Global, m: &Module, kinds: &[(u32, &str)]) -> bool
+fn all_are_named<R: Eprint>(rt: &R, alloc: Global, m: &Module, kinds: &[(u32, &str)]) -> bool
     requires { Formed m.now }
 {
     for (kind, name) in kinds {
-        if !is_named(alloc, m, *kind, name) {
+        if !is_named(rt, alloc, m, *kind, name) {
             return false;
         }
     }
     true
 }
 
-fn all_are_traps(alloc: Global, m: &Module, traps: &[(Trap, &str)]) -> bool
+fn all_are_traps<R: Eprint>(rt: &R, alloc: Global, m: &Module, traps: &[(Trap, &str)]) -> bool
     requires { Formed m.now }
 {
     for (kind, name) in traps {
@@ -290,34 +305,35 @@ fn all_are_traps(alloc: Global, m: &Module, traps: &[(Trap, &str)]) -> bool
         };
         let r = result_of(alloc, end, Vec::new(alloc), 0);
         let behind = " at site 5 in @main\nreports: 0\nblind: 0\n";
-        if !is_closing(alloc, m, &r, false, &["end: trap ", name, behind]) {
+        if !is_closing(rt, alloc, m, &r, false, &["end: trap ", name, behind]) {
             return false;
         }
     }
     true
 }
 
-fn all_are_printed(alloc: Global, m: &Module) -> bool
+fn all_are_printed<R: Eprint>(rt: &R, alloc: Global, m: &Module) -> bool
     requires { Formed m.now }
 {
     are_printed(
+        rt,
         alloc,
         m,
         &REPORTS,
         &[REPORTS[0].2, REPORTS[1].2, REPORTS[2].2],
-    ) && is_poisoned(alloc, m, &REPORTS[0])
-        && all_are_named(alloc, m, &KINDS)
-        && all_are_closed(alloc, m, &ENDS)
-        && all_are_traps(alloc, m, &TRAPS)
+    ) && is_poisoned(rt, alloc, m, &REPORTS[0])
+        && all_are_named(rt, alloc, m, &KINDS)
+        && all_are_closed(rt, alloc, m, &ENDS)
+        && all_are_traps(rt, alloc, m, &TRAPS)
 }
 
 #[tactic(auto, unfolding(ms_text_grammar::specs::Texts::max_bytes))]
-fn agrees(alloc: Global, text: &[u8]) -> bool {
+fn agrees<R: Eprint>(rt: &R, alloc: Global, text: &[u8]) -> bool {
     if text.len() > 1 << 20 {
         return false;
     }
     match read(alloc, text, Form::Plain) {
-        Ok(m) => all_are_printed(alloc, &m),
+        Ok(m) => all_are_printed(rt, alloc, &m),
         Err(_) => false,
     }
 }
@@ -344,7 +360,7 @@ fn results_are_copied(alloc: Global) -> Result<bool, AllocError> {
 #[test]
 fn reports_and_ends_are_printed_and_copied(rt: HostRuntime) -> Result<(), Fail> {
     assert!(rt;
-        agrees(rt.alloc(), TWO_UNSET.as_bytes())
+        agrees(&rt, rt.alloc(), TWO_UNSET.as_bytes())
             && are_copied(rt.alloc()).ok() == Some(true)
             && results_are_copied(rt.alloc()).ok() == Some(true)
     );

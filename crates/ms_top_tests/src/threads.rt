@@ -733,12 +733,6 @@ verdict: clean
 
 #[test]
 fn threads_go_on_by_their_schedule(rt: HostRuntime) -> Result<(), Fail> {
-    assert!(rt;
-        all_told::<_, Case>(
-            &rt,
-            rt.alloc(),
-            &[(CREATED, 8), (JOINED, 11), (ENDED, 8), (STARTED, 3)]
-        )
-    );
+    assert!(rt; all_told::<_, Case>(&rt, rt.alloc(), &[CREATED, JOINED, ENDED, STARTED]));
     Ok(())
 }

@@ -19,6 +19,7 @@
 
 use crate::alike::{CheckedRow, table_agrees_twice};
 use crate::calls::{Case, Row, table_agrees};
+use crate::failing::fails;
 use crate::modules::{Marked, Run};
 use std::alloc::Global;
 use std::str::from_utf8;
@@ -98,89 +99,92 @@ fn row_of<T: Told>(text: &'static str) -> Option<T> {
     }
 }
 
+/// The row of a text. One that can't be read is printed.
+fn read_row<R: Eprint, T: Told>(rt: &R, text: &'static str) -> Option<T> {
+    let row = row_of(without_note(text));
+    if row.is_none() && eprintln!(rt; "no row of {} fields:\n{text}", T::FIELDS).is_err() {
+        return None;
+    }
+    row
+}
+
 /// The rows of a text, if each can be read and there is memory.
-fn rows_of<T: Told>(alloc: Global, text: &'static str) -> Option<Vec<T>> {
+fn rows_of<R: Eprint, T: Told>(rt: &R, alloc: Global, text: &'static str) -> Option<Vec<T>> {
     let mut rows = Vec::new(alloc);
     for row in text.split_terminator("\n====\n") {
-        rows.push(row_of(without_note(row))?).ok()?;
+        rows.push(read_row(rt, row)?).ok()?;
     }
     Some(rows)
 }
 
-/// These rows, if they are so many, and some.
-fn in_number<T: Told>(rows: Vec<T>, wanted: usize) -> Option<Vec<T>> {
-    if wanted != 0 && rows.len() == wanted {
-        Some(rows)
-    } else {
-        None
-    }
-}
-
-/// The rows of a table of ASCII signs, if it has so many, at least one, and each can be read.
-pub fn rows_told<T: Told>(alloc: Global, table: &(&'static [u8], usize)) -> Option<Vec<T>> {
-    match from_utf8(table.0) {
-        Ok(text) => in_number(rows_of(alloc, text)?, table.1),
-        Err(_) => None,
-    }
-}
-
-fn table_is_told<R: Threads + Sync, T: Row + Told>(
+/// The rows of a table of ASCII signs, if there is one and each can be read.
+pub fn rows_told<R: Eprint, T: Told>(
     rt: &R,
     alloc: Global,
-    table: &(&'static [u8], usize),
+    table: &'static [u8],
+) -> Option<Vec<T>> {
+    match from_utf8(table) {
+        Ok(text) if !text.is_empty() => rows_of(rt, alloc, text),
+        _ => None,
+    }
+}
+
+fn table_is_told<R: Threads + Sync + Eprint, T: Row + Told>(
+    rt: &R,
+    alloc: Global,
+    table: &'static [u8],
 ) -> bool {
-    match rows_told::<T>(alloc, table) {
+    match rows_told::<R, T>(rt, alloc, table) {
         Some(rows) => table_agrees(rt, alloc, rows.as_slice()),
         None => false,
     }
 }
 
-/// Whether each of these tables has so many rows, and the call of each row writes and returns what the row says.
-pub fn all_told<R: Threads + Sync, T: Row + Told>(
+/// Whether the call of each row of these tables writes and returns what the row says. Each table has a row.
+pub fn all_told<R: Threads + Sync + Eprint, T: Row + Told>(
     rt: &R,
     alloc: Global,
-    tables: &[(&'static [u8], usize)],
+    tables: &[&'static [u8]],
 ) -> bool {
-    for table in tables {
+    for (number, table) in tables.iter().enumerate() {
         if !table_is_told::<R, T>(rt, alloc, table) {
-            return false;
+            return fails(rt, "table", number);
         }
     }
     true
 }
 
-fn table_is_told_twice<R: Threads + Sync, T: CheckedRow + Told>(
+fn table_is_told_twice<R: Threads + Sync + Eprint, T: CheckedRow + Told>(
     rt: &R,
     alloc: Global,
-    table: &(&'static [u8], usize),
+    table: &'static [u8],
 ) -> bool {
-    match rows_told::<T>(alloc, table) {
+    match rows_told::<R, T>(rt, alloc, table) {
         Some(rows) => table_agrees_twice(rt, alloc, rows.as_slice()),
         None => false,
     }
 }
 
-/// Whether each of these tables has so many rows, and `check` says what each row tells, also where its module is first written
-/// with inserted code.
-pub fn all_told_twice<R: Threads + Sync, T: CheckedRow + Told>(
+/// Whether `check` says what each row of these tables tells, also where its module is first written with inserted code.
+pub fn all_told_twice<R: Threads + Sync + Eprint, T: CheckedRow + Told>(
     rt: &R,
     alloc: Global,
-    tables: &[(&'static [u8], usize)],
+    tables: &[&'static [u8]],
 ) -> bool {
-    for table in tables {
+    for (number, table) in tables.iter().enumerate() {
         if !table_is_told_twice::<R, T>(rt, alloc, table) {
-            return false;
+            return fails(rt, "table", number);
         }
     }
     true
 }
 
-/// Whether each of these tables has so many rows, and each row's module runs as it says, is said the same of by `check`, and by
-/// `run` of what `instrument` writes of it; without a report each ends as the row says.
-pub fn all_told_runs<R: Threads + Sync>(
+/// Whether each row's module of these tables runs as it says, is said the same of by `check`, and by `run` of what `instrument`
+/// writes of it; without a report each ends as the row says.
+pub fn all_told_runs<R: Threads + Sync + Eprint>(
     rt: &R,
     alloc: Global,
-    tables: &[(&'static [u8], usize)],
+    tables: &[&'static [u8]],
 ) -> bool {
     all_told::<R, Run>(rt, alloc, tables) && all_told_twice::<R, Run>(rt, alloc, tables)
 }

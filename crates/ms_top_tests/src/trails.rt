@@ -6,6 +6,7 @@ ghost use Rattle.ms_valid.specs.{Formed.{Formed}, Uninstrumented.{CanInstrument}
 ghost use Rattle.ms_moves.specs.Scanned.{Ascending};
 ghost use Rattle.ms_top.specs.Explained.{CanLead};
 
+use crate::failing::fails;
 use ms_bits::Bytes;
 use ms_check::{CheckedModule, check};
 use ms_ir::{Form, Module};
@@ -210,10 +211,10 @@ fn agrees(alloc: Global, text: &[u8], way: &Way) -> bool {
     }
 }
 
-fn all_agree(alloc: Global, ways: &[Way]) -> bool {
-    for way in ways {
+fn all_agree<R: Eprint>(rt: &R, alloc: Global, ways: &[Way]) -> bool {
+    for (number, way) in ways.iter().enumerate() {
         if !agrees(alloc, way.0.as_bytes(), way) {
-            return false;
+            return fails(rt, "row", number);
         }
     }
     true
@@ -221,6 +222,6 @@ fn all_agree(alloc: Global, ways: &[Way]) -> bool {
 
 #[test]
 fn ways_are_found_and_others_refused(rt: HostRuntime) -> Result<(), Fail> {
-    assert!(rt; all_agree(rt.alloc(), &WAYS));
+    assert!(rt; all_agree(&rt, rt.alloc(), &WAYS));
     Ok(())
 }

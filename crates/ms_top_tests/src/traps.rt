@@ -493,14 +493,7 @@ fn traps_are_named(rt: HostRuntime) -> Result<(), Fail> {
         all_told_runs(
             &rt,
             rt.alloc(),
-            &[
-                (SHIFTS, 11),
-                (DIVISIONS, 16),
-                (SUMS, 24),
-                (OTHER_FLAGS, 16),
-                (TWO_CAUSES, 15),
-                (PLACES, 9)
-            ]
+            &[SHIFTS, DIVISIONS, SUMS, OTHER_FLAGS, TWO_CAUSES, PLACES]
         )
     );
     Ok(())

@@ -504,15 +504,7 @@ fn modules_are_refused(rt: HostRuntime) -> Result<(), Fail> {
             &rt,
             rt.alloc(),
             &[
-                (DUPLICATES, 4),
-                (UNKNOWNS, 5),
-                (TYPES, 5),
-                (PHIS, 4),
-                (MAINS, 4),
-                (EXTERNALS, 4),
-                (USES, 4),
-                (MARKS, 4),
-                (SIZES, 5)
+                DUPLICATES, UNKNOWNS, TYPES, PHIS, MAINS, EXTERNALS, USES, MARKS, SIZES
             ]
         )
     );

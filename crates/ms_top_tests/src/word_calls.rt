@@ -415,19 +415,15 @@ verdict: unsure
 "#;
 
 /// Whether three calls of each function show the masks, and inserted code takes no step.
-fn masks_are_shown<R: Threads + Sync>(rt: &R, alloc: Global) -> bool {
-    all_told::<_, Case>(rt, alloc, &[(THREE_MASKS, 17), (STEPS, 2)])
+fn masks_are_shown<R: Threads + Sync + Eprint>(rt: &R, alloc: Global) -> bool {
+    all_told::<_, Case>(rt, alloc, &[THREE_MASKS, STEPS])
 }
 
 #[test]
 fn words_are_answered(rt: HostRuntime) -> Result<(), Fail> {
     assert!(rt;
         masks_are_shown(&rt, rt.alloc())
-            && all_told_twice::<_, Case>(
-                &rt,
-                rt.alloc(),
-                &[(ANSWERS, 21), (BROKEN, 3), (MASKS, 17), (BLIND, 3)]
-            )
+            && all_told_twice::<_, Case>(&rt, rt.alloc(), &[ANSWERS, BROKEN, MASKS, BLIND])
     );
     Ok(())
 }

@@ -475,13 +475,7 @@ fn words_are_computed(rt: HostRuntime) -> Result<(), Fail> {
         all_told_runs(
             &rt,
             rt.alloc(),
-            &[
-                (BITS, 10),
-                (COMPARISONS, 19),
-                (CASTS, 14),
-                (CHOICES, 5),
-                (UNDEFINED, 16)
-            ]
+            &[BITS, COMPARISONS, CASTS, CHOICES, UNDEFINED]
         ) && all_agree(&rt, rt.alloc(), &[&FILLS])
     );
     Ok(())
