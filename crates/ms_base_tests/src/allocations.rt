@@ -1,5 +1,6 @@
 //! Whole histories of a table of allocations, against numbers worked out by hand from the layout of memory.
 
+use crate::rows::{fails, is};
 use ms_alloc::{AllocError, AllocKind, BadFree, Table};
 use std::alloc::Global;
 use std::test::Fail;
@@ -130,52 +131,54 @@ static ENDS: [Step; 22] = [
 ];
 
 /// Whether a question has its answer.
-fn is_told(table: &Table, step: &Step) -> bool {
+fn is_told<R: Eprint>(rt: &R, table: &Table, step: &Step) -> bool {
     match step {
-        Fits(kind, size, want) => table.fits(*kind, *size) == *want,
-        Covers(addr, n, want) => table.covers(*addr, *n) == *want,
-        Block(addr, base, size) => table.block_of(*addr) == Some((*base, *size)),
-        NoBlock(addr) => table.block_of(*addr).is_none(),
-        HeapSize(base, size) => table.heap_size(*base) == Some(*size),
-        NoHeapBlock(base) => table.heap_size(*base).is_none(),
-        Mark(want) => table.mark() == *want,
+        Fits(kind, size, want) => is(rt, &table.fits(*kind, *size), want),
+        Covers(addr, n, want) => is(rt, &table.covers(*addr, *n), want),
+        Block(addr, base, size) => is(rt, &table.block_of(*addr), &Some((*base, *size))),
+        NoBlock(addr) => is(rt, &table.block_of(*addr), &None),
+        HeapSize(base, size) => is(rt, &table.heap_size(*base), &Some(*size)),
+        NoHeapBlock(base) => is(rt, &table.heap_size(*base), &None),
+        Mark(want) => is(rt, &table.mark(), want),
         _ => false,
     }
 }
 
 /// Whether a call has its answer.
-fn agrees(table: &mut Table, step: &Step) -> bool {
+fn agrees<R: Eprint>(rt: &R, table: &mut Table, step: &Step) -> bool {
     match step {
-        Makes(kind, size, base) => table.make(*kind, *size) == Ok(*base),
-        Refuses(kind, size) => table.make(*kind, *size) == Err(AllocError::Full),
-        Ends(base, size) => table.end(*base) == Ok(*size),
-        BadEnd(base) => table.end(*base) == Err(BadFree),
+        Makes(kind, size, base) => is(rt, &table.make(*kind, *size), &Ok(*base)),
+        Refuses(kind, size) => is(rt, &table.make(*kind, *size), &Err(AllocError::Full)),
+        Ends(base, size) => is(rt, &table.end(*base), &Ok(*size)),
+        BadEnd(base) => is(rt, &table.end(*base), &Err(BadFree)),
         Release(mark) => {
             table.release(*mark);
             true
         }
-        _ => is_told(table, step),
+        _ => is_told(rt, table, step),
     }
 }
 
-fn all_agree(table: &mut Table, steps: &[Step]) -> bool {
-    for step in steps {
-        if !agrees(table, step) {
-            return false;
+fn all_agree<R: Eprint>(rt: &R, table: &mut Table, steps: &[Step]) -> bool {
+    for (number, step) in steps.iter().enumerate() {
+        if !agrees(rt, table, step) {
+            return fails(rt, number);
         }
     }
     true
 }
 
-fn is_so(alloc: Global, steps: &[Step]) -> bool {
+fn is_so<R: Eprint>(rt: &R, alloc: Global, steps: &[Step]) -> bool {
     let mut table = Table::new(alloc);
-    all_agree(&mut table, steps)
+    all_agree(rt, &mut table, steps)
 }
 
 #[test]
 fn allocations_are_made_and_ended(rt: HostRuntime) -> Result<(), Fail> {
     assert!(rt;
-        is_so(rt.alloc(), &LAYOUT) && is_so(rt.alloc(), &LIMITS) && is_so(rt.alloc(), &ENDS)
+        is_so(&rt, rt.alloc(), &LAYOUT)
+            && is_so(&rt, rt.alloc(), &LIMITS)
+            && is_so(&rt, rt.alloc(), &ENDS)
     );
     Ok(())
 }

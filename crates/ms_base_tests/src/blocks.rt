@@ -1,6 +1,7 @@
 //! Whole histories of a block, against values worked out by hand, and all copies in a small one against copies over
 //! arrays.
 
+use crate::rows::{fails, is};
 use ms_raw::Block;
 use std::alloc::Global;
 use std::test::Fail;
@@ -86,12 +87,12 @@ static SHADOW: [u8; 5] = [0, 22, 0, 24, 25];
 static ORIGINS: [u32; 2] = [31, 32];
 
 /// Whether a question has its answer.
-fn is_shown(block: &Block, step: &Step) -> bool {
+fn is_shown<R: Eprint>(rt: &R, block: &Block, step: &Step) -> bool {
     match step {
-        Len(want) => block.len() == *want,
-        Byte(i, want) => *i < block.len() && block.byte(*i) == *want,
-        Shadow(i, want) => *i < block.len() && block.shadow(*i) == *want,
-        Origin(i, want) => *i < 8 && *i * 4 < block.len() && block.origin(*i) == *want,
+        Len(want) => is(rt, &block.len(), want),
+        Byte(i, want) => *i < block.len() && is(rt, &block.byte(*i), want),
+        Shadow(i, want) => *i < block.len() && is(rt, &block.shadow(*i), want),
+        Origin(i, want) => *i < 8 && *i * 4 < block.len() && is(rt, &block.origin(*i), want),
         _ => false,
     }
 }
@@ -135,32 +136,32 @@ fn sets(block: &mut Block, i: u64, byte: Option<u8>, shadow: Option<u8>) -> bool
 }
 
 /// Whether a call has its answer.
-fn agrees(block: &mut Block, step: &Step) -> bool {
+fn agrees<R: Eprint>(rt: &R, block: &mut Block, step: &Step) -> bool {
     match step {
         SetByte(i, byte) => sets(block, *i, Some(*byte), None),
         SetShadow(i, shadow) => sets(block, *i, None, Some(*shadow)),
         SetOrigin(cell, origin) => sets_origin(block, *cell, *origin),
         CopyBytes(to, from, n) => copies(block, *to, *from, *n),
         CopyShadow(to, from, n) => copies_shadow(block, *to, *from, *n),
-        _ => is_shown(block, step),
+        _ => is_shown(rt, block, step),
     }
 }
 
-fn all_agree(block: &mut Block, steps: &[Step]) -> bool {
-    for step in steps {
-        if !agrees(block, step) {
-            return false;
+fn all_agree<R: Eprint>(rt: &R, block: &mut Block, steps: &[Step]) -> bool {
+    for (number, step) in steps.iter().enumerate() {
+        if !agrees(rt, block, step) {
+            return fails(rt, number);
         }
     }
     true
 }
 
-fn is_so(alloc: Global, len: u64, steps: &[Step]) -> bool {
+fn is_so<R: Eprint>(rt: &R, alloc: Global, len: u64, steps: &[Step]) -> bool {
     if len > 8 {
         return false;
     }
     match Block::new(alloc, len) {
-        Ok(mut block) => all_agree(&mut block, steps),
+        Ok(mut block) => all_agree(rt, &mut block, steps),
         Err(_) => false,
     }
 }
@@ -177,19 +178,25 @@ fn is_filled(block: &mut Block) -> bool {
 }
 
 /// Whether a block holds these bytes, shadow bytes and origins.
-fn holds(block: &Block, bytes: &[u8; 5], shadow: &[u8; 5], origins: &[u32; 2]) -> bool {
-    let mut good = is_shown(block, &Origin(0, origins[0]))
-        && is_shown(block, &Origin(1, origins[1]));
+fn holds<R: Eprint>(
+    rt: &R,
+    block: &Block,
+    bytes: &[u8; 5],
+    shadow: &[u8; 5],
+    origins: &[u32; 2],
+) -> bool {
+    let mut good = is_shown(rt, block, &Origin(0, origins[0]))
+        && is_shown(rt, block, &Origin(1, origins[1]));
     for i in 0..5usize {
         good = good
-            && is_shown(block, &Byte(i as u64, bytes[i]))
-            && is_shown(block, &Shadow(i as u64, shadow[i]));
+            && is_shown(rt, block, &Byte(i as u64, bytes[i]))
+            && is_shown(rt, block, &Shadow(i as u64, shadow[i]));
     }
     good
 }
 
 /// Whether a copy in the block is the copy over arrays, byte by byte out of what stood there before.
-fn is_copied(block: &mut Block, to: usize, from: usize, n: usize) -> bool {
+fn is_copied<R: Eprint>(rt: &R, block: &mut Block, to: usize, from: usize, n: usize) -> bool {
     if n > 5 || to > 5 - n || from > 5 - n {
         return true;
     }
@@ -206,18 +213,18 @@ fn is_copied(block: &mut Block, to: usize, from: usize, n: usize) -> bool {
     is_filled(block)
         && copies(block, to as u64, from as u64, n as u64)
         && copies_shadow(block, to as u64, from as u64, n as u64)
-        && holds(block, &bytes, &shadow, &origins)
+        && holds(rt, block, &bytes, &shadow, &origins)
 }
 
 /// Whether all copies in a block of 5 are as those over arrays: 216 numbers, of which each has a place, a place and a
 /// number of bytes below 6.
-fn all_copied(alloc: Global) -> bool {
+fn all_copied<R: Eprint>(rt: &R, alloc: Global) -> bool {
     let Ok(mut block) = Block::new(alloc, 5) else {
         return false;
     };
     for row in 0..216usize {
-        if !is_copied(&mut block, row / 36, row / 6 % 6, row % 6) {
-            return false;
+        if !is_copied(rt, &mut block, row / 36, row / 6 % 6, row % 6) {
+            return fails(rt, row);
         }
     }
     true
@@ -226,10 +233,10 @@ fn all_copied(alloc: Global) -> bool {
 #[test]
 fn blocks_are_copied(rt: HostRuntime) -> Result<(), Fail> {
     assert!(rt;
-        is_so(rt.alloc(), 8, &COPIED_SHADOW)
-            && is_so(rt.alloc(), 5, &COPIED_BYTES)
-            && is_so(rt.alloc(), 0, &NO_BYTES)
-            && all_copied(rt.alloc())
+        is_so(&rt, rt.alloc(), 8, &COPIED_SHADOW)
+            && is_so(&rt, rt.alloc(), 5, &COPIED_BYTES)
+            && is_so(&rt, rt.alloc(), 0, &NO_BYTES)
+            && all_copied(&rt, rt.alloc())
     );
     Ok(())
 }

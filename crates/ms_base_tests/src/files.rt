@@ -3,6 +3,7 @@
 ghost use Rattle.std.specs.Prelude.{◌≡◌, ◌+◌, ◌^◌, ◌<◌, ◌≤◌, List, ℕ, length, Some, None};
 ghost use Rattle.ms_io.specs.{Counts.{Rose, RoseBy}, Reading.{Holdings}, Writing.{with_appended}};
 
+use crate::rows::{differs, fails, is};
 use ms_io::{
     FileError, Files, MemFiles, MemSink, RealFiles, Sink, SinkFailed, SureFiles, SureSink,
 };
@@ -12,6 +13,7 @@ use std::test::Fail;
 use std::{fs, rt};
 
 /// What a file is read as, or why it isn't.
+#[derive(Debug, PartialEq)]
 enum Want {
     Whole(&'static [u8]),
     TooLong(u64),
@@ -23,7 +25,7 @@ enum Want {
 struct Asked(&'static str, u32, Want);
 
 /// How a copy of a file to a sink ended.
-#[derive(Clone, Copy, PartialEq)]
+#[derive(Clone, Copy, Debug, PartialEq)]
 enum Copied {
     Whole,
     Unheld,
@@ -94,20 +96,26 @@ fn failing_files(alloc: Global, failing: u64) -> Result<MemFiles, AllocError> {
     Ok(MemFiles::new(held, vec![in alloc; failing]?))
 }
 
-fn is_answer(found: Result<Vec<u8>, FileError>, want: &Want) -> bool {
-    match found {
+fn is_answer<R: Eprint>(rt: &R, found: &Result<Vec<u8>, FileError>, want: &Want) -> bool {
+    let good = match found {
         Ok(bytes) => matches!(want, Want::Whole(text) if bytes.as_slice() == *text),
-        Err(FileError::TooLong { taken }) => matches!(want, Want::TooLong(n) if *n == taken),
+        Err(FileError::TooLong { taken }) => matches!(want, Want::TooLong(n) if n == taken),
         Err(FileError::Absent) => matches!(want, Want::Absent),
         Err(FileError::Failed) => matches!(want, Want::Failed),
         Err(FileError::NoMemory) => false,
-    }
+    };
+    good || differs(rt, found, want)
 }
 
-fn all_answered<F: Files>(alloc: Global, files: &mut F, asked: &[Asked]) -> bool {
-    for ask in asked {
-        if !is_answer(files.read_whole(alloc, ask.0, ask.1 as u64), &ask.2) {
-            return false;
+fn all_answered<R: Eprint, F: Files>(
+    rt: &R,
+    alloc: Global,
+    files: &mut F,
+    asked: &[Asked],
+) -> bool {
+    for (number, ask) in asked.iter().enumerate() {
+        if !is_answer(rt, &files.read_whole(alloc, ask.0, ask.1 as u64), &ask.2) {
+            return fails(rt, number);
         }
     }
     true
@@ -150,44 +158,55 @@ fn copy_file<F: Files, O: Sink>(
     }
 }
 
-fn all_end<F: Files, O: Sink>(alloc: Global, files: &mut F, out: &mut O, rows: &[Ended]) -> bool {
-    for row in rows {
-        if copy_file(alloc, files, out, row.0, row.1 as u64) != row.2 {
-            return false;
+fn all_end<R: Eprint, F: Files, O: Sink>(
+    rt: &R,
+    alloc: Global,
+    files: &mut F,
+    out: &mut O,
+    rows: &[Ended],
+) -> bool {
+    for (number, row) in rows.iter().enumerate() {
+        if !is(
+            rt,
+            &copy_file(alloc, files, out, row.0, row.1 as u64),
+            &row.2,
+        ) {
+            return fails(rt, number);
         }
     }
     true
 }
 
-fn memory_answers(alloc: Global) -> bool {
+fn memory_answers<R: Eprint>(rt: &R, alloc: Global) -> bool {
     match failing_files(alloc, 4) {
-        Ok(mut files) => all_answered(alloc, &mut files, &IN_MEMORY),
+        Ok(mut files) => all_answered(rt, alloc, &mut files, &IN_MEMORY),
         Err(_) => false,
     }
 }
 
-fn sure_files_answer(alloc: Global) -> bool {
+fn sure_files_answer<R: Eprint>(rt: &R, alloc: Global) -> bool {
     match two_files(alloc) {
-        Ok(held) => all_answered(alloc, &mut SureFiles::new(held), &NEVER_FAILING),
+        Ok(held) => all_answered(rt, alloc, &mut SureFiles::new(held), &NEVER_FAILING),
         Err(_) => false,
     }
 }
 
 /// Whether files that never fail are copied into a sink of five bytes, which tells what it took.
-fn copies_fill_a_sink(alloc: Global) -> bool {
+fn copies_fill_a_sink<R: Eprint>(rt: &R, alloc: Global) -> bool {
     match (two_files(alloc), vec![in alloc; 0u8; 5]) {
         (Ok(held), Ok(room)) => {
             let mut out = MemSink::new(Vec::new(alloc), room);
-            all_end(alloc, &mut SureFiles::new(held), &mut out, &COPIES)
+            all_end(rt, alloc, &mut SureFiles::new(held), &mut out, &COPIES)
                 && out.as_slice() == b"abcab".as_slice()
         }
         _ => false,
     }
 }
 
-fn copies_are_whole(alloc: Global) -> bool {
+fn copies_are_whole<R: Eprint>(rt: &R, alloc: Global) -> bool {
     match two_files(alloc) {
         Ok(held) => all_end(
+            rt,
             alloc,
             &mut SureFiles::new(held),
             &mut SureSink::new(),
@@ -197,28 +216,28 @@ fn copies_are_whole(alloc: Global) -> bool {
     }
 }
 
-fn failed_reads_are_told(alloc: Global) -> bool {
+fn failed_reads_are_told<R: Eprint>(rt: &R, alloc: Global) -> bool {
     match failing_files(alloc, 0) {
-        Ok(mut files) => all_end(alloc, &mut files, &mut SureSink::new(), &UNREAD_COPIES),
+        Ok(mut files) => all_end(rt, alloc, &mut files, &mut SureSink::new(), &UNREAD_COPIES),
         Err(_) => false,
     }
 }
 
 /// Whether a file that was written is read whole; it is removed again.
-fn written_file_answers<R: rt::Files>(rt: &R, alloc: Global) -> bool {
+fn written_file_answers<R: rt::Files + Eprint>(rt: &R, alloc: Global) -> bool {
     fs::write(rt, "word.txt", b"define\n").is_ok()
-        && all_answered(alloc, &mut RealFiles::new(rt), &OF_THE_SYSTEM)
+        && all_answered(rt, alloc, &mut RealFiles::new(rt), &OF_THE_SYSTEM)
         && fs::remove_file(rt, "word.txt").is_ok()
 }
 
 #[test]
 fn files_are_read_and_copied(rt: HostRuntime) -> Result<(), Fail> {
     assert!(rt;
-        memory_answers(rt.alloc())
-            && sure_files_answer(rt.alloc())
-            && copies_fill_a_sink(rt.alloc())
-            && copies_are_whole(rt.alloc())
-            && failed_reads_are_told(rt.alloc())
+        memory_answers(&rt, rt.alloc())
+            && sure_files_answer(&rt, rt.alloc())
+            && copies_fill_a_sink(&rt, rt.alloc())
+            && copies_are_whole(&rt, rt.alloc())
+            && failed_reads_are_told(&rt, rt.alloc())
             && written_file_answers(&rt, rt.alloc())
     );
     Ok(())

@@ -15,6 +15,8 @@ mod paths;
 #[cfg(test)]
 mod planes;
 #[cfg(test)]
+mod rows;
+#[cfg(test)]
 mod sinks;
 #[cfg(test)]
 mod words;

@@ -1,5 +1,6 @@
 //! Lists, boxes and texts: orders worked out by hand, and copies that equal their source.
 
+use crate::rows::{fails, is};
 use ms_bits::shared::{all_shared, boxed_is_shared, list_is_shared};
 use ms_bits::{
     BinOp, Boxed, Bytes, CastOp, Duplicate, Flags, List, NoMemory, Pred, Text, Trap,
@@ -7,6 +8,7 @@ use ms_bits::{
 };
 use std::alloc::Global;
 use std::cmp::Ordering;
+use std::fmt::Debug;
 use std::test::Fail;
 
 /// Two lists of bytes, and their order.
@@ -32,53 +34,59 @@ fn list(alloc: Global, items: &[u8]) -> Result<Bytes, NoMemory> {
 }
 
 /// Whether a copy is made, and equals its source.
-fn is_copied<T: Duplicate + PartialEq>(alloc: Global, value: &T) -> bool {
+fn is_copied<R: Eprint, T: Duplicate + PartialEq + Debug>(
+    rt: &R,
+    alloc: Global,
+    value: &T,
+) -> bool {
     match value.copy(alloc) {
-        Ok(copy) => copy == *value,
+        Ok(copy) => is(rt, &copy, value),
         Err(_) => false,
     }
 }
 
-fn is_ordered<T: Ord>(a: &T, b: &T, order: Ordering) -> bool {
-    a.cmp(b) == order && a.partial_cmp(b) == Some(order) && (*a == *b) == (order == Ordering::Equal)
+fn is_ordered<R: Eprint, T: Ord>(rt: &R, a: &T, b: &T, order: Ordering) -> bool {
+    is(rt, &a.cmp(b), &order)
+        && is(rt, &a.partial_cmp(b), &Some(order))
+        && is(rt, &(*a == *b), &(order == Ordering::Equal))
 }
 
-fn boxes_are_compared(alloc: Global, a: Bytes, b: Bytes, row: &Ordered) -> bool {
+fn boxes_are_compared<R: Eprint>(rt: &R, alloc: Global, a: Bytes, b: Bytes, row: &Ordered) -> bool {
     match (Boxed::new(alloc, a), Boxed::new(alloc, b)) {
         (Ok(a), Ok(b)) => {
             let same = a == b;
-            same == (row.2 == Ordering::Equal)
-                && is_copied(alloc, &a)
+            is(rt, &same, &(row.2 == Ordering::Equal))
+                && is_copied(rt, alloc, &a)
                 && a.get().as_slice() == row.0
         }
         _ => false,
     }
 }
 
-fn agrees(alloc: Global, row: &Ordered) -> bool {
+fn agrees<R: Eprint>(rt: &R, alloc: Global, row: &Ordered) -> bool {
     match (list(alloc, row.0), list(alloc, row.1)) {
         (Ok(a), Ok(b)) => {
             bytes_in_range(&a);
-            is_ordered(&a, &b, row.2)
-                && is_copied(alloc, &a)
+            is_ordered(rt, &a, &b, row.2)
+                && is_copied(rt, alloc, &a)
                 && a.as_slice() == row.0
-                && boxes_are_compared(alloc, a, b, row)
+                && boxes_are_compared(rt, alloc, a, b, row)
         }
         _ => false,
     }
 }
 
-fn all_agree(alloc: Global, rows: &[Ordered]) -> bool {
-    for row in rows {
-        if !agrees(alloc, row) {
-            return false;
+fn all_agree<R: Eprint>(rt: &R, alloc: Global, rows: &[Ordered]) -> bool {
+    for (number, row) in rows.iter().enumerate() {
+        if !agrees(rt, alloc, row) {
+            return fails(rt, number);
         }
     }
     true
 }
 
 /// Copies of the types that are no list.
-fn small_values_are_copied(alloc: Global) -> bool {
+fn small_values_are_copied<R: Eprint>(rt: &R, alloc: Global) -> bool {
     let flags = Flags {
         nuw: true,
         nsw: false,
@@ -87,40 +95,40 @@ fn small_values_are_copied(alloc: Global) -> bool {
         nneg: true,
         samesign: false,
     };
-    is_copied(alloc, &flags)
-        && is_copied(alloc, &(7u8, 8u64))
-        && is_copied(alloc, &(9u32, true))
-        && is_copied(alloc, &Some(7u8))
-        && is_copied(alloc, &None::<u8>)
-        && is_copied(alloc, &BinOp::Ashr)
-        && is_copied(alloc, &Pred::Sle)
-        && is_copied(alloc, &CastOp::Sext)
-        && is_copied(alloc, &Trap::Nuw)
+    is_copied(rt, alloc, &flags)
+        && is_copied(rt, alloc, &(7u8, 8u64))
+        && is_copied(rt, alloc, &(9u32, true))
+        && is_copied(rt, alloc, &Some(7u8))
+        && is_copied(rt, alloc, &None::<u8>)
+        && is_copied(rt, alloc, &BinOp::Ashr)
+        && is_copied(rt, alloc, &Pred::Sle)
+        && is_copied(rt, alloc, &CastOp::Sext)
+        && is_copied(rt, alloc, &Trap::Nuw)
 }
 
 /// Whether a list of words is copied, and gives its items back.
-fn words_are_copied(alloc: Global) -> bool {
+fn words_are_copied<R: Eprint>(rt: &R, alloc: Global) -> bool {
     match vec![in alloc; 1u64, 2u64] {
         Ok(items) => {
             let words = List::from_vec(items);
             words_in_range(&words);
-            is_copied(alloc, &words) && words.into_vec().as_slice() == [1u64, 2u64].as_slice()
+            is_copied(rt, alloc, &words) && words.into_vec().as_slice() == [1u64, 2u64].as_slice()
         }
         Err(_) => false,
     }
 }
 
-fn is_kept(alloc: Global, text: &str) -> bool {
+fn is_kept<R: Eprint>(rt: &R, alloc: Global, text: &str) -> bool {
     match text.to_string(alloc) {
-        Ok(owned) => Text::from_string(owned).as_str() == text,
+        Ok(owned) => is(rt, &Text::from_string(owned).as_str(), &text),
         Err(_) => false,
     }
 }
 
-fn all_kept(alloc: Global, texts: &[&str]) -> bool {
-    for text in texts {
-        if !is_kept(alloc, text) {
-            return false;
+fn all_kept<R: Eprint>(rt: &R, alloc: Global, texts: &[&str]) -> bool {
+    for (number, text) in texts.iter().enumerate() {
+        if !is_kept(rt, alloc, text) {
+            return fails(rt, number);
         }
     }
     true
@@ -136,10 +144,10 @@ fn all_types_cross_threads() {
 #[test]
 fn lists_are_compared_and_copied(rt: HostRuntime) -> Result<(), Fail> {
     assert!(rt;
-        all_agree(rt.alloc(), &ORDERS)
-            && small_values_are_copied(rt.alloc())
-            && words_are_copied(rt.alloc())
-            && all_kept(rt.alloc(), &TEXTS)
+        all_agree(&rt, rt.alloc(), &ORDERS)
+            && small_values_are_copied(&rt, rt.alloc())
+            && words_are_copied(&rt, rt.alloc())
+            && all_kept(&rt, rt.alloc(), &TEXTS)
     );
     Ok(())
 }

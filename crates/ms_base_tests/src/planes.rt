@@ -1,5 +1,6 @@
 //! Whole histories of the planes, against values worked out by hand.
 
+use crate::rows::{fails, is};
 use ms_alloc::{AllocError, AllocKind, BadFree};
 use ms_planes::Planes;
 use std::alloc::Global;
@@ -151,31 +152,35 @@ static ALLOCATIONS: [Step; 14] = [
 ];
 
 /// Whether a question about allocations has its answer.
-fn is_told(planes: &Planes, step: &Step) -> bool {
+fn is_told<R: Eprint>(rt: &R, planes: &Planes, step: &Step) -> bool {
     match step {
-        Covers(addr, n, want) => planes.covers(*addr, *n) == *want,
+        Covers(addr, n, want) => is(rt, &planes.covers(*addr, *n), want),
         Block(base, size) => {
-            planes.heap_size(*base) == Some(*size) && planes.block_of(*base) == Some((*base, *size))
+            is(rt, &planes.heap_size(*base), &Some(*size))
+                && is(rt, &planes.block_of(*base), &Some((*base, *size)))
         }
         _ => false,
     }
 }
 
 /// Whether a question about a range has its answer.
-fn is_shown(planes: &Planes, step: &Step) -> bool {
+fn is_shown<R: Eprint>(rt: &R, planes: &Planes, step: &Step) -> bool {
     match step {
         Bytes(addr, n, want) => {
-            *n <= 8 && planes.covers(*addr, *n as u64) && planes.load(*addr, *n) == *want
+            *n <= 8 && planes.covers(*addr, *n as u64) && is(rt, &planes.load(*addr, *n), want)
         }
         Shadow(addr, n, want) => {
-            *n <= 8 && planes.covers(*addr, *n as u64) && planes.load_shadow(*addr, *n) == *want
+            *n <= 8
+                && planes.covers(*addr, *n as u64)
+                && is(rt, &planes.load_shadow(*addr, *n), want)
         }
-        Origin(addr, want) => planes.covers(*addr, 1) && planes.origin_at(*addr) == *want,
+        Origin(addr, want) => planes.covers(*addr, 1) && is(rt, &planes.origin_at(*addr), want),
         Poisoned(addr, n, want) => {
-            planes.covers(*addr, *n) && planes.first_poisoned(*addr, *n) == Some(*want)
+            planes.covers(*addr, *n) && is(rt, &planes.first_poisoned(*addr, *n), &Some(*want))
         }
-        Clean(addr, n) => planes.covers(*addr, *n) && planes.first_poisoned(*addr, *n).is_none(),
-        _ => is_told(planes, step),
+        Clean(addr, n) => planes.covers(*addr, *n)
+            && is(rt, &planes.first_poisoned(*addr, *n), &None),
+        _ => is_told(rt, planes, step),
     }
 }
 
@@ -227,13 +232,13 @@ fn copies_shadow(planes: &mut Planes, to: u64, from: u64, n: u64) -> bool {
     planes.covers(to, n) && planes.covers(from, n) && planes.copy_shadow(to, from, n).is_ok()
 }
 
-fn releases(planes: &mut Planes, mark: u64, next: u64) -> bool {
+fn releases<R: Eprint>(rt: &R, planes: &mut Planes, mark: u64, next: u64) -> bool {
     planes.release(mark);
-    planes.mark() == next
+    is(rt, &planes.mark(), &next)
 }
 
 /// Whether a call that changes a range can be made.
-fn is_done(planes: &mut Planes, step: &Step) -> bool {
+fn is_done<R: Eprint>(rt: &R, planes: &mut Planes, step: &Step) -> bool {
     match step {
         Store(addr, n, value) => stores(planes, *addr, *n, *value),
         StoreShadow(addr, n, value) => stores_shadow(planes, *addr, *n, *value),
@@ -242,45 +247,45 @@ fn is_done(planes: &mut Planes, step: &Step) -> bool {
         Unpoison(addr, n) => unpoisons(planes, *addr, *n),
         CopyBytes(to, from, n) => copies_bytes(planes, *to, *from, *n),
         CopyShadow(to, from, n) => copies_shadow(planes, *to, *from, *n),
-        _ => is_shown(planes, step),
+        _ => is_shown(rt, planes, step),
     }
 }
 
 /// Whether a call has its answer.
-fn agrees(planes: &mut Planes, step: &Step) -> bool {
+fn agrees<R: Eprint>(rt: &R, planes: &mut Planes, step: &Step) -> bool {
     match step {
-        Makes(kind, size, base) => planes.make(*kind, *size) == Ok(*base),
-        Refuses(kind, size) => planes.make(*kind, *size) == Err(AllocError::Full),
-        Ends(base, size) => planes.end(*base) == Ok(*size),
-        BadEnd(base) => planes.end(*base) == Err(BadFree),
-        Release(mark, next) => releases(planes, *mark, *next),
-        _ => is_done(planes, step),
+        Makes(kind, size, base) => is(rt, &planes.make(*kind, *size), &Ok(*base)),
+        Refuses(kind, size) => is(rt, &planes.make(*kind, *size), &Err(AllocError::Full)),
+        Ends(base, size) => is(rt, &planes.end(*base), &Ok(*size)),
+        BadEnd(base) => is(rt, &planes.end(*base), &Err(BadFree)),
+        Release(mark, next) => releases(rt, planes, *mark, *next),
+        _ => is_done(rt, planes, step),
     }
 }
 
-fn all_agree(planes: &mut Planes, steps: &[Step]) -> bool {
-    for step in steps {
-        if !agrees(planes, step) {
-            return false;
+fn all_agree<R: Eprint>(rt: &R, planes: &mut Planes, steps: &[Step]) -> bool {
+    for (number, step) in steps.iter().enumerate() {
+        if !agrees(rt, planes, step) {
+            return fails(rt, number);
         }
     }
     true
 }
 
-fn is_so(alloc: Global, steps: &[Step]) -> bool {
+fn is_so<R: Eprint>(rt: &R, alloc: Global, steps: &[Step]) -> bool {
     let mut planes = Planes::new(alloc);
-    all_agree(&mut planes, steps)
+    all_agree(rt, &mut planes, steps)
 }
 
 #[test]
 fn planes_follow_their_histories(rt: HostRuntime) -> Result<(), Fail> {
     assert!(rt;
-        is_so(rt.alloc(), &SHADOW)
-            && is_so(rt.alloc(), &COPIES_UP)
-            && is_so(rt.alloc(), &COPIES_DOWN)
-            && is_so(rt.alloc(), &COPIES_IN_PLACE)
-            && is_so(rt.alloc(), &COPIES_BETWEEN_AREAS)
-            && is_so(rt.alloc(), &ALLOCATIONS)
+        is_so(&rt, rt.alloc(), &SHADOW)
+            && is_so(&rt, rt.alloc(), &COPIES_UP)
+            && is_so(&rt, rt.alloc(), &COPIES_DOWN)
+            && is_so(&rt, rt.alloc(), &COPIES_IN_PLACE)
+            && is_so(&rt, rt.alloc(), &COPIES_BETWEEN_AREAS)
+            && is_so(&rt, rt.alloc(), &ALLOCATIONS)
     );
     Ok(())
 }

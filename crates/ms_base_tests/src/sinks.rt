@@ -1,5 +1,6 @@
 //! Sinks in memory and over a writer.
 
+use crate::rows::{fails, is};
 use ms_io::{MemSink, RealSink, Sink};
 use std::alloc::{AllocError, Global};
 use std::io;
@@ -60,26 +61,27 @@ fn small_sink(alloc: Global) -> Result<MemSink, AllocError> {
     Ok(MemSink::new(failing, vec![in alloc; 0u8; 5]?))
 }
 
-fn all_put(sink: &mut MemSink, rows: &[Put]) -> bool {
-    for row in rows {
-        if sink.put(row.0.as_bytes()).is_ok() != row.1 || sink.as_slice() != row.2.as_bytes() {
-            return false;
+fn all_put<R: Eprint>(rt: &R, sink: &mut MemSink, rows: &[Put]) -> bool {
+    for (number, row) in rows.iter().enumerate() {
+        let taken = sink.put(row.0.as_bytes()).is_ok();
+        if !is(rt, &taken, &row.1) || !is(rt, &sink.as_slice(), &row.2.as_bytes()) {
+            return fails(rt, number);
         }
     }
     true
 }
 
-fn small_sink_takes(alloc: Global) -> bool {
+fn small_sink_takes<R: Eprint>(rt: &R, alloc: Global) -> bool {
     match small_sink(alloc) {
-        Ok(mut sink) => all_put(&mut sink, &PUTS),
+        Ok(mut sink) => all_put(rt, &mut sink, &PUTS),
         Err(_) => false,
     }
 }
 
-fn all_sent<O: Sink>(sink: &mut O, rows: &[Sent]) -> bool {
-    for row in rows {
-        if sink.put(row.0.as_bytes()).is_ok() != row.1 {
-            return false;
+fn all_sent<R: Eprint, O: Sink>(rt: &R, sink: &mut O, rows: &[Sent]) -> bool {
+    for (number, row) in rows.iter().enumerate() {
+        if !is(rt, &sink.put(row.0.as_bytes()).is_ok(), &row.1) {
+            return fails(rt, number);
         }
     }
     true
@@ -88,9 +90,9 @@ fn all_sent<O: Sink>(sink: &mut O, rows: &[Sent]) -> bool {
 #[test]
 fn sinks_take_puts(rt: HostRuntime) -> Result<(), Fail> {
     assert!(rt;
-        small_sink_takes(rt.alloc())
-            && all_sent(&mut RealSink::new(Trickle { room: 4 }), &SENT)
-            && all_sent(&mut RealSink::new(rt.stderr()), &TO_STANDARD_ERROR)
+        small_sink_takes(&rt, rt.alloc())
+            && all_sent(&rt, &mut RealSink::new(Trickle { room: 4 }), &SENT)
+            && all_sent(&rt, &mut RealSink::new(rt.stderr()), &TO_STANDARD_ERROR)
     );
     Ok(())
 }

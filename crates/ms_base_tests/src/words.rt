@@ -3,6 +3,7 @@
 ghost use Rattle.std.specs.Prelude.{◌≡◌, IfSome, IsTrue};
 ghost use Rattle.ms_bits.specs.Conversions.{Allows};
 
+use crate::rows::{fails, is};
 use ms_bits::{BinOp, CastOp, Flags, Pred, Trap, Word, binary, cast, compare, undef_word};
 use std::test::Fail;
 
@@ -22,7 +23,7 @@ enum Marks {
 use Marks::{Disjoint, Exact, Nneg, None as Plain, Nsw, Nuw, NuwNsw, Samesign};
 
 /// The number that an operation gives, or why it traps.
-#[derive(Clone, Copy, PartialEq)]
+#[derive(Clone, Copy, Debug, PartialEq)]
 enum Answer {
     Gives(u64),
     Traps(Trap),
@@ -287,78 +288,78 @@ fn is_allowed(op: CastOp, from: u8, to: u8) -> bool
 }
 
 /// Whether an operation gave the word of this width that is wanted, or trapped so.
-fn is_answer(found: Result<Word, Trap>, width: u8, want: Answer) -> bool {
+fn is_answer<R: Eprint>(rt: &R, found: Result<Word, Trap>, width: u8, want: Answer) -> bool {
     match found {
-        Ok(word) => word.width() == width && Gives(word.value()) == want,
-        Err(trap) => Traps(trap) == want,
+        Ok(word) => { is(rt, &word.width(), &width) && is(rt, &Gives(word.value()), &want) }
+        Err(trap) => is(rt, &Traps(trap), &want),
     }
 }
 
-fn is_computed(row: &Binary) -> bool {
+fn is_computed<R: Eprint>(rt: &R, row: &Binary) -> bool {
     match (word(row.2, row.3), word(row.2, row.4)) {
-        (Some(a), Some(b)) => is_answer(binary(row.0, flags_of(row.1), a, b), row.2, row.5),
+        (Some(a), Some(b)) => is_answer(rt, binary(row.0, flags_of(row.1), a, b), row.2, row.5),
         _ => false,
     }
 }
 
-fn is_compared(row: &Compared) -> bool {
+fn is_compared<R: Eprint>(rt: &R, row: &Compared) -> bool {
     match (word(row.2, row.3), word(row.2, row.4)) {
         (Some(a), Some(b)) => match compare(row.0, flags_of(row.1), a, b) {
-            Ok(holds) => Gives(holds as u64) == row.5,
-            Err(trap) => Traps(trap) == row.5,
+            Ok(holds) => is(rt, &Gives(holds as u64), &row.5),
+            Err(trap) => is(rt, &Traps(trap), &row.5),
         },
         _ => false,
     }
 }
 
-fn is_cast(row: &Cast) -> bool {
+fn is_cast<R: Eprint>(rt: &R, row: &Cast) -> bool {
     match word(row.2, row.3) {
         Some(a) if is_allowed(row.0, row.2, row.4) => {
-            is_answer(cast(row.0, flags_of(row.1), a, row.4), row.4, row.5)
+            is_answer(rt, cast(row.0, flags_of(row.1), a, row.4), row.4, row.5)
         }
         _ => false,
     }
 }
 
-fn is_filled(row: &Filled) -> bool {
+fn is_filled<R: Eprint>(rt: &R, row: &Filled) -> bool {
     if row.0.is_empty() || row.1 < 1 || row.1 > 64 {
         return false;
     }
     let found = undef_word(row.0, row.1);
-    found.width() == row.1 && found.value() == row.2
+    is(rt, &found.width(), &row.1) && is(rt, &found.value(), &row.2)
 }
 
-fn all_computed(rows: &[Binary]) -> bool {
-    for row in rows {
-        if !is_computed(row) {
-            return false;
+fn all_computed<R: Eprint>(rt: &R, rows: &[Binary]) -> bool {
+    for (number, row) in rows.iter().enumerate() {
+        if !is_computed(rt, row) {
+            return fails(rt, number);
         }
     }
     true
 }
 
-fn all_compared(rows: &[Compared]) -> bool {
-    for row in rows {
-        if !is_compared(row) {
-            return false;
+fn all_compared<R: Eprint>(rt: &R, rows: &[Compared]) -> bool {
+    for (number, row) in rows.iter().enumerate() {
+        if !is_compared(rt, row) {
+            return fails(rt, number);
         }
     }
     true
 }
 
-fn all_cast(rows: &[Cast]) -> bool {
-    for row in rows {
-        if !is_cast(row) {
-            return false;
+fn all_cast<R: Eprint>(rt: &R, rows: &[Cast]) -> bool {
+    for (number, row) in rows.iter().enumerate() {
+        if !is_cast(rt, row) {
+            return fails(rt, number);
         }
     }
     true
 }
 
-fn all_filled(rows: &[Filled]) -> bool {
-    for row in rows {
-        if !is_filled(row) {
-            return false;
+fn all_filled<R: Eprint>(rt: &R, rows: &[Filled]) -> bool {
+    for (number, row) in rows.iter().enumerate() {
+        if !is_filled(rt, row) {
+            return fails(rt, number);
         }
     }
     true
@@ -367,11 +368,11 @@ fn all_filled(rows: &[Filled]) -> bool {
 #[test]
 fn words_are_computed(rt: HostRuntime) -> Result<(), Fail> {
     assert!(rt;
-        all_computed(&RESULTS)
-            && all_computed(&TRAPS)
-            && all_compared(&COMPARISONS)
-            && all_cast(&CASTS)
-            && all_filled(&FILLS)
+        all_computed(&rt, &RESULTS)
+            && all_computed(&rt, &TRAPS)
+            && all_compared(&rt, &COMPARISONS)
+            && all_cast(&rt, &CASTS)
+            && all_filled(&rt, &FILLS)
     );
     Ok(())
 }

@@ -11,6 +11,7 @@ use ms_read_top::read;
 use ms_source_map::SourceMap;
 use ms_write_values::push_number;
 use std::alloc::Global;
+use std::str::from_utf8;
 
 /// How many bytes and tokens a text has at most.
 const MOST: usize = 10_000;
@@ -32,9 +33,23 @@ fn push_sites(out: &mut Vec<u8>, map: &SourceMap<'_>, sites: u32) -> bool {
     true
 }
 
+/// Says which row fails, counted from 1. The answer is `false`, with which a runner ends.
+fn fails<R: Eprint>(rt: &R, index: usize) -> bool {
+    let _printed = eprintln!(rt; "row {} fails", index.saturating_add(1));
+    false
+}
+
+/// Prints the lines that were wanted, and those that came. The answer is `false`.
+fn differs<R: Eprint>(rt: &R, wanted: &[u8], got: &[u8]) -> bool {
+    let wanted = from_utf8(wanted).unwrap_or("lines that aren't ASCII");
+    let got = from_utf8(got).unwrap_or("lines that aren't ASCII");
+    let _printed = eprintln!(rt; "wanted\n{wanted}\ngot\n{got}");
+    false
+}
+
 /// Whether the lines of a text's sites are those that are wanted.
 #[tactic(auto, unfolding(ms_text_grammar::specs::Texts::max_bytes))]
-fn lines_agree(alloc: Global, case: &Case, found: &[Token]) -> bool
+fn lines_agree<R: Eprint>(rt: &R, alloc: Global, case: &Case, found: &[Token]) -> bool
     requires short { length case.now.0.now ≤ 10000 }
     requires few { length found.now ≤ 10000 }
     requires in_order { InOrder found.now (length case.now.0.now) }
@@ -44,7 +59,8 @@ fn lines_agree(alloc: Global, case: &Case, found: &[Token]) -> bool
         if let Ok(marks) = marks_in(alloc, text, found, Form::Instrumented) {
             if let Ok(map) = SourceMap::new(alloc, b"text.ll", text, found, &marks, &m) {
                 let mut out = Vec::new(alloc);
-                return push_sites(&mut out, &map, case.1) && out.as_slice() == case.2;
+                return push_sites(&mut out, &map, case.1)
+                    && (out.as_slice() == case.2 || differs(rt, case.2, &out));
             }
         }
     }
@@ -52,20 +68,20 @@ fn lines_agree(alloc: Global, case: &Case, found: &[Token]) -> bool
 }
 
 /// Whether a text has tokens, and the lines of its sites are those that are wanted.
-fn agrees(alloc: Global, case: &Case) -> bool {
+fn agrees<R: Eprint>(rt: &R, alloc: Global, case: &Case) -> bool {
     if case.0.len() > MOST {
         return false;
     }
     match tokens(alloc, case.0, 10_000) {
-        Ok(found) => found.len() <= MOST && lines_agree(alloc, case, &found),
+        Ok(found) => found.len() <= MOST && lines_agree(rt, alloc, case, &found),
         Err(_) => false,
     }
 }
 
-fn all_agree(alloc: Global, cases: &[Case]) -> bool {
-    for case in cases {
-        if !agrees(alloc, case) {
-            return false;
+fn all_agree<R: Eprint>(rt: &R, alloc: Global, cases: &[Case]) -> bool {
+    for (number, case) in cases.iter().enumerate() {
+        if !agrees(rt, alloc, case) {
+            return fails(rt, number);
         }
     }
     true
@@ -73,6 +89,6 @@ fn all_agree(alloc: Global, cases: &[Case]) -> bool {
 
 #[test]
 fn where_sites_stand(rt: HostRuntime) -> Result<(), Fail> {
-    assert!(rt; all_agree(rt.alloc(), &CASES));
+    assert!(rt; all_agree(&rt, rt.alloc(), &CASES));
     Ok(())
 }

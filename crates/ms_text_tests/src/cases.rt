@@ -10,9 +10,12 @@ use ms_read_top::read;
 use ms_text_grammar::{Limit, Outside};
 use ms_write::write;
 use std::alloc::Global;
+use std::fmt::Debug;
+use std::str::from_utf8;
 
 /// What is wanted of a text. Of a refusal: the token, counted from 0, and the byte at which it begins, both from where the
 /// text of the case begins.
+#[derive(Debug)]
 pub enum Want {
     /// It is read and written back as it is.
     Kept,
@@ -163,6 +166,24 @@ pub fn is_error(error: &ReadError, first: (u32, u32), want: &Want) -> bool {
     }
 }
 
+/// Says which row of a table fails, counted from 1. The answer is `false`, with which a runner ends.
+pub fn fails<R: Eprint>(rt: &R, what: &str, index: usize) -> bool {
+    let _printed = eprintln!(rt; "{what} {} fails", index.saturating_add(1));
+    false
+}
+
+/// Prints a text, what is wanted of it and what came. The answer is `false`.
+pub fn differs<R: Eprint, W: Debug, G: Debug>(rt: &R, text: &str, want: &W, got: &G) -> bool {
+    let _printed = eprintln!(rt; "{text}\nwanted {want:?}, got {got:?}");
+    false
+}
+
+/// Prints a case's text, what is wanted of it and what was written of it. The answer is `false`.
+fn is_otherwise<R: Eprint>(rt: &R, case: &Case, found: &[u8]) -> bool {
+    let found = from_utf8(found).unwrap_or("a text that isn't ASCII");
+    differs(rt, case.1, &case.2, &found)
+}
+
 /// Whether what was written is what is wanted of a case.
 fn is_written(alloc: Global, frame: &Frame, case: &Case, found: &[u8]) -> bool {
     match &case.2 {
@@ -175,35 +196,43 @@ fn is_written(alloc: Global, frame: &Frame, case: &Case, found: &[u8]) -> bool {
     }
 }
 
-fn is_answer(alloc: Global, frame: &Frame, case: &Case, text: &[u8]) -> bool {
+fn is_answer<R: Eprint>(rt: &R, alloc: Global, frame: &Frame, case: &Case, text: &[u8]) -> bool {
     match rewritten(alloc, text, case.0) {
-        Ok(found) => is_written(alloc, frame, case, &found),
-        Err(error) => is_error(&error, (frame.tokens, frame.bytes), &case.2),
+        Ok(found) => { is_written(alloc, frame, case, &found) || is_otherwise(rt, case, &found) }
+        Err(error) => {
+            is_error(&error, (frame.tokens, frame.bytes), &case.2)
+                || differs(rt, case.1, &case.2, &error)
+        }
     }
 }
 
-fn agrees(alloc: Global, frame: &Frame, case: &Case) -> bool {
+fn agrees<R: Eprint>(rt: &R, alloc: Global, frame: &Frame, case: &Case) -> bool {
     match joined(alloc, frame.head, case.1, frame.tail) {
-        Ok(text) => is_answer(alloc, frame, case, &text),
+        Ok(text) => is_answer(rt, alloc, frame, case, &text),
         Err(_) => false,
     }
 }
 
 /// Whether each case is answered as it is wanted.
-pub fn all_agree(alloc: Global, frame: &Frame, cases: &[Case]) -> bool {
-    for case in cases {
-        if !agrees(alloc, frame, case) {
-            return false;
+pub fn all_agree<R: Eprint>(rt: &R, alloc: Global, frame: &Frame, cases: &[Case]) -> bool {
+    for (number, case) in cases.iter().enumerate() {
+        if !agrees(rt, alloc, frame, case) {
+            return fails(rt, "row", number);
         }
     }
     true
 }
 
 /// Whether that holds of each of these tables.
-pub fn all_tables_agree(alloc: Global, frame: &Frame, tables: &[&[Case]]) -> bool {
-    for cases in tables {
-        if !all_agree(alloc, frame, cases) {
-            return false;
+pub fn all_tables_agree<R: Eprint>(
+    rt: &R,
+    alloc: Global,
+    frame: &Frame,
+    tables: &[&[Case]],
+) -> bool {
+    for (number, cases) in tables.iter().enumerate() {
+        if !all_agree(rt, alloc, frame, cases) {
+            return fails(rt, "table", number);
         }
     }
     true

@@ -1,7 +1,7 @@
 //! Texts of many like pieces, at a limit and past it, worked out by hand.
 
 use crate::cases::Want::{Kept, Limited, Read, Syntax, TooManyTokens};
-use crate::cases::{Want, is_error, rewritten};
+use crate::cases::{Want, differs, fails, is_error, rewritten};
 use ms_bits::NoMemory;
 use ms_ir::Form;
 use ms_ir::Form::Plain;
@@ -320,28 +320,28 @@ fn text_of(alloc: Global, row: &Long) -> Result<Vec<u8>, NoMemory> {
     Ok(text)
 }
 
-fn is_answer(alloc: Global, row: &Long, text: &[u8]) -> bool {
+fn is_answer<R: Eprint>(rt: &R, alloc: Global, row: &Long, text: &[u8]) -> bool {
     match rewritten(alloc, text, row.0) {
         Ok(found) => match &row.7 {
             Kept => found.as_slice() == text,
             Read => true,
-            _ => false,
+            want => differs(rt, row.2, want, &"a module"),
         },
-        Err(error) => is_error(&error, (0, 0), &row.7),
+        Err(error) => { is_error(&error, (0, 0), &row.7) || differs(rt, row.2, &row.7, &error) }
     }
 }
 
-fn agrees(alloc: Global, row: &Long) -> bool {
+fn agrees<R: Eprint>(rt: &R, alloc: Global, row: &Long) -> bool {
     match text_of(alloc, row) {
-        Ok(text) => is_answer(alloc, row, &text),
+        Ok(text) => is_answer(rt, alloc, row, &text),
         Err(_) => false,
     }
 }
 
-fn all_agree(alloc: Global, rows: &[Long]) -> bool {
-    for row in rows {
-        if !agrees(alloc, row) {
-            return false;
+fn all_agree<R: Eprint>(rt: &R, alloc: Global, rows: &[Long]) -> bool {
+    for (number, row) in rows.iter().enumerate() {
+        if !agrees(rt, alloc, row) {
+            return fails(rt, "row", number);
         }
     }
     true
@@ -350,9 +350,9 @@ fn all_agree(alloc: Global, rows: &[Long]) -> bool {
 #[test]
 fn limits_are_kept(rt: HostRuntime) -> Result<(), Fail> {
     assert!(rt;
-        all_agree(rt.alloc(), &LIMITS)
-            && all_agree(rt.alloc(), &BRACKETS)
-            && all_agree(rt.alloc(), &TOKENS)
+        all_agree(&rt, rt.alloc(), &LIMITS)
+            && all_agree(&rt, rt.alloc(), &BRACKETS)
+            && all_agree(&rt, rt.alloc(), &TOKENS)
     );
     Ok(())
 }

@@ -2,26 +2,33 @@
 
 ghost use Rattle.std.specs.Prelude.{◌≤◌, ◌^◌, length};
 
+use crate::cases::{differs, fails};
 use ms_lex::{Kind, LexError, Token, name_of, number_of, tokens};
 use std::alloc::Global;
 use std::test::Fail;
 
 /// A kind, and where its token begins and ends.
+#[derive(Debug)]
 struct Span(Kind, u32, u32);
 
 /// A text, and its tokens.
+#[derive(Debug)]
 struct Cut(&'static str, &'static [Span]);
 
 /// A text, the limit of its tokens, and why it has none.
+#[derive(Debug)]
 struct Refused(&'static str, u32, LexError);
 
 /// A text of one token, and its name.
+#[derive(Debug)]
 struct Named(&'static str, &'static [u8]);
 
 /// A text of one token, and its number, where it is in range.
+#[derive(Debug)]
 struct Numbered(&'static str, Option<i128>);
 
 /// An error, and what is shown of it.
+#[derive(Debug)]
 struct Shown(LexError, &'static str);
 
 /// Texts have these tokens.
@@ -184,17 +191,17 @@ fn are_tokens(found: &[Token], spans: &[Span]) -> bool {
     true
 }
 
-fn is_cut(alloc: Global, row: &Cut) -> bool {
+fn is_cut<R: Eprint>(rt: &R, alloc: Global, row: &Cut) -> bool {
     match tokens_of(alloc, row.0.as_bytes(), 100) {
-        Ok(found) => are_tokens(&found, row.1),
-        Err(_) => false,
+        Ok(found) => are_tokens(&found, row.1) || differs(rt, row.0, row, &found),
+        Err(error) => differs(rt, row.0, row, &error),
     }
 }
 
-fn is_refused(alloc: Global, row: &Refused) -> bool {
+fn is_refused<R: Eprint>(rt: &R, alloc: Global, row: &Refused) -> bool {
     match tokens_of(alloc, row.0.as_bytes(), row.1) {
-        Ok(_) => false,
-        Err(error) => error == row.2,
+        Ok(found) => differs(rt, row.0, row, &found),
+        Err(error) => error == row.2 || differs(rt, row.0, row, &error),
     }
 }
 
@@ -208,10 +215,13 @@ fn is_name(alloc: Global, text: &[u8], token: &Token, want: &[u8]) -> bool {
     }
 }
 
-fn is_named(alloc: Global, row: &Named) -> bool {
+fn is_named<R: Eprint>(rt: &R, alloc: Global, row: &Named) -> bool {
     match tokens_of(alloc, row.0.as_bytes(), 1) {
-        Ok(found) => found.len() == 1 && is_name(alloc, row.0.as_bytes(), &found[0], row.1),
-        Err(_) => false,
+        Ok(found) => {
+            found.len() == 1 && is_name(alloc, row.0.as_bytes(), &found[0], row.1)
+                || differs(rt, row.0, row, &found)
+        }
+        Err(error) => differs(rt, row.0, row, &error),
     }
 }
 
@@ -219,61 +229,64 @@ fn is_number(text: &[u8], token: &Token, want: Option<i128>) -> bool {
     token.start <= token.end && token.end as usize <= text.len() && number_of(text, token) == want
 }
 
-fn is_numbered(alloc: Global, row: &Numbered) -> bool {
+fn is_numbered<R: Eprint>(rt: &R, alloc: Global, row: &Numbered) -> bool {
     match tokens_of(alloc, row.0.as_bytes(), 1) {
-        Ok(found) => found.len() == 1 && is_number(row.0.as_bytes(), &found[0], row.1),
-        Err(_) => false,
+        Ok(found) => {
+            found.len() == 1 && is_number(row.0.as_bytes(), &found[0], row.1)
+                || differs(rt, row.0, row, &found)
+        }
+        Err(error) => differs(rt, row.0, row, &error),
     }
 }
 
-fn is_shown(alloc: Global, row: &Shown) -> bool {
+fn is_shown<R: Eprint>(rt: &R, alloc: Global, row: &Shown) -> bool {
     let error = row.0;
     match format!(in alloc; "{error}") {
-        Ok(shown) => shown.as_str() == row.1,
+        Ok(shown) => shown.as_str() == row.1 || differs(rt, row.1, row, &shown.as_str()),
         Err(_) => false,
     }
 }
 
-fn all_cut(alloc: Global, rows: &[Cut]) -> bool {
-    for row in rows {
-        if !is_cut(alloc, row) {
-            return false;
+fn all_cut<R: Eprint>(rt: &R, alloc: Global, rows: &[Cut]) -> bool {
+    for (number, row) in rows.iter().enumerate() {
+        if !is_cut(rt, alloc, row) {
+            return fails(rt, "row", number);
         }
     }
     true
 }
 
-fn all_refused(alloc: Global, rows: &[Refused]) -> bool {
-    for row in rows {
-        if !is_refused(alloc, row) {
-            return false;
+fn all_refused<R: Eprint>(rt: &R, alloc: Global, rows: &[Refused]) -> bool {
+    for (number, row) in rows.iter().enumerate() {
+        if !is_refused(rt, alloc, row) {
+            return fails(rt, "row", number);
         }
     }
     true
 }
 
-fn all_named(alloc: Global, rows: &[Named]) -> bool {
-    for row in rows {
-        if !is_named(alloc, row) {
-            return false;
+fn all_named<R: Eprint>(rt: &R, alloc: Global, rows: &[Named]) -> bool {
+    for (number, row) in rows.iter().enumerate() {
+        if !is_named(rt, alloc, row) {
+            return fails(rt, "row", number);
         }
     }
     true
 }
 
-fn all_numbered(alloc: Global, rows: &[Numbered]) -> bool {
-    for row in rows {
-        if !is_numbered(alloc, row) {
-            return false;
+fn all_numbered<R: Eprint>(rt: &R, alloc: Global, rows: &[Numbered]) -> bool {
+    for (number, row) in rows.iter().enumerate() {
+        if !is_numbered(rt, alloc, row) {
+            return fails(rt, "row", number);
         }
     }
     true
 }
 
-fn all_shown(alloc: Global, rows: &[Shown]) -> bool {
-    for row in rows {
-        if !is_shown(alloc, row) {
-            return false;
+fn all_shown<R: Eprint>(rt: &R, alloc: Global, rows: &[Shown]) -> bool {
+    for (number, row) in rows.iter().enumerate() {
+        if !is_shown(rt, alloc, row) {
+            return fails(rt, "row", number);
         }
     }
     true
@@ -282,11 +295,11 @@ fn all_shown(alloc: Global, rows: &[Shown]) -> bool {
 #[test]
 fn texts_are_cut(rt: HostRuntime) -> Result<(), Fail> {
     assert!(rt;
-        all_cut(rt.alloc(), &CUTS)
-            && all_refused(rt.alloc(), &REFUSED)
-            && all_named(rt.alloc(), &NAMES)
-            && all_numbered(rt.alloc(), &NUMBERS)
-            && all_shown(rt.alloc(), &SHOWN)
+        all_cut(&rt, rt.alloc(), &CUTS)
+            && all_refused(&rt, rt.alloc(), &REFUSED)
+            && all_named(&rt, rt.alloc(), &NAMES)
+            && all_numbered(&rt, rt.alloc(), &NUMBERS)
+            && all_shown(&rt, rt.alloc(), &SHOWN)
     );
     Ok(())
 }

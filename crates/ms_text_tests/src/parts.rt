@@ -4,7 +4,7 @@ ghost use Rattle.std.specs.Prelude.{◌≤◌, ◌^◌, length, IfOk};
 ghost use Rattle.ms_read_body.specs.Calls.{AreTokens};
 
 use crate::cases::Want::{LeftOut, Limited, Numbering, Reserved, Syntax};
-use crate::cases::{Want, is_error};
+use crate::cases::{Want, differs, fails, is_error};
 use ms_ir::Form::{Instrumented, Plain};
 use ms_ir::{Form, Ty};
 use ms_lex::{LexError, Token, tokens};
@@ -35,6 +35,7 @@ enum Piece {
 use Piece::{Attributes, Behind, Bit, Byte, Function, Pointer, Type, Word};
 
 /// The number of the token after the piece, or why it isn't read.
+#[derive(Debug)]
 enum Answer {
     Next(u32),
     Not(Want),
@@ -307,31 +308,32 @@ fn read(
     }
 }
 
-fn is_answer(found: Result<u32, ReadError>, want: &Answer) -> bool {
+fn is_answer(found: &Result<u32, ReadError>, want: &Answer) -> bool {
     match (found, want) {
-        (Ok(next), Next(wanted)) => next == *wanted,
-        (Err(error), Not(why)) => is_error(&error, (0, 0), why),
+        (Ok(next), Next(wanted)) => *next == *wanted,
+        (Err(error), Not(why)) => is_error(error, (0, 0), why),
         _ => false,
     }
 }
 
-fn agrees(alloc: Global, part: &Part) -> bool {
+fn agrees<R: Eprint>(rt: &R, alloc: Global, part: &Part) -> bool {
     let text = part.2.as_bytes();
     if text.len() > 1 << 27 {
         return false;
     }
     match all_tokens(alloc, text) {
         Ok(found) if part.3 as usize <= found.len() => {
-            is_answer(read(alloc, text, &found, part.3, part.0, part.1), &part.4)
+            let got = read(alloc, text, &found, part.3, part.0, part.1);
+            is_answer(&got, &part.4) || differs(rt, part.2, &part.4, &got)
         }
         _ => false,
     }
 }
 
-fn all_agree(alloc: Global, parts: &[Part]) -> bool {
-    for part in parts {
-        if !agrees(alloc, part) {
-            return false;
+fn all_agree<R: Eprint>(rt: &R, alloc: Global, parts: &[Part]) -> bool {
+    for (number, part) in parts.iter().enumerate() {
+        if !agrees(rt, alloc, part) {
+            return fails(rt, "row", number);
         }
     }
     true
@@ -340,10 +342,10 @@ fn all_agree(alloc: Global, parts: &[Part]) -> bool {
 #[test]
 fn parts_are_read(rt: HostRuntime) -> Result<(), Fail> {
     assert!(rt;
-        all_agree(rt.alloc(), &TYPES)
-            && all_agree(rt.alloc(), &VALUES)
-            && all_agree(rt.alloc(), &ATTRIBUTES)
-            && all_agree(rt.alloc(), &FUNCTIONS)
+        all_agree(&rt, rt.alloc(), &TYPES)
+            && all_agree(&rt, rt.alloc(), &VALUES)
+            && all_agree(&rt, rt.alloc(), &ATTRIBUTES)
+            && all_agree(&rt, rt.alloc(), &FUNCTIONS)
     );
     Ok(())
 }

@@ -1,9 +1,12 @@
 //! Modules that are read, refused, written and read back.
 
-use crate::cases::{ENTITY, LAST, LINE, WHOLE, all_agree, all_tables_agree, rewritten};
+use crate::cases::{
+    ENTITY, LAST, LINE, WHOLE, all_agree, all_tables_agree, differs, fails, rewritten,
+};
 use crate::{bodies, entities, instructions, layouts, other_layouts};
 use ms_ir::Form;
 use std::alloc::Global;
+use std::str::from_utf8;
 use std::test::Fail;
 
 static LAYOUTS: [&str; 10] = [
@@ -29,35 +32,43 @@ static OTHER_LAYOUTS: [&str; 5] = [
     other_layouts::CLANG_UNOPTIMISED,
 ];
 
+/// Prints the text that was wanted, and the one that was written. The answer is `false`.
+fn is_other<R: Eprint>(rt: &R, wanted: &[u8], written: &[u8]) -> bool {
+    let wanted = from_utf8(wanted).unwrap_or("a text that isn't ASCII");
+    let written = from_utf8(written).unwrap_or("a text that isn't ASCII");
+    let _printed = eprintln!(rt; "wanted\n{wanted}\ngot\n{written}");
+    false
+}
+
 /// Whether a text is that of its module.
-fn is_layout(alloc: Global, text: &[u8], form: Form) -> bool {
+fn is_layout<R: Eprint>(rt: &R, alloc: Global, text: &[u8], form: Form) -> bool {
     match rewritten(alloc, text, form) {
-        Ok(written) => written.as_slice() == text,
-        Err(_) => false,
+        Ok(written) => written.as_slice() == text || is_other(rt, text, &written),
+        Err(error) => differs(rt, "a text in the writer's layout", &"itself", &error),
     }
 }
 
-fn all_layouts(alloc: Global, texts: &[&str], form: Form) -> bool {
-    for text in texts {
-        if !is_layout(alloc, text.as_bytes(), form) {
-            return false;
+fn all_layouts<R: Eprint>(rt: &R, alloc: Global, texts: &[&str], form: Form) -> bool {
+    for (number, text) in texts.iter().enumerate() {
+        if !is_layout(rt, alloc, text.as_bytes(), form) {
+            return fails(rt, "text", number);
         }
     }
     true
 }
 
 /// Whether what is written of a text's module is read back as that module: modules that are written alike are equal.
-fn is_read_back(alloc: Global, text: &[u8]) -> bool {
+fn is_read_back<R: Eprint>(rt: &R, alloc: Global, text: &[u8]) -> bool {
     match rewritten(alloc, text, Form::Plain) {
-        Ok(written) => is_layout(alloc, &written, Form::Instrumented),
-        Err(_) => false,
+        Ok(written) => is_layout(rt, alloc, &written, Form::Instrumented),
+        Err(error) => differs(rt, "a text", &"a module", &error),
     }
 }
 
-fn all_read_back(alloc: Global, texts: &[&str]) -> bool {
-    for text in texts {
-        if !is_read_back(alloc, text.as_bytes()) {
-            return false;
+fn all_read_back<R: Eprint>(rt: &R, alloc: Global, texts: &[&str]) -> bool {
+    for (number, text) in texts.iter().enumerate() {
+        if !is_read_back(rt, alloc, text.as_bytes()) {
+            return fails(rt, "text", number);
         }
     }
     true
@@ -66,10 +77,10 @@ fn all_read_back(alloc: Global, texts: &[&str]) -> bool {
 #[test]
 fn layouts_are_kept_and_read_back(rt: HostRuntime) -> Result<(), Fail> {
     assert!(rt;
-        all_layouts(rt.alloc(), &LAYOUTS, Form::Plain)
-            && all_layouts(rt.alloc(), &MARKED_LAYOUTS, Form::Instrumented)
-            && all_read_back(rt.alloc(), &OTHER_LAYOUTS)
-            && all_read_back(rt.alloc(), &LAYOUTS)
+        all_layouts(&rt, rt.alloc(), &LAYOUTS, Form::Plain)
+            && all_layouts(&rt, rt.alloc(), &MARKED_LAYOUTS, Form::Instrumented)
+            && all_read_back(&rt, rt.alloc(), &OTHER_LAYOUTS)
+            && all_read_back(&rt, rt.alloc(), &LAYOUTS)
     );
     Ok(())
 }
@@ -78,6 +89,7 @@ fn layouts_are_kept_and_read_back(rt: HostRuntime) -> Result<(), Fail> {
 fn instructions_are_read(rt: HostRuntime) -> Result<(), Fail> {
     assert!(rt;
         all_tables_agree(
+            &rt,
             rt.alloc(),
             &LINE,
             &[
@@ -86,7 +98,7 @@ fn instructions_are_read(rt: HostRuntime) -> Result<(), Fail> {
                 &instructions::CALLS,
                 &instructions::SUFFIXES
             ]
-        ) && all_agree(rt.alloc(), &LAST, &instructions::TERMINATORS)
+        ) && all_agree(&rt, rt.alloc(), &LAST, &instructions::TERMINATORS)
     );
     Ok(())
 }
@@ -95,6 +107,7 @@ fn instructions_are_read(rt: HostRuntime) -> Result<(), Fail> {
 fn lines_of_entities_are_read(rt: HostRuntime) -> Result<(), Fail> {
     assert!(rt;
         all_tables_agree(
+            &rt,
             rt.alloc(),
             &ENTITY,
             &[&entities::GLOBALS, &entities::VALUES, &entities::TYPES]
@@ -107,6 +120,7 @@ fn lines_of_entities_are_read(rt: HostRuntime) -> Result<(), Fail> {
 fn texts_are_read(rt: HostRuntime) -> Result<(), Fail> {
     assert!(rt;
         all_tables_agree(
+            &rt,
             rt.alloc(),
             &WHOLE,
             &[
