@@ -178,6 +178,14 @@ pub fn differs<R: Eprint, W: Debug, G: Debug>(rt: &R, text: &str, want: &W, got:
     false
 }
 
+/// Prints the text that was wanted, and the one that came. The answer is `false`.
+pub fn is_other<R: Eprint>(rt: &R, wanted: &[u8], got: &[u8]) -> bool {
+    let wanted = from_utf8(wanted).unwrap_or("a text that isn't ASCII");
+    let got = from_utf8(got).unwrap_or("a text that isn't ASCII");
+    let _printed = eprintln!(rt; "wanted\n{wanted}\ngot\n{got}");
+    false
+}
+
 /// Prints a case's text, what is wanted of it and what was written of it. The answer is `false`.
 fn is_otherwise<R: Eprint>(rt: &R, case: &Case, found: &[u8]) -> bool {
     let found = from_utf8(found).unwrap_or("a text that isn't ASCII");

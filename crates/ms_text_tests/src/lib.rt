@@ -22,4 +22,8 @@ mod other_layouts;
 #[cfg(test)]
 mod parts;
 #[cfg(test)]
+mod site_cases;
+#[cfg(test)]
+mod sites;
+#[cfg(test)]
 mod tests;

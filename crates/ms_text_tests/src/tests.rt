@@ -1,12 +1,11 @@
 //! Modules that are read, refused, written and read back.
 
 use crate::cases::{
-    ENTITY, LAST, LINE, WHOLE, all_agree, all_tables_agree, differs, fails, rewritten,
+    ENTITY, LAST, LINE, WHOLE, all_agree, all_tables_agree, differs, fails, is_other, rewritten,
 };
 use crate::{bodies, entities, instructions, layouts, other_layouts};
 use ms_ir::Form;
 use std::alloc::Global;
-use std::str::from_utf8;
 use std::test::Fail;
 
 static LAYOUTS: [&str; 10] = [
@@ -31,14 +30,6 @@ static OTHER_LAYOUTS: [&str; 5] = [
     other_layouts::USE_BEFORE_DEFINITION,
     other_layouts::CLANG_UNOPTIMISED,
 ];
-
-/// Prints the text that was wanted, and the one that was written. The answer is `false`.
-fn is_other<R: Eprint>(rt: &R, wanted: &[u8], written: &[u8]) -> bool {
-    let wanted = from_utf8(wanted).unwrap_or("a text that isn't ASCII");
-    let written = from_utf8(written).unwrap_or("a text that isn't ASCII");
-    let _printed = eprintln!(rt; "wanted\n{wanted}\ngot\n{written}");
-    false
-}
 
 /// Whether a text is that of its module.
 fn is_layout<R: Eprint>(rt: &R, alloc: Global, text: &[u8], form: Form) -> bool {

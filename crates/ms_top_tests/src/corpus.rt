@@ -1,6 +1,6 @@
 //! Many inputs: a section for each, in their order, whatever the number of workers.
 
-use crate::calls::{Beside, Call, Row, all_agree, on_text, saying};
+use ms_top_rows::calls::{Beside, Call, Row, all_agree, on_text, saying};
 use std::test::Fail;
 
 /// Puts out one byte, and then four of which the third is unset.

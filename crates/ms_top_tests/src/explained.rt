@@ -1,7 +1,7 @@
 //! The way of the bits of a report: what `explain` says. The moves were worked out by hand.
 
-use crate::calls::{Beside, Call, Case, Row, all_agree, on_text, saying};
-use crate::told::all_told;
+use ms_top_rows::calls::{Beside, Call, Case, Row, all_agree, on_text, saying};
+use ms_top_rows::told::all_told;
 use std::test::Fail;
 
 /// The closing lines of a run with a report.

@@ -1,6 +1,6 @@
 //! Files and sinks that fail, files that are too long, and which of several faults is said.
 
-use crate::calls::{ALL, Beside, Call, Row, Taking, Wanted, all_agree, on_text, saying};
+use ms_top_rows::calls::{ALL, Beside, Call, Row, Taking, Wanted, all_agree, on_text, saying};
 use std::test::Fail;
 
 const RETURNS: &str = r#"define i32 @main() {

@@ -1,7 +1,7 @@
 //! Modules in other spellings, and such as have little to check.
 
-use crate::calls::{Call, Case, Wanted, agrees, on_text};
-use crate::told::all_told;
+use ms_top_rows::calls::{Call, Case, Wanted, agrees, on_text};
+use ms_top_rows::told::all_told;
 use std::alloc::Global;
 use std::test::Fail;
 use std::thread::Threads;

@@ -1,6 +1,6 @@
 //! Limits on what a text may have, which its first token after them passes. Tokens and bytes were counted by hand.
 
-use crate::calls::{Call, Row, all_agree, on_text, saying};
+use ms_top_rows::calls::{Call, Row, all_agree, on_text, saying};
 use std::test::Fail;
 
 /// The words, the pieces of the file, of which the second stands so many times, what is written to the standard error, and

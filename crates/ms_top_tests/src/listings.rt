@@ -1,8 +1,8 @@
 //! What `instrument` writes, byte for byte. What is inserted was worked out by hand.
 
-use crate::calls::{Call, Case, Desk, NOTHING, is_joined, on_text, said};
-use crate::failing::{differs_from, fails};
-use crate::told::{Told, all_told, fields_of, rows_told};
+use ms_top_rows::calls::{Call, Case, Desk, NOTHING, is_joined, on_text, said};
+use ms_top_rows::failing::{differs_from, fails};
+use ms_top_rows::told::{Told, all_told, fields_of, rows_told};
 use std::alloc::Global;
 use std::test::Fail;
 use std::thread::Threads;

@@ -1,6 +1,6 @@
 //! Lines that show where each site stands, in the text and in its source.
 
-use crate::calls::{Beside, Call, Case, Row, all_agree, on_text, saying};
+use ms_top_rows::calls::{Beside, Call, Case, Row, all_agree, on_text, saying};
 use std::test::Fail;
 
 /// Branches on a variable that has no value, and tells its source, of which clang wrote the like.

@@ -2,13 +2,13 @@
 ghost use Rattle.std.specs.Prelude.{◌≡◌, ℕ, ◌*◌, ◌%◌, ◌^◌, IfOk};
 ghost use Rattle.ms_valid.specs.Uninstrumented.{CanInstrument};
 
-use crate::calls::{Beside, Call, NOTHING, on_text, said_by};
 use ms_bits::{Boxed, NoMemory};
 use ms_check::CheckedModule;
 use ms_fork::{Cuts, Gate, OpenGate, Work, by_halves};
 use ms_gen::generate;
 use ms_pass::instrument;
 use ms_top::RealPass;
+use ms_top_rows::calls::{Beside, Call, NOTHING, on_text, said_by};
 use std::alloc::Global;
 use std::hint::spin_loop;
 use std::sync::atomic::{AtomicBool, Ordering};

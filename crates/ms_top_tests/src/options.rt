@@ -1,8 +1,8 @@
 //! Words that are no command, options that are read, and modules that are generated.
 
-use crate::calls::{Case, DEFAULTS, all_agree};
-use crate::modules::Checked;
-use crate::told::all_told;
+use ms_top_rows::calls::{Case, DEFAULTS, all_agree};
+use ms_top_rows::modules::Checked;
+use ms_top_rows::told::all_told;
 use std::test::Fail;
 
 /// Its word is made of the bytes of the fill.

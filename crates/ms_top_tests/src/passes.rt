@@ -1,9 +1,9 @@
 //! What is checked is the module that the pass makes: with a pass that inserts nothing no use is reported.
 
-use crate::calls::{Case, DEFAULTS, Row, all_agree, said_by, says};
-use crate::failing::differs;
-use crate::modules::Checked;
 use ms_top::{OpenGate, PlainPass};
+use ms_top_rows::calls::{Case, DEFAULTS, Row, all_agree, said_by, says};
+use ms_top_rows::failing::differs;
+use ms_top_rows::modules::Checked;
 use std::alloc::Global;
 use std::test::Fail;
 use std::thread::Threads;

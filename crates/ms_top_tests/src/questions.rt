@@ -1,6 +1,6 @@
 //! What the program says of itself.
 
-use crate::calls::{ALL, Call, Case, Row, Taking, all_agree, on_text, saying};
+use ms_top_rows::calls::{ALL, Call, Case, Row, Taking, all_agree, on_text, saying};
 use std::test::Fail;
 
 const USAGE: &str =

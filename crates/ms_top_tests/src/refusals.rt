@@ -1,7 +1,7 @@
 //! Texts that are no module: the line names the cause and the place. Tokens and bytes were counted by hand.
 
-use crate::calls::Case;
-use crate::told::all_told;
+use ms_top_rows::calls::Case;
+use ms_top_rows::told::all_told;
 use std::test::Fail;
 
 /// Says why a text is refused.

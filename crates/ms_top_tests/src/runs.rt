@@ -1,8 +1,8 @@
 //! Words, and modules that are run as they stand or with a check of each use.
 
-use crate::calls::{Case, all_agree, words_of};
 use ms_io::{SureFiles, SureSink};
 use ms_top::msan;
+use ms_top_rows::calls::{Case, all_agree, words_of};
 use std::alloc::{AllocError, Global};
 use std::collections::BTreeMap;
 use std::test::Fail;

@@ -1,7 +1,7 @@
 //! Threads under a schedule: which goes on at each pick. What is wanted was worked out by hand, from the definition of a pick: of the
 //! runnable threads, in order of number, the one at the schedule's byte modulo how many they are.
 
-use crate::calls::{Beside, Call, Case, Row, all_agree, on_text, saying};
+use ms_top_rows::calls::{Beside, Call, Case, Row, all_agree, on_text, saying};
 use std::test::Fail;
 
 /// A thread prints B; `main` makes it, yields, prints A and joins it.

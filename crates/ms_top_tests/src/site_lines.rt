@@ -3,7 +3,6 @@ ghost use Rattle.std.specs.Prelude.{◌≡◌, ◌+◌, ◌%◌, ◌++◌, ◌�
 ghost use Rattle.ms_valid.specs.Formed.{Formed};
 ghost use Rattle.ms_check.specs.Faults.{fault_of};
 
-use crate::failing::is_text;
 use crate::texts::{REPORTS, TWO_UNSET, reports_of, result_of};
 use ms_bits::{List, NoMemory, Trap};
 use ms_check::CheckError;
@@ -11,6 +10,7 @@ use ms_ir::{Form, Module};
 use ms_read_top::read;
 use ms_report::{Refusal, SiteLines, closing_with, refusal_line_with, report_text_with};
 use ms_runs::{End, RunResult};
+use ms_top_rows::failing::is_text;
 use std::alloc::{AllocError, Global};
 use std::test::Fail;
 

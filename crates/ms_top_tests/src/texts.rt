@@ -2,13 +2,13 @@
 
 ghost use Rattle.ms_valid.specs.Formed.{Formed};
 
-use crate::calls::is_joined;
-use crate::failing::is_other;
 use ms_bits::{Bytes, Duplicate, List, Trap};
 use ms_ir::{Form, Module};
 use ms_read_top::read;
 use ms_report::{closing, report_text};
 use ms_runs::{End, Origin, Report, RunResult, Setup};
+use ms_top_rows::calls::is_joined;
+use ms_top_rows::failing::is_other;
 use std::alloc::{AllocError, Global};
 use std::test::Fail;
 

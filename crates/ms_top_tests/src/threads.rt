@@ -1,7 +1,7 @@
 //! Programs with threads.
 
-use crate::calls::Case;
-use crate::told::all_told;
+use ms_top_rows::calls::Case;
+use ms_top_rows::told::all_told;
 use std::test::Fail;
 
 /// Threads that are made, and their numbers.

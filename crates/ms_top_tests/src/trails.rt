@@ -6,7 +6,6 @@ ghost use Rattle.ms_valid.specs.{Formed.{Formed}, Uninstrumented.{CanInstrument}
 ghost use Rattle.ms_moves.specs.Scanned.{Ascending};
 ghost use Rattle.ms_top.specs.Explained.{CanLead};
 
-use crate::failing::fails;
 use ms_bits::Bytes;
 use ms_check::{CheckedModule, check};
 use ms_ir::{Form, Module};
@@ -16,6 +15,7 @@ use ms_moves::moves::{Hop, Move, Source};
 use ms_read_top::read;
 use ms_runs::Setup;
 use ms_threads::threaded;
+use ms_top_rows::failing::fails;
 use ms_trail::found::Trace;
 use ms_trail::traces::trace;
 use std::alloc::{AllocError, Global};

@@ -1,7 +1,7 @@
 //! Texts of modules that are read and aren't valid. Sites, operands and paths were counted by hand.
 
-use crate::calls::Case;
-use crate::told::all_told;
+use ms_top_rows::calls::Case;
+use ms_top_rows::told::all_told;
 use std::test::Fail;
 
 /// Names are defined once.

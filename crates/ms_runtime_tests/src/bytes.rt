@@ -1,6 +1,6 @@
 //! Runs that copy, set, compare and measure bytes, and that begin and end lifetimes.
 
-use crate::told::all_told_runs;
+use ms_top_rows::told::all_told_runs;
 use std::test::Fail;
 
 /// Bytes are copied.

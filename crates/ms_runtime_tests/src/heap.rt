@@ -1,6 +1,6 @@
 //! Runs that take, change and give back blocks of the heap.
 
-use crate::told::all_told_runs;
+use ms_top_rows::told::all_told_runs;
 use std::test::Fail;
 
 /// Malloc makes blocks.

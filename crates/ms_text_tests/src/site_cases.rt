@@ -1,13 +1,13 @@
 //! Texts, and the lines of their sites.
 
 /// A text, the number of sites that it has, and the lines of each site from 0 to one more than it has, after its number.
-pub struct Case(pub &'static [u8], pub u32, pub &'static [u8]);
+pub struct Sited(pub &'static [u8], pub u32, pub &'static [u8]);
 
 /// Two texts that clang 19 wrote, one of them linked, and four by hand: without a file and with lines that are cut; with calls that were
 /// inlined and a file whose name has escapes; with inserted instructions, long lines and bytes that aren't printed; and with cycles,
 /// nodes that are missing or named twice, and huge numbers.
-pub static CASES: [Case; 6] = [
-    Case(
+pub static SITED: [Sited; 6] = [
+    Sited(
         b"; ModuleID = 'unset.c'
 source_filename = \"unset.c\"
 
@@ -99,7 +99,7 @@ attributes #1 = { nounwind }
 10
 ",
     ),
-    Case(
+    Sited(
         b"; ModuleID = 'llvm-link'
 source_filename = \"llvm-link\"
 
@@ -202,7 +202,7 @@ attributes #0 = { nounwind }
 14
 ",
     ),
-    Case(
+    Sited(
         b"define i32 @main() {
 a: br label %b ; preds = none
 b: switch i32 0, label %c [ ; a comment
@@ -226,7 +226,7 @@ c:
 5
 ",
     ),
-    Case(
+    Sited(
         b"define i32 @main() !dbg !1 {
   %x = add i32 1, 2, !dbg !4
   %y = add i32 1, 2, !dbg !6
@@ -258,7 +258,7 @@ c:
 4
 ",
     ),
-    Case(
+    Sited(
         b"define i32 @main() {
   %__msan.1 = alloca i32, !nosanitize !0
   %x = add\ti32 1, 2
@@ -282,7 +282,7 @@ c:
 5
 ",
     ),
-    Case(
+    Sited(
         b"define i32 @main() {
   %1 = add i32 1, 2, !dbg !1
   %2 = add i32 1, 2, !dbg !4

@@ -1,6 +1,6 @@
 //! Runs that trap, by each cause and its place, and runs in which the same instructions don't.
 
-use crate::told::all_told_runs;
+use ms_top_rows::told::all_told_runs;
 use std::test::Fail;
 
 /// Shifts stay below the width.

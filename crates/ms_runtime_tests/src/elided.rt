@@ -1,7 +1,7 @@
 //! Runs in which nothing is computed of values that are clean in every run.
 
-use crate::calls::{DEFAULTS, Terms, all_agree};
-use crate::modules::Checked;
+use ms_top_rows::calls::{DEFAULTS, Terms, all_agree};
+use ms_top_rows::modules::Checked;
 use std::test::Fail;
 
 /// Of the phi's two edges one is undefined: an `A` takes the other one.

@@ -1,9 +1,11 @@
 //! Texts that end anywhere, code that reaches for what isn't its own, and output without end.
 
-use crate::calls::{Call, Case, Desk, MORE, Row, Taking, Wanted, all_agree, on_text, said, says};
 use crate::checks::CLANG_UNOPTIMISED;
-use crate::failing::{differs_from, fails};
-use crate::told::all_told;
+use ms_top_rows::calls::{
+    Call, Case, Desk, MORE, Row, Taking, Wanted, all_agree, on_text, said, says,
+};
+use ms_top_rows::failing::{differs_from, fails};
+use ms_top_rows::told::all_told;
 use std::alloc::Global;
 use std::test::Fail;
 use std::thread::Threads;

@@ -1,8 +1,8 @@
 //! Runs that call, return, branch and jump.
 
-use crate::calls::all_agree;
-use crate::modules::{Given, Run};
-use crate::told::all_told_runs;
+use ms_top_rows::calls::all_agree;
+use ms_top_rows::modules::{Given, Run};
+use ms_top_rows::told::all_told_runs;
 use std::test::Fail;
 
 /// Calls return.

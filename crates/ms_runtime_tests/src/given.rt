@@ -1,7 +1,7 @@
 //! What `check` says with an input, a fill, a bound of steps and a limit of reports of its own.
 
-use crate::calls::{Terms, all_agree};
-use crate::modules::Checked;
+use ms_top_rows::calls::{Terms, all_agree};
+use ms_top_rows::modules::Checked;
 use std::test::Fail;
 
 /// Bytes that are read are clean.

@@ -1,8 +1,8 @@
 //! What `check` says of calls of functions of whole words. Words, masks and origins were worked out by hand.
 
-use crate::calls::Case;
-use crate::told::{all_told, all_told_twice};
 use crate::word_masks::{BLIND, MASKS, THREE_MASKS};
+use ms_top_rows::calls::Case;
+use ms_top_rows::told::{all_told, all_told_twice};
 use std::alloc::Global;
 use std::test::Fail;
 use std::thread::Threads;

@@ -1,7 +1,7 @@
 //! What `check` says of calls of intrinsics that compilers write beside a program's own calls. Worked out by hand.
 
-use crate::calls::Case;
-use crate::told::all_told_twice;
+use ms_top_rows::calls::Case;
+use ms_top_rows::told::all_told_twice;
 use std::test::Fail;
 
 /// A trap; what must be true; the size of an object, which is never known.

@@ -1,6 +1,6 @@
 //! Rows of what calls of `printf` print. Texts and numbers were worked out by hand.
 
-use crate::calls::Case;
+use ms_top_rows::calls::Case;
 
 /// Text, `%%`, and calls in a row.
 pub static TEXTS: [Case; 13] = [

@@ -1,7 +1,7 @@
 //! Runs of modules with marked instructions, which reach shadow and slots. What a check is handed shows in its report.
 
-use crate::modules::Marked;
-use crate::told::all_told;
+use ms_top_rows::modules::Marked;
+use ms_top_rows::told::all_told;
 use std::alloc::Global;
 use std::test::Fail;
 use std::thread::Threads;

@@ -1,6 +1,6 @@
 //! Runs that load, store, compute addresses and begin with globals.
 
-use crate::told::all_told_runs;
+use ms_top_rows::told::all_told_runs;
 use std::alloc::Global;
 use std::test::Fail;
 use std::thread::Threads;

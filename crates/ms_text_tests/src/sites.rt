@@ -3,7 +3,8 @@
 ghost use Rattle.std.specs.Prelude.{◌≤◌, length};
 ghost use Rattle.ms_lex.specs.Tokens.{InOrder};
 
-use crate::cases::{CASES, Case};
+use crate::cases::{fails, is_other};
+use crate::site_cases::{SITED, Sited};
 use ms_ir::Form;
 use ms_lex::{Token, tokens};
 use ms_places::marks_in;
@@ -11,14 +12,10 @@ use ms_read_top::read;
 use ms_source_map::SourceMap;
 use ms_write_values::push_number;
 use std::alloc::Global;
-use std::str::from_utf8;
+use std::test::Fail;
 
 /// How many bytes and tokens a text has at most.
 const MOST: usize = 10_000;
-
-/// Why a test fails.
-#[derive(Debug, Drop)]
-struct Fail;
 
 /// Adds the lines of each site from 0 to one more than so many, after its number. Whether there was enough memory.
 fn push_sites(out: &mut Vec<u8>, map: &SourceMap<'_>, sites: u32) -> bool {
@@ -33,23 +30,9 @@ fn push_sites(out: &mut Vec<u8>, map: &SourceMap<'_>, sites: u32) -> bool {
     true
 }
 
-/// Says which row fails, counted from 1. The answer is `false`, with which a runner ends.
-fn fails<R: Eprint>(rt: &R, index: usize) -> bool {
-    let _printed = eprintln!(rt; "row {} fails", index.saturating_add(1));
-    false
-}
-
-/// Prints the lines that were wanted, and those that came. The answer is `false`.
-fn differs<R: Eprint>(rt: &R, wanted: &[u8], got: &[u8]) -> bool {
-    let wanted = from_utf8(wanted).unwrap_or("lines that aren't ASCII");
-    let got = from_utf8(got).unwrap_or("lines that aren't ASCII");
-    let _printed = eprintln!(rt; "wanted\n{wanted}\ngot\n{got}");
-    false
-}
-
 /// Whether the lines of a text's sites are those that are wanted.
 #[tactic(auto, unfolding(ms_text_grammar::specs::Texts::max_bytes))]
-fn lines_agree<R: Eprint>(rt: &R, alloc: Global, case: &Case, found: &[Token]) -> bool
+fn lines_agree<R: Eprint>(rt: &R, alloc: Global, case: &Sited, found: &[Token]) -> bool
     requires short { length case.now.0.now ≤ 10000 }
     requires few { length found.now ≤ 10000 }
     requires in_order { InOrder found.now (length case.now.0.now) }
@@ -60,7 +43,7 @@ fn lines_agree<R: Eprint>(rt: &R, alloc: Global, case: &Case, found: &[Token]) -
             if let Ok(map) = SourceMap::new(alloc, b"text.ll", text, found, &marks, &m) {
                 let mut out = Vec::new(alloc);
                 return push_sites(&mut out, &map, case.1)
-                    && (out.as_slice() == case.2 || differs(rt, case.2, &out));
+                    && (out.as_slice() == case.2 || is_other(rt, case.2, &out));
             }
         }
     }
@@ -68,7 +51,7 @@ fn lines_agree<R: Eprint>(rt: &R, alloc: Global, case: &Case, found: &[Token]) -
 }
 
 /// Whether a text has tokens, and the lines of its sites are those that are wanted.
-fn agrees<R: Eprint>(rt: &R, alloc: Global, case: &Case) -> bool {
+fn agrees<R: Eprint>(rt: &R, alloc: Global, case: &Sited) -> bool {
     if case.0.len() > MOST {
         return false;
     }
@@ -78,10 +61,10 @@ fn agrees<R: Eprint>(rt: &R, alloc: Global, case: &Case) -> bool {
     }
 }
 
-fn all_agree<R: Eprint>(rt: &R, alloc: Global, cases: &[Case]) -> bool {
+fn all_agree<R: Eprint>(rt: &R, alloc: Global, cases: &[Sited]) -> bool {
     for (number, case) in cases.iter().enumerate() {
         if !agrees(rt, alloc, case) {
-            return fails(rt, number);
+            return fails(rt, "row", number);
         }
     }
     true
@@ -89,6 +72,6 @@ fn all_agree<R: Eprint>(rt: &R, alloc: Global, cases: &[Case]) -> bool {
 
 #[test]
 fn where_sites_stand(rt: HostRuntime) -> Result<(), Fail> {
-    assert!(rt; all_agree(&rt, rt.alloc(), &CASES));
+    assert!(rt; all_agree(&rt, rt.alloc(), &SITED));
     Ok(())
 }

@@ -1,8 +1,8 @@
 //! Origins that lead over stores back to a root. Pairs of an origin and a site are numbered after the roots.
 
-use crate::calls::Case;
-use crate::modules::Marked;
-use crate::told::all_told;
+use ms_top_rows::calls::Case;
+use ms_top_rows::modules::Marked;
+use ms_top_rows::told::all_told;
 use std::test::Fail;
 
 /// Origins lead back over stores.

@@ -1,10 +1,10 @@
 //! What `check` says of calls of externals: each argument that is checked, once poisoned and once clean. Masks,
 //! sites and origins were worked out by hand.
 
-use crate::calls::{Case, Terms, all_agree};
-use crate::modules::Checked;
 use crate::stream_arguments::{BYTES, ENDS, STREAMS};
-use crate::told::all_told_twice;
+use ms_top_rows::calls::{Case, Terms, all_agree};
+use ms_top_rows::modules::Checked;
+use ms_top_rows::told::all_told_twice;
 use std::test::Fail;
 
 /// Arguments about blocks are checked.

@@ -1,9 +1,9 @@
 //! Runs that print, take input and end by a call.
 
-use crate::alike::all_run_and_checked;
-use crate::calls::all_agree;
-use crate::modules::{Given, Run};
-use crate::told::all_told_runs;
+use ms_top_rows::alike::all_run_and_checked;
+use ms_top_rows::calls::all_agree;
+use ms_top_rows::modules::{Given, Run};
+use ms_top_rows::told::all_told_runs;
 use std::test::Fail;
 
 /// Bytes are printed.

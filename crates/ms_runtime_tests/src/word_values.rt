@@ -1,7 +1,7 @@
 //! Runs that call each function of whole words at each of its widths. The words were worked out after the LLVM Language
 //! Reference, and are what `lli` prints.
 
-use crate::told::all_told_runs;
+use ms_top_rows::told::all_told_runs;
 use std::test::Fail;
 
 /// Five calls at each width of what counts the bits that are 1, and of the zeros before or after them.

@@ -2,10 +2,10 @@
 //! were worked out by hand.
 
 use crate::block_bytes::{BLOCKS, COPIES, MOVED_BLOCKS};
-use crate::calls::{Case, Terms, all_agree};
-use crate::modules::Checked;
 use crate::read_bytes::{COMPARED, STRINGS};
-use crate::told::all_told_twice;
+use ms_top_rows::calls::{Case, Terms, all_agree};
+use ms_top_rows::modules::Checked;
+use ms_top_rows::told::all_told_twice;
 use std::alloc::Global;
 use std::test::Fail;
 use std::thread::Threads;

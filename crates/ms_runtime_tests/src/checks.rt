@@ -1,11 +1,11 @@
 //! What `check` says of modules with branches, memory, calls and externals. Masks, sites and origins were worked out by hand.
 //! The same is said by `run` of what `instrument` writes of them.
 
-use crate::alike::all_agree_twice;
-use crate::calls::Case;
 use crate::memory_checks::{CALLS, HEAP, MEMORY};
-use crate::told::all_told_twice;
 use crate::value_checks::{BITS, CARRIES, COMPARISONS, PHIS, SELECTIONS, SHIFTS};
+use ms_top_rows::alike::all_agree_twice;
+use ms_top_rows::calls::Case;
+use ms_top_rows::told::all_told_twice;
 use std::alloc::Global;
 use std::test::Fail;
 use std::thread::Threads;

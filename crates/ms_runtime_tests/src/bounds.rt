@@ -1,8 +1,8 @@
 //! Runs that reach the limits: of output, of frames and stack, of long texts and of many types.
 
-use crate::calls::{Call, MORE, Row, all_agree, on_text};
-use crate::modules::{Run, closed};
-use crate::told::{Told, all_told, fields_of};
+use ms_top_rows::calls::{Call, MORE, Row, all_agree, on_text};
+use ms_top_rows::modules::{Run, closed};
+use ms_top_rows::told::{Told, all_told, fields_of};
 use std::test::Fail;
 
 /// A module whose text has a piece so many times, how its run ends, and the status.

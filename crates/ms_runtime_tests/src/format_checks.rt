@@ -1,8 +1,8 @@
 //! What `check` reports at calls of `printf`. Masks, parts and origins were worked out by hand.
 
-use crate::calls::{Case, Terms, all_agree};
-use crate::modules::Checked;
-use crate::told::all_told_twice;
+use ms_top_rows::calls::{Case, Terms, all_agree};
+use ms_top_rows::modules::Checked;
+use ms_top_rows::told::all_told_twice;
 use std::test::Fail;
 
 /// The words of arguments.

@@ -1,8 +1,8 @@
 //! Runs of modules whose marked calls go to each runtime function.
 
-use crate::modules::Marked;
 use crate::runtime_strings::{FORMATS, STRINGS};
-use crate::told::all_told;
+use ms_top_rows::modules::Marked;
+use ms_top_rows::told::all_told;
 use std::alloc::Global;
 use std::test::Fail;
 use std::thread::Threads;

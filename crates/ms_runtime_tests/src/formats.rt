@@ -1,9 +1,9 @@
 //! What calls of `printf` print, and the traps by which they end. Texts and numbers were worked out by hand.
 
-use crate::alike::{CheckedRow, all_agree_twice};
-use crate::calls::{Call, Case, Desk, Row, Wanted, all_agree, on_text, saying, says};
 use crate::format_texts::{NUMBERS, TEXTS};
-use crate::told::all_told_twice;
+use ms_top_rows::alike::{CheckedRow, all_agree_twice};
+use ms_top_rows::calls::{Call, Case, Desk, Row, Wanted, all_agree, on_text, saying, says};
+use ms_top_rows::told::all_told_twice;
 use std::test::Fail;
 
 /// Strings, and formats that are no constants.
