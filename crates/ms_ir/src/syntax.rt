@@ -4,7 +4,7 @@
 use ms_bits::{BinOp, Boxed, Bytes, CastOp, Flags, List, Pred, SmallBytes};
 
 /// The name of a value, a basic block, a type, a function or a global ("Identifiers"), without its `@` or `%`.
-#[derive(Debug, PartialEq, Eq, PartialOrd, Ord, Drop)]
+#[derive(Debug, PartialEq, Eq, PartialOrd, Ord)]
 pub enum Name {
     /// An unnamed value or block of a function: `%7`.
     Number(u32),
@@ -29,7 +29,6 @@ pub enum Ty {
 
 /// What an instruction works on. Its type stands beside it in the instruction ("Constants", "Undefined
 /// Values", "Poison Values").
-#[derive(Drop)]
 pub enum Operand {
     /// An integer constant of type `iN`, kept modulo 2 to the power of N; `true` is 1.
     Int(u64),
@@ -169,7 +168,6 @@ pub enum Op {
 }
 
 /// An instruction.
-#[derive(Drop)]
 pub struct Inst {
     pub op: Op,
     /// The name that its result is bound to; none for a `store`, a terminator or a call without a result.
@@ -180,7 +178,6 @@ pub struct Inst {
 }
 
 /// A basic block ("Functions"): phis first, and one terminator, which is the last.
-#[derive(Drop)]
 pub struct Block {
     /// Its label.
     pub name: Name,
@@ -188,7 +185,6 @@ pub struct Block {
 }
 
 /// A function definition.
-#[derive(Drop)]
 pub struct Func {
     pub name: Name,
     /// The type of the result; none is `void`.
@@ -199,7 +195,6 @@ pub struct Func {
 }
 
 /// The declaration of a function whose body stands elsewhere: an external or a function of the runtime.
-#[derive(Drop)]
 pub struct Decl {
     pub name: Name,
     /// The type of the result; none is `void`.
@@ -208,7 +203,6 @@ pub struct Decl {
 }
 
 /// A global variable ("Global Variables").
-#[derive(Drop)]
 pub struct GlobalVar {
     pub name: Name,
     /// `constant` and not `global`. It is written out again, and has no meaning in a run.
@@ -225,4 +219,72 @@ pub struct Module {
     pub globals: List<GlobalVar>,
     pub decls: List<Decl>,
     pub funcs: List<Func>,
+}
+
+// Drops are written by hand here: the prover then takes the end of such a value as one call. A derived one is unfolded, field by
+// field, at each place where a function may end with the value alive.
+
+impl Drop for Name {
+    fn drop(self) {
+        match self {
+            Name::Number(_) | Name::Text(_) => (),
+        }
+    }
+}
+
+impl Drop for Operand {
+    fn drop(self) {
+        match self {
+            Operand::Int(_) | Operand::Null | Operand::Undef | Operand::Poison => (),
+            Operand::Local(_) | Operand::Global(_) | Operand::Offset(_, _) => (),
+        }
+    }
+}
+
+impl Drop for Inst {
+    fn drop(self) {
+        let Inst {
+            op: _,
+            result: _,
+            marked: _,
+        } = self;
+    }
+}
+
+impl Drop for Block {
+    fn drop(self) {
+        let Block { name: _, insts: _ } = self;
+    }
+}
+
+impl Drop for Func {
+    fn drop(self) {
+        let Func {
+            name: _,
+            ret: _,
+            params: _,
+            blocks: _,
+        } = self;
+    }
+}
+
+impl Drop for Decl {
+    fn drop(self) {
+        let Decl {
+            name: _,
+            ret: _,
+            params: _,
+        } = self;
+    }
+}
+
+impl Drop for GlobalVar {
+    fn drop(self) {
+        let GlobalVar {
+            name: _,
+            constant: _,
+            ty: _,
+            init: _,
+        } = self;
+    }
 }

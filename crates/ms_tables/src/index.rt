@@ -21,7 +21,6 @@ const FEW: usize = 4;
 type Marked<'m> = HashMap<u64, (&'m [u8], usize)>;
 
 /// A place for each name that was put in.
-#[derive(Drop)]
 pub struct Index<'m> {
     /// The first number of those that stand near one another.
     first: u32,
@@ -502,5 +501,19 @@ impl<'m> Index<'m> {
             Name::Number(number) => self.put_number(*number, place),
             Name::Text(bytes) => self.put_text(bytes.as_slice(), place),
         }
+    }
+}
+
+// By hand, as in `ms_ir`: one call for the prover.
+impl Drop for Index<'_> {
+    fn drop(self) {
+        let Index {
+            first: _,
+            near: _,
+            numbers: _,
+            few: _,
+            marked: _,
+            texts: _,
+        } = self;
     }
 }

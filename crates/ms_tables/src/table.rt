@@ -14,7 +14,6 @@ use std::marker::Model;
 /// time, as in any hash table, a number in constant time where the numbers ascend and few are missing between two of
 /// them, and any other number in logarithmic time.
 /// Contracts see it as the list of the names. The names are borrowed, and not copied.
-#[derive(Drop)]
 pub struct NameTable<'m> {
     names: Vec<&'m Name>,
     index: Index<'m>,
@@ -81,5 +80,12 @@ impl<'m> NameTable<'m> {
                 Err(error)
             }
         }
+    }
+}
+
+// By hand, as in `ms_ir`: one call for the prover.
+impl Drop for NameTable<'_> {
+    fn drop(self) {
+        let NameTable { names: _, index: _ } = self;
     }
 }
