@@ -17,11 +17,7 @@ pub(crate) fn write_unset(planes: &mut Planes, fill: &[u8], made: u64, base: u64
     ensures shadow { shadow_of planes.new ≡ shadow_of planes.old }
     ensures origins { origins_of planes.new ≡ origins_of planes.old }
 {
-    let count = fill.len() as u64;
-    for k in 0..size {
-        let byte = fill[((made + k) % count) as usize];
-        planes.store(base + k, 1, u64::from(byte));
-    }
+    planes.store_made(base, size, fill, made);
 }
 
 /// Makes `size` bytes from `base` on the same.
@@ -33,9 +29,7 @@ pub(crate) fn write_byte(planes: &mut Planes, byte: u8, base: u64, size: u64)
     ensures shadow { shadow_of planes.new ≡ shadow_of planes.old }
     ensures origins { origins_of planes.new ≡ origins_of planes.old }
 {
-    for k in 0..size {
-        planes.store(base + k, 1, u64::from(byte));
-    }
+    planes.fill_bytes(base, size, byte);
 }
 
 /// Writes bytes from `base` on.
@@ -47,9 +41,7 @@ pub(crate) fn write_bytes(planes: &mut Planes, bytes: &[u8], base: u64)
     ensures shadow { shadow_of planes.new ≡ shadow_of planes.old }
     ensures origins { origins_of planes.new ≡ origins_of planes.old }
 {
-    for k in 0..bytes.len() {
-        planes.store(base + k as u64, 1, u64::from(bytes[k]));
-    }
+    planes.store_bytes(base, bytes);
 }
 
 /// The smaller of two numbers.
