@@ -7,3 +7,4 @@ pub mod EndsAtUse
 pub mod Whole
 pub mod Found
 mod AllMoves
+mod Staying

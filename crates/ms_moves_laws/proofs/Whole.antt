@@ -263,10 +263,10 @@ module _ (m : Module) (calm : is_threaded m ≡ false) (setup : Setup) where
 
   module _ (one : s.limit ≡ 1) where
     -- the roots that the run has reached, with those of the instruction that is due
-    abbrev K : ShadowState → List ShadowState → ℕ → Type 0
+    abbrev pub K : ShadowState → List ShadowState → ℕ → Type 0
     K c passed n = kind_of m c passed n ⊎ IsOperand m c n
 
-    use_read : (frames : List (Frame Poisoned)) (w : World) (standing : List ℕ) (made : ℕ) (passed : List ShadowState) → length standing ≡ length frames
+    pub use_read : (frames : List (Frame Poisoned)) (w : World) (standing : List ℕ) (made : ℕ) (passed : List ShadowState) → length standing ≡ length frames
         → ReadMoved (IsPoisoned (K (record { frames = frames; world = w }) passed) standing (record { frames = frames; world = w }) (frames_read s m (record { standing = standing; made = made }) frames w)) (shadow_frames by_formulas s m frames w)
     use_read [] w standing made passed e = λ f. absurd (false_true f)
       where

@@ -1,3 +1,4 @@
 pub mod FromReached
 pub mod ExampleTraces
 pub mod Complete
+pub mod Staying

@@ -17,7 +17,7 @@ use Rattle.ms_words.specs.declared.commands.Command.{Command}
 use Rattle.ms_words.specs.declared.commands.Options.{Options}
 use Rattle.ms_top.specs.declared.answers.Answer.{Answer}
 use Rattle.ms_top.specs.Command.{files_of, form_of, input_files, input_limit, only_input, setup_of}
-use Rattle.ms_top.specs.Files.{Counted, FilesRead, Whole, Fault, Long, behind, IsAtFault, IsLong, CanRead}
+use Rattle.ms_top.specs.Files.{Counted, FilesRead, Whole, Fault, Long, CanRead}
 use Rattle.ms_top.specs.Instrumented.{IsInstrumented}
 use Rattle.ms_top.specs.Promised.{NothingRan, ShadowShown, ThreadsRefused, WayShown}
 use Rattle.ms_top.specs.Lines.{AreLines}
@@ -120,30 +120,6 @@ check_is_fair c file o text inputs fit can =
     by_input None h = h
     by_input (Some name) h = h
 
--- ---- files that aren't read whole
-
-behind_fault : (text : List ℕ) (name : List ℕ) (later : FilesRead) → Fault name ≡ behind text later → later ≡ Fault name
-behind_fault text name (Whole texts) h = absurd cc
-behind_fault text name (Fault other) h = let same : name ≡ other = cc in ap Fault (sym same)
-behind_fault text name (Long other) h = absurd cc
-
-behind_long : (text : List ℕ) (name : List ℕ) (later : FilesRead) → Long name ≡ behind text later → later ≡ Long name
-behind_long text name (Whole texts) h = absurd cc
-behind_long text name (Fault other) h = absurd cc
-behind_long text name (Long other) h = let same : name ≡ other = cc in ap Long (sym same)
-
-one_at_fault : (c : Counted) (fs : List (List ℕ × ℕ)) (name : List ℕ) → CanRead c fs (Fault name) → (n : List ℕ) × IsAtFault c n
-one_at_fault c [] name can = absurd cc
-one_at_fault c ((first, limit) ∷ rest) name (inl (fault, is)) = (first, fault)
-one_at_fault c ((first, limit) ∷ rest) name (inr (inl (long, is))) = absurd cc
-one_at_fault c ((first, limit) ∷ rest) name (inr (inr (text, whole, later, can, is))) = one_at_fault c rest name (subst (CanRead c rest) (behind_fault text name later is) can)
-
-one_too_long : (c : Counted) (fs : List (List ℕ × ℕ)) (name : List ℕ) → CanRead c fs (Long name) → (n : List ℕ) × (limit : ℕ) × IsLong c n limit
-one_too_long c [] name can = absurd cc
-one_too_long c ((first, limit) ∷ rest) name (inl (fault, is)) = absurd cc
-one_too_long c ((first, limit) ∷ rest) name (inr (inl (long, is))) = (first, limit, long)
-one_too_long c ((first, limit) ∷ rest) name (inr (inr (text, whole, later, can, is))) = one_too_long c rest name (subst (CanRead c rest) (behind_long text name later is) can)
-
 -- ---- what is said
 
 says_status : (a : Answer) (s : ℕ) (err : List ℕ) → a ≡ says s err → a.status ≡ s
@@ -191,8 +167,8 @@ module _ (c : Counted) (command : Command) (a : Answer) (is_plain : form_of comm
   by_files : (r : FilesRead) → CanRead c (files_of command) r → IsAnswerToFiles IsInstrumented command r a → Promise
   by_files (Whole []) can is = absurd (has_file is)
   by_files (Whole (text ∷ inputs)) can (r, reading, is) = by_reading text inputs can r reading is
-  by_files (Fault name) can is = inl (record { out = says_nothing a 6 _ is; why = inl (says_status a 6 _ is, one_at_fault c (files_of command) name can) })
-  by_files (Long name) can is = inl (record { out = says_nothing a 9 _ is; why = inr (inl (says_status a 9 _ is, one_too_long c (files_of command) name can)) })
+  by_files (Fault name) can is = inl (record { out = says_nothing a 6 _ is; why = inl (name, can, is) })
+  by_files (Long name) can is = inl (record { out = says_nothing a 9 _ is; why = inr (inl (name, can, is)) })
 
   pub promises : IsAnswerToCommand IsInstrumented c command a → Promise
   promises (r, can, answers) = by_files r can answers

@@ -1,5 +1,5 @@
 -- What `check` and `explain` promise of the program, from what they are to say alone.
-use Rattle.std.specs.Prelude.{◌≡◌, ◌≢◌, ◌<◌, ◌≤◌, ◌⊎◌, ℕ, true, false, List, [], ◌∷◌, ◌++◌, length}
+use Rattle.std.specs.Prelude.{◌≡◌, ◌≢◌, ◌<◌, ◌≤◌, ◌⊎◌, ℕ, true, false, List, [], ◌∷◌, ◌++◌, length, codes}
 use Rattle.ms_ir.specs.declared.forms.Form.TheVariants.{Plain}
 use Rattle.ms_ir.specs.declared.syntax.Module.{Module}
 use Rattle.ms_ir.specs.Instructions.{NoMarks}
@@ -16,6 +16,7 @@ use Rattle.ms_moves.specs.declared.moves.Source.{Source}
 use Rattle.ms_moves.specs.declared.moves.Move.{Move}
 use Rattle.ms_moves.specs.Traces.{trace, Found}
 use Rattle.ms_moves_laws.specs.FromReached.{FromReached}
+use Rattle.ms_report.specs.RunTexts.{line}
 use Rattle.ms_report.specs.TrailTexts.{trail_with}
 use Rattle.ms_report.specs.WithLines.{Lines, reports_with}
 use Rattle.ms_report.specs.RefusalTexts.{threads_text}
@@ -23,20 +24,21 @@ use Rattle.ms_words.specs.declared.commands.Command.TheVariants.{Check, Explain}
 use Rattle.ms_words.specs.declared.commands.Options.{Options}
 use Rattle.ms_top.specs.declared.answers.Answer.{Answer}
 use Rattle.ms_top.specs.Command.{files_of, only_input, setup_of}
-use Rattle.ms_top.specs.Files.{Counted, CanRead, IsAtFault, IsLong, Whole}
+use Rattle.ms_top.specs.Files.{Counted, CanRead, Whole, Fault, Long}
 use Rattle.ms_top.specs.Lines.{AreLines}
 use Rattle.ms_top.specs.Explained.{too_long, no_report}
 use Rattle.ms_top.specs.Runs.{shadow_under, HoldsUnder}
 use Rattle.ms_top.specs.Said.{answer_of_result, answer_of_explained, says}
 use Rattle.ms_top.specs.Statuses as statuses
 
--- the answer that a file can't be read: one is at fault
-abbrev pub IsFileFault : Counted → Answer → Type 0
-IsFileFault c a = (a.status ≡ statuses.file_fault) × ((name : List ℕ) × IsAtFault c name)
+-- the answer that a file can't be read: the first of these files that isn't read whole is at fault, and the answer names it
+abbrev pub IsFileFault : Counted → List (List ℕ × ℕ) → Answer → Type 0
+IsFileFault c files a = (name : List ℕ) × CanRead c files (Fault name) × (a ≡ says statuses.file_fault (line (codes "file fault") name))
 
--- the answer that a file is too long: one has more bytes than its limit
-abbrev pub IsFileTooLong : Counted → Answer → Type 0
-IsFileTooLong c a = (a.status ≡ statuses.too_long) × ((name : List ℕ) × (limit : ℕ) × IsLong c name limit)
+-- the answer that a file is too long: the first of these files that isn't read whole has more bytes than its limit, and the
+-- answer names it
+abbrev pub IsFileTooLong : Counted → List (List ℕ × ℕ) → Answer → Type 0
+IsFileTooLong c files a = (name : List ℕ) × CanRead c files (Long name) × (a ≡ says statuses.too_long (line (codes "file too long") name))
 
 -- the answer that a text is refused: the files were read, and the first text isn't that of a valid module
 abbrev pub IsTextRefused : Counted → List (List ℕ × ℕ) → Answer → Type 0
@@ -46,7 +48,7 @@ IsTextRefused c files a =
 -- nothing was run and nothing printed on the standard output, for one of these three reasons
 pub record NothingRan (c : Counted) (files : List (List ℕ × ℕ)) (a : Answer) : Type 0 where
   pub out : a.out ≡ []
-  pub why : IsFileFault c a ⊎ (IsFileTooLong c a ⊎ IsTextRefused c files a)
+  pub why : IsFileFault c files a ⊎ (IsFileTooLong c files a ⊎ IsTextRefused c files a)
 
 -- A text was read as a valid module, and the answer a says what the module's shadow run with a fair setup is, with the lines that
 -- are asked for; where it has threads, under the schedule that is asked for. A clean verdict and a first report hold under every
