@@ -6,8 +6,8 @@
 #   everything, so only their paths are checked
 # - runs a small program for each row of MANUAL's two tables of refusals, and for some flags of its command; and commands that
 #   are wrong
-# - looks for each path, file, crate, function and clause that the documents name
-# - counts words: all documents together have at most 12000
+# - looks for each path, file, crate, function, clause and section that the documents and the forms for issues name
+# - counts words: CONTRIBUTING.md has at most 2500, and all other documents but docs/CC.md together at most 14000
 #
 # Usage: documents.sh [PROGRAM], by default crates/msan/out/msan as `rt ci` builds it. The status is 1 if anything is wrong.
 # Needs python3, awk, and clang and llvm-link of release 19, or of $RELEASE. Outside the gate.
@@ -29,9 +29,12 @@ import glob, os, re, subprocess, sys
 top, work = sys.argv[1:3]
 TRANSCRIPTS = ["README.md", "docs/MANUAL.md"]
 DOCUMENTS = ["*.md", "docs/*.md", "examples/*.md"]
-NAMING = ["README.md", "CONTRIBUTING.md", "docs/MANUAL.md", "docs/PROVED.md", "docs/MAP.md", "docs/DEFINITIONS.md", "docs/MEASUREMENTS.md",
-          "examples/README.md"]
-MOST_WORDS = 12000
+# A changelog names what was, and decisions what was weighed and left.
+NOT_NAMING = {"CHANGELOG.md", "docs/DECISIONS.md"}
+FORMS = ".github/ISSUE_TEMPLATE/*.yml"
+MOST_WORDS = {"CONTRIBUTING.md": 2500}
+MOST_OF_OTHERS = 14000
+NOT_COUNTED = {"docs/CC.md"}
 FENCE = re.compile(r"^```\n(.*?)^```$", re.M | re.S)
 faults = []
 
@@ -342,16 +345,43 @@ def check_names(document, files, shown):
     print(f"{document}: {len(paths)} paths, {len(crates)} crates, {functions} functions and clauses")
 
 
+# ---- sections
+
+def headings(document):
+    """The sections of a document, by their titles."""
+    return {title.strip() for title in re.findall(r"^#+ (.*)$", read(document), re.M)}
+
+
+def check_sections(document):
+    """Each section that is named as `docs/NAME.md, "Title"`."""
+    named = re.findall(r"([\w/]+\.md),\s+\"([^\"]+)\"", read(document))
+    for other, title in named:
+        path = other if os.path.exists(os.path.join(top, other)) else f"docs/{other}"
+        if not os.path.exists(os.path.join(top, path)):
+            fault(document, f"no {other}")
+        elif title.rstrip(",.") not in headings(path):
+            fault(document, f"no section \"{title}\" in {other}")
+    print(f"{document}: {len(named)} sections of documents")
+
+
 # ---- words
+
+def found(patterns):
+    return sorted(name for names in patterns for name in glob.glob(names, root_dir=top, include_hidden=True))
+
 
 def count_words():
     total = 0
-    for document in sorted(name for names in DOCUMENTS for name in glob.glob(names, root_dir=top)):
+    for document in found(DOCUMENTS):
         words = len(read(document).split())
-        total += words
         print(f"{words:6} {document}")
-    print(f"{total:6} words, of at most {MOST_WORDS}")
-    if total > MOST_WORDS:
+        most = MOST_WORDS.get(document)
+        if most is None and document not in NOT_COUNTED:
+            total += words
+        elif most is not None and words > most:
+            fault(document, f"{words} words, of at most {most}")
+    print(f"{total:6} words of the documents that are counted together, of at most {MOST_OF_OTHERS}")
+    if total > MOST_OF_OTHERS:
         fault("documents", f"{total} words")
 
 
@@ -361,11 +391,11 @@ for document in TRANSCRIPTS:
     shown |= check_commands(document)
 check_refusals()
 check_words()
-for document in NAMING:
-    if os.path.exists(os.path.join(top, document)):
+for document in found(DOCUMENTS):
+    if document not in NOT_NAMING:
         check_names(document, files, shown)
-    else:
-        fault(document, "is missing")
+for document in found(DOCUMENTS + [FORMS]):
+    check_sections(document)
 count_words()
 print(f"{len(faults)} faults")
 sys.exit(1 if faults else 0)
